@@ -1,0 +1,63 @@
+//! Classes of characters.
+ghost use Rattle.std.specs.Prelude.{◌≡◌, ◌↔◌, IsTrue};
+ghost use Rattle.rustc_lexer.specs.Classes;
+
+/// The version of Unicode that this crate names as its own. No answer rests on it.
+pub const UNICODE_VERSION: (u8, u8, u8) = (18, 0, 0);
+
+/// Whether the character is white space in Rust: one of the eleven of `Pattern_White_Space`.
+///
+/// Rust Reference, [Whitespace](https://doc.rust-lang.org/reference/whitespace.html).
+pub fn is_whitespace(c: char) -> bool
+    ensures { result ≡ Classes.is_whitespace c }
+{
+    matches!(
+        c,
+        '\t' | '\n'
+            | '\u{b}'
+            | '\u{c}'
+            | '\r'
+            | ' '
+            | '\u{85}'
+            | '\u{200e}'
+            | '\u{200f}'
+            | '\u{2028}'
+            | '\u{2029}'
+    )
+}
+
+/// Whether the character is white space that ends no line: a tab or a space.
+///
+/// Rust Reference, [Whitespace](https://doc.rust-lang.org/reference/whitespace.html).
+pub fn is_horizontal_whitespace(c: char) -> bool
+    ensures { result ≡ Classes.is_horizontal_whitespace c }
+{
+    matches!(c, '\t' | ' ')
+}
+
+/// Whether an identifier may begin with the character: `_`, or `XID_Start` as `unicode_ident` has it.
+///
+/// Rust Reference, [Identifiers](https://doc.rust-lang.org/reference/identifiers.html).
+pub fn is_id_start(c: char) -> bool
+    ensures { result ≡ Classes.is_id_start c }
+{
+    c == '_' || unicode_ident::is_xid_start(c)
+}
+
+/// Whether an identifier may go on with the character: `XID_Continue` as `unicode_ident` has it.
+///
+/// Rust Reference, [Identifiers](https://doc.rust-lang.org/reference/identifiers.html).
+pub fn is_id_continue(c: char) -> bool
+    ensures { result ≡ Classes.is_id_continue c }
+{
+    unicode_ident::is_xid_continue(c)
+}
+
+/// Whether the text has at most `u32::MAX` bytes, so that each length in it is a `u32`.
+///
+/// What takes a whole text requires this of it.
+pub fn fits(text: &str) -> bool
+    ensures { IsTrue result ↔ Classes.Fits text.now }
+{
+    text.len() <= u32::MAX as usize
+}

@@ -1,0 +1,15 @@
+//! A lexer for Rust source: a text goes in, tokens come out.
+//!
+//! A token is a kind and a length in bytes. The lexer refuses no text: a fault, as a comment that
+//! nothing closes, is a flag on its token, or a token of the kind `Unknown`. It takes no memory.
+#![tactic(auto)]
+
+pub mod classes;
+pub mod token;
+
+pub use classes::{
+    UNICODE_VERSION, fits, is_horizontal_whitespace, is_id_continue, is_id_start, is_whitespace,
+};
+pub use token::{
+    Base, DocStyle, FrontmatterAllowed, GuardedStr, LiteralKind, RawStrError, Token, TokenKind,
+};

@@ -1,0 +1,225 @@
+//! Tokens: what each is, and how long.
+
+/// A token: what it is, and how many bytes of the text it takes.
+#[derive(Clone, Copy, Debug, PartialEq, Eq)]
+pub struct Token {
+    /// What the token is.
+    pub kind: TokenKind,
+    /// Its length in bytes.
+    pub len: u32,
+}
+
+/// What a token is.
+#[derive(Clone, Copy, Debug, PartialEq, Eq)]
+pub enum TokenKind {
+    /// From `//` up to the end of the line, as `// note`.
+    LineComment { doc_style: Option<DocStyle> },
+
+    /// From `/*` up to the `*/` that closes it, as `/* note */`. Comments nest. One that nothing closes
+    /// takes the rest of the text.
+    BlockComment {
+        doc_style: Option<DocStyle>,
+        terminated: bool,
+    },
+
+    /// A run of white space.
+    Whitespace,
+
+    /// The block between lines of dashes that may stand before the source of a document.
+    Frontmatter {
+        /// White space stands before its opening on the same line, and is part of the token.
+        has_invalid_preceding_whitespace: bool,
+        /// Its opening line goes on past what may name the block's language.
+        invalid_infostring: bool,
+    },
+
+    /// An identifier or a keyword, as `value` or `while`.
+    Ident,
+
+    /// What would be an identifier but for an emoji in it.
+    InvalidIdent,
+
+    /// An identifier that is written raw, as `r#while`.
+    RawIdent,
+
+    /// A keyword that is forced, as `k#while`.
+    ForcedKeywordIdent,
+
+    /// An identifier right before `#`, `"` or `'`, as the `z` of `z"a"`. The mark is no part of it.
+    UnknownPrefix,
+
+    /// The same of a lifetime right before `#`, as the `'z` of `'z#`.
+    UnknownPrefixLifetime,
+
+    /// A lifetime that is written raw, as `'r#while`.
+    RawLifetime,
+
+    /// `#"` or `##`, with which a guarded string may begin.
+    GuardedStrPrefix,
+
+    /// A literal with its suffix, as `12u8` or `"note"`.
+    Literal {
+        kind: LiteralKind,
+        /// Where the suffix begins, in bytes from the start of the token. It is the token's length where
+        /// there is no suffix.
+        suffix_start: u32,
+    },
+
+    /// A lifetime, as `'a`.
+    Lifetime {
+        /// It begins with a digit, or holds an emoji, and so is none in Rust.
+        starts_with_number: bool,
+    },
+
+    /// `;`
+    Semi,
+    /// `,`
+    Comma,
+    /// `.`
+    Dot,
+    /// `(`
+    OpenParen,
+    /// `)`
+    CloseParen,
+    /// `{`
+    OpenBrace,
+    /// `}`
+    CloseBrace,
+    /// `[`
+    OpenBracket,
+    /// `]`
+    CloseBracket,
+    /// `@`
+    At,
+    /// `#`
+    Pound,
+    /// `~`
+    Tilde,
+    /// `?`
+    Question,
+    /// `:`
+    Colon,
+    /// `$`
+    Dollar,
+    /// `=`
+    Eq,
+    /// `!`
+    Bang,
+    /// `<`
+    Lt,
+    /// `>`
+    Gt,
+    /// `-`
+    Minus,
+    /// `&`
+    And,
+    /// `|`
+    Or,
+    /// `+`
+    Plus,
+    /// `*`
+    Star,
+    /// `/`
+    Slash,
+    /// `^`
+    Caret,
+    /// `%`
+    Percent,
+
+    /// A character that begins no other token.
+    Unknown,
+
+    /// The end of the text, a token of length 0.
+    Eof,
+}
+
+/// Where a doc comment stands: before what it describes, or inside it.
+#[derive(Clone, Copy, Debug, PartialEq, Eq)]
+pub enum DocStyle {
+    /// `///` or `/**`
+    Outer,
+    /// `//!` or `/*!`
+    Inner,
+}
+
+/// What a literal is. Its suffix has no part in this: `1f32` is an `Int`.
+#[derive(Clone, Copy, Debug, PartialEq, Eq, PartialOrd, Ord)]
+pub enum LiteralKind {
+    /// An integer, as `12u8` or `0x1F`.
+    Int {
+        base: Base,
+        /// No digit follows the prefix of the base, as in `0x`.
+        empty_int: bool,
+    },
+    /// A number with a point or an exponent, as `1.5` or `2e9`.
+    Float {
+        base: Base,
+        /// No digit follows the letter of the exponent, as in `2e`.
+        empty_exponent: bool,
+    },
+    /// `'a'`
+    Char { terminated: bool },
+    /// `b'a'`
+    Byte { terminated: bool },
+    /// `"note"`
+    Str { terminated: bool },
+    /// `b"note"`
+    ByteStr { terminated: bool },
+    /// `c"note"`
+    CStr { terminated: bool },
+    /// `r"note"` or `r#"note"#`, with the number of its hashes; `None` where it is refused.
+    RawStr { n_hashes: Option<u8> },
+    /// The same after `br`.
+    RawByteStr { n_hashes: Option<u8> },
+    /// The same after `cr`.
+    RawCStr { n_hashes: Option<u8> },
+}
+
+/// A guarded string, as `#"note"#`: a string between hashes.
+#[derive(Clone, Copy, Debug, PartialEq, Eq, PartialOrd, Ord)]
+pub struct GuardedStr {
+    /// How many hashes stand before the string.
+    pub n_hashes: u32,
+    /// Whether a quote closes the string.
+    pub terminated: bool,
+    /// The length of all of it in bytes, with what was pending.
+    pub token_len: u32,
+}
+
+/// Why a raw string is refused.
+#[derive(Clone, Copy, Debug, PartialEq, Eq, PartialOrd, Ord)]
+pub enum RawStrError {
+    /// Neither a hash nor a quote stands where the string should begin, as in `r#~"note"#`.
+    InvalidStarter { bad_char: char },
+    /// Nothing closes the string, as in `r##"note"#`.
+    NoTerminator {
+        /// How many hashes would close it.
+        expected: u32,
+        /// The most hashes that stand after a quote in it.
+        found: u32,
+        /// Where the first quote with so many hashes ends, in bytes; `None` where `found` is 0.
+        possible_terminator_offset: Option<u32>,
+    },
+    /// More than 255 hashes stand on each side of the string.
+    TooManyDelimiters { found: u32 },
+}
+
+/// The base that a number is written in.
+#[derive(Clone, Copy, Debug, PartialEq, Eq, PartialOrd, Ord)]
+pub enum Base {
+    /// After `0b`.
+    Binary = 2,
+    /// After `0o`.
+    Octal = 8,
+    /// With no prefix.
+    Decimal = 10,
+    /// After `0x`.
+    Hexadecimal = 16,
+}
+
+/// Whether a frontmatter may stand at the front of a text.
+#[derive(Clone, Copy, PartialEq, Eq)]
+pub enum FrontmatterAllowed {
+    Yes,
+    No,
+}
