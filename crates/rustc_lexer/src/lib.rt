@@ -5,6 +5,8 @@
 #![tactic(auto)]
 
 pub mod classes;
+mod lexemes;
+mod scan;
 pub mod token;
 
 pub use classes::{

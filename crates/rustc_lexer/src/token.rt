@@ -13,7 +13,9 @@ pub struct Token {
 #[derive(Clone, Copy, Debug, PartialEq, Eq)]
 pub enum TokenKind {
     /// From `//` up to the end of the line, as `// note`.
-    LineComment { doc_style: Option<DocStyle> },
+    LineComment {
+        doc_style: Option<DocStyle>,
+    },
 
     /// From `/*` up to the `*/` that closes it, as `/* note */`. Comments nest. One that nothing closes
     /// takes the rest of the text.
@@ -158,21 +160,37 @@ pub enum LiteralKind {
         empty_exponent: bool,
     },
     /// `'a'`
-    Char { terminated: bool },
+    Char {
+        terminated: bool,
+    },
     /// `b'a'`
-    Byte { terminated: bool },
+    Byte {
+        terminated: bool,
+    },
     /// `"note"`
-    Str { terminated: bool },
+    Str {
+        terminated: bool,
+    },
     /// `b"note"`
-    ByteStr { terminated: bool },
+    ByteStr {
+        terminated: bool,
+    },
     /// `c"note"`
-    CStr { terminated: bool },
+    CStr {
+        terminated: bool,
+    },
     /// `r"note"` or `r#"note"#`, with the number of its hashes; `None` where it is refused.
-    RawStr { n_hashes: Option<u8> },
+    RawStr {
+        n_hashes: Option<u8>,
+    },
     /// The same after `br`.
-    RawByteStr { n_hashes: Option<u8> },
+    RawByteStr {
+        n_hashes: Option<u8>,
+    },
     /// The same after `cr`.
-    RawCStr { n_hashes: Option<u8> },
+    RawCStr {
+        n_hashes: Option<u8>,
+    },
 }
 
 /// A guarded string, as `#"note"#`: a string between hashes.
@@ -190,7 +208,9 @@ pub struct GuardedStr {
 #[derive(Clone, Copy, Debug, PartialEq, Eq, PartialOrd, Ord)]
 pub enum RawStrError {
     /// Neither a hash nor a quote stands where the string should begin, as in `r#~"note"#`.
-    InvalidStarter { bad_char: char },
+    InvalidStarter {
+        bad_char: char,
+    },
     /// Nothing closes the string, as in `r##"note"#`.
     NoTerminator {
         /// How many hashes would close it.
@@ -201,7 +221,9 @@ pub enum RawStrError {
         possible_terminator_offset: Option<u32>,
     },
     /// More than 255 hashes stand on each side of the string.
-    TooManyDelimiters { found: u32 },
+    TooManyDelimiters {
+        found: u32,
+    },
 }
 
 /// The base that a number is written in.

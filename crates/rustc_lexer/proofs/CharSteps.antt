@@ -1,0 +1,43 @@
+-- One character further in a text.
+use Rattle.std.proofs.Common.{◌≡◌, ℕ, suc, ◌+◌, List, ◌∷◌, ◌++◌, length, take, drop, refl, sym, ap, ◌∙◌, arith, length-append}
+use Rattle.std.specs.Char.{encode_utf8, len_utf8}
+use Rattle.std.specs.Str.{chars, encode_utf8_all, IsUtf8, IsCharBoundary}
+use Rattle.std.proofs.lemmas.Str.{chars_past_char, IsUtf8-past_char, length-encode, drop_past_char, IsCharBoundary-from_drop}
+use Rattle.std.specs.declared.str.Chars.{Chars}
+use Rattle.rustc_lexer.specs.Scan.{bytes_of}
+
+-- the loop stands at `left`, with `end` bytes taken
+pub record Stands (text left : List ℕ) (end : ℕ) : Type 0 where
+  pub utf8 : IsUtf8 left
+  pub len : end + length left ≡ length text
+  pub place : drop end text ≡ left
+
+pub record Step (text left next : List ℕ) (c w end : ℕ) : Type 0 where
+  pub reads : chars left ≡ c ∷ chars next
+  pub width : length (encode_utf8 c) ≡ w
+  pub stands : Stands text next (end + w)
+
+pub start : (text : List ℕ) → IsUtf8 text → Stands text text 0
+start text is = record { utf8 = is; len = omega arith; place = refl }
+
+pub step : (text left next : List ℕ) (c w end : ℕ) → Stands text left end → left ≡ encode_utf8 c ++ next → w ≡ len_utf8 c → Step text left next c w end
+step text left next c w end at e is = record {
+  reads = chars_past_char left next c at.utf8 e;
+  width = length-encode c ∙ sym is;
+  stands = record {
+    utf8 = IsUtf8-past_char left next c at.utf8 e;
+    len = let l = at.len in omega (arith, ap length e, length-append (encode_utf8 c) next, length-encode c);
+    place = rw is (drop_past_char text next end c (at.place ∙ e));
+  };
+}
+
+pub bytes_of-suc : (n c : ℕ) (cs : List ℕ) → bytes_of (suc n) (c ∷ cs) ≡ length (encode_utf8 c) + bytes_of n cs
+bytes_of-suc n c cs = length-append (encode_utf8 c) (encode_utf8_all (take n cs))
+
+-- a loop over the characters of a text begins at its front
+pub from_chars : {it items : Chars} {text : List ℕ} → it ≡ items → items.rest.now ≡ text → it.rest.now ≡ text
+from_chars e f = ap (λ (i : Chars). i.rest.now) e ∙ f
+
+-- a text may be cut where the loop stands
+pub cut_here : (text left : List ℕ) (end : ℕ) → Stands text left end → IsCharBoundary text end
+cut_here text left end at = IsCharBoundary-from_drop text end (let l = at.len in omega arith) (rw at.place at.utf8)

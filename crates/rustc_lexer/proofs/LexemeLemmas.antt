@@ -1,0 +1,59 @@
+-- The choice by the first character.
+use Rattle.std.proofs.Common.{◌≡◌, ◌≢◌, ℕ, suc, ◌+◌, ◌-◌, ◌≤◌, [], ◌∷◌, true, false, List, length, refl, sym, ap, ◌∙◌, arith}
+use Rattle.std.specs.Str.{chars, IsUtf8}
+use Rattle.std.proofs.lemmas.Bool.{ne_eqb}
+use Rattle.rustc_lexer.specs.declared.token.Token.{Token}
+use Rattle.rustc_lexer.specs.declared.token.TokenKind.{TokenKind}
+use Rattle.rustc_lexer.specs.declared.token.TokenKind.TheVariants.{Eof}
+use Rattle.rustc_lexer.specs.Classes.{is_whitespace, is_id_start}
+use Rattle.rustc_lexer.specs.Comment.{slash}
+use Rattle.rustc_lexer.specs.Lexeme.{whitespace, ident, symbol_kind, past_first, lexeme, first_token}
+use Rattle.rustc_lexer.specs.Scan.{bytes_of, gives, past, scanned}
+use Rattle.rustc_lexer.proofs.PastLemmas.{past-past, length-past}
+use Rattle.rustc_lexer.proofs.ScanLemmas.{scanned-same}
+
+module _ (c : ℕ) (text : List ℕ) where
+  pub pick-slash : c ≡ 47 → scanned (past_first c) text ≡ scanned slash text
+  unfolding past_first
+  pick-slash e = scanned-same (past_first c) slash text (rw e refl)
+
+  pub pick-whitespace : c ≢ 47 → is_whitespace c ≡ true → scanned (past_first c) text ≡ scanned whitespace text
+  unfolding past_first
+  pick-whitespace e f = scanned-same (past_first c) whitespace text (rw (ne_eqb c 47 e, f) refl)
+
+  pub pick-ident : c ≢ 47 → is_whitespace c ≡ false → is_id_start c ≡ true → scanned (past_first c) text ≡ scanned ident text
+  unfolding past_first
+  pick-ident e f g = scanned-same (past_first c) ident text (rw (ne_eqb c 47 e, f, g) refl)
+
+  pub pick-symbol : c ≢ 47 → is_whitespace c ≡ false → is_id_start c ≡ false → scanned (past_first c) text ≡ scanned (gives (symbol_kind c)) text
+  unfolding past_first
+  pick-symbol e f g = scanned-same (past_first c) (gives (symbol_kind c)) text (rw (ne_eqb c 47 e, f, g) refl)
+
+-- the token, once what follows the first character is known
+module _ (text tail rest : List ℕ) (c : ℕ) (kind : TokenKind) (is : IsUtf8 text) (cs : chars text ≡ c ∷ chars tail) (e : tail ≡ past 1 text) (f : (kind, rest) ≡ scanned (past_first c) tail) where
+  taken : ℕ
+  taken = (past_first c (chars tail)).1
+
+  left : rest ≡ past (1 + taken) text
+  unfolding taken
+  left = ap (λ (r : TokenKind × List ℕ). r.1) f ∙ (ap (past taken) e ∙ past-past taken 1 text is)
+
+  bytes : bytes_of (1 + taken) (chars text) + length rest ≡ length text
+  bytes = ap (λ xs. bytes_of (1 + taken) (chars text) + length xs) left ∙ length-past (1 + taken) text is
+
+  pub left-le : length rest ≤ length text
+  left-le = let b = bytes in omega arith
+
+  pub token-is : record { kind = kind; len = length text - length rest } ≡ first_token text
+  unfolding first_token taken
+  token-is =
+      let kind_is : kind ≡ (past_first c (chars tail)).0 = ap (λ (r : TokenKind × List ℕ). r.0) f in
+      let same : 1 + taken ≡ suc taken = omega arith in
+      let len_is : length text - length rest ≡ bytes_of (suc taken) (chars text) = let b = bytes in rw (← same) (omega arith) in
+      ap (λ (k : TokenKind). let t : Token = record { kind = k; len = length text - length rest } in t) kind_is
+      ∙ (ap (λ (n : ℕ). let t : Token = record { kind = (past_first c (chars tail)).0; len = n } in t) len_is
+      ∙ ap (λ (ds : List ℕ). let t : Token = record { kind = (lexeme ds).0; len = bytes_of (lexeme ds).1 (chars text) } in t) (sym cs))
+
+pub token-at_end : (text : List ℕ) → chars text ≡ [] → record { kind = Eof; len = 0 } ≡ first_token text
+unfolding first_token
+token-at_end text e = ap (λ (ds : List ℕ). let t : Token = record { kind = (lexeme ds).0; len = bytes_of (lexeme ds).1 ds } in t) (sym e)

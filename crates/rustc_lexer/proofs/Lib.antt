@@ -1,0 +1,5 @@
+pub mod CharSteps
+pub mod LexemeLemmas
+pub mod PastLemmas
+pub mod RunLemmas
+pub mod ScanLemmas

@@ -1,0 +1,23 @@
+-- Comments.
+use Rattle.std.specs.Prelude.{ℕ, ◌==◌, ◌&&◌, not, Bool, if◌then◌else◌, List, codes, Option, Some, None}
+use Rattle.rustc_lexer.specs.declared.token.DocStyle.{DocStyle}
+use Rattle.rustc_lexer.specs.declared.token.DocStyle.TheVariants.{Outer, Inner}
+use Rattle.rustc_lexer.specs.declared.token.TokenKind.{TokenKind}
+use Rattle.rustc_lexer.specs.declared.token.TokenKind.TheVariants.{LineComment, Slash}
+use Rattle.rustc_lexer.specs.Scan.{after, begins, gives, run_len}
+
+-- of what follows `//`: `!` makes the doc of what the comment stands in, and one more `/`, but not two, the doc of
+-- what comes next
+abbrev pub line_doc_style : List ℕ → Option DocStyle
+line_doc_style s = if begins (codes "!") s then Some Inner else (if begins (codes "/") s && not (begins (codes "//") s) then Some Outer else None)
+
+abbrev pub is_no_newline : ℕ → Bool
+is_no_newline c = not (c == 10)
+
+-- what follows `//`, up to the newline or the end
+abbrev pub line_comment : List ℕ → TokenKind × ℕ
+line_comment s = (LineComment (line_doc_style s), run_len is_no_newline s)
+
+-- what follows `/`
+abbrev pub slash : List ℕ → TokenKind × ℕ
+slash s = if begins (codes "/") s then after 1 line_comment s else gives Slash s

@@ -1,0 +1,69 @@
+-- How far each lexeme looks past its end.
+use Rattle.std.proofs.Common.{◌≡◌, ℕ, ◌==◌, Bool, true, false, if◌then◌else◌, List, [], ◌∷◌, take, refl, sym, ap, ◌∙◌, arith, codes}
+use Rattle.std.specs.Str.{byte}
+use Rattle.std.proofs.lemmas.Bool.{eqb-true}
+use Rattle.rustc_lexer.specs.declared.token.TokenKind.{TokenKind}
+use Rattle.rustc_lexer.specs.declared.token.TokenKind.TheVariants.{LineComment, Slash, Whitespace, Ident, Eof}
+use Rattle.rustc_lexer.specs.Classes.{is_whitespace, is_id_start, is_id_continue}
+use Rattle.rustc_lexer.specs.Comment.{line_comment, line_doc_style, is_no_newline, slash}
+use Rattle.rustc_lexer.specs.Lexeme.{whitespace, ident, symbol_kind, past_first, lexeme, first_token}
+use Rattle.rustc_lexer.specs.Reach.{begins-take, begins-length, choice_local, first_local, gives_local, run_local, run_len_local, run_len_le, wider}
+use Rattle.rustc_lexer.specs.Scan.{IsLocal, begins, gives, run_len}
+use Rattle.rustc_lexer.specs.Texts.{IsGrammar}
+use Rattle.rustc_lexer.specs.TokenBy.{token_by_local}
+
+-- the style of a comment is told by the comment
+line_doc_style-own : (s : List ℕ) → line_doc_style (take (run_len is_no_newline s) s) ≡ line_doc_style s
+line_doc_style-own [] = refl
+line_doc_style-own (c ∷ s) = by_newline (c == 10) refl
+  where
+    slash_own : (s : List ℕ) → begins (codes "/") (take (run_len is_no_newline s) s) ≡ begins (codes "/") s
+    slash_own [] = refl
+    slash_own (d ∷ s) = by_newline (d == 10) refl
+      where
+        by_newline : (b : Bool) → (d == 10) ≡ b → begins (codes "/") (take (run_len is_no_newline (d ∷ s)) (d ∷ s)) ≡ begins (codes "/") (d ∷ s)
+        by_newline true e = rw (eqb-true d 10 e) refl
+        by_newline false e = rw e refl
+
+    by_newline : (b : Bool) → (c == 10) ≡ b → line_doc_style (take (run_len is_no_newline (c ∷ s)) (c ∷ s)) ≡ line_doc_style (c ∷ s)
+    by_newline true e = rw (eqb-true c 10 e) refl
+    by_newline false e = rw (e, slash_own s) refl
+
+pub line_comment_local : IsLocal TokenKind 1 line_comment
+line_comment_local = record {
+  inside = run_len_le is_no_newline;
+  local = λ s u a.
+      let same : run_len is_no_newline u ≡ run_len is_no_newline s = run_len_local is_no_newline s u a in
+      let text : take (run_len is_no_newline u) u ≡ take (run_len is_no_newline s) s = ap (λ n. take n u) same ∙ sym a.below in
+      let style : line_doc_style u ≡ line_doc_style s = sym (line_doc_style-own u) ∙ (ap line_doc_style text ∙ line_doc_style-own s) in
+      ap (λ d. (LineComment d, run_len is_no_newline u)) style ∙ ap (λ n. (LineComment (line_doc_style s), n)) same;
+}
+
+pub slash_local : IsLocal TokenKind 1 slash
+slash_local = choice_local 1 1 (begins (codes "/")) line_comment (gives Slash) (λ s. begins-take (codes "/") 1 s (omega arith)) (begins-length (codes "/")) line_comment_local (wider 0 1 (gives Slash) (omega arith) (gives_local Slash))
+
+pub whitespace_local : IsLocal TokenKind 1 whitespace
+whitespace_local = run_local Whitespace is_whitespace
+
+pub ident_local : IsLocal TokenKind 1 ident
+ident_local = run_local Ident is_id_continue
+
+pub symbol_local : (c : ℕ) → IsLocal TokenKind 0 (gives (symbol_kind c))
+symbol_local c = gives_local (symbol_kind c)
+
+past_first_local : (c : ℕ) → IsLocal TokenKind 2 (past_first c)
+unfolding past_first
+past_first_local c = by_class (c == byte "/") (is_whitespace c) (is_id_start c)
+  where
+    by_class : (slashes spaces starts : Bool) → IsLocal TokenKind 2 (λ s. if slashes then slash s else (if spaces then whitespace s else (if starts then ident s else gives (symbol_kind c) s)))
+    by_class true spaces starts = wider 1 2 slash (omega arith) slash_local
+    by_class false true starts = wider 1 2 whitespace (omega arith) whitespace_local
+    by_class false false true = wider 1 2 ident (omega arith) ident_local
+    by_class false false false = wider 0 2 (gives (symbol_kind c)) (omega arith) (symbol_local c)
+
+pub lexeme_local : IsLocal TokenKind 2 lexeme
+lexeme_local = first_local 2 Eof past_first lexeme (omega arith) refl (λ c s. refl) past_first_local
+
+pub first_token_grammar : IsGrammar first_token
+unfolding first_token
+first_token_grammar = token_by_local lexeme (λ c s. omega arith) lexeme_local

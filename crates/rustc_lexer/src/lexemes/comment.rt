@@ -1,0 +1,44 @@
+//! Comments.
+ghost use Rattle.std.specs.Prelude.{◌≡◌};
+ghost use Rattle.std.specs.Str.{chars};
+ghost use Rattle.rustc_lexer.specs.Comment as spec;
+ghost use Rattle.rustc_lexer.specs.Scan.{scanned};
+
+use crate::scan::{eat_while, first, second, strip};
+use crate::token::{DocStyle, TokenKind};
+
+/// What begins with a slash. `rest` is what follows that.
+pub(crate) fn slash(rest: &str) -> (TokenKind, &str)
+    ensures { (result.0, result.1.now) ≡ scanned spec.slash rest.now }
+{
+    match strip(rest, '/') {
+        Some(body) => line_comment(body),
+        None => (TokenKind::Slash, rest),
+    }
+}
+
+/// A line comment. `body` is what follows its `//`.
+fn line_comment(body: &str) -> (TokenKind, &str)
+    ensures { (result.0, result.1.now) ≡ scanned spec.line_comment body.now }
+{
+    let doc_style = line_doc_style(body);
+    let rest = eat_while(body, |c| c != '\n');
+    (TokenKind::LineComment { doc_style }, rest)
+}
+
+/// The style of the line comment with this body.
+fn line_doc_style(body: &str) -> Option<DocStyle>
+    ensures { result ≡ spec.line_doc_style (chars body.now) }
+{
+    match first(body) {
+        '!' => Some(DocStyle::Inner),
+        '/' => {
+            if second(body) == '/' {
+                None
+            } else {
+                Some(DocStyle::Outer)
+            }
+        }
+        _ => None,
+    }
+}
