@@ -1,7 +1,8 @@
 -- The choice by the first character.
-use Rattle.std.proofs.Common.{◌≡◌, ◌≢◌, ℕ, suc, ◌+◌, ◌-◌, ◌≤◌, [], ◌∷◌, true, false, List, length, refl, sym, ap, ◌∙◌, arith}
-use Rattle.std.specs.Str.{chars, IsUtf8}
+use Rattle.std.proofs.Common.{◌≡◌, ◌≢◌, ℕ, suc, ◌+◌, ◌-◌, ◌≤◌, [], ◌∷◌, true, false, List, length, refl, sym, ap, ◌∙◌, arith, subst}
+use Rattle.std.specs.Str.{chars, IsUtf8, IsCharBoundary}
 use Rattle.std.proofs.lemmas.Bool.{ne_eqb}
+use Rattle.std.proofs.lemmas.Str.{IsCharBoundary-from_drop}
 use Rattle.rustc_lexer.specs.declared.token.Token.{Token}
 use Rattle.rustc_lexer.specs.declared.token.TokenKind.{TokenKind}
 use Rattle.rustc_lexer.specs.declared.token.TokenKind.TheVariants.{Eof}
@@ -9,7 +10,7 @@ use Rattle.rustc_lexer.specs.Classes.{is_whitespace, is_id_start}
 use Rattle.rustc_lexer.specs.Comment.{slash}
 use Rattle.rustc_lexer.specs.Lexeme.{whitespace, ident, symbol_kind, past_first, lexeme, first_token}
 use Rattle.rustc_lexer.specs.Scan.{bytes_of, gives, past, scanned}
-use Rattle.rustc_lexer.proofs.PastLemmas.{past-past, length-past}
+use Rattle.rustc_lexer.proofs.PastLemmas.{past-past, past-drop, IsUtf8-past, length-past}
 use Rattle.rustc_lexer.proofs.ScanLemmas.{scanned-same}
 
 module _ (c : ℕ) (text : List ℕ) where
@@ -43,6 +44,12 @@ module _ (text tail rest : List ℕ) (c : ℕ) (kind : TokenKind) (is : IsUtf8 t
 
   pub left-le : length rest ≤ length text
   left-le = let b = bytes in omega arith
+
+  pub boundary : IsCharBoundary text (length text - length rest)
+  boundary =
+      let cut : bytes_of (1 + taken) (chars text) ≡ length text - length rest = let b = bytes in omega arith in
+      let front : bytes_of (1 + taken) (chars text) ≤ length text = let b = bytes in omega arith in
+      subst (IsCharBoundary text) cut (IsCharBoundary-from_drop text _ front (subst (λ (xs : List ℕ). IsUtf8 xs) (past-drop (1 + taken) text is) (IsUtf8-past (1 + taken) text is)))
 
   pub token-is : record { kind = kind; len = length text - length rest } ≡ first_token text
   unfolding first_token taken

@@ -3,3 +3,5 @@ pub mod LexemeLemmas
 pub mod PastLemmas
 pub mod RunLemmas
 pub mod ScanLemmas
+pub mod StateLemmas
+pub mod SuffixLemmas

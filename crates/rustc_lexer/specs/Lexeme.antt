@@ -8,19 +8,23 @@ use Rattle.rustc_lexer.specs.Classes.{is_whitespace, is_id_start, is_id_continue
 use Rattle.rustc_lexer.specs.Comment.{slash}
 use Rattle.rustc_lexer.specs.Scan.{gives, run, token_by}
 
+-- the tokens of one symbol
+abbrev pub symbols : List (ℕ × TokenKind)
+symbols =
+    (byte ";", Semi) ∷ (byte ",", Comma) ∷ (byte ".", Dot) ∷ (byte "(", OpenParen) ∷ (byte ")", CloseParen)
+    ∷ (byte "{", OpenBrace) ∷ (byte "}", CloseBrace) ∷ (byte "[", OpenBracket) ∷ (byte "]", CloseBracket)
+    ∷ (byte "@", At) ∷ (byte "#", Pound) ∷ (byte "~", Tilde) ∷ (byte "?", Question) ∷ (byte ":", Colon)
+    ∷ (byte "$", Dollar) ∷ (byte "=", Eq) ∷ (byte "!", Bang) ∷ (byte "<", Lt) ∷ (byte ">", Gt) ∷ (byte "-", Minus)
+    ∷ (byte "&", And) ∷ (byte "|", Or) ∷ (byte "+", Plus) ∷ (byte "*", Star) ∷ (byte "^", Caret) ∷ (byte "%", Percent)
+    ∷ []
+
+abbrev pub kind_among : List (ℕ × TokenKind) → ℕ → TokenKind
+kind_among [] c = Unknown
+kind_among (s ∷ ss) c = if c == s.0 then s.1 else kind_among ss c
+
 -- what a character is by itself
 abbrev pub symbol_kind : ℕ → TokenKind
-symbol_kind c =
-    if c == byte ";" then Semi else (if c == byte "," then Comma else (if c == byte "." then Dot
-    else (if c == byte "(" then OpenParen else (if c == byte ")" then CloseParen
-    else (if c == byte "{" then OpenBrace else (if c == byte "}" then CloseBrace
-    else (if c == byte "[" then OpenBracket else (if c == byte "]" then CloseBracket
-    else (if c == byte "@" then At else (if c == byte "#" then Pound else (if c == byte "~" then Tilde
-    else (if c == byte "?" then Question else (if c == byte ":" then Colon else (if c == byte "$" then Dollar
-    else (if c == byte "=" then Eq else (if c == byte "!" then Bang else (if c == byte "<" then Lt
-    else (if c == byte ">" then Gt else (if c == byte "-" then Minus else (if c == byte "&" then And
-    else (if c == byte "|" then Or else (if c == byte "+" then Plus else (if c == byte "*" then Star
-    else (if c == byte "^" then Caret else (if c == byte "%" then Percent else Unknown)))))))))))))))))))))))))
+symbol_kind c = kind_among symbols c
 
 -- what follows the first character of a white space, and of an identifier
 abbrev pub whitespace : List ℕ → TokenKind × ℕ

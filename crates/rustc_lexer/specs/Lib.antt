@@ -4,5 +4,6 @@ pub mod Lexeme
 pub mod Lookahead
 pub mod Reach
 pub mod Scan
+pub mod State
 pub mod Texts
 pub mod TokenBy

@@ -1,9 +1,11 @@
 //! The token at the front of a text: a choice by its first character, and a function for each family.
 ghost use Rattle.std.specs.Prelude.{◌≡◌, ◌≤◌, ◌<◌, ◌^◌, length};
+ghost use Rattle.std.specs.Str.{IsCharBoundary};
 ghost use Rattle.rustc_lexer.specs.declared.token.TokenKind.{TokenKind};
 ghost use Rattle.rustc_lexer.specs.Classes.{Fits};
 ghost use Rattle.rustc_lexer.specs.Lexeme as spec;
 ghost use Rattle.rustc_lexer.specs.Scan.{IsLocal, scanned};
+ghost use Rattle.rustc_lexer.specs.State.{HasSuffixWithin};
 ghost use Rattle.rustc_lexer.specs.Texts.{IsGrammar};
 
 use crate::classes::{is_id_continue, is_id_start, is_whitespace};
@@ -17,6 +19,9 @@ mod comment;
 pub(crate) fn lexeme(text: &str) -> Token
     requires fits { Fits text.now }
     ensures token { result ≡ spec.first_token text.now }
+    ensures inside { result.len ≤ length text.now }
+    ensures boundary { IsCharBoundary text.now result.len }
+    ensures suffix { HasSuffixWithin result }
 {
     match split_first(text) {
         Some((first, tail)) => {

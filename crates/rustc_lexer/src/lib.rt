@@ -5,6 +5,7 @@
 #![tactic(auto)]
 
 pub mod classes;
+pub mod cursor;
 mod lexemes;
 mod scan;
 pub mod token;
@@ -12,6 +13,7 @@ pub mod token;
 pub use classes::{
     UNICODE_VERSION, fits, is_horizontal_whitespace, is_id_continue, is_id_start, is_whitespace,
 };
+pub use cursor::Cursor;
 pub use token::{
     Base, DocStyle, FrontmatterAllowed, GuardedStr, LiteralKind, RawStrError, Token, TokenKind,
 };

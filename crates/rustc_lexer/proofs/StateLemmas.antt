@@ -1,0 +1,33 @@
+-- The state after a token.
+use Rattle.std.proofs.Common.{◌≡◌, ℕ, ◌==◌, true, false, true≢false, List, [], ◌∷◌, length, drop, refl, sym, ap, ◌∙◌, arith}
+use Rattle.std.proofs.lemmas.Bool.{eqb-true}
+use Rattle.rustc_lexer.specs.declared.token.FrontmatterAllowed.{FrontmatterAllowed}
+use Rattle.rustc_lexer.specs.declared.token.Token.{Token}
+use Rattle.rustc_lexer.specs.declared.token.TokenKind.TheVariants.{Eof}
+use Rattle.rustc_lexer.specs.State.{State, token_at, token_past, allowed_after, advance_by, advance}
+
+abbrev pub state : ℕ → List ℕ → FrontmatterAllowed → State
+state pending rest allowed = record { pending = pending; rest = rest; frontmatter_allowed = allowed }
+
+abbrev pub past_token : List ℕ → FrontmatterAllowed → Token → State
+past_token rest allowed token = state 0 (drop token.len rest) (allowed_after allowed token.kind)
+
+pub past_token-is : (rest cut : List ℕ) (allowed next : FrontmatterAllowed) (token : Token) → cut ≡ drop token.len rest → next ≡ allowed_after allowed token.kind → state 0 cut next ≡ past_token rest allowed token
+past_token-is rest cut allowed next token e f = ap (λ xs. state 0 xs next) e ∙ ap (λ (a : FrontmatterAllowed). state 0 (drop token.len rest) a) f
+
+module _ (pending : ℕ) (rest : List ℕ) (allowed : FrontmatterAllowed) (s : State) (e : state pending rest allowed ≡ s) where
+  pub advance-end : (length rest == 0) ≡ true → advance s ≡ (record { kind = Eof; len = 0 }, s)
+  unfolding advance
+  advance-end none = sym (ap (λ (x : State). advance_by x.rest x) e) ∙ (at_end rest refl none ∙ ap (λ (x : State). let t : Token = record { kind = Eof; len = 0 } in (t, x)) e)
+    where
+      at_end : (r : List ℕ) → rest ≡ r → (length r == 0) ≡ true → advance_by rest (state pending rest allowed) ≡ (record { kind = Eof; len = 0 }, state pending rest allowed)
+      at_end [] f none = ap (λ r. advance_by r (state pending rest allowed)) f
+      at_end (b ∷ bs) f none = absurd (let z = eqb-true (length (b ∷ bs)) 0 none in omega arith)
+
+  pub advance-some : (length rest == 0) ≡ false → advance s ≡ (token_past pending (token_at allowed rest), past_token rest allowed (token_at allowed rest))
+  unfolding advance
+  advance-some some = sym (ap (λ (x : State). advance_by x.rest x) e) ∙ at_char rest refl some
+    where
+      at_char : (r : List ℕ) → rest ≡ r → (length r == 0) ≡ false → advance_by rest (state pending rest allowed) ≡ (token_past pending (token_at allowed rest), past_token rest allowed (token_at allowed rest))
+      at_char [] f some = absurd (true≢false some)
+      at_char (b ∷ bs) f some = ap (λ r. advance_by r (state pending rest allowed)) f
