@@ -5,3 +5,4 @@ pub mod RunLemmas
 pub mod ScanLemmas
 pub mod StateLemmas
 pub mod SuffixLemmas
+pub mod TokensLemmas

@@ -7,3 +7,4 @@ pub mod Scan
 pub mod State
 pub mod Texts
 pub mod TokenBy
+pub mod Tokens

@@ -52,7 +52,8 @@ impl<'a> Cursor<'a> {
 
     /// The text that is left.
     pub fn as_str(&self) -> &'a str
-        ensures { result.now ≡ self.now.rest }
+        ensures rest { result.now ≡ self.now.rest }
+        ensures fits { Fits result.now }
     {
         self.rest
     }

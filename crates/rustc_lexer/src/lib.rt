@@ -6,6 +6,7 @@
 
 pub mod classes;
 pub mod cursor;
+pub mod entry;
 mod lexemes;
 mod scan;
 pub mod token;
@@ -14,6 +15,7 @@ pub use classes::{
     UNICODE_VERSION, fits, is_horizontal_whitespace, is_id_continue, is_id_start, is_whitespace,
 };
 pub use cursor::Cursor;
+pub use entry::{Tokens, tokenize};
 pub use token::{
     Base, DocStyle, FrontmatterAllowed, GuardedStr, LiteralKind, RawStrError, Token, TokenKind,
 };

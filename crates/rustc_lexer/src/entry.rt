@@ -1,0 +1,79 @@
+//! The tokens of a text.
+ghost use Rattle.std.specs.Prelude.{◌≡◌, ◌<◌, length, drop, ⊤, MatchOption};
+ghost use Rattle.std.specs.Iterator.{at_most, MakesProgress, YieldsFirst};
+ghost use Rattle.rustc_lexer.specs.Classes.{Fits};
+ghost use Rattle.rustc_lexer.specs.Tokens.{tokens_of, tokens_left, Partitions, RestartsAtBounds};
+
+use crate::cursor::Cursor;
+use crate::token::{FrontmatterAllowed, Token};
+use std::iter::Iterator;
+use std::marker::Model;
+
+/// The tokens of a text, in order. The text has at most `u32::MAX` bytes.
+///
+/// The lengths of the tokens sum to that of the text, and each token ends between two characters. With
+/// `FrontmatterAllowed::No` the text from the end of any token on has the rest of the tokens: a slice of a
+/// document is lexed so.
+///
+/// ```ignore
+/// for token in tokenize("a + b", FrontmatterAllowed::No) {
+///     // Ident, Whitespace, Plus, Whitespace, Ident
+/// }
+/// ```
+pub fn tokenize<'a>(input: &'a str, frontmatter_allowed: FrontmatterAllowed) -> Tokens<'a>
+    requires fits { Fits input.now }
+    ensures rest { result.rest ≡ input.now }
+    ensures tokens { tokens_left result ≡ tokens_of frontmatter_allowed input.now }
+    ensures partitions { Partitions input.now (tokens_of frontmatter_allowed input.now) }
+    ensures restarts { RestartsAtBounds input.now }
+{
+    Tokens {
+        cursor: Cursor::new(input, frontmatter_allowed),
+    }
+}
+
+/// An iterator over the tokens of a text, made by [`tokenize`].
+#[derive(Drop)]
+pub struct Tokens<'a> {
+    cursor: Cursor<'a>,
+}
+
+impl<'a> Model for Tokens<'a> {
+    ghost use Rattle.std.specs.Prelude.{◌≡◌};
+    ghost use Rattle.rustc_lexer.specs.State.{State};
+
+    ghost Value = { State };
+
+    ghost view = { λ t. t.cursor };
+
+    ghost invariant = { λ t. t.cursor.pending ≡ 0 };
+}
+
+impl<'a> Tokens<'a> {
+    /// The text whose tokens were not given out yet.
+    pub fn as_str(&self) -> &'a str
+        ensures { result.now ≡ self.now.rest }
+    {
+        self.cursor.as_str()
+    }
+}
+
+impl<'a> Iterator for Tokens<'a> {
+    type Item = Token;
+
+    ghost next_gives = { YieldsFirst tokens_left };
+
+    ghost remaining = { λ s. at_most (length s.rest) };
+
+    /// The next token, or `None` past the last one, from then on.
+    fn next(&mut self) -> Option<Token>
+        ensures steps { YieldsFirst tokens_left self.old result self.new }
+        ensures goes { MakesProgress (λ _. ⊤) (λ s. at_most (length s.rest)) self.old result self.new }
+        ensures rest { MatchOption result (self.new ≡ self.old) (λ token. self.new.rest ≡ drop token.len self.old.rest) }
+    {
+        if self.cursor.as_str().is_empty() {
+            return None;
+        }
+        Some(self.cursor.advance_token())
+    }
+}
