@@ -1,0 +1,4 @@
+pub mod Fault
+pub mod Job
+pub mod Listing
+pub mod Watch

@@ -1,0 +1,111 @@
+-- The listing of tokens: a line for each, with its start, its length, its kind and the fields of that.
+use Rattle.std.specs.Prelude.{ℕ, ◌+◌, Bool, true, false, List, [], ◌∷◌, ◌++◌, codes, Option, Some, None}
+use Rattle.std.specs.Str.Parse.{decimal}
+use Rattle.rustc_lexer.specs.declared.token.Base.{Base}
+use Rattle.rustc_lexer.specs.declared.token.Base.TheVariants.{Binary, Octal, Decimal, Hexadecimal}
+use Rattle.rustc_lexer.specs.declared.token.DocStyle.{DocStyle}
+use Rattle.rustc_lexer.specs.declared.token.DocStyle.TheVariants.{Outer, Inner}
+use Rattle.rustc_lexer.specs.declared.token.LiteralKind.{LiteralKind}
+use Rattle.rustc_lexer.specs.declared.token.LiteralKind.TheVariants.{Int, Float, Char, Byte, Str, ByteStr, CStr, RawStr, RawByteStr, RawCStr}
+use Rattle.rustc_lexer.specs.declared.token.Token.{Token}
+use Rattle.rustc_lexer.specs.declared.token.TokenKind.{TokenKind}
+use Rattle.rustc_lexer.specs.declared.token.TokenKind.TheVariants.{LineComment, BlockComment, Whitespace, Frontmatter, Ident, InvalidIdent, RawIdent, ForcedKeywordIdent, UnknownPrefix, UnknownPrefixLifetime, RawLifetime, GuardedStrPrefix, Literal, Lifetime, Semi, Comma, Dot, OpenParen, CloseParen, OpenBrace, CloseBrace, OpenBracket, CloseBracket, At, Pound, Tilde, Question, Colon, Dollar, Eq, Bang, Lt, Gt, Minus, And, Or, Plus, Star, Slash, Caret, Percent, Unknown, Eof}
+
+abbrev pub bool_text : Bool → List ℕ
+bool_text true = codes "true"
+bool_text false = codes "false"
+
+abbrev pub style_text : Option DocStyle → List ℕ
+style_text None = codes "none"
+style_text (Some Outer) = codes "outer"
+style_text (Some Inner) = codes "inner"
+
+abbrev pub hashes_text : Option ℕ → List ℕ
+hashes_text None = codes "none"
+hashes_text (Some n) = decimal n
+
+abbrev pub base_text : Base → List ℕ
+base_text Binary = codes "2"
+base_text Octal = codes "8"
+base_text Decimal = codes "10"
+base_text Hexadecimal = codes "16"
+
+-- the kind of a literal with its own fields
+unfoldable pub literal_text : LiteralKind → List ℕ
+literal_text (Int base empty_int) = codes "Int base=" ++ base_text base ++ codes " empty_int=" ++ bool_text empty_int
+literal_text (Float base empty_exponent) = codes "Float base=" ++ base_text base ++ codes " empty_exponent=" ++ bool_text empty_exponent
+literal_text (Char terminated) = codes "Char terminated=" ++ bool_text terminated
+literal_text (Byte terminated) = codes "Byte terminated=" ++ bool_text terminated
+literal_text (Str terminated) = codes "Str terminated=" ++ bool_text terminated
+literal_text (ByteStr terminated) = codes "ByteStr terminated=" ++ bool_text terminated
+literal_text (CStr terminated) = codes "CStr terminated=" ++ bool_text terminated
+literal_text (RawStr n_hashes) = codes "RawStr n_hashes=" ++ hashes_text n_hashes
+literal_text (RawByteStr n_hashes) = codes "RawByteStr n_hashes=" ++ hashes_text n_hashes
+literal_text (RawCStr n_hashes) = codes "RawCStr n_hashes=" ++ hashes_text n_hashes
+
+-- the name of a kind
+unfoldable pub kind_name : TokenKind → List ℕ
+kind_name (LineComment doc_style) = codes "LineComment"
+kind_name (BlockComment doc_style terminated) = codes "BlockComment"
+kind_name Whitespace = codes "Whitespace"
+kind_name (Frontmatter has_invalid_preceding_whitespace invalid_infostring) = codes "Frontmatter"
+kind_name Ident = codes "Ident"
+kind_name InvalidIdent = codes "InvalidIdent"
+kind_name RawIdent = codes "RawIdent"
+kind_name ForcedKeywordIdent = codes "ForcedKeywordIdent"
+kind_name UnknownPrefix = codes "UnknownPrefix"
+kind_name UnknownPrefixLifetime = codes "UnknownPrefixLifetime"
+kind_name RawLifetime = codes "RawLifetime"
+kind_name GuardedStrPrefix = codes "GuardedStrPrefix"
+kind_name (Literal kind suffix_start) = codes "Literal"
+kind_name (Lifetime starts_with_number) = codes "Lifetime"
+kind_name Semi = codes "Semi"
+kind_name Comma = codes "Comma"
+kind_name Dot = codes "Dot"
+kind_name OpenParen = codes "OpenParen"
+kind_name CloseParen = codes "CloseParen"
+kind_name OpenBrace = codes "OpenBrace"
+kind_name CloseBrace = codes "CloseBrace"
+kind_name OpenBracket = codes "OpenBracket"
+kind_name CloseBracket = codes "CloseBracket"
+kind_name At = codes "At"
+kind_name Pound = codes "Pound"
+kind_name Tilde = codes "Tilde"
+kind_name Question = codes "Question"
+kind_name Colon = codes "Colon"
+kind_name Dollar = codes "Dollar"
+kind_name Eq = codes "Eq"
+kind_name Bang = codes "Bang"
+kind_name Lt = codes "Lt"
+kind_name Gt = codes "Gt"
+kind_name Minus = codes "Minus"
+kind_name And = codes "And"
+kind_name Or = codes "Or"
+kind_name Plus = codes "Plus"
+kind_name Star = codes "Star"
+kind_name Slash = codes "Slash"
+kind_name Caret = codes "Caret"
+kind_name Percent = codes "Percent"
+kind_name Unknown = codes "Unknown"
+kind_name Eof = codes "Eof"
+
+-- the fields of a kind, each after a space
+unfoldable pub fields_text : TokenKind → List ℕ
+fields_text (LineComment doc_style) = codes " doc_style=" ++ style_text doc_style
+fields_text (BlockComment doc_style terminated) = codes " doc_style=" ++ style_text doc_style ++ codes " terminated=" ++ bool_text terminated
+fields_text (Frontmatter has_invalid_preceding_whitespace invalid_infostring) =
+    codes " has_invalid_preceding_whitespace=" ++ bool_text has_invalid_preceding_whitespace ++ codes " invalid_infostring=" ++ bool_text invalid_infostring
+fields_text (Literal kind suffix_start) = codes " kind=" ++ literal_text kind ++ codes " suffix_start=" ++ decimal suffix_start
+fields_text (Lifetime starts_with_number) = codes " starts_with_number=" ++ bool_text starts_with_number
+fields_text kind = []
+
+unfoldable pub line_text : ℕ → Token → List ℕ
+line_text start token = decimal start ++ codes " " ++ decimal token.len ++ codes " " ++ kind_name token.kind ++ fields_text token.kind ++ 10 ∷ []
+
+-- the lines of tokens, of which the first begins at `start`
+abbrev pub listing_from : ℕ → List Token → List ℕ
+listing_from start [] = []
+listing_from start (t ∷ ts) = line_text start t ++ listing_from (start + t.len) ts
+
+abbrev pub listing : List Token → List ℕ
+listing tokens = listing_from 0 tokens

@@ -1,0 +1,11 @@
+-- A reader or a writer, and whether it has failed.
+use Rattle.std.specs.Prelude.{ℕ, Bool, true, ◌==◌, ◌&&◌, not, List, length, Result, Ok, Err}
+
+pub record Watch (T : Type 0) : Type 0 where
+  pub inner : T
+  pub failed : Bool
+
+-- a write that failed: an error, or nothing taken of what is not empty
+abbrev pub took_nothing : {E : Type 0} → Result ℕ E → List ℕ → Bool
+took_nothing (Ok n) piece = n == 0 && not (length piece == 0)
+took_nothing (Err e) piece = true

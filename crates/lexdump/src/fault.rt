@@ -1,0 +1,73 @@
+//! Why a run stops.
+ghost use Rattle.std.specs.Prelude.{◌≡◌};
+ghost use Rattle.lexdump.specs.Fault.{status_of};
+ghost use Rattle.lexdump.specs.declared.fault.Fault.TheVariants.{Memory};
+
+use std::alloc::{AllocError, AllocFailed};
+use std::fmt;
+
+/// Why a run stops.
+#[derive(Clone, Copy, Debug, PartialEq, Eq)]
+pub enum Fault {
+    /// The words after the program's name are no job.
+    Arguments,
+    /// The input is not UTF-8.
+    NotUtf8,
+    /// The input has more than `u32::MAX` bytes.
+    TooLong,
+    /// Edit number `at`, from 0, has a range that is not in the text, or not between characters.
+    EditRange { at: usize },
+    /// Edit number `at`, from 0, makes a text of more than `u32::MAX` bytes.
+    EditTooLong { at: usize },
+    /// A request for memory was refused.
+    Memory,
+    /// The reader failed.
+    Read,
+    /// The writer failed, or took nothing of what it was given.
+    Write,
+}
+
+/// The status with which the program ends.
+pub fn status(fault: &Fault) -> u8
+    ensures { result ≡ status_of fault.now }
+{
+    match fault {
+        Fault::Arguments => 2,
+        Fault::NotUtf8 => 3,
+        Fault::TooLong => 4,
+        Fault::EditRange { at: _ } | Fault::EditTooLong { at: _ } => 5,
+        Fault::Memory => 6,
+        Fault::Read | Fault::Write => 7,
+    }
+}
+
+impl fmt::Display for Fault {
+    fn fmt<W: fmt::Write>(&self, f: &mut fmt::Formatter<W>) -> fmt::Result {
+        match self {
+            Fault::Arguments => write!(f, "bad arguments"),
+            Fault::NotUtf8 => write!(f, "input is not UTF-8"),
+            Fault::TooLong => write!(f, "input too long"),
+            Fault::EditRange { at } => write!(f, "edit {at}: bad range"),
+            Fault::EditTooLong { at } => write!(f, "edit {at}: text too long"),
+            Fault::Memory => write!(f, "no memory"),
+            Fault::Read => write!(f, "read failed"),
+            Fault::Write => write!(f, "write failed"),
+        }
+    }
+}
+
+impl From<AllocError> for Fault {
+    ghost from_gives = { λ _ fault. fault ≡ Memory };
+
+    fn from(_error: AllocError) -> Fault {
+        Fault::Memory
+    }
+}
+
+impl<T: Drop> From<AllocFailed<T>> for Fault {
+    ghost from_gives = { λ _ fault. fault ≡ Memory };
+
+    fn from(_error: AllocFailed<T>) -> Fault {
+        Fault::Memory
+    }
+}

@@ -1,0 +1,101 @@
+//! A reader or a writer, and whether it has failed.
+ghost use Rattle.std.specs.Prelude.{◌≡◌, ◌||◌, false, is_err, length, IsTrue, ◌↔◌};
+ghost use Rattle.std.specs.Io.{ReadsAtMost, WritesAtMost};
+ghost use Rattle.std.specs.Io.KnownBytes.{Keeps, ReadConsumes, WriteAppends};
+ghost use Rattle.lexdump.specs.Watch.{took_nothing};
+
+use std::io;
+use std::io::{Read, Write};
+use std::marker::Model;
+
+/// A reader or a writer, and whether it has failed: whether it once answered an error, or took none of the
+/// bytes that it was given to write. It hands on each answer as it is.
+#[derive(Drop)]
+pub struct Watched<T> {
+    inner: T,
+    failed: bool,
+}
+
+impl<T> Model for Watched<T> {
+    ghost use Rattle.lexdump.specs.Watch.{Watch};
+
+    ghost Value = { Watch T };
+
+    ghost view = { λ w. record { inner = w.inner; failed = w.failed } };
+}
+
+impl<T> Watched<T> {
+    /// An end that has not failed.
+    pub fn new(inner: T) -> Watched<T>
+        ensures { result ≡ record { inner = inner; failed = false } }
+    {
+        Watched {
+            inner,
+            failed: false,
+        }
+    }
+
+    /// Whether it has failed.
+    pub fn failed(&self) -> bool
+        ensures { result ≡ self.now.failed }
+    {
+        self.failed
+    }
+
+    /// The reader or writer itself.
+    pub fn into_inner(self) -> T
+        ensures { result ≡ self.inner }
+    {
+        let Watched { inner, failed: _ } = self;
+        inner
+    }
+}
+
+impl<R: Read> Read for Watched<R> {
+    ghost remaining = { λ w. R.remaining w.inner };
+
+    fn read(&mut self, buf: &mut [u8]) -> io::Result<usize>
+        ensures bound { ReadsAtMost result buf.new }
+        ensures bytes { ReadConsumes (R.remaining self.old.inner) (R.remaining self.new.inner) result buf.new }
+        ensures failed { self.new.failed ≡ (self.old.failed || is_err result) }
+    {
+        let answer = self.inner.read(buf);
+        if answer.is_err() {
+            self.failed = true;
+        }
+        answer
+    }
+}
+
+impl<W: Write> Write for Watched<W> {
+    ghost contents = { λ w. W.contents w.inner };
+
+    fn write(&mut self, buf: &[u8]) -> io::Result<usize>
+        ensures bound { WritesAtMost result buf.now }
+        ensures bytes { WriteAppends (W.contents self.old.inner) (W.contents self.new.inner) result buf.now }
+        ensures failed { self.new.failed ≡ (self.old.failed || took_nothing result buf.now) }
+    {
+        let answer = self.inner.write(buf);
+        match &answer {
+            Ok(0) => {
+                if !buf.is_empty() {
+                    self.failed = true;
+                }
+            }
+            Ok(_) => {}
+            Err(_) => self.failed = true,
+        }
+        answer
+    }
+
+    fn flush(&mut self) -> io::Result<()>
+        ensures bytes { Keeps (W.contents self.old.inner) (W.contents self.new.inner) }
+        ensures failed { self.new.failed ≡ (self.old.failed || is_err result) }
+    {
+        let answer = self.inner.flush();
+        if answer.is_err() {
+            self.failed = true;
+        }
+        answer
+    }
+}
