@@ -15,6 +15,7 @@ pub struct Line {
 impl fmt::Display for Line {
     ghost output = { λ l. Some (line_text l.start l.token) };
 
+    #[tactic(auto, unfolding(crate::specs::Listing::line_text))]
     fn fmt<W: fmt::Write>(&self, f: &mut fmt::Formatter<W>) -> fmt::Result {
         write!(f, "{} {} ", self.start, self.token.len)?;
         f.write_str(name(self.token.kind))?;
@@ -23,6 +24,7 @@ impl fmt::Display for Line {
 }
 
 /// The name of a kind.
+#[tactic(auto, unfolding(crate::specs::Listing::kind_name))]
 fn name(kind: TokenKind) -> &'static str
     ensures { result.now ≡ kind_name kind }
 {

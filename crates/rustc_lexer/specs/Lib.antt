@@ -1,6 +1,8 @@
 pub mod Classes
 pub mod Comment
 pub mod Lexeme
+pub mod Literal
+pub mod LiteralLaws
 pub mod Lookahead
 pub mod Reach
 pub mod Scan

@@ -1,7 +1,7 @@
 -- Scanners in a row reach no further than each of them, and a local scanner gives a grammar.
 use Rattle.std.proofs.Common.{◌≡◌, ℕ, zero, suc, ◌+◌, ◌≤◌, ◌<◌, ◌==◌, ◌&&◌, Bool, true, false, true≢false, if◌then◌else◌, List, [], ◌∷◌, length, get_or, take, drop, refl, sym, ap, ◌∙◌, subst, arith, length-drop, length-take, drop-drop, take-take, take-add}
 use Rattle.std.proofs.lemmas.List.{drop-take}
-use Rattle.rustc_lexer.specs.Scan.{Agree, IsLocal, then_by, and_then, gives, after, begins, run_len, run}
+use Rattle.rustc_lexer.specs.Scan.{Agree, IsLocal, then_by, and_then, gives, after, begins, next_is, run_len, run}
 
 -- texts that agree past a place agree past each place before it
 pub agree_before : (k n m : ℕ) (s u : List ℕ) → Agree k (n + m) s u → Agree k n s u
@@ -47,6 +47,23 @@ gives_local a = record { inside = λ s. omega arith; local = λ s u h. refl }
 and_both : (a b : Bool) → a && b ≡ true → (a ≡ true) × (b ≡ true)
 and_both true b e = (refl, e)
 and_both false b e = absurd (true≢false (sym e))
+
+-- two ways to say the same scanner
+pub same_local : {A : Type 0} (k : ℕ) (scan other : List ℕ → A × ℕ) → ((s : List ℕ) → scan s ≡ other s) → IsLocal A k other → IsLocal A k scan
+same_local {A} k scan other same is = record {
+  inside = λ s. omega (arith, ap (λ (r : A × ℕ). r.1) (same s), is.inside s);
+  local = λ s u a. same u ∙ (is.local s u (subst (λ (n : ℕ). Agree k n s u) (ap (λ (r : A × ℕ). r.1) (same s)) a) ∙ sym (same s));
+}
+
+-- the next character is told by one character
+pub next_is-take : (p : ℕ → Bool) (k : ℕ) (s : List ℕ) → 0 < k → next_is p (take k s) ≡ next_is p s
+next_is-take p zero s some = absurd (omega arith)
+next_is-take p (suc k) [] some = refl
+next_is-take p (suc k) (c ∷ s) some = refl
+
+pub next_is-length : (p : ℕ → Bool) (s : List ℕ) → next_is p s ≡ true → 1 ≤ length s
+next_is-length p [] e = absurd (true≢false (sym e))
+next_is-length p (c ∷ s) e = omega arith
 
 -- whether a text begins with some characters is told by as many of its own
 pub begins-take : (p : List ℕ) (k : ℕ) (s : List ℕ) → length p ≤ k → begins p (take k s) ≡ begins p s

@@ -45,6 +45,11 @@ begins [] s = true
 begins (c ∷ cs) [] = false
 begins (c ∷ cs) (d ∷ s) = d == c && begins cs s
 
+-- whether the next character is in the class; the end of the text is in none
+abbrev pub next_is : (ℕ → Bool) → List ℕ → Bool
+next_is p [] = false
+next_is p (c ∷ s) = p c
+
 -- how many bytes the first n characters take
 abbrev pub bytes_of : ℕ → List ℕ → ℕ
 bytes_of n cs = length (encode_utf8_all (take n cs))

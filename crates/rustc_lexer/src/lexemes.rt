@@ -14,6 +14,7 @@ use crate::scan::{eat_while, split_first};
 use crate::token::{Token, TokenKind};
 
 mod comment;
+mod literal;
 
 /// The token at the front of a text. At the end of the text it is `Eof`, of length 0.
 pub(crate) fn lexeme(text: &str) -> Token

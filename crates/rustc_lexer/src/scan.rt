@@ -1,5 +1,5 @@
 //! Peeks at what is left of a text, and runs of a class at its front.
-ghost use Rattle.std.specs.Prelude.{◌≡◌, ℕ, ◌∷◌, [], Bool, true, false, MatchOption, slice_index};
+ghost use Rattle.std.specs.Prelude.{◌≡◌, ◌<◌, ◌≤◌, ℕ, ◌∷◌, [], length, Bool, true, false, MatchOption, slice_index};
 ghost use Rattle.std.specs.Str.{chars};
 ghost use Rattle.rustc_lexer.specs.Scan.{begins, past, run_len};
 
@@ -32,7 +32,7 @@ pub(crate) fn third(rest: &str) -> char
 
 /// The first character and what follows it.
 pub(crate) fn split_first(rest: &str) -> Option<(char, &str)>
-    ensures { MatchOption result (chars rest.now ≡ []) (λ r. (chars rest.now ≡ r.0 ∷ chars r.1.now) × (r.1.now ≡ past 1 rest.now)) }
+    ensures { MatchOption result (chars rest.now ≡ []) (λ r. (chars rest.now ≡ r.0 ∷ chars r.1.now) × (r.1.now ≡ past 1 rest.now) × (length r.1.now < length rest.now)) }
 {
     let mut chars = rest.chars();
     let first = chars.next()?;
@@ -41,7 +41,7 @@ pub(crate) fn split_first(rest: &str) -> Option<(char, &str)>
 
 /// What follows the character `c`, if the text begins with it.
 pub(crate) fn strip(rest: &str, c: char) -> Option<&str>
-    ensures { MatchOption result (begins (c ∷ []) (chars rest.now) ≡ false) (λ tail. (begins (c ∷ []) (chars rest.now) ≡ true) × (tail.now ≡ past 1 rest.now)) }
+    ensures { MatchOption result (begins (c ∷ []) (chars rest.now) ≡ false) (λ tail. (begins (c ∷ []) (chars rest.now) ≡ true) × (tail.now ≡ past 1 rest.now) × (length tail.now < length rest.now)) }
 {
     let (first, tail) = split_first(rest)?;
     if first == c { Some(tail) } else { None }
@@ -50,7 +50,8 @@ pub(crate) fn strip(rest: &str, c: char) -> Option<&str>
 /// What follows the characters at the front that pass the test.
 pub(crate) fn eat_while<F: Fn(char) -> bool>(rest: &str, test: F) -> &str
     requires callable { F.IsAlwaysCallable test }
-    ensures { (class : ℕ → Bool) → ((c : ℕ) (b : Bool) → F.post test c b → b ≡ class c)
+    ensures shorter { length result.now ≤ length rest.now }
+    ensures past { (class : ℕ → Bool) → ((c : ℕ) (b : Bool) → F.post test c b → b ≡ class c)
         → result.now ≡ past (run_len class (chars rest.now)) rest.now }
 {
     let mut end = 0;

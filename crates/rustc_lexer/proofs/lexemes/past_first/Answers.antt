@@ -9,10 +9,10 @@ pub returns-then-first-eq47 : goal.returns-then-first-eq47
 returns-then-first-eq47 c = c.slash.ensures ∙ sym (pick-slash _ _ c.if-first-eq47.true)
 
 pub returns-then-is_whitespace : goal.returns-then-is_whitespace
-returns-then-is_whitespace c = ap (λ xs. (Whitespace, xs)) (c.eat_while.ensures is_whitespace (λ d b e. e)) ∙ sym (pick-whitespace _ _ c.if-first-eq47.false (sym c.if-is_whitespace.ensures))
+returns-then-is_whitespace c = ap (λ xs. (Whitespace, xs)) (c.eat_while.ensures.past is_whitespace (λ d b e. e)) ∙ sym (pick-whitespace _ _ c.if-first-eq47.false (sym c.if-is_whitespace.ensures))
 
 pub returns-then-is_id_start : goal.returns-then-is_id_start
-returns-then-is_id_start c = ap (λ xs. (Ident, xs)) (c.eat_while-then-is_id_start.ensures is_id_continue (λ d b e. e)) ∙ sym (pick-ident _ _ c.if-first-eq47.false (sym c.if-is_whitespace.ensures) (sym c.if-is_id_start.ensures))
+returns-then-is_id_start c = ap (λ xs. (Ident, xs)) (c.eat_while-then-is_id_start.ensures.past is_id_continue (λ d b e. e)) ∙ sym (pick-ident _ _ c.if-first-eq47.false (sym c.if-is_whitespace.ensures) (sym c.if-is_id_start.ensures))
 
 pub returns-else-is_id_start : goal.returns-else-is_id_start
 returns-else-is_id_start c =

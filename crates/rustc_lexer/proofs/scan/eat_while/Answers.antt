@@ -13,8 +13,8 @@ loop-c-preserved g c = (
 pub range_from-requires : goal.range_from-requires
 range_from-requires g c = λ some. cut_here _ _ _ c.loop-c.invariant.0
 
-pub returns : goal.returns
-returns g c = λ class tests. run_cut class c.args.rest.now _ c.loop-c.end c.utf8.rest c.range_from.ensures.value (elim c.match-next.branch [
+pub returns-clause-past : goal.returns-clause-past
+returns-clause-past g c = λ class tests. run_cut class c.args.rest.now _ c.loop-c.end c.utf8.rest c.range_from.ensures.value (elim c.match-next.branch [
   | in-None w ↦ run_end _ _ _ _ (c.loop-c.invariant.1 class tests) w.in-None.ensures.steps.0.0
   | in-Some+then-not-test w ↦ run_stop _ _ _ _ _ _ (c.loop-c.invariant.1 class tests) w.in-Some.ensures.steps.0 (sym (tests _ _ w.test.ensures) ∙ w.if-not-test.true)
 ])

@@ -1,0 +1,23 @@
+-- Literals: a body, and a suffix where the body takes one.
+use Rattle.std.specs.Prelude.{ℕ, ◌+◌, Bool, if◌then◌else◌, List, drop}
+use Rattle.rustc_lexer.specs.declared.token.LiteralKind.{LiteralKind}
+use Rattle.rustc_lexer.specs.declared.token.TokenKind.{TokenKind}
+use Rattle.rustc_lexer.specs.declared.token.TokenKind.TheVariants.{Literal}
+use Rattle.rustc_lexer.specs.Classes.{is_id_start, is_id_continue}
+use Rattle.rustc_lexer.specs.Scan.{next_is, run_len, bytes_of}
+
+-- an identifier, if one stands here
+abbrev pub suffix_len : List ℕ → ℕ
+suffix_len s = if next_is is_id_start s then 1 + run_len is_id_continue (drop 1 s) else 0
+
+-- what the body of a literal is, and whether it takes a suffix
+pub record Body : Type 0 where
+  pub kind : LiteralKind
+  pub takes_suffix : Bool
+
+-- what follows the first character of a literal, which is one byte long
+abbrev pub literal_by : Body × ℕ → List ℕ → TokenKind × ℕ
+literal_by body s = (Literal body.0.kind (1 + bytes_of body.1 s), body.1 + (if body.0.takes_suffix then suffix_len (drop body.1 s) else 0))
+
+abbrev pub literal : (List ℕ → Body × ℕ) → List ℕ → TokenKind × ℕ
+literal body s = literal_by (body s) s

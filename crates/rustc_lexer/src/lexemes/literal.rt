@@ -1,0 +1,37 @@
+//! What every literal has: where its suffix begins, and the suffix.
+ghost use Rattle.std.specs.Prelude.{◌≡◌, ◌+◌, ◌-◌, ◌≤◌, ◌<◌, ◌^◌, length};
+ghost use Rattle.std.specs.Str.{chars};
+ghost use Rattle.rustc_lexer.specs.declared.token.TokenKind.TheVariants.{Literal};
+ghost use Rattle.rustc_lexer.specs.Literal.{suffix_len};
+ghost use Rattle.rustc_lexer.specs.Scan.{past};
+
+use crate::classes::{is_id_continue, is_id_start};
+use crate::scan::{eat_while, split_first};
+use crate::token::{LiteralKind, TokenKind};
+
+/// What a suffix leaves of the text, if one stands here.
+pub(crate) fn eat_suffix(rest: &str) -> &str
+    ensures shorter { length result.now ≤ length rest.now }
+    ensures past { result.now ≡ past (suffix_len (chars rest.now)) rest.now }
+{
+    let Some((first, tail)) = split_first(rest) else {
+        return rest;
+    };
+    if !is_id_start(first) {
+        return rest;
+    }
+    eat_while(tail, is_id_continue)
+}
+
+/// The kind of a literal whose body is all of `tail` up to `rest`, where `tail` is what follows its first
+/// character, of one byte.
+pub(crate) fn literal(kind: LiteralKind, tail: &str, rest: &str) -> TokenKind
+    requires inside { length rest.now ≤ length tail.now }
+    requires fits { length tail.now + 1 < 2 ^ 32 }
+    ensures { result ≡ Literal kind (1 + (length tail.now - length rest.now)) }
+{
+    TokenKind::Literal {
+        kind,
+        suffix_start: 1 + (tail.len() - rest.len()) as u32,
+    }
+}
