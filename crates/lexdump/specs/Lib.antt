@@ -1,4 +1,5 @@
 pub mod Fault
 pub mod Job
 pub mod Listing
+pub mod Outcome
 pub mod Watch

@@ -1,11 +1,29 @@
 //! The listing of tokens: a line for each, with its start, its length, its kind and the fields of that.
-ghost use Rattle.std.specs.Prelude.{◌≡◌, Some, codes};
-ghost use Rattle.lexdump.specs.Listing.{base_text, fields_text, hashes_text, kind_name, line_text, literal_text, style_text};
+ghost use Rattle.std.specs.Prelude.{◌≡◌, IfOk, Some, string_bytes};
+ghost use Rattle.lexdump.specs.Listing.{base_text, fields_text, hashes_text, kind_name, line_text, listing, literal_text, style_text};
+ghost use Rattle.rustc_lexer.specs.Classes.{Fits};
+ghost use Rattle.rustc_lexer.specs.Tokens.{tokens_of};
 
-use rustc_lexer::{Base, DocStyle, LiteralKind, Token, TokenKind};
+use rustc_lexer::{Base, DocStyle, FrontmatterAllowed, LiteralKind, Token, TokenKind, tokenize};
+use std::alloc::{AllocError, Global};
 use std::fmt;
+use std::fmt::Write;
 
-/// The line of a token that begins at the byte `start`, without its newline.
+/// The listing of the tokens of a text, which has at most `u32::MAX` bytes.
+pub fn list_tokens(alloc: Global, text: &str) -> Result<String, AllocError>
+    requires fits { Fits text.now }
+    ensures { IfOk result (λ listed. string_bytes listed ≡ listing (tokens_of FrontmatterAllowed.No text.now)) }
+{
+    let mut listing = String::new(alloc);
+    let mut start = 0;
+    for token in tokenize(text, FrontmatterAllowed::No) {
+        write!(listing, "{}", Line { start, token })?;
+        start += token.len;
+    }
+    Ok(listing)
+}
+
+/// The line of a token that begins at the byte `start`.
 #[derive(Clone, Copy)]
 pub struct Line {
     pub start: u32,

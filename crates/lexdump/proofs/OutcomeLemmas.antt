@@ -1,0 +1,81 @@
+-- The answer of a run is that of its outcome.
+use Rattle.std.proofs.Common.{◌≡◌, ℕ, ◌<◌, ◌≤◌, ◌^◌, nat_le, Bool, true, false, List, length, refl, sym, ap, ◌∙◌, arith, subst, inl, inr, Option, Some, None, Result, Ok, Err, Vec, Global}
+use Rattle.std.specs.Prelude.{IfSome, IfErr, OnOk, OnErr}
+use Rattle.std.specs.Str.{IsUtf8, is_utf8}
+use Rattle.std.proofs.lemmas.Bool.{le-leb}
+use Rattle.std.proofs.lemmas.Bool.Decides.{leb_tells}
+use Rattle.std.specs.Io.KnownBytes.{Appends}
+use Rattle.std.proofs.lemmas.Str.{IsUtf8-from_is_utf8, is_utf8-from_IsUtf8}
+use Rattle.lexdump.specs.declared.fault.Fault.{Fault}
+use Rattle.lexdump.specs.declared.fault.Fault.TheVariants.{Arguments, NotUtf8, TooLong, EditRange, EditTooLong, Memory, Read, Write}
+use Rattle.lexdump.specs.declared.job.Job.{Job}
+use Rattle.lexdump.specs.Outcome.{printed, outcome, IsAnswer, AppendsFront, Writes, IsReadingFault, EndsReading}
+
+below : (a b : ℕ) → b < a → nat_le a b ≡ false
+below a b h = elim (leb_tells a b) [ inl p ↦ absurd (omega arith) | inr p ↦ p.0 ]
+
+outcome-long : (job : Job) (bytes : List ℕ) → 2 ^ 32 ≤ length bytes → outcome job bytes ≡ Err TooLong
+unfolding outcome
+outcome-long job bytes long = let e : nat_le (2 ^ 32) (length bytes) ≡ true = le-leb (2 ^ 32) (length bytes) long in rw e refl
+
+outcome-no_text : (job : Job) (bytes : List ℕ) → length bytes < 2 ^ 32 → ¬ (IsUtf8 bytes) → outcome job bytes ≡ Err NotUtf8
+unfolding outcome
+outcome-no_text job bytes fits none = by_test (is_utf8 bytes) refl
+  where
+    by_test : (b : Bool) → is_utf8 bytes ≡ b → outcome job bytes ≡ Err NotUtf8
+    by_test true e = absurd (none (IsUtf8-from_is_utf8 bytes e))
+    by_test false e = let f : nat_le (2 ^ 32) (length bytes) ≡ false = below (2 ^ 32) (length bytes) fits in rw (f, e) refl
+
+outcome-text : (job : Job) (bytes : List ℕ) → length bytes < 2 ^ 32 → IsUtf8 bytes → outcome job bytes ≡ Ok (printed job bytes)
+unfolding outcome
+outcome-text job bytes fits is =
+    let e : is_utf8 bytes ≡ true = is_utf8-from_IsUtf8 bytes is in
+    let f : nat_le (2 ^ 32) (length bytes) ≡ false = below (2 ^ 32) (length bytes) fits in
+    rw (f, e) refl
+
+pub answer_fault : (job : Job) (known : Option (List ℕ)) (fault : Fault) → IsReadingFault fault → EndsReading known (Err fault) → IfSome known (λ bytes. IsAnswer (Err fault) (outcome job bytes))
+answer_fault job None fault is ends = tt
+answer_fault job (Some bytes) TooLong is ends = outcome-long job bytes ends
+answer_fault job (Some bytes) Memory is ends = tt
+answer_fault job (Some bytes) Read is ends = tt
+answer_fault job (Some bytes) Arguments is ends = absurd is
+answer_fault job (Some bytes) NotUtf8 is ends = absurd is
+answer_fault job (Some bytes) (EditRange at) is ends = absurd is
+answer_fault job (Some bytes) (EditTooLong at) is ends = absurd is
+answer_fault job (Some bytes) Write is ends = absurd is
+
+pub answer_no_text : (job : Job) (known : Option (List ℕ)) (read : Vec ℕ Global) → EndsReading known (Ok read) → length read.items < 2 ^ 32 → ¬ (IsUtf8 read.items) → IfSome known (λ bytes. IsAnswer (Err NotUtf8) (outcome job bytes))
+answer_no_text job None read ends fits none = tt
+answer_no_text job (Some bytes) read ends fits none =
+    subst (λ (xs : List ℕ). outcome job xs ≡ Err NotUtf8) ends (outcome-no_text job read.items fits none)
+
+module _ (job : Job) (known : Option (List ℕ)) (read : Vec ℕ Global) (text made : List ℕ) (ends : EndsReading known (Ok read)) (is : IsUtf8 text) (same : text ≡ read.items) (fits : length text < 2 ^ 32) (prints : made ≡ printed job text)
+    (old new : Option (List ℕ)) (result : Result (Unit {0}) Fault) (only : IfErr result (λ fault. fault ≡ Write)) where
+  comes_to : (bytes : List ℕ) → read.items ≡ bytes → outcome job bytes ≡ Ok made
+  comes_to bytes e = ap (outcome job) (sym (same ∙ e)) ∙ (outcome-text job text fits is ∙ ap (λ (xs : List ℕ). let r : Result (List ℕ) Fault = Ok xs in r) (sym prints))
+
+  pub answer_text : IfSome known (λ bytes. IsAnswer result (outcome job bytes))
+  answer_text = by_known known ends
+    where
+      by_result : (r : Result (Unit {0}) Fault) → IfErr r (λ fault. fault ≡ Write) → (o : Result (List ℕ) Fault) → o ≡ Ok made → IsAnswer r o
+      by_result (Ok done) h o e = (made, e)
+      by_result (Err fault) h o e = subst (λ (x : Fault). IsAnswer (Err x) o) (sym h) (made, e)
+
+      by_known : (k : Option (List ℕ)) → EndsReading k (Ok read) → IfSome k (λ bytes. IsAnswer result (outcome job bytes))
+      by_known None e = tt
+      by_known (Some bytes) e = by_result result only (outcome job bytes) (comes_to bytes e)
+
+  pub writes_text : OnOk result (Appends old new made) → OnErr result (AppendsFront old new made) → IfSome known (λ bytes. Writes old new result (outcome job bytes))
+  writes_text ok err = by_known known ends
+    where
+      by_result : (r : Result (Unit {0}) Fault) → IfErr r (λ fault. fault ≡ Write) → OnOk r (Appends old new made) → OnErr r (AppendsFront old new made) → Writes old new r (Ok made)
+      by_result (Ok done) h a b = a
+      by_result (Err fault) h a b = subst (λ (x : Fault). Writes old new (Err x) (Ok made)) (sym h) b
+
+      by_known : (k : Option (List ℕ)) → EndsReading k (Ok read) → IfSome k (λ bytes. Writes old new result (outcome job bytes))
+      by_known None e = tt
+      by_known (Some bytes) e = subst (λ (o : Result (List ℕ) Fault). Writes old new result o) (sym (comes_to bytes e)) (by_result result only ok err)
+
+-- a fault of reading is none of writing
+pub reads_only : (fault : Fault) → IsReadingFault fault → ¬ (fault ≡ Write)
+reads_only fault is e = subst IsReadingFault e is
