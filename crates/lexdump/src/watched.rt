@@ -49,6 +49,14 @@ impl<T> Watched<T> {
         let Watched { inner, failed: _ } = self;
         inner
     }
+
+    /// Notes whether a call failed.
+    fn note(&mut self, failed: bool)
+        ensures inner { self.new.inner ≡ self.old.inner }
+        ensures failed { self.new.failed ≡ (self.old.failed || failed) }
+    {
+        self.failed = self.failed || failed;
+    }
 }
 
 impl<R: Read> Read for Watched<R> {
@@ -60,9 +68,7 @@ impl<R: Read> Read for Watched<R> {
         ensures failed { self.new.failed ≡ (self.old.failed || is_err result) }
     {
         let answer = self.inner.read(buf);
-        if answer.is_err() {
-            self.failed = true;
-        }
+        self.note(answer.is_err());
         answer
     }
 }
@@ -76,15 +82,10 @@ impl<W: Write> Write for Watched<W> {
         ensures failed { self.new.failed ≡ (self.old.failed || took_nothing result buf.now) }
     {
         let answer = self.inner.write(buf);
-        match &answer {
-            Ok(0) => {
-                if !buf.is_empty() {
-                    self.failed = true;
-                }
-            }
-            Ok(_) => {}
-            Err(_) => self.failed = true,
-        }
+        self.note(match &answer {
+            Ok(count) => *count == 0 && !buf.is_empty(),
+            Err(_) => true,
+        });
         answer
     }
 
@@ -93,9 +94,7 @@ impl<W: Write> Write for Watched<W> {
         ensures failed { self.new.failed ≡ (self.old.failed || is_err result) }
     {
         let answer = self.inner.flush();
-        if answer.is_err() {
-            self.failed = true;
-        }
+        self.note(answer.is_err());
         answer
     }
 }

@@ -190,13 +190,14 @@ takes_first s t token none is some e f =
     nonzero (suc n) h = omega arith
 
 -- the same, where the state is seen as the fields of a value, and its text as a slice
-module _ (inside s : State) (text : List ℕ) (view : inside ≡ s) (rest : text ≡ inside.rest) where
+module _ (inside s : State) (text : List ℕ) (view : inside ≡ s) (rest : text ≡ s.rest) where
   pub takes : (t : State) (token : Token) → IsUtf8 text → length text < 2 ^ 32 → inside.pending ≡ 0 → (length text == 0) ≡ false → token ≡ (advance inside).0 → t ≡ (advance inside).1 → TakesFirst s t token
   takes t token is fits none some e f =
-      subst (λ (x : State). TakesFirst x t token) view (takes_first inside t token none (subst IsText rest record { utf8 = is; fits = fits }) (ap (λ (xs : List ℕ). length xs == 0) (sym rest) ∙ some) e f)
+      let here : text ≡ inside.rest = rest ∙ ap (λ (x : State). x.rest) (sym view) in
+      subst (λ (x : State). TakesFirst x t token) view (takes_first inside t token none (subst IsText here record { utf8 = is; fits = fits }) (ap (λ (xs : List ℕ). length xs == 0) (sym here) ∙ some) e f)
 
   pub none_left : (length text == 0) ≡ true → tokens_left s ≡ []
-  none_left none = ap tokens_left (sym view) ∙ (ap (tokens_of inside.frontmatter_allowed) (sym rest ∙ empty text none) ∙ tokens-nil inside.frontmatter_allowed)
+  none_left none = ap (tokens_of s.frontmatter_allowed) (sym rest ∙ empty text none) ∙ tokens-nil s.frontmatter_allowed
     where
       empty : (xs : List ℕ) → (length xs == 0) ≡ true → xs ≡ []
       empty [] h = refl

@@ -64,14 +64,14 @@ impl<'a> Cursor<'a> {
     pub fn first(&self) -> char
         ensures { result ≡ slice_index (chars self.now.rest) 0 }
     {
-        scan::first(self.rest)
+        scan::first(self.as_str())
     }
 
     /// The character after the next two, or U+0000 where the text has no more than two.
     pub fn third(&self) -> char
         ensures { result ≡ slice_index (chars self.now.rest) 2 }
     {
-        scan::third(self.rest)
+        scan::third(self.as_str())
     }
 
     /// Takes the next token. At the end of the text it answers `Eof`, of length 0, and changes nothing.

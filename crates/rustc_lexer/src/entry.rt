@@ -52,7 +52,8 @@ impl<'a> Model for Tokens<'a> {
 impl<'a> Tokens<'a> {
     /// The text whose tokens were not given out yet.
     pub fn as_str(&self) -> &'a str
-        ensures { result.now ≡ self.now.rest }
+        ensures rest { result.now ≡ self.now.rest }
+        ensures fits { Fits result.now }
     {
         self.cursor.as_str()
     }
@@ -71,7 +72,7 @@ impl<'a> Iterator for Tokens<'a> {
         ensures goes { MakesProgress (λ _. ⊤) (λ s. at_most (length s.rest)) self.old result self.new }
         ensures rest { MatchOption result (self.new ≡ self.old) (λ token. self.new.rest ≡ drop token.len self.old.rest) }
     {
-        if self.cursor.as_str().is_empty() {
+        if self.as_str().is_empty() {
             return None;
         }
         Some(self.cursor.advance_token())

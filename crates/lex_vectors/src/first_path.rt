@@ -1,0 +1,169 @@
+//! Line comments, white space, identifiers and symbols.
+use crate::rows::{Row, assert_rows};
+use rustc_lexer::{
+    Cursor, DocStyle, FrontmatterAllowed, Token, TokenKind, UNICODE_VERSION, fits,
+    is_horizontal_whitespace, is_id_continue, is_id_start, is_whitespace, tokenize,
+};
+
+const PLAIN: TokenKind = TokenKind::LineComment { doc_style: None };
+
+const OUTER: TokenKind = TokenKind::LineComment {
+    doc_style: Some(DocStyle::Outer),
+};
+
+const INNER: TokenKind = TokenKind::LineComment {
+    doc_style: Some(DocStyle::Inner),
+};
+
+static ROWS: [Row; 8] = [
+    Row {
+        text: "fn main() {}\n",
+        allowed: FrontmatterAllowed::No,
+        tokens: &[
+            (TokenKind::Ident, 2),
+            (TokenKind::Whitespace, 1),
+            (TokenKind::Ident, 4),
+            (TokenKind::OpenParen, 1),
+            (TokenKind::CloseParen, 1),
+            (TokenKind::Whitespace, 1),
+            (TokenKind::OpenBrace, 1),
+            (TokenKind::CloseBrace, 1),
+            (TokenKind::Whitespace, 1),
+        ],
+    },
+    Row {
+        text: "",
+        allowed: FrontmatterAllowed::No,
+        tokens: &[],
+    },
+    Row {
+        text: "a//b\n/ c",
+        allowed: FrontmatterAllowed::No,
+        tokens: &[
+            (TokenKind::Ident, 1),
+            (PLAIN, 3),
+            (TokenKind::Whitespace, 1),
+            (TokenKind::Slash, 1),
+            (TokenKind::Whitespace, 1),
+            (TokenKind::Ident, 1),
+        ],
+    },
+    Row {
+        text: "///",
+        allowed: FrontmatterAllowed::No,
+        tokens: &[(OUTER, 3)],
+    },
+    Row {
+        text: "////",
+        allowed: FrontmatterAllowed::No,
+        tokens: &[(PLAIN, 4)],
+    },
+    Row {
+        text: "//!x",
+        allowed: FrontmatterAllowed::No,
+        tokens: &[(INNER, 4)],
+    },
+    Row {
+        text: "a\n---",
+        allowed: FrontmatterAllowed::Yes,
+        tokens: &[
+            (TokenKind::Ident, 1),
+            (TokenKind::Whitespace, 1),
+            (TokenKind::Minus, 1),
+            (TokenKind::Minus, 1),
+            (TokenKind::Minus, 1),
+        ],
+    },
+    Row {
+        text: ";,.(){}[]@#~?:$=!<>-&|+*/^%",
+        allowed: FrontmatterAllowed::No,
+        tokens: &[
+            (TokenKind::Semi, 1),
+            (TokenKind::Comma, 1),
+            (TokenKind::Dot, 1),
+            (TokenKind::OpenParen, 1),
+            (TokenKind::CloseParen, 1),
+            (TokenKind::OpenBrace, 1),
+            (TokenKind::CloseBrace, 1),
+            (TokenKind::OpenBracket, 1),
+            (TokenKind::CloseBracket, 1),
+            (TokenKind::At, 1),
+            (TokenKind::Pound, 1),
+            (TokenKind::Tilde, 1),
+            (TokenKind::Question, 1),
+            (TokenKind::Colon, 1),
+            (TokenKind::Dollar, 1),
+            (TokenKind::Eq, 1),
+            (TokenKind::Bang, 1),
+            (TokenKind::Lt, 1),
+            (TokenKind::Gt, 1),
+            (TokenKind::Minus, 1),
+            (TokenKind::And, 1),
+            (TokenKind::Or, 1),
+            (TokenKind::Plus, 1),
+            (TokenKind::Star, 1),
+            (TokenKind::Slash, 1),
+            (TokenKind::Caret, 1),
+            (TokenKind::Percent, 1),
+        ],
+    },
+];
+
+#[test]
+fn rows(rt: HostRuntime) {
+    assert_rows(&rt, &ROWS);
+}
+
+#[test]
+fn classes(rt: HostRuntime) {
+    let spaces = [
+        '\t', '\n', '\u{b}', '\u{c}', '\r', ' ', '\u{85}', '\u{200e}', '\u{200f}', '\u{2028}',
+        '\u{2029}',
+    ];
+    for c in spaces {
+        assert!(rt; is_whitespace(c));
+        assert_eq!(rt; is_horizontal_whitespace(c), c == '\t' || c == ' ');
+    }
+    for c in ['\u{8}', '\u{e}', '\u{a0}', '\u{200d}', '\u{2027}', '\u{202a}', '\u{feff}', 'a'] {
+        assert!(rt; !is_whitespace(c));
+    }
+    for c in ['_', 'a', 'Z', 'é', '\u{2139}'] {
+        assert!(rt; is_id_start(c));
+        assert!(rt; is_id_continue(c));
+    }
+    for c in ['0', '\u{200c}', '\u{200d}', '\u{30fb}', '\u{ff65}'] {
+        assert!(rt; !is_id_start(c));
+        assert!(rt; is_id_continue(c));
+    }
+    for c in ['-', '\'', '😀', '\0'] {
+        assert!(rt; !is_id_start(c));
+        assert!(rt; !is_id_continue(c));
+    }
+}
+
+#[test]
+fn unicode_version(rt: HostRuntime) {
+    let (major, minor, patch) = UNICODE_VERSION;
+    assert_eq!(rt; [major, minor, patch], [18, 0, 0]);
+}
+
+#[test]
+fn cursor(rt: HostRuntime) {
+    assert!(rt; fits("é-"));
+    let mut cursor = Cursor::new("é-", FrontmatterAllowed::No);
+    assert_eq!(rt; cursor.first(), 'é');
+    assert_eq!(rt; cursor.third(), '\0');
+    assert_eq!(rt; cursor.advance_token(), Token { kind: TokenKind::Ident, len: 2 });
+    assert_eq!(rt; cursor.as_str(), "-");
+    assert_eq!(rt; cursor.advance_token(), Token { kind: TokenKind::Minus, len: 1 });
+    assert_eq!(rt; cursor.advance_token(), Token { kind: TokenKind::Eof, len: 0 });
+    assert_eq!(rt; cursor.first(), '\0');
+}
+
+#[test]
+fn text_that_is_left(rt: HostRuntime) {
+    let mut tokens = tokenize("a b", FrontmatterAllowed::No);
+    assert_eq!(rt; tokens.as_str(), "a b");
+    assert!(rt; tokens.next().is_some());
+    assert_eq!(rt; tokens.as_str(), " b");
+}
