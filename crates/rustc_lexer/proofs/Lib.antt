@@ -1,3 +1,4 @@
+pub mod BlockCommentLoop
 pub mod CharSteps
 pub mod LexemeLemmas
 pub mod PastLemmas
@@ -6,3 +7,4 @@ pub mod ScanLemmas
 pub mod StateLemmas
 pub mod SuffixLemmas
 pub mod TokensLemmas
+pub mod UntilLoop

@@ -1,3 +1,6 @@
+pub mod BlockComment
+pub mod BlockCommentLaws
+pub mod BlockGrammar
 pub mod Classes
 pub mod Comment
 pub mod Lexeme
@@ -10,3 +13,4 @@ pub mod State
 pub mod Texts
 pub mod TokenBy
 pub mod Tokens
+pub mod Until
