@@ -5,7 +5,7 @@ use Rattle.rustc_lexer.specs.declared.token.DocStyle.{DocStyle}
 use Rattle.rustc_lexer.specs.declared.token.TokenKind.{TokenKind}
 use Rattle.rustc_lexer.specs.declared.token.TokenKind.TheVariants.{BlockComment}
 use Rattle.rustc_lexer.specs.Scan.{Agree, IsLocal, begins}
-use Rattle.rustc_lexer.specs.Until.{until, more, IsFound, until_found, until-done, same_found, wider_found, same_text}
+use Rattle.rustc_lexer.specs.Until.{until, more, IsFound, until_found, until-done, same_found, same_text}
 use Rattle.rustc_lexer.specs.Reach.{begins-take}
 use Rattle.rustc_lexer.specs.BlockComment.{closing, opening, followed_by, closes, comment_end, block_doc_style, block_comment_to, block_comment}
 

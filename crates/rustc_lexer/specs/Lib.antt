@@ -3,6 +3,7 @@ pub mod BlockCommentLaws
 pub mod BlockGrammar
 pub mod Classes
 pub mod Comment
+pub mod Emoji
 pub mod Lexeme
 pub mod Literal
 pub mod LiteralLaws
