@@ -1,12 +1,18 @@
 -- A search of ranges that rise tells whether a character is in one of them.
-use Rattle.std.proofs.Common.{◌≡◌, ℕ, zero, suc, ◌+◌, ◌<◌, ◌≤◌, Bool, true, false, true≢false, ◌&&◌, ◌||◌, not, nat_le, nat_lt, List, [], ◌∷◌, length, refl, sym, ap, ◌∙◌, arith, Result, Ok, Err, is_ok, slice_index_or}
-use Rattle.std.proofs.lemmas.Bool.{le-leb, lt-leb, leb-true, lt-ltb, le-ltb, ltb-true, ltb-false}
+use Rattle.std.proofs.Common.{◌≡◌, ℕ, zero, suc, ◌+◌, ◌<◌, ◌≤◌, Bool, true, false, ◌&&◌, not, nat_le, nat_lt, List, [], ◌∷◌, length, refl, sym, ap, ◌∙◌, arith, Result, Ok, Err, is_ok, slice_index_or}
+use Rattle.std.proofs.Math.Bool.{and-false, or-true}
+use Rattle.std.proofs.lemmas.Bool.{and_parts, le-leb, lt-leb, leb-true, lt-ltb, le-ltb, ltb-true, ltb-false}
 use Rattle.std.proofs.lemmas.List.Sorted.{IsNonDecreasingBy-from_all_adjacent}
 use Rattle.std.specs.List.Sorted.{IsBinarySearchResult, IsPartitionPoint, IsSearchInRange}
 use Rattle.std.specs.Ordering.{ordering_index}
 use Rattle.std.specs.declared.cmp.Ordering.{Ordering}
 use Rattle.std.specs.declared.cmp.Ordering.TheVariants.{Less, Equal, Greater}
-use Rattle.rustc_lexer.specs.Emoji.{Range, is_within, in_ranges, rises_from, side, emoji_ranges, is_emoji}
+use Rattle.rustc_lexer.specs.Emoji.{Range, is_within, in_ranges, side, emoji_ranges, is_emoji}
+
+-- each range has a member, and begins past the end of the one before, the first at n or later
+abbrev rises_from : ℕ → List Range → Bool
+rises_from n [] = true
+rises_from n (r ∷ rs) = nat_le n r.0 && (nat_le r.0 r.1 && rises_from (r.1 + 1) rs)
 
 is_equal : Ordering → Bool
 is_equal Less = false
@@ -15,18 +21,6 @@ is_equal Greater = false
 
 abbrev index : ℕ → Range → ℕ
 index c r = ordering_index (side c r)
-
-and_both : (a b : Bool) → a && b ≡ true → (a ≡ true) × (b ≡ true)
-and_both true b e = (refl, e)
-and_both false b e = absurd (true≢false (sym e))
-
-and-false : (a : Bool) → a && false ≡ false
-and-false true = refl
-and-false false = refl
-
-or-true : (a : Bool) → a || true ≡ true
-or-true true = refl
-or-true false = refl
 
 -- the character is in the range that lies on neither side of it
 within : (c : ℕ) (r : Range) → is_within r c ≡ is_equal (side c r)
@@ -58,11 +52,11 @@ adjacent : (c n : ℕ) (rs : List Range) → rises_from n rs ≡ true → (k : �
 adjacent c n [] up k d lt = absurd (omega arith)
 adjacent c n (r ∷ []) up k d lt = absurd (omega arith)
 adjacent c n (r ∷ s ∷ rs) up zero d lt =
-    let after = (and_both (nat_le r.0 r.1) (rises_from (r.1 + 1) (s ∷ rs)) (and_both (nat_le n r.0) _ up).1).1 in
-    let here = and_both (nat_le (r.1 + 1) s.0) _ after in
-    side_rises c r s (let e = leb-true (r.1 + 1) s.0 here.0 in omega arith) (leb-true s.0 s.1 (and_both (nat_le s.0 s.1) _ here.1).0)
+    let after = (and_parts (nat_le r.0 r.1) (rises_from (r.1 + 1) (s ∷ rs)) (and_parts (nat_le n r.0) _ up).1).1 in
+    let here = and_parts (nat_le (r.1 + 1) s.0) _ after in
+    side_rises c r s (let e = leb-true (r.1 + 1) s.0 here.0 in omega arith) (leb-true s.0 s.1 (and_parts (nat_le s.0 s.1) _ here.1).0)
 adjacent c n (r ∷ s ∷ rs) up (suc k) d lt =
-    let after = (and_both (nat_le r.0 r.1) (rises_from (r.1 + 1) (s ∷ rs)) (and_both (nat_le n r.0) _ up).1).1 in
+    let after = (and_parts (nat_le r.0 r.1) (rises_from (r.1 + 1) (s ∷ rs)) (and_parts (nat_le n r.0) _ up).1).1 in
     let e : suc k + 1 ≡ suc (k + 1) = omega arith in
     rw e (adjacent c (r.1 + 1) (s ∷ rs) after k d (omega arith))
 
@@ -76,7 +70,7 @@ out_of_all : (c : ℕ) (rs : List Range) → ((k : ℕ) (d : Range) → k < leng
 out_of_all c [] h = refl
 out_of_all c (r ∷ rs) h = rw (within c r ∙ h 0 r (omega arith)) (out_of_all c rs (λ k d lt. h (suc k) d (omega arith)))
 
-pub searched : (c : ℕ) (rs : List Range) (r : Result ℕ ℕ) → rises_from 0 rs ≡ true → IsSearchInRange r (length rs) → IsBinarySearchResult (side c) rs r → is_ok r ≡ in_ranges rs c
+searched : (c : ℕ) (rs : List Range) (r : Result ℕ ℕ) → rises_from 0 rs ≡ true → IsSearchInRange r (length rs) → IsBinarySearchResult (side c) rs r → is_ok r ≡ in_ranges rs c
 unfolding is_equal
 searched c rs (Ok i) up bound found = sym (in_at c rs i bound found)
 searched c rs (Err i) up bound found = sym (out_of_all c rs (λ k d lt. outside k d lt))

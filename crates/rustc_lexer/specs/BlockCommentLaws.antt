@@ -1,6 +1,7 @@
 -- The end of a block comment is found in one pass that counts depth, so it depends on the comment alone.
 use Rattle.std.proofs.Common.{◌≡◌, ℕ, zero, suc, pred, ◌+◌, ◌≤◌, ◌==◌, ◌&&◌, Bool, true, false, true≢false, if◌then◌else◌, List, [], ◌∷◌, length, take, drop, refl, sym, ap, ◌∙◌, arith, subst, length-drop, drop-drop, take-take, Option, Some, None, codes}
-use Rattle.std.proofs.lemmas.Bool.{eqb-true}
+use Rattle.std.proofs.Math.Bool.{and-true}
+use Rattle.std.proofs.lemmas.Bool.{and_parts, eqb-true}
 use Rattle.rustc_lexer.specs.declared.token.DocStyle.{DocStyle}
 use Rattle.rustc_lexer.specs.declared.token.TokenKind.{TokenKind}
 use Rattle.rustc_lexer.specs.declared.token.TokenKind.TheVariants.{BlockComment}
@@ -38,14 +39,6 @@ followed_by-same : (o : Option ℕ) (f g : ℕ → Option ℕ) → ((n : ℕ) �
 followed_by-same None f g e = refl
 followed_by-same (Some n) f g e = ap (more n) (e n)
 
-and_both : (a b : Bool) → a && b ≡ true → (a ≡ true) × (b ≡ true)
-and_both true b e = (refl, e)
-and_both false b e = absurd (true≢false (sym e))
-
-and-true : (b : Bool) → b && true ≡ b
-and-true true = refl
-and-true false = refl
-
 -- no mark of two characters begins with these
 no_mark : (a b c d : ℕ) (s : List ℕ) → begins (a ∷ b ∷ []) (c ∷ d ∷ s) ≡ false → (c == a) && (d == b) ≡ false
 no_mark a b c d s e = ap (λ x. (c == a) && x) (sym (and-true (d == b))) ∙ e
@@ -61,10 +54,10 @@ pub record Mark (a b c : ℕ) (cs : List ℕ) : Type 0 where
   pub whole : c ∷ cs ≡ a ∷ b ∷ rest
 
 pub mark : (a b c : ℕ) (cs : List ℕ) → begins (a ∷ b ∷ []) (c ∷ cs) ≡ true → Mark a b c cs
-mark a b c [] e = absurd (true≢false (sym (and_both (c == a) false e).1))
+mark a b c [] e = absurd (true≢false (sym (and_parts (c == a) false e).1))
 mark a b c (d ∷ s) e =
-    let t = and_both (c == a) (d == b && true) e in
-    record { rest = s; whole = ap (λ x. x ∷ d ∷ s) (eqb-true c a t.0) ∙ ap (λ x. a ∷ x ∷ s) (eqb-true d b (and_both (d == b) true t.1).0) }
+    let t = and_parts (c == a) (d == b && true) e in
+    record { rest = s; whole = ap (λ x. x ∷ d ∷ s) (eqb-true c a t.0) ∙ ap (λ x. a ∷ x ∷ s) (eqb-true d b (and_parts (d == b) true t.1).0) }
 
 -- to leave one level is to find the end of a comment, and then to leave the other levels
 abbrev Leaves_from : ℕ → ℕ → List ℕ → Type 0

@@ -1,5 +1,5 @@
 -- The class of emoji, as a table of ranges.
-use Rattle.std.specs.Prelude.{ℕ, ◌+◌, Bool, true, false, ◌&&◌, ◌||◌, nat_le, nat_lt, if◌then◌else◌, List, [], ◌∷◌}
+use Rattle.std.specs.Prelude.{ℕ, Bool, false, ◌&&◌, ◌||◌, nat_le, nat_lt, if◌then◌else◌, List, [], ◌∷◌}
 use Rattle.std.specs.declared.cmp.Ordering.{Ordering}
 use Rattle.std.specs.declared.cmp.Ordering.TheVariants.{Less, Equal, Greater}
 
@@ -14,16 +14,11 @@ abbrev pub in_ranges : List Range → ℕ → Bool
 in_ranges [] c = false
 in_ranges (r ∷ rs) c = is_within r c || in_ranges rs c
 
--- each range has a member, and begins past the end of the one before, the first at n or later
-abbrev pub rises_from : ℕ → List Range → Bool
-rises_from n [] = true
-rises_from n (r ∷ rs) = nat_le n r.0 && (nat_le r.0 r.1 && rises_from (r.1 + 1) rs)
-
 -- where a range lies, seen from the character: before it, after it, or round it
 abbrev pub side : ℕ → Range → Ordering
 side c r = if nat_lt r.1 c then Less else (if nat_lt c r.0 then Greater else Equal)
 
--- the ranges of the class, in rising order
+-- the ranges of the class, in rising order, of which no two meet
 unfoldable pub emoji_ranges : List Range
 emoji_ranges =
     (0xA9, 0xA9) ∷ (0xAE, 0xAE) ∷ (0x203C, 0x203C) ∷ (0x2049, 0x2049) ∷ (0x2122, 0x2122) ∷ (0x2139, 0x2139) ∷

@@ -5,7 +5,7 @@ ghost use Rattle.rustc_lexer.specs.Classes;
 
 use crate::scan::{eat_while, split_first};
 
-mod emoji;
+pub(crate) mod emoji;
 
 /// The version of Unicode that this crate names as its own. No answer rests on it.
 pub const UNICODE_VERSION: (u8, u8, u8) = (18, 0, 0);
