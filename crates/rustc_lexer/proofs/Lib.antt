@@ -1,4 +1,7 @@
+pub mod BlockCommentLoop
 pub mod CharSteps
+pub mod ClassLemmas
+pub mod EmojiLemmas
 pub mod LexemeLemmas
 pub mod PastLemmas
 pub mod RunLemmas
@@ -6,3 +9,4 @@ pub mod ScanLemmas
 pub mod StateLemmas
 pub mod SuffixLemmas
 pub mod TokensLemmas
+pub mod UntilLoop

@@ -1,5 +1,6 @@
 -- Classes of characters, as sets.
-use Rattle.std.specs.Prelude.{ℕ, Bool, false, ◌||◌, ◌==◌, ◌<◌, ◌^◌, List, [], ◌∷◌, length}
+use Rattle.std.specs.Prelude.{ℕ, Bool, false, ◌||◌, ◌&&◌, ◌==◌, ◌<◌, ◌^◌, List, [], ◌∷◌, length}
+use Rattle.std.specs.List.{list_all}
 use Rattle.unicode_ident.specs.Ident.{is_xid_start, is_xid_continue}
 
 -- whether the character is in the list
@@ -23,6 +24,11 @@ is_id_start c = c == 0x5F || is_xid_start c
 -- what Unicode lets an identifier go on with
 abbrev pub is_id_continue : ℕ → Bool
 is_id_continue c = is_xid_continue c
+
+-- an identifier: a character that may begin one, and then only such as it may go on with
+abbrev pub is_ident : List ℕ → Bool
+is_ident [] = false
+is_ident (c ∷ cs) = is_id_start c && list_all is_id_continue cs
 
 -- a text whose lengths are numbers of 32 bits
 abbrev pub Fits : List ℕ → Type 0

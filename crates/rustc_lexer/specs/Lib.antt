@@ -1,5 +1,9 @@
+pub mod BlockComment
+pub mod BlockCommentLaws
+pub mod BlockGrammar
 pub mod Classes
 pub mod Comment
+pub mod Emoji
 pub mod Lexeme
 pub mod Literal
 pub mod LiteralLaws
@@ -10,3 +14,4 @@ pub mod State
 pub mod Texts
 pub mod TokenBy
 pub mod Tokens
+pub mod Until

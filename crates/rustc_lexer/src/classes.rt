@@ -1,6 +1,11 @@
 //! Classes of characters.
 ghost use Rattle.std.specs.Prelude.{◌≡◌, ◌↔◌, IsTrue};
+ghost use Rattle.std.specs.Str.{chars};
 ghost use Rattle.rustc_lexer.specs.Classes;
+
+use crate::scan::{eat_while, split_first};
+
+pub(crate) mod emoji;
 
 /// The version of Unicode that this crate names as its own. No answer rests on it.
 pub const UNICODE_VERSION: (u8, u8, u8) = (18, 0, 0);
@@ -51,6 +56,19 @@ pub fn is_id_continue(c: char) -> bool
     ensures { result ≡ Classes.is_id_continue c }
 {
     unicode_ident::is_xid_continue(c)
+}
+
+/// Whether the text is an identifier: not empty, with a character at its front that an identifier may begin with,
+/// and no others than those that it may go on with.
+///
+/// Rust Reference, [Identifiers](https://doc.rust-lang.org/reference/identifiers.html).
+pub fn is_ident(string: &str) -> bool
+    ensures { result ≡ Classes.is_ident (chars string.now) }
+{
+    match split_first(string) {
+        Some((first, tail)) => is_id_start(first) && eat_while(tail, is_id_continue).is_empty(),
+        None => false,
+    }
 }
 
 /// Whether the text has at most `u32::MAX` bytes, so that each length in it is a `u32`.

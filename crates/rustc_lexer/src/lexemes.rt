@@ -13,6 +13,7 @@ use crate::lexemes::comment::slash;
 use crate::scan::{eat_while, split_first};
 use crate::token::{Token, TokenKind};
 
+mod block_comment;
 mod comment;
 mod literal;
 

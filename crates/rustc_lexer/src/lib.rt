@@ -12,7 +12,8 @@ mod scan;
 pub mod token;
 
 pub use classes::{
-    UNICODE_VERSION, fits, is_horizontal_whitespace, is_id_continue, is_id_start, is_whitespace,
+    UNICODE_VERSION, fits, is_horizontal_whitespace, is_id_continue, is_id_start, is_ident,
+    is_whitespace,
 };
 pub use cursor::Cursor;
 pub use entry::{Tokens, tokenize};

@@ -1,0 +1,95 @@
+-- A search of ranges that rise tells whether a character is in one of them.
+use Rattle.std.proofs.Common.{◌≡◌, ℕ, zero, suc, ◌+◌, ◌<◌, ◌≤◌, Bool, true, false, ◌&&◌, not, nat_le, nat_lt, List, [], ◌∷◌, length, refl, sym, ap, ◌∙◌, arith, Result, Ok, Err, is_ok, slice_index_or}
+use Rattle.std.proofs.Math.Bool.{and-false, or-true}
+use Rattle.std.proofs.lemmas.Bool.{and_parts, le-leb, lt-leb, leb-true, lt-ltb, le-ltb, ltb-true, ltb-false}
+use Rattle.std.proofs.lemmas.List.Sorted.{IsNonDecreasingBy-from_all_adjacent}
+use Rattle.std.specs.List.Sorted.{IsBinarySearchResult, IsPartitionPoint, IsSearchInRange}
+use Rattle.std.specs.Ordering.{ordering_index}
+use Rattle.std.specs.declared.cmp.Ordering.{Ordering}
+use Rattle.std.specs.declared.cmp.Ordering.TheVariants.{Less, Equal, Greater}
+use Rattle.rustc_lexer.specs.Emoji.{Range, is_within, in_ranges, side, emoji_ranges, is_emoji}
+
+-- each range has a member, and begins past the end of the one before, the first at n or later
+abbrev rises_from : ℕ → List Range → Bool
+rises_from n [] = true
+rises_from n (r ∷ rs) = nat_le n r.0 && (nat_le r.0 r.1 && rises_from (r.1 + 1) rs)
+
+is_equal : Ordering → Bool
+is_equal Less = false
+is_equal Equal = true
+is_equal Greater = false
+
+abbrev index : ℕ → Range → ℕ
+index c r = ordering_index (side c r)
+
+-- the character is in the range that lies on neither side of it
+within : (c : ℕ) (r : Range) → is_within r c ≡ is_equal (side c r)
+unfolding is_equal
+within c r = by_test (nat_lt r.1 c) (nat_lt c r.0) refl refl
+  where
+    by_test : (past short : Bool) → nat_lt r.1 c ≡ past → nat_lt c r.0 ≡ short → is_within r c ≡ is_equal (side c r)
+    by_test true short e f = rw (e, lt-leb c r.1 (ltb-true r.1 c e)) (and-false (nat_le r.0 c))
+    by_test false true e f = rw (e, f, lt-leb r.0 c (ltb-true c r.0 f)) refl
+    by_test false false e f = rw (e, f, le-leb r.0 c (ltb-false c r.0 f), le-leb c r.1 (ltb-false r.1 c e)) refl
+
+-- of two ranges that rise, the later lies no less far on
+side_rises : (c : ℕ) (r s : Range) → r.1 < s.0 → s.0 ≤ s.1 → index c r ≤ index c s
+side_rises c r s apart some = by_test (nat_lt r.1 c) refl
+  where
+    at_most : (o : Ordering) → ordering_index o ≤ 2
+    at_most Less = omega arith
+    at_most Equal = omega arith
+    at_most Greater = omega arith
+
+    by_test : (past : Bool) → nat_lt r.1 c ≡ past → index c r ≤ index c s
+    by_test true e = rw e (omega arith)
+    by_test false e =
+        let le : c ≤ r.1 = ltb-false r.1 c e in
+        let greater : side c s ≡ Greater = rw (le-ltb s.1 c (omega arith), lt-ltb c s.0 (omega arith)) refl in
+        rw greater (at_most (side c r))
+
+adjacent : (c n : ℕ) (rs : List Range) → rises_from n rs ≡ true → (k : ℕ) (d : Range) → k + 1 < length rs → index c (slice_index_or rs k d) ≤ index c (slice_index_or rs (k + 1) d)
+adjacent c n [] up k d lt = absurd (omega arith)
+adjacent c n (r ∷ []) up k d lt = absurd (omega arith)
+adjacent c n (r ∷ s ∷ rs) up zero d lt =
+    let after = (and_parts (nat_le r.0 r.1) (rises_from (r.1 + 1) (s ∷ rs)) (and_parts (nat_le n r.0) _ up).1).1 in
+    let here = and_parts (nat_le (r.1 + 1) s.0) _ after in
+    side_rises c r s (let e = leb-true (r.1 + 1) s.0 here.0 in omega arith) (leb-true s.0 s.1 (and_parts (nat_le s.0 s.1) _ here.1).0)
+adjacent c n (r ∷ s ∷ rs) up (suc k) d lt =
+    let after = (and_parts (nat_le r.0 r.1) (rises_from (r.1 + 1) (s ∷ rs)) (and_parts (nat_le n r.0) _ up).1).1 in
+    let e : suc k + 1 ≡ suc (k + 1) = omega arith in
+    rw e (adjacent c (r.1 + 1) (s ∷ rs) after k d (omega arith))
+
+in_at : (c : ℕ) (rs : List Range) (i : ℕ) → i < length rs → ((d : Range) → side c (slice_index_or rs i d) ≡ Equal) → in_ranges rs c ≡ true
+unfolding is_equal
+in_at c [] i lt h = absurd (omega arith)
+in_at c (r ∷ rs) zero lt h = rw (within c r ∙ ap is_equal (h r)) refl
+in_at c (r ∷ rs) (suc i) lt h = rw (in_at c rs i (omega arith) h) (or-true (is_within r c))
+
+out_of_all : (c : ℕ) (rs : List Range) → ((k : ℕ) (d : Range) → k < length rs → is_equal (side c (slice_index_or rs k d)) ≡ false) → in_ranges rs c ≡ false
+out_of_all c [] h = refl
+out_of_all c (r ∷ rs) h = rw (within c r ∙ h 0 r (omega arith)) (out_of_all c rs (λ k d lt. h (suc k) d (omega arith)))
+
+searched : (c : ℕ) (rs : List Range) (r : Result ℕ ℕ) → rises_from 0 rs ≡ true → IsSearchInRange r (length rs) → IsBinarySearchResult (side c) rs r → is_ok r ≡ in_ranges rs c
+unfolding is_equal
+searched c rs (Ok i) up bound found = sym (in_at c rs i bound found)
+searched c rs (Err i) up bound found = sym (out_of_all c rs (λ k d lt. outside k d lt))
+  where
+    parts : IsPartitionPoint (λ y. side c y ≡ Less) (λ y. side c y ≡ Greater) rs i
+    parts = found (IsNonDecreasingBy-from_all_adjacent (index c) rs (λ k d lt. adjacent c 0 rs up k d lt))
+
+    outside : (k : ℕ) (d : Range) → k < length rs → is_equal (side c (slice_index_or rs k d)) ≡ false
+    outside k d lt = by_place (nat_lt k i) refl
+      where
+        by_place : (b : Bool) → nat_lt k i ≡ b → is_equal (side c (slice_index_or rs k d)) ≡ false
+        by_place true e = ap is_equal (parts.0 k d (omega arith) (ltb-true k i e))
+        by_place false e = ap is_equal (parts.1 k d (ltb-false k i e) lt)
+
+-- past ASCII, what the search answers
+pub past_ascii : (c : ℕ) (ascii : Bool) (r : Result ℕ ℕ) → ascii ≡ nat_lt c 128 → ascii ≡ false → IsSearchInRange r (length emoji_ranges) → IsBinarySearchResult (side c) emoji_ranges r → is_ok r ≡ is_emoji c
+unfolding is_emoji emoji_ranges
+past_ascii c ascii r e f bound found = rw (le-leb 128 c (ltb-false c 128 (sym e ∙ f))) (searched c emoji_ranges r refl bound found)
+
+pub in_ascii : (c : ℕ) (ascii : Bool) → ascii ≡ nat_lt c 128 → ascii ≡ true → not ascii ≡ is_emoji c
+unfolding is_emoji
+in_ascii c ascii e f = rw (f, lt-leb 128 c (ltb-true c 128 (sym e ∙ f))) refl

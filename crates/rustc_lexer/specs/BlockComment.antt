@@ -1,0 +1,51 @@
+-- Block comments, from what follows the opening mark.
+use Rattle.std.specs.Prelude.{ℕ, zero, suc, ◌&&◌, not, Bool, true, false, if◌then◌else◌, List, [], ◌∷◌, length, drop, codes, Option, Some, None}
+use Rattle.rustc_lexer.specs.declared.token.DocStyle.{DocStyle}
+use Rattle.rustc_lexer.specs.declared.token.DocStyle.TheVariants.{Outer, Inner}
+use Rattle.rustc_lexer.specs.declared.token.TokenKind.{TokenKind}
+use Rattle.rustc_lexer.specs.declared.token.TokenKind.TheVariants.{BlockComment}
+use Rattle.rustc_lexer.specs.Scan.{begins}
+use Rattle.rustc_lexer.specs.Until.{more}
+
+-- whether a mark stands here that closes a comment, or one that opens another
+abbrev pub closing : List ℕ → Bool
+closing s = begins (codes "*/") s
+
+abbrev pub opening : List ℕ → Bool
+opening s = begins (codes "/*") s
+
+-- first a length, then the one that stands after it
+abbrev pub followed_by : Option ℕ → (ℕ → Option ℕ) → Option ℕ
+followed_by None next = None
+followed_by (Some n) next = more n (next n)
+
+-- how many characters up to the end of the comment: at a closing mark 2; at an opening mark 2, the comment that it
+-- opens, and what closes after that; elsewhere one character, and what closes after it. The first number is no less
+-- than the text is long.
+abbrev pub closes : ℕ → List ℕ → Option ℕ
+closes zero s = None
+closes (suc fuel) [] = None
+closes (suc fuel) (c ∷ cs) =
+    if closing (c ∷ cs) then Some 2
+    else (if opening (c ∷ cs) then more 2 (followed_by (closes fuel (drop 1 cs)) (λ n. closes fuel (drop n (drop 1 cs))))
+    else more 1 (closes fuel cs))
+
+-- where the comment ends, if something closes it
+abbrev pub comment_end : List ℕ → Option ℕ
+comment_end s = closes (length s) s
+
+-- `!` makes the doc of what the comment stands in, and one more `*` that neither `*` nor `/` follows the doc of what
+-- comes next
+abbrev pub block_doc_style : List ℕ → Option DocStyle
+block_doc_style s =
+    if begins (codes "!") s then Some Inner
+    else (if begins (codes "*") s && (not (begins (codes "**") s) && not (begins (codes "*/") s)) then Some Outer else None)
+
+-- a comment that nothing closes takes the rest of the text
+abbrev pub block_comment_to : Option ℕ → List ℕ → TokenKind × ℕ
+block_comment_to None s = (BlockComment (block_doc_style s) false, length s)
+block_comment_to (Some n) s = (BlockComment (block_doc_style s) true, n)
+
+-- what follows `/*`
+abbrev pub block_comment : List ℕ → TokenKind × ℕ
+block_comment s = block_comment_to (comment_end s) s
