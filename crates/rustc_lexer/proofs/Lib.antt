@@ -2,6 +2,7 @@ pub mod BlockCommentLoop
 pub mod CharSteps
 pub mod ClassLemmas
 pub mod EmojiLemmas
+pub mod IdentLemmas
 pub mod LexemeLemmas
 pub mod PastLemmas
 pub mod RunLemmas

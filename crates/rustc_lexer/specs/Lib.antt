@@ -4,6 +4,8 @@ pub mod BlockGrammar
 pub mod Classes
 pub mod Comment
 pub mod Emoji
+pub mod Ident
+pub mod IdentLaws
 pub mod Lexeme
 pub mod Literal
 pub mod LiteralLaws

@@ -15,6 +15,7 @@ use crate::token::{Token, TokenKind};
 
 mod block_comment;
 mod comment;
+mod ident;
 mod literal;
 
 /// The token at the front of a text. At the end of the text it is `Eof`, of length 0.

@@ -1,6 +1,7 @@
 //! Peeks at what is left of a text, and runs of a class at its front.
 ghost use Rattle.std.specs.Prelude.{◌≡◌, ◌<◌, ◌≤◌, ℕ, ◌∷◌, [], length, Bool, true, false, MatchOption, slice_index};
 ghost use Rattle.std.specs.Str.{chars};
+ghost use Rattle.rustc_lexer.specs.Scan;
 ghost use Rattle.rustc_lexer.specs.Scan.{begins, past, run_len};
 
 /// The first character, or U+0000 where the text ends.
@@ -37,6 +38,18 @@ pub(crate) fn split_first(rest: &str) -> Option<(char, &str)>
     let mut chars = rest.chars();
     let first = chars.next()?;
     Some((first, chars.as_str()))
+}
+
+/// Whether a character stands next that passes the test. None does at the end of the text.
+pub(crate) fn next_is<F: Fn(char) -> bool>(rest: &str, test: F) -> bool
+    requires callable { F.IsAlwaysCallable test }
+    ensures { (class : ℕ → Bool) → ((c : ℕ) (b : Bool) → F.post test c b → b ≡ class c)
+        → result ≡ Scan.next_is class (chars rest.now) }
+{
+    match split_first(rest) {
+        Some((c, _)) => test(c),
+        None => false,
+    }
 }
 
 /// What follows the character `c`, if the text begins with it.

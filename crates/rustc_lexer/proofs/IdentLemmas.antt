@@ -1,0 +1,101 @@
+-- The two runs of an identifier: what it may go on with, and past an emoji all else.
+use Rattle.std.proofs.Common.{◌≡◌, ℕ, suc, ◌+◌, ◌&&◌, not, Bool, true, false, true≢false, if◌then◌else◌, List, [], ◌∷◌, take, drop, refl, sym, ap, ◌∙◌, arith, zero-add, codes}
+use Rattle.std.specs.List.{list_all}
+use Rattle.std.specs.Str.{chars, IsUtf8}
+use Rattle.rustc_lexer.specs.declared.token.TokenKind.{TokenKind}
+use Rattle.rustc_lexer.specs.declared.token.TokenKind.TheVariants.{Ident, InvalidIdent, UnknownPrefix}
+use Rattle.rustc_lexer.specs.Classes.{is_id_start, is_id_continue}
+use Rattle.rustc_lexer.specs.Emoji.{is_emoji}
+use Rattle.rustc_lexer.specs.Ident.{is_word, is_prefix_mark, ident_kind, ident, invalid_ident, marks_ident}
+use Rattle.rustc_lexer.specs.Scan.{begins, next_is, past, run_len, scanned}
+use Rattle.rustc_lexer.proofs.PastLemmas.{chars-past, past-past}
+
+abbrev len : List ℕ → ℕ
+len cs = run_len is_id_continue cs
+
+abbrev has_emoji : List ℕ → Bool
+has_emoji cs = next_is is_emoji (drop (len cs) cs)
+
+word_runs : (cs : List ℕ) → run_len is_word cs ≡ len cs + run_len is_word (drop (len cs) cs)
+word_runs [] = refl
+word_runs (c ∷ cs) = by_test (word_runs cs) (is_id_continue c) refl
+  where
+    by_test : run_len is_word cs ≡ len cs + run_len is_word (drop (len cs) cs) → (b : Bool) → is_id_continue c ≡ b → run_len is_word (c ∷ cs) ≡ len (c ∷ cs) + run_len is_word (drop (len (c ∷ cs)) (c ∷ cs))
+    by_test ih true e =
+        let taken : len (c ∷ cs) ≡ suc (len cs) = rw e refl in
+        let one : run_len is_word (c ∷ cs) ≡ suc (run_len is_word cs) = rw e refl in
+        one ∙ (omega arith ∙ ap (λ n. n + run_len is_word (drop n (c ∷ cs))) (sym taken))
+    by_test ih false e =
+        let none : len (c ∷ cs) ≡ 0 = rw e refl in
+        sym (zero-add (run_len is_word (c ∷ cs))) ∙ ap (λ n. n + run_len is_word (drop n (c ∷ cs))) (sym none)
+
+word_all : (cs : List ℕ) → list_all is_id_continue (take (run_len is_word cs) cs) ≡ not (has_emoji cs)
+word_all [] = refl
+word_all (c ∷ cs) = by_test (word_all cs) (is_id_continue c) (is_emoji c) refl refl
+  where
+    by_test : list_all is_id_continue (take (run_len is_word cs) cs) ≡ not (has_emoji cs) → (b d : Bool) → is_id_continue c ≡ b → is_emoji c ≡ d
+        → list_all is_id_continue (take (run_len is_word (c ∷ cs)) (c ∷ cs)) ≡ not (has_emoji (c ∷ cs))
+    by_test ih true d e f =
+        let taken : run_len is_word (c ∷ cs) ≡ suc (run_len is_word cs) = rw e refl in
+        let more : len (c ∷ cs) ≡ suc (len cs) = rw e refl in
+        ap (λ n. list_all is_id_continue (take n (c ∷ cs))) taken ∙ (ap (λ b. b && list_all is_id_continue (take (run_len is_word cs) cs)) e ∙ (ih ∙ ap (λ n. not (next_is is_emoji (drop n (c ∷ cs)))) (sym more)))
+    by_test ih false true e f =
+        let taken : run_len is_word (c ∷ cs) ≡ suc (run_len is_word cs) = rw (e, f) refl in
+        let none : len (c ∷ cs) ≡ 0 = rw e refl in
+        ap (λ n. list_all is_id_continue (take n (c ∷ cs))) taken ∙ (ap (λ b. b && list_all is_id_continue (take (run_len is_word cs) cs)) e ∙ (ap not (sym f) ∙ ap (λ n. not (next_is is_emoji (drop n (c ∷ cs)))) (sym none)))
+    by_test ih false false e f =
+        let taken : run_len is_word (c ∷ cs) ≡ 0 = rw (e, f) refl in
+        let none : len (c ∷ cs) ≡ 0 = rw e refl in
+        ap (λ n. list_all is_id_continue (take n (c ∷ cs))) taken ∙ (ap not (sym f) ∙ ap (λ n. not (next_is is_emoji (drop n (c ∷ cs)))) (sym none))
+
+word_none : (cs : List ℕ) → has_emoji cs ≡ false → run_len is_word cs ≡ len cs
+word_none [] h = refl
+word_none (c ∷ cs) h = by_test (word_none cs) (is_id_continue c) (is_emoji c) refl refl h
+  where
+    by_test : (has_emoji cs ≡ false → run_len is_word cs ≡ len cs) → (b d : Bool) → is_id_continue c ≡ b → is_emoji c ≡ d → has_emoji (c ∷ cs) ≡ false → run_len is_word (c ∷ cs) ≡ len (c ∷ cs)
+    by_test ih true d e f h = rw e (ap suc (ih (rw e at h)))
+    by_test ih false true e f h = absurd (true≢false (sym f ∙ (rw e at h)))
+    by_test ih false false e f h = rw (e, f) refl
+
+module _ (tail rest : List ℕ) (is : IsUtf8 tail) (e : rest ≡ past (len (chars tail)) tail) where
+  rest_is : chars rest ≡ drop (len (chars tail)) (chars tail)
+  rest_is = ap chars e ∙ chars-past (len (chars tail)) tail is
+
+  pub ident-invalid : next_is is_emoji (chars rest) ≡ true → scanned invalid_ident rest ≡ scanned ident tail
+  ident-invalid h =
+      let cs : List ℕ = chars tail in
+      let at : has_emoji cs ≡ true = sym (ap (next_is is_emoji) rest_is) ∙ h in
+      let kind : ident_kind (take (run_len is_word cs) cs) (drop (run_len is_word cs) cs) ≡ InvalidIdent =
+      ap (λ (b : Bool). if b then (if next_is is_prefix_mark (drop (run_len is_word cs) cs) then UnknownPrefix else Ident) else InvalidIdent) (word_all cs ∙ ap not at) in
+      let more : past (run_len is_word (chars rest)) rest ≡ past (run_len is_word cs) tail =
+      ap (λ ds. past (run_len is_word ds) rest) rest_is ∙ (ap (past (run_len is_word (drop (len cs) cs))) e ∙ (past-past (run_len is_word (drop (len cs) cs)) (len cs) tail is ∙ ap (λ n. past n tail) (sym (word_runs cs)))) in
+      ap (λ xs. (InvalidIdent, xs)) more ∙ ap (λ (k : TokenKind). (k, past (run_len is_word cs) tail)) (sym kind)
+
+  pub ident-valid : next_is is_emoji (chars rest) ≡ false → ((if next_is is_prefix_mark (chars rest) then UnknownPrefix else Ident), rest) ≡ scanned ident tail
+  ident-valid h =
+      let cs : List ℕ = chars tail in
+      let at : has_emoji cs ≡ false = sym (ap (next_is is_emoji) rest_is) ∙ h in
+      let same : run_len is_word cs ≡ len cs = word_none cs at in
+      let next : next_is is_prefix_mark (chars rest) ≡ next_is is_prefix_mark (drop (run_len is_word cs) cs) = ap (next_is is_prefix_mark) (rest_is ∙ ap (λ n. drop n cs) (sym same)) in
+      let kind : (if next_is is_prefix_mark (chars rest) then UnknownPrefix else Ident) ≡ ident_kind (take (run_len is_word cs) cs) (drop (run_len is_word cs) cs) =
+      ap (λ (b : Bool). if b then UnknownPrefix else Ident) next
+      ∙ ap (λ (b : Bool). if b then (if next_is is_prefix_mark (drop (run_len is_word cs) cs) then UnknownPrefix else Ident) else InvalidIdent) (sym (word_all cs ∙ ap not at)) in
+      ap (λ (k : TokenKind). (k, rest)) kind ∙ ap (λ xs. (ident_kind (take (run_len is_word cs) cs) (drop (run_len is_word cs) cs), xs)) (e ∙ ap (λ n. past n tail) (sym same))
+
+-- a hash and what follows it
+module _ (tail word : List ℕ) (is : IsUtf8 tail) (e : word ≡ past 1 tail) (hash : begins (codes "#") (chars tail) ≡ true) where
+  marks-is : marks_ident (chars tail) ≡ next_is is_id_start (chars word)
+  marks-is = ap (λ (b : Bool). b && next_is is_id_start (drop 1 (chars tail))) hash ∙ ap (next_is is_id_start) (sym (ap chars e ∙ chars-past 1 tail is))
+
+  pub marks-none : chars word ≡ [] → marks_ident (chars tail) ≡ false
+  marks-none none = marks-is ∙ ap (next_is is_id_start) none
+
+  pub marks-by : (c : ℕ) (cs : List ℕ) (b : Bool) → chars word ≡ c ∷ cs → b ≡ is_id_start c → marks_ident (chars tail) ≡ b
+  marks-by c cs b f g = marks-is ∙ (ap (next_is is_id_start) f ∙ sym g)
+
+  pub past-marked : (ident left : List ℕ) → ident ≡ past 1 word → left ≡ past (run_len is_id_continue (chars ident)) ident → left ≡ past (2 + run_len is_id_continue (drop 2 (chars tail))) tail
+  past-marked ident left f g =
+      let two : ident ≡ past 2 tail = f ∙ (ap (past 1) e ∙ past-past 1 1 tail is) in
+      let n : ℕ = run_len is_id_continue (chars ident) in
+      let same : n ≡ run_len is_id_continue (drop 2 (chars tail)) = ap (run_len is_id_continue) (ap chars two ∙ chars-past 2 tail is) in
+      g ∙ (ap (past n) two ∙ (past-past n 2 tail is ∙ ap (λ m. past (2 + m) tail) same))

@@ -1,0 +1,16 @@
+use Rattle.std.proofs.Common.{◌≡◌, sym, subst, ◌∙◌}
+use Rattle.rustc_lexer.specs.Classes.{is_id_continue}
+use Rattle.rustc_lexer.proofs.IdentLemmas.{marks-none, marks-by, past-marked}
+use Rattle.rustc_lexer.proofs.lexemes.ident.eat_marked.Goals as goal
+
+pub returns-in_err-first : goal.returns-in_err-first
+returns-in_err-first c = rw c.from_residual-in_err-first.ensures (marks-none _ _ c.utf8.tail c.in_ok-strip.ensures.1 c.in_ok-strip.ensures.0 c.in_err-first.ensures)
+
+pub returns-then-not-is_id_start : goal.returns-then-not-is_id_start
+returns-then-not-is_id_start c = marks-by _ _ c.utf8.tail c.in_ok-strip.ensures.1 c.in_ok-strip.ensures.0 _ _ _ c.in_ok-first.ensures.0 c.if-not-is_id_start.ensures
+
+pub returns : goal.returns
+returns c = (
+  marks-by _ _ c.utf8.tail c.in_ok-strip.ensures.1 c.in_ok-strip.ensures.0 _ _ _ c.in_ok-first.ensures.0 c.if-not-is_id_start.ensures,
+  past-marked _ _ c.utf8.tail c.in_ok-strip.ensures.1 c.in_ok-strip.ensures.0 _ _ c.in_ok-first.ensures.1 (c.eat_while.ensures.past is_id_continue (λ d b e. e)),
+)

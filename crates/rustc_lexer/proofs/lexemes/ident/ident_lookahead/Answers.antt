@@ -1,0 +1,5 @@
+use Rattle.rustc_lexer.specs.IdentLaws.{ident_local, invalid_ident_local}
+use Rattle.rustc_lexer.proofs.lexemes.ident.ident_lookahead.Goals as goal
+
+pub returns : goal.returns
+returns c = record { ident = ident_local; invalid = invalid_ident_local }

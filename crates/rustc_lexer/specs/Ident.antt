@@ -1,0 +1,37 @@
+-- Identifiers, with what may stand before and after them.
+use Rattle.std.specs.Prelude.{ℕ, ◌+◌, ◌||◌, ◌&&◌, Bool, if◌then◌else◌, List, [], ◌∷◌, take, drop, codes}
+use Rattle.std.specs.List.{list_all}
+use Rattle.std.specs.Str.{byte}
+use Rattle.rustc_lexer.specs.declared.token.TokenKind.{TokenKind}
+use Rattle.rustc_lexer.specs.declared.token.TokenKind.TheVariants.{Ident, InvalidIdent, UnknownPrefix}
+use Rattle.rustc_lexer.specs.Classes.{is_among, is_id_start, is_id_continue}
+use Rattle.rustc_lexer.specs.Emoji.{is_emoji}
+use Rattle.rustc_lexer.specs.Scan.{after, begins, next_is, run, run_len}
+
+-- what an identifier goes on with, right or wrong
+abbrev pub is_word : ℕ → Bool
+is_word c = is_id_continue c || is_emoji c
+
+-- before one of these an identifier is a prefix
+abbrev pub is_prefix_mark : ℕ → Bool
+is_prefix_mark c = is_among (codes "#\"'") c
+
+-- of the rest of a word, and what follows it: an emoji makes it invalid
+abbrev pub ident_kind : List ℕ → List ℕ → TokenKind
+ident_kind word rest = if list_all is_id_continue word then (if next_is is_prefix_mark rest then UnknownPrefix else Ident) else InvalidIdent
+
+-- what follows the first character of an identifier
+abbrev pub ident : List ℕ → TokenKind × ℕ
+ident s = (ident_kind (take (run_len is_word s) s) (drop (run_len is_word s) s), run_len is_word s)
+
+-- what follows an emoji that no identifier may begin with
+abbrev pub invalid_ident : List ℕ → TokenKind × ℕ
+invalid_ident s = run InvalidIdent is_word s
+
+-- a hash and an identifier
+abbrev pub marks_ident : List ℕ → Bool
+marks_ident s = begins (codes "#") s && next_is is_id_start (drop 1 s)
+
+-- what follows a letter that may mark an identifier: the marked one, or else what the letter begins
+abbrev pub marked : TokenKind → (List ℕ → TokenKind × ℕ) → List ℕ → TokenKind × ℕ
+marked kind other s = if marks_ident s then after 2 (run kind is_id_continue) s else other s

@@ -1,0 +1,67 @@
+//! Identifiers, with what may stand before and after them.
+ghost use Rattle.std.specs.Prelude.{◌≡◌, ◌+◌, ◌≤◌, true, false, MatchOption, drop, length};
+ghost use Rattle.std.specs.Str.{chars};
+ghost use Rattle.rustc_lexer.specs.declared.token.TokenKind.{TokenKind};
+ghost use Rattle.rustc_lexer.specs.Classes;
+ghost use Rattle.rustc_lexer.specs.Ident as spec;
+ghost use Rattle.rustc_lexer.specs.Scan.{IsLocal, past, run_len, scanned};
+
+use crate::classes::emoji::is_emoji;
+use crate::classes::{is_id_continue, is_id_start};
+use crate::scan::{eat_while, next_is, split_first, strip};
+use crate::token::TokenKind;
+
+/// An identifier, or what is none for an emoji in it or a mark right after it. `tail` is what follows its
+/// first character.
+pub(crate) fn ident(tail: &str) -> (TokenKind, &str)
+    ensures { (result.0, result.1.now) ≡ scanned spec.ident tail.now }
+{
+    let rest = eat_while(tail, is_id_continue);
+    if next_is(rest, is_emoji) {
+        return invalid_ident(rest);
+    }
+    if next_is(rest, is_prefix_mark) {
+        (TokenKind::UnknownPrefix, rest)
+    } else {
+        (TokenKind::Ident, rest)
+    }
+}
+
+/// What would be an identifier but for an emoji. `tail` is what follows that.
+pub(crate) fn invalid_ident(tail: &str) -> (TokenKind, &str)
+    ensures { (result.0, result.1.now) ≡ scanned spec.invalid_ident tail.now }
+{
+    (TokenKind::InvalidIdent, eat_while(tail, is_word))
+}
+
+/// What a hash and an identifier leave, if these stand here.
+pub(crate) fn eat_marked(tail: &str) -> Option<&str>
+    ensures { MatchOption result (spec.marks_ident (chars tail.now) ≡ false)
+        (λ rest. (spec.marks_ident (chars tail.now) ≡ true) × (rest.now ≡ past (2 + run_len Classes.is_id_continue (drop 2 (chars tail.now))) tail.now)) }
+{
+    let (first, word) = split_first(strip(tail, '#')?)?;
+    if !is_id_start(first) {
+        return None;
+    }
+    Some(eat_while(word, is_id_continue))
+}
+
+/// What an identifier goes on with, right or wrong.
+fn is_word(c: char) -> bool
+    ensures { result ≡ spec.is_word c }
+{
+    is_id_continue(c) || is_emoji(c)
+}
+
+/// Whether an identifier right before the character is a prefix.
+fn is_prefix_mark(c: char) -> bool
+    ensures { result ≡ spec.is_prefix_mark c }
+{
+    matches!(c, '#' | '"' | '\'')
+}
+
+/// How far identifiers look past their end.
+pub(crate) fn ident_lookahead()
+    ensures ident { IsLocal TokenKind 1 spec.ident }
+    ensures invalid { IsLocal TokenKind 1 spec.invalid_ident }
+{}
