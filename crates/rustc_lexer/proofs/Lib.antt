@@ -1,5 +1,6 @@
 pub mod CharSteps
 pub mod LexemeLemmas
+pub mod LiteralSuffix
 pub mod NumberLemmas
 pub mod PastLemmas
 pub mod RunLemmas

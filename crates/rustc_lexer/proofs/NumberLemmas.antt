@@ -1,5 +1,5 @@
 -- Numbers, as the code reads them.
-use Rattle.std.proofs.Common.{◌≡◌, ◌≢◌, ℕ, suc, ◌+◌, ◌-◌, ◌≤◌, ◌==◌, ◌&&◌, not, Bool, true, false, if◌then◌else◌, List, [], ◌∷◌, length, take, drop, get_or, refl, sym, ap, ◌∙◌, zero-add, eq-eqb, arith, codes}
+use Rattle.std.proofs.Common.{◌≡◌, ◌≢◌, ℕ, ◌+◌, ◌-◌, ◌≤◌, ◌==◌, ◌&&◌, not, Bool, true, false, if◌then◌else◌, List, [], ◌∷◌, length, take, drop, get_or, refl, sym, ap, ◌∙◌, zero-add, eq-eqb, arith, codes}
 use Rattle.std.specs.List.{list_any}
 use Rattle.std.specs.Str.{chars, IsUtf8}
 use Rattle.std.proofs.lemmas.Bool.{eqb-true, ne_eqb}
@@ -8,10 +8,9 @@ use Rattle.rustc_lexer.specs.declared.token.Base.{Base}
 use Rattle.rustc_lexer.specs.declared.token.Base.TheVariants.{Decimal}
 use Rattle.rustc_lexer.specs.declared.token.LiteralKind.{LiteralKind}
 use Rattle.rustc_lexer.specs.declared.token.LiteralKind.TheVariants.{Int}
-use Rattle.rustc_lexer.specs.declared.token.TokenKind.{TokenKind}
 use Rattle.rustc_lexer.specs.declared.token.TokenKind.TheVariants.{Literal}
-use Rattle.rustc_lexer.specs.Literal.{Body, suffix_len, literal}
-use Rattle.rustc_lexer.specs.Number.{read_as, is_underscore, or_underscore, digits, Front, binary, octal, hexadecimal, decimal, front_past_zero, is_exponent_letter, past_letter, fraction, is_no_fraction, begins_fraction, past_digits, front, tail, number_kind, with_suffix}
+use Rattle.rustc_lexer.specs.Literal.{suffix_len, literal}
+use Rattle.rustc_lexer.specs.Number.{read_as, is_underscore, or_underscore, digits, Front, front_of, binary, octal, hexadecimal, decimal, front_past_zero, is_exponent_letter, past_letter, fraction, is_no_fraction, begins_fraction, past_digits, front, tail, number_kind, with_suffix}
 use Rattle.rustc_lexer.specs.Scan.{after, and_then, begins, bytes_of, gives, next_is, past, run_len, scanned}
 use Rattle.rustc_lexer.proofs.PastLemmas.{IsUtf8-past, chars-past, length-past, past-past}
 use Rattle.rustc_lexer.proofs.ScanLemmas.{next_is-cons, next_is-nil, scanned-after, scanned-gives, scanned-same, scanned-yes, scanned-no}
@@ -83,8 +82,8 @@ module _ (text tail : List ℕ) (c : ℕ) (is : IsUtf8 text) (cs : chars text �
   pick-hexadecimal e f g =
       begins-out binary not_binary text tail c is cs at 98 e ∙ (begins-out octal not_octal text tail c is cs at 111 f ∙ begins-in hexadecimal decimal text tail c is cs at 120 g)
 
-pub front_past_zero-end : (text : List ℕ) → IsUtf8 text → chars text ≡ [] → scanned front_past_zero text ≡ (record { base = Decimal; empty = false }, text)
-front_past_zero-end text is e = scanned-same front_past_zero (gives (record { base = Decimal; empty = false })) text (ap front_past_zero e) ∙ scanned-gives _ text is
+pub front_past_zero-end : (text : List ℕ) → IsUtf8 text → chars text ≡ [] → scanned front_past_zero text ≡ (front_of Decimal false, text)
+front_past_zero-end text is e = scanned-same front_past_zero (gives (front_of Decimal false)) text (ap front_past_zero e) ∙ scanned-gives _ text is
 
 -- U+0000, which the code sees at the end, goes with a fraction
 is_no_fraction-zero : is_no_fraction 0 ≡ false
@@ -132,9 +131,6 @@ module _ (base : Base) (text tail : List ℕ) (c : ℕ) (is : IsUtf8 text) (cs :
 
 pub past_digits-end : (base : Base) (text : List ℕ) → IsUtf8 text → chars text ≡ [] → scanned (past_digits base) text ≡ (Int base false, text)
 past_digits-end base text is e = scanned-same (past_digits base) (gives (Int base false)) text (ap (past_digits base) e) ∙ scanned-gives _ text is
-
-abbrev pub front_of : Base → Bool → Front
-front_of base empty = record { base = base; empty = empty }
 
 -- a number, once its front is known
 module _ (first : ℕ) (text rest : List ℕ) (base : Base) (empty : Bool) (is : IsUtf8 text) (e : (front_of base empty, rest) ≡ scanned (front first) text) where

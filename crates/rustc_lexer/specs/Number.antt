@@ -32,9 +32,12 @@ pub record Front : Type 0 where
   pub base : Base
   pub empty : Bool
 
--- a front with a prefix, of which this tells whether a digit follows
+abbrev pub front_of : Base → Bool → Front
+front_of base empty = record { base = base; empty = empty }
+
+-- a front with a prefix, by whether a digit follows that
 abbrev pub prefixed : Base → Bool → Front
-prefixed base has_digit = record { base = base; empty = not has_digit }
+prefixed base has_digit = front_of base (not has_digit)
 
 -- past the letter of a prefix
 abbrev pub binary : List ℕ → Front × ℕ
@@ -48,7 +51,7 @@ hexadecimal = read_as (prefixed Hexadecimal) (digits is_ascii_hexdigit)
 
 -- with no prefix
 abbrev pub decimal : List ℕ → Front × ℕ
-decimal = run (record { base = Decimal; empty = false }) (or_underscore is_ascii_digit)
+decimal = run (front_of Decimal false) (or_underscore is_ascii_digit)
 
 -- the front of a number whose first digit is `0`, past that
 abbrev pub front_past_zero : List ℕ → Front × ℕ
@@ -62,7 +65,7 @@ front_past_zero s =
 abbrev pub front : ℕ → List ℕ → Front × ℕ
 front first s = if first == byte "0" then front_past_zero s else decimal s
 
--- a float, of which this tells whether a digit stands in its exponent
+-- a float with an exponent, by whether a digit stands in that
 abbrev pub float : Base → Bool → LiteralKind
 float base has_digit = Float base (not has_digit)
 

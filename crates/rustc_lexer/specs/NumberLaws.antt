@@ -1,5 +1,5 @@
 -- A number looks two characters past its end.
-use Rattle.std.proofs.Common.{◌≡◌, ℕ, ◌+◌, ◌≤◌, ◌==◌, Bool, true, false, true≢false, if◌then◌else◌, List, [], ◌∷◌, length, take, drop, refl, sym, ap, ◌∙◌, zero-add, arith, codes}
+use Rattle.std.proofs.Common.{◌≡◌, ℕ, ◌≤◌, ◌==◌, Bool, true, false, true≢false, if◌then◌else◌, List, [], ◌∷◌, length, take, refl, sym, ap, ◌∙◌, zero-add, arith, codes}
 use Rattle.std.specs.Char.{is_ascii_digit, is_ascii_hexdigit}
 use Rattle.std.specs.List.{list_any}
 use Rattle.std.specs.Str.{byte}
@@ -8,11 +8,10 @@ use Rattle.rustc_lexer.specs.declared.token.Base.TheVariants.{Binary, Octal, Hex
 use Rattle.rustc_lexer.specs.declared.token.LiteralKind.{LiteralKind}
 use Rattle.rustc_lexer.specs.declared.token.LiteralKind.TheVariants.{Int, Float}
 use Rattle.rustc_lexer.specs.declared.token.TokenKind.{TokenKind}
-use Rattle.rustc_lexer.specs.Literal.{Body}
 use Rattle.rustc_lexer.specs.LiteralLaws.{literal_local}
-use Rattle.rustc_lexer.specs.Number.{read_as, or_underscore, digits, Front, prefixed, decimal, front_past_zero, front, float, is_exponent_letter, is_sign, past_sign, past_letter, exponent, fraction_digits, fraction, is_no_fraction, begins_fraction, past_digits, tail, number_kind, with_suffix, number_body, number}
+use Rattle.rustc_lexer.specs.Number.{read_as, or_underscore, digits, Front, prefixed, decimal, front_past_zero, front, float, is_exponent_letter, is_sign, past_sign, past_letter, exponent, fraction_digits, fraction, begins_fraction, past_digits, tail, number_kind, with_suffix, number_body, number}
 use Rattle.rustc_lexer.specs.Reach.{and_then_local, begins-take, begins-length, choice_local, gives_local, next_is-take, next_is-length, run_local, run_len_local, run_len_le, same_local, wider}
-use Rattle.rustc_lexer.specs.Scan.{IsLocal, after, and_then, begins, gives, next_is, run, run_len}
+use Rattle.rustc_lexer.specs.Scan.{IsLocal, after, begins, gives, next_is, run, run_len}
 
 pub read_as_local : {A B : Type 0} (k : ℕ) (f : A → B) (scan : List ℕ → A × ℕ) → IsLocal A k scan → IsLocal B k (read_as f scan)
 read_as_local {A} k f scan is = record { inside = is.inside; local = λ s u a. ap (λ (r : A × ℕ). (f r.0, r.1)) (is.local s u a) }
@@ -44,8 +43,8 @@ prefixed_local base is_digit = read_as_local 1 (prefixed base) (digits is_digit)
 front_past_zero_local : IsLocal Front 1 front_past_zero
 front_past_zero_local =
     begins_local 1 (codes "b") _ _ (omega arith) (prefixed_local Binary is_ascii_digit)
-      (begins_local 1 (codes "o") _ _ (omega arith) (prefixed_local Octal is_ascii_digit)
-      (begins_local 1 (codes "x") _ _ (omega arith) (prefixed_local Hexadecimal is_ascii_hexdigit) decimal_local))
+    (begins_local 1 (codes "o") _ _ (omega arith) (prefixed_local Octal is_ascii_digit)
+    (begins_local 1 (codes "x") _ _ (omega arith) (prefixed_local Hexadecimal is_ascii_hexdigit) decimal_local))
 
 pub front_local : (first : ℕ) → IsLocal Front 1 (front first)
 front_local first = by_zero (first == byte "0")

@@ -1,9 +1,9 @@
 //! Numbers.
-ghost use Rattle.std.specs.Prelude.{◌≡◌, ℕ, ◌+◌, ◌<◌, ◌^◌, false, length};
+ghost use Rattle.std.specs.Prelude.{◌≡◌, ℕ, suc, ◌+◌, ◌<◌, ◌≤◌, ◌^◌, false, List, ◌∷◌, length};
 ghost use Rattle.std.specs.Char.{is_ascii_digit, is_ascii_hexdigit};
 ghost use Rattle.rustc_lexer.specs.Number as spec;
-ghost use Rattle.rustc_lexer.specs.Number.{Front};
-ghost use Rattle.rustc_lexer.specs.Scan.{IsLocal, scanned};
+ghost use Rattle.rustc_lexer.specs.Scan.{IsLocal, bytes_of, scanned};
+ghost use Rattle.rustc_lexer.specs.State.{suffix_start_of};
 ghost use Rattle.rustc_lexer.specs.declared.token.TokenKind.{TokenKind};
 
 use crate::classes::is_id_start;
@@ -12,6 +12,8 @@ use crate::scan::{eat_while, first, split_first};
 use crate::token::{Base, LiteralKind, TokenKind};
 
 /// A number with its suffix. `first_digit` is its first character, and `tail` what follows that.
+///
+/// Rust Reference, [Number literals](https://doc.rust-lang.org/reference/tokens.html#number-literals).
 pub(crate) fn number(first_digit: char, tail: &str) -> (TokenKind, &str)
     requires fits { length tail.now + 1 < 2 ^ 32 }
     ensures { (result.0, result.1.now) ≡ scanned (spec.number first_digit) tail.now }
@@ -34,18 +36,22 @@ fn number_kind(first_digit: char, tail: &str) -> (LiteralKind, &str)
 /// The base, whether it has a prefix with no digit after it, and what follows the digits up to a point or an
 /// exponent.
 fn front(first_digit: char, tail: &str) -> (Base, bool, &str)
-    ensures { let read : Front = record { base = result.0; empty = result.1 } in (read, result.2.now) ≡ scanned (spec.front first_digit) tail.now }
+    ensures { (spec.front_of result.0 result.1, result.2.now) ≡ scanned (spec.front first_digit) tail.now }
 {
     if first_digit == '0' {
         front_past_zero(tail)
     } else {
-        (Base::Decimal, false, eat_while(tail, is_digit_or_underscore))
+        (
+            Base::Decimal,
+            false,
+            eat_while(tail, is_digit_or_underscore),
+        )
     }
 }
 
 /// The same, where the first digit is 0.
 fn front_past_zero(tail: &str) -> (Base, bool, &str)
-    ensures { let read : Front = record { base = result.0; empty = result.1 } in (read, result.2.now) ≡ scanned spec.front_past_zero tail.now }
+    ensures { (spec.front_of result.0 result.1, result.2.now) ≡ scanned spec.front_past_zero tail.now }
 {
     let Some((letter, digits)) = split_first(tail) else {
         return (Base::Decimal, false, tail);
@@ -60,7 +66,11 @@ fn front_past_zero(tail: &str) -> (Base, bool, &str)
         let (has_digit, rest) = hexadecimal_digits(digits);
         (Base::Hexadecimal, !has_digit, rest)
     } else {
-        (Base::Decimal, false, eat_while(tail, is_digit_or_underscore))
+        (
+            Base::Decimal,
+            false,
+            eat_while(tail, is_digit_or_underscore),
+        )
     }
 }
 
@@ -206,4 +216,9 @@ fn is_hex_digit_or_underscore(c: char) -> bool
 /// How far a number looks past its end.
 pub(crate) fn number_lookahead()
     ensures { (first : ℕ) → IsLocal TokenKind 2 (spec.number first) }
+{}
+
+/// Where the suffix of a number begins: inside the number, or at its end.
+pub(crate) fn number_suffix()
+    ensures { (first : ℕ) (s : List ℕ) → suffix_start_of (spec.number first s).0 ≤ bytes_of (suc (spec.number first s).1) (first ∷ s) }
 {}

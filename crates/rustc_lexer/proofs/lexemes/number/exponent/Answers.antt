@@ -15,6 +15,6 @@ returns-then-is_exponent_letter c =
 
 pub returns-else-is_exponent_letter : goal.returns-else-is_exponent_letter
 returns-else-is_exponent_letter c = sym (
-  next-out (past_letter c.args.base) (gives (Float c.args.base false)) _ _ _ c.utf8.rest c.in-Some.ensures.0 c.in-Some.ensures.1 is_exponent_letter (sym c.if-is_exponent_letter.ensures)
-  ∙ scanned-gives _ _ c.utf8.rest
-)
+    next-out (past_letter c.args.base) (gives (Float c.args.base false)) _ _ _ c.utf8.rest c.in-Some.ensures.0 c.in-Some.ensures.1 is_exponent_letter (sym c.if-is_exponent_letter.ensures)
+    ∙ scanned-gives _ _ c.utf8.rest
+    )

@@ -1,4 +1,4 @@
-use Rattle.std.proofs.Common.{sym, ap, ◌∙◌}
+use Rattle.std.proofs.Common.{ap, ◌∙◌}
 use Rattle.rustc_lexer.specs.Number.{number_kind}
 use Rattle.rustc_lexer.proofs.NumberLemmas.{scanned-shorter, suffixed-is}
 use Rattle.rustc_lexer.proofs.lexemes.number.number.Goals as goal
