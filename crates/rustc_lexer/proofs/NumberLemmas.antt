@@ -36,9 +36,6 @@ pub next_is-first : (p : ℕ → Bool) (s : List ℕ) → p 0 ≡ false → next
 next_is-first p [] e = sym e
 next_is-first p (c ∷ s) e = refl
 
-pub begins-end : (d : ℕ) (cs : List ℕ) → cs ≡ [] → begins (d ∷ []) cs ≡ false
-begins-end d cs e = ap (begins (d ∷ [])) e
-
 pub begins-first : (d c : ℕ) (s cs : List ℕ) → cs ≡ c ∷ s → begins (d ∷ []) cs ≡ (c == d)
 begins-first d c s cs e = ap (begins (d ∷ [])) e ∙ by_test (c == d)
   where
