@@ -4,6 +4,8 @@ pub mod ClassLemmas
 pub mod EmojiLemmas
 pub mod IdentLemmas
 pub mod LexemeLemmas
+pub mod LiteralSuffix
+pub mod NumberLemmas
 pub mod PastLemmas
 pub mod RunLemmas
 pub mod ScanLemmas

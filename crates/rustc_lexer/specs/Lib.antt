@@ -10,6 +10,8 @@ pub mod Lexeme
 pub mod Literal
 pub mod LiteralLaws
 pub mod Lookahead
+pub mod Number
+pub mod NumberLaws
 pub mod Reach
 pub mod Scan
 pub mod State

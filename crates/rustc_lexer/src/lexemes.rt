@@ -17,6 +17,7 @@ mod block_comment;
 mod comment;
 mod ident;
 mod literal;
+mod number;
 
 /// The token at the front of a text. At the end of the text it is `Eof`, of length 0.
 pub(crate) fn lexeme(text: &str) -> Token

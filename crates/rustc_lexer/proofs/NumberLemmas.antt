@@ -1,0 +1,196 @@
+-- Numbers, as the code reads them.
+use Rattle.std.proofs.Common.{◌≡◌, ◌≢◌, ℕ, ◌+◌, ◌-◌, ◌≤◌, ◌==◌, ◌&&◌, not, Bool, true, false, if◌then◌else◌, List, [], ◌∷◌, length, take, drop, get_or, refl, sym, ap, ◌∙◌, zero-add, eq-eqb, arith, codes}
+use Rattle.std.specs.List.{list_any}
+use Rattle.std.specs.Str.{chars, IsUtf8}
+use Rattle.std.proofs.lemmas.Bool.{eqb-true, ne_eqb}
+use Rattle.unicode_ident.proofs.IdentLemmas.{is_xid_start-ascii}
+use Rattle.rustc_lexer.specs.declared.token.Base.{Base}
+use Rattle.rustc_lexer.specs.declared.token.Base.TheVariants.{Decimal}
+use Rattle.rustc_lexer.specs.declared.token.LiteralKind.{LiteralKind}
+use Rattle.rustc_lexer.specs.declared.token.LiteralKind.TheVariants.{Int}
+use Rattle.rustc_lexer.specs.declared.token.TokenKind.TheVariants.{Literal}
+use Rattle.rustc_lexer.specs.Literal.{suffix_len, literal}
+use Rattle.rustc_lexer.specs.Number.{read_as, is_underscore, or_underscore, digits, Front, front_of, binary, octal, hexadecimal, decimal, front_past_zero, is_exponent_letter, past_letter, fraction, is_no_fraction, begins_fraction, past_digits, front, tail, number_kind, with_suffix}
+use Rattle.rustc_lexer.specs.Scan.{after, and_then, begins, bytes_of, gives, next_is, past, run_len, scanned}
+use Rattle.rustc_lexer.proofs.PastLemmas.{IsUtf8-past, chars-past, length-past, past-past}
+use Rattle.rustc_lexer.proofs.ScanLemmas.{next_is-cons, next_is-nil, scanned-after, scanned-gives, scanned-same, scanned-yes, scanned-no}
+
+-- one scanner, then the next on what it left
+pub scanned-and_then : {A B : Type 0} (scan : List ℕ → A × ℕ) (next : A → List ℕ → B × ℕ) (text rest : List ℕ) (a : A) → IsUtf8 text → (a, rest) ≡ scanned scan text
+    → scanned (and_then scan next) text ≡ scanned (next a) rest
+scanned-and_then {A} {B} scan next text rest a is e =
+    scanned-after (scan (chars text)).1 (next (scan (chars text)).0) text rest is (ap (λ (r : A × List ℕ). r.1) e)
+    ∙ ap (λ (x : A). scanned (next x) rest) (sym (ap (λ (r : A × List ℕ). r.0) e))
+
+pub scanned-read_as : {A B : Type 0} (f : A → B) (scan : List ℕ → A × ℕ) (text rest : List ℕ) (a : A) → (a, rest) ≡ scanned scan text → (f a, rest) ≡ scanned (read_as f scan) text
+scanned-read_as {A} f scan text rest a e = ap (λ (r : A × List ℕ). (f r.0, r.1)) e
+
+-- what is left is no longer than the text
+pub scanned-shorter : {A : Type 0} (scan : List ℕ → A × ℕ) (text rest : List ℕ) (a : A) → IsUtf8 text → (a, rest) ≡ scanned scan text → length rest ≤ length text
+scanned-shorter {A} scan text rest a is e =
+    let left : rest ≡ past (scan (chars text)).1 text = ap (λ (r : A × List ℕ). r.1) e in
+    omega (arith, ap length left, length-past (scan (chars text)).1 text is)
+
+-- whether the next character is in a class that U+0000 is not in, which the code sees at the end
+pub next_is-first : (p : ℕ → Bool) (s : List ℕ) → p 0 ≡ false → next_is p s ≡ p (get_or s 0 0)
+next_is-first p [] e = sym e
+next_is-first p (c ∷ s) e = refl
+
+pub begins-first : (d c : ℕ) (s cs : List ℕ) → cs ≡ c ∷ s → begins (d ∷ []) cs ≡ (c == d)
+begins-first d c s cs e = ap (begins (d ∷ [])) e ∙ by_test (c == d)
+  where
+    by_test : (b : Bool) → (b && true) ≡ b
+    by_test true = refl
+    by_test false = refl
+
+-- the next character chooses
+module _ {A : Type 0} (scan other : List ℕ → A × ℕ) (text tail : List ℕ) (c : ℕ) (is : IsUtf8 text) (cs : chars text ≡ c ∷ chars tail) (at : tail ≡ past 1 text) where
+  pub next-in : (p : ℕ → Bool) → p c ≡ true → scanned (λ s. if next_is p s then after 1 scan s else other s) text ≡ scanned scan tail
+  next-in p e = scanned-yes (next_is p) (after 1 scan) other text (next_is-cons p c (chars tail) (chars text) cs ∙ e) ∙ scanned-after 1 scan text tail is at
+
+  pub next-out : (p : ℕ → Bool) → p c ≡ false → scanned (λ s. if next_is p s then after 1 scan s else other s) text ≡ scanned other text
+  next-out p e = scanned-no (next_is p) (after 1 scan) other text (next_is-cons p c (chars tail) (chars text) cs ∙ e)
+
+  pub begins-in : (d : ℕ) → c ≡ d → scanned (λ s. if begins (d ∷ []) s then after 1 scan s else other s) text ≡ scanned scan tail
+  begins-in d e = scanned-yes (begins (d ∷ [])) (after 1 scan) other text (begins-first d c (chars tail) (chars text) cs ∙ eq-eqb c d e) ∙ scanned-after 1 scan text tail is at
+
+  pub begins-out : (d : ℕ) → c ≢ d → scanned (λ s. if begins (d ∷ []) s then after 1 scan s else other s) text ≡ scanned other text
+  begins-out d e = scanned-no (begins (d ∷ [])) (after 1 scan) other text (begins-first d c (chars tail) (chars text) cs ∙ ne_eqb c d e)
+
+-- a choice by the next character, at the end
+pub next-end : {A : Type 0} (scan other : List ℕ → A × ℕ) (text : List ℕ) (p : ℕ → Bool) → chars text ≡ [] → scanned (λ s. if next_is p s then after 1 scan s else other s) text ≡ scanned other text
+next-end scan other text p e = scanned-no (next_is p) (after 1 scan) other text (next_is-nil p (chars text) e)
+
+abbrev not_binary : List ℕ → Front × ℕ
+not_binary s = if begins (codes "o") s then after 1 octal s else (if begins (codes "x") s then after 1 hexadecimal s else decimal s)
+
+abbrev not_octal : List ℕ → Front × ℕ
+not_octal s = if begins (codes "x") s then after 1 hexadecimal s else decimal s
+
+-- the front of a number, by what follows a first digit 0
+module _ (text tail : List ℕ) (c : ℕ) (is : IsUtf8 text) (cs : chars text ≡ c ∷ chars tail) (at : tail ≡ past 1 text) where
+  pub pick-binary : c ≡ 98 → scanned front_past_zero text ≡ scanned binary tail
+  pick-binary e = begins-in binary not_binary text tail c is cs at 98 e
+
+  pub pick-octal : c ≢ 98 → c ≡ 111 → scanned front_past_zero text ≡ scanned octal tail
+  pick-octal e f = begins-out binary not_binary text tail c is cs at 98 e ∙ begins-in octal not_octal text tail c is cs at 111 f
+
+  pub pick-hexadecimal : c ≢ 98 → c ≢ 111 → c ≡ 120 → scanned front_past_zero text ≡ scanned hexadecimal tail
+  pick-hexadecimal e f g =
+      begins-out binary not_binary text tail c is cs at 98 e ∙ (begins-out octal not_octal text tail c is cs at 111 f ∙ begins-in hexadecimal decimal text tail c is cs at 120 g)
+
+pub front_past_zero-end : (text : List ℕ) → IsUtf8 text → chars text ≡ [] → scanned front_past_zero text ≡ (front_of Decimal false, text)
+front_past_zero-end text is e = scanned-same front_past_zero (gives (front_of Decimal false)) text (ap front_past_zero e) ∙ scanned-gives _ text is
+
+-- U+0000, which the code sees at the end, goes with a fraction
+is_no_fraction-zero : is_no_fraction 0 ≡ false
+is_no_fraction-zero = is_xid_start-ascii 0 (omega arith)
+
+begins_fraction-first : (c : ℕ) (s cs : List ℕ) → cs ≡ c ∷ s → begins_fraction cs ≡ ((c == 46) && not (next_is is_no_fraction s))
+begins_fraction-first c s cs e = ap begins_fraction e ∙ ap (λ b. b && not (next_is is_no_fraction s)) (by_test (c == 46))
+  where
+    by_test : (b : Bool) → (b && true) ≡ b
+    by_test true = refl
+    by_test false = refl
+
+abbrev no_fraction : Base → List ℕ → LiteralKind × ℕ
+no_fraction base s = if next_is is_exponent_letter s then after 1 (past_letter base) s else gives (Int base false) s
+
+-- what follows the digits of a number
+module _ (base : Base) (text tail : List ℕ) (c : ℕ) (is : IsUtf8 text) (cs : chars text ≡ c ∷ chars tail) (at : tail ≡ past 1 text) where
+  abbrev int : List ℕ → LiteralKind × ℕ
+  int = gives (Int base false)
+
+  fraction-no : (b : Bool) → ((c == 46) && not b) ≡ false → next_is is_no_fraction (chars tail) ≡ b → scanned (past_digits base) text ≡ scanned (no_fraction base) text
+  fraction-no b e f = scanned-no begins_fraction (after 1 (fraction base)) (no_fraction base) text (begins_fraction-first c (chars tail) (chars text) cs ∙ (ap (λ x. (c == 46) && not x) f ∙ e))
+
+  pub pick-fraction : c ≡ 46 → is_no_fraction (get_or (chars tail) 0 0) ≡ false → scanned (past_digits base) text ≡ scanned (fraction base) tail
+  pick-fraction e f =
+      let goes : next_is is_no_fraction (chars tail) ≡ false = next_is-first is_no_fraction (chars tail) is_no_fraction-zero ∙ f in
+      let begins_one : begins_fraction (chars text) ≡ true = begins_fraction-first c (chars tail) (chars text) cs ∙ rw (eq-eqb c 46 e, goes) refl in
+      scanned-yes begins_fraction (after 1 (fraction base)) (no_fraction base) text begins_one ∙ scanned-after 1 (fraction base) text tail is at
+
+  pub pick-int_before_dot : c ≡ 46 → is_no_fraction (get_or (chars tail) 0 0) ≡ true → scanned (past_digits base) text ≡ (Int base false, text)
+  pick-int_before_dot e f =
+      let stops : next_is is_no_fraction (chars tail) ≡ true = next_is-first is_no_fraction (chars tail) is_no_fraction-zero ∙ f in
+      let begins_none : ((c == 46) && not true) ≡ false = rw (eq-eqb c 46 e) refl in
+      let no_letter : is_exponent_letter c ≡ false = rw e refl in
+      fraction-no true begins_none stops ∙ (next-out (past_letter base) int text tail c is cs at is_exponent_letter no_letter ∙ scanned-gives _ text is)
+
+  begins-other : c ≢ 46 → (b : Bool) → ((c == 46) && not b) ≡ false
+  begins-other e b = rw (ne_eqb c 46 e) refl
+
+  pub pick-exponent : c ≢ 46 → is_exponent_letter c ≡ true → scanned (past_digits base) text ≡ scanned (past_letter base) tail
+  pick-exponent e f = fraction-no _ (begins-other e _) refl ∙ next-in (past_letter base) int text tail c is cs at is_exponent_letter f
+
+  pub pick-int : c ≢ 46 → is_exponent_letter c ≡ false → scanned (past_digits base) text ≡ (Int base false, text)
+  pick-int e f = fraction-no _ (begins-other e _) refl ∙ (next-out (past_letter base) int text tail c is cs at is_exponent_letter f ∙ scanned-gives _ text is)
+
+pub past_digits-end : (base : Base) (text : List ℕ) → IsUtf8 text → chars text ≡ [] → scanned (past_digits base) text ≡ (Int base false, text)
+past_digits-end base text is e = scanned-same (past_digits base) (gives (Int base false)) text (ap (past_digits base) e) ∙ scanned-gives _ text is
+
+-- a number, once its front is known
+module _ (first : ℕ) (text rest : List ℕ) (base : Base) (empty : Bool) (is : IsUtf8 text) (e : (front_of base empty, rest) ≡ scanned (front first) text) where
+  by_front : scanned (number_kind first) text ≡ scanned (tail (front_of base empty)) rest
+  unfolding number_kind
+  by_front = scanned-and_then (front first) tail text rest (front_of base empty) is e
+
+  pub pick-tail : empty ≡ false → scanned (number_kind first) text ≡ scanned (past_digits base) rest
+  pick-tail f = by_front ∙ ap (λ b. scanned (tail (front_of base b)) rest) f
+
+  pub pick-empty : empty ≡ true → scanned (number_kind first) text ≡ (Int base true, rest)
+  pick-empty f =
+      let left : rest ≡ past (front first (chars text)).1 text = ap (λ (r : Front × List ℕ). r.1) e in
+      let utf8 : IsUtf8 rest = rw left (IsUtf8-past _ text is) in
+      by_front ∙ (ap (λ b. scanned (tail (front_of base b)) rest) f ∙ scanned-gives _ rest utf8)
+
+-- a run of digits and underscores is the underscores at its front, and what follows them
+module _ (is_digit : ℕ → Bool) (none : is_digit 95 ≡ false) where
+  run_len-past : (s : List ℕ) → run_len (or_underscore is_digit) s ≡ run_len is_underscore s + run_len (or_underscore is_digit) (drop (run_len is_underscore s) s)
+  run_len-past [] = refl
+  run_len-past (c ∷ s) = by_underscore (run_len-past s) (c == 95) refl
+    where
+      by_underscore : run_len (or_underscore is_digit) s ≡ run_len is_underscore s + run_len (or_underscore is_digit) (drop (run_len is_underscore s) s)
+          → (b : Bool) → (c == 95) ≡ b → run_len (or_underscore is_digit) (c ∷ s) ≡ run_len is_underscore (c ∷ s) + run_len (or_underscore is_digit) (drop (run_len is_underscore (c ∷ s)) (c ∷ s))
+      by_underscore ih true e = rw (eqb-true c 95 e, none) (omega arith)
+      by_underscore ih false e =
+          let zero : run_len is_underscore (c ∷ s) ≡ 0 = rw e refl in
+          sym (ap (λ n. n + run_len (or_underscore is_digit) (drop n (c ∷ s))) zero ∙ zero-add (run_len (or_underscore is_digit) (c ∷ s)))
+
+  list_any-past : (s : List ℕ) → list_any is_digit (take (run_len (or_underscore is_digit) s) s) ≡ next_is is_digit (drop (run_len is_underscore s) s)
+  list_any-past [] = refl
+  list_any-past (c ∷ s) = by_class (list_any-past s) (c == 95) (is_digit c) refl refl
+    where
+      by_class : list_any is_digit (take (run_len (or_underscore is_digit) s) s) ≡ next_is is_digit (drop (run_len is_underscore s) s)
+          → (b d : Bool) → (c == 95) ≡ b → is_digit c ≡ d → list_any is_digit (take (run_len (or_underscore is_digit) (c ∷ s)) (c ∷ s)) ≡ next_is is_digit (drop (run_len is_underscore (c ∷ s)) (c ∷ s))
+      by_class ih true d e f = rw (eqb-true c 95 e, none, none) ih
+      by_class ih false true e f = rw (e, f, f) refl
+      by_class ih false false e f = rw (e, f) refl
+
+  pub digits-is : (text middle rest : List ℕ) (some : Bool) → is_digit 0 ≡ false → IsUtf8 text
+      → middle ≡ past (run_len is_underscore (chars text)) text → some ≡ is_digit (get_or (chars middle) 0 0) → rest ≡ past (run_len (or_underscore is_digit) (chars middle)) middle
+      → (some, rest) ≡ scanned (digits is_digit) text
+  digits-is text middle rest some zero is e f g =
+      let n : ℕ = run_len is_underscore (chars text) in
+      let cs : chars middle ≡ drop n (chars text) = ap chars e ∙ chars-past n text is in
+      let some_is : some ≡ list_any is_digit (take (run_len (or_underscore is_digit) (chars text)) (chars text)) =
+      f ∙ (sym (next_is-first is_digit (chars middle) zero) ∙ (ap (next_is is_digit) cs ∙ sym (list_any-past (chars text)))) in
+      let len : n + run_len (or_underscore is_digit) (chars middle) ≡ run_len (or_underscore is_digit) (chars text) = ap (λ xs. n + run_len (or_underscore is_digit) xs) cs ∙ sym (run_len-past (chars text)) in
+      let left : rest ≡ past (run_len (or_underscore is_digit) (chars text)) text =
+      g ∙ (ap (past (run_len (or_underscore is_digit) (chars middle))) e ∙ (past-past (run_len (or_underscore is_digit) (chars middle)) n text is ∙ ap (λ m. past m text) len)) in
+      ap (λ (b : Bool). (b, rest)) some_is ∙ ap (λ xs. (list_any is_digit (take (run_len (or_underscore is_digit) (chars text)) (chars text)), xs)) left
+
+-- the token of a number with its suffix
+pub suffixed-is : (scan : List ℕ → LiteralKind × ℕ) (tail rest left : List ℕ) (kind : LiteralKind) → IsUtf8 tail → (kind, rest) ≡ scanned scan tail → left ≡ past (suffix_len (chars rest)) rest
+    → (Literal kind (1 + (length tail - length rest)), left) ≡ scanned (literal (read_as with_suffix scan)) tail
+suffixed-is scan tail rest left kind is e f =
+    let n : ℕ = (scan (chars tail)).1 in
+    let rest_is : rest ≡ past n tail = ap (λ (r : LiteralKind × List ℕ). r.1) e in
+    let kind_is : kind ≡ (scan (chars tail)).0 = ap (λ (r : LiteralKind × List ℕ). r.0) e in
+    let cs : chars rest ≡ drop n (chars tail) = ap chars rest_is ∙ chars-past n tail is in
+    let left_is : left ≡ past (n + suffix_len (drop n (chars tail))) tail =
+    f ∙ (ap (past (suffix_len (chars rest))) rest_is ∙ (past-past (suffix_len (chars rest)) n tail is ∙ ap (λ xs. past (n + suffix_len xs) tail) cs)) in
+    let bytes : length tail - length rest ≡ bytes_of n (chars tail) = omega (arith, ap length rest_is, length-past n tail is) in
+    ap (λ (k : LiteralKind). (Literal k (1 + (length tail - length rest)), left)) kind_is
+    ∙ (ap (λ (b : ℕ). (Literal (scan (chars tail)).0 (1 + b), left)) bytes
+    ∙ ap (λ xs. (Literal (scan (chars tail)).0 (1 + bytes_of n (chars tail)), xs)) left_is)

@@ -1,0 +1,129 @@
+-- Numbers.
+use Rattle.std.specs.Prelude.{ℕ, ◌==◌, ◌&&◌, ◌||◌, not, Bool, false, true, if◌then◌else◌, List, take, drop, codes}
+use Rattle.std.specs.Char.{is_ascii_digit, is_ascii_hexdigit}
+use Rattle.std.specs.List.{list_any}
+use Rattle.std.specs.Str.{byte}
+use Rattle.rustc_lexer.specs.declared.token.Base.{Base}
+use Rattle.rustc_lexer.specs.declared.token.Base.TheVariants.{Binary, Octal, Decimal, Hexadecimal}
+use Rattle.rustc_lexer.specs.declared.token.LiteralKind.{LiteralKind}
+use Rattle.rustc_lexer.specs.declared.token.LiteralKind.TheVariants.{Int, Float}
+use Rattle.rustc_lexer.specs.declared.token.TokenKind.{TokenKind}
+use Rattle.rustc_lexer.specs.Classes.{is_id_start}
+use Rattle.rustc_lexer.specs.Literal.{Body, literal}
+use Rattle.rustc_lexer.specs.Scan.{after, and_then, begins, gives, next_is, run, run_len}
+
+-- the same characters, with another answer
+abbrev pub read_as : {A B : Type 0} → (A → B) → (List ℕ → A × ℕ) → List ℕ → B × ℕ
+read_as f scan s = (f (scan s).0, (scan s).1)
+
+abbrev pub is_underscore : ℕ → Bool
+is_underscore c = c == byte "_"
+
+-- a class with the underscore
+abbrev pub or_underscore : (ℕ → Bool) → ℕ → Bool
+or_underscore p c = p c || is_underscore c
+
+-- a run of digits and underscores, and whether a digit is among them
+abbrev pub digits : (ℕ → Bool) → List ℕ → Bool × ℕ
+digits is_digit s = (list_any is_digit (take (run_len (or_underscore is_digit) s) s), run_len (or_underscore is_digit) s)
+
+-- the front of a number: its base, and whether that has a prefix with no digit after it
+pub record Front : Type 0 where
+  pub base : Base
+  pub empty : Bool
+
+abbrev pub front_of : Base → Bool → Front
+front_of base empty = record { base = base; empty = empty }
+
+-- a front with a prefix, by whether a digit follows that
+abbrev pub prefixed : Base → Bool → Front
+prefixed base has_digit = front_of base (not has_digit)
+
+-- past the letter of a prefix
+abbrev pub binary : List ℕ → Front × ℕ
+binary = read_as (prefixed Binary) (digits is_ascii_digit)
+
+abbrev pub octal : List ℕ → Front × ℕ
+octal = read_as (prefixed Octal) (digits is_ascii_digit)
+
+abbrev pub hexadecimal : List ℕ → Front × ℕ
+hexadecimal = read_as (prefixed Hexadecimal) (digits is_ascii_hexdigit)
+
+-- with no prefix
+abbrev pub decimal : List ℕ → Front × ℕ
+decimal = run (front_of Decimal false) (or_underscore is_ascii_digit)
+
+-- the front of a number whose first digit is `0`, past that
+abbrev pub front_past_zero : List ℕ → Front × ℕ
+front_past_zero s =
+    if begins (codes "b") s then after 1 binary s
+    else (if begins (codes "o") s then after 1 octal s
+    else (if begins (codes "x") s then after 1 hexadecimal s
+    else decimal s))
+
+-- the front of a number, past its first digit
+abbrev pub front : ℕ → List ℕ → Front × ℕ
+front first s = if first == byte "0" then front_past_zero s else decimal s
+
+-- a float with an exponent, by whether a digit stands in that
+abbrev pub float : Base → Bool → LiteralKind
+float base has_digit = Float base (not has_digit)
+
+abbrev pub is_exponent_letter : ℕ → Bool
+is_exponent_letter c = c == byte "e" || c == byte "E"
+
+abbrev pub is_sign : ℕ → Bool
+is_sign c = c == byte "+" || c == byte "-"
+
+-- the digits of an exponent
+abbrev pub past_sign : Base → List ℕ → LiteralKind × ℕ
+past_sign base = read_as (float base) (digits is_ascii_digit)
+
+-- an exponent past its letter: a sign, if one stands here, and digits
+abbrev pub past_letter : Base → List ℕ → LiteralKind × ℕ
+past_letter base s = if next_is is_sign s then after 1 (past_sign base) s else past_sign base s
+
+-- an exponent, if one stands here
+abbrev pub exponent : Base → List ℕ → LiteralKind × ℕ
+exponent base s = if next_is is_exponent_letter s then after 1 (past_letter base) s else gives (Float base false) s
+
+-- the digits of a fraction, and an exponent
+abbrev pub fraction_digits : Base → List ℕ → LiteralKind × ℕ
+fraction_digits base = and_then (run base (or_underscore is_ascii_digit)) exponent
+
+-- what follows the dot of a float: digits with an exponent, if a digit stands here, or nothing
+unfoldable pub fraction : Base → List ℕ → LiteralKind × ℕ
+fraction base s = if next_is is_ascii_digit s then fraction_digits base s else gives (Float base false) s
+
+-- a dot right before one of these is no part of a number, as in `1..2` and `1.max(2)`
+abbrev pub is_no_fraction : ℕ → Bool
+is_no_fraction c = c == byte "." || is_id_start c
+
+abbrev pub begins_fraction : List ℕ → Bool
+begins_fraction s = begins (codes ".") s && not (next_is is_no_fraction (drop 1 s))
+
+-- a fraction, an exponent or neither
+abbrev pub past_digits : Base → List ℕ → LiteralKind × ℕ
+past_digits base s =
+    if begins_fraction s then after 1 (fraction base) s
+    else (if next_is is_exponent_letter s then after 1 (past_letter base) s
+    else gives (Int base false) s)
+
+-- what follows the front of a number
+abbrev pub tail : Front → List ℕ → LiteralKind × ℕ
+tail front s = if front.empty then gives (Int front.base true) s else past_digits front.base s
+
+-- a number past its first digit, up to where a suffix may stand
+unfoldable pub number_kind : ℕ → List ℕ → LiteralKind × ℕ
+number_kind first s = and_then (front first) tail s
+
+-- any number may have a suffix
+abbrev pub with_suffix : LiteralKind → Body
+with_suffix kind = record { kind = kind; takes_suffix = true }
+
+abbrev pub number_body : ℕ → List ℕ → Body × ℕ
+number_body first = read_as with_suffix (number_kind first)
+
+-- what follows the first digit of a number
+abbrev pub number : ℕ → List ℕ → TokenKind × ℕ
+number first = literal (number_body first)

@@ -1,0 +1,224 @@
+//! Numbers.
+ghost use Rattle.std.specs.Prelude.{◌≡◌, ℕ, suc, ◌+◌, ◌<◌, ◌≤◌, ◌^◌, false, List, ◌∷◌, length};
+ghost use Rattle.std.specs.Char.{is_ascii_digit, is_ascii_hexdigit};
+ghost use Rattle.rustc_lexer.specs.Number as spec;
+ghost use Rattle.rustc_lexer.specs.Scan.{IsLocal, bytes_of, scanned};
+ghost use Rattle.rustc_lexer.specs.State.{suffix_start_of};
+ghost use Rattle.rustc_lexer.specs.declared.token.TokenKind.{TokenKind};
+
+use crate::classes::is_id_start;
+use crate::lexemes::literal::{eat_suffix, literal};
+use crate::scan::{eat_while, first, split_first};
+use crate::token::{Base, LiteralKind, TokenKind};
+
+/// A number with its suffix. `first_digit` is its first character, and `tail` what follows that.
+///
+/// Rust Reference, [Number literals](https://doc.rust-lang.org/reference/tokens.html#number-literals).
+pub(crate) fn number(first_digit: char, tail: &str) -> (TokenKind, &str)
+    requires fits { length tail.now + 1 < 2 ^ 32 }
+    ensures { (result.0, result.1.now) ≡ scanned (spec.number first_digit) tail.now }
+{
+    let (kind, rest) = number_kind(first_digit, tail);
+    (literal(kind, tail, rest), eat_suffix(rest))
+}
+
+/// What the number is, and the text from its suffix on.
+fn number_kind(first_digit: char, tail: &str) -> (LiteralKind, &str)
+    ensures { (result.0, result.1.now) ≡ scanned (spec.number_kind first_digit) tail.now }
+{
+    let (base, empty_int, rest) = front(first_digit, tail);
+    if empty_int {
+        return (LiteralKind::Int { base, empty_int }, rest);
+    }
+    past_digits(base, rest)
+}
+
+/// The base, whether it has a prefix with no digit after it, and what follows the digits up to a point or an
+/// exponent.
+fn front(first_digit: char, tail: &str) -> (Base, bool, &str)
+    ensures { (spec.front_of result.0 result.1, result.2.now) ≡ scanned (spec.front first_digit) tail.now }
+{
+    if first_digit == '0' {
+        front_past_zero(tail)
+    } else {
+        (
+            Base::Decimal,
+            false,
+            eat_while(tail, is_digit_or_underscore),
+        )
+    }
+}
+
+/// The same, where the first digit is 0.
+fn front_past_zero(tail: &str) -> (Base, bool, &str)
+    ensures { (spec.front_of result.0 result.1, result.2.now) ≡ scanned spec.front_past_zero tail.now }
+{
+    let Some((letter, digits)) = split_first(tail) else {
+        return (Base::Decimal, false, tail);
+    };
+    if letter == 'b' {
+        let (has_digit, rest) = decimal_digits(digits);
+        (Base::Binary, !has_digit, rest)
+    } else if letter == 'o' {
+        let (has_digit, rest) = decimal_digits(digits);
+        (Base::Octal, !has_digit, rest)
+    } else if letter == 'x' {
+        let (has_digit, rest) = hexadecimal_digits(digits);
+        (Base::Hexadecimal, !has_digit, rest)
+    } else {
+        (
+            Base::Decimal,
+            false,
+            eat_while(tail, is_digit_or_underscore),
+        )
+    }
+}
+
+/// What a number of this base is, by what follows its front: a fraction, an exponent or neither.
+fn past_digits(base: Base, rest: &str) -> (LiteralKind, &str)
+    ensures { (result.0, result.1.now) ≡ scanned (spec.past_digits base) rest.now }
+{
+    let int = LiteralKind::Int {
+        base,
+        empty_int: false,
+    };
+    let Some((mark, tail)) = split_first(rest) else {
+        return (int, rest);
+    };
+    if mark == '.' {
+        if is_no_fraction(first(tail)) {
+            (int, rest)
+        } else {
+            fraction(base, tail)
+        }
+    } else if is_exponent_letter(mark) {
+        past_letter(base, tail)
+    } else {
+        (int, rest)
+    }
+}
+
+/// Whether a dot before this character is no part of a number, as in `1..2` and `1.max(2)`.
+fn is_no_fraction(c: char) -> bool
+    ensures { result ≡ spec.is_no_fraction c }
+{
+    c == '.' || is_id_start(c)
+}
+
+/// The float whose fraction this is. `rest` is what follows its dot.
+fn fraction(base: Base, rest: &str) -> (LiteralKind, &str)
+    ensures { (result.0, result.1.now) ≡ scanned (spec.fraction base) rest.now }
+{
+    if first(rest).is_ascii_digit() {
+        exponent(base, eat_while(rest, is_digit_or_underscore))
+    } else {
+        let float = LiteralKind::Float {
+            base,
+            empty_exponent: false,
+        };
+        (float, rest)
+    }
+}
+
+/// The float with the exponent that stands here, if one does.
+fn exponent(base: Base, rest: &str) -> (LiteralKind, &str)
+    ensures { (result.0, result.1.now) ≡ scanned (spec.exponent base) rest.now }
+{
+    let float = LiteralKind::Float {
+        base,
+        empty_exponent: false,
+    };
+    let Some((letter, tail)) = split_first(rest) else {
+        return (float, rest);
+    };
+    if is_exponent_letter(letter) {
+        past_letter(base, tail)
+    } else {
+        (float, rest)
+    }
+}
+
+fn is_exponent_letter(c: char) -> bool
+    ensures { result ≡ spec.is_exponent_letter c }
+{
+    c == 'e' || c == 'E'
+}
+
+/// The float with this exponent. `rest` is what follows the letter of it.
+fn past_letter(base: Base, rest: &str) -> (LiteralKind, &str)
+    ensures { (result.0, result.1.now) ≡ scanned (spec.past_letter base) rest.now }
+{
+    let Some((sign, tail)) = split_first(rest) else {
+        return past_sign(base, rest);
+    };
+    if is_sign(sign) {
+        past_sign(base, tail)
+    } else {
+        past_sign(base, rest)
+    }
+}
+
+fn is_sign(c: char) -> bool
+    ensures { result ≡ spec.is_sign c }
+{
+    c == '+' || c == '-'
+}
+
+/// The float whose exponent has these digits.
+fn past_sign(base: Base, rest: &str) -> (LiteralKind, &str)
+    ensures { (result.0, result.1.now) ≡ scanned (spec.past_sign base) rest.now }
+{
+    let (has_digit, rest) = decimal_digits(rest);
+    let empty_exponent = !has_digit;
+    let float = LiteralKind::Float {
+        base,
+        empty_exponent,
+    };
+    (float, rest)
+}
+
+/// Whether a digit stands in the run of digits and underscores at the front, and what follows that run.
+fn decimal_digits(rest: &str) -> (bool, &str)
+    ensures { (result.0, result.1.now) ≡ scanned (spec.digits is_ascii_digit) rest.now }
+{
+    let digits = eat_while(rest, is_underscore);
+    let has_digit = first(digits).is_ascii_digit();
+    (has_digit, eat_while(digits, is_digit_or_underscore))
+}
+
+/// The same of hexadecimal digits.
+fn hexadecimal_digits(rest: &str) -> (bool, &str)
+    ensures { (result.0, result.1.now) ≡ scanned (spec.digits is_ascii_hexdigit) rest.now }
+{
+    let digits = eat_while(rest, is_underscore);
+    let has_digit = first(digits).is_ascii_hexdigit();
+    (has_digit, eat_while(digits, is_hex_digit_or_underscore))
+}
+
+fn is_underscore(c: char) -> bool
+    ensures { result ≡ spec.is_underscore c }
+{
+    c == '_'
+}
+
+fn is_digit_or_underscore(c: char) -> bool
+    ensures { result ≡ spec.or_underscore is_ascii_digit c }
+{
+    c.is_ascii_digit() || is_underscore(c)
+}
+
+fn is_hex_digit_or_underscore(c: char) -> bool
+    ensures { result ≡ spec.or_underscore is_ascii_hexdigit c }
+{
+    c.is_ascii_hexdigit() || is_underscore(c)
+}
+
+/// How far a number looks past its end.
+pub(crate) fn number_lookahead()
+    ensures { (first : ℕ) → IsLocal TokenKind 2 (spec.number first) }
+{}
+
+/// Where the suffix of a number begins: inside the number, or at its end.
+pub(crate) fn number_suffix()
+    ensures { (first : ℕ) (s : List ℕ) → suffix_start_of (spec.number first s).0 ≤ bytes_of (suc (spec.number first s).1) (first ∷ s) }
+{}
