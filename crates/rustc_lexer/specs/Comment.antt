@@ -4,6 +4,7 @@ use Rattle.rustc_lexer.specs.declared.token.DocStyle.{DocStyle}
 use Rattle.rustc_lexer.specs.declared.token.DocStyle.TheVariants.{Outer, Inner}
 use Rattle.rustc_lexer.specs.declared.token.TokenKind.{TokenKind}
 use Rattle.rustc_lexer.specs.declared.token.TokenKind.TheVariants.{LineComment, Slash}
+use Rattle.rustc_lexer.specs.BlockComment.{block_comment}
 use Rattle.rustc_lexer.specs.Scan.{after, begins, gives, run_len}
 
 -- of what follows `//`: `!` makes the doc of what the comment stands in, and one more `/`, but not two, the doc of
@@ -20,4 +21,7 @@ line_comment s = (LineComment (line_doc_style s), run_len is_no_newline s)
 
 -- what follows `/`
 abbrev pub slash : List ℕ → TokenKind × ℕ
-slash s = if begins (codes "/") s then after 1 line_comment s else gives Slash s
+slash s =
+    if begins (codes "/") s then after 1 line_comment s
+    else (if begins (codes "*") s then after 1 block_comment s
+    else gives Slash s)

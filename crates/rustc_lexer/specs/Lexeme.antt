@@ -1,11 +1,15 @@
 -- The token at the front of a text.
 use Rattle.std.specs.Prelude.{ℕ, suc, ◌==◌, if◌then◌else◌, List, [], ◌∷◌}
+use Rattle.std.specs.Char.{is_ascii_digit}
 use Rattle.std.specs.Str.{byte}
 use Rattle.rustc_lexer.specs.declared.token.Token.{Token}
 use Rattle.rustc_lexer.specs.declared.token.TokenKind.{TokenKind}
-use Rattle.rustc_lexer.specs.declared.token.TokenKind.TheVariants.{Whitespace, Ident, Semi, Comma, Dot, OpenParen, CloseParen, OpenBrace, CloseBrace, OpenBracket, CloseBracket, At, Pound, Tilde, Question, Colon, Dollar, Eq, Bang, Lt, Gt, Minus, And, Or, Plus, Star, Caret, Percent, Unknown, Eof}
-use Rattle.rustc_lexer.specs.Classes.{is_whitespace, is_id_start, is_id_continue}
+use Rattle.rustc_lexer.specs.declared.token.TokenKind.TheVariants.{Whitespace, RawIdent, ForcedKeywordIdent, Semi, Comma, Dot, OpenParen, CloseParen, OpenBrace, CloseBrace, OpenBracket, CloseBracket, At, Pound, Tilde, Question, Colon, Dollar, Eq, Bang, Lt, Gt, Minus, And, Or, Plus, Star, Caret, Percent, Unknown, Eof}
+use Rattle.rustc_lexer.specs.Classes.{is_among, is_whitespace, is_id_start}
 use Rattle.rustc_lexer.specs.Comment.{slash}
+use Rattle.rustc_lexer.specs.Emoji.{is_emoji}
+use Rattle.rustc_lexer.specs.Ident.{ident, invalid_ident, marked}
+use Rattle.rustc_lexer.specs.Number.{number}
 use Rattle.rustc_lexer.specs.Scan.{gives, run, token_by}
 
 -- the tokens of one symbol
@@ -26,16 +30,34 @@ kind_among (s ∷ ss) c = if c == s.0 then s.1 else kind_among ss c
 abbrev pub symbol_kind : ℕ → TokenKind
 symbol_kind c = kind_among symbols c
 
--- what follows the first character of a white space, and of an identifier
+-- what follows the first character of a white space
 abbrev pub whitespace : List ℕ → TokenKind × ℕ
 whitespace s = run Whitespace is_whitespace s
 
-abbrev pub ident : List ℕ → TokenKind × ℕ
-ident s = run Ident is_id_continue s
+-- what follows an `r`, and what follows a `k`
+abbrev pub letter_r : List ℕ → TokenKind × ℕ
+letter_r s = marked RawIdent ident s
+
+abbrev pub letter_k : List ℕ → TokenKind × ℕ
+letter_k s = marked ForcedKeywordIdent ident s
+
+-- what follows a letter or another start of an identifier
+abbrev pub word : ℕ → List ℕ → TokenKind × ℕ
+word c s = if c == byte "r" then letter_r s else (if c == byte "k" then letter_k s else ident s)
+
+-- a letter that may be more than the start of an identifier
+abbrev pub is_prefix_letter : ℕ → Bool
+is_prefix_letter c = is_among (codes "rk") c
 
 -- what follows the first character, which decides
 unfoldable pub past_first : ℕ → List ℕ → TokenKind × ℕ
-past_first c s = if c == byte "/" then slash s else (if is_whitespace c then whitespace s else (if is_id_start c then ident s else gives (symbol_kind c) s))
+past_first c s =
+    if c == byte "/" then slash s
+    else (if is_whitespace c then whitespace s
+    else (if is_prefix_letter c || is_id_start c then word c s
+    else (if is_ascii_digit c then number c s
+    else (if is_emoji c then invalid_ident s
+    else gives (symbol_kind c) s))))
 
 -- the token at the front of a list of characters: what it is, and how many of them it takes
 abbrev pub lexeme : List ℕ → TokenKind × ℕ

@@ -1,12 +1,20 @@
 -- How far each lexeme looks past its end.
-use Rattle.std.proofs.Common.{◌≡◌, ℕ, ◌==◌, Bool, true, false, if◌then◌else◌, List, [], ◌∷◌, take, refl, sym, ap, ◌∙◌, arith, codes}
+use Rattle.std.proofs.Common.{◌≡◌, ℕ, ◌==◌, ◌||◌, Bool, true, false, if◌then◌else◌, List, [], ◌∷◌, take, refl, sym, ap, ◌∙◌, arith, codes}
 use Rattle.std.specs.Str.{byte}
 use Rattle.std.proofs.lemmas.Bool.{eqb-true}
 use Rattle.rustc_lexer.specs.declared.token.TokenKind.{TokenKind}
-use Rattle.rustc_lexer.specs.declared.token.TokenKind.TheVariants.{LineComment, Slash, Whitespace, Ident, Eof}
+use Rattle.rustc_lexer.specs.declared.token.TokenKind.TheVariants.{LineComment, Slash, Whitespace, RawIdent, ForcedKeywordIdent, Eof}
+use Rattle.std.specs.Char.{is_ascii_digit}
+use Rattle.rustc_lexer.specs.BlockComment.{block_comment}
+use Rattle.rustc_lexer.specs.BlockCommentLaws.{block_comment_local}
+use Rattle.rustc_lexer.specs.Emoji.{is_emoji}
+use Rattle.rustc_lexer.specs.Ident.{ident, invalid_ident}
+use Rattle.rustc_lexer.specs.IdentLaws.{ident_local, invalid_ident_local, marked_local}
+use Rattle.rustc_lexer.specs.Number.{number}
+use Rattle.rustc_lexer.specs.NumberLaws.{number_local}
 use Rattle.rustc_lexer.specs.Classes.{is_whitespace, is_id_start, is_id_continue}
 use Rattle.rustc_lexer.specs.Comment.{line_comment, line_doc_style, is_no_newline, slash}
-use Rattle.rustc_lexer.specs.Lexeme.{whitespace, ident, symbol_kind, past_first, lexeme, first_token}
+use Rattle.rustc_lexer.specs.Lexeme.{whitespace, letter_r, letter_k, word, is_prefix_letter, symbol_kind, past_first, lexeme, first_token}
 use Rattle.rustc_lexer.specs.Reach.{begins-take, begins-length, choice_local, first_local, gives_local, run_local, run_len_local, run_len_le, wider}
 use Rattle.rustc_lexer.specs.Scan.{IsLocal, begins, gives, run_len}
 use Rattle.rustc_lexer.specs.Texts.{IsGrammar}
@@ -39,27 +47,45 @@ line_comment_local = record {
       ap (λ d. (LineComment d, run_len is_no_newline u)) style ∙ ap (λ n. (LineComment (line_doc_style s), n)) same;
 }
 
+-- whether a character stands next
+begins_one : (c : ℕ) (k : ℕ) → 0 < k → (s : List ℕ) → begins (c ∷ []) (take k s) ≡ begins (c ∷ []) s
+begins_one c k some s = begins-take (c ∷ []) k s (omega arith)
+
 pub slash_local : IsLocal TokenKind 1 slash
-slash_local = choice_local 1 1 (begins (codes "/")) line_comment (gives Slash) (λ s. begins-take (codes "/") 1 s (omega arith)) (begins-length (codes "/")) line_comment_local (wider 0 1 (gives Slash) (omega arith) (gives_local Slash))
+slash_local =
+    choice_local 1 1 (begins (codes "/")) line_comment _ (begins_one 47 1 (omega arith)) (begins-length (codes "/")) line_comment_local
+    (choice_local 1 1 (begins (codes "*")) block_comment (gives Slash) (begins_one 42 1 (omega arith)) (begins-length (codes "*")) block_comment_local (wider 0 1 (gives Slash) (omega arith) (gives_local Slash)))
 
 pub whitespace_local : IsLocal TokenKind 1 whitespace
 whitespace_local = run_local Whitespace is_whitespace
 
-pub ident_local : IsLocal TokenKind 1 ident
-ident_local = run_local Ident is_id_continue
+-- each of these letters looks two characters past an identifier: at a hash, and at what follows that
+pub word_local : (c : ℕ) → IsLocal TokenKind 2 (word c)
+word_local c = by_letter (c == 114) (c == 107)
+  where
+    plain : IsLocal TokenKind 2 ident
+    plain = wider 1 2 ident (omega arith) ident_local
+
+    by_letter : (r k : Bool) → IsLocal TokenKind 2 (λ s. if r then letter_r s else (if k then letter_k s else ident s))
+    by_letter true k = marked_local RawIdent ident plain
+    by_letter false true = marked_local ForcedKeywordIdent ident plain
+    by_letter false false = plain
 
 pub symbol_local : (c : ℕ) → IsLocal TokenKind 0 (gives (symbol_kind c))
 symbol_local c = gives_local (symbol_kind c)
 
 past_first_local : (c : ℕ) → IsLocal TokenKind 2 (past_first c)
 unfolding past_first
-past_first_local c = by_class (c == byte "/") (is_whitespace c) (is_id_start c)
+past_first_local c = by_class (c == 47) (is_whitespace c) (is_prefix_letter c || is_id_start c) (is_ascii_digit c) (is_emoji c)
   where
-    by_class : (slashes spaces starts : Bool) → IsLocal TokenKind 2 (λ s. if slashes then slash s else (if spaces then whitespace s else (if starts then ident s else gives (symbol_kind c) s)))
-    by_class true spaces starts = wider 1 2 slash (omega arith) slash_local
-    by_class false true starts = wider 1 2 whitespace (omega arith) whitespace_local
-    by_class false false true = wider 1 2 ident (omega arith) ident_local
-    by_class false false false = wider 0 2 (gives (symbol_kind c)) (omega arith) (symbol_local c)
+    by_class : (slashes spaces words digits emoji : Bool)
+        → IsLocal TokenKind 2 (λ s. if slashes then slash s else (if spaces then whitespace s else (if words then word c s else (if digits then number c s else (if emoji then invalid_ident s else gives (symbol_kind c) s)))))
+    by_class true spaces words digits emoji = wider 1 2 slash (omega arith) slash_local
+    by_class false true words digits emoji = wider 1 2 whitespace (omega arith) whitespace_local
+    by_class false false true digits emoji = word_local c
+    by_class false false false true emoji = number_local c
+    by_class false false false false true = wider 1 2 invalid_ident (omega arith) invalid_ident_local
+    by_class false false false false false = wider 0 2 (gives (symbol_kind c)) (omega arith) (symbol_local c)
 
 pub lexeme_local : IsLocal TokenKind 2 lexeme
 lexeme_local = first_local 2 Eof past_first lexeme (omega arith) refl (λ c s. refl) past_first_local

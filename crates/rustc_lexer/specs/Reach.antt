@@ -104,6 +104,32 @@ choice_local {A} k n test scan other told fits is others = record { inside = λ 
     local s u b e a =
         ap (chosen u) (same s u (chosen s (test s)).1 a ∙ e) ∙ (by_test s u b e (subst (λ (x : Bool). Agree k (chosen s x).1 s u) e a) ∙ ap (chosen s) (sym e))
 
+-- the next characters choose, and none of them is taken
+pub either_local : {A : Type 0} (k : ℕ) (test : List ℕ → Bool) (scan other : List ℕ → A × ℕ)
+    → ((s : List ℕ) → test (take k s) ≡ test s) → IsLocal A k scan → IsLocal A k other → IsLocal A k (λ s. if test s then scan s else other s)
+either_local {A} k test scan other told is others = record { inside = λ s. inside s (test s); local = λ s u. local s u (test s) refl }
+  where
+    chosen : List ℕ → Bool → A × ℕ
+    chosen s b = if b then scan s else other s
+
+    inside : (s : List ℕ) (b : Bool) → (chosen s b).1 ≤ length s
+    inside s true = is.inside s
+    inside s false = others.inside s
+
+    same : (s u : List ℕ) (m : ℕ) → Agree k m s u → test u ≡ test s
+    same s u m a =
+        let zero-plus : 0 + m ≡ m = omega arith in
+        let here : Agree k 0 s u = agree_before k 0 m s u (rw zero-plus a) in
+        sym (told u) ∙ (ap test (sym here.past) ∙ told s)
+
+    by_test : (s u : List ℕ) (b : Bool) → Agree k (chosen s b).1 s u → chosen u b ≡ chosen s b
+    by_test s u true a = is.local s u a
+    by_test s u false a = others.local s u a
+
+    local : (s u : List ℕ) (b : Bool) → test s ≡ b → Agree k (chosen s (test s)).1 s u → chosen u (test u) ≡ chosen s (test s)
+    local s u b e a =
+        ap (chosen u) (same s u (chosen s (test s)).1 a ∙ e) ∙ (by_test s u b (subst (λ (x : Bool). Agree k (chosen s x).1 s u) e a) ∙ ap (chosen s) (sym e))
+
 -- the first character chooses, and is taken
 pub first_local : {A : Type 0} (k : ℕ) (end : A) (past_first : ℕ → List ℕ → A × ℕ) (scan : List ℕ → A × ℕ) → 0 < k
     → scan [] ≡ (end, 0) → ((c : ℕ) (s : List ℕ) → scan (c ∷ s) ≡ ((past_first c s).0, suc (past_first c s).1)) → ((c : ℕ) → IsLocal A k (past_first c)) → IsLocal A k scan
