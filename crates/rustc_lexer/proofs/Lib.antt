@@ -1,3 +1,4 @@
+pub mod BlockCommentLemmas
 pub mod BlockCommentLoop
 pub mod CharSteps
 pub mod ClassLemmas
