@@ -6,9 +6,13 @@ use Rattle.std.proofs.lemmas.Str.{IsCharBoundary-from_drop}
 use Rattle.rustc_lexer.specs.declared.token.Token.{Token}
 use Rattle.rustc_lexer.specs.declared.token.TokenKind.{TokenKind}
 use Rattle.rustc_lexer.specs.declared.token.TokenKind.TheVariants.{Eof}
-use Rattle.rustc_lexer.specs.Classes.{is_whitespace, is_id_start}
+use Rattle.std.specs.Char.{is_ascii_digit}
+use Rattle.rustc_lexer.specs.Classes.{is_whitespace}
+use Rattle.rustc_lexer.specs.Emoji.{is_emoji}
+use Rattle.rustc_lexer.specs.Ident.{invalid_ident}
+use Rattle.rustc_lexer.specs.Number.{number}
 use Rattle.rustc_lexer.specs.Comment.{slash}
-use Rattle.rustc_lexer.specs.Lexeme.{whitespace, ident, symbol_kind, past_first, lexeme, first_token}
+use Rattle.rustc_lexer.specs.Lexeme.{whitespace, begins_word, word, symbol_kind, past_first, lexeme, first_token}
 use Rattle.rustc_lexer.specs.Scan.{bytes_of, gives, past, scanned}
 use Rattle.rustc_lexer.proofs.PastLemmas.{past-past, past-drop, IsUtf8-past, length-past}
 use Rattle.rustc_lexer.proofs.ScanLemmas.{scanned-same}
@@ -22,13 +26,21 @@ module _ (c : ℕ) (text : List ℕ) where
   unfolding past_first
   pick-whitespace e f = scanned-same (past_first c) whitespace text (rw (ne_eqb c 47 e, f) refl)
 
-  pub pick-ident : c ≢ 47 → is_whitespace c ≡ false → is_id_start c ≡ true → scanned (past_first c) text ≡ scanned ident text
+  pub pick-word : c ≢ 47 → is_whitespace c ≡ false → begins_word c ≡ true → scanned (past_first c) text ≡ scanned (word c) text
   unfolding past_first
-  pick-ident e f g = scanned-same (past_first c) ident text (rw (ne_eqb c 47 e, f, g) refl)
+  pick-word e f g = scanned-same (past_first c) (word c) text (rw (ne_eqb c 47 e, f, g) refl)
 
-  pub pick-symbol : c ≢ 47 → is_whitespace c ≡ false → is_id_start c ≡ false → scanned (past_first c) text ≡ scanned (gives (symbol_kind c)) text
+  pub pick-number : c ≢ 47 → is_whitespace c ≡ false → begins_word c ≡ false → is_ascii_digit c ≡ true → scanned (past_first c) text ≡ scanned (number c) text
   unfolding past_first
-  pick-symbol e f g = scanned-same (past_first c) (gives (symbol_kind c)) text (rw (ne_eqb c 47 e, f, g) refl)
+  pick-number e f g h = scanned-same (past_first c) (number c) text (rw (ne_eqb c 47 e, f, g, h) refl)
+
+  pub pick-emoji : c ≢ 47 → is_whitespace c ≡ false → begins_word c ≡ false → is_ascii_digit c ≡ false → is_emoji c ≡ true → scanned (past_first c) text ≡ scanned invalid_ident text
+  unfolding past_first
+  pick-emoji e f g h i = scanned-same (past_first c) invalid_ident text (rw (ne_eqb c 47 e, f, g, h, i) refl)
+
+  pub pick-symbol : c ≢ 47 → is_whitespace c ≡ false → begins_word c ≡ false → is_ascii_digit c ≡ false → is_emoji c ≡ false → scanned (past_first c) text ≡ scanned (gives (symbol_kind c)) text
+  unfolding past_first
+  pick-symbol e f g h i = scanned-same (past_first c) (gives (symbol_kind c)) text (rw (ne_eqb c 47 e, f, g, h, i) refl)
 
 -- the token, once what follows the first character is known
 module _ (text tail rest : List ℕ) (c : ℕ) (kind : TokenKind) (is : IsUtf8 text) (cs : chars text ≡ c ∷ chars tail) (e : tail ≡ past 1 text) (f : (kind, rest) ≡ scanned (past_first c) tail) where

@@ -1,12 +1,20 @@
 -- Where the suffix of a token begins.
-use Rattle.std.proofs.Common.{◌≡◌, ℕ, ◌==◌, Bool, true, false, if◌then◌else◌, List, [], ◌∷◌, refl, arith, rules, codes}
+use Rattle.std.proofs.Common.{◌≡◌, ℕ, ◌==◌, Bool, true, false, if◌then◌else◌, List, [], ◌∷◌, take, drop, refl, arith, rules, codes, ◌≤◌, ◌+◌}
 use Rattle.std.specs.Str.{chars}
 use Rattle.rustc_lexer.specs.declared.token.TokenKind.{TokenKind}
-use Rattle.rustc_lexer.specs.declared.token.TokenKind.TheVariants.{Slash}
-use Rattle.rustc_lexer.specs.Classes.{is_whitespace, is_id_start}
+use Rattle.rustc_lexer.specs.declared.token.TokenKind.TheVariants.{Slash, Ident, InvalidIdent, UnknownPrefix, RawIdent, ForcedKeywordIdent}
+use Rattle.std.specs.Char.{is_ascii_digit}
+use Rattle.std.specs.List.{list_all}
+use Rattle.rustc_lexer.specs.BlockComment.{block_comment}
+use Rattle.rustc_lexer.specs.Classes.{is_whitespace, is_id_continue}
+use Rattle.rustc_lexer.specs.Emoji.{is_emoji}
+use Rattle.rustc_lexer.specs.Ident.{is_word, is_prefix_mark, ident, invalid_ident, marks_ident, marked}
+use Rattle.rustc_lexer.specs.Number.{number_body, number}
+use Rattle.rustc_lexer.proofs.BlockCommentLemmas.{block_comment-none}
+use Rattle.rustc_lexer.proofs.LiteralSuffix.{literal-suffix, suffix-first}
 use Rattle.rustc_lexer.specs.Comment.{slash, line_comment}
-use Rattle.rustc_lexer.specs.Lexeme.{whitespace, ident, symbols, kind_among, symbol_kind, past_first, lexeme, first_token}
-use Rattle.rustc_lexer.specs.Scan.{after, begins, gives}
+use Rattle.rustc_lexer.specs.Lexeme.{whitespace, letter_r, letter_k, begins_word, word, symbols, kind_among, symbol_kind, past_first, lexeme, first_token}
+use Rattle.rustc_lexer.specs.Scan.{after, begins, bytes_of, gives, next_is, run, run_len}
 use Rattle.rustc_lexer.specs.State.{suffix_start_of, HasSuffixWithin}
 
 abbrev HaveNone : List (ℕ × TokenKind) → Type 0
@@ -21,24 +29,61 @@ kind_among-none (s ∷ ss) c h =
 symbol_kind-none : (c : ℕ) → suffix_start_of (symbol_kind c) ≡ 0
 symbol_kind-none c = kind_among-none symbols c (search rules)
 
-past_first-none : (c : ℕ) (s : List ℕ) → suffix_start_of (past_first c s).0 ≡ 0
-unfolding past_first
-past_first-none c s = by_class (c == 47) (is_whitespace c) (is_id_start c)
+-- where the suffix begins lies in the token, whose first character is at least one byte long
+abbrev Within : TokenKind × ℕ → List ℕ → Type 0
+Within read s = suffix_start_of read.0 ≤ 1 + bytes_of read.1 s
+
+no_suffix : (read : TokenKind × ℕ) (s : List ℕ) → suffix_start_of read.0 ≡ 0 → Within read s
+no_suffix read s e = omega arith
+
+ident-none : (s : List ℕ) → suffix_start_of (ident s).0 ≡ 0
+ident-none s = by_kind (list_all is_id_continue (take (run_len is_word s) s)) (next_is is_prefix_mark (drop (run_len is_word s) s))
   where
-    by_slash : (b : Bool) → suffix_start_of (if b then after 1 line_comment s else gives Slash s).0 ≡ 0
-    by_slash true = refl
-    by_slash false = refl
+    by_kind : (plain marked : Bool) → suffix_start_of (if plain then (if marked then UnknownPrefix else Ident) else InvalidIdent) ≡ 0
+    by_kind true true = refl
+    by_kind true false = refl
+    by_kind false marked = refl
 
-    by_class : (slashes spaces starts : Bool) → suffix_start_of (if slashes then slash s else (if spaces then whitespace s else (if starts then ident s else gives (symbol_kind c) s))).0 ≡ 0
-    by_class true spaces starts = by_slash (begins (codes "/") s)
-    by_class false true starts = refl
-    by_class false false true = refl
-    by_class false false false = symbol_kind-none c
+slash-none : (s : List ℕ) → suffix_start_of (slash s).0 ≡ 0
+slash-none s = by_mark (begins (codes "/") s) (begins (codes "*") s)
+  where
+    by_mark : (lines blocks : Bool) → suffix_start_of (if lines then after 1 line_comment s else (if blocks then after 1 block_comment s else gives Slash s)).0 ≡ 0
+    by_mark true blocks = refl
+    by_mark false true = block_comment-none (drop 1 s)
+    by_mark false false = refl
 
-lexeme-none : (s : List ℕ) → suffix_start_of (lexeme s).0 ≡ 0
-lexeme-none [] = refl
-lexeme-none (c ∷ s) = past_first-none c s
+marked-none : (kind : TokenKind) (s : List ℕ) → suffix_start_of kind ≡ 0 → suffix_start_of (marked kind ident s).0 ≡ 0
+marked-none kind s e = by_mark (marks_ident s)
+  where
+    by_mark : (b : Bool) → suffix_start_of (if b then after 2 (run kind is_id_continue) s else ident s).0 ≡ 0
+    by_mark true = e
+    by_mark false = ident-none s
+
+word-within : (c : ℕ) (s : List ℕ) → Within (word c s) s
+word-within c s = by_letter (c == 114) (c == 107)
+  where
+    by_letter : (r k : Bool) → Within (if r then letter_r s else (if k then letter_k s else ident s)) s
+    by_letter true k = no_suffix (letter_r s) s (marked-none RawIdent s refl)
+    by_letter false true = no_suffix (letter_k s) s (marked-none ForcedKeywordIdent s refl)
+    by_letter false false = no_suffix (ident s) s (ident-none s)
+
+past_first-within : (c : ℕ) (s : List ℕ) → Within (past_first c s) s
+unfolding past_first
+past_first-within c s = by_class (c == 47) (is_whitespace c) (begins_word c) (is_ascii_digit c) (is_emoji c)
+  where
+    by_class : (slashes spaces words digits emoji : Bool)
+        → Within (if slashes then slash s else (if spaces then whitespace s else (if words then word c s else (if digits then number c s else (if emoji then invalid_ident s else gives (symbol_kind c) s))))) s
+    by_class true spaces words digits emoji = no_suffix (slash s) s (slash-none s)
+    by_class false true words digits emoji = no_suffix (whitespace s) s refl
+    by_class false false true digits emoji = word-within c s
+    by_class false false false true emoji = literal-suffix (number_body c) s
+    by_class false false false false true = no_suffix (invalid_ident s) s refl
+    by_class false false false false false = no_suffix (gives (symbol_kind c) s) s (symbol_kind-none c)
+
+lexeme-within : (s : List ℕ) → suffix_start_of (lexeme s).0 ≤ bytes_of (lexeme s).1 s
+lexeme-within [] = omega arith
+lexeme-within (c ∷ s) = suffix-first (past_first c s).0 (past_first c s).1 c s (past_first-within c s)
 
 pub first_token-suffix : (text : List ℕ) → HasSuffixWithin (first_token text)
 unfolding first_token
-first_token-suffix text = omega (arith, lexeme-none (chars text))
+first_token-suffix text = lexeme-within (chars text)

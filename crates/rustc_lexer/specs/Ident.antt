@@ -1,7 +1,6 @@
 -- Identifiers, with what may stand before and after them.
-use Rattle.std.specs.Prelude.{ℕ, ◌+◌, ◌||◌, ◌&&◌, Bool, if◌then◌else◌, List, [], ◌∷◌, take, drop, codes}
+use Rattle.std.specs.Prelude.{ℕ, ◌||◌, ◌&&◌, Bool, if◌then◌else◌, List, take, drop, codes}
 use Rattle.std.specs.List.{list_all}
-use Rattle.std.specs.Str.{byte}
 use Rattle.rustc_lexer.specs.declared.token.TokenKind.{TokenKind}
 use Rattle.rustc_lexer.specs.declared.token.TokenKind.TheVariants.{Ident, InvalidIdent, UnknownPrefix}
 use Rattle.rustc_lexer.specs.Classes.{is_among, is_id_start, is_id_continue}

@@ -1,5 +1,5 @@
 -- The token at the front of a text.
-use Rattle.std.specs.Prelude.{ℕ, suc, ◌==◌, if◌then◌else◌, List, [], ◌∷◌}
+use Rattle.std.specs.Prelude.{ℕ, suc, ◌==◌, if◌then◌else◌, List, [], ◌∷◌, Bool, ◌||◌, codes}
 use Rattle.std.specs.Char.{is_ascii_digit}
 use Rattle.std.specs.Str.{byte}
 use Rattle.rustc_lexer.specs.declared.token.Token.{Token}
@@ -45,16 +45,16 @@ letter_k s = marked ForcedKeywordIdent ident s
 abbrev pub word : ℕ → List ℕ → TokenKind × ℕ
 word c s = if c == byte "r" then letter_r s else (if c == byte "k" then letter_k s else ident s)
 
--- a letter that may be more than the start of an identifier
-abbrev pub is_prefix_letter : ℕ → Bool
-is_prefix_letter c = is_among (codes "rk") c
+-- a letter that may be more than the start of an identifier, or another start of one
+abbrev pub begins_word : ℕ → Bool
+begins_word c = is_among (codes "rk") c || is_id_start c
 
 -- what follows the first character, which decides
 unfoldable pub past_first : ℕ → List ℕ → TokenKind × ℕ
 past_first c s =
     if c == byte "/" then slash s
     else (if is_whitespace c then whitespace s
-    else (if is_prefix_letter c || is_id_start c then word c s
+    else (if begins_word c then word c s
     else (if is_ascii_digit c then number c s
     else (if is_emoji c then invalid_ident s
     else gives (symbol_kind c) s))))

@@ -1,6 +1,5 @@
 -- How far each lexeme looks past its end.
-use Rattle.std.proofs.Common.{◌≡◌, ℕ, ◌==◌, ◌||◌, Bool, true, false, if◌then◌else◌, List, [], ◌∷◌, take, refl, sym, ap, ◌∙◌, arith, codes}
-use Rattle.std.specs.Str.{byte}
+use Rattle.std.proofs.Common.{◌≡◌, ℕ, ◌==◌, Bool, true, false, if◌then◌else◌, List, [], ◌∷◌, take, refl, sym, ap, ◌∙◌, arith, codes, ◌<◌}
 use Rattle.std.proofs.lemmas.Bool.{eqb-true}
 use Rattle.rustc_lexer.specs.declared.token.TokenKind.{TokenKind}
 use Rattle.rustc_lexer.specs.declared.token.TokenKind.TheVariants.{LineComment, Slash, Whitespace, RawIdent, ForcedKeywordIdent, Eof}
@@ -12,9 +11,9 @@ use Rattle.rustc_lexer.specs.Ident.{ident, invalid_ident}
 use Rattle.rustc_lexer.specs.IdentLaws.{ident_local, invalid_ident_local, marked_local}
 use Rattle.rustc_lexer.specs.Number.{number}
 use Rattle.rustc_lexer.specs.NumberLaws.{number_local}
-use Rattle.rustc_lexer.specs.Classes.{is_whitespace, is_id_start, is_id_continue}
+use Rattle.rustc_lexer.specs.Classes.{is_whitespace}
 use Rattle.rustc_lexer.specs.Comment.{line_comment, line_doc_style, is_no_newline, slash}
-use Rattle.rustc_lexer.specs.Lexeme.{whitespace, letter_r, letter_k, word, is_prefix_letter, symbol_kind, past_first, lexeme, first_token}
+use Rattle.rustc_lexer.specs.Lexeme.{whitespace, letter_r, letter_k, word, begins_word, symbol_kind, past_first, lexeme, first_token}
 use Rattle.rustc_lexer.specs.Reach.{begins-take, begins-length, choice_local, first_local, gives_local, run_local, run_len_local, run_len_le, wider}
 use Rattle.rustc_lexer.specs.Scan.{IsLocal, begins, gives, run_len}
 use Rattle.rustc_lexer.specs.Texts.{IsGrammar}
@@ -76,7 +75,7 @@ symbol_local c = gives_local (symbol_kind c)
 
 past_first_local : (c : ℕ) → IsLocal TokenKind 2 (past_first c)
 unfolding past_first
-past_first_local c = by_class (c == 47) (is_whitespace c) (is_prefix_letter c || is_id_start c) (is_ascii_digit c) (is_emoji c)
+past_first_local c = by_class (c == 47) (is_whitespace c) (begins_word c) (is_ascii_digit c) (is_emoji c)
   where
     by_class : (slashes spaces words digits emoji : Bool)
         → IsLocal TokenKind 2 (λ s. if slashes then slash s else (if spaces then whitespace s else (if words then word c s else (if digits then number c s else (if emoji then invalid_ident s else gives (symbol_kind c) s)))))

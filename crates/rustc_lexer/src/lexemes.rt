@@ -1,5 +1,5 @@
 //! The token at the front of a text: a choice by its first character, and a function for each family.
-ghost use Rattle.std.specs.Prelude.{◌≡◌, ◌≤◌, ◌<◌, ◌^◌, length};
+ghost use Rattle.std.specs.Prelude.{◌≡◌, ◌+◌, ◌≤◌, ◌<◌, ◌^◌, length};
 ghost use Rattle.std.specs.Str.{IsCharBoundary};
 ghost use Rattle.rustc_lexer.specs.declared.token.TokenKind.{TokenKind};
 ghost use Rattle.rustc_lexer.specs.Classes.{Fits};
@@ -8,8 +8,11 @@ ghost use Rattle.rustc_lexer.specs.Scan.{IsLocal, scanned};
 ghost use Rattle.rustc_lexer.specs.State.{HasSuffixWithin};
 ghost use Rattle.rustc_lexer.specs.Texts.{IsGrammar};
 
-use crate::classes::{is_id_continue, is_id_start, is_whitespace};
+use crate::classes::emoji::is_emoji;
+use crate::classes::is_whitespace;
 use crate::lexemes::comment::slash;
+use crate::lexemes::ident::invalid_ident;
+use crate::lexemes::word::begins_word;
 use crate::scan::{eat_while, split_first};
 use crate::token::{Token, TokenKind};
 
@@ -18,6 +21,7 @@ mod comment;
 mod ident;
 mod literal;
 mod number;
+mod word;
 
 /// The token at the front of a text. At the end of the text it is `Eof`, of length 0.
 pub(crate) fn lexeme(text: &str) -> Token
@@ -44,14 +48,19 @@ pub(crate) fn lexeme(text: &str) -> Token
 
 /// The kind of the token that begins with `first`, and what the token leaves of what follows that.
 fn past_first(first: char, tail: &str) -> (TokenKind, &str)
+    requires fits { length tail.now + 1 < 2 ^ 32 }
     ensures { (result.0, result.1.now) ≡ scanned (spec.past_first first) tail.now }
 {
     if first == '/' {
         slash(tail)
     } else if is_whitespace(first) {
         (TokenKind::Whitespace, eat_while(tail, is_whitespace))
-    } else if is_id_start(first) {
-        (TokenKind::Ident, eat_while(tail, is_id_continue))
+    } else if begins_word(first) {
+        word::word(first, tail)
+    } else if first.is_ascii_digit() {
+        number::number(first, tail)
+    } else if is_emoji(first) {
+        invalid_ident(tail)
     } else {
         (symbol_kind(first), tail)
     }

@@ -4,6 +4,7 @@ ghost use Rattle.std.specs.Str.{chars};
 ghost use Rattle.rustc_lexer.specs.Comment as spec;
 ghost use Rattle.rustc_lexer.specs.Scan.{scanned};
 
+use crate::lexemes::block_comment::block_comment;
 use crate::scan::{eat_while, first, second, strip};
 use crate::token::{DocStyle, TokenKind};
 
@@ -11,9 +12,12 @@ use crate::token::{DocStyle, TokenKind};
 pub(crate) fn slash(rest: &str) -> (TokenKind, &str)
     ensures { (result.0, result.1.now) ≡ scanned spec.slash rest.now }
 {
-    match strip(rest, '/') {
-        Some(body) => line_comment(body),
-        None => (TokenKind::Slash, rest),
+    if let Some(body) = strip(rest, '/') {
+        line_comment(body)
+    } else if let Some(body) = strip(rest, '*') {
+        block_comment(body)
+    } else {
+        (TokenKind::Slash, rest)
     }
 }
 

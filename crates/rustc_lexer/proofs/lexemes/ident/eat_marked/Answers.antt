@@ -1,4 +1,3 @@
-use Rattle.std.proofs.Common.{◌≡◌, sym, subst, ◌∙◌}
 use Rattle.rustc_lexer.specs.Classes.{is_id_continue}
 use Rattle.rustc_lexer.proofs.IdentLemmas.{marks-none, marks-by, past-marked}
 use Rattle.rustc_lexer.proofs.lexemes.ident.eat_marked.Goals as goal

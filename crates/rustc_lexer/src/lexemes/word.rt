@@ -1,0 +1,47 @@
+//! What begins with a letter: identifiers, and the literals that a letter marks.
+ghost use Rattle.std.specs.Prelude.{◌≡◌, ◌+◌, ◌<◌, ◌^◌, length};
+ghost use Rattle.rustc_lexer.specs.Lexeme as spec;
+ghost use Rattle.rustc_lexer.specs.Scan.{scanned};
+
+use crate::classes::is_id_start;
+use crate::lexemes::ident::{eat_marked, ident};
+use crate::token::TokenKind;
+
+/// Whether an identifier begins with the character, or a literal that a letter marks.
+pub(crate) fn begins_word(c: char) -> bool
+    ensures { result ≡ spec.begins_word c }
+{
+    matches!(c, 'r' | 'k') || is_id_start(c)
+}
+
+/// What begins with `first`. `tail` is what follows that.
+pub(crate) fn word(first: char, tail: &str) -> (TokenKind, &str)
+    requires fits { length tail.now + 1 < 2 ^ 32 }
+    ensures { (result.0, result.1.now) ≡ scanned (spec.word first) tail.now }
+{
+    match first {
+        'r' => letter_r(tail),
+        'k' => letter_k(tail),
+        _ => ident(tail),
+    }
+}
+
+/// What begins with an `r`: a raw identifier, or an identifier.
+fn letter_r(tail: &str) -> (TokenKind, &str)
+    ensures { (result.0, result.1.now) ≡ scanned spec.letter_r tail.now }
+{
+    match eat_marked(tail) {
+        Some(rest) => (TokenKind::RawIdent, rest),
+        None => ident(tail),
+    }
+}
+
+/// What begins with a `k`: a forced keyword, or an identifier.
+fn letter_k(tail: &str) -> (TokenKind, &str)
+    ensures { (result.0, result.1.now) ≡ scanned spec.letter_k tail.now }
+{
+    match eat_marked(tail) {
+        Some(rest) => (TokenKind::ForcedKeywordIdent, rest),
+        None => ident(tail),
+    }
+}
