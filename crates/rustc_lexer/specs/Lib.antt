@@ -1,9 +1,14 @@
 pub mod Classes
 pub mod Comment
+pub mod Emoji
 pub mod Lexeme
+pub mod Lifetime
 pub mod Literal
 pub mod LiteralLaws
+pub mod LocalAt
 pub mod Lookahead
+pub mod Quoted
+pub mod QuotedLaws
 pub mod Reach
 pub mod Scan
 pub mod State

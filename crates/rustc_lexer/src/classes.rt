@@ -2,6 +2,8 @@
 ghost use Rattle.std.specs.Prelude.{◌≡◌, ◌↔◌, IsTrue};
 ghost use Rattle.rustc_lexer.specs.Classes;
 
+pub(crate) mod emoji;
+
 /// The version of Unicode that this crate names as its own. No answer rests on it.
 pub const UNICODE_VERSION: (u8, u8, u8) = (18, 0, 0);
 

@@ -14,7 +14,9 @@ use crate::scan::{eat_while, split_first};
 use crate::token::{Token, TokenKind};
 
 mod comment;
+
 mod literal;
+mod quoted;
 
 /// The token at the front of a text. At the end of the text it is `Eof`, of length 0.
 pub(crate) fn lexeme(text: &str) -> Token

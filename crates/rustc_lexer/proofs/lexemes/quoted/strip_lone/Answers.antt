@@ -1,0 +1,9 @@
+use Rattle.std.proofs.Common.{◌≡◌, ◌∷◌, ap, MatchOption, true, false}
+use Rattle.std.specs.Str.{chars}
+use Rattle.rustc_lexer.specs.Quoted.{is_lone}
+use Rattle.rustc_lexer.specs.Scan.{past}
+use Rattle.rustc_lexer.proofs.QuotedLoop.{lone-found}
+use Rattle.rustc_lexer.proofs.lexemes.quoted.strip_lone.Goals as goal
+
+pub returns : goal.returns
+returns c = lone-found _ _ _ c.utf8.body c.in_ok-first.ensures.0 c.in_ok-first.ensures.1 c.if-first-eq92.false _ c.strip.ensures
