@@ -1,6 +1,7 @@
 pub mod CharSteps
 pub mod LexemeLemmas
 pub mod PastLemmas
+pub mod QuotedLemmas
 pub mod QuotedLoop
 pub mod RunLemmas
 pub mod ScanLemmas

@@ -77,6 +77,74 @@ fn stops_open(c: char, tail: &str) -> bool
     c == '/' || (c == '\n' && strip(tail, '\'').is_none())
 }
 
+/// A string, `tail` being what follows its quote: the token, and what it leaves.
+pub(crate) fn str_literal(tail: &str) -> (TokenKind, &str)
+    requires fits { length tail.now + 1 < 2 ^ 32 }
+    ensures { (result.0, result.1.now) ≡ scanned (literal spec.str_body) tail.now }
+{
+    let (terminated, rest) = double_quoted(tail);
+    with_suffix(LiteralKind::Str { terminated }, terminated, tail, rest)
+}
+
+/// A byte string. `tail` is what follows its `b`, and `body` what follows the quote.
+pub(crate) fn byte_str_literal<'a>(tail: &str, body: &'a str) -> (TokenKind, &'a str)
+    requires body { body.now ≡ past 1 tail.now }
+    requires fits { length tail.now + 1 < 2 ^ 32 }
+    ensures { (result.0, result.1.now) ≡ scanned (literal (after 1 spec.byte_str_body)) tail.now }
+{
+    let (terminated, rest) = double_quoted(body);
+    with_suffix(LiteralKind::ByteStr { terminated }, terminated, tail, rest)
+}
+
+/// A C string. `tail` is what follows its `c`, and `body` what follows the quote.
+pub(crate) fn c_str_literal<'a>(tail: &str, body: &'a str) -> (TokenKind, &'a str)
+    requires body { body.now ≡ past 1 tail.now }
+    requires fits { length tail.now + 1 < 2 ^ 32 }
+    ensures { (result.0, result.1.now) ≡ scanned (literal (after 1 spec.c_str_body)) tail.now }
+{
+    let (terminated, rest) = double_quoted(body);
+    with_suffix(LiteralKind::CStr { terminated }, terminated, tail, rest)
+}
+
+/// A character, `tail` being what follows its quote.
+pub(crate) fn char_literal(tail: &str) -> (TokenKind, &str)
+    requires fits { length tail.now + 1 < 2 ^ 32 }
+    ensures { (result.0, result.1.now) ≡ scanned (literal spec.char_body) tail.now }
+{
+    let (terminated, rest) = single_quoted(tail);
+    with_suffix(LiteralKind::Char { terminated }, terminated, tail, rest)
+}
+
+/// A byte. `tail` is what follows its `b`, and `body` what follows the quote.
+pub(crate) fn byte_literal<'a>(tail: &str, body: &'a str) -> (TokenKind, &'a str)
+    requires body { body.now ≡ past 1 tail.now }
+    requires fits { length tail.now + 1 < 2 ^ 32 }
+    ensures { (result.0, result.1.now) ≡ scanned (literal (after 1 spec.byte_body)) tail.now }
+{
+    let (terminated, rest) = single_quoted(body);
+    with_suffix(LiteralKind::Byte { terminated }, terminated, tail, rest)
+}
+
+/// The literal whose body is all of `tail` up to `rest`, with its suffix where it takes one, and what it leaves.
+pub(crate) fn with_suffix<'a>(
+    kind: LiteralKind,
+    takes_suffix: bool,
+    tail: &str,
+    rest: &'a str,
+) -> (TokenKind, &'a str)
+    requires inside { length rest.now ≤ length tail.now }
+    requires fits { length tail.now + 1 < 2 ^ 32 }
+    ensures { (body : List ℕ → Body × ℕ) → (record { kind = kind; takes_suffix = takes_suffix }, rest.now) ≡ scanned body tail.now
+        → (result.0, result.1.now) ≡ scanned (literal body) tail.now }
+{
+    let token = literal(kind, tail, rest);
+    if takes_suffix {
+        (token, eat_suffix(rest))
+    } else {
+        (token, rest)
+    }
+}
+
 /// How far quoted text and its literals look past their end.
 pub(crate) fn quoted_lookahead()
     ensures double { IsLocal Bool 1 spec.double_quoted }
