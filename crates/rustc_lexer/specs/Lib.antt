@@ -3,6 +3,7 @@ pub mod Comment
 pub mod Emoji
 pub mod Lexeme
 pub mod Lifetime
+pub mod LifetimeLaws
 pub mod Literal
 pub mod LiteralLaws
 pub mod LocalAt

@@ -33,18 +33,11 @@ agree_more k n s u a =
       past = rw (sum, take-add 1 k (drop n s), take-add 1 k (drop n u), r.below, r.past) refl;
     }
 
--- texts that agree anywhere agree at the front
-pub agree_front : (k n : ℕ) (s u : List ℕ) → Agree k n s u → take k s ≡ take k u
-agree_front k n s u a = let z : 0 + n ≡ n = omega arith in (agree_before k 0 n s u (rw z a)).past
-
--- texts that agree past some characters agree at the front one further
-pub agree_front_more : (k n : ℕ) (s u : List ℕ) → 0 < n → Agree k n s u → take (suc k) s ≡ take (suc k) u
-agree_front_more k zero s u some a = absurd (omega arith)
-agree_front_more k (suc n) s u some a = agree_front (suc k) n s u (agree_more k n s u a)
-
--- texts that agree on some characters, and no further, agree at the front so far
-pub agree_below : (k n : ℕ) (s u : List ℕ) → k ≤ n → take n s ≡ take n u → take k s ≡ take k u
-agree_below k n s u le e = sym (take-take k n s le) ∙ (ap (take k) e ∙ take-take k n u le)
+-- texts that agree on some characters, and on some more, agree on as many characters of the front
+pub agree_upto : (j k n : ℕ) (s u : List ℕ) → j ≤ n + k → Agree k n s u → take j s ≡ take j u
+agree_upto j k n s u le a =
+    let all : take (n + k) s ≡ take (n + k) u = rw (take-add n k s, take-add n k u, a.below, a.past) refl in
+    sym (take-take j (n + k) s le) ∙ (ap (take j) all ∙ take-take j (n + k) u le)
 
 -- a text that agrees with all of another, and past it, is that text
 pub same_text : (reach : ℕ) → 0 < reach → (s u : List ℕ) → Agree reach (length s) s u → u ≡ s
@@ -56,6 +49,9 @@ same_text reach some s u h =
 -- a test that is told by the next characters
 abbrev pub IsToldBy : ℕ → (List ℕ → Bool) → Type 0
 IsToldBy k test = (s : List ℕ) → test (take k s) ≡ test s
+
+pub told_same : (j k n : ℕ) (test : List ℕ → Bool) (s u : List ℕ) → IsToldBy j test → j ≤ n + k → Agree k n s u → test u ≡ test s
+told_same j k n test s u told le a = sym (told u) ∙ (ap test (sym (agree_upto j k n s u le a)) ∙ told s)
 
 pub wider_at : {A : Type 0} (j k : ℕ) (scan : List ℕ → A × ℕ) (s : List ℕ) → j ≤ k → IsLocalAt A j scan s → IsLocalAt A k scan s
 wider_at j k scan s le is = record {
@@ -100,38 +96,42 @@ after_at {A} k n scan s fits is = record {
 abbrev pub either : {A : Type 0} → (List ℕ → Bool) → (List ℕ → A × ℕ) → (List ℕ → A × ℕ) → List ℕ → A × ℕ
 either test scan other s = if test s then scan s else other s
 
-module _ {A : Type 0} (k : ℕ) (test : List ℕ → Bool) (scan other : List ℕ → A × ℕ) (told : IsToldBy k test) where
-  by_told : (s u : List ℕ) (n : ℕ) (b : Bool) → test s ≡ b → Agree k n s u → test u ≡ b
-  by_told s u n b t a = sym (told u) ∙ (ap test (sym (agree_front k n s u a)) ∙ (told s ∙ t))
-
+module _ {A : Type 0} (k : ℕ) (test : List ℕ → Bool) (scan other : List ℕ → A × ℕ) where
   is_yes : (s : List ℕ) → test s ≡ true → either test scan other s ≡ scan s
   is_yes s t = rw t refl
 
   is_no : (s : List ℕ) → test s ≡ false → either test scan other s ≡ other s
   is_no s t = rw t refl
 
-  pub yes_at : (s : List ℕ) → test s ≡ true → IsLocalAt A k scan s → IsLocalAt A k (either test scan other) s
-  yes_at s t is = record {
+  pub yes_at : (s : List ℕ) → test s ≡ true → ((u : List ℕ) → Agree k (scan s).1 s u → test u ≡ test s) → IsLocalAt A k scan s → IsLocalAt A k (either test scan other) s
+  yes_at s t same is = record {
     inside = rw (is_yes s t) is.inside;
     local = λ u a.
         let h : Agree k (scan s).1 s u = rw (is_yes s t) at a in
-        is_yes u (by_told s u (scan s).1 true t h) ∙ (is.local u h ∙ sym (is_yes s t));
+        is_yes u (same u h ∙ t) ∙ (is.local u h ∙ sym (is_yes s t));
   }
 
-  pub no_at : (s : List ℕ) → test s ≡ false → IsLocalAt A k other s → IsLocalAt A k (either test scan other) s
-  no_at s t is = record {
+  pub no_at : (s : List ℕ) → test s ≡ false → ((u : List ℕ) → Agree k (other s).1 s u → test u ≡ test s) → IsLocalAt A k other s → IsLocalAt A k (either test scan other) s
+  no_at s t same is = record {
     inside = rw (is_no s t) is.inside;
     local = λ u a.
         let h : Agree k (other s).1 s u = rw (is_no s t) at a in
-        is_no u (by_told s u (other s).1 false t h) ∙ (is.local u h ∙ sym (is_no s t));
+        is_no u (same u h ∙ t) ∙ (is.local u h ∙ sym (is_no s t));
   }
 
-  pub either_local : ((s : List ℕ) → test s ≡ true → IsLocalAt A k scan s) → ((s : List ℕ) → test s ≡ false → IsLocalAt A k other s) → IsLocal A k (either test scan other)
-  either_local yes_local no_local = local_by k (either test scan other) (λ s. by_test s (test s) refl)
+  pub either_local : IsToldBy k test → ((s : List ℕ) → test s ≡ true → IsLocalAt A k scan s) → ((s : List ℕ) → test s ≡ false → IsLocalAt A k other s) → IsLocal A k (either test scan other)
+  either_local told yes_local no_local = local_by k (either test scan other) (λ s. by_test s (test s) refl)
     where
       by_test : (s : List ℕ) (b : Bool) → test s ≡ b → IsLocalAt A k (either test scan other) s
-      by_test s true t = yes_at s t (yes_local s t)
-      by_test s false t = no_at s t (no_local s t)
+      by_test s true t = yes_at s t (λ u a. told_same k k (scan s).1 test s u told (omega arith) a) (yes_local s t)
+      by_test s false t = no_at s t (λ u a. told_same k k (other s).1 test s u told (omega arith) a) (no_local s t)
+
+-- two ways to read a text
+pub same_at : {A : Type 0} (k : ℕ) (scan other : List ℕ → A × ℕ) (s : List ℕ) → ((s : List ℕ) → scan s ≡ other s) → IsLocalAt A k other s → IsLocalAt A k scan s
+same_at {A} k scan other s same is = record {
+  inside = omega (arith, ap (λ (r : A × ℕ). r.1) (same s), is.inside);
+  local = λ u a. same u ∙ (is.local u (subst (λ (n : ℕ). Agree k n s u) (ap (λ (r : A × ℕ). r.1) (same s)) a) ∙ sym (same s));
+}
 
 -- a literal whose body begins with a prefix, where that stands there
 pub prefixed_local : (k : ℕ) (prefix : List ℕ) (body : List ℕ → Body × ℕ) (other : List ℕ → TokenKind × ℕ) → 0 < k → length prefix ≤ k → IsLocal Body k body → IsLocal TokenKind k other

@@ -7,7 +7,7 @@ use Rattle.rustc_lexer.specs.declared.token.LiteralKind.TheVariants.{Char, Byte,
 use Rattle.rustc_lexer.specs.declared.token.TokenKind.{TokenKind}
 use Rattle.rustc_lexer.specs.Literal.{Body, literal}
 use Rattle.rustc_lexer.specs.LiteralLaws.{literal_local}
-use Rattle.rustc_lexer.specs.LocalAt.{IsLocalAt, IsToldBy, local_at, local_by, literal_at, agree_front, agree_front_more, agree_more, same_text}
+use Rattle.rustc_lexer.specs.LocalAt.{IsLocalAt, IsToldBy, local_at, local_by, literal_at, agree_upto, agree_more, told_same, same_text}
 use Rattle.rustc_lexer.specs.Reach.{agree_before, begins-take, begins-length}
 use Rattle.rustc_lexer.specs.Scan.{Agree, IsLocal, begins, run_len}
 use Rattle.rustc_lexer.specs.Quoted.{one_more, least, is_backslash, is_odd, free_place, stopped, quoted, at_double_quote, double_quoted, at_single_stop, is_lone, single_quoted, quoted_body, str_body, byte_str_body, c_str_body, char_body, byte_body}
@@ -43,8 +43,8 @@ more_than None n e = absurd (cc)
 more_than (Some m) n e = (m, refl, let some : Some (suc m) ≡ Some n = e in let same : suc m ≡ n = cc in sym same)
 
 module _ (k : ℕ) (some : 0 < k) (test : List ℕ → Bool) (told : IsToldBy k test) where
-  told_same : (s u : List ℕ) → take k s ≡ take k u → test u ≡ test s
-  told_same s u e = sym (told u) ∙ (ap test (sym e) ∙ told s)
+  test_same : (s u : List ℕ) → take k s ≡ take k u → test u ≡ test s
+  test_same s u e = sym (told u) ∙ (ap test (sym e) ∙ told s)
 
   seek-go : (c : ℕ) (cs : List ℕ) (escaped : Bool) → (not escaped && test (c ∷ cs)) ≡ false → seek test (c ∷ cs) escaped ≡ one_more (seek test cs (if escaped then false else is_backslash c))
   seek-go c cs escaped t = rw t refl
@@ -62,18 +62,18 @@ module _ (k : ℕ) (some : 0 < k) (test : List ℕ → Bool) (told : IsToldBy k 
 
   seek_local : (s u : List ℕ) (escaped : Bool) (n : ℕ) → seek test s escaped ≡ Some n → Agree k n s u → seek test u escaped ≡ Some n
   seek_local [] u escaped n e a = absurd (cc)
-  seek_local (c ∷ cs) u escaped n e a = by_test (λ us. seek_local cs us (if escaped then false else is_backslash c)) (not escaped && test (c ∷ cs)) refl u a (agree_front k n (c ∷ cs) u a)
+  seek_local (c ∷ cs) u escaped n e a = by_test (λ us. seek_local cs us (if escaped then false else is_backslash c)) (not escaped && test (c ∷ cs)) refl u a (agree_upto k k n (c ∷ cs) u (omega arith) a)
     where
       by_test : ((us : List ℕ) (m : ℕ) → seek test cs (if escaped then false else is_backslash c) ≡ Some m → Agree k m cs us → seek test us (if escaped then false else is_backslash c) ≡ Some m)
           → (b : Bool) → (not escaped && test (c ∷ cs)) ≡ b → (u : List ℕ) → Agree k n (c ∷ cs) u → take k (c ∷ cs) ≡ take k u → seek test u escaped ≡ Some n
       by_test ih b t [] a same = absurd (let no : length (take k (c ∷ cs)) ≡ length (take {A = ℕ} k []) = ap length same in omega (arith, length-take k (c ∷ cs), length-take {A = ℕ} k []))
-      by_test ih true t (d ∷ us) a same = seek-stop d us escaped (ap (λ b. not escaped && b) (told_same (c ∷ cs) (d ∷ us) same) ∙ t) ∙ (sym (seek-stop c cs escaped t) ∙ e)
+      by_test ih true t (d ∷ us) a same = seek-stop d us escaped (ap (λ b. not escaped && b) (test_same (c ∷ cs) (d ∷ us) same) ∙ t) ∙ (sym (seek-stop c cs escaped t) ∙ e)
       by_test ih false t (d ∷ us) a same =
           let m = more_than (seek test cs (if escaped then false else is_backslash c)) n (sym (seek-go c cs escaped t) ∙ e) in
           let h : Agree k (suc m.0) (c ∷ cs) (d ∷ us) = subst (λ (j : ℕ). Agree k j (c ∷ cs) (d ∷ us)) m.2 a in
           let head : c ≡ d = ap (λ xs. get_or xs 0 0) h.below in
           let rest : Agree k m.0 cs us = record { below = ap (drop 1) h.below; inside = let i = h.inside in omega arith; past = h.past } in
-          seek-go d us escaped (ap (λ b. not escaped && b) (told_same (c ∷ cs) (d ∷ us) same) ∙ t)
+          seek-go d us escaped (ap (λ b. not escaped && b) (test_same (c ∷ cs) (d ∷ us) same) ∙ t)
           ∙ (ap (λ x. one_more (seek test us (if escaped then false else is_backslash x))) (sym head)
           ∙ (ap one_more (ih us m.0 m.1 rest) ∙ (sym (ap one_more m.1) ∙ (sym (seek-go c cs escaped t) ∙ e))))
 
@@ -186,9 +186,6 @@ is_one s t = rw t refl
 is_free : (s : List ℕ) → is_lone s ≡ false → single_quoted s ≡ past_single s
 is_free s t = rw t refl
 
-lone_same : (s u : List ℕ) → take 2 s ≡ take 2 u → is_lone u ≡ is_lone s
-lone_same s u e = sym (lone_told u) ∙ (ap is_lone (sym e) ∙ lone_told s)
-
 pub single_quoted_local : IsLocal Bool 2 single_quoted
 single_quoted_local = record { inside = λ s. inside s (is_lone s) refl; local = λ s u a. local s u (is_lone s) refl a }
   where
@@ -199,11 +196,19 @@ single_quoted_local = record { inside = λ s. inside s (is_lone s) refl; local =
     local : (s u : List ℕ) (b : Bool) → is_lone s ≡ b → Agree 2 (single_quoted s).1 s u → single_quoted u ≡ single_quoted s
     local s u true t a =
         let h : Agree 2 2 s u = rw (is_one s t) at a in
-        is_one u (lone_same s u h.below ∙ t) ∙ sym (is_one s t)
+        is_one u (told_same 2 2 2 is_lone s u lone_told (omega arith) h ∙ t) ∙ sym (is_one s t)
     local s u false t a =
         let h : Agree 2 (past_single s).1 s u = rw (is_free s t) at a in
-        is_free u (lone_same s u (agree_front 2 (past_single s).1 s u h) ∙ t)
+        is_free u (told_same 2 2 (past_single s).1 is_lone s u lone_told (omega arith) h ∙ t)
         ∙ ((quoted_local 2 (omega arith) at_single_stop single_told (byte "'")).local s u h ∙ sym (is_free s t))
+
+-- a closed one takes its quote
+pub single_quoted_some : (s : List ℕ) → (single_quoted s).0 ≡ true → 0 < (single_quoted s).1
+single_quoted_some s c = by_test (is_lone s) refl c
+  where
+    by_test : (b : Bool) → is_lone s ≡ b → (single_quoted s).0 ≡ true → 0 < (single_quoted s).1
+    by_test true t c = rw (is_one s t) (omega arith)
+    by_test false t c = rw (is_free s t) (closed_some 2 (omega arith) at_single_stop single_told (byte "'") s (rw (is_free s t) at c))
 
 -- a closed one depends on one character past its end: `''` would go on before one more quote
 pub single_quoted_closed : (s : List ℕ) → (single_quoted s).0 ≡ true → IsLocalAt Bool 1 single_quoted s
@@ -212,11 +217,11 @@ single_quoted_closed s closed = record { inside = single_quoted_local.inside s; 
     local : (u : List ℕ) (b : Bool) → is_lone s ≡ b → (single_quoted s).0 ≡ true → Agree 1 (single_quoted s).1 s u → single_quoted u ≡ single_quoted s
     local u true t c a =
         let h : Agree 1 2 s u = rw (is_one s t) at a in
-        is_one u (lone_same s u h.below ∙ t) ∙ sym (is_one s t)
+        is_one u (told_same 2 1 2 is_lone s u lone_told (omega arith) h ∙ t) ∙ sym (is_one s t)
     local u false t c a =
         let h : Agree 1 (past_single s).1 s u = rw (is_free s t) at a in
         let closed : (past_single s).0 ≡ true = rw (is_free s t) at c in
-        is_free u (lone_same s u (agree_front_more 1 (past_single s).1 s u (closed_some 2 (omega arith) at_single_stop single_told (byte "'") s closed) h) ∙ t)
+        is_free u (told_same 2 1 (past_single s).1 is_lone s u lone_told (omega (arith, closed_some 2 (omega arith) at_single_stop single_told (byte "'") s closed)) h ∙ t)
         ∙ ((closed_local 2 (omega arith) at_single_stop single_told (byte "'") 1 refl s closed).local u h ∙ sym (is_free s t))
 
 -- literals, of which the closed ones take a suffix

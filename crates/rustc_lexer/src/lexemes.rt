@@ -15,6 +15,7 @@ use crate::token::{Token, TokenKind};
 
 mod comment;
 
+mod lifetime;
 mod literal;
 mod quoted;
 
