@@ -1,5 +1,7 @@
 pub mod CharSteps
 pub mod LexemeLemmas
+pub mod LifetimeLemmas
+pub mod LiteralSuffix
 pub mod PastLemmas
 pub mod QuotedLemmas
 pub mod QuotedLoop

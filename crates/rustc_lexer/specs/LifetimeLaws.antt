@@ -23,10 +23,10 @@ front_local p = record {
 }
 
 -- what a name is that no quote follows
-abbrev unquoted : ℕ → List ℕ → List ℕ → TokenKind × ℕ
+abbrev pub unquoted : ℕ → List ℕ → List ℕ → TokenKind × ℕ
 unquoted c name s = gives (if begins (codes "#") s && not (is_ascii_digit c) then UnknownPrefixLifetime else Lifetime (is_marked c name)) s
 
-abbrev quoted_name : ℕ → List ℕ → List ℕ → TokenKind × ℕ
+abbrev pub quoted_name : ℕ → List ℕ → List ℕ → TokenKind × ℕ
 quoted_name c name s = (Literal (Char true) (2 + length (encode_utf8_all (c ∷ name))), 1)
 
 quoted_name_at : (k c : ℕ) (name s : List ℕ) → begins (codes "'") s ≡ true → IsLocalAt TokenKind k (quoted_name c name) s
@@ -82,7 +82,7 @@ begins_raw_length : (s : List ℕ) → begins_raw s ≡ true → 2 ≤ length s
 begins_raw_length [] e = absurd (true≢false (sym e))
 begins_raw_length (c ∷ s) e = omega (arith, next_is-length is_id_start s (and_last (c == byte "#") (next_is is_id_start s) e))
 
-abbrev raw : List ℕ → TokenKind × ℕ
+abbrev pub raw : List ℕ → TokenKind × ℕ
 raw s = after 2 (run RawLifetime is_id_continue) s
 
 raw_at : (c : ℕ) (s : List ℕ) → is_raw c s ≡ true → IsLocalAt TokenKind 1 raw s
