@@ -1,5 +1,5 @@
 //! What begins with a single quote: characters and lifetimes.
-ghost use Rattle.std.specs.Prelude.{◌≡◌, ◌+◌, ◌≤◌, ◌<◌, ◌^◌, ◌∷◌, ◌&&◌, ◌||◌, not, if◌then◌else◌, ℕ, List, Bool, true, false, length, drop, codes, MatchOption};
+ghost use Rattle.std.specs.Prelude.{◌≡◌, ◌+◌, ◌≤◌, ◌<◌, ◌^◌, ◌∷◌, suc, ◌&&◌, ◌||◌, not, if◌then◌else◌, ℕ, List, Bool, true, false, length, drop, codes, MatchOption};
 ghost use Rattle.std.specs.Char.{is_ascii_digit, len_utf8};
 ghost use Rattle.std.specs.Str.{chars};
 ghost use Rattle.rustc_lexer.specs.declared.token.TokenKind.{TokenKind};
@@ -7,9 +7,11 @@ ghost use Rattle.rustc_lexer.specs.declared.token.TokenKind.TheVariants.{Lifetim
 ghost use Rattle.rustc_lexer.specs.Emoji.{is_emoji};
 ghost use Rattle.rustc_lexer.specs.Lifetime as spec;
 ghost use Rattle.rustc_lexer.specs.LifetimeLaws.{is_char_at, is_raw};
+ghost use Rattle.rustc_lexer.specs.Literal.{Body, literal};
 ghost use Rattle.rustc_lexer.specs.LocalAt.{IsLocalAt};
 ghost use Rattle.rustc_lexer.specs.Quoted.{single_quoted};
-ghost use Rattle.rustc_lexer.specs.Scan.{IsLocal, begins, past, run_len, scanned};
+ghost use Rattle.rustc_lexer.specs.Scan.{IsLocal, begins, bytes_of, past, run_len, scanned};
+ghost use Rattle.rustc_lexer.specs.State.{suffix_start_of};
 
 use crate::classes::emoji::is_emoji;
 use crate::classes::{is_id_continue, is_id_start};
@@ -114,4 +116,12 @@ pub(crate) fn lifetime_lookahead()
     ensures raw { (c : ℕ) (s : List ℕ) → spec.is_char c s ≡ false → is_raw c s ≡ true → IsLocalAt TokenKind 1 spec.quote_or_lifetime (c ∷ s) }
     ensures long_character { (c : ℕ) (s : List ℕ) → spec.is_char c s ≡ false → is_raw c s ≡ false → begins (codes "'") (drop (run_len spec.is_name_part s) s) ≡ true
         → IsLocalAt TokenKind 0 spec.quote_or_lifetime (c ∷ s) }
+{}
+
+/// Where the suffix of a token begins is inside it. The scanners are given what follows its first character,
+/// which is one byte long.
+pub(crate) fn suffix_within()
+    ensures literals { (body : List ℕ → Body × ℕ) (s : List ℕ) → suffix_start_of (literal body s).0 ≤ 1 + bytes_of (literal body s).1 s }
+    ensures lifetimes { (s : List ℕ) → suffix_start_of (spec.quote_or_lifetime s).0 ≤ 1 + bytes_of (spec.quote_or_lifetime s).1 s }
+    ensures tokens { (c : ℕ) (s : List ℕ) (r : TokenKind × ℕ) → suffix_start_of r.0 ≤ 1 + bytes_of r.1 s → suffix_start_of r.0 ≤ bytes_of (suc r.1) (c ∷ s) }
 {}
