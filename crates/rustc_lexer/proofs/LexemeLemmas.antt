@@ -1,5 +1,8 @@
 -- The choice by the first character.
-use Rattle.std.proofs.Common.{◌≡◌, ◌≢◌, ℕ, suc, ◌+◌, ◌-◌, ◌≤◌, [], ◌∷◌, true, false, List, length, refl, sym, ap, ◌∙◌, arith, subst}
+use Rattle.rustc_lexer.specs.Quoted.{str_body}
+use Rattle.rustc_lexer.specs.Literal.{literal}
+use Rattle.rustc_lexer.specs.Lifetime.{quote_or_lifetime}
+use Rattle.std.proofs.Common.{◌==◌, ◌≡◌, ◌≢◌, ℕ, suc, ◌+◌, ◌-◌, ◌≤◌, [], ◌∷◌, true, false, List, length, refl, sym, ap, ◌∙◌, arith, subst}
 use Rattle.std.specs.Str.{chars, IsUtf8, IsCharBoundary}
 use Rattle.std.proofs.lemmas.Bool.{ne_eqb}
 use Rattle.std.proofs.lemmas.Str.{IsCharBoundary-from_drop}
@@ -34,13 +37,29 @@ module _ (c : ℕ) (text : List ℕ) where
   unfolding past_first
   pick-number e f g h = scanned-same (past_first c) (number c) text (rw (ne_eqb c 47 e, f, g, h) refl)
 
-  pub pick-emoji : c ≢ 47 → is_whitespace c ≡ false → begins_word c ≡ false → is_ascii_digit c ≡ false → is_emoji c ≡ true → scanned (past_first c) text ≡ scanned invalid_ident text
+  pub pick-quote : c ≢ 47 → is_whitespace c ≡ false → begins_word c ≡ false → is_ascii_digit c ≡ false → c ≡ 39 → scanned (past_first c) text ≡ scanned quote_or_lifetime text
   unfolding past_first
-  pick-emoji e f g h i = scanned-same (past_first c) invalid_ident text (rw (ne_eqb c 47 e, f, g, h, i) refl)
+  pick-quote e f g h i = scanned-same (past_first c) quote_or_lifetime text (rw (ne_eqb c 47 e, f, g, h, quote) refl)
+    where
+      quote : (c == 39) ≡ true
+      quote = rw i refl
 
-  pub pick-symbol : c ≢ 47 → is_whitespace c ≡ false → begins_word c ≡ false → is_ascii_digit c ≡ false → is_emoji c ≡ false → scanned (past_first c) text ≡ scanned (gives (symbol_kind c)) text
+  pub pick-string : c ≢ 47 → is_whitespace c ≡ false → begins_word c ≡ false → is_ascii_digit c ≡ false → c ≢ 39 → c ≡ 34 → scanned (past_first c) text ≡ scanned (literal str_body) text
   unfolding past_first
-  pick-symbol e f g h i = scanned-same (past_first c) (gives (symbol_kind c)) text (rw (ne_eqb c 47 e, f, g, h, i) refl)
+  pick-string e f g h i j = scanned-same (past_first c) (literal str_body) text (rw (ne_eqb c 47 e, f, g, h, ne_eqb c 39 i, quote) refl)
+    where
+      quote : (c == 34) ≡ true
+      quote = rw j refl
+
+  -- what begins no literal
+  module _ (e : c ≢ 47) (f : is_whitespace c ≡ false) (g : begins_word c ≡ false) (h : is_ascii_digit c ≡ false) (i : c ≢ 39) (j : c ≢ 34) where
+    pub pick-emoji : is_emoji c ≡ true → scanned (past_first c) text ≡ scanned invalid_ident text
+    unfolding past_first
+    pick-emoji k = scanned-same (past_first c) invalid_ident text (rw (ne_eqb c 47 e, f, g, h, ne_eqb c 39 i, ne_eqb c 34 j, k) refl)
+
+    pub pick-symbol : is_emoji c ≡ false → scanned (past_first c) text ≡ scanned (gives (symbol_kind c)) text
+    unfolding past_first
+    pick-symbol k = scanned-same (past_first c) (gives (symbol_kind c)) text (rw (ne_eqb c 47 e, f, g, h, ne_eqb c 39 i, ne_eqb c 34 j, k) refl)
 
 -- the token, once what follows the first character is known
 module _ (text tail rest : List ℕ) (c : ℕ) (kind : TokenKind) (is : IsUtf8 text) (cs : chars text ≡ c ∷ chars tail) (e : tail ≡ past 1 text) (f : (kind, rest) ≡ scanned (past_first c) tail) where

@@ -5,9 +5,13 @@ pub mod ClassLemmas
 pub mod EmojiLemmas
 pub mod IdentLemmas
 pub mod LexemeLemmas
+pub mod LifetimeLemmas
+pub mod LifetimeSuffix
 pub mod LiteralSuffix
 pub mod NumberLemmas
 pub mod PastLemmas
+pub mod QuotedLemmas
+pub mod QuotedLoop
 pub mod RunLemmas
 pub mod ScanLemmas
 pub mod StateLemmas

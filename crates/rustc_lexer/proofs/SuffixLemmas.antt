@@ -1,4 +1,8 @@
 -- Where the suffix of a token begins.
+use Rattle.rustc_lexer.proofs.LifetimeSuffix.{quote_or_lifetime-within}
+use Rattle.rustc_lexer.specs.Lifetime.{quote_or_lifetime}
+use Rattle.rustc_lexer.specs.Quoted.{str_body, byte_str_body, c_str_body, byte_body}
+use Rattle.rustc_lexer.specs.Literal.{Body, literal}
 use Rattle.std.proofs.Common.{◌≡◌, ℕ, ◌==◌, Bool, true, false, if◌then◌else◌, List, [], ◌∷◌, take, drop, refl, arith, rules, codes, ◌≤◌, ◌+◌}
 use Rattle.std.specs.Str.{chars}
 use Rattle.rustc_lexer.specs.declared.token.TokenKind.{TokenKind}
@@ -13,7 +17,7 @@ use Rattle.rustc_lexer.specs.Number.{number_body, number}
 use Rattle.rustc_lexer.proofs.BlockCommentLemmas.{block_comment-none}
 use Rattle.rustc_lexer.proofs.LiteralSuffix.{literal-suffix, suffix-first}
 use Rattle.rustc_lexer.specs.Comment.{slash, line_comment}
-use Rattle.rustc_lexer.specs.Lexeme.{whitespace, letter_r, letter_k, begins_word, word, symbols, kind_among, symbol_kind, past_first, lexeme, first_token}
+use Rattle.rustc_lexer.specs.Lexeme.{whitespace, letter_r, letter_k, begins_word, word, symbols, kind_among, symbol_kind, past_first, lexeme, first_token, letter_b, letter_c}
 use Rattle.rustc_lexer.specs.Scan.{after, begins, bytes_of, gives, next_is, run, run_len}
 use Rattle.rustc_lexer.specs.State.{suffix_start_of, HasSuffixWithin}
 
@@ -59,26 +63,45 @@ marked-none kind s e = by_mark (marks_ident s)
     by_mark true = e
     by_mark false = ident-none s
 
-word-within : (c : ℕ) (s : List ℕ) → Within (word c s) s
-word-within c s = by_letter (c == 114) (c == 107)
+string-within : (body : List ℕ → Body × ℕ) (s : List ℕ) → Within (if begins (codes "\"") s then literal (after 1 body) s else ident s) s
+string-within body s = by_quote (begins (codes "\"") s)
   where
-    by_letter : (r k : Bool) → Within (if r then letter_r s else (if k then letter_k s else ident s)) s
-    by_letter true k = no_suffix (letter_r s) s (marked-none RawIdent s refl)
-    by_letter false true = no_suffix (letter_k s) s (marked-none ForcedKeywordIdent s refl)
-    by_letter false false = no_suffix (ident s) s (ident-none s)
+    by_quote : (b : Bool) → Within (if b then literal (after 1 body) s else ident s) s
+    by_quote true = literal-suffix (after 1 body) s
+    by_quote false = no_suffix (ident s) s (ident-none s)
+
+letter_b-within : (s : List ℕ) → Within (letter_b s) s
+letter_b-within s = by_quote (begins (codes "'") s)
+  where
+    by_quote : (b : Bool) → Within (if b then literal (after 1 byte_body) s else (if begins (codes "\"") s then literal (after 1 byte_str_body) s else ident s)) s
+    by_quote true = literal-suffix (after 1 byte_body) s
+    by_quote false = string-within byte_str_body s
+
+word-within : (c : ℕ) (s : List ℕ) → Within (word c s) s
+word-within c s = by_letter (c == 114) (c == 107) (c == 98) (c == 99)
+  where
+    by_letter : (r k b c : Bool) → Within (if r then letter_r s else (if k then letter_k s else (if b then letter_b s else (if c then letter_c s else ident s)))) s
+    by_letter true k b c = no_suffix (letter_r s) s (marked-none RawIdent s refl)
+    by_letter false true b c = no_suffix (letter_k s) s (marked-none ForcedKeywordIdent s refl)
+    by_letter false false true c = letter_b-within s
+    by_letter false false false true = string-within c_str_body s
+    by_letter false false false false = no_suffix (ident s) s (ident-none s)
 
 past_first-within : (c : ℕ) (s : List ℕ) → Within (past_first c s) s
 unfolding past_first
-past_first-within c s = by_class (c == 47) (is_whitespace c) (begins_word c) (is_ascii_digit c) (is_emoji c)
+past_first-within c s = by_class (c == 47) (is_whitespace c) (begins_word c) (is_ascii_digit c) (c == 39) (c == 34) (is_emoji c)
   where
-    by_class : (slashes spaces words digits emoji : Bool)
-        → Within (if slashes then slash s else (if spaces then whitespace s else (if words then word c s else (if digits then number c s else (if emoji then invalid_ident s else gives (symbol_kind c) s))))) s
-    by_class true spaces words digits emoji = no_suffix (slash s) s (slash-none s)
-    by_class false true words digits emoji = no_suffix (whitespace s) s refl
-    by_class false false true digits emoji = word-within c s
-    by_class false false false true emoji = literal-suffix (number_body c) s
-    by_class false false false false true = no_suffix (invalid_ident s) s refl
-    by_class false false false false false = no_suffix (gives (symbol_kind c) s) s (symbol_kind-none c)
+    by_class : (slashes spaces words digits quotes strings emoji : Bool)
+        → Within (if slashes then slash s else (if spaces then whitespace s else (if words then word c s else (if digits then number c s
+        else (if quotes then quote_or_lifetime s else (if strings then literal str_body s else (if emoji then invalid_ident s else gives (symbol_kind c) s))))))) s
+    by_class true spaces words digits quotes strings emoji = no_suffix (slash s) s (slash-none s)
+    by_class false true words digits quotes strings emoji = no_suffix (whitespace s) s refl
+    by_class false false true digits quotes strings emoji = word-within c s
+    by_class false false false true quotes strings emoji = literal-suffix (number_body c) s
+    by_class false false false false true strings emoji = quote_or_lifetime-within s
+    by_class false false false false false true emoji = literal-suffix str_body s
+    by_class false false false false false false true = no_suffix (invalid_ident s) s refl
+    by_class false false false false false false false = no_suffix (gives (symbol_kind c) s) s (symbol_kind-none c)
 
 lexeme-within : (s : List ℕ) → suffix_start_of (lexeme s).0 ≤ bytes_of (lexeme s).1 s
 lexeme-within [] = omega arith

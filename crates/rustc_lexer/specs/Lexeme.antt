@@ -9,8 +9,11 @@ use Rattle.rustc_lexer.specs.Classes.{is_among, is_whitespace, is_id_start}
 use Rattle.rustc_lexer.specs.Comment.{slash}
 use Rattle.rustc_lexer.specs.Emoji.{is_emoji}
 use Rattle.rustc_lexer.specs.Ident.{ident, invalid_ident, marked}
+use Rattle.rustc_lexer.specs.Lifetime.{quote_or_lifetime}
+use Rattle.rustc_lexer.specs.Literal.{literal}
 use Rattle.rustc_lexer.specs.Number.{number}
-use Rattle.rustc_lexer.specs.Scan.{gives, run, token_by}
+use Rattle.rustc_lexer.specs.Quoted.{byte_body, byte_str_body, c_str_body, str_body}
+use Rattle.rustc_lexer.specs.Scan.{after, begins, gives, run, token_by}
 
 -- the tokens of one symbol
 abbrev pub symbols : List (ℕ × TokenKind)
@@ -41,13 +44,28 @@ letter_r s = marked RawIdent ident s
 abbrev pub letter_k : List ℕ → TokenKind × ℕ
 letter_k s = marked ForcedKeywordIdent ident s
 
+-- what follows a `b`, and what follows a `c`
+abbrev pub letter_b : List ℕ → TokenKind × ℕ
+letter_b s =
+    if begins (codes "'") s then literal (after 1 byte_body) s
+    else (if begins (codes "\"") s then literal (after 1 byte_str_body) s
+    else ident s)
+
+abbrev pub letter_c : List ℕ → TokenKind × ℕ
+letter_c s = if begins (codes "\"") s then literal (after 1 c_str_body) s else ident s
+
 -- what follows a letter or another start of an identifier
 abbrev pub word : ℕ → List ℕ → TokenKind × ℕ
-word c s = if c == byte "r" then letter_r s else (if c == byte "k" then letter_k s else ident s)
+word c s =
+    if c == byte "r" then letter_r s
+    else (if c == byte "k" then letter_k s
+    else (if c == byte "b" then letter_b s
+    else (if c == byte "c" then letter_c s
+    else ident s)))
 
 -- a letter that may be more than the start of an identifier, or another start of one
 abbrev pub begins_word : ℕ → Bool
-begins_word c = is_among (codes "rk") c || is_id_start c
+begins_word c = is_among (codes "rkbc") c || is_id_start c
 
 -- what follows the first character, which decides
 unfoldable pub past_first : ℕ → List ℕ → TokenKind × ℕ
@@ -56,8 +74,10 @@ past_first c s =
     else (if is_whitespace c then whitespace s
     else (if begins_word c then word c s
     else (if is_ascii_digit c then number c s
+    else (if c == byte "'" then quote_or_lifetime s
+    else (if c == byte "\"" then literal str_body s
     else (if is_emoji c then invalid_ident s
-    else gives (symbol_kind c) s))))
+    else gives (symbol_kind c) s))))))
 
 -- the token at the front of a list of characters: what it is, and how many of them it takes
 abbrev pub lexeme : List ℕ → TokenKind × ℕ

@@ -7,11 +7,16 @@ pub mod Emoji
 pub mod Ident
 pub mod IdentLaws
 pub mod Lexeme
+pub mod Lifetime
+pub mod LifetimeLaws
 pub mod Literal
 pub mod LiteralLaws
+pub mod LocalAt
 pub mod Lookahead
 pub mod Number
 pub mod NumberLaws
+pub mod Quoted
+pub mod QuotedLaws
 pub mod Reach
 pub mod Scan
 pub mod State

@@ -1,11 +1,12 @@
 -- A literal looks as far as its body does, and one character past its suffix.
-use Rattle.std.proofs.Common.{◌≡◌, ℕ, ◌+◌, ◌≤◌, ◌<◌, Bool, true, false, if◌then◌else◌, List, length, drop, refl, sym, ap, ◌∙◌, arith, length-drop}
+use Rattle.std.proofs.Common.{take, ◌≡◌, ℕ, ◌+◌, ◌≤◌, ◌<◌, Bool, true, false, if◌then◌else◌, List, length, drop, refl, sym, ap, ◌∙◌, arith, length-drop}
 use Rattle.std.specs.Str.{encode_utf8_all}
+use Rattle.rustc_lexer.specs.declared.token.LiteralKind.TheVariants.{Str}
 use Rattle.rustc_lexer.specs.declared.token.TokenKind.{TokenKind}
 use Rattle.rustc_lexer.specs.declared.token.TokenKind.TheVariants.{Literal}
 use Rattle.rustc_lexer.specs.Classes.{is_id_start, is_id_continue}
 use Rattle.rustc_lexer.specs.Literal.{Body, suffix_len, literal_by, literal}
-use Rattle.rustc_lexer.specs.Reach.{agree_before, agree_after, choice_local, gives_local, next_is-take, next_is-length, run_local, same_local, wider}
+use Rattle.rustc_lexer.specs.Reach.{agree_before, agree_after, choice_local, either_local, gives_local, next_is-take, next_is-length, run_local, same_local, wider}
 use Rattle.rustc_lexer.specs.Scan.{Agree, IsLocal, after, bytes_of, gives, next_is, run}
 
 abbrev pub suffix : {A : Type 0} → A → List ℕ → A × ℕ
@@ -45,3 +46,21 @@ literal_local k body some is = record {
       ∙ (ap (λ (x : ℕ). (Literal (body s).0.kind (1 + bytes_of n u), n + x)) two
       ∙ ap (λ (x : ℕ). (Literal (body s).0.kind (1 + x), n + m)) bytes);
 }
+
+-- a literal past a prefix, where that stands, or else something else
+pub prefixed_literal_local : (k n : ℕ) (test : List ℕ → Bool) (body : List ℕ → Body × ℕ) (other : List ℕ → TokenKind × ℕ) → 0 < k
+    → ((s : List ℕ) → test (take k s) ≡ test s) → ((s : List ℕ) → test s ≡ true → n ≤ length s) → IsLocal Body k body → IsLocal TokenKind k other
+    → IsLocal TokenKind k (λ s. if test s then literal (after n body) s else other s)
+prefixed_literal_local k n test body other some told fits is others =
+    same_local k (λ s. if test s then literal (after n body) s else other s) (λ s. if test s then literal whole s else other s) (λ s. by_test s (test s) refl)
+    (either_local k test (literal whole) other told (literal_local k whole some (choice_local k n test body (gives none) told fits is (wider 0 k (gives none) (omega arith) (gives_local none)))) others)
+  where
+    none : Body
+    none = record { kind = Str false; takes_suffix = false }
+
+    whole : List ℕ → Body × ℕ
+    whole s = if test s then after n body s else gives none s
+
+    by_test : (s : List ℕ) (b : Bool) → test s ≡ b → (if b then literal (after n body) s else other s) ≡ (if b then literal whole s else other s)
+    by_test s true e = ap (λ (r : Body × ℕ). literal_by r s) (sym (ap (λ (b : Bool). if b then after n body s else gives none s) e))
+    by_test s false e = refl

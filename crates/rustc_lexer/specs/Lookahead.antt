@@ -1,4 +1,10 @@
 -- How far each lexeme looks past its end.
+use Rattle.rustc_lexer.specs.LiteralLaws.{prefixed_literal_local}
+use Rattle.rustc_lexer.specs.Literal.{Body, literal}
+use Rattle.rustc_lexer.specs.Quoted.{str_body, byte_str_body, c_str_body, byte_body}
+use Rattle.rustc_lexer.specs.Lifetime.{quote_or_lifetime}
+use Rattle.rustc_lexer.specs.LifetimeLaws.{quote_or_lifetime_local}
+use Rattle.rustc_lexer.specs.QuotedLaws.{str_local, byte_str_body_local, c_str_body_local, byte_body_local}
 use Rattle.std.proofs.Common.{◌≡◌, ℕ, ◌==◌, Bool, true, false, if◌then◌else◌, List, [], ◌∷◌, take, refl, sym, ap, ◌∙◌, arith, codes, ◌<◌}
 use Rattle.std.proofs.lemmas.Bool.{eqb-true}
 use Rattle.rustc_lexer.specs.declared.token.TokenKind.{TokenKind}
@@ -13,9 +19,9 @@ use Rattle.rustc_lexer.specs.Number.{number}
 use Rattle.rustc_lexer.specs.NumberLaws.{number_local}
 use Rattle.rustc_lexer.specs.Classes.{is_whitespace}
 use Rattle.rustc_lexer.specs.Comment.{line_comment, line_doc_style, is_no_newline, slash}
-use Rattle.rustc_lexer.specs.Lexeme.{whitespace, letter_r, letter_k, word, begins_word, symbol_kind, past_first, lexeme, first_token}
+use Rattle.rustc_lexer.specs.Lexeme.{whitespace, letter_r, letter_k, letter_b, letter_c, word, begins_word, symbol_kind, past_first, lexeme, first_token}
 use Rattle.rustc_lexer.specs.Reach.{begins-take, begins-length, choice_local, first_local, gives_local, run_local, run_len_local, run_len_le, wider}
-use Rattle.rustc_lexer.specs.Scan.{IsLocal, begins, gives, run_len}
+use Rattle.rustc_lexer.specs.Scan.{IsLocal, begins, gives, run_len, after}
 use Rattle.rustc_lexer.specs.Texts.{IsGrammar}
 use Rattle.rustc_lexer.specs.TokenBy.{token_by_local}
 
@@ -58,33 +64,42 @@ slash_local =
 pub whitespace_local : IsLocal TokenKind 1 whitespace
 whitespace_local = run_local Whitespace is_whitespace
 
--- each of these letters looks two characters past an identifier: at a hash, and at what follows that
+-- each of these letters looks two characters past an identifier at most: at a hash, and at what follows that
 pub word_local : (c : ℕ) → IsLocal TokenKind 2 (word c)
-word_local c = by_letter (c == 114) (c == 107)
+word_local c = by_letter (c == 114) (c == 107) (c == 98) (c == 99)
   where
     plain : IsLocal TokenKind 2 ident
     plain = wider 1 2 ident (omega arith) ident_local
 
-    by_letter : (r k : Bool) → IsLocal TokenKind 2 (λ s. if r then letter_r s else (if k then letter_k s else ident s))
-    by_letter true k = marked_local RawIdent ident plain
-    by_letter false true = marked_local ForcedKeywordIdent ident plain
-    by_letter false false = plain
+    string : (body : List ℕ → Body × ℕ) → IsLocal Body 1 body → IsLocal TokenKind 2 (λ s. if begins (codes "\"") s then literal (after 1 body) s else ident s)
+    string body is = prefixed_literal_local 2 1 (begins (codes "\"")) body ident (omega arith) (begins_one 34 2 (omega arith)) (begins-length (codes "\"")) (wider 1 2 body (omega arith) is) plain
+
+    by_letter : (r k b c : Bool) → IsLocal TokenKind 2 (λ s. if r then letter_r s else (if k then letter_k s else (if b then letter_b s else (if c then letter_c s else ident s))))
+    by_letter true k b c = marked_local RawIdent ident plain
+    by_letter false true b c = marked_local ForcedKeywordIdent ident plain
+    by_letter false false true c =
+        prefixed_literal_local 2 1 (begins (codes "'")) byte_body _ (omega arith) (begins_one 39 2 (omega arith)) (begins-length (codes "'")) byte_body_local (string byte_str_body byte_str_body_local)
+    by_letter false false false true = string c_str_body c_str_body_local
+    by_letter false false false false = plain
 
 pub symbol_local : (c : ℕ) → IsLocal TokenKind 0 (gives (symbol_kind c))
 symbol_local c = gives_local (symbol_kind c)
 
 past_first_local : (c : ℕ) → IsLocal TokenKind 2 (past_first c)
 unfolding past_first
-past_first_local c = by_class (c == 47) (is_whitespace c) (begins_word c) (is_ascii_digit c) (is_emoji c)
+past_first_local c = by_class (c == 47) (is_whitespace c) (begins_word c) (is_ascii_digit c) (c == 39) (c == 34) (is_emoji c)
   where
-    by_class : (slashes spaces words digits emoji : Bool)
-        → IsLocal TokenKind 2 (λ s. if slashes then slash s else (if spaces then whitespace s else (if words then word c s else (if digits then number c s else (if emoji then invalid_ident s else gives (symbol_kind c) s)))))
-    by_class true spaces words digits emoji = wider 1 2 slash (omega arith) slash_local
-    by_class false true words digits emoji = wider 1 2 whitespace (omega arith) whitespace_local
-    by_class false false true digits emoji = word_local c
-    by_class false false false true emoji = number_local c
-    by_class false false false false true = wider 1 2 invalid_ident (omega arith) invalid_ident_local
-    by_class false false false false false = wider 0 2 (gives (symbol_kind c)) (omega arith) (symbol_local c)
+    by_class : (slashes spaces words digits quotes strings emoji : Bool)
+        → IsLocal TokenKind 2 (λ s. if slashes then slash s else (if spaces then whitespace s else (if words then word c s else (if digits then number c s
+        else (if quotes then quote_or_lifetime s else (if strings then literal str_body s else (if emoji then invalid_ident s else gives (symbol_kind c) s)))))))
+    by_class true spaces words digits quotes strings emoji = wider 1 2 slash (omega arith) slash_local
+    by_class false true words digits quotes strings emoji = wider 1 2 whitespace (omega arith) whitespace_local
+    by_class false false true digits quotes strings emoji = word_local c
+    by_class false false false true quotes strings emoji = number_local c
+    by_class false false false false true strings emoji = quote_or_lifetime_local
+    by_class false false false false false true emoji = wider 1 2 (literal str_body) (omega arith) str_local
+    by_class false false false false false false true = wider 1 2 invalid_ident (omega arith) invalid_ident_local
+    by_class false false false false false false false = wider 0 2 (gives (symbol_kind c)) (omega arith) (symbol_local c)
 
 pub lexeme_local : IsLocal TokenKind 2 lexeme
 lexeme_local = first_local 2 Eof past_first lexeme (omega arith) refl (λ c s. refl) past_first_local

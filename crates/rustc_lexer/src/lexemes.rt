@@ -12,6 +12,8 @@ use crate::classes::emoji::is_emoji;
 use crate::classes::is_whitespace;
 use crate::lexemes::comment::slash;
 use crate::lexemes::ident::invalid_ident;
+use crate::lexemes::lifetime::quote_or_lifetime;
+use crate::lexemes::quoted::str_literal;
 use crate::lexemes::word::begins_word;
 use crate::scan::{eat_while, split_first};
 use crate::token::{Token, TokenKind};
@@ -19,8 +21,10 @@ use crate::token::{Token, TokenKind};
 mod block_comment;
 mod comment;
 mod ident;
+mod lifetime;
 mod literal;
 mod number;
+mod quoted;
 mod word;
 
 /// The token at the front of a text. At the end of the text it is `Eof`, of length 0.
@@ -59,6 +63,10 @@ fn past_first(first: char, tail: &str) -> (TokenKind, &str)
         word::word(first, tail)
     } else if first.is_ascii_digit() {
         number::number(first, tail)
+    } else if first == '\'' {
+        quote_or_lifetime(tail)
+    } else if first == '"' {
+        str_literal(tail)
     } else if is_emoji(first) {
         invalid_ident(tail)
     } else {

@@ -217,8 +217,3 @@ fn is_hex_digit_or_underscore(c: char) -> bool
 pub(crate) fn number_lookahead()
     ensures { (first : ℕ) → IsLocal TokenKind 2 (spec.number first) }
 {}
-
-/// Where the suffix of a number begins: inside the number, or at its end.
-pub(crate) fn number_suffix()
-    ensures { (first : ℕ) (s : List ℕ) → suffix_start_of (spec.number first s).0 ≤ bytes_of (suc (spec.number first s).1) (first ∷ s) }
-{}

@@ -5,13 +5,15 @@ ghost use Rattle.rustc_lexer.specs.Scan.{scanned};
 
 use crate::classes::is_id_start;
 use crate::lexemes::ident::{eat_marked, ident};
+use crate::lexemes::quoted::{byte_literal, byte_str_literal, c_str_literal};
+use crate::scan::strip;
 use crate::token::TokenKind;
 
 /// Whether an identifier begins with the character, or a literal that a letter marks.
 pub(crate) fn begins_word(c: char) -> bool
     ensures { result ≡ spec.begins_word c }
 {
-    matches!(c, 'r' | 'k') || is_id_start(c)
+    matches!(c, 'r' | 'k' | 'b' | 'c') || is_id_start(c)
 }
 
 /// What begins with `first`. `tail` is what follows that.
@@ -22,6 +24,8 @@ pub(crate) fn word(first: char, tail: &str) -> (TokenKind, &str)
     match first {
         'r' => letter_r(tail),
         'k' => letter_k(tail),
+        'b' => letter_b(tail),
+        'c' => letter_c(tail),
         _ => ident(tail),
     }
 }
@@ -42,6 +46,31 @@ fn letter_k(tail: &str) -> (TokenKind, &str)
 {
     match eat_marked(tail) {
         Some(rest) => (TokenKind::ForcedKeywordIdent, rest),
+        None => ident(tail),
+    }
+}
+
+/// What begins with a `b`: a byte, a byte string, or an identifier.
+fn letter_b(tail: &str) -> (TokenKind, &str)
+    requires fits { length tail.now + 1 < 2 ^ 32 }
+    ensures { (result.0, result.1.now) ≡ scanned spec.letter_b tail.now }
+{
+    if let Some(body) = strip(tail, '\'') {
+        byte_literal(tail, body)
+    } else if let Some(body) = strip(tail, '"') {
+        byte_str_literal(tail, body)
+    } else {
+        ident(tail)
+    }
+}
+
+/// What begins with a `c`: a C string, or an identifier.
+fn letter_c(tail: &str) -> (TokenKind, &str)
+    requires fits { length tail.now + 1 < 2 ^ 32 }
+    ensures { (result.0, result.1.now) ≡ scanned spec.letter_c tail.now }
+{
+    match strip(tail, '"') {
+        Some(body) => c_str_literal(tail, body),
         None => ident(tail),
     }
 }

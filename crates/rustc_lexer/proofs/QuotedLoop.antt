@@ -1,0 +1,122 @@
+-- The loop over a quoted text.
+use Rattle.std.proofs.Common.{◌≡◌, ◌≢◌, ℕ, suc, ◌+◌, ◌≤◌, ◌==◌, ◌&&◌, not, Bool, true, false, if◌then◌else◌, List, [], ◌∷◌, length, drop, refl, sym, ap, ◌∙◌, arith, ◌<◌, eq-eqb, Option, Some, None, MatchOption, Bor}
+use Rattle.std.specs.Str.{chars, IsUtf8}
+use Rattle.std.proofs.lemmas.Bool.{ne_eqb}
+use Rattle.rustc_lexer.specs.Scan.{begins, past, scanned}
+use Rattle.rustc_lexer.specs.Quoted.{one_more, is_backslash, stopped, quoted, at_single_stop, is_lone, single_quoted}
+use Rattle.rustc_lexer.specs.QuotedLaws.{seek, free_place-seek}
+use Rattle.rustc_lexer.proofs.PastLemmas.{past-zero, past-past, IsUtf8-past, length-past}
+
+-- a text is no longer past what is read of it
+pub left-shorter : {A : Type 0} (scan : List ℕ → A × ℕ) (text rest : List ℕ) (a : A) → IsUtf8 text → (a, rest) ≡ scanned scan text → length rest ≤ length text
+left-shorter {A} scan text rest a is e =
+    let n : ℕ = (scan (chars text)).1 in
+    let left : length rest ≡ length (past n text) = ap (λ (r : A × List ℕ). length r.1) e in
+    omega (arith, length-past n text is)
+
+module _ (quote : ℕ) (test : List ℕ → Bool) where
+  -- where the place of the stop is known: whether the text is closed, and what is left of it
+  abbrev pub leaves : Option ℕ → List ℕ → Bool × List ℕ
+  leaves o text = ((stopped quote o (chars text)).0, past (stopped quote o (chars text)).1 text)
+
+  -- the rest of a text is read as the whole of it is
+  pub record Seeking (text rest : List ℕ) (escaped : Bool) : Type 0 where
+    pub utf8 : IsUtf8 rest
+    pub same : leaves (seek test (chars rest) escaped) rest ≡ scanned (quoted quote test) text
+
+  pub seek-start : (text : List ℕ) → IsUtf8 text → Seeking text text false
+  seek-start text is = record { utf8 = is; same = ap (λ o. leaves o text) (sym (free_place-seek test (chars text))) }
+
+  stopped-more : (o : Option ℕ) (c : ℕ) (cs : List ℕ) → stopped quote (one_more o) (c ∷ cs) ≡ ((stopped quote o cs).0, suc (stopped quote o cs).1)
+  stopped-more None c cs = refl
+  stopped-more (Some n) c cs = by_quote (begins (quote ∷ []) (drop n cs)) refl
+    where
+      by_quote : (b : Bool) → begins (quote ∷ []) (drop n cs) ≡ b → stopped quote (Some (suc n)) (c ∷ cs) ≡ ((stopped quote (Some n) cs).0, suc (stopped quote (Some n) cs).1)
+      by_quote true t = rw t refl
+      by_quote false t = rw t refl
+
+  module _ (text rest tail : List ℕ) (escaped : Bool) (c : ℕ) (at : Seeking text rest escaped) (reads : chars rest ≡ c ∷ chars tail) (cut : tail ≡ past 1 rest) where
+    tail-is : (n : ℕ) → past (suc n) rest ≡ past n tail
+    tail-is n = let one : 1 + n ≡ suc n = omega arith in ap (λ m. past m rest) (sym one) ∙ (sym (past-past n 1 rest at.utf8) ∙ ap (past n) (sym cut))
+
+    tail-utf8 : IsUtf8 tail
+    tail-utf8 = rw cut (IsUtf8-past 1 rest at.utf8)
+
+    leaves-is : (o : Option ℕ) → seek test (c ∷ chars tail) escaped ≡ o → ((stopped quote o (c ∷ chars tail)).0, past (stopped quote o (c ∷ chars tail)).1 rest) ≡ scanned (quoted quote test) text
+    leaves-is o e =
+        ap (λ p. ((stopped quote p (c ∷ chars tail)).0, past (stopped quote p (c ∷ chars tail)).1 rest)) (sym e)
+        ∙ (ap (λ cs. ((stopped quote (seek test cs escaped) cs).0, past (stopped quote (seek test cs escaped) cs).1 rest)) (sym reads) ∙ at.same)
+
+    -- a character that does not stop it
+    pub seek-on : (to : Bool) → (not escaped && test (c ∷ chars tail)) ≡ false → (if escaped then false else is_backslash c) ≡ to → Seeking text tail to
+    seek-on to t next =
+        let opened : seek test (c ∷ chars tail) escaped ≡ one_more (seek test (chars tail) to) = rw (t, next) refl in
+        let r : Bool × ℕ = stopped quote (seek test (chars tail) to) (chars tail) in
+        let more : stopped quote (one_more (seek test (chars tail) to)) (c ∷ chars tail) ≡ (r.0, suc r.1) = stopped-more (seek test (chars tail) to) c (chars tail) in
+        record {
+          utf8 = tail-utf8;
+          same = ap (λ xs. (r.0, xs)) (sym (tail-is r.1)) ∙ (ap (λ (p : Bool × ℕ). (p.0, past p.1 rest)) (sym more) ∙ leaves-is (one_more (seek test (chars tail) to)) opened);
+        }
+
+    -- the quote closes it
+    pub seek-closed : (not escaped && test (c ∷ chars tail)) ≡ true → begins (quote ∷ []) (c ∷ chars tail) ≡ true → (true, tail) ≡ scanned (quoted quote test) text
+    seek-closed t q =
+        let here : seek test (c ∷ chars tail) escaped ≡ Some 0 = rw t refl in
+        let closed : stopped quote (Some 0) (c ∷ chars tail) ≡ (true, 1) = rw q refl in
+        ap (λ xs. (true, xs)) cut ∙ (ap (λ (p : Bool × ℕ). (p.0, past p.1 rest)) (sym closed) ∙ leaves-is (Some 0) here)
+
+    -- another stop leaves it open
+    pub seek-open : (not escaped && test (c ∷ chars tail)) ≡ true → begins (quote ∷ []) (c ∷ chars tail) ≡ false → (false, rest) ≡ scanned (quoted quote test) text
+    seek-open t q =
+        let here : seek test (c ∷ chars tail) escaped ≡ Some 0 = rw t refl in
+        let open_here : stopped quote (Some 0) (c ∷ chars tail) ≡ (false, 0) = rw q refl in
+        ap (λ xs. (false, xs)) (sym (past-zero rest at.utf8)) ∙ (ap (λ (p : Bool × ℕ). (p.0, past p.1 rest)) (sym open_here) ∙ leaves-is (Some 0) here)
+
+  pub seek-end : (text rest : List ℕ) (escaped : Bool) → Seeking text rest escaped → chars rest ≡ [] → (false, rest) ≡ scanned (quoted quote test) text
+  seek-end text rest escaped at none =
+      ap (λ xs. (false, xs)) (sym (past-zero rest at.utf8))
+      ∙ (ap (λ cs. ((stopped quote (seek test cs escaped) cs).0, past (stopped quote (seek test cs escaped) cs).1 rest)) (sym none) ∙ at.same)
+
+-- the tests of the loops
+pub when-escaped : (escaped stops : Bool) → escaped ≡ true → (not escaped && stops) ≡ false
+when-escaped escaped stops e = rw e refl
+
+pub when-plain : (escaped stops b : Bool) → escaped ≡ false → stops ≡ b → (not escaped && stops) ≡ b
+when-plain escaped stops b e f = rw e f
+
+pub to-plain : (escaped : Bool) (c : ℕ) → escaped ≡ true → (if escaped then false else is_backslash c) ≡ false
+to-plain escaped c e = rw e refl
+
+pub to-next : (escaped : Bool) (c : ℕ) → escaped ≡ false → (if escaped then false else is_backslash c) ≡ (c == 92)
+to-next escaped c e = rw e refl
+
+pub is-it : (quote c : ℕ) (s : List ℕ) → c ≡ quote → begins (quote ∷ []) (c ∷ s) ≡ true
+is-it quote c s e = rw (eq-eqb c quote e) refl
+
+pub is-other : (quote c : ℕ) (s : List ℕ) → c ≢ quote → begins (quote ∷ []) (c ∷ s) ≡ false
+is-other quote c s ne = rw (ne_eqb c quote ne) refl
+
+pub single-closed : (c : ℕ) (s : List ℕ) → c ≡ 39 → at_single_stop (c ∷ s) ≡ true
+single-closed c s e = rw e refl
+
+-- one character and its quote
+pub single-lone : (text rest : List ℕ) → is_lone (chars text) ≡ true → rest ≡ past 2 text → (true, rest) ≡ scanned single_quoted text
+single-lone text rest t e = ap (λ xs. (true, xs)) e ∙ ap (λ (b : Bool). let r : Bool × ℕ = if b then (true, 2) else quoted 39 at_single_stop (chars text) in (r.0, past r.1 text)) (sym t)
+
+pub single-free : (text : List ℕ) → is_lone (chars text) ≡ false → scanned (quoted 39 at_single_stop) text ≡ scanned single_quoted text
+single-free text t = ap (λ (b : Bool). let r : Bool × ℕ = if b then (true, 2) else quoted 39 at_single_stop (chars text) in (r.0, past r.1 text)) (sym t)
+
+module _ (text tail : List ℕ) (c : ℕ) (is : IsUtf8 text) (reads : chars text ≡ c ∷ chars tail) (cut : tail ≡ past 1 text) where
+  pub lone-not : c ≡ 92 → is_lone (chars text) ≡ false
+  lone-not e = rw (reads, e) refl
+
+  pub lone-is : (b : Bool) → c ≢ 92 → begins (39 ∷ []) (chars tail) ≡ b → is_lone (chars text) ≡ b
+  lone-is b ne q = rw (reads, ne_eqb c 92 ne) q
+
+  pub past-two : (rest : List ℕ) → rest ≡ past 1 tail → rest ≡ past 2 text
+  past-two rest e = e ∙ (ap (past 1) cut ∙ past-past 1 1 text is)
+
+  pub lone-found : c ≢ 92 → (o : Option (Bor (List ℕ))) → MatchOption o (begins (39 ∷ []) (chars tail) ≡ false) (λ t. (begins (39 ∷ []) (chars tail) ≡ true) × (t.now ≡ past 1 tail) × (length t.now < length tail))
+      → MatchOption o (is_lone (chars text) ≡ false) (λ t. (is_lone (chars text) ≡ true) × (t.now ≡ past 2 text))
+  lone-found ne None h = lone-is false ne h
+  lone-found ne (Some t) h = (lone-is true ne h.0, past-two t.now h.1)

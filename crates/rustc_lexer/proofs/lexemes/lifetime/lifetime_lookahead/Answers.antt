@@ -1,0 +1,11 @@
+use Rattle.rustc_lexer.specs.LifetimeLaws.{named_local, quote_or_lifetime_local, char_at, raw_lifetime_at, long_char_at}
+use Rattle.rustc_lexer.proofs.lexemes.lifetime.lifetime_lookahead.Goals as goal
+
+pub returns : goal.returns
+returns c = record {
+  name = named_local;
+  all = quote_or_lifetime_local;
+  character = char_at;
+  raw = raw_lifetime_at;
+  long_character = long_char_at;
+}

@@ -1,0 +1,77 @@
+-- Quoted text: what follows an opening quote.
+use Rattle.std.specs.Prelude.{ℕ, zero, suc, ◌==◌, ◌&&◌, ◌||◌, not, Bool, true, false, if◌then◌else◌, List, [], ◌∷◌, length, take, drop, reverse, codes, Option, Some, None}
+use Rattle.std.specs.Str.{byte}
+use Rattle.rustc_lexer.specs.declared.token.LiteralKind.{LiteralKind}
+use Rattle.rustc_lexer.specs.declared.token.LiteralKind.TheVariants.{Char, Byte, Str, ByteStr, CStr}
+use Rattle.rustc_lexer.specs.Literal.{Body}
+use Rattle.rustc_lexer.specs.Scan.{begins, run_len}
+
+abbrev pub one_more : Option ℕ → Option ℕ
+one_more None = None
+one_more (Some n) = Some (suc n)
+
+-- the least number below `count` that passes a test
+abbrev pub least : (ℕ → Bool) → ℕ → Option ℕ
+least test zero = None
+least test (suc count) = if test 0 then Some 0 else one_more (least (λ i. test (suc i)) count)
+
+abbrev pub is_backslash : ℕ → Bool
+is_backslash c = c == byte "\\"
+
+abbrev pub is_odd : ℕ → Bool
+is_odd zero = false
+is_odd (suc n) = not (is_odd n)
+
+-- an odd number of backslashes stands directly before the place
+abbrev pub is_escaped : List ℕ → ℕ → Bool
+is_escaped s place = is_odd (run_len is_backslash (reverse (take place s)))
+
+-- the least place that is not escaped, and where what follows passes a test
+abbrev pub free_place : (List ℕ → Bool) → List ℕ → Option ℕ
+free_place test s = least (λ place. not (is_escaped s place) && test (drop place s)) (length s)
+
+-- at the place of a stop: closed, with the quote taken, or not, with nothing of the stop taken; with no stop all is taken
+abbrev pub stopped : ℕ → Option ℕ → List ℕ → Bool × ℕ
+stopped quote None s = (false, length s)
+stopped quote (Some n) s = if begins (quote ∷ []) (drop n s) then (true, suc n) else (false, n)
+
+-- a quoted text goes up to its first stop that is not escaped; whether it is closed, and how much it takes
+abbrev pub quoted : ℕ → (List ℕ → Bool) → List ℕ → Bool × ℕ
+quoted quote stop s = stopped quote (free_place stop s) s
+
+-- between double quotes nothing but the quote stops
+abbrev pub at_double_quote : List ℕ → Bool
+at_double_quote s = begins (codes "\"") s
+
+abbrev pub double_quoted : List ℕ → Bool × ℕ
+double_quoted s = quoted (byte "\"") at_double_quote s
+
+-- between single quotes the quote stops, and so do a slash, and a newline that no quote follows
+abbrev pub at_single_stop : List ℕ → Bool
+at_single_stop s = begins (codes "'") s || begins (codes "/") s || (begins (codes "\n") s && not (begins (codes "\n'") s))
+
+-- one character and its quote
+abbrev pub is_lone : List ℕ → Bool
+is_lone s = not (begins (codes "\\") s) && begins (codes "'") (drop 1 s)
+
+abbrev pub single_quoted : List ℕ → Bool × ℕ
+single_quoted s = if is_lone s then (true, 2) else quoted (byte "'") at_single_stop s
+
+-- the literal of a quoted text takes a suffix where it is closed
+abbrev pub quoted_body : (Bool → LiteralKind) → (List ℕ → Bool × ℕ) → List ℕ → Body × ℕ
+quoted_body kind scan s = (record { kind = kind (scan s).0; takes_suffix = (scan s).0 }, (scan s).1)
+
+abbrev pub str_body : List ℕ → Body × ℕ
+str_body s = quoted_body Str double_quoted s
+
+abbrev pub byte_str_body : List ℕ → Body × ℕ
+byte_str_body s = quoted_body ByteStr double_quoted s
+
+abbrev pub c_str_body : List ℕ → Body × ℕ
+c_str_body s = quoted_body CStr double_quoted s
+
+abbrev pub char_body : List ℕ → Body × ℕ
+char_body s = quoted_body Char single_quoted s
+
+abbrev pub byte_body : List ℕ → Body × ℕ
+byte_body s = quoted_body Byte single_quoted s

@@ -1,0 +1,119 @@
+//! What begins with a single quote: characters and lifetimes.
+ghost use Rattle.std.specs.Prelude.{◌≡◌, ◌+◌, ◌≤◌, ◌<◌, ◌^◌, ◌∷◌, suc, ◌&&◌, ◌||◌, not, if◌then◌else◌, ℕ, List, Bool, true, false, length, drop, codes, MatchOption};
+ghost use Rattle.std.specs.Char.{is_ascii_digit, len_utf8};
+ghost use Rattle.std.specs.Str.{chars};
+ghost use Rattle.rustc_lexer.specs.declared.token.TokenKind.{TokenKind};
+ghost use Rattle.rustc_lexer.specs.declared.token.TokenKind.TheVariants.{Lifetime, UnknownPrefixLifetime};
+ghost use Rattle.rustc_lexer.specs.Emoji.{is_emoji};
+ghost use Rattle.rustc_lexer.specs.Lifetime as spec;
+ghost use Rattle.rustc_lexer.specs.LifetimeLaws.{is_char_at, is_raw};
+ghost use Rattle.rustc_lexer.specs.Literal.{Body, literal};
+ghost use Rattle.rustc_lexer.specs.LocalAt.{IsLocalAt};
+ghost use Rattle.rustc_lexer.specs.Quoted.{single_quoted};
+ghost use Rattle.rustc_lexer.specs.Scan.{IsLocal, begins, bytes_of, past, run_len, scanned};
+ghost use Rattle.rustc_lexer.specs.State.{suffix_start_of};
+
+use crate::classes::emoji::is_emoji;
+use crate::classes::{is_id_continue, is_id_start};
+use crate::lexemes::quoted::char_literal;
+use crate::scan::{eat_while, split_first, strip};
+use crate::token::{LiteralKind, TokenKind};
+
+/// What begins with a single quote. `tail` is what follows that.
+pub(crate) fn quote_or_lifetime(tail: &str) -> (TokenKind, &str)
+    requires fits { length tail.now + 1 < 2 ^ 32 }
+    ensures { (result.0, result.1.now) ≡ scanned spec.quote_or_lifetime tail.now }
+{
+    let Some((first, rest)) = split_first(tail) else {
+        return char_literal(tail);
+    };
+    if is_char(first, rest) {
+        char_literal(tail)
+    } else {
+        lifetime(first, rest)
+    }
+}
+
+/// Whether a quote, `first` and `rest` begin a character, and no lifetime.
+fn is_char(first: char, rest: &str) -> bool
+    ensures { result ≡ spec.is_char first (chars rest.now) }
+{
+    strip(rest, '\'').is_some() || !is_name_start(first)
+}
+
+/// Whether the name of a lifetime may begin with the character; a digit and an emoji are let through.
+fn is_name_start(c: char) -> bool
+    ensures { result ≡ spec.is_name_start c }
+{
+    is_id_start(c) || c.is_ascii_digit() || is_emoji(c)
+}
+
+/// Whether the name of a lifetime may go on with the character; an emoji is let through.
+fn is_name_part(c: char) -> bool
+    ensures { result ≡ spec.is_name_part c }
+{
+    is_id_continue(c) || is_emoji(c)
+}
+
+/// A lifetime, or a character of a whole name. The name begins with `first`, and `rest` is what follows that.
+fn lifetime(first: char, rest: &str) -> (TokenKind, &str)
+    requires fits { len_utf8 first + length rest.now + 1 < 2 ^ 32 }
+    ensures { (result.0, result.1.now) ≡ scanned (spec.lifetime first) rest.now }
+{
+    if first == 'r' {
+        if let Some(name) = strip_raw(rest) {
+            return (TokenKind::RawLifetime, eat_while(name, is_id_continue));
+        }
+    }
+    named(first, rest)
+}
+
+/// What follows a hash and the start of an identifier, if these are at the front.
+fn strip_raw(rest: &str) -> Option<&str>
+    ensures { MatchOption result (spec.begins_raw (chars rest.now) ≡ false) (λ name. (spec.begins_raw (chars rest.now) ≡ true) × (name.now ≡ past 2 rest.now)) }
+{
+    let name = strip(rest, '#')?;
+    let (first, tail) = split_first(name)?;
+    if is_id_start(first) { Some(tail) } else { None }
+}
+
+/// The same where the lifetime is not raw. A quote that follows the name makes a character of it.
+fn named(first: char, rest: &str) -> (TokenKind, &str)
+    requires fits { len_utf8 first + length rest.now + 1 < 2 ^ 32 }
+    ensures { (result.0, result.1.now) ≡ scanned (spec.named first) rest.now }
+{
+    let past_plain = eat_while(rest, is_id_continue);
+    let past_name = eat_while(past_plain, is_name_part);
+    if let Some(left) = strip(past_name, '\'') {
+        let name_len = first.len_utf8() + (rest.len() - past_name.len());
+        let kind = LiteralKind::Char { terminated: true };
+        let suffix_start = 2 + name_len as u32;
+        return (TokenKind::Literal { kind, suffix_start }, left);
+    }
+    let holds_emoji = past_name.len() < past_plain.len();
+    (unquoted(first, holds_emoji, past_name), past_name)
+}
+
+/// What a name is that begins with `first`, and that no quote follows but `rest`.
+fn unquoted(first: char, holds_emoji: bool, rest: &str) -> TokenKind
+    ensures { result ≡ (if begins (codes "#") (chars rest.now) && not (is_ascii_digit first) then UnknownPrefixLifetime
+        else Lifetime (is_ascii_digit first || is_emoji first || holds_emoji)) }
+{
+    if strip(rest, '#').is_some() && !first.is_ascii_digit() {
+        TokenKind::UnknownPrefixLifetime
+    } else {
+        TokenKind::Lifetime {
+            starts_with_number: first.is_ascii_digit() || is_emoji(first) || holds_emoji,
+        }
+    }
+}
+
+/// How far characters and lifetimes look past their end.
+pub(crate) fn lifetime_lookahead()
+    ensures name { (c : ℕ) → IsLocal TokenKind 1 (spec.named c) }
+    ensures all { IsLocal TokenKind 2 spec.quote_or_lifetime }
+    ensures character { (s : List ℕ) → is_char_at s ≡ true → (single_quoted s).0 ≡ true → IsLocalAt TokenKind 1 spec.quote_or_lifetime s }
+    ensures raw { (c : ℕ) (s : List ℕ) → spec.is_char c s ≡ false → is_raw c s ≡ true → IsLocalAt TokenKind 1 spec.quote_or_lifetime (c ∷ s) }
+    ensures long_character { (c : ℕ) (s : List ℕ) → spec.is_char c s ≡ false → is_raw c s ≡ false → begins (codes "'") (drop (run_len spec.is_name_part s) s) ≡ true
+        → IsLocalAt TokenKind 0 spec.quote_or_lifetime (c ∷ s) }
+{}
