@@ -3,6 +3,7 @@ pub mod LexemeLemmas
 pub mod PastLemmas
 pub mod RawLemmas
 pub mod RawReadLemmas
+pub mod RawSuffixLemmas
 pub mod RunLemmas
 pub mod ScanLemmas
 pub mod StateLemmas

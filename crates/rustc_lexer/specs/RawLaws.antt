@@ -1,8 +1,8 @@
 -- How far a raw string looks past its end, and what its own text is read as.
-use Rattle.std.proofs.Common.{◌≡◌, ℕ, zero, suc, ◌+◌, ◌≤◌, ◌<◌, ◌==◌, ◌&&◌, ◌⊎◌, inl, inr, min, nat_le, Bool, true, false, true≢false, if◌then◌else◌, List, [], ◌∷◌, ◌++◌, length, get_or, take, drop, refl, sym, ap, ◌∙◌, subst, arith, length-drop, length-take, take-take, take-add, take_all, codes, Option, Some, None, Result, Ok, Err}
+use Rattle.std.proofs.Common.{◌≡◌, ◌↔◌, ℕ, zero, suc, ◌+◌, ◌≤◌, ◌<◌, ◌==◌, ◌&&◌, ◌⊎◌, inl, inr, min, nat_le, Bool, true, false, true≢false, if◌then◌else◌, List, [], ◌∷◌, ◌++◌, length, get_or, take, drop, refl, sym, ap, ◌∙◌, subst, arith, length-drop, length-take, take-take, take-add, take_all, drop_at, IsNone, IsSome, Option, Some, None, Result, Ok, Err}
 use Rattle.std.proofs.lemmas.Bool.{leb-true, leb-false, le-leb, lt-leb, and_parts}
 use Rattle.std.proofs.lemmas.List.{drop-take}
-use Rattle.std.specs.Str.{encode_utf8_all}
+use Rattle.std.specs.Str.{chars, encode_utf8_all}
 use Rattle.rustc_lexer.specs.declared.lexemes.raw.RawPrefix.{RawPrefix}
 use Rattle.rustc_lexer.specs.declared.lexemes.raw.RawPrefix.TheVariants.{R, Br, Cr}
 use Rattle.rustc_lexer.specs.declared.token.LiteralKind.{LiteralKind}
@@ -13,7 +13,7 @@ use Rattle.rustc_lexer.specs.declared.token.TokenKind.{TokenKind}
 use Rattle.rustc_lexer.specs.declared.token.TokenKind.TheVariants.{Literal}
 use Rattle.rustc_lexer.specs.Literal.{Body, suffix_len, literal}
 use Rattle.rustc_lexer.specs.LiteralLaws.{literal_local}
-use Rattle.rustc_lexer.specs.Raw.{one_more, least_place, is_hash, is_quote, hashes, closes, close, counted, raw_closed, raw_text, past_starter, raw_starter, raw_read, accepted, is_accepted, raw_body_by, raw_body, prefix_kind, prefix_len, literal_past_by, raw_literal}
+use Rattle.rustc_lexer.specs.Raw.{one_more, least_place, is_hash, is_quote, hashes, closes, close, counted, raw_closed, raw_text, past_starter, raw_starter, raw_read, accepted, is_accepted, raw_body_by, raw_body, prefix_kind, prefix_len, literal_past_by, raw_literal, checked, raw_check}
 use Rattle.rustc_lexer.specs.Reach.{agree_before, agree_after, and_then_local, first_local, gives_local, run_len_local, run_len_le, same_local, wider}
 use Rattle.rustc_lexer.specs.Scan.{Agree, IsLocal, after, bytes_of, gives, next_is, run_len}
 
@@ -224,7 +224,10 @@ pub raw_read_local : (prefix : ℕ) → IsLocal (Result ℕ RawStrError) 1 (raw_
 raw_read_local prefix = and_then_local 1 hash_count (raw_starter prefix) hash_count_local (raw_starter_local prefix)
 
 -- what has an end of its own depends on nothing past it
-pub raw_read_within : (prefix : ℕ) (s u : List ℕ) → HasEnd (drop (hashes s) s) (raw_read prefix s).0 → Agree 0 (raw_read prefix s).1 s u → raw_read prefix u ≡ raw_read prefix s
+abbrev pub EndsItself : ℕ → Type 0
+EndsItself prefix = (s u : List ℕ) → HasEnd (drop (hashes s) s) (raw_read prefix s).0 → Agree 0 (raw_read prefix s).1 s u → raw_read prefix u ≡ raw_read prefix s
+
+pub raw_read_within : (prefix : ℕ) → EndsItself prefix
 raw_read_within prefix s u end a =
     let n : ℕ = hashes s in
     let m : ℕ = (raw_starter prefix n (drop n s)).1 in
@@ -296,9 +299,16 @@ raw_literal_local Br = after_two RawByteStr
 raw_literal_local Cr = after_two RawCStr
 
 -- a refused raw string with an end of its own depends on nothing past it
-pub raw_literal_within : (prefix : RawPrefix) (s u : List ℕ) → is_accepted (raw_read 0 s).0 ≡ false → HasEnd (drop (hashes s) s) (raw_read 0 s).0 → Agree 0 (raw_literal prefix s).1 s u
-    → raw_literal prefix u ≡ raw_literal prefix s
-raw_literal_within prefix s u refused end a =
+abbrev pub RefusedEndsItself : RawPrefix → Type 0
+RefusedEndsItself prefix = (s u : List ℕ) → IsNone (accepted (raw_read 0 s).0) → HasEnd (drop (hashes s) s) (raw_read 0 s).0 → Agree 0 (raw_literal prefix s).1 s u → raw_literal prefix u ≡ raw_literal prefix s
+
+pub refused-takes_none : (r : Result ℕ RawStrError) → IsNone (accepted r) → is_accepted r ≡ false
+refused-takes_none (Ok n) none = none
+refused-takes_none (Err e) none = refl
+
+pub raw_literal_within : (prefix : RawPrefix) → RefusedEndsItself prefix
+raw_literal_within prefix s u none end a =
+    let refused : is_accepted (raw_read 0 s).0 ≡ false = refused-takes_none (raw_read 0 s).0 none in
     let body : Body × ℕ = raw_body (prefix_kind prefix) s in
     let m : ℕ = (raw_read 0 s).1 in
     let taken : (raw_literal prefix s).1 ≡ m = ap (λ (b : Bool). m + (if b then suffix_len (drop m s) else 0)) refused ∙ omega arith in
@@ -313,3 +323,16 @@ raw_literal_within prefix s u refused end a =
 -- alone, the text of a token is read as the token was, with its suffix or without
 pub raw_literal_own : (prefix : RawPrefix) (p : ℕ) (s : List ℕ) → accepted (raw_read p (take (raw_literal prefix s).1 s)).0 ≡ accepted (raw_read 0 s).0
 raw_literal_own prefix p s = raw_read_own p s (raw_literal prefix s).1 (omega arith)
+
+checked-ok : (r : Result ℕ RawStrError) → (checked r ≡ Ok tt) ↔ IsSome (accepted r)
+checked-ok (Ok n) = (λ e. refl, λ some. refl)
+checked-ok (Err e) = (λ f. absurd (cc), λ some. absurd (true≢false (sym some)))
+
+pub raw_check_own : (prefix : RawPrefix) (text front s : List ℕ) → chars text ≡ front ++ take (raw_literal prefix s).1 s → (raw_check text (length front) ≡ Ok tt) ↔ IsSome (accepted (raw_read 0 s).0)
+unfolding raw_check
+raw_check_own prefix text front s e =
+    let own : List ℕ = take (raw_literal prefix s).1 s in
+    let p : ℕ = length front in
+    let past_front : drop p (chars text) ≡ own = ap (drop p) e ∙ drop_at front own p refl in
+    let same : accepted (raw_read p (drop p (chars text))).0 ≡ accepted (raw_read 0 s).0 = ap (λ (xs : List ℕ). accepted (raw_read p xs).0) past_front ∙ raw_literal_own prefix p s in
+    subst (λ (o : Option ℕ). (raw_check text p ≡ Ok tt) ↔ IsSome o) same (checked-ok (raw_read p (drop p (chars text))).0)

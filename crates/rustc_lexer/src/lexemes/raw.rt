@@ -1,8 +1,15 @@
 //! Raw strings.
-ghost use Rattle.std.specs.Prelude.{◌≡◌, ◌+◌, ◌<◌, ◌≤◌, ◌^◌, ℕ, suc, ◌∷◌, [], length, take, drop, MatchOption, Option, Result, List, true, false, Ok, ◌↔◌, ◌++◌};
+ghost use Rattle.std.specs.Prelude.{◌≡◌, ◌↔◌, ℕ, suc, ◌+◌, ◌<◌, ◌≤◌, ◌^◌, List, [], ◌∷◌, ◌++◌, length, take, drop, Option, Result, IsNone, IsSome, MatchOption};
 ghost use Rattle.std.specs.Str.{byte, chars};
+ghost use Rattle.rustc_lexer.specs.declared.lexemes.raw.RawPrefix.{RawPrefix};
+ghost use Rattle.rustc_lexer.specs.declared.token.LiteralKind.{LiteralKind};
+ghost use Rattle.rustc_lexer.specs.declared.token.RawStrError.{RawStrError};
+ghost use Rattle.rustc_lexer.specs.declared.token.TokenKind.{TokenKind};
+ghost use Rattle.rustc_lexer.specs.Literal.{literal};
 ghost use Rattle.rustc_lexer.specs.Raw as spec;
-ghost use Rattle.rustc_lexer.specs.Scan.{past, run_len, scanned};
+ghost use Rattle.rustc_lexer.specs.RawLaws.{EndsItself, RefusedEndsItself};
+ghost use Rattle.rustc_lexer.specs.Scan.{IsLocal, bytes_of, past, run_len, scanned};
+ghost use Rattle.rustc_lexer.specs.State.{suffix_start_of};
 
 use crate::lexemes::literal::eat_suffix;
 use crate::scan::{eat_while, split_first, strip};
@@ -126,7 +133,25 @@ fn counted(n_hashes: u32) -> Result<u8, RawStrError>
     }
 }
 
-/// How far a raw string looks past its end.
+/// How far a raw string looks past its end: one character, for its suffix or the end of the text. What is
+/// refused looks at none, unless the text ends where it does.
 pub(crate) fn lookahead()
-    ensures { (n : ℕ) (s : List ℕ) → n ≡ n }
+    ensures read { (prefix : ℕ) → IsLocal (Result ℕ RawStrError) 1 (spec.raw_read prefix) }
+    ensures ended { (prefix : ℕ) → EndsItself prefix }
+    ensures literal { (prefix : RawPrefix) → IsLocal TokenKind 1 (spec.raw_literal prefix) }
+    ensures refused { (prefix : RawPrefix) → RefusedEndsItself prefix }
+    ensures body { (kind : Option ℕ → LiteralKind) → IsLocal TokenKind 1 (literal (spec.raw_body kind)) }
+{}
+
+/// Where the suffix of a raw string begins: within its token, and at its end where it is refused.
+pub(crate) fn suffixes()
+    ensures within { (prefix : RawPrefix) (s : List ℕ) → suffix_start_of (spec.raw_literal prefix s).0 ≤ spec.prefix_len prefix + bytes_of (spec.raw_literal prefix s).1 s }
+    ensures refused { (prefix : RawPrefix) (s : List ℕ) → IsNone (spec.accepted (spec.raw_read 0 s).0)
+        → suffix_start_of (spec.raw_literal prefix s).0 ≡ spec.prefix_len prefix + bytes_of (spec.raw_literal prefix s).1 s }
+{}
+
+/// The check of a raw string's own text refuses nothing exactly where its token has a number of hashes.
+pub(crate) fn own_text()
+    ensures { (prefix : RawPrefix) (text front s : List ℕ) → chars text ≡ front ++ take (spec.raw_literal prefix s).1 s
+        → (spec.raw_check text (length front) ≡ Ok tt) ↔ IsSome (spec.accepted (spec.raw_read 0 s).0) }
 {}
