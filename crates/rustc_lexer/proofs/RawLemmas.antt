@@ -1,14 +1,14 @@
 -- The loop over the text of a raw string.
-use Rattle.std.proofs.Common.{◌≡◌, ◌≢◌, ℕ, zero, suc, ◌+◌, ◌-◌, ◌≤◌, ◌<◌, ◌==◌, ◌&&◌, max, nat_le, not, Bool, true, false, true≢false, if◌then◌else◌, List, [], ◌∷◌, ◌++◌, length, take, drop, refl, sym, ap, ◌∙◌, subst, arith, length-append, Option, Some, None, Result, Ok, Err, MatchOption}
+use Rattle.std.proofs.Common.{◌≡◌, ℕ, zero, suc, ◌+◌, ◌-◌, ◌≤◌, ◌<◌, ◌==◌, ◌&&◌, max, nat_le, not, Bool, true, false, true≢false, if◌then◌else◌, List, [], ◌∷◌, length, drop, refl, sym, ap, ◌∙◌, subst, arith, Option, Some, None, Result, Err, MatchOption}
 use Rattle.std.specs.Char.{encode_utf8}
-use Rattle.std.specs.Str.{byte, chars, encode_utf8_all, IsUtf8, IsCharBoundary}
+use Rattle.std.specs.Str.{chars, encode_utf8_all, IsUtf8, IsCharBoundary}
 use Rattle.std.proofs.lemmas.Bool.{eqb-true, eq-eqb, ne_eqb, le-leb, lt-leb, not-false, and_parts}
-use Rattle.std.proofs.lemmas.Str.{chars-nil, encode_ascii, IsCharBoundary-from_drop}
+use Rattle.std.proofs.lemmas.Str.{encode_ascii, IsCharBoundary-from_drop}
 use Rattle.rustc_lexer.specs.declared.token.RawStrError.{RawStrError}
-use Rattle.rustc_lexer.specs.declared.token.RawStrError.TheVariants.{InvalidStarter, NoTerminator, TooManyDelimiters}
-use Rattle.rustc_lexer.specs.Raw.{one_more, least_place, is_hash, is_quote, is_no_quote, hashes, closes, close, quote_hashes, most_hashes, quote_with, quote_end, end_with, counted, raw_closed, raw_text, past_starter, raw_starter, raw_read}
+use Rattle.rustc_lexer.specs.declared.token.RawStrError.TheVariants.{NoTerminator}
+use Rattle.rustc_lexer.specs.Raw.{one_more, least_place, is_hash, is_quote, is_no_quote, hashes, closes, close, quote_hashes, most_hashes, quote_with, quote_end, end_with, counted, raw_closed, raw_text}
 use Rattle.rustc_lexer.specs.RawLaws.{place-here, place-on}
-use Rattle.rustc_lexer.specs.Scan.{after, begins, bytes_of, gives, past, run_len, scanned}
+use Rattle.rustc_lexer.specs.Scan.{begins, bytes_of, past, run_len, scanned}
 use Rattle.rustc_lexer.proofs.CharSteps.{bytes_of-suc}
 use Rattle.rustc_lexer.proofs.PastLemmas.{past-zero, past-past, past-drop, chars-past, IsUtf8-past, length-past}
 
@@ -86,7 +86,7 @@ run_len-stop p (d ∷ s) c u e = by_class (λ f. run_len-stop p s c u f) (p d) r
 pub past_quote-is : {B : Type 0} (now : B → List ℕ) (rest mid : List ℕ) (o : Option B) → IsUtf8 rest → mid ≡ past (run_len is_no_quote (chars rest)) rest → length mid ≤ length rest
     → MatchOption o (begins (34 ∷ []) (chars mid) ≡ false) (λ tail. (begins (34 ∷ []) (chars mid) ≡ true) × (now tail ≡ past 1 mid) × (length (now tail) < length mid))
     → MatchOption o (drop (run_len is_no_quote (chars rest)) (chars rest) ≡ [])
-        (λ tail. (drop (run_len is_no_quote (chars rest)) (chars rest) ≡ 34 ∷ chars (now tail)) × (now tail ≡ past (suc (run_len is_no_quote (chars rest))) rest) × (length (now tail) < length rest))
+    (λ tail. (drop (run_len is_no_quote (chars rest)) (chars rest) ≡ 34 ∷ chars (now tail)) × (now tail ≡ past (suc (run_len is_no_quote (chars rest))) rest) × (length (now tail) < length rest))
 past_quote-is now rest mid None is e le h = at_end (drop (run_len is_no_quote (chars rest)) (chars rest)) refl
   where
     at_end : (s : List ℕ) → drop (run_len is_no_quote (chars rest)) (chars rest) ≡ s → s ≡ []
@@ -174,8 +174,8 @@ hash_len text rest is e =
 
 -- one turn of the loop: `tail` follows the next quote, and `next` its hashes
 module _ (n before : ℕ) (text left tail next : List ℕ) (found : ℕ) (end : Option ℕ) (is : IsUtf8 text) (at : Searching n before text left found end)
-  (quote : drop (run_len is_no_quote (chars left)) (chars left) ≡ 34 ∷ chars tail) (tail_is : tail ≡ past (suc (run_len is_no_quote (chars left))) left)
-  (next_is : next ≡ past (run_len is_hash (chars tail)) tail) where
+    (quote : drop (run_len is_no_quote (chars left)) (chars left) ≡ 34 ∷ chars tail) (tail_is : tail ≡ past (suc (run_len is_no_quote (chars left))) left)
+    (next_is : next ≡ past (run_len is_hash (chars tail)) tail) where
   tail_at : tail ≡ past (at.taken + suc (run_len is_no_quote (chars left))) text
   tail_at = tail_is ∙ (ap (past (suc (run_len is_no_quote (chars left)))) at.place ∙ past-past (suc (run_len is_no_quote (chars left))) at.taken text is)
 

@@ -63,7 +63,7 @@ most_hashes u = greatest (λ place. quote_hashes (drop place u)) (length u)
 abbrev pub quote_with : ℕ → List ℕ → Option ℕ
 quote_with m u = least_place (λ s. quote_hashes s == m) u
 
--- where the quote at this place ends, in bytes, of which `before` stand before u
+-- where the quote at this place ends, in bytes; `before` of them stand before u
 abbrev pub quote_end : ℕ → List ℕ → Option ℕ → Option ℕ
 quote_end before u None = None
 quote_end before u (Some place) = Some (before + bytes_of (suc place) u)
@@ -81,7 +81,7 @@ abbrev pub raw_closed : ℕ → ℕ → List ℕ → Option ℕ → Result ℕ R
 raw_closed n before u (Some place) = (counted n, suc place + n)
 raw_closed n before u None = (Err (NoTerminator n (most_hashes u) (end_with (most_hashes u) before u)), length u)
 
--- what follows n hashes and a quote, before which `before` bytes stand
+-- what follows n hashes and a quote; an offset counts `before` bytes for what stands before
 abbrev pub raw_text : ℕ → ℕ → List ℕ → Result ℕ RawStrError × ℕ
 raw_text n before u = raw_closed n before u (close n u)
 
@@ -94,8 +94,8 @@ abbrev pub raw_starter : ℕ → ℕ → List ℕ → Result ℕ RawStrError × 
 raw_starter prefix n [] = (Err (InvalidStarter 0), 0)
 raw_starter prefix n (c ∷ u) = ((past_starter prefix n c u).0, suc (past_starter prefix n c u).1)
 
--- what follows a prefix of so many bytes, which ends in `r`: the number of hashes on each side, or why the string is
--- refused
+-- what follows the `r`: the number of hashes on each side, or why the string is refused. An offset counts `prefix`
+-- bytes for what stands before
 abbrev pub raw_read : ℕ → List ℕ → Result ℕ RawStrError × ℕ
 raw_read prefix s = after (hashes s) (raw_starter prefix (hashes s)) s
 
@@ -132,11 +132,11 @@ literal_past_by p body s = (Literal body.0.kind (p + bytes_of body.1 s), body.1 
 abbrev pub raw_literal : RawPrefix → List ℕ → TokenKind × ℕ
 raw_literal prefix s = literal_past_by (prefix_len prefix) (raw_body (prefix_kind prefix) s) s
 
--- the check of a text whose prefix is p characters long
 abbrev pub checked : Result ℕ RawStrError → Result Unit RawStrError
 checked (Ok n) = Ok tt
 checked (Err e) = Err e
 
+-- the check of a text whose prefix is p characters long
 unfoldable pub raw_check : List ℕ → ℕ → Result Unit RawStrError
 raw_check text p = checked (raw_read p (drop p (chars text))).0
 

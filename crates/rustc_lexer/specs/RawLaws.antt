@@ -1,7 +1,6 @@
 -- How far a raw string looks past its end, and what its own text is read as.
-use Rattle.std.proofs.Common.{◌≡◌, ◌↔◌, ℕ, zero, suc, ◌+◌, ◌≤◌, ◌<◌, ◌==◌, ◌&&◌, ◌⊎◌, inl, inr, min, nat_le, Bool, true, false, true≢false, if◌then◌else◌, List, [], ◌∷◌, ◌++◌, length, get_or, take, drop, refl, sym, ap, ◌∙◌, subst, arith, length-drop, length-take, take-take, take-add, take_all, drop_at, IsNone, IsSome, Option, Some, None, Result, Ok, Err}
+use Rattle.std.proofs.Common.{◌≡◌, ◌↔◌, ℕ, zero, suc, ◌+◌, ◌≤◌, ◌<◌, ◌&&◌, ◌⊎◌, inl, inr, min, nat_le, Bool, true, false, true≢false, if◌then◌else◌, List, [], ◌∷◌, ◌++◌, length, get_or, take, drop, refl, sym, ap, ◌∙◌, subst, arith, length-drop, length-take, take-take, take-add, take_all, drop_at, IsNone, IsSome, Option, Some, None, Result, Ok, Err}
 use Rattle.std.proofs.lemmas.Bool.{leb-true, leb-false, le-leb, lt-leb, and_parts}
-use Rattle.std.proofs.lemmas.List.{drop-take}
 use Rattle.std.specs.Str.{chars, encode_utf8_all}
 use Rattle.rustc_lexer.specs.declared.lexemes.raw.RawPrefix.{RawPrefix}
 use Rattle.rustc_lexer.specs.declared.lexemes.raw.RawPrefix.TheVariants.{R, Br, Cr}
@@ -13,9 +12,9 @@ use Rattle.rustc_lexer.specs.declared.token.TokenKind.{TokenKind}
 use Rattle.rustc_lexer.specs.declared.token.TokenKind.TheVariants.{Literal}
 use Rattle.rustc_lexer.specs.Literal.{Body, suffix_len, literal}
 use Rattle.rustc_lexer.specs.LiteralLaws.{literal_local}
-use Rattle.rustc_lexer.specs.Raw.{one_more, least_place, is_hash, is_quote, hashes, closes, close, counted, raw_closed, raw_text, past_starter, raw_starter, raw_read, accepted, is_accepted, raw_body_by, raw_body, prefix_kind, prefix_len, literal_past_by, raw_literal, checked, raw_check}
+use Rattle.rustc_lexer.specs.Raw.{one_more, least_place, is_hash, is_quote, hashes, closes, close, raw_closed, raw_text, past_starter, raw_starter, raw_read, accepted, is_accepted, raw_body_by, raw_body, prefix_kind, prefix_len, literal_past_by, raw_literal, checked, raw_check}
 use Rattle.rustc_lexer.specs.Reach.{agree_before, agree_after, and_then_local, first_local, gives_local, run_len_local, run_len_le, same_local, wider}
-use Rattle.rustc_lexer.specs.Scan.{Agree, IsLocal, after, bytes_of, gives, next_is, run_len}
+use Rattle.rustc_lexer.specs.Scan.{Agree, IsLocal, after, bytes_of, gives, run_len}
 
 -- texts that agree past a place see the same before it
 pub agree_sooner : (j k n m : ℕ) (s u : List ℕ) → j ≤ m + k → Agree k (n + m) s u → Agree j n s u

@@ -8,8 +8,8 @@ use crate::lexemes::raw::raw_double_quoted;
 use crate::scan::{first, split_first};
 use crate::token::RawStrError;
 
-/// Whether the first `prefix_len` characters of the text may be the prefix of a raw string: there is at
-/// least one, and the last of them is `r`.
+/// Whether the first `prefix_len` characters of the text may be the prefix of a raw string: `prefix_len` is
+/// at least 1, and character number `prefix_len`, counted from 1, is `r`.
 ///
 /// What [`validate_raw_str`] requires of its text.
 pub fn starts_raw(input: &str, prefix_len: u32) -> bool
@@ -21,10 +21,17 @@ pub fn starts_raw(input: &str, prefix_len: u32) -> bool
     first(past_chars(input, prefix_len - 1)) == 'r'
 }
 
-/// Whether a text that begins with a raw string has a good one there, or why not.
+/// Whether the raw string that the text begins with is a good one, or why not.
 ///
-/// `prefix_len` is the length of the prefix, up to and with its `r`, in characters: 1 for `r`, 2 for `br`.
-/// The text has at most `u32::MAX` bytes.
+/// `prefix_len` is the length of the prefix in characters, with its `r`: 1 for `r`, 2 for `br` and `cr`.
+/// What [`starts_raw`] tests is required of it. The text has at most `u32::MAX` bytes.
+///
+/// An offset in the answer is in bytes: those past the prefix, and `prefix_len` more. So it is a place in the
+/// text where each character of the prefix is one byte long.
+///
+/// ```ignore
+/// validate_raw_str("r##\"abc\"#", 1) // NoTerminator { expected: 2, found: 1, possible_terminator_offset: Some(8) }
+/// ```
 pub fn validate_raw_str(input: &str, prefix_len: u32) -> Result<(), RawStrError>
     requires fits { Fits input.now }
     requires raw { spec.StartsRaw input.now prefix_len }

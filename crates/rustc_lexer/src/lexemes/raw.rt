@@ -28,7 +28,7 @@ pub(crate) enum RawPrefix {
 
 /// The token of a raw string. `rest` is what follows its prefix.
 pub(crate) fn raw_literal(prefix: RawPrefix, rest: &str) -> (TokenKind, &str)
-    requires fits { length rest.now + 2 < 2 ^ 32 }
+    requires fits { spec.prefix_len prefix + length rest.now < 2 ^ 32 }
     ensures { (result.0, result.1.now) ≡ scanned (spec.raw_literal prefix) rest.now }
 {
     let (read, left) = raw_double_quoted(rest, 0);
@@ -66,8 +66,8 @@ fn literal_kind(prefix: RawPrefix, n_hashes: Option<u8>) -> LiteralKind
     }
 }
 
-/// The number of hashes on each side of the raw string that `rest` begins with, past its prefix, or why
-/// it is refused; and what it leaves of `rest`. An offset counts the `prefix_len` bytes of the prefix.
+/// The number of hashes on each side of a raw string, or why it is refused; and what it leaves of `rest`,
+/// which follows its prefix. An offset is in bytes, and counts `prefix_len` for the prefix.
 pub(crate) fn raw_double_quoted(rest: &str, prefix_len: u32) -> (Result<u8, RawStrError>, &str)
     requires fits { prefix_len + length rest.now < 2 ^ 32 }
     ensures { (result.0, result.1.now) ≡ scanned (spec.raw_read prefix_len) rest.now }
@@ -75,7 +75,10 @@ pub(crate) fn raw_double_quoted(rest: &str, prefix_len: u32) -> (Result<u8, RawS
     let from_starter = eat_while(rest, |c| c == '#');
     let n_hashes = (rest.len() - from_starter.len()) as u32;
     let Some((starter, text)) = split_first(from_starter) else {
-        return (Err(RawStrError::InvalidStarter { bad_char: '\0' }), from_starter);
+        return (
+            Err(RawStrError::InvalidStarter { bad_char: '\0' }),
+            from_starter,
+        );
     };
     if starter != '"' {
         return (Err(RawStrError::InvalidStarter { bad_char: starter }), text);
@@ -83,8 +86,8 @@ pub(crate) fn raw_double_quoted(rest: &str, prefix_len: u32) -> (Result<u8, RawS
     raw_text(text, n_hashes, prefix_len + n_hashes + 1)
 }
 
-/// The same of the text that follows the opening quote, with the number of hashes before that. An offset
-/// counts the `before` bytes that stand before `text`.
+/// The same where `text` follows the opening quote, and `n_hashes` hashes stand before that. An offset
+/// counts `before` bytes for what stands before `text`.
 fn raw_text(text: &str, n_hashes: u32, before: u32) -> (Result<u8, RawStrError>, &str)
     requires fits { before + length text.now < 2 ^ 32 }
     ensures { (result.0, result.1.now) ≡ scanned (spec.raw_text n_hashes before) text.now }
@@ -116,8 +119,8 @@ fn raw_text(text: &str, n_hashes: u32, before: u32) -> (Result<u8, RawStrError>,
 fn past_quote(rest: &str) -> Option<&str>
     ensures { let place = run_len spec.is_no_quote (chars rest.now) in
         MatchOption result
-            (drop place (chars rest.now) ≡ [])
-            (λ tail. (drop place (chars rest.now) ≡ byte "\"" ∷ chars tail.now) × (tail.now ≡ past (suc place) rest.now) × (length tail.now < length rest.now)) }
+        (drop place (chars rest.now) ≡ [])
+        (λ tail. (drop place (chars rest.now) ≡ byte "\"" ∷ chars tail.now) × (tail.now ≡ past (suc place) rest.now) × (length tail.now < length rest.now)) }
 {
     strip(eat_while(rest, |c| c != '"'), '"')
 }
