@@ -12,6 +12,9 @@ pub mod NumberLemmas
 pub mod PastLemmas
 pub mod QuotedLemmas
 pub mod QuotedLoop
+pub mod RawLemmas
+pub mod RawReadLemmas
+pub mod RawSuffixLemmas
 pub mod RunLemmas
 pub mod ScanLemmas
 pub mod StateLemmas

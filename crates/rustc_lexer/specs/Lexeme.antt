@@ -1,5 +1,8 @@
 -- The token at the front of a text.
-use Rattle.std.specs.Prelude.{ℕ, suc, ◌==◌, if◌then◌else◌, List, [], ◌∷◌, Bool, ◌||◌, codes}
+use Rattle.rustc_lexer.specs.declared.lexemes.raw.RawPrefix.TheVariants.{R, Br, Cr}
+use Rattle.rustc_lexer.specs.declared.lexemes.raw.RawPrefix.{RawPrefix}
+use Rattle.rustc_lexer.specs.Raw.{raw_literal}
+use Rattle.std.specs.Prelude.{ℕ, suc, ◌==◌, if◌then◌else◌, List, [], ◌∷◌, Bool, ◌||◌, codes, ◌&&◌, drop}
 use Rattle.std.specs.Char.{is_ascii_digit}
 use Rattle.std.specs.Str.{byte}
 use Rattle.rustc_lexer.specs.declared.token.Token.{Token}
@@ -13,7 +16,7 @@ use Rattle.rustc_lexer.specs.Lifetime.{quote_or_lifetime}
 use Rattle.rustc_lexer.specs.Literal.{literal}
 use Rattle.rustc_lexer.specs.Number.{number}
 use Rattle.rustc_lexer.specs.Quoted.{byte_body, byte_str_body, c_str_body, str_body}
-use Rattle.rustc_lexer.specs.Scan.{after, begins, gives, run, token_by}
+use Rattle.rustc_lexer.specs.Scan.{after, begins, gives, run, token_by, next_is}
 
 -- the tokens of one symbol
 abbrev pub symbols : List (ℕ × TokenKind)
@@ -37,22 +40,36 @@ symbol_kind c = kind_among symbols c
 abbrev pub whitespace : List ℕ → TokenKind × ℕ
 whitespace s = run Whitespace is_whitespace s
 
+-- a raw string goes on with hashes or a quote
+abbrev pub is_raw_mark : ℕ → Bool
+is_raw_mark c = is_among (codes "#\"") c
+
 -- what follows an `r`, and what follows a `k`
+abbrev pub raw_or_ident : List ℕ → TokenKind × ℕ
+raw_or_ident s = if next_is is_raw_mark s then raw_literal R s else ident s
+
 abbrev pub letter_r : List ℕ → TokenKind × ℕ
-letter_r s = marked RawIdent ident s
+letter_r s = marked RawIdent raw_or_ident s
 
 abbrev pub letter_k : List ℕ → TokenKind × ℕ
 letter_k s = marked ForcedKeywordIdent ident s
+
+-- an `r`, and what a raw string goes on with
+abbrev pub begins_raw : List ℕ → Bool
+begins_raw s = begins (codes "r") s && next_is is_raw_mark (drop 1 s)
+
+abbrev pub raw_past_or_ident : RawPrefix → List ℕ → TokenKind × ℕ
+raw_past_or_ident prefix s = if begins_raw s then after 1 (raw_literal prefix) s else ident s
 
 -- what follows a `b`, and what follows a `c`
 abbrev pub letter_b : List ℕ → TokenKind × ℕ
 letter_b s =
     if begins (codes "'") s then literal (after 1 byte_body) s
     else (if begins (codes "\"") s then literal (after 1 byte_str_body) s
-    else ident s)
+    else raw_past_or_ident Br s)
 
 abbrev pub letter_c : List ℕ → TokenKind × ℕ
-letter_c s = if begins (codes "\"") s then literal (after 1 c_str_body) s else ident s
+letter_c s = if begins (codes "\"") s then literal (after 1 c_str_body) s else raw_past_or_ident Cr s
 
 -- what follows a letter or another start of an identifier
 abbrev pub word : ℕ → List ℕ → TokenKind × ℕ

@@ -17,6 +17,8 @@ pub mod Number
 pub mod NumberLaws
 pub mod Quoted
 pub mod QuotedLaws
+pub mod Raw
+pub mod RawLaws
 pub mod Reach
 pub mod Scan
 pub mod State

@@ -25,6 +25,7 @@ mod lifetime;
 mod literal;
 mod number;
 mod quoted;
+pub(crate) mod raw;
 mod word;
 
 /// The token at the front of a text. At the end of the text it is `Eof`, of length 0.

@@ -8,6 +8,7 @@ pub mod classes;
 pub mod cursor;
 pub mod entry;
 mod lexemes;
+pub mod raw_check;
 mod scan;
 pub mod token;
 

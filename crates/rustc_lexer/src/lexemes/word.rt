@@ -1,12 +1,14 @@
 //! What begins with a letter: identifiers, and the literals that a letter marks.
 ghost use Rattle.std.specs.Prelude.{◌≡◌, ◌+◌, ◌<◌, ◌^◌, length};
 ghost use Rattle.rustc_lexer.specs.Lexeme as spec;
+ghost use Rattle.rustc_lexer.specs.Raw.{prefix_len};
 ghost use Rattle.rustc_lexer.specs.Scan.{scanned};
 
 use crate::classes::is_id_start;
 use crate::lexemes::ident::{eat_marked, ident};
 use crate::lexemes::quoted::{byte_literal, byte_str_literal, c_str_literal};
-use crate::scan::strip;
+use crate::lexemes::raw::{RawPrefix, raw_literal};
+use crate::scan::{next_is, strip};
 use crate::token::TokenKind;
 
 /// Whether an identifier begins with the character, or a literal that a letter marks.
@@ -30,14 +32,26 @@ pub(crate) fn word(first: char, tail: &str) -> (TokenKind, &str)
     }
 }
 
-/// What begins with an `r`: a raw identifier, or an identifier.
+/// What begins with an `r`: a raw identifier, a raw string, or an identifier.
 fn letter_r(tail: &str) -> (TokenKind, &str)
+    requires fits { length tail.now + 1 < 2 ^ 32 }
     ensures { (result.0, result.1.now) ≡ scanned spec.letter_r tail.now }
 {
-    match eat_marked(tail) {
-        Some(rest) => (TokenKind::RawIdent, rest),
-        None => ident(tail),
+    if let Some(rest) = eat_marked(tail) {
+        return (TokenKind::RawIdent, rest);
     }
+    if next_is(tail, is_raw_mark) {
+        raw_literal(RawPrefix::R, tail)
+    } else {
+        ident(tail)
+    }
+}
+
+/// Whether a raw string goes on with the character after its prefix.
+fn is_raw_mark(c: char) -> bool
+    ensures { result ≡ spec.is_raw_mark c }
+{
+    matches!(c, '#' | '"')
 }
 
 /// What begins with a `k`: a forced keyword, or an identifier.
@@ -60,7 +74,7 @@ fn letter_b(tail: &str) -> (TokenKind, &str)
     } else if let Some(body) = strip(tail, '"') {
         byte_str_literal(tail, body)
     } else {
-        ident(tail)
+        raw_or_ident(RawPrefix::Br, tail)
     }
 }
 
@@ -71,6 +85,22 @@ fn letter_c(tail: &str) -> (TokenKind, &str)
 {
     match strip(tail, '"') {
         Some(body) => c_str_literal(tail, body),
-        None => ident(tail),
+        None => raw_or_ident(RawPrefix::Cr, tail),
+    }
+}
+
+/// A raw string whose prefix of two letters ends with the `r` that `tail` begins with, or an identifier.
+fn raw_or_ident(prefix: RawPrefix, tail: &str) -> (TokenKind, &str)
+    requires long { prefix_len prefix ≡ 2 }
+    requires fits { length tail.now + 1 < 2 ^ 32 }
+    ensures { (result.0, result.1.now) ≡ scanned (spec.raw_past_or_ident prefix) tail.now }
+{
+    let Some(rest) = strip(tail, 'r') else {
+        return ident(tail);
+    };
+    if next_is(rest, is_raw_mark) {
+        raw_literal(prefix, rest)
+    } else {
+        ident(tail)
     }
 }

@@ -1,0 +1,287 @@
+-- The loop over the text of a raw string.
+use Rattle.std.proofs.Common.{◌≡◌, ℕ, zero, suc, ◌+◌, ◌-◌, ◌≤◌, ◌<◌, ◌==◌, ◌&&◌, max, nat_le, not, Bool, true, false, true≢false, if◌then◌else◌, List, [], ◌∷◌, length, drop, refl, sym, ap, ◌∙◌, subst, arith, Option, Some, None, Result, Err, MatchOption}
+use Rattle.std.specs.Char.{encode_utf8}
+use Rattle.std.specs.Str.{chars, encode_utf8_all, IsUtf8, IsCharBoundary}
+use Rattle.std.proofs.lemmas.Bool.{eqb-true, eq-eqb, ne_eqb, le-leb, lt-leb, not-false, and_parts}
+use Rattle.std.proofs.lemmas.Str.{encode_ascii, IsCharBoundary-from_drop}
+use Rattle.rustc_lexer.specs.declared.token.RawStrError.{RawStrError}
+use Rattle.rustc_lexer.specs.declared.token.RawStrError.TheVariants.{NoTerminator}
+use Rattle.rustc_lexer.specs.Raw.{one_more, least_place, is_hash, is_quote, is_no_quote, hashes, closes, close, quote_hashes, most_hashes, quote_with, quote_end, end_with, counted, raw_closed, raw_text}
+use Rattle.rustc_lexer.specs.RawLaws.{place-here, place-on}
+use Rattle.rustc_lexer.specs.Scan.{begins, bytes_of, past, run_len, scanned}
+use Rattle.rustc_lexer.proofs.CharSteps.{bytes_of-suc}
+use Rattle.rustc_lexer.proofs.PastLemmas.{past-zero, past-past, past-drop, chars-past, IsUtf8-past, length-past}
+
+-- a place that is found k characters further on
+abbrev pub further : ℕ → Option ℕ → Option ℕ
+further k None = None
+further k (Some n) = Some (k + n)
+
+further-zero : (o : Option ℕ) → o ≡ further 0 o
+further-zero None = refl
+further-zero (Some n) = ap Some (omega arith)
+
+one_more-further : (k : ℕ) (o : Option ℕ) → one_more (further k o) ≡ further (suc k) o
+one_more-further k None = refl
+one_more-further k (Some n) = ap Some (omega arith)
+
+-- past k characters, a quote, and h characters
+further-quote : (k h : ℕ) (o : Option ℕ) → further k (one_more (further h o)) ≡ further (suc k + h) o
+further-quote k h None = refl
+further-quote k h (Some n) = ap Some (omega arith)
+
+pub further-further : (j k : ℕ) (o : Option ℕ) → further j (further k o) ≡ further (j + k) o
+further-further j k None = refl
+further-further j k (Some n) = ap Some (omega arith)
+
+-- the characters of a class without quotes are passed over
+module _ (p : ℕ → Bool) (none : (c : ℕ) → p c ≡ true → is_quote c ≡ false) where
+  skip-place : (test : List ℕ → Bool) → ((c : ℕ) (s : List ℕ) → is_quote c ≡ false → test (c ∷ s) ≡ false) → (s : List ℕ) → least_place test s ≡ further (run_len p s) (least_place test (drop (run_len p s) s))
+  skip-place test fails [] = refl
+  skip-place test fails (c ∷ s) = by_class (skip-place test fails s) (p c) refl
+    where
+      by_class : least_place test s ≡ further (run_len p s) (least_place test (drop (run_len p s) s)) → (b : Bool) → p c ≡ b
+          → least_place test (c ∷ s) ≡ further (run_len p (c ∷ s)) (least_place test (drop (run_len p (c ∷ s)) (c ∷ s)))
+      by_class ih true e =
+          let n : ℕ = run_len p s in
+          place-on test c s (fails c s (none c e)) ∙ (ap one_more ih
+          ∙ (one_more-further n (least_place test (drop n s)) ∙ ap (λ (b : Bool). let m : ℕ = if b then suc n else 0 in further m (least_place test (drop m (c ∷ s)))) (sym e)))
+      by_class ih false e = further-zero (least_place test (c ∷ s)) ∙ ap (λ (b : Bool). let m : ℕ = if b then suc (run_len p s) else 0 in further m (least_place test (drop m (c ∷ s)))) (sym e)
+
+  skip-most : (s : List ℕ) → most_hashes s ≡ most_hashes (drop (run_len p s) s)
+  skip-most [] = refl
+  skip-most (c ∷ s) = by_class (skip-most s) (p c) refl
+    where
+      by_class : most_hashes s ≡ most_hashes (drop (run_len p s) s) → (b : Bool) → p c ≡ b → most_hashes (c ∷ s) ≡ most_hashes (drop (run_len p (c ∷ s)) (c ∷ s))
+      by_class ih true e =
+          let n : ℕ = run_len p s in
+          let no_hashes : quote_hashes (c ∷ s) ≡ 0 = ap (λ (b : Bool). if b then hashes s else 0) (none c e) in
+          let same : max 0 (most_hashes s) ≡ most_hashes s = omega arith in
+          ap (λ (m : ℕ). max m (most_hashes s)) no_hashes ∙ (same ∙ (ih ∙ ap (λ (b : Bool). most_hashes (drop (if b then suc n else 0) (c ∷ s))) (sym e)))
+      by_class ih false e = ap (λ (b : Bool). most_hashes (drop (if b then suc (run_len p s) else 0) (c ∷ s))) (sym e)
+
+hash-no_quote : (c : ℕ) → is_hash c ≡ true → is_quote c ≡ false
+hash-no_quote c e = rw (eqb-true c 35 e) refl
+
+other-no_quote : (c : ℕ) → is_no_quote c ≡ true → is_quote c ≡ false
+other-no_quote c e = by_test (is_quote c) e
+  where
+    by_test : (b : Bool) → not b ≡ true → b ≡ false
+    by_test true e = sym e
+    by_test false e = refl
+
+-- a run ends before a character outside its class
+pub run_len-stop : (p : ℕ → Bool) (s : List ℕ) (c : ℕ) (u : List ℕ) → drop (run_len p s) s ≡ c ∷ u → p c ≡ false
+run_len-stop p [] c u e = absurd (cc)
+run_len-stop p (d ∷ s) c u e = by_class (λ f. run_len-stop p s c u f) (p d) refl
+  where
+    by_class : (drop (run_len p s) s ≡ c ∷ u → p c ≡ false) → (b : Bool) → p d ≡ b → p c ≡ false
+    by_class ih true f = ih (ap (λ (b : Bool). drop (if b then suc (run_len p s) else 0) (d ∷ s)) (sym f) ∙ e)
+    by_class ih false f =
+        let same : d ∷ s ≡ c ∷ u = ap (λ (b : Bool). drop (if b then suc (run_len p s) else 0) (d ∷ s)) (sym f) ∙ e in
+        let head : d ≡ c = cc in
+        ap p (sym head) ∙ f
+
+-- what follows the first quote, once what follows the characters before it is known
+pub past_quote-is : {B : Type 0} (now : B → List ℕ) (rest mid : List ℕ) (o : Option B) → IsUtf8 rest → mid ≡ past (run_len is_no_quote (chars rest)) rest → length mid ≤ length rest
+    → MatchOption o (begins (34 ∷ []) (chars mid) ≡ false) (λ tail. (begins (34 ∷ []) (chars mid) ≡ true) × (now tail ≡ past 1 mid) × (length (now tail) < length mid))
+    → MatchOption o (drop (run_len is_no_quote (chars rest)) (chars rest) ≡ [])
+    (λ tail. (drop (run_len is_no_quote (chars rest)) (chars rest) ≡ 34 ∷ chars (now tail)) × (now tail ≡ past (suc (run_len is_no_quote (chars rest))) rest) × (length (now tail) < length rest))
+past_quote-is now rest mid None is e le h = at_end (drop (run_len is_no_quote (chars rest)) (chars rest)) refl
+  where
+    at_end : (s : List ℕ) → drop (run_len is_no_quote (chars rest)) (chars rest) ≡ s → s ≡ []
+    at_end [] f = refl
+    at_end (c ∷ s) f =
+        let reads : chars mid ≡ c ∷ s = ap chars e ∙ (chars-past _ rest is ∙ f) in
+        let other : is_no_quote c ≡ false = run_len-stop is_no_quote (chars rest) c s f in
+        absurd (true≢false (let quote : is_quote c ≡ true = not-false (is_quote c) other in sym (rw (reads, quote) refl) ∙ h))
+past_quote-is now rest mid (Some tail) is e le h =
+    let n : ℕ = run_len is_no_quote (chars rest) in
+    let reads : chars mid ≡ drop n (chars rest) = ap chars e ∙ chars-past n rest is in
+    let here : now tail ≡ past (n + 1) rest = h.1 ∙ (ap (past 1) e ∙ past-past 1 n rest is) in
+    let one : n + 1 ≡ suc n = omega arith in
+    (at_quote (drop n (chars rest)) (sym (ap (begins (34 ∷ [])) reads) ∙ h.0) (ap chars h.1 ∙ (chars-past 1 mid (subst IsUtf8 (sym e) (IsUtf8-past n rest is)) ∙ ap (drop 1) reads)), here ∙ ap (λ k. past k rest) one, omega arith)
+  where
+    at_quote : (s : List ℕ) → begins (34 ∷ []) s ≡ true → chars (now tail) ≡ drop 1 s → s ≡ 34 ∷ chars (now tail)
+    at_quote [] f g = absurd (true≢false (sym f))
+    at_quote (c ∷ s) f g = ap (λ x. x ∷ s) (eqb-true c 34 (and_parts (c == 34) true f).0) ∙ ap (λ xs. 34 ∷ xs) (sym g)
+
+-- past a run without quotes, a quote, and its hashes
+module _ (v w : List ℕ) (at_quote : drop (run_len is_no_quote v) v ≡ 34 ∷ w) where
+  -- a test that fails at each other character
+  module _ (test : List ℕ → Bool) (fails : (c : ℕ) (s : List ℕ) → is_quote c ≡ false → test (c ∷ s) ≡ false) where
+    to-quote : least_place test v ≡ further (run_len is_no_quote v) (least_place test (34 ∷ w))
+    to-quote = skip-place is_no_quote other-no_quote test fails v ∙ ap (λ s. further (run_len is_no_quote v) (least_place test s)) at_quote
+
+    pub place-at : test (34 ∷ w) ≡ true → least_place test v ≡ Some (run_len is_no_quote v)
+    place-at e = to-quote ∙ (ap (further (run_len is_no_quote v)) (place-here test 34 w e) ∙ ap Some (omega arith))
+
+    pub place-past : test (34 ∷ w) ≡ false → least_place test v ≡ further (suc (run_len is_no_quote v) + hashes w) (least_place test (drop (hashes w) w))
+    place-past e =
+        to-quote
+        ∙ (ap (further (run_len is_no_quote v)) (place-on test 34 w e ∙ ap one_more (skip-place is_hash hash-no_quote test fails w))
+        ∙ further-quote (run_len is_no_quote v) (hashes w) (least_place test (drop (hashes w) w)))
+
+  pub most-past : most_hashes v ≡ max (hashes w) (most_hashes (drop (hashes w) w))
+  most-past = skip-most is_no_quote other-no_quote v ∙ (ap most_hashes at_quote ∙ ap (max (hashes w)) (skip-most is_hash hash-no_quote w))
+
+closes-fails : (n c : ℕ) (s : List ℕ) → is_quote c ≡ false → closes n (c ∷ s) ≡ false
+closes-fails n c s e = ap (λ b. b && nat_le n (hashes s)) e
+
+counts-fails : (m c : ℕ) (s : List ℕ) → 0 < m → is_quote c ≡ false → (quote_hashes (c ∷ s) == m) ≡ false
+counts-fails m c s some e = ap (λ (b : Bool). (if b then hashes s else 0) == m) e ∙ ne_eqb 0 m (λ f. omega arith)
+
+-- `found` hashes at most stand after a quote of what was passed, and `end` is where the first such quote ends
+pub record Searching (n before : ℕ) (text left : List ℕ) (found : ℕ) (end : Option ℕ) : Type 0 where
+  pub taken : ℕ
+  pub inside : length left ≤ length text
+  pub place : left ≡ past taken text
+  pub closes_at : close n (chars text) ≡ further taken (close n (chars left))
+  pub most : most_hashes (chars text) ≡ max found (most_hashes (chars left))
+  pub more : (m : ℕ) → found < m → quote_with m (chars text) ≡ further taken (quote_with m (chars left))
+  pub ends : end ≡ end_with found before (chars text)
+
+pub search_start : (n before : ℕ) (text : List ℕ) → IsUtf8 text → Searching n before text text 0 None
+search_start n before text is = record {
+  taken = 0;
+  inside = omega arith;
+  place = sym (past-zero text is);
+  closes_at = further-zero (close n (chars text));
+  most = omega arith;
+  more = λ m less. further-zero (quote_with m (chars text));
+  ends = refl;
+}
+
+-- the hashes at the front are one byte each
+pub hash_bytes : (n : ℕ) (w : List ℕ) → n ≤ hashes w → bytes_of n w ≡ n
+hash_bytes zero w le = refl
+hash_bytes (suc n) [] le = absurd (omega arith)
+hash_bytes (suc n) (c ∷ w) le = by_hash (λ f. hash_bytes n w f) (is_hash c) refl le
+  where
+    by_hash : (n ≤ hashes w → bytes_of n w ≡ n) → (b : Bool) → is_hash c ≡ b → suc n ≤ (if b then suc (hashes w) else 0) → bytes_of (suc n) (c ∷ w) ≡ suc n
+    by_hash ih true e le =
+        let one : length (encode_utf8 c) ≡ 1 = ap length (encode_ascii c (let f = eqb-true c 35 e in omega arith)) in
+        let rest : bytes_of n w ≡ n = ih (omega arith) in
+        bytes_of-suc n c w ∙ omega arith
+    by_hash ih false e le = absurd (omega arith)
+
+pub hash_len : (text rest : List ℕ) → IsUtf8 text → rest ≡ past (hashes (chars text)) text → length text - length rest ≡ hashes (chars text)
+hash_len text rest is e =
+    let n : ℕ = hashes (chars text) in
+    let one : bytes_of n (chars text) ≡ n = hash_bytes n (chars text) (omega arith) in
+    let all : n + length rest ≡ length text = ap (λ (k : ℕ). k + length rest) (sym one) ∙ (ap (λ (xs : List ℕ). bytes_of n (chars text) + length xs) e ∙ length-past n text is) in
+    omega arith
+
+-- one turn of the loop: `tail` follows the next quote, and `next` its hashes
+module _ (n before : ℕ) (text left tail next : List ℕ) (found : ℕ) (end : Option ℕ) (is : IsUtf8 text) (at : Searching n before text left found end)
+    (quote : drop (run_len is_no_quote (chars left)) (chars left) ≡ 34 ∷ chars tail) (tail_is : tail ≡ past (suc (run_len is_no_quote (chars left))) left)
+    (next_is : next ≡ past (run_len is_hash (chars tail)) tail) where
+  tail_at : tail ≡ past (at.taken + suc (run_len is_no_quote (chars left))) text
+  tail_at = tail_is ∙ (ap (past (suc (run_len is_no_quote (chars left)))) at.place ∙ past-past (suc (run_len is_no_quote (chars left))) at.taken text is)
+
+  tail_utf8 : IsUtf8 tail
+  tail_utf8 = subst IsUtf8 (sym tail_at) (IsUtf8-past (at.taken + suc (run_len is_no_quote (chars left))) text is)
+
+  count : length tail - length next ≡ hashes (chars tail)
+  count = hash_len tail next tail_utf8 next_is
+
+  next_reads : chars next ≡ drop (hashes (chars tail)) (chars tail)
+  next_reads = ap chars next_is ∙ chars-past (hashes (chars tail)) tail tail_utf8
+
+  next_at : next ≡ past (at.taken + (suc (run_len is_no_quote (chars left)) + hashes (chars tail))) text
+  next_at =
+      let k : ℕ = run_len is_no_quote (chars left) in
+      let h : ℕ = hashes (chars tail) in
+      let same : (at.taken + suc k) + h ≡ at.taken + (suc k + h) = omega arith in
+      next_is ∙ (ap (past h) tail_at ∙ (past-past h (at.taken + suc k) text is ∙ ap (λ (m : ℕ). past m text) same))
+
+  place_on : (test : List ℕ → Bool) → ((c : ℕ) (s : List ℕ) → is_quote c ≡ false → test (c ∷ s) ≡ false) → test (34 ∷ chars tail) ≡ false → least_place test (chars text) ≡ further at.taken (least_place test (chars left))
+      → least_place test (chars text) ≡ further (at.taken + (suc (run_len is_no_quote (chars left)) + hashes (chars tail))) (least_place test (chars next))
+  place_on test fails e f =
+      let d : ℕ = suc (run_len is_no_quote (chars left)) + hashes (chars tail) in
+      f
+      ∙ (ap (further at.taken) (place-past (chars left) (chars tail) quote test fails e)
+      ∙ (further-further at.taken d (least_place test (drop (hashes (chars tail)) (chars tail)))
+      ∙ ap (λ s. further (at.taken + d) (least_place test s)) (sym next_reads)))
+
+  most_on : most_hashes (chars text) ≡ max found (max (hashes (chars tail)) (most_hashes (chars next)))
+  most_on = at.most ∙ ap (max found) (most-past (chars left) (chars tail) quote ∙ ap (λ s. max (hashes (chars tail)) (most_hashes s)) (sym next_reads))
+
+  -- the quote has too few hashes to close
+  module _ (few : length tail - length next < n) (shorter : length next ≤ length text) where
+    on : (to : ℕ) (o : Option ℕ) → found ≤ to → hashes (chars tail) ≤ to → max found (hashes (chars tail)) ≡ to → o ≡ end_with to before (chars text) → Searching n before text next to o
+    on to o above here most e =
+        let h : ℕ = hashes (chars tail) in
+        let is_count = count in
+        record {
+          taken = at.taken + (suc (run_len is_no_quote (chars left)) + h);
+          inside = shorter;
+          place = next_at;
+          closes_at = place_on (closes n) (closes-fails n) (lt-leb n h (omega arith)) at.closes_at;
+          most = most_on ∙ omega arith;
+          more = λ m less. place_on (λ s. quote_hashes s == m) (λ c s f. counts-fails m c s (omega arith) f) (ne_eqb h m (λ f. omega arith)) (at.more m (omega arith));
+          ends = e;
+        }
+
+    pub search_on : length tail - length next ≤ found → Searching n before text next found end
+    search_on le = let is_count = count in on found end (omega arith) (omega arith) (omega arith) at.ends
+
+    pub search_more : found < length tail - length next → Searching n before text next (length tail - length next) (Some (before + (length text - length tail)))
+    search_more less =
+        let h : ℕ = hashes (chars tail) in
+        let k : ℕ = run_len is_no_quote (chars left) in
+        let is_count = count in
+        let some : (h == 0) ≡ false = ne_eqb h 0 (λ f. omega arith) in
+        let first : quote_with h (chars text) ≡ Some (at.taken + k) =
+        at.more h (omega arith) ∙ ap (further at.taken) (place-at (chars left) (chars tail) quote (λ s. quote_hashes s == h) (λ c s f. counts-fails h c s (omega arith) f) (eq-eqb h h refl)) in
+        let same : suc (at.taken + k) ≡ at.taken + suc k = omega arith in
+        let bytes : bytes_of (at.taken + suc k) (chars text) + length tail ≡ length text = ap (λ (xs : List ℕ). bytes_of (at.taken + suc k) (chars text) + length xs) tail_at ∙ length-past (at.taken + suc k) text is in
+        let ends : Some (before + (length text - length tail)) ≡ end_with h before (chars text) =
+        ap (λ (m : ℕ). Some (before + m)) (let m : length text - length tail ≡ bytes_of (at.taken + suc k) (chars text) = omega arith in m)
+        ∙ (ap (λ (m : ℕ). Some (before + bytes_of m (chars text))) (sym same)
+        ∙ (ap (quote_end before (chars text)) (sym first) ∙ ap (λ (b : Bool). if b then None else quote_end before (chars text) (quote_with h (chars text))) (sym some))) in
+        subst (λ (m : ℕ). Searching n before text next m (Some (before + (length text - length tail)))) (sym count) (on h (Some (before + (length text - length tail))) (omega arith) (omega arith) (omega arith) ends)
+
+  -- the quote closes
+  module _ (enough : n ≤ length tail - length next) where
+    few_bytes : bytes_of n (chars tail) ≡ n
+    few_bytes = hash_bytes n (chars tail) (let is_count = count in omega arith)
+
+    cut_is : drop n tail ≡ past n tail
+    cut_is = sym (past-drop n tail tail_utf8 ∙ ap (λ (m : ℕ). drop m tail) few_bytes)
+
+    pub may_cut : IsCharBoundary tail n
+    may_cut = IsCharBoundary-from_drop tail n (let l = length-past n tail tail_utf8 in let b = few_bytes in omega arith) (subst IsUtf8 (sym cut_is) (IsUtf8-past n tail tail_utf8))
+
+    pub closed_here : (read : Result ℕ RawStrError) (cut : List ℕ) → read ≡ counted n → cut ≡ drop n tail → (read, cut) ≡ scanned (raw_text n before) text
+    closed_here read cut e f =
+        let k : ℕ = run_len is_no_quote (chars left) in
+        let closes_here : close n (chars text) ≡ Some (at.taken + k) =
+        at.closes_at ∙ ap (further at.taken) (place-at (chars left) (chars tail) quote (closes n) (closes-fails n) (le-leb n (hashes (chars tail)) (let is_count = count in omega arith))) in
+        let same : (at.taken + suc k) + n ≡ suc (at.taken + k) + n = omega arith in
+        let left_is : cut ≡ past (suc (at.taken + k) + n) text = f ∙ (cut_is ∙ (ap (past n) tail_at ∙ (past-past n (at.taken + suc k) text is ∙ ap (λ (m : ℕ). past m text) same))) in
+        ap (λ (r : Result ℕ RawStrError). (r, cut)) e
+        ∙ (ap (λ (xs : List ℕ). (counted n, xs)) left_is
+        ∙ ap (λ (o : Option ℕ). ((raw_closed n before (chars text) o).0, past (raw_closed n before (chars text) o).1 text)) (sym closes_here))
+
+drop-length : (s : List ℕ) → drop (length s) s ≡ []
+drop-length [] = refl
+drop-length (c ∷ s) = drop-length s
+
+past-all : (text : List ℕ) → past (length (chars text)) text ≡ []
+unfolding past
+past-all text = ap encode_utf8_all (drop-length (chars text))
+
+-- no quote is left
+pub never_closed : (n before : ℕ) (text left : List ℕ) (found : ℕ) (end : Option ℕ) → Searching n before text left found end → drop (run_len is_no_quote (chars left)) (chars left) ≡ []
+    → (Err (NoTerminator n found end), []) ≡ scanned (raw_text n before) text
+never_closed n before text left found end at none =
+    let u : List ℕ = chars text in
+    let k : ℕ = run_len is_no_quote (chars left) in
+    let no_close : close n u ≡ None = at.closes_at ∙ ap (further at.taken) (skip-place is_no_quote other-no_quote (closes n) (closes-fails n) (chars left) ∙ ap (λ s. further k (close n s)) none) in
+    let no_more : most_hashes (chars left) ≡ 0 = skip-most is_no_quote other-no_quote (chars left) ∙ ap most_hashes none in
+    let most : found ≡ most_hashes u = let m = at.most in omega arith in
+    ap (λ (o : Option ℕ). let r : Result ℕ RawStrError × List ℕ = (Err (NoTerminator n found o), []) in r) at.ends
+    ∙ (ap (λ (m : ℕ). let r : Result ℕ RawStrError × List ℕ = (Err (NoTerminator n m (end_with m before u)), []) in r) most
+    ∙ (ap (λ (xs : List ℕ). let r : Result ℕ RawStrError × List ℕ = (Err (NoTerminator n (most_hashes u) (end_with (most_hashes u) before u)), xs) in r) (sym (past-all text))
+    ∙ ap (λ (o : Option ℕ). ((raw_closed n before u o).0, past (raw_closed n before u o).1 text)) (sym no_close)))

@@ -1,0 +1,151 @@
+-- What a raw string is read as, from what its parts are.
+use Rattle.std.proofs.Common.{◌≡◌, ◌≢◌, ℕ, suc, ◌+◌, ◌-◌, ◌≤◌, ◌==◌, ◌↔◌, IsTrue, slice_index, Bool, true, false, true≢false, if◌then◌else◌, List, [], ◌∷◌, length, take, drop, refl, sym, ap, ◌∙◌, subst, arith, length-take, length-drop, Some, None, Result, Ok, Err}
+use Rattle.std.specs.Str.{chars, encode_utf8_all, IsUtf8}
+use Rattle.std.proofs.lemmas.Bool.{ne_eqb}
+use Rattle.std.proofs.lemmas.Str.{length-le-encodes}
+use Rattle.rustc_lexer.specs.declared.lexemes.raw.RawPrefix.{RawPrefix}
+use Rattle.rustc_lexer.specs.declared.token.LiteralKind.{LiteralKind}
+use Rattle.rustc_lexer.specs.declared.token.RawStrError.{RawStrError}
+use Rattle.rustc_lexer.specs.declared.token.RawStrError.TheVariants.{InvalidStarter}
+use Rattle.rustc_lexer.specs.declared.token.TokenKind.{TokenKind}
+use Rattle.rustc_lexer.specs.declared.token.TokenKind.TheVariants.{Literal}
+use Rattle.rustc_lexer.specs.Literal.{suffix_len}
+use Rattle.rustc_lexer.specs.Raw.{is_quote, hashes, raw_text, past_starter, raw_starter, raw_read, accepted, is_accepted, prefix_kind, prefix_len, raw_literal, checked, raw_check, is_r, StartsRaw}
+use Rattle.rustc_lexer.specs.Scan.{bytes_of, gives, next_is, past, scanned}
+use Rattle.rustc_lexer.proofs.PastLemmas.{past-zero, past-past, chars-past, IsUtf8-past, length-past}
+use Rattle.rustc_lexer.proofs.RawLemmas.{hash_len}
+use Rattle.rustc_lexer.proofs.ScanLemmas.{scanned-after, scanned-gives}
+
+abbrev Left : Type 0
+Left = Result ℕ RawStrError × List ℕ
+
+-- `from` follows the first hashes
+module _ (prefix : ℕ) (text from : List ℕ) (is : IsUtf8 text) (from_is : from ≡ past (hashes (chars text)) text) where
+  from_utf8 : IsUtf8 from
+  from_utf8 = subst IsUtf8 (sym from_is) (IsUtf8-past (hashes (chars text)) text is)
+
+  to_starter : scanned (raw_read prefix) text ≡ scanned (raw_starter prefix (hashes (chars text))) from
+  to_starter = scanned-after (hashes (chars text)) (raw_starter prefix (hashes (chars text))) text from is from_is
+
+  pub no_starter : chars from ≡ [] → (Err (InvalidStarter 0), from) ≡ scanned (raw_read prefix) text
+  no_starter e =
+      sym (to_starter
+      ∙ (ap (λ (s : List ℕ). let r : Left = ((raw_starter prefix (hashes (chars text)) s).0, past (raw_starter prefix (hashes (chars text)) s).1 from) in r) e
+      ∙ ap (λ (xs : List ℕ). let r : Left = (Err (InvalidStarter 0), xs) in r) (past-zero from from_utf8)))
+
+  -- `body` follows the character after the hashes
+  module _ (c : ℕ) (body : List ℕ) (reads : chars from ≡ c ∷ chars body) (body_is : body ≡ past 1 from) where
+    to_body : scanned (raw_read prefix) text ≡ scanned (past_starter prefix (hashes (chars text)) c) body
+    to_body =
+        let n : ℕ = hashes (chars text) in
+        let m : ℕ = (past_starter prefix n c (chars body)).1 in
+        let same : 1 + m ≡ suc m = omega arith in
+        let left : past (suc m) from ≡ past m body = sym (ap (past m) body_is ∙ (past-past m 1 from from_utf8 ∙ ap (λ (k : ℕ). past k from) same)) in
+        to_starter
+        ∙ (ap (λ (s : List ℕ). let r : Left = ((raw_starter prefix n s).0, past (raw_starter prefix n s).1 from) in r) reads
+        ∙ ap (λ (xs : List ℕ). let r : Left = ((past_starter prefix n c (chars body)).0, xs) in r) left)
+
+    body_utf8 : IsUtf8 body
+    body_utf8 = subst IsUtf8 (sym body_is) (IsUtf8-past 1 from from_utf8)
+
+    -- what is read of the body, where it is known whether that character is a quote
+    by_quote : (b : Bool) → is_quote c ≡ b
+        → scanned (raw_read prefix) text ≡ scanned (λ u. if b then raw_text (hashes (chars text)) (prefix + suc (hashes (chars text))) u else gives (Err (InvalidStarter c)) u) body
+    by_quote b e =
+        let n : ℕ = hashes (chars text) in
+        to_body
+        ∙ ap (λ (b : Bool). let r : Result ℕ RawStrError × ℕ = if b then raw_text n (prefix + suc n) (chars body) else gives (Err (InvalidStarter c)) (chars body) in let t : Left = (r.0, past r.1 body) in t) e
+
+    pub bad_starter : c ≢ 34 → (Err (InvalidStarter c), body) ≡ scanned (raw_read prefix) text
+    bad_starter ne = sym (by_quote false (ne_eqb c 34 ne) ∙ scanned-gives (Err (InvalidStarter c)) body body_utf8)
+
+    pub past_opening : (read : Result ℕ RawStrError) (left : List ℕ) → c ≡ 34
+        → (read, left) ≡ scanned (raw_text (length text - length from) (prefix + (length text - length from) + 1)) body → (read, left) ≡ scanned (raw_read prefix) text
+    past_opening read left e f =
+        let n : ℕ = hashes (chars text) in
+        let count : length text - length from ≡ n = hash_len text from is from_is in
+        let before : prefix + n + 1 ≡ prefix + suc n = omega arith in
+        f
+        ∙ (ap (λ (k : ℕ). scanned (raw_text k (prefix + k + 1)) body) count
+        ∙ (ap (λ (k : ℕ). scanned (raw_text n k) body) before ∙ sym (by_quote true (ap is_quote e))))
+
+-- a literal, from what is read of it
+module _ (prefix : RawPrefix) (rest left : List ℕ) (is : IsUtf8 rest) (read : Result ℕ RawStrError) (e : (read, left) ≡ scanned (raw_read 0) rest) where
+  abbrev token_by : Result ℕ RawStrError → TokenKind × List ℕ
+  token_by r = (
+    Literal (prefix_kind prefix (accepted r)) (prefix_len prefix + bytes_of (raw_read 0 (chars rest)).1 (chars rest)),
+    past ((raw_read 0 (chars rest)).1 + (if is_accepted r then suffix_len (drop (raw_read 0 (chars rest)).1 (chars rest)) else 0)) rest,
+  )
+
+  left_is : left ≡ past (raw_read 0 (chars rest)).1 rest
+  left_is = ap (λ (r : Left). r.1) e
+
+  pub left_le : length left ≤ length rest
+  left_le = let l = length-past (raw_read 0 (chars rest)).1 rest is in omega (arith, ap length left_is)
+
+  start_is : (p : ℕ) → p ≡ prefix_len prefix → p + (length rest - length left) ≡ prefix_len prefix + bytes_of (raw_read 0 (chars rest)).1 (chars rest)
+  start_is p same = let l = length-past (raw_read 0 (chars rest)).1 rest is in let m = ap length left_is in omega arith
+
+  module _ (kind : LiteralKind) (p : ℕ) (same : p ≡ prefix_len prefix) where
+    pub accepted_literal : (n : ℕ) (end : List ℕ) → read ≡ Ok n → kind ≡ prefix_kind prefix (Some n) → end ≡ past (suffix_len (chars left)) left
+        → (Literal kind (p + (length rest - length left)), end) ≡ scanned (raw_literal prefix) rest
+    accepted_literal n end f k g =
+        let m : ℕ = (raw_read 0 (chars rest)).1 in
+        let reads : chars left ≡ drop m (chars rest) = ap chars left_is ∙ chars-past m rest is in
+        let end_is : end ≡ past (m + suffix_len (drop m (chars rest))) rest =
+        g ∙ (ap (λ (s : List ℕ). past (suffix_len s) left) reads ∙ (ap (past (suffix_len (drop m (chars rest)))) left_is ∙ past-past (suffix_len (drop m (chars rest))) m rest is)) in
+        ap (λ (x : LiteralKind). let t : TokenKind × List ℕ = (Literal x (p + (length rest - length left)), end) in t) k
+        ∙ (ap (λ (x : ℕ). let t : TokenKind × List ℕ = (Literal (prefix_kind prefix (Some n)) x, end) in t) (start_is p same)
+        ∙ (ap (λ (xs : List ℕ). let t : TokenKind × List ℕ = (Literal (prefix_kind prefix (Some n)) (prefix_len prefix + bytes_of m (chars rest)), xs) in t) end_is
+        ∙ (ap token_by (sym f) ∙ ap token_by (ap (λ (r : Left). r.0) e))))
+
+    pub refused_literal : (error : RawStrError) → read ≡ Err error → kind ≡ prefix_kind prefix None → (Literal kind (p + (length rest - length left)), left) ≡ scanned (raw_literal prefix) rest
+    refused_literal error f k =
+        let m : ℕ = (raw_read 0 (chars rest)).1 in
+        let no_suffix : m ≡ m + 0 = omega arith in
+        ap (λ (x : LiteralKind). let t : TokenKind × List ℕ = (Literal x (p + (length rest - length left)), left) in t) k
+        ∙ (ap (λ (x : ℕ). let t : TokenKind × List ℕ = (Literal (prefix_kind prefix None) x, left) in t) (start_is p same)
+        ∙ (ap (λ (xs : List ℕ). let t : TokenKind × List ℕ = (Literal (prefix_kind prefix None) (prefix_len prefix + bytes_of m (chars rest)), xs) in t) (left_is ∙ ap (λ (k : ℕ). past k rest) no_suffix)
+        ∙ (ap token_by (sym f) ∙ ap token_by (ap (λ (r : Left). r.0) e))))
+
+-- the check
+module _ (text rest : List ℕ) (p : ℕ) (is : IsUtf8 text) (rest_is : rest ≡ past p text) where
+  pub check_is : (read : Result ℕ RawStrError) (left : List ℕ) → (read, left) ≡ scanned (raw_read p) rest → checked read ≡ raw_check text p
+  unfolding raw_check
+  check_is read left e = ap checked (ap (λ (r : Left). r.0) e ∙ ap (λ (s : List ℕ). (raw_read p s).0) (ap chars rest_is ∙ chars-past p text is))
+
+  pub prefix_fits : StartsRaw text p → p + length rest ≤ length text
+  prefix_fits starts =
+      let long : p ≤ length (chars text) = letter_inside (drop (p - 1) (chars text)) starts.letter (length-drop (p - 1) (chars text)) in
+      let bytes : length (take p (chars text)) ≤ bytes_of p (chars text) = length-le-encodes (take p (chars text)) in
+      omega (arith, length-take p (chars text), length-past p text is, ap length rest_is)
+    where
+      letter_inside : (s : List ℕ) → next_is is_r s ≡ true → length s ≡ length (chars text) - (p - 1) → p ≤ length (chars text)
+      letter_inside [] f l = absurd (true≢false (sym f))
+      letter_inside (c ∷ s) f l = omega arith
+
+  -- the test of the letter
+  pub starts_is : (q : ℕ) → q ≡ suc p → IsTrue (slice_index (chars rest) 0 == 114) ↔ StartsRaw text q
+  starts_is q same =
+      let before : q - 1 ≡ p = omega arith in
+      let reads : chars rest ≡ drop (q - 1) (chars text) = ap chars rest_is ∙ (chars-past p text is ∙ ap (λ (n : ℕ). drop n (chars text)) (sym before)) in
+      let letter : (slice_index (chars rest) 0 == 114) ≡ next_is is_r (drop (q - 1) (chars text)) = by_char (chars rest) ∙ ap (next_is is_r) reads in
+      (λ f. record { some = omega arith; letter = sym letter ∙ f }, λ s. letter ∙ s.letter)
+    where
+      by_char : (s : List ℕ) → (slice_index s 0 == 114) ≡ next_is is_r s
+      by_char [] = refl
+      by_char (c ∷ s) = refl
+
+pub never_starts : (text : List ℕ) (p : ℕ) → p ≡ 0 → IsTrue false ↔ StartsRaw text p
+never_starts text p e = (λ f. absurd (true≢false (sym f)), λ s. absurd (let h = s.some in omega arith))
+
+pub past-end : (text rest : List ℕ) (n m : ℕ) → IsUtf8 text → rest ≡ past n text → chars rest ≡ [] → n ≤ m → rest ≡ past m text
+unfolding past
+past-end text rest n m is e none le =
+    let at_end : drop n (chars text) ≡ [] = sym (ap chars e ∙ chars-past n text is) ∙ none in
+    let none_left : length (chars text) ≤ n = omega (arith, ap length at_end, length-drop n (chars text)) in
+    e ∙ (ap encode_utf8_all at_end ∙ sym (ap encode_utf8_all (empty (drop m (chars text)) (omega (arith, length-drop m (chars text))))))
+  where
+    empty : (s : List ℕ) → length s ≡ 0 → s ≡ []
+    empty [] l = refl
+    empty (c ∷ s) l = absurd (omega arith)

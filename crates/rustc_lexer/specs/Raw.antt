@@ -1,0 +1,149 @@
+-- Raw strings, and the check of one.
+use Rattle.std.specs.Prelude.{ℕ, zero, suc, ◌≡◌, ◌+◌, ◌-◌, ◌<◌, ◌==◌, nat_le, max, Bool, true, false, ◌&&◌, not, if◌then◌else◌, List, [], ◌∷◌, length, drop, Option, Some, None, Result, Ok, Err}
+use Rattle.std.specs.Str.{byte, chars}
+use Rattle.rustc_lexer.specs.declared.lexemes.raw.RawPrefix.{RawPrefix}
+use Rattle.rustc_lexer.specs.declared.lexemes.raw.RawPrefix.TheVariants.{R, Br, Cr}
+use Rattle.rustc_lexer.specs.declared.token.LiteralKind.{LiteralKind}
+use Rattle.rustc_lexer.specs.declared.token.LiteralKind.TheVariants.{RawStr, RawByteStr, RawCStr}
+use Rattle.rustc_lexer.specs.declared.token.RawStrError.{RawStrError}
+use Rattle.rustc_lexer.specs.declared.token.RawStrError.TheVariants.{InvalidStarter, NoTerminator, TooManyDelimiters}
+use Rattle.rustc_lexer.specs.declared.token.TokenKind.{TokenKind}
+use Rattle.rustc_lexer.specs.declared.token.TokenKind.TheVariants.{Literal}
+use Rattle.rustc_lexer.specs.Literal.{Body, suffix_len}
+use Rattle.rustc_lexer.specs.Scan.{after, bytes_of, gives, next_is, run_len}
+
+abbrev pub one_more : Option ℕ → Option ℕ
+one_more None = None
+one_more (Some n) = Some (suc n)
+
+-- the least number below `count` that passes a test
+abbrev pub least : (ℕ → Bool) → ℕ → Option ℕ
+least test zero = None
+least test (suc count) = if test 0 then Some 0 else one_more (least (λ i. test (suc i)) count)
+
+-- the least place from which the text passes a test
+abbrev pub least_place : (List ℕ → Bool) → List ℕ → Option ℕ
+least_place test s = least (λ place. test (drop place s)) (length s)
+
+-- the greatest value at a number below `count`, or 0
+abbrev pub greatest : (ℕ → ℕ) → ℕ → ℕ
+greatest f zero = 0
+greatest f (suc count) = max (f 0) (greatest (λ i. f (suc i)) count)
+
+abbrev pub is_hash : ℕ → Bool
+is_hash c = c == byte "#"
+
+abbrev pub is_quote : ℕ → Bool
+is_quote c = c == byte "\""
+
+abbrev pub is_no_quote : ℕ → Bool
+is_no_quote c = not (is_quote c)
+
+-- how many hashes stand at the front
+abbrev pub hashes : List ℕ → ℕ
+hashes s = run_len is_hash s
+
+-- a quote stands at the front, and at least n hashes directly after it
+abbrev pub closes : ℕ → List ℕ → Bool
+closes n s = next_is is_quote s && nat_le n (hashes (drop 1 s))
+
+-- the least place of a quote that at least n hashes follow
+abbrev pub close : ℕ → List ℕ → Option ℕ
+close n u = least_place (closes n) u
+
+-- how many hashes stand directly after the quote at the front; 0 where there is no quote
+abbrev pub quote_hashes : List ℕ → ℕ
+quote_hashes s = if next_is is_quote s then hashes (drop 1 s) else 0
+
+-- the most hashes that stand directly after a quote
+abbrev pub most_hashes : List ℕ → ℕ
+most_hashes u = greatest (λ place. quote_hashes (drop place u)) (length u)
+
+-- the least place of a quote with m hashes, where m is not 0
+abbrev pub quote_with : ℕ → List ℕ → Option ℕ
+quote_with m u = least_place (λ s. quote_hashes s == m) u
+
+-- where the quote at this place ends, in bytes; `before` of them stand before u
+abbrev pub quote_end : ℕ → List ℕ → Option ℕ → Option ℕ
+quote_end before u None = None
+quote_end before u (Some place) = Some (before + bytes_of (suc place) u)
+
+-- where the first quote with m hashes ends, if there are any hashes
+abbrev pub end_with : ℕ → ℕ → List ℕ → Option ℕ
+end_with m before u = if m == 0 then None else quote_end before u (quote_with m u)
+
+-- a string that closes has at most 255 hashes on each side
+abbrev pub counted : ℕ → Result ℕ RawStrError
+counted n = if nat_le n 255 then Ok n else Err (TooManyDelimiters n)
+
+-- closed at a place: up to just past n hashes after the quote there; not closed: all of the text
+abbrev pub raw_closed : ℕ → ℕ → List ℕ → Option ℕ → Result ℕ RawStrError × ℕ
+raw_closed n before u (Some place) = (counted n, suc place + n)
+raw_closed n before u None = (Err (NoTerminator n (most_hashes u) (end_with (most_hashes u) before u)), length u)
+
+-- what follows n hashes and a quote; an offset counts `before` bytes for what stands before
+abbrev pub raw_text : ℕ → ℕ → List ℕ → Result ℕ RawStrError × ℕ
+raw_text n before u = raw_closed n before u (close n u)
+
+-- what follows the character that should be a quote
+abbrev pub past_starter : ℕ → ℕ → ℕ → List ℕ → Result ℕ RawStrError × ℕ
+past_starter prefix n c u = if is_quote c then raw_text n (prefix + suc n) u else gives (Err (InvalidStarter c)) u
+
+-- what follows n hashes; the end of the text counts as U+0000
+abbrev pub raw_starter : ℕ → ℕ → List ℕ → Result ℕ RawStrError × ℕ
+raw_starter prefix n [] = (Err (InvalidStarter 0), 0)
+raw_starter prefix n (c ∷ u) = ((past_starter prefix n c u).0, suc (past_starter prefix n c u).1)
+
+-- what follows the `r`: the number of hashes on each side, or why the string is refused. An offset counts `prefix`
+-- bytes for what stands before
+abbrev pub raw_read : ℕ → List ℕ → Result ℕ RawStrError × ℕ
+raw_read prefix s = after (hashes s) (raw_starter prefix (hashes s)) s
+
+-- the number of hashes, if the string is not refused
+abbrev pub accepted : Result ℕ RawStrError → Option ℕ
+accepted (Ok n) = Some n
+accepted (Err e) = None
+
+abbrev pub is_accepted : Result ℕ RawStrError → Bool
+is_accepted (Ok n) = true
+is_accepted (Err e) = false
+
+-- what follows the `r`, as the body of a literal: it takes a suffix where it is not refused
+abbrev pub raw_body_by : (Option ℕ → LiteralKind) → Result ℕ RawStrError × ℕ → Body × ℕ
+raw_body_by kind read = (record { kind = kind (accepted read.0); takes_suffix = is_accepted read.0 }, read.1)
+
+abbrev pub raw_body : (Option ℕ → LiteralKind) → List ℕ → Body × ℕ
+raw_body kind s = raw_body_by kind (raw_read 0 s)
+
+abbrev pub prefix_kind : RawPrefix → Option ℕ → LiteralKind
+prefix_kind R = RawStr
+prefix_kind Br = RawByteStr
+prefix_kind Cr = RawCStr
+
+abbrev pub prefix_len : RawPrefix → ℕ
+prefix_len R = 1
+prefix_len Br = 2
+prefix_len Cr = 2
+
+-- what follows the prefix, of p bytes, of a literal
+abbrev pub literal_past_by : ℕ → Body × ℕ → List ℕ → TokenKind × ℕ
+literal_past_by p body s = (Literal body.0.kind (p + bytes_of body.1 s), body.1 + (if body.0.takes_suffix then suffix_len (drop body.1 s) else 0))
+
+abbrev pub raw_literal : RawPrefix → List ℕ → TokenKind × ℕ
+raw_literal prefix s = literal_past_by (prefix_len prefix) (raw_body (prefix_kind prefix) s) s
+
+abbrev pub checked : Result ℕ RawStrError → Result Unit RawStrError
+checked (Ok n) = Ok tt
+checked (Err e) = Err e
+
+-- the check of a text whose prefix is p characters long
+unfoldable pub raw_check : List ℕ → ℕ → Result Unit RawStrError
+raw_check text p = checked (raw_read p (drop p (chars text))).0
+
+abbrev pub is_r : ℕ → Bool
+is_r c = c == byte "r"
+
+-- character number p of the text, counted from 1, is `r`
+pub record StartsRaw (text : List ℕ) (p : ℕ) : Type 0 where
+  pub some : 0 < p
+  pub letter : next_is is_r (drop (p - 1) (chars text)) ≡ true

@@ -1,0 +1,160 @@
+//! Raw strings.
+ghost use Rattle.std.specs.Prelude.{◌≡◌, ◌↔◌, ℕ, suc, ◌+◌, ◌<◌, ◌≤◌, ◌^◌, List, [], ◌∷◌, ◌++◌, length, take, drop, Option, Result, IsNone, IsSome, MatchOption};
+ghost use Rattle.std.specs.Str.{byte, chars};
+ghost use Rattle.rustc_lexer.specs.declared.lexemes.raw.RawPrefix.{RawPrefix};
+ghost use Rattle.rustc_lexer.specs.declared.token.LiteralKind.{LiteralKind};
+ghost use Rattle.rustc_lexer.specs.declared.token.RawStrError.{RawStrError};
+ghost use Rattle.rustc_lexer.specs.declared.token.TokenKind.{TokenKind};
+ghost use Rattle.rustc_lexer.specs.Literal.{literal};
+ghost use Rattle.rustc_lexer.specs.Raw as spec;
+ghost use Rattle.rustc_lexer.specs.RawLaws.{EndsItself, RefusedEndsItself};
+ghost use Rattle.rustc_lexer.specs.Scan.{IsLocal, bytes_of, past, run_len, scanned};
+ghost use Rattle.rustc_lexer.specs.State.{suffix_start_of};
+
+use crate::lexemes::literal::eat_suffix;
+use crate::scan::{eat_while, split_first, strip};
+use crate::token::{LiteralKind, RawStrError, TokenKind};
+
+/// What a raw string begins with, as a token.
+#[derive(Clone, Copy)]
+pub(crate) enum RawPrefix {
+    /// `r`
+    R,
+    /// `br`
+    Br,
+    /// `cr`
+    Cr,
+}
+
+/// The token of a raw string. `rest` is what follows its prefix.
+pub(crate) fn raw_literal(prefix: RawPrefix, rest: &str) -> (TokenKind, &str)
+    requires fits { spec.prefix_len prefix + length rest.now < 2 ^ 32 }
+    ensures { (result.0, result.1.now) ≡ scanned (spec.raw_literal prefix) rest.now }
+{
+    let (read, left) = raw_double_quoted(rest, 0);
+    let suffix_start = prefix_len(prefix) + (rest.len() - left.len()) as u32;
+    match read {
+        Ok(n_hashes) => {
+            let kind = literal_kind(prefix, Some(n_hashes));
+            (TokenKind::Literal { kind, suffix_start }, eat_suffix(left))
+        }
+        Err(_) => {
+            let kind = literal_kind(prefix, None);
+            (TokenKind::Literal { kind, suffix_start }, left)
+        }
+    }
+}
+
+/// The length of the prefix in bytes.
+fn prefix_len(prefix: RawPrefix) -> u32
+    ensures { result ≡ spec.prefix_len prefix }
+{
+    match prefix {
+        RawPrefix::R => 1,
+        RawPrefix::Br | RawPrefix::Cr => 2,
+    }
+}
+
+/// The kind of the raw string with this prefix.
+fn literal_kind(prefix: RawPrefix, n_hashes: Option<u8>) -> LiteralKind
+    ensures { result ≡ spec.prefix_kind prefix n_hashes }
+{
+    match prefix {
+        RawPrefix::R => LiteralKind::RawStr { n_hashes },
+        RawPrefix::Br => LiteralKind::RawByteStr { n_hashes },
+        RawPrefix::Cr => LiteralKind::RawCStr { n_hashes },
+    }
+}
+
+/// The number of hashes on each side of a raw string, or why it is refused; and what it leaves of `rest`,
+/// which follows its prefix. An offset is in bytes, and counts `prefix_len` for the prefix.
+pub(crate) fn raw_double_quoted(rest: &str, prefix_len: u32) -> (Result<u8, RawStrError>, &str)
+    requires fits { prefix_len + length rest.now < 2 ^ 32 }
+    ensures { (result.0, result.1.now) ≡ scanned (spec.raw_read prefix_len) rest.now }
+{
+    let from_starter = eat_while(rest, |c| c == '#');
+    let n_hashes = (rest.len() - from_starter.len()) as u32;
+    let Some((starter, text)) = split_first(from_starter) else {
+        return (
+            Err(RawStrError::InvalidStarter { bad_char: '\0' }),
+            from_starter,
+        );
+    };
+    if starter != '"' {
+        return (Err(RawStrError::InvalidStarter { bad_char: starter }), text);
+    }
+    raw_text(text, n_hashes, prefix_len + n_hashes + 1)
+}
+
+/// The same where `text` follows the opening quote, and `n_hashes` hashes stand before that. An offset
+/// counts `before` bytes for what stands before `text`.
+fn raw_text(text: &str, n_hashes: u32, before: u32) -> (Result<u8, RawStrError>, &str)
+    requires fits { before + length text.now < 2 ^ 32 }
+    ensures { (result.0, result.1.now) ≡ scanned (spec.raw_text n_hashes before) text.now }
+{
+    let mut found = 0;
+    let mut possible_terminator_offset = None;
+    let mut rest = text;
+    while let Some(tail) = past_quote(rest) {
+        let past_hashes = eat_while(tail, |c| c == '#');
+        let hashes = (tail.len() - past_hashes.len()) as u32;
+        if hashes >= n_hashes {
+            return (counted(n_hashes), &tail[n_hashes as usize..]);
+        }
+        if hashes > found {
+            found = hashes;
+            possible_terminator_offset = Some(before + (text.len() - tail.len()) as u32);
+        }
+        rest = past_hashes;
+    }
+    let error = RawStrError::NoTerminator {
+        expected: n_hashes,
+        found,
+        possible_terminator_offset,
+    };
+    (Err(error), "")
+}
+
+/// What follows the first quote of the text.
+fn past_quote(rest: &str) -> Option<&str>
+    ensures { let place = run_len spec.is_no_quote (chars rest.now) in
+        MatchOption result
+        (drop place (chars rest.now) ≡ [])
+        (λ tail. (drop place (chars rest.now) ≡ byte "\"" ∷ chars tail.now) × (tail.now ≡ past (suc place) rest.now) × (length tail.now < length rest.now)) }
+{
+    strip(eat_while(rest, |c| c != '"'), '"')
+}
+
+/// The number of hashes, or that there are too many.
+fn counted(n_hashes: u32) -> Result<u8, RawStrError>
+    ensures { result ≡ spec.counted n_hashes }
+{
+    if n_hashes <= 255 {
+        Ok(n_hashes as u8)
+    } else {
+        Err(RawStrError::TooManyDelimiters { found: n_hashes })
+    }
+}
+
+/// How far a raw string looks past its end: one character, for its suffix or the end of the text. What is
+/// refused looks at none, unless the text ends where it does.
+pub(crate) fn lookahead()
+    ensures read { (prefix : ℕ) → IsLocal (Result ℕ RawStrError) 1 (spec.raw_read prefix) }
+    ensures ended { (prefix : ℕ) → EndsItself prefix }
+    ensures literal { (prefix : RawPrefix) → IsLocal TokenKind 1 (spec.raw_literal prefix) }
+    ensures refused { (prefix : RawPrefix) → RefusedEndsItself prefix }
+    ensures body { (kind : Option ℕ → LiteralKind) → IsLocal TokenKind 1 (literal (spec.raw_body kind)) }
+{}
+
+/// Where the suffix of a raw string begins: within its token, and at its end where it is refused.
+pub(crate) fn suffixes()
+    ensures within { (prefix : RawPrefix) (s : List ℕ) → suffix_start_of (spec.raw_literal prefix s).0 ≤ spec.prefix_len prefix + bytes_of (spec.raw_literal prefix s).1 s }
+    ensures refused { (prefix : RawPrefix) (s : List ℕ) → IsNone (spec.accepted (spec.raw_read 0 s).0)
+        → suffix_start_of (spec.raw_literal prefix s).0 ≡ spec.prefix_len prefix + bytes_of (spec.raw_literal prefix s).1 s }
+{}
+
+/// The check of a raw string's own text refuses nothing exactly where its token has a number of hashes.
+pub(crate) fn own_text()
+    ensures { (prefix : RawPrefix) (text front s : List ℕ) → chars text ≡ front ++ take (spec.raw_literal prefix s).1 s
+        → (spec.raw_check text (length front) ≡ Ok tt) ↔ IsSome (spec.accepted (spec.raw_read 0 s).0) }
+{}
