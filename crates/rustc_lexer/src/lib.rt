@@ -8,7 +8,7 @@ pub mod classes;
 pub mod cursor;
 pub mod entry;
 mod lexemes;
-pub mod raw_check;
+mod raw_check;
 mod scan;
 pub mod token;
 
@@ -18,6 +18,7 @@ pub use classes::{
 };
 pub use cursor::Cursor;
 pub use entry::{Tokens, tokenize};
+pub use raw_check::{starts_raw, validate_raw_str};
 pub use token::{
     Base, DocStyle, FrontmatterAllowed, GuardedStr, LiteralKind, RawStrError, Token, TokenKind,
 };
