@@ -152,9 +152,10 @@ shorter-by (suc n) text rest is le cut =
     lt-ltb (length rest) (length text) (omega (arith, ap length cut, length-past (suc n) text is, length-le-encodes (take (suc n) (chars text)))) ∙ sym (lt-ltb 0 (suc n) (omega arith))
 
 -- what follows a name
-past-quoted : (c : ℕ) (name end left : List ℕ) → begins (codes "'") (chars end) ≡ true → left ≡ past 1 end → (Literal (Char true) (2 + length (encode_utf8_all (c ∷ name))), left) ≡ scanned (past_name c name) end
-past-quoted c name end left t cut =
-    ap (λ (xs : List ℕ). (Literal (Char true) (2 + length (encode_utf8_all (c ∷ name))), xs)) cut ∙ sym (scanned-yes (begins (codes "'")) (quoted_name c name) (unquoted c name) end t)
+past-quoted : (c : ℕ) (name end left : List ℕ) (n : ℕ) → begins (codes "'") (chars end) ≡ true → left ≡ past 1 end → n ≡ 2 + length (encode_utf8_all (c ∷ name)) → (Literal (Char true) n, left) ≡ scanned (past_name c name) end
+past-quoted c name end left n t cut len =
+    ap (λ (k : ℕ). (Literal (Char true) k, left)) len
+    ∙ (ap (λ (xs : List ℕ). ((quoted_name c name []).0, xs)) cut ∙ sym (scanned-yes (begins (codes "'")) (quoted_name c name) (unquoted c name) end t))
 
 past-unquoted : (c : ℕ) (name end : List ℕ) → IsUtf8 end → begins (codes "'") (chars end) ≡ false → ((unquoted c name (chars end)).0, end) ≡ scanned (past_name c name) end
 past-unquoted c name end is t =
@@ -190,17 +191,14 @@ module _ (c : ℕ) (rest part end : List ℕ) (is : IsUtf8 rest) (first : part �
   named-is = scanned-and_then (front is_name_part) (past_name c) rest is ∙ ap (scanned (past_name c (take whole (chars rest)))) (sym end-is)
 
   pub named-quoted : (left : List ℕ) (w : ℕ) → begins (codes "'") (chars end) ≡ true → left ≡ past 1 end → w ≡ len_utf8 c → (Literal (Char true) (2 + (w + (length rest - length end))), left) ≡ scanned (named c) rest
-  unfolding whole
   named-quoted left w t cut is_w =
       let name : List ℕ = take whole (chars rest) in
       let len : 2 + (w + (length rest - length end)) ≡ 2 + length (encode_utf8_all (c ∷ name)) =
       omega (arith, ap length end-is, length-past whole rest is, length-append (encode_utf8 c) (encode_utf8_all name), length-encode c) in
-      ap (λ (n : ℕ). (Literal (Char true) n, left)) len
-      ∙ (past-quoted c name end left t cut ∙ sym named-is)
+      past-quoted c name end left (2 + (w + (length rest - length end))) t cut len ∙ sym named-is
 
   pub named-unquoted : (kind : TokenKind) (emoji : Bool) → begins (codes "'") (chars end) ≡ false → emoji ≡ ltb (length end) (length part)
       → kind ≡ (if begins (codes "#") (chars end) && not (is_ascii_digit c) then UnknownPrefixLifetime else Lifetime (is_ascii_digit c || is_emoji c || emoji)) → (kind, end) ≡ scanned (named c) rest
-  unfolding whole
   named-unquoted kind emoji t same e =
       let name : List ℕ = take whole (chars rest) in
       let utf8 : IsUtf8 end = rw end-is (IsUtf8-past whole rest is) in
