@@ -1,5 +1,5 @@
 -- Characters and lifetimes, as the code reads them.
-use Rattle.std.proofs.Common.{◌≡◌, ℕ, zero, suc, ◌+◌, ◌-◌, ◌≤◌, ◌<◌, ◌==◌, ◌&&◌, ◌||◌, not, Bool, true, false, true≢false, ltb, if◌then◌else◌, List, [], ◌∷◌, length, take, drop, codes, refl, sym, ap, ◌∙◌, arith, length-append, length-take-le, zero-add, lt-ltb, le-ltb}
+use Rattle.std.proofs.Common.{◌≡◌, ◌≢◌, ◌⊎◌, inl, inr, ne_eqb, ℕ, zero, suc, ◌+◌, ◌-◌, ◌≤◌, ◌<◌, ◌==◌, ◌&&◌, ◌||◌, not, Bool, true, false, true≢false, ltb, if◌then◌else◌, List, [], ◌∷◌, length, take, drop, codes, refl, sym, ap, ◌∙◌, arith, length-append, length-take-le, zero-add, lt-ltb, le-ltb}
 use Rattle.std.specs.Char.{is_ascii_digit, encode_utf8, len_utf8}
 use Rattle.std.specs.Str.{byte, chars, encode_utf8_all, IsUtf8}
 use Rattle.std.proofs.lemmas.Str.{length-encode, length-le-encodes}
@@ -90,6 +90,13 @@ pick-raw c text name rest is e t cut left =
     let raw_is : (c == 114 && begins_raw (chars text)) ≡ true = rw e t in
     ap (λ (xs : List ℕ). (RawLifetime, xs)) left
     ∙ (sym (scanned-after 2 (run RawLifetime is_id_continue) text name is cut) ∙ sym (scanned-yes (λ s. c == 114 && begins_raw s) raw (named c) text raw_is))
+
+pub pick-named : (c : ℕ) (text : List ℕ) (r : TokenKind × List ℕ) → (c ≢ 114) ⊎ (begins_raw (chars text) ≡ false) → r ≡ scanned (named c) text → r ≡ scanned (lifetime c) text
+pick-named c text r out e = e ∙ sym (scanned-no (λ s. c == 114 && begins_raw s) raw (named c) text (not_raw out))
+  where
+    not_raw : (c ≢ 114) ⊎ (begins_raw (chars text) ≡ false) → (c == 114 && begins_raw (chars text)) ≡ false
+    not_raw (inl ne) = rw (ne_eqb c 114 ne) refl
+    not_raw (inr t) = rw t (elim (c == 114) as (λ b. (b && false) ≡ false) [ true ↦ refl | false ↦ refl ])
 
 -- the run of a class in two parts
 module _ (p e : ℕ → Bool) where
