@@ -1,5 +1,5 @@
 -- Characters and lifetimes, as the code reads them.
-use Rattle.std.proofs.Common.{◌≡◌, ◌≢◌, ◌⊎◌, inl, inr, ne_eqb, ℕ, zero, suc, ◌+◌, ◌-◌, ◌≤◌, ◌<◌, ◌==◌, ◌&&◌, ◌||◌, not, Bool, true, false, true≢false, ltb, if◌then◌else◌, List, [], ◌∷◌, length, take, drop, codes, refl, sym, ap, ◌∙◌, arith, length-append, length-take-le, zero-add, lt-ltb, le-ltb}
+use Rattle.std.proofs.Common.{◌≡◌, ◌≢◌, ◌⊎◌, inl, inr, ne_eqb, ℕ, zero, suc, ◌+◌, ◌-◌, ◌≤◌, ◌==◌, ◌&&◌, ◌||◌, not, Bool, true, false, true≢false, ltb, if◌then◌else◌, List, [], ◌∷◌, length, take, drop, codes, refl, sym, ap, ◌∙◌, arith, length-append, length-take-le, zero-add, lt-ltb, le-ltb}
 use Rattle.std.specs.Char.{is_ascii_digit, encode_utf8, len_utf8}
 use Rattle.std.specs.Str.{byte, chars, encode_utf8_all, IsUtf8}
 use Rattle.std.proofs.lemmas.Str.{length-encode, length-le-encodes}
@@ -8,12 +8,12 @@ use Rattle.rustc_lexer.specs.declared.token.TokenKind.{TokenKind}
 use Rattle.rustc_lexer.specs.declared.token.TokenKind.TheVariants.{Literal, Lifetime, RawLifetime, UnknownPrefixLifetime}
 use Rattle.rustc_lexer.specs.Classes.{is_id_start, is_id_continue}
 use Rattle.rustc_lexer.specs.Emoji.{is_emoji}
-use Rattle.rustc_lexer.specs.Lifetime.{is_name_part, front, holds, is_marked, past_name, named, begins_raw, lifetime, is_char, quote_or_lifetime}
+use Rattle.rustc_lexer.specs.Lifetime.{is_name_part, front, holds, past_name, named, begins_raw, lifetime, is_character, quote_or_lifetime}
 use Rattle.rustc_lexer.specs.LifetimeLaws.{quoted_name, raw, unquoted}
 use Rattle.rustc_lexer.specs.Literal.{literal}
 use Rattle.rustc_lexer.specs.Quoted.{char_body}
 use Rattle.rustc_lexer.specs.Reach.{run_len_le}
-use Rattle.rustc_lexer.specs.Scan.{after, and_then, begins, bytes_of, gives, next_is, past, run, run_len, scanned}
+use Rattle.rustc_lexer.specs.Scan.{and_then, begins, bytes_of, next_is, past, run, run_len, scanned}
 use Rattle.rustc_lexer.proofs.PastLemmas.{past-zero, past-past, chars-past, length-past, IsUtf8-past}
 use Rattle.rustc_lexer.proofs.ScanLemmas.{scanned-after, scanned-no, scanned-yes}
 
@@ -34,7 +34,7 @@ module _ (text tail : List ℕ) (c : ℕ) (is : IsUtf8 text) (reads : chars text
       let one : bytes_of 1 (chars text) ≡ len_utf8 c = ap (bytes_of 1) reads ∙ (length-append (encode_utf8 c) [] ∙ let none : length (encode_utf8 c) + 0 ≡ len_utf8 c = omega (arith, length-encode c) in none) in
       omega (arith, length-past 1 text is, ap length cut)
 
-  pub pick-name : (r : TokenKind × List ℕ) → is_char c (chars tail) ≡ false → r ≡ scanned (lifetime c) tail → r ≡ scanned quote_or_lifetime text
+  pub pick-name : (r : TokenKind × List ℕ) → is_character c (chars tail) ≡ false → r ≡ scanned (lifetime c) tail → r ≡ scanned quote_or_lifetime text
   pick-name r t e =
       let n : ℕ = (lifetime c (chars tail)).1 in
       let one : 1 + n ≡ suc n = omega arith in
@@ -43,7 +43,7 @@ module _ (text tail : List ℕ) (c : ℕ) (is : IsUtf8 text) (reads : chars text
       let whole : quote_or_lifetime (chars text) ≡ ((lifetime c (chars tail)).0, suc n) = ap quote_or_lifetime reads ∙ at_name in
       e ∙ (ap (λ (xs : List ℕ). ((lifetime c (chars tail)).0, xs)) left ∙ ap (λ (p : TokenKind × ℕ). (p.0, past p.1 text)) (sym whole))
 
-  pub pick-char : (r : TokenKind × List ℕ) → is_char c (chars tail) ≡ true → r ≡ scanned (literal char_body) text → r ≡ scanned quote_or_lifetime text
+  pub pick-char : (r : TokenKind × List ℕ) → is_character c (chars tail) ≡ true → r ≡ scanned (literal char_body) text → r ≡ scanned quote_or_lifetime text
   pick-char r t e =
       let at_char : quote_or_lifetime (c ∷ chars tail) ≡ literal char_body (c ∷ chars tail) = rw t refl in
       let whole : quote_or_lifetime (chars text) ≡ literal char_body (chars text) = ap quote_or_lifetime reads ∙ (at_char ∙ ap (literal char_body) (sym reads)) in

@@ -1,5 +1,5 @@
 -- Literals of quoted text.
-use Rattle.std.proofs.Common.{◌≡◌, ℕ, ◌+◌, ◌-◌, ◌≤◌, Bool, true, false, if◌then◌else◌, List, length, drop, refl, sym, ap, ◌∙◌, arith}
+use Rattle.std.proofs.Common.{◌≡◌, ℕ, ◌+◌, ◌-◌, ◌≤◌, Bool, true, false, if◌then◌else◌, List, length, drop, sym, ap, ◌∙◌, arith}
 use Rattle.std.specs.Str.{chars, IsUtf8}
 use Rattle.rustc_lexer.specs.declared.token.LiteralKind.{LiteralKind}
 use Rattle.rustc_lexer.specs.declared.token.TokenKind.{TokenKind}
@@ -7,7 +7,7 @@ use Rattle.rustc_lexer.specs.declared.token.TokenKind.TheVariants.{Literal}
 use Rattle.rustc_lexer.specs.Literal.{Body, suffix_len, literal}
 use Rattle.rustc_lexer.specs.Quoted.{quoted_body}
 use Rattle.rustc_lexer.specs.Scan.{after, bytes_of, past, scanned}
-use Rattle.rustc_lexer.proofs.PastLemmas.{past-zero, past-past, chars-past, length-past}
+use Rattle.rustc_lexer.proofs.PastLemmas.{past-past, chars-past, length-past}
 use Rattle.rustc_lexer.proofs.ScanLemmas.{scanned-after}
 
 -- the body of a literal was read, and what it left

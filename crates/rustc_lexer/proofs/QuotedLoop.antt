@@ -1,12 +1,11 @@
 -- The loop over a quoted text.
-use Rattle.std.proofs.Common.{◌≡◌, ◌≢◌, ℕ, suc, ◌+◌, ◌≤◌, ◌==◌, ◌&&◌, not, Bool, true, false, if◌then◌else◌, List, [], ◌∷◌, length, drop, codes, refl, sym, ap, ◌∙◌, arith, ◌<◌, eq-eqb, Option, Some, None, MatchOption, Bor}
-use Rattle.std.specs.Str.{byte, chars, IsUtf8}
+use Rattle.std.proofs.Common.{◌≡◌, ◌≢◌, ℕ, suc, ◌+◌, ◌≤◌, ◌==◌, ◌&&◌, not, Bool, true, false, if◌then◌else◌, List, [], ◌∷◌, length, drop, refl, sym, ap, ◌∙◌, arith, ◌<◌, eq-eqb, Option, Some, None, MatchOption, Bor}
+use Rattle.std.specs.Str.{chars, IsUtf8}
 use Rattle.std.proofs.lemmas.Bool.{ne_eqb}
-use Rattle.rustc_lexer.specs.Scan.{begins, bytes_of, past, scanned}
-use Rattle.rustc_lexer.specs.Quoted.{one_more, is_backslash, stopped, quoted, at_double_quote, at_single_stop, is_lone, single_quoted}
+use Rattle.rustc_lexer.specs.Scan.{begins, past, scanned}
+use Rattle.rustc_lexer.specs.Quoted.{one_more, is_backslash, stopped, quoted, at_single_stop, is_lone, single_quoted}
 use Rattle.rustc_lexer.specs.QuotedLaws.{seek, free_place-seek}
-use Rattle.rustc_lexer.proofs.PastLemmas.{past-zero, past-past, IsUtf8-past, length-past, chars-past}
-use Rattle.rustc_lexer.proofs.ScanLemmas.{scanned-same}
+use Rattle.rustc_lexer.proofs.PastLemmas.{past-zero, past-past, IsUtf8-past, length-past}
 
 -- a text is no longer past what is read of it
 pub left-shorter : {A : Type 0} (scan : List ℕ → A × ℕ) (text rest : List ℕ) (a : A) → IsUtf8 text → (a, rest) ≡ scanned scan text → length rest ≤ length text

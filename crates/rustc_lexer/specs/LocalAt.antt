@@ -1,5 +1,5 @@
 -- What is read of one text, where how far a scanner looks depends on what it reads.
-use Rattle.std.proofs.Common.{◌≡◌, ℕ, zero, suc, ◌+◌, ◌≤◌, ◌<◌, Bool, true, false, if◌then◌else◌, List, length, take, drop, refl, sym, ap, ◌∙◌, arith, subst, length-take, length-drop, take-take, take-add, take_all}
+use Rattle.std.proofs.Common.{◌≡◌, ℕ, suc, ◌+◌, ◌≤◌, ◌<◌, Bool, true, false, if◌then◌else◌, List, length, take, drop, refl, sym, ap, ◌∙◌, arith, subst, length-take, length-drop, take-take, take-add, take_all}
 use Rattle.std.specs.Str.{encode_utf8_all}
 use Rattle.rustc_lexer.specs.declared.token.TokenKind.{TokenKind}
 use Rattle.rustc_lexer.specs.declared.token.TokenKind.TheVariants.{Literal}
@@ -139,4 +139,3 @@ pub prefixed_local : (k : ℕ) (prefix : List ℕ) (body : List ℕ → Body × 
 prefixed_local k prefix body other some le is others = either_local k (begins prefix) (literal (after (length prefix) body)) other (λ s. begins-take prefix k s le)
     (λ s t. literal_at k (after (length prefix) body) s some (after_at k (length prefix) body s (begins-length prefix s t) (local_at k body is (drop (length prefix) s))))
     (λ s t. local_at k other others s)
-

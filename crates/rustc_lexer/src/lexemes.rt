@@ -14,7 +14,6 @@ use crate::scan::{eat_while, split_first};
 use crate::token::{Token, TokenKind};
 
 mod comment;
-
 mod lifetime;
 mod literal;
 mod quoted;

@@ -1,7 +1,3 @@
-use Rattle.std.proofs.Common.{◌≡◌, ◌∷◌, ap, MatchOption, true, false}
-use Rattle.std.specs.Str.{chars}
-use Rattle.rustc_lexer.specs.Quoted.{is_lone}
-use Rattle.rustc_lexer.specs.Scan.{past}
 use Rattle.rustc_lexer.proofs.QuotedLoop.{lone-found}
 use Rattle.rustc_lexer.proofs.lexemes.quoted.strip_lone.Goals as goal
 
