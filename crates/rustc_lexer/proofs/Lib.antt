@@ -19,5 +19,6 @@ pub mod RunLemmas
 pub mod ScanLemmas
 pub mod StateLemmas
 pub mod SuffixLemmas
+pub mod TextLemmas
 pub mod TokensLemmas
 pub mod UntilLoop

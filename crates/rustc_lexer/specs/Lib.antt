@@ -24,5 +24,6 @@ pub mod Scan
 pub mod State
 pub mod Texts
 pub mod TokenBy
+pub mod TokenText
 pub mod Tokens
 pub mod Until

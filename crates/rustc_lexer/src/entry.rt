@@ -1,7 +1,9 @@
 //! The tokens of a text.
-ghost use Rattle.std.specs.Prelude.{◌≡◌, ◌<◌, length, drop, ⊤, MatchOption};
+ghost use Rattle.std.specs.Prelude.{◌≡◌, ◌<◌, length, drop, ⊤, MatchOption, All};
 ghost use Rattle.std.specs.Iterator.{at_most, MakesProgress, YieldsFirst};
 ghost use Rattle.rustc_lexer.specs.Classes.{Fits};
+ghost use Rattle.rustc_lexer.specs.State.{HasSuffixWithin};
+ghost use Rattle.rustc_lexer.specs.TokenText.{HaveTexts};
 ghost use Rattle.rustc_lexer.specs.Tokens.{tokens_of, tokens_left, Partitions, RestartsAtBounds};
 
 use crate::cursor::Cursor;
@@ -26,6 +28,8 @@ pub fn tokenize<'a>(input: &'a str, frontmatter_allowed: FrontmatterAllowed) -> 
     ensures tokens { tokens_left result ≡ tokens_of frontmatter_allowed input.now }
     ensures partitions { Partitions input.now (tokens_of frontmatter_allowed input.now) }
     ensures restarts { RestartsAtBounds input.now }
+    ensures suffixes { All HasSuffixWithin (tokens_of frontmatter_allowed input.now) }
+    ensures texts { HaveTexts input.now (tokens_of frontmatter_allowed input.now) }
 {
     Tokens {
         cursor: Cursor::new(input, frontmatter_allowed),

@@ -1,4 +1,5 @@
 use Rattle.rustc_lexer.proofs.TokensLemmas.{partitions, restarts}
+use Rattle.rustc_lexer.proofs.TextLemmas.{suffixes, texts}
 use Rattle.rustc_lexer.proofs.entry.tokenize.Goals as goal
 
 pub returns-clause-partitions : goal.returns-clause-partitions
@@ -6,3 +7,9 @@ returns-clause-partitions c = partitions _ _ record { utf8 = c.utf8.input; fits 
 
 pub returns-clause-restarts : goal.returns-clause-restarts
 returns-clause-restarts c = restarts _ record { utf8 = c.utf8.input; fits = c.requires.fits }
+
+pub returns-clause-suffixes : goal.returns-clause-suffixes
+returns-clause-suffixes c = suffixes _ _ record { utf8 = c.utf8.input; fits = c.requires.fits }
+
+pub returns-clause-texts : goal.returns-clause-texts
+returns-clause-texts c = texts _ _ record { utf8 = c.utf8.input; fits = c.requires.fits }
