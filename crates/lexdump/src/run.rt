@@ -1,6 +1,6 @@
 //! A whole run: from the bytes of a reader to the lines of a writer.
-ghost use Rattle.std.specs.Prelude.{◌≡◌, ◌≢◌, ◌↔◌, ◌^◌, ◌<◌, ◌≤◌, false, IsTrue, IsErrOf, IfErr, IfOk, IfSome, OnErr, OnOk, MatchResult, length, vec_items, string_bytes};
-ghost use Rattle.std.specs.Io.KnownBytes.{Appends, Consumes, IsAtEnd, Keeps};
+ghost use Rattle.std.specs.Prelude.{◌≡◌, ◌≢◌, ◌↔◌, ◌^◌, ◌<◌, false, IsTrue, IsErrOf, IfErr, IfOk, IfSome, OnErr, OnOk, length, string_bytes};
+ghost use Rattle.std.specs.Io.KnownBytes.{Appends, Keeps};
 ghost use Rattle.rustc_lexer.specs.Classes.{Fits};
 ghost use Rattle.lexdump.specs.Outcome.{outcome, printed, IsAnswer, AppendsFront, Writes, EndsReading, IsReadingFault};
 

@@ -1,5 +1,5 @@
 //! A reader or a writer, and whether it has failed.
-ghost use Rattle.std.specs.Prelude.{◌≡◌, ◌||◌, false, is_err, length, IsTrue, ◌↔◌};
+ghost use Rattle.std.specs.Prelude.{◌≡◌, ◌||◌, false, is_err};
 ghost use Rattle.std.specs.Io.{ReadsAtMost, WritesAtMost};
 ghost use Rattle.std.specs.Io.KnownBytes.{Keeps, ReadConsumes, WriteAppends};
 ghost use Rattle.lexdump.specs.Watch.{took_nothing};

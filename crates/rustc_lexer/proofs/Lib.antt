@@ -14,7 +14,6 @@ pub mod QuotedLemmas
 pub mod QuotedLoop
 pub mod RawLemmas
 pub mod RawReadLemmas
-pub mod RawSuffixLemmas
 pub mod RunLemmas
 pub mod ScanLemmas
 pub mod StateLemmas

@@ -10,7 +10,7 @@ use Rattle.rustc_lexer.specs.LifetimeLaws.{is_raw, quoted_name}
 use Rattle.rustc_lexer.specs.Literal.{literal}
 use Rattle.rustc_lexer.specs.Quoted.{char_body}
 use Rattle.rustc_lexer.specs.Scan.{begins, bytes_of, run_len}
-use Rattle.rustc_lexer.proofs.LiteralSuffix.{bytes-add, literal-suffix}
+use Rattle.rustc_lexer.proofs.LiteralSuffix.{bytes-add, suffix_within}
 use Rattle.rustc_lexer.specs.State.{suffix_start_of}
 
 -- of what follows the first character of a token: the suffix begins inside the token
@@ -59,9 +59,9 @@ lifetime-within c s = by_raw (is_raw c s) refl
     by_raw false t = let same : lifetime c s ≡ named c s = rw t refl in subst (λ (r : TokenKind × ℕ). suffix_start_of r.0 ≤ 1 + bytes_of (suc r.1) (c ∷ s)) (sym same) (named-within c s)
 
 pub quote_or_lifetime-within : (s : List ℕ) → IsWithin quote_or_lifetime s
-quote_or_lifetime-within [] = literal-suffix char_body []
+quote_or_lifetime-within [] = suffix_within 1 (char_body []) []
 quote_or_lifetime-within (c ∷ s) = by_char (is_character c s) refl
   where
     by_char : (b : Bool) → is_character c s ≡ b → IsWithin quote_or_lifetime (c ∷ s)
-    by_char true t = let same : quote_or_lifetime (c ∷ s) ≡ literal char_body (c ∷ s) = rw t refl in subst (λ (r : TokenKind × ℕ). suffix_start_of r.0 ≤ 1 + bytes_of r.1 (c ∷ s)) (sym same) (literal-suffix char_body (c ∷ s))
+    by_char true t = let same : quote_or_lifetime (c ∷ s) ≡ literal char_body (c ∷ s) = rw t refl in subst (λ (r : TokenKind × ℕ). suffix_start_of r.0 ≤ 1 + bytes_of r.1 (c ∷ s)) (sym same) (suffix_within 1 (char_body (c ∷ s)) (c ∷ s))
     by_char false t = let same : quote_or_lifetime (c ∷ s) ≡ ((lifetime c s).0, suc (lifetime c s).1) = rw t refl in subst (λ (r : TokenKind × ℕ). suffix_start_of r.0 ≤ 1 + bytes_of r.1 (c ∷ s)) (sym same) (lifetime-within c s)

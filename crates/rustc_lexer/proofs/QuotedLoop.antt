@@ -3,7 +3,8 @@ use Rattle.std.proofs.Common.{◌≡◌, ◌≢◌, ℕ, suc, ◌+◌, ◌≤◌
 use Rattle.std.specs.Str.{chars, IsUtf8}
 use Rattle.std.proofs.lemmas.Bool.{ne_eqb}
 use Rattle.rustc_lexer.specs.Scan.{begins, past, scanned}
-use Rattle.rustc_lexer.specs.Quoted.{one_more, is_backslash, stopped, quoted, at_single_stop, is_lone, single_quoted}
+use Rattle.rustc_lexer.specs.Least.{one_more}
+use Rattle.rustc_lexer.specs.Quoted.{is_backslash, stopped, quoted, at_single_stop, is_lone, single_quoted}
 use Rattle.rustc_lexer.specs.QuotedLaws.{seek, free_place-seek}
 use Rattle.rustc_lexer.proofs.PastLemmas.{past-zero, past-past, IsUtf8-past, length-past}
 

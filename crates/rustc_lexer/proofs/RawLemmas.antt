@@ -6,7 +6,8 @@ use Rattle.std.proofs.lemmas.Bool.{eqb-true, eq-eqb, ne_eqb, le-leb, lt-leb, not
 use Rattle.std.proofs.lemmas.Str.{encode_ascii, IsCharBoundary-from_drop}
 use Rattle.rustc_lexer.specs.declared.token.RawStrError.{RawStrError}
 use Rattle.rustc_lexer.specs.declared.token.RawStrError.TheVariants.{NoTerminator}
-use Rattle.rustc_lexer.specs.Raw.{one_more, least_place, is_hash, is_quote, is_no_quote, hashes, closes, close, quote_hashes, most_hashes, quote_with, quote_end, end_with, counted, raw_closed, raw_text}
+use Rattle.rustc_lexer.specs.Least.{one_more}
+use Rattle.rustc_lexer.specs.Raw.{least_place, is_hash, is_quote, is_no_quote, hashes, closes, close, quote_hashes, most_hashes, quote_with, quote_end, end_with, counted, raw_closed, raw_text}
 use Rattle.rustc_lexer.specs.RawLaws.{place-here, place-on}
 use Rattle.rustc_lexer.specs.Scan.{begins, bytes_of, past, run_len, scanned}
 use Rattle.rustc_lexer.proofs.CharSteps.{bytes_of-suc}

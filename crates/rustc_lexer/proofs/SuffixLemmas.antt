@@ -1,5 +1,4 @@
 -- Where the suffix of a token begins.
-use Rattle.rustc_lexer.proofs.RawSuffixLemmas.{suffix_within}
 use Rattle.rustc_lexer.specs.declared.lexemes.raw.RawPrefix.TheVariants.{R, Br, Cr}
 use Rattle.rustc_lexer.specs.declared.lexemes.raw.RawPrefix.{RawPrefix}
 use Rattle.rustc_lexer.specs.Raw.{raw_literal, raw_body, prefix_kind, prefix_len}
@@ -21,7 +20,7 @@ use Rattle.rustc_lexer.specs.Emoji.{is_emoji}
 use Rattle.rustc_lexer.specs.Ident.{is_word, is_prefix_mark, ident, invalid_ident, marks_ident, marked}
 use Rattle.rustc_lexer.specs.Number.{number_body, number}
 use Rattle.rustc_lexer.proofs.BlockCommentLemmas.{block_comment-none}
-use Rattle.rustc_lexer.proofs.LiteralSuffix.{literal-suffix, suffix-first}
+use Rattle.rustc_lexer.proofs.LiteralSuffix.{suffix_within, suffix-first}
 use Rattle.rustc_lexer.specs.Comment.{slash, line_comment}
 use Rattle.rustc_lexer.specs.Lexeme.{whitespace, letter_r, letter_k, begins_word, word, symbols, kind_among, symbol_kind, past_first, lexeme, first_token, letter_b, letter_c, raw_or_ident, begins_raw, raw_past_or_ident, is_raw_mark}
 use Rattle.rustc_lexer.specs.Scan.{after, begins, bytes_of, gives, next_is, run, run_len}
@@ -101,14 +100,14 @@ string-within : (body : List ℕ → Body × ℕ) (prefix : RawPrefix) (s : List
 string-within body prefix s two = by_quote (begins (codes "\"") s)
   where
     by_quote : (b : Bool) → Within (if b then literal (after 1 body) s else raw_past_or_ident prefix s) s
-    by_quote true = literal-suffix (after 1 body) s
+    by_quote true = suffix_within 1 (after 1 body s) s
     by_quote false = raw_past-within prefix s two
 
 letter_b-within : (s : List ℕ) → Within (letter_b s) s
 letter_b-within s = by_quote (begins (codes "'") s)
   where
     by_quote : (b : Bool) → Within (if b then literal (after 1 byte_body) s else (if begins (codes "\"") s then literal (after 1 byte_str_body) s else raw_past_or_ident Br s)) s
-    by_quote true = literal-suffix (after 1 byte_body) s
+    by_quote true = suffix_within 1 (after 1 byte_body s) s
     by_quote false = string-within byte_str_body Br s refl
 
 word-within : (c : ℕ) (s : List ℕ) → Within (word c s) s
@@ -131,9 +130,9 @@ past_first-within c s = by_class (c == 47) (is_whitespace c) (begins_word c) (is
     by_class true spaces words digits quotes strings emoji = no_suffix (slash s) s (slash-none s)
     by_class false true words digits quotes strings emoji = no_suffix (whitespace s) s refl
     by_class false false true digits quotes strings emoji = word-within c s
-    by_class false false false true quotes strings emoji = literal-suffix (number_body c) s
+    by_class false false false true quotes strings emoji = suffix_within 1 (number_body c s) s
     by_class false false false false true strings emoji = quote_or_lifetime-within s
-    by_class false false false false false true emoji = literal-suffix str_body s
+    by_class false false false false false true emoji = suffix_within 1 (str_body s) s
     by_class false false false false false false true = no_suffix (invalid_ident s) s refl
     by_class false false false false false false false = no_suffix (gives (symbol_kind c) s) s (symbol_kind-none c)
 

@@ -38,7 +38,7 @@ use Rattle.rustc_lexer.specs.Tokens.{tokens_of}
 use Rattle.rustc_lexer.specs.TokenText.{is_good, IsChecked, HasRawText, HasText, HaveTexts}
 use Rattle.rustc_lexer.proofs.CharSteps.{bytes_of-suc}
 use Rattle.rustc_lexer.proofs.PastLemmas.{split_past}
-use Rattle.rustc_lexer.proofs.RawSuffixLemmas.{suffix_none}
+use Rattle.rustc_lexer.proofs.LiteralSuffix.{suffix_none}
 use Rattle.rustc_lexer.proofs.SuffixLemmas.{first_token-suffix}
 use Rattle.rustc_lexer.proofs.TokensLemmas.{by_tokens, tokens-nil, tokens-cons}
 

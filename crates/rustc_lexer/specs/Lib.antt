@@ -6,6 +6,7 @@ pub mod Comment
 pub mod Emoji
 pub mod Ident
 pub mod IdentLaws
+pub mod Least
 pub mod Lexeme
 pub mod Lifetime
 pub mod LifetimeLaws

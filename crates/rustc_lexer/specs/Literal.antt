@@ -15,9 +15,10 @@ pub record Body : Type 0 where
   pub kind : LiteralKind
   pub takes_suffix : Bool
 
--- what follows the first character of a literal, which is one byte long
-abbrev pub literal_by : Body × ℕ → List ℕ → TokenKind × ℕ
-literal_by body s = (Literal body.0.kind (1 + bytes_of body.1 s), body.1 + (if body.0.takes_suffix then suffix_len (drop body.1 s) else 0))
+-- the literal with this body, past its first p characters, which are one byte long each
+abbrev pub literal_past : ℕ → Body × ℕ → List ℕ → TokenKind × ℕ
+literal_past p body s = (Literal body.0.kind (p + bytes_of body.1 s), body.1 + (if body.0.takes_suffix then suffix_len (drop body.1 s) else 0))
 
+-- what follows the first character of a literal
 abbrev pub literal : (List ℕ → Body × ℕ) → List ℕ → TokenKind × ℕ
-literal body s = literal_by (body s) s
+literal body s = literal_past 1 (body s) s

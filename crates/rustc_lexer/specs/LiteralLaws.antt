@@ -5,7 +5,7 @@ use Rattle.rustc_lexer.specs.declared.token.LiteralKind.TheVariants.{Str}
 use Rattle.rustc_lexer.specs.declared.token.TokenKind.{TokenKind}
 use Rattle.rustc_lexer.specs.declared.token.TokenKind.TheVariants.{Literal}
 use Rattle.rustc_lexer.specs.Classes.{is_id_start, is_id_continue}
-use Rattle.rustc_lexer.specs.Literal.{Body, suffix_len, literal_by, literal}
+use Rattle.rustc_lexer.specs.Literal.{Body, suffix_len, literal_past, literal}
 use Rattle.rustc_lexer.specs.Reach.{agree_before, agree_after, choice_local, either_local, gives_local, next_is-take, next_is-length, run_local, same_local, wider}
 use Rattle.rustc_lexer.specs.Scan.{Agree, IsLocal, after, bytes_of, gives, next_is, run}
 
@@ -42,7 +42,7 @@ literal_local k body some is = record {
       let one : body u ≡ body s = is.local s u front in
       let two : suffixed (body s).0.takes_suffix (drop n u) ≡ m = suffixed_same k (body s).0.takes_suffix (drop n s) (drop n u) some (agree_after k n m s u a) in
       let bytes : bytes_of n u ≡ bytes_of n s = ap (λ (xs : List ℕ). length (encode_utf8_all xs)) (sym front.below) in
-      ap (λ (r : Body × ℕ). literal_by r u) one
+      ap (λ (r : Body × ℕ). literal_past 1 r u) one
       ∙ (ap (λ (x : ℕ). (Literal (body s).0.kind (1 + bytes_of n u), n + x)) two
       ∙ ap (λ (x : ℕ). (Literal (body s).0.kind (1 + x), n + m)) bytes);
 }
@@ -62,5 +62,5 @@ prefixed_literal_local k n test body other some told fits is others =
     whole s = if test s then after n body s else gives none s
 
     by_test : (s : List ℕ) (b : Bool) → test s ≡ b → (if b then literal (after n body) s else other s) ≡ (if b then literal whole s else other s)
-    by_test s true e = ap (λ (r : Body × ℕ). literal_by r s) (sym (ap (λ (b : Bool). if b then after n body s else gives none s) e))
+    by_test s true e = ap (λ (r : Body × ℕ). literal_past 1 r s) (sym (ap (λ (b : Bool). if b then after n body s else gives none s) e))
     by_test s false e = refl

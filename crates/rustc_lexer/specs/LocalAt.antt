@@ -3,7 +3,7 @@ use Rattle.std.proofs.Common.{◌≡◌, ℕ, suc, ◌+◌, ◌≤◌, ◌<◌, 
 use Rattle.std.specs.Str.{encode_utf8_all}
 use Rattle.rustc_lexer.specs.declared.token.TokenKind.{TokenKind}
 use Rattle.rustc_lexer.specs.declared.token.TokenKind.TheVariants.{Literal}
-use Rattle.rustc_lexer.specs.Literal.{Body, suffix_len, literal_by, literal}
+use Rattle.rustc_lexer.specs.Literal.{Body, suffix_len, literal_past, literal}
 use Rattle.rustc_lexer.specs.LiteralLaws.{suffix, suffix_local}
 use Rattle.rustc_lexer.specs.Reach.{agree_before, agree_after, begins-take, begins-length, wider}
 use Rattle.rustc_lexer.specs.Scan.{Agree, IsLocal, after, begins, bytes_of}
@@ -81,7 +81,7 @@ literal_at k body s some is = record {
       let one : body u ≡ body s = is.local u front in
       let two : suffixed (body s).0.takes_suffix (drop n u) ≡ m = suffixed_same k (body s).0.takes_suffix (drop n s) (drop n u) some (agree_after k n m s u a) in
       let bytes : bytes_of n u ≡ bytes_of n s = ap (λ (xs : List ℕ). length (encode_utf8_all xs)) (sym front.below) in
-      ap (λ (r : Body × ℕ). literal_by r u) one
+      ap (λ (r : Body × ℕ). literal_past 1 r u) one
       ∙ (ap (λ (x : ℕ). (Literal (body s).0.kind (1 + bytes_of n u), n + x)) two
       ∙ ap (λ (x : ℕ). (Literal (body s).0.kind (1 + x), n + m)) bytes);
 }

@@ -3,17 +3,9 @@ use Rattle.std.specs.Prelude.{ℕ, zero, suc, ◌==◌, ◌&&◌, ◌||◌, not,
 use Rattle.std.specs.Str.{byte}
 use Rattle.rustc_lexer.specs.declared.token.LiteralKind.{LiteralKind}
 use Rattle.rustc_lexer.specs.declared.token.LiteralKind.TheVariants.{Char, Byte, Str, ByteStr, CStr}
+use Rattle.rustc_lexer.specs.Least.{least}
 use Rattle.rustc_lexer.specs.Literal.{Body}
 use Rattle.rustc_lexer.specs.Scan.{begins, run_len}
-
-abbrev pub one_more : Option ℕ → Option ℕ
-one_more None = None
-one_more (Some n) = Some (suc n)
-
--- the least number below `count` that passes a test
-abbrev pub least : (ℕ → Bool) → ℕ → Option ℕ
-least test zero = None
-least test (suc count) = if test 0 then Some 0 else one_more (least (λ i. test (suc i)) count)
 
 abbrev pub is_backslash : ℕ → Bool
 is_backslash c = c == byte "\\"

@@ -10,7 +10,8 @@ use Rattle.rustc_lexer.specs.LiteralLaws.{literal_local}
 use Rattle.rustc_lexer.specs.LocalAt.{IsLocalAt, IsToldBy, local_at, local_by, literal_at, agree_upto, agree_more, told_same, same_text}
 use Rattle.rustc_lexer.specs.Reach.{agree_before, begins-take, begins-length}
 use Rattle.rustc_lexer.specs.Scan.{Agree, IsLocal, begins, run_len}
-use Rattle.rustc_lexer.specs.Quoted.{one_more, least, is_backslash, is_odd, free_place, stopped, quoted, at_double_quote, double_quoted, at_single_stop, is_lone, single_quoted, quoted_body, str_body, byte_str_body, c_str_body, char_body, byte_body}
+use Rattle.rustc_lexer.specs.Least.{one_more, least}
+use Rattle.rustc_lexer.specs.Quoted.{is_backslash, is_odd, free_place, stopped, quoted, at_double_quote, double_quoted, at_single_stop, is_lone, single_quoted, quoted_body, str_body, byte_str_body, c_str_body, char_body, byte_body}
 
 -- one pass finds the place that is sought, which knows whether the next character is escaped
 abbrev pub seek : (List ℕ → Bool) → List ℕ → Bool → Option ℕ

@@ -9,17 +9,9 @@ use Rattle.rustc_lexer.specs.declared.token.RawStrError.{RawStrError}
 use Rattle.rustc_lexer.specs.declared.token.RawStrError.TheVariants.{InvalidStarter, NoTerminator, TooManyDelimiters}
 use Rattle.rustc_lexer.specs.declared.token.TokenKind.{TokenKind}
 use Rattle.rustc_lexer.specs.declared.token.TokenKind.TheVariants.{Literal}
-use Rattle.rustc_lexer.specs.Literal.{Body, suffix_len}
+use Rattle.rustc_lexer.specs.Least.{least}
+use Rattle.rustc_lexer.specs.Literal.{Body, literal_past}
 use Rattle.rustc_lexer.specs.Scan.{after, bytes_of, gives, next_is, run_len}
-
-abbrev pub one_more : Option ℕ → Option ℕ
-one_more None = None
-one_more (Some n) = Some (suc n)
-
--- the least number below `count` that passes a test
-abbrev pub least : (ℕ → Bool) → ℕ → Option ℕ
-least test zero = None
-least test (suc count) = if test 0 then Some 0 else one_more (least (λ i. test (suc i)) count)
 
 -- the least place from which the text passes a test
 abbrev pub least_place : (List ℕ → Bool) → List ℕ → Option ℕ
@@ -125,12 +117,9 @@ prefix_len R = 1
 prefix_len Br = 2
 prefix_len Cr = 2
 
--- what follows the prefix, of p bytes, of a literal
-abbrev pub literal_past_by : ℕ → Body × ℕ → List ℕ → TokenKind × ℕ
-literal_past_by p body s = (Literal body.0.kind (p + bytes_of body.1 s), body.1 + (if body.0.takes_suffix then suffix_len (drop body.1 s) else 0))
-
+-- what follows the prefix
 abbrev pub raw_literal : RawPrefix → List ℕ → TokenKind × ℕ
-raw_literal prefix s = literal_past_by (prefix_len prefix) (raw_body (prefix_kind prefix) s) s
+raw_literal prefix s = literal_past (prefix_len prefix) (raw_body (prefix_kind prefix) s) s
 
 abbrev pub checked : Result ℕ RawStrError → Result Unit RawStrError
 checked (Ok n) = Ok tt

@@ -10,9 +10,10 @@ use Rattle.rustc_lexer.specs.declared.token.RawStrError.{RawStrError}
 use Rattle.rustc_lexer.specs.declared.token.RawStrError.TheVariants.{InvalidStarter, NoTerminator, TooManyDelimiters}
 use Rattle.rustc_lexer.specs.declared.token.TokenKind.{TokenKind}
 use Rattle.rustc_lexer.specs.declared.token.TokenKind.TheVariants.{Literal}
-use Rattle.rustc_lexer.specs.Literal.{Body, suffix_len, literal}
+use Rattle.rustc_lexer.specs.Literal.{Body, suffix_len, literal_past, literal}
 use Rattle.rustc_lexer.specs.LiteralLaws.{literal_local}
-use Rattle.rustc_lexer.specs.Raw.{one_more, least_place, is_hash, is_quote, hashes, closes, close, raw_closed, raw_text, past_starter, raw_starter, raw_read, accepted, is_accepted, raw_body_by, raw_body, prefix_kind, prefix_len, literal_past_by, raw_literal, checked, raw_check}
+use Rattle.rustc_lexer.specs.Least.{one_more}
+use Rattle.rustc_lexer.specs.Raw.{least_place, is_hash, is_quote, hashes, closes, close, raw_closed, raw_text, past_starter, raw_starter, raw_read, accepted, is_accepted, raw_body_by, raw_body, prefix_kind, prefix_len, raw_literal, checked, raw_check}
 use Rattle.rustc_lexer.specs.Reach.{agree_before, agree_after, and_then_local, first_local, gives_local, run_len_local, run_len_le, same_local, wider}
 use Rattle.rustc_lexer.specs.Scan.{Agree, IsLocal, after, bytes_of, gives, run_len}
 
@@ -286,10 +287,10 @@ abbrev longer : TokenKind → TokenKind
 longer (Literal kind start) = Literal kind (1 + start)
 longer kind = kind
 
-after_two : (kind : Option ℕ → LiteralKind) → IsLocal TokenKind 1 (λ s. literal_past_by 2 (raw_body kind s) s)
-after_two kind = same_local 1 (λ s. literal_past_by 2 (raw_body kind s) s) (λ s. (longer (literal (raw_body kind) s).0, (literal (raw_body kind) s).1)) same (map_local 1 longer (literal (raw_body kind)) (literal_local 1 (raw_body kind) (omega arith) (raw_body_local kind)))
+after_two : (kind : Option ℕ → LiteralKind) → IsLocal TokenKind 1 (λ s. literal_past 2 (raw_body kind s) s)
+after_two kind = same_local 1 (λ s. literal_past 2 (raw_body kind s) s) (λ s. (longer (literal (raw_body kind) s).0, (literal (raw_body kind) s).1)) same (map_local 1 longer (literal (raw_body kind)) (literal_local 1 (raw_body kind) (omega arith) (raw_body_local kind)))
   where
-    same : (s : List ℕ) → literal_past_by 2 (raw_body kind s) s ≡ (longer (literal (raw_body kind) s).0, (literal (raw_body kind) s).1)
+    same : (s : List ℕ) → literal_past 2 (raw_body kind s) s ≡ (longer (literal (raw_body kind) s).0, (literal (raw_body kind) s).1)
     same s = ap (λ (n : ℕ). let t : TokenKind × ℕ = (Literal (raw_body kind s).0.kind n, (literal (raw_body kind) s).1) in t) (omega arith)
 
 pub raw_literal_local : (prefix : RawPrefix) → IsLocal TokenKind 1 (raw_literal prefix)
@@ -314,7 +315,7 @@ raw_literal_within prefix s u none end a =
     let front : Agree 0 m s u = subst (λ (k : ℕ). Agree 0 k s u) taken a in
     let read : raw_read 0 u ≡ raw_read 0 s = raw_read_within 0 s u end front in
     let bytes : bytes_of m u ≡ bytes_of m s = ap (λ (xs : List ℕ). length (encode_utf8_all xs)) (sym front.below) in
-    ap (λ (r : Read). literal_past_by (prefix_len prefix) (raw_body_by (prefix_kind prefix) r) u) read
+    ap (λ (r : Read). literal_past (prefix_len prefix) (raw_body_by (prefix_kind prefix) r) u) read
     ∙ (ap (λ (b : Bool). let t : TokenKind × ℕ = (Literal body.0.kind (prefix_len prefix + bytes_of m u), m + (if b then suffix_len (drop m u) else 0)) in t) refused
     ∙ (ap (λ (n : ℕ). let t : TokenKind × ℕ = (Literal body.0.kind (prefix_len prefix + n), m + 0) in t) bytes
     ∙ sym (ap (λ (b : Bool). let t : TokenKind × ℕ = (Literal body.0.kind (prefix_len prefix + bytes_of m s), m + (if b then suffix_len (drop m s) else 0)) in t) refused)))

@@ -1,5 +1,5 @@
 //! Identifiers, with what may stand before and after them.
-ghost use Rattle.std.specs.Prelude.{◌≡◌, ◌+◌, ◌≤◌, true, false, MatchOption, drop, length};
+ghost use Rattle.std.specs.Prelude.{◌≡◌, ◌+◌, true, false, MatchOption, drop};
 ghost use Rattle.std.specs.Str.{chars};
 ghost use Rattle.rustc_lexer.specs.declared.token.TokenKind.{TokenKind};
 ghost use Rattle.rustc_lexer.specs.Classes;

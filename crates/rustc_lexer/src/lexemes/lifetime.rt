@@ -1,5 +1,5 @@
 //! What begins with a single quote: characters and lifetimes.
-ghost use Rattle.std.specs.Prelude.{◌≡◌, ◌+◌, ◌≤◌, ◌<◌, ◌^◌, ◌∷◌, suc, ◌&&◌, ◌||◌, not, if◌then◌else◌, ℕ, List, Bool, true, false, length, drop, codes, MatchOption};
+ghost use Rattle.std.specs.Prelude.{◌≡◌, ◌+◌, ◌<◌, ◌^◌, ◌∷◌, ◌&&◌, ◌||◌, not, if◌then◌else◌, ℕ, List, true, false, length, drop, codes, MatchOption};
 ghost use Rattle.std.specs.Char.{is_ascii_digit, len_utf8};
 ghost use Rattle.std.specs.Str.{chars};
 ghost use Rattle.rustc_lexer.specs.declared.token.TokenKind.{TokenKind};
@@ -7,11 +7,9 @@ ghost use Rattle.rustc_lexer.specs.declared.token.TokenKind.TheVariants.{Lifetim
 ghost use Rattle.rustc_lexer.specs.Emoji.{is_emoji};
 ghost use Rattle.rustc_lexer.specs.Lifetime as spec;
 ghost use Rattle.rustc_lexer.specs.LifetimeLaws.{is_character_at, is_raw};
-ghost use Rattle.rustc_lexer.specs.Literal.{Body, literal};
 ghost use Rattle.rustc_lexer.specs.LocalAt.{IsLocalAt};
 ghost use Rattle.rustc_lexer.specs.Quoted.{single_quoted};
-ghost use Rattle.rustc_lexer.specs.Scan.{IsLocal, begins, bytes_of, past, run_len, scanned};
-ghost use Rattle.rustc_lexer.specs.State.{suffix_start_of};
+ghost use Rattle.rustc_lexer.specs.Scan.{IsLocal, begins, past, run_len, scanned};
 
 use crate::classes::emoji::is_emoji;
 use crate::classes::{is_id_continue, is_id_start};

@@ -1,9 +1,8 @@
 //! Numbers.
-ghost use Rattle.std.specs.Prelude.{◌≡◌, ℕ, suc, ◌+◌, ◌<◌, ◌≤◌, ◌^◌, false, List, ◌∷◌, length};
+ghost use Rattle.std.specs.Prelude.{◌≡◌, ℕ, ◌+◌, ◌<◌, ◌^◌, false, length};
 ghost use Rattle.std.specs.Char.{is_ascii_digit, is_ascii_hexdigit};
 ghost use Rattle.rustc_lexer.specs.Number as spec;
-ghost use Rattle.rustc_lexer.specs.Scan.{IsLocal, bytes_of, scanned};
-ghost use Rattle.rustc_lexer.specs.State.{suffix_start_of};
+ghost use Rattle.rustc_lexer.specs.Scan.{IsLocal, scanned};
 ghost use Rattle.rustc_lexer.specs.declared.token.TokenKind.{TokenKind};
 
 use crate::classes::is_id_start;

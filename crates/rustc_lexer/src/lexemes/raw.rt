@@ -1,5 +1,5 @@
 //! Raw strings.
-ghost use Rattle.std.specs.Prelude.{◌≡◌, ◌↔◌, ℕ, suc, ◌+◌, ◌<◌, ◌≤◌, ◌^◌, List, [], ◌∷◌, ◌++◌, length, take, drop, Option, Result, IsNone, IsSome, MatchOption};
+ghost use Rattle.std.specs.Prelude.{◌≡◌, ℕ, suc, ◌+◌, ◌<◌, ◌^◌, [], ◌∷◌, length, drop, Option, Result, MatchOption};
 ghost use Rattle.std.specs.Str.{byte, chars};
 ghost use Rattle.rustc_lexer.specs.declared.lexemes.raw.RawPrefix.{RawPrefix};
 ghost use Rattle.rustc_lexer.specs.declared.token.LiteralKind.{LiteralKind};
@@ -8,8 +8,7 @@ ghost use Rattle.rustc_lexer.specs.declared.token.TokenKind.{TokenKind};
 ghost use Rattle.rustc_lexer.specs.Literal.{literal};
 ghost use Rattle.rustc_lexer.specs.Raw as spec;
 ghost use Rattle.rustc_lexer.specs.RawLaws.{EndsItself, RefusedEndsItself};
-ghost use Rattle.rustc_lexer.specs.Scan.{IsLocal, bytes_of, past, run_len, scanned};
-ghost use Rattle.rustc_lexer.specs.State.{suffix_start_of};
+ghost use Rattle.rustc_lexer.specs.Scan.{IsLocal, past, run_len, scanned};
 
 use crate::lexemes::literal::eat_suffix;
 use crate::scan::{eat_while, split_first, strip};
@@ -144,17 +143,4 @@ pub(crate) fn raw_lookahead()
     ensures literal { (prefix : RawPrefix) → IsLocal TokenKind 1 (spec.raw_literal prefix) }
     ensures refused { (prefix : RawPrefix) → RefusedEndsItself prefix }
     ensures body { (kind : Option ℕ → LiteralKind) → IsLocal TokenKind 1 (literal (spec.raw_body kind)) }
-{}
-
-/// Where the suffix of a raw string begins: within its token, and at its end where it is refused.
-pub(crate) fn raw_suffixes()
-    ensures within { (prefix : RawPrefix) (s : List ℕ) → suffix_start_of (spec.raw_literal prefix s).0 ≤ spec.prefix_len prefix + bytes_of (spec.raw_literal prefix s).1 s }
-    ensures refused { (prefix : RawPrefix) (s : List ℕ) → IsNone (spec.accepted (spec.raw_read 0 s).0)
-        → suffix_start_of (spec.raw_literal prefix s).0 ≡ spec.prefix_len prefix + bytes_of (spec.raw_literal prefix s).1 s }
-{}
-
-/// The check of a raw string's own text refuses nothing exactly where its token has a number of hashes.
-pub(crate) fn raw_own_text()
-    ensures { (prefix : RawPrefix) (text front s : List ℕ) → chars text ≡ front ++ take (spec.raw_literal prefix s).1 s
-        → (spec.raw_check text (length front) ≡ Ok tt) ↔ IsSome (spec.accepted (spec.raw_read 0 s).0) }
 {}

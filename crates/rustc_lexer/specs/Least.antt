@@ -1,0 +1,11 @@
+-- The least number that passes a test.
+use Rattle.std.specs.Prelude.{ℕ, zero, suc, Bool, if◌then◌else◌, Option, Some, None}
+
+abbrev pub one_more : Option ℕ → Option ℕ
+one_more None = None
+one_more (Some n) = Some (suc n)
+
+-- the least number below `count` that passes a test
+abbrev pub least : (ℕ → Bool) → ℕ → Option ℕ
+least test zero = None
+least test (suc count) = if test 0 then Some 0 else one_more (least (λ i. test (suc i)) count)
