@@ -10,6 +10,8 @@ use rustc_lexer::TokenKind::{
     UnknownPrefix, UnknownPrefixLifetime, Whitespace,
 };
 use rustc_lexer::{FrontmatterAllowed, Token, TokenKind, fits, tokenize};
+use std::alloc::Global;
+use std::process::Abort;
 use std::test::Fail;
 
 /// A long text, by its parts and how often each stands there, and its tokens.
@@ -183,21 +185,38 @@ static RAW_STRINGS: &[Long] = &[
     },
 ];
 
-#[test]
-fn long_tokens(rt: HostRuntime) -> Result<(), Fail> {
-    for rows in [COMMENTS, WORDS, QUOTES, RAW_STRINGS] {
-        for row in rows {
-            let text = repeated(rt.alloc(), row.parts)?;
-            assert_tokens(
-                &rt,
-                row.name,
-                text.as_str(),
-                FrontmatterAllowed::No,
-                row.tokens,
-            );
-        }
+fn assert_long(rt: &impl Abort, alloc: Global, rows: &[Long]) -> Result<(), Fail> {
+    for row in rows {
+        let text = repeated(alloc, row.parts)?;
+        assert_tokens(
+            rt,
+            row.name,
+            text.as_str(),
+            FrontmatterAllowed::No,
+            row.tokens,
+        );
     }
     Ok(())
+}
+
+#[test]
+fn comments(rt: HostRuntime) -> Result<(), Fail> {
+    assert_long(&rt, rt.alloc(), COMMENTS)
+}
+
+#[test]
+fn words(rt: HostRuntime) -> Result<(), Fail> {
+    assert_long(&rt, rt.alloc(), WORDS)
+}
+
+#[test]
+fn quotes(rt: HostRuntime) -> Result<(), Fail> {
+    assert_long(&rt, rt.alloc(), QUOTES)
+}
+
+#[test]
+fn raw_strings(rt: HostRuntime) -> Result<(), Fail> {
+    assert_long(&rt, rt.alloc(), RAW_STRINGS)
 }
 
 /// Texts that stand 50,000 times behind one another, with the tokens that each then gives.
