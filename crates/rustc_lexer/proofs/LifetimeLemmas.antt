@@ -1,5 +1,5 @@
 -- Characters and lifetimes, as the code reads them.
-use Rattle.std.proofs.Common.{◌≡◌, ℕ, zero, suc, ◌+◌, ◌-◌, ◌≤◌, ◌==◌, ◌&&◌, ◌||◌, not, Bool, true, false, true≢false, ltb, if◌then◌else◌, List, [], ◌∷◌, length, take, drop, codes, refl, sym, ap, ◌∙◌, arith, length-append, length-take-le, zero-add, lt-ltb, le-ltb}
+use Rattle.std.proofs.Common.{◌≡◌, ◌≢◌, ◌⊎◌, inl, inr, ne_eqb, ℕ, zero, suc, ◌+◌, ◌-◌, ◌≤◌, ◌==◌, ◌&&◌, ◌||◌, not, Bool, true, false, true≢false, ltb, if◌then◌else◌, List, [], ◌∷◌, length, take, drop, codes, refl, sym, ap, ◌∙◌, arith, length-append, length-take-le, zero-add, lt-ltb, le-ltb}
 use Rattle.std.specs.Char.{is_ascii_digit, encode_utf8, len_utf8}
 use Rattle.std.specs.Str.{byte, chars, encode_utf8_all, IsUtf8}
 use Rattle.std.proofs.lemmas.Str.{length-encode, length-le-encodes}
@@ -8,7 +8,7 @@ use Rattle.rustc_lexer.specs.declared.token.TokenKind.{TokenKind}
 use Rattle.rustc_lexer.specs.declared.token.TokenKind.TheVariants.{Literal, Lifetime, RawLifetime, UnknownPrefixLifetime}
 use Rattle.rustc_lexer.specs.Classes.{is_id_start, is_id_continue}
 use Rattle.rustc_lexer.specs.Emoji.{is_emoji}
-use Rattle.rustc_lexer.specs.Lifetime.{is_name_part, front, holds, past_name, named, begins_raw, lifetime, is_char, quote_or_lifetime}
+use Rattle.rustc_lexer.specs.Lifetime.{is_name_part, front, holds, past_name, named, begins_raw, lifetime, is_character, quote_or_lifetime}
 use Rattle.rustc_lexer.specs.LifetimeLaws.{quoted_name, raw, unquoted}
 use Rattle.rustc_lexer.specs.Literal.{literal}
 use Rattle.rustc_lexer.specs.Quoted.{char_body}
@@ -34,7 +34,7 @@ module _ (text tail : List ℕ) (c : ℕ) (is : IsUtf8 text) (reads : chars text
       let one : bytes_of 1 (chars text) ≡ len_utf8 c = ap (bytes_of 1) reads ∙ (length-append (encode_utf8 c) [] ∙ let none : length (encode_utf8 c) + 0 ≡ len_utf8 c = omega (arith, length-encode c) in none) in
       omega (arith, length-past 1 text is, ap length cut)
 
-  pub pick-name : (r : TokenKind × List ℕ) → is_char c (chars tail) ≡ false → r ≡ scanned (lifetime c) tail → r ≡ scanned quote_or_lifetime text
+  pub pick-name : (r : TokenKind × List ℕ) → is_character c (chars tail) ≡ false → r ≡ scanned (lifetime c) tail → r ≡ scanned quote_or_lifetime text
   pick-name r t e =
       let n : ℕ = (lifetime c (chars tail)).1 in
       let one : 1 + n ≡ suc n = omega arith in
@@ -43,7 +43,7 @@ module _ (text tail : List ℕ) (c : ℕ) (is : IsUtf8 text) (reads : chars text
       let whole : quote_or_lifetime (chars text) ≡ ((lifetime c (chars tail)).0, suc n) = ap quote_or_lifetime reads ∙ at_name in
       e ∙ (ap (λ (xs : List ℕ). ((lifetime c (chars tail)).0, xs)) left ∙ ap (λ (p : TokenKind × ℕ). (p.0, past p.1 text)) (sym whole))
 
-  pub pick-char : (r : TokenKind × List ℕ) → is_char c (chars tail) ≡ true → r ≡ scanned (literal char_body) text → r ≡ scanned quote_or_lifetime text
+  pub pick-char : (r : TokenKind × List ℕ) → is_character c (chars tail) ≡ true → r ≡ scanned (literal char_body) text → r ≡ scanned quote_or_lifetime text
   pick-char r t e =
       let at_char : quote_or_lifetime (c ∷ chars tail) ≡ literal char_body (c ∷ chars tail) = rw t refl in
       let whole : quote_or_lifetime (chars text) ≡ literal char_body (chars text) = ap quote_or_lifetime reads ∙ (at_char ∙ ap (literal char_body) (sym reads)) in
@@ -90,6 +90,13 @@ pick-raw c text name rest is e t cut left =
     let raw_is : (c == 114 && begins_raw (chars text)) ≡ true = rw e t in
     ap (λ (xs : List ℕ). (RawLifetime, xs)) left
     ∙ (sym (scanned-after 2 (run RawLifetime is_id_continue) text name is cut) ∙ sym (scanned-yes (λ s. c == 114 && begins_raw s) raw (named c) text raw_is))
+
+pub pick-named : (c : ℕ) (text : List ℕ) (r : TokenKind × List ℕ) → (c ≢ 114) ⊎ (begins_raw (chars text) ≡ false) → r ≡ scanned (named c) text → r ≡ scanned (lifetime c) text
+pick-named c text r out e = e ∙ sym (scanned-no (λ s. c == 114 && begins_raw s) raw (named c) text (not_raw out))
+  where
+    not_raw : (c ≢ 114) ⊎ (begins_raw (chars text) ≡ false) → (c == 114 && begins_raw (chars text)) ≡ false
+    not_raw (inl ne) = rw (ne_eqb c 114 ne) refl
+    not_raw (inr t) = rw t (elim (c == 114) as (λ b. (b && false) ≡ false) [ true ↦ refl | false ↦ refl ])
 
 -- the run of a class in two parts
 module _ (p e : ℕ → Bool) where
@@ -152,9 +159,10 @@ shorter-by (suc n) text rest is le cut =
     lt-ltb (length rest) (length text) (omega (arith, ap length cut, length-past (suc n) text is, length-le-encodes (take (suc n) (chars text)))) ∙ sym (lt-ltb 0 (suc n) (omega arith))
 
 -- what follows a name
-past-quoted : (c : ℕ) (name end left : List ℕ) → begins (codes "'") (chars end) ≡ true → left ≡ past 1 end → (Literal (Char true) (2 + length (encode_utf8_all (c ∷ name))), left) ≡ scanned (past_name c name) end
-past-quoted c name end left t cut =
-    ap (λ (xs : List ℕ). (Literal (Char true) (2 + length (encode_utf8_all (c ∷ name))), xs)) cut ∙ sym (scanned-yes (begins (codes "'")) (quoted_name c name) (unquoted c name) end t)
+past-quoted : (c : ℕ) (name end left : List ℕ) (n : ℕ) → begins (codes "'") (chars end) ≡ true → left ≡ past 1 end → n ≡ 2 + length (encode_utf8_all (c ∷ name)) → (Literal (Char true) n, left) ≡ scanned (past_name c name) end
+past-quoted c name end left n t cut len =
+    ap (λ (k : ℕ). (Literal (Char true) k, left)) len
+    ∙ (ap (λ (xs : List ℕ). ((quoted_name c name []).0, xs)) cut ∙ sym (scanned-yes (begins (codes "'")) (quoted_name c name) (unquoted c name) end t))
 
 past-unquoted : (c : ℕ) (name end : List ℕ) → IsUtf8 end → begins (codes "'") (chars end) ≡ false → ((unquoted c name (chars end)).0, end) ≡ scanned (past_name c name) end
 past-unquoted c name end is t =
@@ -190,17 +198,14 @@ module _ (c : ℕ) (rest part end : List ℕ) (is : IsUtf8 rest) (first : part �
   named-is = scanned-and_then (front is_name_part) (past_name c) rest is ∙ ap (scanned (past_name c (take whole (chars rest)))) (sym end-is)
 
   pub named-quoted : (left : List ℕ) (w : ℕ) → begins (codes "'") (chars end) ≡ true → left ≡ past 1 end → w ≡ len_utf8 c → (Literal (Char true) (2 + (w + (length rest - length end))), left) ≡ scanned (named c) rest
-  unfolding whole
   named-quoted left w t cut is_w =
       let name : List ℕ = take whole (chars rest) in
       let len : 2 + (w + (length rest - length end)) ≡ 2 + length (encode_utf8_all (c ∷ name)) =
       omega (arith, ap length end-is, length-past whole rest is, length-append (encode_utf8 c) (encode_utf8_all name), length-encode c) in
-      ap (λ (n : ℕ). (Literal (Char true) n, left)) len
-      ∙ (past-quoted c name end left t cut ∙ sym named-is)
+      past-quoted c name end left (2 + (w + (length rest - length end))) t cut len ∙ sym named-is
 
   pub named-unquoted : (kind : TokenKind) (emoji : Bool) → begins (codes "'") (chars end) ≡ false → emoji ≡ ltb (length end) (length part)
       → kind ≡ (if begins (codes "#") (chars end) && not (is_ascii_digit c) then UnknownPrefixLifetime else Lifetime (is_ascii_digit c || is_emoji c || emoji)) → (kind, end) ≡ scanned (named c) rest
-  unfolding whole
   named-unquoted kind emoji t same e =
       let name : List ℕ = take whole (chars rest) in
       let utf8 : IsUtf8 end = rw end-is (IsUtf8-past whole rest is) in

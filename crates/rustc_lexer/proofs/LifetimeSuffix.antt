@@ -5,7 +5,7 @@ use Rattle.std.specs.Str.{encode_utf8_all}
 use Rattle.std.proofs.lemmas.Str.{length-encode}
 use Rattle.rustc_lexer.specs.declared.token.TokenKind.{TokenKind}
 use Rattle.rustc_lexer.specs.declared.token.TokenKind.TheVariants.{Lifetime, UnknownPrefixLifetime}
-use Rattle.rustc_lexer.specs.Lifetime.{is_name_part, is_marked, named, lifetime, is_char, quote_or_lifetime}
+use Rattle.rustc_lexer.specs.Lifetime.{is_name_part, is_marked, named, lifetime, is_character, quote_or_lifetime}
 use Rattle.rustc_lexer.specs.LifetimeLaws.{is_raw, quoted_name}
 use Rattle.rustc_lexer.specs.Literal.{literal}
 use Rattle.rustc_lexer.specs.Quoted.{char_body}
@@ -60,8 +60,8 @@ lifetime-within c s = by_raw (is_raw c s) refl
 
 pub quote_or_lifetime-within : (s : List ℕ) → IsWithin quote_or_lifetime s
 quote_or_lifetime-within [] = literal-suffix char_body []
-quote_or_lifetime-within (c ∷ s) = by_char (is_char c s) refl
+quote_or_lifetime-within (c ∷ s) = by_char (is_character c s) refl
   where
-    by_char : (b : Bool) → is_char c s ≡ b → IsWithin quote_or_lifetime (c ∷ s)
+    by_char : (b : Bool) → is_character c s ≡ b → IsWithin quote_or_lifetime (c ∷ s)
     by_char true t = let same : quote_or_lifetime (c ∷ s) ≡ literal char_body (c ∷ s) = rw t refl in subst (λ (r : TokenKind × ℕ). suffix_start_of r.0 ≤ 1 + bytes_of r.1 (c ∷ s)) (sym same) (literal-suffix char_body (c ∷ s))
     by_char false t = let same : quote_or_lifetime (c ∷ s) ≡ ((lifetime c s).0, suc (lifetime c s).1) = rw t refl in subst (λ (r : TokenKind × ℕ). suffix_start_of r.0 ≤ 1 + bytes_of r.1 (c ∷ s)) (sym same) (lifetime-within c s)

@@ -18,15 +18,16 @@ is_name_start c = is_id_start c || is_ascii_digit c || is_emoji c
 abbrev pub is_name_part : ℕ → Bool
 is_name_part c = is_id_continue c || is_emoji c
 
--- the longest front in a class
+-- the longest front in a class, itself
 abbrev pub front : (ℕ → Bool) → List ℕ → List ℕ × ℕ
 front p s = (take (run_len p s) s, run_len p s)
 
+-- some character is in the class
 abbrev pub holds : (ℕ → Bool) → List ℕ → Bool
 holds p [] = false
 holds p (c ∷ s) = p c || holds p s
 
--- a name that begins with `c` and goes on with `name`, and that no lifetime has in Rust
+-- a name that begins with `c` and goes on with `name`, and that no lifetime of Rust has
 abbrev pub is_marked : ℕ → List ℕ → Bool
 is_marked c name = is_ascii_digit c || is_emoji c || holds (λ d. not (is_id_continue d)) name
 
@@ -37,6 +38,7 @@ past_name c name s =
     then (Literal (Char true) (2 + length (encode_utf8_all (c ∷ name))), 1)
     else gives (if begins (codes "#") s && not (is_ascii_digit c) then UnknownPrefixLifetime else Lifetime (is_marked c name)) s
 
+-- what follows the first character `c` of a name, where no raw lifetime stands there
 abbrev pub named : ℕ → List ℕ → TokenKind × ℕ
 named c s = and_then (front is_name_part) (past_name c) s
 
@@ -50,10 +52,10 @@ abbrev pub lifetime : ℕ → List ℕ → TokenKind × ℕ
 lifetime c s = if c == byte "r" && begins_raw s then after 2 (run RawLifetime is_id_continue) s else named c s
 
 -- a character, and no lifetime: the second character is a quote, or the first one begins no name
-abbrev pub is_char : ℕ → List ℕ → Bool
-is_char c s = begins (codes "'") s || not (is_name_start c)
+abbrev pub is_character : ℕ → List ℕ → Bool
+is_character c s = begins (codes "'") s || not (is_name_start c)
 
 -- what follows a single quote
 abbrev pub quote_or_lifetime : List ℕ → TokenKind × ℕ
 quote_or_lifetime [] = literal char_body []
-quote_or_lifetime (c ∷ s) = if is_char c s then literal char_body (c ∷ s) else ((lifetime c s).0, suc (lifetime c s).1)
+quote_or_lifetime (c ∷ s) = if is_character c s then literal char_body (c ∷ s) else ((lifetime c s).0, suc (lifetime c s).1)

@@ -6,7 +6,7 @@ use Rattle.rustc_lexer.specs.declared.token.LiteralKind.TheVariants.{Char}
 use Rattle.rustc_lexer.specs.declared.token.TokenKind.{TokenKind}
 use Rattle.rustc_lexer.specs.declared.token.TokenKind.TheVariants.{Literal, Lifetime, RawLifetime, UnknownPrefixLifetime}
 use Rattle.rustc_lexer.specs.Classes.{is_id_start, is_id_continue}
-use Rattle.rustc_lexer.specs.Lifetime.{is_name_start, is_name_part, front, is_marked, past_name, named, begins_raw, lifetime, is_char, quote_or_lifetime}
+use Rattle.rustc_lexer.specs.Lifetime.{is_name_start, is_name_part, front, is_marked, past_name, named, begins_raw, lifetime, is_character, quote_or_lifetime}
 use Rattle.rustc_lexer.specs.Literal.{literal}
 use Rattle.rustc_lexer.specs.LocalAt.{IsLocalAt, IsToldBy, local_at, agree_more, told_same, either, either_local, yes_at, no_at, same_at, after_at, wider_at}
 use Rattle.rustc_lexer.specs.Quoted.{char_body, single_quoted}
@@ -96,16 +96,16 @@ abbrev of_name : List ℕ → TokenKind × ℕ
 of_name [] = (Lifetime false, 0)
 of_name (c ∷ s) = ((lifetime c s).0, suc (lifetime c s).1)
 
-abbrev pub is_char_at : List ℕ → Bool
-is_char_at [] = true
-is_char_at (c ∷ s) = is_char c s
+abbrev pub is_character_at : List ℕ → Bool
+is_character_at [] = true
+is_character_at (c ∷ s) = is_character c s
 
-is_char_told : IsToldBy 2 is_char_at
-is_char_told [] = refl
-is_char_told (c ∷ s) = ap (λ b. b || not (is_name_start c)) (begins-take (codes "'") 1 s (omega arith))
+is_character_told : IsToldBy 2 is_character_at
+is_character_told [] = refl
+is_character_told (c ∷ s) = ap (λ b. b || not (is_name_start c)) (begins-take (codes "'") 1 s (omega arith))
 
 abbrev chosen : List ℕ → TokenKind × ℕ
-chosen s = either is_char_at (literal char_body) of_name s
+chosen s = either is_character_at (literal char_body) of_name s
 
 is_chosen : (s : List ℕ) → quote_or_lifetime s ≡ chosen s
 is_chosen [] = refl
@@ -116,12 +116,12 @@ of_name_local = first_local 2 (Lifetime false) lifetime of_name (omega arith) re
 
 pub quote_or_lifetime_local : IsLocal TokenKind 2 quote_or_lifetime
 quote_or_lifetime_local =
-    same_local 2 quote_or_lifetime chosen is_chosen (either_local 2 is_char_at (literal char_body) of_name is_char_told (λ s t. local_at 2 (literal char_body) char_local s) (λ s t. local_at 2 of_name of_name_local s))
+    same_local 2 quote_or_lifetime chosen is_chosen (either_local 2 is_character_at (literal char_body) of_name is_character_told (λ s t. local_at 2 (literal char_body) char_local s) (λ s t. local_at 2 of_name of_name_local s))
 
 -- a closed character depends on one character past its end
-pub char_at : (s : List ℕ) → is_char_at s ≡ true → (single_quoted s).0 ≡ true → IsLocalAt TokenKind 1 quote_or_lifetime s
+pub char_at : (s : List ℕ) → is_character_at s ≡ true → (single_quoted s).0 ≡ true → IsLocalAt TokenKind 1 quote_or_lifetime s
 char_at s t closed = same_at 1 quote_or_lifetime chosen s is_chosen
-    (yes_at 1 is_char_at (literal char_body) of_name s t (λ u a. told_same 2 1 (literal char_body s).1 is_char_at s u is_char_told (omega (arith, single_quoted_some s closed)) a) (char_closed s closed))
+    (yes_at 1 is_character_at (literal char_body) of_name s t (λ u a. told_same 2 1 (literal char_body s).1 is_character_at s u is_character_told (omega (arith, single_quoted_some s closed)) a) (char_closed s closed))
 
 -- the first character is taken, and is no part of what the rest depends on
 of_name_at : (k c : ℕ) (s : List ℕ) → IsLocalAt TokenKind k (lifetime c) s → IsLocalAt TokenKind k of_name (c ∷ s)
@@ -134,17 +134,17 @@ of_name_at k c s is = record { inside = omega (arith, is.inside); local = λ u a
         let rest : Agree k (lifetime c s).1 s us = record { below = ap (drop 1) a.below; inside = let i = a.inside in omega arith; past = a.past } in
         ap (λ (r : TokenKind × ℕ). (r.0, suc r.1)) (ap (λ x. lifetime x us) (sym same) ∙ is.local us rest)
 
-name_at : (k c : ℕ) (s : List ℕ) → is_char c s ≡ false → 1 ≤ (lifetime c s).1 + k → IsLocalAt TokenKind k (lifetime c) s → IsLocalAt TokenKind k quote_or_lifetime (c ∷ s)
+name_at : (k c : ℕ) (s : List ℕ) → is_character c s ≡ false → 1 ≤ (lifetime c s).1 + k → IsLocalAt TokenKind k (lifetime c) s → IsLocalAt TokenKind k quote_or_lifetime (c ∷ s)
 name_at k c s t takes is = same_at k quote_or_lifetime chosen (c ∷ s) is_chosen
-    (no_at k is_char_at (literal char_body) of_name (c ∷ s) t (λ u a. told_same 2 k (suc (lifetime c s).1) is_char_at (c ∷ s) u is_char_told (omega arith) a) (of_name_at k c s is))
+    (no_at k is_character_at (literal char_body) of_name (c ∷ s) t (λ u a. told_same 2 k (suc (lifetime c s).1) is_character_at (c ∷ s) u is_character_told (omega arith) a) (of_name_at k c s is))
 
 -- a raw lifetime depends on one character past its end
-pub raw_lifetime_at : (c : ℕ) (s : List ℕ) → is_char c s ≡ false → is_raw c s ≡ true → IsLocalAt TokenKind 1 quote_or_lifetime (c ∷ s)
+pub raw_lifetime_at : (c : ℕ) (s : List ℕ) → is_character c s ≡ false → is_raw c s ≡ true → IsLocalAt TokenKind 1 quote_or_lifetime (c ∷ s)
 raw_lifetime_at c s t r =
     name_at 1 c s t (omega arith) (yes_at 1 (is_raw c) raw (named c) s r (λ u a. told_same 2 1 (raw s).1 (is_raw c) s u (is_raw_told c) (omega arith) a) (raw_at c s r))
 
 -- a name that a quote makes a character depends on nothing past that
-pub long_char_at : (c : ℕ) (s : List ℕ) → is_char c s ≡ false → is_raw c s ≡ false → begins (codes "'") (drop (run_len is_name_part s) s) ≡ true → IsLocalAt TokenKind 0 quote_or_lifetime (c ∷ s)
+pub long_char_at : (c : ℕ) (s : List ℕ) → is_character c s ≡ false → is_raw c s ≡ false → begins (codes "'") (drop (run_len is_name_part s) s) ≡ true → IsLocalAt TokenKind 0 quote_or_lifetime (c ∷ s)
 long_char_at c s t r q =
     let n : ℕ = run_len is_name_part s in
     let some : 0 < n = by_run n refl in

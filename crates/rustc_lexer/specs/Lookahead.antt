@@ -1,11 +1,15 @@
 -- How far each lexeme looks past its end.
+use Rattle.rustc_lexer.specs.declared.lexemes.raw.RawPrefix.TheVariants.{R, Br, Cr}
+use Rattle.rustc_lexer.specs.declared.lexemes.raw.RawPrefix.{RawPrefix}
+use Rattle.rustc_lexer.specs.RawLaws.{raw_literal_local}
+use Rattle.rustc_lexer.specs.Raw.{raw_literal}
 use Rattle.rustc_lexer.specs.LiteralLaws.{prefixed_literal_local}
 use Rattle.rustc_lexer.specs.Literal.{Body, literal}
 use Rattle.rustc_lexer.specs.Quoted.{str_body, byte_str_body, c_str_body, byte_body}
 use Rattle.rustc_lexer.specs.Lifetime.{quote_or_lifetime}
 use Rattle.rustc_lexer.specs.LifetimeLaws.{quote_or_lifetime_local}
 use Rattle.rustc_lexer.specs.QuotedLaws.{str_local, byte_str_body_local, c_str_body_local, byte_body_local}
-use Rattle.std.proofs.Common.{◌≡◌, ℕ, ◌==◌, Bool, true, false, if◌then◌else◌, List, [], ◌∷◌, take, refl, sym, ap, ◌∙◌, arith, codes, ◌<◌}
+use Rattle.std.proofs.Common.{◌≡◌, ℕ, ◌==◌, Bool, true, false, if◌then◌else◌, List, [], ◌∷◌, take, refl, sym, ap, ◌∙◌, arith, codes, ◌<◌, true≢false, length, ◌≤◌}
 use Rattle.std.proofs.lemmas.Bool.{eqb-true}
 use Rattle.rustc_lexer.specs.declared.token.TokenKind.{TokenKind}
 use Rattle.rustc_lexer.specs.declared.token.TokenKind.TheVariants.{LineComment, Slash, Whitespace, RawIdent, ForcedKeywordIdent, Eof}
@@ -19,9 +23,9 @@ use Rattle.rustc_lexer.specs.Number.{number}
 use Rattle.rustc_lexer.specs.NumberLaws.{number_local}
 use Rattle.rustc_lexer.specs.Classes.{is_whitespace}
 use Rattle.rustc_lexer.specs.Comment.{line_comment, line_doc_style, is_no_newline, slash}
-use Rattle.rustc_lexer.specs.Lexeme.{whitespace, letter_r, letter_k, letter_b, letter_c, word, begins_word, symbol_kind, past_first, lexeme, first_token}
-use Rattle.rustc_lexer.specs.Reach.{begins-take, begins-length, choice_local, first_local, gives_local, run_local, run_len_local, run_len_le, wider}
-use Rattle.rustc_lexer.specs.Scan.{IsLocal, begins, gives, run_len, after}
+use Rattle.rustc_lexer.specs.Lexeme.{whitespace, letter_r, letter_k, letter_b, letter_c, word, begins_word, symbol_kind, past_first, lexeme, first_token, raw_or_ident, begins_raw, raw_past_or_ident, is_raw_mark}
+use Rattle.rustc_lexer.specs.Reach.{begins-take, begins-length, choice_local, first_local, gives_local, run_local, run_len_local, run_len_le, wider, either_local, next_is-take}
+use Rattle.rustc_lexer.specs.Scan.{IsLocal, begins, gives, run_len, after, next_is}
 use Rattle.rustc_lexer.specs.Texts.{IsGrammar}
 use Rattle.rustc_lexer.specs.TokenBy.{token_by_local}
 
@@ -64,6 +68,16 @@ slash_local =
 pub whitespace_local : IsLocal TokenKind 1 whitespace
 whitespace_local = run_local Whitespace is_whitespace
 
+-- an `r` and a mark are told by two characters
+begins_raw-take : (s : List ℕ) → begins_raw (take 2 s) ≡ begins_raw s
+begins_raw-take [] = refl
+begins_raw-take (c ∷ []) = refl
+begins_raw-take (c ∷ d ∷ s) = refl
+
+begins_raw-length : (s : List ℕ) → begins_raw s ≡ true → 1 ≤ length s
+begins_raw-length [] e = absurd (true≢false (sym e))
+begins_raw-length (c ∷ s) e = omega arith
+
 -- each of these letters looks two characters past an identifier at most: at a hash, and at what follows that
 pub word_local : (c : ℕ) → IsLocal TokenKind 2 (word c)
 word_local c = by_letter (c == 114) (c == 107) (c == 98) (c == 99)
@@ -71,15 +85,22 @@ word_local c = by_letter (c == 114) (c == 107) (c == 98) (c == 99)
     plain : IsLocal TokenKind 2 ident
     plain = wider 1 2 ident (omega arith) ident_local
 
-    string : (body : List ℕ → Body × ℕ) → IsLocal Body 1 body → IsLocal TokenKind 2 (λ s. if begins (codes "\"") s then literal (after 1 body) s else ident s)
-    string body is = prefixed_literal_local 2 1 (begins (codes "\"")) body ident (omega arith) (begins_one 34 2 (omega arith)) (begins-length (codes "\"")) (wider 1 2 body (omega arith) is) plain
+    raw : IsLocal TokenKind 2 raw_or_ident
+    raw = either_local 2 (next_is is_raw_mark) (raw_literal R) ident (λ s. next_is-take is_raw_mark 2 s (omega arith)) (wider 1 2 (raw_literal R) (omega arith) (raw_literal_local R)) plain
+
+    raw_past : (prefix : RawPrefix) → IsLocal TokenKind 2 (raw_past_or_ident prefix)
+    raw_past prefix = choice_local 2 1 begins_raw (raw_literal prefix) ident begins_raw-take begins_raw-length (wider 1 2 (raw_literal prefix) (omega arith) (raw_literal_local prefix)) plain
+
+    string : (body : List ℕ → Body × ℕ) (prefix : RawPrefix) → IsLocal Body 1 body → IsLocal TokenKind 2 (λ s. if begins (codes "\"") s then literal (after 1 body) s else raw_past_or_ident prefix s)
+    string body prefix is =
+        prefixed_literal_local 2 1 (begins (codes "\"")) body (raw_past_or_ident prefix) (omega arith) (begins_one 34 2 (omega arith)) (begins-length (codes "\"")) (wider 1 2 body (omega arith) is) (raw_past prefix)
 
     by_letter : (r k b c : Bool) → IsLocal TokenKind 2 (λ s. if r then letter_r s else (if k then letter_k s else (if b then letter_b s else (if c then letter_c s else ident s))))
-    by_letter true k b c = marked_local RawIdent ident plain
+    by_letter true k b c = marked_local RawIdent raw_or_ident raw
     by_letter false true b c = marked_local ForcedKeywordIdent ident plain
     by_letter false false true c =
-        prefixed_literal_local 2 1 (begins (codes "'")) byte_body _ (omega arith) (begins_one 39 2 (omega arith)) (begins-length (codes "'")) byte_body_local (string byte_str_body byte_str_body_local)
-    by_letter false false false true = string c_str_body c_str_body_local
+        prefixed_literal_local 2 1 (begins (codes "'")) byte_body _ (omega arith) (begins_one 39 2 (omega arith)) (begins-length (codes "'")) byte_body_local (string byte_str_body Br byte_str_body_local)
+    by_letter false false false true = string c_str_body Cr c_str_body_local
     by_letter false false false false = plain
 
 pub symbol_local : (c : ℕ) → IsLocal TokenKind 0 (gives (symbol_kind c))

@@ -6,7 +6,7 @@ ghost use Rattle.rustc_lexer.specs.declared.token.TokenKind.{TokenKind};
 ghost use Rattle.rustc_lexer.specs.declared.token.TokenKind.TheVariants.{Lifetime, UnknownPrefixLifetime};
 ghost use Rattle.rustc_lexer.specs.Emoji.{is_emoji};
 ghost use Rattle.rustc_lexer.specs.Lifetime as spec;
-ghost use Rattle.rustc_lexer.specs.LifetimeLaws.{is_char_at, is_raw};
+ghost use Rattle.rustc_lexer.specs.LifetimeLaws.{is_character_at, is_raw};
 ghost use Rattle.rustc_lexer.specs.Literal.{Body, literal};
 ghost use Rattle.rustc_lexer.specs.LocalAt.{IsLocalAt};
 ghost use Rattle.rustc_lexer.specs.Quoted.{single_quoted};
@@ -27,7 +27,7 @@ pub(crate) fn quote_or_lifetime(tail: &str) -> (TokenKind, &str)
     let Some((first, rest)) = split_first(tail) else {
         return char_literal(tail);
     };
-    if is_char(first, rest) {
+    if is_character(first, rest) {
         char_literal(tail)
     } else {
         lifetime(first, rest)
@@ -35,8 +35,8 @@ pub(crate) fn quote_or_lifetime(tail: &str) -> (TokenKind, &str)
 }
 
 /// Whether a quote, `first` and `rest` begin a character, and no lifetime.
-fn is_char(first: char, rest: &str) -> bool
-    ensures { result ≡ spec.is_char first (chars rest.now) }
+fn is_character(first: char, rest: &str) -> bool
+    ensures { result ≡ spec.is_character first (chars rest.now) }
 {
     strip(rest, '\'').is_some() || !is_name_start(first)
 }
@@ -55,7 +55,7 @@ fn is_name_part(c: char) -> bool
     is_id_continue(c) || is_emoji(c)
 }
 
-/// A lifetime, or a character of a whole name. The name begins with `first`, and `rest` is what follows that.
+/// What a name is, and what it leaves. It begins with `first`, and `rest` is what follows that.
 fn lifetime(first: char, rest: &str) -> (TokenKind, &str)
     requires fits { len_utf8 first + length rest.now + 1 < 2 ^ 32 }
     ensures { (result.0, result.1.now) ≡ scanned (spec.lifetime first) rest.now }
@@ -77,7 +77,7 @@ fn strip_raw(rest: &str) -> Option<&str>
     if is_id_start(first) { Some(tail) } else { None }
 }
 
-/// The same where the lifetime is not raw. A quote that follows the name makes a character of it.
+/// The same where no raw lifetime stands there. A quote that follows the name makes a character of it.
 fn named(first: char, rest: &str) -> (TokenKind, &str)
     requires fits { len_utf8 first + length rest.now + 1 < 2 ^ 32 }
     ensures { (result.0, result.1.now) ≡ scanned (spec.named first) rest.now }
@@ -94,7 +94,7 @@ fn named(first: char, rest: &str) -> (TokenKind, &str)
     (unquoted(first, holds_emoji, past_name), past_name)
 }
 
-/// What a name is that begins with `first`, and that no quote follows but `rest`.
+/// What a name is that no quote follows. It begins with `first`, and `rest` is what follows it.
 fn unquoted(first: char, holds_emoji: bool, rest: &str) -> TokenKind
     ensures { result ≡ (if begins (codes "#") (chars rest.now) && not (is_ascii_digit first) then UnknownPrefixLifetime
         else Lifetime (is_ascii_digit first || is_emoji first || holds_emoji)) }
@@ -108,12 +108,12 @@ fn unquoted(first: char, holds_emoji: bool, rest: &str) -> TokenKind
     }
 }
 
-/// How far characters and lifetimes look past their end.
+/// How far characters and lifetimes look past their end: two characters, and less where it is said.
 pub(crate) fn lifetime_lookahead()
     ensures name { (c : ℕ) → IsLocal TokenKind 1 (spec.named c) }
     ensures all { IsLocal TokenKind 2 spec.quote_or_lifetime }
-    ensures character { (s : List ℕ) → is_char_at s ≡ true → (single_quoted s).0 ≡ true → IsLocalAt TokenKind 1 spec.quote_or_lifetime s }
-    ensures raw { (c : ℕ) (s : List ℕ) → spec.is_char c s ≡ false → is_raw c s ≡ true → IsLocalAt TokenKind 1 spec.quote_or_lifetime (c ∷ s) }
-    ensures long_character { (c : ℕ) (s : List ℕ) → spec.is_char c s ≡ false → is_raw c s ≡ false → begins (codes "'") (drop (run_len spec.is_name_part s) s) ≡ true
+    ensures character { (s : List ℕ) → is_character_at s ≡ true → (single_quoted s).0 ≡ true → IsLocalAt TokenKind 1 spec.quote_or_lifetime s }
+    ensures raw { (c : ℕ) (s : List ℕ) → spec.is_character c s ≡ false → is_raw c s ≡ true → IsLocalAt TokenKind 1 spec.quote_or_lifetime (c ∷ s) }
+    ensures long_character { (c : ℕ) (s : List ℕ) → spec.is_character c s ≡ false → is_raw c s ≡ false → begins (codes "'") (drop (run_len spec.is_name_part s) s) ≡ true
         → IsLocalAt TokenKind 0 spec.quote_or_lifetime (c ∷ s) }
 {}

@@ -77,7 +77,7 @@ fn stops_open(c: char, tail: &str) -> bool
     c == '/' || (c == '\n' && strip(tail, '\'').is_none())
 }
 
-/// A string, `tail` being what follows its quote: the token, and what it leaves.
+/// A string, and what it leaves. `tail` is what follows its quote.
 pub(crate) fn str_literal(tail: &str) -> (TokenKind, &str)
     requires fits { length tail.now + 1 < 2 ^ 32 }
     ensures { (result.0, result.1.now) ≡ scanned (literal spec.str_body) tail.now }
@@ -106,7 +106,7 @@ pub(crate) fn c_str_literal<'a>(tail: &str, body: &'a str) -> (TokenKind, &'a st
     with_suffix(LiteralKind::CStr { terminated }, terminated, tail, rest)
 }
 
-/// A character, `tail` being what follows its quote.
+/// A character. `tail` is what follows its quote.
 pub(crate) fn char_literal(tail: &str) -> (TokenKind, &str)
     requires fits { length tail.now + 1 < 2 ^ 32 }
     ensures { (result.0, result.1.now) ≡ scanned (literal spec.char_body) tail.now }
@@ -145,7 +145,7 @@ pub(crate) fn with_suffix<'a>(
     }
 }
 
-/// How far quoted text and its literals look past their end.
+/// How far quoted text and its literals look past their end; closed text looks less far.
 pub(crate) fn quoted_lookahead()
     ensures double { IsLocal Bool 1 spec.double_quoted }
     ensures double_closed { (s : List ℕ) → (spec.double_quoted s).0 ≡ true → IsLocalAt Bool 0 spec.double_quoted s }

@@ -138,7 +138,7 @@ fn counted(n_hashes: u32) -> Result<u8, RawStrError>
 
 /// How far a raw string looks past its end: one character, for its suffix or the end of the text. What is
 /// refused looks at none, unless the text ends where it does.
-pub(crate) fn lookahead()
+pub(crate) fn raw_lookahead()
     ensures read { (prefix : ℕ) → IsLocal (Result ℕ RawStrError) 1 (spec.raw_read prefix) }
     ensures ended { (prefix : ℕ) → EndsItself prefix }
     ensures literal { (prefix : RawPrefix) → IsLocal TokenKind 1 (spec.raw_literal prefix) }
@@ -147,14 +147,14 @@ pub(crate) fn lookahead()
 {}
 
 /// Where the suffix of a raw string begins: within its token, and at its end where it is refused.
-pub(crate) fn suffixes()
+pub(crate) fn raw_suffixes()
     ensures within { (prefix : RawPrefix) (s : List ℕ) → suffix_start_of (spec.raw_literal prefix s).0 ≤ spec.prefix_len prefix + bytes_of (spec.raw_literal prefix s).1 s }
     ensures refused { (prefix : RawPrefix) (s : List ℕ) → IsNone (spec.accepted (spec.raw_read 0 s).0)
         → suffix_start_of (spec.raw_literal prefix s).0 ≡ spec.prefix_len prefix + bytes_of (spec.raw_literal prefix s).1 s }
 {}
 
 /// The check of a raw string's own text refuses nothing exactly where its token has a number of hashes.
-pub(crate) fn own_text()
+pub(crate) fn raw_own_text()
     ensures { (prefix : RawPrefix) (text front s : List ℕ) → chars text ≡ front ++ take (spec.raw_literal prefix s).1 s
         → (spec.raw_check text (length front) ≡ Ok tt) ↔ IsSome (spec.accepted (spec.raw_read 0 s).0) }
 {}

@@ -1,7 +1,7 @@
 use Rattle.rustc_lexer.specs.Raw.{prefix_kind, prefix_len, raw_body, raw_read}
 use Rattle.rustc_lexer.specs.RawLaws.{refused-takes_none}
 use Rattle.rustc_lexer.proofs.RawSuffixLemmas.{suffix_within, suffix_none}
-use Rattle.rustc_lexer.proofs.lexemes.raw.suffixes.Goals as goal
+use Rattle.rustc_lexer.proofs.lexemes.raw.raw_suffixes.Goals as goal
 
 pub returns : goal.returns
 returns c = record {

@@ -1,0 +1,23 @@
+use Rattle.std.proofs.Common.{◌≡◌, ◌∙◌, ◌&&◌, Bool, true, false, List, ℕ, ap, sym, codes, drop}
+use Rattle.std.specs.Str.{chars, IsUtf8}
+use Rattle.rustc_lexer.specs.Ident.{ident}
+use Rattle.rustc_lexer.specs.Lexeme.{is_raw_mark, begins_raw}
+use Rattle.rustc_lexer.specs.Raw.{raw_literal}
+use Rattle.rustc_lexer.specs.Scan.{after, begins, next_is, past}
+use Rattle.rustc_lexer.proofs.PastLemmas.{chars-past}
+use Rattle.rustc_lexer.proofs.ScanLemmas.{scanned-after, scanned-yes, scanned-no}
+use Rattle.rustc_lexer.proofs.lexemes.word.raw_or_ident.Goals as goal
+
+-- past the `r`, a mark makes a raw string
+raw-is : (tail rest : List ℕ) (b : Bool) → IsUtf8 tail → begins (codes "r") (chars tail) ≡ true → rest ≡ past 1 tail → b ≡ next_is is_raw_mark (chars rest) → begins_raw (chars tail) ≡ b
+raw-is tail rest b is r e f = ap (λ (x : Bool). x && next_is is_raw_mark (drop 1 (chars tail))) r ∙ (ap (next_is is_raw_mark) (sym (ap chars e ∙ chars-past 1 tail is)) ∙ sym f)
+
+pub returns-then-next_is : goal.returns-then-next_is
+returns-then-next_is c =
+    let marked : begins_raw (chars c.args.tail.now) ≡ true = raw-is _ _ true c.utf8.tail c.in-Some.ensures.0 c.in-Some.ensures.1 (c.if-next_is.ensures is_raw_mark (λ d b e. e)) in
+    c.raw_literal.ensures ∙ sym (scanned-yes begins_raw (after 1 (raw_literal c.args.prefix)) ident _ marked ∙ scanned-after 1 (raw_literal c.args.prefix) _ _ c.utf8.tail c.in-Some.ensures.1)
+
+pub returns-else-next_is : goal.returns-else-next_is
+returns-else-next_is c =
+    let other : begins_raw (chars c.args.tail.now) ≡ false = raw-is _ _ false c.utf8.tail c.in-Some.ensures.0 c.in-Some.ensures.1 (c.if-next_is.ensures is_raw_mark (λ d b e. e)) in
+    c.ident-else-next_is.ensures ∙ sym (scanned-no begins_raw (after 1 (raw_literal c.args.prefix)) ident _ other)
