@@ -17,8 +17,9 @@ static ROWS: &[Row] = &[
     row!("r1", [(Ident, 2)]),
     row!("br", [(Ident, 2)]),
     row!("cr", [(Ident, 2)]),
+    row!("\0", [(Unknown, 1)]),
     row!("a\0b", [(Ident, 1), (Unknown, 1), (Ident, 1)]),
-    // Characters that join letters go on with an identifier, and begin none.
+    // Joiners and middle dots go on with an identifier, and begin none.
     row!("a\u{200d}b", [(Ident, 5)]),
     row!("a\u{200c}b", [(Ident, 5)]),
     row!("a\u{30fb}", [(Ident, 4)]),
@@ -48,6 +49,7 @@ static ROWS: &[Row] = &[
     row!("r'a'", [(UnknownPrefix, 1), literal!(CHAR, 3)]),
     row!("br'a'", [(UnknownPrefix, 2), literal!(CHAR, 3)]),
     row!("cr'a'", [(UnknownPrefix, 2), literal!(CHAR, 3)]),
+    row!("Br\"a\"", [(UnknownPrefix, 2), literal!(STR, 3)]),
     row!("brx\"a\"", [(UnknownPrefix, 3), literal!(STR, 3)]),
     row!("rb\"a\"", [(UnknownPrefix, 2), literal!(STR, 3)]),
     row!("foo\"x\"", [(UnknownPrefix, 3), literal!(STR, 3)]),
