@@ -124,7 +124,9 @@ fn classes(rt: HostRuntime) {
         assert!(rt; is_whitespace(c));
         assert_eq!(rt; is_horizontal_whitespace(c), c == '\t' || c == ' ');
     }
-    for c in ['\u{8}', '\u{e}', '\u{a0}', '\u{200d}', '\u{2027}', '\u{202a}', '\u{feff}', 'a'] {
+    for c in [
+        '\u{8}', '\u{e}', '\u{a0}', '\u{200d}', '\u{2027}', '\u{202a}', '\u{feff}', 'a',
+    ] {
         assert!(rt; !is_whitespace(c));
     }
     for c in ['_', 'a', 'Z', 'é', '\u{2139}'] {
@@ -153,10 +155,28 @@ fn cursor(rt: HostRuntime) {
     let mut cursor = Cursor::new("é-", FrontmatterAllowed::No);
     assert_eq!(rt; cursor.first(), 'é');
     assert_eq!(rt; cursor.third(), '\0');
-    assert_eq!(rt; cursor.advance_token(), Token { kind: TokenKind::Ident, len: 2 });
+    assert_eq!(rt;
+        cursor.advance_token(),
+        Token {
+            kind: TokenKind::Ident,
+            len: 2
+        }
+    );
     assert_eq!(rt; cursor.as_str(), "-");
-    assert_eq!(rt; cursor.advance_token(), Token { kind: TokenKind::Minus, len: 1 });
-    assert_eq!(rt; cursor.advance_token(), Token { kind: TokenKind::Eof, len: 0 });
+    assert_eq!(rt;
+        cursor.advance_token(),
+        Token {
+            kind: TokenKind::Minus,
+            len: 1
+        }
+    );
+    assert_eq!(rt;
+        cursor.advance_token(),
+        Token {
+            kind: TokenKind::Eof,
+            len: 0
+        }
+    );
     assert_eq!(rt; cursor.first(), '\0');
 }
 

@@ -2,6 +2,24 @@
 #![tactic(auto)]
 
 #[cfg(test)]
+mod comments;
+#[cfg(test)]
 mod first_path;
 #[cfg(test)]
+mod hostile;
+#[cfg(test)]
+mod idents;
+#[cfg(test)]
+mod kinds;
+#[cfg(test)]
+mod numbers;
+#[cfg(test)]
+mod original;
+#[cfg(test)]
+mod quotes;
+#[cfg(test)]
+mod raw_strings;
+#[cfg(test)]
 mod rows;
+#[cfg(test)]
+mod texts;

@@ -10,20 +10,60 @@ pub struct Row {
     pub tokens: &'static [(TokenKind, u32)],
 }
 
+/// A row with no frontmatter: the text, and its tokens.
+macro_rules! row {
+    ($text:expr, [$($token:expr),* $(,)?]) => {
+        $crate::rows::Row {
+            text: $text,
+            allowed: rustc_lexer::FrontmatterAllowed::No,
+            tokens: &[$($token),*],
+        }
+    };
+}
+
+/// A literal of a row: what it is, where its suffix begins, and its length where it has one.
+macro_rules! literal {
+    ($kind:expr, $len:expr) => {
+        $crate::rows::literal!($kind, $len, $len)
+    };
+    ($kind:expr, $suffix_start:expr, $len:expr) => {
+        (
+            rustc_lexer::TokenKind::Literal {
+                kind: $kind,
+                suffix_start: $suffix_start,
+            },
+            $len,
+        )
+    };
+}
+
+pub(crate) use literal;
+pub(crate) use row;
+
 /// Asserts that each text gives its tokens and no others.
 pub fn assert_rows(rt: &impl Abort, rows: &[Row]) {
     for row in rows {
-        let text = row.text;
-        assert!(rt; fits(text));
-        let mut tokens = tokenize(text, row.allowed);
-        for (kind, len) in row.tokens {
-            let want = Token {
-                kind: *kind,
-                len: *len,
-            };
-            assert_eq!(rt; tokens.next(), Some(want), "in {text:?}");
-        }
-        assert_eq!(rt; tokens.next(), None, "in {text:?}");
-        assert_eq!(rt; tokens.next(), None, "in {text:?}");
+        assert_tokens(rt, row.text, row.text, row.allowed, row.tokens);
     }
+}
+
+/// Asserts that the text, which has this name, gives these tokens and no others.
+pub fn assert_tokens(
+    rt: &impl Abort,
+    name: &str,
+    text: &str,
+    allowed: FrontmatterAllowed,
+    tokens: &[(TokenKind, u32)],
+) {
+    assert!(rt; fits(text));
+    let mut left = tokenize(text, allowed);
+    for (kind, len) in tokens {
+        let want = Token {
+            kind: *kind,
+            len: *len,
+        };
+        assert_eq!(rt; left.next(), Some(want), "in {name:?}");
+    }
+    assert_eq!(rt; left.next(), None, "in {name:?}");
+    assert_eq!(rt; left.next(), None, "in {name:?}");
 }

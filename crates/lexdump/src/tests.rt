@@ -9,7 +9,8 @@ use std::test::Fail;
 
 const MAIN: &[u8] = b"fn main() {}\n";
 
-const MAIN_LISTING: &[u8] = b"0 2 Ident\n2 1 Whitespace\n3 4 Ident\n7 1 OpenParen\n8 1 CloseParen\n9 1 Whitespace\n10 1 OpenBrace\n11 1 CloseBrace\n12 1 Whitespace\n";
+const MAIN_LISTING: &[u8] =
+    b"0 2 Ident\n2 1 Whitespace\n3 4 Ident\n7 1 OpenParen\n8 1 CloseParen\n9 1 Whitespace\n10 1 OpenBrace\n11 1 CloseBrace\n12 1 Whitespace\n";
 
 /// Gives one byte a read, and fails at the read with the number `fails_at`, from 0.
 #[derive(Drop)]
@@ -130,6 +131,30 @@ fn whole_pieces(rt: HostRuntime) {
 }
 
 #[test]
+fn deep_comments(rt: HostRuntime) -> Result<(), Fail> {
+    let marks = [
+        (
+            "/*",
+            "0 200000 BlockComment doc_style=none terminated=false\n",
+        ),
+        (
+            "*/",
+            "0 400000 BlockComment doc_style=none terminated=true\n",
+        ),
+    ];
+    let mut text = String::new(rt.alloc());
+    for (mark, want) in marks {
+        for _ in 0..100_000 {
+            text.push_str(mark)?;
+        }
+        let came = dump(&rt, text.as_bytes(), usize::MAX, Failure::Never);
+        assert_eq!(rt; came.answer, Ok(()));
+        assert_eq!(rt; came.written.as_slice(), want.as_bytes());
+    }
+    Ok(())
+}
+
+#[test]
 fn empty_input(rt: HostRuntime) {
     let came = dump(&rt, b"", usize::MAX, Failure::Never);
     assert_eq!(rt; came.answer, Ok(()));
@@ -185,7 +210,12 @@ fn jobs(rt: HostRuntime) -> Result<(), Fail> {
     let mut words = Vec::new(rt.alloc());
     assert!(rt; matches!(read_job(rt.alloc(), words.as_slice()), Ok(Job::Plain)));
     words.push(String::from_str(rt.alloc(), "edit")?)?;
-    assert!(rt; matches!(read_job(rt.alloc(), words.as_slice()), Err(Fault::Arguments)));
+    assert!(rt;
+        matches!(
+            read_job(rt.alloc(), words.as_slice()),
+            Err(Fault::Arguments)
+        )
+    );
     assert_eq!(rt; status(&Fault::Arguments), 2);
     Ok(())
 }
