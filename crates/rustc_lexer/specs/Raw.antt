@@ -8,7 +8,6 @@ use Rattle.rustc_lexer.specs.declared.token.LiteralKind.TheVariants.{RawStr, Raw
 use Rattle.rustc_lexer.specs.declared.token.RawStrError.{RawStrError}
 use Rattle.rustc_lexer.specs.declared.token.RawStrError.TheVariants.{InvalidStarter, NoTerminator, TooManyDelimiters}
 use Rattle.rustc_lexer.specs.declared.token.TokenKind.{TokenKind}
-use Rattle.rustc_lexer.specs.declared.token.TokenKind.TheVariants.{Literal}
 use Rattle.rustc_lexer.specs.Least.{least}
 use Rattle.rustc_lexer.specs.Literal.{Body, literal_past}
 use Rattle.rustc_lexer.specs.Scan.{after, bytes_of, gives, next_is, run_len}
