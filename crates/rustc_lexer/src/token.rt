@@ -217,7 +217,8 @@ pub enum RawStrError {
         expected: u32,
         /// The most hashes that stand after a quote in it.
         found: u32,
-        /// Where the first quote with so many hashes ends, in bytes; `None` where `found` is 0.
+        /// Where the first quote with so many hashes ends: in bytes past the prefix, and the length of the
+        /// prefix more. `None` where `found` is 0.
         possible_terminator_offset: Option<u32>,
     },
     /// More than 255 hashes stand on each side of the string.
