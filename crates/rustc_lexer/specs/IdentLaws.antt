@@ -1,12 +1,13 @@
 -- How far identifiers look.
-use Rattle.std.proofs.Common.{◌≡◌, ℕ, ◌≤◌, ◌<◌, ◌==◌, ◌&&◌, Bool, true, false, true≢false, if◌then◌else◌, List, [], ◌∷◌, length, take, drop, refl, sym, ap, ◌∙◌, arith}
+use Rattle.std.proofs.Common.{◌≡◌, ℕ, ◌+◌, ◌≤◌, ◌<◌, ◌==◌, ◌&&◌, Bool, true, false, true≢false, if◌then◌else◌, List, [], ◌∷◌, length, take, drop, refl, sym, ap, ◌∙◌, arith}
 use Rattle.std.specs.List.{list_all}
 use Rattle.rustc_lexer.specs.declared.token.TokenKind.{TokenKind}
 use Rattle.rustc_lexer.specs.declared.token.TokenKind.TheVariants.{Ident, InvalidIdent, UnknownPrefix}
 use Rattle.rustc_lexer.specs.Classes.{is_id_continue}
 use Rattle.rustc_lexer.specs.Ident.{is_word, is_prefix_mark, ident_kind, ident, invalid_ident, marks_ident, marked}
+use Rattle.rustc_lexer.specs.LocalAt.{IsLocalAt, local_at, told_same, after_at, yes_at}
 use Rattle.rustc_lexer.specs.Reach.{choice_local, next_is-take, run_local, run_len_local, run_len_le, wider}
-use Rattle.rustc_lexer.specs.Scan.{IsLocal, next_is, run, run_len}
+use Rattle.rustc_lexer.specs.Scan.{IsLocal, after, next_is, run, run_len}
 
 -- an identifier looks at the character after it
 pub ident_local : IsLocal TokenKind 1 ident
@@ -47,3 +48,9 @@ marks_ident-length (c ∷ d ∷ s) e = omega arith
 pub marked_local : (kind : TokenKind) (other : List ℕ → TokenKind × ℕ) → IsLocal TokenKind 2 other → IsLocal TokenKind 2 (marked kind other)
 marked_local kind other is =
     choice_local 2 2 marks_ident (run kind is_id_continue) other marks_ident-take marks_ident-length (wider 1 2 (run kind is_id_continue) (omega arith) (run_local kind is_id_continue)) is
+
+-- a marked identifier depends on one character past its end
+pub marked_at : (kind : TokenKind) (other : List ℕ → TokenKind × ℕ) (s : List ℕ) → marks_ident s ≡ true → IsLocalAt TokenKind 1 (marked kind other) s
+marked_at kind other s e = yes_at 1 marks_ident (after 2 (run kind is_id_continue)) other s e
+    (λ u a. told_same 2 1 (2 + run_len is_id_continue (drop 2 s)) marks_ident s u marks_ident-take (omega arith) a)
+    (after_at 1 2 (run kind is_id_continue) s (marks_ident-length s e) (local_at 1 (run kind is_id_continue) (run_local kind is_id_continue) (drop 2 s)))

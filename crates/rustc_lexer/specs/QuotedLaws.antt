@@ -7,9 +7,9 @@ use Rattle.rustc_lexer.specs.declared.token.LiteralKind.TheVariants.{Char, Byte,
 use Rattle.rustc_lexer.specs.declared.token.TokenKind.{TokenKind}
 use Rattle.rustc_lexer.specs.Literal.{Body, literal}
 use Rattle.rustc_lexer.specs.LiteralLaws.{literal_local}
-use Rattle.rustc_lexer.specs.LocalAt.{IsLocalAt, IsToldBy, local_at, local_by, literal_at, agree_upto, agree_more, told_same, same_text}
+use Rattle.rustc_lexer.specs.LocalAt.{IsLocalAt, IsToldBy, after_at, local_at, local_by, literal_at, agree_upto, agree_more, told_same, same_text}
 use Rattle.rustc_lexer.specs.Reach.{agree_before, begins-take, begins-length}
-use Rattle.rustc_lexer.specs.Scan.{Agree, IsLocal, begins, run_len}
+use Rattle.rustc_lexer.specs.Scan.{Agree, IsLocal, after, begins, run_len}
 use Rattle.rustc_lexer.specs.Least.{one_more, least}
 use Rattle.rustc_lexer.specs.Quoted.{is_backslash, is_odd, free_place, stopped, quoted, at_double_quote, double_quoted, at_single_stop, is_lone, single_quoted, quoted_body, str_body, byte_str_body, c_str_body, char_body, byte_body}
 
@@ -252,3 +252,19 @@ c_str_body_local = quoted_body_local 1 CStr double_quoted double_quoted_local
 
 pub byte_body_local : IsLocal Body 2 byte_body
 byte_body_local = quoted_body_local 2 Byte single_quoted single_quoted_local
+
+-- the literal whose quote a letter stands before
+lettered_at : (k : ℕ) (body : List ℕ → Body × ℕ) (s : List ℕ) → 0 < k → 1 ≤ length s → IsLocalAt Body k body (drop 1 s) → IsLocalAt TokenKind k (literal (after 1 body)) s
+lettered_at k body s some one is = literal_at k (after 1 body) s some (after_at k 1 body s one is)
+
+pub byte_str_at : (s : List ℕ) → 1 ≤ length s → IsLocalAt TokenKind 1 (literal (after 1 byte_str_body)) s
+byte_str_at s one = lettered_at 1 byte_str_body s (omega arith) one (local_at 1 byte_str_body byte_str_body_local (drop 1 s))
+
+pub c_str_at : (s : List ℕ) → 1 ≤ length s → IsLocalAt TokenKind 1 (literal (after 1 c_str_body)) s
+c_str_at s one = lettered_at 1 c_str_body s (omega arith) one (local_at 1 c_str_body c_str_body_local (drop 1 s))
+
+pub byte_at : (s : List ℕ) → 1 ≤ length s → IsLocalAt TokenKind 2 (literal (after 1 byte_body)) s
+byte_at s one = lettered_at 2 byte_body s (omega arith) one (local_at 2 byte_body byte_body_local (drop 1 s))
+
+pub byte_closed : (s : List ℕ) → 1 ≤ length s → (single_quoted (drop 1 s)).0 ≡ true → IsLocalAt TokenKind 1 (literal (after 1 byte_body)) s
+byte_closed s one t = lettered_at 1 byte_body s (omega arith) one (quoted_body_at 1 Byte single_quoted (drop 1 s) (single_quoted_closed (drop 1 s) t))

@@ -1,9 +1,10 @@
 //! Identifiers, with what may stand before and after them.
-ghost use Rattle.std.specs.Prelude.{◌≡◌, ◌+◌, true, false, MatchOption, drop};
+ghost use Rattle.std.specs.Prelude.{◌≡◌, ◌+◌, ℕ, List, true, false, MatchOption, drop};
 ghost use Rattle.std.specs.Str.{chars};
 ghost use Rattle.rustc_lexer.specs.declared.token.TokenKind.{TokenKind};
 ghost use Rattle.rustc_lexer.specs.Classes;
 ghost use Rattle.rustc_lexer.specs.Ident as spec;
+ghost use Rattle.rustc_lexer.specs.LocalAt.{IsLocalAt};
 ghost use Rattle.rustc_lexer.specs.Scan.{IsLocal, past, run_len, scanned};
 
 use crate::classes::emoji::is_emoji;
@@ -64,4 +65,6 @@ fn is_prefix_mark(c: char) -> bool
 pub(crate) fn ident_lookahead()
     ensures ident { IsLocal TokenKind 1 spec.ident }
     ensures invalid { IsLocal TokenKind 1 spec.invalid_ident }
+    ensures marked { (kind : TokenKind) (other : List ℕ → TokenKind × ℕ) (s : List ℕ) → spec.marks_ident s ≡ true
+        → IsLocalAt TokenKind 1 (spec.marked kind other) s }
 {}

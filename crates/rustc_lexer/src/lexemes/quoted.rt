@@ -1,5 +1,5 @@
 //! Quoted text: strings and characters.
-ghost use Rattle.std.specs.Prelude.{◌≡◌, ◌+◌, ◌≤◌, ◌<◌, ◌^◌, ◌∷◌, ℕ, List, Bool, true, false, length, MatchOption};
+ghost use Rattle.std.specs.Prelude.{◌≡◌, ◌+◌, ◌≤◌, ◌<◌, ◌^◌, ◌∷◌, ℕ, List, Bool, true, false, length, drop, MatchOption};
 ghost use Rattle.std.specs.Str.{chars};
 ghost use Rattle.rustc_lexer.specs.declared.token.TokenKind.{TokenKind};
 ghost use Rattle.rustc_lexer.specs.Literal.{Body, literal};
@@ -152,9 +152,10 @@ pub(crate) fn quoted_lookahead()
     ensures single { IsLocal Bool 2 spec.single_quoted }
     ensures single_closed { (s : List ℕ) → (spec.single_quoted s).0 ≡ true → IsLocalAt Bool 1 spec.single_quoted s }
     ensures string { IsLocal TokenKind 1 (literal spec.str_body) }
-    ensures byte_string { IsLocal Body 1 spec.byte_str_body }
-    ensures c_string { IsLocal Body 1 spec.c_str_body }
-    ensures byte { IsLocal Body 2 spec.byte_body }
+    ensures byte_string { (s : List ℕ) → 1 ≤ length s → IsLocalAt TokenKind 1 (literal (after 1 spec.byte_str_body)) s }
+    ensures c_string { (s : List ℕ) → 1 ≤ length s → IsLocalAt TokenKind 1 (literal (after 1 spec.c_str_body)) s }
+    ensures byte { (s : List ℕ) → 1 ≤ length s → IsLocalAt TokenKind 2 (literal (after 1 spec.byte_body)) s }
+    ensures byte_closed { (s : List ℕ) → 1 ≤ length s → (spec.single_quoted (drop 1 s)).0 ≡ true → IsLocalAt TokenKind 1 (literal (after 1 spec.byte_body)) s }
     ensures character { IsLocal TokenKind 2 (literal spec.char_body) }
     ensures character_closed { (s : List ℕ) → (spec.single_quoted s).0 ≡ true → IsLocalAt TokenKind 1 (literal spec.char_body) s }
 {}

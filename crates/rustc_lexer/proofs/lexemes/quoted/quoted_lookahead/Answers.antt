@@ -1,4 +1,4 @@
-use Rattle.rustc_lexer.specs.QuotedLaws.{double_quoted_local, double_quoted_closed, single_quoted_local, single_quoted_closed, str_local, byte_str_body_local, c_str_body_local, byte_body_local, char_local, char_closed}
+use Rattle.rustc_lexer.specs.QuotedLaws.{double_quoted_local, double_quoted_closed, single_quoted_local, single_quoted_closed, str_local, byte_str_at, c_str_at, byte_at, byte_closed, char_local, char_closed}
 use Rattle.rustc_lexer.proofs.lexemes.quoted.quoted_lookahead.Goals as goal
 
 pub returns : goal.returns
@@ -8,9 +8,10 @@ returns c = record {
   single = single_quoted_local;
   single_closed = single_quoted_closed;
   string = str_local;
-  byte_string = byte_str_body_local;
-  c_string = c_str_body_local;
-  byte = byte_body_local;
+  byte_string = byte_str_at;
+  c_string = c_str_at;
+  byte = byte_at;
+  byte_closed = byte_closed;
   character = char_local;
   character_closed = char_closed;
 }
