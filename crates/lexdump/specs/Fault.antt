@@ -1,5 +1,5 @@
--- The statuses of the program.
-use Rattle.std.specs.Prelude.{ℕ}
+-- The statuses of the program, and its lines on standard error.
+use Rattle.std.specs.Prelude.{ℕ, List, ◌++◌, codes, decimal}
 use Rattle.lexdump.specs.declared.fault.Fault.{Fault}
 use Rattle.lexdump.specs.declared.fault.Fault.TheVariants.{Arguments, NotUtf8, TooLong, EditRange, EditTooLong, Memory, Read, Write}
 
@@ -12,3 +12,14 @@ status_of (EditTooLong at) = 5
 status_of Memory = 6
 status_of Read = 7
 status_of Write = 7
+
+-- the line of a fault, past the program's name
+unfoldable pub fault_text : Fault → List ℕ
+fault_text Arguments = codes "bad arguments"
+fault_text NotUtf8 = codes "input is not UTF-8"
+fault_text TooLong = codes "input too long"
+fault_text (EditRange at) = codes "edit " ++ (decimal at ++ codes ": bad range")
+fault_text (EditTooLong at) = codes "edit " ++ (decimal at ++ codes ": text too long")
+fault_text Memory = codes "no memory"
+fault_text Read = codes "read failed"
+fault_text Write = codes "write failed"

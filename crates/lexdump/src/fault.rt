@@ -1,6 +1,6 @@
 //! Why a run stops.
-ghost use Rattle.std.specs.Prelude.{◌≡◌};
-ghost use Rattle.lexdump.specs.Fault.{status_of};
+ghost use Rattle.std.specs.Prelude.{◌≡◌, Some};
+ghost use Rattle.lexdump.specs.Fault.{fault_text, status_of};
 ghost use Rattle.lexdump.specs.declared.fault.Fault.TheVariants.{Memory};
 
 use std::alloc::{AllocError, AllocFailed};
@@ -42,6 +42,9 @@ pub fn status(fault: &Fault) -> u8
 }
 
 impl fmt::Display for Fault {
+    ghost output = { λ fault. Some (fault_text fault) };
+
+    #[tactic(auto, unfolding(crate::specs::Fault::fault_text))]
     fn fmt<W: fmt::Write>(&self, f: &mut fmt::Formatter<W>) -> fmt::Result {
         match self {
             Fault::Arguments => write!(f, "bad arguments"),
