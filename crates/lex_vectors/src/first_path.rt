@@ -187,3 +187,20 @@ fn text_that_is_left(rt: HostRuntime) {
     assert!(rt; tokens.next().is_some());
     assert_eq!(rt; tokens.as_str(), " b");
 }
+
+#[test]
+fn slices_outlive_what_gave_them(rt: HostRuntime) {
+    let text = "a b";
+    let past_token = {
+        let mut tokens = tokenize(text, FrontmatterAllowed::No);
+        assert!(rt; tokens.next().is_some());
+        tokens.as_str()
+    };
+    assert_eq!(rt; past_token, " b");
+    let past_advance = {
+        let mut cursor = Cursor::new(text, FrontmatterAllowed::No);
+        assert_eq!(rt; cursor.advance_token().len, 1);
+        cursor.as_str()
+    };
+    assert_eq!(rt; past_advance, " b");
+}

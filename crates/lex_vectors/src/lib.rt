@@ -4,7 +4,15 @@
 #[cfg(test)]
 mod comments;
 #[cfg(test)]
+mod edits;
+#[cfg(test)]
 mod first_path;
+#[cfg(test)]
+mod frontmatter;
+#[cfg(test)]
+mod guarded;
+#[cfg(test)]
+mod held_text;
 #[cfg(test)]
 mod hostile;
 #[cfg(test)]
@@ -21,5 +29,8 @@ mod quotes;
 mod raw_strings;
 #[cfg(test)]
 mod rows;
+#[cfg(test)]
+mod shebang;
+pub mod steppers;
 #[cfg(test)]
 mod texts;

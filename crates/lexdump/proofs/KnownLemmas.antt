@@ -20,10 +20,6 @@ appends-kept (Some o) None new xs a b = absurd a
 appends-kept (Some o) (Some m) None xs a b = absurd b
 appends-kept (Some o) (Some m) (Some n) xs a b = b ∙ a
 
-pub consumes-none : (old : Option (List ℕ)) → Consumes old old []
-consumes-none None = tt
-consumes-none (Some xs) = refl
-
 pub consumes-more : (old mid new : Option (List ℕ)) (xs ys : List ℕ) → Consumes old mid xs → Consumes mid new ys → Consumes old new (xs ++ ys)
 consumes-more None mid new xs ys a b = tt
 consumes-more (Some o) None new xs ys a b = absurd a
@@ -35,9 +31,6 @@ pub record Went (old new : Option (List ℕ)) (text rest : List ℕ) : Type 0 wh
   pub front : List ℕ
   pub whole : text ≡ front ++ rest
   pub grew : Appends old new front
-
-pub went_none : (old : Option (List ℕ)) (text : List ℕ) → Went old old text text
-went_none old text = record { front = []; whole = refl; grew = appends-none old }
 
 pub went_more : (old mid new : Option (List ℕ)) (text rest cut : List ℕ) (n : ℕ) → Went old mid text rest → Appends mid new (take n rest) → cut ≡ drop n rest → Went old new text cut
 went_more old mid new text rest cut n w a e = record {

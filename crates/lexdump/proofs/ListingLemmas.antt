@@ -1,5 +1,5 @@
 -- The loop that lists tokens.
-use Rattle.std.proofs.Common.{◌≡◌, ℕ, ◌+◌, ◌≤◌, List, [], ◌∷◌, ◌++◌, length, sym, ap, ◌∙◌, arith, append_assoc, append-nil}
+use Rattle.std.proofs.Common.{◌≡◌, ℕ, ◌+◌, List, [], ◌∷◌, ◌++◌, length, sym, ap, ◌∙◌, arith, append_assoc, append-nil}
 use Rattle.rustc_lexer.specs.declared.token.Token.{Token}
 use Rattle.rustc_lexer.specs.Tokens.{bound}
 use Rattle.lexdump.specs.Listing.{line_text, listing_from, listing}
@@ -21,9 +21,6 @@ list_step all left rest listed more start size token at e f = record {
   lines = ap (λ xs. xs ++ listing_from (start + token.len) rest) f ∙ (append_assoc listed (line_text start token) (listing_from (start + token.len) rest) ∙ (ap (λ ts. listed ++ listing_from start ts) (sym e) ∙ at.lines));
   place = let p = at.place in let b = ap (λ (ts : List Token). bound ts (length ts)) e in omega arith;
 }
-
-pub list_fits : (all left rest : List Token) (listed : List ℕ) (start size : ℕ) (token : Token) → Lists all left listed start size → left ≡ token ∷ rest → start + token.len ≤ size
-list_fits all left rest listed start size token at e = let p = at.place in let b = ap (λ (ts : List Token). bound ts (length ts)) e in omega arith
 
 pub list_end : (all left : List Token) (listed : List ℕ) (start size : ℕ) → Lists all left listed start size → left ≡ [] → listed ≡ listing all
 list_end all left listed start size at e = sym (append-nil listed) ∙ (ap (λ ts. listed ++ listing_from start ts) (sym e) ∙ at.lines)

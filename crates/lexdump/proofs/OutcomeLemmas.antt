@@ -9,7 +9,7 @@ use Rattle.std.proofs.lemmas.Str.{IsUtf8-from_is_utf8, is_utf8-from_IsUtf8}
 use Rattle.lexdump.specs.declared.fault.Fault.{Fault}
 use Rattle.lexdump.specs.declared.fault.Fault.TheVariants.{Arguments, NotUtf8, TooLong, EditRange, EditTooLong, Memory, Read, Write}
 use Rattle.lexdump.specs.declared.job.Job.{Job}
-use Rattle.lexdump.specs.Outcome.{printed, outcome, IsAnswer, AppendsFront, Writes, IsReadingFault, EndsReading}
+use Rattle.lexdump.specs.Outcome.{printed, outcome, IsAnswer, IsPrinted, AppendsFront, Writes, IsReadingFault, EndsReading}
 
 below : (a b : ℕ) → b < a → nat_le a b ≡ false
 below a b h = elim (leb_tells a b) [ inl p ↦ absurd (omega arith) | inr p ↦ p.0 ]
@@ -26,7 +26,7 @@ outcome-no_text job bytes fits none = by_test (is_utf8 bytes) refl
     by_test true e = absurd (none (IsUtf8-from_is_utf8 bytes e))
     by_test false e = let f : nat_le (2 ^ 32) (length bytes) ≡ false = below (2 ^ 32) (length bytes) fits in rw (f, e) refl
 
-outcome-text : (job : Job) (bytes : List ℕ) → length bytes < 2 ^ 32 → IsUtf8 bytes → outcome job bytes ≡ Ok (printed job bytes)
+outcome-text : (job : Job) (bytes : List ℕ) → length bytes < 2 ^ 32 → IsUtf8 bytes → outcome job bytes ≡ printed job bytes
 unfolding outcome
 outcome-text job bytes fits is =
     let e : is_utf8 bytes ≡ true = is_utf8-from_IsUtf8 bytes is in
@@ -49,32 +49,49 @@ answer_no_text job None read ends fits none = tt
 answer_no_text job (Some bytes) read ends fits none =
     subst (λ (xs : List ℕ). outcome job xs ≡ Err NotUtf8) ends (outcome-no_text job read.items fits none)
 
-module _ (job : Job) (known : Option (List ℕ)) (read : Vec ℕ Global) (text made : List ℕ) (ends : EndsReading known (Ok read)) (is : IsUtf8 text) (same : text ≡ read.items) (fits : length text < 2 ^ 32) (prints : made ≡ printed job text)
-    (old new : Option (List ℕ)) (result : Result (Unit {0}) Fault) (only : IfErr result (λ fault. fault ≡ Write)) where
-  comes_to : (bytes : List ℕ) → read.items ≡ bytes → outcome job bytes ≡ Ok made
-  comes_to bytes e = ap (outcome job) (sym (same ∙ e)) ∙ (outcome-text job text fits is ∙ ap (λ (xs : List ℕ). let r : Result (List ℕ) Fault = Ok xs in r) (sym prints))
+module _ (job : Job) (known : Option (List ℕ)) (read : Vec ℕ Global) (text : List ℕ) (ends : EndsReading known (Ok read)) (is : IsUtf8 text) (same : text ≡ read.items) (fits : length text < 2 ^ 32) where
+  comes_to : (bytes : List ℕ) → read.items ≡ bytes → outcome job bytes ≡ printed job text
+  comes_to bytes e = ap (outcome job) (sym (same ∙ e)) ∙ outcome-text job text fits is
 
-  pub answer_text : IfSome known (λ bytes. IsAnswer result (outcome job bytes))
-  answer_text = by_known known ends
+  pub answer_unprinted : (fault : Fault) → IsPrinted (Err fault) (printed job text) → IfSome known (λ bytes. IsAnswer (Err fault) (outcome job bytes))
+  answer_unprinted fault not_printed = by_known known ends
     where
-      by_result : (r : Result (Unit {0}) Fault) → IfErr r (λ fault. fault ≡ Write) → (o : Result (List ℕ) Fault) → o ≡ Ok made → IsAnswer r o
-      by_result (Ok done) h o e = (made, e)
-      by_result (Err fault) h o e = subst (λ (x : Fault). IsAnswer (Err x) o) (sym h) (made, e)
+      by_fault : (f : Fault) → IsPrinted (Err f) (printed job text) → (o : Result (List ℕ) Fault) → o ≡ printed job text → IsAnswer (Err f) o
+      by_fault (EditRange at) h o e = e ∙ h
+      by_fault (EditTooLong at) h o e = e ∙ h
+      by_fault Memory h o e = tt
+      by_fault Arguments h o e = absurd h
+      by_fault NotUtf8 h o e = absurd h
+      by_fault TooLong h o e = absurd h
+      by_fault Read h o e = absurd h
+      by_fault Write h o e = absurd h
 
-      by_known : (k : Option (List ℕ)) → EndsReading k (Ok read) → IfSome k (λ bytes. IsAnswer result (outcome job bytes))
+      by_known : (k : Option (List ℕ)) → EndsReading k (Ok read) → IfSome k (λ bytes. IsAnswer (Err fault) (outcome job bytes))
       by_known None e = tt
-      by_known (Some bytes) e = by_result result only (outcome job bytes) (comes_to bytes e)
+      by_known (Some bytes) e = by_fault fault not_printed (outcome job bytes) (comes_to bytes e)
 
-  pub writes_text : OnOk result (Appends old new made) → OnErr result (AppendsFront old new made) → IfSome known (λ bytes. Writes old new result (outcome job bytes))
-  writes_text ok err = by_known known ends
-    where
-      by_result : (r : Result (Unit {0}) Fault) → IfErr r (λ fault. fault ≡ Write) → OnOk r (Appends old new made) → OnErr r (AppendsFront old new made) → Writes old new r (Ok made)
-      by_result (Ok done) h a b = a
-      by_result (Err fault) h a b = subst (λ (x : Fault). Writes old new (Err x) (Ok made)) (sym h) b
+  module _ (made : List ℕ) (prints : printed job text ≡ Ok made) (old new : Option (List ℕ)) (result : Result (Unit {0}) Fault) (only : IfErr result (λ fault. fault ≡ Write)) where
+    pub answer_text : IfSome known (λ bytes. IsAnswer result (outcome job bytes))
+    answer_text = by_known known ends
+      where
+        by_result : (r : Result (Unit {0}) Fault) → IfErr r (λ fault. fault ≡ Write) → (o : Result (List ℕ) Fault) → o ≡ Ok made → IsAnswer r o
+        by_result (Ok done) h o e = (made, e)
+        by_result (Err fault) h o e = subst (λ (x : Fault). IsAnswer (Err x) o) (sym h) (made, e)
 
-      by_known : (k : Option (List ℕ)) → EndsReading k (Ok read) → IfSome k (λ bytes. Writes old new result (outcome job bytes))
-      by_known None e = tt
-      by_known (Some bytes) e = subst (λ (o : Result (List ℕ) Fault). Writes old new result o) (sym (comes_to bytes e)) (by_result result only ok err)
+        by_known : (k : Option (List ℕ)) → EndsReading k (Ok read) → IfSome k (λ bytes. IsAnswer result (outcome job bytes))
+        by_known None e = tt
+        by_known (Some bytes) e = by_result result only (outcome job bytes) (comes_to bytes e ∙ prints)
+
+    pub writes_text : OnOk result (Appends old new made) → OnErr result (AppendsFront old new made) → IfSome known (λ bytes. Writes old new result (outcome job bytes))
+    writes_text ok err = by_known known ends
+      where
+        by_result : (r : Result (Unit {0}) Fault) → IfErr r (λ fault. fault ≡ Write) → OnOk r (Appends old new made) → OnErr r (AppendsFront old new made) → Writes old new r (Ok made)
+        by_result (Ok done) h a b = a
+        by_result (Err fault) h a b = subst (λ (x : Fault). Writes old new (Err x) (Ok made)) (sym h) b
+
+        by_known : (k : Option (List ℕ)) → EndsReading k (Ok read) → IfSome k (λ bytes. Writes old new result (outcome job bytes))
+        by_known None e = tt
+        by_known (Some bytes) e = subst (λ (o : Result (List ℕ) Fault). Writes old new result o) (sym (comes_to bytes e ∙ prints)) (by_result result only ok err)
 
 -- a fault of reading is none of writing
 pub reads_only : (fault : Fault) → IsReadingFault fault → ¬ (fault ≡ Write)

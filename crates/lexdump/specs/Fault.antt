@@ -1,5 +1,7 @@
 -- The statuses of the program, and its lines on standard error.
 use Rattle.std.specs.Prelude.{ℕ, List, ◌++◌, codes, decimal}
+use Rattle.rustc_lexer.specs.declared.relex.edit_list.EditStop.{EditStop}
+use Rattle.rustc_lexer.specs.declared.relex.edit_list.EditStop.TheVariants.{Range as RangeStop, TooLong as TooLongStop, Memory as MemoryStop}
 use Rattle.lexdump.specs.declared.fault.Fault.{Fault}
 use Rattle.lexdump.specs.declared.fault.Fault.TheVariants.{Arguments, NotUtf8, TooLong, EditRange, EditTooLong, Memory, Read, Write}
 
@@ -23,3 +25,9 @@ fault_text (EditTooLong at) = codes "edit " ++ (decimal at ++ codes ": text too 
 fault_text Memory = codes "no memory"
 fault_text Read = codes "read failed"
 fault_text Write = codes "write failed"
+
+-- the fault of a list of edits that stopped
+abbrev pub stop_fault : EditStop → Fault
+stop_fault (RangeStop at) = EditRange at
+stop_fault (TooLongStop at) = EditTooLong at
+stop_fault (MemoryStop at) = Memory

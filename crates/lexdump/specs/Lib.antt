@@ -2,4 +2,5 @@ pub mod Fault
 pub mod Job
 pub mod Listing
 pub mod Outcome
+pub mod Rest
 pub mod Watch

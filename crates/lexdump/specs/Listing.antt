@@ -98,6 +98,10 @@ fields_text (Literal kind suffix_start) = codes " kind=" ++ (literal_text kind +
 fields_text (Lifetime starts_with_number) = codes " starts_with_number=" ++ bool_text starts_with_number
 fields_text kind = []
 
+-- where a token begins and how long it is, each with a space after it
+abbrev pub place_text : ℕ → ℕ → List ℕ
+place_text start len = decimal start ++ (codes " " ++ (decimal len ++ codes " "))
+
 unfoldable pub line_text : ℕ → Token → List ℕ
 line_text start token = decimal start ++ (codes " " ++ (decimal token.len ++ (codes " " ++ (kind_name token.kind ++ (fields_text token.kind ++ 10 ∷ [])))))
 
@@ -108,3 +112,8 @@ listing_from start (t ∷ ts) = line_text start t ++ listing_from (start + t.len
 
 abbrev pub listing : List Token → List ℕ
 listing tokens = listing_from 0 tokens
+
+-- the line that tells the length of a shebang line, where there is one
+abbrev pub shebang_line : Option ℕ → List ℕ
+shebang_line None = codes "none" ++ 10 ∷ []
+shebang_line (Some length) = decimal length ++ 10 ∷ []

@@ -1,23 +1,62 @@
 -- What a run comes to, by the bytes that it reads.
-use Rattle.std.specs.Prelude.{ℕ, ◌^◌, ◌≡◌, ◌≤◌, nat_le, not, if◌then◌else◌, List, length, take, Option, Some, None, Result, Ok, Err, IfOk, Vec}
+use Rattle.std.specs.Prelude.{ℕ, ◌+◌, ◌-◌, ◌^◌, ◌≡◌, ◌≤◌, Bool, ◌&&◌, ◌||◌, nat_le, nat_lt, not, if◌then◌else◌, List, [], ◌∷◌, length, slice_index, take, Option, Some, None, Result, Ok, Err, IfOk, Vec, string_bytes}
 use Rattle.std.specs.Global.{Global}
 use Rattle.std.specs.Str.{is_utf8}
 use Rattle.std.specs.Io.KnownBytes.{Keeps, Appends}
-use Rattle.rustc_lexer.specs.declared.token.FrontmatterAllowed.TheVariants.{No}
+use Rattle.std.specs.declared.string.String.{String}
+use Rattle.rustc_lexer.specs.declared.relex.edit_list.Edit.{Edit as TextEdit}
+use Rattle.rustc_lexer.specs.declared.token.FrontmatterAllowed.TheVariants.{Yes, No}
+use Rattle.rustc_lexer.specs.EditLists.{applied}
+use Rattle.rustc_lexer.specs.Shebang.{shebang}
 use Rattle.rustc_lexer.specs.Tokens.{tokens_of}
 use Rattle.lexdump.specs.declared.fault.Fault.{Fault}
-use Rattle.lexdump.specs.declared.fault.Fault.TheVariants.{NotUtf8, TooLong, Memory, Read, Write}
+use Rattle.lexdump.specs.declared.fault.Fault.TheVariants.{NotUtf8, TooLong, EditRange, EditTooLong, Memory, Read, Write}
 use Rattle.lexdump.specs.declared.job.Job.{Job}
-use Rattle.lexdump.specs.declared.job.Job.TheVariants.{Plain}
-use Rattle.lexdump.specs.Listing.{listing}
+use Rattle.lexdump.specs.declared.job.Job.TheVariants.{Plain, Front, Shebang, Edit}
+use Rattle.lexdump.specs.Listing.{listing, shebang_line}
 
--- what is printed of a text
-abbrev pub printed : Job → List ℕ → List ℕ
-printed Plain text = listing (tokens_of No text)
+-- whether a character of the text begins at the place, or the text ends there
+abbrev pub is_boundary : List ℕ → ℕ → Bool
+is_boundary text place = nat_le place (length text) && (nat_le (length text) place || (nat_lt (slice_index text place) 128 || nat_le 192 (slice_index text place)))
 
--- the text that is printed, or why nothing is: the input is too long, or it is no text
+-- whether the range of the edit is inside the text, between characters
+abbrev pub is_inside : List ℕ → TextEdit → Bool
+is_inside text e = nat_le e.start e.stop && (nat_le e.stop (length text) && (is_boundary text e.start && is_boundary text e.stop))
+
+-- whether what the edit makes has at most 4294967295 bytes
+abbrev pub is_short : List ℕ → TextEdit → Bool
+is_short text e = nat_lt (length text + length e.insert.now) (2 ^ 32 + (e.stop - e.start))
+
+-- the text after the edits, or why the first bad one is refused, each judged on the text that the edits before it
+-- leave; the first has the number `at`
+abbrev pub edited_from : ℕ → List ℕ → List TextEdit → Result (List ℕ) Fault
+edited_from at text [] = Ok text
+edited_from at text (e ∷ es) =
+    if not (is_inside text e) then Err (EditRange at) else (if not (is_short text e) then Err (EditTooLong at) else edited_from (at + 1) (applied text e) es)
+
+-- the listing of a text
+abbrev pub listed : Result (List ℕ) Fault → Result (List ℕ) Fault
+listed (Ok text) = Ok (listing (tokens_of No text))
+listed (Err fault) = Err fault
+
+-- what is printed of a text, or why nothing is
+abbrev pub printed : Job → List ℕ → Result (List ℕ) Fault
+printed Plain text = listed (Ok text)
+printed Front text = Ok (listing (tokens_of Yes text))
+printed Shebang text = Ok (shebang_line (shebang text))
+printed (Edit edits) text = listed (edited_from 0 text edits.items)
+
+-- printing comes to that, unless memory was refused
+abbrev pub IsPrinted : Result (String Global) Fault → Result (List ℕ) Fault → Type 0
+IsPrinted (Ok made) printed = printed ≡ Ok (string_bytes made)
+IsPrinted (Err Memory) printed = Unit {0}
+IsPrinted (Err (EditRange at)) printed = printed ≡ Err (EditRange at)
+IsPrinted (Err (EditTooLong at)) printed = printed ≡ Err (EditTooLong at)
+IsPrinted (Err fault) printed = ⊥
+
+-- the text that is printed, or why nothing is: the input is too long, it is no text, or an edit is bad
 unfoldable pub outcome : Job → List ℕ → Result (List ℕ) Fault
-outcome job bytes = if nat_le (2 ^ 32) (length bytes) then Err TooLong else (if not (is_utf8 bytes) then Err NotUtf8 else Ok (printed job bytes))
+outcome job bytes = if nat_le (2 ^ 32) (length bytes) then Err TooLong else (if not (is_utf8 bytes) then Err NotUtf8 else printed job bytes)
 
 -- an answer is that of the outcome, unless an end failed or memory was refused
 abbrev pub IsAnswer : Result (Unit {0}) Fault → Result (List ℕ) Fault → Type 0

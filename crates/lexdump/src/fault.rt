@@ -1,8 +1,9 @@
 //! Why a run stops.
 ghost use Rattle.std.specs.Prelude.{◌≡◌, Some};
-ghost use Rattle.lexdump.specs.Fault.{fault_text, status_of};
+ghost use Rattle.lexdump.specs.Fault.{fault_text, status_of, stop_fault};
 ghost use Rattle.lexdump.specs.declared.fault.Fault.TheVariants.{Memory};
 
+use rustc_lexer::EditStop;
 use std::alloc::{AllocError, AllocFailed};
 use std::fmt;
 
@@ -55,6 +56,18 @@ impl fmt::Display for Fault {
             Fault::Memory => write!(f, "no memory"),
             Fault::Read => write!(f, "read failed"),
             Fault::Write => write!(f, "write failed"),
+        }
+    }
+}
+
+impl From<EditStop> for Fault {
+    ghost from_gives = { λ stop fault. fault ≡ stop_fault stop };
+
+    fn from(stop: EditStop) -> Fault {
+        match stop {
+            EditStop::Range { at } => Fault::EditRange { at },
+            EditStop::TooLong { at } => Fault::EditTooLong { at },
+            EditStop::Memory { at: _ } => Fault::Memory,
         }
     }
 }

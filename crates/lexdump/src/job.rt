@@ -1,25 +1,94 @@
 //! What a run is to do.
-ghost use Rattle.std.specs.Prelude.{◌≡◌, map, string_bytes};
-ghost use Rattle.lexdump.specs.Job.{job_of};
+ghost use Rattle.std.specs.Prelude.{◌≡◌, ◌<◌, ◌↔◌, IfErr, IfOk, IsSome, IsTrue, Some, length, map, string_bytes};
+ghost use Rattle.std.specs.Option.{option_map};
+ghost use Rattle.lexdump.specs.Job.{command_of, first_replacement, job_of, place_of, replacement, replacements_of, IsJobFault};
 
 use crate::fault::Fault;
-use std::alloc::Global;
+use rustc_lexer::Edit;
+use std::alloc::{AllocError, Global};
 
 /// What a run is to do with its input.
 #[derive(Drop)]
-pub enum Job {
+pub enum Job<'a> {
     /// List the tokens of the text.
     Plain,
+    /// List them, where a frontmatter may stand in front.
+    Front,
+    /// Tell the length of the shebang line.
+    Shebang,
+    /// List the tokens of the text after the edits.
+    Edit { edits: Vec<Edit<'a>> },
 }
 
-/// Reads the words after the program's name.
-pub fn read_job(alloc: Global, words: &[String]) -> Result<Job, Fault>
-    ensures { result ≡ job_of (map string_bytes words.now) }
+/// Reads the words after the program's name. It asks for memory only for edits, and only once all words are
+/// known to be good.
+pub fn read_job<'a>(alloc: Global, words: &'a [String]) -> Result<Job<'a>, Fault>
+    ensures job { IfOk result (λ job. job_of (map string_bytes words.now) ≡ Some (command_of job)) }
+    ensures fault { IfErr result (λ fault. IsJobFault fault (job_of (map string_bytes words.now))) }
 {
-    let _ = alloc;
-    if words.is_empty() {
-        Ok(Job::Plain)
-    } else {
-        Err(Fault::Arguments)
+    match words {
+        [] => Ok(Job::Plain),
+        [command] if command.as_str() == "front" => Ok(Job::Front),
+        [command] if command.as_str() == "shebang" => Ok(Job::Shebang),
+        [command, edits @ ..] if command.as_str() == "edit" && are_edits(edits) => Ok(Job::Edit {
+            edits: read_edits(alloc, edits)?,
+        }),
+        _ => Err(Fault::Arguments),
     }
+}
+
+/// Whether the words are one edit or more, three words each.
+fn are_edits(words: &[String]) -> bool
+    ensures { IsTrue result ↔ ((0 < length words.now) × IsSome (replacements_of (map string_bytes words.now))) }
+{
+    let mut rest = words;
+    while let Some((_, after)) = first_edit(rest) {
+        rest = after;
+    }
+    rest.is_empty() && !words.is_empty()
+}
+
+/// The edits that the words write.
+fn read_edits<'a>(alloc: Global, words: &'a [String]) -> Result<Vec<Edit<'a>>, AllocError>
+    requires { IsSome (replacements_of (map string_bytes words.now)) }
+    ensures { IfOk result (λ edits. replacements_of (map string_bytes words.now) ≡ Some (map replacement edits.items)) }
+{
+    let mut edits = Vec::new(alloc);
+    let mut rest = words;
+    while let Some((edit, after)) = first_edit(rest) {
+        edits.push(edit)?;
+        rest = after;
+    }
+    Ok(edits)
+}
+
+/// The edit that the first three words write, and the words after them.
+fn first_edit<'a>(words: &'a [String]) -> Option<(Edit<'a>, &'a [String])>
+    ensures { option_map (λ p. (replacement p.0, map string_bytes p.1.now)) result ≡ first_replacement (map string_bytes words.now) }
+{
+    let [start, stop, insert, rest @ ..] = words else {
+        return None;
+    };
+    let edit = Edit {
+        start: read_place(start.as_str())?,
+        stop: read_place(stop.as_str())?,
+        insert: insert.as_str(),
+    };
+    Some((edit, rest))
+}
+
+/// The most digits that a place is written by.
+const MOST_DIGITS: usize = 10;
+
+/// The place that a word writes.
+#[tactic(auto, unfolding(crate::specs::Job::place_of))]
+fn read_place(word: &str) -> Option<usize>
+    ensures { result ≡ place_of word.now }
+{
+    // A sign is no digit, though `parse` takes a plus.
+    if word.len() > MOST_DIGITS || word.starts_with('+') {
+        return None;
+    }
+    let place: u32 = word.parse().ok()?;
+    Some(place as usize)
 }

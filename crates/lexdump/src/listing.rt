@@ -1,95 +1,157 @@
 //! The listing of tokens: a line for each, with its start, its length, its kind and the fields of that.
-ghost use Rattle.std.specs.Prelude.{◌≡◌, IfOk, Some, string_bytes};
-ghost use Rattle.lexdump.specs.Listing.{base_text, fields_text, hashes_text, kind_name, line_text, listing, literal_text, style_text};
+ghost use Rattle.std.specs.Prelude.{◌≡◌, ◌++◌, IfOk, OnOk, Some, string_bytes};
+ghost use Rattle.lexdump.specs.Listing.{base_text, fields_text, hashes_text, line_text, listing, literal_text, place_text, shebang_line, style_text};
+ghost use Rattle.lexdump.specs.Rest.{IsRest};
+ghost use Rattle.lexdump.specs.Outcome.{edited_from, listed, IsPrinted};
 ghost use Rattle.rustc_lexer.specs.Classes.{Fits};
+ghost use Rattle.rustc_lexer.specs.Shebang.{shebang};
 ghost use Rattle.rustc_lexer.specs.Tokens.{tokens_of};
 
-use rustc_lexer::{Base, DocStyle, FrontmatterAllowed, LiteralKind, Token, TokenKind, tokenize};
+use crate::fault::Fault;
+use itoa::write_digits;
+use rustc_lexer::{
+    Base, DocStyle, Edit, FrontmatterAllowed, LexedText, LiteralKind, Stepper, Token, TokenKind,
+    strip_shebang, tokenize,
+};
 use std::alloc::{AllocError, Global};
 use std::fmt;
 use std::fmt::Write;
 
 /// The listing of the tokens of a text, which has at most `u32::MAX` bytes.
-pub fn list_tokens(alloc: Global, text: &str) -> Result<String, AllocError>
+pub fn list_tokens(
+    alloc: Global,
+    text: &str,
+    frontmatter_allowed: FrontmatterAllowed,
+) -> Result<String, AllocError>
     requires fits { Fits text.now }
-    ensures { IfOk result (λ listed. string_bytes listed ≡ listing (tokens_of FrontmatterAllowed.No text.now)) }
+    ensures { IfOk result (λ listed. string_bytes listed ≡ listing (tokens_of frontmatter_allowed text.now)) }
 {
     let mut listing = String::new(alloc);
     let mut start = 0;
-    for token in tokenize(text, FrontmatterAllowed::No) {
-        write!(listing, "{}", Line { start, token })?;
+    for token in tokenize(text, frontmatter_allowed) {
+        push_line(&mut listing, start, token)?;
         start += token.len;
     }
     Ok(listing)
 }
 
-/// The line of a token that begins at the byte `start`.
-#[derive(Clone, Copy)]
-pub struct Line {
-    pub start: u32,
-    pub token: Token,
-}
-
-impl fmt::Display for Line {
-    ghost output = { λ l. Some (line_text l.start l.token) };
-
-    #[tactic(auto, unfolding(crate::specs::Listing::line_text))]
-    fn fmt<W: fmt::Write>(&self, f: &mut fmt::Formatter<W>) -> fmt::Result {
-        write!(f, "{} {} ", self.start, self.token.len)?;
-        f.write_str(name(self.token.kind))?;
-        writeln!(f, "{}", Fields(self.token.kind))
+/// The line that tells the length of the shebang line of a text.
+pub fn shebang_length(alloc: Global, text: &str) -> Result<String, AllocError>
+    requires fits { Fits text.now }
+    ensures { IfOk result (λ line. string_bytes line ≡ shebang_line (shebang text.now)) }
+{
+    match strip_shebang(text) {
+        Some(length) => format!(in alloc; "{length}\n"),
+        None => String::from_str(alloc, "none\n"),
     }
 }
 
-/// The name of a kind.
-#[tactic(auto, unfolding(crate::specs::Listing::kind_name))]
-fn name(kind: TokenKind) -> &'static str
-    ensures { result.now ≡ kind_name kind }
+/// The listing of the tokens of a text after the edits.
+pub fn list_edited(alloc: Global, text: &str, edits: &[Edit<'_>]) -> Result<String, Fault>
+    requires { Fits text.now }
+    ensures { IsPrinted result (listed (edited_from 0 text.now edits.now)) }
+{
+    let mut lexed = LexedText::new(alloc, text)?;
+    lexed.edit_all(edits)?;
+    Ok(list_pieces(alloc, &lexed)?)
+}
+
+/// The listing of a text that is kept with its tokens.
+fn list_pieces<S: Stepper>(alloc: Global, lexed: &LexedText<S>) -> Result<String, AllocError>
+    ensures { IfOk result (λ listed. string_bytes listed ≡ listing lexed.now.tokens) }
+{
+    let mut listing = String::new(alloc);
+    for piece in lexed.pieces() {
+        push_line(&mut listing, piece.start, piece.token)?;
+    }
+    Ok(listing)
+}
+
+/// Adds the line of a token that begins at the byte `start`.
+#[tactic(auto, unfolding(crate::specs::Listing::line_text))]
+fn push_line(listing: &mut String, start: u32, token: Token) -> Result<(), AllocError>
+    ensures { OnOk result (string_bytes listing.new ≡ string_bytes listing.old ++ line_text start token) }
+{
+    push_place(listing, start, token.len)?;
+    match rest_of_line(token.kind) {
+        Rest::Line(line) => listing.push_str(line),
+        Rest::Name(name) => writeln!(listing, "{name}{}", Fields(token.kind)),
+    }
+}
+
+/// The most bytes of a start, a length and the space after each.
+const PLACE: usize = 22;
+
+/// Adds the start and the length of a token, and a space after each.
+fn push_place(listing: &mut String, start: u32, len: u32) -> Result<(), AllocError>
+    ensures { OnOk result (string_bytes listing.new ≡ string_bytes listing.old ++ place_text start len) }
+{
+    // Written from the last byte to the first.
+    let mut place = [b' '; PLACE];
+    let len_at = write_digits(u64::from(len), &mut place, PLACE - 1);
+    let start_at = write_digits(u64::from(start), &mut place, len_at - 1);
+    // Digits and spaces are UTF-8.
+    listing.push_str(unsafe { std::str::from_utf8_unchecked(&place[start_at..]) })
+}
+
+/// What stands in a line after the token's length.
+#[derive(Clone, Copy)]
+enum Rest {
+    /// The name of a kind that has no fields, and the end of the line.
+    Line(&'static str),
+    /// The name of a kind that has fields.
+    Name(&'static str),
+}
+
+/// What stands in the line of a kind after the token's length.
+#[tactic(auto, unfolding(crate::specs::Listing::kind_name, crate::specs::Listing::fields_text))]
+fn rest_of_line(kind: TokenKind) -> Rest
+    ensures { IsRest kind result }
 {
     match kind {
-        TokenKind::LineComment { .. } => "LineComment",
-        TokenKind::BlockComment { .. } => "BlockComment",
-        TokenKind::Whitespace => "Whitespace",
-        TokenKind::Frontmatter { .. } => "Frontmatter",
-        TokenKind::Ident => "Ident",
-        TokenKind::InvalidIdent => "InvalidIdent",
-        TokenKind::RawIdent => "RawIdent",
-        TokenKind::ForcedKeywordIdent => "ForcedKeywordIdent",
-        TokenKind::UnknownPrefix => "UnknownPrefix",
-        TokenKind::UnknownPrefixLifetime => "UnknownPrefixLifetime",
-        TokenKind::RawLifetime => "RawLifetime",
-        TokenKind::GuardedStrPrefix => "GuardedStrPrefix",
-        TokenKind::Literal { .. } => "Literal",
-        TokenKind::Lifetime { .. } => "Lifetime",
-        TokenKind::Semi => "Semi",
-        TokenKind::Comma => "Comma",
-        TokenKind::Dot => "Dot",
-        TokenKind::OpenParen => "OpenParen",
-        TokenKind::CloseParen => "CloseParen",
-        TokenKind::OpenBrace => "OpenBrace",
-        TokenKind::CloseBrace => "CloseBrace",
-        TokenKind::OpenBracket => "OpenBracket",
-        TokenKind::CloseBracket => "CloseBracket",
-        TokenKind::At => "At",
-        TokenKind::Pound => "Pound",
-        TokenKind::Tilde => "Tilde",
-        TokenKind::Question => "Question",
-        TokenKind::Colon => "Colon",
-        TokenKind::Dollar => "Dollar",
-        TokenKind::Eq => "Eq",
-        TokenKind::Bang => "Bang",
-        TokenKind::Lt => "Lt",
-        TokenKind::Gt => "Gt",
-        TokenKind::Minus => "Minus",
-        TokenKind::And => "And",
-        TokenKind::Or => "Or",
-        TokenKind::Plus => "Plus",
-        TokenKind::Star => "Star",
-        TokenKind::Slash => "Slash",
-        TokenKind::Caret => "Caret",
-        TokenKind::Percent => "Percent",
-        TokenKind::Unknown => "Unknown",
-        TokenKind::Eof => "Eof",
+        TokenKind::LineComment { .. } => Rest::Name("LineComment"),
+        TokenKind::BlockComment { .. } => Rest::Name("BlockComment"),
+        TokenKind::Frontmatter { .. } => Rest::Name("Frontmatter"),
+        TokenKind::Literal { .. } => Rest::Name("Literal"),
+        TokenKind::Lifetime { .. } => Rest::Name("Lifetime"),
+        TokenKind::Whitespace => Rest::Line("Whitespace\n"),
+        TokenKind::Ident => Rest::Line("Ident\n"),
+        TokenKind::InvalidIdent => Rest::Line("InvalidIdent\n"),
+        TokenKind::RawIdent => Rest::Line("RawIdent\n"),
+        TokenKind::ForcedKeywordIdent => Rest::Line("ForcedKeywordIdent\n"),
+        TokenKind::UnknownPrefix => Rest::Line("UnknownPrefix\n"),
+        TokenKind::UnknownPrefixLifetime => Rest::Line("UnknownPrefixLifetime\n"),
+        TokenKind::RawLifetime => Rest::Line("RawLifetime\n"),
+        TokenKind::GuardedStrPrefix => Rest::Line("GuardedStrPrefix\n"),
+        TokenKind::Semi => Rest::Line("Semi\n"),
+        TokenKind::Comma => Rest::Line("Comma\n"),
+        TokenKind::Dot => Rest::Line("Dot\n"),
+        TokenKind::OpenParen => Rest::Line("OpenParen\n"),
+        TokenKind::CloseParen => Rest::Line("CloseParen\n"),
+        TokenKind::OpenBrace => Rest::Line("OpenBrace\n"),
+        TokenKind::CloseBrace => Rest::Line("CloseBrace\n"),
+        TokenKind::OpenBracket => Rest::Line("OpenBracket\n"),
+        TokenKind::CloseBracket => Rest::Line("CloseBracket\n"),
+        TokenKind::At => Rest::Line("At\n"),
+        TokenKind::Pound => Rest::Line("Pound\n"),
+        TokenKind::Tilde => Rest::Line("Tilde\n"),
+        TokenKind::Question => Rest::Line("Question\n"),
+        TokenKind::Colon => Rest::Line("Colon\n"),
+        TokenKind::Dollar => Rest::Line("Dollar\n"),
+        TokenKind::Eq => Rest::Line("Eq\n"),
+        TokenKind::Bang => Rest::Line("Bang\n"),
+        TokenKind::Lt => Rest::Line("Lt\n"),
+        TokenKind::Gt => Rest::Line("Gt\n"),
+        TokenKind::Minus => Rest::Line("Minus\n"),
+        TokenKind::And => Rest::Line("And\n"),
+        TokenKind::Or => Rest::Line("Or\n"),
+        TokenKind::Plus => Rest::Line("Plus\n"),
+        TokenKind::Star => Rest::Line("Star\n"),
+        TokenKind::Slash => Rest::Line("Slash\n"),
+        TokenKind::Caret => Rest::Line("Caret\n"),
+        TokenKind::Percent => Rest::Line("Percent\n"),
+        TokenKind::Unknown => Rest::Line("Unknown\n"),
+        TokenKind::Eof => Rest::Line("Eof\n"),
     }
 }
 

@@ -1,13 +1,14 @@
 //! A whole run: from the bytes of a reader to the lines of a writer.
-ghost use Rattle.std.specs.Prelude.{◌≡◌, ◌≢◌, ◌↔◌, ◌^◌, ◌<◌, false, IsTrue, IsErrOf, IfErr, IfOk, IfSome, OnErr, OnOk, length, string_bytes};
+ghost use Rattle.std.specs.Prelude.{◌≡◌, ◌≢◌, ◌↔◌, ◌^◌, ◌<◌, false, IsTrue, IsErrOf, IfErr, IfOk, IfSome, OnErr, OnOk, length};
 ghost use Rattle.std.specs.Io.KnownBytes.{Appends, Keeps};
 ghost use Rattle.rustc_lexer.specs.Classes.{Fits};
-ghost use Rattle.lexdump.specs.Outcome.{outcome, printed, IsAnswer, AppendsFront, Writes, EndsReading, IsReadingFault};
+ghost use Rattle.lexdump.specs.Outcome.{outcome, printed, IsAnswer, IsPrinted, AppendsFront, Writes, EndsReading, IsReadingFault};
 
 use crate::fault::Fault;
 use crate::job::Job;
-use crate::listing::list_tokens;
+use crate::listing::{list_edited, list_tokens, shebang_length};
 use crate::watched::Watched;
+use rustc_lexer::FrontmatterAllowed;
 use std::alloc::Global;
 use std::io::{Read, Write};
 
@@ -16,7 +17,7 @@ use std::io::{Read, Write};
 /// Nothing is written before all of it is made: after every fault but `Fault::Write` the output is as it was.
 pub fn run<R: Read, W: Write>(
     alloc: Global,
-    job: &Job,
+    job: &Job<'_>,
     input: &mut Watched<R>,
     output: &mut Watched<W>,
 ) -> Result<(), Fault>
@@ -39,18 +40,20 @@ pub fn run<R: Read, W: Write>(
 }
 
 /// What the job prints of the text.
-fn print(alloc: Global, job: &Job, text: &str) -> Result<String, Fault>
-    requires fits { Fits text.now }
-    ensures printed { IfOk result (λ made. string_bytes made ≡ printed job.now text.now) }
-    ensures memory { IfErr result (λ fault. fault ≡ Fault.Memory) }
+fn print(alloc: Global, job: &Job<'_>, text: &str) -> Result<String, Fault>
+    requires { Fits text.now }
+    ensures { IsPrinted result (printed job.now text.now) }
 {
     match job {
-        Job::Plain => Ok(list_tokens(alloc, text)?),
+        Job::Plain => Ok(list_tokens(alloc, text, FrontmatterAllowed::No)?),
+        Job::Front => Ok(list_tokens(alloc, text, FrontmatterAllowed::Yes)?),
+        Job::Shebang => Ok(shebang_length(alloc, text)?),
+        Job::Edit { edits } => list_edited(alloc, text, edits.as_slice()),
     }
 }
 
 /// How many bytes a read asks for.
-const PIECE: usize = 4096;
+const PIECE: usize = 65536;
 
 /// All bytes up to the end of the input, of which there are at most `u32::MAX`.
 fn read_all<R: Read>(alloc: Global, input: &mut Watched<R>) -> Result<Vec<u8>, Fault>

@@ -1,5 +1,5 @@
 -- The two runs of an identifier: what it may go on with, and past an emoji all else.
-use Rattle.std.proofs.Common.{◌≡◌, ℕ, suc, ◌+◌, ◌&&◌, not, Bool, true, false, true≢false, if◌then◌else◌, List, [], ◌∷◌, take, drop, refl, sym, ap, ◌∙◌, arith, zero-add, codes}
+use Rattle.std.proofs.Common.{◌≡◌, ℕ, suc, ◌+◌, ◌&&◌, not, Bool, true, false, true≢false, if◌then◌else◌, List, [], ◌∷◌, take, drop, refl, sym, ap, ◌∙◌, arith, subst, zero-add, codes, ltb, lt-ltb}
 use Rattle.std.specs.List.{list_all}
 use Rattle.std.specs.Str.{chars, IsUtf8}
 use Rattle.rustc_lexer.specs.declared.token.TokenKind.{TokenKind}
@@ -8,15 +8,15 @@ use Rattle.rustc_lexer.specs.Classes.{is_id_start, is_id_continue}
 use Rattle.rustc_lexer.specs.Emoji.{is_emoji}
 use Rattle.rustc_lexer.specs.Ident.{is_word, is_prefix_mark, ident_kind, ident, invalid_ident, marks_ident}
 use Rattle.rustc_lexer.specs.Scan.{begins, next_is, past, run_len, scanned}
-use Rattle.rustc_lexer.proofs.PastLemmas.{chars-past, past-past}
+use Rattle.rustc_lexer.proofs.PastLemmas.{chars-past, past-past, past-two}
 
-abbrev len : List ℕ → ℕ
+abbrev pub len : List ℕ → ℕ
 len cs = run_len is_id_continue cs
 
-abbrev has_emoji : List ℕ → Bool
+abbrev pub has_emoji : List ℕ → Bool
 has_emoji cs = next_is is_emoji (drop (len cs) cs)
 
-word_runs : (cs : List ℕ) → run_len is_word cs ≡ len cs + run_len is_word (drop (len cs) cs)
+pub word_runs : (cs : List ℕ) → run_len is_word cs ≡ len cs + run_len is_word (drop (len cs) cs)
 word_runs [] = refl
 word_runs (c ∷ cs) = by_test (word_runs cs) (is_id_continue c) refl
   where
@@ -29,7 +29,7 @@ word_runs (c ∷ cs) = by_test (word_runs cs) (is_id_continue c) refl
         let none : len (c ∷ cs) ≡ 0 = rw e refl in
         sym (zero-add (run_len is_word (c ∷ cs))) ∙ ap (λ n. n + run_len is_word (drop n (c ∷ cs))) (sym none)
 
-word_all : (cs : List ℕ) → list_all is_id_continue (take (run_len is_word cs) cs) ≡ not (has_emoji cs)
+pub word_all : (cs : List ℕ) → list_all is_id_continue (take (run_len is_word cs) cs) ≡ not (has_emoji cs)
 word_all [] = refl
 word_all (c ∷ cs) = by_test (word_all cs) (is_id_continue c) (is_emoji c) refl refl
   where
@@ -47,6 +47,22 @@ word_all (c ∷ cs) = by_test (word_all cs) (is_id_continue c) (is_emoji c) refl
         let taken : run_len is_word (c ∷ cs) ≡ 0 = rw (e, f) refl in
         let none : len (c ∷ cs) ≡ 0 = rw e refl in
         ap (λ n. list_all is_id_continue (take n (c ∷ cs))) taken ∙ (ap not (sym f) ∙ ap (λ n. not (next_is is_emoji (drop n (c ∷ cs)))) (sym none))
+
+-- the run of a word goes on past what an identifier goes on with exactly where an emoji stands there
+pub word_more : (cs : List ℕ) → ltb 0 (run_len is_word (drop (len cs) cs)) ≡ has_emoji cs
+word_more [] = refl
+word_more (c ∷ cs) = by_test (word_more cs) (is_id_continue c) refl
+  where
+    by_test : ltb 0 (run_len is_word (drop (len cs) cs)) ≡ has_emoji cs → (b : Bool) → is_id_continue c ≡ b → ltb 0 (run_len is_word (drop (len (c ∷ cs)) (c ∷ cs))) ≡ has_emoji (c ∷ cs)
+    by_test ih true e = let more : len (c ∷ cs) ≡ suc (len cs) = rw e refl in subst (λ (n : ℕ). ltb 0 (run_len is_word (drop n (c ∷ cs))) ≡ next_is is_emoji (drop n (c ∷ cs))) (sym more) ih
+    by_test ih false e =
+        let none : len (c ∷ cs) ≡ 0 = rw e refl in
+        let first : run_len is_word (c ∷ cs) ≡ (if is_emoji c then suc (run_len is_word cs) else 0) = rw e refl in
+        subst (λ (n : ℕ). ltb 0 (run_len is_word (drop n (c ∷ cs))) ≡ next_is is_emoji (drop n (c ∷ cs))) (sym none) (ap (ltb 0) first ∙ by_emoji (is_emoji c))
+      where
+        by_emoji : (d : Bool) → ltb 0 (if d then suc (run_len is_word cs) else 0) ≡ d
+        by_emoji true = lt-ltb 0 (suc (run_len is_word cs)) (omega arith)
+        by_emoji false = refl
 
 word_none : (cs : List ℕ) → has_emoji cs ≡ false → run_len is_word cs ≡ len cs
 word_none [] h = refl
@@ -95,7 +111,7 @@ module _ (tail word : List ℕ) (is : IsUtf8 tail) (e : word ≡ past 1 tail) (h
 
   pub past-marked : (ident left : List ℕ) → ident ≡ past 1 word → left ≡ past (run_len is_id_continue (chars ident)) ident → left ≡ past (2 + run_len is_id_continue (drop 2 (chars tail))) tail
   past-marked ident left f g =
-      let two : ident ≡ past 2 tail = f ∙ (ap (past 1) e ∙ past-past 1 1 tail is) in
+      let two : ident ≡ past 2 tail = past-two tail word ident is e f in
       let n : ℕ = run_len is_id_continue (chars ident) in
       let same : n ≡ run_len is_id_continue (drop 2 (chars tail)) = ap (run_len is_id_continue) (ap chars two ∙ chars-past 2 tail is) in
       g ∙ (ap (past n) two ∙ (past-past n 2 tail is ∙ ap (λ m. past (2 + m) tail) same))

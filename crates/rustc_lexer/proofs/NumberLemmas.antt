@@ -1,5 +1,5 @@
 -- Numbers, as the code reads them.
-use Rattle.std.proofs.Common.{◌≡◌, ◌≢◌, ℕ, ◌+◌, ◌-◌, ◌≤◌, ◌==◌, ◌&&◌, not, Bool, true, false, if◌then◌else◌, List, [], ◌∷◌, length, take, drop, get_or, refl, sym, ap, ◌∙◌, zero-add, eq-eqb, arith, codes}
+use Rattle.std.proofs.Common.{◌≡◌, ◌≢◌, ℕ, ◌+◌, ◌==◌, ◌&&◌, not, Bool, true, false, if◌then◌else◌, List, [], ◌∷◌, take, drop, get_or, refl, sym, ap, ◌∙◌, zero-add, eq-eqb, arith, codes}
 use Rattle.std.specs.List.{list_any}
 use Rattle.std.specs.Str.{chars, IsUtf8}
 use Rattle.std.proofs.lemmas.Bool.{eqb-true, ne_eqb}
@@ -8,28 +8,10 @@ use Rattle.rustc_lexer.specs.declared.token.Base.{Base}
 use Rattle.rustc_lexer.specs.declared.token.Base.TheVariants.{Decimal}
 use Rattle.rustc_lexer.specs.declared.token.LiteralKind.{LiteralKind}
 use Rattle.rustc_lexer.specs.declared.token.LiteralKind.TheVariants.{Int}
-use Rattle.rustc_lexer.specs.declared.token.TokenKind.TheVariants.{Literal}
-use Rattle.rustc_lexer.specs.Literal.{suffix_len, literal}
-use Rattle.rustc_lexer.specs.Number.{read_as, is_underscore, or_underscore, digits, Front, front_of, binary, octal, hexadecimal, decimal, front_past_zero, is_exponent_letter, past_letter, fraction, is_no_fraction, begins_fraction, past_digits, front, tail, number_kind, with_suffix}
-use Rattle.rustc_lexer.specs.Scan.{after, and_then, begins, bytes_of, gives, next_is, past, run_len, scanned}
-use Rattle.rustc_lexer.proofs.PastLemmas.{IsUtf8-past, chars-past, length-past, past-past}
-use Rattle.rustc_lexer.proofs.ScanLemmas.{next_is-cons, next_is-nil, scanned-after, scanned-gives, scanned-same, scanned-yes, scanned-no}
-
--- one scanner, then the next on what it left
-pub scanned-and_then : {A B : Type 0} (scan : List ℕ → A × ℕ) (next : A → List ℕ → B × ℕ) (text rest : List ℕ) (a : A) → IsUtf8 text → (a, rest) ≡ scanned scan text
-    → scanned (and_then scan next) text ≡ scanned (next a) rest
-scanned-and_then {A} {B} scan next text rest a is e =
-    scanned-after (scan (chars text)).1 (next (scan (chars text)).0) text rest is (ap (λ (r : A × List ℕ). r.1) e)
-    ∙ ap (λ (x : A). scanned (next x) rest) (sym (ap (λ (r : A × List ℕ). r.0) e))
-
-pub scanned-read_as : {A B : Type 0} (f : A → B) (scan : List ℕ → A × ℕ) (text rest : List ℕ) (a : A) → (a, rest) ≡ scanned scan text → (f a, rest) ≡ scanned (read_as f scan) text
-scanned-read_as {A} f scan text rest a e = ap (λ (r : A × List ℕ). (f r.0, r.1)) e
-
--- what is left is no longer than the text
-pub scanned-shorter : {A : Type 0} (scan : List ℕ → A × ℕ) (text rest : List ℕ) (a : A) → IsUtf8 text → (a, rest) ≡ scanned scan text → length rest ≤ length text
-scanned-shorter {A} scan text rest a is e =
-    let left : rest ≡ past (scan (chars text)).1 text = ap (λ (r : A × List ℕ). r.1) e in
-    omega (arith, ap length left, length-past (scan (chars text)).1 text is)
+use Rattle.rustc_lexer.specs.Number.{is_underscore, or_underscore, digits, Front, front_of, binary, octal, hexadecimal, decimal, front_past_zero, is_exponent_letter, past_letter, fraction, is_no_fraction, begins_fraction, past_digits, front, tail, number_kind}
+use Rattle.rustc_lexer.specs.Scan.{after, begins, gives, next_is, past, run_len, scanned}
+use Rattle.rustc_lexer.proofs.PastLemmas.{IsUtf8-past, chars-past, past-past}
+use Rattle.rustc_lexer.proofs.ScanLemmas.{scanned-and_then, next_is-cons, next_is-nil, scanned-after, scanned-gives, scanned-same, scanned-yes, scanned-no}
 
 -- whether the next character is in a class that U+0000 is not in, which the code sees at the end
 pub next_is-first : (p : ℕ → Bool) (s : List ℕ) → p 0 ≡ false → next_is p s ≡ p (get_or s 0 0)
@@ -179,18 +161,3 @@ module _ (is_digit : ℕ → Bool) (none : is_digit 95 ≡ false) where
       let left : rest ≡ past (run_len (or_underscore is_digit) (chars text)) text =
       g ∙ (ap (past (run_len (or_underscore is_digit) (chars middle))) e ∙ (past-past (run_len (or_underscore is_digit) (chars middle)) n text is ∙ ap (λ m. past m text) len)) in
       ap (λ (b : Bool). (b, rest)) some_is ∙ ap (λ xs. (list_any is_digit (take (run_len (or_underscore is_digit) (chars text)) (chars text)), xs)) left
-
--- the token of a number with its suffix
-pub suffixed-is : (scan : List ℕ → LiteralKind × ℕ) (tail rest left : List ℕ) (kind : LiteralKind) → IsUtf8 tail → (kind, rest) ≡ scanned scan tail → left ≡ past (suffix_len (chars rest)) rest
-    → (Literal kind (1 + (length tail - length rest)), left) ≡ scanned (literal (read_as with_suffix scan)) tail
-suffixed-is scan tail rest left kind is e f =
-    let n : ℕ = (scan (chars tail)).1 in
-    let rest_is : rest ≡ past n tail = ap (λ (r : LiteralKind × List ℕ). r.1) e in
-    let kind_is : kind ≡ (scan (chars tail)).0 = ap (λ (r : LiteralKind × List ℕ). r.0) e in
-    let cs : chars rest ≡ drop n (chars tail) = ap chars rest_is ∙ chars-past n tail is in
-    let left_is : left ≡ past (n + suffix_len (drop n (chars tail))) tail =
-    f ∙ (ap (past (suffix_len (chars rest))) rest_is ∙ (past-past (suffix_len (chars rest)) n tail is ∙ ap (λ xs. past (n + suffix_len xs) tail) cs)) in
-    let bytes : length tail - length rest ≡ bytes_of n (chars tail) = omega (arith, ap length rest_is, length-past n tail is) in
-    ap (λ (k : LiteralKind). (Literal k (1 + (length tail - length rest)), left)) kind_is
-    ∙ (ap (λ (b : ℕ). (Literal (scan (chars tail)).0 (1 + b), left)) bytes
-    ∙ ap (λ xs. (Literal (scan (chars tail)).0 (1 + bytes_of n (chars tail)), xs)) left_is)

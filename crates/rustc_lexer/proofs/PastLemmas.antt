@@ -18,9 +18,15 @@ pub past-past : (m n : ℕ) (text : List ℕ) → IsUtf8 text → past m (past n
 unfolding past
 past-past m n text is = ap (λ cs. encode_utf8_all (drop m cs)) (chars-past n text is) ∙ ap encode_utf8_all (drop-drop m n (chars text))
 
+pub past-two : (text tail rest : List ℕ) → IsUtf8 text → tail ≡ past 1 text → rest ≡ past 1 tail → rest ≡ past 2 text
+past-two text tail rest is e f = f ∙ (ap (past 1) e ∙ past-past 1 1 text is)
+
 pub IsUtf8-past : (n : ℕ) (text : List ℕ) → IsUtf8 text → IsUtf8 (past n text)
 unfolding past
 IsUtf8-past n text is = (drop n (chars text), (scalars-drop n (chars text) (scalars-chars text is), refl))
+
+pub IsUtf8-cut : (n : ℕ) (text rest : List ℕ) → IsUtf8 text → rest ≡ past n text → IsUtf8 rest
+IsUtf8-cut n text rest is cut = rw cut (IsUtf8-past n text is)
 
 -- a text is its first characters and what is past them
 pub split_past : (n : ℕ) (text : List ℕ) → IsUtf8 text → text ≡ encode_utf8_all (take n (chars text)) ++ past n text

@@ -1,19 +1,43 @@
 -- The loop over a quoted text.
-use Rattle.std.proofs.Common.{◌≡◌, ◌≢◌, ℕ, suc, ◌+◌, ◌≤◌, ◌==◌, ◌&&◌, not, Bool, true, false, if◌then◌else◌, List, [], ◌∷◌, length, drop, refl, sym, ap, ◌∙◌, arith, ◌<◌, eq-eqb, Option, Some, None, MatchOption, Bor}
+use Rattle.std.proofs.Common.{◌≡◌, ◌≢◌, ℕ, suc, ◌+◌, ◌==◌, ◌&&◌, not, Bool, true, false, if◌then◌else◌, List, [], ◌∷◌, length, take, drop, refl, sym, ap, ◌∙◌, arith, ◌<◌, subst, eq-eqb, Option, Some, None, MatchOption, Bor}
 use Rattle.std.specs.Str.{chars, IsUtf8}
 use Rattle.std.proofs.lemmas.Bool.{ne_eqb}
-use Rattle.rustc_lexer.specs.Scan.{begins, past, scanned}
-use Rattle.rustc_lexer.specs.Least.{one_more}
-use Rattle.rustc_lexer.specs.Quoted.{is_backslash, stopped, quoted, at_single_stop, is_lone, single_quoted}
-use Rattle.rustc_lexer.specs.QuotedLaws.{seek, free_place-seek}
-use Rattle.rustc_lexer.proofs.PastLemmas.{past-zero, past-past, IsUtf8-past, length-past}
+use Rattle.rustc_lexer.specs.Scan.{begins, past, run_len, scanned}
+use mathlib.Core.List.{reverse_aux}
+use Rattle.rustc_lexer.specs.Least.{one_more, least}
+use Rattle.rustc_lexer.specs.Quoted.{is_backslash, is_odd, free_place, stopped, quoted, at_single_stop, is_lone, single_quoted}
+use Rattle.rustc_lexer.proofs.ScanLemmas.{run_len-stop}
+use Rattle.rustc_lexer.proofs.PastLemmas.{past-zero, past-past, past-two, chars-past, IsUtf8-past}
 
--- a text is no longer past what is read of it
-pub left-shorter : {A : Type 0} (scan : List ℕ → A × ℕ) (text rest : List ℕ) (a : A) → IsUtf8 text → (a, rest) ≡ scanned scan text → length rest ≤ length text
-left-shorter {A} scan text rest a is e =
-    let n : ℕ = (scan (chars text)).1 in
-    let left : length rest ≡ length (past n text) = ap (λ (r : A × List ℕ). length r.1) e in
-    omega (arith, length-past n text is)
+-- one pass finds the place that is sought, which knows whether the next character is escaped
+abbrev pub seek : (List ℕ → Bool) → List ℕ → Bool → Option ℕ
+seek test [] escaped = None
+seek test (c ∷ cs) escaped = if not escaped && test (c ∷ cs) then Some 0 else one_more (seek test cs (if escaped then false else is_backslash c))
+
+-- the characters before, the last first, leave the next one escaped
+abbrev escapes : List ℕ → Bool
+escapes before = is_odd (run_len is_backslash before)
+
+escapes-cons : (c : ℕ) (before : List ℕ) → escapes (c ∷ before) ≡ (if escapes before then false else is_backslash c)
+escapes-cons c before = by_test (is_backslash c) (escapes before) refl refl
+  where
+    by_test : (b d : Bool) → is_backslash c ≡ b → escapes before ≡ d → escapes (c ∷ before) ≡ (if escapes before then false else is_backslash c)
+    by_test true true e f = rw (e, f) refl
+    by_test true false e f = rw (e, f) refl
+    by_test false true e f = rw (e, f) refl
+    by_test false false e f = rw (e, f) refl
+
+seek-least : (test : List ℕ → Bool) (s before : List ℕ) → least (λ place. not (escapes (reverse_aux (take place s) before)) && test (drop place s)) (length s) ≡ seek test s (escapes before)
+seek-least test [] before = refl
+seek-least test (c ∷ cs) before =
+    ap (λ o. if not (escapes before) && test (c ∷ cs) then Some 0 else one_more o) (seek-least test cs (c ∷ before) ∙ ap (seek test cs) (escapes-cons c before))
+
+pub free_place-seek : (test : List ℕ → Bool) (s : List ℕ) → free_place test s ≡ seek test s false
+free_place-seek test s = seek-least test s []
+
+-- what follows the run of a class begins with no character of it
+pub run_fails : (p : ℕ → Bool) (text left s : List ℕ) (c : ℕ) → IsUtf8 text → left ≡ past (run_len p (chars text)) text → chars left ≡ c ∷ s → p c ≡ false
+run_fails p text left s c is e reads = run_len-stop p (chars text) c s (sym (ap chars e ∙ chars-past (run_len p (chars text)) text is) ∙ reads)
 
 module _ (quote : ℕ) (test : List ℕ → Bool) where
   -- where the place of the stop is known: whether the text is closed, and what is left of it
@@ -73,6 +97,23 @@ module _ (quote : ℕ) (test : List ℕ → Bool) where
         let open_here : stopped quote (Some 0) (c ∷ chars tail) ≡ (false, 0) = rw q refl in
         ap (λ xs. (false, xs)) (sym (past-zero rest at.utf8)) ∙ (ap (λ (p : Bool × ℕ). (p.0, past p.1 rest)) (sym open_here) ∙ leaves-is (Some 0) here)
 
+  -- characters that neither stop it nor are backslashes
+  pub seek-run : (plain : ℕ → Bool) → ((c : ℕ) (s : List ℕ) → plain c ≡ true → test (c ∷ s) ≡ false) → ((c : ℕ) → plain c ≡ true → is_backslash c ≡ false)
+      → (text rest : List ℕ) (cs : List ℕ) → chars rest ≡ cs → Seeking text rest false → Seeking text (past (run_len plain cs) rest) false
+  seek-run plain goes straight text rest [] reads at = subst (λ xs. Seeking text xs false) (sym (past-zero rest at.utf8)) at
+  seek-run plain goes straight text rest (c ∷ cs) reads at = by_test (seek-run plain goes straight text (past 1 rest) cs) (plain c) refl
+    where
+      by_test : (chars (past 1 rest) ≡ cs → Seeking text (past 1 rest) false → Seeking text (past (run_len plain cs) (past 1 rest)) false) → (t : Bool) → plain c ≡ t → Seeking text (past (run_len plain (c ∷ cs)) rest) false
+      by_test ih true e =
+          let left : chars (past 1 rest) ≡ cs = chars-past 1 rest at.utf8 ∙ ap (drop 1) reads in
+          let here : chars rest ≡ c ∷ chars (past 1 rest) = reads ∙ ap (λ xs. c ∷ xs) (sym left) in
+          let next : Seeking text (past 1 rest) false = seek-on text rest (past 1 rest) false c at here refl false (goes c (chars (past 1 rest)) e) (straight c e) in
+          let more : 1 + run_len plain cs ≡ run_len plain (c ∷ cs) = rw e (omega arith) in
+          subst (λ xs. Seeking text xs false) (past-past (run_len plain cs) 1 rest at.utf8 ∙ ap (λ n. past n rest) more) (ih left next)
+      by_test ih false e =
+          let none : run_len plain (c ∷ cs) ≡ 0 = rw e refl in
+          subst (λ xs. Seeking text xs false) (sym (ap (λ n. past n rest) none ∙ past-zero rest at.utf8)) at
+
   pub seek-end : (text rest : List ℕ) (escaped : Bool) → Seeking text rest escaped → chars rest ≡ [] → (false, rest) ≡ scanned (quoted quote test) text
   seek-end text rest escaped at none =
       ap (λ xs. (false, xs)) (sym (past-zero rest at.utf8))
@@ -114,10 +155,7 @@ module _ (text tail : List ℕ) (c : ℕ) (is : IsUtf8 text) (reads : chars text
   pub lone-is : (b : Bool) → c ≢ 92 → begins (39 ∷ []) (chars tail) ≡ b → is_lone (chars text) ≡ b
   lone-is b ne q = rw (reads, ne_eqb c 92 ne) q
 
-  pub past-two : (rest : List ℕ) → rest ≡ past 1 tail → rest ≡ past 2 text
-  past-two rest e = e ∙ (ap (past 1) cut ∙ past-past 1 1 text is)
-
   pub lone-found : c ≢ 92 → (o : Option (Bor (List ℕ))) → MatchOption o (begins (39 ∷ []) (chars tail) ≡ false) (λ t. (begins (39 ∷ []) (chars tail) ≡ true) × (t.now ≡ past 1 tail) × (length t.now < length tail))
       → MatchOption o (is_lone (chars text) ≡ false) (λ t. (is_lone (chars text) ≡ true) × (t.now ≡ past 2 text))
   lone-found ne None h = lone-is false ne h
-  lone-found ne (Some t) h = (lone-is true ne h.0, past-two t.now h.1)
+  lone-found ne (Some t) h = (lone-is true ne h.0, past-two text tail t.now is cut h.1)

@@ -6,48 +6,47 @@ use Rattle.std.proofs.lemmas.Bool.{eqb-true, eq-eqb, ne_eqb, le-leb, lt-leb, not
 use Rattle.std.proofs.lemmas.Str.{encode_ascii, IsCharBoundary-from_drop}
 use Rattle.rustc_lexer.specs.declared.token.RawStrError.{RawStrError}
 use Rattle.rustc_lexer.specs.declared.token.RawStrError.TheVariants.{NoTerminator}
-use Rattle.rustc_lexer.specs.Least.{one_more}
-use Rattle.rustc_lexer.specs.Raw.{least_place, is_hash, is_quote, is_no_quote, hashes, closes, close, quote_hashes, most_hashes, quote_with, quote_end, end_with, counted, raw_closed, raw_text}
-use Rattle.rustc_lexer.specs.RawLaws.{place-here, place-on}
+use Rattle.rustc_lexer.specs.Least.{one_more, more}
+use Rattle.rustc_lexer.specs.Raw.{least_place, is_hash, is_quote, is_no_quote, hashes, closes, close, quote_hashes, most_hashes, quote_with, quote_if, best_quote, quote_end, counted, raw_closed, raw_text}
 use Rattle.rustc_lexer.specs.Scan.{begins, bytes_of, past, run_len, scanned}
 use Rattle.rustc_lexer.proofs.CharSteps.{bytes_of-suc}
+use Rattle.rustc_lexer.proofs.ScanLemmas.{run_len-stop, more-more}
 use Rattle.rustc_lexer.proofs.PastLemmas.{past-zero, past-past, past-drop, chars-past, IsUtf8-past, length-past}
 
--- a place that is found k characters further on
-abbrev pub further : ℕ → Option ℕ → Option ℕ
-further k None = None
-further k (Some n) = Some (k + n)
+-- the place where a test passes
+module _ (test : List ℕ → Bool) where
+  pub place-here : (c : ℕ) (s : List ℕ) → test (c ∷ s) ≡ true → least_place test (c ∷ s) ≡ Some 0
+  place-here c s e = rw e refl
 
-further-zero : (o : Option ℕ) → o ≡ further 0 o
-further-zero None = refl
-further-zero (Some n) = ap Some (omega arith)
+  pub place-on : (c : ℕ) (s : List ℕ) → test (c ∷ s) ≡ false → least_place test (c ∷ s) ≡ one_more (least_place test s)
+  place-on c s e = rw e refl
 
-one_more-further : (k : ℕ) (o : Option ℕ) → one_more (further k o) ≡ further (suc k) o
-one_more-further k None = refl
-one_more-further k (Some n) = ap Some (omega arith)
+pub more-zero : (o : Option ℕ) → o ≡ more 0 o
+more-zero None = refl
+more-zero (Some n) = ap Some (omega arith)
+
+pub one_more-more : (k : ℕ) (o : Option ℕ) → one_more (more k o) ≡ more (suc k) o
+one_more-more k None = refl
+one_more-more k (Some n) = ap Some (omega arith)
 
 -- past k characters, a quote, and h characters
-further-quote : (k h : ℕ) (o : Option ℕ) → further k (one_more (further h o)) ≡ further (suc k + h) o
-further-quote k h None = refl
-further-quote k h (Some n) = ap Some (omega arith)
-
-pub further-further : (j k : ℕ) (o : Option ℕ) → further j (further k o) ≡ further (j + k) o
-further-further j k None = refl
-further-further j k (Some n) = ap Some (omega arith)
+more-quote : (k h : ℕ) (o : Option ℕ) → more k (one_more (more h o)) ≡ more (suc k + h) o
+more-quote k h None = refl
+more-quote k h (Some n) = ap Some (omega arith)
 
 -- the characters of a class without quotes are passed over
 module _ (p : ℕ → Bool) (none : (c : ℕ) → p c ≡ true → is_quote c ≡ false) where
-  skip-place : (test : List ℕ → Bool) → ((c : ℕ) (s : List ℕ) → is_quote c ≡ false → test (c ∷ s) ≡ false) → (s : List ℕ) → least_place test s ≡ further (run_len p s) (least_place test (drop (run_len p s) s))
+  skip-place : (test : List ℕ → Bool) → ((c : ℕ) (s : List ℕ) → is_quote c ≡ false → test (c ∷ s) ≡ false) → (s : List ℕ) → least_place test s ≡ more (run_len p s) (least_place test (drop (run_len p s) s))
   skip-place test fails [] = refl
   skip-place test fails (c ∷ s) = by_class (skip-place test fails s) (p c) refl
     where
-      by_class : least_place test s ≡ further (run_len p s) (least_place test (drop (run_len p s) s)) → (b : Bool) → p c ≡ b
-          → least_place test (c ∷ s) ≡ further (run_len p (c ∷ s)) (least_place test (drop (run_len p (c ∷ s)) (c ∷ s)))
+      by_class : least_place test s ≡ more (run_len p s) (least_place test (drop (run_len p s) s)) → (b : Bool) → p c ≡ b
+          → least_place test (c ∷ s) ≡ more (run_len p (c ∷ s)) (least_place test (drop (run_len p (c ∷ s)) (c ∷ s)))
       by_class ih true e =
           let n : ℕ = run_len p s in
           place-on test c s (fails c s (none c e)) ∙ (ap one_more ih
-          ∙ (one_more-further n (least_place test (drop n s)) ∙ ap (λ (b : Bool). let m : ℕ = if b then suc n else 0 in further m (least_place test (drop m (c ∷ s)))) (sym e)))
-      by_class ih false e = further-zero (least_place test (c ∷ s)) ∙ ap (λ (b : Bool). let m : ℕ = if b then suc (run_len p s) else 0 in further m (least_place test (drop m (c ∷ s)))) (sym e)
+          ∙ (one_more-more n (least_place test (drop n s)) ∙ ap (λ (b : Bool). let m : ℕ = if b then suc n else 0 in more m (least_place test (drop m (c ∷ s)))) (sym e)))
+      by_class ih false e = more-zero (least_place test (c ∷ s)) ∙ ap (λ (b : Bool). let m : ℕ = if b then suc (run_len p s) else 0 in more m (least_place test (drop m (c ∷ s)))) (sym e)
 
   skip-most : (s : List ℕ) → most_hashes s ≡ most_hashes (drop (run_len p s) s)
   skip-most [] = refl
@@ -70,18 +69,6 @@ other-no_quote c e = by_test (is_quote c) e
     by_test : (b : Bool) → not b ≡ true → b ≡ false
     by_test true e = sym e
     by_test false e = refl
-
--- a run ends before a character outside its class
-pub run_len-stop : (p : ℕ → Bool) (s : List ℕ) (c : ℕ) (u : List ℕ) → drop (run_len p s) s ≡ c ∷ u → p c ≡ false
-run_len-stop p [] c u e = absurd (cc)
-run_len-stop p (d ∷ s) c u e = by_class (λ f. run_len-stop p s c u f) (p d) refl
-  where
-    by_class : (drop (run_len p s) s ≡ c ∷ u → p c ≡ false) → (b : Bool) → p d ≡ b → p c ≡ false
-    by_class ih true f = ih (ap (λ (b : Bool). drop (if b then suc (run_len p s) else 0) (d ∷ s)) (sym f) ∙ e)
-    by_class ih false f =
-        let same : d ∷ s ≡ c ∷ u = ap (λ (b : Bool). drop (if b then suc (run_len p s) else 0) (d ∷ s)) (sym f) ∙ e in
-        let head : d ≡ c = cc in
-        ap p (sym head) ∙ f
 
 -- what follows the first quote, once what follows the characters before it is known
 pub past_quote-is : {B : Type 0} (now : B → List ℕ) (rest mid : List ℕ) (o : Option B) → IsUtf8 rest → mid ≡ past (run_len is_no_quote (chars rest)) rest → length mid ≤ length rest
@@ -111,17 +98,17 @@ past_quote-is now rest mid (Some tail) is e le h =
 module _ (v w : List ℕ) (at_quote : drop (run_len is_no_quote v) v ≡ 34 ∷ w) where
   -- a test that fails at each other character
   module _ (test : List ℕ → Bool) (fails : (c : ℕ) (s : List ℕ) → is_quote c ≡ false → test (c ∷ s) ≡ false) where
-    to-quote : least_place test v ≡ further (run_len is_no_quote v) (least_place test (34 ∷ w))
-    to-quote = skip-place is_no_quote other-no_quote test fails v ∙ ap (λ s. further (run_len is_no_quote v) (least_place test s)) at_quote
+    to-quote : least_place test v ≡ more (run_len is_no_quote v) (least_place test (34 ∷ w))
+    to-quote = skip-place is_no_quote other-no_quote test fails v ∙ ap (λ s. more (run_len is_no_quote v) (least_place test s)) at_quote
 
     pub place-at : test (34 ∷ w) ≡ true → least_place test v ≡ Some (run_len is_no_quote v)
-    place-at e = to-quote ∙ (ap (further (run_len is_no_quote v)) (place-here test 34 w e) ∙ ap Some (omega arith))
+    place-at e = to-quote ∙ (ap (more (run_len is_no_quote v)) (place-here test 34 w e) ∙ ap Some (omega arith))
 
-    pub place-past : test (34 ∷ w) ≡ false → least_place test v ≡ further (suc (run_len is_no_quote v) + hashes w) (least_place test (drop (hashes w) w))
+    pub place-past : test (34 ∷ w) ≡ false → least_place test v ≡ more (suc (run_len is_no_quote v) + hashes w) (least_place test (drop (hashes w) w))
     place-past e =
         to-quote
-        ∙ (ap (further (run_len is_no_quote v)) (place-on test 34 w e ∙ ap one_more (skip-place is_hash hash-no_quote test fails w))
-        ∙ further-quote (run_len is_no_quote v) (hashes w) (least_place test (drop (hashes w) w)))
+        ∙ (ap (more (run_len is_no_quote v)) (place-on test 34 w e ∙ ap one_more (skip-place is_hash hash-no_quote test fails w))
+        ∙ more-quote (run_len is_no_quote v) (hashes w) (least_place test (drop (hashes w) w)))
 
   pub most-past : most_hashes v ≡ max (hashes w) (most_hashes (drop (hashes w) w))
   most-past = skip-most is_no_quote other-no_quote v ∙ (ap most_hashes at_quote ∙ ap (max (hashes w)) (skip-most is_hash hash-no_quote w))
@@ -137,19 +124,19 @@ pub record Searching (n before : ℕ) (text left : List ℕ) (found : ℕ) (end 
   pub taken : ℕ
   pub inside : length left ≤ length text
   pub place : left ≡ past taken text
-  pub closes_at : close n (chars text) ≡ further taken (close n (chars left))
+  pub closes_at : close n (chars text) ≡ more taken (close n (chars left))
   pub most : most_hashes (chars text) ≡ max found (most_hashes (chars left))
-  pub more : (m : ℕ) → found < m → quote_with m (chars text) ≡ further taken (quote_with m (chars left))
-  pub ends : end ≡ end_with found before (chars text)
+  pub more : (m : ℕ) → found < m → quote_with m (chars text) ≡ more taken (quote_with m (chars left))
+  pub ends : end ≡ quote_end before (chars text) (quote_if found (chars text))
 
 pub search_start : (n before : ℕ) (text : List ℕ) → IsUtf8 text → Searching n before text text 0 None
 search_start n before text is = record {
   taken = 0;
   inside = omega arith;
   place = sym (past-zero text is);
-  closes_at = further-zero (close n (chars text));
+  closes_at = more-zero (close n (chars text));
   most = omega arith;
-  more = λ m less. further-zero (quote_with m (chars text));
+  more = λ m less. more-zero (quote_with m (chars text));
   ends = refl;
 }
 
@@ -196,21 +183,21 @@ module _ (n before : ℕ) (text left tail next : List ℕ) (found : ℕ) (end : 
       let same : (at.taken + suc k) + h ≡ at.taken + (suc k + h) = omega arith in
       next_is ∙ (ap (past h) tail_at ∙ (past-past h (at.taken + suc k) text is ∙ ap (λ (m : ℕ). past m text) same))
 
-  place_on : (test : List ℕ → Bool) → ((c : ℕ) (s : List ℕ) → is_quote c ≡ false → test (c ∷ s) ≡ false) → test (34 ∷ chars tail) ≡ false → least_place test (chars text) ≡ further at.taken (least_place test (chars left))
-      → least_place test (chars text) ≡ further (at.taken + (suc (run_len is_no_quote (chars left)) + hashes (chars tail))) (least_place test (chars next))
+  place_on : (test : List ℕ → Bool) → ((c : ℕ) (s : List ℕ) → is_quote c ≡ false → test (c ∷ s) ≡ false) → test (34 ∷ chars tail) ≡ false → least_place test (chars text) ≡ more at.taken (least_place test (chars left))
+      → least_place test (chars text) ≡ more (at.taken + (suc (run_len is_no_quote (chars left)) + hashes (chars tail))) (least_place test (chars next))
   place_on test fails e f =
       let d : ℕ = suc (run_len is_no_quote (chars left)) + hashes (chars tail) in
       f
-      ∙ (ap (further at.taken) (place-past (chars left) (chars tail) quote test fails e)
-      ∙ (further-further at.taken d (least_place test (drop (hashes (chars tail)) (chars tail)))
-      ∙ ap (λ s. further (at.taken + d) (least_place test s)) (sym next_reads)))
+      ∙ (ap (more at.taken) (place-past (chars left) (chars tail) quote test fails e)
+      ∙ (more-more at.taken d (least_place test (drop (hashes (chars tail)) (chars tail)))
+      ∙ ap (λ s. more (at.taken + d) (least_place test s)) (sym next_reads)))
 
   most_on : most_hashes (chars text) ≡ max found (max (hashes (chars tail)) (most_hashes (chars next)))
   most_on = at.most ∙ ap (max found) (most-past (chars left) (chars tail) quote ∙ ap (λ s. max (hashes (chars tail)) (most_hashes s)) (sym next_reads))
 
   -- the quote has too few hashes to close
   module _ (few : length tail - length next < n) (shorter : length next ≤ length text) where
-    on : (to : ℕ) (o : Option ℕ) → found ≤ to → hashes (chars tail) ≤ to → max found (hashes (chars tail)) ≡ to → o ≡ end_with to before (chars text) → Searching n before text next to o
+    on : (to : ℕ) (o : Option ℕ) → found ≤ to → hashes (chars tail) ≤ to → max found (hashes (chars tail)) ≡ to → o ≡ quote_end before (chars text) (quote_if to (chars text)) → Searching n before text next to o
     on to o above here most e =
         let h : ℕ = hashes (chars tail) in
         let is_count = count in
@@ -234,13 +221,13 @@ module _ (n before : ℕ) (text left tail next : List ℕ) (found : ℕ) (end : 
         let is_count = count in
         let some : (h == 0) ≡ false = ne_eqb h 0 (λ f. omega arith) in
         let first : quote_with h (chars text) ≡ Some (at.taken + k) =
-        at.more h (omega arith) ∙ ap (further at.taken) (place-at (chars left) (chars tail) quote (λ s. quote_hashes s == h) (λ c s f. counts-fails h c s (omega arith) f) (eq-eqb h h refl)) in
+        at.more h (omega arith) ∙ ap (more at.taken) (place-at (chars left) (chars tail) quote (λ s. quote_hashes s == h) (λ c s f. counts-fails h c s (omega arith) f) (eq-eqb h h refl)) in
         let same : suc (at.taken + k) ≡ at.taken + suc k = omega arith in
         let bytes : bytes_of (at.taken + suc k) (chars text) + length tail ≡ length text = ap (λ (xs : List ℕ). bytes_of (at.taken + suc k) (chars text) + length xs) tail_at ∙ length-past (at.taken + suc k) text is in
-        let ends : Some (before + (length text - length tail)) ≡ end_with h before (chars text) =
+        let ends : Some (before + (length text - length tail)) ≡ quote_end before (chars text) (quote_if h (chars text)) =
         ap (λ (m : ℕ). Some (before + m)) (let m : length text - length tail ≡ bytes_of (at.taken + suc k) (chars text) = omega arith in m)
         ∙ (ap (λ (m : ℕ). Some (before + bytes_of m (chars text))) (sym same)
-        ∙ (ap (quote_end before (chars text)) (sym first) ∙ ap (λ (b : Bool). if b then None else quote_end before (chars text) (quote_with h (chars text))) (sym some))) in
+        ∙ ap (quote_end before (chars text)) (sym first ∙ ap (λ (b : Bool). if b then None else quote_with h (chars text)) (sym some))) in
         subst (λ (m : ℕ). Searching n before text next m (Some (before + (length text - length tail)))) (sym count) (on h (Some (before + (length text - length tail))) (omega arith) (omega arith) (omega arith) ends)
 
   -- the quote closes
@@ -258,7 +245,7 @@ module _ (n before : ℕ) (text left tail next : List ℕ) (found : ℕ) (end : 
     closed_here read cut e f =
         let k : ℕ = run_len is_no_quote (chars left) in
         let closes_here : close n (chars text) ≡ Some (at.taken + k) =
-        at.closes_at ∙ ap (further at.taken) (place-at (chars left) (chars tail) quote (closes n) (closes-fails n) (le-leb n (hashes (chars tail)) (let is_count = count in omega arith))) in
+        at.closes_at ∙ ap (more at.taken) (place-at (chars left) (chars tail) quote (closes n) (closes-fails n) (le-leb n (hashes (chars tail)) (let is_count = count in omega arith))) in
         let same : (at.taken + suc k) + n ≡ suc (at.taken + k) + n = omega arith in
         let left_is : cut ≡ past (suc (at.taken + k) + n) text = f ∙ (cut_is ∙ (ap (past n) tail_at ∙ (past-past n (at.taken + suc k) text is ∙ ap (λ (m : ℕ). past m text) same))) in
         ap (λ (r : Result ℕ RawStrError). (r, cut)) e
@@ -279,10 +266,10 @@ pub never_closed : (n before : ℕ) (text left : List ℕ) (found : ℕ) (end : 
 never_closed n before text left found end at none =
     let u : List ℕ = chars text in
     let k : ℕ = run_len is_no_quote (chars left) in
-    let no_close : close n u ≡ None = at.closes_at ∙ ap (further at.taken) (skip-place is_no_quote other-no_quote (closes n) (closes-fails n) (chars left) ∙ ap (λ s. further k (close n s)) none) in
+    let no_close : close n u ≡ None = at.closes_at ∙ ap (more at.taken) (skip-place is_no_quote other-no_quote (closes n) (closes-fails n) (chars left) ∙ ap (λ s. more k (close n s)) none) in
     let no_more : most_hashes (chars left) ≡ 0 = skip-most is_no_quote other-no_quote (chars left) ∙ ap most_hashes none in
     let most : found ≡ most_hashes u = let m = at.most in omega arith in
     ap (λ (o : Option ℕ). let r : Result ℕ RawStrError × List ℕ = (Err (NoTerminator n found o), []) in r) at.ends
-    ∙ (ap (λ (m : ℕ). let r : Result ℕ RawStrError × List ℕ = (Err (NoTerminator n m (end_with m before u)), []) in r) most
-    ∙ (ap (λ (xs : List ℕ). let r : Result ℕ RawStrError × List ℕ = (Err (NoTerminator n (most_hashes u) (end_with (most_hashes u) before u)), xs) in r) (sym (past-all text))
+    ∙ (ap (λ (m : ℕ). let r : Result ℕ RawStrError × List ℕ = (Err (NoTerminator n m (quote_end before u (quote_if m u))), []) in r) most
+    ∙ (ap (λ (xs : List ℕ). let r : Result ℕ RawStrError × List ℕ = (Err (NoTerminator n (most_hashes u) (quote_end before u (best_quote u))), xs) in r) (sym (past-all text))
     ∙ ap (λ (o : Option ℕ). ((raw_closed n before u o).0, past (raw_closed n before u o).1 text)) (sym no_close)))

@@ -1,5 +1,5 @@
 -- What a raw string is read as, from what its parts are.
-use Rattle.std.proofs.Common.{◌≡◌, ◌≢◌, ℕ, suc, ◌+◌, ◌-◌, ◌≤◌, ◌==◌, ◌↔◌, IsTrue, slice_index, Bool, true, false, true≢false, if◌then◌else◌, List, [], ◌∷◌, length, take, drop, refl, sym, ap, ◌∙◌, subst, arith, length-take, length-drop, Some, None, Result, Ok, Err}
+use Rattle.std.proofs.Common.{◌≡◌, ◌≢◌, ℕ, suc, ◌+◌, ◌-◌, ◌≤◌, ◌==◌, ◌↔◌, IsTrue, slice_index, Bool, true, false, true≢false, if◌then◌else◌, List, [], ◌∷◌, length, take, drop, refl, sym, ap, ◌∙◌, subst, arith, length-take, length-drop, Option, Some, None, Result, Ok, Err}
 use Rattle.std.specs.Str.{chars, encode_utf8_all, IsUtf8}
 use Rattle.std.proofs.lemmas.Bool.{ne_eqb}
 use Rattle.std.proofs.lemmas.Str.{length-le-encodes}
@@ -7,14 +7,14 @@ use Rattle.rustc_lexer.specs.declared.lexemes.raw.RawPrefix.{RawPrefix}
 use Rattle.rustc_lexer.specs.declared.token.LiteralKind.{LiteralKind}
 use Rattle.rustc_lexer.specs.declared.token.RawStrError.{RawStrError}
 use Rattle.rustc_lexer.specs.declared.token.RawStrError.TheVariants.{InvalidStarter}
-use Rattle.rustc_lexer.specs.declared.token.TokenKind.{TokenKind}
 use Rattle.rustc_lexer.specs.declared.token.TokenKind.TheVariants.{Literal}
 use Rattle.rustc_lexer.specs.Literal.{suffix_len}
-use Rattle.rustc_lexer.specs.Raw.{is_quote, hashes, raw_text, past_starter, raw_starter, raw_read, accepted, is_accepted, prefix_kind, prefix_len, raw_literal, checked, raw_check, is_r, StartsRaw}
+use Rattle.rustc_lexer.specs.Raw.{is_quote, hashes, raw_text, past_starter, raw_starter, raw_read, raw_body, accepted, is_accepted, prefix_kind, prefix_len, raw_literal, checked, raw_check, is_r, StartsRaw}
 use Rattle.rustc_lexer.specs.Scan.{bytes_of, gives, next_is, past, scanned}
 use Rattle.rustc_lexer.proofs.PastLemmas.{past-zero, past-past, chars-past, IsUtf8-past, length-past}
 use Rattle.rustc_lexer.proofs.RawLemmas.{hash_len}
-use Rattle.rustc_lexer.proofs.ScanLemmas.{scanned-after, scanned-gives}
+use Rattle.rustc_lexer.proofs.ScanLemmas.{scanned-after, scanned-gives, scanned-shorter, scanned-read_as}
+use Rattle.rustc_lexer.proofs.LiteralLemmas.{with-suffix, no-suffix}
 
 abbrev Left : Type 0
 Left = Result ℕ RawStrError × List ℕ
@@ -71,42 +71,24 @@ module _ (prefix : ℕ) (text from : List ℕ) (is : IsUtf8 text) (from_is : fro
 
 -- a literal, from what is read of it
 module _ (prefix : RawPrefix) (rest left : List ℕ) (is : IsUtf8 rest) (read : Result ℕ RawStrError) (e : (read, left) ≡ scanned (raw_read 0) rest) where
-  abbrev token_by : Result ℕ RawStrError → TokenKind × List ℕ
-  token_by r = (
-    Literal (prefix_kind prefix (accepted r)) (prefix_len prefix + bytes_of (raw_read 0 (chars rest)).1 (chars rest)),
-    past ((raw_read 0 (chars rest)).1 + (if is_accepted r then suffix_len (drop (raw_read 0 (chars rest)).1 (chars rest)) else 0)) rest,
-  )
-
-  left_is : left ≡ past (raw_read 0 (chars rest)).1 rest
-  left_is = ap (λ (r : Left). r.1) e
-
   pub left_le : length left ≤ length rest
-  left_le = let l = length-past (raw_read 0 (chars rest)).1 rest is in omega (arith, ap length left_is)
+  left_le = scanned-shorter (raw_read 0) rest left read is e
 
-  start_is : (p : ℕ) → p ≡ prefix_len prefix → p + (length rest - length left) ≡ prefix_len prefix + bytes_of (raw_read 0 (chars rest)).1 (chars rest)
-  start_is p same = let l = length-past (raw_read 0 (chars rest)).1 rest is in let m = ap length left_is in omega arith
+  body_read : (record { kind = prefix_kind prefix (accepted read); takes_suffix = is_accepted read }, left) ≡ scanned (raw_body (prefix_kind prefix)) rest
+  body_read = scanned-read_as (λ r. record { kind = prefix_kind prefix (accepted r); takes_suffix = is_accepted r }) (raw_read 0) rest left read e
 
   module _ (kind : LiteralKind) (p : ℕ) (same : p ≡ prefix_len prefix) where
+    token_is : (o : Option ℕ) → accepted read ≡ o → kind ≡ prefix_kind prefix o → Literal kind (p + (length rest - length left)) ≡ Literal (prefix_kind prefix (accepted read)) (prefix_len prefix + (length rest - length left))
+    token_is o f k = ap (λ (x : LiteralKind). Literal x (p + (length rest - length left))) (k ∙ ap (prefix_kind prefix) (sym f)) ∙ ap (λ (q : ℕ). Literal (prefix_kind prefix (accepted read)) (q + (length rest - length left))) same
+
     pub accepted_literal : (n : ℕ) (end : List ℕ) → read ≡ Ok n → kind ≡ prefix_kind prefix (Some n) → end ≡ past (suffix_len (chars left)) left
         → (Literal kind (p + (length rest - length left)), end) ≡ scanned (raw_literal prefix) rest
     accepted_literal n end f k g =
-        let m : ℕ = (raw_read 0 (chars rest)).1 in
-        let reads : chars left ≡ drop m (chars rest) = ap chars left_is ∙ chars-past m rest is in
-        let end_is : end ≡ past (m + suffix_len (drop m (chars rest))) rest =
-        g ∙ (ap (λ (s : List ℕ). past (suffix_len s) left) reads ∙ (ap (past (suffix_len (drop m (chars rest)))) left_is ∙ past-past (suffix_len (drop m (chars rest))) m rest is)) in
-        ap (λ (x : LiteralKind). let t : TokenKind × List ℕ = (Literal x (p + (length rest - length left)), end) in t) k
-        ∙ (ap (λ (x : ℕ). let t : TokenKind × List ℕ = (Literal (prefix_kind prefix (Some n)) x, end) in t) (start_is p same)
-        ∙ (ap (λ (xs : List ℕ). let t : TokenKind × List ℕ = (Literal (prefix_kind prefix (Some n)) (prefix_len prefix + bytes_of m (chars rest)), xs) in t) end_is
-        ∙ (ap token_by (sym f) ∙ ap token_by (ap (λ (r : Left). r.0) e))))
+        with-suffix (prefix_len prefix) (raw_body (prefix_kind prefix)) rest left (prefix_kind prefix (accepted read)) (is_accepted read) is body_read _ end (token_is (Some n) (ap accepted f) k) (ap is_accepted f) g
 
     pub refused_literal : (error : RawStrError) → read ≡ Err error → kind ≡ prefix_kind prefix None → (Literal kind (p + (length rest - length left)), left) ≡ scanned (raw_literal prefix) rest
     refused_literal error f k =
-        let m : ℕ = (raw_read 0 (chars rest)).1 in
-        let no_suffix : m ≡ m + 0 = omega arith in
-        ap (λ (x : LiteralKind). let t : TokenKind × List ℕ = (Literal x (p + (length rest - length left)), left) in t) k
-        ∙ (ap (λ (x : ℕ). let t : TokenKind × List ℕ = (Literal (prefix_kind prefix None) x, left) in t) (start_is p same)
-        ∙ (ap (λ (xs : List ℕ). let t : TokenKind × List ℕ = (Literal (prefix_kind prefix None) (prefix_len prefix + bytes_of m (chars rest)), xs) in t) (left_is ∙ ap (λ (k : ℕ). past k rest) no_suffix)
-        ∙ (ap token_by (sym f) ∙ ap token_by (ap (λ (r : Left). r.0) e))))
+        no-suffix (prefix_len prefix) (raw_body (prefix_kind prefix)) rest left (prefix_kind prefix (accepted read)) (is_accepted read) is body_read _ (token_is None (ap accepted f) k) (ap is_accepted f)
 
 -- the check
 module _ (text rest : List ℕ) (p : ℕ) (is : IsUtf8 text) (rest_is : rest ≡ past p text) where
@@ -135,9 +117,6 @@ module _ (text rest : List ℕ) (p : ℕ) (is : IsUtf8 text) (rest_is : rest ≡
       by_char : (s : List ℕ) → (slice_index s 0 == 114) ≡ next_is is_r s
       by_char [] = refl
       by_char (c ∷ s) = refl
-
-pub never_starts : (text : List ℕ) (p : ℕ) → p ≡ 0 → IsTrue false ↔ StartsRaw text p
-never_starts text p e = (λ f. absurd (true≢false (sym f)), λ s. absurd (let h = s.some in omega arith))
 
 pub past-end : (text rest : List ℕ) (n m : ℕ) → IsUtf8 text → rest ≡ past n text → chars rest ≡ [] → n ≤ m → rest ≡ past m text
 unfolding past

@@ -5,7 +5,7 @@ use Rattle.std.specs.Str.{chars, IsUtf8}
 use Rattle.std.proofs.lemmas.Str.{chars-nil}
 use Rattle.rustc_lexer.specs.Scan.{bytes_of, past, run_len}
 use Rattle.rustc_lexer.proofs.PastLemmas.{past-drop}
-use Rattle.rustc_lexer.proofs.CharSteps.{Stands, start, step, bytes_of-suc}
+use Rattle.rustc_lexer.proofs.CharSteps.{Stands, step, bytes_of-suc}
 
 -- how many bytes the run of a class at the front of a text takes
 abbrev pub run_bytes : (ℕ → Bool) → List ℕ → ℕ
@@ -15,9 +15,6 @@ run_bytes p text = bytes_of (run_len p (chars text)) (chars text)
 pub record Runs (p : ℕ → Bool) (text left : List ℕ) (end : ℕ) : Type 0 where
   pub stands : Stands text left end
   pub run : end + run_bytes p left ≡ run_bytes p text
-
-pub run_start : (p : ℕ → Bool) (text : List ℕ) → IsUtf8 text → Runs p text text 0
-run_start p text is = record { stands = start text is; run = omega arith }
 
 bytes-in : (p : ℕ → Bool) (c : ℕ) (cs : List ℕ) → p c ≡ true → bytes_of (run_len p (c ∷ cs)) (c ∷ cs) ≡ length (encode_utf8 c) + bytes_of (run_len p cs) cs
 bytes-in p c cs e = rw e (bytes_of-suc (run_len p cs) c cs)

@@ -1,10 +1,11 @@
 -- What scanners read of a text and leave of it.
-use Rattle.std.proofs.Common.{◌≡◌, ℕ, ◌+◌, Bool, true, false, if◌then◌else◌, List, [], ◌∷◌, drop, sym, ap, ◌∙◌}
+use Rattle.std.proofs.Common.{◌≡◌, ℕ, suc, ◌+◌, ◌≤◌, Bool, true, false, if◌then◌else◌, List, [], ◌∷◌, length, drop, refl, sym, ap, ◌∙◌, arith, Option, Some, None}
 use Rattle.std.specs.Str.{chars, IsUtf8}
-use Rattle.rustc_lexer.specs.Scan.{after, gives, next_is, past, run_len, scanned}
+use Rattle.rustc_lexer.specs.Scan.{after, and_then, gives, next_is, past, read_as, run_len, scanned}
 use Rattle.rustc_lexer.specs.Classes.{is_id_start, is_id_continue}
+use Rattle.rustc_lexer.specs.Least.{more}
 use Rattle.rustc_lexer.specs.Literal.{suffix_len}
-use Rattle.rustc_lexer.proofs.PastLemmas.{past-zero, past-past, chars-past}
+use Rattle.rustc_lexer.proofs.PastLemmas.{past-zero, past-past, chars-past, length-past}
 
 module _ {A : Type 0} where
   pub scanned-gives : (a : A) (text : List ℕ) → IsUtf8 text → scanned (gives a) text ≡ (a, text)
@@ -26,6 +27,39 @@ module _ {A : Type 0} where
 
   pub scanned-same : (scan other : List ℕ → A × ℕ) (text : List ℕ) → scan (chars text) ≡ other (chars text) → scanned scan text ≡ scanned other text
   scanned-same scan other text e = ap (λ (r : A × ℕ). (r.0, past r.1 text)) e
+
+-- one scanner, then the next on what it left
+pub scanned-and_then : {A B : Type 0} (scan : List ℕ → A × ℕ) (next : A → List ℕ → B × ℕ) (text rest : List ℕ) (a : A) → IsUtf8 text → (a, rest) ≡ scanned scan text
+    → scanned (and_then scan next) text ≡ scanned (next a) rest
+scanned-and_then {A} {B} scan next text rest a is e =
+    scanned-after (scan (chars text)).1 (next (scan (chars text)).0) text rest is (ap (λ (r : A × List ℕ). r.1) e)
+    ∙ ap (λ (x : A). scanned (next x) rest) (sym (ap (λ (r : A × List ℕ). r.0) e))
+
+pub scanned-read_as : {A B : Type 0} (f : A → B) (scan : List ℕ → A × ℕ) (text rest : List ℕ) (a : A) → (a, rest) ≡ scanned scan text → (f a, rest) ≡ scanned (read_as f scan) text
+scanned-read_as {A} f scan text rest a e = ap (λ (r : A × List ℕ). (f r.0, r.1)) e
+
+-- what is left is no longer than the text
+pub scanned-shorter : {A : Type 0} (scan : List ℕ → A × ℕ) (text rest : List ℕ) (a : A) → IsUtf8 text → (a, rest) ≡ scanned scan text → length rest ≤ length text
+scanned-shorter {A} scan text rest a is e =
+    let left : rest ≡ past (scan (chars text)).1 text = ap (λ (r : A × List ℕ). r.1) e in
+    omega (arith, ap length left, length-past (scan (chars text)).1 text is)
+
+-- a run ends before a character outside its class
+pub run_len-stop : (p : ℕ → Bool) (s : List ℕ) (c : ℕ) (u : List ℕ) → drop (run_len p s) s ≡ c ∷ u → p c ≡ false
+run_len-stop p [] c u e = absurd (cc)
+run_len-stop p (d ∷ s) c u e = by_class (λ f. run_len-stop p s c u f) (p d) refl
+  where
+    by_class : (drop (run_len p s) s ≡ c ∷ u → p c ≡ false) → (b : Bool) → p d ≡ b → p c ≡ false
+    by_class ih true f = ih (ap (λ (b : Bool). drop (if b then suc (run_len p s) else 0) (d ∷ s)) (sym f) ∙ e)
+    by_class ih false f =
+        let same : d ∷ s ≡ c ∷ u = ap (λ (b : Bool). drop (if b then suc (run_len p s) else 0) (d ∷ s)) (sym f) ∙ e in
+        let head : d ≡ c = cc in
+        ap p (sym head) ∙ f
+
+-- what is found so much further on, and so much further
+pub more-more : (a b : ℕ) (o : Option ℕ) → more a (more b o) ≡ more (a + b) o
+more-more a b None = refl
+more-more a b (Some n) = ap Some (omega arith)
 
 -- the next character of a text
 pub next_is-cons : (p : ℕ → Bool) (c : ℕ) (s cs : List ℕ) → cs ≡ c ∷ s → next_is p cs ≡ p c

@@ -1,10 +1,11 @@
 -- The state after a token.
-use Rattle.std.proofs.Common.{◌≡◌, ℕ, ◌==◌, true, false, true≢false, List, [], ◌∷◌, length, drop, refl, sym, ap, ◌∙◌, arith}
-use Rattle.std.proofs.lemmas.Bool.{eqb-true}
+use Rattle.std.proofs.Common.{◌≡◌, ℕ, ◌==◌, true, false, true≢false, List, [], ◌∷◌, length, drop, refl, sym, ap, ◌∙◌, arith, zero-add, ◌+◌, ◌<◌}
+use Rattle.std.proofs.lemmas.Bool.{eqb-true, ne_eqb}
 use Rattle.rustc_lexer.specs.declared.token.FrontmatterAllowed.{FrontmatterAllowed}
 use Rattle.rustc_lexer.specs.declared.token.Token.{Token}
-use Rattle.rustc_lexer.specs.declared.token.TokenKind.TheVariants.{Eof}
-use Rattle.rustc_lexer.specs.State.{State, token_at, token_past, allowed_after, advance_by, advance}
+use Rattle.rustc_lexer.specs.declared.token.TokenKind.{TokenKind}
+use Rattle.rustc_lexer.specs.declared.token.TokenKind.TheVariants.{Eof, Literal}
+use Rattle.rustc_lexer.specs.State.{State, kind_past, token_at, token_past, allowed_after, advance_by, advance}
 
 abbrev pub state : ℕ → List ℕ → FrontmatterAllowed → State
 state pending rest allowed = record { pending = pending; rest = rest; frontmatter_allowed = allowed }
@@ -31,3 +32,16 @@ module _ (pending : ℕ) (rest : List ℕ) (allowed : FrontmatterAllowed) (s : S
       at_char : (r : List ℕ) → rest ≡ r → (length r == 0) ≡ false → advance_by rest (state pending rest allowed) ≡ (token_past pending (token_at allowed rest), past_token rest allowed (token_at allowed rest))
       at_char [] f some = absurd (true≢false some)
       at_char (b ∷ bs) f some = ap (λ r. advance_by r (state pending rest allowed)) f
+
+-- with nothing pending the token is the first one of the text
+kind_past-zero : (kind : TokenKind) → kind_past 0 kind ≡ kind
+kind_past-zero (Literal kind start) = ap (Literal kind) (zero-add start)
+kind_past-zero kind = refl
+
+pub token_past-zero : (token : Token) → token_past 0 token ≡ token
+token_past-zero token =
+    ap (λ (k : TokenKind). let t : Token = record { kind = k; len = 0 + token.len } in t) (kind_past-zero token.kind)
+    ∙ ap (λ (n : ℕ). let t : Token = record { kind = token.kind; len = n } in t) (zero-add token.len)
+
+pub first-advanced : (text : List ℕ) (allowed : FrontmatterAllowed) (s : State) → s ≡ state 0 text allowed → 0 < length text → (advance s).0 ≡ token_at allowed text
+first-advanced text allowed s e some = ap (λ (r : Token × State). r.0) (advance-some 0 text allowed s (sym e) (ne_eqb (length text) 0 (λ none. omega arith))) ∙ token_past-zero (token_at allowed text)

@@ -1,21 +1,25 @@
 -- The tokens of a whole text: one by one, and past a bound.
-use Rattle.std.proofs.Common.{◌≡◌, ℕ, zero, suc, ◌+◌, ◌<◌, ◌≤◌, ◌==◌, true, false, true≢false, subst, List, [], ◌∷◌, length, take, drop, refl, sym, ap, ◌∙◌, arith, length-drop, drop-drop, take-add, zero-add, All, ◌^◌, Some, rules}
+use Rattle.std.proofs.Common.{◌≡◌, ℕ, zero, suc, ◌<◌, ◌≤◌, ◌==◌, true, false, true≢false, subst, List, [], ◌∷◌, length, take, drop, refl, sym, ap, ◌∙◌, arith, length-drop, take-add, All, ◌^◌, Some, rules}
 use Rattle.std.specs.Prelude.{⊤}
 use Rattle.std.specs.Iterator.{at_most, MakesProgress}
 use Rattle.std.specs.Str.{IsUtf8}
 use Rattle.std.proofs.lemmas.Bool.{eqb-true}
-use Rattle.std.proofs.lemmas.Str.{IsUtf8-append, IsUtf8-nil, IsCharBoundary-from_take}
+use Rattle.std.proofs.lemmas.Str.{IsUtf8-append, IsUtf8-drop, IsUtf8-nil, IsUtf8-take, IsCharBoundary-from_take}
 use Rattle.std.proofs.lemmas.List.Elements.{All-nil, All-cons}
 use Rattle.rustc_lexer.specs.declared.token.FrontmatterAllowed.{FrontmatterAllowed}
 use Rattle.rustc_lexer.specs.declared.token.FrontmatterAllowed.TheVariants.{No}
 use Rattle.rustc_lexer.specs.declared.token.Token.{Token}
-use Rattle.rustc_lexer.specs.declared.token.TokenKind.{TokenKind}
-use Rattle.rustc_lexer.specs.declared.token.TokenKind.TheVariants.{Whitespace, Literal, Eof}
+use Rattle.rustc_lexer.specs.Frontmatter.{frontmatter}
 use Rattle.rustc_lexer.specs.Lookahead.{first_token_grammar}
-use Rattle.rustc_lexer.specs.State.{State, token_at, kind_past, token_past, allowed_after, advance}
-use Rattle.rustc_lexer.proofs.StateLemmas.{past_token, advance-some}
+use Rattle.rustc_lexer.specs.State.{State, token_at, token_past, allowed_after, advance}
+use Rattle.rustc_lexer.proofs.FrontmatterLemmas.{frontmatter-cut, token_at-either}
+use Rattle.rustc_lexer.proofs.StateLemmas.{past_token, advance-some, token_past-zero}
 use Rattle.rustc_lexer.specs.Texts.{IsText}
-use Rattle.rustc_lexer.specs.Tokens.{cut, tokens_of, tokens_left, bound, Partitions}
+use Rattle.rustc_lexer.specs.CutLaws.{tokens-by}
+use Rattle.rustc_lexer.specs.Cuts.{tokens_by}
+use Rattle.rustc_lexer.specs.Lexeme.{first_token}
+use Rattle.rustc_lexer.proofs.CutLemmas.{at_bound}
+use Rattle.rustc_lexer.specs.Tokens.{cut, tokens_of, tokens_left, bound, Partitions, TakesToken}
 
 -- the token at the front of a text leaves a shorter text, and is one itself
 pub record CutsOff (text : List ℕ) (token : Token) : Type 0 where
@@ -25,12 +29,22 @@ pub record CutsOff (text : List ℕ) (token : Token) : Type 0 where
   pub left : IsText (drop token.len text)
 
 pub token_at-cuts : (allowed : FrontmatterAllowed) (text : List ℕ) → IsText text → 0 < length text → CutsOff text (token_at allowed text)
-token_at-cuts allowed text is some = record {
-  not_empty = first_token_grammar.not_empty text is some;
-  inside = first_token_grammar.inside text is some;
-  front = first_token_grammar.front text is some;
-  left = record { utf8 = first_token_grammar.back text is some; fits = let f = is.fits in omega (arith, length-drop (token_at allowed text).len text) };
-}
+token_at-cuts allowed text is some = token_at-either (λ (t : Token). CutsOff text t) allowed text
+    record {
+      not_empty = first_token_grammar.not_empty text is some;
+      inside = first_token_grammar.inside text is some;
+      front = first_token_grammar.front text is some;
+      left = record { utf8 = first_token_grammar.back text is some; fits = let f = is.fits in omega (arith, length-drop (first_token text).len text) };
+    }
+    (λ opened.
+    let cut = frontmatter-cut text is.utf8 opened in
+    let n : ℕ = (frontmatter text).len in
+    record {
+      not_empty = cut.not_empty;
+      inside = cut.inside;
+      front = IsUtf8-take text n is.utf8 cut.boundary;
+      left = record { utf8 = IsUtf8-drop text n is.utf8 cut.boundary; fits = let f = is.fits in omega (arith, length-drop n text) };
+    })
 
 shorter : (text : List ℕ) (token : Token) → CutsOff text token → length (drop token.len text) < length text
 shorter text token cuts = let n = cuts.not_empty in let i = cuts.inside in omega (arith, length-drop token.len text)
@@ -122,65 +136,34 @@ partitions text allowed is = record {
   whole = (covered text allowed is).1;
 }
 
-allowed_after-no : (kind : TokenKind) → allowed_after No kind ≡ No
-allowed_after-no Whitespace = refl
-allowed_after-no Eof = refl
-allowed_after-no kind = refl
-
-abbrev Restarts : List ℕ → FrontmatterAllowed → Type 0
-Restarts text allowed = allowed ≡ No → (k : ℕ) → k ≤ length (tokens_of allowed text) → tokens_of allowed (drop (bound (tokens_of allowed text) k) text) ≡ drop k (tokens_of allowed text)
-
-restarts_from : (text : List ℕ) (allowed : FrontmatterAllowed) → IsText text → Restarts text allowed
-restarts_from = by_tokens Restarts (λ allowed never. rw (tokens-nil allowed) (at_end allowed)) (λ text allowed is some rest never. rw (tokens-cons allowed text is some) (step text allowed is some rest never))
-  where
-    at_end : (allowed : FrontmatterAllowed) (k : ℕ) → k ≤ 0 → tokens_of allowed (drop (bound [] k) []) ≡ drop k []
-    at_end allowed zero le = tokens-nil allowed
-    at_end allowed (suc k) le = absurd (omega arith)
-
-    step : (text : List ℕ) (allowed : FrontmatterAllowed) → IsText text → 0 < length text → Restarts (drop (token_at allowed text).len text) (allowed_after allowed (token_at allowed text).kind) → allowed ≡ No
-        → (k : ℕ) → k ≤ length (token_at allowed text ∷ tokens_of (allowed_after allowed (token_at allowed text).kind) (drop (token_at allowed text).len text))
-        → tokens_of allowed (drop (bound (token_at allowed text ∷ tokens_of (allowed_after allowed (token_at allowed text).kind) (drop (token_at allowed text).len text)) k) text)
-        ≡ drop k (token_at allowed text ∷ tokens_of (allowed_after allowed (token_at allowed text).kind) (drop (token_at allowed text).len text))
-    step text allowed is some rest never zero le = tokens-cons allowed text is some
-    step text allowed is some rest never (suc k) le =
-        let token : Token = token_at allowed text in
-        let next : FrontmatterAllowed = allowed_after allowed token.kind in
-        let still : next ≡ No = ap (λ (a : FrontmatterAllowed). allowed_after a token.kind) never ∙ allowed_after-no token.kind in
-        let same : allowed ≡ next = never ∙ sym still in
-        let left : List ℕ = drop token.len text in
-        let b : ℕ = bound (tokens_of next left) k in
-        ap (tokens_of allowed) (sym (drop-drop b token.len text)) ∙ (ap (λ (a : FrontmatterAllowed). tokens_of a (drop b left)) same ∙ rest still k (omega arith))
-
 pub restarts : (text : List ℕ) → IsText text → (k : ℕ) → k ≤ length (tokens_of No text) → tokens_of No (drop (bound (tokens_of No text) k) text) ≡ drop k (tokens_of No text)
-restarts text is = restarts_from text No is refl
+restarts text is k few =
+    tokens-by (drop (bound (tokens_of No text) k) text) ∙ (ap (λ ts. tokens_by first_token (drop (bound ts k) text)) (tokens-by text)
+    ∙ (sym (at_bound first_token_grammar k text is).rest ∙ ap (drop k) (sym (tokens-by text))))
 
 -- what taking a token does to the tokens that are left
 pub record TakesFirst (s t : State) (token : Token) : Type 0 where
-  pub tokens : tokens_left s ≡ token ∷ tokens_left t
-  pub rest : t.rest ≡ drop token.len s.rest
+  pub takes : TakesToken s token t
   pub pending : t.pending ≡ 0
   pub shorter : length t.rest < length s.rest
-
-kind_past-zero : (kind : TokenKind) → kind_past 0 kind ≡ kind
-kind_past-zero (Literal kind start) = ap (Literal kind) (zero-add start)
-kind_past-zero kind = refl
-
-token_past-zero : (token : Token) → token_past 0 token ≡ token
-token_past-zero token =
-    ap (λ (k : TokenKind). let t : Token = record { kind = k; len = 0 + token.len } in t) (kind_past-zero token.kind)
-    ∙ ap (λ (n : ℕ). let t : Token = record { kind = token.kind; len = n } in t) (zero-add token.len)
 
 takes_first : (s t : State) (token : Token) → s.pending ≡ 0 → IsText s.rest → (length s.rest == 0) ≡ false → token ≡ (advance s).0 → t ≡ (advance s).1 → TakesFirst s t token
 takes_first s t token none is some e f =
     let first : Token = token_at s.frontmatter_allowed s.rest in
     let some_left : 0 < length s.rest = nonzero (length s.rest) some in
     let whole = advance-some s.pending s.rest s.frontmatter_allowed s refl some in
-    let token_is : token ≡ first = e ∙ (ap (λ (r : Token × State). r.0) whole ∙ (ap (λ n. token_past n first) none ∙ token_past-zero first)) in
+    let first_is : token_past s.pending first ≡ first = ap (λ n. token_past n first) none ∙ token_past-zero first in
+    let token_is : token ≡ first = e ∙ (ap (λ (r : Token × State). r.0) whole ∙ first_is) in
     let state_is : t ≡ past_token s.rest s.frontmatter_allowed first = f ∙ ap (λ (r : Token × State). r.1) whole in
     let cuts : CutsOff s.rest first = token_at-cuts s.frontmatter_allowed s.rest is some_left in
     rw (token_is, state_is) record {
-      tokens = tokens-cons s.frontmatter_allowed s.rest is some_left;
-      rest = refl;
+      takes = record {
+        first = tokens-cons s.frontmatter_allowed s.rest is some_left;
+        advances = whole ∙ ap (λ (k : Token). let r : Token × State = (k, past_token s.rest s.frontmatter_allowed first) in r) first_is;
+        not_empty = cuts.not_empty;
+        boundary = IsCharBoundary-from_take s.rest first.len is.utf8 cuts.inside cuts.front;
+        rest = refl;
+      };
       pending = refl;
       shorter = shorter s.rest first cuts;
     }

@@ -4,8 +4,8 @@ use Rattle.rustc_lexer.specs.declared.token.DocStyle.{DocStyle}
 use Rattle.rustc_lexer.specs.declared.token.DocStyle.TheVariants.{Outer, Inner}
 use Rattle.rustc_lexer.specs.declared.token.TokenKind.{TokenKind}
 use Rattle.rustc_lexer.specs.declared.token.TokenKind.TheVariants.{BlockComment}
+use Rattle.rustc_lexer.specs.Least.{more}
 use Rattle.rustc_lexer.specs.Scan.{begins}
-use Rattle.rustc_lexer.specs.Until.{more}
 
 -- whether a mark stands here that closes a comment, or one that opens another
 abbrev pub closing : List ℕ → Bool
@@ -19,20 +19,24 @@ abbrev pub followed_by : Option ℕ → (ℕ → Option ℕ) → Option ℕ
 followed_by None next = None
 followed_by (Some n) next = more n (next n)
 
--- how many characters up to the end of the comment: at a closing mark 2; at an opening mark 2, the comment that it
--- opens, and what closes after that; elsewhere one character, and what closes after it. The first number is no less
--- than the text is long.
-abbrev pub closes : ℕ → List ℕ → Option ℕ
-closes zero s = None
-closes (suc fuel) [] = None
-closes (suc fuel) (c ∷ cs) =
+-- an end, and the next one after it
+abbrev pub twice : (List ℕ → Option ℕ) → List ℕ → Option ℕ
+twice end s = followed_by (end s) (λ n. end (drop n s))
+
+-- how many characters up to the end of the comment: at a closing mark 2; at an opening mark 2 and, twice, up to an end:
+-- of the comment that it opens, and then of this one; elsewhere one character, and what is left up to the end. The first
+-- number is no less than the text is long.
+abbrev pub end_within : ℕ → List ℕ → Option ℕ
+end_within zero s = None
+end_within (suc fuel) [] = None
+end_within (suc fuel) (c ∷ cs) =
     if closing (c ∷ cs) then Some 2
-    else (if opening (c ∷ cs) then more 2 (followed_by (closes fuel (drop 1 cs)) (λ n. closes fuel (drop n (drop 1 cs))))
-    else more 1 (closes fuel cs))
+    else (if opening (c ∷ cs) then more 2 (twice (end_within fuel) (drop 1 cs))
+    else more 1 (end_within fuel cs))
 
 -- where the comment ends, if something closes it
 abbrev pub comment_end : List ℕ → Option ℕ
-comment_end s = closes (length s) s
+comment_end s = end_within (length s) s
 
 -- `!` makes the doc of what the comment stands in, and one more `*` that neither `*` nor `/` follows the doc of what
 -- comes next

@@ -1,11 +1,11 @@
 -- Identifiers, with what may stand before and after them.
-use Rattle.std.specs.Prelude.{ℕ, ◌||◌, ◌&&◌, Bool, if◌then◌else◌, List, take, drop, codes}
+use Rattle.std.specs.Prelude.{ℕ, ◌||◌, ◌&&◌, Bool, if◌then◌else◌, List, drop, codes}
 use Rattle.std.specs.List.{list_all}
 use Rattle.rustc_lexer.specs.declared.token.TokenKind.{TokenKind}
 use Rattle.rustc_lexer.specs.declared.token.TokenKind.TheVariants.{Ident, InvalidIdent, UnknownPrefix}
 use Rattle.rustc_lexer.specs.Classes.{is_among, is_id_start, is_id_continue}
 use Rattle.rustc_lexer.specs.Emoji.{is_emoji}
-use Rattle.rustc_lexer.specs.Scan.{after, begins, next_is, run, run_len}
+use Rattle.rustc_lexer.specs.Scan.{after, begins, next_is, run, run_as}
 
 -- what an identifier goes on with, right or wrong
 abbrev pub is_word : ℕ → Bool
@@ -21,7 +21,7 @@ ident_kind word rest = if list_all is_id_continue word then (if next_is is_prefi
 
 -- what follows the first character of an identifier
 abbrev pub ident : List ℕ → TokenKind × ℕ
-ident s = (ident_kind (take (run_len is_word s) s) (drop (run_len is_word s) s), run_len is_word s)
+ident s = run_as ident_kind is_word s
 
 -- what follows an emoji that no identifier may begin with
 abbrev pub invalid_ident : List ℕ → TokenKind × ℕ

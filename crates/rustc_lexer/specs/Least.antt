@@ -1,5 +1,10 @@
--- The least number that passes a test.
-use Rattle.std.specs.Prelude.{ℕ, zero, suc, Bool, if◌then◌else◌, Option, Some, None}
+-- Numbers that may be none, and the least that passes a test.
+use Rattle.std.specs.Prelude.{ℕ, zero, suc, ◌+◌, Bool, if◌then◌else◌, Option, Some, None}
+
+-- so much more, if there is one
+abbrev pub more : ℕ → Option ℕ → Option ℕ
+more n None = None
+more n (Some m) = Some (n + m)
 
 abbrev pub one_more : Option ℕ → Option ℕ
 one_more None = None

@@ -7,10 +7,12 @@ use Rattle.std.specs.Char.{is_ascii_digit}
 use Rattle.std.specs.Str.{byte}
 use Rattle.rustc_lexer.specs.declared.token.Token.{Token}
 use Rattle.rustc_lexer.specs.declared.token.TokenKind.{TokenKind}
-use Rattle.rustc_lexer.specs.declared.token.TokenKind.TheVariants.{Whitespace, RawIdent, ForcedKeywordIdent, Semi, Comma, Dot, OpenParen, CloseParen, OpenBrace, CloseBrace, OpenBracket, CloseBracket, At, Pound, Tilde, Question, Colon, Dollar, Eq, Bang, Lt, Gt, Minus, And, Or, Plus, Star, Caret, Percent, Unknown, Eof}
+use Rattle.rustc_lexer.specs.declared.token.TokenKind.TheVariants.{Whitespace, RawIdent, ForcedKeywordIdent, Semi, Comma, Dot, OpenParen, CloseParen, OpenBrace, CloseBrace, OpenBracket, CloseBracket, At, Tilde, Question, Colon, Dollar, Eq, Bang, Lt, Gt, Minus, And, Or, Plus, Star, Caret, Percent, Unknown, Eof}
+use Rattle.rustc_lexer.specs.Choice.{Arm, arm, chosen}
 use Rattle.rustc_lexer.specs.Classes.{is_among, is_whitespace, is_id_start}
 use Rattle.rustc_lexer.specs.Comment.{slash}
 use Rattle.rustc_lexer.specs.Emoji.{is_emoji}
+use Rattle.rustc_lexer.specs.Hash.{hash}
 use Rattle.rustc_lexer.specs.Ident.{ident, invalid_ident, marked}
 use Rattle.rustc_lexer.specs.Lifetime.{quote_or_lifetime}
 use Rattle.rustc_lexer.specs.Literal.{literal}
@@ -18,12 +20,12 @@ use Rattle.rustc_lexer.specs.Number.{number}
 use Rattle.rustc_lexer.specs.Quoted.{byte_body, byte_str_body, c_str_body, str_body}
 use Rattle.rustc_lexer.specs.Scan.{after, begins, gives, run, token_by, next_is}
 
--- the tokens of one symbol
+-- the tokens of one symbol, beside the hash
 abbrev pub symbols : List (ℕ × TokenKind)
 symbols =
     (byte ";", Semi) ∷ (byte ",", Comma) ∷ (byte ".", Dot) ∷ (byte "(", OpenParen) ∷ (byte ")", CloseParen)
     ∷ (byte "{", OpenBrace) ∷ (byte "}", CloseBrace) ∷ (byte "[", OpenBracket) ∷ (byte "]", CloseBracket)
-    ∷ (byte "@", At) ∷ (byte "#", Pound) ∷ (byte "~", Tilde) ∷ (byte "?", Question) ∷ (byte ":", Colon)
+    ∷ (byte "@", At) ∷ (byte "~", Tilde) ∷ (byte "?", Question) ∷ (byte ":", Colon)
     ∷ (byte "$", Dollar) ∷ (byte "=", Eq) ∷ (byte "!", Bang) ∷ (byte "<", Lt) ∷ (byte ">", Gt) ∷ (byte "-", Minus)
     ∷ (byte "&", And) ∷ (byte "|", Or) ∷ (byte "+", Plus) ∷ (byte "*", Star) ∷ (byte "^", Caret) ∷ (byte "%", Percent)
     ∷ []
@@ -71,30 +73,43 @@ letter_b s =
 abbrev pub letter_c : List ℕ → TokenKind × ℕ
 letter_c s = if begins (codes "\"") s then literal (after 1 c_str_body) s else raw_past_or_ident Cr s
 
+-- the letters that may be more than the start of an identifier
+abbrev pub letters : List Arm
+letters =
+    arm (λ c. c == byte "r") (λ c. letter_r)
+    ∷ arm (λ c. c == byte "k") (λ c. letter_k)
+    ∷ arm (λ c. c == byte "b") (λ c. letter_b)
+    ∷ arm (λ c. c == byte "c") (λ c. letter_c)
+    ∷ []
+
 -- what follows a letter or another start of an identifier
 abbrev pub word : ℕ → List ℕ → TokenKind × ℕ
-word c s =
-    if c == byte "r" then letter_r s
-    else (if c == byte "k" then letter_k s
-    else (if c == byte "b" then letter_b s
-    else (if c == byte "c" then letter_c s
-    else ident s)))
+word c s = chosen letters (λ c. ident) c s
 
 -- a letter that may be more than the start of an identifier, or another start of one
 abbrev pub begins_word : ℕ → Bool
 begins_word c = is_among (codes "rkbc") c || is_id_start c
 
+-- the families of tokens: the first characters, and what reads on
+abbrev pub families : List Arm
+families =
+    arm (λ c. c == byte "/") (λ c. slash)
+    ∷ arm is_whitespace (λ c. whitespace)
+    ∷ arm begins_word word
+    ∷ arm is_ascii_digit number
+    ∷ arm (λ c. c == byte "'") (λ c. quote_or_lifetime)
+    ∷ arm (λ c. c == byte "\"") (λ c. literal str_body)
+    ∷ arm is_emoji (λ c. invalid_ident)
+    ∷ arm (λ c. c == byte "#") (λ c. hash)
+    ∷ []
+
+-- a token of one character
+abbrev pub symbol : ℕ → List ℕ → TokenKind × ℕ
+symbol c s = gives (symbol_kind c) s
+
 -- what follows the first character, which decides
 unfoldable pub past_first : ℕ → List ℕ → TokenKind × ℕ
-past_first c s =
-    if c == byte "/" then slash s
-    else (if is_whitespace c then whitespace s
-    else (if begins_word c then word c s
-    else (if is_ascii_digit c then number c s
-    else (if c == byte "'" then quote_or_lifetime s
-    else (if c == byte "\"" then literal str_body s
-    else (if is_emoji c then invalid_ident s
-    else gives (symbol_kind c) s))))))
+past_first c s = chosen families symbol c s
 
 -- the token at the front of a list of characters: what it is, and how many of them it takes
 abbrev pub lexeme : List ℕ → TokenKind × ℕ

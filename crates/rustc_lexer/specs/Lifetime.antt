@@ -1,35 +1,25 @@
 -- What follows a single quote: a character, or a lifetime.
-use Rattle.std.specs.Prelude.{ℕ, suc, ◌+◌, ◌==◌, ◌&&◌, ◌||◌, not, Bool, true, false, if◌then◌else◌, List, [], ◌∷◌, length, take, codes}
+use Rattle.std.specs.Prelude.{ℕ, suc, ◌+◌, ◌==◌, ◌&&◌, ◌||◌, not, Bool, true, if◌then◌else◌, List, [], ◌∷◌, length, codes}
 use Rattle.std.specs.Char.{is_ascii_digit}
+use Rattle.std.specs.List.{list_all}
 use Rattle.std.specs.Str.{byte, encode_utf8_all}
 use Rattle.rustc_lexer.specs.declared.token.LiteralKind.TheVariants.{Char}
 use Rattle.rustc_lexer.specs.declared.token.TokenKind.{TokenKind}
 use Rattle.rustc_lexer.specs.declared.token.TokenKind.TheVariants.{Literal, Lifetime, RawLifetime, UnknownPrefixLifetime}
 use Rattle.rustc_lexer.specs.Classes.{is_id_start, is_id_continue}
 use Rattle.rustc_lexer.specs.Emoji.{is_emoji}
+use Rattle.rustc_lexer.specs.Ident.{is_word, marks_ident}
 use Rattle.rustc_lexer.specs.Literal.{literal}
 use Rattle.rustc_lexer.specs.Quoted.{char_body}
-use Rattle.rustc_lexer.specs.Scan.{after, and_then, begins, gives, next_is, run, run_len}
+use Rattle.rustc_lexer.specs.Scan.{after, and_then, begins, gives, run, run_as}
 
--- what the name of a lifetime begins with, and goes on with; digits and emoji are let through, and marked
+-- what the name of a lifetime begins with; digits and emoji are let through, and marked
 abbrev pub is_name_start : ℕ → Bool
 is_name_start c = is_id_start c || is_ascii_digit c || is_emoji c
 
-abbrev pub is_name_part : ℕ → Bool
-is_name_part c = is_id_continue c || is_emoji c
-
--- the longest front in a class, itself
-abbrev pub front : (ℕ → Bool) → List ℕ → List ℕ × ℕ
-front p s = (take (run_len p s) s, run_len p s)
-
--- some character is in the class
-abbrev pub holds : (ℕ → Bool) → List ℕ → Bool
-holds p [] = false
-holds p (c ∷ s) = p c || holds p s
-
 -- a name that begins with `c` and goes on with `name`, and that no lifetime of Rust has
 abbrev pub is_marked : ℕ → List ℕ → Bool
-is_marked c name = is_ascii_digit c || is_emoji c || holds (λ d. not (is_id_continue d)) name
+is_marked c name = is_ascii_digit c || is_emoji c || not (list_all is_id_continue name)
 
 -- what follows a name: a quote makes a character of it, with no suffix
 abbrev pub past_name : ℕ → List ℕ → List ℕ → TokenKind × ℕ
@@ -40,16 +30,11 @@ past_name c name s =
 
 -- what follows the first character `c` of a name, where no raw lifetime stands there
 abbrev pub named : ℕ → List ℕ → TokenKind × ℕ
-named c s = and_then (front is_name_part) (past_name c) s
+named c s = and_then (run_as (λ name rest. name) is_word) (past_name c) s
 
--- past `r`, a hash and the start of an identifier make a raw lifetime
-abbrev pub begins_raw : List ℕ → Bool
-begins_raw [] = false
-begins_raw (c ∷ s) = c == byte "#" && next_is is_id_start s
-
--- what follows the first character `c` of a name
+-- what follows the first character `c` of a name; `r`, a hash and the start of an identifier make a raw lifetime
 abbrev pub lifetime : ℕ → List ℕ → TokenKind × ℕ
-lifetime c s = if c == byte "r" && begins_raw s then after 2 (run RawLifetime is_id_continue) s else named c s
+lifetime c s = if c == byte "r" && marks_ident s then after 2 (run RawLifetime is_id_continue) s else named c s
 
 -- a character, and no lifetime: the second character is a quote, or the first one begins no name
 abbrev pub is_character : ℕ → List ℕ → Bool

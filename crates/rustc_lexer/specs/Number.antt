@@ -1,5 +1,5 @@
 -- Numbers.
-use Rattle.std.specs.Prelude.{ℕ, ◌==◌, ◌&&◌, ◌||◌, not, Bool, false, true, if◌then◌else◌, List, take, drop, codes}
+use Rattle.std.specs.Prelude.{ℕ, ◌==◌, ◌&&◌, ◌||◌, not, Bool, false, true, if◌then◌else◌, List, drop, codes}
 use Rattle.std.specs.Char.{is_ascii_digit, is_ascii_hexdigit}
 use Rattle.std.specs.List.{list_any}
 use Rattle.std.specs.Str.{byte}
@@ -10,11 +10,7 @@ use Rattle.rustc_lexer.specs.declared.token.LiteralKind.TheVariants.{Int, Float}
 use Rattle.rustc_lexer.specs.declared.token.TokenKind.{TokenKind}
 use Rattle.rustc_lexer.specs.Classes.{is_id_start}
 use Rattle.rustc_lexer.specs.Literal.{Body, literal}
-use Rattle.rustc_lexer.specs.Scan.{after, and_then, begins, gives, next_is, run, run_len}
-
--- the same characters, with another answer
-abbrev pub read_as : {A B : Type 0} → (A → B) → (List ℕ → A × ℕ) → List ℕ → B × ℕ
-read_as f scan s = (f (scan s).0, (scan s).1)
+use Rattle.rustc_lexer.specs.Scan.{after, and_then, begins, gives, next_is, read_as, run, run_as}
 
 abbrev pub is_underscore : ℕ → Bool
 is_underscore c = c == byte "_"
@@ -25,7 +21,7 @@ or_underscore p c = p c || is_underscore c
 
 -- a run of digits and underscores, and whether a digit is among them
 abbrev pub digits : (ℕ → Bool) → List ℕ → Bool × ℕ
-digits is_digit s = (list_any is_digit (take (run_len (or_underscore is_digit) s) s), run_len (or_underscore is_digit) s)
+digits is_digit s = run_as (λ front rest. list_any is_digit front) (or_underscore is_digit) s
 
 -- the front of a number: its base, and whether that has a prefix with no digit after it
 pub record Front : Type 0 where

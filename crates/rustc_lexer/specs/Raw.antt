@@ -54,14 +54,17 @@ most_hashes u = greatest (λ place. quote_hashes (drop place u)) (length u)
 abbrev pub quote_with : ℕ → List ℕ → Option ℕ
 quote_with m u = least_place (λ s. quote_hashes s == m) u
 
+abbrev pub quote_if : ℕ → List ℕ → Option ℕ
+quote_if m u = if m == 0 then None else quote_with m u
+
+-- the place of the best quote: the first of those with the most hashes, if there are any hashes
+abbrev pub best_quote : List ℕ → Option ℕ
+best_quote u = quote_if (most_hashes u) u
+
 -- where the quote at this place ends, in bytes; `before` of them stand before u
 abbrev pub quote_end : ℕ → List ℕ → Option ℕ → Option ℕ
 quote_end before u None = None
 quote_end before u (Some place) = Some (before + bytes_of (suc place) u)
-
--- where the first quote with m hashes ends, if there are any hashes
-abbrev pub end_with : ℕ → ℕ → List ℕ → Option ℕ
-end_with m before u = if m == 0 then None else quote_end before u (quote_with m u)
 
 -- a string that closes has at most 255 hashes on each side
 abbrev pub counted : ℕ → Result ℕ RawStrError
@@ -70,7 +73,7 @@ counted n = if nat_le n 255 then Ok n else Err (TooManyDelimiters n)
 -- closed at a place: up to just past n hashes after the quote there; not closed: all of the text
 abbrev pub raw_closed : ℕ → ℕ → List ℕ → Option ℕ → Result ℕ RawStrError × ℕ
 raw_closed n before u (Some place) = (counted n, suc place + n)
-raw_closed n before u None = (Err (NoTerminator n (most_hashes u) (end_with (most_hashes u) before u)), length u)
+raw_closed n before u None = (Err (NoTerminator n (most_hashes u) (quote_end before u (best_quote u))), length u)
 
 -- what follows n hashes and a quote; an offset counts `before` bytes for what stands before
 abbrev pub raw_text : ℕ → ℕ → List ℕ → Result ℕ RawStrError × ℕ

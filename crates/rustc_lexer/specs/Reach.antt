@@ -1,188 +1,289 @@
--- Scanners in a row reach no further than each of them, and a local scanner gives a grammar.
-use Rattle.std.proofs.Common.{◌≡◌, ℕ, zero, suc, ◌+◌, ◌≤◌, ◌<◌, ◌==◌, ◌&&◌, Bool, true, false, true≢false, if◌then◌else◌, List, [], ◌∷◌, length, get_or, take, drop, refl, sym, ap, ◌∙◌, subst, arith, length-drop, length-take, drop-drop, take-take, take-add}
+-- What depends on a few characters past its end: the laws of local scanners.
+use Rattle.std.proofs.Common.{◌≡◌, ℕ, zero, suc, ◌+◌, ◌≤◌, ◌<◌, ◌==◌, ◌&&◌, Bool, true, false, true≢false, if◌then◌else◌, List, [], ◌∷◌, length, get_or, take, drop, refl, sym, ap, ◌∙◌, subst, arith, length-drop, length-take, take-take, take_all, Option, Some, None}
 use Rattle.std.proofs.lemmas.List.{drop-take}
-use Rattle.rustc_lexer.specs.Scan.{Agree, IsLocal, then_by, and_then, gives, after, begins, next_is, run_len, run}
+use Rattle.std.specs.List.{list_all}
+use Rattle.rustc_lexer.specs.ChoiceLaws.{by_test}
+use Rattle.rustc_lexer.specs.Least.{one_more, least}
+use Rattle.rustc_lexer.specs.Scan.{IsLocalAt, IsLocal, IsFound, or_all, or_all_at, then_by, and_then, gives, after, read_as, begins, next_is, run_len, run, run_as}
 
--- texts that agree past a place agree past each place before it
-pub agree_before : (k n m : ℕ) (s u : List ℕ) → Agree k (n + m) s u → Agree k n s u
-agree_before k n m s u a = record {
-  below = sym (take-take n (n + m) s (omega arith)) ∙ (ap (take n) a.below ∙ take-take n (n + m) u (omega arith));
-  inside = let i = a.inside in omega arith;
-  past =
-      let same : take m (drop n s) ≡ take m (drop n u) = sym (drop-take n m s) ∙ (ap (drop n) a.below ∙ drop-take n m u) in
-      let past : take k (drop m (drop n s)) ≡ take k (drop m (drop n u)) = rw (drop-drop m n s, drop-drop m n u) a.past in
-      let more : take (m + k) (drop n s) ≡ take (m + k) (drop n u) = rw (take-add m k (drop n s), take-add m k (drop n u), same, past) refl in
-      sym (take-take k (m + k) (drop n s) (omega arith)) ∙ (ap (take k) more ∙ take-take k (m + k) (drop n u) (omega arith));
-}
+-- ---- texts that begin alike
 
-pub agree_after : (k n m : ℕ) (s u : List ℕ) → Agree k (n + m) s u → Agree k m (drop n s) (drop n u)
-agree_after k n m s u a = record {
-  below = sym (drop-take n m s) ∙ (ap (drop n) a.below ∙ drop-take n m u);
-  inside = let i = a.inside in omega (arith, length-drop n u);
-  past = rw (drop-drop m n s, drop-drop m n u) a.past;
-}
+pub cut : (j k : ℕ) (u s : List ℕ) → j ≤ k → take k u ≡ take k s → take j u ≡ take j s
+cut j k u s le e = sym (take-take j k u le) ∙ (ap (take j) e ∙ take-take j k s le)
 
--- a scanner that reaches less far is local too
-pub wider : {A : Type 0} (j k : ℕ) (scan : List ℕ → A × ℕ) → j ≤ k → IsLocal A j scan → IsLocal A k scan
-wider j k scan le is = record {
-  inside = is.inside;
-  local = λ s u a. is.local s u record { below = a.below; inside = a.inside; past = sym (take-take j k _ le) ∙ (ap (take j) a.past ∙ take-take j k _ le) };
-}
+pub cut_past : (n j k : ℕ) (u s : List ℕ) → n + j ≤ k → take k u ≡ take k s → take j (drop n u) ≡ take j (drop n s)
+cut_past n j k u s le e = sym (drop-take n j u) ∙ (ap (drop n) (cut (n + j) k u s le e) ∙ drop-take n j s)
 
--- scanners in a row reach no further than each of them
-pub and_then_local : {A B : Type 0} (k : ℕ) (scan : List ℕ → A × ℕ) (next : A → List ℕ → B × ℕ) → IsLocal A k scan → ((a : A) → IsLocal B k (next a)) → IsLocal B k (and_then scan next)
-and_then_local {A} {B} k scan next is nexts = record {
-  inside = λ s. omega (arith, is.inside s, (nexts (scan s).0).inside (drop (scan s).1 s), length-drop (scan s).1 s);
-  local = λ s u a.
-      let n : ℕ = (scan s).1 in
-      let m : ℕ = (next (scan s).0 (drop n s)).1 in
-      let one : scan u ≡ scan s = is.local s u (agree_before k n m s u a) in
-      let two : next (scan s).0 (drop n u) ≡ next (scan s).0 (drop n s) = (nexts (scan s).0).local (drop n s) (drop n u) (agree_after k n m s u a) in
-      ap (λ (p : A × ℕ). then_by p u next) one ∙ ap (λ (q : B × ℕ). (q.0, n + q.1)) two;
-}
+-- a text that begins like one with this first character
+pub record HasFirst (c n : ℕ) (u s : List ℕ) : Type 0 where
+  pub rest : List ℕ
+  pub whole : u ≡ c ∷ rest
+  pub alike : take n rest ≡ take n s
 
-pub gives_local : {A : Type 0} (a : A) → IsLocal A 0 (gives a)
-gives_local a = record { inside = λ s. omega arith; local = λ s u h. refl }
+pub cut_first : (n c : ℕ) (u s : List ℕ) → take (suc n) u ≡ take (suc n) (c ∷ s) → HasFirst c n u s
+cut_first n c [] s e = absurd (let no : 0 ≡ suc (length (take n s)) = ap length e in omega arith)
+cut_first n c (d ∷ us) s e = record { rest = us; whole = ap (λ x. x ∷ us) (ap (λ xs. get_or xs 0 0) e); alike = ap (drop 1) e }
+
+-- a text that begins like all of another, and ends there, is that text
+pub same_text : (k : ℕ) (u s : List ℕ) → length s < k → take k u ≡ take k s → u ≡ s
+same_text k u s lt e = sym (take_all k u (omega (arith, ap length e, length-take k u, length-take k s))) ∙ (e ∙ take_all k s (omega arith))
+
+-- what is told by the first characters of a text
+abbrev pub IsToldBy : {B : Type 0} → ℕ → (List ℕ → B) → Type 0
+IsToldBy k f = (s : List ℕ) → f (take k s) ≡ f s
+
+pub told_same : {B : Type 0} (j k : ℕ) (f : List ℕ → B) (u s : List ℕ) → IsToldBy j f → j ≤ k → take k u ≡ take k s → f u ≡ f s
+told_same j k f u s told le e = sym (told u) ∙ (ap f (cut j k u s le e) ∙ told s)
 
 and_both : (a b : Bool) → a && b ≡ true → (a ≡ true) × (b ≡ true)
 and_both true b e = (refl, e)
 and_both false b e = absurd (true≢false (sym e))
 
--- two ways to say the same scanner
-pub same_local : {A : Type 0} (k : ℕ) (scan other : List ℕ → A × ℕ) → ((s : List ℕ) → scan s ≡ other s) → IsLocal A k other → IsLocal A k scan
-same_local {A} k scan other same is = record {
-  inside = λ s. omega (arith, ap (λ (r : A × ℕ). r.1) (same s), is.inside s);
-  local = λ s u a. same u ∙ (is.local s u (subst (λ (n : ℕ). Agree k n s u) (ap (λ (r : A × ℕ). r.1) (same s)) a) ∙ sym (same s));
-}
-
--- the next character is told by one character
-pub next_is-take : (p : ℕ → Bool) (k : ℕ) (s : List ℕ) → 0 < k → next_is p (take k s) ≡ next_is p s
-next_is-take p zero s some = absurd (omega arith)
-next_is-take p (suc k) [] some = refl
-next_is-take p (suc k) (c ∷ s) some = refl
+pub next_is-told : (p : ℕ → Bool) → IsToldBy 1 (next_is p)
+next_is-told p [] = refl
+next_is-told p (c ∷ s) = refl
 
 pub next_is-length : (p : ℕ → Bool) (s : List ℕ) → next_is p s ≡ true → 1 ≤ length s
 next_is-length p [] e = absurd (true≢false (sym e))
 next_is-length p (c ∷ s) e = omega arith
 
--- whether a text begins with some characters is told by as many of its own
-pub begins-take : (p : List ℕ) (k : ℕ) (s : List ℕ) → length p ≤ k → begins p (take k s) ≡ begins p s
-begins-take [] k s le = refl
-begins-take (c ∷ cs) zero s le = absurd (omega arith)
-begins-take (c ∷ cs) (suc k) [] le = refl
-begins-take (c ∷ cs) (suc k) (d ∷ s) le = ap (λ b. d == c && b) (begins-take cs k s (omega arith))
+pub begins-told : (p : List ℕ) → IsToldBy (length p) (begins p)
+begins-told [] s = refl
+begins-told (c ∷ cs) [] = refl
+begins-told (c ∷ cs) (d ∷ s) = ap (λ b. d == c && b) (begins-told cs s)
 
 pub begins-length : (p s : List ℕ) → begins p s ≡ true → length p ≤ length s
 begins-length [] s e = omega arith
 begins-length (c ∷ cs) [] e = absurd (true≢false (sym e))
 begins-length (c ∷ cs) (d ∷ s) e = omega (arith, begins-length cs s (and_both (d == c) (begins cs s) e).1)
 
--- the next characters choose: past some of them one scanner, or else another
-pub choice_local : {A : Type 0} (k n : ℕ) (test : List ℕ → Bool) (scan other : List ℕ → A × ℕ)
-    → ((s : List ℕ) → test (take k s) ≡ test s) → ((s : List ℕ) → test s ≡ true → n ≤ length s) → IsLocal A k scan → IsLocal A k other
-    → IsLocal A k (λ s. if test s then after n scan s else other s)
-choice_local {A} k n test scan other told fits is others = record { inside = λ s. inside s (test s) refl; local = λ s u. local s u (test s) refl }
+-- ---- scanners
+
+pub gives_local : {A : Type 0} (k : ℕ) (a : A) → IsLocal A k (gives a)
+gives_local k a s = record { inside = omega arith; local = λ u e. refl }
+
+-- what reaches less far
+pub wider : {A : Type 0} {scan : List ℕ → A × ℕ} {s : List ℕ} (j k : ℕ) → j ≤ k → IsLocalAt A j scan s → IsLocalAt A k scan s
+wider {A} {scan} {s} j k le is = record { inside = is.inside; local = λ u e. is.local u (cut ((scan s).1 + j) ((scan s).1 + k) u s (omega arith) e) }
+
+-- what takes all of the text
+pub all_at : {A : Type 0} (k : ℕ) (scan : List ℕ → A × ℕ) (s : List ℕ) → 0 < k → (scan s).1 ≡ length s → IsLocalAt A k scan s
+all_at k scan s some all = record { inside = omega arith; local = λ u e. ap scan (same_text ((scan s).1 + k) u s (omega arith) e) }
+
+-- two ways to say the same scanner
+pub same_at : {A : Type 0} (k : ℕ) (scan other : List ℕ → A × ℕ) (s : List ℕ) → ((s : List ℕ) → scan s ≡ other s) → IsLocalAt A k other s → IsLocalAt A k scan s
+same_at {A} k scan other s same is =
+    let len : (scan s).1 ≡ (other s).1 = ap (λ (r : A × ℕ). r.1) (same s) in
+    record { inside = omega (arith, is.inside); local = λ u e. same u ∙ (is.local u (subst (λ (n : ℕ). take (n + k) u ≡ take (n + k) s) len e) ∙ sym (same s)) }
+
+-- another answer
+pub read_as_at : {A B : Type 0} (k : ℕ) (f : A → B) (scan : List ℕ → A × ℕ) (s : List ℕ) → IsLocalAt A k scan s → IsLocalAt B k (read_as f scan) s
+read_as_at {A} {B} k f scan s is = record { inside = is.inside; local = λ u e. ap (λ (r : A × ℕ). let q : B × ℕ = (f r.0, r.1) in q) (is.local u e) }
+
+-- one scanner after another: what the first sees past its end, the second takes or sees
+pub and_then_at : {A B : Type 0} (j k : ℕ) (scan : List ℕ → A × ℕ) (next : A → List ℕ → B × ℕ) (s : List ℕ) → IsLocalAt A j scan s → IsLocalAt B k (next (scan s).0) (drop (scan s).1 s)
+    → j ≤ (next (scan s).0 (drop (scan s).1 s)).1 + k → IsLocalAt B k (and_then scan next) s
+and_then_at {A} {B} j k scan next s is nexts le =
+    let n : ℕ = (scan s).1 in
+    let m : ℕ = (next (scan s).0 (drop n s)).1 in
+    record {
+      inside = omega (arith, is.inside, nexts.inside, length-drop n s);
+      local = λ u e.
+          let one : scan u ≡ scan s = is.local u (cut (n + j) (n + m + k) u s (omega arith) e) in
+          let two : next (scan s).0 (drop n u) ≡ next (scan s).0 (drop n s) = nexts.local (drop n u) (cut_past n (m + k) (n + m + k) u s (omega arith) e) in
+          ap (λ (p : A × ℕ). then_by p u next) one ∙ ap (λ (q : B × ℕ). let r : B × ℕ = (q.0, n + q.1) in r) two;
+    }
+
+pub and_then_local : {A B : Type 0} (k : ℕ) (scan : List ℕ → A × ℕ) (next : A → List ℕ → B × ℕ) → IsLocal A k scan → ((a : A) → IsLocal B k (next a)) → IsLocal B k (and_then scan next)
+and_then_local k scan next is nexts s = and_then_at k k scan next s (is s) (nexts (scan s).0 (drop (scan s).1 s)) (omega arith)
+
+-- past some characters
+pub after_at : {A : Type 0} (k n : ℕ) (scan : List ℕ → A × ℕ) (s : List ℕ) → n ≤ length s → IsLocalAt A k scan (drop n s) → IsLocalAt A k (after n scan) s
+after_at {A} k n scan s fits is =
+    let m : ℕ = (scan (drop n s)).1 in
+    record {
+      inside = omega (arith, is.inside, length-drop n s);
+      local = λ u e. ap (λ (r : A × ℕ). let q : A × ℕ = (r.0, n + r.1) in q) (is.local (drop n u) (cut_past n (m + k) (n + m + k) u s (omega arith) e));
+    }
+
+-- a choice by a test that is told by j characters
+module _ {A : Type 0} (j k : ℕ) (test : List ℕ → Bool) (scan other : List ℕ → A × ℕ) (told : IsToldBy j test) where
+  abbrev either : List ℕ → A × ℕ
+  either s = if test s then scan s else other s
+
+  is_yes : (s : List ℕ) → test s ≡ true → either s ≡ scan s
+  is_yes s t = rw t refl
+
+  is_no : (s : List ℕ) → test s ≡ false → either s ≡ other s
+  is_no s t = rw t refl
+
+  pub yes_at : (s : List ℕ) → test s ≡ true → j ≤ (scan s).1 + k → IsLocalAt A k scan s → IsLocalAt A k (λ s. if test s then scan s else other s) s
+  yes_at s t le is = record {
+    inside = rw (is_yes s t) is.inside;
+    local = λ u e.
+        let f : take ((scan s).1 + k) u ≡ take ((scan s).1 + k) s = rw (is_yes s t) at e in
+        is_yes u (told_same j ((scan s).1 + k) test u s told le f ∙ t) ∙ (is.local u f ∙ sym (is_yes s t));
+  }
+
+  pub no_at : (s : List ℕ) → test s ≡ false → j ≤ (other s).1 + k → IsLocalAt A k other s → IsLocalAt A k (λ s. if test s then scan s else other s) s
+  no_at s t le is = record {
+    inside = rw (is_no s t) is.inside;
+    local = λ u e.
+        let f : take ((other s).1 + k) u ≡ take ((other s).1 + k) s = rw (is_no s t) at e in
+        is_no u (told_same j ((other s).1 + k) test u s told le f ∙ t) ∙ (is.local u f ∙ sym (is_no s t));
+  }
+
+  pub either_at : (s : List ℕ) → j ≤ k → (test s ≡ true → IsLocalAt A k scan s) → (test s ≡ false → IsLocalAt A k other s) → IsLocalAt A k (λ s. if test s then scan s else other s) s
+  either_at s le yes_is no_is = by_test (test s) refl
+    where
+      by_test : (b : Bool) → test s ≡ b → IsLocalAt A k (λ s. if test s then scan s else other s) s
+      by_test true t = yes_at s t (omega arith) (yes_is t)
+      by_test false t = no_at s t (omega arith) (no_is t)
+
+-- the first characters choose, and are taken
+pub begins_local : {A : Type 0} (k : ℕ) (p : List ℕ) (scan other : List ℕ → A × ℕ) → length p ≤ k → IsLocal A k scan → IsLocal A k other → IsLocal A k (λ s. if begins p s then after (length p) scan s else other s)
+begins_local k p scan other le is others s =
+    either_at (length p) k (begins p) (after (length p) scan) other (begins-told p) s le (λ t. after_at k (length p) scan s (begins-length p s t) (is (drop (length p) s))) (λ t. others s)
+
+pub next_is_local : {A : Type 0} (k : ℕ) (p : ℕ → Bool) (scan other : List ℕ → A × ℕ) → 1 ≤ k → IsLocal A k scan → IsLocal A k other → IsLocal A k (λ s. if next_is p s then after 1 scan s else other s)
+next_is_local k p scan other le is others s =
+    either_at 1 k (next_is p) (after 1 scan) other (next_is-told p) s le (λ t. after_at k 1 scan s (next_is-length p s t) (is (drop 1 s))) (λ t. others s)
+
+-- the first character is taken
+pub first_at : {A : Type 0} (k : ℕ) (past_first : ℕ → List ℕ → A × ℕ) (scan : List ℕ → A × ℕ) (c : ℕ) (s : List ℕ) → ((c : ℕ) (s : List ℕ) → scan (c ∷ s) ≡ ((past_first c s).0, suc (past_first c s).1))
+    → IsLocalAt A k (past_first c) s → IsLocalAt A k scan (c ∷ s)
+first_at {A} k past_first scan c s at_char is =
+    let m : ℕ = (past_first c s).1 in
+    let len : (scan (c ∷ s)).1 ≡ suc m = ap (λ (r : A × ℕ). r.1) (at_char c s) in
+    let sum : (scan (c ∷ s)).1 + k ≡ suc (m + k) = omega arith in
+    record { inside = omega (arith, is.inside); local = λ u e. local u (cut_first (m + k) c u s (subst (λ (n : ℕ). take n u ≡ take n (c ∷ s)) sum e)) }
   where
-    chosen : List ℕ → Bool → A × ℕ
-    chosen s b = if b then after n scan s else other s
+    local : (u : List ℕ) → HasFirst c ((past_first c s).1 + k) u s → scan u ≡ scan (c ∷ s)
+    local u f = ap scan f.whole ∙ (at_char c f.rest ∙ (ap (λ (r : A × ℕ). let q : A × ℕ = (r.0, suc r.1) in q) (is.local f.rest f.alike) ∙ sym (at_char c s)))
 
-    inside : (s : List ℕ) (b : Bool) → test s ≡ b → (chosen s b).1 ≤ length s
-    inside s true e = omega (arith, fits s e, is.inside (drop n s), length-drop n s)
-    inside s false e = others.inside s
+pub first_local : {A : Type 0} (k : ℕ) (end : A) (past_first : ℕ → List ℕ → A × ℕ) (scan : List ℕ → A × ℕ) → 0 < k → scan [] ≡ (end, 0)
+    → ((c : ℕ) (s : List ℕ) → scan (c ∷ s) ≡ ((past_first c s).0, suc (past_first c s).1)) → ((c : ℕ) → IsLocal A k (past_first c)) → IsLocal A k scan
+first_local {A} k end past_first scan some at_end at_char is [] = all_at k scan [] some (ap (λ (r : A × ℕ). r.1) at_end)
+first_local k end past_first scan some at_end at_char is (c ∷ s) = first_at k past_first scan c s at_char (is c s)
 
-    same : (s u : List ℕ) (m : ℕ) → Agree k m s u → test u ≡ test s
-    same s u m a =
-        let zero-plus : 0 + m ≡ m = omega arith in
-        let here : Agree k 0 s u = agree_before k 0 m s u (rw zero-plus a) in
-        sym (told u) ∙ (ap test (sym here.past) ∙ told s)
-
-    by_test : (s u : List ℕ) (b : Bool) → test s ≡ b → Agree k (chosen s b).1 s u → chosen u b ≡ chosen s b
-    by_test s u true e a = ap (λ (r : A × ℕ). (r.0, n + r.1)) (is.local (drop n s) (drop n u) (agree_after k n (scan (drop n s)).1 s u a))
-    by_test s u false e a = others.local s u a
-
-    local : (s u : List ℕ) (b : Bool) → test s ≡ b → Agree k (chosen s (test s)).1 s u → chosen u (test u) ≡ chosen s (test s)
-    local s u b e a =
-        ap (chosen u) (same s u (chosen s (test s)).1 a ∙ e) ∙ (by_test s u b e (subst (λ (x : Bool). Agree k (chosen s x).1 s u) e a) ∙ ap (chosen s) (sym e))
-
--- the next characters choose, and none of them is taken
-pub either_local : {A : Type 0} (k : ℕ) (test : List ℕ → Bool) (scan other : List ℕ → A × ℕ)
-    → ((s : List ℕ) → test (take k s) ≡ test s) → IsLocal A k scan → IsLocal A k other → IsLocal A k (λ s. if test s then scan s else other s)
-either_local {A} k test scan other told is others = record { inside = λ s. inside s (test s); local = λ s u. local s u (test s) refl }
-  where
-    chosen : List ℕ → Bool → A × ℕ
-    chosen s b = if b then scan s else other s
-
-    inside : (s : List ℕ) (b : Bool) → (chosen s b).1 ≤ length s
-    inside s true = is.inside s
-    inside s false = others.inside s
-
-    same : (s u : List ℕ) (m : ℕ) → Agree k m s u → test u ≡ test s
-    same s u m a =
-        let zero-plus : 0 + m ≡ m = omega arith in
-        let here : Agree k 0 s u = agree_before k 0 m s u (rw zero-plus a) in
-        sym (told u) ∙ (ap test (sym here.past) ∙ told s)
-
-    by_test : (s u : List ℕ) (b : Bool) → Agree k (chosen s b).1 s u → chosen u b ≡ chosen s b
-    by_test s u true a = is.local s u a
-    by_test s u false a = others.local s u a
-
-    local : (s u : List ℕ) (b : Bool) → test s ≡ b → Agree k (chosen s (test s)).1 s u → chosen u (test u) ≡ chosen s (test s)
-    local s u b e a =
-        ap (chosen u) (same s u (chosen s (test s)).1 a ∙ e) ∙ (by_test s u b (subst (λ (x : Bool). Agree k (chosen s x).1 s u) e a) ∙ ap (chosen s) (sym e))
-
--- the first character chooses, and is taken
-pub first_local : {A : Type 0} (k : ℕ) (end : A) (past_first : ℕ → List ℕ → A × ℕ) (scan : List ℕ → A × ℕ) → 0 < k
-    → scan [] ≡ (end, 0) → ((c : ℕ) (s : List ℕ) → scan (c ∷ s) ≡ ((past_first c s).0, suc (past_first c s).1)) → ((c : ℕ) → IsLocal A k (past_first c)) → IsLocal A k scan
-first_local {A} k end past_first scan some at_end at_char is = record { inside = inside; local = local }
-  where
-    inside : (s : List ℕ) → (scan s).1 ≤ length s
-    inside [] = omega (arith, ap (λ (r : A × ℕ). r.1) at_end)
-    inside (c ∷ s) = omega (arith, ap (λ (r : A × ℕ). r.1) (at_char c s), (is c).inside s)
-
-    local : (s u : List ℕ) → Agree k (scan s).1 s u → scan u ≡ scan s
-    local [] [] a = refl
-    local [] (d ∷ us) a =
-        let h : Agree k 0 [] (d ∷ us) = subst (λ (n : ℕ). Agree k n [] (d ∷ us)) (ap (λ (r : A × ℕ). r.1) at_end) a in
-        absurd (let no : length (take k []) ≡ length (take k (d ∷ us)) = ap length h.past in omega (arith, length-take k (d ∷ us), length-take {A = ℕ} k []))
-    local (c ∷ s) u a = from_first u (subst (λ (n : ℕ). Agree k n (c ∷ s) u) (ap (λ (r : A × ℕ). r.1) (at_char c s)) a)
-      where
-        from_first : (u : List ℕ) → Agree k (suc (past_first c s).1) (c ∷ s) u → scan u ≡ scan (c ∷ s)
-        from_first [] h = absurd (let i = h.inside in omega arith)
-        from_first (d ∷ us) h =
-            let same : c ≡ d = ap (λ xs. get_or xs 0 0) h.below in
-            let rest : Agree k (past_first c s).1 s us = record { below = ap (drop 1) h.below; inside = let i = h.inside in omega arith; past = h.past } in
-            at_char d us ∙ (ap (λ (r : A × ℕ). (r.0, suc r.1)) (ap (λ x. past_first x us) (sym same) ∙ (is c).local s us rest) ∙ sym (at_char c s))
+-- ---- runs
 
 pub run_len_le : (p : ℕ → Bool) (s : List ℕ) → run_len p s ≤ length s
 run_len_le p [] = omega arith
 run_len_le p (c ∷ cs) = elim (p c) as (λ b. if◌then◌else◌ b (suc (run_len p cs)) 0 ≤ suc (length cs)) [ true ↦ omega (arith, run_len_le p cs) | false ↦ omega arith ]
 
-run_len-in : (p : ℕ → Bool) (c : ℕ) (cs : List ℕ) → p c ≡ true → run_len p (c ∷ cs) ≡ suc (run_len p cs)
+pub run_len-in : (p : ℕ → Bool) (c : ℕ) (cs : List ℕ) → p c ≡ true → run_len p (c ∷ cs) ≡ suc (run_len p cs)
 run_len-in p c cs e = rw e refl
 
-run_len-out : (p : ℕ → Bool) (c : ℕ) (cs : List ℕ) → p c ≡ false → run_len p (c ∷ cs) ≡ 0
+pub run_len-out : (p : ℕ → Bool) (c : ℕ) (cs : List ℕ) → p c ≡ false → run_len p (c ∷ cs) ≡ 0
 run_len-out p c cs e = rw e refl
 
--- the longest front in a class reaches one character
-pub run_len_local : (p : ℕ → Bool) (s u : List ℕ) → Agree 1 (run_len p s) s u → run_len p u ≡ run_len p s
-run_len_local p [] [] a = refl
-run_len_local p [] (d ∷ us) a = absurd (let no : 0 ≡ 1 = ap length a.past in omega arith)
-run_len_local p (c ∷ cs) u a = by_test (λ us. run_len_local p cs us) (p c) refl u a
+pub run_len_same : (p : ℕ → Bool) (s u : List ℕ) → take (run_len p s + 1) u ≡ take (run_len p s + 1) s → run_len p u ≡ run_len p s
+run_len_same p [] u e = ap (run_len p) (same_text 1 u [] (omega arith) e)
+run_len_same p (c ∷ cs) u e = by_class (run_len_same p cs) (p c) refl
   where
-    by_test : ((us : List ℕ) → Agree 1 (run_len p cs) cs us → run_len p us ≡ run_len p cs) → (b : Bool) → p c ≡ b → (u : List ℕ) → Agree 1 (run_len p (c ∷ cs)) (c ∷ cs) u → run_len p u ≡ run_len p (c ∷ cs)
-    by_test ih true e [] a = absurd (let i : run_len p (c ∷ cs) ≤ 0 = a.inside in omega (arith, run_len-in p c cs e))
-    by_test ih true e (d ∷ us) a =
-        let h : Agree 1 (suc (run_len p cs)) (c ∷ cs) (d ∷ us) = rw (run_len-in p c cs e) at a in
-        let same : c ≡ d = ap (λ xs. get_or xs 0 0) h.below in
-        let rest : Agree 1 (run_len p cs) cs us = record { below = ap (drop 1) h.below; inside = let i = h.inside in omega arith; past = h.past } in
-        run_len-in p d us (ap p (sym same) ∙ e) ∙ (ap suc (ih us rest) ∙ sym (run_len-in p c cs e))
-    by_test ih false e [] a =
-        let h : Agree 1 0 (c ∷ cs) [] = rw (run_len-out p c cs e) at a in
-        absurd (let no : 1 ≡ 0 = ap length h.past in omega arith)
-    by_test ih false e (d ∷ us) a =
-        let h : Agree 1 0 (c ∷ cs) (d ∷ us) = rw (run_len-out p c cs e) at a in
-        let same : c ≡ d = ap (λ xs. get_or xs 0 0) h.past in
-        run_len-out p d us (ap p (sym same) ∙ e) ∙ sym (run_len-out p c cs e)
+    by_class : ((us : List ℕ) → take (run_len p cs + 1) us ≡ take (run_len p cs + 1) cs → run_len p us ≡ run_len p cs) → (b : Bool) → p c ≡ b → run_len p u ≡ run_len p (c ∷ cs)
+    by_class ih true t =
+        let more : run_len p (c ∷ cs) + 1 ≡ suc (run_len p cs + 1) = omega (arith, run_len-in p c cs t) in
+        goes (cut_first (run_len p cs + 1) c u cs (subst (λ (n : ℕ). take n u ≡ take n (c ∷ cs)) more e))
+      where
+        goes : HasFirst c (run_len p cs + 1) u cs → run_len p u ≡ run_len p (c ∷ cs)
+        goes f = ap (run_len p) f.whole ∙ (run_len-in p c f.rest t ∙ (ap suc (ih f.rest f.alike) ∙ sym (run_len-in p c cs t)))
+    by_class ih false t = stops (cut_first 0 c u cs (subst (λ (n : ℕ). take (n + 1) u ≡ take (n + 1) (c ∷ cs)) (run_len-out p c cs t) e))
+      where
+        stops : HasFirst c 0 u cs → run_len p u ≡ run_len p (c ∷ cs)
+        stops f = ap (run_len p) f.whole ∙ (run_len-out p c f.rest t ∙ sym (run_len-out p c cs t))
+
+-- a run is in its class
+pub run_all : (p : ℕ → Bool) (s : List ℕ) → list_all p (take (run_len p s) s) ≡ true
+run_all p [] = refl
+run_all p (c ∷ s) =
+    by_test (λ n. list_all p (take n (c ∷ s)) ≡ true) (p c) (suc (run_len p s)) 0 (λ e. ap (λ (b : Bool). b && list_all p (take (run_len p s) s)) e ∙ run_all p s) (λ e. refl)
+
+-- the longest front in a class looks one character past it
+pub run_as_local : {A : Type 0} (f : List ℕ → List ℕ → A) (p : ℕ → Bool) → ((front : List ℕ) → IsToldBy 1 (f front)) → IsLocal A 1 (run_as f p)
+run_as_local {A} f p told s = record {
+  inside = run_len_le p s;
+  local = λ u e.
+      let n : ℕ = run_len p s in
+      let front : take n u ≡ take n s = cut n (n + 1) u s (omega arith) e in
+      let next : f (take n s) (drop n u) ≡ f (take n s) (drop n s) = told_same 1 1 (f (take n s)) (drop n u) (drop n s) (told (take n s)) (omega arith) (cut_past n 1 (n + 1) u s (omega arith) e) in
+      ap (λ (m : ℕ). let r : A × ℕ = (f (take m u) (drop m u), m) in r) (run_len_same p s u e)
+      ∙ ap (λ (a : A). let r : A × ℕ = (a, n) in r) (ap (λ (xs : List ℕ). f xs (drop n u)) front ∙ next);
+}
 
 pub run_local : {A : Type 0} (a : A) (p : ℕ → Bool) → IsLocal A 1 (run a p)
-run_local a p = record { inside = run_len_le p; local = λ s u h. ap (λ n. (a, n)) (run_len_local p s u h) }
+run_local a p = run_as_local (λ front rest. a) p (λ front s. refl)
+
+-- ---- ends
+
+module _ (end : List ℕ → Option ℕ) where
+  abbrev up_to : List ℕ → Option ℕ × ℕ
+  up_to u = (end u, (or_all end u).1)
+
+  abbrev up_to_at : Option ℕ → List ℕ → Option ℕ × ℕ
+  up_to_at o u = (o, (or_all_at o u).1)
+
+  pub found_at : (k : ℕ) (s : List ℕ) (n : ℕ) → end s ≡ Some n → n ≤ length s → ((u : List ℕ) → take (n + k) u ≡ take (n + k) s → end u ≡ Some n) → IsLocalAt (Option ℕ) k (λ u. (end u, (or_all end u).1)) s
+  found_at k s n e le same =
+      let len : (or_all end s).1 ≡ n = ap (λ (o : Option ℕ). (or_all_at o s).1) e in
+      record {
+        inside = omega arith;
+        local = λ u a. ap (λ o. up_to_at o u) (same u (subst (λ (m : ℕ). take (m + k) u ≡ take (m + k) s) len a)) ∙ sym (ap (λ o. up_to_at o s) e);
+      }
+
+  module _ (k : ℕ) (is : IsFound k end) (s : List ℕ) (n : ℕ) (e : end s ≡ Some n) where
+    pub found-inside : n ≤ length s
+    found-inside = let len : (or_all end s).1 ≡ n = ap (λ (o : Option ℕ). (or_all_at o s).1) e in let at = is s n e in omega (arith, at.inside)
+
+    pub found-same : (u : List ℕ) → take (n + k) u ≡ take (n + k) s → end u ≡ Some n
+    found-same u a =
+        let len : n ≡ (or_all end s).1 = sym (ap (λ (o : Option ℕ). (or_all_at o s).1) e) in
+        ap (λ (r : Option ℕ × ℕ). r.0) ((is s n e).local u (subst (λ (m : ℕ). take (m + k) u ≡ take (m + k) s) len a)) ∙ e
+
+-- the least number that passes a test
+pub record IsLeast (test : ℕ → Bool) (count n : ℕ) : Type 0 where
+  pub below : n < count
+  pub here : test n ≡ true
+  pub before : (i : ℕ) → i < n → test i ≡ false
+
+pub one_more-some : (o : Option ℕ) (n : ℕ) → one_more o ≡ Some n → (m : ℕ) × (o ≡ Some m) × (n ≡ suc m)
+one_more-some None n e = absurd (cc)
+one_more-some (Some m) n e = (m, refl, let some : Some (suc m) ≡ Some n = e in let same : suc m ≡ n = cc in sym same)
+
+pub least-some : (test : ℕ → Bool) (count n : ℕ) → least test count ≡ Some n → IsLeast test count n
+least-some test zero n e = absurd (cc)
+least-some test (suc count) n e = by_test (least-some (λ i. test (suc i)) count) (test 0) refl
+  where
+    by_test : ((m : ℕ) → least (λ i. test (suc i)) count ≡ Some m → IsLeast (λ i. test (suc i)) count m) → (b : Bool) → test 0 ≡ b → IsLeast test (suc count) n
+    by_test ih true t =
+        let first : Some 0 ≡ Some n = sym (rw t refl) ∙ e in
+        let same : 0 ≡ n = cc in
+        record { below = omega arith; here = subst (λ (i : ℕ). test i ≡ true) same t; before = λ i lt. absurd (omega arith) }
+    by_test ih false t =
+        let more : one_more (least (λ i. test (suc i)) count) ≡ Some n = sym (rw t refl) ∙ e in
+        let m = one_more-some (least (λ i. test (suc i)) count) n more in
+        let is = ih m.0 m.1 in
+        record { below = omega (arith, is.below, m.2); here = subst (λ (i : ℕ). test i ≡ true) (sym m.2) is.here; before = λ i lt. before i (omega (arith, m.2)) is }
+      where
+        before : {m : ℕ} (i : ℕ) → i < suc m → IsLeast (λ i. test (suc i)) count m → test i ≡ false
+        before zero lt is = t
+        before (suc i) lt is = is.before i (omega arith)
+
+pub least-is : (test : ℕ → Bool) (count n : ℕ) → IsLeast test count n → least test count ≡ Some n
+least-is test zero n is = absurd (let lt = is.below in omega arith)
+least-is test (suc count) zero is = let h = is.here in rw h refl
+least-is test (suc count) (suc n) is =
+    let none : test 0 ≡ false = is.before 0 (omega arith) in
+    let lt : n < count = let l = is.below in omega arith in
+    rw none (ap one_more (least-is (λ i. test (suc i)) count n record { below = lt; here = is.here; before = λ i l. is.before (suc i) (omega arith) }))
+
+-- the least place that passes a test of what stands before it and of k characters from it on
+pub least_found : (k : ℕ) (test : List ℕ → ℕ → Bool) → 0 < k → ((u s : List ℕ) (i : ℕ) → take (i + k) u ≡ take (i + k) s → test u i ≡ test s i) → IsFound k (λ s. least (test s) (length s))
+least_found k test some told s n e =
+    let is = least-some (test s) (length s) n e in
+    found_at (λ s. least (test s) (length s)) k s n e (let l = is.below in omega arith) (λ u a. least-is (test u) (length u) n record {
+      below = omega (arith, is.below, ap length a, length-take (n + k) u, length-take (n + k) s);
+      here = told u s n a ∙ is.here;
+      before = λ i lt. told u s i (cut (i + k) (n + k) u s (omega arith) a) ∙ is.before i lt;
+    })

@@ -1,19 +1,18 @@
 -- Scanners: what is read at the front of a list of characters, and how many of them are taken.
-use Rattle.std.specs.Prelude.{ℕ, suc, ◌≡◌, ◌+◌, ◌≤◌, ◌==◌, ◌&&◌, Bool, true, false, if◌then◌else◌, List, [], ◌∷◌, length, take, drop}
+use Rattle.std.specs.Prelude.{ℕ, suc, ◌≡◌, ◌+◌, ◌≤◌, ◌==◌, ◌&&◌, Bool, true, false, if◌then◌else◌, List, [], ◌∷◌, length, take, drop, Option, Some, None}
 use Rattle.std.specs.Str.{chars, encode_utf8_all}
 use Rattle.rustc_lexer.specs.declared.token.Token.{Token}
 use Rattle.rustc_lexer.specs.declared.token.TokenKind.{TokenKind}
 
--- the texts agree on the first `taken` characters and on the next `reach`, or end alike there
-pub record Agree (reach taken : ℕ) (s u : List ℕ) : Type 0 where
-  pub below : take taken s ≡ take taken u
-  pub inside : taken ≤ length u
-  pub past : take reach (drop taken s) ≡ take reach (drop taken u)
+-- what is read of this text depends on no more than `reach` characters past what is taken: a text that has the same first
+-- characters up to there, or ends with this one before that, is read alike
+pub record IsLocalAt (A : Type 0) (reach : ℕ) (scan : List ℕ → A × ℕ) (s : List ℕ) : Type 0 where
+  pub inside : (scan s).1 ≤ length s
+  pub local : (u : List ℕ) → take ((scan s).1 + reach) u ≡ take ((scan s).1 + reach) s → scan u ≡ scan s
 
--- the scanner takes what is there, and what it answers depends on no more than `reach` characters past what it takes
-pub record IsLocal (A : Type 0) (reach : ℕ) (scan : List ℕ → A × ℕ) : Type 0 where
-  pub inside : (s : List ℕ) → (scan s).1 ≤ length s
-  pub local : (s u : List ℕ) → Agree reach (scan s).1 s u → scan u ≡ scan s
+-- so it is with each text
+abbrev pub IsLocal : (A : Type 0) → ℕ → (List ℕ → A × ℕ) → Type 0
+IsLocal A reach scan = (s : List ℕ) → IsLocalAt A reach scan s
 
 -- one scanner, then the next on what it left
 abbrev pub then_by : {A B : Type 0} → (A × ℕ) → List ℕ → (A → List ℕ → B × ℕ) → B × ℕ
@@ -25,6 +24,10 @@ and_then scan next s = then_by (scan s) s next
 -- nothing taken
 abbrev pub gives : {A : Type 0} → A → List ℕ → A × ℕ
 gives a s = (a, 0)
+
+-- the same characters, with another answer
+abbrev pub read_as : {A B : Type 0} → (A → B) → (List ℕ → A × ℕ) → List ℕ → B × ℕ
+read_as f scan s = (f (scan s).0, (scan s).1)
 
 -- past the first n characters
 abbrev pub after : {A : Type 0} → ℕ → (List ℕ → A × ℕ) → List ℕ → A × ℕ
@@ -38,6 +41,22 @@ run_len p (c ∷ cs) = if p c then suc (run_len p cs) else 0
 -- the longest front in the class
 abbrev pub run : {A : Type 0} → A → (ℕ → Bool) → List ℕ → A × ℕ
 run a p s = (a, run_len p s)
+
+-- the same, with an answer by what it is and what follows it
+abbrev pub run_as : {A : Type 0} → (List ℕ → List ℕ → A) → (ℕ → Bool) → List ℕ → A × ℕ
+run_as f p s = (f (take (run_len p s) s) (drop (run_len p s) s), run_len p s)
+
+-- up to the end that is sought: true and the characters up to there, or else false and all of them
+abbrev pub or_all_at : Option ℕ → List ℕ → Bool × ℕ
+or_all_at None s = (false, length s)
+or_all_at (Some n) s = (true, n)
+
+abbrev pub or_all : (List ℕ → Option ℕ) → List ℕ → Bool × ℕ
+or_all end s = or_all_at (end s) s
+
+-- an end that is found depends on no more than `reach` characters past it
+abbrev pub IsFound : ℕ → (List ℕ → Option ℕ) → Type 0
+IsFound reach end = (s : List ℕ) (n : ℕ) → end s ≡ Some n → IsLocalAt (Option ℕ) reach (λ u. (end u, (or_all end u).1)) s
 
 -- whether the text begins with these characters
 abbrev pub begins : List ℕ → List ℕ → Bool

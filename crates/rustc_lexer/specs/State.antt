@@ -1,10 +1,12 @@
 -- The state of a cursor, and what taking a token makes of it.
-use Rattle.std.specs.Prelude.{ℕ, ◌+◌, ◌≤◌, List, [], ◌∷◌, drop}
+use Rattle.std.specs.Prelude.{ℕ, ◌≡◌, ◌+◌, ◌≤◌, List, [], ◌∷◌, drop, IsCharBoundary, if◌then◌else◌}
+use Rattle.std.specs.Str.{chars}
 use Rattle.rustc_lexer.specs.declared.token.FrontmatterAllowed.{FrontmatterAllowed}
-use Rattle.rustc_lexer.specs.declared.token.FrontmatterAllowed.TheVariants.{No}
+use Rattle.rustc_lexer.specs.declared.token.FrontmatterAllowed.TheVariants.{Yes, No}
 use Rattle.rustc_lexer.specs.declared.token.Token.{Token}
 use Rattle.rustc_lexer.specs.declared.token.TokenKind.{TokenKind}
 use Rattle.rustc_lexer.specs.declared.token.TokenKind.TheVariants.{Whitespace, Literal, Eof}
+use Rattle.rustc_lexer.specs.Frontmatter.{frontmatter, opens}
 use Rattle.rustc_lexer.specs.Lexeme.{first_token}
 
 -- how many bytes were taken since the last token, the text that is left, and whether a frontmatter may stand there
@@ -13,9 +15,10 @@ pub record State : Type 0 where
   pub rest : List ℕ
   pub frontmatter_allowed : FrontmatterAllowed
 
--- the token at the front of a text
+-- the token at the front of a text: a frontmatter where one is allowed and opens
 abbrev pub token_at : FrontmatterAllowed → List ℕ → Token
-token_at allowed text = first_token text
+token_at No text = first_token text
+token_at Yes text = if opens (chars text) then frontmatter text else first_token text
 
 -- white space and the end leave a frontmatter allowed; nothing else does
 abbrev pub allowed_after : FrontmatterAllowed → TokenKind → FrontmatterAllowed
@@ -45,6 +48,10 @@ advance_by (b ∷ bs) s = (
 
 unfoldable pub advance : State → Token × State
 advance s = advance_by s.rest s
+
+-- the text that is left is what follows `place`, which is between characters
+abbrev pub StandsAt : List ℕ → ℕ → State → Type 0
+StandsAt text place s = IsCharBoundary text place × (drop place text ≡ s.rest)
 
 -- where the suffix of a token begins, or 0
 abbrev pub suffix_start_of : TokenKind → ℕ

@@ -6,7 +6,7 @@ use Rattle.rustc_lexer.specs.declared.token.LiteralKind.{LiteralKind}
 use Rattle.rustc_lexer.specs.declared.token.LiteralKind.TheVariants.{Char, Byte, Str, ByteStr, CStr, RawStr, RawByteStr, RawCStr}
 use Rattle.rustc_lexer.specs.declared.token.Token.{Token}
 use Rattle.rustc_lexer.specs.declared.token.TokenKind.{TokenKind}
-use Rattle.rustc_lexer.specs.declared.token.TokenKind.TheVariants.{Ident, RawIdent, Literal}
+use Rattle.rustc_lexer.specs.declared.token.TokenKind.TheVariants.{Ident, RawIdent, Literal, Eof}
 use Rattle.rustc_lexer.specs.Classes.{is_ident}
 use Rattle.rustc_lexer.specs.Raw.{raw_check}
 use Rattle.rustc_lexer.specs.Scan.{begins}
@@ -33,11 +33,13 @@ HasRawText (RawByteStr n_hashes) text = IsChecked 2 text n_hashes
 HasRawText (RawCStr n_hashes) text = IsChecked 2 text n_hashes
 HasRawText kind text = Unit {0}
 
--- an identifier is one by itself, and past its `r#` if it is raw; no suffix follows what is not terminated or is refused
+-- an identifier is one by itself, and past its `r#` if it is raw; no suffix follows what is not terminated or is refused;
+-- at the end is nothing
 abbrev pub HasText : TokenKind → List ℕ → Type 0
 HasText Ident text = is_ident (chars text) ≡ true
 HasText RawIdent text = (begins (codes "r#") (chars text) ≡ true) × (is_ident (drop 2 (chars text)) ≡ true)
 HasText (Literal kind suffix_start) text = (is_good kind ≡ false → suffix_start ≡ length text) × HasRawText kind text
+HasText Eof text = length text ≡ 0
 HasText kind text = Unit {0}
 
 -- the text of each token is one of its kind

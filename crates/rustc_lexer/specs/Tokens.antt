@@ -1,9 +1,10 @@
 -- The tokens of a whole text, and their bounds.
-use Rattle.std.specs.Prelude.{ℕ, zero, suc, ◌≡◌, ◌+◌, ◌<◌, ◌≤◌, List, [], ◌∷◌, length, drop, All, IsCharBoundary}
+use Rattle.std.specs.Prelude.{ℕ, zero, suc, ◌≡◌, ◌-◌, ◌<◌, ◌≤◌, List, [], ◌∷◌, length, drop, All, IsCharBoundary, Option, Some, None}
 use Rattle.rustc_lexer.specs.declared.token.FrontmatterAllowed.{FrontmatterAllowed}
 use Rattle.rustc_lexer.specs.declared.token.FrontmatterAllowed.TheVariants.{No}
 use Rattle.rustc_lexer.specs.declared.token.Token.{Token}
-use Rattle.rustc_lexer.specs.State.{State, token_at, allowed_after}
+pub use Rattle.rustc_lexer.specs.Cuts.{bound}
+use Rattle.rustc_lexer.specs.State.{State, token_at, allowed_after, advance}
 
 -- the first `count` tokens of a text
 abbrev pub cut : FrontmatterAllowed → ℕ → List ℕ → List Token
@@ -21,12 +22,6 @@ tokens_of allowed text = cut allowed (length text) text
 abbrev pub tokens_left : State → List Token
 tokens_left s = tokens_of s.frontmatter_allowed s.rest
 
--- bound number k: 0, or the end of the token before it
-abbrev pub bound : List Token → ℕ → ℕ
-bound tokens zero = 0
-bound [] (suc k) = 0
-bound (t ∷ ts) (suc k) = t.len + bound ts k
-
 -- the tokens cut the text: none is empty, each ends between characters, and together they are as long as the text
 pub record Partitions (text : List ℕ) (tokens : List Token) : Type 0 where
   pub not_empty : All (λ t. 0 < t.len) tokens
@@ -36,3 +31,32 @@ pub record Partitions (text : List ℕ) (tokens : List Token) : Type 0 where
 -- with no frontmatter allowed, the text past any bound has the rest of the tokens
 abbrev pub RestartsAtBounds : List ℕ → Type 0
 RestartsAtBounds text = (k : ℕ) → k ≤ length (tokens_of No text) → tokens_of No (drop (bound (tokens_of No text) k) text) ≡ drop k (tokens_of No text)
+
+-- with nothing pending, the token is the first of those that are left, and the state after it is as `advance` says: the
+-- token is not empty, ends between characters, and is taken off the text
+pub record TakesToken (s : State) (token : Token) (t : State) : Type 0 where
+  pub first : tokens_left s ≡ token ∷ tokens_left t
+  pub advances : advance s ≡ (token, t)
+  pub not_empty : 0 < token.len
+  pub boundary : IsCharBoundary s.rest token.len
+  pub rest : t.rest ≡ drop token.len s.rest
+
+-- what a call of `next` does: where no token is left it gives none and changes nothing; else it takes one
+abbrev pub YieldsToken : State → Option Token → State → Type 0
+YieldsToken s None t = (tokens_left s ≡ []) × (t ≡ s)
+YieldsToken s (Some token) t = TakesToken s token t
+
+-- the token is more than the bytes that were pending: the rest of it is taken off the text, and ends between characters
+pub record TakesPending (s : State) (token : Token) (t : State) : Type 0 where
+  pub first : s.pending ≡ 0 → tokens_left s ≡ token ∷ tokens_left t
+  pub not_empty : s.pending < token.len
+  pub boundary : IsCharBoundary s.rest (token.len - s.pending)
+  pub rest : t.rest ≡ drop (token.len - s.pending) s.rest
+  pub pending : t.pending ≡ 0
+
+-- at the end of the text: the token is empty, and nothing changes
+pub record StaysAtEnd (s : State) (token : Token) (t : State) : Type 0 where
+  pub none_left : tokens_left s ≡ []
+  pub rest : s.rest ≡ []
+  pub empty : token.len ≡ 0
+  pub unchanged : t ≡ s

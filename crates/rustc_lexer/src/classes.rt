@@ -1,7 +1,9 @@
 //! Classes of characters.
-ghost use Rattle.std.specs.Prelude.{◌≡◌, ◌↔◌, IsTrue};
+ghost use Rattle.std.specs.Prelude.{◌≡◌, ◌↔◌, ◌||◌, ◌==◌, IsTrue};
+ghost use Rattle.std.specs.Char.{is_ascii_alphanumeric};
 ghost use Rattle.std.specs.Str.{chars};
 ghost use Rattle.rustc_lexer.specs.Classes;
+ghost use Rattle.unicode_ident.specs.Ident.{is_xid_start};
 
 use crate::scan::{eat_while, split_first};
 
@@ -46,7 +48,18 @@ pub fn is_horizontal_whitespace(c: char) -> bool
 pub fn is_id_start(c: char) -> bool
     ensures { result ≡ Classes.is_id_start c }
 {
-    c == '_' || unicode_ident::is_xid_start(c)
+    c == '_' || begins_letter(c)
+}
+
+/// Whether the character is `XID_Start`.
+fn begins_letter(c: char) -> bool
+    ensures { result ≡ is_xid_start c }
+{
+    if c.is_ascii() {
+        c.is_ascii_alphabetic()
+    } else {
+        unicode_ident::is_xid_start(c)
+    }
 }
 
 /// Whether an identifier may go on with the character: `XID_Continue` as `unicode_ident` has it.
@@ -55,7 +68,18 @@ pub fn is_id_start(c: char) -> bool
 pub fn is_id_continue(c: char) -> bool
     ensures { result ≡ Classes.is_id_continue c }
 {
-    unicode_ident::is_xid_continue(c)
+    if c.is_ascii() {
+        is_ascii_continue(c)
+    } else {
+        unicode_ident::is_xid_continue(c)
+    }
+}
+
+/// The same of a character in ASCII.
+fn is_ascii_continue(c: char) -> bool
+    ensures { result ≡ (is_ascii_alphanumeric c || (c == 95)) }
+{
+    c.is_ascii_alphanumeric() || c == '_'
 }
 
 /// Whether the text is an identifier: not empty, with a character at its front that an identifier may begin with,

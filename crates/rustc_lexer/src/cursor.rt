@@ -1,40 +1,55 @@
 //! A cursor over a text, which takes it token by token.
-ghost use Rattle.std.specs.Prelude.{◌≡◌, ◌+◌, ◌^◌, ◌<◌, length, slice_index};
+ghost use Rattle.std.specs.Prelude.{◌≡◌, ◌≢◌, ◌+◌, ◌^◌, ◌<◌, length, slice_index};
 ghost use Rattle.std.specs.Str.{chars};
 ghost use Rattle.rustc_lexer.specs.Classes.{Fits};
 ghost use Rattle.rustc_lexer.specs.State.{advance, allowed_after, token_past, HasSuffixWithin};
+ghost use Rattle.rustc_lexer.specs.Tokens.{StaysAtEnd, TakesPending};
 
-use crate::lexemes::lexeme;
+use crate::frontmatter::token_at;
 use crate::scan;
 use crate::token::{FrontmatterAllowed, Token, TokenKind};
 use std::marker::Model;
+
+mod guarded;
 
 /// A place in a text, from which the next token is taken.
 ///
 /// Its state is the text that is left, how many bytes were taken since the last token and so are part of
 /// the next, and whether a frontmatter may stand at the front.
 ///
+/// A loop takes tokens until it has the one that it looks for, here the first that is no comment:
+///
 /// ```ignore
-/// let mut cursor = Cursor::new("a b", FrontmatterAllowed::No);
-/// let token = cursor.advance_token(); // an `Ident` of length 1
-/// let rest = cursor.as_str(); // " b"
+/// let mut cursor = Cursor::new(text, FrontmatterAllowed::No);
+/// loop {
+///     let rest = cursor.as_str();
+///     let token = cursor.advance_token();
+///     if !is_skipped(token.kind) {
+///         return rest;
+///     }
+/// }
 /// ```
 #[derive(Drop)]
 pub struct Cursor<'a> {
-    pending: u32,
-    rest: &'a str,
+    text: &'a str,
+    /// Where the text that is left begins.
+    index: usize,
+    /// Where the token begins that is taken next: before `index` where bytes are pending.
+    start: usize,
     frontmatter_allowed: FrontmatterAllowed,
 }
 
 impl<'a> Model for Cursor<'a> {
-    ghost use Rattle.std.specs.Prelude.{◌+◌, ◌^◌, ◌<◌, length};
+    ghost use Rattle.std.specs.Prelude.{◌-◌, ◌≤◌, drop};
+    ghost use Rattle.std.specs.Str.{IsCharBoundary};
+    ghost use Rattle.rustc_lexer.specs.Classes.{Fits};
     ghost use Rattle.rustc_lexer.specs.State.{State};
 
     ghost Value = { State };
 
-    ghost view = { λ c. record { pending = c.pending; rest = c.rest.now; frontmatter_allowed = c.frontmatter_allowed } };
+    ghost view = { λ c. record { pending = c.index - c.start; rest = drop c.index c.text.now; frontmatter_allowed = c.frontmatter_allowed } };
 
-    ghost invariant = { λ c. c.pending + length c.rest.now < 2 ^ 32 };
+    ghost invariant = { λ c. (c.start ≤ c.index) × IsCharBoundary c.text.now c.index × IsCharBoundary c.text.now c.start × Fits c.text.now };
 }
 
 impl<'a> Cursor<'a> {
@@ -44,18 +59,20 @@ impl<'a> Cursor<'a> {
         ensures { result ≡ record { pending = 0; rest = input.now; frontmatter_allowed = frontmatter_allowed } }
     {
         Cursor {
-            pending: 0,
-            rest: input,
+            text: input,
+            index: 0,
+            start: 0,
             frontmatter_allowed,
         }
     }
 
     /// The text that is left.
+    #[inline(always)]
     pub fn as_str(&self) -> &'a str
         ensures rest { result.now ≡ self.now.rest }
         ensures fits { Fits result.now }
     {
-        self.rest
+        &self.text[self.index..]
     }
 
     /// The next character, which is not taken, or U+0000 at the end of the text.
@@ -76,28 +93,36 @@ impl<'a> Cursor<'a> {
 
     /// Takes the next token. At the end of the text it answers `Eof`, of length 0, and changes nothing.
     ///
+    /// No other token is `Eof`. Each is longer than the bytes that were pending, and ends between characters.
+    ///
     /// The length of the token, and where its suffix begins, count the bytes that were pending; then none are.
     /// Past a token that is no white space, no frontmatter is allowed.
+    #[inline(always)]
     pub fn advance_token(&mut self) -> Token
         ensures token { result ≡ (advance self.old).0 }
         ensures state { self.new ≡ (advance self.old).1 }
+        ensures end { result.kind ≡ TokenKind.Eof → StaysAtEnd self.old result self.new }
+        ensures past { result.kind ≢ TokenKind.Eof → TakesPending self.old result self.new }
     {
-        if self.rest.is_empty() {
+        let rest = self.as_str();
+        if rest.is_empty() {
             return Token {
                 kind: TokenKind::Eof,
                 len: 0,
             };
         }
-        let token = lexeme(self.rest);
-        let pending = self.pending;
-        self.pending = 0;
-        self.rest = &self.rest[token.len as usize..];
+        let token = token_at(rest, self.frontmatter_allowed);
+        let pending = (self.index - self.start) as u32;
+        let end = self.index + token.len as usize;
+        self.index = end;
+        self.start = end;
         self.frontmatter_allowed = next_allowed(self.frontmatter_allowed, token.kind);
         with_pending(token, pending)
     }
 }
 
 /// Whether a frontmatter may stand after a token of this kind.
+#[inline(always)]
 fn next_allowed(allowed: FrontmatterAllowed, kind: TokenKind) -> FrontmatterAllowed
     ensures { result ≡ allowed_after allowed kind }
 {
@@ -108,6 +133,7 @@ fn next_allowed(allowed: FrontmatterAllowed, kind: TokenKind) -> FrontmatterAllo
 }
 
 /// The token with the bytes that were pending before it.
+#[inline(always)]
 fn with_pending(token: Token, pending: u32) -> Token
     requires suffix { HasSuffixWithin token }
     requires fits { pending + token.len < 2 ^ 32 }

@@ -1,15 +1,20 @@
 //! The tokens of a text.
-ghost use Rattle.std.specs.Prelude.{◌≡◌, ◌<◌, length, drop, ⊤, MatchOption, All};
-ghost use Rattle.std.specs.Iterator.{at_most, MakesProgress, YieldsFirst};
+ghost use Rattle.std.specs.Prelude.{◌≡◌, ◌<◌, length, All};
+ghost use Rattle.std.specs.Iterator.{at_most};
 ghost use Rattle.rustc_lexer.specs.Classes.{Fits};
 ghost use Rattle.rustc_lexer.specs.State.{HasSuffixWithin};
 ghost use Rattle.rustc_lexer.specs.TokenText.{HaveTexts};
-ghost use Rattle.rustc_lexer.specs.Tokens.{tokens_of, tokens_left, Partitions, RestartsAtBounds};
+ghost use Rattle.rustc_lexer.specs.Tokens.{tokens_of, tokens_left, Partitions, RestartsAtBounds, YieldsToken};
 
 use crate::cursor::Cursor;
 use crate::token::{FrontmatterAllowed, Token};
 use std::iter::Iterator;
 use std::marker::Model;
+
+pub(crate) mod stepper;
+mod tally;
+
+pub use stepper::{Stepper, Steps};
 
 /// The tokens of a text, in order. The text has at most `u32::MAX` bytes.
 ///
@@ -17,14 +22,21 @@ use std::marker::Model;
 /// `FrontmatterAllowed::No` the text from the end of any token on has the rest of the tokens: a slice of a
 /// document is lexed so.
 ///
+/// A plain loop slices the text by the lengths, here to find a word among the identifiers and keywords:
+///
 /// ```ignore
-/// for token in tokenize("a + b", FrontmatterAllowed::No) {
-///     // Ident, Whitespace, Plus, Whitespace, Ident
+/// let mut start = 0;
+/// for token in tokenize(text, FrontmatterAllowed::No) {
+///     let end = start + token.len as usize;
+///     if matches!(token.kind, TokenKind::Ident) && &text[start..end] == word {
+///         return Some(start);
+///     }
+///     start = end;
 /// }
 /// ```
 pub fn tokenize<'a>(input: &'a str, frontmatter_allowed: FrontmatterAllowed) -> Tokens<'a>
     requires fits { Fits input.now }
-    ensures rest { result.rest ≡ input.now }
+    ensures state { result ≡ record { pending = 0; rest = input.now; frontmatter_allowed = frontmatter_allowed } }
     ensures tokens { tokens_left result ≡ tokens_of frontmatter_allowed input.now }
     ensures partitions { Partitions input.now (tokens_of frontmatter_allowed input.now) }
     ensures restarts { RestartsAtBounds input.now }
@@ -55,6 +67,7 @@ impl<'a> Model for Tokens<'a> {
 
 impl<'a> Tokens<'a> {
     /// The text whose tokens were not given out yet.
+    #[inline(always)]
     pub fn as_str(&self) -> &'a str
         ensures rest { result.now ≡ self.now.rest }
         ensures fits { Fits result.now }
@@ -66,16 +79,13 @@ impl<'a> Tokens<'a> {
 impl<'a> Iterator for Tokens<'a> {
     type Item = Token;
 
-    ghost next_gives = { YieldsFirst tokens_left };
+    ghost next_gives = { YieldsToken };
 
     ghost remaining = { λ s. at_most (length s.rest) };
 
     /// The next token, or `None` past the last one, from then on.
-    fn next(&mut self) -> Option<Token>
-        ensures steps { YieldsFirst tokens_left self.old result self.new }
-        ensures goes { MakesProgress (λ _. ⊤) (λ s. at_most (length s.rest)) self.old result self.new }
-        ensures rest { MatchOption result (self.new ≡ self.old) (λ token. self.new.rest ≡ drop token.len self.old.rest) }
-    {
+    #[inline(always)]
+    fn next(&mut self) -> Option<Token> {
         if self.as_str().is_empty() {
             return None;
         }

@@ -1,81 +1,92 @@
 //! The token at the front of a text: a choice by its first character, and a function for each family.
-ghost use Rattle.std.specs.Prelude.{◌≡◌, ◌+◌, ◌≤◌, ◌<◌, ◌^◌, length};
-ghost use Rattle.std.specs.Str.{IsCharBoundary};
+ghost use Rattle.std.specs.Prelude.{◌≡◌, ◌+◌, ◌<◌, ◌^◌, length};
 ghost use Rattle.rustc_lexer.specs.declared.token.TokenKind.{TokenKind};
 ghost use Rattle.rustc_lexer.specs.Classes.{Fits};
 ghost use Rattle.rustc_lexer.specs.Lexeme as spec;
+ghost use Rattle.rustc_lexer.specs.Quick.{IsFirstToken};
 ghost use Rattle.rustc_lexer.specs.Scan.{IsLocal, scanned};
-ghost use Rattle.rustc_lexer.specs.State.{HasSuffixWithin};
 ghost use Rattle.rustc_lexer.specs.Texts.{IsGrammar};
 
-use crate::classes::emoji::is_emoji;
-use crate::classes::is_whitespace;
 use crate::lexemes::comment::slash;
+use crate::lexemes::family::{Family, family_of};
+use crate::lexemes::hash::hash;
 use crate::lexemes::ident::invalid_ident;
 use crate::lexemes::lifetime::quote_or_lifetime;
+use crate::lexemes::number::number;
+use crate::lexemes::quick::quick_token;
 use crate::lexemes::quoted::str_literal;
-use crate::lexemes::word::begins_word;
-use crate::scan::{eat_while, split_first};
+use crate::lexemes::word::word;
+use crate::scan::{eat_whitespace, split_first};
 use crate::token::{Token, TokenKind};
 
 mod block_comment;
 mod comment;
+mod family;
+mod hash;
 mod ident;
 mod lifetime;
-mod literal;
+pub(crate) mod literal;
 mod number;
-mod quoted;
+pub(crate) mod quick;
+pub(crate) mod quoted;
 pub(crate) mod raw;
 mod word;
 
 /// The token at the front of a text. At the end of the text it is `Eof`, of length 0.
+///
+/// The commonest tokens are told by their bytes. Where these tell one, it is the one that the first character
+/// chooses: both ways promise the same.
+#[inline(always)]
 pub(crate) fn lexeme(text: &str) -> Token
     requires fits { Fits text.now }
-    ensures token { result ≡ spec.first_token text.now }
-    ensures inside { result.len ≤ length text.now }
-    ensures boundary { IsCharBoundary text.now result.len }
-    ensures suffix { HasSuffixWithin result }
+    ensures { IsFirstToken text.now result }
 {
-    match split_first(text) {
-        Some((first, tail)) => {
-            let (kind, rest) = past_first(first, tail);
-            Token {
-                kind,
-                len: (text.len() - rest.len()) as u32,
-            }
-        }
-        None => Token {
+    match quick_token(text) {
+        Some(token) => token,
+        None => chosen_token(text),
+    }
+}
+
+/// The token at the front of a text, as its first character chooses.
+#[inline(never)]
+fn chosen_token(text: &str) -> Token
+    requires fits { Fits text.now }
+    ensures { IsFirstToken text.now result }
+{
+    let Some((first, tail)) = split_first(text) else {
+        return Token {
             kind: TokenKind::Eof,
             len: 0,
-        },
+        };
+    };
+    let (kind, rest) = past_first(first, tail);
+    Token {
+        kind,
+        len: (text.len() - rest.len()) as u32,
     }
 }
 
 /// The kind of the token that begins with `first`, and what the token leaves of what follows that.
+#[inline(always)]
 fn past_first(first: char, tail: &str) -> (TokenKind, &str)
     requires fits { length tail.now + 1 < 2 ^ 32 }
     ensures { (result.0, result.1.now) ≡ scanned (spec.past_first first) tail.now }
 {
-    if first == '/' {
-        slash(tail)
-    } else if is_whitespace(first) {
-        (TokenKind::Whitespace, eat_while(tail, is_whitespace))
-    } else if begins_word(first) {
-        word::word(first, tail)
-    } else if first.is_ascii_digit() {
-        number::number(first, tail)
-    } else if first == '\'' {
-        quote_or_lifetime(tail)
-    } else if first == '"' {
-        str_literal(tail)
-    } else if is_emoji(first) {
-        invalid_ident(tail)
-    } else {
-        (symbol_kind(first), tail)
+    match family_of(first) {
+        Family::Slash => slash(tail),
+        Family::Space => (TokenKind::Whitespace, eat_whitespace(tail)),
+        Family::Word => word(first, tail),
+        Family::Number => number(first, tail),
+        Family::Quote => quote_or_lifetime(tail),
+        Family::Str => str_literal(tail),
+        Family::Emoji => invalid_ident(tail),
+        Family::Hash => hash(tail),
+        Family::Symbol => (symbol_kind(first), tail),
     }
 }
 
-/// What a character is by itself.
+/// What a character other than a hash is by itself.
+#[inline(always)]
 fn symbol_kind(c: char) -> TokenKind
     ensures { result ≡ spec.symbol_kind c }
 {
@@ -90,7 +101,6 @@ fn symbol_kind(c: char) -> TokenKind
         '[' => TokenKind::OpenBracket,
         ']' => TokenKind::CloseBracket,
         '@' => TokenKind::At,
-        '#' => TokenKind::Pound,
         '~' => TokenKind::Tilde,
         '?' => TokenKind::Question,
         ':' => TokenKind::Colon,

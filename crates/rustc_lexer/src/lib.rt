@@ -1,15 +1,20 @@
 //! A lexer for Rust source: a text goes in, tokens come out.
 //!
 //! A token is a kind and a length in bytes. The lexer refuses no text: a fault, as a comment that
-//! nothing closes, is a flag on its token, or a token of the kind `Unknown`. It takes no memory.
+//! nothing closes, is a flag on its token, or a token of the kind `Unknown`. Lexing takes no memory: only
+//! a [`LexedText`], which keeps a text with its tokens and takes edits, does.
 #![tactic(auto)]
 
 pub mod classes;
 pub mod cursor;
 pub mod entry;
+mod frontmatter;
+mod kernels;
 mod lexemes;
 mod raw_check;
+pub mod relex;
 mod scan;
+mod shebang;
 pub mod token;
 
 pub use classes::{
@@ -17,8 +22,10 @@ pub use classes::{
     is_whitespace,
 };
 pub use cursor::Cursor;
-pub use entry::{Tokens, tokenize};
+pub use entry::{Stepper, Steps, Tokens, tokenize};
 pub use raw_check::{starts_raw, validate_raw_str};
+pub use relex::{Edit, EditStop, LexedText, Piece, Pieces, Relexed, settled};
+pub use shebang::strip_shebang;
 pub use token::{
     Base, DocStyle, FrontmatterAllowed, GuardedStr, LiteralKind, RawStrError, Token, TokenKind,
 };

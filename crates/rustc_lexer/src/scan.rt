@@ -1,8 +1,19 @@
 //! Peeks at what is left of a text, and runs of a class at its front.
-ghost use Rattle.std.specs.Prelude.{◌≡◌, ◌<◌, ◌≤◌, ℕ, ◌∷◌, [], length, Bool, true, false, MatchOption, slice_index};
+ghost use Rattle.std.specs.Prelude.{◌≡◌, ◌<◌, ◌≤◌, ℕ, ◌∷◌, [], length, Bool, not, true, false, MatchOption, slice_index};
+ghost use Rattle.std.specs.Char.{is_ascii_digit, is_ascii_hexdigit};
 ghost use Rattle.std.specs.Str.{chars};
+ghost use Rattle.memchr.specs.Find.{is_byte, is_byte2};
+ghost use Rattle.rustc_lexer.specs.ByteRuns.{is_continue_byte, is_wide};
+ghost use Rattle.rustc_lexer.specs.Classes;
+ghost use Rattle.rustc_lexer.specs.Number.{or_underscore};
 ghost use Rattle.rustc_lexer.specs.Scan;
 ghost use Rattle.rustc_lexer.specs.Scan.{begins, past, run_len};
+
+use crate::classes::is_whitespace;
+use crate::kernels::{
+    Continue, Decimal, Hexadecimal, Space, find, find_either, run_end, short_run_end,
+};
+use crate::lexemes::quick::ends_space;
 
 /// The first character, or U+0000 where the text ends.
 pub(crate) fn first(rest: &str) -> char
@@ -53,6 +64,7 @@ pub(crate) fn next_is<F: Fn(char) -> bool>(rest: &str, test: F) -> bool
 }
 
 /// What follows the character `c`, if the text begins with it.
+#[inline(always)]
 pub(crate) fn strip(rest: &str, c: char) -> Option<&str>
     ensures { MatchOption result (begins (c ∷ []) (chars rest.now) ≡ false) (λ tail. (begins (c ∷ []) (chars rest.now) ≡ true) × (tail.now ≡ past 1 rest.now) × (length tail.now < length rest.now)) }
 {
@@ -75,4 +87,134 @@ pub(crate) fn eat_while<F: Fn(char) -> bool>(rest: &str, test: F) -> &str
         end += c.len_utf8();
     }
     &rest[end..]
+}
+
+/// Whether a character that is not in ASCII stands next.
+#[inline(always)]
+pub(crate) fn begins_wide(rest: &str) -> bool
+    ensures { result ≡ Scan.next_is is_wide rest.now }
+{
+    match rest.as_bytes().first() {
+        Some(byte) => *byte >= 128,
+        None => false,
+    }
+}
+
+/// What follows the characters at the front that an identifier may go on with.
+#[inline]
+pub(crate) fn eat_continue(rest: &str) -> &str
+    ensures shorter { length result.now ≤ length rest.now }
+    ensures past { result.now ≡ past (run_len Classes.is_id_continue (chars rest.now)) rest.now }
+{
+    let left = &rest[short_run_end::<Continue>(rest.as_bytes())..];
+    if begins_wide(left) {
+        eat_continue_wide(left)
+    } else {
+        left
+    }
+}
+
+/// The same, where no such byte of ASCII stands next.
+#[inline(never)]
+fn eat_continue_wide(rest: &str) -> &str
+    requires stops { Scan.next_is is_continue_byte rest.now ≡ false }
+    ensures shorter { length result.now ≤ length rest.now }
+    ensures past { result.now ≡ past (run_len Classes.is_id_continue (chars rest.now)) rest.now }
+{
+    let mut left = rest;
+    'wide: while begins_wide(left) {
+        let Some((c, tail)) = split_first(left) else {
+            return left;
+        };
+        if !unicode_ident::is_xid_continue(c) {
+            return left;
+        }
+        if begins_wide(tail) {
+            left = tail;
+        } else {
+            left = &tail[short_run_end::<Continue>(tail.as_bytes())..];
+        }
+    }
+    left
+}
+
+/// What follows the white space at the front.
+#[inline]
+pub(crate) fn eat_whitespace(rest: &str) -> &str
+    ensures shorter { length result.now ≤ length rest.now }
+    ensures past { result.now ≡ past (run_len Classes.is_whitespace (chars rest.now)) rest.now }
+{
+    let left = &rest[run_end::<Space>(rest.as_bytes())..];
+    if ends_space(left.as_bytes(), 0) {
+        left
+    } else {
+        eat_while(left, is_whitespace)
+    }
+}
+
+/// What follows the characters up to the first `stop`, a byte of ASCII, or the end.
+#[inline(always)]
+pub(crate) fn eat_to(rest: &str, stop: u8) -> &str
+    requires ascii { stop < 128 }
+    ensures shorter { length result.now ≤ length rest.now }
+    ensures past { result.now ≡ past (run_len (λ c. not (is_byte stop c)) (chars rest.now)) rest.now }
+{
+    match find(stop, rest.as_bytes()) {
+        Some(place) => &rest[place..],
+        None => "",
+    }
+}
+
+/// What follows the characters up to the first of two bytes of ASCII, or the end.
+#[inline(always)]
+pub(crate) fn eat_to_either(rest: &str, one: u8, two: u8) -> &str
+    requires one { one < 128 }
+    requires two { two < 128 }
+    ensures shorter { length result.now ≤ length rest.now }
+    ensures past { result.now ≡ past (run_len (λ c. not (is_byte2 one two c)) (chars rest.now)) rest.now }
+{
+    match find_either(one, two, rest.as_bytes()) {
+        Some(place) => &rest[place..],
+        None => "",
+    }
+}
+
+/// What follows the digits and underscores at the front.
+#[inline]
+pub(crate) fn eat_decimal(rest: &str) -> &str
+    ensures shorter { length result.now ≤ length rest.now }
+    ensures past { result.now ≡ past (run_len (or_underscore is_ascii_digit) (chars rest.now)) rest.now }
+{
+    let left = &rest[run_end::<Decimal>(rest.as_bytes())..];
+    if begins_wide(left) {
+        eat_while(left, is_digit_or_underscore)
+    } else {
+        left
+    }
+}
+
+/// What follows the hexadecimal digits and underscores at the front.
+#[inline]
+pub(crate) fn eat_hexadecimal(rest: &str) -> &str
+    ensures shorter { length result.now ≤ length rest.now }
+    ensures past { result.now ≡ past (run_len (or_underscore is_ascii_hexdigit) (chars rest.now)) rest.now }
+{
+    let left = &rest[run_end::<Hexadecimal>(rest.as_bytes())..];
+    if begins_wide(left) {
+        eat_while(left, is_hex_digit_or_underscore)
+    } else {
+        left
+    }
+}
+
+fn is_digit_or_underscore(c: char) -> bool
+    ensures { result ≡ or_underscore is_ascii_digit c }
+{
+    c.is_ascii_digit() || c == '_'
+}
+
+fn is_hex_digit_or_underscore(c: char) -> bool
+    ensures { result ≡ or_underscore is_ascii_hexdigit c }
+{
+    c.is_ascii_hexdigit() || c == '_'
 }

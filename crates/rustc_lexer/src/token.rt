@@ -29,9 +29,9 @@ pub enum TokenKind {
 
     /// The block between lines of dashes that may stand before the source of a document.
     Frontmatter {
-        /// White space stands before its opening on the same line, and is part of the token.
+        /// White space stands before its dashes and is part of the token; it ends no line.
         has_invalid_preceding_whitespace: bool,
-        /// Its opening line goes on past what may name the block's language.
+        /// Its first line has more than dashes, an infostring and blanks, or the text ends there.
         invalid_infostring: bool,
     },
 
@@ -240,7 +240,7 @@ pub enum Base {
     Hexadecimal = 16,
 }
 
-/// Whether a frontmatter may stand at the front of a text.
+/// Whether a frontmatter may stand at the front of a text: `Yes` for a whole document, `No` for a part of one.
 #[derive(Clone, Copy, PartialEq, Eq)]
 pub enum FrontmatterAllowed {
     Yes,

@@ -1,23 +1,22 @@
 //! Block comments, which nest.
-ghost use Rattle.std.specs.Prelude.{◌≡◌, ◌↔◌, ◌+◌, ◌<◌, ◌^◌, ℕ, List};
-ghost use Rattle.std.specs.Str.{chars, IsCharBoundary};
+ghost use Rattle.std.specs.Prelude.{◌≡◌, ◌↔◌, ℕ, List};
+ghost use Rattle.std.specs.Str.{chars};
 ghost use Rattle.rustc_lexer.specs.declared.token.TokenKind.{TokenKind};
 ghost use Rattle.rustc_lexer.specs.BlockComment as spec;
-ghost use Rattle.rustc_lexer.specs.BlockCommentLaws.{IsClosedAlone, next_depth};
+ghost use Rattle.rustc_lexer.specs.BlockCommentLaws.{IsClosedAlone};
 ghost use Rattle.rustc_lexer.specs.BlockGrammar.{Closes, IsEnd};
-ghost use Rattle.rustc_lexer.specs.Scan.{IsLocal, bytes_of, scanned};
-ghost use Rattle.rustc_lexer.specs.Until.{IsFound, or_all};
+ghost use Rattle.rustc_lexer.specs.Scan.{IsFound, IsLocal, or_all, scanned};
 
-use crate::scan::{first, second};
+use crate::scan::{eat_to_either, first, second, split_first, strip};
 use crate::token::{DocStyle, TokenKind};
 
 /// A block comment. `body` is what follows its `/*`.
+#[inline(always)]
 pub(crate) fn block_comment(body: &str) -> (TokenKind, &str)
     ensures { (result.0, result.1.now) ≡ scanned spec.block_comment body.now }
 {
     let doc_style = block_doc_style(body);
-    let (terminated, end) = comment_length(body);
-    let rest = &body[end..];
+    let (terminated, rest) = past_comment(body);
     (
         TokenKind::BlockComment {
             doc_style,
@@ -28,6 +27,7 @@ pub(crate) fn block_comment(body: &str) -> (TokenKind, &str)
 }
 
 /// The style of the block comment with this body.
+#[inline(always)]
 fn block_doc_style(body: &str) -> Option<DocStyle>
     ensures { result ≡ spec.block_doc_style (chars body.now) }
 {
@@ -45,36 +45,34 @@ fn block_doc_style(body: &str) -> Option<DocStyle>
     }
 }
 
-/// Whether something closes the comment whose opening mark stands before `body`, and how many bytes of `body` it
-/// takes: all, where nothing does.
-fn comment_length(body: &str) -> (bool, usize)
-    ensures terminated { result.0 ≡ (or_all spec.comment_end (chars body.now)).0 }
-    ensures end { result.1 ≡ bytes_of (or_all spec.comment_end (chars body.now)).1 (chars body.now) }
-    ensures boundary { IsCharBoundary body.now result.1 }
+/// Whether something closes the comment whose opening mark stands before `body`, and what follows that: nothing,
+/// where nothing does.
+fn past_comment(body: &str) -> (bool, &str)
+    ensures { (result.0, result.1.now) ≡ scanned (or_all spec.comment_end) body.now }
 {
-    let mut depth = 1;
-    let mut end = 0;
-    let mut previous = '\0';
-    for c in body.chars() {
-        end += c.len_utf8();
-        (depth, previous) = after(depth, previous, c);
-        if depth == 0 {
-            return (true, end);
+    let mut depth = 1usize;
+    let mut rest = body;
+    'comment: loop {
+        let stop = eat_to_either(rest, b'*', b'/');
+        let Some((c, tail)) = split_first(stop) else {
+            return (false, stop);
+        };
+        if c == '*' {
+            if let Some(past_mark) = strip(tail, '/') {
+                depth -= 1;
+                if depth == 0 {
+                    return (true, past_mark);
+                }
+                rest = past_mark;
+            } else {
+                rest = tail;
+            }
+        } else if let Some(past_mark) = strip(tail, '*') {
+            depth += 1;
+            rest = past_mark;
+        } else {
+            rest = tail;
         }
-    }
-    (false, end)
-}
-
-/// How deep a comment is past the character `c`, and that character, if it may begin a mark.
-fn after(depth: usize, previous: char, c: char) -> (usize, char)
-    requires some { 0 < depth }
-    requires room { depth + 1 < 2 ^ 64 }
-    ensures { result ≡ next_depth (depth, previous) c }
-{
-    match (previous, c) {
-        ('/', '*') => (depth + 1, '\0'),
-        ('*', '/') => (depth - 1, '\0'),
-        _ => (depth, c),
     }
 }
 

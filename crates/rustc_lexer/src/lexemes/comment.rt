@@ -5,10 +5,11 @@ ghost use Rattle.rustc_lexer.specs.Comment as spec;
 ghost use Rattle.rustc_lexer.specs.Scan.{scanned};
 
 use crate::lexemes::block_comment::block_comment;
-use crate::scan::{eat_while, first, second, strip};
+use crate::scan::{eat_to, first, second, strip};
 use crate::token::{DocStyle, TokenKind};
 
 /// What begins with a slash. `rest` is what follows that.
+#[inline(always)]
 pub(crate) fn slash(rest: &str) -> (TokenKind, &str)
     ensures { (result.0, result.1.now) ≡ scanned spec.slash rest.now }
 {
@@ -22,15 +23,17 @@ pub(crate) fn slash(rest: &str) -> (TokenKind, &str)
 }
 
 /// A line comment. `body` is what follows its `//`.
+#[inline(always)]
 fn line_comment(body: &str) -> (TokenKind, &str)
     ensures { (result.0, result.1.now) ≡ scanned spec.line_comment body.now }
 {
     let doc_style = line_doc_style(body);
-    let rest = eat_while(body, |c| c != '\n');
+    let rest = eat_to(body, b'\n');
     (TokenKind::LineComment { doc_style }, rest)
 }
 
 /// The style of the line comment with this body.
+#[inline(always)]
 fn line_doc_style(body: &str) -> Option<DocStyle>
     ensures { result ≡ spec.line_doc_style (chars body.now) }
 {

@@ -4,20 +4,24 @@ ghost use Rattle.std.specs.Str.{chars};
 ghost use Rattle.rustc_lexer.specs.declared.token.TokenKind.{TokenKind};
 ghost use Rattle.rustc_lexer.specs.Classes;
 ghost use Rattle.rustc_lexer.specs.Ident as spec;
-ghost use Rattle.rustc_lexer.specs.LocalAt.{IsLocalAt};
-ghost use Rattle.rustc_lexer.specs.Scan.{IsLocal, past, run_len, scanned};
+ghost use Rattle.rustc_lexer.specs.Scan.{IsLocal, IsLocalAt, past, run_len, scanned};
 
 use crate::classes::emoji::is_emoji;
 use crate::classes::{is_id_continue, is_id_start};
-use crate::scan::{eat_while, next_is, split_first, strip};
+use crate::lexemes::quick::ends_word;
+use crate::scan::{eat_continue, eat_while, next_is, split_first, strip};
 use crate::token::TokenKind;
 
 /// An identifier, or what is none for an emoji in it or a mark right after it. `tail` is what follows its
 /// first character.
+#[inline(always)]
 pub(crate) fn ident(tail: &str) -> (TokenKind, &str)
     ensures { (result.0, result.1.now) ≡ scanned spec.ident tail.now }
 {
-    let rest = eat_while(tail, is_id_continue);
+    let rest = eat_continue(tail);
+    if ends_word(rest.as_bytes(), 0) {
+        return (TokenKind::Ident, rest);
+    }
     if next_is(rest, is_emoji) {
         return invalid_ident(rest);
     }
@@ -44,7 +48,7 @@ pub(crate) fn eat_marked(tail: &str) -> Option<&str>
     if !is_id_start(first) {
         return None;
     }
-    Some(eat_while(word, is_id_continue))
+    Some(eat_continue(word))
 }
 
 /// What an identifier goes on with, right or wrong.

@@ -5,19 +5,20 @@ ghost use Rattle.std.specs.Str.{chars};
 ghost use Rattle.rustc_lexer.specs.declared.token.TokenKind.{TokenKind};
 ghost use Rattle.rustc_lexer.specs.declared.token.TokenKind.TheVariants.{Lifetime, UnknownPrefixLifetime};
 ghost use Rattle.rustc_lexer.specs.Emoji.{is_emoji};
+ghost use Rattle.rustc_lexer.specs.Ident.{is_word, marks_ident};
 ghost use Rattle.rustc_lexer.specs.Lifetime as spec;
 ghost use Rattle.rustc_lexer.specs.LifetimeLaws.{is_character_at, is_raw};
-ghost use Rattle.rustc_lexer.specs.LocalAt.{IsLocalAt};
 ghost use Rattle.rustc_lexer.specs.Quoted.{single_quoted};
-ghost use Rattle.rustc_lexer.specs.Scan.{IsLocal, begins, past, run_len, scanned};
+ghost use Rattle.rustc_lexer.specs.Scan.{IsLocal, IsLocalAt, begins, past, run_len, scanned};
 
 use crate::classes::emoji::is_emoji;
 use crate::classes::{is_id_continue, is_id_start};
 use crate::lexemes::quoted::char_literal;
-use crate::scan::{eat_while, split_first, strip};
+use crate::scan::{eat_continue, eat_while, split_first, strip};
 use crate::token::{LiteralKind, TokenKind};
 
 /// What begins with a single quote. `tail` is what follows that.
+#[inline(always)]
 pub(crate) fn quote_or_lifetime(tail: &str) -> (TokenKind, &str)
     requires fits { length tail.now + 1 < 2 ^ 32 }
     ensures { (result.0, result.1.now) ≡ scanned spec.quote_or_lifetime tail.now }
@@ -48,19 +49,20 @@ fn is_name_start(c: char) -> bool
 
 /// Whether the name of a lifetime may go on with the character; an emoji is let through.
 fn is_name_part(c: char) -> bool
-    ensures { result ≡ spec.is_name_part c }
+    ensures { result ≡ is_word c }
 {
     is_id_continue(c) || is_emoji(c)
 }
 
 /// What a name is, and what it leaves. It begins with `first`, and `rest` is what follows that.
+#[inline(always)]
 fn lifetime(first: char, rest: &str) -> (TokenKind, &str)
     requires fits { len_utf8 first + length rest.now + 1 < 2 ^ 32 }
     ensures { (result.0, result.1.now) ≡ scanned (spec.lifetime first) rest.now }
 {
     if first == 'r' {
         if let Some(name) = strip_raw(rest) {
-            return (TokenKind::RawLifetime, eat_while(name, is_id_continue));
+            return (TokenKind::RawLifetime, eat_continue(name));
         }
     }
     named(first, rest)
@@ -68,7 +70,7 @@ fn lifetime(first: char, rest: &str) -> (TokenKind, &str)
 
 /// What follows a hash and the start of an identifier, if these are at the front.
 fn strip_raw(rest: &str) -> Option<&str>
-    ensures { MatchOption result (spec.begins_raw (chars rest.now) ≡ false) (λ name. (spec.begins_raw (chars rest.now) ≡ true) × (name.now ≡ past 2 rest.now)) }
+    ensures { MatchOption result (marks_ident (chars rest.now) ≡ false) (λ name. (marks_ident (chars rest.now) ≡ true) × (name.now ≡ past 2 rest.now)) }
 {
     let name = strip(rest, '#')?;
     let (first, tail) = split_first(name)?;
@@ -76,11 +78,12 @@ fn strip_raw(rest: &str) -> Option<&str>
 }
 
 /// The same where no raw lifetime stands there. A quote that follows the name makes a character of it.
+#[inline(always)]
 fn named(first: char, rest: &str) -> (TokenKind, &str)
     requires fits { len_utf8 first + length rest.now + 1 < 2 ^ 32 }
     ensures { (result.0, result.1.now) ≡ scanned (spec.named first) rest.now }
 {
-    let past_plain = eat_while(rest, is_id_continue);
+    let past_plain = eat_continue(rest);
     let past_name = eat_while(past_plain, is_name_part);
     if let Some(left) = strip(past_name, '\'') {
         let name_len = first.len_utf8() + (rest.len() - past_name.len());
@@ -93,6 +96,7 @@ fn named(first: char, rest: &str) -> (TokenKind, &str)
 }
 
 /// What a name is that no quote follows. It begins with `first`, and `rest` is what follows it.
+#[inline(always)]
 fn unquoted(first: char, holds_emoji: bool, rest: &str) -> TokenKind
     ensures { result ≡ (if begins (codes "#") (chars rest.now) && not (is_ascii_digit first) then UnknownPrefixLifetime
         else Lifetime (is_ascii_digit first || is_emoji first || holds_emoji)) }
@@ -112,6 +116,6 @@ pub(crate) fn lifetime_lookahead()
     ensures all { IsLocal TokenKind 2 spec.quote_or_lifetime }
     ensures character { (s : List ℕ) → is_character_at s ≡ true → (single_quoted s).0 ≡ true → IsLocalAt TokenKind 1 spec.quote_or_lifetime s }
     ensures raw { (c : ℕ) (s : List ℕ) → spec.is_character c s ≡ false → is_raw c s ≡ true → IsLocalAt TokenKind 1 spec.quote_or_lifetime (c ∷ s) }
-    ensures long_character { (c : ℕ) (s : List ℕ) → spec.is_character c s ≡ false → is_raw c s ≡ false → begins (codes "'") (drop (run_len spec.is_name_part s) s) ≡ true
+    ensures long_character { (c : ℕ) (s : List ℕ) → spec.is_character c s ≡ false → is_raw c s ≡ false → begins (codes "'") (drop (run_len is_word s) s) ≡ true
         → IsLocalAt TokenKind 0 spec.quote_or_lifetime (c ∷ s) }
 {}

@@ -5,8 +5,8 @@ ghost use Rattle.rustc_lexer.specs.declared.token.TokenKind.TheVariants.{Literal
 ghost use Rattle.rustc_lexer.specs.Literal.{suffix_len};
 ghost use Rattle.rustc_lexer.specs.Scan.{past};
 
-use crate::classes::{is_id_continue, is_id_start};
-use crate::scan::{eat_while, split_first};
+use crate::classes::is_id_start;
+use crate::scan::{eat_continue, split_first};
 use crate::token::{LiteralKind, TokenKind};
 
 /// What a suffix leaves of the text, if one stands here.
@@ -20,11 +20,12 @@ pub(crate) fn eat_suffix(rest: &str) -> &str
     if !is_id_start(first) {
         return rest;
     }
-    eat_while(tail, is_id_continue)
+    eat_continue(tail)
 }
 
 /// The kind of a literal whose body is all of `tail` up to `rest`, where `tail` is what follows its first
 /// character, of one byte.
+#[inline(always)]
 pub(crate) fn literal(kind: LiteralKind, tail: &str, rest: &str) -> TokenKind
     requires inside { length rest.now ≤ length tail.now }
     requires fits { length tail.now + 1 < 2 ^ 32 }

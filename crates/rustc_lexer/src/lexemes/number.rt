@@ -2,17 +2,19 @@
 ghost use Rattle.std.specs.Prelude.{◌≡◌, ℕ, ◌+◌, ◌<◌, ◌^◌, false, length};
 ghost use Rattle.std.specs.Char.{is_ascii_digit, is_ascii_hexdigit};
 ghost use Rattle.rustc_lexer.specs.Number as spec;
+ghost use Rattle.rustc_lexer.specs.NumberLaws.{AreNumbers};
 ghost use Rattle.rustc_lexer.specs.Scan.{IsLocal, scanned};
 ghost use Rattle.rustc_lexer.specs.declared.token.TokenKind.{TokenKind};
 
 use crate::classes::is_id_start;
 use crate::lexemes::literal::{eat_suffix, literal};
-use crate::scan::{eat_while, first, split_first};
+use crate::scan::{eat_decimal, eat_hexadecimal, eat_while, first, split_first};
 use crate::token::{Base, LiteralKind, TokenKind};
 
 /// A number with its suffix. `first_digit` is its first character, and `tail` what follows that.
 ///
 /// Rust Reference, [Number literals](https://doc.rust-lang.org/reference/tokens.html#number-literals).
+#[inline(always)]
 pub(crate) fn number(first_digit: char, tail: &str) -> (TokenKind, &str)
     requires fits { length tail.now + 1 < 2 ^ 32 }
     ensures { (result.0, result.1.now) ≡ scanned (spec.number first_digit) tail.now }
@@ -22,6 +24,7 @@ pub(crate) fn number(first_digit: char, tail: &str) -> (TokenKind, &str)
 }
 
 /// What the number is, and the text from its suffix on.
+#[inline(always)]
 fn number_kind(first_digit: char, tail: &str) -> (LiteralKind, &str)
     ensures { (result.0, result.1.now) ≡ scanned (spec.number_kind first_digit) tail.now }
 {
@@ -34,21 +37,19 @@ fn number_kind(first_digit: char, tail: &str) -> (LiteralKind, &str)
 
 /// The base, whether it has a prefix with no digit after it, and what follows the digits up to a point or an
 /// exponent.
+#[inline(always)]
 fn front(first_digit: char, tail: &str) -> (Base, bool, &str)
     ensures { (spec.front_of result.0 result.1, result.2.now) ≡ scanned (spec.front first_digit) tail.now }
 {
     if first_digit == '0' {
         front_past_zero(tail)
     } else {
-        (
-            Base::Decimal,
-            false,
-            eat_while(tail, is_digit_or_underscore),
-        )
+        (Base::Decimal, false, eat_decimal(tail))
     }
 }
 
 /// The same, where the first digit is 0.
+#[inline(always)]
 fn front_past_zero(tail: &str) -> (Base, bool, &str)
     ensures { (spec.front_of result.0 result.1, result.2.now) ≡ scanned spec.front_past_zero tail.now }
 {
@@ -65,15 +66,12 @@ fn front_past_zero(tail: &str) -> (Base, bool, &str)
         let (has_digit, rest) = hexadecimal_digits(digits);
         (Base::Hexadecimal, !has_digit, rest)
     } else {
-        (
-            Base::Decimal,
-            false,
-            eat_while(tail, is_digit_or_underscore),
-        )
+        (Base::Decimal, false, eat_decimal(tail))
     }
 }
 
 /// What a number of this base is, by what follows its front: a fraction, an exponent or neither.
+#[inline(always)]
 fn past_digits(base: Base, rest: &str) -> (LiteralKind, &str)
     ensures { (result.0, result.1.now) ≡ scanned (spec.past_digits base) rest.now }
 {
@@ -105,11 +103,12 @@ fn is_no_fraction(c: char) -> bool
 }
 
 /// The float whose fraction this is. `rest` is what follows its dot.
+#[inline(always)]
 fn fraction(base: Base, rest: &str) -> (LiteralKind, &str)
     ensures { (result.0, result.1.now) ≡ scanned (spec.fraction base) rest.now }
 {
     if first(rest).is_ascii_digit() {
-        exponent(base, eat_while(rest, is_digit_or_underscore))
+        exponent(base, eat_decimal(rest))
     } else {
         let float = LiteralKind::Float {
             base,
@@ -120,6 +119,7 @@ fn fraction(base: Base, rest: &str) -> (LiteralKind, &str)
 }
 
 /// The float with the exponent that stands here, if one does.
+#[inline(always)]
 fn exponent(base: Base, rest: &str) -> (LiteralKind, &str)
     ensures { (result.0, result.1.now) ≡ scanned (spec.exponent base) rest.now }
 {
@@ -144,6 +144,7 @@ fn is_exponent_letter(c: char) -> bool
 }
 
 /// The float with this exponent. `rest` is what follows the letter of it.
+#[inline(always)]
 fn past_letter(base: Base, rest: &str) -> (LiteralKind, &str)
     ensures { (result.0, result.1.now) ≡ scanned (spec.past_letter base) rest.now }
 {
@@ -164,6 +165,7 @@ fn is_sign(c: char) -> bool
 }
 
 /// The float whose exponent has these digits.
+#[inline(always)]
 fn past_sign(base: Base, rest: &str) -> (LiteralKind, &str)
     ensures { (result.0, result.1.now) ≡ scanned (spec.past_sign base) rest.now }
 {
@@ -182,7 +184,7 @@ fn decimal_digits(rest: &str) -> (bool, &str)
 {
     let digits = eat_while(rest, is_underscore);
     let has_digit = first(digits).is_ascii_digit();
-    (has_digit, eat_while(digits, is_digit_or_underscore))
+    (has_digit, eat_decimal(digits))
 }
 
 /// The same of hexadecimal digits.
@@ -191,7 +193,7 @@ fn hexadecimal_digits(rest: &str) -> (bool, &str)
 {
     let digits = eat_while(rest, is_underscore);
     let has_digit = first(digits).is_ascii_hexdigit();
-    (has_digit, eat_while(digits, is_hex_digit_or_underscore))
+    (has_digit, eat_hexadecimal(digits))
 }
 
 fn is_underscore(c: char) -> bool
@@ -200,19 +202,8 @@ fn is_underscore(c: char) -> bool
     c == '_'
 }
 
-fn is_digit_or_underscore(c: char) -> bool
-    ensures { result ≡ spec.or_underscore is_ascii_digit c }
-{
-    c.is_ascii_digit() || is_underscore(c)
-}
-
-fn is_hex_digit_or_underscore(c: char) -> bool
-    ensures { result ≡ spec.or_underscore is_ascii_hexdigit c }
-{
-    c.is_ascii_hexdigit() || is_underscore(c)
-}
-
-/// How far a number looks past its end.
+/// How far a number looks past its end, and that its text, up to a suffix, is one that the grammar of numbers has.
 pub(crate) fn number_lookahead()
-    ensures { (first : ℕ) → IsLocal TokenKind 2 (spec.number first) }
+    ensures number { (first : ℕ) → IsLocal TokenKind 2 (spec.number first) }
+    ensures grammar { AreNumbers }
 {}

@@ -3,12 +3,11 @@ ghost use Rattle.std.specs.Prelude.{◌≡◌, ◌+◌, ◌≤◌, ◌<◌, ◌^
 ghost use Rattle.std.specs.Str.{chars};
 ghost use Rattle.rustc_lexer.specs.declared.token.TokenKind.{TokenKind};
 ghost use Rattle.rustc_lexer.specs.Literal.{Body, literal};
-ghost use Rattle.rustc_lexer.specs.LocalAt.{IsLocalAt};
 ghost use Rattle.rustc_lexer.specs.Quoted as spec;
-ghost use Rattle.rustc_lexer.specs.Scan.{IsLocal, after, past, scanned};
+ghost use Rattle.rustc_lexer.specs.Scan.{IsLocal, IsLocalAt, after, past, scanned};
 
 use crate::lexemes::literal::{eat_suffix, literal};
-use crate::scan::{split_first, strip};
+use crate::scan::{eat_to_either, split_first, strip};
 use crate::token::{LiteralKind, TokenKind};
 
 /// Whether a double quote closes the text, and what follows that. `body` is what follows the opening quote.
@@ -18,18 +17,19 @@ pub(crate) fn double_quoted(body: &str) -> (bool, &str)
     ensures read { (result.0, result.1.now) ≡ scanned spec.double_quoted body.now }
 {
     let mut rest = body;
-    let mut escaped = false;
-    while let Some((c, tail)) = split_first(rest) {
-        if escaped {
-            escaped = false;
-        } else if c == '"' {
+    'quoted: loop {
+        let stop = eat_to_either(rest, b'"', b'\\');
+        let Some((c, tail)) = split_first(stop) else {
+            return (false, stop);
+        };
+        if c == '"' {
             return (true, tail);
-        } else {
-            escaped = c == '\\';
         }
-        rest = tail;
+        let Some((_, past_escaped)) = split_first(tail) else {
+            return (false, tail);
+        };
+        rest = past_escaped;
     }
-    (false, rest)
 }
 
 /// Whether a single quote closes the text, and what follows that. `body` is what follows the opening quote.
@@ -78,6 +78,7 @@ fn stops_open(c: char, tail: &str) -> bool
 }
 
 /// A string, and what it leaves. `tail` is what follows its quote.
+#[inline(always)]
 pub(crate) fn str_literal(tail: &str) -> (TokenKind, &str)
     requires fits { length tail.now + 1 < 2 ^ 32 }
     ensures { (result.0, result.1.now) ≡ scanned (literal spec.str_body) tail.now }
@@ -87,6 +88,7 @@ pub(crate) fn str_literal(tail: &str) -> (TokenKind, &str)
 }
 
 /// A byte string. `tail` is what follows its `b`, and `body` what follows the quote.
+#[inline(always)]
 pub(crate) fn byte_str_literal<'a>(tail: &str, body: &'a str) -> (TokenKind, &'a str)
     requires body { body.now ≡ past 1 tail.now }
     requires fits { length tail.now + 1 < 2 ^ 32 }
@@ -97,6 +99,7 @@ pub(crate) fn byte_str_literal<'a>(tail: &str, body: &'a str) -> (TokenKind, &'a
 }
 
 /// A C string. `tail` is what follows its `c`, and `body` what follows the quote.
+#[inline(always)]
 pub(crate) fn c_str_literal<'a>(tail: &str, body: &'a str) -> (TokenKind, &'a str)
     requires body { body.now ≡ past 1 tail.now }
     requires fits { length tail.now + 1 < 2 ^ 32 }
@@ -107,6 +110,7 @@ pub(crate) fn c_str_literal<'a>(tail: &str, body: &'a str) -> (TokenKind, &'a st
 }
 
 /// A character. `tail` is what follows its quote.
+#[inline(always)]
 pub(crate) fn char_literal(tail: &str) -> (TokenKind, &str)
     requires fits { length tail.now + 1 < 2 ^ 32 }
     ensures { (result.0, result.1.now) ≡ scanned (literal spec.char_body) tail.now }
@@ -116,6 +120,7 @@ pub(crate) fn char_literal(tail: &str) -> (TokenKind, &str)
 }
 
 /// A byte. `tail` is what follows its `b`, and `body` what follows the quote.
+#[inline(always)]
 pub(crate) fn byte_literal<'a>(tail: &str, body: &'a str) -> (TokenKind, &'a str)
     requires body { body.now ≡ past 1 tail.now }
     requires fits { length tail.now + 1 < 2 ^ 32 }
@@ -126,6 +131,7 @@ pub(crate) fn byte_literal<'a>(tail: &str, body: &'a str) -> (TokenKind, &'a str
 }
 
 /// The literal whose body is all of `tail` up to `rest`, with its suffix where it takes one, and what it leaves.
+#[inline(always)]
 pub(crate) fn with_suffix<'a>(
     kind: LiteralKind,
     takes_suffix: bool,

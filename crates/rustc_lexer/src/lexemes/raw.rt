@@ -11,7 +11,7 @@ ghost use Rattle.rustc_lexer.specs.RawLaws.{EndsItself, RefusedEndsItself};
 ghost use Rattle.rustc_lexer.specs.Scan.{IsLocal, past, run_len, scanned};
 
 use crate::lexemes::literal::eat_suffix;
-use crate::scan::{eat_while, split_first, strip};
+use crate::scan::{eat_to, eat_while, split_first, strip};
 use crate::token::{LiteralKind, RawStrError, TokenKind};
 
 /// What a raw string begins with, as a token.
@@ -26,6 +26,7 @@ pub(crate) enum RawPrefix {
 }
 
 /// The token of a raw string. `rest` is what follows its prefix.
+#[inline(always)]
 pub(crate) fn raw_literal(prefix: RawPrefix, rest: &str) -> (TokenKind, &str)
     requires fits { spec.prefix_len prefix + length rest.now < 2 ^ 32 }
     ensures { (result.0, result.1.now) ≡ scanned (spec.raw_literal prefix) rest.now }
@@ -45,6 +46,7 @@ pub(crate) fn raw_literal(prefix: RawPrefix, rest: &str) -> (TokenKind, &str)
 }
 
 /// The length of the prefix in bytes.
+#[inline(always)]
 fn prefix_len(prefix: RawPrefix) -> u32
     ensures { result ≡ spec.prefix_len prefix }
 {
@@ -55,6 +57,7 @@ fn prefix_len(prefix: RawPrefix) -> u32
 }
 
 /// The kind of the raw string with this prefix.
+#[inline(always)]
 fn literal_kind(prefix: RawPrefix, n_hashes: Option<u8>) -> LiteralKind
     ensures { result ≡ spec.prefix_kind prefix n_hashes }
 {
@@ -67,6 +70,7 @@ fn literal_kind(prefix: RawPrefix, n_hashes: Option<u8>) -> LiteralKind
 
 /// The number of hashes on each side of a raw string, or why it is refused; and what it leaves of `rest`,
 /// which follows its prefix. An offset is in bytes, and counts `prefix_len` for the prefix.
+#[inline(always)]
 pub(crate) fn raw_double_quoted(rest: &str, prefix_len: u32) -> (Result<u8, RawStrError>, &str)
     requires fits { prefix_len + length rest.now < 2 ^ 32 }
     ensures { (result.0, result.1.now) ≡ scanned (spec.raw_read prefix_len) rest.now }
@@ -87,6 +91,7 @@ pub(crate) fn raw_double_quoted(rest: &str, prefix_len: u32) -> (Result<u8, RawS
 
 /// The same where `text` follows the opening quote, and `n_hashes` hashes stand before that. An offset
 /// counts `before` bytes for what stands before `text`.
+#[inline(always)]
 fn raw_text(text: &str, n_hashes: u32, before: u32) -> (Result<u8, RawStrError>, &str)
     requires fits { before + length text.now < 2 ^ 32 }
     ensures { (result.0, result.1.now) ≡ scanned (spec.raw_text n_hashes before) text.now }
@@ -115,13 +120,14 @@ fn raw_text(text: &str, n_hashes: u32, before: u32) -> (Result<u8, RawStrError>,
 }
 
 /// What follows the first quote of the text.
+#[inline(always)]
 fn past_quote(rest: &str) -> Option<&str>
     ensures { let place = run_len spec.is_no_quote (chars rest.now) in
         MatchOption result
         (drop place (chars rest.now) ≡ [])
         (λ tail. (drop place (chars rest.now) ≡ byte "\"" ∷ chars tail.now) × (tail.now ≡ past (suc place) rest.now) × (length tail.now < length rest.now)) }
 {
-    strip(eat_while(rest, |c| c != '"'), '"')
+    strip(eat_to(rest, b'"'), '"')
 }
 
 /// The number of hashes, or that there are too many.

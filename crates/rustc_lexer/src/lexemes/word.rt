@@ -4,21 +4,14 @@ ghost use Rattle.rustc_lexer.specs.Lexeme as spec;
 ghost use Rattle.rustc_lexer.specs.Raw.{prefix_len};
 ghost use Rattle.rustc_lexer.specs.Scan.{scanned};
 
-use crate::classes::is_id_start;
 use crate::lexemes::ident::{eat_marked, ident};
 use crate::lexemes::quoted::{byte_literal, byte_str_literal, c_str_literal};
 use crate::lexemes::raw::{RawPrefix, raw_literal};
 use crate::scan::{next_is, strip};
 use crate::token::TokenKind;
 
-/// Whether an identifier begins with the character, or a literal that a letter marks.
-pub(crate) fn begins_word(c: char) -> bool
-    ensures { result ≡ spec.begins_word c }
-{
-    matches!(c, 'r' | 'k' | 'b' | 'c') || is_id_start(c)
-}
-
 /// What begins with `first`. `tail` is what follows that.
+#[inline(always)]
 pub(crate) fn word(first: char, tail: &str) -> (TokenKind, &str)
     requires fits { length tail.now + 1 < 2 ^ 32 }
     ensures { (result.0, result.1.now) ≡ scanned (spec.word first) tail.now }
@@ -33,6 +26,7 @@ pub(crate) fn word(first: char, tail: &str) -> (TokenKind, &str)
 }
 
 /// What begins with an `r`: a raw identifier, a raw string, or an identifier.
+#[inline(always)]
 fn letter_r(tail: &str) -> (TokenKind, &str)
     requires fits { length tail.now + 1 < 2 ^ 32 }
     ensures { (result.0, result.1.now) ≡ scanned spec.letter_r tail.now }
@@ -55,6 +49,7 @@ fn is_raw_mark(c: char) -> bool
 }
 
 /// What begins with a `k`: a forced keyword, or an identifier.
+#[inline(always)]
 fn letter_k(tail: &str) -> (TokenKind, &str)
     ensures { (result.0, result.1.now) ≡ scanned spec.letter_k tail.now }
 {
@@ -65,6 +60,7 @@ fn letter_k(tail: &str) -> (TokenKind, &str)
 }
 
 /// What begins with a `b`: a byte, a byte string, or an identifier.
+#[inline(always)]
 fn letter_b(tail: &str) -> (TokenKind, &str)
     requires fits { length tail.now + 1 < 2 ^ 32 }
     ensures { (result.0, result.1.now) ≡ scanned spec.letter_b tail.now }
@@ -79,6 +75,7 @@ fn letter_b(tail: &str) -> (TokenKind, &str)
 }
 
 /// What begins with a `c`: a C string, or an identifier.
+#[inline(always)]
 fn letter_c(tail: &str) -> (TokenKind, &str)
     requires fits { length tail.now + 1 < 2 ^ 32 }
     ensures { (result.0, result.1.now) ≡ scanned spec.letter_c tail.now }
@@ -90,6 +87,7 @@ fn letter_c(tail: &str) -> (TokenKind, &str)
 }
 
 /// A raw string whose prefix of two letters ends with the `r` that `tail` begins with, or an identifier.
+#[inline(always)]
 fn raw_or_ident(prefix: RawPrefix, tail: &str) -> (TokenKind, &str)
     requires long { prefix_len prefix ≡ 2 }
     requires fits { length tail.now + 1 < 2 ^ 32 }

@@ -9,7 +9,7 @@ loop-token-init c =
     list_start _ _ _ _ c.new-listing.ensures.bytes (ap (λ (s : State). tokens_left s) c.into_iter-token-iterator.ensures.into_iter_gives ∙ c.tokenize-token-items.ensures.tokens) c.tokenize-token-items.ensures.partitions.whole
 
 pub loop-token-preserved : goal.loop-token-preserved
-loop-token-preserved c = list_step _ _ _ _ _ _ _ c.in-Some.token c.loop-token.invariant c.in-Some.ensures.steps c.in_ok-write.ensures.bytes
+loop-token-preserved c = list_step _ _ _ _ _ _ _ c.in-Some.token c.loop-token.invariant c.in-Some.ensures.steps.first c.in_ok-push_line.ensures
 
 pub returns : goal.returns
 returns c = list_end _ _ _ _ _ c.loop-token.invariant c.in-None.ensures.steps.0

@@ -1,32 +1,33 @@
 use Rattle.std.proofs.Common.{sym, ap, ◌∙◌}
+use Rattle.rustc_lexer.specs.declared.lexemes.family.Family.TheVariants.{Slash, Space, Word, Number, Quote, Str, Emoji, Hash, Symbol}
 use Rattle.rustc_lexer.specs.declared.token.TokenKind.TheVariants.{Whitespace}
-use Rattle.rustc_lexer.specs.Classes.{is_whitespace}
-use Rattle.rustc_lexer.proofs.LexemeLemmas.{pick-slash, pick-whitespace, pick-word, pick-number, pick-quote, pick-string, pick-emoji, pick-symbol}
+use Rattle.rustc_lexer.proofs.FamilyLemmas.{by_family}
 use Rattle.rustc_lexer.proofs.ScanLemmas.{scanned-gives}
 use Rattle.rustc_lexer.proofs.lexemes.past_first.Goals as goal
 
-pub returns-then-first-eq47 : goal.returns-then-first-eq47
-returns-then-first-eq47 c = c.slash.ensures ∙ sym (pick-slash _ _ c.if-first-eq47.true)
+pub returns-in-Slash : goal.returns-in-Slash
+returns-in-Slash c = by_family Slash _ _ _ c.slash.ensures (sym c.in-Slash.is ∙ c.family_of.ensures)
 
-pub returns-then-is_whitespace : goal.returns-then-is_whitespace
-returns-then-is_whitespace c = ap (λ xs. (Whitespace, xs)) (c.eat_while.ensures.past is_whitespace (λ d b e. e)) ∙ sym (pick-whitespace _ _ c.if-first-eq47.false (sym c.if-is_whitespace.ensures))
+pub returns-in-Space : goal.returns-in-Space
+returns-in-Space c = by_family Space _ _ _ (ap (λ xs. (Whitespace, xs)) c.eat_whitespace.ensures.past) (sym c.in-Space.is ∙ c.family_of.ensures)
 
-pub returns-then-begins_word : goal.returns-then-begins_word
-returns-then-begins_word c = c.word.ensures ∙ sym (pick-word _ _ c.if-first-eq47.false (sym c.if-is_whitespace.ensures) (sym c.if-begins_word.ensures))
+pub returns-in-Word : goal.returns-in-Word
+returns-in-Word c = by_family Word _ _ _ c.word.ensures (sym c.in-Word.is ∙ c.family_of.ensures)
 
-pub returns-then-is_ascii_digit : goal.returns-then-is_ascii_digit
-returns-then-is_ascii_digit c = c.number.ensures ∙ sym (pick-number _ _ c.if-first-eq47.false (sym c.if-is_whitespace.ensures) (sym c.if-begins_word.ensures) (sym c.if-is_ascii_digit.ensures.value))
+pub returns-in-Number : goal.returns-in-Number
+returns-in-Number c = by_family Number _ _ _ c.number.ensures (sym c.in-Number.is ∙ c.family_of.ensures)
 
-pub returns-then-first-eq39 : goal.returns-then-first-eq39
-returns-then-first-eq39 c = c.quote_or_lifetime.ensures ∙ sym (pick-quote _ _ c.if-first-eq47.false (sym c.if-is_whitespace.ensures) (sym c.if-begins_word.ensures) (sym c.if-is_ascii_digit.ensures.value) c.if-first-eq39.true)
+pub returns-in-Quote : goal.returns-in-Quote
+returns-in-Quote c = by_family Quote _ _ _ c.quote_or_lifetime.ensures (sym c.in-Quote.is ∙ c.family_of.ensures)
 
-pub returns-then-first-eq34 : goal.returns-then-first-eq34
-returns-then-first-eq34 c = c.str_literal.ensures ∙ sym (pick-string _ _ c.if-first-eq47.false (sym c.if-is_whitespace.ensures) (sym c.if-begins_word.ensures) (sym c.if-is_ascii_digit.ensures.value) c.if-first-eq39.false c.if-first-eq34.true)
+pub returns-in-Str : goal.returns-in-Str
+returns-in-Str c = by_family Str _ _ _ c.str_literal.ensures (sym c.in-Str.is ∙ c.family_of.ensures)
 
-pub returns-then-is_emoji : goal.returns-then-is_emoji
-returns-then-is_emoji c = c.invalid_ident.ensures ∙ sym (pick-emoji _ _ c.if-first-eq47.false (sym c.if-is_whitespace.ensures) (sym c.if-begins_word.ensures) (sym c.if-is_ascii_digit.ensures.value) c.if-first-eq39.false c.if-first-eq34.false (sym c.if-is_emoji.ensures))
+pub returns-in-Emoji : goal.returns-in-Emoji
+returns-in-Emoji c = by_family Emoji _ _ _ c.invalid_ident.ensures (sym c.in-Emoji.is ∙ c.family_of.ensures)
 
-pub returns-else-is_emoji : goal.returns-else-is_emoji
-returns-else-is_emoji c =
-    ap (λ k. (k, c.args.tail.now)) c.symbol_kind.ensures
-    ∙ sym (pick-symbol _ _ c.if-first-eq47.false (sym c.if-is_whitespace.ensures) (sym c.if-begins_word.ensures) (sym c.if-is_ascii_digit.ensures.value) c.if-first-eq39.false c.if-first-eq34.false (sym c.if-is_emoji.ensures) ∙ scanned-gives _ _ c.utf8.tail)
+pub returns-in-Hash : goal.returns-in-Hash
+returns-in-Hash c = by_family Hash _ _ _ c.hash.ensures (sym c.in-Hash.is ∙ c.family_of.ensures)
+
+pub returns-in-Symbol : goal.returns-in-Symbol
+returns-in-Symbol c = by_family Symbol _ _ _ (ap (λ k. (k, c.args.tail.now)) c.symbol_kind.ensures ∙ sym (scanned-gives _ _ c.utf8.tail)) (sym c.in-Symbol.is ∙ c.family_of.ensures)

@@ -1,23 +1,41 @@
-use Rattle.std.proofs.Common.{sym, ap, ◌∙◌}
+use Rattle.std.proofs.Common.{◌≡◌, ◌+◌, ◌-◌, ◌==◌, List, ℕ, length, drop, drop-drop, refl, sym, ap, subst, ◌∙◌, arith}
 use Rattle.rustc_lexer.specs.declared.token.Token.{Token}
-use Rattle.rustc_lexer.specs.State.{State, token_past}
-use Rattle.rustc_lexer.proofs.StateLemmas.{past_token, past_token-is, advance-end, advance-some}
+use Rattle.rustc_lexer.specs.State.{State, token_at, token_past}
+use Rattle.rustc_lexer.specs.Texts.{IsText}
+use Rattle.rustc_lexer.proofs.AdvanceLemmas.{not_end, takes_pending, stays_at_end, something}
+use Rattle.rustc_lexer.proofs.StateLemmas.{state, past_token, past_token-is, advance-end, advance-some}
 use Rattle.rustc_lexer.proofs.cursor.Cursor.advance_token.Goals as goal
 
-pub returns-then-is_empty-clause-token : goal.returns-then-is_empty-clause-token
-returns-then-is_empty-clause-token c = sym (ap (λ (r : Token × State). r.0) (advance-end _ _ _ _ c.self.view_is (sym c.if-is_empty.ensures)))
+pub returns-then-is_empty : goal.returns-then-is_empty
+returns-then-is_empty c =
+    let is = c.as_str-rest.ensures.rest ∙ sym (ap (λ (x : State). x.rest) c.self.view_is) in
+    let none = advance-end _ _ _ _ c.self.view_is (sym (ap (λ (xs : List ℕ). length xs == 0) is) ∙ sym c.if-is_empty.ensures) in
+    record {
+      token = sym (ap (λ (r : Token × State). r.0) none);
+      state = sym (ap (λ (r : Token × State). r.1) none);
+      end = λ e. stays_at_end _ _ _ c.as_str-rest.ensures.rest (sym c.if-is_empty.ensures) refl;
+      past = λ other. absurd (other refl);
+    }
 
-pub returns-then-is_empty-clause-state : goal.returns-then-is_empty-clause-state
-returns-then-is_empty-clause-state c = sym (ap (λ (r : Token × State). r.1) (advance-end _ _ _ _ c.self.view_is (sym c.if-is_empty.ensures)))
-
-pub returns-clause-token : goal.returns-clause-token
-returns-clause-token c =
-    c.with_pending.ensures
-    ∙ (ap (λ (t : Token). token_past c.self.inside.pending t) c.lexeme-token.ensures.token
-    ∙ sym (ap (λ (r : Token × State). r.0) (advance-some _ _ _ _ c.self.view_is (sym c.if-is_empty.ensures))))
-
-pub returns-clause-state : goal.returns-clause-state
-returns-clause-state c =
-    past_token-is c.self.inside.rest.now _ c.self.inside.frontmatter_allowed _ c.lexeme-token.result c.range_from-self-inside.ensures.value c.next_allowed-self-inside.ensures
-    ∙ (ap (λ (t : Token). past_token c.self.inside.rest.now c.self.inside.frontmatter_allowed t) c.lexeme-token.ensures.token
-    ∙ sym (ap (λ (r : Token × State). r.1) (advance-some _ _ _ _ c.self.view_is (sym c.if-is_empty.ensures))))
+pub returns : goal.returns
+returns c =
+    let is = c.as_str-rest.ensures.rest ∙ sym (ap (λ (x : State). x.rest) c.self.view_is) in
+    let i = c.self.inside.index in
+    let n = c.token_at-token.result.len in
+    let none : (i + n) - (i + n) ≡ 0 = omega arith in
+    let some = advance-some _ _ _ _ c.self.view_is (sym (ap (λ (xs : List ℕ). length xs == 0) is) ∙ sym c.if-is_empty.ensures) in
+    let token = c.with_pending.ensures
+    ∙ (ap (λ (t : Token). token_past (c.self.inside.index - c.self.inside.start) t) (c.token_at-token.ensures.token ∙ ap (token_at c.self.inside.frontmatter_allowed) is)
+    ∙ sym (ap (λ (r : Token × State). r.0) some)) in
+    let state = ap (λ p. state p (drop (i + n) c.self.inside.text.now) c.next_allowed-self-inside.result) none
+    ∙ (past_token-is (drop i c.self.inside.text.now) _ c.self.inside.frontmatter_allowed _ c.token_at-token.result (sym (drop-drop n i c.self.inside.text.now)) c.next_allowed-self-inside.ensures
+    ∙ (ap (λ (t : Token). past_token (drop i c.self.inside.text.now) c.self.inside.frontmatter_allowed t) (c.token_at-token.ensures.token ∙ ap (token_at c.self.inside.frontmatter_allowed) is)
+    ∙ sym (ap (λ (r : Token × State). r.1) some))) in
+    let text : IsText c.args.self.now.rest = subst IsText c.as_str-rest.ensures.rest record { utf8 = c.as_str-rest.utf8; fits = c.as_str-rest.ensures.fits } in
+    let left = something _ _ c.as_str-rest.ensures.rest (sym c.if-is_empty.ensures) in
+    record {
+      token = token;
+      state = state;
+      end = λ e. absurd (not_end c.args.self.now _ _ text left token state e);
+      past = λ other. takes_pending c.args.self.now _ _ text left token state;
+    }

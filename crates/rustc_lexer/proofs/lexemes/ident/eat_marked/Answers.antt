@@ -1,4 +1,3 @@
-use Rattle.rustc_lexer.specs.Classes.{is_id_continue}
 use Rattle.rustc_lexer.proofs.IdentLemmas.{marks-none, marks-by, past-marked}
 use Rattle.rustc_lexer.proofs.lexemes.ident.eat_marked.Goals as goal
 
@@ -11,5 +10,5 @@ returns-then-not-is_id_start c = marks-by _ _ c.utf8.tail c.in_ok-strip.ensures.
 pub returns : goal.returns
 returns c = (
   marks-by _ _ c.utf8.tail c.in_ok-strip.ensures.1 c.in_ok-strip.ensures.0 _ _ _ c.in_ok-first.ensures.0 c.if-not-is_id_start.ensures,
-  past-marked _ _ c.utf8.tail c.in_ok-strip.ensures.1 c.in_ok-strip.ensures.0 _ _ c.in_ok-first.ensures.1 (c.eat_while.ensures.past is_id_continue (λ d b e. e)),
+  past-marked _ _ c.utf8.tail c.in_ok-strip.ensures.1 c.in_ok-strip.ensures.0 _ _ c.in_ok-first.ensures.1 (c.eat_continue.ensures.past),
 )

@@ -1,11 +1,10 @@
 use Rattle.std.proofs.Common.{inl, inr}
-use Rattle.rustc_lexer.specs.Classes.{is_id_continue}
 use Rattle.rustc_lexer.proofs.LifetimeLemmas.{pick-raw, pick-named}
 use Rattle.rustc_lexer.proofs.lexemes.lifetime.lifetime.Goals as goal
 use Rattle.rustc_lexer.proofs.lexemes.lifetime.lifetime.Goals.{then-first-eq114+in_default, else-first-eq114}
 
 pub returns-in-Some : goal.returns-in-Some
-returns-in-Some c = pick-raw _ _ _ _ c.utf8.rest c.if-first-eq114.true c.in-Some.ensures.0 c.in-Some.ensures.1 (c.eat_while.ensures.past is_id_continue (λ d b e. e))
+returns-in-Some c = pick-raw _ _ _ _ c.utf8.rest c.if-first-eq114.true c.in-Some.ensures.0 c.in-Some.ensures.1 (c.eat_continue.ensures.past)
 
 pub returns : goal.returns
 returns c =

@@ -4,8 +4,8 @@ use Rattle.std.specs.Str.{chars}
 use Rattle.rustc_lexer.specs.declared.token.LiteralKind.TheVariants.{Float}
 use Rattle.rustc_lexer.specs.Number.{exponent, fraction, fraction_digits, or_underscore}
 use Rattle.rustc_lexer.specs.Scan.{gives, next_is, run}
-use Rattle.rustc_lexer.proofs.NumberLemmas.{next_is-first, scanned-and_then}
-use Rattle.rustc_lexer.proofs.ScanLemmas.{scanned-gives, scanned-yes, scanned-no}
+use Rattle.rustc_lexer.proofs.NumberLemmas.{next_is-first}
+use Rattle.rustc_lexer.proofs.ScanLemmas.{scanned-and_then, scanned-gives, scanned-yes, scanned-no}
 use Rattle.rustc_lexer.proofs.lexemes.number.fraction.Goals as goal
 
 pub returns-then-is_ascii_digit : goal.returns-then-is_ascii_digit
@@ -13,7 +13,7 @@ unfolding fraction
 returns-then-is_ascii_digit c =
     c.exponent.ensures
     ∙ sym (scanned-yes (next_is is_ascii_digit) (fraction_digits c.args.base) (gives (Float c.args.base false)) _ (next_is-first is_ascii_digit (chars c.args.rest.now) refl ∙ (ap is_ascii_digit (sym c.first.ensures) ∙ sym c.if-is_ascii_digit.ensures.value))
-    ∙ scanned-and_then (run c.args.base (or_underscore is_ascii_digit)) exponent _ _ _ c.utf8.rest (ap (λ xs. (c.args.base, xs)) (c.eat_while.ensures.past (or_underscore is_ascii_digit) (λ d b e. e))))
+    ∙ scanned-and_then (run c.args.base (or_underscore is_ascii_digit)) exponent _ _ _ c.utf8.rest (ap (λ xs. (c.args.base, xs)) (c.eat_decimal.ensures.past)))
 
 pub returns-else-is_ascii_digit : goal.returns-else-is_ascii_digit
 unfolding fraction

@@ -1,6 +1,7 @@
-use Rattle.std.proofs.Common.{ap, ◌∙◌}
-use Rattle.rustc_lexer.specs.Number.{number_kind}
-use Rattle.rustc_lexer.proofs.NumberLemmas.{scanned-shorter, suffixed-is}
+use Rattle.std.proofs.Common.{refl, ap, ◌∙◌}
+use Rattle.rustc_lexer.specs.Number.{with_suffix, number_kind, number_body}
+use Rattle.rustc_lexer.proofs.LiteralLemmas.{with-suffix}
+use Rattle.rustc_lexer.proofs.ScanLemmas.{scanned-shorter, scanned-read_as}
 use Rattle.rustc_lexer.proofs.lexemes.number.number.Goals as goal
 
 pub literal-requires-clause-inside : goal.literal-requires-clause-inside
@@ -9,4 +10,4 @@ literal-requires-clause-inside c = scanned-shorter (number_kind c.args.first_dig
 pub returns : goal.returns
 returns c =
     ap (λ kind. (kind, c.eat_suffix.result.now)) c.literal.ensures
-    ∙ suffixed-is (number_kind c.args.first_digit) _ _ _ _ c.utf8.tail c.number_kind-kind.ensures c.eat_suffix.ensures.past
+    ∙ with-suffix 1 (number_body c.args.first_digit) _ _ _ _ c.utf8.tail (scanned-read_as with_suffix (number_kind c.args.first_digit) _ _ _ c.number_kind-kind.ensures) _ _ refl refl c.eat_suffix.ensures.past

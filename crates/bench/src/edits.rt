@@ -1,0 +1,108 @@
+//! Editing a text that is kept with its tokens.
+ghost use Rattle.rustc_lexer.specs.Classes.{Fits};
+
+use anyhow::Result;
+use rustc_lexer::{LexedText, Relexed, Steps};
+use std::time::Instant;
+
+/// Where the edits stand.
+#[derive(Clone, Copy)]
+pub(crate) enum Place {
+    /// In the middle of the text.
+    Middle,
+    /// At its end.
+    End,
+    /// At another place each time.
+    Jumping,
+}
+
+/// What edits took.
+#[derive(Clone, Copy)]
+pub(crate) struct EditWork {
+    pub(crate) edits: u64,
+    /// How many tokens were lexed for them.
+    pub(crate) lexed: u64,
+    /// A sum over what each of them kept, in order.
+    pub(crate) sum: u64,
+}
+
+impl EditWork {
+    /// One edit more.
+    fn and(self, relexed: Relexed) -> EditWork {
+        EditWork {
+            edits: self.edits.wrapping_add(1),
+            lexed: self.lexed.wrapping_add(relexed.lexed as u64),
+            sum: self
+                .sum
+                .wrapping_mul(31)
+                .wrapping_add(relexed.kept_front as u64)
+                .wrapping_mul(31)
+                .wrapping_add(relexed.kept_back as u64),
+        }
+    }
+}
+
+/// Types and deletes so many letters, and prints what one edit takes, and what lexing the whole text takes.
+pub(crate) fn time_edits(rt: &HostRuntime, text: &str, place: Place, times: u32) -> Result<()>
+    requires { Fits text.now }
+{
+    let mut least_whole = u128::MAX;
+    for _ in 0..9 {
+        let start = Instant::now(rt)?;
+        let held = LexedText::new(rt.alloc(), text)?;
+        least_whole = least_whole.min(start.elapsed(rt)?.as_nanos());
+        drop(held);
+    }
+    let mut held = LexedText::new(rt.alloc(), text)?;
+    let start = Instant::now(rt)?;
+    let work = edit_letters(&mut held, place, times)?;
+    let one_edit = start.elapsed(rt)?.as_nanos() / (work.edits as u128).max(1);
+    println!(rt;
+        "edits {}, tokens lexed {}, sum {}",
+        work.edits, work.lexed, work.sum
+    )?;
+    println!(rt; "one edit {one_edit} ns, lexing the whole {least_whole} ns")?;
+    Ok(())
+}
+
+/// Types a letter and deletes it again, as often as asked.
+pub(crate) fn edit_letters(
+    held: &mut LexedText<Steps>,
+    place: Place,
+    times: u32,
+) -> Result<EditWork> {
+    let mut work = EditWork {
+        edits: 0,
+        lexed: 0,
+        sum: 0,
+    };
+    let mut random = 1u64;
+    for _ in 0..times {
+        random = next_random(random);
+        let at = index_of(place, held.text().len(), random);
+        if held.accepts(at, at, "x") {
+            work = work.and(held.edit(at, at, "x")?);
+        }
+        let past = at.wrapping_add(1);
+        if held.accepts(at, past, "") {
+            work = work.and(held.edit(at, past, "")?);
+        }
+    }
+    Ok(work)
+}
+
+/// The index of a place in a text of so many bytes.
+fn index_of(place: Place, len: usize, random: u64) -> usize {
+    match place {
+        Place::Middle => len / 2,
+        Place::End => len,
+        Place::Jumping => ((random >> 32) as usize).wrapping_mul(len) >> 32,
+    }
+}
+
+/// The next of a sequence of numbers that look as if drawn by chance (Knuth's linear congruence of 64 bits).
+fn next_random(random: u64) -> u64 {
+    random
+        .wrapping_mul(6_364_136_223_846_793_005)
+        .wrapping_add(1_442_695_040_888_963_407)
+}

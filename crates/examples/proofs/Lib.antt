@@ -1,0 +1,3 @@
+pub mod HighlightLemmas
+pub mod LineLemmas
+pub mod PieceLemmas

@@ -1,0 +1,13 @@
+use Rattle.std.specs.Fmt.{WritesInCalls}
+use Rattle.rustc_lexer.specs.declared.token.FrontmatterAllowed.TheVariants.{No}
+use Rattle.rustc_lexer.specs.State.{StandsAt}
+use Rattle.rustc_lexer.specs.Tokens.{tokens_of, tokens_left}
+use Rattle.examples.specs.Highlight.{parts, with_marks}
+use Rattle.examples.proofs.highlight.highlight.Given as goal
+
+abbrev pub invariant-loop-token : goal.invariant-loop-token
+invariant-loop-token g l = record {
+  place : StandsAt l.text l.start l.token-iterator;
+  left : (w : _) → WritesInCalls g.W.Write.write_str_gives l.output (with_marks (parts l.token-iterator.rest (tokens_left l.token-iterator))) w
+      → WritesInCalls g.W.Write.write_str_gives l.initial.output (with_marks (parts l.text (tokens_of No l.text))) w;
+}

@@ -1,0 +1,83 @@
+//! Two steppers.
+ghost use Rattle.std.specs.Prelude.{◌≡◌, ◌<◌, length};
+ghost use Rattle.lex_vectors.specs.Characters.{character};
+
+use rustc_lexer::{Stepper, Steps, Token, TokenKind};
+
+/// A `Steps` that counts its calls, as far as a `u64` goes.
+#[derive(Drop)]
+pub struct Counting {
+    steps: Steps,
+    pub calls: u64,
+}
+
+impl Counting {
+    pub fn new() -> Counting
+        ensures { result.calls ≡ 0 }
+    {
+        Counting {
+            steps: Steps::new(),
+            calls: 0,
+        }
+    }
+}
+
+impl Stepper for Counting {
+    ghost grammar = { λ c. ⟦<Steps as Stepper>⟧.grammar c.steps };
+
+    ghost number = { λ c. ⟦<Steps as Stepper>⟧.number c.steps };
+
+    ghost count = { λ c. ⟦<Steps as Stepper>⟧.count c.steps };
+
+    ghost law = { λ c. ⟦<Steps as Stepper>⟧.law c.steps };
+
+    fn step(&mut self, rest: &str) -> Token {
+        self.calls = self.calls.saturating_add(1);
+        self.steps.step(rest)
+    }
+}
+
+/// Each character is one token.
+#[derive(Drop)]
+pub struct Characters {
+    steps: Steps,
+}
+
+impl Characters {
+    pub fn new() -> Characters {
+        Characters {
+            steps: Steps::new(),
+        }
+    }
+}
+
+impl Stepper for Characters {
+    ghost use Rattle.lex_vectors.specs.Characters.{character, character_grammar};
+
+    ghost grammar = { λ _. character };
+
+    ghost number = { λ _. 0 };
+
+    ghost count = { λ c. ⟦<Steps as Stepper>⟧.count c.steps };
+
+    ghost law = { λ _. character_grammar };
+
+    fn step(&mut self, rest: &str) -> Token {
+        let _ = self.steps.step(rest);
+        first_character(rest)
+    }
+}
+
+fn first_character(rest: &str) -> Token
+    requires not_empty { 0 < length rest.now }
+    ensures { result ≡ character rest.now }
+{
+    let len = match rest.chars().next() {
+        Some(c) => c.len_utf8() as u32,
+        None => 0,
+    };
+    Token {
+        kind: TokenKind::Unknown,
+        len,
+    }
+}

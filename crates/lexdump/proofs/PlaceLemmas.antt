@@ -1,0 +1,41 @@
+-- The start and the length of a token, written from the last byte to the first.
+use Rattle.std.proofs.Common.{◌≡◌, ℕ, suc, ◌+◌, ◌-◌, ◌<◌, ◌≤◌, ◌^◌, List, [], ◌∷◌, ◌++◌, length, take, drop, get_or, sym, ap, ◌∙◌, arith, replicate, take_all, length-drop, Result, Ok, Err}
+use Rattle.std.specs.Prelude.{if◌then◌else◌, is_ok, OnOk}
+use Rattle.std.specs.Fmt.{decimal}
+use Rattle.std.specs.Str.{IsUtf8}
+use Rattle.std.proofs.Math.Seq.{drop-cons}
+use Rattle.std.proofs.lemmas.Fmt.{IsAscii-decimal, length-decimal-le}
+use Rattle.std.proofs.lemmas.List.{get_or-take, get_or-replicate}
+use Rattle.std.proofs.lemmas.Str.{IsAscii-append, IsUtf8-from_ascii}
+use Rattle.std.proofs.lemmas.Str.Ascii.{IsAscii-cons, IsAscii-nil}
+use Rattle.lexdump.specs.Listing.{place_text}
+
+pub short : (n : ℕ) → n < 2 ^ 32 → length (decimal n) ≤ 10
+short n small = length-decimal-le 10 n (omega arith) (omega arith) (omega arith)
+
+-- what was written from `from` on is the place, where the length stands from `at` on, and a space before and after it
+pub place-written : (start len at from : ℕ) (spaces one two : List ℕ) → spaces ≡ replicate 22 32 → length one ≡ 22 → 1 ≤ at → at + length (decimal len) ≡ 21 → drop at one ≡ decimal len ++ drop 21 spaces → take at one ≡ take at spaces
+    → length two ≡ 22 → drop from two ≡ decimal start ++ drop (at - 1) one → take (22 - from) (drop from two) ≡ place_text start len
+place-written start len at from spaces one two blank size after_space end len_at before size_two start_at = take_all (22 - from) (drop from two) (omega (arith, length-drop from two)) ∙ start_at ∙ ap (λ xs. decimal start ++ xs) (space ∙ ap (λ xs. 32 ∷ xs) (len_at ∙ ap (λ xs. decimal len ++ xs) (ap (drop 21) blank)))
+  where
+    at_is : suc (at - 1) ≡ at
+    at_is = omega arith
+
+    blank_at : get_or one (at - 1) 0 ≡ 32
+    blank_at = sym (get_or-take at one (at - 1) 0 (omega arith)) ∙ (ap (λ xs. get_or xs (at - 1) 0) before ∙ (get_or-take at spaces (at - 1) 0 (omega arith) ∙ (ap (λ xs. get_or xs (at - 1) 0) blank ∙ get_or-replicate 22 (at - 1) 32 0 (omega arith))))
+
+    space : drop (at - 1) one ≡ 32 ∷ drop at one
+    space = drop-cons one (at - 1) 0 (omega arith) ∙ (ap (λ (x : ℕ). x ∷ drop (suc (at - 1)) one) blank_at ∙ ap (λ (n : ℕ). 32 ∷ drop n one) at_is)
+
+pub IsUtf8-place : (start len : ℕ) → start < 2 ^ 32 → len < 2 ^ 32 → IsUtf8 (place_text start len)
+IsUtf8-place start len small few =
+    IsUtf8-from_ascii (place_text start len)
+    (IsAscii-append (decimal start) _ (IsAscii-decimal start (omega arith)) (IsAscii-cons 32 (decimal len ++ 32 ∷ []) (omega arith) (IsAscii-append (decimal len) _ (IsAscii-decimal len (omega arith)) (IsAscii-cons 32 [] (omega arith) IsAscii-nil))))
+
+pub same-place : (a b c d : ℕ) → a ≡ b → c ≡ d → place_text a c ≡ place_text b d
+same-place a b c d e f = ap (λ (n : ℕ). place_text n c) e ∙ ap (place_text b) f
+
+-- what a text that took more has, where it took it
+pub appended : {T E : Type 0} (result : Result T E) (old new piece more : List ℕ) → new ≡ (if is_ok result then old ++ piece else old) → piece ≡ more → OnOk result (new ≡ old ++ more)
+appended (Ok done) old new piece more grew is = grew ∙ ap (λ xs. old ++ xs) is
+appended (Err error) old new piece more grew is = tt

@@ -1,0 +1,111 @@
+//! Whole runs that edit a text and list what it then is.
+use crate::fault::{Fault, status};
+use crate::job::read_job;
+use crate::tests::ends::{Came, Failure, dump};
+use crate::tests::words_of;
+use std::test::Fail;
+
+/// What comes of a run on the text, with the words for its job and an end that fails as it is told.
+fn edited(
+    rt: &HostRuntime,
+    words: &[&str],
+    text: &[u8],
+    fails_at: usize,
+    failure: Failure,
+) -> Result<Came, Fail> {
+    let words = words_of(rt.alloc(), words)?;
+    let job = read_job(rt.alloc(), words.as_slice())?;
+    Ok(dump(rt, &job, text, fails_at, failure))
+}
+
+#[test]
+fn listings(rt: HostRuntime) -> Result<(), Fail> {
+    let rows: [(&str, &[&str], &str); 7] = [
+        (
+            "ab cd ef",
+            &["edit", "8", "8", "z"],
+            "0 2 Ident\n2 1 Whitespace\n3 2 Ident\n5 1 Whitespace\n6 3 Ident\n",
+        ),
+        (
+            "ab cd ef",
+            &["edit", "8", "8", "z", "0", "3", ""],
+            "0 2 Ident\n2 1 Whitespace\n3 3 Ident\n",
+        ),
+        ("", &["edit", "0", "0", ""], ""),
+        ("ab cd", &["edit", "0", "3", ""], "0 2 Ident\n"),
+        (
+            "x \"a\" y",
+            &["edit", "0", "0", "\""],
+            "0 5 Literal kind=Str terminated=true suffix_start=4\n5 3 Literal kind=Str terminated=false suffix_start=3\n",
+        ),
+        (
+            "/* a",
+            &["edit", "4", "4", " */"],
+            "0 7 BlockComment doc_style=none terminated=true\n",
+        ),
+        (
+            "a \u{1f600} \u{e9}",
+            &["edit", "9", "9", "z"],
+            "0 1 Ident\n1 1 Whitespace\n2 4 InvalidIdent\n6 1 Whitespace\n7 3 Ident\n",
+        ),
+    ];
+    for (row, (text, words, want)) in rows.iter().enumerate() {
+        let came = edited(&rt, words, text.as_bytes(), usize::MAX, Failure::Never)?;
+        assert_eq!(rt; came.answer, Ok(()), "row {row}");
+        assert_eq!(rt; came.written.as_slice(), want.as_bytes(), "row {row}");
+        assert!(rt; !came.reader_failed, "row {row}");
+        assert!(rt; !came.writer_failed, "row {row}");
+    }
+    Ok(())
+}
+
+#[test]
+fn bad_ranges(rt: HostRuntime) -> Result<(), Fail> {
+    let rows: [(&str, &[&str], usize); 6] = [
+        ("\u{e9}", &["edit", "1", "2", ""], 0),
+        ("\u{e9}", &["edit", "0", "1", ""], 0),
+        ("ab cd", &["edit", "0", "6", ""], 0),
+        ("ab cd", &["edit", "3", "2", ""], 0),
+        ("ab cd", &["edit", "0", "3", "", "1", "9", ""], 1),
+        (
+            "ab",
+            &["edit", "2", "2", "c", "3", "3", "d", "5", "5", ""],
+            2,
+        ),
+    ];
+    for (row, (text, words, at)) in rows.iter().enumerate() {
+        let came = edited(&rt, words, text.as_bytes(), usize::MAX, Failure::Never)?;
+        assert_eq!(rt; came.answer, Err(Fault::EditRange { at: *at }), "row {row}");
+        assert!(rt; came.written.is_empty(), "row {row}");
+        assert!(rt; !came.reader_failed, "row {row}");
+        assert!(rt; !came.writer_failed, "row {row}");
+    }
+    assert_eq!(rt; status(&Fault::EditRange { at: 0 }), 5);
+    Ok(())
+}
+
+#[test]
+fn faults_before_edits(rt: HostRuntime) -> Result<(), Fail> {
+    let bad = ["edit", "9", "9", "z"];
+    let came = edited(&rt, &bad, b"\xff", usize::MAX, Failure::Never)?;
+    assert_eq!(rt; came.answer, Err(Fault::NotUtf8));
+    let came = edited(&rt, &bad, b"ab", 1, Failure::Never)?;
+    assert_eq!(rt; came.answer, Err(Fault::Read));
+    assert!(rt; came.reader_failed);
+    Ok(())
+}
+
+#[test]
+fn a_failing_writer(rt: HostRuntime) -> Result<(), Fail> {
+    let words = ["edit", "2", "2", "c"];
+    let whole = b"0 3 Ident\n";
+    for at in 0..whole.len() {
+        for failure in [Failure::ErrorAt(at), Failure::ZeroAt(at)] {
+            let came = edited(&rt, &words, b"ab", usize::MAX, failure)?;
+            assert_eq!(rt; came.answer, Err(Fault::Write));
+            assert!(rt; came.writer_failed);
+            assert_eq!(rt; came.written.as_slice(), &whole[..at]);
+        }
+    }
+    Ok(())
+}

@@ -1,0 +1,219 @@
+//! Rows that look at what is left where a request for memory is refused.
+//!
+//! Run by itself the program meets no refusal. The script `tests/refused_memory` runs it again and again, with
+//! its first request for memory refused, then its second, and so on: it has to print the same line each time.
+#![tactic(auto)]
+
+use lex_vectors::steppers::Counting;
+use rustc_lexer::{
+    Edit, EditStop, FrontmatterAllowed, LexedText, Relexed, Stepper, fits, tokenize,
+};
+use std::alloc::Global;
+use std::io;
+
+/// A text, an edit of it, what it makes, and its counts.
+#[derive(Clone, Copy)]
+struct EditRow {
+    text: &'static str,
+    edit: Edit<'static>,
+    made: &'static str,
+    counts: Relexed,
+    /// Whether the edit asks for memory at all.
+    asks: bool,
+}
+
+/// A list of edits, and the texts that it makes, one after another.
+#[derive(Clone, Copy)]
+struct ListRow {
+    text: &'static str,
+    first: Edit<'static>,
+    second: Edit<'static>,
+    after_first: &'static str,
+    after_both: &'static str,
+}
+
+const EDITS: [EditRow; 5] = [
+    EditRow {
+        text: "ab",
+        edit: Edit {
+            start: 2,
+            stop: 2,
+            insert: "c",
+        },
+        made: "abc",
+        counts: Relexed {
+            kept_front: 0,
+            lexed: 1,
+            kept_back: 0,
+        },
+        asks: true,
+    },
+    EditRow {
+        text: "a 😀 é",
+        edit: Edit {
+            start: 2,
+            stop: 6,
+            insert: "zz 1.",
+        },
+        made: "a zz 1. é",
+        counts: Relexed {
+            kept_front: 0,
+            lexed: 5,
+            kept_back: 2,
+        },
+        asks: true,
+    },
+    EditRow {
+        text: "a b c */ d",
+        edit: Edit {
+            start: 2,
+            stop: 2,
+            insert: "/*",
+        },
+        made: "a /*b c */ d",
+        counts: Relexed {
+            kept_front: 0,
+            lexed: 3,
+            kept_back: 2,
+        },
+        asks: true,
+    },
+    EditRow {
+        text: "ab cd",
+        edit: Edit {
+            start: 0,
+            stop: 3,
+            insert: "",
+        },
+        made: "cd",
+        counts: Relexed {
+            kept_front: 0,
+            lexed: 0,
+            kept_back: 1,
+        },
+        asks: true,
+    },
+    EditRow {
+        text: "ab cd",
+        edit: Edit {
+            start: 0,
+            stop: 0,
+            insert: "",
+        },
+        made: "ab cd",
+        counts: Relexed {
+            kept_front: 0,
+            lexed: 0,
+            kept_back: 3,
+        },
+        asks: false,
+    },
+];
+
+const LIST: ListRow = ListRow {
+    text: "ab",
+    first: Edit {
+        start: 2,
+        stop: 2,
+        insert: "c",
+    },
+    second: Edit {
+        start: 3,
+        stop: 3,
+        insert: " d",
+    },
+    after_first: "abc",
+    after_both: "abc d",
+};
+
+/// Whether the text is held with its tokens, and its pieces make it up.
+fn is_held<S: Stepper>(lexed: &LexedText<S>, text: &str) -> bool {
+    if lexed.text() != text || !fits(text) {
+        return false;
+    }
+    let mut tokens = tokenize(text, FrontmatterAllowed::No);
+    let mut left = text.as_bytes();
+    for piece in lexed.pieces() {
+        if tokens.next() != Some(piece.token) {
+            return false;
+        }
+        match left.strip_prefix(piece.text.as_bytes()) {
+            Some(rest) => left = rest,
+            None => return false,
+        }
+    }
+    left.is_empty() && tokens.next().is_none() && lexed.tokens().len() == lexed.pieces().count()
+}
+
+/// Whether the edit makes what it should, or leaves all as it was where it is refused memory.
+fn edit_holds(alloc: Global, row: &EditRow) -> bool {
+    if !fits(row.text) {
+        return false;
+    }
+    let Ok(mut lexed) = LexedText::with(alloc, row.text, Counting::new()) else {
+        return true;
+    };
+    let edit = row.edit;
+    if !lexed.accepts(edit.start, edit.stop, edit.insert) {
+        return false;
+    }
+    let before = lexed.stepper().calls;
+    let answer = lexed.edit(edit.start, edit.stop, edit.insert);
+    let lexed_now = lexed.stepper().calls.saturating_sub(before);
+    match answer {
+        Ok(counts) => {
+            counts == row.counts
+                && lexed_now == row.counts.lexed as u64
+                && is_held(&lexed, row.made)
+        }
+        Err(_) => { row.asks && lexed_now <= row.counts.lexed as u64 && is_held(&lexed, row.text) }
+    }
+}
+
+/// Whether the edits before the one that is refused memory stand, and no other.
+fn list_holds(alloc: Global, row: &ListRow) -> bool {
+    if !fits(row.text) {
+        return false;
+    }
+    let Ok(mut lexed) = LexedText::new(alloc, row.text) else {
+        return true;
+    };
+    match lexed.edit_all(&[row.first, row.second]) {
+        Ok(()) => is_held(&lexed, row.after_both),
+        Err(EditStop::Memory { at: 0 }) => is_held(&lexed, row.text),
+        Err(EditStop::Memory { at: 1 }) => is_held(&lexed, row.after_first),
+        Err(_) => false,
+    }
+}
+
+/// Whether an edit that cuts a character is refused for that, with no request for memory.
+fn bad_edit_holds(alloc: Global) -> bool {
+    let text = "é";
+    if !fits(text) {
+        return false;
+    }
+    let Ok(mut lexed) = LexedText::new(alloc, text) else {
+        return true;
+    };
+    let edit = Edit {
+        start: 1,
+        stop: 2,
+        insert: "",
+    };
+    lexed.edit_all(&[edit]) == Err(EditStop::Range { at: 0 }) && is_held(&lexed, text)
+}
+
+fn main(rt: HostRuntime) -> io::Result<()> {
+    for (number, row) in EDITS.iter().enumerate() {
+        if !edit_holds(rt.alloc(), row) {
+            println!(rt; "edit {number} does not hold")?;
+        }
+    }
+    if !list_holds(rt.alloc(), &LIST) {
+        println!(rt; "the list of edits does not hold")?;
+    }
+    if !bad_edit_holds(rt.alloc()) {
+        println!(rt; "the bad edit does not hold")?;
+    }
+    println!(rt; "rows of refused memory: done")
+}

@@ -1,0 +1,133 @@
+-- A run of characters whose front is in ASCII, by its bytes.
+use Rattle.std.proofs.Common.{◌≡◌, ℕ, suc, ◌<◌, Bool, true, false, true≢false, List, [], ◌∷◌, ◌++◌, drop, refl, sym, ap, ◌∙◌, arith, subst, nat_lt}
+use Rattle.std.specs.Char.{encode_utf8}
+use Rattle.std.specs.List.{prefix_len}
+use Rattle.std.specs.Str.{chars, encode_utf8_all, IsUtf8, IsCharBoundary}
+use Rattle.std.proofs.lemmas.Bool.{lt-ltb, ltb-true}
+use Rattle.std.proofs.lemmas.Str.{chars-nil, chars_past_char, encodes-chars, IsUtf8-past_char, encode_ascii, IsCharBoundary-from_drop}
+use Rattle.std.proofs.lemmas.List.Sums.{prefix_len-le-length}
+use Rattle.rustc_lexer.specs.ByteRuns.{is_wide}
+use Rattle.rustc_lexer.specs.Scan.{past, next_is, run_len}
+
+-- a text that begins with a byte of ASCII
+module _ (b : ℕ) (bs : List ℕ) (is : IsUtf8 (b ∷ bs)) (small : b < 128) where
+  reads : b ∷ bs ≡ encode_utf8 b ++ bs
+  reads = ap (λ (xs : List ℕ). xs ++ bs) (sym (encode_ascii b small))
+
+  pub chars-ascii : chars (b ∷ bs) ≡ b ∷ chars bs
+  chars-ascii = chars_past_char (b ∷ bs) bs b is reads
+
+  pub IsUtf8-ascii : IsUtf8 bs
+  IsUtf8-ascii = IsUtf8-past_char (b ∷ bs) bs b is reads
+
+-- q is the ASCII part of the class p
+pub record IsPart (q p : ℕ → Bool) : Type 0 where
+  pub small : (b : ℕ) → q b ≡ true → b < 128
+  pub same : (b : ℕ) → b < 128 → q b ≡ p b
+
+-- what is past the run of a class
+abbrev pub past_run : (ℕ → Bool) → List ℕ → List ℕ
+past_run p cs = encode_utf8_all (drop (run_len p cs) cs)
+
+pub past_run-in : (p : ℕ → Bool) (c : ℕ) (cs : List ℕ) → p c ≡ true → past_run p (c ∷ cs) ≡ past_run p cs
+past_run-in p c cs e = rw e refl
+
+pub past_run-out : (p : ℕ → Bool) (c : ℕ) (cs : List ℕ) → p c ≡ false → past_run p (c ∷ cs) ≡ encode_utf8_all (c ∷ cs)
+past_run-out p c cs e = rw e refl
+
+-- past bytes of the class the run goes on, and no such byte stands there
+pub record Skips (q p : ℕ → Bool) (text left : List ℕ) : Type 0 where
+  pub utf8 : IsUtf8 left
+  pub run : past_run p (chars text) ≡ past_run p (chars left)
+  pub stops : next_is q left ≡ false
+
+pub skips : (q p : ℕ → Bool) → IsPart q p → (text : List ℕ) → IsUtf8 text → Skips q p text (drop (prefix_len q text) text)
+skips q p part [] is = record { utf8 = is; run = refl; stops = refl }
+skips q p part (b ∷ bs) is = by_test (skips q p part bs) (q b) refl
+  where
+    by_test : (IsUtf8 bs → Skips q p bs (drop (prefix_len q bs) bs)) → (t : Bool) → q b ≡ t → Skips q p (b ∷ bs) (drop (prefix_len q (b ∷ bs)) (b ∷ bs))
+    by_test ih true e =
+        let small = part.small b e in
+        let rest = ih (IsUtf8-ascii b bs is small) in
+        let more : prefix_len q (b ∷ bs) ≡ suc (prefix_len q bs) = rw e (omega arith) in
+        let in_class : p b ≡ true = sym (part.same b small) ∙ e in
+        subst (λ n. Skips q p (b ∷ bs) (drop n (b ∷ bs))) (sym more) record {
+          utf8 = rest.utf8;
+          run = ap (past_run p) (chars-ascii b bs is small) ∙ (past_run-in p b (chars bs) in_class ∙ rest.run);
+          stops = rest.stops;
+        }
+    by_test ih false e =
+        let none : prefix_len q (b ∷ bs) ≡ 0 = rw e refl in
+        subst (λ n. Skips q p (b ∷ bs) (drop n (b ∷ bs))) (sym none) record { utf8 = is; run = refl; stops = e }
+
+-- a text that begins with no byte of the class, nor with one that is not in ASCII
+stays : (q p : ℕ → Bool) → IsPart q p → (left : List ℕ) → IsUtf8 left → next_is q left ≡ false → next_is is_wide left ≡ false → past_run p (chars left) ≡ left
+stays q p part [] is stops narrow = ap (past_run p) chars-nil
+stays q p part (b ∷ bs) is stops narrow = by_size (nat_lt b 128) refl
+  where
+    by_size : (t : Bool) → nat_lt b 128 ≡ t → past_run p (chars (b ∷ bs)) ≡ b ∷ bs
+    by_size false e = absurd (true≢false (sym (rw e refl) ∙ narrow))
+    by_size true e =
+        let small = ltb-true b 128 e in
+        let out : p b ≡ false = sym (part.same b small) ∙ stops in
+        ap (past_run p) (chars-ascii b bs is small) ∙ (past_run-out p b (chars bs) out ∙ (ap encode_utf8_all (sym (chars-ascii b bs is small)) ∙ encodes-chars (b ∷ bs) is))
+
+-- where the bytes of the class at the front of a text end, it may be cut, and the run of the class goes on from there
+module _ (q p : ℕ → Bool) (part : IsPart q p) (text bytes : List ℕ) (end : ℕ) (is : IsUtf8 text) (read : bytes ≡ text) (counted : end ≡ prefix_len q bytes) where
+  e : end ≡ prefix_len q text
+  e = counted ∙ ap (prefix_len q) read
+
+  there : Skips q p text (drop end text)
+  there = subst (λ n. Skips q p text (drop n text)) (sym e) (skips q p part text is)
+
+  pub may_cut : IsCharBoundary text end
+  unfolding there e
+  may_cut = IsCharBoundary-from_drop text end (omega (arith, e, prefix_len-le-length q text)) there.utf8
+
+  module _ (left : List ℕ) (f : left ≡ drop end text) where
+    pub left_there : Skips q p text left
+    unfolding there e
+    left_there = subst (λ xs. Skips q p text xs) (sym f) there
+
+    pub goes_on : (rest : List ℕ) → rest ≡ past (run_len p (chars left)) left → rest ≡ past (run_len p (chars text)) text
+    unfolding past there e
+    goes_on rest g = g ∙ (ap (λ xs. past_run p (chars xs)) f ∙ sym there.run)
+
+    pub stops_here : next_is is_wide left ≡ false → left ≡ past (run_len p (chars text)) text
+    unfolding past there e
+    stops_here narrow =
+        let at : Skips q p text left = subst (λ xs. Skips q p text xs) (sym f) there in
+        sym (at.run ∙ stays q p part left at.utf8 at.stops narrow)
+
+-- past a character of the class, and such bytes after it
+pub skip_char : (q p : ℕ → Bool) → IsPart q p → (text left tail : List ℕ) (c : ℕ) → Skips q p text left → chars left ≡ c ∷ chars tail → IsUtf8 tail → p c ≡ true
+    → (bytes : List ℕ) (n : ℕ) (next : List ℕ) → bytes ≡ tail → n ≡ prefix_len q bytes → next ≡ drop n tail → Skips q p text next
+skip_char q p part text left tail c at reads is in_class bytes n next read counted f =
+    let here = left_there q p part tail bytes n is read counted next f in
+    record { utf8 = here.utf8; run = at.run ∙ (ap (past_run p) reads ∙ (past_run-in p c (chars tail) in_class ∙ here.run)); stops = here.stops }
+
+pub skip_one : (q p : ℕ → Bool) → (text left tail : List ℕ) (c : ℕ) → Skips q p text left → chars left ≡ c ∷ chars tail → IsUtf8 tail → p c ≡ true → next_is q tail ≡ false → Skips q p text tail
+skip_one q p text left tail c at reads is in_class stops = record { utf8 = is; run = at.run ∙ (ap (past_run p) reads ∙ past_run-in p c (chars tail) in_class); stops = stops }
+
+-- no byte of the class stands where a byte outside ASCII does
+pub wide_stops : (q p : ℕ → Bool) → IsPart q p → (xs : List ℕ) → next_is is_wide xs ≡ true → next_is q xs ≡ false
+wide_stops q p part [] e = refl
+wide_stops q p part (b ∷ bs) e = by_test (q b) refl
+  where
+    by_test : (t : Bool) → q b ≡ t → q b ≡ false
+    by_test false f = f
+    by_test true f = absurd (true≢false (sym e ∙ rw (lt-ltb b 128 (part.small b f)) refl))
+
+-- where the run ends
+module _ (q p : ℕ → Bool) (text left : List ℕ) (at : Skips q p text left) where
+  pub ends_out : (c : ℕ) (cs : List ℕ) → chars left ≡ c ∷ cs → p c ≡ false → left ≡ past (run_len p (chars text)) text
+  unfolding past
+  ends_out c cs reads out = sym (at.run ∙ (ap (past_run p) reads ∙ (past_run-out p c cs out ∙ (ap encode_utf8_all (sym reads) ∙ encodes-chars left at.utf8))))
+
+  pub ends_none : chars left ≡ [] → left ≡ past (run_len p (chars text)) text
+  unfolding past
+  ends_none none = sym (at.run ∙ (ap (past_run p) none ∙ (ap encode_utf8_all (sym none) ∙ encodes-chars left at.utf8)))
+
+  pub ends_narrow : IsPart q p → next_is is_wide left ≡ false → left ≡ past (run_len p (chars text)) text
+  unfolding past
+  ends_narrow part narrow = sym (at.run ∙ stays q p part left at.utf8 at.stops narrow)

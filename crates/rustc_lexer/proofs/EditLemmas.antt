@@ -1,0 +1,198 @@
+-- What an edit keeps: the front by locality, the back by a bound that both texts have.
+use Rattle.std.proofs.Common.{◌≡◌, ℕ, zero, suc, ◌+◌, ◌-◌, ◌*◌, ◌<◌, ◌≤◌, Bool, true, false, List, [], ◌∷◌, ◌++◌, length, take, drop, refl, sym, ap, ◌∙◌, subst, arith, length-drop, length-append, drop-drop, take-take, take-append-drop, take-add, take_at, drop_at, length-take-le, IsUtf8, IsCharBoundary, chars, leb-true, le-leb, leb, is_some, slice_get, encode_utf8, slice_range, append_assoc, eqb-true, ◌==◌, Result, Ok, Err, IfErr}
+use Rattle.std.proofs.lemmas.List.{drop-take, take-append-le}
+use Rattle.std.proofs.lemmas.Str.{chars_past_char, chars-nil, IsUtf8-append, IsUtf8-take, IsUtf8-drop, IsUtf8-between, IsCharBoundary-from_drop, chars-append, length-encode, len_utf8_bounds, encodes-chars}
+use Rattle.std.proofs.Math.Utf8.{encodes}
+use Rattle.rustc_lexer.specs.declared.token.Token.{Token}
+use Rattle.rustc_lexer.specs.Texts.{look, IsText, AgreePast, IsGrammar}
+use Rattle.rustc_lexer.specs.Cuts.{bound, tokens_by}
+use Rattle.rustc_lexer.specs.Edits.{apply, IsEdit, front_from}
+use Rattle.rustc_lexer.specs.Settled.{has_two}
+use Rattle.rustc_lexer.proofs.CutLemmas.{IsCutAt, at_bound, tokens_local}
+
+-- what holds anyway holds of an error
+pub IfErr-always : {T E : Type 0} {P : Type 0} (r : Result T E) → P → IfErr r (λ _. P)
+IfErr-always (Ok x) p = tt
+IfErr-always (Err e) p = p
+
+-- the edited text: its parts
+pub record IsEdited (text : List ℕ) (start stop : ℕ) (insert new : List ℕ) : Type 0 where
+  pub len : length new + (stop - start) ≡ length text + length insert
+  pub front : take start new ≡ take start text
+  pub back : drop (start + length insert) new ≡ drop stop text
+  pub text_is : IsText new
+
+pub edited : (text : List ℕ) (start stop : ℕ) (insert : List ℕ) → IsText text → IsUtf8 insert → IsEdit text start stop insert → IsEdited text start stop insert (apply text start stop insert)
+unfolding apply
+edited text start stop insert is its edit =
+    let a : start ≤ stop = edit.inside.start_le_stop in
+    let b : stop ≤ length text = edit.inside.stop_inside in
+    let s = edit.short in
+    let first : length (take start text) ≡ start = length-take-le start text (omega arith) in
+    let long : length (take start text ++ (insert ++ drop stop text)) ≡ start + (length insert + (length text - stop)) = omega (arith, length-append (take start text) (insert ++ drop stop text), length-append insert (drop stop text), length-drop stop text, first) in
+    record {
+      len = omega (arith, long);
+      front = take_at (take start text) (insert ++ drop stop text) start first;
+      back = sym (drop-drop (length insert) start (take start text ++ (insert ++ drop stop text))) ∙ (ap (drop (length insert)) (drop_at (take start text) (insert ++ drop stop text) start first) ∙ drop_at insert (drop stop text) (length insert) refl);
+      text_is = record {
+        utf8 = IsUtf8-append _ _ (IsUtf8-take text start is.utf8 edit.inside.start_boundary) (IsUtf8-append _ _ its (IsUtf8-drop text stop is.utf8 edit.inside.stop_boundary));
+        fits = omega (arith, long);
+      };
+    }
+
+-- two characters or more decide what a text shows
+pub look-enough : (xs ys zs : List ℕ) → IsUtf8 xs → 2 ≤ length (chars xs) → look (xs ++ ys) ≡ look (xs ++ zs)
+look-enough xs ys zs is two =
+    rw (chars-append xs ys is, chars-append xs zs is) (take-append-le 2 (chars xs) (chars ys) two ∙ sym (take-append-le 2 (chars xs) (chars zs) two))
+
+positive : (n : ℕ) (xs : List ℕ) → 2 ≤ length (chars (take n xs)) → 0 < n
+positive zero xs h = absurd (let none : length (chars []) ≡ 0 = ap length chars-nil in omega arith)
+positive (suc n) xs h = omega arith
+
+pub has_two-before : (text : List ℕ) (place start : ℕ) → has_two text place start ≡ true → place < start
+unfolding has_two
+has_two-before text place start two =
+    let some = positive (start - place) (drop place text) (leb-true 2 (length (chars (take (start - place) (drop place text)))) two) in omega arith
+
+pub has_two-count : (text : List ℕ) (place to : ℕ) → has_two text place to ≡ true → 2 ≤ length (chars (take (to - place) (drop place text)))
+unfolding has_two
+has_two-count text place to two = leb-true 2 (length (chars (take (to - place) (drop place text)))) two
+
+pub has_two-intro : (text : List ℕ) (place to : ℕ) → 2 ≤ length (chars (take (to - place) (drop place text))) → has_two text place to ≡ true
+unfolding has_two
+has_two-intro text place to two = le-leb 2 (length (chars (take (to - place) (drop place text)))) two
+
+-- where two characters stand before the edit, both texts agree
+pub has_two-agree : (text new : List ℕ) (place start : ℕ) → IsUtf8 (take (start - place) (drop place text)) → take start new ≡ take start text → has_two text place start ≡ true → AgreePast place text new
+unfolding has_two
+has_two-agree text new place start is same two =
+    let middle : List ℕ = take (start - place) (drop place text) in
+    let enough : 2 ≤ length (chars middle) = leb-true 2 (length (chars middle)) two in
+    let before : place < start = (let some = positive (start - place) (drop place text) enough in omega arith) in
+    let there : start ≡ place + (start - place) = omega arith in
+    let below : take place text ≡ take place new = sym (take-take place start text (omega arith)) ∙ (ap (take place) (sym same) ∙ take-take place start new (omega arith)) in
+    let its_middle : take (start - place) (drop place new) ≡ middle =
+    sym (drop-take place (start - place) new) ∙ (ap (λ n. drop place (take n new)) (sym there) ∙ (ap (drop place) same ∙ (ap (λ n. drop place (take n text)) there ∙ drop-take place (start - place) text))) in
+    let here : look (middle ++ drop (start - place) (drop place text)) ≡ look (middle ++ drop (start - place) (drop place new)) = look-enough _ _ _ is enough in
+    record {
+      below = below;
+      past = sym (ap look (take-append-drop (start - place) (drop place text))) ∙ (here ∙ (ap (λ xs. look (xs ++ drop (start - place) (drop place new))) (sym its_middle) ∙ ap look (take-append-drop (start - place) (drop place new))));
+    }
+
+pub bound-take : (k : ℕ) (ts : List Token) → bound (take k ts) k ≡ bound ts k
+bound-take zero ts = refl
+bound-take (suc k) [] = refl
+bound-take (suc k) (t ∷ ts) = ap (λ n. t.len + n) (bound-take k ts)
+
+pub bound-same : (k : ℕ) (ts us : List Token) → take k ts ≡ take k us → bound ts k ≡ bound us k
+bound-same k ts us e = sym (bound-take k ts) ∙ (ap (λ xs. bound xs k) e ∙ bound-take k us)
+
+module _ {first : List ℕ → Token} (law : IsGrammar first) (text : List ℕ) (start stop : ℕ) (insert new : List ℕ) (is : IsText text) (edit : IsEdit text start stop insert) (ed : IsEdited text start stop insert new) where
+  pub start_inside : start + length insert ≤ length new
+  start_inside = let a = edit.inside.start_le_stop in let b = edit.inside.stop_inside in let l = ed.len in omega arith
+
+  -- the kept front
+  pub kept_same : (k : ℕ) → k ≤ length (tokens_by first text) → (0 < k → has_two text (bound (tokens_by first text) k) start ≡ true) → take k (tokens_by first new) ≡ take k (tokens_by first text)
+  kept_same zero few two = refl
+  kept_same (suc k) few two =
+      let place : ℕ = bound (tokens_by first text) (suc k) in
+      let cut : IsCutAt first text (tokens_by first text) (suc k) = at_bound law (suc k) text is in
+      let has : has_two text place start ≡ true = two (omega arith) in
+      let before : place < start = has_two-before text place start has in
+      let middle : IsUtf8 (take (start - place) (drop place text)) = IsUtf8-between text place start is.utf8 (omega arith) (IsCharBoundary-from_drop text place cut.inside cut.past.utf8) edit.inside.start_boundary in
+      tokens_local law (suc k) text new is ed.text_is few (has_two-agree text new place start middle ed.front has)
+
+  -- past the edit both texts have the same rest
+  pub same_rest : (p : ℕ) → start + length insert ≤ p → drop p new ≡ drop (p - length insert + (stop - start)) text
+  same_rest p past =
+      let a = edit.inside.start_le_stop in
+      let n : ℕ = p - (start + length insert) in
+      let here : start + length insert + n ≡ p = omega arith in
+      let there : stop + n ≡ p - length insert + (stop - start) = omega arith in
+      ap (λ q. drop q new) (sym here) ∙ (sym (drop-drop n (start + length insert) new) ∙ (ap (drop n) ed.back ∙ (drop-drop n stop text ∙ ap (λ q. drop q text) there)))
+
+  -- the meeting: from a bound past the edit that, moved back, is a bound of the old text, the tokens are the old ones
+  pub met_rest : (j i : ℕ) → start + length insert ≤ bound (tokens_by first new) j → bound (tokens_by first text) i ≡ bound (tokens_by first new) j - length insert + (stop - start) → drop j (tokens_by first new) ≡ drop i (tokens_by first text)
+  met_rest j i past met =
+      (at_bound law j new ed.text_is).rest ∙ (ap (tokens_by first) (same_rest (bound (tokens_by first new) j) past ∙ ap (λ q. drop q text) (sym met)) ∙ sym (at_bound law i text is).rest)
+
+  -- the new tokens: those up to the meeting, and the old ones past it
+  pub met_whole : (j i : ℕ) → start + length insert ≤ bound (tokens_by first new) j → bound (tokens_by first text) i ≡ bound (tokens_by first new) j - length insert + (stop - start) → take j (tokens_by first new) ++ drop i (tokens_by first text) ≡ tokens_by first new
+  met_whole j i past met = ap (λ ts. take j (tokens_by first new) ++ ts) (sym (met_rest j i past met)) ∙ take-append-drop j (tokens_by first new)
+
+pub has_two-late : (text : List ℕ) (place to : ℕ) → to ≤ place → has_two text place to ≡ false
+has_two-late text place to late = by_test (has_two text place to) refl
+  where
+    by_test : (b : Bool) → has_two text place to ≡ b → b ≡ false
+    by_test false e = refl
+    by_test true e = absurd (let before = has_two-before text place to e in omega arith)
+
+-- a place before another has no fewer characters past it
+pub has_two-mono : (text : List ℕ) (place later to : ℕ) → IsUtf8 text → place ≤ later → IsCharBoundary text place → IsCharBoundary text later → has_two text later to ≡ true → has_two text place to ≡ true
+has_two-mono text place later to is le b c two =
+    let before : later < to = has_two-before text later to two in
+    let whole : to - place ≡ (later - place) + (to - later) = omega arith in
+    let next : place + (later - place) ≡ later = omega arith in
+    let xs : List ℕ = take (later - place) (drop place text) in
+    let ys : List ℕ = take (to - later) (drop later text) in
+    let split : take (to - place) (drop place text) ≡ xs ++ ys =
+    ap (λ n. take n (drop place text)) whole ∙ (take-add (later - place) (to - later) (drop place text) ∙
+    ap (λ zs. xs ++ take (to - later) zs) (drop-drop (later - place) place text ∙ ap (λ n. drop n text) next)) in
+    let enough = has_two-count text later to two in
+    has_two-intro text place to (rw (split, chars-append xs ys (IsUtf8-between text place later is le b c)) (omega (arith, length-append (chars xs) (chars ys), enough)))
+
+-- the tokens past one that ends too late end too late
+pub front-none : (text : List ℕ) (to from : ℕ) (ts : List Token) → IsUtf8 text → ((k : ℕ) → k ≤ length ts → IsCharBoundary text (from + bound ts k)) → has_two text from to ≡ false → front_from text to from ts ≡ 0
+front-none text to from [] is cuts out = refl
+front-none text to from (t ∷ ts) is cuts out =
+    let e0 : from + 0 ≡ from = omega arith in
+    let e1 : from + (t.len + 0) ≡ from + t.len = omega arith in
+    let here : IsCharBoundary text from = subst (IsCharBoundary text) e0 (cuts 0 (omega arith)) in
+    let next : IsCharBoundary text (from + t.len) = subst (IsCharBoundary text) e1 (cuts 1 (omega arith)) in
+    let none : has_two text (from + t.len) to ≡ false = by_test (has_two text (from + t.len) to) refl here next in
+    let rest : front_from text to (from + t.len) ts ≡ 0 = front-none text to (from + t.len) ts is (λ k few. let e : from + (t.len + bound ts k) ≡ from + t.len + bound ts k = omega arith in subst (IsCharBoundary text) e (cuts (suc k) (omega arith))) none in
+    rw (none, rest) refl
+  where
+    by_test : (b : Bool) → has_two text (from + t.len) to ≡ b → IsCharBoundary text from → IsCharBoundary text (from + t.len) → b ≡ false
+    by_test false e h n = refl
+    by_test true e h n = sym (has_two-mono text from (from + t.len) to is (omega arith) h n e) ∙ out
+
+-- whether a second character stands past the first
+pub two_chars : (text : List ℕ) (from to : ℕ) (bs rest : List ℕ) (c : ℕ) → bs ≡ take (to - from) (drop from text) → IsUtf8 bs → bs ≡ encode_utf8 c ++ rest → is_some (slice_get (chars rest) 0) ≡ has_two text from to
+unfolding has_two
+two_chars text from to bs rest c e is split =
+    count (chars rest) ∙ sym (ap (λ xs. leb 2 (length (chars xs))) (sym e) ∙ ap (λ xs. leb 2 (length xs)) (chars_past_char bs rest c is split))
+  where
+    count : (cs : List ℕ) → is_some (slice_get cs 0) ≡ leb 2 (suc (length cs))
+    count [] = refl
+    count (x ∷ xs) = sym (le-leb 2 (suc (suc (length xs))) (omega arith))
+
+length-encodes : (cs : List ℕ) → length (encodes cs) ≤ 4 * length cs
+length-encodes [] = omega arith
+length-encodes (c ∷ cs) = omega (arith, length-append (encode_utf8 c) (encodes cs), length-encode c, (len_utf8_bounds c).1, length-encodes cs)
+
+-- a character has four bytes at most
+pub length-chars : (bs : List ℕ) → IsUtf8 bs → length bs ≤ 4 * length (chars bs)
+length-chars bs is = let same = ap length (encodes-chars bs is) in omega (arith, same, length-encodes (chars bs))
+
+-- eight bytes hold two characters
+pub has_two-long : (text : List ℕ) (place to : ℕ) → IsUtf8 text → IsCharBoundary text place → IsCharBoundary text to → 8 ≤ to - place → has_two text place to ≡ true
+has_two-long text place to is from until long =
+    let xs : List ℕ = take (to - place) (drop place text) in
+    let inside : to ≤ length text = until.0 in
+    let its : IsUtf8 xs = IsUtf8-between text place to is (omega arith) from until in
+    let bytes : length xs ≡ to - place = length-take-le (to - place) (drop place text) (omega (arith, length-drop place text)) in
+    let enough : 2 ≤ length (chars xs) = omega (arith, bytes, length-chars xs its) in
+    has_two-intro text place to enough
+
+pub spliced_is : (text insert : List ℕ) (start stop : ℕ) (none p front middle q whole : List ℕ) → none ≡ [] → p ≡ slice_range text 0 start → front ≡ none ++ p → middle ≡ front ++ insert → q ≡ drop stop text → whole ≡ middle ++ q → whole ≡ apply text start stop insert
+unfolding apply
+spliced_is text insert start stop none p front middle q whole a b c d e f =
+    let n : start - 0 ≡ start = omega arith in
+    rw (f, e, d, c, b, a, n) (append_assoc (take start text) insert (drop stop text))
+
+-- nothing taken out, and nothing put in
+pub unchanged : (text insert : List ℕ) (start stop : ℕ) → start ≡ stop → (length insert == 0) ≡ true → text ≡ apply text start stop insert
+unfolding apply
+unchanged text [] start stop same none = sym (ap (λ n. take start text ++ drop n text) (sym same) ∙ take-append-drop start text)
+unchanged text (c ∷ insert) start stop same none = absurd (let no = eqb-true (length (c ∷ insert)) 0 none in omega arith)

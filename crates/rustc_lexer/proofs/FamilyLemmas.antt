@@ -1,0 +1,116 @@
+-- The choice by the first character is the choice of a family.
+use Rattle.std.proofs.Common.{◌≡◌, ℕ, ◌<◌, ◌≤◌, ◌==◌, ◌&&◌, nat_le, not, Bool, true, false, true≢false, if◌then◌else◌, List, [], ◌∷◌, get_or, refl, sym, ap, ◌∙◌, arith}
+use Rattle.std.specs.Char.{is_ascii_digit}
+use Rattle.std.specs.Str.{chars}
+use Rattle.std.proofs.lemmas.Bool.{agree_below_at, eqb-true, lt-leb, ne_eqb}
+use Rattle.unicode_ident.specs.Ident.{is_xid_start}
+use Rattle.unicode_ident.proofs.Computing.{unicode_ident}
+use Rattle.rustc_lexer.specs.declared.lexemes.family.TheConstants.{FAMILIES}
+use Rattle.rustc_lexer.specs.declared.lexemes.family.Family.{Family}
+use Rattle.rustc_lexer.specs.declared.lexemes.family.Family.TheVariants.{Slash, Space, Word, Number, Quote, Str, Emoji, Hash, Symbol}
+use Rattle.rustc_lexer.specs.declared.token.TokenKind.{TokenKind}
+use Rattle.rustc_lexer.specs.Classes.{is_whitespace}
+use Rattle.rustc_lexer.specs.Emoji.{is_emoji}
+use Rattle.rustc_lexer.specs.Family.{family_of, read_by}
+use Rattle.rustc_lexer.specs.Lexeme.{begins_word, past_first}
+use Rattle.rustc_lexer.specs.Scan.{scanned}
+use Rattle.rustc_lexer.proofs.ScanLemmas.{scanned-same}
+use Rattle.rustc_lexer.proofs.SpaceLemmas.{each}
+
+-- ---- the law: the first character chooses a family, and that reads on
+
+branch : (c : ℕ) (test : Bool) (f g : Family) (x : List ℕ → TokenKind × ℕ) → x ≡ read_by g c → (if test then read_by f c else x) ≡ read_by (if test then f else g) c
+branch c true f g x e = refl
+branch c false f g x e = e
+
+pub past_first-is : (c : ℕ) (s : List ℕ) → past_first c s ≡ read_by (family_of c) c s
+unfolding past_first
+past_first-is c s = ap (λ (scan : List ℕ → TokenKind × ℕ). scan s)
+    (branch c (c == 47) Slash _ _
+    (branch c (is_whitespace c) Space _ _
+    (branch c (begins_word c) Word _ _
+    (branch c (is_ascii_digit c) Number _ _
+    (branch c (c == 39) Quote _ _
+    (branch c (c == 34) Str _ _
+    (branch c (is_emoji c) Emoji _ _
+    (branch c (c == 35) Hash Symbol _ refl))))))))
+
+-- what the family of the first character reads
+pub by_family : (f : Family) (c : ℕ) (tail : List ℕ) (read : TokenKind × List ℕ) → read ≡ scanned (read_by f c) tail → f ≡ family_of c → read ≡ scanned (past_first c) tail
+by_family f c tail read e g = e ∙ sym (scanned-same (past_first c) (read_by f c) tail (past_first-is c (chars tail) ∙ ap (λ h. read_by h c (chars tail)) (sym g)))
+
+-- ---- the table of families
+
+number_of : Family → ℕ
+number_of Slash = 0
+number_of Space = 1
+number_of Word = 2
+number_of Number = 3
+number_of Quote = 4
+number_of Str = 5
+number_of Emoji = 6
+number_of Hash = 7
+number_of Symbol = 8
+
+numbered : List Family
+numbered = Slash ∷ Space ∷ Word ∷ Number ∷ Quote ∷ Str ∷ Emoji ∷ Hash ∷ Symbol ∷ []
+
+back : (f : Family) → get_or numbered (number_of f) Slash ≡ f
+unfolding number_of numbered
+back Slash = refl
+back Space = refl
+back Word = refl
+back Number = refl
+back Quote = refl
+back Str = refl
+back Emoji = refl
+back Hash = refl
+back Symbol = refl
+
+same_number : (f g : Family) → number_of f ≡ number_of g → f ≡ g
+same_number f g e = sym (back f) ∙ (ap (λ n. get_or numbered n Slash) e ∙ back g)
+
+pub table : (c : ℕ) → c < 128 → get_or FAMILIES c Slash ≡ family_of c
+unfolding number_of is_emoji unicode_ident
+table c small = same_number _ _ (eqb-true _ _ (agree_below_at (λ b. number_of (get_or FAMILIES b Slash) == number_of (family_of b)) (λ _. true) 128 c refl small))
+
+-- ---- past ASCII
+
+-- no word begins with white space
+no_start : (d : ℕ) → is_whitespace d ≡ true → not (is_xid_start d) ≡ true
+unfolding unicode_ident
+no_start d e = each (λ x. not (is_xid_start x)) (0x9 ∷ 0xA ∷ 0xB ∷ 0xC ∷ 0xD ∷ 0x20 ∷ 0x85 ∷ 0x200E ∷ 0x200F ∷ 0x2028 ∷ 0x2029 ∷ []) refl d e
+
+no_space : (c : ℕ) → is_xid_start c ≡ true → is_whitespace c ≡ false
+no_space c e = by_test (is_whitespace c) refl
+  where
+    by_test : (t : Bool) → is_whitespace c ≡ t → is_whitespace c ≡ false
+    by_test false f = f
+    by_test true f = absurd (true≢false (sym (no_start c f) ∙ ap not e))
+
+never : (b : Bool) → (b && false) ≡ false
+never true = refl
+never false = refl
+
+module _ (c : ℕ) (wide : 128 ≤ c) where
+  other : (n : ℕ) → n < 128 → (c == n) ≡ false
+  other n l = ne_eqb c n (omega arith)
+
+  begins : begins_word c ≡ is_xid_start c
+  begins = rw (other 114 (omega arith), other 107 (omega arith), other 98 (omega arith), other 99 (omega arith), other 95 (omega arith)) refl
+
+  pub wide_word : is_xid_start c ≡ true → Word ≡ family_of c
+  wide_word e = rw (other 47 (omega arith), no_space c e, begins ∙ e) refl
+
+  pub wide_space : is_whitespace c ≡ true → Space ≡ family_of c
+  wide_space e = rw (other 47 (omega arith), e) refl
+
+  module _ (starts : is_xid_start c ≡ false) (space : is_whitespace c ≡ false) where
+    no_digit : is_ascii_digit c ≡ false
+    no_digit = rw (lt-leb c 57 (omega arith)) (never (nat_le 48 c))
+
+    pub wide_emoji : is_emoji c ≡ true → Emoji ≡ family_of c
+    wide_emoji e = rw (other 47 (omega arith), space, begins ∙ starts, no_digit, other 39 (omega arith), other 34 (omega arith), e) refl
+
+    pub wide_symbol : is_emoji c ≡ false → Symbol ≡ family_of c
+    wide_symbol e = rw (other 47 (omega arith), space, begins ∙ starts, no_digit, other 39 (omega arith), other 34 (omega arith), e, other 35 (omega arith)) refl

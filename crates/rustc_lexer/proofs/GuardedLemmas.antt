@@ -1,0 +1,156 @@
+-- Guarded strings: what is taken of a text.
+use Rattle.std.proofs.Common.{◌≡◌, ℕ, suc, ◌+◌, ◌-◌, ◌≤◌, ◌==◌, ◌&&◌, min, Bool, true, false, if◌then◌else◌, List, [], ◌∷◌, length, drop, drop-drop, refl, sym, ap, ◌∙◌, arith, subst, Option, Some, None}
+use Rattle.std.specs.Str.{chars, IsUtf8, IsCharBoundary}
+use Rattle.std.proofs.lemmas.Str.{IsCharBoundary-from_drop}
+use Rattle.rustc_lexer.specs.declared.token.FrontmatterAllowed.{FrontmatterAllowed}
+use Rattle.rustc_lexer.specs.declared.token.GuardedStr.{GuardedStr}
+use Rattle.rustc_lexer.specs.Guarded.{closing_len, guarded_body, string_past, guarded_by, guarded}
+use Rattle.rustc_lexer.specs.Literal.{suffix_len}
+use Rattle.rustc_lexer.specs.Quoted.{double_quoted}
+use Rattle.rustc_lexer.specs.Raw.{hashes, is_quote}
+use Rattle.rustc_lexer.specs.Scan.{begins, bytes_of, next_is, past, scanned}
+use Rattle.rustc_lexer.specs.State.{State}
+use Rattle.rustc_lexer.proofs.PastLemmas.{past-past, past-drop, chars-past, IsUtf8-past, length-past}
+use Rattle.rustc_lexer.proofs.RawLemmas.{hash_bytes}
+use Rattle.rustc_lexer.proofs.StateLemmas.{state}
+
+-- some of the hashes at the front
+module _ (rest : List ℕ) (is : IsUtf8 rest) (n : ℕ) (few : n ≤ hashes (chars rest)) where
+  hash_bytes_are : bytes_of n (chars rest) ≡ n
+  hash_bytes_are = hash_bytes n (chars rest) few
+
+  pub hash_cut : drop n rest ≡ past n rest
+  hash_cut = sym (past-drop n rest is ∙ ap (λ (m : ℕ). drop m rest) hash_bytes_are)
+
+  pub hash_boundary : IsCharBoundary rest n
+  hash_boundary = IsCharBoundary-from_drop rest n (let l = length-past n rest is in let b = hash_bytes_are in omega arith) (subst IsUtf8 (sym hash_cut) (IsUtf8-past n rest is))
+
+-- a string that is closed, with the hashes and the suffix after its quote
+module _ (body left mid end : List ℕ) (n : ℕ) (closed : Bool) (is : IsUtf8 body) (read : (closed, left) ≡ scanned double_quoted body)
+    (cut : mid ≡ past (min n (hashes (chars left))) left) (suffix : end ≡ past (suffix_len (chars mid)) mid) where
+  abbrev q : ℕ
+  q = (double_quoted (chars body)).1
+
+  abbrev ahead : List ℕ
+  ahead = drop q (chars body)
+
+  abbrev m : ℕ
+  m = min n (hashes ahead)
+
+  left_is : left ≡ past q body
+  left_is = ap (λ (r : Bool × List ℕ). r.1) read
+
+  left_chars : chars left ≡ ahead
+  left_chars = ap chars left_is ∙ chars-past q body is
+
+  mid_is : mid ≡ past (q + m) body
+  mid_is = cut ∙ (ap (λ (s : List ℕ). past (min n (hashes s)) left) left_chars ∙ (ap (past m) left_is ∙ past-past m q body is))
+
+  mid_chars : chars mid ≡ drop m ahead
+  mid_chars = ap chars mid_is ∙ (chars-past (q + m) body is ∙ sym (drop-drop m q (chars body)))
+
+  end_is : end ≡ past (q + closing_len n ahead) body
+  end_is =
+      let k : ℕ = suffix_len (drop m ahead) in
+      let sum : (q + m) + k ≡ q + (m + k) = omega arith in
+      suffix ∙ (ap (λ (s : List ℕ). past (suffix_len s) mid) mid_chars ∙ (ap (past k) mid_is ∙ (past-past k (q + m) body is ∙ ap (λ (j : ℕ). past j body) sum)))
+
+  pub closed_read : closed ≡ true → (true, end) ≡ scanned (guarded_body n) body
+  closed_read t =
+      ap (λ (xs : List ℕ). (true, xs)) end_is
+      ∙ ap (λ (b : Bool). let r : Bool × List ℕ = (b, past (q + (if b then closing_len n ahead else 0)) body) in r) (sym t ∙ ap (λ (r : Bool × List ℕ). r.0) read)
+
+begins-quote : (s : List ℕ) → next_is is_quote s ≡ begins (34 ∷ []) s
+begins-quote [] = refl
+begins-quote (c ∷ s) = by_test (c == 34)
+  where
+    by_test : (b : Bool) → b ≡ b && true
+    by_test true = refl
+    by_test false = refl
+
+-- what follows the n hashes at the front
+module _ (rest front : List ℕ) (n : ℕ) (is : IsUtf8 rest) (count : n ≡ hashes (chars rest)) (cut : front ≡ drop n rest) where
+  front_is : front ≡ past n rest
+  front_is = cut ∙ hash_cut rest is n (omega arith)
+
+  quote_next : next_is is_quote (drop n (chars rest)) ≡ begins (34 ∷ []) (chars front)
+  quote_next = sym (ap (next_is is_quote) (ap chars front_is ∙ chars-past n rest is)) ∙ begins-quote (chars front)
+
+  abbrev body_read : Bool × ℕ
+  body_read = guarded_body n (drop (suc n) (chars rest))
+
+  abbrev chosen : Bool → Option (Bool × ℕ)
+  chosen b = if b then Some (body_read.0, bytes_of (suc n + body_read.1) (chars rest)) else None
+
+  pub no_string : begins (34 ∷ []) (chars front) ≡ false → None ≡ string_past n (chars rest)
+  no_string e = sym (ap chosen (quote_next ∙ e))
+
+  module _ (body left : List ℕ) (closed : Bool) (body_cut : body ≡ past 1 front) (read : (closed, left) ≡ scanned (guarded_body n) body) where
+    one : n + 1 ≡ suc n
+    one = omega arith
+
+    body_is : body ≡ past (n + 1) rest
+    body_is = body_cut ∙ (ap (past 1) front_is ∙ past-past 1 n rest is)
+
+    body_chars : chars body ≡ drop (suc n) (chars rest)
+    body_chars = ap chars body_is ∙ (chars-past (n + 1) rest is ∙ ap (λ (k : ℕ). drop k (chars rest)) one)
+
+    read_is : ◌≡◌ {A = Bool × List ℕ} (closed, left) (body_read.0, past body_read.1 body)
+    read_is = read ∙ ap (λ (ds : List ℕ). let r : Bool × List ℕ = ((guarded_body n ds).0, past (guarded_body n ds).1 body) in r) body_chars
+
+    left_at : left ≡ past ((n + 1) + body_read.1) rest
+    left_at = ap (λ (r : Bool × List ℕ). r.1) read_is ∙ (ap (past body_read.1) body_is ∙ past-past body_read.1 (n + 1) rest is)
+
+    taken_is : bytes_of ((n + 1) + body_read.1) (chars rest) ≡ length rest - length left
+    taken_is = let l = length-past ((n + 1) + body_read.1) rest is in let m = ap length left_at in omega arith
+
+    taken_inside : length rest - length left ≤ length rest
+    taken_inside = omega arith
+
+    pub string_boundary : IsCharBoundary rest (length rest - length left)
+    string_boundary =
+        IsCharBoundary-from_drop rest (length rest - length left) taken_inside (subst IsUtf8 (past-drop ((n + 1) + body_read.1) rest is ∙ ap (λ (k : ℕ). drop k rest) taken_is) (IsUtf8-past ((n + 1) + body_read.1) rest is))
+
+    pub string_here : begins (34 ∷ []) (chars front) ≡ true → Some (closed, length rest - length left) ≡ string_past n (chars rest)
+    string_here e =
+        let sum : (n + 1) + body_read.1 ≡ suc n + body_read.1 = omega arith in
+        ap (λ (b : Bool). let r : Option (Bool × ℕ) = Some (b, length rest - length left) in r) (ap (λ (r : Bool × List ℕ). r.0) read_is)
+        ∙ (ap (λ (k : ℕ). let r : Option (Bool × ℕ) = Some (body_read.0, k) in r) (sym taken_is ∙ ap (λ (k : ℕ). bytes_of k (chars rest)) sum)
+        ∙ sym (ap chosen (quote_next ∙ e)))
+
+-- a cursor at `index` of a text, whose next token begins at `start`, with n hashes next
+module _ (text : List ℕ) (index start : ℕ) (allowed : FrontmatterAllowed) (s : State) (rest : List ℕ) (view : state (index - start) (drop index text) allowed ≡ s) (place : rest ≡ s.rest) (before : start ≤ index)
+    (n : ℕ) (count : n ≡ hashes (chars rest)) where
+  here : rest ≡ drop index text
+  here = place ∙ sym (ap (λ (x : State). x.rest) view)
+
+  further_on : (k : ℕ) → drop k rest ≡ drop (index + k) text
+  further_on k = ap (drop k) here ∙ drop-drop k index text
+
+  abbrev here_is : State
+  here_is = state (index - start) rest allowed
+
+  guarded-is : (o : Option (Bool × ℕ)) → o ≡ string_past n (chars rest) → guarded s ≡ guarded_by n o here_is
+  unfolding guarded
+  guarded-is o read =
+      ap guarded (sym view ∙ ap (λ (xs : List ℕ). state (index - start) xs allowed) (sym here))
+      ∙ (ap (λ (k : ℕ). guarded_by k (string_past k (chars rest)) here_is) (sym count) ∙ ap (λ (x : Option (Bool × ℕ)). guarded_by n x here_is) (sym read))
+
+  pub none_here : None ≡ string_past n (chars rest) → guarded s ≡ (None, state (index + n - start) (drop (index + n) text) allowed)
+  none_here read =
+      let pending : (index - start) + n ≡ index + n - start = omega arith in
+      guarded-is None read
+      ∙ (ap (λ (m : ℕ). let r : Option GuardedStr × State = (None, state m (drop n rest) allowed) in r) pending
+      ∙ ap (λ (xs : List ℕ). let r : Option GuardedStr × State = (None, state (index + n - start) xs allowed) in r) (further_on n))
+
+  pub some_here : (closed : Bool) (t : ℕ) → Some (closed, t) ≡ string_past n (chars rest) → guarded s ≡ (
+    Some record { n_hashes = n; terminated = closed; token_len = index + t - start },
+    state (index + t - (index + t)) (drop (index + t) text) allowed,
+  )
+  some_here closed t read =
+      let len : (index - start) + t ≡ index + t - start = omega arith in
+      let none_left : 0 ≡ index + t - (index + t) = omega arith in
+      guarded-is (Some (closed, t)) read
+      ∙ (ap (λ (k : ℕ). let r : Option GuardedStr × State = (Some record { n_hashes = n; terminated = closed; token_len = k }, state 0 (drop t rest) allowed) in r) len
+      ∙ (ap (λ (k : ℕ). let r : Option GuardedStr × State = (Some record { n_hashes = n; terminated = closed; token_len = index + t - start }, state k (drop t rest) allowed) in r) none_left
+      ∙ ap (λ (xs : List ℕ). let r : Option GuardedStr × State = (Some record { n_hashes = n; terminated = closed; token_len = index + t - start }, state (index + t - (index + t)) xs allowed) in r) (further_on t)))

@@ -1,0 +1,72 @@
+-- A hash, by the byte after it.
+use Rattle.std.proofs.Common.{◌≡◌, ℕ, ◌<◌, ◌≤◌, ◌==◌, Bool, true, false, true≢false, List, [], ◌∷◌, ◌++◌, get_or, refl, sym, ap, ◌∙◌, arith, nat_lt, inl, inr}
+use Rattle.std.specs.Str.{chars, encode_utf8_all, IsUtf8}
+use Rattle.std.proofs.lemmas.Bool.{eqb-true, or_cases, ltb-true, ltb-false}
+use Rattle.std.proofs.lemmas.Str.{chars-nil, encode_ascii, encodes-chars}
+use Rattle.rustc_lexer.specs.declared.token.TokenKind.TheVariants.{GuardedStrPrefix, Pound}
+use Rattle.rustc_lexer.specs.declared.lexemes.family.Family.TheVariants.{Hash}
+use Rattle.rustc_lexer.specs.Family.{family_of}
+use Rattle.rustc_lexer.specs.Hash.{is_guarded_mark, hash}
+use Rattle.rustc_lexer.specs.Lexeme.{past_first}
+use Rattle.rustc_lexer.specs.Quick.{IsFirstToken}
+use Rattle.rustc_lexer.specs.Scan.{after, gives, next_is, past, scanned}
+use Rattle.rustc_lexer.proofs.BridgeLemmas.{chars-ascii}
+use Rattle.rustc_lexer.proofs.FamilyLemmas.{by_family}
+use Rattle.rustc_lexer.proofs.PastLemmas.{past-one}
+use Rattle.rustc_lexer.proofs.QuickLemmas.{first}
+use Rattle.rustc_lexer.proofs.ScanLemmas.{scanned-gives, scanned-no, scanned-yes}
+
+mark-small : (c : ℕ) → is_guarded_mark c ≡ true → c < 128
+mark-small c e = elim (or_cases (c == 34) _ e) [
+  | inl a ↦ let same = eqb-true c 34 a in omega arith
+  | inr f ↦ elim (or_cases (c == 35) false f) [ inl a ↦ let same = eqb-true c 35 a in omega arith | inr none ↦ absurd (true≢false (sym none)) ]
+]
+
+-- the next character is a mark where the next byte is one
+pub mark-byte : (text : List ℕ) → IsUtf8 text → next_is is_guarded_mark (chars text) ≡ next_is is_guarded_mark text
+mark-byte [] is = ap (next_is is_guarded_mark) chars-nil
+mark-byte (d ∷ ds) is = by_size (nat_lt d 128) refl
+  where
+    no_mark : 128 ≤ d → (t : Bool) → is_guarded_mark d ≡ t → is_guarded_mark d ≡ false
+    no_mark wide false e = e
+    no_mark wide true e = absurd (let small = mark-small d e in omega arith)
+
+    first_byte : (cs : List ℕ) → chars (d ∷ ds) ≡ cs → next_is is_guarded_mark cs ≡ true → d < 128
+    first_byte [] e f = absurd (true≢false (sym f))
+    first_byte (c ∷ cs) e f =
+        let small : c < 128 = mark-small c f in
+        let whole : d ∷ ds ≡ c ∷ encode_utf8_all cs = sym (encodes-chars (d ∷ ds) is) ∙ (ap encode_utf8_all e ∙ ap (λ (xs : List ℕ). xs ++ encode_utf8_all cs) (encode_ascii c small)) in
+        let same : d ≡ c = ap (λ (xs : List ℕ). get_or xs 0 0) whole in
+        omega arith
+
+    none : 128 ≤ d → (t : Bool) → next_is is_guarded_mark (chars (d ∷ ds)) ≡ t → next_is is_guarded_mark (chars (d ∷ ds)) ≡ false
+    none wide false e = e
+    none wide true e = absurd (let small = first_byte (chars (d ∷ ds)) refl e in omega arith)
+
+    by_size : (t : Bool) → nat_lt d 128 ≡ t → next_is is_guarded_mark (chars (d ∷ ds)) ≡ is_guarded_mark d
+    by_size true e = ap (next_is is_guarded_mark) (chars-ascii d ds is (ltb-true d 128 e))
+    by_size false e = let wide = ltb-false d 128 e in none wide (next_is is_guarded_mark (chars (d ∷ ds))) refl ∙ sym (no_mark wide (is_guarded_mark d) refl)
+
+-- what a hash is read as
+module _ (tail : List ℕ) (is : IsUtf8 tail) where
+  pub prefix_read : (rest : List ℕ) → next_is is_guarded_mark (chars tail) ≡ true → rest ≡ past 1 tail → (GuardedStrPrefix, rest) ≡ scanned hash tail
+  prefix_read rest e f = ap (λ (xs : List ℕ). (GuardedStrPrefix, xs)) f ∙ sym (scanned-yes (next_is is_guarded_mark) (after 1 (gives GuardedStrPrefix)) (gives Pound) tail e)
+
+  pub pound_read : next_is is_guarded_mark (chars tail) ≡ false → (Pound, tail) ≡ scanned hash tail
+  pound_read e = sym (scanned-no (next_is is_guarded_mark) (after 1 (gives GuardedStrPrefix)) (gives Pound) tail e ∙ scanned-gives Pound tail is)
+
+-- a text that begins with a hash
+pub prefix_first : (text : List ℕ) (b : ℕ) (rest : List ℕ) → IsUtf8 text → text ≡ b ∷ rest → b < 128 → Hash ≡ family_of b → next_is is_guarded_mark rest ≡ true → IsFirstToken text record { kind = GuardedStrPrefix; len = 2 }
+prefix_first text b [] is e small family mark = absurd (true≢false (sym mark))
+prefix_first text b (d ∷ ds) is e small family mark = first text b (d ∷ ds) GuardedStrPrefix 1 is e small (omega arith) told
+  where
+    told : IsUtf8 (d ∷ ds) → (GuardedStrPrefix, ds) ≡ scanned (past_first b) (d ∷ ds)
+    told inner =
+        let cut : ds ≡ past 1 (d ∷ ds) = sym (past-one (d ∷ ds) ds d inner (ap (λ (xs : List ℕ). xs ++ ds) (sym (encode_ascii d (mark-small d mark))))) in
+        by_family Hash b (d ∷ ds) _ (prefix_read (d ∷ ds) inner ds (mark-byte (d ∷ ds) inner ∙ mark) cut) family
+
+pub pound_first : (text : List ℕ) (b : ℕ) (rest : List ℕ) → IsUtf8 text → text ≡ b ∷ rest → b < 128 → Hash ≡ family_of b → next_is is_guarded_mark rest ≡ false → IsFirstToken text record { kind = Pound; len = 1 }
+pound_first text b rest is e small family none = first text b rest Pound 0 is e small (omega arith) told
+  where
+    told : IsUtf8 rest → (Pound, rest) ≡ scanned (past_first b) rest
+    told inner = by_family Hash b rest _ (pound_read rest inner (mark-byte rest inner ∙ none)) family

@@ -1,0 +1,82 @@
+-- Bounds that are remembered are bounds of the tokens that an edit leaves.
+use Rattle.std.proofs.Common.{◌≡◌, ℕ, ◌+◌, ◌-◌, ◌≤◌, List, ◌++◌, get_or, length, take, drop, sym, ap, ◌∙◌, arith, subst, length-drop, length-append, length-take-le, take-take, take_at, drop_at, append_assoc, IsUtf8}
+use Rattle.std.specs.List.{All}
+use Rattle.rustc_lexer.specs.declared.relex.front.Bound.{Bound}
+use Rattle.rustc_lexer.specs.declared.relex.landmarks.Landmarks.{Landmarks}
+use Rattle.rustc_lexer.specs.declared.token.Token.{Token}
+use Rattle.rustc_lexer.specs.Texts.{IsText, IsGrammar}
+use Rattle.rustc_lexer.specs.Cuts.{bound, tokens_by}
+use Rattle.rustc_lexer.specs.Edits.{apply, IsEdit, IsMet}
+use Rattle.rustc_lexer.specs.Landmarks.{AreBounds, IsBound, IsMovable, IsReplaced}
+use Rattle.rustc_lexer.proofs.BoundLemmas.{bound_mono, tokens_le_bytes}
+use Rattle.rustc_lexer.proofs.EditLemmas.{IsEdited, edited, bound-same}
+use Rattle.rustc_lexer.proofs.FrontLemmas.{bound-shift}
+use Rattle.rustc_lexer.proofs.ReadyLemmas.{bounds_fit, put_together}
+
+module _ (old new : List Token) (kept met now : Bound) (is : IsReplaced old new kept met now) where
+  -- a bound of the kept front stays
+  pub front_stays : (at : Bound) → at.number ≤ kept.number → IsBound old at → IsBound new at
+  front_stays at few here =
+      let same : take at.number old ≡ take at.number new =
+      sym (take-take at.number kept.number old few) ∙ (ap (take at.number) (sym is.front) ∙ take-take at.number kept.number new few) in
+      (omega (arith, is.kept_le, is.now_bound.0), here.1 ∙ bound-same at.number old new same)
+
+  pub kept_stays : IsBound new kept
+  kept_stays = front_stays kept (omega arith) is.kept_bound
+
+  -- a bound of the kept back moves with the one that was met
+  pub back_moves : (at : Bound) → met.number ≤ at.number → IsBound old at → IsBound new (record { number = at.number - met.number + now.number; place = at.place - met.place + now.place })
+  back_moves at past here =
+      let m : ℕ = at.number - met.number in
+      let there : met.number + m ≡ at.number = omega arith in
+      let turned : now.number + m ≡ m + now.number = omega arith in
+      let long : length (drop now.number new) ≡ length (drop met.number old) = ap length is.back in
+      let before : at.place ≡ bound old met.number + bound (drop met.number old) m = here.1 ∙ (ap (bound old) (sym there) ∙ bound-shift old met.number m) in
+      let after : bound new (m + now.number) ≡ bound new now.number + bound (drop met.number old) m =
+      ap (bound new) (sym turned) ∙ (bound-shift new now.number m ∙ ap (λ ts. bound new now.number + bound ts m) is.back) in (
+        omega (arith, long, here.0, is.met_bound.0, is.now_bound.0, length-drop now.number new, length-drop met.number old),
+        omega (arith, before, after, is.met_bound.1, is.now_bound.1),
+      )
+
+module _ {first : List ℕ → Token} (law : IsGrammar first) (text : List ℕ) (is : IsText text) (start stop : ℕ) (insert : List ℕ) (its : IsUtf8 insert) (edit : IsEdit text start stop insert) where
+  -- numbers and places of both lists are small
+  movable_for : (old list : List Token) (kept met now : Bound) (landmarks : Landmarks) → old ≡ tokens_by first text → list ≡ tokens_by first (apply text start stop insert) → IsReplaced old list kept met now → AreBounds old landmarks → All (IsMovable met now) landmarks.bounds
+  movable_for old list kept met now landmarks e f replaced are k d few past =
+      let b : Bound = get_or landmarks.bounds k d in
+      let at : IsBound old b = are k d few in
+      let ed : IsEdited text start stop insert (apply text start stop insert) = edited text start stop insert is its edit in
+      let at' : IsBound (tokens_by first text) b = subst (λ ts. IsBound ts b) e at in
+      let now' : IsBound (tokens_by first (apply text start stop insert)) now = subst (λ ts. IsBound ts now) f replaced.now_bound in
+      let mono = bound_mono old met.number b.number past in (
+        omega (arith, replaced.met_bound.1, at.1, mono),
+        omega (arith, at'.0, now'.0, tokens_le_bytes law text is, tokens_le_bytes law (apply text start stop insert) ed.text_is, is.fits, ed.text_is.fits),
+        omega (arith, at'.1, now'.1, bounds_fit law text is b.number at'.0, bounds_fit law (apply text start stop insert) ed.text_is now.number now'.0),
+      )
+
+  -- what an edit puts in place of the tokens between, of which there are `size`: the landmarks can be moved, and stay landmarks
+  pub replaced_for : (old : List Token) (new : List ℕ) (lexed list : List Token) (kept met : Bound) (size end : ℕ) (landmarks : Landmarks) → old ≡ tokens_by first text → new ≡ apply text start stop insert → list ≡ take kept.number old ++ (lexed ++ drop met.number old) → size ≡ length lexed
+      → kept.number ≤ length old → kept.place ≡ bound old kept.number → met.place ≡ bound old met.number → end ≡ bound (tokens_by first new) (kept.number + length lexed)
+      → IsMet first old new (start + length insert) (length insert) (stop - start) kept.number (take kept.number old ++ lexed) met.number → AreBounds old landmarks
+      → All (IsMovable met (record { number = kept.number + size; place = end })) landmarks.bounds × IsReplaced old list kept met (record { number = kept.number + size; place = end })
+  replaced_for old new lexed list kept met size end landmarks e f made size_is few kept_at met_at end_is is_met are =
+      let front : List Token = take kept.number old in
+      let short : length front ≡ kept.number = length-take-le kept.number old few in
+      let long : length (front ++ lexed) ≡ kept.number + size = omega (arith, short, size_is, length-append front lexed) in
+      let split : list ≡ (front ++ lexed) ++ drop met.number old = made ∙ sym (append_assoc front lexed (drop met.number old)) in
+      let count = ap length split in
+      let whole : list ≡ tokens_by first (apply text start stop insert) = made ∙ put_together law text is start stop insert its edit old new lexed met.number kept.number e f is_met in
+      let number_is : kept.number + length lexed ≡ kept.number + size = omega (arith, size_is) in
+      let place_is : end ≡ bound list (kept.number + size) = end_is ∙ (ap (bound (tokens_by first new)) number_is ∙ ap (λ ts. bound ts (kept.number + size)) (ap (tokens_by first) f ∙ sym whole)) in
+      let replaced : IsReplaced old list kept met (record { number = kept.number + size; place = end }) = record {
+        kept_bound = (few, kept_at);
+        met_bound = (is_met.number_bound, met_at);
+        now_bound = (omega (arith, count, long, length-append (front ++ lexed) (drop met.number old)), place_is);
+        kept_le = omega arith;
+        front = ap (take kept.number) made ∙ take_at front (lexed ++ drop met.number old) kept.number short;
+        back = ap (drop (kept.number + size)) split ∙ drop_at (front ++ lexed) (drop met.number old) (kept.number + size) long;
+      } in (movable_for old list kept met _ landmarks e whole replaced are, replaced)
+
+-- the list that `replace` leaves, by the lists that its arguments are
+pub list_for : (old items slice lexed list : List Token) (kept met : ℕ) → old ≡ items → slice ≡ lexed → list ≡ take kept items ++ (slice ++ drop met items) → list ≡ take kept old ++ (lexed ++ drop met old)
+list_for old items slice lexed list kept met e f made =
+    made ∙ (ap (λ ts. take kept items ++ (ts ++ drop met items)) f ∙ ap (λ ts. take kept ts ++ (lexed ++ drop met ts)) (sym e))

@@ -1,0 +1,40 @@
+-- A mask that is computed lane by lane is held to a test at each of the 256 bytes.
+use Rattle.std.proofs.Common.{◌≡◌, ℕ, leb, cond, ◌%◌, ◌^◌, ◌≤◌, Bool, true, List, [], ◌∷◌, map, length, replicate, refl, sym, ap, ap₂, ◌∙◌, arith, w8, Fits}
+use Rattle.std.proofs.lemmas.Bool.{agree_below, agree_below_at}
+use Rattle.std.proofs.lemmas.Simd.{mask_l-mod}
+use Rattle.std.proofs.lemmas.List.{length-map}
+use lib.Lanes.{zip2, mask_l, top, Each1}
+
+zip2-map : (h : ℕ → ℕ → ℕ) (f g : ℕ → ℕ) (xs : List ℕ) → zip2 h (map f xs) (map g xs) ≡ map (λ x. h (f x) (g x)) xs
+zip2-map h f g [] = refl
+zip2-map h f g (x ∷ xs) = ap (λ r. h (f x) (g x) ∷ r) (zip2-map h f g xs)
+
+-- an operation on two vectors that were computed lane by lane from v
+pub joined : (h : ℕ → ℕ → ℕ) (f g : ℕ → ℕ) (v : List ℕ) {a b : List ℕ} → a ≡ map f v → b ≡ map g v → zip2 h a b ≡ map (λ x. h (f x) (g x)) v
+joined h f g v p q = ap₂ (zip2 h) p q ∙ zip2-map h f g v
+
+pub splat_is : (v : List ℕ) (n y : ℕ) → length v ≡ n → replicate n y ≡ map (λ _. y) v
+splat_is [] n y e = ap (λ k. replicate k y) (sym e)
+splat_is (x ∷ xs) n y e = ap (λ k. replicate k y) (sym e) ∙ ap (λ r. y ∷ r) (splat_is xs (length xs) y refl)
+
+each : (f : ℕ → ℕ) (p : ℕ → Bool) → ((x : ℕ) → top 7 (f x) ≡ p x) → (v : List ℕ) → map (top 7) (map f v) ≡ map p v
+each f p same [] = refl
+each f p same (x ∷ xs) = ap₂ (λ a b. a ∷ b) (same x) (each f p same xs)
+
+-- the mask of lanes that were computed by f is that of the test, where these agree
+pub masked_at : (f : ℕ → ℕ) (p : ℕ → Bool) (v z : List ℕ) → length v ≤ 64 → z ≡ map f v → ((x : ℕ) → top 7 (f x) ≡ p x) → mask_l (map (top 7) z) % 2 ^ 64 ≡ mask_l (map p v)
+masked_at f p v z short e same = ap (λ l. mask_l l % 2 ^ 64) (ap (map (top 7)) e ∙ each f p same v) ∙ mask_l-mod (map p v) 64 (omega (arith, length-map v p))
+
+each_byte : (f : ℕ → ℕ) (p : ℕ → Bool) → agree_below (λ x. top 7 (f x)) p 256 ≡ true → (v : List ℕ) → Each1 (Fits w8) v → map (top 7) (map f v) ≡ map p v
+each_byte f p all [] fits = refl
+each_byte f p all (x ∷ xs) fits = ap₂ (λ a b. a ∷ b) (agree_below_at (λ y. top 7 (f y)) p 256 x all fits.0.fits) (each_byte f p all xs fits.1)
+
+-- the mask of lanes that were computed by f is that of the test, where these agree at each byte
+pub masked : (f : ℕ → ℕ) (p : ℕ → Bool) (v z : List ℕ) → length v ≤ 64 → Each1 (Fits w8) v → z ≡ map f v → agree_below (λ x. top 7 (f x)) p 256 ≡ true
+    → mask_l (map (top 7) z) % 2 ^ 64 ≡ mask_l (map p v)
+masked f p v z short fits e all =
+    ap (λ l. mask_l l % 2 ^ 64) (ap (map (top 7)) e ∙ each_byte f p all v fits) ∙ mask_l-mod (map p v) 64 (omega (arith, length-map v p))
+
+-- `simd_ge` of a vector with a splat: the splat stands first
+abbrev pub least : ℕ → ℕ → ℕ
+least a b = cond (leb a b) 255 0

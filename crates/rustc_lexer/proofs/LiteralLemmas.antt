@@ -1,0 +1,61 @@
+-- Literals: what is read of one, and where its suffix begins.
+use Rattle.std.proofs.Common.{◌≡◌, ℕ, suc, ◌+◌, ◌-◌, ◌≤◌, Bool, true, false, sym, List, ◌∷◌, length, take, drop, ap, ◌∙◌, arith, length-append, take-add}
+use Rattle.std.specs.Str.{chars, encode_utf8_all, IsUtf8}
+use Rattle.std.proofs.lemmas.Str.{encodes-append, length-encode, len_utf8_bounds}
+use Rattle.rustc_lexer.specs.declared.token.TokenKind.{TokenKind}
+use Rattle.rustc_lexer.specs.declared.token.LiteralKind.{LiteralKind}
+use Rattle.rustc_lexer.specs.declared.token.TokenKind.TheVariants.{Literal}
+use Rattle.rustc_lexer.specs.Literal.{Body, suffix_len, suffixed, literal_past}
+use Rattle.rustc_lexer.specs.Scan.{bytes_of, past, scanned}
+use Rattle.rustc_lexer.specs.State.{suffix_start_of}
+use Rattle.rustc_lexer.proofs.CharSteps.{bytes_of-suc}
+use Rattle.rustc_lexer.proofs.PastLemmas.{past-zero, past-past, chars-past, IsUtf8-past, length-past}
+
+-- more characters take more bytes
+pub bytes-add : (n m : ℕ) (s : List ℕ) → bytes_of (n + m) s ≡ bytes_of n s + bytes_of m (drop n s)
+bytes-add n m s =
+    ap length (ap encode_utf8_all (take-add n m s) ∙ encodes-append (take n s) (take m (drop n s))) ∙ length-append (encode_utf8_all (take n s)) (encode_utf8_all (take m (drop n s)))
+
+-- where the suffix of a literal with a prefix of p bytes begins
+module _ (p : ℕ) (body : Body × ℕ) (s : List ℕ) where
+  -- within the token
+  pub suffix_within : suffix_start_of (literal_past p body s).0 ≤ p + bytes_of (literal_past p body s).1 s
+  suffix_within = omega (arith, bytes-add body.1 (suffixed body.0.takes_suffix (drop body.1 s)) s)
+
+  -- at its end, where none is taken
+  pub suffix_none : body.0.takes_suffix ≡ false → suffix_start_of (literal_past p body s).0 ≡ p + bytes_of (literal_past p body s).1 s
+  suffix_none e =
+      let all : body.1 ≡ (literal_past p body s).1 = sym (ap (λ (b : Bool). body.1 + suffixed b (drop body.1 s)) e ∙ omega arith) in
+      ap (λ (n : ℕ). p + bytes_of n s) all
+
+-- within the whole token
+pub suffix-first : (kind : TokenKind) (n c : ℕ) (s : List ℕ) → suffix_start_of kind ≤ 1 + bytes_of n s → suffix_start_of kind ≤ bytes_of (suc n) (c ∷ s)
+suffix-first kind n c s le = omega (arith, bytes_of-suc n c s, length-encode c, len_utf8_bounds c)
+
+-- past a prefix of p bytes the body of a literal was read, and what it left
+module _ (p : ℕ) (body : List ℕ → Body × ℕ) (tail rest : List ℕ) (kind : LiteralKind) (takes : Bool) (is : IsUtf8 tail) (read : (record { kind = kind; takes_suffix = takes }, rest) ≡ scanned body tail) where
+  n : ℕ
+  n = (body (chars tail)).1
+
+  left-is : rest ≡ past n tail
+  unfolding n
+  left-is = ap (λ (r : Body × List ℕ). r.1) read
+
+  start-is : p + (length tail - length rest) ≡ p + bytes_of n (chars tail)
+  start-is = omega (arith, ap length left-is, length-past n tail is)
+
+  pub literal-read : (token : TokenKind) (left : List ℕ) → token ≡ Literal kind (p + (length tail - length rest)) → left ≡ past (suffixed takes (chars rest)) rest → (token, left) ≡ scanned (λ s. literal_past p (body s) s) tail
+  unfolding n
+  literal-read token left e f =
+      let m : ℕ = suffixed takes (drop n (chars tail)) in
+      let its : left ≡ past (n + m) tail =
+      f ∙ (ap (λ xs. past (suffixed takes (chars xs)) xs) left-is ∙ (ap (λ ds. past (suffixed takes ds) (past n tail)) (chars-past n tail is) ∙ past-past m n tail is)) in
+      ap (λ (k : TokenKind). (k, left)) (e ∙ ap (Literal kind) start-is)
+      ∙ (ap (λ (xs : List ℕ). (Literal kind (p + bytes_of n (chars tail)), xs)) its
+      ∙ ap (λ (r : Body × List ℕ). (Literal r.0.kind (p + bytes_of n (chars tail)), past (n + suffixed r.0.takes_suffix (drop n (chars tail))) tail)) read)
+
+  pub with-suffix : (token : TokenKind) (left : List ℕ) → token ≡ Literal kind (p + (length tail - length rest)) → takes ≡ true → left ≡ past (suffix_len (chars rest)) rest → (token, left) ≡ scanned (λ s. literal_past p (body s) s) tail
+  with-suffix token left e t f = literal-read token left e (f ∙ ap (λ (b : Bool). past (suffixed b (chars rest)) rest) (sym t))
+
+  pub no-suffix : (token : TokenKind) → token ≡ Literal kind (p + (length tail - length rest)) → takes ≡ false → (token, rest) ≡ scanned (λ s. literal_past p (body s) s) tail
+  no-suffix token e t = literal-read token rest e (sym (past-zero rest (rw left-is (IsUtf8-past n tail is))) ∙ ap (λ (b : Bool). past (suffixed b (chars rest)) rest) (sym t))

@@ -1,0 +1,125 @@
+-- Lexing on from the kept front until the new tokens meet the old ones.
+use Rattle.std.proofs.Common.{◌≡◌, ℕ, suc, ◌+◌, ◌-◌, ◌<◌, ◌≤◌, max, Bool, true, false, List, [], ◌∷◌, ◌++◌, length, take, drop, refl, sym, ap, ◌∙◌, arith, leb, le-leb, length-take-le, length-append, eq-or-lt_of_le, inl, inr, true≢false}
+use Rattle.std.proofs.lemmas.Bool.Decides.{leb_tells}
+use Rattle.rustc_lexer.specs.declared.token.Token.{Token}
+use Rattle.rustc_lexer.specs.Texts.{IsText, IsGrammar}
+use Rattle.rustc_lexer.specs.Cuts.{bound, tokens_by}
+use Rattle.rustc_lexer.specs.Edits.{meets_at, least_from, meet, IsMet}
+use Rattle.rustc_lexer.proofs.BoundLemmas.{is_bound-intro, least_from_ge, least_from-more, least_from-here}
+use Rattle.rustc_lexer.proofs.EditLemmas.{bound-same}
+use Rattle.rustc_lexer.proofs.ProgressLemmas.{IsLexedTo, IsPlace, lexed_place, lexed_more}
+
+module _ (first : List ℕ → Token) (old : List Token) (text : List ℕ) (past added removed kept : ℕ) where
+  abbrev pub test : ℕ → Bool
+  test j = meets_at old past added removed (bound (tokens_by first text) j)
+
+  -- the tokens so far, and what is still to be searched
+  pub record IsGoing (items : List Token) (place number at_place : ℕ) (met : Bool) : Type 0 where
+    pub to : IsLexedTo first text items place
+    pub kept_le : kept ≤ length items
+    pub search : least_from test (length (tokens_by first text) - length items) (length items) ≡ meet old (tokens_by first text) past added removed kept
+    pub number_bound : number ≤ length old
+    pub place_is : at_place ≡ bound old number
+    pub below : (k : ℕ) → k < number → bound old k + added < max past place + removed
+    pub met_is : met ≡ meets_at old past added removed place
+    pub past_edit : met ≡ true → past ≤ place
+    pub same_place : met ≡ true → at_place ≡ place - added + removed
+
+  pub kept_to : kept ≤ length old → kept ≤ length (tokens_by first text) → take kept old ≡ take kept (tokens_by first text) → IsLexedTo first text (take kept old) (bound old kept)
+  kept_to few fewer same =
+      let long : length (take kept old) ≡ kept = length-take-le kept old few in
+      record {
+        number = rw long fewer;
+        items_are = same ∙ ap (λ n. take n (tokens_by first text)) (sym long);
+        place_is = bound-same kept old (tokens_by first text) same ∙ ap (bound (tokens_by first text)) (sym long);
+      }
+
+  pub kept_search : kept ≤ length old → least_from test (length (tokens_by first text) - length (take kept old)) (length (take kept old)) ≡ meet old (tokens_by first text) past added removed kept
+  unfolding meet
+  kept_search few = ap (λ n. least_from test (length (tokens_by first text) - n) n) (length-take-le kept old few)
+
+  pub kept_le_meet : kept ≤ meet old (tokens_by first text) past added removed kept
+  unfolding meet
+  kept_le_meet = least_from_ge test (length (tokens_by first text) - kept) kept
+
+  pub going_inside : IsGrammar first → IsText text → (items : List Token) (place number at_place : ℕ) (met : Bool) → IsGoing items place number at_place met → added ≤ past → past ≤ length text → bound old (length old) + added ≡ length text + removed → met ≡ false → place < length text
+  going_inside law is items place number at_place met at le inside ends out =
+      let spot : IsPlace text place = lexed_place law text items place is at.to in
+      elim (eq-or-lt_of_le spot.inside) [
+        | inr less ↦ less
+        | inl same ↦ absurd (
+            let last : bound old (length old) ≡ place - added + removed = omega arith in
+            let yes_past : leb past place ≡ true = le-leb past place (omega arith) in
+            let hit : meets_at old past added removed place ≡ true = rw (yes_past, is_bound-intro old (length old) (place - added + removed) last) refl in
+            true≢false (sym hit ∙ (sym at.met_is ∙ out)))
+      ]
+
+  -- one more token keeps the search
+  pub search_more : (items more : List Token) (place next : ℕ) (met : Bool) → IsLexedTo first text items place → IsLexedTo first text more next → length more ≡ suc (length items) → met ≡ meets_at old past added removed place → met ≡ false → least_from test (length (tokens_by first text) - length items) (length items) ≡ least_from test (length (tokens_by first text) - length more) (length more)
+  search_more items more place next met at to long met_is out =
+      let n : ℕ = length (tokens_by first text) in
+      let few : length more ≤ n = to.number in
+      let here : test (length items) ≡ false = ap (λ p. meets_at old past added removed p) (sym at.place_is) ∙ (sym met_is ∙ out) in
+      least_from-more test (n - length items) (n - length more) (length items) (omega arith) here ∙ ap (least_from test (n - length more)) (sym long)
+
+  pub meet_more : (more : List Token) (items : List Token) → length more ≡ suc (length items) → least_from test (length (tokens_by first text) - length more) (length more) ≡ meet old (tokens_by first text) past added removed kept → suc (length items) ≤ meet old (tokens_by first text) past added removed kept
+  meet_more more items long e = omega (arith, e, least_from_ge test (length (tokens_by first text) - length more) (length more))
+
+  pub going_met : (items : List Token) (place number at_place : ℕ) (met : Bool) → IsGoing items place number at_place met → met ≡ true → IsMet first old text past added removed kept items number
+  going_met items place number at_place met at hit =
+      let same = at.to.place_is in
+      let found : test (length items) ≡ true = ap (λ p. meets_at old past added removed p) (sym at.to.place_is) ∙ (sym at.met_is ∙ hit) in
+      let le : past ≤ place = at.past_edit hit in
+      let e : at_place ≡ place - added + removed = at.same_place hit in
+      record {
+        items_are = at.to.items_are;
+        least = sym (least_from-here test _ (length items) found) ∙ at.search;
+        kept_le = at.kept_le;
+        number_bound = at.number_bound;
+        past_edit = omega arith;
+        same_place = sym at.place_is ∙ (e ∙ ap (λ p. p - added + removed) same);
+      }
+
+  pub going_start : (items : List Token) (place number at_place : ℕ) (met : Bool) → kept ≤ length old → kept ≤ length (tokens_by first text) → take kept old ≡ take kept (tokens_by first text) → items ≡ take kept old → place ≡ bound old kept → number ≤ length old → at_place ≡ bound old number → ((k : ℕ) → k < number → bound old k + added < max past place + removed) → met ≡ meets_at old past added removed place → (met ≡ true → past ≤ place) → (met ≡ true → at_place ≡ place - added + removed) → IsGoing items place number at_place met
+  going_start items place number at_place met few fewer same are is_at a b c d e f = record {
+    to = rw (are, is_at) (kept_to few fewer same);
+    kept_le = rw are (omega (arith, length-take-le kept old few));
+    search = rw are (kept_search few);
+    number_bound = a;
+    place_is = b;
+    below = c;
+    met_is = d;
+    past_edit = e;
+    same_place = f;
+  }
+
+  pub going_more : IsGrammar first → IsText text → (items more : List Token) (place next number number' at_place at_place' : ℕ) (met met' : Bool) (token : Token) → IsGoing items place number at_place met → met ≡ false → place < length text → token ≡ first (drop place text) → more ≡ items ++ token ∷ [] → next ≡ place + token.len → number' ≤ length old → at_place' ≡ bound old number' → ((k : ℕ) → k < number' → bound old k + added < max past next + removed) → met' ≡ meets_at old past added removed next → (met' ≡ true → past ≤ next) → (met' ≡ true → at_place' ≡ next - added + removed) → IsGoing more next number' at_place' met'
+  going_more law is items more place next number number' at_place at_place' met met' token at out inside token_is more_is next_is a b c d e f =
+      let to : IsLexedTo first text more next = rw (more_is, next_is, token_is) (lexed_more law text items place is at.to inside) in
+      let long : length more ≡ suc (length items) = rw more_is (omega (arith, length-append items (token ∷ []))) in
+      let le = at.kept_le in
+      record {
+        to = to;
+        kept_le = omega arith;
+        search = sym (search_more items more place next met at.to to long at.met_is out) ∙ at.search;
+        number_bound = a;
+        place_is = b;
+        below = c;
+        met_is = d;
+        past_edit = e;
+        same_place = f;
+      }
+
+  -- where another token was lexed, the meeting is past it
+  pub going_least : IsGrammar first → IsText text → (items : List Token) (place number at_place : ℕ) (met : Bool) → IsGoing items place number at_place met → met ≡ false → place < length text → suc (length items) ≤ meet old (tokens_by first text) past added removed kept
+  going_least law is items place number at_place met at out inside =
+      let more : List Token = items ++ first (drop place text) ∷ [] in
+      let to = lexed_more law text items place is at.to inside in
+      let long : length more ≡ suc (length items) = omega (arith, length-append items (first (drop place text) ∷ [])) in
+      meet_more more items long (sym (search_more items more place _ met at.to to long at.met_is out) ∙ at.search)
+
+  pub kept_le_number : (items : List Token) (number : ℕ) → added ≤ past → ((k : ℕ) → k < kept → bound old k + added < past + removed) → IsMet first old text past added removed kept items number → kept ≤ number
+  kept_le_number items number le before met = elim (leb_tells kept number) [
+    | inl few ↦ few.1
+    | inr more ↦ absurd (let b = before number more.1 in let e = met.same_place in let p = met.past_edit in omega arith)
+  ]

@@ -1,0 +1,174 @@
+-- Tokens that are told by their bytes.
+use Rattle.std.proofs.Common.{◌≡◌, ℕ, suc, ◌+◌, ◌-◌, ◌<◌, ◌≤◌, ◌||◌, ◌==◌, not, Bool, true, false, true≢false, if◌then◌else◌, List, [], ◌∷◌, ◌++◌, length, drop, codes, refl, sym, ap, ◌∙◌, arith, subst, length-drop, inl, inr}
+use Rattle.std.specs.Char.{is_ascii_alphanumeric}
+use Rattle.std.specs.List.{prefix_len}
+use Rattle.std.specs.Str.{chars, IsUtf8}
+use Rattle.std.proofs.lemmas.Bool.{or_parts, or_cases, not-true, not-false, eqb-true, ltb-true, lt-leb}
+use Rattle.std.proofs.lemmas.Str.{chars-nil, encode_ascii}
+use Rattle.std.proofs.lemmas.List.Sums.{prefix_len-le-length}
+use Rattle.unicode_ident.proofs.IdentLemmas.{is_xid_continue-ascii}
+use Rattle.rustc_lexer.specs.declared.token.TokenKind.{TokenKind}
+use Rattle.rustc_lexer.specs.declared.token.TokenKind.TheVariants.{Ident, UnknownPrefix, Whitespace}
+use Rattle.rustc_lexer.specs.ByteRuns.{is_continue_byte, is_space_byte, is_wide}
+use Rattle.rustc_lexer.specs.Classes.{is_id_continue}
+use Rattle.rustc_lexer.specs.Emoji.{is_emoji}
+use Rattle.rustc_lexer.specs.Ident.{ident, is_prefix_mark, marks_ident}
+use Rattle.rustc_lexer.specs.ChoiceLaws.{by_arm}
+use Rattle.rustc_lexer.specs.Lexeme.{letters, word, symbol_kind, past_first, is_raw_mark, begins_raw}
+use Rattle.rustc_lexer.specs.Quick.{is_space_lead, turns_word, IsFirstToken}
+use Rattle.rustc_lexer.specs.Scan.{begins, next_is, past, run_len, scanned}
+use Rattle.rustc_lexer.proofs.BridgeLemmas.{chars-ascii, IsUtf8-ascii, skips, stops_here}
+use Rattle.rustc_lexer.proofs.IdentLemmas.{ident-valid}
+use Rattle.rustc_lexer.proofs.LexemeLemmas.{made}
+use Rattle.rustc_lexer.proofs.PartLemmas.{continue_part}
+use Rattle.rustc_lexer.proofs.PastLemmas.{past-one, chars-past}
+use Rattle.rustc_lexer.proofs.ScanLemmas.{scanned-gives, scanned-same}
+use Rattle.rustc_lexer.proofs.SpaceLemmas.{space_stops_here}
+use Rattle.rustc_lexer.specs.declared.lexemes.family.Family.TheVariants.{Space, Symbol, Word}
+use Rattle.rustc_lexer.specs.Family.{family_of}
+use Rattle.rustc_lexer.proofs.FamilyLemmas.{by_family}
+
+emoji-ascii : (b : ℕ) → b < 128 → is_emoji b ≡ false
+unfolding is_emoji
+emoji-ascii b l = rw (lt-leb 128 b l) refl
+
+-- ---- a word is an identifier where no mark follows it
+
+mark-continues : (c : ℕ) → is_prefix_mark c ≡ true → is_id_continue c ≡ false
+mark-continues c e = elim (or_cases (c == 35) _ e) [
+  | inl a ↦ at 35 (omega arith) refl (eqb-true c 35 a)
+  | inr f ↦ elim (or_cases (c == 34) _ f) [
+    | inl a ↦ at 34 (omega arith) refl (eqb-true c 34 a)
+    | inr g ↦ elim (or_cases (c == 39) false g) [ inl a ↦ at 39 (omega arith) refl (eqb-true c 39 a) | inr none_left ↦ absurd (true≢false (sym none_left)) ]
+  ]
+]
+  where
+    at : (n : ℕ) → n < 128 → (is_ascii_alphanumeric n || (n == 95)) ≡ false → c ≡ n → is_id_continue c ≡ false
+    at n l f same = ap is_id_continue same ∙ (is_xid_continue-ascii n l ∙ f)
+
+no_mark : (s : List ℕ) → next_is is_prefix_mark (drop (run_len is_id_continue s) s) ≡ false → next_is is_prefix_mark s ≡ false
+no_mark [] h = refl
+no_mark (c ∷ cs) h = by_test (is_prefix_mark c) refl
+  where
+    by_test : (t : Bool) → is_prefix_mark c ≡ t → is_prefix_mark c ≡ false
+    by_test false e = e
+    by_test true e = let none : run_len is_id_continue (c ∷ cs) ≡ 0 = rw (mark-continues c e) refl in subst (λ n. next_is is_prefix_mark (drop n (c ∷ cs)) ≡ false) none h
+
+r-continues : is_id_continue 114 ≡ true
+r-continues = is_xid_continue-ascii 114 (omega arith)
+
+-- the marks one by one
+record Unmarked (c : ℕ) : Type 0 where
+  hash : (c == 35) ≡ false
+  double : (c == 34) ≡ false
+  single : (c == 39) ≡ false
+
+unmarked : (c : ℕ) → is_prefix_mark c ≡ false → Unmarked c
+unmarked c e =
+    let p = or_parts (c == 35) _ e in
+    let q = or_parts (c == 34) _ p.1 in
+    record { hash = p.0; double = q.0; single = (or_parts (c == 39) false q.1).0 }
+
+no_raw : (s : List ℕ) → next_is is_prefix_mark s ≡ false → next_is is_raw_mark s ≡ false
+no_raw [] e = refl
+no_raw (c ∷ cs) e = let u = unmarked c e in rw (u.hash, u.double) refl
+
+-- nothing goes on with what follows the letter
+record IsPlain (s : List ℕ) : Type 0 where
+  no_ident : marks_ident s ≡ false
+  no_char : begins (codes "'") s ≡ false
+  no_string : begins (codes "\"") s ≡ false
+  no_hash : next_is is_raw_mark s ≡ false
+  no_letter : begins_raw s ≡ false
+
+is_plain : (s : List ℕ) → next_is is_prefix_mark (drop (run_len is_id_continue s) s) ≡ false → IsPlain s
+is_plain [] h = record { no_ident = refl; no_char = refl; no_string = refl; no_hash = refl; no_letter = refl }
+is_plain (c ∷ cs) h =
+    let u = unmarked c (no_mark (c ∷ cs) h) in
+    record { no_ident = rw u.hash refl; no_char = rw u.single refl; no_string = rw u.double refl; no_hash = no_raw (c ∷ cs) (no_mark (c ∷ cs) h); no_letter = by_r (c == 114) refl }
+  where
+    by_r : (t : Bool) → (c == 114) ≡ t → begins_raw (c ∷ cs) ≡ false
+    by_r false e = rw e refl
+    by_r true e =
+        let more : run_len is_id_continue (c ∷ cs) ≡ suc (run_len is_id_continue cs) = rw (ap is_id_continue (eqb-true c 114 e) ∙ r-continues) refl in
+        rw e (no_raw cs (no_mark cs (subst (λ n. next_is is_prefix_mark (drop n (c ∷ cs)) ≡ false) more h)))
+
+word-plain : (b : ℕ) (s : List ℕ) → next_is is_prefix_mark (drop (run_len is_id_continue s) s) ≡ false → word b s ≡ ident s
+word-plain b s h =
+    let p = is_plain s h in
+    by_arm (λ c scan. scan s ≡ ident s) letters (λ c. ident) b (
+      λ c e. rw (p.no_ident, p.no_hash) refl,
+      (
+        λ c e. rw p.no_ident refl,
+        (
+          λ c e. rw (p.no_char, p.no_string, p.no_letter) refl,
+          (
+            λ c e. rw (p.no_string, p.no_letter) refl,
+            tt,
+          ),
+        ),
+      ),
+    )
+    (λ none. refl)
+
+-- ---- the next character, by the next byte
+
+pub turned-emoji : (left : List ℕ) → IsUtf8 left → next_is turns_word left ≡ false → (next_is is_emoji (chars left) ≡ false) × ((next_is is_prefix_mark (chars left) ≡ false) × (next_is is_wide left ≡ false))
+turned-emoji [] is e = (ap (next_is is_emoji) chars-nil, (ap (next_is is_prefix_mark) chars-nil, refl))
+turned-emoji (d ∷ ds) is e =
+    let parts = or_parts (is_wide d) (is_prefix_mark d) e in
+    let small : d < 128 = ltb-true d 128 (not-false _ parts.0) in
+    let read = chars-ascii d ds is small in
+    (ap (next_is is_emoji) read ∙ emoji-ascii d small, (ap (next_is is_prefix_mark) read ∙ parts.1, parts.0))
+
+-- ---- the tokens
+
+-- a token that begins with a byte of ASCII and takes n more bytes
+module _ (b : ℕ) (rest : List ℕ) (kind : TokenKind) (n : ℕ) (is : IsUtf8 (b ∷ rest)) (small : b < 128) (inside : n ≤ length rest) (g : (kind, drop n rest) ≡ scanned (past_first b) rest) where
+  taken : IsFirstToken (b ∷ rest) record { kind = kind; len = 1 + n }
+  taken =
+      let text = b ∷ rest in
+      let at : rest ≡ past 1 text = sym (past-one text rest b is (ap (λ (xs : List ℕ). xs ++ rest) (sym (encode_ascii b small)))) in
+      let len : length text - length (drop n rest) ≡ 1 + n = omega (arith, length-drop n rest) in
+      subst (λ k. IsFirstToken text record { kind = kind; len = k }) len (made text rest (drop n rest) b kind is (chars-ascii b rest is small) at g)
+
+-- the same of a text
+pub first : (text : List ℕ) (b : ℕ) (rest : List ℕ) (kind : TokenKind) (n : ℕ) → IsUtf8 text → text ≡ b ∷ rest → b < 128 → n ≤ length rest → (IsUtf8 rest → (kind, drop n rest) ≡ scanned (past_first b) rest)
+    → IsFirstToken text record { kind = kind; len = 1 + n }
+first text b rest kind n is e small inside g =
+    let whole : IsUtf8 (b ∷ rest) = subst (λ xs. IsUtf8 xs) e is in
+    subst (λ xs. IsFirstToken xs record { kind = kind; len = 1 + n }) (sym e) (taken b rest kind n whole small inside (g (IsUtf8-ascii b rest whole small)))
+
+-- a word and what no word goes on with
+pub word_first : (text : List ℕ) (b : ℕ) (rest : List ℕ) (end : ℕ) → IsUtf8 text → text ≡ b ∷ rest → b < 128 → Word ≡ family_of b → end ≡ prefix_len is_continue_byte rest → not (next_is turns_word (drop end rest)) ≡ true
+    → IsFirstToken text record { kind = Ident; len = 1 + end }
+word_first text b rest end is e small family counted ends = first text b rest Ident end is e small (omega (arith, prefix_len-le-length is_continue_byte rest)) told
+  where
+    told : IsUtf8 rest → (Ident, drop end rest) ≡ scanned (past_first b) rest
+    told inner =
+        let left : List ℕ = drop end rest in
+        let whole : IsUtf8 left = subst (λ k. IsUtf8 (drop k rest)) (sym counted) (skips is_continue_byte is_id_continue continue_part rest inner).utf8 in
+        let next = turned-emoji left whole (not-true _ ends) in
+        let place : left ≡ past (run_len is_id_continue (chars rest)) rest = stops_here is_continue_byte is_id_continue continue_part rest rest end inner refl counted left refl next.1.1 in
+        let unmarked : next_is is_prefix_mark (drop (run_len is_id_continue (chars rest)) (chars rest)) ≡ false =
+        sym (ap (next_is is_prefix_mark) (ap chars place ∙ chars-past (run_len is_id_continue (chars rest)) rest inner)) ∙ next.1.0 in
+        by_family Word b rest _ (ap (λ (t : Bool). let k : TokenKind = if t then UnknownPrefix else Ident in (k, left)) (sym next.1.0) ∙ (ident-valid rest left inner place next.0 ∙ sym (scanned-same (word b) ident rest (word-plain b (chars rest) unmarked)))) family
+
+pub space_first : (text : List ℕ) (b : ℕ) (rest : List ℕ) (end : ℕ) → IsUtf8 text → text ≡ b ∷ rest → b < 128 → Space ≡ family_of b → end ≡ prefix_len is_space_byte rest → not (next_is is_space_lead (drop end rest)) ≡ true
+    → IsFirstToken text record { kind = Whitespace; len = 1 + end }
+space_first text b rest end is e small family counted ends = first text b rest Whitespace end is e small (omega (arith, prefix_len-le-length is_space_byte rest)) told
+  where
+    told : IsUtf8 rest → (Whitespace, drop end rest) ≡ scanned (past_first b) rest
+    told inner = by_family Space b rest _ (ap (λ xs. (Whitespace, xs)) (space_stops_here rest rest end inner refl counted (drop end rest) refl (not-true _ ends))) family
+
+pub symbol_first : (text : List ℕ) (b : ℕ) (rest : List ℕ) (kind : TokenKind) → IsUtf8 text → text ≡ b ∷ rest → b < 128 → Symbol ≡ family_of b → kind ≡ symbol_kind b → IsFirstToken text record { kind = kind; len = 1 }
+symbol_first text b rest kind is e small family same = first text b rest kind 0 is e small (omega arith) told
+  where
+    told : IsUtf8 rest → (kind, rest) ≡ scanned (past_first b) rest
+    told inner = by_family Symbol b rest _ (ap (λ (k : TokenKind). (k, rest)) same ∙ sym (scanned-gives (symbol_kind b) rest inner)) family
+
+-- an identifier, by the byte after it
+pub ident_ends : (tail rest bytes : List ℕ) → IsUtf8 tail → IsUtf8 rest → rest ≡ past (run_len is_id_continue (chars tail)) tail → bytes ≡ rest → not (next_is turns_word bytes) ≡ true → (Ident, rest) ≡ scanned ident tail
+ident_ends tail rest bytes is whole place read ends =
+    let next = turned-emoji rest whole (sym (ap (next_is turns_word) read) ∙ not-true _ ends) in
+    ap (λ (t : Bool). let k : TokenKind = if t then UnknownPrefix else Ident in (k, rest)) (sym next.1.0) ∙ ident-valid tail rest is place next.0

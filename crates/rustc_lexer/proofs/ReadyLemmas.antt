@@ -1,0 +1,100 @@
+-- An edit: what lexing from the kept front asks, and what it leaves.
+use Rattle.std.proofs.Common.{◌≡◌, ℕ, ◌+◌, ◌-◌, ◌<◌, ◌≤◌, ◌^◌, true, List, ◌++◌, length, take, drop, refl, sym, ap, ◌∙◌, subst, arith, length-take, length-take-le, length-append, append_assoc, IsUtf8}
+use Rattle.rustc_lexer.specs.declared.relex.edit.Relexed.{Relexed}
+use Rattle.rustc_lexer.specs.declared.relex.front.Bound.{Bound}
+use Rattle.rustc_lexer.specs.declared.relex.front.Damage.{Damage}
+use Rattle.rustc_lexer.specs.declared.token.Token.{Token}
+use Rattle.rustc_lexer.specs.Texts.{IsText, IsGrammar}
+use Rattle.rustc_lexer.specs.Cuts.{bound, tokens_by}
+use Rattle.rustc_lexer.specs.Edits.{apply, IsEdit, IsReady, AreCuts, front, ends_past, meet, IsMet, relexed_of}
+use Rattle.rustc_lexer.specs.Settled.{has_two}
+use Rattle.rustc_lexer.proofs.CutLemmas.{at_bound}
+use Rattle.rustc_lexer.proofs.BoundLemmas.{bound_mono, rises, ends_past-at, bound-last}
+use Rattle.rustc_lexer.proofs.EditLemmas.{IsEdited, edited, start_inside, kept_same, met_whole, has_two-before}
+use Rattle.std.proofs.lemmas.Str.{IsCharBoundary-from_drop}
+
+-- what an edit does to the text
+abbrev pub damage_of : ℕ → ℕ → List ℕ → Damage
+damage_of start stop insert = record { past = start + length insert; added = length insert; removed = stop - start }
+
+module _ {first : List ℕ → Token} (law : IsGrammar first) (text : List ℕ) (is : IsText text) where
+  pub cuts : AreCuts text (tokens_by first text)
+  cuts k few = let cut = at_bound law k text is in (cut.inside, IsCharBoundary-from_drop text _ cut.inside cut.past.utf8)
+
+  pub bounds_fit : (k : ℕ) → k ≤ length (tokens_by first text) → bound (tokens_by first text) k < 2 ^ 32
+  bounds_fit k few = omega (arith, (cuts k few).0, is.fits)
+
+  module _ (start stop : ℕ) (insert new : List ℕ) (edit : IsEdit text start stop insert) (ed : IsEdited text start stop insert new) where
+    -- what lexing from the kept front asks
+    pub ready : (kept : Bound) → kept.number ≤ length (tokens_by first text) → kept.place ≡ bound (tokens_by first text) kept.number → (0 < kept.number → has_two text kept.place start ≡ true) → IsReady first (tokens_by first text) new kept (damage_of start stop insert)
+    ready kept few at two =
+        let two_past : 0 < kept.number → has_two text (bound (tokens_by first text) kept.number) start ≡ true = λ some. subst (λ p. has_two text p start ≡ true) at (two some) in
+        let same : take kept.number (tokens_by first new) ≡ take kept.number (tokens_by first text) = kept_same law text start stop insert new is edit ed kept.number few two_past in
+        let long : length (take kept.number (tokens_by first new)) ≡ length (take kept.number (tokens_by first text)) = ap length same in
+        let a = edit.inside.start_le_stop in
+        let b = edit.inside.stop_inside in
+        let f = is.fits in
+        let l = ed.len in
+        record {
+          text_fits = ed.text_is.fits;
+          old_fits = bounds_fit;
+          kept_number = few;
+          kept_place = at;
+          kept_same = sym same;
+          kept_new = omega (arith, length-take kept.number (tokens_by first new), length-take kept.number (tokens_by first text));
+          kept_before = λ k less. omega (arith, bound_mono (tokens_by first text) k kept.number (omega arith), has_two-before text (bound (tokens_by first text) kept.number) start (two_past (omega arith)));
+          added_le = omega arith;
+          past_inside = start_inside law text start stop insert new is edit ed;
+          removed_fits = omega arith;
+          end_meets = omega (arith, bound-last law text is);
+        }
+
+    -- what it leaves: the new tokens are whole, and the counts are those of the edit
+    pub whole : (items : List Token) (number kept : ℕ) → IsMet first (tokens_by first text) new (start + length insert) (length insert) (stop - start) kept items number → items ++ drop number (tokens_by first text) ≡ tokens_by first new
+    whole items number kept met =
+        ap (λ ts. ts ++ drop number (tokens_by first text)) met.items_are ∙
+        met_whole law text start stop insert new is edit ed (length items) number met.past_edit met.same_place
+
+pub counts : {first : List ℕ → Token} (law : IsGrammar first) (text : List ℕ) (is : IsText text) (start stop : ℕ) (insert : List ℕ) (items : List Token) (number kept : ℕ) → kept ≡ front text (tokens_by first text) start → IsMet first (tokens_by first text) (apply text start stop insert) (start + length insert) (length insert) (stop - start) kept items number → relexed_of first text start stop insert ≡ record { kept_front = kept; lexed = length items - kept; kept_back = length (tokens_by first text) - number }
+unfolding relexed_of
+counts {first} law text is start stop insert items number kept kept_is met =
+    let old : List Token = tokens_by first text in
+    let new : List Token = tokens_by first (apply text start stop insert) in
+    let least : meet old new (start + length insert) (length insert) (stop - start) (front text old start) ≡ length items = ap (meet old new (start + length insert) (length insert) (stop - start)) (sym kept_is) ∙ sym met.least in
+    let back : ends_past old (bound new (length items) - length insert + (stop - start)) ≡ length old - number = ap (ends_past old) (sym met.same_place) ∙ ends_past-at old number met.number_bound (rises law text is) in
+    rw (least, ← kept_is, back) refl
+
+-- the same, for a list and a text that are known by equations
+module _ {first : List ℕ → Token} (law : IsGrammar first) (text : List ℕ) (is : IsText text) (start stop : ℕ) (insert : List ℕ) (its : IsUtf8 insert) (edit : IsEdit text start stop insert) where
+  pub ready_for : (old : List Token) (new : List ℕ) (kept : Bound) → old ≡ tokens_by first text → new ≡ apply text start stop insert → kept.number ≤ length old → kept.place ≡ bound old kept.number → (0 < kept.number → has_two text kept.place start ≡ true) → IsReady first old new kept (damage_of start stop insert)
+  ready_for old new kept e f few at two =
+      let few' : kept.number ≤ length (tokens_by first text) = rw e at few in
+      let at' : kept.place ≡ bound (tokens_by first text) kept.number = at ∙ ap (λ ts. bound ts kept.number) e in
+      rw (e, f) (ready law text is start stop insert (apply text start stop insert) edit (edited text start stop insert is its edit) kept few' at' two)
+
+  pub cuts_for : (old : List Token) → old ≡ tokens_by first text → AreCuts text old
+  cuts_for old e = rw e (cuts law text is)
+
+  pub whole_for : (old : List Token) (new : List ℕ) (items : List Token) (number kept : ℕ) → old ≡ tokens_by first text → new ≡ apply text start stop insert → IsMet first old new (start + length insert) (length insert) (stop - start) kept items number → items ++ drop number old ≡ tokens_by first (apply text start stop insert)
+  whole_for old new items number kept e f met =
+      let met' : IsMet first (tokens_by first text) (apply text start stop insert) (start + length insert) (length insert) (stop - start) kept items number = rw (e, f) at met in
+      rw e (whole law text is start stop insert (apply text start stop insert) edit (edited text start stop insert is its edit) items number kept met')
+
+  pub counts_for : (old : List Token) (new : List ℕ) (items : List Token) (number kept : ℕ) → old ≡ tokens_by first text → new ≡ apply text start stop insert → kept ≡ front text old start → IsMet first old new (start + length insert) (length insert) (stop - start) kept items number → relexed_of first text start stop insert ≡ record { kept_front = kept; lexed = length items - kept; kept_back = length old - number }
+  counts_for old new items number kept e f k met =
+      let met' : IsMet first (tokens_by first text) (apply text start stop insert) (start + length insert) (length insert) (stop - start) kept items number = rw (e, f) at met in
+      let k' : kept ≡ front text (tokens_by first text) start = k ∙ ap (λ ts. front text ts start) e in
+      rw e (counts law text is start stop insert items number kept k' met')
+
+  pub lexed_for : (old : List Token) (new : List ℕ) (kept : ℕ) → old ≡ tokens_by first text → new ≡ apply text start stop insert → kept ≡ front text old start → (relexed_of first text start stop insert).lexed ≡ meet old (tokens_by first new) (start + length insert) (length insert) (stop - start) kept - kept
+  unfolding relexed_of
+  lexed_for old new kept e f k = rw (k, e, f) refl
+
+  -- the kept front, what was lexed, and the kept back
+  pub put_together : (old : List Token) (new : List ℕ) (lexed : List Token) (number kept : ℕ) → old ≡ tokens_by first text → new ≡ apply text start stop insert → IsMet first old new (start + length insert) (length insert) (stop - start) kept (take kept old ++ lexed) number → take kept old ++ (lexed ++ drop number old) ≡ tokens_by first (apply text start stop insert)
+  put_together old new lexed number kept e f met = sym (append_assoc (take kept old) lexed (drop number old)) ∙ whole_for old new (take kept old ++ lexed) number kept e f met
+
+  pub counted : (old : List Token) (new : List ℕ) (lexed : List Token) (number kept : ℕ) → old ≡ tokens_by first text → new ≡ apply text start stop insert → kept ≤ length old → kept ≡ front text old start → IsMet first old new (start + length insert) (length insert) (stop - start) kept (take kept old ++ lexed) number → relexed_of first text start stop insert ≡ record { kept_front = kept; lexed = length lexed; kept_back = length old - number }
+  counted old new lexed number kept e f few k met =
+      let long : length (take kept old ++ lexed) - kept ≡ length lexed = omega (arith, length-append (take kept old) lexed, length-take-le kept old few) in
+      counts_for old new (take kept old ++ lexed) number kept e f k met ∙ ap (λ (n : ℕ). let r : Relexed = record { kept_front = kept; lexed = n; kept_back = length old - number } in r) long

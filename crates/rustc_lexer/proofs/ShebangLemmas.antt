@@ -1,0 +1,123 @@
+-- Shebang lines: the front of a text, and its first line.
+use Rattle.std.proofs.Common.{◌≡◌, ◌≢◌, ℕ, suc, ◌+◌, ◌-◌, ◌<◌, ◌≤◌, ◌==◌, ◌&&◌, Bool, true, false, true≢false, if◌then◌else◌, List, [], ◌∷◌, length, drop, get_or, codes, length-drop, refl, sym, ap, ◌∙◌, arith, ◌⊎◌, inl, inr, Option, Some, None}
+use Rattle.std.proofs.Math.Seq.{drop-cons}
+use Rattle.std.proofs.lemmas.Bool.{and_parts, cases_lt, eqb-true, eq-eqb, ne_eqb}
+use Rattle.std.proofs.lemmas.List.Sums.{prefix_len-le-length, prefix_len_passes, prefix_len_stops}
+use Rattle.rustc_lexer.specs.declared.token.FrontmatterAllowed.TheVariants.{No}
+use Rattle.rustc_lexer.specs.Comment.{is_no_newline}
+use Rattle.rustc_lexer.specs.Scan.{begins}
+use Rattle.rustc_lexer.specs.Shebang.{is_attribute, before_newline, line_len, shebang_past, shebang}
+use Rattle.rustc_lexer.specs.Tokens.{tokens_of}
+
+-- what begins with `#!`
+front-is : (s : List ℕ) → begins (codes "#!") s ≡ true → s ≡ 35 ∷ 33 ∷ drop 2 s
+front-is [] e = absurd (true≢false (sym e))
+front-is (c ∷ []) e = absurd (true≢false (sym (and_parts (c == 35) false e).1))
+front-is (c ∷ d ∷ s) e =
+    let parts = and_parts (c == 35) ((d == 33) && true) e in
+    ap (λ (x : ℕ). x ∷ d ∷ s) (eqb-true c 35 parts.0) ∙ ap (λ (x : ℕ). 35 ∷ x ∷ s) (eqb-true d 33 (and_parts (d == 33) true parts.1).0)
+
+pub no_shebang : (s : List ℕ) → ((rest : List ℕ) → s ≢ 35 ∷ 33 ∷ rest) → None ≡ shebang s
+unfolding shebang
+no_shebang s lacks = by_front (begins (codes "#!") s) refl
+  where
+    by_front : (b : Bool) → begins (codes "#!") s ≡ b → None ≡ (if begins (codes "#!") s then shebang_past (drop 2 s) else None)
+    by_front true e = absurd (lacks (drop 2 s) (front-is s e))
+    by_front false e = ap (λ (b : Bool). if b then shebang_past (drop 2 s) else None) (sym e)
+
+module _ (s tail : List ℕ) (n : ℕ) (two : n ≡ 2) (front : s ≡ 35 ∷ 33 ∷ drop n s) (cut : tail ≡ drop n s) where
+  past_front : shebang s ≡ shebang_past tail
+  unfolding shebang
+  past_front =
+      ap (λ (b : Bool). if b then shebang_past (drop 2 s) else None) (ap (begins (codes "#!")) front)
+      ∙ ap shebang_past (sym (cut ∙ ap (λ (k : ℕ). drop k s) two))
+
+  pub attribute_here : is_attribute (tokens_of No tail) ≡ true → None ≡ shebang s
+  attribute_here e = sym (past_front ∙ ap (λ (b : Bool). let r : Option ℕ = if b then None else Some (2 + line_len tail) in r) e)
+
+  pub line_here : (len : ℕ) → is_attribute (tokens_of No tail) ≡ false → len ≡ line_len tail → Some (2 + len) ≡ shebang s
+  line_here len e f = ap (λ (k : ℕ). Some (2 + k)) f ∙ sym (past_front ∙ ap (λ (b : Bool). let r : Option ℕ = if b then None else Some (2 + line_len tail) in r) e)
+
+-- the first line of a text
+module _ (text : List ℕ) where
+  abbrev line_to : ℕ → ℕ
+  line_to n = if begins (codes "\r\n") (drop (n - 1) text) then n - 1 else n
+
+  newline-stops : (k : ℕ) → get_or text k 0 ≡ 10 → is_no_newline (get_or text k 0) ≡ false
+  newline-stops k e = rw e refl
+
+  stop-newline : (k : ℕ) → is_no_newline (get_or text k 0) ≡ false → get_or text k 0 ≡ 10
+  stop-newline k e = by_test (get_or text k 0 == 10) refl
+    where
+      by_test : (b : Bool) → (get_or text k 0 == 10) ≡ b → get_or text k 0 ≡ 10
+      by_test true f = eqb-true (get_or text k 0) 10 f
+      by_test false f = absurd (true≢false (sym (rw f refl) ∙ e))
+
+  -- no newline
+  pub no_newline : ((i : ℕ) → i < length text → get_or text i 0 ≢ 10) → length text ≡ line_len text
+  no_newline none = by_end (cases_lt (before_newline text) (length text))
+    where
+      whole : before_newline text ≡ length text → length text ≡ line_len text
+      whole e = by_test (begins (codes "\r\n") (drop (length text - 1) text)) refl ∙ sym (ap line_to e)
+        where
+          short : (s : List ℕ) → length s ≤ 1 → begins (codes "\r\n") s ≡ false
+          short [] le = refl
+          short (c ∷ []) le = elim (c == 13) as (λ (b : Bool). b && false ≡ false) [ true ↦ refl | false ↦ refl ]
+          short (c ∷ d ∷ s) le = absurd (omega arith)
+
+          by_test : (b : Bool) → begins (codes "\r\n") (drop (length text - 1) text) ≡ b → length text ≡ line_to (length text)
+          by_test true f = absurd (true≢false (sym f ∙ short (drop (length text - 1) text) (omega (arith, length-drop (length text - 1) text))))
+          by_test false f = ap (λ (b : Bool). if b then length text - 1 else length text) (sym f)
+
+      by_end : (before_newline text < length text) ⊎ (length text ≤ before_newline text) → length text ≡ line_len text
+      by_end (inl less) = absurd (none (before_newline text) less (stop-newline (before_newline text) (prefix_len_stops is_no_newline text 0 less)))
+      by_end (inr more) = whole (let le = prefix_len-le-length is_no_newline text in omega arith)
+
+  -- the first newline stands at k
+  module _ (k : ℕ) (inside : k < length text) (newline : get_or text k 0 ≡ 10) (first : (i : ℕ) → i < k → get_or text i 0 ≢ 10) where
+    place : before_newline text ≡ k
+    place = elim (cases_lt (before_newline text) k) [
+      | inl less ↦ absurd (first (before_newline text) less (stop-newline (before_newline text) (prefix_len_stops is_no_newline text 0 (omega arith))))
+      | inr more ↦ elim (cases_lt k (before_newline text)) [
+        | inl less ↦ absurd (true≢false (sym (prefix_len_passes is_no_newline text k 0 less) ∙ newline-stops k newline))
+        | inr same ↦ omega arith
+      ]
+    ]
+
+    line_is : line_len text ≡ line_to k
+    line_is = ap line_to place
+
+    -- what stands before it
+    two : (j : ℕ) → k ≡ suc j → begins (codes "\r\n") (drop (k - 1) text) ≡ (get_or text (k - 1) 0 == 13)
+    two j e =
+        let before : k - 1 ≡ j = omega arith in
+        let at_j : drop j text ≡ get_or text j 0 ∷ drop (suc j) text = drop-cons text j 0 (omega arith) in
+        let at_k : drop (suc j) text ≡ get_or text (suc j) 0 ∷ drop (suc (suc j)) text = drop-cons text (suc j) 0 (omega arith) in
+        let ten : get_or text (suc j) 0 ≡ 10 = ap (λ (i : ℕ). get_or text i 0) (sym e) ∙ newline in
+        let reads : drop j text ≡ get_or text j 0 ∷ 10 ∷ drop (suc (suc j)) text =
+        at_j ∙ ap (λ (xs : List ℕ). get_or text j 0 ∷ xs) (at_k ∙ ap (λ (x : ℕ). x ∷ drop (suc (suc j)) text) ten) in
+        ap (λ (i : ℕ). begins (codes "\r\n") (drop i text)) before
+        ∙ (ap (begins (codes "\r\n")) reads
+        ∙ (and-true (get_or text j 0 == 13) ∙ ap (λ (i : ℕ). get_or text i 0 == 13) (sym before)))
+      where
+        and-true : (b : Bool) → b && true ≡ b
+        and-true true = refl
+        and-true false = refl
+
+    front : k ≡ 0 → begins (codes "\r\n") (drop (k - 1) text) ≡ false
+    front e =
+        let none : k - 1 ≡ 0 = omega arith in
+        ap (λ (i : ℕ). begins (codes "\r\n") (drop i text)) none ∙ by_front text (ap (λ (i : ℕ). get_or text i 0) (sym e) ∙ newline)
+      where
+        by_front : (s : List ℕ) → get_or s 0 0 ≡ 10 → begins (codes "\r\n") (drop 0 s) ≡ false
+        by_front [] f = refl
+        by_front (c ∷ s) f = rw f refl
+
+    pub with_return : 0 < k → get_or text (k - 1) 0 ≡ 13 → k - 1 ≡ line_len text
+    with_return some e = sym (line_is ∙ ap (λ (b : Bool). if b then k - 1 else k) (two (k - 1) (omega arith) ∙ eq-eqb (get_or text (k - 1) 0) 13 e))
+
+    pub without_return : 0 < k → get_or text (k - 1) 0 ≢ 13 → k ≡ line_len text
+    without_return some e = sym (line_is ∙ ap (λ (b : Bool). if b then k - 1 else k) (two (k - 1) (omega arith) ∙ ne_eqb (get_or text (k - 1) 0) 13 e))
+
+    pub at_front : k ≡ 0 → k ≡ line_len text
+    at_front e = sym (line_is ∙ ap (λ (b : Bool). if b then k - 1 else k) (front e))

@@ -1,0 +1,16 @@
+use Rattle.std.proofs.Common.{sym, ◌∙◌}
+use Rattle.rustc_lexer.specs.Classes.{is_id_start}
+use Rattle.rustc_lexer.specs.Frontmatter.{is_infostring}
+use Rattle.rustc_lexer.proofs.FrontmatterLemmas.{infostring-yes, infostring-no}
+use Rattle.rustc_lexer.proofs.ScanLemmas.{next_is-cons, next_is-nil}
+use Rattle.rustc_lexer.proofs.frontmatter.eat_infostring.Goals as goal
+
+pub returns-in_default-clause-past : goal.returns-in_default-clause-past
+returns-in_default-clause-past c = infostring-no _ c.utf8.rest (next_is-nil is_id_start _ c.in_default.ensures)
+
+pub returns-then-not-is_id_start-clause-past : goal.returns-then-not-is_id_start-clause-past
+returns-then-not-is_id_start-clause-past c = infostring-no _ c.utf8.rest (next_is-cons is_id_start _ _ _ c.in-Some.ensures.0 ∙ sym c.if-not-is_id_start.ensures)
+
+pub returns-clause-past : goal.returns-clause-past
+returns-clause-past c =
+    infostring-yes _ c.utf8.rest _ _ (next_is-cons is_id_start _ _ _ c.in-Some.ensures.0 ∙ sym c.if-not-is_id_start.ensures) c.in-Some.ensures.1 (c.eat_while.ensures.past is_infostring (λ d b e. e))

@@ -1,0 +1,19 @@
+use Rattle.std.proofs.Common.{◌∙◌, sym, arith}
+use Rattle.std.proofs.lemmas.Bool.{eq-eqb}
+use Rattle.rustc_lexer.proofs.FenceLemmas.{alone_past_end, alone_or_not}
+use Rattle.rustc_lexer.proofs.frontmatter.stands_alone.Goals as goal
+use Rattle.rustc_lexer.proofs.frontmatter.stands_alone.Goals.{then-blanks-test+else-is_horizontal_whitespace, else-blanks-test}
+
+pub returns-then-start-end : goal.returns-then-start-end
+returns-then-start-end c =
+    let at = c.blanks.invariant in
+    eq-eqb _ _ c.if-start-end.true ∙ alone_past_end c.args.end c.args.place c.blanks.start c.args.rest.now c.requires.inside at.before at.line at.blank c.if-start-end.true
+
+pub returns-else-start-end : goal.returns-else-start-end
+returns-else-start-end c =
+    let at = c.blanks.invariant in
+    elim c.blanks-test.branch [
+      | then-blanks-test+else-is_horizontal_whitespace w ↦ c.follows_newline.ensures
+          ∙ alone_or_not c.args.end c.args.place c.blanks.start c.args.rest.now c.requires.inside at.before at.line at.blank (omega arith) (sym w.is_horizontal_whitespace.ensures ∙ w.if-is_horizontal_whitespace.false)
+      | else-blanks-test w ↦ absurd (c.if-start-end.false (omega arith))
+    ]

@@ -1,0 +1,12 @@
+use Rattle.std.proofs.Common.{sym, ap, ◌∙◌, arith}
+use lib.Count.{count_trailing_zeros}
+use Rattle.rustc_lexer.proofs.KernelLemmas.{run_bound, run_stops}
+use Rattle.rustc_lexer.proofs.kernels.run_end.Goals as goal
+
+pub returns-clause-value : goal.returns-clause-value
+returns-clause-value g c = sym (run_stops g.C.ByteClass.passes c.args.bytes.now 0 32 (omega arith) (omega arith) (omega (arith, c.stops-stops.ensures)) ∙ ap (count_trailing_zeros 64) (sym c.stops-stops.ensures))
+
+pub returns-clause-bound : goal.returns-clause-bound
+returns-clause-bound g c =
+    let run = run_stops g.C.ByteClass.passes c.args.bytes.now 0 32 (omega arith) (omega arith) (omega (arith, c.stops-stops.ensures)) ∙ ap (count_trailing_zeros 64) (sym c.stops-stops.ensures) in
+    omega (arith, run, run_bound g.C.ByteClass.passes c.args.bytes.now 0 (omega arith))

@@ -1,0 +1,12 @@
+use Rattle.std.proofs.Common.{◌≡◌, ◌+◌, ◌-◌, ◌≤◌, length, drop}
+use Rattle.std.specs.List.{prefix_len}
+use Rattle.rustc_lexer.proofs.kernels.run_end_by_lanes.Given as goal
+
+abbrev pub invariant-lanes : goal.invariant-lanes
+invariant-lanes g l = record {
+  run : prefix_len g.C.ByteClass.passes l.bytes ≡ l.end + prefix_len g.C.ByteClass.passes (drop l.end l.bytes);
+  inside : l.end ≤ length l.bytes;
+}
+
+abbrev pub decreases-lanes : goal.decreases-lanes
+decreases-lanes g l = length l.bytes - l.end

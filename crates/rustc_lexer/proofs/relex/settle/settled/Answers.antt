@@ -1,0 +1,18 @@
+use Rattle.rustc_lexer.specs.declared.token.FrontmatterAllowed.TheVariants.{No}
+use Rattle.rustc_lexer.specs.Cuts.{tokens_by}
+use Rattle.rustc_lexer.specs.Lexeme.{first_token}
+use Rattle.rustc_lexer.specs.Lookahead.{first_token_grammar}
+use Rattle.rustc_lexer.specs.Tokens.{tokens_of}
+use Rattle.rustc_lexer.proofs.SettledLemmas.{same-local, same-stays, stays, local}
+use Rattle.rustc_lexer.specs.CutLaws.{tokens-by}
+use Rattle.rustc_lexer.proofs.relex.settle.settled.Goals as goal
+
+pub returns-clause-settled : goal.returns-clause-settled
+returns-clause-settled c = rw (tokens-by c.args.text.now) c.settled_by.ensures
+
+pub returns-clause-stays : goal.returns-clause-stays
+returns-clause-stays c =
+    same-stays (tokens_of No) (tokens_by first_token) tokens-by _ _ (stays first_token_grammar c.args.text.now record { utf8 = c.utf8.text; fits = c.requires.fits } _ c.settled_by.ensures)
+
+pub returns-clause-local : goal.returns-clause-local
+returns-clause-local c = same-local (tokens_of No) (tokens_by first_token) tokens-by (local first_token_grammar)

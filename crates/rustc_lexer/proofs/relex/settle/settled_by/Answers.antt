@@ -1,0 +1,38 @@
+use Rattle.std.proofs.Common.{sym, ◌∙◌, refl}
+use Rattle.rustc_lexer.specs.Texts.{IsText}
+use Rattle.rustc_lexer.proofs.ProgressLemmas.{lexed_place, stepped}
+use Rattle.rustc_lexer.proofs.SettledLemmas.{sure_start, sure_next, sure_end, sure_stop, next_boundary}
+use Rattle.rustc_lexer.proofs.relex.settle.settled_by.Goals as goal
+
+pub loop-place-init : goal.loop-place-init
+loop-place-init g c = (sure_start (g.S.Stepper.law c.args.stepper.now) _ record { utf8 = c.utf8.text; fits = c.requires.fits }, refl)
+
+pub range_from-requires : goal.range_from-requires
+range_from-requires g c =
+    let is : IsText c.args.text.now = record { utf8 = c.utf8.text; fits = c.requires.fits } in
+    λ some. (lexed_place (g.S.Stepper.law c.args.stepper.now) _ _ _ is c.loop-place.invariant.0.to).boundary
+
+pub two_stand-requires-clause-from_boundary : goal.two_stand-requires-clause-from_boundary
+two_stand-requires-clause-from_boundary g c =
+    let is : IsText c.args.text.now = record { utf8 = c.utf8.text; fits = c.requires.fits } in
+    let token = stepped c.args.text.now c.loop-place.place c.step-token.ensures.token c.loop-place.invariant.1 c.range_from.ensures.value in
+    (next_boundary (g.S.Stepper.law c.args.stepper.now) c.args.text.now is c.loop-place.place _ c.loop-place.invariant.0 c.loop-place-test.true token).1
+
+pub loop-place-preserved : goal.loop-place-preserved
+loop-place-preserved g c =
+    let is : IsText c.args.text.now = record { utf8 = c.utf8.text; fits = c.requires.fits } in
+    let token = stepped c.args.text.now c.loop-place.place c.step-token.ensures.token c.loop-place.invariant.1 c.range_from.ensures.value in (
+      sure_next (g.S.Stepper.law c.args.stepper.now) c.args.text.now is c.loop-place.place _ _ c.loop-place.invariant.0 c.loop-place-test.true token refl (sym c.two_stand.ensures ∙ c.if-not-two_stand.false),
+      c.step-token.ensures.grammar ∙ c.loop-place.invariant.1,
+    )
+
+pub returns-after-loop-place : goal.returns-after-loop-place
+returns-after-loop-place g c =
+    let is : IsText c.args.text.now = record { utf8 = c.utf8.text; fits = c.requires.fits } in
+    sure_end (g.S.Stepper.law c.args.stepper.now) c.args.text.now is c.loop-place.place c.loop-place.invariant.0 c.loop-place-test.false
+
+pub returns-then-not-two_stand : goal.returns-then-not-two_stand
+returns-then-not-two_stand g c =
+    let is : IsText c.args.text.now = record { utf8 = c.utf8.text; fits = c.requires.fits } in
+    let token = stepped c.args.text.now c.loop-place.place c.step-token.ensures.token c.loop-place.invariant.1 c.range_from.ensures.value in
+    sure_stop (g.S.Stepper.law c.args.stepper.now) c.args.text.now is c.loop-place.place _ _ c.loop-place.invariant.0 c.loop-place-test.true token refl (sym c.two_stand.ensures ∙ c.if-not-two_stand.true)

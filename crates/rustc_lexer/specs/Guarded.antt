@@ -1,0 +1,36 @@
+-- Guarded strings: a string with hashes on both sides.
+use Rattle.std.specs.Prelude.{ℕ, suc, ◌+◌, min, Bool, if◌then◌else◌, List, drop, Option, Some, None}
+use Rattle.std.specs.Str.{chars}
+use Rattle.rustc_lexer.specs.declared.token.GuardedStr.{GuardedStr}
+use Rattle.rustc_lexer.specs.Literal.{suffix_len}
+use Rattle.rustc_lexer.specs.Quoted.{double_quoted}
+use Rattle.rustc_lexer.specs.Raw.{hashes, is_quote}
+use Rattle.rustc_lexer.specs.Scan.{bytes_of, next_is}
+use Rattle.rustc_lexer.specs.State.{State}
+
+-- what follows the closing quote: n hashes at most, and a suffix
+abbrev pub closing_len : ℕ → List ℕ → ℕ
+closing_len n s = min n (hashes s) + suffix_len (drop (min n (hashes s)) s)
+
+-- what follows the opening quote: whether a quote closes it, and how much it takes; with no such quote all is taken
+abbrev pub guarded_body : ℕ → List ℕ → Bool × ℕ
+guarded_body n u = ((double_quoted u).0, (double_quoted u).1 + (if (double_quoted u).0 then closing_len n (drop (double_quoted u).1 u) else 0))
+
+-- what follows the n hashes at the front: where a quote is next, whether the string is closed, and how many bytes it
+-- takes with its hashes
+abbrev pub string_past : ℕ → List ℕ → Option (Bool × ℕ)
+string_past n cs =
+    let body : Bool × ℕ = guarded_body n (drop (suc n) cs) in
+    if next_is is_quote (drop n cs) then Some (body.0, bytes_of (suc n + body.1) cs) else None
+
+-- with no string the n hashes are pending; a string counts what is pending, and then nothing is
+abbrev pub guarded_by : ℕ → Option (Bool × ℕ) → State → Option GuardedStr × State
+guarded_by n None s = (None, record { pending = s.pending + n; rest = drop n s.rest; frontmatter_allowed = s.frontmatter_allowed })
+guarded_by n (Some string) s = (
+  Some record { n_hashes = n; terminated = string.0; token_len = s.pending + string.1 },
+  record { pending = 0; rest = drop string.1 s.rest; frontmatter_allowed = s.frontmatter_allowed },
+)
+
+-- the guarded string at the front of a state, if one stands there, and the state after it
+unfoldable pub guarded : State → Option GuardedStr × State
+guarded s = guarded_by (hashes (chars s.rest)) (string_past (hashes (chars s.rest)) (chars s.rest)) s

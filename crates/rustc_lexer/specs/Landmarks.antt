@@ -1,0 +1,27 @@
+-- Bounds of a list of tokens that are remembered, and what becomes of them in an edit.
+use Rattle.std.specs.Prelude.{◌≡◌, ◌+◌, ◌<◌, ◌≤◌, ◌^◌, List, length, take, drop}
+use Rattle.std.specs.List.{All}
+use Rattle.rustc_lexer.specs.declared.relex.front.Bound.{Bound}
+use Rattle.rustc_lexer.specs.declared.relex.landmarks.Landmarks.{Landmarks}
+use Rattle.rustc_lexer.specs.declared.token.Token.{Token}
+use Rattle.rustc_lexer.specs.Cuts.{bound}
+
+-- the number and the place are those of a bound of the tokens
+abbrev pub IsBound : List Token → Bound → Type 0
+IsBound tokens at = (at.number ≤ length tokens) × (at.place ≡ bound tokens at.number)
+
+abbrev pub AreBounds : List Token → Landmarks → Type 0
+AreBounds tokens landmarks = All (IsBound tokens) landmarks.bounds
+
+-- the tokens up to the bound `kept` stay, and so do those from `met` on, which is the bound `now` of the new tokens
+pub record IsReplaced (old new : List Token) (kept met now : Bound) : Type 0 where
+  pub kept_bound : IsBound old kept
+  pub met_bound : IsBound old met
+  pub now_bound : IsBound new now
+  pub kept_le : kept.number ≤ now.number
+  pub front : take kept.number new ≡ take kept.number old
+  pub back : drop now.number new ≡ drop met.number old
+
+-- a bound at or past `met` can be moved to where `now` is
+abbrev pub IsMovable : Bound → Bound → Bound → Type 0
+IsMovable met now at = met.number ≤ at.number → (met.place ≤ at.place) × (at.number + now.number < 2 ^ 64) × (at.place + now.place < 2 ^ 64)

@@ -1,0 +1,23 @@
+-- What bytes say of a token.
+use Rattle.std.specs.Prelude.{ℕ, Bool, List, ◌≡◌, ◌≤◌, ◌||◌, ◌==◌, length}
+use Rattle.std.specs.Str.{IsCharBoundary}
+use Rattle.rustc_lexer.specs.declared.token.Token.{Token}
+use Rattle.rustc_lexer.specs.ByteRuns.{is_wide}
+use Rattle.rustc_lexer.specs.Ident.{is_prefix_mark}
+use Rattle.rustc_lexer.specs.Lexeme.{first_token}
+use Rattle.rustc_lexer.specs.State.{HasSuffixWithin}
+
+-- the token is the first of the text, and may be taken off it
+pub record IsFirstToken (text : List ℕ) (t : Token) : Type 0 where
+  pub token : t ≡ first_token text
+  pub inside : t.len ≤ length text
+  pub boundary : IsCharBoundary text t.len
+  pub suffix : HasSuffixWithin t
+
+-- after one of these bytes a word may be no identifier, or may go on
+abbrev pub turns_word : ℕ → Bool
+turns_word b = is_wide b || is_prefix_mark b
+
+-- the bytes that white space outside ASCII begins with
+abbrev pub is_space_lead : ℕ → Bool
+is_space_lead b = (b == 0xC2) || (b == 0xE2)

@@ -1,0 +1,42 @@
+-- The shebang line that a document may begin with.
+use Rattle.std.specs.Prelude.{ℕ, ◌+◌, ◌-◌, Bool, true, false, if◌then◌else◌, List, [], ◌∷◌, drop, codes, Option, Some, None}
+use Rattle.std.specs.List.{prefix_len}
+use Rattle.rustc_lexer.specs.declared.token.FrontmatterAllowed.TheVariants.{No}
+use Rattle.rustc_lexer.specs.declared.token.Token.{Token}
+use Rattle.rustc_lexer.specs.declared.token.TokenKind.{TokenKind}
+use Rattle.rustc_lexer.specs.declared.token.TokenKind.TheVariants.{LineComment, BlockComment, Whitespace, OpenBracket}
+use Rattle.rustc_lexer.specs.Comment.{is_no_newline}
+use Rattle.rustc_lexer.specs.Scan.{begins}
+use Rattle.rustc_lexer.specs.Tokens.{tokens_of}
+
+-- white space, and comments that are no docs
+abbrev pub is_passed : TokenKind → Bool
+is_passed Whitespace = true
+is_passed (LineComment None) = true
+is_passed (BlockComment None terminated) = true
+is_passed kind = false
+
+abbrev pub is_open_bracket : TokenKind → Bool
+is_open_bracket OpenBracket = true
+is_open_bracket kind = false
+
+-- an attribute goes on after its `#!` with a bracket, past such tokens
+abbrev pub is_attribute : List Token → Bool
+is_attribute [] = false
+is_attribute (token ∷ tokens) = if is_passed token.kind then is_attribute tokens else is_open_bracket token.kind
+
+-- how many bytes stand before the first newline
+abbrev pub before_newline : List ℕ → ℕ
+before_newline text = prefix_len is_no_newline text
+
+-- the same, less a carriage return directly before that newline
+abbrev pub line_len : List ℕ → ℕ
+line_len text = if begins (codes "\r\n") (drop (before_newline text - 1) text) then before_newline text - 1 else before_newline text
+
+-- what follows `#!`
+abbrev pub shebang_past : List ℕ → Option ℕ
+shebang_past tail = if is_attribute (tokens_of No tail) then None else Some (2 + line_len tail)
+
+-- the length of the shebang line at the front of a text, if one stands there
+unfoldable pub shebang : List ℕ → Option ℕ
+shebang text = if begins (codes "#!") text then shebang_past (drop 2 text) else None

@@ -1,0 +1,86 @@
+//! Guarded strings.
+ghost use Rattle.std.specs.Prelude.{◌≡◌, ◌≤◌, IfSome, min, length};
+ghost use Rattle.std.specs.Str.{chars, IsCharBoundary};
+ghost use Rattle.rustc_lexer.specs.Guarded as spec;
+ghost use Rattle.rustc_lexer.specs.Raw.{hashes};
+ghost use Rattle.rustc_lexer.specs.Scan.{past, scanned};
+
+use crate::cursor::Cursor;
+use crate::lexemes::literal::eat_suffix;
+use crate::lexemes::quoted::double_quoted;
+use crate::scan::{eat_while, strip};
+use crate::token::GuardedStr;
+
+impl<'a> Cursor<'a> {
+    /// Takes a guarded string: hashes, a string, then as many hashes at most, and a suffix. Its length counts the
+    /// bytes that were pending; then none are. One that no quote closes takes the rest of the text.
+    ///
+    /// Where no quote follows the hashes, the answer is `None`. The hashes are taken all the same, and are
+    /// pending: they are part of the next token.
+    ///
+    /// ```ignore
+    /// let mut cursor = Cursor::new("##\"a\"#", FrontmatterAllowed::No);
+    /// let string = cursor.guarded_double_quoted_string(); // 2 hashes, terminated, of length 6
+    /// ```
+    pub fn guarded_double_quoted_string(&mut self) -> Option<GuardedStr>
+        ensures answer { result ≡ (spec.guarded self.old).0 }
+        ensures state { self.new ≡ (spec.guarded self.old).1 }
+    {
+        let rest = self.as_str();
+        let n_hashes = count_hashes(rest);
+        let Some((terminated, len)) = string_past(rest, n_hashes) else {
+            self.index += n_hashes;
+            return None;
+        };
+        let end = self.index + len;
+        let token_len = (end - self.start) as u32;
+        self.index = end;
+        self.start = end;
+        Some(GuardedStr {
+            n_hashes: n_hashes as u32,
+            terminated,
+            token_len,
+        })
+    }
+}
+
+/// How many hashes stand at the front of the text.
+fn count_hashes(rest: &str) -> usize
+    ensures count { result ≡ hashes (chars rest.now) }
+    ensures boundary { IsCharBoundary rest.now result }
+{
+    rest.len() - eat_while(rest, |c| c == '#').len()
+}
+
+/// Whether a quote closes the string that follows the hashes, and the length of the string with the hashes; `None`
+/// where no string follows them.
+fn string_past(rest: &str, n_hashes: usize) -> Option<(bool, usize)>
+    requires { n_hashes ≡ hashes (chars rest.now) }
+    ensures read { result ≡ spec.string_past n_hashes (chars rest.now) }
+    ensures boundary { IfSome result (λ string. IsCharBoundary rest.now string.1) }
+{
+    let body = strip(&rest[n_hashes..], '"')?;
+    let (terminated, left) = guarded_body(body, n_hashes);
+    Some((terminated, rest.len() - left.len()))
+}
+
+/// Whether a quote closes the string, and what the token leaves. `body` is what follows the opening quote.
+fn guarded_body(body: &str, n_hashes: usize) -> (bool, &str)
+    ensures shorter { length result.1.now ≤ length body.now }
+    ensures read { (result.0, result.1.now) ≡ scanned (spec.guarded_body n_hashes) body.now }
+{
+    let (terminated, left) = double_quoted(body);
+    if terminated {
+        (true, eat_suffix(eat_hashes(left, n_hashes)))
+    } else {
+        (false, left)
+    }
+}
+
+/// What `most` hashes at most leave of the text.
+fn eat_hashes(rest: &str, most: usize) -> &str
+    ensures shorter { length result.now ≤ length rest.now }
+    ensures past { result.now ≡ past (min most (hashes (chars rest.now))) rest.now }
+{
+    &rest[count_hashes(rest).min(most)..]
+}

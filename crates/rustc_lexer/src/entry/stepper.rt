@@ -1,0 +1,79 @@
+//! A grammar, met one token at a time.
+ghost use Rattle.std.specs.Prelude.{◌≡◌, ◌+◌, ◌<◌, List, ℕ, length};
+ghost use Rattle.rustc_lexer.specs.declared.token.FrontmatterAllowed.TheVariants.{No};
+ghost use Rattle.rustc_lexer.specs.declared.token.Token.{Token};
+ghost use Rattle.rustc_lexer.specs.Classes.{Fits};
+ghost use Rattle.rustc_lexer.specs.Cuts.{tokens_by};
+ghost use Rattle.rustc_lexer.specs.Lexeme.{first_token};
+ghost use Rattle.rustc_lexer.specs.Texts.{IsGrammar};
+ghost use Rattle.rustc_lexer.specs.Tokens.{tokens_of};
+
+use crate::cursor::Cursor;
+use crate::entry::tally::Tally;
+use crate::token::{FrontmatterAllowed, Token};
+
+/// A grammar, which tells the first token of each text.
+///
+/// Contracts see three things of a stepper: its grammar, a number that names the grammar, and how many steps
+/// were taken. Each implementation proves that a first token is not empty, ends between two characters, and
+/// depends on no more than itself and the two characters after it.
+pub trait Stepper: Drop {
+    /// The first token of each text.
+    ghost grammar: { Self → List ℕ → Token };
+
+    /// The number that names the grammar.
+    ghost number: { Self → ℕ };
+
+    /// How many steps were taken.
+    ghost count: { Self → ℕ };
+
+    /// What each grammar obeys.
+    ghost law: { (stepper : Self) → IsGrammar (grammar stepper) };
+
+    /// The first token of the text.
+    fn step(&mut self, rest: &str) -> Token
+        requires not_empty { 0 < length rest.now }
+        requires fits { Fits rest.now }
+        ensures token { result ≡ grammar self.old rest.now }
+        ensures count { count self.new ≡ count self.old + 1 }
+        ensures grammar { grammar self.new ≡ grammar self.old }
+        ensures number { number self.new ≡ number self.old };
+}
+
+/// The steps of the lexer, where no frontmatter may stand.
+#[derive(Drop)]
+pub struct Steps {
+    tally: Tally,
+}
+
+impl Steps {
+    /// No step taken.
+    pub fn new() -> Steps
+        ensures count { ⟦<Steps as Stepper>⟧.count result ≡ 0 }
+        ensures number { ⟦<Steps as Stepper>⟧.number result ≡ 2024 }
+        ensures grammar { ⟦<Steps as Stepper>⟧.grammar result ≡ first_token }
+        ensures tokens { (text : List ℕ) → tokens_by (⟦<Steps as Stepper>⟧.grammar result) text ≡ tokens_of No text }
+    {
+        Steps {
+            tally: Tally::new(),
+        }
+    }
+}
+
+impl Stepper for Steps {
+    ghost use Rattle.rustc_lexer.specs.Lexeme.{first_token};
+    ghost use Rattle.rustc_lexer.specs.Lookahead.{first_token_grammar};
+
+    ghost grammar = { λ _. first_token };
+
+    ghost number = { λ _. 2024 };
+
+    ghost count = { λ s. s.tally.count };
+
+    ghost law = { λ _. first_token_grammar };
+
+    fn step(&mut self, rest: &str) -> Token {
+        self.tally.tick();
+        Cursor::new(rest, FrontmatterAllowed::No).advance_token()
+    }
+}

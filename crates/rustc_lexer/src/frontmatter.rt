@@ -1,0 +1,226 @@
+//! Frontmatter: what may stand in front of the first token, between two fences of dashes.
+ghost use Rattle.std.specs.Prelude.{◌≡◌, ◌+◌, ◌-◌, ◌≤◌, ◌<◌, ◌==◌, ◌&&◌, true, false, length, nat_lt, slice_index, drop, MatchOption, IfSome, ◌∷◌};
+ghost use Rattle.std.specs.Str.{chars, IsCharBoundary};
+ghost use Rattle.rustc_lexer.specs.declared.token.FrontmatterAllowed.TheVariants.{Yes};
+ghost use Rattle.rustc_lexer.specs.Classes.{Fits};
+ghost use Rattle.rustc_lexer.specs.Frontmatter as spec;
+ghost use Rattle.rustc_lexer.specs.Scan.{past, run_len};
+ghost use Rattle.rustc_lexer.specs.State as state;
+ghost use Rattle.rustc_lexer.specs.State.{HasSuffixWithin};
+
+use crate::classes::{is_horizontal_whitespace, is_id_continue, is_id_start, is_whitespace};
+use crate::lexemes::lexeme;
+use crate::scan::{eat_while, eat_whitespace, next_is, split_first};
+use crate::token::{FrontmatterAllowed, Token, TokenKind};
+use memchr::{memchr, memmem};
+
+/// A fence has at least so many dashes.
+const MIN_DASHES: usize = 3;
+
+/// The token at the front of a text. At the end of the text it is `Eof`, of length 0.
+#[inline(always)]
+pub(crate) fn token_at(text: &str, allowed: FrontmatterAllowed) -> Token
+    requires fits { Fits text.now }
+    ensures token { result ≡ state.token_at allowed text.now }
+    ensures inside { result.len ≤ length text.now }
+    ensures boundary { IsCharBoundary text.now result.len }
+    ensures suffix { HasSuffixWithin result }
+{
+    match allowed {
+        FrontmatterAllowed::No => lexeme(text),
+        FrontmatterAllowed::Yes => frontmatter_or_lexeme(text),
+    }
+}
+
+/// The same, where a frontmatter is allowed.
+#[inline(never)]
+fn frontmatter_or_lexeme(text: &str) -> Token
+    requires fits { Fits text.now }
+    ensures token { result ≡ state.token_at Yes text.now }
+    ensures inside { result.len ≤ length text.now }
+    ensures boundary { IsCharBoundary text.now result.len }
+    ensures suffix { HasSuffixWithin result }
+{
+    match frontmatter(text) {
+        Some(token) => token,
+        None => lexeme(text),
+    }
+}
+
+/// The frontmatter at the front of the text, if one opens there.
+///
+/// White space before its dashes is part of it, unless a newline is the last character of that.
+fn frontmatter(text: &str) -> Option<Token>
+    requires fits { Fits text.now }
+    ensures { MatchOption result (spec.opens (chars text.now) ≡ false)
+        (λ token. (spec.opens (chars text.now) ≡ true) × (token ≡ spec.frontmatter text.now)) }
+{
+    let fence = eat_whitespace(text);
+    let label = eat_while(fence, |c| c == '-');
+    let n_dashes = fence.len() - label.len();
+    if n_dashes < MIN_DASHES || follows_newline(text.as_bytes(), text.len() - fence.len()) {
+        return None;
+    }
+    let rest = eat_label(label);
+    let end = closing(rest.as_bytes(), n_dashes);
+    Some(Token {
+        kind: TokenKind::Frontmatter {
+            has_invalid_preceding_whitespace: next_is(text, is_whitespace),
+            invalid_infostring: !next_is(rest, |c| c == '\n'),
+        },
+        len: (text.len() - rest.len() + end) as u32,
+    })
+}
+
+/// What is left past the rest of the opening fence's line: blanks, an infostring, and blanks. `rest` is what
+/// follows the dashes.
+fn eat_label(rest: &str) -> &str
+    ensures shorter { length result.now ≤ length rest.now }
+    ensures past { result.now ≡ past (spec.label_len (chars rest.now)) rest.now }
+{
+    let infostring = eat_while(rest, is_horizontal_whitespace);
+    eat_while(eat_infostring(infostring), is_horizontal_whitespace)
+}
+
+/// What an infostring leaves of the text, if one stands here.
+fn eat_infostring(rest: &str) -> &str
+    ensures shorter { length result.now ≤ length rest.now }
+    ensures past { result.now ≡ past (spec.infostring_len (chars rest.now)) rest.now }
+{
+    let Some((first, tail)) = split_first(rest) else {
+        return rest;
+    };
+    if !is_id_start(first) {
+        return rest;
+    }
+    eat_while(tail, is_infostring)
+}
+
+/// What an infostring goes on with.
+fn is_infostring(c: char) -> bool
+    ensures { result ≡ spec.is_infostring c }
+{
+    is_id_continue(c) || c == '-' || c == '.'
+}
+
+/// Where the frontmatter ends in `rest`, which follows an opening of `n_dashes` dashes.
+fn closing(rest: &[u8], n_dashes: usize) -> usize
+    ensures end { result ≡ spec.closing n_dashes rest.now }
+    ensures inside { result ≤ length rest.now }
+{
+    match find_fence(rest, n_dashes) {
+        Some(place) => line_end(rest, place + 1),
+        None => recovery(rest),
+    }
+}
+
+/// The same where no line begins with so many dashes: at the best guess of where Rust begins.
+fn recovery(rest: &[u8]) -> usize
+    ensures end { result ≡ spec.recovery rest.now }
+    ensures inside { result ≤ length rest.now }
+{
+    if let Some(place) = find(rest, b"\n---") {
+        return line_end(rest, place + 1);
+    }
+    if let Some(place) = find(rest, b"\nuse ") {
+        return place;
+    }
+    if let Some(place) = find(rest, b"\n//!") {
+        return place;
+    }
+    if let Some(place) = find(rest, b"\n#![") {
+        return place;
+    }
+    match find_lone_dashes(rest) {
+        Some(place) => line_end(rest, place),
+        None => rest.len(),
+    }
+}
+
+/// The place of the first newline that at least `n_dashes` dashes follow.
+fn find_fence(rest: &[u8], n_dashes: usize) -> Option<usize>
+    ensures place { result ≡ spec.first (spec.newline ∷ spec.dashes n_dashes) rest.now }
+    ensures inside { IfSome result (λ place. place < length rest.now) }
+{
+    let mut from = 0;
+    'lines: while let Some(step) = memchr(b'\n', &rest[from..]) {
+        let line = from + step + 1;
+        let end = dashes_end(rest, line);
+        if end - line >= n_dashes {
+            return Some(from + step);
+        }
+        from = end;
+    }
+    None
+}
+
+/// Where the dashes from a place on end.
+fn dashes_end(rest: &[u8], from: usize) -> usize
+    requires { from ≤ length rest.now }
+    ensures end { result ≡ from + run_len spec.is_dash (drop from rest.now) }
+    ensures inside { result ≤ length rest.now }
+{
+    let mut end = from;
+    'dashes: while end < rest.len() && rest[end] == b'-' {
+        end += 1;
+    }
+    end
+}
+
+/// The first place of three dashes with only blanks before them: on their line, and past the dashes before.
+fn find_lone_dashes(rest: &[u8]) -> Option<usize>
+    ensures place { result ≡ spec.first_alone 0 (spec.places (spec.dashes 3) rest.now) rest.now }
+    ensures inside { IfSome result (λ place. place < length rest.now) }
+{
+    let mut end = 0;
+    'places: while let Some(step) = find(&rest[end..], b"---") {
+        let place = end + step;
+        if stands_alone(rest, end, place) {
+            return Some(place);
+        }
+        end = place + 3;
+    }
+    None
+}
+
+/// Whether only blanks stand before a place: on its line, and past `end`.
+fn stands_alone(rest: &[u8], end: usize, place: usize) -> bool
+    requires order { end ≤ place }
+    requires inside { place ≤ length rest.now }
+    ensures { result ≡ spec.stands_alone end place rest.now }
+{
+    let mut start = place;
+    'blanks: while start > end && is_horizontal_whitespace(rest[start - 1] as char) {
+        start -= 1;
+    }
+    start == end || follows_newline(rest, start)
+}
+
+/// Whether a newline stands right before a place.
+fn follows_newline(bytes: &[u8], place: usize) -> bool
+    requires { place ≤ length bytes.now }
+    ensures { result ≡ (nat_lt 0 place && spec.is_newline (slice_index bytes.now (place - 1))) }
+{
+    place > 0 && bytes[place - 1] == b'\n'
+}
+
+/// The first newline at or past a place, or the end.
+fn line_end(rest: &[u8], place: usize) -> usize
+    requires { place ≤ length rest.now }
+    ensures end { result ≡ spec.line_end place rest.now }
+    ensures inside { result ≤ length rest.now }
+{
+    match memchr(b'\n', &rest[place..]) {
+        Some(step) => place + step,
+        None => rest.len(),
+    }
+}
+
+/// The first place where the pattern stands.
+fn find(rest: &[u8], pattern: &[u8]) -> Option<usize>
+    requires { 0 < length pattern.now }
+    ensures place { result ≡ spec.first pattern.now rest.now }
+    ensures inside { IfSome result (λ place. place + length pattern.now ≤ length rest.now) }
+{
+    memmem::find(rest, pattern)
+}

@@ -1,0 +1,192 @@
+//! How far runs of bytes go and where a byte stands, 32 bytes at a time.
+ghost use Rattle.memchr.specs.Find.{IsFirstByte, is_byte, is_byte2};
+ghost use Rattle.std.specs.Prelude.{◌≡◌, ◌≤◌, ℕ, Bool, length, map};
+ghost use Rattle.std.specs.List.{prefix_len};
+ghost use Rattle.std.specs.Simd.Lanes.{mask_l};
+ghost use Rattle.rustc_lexer.specs.ByteRuns.{is_continue_byte, is_space_byte, is_decimal_byte, is_hexadecimal_byte, outside};
+
+use memchr::{memchr, memchr2};
+use std::simd::prelude::*;
+
+#[cfg(test)]
+mod tests;
+
+/// A class of bytes in ASCII.
+pub(crate) trait ByteClass {
+    ghost passes: { ℕ → Bool };
+
+    /// Whether the byte is in the class.
+    fn has(byte: u8) -> bool
+        ensures { result ≡ passes byte };
+
+    /// Bit k is set where lane k is outside the class.
+    fn stops(v: u8x32) -> u64
+        ensures { result ≡ mask_l (map (outside passes) v) };
+}
+
+/// What an identifier goes on with.
+pub(crate) struct Continue;
+
+impl ByteClass for Continue {
+    ghost passes = { is_continue_byte };
+
+    #[inline(always)]
+    fn has(byte: u8) -> bool {
+        byte.is_ascii_alphanumeric() || byte == b'_'
+    }
+
+    #[inline(always)]
+    fn stops(v: u8x32) -> u64 {
+        let from_a = (v | u8x32::splat(0x20)) - u8x32::splat(b'a');
+        let from_0 = v - u8x32::splat(b'0');
+        (from_a.simd_ge(u8x32::splat(26))
+            & from_0.simd_ge(u8x32::splat(10))
+            & v.simd_ne(u8x32::splat(b'_'))).to_bitmask()
+    }
+}
+
+/// White space.
+pub(crate) struct Space;
+
+impl ByteClass for Space {
+    ghost passes = { is_space_byte };
+
+    #[inline(always)]
+    fn has(byte: u8) -> bool {
+        matches!(byte, b' ' | b'\t'..=b'\r')
+    }
+
+    #[inline(always)]
+    fn stops(v: u8x32) -> u64 {
+        let from_tab = v - u8x32::splat(b'\t');
+        (v.simd_ne(u8x32::splat(b' ')) & from_tab.simd_ge(u8x32::splat(5))).to_bitmask()
+    }
+}
+
+/// Decimal digits and underscores.
+pub(crate) struct Decimal;
+
+impl ByteClass for Decimal {
+    ghost passes = { is_decimal_byte };
+
+    #[inline(always)]
+    fn has(byte: u8) -> bool {
+        byte.is_ascii_digit() || byte == b'_'
+    }
+
+    #[inline(always)]
+    fn stops(v: u8x32) -> u64 {
+        let from_0 = v - u8x32::splat(b'0');
+        (from_0.simd_ge(u8x32::splat(10)) & v.simd_ne(u8x32::splat(b'_'))).to_bitmask()
+    }
+}
+
+/// Hexadecimal digits and underscores.
+pub(crate) struct Hexadecimal;
+
+impl ByteClass for Hexadecimal {
+    ghost passes = { is_hexadecimal_byte };
+
+    #[inline(always)]
+    fn has(byte: u8) -> bool {
+        byte.is_ascii_hexdigit() || byte == b'_'
+    }
+
+    #[inline(always)]
+    fn stops(v: u8x32) -> u64 {
+        let from_a = (v | u8x32::splat(0x20)) - u8x32::splat(b'a');
+        let from_0 = v - u8x32::splat(b'0');
+        (from_a.simd_ge(u8x32::splat(6))
+            & from_0.simd_ge(u8x32::splat(10))
+            & v.simd_ne(u8x32::splat(b'_'))).to_bitmask()
+    }
+}
+
+/// How many bytes at the front are in the class. It mostly ends within 32 bytes.
+#[inline(always)]
+pub(crate) fn run_end<C: ByteClass>(bytes: &[u8]) -> usize
+    ensures value { result ≡ prefix_len C.passes bytes.now }
+    ensures bound { result ≤ length bytes.now }
+{
+    if bytes.len() < 32 {
+        return run_end_by_bytes::<C>(bytes);
+    }
+    let stops = C::stops(u8x32::from_slice(bytes));
+    if stops == 0 {
+        return run_end_by_lanes::<C>(bytes);
+    }
+    stops.trailing_zeros() as usize
+}
+
+/// The same, where mostly the first byte is not in the class.
+#[inline(always)]
+pub(crate) fn short_run_end<C: ByteClass>(bytes: &[u8]) -> usize
+    ensures value { result ≡ prefix_len C.passes bytes.now }
+    ensures bound { result ≤ length bytes.now }
+{
+    if !bytes.is_empty() && C::has(bytes[0]) {
+        return run_end::<C>(bytes);
+    }
+    0
+}
+
+/// The same, 32 bytes after another.
+#[inline(never)]
+fn run_end_by_lanes<C: ByteClass>(bytes: &[u8]) -> usize
+    ensures value { result ≡ prefix_len C.passes bytes.now }
+    ensures bound { result ≤ length bytes.now }
+{
+    let mut end = 0;
+    'lanes: while bytes.len() - end >= 32 {
+        let stops = C::stops(u8x32::from_slice(&bytes[end..]));
+        if stops != 0 {
+            return end + stops.trailing_zeros() as usize;
+        }
+        end += 32;
+    }
+    end + run_end_by_bytes::<C>(&bytes[end..])
+}
+
+/// The same, a byte after another.
+#[inline(never)]
+fn run_end_by_bytes<C: ByteClass>(bytes: &[u8]) -> usize
+    ensures value { result ≡ prefix_len C.passes bytes.now }
+    ensures bound { result ≤ length bytes.now }
+{
+    let mut end = 0;
+    'bytes: while end < bytes.len() && C::has(bytes[end]) {
+        end += 1;
+    }
+    end
+}
+
+/// The first place of the byte. It mostly is within 64 bytes: these are looked at before the search is called.
+#[inline(always)]
+pub(crate) fn find(stop: u8, bytes: &[u8]) -> Option<usize>
+    ensures { IsFirstByte (is_byte stop) bytes.now result }
+{
+    if bytes.len() >= 64 {
+        let found = u8x64::from_slice(bytes)
+            .simd_eq(u8x64::splat(stop))
+            .to_bitmask();
+        if found != 0 {
+            return Some(found.trailing_zeros() as usize);
+        }
+    }
+    memchr(stop, bytes)
+}
+
+/// The first place of either byte. It mostly is within 32 bytes, and these are looked at in the same way.
+#[inline(always)]
+pub(crate) fn find_either(one: u8, two: u8, bytes: &[u8]) -> Option<usize>
+    ensures { IsFirstByte (is_byte2 one two) bytes.now result }
+{
+    if bytes.len() >= 32 {
+        let v = u8x32::from_slice(bytes);
+        let found = (v.simd_eq(u8x32::splat(one)) | v.simd_eq(u8x32::splat(two))).to_bitmask();
+        if found != 0 {
+            return Some(found.trailing_zeros() as usize);
+        }
+    }
+    memchr2(one, two, bytes)
+}

@@ -1,0 +1,94 @@
+//! The commonest tokens, told by their bytes: identifiers, white space, hashes and symbols.
+ghost use Rattle.std.specs.Prelude.{◌≡◌, not, drop, IfSome};
+ghost use Rattle.rustc_lexer.specs.Classes.{Fits};
+ghost use Rattle.rustc_lexer.specs.Hash.{is_guarded_mark};
+ghost use Rattle.rustc_lexer.specs.Quick.{turns_word, is_space_lead, IsFirstToken};
+ghost use Rattle.rustc_lexer.specs.Scan;
+
+use crate::kernels::{Continue, Space, run_end, short_run_end};
+use crate::lexemes::family::{Family, family_of_byte};
+use crate::lexemes::symbol_kind;
+use crate::token::{Token, TokenKind};
+
+/// The token at the front of the text, where the bytes of one run and the byte after it tell what it is.
+#[inline(always)]
+pub(crate) fn quick_token(text: &str) -> Option<Token>
+    requires fits { Fits text.now }
+    ensures { IfSome result (λ token. IsFirstToken text.now token) }
+{
+    let (first, rest) = text.as_bytes().split_first()?;
+    match family_of_byte(*first)? {
+        Family::Word => {
+            let end = run_end::<Continue>(rest);
+            if ends_word(rest, end) {
+                Some(Token {
+                    kind: TokenKind::Ident,
+                    len: (1 + end) as u32,
+                })
+            } else {
+                None
+            }
+        }
+        Family::Space => {
+            let end = short_run_end::<Space>(rest);
+            if ends_space(rest, end) {
+                Some(Token {
+                    kind: TokenKind::Whitespace,
+                    len: (1 + end) as u32,
+                })
+            } else {
+                None
+            }
+        }
+        Family::Hash => {
+            if begins_guarded(rest) {
+                Some(Token {
+                    kind: TokenKind::GuardedStrPrefix,
+                    len: 2,
+                })
+            } else {
+                Some(Token {
+                    kind: TokenKind::Pound,
+                    len: 1,
+                })
+            }
+        }
+        Family::Symbol => Some(Token {
+            kind: symbol_kind(*first as char),
+            len: 1,
+        }),
+        _ => None,
+    }
+}
+
+/// Whether a quote or a hash stands in front.
+#[inline(always)]
+fn begins_guarded(bytes: &[u8]) -> bool
+    ensures { result ≡ Scan.next_is is_guarded_mark bytes.now }
+{
+    !bytes.is_empty() && matches!(bytes[0], b'"' | b'#')
+}
+
+/// Whether a word that ends there is an identifier, by the byte after it.
+#[inline(always)]
+pub(crate) fn ends_word(bytes: &[u8], end: usize) -> bool
+    ensures { result ≡ not (Scan.next_is turns_word (drop end bytes.now)) }
+{
+    if end < bytes.len() {
+        bytes[end] < 128 && !matches!(bytes[end], b'#' | b'"' | b'\'')
+    } else {
+        true
+    }
+}
+
+/// Whether no white space outside ASCII stands there, by its first byte.
+#[inline(always)]
+pub(crate) fn ends_space(bytes: &[u8], end: usize) -> bool
+    ensures { result ≡ not (Scan.next_is is_space_lead (drop end bytes.now)) }
+{
+    if end < bytes.len() {
+        bytes[end] != 0xC2 && bytes[end] != 0xE2
+    } else {
+        true
+    }
+}

@@ -1,0 +1,16 @@
+//! A text that is kept with its tokens, and its edits.
+mod edit;
+mod edit_list;
+mod front;
+mod landmarks;
+mod lex;
+mod lexed_text;
+mod pieces;
+mod replace;
+mod settle;
+
+pub use edit::Relexed;
+pub use edit_list::{Edit, EditStop};
+pub use lexed_text::LexedText;
+pub use pieces::{Piece, Pieces};
+pub use settle::settled;

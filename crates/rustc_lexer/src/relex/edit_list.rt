@@ -1,0 +1,64 @@
+//! Edits in a row.
+ghost use Rattle.std.specs.Prelude.{◌≡◌, ◌+◌, IfErr, OnOk, take};
+ghost use Rattle.rustc_lexer.specs.Cuts.{tokens_by};
+ghost use Rattle.rustc_lexer.specs.EditLists.{apply_list, AreEdits, lexed_list, stop_at, IsStop, IsCounted};
+
+use crate::entry::stepper::Stepper;
+use crate::relex::lexed_text::LexedText;
+
+/// One edit, its insertion borrowed.
+#[derive(Clone, Copy, Debug, PartialEq, Eq)]
+pub struct Edit<'a> {
+    /// Where the bytes begin that are taken out.
+    pub start: usize,
+    /// Where they end.
+    pub stop: usize,
+    /// What is put in their place.
+    pub insert: &'a str,
+}
+
+/// Why a list of edits stopped, and at which of them, counted from 0. The edits before it stand.
+#[derive(Clone, Copy, Debug, PartialEq, Eq)]
+pub enum EditStop {
+    /// The range is not inside the text as it then was, or cuts a character.
+    Range { at: usize },
+
+    /// The text would have had more than `u32::MAX` bytes.
+    TooLong { at: usize },
+
+    /// Memory was refused.
+    Memory { at: usize },
+}
+
+impl<S: Stepper> LexedText<S> {
+    /// Makes the edits in order, as far as the first that is refused.
+    pub fn edit_all(&mut self, edits: &[Edit<'_>]) -> Result<(), EditStop>
+        ensures accepted { OnOk result (AreEdits self.old.text edits.now) }
+        ensures text { OnOk result (self.new.text ≡ apply_list self.old.text edits.now) }
+        ensures from_scratch { self.new.tokens ≡ tokens_by (S.grammar self.old.stepper) self.new.text }
+        ensures grammar { S.grammar self.new.stepper ≡ S.grammar self.old.stepper }
+        ensures number { S.number self.new.stepper ≡ S.number self.old.stepper }
+        ensures count { OnOk result (S.count self.new.stepper ≡ S.count self.old.stepper + lexed_list (S.grammar self.old.stepper) self.old.text edits.now) }
+        ensures stop { IfErr result (λ e. IsStop e self.new.text edits.now) }
+        ensures stop_accepted { IfErr result (λ e. AreEdits self.old.text (take (stop_at e) edits.now)) }
+        ensures stop_text { IfErr result (λ e. self.new.text ≡ apply_list self.old.text (take (stop_at e) edits.now)) }
+        ensures stop_count { IfErr result (λ e. IsCounted e (S.grammar self.old.stepper) self.old.text edits.now (S.count self.old.stepper) (S.count self.new.stepper)) }
+    {
+        // So the tokens are those of the text, also where there is no edit.
+        prove!(self.is_consistent());
+        for (at, edit) in edits.iter().enumerate() {
+            if !self.accepts(edit.start, edit.stop, edit.insert) {
+                return Err(if self.contains_range(edit.start, edit.stop) {
+                    EditStop::TooLong { at }
+                } else {
+                    EditStop::Range { at }
+                });
+            }
+            match self.edit(edit.start, edit.stop, edit.insert) {
+                Ok(_) => {}
+                Err(_) => return Err(EditStop::Memory { at }),
+            }
+        }
+        Ok(())
+    }
+}

@@ -1,0 +1,83 @@
+//! Bounds that are remembered, so that a search begins near where it ends.
+ghost use Rattle.std.specs.Prelude.{List};
+ghost use Rattle.std.specs.List.{All, Contains};
+ghost use Rattle.rustc_lexer.specs.declared.token.Token.{Token};
+ghost use Rattle.rustc_lexer.specs.Landmarks.{AreBounds, IsBound, IsMovable, IsReplaced};
+
+use crate::relex::front::Bound;
+
+/// How many bounds are remembered.
+const COUNT: usize = 64;
+
+/// Some bounds of a list of tokens, one for each of `COUNT` equal shares of its text.
+#[derive(Clone, Copy)]
+pub(crate) struct Landmarks {
+    bounds: [Bound; COUNT],
+}
+
+impl Landmarks {
+    /// The first bound alone, which each list has.
+    pub(crate) fn new() -> Landmarks
+        ensures { (tokens : List Token) → AreBounds tokens result }
+    {
+        let first = Bound {
+            number: 0,
+            place: 0,
+        };
+        Landmarks {
+            bounds: [first; COUNT],
+        }
+    }
+
+    /// Remembers the bound, in place of the one in the same share of a text of `len` bytes.
+    pub(crate) fn remember(&mut self, bound: Bound, len: usize)
+        ensures { (tokens : List Token) → AreBounds tokens self.old → IsBound tokens bound → AreBounds tokens self.new }
+    {
+        let share = len / COUNT + 1;
+        let index = (bound.place / share).min(COUNT - 1);
+        self.bounds[index] = bound;
+    }
+
+    /// The one that is nearest to `place`.
+    pub(crate) fn nearest(&self, place: usize) -> Bound
+        ensures { Contains self.now.bounds result }
+    {
+        let mut nearest = self.bounds[0];
+        for bound in &self.bounds {
+            if bound.place.abs_diff(place) < nearest.place.abs_diff(place) {
+                nearest = *bound;
+            }
+        }
+        nearest
+    }
+
+    /// Where they are after an edit that keeps the tokens up to `kept`, and those from `met` on, which is then
+    /// `now`. One that stood between is `kept`.
+    pub(crate) fn after(&self, kept: Bound, met: Bound, now: Bound) -> Landmarks
+        requires { All (IsMovable met now) self.now.bounds }
+        ensures { (old new : List Token) → IsReplaced old new kept met now → AreBounds old self.now → AreBounds new result }
+    {
+        let mut bounds = [kept; COUNT];
+        for (i, bound) in self.bounds.iter().enumerate() {
+            bounds[i] = moved(*bound, kept, met, now);
+        }
+        Landmarks { bounds }
+    }
+}
+
+/// Where the bound is after an edit that keeps the tokens up to `kept`, and those from `met` on, which is then `now`.
+fn moved(bound: Bound, kept: Bound, met: Bound, now: Bound) -> Bound
+    requires { IsMovable met now bound }
+    ensures { (old new : List Token) → IsReplaced old new kept met now → IsBound old bound → IsBound new result }
+{
+    if bound.number <= kept.number {
+        bound
+    } else if bound.number >= met.number {
+        Bound {
+            number: bound.number - met.number + now.number,
+            place: bound.place - met.place + now.place,
+        }
+    } else {
+        kept
+    }
+}

@@ -1,0 +1,42 @@
+//! All tokens of a text, by a stepper.
+ghost use Rattle.std.specs.Prelude.{◌≡◌, ◌+◌, IfOk, length};
+ghost use Rattle.rustc_lexer.specs.Classes.{Fits};
+ghost use Rattle.rustc_lexer.specs.Cuts.{tokens_by};
+ghost use Rattle.rustc_lexer.specs.Landmarks.{AreBounds};
+
+use crate::entry::stepper::Stepper;
+use crate::relex::front::Bound;
+use crate::relex::landmarks::Landmarks;
+use crate::token::Token;
+use std::alloc::{AllocError, Global};
+
+/// How many tokens stand between two landmarks.
+const SPACING: usize = 1024;
+
+/// All tokens of a text, and landmarks among them.
+pub(crate) fn lex_all<S: Stepper>(
+    alloc: Global,
+    stepper: &mut S,
+    text: &str,
+) -> Result<(Vec<Token>, Landmarks), AllocError>
+    requires fits { Fits text.now }
+    ensures tokens { IfOk result (λ r. r.0.items ≡ tokens_by (S.grammar stepper.old) text.now) }
+    ensures landmarks { IfOk result (λ r. AreBounds r.0.items r.1) }
+    ensures count { IfOk result (λ r. S.count stepper.new ≡ S.count stepper.old + length r.0.items) }
+    ensures grammar { S.grammar stepper.new ≡ S.grammar stepper.old }
+    ensures number { S.number stepper.new ≡ S.number stepper.old }
+{
+    let mut tokens = Vec::new(alloc);
+    let mut landmarks = Landmarks::new();
+    let mut place = 0;
+    while place < text.len() {
+        let number = tokens.len();
+        if number % SPACING == 0 {
+            landmarks.remember(Bound { number, place }, text.len());
+        }
+        let token = stepper.step(&text[place..]);
+        tokens.push(token)?;
+        place += token.len as usize;
+    }
+    Ok((tokens, landmarks))
+}

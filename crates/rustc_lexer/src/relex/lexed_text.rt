@@ -1,0 +1,171 @@
+//! A text that is kept with its tokens.
+ghost use Rattle.std.specs.Prelude.{◌≡◌, ◌+◌, ◌≤◌, ◌↔◌, IfOk, IfErr, OnOk, OnErr, IsTrue, length, string_bytes};
+ghost use Rattle.rustc_lexer.specs.declared.token.FrontmatterAllowed.TheVariants.{No};
+ghost use Rattle.rustc_lexer.specs.Classes.{Fits};
+ghost use Rattle.rustc_lexer.specs.Cuts.{tokens_by};
+ghost use Rattle.rustc_lexer.specs.Edits.{IsEdit, IsInside, apply, bytes_or, relexed_of};
+ghost use Rattle.rustc_lexer.specs.Lexeme.{first_token};
+ghost use Rattle.rustc_lexer.specs.Tokens.{tokens_of};
+
+use crate::entry::stepper::{Stepper, Steps};
+use crate::relex::edit::{Edited, Relexed, lex_edit};
+use crate::relex::landmarks::Landmarks;
+use crate::relex::lex::lex_all;
+use crate::token::Token;
+use std::alloc::{AllocError, Global};
+use std::marker::Model;
+
+/// A text, its tokens, and the stepper that they came from.
+#[derive(Drop)]
+pub struct LexedText<S: Stepper> {
+    alloc: Global,
+    text: String,
+    tokens: Vec<Token>,
+    stepper: S,
+    /// Bounds of the tokens, where the search of an edit may begin.
+    landmarks: Landmarks,
+}
+
+impl<S: Stepper> Model for LexedText<S> {
+    ghost use Rattle.std.specs.Prelude.{◌≡◌};
+    ghost use Rattle.std.specs.String.{string_bytes};
+    ghost use Rattle.rustc_lexer.specs.Held.{Held};
+    ghost use Rattle.rustc_lexer.specs.Cuts.{tokens_by};
+    ghost use Rattle.rustc_lexer.specs.Landmarks.{AreBounds};
+    ghost use Rattle.rustc_lexer.specs.Texts.{IsText};
+
+    ghost Value = { Held S };
+
+    ghost view = { λ a. record { text = string_bytes a.text; tokens = a.tokens.items; stepper = a.stepper } };
+
+    ghost invariant = { λ a. IsText (string_bytes a.text) × (a.tokens.items ≡ tokens_by (S.grammar a.stepper) (string_bytes a.text)) × AreBounds a.tokens.items a.landmarks };
+}
+
+impl<S: Stepper> LexedText<S> {
+    /// A copy of the text, which has at most `u32::MAX` bytes, its tokens by the stepper, and the stepper.
+    pub fn with(alloc: Global, text: &str, stepper: S) -> Result<LexedText<S>, AllocError>
+        requires fits { Fits text.now }
+        ensures text { IfOk result (λ l. l.text ≡ text.now) }
+        ensures from_scratch { IfOk result (λ l. l.tokens ≡ tokens_by (S.grammar l.stepper) text.now) }
+        ensures grammar { IfOk result (λ l. S.grammar l.stepper ≡ S.grammar stepper) }
+        ensures number { IfOk result (λ l. S.number l.stepper ≡ S.number stepper) }
+        ensures count { IfOk result (λ l. S.count l.stepper ≡ S.count stepper + length l.tokens) }
+    {
+        let mut stepper = stepper;
+        let held = String::from_str(alloc, text)?;
+        let (tokens, landmarks) = lex_all(alloc, &mut stepper, text)?;
+        Ok(LexedText {
+            alloc,
+            text: held,
+            tokens,
+            stepper,
+            landmarks,
+        })
+    }
+
+    /// The text.
+    pub fn text(&self) -> &str
+        ensures text { result.now ≡ self.now.text }
+        ensures fits { Fits result.now }
+    {
+        self.text.as_str()
+    }
+
+    /// Its tokens.
+    pub fn tokens(&self) -> &[Token]
+        ensures tokens { result.now ≡ self.now.tokens }
+        ensures from_scratch { result.now ≡ tokens_by (S.grammar self.now.stepper) self.now.text }
+    {
+        self.tokens.as_slice()
+    }
+
+    /// The stepper that they came from.
+    pub fn stepper(&self) -> &S
+        ensures { result.now ≡ self.now.stepper }
+    {
+        &self.stepper
+    }
+
+    /// Whether there are no more tokens than bytes. It is so, since the tokens are those of the text and none is empty.
+    pub(crate) fn is_consistent(&self) -> bool
+        ensures always { IsTrue result }
+        ensures from_scratch { self.now.tokens ≡ tokens_by (S.grammar self.now.stepper) self.now.text }
+    {
+        self.tokens.len() <= self.text.len()
+    }
+
+    /// Whether the range is inside the text, between characters.
+    pub(crate) fn contains_range(&self, start: usize, stop: usize) -> bool
+        ensures { IsTrue result ↔ IsInside self.now.text start stop }
+    {
+        start <= stop
+            && stop <= self.text.len()
+            && self.text.is_char_boundary(start)
+            && self.text.is_char_boundary(stop)
+    }
+
+    /// Whether the edit is inside the text, between characters, and makes a text of at most `u32::MAX` bytes.
+    pub fn accepts(&self, start: usize, stop: usize, insert: &str) -> bool
+        ensures { IsTrue result ↔ IsEdit self.now.text start stop insert.now }
+    {
+        self.contains_range(start, stop)
+            && self.text.len() - (stop - start) + insert.len() <= u32::MAX as usize
+    }
+
+    /// Puts `insert` in place of the bytes from `start` up to `stop`. It has to be accepted.
+    pub fn edit(&mut self, start: usize, stop: usize, insert: &str) -> Result<Relexed, AllocError>
+        requires accepted { IsEdit self.old.text start stop insert.now }
+        ensures text { OnOk result (self.new.text ≡ apply self.old.text start stop insert.now) }
+        ensures from_scratch { self.new.tokens ≡ tokens_by (S.grammar self.old.stepper) self.new.text }
+        ensures relexed { IfOk result (λ r. r ≡ relexed_of (S.grammar self.old.stepper) self.old.text start stop insert.now) }
+        ensures count { IfOk result (λ r. S.count self.new.stepper ≡ S.count self.old.stepper + r.lexed) }
+        ensures grammar { S.grammar self.new.stepper ≡ S.grammar self.old.stepper }
+        ensures number { S.number self.new.stepper ≡ S.number self.old.stepper }
+        ensures rose { S.count self.old.stepper ≤ S.count self.new.stepper }
+        ensures same_text { OnErr result (self.new.text ≡ self.old.text) }
+        ensures same_tokens { OnErr result (self.new.tokens ≡ self.old.tokens) }
+        ensures few { OnErr result (S.count self.new.stepper ≤ S.count self.old.stepper + (relexed_of (S.grammar self.old.stepper) self.old.text start stop insert.now).lexed) }
+    {
+        let Edited {
+            text,
+            relexed,
+            landmarks,
+        } = lex_edit(
+            self.alloc,
+            &mut self.stepper,
+            self.text.as_str(),
+            &mut self.tokens,
+            &self.landmarks,
+            start,
+            stop,
+            insert,
+        )?;
+        put_text(&mut self.text, text);
+        self.landmarks = landmarks;
+        Ok(relexed)
+    }
+}
+
+/// Puts the new text in place of the old one, where there is one.
+fn put_text(old: &mut String, new: Option<String>)
+    ensures { string_bytes old.new ≡ bytes_or new (string_bytes old.old) }
+{
+    match new {
+        Some(new) => *old = new,
+        None => {}
+    }
+}
+
+impl LexedText<Steps> {
+    /// A copy of the text, which has at most `u32::MAX` bytes, and its tokens.
+    pub fn new(alloc: Global, text: &str) -> Result<LexedText<Steps>, AllocError>
+        requires fits { Fits text.now }
+        ensures text { IfOk result (λ l. l.text ≡ text.now) }
+        ensures from_scratch { IfOk result (λ l. l.tokens ≡ tokens_of No text.now) }
+        ensures grammar { IfOk result (λ l. ⟦<Steps as Stepper>⟧.grammar l.stepper ≡ first_token) }
+        ensures number { IfOk result (λ l. ⟦<Steps as Stepper>⟧.number l.stepper ≡ 2024) }
+        ensures count { IfOk result (λ l. ⟦<Steps as Stepper>⟧.count l.stepper ≡ length l.tokens) }
+    {
+        LexedText::with(alloc, text, Steps::new())
+    }
+}

@@ -1,0 +1,77 @@
+//! The pieces of a text that is kept with its tokens.
+ghost use Rattle.std.specs.Prelude.{◌≡◌, length};
+ghost use Rattle.std.specs.Iterator.{at_most};
+ghost use Rattle.rustc_lexer.specs.Pieces.{pieces_left, pieces_of, YieldsPiece};
+
+use crate::entry::stepper::Stepper;
+use crate::relex::lexed_text::LexedText;
+use crate::token::Token;
+use std::iter::Iterator;
+use std::marker::Model;
+
+/// A token, where it stands in its text, and its part of the text.
+#[derive(Clone, Copy, Debug, PartialEq, Eq)]
+pub struct Piece<'a> {
+    /// Where the token begins, in bytes from the start of the text.
+    pub start: u32,
+    /// The token.
+    pub token: Token,
+    /// The token's text.
+    pub text: &'a str,
+}
+
+/// An iterator over the pieces of a text, made by [`LexedText::pieces`].
+///
+/// A piece begins where the one before it ended, and its text is the slice of the text there.
+#[derive(Drop)]
+pub struct Pieces<'a> {
+    text: &'a str,
+    start: u32,
+    tokens: &'a [Token],
+}
+
+impl<'a> Model for Pieces<'a> {
+    ghost use Rattle.std.specs.Prelude.{◌≡◌, ◌<◌, ◌^◌, length};
+    ghost use Rattle.rustc_lexer.specs.Pieces.{Left, CutsFrom};
+
+    ghost Value = { Left };
+
+    ghost view = { λ p. record { text = p.text.now; start = p.start; tokens = p.tokens.now } };
+
+    ghost invariant = { λ p. (length p.text.now < 2 ^ 32) × CutsFrom p.text.now p.start p.tokens.now };
+}
+
+impl<'a> Iterator for Pieces<'a> {
+    type Item = Piece<'a>;
+
+    ghost next_gives = { YieldsPiece };
+
+    ghost remaining = { λ s. at_most (length s.tokens) };
+
+    /// The next piece, or `None` past the last one, from then on.
+    fn next(&mut self) -> Option<Piece<'a>> {
+        let (token, tokens) = self.tokens.split_first()?;
+        let end = self.start + token.len;
+        let piece = Piece {
+            start: self.start,
+            token: *token,
+            text: &self.text[self.start as usize..end as usize],
+        };
+        self.start = end;
+        self.tokens = tokens;
+        Some(piece)
+    }
+}
+
+impl<S: Stepper> LexedText<S> {
+    /// The pieces of the text, one for each token, in order.
+    pub fn pieces(&self) -> Pieces<'_>
+        ensures { pieces_left result ≡ pieces_of self.now.text self.now.tokens }
+    {
+        Pieces {
+            text: self.text(),
+            start: 0,
+            tokens: self.tokens(),
+        }
+    }
+}

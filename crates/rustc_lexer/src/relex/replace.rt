@@ -1,0 +1,45 @@
+//! The middle of a list of tokens, replaced in place.
+ghost use Rattle.std.specs.Prelude.{◌≡◌, ◌+◌, ◌≤◌, ◌++◌, OnOk, OnErr, length, take, drop};
+
+use crate::token::{Token, TokenKind};
+use std::alloc::AllocError;
+
+/// Puts the tokens in place of those from `from` up to `to`. It asks for memory once at most, where the list has no
+/// room, and before it changes anything.
+pub(crate) fn replace(
+    list: &mut Vec<Token>,
+    from: usize,
+    to: usize,
+    with: &[Token],
+) -> Result<(), AllocError>
+    requires from_le_to { from ≤ to }
+    requires to_inside { to ≤ length list.old.items }
+    ensures replaced { OnOk result (list.new.items ≡ take from list.old.items ++ (with.now ++ drop to list.old.items)) }
+    ensures same { OnErr result (list.new.items ≡ list.old.items) }
+{
+    if with.len() == to - from {
+        put(list.as_mut_slice(), from, with);
+        return Ok(());
+    }
+    let old_len = list.len();
+    let new_len = old_len - (to - from) + with.len();
+    if new_len > old_len {
+        let filler = Token {
+            kind: TokenKind::Eof,
+            len: 0,
+        };
+        list.resize(new_len, filler)?;
+    }
+    list.copy_within(to..old_len, from + with.len());
+    list.truncate(new_len);
+    put(list.as_mut_slice(), from, with);
+    Ok(())
+}
+
+/// Writes the tokens over those from `from` on.
+fn put(all: &mut [Token], from: usize, with: &[Token])
+    requires { from + length with.now ≤ length all.old }
+    ensures { all.new ≡ take from all.old ++ (with.now ++ drop (from + length with.now) all.old) }
+{
+    all[from..from + with.len()].copy_from_slice(with);
+}

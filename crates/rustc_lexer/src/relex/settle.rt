@@ -1,0 +1,38 @@
+//! How far the tokens of a text are sure, however the text goes on.
+ghost use Rattle.rustc_lexer.specs.declared.token.FrontmatterAllowed.TheVariants.{No};
+ghost use Rattle.rustc_lexer.specs.Classes.{Fits};
+ghost use Rattle.rustc_lexer.specs.Cuts.{tokens_by};
+ghost use Rattle.rustc_lexer.specs.Settled.{AreLocal, IsSettled, StaysUpTo};
+ghost use Rattle.rustc_lexer.specs.Tokens.{tokens_of};
+
+use crate::entry::stepper::{Stepper, Steps};
+use crate::relex::front::two_stand;
+
+/// The end of the last token, read with `FrontmatterAllowed::No`, that at least two characters follow, or 0.
+///
+/// Whatever is written behind the text, its tokens up to there stay as they are.
+pub fn settled(text: &str) -> usize
+    requires fits { Fits text.now }
+    ensures settled { IsSettled text.now (tokens_of No text.now) result }
+    ensures stays { StaysUpTo result text.now (tokens_of No) }
+    ensures local { AreLocal (tokens_of No) }
+{
+    settled_by(&mut Steps::new(), text)
+}
+
+/// The end of the last token that at least two characters follow, or 0.
+fn settled_by<S: Stepper>(stepper: &mut S, text: &str) -> usize
+    requires fits { Fits text.now }
+    ensures { IsSettled text.now (tokens_by (S.grammar stepper.old) text.now) result }
+{
+    let mut place = 0;
+    while place < text.len() {
+        let token = stepper.step(&text[place..]);
+        let next = place + token.len as usize;
+        if !two_stand(text, next, text.len()) {
+            break;
+        }
+        place = next;
+    }
+    place
+}

@@ -1,0 +1,78 @@
+//! The shebang line that a document may begin with.
+ghost use Rattle.std.specs.Prelude.{◌≡◌, ◌≤◌, IfSome, IsNone, codes, false, length};
+ghost use Rattle.std.specs.Str.{IsCharBoundary};
+ghost use Rattle.rustc_lexer.specs.Classes.{Fits};
+ghost use Rattle.rustc_lexer.specs.Scan.{begins};
+ghost use Rattle.rustc_lexer.specs.Shebang as spec;
+ghost use Rattle.rustc_lexer.specs.Tokens.{tokens_of};
+
+use crate::entry::tokenize;
+use crate::token::{FrontmatterAllowed, TokenKind};
+
+/// The length of the shebang line at the front of a text, without the end of the line; `None` where there is no
+/// such line. The text has at most `u32::MAX` bytes.
+///
+/// A shebang line begins with `#!`. It is none, but an attribute, where a bracket is the first token after that,
+/// past white space and comments that are no docs.
+///
+/// ```ignore
+/// let line = strip_shebang("#!/bin/sh\nfn"); // Some(9)
+/// let attribute = strip_shebang("#![no_std]"); // None
+/// ```
+pub fn strip_shebang(input: &str) -> Option<usize>
+    requires fits { Fits input.now }
+    ensures line { result ≡ spec.shebang input.now }
+    ensures range { IfSome result (λ end. (2 ≤ end) × (end ≤ length input.now)) }
+    ensures boundary { IfSome result (λ end. IsCharBoundary input.now end) }
+    ensures front { begins (codes "#!") input.now ≡ false → IsNone result }
+{
+    let tail = input.strip_prefix("#!")?;
+    if is_attribute(tail) {
+        return None;
+    }
+    Some(2 + line_len(tail))
+}
+
+/// Whether what follows `#!` is an attribute.
+fn is_attribute(tail: &str) -> bool
+    requires fits { Fits tail.now }
+    ensures { result ≡ spec.is_attribute (tokens_of FrontmatterAllowed.No tail.now) }
+{
+    for token in tokenize(tail, FrontmatterAllowed::No) {
+        if !is_passed(token.kind) {
+            return matches!(token.kind, TokenKind::OpenBracket);
+        }
+    }
+    false
+}
+
+/// Whether the token may stand between `#!` and the bracket of an attribute.
+fn is_passed(kind: TokenKind) -> bool
+    ensures { result ≡ spec.is_passed kind }
+{
+    matches!(
+        kind,
+        TokenKind::Whitespace
+            | TokenKind::LineComment { doc_style: None }
+            | TokenKind::BlockComment {
+                doc_style: None,
+                ..
+            }
+    )
+}
+
+/// The length of the first line, without its end.
+fn line_len(text: &str) -> usize
+    ensures line { result ≡ spec.line_len text.now }
+    ensures inside { result ≤ length text.now }
+    ensures boundary { IsCharBoundary text.now result }
+{
+    let Some(newline) = text.find('\n') else {
+        return text.len();
+    };
+    if 0 < newline && text.as_bytes()[newline - 1] == b'\r' {
+        newline - 1
+    } else {
+        newline
+    }
+}
