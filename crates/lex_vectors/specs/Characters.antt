@@ -3,10 +3,10 @@ use Rattle.std.proofs.Common.{ℕ, List, [], ◌∷◌, refl, arith}
 use Rattle.rustc_lexer.specs.declared.token.Token.{Token}
 use Rattle.rustc_lexer.specs.declared.token.TokenKind.{TokenKind}
 use Rattle.rustc_lexer.specs.declared.token.TokenKind.TheVariants.{Unknown, Eof}
-use Rattle.rustc_lexer.specs.Reach.{first_local, gives_local}
+use Rattle.rustc_lexer.specs.laws.Reach.{first_local, gives_local}
 use Rattle.rustc_lexer.specs.Scan.{IsLocal, gives, token_by}
 use Rattle.rustc_lexer.specs.Texts.{IsGrammar}
-use Rattle.rustc_lexer.specs.TokenBy.{token_by_local}
+use Rattle.rustc_lexer.specs.laws.TokenBy.{token_by_local}
 
 abbrev pub one_char : List ℕ → TokenKind × ℕ
 one_char [] = (Eof, 0)

@@ -3,7 +3,7 @@ use Rattle.std.proofs.Common.{◌≡◌, ℕ, zero, suc, pred, ◌+◌, ◌≤�
 use Rattle.std.proofs.Math.Bool.{and-true}
 use Rattle.rustc_lexer.specs.Least.{more}
 use Rattle.rustc_lexer.specs.BlockComment.{closing, opening, followed_by, end_within, comment_end}
-use Rattle.rustc_lexer.specs.BlockGrammar.{mark}
+use Rattle.rustc_lexer.specs.laws.BlockGrammar.{mark}
 use Rattle.rustc_lexer.specs.Scan.{begins}
 use Rattle.rustc_lexer.proofs.ScanLemmas.{more-more}
 

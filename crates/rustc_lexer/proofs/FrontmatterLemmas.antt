@@ -17,7 +17,7 @@ use Rattle.rustc_lexer.specs.Frontmatter.{closing, dashes, ends_line, fence_len,
 use Rattle.rustc_lexer.specs.Least.{one_more}
 use Rattle.rustc_lexer.specs.Lexeme.{first_token}
 use Rattle.rustc_lexer.proofs.RawLemmas.{place-here, place-on}
-use Rattle.rustc_lexer.specs.Reach.{run_len_le}
+use Rattle.rustc_lexer.specs.laws.Reach.{run_len_le}
 use Rattle.rustc_lexer.specs.Scan.{begins, bytes_of, next_is, past, run_len}
 use Rattle.rustc_lexer.specs.State.{HasSuffixWithin, token_at}
 use Rattle.rustc_lexer.specs.TokenText.{HasText}

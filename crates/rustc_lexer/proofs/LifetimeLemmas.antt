@@ -11,10 +11,10 @@ use Rattle.rustc_lexer.specs.Classes.{is_id_continue}
 use Rattle.rustc_lexer.specs.Emoji.{is_emoji}
 use Rattle.rustc_lexer.specs.Ident.{is_word, marks_ident}
 use Rattle.rustc_lexer.specs.Lifetime.{past_name, named, lifetime, is_character, quote_or_lifetime}
-use Rattle.rustc_lexer.specs.LifetimeLaws.{name_of, quoted_name, raw, unquoted}
+use Rattle.rustc_lexer.specs.laws.Lifetime.{name_of, quoted_name, raw, unquoted}
 use Rattle.rustc_lexer.specs.Literal.{literal}
 use Rattle.rustc_lexer.specs.Quoted.{char_body}
-use Rattle.rustc_lexer.specs.Reach.{run_len_le}
+use Rattle.rustc_lexer.specs.laws.Reach.{run_len_le}
 use Rattle.rustc_lexer.specs.Scan.{begins, bytes_of, past, run, run_len, scanned}
 use Rattle.rustc_lexer.proofs.PastLemmas.{past-zero, past-past, chars-past, length-past, IsUtf8-past}
 use Rattle.rustc_lexer.proofs.IdentLemmas.{has_emoji, word_runs, word_all, word_more}

@@ -13,7 +13,7 @@ use Rattle.rustc_lexer.specs.ByteRuns.{is_continue_byte, is_space_byte, is_wide}
 use Rattle.rustc_lexer.specs.Classes.{is_id_continue}
 use Rattle.rustc_lexer.specs.Emoji.{is_emoji}
 use Rattle.rustc_lexer.specs.Ident.{ident, is_prefix_mark, marks_ident}
-use Rattle.rustc_lexer.specs.ChoiceLaws.{by_arm}
+use Rattle.rustc_lexer.specs.laws.Choice.{by_arm}
 use Rattle.rustc_lexer.specs.Lexeme.{letters, word, symbol_kind, past_first, is_raw_mark, begins_raw}
 use Rattle.rustc_lexer.specs.Quick.{is_space_lead, turns_word, IsFirstToken}
 use Rattle.rustc_lexer.specs.Scan.{begins, next_is, past, run_len, scanned}

@@ -22,20 +22,20 @@ use Rattle.rustc_lexer.specs.BlockComment.{block_comment, block_comment_to, comm
 use Rattle.rustc_lexer.specs.Classes.{is_id_start, is_id_continue, is_ident}
 use Rattle.rustc_lexer.specs.Comment.{slash, line_comment}
 use Rattle.rustc_lexer.specs.Ident.{is_word, is_prefix_mark, ident, invalid_ident, marks_ident}
-use Rattle.rustc_lexer.specs.ChoiceLaws.{by_test, EachArm, by_arm, at_char}
+use Rattle.rustc_lexer.specs.laws.Choice.{by_test, EachArm, by_arm, at_char}
 use Rattle.rustc_lexer.specs.Lexeme.{whitespace, letter_r, letter_k, letter_b, letter_c, raw_or_ident, raw_past_or_ident, begins_raw, is_raw_mark, begins_word, letters, word, symbols, kind_among, symbol_kind, families, symbol, past_first, lexeme, first_token}
-use Rattle.rustc_lexer.specs.Lifetime.{is_marked, named, is_character, quote_or_lifetime}
-use Rattle.rustc_lexer.specs.LifetimeLaws.{is_raw, raw, quoted_name, unquoted}
+use Rattle.rustc_lexer.specs.Lifetime.{is_marked, named, is_character, quote_or_lifetime, is_raw}
+use Rattle.rustc_lexer.specs.laws.Lifetime.{raw, quoted_name, unquoted}
 use Rattle.rustc_lexer.specs.Literal.{Body, literal}
 use Rattle.rustc_lexer.specs.Number.{Front, is_sign, is_exponent_letter, begins_fraction, or_underscore, past_sign, past_letter, exponent, fraction_digits, fraction, past_digits, front, number_kind, number_body, number}
 use Rattle.rustc_lexer.specs.Quoted.{str_body, byte_str_body, c_str_body, char_body, byte_body}
 use Rattle.rustc_lexer.specs.Raw.{accepted, is_accepted, prefix_kind, prefix_len, raw_body, raw_literal, raw_read}
-use Rattle.rustc_lexer.specs.RawLaws.{raw_check_own}
-use Rattle.rustc_lexer.specs.Reach.{run_all}
+use Rattle.rustc_lexer.specs.laws.Raw.{raw_check_own}
+use Rattle.rustc_lexer.specs.laws.Reach.{run_all}
 use Rattle.rustc_lexer.specs.Scan.{after, begins, bytes_of, gives, next_is, past, run, run_len}
 use Rattle.rustc_lexer.specs.State.{suffix_start_of, HasSuffixWithin}
 use Rattle.rustc_lexer.specs.Texts.{IsText}
-use Rattle.rustc_lexer.specs.TokenBy.{scalars-take}
+use Rattle.rustc_lexer.specs.laws.TokenBy.{scalars-take}
 use Rattle.rustc_lexer.specs.Tokens.{tokens_of}
 use Rattle.rustc_lexer.specs.TokenText.{is_good, IsChecked, HasRawText, HasText, HaveTexts}
 use Rattle.rustc_lexer.proofs.CharSteps.{bytes_of-suc}
@@ -44,7 +44,7 @@ use Rattle.rustc_lexer.proofs.PastLemmas.{split_past}
 use Rattle.rustc_lexer.proofs.LiteralLemmas.{bytes-add, suffix_none, suffix_within, suffix-first}
 use Rattle.rustc_lexer.proofs.TokensLemmas.{by_tokens, tokens-nil, tokens-cons}
 use Rattle.rustc_lexer.specs.Hash.{is_guarded_mark, hash}
-use Rattle.rustc_lexer.specs.Lookahead.{first_token_grammar}
+use Rattle.rustc_lexer.specs.laws.Lookahead.{first_token_grammar}
 
 -- of what is read past the first character `c`: the suffix begins within the token, and its text is as the kind says
 record Tells (c : ℕ) (s : List ℕ) (read : TokenKind × ℕ) : Type 0 where

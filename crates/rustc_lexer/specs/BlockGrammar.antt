@@ -1,10 +1,7 @@
 -- A block comment as a relation: one rule for each form.
-use Rattle.std.proofs.Common.{◌≡◌, ℕ, zero, suc, ◌+◌, ◌≤◌, ◌==◌, ◌&&◌, Bool, true, false, true≢false, List, [], ◌∷◌, length, drop, refl, sym, ap, ◌∙◌, arith, subst, length-drop, Option, Some, None}
+use Rattle.std.specs.Prelude.{◌≡◌, ℕ, ◌+◌, false, List, ◌∷◌, drop, Some}
 use Rattle.std.specs.Str.{byte}
-use Rattle.std.proofs.lemmas.Bool.{and_parts, eqb-true}
-use Rattle.rustc_lexer.specs.Least.{more}
-use Rattle.rustc_lexer.specs.BlockComment.{closing, opening, end_within, comment_end, followed_by}
-use Rattle.rustc_lexer.specs.Scan.{begins}
+use Rattle.rustc_lexer.specs.BlockComment.{closing, opening, comment_end}
 
 -- what closes a comment, in so many characters: a closing mark; an opening mark, what closes the comment that it opens,
 -- and what closes this one after that; or a character that begins no mark, and what closes after it
@@ -15,62 +12,3 @@ pub data Closes : List ℕ → ℕ → Type 0 where
 
 abbrev pub IsEnd : List ℕ → ℕ → Type 0
 IsEnd s n = comment_end s ≡ Some n
-
--- the two characters that a text begins with
-pub record Mark (a b c : ℕ) (cs : List ℕ) : Type 0 where
-  pub rest : List ℕ
-  pub whole : c ∷ cs ≡ a ∷ b ∷ rest
-
-pub mark : (a b c : ℕ) (cs : List ℕ) → begins (a ∷ b ∷ []) (c ∷ cs) ≡ true → Mark a b c cs
-mark a b c [] e = absurd (true≢false (sym (and_parts (c == a) false e).1))
-mark a b c (d ∷ s) e =
-    let t = and_parts (c == a) (d == b && true) e in
-    record { rest = s; whole = ap (λ x. x ∷ d ∷ s) (eqb-true c a t.0) ∙ ap (λ x. a ∷ x ∷ s) (eqb-true d b (and_parts (d == b) true t.1).0) }
-
--- what a rule allows, the function finds
-found : (fuel : ℕ) {s : List ℕ} {n : ℕ} → Closes s n → length s ≤ fuel → end_within fuel s ≡ Some n
-found zero at_mark fits = absurd (omega arith)
-found zero (nested p q) fits = absurd (omega arith)
-found zero (past_one e f p) fits = absurd (omega arith)
-found (suc fuel) at_mark fits = refl
-found (suc fuel) (nested {s} {a} {b} p q) fits =
-    let one : end_within fuel s ≡ Some a = found fuel p (omega arith) in
-    let two : end_within fuel (drop a s) ≡ Some b = found fuel q (omega (arith, length-drop a s)) in
-    rw (one, two) refl
-found (suc fuel) (past_one {c} {m} {u} e f p) fits = let one : end_within fuel u ≡ Some m = found fuel p (omega arith) in rw (e, f, one) refl
-
-pub comment_end-found : {s : List ℕ} {n : ℕ} → Closes s n → comment_end s ≡ Some n
-comment_end-found {s} p = found (length s) p (omega arith)
-
--- what the function finds, a rule allows
-allowed : (fuel : ℕ) (s : List ℕ) (n : ℕ) → end_within fuel s ≡ Some n → Closes s n
-allowed zero s n e = absurd (cc)
-allowed (suc fuel) [] n e = absurd (cc)
-allowed (suc fuel) (c ∷ cs) n e = by_mark (allowed fuel) (closing (c ∷ cs)) (opening (c ∷ cs)) refl refl
-  where
-    two : (ih : (s : List ℕ) (n : ℕ) → end_within fuel s ≡ Some n → Closes s n) (s : List ℕ) (o : Option ℕ) → end_within fuel s ≡ o → more 2 (followed_by o (λ n. end_within fuel (drop n s))) ≡ Some n → Closes (47 ∷ 42 ∷ s) n
-    two ih s None e f = absurd (cc)
-    two ih s (Some a) e f = three (end_within fuel (drop a s)) refl f
-      where
-        three : (o : Option ℕ) → end_within fuel (drop a s) ≡ o → more 2 (more a o) ≡ Some n → Closes (47 ∷ 42 ∷ s) n
-        three None g f = absurd (cc)
-        three (Some b) g f = let same : 2 + (a + b) ≡ n = cc in subst (Closes (47 ∷ 42 ∷ s)) same (nested (ih s a e) (ih (drop a s) b g))
-
-    one : (ih : (s : List ℕ) (n : ℕ) → end_within fuel s ≡ Some n → Closes s n) (o : Option ℕ) → closing (c ∷ cs) ≡ false → opening (c ∷ cs) ≡ false → end_within fuel cs ≡ o → more 1 o ≡ Some n → Closes (c ∷ cs) n
-    one ih None x y e f = absurd (cc)
-    one ih (Some m) x y e f = let same : 1 + m ≡ n = cc in subst (Closes (c ∷ cs)) same (past_one x y (ih cs m e))
-
-    by_mark : (ih : (s : List ℕ) (n : ℕ) → end_within fuel s ≡ Some n → Closes s n) → (shut nests : Bool) → closing (c ∷ cs) ≡ shut → opening (c ∷ cs) ≡ nests → Closes (c ∷ cs) n
-    by_mark ih true nests x y =
-        let m = mark 42 47 c cs x in
-        let end : Some 2 ≡ Some n = sym (rw x refl) ∙ e in
-        let same : 2 ≡ n = cc in
-        subst (λ (s : List ℕ). Closes s n) (sym m.whole) (subst (Closes (42 ∷ 47 ∷ m.rest)) same at_mark)
-    by_mark ih false true x y =
-        let m = mark 47 42 c cs y in
-        let found_it : end_within (suc fuel) (47 ∷ 42 ∷ m.rest) ≡ Some n = subst (λ (s : List ℕ). end_within (suc fuel) s ≡ Some n) m.whole e in
-        subst (λ (s : List ℕ). Closes s n) (sym m.whole) (two ih m.rest (end_within fuel m.rest) refl found_it)
-    by_mark ih false false x y = one ih (end_within fuel cs) x y refl (rw (x, y) at e)
-
-pub comment_end-allowed : (s : List ℕ) (n : ℕ) → comment_end s ≡ Some n → Closes s n
-comment_end-allowed s n e = allowed (length s) s n e

@@ -32,13 +32,22 @@ past_name c name s =
 abbrev pub named : ℕ → List ℕ → TokenKind × ℕ
 named c s = and_then (run_as (λ name rest. name) is_word) (past_name c) s
 
+-- `r`, a hash and the start of an identifier begin a raw lifetime
+abbrev pub is_raw : ℕ → List ℕ → Bool
+is_raw c s = c == byte "r" && marks_ident s
+
 -- what follows the first character `c` of a name; `r`, a hash and the start of an identifier make a raw lifetime
 abbrev pub lifetime : ℕ → List ℕ → TokenKind × ℕ
-lifetime c s = if c == byte "r" && marks_ident s then after 2 (run RawLifetime is_id_continue) s else named c s
+lifetime c s = if is_raw c s then after 2 (run RawLifetime is_id_continue) s else named c s
 
 -- a character, and no lifetime: the second character is a quote, or the first one begins no name
 abbrev pub is_character : ℕ → List ℕ → Bool
 is_character c s = begins (codes "'") s || not (is_name_start c)
+
+-- the same of a text, whose end begins no name
+abbrev pub is_character_at : List ℕ → Bool
+is_character_at [] = true
+is_character_at (c ∷ s) = is_character c s
 
 -- what follows a single quote
 abbrev pub quote_or_lifetime : List ℕ → TokenKind × ℕ

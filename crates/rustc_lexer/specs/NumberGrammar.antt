@@ -1,5 +1,5 @@
 -- Numbers as a grammar: which texts are numbers, up to a suffix, and of which kind.
-use Rattle.std.specs.Prelude.{◌≡◌, ℕ, not, Bool, true, false, List, [], ◌∷◌, ◌++◌}
+use Rattle.std.specs.Prelude.{◌≡◌, ℕ, not, Bool, true, false, List, [], ◌∷◌, ◌++◌, take}
 use Rattle.std.specs.Char.{is_ascii_digit, is_ascii_hexdigit}
 use Rattle.std.specs.List.{list_all, list_any}
 use Rattle.std.specs.Str.{byte}
@@ -7,7 +7,7 @@ use Rattle.rustc_lexer.specs.declared.token.Base.{Base}
 use Rattle.rustc_lexer.specs.declared.token.Base.TheVariants.{Binary, Octal, Decimal, Hexadecimal}
 use Rattle.rustc_lexer.specs.declared.token.LiteralKind.{LiteralKind}
 use Rattle.rustc_lexer.specs.declared.token.LiteralKind.TheVariants.{Int, Float}
-use Rattle.rustc_lexer.specs.Number.{or_underscore, is_exponent_letter, is_sign}
+use Rattle.rustc_lexer.specs.Number.{or_underscore, is_exponent_letter, is_sign, number_kind}
 
 -- digits and underscores, if any
 abbrev pub AreDigits : (ℕ → Bool) → List ℕ → Type 0
@@ -37,3 +37,7 @@ pub data IsTail : Base → LiteralKind → List ℕ → Type 0 where
 pub data IsNumber : LiteralKind → List ℕ → Type 0 where
   of_prefix : {base : Base} {whole : List ℕ} → IsWhole base true whole → IsNumber (Int base true) whole
   of_parts : {base : Base} {kind : LiteralKind} {whole tail : List ℕ} → IsWhole base false whole → IsTail base kind tail → IsNumber kind (whole ++ tail)
+
+-- the text of a number, up to its suffix, is one of the grammar
+abbrev pub AreNumbers : Type 0
+AreNumbers = (first : ℕ) (s : List ℕ) → is_ascii_digit first ≡ true → IsNumber (number_kind first s).0 (first ∷ take (number_kind first s).1 s)

@@ -1,5 +1,5 @@
 -- Raw strings, and the check of one.
-use Rattle.std.specs.Prelude.{ℕ, zero, suc, ◌≡◌, ◌+◌, ◌-◌, ◌<◌, ◌==◌, nat_le, max, Bool, true, false, ◌&&◌, not, if◌then◌else◌, List, [], ◌∷◌, length, drop, Option, Some, None, Result, Ok, Err}
+use Rattle.std.specs.Prelude.{ℕ, zero, suc, ◌≡◌, ◌+◌, ◌-◌, ◌<◌, ◌==◌, nat_le, max, Bool, true, false, ◌&&◌, not, if◌then◌else◌, List, [], ◌∷◌, length, drop, Option, Some, None, IsNone, Result, Ok, Err}
 use Rattle.std.specs.Str.{byte, chars}
 use Rattle.rustc_lexer.specs.declared.lexemes.raw.RawPrefix.{RawPrefix}
 use Rattle.rustc_lexer.specs.declared.lexemes.raw.RawPrefix.TheVariants.{R, Br, Cr}
@@ -10,7 +10,7 @@ use Rattle.rustc_lexer.specs.declared.token.RawStrError.TheVariants.{InvalidStar
 use Rattle.rustc_lexer.specs.declared.token.TokenKind.{TokenKind}
 use Rattle.rustc_lexer.specs.Least.{least}
 use Rattle.rustc_lexer.specs.Literal.{Body, literal_past}
-use Rattle.rustc_lexer.specs.Scan.{after, bytes_of, gives, next_is, run_len}
+use Rattle.rustc_lexer.specs.Scan.{IsLocalAt, after, bytes_of, gives, next_is, run_len}
 
 -- the least place from which the text passes a test
 abbrev pub least_place : (List ℕ → Bool) → List ℕ → Option ℕ
@@ -138,3 +138,18 @@ is_r c = c == byte "r"
 pub record StartsRaw (text : List ℕ) (p : ℕ) : Type 0 where
   pub some : 0 < p
   pub letter : next_is is_r (drop (p - 1) (chars text)) ≡ true
+
+-- what is read has an end of its own, and not the end of the text; v is what follows the first hashes
+abbrev pub HasEnd : List ℕ → Result ℕ RawStrError → Type 0
+HasEnd v (Ok n) = Unit {0}
+HasEnd v (Err (TooManyDelimiters n)) = Unit {0}
+HasEnd v (Err (InvalidStarter c)) = 0 < length v
+HasEnd v (Err (NoTerminator n m end)) = ⊥
+
+-- what has an end of its own depends on nothing past it
+abbrev pub EndsItself : ℕ → Type 0
+EndsItself prefix = (s : List ℕ) → HasEnd (drop (hashes s) s) (raw_read prefix s).0 → IsLocalAt (Result ℕ RawStrError) 0 (raw_read prefix) s
+
+-- a refused raw string with an end of its own depends on nothing past it
+abbrev pub RefusedEndsItself : RawPrefix → Type 0
+RefusedEndsItself prefix = (s : List ℕ) → IsNone (accepted (raw_read 0 s).0) → HasEnd (drop (hashes s) s) (raw_read 0 s).0 → IsLocalAt TokenKind 0 (raw_literal prefix) s

@@ -1,7 +1,6 @@
 -- Texts as lists of bytes, and what one token may depend on.
 use Rattle.std.specs.Prelude.{ℕ, ◌≡◌, ◌<◌, ◌≤◌, ◌^◌, List, length, take, drop}
 use Rattle.std.specs.Str.{chars, IsUtf8}
-use Rattle.std.proofs.Common.{ap, arith, length-take}
 use Rattle.rustc_lexer.specs.declared.token.Token.{Token}
 
 -- the first characters of a text, two at most
@@ -17,10 +16,6 @@ pub record IsText (text : List ℕ) : Type 0 where
 pub record AgreePast (place : ℕ) (text other : List ℕ) : Type 0 where
   pub below : take place text ≡ take place other
   pub past : look (drop place text) ≡ look (drop place other)
-
--- a place inside one of them is inside the other
-pub agree_inside : (place : ℕ) (text other : List ℕ) → place ≤ length text → AgreePast place text other → place ≤ length other
-agree_inside place text other inside agree = let same = ap length agree.below in omega (arith, same, length-take place text, length-take place other)
 
 -- the law of a grammar: a first token is not empty, ends between characters, and is that of each text that agrees past its end
 pub record IsGrammar (first : List ℕ → Token) : Type 0 where

@@ -62,7 +62,7 @@ impl Steps {
 
 impl Stepper for Steps {
     ghost use Rattle.rustc_lexer.specs.Lexeme.{first_token};
-    ghost use Rattle.rustc_lexer.specs.Lookahead.{first_token_grammar};
+    ghost use Rattle.rustc_lexer.specs.laws.Lookahead.{first_token_grammar};
 
     ghost grammar = { λ _. first_token };
 

@@ -3,7 +3,7 @@ ghost use Rattle.std.specs.Prelude.{◌≡◌, ◌↔◌, ℕ, List};
 ghost use Rattle.std.specs.Str.{chars};
 ghost use Rattle.rustc_lexer.specs.declared.token.TokenKind.{TokenKind};
 ghost use Rattle.rustc_lexer.specs.BlockComment as spec;
-ghost use Rattle.rustc_lexer.specs.BlockCommentLaws.{IsClosedAlone};
+ghost use Rattle.rustc_lexer.specs.BlockComment.{IsClosedAlone};
 ghost use Rattle.rustc_lexer.specs.BlockGrammar.{Closes, IsEnd};
 ghost use Rattle.rustc_lexer.specs.Scan.{IsFound, IsLocal, or_all, scanned};
 

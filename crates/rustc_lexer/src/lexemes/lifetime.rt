@@ -7,7 +7,7 @@ ghost use Rattle.rustc_lexer.specs.declared.token.TokenKind.TheVariants.{Lifetim
 ghost use Rattle.rustc_lexer.specs.Emoji.{is_emoji};
 ghost use Rattle.rustc_lexer.specs.Ident.{is_word, marks_ident};
 ghost use Rattle.rustc_lexer.specs.Lifetime as spec;
-ghost use Rattle.rustc_lexer.specs.LifetimeLaws.{is_character_at, is_raw};
+ghost use Rattle.rustc_lexer.specs.Lifetime.{is_character_at, is_raw};
 ghost use Rattle.rustc_lexer.specs.Quoted.{single_quoted};
 ghost use Rattle.rustc_lexer.specs.Scan.{IsLocal, IsLocalAt, begins, past, run_len, scanned};
 

@@ -2,7 +2,7 @@
 ghost use Rattle.std.specs.Prelude.{◌≡◌, ℕ, ◌+◌, ◌<◌, ◌^◌, false, length};
 ghost use Rattle.std.specs.Char.{is_ascii_digit, is_ascii_hexdigit};
 ghost use Rattle.rustc_lexer.specs.Number as spec;
-ghost use Rattle.rustc_lexer.specs.NumberLaws.{AreNumbers};
+ghost use Rattle.rustc_lexer.specs.NumberGrammar.{AreNumbers};
 ghost use Rattle.rustc_lexer.specs.Scan.{IsLocal, scanned};
 ghost use Rattle.rustc_lexer.specs.declared.token.TokenKind.{TokenKind};
 

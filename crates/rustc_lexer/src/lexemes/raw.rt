@@ -7,7 +7,7 @@ ghost use Rattle.rustc_lexer.specs.declared.token.RawStrError.{RawStrError};
 ghost use Rattle.rustc_lexer.specs.declared.token.TokenKind.{TokenKind};
 ghost use Rattle.rustc_lexer.specs.Literal.{literal};
 ghost use Rattle.rustc_lexer.specs.Raw as spec;
-ghost use Rattle.rustc_lexer.specs.RawLaws.{EndsItself, RefusedEndsItself};
+ghost use Rattle.rustc_lexer.specs.Raw.{EndsItself, RefusedEndsItself};
 ghost use Rattle.rustc_lexer.specs.Scan.{IsLocal, past, run_len, scanned};
 
 use crate::lexemes::literal::eat_suffix;

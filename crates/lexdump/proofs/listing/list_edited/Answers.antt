@@ -1,7 +1,7 @@
 use Rattle.std.proofs.Common.{ℕ, List, Result, Ok, sym, ap, ◌∙◌}
 use Rattle.std.proofs.lemmas.Result.{err_from_is_err_and}
 use Rattle.rustc_lexer.specs.declared.token.FrontmatterAllowed.TheVariants.{No}
-use Rattle.rustc_lexer.specs.CutLaws.{tokens-by}
+use Rattle.rustc_lexer.specs.laws.Cuts.{tokens-by}
 use Rattle.rustc_lexer.specs.Tokens.{tokens_of}
 use Rattle.lexdump.specs.declared.fault.Fault.{Fault}
 use Rattle.lexdump.specs.Listing.{listing}

@@ -1,4 +1,4 @@
-use Rattle.rustc_lexer.specs.Lookahead.{lexeme_local, first_token_grammar}
+use Rattle.rustc_lexer.specs.laws.Lookahead.{lexeme_local, first_token_grammar}
 use Rattle.rustc_lexer.proofs.lexemes.lookahead.Goals as goal
 
 pub returns-clause-lexeme : goal.returns-clause-lexeme

@@ -1,4 +1,4 @@
-use Rattle.rustc_lexer.specs.HashLaws.{hash_local, prefix_local}
+use Rattle.rustc_lexer.specs.laws.Hash.{hash_local, prefix_local}
 use Rattle.rustc_lexer.proofs.lexemes.hash.hash_lookahead.Goals as goal
 
 pub returns : goal.returns

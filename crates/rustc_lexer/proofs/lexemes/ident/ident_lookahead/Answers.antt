@@ -1,4 +1,4 @@
-use Rattle.rustc_lexer.specs.IdentLaws.{ident_local, invalid_ident_local, marked_at}
+use Rattle.rustc_lexer.specs.laws.Ident.{ident_local, invalid_ident_local, marked_at}
 use Rattle.rustc_lexer.proofs.lexemes.ident.ident_lookahead.Goals as goal
 
 pub returns : goal.returns

@@ -1,4 +1,4 @@
-use Rattle.rustc_lexer.specs.LifetimeLaws.{named_local, quote_or_lifetime_local, char_at, raw_lifetime_at, long_char_at}
+use Rattle.rustc_lexer.specs.laws.Lifetime.{named_local, quote_or_lifetime_local, char_at, raw_lifetime_at, long_char_at}
 use Rattle.rustc_lexer.proofs.lexemes.lifetime.lifetime_lookahead.Goals as goal
 
 pub returns : goal.returns

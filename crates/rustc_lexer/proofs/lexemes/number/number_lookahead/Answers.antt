@@ -1,4 +1,4 @@
-use Rattle.rustc_lexer.specs.NumberLaws.{number_local, numbers-are}
+use Rattle.rustc_lexer.specs.laws.Number.{number_local, numbers-are}
 use Rattle.rustc_lexer.proofs.lexemes.number.number_lookahead.Goals as goal
 
 pub returns : goal.returns

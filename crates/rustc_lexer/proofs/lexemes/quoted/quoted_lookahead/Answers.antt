@@ -1,4 +1,4 @@
-use Rattle.rustc_lexer.specs.QuotedLaws.{double_quoted_local, double_quoted_closed, single_quoted_local, single_quoted_closed, str_local, byte_str_at, c_str_at, byte_at, byte_closed, char_local, char_closed}
+use Rattle.rustc_lexer.specs.laws.Quoted.{double_quoted_local, double_quoted_closed, single_quoted_local, single_quoted_closed, str_local, byte_str_at, c_str_at, byte_at, byte_closed, char_local, char_closed}
 use Rattle.rustc_lexer.proofs.lexemes.quoted.quoted_lookahead.Goals as goal
 
 pub returns : goal.returns

@@ -1,10 +1,10 @@
 use Rattle.rustc_lexer.specs.declared.token.FrontmatterAllowed.TheVariants.{No}
 use Rattle.rustc_lexer.specs.Cuts.{tokens_by}
 use Rattle.rustc_lexer.specs.Lexeme.{first_token}
-use Rattle.rustc_lexer.specs.Lookahead.{first_token_grammar}
+use Rattle.rustc_lexer.specs.laws.Lookahead.{first_token_grammar}
 use Rattle.rustc_lexer.specs.Tokens.{tokens_of}
 use Rattle.rustc_lexer.proofs.SettledLemmas.{same-local, same-stays, stays, local}
-use Rattle.rustc_lexer.specs.CutLaws.{tokens-by}
+use Rattle.rustc_lexer.specs.laws.Cuts.{tokens-by}
 use Rattle.rustc_lexer.proofs.relex.settle.settled.Goals as goal
 
 pub returns-clause-settled : goal.returns-clause-settled

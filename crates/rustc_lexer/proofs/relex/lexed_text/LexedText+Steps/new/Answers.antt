@@ -1,6 +1,6 @@
 use Rattle.std.proofs.Common.{sym, ◌∙◌}
 use Rattle.std.proofs.lemmas.Result.{IfOk-weaker}
-use Rattle.rustc_lexer.specs.CutLaws.{tokens-by}
+use Rattle.rustc_lexer.specs.laws.Cuts.{tokens-by}
 use Rattle.rustc_lexer.proofs.relex.lexed_text.LexedText+Steps.new.Goals as goal
 
 pub returns-clause-from_scratch : goal.returns-clause-from_scratch

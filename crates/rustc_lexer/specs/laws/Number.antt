@@ -10,11 +10,11 @@ use Rattle.rustc_lexer.specs.declared.token.Base.TheVariants.{Binary, Octal, Hex
 use Rattle.rustc_lexer.specs.declared.token.LiteralKind.{LiteralKind}
 use Rattle.rustc_lexer.specs.declared.token.LiteralKind.TheVariants.{Int, Float}
 use Rattle.rustc_lexer.specs.declared.token.TokenKind.{TokenKind}
-use Rattle.rustc_lexer.specs.ChoiceLaws.{by_test}
-use Rattle.rustc_lexer.specs.LiteralLaws.{literal_local}
+use Rattle.rustc_lexer.specs.laws.Choice.{by_test}
+use Rattle.rustc_lexer.specs.laws.Literal.{literal_local}
 use Rattle.rustc_lexer.specs.Number.{or_underscore, digits, Front, prefixed, binary, octal, hexadecimal, decimal, front_past_zero, front, float, is_exponent_letter, is_sign, past_sign, past_letter, exponent, fraction_digits, fraction, is_no_fraction, begins_fraction, past_digits, tail, number_kind, with_suffix, number_body, number}
-use Rattle.rustc_lexer.specs.NumberGrammar.{AreDigits, IsWhole, plain, with_b, with_o, with_x, IsExponent, signed, unsigned, IsTail, nothing, dot, of_fraction, of_exponent, of_both, IsNumber, of_prefix, of_parts}
-use Rattle.rustc_lexer.specs.Reach.{IsToldBy, next_is-told, wider, read_as_at, and_then_local, after_at, either_at, begins_local, next_is_local, gives_local, run_all, run_as_local, run_local}
+use Rattle.rustc_lexer.specs.NumberGrammar.{AreDigits, IsWhole, plain, with_b, with_o, with_x, IsExponent, signed, unsigned, IsTail, nothing, dot, of_fraction, of_exponent, of_both, IsNumber, of_prefix, of_parts, AreNumbers}
+use Rattle.rustc_lexer.specs.laws.Reach.{IsToldBy, next_is-told, wider, read_as_at, and_then_local, after_at, either_at, begins_local, next_is_local, gives_local, run_all, run_as_local, run_local}
 use Rattle.rustc_lexer.specs.Scan.{IsLocalAt, IsLocal, after, begins, gives, next_is, read_as, run, run_len}
 
 pub digits_local : (is_digit : ℕ → Bool) → IsLocal Bool 1 (digits is_digit)
@@ -158,9 +158,6 @@ front-is first s digit = by_test (λ (r : Front × ℕ). IsWhole r.0.base r.0.em
     at_zero t = subst (λ (x : ℕ). IsWhole (front_past_zero s).0.base (front_past_zero s).0.empty (x ∷ take (front_past_zero s).1 s)) (sym (eqb-true first 48 t)) past_zero-is
 
 -- the text of a number, up to its suffix, is one of the grammar
-abbrev pub AreNumbers : Type 0
-AreNumbers = (first : ℕ) (s : List ℕ) → is_ascii_digit first ≡ true → IsNumber (number_kind first s).0 (first ∷ take (number_kind first s).1 s)
-
 pub numbers-are : AreNumbers
 unfolding number_kind
 numbers-are first s digit = subst (λ (xs : List ℕ). IsNumber (tail f left).0 (first ∷ xs)) (sym (take-add (front first s).1 (tail f left).1 s)) (by_empty f.empty (front-is first s digit))

@@ -2,7 +2,7 @@
 use Rattle.std.proofs.Common.{◌≡◌, ℕ, zero, suc, ◌+◌, ◌≤◌, ◌<◌, ◌==◌, ◌&&◌, Bool, true, false, true≢false, if◌then◌else◌, List, [], ◌∷◌, length, get_or, take, drop, refl, sym, ap, ◌∙◌, subst, arith, length-drop, length-take, take-take, take_all, Option, Some, None}
 use Rattle.std.proofs.lemmas.List.{drop-take}
 use Rattle.std.specs.List.{list_all}
-use Rattle.rustc_lexer.specs.ChoiceLaws.{by_test}
+use Rattle.rustc_lexer.specs.laws.Choice.{by_test}
 use Rattle.rustc_lexer.specs.Least.{one_more, least}
 use Rattle.rustc_lexer.specs.Scan.{IsLocalAt, IsLocal, IsFound, or_all, or_all_at, then_by, and_then, gives, after, read_as, begins, next_is, run_len, run, run_as}
 

@@ -8,9 +8,9 @@ use Rattle.rustc_lexer.specs.declared.token.RawStrError.{RawStrError}
 use Rattle.rustc_lexer.specs.declared.token.RawStrError.TheVariants.{InvalidStarter, NoTerminator, TooManyDelimiters}
 use Rattle.rustc_lexer.specs.declared.token.TokenKind.{TokenKind}
 use Rattle.rustc_lexer.specs.Literal.{Body}
-use Rattle.rustc_lexer.specs.LiteralLaws.{literal_at}
-use Rattle.rustc_lexer.specs.Raw.{is_hash, is_quote, hashes, closes, close, raw_closed, raw_text, past_starter, raw_starter, raw_read, accepted, is_accepted, raw_body, prefix_kind, prefix_len, raw_literal, checked, raw_check}
-use Rattle.rustc_lexer.specs.Reach.{IsToldBy, cut, cut_past, told_same, wider, all_at, read_as_at, and_then_at, first_at, gives_local, run_len_le, run_len_same, found-same, least-some, least_found}
+use Rattle.rustc_lexer.specs.laws.Literal.{literal_at}
+use Rattle.rustc_lexer.specs.Raw.{is_hash, is_quote, hashes, closes, close, raw_closed, raw_text, past_starter, raw_starter, raw_read, accepted, is_accepted, raw_body, prefix_kind, prefix_len, raw_literal, checked, raw_check, HasEnd, EndsItself, RefusedEndsItself}
+use Rattle.rustc_lexer.specs.laws.Reach.{IsToldBy, cut, cut_past, told_same, wider, all_at, read_as_at, and_then_at, first_at, gives_local, run_len_le, run_len_same, found-same, least-some, least_found}
 use Rattle.rustc_lexer.specs.Scan.{IsLocalAt, IsLocal, IsFound, gives, run_len}
 
 run_len-take : (p : ℕ → Bool) (k : ℕ) (s : List ℕ) → run_len p (take k s) ≡ min k (run_len p s)
@@ -44,13 +44,6 @@ close-inside : (n : ℕ) (s : List ℕ) (i : ℕ) → close n s ≡ Some i → i
 close-inside n s i e =
     let is = least-some (λ place. closes n (drop place s)) (length s) i e in
     omega (arith, closes-length n (drop i s) is.here, length-drop i s)
-
--- what is read has an end of its own, and not the end of the text; v is what follows the first hashes
-abbrev pub HasEnd : List ℕ → Result ℕ RawStrError → Type 0
-HasEnd v (Ok n) = Unit {0}
-HasEnd v (Err (TooManyDelimiters n)) = Unit {0}
-HasEnd v (Err (InvalidStarter c)) = 0 < length v
-HasEnd v (Err (NoTerminator n m end)) = ⊥
 
 abbrev pub Read : Type 0
 Read = Result ℕ RawStrError × ℕ
@@ -126,9 +119,6 @@ raw_read_ended prefix s =
 pub raw_read_local : (prefix : ℕ) → IsLocal (Result ℕ RawStrError) 1 (raw_read prefix)
 raw_read_local prefix s = ended_local (drop (hashes s) s) (raw_read prefix) s (raw_read_ended prefix s)
 
-abbrev pub EndsItself : ℕ → Type 0
-EndsItself prefix = (s : List ℕ) → HasEnd (drop (hashes s) s) (raw_read prefix s).0 → IsLocalAt (Result ℕ RawStrError) 0 (raw_read prefix) s
-
 pub raw_read_within : (prefix : ℕ) → EndsItself prefix
 raw_read_within prefix s = (raw_read_ended prefix s).within
 
@@ -168,10 +158,6 @@ raw_body_local kind s = body_at 1 kind s (raw_read_local 0 s)
 
 pub raw_literal_local : (prefix : RawPrefix) → IsLocal TokenKind 1 (raw_literal prefix)
 raw_literal_local prefix s = literal_at (prefix_len prefix) 1 (raw_body (prefix_kind prefix)) s (λ e. omega arith) (raw_body_local (prefix_kind prefix) s)
-
--- a refused raw string with an end of its own depends on nothing past it
-abbrev pub RefusedEndsItself : RawPrefix → Type 0
-RefusedEndsItself prefix = (s : List ℕ) → IsNone (accepted (raw_read 0 s).0) → HasEnd (drop (hashes s) s) (raw_read 0 s).0 → IsLocalAt TokenKind 0 (raw_literal prefix) s
 
 pub refused-takes_none : (r : Result ℕ RawStrError) → IsNone (accepted r) → is_accepted r ≡ false
 refused-takes_none (Ok n) none = none

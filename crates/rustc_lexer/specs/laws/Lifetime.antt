@@ -8,12 +8,12 @@ use Rattle.rustc_lexer.specs.declared.token.TokenKind.{TokenKind}
 use Rattle.rustc_lexer.specs.declared.token.TokenKind.TheVariants.{Literal, Lifetime, RawLifetime, UnknownPrefixLifetime}
 use Rattle.rustc_lexer.specs.Classes.{is_id_continue}
 use Rattle.rustc_lexer.specs.Ident.{is_word, marks_ident}
-use Rattle.rustc_lexer.specs.IdentLaws.{marks_ident-told, past_mark_at}
-use Rattle.rustc_lexer.specs.Lifetime.{is_name_start, is_marked, past_name, named, lifetime, is_character, quote_or_lifetime}
+use Rattle.rustc_lexer.specs.laws.Ident.{marks_ident-told, past_mark_at}
+use Rattle.rustc_lexer.specs.Lifetime.{is_name_start, is_marked, past_name, named, lifetime, is_character, is_character_at, is_raw, quote_or_lifetime}
 use Rattle.rustc_lexer.specs.Literal.{literal}
 use Rattle.rustc_lexer.specs.Quoted.{char_body, single_quoted}
-use Rattle.rustc_lexer.specs.QuotedLaws.{char_local, char_closed, single_closed}
-use Rattle.rustc_lexer.specs.Reach.{IsToldBy, begins-told, begins-length, told_same, wider, same_at, and_then_at, and_then_local, yes_at, no_at, either_at, first_at, first_local, run_as_local}
+use Rattle.rustc_lexer.specs.laws.Quoted.{char_local, char_closed, single_closed}
+use Rattle.rustc_lexer.specs.laws.Reach.{IsToldBy, begins-told, begins-length, told_same, wider, same_at, and_then_at, and_then_local, yes_at, no_at, either_at, first_at, first_local, run_as_local}
 use Rattle.rustc_lexer.specs.Scan.{IsLocalAt, IsLocal, after, begins, gives, run, run_as, run_len}
 
 -- what a name is that no quote follows, and one that a quote follows
@@ -56,13 +56,10 @@ named_quoted c s t =
     and_then_at 1 0 name_of (past_name c) s (name_local s)
     (yes_at 1 0 (begins (codes "'")) (quoted_name c name) (unquoted c name) (begins-told (codes "'")) left t (omega arith) (quoted_name_at c name left t)) (omega arith)
 
--- what begins a raw lifetime, and what it is
-abbrev pub is_raw : ℕ → List ℕ → Bool
-is_raw c s = c == byte "r" && marks_ident s
-
 is_raw_told : (c : ℕ) → IsToldBy 2 (is_raw c)
 is_raw_told c s = ap (λ b. c == byte "r" && b) (marks_ident-told s)
 
+-- a raw lifetime
 abbrev pub raw : List ℕ → TokenKind × ℕ
 raw s = after 2 (run RawLifetime is_id_continue) s
 
@@ -76,10 +73,6 @@ lifetime_local c s = either_at 2 2 (is_raw c) raw (named c) (is_raw_told c) s (o
 abbrev of_name : List ℕ → TokenKind × ℕ
 of_name [] = (Lifetime false, 0)
 of_name (c ∷ s) = ((lifetime c s).0, suc (lifetime c s).1)
-
-abbrev pub is_character_at : List ℕ → Bool
-is_character_at [] = true
-is_character_at (c ∷ s) = is_character c s
 
 is_character_told : IsToldBy 2 is_character_at
 is_character_told [] = refl

@@ -3,9 +3,10 @@ use Rattle.std.proofs.Common.{◌≡◌, ℕ, suc, ◌+◌, ◌≤◌, true, fal
 use Rattle.rustc_lexer.specs.declared.token.DocStyle.{DocStyle}
 use Rattle.rustc_lexer.specs.declared.token.TokenKind.{TokenKind}
 use Rattle.rustc_lexer.specs.declared.token.TokenKind.TheVariants.{BlockComment}
-use Rattle.rustc_lexer.specs.BlockComment.{closing, opening, comment_end, block_doc_style, block_comment_to, block_comment}
-use Rattle.rustc_lexer.specs.BlockGrammar.{Closes, at_mark, nested, past_one, comment_end-found, comment_end-allowed}
-use Rattle.rustc_lexer.specs.Reach.{IsToldBy, cut, cut_past, HasFirst, cut_first, told_same, wider, all_at, found_at, found-inside, found-same}
+use Rattle.rustc_lexer.specs.BlockComment.{closing, opening, comment_end, block_doc_style, block_comment_to, block_comment, IsClosedAlone}
+use Rattle.rustc_lexer.specs.BlockGrammar.{Closes, at_mark, nested, past_one}
+use Rattle.rustc_lexer.specs.laws.BlockGrammar.{comment_end-found, comment_end-allowed}
+use Rattle.rustc_lexer.specs.laws.Reach.{IsToldBy, cut, cut_past, HasFirst, cut_first, told_same, wider, all_at, found_at, found-inside, found-same}
 use Rattle.rustc_lexer.specs.Scan.{IsLocalAt, IsLocal, IsFound}
 
 -- a mark has two characters, so each closed comment has
@@ -99,9 +100,6 @@ block_comment_local s = by_end (comment_end s) refl
     by_end (Some n) e = wider 0 1 (omega arith) (closed_at s n e)
 
 -- a closed comment is read alike whatever follows it
-abbrev pub IsClosedAlone : Type 0
-IsClosedAlone = (s : List ℕ) (style : Option DocStyle) → (block_comment s).0 ≡ BlockComment style true → IsLocalAt TokenKind 0 block_comment s
-
 pub closed_alone : IsClosedAlone
 closed_alone s style is = by_end (comment_end s) refl is
   where

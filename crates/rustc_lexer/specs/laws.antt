@@ -1,0 +1,15 @@
+pub mod BlockComment
+pub mod BlockGrammar
+pub mod Choice
+pub mod Cuts
+pub mod Hash
+pub mod Ident
+pub mod Lifetime
+pub mod Literal
+pub mod Lookahead
+pub mod Number
+pub mod Quoted
+pub mod Raw
+pub mod Reach
+pub mod Texts
+pub mod TokenBy
