@@ -2,7 +2,7 @@
 use Rattle.std.proofs.Common.{◌≡◌, ℕ, zero, suc, pred, ◌+◌, ◌≤◌, ◌==◌, ◌&&◌, Bool, true, false, if◌then◌else◌, List, [], ◌∷◌, length, drop, refl, sym, ap, ◌∙◌, arith, subst, length-drop, drop-drop, Option, Some, None}
 use Rattle.std.proofs.Math.Bool.{and-true}
 use Rattle.rustc_lexer.specs.Least.{more}
-use Rattle.rustc_lexer.specs.BlockComment.{closing, opening, followed_by, end_within, comment_end}
+use Rattle.rustc_lexer.specs.BlockComment.{at_closing, at_opening, followed_by, end_within, comment_end}
 use Rattle.rustc_lexer.specs.laws.BlockGrammar.{mark}
 use Rattle.rustc_lexer.specs.Scan.{begins}
 use Rattle.rustc_lexer.proofs.ScanLemmas.{more-more}
@@ -53,7 +53,7 @@ no_mark : (a b c d : ℕ) (s : List ℕ) → begins (a ∷ b ∷ []) (c ∷ d �
 no_mark a b c d s e = ap (λ x. (c == a) && x) (sym (and-true (d == b))) ∙ e
 
 -- a character that begins no mark changes nothing for the next
-ends-plain : (depth c : ℕ) (cs : List ℕ) → closing (c ∷ cs) ≡ false → opening (c ∷ cs) ≡ false → ends (suc depth) c cs ≡ ends (suc depth) 0 cs
+ends-plain : (depth c : ℕ) (cs : List ℕ) → at_closing (c ∷ cs) ≡ false → at_opening (c ∷ cs) ≡ false → ends (suc depth) c cs ≡ ends (suc depth) 0 cs
 ends-plain depth c [] no_close no_open = refl
 ends-plain depth c (e ∷ es) no_close no_open = rw (no_mark 47 42 c e es no_open, no_mark 42 47 c e es no_close) refl
 
@@ -66,13 +66,13 @@ Leaves fuel = (depth : ℕ) (s : List ℕ) → length s ≤ fuel → Leaves_from
 
 one_more : (fuel : ℕ) → Leaves fuel → Leaves (suc fuel)
 one_more fuel ih depth [] fits = refl
-one_more fuel ih depth (c ∷ cs) fits = by_mark (closing (c ∷ cs)) (opening (c ∷ cs)) refl refl
+one_more fuel ih depth (c ∷ cs) fits = by_mark (at_closing (c ∷ cs)) (at_opening (c ∷ cs)) refl refl
   where
-    at_closing : (s : List ℕ) → Leaves_from (suc fuel) depth (42 ∷ 47 ∷ s)
-    at_closing s = more-more 1 1 (ends depth 0 s)
+    past_closing : (s : List ℕ) → Leaves_from (suc fuel) depth (42 ∷ 47 ∷ s)
+    past_closing s = more-more 1 1 (ends depth 0 s)
 
-    at_opening : (s : List ℕ) → length s ≤ fuel → Leaves_from (suc fuel) depth (47 ∷ 42 ∷ s)
-    at_opening s small =
+    past_opening : (s : List ℕ) → length s ≤ fuel → Leaves_from (suc fuel) depth (47 ∷ 42 ∷ s)
+    past_opening s small =
         let inner : (a : ℕ) → ends (suc depth) 0 (drop a s) ≡ followed_by (end_within fuel (drop a s)) (λ b. ends depth 0 (drop b (drop a s))) =
         λ a. ih depth (drop a s) (omega (arith, length-drop a s)) in
         let both : ends (suc (suc depth)) 0 s ≡ followed_by (end_within fuel s) (λ a. followed_by (end_within fuel (drop a s)) (λ b. ends depth 0 (drop b (drop a s)))) =
@@ -87,9 +87,9 @@ one_more fuel ih depth (c ∷ cs) fits = by_mark (closing (c ∷ cs)) (opening (
         two : (n : ℕ) → drop (2 + n) (47 ∷ 42 ∷ s) ≡ drop n s
         two n = let e : 2 + n ≡ suc (suc n) = omega arith in rw e refl
 
-    by_mark : (shut nests : Bool) → closing (c ∷ cs) ≡ shut → opening (c ∷ cs) ≡ nests → Leaves_from (suc fuel) depth (c ∷ cs)
-    by_mark true nests e f = let m = mark 42 47 c cs e in subst {A = List ℕ} (λ s. Leaves_from (suc fuel) depth s) (sym m.whole) (at_closing m.rest)
-    by_mark false true e f = let m = mark 47 42 c cs f in subst {A = List ℕ} (λ s. Leaves_from (suc fuel) depth s) (sym m.whole) (at_opening m.rest (omega (arith, ap length m.whole)))
+    by_mark : (shut nests : Bool) → at_closing (c ∷ cs) ≡ shut → at_opening (c ∷ cs) ≡ nests → Leaves_from (suc fuel) depth (c ∷ cs)
+    by_mark true nests e f = let m = mark 42 47 c cs e in subst {A = List ℕ} (λ s. Leaves_from (suc fuel) depth s) (sym m.whole) (past_closing m.rest)
+    by_mark false true e f = let m = mark 47 42 c cs f in subst {A = List ℕ} (λ s. Leaves_from (suc fuel) depth s) (sym m.whole) (past_opening m.rest (omega (arith, ap length m.whole)))
     by_mark false false e f =
         let ending : ends (suc depth) c cs ≡ followed_by (end_within fuel cs) (λ n. ends depth 0 (drop n cs)) = ends-plain depth c cs e f ∙ ih depth cs (omega arith) in
         let here : (n : ℕ) → ends depth 0 (drop n cs) ≡ ends depth 0 (drop (1 + n) (c ∷ cs)) = λ n. let e : 1 + n ≡ suc n = omega arith in rw e refl in

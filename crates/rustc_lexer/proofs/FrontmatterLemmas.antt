@@ -13,7 +13,7 @@ use Rattle.rustc_lexer.specs.declared.token.Token.{Token}
 use Rattle.rustc_lexer.specs.declared.token.TokenKind.TheVariants.{Frontmatter, Eof}
 use Rattle.rustc_lexer.specs.Classes.{is_whitespace, is_id_start}
 use Rattle.rustc_lexer.specs.Comment.{is_no_newline}
-use Rattle.rustc_lexer.specs.Frontmatter.{closing, dashes, ends_line, fence_len, first, first_alone, first_some, frontmatter, full_fence, infostring_len, inner_attribute, inner_doc, is_dash, is_infostring, is_newline, label_len, line_end, lone_dashes, newline, opening_len, opens, past_newline, past_opening, past_place, places, places_from, recoveries, recovery, short_fence, spaces_len, stands_alone, then_len, use_item}
+use Rattle.rustc_lexer.specs.Frontmatter.{closing_end, dashes, ends_line, fence_len, first, first_alone, first_some, frontmatter, full_fence, infostring_len, inner_attribute, inner_doc, is_dash, is_infostring, is_newline, label_len, line_end, lone_dashes, newline, opening_len, opens, past_newline, past_opening, past_place, places, places_from, recoveries, recovery, short_fence, spaces_len, stands_alone, then_len, use_item}
 use Rattle.rustc_lexer.specs.Least.{one_more}
 use Rattle.rustc_lexer.specs.Lexeme.{first_token}
 use Rattle.rustc_lexer.proofs.RawLemmas.{place-here, place-on}
@@ -151,29 +151,29 @@ module _ (text fence label : List ℕ) (is : IsUtf8 text) (fence_is : fence ≡ 
     unfolding past_opening
     past_opening-is = past-then (then_len spaces_len (run_len is_dash)) label_len text label rest is (past-then spaces_len (run_len is_dash) text fence label is fence_is label_is) rest_is
 
-    pub frontmatter-is : (len end : ℕ) (space bad : Bool) → end ≡ closing (length fence - length label) rest → len ≡ length text - length rest + end → space ≡ next_is is_whitespace (chars text) → bad ≡ not (next_is is_newline (chars rest))
+    pub frontmatter-is : (len end : ℕ) (space bad : Bool) → end ≡ closing_end (length fence - length label) rest → len ≡ length text - length rest + end → space ≡ next_is is_whitespace (chars text) → bad ≡ not (next_is is_newline (chars rest))
         → record { kind = Frontmatter space bad; len = len } ≡ frontmatter text
     unfolding frontmatter past_opening
     frontmatter-is len end space bad end_is len_is space_is bad_is =
         let n : ℕ = opening_len (chars text) in
         let opening : length text - length rest ≡ bytes_of n (chars text) =
         let all : bytes_of n (chars text) + length rest ≡ length text = ap (λ (xs : List ℕ). bytes_of n (chars text) + length xs) past_opening-is ∙ length-past n text is in omega arith in
-        let ends : end ≡ closing (fence_len (chars text)) (past_opening text) = end_is ∙ (ap (λ k. closing k rest) dashes_are ∙ ap (closing (fence_len (chars text))) past_opening-is) in
-        let long : len ≡ bytes_of n (chars text) + closing (fence_len (chars text)) (past_opening text) = omega arith in
+        let ends : end ≡ closing_end (fence_len (chars text)) (past_opening text) = end_is ∙ (ap (λ k. closing_end k rest) dashes_are ∙ ap (closing_end (fence_len (chars text))) past_opening-is) in
+        let long : len ≡ bytes_of n (chars text) + closing_end (fence_len (chars text)) (past_opening text) = omega arith in
         ap (λ (b : Bool). let t : Token = record { kind = Frontmatter b bad; len = len } in t) space_is
         ∙ (ap (λ (b : Bool). let t : Token = record { kind = Frontmatter (next_is is_whitespace (chars text)) b; len = len } in t) (bad_is ∙ ap (λ xs. not (next_is is_newline (chars xs))) past_opening-is)
         ∙ ap (λ (k : ℕ). let t : Token = record { kind = Frontmatter (next_is is_whitespace (chars text)) (not (next_is is_newline (chars (past_opening text)))); len = k } in t) long)
 
 -- the closing, by what the searches answer
-pub closing-full : (n place : ℕ) (rest : List ℕ) → Some place ≡ first (newline ∷ dashes n) rest → line_end (place + 1) rest ≡ closing n rest
-unfolding closing
-closing-full n place rest e =
+pub closing_end-full : (n place : ℕ) (rest : List ℕ) → Some place ≡ first (newline ∷ dashes n) rest → line_end (place + 1) rest ≡ closing_end n rest
+unfolding closing_end
+closing_end-full n place rest e =
     ap (λ k. line_end k rest) (let same : place + 1 ≡ suc place = omega arith in same)
     ∙ ap (λ (o : Option ℕ). first_some (past_newline rest o ∷ recoveries rest) (length rest)) e
 
-pub closing-none : (n : ℕ) (rest : List ℕ) → None ≡ first (newline ∷ dashes n) rest → recovery rest ≡ closing n rest
-unfolding closing recovery
-closing-none n rest e = ap (λ (o : Option ℕ). first_some (past_newline rest o ∷ recoveries rest) (length rest)) e
+pub closing_end-none : (n : ℕ) (rest : List ℕ) → None ≡ first (newline ∷ dashes n) rest → recovery rest ≡ closing_end n rest
+unfolding closing_end recovery
+closing_end-none n rest e = ap (λ (o : Option ℕ). first_some (past_newline rest o ∷ recoveries rest) (length rest)) e
 
 pub recovery-is : (rest : List ℕ) (fence item doc attribute alone : Option ℕ) → fence ≡ first (newline ∷ dashes 3) rest → item ≡ use_item rest → doc ≡ inner_doc rest → attribute ≡ inner_attribute rest
     → alone ≡ first_alone 0 (places (dashes 3) rest) rest
@@ -278,9 +278,9 @@ alone-ends rest k e = by_place (first_alone 0 (places (dashes 3) rest) rest) ref
 whole-ends : (rest : List ℕ) → IsLineEnd rest (length rest)
 whole-ends rest = record { inside = omega arith; here = λ l. absurd (omega arith) }
 
-closing-ends : (n : ℕ) (rest : List ℕ) → IsLineEnd rest (closing n rest)
-unfolding closing
-closing-ends n rest =
+closing_end-ends : (n : ℕ) (rest : List ℕ) → IsLineEnd rest (closing_end n rest)
+unfolding closing_end
+closing_end-ends n rest =
     first_some-ends rest (full_fence n rest) (recoveries rest) (newline-ends (dashes n) rest)
     (first_some-ends rest (short_fence rest) _ (newline-ends (dashes 3) rest)
     (first_some-ends rest (use_item rest) _ (before-ends (codes "use ") rest)
@@ -302,14 +302,14 @@ frontmatter-cut text is e =
     let b : ℕ = bytes_of n s in
     let rest : List ℕ = past_opening text in
     let long : b + length rest ≡ length text = length-past n text is in
-    let ends : IsLineEnd rest (closing (fence_len s) rest) = closing-ends (fence_len s) rest in
+    let ends : IsLineEnd rest (closing_end (fence_len s) rest) = closing_end-ends (fence_len s) rest in
     let left : drop b text ≡ rest = sym (past-drop n text is) in
     let some : 3 ≤ fence_len s = begins-dashes 3 (drop (spaces_len s) s) (and_parts (begins (dashes 3) (drop (spaces_len s) s)) _ e).0 in
     let chars_some : 3 ≤ length s = omega (arith, run_len_le is_dash (drop (spaces_len s) s), length-drop (spaces_len s) s) in
     record {
       not_empty = omega (arith, length-le-encodes (take n s), length-take n s);
       inside = let i = ends.inside in omega arith;
-      boundary = IsCharBoundary-from_rest text b (closing (fence_len s) rest) (omega arith) (subst (λ xs. IsCharBoundary xs (closing (fence_len s) rest)) (sym left) (at_end rest (closing (fence_len s) rest) ends));
+      boundary = IsCharBoundary-from_rest text b (closing_end (fence_len s) rest) (omega arith) (subst (λ xs. IsCharBoundary xs (closing_end (fence_len s) rest)) (sym left) (at_end rest (closing_end (fence_len s) rest) ends));
     }
   where
     at_end : (rest : List ℕ) (place : ℕ) → IsLineEnd rest place → IsCharBoundary rest place

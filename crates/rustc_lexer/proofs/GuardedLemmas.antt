@@ -6,7 +6,7 @@ use Rattle.rustc_lexer.specs.declared.token.FrontmatterAllowed.{FrontmatterAllow
 use Rattle.rustc_lexer.specs.declared.token.GuardedStr.{GuardedStr}
 use Rattle.rustc_lexer.specs.Guarded.{closing_len, guarded_body, string_past, guarded_by, guarded}
 use Rattle.rustc_lexer.specs.Literal.{suffix_len}
-use Rattle.rustc_lexer.specs.Quoted.{double_quoted}
+use Rattle.rustc_lexer.specs.Quoted.{double_quoted_string}
 use Rattle.rustc_lexer.specs.Raw.{hashes, is_quote}
 use Rattle.rustc_lexer.specs.Scan.{begins, bytes_of, next_is, past, scanned}
 use Rattle.rustc_lexer.specs.State.{State}
@@ -26,10 +26,10 @@ module _ (rest : List ℕ) (is : IsUtf8 rest) (n : ℕ) (few : n ≤ hashes (cha
   hash_boundary = IsCharBoundary-from_drop rest n (let l = length-past n rest is in let b = hash_bytes_are in omega arith) (subst IsUtf8 (sym hash_cut) (IsUtf8-past n rest is))
 
 -- a string that is closed, with the hashes and the suffix after its quote
-module _ (body left mid end : List ℕ) (n : ℕ) (closed : Bool) (is : IsUtf8 body) (read : (closed, left) ≡ scanned double_quoted body)
+module _ (body left mid end : List ℕ) (n : ℕ) (closed : Bool) (is : IsUtf8 body) (read : (closed, left) ≡ scanned double_quoted_string body)
     (cut : mid ≡ past (min n (hashes (chars left))) left) (suffix : end ≡ past (suffix_len (chars mid)) mid) where
   abbrev q : ℕ
-  q = (double_quoted (chars body)).1
+  q = (double_quoted_string (chars body)).1
 
   abbrev ahead : List ℕ
   ahead = drop q (chars body)

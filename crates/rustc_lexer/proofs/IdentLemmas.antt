@@ -6,7 +6,7 @@ use Rattle.rustc_lexer.specs.declared.token.TokenKind.{TokenKind}
 use Rattle.rustc_lexer.specs.declared.token.TokenKind.TheVariants.{Ident, InvalidIdent, UnknownPrefix}
 use Rattle.rustc_lexer.specs.Classes.{is_id_start, is_id_continue}
 use Rattle.rustc_lexer.specs.Emoji.{is_emoji}
-use Rattle.rustc_lexer.specs.Ident.{is_word, is_prefix_mark, ident_kind, ident, invalid_ident, marks_ident}
+use Rattle.rustc_lexer.specs.Ident.{is_word, is_prefix_mark, ident_kind, ident_or_unknown_prefix, invalid_ident, marks_ident}
 use Rattle.rustc_lexer.specs.Scan.{begins, next_is, past, run_len, scanned}
 use Rattle.rustc_lexer.proofs.PastLemmas.{chars-past, past-past, past-two}
 
@@ -77,8 +77,8 @@ module _ (tail rest : List ℕ) (is : IsUtf8 tail) (e : rest ≡ past (len (char
   rest_is : chars rest ≡ drop (len (chars tail)) (chars tail)
   rest_is = ap chars e ∙ chars-past (len (chars tail)) tail is
 
-  pub ident-invalid : next_is is_emoji (chars rest) ≡ true → scanned invalid_ident rest ≡ scanned ident tail
-  ident-invalid h =
+  pub ident_or_unknown_prefix-invalid : next_is is_emoji (chars rest) ≡ true → scanned invalid_ident rest ≡ scanned ident_or_unknown_prefix tail
+  ident_or_unknown_prefix-invalid h =
       let cs : List ℕ = chars tail in
       let at : has_emoji cs ≡ true = sym (ap (next_is is_emoji) rest_is) ∙ h in
       let kind : ident_kind (take (run_len is_word cs) cs) (drop (run_len is_word cs) cs) ≡ InvalidIdent =
@@ -87,8 +87,8 @@ module _ (tail rest : List ℕ) (is : IsUtf8 tail) (e : rest ≡ past (len (char
       ap (λ ds. past (run_len is_word ds) rest) rest_is ∙ (ap (past (run_len is_word (drop (len cs) cs))) e ∙ (past-past (run_len is_word (drop (len cs) cs)) (len cs) tail is ∙ ap (λ n. past n tail) (sym (word_runs cs)))) in
       ap (λ xs. (InvalidIdent, xs)) more ∙ ap (λ (k : TokenKind). (k, past (run_len is_word cs) tail)) (sym kind)
 
-  pub ident-valid : next_is is_emoji (chars rest) ≡ false → ((if next_is is_prefix_mark (chars rest) then UnknownPrefix else Ident), rest) ≡ scanned ident tail
-  ident-valid h =
+  pub ident_or_unknown_prefix-valid : next_is is_emoji (chars rest) ≡ false → ((if next_is is_prefix_mark (chars rest) then UnknownPrefix else Ident), rest) ≡ scanned ident_or_unknown_prefix tail
+  ident_or_unknown_prefix-valid h =
       let cs : List ℕ = chars tail in
       let at : has_emoji cs ≡ false = sym (ap (next_is is_emoji) rest_is) ∙ h in
       let same : run_len is_word cs ≡ len cs = word_none cs at in

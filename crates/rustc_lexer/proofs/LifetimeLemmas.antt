@@ -10,8 +10,8 @@ use Rattle.rustc_lexer.specs.declared.token.TokenKind.TheVariants.{Literal, Life
 use Rattle.rustc_lexer.specs.Classes.{is_id_continue}
 use Rattle.rustc_lexer.specs.Emoji.{is_emoji}
 use Rattle.rustc_lexer.specs.Ident.{is_word, marks_ident}
-use Rattle.rustc_lexer.specs.Lifetime.{past_name, named, lifetime, is_character, quote_or_lifetime}
-use Rattle.rustc_lexer.specs.laws.Lifetime.{name_of, quoted_name, raw, unquoted}
+use Rattle.rustc_lexer.specs.Lifetime.{past_name, plain_lifetime, lifetime, is_character, lifetime_or_char}
+use Rattle.rustc_lexer.specs.laws.Lifetime.{name_of, quoted_name, raw, unquoted_name}
 use Rattle.rustc_lexer.specs.Literal.{literal}
 use Rattle.rustc_lexer.specs.Quoted.{char_body}
 use Rattle.rustc_lexer.specs.laws.Reach.{run_len_le}
@@ -27,24 +27,24 @@ module _ (text tail : List ℕ) (c : ℕ) (is : IsUtf8 text) (reads : chars text
       let one : bytes_of 1 (chars text) ≡ len_utf8 c = ap (bytes_of 1) reads ∙ (length-append (encode_utf8 c) [] ∙ let none : length (encode_utf8 c) + 0 ≡ len_utf8 c = omega (arith, length-encode c) in none) in
       omega (arith, length-past 1 text is, ap length cut)
 
-  pub pick-name : (r : TokenKind × List ℕ) → is_character c (chars tail) ≡ false → r ≡ scanned (lifetime c) tail → r ≡ scanned quote_or_lifetime text
+  pub pick-name : (r : TokenKind × List ℕ) → is_character c (chars tail) ≡ false → r ≡ scanned (lifetime c) tail → r ≡ scanned lifetime_or_char text
   pick-name r t e =
       let n : ℕ = (lifetime c (chars tail)).1 in
       let one : 1 + n ≡ suc n = omega arith in
       let left : past n tail ≡ past (suc n) text = ap (past n) cut ∙ (past-past n 1 text is ∙ ap (λ m. past m text) one) in
-      let at_name : quote_or_lifetime (c ∷ chars tail) ≡ ((lifetime c (chars tail)).0, suc n) = rw t refl in
-      let whole : quote_or_lifetime (chars text) ≡ ((lifetime c (chars tail)).0, suc n) = ap quote_or_lifetime reads ∙ at_name in
+      let at_name : lifetime_or_char (c ∷ chars tail) ≡ ((lifetime c (chars tail)).0, suc n) = rw t refl in
+      let whole : lifetime_or_char (chars text) ≡ ((lifetime c (chars tail)).0, suc n) = ap lifetime_or_char reads ∙ at_name in
       e ∙ (ap (λ (xs : List ℕ). ((lifetime c (chars tail)).0, xs)) left ∙ ap (λ (p : TokenKind × ℕ). (p.0, past p.1 text)) (sym whole))
 
-  pub pick-char : (r : TokenKind × List ℕ) → is_character c (chars tail) ≡ true → r ≡ scanned (literal char_body) text → r ≡ scanned quote_or_lifetime text
+  pub pick-char : (r : TokenKind × List ℕ) → is_character c (chars tail) ≡ true → r ≡ scanned (literal char_body) text → r ≡ scanned lifetime_or_char text
   pick-char r t e =
-      let at_char : quote_or_lifetime (c ∷ chars tail) ≡ literal char_body (c ∷ chars tail) = rw t refl in
-      let whole : quote_or_lifetime (chars text) ≡ literal char_body (chars text) = ap quote_or_lifetime reads ∙ (at_char ∙ ap (literal char_body) (sym reads)) in
+      let at_char : lifetime_or_char (c ∷ chars tail) ≡ literal char_body (c ∷ chars tail) = rw t refl in
+      let whole : lifetime_or_char (chars text) ≡ literal char_body (chars text) = ap lifetime_or_char reads ∙ (at_char ∙ ap (literal char_body) (sym reads)) in
       e ∙ ap (λ (p : TokenKind × ℕ). (p.0, past p.1 text)) (sym whole)
 
-pub pick-end : (text : List ℕ) (r : TokenKind × List ℕ) → chars text ≡ [] → r ≡ scanned (literal char_body) text → r ≡ scanned quote_or_lifetime text
+pub pick-end : (text : List ℕ) (r : TokenKind × List ℕ) → chars text ≡ [] → r ≡ scanned (literal char_body) text → r ≡ scanned lifetime_or_char text
 pick-end text r none e =
-    let whole : quote_or_lifetime (chars text) ≡ literal char_body (chars text) = ap quote_or_lifetime none ∙ ap (literal char_body) (sym none) in
+    let whole : lifetime_or_char (chars text) ≡ literal char_body (chars text) = ap lifetime_or_char none ∙ ap (literal char_body) (sym none) in
     e ∙ ap (λ (p : TokenKind × ℕ). (p.0, past p.1 text)) (sym whole)
 
 pub pick-raw : (c : ℕ) (text name rest : List ℕ) → IsUtf8 text → c ≡ 114 → marks_ident (chars text) ≡ true → name ≡ past 2 text → rest ≡ past (run_len is_id_continue (chars name)) name
@@ -52,10 +52,10 @@ pub pick-raw : (c : ℕ) (text name rest : List ℕ) → IsUtf8 text → c ≡ 1
 pick-raw c text name rest is e t cut left =
     let raw_is : (c == 114 && marks_ident (chars text)) ≡ true = rw e t in
     ap (λ (xs : List ℕ). (RawLifetime, xs)) left
-    ∙ (sym (scanned-after 2 (run RawLifetime is_id_continue) text name is cut) ∙ sym (scanned-yes (λ s. c == 114 && marks_ident s) raw (named c) text raw_is))
+    ∙ (sym (scanned-after 2 (run RawLifetime is_id_continue) text name is cut) ∙ sym (scanned-yes (λ s. c == 114 && marks_ident s) raw (plain_lifetime c) text raw_is))
 
-pub pick-named : (c : ℕ) (text : List ℕ) (r : TokenKind × List ℕ) → (c ≢ 114) ⊎ (marks_ident (chars text) ≡ false) → r ≡ scanned (named c) text → r ≡ scanned (lifetime c) text
-pick-named c text r out e = e ∙ sym (scanned-no (λ s. c == 114 && marks_ident s) raw (named c) text (not_raw out))
+pub pick-plain_lifetime : (c : ℕ) (text : List ℕ) (r : TokenKind × List ℕ) → (c ≢ 114) ⊎ (marks_ident (chars text) ≡ false) → r ≡ scanned (plain_lifetime c) text → r ≡ scanned (lifetime c) text
+pick-plain_lifetime c text r out e = e ∙ sym (scanned-no (λ s. c == 114 && marks_ident s) raw (plain_lifetime c) text (not_raw out))
   where
     not_raw : (c ≢ 114) ⊎ (marks_ident (chars text) ≡ false) → (c == 114 && marks_ident (chars text)) ≡ false
     not_raw (inl ne) = rw (ne_eqb c 114 ne) refl
@@ -72,11 +72,11 @@ shorter-by (suc n) text rest is le cut =
 past-quoted : (c : ℕ) (name end left : List ℕ) (n : ℕ) → begins (codes "'") (chars end) ≡ true → left ≡ past 1 end → n ≡ 2 + length (encode_utf8_all (c ∷ name)) → (Literal (Char true) n, left) ≡ scanned (past_name c name) end
 past-quoted c name end left n t cut len =
     ap (λ (k : ℕ). (Literal (Char true) k, left)) len
-    ∙ (ap (λ (xs : List ℕ). ((quoted_name c name []).0, xs)) cut ∙ sym (scanned-yes (begins (codes "'")) (quoted_name c name) (unquoted c name) end t))
+    ∙ (ap (λ (xs : List ℕ). ((quoted_name c name []).0, xs)) cut ∙ sym (scanned-yes (begins (codes "'")) (quoted_name c name) (unquoted_name c name) end t))
 
-past-unquoted : (c : ℕ) (name end : List ℕ) → IsUtf8 end → begins (codes "'") (chars end) ≡ false → ((unquoted c name (chars end)).0, end) ≡ scanned (past_name c name) end
-past-unquoted c name end is t =
-    ap (λ (xs : List ℕ). ((unquoted c name (chars end)).0, xs)) (sym (past-zero end is)) ∙ sym (scanned-no (begins (codes "'")) (quoted_name c name) (unquoted c name) end t)
+past-unquoted_name : (c : ℕ) (name end : List ℕ) → IsUtf8 end → begins (codes "'") (chars end) ≡ false → ((unquoted_name c name (chars end)).0, end) ≡ scanned (past_name c name) end
+past-unquoted_name c name end is t =
+    ap (λ (xs : List ℕ). ((unquoted_name c name (chars end)).0, xs)) (sym (past-zero end is)) ∙ sym (scanned-no (begins (codes "'")) (quoted_name c name) (unquoted_name c name) end t)
 
 -- the run of a name was read in two parts
 module _ (c : ℕ) (rest part end : List ℕ) (is : IsUtf8 rest) (first : part ≡ past (run_len is_id_continue (chars rest)) rest) (second : end ≡ past (run_len is_word (chars part)) part) where
@@ -107,21 +107,21 @@ module _ (c : ℕ) (rest part end : List ℕ) (is : IsUtf8 rest) (first : part �
       twice_not true = refl
       twice_not false = refl
 
-  named-is : scanned (named c) rest ≡ scanned (past_name c (take whole (chars rest))) end
+  plain_lifetime-is : scanned (plain_lifetime c) rest ≡ scanned (past_name c (take whole (chars rest))) end
   unfolding whole
-  named-is = scanned-and_then name_of (past_name c) rest end (take whole (chars rest)) is (ap (λ (xs : List ℕ). (take whole (chars rest), xs)) end-is)
+  plain_lifetime-is = scanned-and_then name_of (past_name c) rest end (take whole (chars rest)) is (ap (λ (xs : List ℕ). (take whole (chars rest), xs)) end-is)
 
-  pub named-quoted : (left : List ℕ) (w : ℕ) → begins (codes "'") (chars end) ≡ true → left ≡ past 1 end → w ≡ len_utf8 c → (Literal (Char true) (2 + (w + (length rest - length end))), left) ≡ scanned (named c) rest
-  named-quoted left w t cut is_w =
+  pub plain_lifetime-quoted : (left : List ℕ) (w : ℕ) → begins (codes "'") (chars end) ≡ true → left ≡ past 1 end → w ≡ len_utf8 c → (Literal (Char true) (2 + (w + (length rest - length end))), left) ≡ scanned (plain_lifetime c) rest
+  plain_lifetime-quoted left w t cut is_w =
       let name : List ℕ = take whole (chars rest) in
       let len : 2 + (w + (length rest - length end)) ≡ 2 + length (encode_utf8_all (c ∷ name)) =
       omega (arith, ap length end-is, length-past whole rest is, length-append (encode_utf8 c) (encode_utf8_all name), length-encode c) in
-      past-quoted c name end left (2 + (w + (length rest - length end))) t cut len ∙ sym named-is
+      past-quoted c name end left (2 + (w + (length rest - length end))) t cut len ∙ sym plain_lifetime-is
 
-  pub named-unquoted : (kind : TokenKind) (emoji : Bool) → begins (codes "'") (chars end) ≡ false → emoji ≡ ltb (length end) (length part)
-      → kind ≡ (if begins (codes "#") (chars end) && not (is_ascii_digit c) then UnknownPrefixLifetime else Lifetime (is_ascii_digit c || is_emoji c || emoji)) → (kind, end) ≡ scanned (named c) rest
-  named-unquoted kind emoji t same e =
+  pub plain_lifetime-unquoted_name : (kind : TokenKind) (emoji : Bool) → begins (codes "'") (chars end) ≡ false → emoji ≡ ltb (length end) (length part)
+      → kind ≡ (if begins (codes "#") (chars end) && not (is_ascii_digit c) then UnknownPrefixLifetime else Lifetime (is_ascii_digit c || is_emoji c || emoji)) → (kind, end) ≡ scanned (plain_lifetime c) rest
+  plain_lifetime-unquoted_name kind emoji t same e =
       let name : List ℕ = take whole (chars rest) in
       let utf8 : IsUtf8 end = rw end-is (IsUtf8-past whole rest is) in
       ap (λ (k : TokenKind). (k, end)) (e ∙ ap (λ b. if begins (codes "#") (chars end) && not (is_ascii_digit c) then UnknownPrefixLifetime else Lifetime (is_ascii_digit c || is_emoji c || b)) (same ∙ emoji-is))
-      ∙ (past-unquoted c name end utf8 t ∙ sym named-is)
+      ∙ (past-unquoted_name c name end utf8 t ∙ sym plain_lifetime-is)

@@ -8,7 +8,7 @@ use Rattle.rustc_lexer.specs.declared.token.Base.{Base}
 use Rattle.rustc_lexer.specs.declared.token.Base.TheVariants.{Decimal}
 use Rattle.rustc_lexer.specs.declared.token.LiteralKind.{LiteralKind}
 use Rattle.rustc_lexer.specs.declared.token.LiteralKind.TheVariants.{Int}
-use Rattle.rustc_lexer.specs.Number.{is_underscore, or_underscore, digits, Front, front_of, binary, octal, hexadecimal, decimal, front_past_zero, is_exponent_letter, past_letter, fraction, is_no_fraction, begins_fraction, past_digits, front, tail, number_kind}
+use Rattle.rustc_lexer.specs.Number.{is_underscore, or_underscore, digits, Front, front_of, binary, octal, hexadecimal, decimal, front_past_zero, is_exponent_letter, float_exponent, fraction, is_no_fraction, begins_fraction, past_digits, front, tail, number_kind}
 use Rattle.rustc_lexer.specs.Scan.{after, begins, gives, next_is, past, run_len, scanned}
 use Rattle.rustc_lexer.proofs.PastLemmas.{IsUtf8-past, chars-past, past-past}
 use Rattle.rustc_lexer.proofs.ScanLemmas.{scanned-and_then, next_is-cons, next_is-nil, scanned-after, scanned-gives, scanned-same, scanned-yes, scanned-no}
@@ -76,7 +76,7 @@ begins_fraction-first c s cs e = ap begins_fraction e ∙ ap (λ b. b && not (ne
     by_test false = refl
 
 abbrev no_fraction : Base → List ℕ → LiteralKind × ℕ
-no_fraction base s = if next_is is_exponent_letter s then after 1 (past_letter base) s else gives (Int base false) s
+no_fraction base s = if next_is is_exponent_letter s then after 1 (float_exponent base) s else gives (Int base false) s
 
 -- what follows the digits of a number
 module _ (base : Base) (text tail : List ℕ) (c : ℕ) (is : IsUtf8 text) (cs : chars text ≡ c ∷ chars tail) (at : tail ≡ past 1 text) where
@@ -97,16 +97,16 @@ module _ (base : Base) (text tail : List ℕ) (c : ℕ) (is : IsUtf8 text) (cs :
       let stops : next_is is_no_fraction (chars tail) ≡ true = next_is-first is_no_fraction (chars tail) is_no_fraction-zero ∙ f in
       let begins_none : ((c == 46) && not true) ≡ false = rw (eq-eqb c 46 e) refl in
       let no_letter : is_exponent_letter c ≡ false = rw e refl in
-      fraction-no true begins_none stops ∙ (next-out (past_letter base) int text tail c is cs at is_exponent_letter no_letter ∙ scanned-gives _ text is)
+      fraction-no true begins_none stops ∙ (next-out (float_exponent base) int text tail c is cs at is_exponent_letter no_letter ∙ scanned-gives _ text is)
 
   begins-other : c ≢ 46 → (b : Bool) → ((c == 46) && not b) ≡ false
   begins-other e b = rw (ne_eqb c 46 e) refl
 
-  pub pick-exponent : c ≢ 46 → is_exponent_letter c ≡ true → scanned (past_digits base) text ≡ scanned (past_letter base) tail
-  pick-exponent e f = fraction-no _ (begins-other e _) refl ∙ next-in (past_letter base) int text tail c is cs at is_exponent_letter f
+  pub pick-exponent : c ≢ 46 → is_exponent_letter c ≡ true → scanned (past_digits base) text ≡ scanned (float_exponent base) tail
+  pick-exponent e f = fraction-no _ (begins-other e _) refl ∙ next-in (float_exponent base) int text tail c is cs at is_exponent_letter f
 
   pub pick-int : c ≢ 46 → is_exponent_letter c ≡ false → scanned (past_digits base) text ≡ (Int base false, text)
-  pick-int e f = fraction-no _ (begins-other e _) refl ∙ (next-out (past_letter base) int text tail c is cs at is_exponent_letter f ∙ scanned-gives _ text is)
+  pick-int e f = fraction-no _ (begins-other e _) refl ∙ (next-out (float_exponent base) int text tail c is cs at is_exponent_letter f ∙ scanned-gives _ text is)
 
 pub past_digits-end : (base : Base) (text : List ℕ) → IsUtf8 text → chars text ≡ [] → scanned (past_digits base) text ≡ (Int base false, text)
 past_digits-end base text is e = scanned-same (past_digits base) (gives (Int base false)) text (ap (past_digits base) e) ∙ scanned-gives _ text is

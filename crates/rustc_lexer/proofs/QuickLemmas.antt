@@ -12,13 +12,13 @@ use Rattle.rustc_lexer.specs.declared.token.TokenKind.TheVariants.{Ident, Unknow
 use Rattle.rustc_lexer.specs.ByteRuns.{is_continue_byte, is_space_byte, is_wide}
 use Rattle.rustc_lexer.specs.Classes.{is_id_continue}
 use Rattle.rustc_lexer.specs.Emoji.{is_emoji}
-use Rattle.rustc_lexer.specs.Ident.{ident, is_prefix_mark, marks_ident}
+use Rattle.rustc_lexer.specs.Ident.{ident_or_unknown_prefix, is_prefix_mark, marks_ident}
 use Rattle.rustc_lexer.specs.laws.Choice.{by_arm}
 use Rattle.rustc_lexer.specs.Lexeme.{letters, word, symbol_kind, past_first, is_raw_mark, begins_raw}
 use Rattle.rustc_lexer.specs.Quick.{is_space_lead, turns_word, IsFirstToken}
 use Rattle.rustc_lexer.specs.Scan.{begins, next_is, past, run_len, scanned}
 use Rattle.rustc_lexer.proofs.BridgeLemmas.{chars-ascii, IsUtf8-ascii, skips, stops_here}
-use Rattle.rustc_lexer.proofs.IdentLemmas.{ident-valid}
+use Rattle.rustc_lexer.proofs.IdentLemmas.{ident_or_unknown_prefix-valid}
 use Rattle.rustc_lexer.proofs.LexemeLemmas.{made}
 use Rattle.rustc_lexer.proofs.PartLemmas.{continue_part}
 use Rattle.rustc_lexer.proofs.PastLemmas.{past-one, chars-past}
@@ -93,10 +93,10 @@ is_plain (c ∷ cs) h =
         let more : run_len is_id_continue (c ∷ cs) ≡ suc (run_len is_id_continue cs) = rw (ap is_id_continue (eqb-true c 114 e) ∙ r-continues) refl in
         rw e (no_raw cs (no_mark cs (subst (λ n. next_is is_prefix_mark (drop n (c ∷ cs)) ≡ false) more h)))
 
-word-plain : (b : ℕ) (s : List ℕ) → next_is is_prefix_mark (drop (run_len is_id_continue s) s) ≡ false → word b s ≡ ident s
+word-plain : (b : ℕ) (s : List ℕ) → next_is is_prefix_mark (drop (run_len is_id_continue s) s) ≡ false → word b s ≡ ident_or_unknown_prefix s
 word-plain b s h =
     let p = is_plain s h in
-    by_arm (λ c scan. scan s ≡ ident s) letters (λ c. ident) b (
+    by_arm (λ c scan. scan s ≡ ident_or_unknown_prefix s) letters (λ c. ident_or_unknown_prefix) b (
       λ c e. rw (p.no_ident, p.no_hash) refl,
       (
         λ c e. rw p.no_ident refl,
@@ -152,7 +152,7 @@ word_first text b rest end is e small family counted ends = first text b rest Id
         let place : left ≡ past (run_len is_id_continue (chars rest)) rest = stops_here is_continue_byte is_id_continue continue_part rest rest end inner refl counted left refl next.1.1 in
         let unmarked : next_is is_prefix_mark (drop (run_len is_id_continue (chars rest)) (chars rest)) ≡ false =
         sym (ap (next_is is_prefix_mark) (ap chars place ∙ chars-past (run_len is_id_continue (chars rest)) rest inner)) ∙ next.1.0 in
-        by_family Word b rest _ (ap (λ (t : Bool). let k : TokenKind = if t then UnknownPrefix else Ident in (k, left)) (sym next.1.0) ∙ (ident-valid rest left inner place next.0 ∙ sym (scanned-same (word b) ident rest (word-plain b (chars rest) unmarked)))) family
+        by_family Word b rest _ (ap (λ (t : Bool). let k : TokenKind = if t then UnknownPrefix else Ident in (k, left)) (sym next.1.0) ∙ (ident_or_unknown_prefix-valid rest left inner place next.0 ∙ sym (scanned-same (word b) ident_or_unknown_prefix rest (word-plain b (chars rest) unmarked)))) family
 
 pub space_first : (text : List ℕ) (b : ℕ) (rest : List ℕ) (end : ℕ) → IsUtf8 text → text ≡ b ∷ rest → b < 128 → Space ≡ family_of b → end ≡ prefix_len is_space_byte rest → not (next_is is_space_lead (drop end rest)) ≡ true
     → IsFirstToken text record { kind = Whitespace; len = 1 + end }
@@ -168,7 +168,7 @@ symbol_first text b rest kind is e small family same = first text b rest kind 0 
     told inner = by_family Symbol b rest _ (ap (λ (k : TokenKind). (k, rest)) same ∙ sym (scanned-gives (symbol_kind b) rest inner)) family
 
 -- an identifier, by the byte after it
-pub ident_ends : (tail rest bytes : List ℕ) → IsUtf8 tail → IsUtf8 rest → rest ≡ past (run_len is_id_continue (chars tail)) tail → bytes ≡ rest → not (next_is turns_word bytes) ≡ true → (Ident, rest) ≡ scanned ident tail
-ident_ends tail rest bytes is whole place read ends =
+pub ident_or_unknown_prefix_ends : (tail rest bytes : List ℕ) → IsUtf8 tail → IsUtf8 rest → rest ≡ past (run_len is_id_continue (chars tail)) tail → bytes ≡ rest → not (next_is turns_word bytes) ≡ true → (Ident, rest) ≡ scanned ident_or_unknown_prefix tail
+ident_or_unknown_prefix_ends tail rest bytes is whole place read ends =
     let next = turned-emoji rest whole (sym (ap (next_is turns_word) read) ∙ not-true _ ends) in
-    ap (λ (t : Bool). let k : TokenKind = if t then UnknownPrefix else Ident in (k, rest)) (sym next.1.0) ∙ ident-valid tail rest is place next.0
+    ap (λ (t : Bool). let k : TokenKind = if t then UnknownPrefix else Ident in (k, rest)) (sym next.1.0) ∙ ident_or_unknown_prefix-valid tail rest is place next.0

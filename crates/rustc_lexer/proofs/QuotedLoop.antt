@@ -5,7 +5,7 @@ use Rattle.std.proofs.lemmas.Bool.{ne_eqb}
 use Rattle.rustc_lexer.specs.Scan.{begins, past, run_len, scanned}
 use mathlib.Core.List.{reverse_aux}
 use Rattle.rustc_lexer.specs.Least.{one_more, least}
-use Rattle.rustc_lexer.specs.Quoted.{is_backslash, is_odd, free_place, stopped, quoted, at_single_stop, is_lone, single_quoted}
+use Rattle.rustc_lexer.specs.Quoted.{is_backslash, is_odd, free_place, stopped, quoted, at_single_stop, is_lone, single_quoted_string}
 use Rattle.rustc_lexer.proofs.ScanLemmas.{run_len-stop}
 use Rattle.rustc_lexer.proofs.PastLemmas.{past-zero, past-past, past-two, chars-past, IsUtf8-past}
 
@@ -142,10 +142,10 @@ pub single-closed : (c : ℕ) (s : List ℕ) → c ≡ 39 → at_single_stop (c 
 single-closed c s e = rw e refl
 
 -- one character and its quote
-pub single-lone : (text rest : List ℕ) → is_lone (chars text) ≡ true → rest ≡ past 2 text → (true, rest) ≡ scanned single_quoted text
+pub single-lone : (text rest : List ℕ) → is_lone (chars text) ≡ true → rest ≡ past 2 text → (true, rest) ≡ scanned single_quoted_string text
 single-lone text rest t e = ap (λ xs. (true, xs)) e ∙ ap (λ (b : Bool). let r : Bool × ℕ = if b then (true, 2) else quoted 39 at_single_stop (chars text) in (r.0, past r.1 text)) (sym t)
 
-pub single-free : (text : List ℕ) → is_lone (chars text) ≡ false → scanned (quoted 39 at_single_stop) text ≡ scanned single_quoted text
+pub single-free : (text : List ℕ) → is_lone (chars text) ≡ false → scanned (quoted 39 at_single_stop) text ≡ scanned single_quoted_string text
 single-free text t = ap (λ (b : Bool). let r : Bool × ℕ = if b then (true, 2) else quoted 39 at_single_stop (chars text) in (r.0, past r.1 text)) (sym t)
 
 module _ (text tail : List ℕ) (c : ℕ) (is : IsUtf8 text) (reads : chars text ≡ c ∷ chars tail) (cut : tail ≡ past 1 text) where

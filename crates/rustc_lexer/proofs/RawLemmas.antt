@@ -7,7 +7,7 @@ use Rattle.std.proofs.lemmas.Str.{encode_ascii, IsCharBoundary-from_drop}
 use Rattle.rustc_lexer.specs.declared.token.RawStrError.{RawStrError}
 use Rattle.rustc_lexer.specs.declared.token.RawStrError.TheVariants.{NoTerminator}
 use Rattle.rustc_lexer.specs.Least.{one_more, more}
-use Rattle.rustc_lexer.specs.Raw.{least_place, is_hash, is_quote, is_no_quote, hashes, closes, close, quote_hashes, most_hashes, quote_with, quote_if, best_quote, quote_end, counted, raw_closed, raw_text}
+use Rattle.rustc_lexer.specs.Raw.{least_place, is_hash, is_quote, is_no_quote, hashes, closes, close, quote_hashes, most_hashes, quote_with, quote_if, best_quote, quote_end, hash_count, raw_closed, raw_text}
 use Rattle.rustc_lexer.specs.Scan.{begins, bytes_of, past, run_len, scanned}
 use Rattle.rustc_lexer.proofs.CharSteps.{bytes_of-suc}
 use Rattle.rustc_lexer.proofs.ScanLemmas.{run_len-stop, more-more}
@@ -241,7 +241,7 @@ module _ (n before : ℕ) (text left tail next : List ℕ) (found : ℕ) (end : 
     pub may_cut : IsCharBoundary tail n
     may_cut = IsCharBoundary-from_drop tail n (let l = length-past n tail tail_utf8 in let b = few_bytes in omega arith) (subst IsUtf8 (sym cut_is) (IsUtf8-past n tail tail_utf8))
 
-    pub closed_here : (read : Result ℕ RawStrError) (cut : List ℕ) → read ≡ counted n → cut ≡ drop n tail → (read, cut) ≡ scanned (raw_text n before) text
+    pub closed_here : (read : Result ℕ RawStrError) (cut : List ℕ) → read ≡ hash_count n → cut ≡ drop n tail → (read, cut) ≡ scanned (raw_text n before) text
     closed_here read cut e f =
         let k : ℕ = run_len is_no_quote (chars left) in
         let closes_here : close n (chars text) ≡ Some (at.taken + k) =
@@ -249,7 +249,7 @@ module _ (n before : ℕ) (text left tail next : List ℕ) (found : ℕ) (end : 
         let same : (at.taken + suc k) + n ≡ suc (at.taken + k) + n = omega arith in
         let left_is : cut ≡ past (suc (at.taken + k) + n) text = f ∙ (cut_is ∙ (ap (past n) tail_at ∙ (past-past n (at.taken + suc k) text is ∙ ap (λ (m : ℕ). past m text) same))) in
         ap (λ (r : Result ℕ RawStrError). (r, cut)) e
-        ∙ (ap (λ (xs : List ℕ). (counted n, xs)) left_is
+        ∙ (ap (λ (xs : List ℕ). (hash_count n, xs)) left_is
         ∙ ap (λ (o : Option ℕ). ((raw_closed n before (chars text) o).0, past (raw_closed n before (chars text) o).1 text)) (sym closes_here))
 
 drop-length : (s : List ℕ) → drop (length s) s ≡ []

@@ -21,13 +21,13 @@ use Rattle.rustc_lexer.specs.declared.token.TokenKind.TheVariants.{Ident, RawIde
 use Rattle.rustc_lexer.specs.BlockComment.{block_comment, block_comment_to, comment_end}
 use Rattle.rustc_lexer.specs.Classes.{is_id_start, is_id_continue, is_ident}
 use Rattle.rustc_lexer.specs.Comment.{slash, line_comment}
-use Rattle.rustc_lexer.specs.Ident.{is_word, is_prefix_mark, ident, invalid_ident, marks_ident}
+use Rattle.rustc_lexer.specs.Ident.{is_word, is_prefix_mark, ident_or_unknown_prefix, invalid_ident, marks_ident}
 use Rattle.rustc_lexer.specs.laws.Choice.{by_test, EachArm, by_arm, at_char}
 use Rattle.rustc_lexer.specs.Lexeme.{whitespace, letter_r, letter_k, letter_b, letter_c, raw_or_ident, raw_past_or_ident, begins_raw, is_raw_mark, begins_word, letters, word, symbols, kind_among, symbol_kind, families, symbol, past_first, lexeme, first_token}
-use Rattle.rustc_lexer.specs.Lifetime.{is_marked, named, is_character, quote_or_lifetime, is_raw}
-use Rattle.rustc_lexer.specs.laws.Lifetime.{raw, quoted_name, unquoted}
+use Rattle.rustc_lexer.specs.Lifetime.{is_marked, plain_lifetime, is_character, lifetime_or_char, is_raw}
+use Rattle.rustc_lexer.specs.laws.Lifetime.{raw, quoted_name, unquoted_name}
 use Rattle.rustc_lexer.specs.Literal.{Body, literal}
-use Rattle.rustc_lexer.specs.Number.{Front, is_sign, is_exponent_letter, begins_fraction, or_underscore, past_sign, past_letter, exponent, fraction_digits, fraction, past_digits, front, number_kind, number_body, number}
+use Rattle.rustc_lexer.specs.Number.{Front, is_sign, is_exponent_letter, begins_fraction, or_underscore, past_sign, float_exponent, optional_exponent, fraction_digits, fraction, past_digits, front, number_kind, number_body, number}
 use Rattle.rustc_lexer.specs.Quoted.{str_body, byte_str_body, c_str_body, char_body, byte_body}
 use Rattle.rustc_lexer.specs.Raw.{accepted, is_accepted, prefix_kind, prefix_len, raw_body, raw_literal, raw_read}
 use Rattle.rustc_lexer.specs.laws.Raw.{raw_check_own}
@@ -94,8 +94,8 @@ symbol-tells c s = silent c s (symbol_kind c) 0 (among-silent symbols c (search 
 
 -- ---- identifiers
 
-ident-tells : (c : ℕ) → is_id_start c ≡ true → TellsAll c ident
-ident-tells c start s = by_kind (next_is is_prefix_mark (drop n s)) (list_all is_id_continue (take n s)) refl
+ident_or_unknown_prefix-tells : (c : ℕ) → is_id_start c ≡ true → TellsAll c ident_or_unknown_prefix
+ident_or_unknown_prefix-tells c start s = by_kind (next_is is_prefix_mark (drop n s)) (list_all is_id_continue (take n s)) refl
   where
     n : ℕ
     n = run_len is_word s
@@ -137,19 +137,19 @@ IsNumber kind = ⊥
 of_number : (b : Bool) (x y : LiteralKind × ℕ) → IsNumber x.0 → IsNumber y.0 → IsNumber (if b then x else y).0
 of_number b x y is others = by_test (λ r. IsNumber r.0) b x y (λ e. is) (λ e. others)
 
-past_letter-number : (base : Base) (s : List ℕ) → IsNumber (past_letter base s).0
-past_letter-number base s = of_number (next_is is_sign s) (after 1 (past_sign base) s) (past_sign base s) tt tt
+float_exponent-number : (base : Base) (s : List ℕ) → IsNumber (float_exponent base s).0
+float_exponent-number base s = of_number (next_is is_sign s) (after 1 (past_sign base) s) (past_sign base s) tt tt
 
-exponent-number : (base : Base) (s : List ℕ) → IsNumber (exponent base s).0
-exponent-number base s = of_number (next_is is_exponent_letter s) (after 1 (past_letter base) s) (gives (Float base false) s) (past_letter-number base (drop 1 s)) tt
+optional_exponent-number : (base : Base) (s : List ℕ) → IsNumber (optional_exponent base s).0
+optional_exponent-number base s = of_number (next_is is_exponent_letter s) (after 1 (float_exponent base) s) (gives (Float base false) s) (float_exponent-number base (drop 1 s)) tt
 
 fraction-number : (base : Base) (s : List ℕ) → IsNumber (fraction base s).0
 unfolding fraction
-fraction-number base s = of_number (next_is is_ascii_digit s) (fraction_digits base s) (gives (Float base false) s) (exponent-number base (drop (run_len (or_underscore is_ascii_digit) s) s)) tt
+fraction-number base s = of_number (next_is is_ascii_digit s) (fraction_digits base s) (gives (Float base false) s) (optional_exponent-number base (drop (run_len (or_underscore is_ascii_digit) s) s)) tt
 
 past_digits-number : (base : Base) (s : List ℕ) → IsNumber (past_digits base s).0
 past_digits-number base s = of_number (begins_fraction s) (after 1 (fraction base) s) _ (fraction-number base (drop 1 s))
-    (of_number (next_is is_exponent_letter s) (after 1 (past_letter base) s) (gives (Int base false) s) (past_letter-number base (drop 1 s)) tt)
+    (of_number (next_is is_exponent_letter s) (after 1 (float_exponent base) s) (gives (Int base false) s) (float_exponent-number base (drop 1 s)) tt)
 
 number_kind-number : (c : ℕ) (s : List ℕ) → IsNumber (number_kind c s).0
 unfolding number_kind
@@ -178,8 +178,8 @@ next-quote [] t = absurd (true≢false (sym t))
 next-quote (d ∷ s) t = let one : len_utf8 d ≡ 1 = ap len_utf8 (eqb-true d 39 (and_parts (d == 39) true t).0) in omega (arith, length-append (encode_utf8 d) [], length-encode d)
 
 -- a name that a quote follows is a character, whose suffix begins at its end; no other name has one
-named-tells : (c : ℕ) (s : List ℕ) → Tells 39 (c ∷ s) ((named c s).0, suc (named c s).1)
-named-tells c s = by_test (λ r. Tells 39 (c ∷ s) (r.0, suc (n + r.1))) (begins (codes "'") left) (quoted_name c name left) (unquoted c name left) quoted
+plain_lifetime-tells : (c : ℕ) (s : List ℕ) → Tells 39 (c ∷ s) ((plain_lifetime c s).0, suc (plain_lifetime c s).1)
+plain_lifetime-tells c s = by_test (λ r. Tells 39 (c ∷ s) (r.0, suc (n + r.1))) (begins (codes "'") left) (quoted_name c name left) (unquoted_name c name left) quoted
     (λ e. by_test (λ kind. Tells 39 (c ∷ s) (kind, suc (n + 0))) (begins (codes "#") left && not (is_ascii_digit c)) UnknownPrefixLifetime (Lifetime (is_marked c name)) (λ e. silent 39 (c ∷ s) _ _ refl) (λ e. silent 39 (c ∷ s) _ _ refl))
   where
     n : ℕ
@@ -197,10 +197,10 @@ named-tells c s = by_test (λ r. Tells 39 (c ∷ s) (r.0, suc (n + r.1))) (begin
       text = λ text e f. (λ bad. absurd (true≢false bad), tt);
     }
 
-quote-tells : TellsAll 39 quote_or_lifetime
+quote-tells : TellsAll 39 lifetime_or_char
 quote-tells [] = literal-tells 39 [] char_body (λ bad. (bad, length-encode 39)) (λ text. tt)
 quote-tells (c ∷ s) = by_test (Tells 39 (c ∷ s)) (is_character c s) (literal char_body (c ∷ s)) _ (λ e. literal-tells 39 (c ∷ s) char_body (λ bad. (bad, length-encode 39)) (λ text. tt))
-    (λ e. by_test (λ r. Tells 39 (c ∷ s) (r.0, suc r.1)) (is_raw c s) (raw s) (named c s) (λ f. silent 39 (c ∷ s) _ _ refl) (λ f. named-tells c s))
+    (λ e. by_test (λ r. Tells 39 (c ∷ s) (r.0, suc r.1)) (is_raw c s) (raw s) (plain_lifetime c s) (λ f. silent 39 (c ∷ s) _ _ refl) (λ f. plain_lifetime-tells c s))
 
 -- ---- raw strings
 
@@ -265,13 +265,13 @@ starts c l e = rw (is_xid_start-ascii c l, e) (by_any (c == 95))
 
 r-tells : TellsAll 114 letter_r
 r-tells s = by_test (Tells 114 s) (marks_ident s) (after 2 (run RawIdent is_id_continue) s) (raw_or_ident s) (raw_ident-tells s)
-    (λ e. by_test (Tells 114 s) (next_is is_raw_mark s) (raw_literal R s) (ident s) (λ f. raw-tells s) (λ f. ident-tells 114 (starts 114 (omega arith) refl) s))
+    (λ e. by_test (Tells 114 s) (next_is is_raw_mark s) (raw_literal R s) (ident_or_unknown_prefix s) (λ f. raw-tells s) (λ f. ident_or_unknown_prefix-tells 114 (starts 114 (omega arith) refl) s))
 
 k-tells : TellsAll 107 letter_k
-k-tells s = by_test (Tells 107 s) (marks_ident s) (after 2 (run ForcedKeywordIdent is_id_continue) s) (ident s) (λ e. silent 107 s _ _ refl) (λ e. ident-tells 107 (starts 107 (omega arith) refl) s)
+k-tells s = by_test (Tells 107 s) (marks_ident s) (after 2 (run ForcedKeywordIdent is_id_continue) s) (ident_or_unknown_prefix s) (λ e. silent 107 s _ _ refl) (λ e. ident_or_unknown_prefix-tells 107 (starts 107 (omega arith) refl) s)
 
 past-tells : (prefix : RawPrefix) (c : ℕ) → prefix_len prefix ≡ 2 → length (encode_utf8 c) ≡ 1 → is_id_start c ≡ true → TellsAll c (raw_past_or_ident prefix)
-past-tells prefix c two one start s = by_test (Tells c s) (begins_raw s) (after 1 (raw_literal prefix) s) (ident s) (raw_past-tells prefix c s two one) (λ e. ident-tells c start s)
+past-tells prefix c two one start s = by_test (Tells c s) (begins_raw s) (after 1 (raw_literal prefix) s) (ident_or_unknown_prefix s) (raw_past-tells prefix c s two one) (λ e. ident_or_unknown_prefix-tells c start s)
 
 b-tells : TellsAll 98 letter_b
 b-tells s = by_test (Tells 98 s) (begins (codes "'") s) (literal (after 1 byte_body) s) _ (λ e. literal-tells 98 s (after 1 byte_body) (λ bad. (bad, length-encode 98)) (λ text. tt))
@@ -298,7 +298,7 @@ letters-tell = (
 )
 
 word-tells : (c : ℕ) → begins_word c ≡ true → TellsAll c (word c)
-word-tells c start = by_arm TellsAll letters (λ c. ident) c letters-tell (λ none. ident-tells c (rw none at start))
+word-tells c start = by_arm TellsAll letters (λ c. ident_or_unknown_prefix) c letters-tell (λ none. ident_or_unknown_prefix-tells c (rw none at start))
 
 -- ---- all
 
@@ -312,7 +312,7 @@ families-tell = (
       (
         λ c e. number-tells c,
         (
-          at_char TellsAll 39 quote_or_lifetime quote-tells,
+          at_char TellsAll 39 lifetime_or_char quote-tells,
           (
             at_char TellsAll 34 (literal str_body) (λ s. literal-tells 34 s str_body (λ bad. (bad, length-encode 34)) (λ text. tt)),
             (

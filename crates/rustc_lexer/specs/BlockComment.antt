@@ -8,11 +8,11 @@ use Rattle.rustc_lexer.specs.Least.{more}
 use Rattle.rustc_lexer.specs.Scan.{IsLocalAt, begins}
 
 -- whether a mark stands here that closes a comment, or one that opens another
-abbrev pub closing : List ℕ → Bool
-closing s = begins (codes "*/") s
+abbrev pub at_closing : List ℕ → Bool
+at_closing s = begins (codes "*/") s
 
-abbrev pub opening : List ℕ → Bool
-opening s = begins (codes "/*") s
+abbrev pub at_opening : List ℕ → Bool
+at_opening s = begins (codes "/*") s
 
 -- first a length, then the one that stands after it
 abbrev pub followed_by : Option ℕ → (ℕ → Option ℕ) → Option ℕ
@@ -30,8 +30,8 @@ abbrev pub end_within : ℕ → List ℕ → Option ℕ
 end_within zero s = None
 end_within (suc fuel) [] = None
 end_within (suc fuel) (c ∷ cs) =
-    if closing (c ∷ cs) then Some 2
-    else (if opening (c ∷ cs) then more 2 (twice (end_within fuel) (drop 1 cs))
+    if at_closing (c ∷ cs) then Some 2
+    else (if at_opening (c ∷ cs) then more 2 (twice (end_within fuel) (drop 1 cs))
     else more 1 (end_within fuel cs))
 
 -- where the comment ends, if something closes it

@@ -1,14 +1,14 @@
 -- A block comment as a relation: one rule for each form.
 use Rattle.std.specs.Prelude.{◌≡◌, ℕ, ◌+◌, false, List, ◌∷◌, drop, Some}
 use Rattle.std.specs.Str.{byte}
-use Rattle.rustc_lexer.specs.BlockComment.{closing, opening, comment_end}
+use Rattle.rustc_lexer.specs.BlockComment.{at_closing, at_opening, comment_end}
 
 -- what closes a comment, in so many characters: a closing mark; an opening mark, what closes the comment that it opens,
 -- and what closes this one after that; or a character that begins no mark, and what closes after it
 pub data Closes : List ℕ → ℕ → Type 0 where
   at_mark : {s : List ℕ} → Closes (byte "*" ∷ byte "/" ∷ s) 2
   nested : {s : List ℕ} {a b : ℕ} → Closes s a → Closes (drop a s) b → Closes (byte "/" ∷ byte "*" ∷ s) (2 + (a + b))
-  past_one : {c m : ℕ} {u : List ℕ} → closing (c ∷ u) ≡ false → opening (c ∷ u) ≡ false → Closes u m → Closes (c ∷ u) (1 + m)
+  past_one : {c m : ℕ} {u : List ℕ} → at_closing (c ∷ u) ≡ false → at_opening (c ∷ u) ≡ false → Closes u m → Closes (c ∷ u) (1 + m)
 
 abbrev pub IsEnd : List ℕ → ℕ → Type 0
 IsEnd s n = comment_end s ≡ Some n

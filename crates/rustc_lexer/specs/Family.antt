@@ -11,7 +11,7 @@ use Rattle.rustc_lexer.specs.Emoji.{is_emoji}
 use Rattle.rustc_lexer.specs.Hash.{hash}
 use Rattle.rustc_lexer.specs.Ident.{invalid_ident}
 use Rattle.rustc_lexer.specs.Lexeme.{begins_word, symbol_kind, whitespace, word}
-use Rattle.rustc_lexer.specs.Lifetime.{quote_or_lifetime}
+use Rattle.rustc_lexer.specs.Lifetime.{lifetime_or_char}
 use Rattle.rustc_lexer.specs.Literal.{literal}
 use Rattle.rustc_lexer.specs.Number.{number}
 use Rattle.rustc_lexer.specs.Quoted.{str_body}
@@ -36,7 +36,7 @@ read_by Slash c s = slash s
 read_by Space c s = whitespace s
 read_by Word c s = word c s
 read_by Number c s = number c s
-read_by Quote c s = quote_or_lifetime s
+read_by Quote c s = lifetime_or_char s
 read_by Str c s = literal str_body s
 read_by Emoji c s = invalid_ident s
 read_by Hash c s = hash s

@@ -146,8 +146,8 @@ unfoldable pub recovery : List ℕ → ℕ
 recovery rest = first_some (recoveries rest) (length rest)
 
 -- where the frontmatter ends, by the first of these that applies; with none of them it takes all
-unfoldable pub closing : ℕ → List ℕ → ℕ
-closing n rest = first_some (full_fence n rest ∷ recoveries rest) (length rest)
+unfoldable pub closing_end : ℕ → List ℕ → ℕ
+closing_end n rest = first_some (full_fence n rest ∷ recoveries rest) (length rest)
 
 -- The token.
 
@@ -159,5 +159,5 @@ past_opening text = past (opening_len (chars text)) text
 unfoldable pub frontmatter : List ℕ → Token
 frontmatter text = record {
   kind = Frontmatter (next_is is_whitespace (chars text)) (not (next_is is_newline (chars (past_opening text))));
-  len = bytes_of (opening_len (chars text)) (chars text) + closing (fence_len (chars text)) (past_opening text);
+  len = bytes_of (opening_len (chars text)) (chars text) + closing_end (fence_len (chars text)) (past_opening text);
 }

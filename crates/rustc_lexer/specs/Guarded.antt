@@ -3,7 +3,7 @@ use Rattle.std.specs.Prelude.{ℕ, suc, ◌+◌, min, Bool, if◌then◌else◌,
 use Rattle.std.specs.Str.{chars}
 use Rattle.rustc_lexer.specs.declared.token.GuardedStr.{GuardedStr}
 use Rattle.rustc_lexer.specs.Literal.{suffix_len}
-use Rattle.rustc_lexer.specs.Quoted.{double_quoted}
+use Rattle.rustc_lexer.specs.Quoted.{double_quoted_string}
 use Rattle.rustc_lexer.specs.Raw.{hashes, is_quote}
 use Rattle.rustc_lexer.specs.Scan.{bytes_of, next_is}
 use Rattle.rustc_lexer.specs.State.{State}
@@ -14,7 +14,7 @@ closing_len n s = min n (hashes s) + suffix_len (drop (min n (hashes s)) s)
 
 -- what follows the opening quote: whether a quote closes it, and how much it takes; with no such quote all is taken
 abbrev pub guarded_body : ℕ → List ℕ → Bool × ℕ
-guarded_body n u = ((double_quoted u).0, (double_quoted u).1 + (if (double_quoted u).0 then closing_len n (drop (double_quoted u).1 u) else 0))
+guarded_body n u = ((double_quoted_string u).0, (double_quoted_string u).1 + (if (double_quoted_string u).0 then closing_len n (drop (double_quoted_string u).1 u) else 0))
 
 -- what follows the n hashes at the front: where a quote is next, whether the string is closed, and how many bytes it
 -- takes with its hashes

@@ -20,8 +20,8 @@ abbrev pub ident_kind : List ℕ → List ℕ → TokenKind
 ident_kind word rest = if list_all is_id_continue word then (if next_is is_prefix_mark rest then UnknownPrefix else Ident) else InvalidIdent
 
 -- what follows the first character of an identifier
-abbrev pub ident : List ℕ → TokenKind × ℕ
-ident s = run_as ident_kind is_word s
+abbrev pub ident_or_unknown_prefix : List ℕ → TokenKind × ℕ
+ident_or_unknown_prefix s = run_as ident_kind is_word s
 
 -- what follows an emoji that no identifier may begin with
 abbrev pub invalid_ident : List ℕ → TokenKind × ℕ

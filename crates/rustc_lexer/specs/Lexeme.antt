@@ -13,8 +13,8 @@ use Rattle.rustc_lexer.specs.Classes.{is_among, is_whitespace, is_id_start}
 use Rattle.rustc_lexer.specs.Comment.{slash}
 use Rattle.rustc_lexer.specs.Emoji.{is_emoji}
 use Rattle.rustc_lexer.specs.Hash.{hash}
-use Rattle.rustc_lexer.specs.Ident.{ident, invalid_ident, marked}
-use Rattle.rustc_lexer.specs.Lifetime.{quote_or_lifetime}
+use Rattle.rustc_lexer.specs.Ident.{ident_or_unknown_prefix, invalid_ident, marked}
+use Rattle.rustc_lexer.specs.Lifetime.{lifetime_or_char}
 use Rattle.rustc_lexer.specs.Literal.{literal}
 use Rattle.rustc_lexer.specs.Number.{number}
 use Rattle.rustc_lexer.specs.Quoted.{byte_body, byte_str_body, c_str_body, str_body}
@@ -48,20 +48,20 @@ is_raw_mark c = is_among (codes "#\"") c
 
 -- what follows an `r`, and what follows a `k`
 abbrev pub raw_or_ident : List ℕ → TokenKind × ℕ
-raw_or_ident s = if next_is is_raw_mark s then raw_literal R s else ident s
+raw_or_ident s = if next_is is_raw_mark s then raw_literal R s else ident_or_unknown_prefix s
 
 abbrev pub letter_r : List ℕ → TokenKind × ℕ
 letter_r s = marked RawIdent raw_or_ident s
 
 abbrev pub letter_k : List ℕ → TokenKind × ℕ
-letter_k s = marked ForcedKeywordIdent ident s
+letter_k s = marked ForcedKeywordIdent ident_or_unknown_prefix s
 
 -- an `r`, and what a raw string goes on with
 abbrev pub begins_raw : List ℕ → Bool
 begins_raw s = begins (codes "r") s && next_is is_raw_mark (drop 1 s)
 
 abbrev pub raw_past_or_ident : RawPrefix → List ℕ → TokenKind × ℕ
-raw_past_or_ident prefix s = if begins_raw s then after 1 (raw_literal prefix) s else ident s
+raw_past_or_ident prefix s = if begins_raw s then after 1 (raw_literal prefix) s else ident_or_unknown_prefix s
 
 -- what follows a `b`, and what follows a `c`
 abbrev pub letter_b : List ℕ → TokenKind × ℕ
@@ -84,7 +84,7 @@ letters =
 
 -- what follows a letter or another start of an identifier
 abbrev pub word : ℕ → List ℕ → TokenKind × ℕ
-word c s = chosen letters (λ c. ident) c s
+word c s = chosen letters (λ c. ident_or_unknown_prefix) c s
 
 -- a letter that may be more than the start of an identifier, or another start of one
 abbrev pub begins_word : ℕ → Bool
@@ -97,7 +97,7 @@ families =
     ∷ arm is_whitespace (λ c. whitespace)
     ∷ arm begins_word word
     ∷ arm is_ascii_digit number
-    ∷ arm (λ c. c == byte "'") (λ c. quote_or_lifetime)
+    ∷ arm (λ c. c == byte "'") (λ c. lifetime_or_char)
     ∷ arm (λ c. c == byte "\"") (λ c. literal str_body)
     ∷ arm is_emoji (λ c. invalid_ident)
     ∷ arm (λ c. c == byte "#") (λ c. hash)

@@ -29,8 +29,8 @@ past_name c name s =
     else gives (if begins (codes "#") s && not (is_ascii_digit c) then UnknownPrefixLifetime else Lifetime (is_marked c name)) s
 
 -- what follows the first character `c` of a name, where no raw lifetime stands there
-abbrev pub named : ℕ → List ℕ → TokenKind × ℕ
-named c s = and_then (run_as (λ name rest. name) is_word) (past_name c) s
+abbrev pub plain_lifetime : ℕ → List ℕ → TokenKind × ℕ
+plain_lifetime c s = and_then (run_as (λ name rest. name) is_word) (past_name c) s
 
 -- `r`, a hash and the start of an identifier begin a raw lifetime
 abbrev pub is_raw : ℕ → List ℕ → Bool
@@ -38,7 +38,7 @@ is_raw c s = c == byte "r" && marks_ident s
 
 -- what follows the first character `c` of a name; `r`, a hash and the start of an identifier make a raw lifetime
 abbrev pub lifetime : ℕ → List ℕ → TokenKind × ℕ
-lifetime c s = if is_raw c s then after 2 (run RawLifetime is_id_continue) s else named c s
+lifetime c s = if is_raw c s then after 2 (run RawLifetime is_id_continue) s else plain_lifetime c s
 
 -- a character, and no lifetime: the second character is a quote, or the first one begins no name
 abbrev pub is_character : ℕ → List ℕ → Bool
@@ -50,6 +50,6 @@ is_character_at [] = true
 is_character_at (c ∷ s) = is_character c s
 
 -- what follows a single quote
-abbrev pub quote_or_lifetime : List ℕ → TokenKind × ℕ
-quote_or_lifetime [] = literal char_body []
-quote_or_lifetime (c ∷ s) = if is_character c s then literal char_body (c ∷ s) else ((lifetime c s).0, suc (lifetime c s).1)
+abbrev pub lifetime_or_char : List ℕ → TokenKind × ℕ
+lifetime_or_char [] = literal char_body []
+lifetime_or_char (c ∷ s) = if is_character c s then literal char_body (c ∷ s) else ((lifetime c s).0, suc (lifetime c s).1)

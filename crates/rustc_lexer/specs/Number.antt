@@ -76,16 +76,16 @@ abbrev pub past_sign : Base → List ℕ → LiteralKind × ℕ
 past_sign base = read_as (float base) (digits is_ascii_digit)
 
 -- an exponent past its letter: a sign, if one stands here, and digits
-abbrev pub past_letter : Base → List ℕ → LiteralKind × ℕ
-past_letter base s = if next_is is_sign s then after 1 (past_sign base) s else past_sign base s
+abbrev pub float_exponent : Base → List ℕ → LiteralKind × ℕ
+float_exponent base s = if next_is is_sign s then after 1 (past_sign base) s else past_sign base s
 
 -- an exponent, if one stands here
-abbrev pub exponent : Base → List ℕ → LiteralKind × ℕ
-exponent base s = if next_is is_exponent_letter s then after 1 (past_letter base) s else gives (Float base false) s
+abbrev pub optional_exponent : Base → List ℕ → LiteralKind × ℕ
+optional_exponent base s = if next_is is_exponent_letter s then after 1 (float_exponent base) s else gives (Float base false) s
 
 -- the digits of a fraction, and an exponent
 abbrev pub fraction_digits : Base → List ℕ → LiteralKind × ℕ
-fraction_digits base = and_then (run base (or_underscore is_ascii_digit)) exponent
+fraction_digits base = and_then (run base (or_underscore is_ascii_digit)) optional_exponent
 
 -- what follows the dot of a float: digits with an exponent, if a digit stands here, or nothing
 unfoldable pub fraction : Base → List ℕ → LiteralKind × ℕ
@@ -102,7 +102,7 @@ begins_fraction s = begins (codes ".") s && not (next_is is_no_fraction (drop 1 
 abbrev pub past_digits : Base → List ℕ → LiteralKind × ℕ
 past_digits base s =
     if begins_fraction s then after 1 (fraction base) s
-    else (if next_is is_exponent_letter s then after 1 (past_letter base) s
+    else (if next_is is_exponent_letter s then after 1 (float_exponent base) s
     else gives (Int base false) s)
 
 -- what follows the front of a number

@@ -35,8 +35,8 @@ quoted quote stop s = stopped quote (free_place stop s) s
 abbrev pub at_double_quote : List ℕ → Bool
 at_double_quote s = begins (codes "\"") s
 
-abbrev pub double_quoted : List ℕ → Bool × ℕ
-double_quoted s = quoted (byte "\"") at_double_quote s
+abbrev pub double_quoted_string : List ℕ → Bool × ℕ
+double_quoted_string s = quoted (byte "\"") at_double_quote s
 
 -- between single quotes the quote stops, and so do a slash, and a newline that no quote follows
 abbrev pub at_single_stop : List ℕ → Bool
@@ -46,24 +46,24 @@ at_single_stop s = begins (codes "'") s || begins (codes "/") s || (begins (code
 abbrev pub is_lone : List ℕ → Bool
 is_lone s = not (begins (codes "\\") s) && begins (codes "'") (drop 1 s)
 
-abbrev pub single_quoted : List ℕ → Bool × ℕ
-single_quoted s = if is_lone s then (true, 2) else quoted (byte "'") at_single_stop s
+abbrev pub single_quoted_string : List ℕ → Bool × ℕ
+single_quoted_string s = if is_lone s then (true, 2) else quoted (byte "'") at_single_stop s
 
 -- the literal of a quoted text takes a suffix where it is closed
 abbrev pub quoted_body : (Bool → LiteralKind) → (List ℕ → Bool × ℕ) → List ℕ → Body × ℕ
 quoted_body kind scan s = (record { kind = kind (scan s).0; takes_suffix = (scan s).0 }, (scan s).1)
 
 abbrev pub str_body : List ℕ → Body × ℕ
-str_body s = quoted_body Str double_quoted s
+str_body s = quoted_body Str double_quoted_string s
 
 abbrev pub byte_str_body : List ℕ → Body × ℕ
-byte_str_body s = quoted_body ByteStr double_quoted s
+byte_str_body s = quoted_body ByteStr double_quoted_string s
 
 abbrev pub c_str_body : List ℕ → Body × ℕ
-c_str_body s = quoted_body CStr double_quoted s
+c_str_body s = quoted_body CStr double_quoted_string s
 
 abbrev pub char_body : List ℕ → Body × ℕ
-char_body s = quoted_body Char single_quoted s
+char_body s = quoted_body Char single_quoted_string s
 
 abbrev pub byte_body : List ℕ → Body × ℕ
-byte_body s = quoted_body Byte single_quoted s
+byte_body s = quoted_body Byte single_quoted_string s

@@ -67,12 +67,12 @@ quote_end before u None = None
 quote_end before u (Some place) = Some (before + bytes_of (suc place) u)
 
 -- a string that closes has at most 255 hashes on each side
-abbrev pub counted : ℕ → Result ℕ RawStrError
-counted n = if nat_le n 255 then Ok n else Err (TooManyDelimiters n)
+abbrev pub hash_count : ℕ → Result ℕ RawStrError
+hash_count n = if nat_le n 255 then Ok n else Err (TooManyDelimiters n)
 
 -- closed at a place: up to just past n hashes after the quote there; not closed: all of the text
 abbrev pub raw_closed : ℕ → ℕ → List ℕ → Option ℕ → Result ℕ RawStrError × ℕ
-raw_closed n before u (Some place) = (counted n, suc place + n)
+raw_closed n before u (Some place) = (hash_count n, suc place + n)
 raw_closed n before u None = (Err (NoTerminator n (most_hashes u) (quote_end before u (best_quote u))), length u)
 
 -- what follows n hashes and a quote; an offset counts `before` bytes for what stands before

@@ -62,7 +62,7 @@ fn frontmatter(text: &str) -> Option<Token>
         return None;
     }
     let rest = eat_label(label);
-    let end = closing(rest.as_bytes(), n_dashes);
+    let end = closing_end(rest.as_bytes(), n_dashes);
     Some(Token {
         kind: TokenKind::Frontmatter {
             has_invalid_preceding_whitespace: next_is(text, is_whitespace),
@@ -104,8 +104,8 @@ fn is_infostring(c: char) -> bool
 }
 
 /// Where the frontmatter ends in `rest`, which follows an opening of `n_dashes` dashes.
-fn closing(rest: &[u8], n_dashes: usize) -> usize
-    ensures end { result ≡ spec.closing n_dashes rest.now }
+fn closing_end(rest: &[u8], n_dashes: usize) -> usize
+    ensures end { result ≡ spec.closing_end n_dashes rest.now }
     ensures inside { result ≤ length rest.now }
 {
     match find_fence(rest, n_dashes) {

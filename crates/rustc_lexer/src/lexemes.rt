@@ -11,7 +11,7 @@ use crate::lexemes::comment::slash;
 use crate::lexemes::family::{Family, family_of};
 use crate::lexemes::hash::hash;
 use crate::lexemes::ident::invalid_ident;
-use crate::lexemes::lifetime::quote_or_lifetime;
+use crate::lexemes::lifetime::lifetime_or_char;
 use crate::lexemes::number::number;
 use crate::lexemes::quick::quick_token;
 use crate::lexemes::quoted::str_literal;
@@ -43,13 +43,13 @@ pub(crate) fn lexeme(text: &str) -> Token
 {
     match quick_token(text) {
         Some(token) => token,
-        None => chosen_token(text),
+        None => choose_token(text),
     }
 }
 
 /// The token at the front of a text, as its first character chooses.
 #[inline(never)]
-fn chosen_token(text: &str) -> Token
+fn choose_token(text: &str) -> Token
     requires fits { Fits text.now }
     ensures { IsFirstToken text.now result }
 {
@@ -77,7 +77,7 @@ fn past_first(first: char, tail: &str) -> (TokenKind, &str)
         Family::Space => (TokenKind::Whitespace, eat_whitespace(tail)),
         Family::Word => word(first, tail),
         Family::Number => number(first, tail),
-        Family::Quote => quote_or_lifetime(tail),
+        Family::Quote => lifetime_or_char(tail),
         Family::Str => str_literal(tail),
         Family::Emoji => invalid_ident(tail),
         Family::Hash => hash(tail),

@@ -4,7 +4,7 @@ ghost use Rattle.rustc_lexer.specs.Classes.{Fits};
 ghost use Rattle.rustc_lexer.specs.Raw as spec;
 ghost use Rattle.rustc_lexer.specs.Scan.{past};
 
-use crate::lexemes::raw::raw_double_quoted;
+use crate::lexemes::raw::raw_double_quoted_string;
 use crate::scan::{first, split_first};
 use crate::token::RawStrError;
 
@@ -37,7 +37,7 @@ pub fn validate_raw_str(input: &str, prefix_len: u32) -> Result<(), RawStrError>
     requires raw { spec.StartsRaw input.now prefix_len }
     ensures { result ≡ spec.raw_check input.now prefix_len }
 {
-    let (read, _) = raw_double_quoted(past_chars(input, prefix_len), prefix_len);
+    let (read, _) = raw_double_quoted_string(past_chars(input, prefix_len), prefix_len);
     match read {
         Ok(_) => Ok(()),
         Err(error) => Err(error),

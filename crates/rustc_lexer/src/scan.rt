@@ -154,7 +154,7 @@ pub(crate) fn eat_whitespace(rest: &str) -> &str
 
 /// What follows the characters up to the first `stop`, a byte of ASCII, or the end.
 #[inline(always)]
-pub(crate) fn eat_to(rest: &str, stop: u8) -> &str
+pub(crate) fn eat_until(rest: &str, stop: u8) -> &str
     requires ascii { stop < 128 }
     ensures shorter { length result.now ≤ length rest.now }
     ensures past { result.now ≡ past (run_len (λ c. not (is_byte stop c)) (chars rest.now)) rest.now }
@@ -167,7 +167,7 @@ pub(crate) fn eat_to(rest: &str, stop: u8) -> &str
 
 /// What follows the characters up to the first of two bytes of ASCII, or the end.
 #[inline(always)]
-pub(crate) fn eat_to_either(rest: &str, one: u8, two: u8) -> &str
+pub(crate) fn eat_until_either(rest: &str, one: u8, two: u8) -> &str
     requires one { one < 128 }
     requires two { two < 128 }
     ensures shorter { length result.now ≤ length rest.now }

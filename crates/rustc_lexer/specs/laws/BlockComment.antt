@@ -3,7 +3,7 @@ use Rattle.std.proofs.Common.{◌≡◌, ℕ, suc, ◌+◌, ◌≤◌, true, fal
 use Rattle.rustc_lexer.specs.declared.token.DocStyle.{DocStyle}
 use Rattle.rustc_lexer.specs.declared.token.TokenKind.{TokenKind}
 use Rattle.rustc_lexer.specs.declared.token.TokenKind.TheVariants.{BlockComment}
-use Rattle.rustc_lexer.specs.BlockComment.{closing, opening, comment_end, block_doc_style, block_comment_to, block_comment, IsClosedAlone}
+use Rattle.rustc_lexer.specs.BlockComment.{at_closing, at_opening, comment_end, block_doc_style, block_comment_to, block_comment, IsClosedAlone}
 use Rattle.rustc_lexer.specs.BlockGrammar.{Closes, at_mark, nested, past_one}
 use Rattle.rustc_lexer.specs.laws.BlockGrammar.{comment_end-found, comment_end-allowed}
 use Rattle.rustc_lexer.specs.laws.Reach.{IsToldBy, cut, cut_past, HasFirst, cut_first, told_same, wider, all_at, found_at, found-inside, found-same}
@@ -20,15 +20,15 @@ closes-inside at_mark = omega arith
 closes-inside (nested {s} {a} {b} p q) = omega (arith, closes-inside p, closes-inside q, length-drop a s)
 closes-inside (past_one e f p) = omega (arith, closes-inside p)
 
-closing_told : IsToldBy 2 closing
-closing_told [] = refl
-closing_told (c ∷ []) = refl
-closing_told (c ∷ d ∷ s) = refl
+at_closing_told : IsToldBy 2 at_closing
+at_closing_told [] = refl
+at_closing_told (c ∷ []) = refl
+at_closing_told (c ∷ d ∷ s) = refl
 
-opening_told : IsToldBy 2 opening
-opening_told [] = refl
-opening_told (c ∷ []) = refl
-opening_told (c ∷ d ∷ s) = refl
+at_opening_told : IsToldBy 2 at_opening
+at_opening_told [] = refl
+at_opening_told (c ∷ []) = refl
+at_opening_told (c ∷ d ∷ s) = refl
 
 -- a text that begins like one with this mark
 record HasMark (a b n : ℕ) (u s : List ℕ) : Type 0 where
@@ -58,14 +58,14 @@ closes-same (past_one {c} {m} {u} x y p) v e = goes_on (cut_first m c v u (subst
     one : 1 + m ≡ suc m
     one = omega arith
 
-    shut : closing v ≡ false
-    shut = told_same 2 (1 + m) closing v (c ∷ u) closing_told (omega (arith, two_at_least p)) e ∙ x
+    shut : at_closing v ≡ false
+    shut = told_same 2 (1 + m) at_closing v (c ∷ u) at_closing_told (omega (arith, two_at_least p)) e ∙ x
 
-    shows : opening v ≡ false
-    shows = told_same 2 (1 + m) opening v (c ∷ u) opening_told (omega (arith, two_at_least p)) e ∙ y
+    shows : at_opening v ≡ false
+    shows = told_same 2 (1 + m) at_opening v (c ∷ u) at_opening_told (omega (arith, two_at_least p)) e ∙ y
 
     goes_on : HasFirst c m v u → ((w : List ℕ) → take m w ≡ take m u → Closes w m) → Closes v (1 + m)
-    goes_on f inner = subst (λ (xs : List ℕ). Closes xs (1 + m)) (sym f.whole) (past_one (ap closing (sym f.whole) ∙ shut) (ap opening (sym f.whole) ∙ shows) (inner f.rest f.alike))
+    goes_on f inner = subst (λ (xs : List ℕ). Closes xs (1 + m)) (sym f.whole) (past_one (ap at_closing (sym f.whole) ∙ shut) (ap at_opening (sym f.whole) ∙ shows) (inner f.rest f.alike))
 
 -- where a comment ends depends on nothing past it
 pub comment_end_found : IsFound 0 comment_end

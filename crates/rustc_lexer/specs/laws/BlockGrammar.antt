@@ -2,7 +2,7 @@
 use Rattle.std.proofs.Common.{◌≡◌, ℕ, zero, suc, ◌+◌, ◌≤◌, ◌==◌, ◌&&◌, Bool, true, false, true≢false, List, [], ◌∷◌, length, drop, refl, sym, ap, ◌∙◌, arith, subst, length-drop, Option, Some, None}
 use Rattle.std.proofs.lemmas.Bool.{and_parts, eqb-true}
 use Rattle.rustc_lexer.specs.Least.{more}
-use Rattle.rustc_lexer.specs.BlockComment.{closing, opening, end_within, comment_end, followed_by}
+use Rattle.rustc_lexer.specs.BlockComment.{at_closing, at_opening, end_within, comment_end, followed_by}
 use Rattle.rustc_lexer.specs.BlockGrammar.{Closes, at_mark, nested, past_one}
 use Rattle.rustc_lexer.specs.Scan.{begins}
 
@@ -36,7 +36,7 @@ comment_end-found {s} p = found (length s) p (omega arith)
 allowed : (fuel : ℕ) (s : List ℕ) (n : ℕ) → end_within fuel s ≡ Some n → Closes s n
 allowed zero s n e = absurd (cc)
 allowed (suc fuel) [] n e = absurd (cc)
-allowed (suc fuel) (c ∷ cs) n e = by_mark (allowed fuel) (closing (c ∷ cs)) (opening (c ∷ cs)) refl refl
+allowed (suc fuel) (c ∷ cs) n e = by_mark (allowed fuel) (at_closing (c ∷ cs)) (at_opening (c ∷ cs)) refl refl
   where
     two : (ih : (s : List ℕ) (n : ℕ) → end_within fuel s ≡ Some n → Closes s n) (s : List ℕ) (o : Option ℕ) → end_within fuel s ≡ o → more 2 (followed_by o (λ n. end_within fuel (drop n s))) ≡ Some n → Closes (47 ∷ 42 ∷ s) n
     two ih s None e f = absurd (cc)
@@ -46,11 +46,11 @@ allowed (suc fuel) (c ∷ cs) n e = by_mark (allowed fuel) (closing (c ∷ cs)) 
         three None g f = absurd (cc)
         three (Some b) g f = let same : 2 + (a + b) ≡ n = cc in subst (Closes (47 ∷ 42 ∷ s)) same (nested (ih s a e) (ih (drop a s) b g))
 
-    one : (ih : (s : List ℕ) (n : ℕ) → end_within fuel s ≡ Some n → Closes s n) (o : Option ℕ) → closing (c ∷ cs) ≡ false → opening (c ∷ cs) ≡ false → end_within fuel cs ≡ o → more 1 o ≡ Some n → Closes (c ∷ cs) n
+    one : (ih : (s : List ℕ) (n : ℕ) → end_within fuel s ≡ Some n → Closes s n) (o : Option ℕ) → at_closing (c ∷ cs) ≡ false → at_opening (c ∷ cs) ≡ false → end_within fuel cs ≡ o → more 1 o ≡ Some n → Closes (c ∷ cs) n
     one ih None x y e f = absurd (cc)
     one ih (Some m) x y e f = let same : 1 + m ≡ n = cc in subst (Closes (c ∷ cs)) same (past_one x y (ih cs m e))
 
-    by_mark : (ih : (s : List ℕ) (n : ℕ) → end_within fuel s ≡ Some n → Closes s n) → (shut nests : Bool) → closing (c ∷ cs) ≡ shut → opening (c ∷ cs) ≡ nests → Closes (c ∷ cs) n
+    by_mark : (ih : (s : List ℕ) (n : ℕ) → end_within fuel s ≡ Some n → Closes s n) → (shut nests : Bool) → at_closing (c ∷ cs) ≡ shut → at_opening (c ∷ cs) ≡ nests → Closes (c ∷ cs) n
     by_mark ih true nests x y =
         let m = mark 42 47 c cs x in
         let end : Some 2 ≡ Some n = sym (rw x refl) ∙ e in

@@ -4,13 +4,13 @@ use Rattle.std.specs.List.{list_all}
 use Rattle.rustc_lexer.specs.declared.token.TokenKind.{TokenKind}
 use Rattle.rustc_lexer.specs.declared.token.TokenKind.TheVariants.{Ident, InvalidIdent, UnknownPrefix}
 use Rattle.rustc_lexer.specs.Classes.{is_id_continue}
-use Rattle.rustc_lexer.specs.Ident.{is_word, is_prefix_mark, ident_kind, ident, invalid_ident, marks_ident, marked}
+use Rattle.rustc_lexer.specs.Ident.{is_word, is_prefix_mark, ident_kind, ident_or_unknown_prefix, invalid_ident, marks_ident, marked}
 use Rattle.rustc_lexer.specs.laws.Reach.{IsToldBy, next_is-told, wider, after_at, yes_at, either_at, run_as_local, run_local}
 use Rattle.rustc_lexer.specs.Scan.{IsLocalAt, IsLocal, after, run}
 
 -- an identifier looks at the character after it
-pub ident_local : IsLocal TokenKind 1 ident
-ident_local = run_as_local ident_kind is_word (λ front s. ap (λ (b : Bool). if list_all is_id_continue front then (if b then UnknownPrefix else Ident) else InvalidIdent) (next_is-told is_prefix_mark s))
+pub ident_or_unknown_prefix_local : IsLocal TokenKind 1 ident_or_unknown_prefix
+ident_or_unknown_prefix_local = run_as_local ident_kind is_word (λ front s. ap (λ (b : Bool). if list_all is_id_continue front then (if b then UnknownPrefix else Ident) else InvalidIdent) (next_is-told is_prefix_mark s))
 
 pub invalid_ident_local : IsLocal TokenKind 1 invalid_ident
 invalid_ident_local = run_local InvalidIdent is_word

@@ -9,16 +9,16 @@ use Rattle.rustc_lexer.specs.declared.token.TokenKind.TheVariants.{Literal, Life
 use Rattle.rustc_lexer.specs.Classes.{is_id_continue}
 use Rattle.rustc_lexer.specs.Ident.{is_word, marks_ident}
 use Rattle.rustc_lexer.specs.laws.Ident.{marks_ident-told, past_mark_at}
-use Rattle.rustc_lexer.specs.Lifetime.{is_name_start, is_marked, past_name, named, lifetime, is_character, is_character_at, is_raw, quote_or_lifetime}
+use Rattle.rustc_lexer.specs.Lifetime.{is_name_start, is_marked, past_name, plain_lifetime, lifetime, is_character, is_character_at, is_raw, lifetime_or_char}
 use Rattle.rustc_lexer.specs.Literal.{literal}
-use Rattle.rustc_lexer.specs.Quoted.{char_body, single_quoted}
+use Rattle.rustc_lexer.specs.Quoted.{char_body, single_quoted_string}
 use Rattle.rustc_lexer.specs.laws.Quoted.{char_local, char_closed, single_closed}
 use Rattle.rustc_lexer.specs.laws.Reach.{IsToldBy, begins-told, begins-length, told_same, wider, same_at, and_then_at, and_then_local, yes_at, no_at, either_at, first_at, first_local, run_as_local}
 use Rattle.rustc_lexer.specs.Scan.{IsLocalAt, IsLocal, after, begins, gives, run, run_as, run_len}
 
 -- what a name is that no quote follows, and one that a quote follows
-abbrev pub unquoted : ℕ → List ℕ → List ℕ → TokenKind × ℕ
-unquoted c name s = gives (if begins (codes "#") s && not (is_ascii_digit c) then UnknownPrefixLifetime else Lifetime (is_marked c name)) s
+abbrev pub unquoted_name : ℕ → List ℕ → List ℕ → TokenKind × ℕ
+unquoted_name c name s = gives (if begins (codes "#") s && not (is_ascii_digit c) then UnknownPrefixLifetime else Lifetime (is_marked c name)) s
 
 abbrev pub quoted_name : ℕ → List ℕ → List ℕ → TokenKind × ℕ
 quoted_name c name s = (Literal (Char true) (2 + length (encode_utf8_all (c ∷ name))), 1)
@@ -26,8 +26,8 @@ quoted_name c name s = (Literal (Char true) (2 + length (encode_utf8_all (c ∷ 
 quoted_name_at : (c : ℕ) (name s : List ℕ) → begins (codes "'") s ≡ true → IsLocalAt TokenKind 0 (quoted_name c name) s
 quoted_name_at c name s t = record { inside = begins-length (codes "'") s t; local = λ u e. refl }
 
-unquoted_local : (c : ℕ) (name : List ℕ) → IsLocal TokenKind 1 (unquoted c name)
-unquoted_local c name s = record {
+unquoted_name_local : (c : ℕ) (name : List ℕ) → IsLocal TokenKind 1 (unquoted_name c name)
+unquoted_name_local c name s = record {
   inside = omega arith;
   local = λ u e.
       ap (λ (b : Bool). let r : TokenKind × ℕ = (if b && not (is_ascii_digit c) then UnknownPrefixLifetime else Lifetime (is_marked c name), 0) in r)
@@ -36,7 +36,7 @@ unquoted_local c name s = record {
 
 past_name_local : (c : ℕ) (name : List ℕ) → IsLocal TokenKind 1 (past_name c name)
 past_name_local c name s =
-    either_at 1 1 (begins (codes "'")) (quoted_name c name) (unquoted c name) (begins-told (codes "'")) s (omega arith) (λ t. wider 0 1 (omega arith) (quoted_name_at c name s t)) (λ t. unquoted_local c name s)
+    either_at 1 1 (begins (codes "'")) (quoted_name c name) (unquoted_name c name) (begins-told (codes "'")) s (omega arith) (λ t. wider 0 1 (omega arith) (quoted_name_at c name s t)) (λ t. unquoted_name_local c name s)
 
 abbrev pub name_of : List ℕ → List ℕ × ℕ
 name_of s = run_as (λ name rest. name) is_word s
@@ -44,17 +44,17 @@ name_of s = run_as (λ name rest. name) is_word s
 name_local : IsLocal (List ℕ) 1 name_of
 name_local = run_as_local (λ name rest. name) is_word (λ front s. refl)
 
-pub named_local : (c : ℕ) → IsLocal TokenKind 1 (named c)
-named_local c = and_then_local 1 name_of (past_name c) name_local (past_name_local c)
+pub plain_lifetime_local : (c : ℕ) → IsLocal TokenKind 1 (plain_lifetime c)
+plain_lifetime_local c = and_then_local 1 name_of (past_name c) name_local (past_name_local c)
 
 -- a name that a quote follows depends on nothing past that
-named_quoted : (c : ℕ) (s : List ℕ) → begins (codes "'") (drop (run_len is_word s) s) ≡ true → IsLocalAt TokenKind 0 (named c) s
-named_quoted c s t =
+plain_lifetime_quoted : (c : ℕ) (s : List ℕ) → begins (codes "'") (drop (run_len is_word s) s) ≡ true → IsLocalAt TokenKind 0 (plain_lifetime c) s
+plain_lifetime_quoted c s t =
     let name : List ℕ = take (run_len is_word s) s in
     let left : List ℕ = drop (run_len is_word s) s in
     let one : (past_name c name left).1 ≡ 1 = rw t refl in
     and_then_at 1 0 name_of (past_name c) s (name_local s)
-    (yes_at 1 0 (begins (codes "'")) (quoted_name c name) (unquoted c name) (begins-told (codes "'")) left t (omega arith) (quoted_name_at c name left t)) (omega arith)
+    (yes_at 1 0 (begins (codes "'")) (quoted_name c name) (unquoted_name c name) (begins-told (codes "'")) left t (omega arith) (quoted_name_at c name left t)) (omega arith)
 
 is_raw_told : (c : ℕ) → IsToldBy 2 (is_raw c)
 is_raw_told c s = ap (λ b. c == byte "r" && b) (marks_ident-told s)
@@ -67,7 +67,7 @@ raw_at : (c : ℕ) (s : List ℕ) → is_raw c s ≡ true → IsLocalAt TokenKin
 raw_at c s t = past_mark_at RawLifetime s (and_parts (c == byte "r") (marks_ident s) t).1
 
 pub lifetime_local : (c : ℕ) → IsLocal TokenKind 2 (lifetime c)
-lifetime_local c s = either_at 2 2 (is_raw c) raw (named c) (is_raw_told c) s (omega arith) (λ t. wider 1 2 (omega arith) (raw_at c s t)) (λ t. wider 1 2 (omega arith) (named_local c s))
+lifetime_local c s = either_at 2 2 (is_raw c) raw (plain_lifetime c) (is_raw_told c) s (omega arith) (λ t. wider 1 2 (omega arith) (raw_at c s t)) (λ t. wider 1 2 (omega arith) (plain_lifetime_local c s))
 
 -- the first character chooses, where it is taken
 abbrev of_name : List ℕ → TokenKind × ℕ
@@ -81,37 +81,37 @@ is_character_told (c ∷ s) = ap (λ b. b || not (is_name_start c)) (begins-told
 abbrev chosen : List ℕ → TokenKind × ℕ
 chosen s = if is_character_at s then literal char_body s else of_name s
 
-is_chosen : (s : List ℕ) → quote_or_lifetime s ≡ chosen s
+is_chosen : (s : List ℕ) → lifetime_or_char s ≡ chosen s
 is_chosen [] = refl
 is_chosen (c ∷ s) = refl
 
-pub quote_or_lifetime_local : IsLocal TokenKind 2 quote_or_lifetime
-quote_or_lifetime_local s = same_at 2 quote_or_lifetime chosen s is_chosen
+pub lifetime_or_char_local : IsLocal TokenKind 2 lifetime_or_char
+lifetime_or_char_local s = same_at 2 lifetime_or_char chosen s is_chosen
     (either_at 2 2 is_character_at (literal char_body) of_name is_character_told s (omega arith) (λ t. char_local s) (λ t. first_local 2 (Lifetime false) lifetime of_name (omega arith) refl (λ c s. refl) lifetime_local s))
 
 -- a closed character depends on one character past its end
-pub char_at : (s : List ℕ) → is_character_at s ≡ true → (single_quoted s).0 ≡ true → IsLocalAt TokenKind 1 quote_or_lifetime s
+pub char_at : (s : List ℕ) → is_character_at s ≡ true → (single_quoted_string s).0 ≡ true → IsLocalAt TokenKind 1 lifetime_or_char s
 char_at s t closed =
     let some = (single_closed s closed).some in
-    same_at 1 quote_or_lifetime chosen s is_chosen (yes_at 2 1 is_character_at (literal char_body) of_name is_character_told s t (omega arith) (char_closed s closed))
+    same_at 1 lifetime_or_char chosen s is_chosen (yes_at 2 1 is_character_at (literal char_body) of_name is_character_told s t (omega arith) (char_closed s closed))
 
 -- a name looks as far as what follows its first character, which tells that it is one with the next
-name_at : (k c : ℕ) (s : List ℕ) → is_character c s ≡ false → 1 ≤ (lifetime c s).1 + k → IsLocalAt TokenKind k (lifetime c) s → IsLocalAt TokenKind k quote_or_lifetime (c ∷ s)
-name_at k c s t takes is = same_at k quote_or_lifetime chosen (c ∷ s) is_chosen
+name_at : (k c : ℕ) (s : List ℕ) → is_character c s ≡ false → 1 ≤ (lifetime c s).1 + k → IsLocalAt TokenKind k (lifetime c) s → IsLocalAt TokenKind k lifetime_or_char (c ∷ s)
+name_at k c s t takes is = same_at k lifetime_or_char chosen (c ∷ s) is_chosen
     (no_at 2 k is_character_at (literal char_body) of_name is_character_told (c ∷ s) t (omega arith) (first_at k lifetime of_name c s (λ c s. refl) is))
 
 -- a raw lifetime depends on one character past its end
-pub raw_lifetime_at : (c : ℕ) (s : List ℕ) → is_character c s ≡ false → is_raw c s ≡ true → IsLocalAt TokenKind 1 quote_or_lifetime (c ∷ s)
-raw_lifetime_at c s t r = name_at 1 c s t (omega arith) (yes_at 2 1 (is_raw c) raw (named c) (is_raw_told c) s r (omega arith) (raw_at c s r))
+pub raw_lifetime_at : (c : ℕ) (s : List ℕ) → is_character c s ≡ false → is_raw c s ≡ true → IsLocalAt TokenKind 1 lifetime_or_char (c ∷ s)
+raw_lifetime_at c s t r = name_at 1 c s t (omega arith) (yes_at 2 1 (is_raw c) raw (plain_lifetime c) (is_raw_told c) s r (omega arith) (raw_at c s r))
 
 -- a name that a quote makes a character depends on nothing past that
-pub long_char_at : (c : ℕ) (s : List ℕ) → is_character c s ≡ false → is_raw c s ≡ false → begins (codes "'") (drop (run_len is_word s) s) ≡ true → IsLocalAt TokenKind 0 quote_or_lifetime (c ∷ s)
+pub long_char_at : (c : ℕ) (s : List ℕ) → is_character c s ≡ false → is_raw c s ≡ false → begins (codes "'") (drop (run_len is_word s) s) ≡ true → IsLocalAt TokenKind 0 lifetime_or_char (c ∷ s)
 long_char_at c s t r q =
     let n : ℕ = run_len is_word s in
     let some : 0 < n = by_run n refl in
-    let taken : (named c s).1 ≡ n + 1 = rw q refl in
-    let chosen_is : lifetime c s ≡ named c s = rw r refl in
-    name_at 0 c s t (rw chosen_is (omega arith)) (no_at 2 0 (is_raw c) raw (named c) (is_raw_told c) s r (omega arith) (named_quoted c s q))
+    let taken : (plain_lifetime c s).1 ≡ n + 1 = rw q refl in
+    let chosen_is : lifetime c s ≡ plain_lifetime c s = rw r refl in
+    name_at 0 c s t (rw chosen_is (omega arith)) (no_at 2 0 (is_raw c) raw (plain_lifetime c) (is_raw_told c) s r (omega arith) (plain_lifetime_quoted c s q))
   where
     no_quote : (a b : Bool) → a || b ≡ false → a ≡ false
     no_quote true b e = absurd (true≢false e)

@@ -12,14 +12,14 @@ use Rattle.rustc_lexer.specs.laws.BlockComment.{block_comment_local}
 use Rattle.rustc_lexer.specs.laws.Choice.{EachArm, by_arm}
 use Rattle.rustc_lexer.specs.Classes.{is_whitespace}
 use Rattle.rustc_lexer.specs.Comment.{line_comment, line_doc_style, is_no_newline, slash}
-use Rattle.rustc_lexer.specs.Ident.{ident}
-use Rattle.rustc_lexer.specs.laws.Ident.{ident_local, invalid_ident_local, marked_local}
+use Rattle.rustc_lexer.specs.Ident.{ident_or_unknown_prefix}
+use Rattle.rustc_lexer.specs.laws.Ident.{ident_or_unknown_prefix_local, invalid_ident_local, marked_local}
 use Rattle.rustc_lexer.specs.Lexeme.{letter_b, letters, word, families, symbol, symbol_kind, past_first, lexeme, first_token, raw_or_ident, begins_raw, raw_past_or_ident, is_raw_mark}
-use Rattle.rustc_lexer.specs.laws.Lifetime.{quote_or_lifetime_local}
+use Rattle.rustc_lexer.specs.laws.Lifetime.{lifetime_or_char_local}
 use Rattle.rustc_lexer.specs.Literal.{literal}
 use Rattle.rustc_lexer.specs.laws.Literal.{prefixed_local}
 use Rattle.rustc_lexer.specs.laws.Number.{number_local}
-use Rattle.rustc_lexer.specs.Quoted.{quoted_body, double_quoted, byte_body}
+use Rattle.rustc_lexer.specs.Quoted.{quoted_body, double_quoted_string, byte_body}
 use Rattle.rustc_lexer.specs.laws.Quoted.{str_local, str_body_local, char_body_local}
 use Rattle.rustc_lexer.specs.Raw.{raw_literal}
 use Rattle.rustc_lexer.specs.laws.Raw.{raw_literal_local}
@@ -56,11 +56,11 @@ slash_local =
     (begins_local 1 (codes "*") block_comment (gives Slash) (omega arith) block_comment_local (gives_local 1 Slash))
 
 -- what reads on after a letter looks two characters past an identifier at most: at a hash, and at what follows that
-plain : IsLocal TokenKind 2 ident
-plain s = wider 1 2 (omega arith) (ident_local s)
+plain : IsLocal TokenKind 2 ident_or_unknown_prefix
+plain s = wider 1 2 (omega arith) (ident_or_unknown_prefix_local s)
 
 raw : IsLocal TokenKind 2 raw_or_ident
-raw s = either_at 1 2 (next_is is_raw_mark) (raw_literal R) ident (next_is-told is_raw_mark) s (omega arith) (λ t. wider 1 2 (omega arith) (raw_literal_local R s)) (λ t. plain s)
+raw s = either_at 1 2 (next_is is_raw_mark) (raw_literal R) ident_or_unknown_prefix (next_is-told is_raw_mark) s (omega arith) (λ t. wider 1 2 (omega arith) (raw_literal_local R s)) (λ t. plain s)
 
 begins_raw-told : IsToldBy 2 begins_raw
 begins_raw-told [] = refl
@@ -72,11 +72,11 @@ begins_raw-length [] e = absurd (true≢false (sym e))
 begins_raw-length (c ∷ s) e = omega arith
 
 raw_past : (prefix : RawPrefix) → IsLocal TokenKind 2 (raw_past_or_ident prefix)
-raw_past prefix s = either_at 2 2 begins_raw (after 1 (raw_literal prefix)) ident begins_raw-told s (omega arith)
+raw_past prefix s = either_at 2 2 begins_raw (after 1 (raw_literal prefix)) ident_or_unknown_prefix begins_raw-told s (omega arith)
     (λ t. after_at 2 1 (raw_literal prefix) s (begins_raw-length s t) (wider 1 2 (omega arith) (raw_literal_local prefix (drop 1 s)))) (λ t. plain s)
 
-string : (kind : Bool → LiteralKind) (prefix : RawPrefix) → IsLocal TokenKind 2 (λ s. if begins (codes "\"") s then literal (after 1 (quoted_body kind double_quoted)) s else raw_past_or_ident prefix s)
-string kind prefix = prefixed_local 2 (codes "\"") (quoted_body kind double_quoted) (raw_past_or_ident prefix) (omega arith) (omega arith) (λ s. wider 1 2 (omega arith) (str_body_local kind s)) (raw_past prefix)
+string : (kind : Bool → LiteralKind) (prefix : RawPrefix) → IsLocal TokenKind 2 (λ s. if begins (codes "\"") s then literal (after 1 (quoted_body kind double_quoted_string)) s else raw_past_or_ident prefix s)
+string kind prefix = prefixed_local 2 (codes "\"") (quoted_body kind double_quoted_string) (raw_past_or_ident prefix) (omega arith) (omega arith) (λ s. wider 1 2 (omega arith) (str_body_local kind s)) (raw_past prefix)
 
 letter_b_local : IsLocal TokenKind 2 letter_b
 letter_b_local = prefixed_local 2 (codes "'") byte_body _ (omega arith) (omega arith) (char_body_local Byte) (string ByteStr Br)
@@ -88,7 +88,7 @@ letters_local : EachArm LooksAtTwo letters
 letters_local = (
   λ c e. marked_local RawIdent raw_or_ident raw,
   (
-    λ c e. marked_local ForcedKeywordIdent ident plain,
+    λ c e. marked_local ForcedKeywordIdent ident_or_unknown_prefix plain,
     (
       λ c e. letter_b_local,
       (
@@ -100,7 +100,7 @@ letters_local = (
 )
 
 pub word_local : (c : ℕ) → IsLocal TokenKind 2 (word c)
-word_local c = by_arm LooksAtTwo letters (λ c. ident) c letters_local (λ none. plain)
+word_local c = by_arm LooksAtTwo letters (λ c. ident_or_unknown_prefix) c letters_local (λ none. plain)
 
 families_local : EachArm LooksAtTwo families
 families_local = (
@@ -112,7 +112,7 @@ families_local = (
       (
         λ c e. number_local c,
         (
-          λ c e. quote_or_lifetime_local,
+          λ c e. lifetime_or_char_local,
           (
             λ c e s. wider 1 2 (omega arith) (str_local s),
             (

@@ -12,7 +12,7 @@ use Rattle.rustc_lexer.specs.declared.token.LiteralKind.TheVariants.{Int, Float}
 use Rattle.rustc_lexer.specs.declared.token.TokenKind.{TokenKind}
 use Rattle.rustc_lexer.specs.laws.Choice.{by_test}
 use Rattle.rustc_lexer.specs.laws.Literal.{literal_local}
-use Rattle.rustc_lexer.specs.Number.{or_underscore, digits, Front, prefixed, binary, octal, hexadecimal, decimal, front_past_zero, front, float, is_exponent_letter, is_sign, past_sign, past_letter, exponent, fraction_digits, fraction, is_no_fraction, begins_fraction, past_digits, tail, number_kind, with_suffix, number_body, number}
+use Rattle.rustc_lexer.specs.Number.{or_underscore, digits, Front, prefixed, binary, octal, hexadecimal, decimal, front_past_zero, front, float, is_exponent_letter, is_sign, past_sign, float_exponent, optional_exponent, fraction_digits, fraction, is_no_fraction, begins_fraction, past_digits, tail, number_kind, with_suffix, number_body, number}
 use Rattle.rustc_lexer.specs.NumberGrammar.{AreDigits, IsWhole, plain, with_b, with_o, with_x, IsExponent, signed, unsigned, IsTail, nothing, dot, of_fraction, of_exponent, of_both, IsNumber, of_prefix, of_parts, AreNumbers}
 use Rattle.rustc_lexer.specs.laws.Reach.{IsToldBy, next_is-told, wider, read_as_at, and_then_local, after_at, either_at, begins_local, next_is_local, gives_local, run_all, run_as_local, run_local}
 use Rattle.rustc_lexer.specs.Scan.{IsLocalAt, IsLocal, after, begins, gives, next_is, read_as, run, run_len}
@@ -39,16 +39,16 @@ front_local first s = by_zero (first == byte "0")
 past_sign_local : (base : Base) → IsLocal LiteralKind 1 (past_sign base)
 past_sign_local base s = read_as_at 1 (float base) (digits is_ascii_digit) s (digits_local is_ascii_digit s)
 
-past_letter_local : (base : Base) → IsLocal LiteralKind 1 (past_letter base)
-past_letter_local base = next_is_local 1 is_sign (past_sign base) (past_sign base) (omega arith) (past_sign_local base) (past_sign_local base)
+float_exponent_local : (base : Base) → IsLocal LiteralKind 1 (float_exponent base)
+float_exponent_local base = next_is_local 1 is_sign (past_sign base) (past_sign base) (omega arith) (past_sign_local base) (past_sign_local base)
 
-exponent_local : (base : Base) → IsLocal LiteralKind 1 (exponent base)
-exponent_local base = next_is_local 1 is_exponent_letter (past_letter base) (gives (Float base false)) (omega arith) (past_letter_local base) (gives_local 1 (Float base false))
+optional_exponent_local : (base : Base) → IsLocal LiteralKind 1 (optional_exponent base)
+optional_exponent_local base = next_is_local 1 is_exponent_letter (float_exponent base) (gives (Float base false)) (omega arith) (float_exponent_local base) (gives_local 1 (Float base false))
 
 fraction_local : (base : Base) → IsLocal LiteralKind 1 (fraction base)
 unfolding fraction
 fraction_local base s = either_at 1 1 (next_is is_ascii_digit) (fraction_digits base) (gives (Float base false)) (next_is-told is_ascii_digit) s (omega arith)
-    (λ t. and_then_local 1 (run base (or_underscore is_ascii_digit)) exponent (run_local base (or_underscore is_ascii_digit)) exponent_local s)
+    (λ t. and_then_local 1 (run base (or_underscore is_ascii_digit)) optional_exponent (run_local base (or_underscore is_ascii_digit)) optional_exponent_local s)
     (λ t. gives_local 1 (Float base false) s)
 
 begins_fraction-told : IsToldBy 2 begins_fraction
@@ -63,7 +63,7 @@ begins_fraction-length (c ∷ s) e = omega arith
 past_digits_local : (base : Base) → IsLocal LiteralKind 2 (past_digits base)
 past_digits_local base s = either_at 2 2 begins_fraction (after 1 (fraction base)) _ begins_fraction-told s (omega arith)
     (λ t. after_at 2 1 (fraction base) s (begins_fraction-length s t) (wider 1 2 (omega arith) (fraction_local base (drop 1 s))))
-    (λ t. next_is_local 2 is_exponent_letter (past_letter base) (gives (Int base false)) (omega arith) (λ s. wider 1 2 (omega arith) (past_letter_local base s)) (gives_local 2 (Int base false)) s)
+    (λ t. next_is_local 2 is_exponent_letter (float_exponent base) (gives (Int base false)) (omega arith) (λ s. wider 1 2 (omega arith) (float_exponent_local base s)) (gives_local 2 (Int base false)) s)
 
 pub tail_local : (front : Front) → IsLocal LiteralKind 2 (tail front)
 tail_local front = by_empty front.empty
@@ -85,21 +85,21 @@ number_local first = literal_local 2 (number_body first) (omega arith) (λ s. re
 take-one : (c n : ℕ) (s : List ℕ) → c ∷ take n s ≡ take (1 + n) (c ∷ s)
 take-one c n s = let one : suc n ≡ 1 + n = omega arith in ap (λ (k : ℕ). take k (c ∷ s)) one
 
-past_letter-is : (base : Base) (e : ℕ) (s : List ℕ) → is_exponent_letter e ≡ true → IsExponent base (past_letter base s).0 (e ∷ take (past_letter base s).1 s)
-past_letter-is base e s letter = by_test (λ (r : LiteralKind × ℕ). IsExponent base r.0 (e ∷ take r.1 s)) (next_is is_sign s) (after 1 (past_sign base) s) (past_sign base s) (at_sign s) (λ t. unsigned letter (run_all (or_underscore is_ascii_digit) s))
+float_exponent-is : (base : Base) (e : ℕ) (s : List ℕ) → is_exponent_letter e ≡ true → IsExponent base (float_exponent base s).0 (e ∷ take (float_exponent base s).1 s)
+float_exponent-is base e s letter = by_test (λ (r : LiteralKind × ℕ). IsExponent base r.0 (e ∷ take r.1 s)) (next_is is_sign s) (after 1 (past_sign base) s) (past_sign base s) (at_sign s) (λ t. unsigned letter (run_all (or_underscore is_ascii_digit) s))
   where
     at_sign : (s : List ℕ) → next_is is_sign s ≡ true → IsExponent base (after 1 (past_sign base) s).0 (e ∷ take (after 1 (past_sign base) s).1 s)
     at_sign [] t = absurd (true≢false (sym t))
     at_sign (g ∷ s) t = subst (λ (xs : List ℕ). IsExponent base (past_sign base s).0 (e ∷ xs)) (take-one g (past_sign base s).1 s) (signed letter t (run_all (or_underscore is_ascii_digit) s))
 
 -- an exponent, or nothing, after a fraction
-exponent-is : (base : Base) (d : ℕ) (ds s : List ℕ) → is_ascii_digit d ≡ true → AreDigits is_ascii_digit ds → IsTail base (exponent base s).0 (46 ∷ d ∷ ds ++ take (exponent base s).1 s)
-exponent-is base d ds s digit are = by_test (λ (r : LiteralKind × ℕ). IsTail base r.0 (46 ∷ d ∷ ds ++ take r.1 s)) (next_is is_exponent_letter s) (after 1 (past_letter base) s) (gives (Float base false) s) (at_letter s)
+optional_exponent-is : (base : Base) (d : ℕ) (ds s : List ℕ) → is_ascii_digit d ≡ true → AreDigits is_ascii_digit ds → IsTail base (optional_exponent base s).0 (46 ∷ d ∷ ds ++ take (optional_exponent base s).1 s)
+optional_exponent-is base d ds s digit are = by_test (λ (r : LiteralKind × ℕ). IsTail base r.0 (46 ∷ d ∷ ds ++ take r.1 s)) (next_is is_exponent_letter s) (after 1 (float_exponent base) s) (gives (Float base false) s) (at_letter s)
     (λ t. subst (λ (xs : List ℕ). IsTail base (Float base false) (46 ∷ d ∷ xs)) (sym (append-nil ds)) (of_fraction digit are))
   where
-    at_letter : (s : List ℕ) → next_is is_exponent_letter s ≡ true → IsTail base (after 1 (past_letter base) s).0 (46 ∷ d ∷ ds ++ take (after 1 (past_letter base) s).1 s)
+    at_letter : (s : List ℕ) → next_is is_exponent_letter s ≡ true → IsTail base (after 1 (float_exponent base) s).0 (46 ∷ d ∷ ds ++ take (after 1 (float_exponent base) s).1 s)
     at_letter [] t = absurd (true≢false (sym t))
-    at_letter (e ∷ s) t = subst (λ (xs : List ℕ). IsTail base (past_letter base s).0 (46 ∷ d ∷ ds ++ xs)) (take-one e (past_letter base s).1 s) (of_both ds digit are (past_letter-is base e s t))
+    at_letter (e ∷ s) t = subst (λ (xs : List ℕ). IsTail base (float_exponent base s).0 (46 ∷ d ∷ ds ++ xs)) (take-one e (float_exponent base s).1 s) (of_both ds digit are (float_exponent-is base e s t))
 
 fraction-is : (base : Base) (s : List ℕ) → IsTail base (fraction base s).0 (46 ∷ take (fraction base s).1 s)
 unfolding fraction
@@ -109,18 +109,18 @@ fraction-is base s = by_test (λ (r : LiteralKind × ℕ). IsTail base r.0 (46 �
     at_digit [] t = absurd (true≢false (sym t))
     at_digit (d ∷ s) t =
         let n : ℕ = run_len (or_underscore is_ascii_digit) s in
-        let m : ℕ = (exponent base (drop n s)).1 in
+        let m : ℕ = (optional_exponent base (drop n s)).1 in
         let more : run_len (or_underscore is_ascii_digit) (d ∷ s) ≡ suc n = rw t refl in
         let sum : suc n + m ≡ suc (n + m) = omega arith in
-        let read : fraction_digits base (d ∷ s) ≡ ((exponent base (drop n s)).0, suc n + m) = ap (λ (k : ℕ). ((exponent base (drop k (d ∷ s))).0, k + (exponent base (drop k (d ∷ s))).1)) more in
-        let is : IsTail base (exponent base (drop n s)).0 (46 ∷ d ∷ take n s ++ take m (drop n s)) = exponent-is base d (take n s) (drop n s) t (run_all (or_underscore is_ascii_digit) s) in
+        let read : fraction_digits base (d ∷ s) ≡ ((optional_exponent base (drop n s)).0, suc n + m) = ap (λ (k : ℕ). ((optional_exponent base (drop k (d ∷ s))).0, k + (optional_exponent base (drop k (d ∷ s))).1)) more in
+        let is : IsTail base (optional_exponent base (drop n s)).0 (46 ∷ d ∷ take n s ++ take m (drop n s)) = optional_exponent-is base d (take n s) (drop n s) t (run_all (or_underscore is_ascii_digit) s) in
         let text : take n s ++ take m (drop n s) ≡ take (n + m) s = sym (take-add n m s) in
         subst (λ (r : LiteralKind × ℕ). IsTail base r.0 (46 ∷ take r.1 (d ∷ s))) (sym read)
-        (subst (λ (k : ℕ). IsTail base (exponent base (drop n s)).0 (46 ∷ take k (d ∷ s))) (sym sum) (subst (λ (xs : List ℕ). IsTail base (exponent base (drop n s)).0 (46 ∷ d ∷ xs)) text is))
+        (subst (λ (k : ℕ). IsTail base (optional_exponent base (drop n s)).0 (46 ∷ take k (d ∷ s))) (sym sum) (subst (λ (xs : List ℕ). IsTail base (optional_exponent base (drop n s)).0 (46 ∷ d ∷ xs)) text is))
 
 past_digits-is : (base : Base) (s : List ℕ) → IsTail base (past_digits base s).0 (take (past_digits base s).1 s)
 past_digits-is base s = by_test (λ (r : LiteralKind × ℕ). IsTail base r.0 (take r.1 s)) (begins_fraction s) (after 1 (fraction base) s) _ (at_dot s)
-    (λ t. by_test (λ (r : LiteralKind × ℕ). IsTail base r.0 (take r.1 s)) (next_is is_exponent_letter s) (after 1 (past_letter base) s) (gives (Int base false) s) (at_letter s) (λ t. nothing))
+    (λ t. by_test (λ (r : LiteralKind × ℕ). IsTail base r.0 (take r.1 s)) (next_is is_exponent_letter s) (after 1 (float_exponent base) s) (gives (Int base false) s) (at_letter s) (λ t. nothing))
   where
     at_dot : (s : List ℕ) → begins_fraction s ≡ true → IsTail base (after 1 (fraction base) s).0 (take (after 1 (fraction base) s).1 s)
     at_dot [] t = absurd (true≢false (sym t))
@@ -128,9 +128,9 @@ past_digits-is base s = by_test (λ (r : LiteralKind × ℕ). IsTail base r.0 (t
         let dot_is : c ≡ 46 = eqb-true c 46 (and_parts (c == 46) true (and_parts (begins (codes ".") (c ∷ s)) (not (next_is is_no_fraction s)) t).0).0 in
         subst (λ (xs : List ℕ). IsTail base (fraction base s).0 xs) (ap (λ x. x ∷ take (fraction base s).1 s) (sym dot_is) ∙ take-one c (fraction base s).1 s) (fraction-is base s)
 
-    at_letter : (s : List ℕ) → next_is is_exponent_letter s ≡ true → IsTail base (after 1 (past_letter base) s).0 (take (after 1 (past_letter base) s).1 s)
+    at_letter : (s : List ℕ) → next_is is_exponent_letter s ≡ true → IsTail base (after 1 (float_exponent base) s).0 (take (after 1 (float_exponent base) s).1 s)
     at_letter [] t = absurd (true≢false (sym t))
-    at_letter (e ∷ s) t = subst (λ (xs : List ℕ). IsTail base (past_letter base s).0 xs) (take-one e (past_letter base s).1 s) (of_exponent (past_letter-is base e s t))
+    at_letter (e ∷ s) t = subst (λ (xs : List ℕ). IsTail base (float_exponent base s).0 xs) (take-one e (float_exponent base s).1 s) (of_exponent (float_exponent-is base e s t))
 
 -- the whole part, with its first digit
 abbrev Whole : List ℕ → Front × ℕ → Type 0

@@ -6,7 +6,7 @@ use Rattle.rustc_lexer.specs.declared.token.LiteralKind.TheVariants.{Char, Byte,
 use Rattle.rustc_lexer.specs.declared.token.TokenKind.{TokenKind}
 use Rattle.rustc_lexer.specs.Literal.{Body, literal}
 use Rattle.rustc_lexer.specs.laws.Literal.{literal_at, literal_local}
-use Rattle.rustc_lexer.specs.Quoted.{is_backslash, is_odd, is_escaped, free_place, stopped, quoted, at_double_quote, double_quoted, at_single_stop, is_lone, single_quoted, quoted_body, str_body, byte_str_body, c_str_body, char_body, byte_body}
+use Rattle.rustc_lexer.specs.Quoted.{is_backslash, is_odd, is_escaped, free_place, stopped, quoted, at_double_quote, double_quoted_string, at_single_stop, is_lone, single_quoted_string, quoted_body, str_body, byte_str_body, c_str_body, char_body, byte_body}
 use Rattle.rustc_lexer.specs.laws.Reach.{IsToldBy, cut, cut_past, told_same, begins-told, begins-length, all_at, read_as_at, after_at, yes_at, no_at, either_at, wider, found-inside, found-same, least_found}
 use Rattle.rustc_lexer.specs.Scan.{IsLocalAt, IsLocal, IsFound, after, begins, run_len}
 
@@ -74,11 +74,11 @@ module _ (k : ℕ) (some : 0 < k) (test : List ℕ → Bool) (told : IsToldBy k 
     closed_at j same s t = let c = is_closed s t in stopped_at j s c.place true c.found c.closes (omega (arith, c.takes))
 
 -- double quotes
-pub double_quoted_local : IsLocal Bool 1 double_quoted
-double_quoted_local = quoted_local 1 (omega arith) at_double_quote (begins-told (codes "\"")) (byte "\"")
+pub double_quoted_string_local : IsLocal Bool 1 double_quoted_string
+double_quoted_string_local = quoted_local 1 (omega arith) at_double_quote (begins-told (codes "\"")) (byte "\"")
 
-pub double_quoted_closed : (s : List ℕ) → (double_quoted s).0 ≡ true → IsLocalAt Bool 0 double_quoted s
-double_quoted_closed = closed_at 1 (omega arith) at_double_quote (begins-told (codes "\"")) (byte "\"") 0 refl
+pub double_quoted_string_closed : (s : List ℕ) → (double_quoted_string s).0 ≡ true → IsLocalAt Bool 0 double_quoted_string s
+double_quoted_string_closed = closed_at 1 (omega arith) at_double_quote (begins-told (codes "\"")) (byte "\"") 0 refl
 
 -- single quotes
 single_told : IsToldBy 2 at_single_stop
@@ -103,22 +103,22 @@ lone_at (c ∷ []) t = absurd (true≢false (sym t ∙ by_mark (not (begins (cod
     by_mark false = refl
 lone_at (c ∷ d ∷ s) t = record { inside = omega arith; local = λ u e. refl }
 
-pub single_quoted_local : IsLocal Bool 2 single_quoted
-single_quoted_local s =
+pub single_quoted_string_local : IsLocal Bool 2 single_quoted_string
+single_quoted_string_local s =
     either_at 2 2 is_lone (λ s. (true, 2)) past_single lone_told s (omega arith) (λ t. wider 0 2 (omega arith) (lone_at s t)) (λ t. quoted_local 2 (omega arith) at_single_stop single_told (byte "'") s)
 
 -- a closed one takes its quote, and depends on one character past its end: `''` would go on before one more quote
 pub record ClosesSingle (s : List ℕ) : Type 0 where
-  pub some : 0 < (single_quoted s).1
-  pub at : IsLocalAt Bool 1 single_quoted s
+  pub some : 0 < (single_quoted_string s).1
+  pub at : IsLocalAt Bool 1 single_quoted_string s
 
-pub single_closed : (s : List ℕ) → (single_quoted s).0 ≡ true → ClosesSingle s
+pub single_closed : (s : List ℕ) → (single_quoted_string s).0 ≡ true → ClosesSingle s
 single_closed s closed = by_test (is_lone s) refl
   where
     by_test : (b : Bool) → is_lone s ≡ b → ClosesSingle s
     by_test true t = record { some = rw t (omega arith); at = yes_at 2 1 is_lone (λ s. (true, 2)) past_single lone_told s t (omega arith) (wider 0 1 (omega arith) (lone_at s t)) }
     by_test false t =
-        let is_past : single_quoted s ≡ past_single s = rw t refl in
+        let is_past : single_quoted_string s ≡ past_single s = rw t refl in
         let shut : (past_single s).0 ≡ true = sym (ap (λ (r : Bool × ℕ). r.0) is_past) ∙ closed in
         let c = is_closed 2 (omega arith) at_single_stop single_told (byte "'") s shut in
         record {
@@ -126,21 +126,21 @@ single_closed s closed = by_test (is_lone s) refl
           at = no_at 2 1 is_lone (λ s. (true, 2)) past_single lone_told s t (omega (arith, c.takes)) (closed_at 2 (omega arith) at_single_stop single_told (byte "'") 1 refl s shut);
         }
 
-pub single_quoted_closed : (s : List ℕ) → (single_quoted s).0 ≡ true → IsLocalAt Bool 1 single_quoted s
-single_quoted_closed s closed = (single_closed s closed).at
+pub single_quoted_string_closed : (s : List ℕ) → (single_quoted_string s).0 ≡ true → IsLocalAt Bool 1 single_quoted_string s
+single_quoted_string_closed s closed = (single_closed s closed).at
 
 -- literals, of which the closed ones take a suffix
 quoted_body_at : (k : ℕ) (kind : Bool → LiteralKind) (scan : List ℕ → Bool × ℕ) (s : List ℕ) → IsLocalAt Bool k scan s → IsLocalAt Body k (quoted_body kind scan) s
 quoted_body_at k kind scan s is = read_as_at k (λ closed. record { kind = kind closed; takes_suffix = closed }) scan s is
 
-pub str_body_local : (kind : Bool → LiteralKind) → IsLocal Body 1 (quoted_body kind double_quoted)
-str_body_local kind s = quoted_body_at 1 kind double_quoted s (double_quoted_local s)
+pub str_body_local : (kind : Bool → LiteralKind) → IsLocal Body 1 (quoted_body kind double_quoted_string)
+str_body_local kind s = quoted_body_at 1 kind double_quoted_string s (double_quoted_string_local s)
 
-pub char_body_local : (kind : Bool → LiteralKind) → IsLocal Body 2 (quoted_body kind single_quoted)
-char_body_local kind s = quoted_body_at 2 kind single_quoted s (single_quoted_local s)
+pub char_body_local : (kind : Bool → LiteralKind) → IsLocal Body 2 (quoted_body kind single_quoted_string)
+char_body_local kind s = quoted_body_at 2 kind single_quoted_string s (single_quoted_string_local s)
 
-char_body_closed : (kind : Bool → LiteralKind) (s : List ℕ) → (single_quoted s).0 ≡ true → IsLocalAt Body 1 (quoted_body kind single_quoted) s
-char_body_closed kind s t = quoted_body_at 1 kind single_quoted s (single_quoted_closed s t)
+char_body_closed : (kind : Bool → LiteralKind) (s : List ℕ) → (single_quoted_string s).0 ≡ true → IsLocalAt Body 1 (quoted_body kind single_quoted_string) s
+char_body_closed kind s t = quoted_body_at 1 kind single_quoted_string s (single_quoted_string_closed s t)
 
 pub str_local : IsLocal TokenKind 1 (literal str_body)
 str_local = literal_local 1 str_body (omega arith) (str_body_local Str)
@@ -148,7 +148,7 @@ str_local = literal_local 1 str_body (omega arith) (str_body_local Str)
 pub char_local : IsLocal TokenKind 2 (literal char_body)
 char_local = literal_local 2 char_body (omega arith) (char_body_local Char)
 
-pub char_closed : (s : List ℕ) → (single_quoted s).0 ≡ true → IsLocalAt TokenKind 1 (literal char_body) s
+pub char_closed : (s : List ℕ) → (single_quoted_string s).0 ≡ true → IsLocalAt TokenKind 1 (literal char_body) s
 char_closed s t = literal_at 1 1 char_body s (λ e. omega arith) (char_body_closed Char s t)
 
 -- the literal whose quote a letter stands before
@@ -164,5 +164,5 @@ c_str_at s one = lettered_at 1 c_str_body s (omega arith) one (str_body_local CS
 pub byte_at : (s : List ℕ) → 1 ≤ length s → IsLocalAt TokenKind 2 (literal (after 1 byte_body)) s
 byte_at s one = lettered_at 2 byte_body s (omega arith) one (char_body_local Byte (drop 1 s))
 
-pub byte_closed : (s : List ℕ) → 1 ≤ length s → (single_quoted (drop 1 s)).0 ≡ true → IsLocalAt TokenKind 1 (literal (after 1 byte_body)) s
+pub byte_closed : (s : List ℕ) → 1 ≤ length s → (single_quoted_string (drop 1 s)).0 ≡ true → IsLocalAt TokenKind 1 (literal (after 1 byte_body)) s
 byte_closed s one t = lettered_at 1 byte_body s (omega arith) one (char_body_closed Byte (drop 1 s) t)

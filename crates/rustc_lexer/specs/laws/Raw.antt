@@ -59,9 +59,9 @@ ended_local v scan s is = elim (is.ends) [ inl end ↦ wider 0 1 (omega arith) (
 text_ended : (n before : ℕ) (v s : List ℕ) → IsEnded v (raw_text n before) s
 text_ended n before v s = by_close (close n s) refl
   where
-    counted-ends : (b : Bool) → HasEnd v (if b then Ok n else Err (TooManyDelimiters n))
-    counted-ends true = tt
-    counted-ends false = tt
+    hash_count-ends : (b : Bool) → HasEnd v (if b then Ok n else Err (TooManyDelimiters n))
+    hash_count-ends true = tt
+    hash_count-ends false = tt
 
     by_close : (o : Option ℕ) → close n s ≡ o → IsEnded v (raw_text n before) s
     by_close None e =
@@ -77,7 +77,7 @@ text_ended n before v s = by_close (close n s) refl
                 let near : take (i + suc n) u ≡ take (i + suc n) s = cut (i + suc n) ((raw_text n before s).1 + 0) u s (omega arith) a in
                 ap (raw_closed n before u) (found-same (close n) (suc n) (close_found n) s i e u near) ∙ sym read;
           };
-          ends = inl (subst (λ (r : Read). HasEnd v r.0) (sym read) (counted-ends (nat_le n 255)));
+          ends = inl (subst (λ (r : Read). HasEnd v r.0) (sym read) (hash_count-ends (nat_le n 255)));
         }
 
 past_starter_ended : (prefix n c : ℕ) (s : List ℕ) → IsEnded (c ∷ s) (past_starter prefix n c) s

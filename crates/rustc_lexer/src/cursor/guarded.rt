@@ -6,8 +6,8 @@ ghost use Rattle.rustc_lexer.specs.Raw.{hashes};
 ghost use Rattle.rustc_lexer.specs.Scan.{past, scanned};
 
 use crate::cursor::Cursor;
-use crate::lexemes::literal::eat_suffix;
-use crate::lexemes::quoted::double_quoted;
+use crate::lexemes::literal::eat_literal_suffix;
+use crate::lexemes::quoted::double_quoted_string;
 use crate::scan::{eat_while, strip};
 use crate::token::GuardedStr;
 
@@ -69,9 +69,9 @@ fn guarded_body(body: &str, n_hashes: usize) -> (bool, &str)
     ensures shorter { length result.1.now ≤ length body.now }
     ensures read { (result.0, result.1.now) ≡ scanned (spec.guarded_body n_hashes) body.now }
 {
-    let (terminated, left) = double_quoted(body);
+    let (terminated, left) = double_quoted_string(body);
     if terminated {
-        (true, eat_suffix(eat_hashes(left, n_hashes)))
+        (true, eat_literal_suffix(eat_hashes(left, n_hashes)))
     } else {
         (false, left)
     }

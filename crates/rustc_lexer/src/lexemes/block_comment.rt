@@ -7,7 +7,7 @@ ghost use Rattle.rustc_lexer.specs.BlockComment.{IsClosedAlone};
 ghost use Rattle.rustc_lexer.specs.BlockGrammar.{Closes, IsEnd};
 ghost use Rattle.rustc_lexer.specs.Scan.{IsFound, IsLocal, or_all, scanned};
 
-use crate::scan::{eat_to_either, first, second, split_first, strip};
+use crate::scan::{eat_until_either, first, second, split_first, strip};
 use crate::token::{DocStyle, TokenKind};
 
 /// A block comment. `body` is what follows its `/*`.
@@ -53,7 +53,7 @@ fn past_comment(body: &str) -> (bool, &str)
     let mut depth = 1usize;
     let mut rest = body;
     'comment: loop {
-        let stop = eat_to_either(rest, b'*', b'/');
+        let stop = eat_until_either(rest, b'*', b'/');
         let Some((c, tail)) = split_first(stop) else {
             return (false, stop);
         };

@@ -5,7 +5,7 @@ ghost use Rattle.rustc_lexer.specs.Comment as spec;
 ghost use Rattle.rustc_lexer.specs.Scan.{scanned};
 
 use crate::lexemes::block_comment::block_comment;
-use crate::scan::{eat_to, first, second, strip};
+use crate::scan::{eat_until, first, second, strip};
 use crate::token::{DocStyle, TokenKind};
 
 /// What begins with a slash. `rest` is what follows that.
@@ -28,7 +28,7 @@ fn line_comment(body: &str) -> (TokenKind, &str)
     ensures { (result.0, result.1.now) ≡ scanned spec.line_comment body.now }
 {
     let doc_style = line_doc_style(body);
-    let rest = eat_to(body, b'\n');
+    let rest = eat_until(body, b'\n');
     (TokenKind::LineComment { doc_style }, rest)
 }
 

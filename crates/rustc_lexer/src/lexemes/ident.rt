@@ -15,8 +15,8 @@ use crate::token::TokenKind;
 /// An identifier, or what is none for an emoji in it or a mark right after it. `tail` is what follows its
 /// first character.
 #[inline(always)]
-pub(crate) fn ident(tail: &str) -> (TokenKind, &str)
-    ensures { (result.0, result.1.now) ≡ scanned spec.ident tail.now }
+pub(crate) fn ident_or_unknown_prefix(tail: &str) -> (TokenKind, &str)
+    ensures { (result.0, result.1.now) ≡ scanned spec.ident_or_unknown_prefix tail.now }
 {
     let rest = eat_continue(tail);
     if ends_word(rest.as_bytes(), 0) {
@@ -67,7 +67,7 @@ fn is_prefix_mark(c: char) -> bool
 
 /// How far identifiers look past their end.
 pub(crate) fn ident_lookahead()
-    ensures ident { IsLocal TokenKind 1 spec.ident }
+    ensures ident { IsLocal TokenKind 1 spec.ident_or_unknown_prefix }
     ensures invalid { IsLocal TokenKind 1 spec.invalid_ident }
     ensures marked { (kind : TokenKind) (other : List ℕ → TokenKind × ℕ) (s : List ℕ) → spec.marks_ident s ≡ true
         → IsLocalAt TokenKind 1 (spec.marked kind other) s }

@@ -8,7 +8,7 @@ ghost use Rattle.rustc_lexer.specs.Emoji.{is_emoji};
 ghost use Rattle.rustc_lexer.specs.Ident.{is_word, marks_ident};
 ghost use Rattle.rustc_lexer.specs.Lifetime as spec;
 ghost use Rattle.rustc_lexer.specs.Lifetime.{is_character_at, is_raw};
-ghost use Rattle.rustc_lexer.specs.Quoted.{single_quoted};
+ghost use Rattle.rustc_lexer.specs.Quoted.{single_quoted_string};
 ghost use Rattle.rustc_lexer.specs.Scan.{IsLocal, IsLocalAt, begins, past, run_len, scanned};
 
 use crate::classes::emoji::is_emoji;
@@ -19,9 +19,9 @@ use crate::token::{LiteralKind, TokenKind};
 
 /// What begins with a single quote. `tail` is what follows that.
 #[inline(always)]
-pub(crate) fn quote_or_lifetime(tail: &str) -> (TokenKind, &str)
+pub(crate) fn lifetime_or_char(tail: &str) -> (TokenKind, &str)
     requires fits { length tail.now + 1 < 2 ^ 32 }
-    ensures { (result.0, result.1.now) ≡ scanned spec.quote_or_lifetime tail.now }
+    ensures { (result.0, result.1.now) ≡ scanned spec.lifetime_or_char tail.now }
 {
     let Some((first, rest)) = split_first(tail) else {
         return char_literal(tail);
@@ -65,7 +65,7 @@ fn lifetime(first: char, rest: &str) -> (TokenKind, &str)
             return (TokenKind::RawLifetime, eat_continue(name));
         }
     }
-    named(first, rest)
+    plain_lifetime(first, rest)
 }
 
 /// What follows a hash and the start of an identifier, if these are at the front.
@@ -79,9 +79,9 @@ fn strip_raw(rest: &str) -> Option<&str>
 
 /// The same where no raw lifetime stands there. A quote that follows the name makes a character of it.
 #[inline(always)]
-fn named(first: char, rest: &str) -> (TokenKind, &str)
+fn plain_lifetime(first: char, rest: &str) -> (TokenKind, &str)
     requires fits { len_utf8 first + length rest.now + 1 < 2 ^ 32 }
-    ensures { (result.0, result.1.now) ≡ scanned (spec.named first) rest.now }
+    ensures { (result.0, result.1.now) ≡ scanned (spec.plain_lifetime first) rest.now }
 {
     let past_plain = eat_continue(rest);
     let past_name = eat_while(past_plain, is_name_part);
@@ -92,12 +92,12 @@ fn named(first: char, rest: &str) -> (TokenKind, &str)
         return (TokenKind::Literal { kind, suffix_start }, left);
     }
     let holds_emoji = past_name.len() < past_plain.len();
-    (unquoted(first, holds_emoji, past_name), past_name)
+    (lifetime_kind(first, holds_emoji, past_name), past_name)
 }
 
 /// What a name is that no quote follows. It begins with `first`, and `rest` is what follows it.
 #[inline(always)]
-fn unquoted(first: char, holds_emoji: bool, rest: &str) -> TokenKind
+fn lifetime_kind(first: char, holds_emoji: bool, rest: &str) -> TokenKind
     ensures { result ≡ (if begins (codes "#") (chars rest.now) && not (is_ascii_digit first) then UnknownPrefixLifetime
         else Lifetime (is_ascii_digit first || is_emoji first || holds_emoji)) }
 {
@@ -112,10 +112,10 @@ fn unquoted(first: char, holds_emoji: bool, rest: &str) -> TokenKind
 
 /// How far characters and lifetimes look past their end: two characters, and less where it is said.
 pub(crate) fn lifetime_lookahead()
-    ensures name { (c : ℕ) → IsLocal TokenKind 1 (spec.named c) }
-    ensures all { IsLocal TokenKind 2 spec.quote_or_lifetime }
-    ensures character { (s : List ℕ) → is_character_at s ≡ true → (single_quoted s).0 ≡ true → IsLocalAt TokenKind 1 spec.quote_or_lifetime s }
-    ensures raw { (c : ℕ) (s : List ℕ) → spec.is_character c s ≡ false → is_raw c s ≡ true → IsLocalAt TokenKind 1 spec.quote_or_lifetime (c ∷ s) }
+    ensures name { (c : ℕ) → IsLocal TokenKind 1 (spec.plain_lifetime c) }
+    ensures all { IsLocal TokenKind 2 spec.lifetime_or_char }
+    ensures character { (s : List ℕ) → is_character_at s ≡ true → (single_quoted_string s).0 ≡ true → IsLocalAt TokenKind 1 spec.lifetime_or_char s }
+    ensures raw { (c : ℕ) (s : List ℕ) → spec.is_character c s ≡ false → is_raw c s ≡ true → IsLocalAt TokenKind 1 spec.lifetime_or_char (c ∷ s) }
     ensures long_character { (c : ℕ) (s : List ℕ) → spec.is_character c s ≡ false → is_raw c s ≡ false → begins (codes "'") (drop (run_len is_word s) s) ≡ true
-        → IsLocalAt TokenKind 0 spec.quote_or_lifetime (c ∷ s) }
+        → IsLocalAt TokenKind 0 spec.lifetime_or_char (c ∷ s) }
 {}

@@ -7,7 +7,7 @@ ghost use Rattle.rustc_lexer.specs.Scan.{IsLocal, scanned};
 ghost use Rattle.rustc_lexer.specs.declared.token.TokenKind.{TokenKind};
 
 use crate::classes::is_id_start;
-use crate::lexemes::literal::{eat_suffix, literal};
+use crate::lexemes::literal::{eat_literal_suffix, literal};
 use crate::scan::{eat_decimal, eat_hexadecimal, eat_while, first, split_first};
 use crate::token::{Base, LiteralKind, TokenKind};
 
@@ -20,7 +20,7 @@ pub(crate) fn number(first_digit: char, tail: &str) -> (TokenKind, &str)
     ensures { (result.0, result.1.now) ≡ scanned (spec.number first_digit) tail.now }
 {
     let (kind, rest) = number_kind(first_digit, tail);
-    (literal(kind, tail, rest), eat_suffix(rest))
+    (literal(kind, tail, rest), eat_literal_suffix(rest))
 }
 
 /// What the number is, and the text from its suffix on.
@@ -57,13 +57,13 @@ fn front_past_zero(tail: &str) -> (Base, bool, &str)
         return (Base::Decimal, false, tail);
     };
     if letter == 'b' {
-        let (has_digit, rest) = decimal_digits(digits);
+        let (has_digit, rest) = eat_decimal_digits(digits);
         (Base::Binary, !has_digit, rest)
     } else if letter == 'o' {
-        let (has_digit, rest) = decimal_digits(digits);
+        let (has_digit, rest) = eat_decimal_digits(digits);
         (Base::Octal, !has_digit, rest)
     } else if letter == 'x' {
-        let (has_digit, rest) = hexadecimal_digits(digits);
+        let (has_digit, rest) = eat_hexadecimal_digits(digits);
         (Base::Hexadecimal, !has_digit, rest)
     } else {
         (Base::Decimal, false, eat_decimal(tail))
@@ -89,7 +89,7 @@ fn past_digits(base: Base, rest: &str) -> (LiteralKind, &str)
             fraction(base, tail)
         }
     } else if is_exponent_letter(mark) {
-        past_letter(base, tail)
+        eat_float_exponent(base, tail)
     } else {
         (int, rest)
     }
@@ -108,7 +108,7 @@ fn fraction(base: Base, rest: &str) -> (LiteralKind, &str)
     ensures { (result.0, result.1.now) ≡ scanned (spec.fraction base) rest.now }
 {
     if first(rest).is_ascii_digit() {
-        exponent(base, eat_decimal(rest))
+        optional_exponent(base, eat_decimal(rest))
     } else {
         let float = LiteralKind::Float {
             base,
@@ -120,8 +120,8 @@ fn fraction(base: Base, rest: &str) -> (LiteralKind, &str)
 
 /// The float with the exponent that stands here, if one does.
 #[inline(always)]
-fn exponent(base: Base, rest: &str) -> (LiteralKind, &str)
-    ensures { (result.0, result.1.now) ≡ scanned (spec.exponent base) rest.now }
+fn optional_exponent(base: Base, rest: &str) -> (LiteralKind, &str)
+    ensures { (result.0, result.1.now) ≡ scanned (spec.optional_exponent base) rest.now }
 {
     let float = LiteralKind::Float {
         base,
@@ -131,7 +131,7 @@ fn exponent(base: Base, rest: &str) -> (LiteralKind, &str)
         return (float, rest);
     };
     if is_exponent_letter(letter) {
-        past_letter(base, tail)
+        eat_float_exponent(base, tail)
     } else {
         (float, rest)
     }
@@ -145,8 +145,8 @@ fn is_exponent_letter(c: char) -> bool
 
 /// The float with this exponent. `rest` is what follows the letter of it.
 #[inline(always)]
-fn past_letter(base: Base, rest: &str) -> (LiteralKind, &str)
-    ensures { (result.0, result.1.now) ≡ scanned (spec.past_letter base) rest.now }
+fn eat_float_exponent(base: Base, rest: &str) -> (LiteralKind, &str)
+    ensures { (result.0, result.1.now) ≡ scanned (spec.float_exponent base) rest.now }
 {
     let Some((sign, tail)) = split_first(rest) else {
         return past_sign(base, rest);
@@ -169,7 +169,7 @@ fn is_sign(c: char) -> bool
 fn past_sign(base: Base, rest: &str) -> (LiteralKind, &str)
     ensures { (result.0, result.1.now) ≡ scanned (spec.past_sign base) rest.now }
 {
-    let (has_digit, rest) = decimal_digits(rest);
+    let (has_digit, rest) = eat_decimal_digits(rest);
     let empty_exponent = !has_digit;
     let float = LiteralKind::Float {
         base,
@@ -179,7 +179,7 @@ fn past_sign(base: Base, rest: &str) -> (LiteralKind, &str)
 }
 
 /// Whether a digit stands in the run of digits and underscores at the front, and what follows that run.
-fn decimal_digits(rest: &str) -> (bool, &str)
+fn eat_decimal_digits(rest: &str) -> (bool, &str)
     ensures { (result.0, result.1.now) ≡ scanned (spec.digits is_ascii_digit) rest.now }
 {
     let digits = eat_while(rest, is_underscore);
@@ -188,7 +188,7 @@ fn decimal_digits(rest: &str) -> (bool, &str)
 }
 
 /// The same of hexadecimal digits.
-fn hexadecimal_digits(rest: &str) -> (bool, &str)
+fn eat_hexadecimal_digits(rest: &str) -> (bool, &str)
     ensures { (result.0, result.1.now) ≡ scanned (spec.digits is_ascii_hexdigit) rest.now }
 {
     let digits = eat_while(rest, is_underscore);

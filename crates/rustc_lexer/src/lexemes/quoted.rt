@@ -6,19 +6,19 @@ ghost use Rattle.rustc_lexer.specs.Literal.{Body, literal};
 ghost use Rattle.rustc_lexer.specs.Quoted as spec;
 ghost use Rattle.rustc_lexer.specs.Scan.{IsLocal, IsLocalAt, after, past, scanned};
 
-use crate::lexemes::literal::{eat_suffix, literal};
-use crate::scan::{eat_to_either, split_first, strip};
+use crate::lexemes::literal::{eat_literal_suffix, literal};
+use crate::scan::{eat_until_either, split_first, strip};
 use crate::token::{LiteralKind, TokenKind};
 
 /// Whether a double quote closes the text, and what follows that. `body` is what follows the opening quote.
 /// Without a closing quote all of it is taken.
-pub(crate) fn double_quoted(body: &str) -> (bool, &str)
+pub(crate) fn double_quoted_string(body: &str) -> (bool, &str)
     ensures shorter { length result.1.now ≤ length body.now }
-    ensures read { (result.0, result.1.now) ≡ scanned spec.double_quoted body.now }
+    ensures read { (result.0, result.1.now) ≡ scanned spec.double_quoted_string body.now }
 {
     let mut rest = body;
     'quoted: loop {
-        let stop = eat_to_either(rest, b'"', b'\\');
+        let stop = eat_until_either(rest, b'"', b'\\');
         let Some((c, tail)) = split_first(stop) else {
             return (false, stop);
         };
@@ -34,9 +34,9 @@ pub(crate) fn double_quoted(body: &str) -> (bool, &str)
 
 /// Whether a single quote closes the text, and what follows that. `body` is what follows the opening quote.
 /// A slash, or a newline that no quote follows, stops a text that is not closed, and is not taken.
-pub(crate) fn single_quoted(body: &str) -> (bool, &str)
+pub(crate) fn single_quoted_string(body: &str) -> (bool, &str)
     ensures shorter { length result.1.now ≤ length body.now }
-    ensures read { (result.0, result.1.now) ≡ scanned spec.single_quoted body.now }
+    ensures read { (result.0, result.1.now) ≡ scanned spec.single_quoted_string body.now }
 {
     if let Some(rest) = strip_lone(body) {
         return (true, rest);
@@ -83,7 +83,7 @@ pub(crate) fn str_literal(tail: &str) -> (TokenKind, &str)
     requires fits { length tail.now + 1 < 2 ^ 32 }
     ensures { (result.0, result.1.now) ≡ scanned (literal spec.str_body) tail.now }
 {
-    let (terminated, rest) = double_quoted(tail);
+    let (terminated, rest) = double_quoted_string(tail);
     with_suffix(LiteralKind::Str { terminated }, terminated, tail, rest)
 }
 
@@ -94,7 +94,7 @@ pub(crate) fn byte_str_literal<'a>(tail: &str, body: &'a str) -> (TokenKind, &'a
     requires fits { length tail.now + 1 < 2 ^ 32 }
     ensures { (result.0, result.1.now) ≡ scanned (literal (after 1 spec.byte_str_body)) tail.now }
 {
-    let (terminated, rest) = double_quoted(body);
+    let (terminated, rest) = double_quoted_string(body);
     with_suffix(LiteralKind::ByteStr { terminated }, terminated, tail, rest)
 }
 
@@ -105,7 +105,7 @@ pub(crate) fn c_str_literal<'a>(tail: &str, body: &'a str) -> (TokenKind, &'a st
     requires fits { length tail.now + 1 < 2 ^ 32 }
     ensures { (result.0, result.1.now) ≡ scanned (literal (after 1 spec.c_str_body)) tail.now }
 {
-    let (terminated, rest) = double_quoted(body);
+    let (terminated, rest) = double_quoted_string(body);
     with_suffix(LiteralKind::CStr { terminated }, terminated, tail, rest)
 }
 
@@ -115,7 +115,7 @@ pub(crate) fn char_literal(tail: &str) -> (TokenKind, &str)
     requires fits { length tail.now + 1 < 2 ^ 32 }
     ensures { (result.0, result.1.now) ≡ scanned (literal spec.char_body) tail.now }
 {
-    let (terminated, rest) = single_quoted(tail);
+    let (terminated, rest) = single_quoted_string(tail);
     with_suffix(LiteralKind::Char { terminated }, terminated, tail, rest)
 }
 
@@ -126,7 +126,7 @@ pub(crate) fn byte_literal<'a>(tail: &str, body: &'a str) -> (TokenKind, &'a str
     requires fits { length tail.now + 1 < 2 ^ 32 }
     ensures { (result.0, result.1.now) ≡ scanned (literal (after 1 spec.byte_body)) tail.now }
 {
-    let (terminated, rest) = single_quoted(body);
+    let (terminated, rest) = single_quoted_string(body);
     with_suffix(LiteralKind::Byte { terminated }, terminated, tail, rest)
 }
 
@@ -145,7 +145,7 @@ pub(crate) fn with_suffix<'a>(
 {
     let token = literal(kind, tail, rest);
     if takes_suffix {
-        (token, eat_suffix(rest))
+        (token, eat_literal_suffix(rest))
     } else {
         (token, rest)
     }
@@ -153,15 +153,15 @@ pub(crate) fn with_suffix<'a>(
 
 /// How far quoted text and its literals look past their end; closed text looks less far.
 pub(crate) fn quoted_lookahead()
-    ensures double { IsLocal Bool 1 spec.double_quoted }
-    ensures double_closed { (s : List ℕ) → (spec.double_quoted s).0 ≡ true → IsLocalAt Bool 0 spec.double_quoted s }
-    ensures single { IsLocal Bool 2 spec.single_quoted }
-    ensures single_closed { (s : List ℕ) → (spec.single_quoted s).0 ≡ true → IsLocalAt Bool 1 spec.single_quoted s }
+    ensures double { IsLocal Bool 1 spec.double_quoted_string }
+    ensures double_closed { (s : List ℕ) → (spec.double_quoted_string s).0 ≡ true → IsLocalAt Bool 0 spec.double_quoted_string s }
+    ensures single { IsLocal Bool 2 spec.single_quoted_string }
+    ensures single_closed { (s : List ℕ) → (spec.single_quoted_string s).0 ≡ true → IsLocalAt Bool 1 spec.single_quoted_string s }
     ensures string { IsLocal TokenKind 1 (literal spec.str_body) }
     ensures byte_string { (s : List ℕ) → 1 ≤ length s → IsLocalAt TokenKind 1 (literal (after 1 spec.byte_str_body)) s }
     ensures c_string { (s : List ℕ) → 1 ≤ length s → IsLocalAt TokenKind 1 (literal (after 1 spec.c_str_body)) s }
     ensures byte { (s : List ℕ) → 1 ≤ length s → IsLocalAt TokenKind 2 (literal (after 1 spec.byte_body)) s }
-    ensures byte_closed { (s : List ℕ) → 1 ≤ length s → (spec.single_quoted (drop 1 s)).0 ≡ true → IsLocalAt TokenKind 1 (literal (after 1 spec.byte_body)) s }
+    ensures byte_closed { (s : List ℕ) → 1 ≤ length s → (spec.single_quoted_string (drop 1 s)).0 ≡ true → IsLocalAt TokenKind 1 (literal (after 1 spec.byte_body)) s }
     ensures character { IsLocal TokenKind 2 (literal spec.char_body) }
-    ensures character_closed { (s : List ℕ) → (spec.single_quoted s).0 ≡ true → IsLocalAt TokenKind 1 (literal spec.char_body) s }
+    ensures character_closed { (s : List ℕ) → (spec.single_quoted_string s).0 ≡ true → IsLocalAt TokenKind 1 (literal spec.char_body) s }
 {}

@@ -10,8 +10,8 @@ ghost use Rattle.rustc_lexer.specs.Raw as spec;
 ghost use Rattle.rustc_lexer.specs.Raw.{EndsItself, RefusedEndsItself};
 ghost use Rattle.rustc_lexer.specs.Scan.{IsLocal, past, run_len, scanned};
 
-use crate::lexemes::literal::eat_suffix;
-use crate::scan::{eat_to, eat_while, split_first, strip};
+use crate::lexemes::literal::eat_literal_suffix;
+use crate::scan::{eat_until, eat_while, split_first, strip};
 use crate::token::{LiteralKind, RawStrError, TokenKind};
 
 /// What a raw string begins with, as a token.
@@ -31,12 +31,15 @@ pub(crate) fn raw_literal(prefix: RawPrefix, rest: &str) -> (TokenKind, &str)
     requires fits { spec.prefix_len prefix + length rest.now < 2 ^ 32 }
     ensures { (result.0, result.1.now) ≡ scanned (spec.raw_literal prefix) rest.now }
 {
-    let (read, left) = raw_double_quoted(rest, 0);
+    let (read, left) = raw_double_quoted_string(rest, 0);
     let suffix_start = prefix_len(prefix) + (rest.len() - left.len()) as u32;
     match read {
         Ok(n_hashes) => {
             let kind = literal_kind(prefix, Some(n_hashes));
-            (TokenKind::Literal { kind, suffix_start }, eat_suffix(left))
+            (
+                TokenKind::Literal { kind, suffix_start },
+                eat_literal_suffix(left),
+            )
         }
         Err(_) => {
             let kind = literal_kind(prefix, None);
@@ -71,7 +74,10 @@ fn literal_kind(prefix: RawPrefix, n_hashes: Option<u8>) -> LiteralKind
 /// The number of hashes on each side of a raw string, or why it is refused; and what it leaves of `rest`,
 /// which follows its prefix. An offset is in bytes, and counts `prefix_len` for the prefix.
 #[inline(always)]
-pub(crate) fn raw_double_quoted(rest: &str, prefix_len: u32) -> (Result<u8, RawStrError>, &str)
+pub(crate) fn raw_double_quoted_string(
+    rest: &str,
+    prefix_len: u32,
+) -> (Result<u8, RawStrError>, &str)
     requires fits { prefix_len + length rest.now < 2 ^ 32 }
     ensures { (result.0, result.1.now) ≡ scanned (spec.raw_read prefix_len) rest.now }
 {
@@ -103,7 +109,7 @@ fn raw_text(text: &str, n_hashes: u32, before: u32) -> (Result<u8, RawStrError>,
         let past_hashes = eat_while(tail, |c| c == '#');
         let hashes = (tail.len() - past_hashes.len()) as u32;
         if hashes >= n_hashes {
-            return (counted(n_hashes), &tail[n_hashes as usize..]);
+            return (hash_count(n_hashes), &tail[n_hashes as usize..]);
         }
         if hashes > found {
             found = hashes;
@@ -127,12 +133,12 @@ fn past_quote(rest: &str) -> Option<&str>
         (drop place (chars rest.now) ≡ [])
         (λ tail. (drop place (chars rest.now) ≡ byte "\"" ∷ chars tail.now) × (tail.now ≡ past (suc place) rest.now) × (length tail.now < length rest.now)) }
 {
-    strip(eat_to(rest, b'"'), '"')
+    strip(eat_until(rest, b'"'), '"')
 }
 
 /// The number of hashes, or that there are too many.
-fn counted(n_hashes: u32) -> Result<u8, RawStrError>
-    ensures { result ≡ spec.counted n_hashes }
+fn hash_count(n_hashes: u32) -> Result<u8, RawStrError>
+    ensures { result ≡ spec.hash_count n_hashes }
 {
     if n_hashes <= 255 {
         Ok(n_hashes as u8)

@@ -4,7 +4,7 @@ ghost use Rattle.rustc_lexer.specs.Lexeme as spec;
 ghost use Rattle.rustc_lexer.specs.Raw.{prefix_len};
 ghost use Rattle.rustc_lexer.specs.Scan.{scanned};
 
-use crate::lexemes::ident::{eat_marked, ident};
+use crate::lexemes::ident::{eat_marked, ident_or_unknown_prefix};
 use crate::lexemes::quoted::{byte_literal, byte_str_literal, c_str_literal};
 use crate::lexemes::raw::{RawPrefix, raw_literal};
 use crate::scan::{next_is, strip};
@@ -21,7 +21,7 @@ pub(crate) fn word(first: char, tail: &str) -> (TokenKind, &str)
         'k' => letter_k(tail),
         'b' => letter_b(tail),
         'c' => letter_c(tail),
-        _ => ident(tail),
+        _ => ident_or_unknown_prefix(tail),
     }
 }
 
@@ -37,7 +37,7 @@ fn letter_r(tail: &str) -> (TokenKind, &str)
     if next_is(tail, is_raw_mark) {
         raw_literal(RawPrefix::R, tail)
     } else {
-        ident(tail)
+        ident_or_unknown_prefix(tail)
     }
 }
 
@@ -55,7 +55,7 @@ fn letter_k(tail: &str) -> (TokenKind, &str)
 {
     match eat_marked(tail) {
         Some(rest) => (TokenKind::ForcedKeywordIdent, rest),
-        None => ident(tail),
+        None => ident_or_unknown_prefix(tail),
     }
 }
 
@@ -94,11 +94,11 @@ fn raw_or_ident(prefix: RawPrefix, tail: &str) -> (TokenKind, &str)
     ensures { (result.0, result.1.now) ≡ scanned (spec.raw_past_or_ident prefix) tail.now }
 {
     let Some(rest) = strip(tail, 'r') else {
-        return ident(tail);
+        return ident_or_unknown_prefix(tail);
     };
     if next_is(rest, is_raw_mark) {
         raw_literal(prefix, rest)
     } else {
-        ident(tail)
+        ident_or_unknown_prefix(tail)
     }
 }

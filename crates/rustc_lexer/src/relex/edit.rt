@@ -69,7 +69,7 @@ fn relex_from<S: Stepper>(
 }
 
 /// The text with `insert` for its bytes from `start` up to `stop`, or `None` where that changes nothing.
-fn spliced(
+fn splice(
     alloc: Global,
     text: &str,
     start: usize,
@@ -136,7 +136,7 @@ pub(crate) fn lex_edit<S: Stepper>(
 {
     let old = tokens.as_slice();
     let kept = kept_front(text, old, start, landmarks.nearest(start));
-    let new = spliced(alloc, text, start, stop, insert)?;
+    let new = splice(alloc, text, start, stop, insert)?;
     let damage = Damage {
         past: start + insert.len(),
         added: insert.len(),

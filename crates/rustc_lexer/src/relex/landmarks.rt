@@ -59,14 +59,14 @@ impl Landmarks {
     {
         let mut bounds = [kept; COUNT];
         for (i, bound) in self.bounds.iter().enumerate() {
-            bounds[i] = moved(*bound, kept, met, now);
+            bounds[i] = move_bound(*bound, kept, met, now);
         }
         Landmarks { bounds }
     }
 }
 
 /// Where the bound is after an edit that keeps the tokens up to `kept`, and those from `met` on, which is then `now`.
-fn moved(bound: Bound, kept: Bound, met: Bound, now: Bound) -> Bound
+fn move_bound(bound: Bound, kept: Bound, met: Bound, now: Bound) -> Bound
     requires { IsMovable met now bound }
     ensures { (old new : List Token) → IsReplaced old new kept met now → IsBound old bound → IsBound new result }
 {

@@ -1,6 +1,6 @@
 use Rattle.std.proofs.Common.{not, refl, ap, ◌∙◌, rules}
 use Rattle.rustc_lexer.specs.Classes.{is_whitespace}
-use Rattle.rustc_lexer.specs.Frontmatter.{closing, is_dash, is_newline}
+use Rattle.rustc_lexer.specs.Frontmatter.{closing_end, is_dash, is_newline}
 use Rattle.rustc_lexer.proofs.FrontmatterLemmas.{opens-few, opens-line, opens-yes, frontmatter-is}
 use Rattle.rustc_lexer.proofs.frontmatter.frontmatter.Goals as goal
 use Rattle.rustc_lexer.proofs.frontmatter.frontmatter.Goals.{then-n_dashes-lt-MIN_DASHES-via-then-n_dashes-lt-MIN_DASHES, then-n_dashes-lt-MIN_DASHES-via-else-n_dashes-lt-MIN_DASHES+then-follows_newline}
@@ -18,6 +18,6 @@ pub returns : goal.returns
 returns c =
     let label = c.eat_while-label.ensures.past is_dash (λ d b e. search rules) in (
       opens-yes c.args.text.now _ _ c.utf8.text c.eat_whitespace-fence.ensures.past label _ c.as_bytes.ensures.value _ refl _ c.follows_newline.ensures c.if-follows_newline.false c.if-n_dashes-lt-MIN_DASHES.false,
-      frontmatter-is c.args.text.now _ _ c.utf8.text c.eat_whitespace-fence.ensures.past label c.eat_label-rest.result.now c.eat_label-rest.ensures.past _ c.closing-end.result _ _
-          (c.closing-end.ensures.end ∙ ap (closing _) c.as_bytes-2.ensures.value) refl (c.next_is.ensures is_whitespace (λ d b e. e)) (ap not (c.next_is-2.ensures is_newline (λ d b e. search rules))),
+      frontmatter-is c.args.text.now _ _ c.utf8.text c.eat_whitespace-fence.ensures.past label c.eat_label-rest.result.now c.eat_label-rest.ensures.past _ c.closing_end-end.result _ _
+          (c.closing_end-end.ensures.end ∙ ap (closing_end _) c.as_bytes-2.ensures.value) refl (c.next_is.ensures is_whitespace (λ d b e. e)) (ap not (c.next_is-2.ensures is_newline (λ d b e. search rules))),
     )

@@ -18,7 +18,7 @@ pub returns-in-Number : goal.returns-in-Number
 returns-in-Number c = by_family Number _ _ _ c.number.ensures (sym c.in-Number.is ∙ c.family_of.ensures)
 
 pub returns-in-Quote : goal.returns-in-Quote
-returns-in-Quote c = by_family Quote _ _ _ c.quote_or_lifetime.ensures (sym c.in-Quote.is ∙ c.family_of.ensures)
+returns-in-Quote c = by_family Quote _ _ _ c.lifetime_or_char.ensures (sym c.in-Quote.is ∙ c.family_of.ensures)
 
 pub returns-in-Str : goal.returns-in-Str
 returns-in-Str c = by_family Str _ _ _ c.str_literal.ensures (sym c.in-Str.is ∙ c.family_of.ensures)

@@ -6,29 +6,29 @@ pub comment-init : goal.comment-init
 comment-init c = (c.utf8.body, start _ c.utf8.body, omega arith, omega arith)
 
 pub returns-in_default : goal.returns-in_default
-returns-in_default c = open_at_end _ _ _ _ c.comment.invariant.2 c.comment.invariant.1 c.eat_to_either-stop.ensures.past c.in_default.ensures
+returns-in_default c = open_at_end _ _ _ _ c.comment.invariant.2 c.comment.invariant.1 c.eat_until_either-stop.ensures.past c.in_default.ensures
 
 pub returns-then-depth-eq0 : goal.returns-then-depth-eq0
 returns-then-depth-eq0 c =
-    let at = closed_one _ _ _ _ c.comment.invariant.2 c.comment.invariant.1 c.eat_to_either-stop.ensures.past _ _ c.in-Some.ensures.0 c.in-Some.ensures.1 _ (c.comment.depth - 1) c.if-c-eq42.true c.in-Some-strip.ensures.0 c.in-Some-strip.ensures.1 (omega (arith, c.comment.invariant.2)) in
+    let at = closed_one _ _ _ _ c.comment.invariant.2 c.comment.invariant.1 c.eat_until_either-stop.ensures.past _ _ c.in-Some.ensures.0 c.in-Some.ensures.1 _ (c.comment.depth - 1) c.if-c-eq42.true c.in-Some-strip.ensures.0 c.in-Some-strip.ensures.1 (omega (arith, c.comment.invariant.2)) in
     closed _ _ _ at c.if-depth-eq0.true
 
 pub comment-preserved-in-Some-strip : goal.comment-preserved-in-Some-strip
 comment-preserved-in-Some-strip c =
-    let at = closed_one _ _ _ _ c.comment.invariant.2 c.comment.invariant.1 c.eat_to_either-stop.ensures.past _ _ c.in-Some.ensures.0 c.in-Some.ensures.1 _ (c.comment.depth - 1) c.if-c-eq42.true c.in-Some-strip.ensures.0 c.in-Some-strip.ensures.1 (omega (arith, c.comment.invariant.2)) in
-    (at.utf8, at, omega arith, omega (arith, c.comment.invariant.3, c.eat_to_either-stop.ensures.shorter, c.in-Some.ensures.2, c.in-Some-strip.ensures.2))
+    let at = closed_one _ _ _ _ c.comment.invariant.2 c.comment.invariant.1 c.eat_until_either-stop.ensures.past _ _ c.in-Some.ensures.0 c.in-Some.ensures.1 _ (c.comment.depth - 1) c.if-c-eq42.true c.in-Some-strip.ensures.0 c.in-Some-strip.ensures.1 (omega (arith, c.comment.invariant.2)) in
+    (at.utf8, at, omega arith, omega (arith, c.comment.invariant.3, c.eat_until_either-stop.ensures.shorter, c.in-Some.ensures.2, c.in-Some-strip.ensures.2))
 
 pub comment-preserved-in_default-strip : goal.comment-preserved-in_default-strip
 comment-preserved-in_default-strip c =
-    let at = star_alone _ _ _ _ c.comment.invariant.2 c.comment.invariant.1 c.eat_to_either-stop.ensures.past _ _ c.in-Some.ensures.0 c.in-Some.ensures.1 c.if-c-eq42.true c.in_default-strip.ensures in
-    (at.utf8, at, c.comment.invariant.2, omega (arith, c.comment.invariant.3, c.eat_to_either-stop.ensures.shorter, c.in-Some.ensures.2))
+    let at = star_alone _ _ _ _ c.comment.invariant.2 c.comment.invariant.1 c.eat_until_either-stop.ensures.past _ _ c.in-Some.ensures.0 c.in-Some.ensures.1 c.if-c-eq42.true c.in_default-strip.ensures in
+    (at.utf8, at, c.comment.invariant.2, omega (arith, c.comment.invariant.3, c.eat_until_either-stop.ensures.shorter, c.in-Some.ensures.2))
 
 pub comment-preserved-in-Some-strip-2 : goal.comment-preserved-in-Some-strip-2
 comment-preserved-in-Some-strip-2 c =
-    let at = opened_one _ _ _ _ c.comment.invariant.2 c.comment.invariant.1 c.eat_to_either-stop.ensures.past _ _ c.in-Some.ensures.0 c.in-Some.ensures.1 _ (c.comment.depth + 1) c.if-c-eq42.false c.in-Some-strip-2.ensures.0 c.in-Some-strip-2.ensures.1 (omega arith) in
-    (at.utf8, at, omega arith, omega (arith, c.comment.invariant.3, c.eat_to_either-stop.ensures.shorter, c.in-Some.ensures.2, c.in-Some-strip-2.ensures.2))
+    let at = opened_one _ _ _ _ c.comment.invariant.2 c.comment.invariant.1 c.eat_until_either-stop.ensures.past _ _ c.in-Some.ensures.0 c.in-Some.ensures.1 _ (c.comment.depth + 1) c.if-c-eq42.false c.in-Some-strip-2.ensures.0 c.in-Some-strip-2.ensures.1 (omega arith) in
+    (at.utf8, at, omega arith, omega (arith, c.comment.invariant.3, c.eat_until_either-stop.ensures.shorter, c.in-Some.ensures.2, c.in-Some-strip-2.ensures.2))
 
 pub comment-preserved : goal.comment-preserved
 comment-preserved c =
-    let at = slash_alone _ _ _ _ c.comment.invariant.2 c.comment.invariant.1 c.eat_to_either-stop.ensures.past _ _ c.in-Some.ensures.0 c.in-Some.ensures.1 c.if-c-eq42.false c.in_default-strip-2.ensures in
-    (at.utf8, at, c.comment.invariant.2, omega (arith, c.comment.invariant.3, c.eat_to_either-stop.ensures.shorter, c.in-Some.ensures.2))
+    let at = slash_alone _ _ _ _ c.comment.invariant.2 c.comment.invariant.1 c.eat_until_either-stop.ensures.past _ _ c.in-Some.ensures.0 c.in-Some.ensures.1 c.if-c-eq42.false c.in_default-strip-2.ensures in
+    (at.utf8, at, c.comment.invariant.2, omega (arith, c.comment.invariant.3, c.eat_until_either-stop.ensures.shorter, c.in-Some.ensures.2))

@@ -1,5 +1,5 @@
 use Rattle.std.proofs.Common.{inl, inr}
-use Rattle.rustc_lexer.proofs.LifetimeLemmas.{pick-raw, pick-named}
+use Rattle.rustc_lexer.proofs.LifetimeLemmas.{pick-raw, pick-plain_lifetime}
 use Rattle.rustc_lexer.proofs.lexemes.lifetime.lifetime.Goals as goal
 use Rattle.rustc_lexer.proofs.lexemes.lifetime.lifetime.Goals.{then-first-eq114+in_default, else-first-eq114}
 
@@ -8,6 +8,6 @@ returns-in-Some c = pick-raw _ _ _ _ c.utf8.rest c.if-first-eq114.true c.in-Some
 
 pub returns : goal.returns
 returns c =
-    pick-named _ _ _
+    pick-plain_lifetime _ _ _
     (elim c.if-first-eq114.branch [ then-first-eq114+in_default w ↦ inr w.in_default.ensures | else-first-eq114 w ↦ inl w.if-first-eq114.false ])
-    c.named.ensures
+    c.plain_lifetime.ensures

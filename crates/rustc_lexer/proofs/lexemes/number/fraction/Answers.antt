@@ -2,7 +2,7 @@ use Rattle.std.proofs.Common.{false, refl, sym, ap, ◌∙◌}
 use Rattle.std.specs.Char.{is_ascii_digit}
 use Rattle.std.specs.Str.{chars}
 use Rattle.rustc_lexer.specs.declared.token.LiteralKind.TheVariants.{Float}
-use Rattle.rustc_lexer.specs.Number.{exponent, fraction, fraction_digits, or_underscore}
+use Rattle.rustc_lexer.specs.Number.{optional_exponent, fraction, fraction_digits, or_underscore}
 use Rattle.rustc_lexer.specs.Scan.{gives, next_is, run}
 use Rattle.rustc_lexer.proofs.NumberLemmas.{next_is-first}
 use Rattle.rustc_lexer.proofs.ScanLemmas.{scanned-and_then, scanned-gives, scanned-yes, scanned-no}
@@ -11,9 +11,9 @@ use Rattle.rustc_lexer.proofs.lexemes.number.fraction.Goals as goal
 pub returns-then-is_ascii_digit : goal.returns-then-is_ascii_digit
 unfolding fraction
 returns-then-is_ascii_digit c =
-    c.exponent.ensures
+    c.optional_exponent.ensures
     ∙ sym (scanned-yes (next_is is_ascii_digit) (fraction_digits c.args.base) (gives (Float c.args.base false)) _ (next_is-first is_ascii_digit (chars c.args.rest.now) refl ∙ (ap is_ascii_digit (sym c.first.ensures) ∙ sym c.if-is_ascii_digit.ensures.value))
-    ∙ scanned-and_then (run c.args.base (or_underscore is_ascii_digit)) exponent _ _ _ c.utf8.rest (ap (λ xs. (c.args.base, xs)) (c.eat_decimal.ensures.past)))
+    ∙ scanned-and_then (run c.args.base (or_underscore is_ascii_digit)) optional_exponent _ _ _ c.utf8.rest (ap (λ xs. (c.args.base, xs)) (c.eat_decimal.ensures.past)))
 
 pub returns-else-is_ascii_digit : goal.returns-else-is_ascii_digit
 unfolding fraction

@@ -9,5 +9,5 @@ literal-requires-clause-inside c = scanned-shorter (number_kind c.args.first_dig
 
 pub returns : goal.returns
 returns c =
-    ap (λ kind. (kind, c.eat_suffix.result.now)) c.literal.ensures
-    ∙ with-suffix 1 (number_body c.args.first_digit) _ _ _ _ c.utf8.tail (scanned-read_as with_suffix (number_kind c.args.first_digit) _ _ _ c.number_kind-kind.ensures) _ _ refl refl c.eat_suffix.ensures.past
+    ap (λ kind. (kind, c.eat_literal_suffix.result.now)) c.literal.ensures
+    ∙ with-suffix 1 (number_body c.args.first_digit) _ _ _ _ c.utf8.tail (scanned-read_as with_suffix (number_kind c.args.first_digit) _ _ _ c.number_kind-kind.ensures) _ _ refl refl c.eat_literal_suffix.ensures.past

@@ -17,7 +17,7 @@ returns-else-is_no_fraction c =
 
 pub returns-then-is_exponent_letter : goal.returns-then-is_exponent_letter
 returns-then-is_exponent_letter c =
-    c.past_letter.ensures ∙ sym (pick-exponent _ _ _ _ c.utf8.rest c.in-Some.ensures.0 c.in-Some.ensures.1 c.if-mark-eq46.false (sym c.if-is_exponent_letter.ensures))
+    c.eat_float_exponent.ensures ∙ sym (pick-exponent _ _ _ _ c.utf8.rest c.in-Some.ensures.0 c.in-Some.ensures.1 c.if-mark-eq46.false (sym c.if-is_exponent_letter.ensures))
 
 pub returns-else-is_exponent_letter : goal.returns-else-is_exponent_letter
 returns-else-is_exponent_letter c = sym (pick-int _ _ _ _ c.utf8.rest c.in-Some.ensures.0 c.in-Some.ensures.1 c.if-mark-eq46.false (sym c.if-is_exponent_letter.ensures))

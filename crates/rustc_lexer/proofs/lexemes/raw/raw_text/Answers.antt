@@ -10,7 +10,7 @@ pub range_from-requires : goal.range_from-requires
 range_from-requires c = λ some. may_cut _ _ _ _ _ _ _ _ c.utf8.text c.loop-tail.invariant.1 c.in-Some.ensures.0 c.in-Some.ensures.1 (c.eat_while-past_hashes.ensures.past is_hash (λ d b e. search rules)) c.if-hashes-n_hashes.true
 
 pub returns-then-hashes-n_hashes : goal.returns-then-hashes-n_hashes
-returns-then-hashes-n_hashes c = closed_here _ _ _ _ _ _ _ _ c.utf8.text c.loop-tail.invariant.1 c.in-Some.ensures.0 c.in-Some.ensures.1 (c.eat_while-past_hashes.ensures.past is_hash (λ d b e. search rules)) c.if-hashes-n_hashes.true _ _ c.counted.ensures c.range_from.ensures.value
+returns-then-hashes-n_hashes c = closed_here _ _ _ _ _ _ _ _ c.utf8.text c.loop-tail.invariant.1 c.in-Some.ensures.0 c.in-Some.ensures.1 (c.eat_while-past_hashes.ensures.past is_hash (λ d b e. search rules)) c.if-hashes-n_hashes.true _ _ c.hash_count.ensures c.range_from.ensures.value
 
 pub loop-tail-preserved-then-hashes-found : goal.loop-tail-preserved-then-hashes-found
 loop-tail-preserved-then-hashes-found c =

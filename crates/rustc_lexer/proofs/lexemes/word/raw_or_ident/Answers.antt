@@ -1,6 +1,6 @@
 use Rattle.std.proofs.Common.{◌≡◌, ◌∙◌, ◌&&◌, Bool, true, false, List, ℕ, ap, sym, codes, drop}
 use Rattle.std.specs.Str.{chars, IsUtf8}
-use Rattle.rustc_lexer.specs.Ident.{ident}
+use Rattle.rustc_lexer.specs.Ident.{ident_or_unknown_prefix}
 use Rattle.rustc_lexer.specs.Lexeme.{is_raw_mark, begins_raw}
 use Rattle.rustc_lexer.specs.Raw.{raw_literal}
 use Rattle.rustc_lexer.specs.Scan.{after, begins, next_is, past}
@@ -15,9 +15,9 @@ raw-is tail rest b is r e f = ap (λ (x : Bool). x && next_is is_raw_mark (drop 
 pub returns-then-next_is : goal.returns-then-next_is
 returns-then-next_is c =
     let marked : begins_raw (chars c.args.tail.now) ≡ true = raw-is _ _ true c.utf8.tail c.in-Some.ensures.0 c.in-Some.ensures.1 (c.if-next_is.ensures is_raw_mark (λ d b e. e)) in
-    c.raw_literal.ensures ∙ sym (scanned-yes begins_raw (after 1 (raw_literal c.args.prefix)) ident _ marked ∙ scanned-after 1 (raw_literal c.args.prefix) _ _ c.utf8.tail c.in-Some.ensures.1)
+    c.raw_literal.ensures ∙ sym (scanned-yes begins_raw (after 1 (raw_literal c.args.prefix)) ident_or_unknown_prefix _ marked ∙ scanned-after 1 (raw_literal c.args.prefix) _ _ c.utf8.tail c.in-Some.ensures.1)
 
 pub returns-else-next_is : goal.returns-else-next_is
 returns-else-next_is c =
     let other : begins_raw (chars c.args.tail.now) ≡ false = raw-is _ _ false c.utf8.tail c.in-Some.ensures.0 c.in-Some.ensures.1 (c.if-next_is.ensures is_raw_mark (λ d b e. e)) in
-    c.ident-else-next_is.ensures ∙ sym (scanned-no begins_raw (after 1 (raw_literal c.args.prefix)) ident _ other)
+    c.ident_or_unknown_prefix-else-next_is.ensures ∙ sym (scanned-no begins_raw (after 1 (raw_literal c.args.prefix)) ident_or_unknown_prefix _ other)

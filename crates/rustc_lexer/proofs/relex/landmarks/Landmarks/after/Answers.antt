@@ -9,4 +9,4 @@ loop-i-init c = λ old new is are. All-replicate (IsBound new) 64 c.args.kept (k
 
 pub loop-i-preserved : goal.loop-i-preserved
 loop-i-preserved c = λ old new is are.
-    All-set (IsBound new) c.loop-i.bounds c.loop-i.i c.moved.result (c.moved.ensures old new is (are c.loop-i.i _ (omega arith))) (c.loop-i.invariant old new is are)
+    All-set (IsBound new) c.loop-i.bounds c.loop-i.i c.move_bound.result (c.move_bound.ensures old new is (are c.loop-i.i _ (omega arith))) (c.loop-i.invariant old new is are)

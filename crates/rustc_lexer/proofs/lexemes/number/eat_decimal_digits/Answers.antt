@@ -1,0 +1,11 @@
+use Rattle.std.proofs.Common.{refl, ap, ◌∙◌}
+use Rattle.std.specs.Char.{is_ascii_digit}
+use Rattle.rustc_lexer.specs.Number.{is_underscore}
+use Rattle.rustc_lexer.proofs.NumberLemmas.{digits-is}
+use Rattle.rustc_lexer.proofs.lexemes.number.eat_decimal_digits.Goals as goal
+
+pub returns : goal.returns
+returns c = digits-is is_ascii_digit refl _ _ _ _ refl c.utf8.rest
+    (c.eat_while-digits.ensures.past is_underscore (λ d b e. e))
+    (c.is_ascii_digit-has_digit.ensures.value ∙ ap is_ascii_digit c.first.ensures)
+    (c.eat_decimal.ensures.past)
