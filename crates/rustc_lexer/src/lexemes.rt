@@ -36,10 +36,15 @@ mod word;
 ///
 /// The commonest tokens are told by their bytes. Where these tell one, it is the one that the first character
 /// chooses: both ways promise the same.
+///
+/// No token looks further than two characters past its end: so it is of characters, and of texts, at whose bounds
+/// tokens end.
 #[inline(always)]
 pub(crate) fn lexeme(text: &str) -> Token
     requires fits { Fits text.now }
-    ensures { IsFirstToken text.now result }
+    ensures token { IsFirstToken text.now result }
+    ensures lookahead { IsLocal TokenKind 2 spec.lexeme }
+    ensures grammar { IsGrammar spec.first_token }
 {
     match quick_token(text) {
         Some(token) => token,
@@ -119,9 +124,3 @@ fn symbol_kind(c: char) -> TokenKind
         _ => TokenKind::Unknown,
     }
 }
-
-/// How far each lexeme looks past its end.
-pub(crate) fn lookahead()
-    ensures lexeme { IsLocal TokenKind 2 spec.lexeme }
-    ensures grammar { IsGrammar spec.first_token }
-{}

@@ -11,9 +11,15 @@ use crate::scan::{eat_until_either, first, second, split_first, strip};
 use crate::token::{DocStyle, TokenKind};
 
 /// A block comment. `body` is what follows its `/*`.
+///
+/// What closes it is what the grammar of nesting allows. A closed comment looks at nothing past its end.
 #[inline(always)]
 pub(crate) fn block_comment(body: &str) -> (TokenKind, &str)
-    ensures { (result.0, result.1.now) ≡ scanned spec.block_comment body.now }
+    ensures read { (result.0, result.1.now) ≡ scanned spec.block_comment body.now }
+    ensures lookahead { IsLocal TokenKind 1 spec.block_comment }
+    ensures closed { IsClosedAlone }
+    ensures end { IsFound 0 spec.comment_end }
+    ensures grammar { (s : List ℕ) (n : ℕ) → Closes s n ↔ IsEnd s n }
 {
     let doc_style = block_doc_style(body);
     let (terminated, rest) = past_comment(body);
@@ -75,11 +81,3 @@ fn past_comment(body: &str) -> (bool, &str)
         }
     }
 }
-
-/// How far a block comment looks past its end, and that what is found is what the grammar of nesting allows.
-pub(crate) fn block_comment_lookahead()
-    ensures end { IsFound 0 spec.comment_end }
-    ensures closed { IsClosedAlone }
-    ensures comment { IsLocal TokenKind 1 spec.block_comment }
-    ensures grammar { (s : List ℕ) (n : ℕ) → Closes s n ↔ IsEnd s n }
-{}

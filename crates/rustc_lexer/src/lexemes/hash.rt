@@ -10,7 +10,9 @@ use crate::token::TokenKind;
 
 /// What begins with a hash: the prefix of a guarded string, or the hash alone. `tail` is what follows it.
 pub(crate) fn hash(tail: &str) -> (TokenKind, &str)
-    ensures { (result.0, result.1.now) ≡ scanned spec.hash tail.now }
+    ensures read { (result.0, result.1.now) ≡ scanned spec.hash tail.now }
+    ensures lookahead { IsLocal TokenKind 1 spec.hash }
+    ensures prefix { (s : List ℕ) → Scan.next_is spec.is_guarded_mark s ≡ true → IsLocalAt TokenKind 0 spec.hash s }
 {
     let Some((c, rest)) = split_first(tail) else {
         return (TokenKind::Pound, tail);
@@ -28,9 +30,3 @@ fn is_guarded_mark(c: char) -> bool
 {
     matches!(c, '"' | '#')
 }
-
-/// How far a hash looks past its end: one character. The prefix of a guarded string looks at none.
-pub(crate) fn hash_lookahead()
-    ensures hash { IsLocal TokenKind 1 spec.hash }
-    ensures prefix { (s : List ℕ) → Scan.next_is spec.is_guarded_mark s ≡ true → IsLocalAt TokenKind 0 spec.hash s }
-{}

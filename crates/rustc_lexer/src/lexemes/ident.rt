@@ -16,7 +16,8 @@ use crate::token::TokenKind;
 /// first character.
 #[inline(always)]
 pub(crate) fn ident_or_unknown_prefix(tail: &str) -> (TokenKind, &str)
-    ensures { (result.0, result.1.now) ≡ scanned spec.ident_or_unknown_prefix tail.now }
+    ensures read { (result.0, result.1.now) ≡ scanned spec.ident_or_unknown_prefix tail.now }
+    ensures lookahead { IsLocal TokenKind 1 spec.ident_or_unknown_prefix }
 {
     let rest = eat_continue(tail);
     if ends_word(rest.as_bytes(), 0) {
@@ -34,15 +35,18 @@ pub(crate) fn ident_or_unknown_prefix(tail: &str) -> (TokenKind, &str)
 
 /// What would be an identifier but for an emoji. `tail` is what follows that.
 pub(crate) fn invalid_ident(tail: &str) -> (TokenKind, &str)
-    ensures { (result.0, result.1.now) ≡ scanned spec.invalid_ident tail.now }
+    ensures read { (result.0, result.1.now) ≡ scanned spec.invalid_ident tail.now }
+    ensures lookahead { IsLocal TokenKind 1 spec.invalid_ident }
 {
     (TokenKind::InvalidIdent, eat_while(tail, is_word))
 }
 
 /// What a hash and an identifier leave, if these stand here.
 pub(crate) fn eat_marked(tail: &str) -> Option<&str>
-    ensures { MatchOption result (spec.marks_ident (chars tail.now) ≡ false)
+    ensures read { MatchOption result (spec.marks_ident (chars tail.now) ≡ false)
         (λ rest. (spec.marks_ident (chars tail.now) ≡ true) × (rest.now ≡ past (2 + run_len Classes.is_id_continue (drop 2 (chars tail.now))) tail.now)) }
+    ensures lookahead { (kind : TokenKind) (other : List ℕ → TokenKind × ℕ) (s : List ℕ) → spec.marks_ident s ≡ true
+        → IsLocalAt TokenKind 1 (spec.marked kind other) s }
 {
     let (first, word) = split_first(strip(tail, '#')?)?;
     if !is_id_start(first) {
@@ -64,11 +68,3 @@ fn is_prefix_mark(c: char) -> bool
 {
     matches!(c, '#' | '"' | '\'')
 }
-
-/// How far identifiers look past their end.
-pub(crate) fn ident_lookahead()
-    ensures ident { IsLocal TokenKind 1 spec.ident_or_unknown_prefix }
-    ensures invalid { IsLocal TokenKind 1 spec.invalid_ident }
-    ensures marked { (kind : TokenKind) (other : List ℕ → TokenKind × ℕ) (s : List ℕ) → spec.marks_ident s ≡ true
-        → IsLocalAt TokenKind 1 (spec.marked kind other) s }
-{}

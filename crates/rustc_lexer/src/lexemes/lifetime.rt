@@ -18,10 +18,19 @@ use crate::scan::{eat_continue, eat_while, split_first, strip};
 use crate::token::{LiteralKind, TokenKind};
 
 /// What begins with a single quote. `tail` is what follows that.
+///
+/// It looks at two characters past its end, and at fewer where it is said.
 #[inline(always)]
 pub(crate) fn lifetime_or_char(tail: &str) -> (TokenKind, &str)
     requires fits { length tail.now + 1 < 2 ^ 32 }
-    ensures { (result.0, result.1.now) ≡ scanned spec.lifetime_or_char tail.now }
+    ensures read { (result.0, result.1.now) ≡ scanned spec.lifetime_or_char tail.now }
+    ensures lookahead { IsLocal TokenKind 2 spec.lifetime_or_char }
+    ensures character { (s : List ℕ) → is_character_at s ≡ true → (single_quoted_string s).0 ≡ true
+        → IsLocalAt TokenKind 1 spec.lifetime_or_char s }
+    ensures raw { (c : ℕ) (s : List ℕ) → spec.is_character c s ≡ false → is_raw c s ≡ true
+        → IsLocalAt TokenKind 1 spec.lifetime_or_char (c ∷ s) }
+    ensures long_character { (c : ℕ) (s : List ℕ) → spec.is_character c s ≡ false → is_raw c s ≡ false
+        → begins (codes "'") (drop (run_len is_word s) s) ≡ true → IsLocalAt TokenKind 0 spec.lifetime_or_char (c ∷ s) }
 {
     let Some((first, rest)) = split_first(tail) else {
         return char_literal(tail);
@@ -81,7 +90,8 @@ fn strip_raw(rest: &str) -> Option<&str>
 #[inline(always)]
 fn plain_lifetime(first: char, rest: &str) -> (TokenKind, &str)
     requires fits { len_utf8 first + length rest.now + 1 < 2 ^ 32 }
-    ensures { (result.0, result.1.now) ≡ scanned (spec.plain_lifetime first) rest.now }
+    ensures read { (result.0, result.1.now) ≡ scanned (spec.plain_lifetime first) rest.now }
+    ensures lookahead { IsLocal TokenKind 1 (spec.plain_lifetime first) }
 {
     let past_plain = eat_continue(rest);
     let past_name = eat_while(past_plain, is_name_part);
@@ -109,13 +119,3 @@ fn lifetime_kind(first: char, holds_emoji: bool, rest: &str) -> TokenKind
         }
     }
 }
-
-/// How far characters and lifetimes look past their end: two characters, and less where it is said.
-pub(crate) fn lifetime_lookahead()
-    ensures name { (c : ℕ) → IsLocal TokenKind 1 (spec.plain_lifetime c) }
-    ensures all { IsLocal TokenKind 2 spec.lifetime_or_char }
-    ensures character { (s : List ℕ) → is_character_at s ≡ true → (single_quoted_string s).0 ≡ true → IsLocalAt TokenKind 1 spec.lifetime_or_char s }
-    ensures raw { (c : ℕ) (s : List ℕ) → spec.is_character c s ≡ false → is_raw c s ≡ true → IsLocalAt TokenKind 1 spec.lifetime_or_char (c ∷ s) }
-    ensures long_character { (c : ℕ) (s : List ℕ) → spec.is_character c s ≡ false → is_raw c s ≡ false → begins (codes "'") (drop (run_len is_word s) s) ≡ true
-        → IsLocalAt TokenKind 0 spec.lifetime_or_char (c ∷ s) }
-{}

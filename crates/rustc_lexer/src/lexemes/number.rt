@@ -1,5 +1,5 @@
 //! Numbers.
-ghost use Rattle.std.specs.Prelude.{◌≡◌, ℕ, ◌+◌, ◌<◌, ◌^◌, false, length};
+ghost use Rattle.std.specs.Prelude.{◌≡◌, ◌+◌, ◌<◌, ◌^◌, false, length};
 ghost use Rattle.std.specs.Char.{is_ascii_digit, is_ascii_hexdigit};
 ghost use Rattle.rustc_lexer.specs.Number as spec;
 ghost use Rattle.rustc_lexer.specs.NumberGrammar.{AreNumbers};
@@ -13,11 +13,15 @@ use crate::token::{Base, LiteralKind, TokenKind};
 
 /// A number with its suffix. `first_digit` is its first character, and `tail` what follows that.
 ///
+/// Its text, up to the suffix, is one that the grammar of numbers has.
+///
 /// Rust Reference, [Number literals](https://doc.rust-lang.org/reference/tokens.html#number-literals).
 #[inline(always)]
 pub(crate) fn number(first_digit: char, tail: &str) -> (TokenKind, &str)
     requires fits { length tail.now + 1 < 2 ^ 32 }
-    ensures { (result.0, result.1.now) ≡ scanned (spec.number first_digit) tail.now }
+    ensures read { (result.0, result.1.now) ≡ scanned (spec.number first_digit) tail.now }
+    ensures lookahead { IsLocal TokenKind 2 (spec.number first_digit) }
+    ensures grammar { AreNumbers }
 {
     let (kind, rest) = number_kind(first_digit, tail);
     (literal(kind, tail, rest), eat_literal_suffix(rest))
@@ -201,9 +205,3 @@ fn is_underscore(c: char) -> bool
 {
     c == '_'
 }
-
-/// How far a number looks past its end, and that its text, up to a suffix, is one that the grammar of numbers has.
-pub(crate) fn number_lookahead()
-    ensures number { (first : ℕ) → IsLocal TokenKind 2 (spec.number first) }
-    ensures grammar { AreNumbers }
-{}

@@ -15,6 +15,8 @@ use crate::token::{LiteralKind, TokenKind};
 pub(crate) fn double_quoted_string(body: &str) -> (bool, &str)
     ensures shorter { length result.1.now ≤ length body.now }
     ensures read { (result.0, result.1.now) ≡ scanned spec.double_quoted_string body.now }
+    ensures lookahead { IsLocal Bool 1 spec.double_quoted_string }
+    ensures closed { (s : List ℕ) → (spec.double_quoted_string s).0 ≡ true → IsLocalAt Bool 0 spec.double_quoted_string s }
 {
     let mut rest = body;
     'quoted: loop {
@@ -37,6 +39,8 @@ pub(crate) fn double_quoted_string(body: &str) -> (bool, &str)
 pub(crate) fn single_quoted_string(body: &str) -> (bool, &str)
     ensures shorter { length result.1.now ≤ length body.now }
     ensures read { (result.0, result.1.now) ≡ scanned spec.single_quoted_string body.now }
+    ensures lookahead { IsLocal Bool 2 spec.single_quoted_string }
+    ensures closed { (s : List ℕ) → (spec.single_quoted_string s).0 ≡ true → IsLocalAt Bool 1 spec.single_quoted_string s }
 {
     if let Some(rest) = strip_lone(body) {
         return (true, rest);
@@ -81,7 +85,8 @@ fn stops_open(c: char, tail: &str) -> bool
 #[inline(always)]
 pub(crate) fn str_literal(tail: &str) -> (TokenKind, &str)
     requires fits { length tail.now + 1 < 2 ^ 32 }
-    ensures { (result.0, result.1.now) ≡ scanned (literal spec.str_body) tail.now }
+    ensures read { (result.0, result.1.now) ≡ scanned (literal spec.str_body) tail.now }
+    ensures lookahead { IsLocal TokenKind 1 (literal spec.str_body) }
 {
     let (terminated, rest) = double_quoted_string(tail);
     with_suffix(LiteralKind::Str { terminated }, terminated, tail, rest)
@@ -92,7 +97,8 @@ pub(crate) fn str_literal(tail: &str) -> (TokenKind, &str)
 pub(crate) fn byte_str_literal<'a>(tail: &str, body: &'a str) -> (TokenKind, &'a str)
     requires body { body.now ≡ past 1 tail.now }
     requires fits { length tail.now + 1 < 2 ^ 32 }
-    ensures { (result.0, result.1.now) ≡ scanned (literal (after 1 spec.byte_str_body)) tail.now }
+    ensures read { (result.0, result.1.now) ≡ scanned (literal (after 1 spec.byte_str_body)) tail.now }
+    ensures lookahead { (s : List ℕ) → 1 ≤ length s → IsLocalAt TokenKind 1 (literal (after 1 spec.byte_str_body)) s }
 {
     let (terminated, rest) = double_quoted_string(body);
     with_suffix(LiteralKind::ByteStr { terminated }, terminated, tail, rest)
@@ -103,7 +109,8 @@ pub(crate) fn byte_str_literal<'a>(tail: &str, body: &'a str) -> (TokenKind, &'a
 pub(crate) fn c_str_literal<'a>(tail: &str, body: &'a str) -> (TokenKind, &'a str)
     requires body { body.now ≡ past 1 tail.now }
     requires fits { length tail.now + 1 < 2 ^ 32 }
-    ensures { (result.0, result.1.now) ≡ scanned (literal (after 1 spec.c_str_body)) tail.now }
+    ensures read { (result.0, result.1.now) ≡ scanned (literal (after 1 spec.c_str_body)) tail.now }
+    ensures lookahead { (s : List ℕ) → 1 ≤ length s → IsLocalAt TokenKind 1 (literal (after 1 spec.c_str_body)) s }
 {
     let (terminated, rest) = double_quoted_string(body);
     with_suffix(LiteralKind::CStr { terminated }, terminated, tail, rest)
@@ -113,7 +120,9 @@ pub(crate) fn c_str_literal<'a>(tail: &str, body: &'a str) -> (TokenKind, &'a st
 #[inline(always)]
 pub(crate) fn char_literal(tail: &str) -> (TokenKind, &str)
     requires fits { length tail.now + 1 < 2 ^ 32 }
-    ensures { (result.0, result.1.now) ≡ scanned (literal spec.char_body) tail.now }
+    ensures read { (result.0, result.1.now) ≡ scanned (literal spec.char_body) tail.now }
+    ensures lookahead { IsLocal TokenKind 2 (literal spec.char_body) }
+    ensures closed { (s : List ℕ) → (spec.single_quoted_string s).0 ≡ true → IsLocalAt TokenKind 1 (literal spec.char_body) s }
 {
     let (terminated, rest) = single_quoted_string(tail);
     with_suffix(LiteralKind::Char { terminated }, terminated, tail, rest)
@@ -124,7 +133,10 @@ pub(crate) fn char_literal(tail: &str) -> (TokenKind, &str)
 pub(crate) fn byte_literal<'a>(tail: &str, body: &'a str) -> (TokenKind, &'a str)
     requires body { body.now ≡ past 1 tail.now }
     requires fits { length tail.now + 1 < 2 ^ 32 }
-    ensures { (result.0, result.1.now) ≡ scanned (literal (after 1 spec.byte_body)) tail.now }
+    ensures read { (result.0, result.1.now) ≡ scanned (literal (after 1 spec.byte_body)) tail.now }
+    ensures lookahead { (s : List ℕ) → 1 ≤ length s → IsLocalAt TokenKind 2 (literal (after 1 spec.byte_body)) s }
+    ensures closed { (s : List ℕ) → 1 ≤ length s → (spec.single_quoted_string (drop 1 s)).0 ≡ true
+        → IsLocalAt TokenKind 1 (literal (after 1 spec.byte_body)) s }
 {
     let (terminated, rest) = single_quoted_string(body);
     with_suffix(LiteralKind::Byte { terminated }, terminated, tail, rest)
@@ -150,18 +162,3 @@ pub(crate) fn with_suffix<'a>(
         (token, rest)
     }
 }
-
-/// How far quoted text and its literals look past their end; closed text looks less far.
-pub(crate) fn quoted_lookahead()
-    ensures double { IsLocal Bool 1 spec.double_quoted_string }
-    ensures double_closed { (s : List ℕ) → (spec.double_quoted_string s).0 ≡ true → IsLocalAt Bool 0 spec.double_quoted_string s }
-    ensures single { IsLocal Bool 2 spec.single_quoted_string }
-    ensures single_closed { (s : List ℕ) → (spec.single_quoted_string s).0 ≡ true → IsLocalAt Bool 1 spec.single_quoted_string s }
-    ensures string { IsLocal TokenKind 1 (literal spec.str_body) }
-    ensures byte_string { (s : List ℕ) → 1 ≤ length s → IsLocalAt TokenKind 1 (literal (after 1 spec.byte_str_body)) s }
-    ensures c_string { (s : List ℕ) → 1 ≤ length s → IsLocalAt TokenKind 1 (literal (after 1 spec.c_str_body)) s }
-    ensures byte { (s : List ℕ) → 1 ≤ length s → IsLocalAt TokenKind 2 (literal (after 1 spec.byte_body)) s }
-    ensures byte_closed { (s : List ℕ) → 1 ≤ length s → (spec.single_quoted_string (drop 1 s)).0 ≡ true → IsLocalAt TokenKind 1 (literal (after 1 spec.byte_body)) s }
-    ensures character { IsLocal TokenKind 2 (literal spec.char_body) }
-    ensures character_closed { (s : List ℕ) → (spec.single_quoted_string s).0 ≡ true → IsLocalAt TokenKind 1 (literal spec.char_body) s }
-{}

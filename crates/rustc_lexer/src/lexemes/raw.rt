@@ -1,11 +1,9 @@
 //! Raw strings.
-ghost use Rattle.std.specs.Prelude.{◌≡◌, ℕ, suc, ◌+◌, ◌<◌, ◌^◌, [], ◌∷◌, length, drop, Option, Result, MatchOption};
+ghost use Rattle.std.specs.Prelude.{◌≡◌, ℕ, suc, ◌+◌, ◌<◌, ◌^◌, [], ◌∷◌, length, drop, Result, MatchOption};
 ghost use Rattle.std.specs.Str.{byte, chars};
 ghost use Rattle.rustc_lexer.specs.declared.lexemes.raw.RawPrefix.{RawPrefix};
-ghost use Rattle.rustc_lexer.specs.declared.token.LiteralKind.{LiteralKind};
 ghost use Rattle.rustc_lexer.specs.declared.token.RawStrError.{RawStrError};
 ghost use Rattle.rustc_lexer.specs.declared.token.TokenKind.{TokenKind};
-ghost use Rattle.rustc_lexer.specs.Literal.{literal};
 ghost use Rattle.rustc_lexer.specs.Raw as spec;
 ghost use Rattle.rustc_lexer.specs.Raw.{EndsItself, RefusedEndsItself};
 ghost use Rattle.rustc_lexer.specs.Scan.{IsLocal, past, run_len, scanned};
@@ -26,10 +24,15 @@ pub(crate) enum RawPrefix {
 }
 
 /// The token of a raw string. `rest` is what follows its prefix.
+///
+/// It looks at one character past its end, for its suffix or the end of the text. What is refused looks at none,
+/// unless the text ends where it does.
 #[inline(always)]
 pub(crate) fn raw_literal(prefix: RawPrefix, rest: &str) -> (TokenKind, &str)
     requires fits { spec.prefix_len prefix + length rest.now < 2 ^ 32 }
-    ensures { (result.0, result.1.now) ≡ scanned (spec.raw_literal prefix) rest.now }
+    ensures read { (result.0, result.1.now) ≡ scanned (spec.raw_literal prefix) rest.now }
+    ensures lookahead { IsLocal TokenKind 1 (spec.raw_literal prefix) }
+    ensures refused { RefusedEndsItself prefix }
 {
     let (read, left) = raw_double_quoted_string(rest, 0);
     let suffix_start = prefix_len(prefix) + (rest.len() - left.len()) as u32;
@@ -79,7 +82,9 @@ pub(crate) fn raw_double_quoted_string(
     prefix_len: u32,
 ) -> (Result<u8, RawStrError>, &str)
     requires fits { prefix_len + length rest.now < 2 ^ 32 }
-    ensures { (result.0, result.1.now) ≡ scanned (spec.raw_read prefix_len) rest.now }
+    ensures read { (result.0, result.1.now) ≡ scanned (spec.raw_read prefix_len) rest.now }
+    ensures lookahead { IsLocal (Result ℕ RawStrError) 1 (spec.raw_read prefix_len) }
+    ensures ended { EndsItself prefix_len }
 {
     let from_starter = eat_while(rest, |c| c == '#');
     let n_hashes = (rest.len() - from_starter.len()) as u32;
@@ -146,13 +151,3 @@ fn hash_count(n_hashes: u32) -> Result<u8, RawStrError>
         Err(RawStrError::TooManyDelimiters { found: n_hashes })
     }
 }
-
-/// How far a raw string looks past its end: one character, for its suffix or the end of the text. What is
-/// refused looks at none, unless the text ends where it does.
-pub(crate) fn raw_lookahead()
-    ensures read { (prefix : ℕ) → IsLocal (Result ℕ RawStrError) 1 (spec.raw_read prefix) }
-    ensures ended { (prefix : ℕ) → EndsItself prefix }
-    ensures literal { (prefix : RawPrefix) → IsLocal TokenKind 1 (spec.raw_literal prefix) }
-    ensures refused { (prefix : RawPrefix) → RefusedEndsItself prefix }
-    ensures body { (kind : Option ℕ → LiteralKind) → IsLocal TokenKind 1 (literal (spec.raw_body kind)) }
-{}

@@ -10,4 +10,4 @@ pub returns : goal.returns
 returns c =
     pick-plain_lifetime _ _ _
     (elim c.if-first-eq114.branch [ then-first-eq114+in_default w ↦ inr w.in_default.ensures | else-first-eq114 w ↦ inl w.if-first-eq114.false ])
-    c.plain_lifetime.ensures
+    c.plain_lifetime.ensures.read

@@ -1,5 +1,6 @@
 use Rattle.std.proofs.Common.{rules, arith}
 use Rattle.rustc_lexer.specs.Raw.{is_hash}
+use Rattle.rustc_lexer.specs.laws.Raw.{raw_read_local, raw_read_within}
 use Rattle.rustc_lexer.proofs.RawReadLemmas.{no_starter, bad_starter, past_opening}
 use Rattle.rustc_lexer.proofs.lexemes.raw.raw_double_quoted_string.Goals as goal
 
@@ -7,10 +8,10 @@ pub raw_text-requires : goal.raw_text-requires
 raw_text-requires c = record { fits = omega (arith, c.in-Some.ensures.2) }
 
 pub returns-in_default : goal.returns-in_default
-returns-in_default c = no_starter _ _ _ c.utf8.rest (c.eat_while-from_starter.ensures.past is_hash (λ d b e. search rules)) c.in_default.ensures
+returns-in_default c = record { read = no_starter _ _ _ c.utf8.rest (c.eat_while-from_starter.ensures.past is_hash (λ d b e. search rules)) c.in_default.ensures; lookahead = raw_read_local c.args.prefix_len; ended = raw_read_within c.args.prefix_len }
 
 pub returns-then-starter-ne34 : goal.returns-then-starter-ne34
-returns-then-starter-ne34 c = bad_starter _ _ _ c.utf8.rest (c.eat_while-from_starter.ensures.past is_hash (λ d b e. search rules)) _ _ c.in-Some.ensures.0 c.in-Some.ensures.1 c.if-starter-ne34.true
+returns-then-starter-ne34 c = record { read = bad_starter _ _ _ c.utf8.rest (c.eat_while-from_starter.ensures.past is_hash (λ d b e. search rules)) _ _ c.in-Some.ensures.0 c.in-Some.ensures.1 c.if-starter-ne34.true; lookahead = raw_read_local c.args.prefix_len; ended = raw_read_within c.args.prefix_len }
 
 pub returns : goal.returns
-returns c = past_opening _ _ _ c.utf8.rest (c.eat_while-from_starter.ensures.past is_hash (λ d b e. search rules)) _ _ c.in-Some.ensures.0 c.in-Some.ensures.1 _ _ c.if-starter-ne34.false c.raw_text.ensures
+returns c = record { read = past_opening _ _ _ c.utf8.rest (c.eat_while-from_starter.ensures.past is_hash (λ d b e. search rules)) _ _ c.in-Some.ensures.0 c.in-Some.ensures.1 _ _ c.if-starter-ne34.false c.raw_text.ensures; lookahead = raw_read_local c.args.prefix_len; ended = raw_read_within c.args.prefix_len }
