@@ -60,10 +60,6 @@ is_bound-decide ts n p few below reached = by_test (eqb (bound ts n) p) (is_boun
           ]
         ])
 
--- each token takes something
-pub Rises : List Token → Type 0
-Rises ts = (k : ℕ) → k < length ts → bound ts k < bound ts (suc k)
-
 pub rises : {first : List ℕ → Token} (law : IsGrammar first) (text : List ℕ) → IsText text → (k : ℕ) → k < length (tokens_by first text) → bound (tokens_by first text) k < bound (tokens_by first text) (suc k)
 rises {first} law text is k few =
     let cut : IsCutAt first text (tokens_by first text) k = at_bound law k text is in

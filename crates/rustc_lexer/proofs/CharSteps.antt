@@ -3,7 +3,6 @@ use Rattle.std.proofs.Common.{◌≡◌, ℕ, suc, ◌+◌, List, ◌∷◌, ◌
 use Rattle.std.specs.Char.{encode_utf8, len_utf8}
 use Rattle.std.specs.Str.{chars, encode_utf8_all, IsUtf8, IsCharBoundary}
 use Rattle.std.proofs.lemmas.Str.{chars_past_char, IsUtf8-past_char, length-encode, drop_past_char, IsCharBoundary-from_drop}
-use Rattle.std.specs.declared.str.Chars.{Chars}
 use Rattle.rustc_lexer.specs.Scan.{bytes_of}
 
 -- the loop stands at `left`, with `end` bytes taken
@@ -33,10 +32,6 @@ step text left next c w end at e is = record {
 
 pub bytes_of-suc : (n c : ℕ) (cs : List ℕ) → bytes_of (suc n) (c ∷ cs) ≡ length (encode_utf8 c) + bytes_of n cs
 bytes_of-suc n c cs = length-append (encode_utf8 c) (encode_utf8_all (take n cs))
-
--- a loop over the characters of a text begins at its front
-pub from_chars : {it items : Chars} {text : List ℕ} → it ≡ items → items.rest.now ≡ text → it.rest.now ≡ text
-from_chars e f = ap (λ (i : Chars). i.rest.now) e ∙ f
 
 -- a text may be cut where the loop stands
 pub cut_here : (text left : List ℕ) (end : ℕ) → Stands text left end → IsCharBoundary text end

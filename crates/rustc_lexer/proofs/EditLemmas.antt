@@ -6,7 +6,7 @@ use Rattle.std.proofs.Math.Utf8.{encodes}
 use Rattle.rustc_lexer.specs.declared.token.Token.{Token}
 use Rattle.rustc_lexer.specs.Texts.{look, IsText, AgreePast, IsGrammar}
 use Rattle.rustc_lexer.specs.Cuts.{bound, tokens_by}
-use Rattle.rustc_lexer.specs.Edits.{apply, IsEdit, front_from}
+use Rattle.rustc_lexer.specs.Edits.{apply, IsEdit, kept_front_from}
 use Rattle.rustc_lexer.specs.Settled.{has_two}
 use Rattle.rustc_lexer.proofs.CutLemmas.{IsCutAt, at_bound, tokens_local}
 
@@ -142,7 +142,7 @@ has_two-mono text place later to is le b c two =
     has_two-intro text place to (rw (split, chars-append xs ys (IsUtf8-between text place later is le b c)) (omega (arith, length-append (chars xs) (chars ys), enough)))
 
 -- the tokens past one that ends too late end too late
-pub front-none : (text : List ℕ) (to from : ℕ) (ts : List Token) → IsUtf8 text → ((k : ℕ) → k ≤ length ts → IsCharBoundary text (from + bound ts k)) → has_two text from to ≡ false → front_from text to from ts ≡ 0
+pub front-none : (text : List ℕ) (to from : ℕ) (ts : List Token) → IsUtf8 text → ((k : ℕ) → k ≤ length ts → IsCharBoundary text (from + bound ts k)) → has_two text from to ≡ false → kept_front_from text to from ts ≡ 0
 front-none text to from [] is cuts out = refl
 front-none text to from (t ∷ ts) is cuts out =
     let e0 : from + 0 ≡ from = omega arith in
@@ -150,7 +150,7 @@ front-none text to from (t ∷ ts) is cuts out =
     let here : IsCharBoundary text from = subst (IsCharBoundary text) e0 (cuts 0 (omega arith)) in
     let next : IsCharBoundary text (from + t.len) = subst (IsCharBoundary text) e1 (cuts 1 (omega arith)) in
     let none : has_two text (from + t.len) to ≡ false = by_test (has_two text (from + t.len) to) refl here next in
-    let rest : front_from text to (from + t.len) ts ≡ 0 = front-none text to (from + t.len) ts is (λ k few. let e : from + (t.len + bound ts k) ≡ from + t.len + bound ts k = omega arith in subst (IsCharBoundary text) e (cuts (suc k) (omega arith))) none in
+    let rest : kept_front_from text to (from + t.len) ts ≡ 0 = front-none text to (from + t.len) ts is (λ k few. let e : from + (t.len + bound ts k) ≡ from + t.len + bound ts k = omega arith in subst (IsCharBoundary text) e (cuts (suc k) (omega arith))) none in
     rw (none, rest) refl
   where
     by_test : (b : Bool) → has_two text (from + t.len) to ≡ b → IsCharBoundary text from → IsCharBoundary text (from + t.len) → b ≡ false

@@ -1,5 +1,5 @@
--- The choice by the first character is the choice of a family.
-use Rattle.std.proofs.Common.{◌≡◌, ℕ, ◌<◌, ◌≤◌, ◌==◌, ◌&&◌, nat_le, not, Bool, true, false, true≢false, if◌then◌else◌, List, [], ◌∷◌, get_or, refl, sym, ap, ◌∙◌, arith}
+-- The families that characters choose: by the table in ASCII, and by the classes past it.
+use Rattle.std.proofs.Common.{◌≡◌, ℕ, ◌<◌, ◌≤◌, ◌==◌, ◌&&◌, nat_le, not, Bool, true, false, true≢false, List, [], ◌∷◌, get_or, refl, sym, ap, ◌∙◌, arith}
 use Rattle.std.specs.Char.{is_ascii_digit}
 use Rattle.std.specs.Str.{chars}
 use Rattle.std.proofs.lemmas.Bool.{agree_below_at, eqb-true, lt-leb, ne_eqb}
@@ -9,35 +9,17 @@ use Rattle.rustc_lexer.specs.declared.lexemes.family.TheConstants.{FAMILIES}
 use Rattle.rustc_lexer.specs.declared.lexemes.family.Family.{Family}
 use Rattle.rustc_lexer.specs.declared.lexemes.family.Family.TheVariants.{Slash, Space, Word, Number, Quote, Str, Emoji, Hash, Symbol}
 use Rattle.rustc_lexer.specs.declared.token.TokenKind.{TokenKind}
-use Rattle.rustc_lexer.specs.Classes.{is_whitespace}
+use Rattle.rustc_lexer.specs.Classes.{is_id_start, is_whitespace}
 use Rattle.rustc_lexer.specs.Emoji.{is_emoji}
-use Rattle.rustc_lexer.specs.Family.{family_of, read_by}
-use Rattle.rustc_lexer.specs.Lexeme.{begins_word, past_first}
+use Rattle.rustc_lexer.specs.Lexeme.{family_of, past_first, read_by}
 use Rattle.rustc_lexer.specs.Scan.{scanned}
 use Rattle.rustc_lexer.proofs.ScanLemmas.{scanned-same}
 use Rattle.rustc_lexer.proofs.SpaceLemmas.{each}
 
--- ---- the law: the first character chooses a family, and that reads on
-
-branch : (c : ℕ) (test : Bool) (f g : Family) (x : List ℕ → TokenKind × ℕ) → x ≡ read_by g c → (if test then read_by f c else x) ≡ read_by (if test then f else g) c
-branch c true f g x e = refl
-branch c false f g x e = e
-
-pub past_first-is : (c : ℕ) (s : List ℕ) → past_first c s ≡ read_by (family_of c) c s
-unfolding past_first
-past_first-is c s = ap (λ (scan : List ℕ → TokenKind × ℕ). scan s)
-    (branch c (c == 47) Slash _ _
-    (branch c (is_whitespace c) Space _ _
-    (branch c (begins_word c) Word _ _
-    (branch c (is_ascii_digit c) Number _ _
-    (branch c (c == 39) Quote _ _
-    (branch c (c == 34) Str _ _
-    (branch c (is_emoji c) Emoji _ _
-    (branch c (c == 35) Hash Symbol _ refl))))))))
-
 -- what the family of the first character reads
 pub by_family : (f : Family) (c : ℕ) (tail : List ℕ) (read : TokenKind × List ℕ) → read ≡ scanned (read_by f c) tail → f ≡ family_of c → read ≡ scanned (past_first c) tail
-by_family f c tail read e g = e ∙ sym (scanned-same (past_first c) (read_by f c) tail (past_first-is c (chars tail) ∙ ap (λ h. read_by h c (chars tail)) (sym g)))
+unfolding past_first
+by_family f c tail read e g = e ∙ sym (scanned-same (past_first c) (read_by f c) tail (ap (λ h. read_by h c (chars tail)) (sym g)))
 
 -- ---- the table of families
 
@@ -96,8 +78,8 @@ module _ (c : ℕ) (wide : 128 ≤ c) where
   other : (n : ℕ) → n < 128 → (c == n) ≡ false
   other n l = ne_eqb c n (omega arith)
 
-  begins : begins_word c ≡ is_xid_start c
-  begins = rw (other 114 (omega arith), other 107 (omega arith), other 98 (omega arith), other 99 (omega arith), other 95 (omega arith)) refl
+  begins : is_id_start c ≡ is_xid_start c
+  begins = rw (other 95 (omega arith)) refl
 
   pub wide_word : is_xid_start c ≡ true → Word ≡ family_of c
   wide_word e = rw (other 47 (omega arith), no_space c e, begins ∙ e) refl

@@ -1,9 +1,8 @@
 -- Counting the kept front, token by token.
 use Rattle.std.proofs.Common.{◌≡◌, ℕ, zero, suc, ◌+◌, ◌-◌, ◌<◌, ◌≤◌, true, false, cond, List, [], ◌∷◌, length, get_or, drop, sym, ap, ◌∙◌, subst, arith, IsUtf8, IsCharBoundary, drop-cons, length-drop}
-use Rattle.std.proofs.lemmas.List.{drop_all}
 use Rattle.rustc_lexer.specs.declared.token.Token.{Token}
 use Rattle.rustc_lexer.specs.Cuts.{bound}
-use Rattle.rustc_lexer.specs.Edits.{front, front_from, AreCuts}
+use Rattle.rustc_lexer.specs.Edits.{kept_front, kept_front_from, AreCuts}
 use Rattle.rustc_lexer.specs.Settled.{has_two}
 use Rattle.rustc_lexer.proofs.EditLemmas.{front-none, has_two-mono}
 use Rattle.rustc_lexer.proofs.ProgressLemmas.{IsNext, next-from_drop}
@@ -11,7 +10,7 @@ use Rattle.rustc_lexer.proofs.ProgressLemmas.{IsNext, next-from_drop}
 pub record IsKept (text : List ℕ) (tokens : List Token) (start number place : ℕ) : Type 0 where
   pub number_bound : number ≤ length tokens
   pub place_is : place ≡ bound tokens number
-  pub count : front text tokens start ≡ number + front_from text start place (drop number tokens)
+  pub count : kept_front text tokens start ≡ number + kept_front_from text start place (drop number tokens)
   pub two : 0 < number → has_two text place start ≡ true
 
 pub kept_more : (text : List ℕ) (tokens : List Token) (start number place : ℕ) (d : Token) → IsKept text tokens start number place → number < length tokens → has_two text (place + (get_or tokens number d).len) start ≡ true → IsKept text tokens start (number + 1) (place + (get_or tokens number d).len)
@@ -19,8 +18,8 @@ kept_more text tokens start number place d at few two =
     let x : Token = get_or tokens number d in
     let here : drop number tokens ≡ x ∷ drop (suc number) tokens = drop-cons tokens number d few in
     let next : IsNext tokens number x = next-from_drop tokens number x _ here in
-    let counted : front_from text start place (drop number tokens) ≡ 1 + front_from text start (place + x.len) (drop (suc number) tokens) =
-    ap (front_from text start place) here ∙ ap (λ b. cond b 1 0 + front_from text start (place + x.len) (drop (suc number) tokens)) two in
+    let counted : kept_front_from text start place (drop number tokens) ≡ 1 + kept_front_from text start (place + x.len) (drop (suc number) tokens) =
+    ap (kept_front_from text start place) here ∙ ap (λ b. cond b 1 0 + kept_front_from text start (place + x.len) (drop (suc number) tokens)) two in
     let e : suc number ≡ number + 1 = omega arith in
     subst (λ n. IsKept text tokens start n (place + x.len)) e record {
       number_bound = few;
@@ -29,20 +28,12 @@ kept_more text tokens start number place d at few two =
       two = λ some. two;
     }
 
-pub cut_place : (text : List ℕ) (tokens : List Token) (start number place : ℕ) → AreCuts text tokens → IsKept text tokens start number place → (place ≤ length text) × IsCharBoundary text place
-cut_place text tokens start number place cuts at = rw at.place_is (cuts number at.number_bound)
-
 pub next_place : (text : List ℕ) (tokens : List Token) (start number place : ℕ) (d : Token) → AreCuts text tokens → IsKept text tokens start number place → number < length tokens → (place + (get_or tokens number d).len ≤ length text) × IsCharBoundary text (place + (get_or tokens number d).len)
 next_place text tokens start number place d cuts at few =
     let x : Token = get_or tokens number d in
     let next : IsNext tokens number x = next-from_drop tokens number x _ (drop-cons tokens number d few) in
     let e : place + x.len ≡ bound tokens (suc number) = omega (arith, at.place_is, next.end) in
     rw e (cuts (suc number) few)
-
-pub kept_all : (text : List ℕ) (tokens : List Token) (start number place : ℕ) → IsKept text tokens start number place → length tokens ≤ number → number ≡ front text tokens start
-kept_all text tokens start number place at all =
-    let none : front_from text start place (drop number tokens) ≡ 0 = ap (front_from text start place) (drop_all number tokens all) in
-    omega (arith, at.count, none)
 
 pub bound-shift : (tokens : List Token) (n k : ℕ) → bound tokens (n + k) ≡ bound tokens n + bound (drop n tokens) k
 bound-shift tokens zero k = ap (bound tokens) e0 ∙ sym e1
@@ -65,18 +56,18 @@ bound-shift (t ∷ ts) (suc n) k =
     let ih = bound-shift ts n k in
     ap (bound (t ∷ ts)) e ∙ omega (arith, ih)
 
-pub kept_here : (text : List ℕ) (tokens : List Token) (start number place : ℕ) (d : Token) → IsUtf8 text → AreCuts text tokens → IsKept text tokens start number place → number < length tokens → has_two text (place + (get_or tokens number d).len) start ≡ false → number ≡ front text tokens start
+pub kept_here : (text : List ℕ) (tokens : List Token) (start number place : ℕ) (d : Token) → IsUtf8 text → AreCuts text tokens → IsKept text tokens start number place → number < length tokens → has_two text (place + (get_or tokens number d).len) start ≡ false → number ≡ kept_front text tokens start
 kept_here text tokens start number place d is cuts at few out =
     let x : Token = get_or tokens number d in
     let here : drop number tokens ≡ x ∷ drop (suc number) tokens = drop-cons tokens number d few in
     let next : IsNext tokens number x = next-from_drop tokens number x _ here in
     let e : place + x.len ≡ bound tokens (suc number) = omega (arith, at.place_is, next.end) in
-    let rest : front_from text start (place + x.len) (drop (suc number) tokens) ≡ 0 =
+    let rest : kept_front_from text start (place + x.len) (drop (suc number) tokens) ≡ 0 =
     front-none text start (place + x.len) (drop (suc number) tokens) is
     (λ k less. let s : bound tokens (suc number + k) ≡ place + x.len + bound (drop (suc number) tokens) k = bound-shift tokens (suc number) k ∙ ap (λ n. n + bound (drop (suc number) tokens) k) (sym e) in
     subst (IsCharBoundary text) s (cuts (suc number + k) (omega (arith, length-drop (suc number) tokens))).1) out in
-    let counted : front_from text start place (drop number tokens) ≡ 0 =
-    ap (front_from text start place) here ∙ (ap (λ b. cond b 1 0 + front_from text start (place + x.len) (drop (suc number) tokens)) out ∙ ap (λ n. 0 + n) rest) in
+    let counted : kept_front_from text start place (drop number tokens) ≡ 0 =
+    ap (kept_front_from text start place) here ∙ (ap (λ b. cond b 1 0 + kept_front_from text start (place + x.len) (drop (suc number) tokens)) out ∙ ap (λ n. 0 + n) rest) in
     omega (arith, at.count, counted)
 
 pub bound-next : (tokens : List Token) (n : ℕ) (d : Token) → n < length tokens → bound tokens n + (get_or tokens n d).len ≡ bound tokens (n + 1)
@@ -89,10 +80,10 @@ pub bound-more : (tokens : List Token) (n place : ℕ) (d : Token) → place ≡
 bound-more tokens n place d is few = ap (λ p. p + (get_or tokens n d).len) is ∙ bound-next tokens n d few
 
 -- where two characters stand past a bound, they stand past each bound before it
-pub front-all : (text : List ℕ) (to from : ℕ) (ts : List Token) (n : ℕ) → IsUtf8 text → n ≤ length ts → ((k : ℕ) → k ≤ length ts → IsCharBoundary text (from + bound ts k)) → (0 < n → has_two text (from + bound ts n) to ≡ true) → front_from text to from ts ≡ n + front_from text to (from + bound ts n) (drop n ts)
+pub front-all : (text : List ℕ) (to from : ℕ) (ts : List Token) (n : ℕ) → IsUtf8 text → n ≤ length ts → ((k : ℕ) → k ≤ length ts → IsCharBoundary text (from + bound ts k)) → (0 < n → has_two text (from + bound ts n) to ≡ true) → kept_front_from text to from ts ≡ n + kept_front_from text to (from + bound ts n) (drop n ts)
 front-all text to from ts zero is few cuts two =
     let e : from + 0 ≡ from = omega arith in
-    let same : front_from text to (from + 0) ts ≡ front_from text to from ts = ap (λ p. front_from text to p ts) e in
+    let same : kept_front_from text to (from + 0) ts ≡ kept_front_from text to from ts = ap (λ p. kept_front_from text to p ts) e in
     omega (arith, same)
 front-all text to from [] (suc n) is few cuts two = absurd (omega arith)
 front-all text to from (t ∷ ts) (suc n) is few cuts two =
@@ -102,10 +93,10 @@ front-all text to from (t ∷ ts) (suc n) is few cuts two =
     let next : IsCharBoundary text (from + t.len) = subst (IsCharBoundary text) past (cuts 1 (omega arith)) in
     let there : IsCharBoundary text (from + (t.len + bound ts n)) = cuts (suc n) few in
     let here : has_two text (from + t.len) to ≡ true = has_two-mono text (from + t.len) (from + (t.len + bound ts n)) to is (omega arith) next there has in
-    let rest : front_from text to (from + t.len) ts ≡ n + front_from text to (from + t.len + bound ts n) (drop n ts) =
+    let rest : kept_front_from text to (from + t.len) ts ≡ n + kept_front_from text to (from + t.len + bound ts n) (drop n ts) =
     front-all text to (from + t.len) ts n is (omega arith) (λ k less. subst (IsCharBoundary text) (shift k) (cuts (suc k) (omega arith))) (λ some. subst (λ p. has_two text p to ≡ true) (shift n) has) in
-    let counted : front_from text to from (t ∷ ts) ≡ 1 + front_from text to (from + t.len) ts = ap (λ b. cond b 1 0 + front_from text to (from + t.len) ts) here in
-    let moved : front_from text to (from + t.len + bound ts n) (drop n ts) ≡ front_from text to (from + (t.len + bound ts n)) (drop n ts) = ap (λ p. front_from text to p (drop n ts)) (sym (shift n)) in
+    let counted : kept_front_from text to from (t ∷ ts) ≡ 1 + kept_front_from text to (from + t.len) ts = ap (λ b. cond b 1 0 + kept_front_from text to (from + t.len) ts) here in
+    let moved : kept_front_from text to (from + t.len + bound ts n) (drop n ts) ≡ kept_front_from text to (from + (t.len + bound ts n)) (drop n ts) = ap (λ p. kept_front_from text to p (drop n ts)) (sym (shift n)) in
     omega (arith, counted, rest, moved)
 
 -- a bound that two characters follow is in the kept front, and so are those before it
@@ -113,12 +104,12 @@ pub kept_from : (text : List ℕ) (tokens : List Token) (start number place : �
 kept_from text tokens start number place is cuts few at two =
     let whole : (k : ℕ) → bound tokens k ≡ 0 + bound tokens k = λ k. omega arith in
     let here : 0 + bound tokens number ≡ place = omega (arith, at) in
-    let all : front_from text start 0 tokens ≡ number + front_from text start (0 + bound tokens number) (drop number tokens) =
+    let all : kept_front_from text start 0 tokens ≡ number + kept_front_from text start (0 + bound tokens number) (drop number tokens) =
     front-all text start 0 tokens number is few (λ k less. subst (IsCharBoundary text) (whole k) (cuts k less).1) (λ some. subst (λ p. has_two text p start ≡ true) (sym here) (two some)) in
     record {
       number_bound = few;
       place_is = at;
-      count = all ∙ ap (λ p. number + front_from text start p (drop number tokens)) here;
+      count = all ∙ ap (λ p. number + kept_front_from text start p (drop number tokens)) here;
       two = two;
     }
 

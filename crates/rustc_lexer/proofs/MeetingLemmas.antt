@@ -38,10 +38,6 @@ module _ (first : List ℕ → Token) (old : List Token) (text : List ℕ) (past
   unfolding meet
   kept_search few = ap (λ n. least_from test (length (tokens_by first text) - n) n) (length-take-le kept old few)
 
-  pub kept_le_meet : kept ≤ meet old (tokens_by first text) past added removed kept
-  unfolding meet
-  kept_le_meet = least_from_ge test (length (tokens_by first text) - kept) kept
-
   pub going_inside : IsGrammar first → IsText text → (items : List Token) (place number at_place : ℕ) (met : Bool) → IsGoing items place number at_place met → added ≤ past → past ≤ length text → bound old (length old) + added ≡ length text + removed → met ≡ false → place < length text
   going_inside law is items place number at_place met at le inside ends out =
       let spot : IsPlace text place = lexed_place law text items place is at.to in

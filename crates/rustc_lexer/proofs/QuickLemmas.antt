@@ -14,7 +14,7 @@ use Rattle.rustc_lexer.specs.Classes.{is_id_continue}
 use Rattle.rustc_lexer.specs.Emoji.{is_emoji}
 use Rattle.rustc_lexer.specs.Ident.{ident_or_unknown_prefix, is_prefix_mark, marks_ident}
 use Rattle.rustc_lexer.specs.laws.Choice.{by_arm}
-use Rattle.rustc_lexer.specs.Lexeme.{letters, word, symbol_kind, past_first, is_raw_mark, begins_raw}
+use Rattle.rustc_lexer.specs.Lexeme.{family_of, letters, word, symbol_kind, past_first, is_raw_mark, begins_raw}
 use Rattle.rustc_lexer.specs.Quick.{is_space_lead, turns_word, IsFirstToken}
 use Rattle.rustc_lexer.specs.Scan.{begins, next_is, past, run_len, scanned}
 use Rattle.rustc_lexer.proofs.BridgeLemmas.{chars-ascii, IsUtf8-ascii, skips, stops_here}
@@ -25,7 +25,6 @@ use Rattle.rustc_lexer.proofs.PastLemmas.{past-one, chars-past}
 use Rattle.rustc_lexer.proofs.ScanLemmas.{scanned-gives, scanned-same}
 use Rattle.rustc_lexer.proofs.SpaceLemmas.{space_stops_here}
 use Rattle.rustc_lexer.specs.declared.lexemes.family.Family.TheVariants.{Space, Symbol, Word}
-use Rattle.rustc_lexer.specs.Family.{family_of}
 use Rattle.rustc_lexer.proofs.FamilyLemmas.{by_family}
 
 emoji-ascii : (b : ℕ) → b < 128 → is_emoji b ≡ false

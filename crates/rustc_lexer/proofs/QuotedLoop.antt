@@ -149,9 +149,6 @@ pub single-free : (text : List ℕ) → is_lone (chars text) ≡ false → scann
 single-free text t = ap (λ (b : Bool). let r : Bool × ℕ = if b then (true, 2) else quoted 39 at_single_stop (chars text) in (r.0, past r.1 text)) (sym t)
 
 module _ (text tail : List ℕ) (c : ℕ) (is : IsUtf8 text) (reads : chars text ≡ c ∷ chars tail) (cut : tail ≡ past 1 text) where
-  pub lone-not : c ≡ 92 → is_lone (chars text) ≡ false
-  lone-not e = rw (reads, e) refl
-
   pub lone-is : (b : Bool) → c ≢ 92 → begins (39 ∷ []) (chars tail) ≡ b → is_lone (chars text) ≡ b
   lone-is b ne q = rw (reads, ne_eqb c 92 ne) q
 

@@ -6,7 +6,7 @@ use Rattle.rustc_lexer.specs.declared.relex.front.Damage.{Damage}
 use Rattle.rustc_lexer.specs.declared.token.Token.{Token}
 use Rattle.rustc_lexer.specs.Texts.{IsText, IsGrammar}
 use Rattle.rustc_lexer.specs.Cuts.{bound, tokens_by}
-use Rattle.rustc_lexer.specs.Edits.{apply, IsEdit, IsReady, AreCuts, front, ends_past, meet, IsMet, relexed_of}
+use Rattle.rustc_lexer.specs.Edits.{apply, IsEdit, IsReady, AreCuts, kept_front, ends_past, meet, IsMet, relexed_of}
 use Rattle.rustc_lexer.specs.Settled.{has_two}
 use Rattle.rustc_lexer.proofs.CutLemmas.{at_bound}
 use Rattle.rustc_lexer.proofs.BoundLemmas.{bound_mono, rises, ends_past-at, bound-last}
@@ -55,12 +55,12 @@ module _ {first : List ℕ → Token} (law : IsGrammar first) (text : List ℕ) 
         ap (λ ts. ts ++ drop number (tokens_by first text)) met.items_are ∙
         met_whole law text start stop insert new is edit ed (length items) number met.past_edit met.same_place
 
-pub counts : {first : List ℕ → Token} (law : IsGrammar first) (text : List ℕ) (is : IsText text) (start stop : ℕ) (insert : List ℕ) (items : List Token) (number kept : ℕ) → kept ≡ front text (tokens_by first text) start → IsMet first (tokens_by first text) (apply text start stop insert) (start + length insert) (length insert) (stop - start) kept items number → relexed_of first text start stop insert ≡ record { kept_front = kept; lexed = length items - kept; kept_back = length (tokens_by first text) - number }
+pub counts : {first : List ℕ → Token} (law : IsGrammar first) (text : List ℕ) (is : IsText text) (start stop : ℕ) (insert : List ℕ) (items : List Token) (number kept : ℕ) → kept ≡ kept_front text (tokens_by first text) start → IsMet first (tokens_by first text) (apply text start stop insert) (start + length insert) (length insert) (stop - start) kept items number → relexed_of first text start stop insert ≡ record { kept_front = kept; lexed = length items - kept; kept_back = length (tokens_by first text) - number }
 unfolding relexed_of
 counts {first} law text is start stop insert items number kept kept_is met =
     let old : List Token = tokens_by first text in
     let new : List Token = tokens_by first (apply text start stop insert) in
-    let least : meet old new (start + length insert) (length insert) (stop - start) (front text old start) ≡ length items = ap (meet old new (start + length insert) (length insert) (stop - start)) (sym kept_is) ∙ sym met.least in
+    let least : meet old new (start + length insert) (length insert) (stop - start) (kept_front text old start) ≡ length items = ap (meet old new (start + length insert) (length insert) (stop - start)) (sym kept_is) ∙ sym met.least in
     let back : ends_past old (bound new (length items) - length insert + (stop - start)) ≡ length old - number = ap (ends_past old) (sym met.same_place) ∙ ends_past-at old number met.number_bound (rises law text is) in
     rw (least, ← kept_is, back) refl
 
@@ -80,13 +80,13 @@ module _ {first : List ℕ → Token} (law : IsGrammar first) (text : List ℕ) 
       let met' : IsMet first (tokens_by first text) (apply text start stop insert) (start + length insert) (length insert) (stop - start) kept items number = rw (e, f) at met in
       rw e (whole law text is start stop insert (apply text start stop insert) edit (edited text start stop insert is its edit) items number kept met')
 
-  pub counts_for : (old : List Token) (new : List ℕ) (items : List Token) (number kept : ℕ) → old ≡ tokens_by first text → new ≡ apply text start stop insert → kept ≡ front text old start → IsMet first old new (start + length insert) (length insert) (stop - start) kept items number → relexed_of first text start stop insert ≡ record { kept_front = kept; lexed = length items - kept; kept_back = length old - number }
+  pub counts_for : (old : List Token) (new : List ℕ) (items : List Token) (number kept : ℕ) → old ≡ tokens_by first text → new ≡ apply text start stop insert → kept ≡ kept_front text old start → IsMet first old new (start + length insert) (length insert) (stop - start) kept items number → relexed_of first text start stop insert ≡ record { kept_front = kept; lexed = length items - kept; kept_back = length old - number }
   counts_for old new items number kept e f k met =
       let met' : IsMet first (tokens_by first text) (apply text start stop insert) (start + length insert) (length insert) (stop - start) kept items number = rw (e, f) at met in
-      let k' : kept ≡ front text (tokens_by first text) start = k ∙ ap (λ ts. front text ts start) e in
+      let k' : kept ≡ kept_front text (tokens_by first text) start = k ∙ ap (λ ts. kept_front text ts start) e in
       rw e (counts law text is start stop insert items number kept k' met')
 
-  pub lexed_for : (old : List Token) (new : List ℕ) (kept : ℕ) → old ≡ tokens_by first text → new ≡ apply text start stop insert → kept ≡ front text old start → (relexed_of first text start stop insert).lexed ≡ meet old (tokens_by first new) (start + length insert) (length insert) (stop - start) kept - kept
+  pub lexed_for : (old : List Token) (new : List ℕ) (kept : ℕ) → old ≡ tokens_by first text → new ≡ apply text start stop insert → kept ≡ kept_front text old start → (relexed_of first text start stop insert).lexed ≡ meet old (tokens_by first new) (start + length insert) (length insert) (stop - start) kept - kept
   unfolding relexed_of
   lexed_for old new kept e f k = rw (k, e, f) refl
 
@@ -94,7 +94,7 @@ module _ {first : List ℕ → Token} (law : IsGrammar first) (text : List ℕ) 
   pub put_together : (old : List Token) (new : List ℕ) (lexed : List Token) (number kept : ℕ) → old ≡ tokens_by first text → new ≡ apply text start stop insert → IsMet first old new (start + length insert) (length insert) (stop - start) kept (take kept old ++ lexed) number → take kept old ++ (lexed ++ drop number old) ≡ tokens_by first (apply text start stop insert)
   put_together old new lexed number kept e f met = sym (append_assoc (take kept old) lexed (drop number old)) ∙ whole_for old new (take kept old ++ lexed) number kept e f met
 
-  pub counted : (old : List Token) (new : List ℕ) (lexed : List Token) (number kept : ℕ) → old ≡ tokens_by first text → new ≡ apply text start stop insert → kept ≤ length old → kept ≡ front text old start → IsMet first old new (start + length insert) (length insert) (stop - start) kept (take kept old ++ lexed) number → relexed_of first text start stop insert ≡ record { kept_front = kept; lexed = length lexed; kept_back = length old - number }
+  pub counted : (old : List Token) (new : List ℕ) (lexed : List Token) (number kept : ℕ) → old ≡ tokens_by first text → new ≡ apply text start stop insert → kept ≤ length old → kept ≡ kept_front text old start → IsMet first old new (start + length insert) (length insert) (stop - start) kept (take kept old ++ lexed) number → relexed_of first text start stop insert ≡ record { kept_front = kept; lexed = length lexed; kept_back = length old - number }
   counted old new lexed number kept e f few k met =
       let long : length (take kept old ++ lexed) - kept ≡ length lexed = omega (arith, length-append (take kept old) lexed, length-take-le kept old few) in
       counts_for old new (take kept old ++ lexed) number kept e f k met ∙ ap (λ (n : ℕ). let r : Relexed = record { kept_front = kept; lexed = n; kept_back = length old - number } in r) long

@@ -23,7 +23,8 @@ use Rattle.rustc_lexer.specs.Classes.{is_id_start, is_id_continue, is_ident}
 use Rattle.rustc_lexer.specs.Comment.{slash, line_comment}
 use Rattle.rustc_lexer.specs.Ident.{is_word, is_prefix_mark, ident_or_unknown_prefix, invalid_ident, marks_ident}
 use Rattle.rustc_lexer.specs.laws.Choice.{by_test, EachArm, by_arm, at_char}
-use Rattle.rustc_lexer.specs.Lexeme.{whitespace, letter_r, letter_k, letter_b, letter_c, raw_or_ident, raw_past_or_ident, begins_raw, is_raw_mark, begins_word, letters, word, symbols, kind_among, symbol_kind, families, symbol, past_first, lexeme, first_token}
+use Rattle.rustc_lexer.specs.laws.Family.{EachFamily, each_family}
+use Rattle.rustc_lexer.specs.Lexeme.{whitespace, letter_r, letter_k, letter_b, letter_c, raw_or_ident, raw_past_or_ident, begins_raw, is_raw_mark, letters, word, symbols, kind_among, symbol_kind, symbol, past_first, lexeme, first_token}
 use Rattle.rustc_lexer.specs.Lifetime.{is_marked, plain_lifetime, is_character, lifetime_or_char, is_raw}
 use Rattle.rustc_lexer.specs.laws.Lifetime.{raw, quoted_name, unquoted_name}
 use Rattle.rustc_lexer.specs.Literal.{Body, literal}
@@ -297,41 +298,26 @@ letters-tell = (
   ),
 )
 
-word-tells : (c : ℕ) → begins_word c ≡ true → TellsAll c (word c)
-word-tells c start = by_arm TellsAll letters (λ c. ident_or_unknown_prefix) c letters-tell (λ none. ident_or_unknown_prefix-tells c (rw none at start))
+word-tells : (c : ℕ) → is_id_start c ≡ true → TellsAll c (word c)
+word-tells c start = by_arm TellsAll letters (λ c. ident_or_unknown_prefix) c letters-tell (λ none. ident_or_unknown_prefix-tells c start)
 
 -- ---- all
 
-families-tell : EachArm TellsAll families
-families-tell = (
-  λ c e. slash-tells c,
-  (
-    λ c e s. silent c s Whitespace (whitespace s).1 refl,
-    (
-      word-tells,
-      (
-        λ c e. number-tells c,
-        (
-          at_char TellsAll 39 lifetime_or_char quote-tells,
-          (
-            at_char TellsAll 34 (literal str_body) (λ s. literal-tells 34 s str_body (λ bad. (bad, length-encode 34)) (λ text. tt)),
-            (
-              λ c e s. silent c s InvalidIdent (invalid_ident s).1 refl,
-              (
-                λ c e. hash-tells c,
-                tt,
-              ),
-            ),
-          ),
-        ),
-      ),
-    ),
-  ),
-)
+families-tell : EachFamily TellsAll
+families-tell = record {
+  of_slash = λ c e. slash-tells c;
+  of_space = λ c e s. silent c s Whitespace (whitespace s).1 refl;
+  of_word = word-tells;
+  of_number = λ c e. number-tells c;
+  of_quote = at_char TellsAll 39 lifetime_or_char quote-tells;
+  of_str = at_char TellsAll 34 (literal str_body) (λ s. literal-tells 34 s str_body (λ bad. (bad, length-encode 34)) (λ text. tt));
+  of_emoji = λ c e s. silent c s InvalidIdent (invalid_ident s).1 refl;
+  of_hash = λ c e. hash-tells c;
+  of_symbol = symbol-tells;
+}
 
 first-tells : (c : ℕ) → TellsAll c (past_first c)
-unfolding past_first
-first-tells c = by_arm TellsAll families symbol c families-tell (λ none. symbol-tells c)
+first-tells c = each_family TellsAll families-tell c
 
 pub first_token-suffix : (text : List ℕ) → HasSuffixWithin (first_token text)
 unfolding first_token

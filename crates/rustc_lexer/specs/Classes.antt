@@ -1,12 +1,11 @@
 -- Classes of characters, as sets.
 use Rattle.std.specs.Prelude.{ℕ, Bool, false, ◌||◌, ◌&&◌, ◌==◌, ◌<◌, ◌^◌, List, [], ◌∷◌, length}
-use Rattle.std.specs.List.{list_all}
+use Rattle.std.specs.List.{list_all, list_any}
 use Rattle.unicode_ident.specs.Ident.{is_xid_start, is_xid_continue}
 
 -- whether the character is in the list
 abbrev pub is_among : List ℕ → ℕ → Bool
-is_among [] c = false
-is_among (d ∷ ds) c = c == d || is_among ds c
+is_among ds c = list_any (λ d. c == d) ds
 
 -- tab, line feed, vertical tab, form feed, carriage return, space, next line, the marks of direction, and the
 -- separators of lines and paragraphs

@@ -36,12 +36,12 @@ pub record IsEdit (text : List ℕ) (start stop : ℕ) (insert : List ℕ) : Typ
   pub short : IsShort text start stop insert
 
 -- how many of the tokens, the first of which begins at `from`, end at least two characters before `to`
-abbrev pub front_from : List ℕ → ℕ → ℕ → List Token → ℕ
-front_from text to from [] = 0
-front_from text to from (t ∷ ts) = cond (has_two text (from + t.len) to) 1 0 + front_from text to (from + t.len) ts
+abbrev pub kept_front_from : List ℕ → ℕ → ℕ → List Token → ℕ
+kept_front_from text to from [] = 0
+kept_front_from text to from (t ∷ ts) = cond (has_two text (from + t.len) to) 1 0 + kept_front_from text to (from + t.len) ts
 
-abbrev pub front : List ℕ → List Token → ℕ → ℕ
-front text tokens to = front_from text to 0 tokens
+abbrev pub kept_front : List ℕ → List Token → ℕ → ℕ
+kept_front text tokens to = kept_front_from text to 0 tokens
 
 -- whether `place` is 0 or the end of a token
 abbrev pub is_bound : List Token → ℕ → Bool
@@ -94,7 +94,7 @@ unfoldable pub relexed_of : (List ℕ → Token) → List ℕ → ℕ → ℕ �
 relexed_of first text start stop insert =
     let old : List Token = tokens_by first text in
     let new : List Token = tokens_by first (apply text start stop insert) in
-    let k : ℕ = front text old start in
+    let k : ℕ = kept_front text old start in
     let j : ℕ = meet old new (start + length insert) (length insert) (stop - start) k in
     record { kept_front = k; lexed = j - k; kept_back = ends_past old (bound new j - length insert + (stop - start)) }
 

@@ -7,7 +7,7 @@ use Rattle.rustc_lexer.specs.Classes.{is_among, is_id_start, is_id_continue}
 use Rattle.rustc_lexer.specs.Emoji.{is_emoji}
 use Rattle.rustc_lexer.specs.Scan.{after, begins, next_is, run, run_as}
 
--- what an identifier goes on with, right or wrong
+-- what an identifier or the name of a lifetime goes on with, right or wrong
 abbrev pub is_word : ℕ → Bool
 is_word c = is_id_continue c || is_emoji c
 

@@ -2,9 +2,11 @@
 use Rattle.rustc_lexer.specs.declared.lexemes.raw.RawPrefix.TheVariants.{R, Br, Cr}
 use Rattle.rustc_lexer.specs.declared.lexemes.raw.RawPrefix.{RawPrefix}
 use Rattle.rustc_lexer.specs.Raw.{raw_literal}
-use Rattle.std.specs.Prelude.{ℕ, suc, ◌==◌, if◌then◌else◌, List, [], ◌∷◌, Bool, ◌||◌, codes, ◌&&◌, drop}
+use Rattle.std.specs.Prelude.{ℕ, suc, ◌==◌, if◌then◌else◌, List, [], ◌∷◌, Bool, codes, ◌&&◌, drop}
 use Rattle.std.specs.Char.{is_ascii_digit}
 use Rattle.std.specs.Str.{byte}
+use Rattle.rustc_lexer.specs.declared.lexemes.family.Family.{Family}
+use Rattle.rustc_lexer.specs.declared.lexemes.family.Family.TheVariants.{Slash, Space, Word, Number, Quote, Str, Emoji, Hash, Symbol}
 use Rattle.rustc_lexer.specs.declared.token.Token.{Token}
 use Rattle.rustc_lexer.specs.declared.token.TokenKind.{TokenKind}
 use Rattle.rustc_lexer.specs.declared.token.TokenKind.TheVariants.{Whitespace, RawIdent, ForcedKeywordIdent, Semi, Comma, Dot, OpenParen, CloseParen, OpenBrace, CloseBrace, OpenBracket, CloseBracket, At, Tilde, Question, Colon, Dollar, Eq, Bang, Lt, Gt, Minus, And, Or, Plus, Star, Caret, Percent, Unknown, Eof}
@@ -86,30 +88,38 @@ letters =
 abbrev pub word : ℕ → List ℕ → TokenKind × ℕ
 word c s = chosen letters (λ c. ident_or_unknown_prefix) c s
 
--- a letter that may be more than the start of an identifier, or another start of one
-abbrev pub begins_word : ℕ → Bool
-begins_word c = is_among (codes "rkbc") c || is_id_start c
-
--- the families of tokens: the first characters, and what reads on
-abbrev pub families : List Arm
-families =
-    arm (λ c. c == byte "/") (λ c. slash)
-    ∷ arm is_whitespace (λ c. whitespace)
-    ∷ arm begins_word word
-    ∷ arm is_ascii_digit number
-    ∷ arm (λ c. c == byte "'") (λ c. lifetime_or_char)
-    ∷ arm (λ c. c == byte "\"") (λ c. literal str_body)
-    ∷ arm is_emoji (λ c. invalid_ident)
-    ∷ arm (λ c. c == byte "#") (λ c. hash)
-    ∷ []
-
 -- a token of one character
 abbrev pub symbol : ℕ → List ℕ → TokenKind × ℕ
 symbol c s = gives (symbol_kind c) s
 
+-- the family that the first character chooses
+abbrev pub family_of : ℕ → Family
+family_of c =
+    if c == byte "/" then Slash
+    else (if is_whitespace c then Space
+    else (if is_id_start c then Word
+    else (if is_ascii_digit c then Number
+    else (if c == byte "'" then Quote
+    else (if c == byte "\"" then Str
+    else (if is_emoji c then Emoji
+    else (if c == byte "#" then Hash
+    else Symbol)))))))
+
+-- what the family reads after it
+abbrev pub read_by : Family → ℕ → List ℕ → TokenKind × ℕ
+read_by Slash c s = slash s
+read_by Space c s = whitespace s
+read_by Word c s = word c s
+read_by Number c s = number c s
+read_by Quote c s = lifetime_or_char s
+read_by Str c s = literal str_body s
+read_by Emoji c s = invalid_ident s
+read_by Hash c s = hash s
+read_by Symbol c s = symbol c s
+
 -- what follows the first character, which decides
 unfoldable pub past_first : ℕ → List ℕ → TokenKind × ℕ
-past_first c s = chosen families symbol c s
+past_first c s = read_by (family_of c) c s
 
 -- the token at the front of a list of characters: what it is, and how many of them it takes
 abbrev pub lexeme : List ℕ → TokenKind × ℕ

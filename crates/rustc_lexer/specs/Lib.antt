@@ -8,7 +8,6 @@ pub mod Cuts
 pub mod EditLists
 pub mod Edits
 pub mod Emoji
-pub mod Family
 pub mod Frontmatter
 pub mod Guarded
 pub mod Hash

@@ -10,11 +10,12 @@ use Rattle.rustc_lexer.specs.declared.token.TokenKind.TheVariants.{LineComment, 
 use Rattle.rustc_lexer.specs.BlockComment.{block_comment}
 use Rattle.rustc_lexer.specs.laws.BlockComment.{block_comment_local}
 use Rattle.rustc_lexer.specs.laws.Choice.{EachArm, by_arm}
+use Rattle.rustc_lexer.specs.laws.Family.{EachFamily, each_family}
 use Rattle.rustc_lexer.specs.Classes.{is_whitespace}
 use Rattle.rustc_lexer.specs.Comment.{line_comment, line_doc_style, is_no_newline, slash}
 use Rattle.rustc_lexer.specs.Ident.{ident_or_unknown_prefix}
 use Rattle.rustc_lexer.specs.laws.Ident.{ident_or_unknown_prefix_local, invalid_ident_local, marked_local}
-use Rattle.rustc_lexer.specs.Lexeme.{letter_b, letters, word, families, symbol, symbol_kind, past_first, lexeme, first_token, raw_or_ident, begins_raw, raw_past_or_ident, is_raw_mark}
+use Rattle.rustc_lexer.specs.Lexeme.{letter_b, letters, word, symbol_kind, past_first, lexeme, first_token, raw_or_ident, begins_raw, raw_past_or_ident, is_raw_mark}
 use Rattle.rustc_lexer.specs.laws.Lifetime.{lifetime_or_char_local}
 use Rattle.rustc_lexer.specs.Literal.{literal}
 use Rattle.rustc_lexer.specs.laws.Literal.{prefixed_local}
@@ -102,36 +103,21 @@ letters_local = (
 pub word_local : (c : ℕ) → IsLocal TokenKind 2 (word c)
 word_local c = by_arm LooksAtTwo letters (λ c. ident_or_unknown_prefix) c letters_local (λ none. plain)
 
-families_local : EachArm LooksAtTwo families
-families_local = (
-  λ c e s. wider 1 2 (omega arith) (slash_local s),
-  (
-    λ c e s. wider 1 2 (omega arith) (run_local Whitespace is_whitespace s),
-    (
-      λ c e. word_local c,
-      (
-        λ c e. number_local c,
-        (
-          λ c e. lifetime_or_char_local,
-          (
-            λ c e s. wider 1 2 (omega arith) (str_local s),
-            (
-              λ c e s. wider 1 2 (omega arith) (invalid_ident_local s),
-              (
-                λ c e s. wider 1 2 (omega arith) (hash_local s),
-                tt,
-              ),
-            ),
-          ),
-        ),
-      ),
-    ),
-  ),
-)
+families_local : EachFamily LooksAtTwo
+families_local = record {
+  of_slash = λ c e s. wider 1 2 (omega arith) (slash_local s);
+  of_space = λ c e s. wider 1 2 (omega arith) (run_local Whitespace is_whitespace s);
+  of_word = λ c e. word_local c;
+  of_number = λ c e. number_local c;
+  of_quote = λ c e. lifetime_or_char_local;
+  of_str = λ c e s. wider 1 2 (omega arith) (str_local s);
+  of_emoji = λ c e s. wider 1 2 (omega arith) (invalid_ident_local s);
+  of_hash = λ c e s. wider 1 2 (omega arith) (hash_local s);
+  of_symbol = λ c. gives_local 2 (symbol_kind c);
+}
 
 past_first_local : (c : ℕ) → IsLocal TokenKind 2 (past_first c)
-unfolding past_first
-past_first_local c = by_arm LooksAtTwo families symbol c families_local (λ none. gives_local 2 (symbol_kind c))
+past_first_local c = each_family LooksAtTwo families_local c
 
 pub lexeme_local : IsLocal TokenKind 2 lexeme
 lexeme_local = first_local 2 Eof past_first lexeme (omega arith) refl (λ c s. refl) past_first_local

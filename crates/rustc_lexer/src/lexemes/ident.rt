@@ -55,8 +55,8 @@ pub(crate) fn eat_marked(tail: &str) -> Option<&str>
     Some(eat_continue(word))
 }
 
-/// What an identifier goes on with, right or wrong.
-fn is_word(c: char) -> bool
+/// What an identifier or the name of a lifetime goes on with, right or wrong.
+pub(crate) fn is_word(c: char) -> bool
     ensures { result ≡ spec.is_word c }
 {
     is_id_continue(c) || is_emoji(c)

@@ -12,7 +12,8 @@ ghost use Rattle.rustc_lexer.specs.Quoted.{single_quoted_string};
 ghost use Rattle.rustc_lexer.specs.Scan.{IsLocal, IsLocalAt, begins, past, run_len, scanned};
 
 use crate::classes::emoji::is_emoji;
-use crate::classes::{is_id_continue, is_id_start};
+use crate::classes::is_id_start;
+use crate::lexemes::ident::is_word;
 use crate::lexemes::quoted::char_literal;
 use crate::scan::{eat_continue, eat_while, split_first, strip};
 use crate::token::{LiteralKind, TokenKind};
@@ -56,13 +57,6 @@ fn is_name_start(c: char) -> bool
     is_id_start(c) || c.is_ascii_digit() || is_emoji(c)
 }
 
-/// Whether the name of a lifetime may go on with the character; an emoji is let through.
-fn is_name_part(c: char) -> bool
-    ensures { result ≡ is_word c }
-{
-    is_id_continue(c) || is_emoji(c)
-}
-
 /// What a name is, and what it leaves. It begins with `first`, and `rest` is what follows that.
 #[inline(always)]
 fn lifetime(first: char, rest: &str) -> (TokenKind, &str)
@@ -94,7 +88,7 @@ fn plain_lifetime(first: char, rest: &str) -> (TokenKind, &str)
     ensures lookahead { IsLocal TokenKind 1 (spec.plain_lifetime first) }
 {
     let past_plain = eat_continue(rest);
-    let past_name = eat_while(past_plain, is_name_part);
+    let past_name = eat_while(past_plain, is_word);
     if let Some(left) = strip(past_name, '\'') {
         let name_len = first.len_utf8() + (rest.len() - past_name.len());
         let kind = LiteralKind::Char { terminated: true };

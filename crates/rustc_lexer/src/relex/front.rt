@@ -1,6 +1,6 @@
 //! What an edit keeps of the old tokens.
 ghost use Rattle.std.specs.Prelude.{◌≡◌, ◌+◌, ◌-◌, ◌<◌, ◌≤◌, ◌^◌, length, ℕ, true, IsCharBoundary, max};
-ghost use Rattle.rustc_lexer.specs.Edits.{front, AreCuts, meets_at};
+ghost use Rattle.rustc_lexer.specs.Edits.{kept_front, AreCuts, meets_at};
 ghost use Rattle.rustc_lexer.specs.Settled.{has_two};
 ghost use Rattle.rustc_lexer.specs.Cuts.{bound};
 ghost use Rattle.rustc_lexer.specs.Landmarks.{IsBound};
@@ -60,7 +60,7 @@ pub(crate) fn kept_front(text: &str, tokens: &[Token], start: usize, near: Bound
     requires cuts { AreCuts text.now tokens.now }
     requires boundary { IsCharBoundary text.now start }
     requires near { IsBound tokens.now near }
-    ensures number { result.number ≡ front text.now tokens.now start }
+    ensures number { result.number ≡ kept_front text.now tokens.now start }
     ensures place { result.place ≡ bound tokens.now result.number }
     ensures number_bound { result.number ≤ length tokens.now }
     ensures two { 0 < result.number → has_two text.now result.place start ≡ true }

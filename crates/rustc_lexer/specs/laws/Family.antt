@@ -1,0 +1,45 @@
+-- What is true of what each family reads is true of the choice by the first character.
+use Rattle.std.proofs.Common.{◌≡◌, ℕ, ◌==◌, Bool, true, false, if◌then◌else◌, List, refl}
+use Rattle.std.specs.Char.{is_ascii_digit}
+use Rattle.std.specs.Str.{byte}
+use Rattle.rustc_lexer.specs.declared.lexemes.family.Family.{Family}
+use Rattle.rustc_lexer.specs.declared.lexemes.family.Family.TheVariants.{Slash, Space, Word, Number, Quote, Str, Emoji, Hash, Symbol}
+use Rattle.rustc_lexer.specs.declared.token.TokenKind.{TokenKind}
+use Rattle.rustc_lexer.specs.Classes.{is_whitespace, is_id_start}
+use Rattle.rustc_lexer.specs.Comment.{slash}
+use Rattle.rustc_lexer.specs.Emoji.{is_emoji}
+use Rattle.rustc_lexer.specs.Hash.{hash}
+use Rattle.rustc_lexer.specs.Ident.{invalid_ident}
+use Rattle.rustc_lexer.specs.Lexeme.{past_first, read_by, symbol, whitespace, word}
+use Rattle.rustc_lexer.specs.Lifetime.{lifetime_or_char}
+use Rattle.rustc_lexer.specs.Literal.{literal}
+use Rattle.rustc_lexer.specs.Number.{number}
+use Rattle.rustc_lexer.specs.Quoted.{str_body}
+
+-- of each family, at each character that chooses it
+pub record EachFamily (P : ℕ → (List ℕ → TokenKind × ℕ) → Type 0) : Type 0 where
+  pub of_slash : (c : ℕ) → (c == byte "/") ≡ true → P c slash
+  pub of_space : (c : ℕ) → is_whitespace c ≡ true → P c whitespace
+  pub of_word : (c : ℕ) → is_id_start c ≡ true → P c (word c)
+  pub of_number : (c : ℕ) → is_ascii_digit c ≡ true → P c (number c)
+  pub of_quote : (c : ℕ) → (c == byte "'") ≡ true → P c lifetime_or_char
+  pub of_str : (c : ℕ) → (c == byte "\"") ≡ true → P c (literal str_body)
+  pub of_emoji : (c : ℕ) → is_emoji c ≡ true → P c invalid_ident
+  pub of_hash : (c : ℕ) → (c == byte "#") ≡ true → P c hash
+  pub of_symbol : (c : ℕ) → P c (symbol c)
+
+branch : (P : ℕ → (List ℕ → TokenKind × ℕ) → Type 0) (c : ℕ) (test : Bool) (f g : Family) → (test ≡ true → P c (read_by f c)) → P c (read_by g c) → P c (read_by (if test then f else g) c)
+branch P c true f g here there = here refl
+branch P c false f g here there = there
+
+pub each_family : (P : ℕ → (List ℕ → TokenKind × ℕ) → Type 0) → EachFamily P → (c : ℕ) → P c (past_first c)
+unfolding past_first
+each_family P each c =
+    branch P c (c == 47) Slash _ (each.of_slash c)
+    (branch P c (is_whitespace c) Space _ (each.of_space c)
+    (branch P c (is_id_start c) Word _ (each.of_word c)
+    (branch P c (is_ascii_digit c) Number _ (each.of_number c)
+    (branch P c (c == 39) Quote _ (each.of_quote c)
+    (branch P c (c == 34) Str _ (each.of_str c)
+    (branch P c (is_emoji c) Emoji _ (each.of_emoji c)
+    (branch P c (c == 35) Hash Symbol (each.of_hash c) (each.of_symbol c))))))))
