@@ -1,7 +1,10 @@
 -- The known bytes of readers and writers, over loops.
-use Rattle.std.proofs.Common.{◌≡◌, ◌≢◌, ◌==◌, ◌||◌, ◌&&◌, Bool, false, ℕ, ◌-◌, List, [], ◌∷◌, ◌++◌, length, take, drop, refl, sym, ap, ◌∙◌, arith, append_assoc, append-nil, length-append, take-append-drop, take_at, length-drop, take_all, subst, Option, Some, None}
+use Rattle.std.proofs.Common.{◌≡◌, ◌≢◌, ◌==◌, ◌||◌, ◌&&◌, Bool, false, ℕ, ◌+◌, ◌-◌, List, [], ◌∷◌, ◌++◌, length, take, drop, refl, sym, ap, ◌∙◌, arith, append_assoc, append-nil, length-append, take-append-drop, take_at, length-drop, take_all, subst, Option, Some, None, Result, Ok, Err}
+use Rattle.std.specs.Prelude.{OnErr}
 use Rattle.std.specs.Io.KnownBytes.{Appends, Consumes, Keeps}
 use Rattle.std.proofs.lemmas.Bool.{ne_eqb}
+use Rattle.std.proofs.Math.Seq.{take-append-add}
+use Rattle.std.proofs.lemmas.List.{take-append-le}
 use Rattle.lexdump.specs.Outcome.{AppendsFront}
 
 pub appends-none : (old : Option (List ℕ)) → Appends old old []
@@ -59,3 +62,24 @@ cut_past n rest = take_all (length rest - n) (drop n rest) (omega (arith, length
 -- a write that takes something leaves a sound end sound
 pub still_sound : (failed empty : Bool) (n : ℕ) → failed ≡ false → n ≢ 0 → (failed || (n == 0 && empty)) ≡ false
 still_sound failed empty n e some = rw (e, ne_eqb n 0 some) refl
+
+-- a beginning of a text is one of each text that goes on from it
+pub front_first : (old new : Option (List ℕ)) (xs ys text : List ℕ) → xs ++ ys ≡ text → AppendsFront old new xs → AppendsFront old new text
+front_first old new xs ys text e f =
+    (f.0, omega (arith, f.1, length-append xs ys, ap length e), subst (λ (zs : List ℕ). Appends old new zs) (sym (ap (take f.0) (sym e) ∙ take-append-le f.0 xs ys f.1)) f.2)
+
+-- a text and then a beginning of another
+pub front_more : (old mid new : Option (List ℕ)) (xs ys text : List ℕ) → xs ++ ys ≡ text → Appends old mid xs → AppendsFront mid new ys → AppendsFront old new text
+front_more old mid new xs ys text e a f = (
+  length xs + f.0,
+  omega (arith, f.1, length-append xs ys, ap length e),
+  subst (λ (zs : List ℕ). Appends old new zs) (sym (ap (take (length xs + f.0)) (sym e) ∙ take-append-add xs ys f.0)) (appends-more old mid new xs (take f.0 ys) a f.2),
+)
+
+-- two texts and then a beginning of a third
+pub front_last : (old mid late new : Option (List ℕ)) (xs ys zs text : List ℕ) → xs ++ (ys ++ zs) ≡ text → Appends old mid xs → Appends mid late ys → AppendsFront late new zs → AppendsFront old new text
+front_last old mid late new xs ys zs text e a b f = front_more old mid new xs (ys ++ zs) text e a (front_more mid late new ys zs (ys ++ zs) refl b f)
+
+pub on_err : {T E P : Type 0} (result : Result T E) → P → OnErr result P
+on_err (Ok done) p = tt
+on_err (Err error) p = p

@@ -1,5 +1,5 @@
 -- The statuses of the program, and its lines on standard error.
-use Rattle.std.specs.Prelude.{ℕ, List, ◌++◌, codes, decimal}
+use Rattle.std.specs.Prelude.{ℕ, List, [], ◌∷◌, ◌++◌, codes, decimal, Option, Some, None}
 use Rattle.rustc_lexer.specs.declared.relex.edit_list.EditStop.{EditStop}
 use Rattle.rustc_lexer.specs.declared.relex.edit_list.EditStop.TheVariants.{Range as RangeStop, TooLong as TooLongStop, Memory as MemoryStop}
 use Rattle.lexdump.specs.declared.fault.Fault.{Fault}
@@ -15,7 +15,7 @@ status_of Memory = 6
 status_of Read = 7
 status_of Write = 7
 
--- the line of a fault, past the program's name
+-- the words of a fault
 unfoldable pub fault_text : Fault → List ℕ
 fault_text Arguments = codes "bad arguments"
 fault_text NotUtf8 = codes "input is not UTF-8"
@@ -25,6 +25,14 @@ fault_text (EditTooLong at) = codes "edit " ++ (decimal at ++ codes ": text too 
 fault_text Memory = codes "no memory"
 fault_text Read = codes "read failed"
 fault_text Write = codes "write failed"
+
+abbrev pub number_text : Option ℕ → List ℕ
+number_text None = []
+number_text (Some n) = decimal n
+
+-- the line that tells of a fault
+abbrev pub fault_line : Fault → List ℕ
+fault_line fault = codes "lexdump: " ++ (fault_text fault ++ 10 ∷ [])
 
 -- the fault of a list of edits that stopped
 abbrev pub stop_fault : EditStop → Fault

@@ -2,5 +2,6 @@ pub mod Fault
 pub mod Job
 pub mod Listing
 pub mod Outcome
+pub mod Program
 pub mod Rest
 pub mod Watch

@@ -1,11 +1,10 @@
 //! Why a run stops.
-ghost use Rattle.std.specs.Prelude.{◌≡◌, Some};
-ghost use Rattle.lexdump.specs.Fault.{fault_text, status_of, stop_fault};
+ghost use Rattle.std.specs.Prelude.{◌≡◌};
+ghost use Rattle.lexdump.specs.Fault.{status_of, stop_fault};
 ghost use Rattle.lexdump.specs.declared.fault.Fault.TheVariants.{Memory};
 
 use rustc_lexer::EditStop;
 use std::alloc::{AllocError, AllocFailed};
-use std::fmt;
 
 /// Why a run stops.
 #[derive(Clone, Copy, Debug, PartialEq, Eq)]
@@ -39,24 +38,6 @@ pub fn status(fault: &Fault) -> u8
         Fault::EditRange { at: _ } | Fault::EditTooLong { at: _ } => 5,
         Fault::Memory => 6,
         Fault::Read | Fault::Write => 7,
-    }
-}
-
-impl fmt::Display for Fault {
-    ghost output = { λ fault. Some (fault_text fault) };
-
-    #[tactic(auto, unfolding(crate::specs::Fault::fault_text))]
-    fn fmt<W: fmt::Write>(&self, f: &mut fmt::Formatter<W>) -> fmt::Result {
-        match self {
-            Fault::Arguments => write!(f, "bad arguments"),
-            Fault::NotUtf8 => write!(f, "input is not UTF-8"),
-            Fault::TooLong => write!(f, "input too long"),
-            Fault::EditRange { at } => write!(f, "edit {at}: bad range"),
-            Fault::EditTooLong { at } => write!(f, "edit {at}: text too long"),
-            Fault::Memory => write!(f, "no memory"),
-            Fault::Read => write!(f, "read failed"),
-            Fault::Write => write!(f, "write failed"),
-        }
     }
 }
 

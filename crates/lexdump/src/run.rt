@@ -1,5 +1,5 @@
 //! A whole run: from the bytes of a reader to the lines of a writer.
-ghost use Rattle.std.specs.Prelude.{◌≡◌, ◌≢◌, ◌↔◌, ◌^◌, ◌<◌, false, IsTrue, IsErrOf, IfErr, IfOk, IfSome, OnErr, OnOk, length};
+ghost use Rattle.std.specs.Prelude.{◌≡◌, ◌≢◌, ◌↔◌, ◌^◌, ◌<◌, false, true, IsTrue, IsErrOf, IfErr, IfOk, IfSome, OnErr, OnOk, length};
 ghost use Rattle.std.specs.Io.KnownBytes.{Appends, Keeps};
 ghost use Rattle.rustc_lexer.specs.Classes.{Fits};
 ghost use Rattle.lexdump.specs.Outcome.{outcome, printed, IsAnswer, IsPrinted, AppendsFront, Writes, EndsReading, IsReadingFault};
@@ -15,6 +15,7 @@ use std::io::{Read, Write};
 /// Reads all of the input, and then writes what the job prints of it.
 ///
 /// Nothing is written before all of it is made: after every fault but `Fault::Write` the output is as it was.
+/// At `Ok` the last thing asked of the output was a flush, and it was not refused.
 pub fn run<R: Read, W: Write>(
     alloc: Global,
     job: &Job<'_>,
@@ -25,6 +26,7 @@ pub fn run<R: Read, W: Write>(
     requires writes { output.old.failed ≡ false }
     ensures read { IsErrOf result Fault.Read ↔ IsTrue input.new.failed }
     ensures write { IsErrOf result Fault.Write ↔ IsTrue output.new.failed }
+    ensures flushed { IfOk result (λ _. output.new.flushed ≡ true) }
     ensures silent { IfErr result (λ fault. fault ≢ Fault.Write → Keeps (W.contents output.old.inner) (W.contents output.new.inner)) }
     ensures outcome { IfSome (R.remaining input.old.inner) (λ bytes. IsAnswer result (outcome job.now bytes)) }
     ensures written { IfSome (R.remaining input.old.inner) (λ bytes.
@@ -83,6 +85,22 @@ fn read_all<R: Read>(alloc: Global, input: &mut Watched<R>) -> Result<Vec<u8>, F
 fn write_all<W: Write>(output: &mut Watched<W>, text: &[u8]) -> Result<(), Fault>
     requires writes { output.old.failed ≡ false }
     ensures failed { IsErrOf result Fault.Write ↔ IsTrue output.new.failed }
+    ensures flushed { IfOk result (λ _. output.new.flushed ≡ true) }
+    ensures only { IfErr result (λ fault. fault ≡ Fault.Write) }
+    ensures ok { OnOk result (Appends (W.contents output.old.inner) (W.contents output.new.inner) text.now) }
+    ensures err { OnErr result (AppendsFront (W.contents output.old.inner) (W.contents output.new.inner) text.now) }
+{
+    write_bytes(output, text)?;
+    if output.flush().is_err() {
+        return Err(Fault::Write);
+    }
+    Ok(())
+}
+
+/// Writes all of the text.
+pub(crate) fn write_bytes<W: Write>(output: &mut Watched<W>, text: &[u8]) -> Result<(), Fault>
+    requires writes { output.old.failed ≡ false }
+    ensures failed { IsErrOf result Fault.Write ↔ IsTrue output.new.failed }
     ensures only { IfErr result (λ fault. fault ≡ Fault.Write) }
     ensures ok { OnOk result (Appends (W.contents output.old.inner) (W.contents output.new.inner) text.now) }
     ensures err { OnErr result (AppendsFront (W.contents output.old.inner) (W.contents output.new.inner) text.now) }
@@ -96,9 +114,6 @@ fn write_all<W: Write>(output: &mut Watched<W>, text: &[u8]) -> Result<(), Fault
             return Err(Fault::Write);
         }
         rest = &rest[count..];
-    }
-    if output.flush().is_err() {
-        return Err(Fault::Write);
     }
     Ok(())
 }

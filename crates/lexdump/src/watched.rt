@@ -1,5 +1,5 @@
-//! A reader or a writer, and whether it has failed.
-ghost use Rattle.std.specs.Prelude.{◌≡◌, ◌||◌, false, is_err};
+//! A reader or a writer, whether it has failed, and whether it was flushed last.
+ghost use Rattle.std.specs.Prelude.{◌≡◌, ◌||◌, false, is_err, is_ok};
 ghost use Rattle.std.specs.Io.{ReadsAtMost, WritesAtMost};
 ghost use Rattle.std.specs.Io.KnownBytes.{Keeps, ReadConsumes, WriteAppends};
 ghost use Rattle.lexdump.specs.Watch.{took_nothing};
@@ -8,12 +8,14 @@ use std::io;
 use std::io::{Read, Write};
 use std::marker::Model;
 
-/// A reader or a writer, and whether it has failed: whether it once answered an error, or took none of the
-/// bytes that it was given to write. It hands on each answer as it is.
+/// A reader or a writer, with whether it has failed and whether it was flushed last. It has failed if it once
+/// answered an error, or took none of the bytes that it was given to write. It was flushed last if the last call
+/// was a flush that was not refused. It hands on each answer as it is.
 #[derive(Drop)]
 pub struct Watched<T> {
     inner: T,
     failed: bool,
+    flushed: bool,
 }
 
 impl<T> Model for Watched<T> {
@@ -21,17 +23,18 @@ impl<T> Model for Watched<T> {
 
     ghost Value = { Watch T };
 
-    ghost view = { λ w. record { inner = w.inner; failed = w.failed } };
+    ghost view = { λ w. record { inner = w.inner; failed = w.failed; flushed = w.flushed } };
 }
 
 impl<T> Watched<T> {
-    /// An end that has not failed.
+    /// An end that has not failed, and of which nothing was asked yet.
     pub fn new(inner: T) -> Watched<T>
-        ensures { result ≡ record { inner = inner; failed = false } }
+        ensures { result ≡ record { inner = inner; failed = false; flushed = false } }
     {
         Watched {
             inner,
             failed: false,
+            flushed: false,
         }
     }
 
@@ -46,16 +49,22 @@ impl<T> Watched<T> {
     pub fn into_inner(self) -> T
         ensures { result ≡ self.inner }
     {
-        let Watched { inner, failed: _ } = self;
+        let Watched {
+            inner,
+            failed: _,
+            flushed: _,
+        } = self;
         inner
     }
 
-    /// Notes whether a call failed.
-    fn note(&mut self, failed: bool)
+    /// Notes whether a call failed, and whether it was a flush that was not refused.
+    fn note(&mut self, failed: bool, flushed: bool)
         ensures inner { self.new.inner ≡ self.old.inner }
         ensures failed { self.new.failed ≡ (self.old.failed || failed) }
+        ensures flushed { self.new.flushed ≡ flushed }
     {
         self.failed = self.failed || failed;
+        self.flushed = flushed;
     }
 }
 
@@ -66,9 +75,10 @@ impl<R: Read> Read for Watched<R> {
         ensures bound { ReadsAtMost result buf.new }
         ensures bytes { ReadConsumes (R.remaining self.old.inner) (R.remaining self.new.inner) result buf.new }
         ensures failed { self.new.failed ≡ (self.old.failed || is_err result) }
+        ensures flushed { self.new.flushed ≡ false }
     {
         let answer = self.inner.read(buf);
-        self.note(answer.is_err());
+        self.note(answer.is_err(), false);
         answer
     }
 }
@@ -80,21 +90,24 @@ impl<W: Write> Write for Watched<W> {
         ensures bound { WritesAtMost result buf.now }
         ensures bytes { WriteAppends (W.contents self.old.inner) (W.contents self.new.inner) result buf.now }
         ensures failed { self.new.failed ≡ (self.old.failed || took_nothing result buf.now) }
+        ensures flushed { self.new.flushed ≡ false }
     {
         let answer = self.inner.write(buf);
-        self.note(match &answer {
+        let failed = match &answer {
             Ok(count) => *count == 0 && !buf.is_empty(),
             Err(_) => true,
-        });
+        };
+        self.note(failed, false);
         answer
     }
 
     fn flush(&mut self) -> io::Result<()>
         ensures bytes { Keeps (W.contents self.old.inner) (W.contents self.new.inner) }
         ensures failed { self.new.failed ≡ (self.old.failed || is_err result) }
+        ensures flushed { self.new.flushed ≡ is_ok result }
     {
         let answer = self.inner.flush();
-        self.note(answer.is_err());
+        self.note(answer.is_err(), answer.is_ok());
         answer
     }
 }

@@ -1,6 +1,7 @@
 //! The statuses and the lines on standard error.
 use crate::fault::{Fault, status};
-use std::test::Fail;
+use crate::report::report;
+use crate::watched::Watched;
 
 #[test]
 fn statuses(rt: HostRuntime) {
@@ -17,21 +18,49 @@ fn statuses(rt: HostRuntime) {
     }
 }
 
+/// What is told of an outcome, and its status.
+fn told(rt: &HostRuntime, outcome: &Result<(), Fault>) -> (Vec<u8>, u8) {
+    let mut errors = Watched::new(Vec::new(rt.alloc()));
+    let status = report(outcome, &mut errors);
+    (errors.into_inner(), status)
+}
+
 #[test]
-fn lines_on_standard_error(rt: HostRuntime) -> Result<(), Fail> {
-    let lines = [
-        (Fault::Arguments, "bad arguments"),
-        (Fault::NotUtf8, "input is not UTF-8"),
-        (Fault::TooLong, "input too long"),
-        (Fault::EditRange { at: 2 }, "edit 2: bad range"),
-        (Fault::EditTooLong { at: 0 }, "edit 0: text too long"),
-        (Fault::Memory, "no memory"),
-        (Fault::Read, "read failed"),
-        (Fault::Write, "write failed"),
+fn lines_on_standard_error(rt: HostRuntime) {
+    let rows: [(Fault, &str, u8); 10] = [
+        (Fault::Arguments, "lexdump: bad arguments\n", 2),
+        (Fault::NotUtf8, "lexdump: input is not UTF-8\n", 3),
+        (Fault::TooLong, "lexdump: input too long\n", 4),
+        (
+            Fault::EditRange { at: 0 },
+            "lexdump: edit 0: bad range\n",
+            5,
+        ),
+        (
+            Fault::EditRange { at: 21 },
+            "lexdump: edit 21: bad range\n",
+            5,
+        ),
+        (
+            Fault::EditTooLong { at: 0 },
+            "lexdump: edit 0: text too long\n",
+            5,
+        ),
+        (
+            Fault::EditTooLong { at: usize::MAX },
+            "lexdump: edit 18446744073709551615: text too long\n",
+            5,
+        ),
+        (Fault::Memory, "lexdump: no memory\n", 6),
+        (Fault::Read, "lexdump: read failed\n", 7),
+        (Fault::Write, "lexdump: write failed\n", 7),
     ];
-    for (fault, want) in lines {
-        let line = format!(in rt.alloc(); "{fault}")?;
-        assert_eq!(rt; line.as_str(), want);
+    for (fault, line, status) in rows {
+        let came = told(&rt, &Err(fault));
+        assert_eq!(rt; came.0.as_slice(), line.as_bytes());
+        assert_eq!(rt; came.1, status);
     }
-    Ok(())
+    let came = told(&rt, &Ok(()));
+    assert!(rt; came.0.is_empty());
+    assert_eq!(rt; came.1, 0);
 }

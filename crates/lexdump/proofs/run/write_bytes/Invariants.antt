@@ -1,6 +1,6 @@
 use Rattle.std.proofs.Common.{◌≡◌, false, length}
 use Rattle.lexdump.proofs.KnownLemmas.{Went}
-use Rattle.lexdump.proofs.run.write_all.Given as goal
+use Rattle.lexdump.proofs.run.write_bytes.Given as goal
 
 abbrev pub invariant-loop-rest : goal.invariant-loop-rest
 invariant-loop-rest g l = (l.output.failed ≡ false) × Went (g.W.Write.contents l.fn.output.inner) (g.W.Write.contents l.output.inner) l.text l.rest
