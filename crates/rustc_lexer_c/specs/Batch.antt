@@ -1,0 +1,44 @@
+-- Tokens in batches: as many as there is room for, and where to go on.
+use Rattle.std.specs.Prelude.{ℕ, zero, suc, ◌≡◌, List, ◌++◌, length, map, take, drop, min}
+use Rattle.std.specs.Str.{IsCharBoundary}
+use Rattle.rustc_lexer.specs.declared.token.FrontmatterAllowed.{FrontmatterAllowed}
+use Rattle.rustc_lexer.specs.declared.token.FrontmatterAllowed.TheVariants.{Yes, No}
+use Rattle.rustc_lexer.specs.State.{State, advance}
+use Rattle.rustc_lexer.specs.Tokens.{tokens_left}
+use Rattle.rustc_lexer_c.specs.declared.batch.CPlace.{CPlace}
+use Rattle.rustc_lexer_c.specs.declared.token.CToken.{CToken}
+use Rattle.rustc_lexer_c.specs.Numbers.{token_numbers}
+
+-- 0 is `No`, and any other number is `Yes`
+abbrev pub allowed_of : ℕ → FrontmatterAllowed
+allowed_of zero = No
+allowed_of (suc n) = Yes
+
+abbrev pub allowed_number : FrontmatterAllowed → ℕ
+allowed_number No = 0
+allowed_number Yes = 1
+
+-- the state of a cursor that stands at the place, with nothing pending
+abbrev pub state_at : List ℕ → CPlace → State
+state_at text place = record { pending = 0; rest = drop place.at text; frontmatter_allowed = allowed_of place.frontmatter_allowed }
+
+-- the state past `count` tokens
+abbrev pub state_past : ℕ → State → State
+state_past zero s = s
+state_past (suc count) s = (advance (state_past count s)).1
+
+-- the batch at a state: as many of the tokens that are left there as there is room for, as numbers, at the front of the
+-- room, whose rest stays; and the place behind them, from which the tokens are those that are left past the batch
+pub record IsBatch (text : List ℕ) (s : State) (room : List CToken) (place : CPlace) (filled : List CToken) (count : ℕ) : Type 0 where
+  pub as_many : count ≡ min (length room) (length (tokens_left s))
+  pub tokens : filled ≡ map token_numbers (take count (tokens_left s)) ++ drop count room
+  pub boundary : IsCharBoundary text place.at
+  pub rest : drop place.at text ≡ (state_past count s).rest
+  pub allowed : place.frontmatter_allowed ≡ allowed_number (state_past count s).frontmatter_allowed
+  pub left : tokens_left (state_at text place) ≡ drop count (tokens_left s)
+
+-- nothing is written
+pub record IsUntouched (place place' : CPlace) (room room' : List CToken) (count : ℕ) : Type 0 where
+  pub same_place : place' ≡ place
+  pub same_room : room' ≡ room
+  pub none : count ≡ 0

@@ -1,0 +1,4 @@
+pub mod Batch
+pub mod Numbers
+pub mod RawStr
+pub mod Status

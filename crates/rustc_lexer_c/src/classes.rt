@@ -1,0 +1,77 @@
+//! Classes of characters, each by its code.
+ghost use Rattle.std.specs.Prelude.{◌≡◌, ◌≢◌, false};
+ghost use Rattle.std.specs.Char.{IsScalar};
+ghost use Rattle.std.specs.Str.{chars};
+ghost use Rattle.rustc_lexer.specs.Classes;
+ghost use Rattle.rustc_lexer_c.specs.Status.{IsTextStatus};
+ghost use Rattle.rustc_lexer_c.specs.RawStr.{bool_number};
+
+use crate::status::text_of;
+use rustc_lexer::{is_horizontal_whitespace, is_id_continue, is_id_start, is_ident, is_whitespace};
+
+/// Whether the character is white space in Rust. False of a number that is no character.
+#[unsafe(no_mangle)]
+pub extern "C" fn rustc_lexer_is_whitespace(code: u32) -> bool
+    ensures class { IsScalar code → result ≡ Classes.is_whitespace code }
+    ensures none { ¬ (IsScalar code) → result ≡ false }
+{
+    match char::from_u32(code) {
+        Some(c) => is_whitespace(c),
+        None => false,
+    }
+}
+
+/// Whether the character is a tab or a space. False of a number that is no character.
+#[unsafe(no_mangle)]
+pub extern "C" fn rustc_lexer_is_horizontal_whitespace(code: u32) -> bool
+    ensures class { IsScalar code → result ≡ Classes.is_horizontal_whitespace code }
+    ensures none { ¬ (IsScalar code) → result ≡ false }
+{
+    match char::from_u32(code) {
+        Some(c) => is_horizontal_whitespace(c),
+        None => false,
+    }
+}
+
+/// Whether an identifier may begin with the character. False of a number that is no character.
+#[unsafe(no_mangle)]
+pub extern "C" fn rustc_lexer_is_id_start(code: u32) -> bool
+    ensures class { IsScalar code → result ≡ Classes.is_id_start code }
+    ensures none { ¬ (IsScalar code) → result ≡ false }
+{
+    match char::from_u32(code) {
+        Some(c) => is_id_start(c),
+        None => false,
+    }
+}
+
+/// Whether an identifier may go on with the character. False of a number that is no character.
+#[unsafe(no_mangle)]
+pub extern "C" fn rustc_lexer_is_id_continue(code: u32) -> bool
+    ensures class { IsScalar code → result ≡ Classes.is_id_continue code }
+    ensures none { ¬ (IsScalar code) → result ≡ false }
+{
+    match char::from_u32(code) {
+        Some(c) => is_id_continue(c),
+        None => false,
+    }
+}
+
+/// Writes whether the text is an identifier.
+#[unsafe(no_mangle)]
+pub extern "C" fn rustc_lexer_is_ident(text: &[u8], is: &mut u32) -> u32
+    ensures status { IsTextStatus text.now result }
+    ensures ident { result ≡ 0 → is.new ≡ bool_number (Classes.is_ident (chars text.now)) }
+    ensures refused { result ≢ 0 → is.new ≡ 0 }
+{
+    match text_of(text) {
+        Ok(text) => {
+            *is = u32::from(is_ident(text));
+            0
+        }
+        Err(refusal) => {
+            *is = 0;
+            refusal.number()
+        }
+    }
+}

@@ -1,0 +1,13 @@
+//! The lexer for C, and for whatever can call C: a static library over `rustc_lexer`.
+//!
+//! A text comes as a pointer and a length, tokens go into the caller's room, and nothing takes memory. Nothing
+//! checks what C passes, so each call tests its text and answers a status of `status`. What crosses is written
+//! down in `bindings/c/rustc_lexer.h`.
+#![tactic(auto)]
+
+pub mod batch;
+pub mod classes;
+pub mod places;
+pub mod raw_str;
+pub mod status;
+pub mod token;

@@ -1,0 +1,51 @@
+//! Places in a text: the end of its shebang line, and how far its tokens are sure.
+ghost use Rattle.std.specs.Prelude.{◌≡◌, ◌≢◌};
+ghost use Rattle.rustc_lexer.specs.declared.token.FrontmatterAllowed.TheVariants.{No};
+ghost use Rattle.rustc_lexer.specs.Settled.{IsSettled, StaysUpTo};
+ghost use Rattle.rustc_lexer.specs.Shebang.{shebang};
+ghost use Rattle.rustc_lexer.specs.Tokens.{tokens_of};
+ghost use Rattle.rustc_lexer_c.specs.RawStr.{some_or_zero};
+ghost use Rattle.rustc_lexer_c.specs.Status.{IsTextStatus};
+
+use crate::status::text_of;
+use rustc_lexer::{settled, strip_shebang};
+
+/// Writes the length of the shebang line at the front of a text, without the end of the line; 0 where there is none.
+#[unsafe(no_mangle)]
+pub extern "C" fn rustc_lexer_strip_shebang(text: &[u8], line_len: &mut usize) -> u32
+    ensures status { IsTextStatus text.now result }
+    ensures line { result ≡ 0 → line_len.new ≡ some_or_zero (shebang text.now) }
+    ensures refused { result ≢ 0 → line_len.new ≡ 0 }
+{
+    match text_of(text) {
+        Ok(text) => {
+            *line_len = strip_shebang(text).unwrap_or(0);
+            0
+        }
+        Err(refusal) => {
+            *line_len = 0;
+            refusal.number()
+        }
+    }
+}
+
+/// Writes the end of the last token that at least two characters follow, or 0. However the text goes on, its tokens
+/// up to there stay, where no frontmatter is allowed.
+#[unsafe(no_mangle)]
+pub extern "C" fn rustc_lexer_settled(text: &[u8], end: &mut usize) -> u32
+    ensures status { IsTextStatus text.now result }
+    ensures settled { result ≡ 0 → IsSettled text.now (tokens_of No text.now) end.new }
+    ensures stays { result ≡ 0 → StaysUpTo end.new text.now (tokens_of No) }
+    ensures refused { result ≢ 0 → end.new ≡ 0 }
+{
+    match text_of(text) {
+        Ok(text) => {
+            *end = settled(text);
+            0
+        }
+        Err(refusal) => {
+            *end = 0;
+            refusal.number()
+        }
+    }
+}
