@@ -1,0 +1,156 @@
+/* Calls of the library at its edges: texts that are not UTF-8, empty texts, room for no token and for one, a batch that
+ * ends before a frontmatter, bad places. Exits with 1 at the first check that fails, and says which. */
+#include <stdio.h>
+#include <string.h>
+
+#include "rustc_lexer.h"
+
+#define CHECK(so) \
+    do { \
+        if (!(so)) { \
+            printf("calls.c:%d: %s\n", __LINE__, #so); \
+            return 1; \
+        } \
+    } while (0)
+
+#define ROOM 8
+
+typedef uint32_t batch_call(const uint8_t *, size_t, struct rustc_lexer_place *, struct rustc_lexer_token *, size_t,
+                            size_t *);
+
+static struct rustc_lexer_token room[ROOM];
+
+/* A call with so much room, on room that has a mark in each byte. */
+static uint32_t call(batch_call *tokens, const char *text, size_t len, struct rustc_lexer_place *place,
+                     size_t room_len, size_t *count) {
+    memset(room, 0xAA, sizeof room);
+    *count = 99;
+    return tokens((const uint8_t *)text, len, place, room, room_len, count);
+}
+
+/* Whether the room from a token on still has the marks. */
+static bool is_marked(size_t from) {
+    const unsigned char *bytes = (const unsigned char *)&room[from];
+    for (size_t i = 0; i < (ROOM - from) * sizeof room[0]; i++)
+        if (bytes[i] != 0xAA)
+            return false;
+    return true;
+}
+
+static bool is_token(size_t number, uint8_t kind, uint32_t len) {
+    return room[number].kind == kind && room[number].len == len;
+}
+
+static int check_bad_texts(void) {
+    static const char *const bad[] = {"\xff", "a\xc3", "\xed\xa0\x80"};
+    struct rustc_lexer_place place = {0, 1};
+    size_t count;
+    for (size_t i = 0; i < sizeof bad / sizeof bad[0]; i++) {
+        const uint8_t *text = (const uint8_t *)bad[i];
+        size_t len = strlen(bad[i]), end = 99;
+        struct rustc_lexer_raw_str_error error = {9, 9, 9, 9, 9, 9};
+        struct rustc_lexer_guarded_str string = {9, 9, 9, 9};
+        uint32_t is = 9;
+        CHECK(rustc_lexer_check(text, len) == RUSTC_LEXER_NOT_UTF8);
+        CHECK(call(rustc_lexer_tokens, bad[i], len, &place, ROOM, &count) == RUSTC_LEXER_NOT_UTF8);
+        CHECK(count == 0 && place.at == 0 && place.frontmatter_allowed == 1 && is_marked(0));
+        CHECK(rustc_lexer_strip_shebang(text, len, &end) == RUSTC_LEXER_NOT_UTF8 && end == 0);
+        end = 99;
+        CHECK(rustc_lexer_settled(text, len, &end) == RUSTC_LEXER_NOT_UTF8 && end == 0);
+        CHECK(rustc_lexer_validate_raw_str(text, len, 1, &error) == RUSTC_LEXER_NOT_UTF8);
+        CHECK(error.error == 0 && error.bad_char == 0 && error.expected == 0 && error.found == 0);
+        CHECK(rustc_lexer_guarded_str(text, len, &string) == RUSTC_LEXER_NOT_UTF8 && string.is_some == 0);
+        CHECK(rustc_lexer_is_ident(text, len, &is) == RUSTC_LEXER_NOT_UTF8 && is == 0);
+    }
+    return 0;
+}
+
+static int check_empty_text(batch_call *tokens) {
+    struct rustc_lexer_place place = {0, 1};
+    size_t count, end = 99;
+    uint32_t is = 9;
+    CHECK(call(tokens, "", 0, &place, ROOM, &count) == RUSTC_LEXER_OK);
+    CHECK(count == 0 && place.at == 0 && place.frontmatter_allowed == 1 && is_marked(0));
+    CHECK(rustc_lexer_strip_shebang((const uint8_t *)"", 0, &end) == RUSTC_LEXER_OK && end == 0);
+    end = 99;
+    CHECK(rustc_lexer_settled((const uint8_t *)"", 0, &end) == RUSTC_LEXER_OK && end == 0);
+    CHECK(rustc_lexer_is_ident((const uint8_t *)"", 0, &is) == RUSTC_LEXER_OK && is == 0);
+    return 0;
+}
+
+static int check_room(batch_call *tokens) {
+    struct rustc_lexer_place place = {0, 0};
+    size_t count;
+    CHECK(call(tokens, "ab cd", 5, &place, 0, &count) == RUSTC_LEXER_OK);
+    CHECK(count == 0 && place.at == 0 && is_marked(0));
+    CHECK(call(tokens, "ab cd", 5, &place, 1, &count) == RUSTC_LEXER_OK);
+    CHECK(count == 1 && place.at == 2 && is_token(0, RUSTC_LEXER_IDENT, 2) && is_marked(1));
+    CHECK(call(tokens, "ab cd", 5, &place, 2, &count) == RUSTC_LEXER_OK);
+    CHECK(count == 2 && place.at == 5 && is_token(0, RUSTC_LEXER_WHITESPACE, 1));
+    CHECK(is_token(1, RUSTC_LEXER_IDENT, 2) && is_marked(2));
+    CHECK(call(tokens, "ab cd", 5, &place, ROOM, &count) == RUSTC_LEXER_OK);
+    CHECK(count == 0 && place.at == 5 && is_marked(0));
+    return 0;
+}
+
+static int check_frontmatter(batch_call *tokens) {
+    static const char *const text = "\n---\na\n---\nb";
+    struct rustc_lexer_place place = {0, 7};
+    size_t count;
+    CHECK(call(tokens, text, 12, &place, 1, &count) == RUSTC_LEXER_OK);
+    CHECK(count == 1 && is_token(0, RUSTC_LEXER_WHITESPACE, 1) && place.at == 1 && place.frontmatter_allowed == 1);
+    CHECK(call(tokens, text, 12, &place, 1, &count) == RUSTC_LEXER_OK);
+    CHECK(count == 1 && is_token(0, RUSTC_LEXER_FRONTMATTER, 9) && room[0].flags == 0);
+    CHECK(place.at == 10 && place.frontmatter_allowed == 0);
+    place.at = 1;
+    CHECK(call(tokens, text, 12, &place, 1, &count) == RUSTC_LEXER_OK);
+    CHECK(count == 1 && is_token(0, RUSTC_LEXER_MINUS, 1) && place.at == 2);
+    return 0;
+}
+
+static int check_places(batch_call *tokens) {
+    static const char *const text = "a\xc3\xa9";
+    size_t count;
+    for (uint32_t at = 0; at < 6; at++) {
+        struct rustc_lexer_place place = {at, 5};
+        bool good = at == 0 || at == 1 || at == 3;
+        uint32_t status = call(tokens, text, 3, &place, ROOM, &count);
+        CHECK(status == (good ? RUSTC_LEXER_OK : RUSTC_LEXER_BAD_PLACE));
+        CHECK(good ? place.at == 3 : count == 0 && place.at == at && place.frontmatter_allowed == 5 && is_marked(0));
+    }
+    struct rustc_lexer_place last = {UINT32_MAX, 0};
+    CHECK(call(tokens, text, 3, &last, ROOM, &count) == RUSTC_LEXER_BAD_PLACE);
+    return 0;
+}
+
+static int check_others(void) {
+    struct rustc_lexer_raw_str_error error;
+    struct rustc_lexer_guarded_str string;
+    size_t end;
+    uint32_t is;
+    const uint8_t *raw = (const uint8_t *)"r##\"abc\"#";
+    CHECK(rustc_lexer_validate_raw_str(raw, 9, 1, &error) == RUSTC_LEXER_OK && error.error == 2);
+    CHECK(error.expected == 2 && error.found == 1 && error.has_offset == 1 && error.possible_terminator_offset == 8);
+    CHECK(rustc_lexer_validate_raw_str(raw, 9, 0, &error) == RUSTC_LEXER_NOT_RAW && error.error == 0);
+    CHECK(rustc_lexer_validate_raw_str(raw, 9, 2, &error) == RUSTC_LEXER_NOT_RAW);
+    CHECK(rustc_lexer_guarded_str((const uint8_t *)"##\"a\"###x", 9, &string) == RUSTC_LEXER_OK);
+    CHECK(string.is_some == 1 && string.n_hashes == 2 && string.terminated == 1 && string.token_len == 7);
+    CHECK(rustc_lexer_guarded_str((const uint8_t *)"##x", 3, &string) == RUSTC_LEXER_OK && string.is_some == 0);
+    CHECK(rustc_lexer_settled((const uint8_t *)"ab cd ef", 8, &end) == RUSTC_LEXER_OK && end == 6);
+    CHECK(rustc_lexer_settled((const uint8_t *)"k#", 2, &end) == RUSTC_LEXER_OK && end == 0);
+    CHECK(rustc_lexer_strip_shebang((const uint8_t *)"#!///x\n[a]", 10, &end) == RUSTC_LEXER_OK && end == 6);
+    CHECK(rustc_lexer_is_ident((const uint8_t *)"a1", 2, &is) == RUSTC_LEXER_OK && is == 1);
+    CHECK(rustc_lexer_is_whitespace(0x2028) && !rustc_lexer_is_whitespace(0xA0) && !rustc_lexer_is_whitespace(0xD800));
+    CHECK(rustc_lexer_is_id_start('_') && !rustc_lexer_is_id_start('0') && rustc_lexer_is_id_continue('0'));
+    CHECK(!rustc_lexer_is_id_start(0x110000) && rustc_lexer_is_horizontal_whitespace('\t'));
+    return 0;
+}
+
+int main(void) {
+    batch_call *const calls[] = {rustc_lexer_tokens, rustc_lexer_tokens_unchecked};
+    CHECK(sizeof(struct rustc_lexer_token) == 16);
+    for (int i = 0; i < 2; i++)
+        if (check_empty_text(calls[i]) || check_room(calls[i]) || check_frontmatter(calls[i]) || check_places(calls[i]))
+            return 1;
+    return check_bad_texts() || check_others();
+}

@@ -1,0 +1,158 @@
+/* Prints the tokens of a text from standard input: for each a line with its start, its length, its kind and the
+ * fields of that, as lexdump prints them. `listing front` reads the text as a whole document, `listing shebang`
+ * prints the length of its shebang line. */
+#include <stdio.h>
+#include <stdlib.h>
+#include <string.h>
+
+#include "rustc_lexer.h"
+
+/* How many tokens one call may write; the tests build with other numbers. */
+#ifndef ROOM
+#define ROOM 1024
+#endif
+
+static const char *const kinds[] = {
+    "", "LineComment", "BlockComment", "Whitespace", "Frontmatter", "Ident", "InvalidIdent", "RawIdent",
+    "ForcedKeywordIdent", "UnknownPrefix", "UnknownPrefixLifetime", "RawLifetime", "GuardedStrPrefix", "Literal",
+    "Lifetime", "Semi", "Comma", "Dot", "OpenParen", "CloseParen", "OpenBrace", "CloseBrace", "OpenBracket",
+    "CloseBracket", "At", "Pound", "Tilde", "Question", "Colon", "Dollar", "Eq", "Bang", "Lt", "Gt", "Minus", "And",
+    "Or", "Plus", "Star", "Slash", "Caret", "Percent", "Unknown", "Eof",
+};
+
+static const char *const literals[] = {
+    "", "Int", "Float", "Char", "Byte", "Str", "ByteStr", "CStr", "RawStr", "RawByteStr", "RawCStr",
+};
+
+static const char *const styles[] = {"none", "outer", "inner"};
+
+static const char *truth(const struct rustc_lexer_token *token, unsigned flag) {
+    return token->flags & flag ? "true" : "false";
+}
+
+static void print_literal(const struct rustc_lexer_token *token) {
+    printf(" kind=%s", literals[token->literal_kind]);
+    switch (token->literal_kind) {
+    case RUSTC_LEXER_INT:
+        printf(" base=%u empty_int=%s", token->base, truth(token, RUSTC_LEXER_EMPTY_INT));
+        break;
+    case RUSTC_LEXER_FLOAT:
+        printf(" base=%u empty_exponent=%s", token->base, truth(token, RUSTC_LEXER_EMPTY_EXPONENT));
+        break;
+    case RUSTC_LEXER_RAW_STR:
+    case RUSTC_LEXER_RAW_BYTE_STR:
+    case RUSTC_LEXER_RAW_C_STR:
+        if (token->flags & RUSTC_LEXER_HAS_HASHES)
+            printf(" n_hashes=%u", token->n_hashes);
+        else
+            printf(" n_hashes=none");
+        break;
+    default:
+        printf(" terminated=%s", truth(token, RUSTC_LEXER_TERMINATED));
+    }
+    printf(" suffix_start=%u", token->suffix_start);
+}
+
+static void print_token(size_t start, const struct rustc_lexer_token *token) {
+    printf("%zu %u %s", start, token->len, kinds[token->kind]);
+    switch (token->kind) {
+    case RUSTC_LEXER_LINE_COMMENT:
+        printf(" doc_style=%s", styles[token->doc_style]);
+        break;
+    case RUSTC_LEXER_BLOCK_COMMENT:
+        printf(" doc_style=%s terminated=%s", styles[token->doc_style], truth(token, RUSTC_LEXER_TERMINATED));
+        break;
+    case RUSTC_LEXER_FRONTMATTER:
+        printf(" has_invalid_preceding_whitespace=%s invalid_infostring=%s",
+               truth(token, RUSTC_LEXER_INVALID_WHITESPACE), truth(token, RUSTC_LEXER_INVALID_INFOSTRING));
+        break;
+    case RUSTC_LEXER_LITERAL:
+        print_literal(token);
+        break;
+    case RUSTC_LEXER_LIFETIME:
+        printf(" starts_with_number=%s", truth(token, RUSTC_LEXER_STARTS_WITH_NUMBER));
+        break;
+    default:
+        break;
+    }
+    putchar('\n');
+}
+
+/* The bytes of standard input, or null where memory is refused or the read fails. */
+static uint8_t *read_all(size_t *len) {
+    size_t room = 1 << 16;
+    uint8_t *text = malloc(room);
+    *len = 0;
+    while (text != NULL) {
+        size_t got = fread(text + *len, 1, room - *len, stdin);
+        *len += got;
+        if (got == 0) {
+            if (!ferror(stdin))
+                return text;
+            break;
+        }
+        if (*len == room) {
+            uint8_t *more = realloc(text, 2 * room);
+            if (more == NULL)
+                break;
+            text = more;
+            room *= 2;
+        }
+    }
+    free(text);
+    return NULL;
+}
+
+static uint32_t print_tokens(const uint8_t *text, size_t len, uint32_t frontmatter_allowed) {
+    struct rustc_lexer_place place = {0, frontmatter_allowed};
+    struct rustc_lexer_token room[ROOM];
+    size_t start = 0, count;
+    uint32_t status = rustc_lexer_check(text, len);
+    if (status != RUSTC_LEXER_OK)
+        return status;
+    do {
+        status = rustc_lexer_tokens_unchecked(text, len, &place, room, ROOM, &count);
+        for (size_t i = 0; i < count; i++) {
+            print_token(start, &room[i]);
+            start += room[i].len;
+        }
+    } while (status == RUSTC_LEXER_OK && count == ROOM);
+    return status;
+}
+
+static uint32_t print_shebang(const uint8_t *text, size_t len) {
+    size_t line_len;
+    uint32_t status = rustc_lexer_strip_shebang(text, len, &line_len);
+    if (status == RUSTC_LEXER_OK && line_len == 0)
+        puts("none");
+    else if (status == RUSTC_LEXER_OK)
+        printf("%zu\n", line_len);
+    return status;
+}
+
+/* The exit statuses are those of lexdump. */
+int main(int count, char **words) {
+    const char *job = count == 2 ? words[1] : "";
+    bool shebang = strcmp(job, "shebang") == 0, front = strcmp(job, "front") == 0;
+    if (count > 2 || (count == 2 && !shebang && !front)) {
+        fputs("listing: bad arguments\n", stderr);
+        return 2;
+    }
+    size_t len;
+    uint8_t *text = read_all(&len);
+    if (text == NULL) {
+        fputs("listing: no input\n", stderr);
+        return 6;
+    }
+    uint32_t status = shebang ? print_shebang(text, len) : print_tokens(text, len, front);
+    free(text);
+    if (status == RUSTC_LEXER_NOT_UTF8) {
+        fputs("listing: input is not UTF-8\n", stderr);
+        return 3;
+    }
+    if (status == RUSTC_LEXER_TOO_LONG) {
+        fputs("listing: input too long\n", stderr);
+        return 4;
+    }
+    return fflush(stdout) == 0 ? 0 : 7;
+}

@@ -1,0 +1,201 @@
+/* The lexer for C: the calls of the static library rustc_lexer_c.
+ *
+ * A text is a pointer to its bytes and their number. It needs no zero at its end, and may have zeros in it.
+ * Nothing takes memory, and nothing keeps a pointer past its call. Calls may be made from any thread.
+ *
+ * What the caller promises, which no call can test:
+ *   - no pointer is null, also where its length is 0;
+ *   - `len` bytes can be read at `text`, and nothing writes to them during the call;
+ *   - each pointer that is not const points to memory that the caller may write to, that is aligned for its type
+ *     and that nothing else uses during the call: `room` to `room_len` tokens, the others to one value. What is
+ *     there before the call does not matter, but for `place`.
+ *   - what `rustc_lexer_tokens_unchecked` says of its text.
+ * All else is tested. Each call answers a status; with one that is not 0 it has written zeros, or nothing where that
+ * is said.
+ *
+ * The numbers here are fixed. A new kind of token gets a new number.
+ */
+#ifndef RUSTC_LEXER_H
+#define RUSTC_LEXER_H
+
+#include <stdbool.h>
+#include <stddef.h>
+#include <stdint.h>
+
+#ifdef __cplusplus
+extern "C" {
+#endif
+
+/* Statuses. They are judged in the order 2, 1, and then 3 or 4. */
+enum {
+    RUSTC_LEXER_OK = 0,
+    RUSTC_LEXER_NOT_UTF8 = 1,  /* the text is not UTF-8 */
+    RUSTC_LEXER_TOO_LONG = 2,  /* the text has more than 4294967295 bytes */
+    RUSTC_LEXER_BAD_PLACE = 3, /* the place is past the end of the text, or inside a character */
+    RUSTC_LEXER_NOT_RAW = 4    /* character number prefix_len of the text, counted from 1, is no r */
+};
+
+/* Kinds of tokens. No token that is written has the kind 0 or 43. */
+enum {
+    RUSTC_LEXER_LINE_COMMENT = 1,
+    RUSTC_LEXER_BLOCK_COMMENT = 2,
+    RUSTC_LEXER_WHITESPACE = 3,
+    RUSTC_LEXER_FRONTMATTER = 4,
+    RUSTC_LEXER_IDENT = 5,
+    RUSTC_LEXER_INVALID_IDENT = 6,
+    RUSTC_LEXER_RAW_IDENT = 7,
+    RUSTC_LEXER_FORCED_KEYWORD_IDENT = 8,
+    RUSTC_LEXER_UNKNOWN_PREFIX = 9,
+    RUSTC_LEXER_UNKNOWN_PREFIX_LIFETIME = 10,
+    RUSTC_LEXER_RAW_LIFETIME = 11,
+    RUSTC_LEXER_GUARDED_STR_PREFIX = 12,
+    RUSTC_LEXER_LITERAL = 13,
+    RUSTC_LEXER_LIFETIME = 14,
+    RUSTC_LEXER_SEMI = 15,
+    RUSTC_LEXER_COMMA = 16,
+    RUSTC_LEXER_DOT = 17,
+    RUSTC_LEXER_OPEN_PAREN = 18,
+    RUSTC_LEXER_CLOSE_PAREN = 19,
+    RUSTC_LEXER_OPEN_BRACE = 20,
+    RUSTC_LEXER_CLOSE_BRACE = 21,
+    RUSTC_LEXER_OPEN_BRACKET = 22,
+    RUSTC_LEXER_CLOSE_BRACKET = 23,
+    RUSTC_LEXER_AT = 24,
+    RUSTC_LEXER_POUND = 25,
+    RUSTC_LEXER_TILDE = 26,
+    RUSTC_LEXER_QUESTION = 27,
+    RUSTC_LEXER_COLON = 28,
+    RUSTC_LEXER_DOLLAR = 29,
+    RUSTC_LEXER_EQ = 30,
+    RUSTC_LEXER_BANG = 31,
+    RUSTC_LEXER_LT = 32,
+    RUSTC_LEXER_GT = 33,
+    RUSTC_LEXER_MINUS = 34,
+    RUSTC_LEXER_AND = 35,
+    RUSTC_LEXER_OR = 36,
+    RUSTC_LEXER_PLUS = 37,
+    RUSTC_LEXER_STAR = 38,
+    RUSTC_LEXER_SLASH = 39,
+    RUSTC_LEXER_CARET = 40,
+    RUSTC_LEXER_PERCENT = 41,
+    RUSTC_LEXER_UNKNOWN = 42,
+    RUSTC_LEXER_EOF = 43
+};
+
+/* Kinds of literals. */
+enum {
+    RUSTC_LEXER_INT = 1,
+    RUSTC_LEXER_FLOAT = 2,
+    RUSTC_LEXER_CHAR = 3,
+    RUSTC_LEXER_BYTE = 4,
+    RUSTC_LEXER_STR = 5,
+    RUSTC_LEXER_BYTE_STR = 6,
+    RUSTC_LEXER_C_STR = 7,
+    RUSTC_LEXER_RAW_STR = 8,
+    RUSTC_LEXER_RAW_BYTE_STR = 9,
+    RUSTC_LEXER_RAW_C_STR = 10
+};
+
+/* Styles of doc comments. */
+enum {
+    RUSTC_LEXER_NO_DOC = 0,
+    RUSTC_LEXER_OUTER_DOC = 1,
+    RUSTC_LEXER_INNER_DOC = 2
+};
+
+/* Flags of tokens. The field `flags` is the sum of those that hold. */
+enum {
+    RUSTC_LEXER_TERMINATED = 1,             /* a block comment or a literal in quotes is closed */
+    RUSTC_LEXER_EMPTY_INT = 2,              /* an integer has no digit behind the prefix of its base */
+    RUSTC_LEXER_EMPTY_EXPONENT = 4,         /* an exponent has no digit */
+    RUSTC_LEXER_HAS_HASHES = 8,             /* a raw string is not refused, and n_hashes is the number of its hashes */
+    RUSTC_LEXER_STARTS_WITH_NUMBER = 16,    /* a lifetime begins with a digit or holds an emoji */
+    RUSTC_LEXER_INVALID_WHITESPACE = 32,    /* white space that ends no line stands before a frontmatter */
+    RUSTC_LEXER_INVALID_INFOSTRING = 64     /* the first line of a frontmatter is a bad one */
+};
+
+/* A token. A field that its kind does not have is 0. 16 bytes, of which the last 2 mean nothing. */
+struct rustc_lexer_token {
+    uint32_t len;          /* in bytes, at least 1 */
+    uint32_t suffix_start; /* of a literal: where its suffix begins, in bytes from the token's start; len: none */
+    uint8_t kind;
+    uint8_t literal_kind;  /* of a literal */
+    uint8_t base;          /* of an integer or a float: 2, 8, 10 or 16 */
+    uint8_t doc_style;     /* of a comment */
+    uint8_t n_hashes;      /* of a raw string with the flag RUSTC_LEXER_HAS_HASHES */
+    uint8_t flags;
+};
+
+/* A place in a text. A text begins at {0, 0}, or at {0, 1} where it is a whole document. */
+struct rustc_lexer_place {
+    uint32_t at;                  /* in bytes from the start of the text */
+    uint32_t frontmatter_allowed; /* whether a frontmatter may stand there: 0 for no, any other number for yes */
+};
+
+/* Why a raw string is refused. A field that the error does not have is 0. */
+struct rustc_lexer_raw_str_error {
+    uint32_t error;      /* 0: none; 1: invalid starter; 2: no terminator; 3: too many delimiters */
+    uint32_t bad_char;   /* of 1: the character, or 0 at the end of the text */
+    uint32_t expected;   /* of 2: how many hashes would close the string */
+    uint32_t found;      /* of 2: the most hashes behind a quote in it; of 3: how many there are */
+    uint32_t has_offset; /* of 2: whether there is an offset, 0 or 1 */
+    uint32_t possible_terminator_offset; /* of 2: where the first quote with so many hashes ends: in bytes past the
+                                            prefix, and prefix_len more */
+};
+
+/* A guarded string. All is 0 where there is none. */
+struct rustc_lexer_guarded_str {
+    uint32_t is_some;    /* whether there is one, 0 or 1 */
+    uint32_t n_hashes;   /* before the string */
+    uint32_t terminated; /* whether a quote closes it, 0 or 1 */
+    uint32_t token_len;  /* of all of it, in bytes */
+};
+
+/* RUSTC_LEXER_OK for a text that is UTF-8 and short enough, else the status that the other calls have for it. */
+uint32_t rustc_lexer_check(const uint8_t *text, size_t len);
+
+/* Writes the tokens from a place on, as many as there is room for, and their number into `count`. The place moves
+ * behind them, and the next call goes on there. The tokens of all calls together are those that one call with room
+ * enough gives. `count` is less than `room_len` only at the end of the text. With another status than 0 the place
+ * and the room stay as they were, and `count` is 0.
+ *
+ * Each call tests the whole text. To lex a long text in many batches, call rustc_lexer_check once and then
+ * rustc_lexer_tokens_unchecked. */
+uint32_t rustc_lexer_tokens(const uint8_t *text, size_t len, struct rustc_lexer_place *place,
+                            struct rustc_lexer_token *room, size_t room_len, size_t *count);
+
+/* The same. The caller promises that the text is UTF-8: rustc_lexer_check has answered 0 for it, and it was not changed
+ * since. On another text this may do anything. The length and the place are tested. */
+uint32_t rustc_lexer_tokens_unchecked(const uint8_t *text, size_t len, struct rustc_lexer_place *place,
+                                      struct rustc_lexer_token *room, size_t room_len, size_t *count);
+
+/* Writes the length of the shebang line at the front of the text, without the end of the line, or 0 where there is
+ * none. A shebang line has at least 2 bytes. */
+uint32_t rustc_lexer_strip_shebang(const uint8_t *text, size_t len, size_t *line_len);
+
+/* Writes the end of the last token that at least two characters follow, or 0, with no frontmatter allowed. However
+ * the text goes on, its tokens up to there stay. */
+uint32_t rustc_lexer_settled(const uint8_t *text, size_t len, size_t *end);
+
+/* Checks the raw string that the text begins with, and writes why it is refused. `prefix_len` is the number of
+ * characters of its prefix, with the r: 1 for r, 2 for br and cr. */
+uint32_t rustc_lexer_validate_raw_str(const uint8_t *text, size_t len, uint32_t prefix_len,
+                                      struct rustc_lexer_raw_str_error *error);
+
+/* Writes the guarded string that the text begins with: hashes, a string, as many hashes at most, a suffix. */
+uint32_t rustc_lexer_guarded_str(const uint8_t *text, size_t len, struct rustc_lexer_guarded_str *string);
+
+/* Writes 1 where the text is an identifier, else 0. */
+uint32_t rustc_lexer_is_ident(const uint8_t *text, size_t len, uint32_t *is);
+
+/* Classes of characters. False of a number that is no character. */
+bool rustc_lexer_is_whitespace(uint32_t code);
+bool rustc_lexer_is_horizontal_whitespace(uint32_t code);
+bool rustc_lexer_is_id_start(uint32_t code);
+bool rustc_lexer_is_id_continue(uint32_t code);
+
+#ifdef __cplusplus
+}
+#endif
+
+#endif

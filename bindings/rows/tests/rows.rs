@@ -1,0 +1,62 @@
+//! The rows, through the binding for Rust.
+
+use rows::{cases, checks, shebangs};
+use rustc_lexer::{strip_shebang, tokenize, validate_raw_str, Cursor, Token, TokenKind};
+
+#[test]
+fn tokens() {
+    let cases = cases();
+    assert!(cases.len() > 250, "{} rows", cases.len());
+    for case in cases {
+        let mut left = tokenize(&case.text, case.allowed);
+        let shown: String = case.text.chars().take(40).collect();
+        for (kind, len) in case.tokens {
+            let want = Token {
+                kind: *kind,
+                len: *len,
+            };
+            assert_eq!(left.next(), Some(want), "in {shown:?}");
+        }
+        assert_eq!(left.next(), None, "in {shown:?}");
+        assert_eq!(left.next(), None, "in {shown:?}");
+    }
+}
+
+#[test]
+fn cursors() {
+    for case in cases() {
+        let mut cursor = Cursor::new(&case.text, case.allowed);
+        let mut place = 0;
+        for (kind, len) in case.tokens {
+            assert_eq!(cursor.as_str(), &case.text[place..]);
+            let want = Token {
+                kind: *kind,
+                len: *len,
+            };
+            assert_eq!(cursor.advance_token(), want);
+            place += *len as usize;
+        }
+        let end = Token {
+            kind: TokenKind::Eof,
+            len: 0,
+        };
+        assert_eq!(cursor.advance_token(), end);
+        assert_eq!(cursor.advance_token(), end);
+    }
+}
+
+#[test]
+fn shebang_lines() {
+    assert!(!shebangs().is_empty());
+    for (text, line) in shebangs() {
+        assert_eq!(strip_shebang(text), *line, "in {text:?}");
+    }
+}
+
+#[test]
+fn raw_strings() {
+    assert!(!checks().is_empty());
+    for (text, prefix_len, want) in checks() {
+        assert_eq!(validate_raw_str(text, *prefix_len), *want, "in {text:?}");
+    }
+}
