@@ -5,6 +5,7 @@ pub mod Choice
 pub mod Classes
 pub mod Comment
 pub mod Cuts
+pub mod Edition
 pub mod EditLists
 pub mod Edits
 pub mod Emoji

@@ -2,6 +2,7 @@ pub mod BlockComment
 pub mod BlockGrammar
 pub mod Choice
 pub mod Cuts
+pub mod Edition
 pub mod Family
 pub mod Hash
 pub mod Ident

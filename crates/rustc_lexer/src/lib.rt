@@ -7,6 +7,7 @@
 
 pub mod classes;
 pub mod cursor;
+pub mod edition;
 pub mod entry;
 mod frontmatter;
 mod kernels;
@@ -22,6 +23,7 @@ pub use classes::{
     is_whitespace,
 };
 pub use cursor::Cursor;
+pub use edition::Edition;
 pub use entry::{Stepper, Steps, Tokens, tokenize};
 pub use raw_check::{starts_raw, validate_raw_str};
 pub use relex::{Edit, EditStop, LexedText, Piece, Pieces, Relexed, settled};

@@ -23,7 +23,7 @@ unquoted_name c name s = gives (if begins (codes "#") s && not (is_ascii_digit c
 abbrev pub quoted_name : ℕ → List ℕ → List ℕ → TokenKind × ℕ
 quoted_name c name s = (Literal (Char true) (2 + length (encode_utf8_all (c ∷ name))), 1)
 
-quoted_name_at : (c : ℕ) (name s : List ℕ) → begins (codes "'") s ≡ true → IsLocalAt TokenKind 0 (quoted_name c name) s
+pub quoted_name_at : (c : ℕ) (name s : List ℕ) → begins (codes "'") s ≡ true → IsLocalAt TokenKind 0 (quoted_name c name) s
 quoted_name_at c name s t = record { inside = begins-length (codes "'") s t; local = λ u e. refl }
 
 unquoted_name_local : (c : ℕ) (name : List ℕ) → IsLocal TokenKind 1 (unquoted_name c name)
@@ -41,7 +41,7 @@ past_name_local c name s =
 abbrev pub name_of : List ℕ → List ℕ × ℕ
 name_of s = run_as (λ name rest. name) is_word s
 
-name_local : IsLocal (List ℕ) 1 name_of
+pub name_local : IsLocal (List ℕ) 1 name_of
 name_local = run_as_local (λ name rest. name) is_word (λ front s. refl)
 
 pub plain_lifetime_local : (c : ℕ) → IsLocal TokenKind 1 (plain_lifetime c)
@@ -56,7 +56,7 @@ plain_lifetime_quoted c s t =
     and_then_at 1 0 name_of (past_name c) s (name_local s)
     (yes_at 1 0 (begins (codes "'")) (quoted_name c name) (unquoted_name c name) (begins-told (codes "'")) left t (omega arith) (quoted_name_at c name left t)) (omega arith)
 
-is_raw_told : (c : ℕ) → IsToldBy 2 (is_raw c)
+pub is_raw_told : (c : ℕ) → IsToldBy 2 (is_raw c)
 is_raw_told c s = ap (λ b. c == byte "r" && b) (marks_ident-told s)
 
 -- a raw lifetime
@@ -74,7 +74,7 @@ abbrev of_name : List ℕ → TokenKind × ℕ
 of_name [] = (Lifetime false, 0)
 of_name (c ∷ s) = ((lifetime c s).0, suc (lifetime c s).1)
 
-is_character_told : IsToldBy 2 is_character_at
+pub is_character_told : IsToldBy 2 is_character_at
 is_character_told [] = refl
 is_character_told (c ∷ s) = ap (λ b. b || not (is_name_start c)) (begins-told (codes "'") s)
 

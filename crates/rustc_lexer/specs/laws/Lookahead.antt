@@ -82,7 +82,7 @@ string kind prefix = prefixed_local 2 (codes "\"") (quoted_body kind double_quot
 letter_b_local : IsLocal TokenKind 2 letter_b
 letter_b_local = prefixed_local 2 (codes "'") byte_body _ (omega arith) (omega arith) (char_body_local Byte) (string ByteStr Br)
 
-abbrev LooksAtTwo : ℕ → (List ℕ → TokenKind × ℕ) → Type 0
+abbrev pub LooksAtTwo : ℕ → (List ℕ → TokenKind × ℕ) → Type 0
 LooksAtTwo c scan = IsLocal TokenKind 2 scan
 
 letters_local : EachArm LooksAtTwo letters
@@ -103,7 +103,7 @@ letters_local = (
 pub word_local : (c : ℕ) → IsLocal TokenKind 2 (word c)
 word_local c = by_arm LooksAtTwo letters (λ c. ident_or_unknown_prefix) c letters_local (λ none. plain)
 
-families_local : EachFamily LooksAtTwo
+pub families_local : EachFamily LooksAtTwo
 families_local = record {
   of_slash = λ c e s. wider 1 2 (omega arith) (slash_local s);
   of_space = λ c e s. wider 1 2 (omega arith) (run_local Whitespace is_whitespace s);

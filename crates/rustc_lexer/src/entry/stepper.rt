@@ -4,13 +4,14 @@ ghost use Rattle.rustc_lexer.specs.declared.token.FrontmatterAllowed.TheVariants
 ghost use Rattle.rustc_lexer.specs.declared.token.Token.{Token};
 ghost use Rattle.rustc_lexer.specs.Classes.{Fits};
 ghost use Rattle.rustc_lexer.specs.Cuts.{tokens_by};
+ghost use Rattle.rustc_lexer.specs.Edition.{first_token_in, year};
 ghost use Rattle.rustc_lexer.specs.Lexeme.{first_token};
 ghost use Rattle.rustc_lexer.specs.Texts.{IsGrammar};
 ghost use Rattle.rustc_lexer.specs.Tokens.{tokens_of};
 
-use crate::cursor::Cursor;
+use crate::edition::{Edition, token_in};
 use crate::entry::tally::Tally;
-use crate::token::{FrontmatterAllowed, Token};
+use crate::token::Token;
 
 /// A grammar, which tells the first token of each text.
 ///
@@ -40,40 +41,51 @@ pub trait Stepper: Drop {
         ensures number { number self.new ≡ number self.old };
 }
 
-/// The steps of the lexer, where no frontmatter may stand.
+/// The steps of the lexer in an edition, where no frontmatter may stand.
 #[derive(Drop)]
 pub struct Steps {
+    edition: Edition,
     tally: Tally,
 }
 
 impl Steps {
-    /// No step taken.
+    /// No step taken, in the edition of 2024.
     pub fn new() -> Steps
         ensures count { ⟦<Steps as Stepper>⟧.count result ≡ 0 }
         ensures number { ⟦<Steps as Stepper>⟧.number result ≡ 2024 }
         ensures grammar { ⟦<Steps as Stepper>⟧.grammar result ≡ first_token }
         ensures tokens { (text : List ℕ) → tokens_by (⟦<Steps as Stepper>⟧.grammar result) text ≡ tokens_of No text }
     {
+        Steps::new_in(Edition::E2024)
+    }
+
+    /// No step taken, in an edition.
+    pub fn new_in(edition: Edition) -> Steps
+        ensures count { ⟦<Steps as Stepper>⟧.count result ≡ 0 }
+        ensures number { ⟦<Steps as Stepper>⟧.number result ≡ year edition }
+        ensures grammar { ⟦<Steps as Stepper>⟧.grammar result ≡ first_token_in edition }
+    {
         Steps {
+            edition,
             tally: Tally::new(),
         }
     }
 }
 
 impl Stepper for Steps {
-    ghost use Rattle.rustc_lexer.specs.Lexeme.{first_token};
-    ghost use Rattle.rustc_lexer.specs.laws.Lookahead.{first_token_grammar};
+    ghost use Rattle.rustc_lexer.specs.Edition.{first_token_in, year};
+    ghost use Rattle.rustc_lexer.specs.laws.Edition.{edition_grammar};
 
-    ghost grammar = { λ _. first_token };
+    ghost grammar = { λ s. first_token_in s.edition };
 
-    ghost number = { λ _. 2024 };
+    ghost number = { λ s. year s.edition };
 
     ghost count = { λ s. s.tally.count };
 
-    ghost law = { λ _. first_token_grammar };
+    ghost law = { λ s. edition_grammar s.edition };
 
     fn step(&mut self, rest: &str) -> Token {
         self.tally.tick();
-        Cursor::new(rest, FrontmatterAllowed::No).advance_token()
+        token_in(rest, self.edition)
     }
 }

@@ -1,0 +1,337 @@
+-- How far the tokens of an edition look, and that a year names one edition.
+use Rattle.std.proofs.Common.{◌≡◌, ℕ, zero, suc, ◌+◌, ◌≤◌, ◌<◌, ◌==◌, ◌&&◌, not, Bool, true, false, true≢false, if◌then◌else◌, List, [], ◌∷◌, length, take, drop, codes, refl, sym, ap, ◌∙◌, subst, arith, rules, Option, Some, None}
+use lib.Utf8.{encode}
+use Rattle.std.proofs.lemmas.Bool.{and_parts, eqb-true}
+use Rattle.std.specs.Char.{is_ascii_digit}
+use Rattle.std.specs.List.{list_all}
+use Rattle.std.specs.Str.{byte, chars}
+use Rattle.rustc_lexer.specs.declared.edition.Edition.{Edition}
+use Rattle.rustc_lexer.specs.declared.edition.Edition.TheVariants.{E2015, E2018, E2021, E2024}
+use Rattle.rustc_lexer.specs.declared.lexemes.raw.RawPrefix.{RawPrefix}
+use Rattle.rustc_lexer.specs.declared.lexemes.raw.RawPrefix.TheVariants.{Br, Cr}
+use Rattle.rustc_lexer.specs.declared.token.Token.{Token}
+use Rattle.rustc_lexer.specs.declared.token.TokenKind.{TokenKind}
+use Rattle.rustc_lexer.specs.declared.token.TokenKind.TheVariants.{Ident, UnknownPrefix, UnknownPrefixLifetime, RawLifetime, Lifetime, GuardedStrPrefix, Pound, Eof, Slash, RawIdent, InvalidIdent}
+use Rattle.rustc_lexer.specs.BlockComment.{block_comment, block_comment_to, comment_end}
+use Rattle.rustc_lexer.specs.Classes.{is_id_continue}
+use Rattle.rustc_lexer.specs.Comment.{line_comment, slash}
+use Rattle.rustc_lexer.specs.Edition.{year, token, has_marked_name, before_2024, before_2021, first_token_in}
+use Rattle.rustc_lexer.specs.Hash.{is_guarded_mark, hash}
+use Rattle.rustc_lexer.specs.Ident.{is_word, is_prefix_mark, ident_kind, ident_or_unknown_prefix, marks_ident, marked}
+use Rattle.rustc_lexer.specs.Lexeme.{raw_or_ident, is_raw_mark, begins_raw, raw_past_or_ident, letter_b, letter_c, letters, word, symbols, kind_among, symbol_kind, symbol, families, past_first, lexeme, first_token}
+use Rattle.rustc_lexer.specs.Lifetime.{is_marked, past_name, plain_lifetime, lifetime, is_character, is_character_at, is_raw, lifetime_or_char}
+use Rattle.rustc_lexer.specs.Literal.{literal}
+use Rattle.rustc_lexer.specs.Quoted.{byte_str_body, char_body}
+use Rattle.rustc_lexer.specs.Scan.{IsLocal, IsLocalAt, after, and_then, begins, bytes_of, gives, next_is, read_as, run, run_len, token_by}
+use Rattle.rustc_lexer.specs.Texts.{IsText, IsGrammar, AgreePast}
+use Rattle.rustc_lexer.specs.laws.Choice.{by_test, EachArm, by_arm, at_char}
+use Rattle.rustc_lexer.specs.laws.Lifetime.{unquoted_name, quoted_name, name_of, name_local, quoted_name_at, is_raw_told, raw, is_character_told}
+use Rattle.rustc_lexer.specs.laws.Literal.{}
+use Rattle.rustc_lexer.specs.laws.Lookahead.{first_token_grammar, families_local, LooksAtTwo}
+use Rattle.rustc_lexer.specs.laws.Quoted.{char_local}
+use Rattle.rustc_lexer.specs.laws.Reach.{begins-told, either_at, first_at, first_local, gives_local, read_as_at, same_at, wider, and_then_local}
+use Rattle.rustc_lexer.specs.laws.TokenBy.{token_by_local}
+
+-- ---- a year names one edition
+
+pub same_edition : (a b : Edition) → year a ≡ year b → a ≡ b
+same_edition E2015 E2015 e = refl
+same_edition E2018 E2018 e = refl
+same_edition E2021 E2021 e = refl
+same_edition E2024 E2024 e = refl
+same_edition E2015 E2018 e = absurd (omega (arith, e))
+same_edition E2015 E2021 e = absurd (omega (arith, e))
+same_edition E2015 E2024 e = absurd (omega (arith, e))
+same_edition E2018 E2015 e = absurd (omega (arith, e))
+same_edition E2018 E2021 e = absurd (omega (arith, e))
+same_edition E2018 E2024 e = absurd (omega (arith, e))
+same_edition E2021 E2015 e = absurd (omega (arith, e))
+same_edition E2021 E2018 e = absurd (omega (arith, e))
+same_edition E2021 E2024 e = absurd (omega (arith, e))
+same_edition E2024 E2015 e = absurd (omega (arith, e))
+same_edition E2024 E2018 e = absurd (omega (arith, e))
+same_edition E2024 E2021 e = absurd (omega (arith, e))
+
+-- ---- kinds that an edition keeps, or changes by no more than the kind
+
+abbrev is_plain : TokenKind → Bool
+is_plain GuardedStrPrefix = false
+is_plain RawLifetime = false
+is_plain UnknownPrefixLifetime = false
+is_plain kind = true
+
+abbrev ArePlain : (List ℕ → TokenKind × ℕ) → Type 0
+ArePlain scan = (s : List ℕ) → is_plain (scan s).0 ≡ true
+
+slash-plain : ArePlain slash
+slash-plain s = by_test (λ r. is_plain r.0 ≡ true) (begins (codes "/") s) (after 1 line_comment s) _ (λ e. refl)
+    (λ e. by_test (λ r. is_plain r.0 ≡ true) (begins (codes "*") s) (after 1 block_comment s) (gives Slash s) (λ e. block (comment_end (drop 1 s))) (λ e. refl))
+  where
+    block : (o : Option ℕ) → is_plain (block_comment_to o (drop 1 s)).0 ≡ true
+    block None = refl
+    block (Some n) = refl
+
+ident-plain : ArePlain ident_or_unknown_prefix
+ident-plain s = by_kind (list_all is_id_continue (take (run_len is_word s) s)) (next_is is_prefix_mark (drop (run_len is_word s) s))
+  where
+    by_kind : (a b : Bool) → is_plain (if a then (if b then UnknownPrefix else Ident) else InvalidIdent) ≡ true
+    by_kind true true = refl
+    by_kind true false = refl
+    by_kind false b = refl
+
+either-plain : (test : List ℕ → Bool) (scan other : List ℕ → TokenKind × ℕ) → ArePlain scan → ArePlain other → ArePlain (λ s. if test s then scan s else other s)
+either-plain test scan other p q s = by_test (λ r. is_plain r.0 ≡ true) (test s) (scan s) (other s) (λ e. p s) (λ e. q s)
+
+raw_or_ident-plain : ArePlain raw_or_ident
+raw_or_ident-plain = either-plain (next_is is_raw_mark) _ ident_or_unknown_prefix (λ s. refl) ident-plain
+
+raw_past-plain : (prefix : RawPrefix) → ArePlain (raw_past_or_ident prefix)
+raw_past-plain prefix = either-plain begins_raw _ ident_or_unknown_prefix (λ s. refl) ident-plain
+
+abbrev PlainArm : ℕ → (List ℕ → TokenKind × ℕ) → Type 0
+PlainArm c scan = ArePlain scan
+
+letter_b-plain : ArePlain letter_b
+letter_b-plain = either-plain (begins (codes "'")) _ past_quote (λ s. refl) (either-plain (begins (codes "\"")) _ (raw_past_or_ident Br) (λ s. refl) (raw_past-plain Br))
+  where
+    past_quote : List ℕ → TokenKind × ℕ
+    past_quote s = if begins (codes "\"") s then literal (after 1 byte_str_body) s else raw_past_or_ident Br s
+
+letters-plain : EachArm PlainArm letters
+letters-plain = (
+  λ c e. either-plain marks_ident _ raw_or_ident (λ s. refl) raw_or_ident-plain,
+  (
+    λ c e. either-plain marks_ident _ ident_or_unknown_prefix (λ s. refl) ident-plain,
+    (
+      λ c e. letter_b-plain,
+      (
+        λ c e. either-plain (begins (codes "\"")) _ (raw_past_or_ident Cr) (λ s. refl) (raw_past-plain Cr),
+        tt,
+      ),
+    ),
+  ),
+)
+
+word-plain : (c : ℕ) → ArePlain (word c)
+word-plain c = by_arm PlainArm letters (λ c. ident_or_unknown_prefix) c letters-plain (λ none. ident-plain)
+
+abbrev AllPlain : List (ℕ × TokenKind) → Type 0
+AllPlain [] = Unit {0}
+AllPlain (s ∷ ss) = (is_plain s.1 ≡ true) × AllPlain ss
+
+among-plain : (ss : List (ℕ × TokenKind)) (c : ℕ) → AllPlain ss → is_plain (kind_among ss c) ≡ true
+among-plain [] c h = refl
+among-plain (s ∷ ss) c h = by_test (λ kind. is_plain kind ≡ true) (c == s.0) s.1 (kind_among ss c) (λ e. h.0) (λ e. among-plain ss c h.1)
+
+-- ---- a change of tokens that keeps the law
+
+-- the token of the first character `c` and of what is read past it
+abbrev token_past : ℕ → List ℕ → TokenKind × ℕ → Token
+token_past c s read = token read.0 (bytes_of (suc read.1) (c ∷ s))
+
+-- a scanner past the first character `c` whose tokens are those of another one, changed
+record Changed (change : List ℕ → TokenKind → ℕ → Token) (c : ℕ) (scan : List ℕ → TokenKind × ℕ) : Type 0 where
+  other : List ℕ → TokenKind × ℕ
+  local : IsLocal TokenKind 2 other
+  same : (s : List ℕ) → change (c ∷ s) (scan s).0 (bytes_of (suc (scan s).1) (c ∷ s)) ≡ token_past c s (other s)
+
+-- what is the same on each text as a grammar is one
+same_grammar : (first other : List ℕ → Token) → ((text : List ℕ) → first text ≡ other text) → IsGrammar other → IsGrammar first
+same_grammar first other same law = record {
+  not_empty = λ text is some. rw (same text) (law.not_empty text is some);
+  inside = λ text is some. rw (same text) (law.inside text is some);
+  front = λ text is some. rw (same text) (law.front text is some);
+  back = λ text is some. rw (same text) (law.back text is some);
+  local = λ text next is its some agree.
+      let there : AgreePast (other text).len text next = rw (same text) at agree in
+      same next ∙ (law.local text next is its some there ∙ sym (same text));
+}
+
+-- tokens that are changed so after each first character are a grammar
+module _ (change : List ℕ → TokenKind → ℕ → Token) (each : (c : ℕ) → Changed change c (past_first c)) (at_end : change [] Eof 0 ≡ token Eof 0) where
+  abbrev other_lexeme : List ℕ → TokenKind × ℕ
+  other_lexeme [] = (Eof, 0)
+  other_lexeme (c ∷ s) = (((each c).other s).0, suc ((each c).other s).1)
+
+  other_local : IsLocal TokenKind 2 other_lexeme
+  other_local = first_local 2 Eof (λ c. (each c).other) other_lexeme (omega arith) refl (λ c s. refl) (λ c. (each c).local)
+
+  changed_is : (cs : List ℕ) → change cs (lexeme cs).0 (bytes_of (lexeme cs).1 cs) ≡ token (other_lexeme cs).0 (bytes_of (other_lexeme cs).1 cs)
+  changed_is [] = at_end
+  changed_is (c ∷ s) = (each c).same s
+
+  changed_grammar : IsGrammar (λ text. change (chars text) (first_token text).kind (first_token text).len)
+  unfolding first_token
+  changed_grammar = same_grammar _ (token_by other_lexeme) (λ text. changed_is (chars text)) (token_by_local other_lexeme (λ c s. omega arith) other_local)
+
+-- a change that is no more than one of the kind, but for what a quote and a hash begin
+module _ (change : List ℕ → TokenKind → ℕ → Token) (read : TokenKind → TokenKind) (keeps : (cs : List ℕ) (kind : TokenKind) (len : ℕ) → is_plain kind ≡ true → change cs kind len ≡ token (read kind) len)
+    (quote_is : Changed change 39 lifetime_or_char) (hash_is : Changed change 35 hash) where
+  plain_arm : (c : ℕ) (scan : List ℕ → TokenKind × ℕ) → IsLocal TokenKind 2 scan → ArePlain scan → Changed change c scan
+  plain_arm c scan is plain = record {
+    other = read_as read scan;
+    local = λ s. read_as_at 2 read scan s (is s);
+    same = λ s. keeps (c ∷ s) (scan s).0 (bytes_of (suc (scan s).1) (c ∷ s)) (plain s);
+  }
+
+  arms : EachArm (Changed change) families
+  arms =
+      let is : EachArm LooksAtTwo families = families_local in (
+        λ c e. plain_arm c _ (is.0 c e) slash-plain,
+        (
+          λ c e. plain_arm c _ (is.1.0 c e) (λ s. refl),
+          (
+            λ c e. plain_arm c _ (is.1.1.0 c e) (word-plain c),
+            (
+              λ c e. plain_arm c _ (is.1.1.1.0 c e) (λ s. refl),
+              (
+                λ c e. at_char (Changed change) 39 lifetime_or_char quote_is c e,
+                (
+                  λ c e. plain_arm c _ (is.1.1.1.1.1.0 c e) (λ s. refl),
+                  (
+                    λ c e. plain_arm c _ (is.1.1.1.1.1.1.0 c e) (λ s. refl),
+                    (
+                      λ c e. at_char (Changed change) 35 hash hash_is c e,
+                      tt,
+                    ),
+                  ),
+                ),
+              ),
+            ),
+          ),
+        ),
+      )
+
+  changed_first : (c : ℕ) → Changed change c (past_first c)
+  unfolding past_first
+  changed_first c = by_arm (Changed change) families symbol c arms (λ none. plain_arm c (symbol c) (gives_local 2 (symbol_kind c)) (λ s. among-plain symbols c (search rules)))
+
+-- ---- before 2024
+
+-- what a quote begins is a literal or a lifetime
+quote_kinds : (P : TokenKind × ℕ → Type 0) (c : ℕ) (s : List ℕ) → (is_character c s ≡ true → P (literal char_body (c ∷ s))) → (is_character c s ≡ false → is_raw c s ≡ true → P ((raw s).0, suc (raw s).1))
+    → (is_character c s ≡ false → is_raw c s ≡ false → P ((plain_lifetime c s).0, suc (plain_lifetime c s).1)) → P (lifetime_or_char (c ∷ s))
+quote_kinds P c s character is_raw_one name =
+    by_test P (is_character c s) (literal char_body (c ∷ s)) ((lifetime c s).0, suc (lifetime c s).1) character (λ e.
+    by_test (λ (r : TokenKind × ℕ). P (r.0, suc r.1)) (is_raw c s) (raw s) (plain_lifetime c s) (is_raw_one e) (name e))
+
+abbrev name_in : List ℕ → List ℕ
+name_in s = take (run_len is_word s) s
+
+abbrev past_name_in : List ℕ → List ℕ
+past_name_in s = drop (run_len is_word s) s
+
+-- what a name is by what follows it
+named_kinds : (P : TokenKind × ℕ → Type 0) (c : ℕ) (s : List ℕ) → (begins (codes "'") (past_name_in s) ≡ true → P ((quoted_name c (name_in s) (past_name_in s)).0, run_len is_word s + 1))
+    → (begins (codes "'") (past_name_in s) ≡ false → P (UnknownPrefixLifetime, run_len is_word s + 0)) → (begins (codes "'") (past_name_in s) ≡ false → P (Lifetime (is_marked c (name_in s)), run_len is_word s + 0)) → P (plain_lifetime c s)
+named_kinds P c s quoted prefix plain =
+    by_test (λ (r : TokenKind × ℕ). P (r.0, run_len is_word s + r.1)) (begins (codes "'") (past_name_in s)) (quoted_name c (name_in s) (past_name_in s)) (unquoted_name c (name_in s) (past_name_in s)) quoted (λ e.
+    by_test (λ (kind : TokenKind). P (kind, run_len is_word s + 0)) (begins (codes "#") (past_name_in s) && not (is_ascii_digit c)) UnknownPrefixLifetime (Lifetime (is_marked c (name_in s))) (λ h. prefix e) (λ h. plain e))
+
+abbrev in_2021 : List ℕ → TokenKind → ℕ → Token
+in_2021 cs kind len = before_2024 kind len
+
+keeps_2021 : (cs : List ℕ) (kind : TokenKind) (len : ℕ) → is_plain kind ≡ true → in_2021 cs kind len ≡ token kind len
+keeps_2021 cs GuardedStrPrefix len e = absurd (true≢false (sym e))
+keeps_2021 cs kind len e = refl
+
+quote_2021 : Changed in_2021 39 lifetime_or_char
+quote_2021 = record {
+  other = lifetime_or_char;
+  local = families_local.1.1.1.1.0 39 refl;
+  same = same;
+}
+  where
+    same : (s : List ℕ) → in_2021 (39 ∷ s) (lifetime_or_char s).0 (bytes_of (suc (lifetime_or_char s).1) (39 ∷ s)) ≡ token_past 39 s (lifetime_or_char s)
+    same [] = refl
+    same (c ∷ s) =
+        let Same : TokenKind × ℕ → Type 0 = λ r. in_2021 (39 ∷ c ∷ s) r.0 (bytes_of (suc r.1) (39 ∷ c ∷ s)) ≡ token_past 39 (c ∷ s) r in
+        quote_kinds Same c s (λ e. refl) (λ e f. refl) (λ e f. named_kinds (λ r. Same (r.0, suc r.1)) c s (λ g. refl) (λ g. refl) (λ g. refl))
+
+hash_2021 : Changed in_2021 35 hash
+unfolding encode
+hash_2021 = record {
+  other = gives Pound;
+  local = gives_local 2 Pound;
+  same = λ s. by_test (λ (r : TokenKind × ℕ). in_2021 (35 ∷ s) r.0 (bytes_of (suc r.1) (35 ∷ s)) ≡ token_past 35 s (gives Pound s)) (next_is is_guarded_mark s) (after 1 (gives GuardedStrPrefix) s) (gives Pound s) (λ e. refl) (λ e. refl);
+}
+
+grammar_2021 : IsGrammar (first_token_in E2021)
+grammar_2021 = changed_grammar in_2021 (changed_first in_2021 (λ kind. kind) keeps_2021 quote_2021 hash_2021) refl
+
+-- ---- before 2021
+
+abbrev plain_kind : TokenKind → TokenKind
+plain_kind UnknownPrefix = Ident
+plain_kind kind = kind
+
+keeps_2018 : (cs : List ℕ) (kind : TokenKind) (len : ℕ) → is_plain kind ≡ true → before_2021 cs kind len ≡ token (plain_kind kind) len
+keeps_2018 cs GuardedStrPrefix len e = absurd (true≢false (sym e))
+keeps_2018 cs RawLifetime len e = absurd (true≢false (sym e))
+keeps_2018 cs UnknownPrefixLifetime len e = absurd (true≢false (sym e))
+keeps_2018 cs kind len e = refl
+
+-- what follows a name, where no hash makes a prefix of it
+abbrev past_any_name : ℕ → List ℕ → List ℕ → TokenKind × ℕ
+past_any_name c name s = if begins (codes "'") s then quoted_name c name s else gives (Lifetime (is_marked c name)) s
+
+abbrev any_named : ℕ → List ℕ → TokenKind × ℕ
+any_named c s = and_then name_of (past_any_name c) s
+
+any_named_local : (c : ℕ) → IsLocal TokenKind 1 (any_named c)
+any_named_local c = and_then_local 1 name_of (past_any_name c) name_local (λ name s.
+    either_at 1 1 (begins (codes "'")) (quoted_name c name) (gives (Lifetime (is_marked c name))) (begins-told (codes "'")) s (omega arith) (λ t. wider 0 1 (omega arith) (quoted_name_at c name s t)) (λ t. gives_local 1 (Lifetime (is_marked c name)) s))
+
+-- what follows the first character of a lifetime, where none is raw
+abbrev cut_lifetime : ℕ → List ℕ → TokenKind × ℕ
+cut_lifetime c s = if is_raw c s then gives (Lifetime false) s else any_named c s
+
+cut_lifetime_local : (c : ℕ) → IsLocal TokenKind 2 (cut_lifetime c)
+cut_lifetime_local c s = either_at 2 2 (is_raw c) (gives (Lifetime false)) (any_named c) (is_raw_told c) s (omega arith) (λ t. gives_local 2 (Lifetime false) s) (λ t. wider 1 2 (omega arith) (any_named_local c s))
+
+abbrev of_cut : List ℕ → TokenKind × ℕ
+of_cut [] = (Lifetime false, 0)
+of_cut (c ∷ s) = ((cut_lifetime c s).0, suc (cut_lifetime c s).1)
+
+abbrev cut_quote : List ℕ → TokenKind × ℕ
+cut_quote s = if is_character_at s then literal char_body s else of_cut s
+
+cut_len : (s : List ℕ) → bytes_of 2 (39 ∷ 114 ∷ s) ≡ 2
+unfolding encode
+cut_len s = refl
+
+quote_2018 : Changed before_2021 39 lifetime_or_char
+quote_2018 = record {
+  other = cut_quote;
+  local = λ s. either_at 2 2 is_character_at (literal char_body) of_cut is_character_told s (omega arith) (λ t. char_local s) (λ t. first_local 2 (Lifetime false) cut_lifetime of_cut (omega arith) refl (λ c s. refl) cut_lifetime_local s);
+  same = same;
+}
+  where
+    same : (s : List ℕ) → before_2021 (39 ∷ s) (lifetime_or_char s).0 (bytes_of (suc (lifetime_or_char s).1) (39 ∷ s)) ≡ token_past 39 s (cut_quote s)
+    same [] = refl
+    same (c ∷ s) =
+        let Same : TokenKind × ℕ → Type 0 = λ r. before_2021 (39 ∷ c ∷ s) r.0 (bytes_of (suc r.1) (39 ∷ c ∷ s)) ≡ token_past 39 (c ∷ s) (cut_quote (c ∷ s)) in
+        quote_kinds Same c s (λ e. rw e refl) (λ e f. raw_one (eqb-true c 114 (and_parts (c == byte "r") (marks_ident s) f).0) e f) (λ e f.
+        rw (e, f) (named_kinds (λ (r : TokenKind × ℕ). before_2021 (39 ∷ c ∷ s) r.0 (bytes_of (suc (suc r.1)) (39 ∷ c ∷ s)) ≡ token_past 39 (c ∷ s) ((any_named c s).0, suc (any_named c s).1)) c s (λ g. rw g refl) (λ g. rw g refl) (λ g. rw g refl)))
+      where
+        raw_one : c ≡ 114 → is_character c s ≡ false → is_raw c s ≡ true → before_2021 (39 ∷ c ∷ s) (raw s).0 (bytes_of (suc (suc (raw s).1)) (39 ∷ c ∷ s)) ≡ token_past 39 (c ∷ s) (cut_quote (c ∷ s))
+        raw_one r e f = rw (e, f) (ap (token (Lifetime false)) (sym (ap (λ (d : ℕ). bytes_of 2 (39 ∷ d ∷ s)) r ∙ cut_len s)))
+
+hash_2018 : Changed before_2021 35 hash
+unfolding encode
+hash_2018 = record {
+  other = gives Pound;
+  local = gives_local 2 Pound;
+  same = λ s. by_test (λ (r : TokenKind × ℕ). before_2021 (35 ∷ s) r.0 (bytes_of (suc r.1) (35 ∷ s)) ≡ token_past 35 s (gives Pound s)) (next_is is_guarded_mark s) (after 1 (gives GuardedStrPrefix) s) (gives Pound s) (λ e. refl) (λ e. refl);
+}
+
+grammar_2018 : IsGrammar (first_token_in E2018)
+grammar_2018 = changed_grammar before_2021 (changed_first before_2021 plain_kind keeps_2018 quote_2018 hash_2018) refl
+
+-- ---- the law of one token, in each edition: two characters past its end are enough, also where it is cut
+
+pub edition_grammar : (edition : Edition) → IsGrammar (first_token_in edition)
+edition_grammar E2024 = first_token_grammar
+edition_grammar E2021 = grammar_2021
+edition_grammar E2018 = grammar_2018
+edition_grammar E2015 = grammar_2018
