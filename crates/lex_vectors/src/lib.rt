@@ -4,6 +4,8 @@
 #[cfg(test)]
 mod comments;
 #[cfg(test)]
+mod editions;
+#[cfg(test)]
 mod edits;
 #[cfg(test)]
 mod first_path;

@@ -2,7 +2,7 @@
 ghost use Rattle.std.specs.Prelude.{◌≡◌, ◌<◌, length};
 ghost use Rattle.lex_vectors.specs.Characters.{character};
 
-use rustc_lexer::{Stepper, Steps, Token, TokenKind};
+use rustc_lexer::{Edition, Stepper, Steps, Token, TokenKind};
 
 /// A `Steps` that counts its calls, as far as a `u64` goes.
 #[derive(Drop)]
@@ -15,8 +15,15 @@ impl Counting {
     pub fn new() -> Counting
         ensures { result.calls ≡ 0 }
     {
+        Counting::new_in(Edition::E2024)
+    }
+
+    /// The same in an edition.
+    pub fn new_in(edition: Edition) -> Counting
+        ensures { result.calls ≡ 0 }
+    {
         Counting {
-            steps: Steps::new(),
+            steps: Steps::new_in(edition),
             calls: 0,
         }
     }

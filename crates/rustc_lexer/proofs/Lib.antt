@@ -8,6 +8,7 @@ pub mod ClassLemmas
 pub mod CutLemmas
 pub mod EditLemmas
 pub mod EditListLemmas
+pub mod EditionLemmas
 pub mod EmojiLemmas
 pub mod FamilyLemmas
 pub mod FenceLemmas

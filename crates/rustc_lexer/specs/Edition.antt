@@ -36,17 +36,20 @@ before_2024 kind len = token kind len
 -- the token of these characters as an edition before 2021 has it, where no prefix is kept free either: no lifetime is raw,
 -- and what stands right before a mark is an identifier or a lifetime, as it is elsewhere
 abbrev pub before_2021 : List ℕ → TokenKind → ℕ → Token
-before_2021 cs GuardedStrPrefix len = token Pound 1
 before_2021 cs RawLifetime len = token (Lifetime false) 2
 before_2021 cs UnknownPrefix len = token Ident len
 before_2021 cs UnknownPrefixLifetime len = token (Lifetime (has_marked_name cs)) len
-before_2021 cs kind len = token kind len
+before_2021 cs kind len = before_2024 kind len
+
+-- the token at the front of these characters, changed to what an edition has in its place
+abbrev pub changed : Edition → List ℕ → Token → Token
+changed E2024 cs t = t
+changed E2021 cs t = before_2024 t.kind t.len
+changed edition cs t = before_2021 cs t.kind t.len
 
 -- the token at the front of a text, in an edition
 abbrev pub first_token_in : Edition → List ℕ → Token
-first_token_in E2024 text = first_token text
-first_token_in E2021 text = before_2024 (first_token text).kind (first_token text).len
-first_token_in edition text = before_2021 (chars text) (first_token text).kind (first_token text).len
+first_token_in edition text = changed edition (chars text) (first_token text)
 
 -- the tokens of a text, in an edition: the first one, then those of what follows it
 abbrev pub tokens_in : Edition → List ℕ → List Token

@@ -1,16 +1,23 @@
 //! The tokens of a text in an edition of Rust.
-ghost use Rattle.std.specs.Prelude.{◌≡◌, ◌<◌, not, length, take};
+ghost use Rattle.std.specs.Prelude.{◌≡◌, ◌<◌, not, length, take, IsCharBoundary};
+ghost use Rattle.std.specs.Iterator.{at_most};
 ghost use Rattle.std.specs.List.{list_all};
 ghost use Rattle.std.specs.Str.{chars};
+ghost use Rattle.rustc_lexer.specs.declared.edition.Edition.TheVariants.{E2015, E2018, E2024};
+ghost use Rattle.rustc_lexer.specs.declared.token.FrontmatterAllowed.TheVariants.{No};
 ghost use Rattle.rustc_lexer.specs.Classes.{Fits, is_id_continue};
 ghost use Rattle.rustc_lexer.specs.Edition as spec;
 ghost use Rattle.rustc_lexer.specs.Ident.{is_word};
 ghost use Rattle.rustc_lexer.specs.Scan.{run_len};
+ghost use Rattle.rustc_lexer.specs.Settled.{AreLocal};
+ghost use Rattle.rustc_lexer.specs.Tokens.{tokens_of, Partitions};
 
 use crate::classes::emoji::is_emoji;
 use crate::cursor::Cursor;
 use crate::scan::{eat_continue, next_is, split_first};
 use crate::token::{FrontmatterAllowed, Token, TokenKind};
+use std::iter::Iterator;
+use std::marker::Model;
 
 /// An edition of Rust, in the order of their years.
 #[derive(Clone, Copy, Debug, PartialEq, Eq, PartialOrd, Ord)]
@@ -21,22 +28,102 @@ pub enum Edition {
     E2024,
 }
 
+/// The tokens of a text in an edition, in order. The text has at most `u32::MAX` bytes, and no frontmatter.
+///
+/// The lengths of the tokens sum to that of the text, each token ends between two characters, and the text from
+/// the end of any token on has the rest of the tokens. With `Edition::E2024` they are those of
+/// [`tokenize`](crate::tokenize) with `FrontmatterAllowed::No`.
+///
+/// Which tokens another edition has in place of these is a table in `docs/EDITIONS.md`. A plain loop goes over
+/// them as over those of `tokenize`.
+pub fn tokenize_in<'a>(text: &'a str, edition: Edition) -> EditionTokens<'a>
+    requires fits { Fits text.now }
+    ensures state { result ≡ record { edition = edition; rest = text.now } }
+    ensures tokens { spec.tokens_left_in result ≡ spec.tokens_in edition text.now }
+    ensures partitions { Partitions text.now (spec.tokens_in edition text.now) }
+    ensures restarts { spec.RestartsIn edition text.now }
+    ensures local { AreLocal (spec.tokens_in edition) }
+    ensures newest { spec.tokens_in E2024 text.now ≡ tokens_of No text.now }
+    ensures oldest { spec.tokens_in E2015 text.now ≡ spec.tokens_in E2018 text.now }
+{
+    EditionTokens {
+        edition,
+        rest: text,
+    }
+}
+
+/// An iterator over the tokens of a text in an edition, made by [`tokenize_in`].
+#[derive(Drop)]
+pub struct EditionTokens<'a> {
+    edition: Edition,
+    rest: &'a str,
+}
+
+impl<'a> Model for EditionTokens<'a> {
+    ghost use Rattle.rustc_lexer.specs.Classes.{Fits};
+    ghost use Rattle.rustc_lexer.specs.Edition.{Reading};
+
+    ghost Value = { Reading };
+
+    ghost view = { λ t. record { edition = t.edition; rest = t.rest.now } };
+
+    ghost invariant = { λ t. Fits t.rest.now };
+}
+
+impl<'a> EditionTokens<'a> {
+    /// The text whose tokens were not given out yet.
+    pub fn as_str(&self) -> &'a str
+        ensures rest { result.now ≡ self.now.rest }
+        ensures fits { Fits result.now }
+    {
+        self.rest
+    }
+}
+
+impl<'a> Iterator for EditionTokens<'a> {
+    type Item = Token;
+
+    ghost next_gives = { spec.YieldsTokenIn };
+
+    ghost remaining = { λ s. at_most (length s.rest) };
+
+    /// The next token, or `None` past the last one, from then on.
+    fn next(&mut self) -> Option<Token> {
+        let rest = self.as_str();
+        if rest.is_empty() {
+            return None;
+        }
+        let token = token_in(rest, self.edition);
+        self.rest = &rest[token.len as usize..];
+        Some(token)
+    }
+}
+
 /// The token at the front of a text, in an edition.
 #[inline(always)]
 pub(crate) fn token_in(rest: &str, edition: Edition) -> Token
     requires not_empty { 0 < length rest.now }
     requires fits { Fits rest.now }
-    ensures { result ≡ spec.first_token_in edition rest.now }
+    ensures token { result ≡ spec.first_token_in edition rest.now }
+    ensures boundary { IsCharBoundary rest.now result.len }
 {
     let token = Cursor::new(rest, FrontmatterAllowed::No).advance_token();
+    changed(token, rest, edition)
+}
+
+/// What the edition has in place of the token at the front of the text.
+#[inline(always)]
+fn changed(token: Token, text: &str, edition: Edition) -> Token
+    ensures { result ≡ spec.changed edition (chars text.now) token }
+{
     match edition {
         Edition::E2024 => token,
         Edition::E2021 => before_2024(token),
-        Edition::E2018 | Edition::E2015 => before_2021(rest, token),
+        Edition::E2018 | Edition::E2015 => before_2021(token, text),
     }
 }
 
-/// The token as an edition before 2024 has it.
+/// What an edition before 2024 has in place of the token.
 fn before_2024(token: Token) -> Token
     ensures { result ≡ spec.before_2024 token.kind token.len }
 {
@@ -49,15 +136,11 @@ fn before_2024(token: Token) -> Token
     }
 }
 
-/// The token at the front of the text as an edition before 2021 has it.
-fn before_2021(text: &str, token: Token) -> Token
+/// What an edition before 2021 has in place of the token at the front of the text.
+fn before_2021(token: Token, text: &str) -> Token
     ensures { result ≡ spec.before_2021 (chars text.now) token.kind token.len }
 {
     match token.kind {
-        TokenKind::GuardedStrPrefix => Token {
-            kind: TokenKind::Pound,
-            len: 1,
-        },
         TokenKind::RawLifetime => Token {
             kind: TokenKind::Lifetime {
                 starts_with_number: false,
@@ -74,7 +157,7 @@ fn before_2021(text: &str, token: Token) -> Token
             },
             len: token.len,
         },
-        _ => token,
+        _ => before_2024(token),
     }
 }
 

@@ -23,7 +23,7 @@ pub use classes::{
     is_whitespace,
 };
 pub use cursor::Cursor;
-pub use edition::Edition;
+pub use edition::{Edition, EditionTokens, tokenize_in};
 pub use entry::{Stepper, Steps, Tokens, tokenize};
 pub use raw_check::{starts_raw, validate_raw_str};
 pub use relex::{Edit, EditStop, LexedText, Piece, Pieces, Relexed, settled};

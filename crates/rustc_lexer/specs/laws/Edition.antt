@@ -1,5 +1,5 @@
 -- How far the tokens of an edition look, and that a year names one edition.
-use Rattle.std.proofs.Common.{◌≡◌, ℕ, zero, suc, ◌+◌, ◌≤◌, ◌<◌, ◌==◌, ◌&&◌, not, Bool, true, false, true≢false, if◌then◌else◌, List, [], ◌∷◌, length, take, drop, codes, refl, sym, ap, ◌∙◌, subst, arith, rules, Option, Some, None}
+use Rattle.std.proofs.Common.{◌≡◌, ℕ, suc, ◌+◌, ◌==◌, ◌&&◌, not, Bool, true, false, true≢false, if◌then◌else◌, List, [], ◌∷◌, take, drop, codes, refl, sym, ap, ◌∙◌, arith, rules, Option, Some, None}
 use lib.Utf8.{encode}
 use Rattle.std.proofs.lemmas.Bool.{and_parts, eqb-true}
 use Rattle.std.specs.Char.{is_ascii_digit}
@@ -11,25 +11,26 @@ use Rattle.rustc_lexer.specs.declared.lexemes.raw.RawPrefix.{RawPrefix}
 use Rattle.rustc_lexer.specs.declared.lexemes.raw.RawPrefix.TheVariants.{Br, Cr}
 use Rattle.rustc_lexer.specs.declared.token.Token.{Token}
 use Rattle.rustc_lexer.specs.declared.token.TokenKind.{TokenKind}
-use Rattle.rustc_lexer.specs.declared.token.TokenKind.TheVariants.{Ident, UnknownPrefix, UnknownPrefixLifetime, RawLifetime, Lifetime, GuardedStrPrefix, Pound, Eof, Slash, RawIdent, InvalidIdent}
+use Rattle.rustc_lexer.specs.declared.token.TokenKind.TheVariants.{Ident, UnknownPrefix, UnknownPrefixLifetime, RawLifetime, Lifetime, GuardedStrPrefix, Pound, Eof, Slash, InvalidIdent}
 use Rattle.rustc_lexer.specs.BlockComment.{block_comment, block_comment_to, comment_end}
 use Rattle.rustc_lexer.specs.Classes.{is_id_continue}
 use Rattle.rustc_lexer.specs.Comment.{line_comment, slash}
-use Rattle.rustc_lexer.specs.Edition.{year, token, has_marked_name, before_2024, before_2021, first_token_in}
+use Rattle.rustc_lexer.specs.Edition.{year, token, before_2024, before_2021, first_token_in}
 use Rattle.rustc_lexer.specs.Hash.{is_guarded_mark, hash}
-use Rattle.rustc_lexer.specs.Ident.{is_word, is_prefix_mark, ident_kind, ident_or_unknown_prefix, marks_ident, marked}
-use Rattle.rustc_lexer.specs.Lexeme.{raw_or_ident, is_raw_mark, begins_raw, raw_past_or_ident, letter_b, letter_c, letters, word, symbols, kind_among, symbol_kind, symbol, families, past_first, lexeme, first_token}
-use Rattle.rustc_lexer.specs.Lifetime.{is_marked, past_name, plain_lifetime, lifetime, is_character, is_character_at, is_raw, lifetime_or_char}
+use Rattle.rustc_lexer.specs.Ident.{is_word, is_prefix_mark, ident_or_unknown_prefix, marks_ident}
+use Rattle.rustc_lexer.specs.Lexeme.{raw_or_ident, is_raw_mark, begins_raw, raw_past_or_ident, letter_b, letters, word, symbols, kind_among, past_first, lexeme, first_token}
+use Rattle.rustc_lexer.specs.Lifetime.{is_marked, plain_lifetime, lifetime, is_character, is_character_at, is_raw, lifetime_or_char}
 use Rattle.rustc_lexer.specs.Literal.{literal}
 use Rattle.rustc_lexer.specs.Quoted.{byte_str_body, char_body}
-use Rattle.rustc_lexer.specs.Scan.{IsLocal, IsLocalAt, after, and_then, begins, bytes_of, gives, next_is, read_as, run, run_len, token_by}
-use Rattle.rustc_lexer.specs.Texts.{IsText, IsGrammar, AgreePast}
+use Rattle.rustc_lexer.specs.Scan.{IsLocal, after, and_then, begins, bytes_of, gives, next_is, read_as, run_len, token_by}
+use Rattle.rustc_lexer.specs.Texts.{IsGrammar, AgreePast}
 use Rattle.rustc_lexer.specs.laws.Choice.{by_test, EachArm, by_arm, at_char}
+use Rattle.rustc_lexer.specs.laws.Family.{EachFamily, each_family}
 use Rattle.rustc_lexer.specs.laws.Lifetime.{unquoted_name, quoted_name, name_of, name_local, quoted_name_at, is_raw_told, raw, is_character_told}
 use Rattle.rustc_lexer.specs.laws.Literal.{}
 use Rattle.rustc_lexer.specs.laws.Lookahead.{first_token_grammar, families_local, LooksAtTwo}
 use Rattle.rustc_lexer.specs.laws.Quoted.{char_local}
-use Rattle.rustc_lexer.specs.laws.Reach.{begins-told, either_at, first_at, first_local, gives_local, read_as_at, same_at, wider, and_then_local}
+use Rattle.rustc_lexer.specs.laws.Reach.{begins-told, either_at, first_local, gives_local, read_as_at, wider, and_then_local}
 use Rattle.rustc_lexer.specs.laws.TokenBy.{token_by_local}
 
 -- ---- a year names one edition
@@ -174,37 +175,21 @@ module _ (change : List ℕ → TokenKind → ℕ → Token) (read : TokenKind �
     same = λ s. keeps (c ∷ s) (scan s).0 (bytes_of (suc (scan s).1) (c ∷ s)) (plain s);
   }
 
-  arms : EachArm (Changed change) families
-  arms =
-      let is : EachArm LooksAtTwo families = families_local in (
-        λ c e. plain_arm c _ (is.0 c e) slash-plain,
-        (
-          λ c e. plain_arm c _ (is.1.0 c e) (λ s. refl),
-          (
-            λ c e. plain_arm c _ (is.1.1.0 c e) (word-plain c),
-            (
-              λ c e. plain_arm c _ (is.1.1.1.0 c e) (λ s. refl),
-              (
-                λ c e. at_char (Changed change) 39 lifetime_or_char quote_is c e,
-                (
-                  λ c e. plain_arm c _ (is.1.1.1.1.1.0 c e) (λ s. refl),
-                  (
-                    λ c e. plain_arm c _ (is.1.1.1.1.1.1.0 c e) (λ s. refl),
-                    (
-                      λ c e. at_char (Changed change) 35 hash hash_is c e,
-                      tt,
-                    ),
-                  ),
-                ),
-              ),
-            ),
-          ),
-        ),
-      )
+  arms : EachFamily (Changed change)
+  arms = let is : EachFamily LooksAtTwo = families_local in record {
+    of_slash = λ c e. plain_arm c _ (is.of_slash c e) slash-plain;
+    of_space = λ c e. plain_arm c _ (is.of_space c e) (λ s. refl);
+    of_word = λ c e. plain_arm c _ (is.of_word c e) (word-plain c);
+    of_number = λ c e. plain_arm c _ (is.of_number c e) (λ s. refl);
+    of_quote = λ c e. at_char (Changed change) 39 lifetime_or_char quote_is c e;
+    of_str = λ c e. plain_arm c _ (is.of_str c e) (λ s. refl);
+    of_emoji = λ c e. plain_arm c _ (is.of_emoji c e) (λ s. refl);
+    of_hash = λ c e. at_char (Changed change) 35 hash hash_is c e;
+    of_symbol = λ c. plain_arm c _ (is.of_symbol c) (λ s. among-plain symbols c (search rules));
+  }
 
   changed_first : (c : ℕ) → Changed change c (past_first c)
-  unfolding past_first
-  changed_first c = by_arm (Changed change) families symbol c arms (λ none. plain_arm c (symbol c) (gives_local 2 (symbol_kind c)) (λ s. among-plain symbols c (search rules)))
+  changed_first c = each_family (Changed change) arms c
 
 -- ---- before 2024
 
@@ -238,7 +223,7 @@ keeps_2021 cs kind len e = refl
 quote_2021 : Changed in_2021 39 lifetime_or_char
 quote_2021 = record {
   other = lifetime_or_char;
-  local = families_local.1.1.1.1.0 39 refl;
+  local = families_local.of_quote 39 refl;
   same = same;
 }
   where

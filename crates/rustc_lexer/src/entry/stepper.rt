@@ -70,6 +70,13 @@ impl Steps {
             tally: Tally::new(),
         }
     }
+
+    /// The edition of its tokens.
+    pub(crate) fn edition(&self) -> Edition
+        ensures { result ≡ self.now.edition }
+    {
+        self.edition
+    }
 }
 
 impl Stepper for Steps {

@@ -7,6 +7,7 @@ ghost use Rattle.rustc_lexer.specs.Edits.{IsEdit, IsInside, apply, bytes_or, rel
 ghost use Rattle.rustc_lexer.specs.Lexeme.{first_token};
 ghost use Rattle.rustc_lexer.specs.Tokens.{tokens_of};
 
+use crate::edition::Edition;
 use crate::entry::stepper::{Stepper, Steps};
 use crate::relex::edit::{Edited, Relexed, lex_edit};
 use crate::relex::landmarks::Landmarks;
@@ -14,6 +15,8 @@ use crate::relex::lex::lex_all;
 use crate::token::Token;
 use std::alloc::{AllocError, Global};
 use std::marker::Model;
+
+mod in_edition;
 
 /// A text, its tokens, and the stepper that they came from.
 #[derive(Drop)]
@@ -166,6 +169,6 @@ impl LexedText<Steps> {
         ensures number { IfOk result (λ l. ⟦<Steps as Stepper>⟧.number l.stepper ≡ 2024) }
         ensures count { IfOk result (λ l. ⟦<Steps as Stepper>⟧.count l.stepper ≡ length l.tokens) }
     {
-        LexedText::with(alloc, text, Steps::new())
+        LexedText::new_in(alloc, text, Edition::E2024)
     }
 }

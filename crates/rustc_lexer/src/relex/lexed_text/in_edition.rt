@@ -1,0 +1,56 @@
+//! A text that is kept with its tokens in an edition.
+ghost use Rattle.std.specs.Prelude.{◌≡◌, IfOk, OnErr, OnOk, length};
+ghost use Rattle.rustc_lexer.specs.declared.edition.Edition.{Edition};
+ghost use Rattle.rustc_lexer.specs.Classes.{Fits};
+ghost use Rattle.rustc_lexer.specs.Edition.{first_token_in, tokens_in, year};
+
+use crate::edition::Edition;
+use crate::entry::stepper::{Stepper, Steps};
+use crate::relex::lex::lex_all;
+use crate::relex::lexed_text::LexedText;
+use std::alloc::{AllocError, Global};
+
+impl LexedText<Steps> {
+    /// A copy of the text, which has at most `u32::MAX` bytes, and its tokens in the edition.
+    pub fn new_in(
+        alloc: Global,
+        text: &str,
+        edition: Edition,
+    ) -> Result<LexedText<Steps>, AllocError>
+        requires fits { Fits text.now }
+        ensures text { IfOk result (λ l. l.text ≡ text.now) }
+        ensures from_scratch { IfOk result (λ l. l.tokens ≡ tokens_in edition text.now) }
+        ensures grammar { IfOk result (λ l. ⟦<Steps as Stepper>⟧.grammar l.stepper ≡ first_token_in edition) }
+        ensures number { IfOk result (λ l. ⟦<Steps as Stepper>⟧.number l.stepper ≡ year edition) }
+        ensures count { IfOk result (λ l. ⟦<Steps as Stepper>⟧.count l.stepper ≡ length l.tokens) }
+    {
+        LexedText::with(alloc, text, Steps::new_in(edition))
+    }
+
+    /// The edition that the tokens are of. Edits keep it.
+    pub fn edition(&self) -> Edition
+        ensures number { ⟦<Steps as Stepper>⟧.number self.now.stepper ≡ year result }
+        ensures only { (edition : Edition) → ⟦<Steps as Stepper>⟧.number self.now.stepper ≡ year edition → result ≡ edition }
+        ensures grammar { ⟦<Steps as Stepper>⟧.grammar self.now.stepper ≡ first_token_in result }
+        ensures from_scratch { self.now.tokens ≡ tokens_in result self.now.text }
+    {
+        self.stepper.edition()
+    }
+
+    /// Lexes the text again, in another edition. Where memory is refused nothing changes.
+    pub fn set_edition(&mut self, edition: Edition) -> Result<(), AllocError>
+        ensures text { self.new.text ≡ self.old.text }
+        ensures from_scratch { OnOk result (self.new.tokens ≡ tokens_in edition self.new.text) }
+        ensures grammar { OnOk result (⟦<Steps as Stepper>⟧.grammar self.new.stepper ≡ first_token_in edition) }
+        ensures number { OnOk result (⟦<Steps as Stepper>⟧.number self.new.stepper ≡ year edition) }
+        ensures count { OnOk result (⟦<Steps as Stepper>⟧.count self.new.stepper ≡ length self.new.tokens) }
+        ensures same { OnErr result (self.new ≡ self.old) }
+    {
+        let mut stepper = Steps::new_in(edition);
+        let (tokens, landmarks) = lex_all(self.alloc, &mut stepper, self.text.as_str())?;
+        self.tokens = tokens;
+        self.stepper = stepper;
+        self.landmarks = landmarks;
+        Ok(())
+    }
+}
