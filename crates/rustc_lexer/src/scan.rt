@@ -44,7 +44,9 @@ pub(crate) fn third(rest: &str) -> char
 
 /// The first character and what follows it.
 pub(crate) fn split_first(rest: &str) -> Option<(char, &str)>
-    ensures { MatchOption result (chars rest.now ≡ []) (λ r. (chars rest.now ≡ r.0 ∷ chars r.1.now) × (r.1.now ≡ past 1 rest.now) × (length r.1.now < length rest.now)) }
+    ensures { MatchOption result (chars rest.now ≡ [])
+        (λ r. (chars rest.now ≡ r.0 ∷ chars r.1.now) × (r.1.now ≡ past 1 rest.now)
+        × (length r.1.now < length rest.now)) }
 {
     let mut chars = rest.chars();
     let first = chars.next()?;
@@ -66,7 +68,9 @@ pub(crate) fn next_is<F: Fn(char) -> bool>(rest: &str, test: F) -> bool
 /// What follows the character `c`, if the text begins with it.
 #[inline(always)]
 pub(crate) fn strip(rest: &str, c: char) -> Option<&str>
-    ensures { MatchOption result (begins (c ∷ []) (chars rest.now) ≡ false) (λ tail. (begins (c ∷ []) (chars rest.now) ≡ true) × (tail.now ≡ past 1 rest.now) × (length tail.now < length rest.now)) }
+    ensures { MatchOption result (begins (c ∷ []) (chars rest.now) ≡ false)
+        (λ tail. (begins (c ∷ []) (chars rest.now) ≡ true) × (tail.now ≡ past 1 rest.now)
+        × (length tail.now < length rest.now)) }
 {
     let (first, tail) = split_first(rest)?;
     if first == c { Some(tail) } else { None }

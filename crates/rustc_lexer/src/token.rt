@@ -10,17 +10,22 @@ pub struct Token {
 }
 
 /// What a token is.
+///
+/// Rust Reference, [Tokens](https://doc.rust-lang.org/reference/tokens.html).
 #[derive(Clone, Copy, Debug, PartialEq, Eq)]
 pub enum TokenKind {
     /// From `//` up to the end of the line, as `// note`.
     LineComment {
+        /// Whether it is a doc comment, and which one.
         doc_style: Option<DocStyle>,
     },
 
     /// From `/*` up to the `*/` that closes it, as `/* note */`. Comments nest. One that nothing closes
     /// takes the rest of the text.
     BlockComment {
+        /// Whether it is a doc comment, and which one.
         doc_style: Option<DocStyle>,
+        /// Whether its closing mark stands in the text.
         terminated: bool,
     },
 
@@ -61,6 +66,7 @@ pub enum TokenKind {
 
     /// A literal with its suffix, as `12u8` or `"note"`.
     Literal {
+        /// What the literal is.
         kind: LiteralKind,
         /// Where the suffix begins, in bytes from the start of the token. It is the token's length where
         /// there is no suffix.
@@ -136,6 +142,8 @@ pub enum TokenKind {
 }
 
 /// Where a doc comment stands: before what it describes, or inside it.
+///
+/// Rust Reference, [Doc comments](https://doc.rust-lang.org/reference/comments.html#doc-comments).
 #[derive(Clone, Copy, Debug, PartialEq, Eq)]
 pub enum DocStyle {
     /// `///` or `/**`
@@ -145,55 +153,69 @@ pub enum DocStyle {
 }
 
 /// What a literal is. Its suffix has no part in this: `1f32` is an `Int`.
+///
+/// Rust Reference, [Literals](https://doc.rust-lang.org/reference/tokens.html#literals).
 #[derive(Clone, Copy, Debug, PartialEq, Eq, PartialOrd, Ord)]
 pub enum LiteralKind {
     /// An integer, as `12u8` or `0x1F`.
     Int {
+        /// The base of its digits.
         base: Base,
         /// No digit follows the prefix of the base, as in `0x`.
         empty_int: bool,
     },
     /// A number with a point or an exponent, as `1.5` or `2e9`.
     Float {
+        /// The base of its digits.
         base: Base,
         /// No digit follows the letter of the exponent, as in `2e`.
         empty_exponent: bool,
     },
     /// `'a'`
     Char {
+        /// Whether a quote closes it.
         terminated: bool,
     },
     /// `b'a'`
     Byte {
+        /// Whether a quote closes it.
         terminated: bool,
     },
     /// `"note"`
     Str {
+        /// Whether a quote closes it.
         terminated: bool,
     },
     /// `b"note"`
     ByteStr {
+        /// Whether a quote closes it.
         terminated: bool,
     },
     /// `c"note"`
     CStr {
+        /// Whether a quote closes it.
         terminated: bool,
     },
     /// `r"note"` or `r#"note"#`, with the number of its hashes; `None` where it is refused.
     RawStr {
+        /// How many hashes stand on each side.
         n_hashes: Option<u8>,
     },
     /// The same after `br`.
     RawByteStr {
+        /// How many hashes stand on each side.
         n_hashes: Option<u8>,
     },
     /// The same after `cr`.
     RawCStr {
+        /// How many hashes stand on each side.
         n_hashes: Option<u8>,
     },
 }
 
 /// A guarded string, as `#"note"#`: a string between hashes.
+///
+/// Rust Reference, [Reserved guards](https://doc.rust-lang.org/reference/tokens.html#reserved-guards).
 #[derive(Clone, Copy, Debug, PartialEq, Eq, PartialOrd, Ord)]
 pub struct GuardedStr {
     /// How many hashes stand before the string.
@@ -205,10 +227,13 @@ pub struct GuardedStr {
 }
 
 /// Why a raw string is refused.
+///
+/// Rust Reference, [Raw string literals](https://doc.rust-lang.org/reference/tokens.html#raw-string-literals).
 #[derive(Clone, Copy, Debug, PartialEq, Eq, PartialOrd, Ord)]
 pub enum RawStrError {
     /// Neither a hash nor a quote stands where the string should begin, as in `r#~"note"#`.
     InvalidStarter {
+        /// The character that stands there, or U+0000 where the text ends.
         bad_char: char,
     },
     /// Nothing closes the string, as in `r##"note"#`.
@@ -223,11 +248,14 @@ pub enum RawStrError {
     },
     /// More than 255 hashes stand on each side of the string.
     TooManyDelimiters {
+        /// How many hashes stand on each side.
         found: u32,
     },
 }
 
 /// The base that a number is written in.
+///
+/// Rust Reference, [Integer literals](https://doc.rust-lang.org/reference/tokens.html#integer-literals).
 #[derive(Clone, Copy, Debug, PartialEq, Eq, PartialOrd, Ord)]
 pub enum Base {
     /// After `0b`.
@@ -240,9 +268,13 @@ pub enum Base {
     Hexadecimal = 16,
 }
 
-/// Whether a frontmatter may stand at the front of a text: `Yes` for a whole document, `No` for a part of one.
+/// Whether a frontmatter may stand at the front of a text.
+///
+/// [RFC 3503](https://rust-lang.github.io/rfcs/3503-frontmatter.html).
 #[derive(Clone, Copy, PartialEq, Eq)]
 pub enum FrontmatterAllowed {
+    /// It may: the text is a whole document.
     Yes,
+    /// It may not: the text is a part of a document.
     No,
 }

@@ -59,7 +59,8 @@ pub(crate) fn family_of(first: char) -> Family
 /// The same of a byte, and nothing of one from 128 up.
 #[inline(always)]
 pub(crate) fn family_of_byte(first: u8) -> Option<Family>
-    ensures { MatchOption result (128 ≤ first) (λ family. (first < 128) × (family ≡ spec.family_of first)) }
+    ensures { MatchOption result (128 ≤ first)
+        (λ family. (first < 128) × (family ≡ spec.family_of first)) }
 {
     if first < 128 {
         Some(FAMILIES[first as usize])

@@ -12,7 +12,8 @@ use crate::token::TokenKind;
 pub(crate) fn hash(tail: &str) -> (TokenKind, &str)
     ensures read { (result.0, result.1.now) ≡ scanned spec.hash tail.now }
     ensures lookahead { IsLocal TokenKind 1 spec.hash }
-    ensures prefix { (s : List ℕ) → Scan.next_is spec.is_guarded_mark s ≡ true → IsLocalAt TokenKind 0 spec.hash s }
+    ensures prefix { (s : List ℕ) → Scan.next_is spec.is_guarded_mark s ≡ true
+        → IsLocalAt TokenKind 0 spec.hash s }
 {
     let Some((c, rest)) = split_first(tail) else {
         return (TokenKind::Pound, tail);

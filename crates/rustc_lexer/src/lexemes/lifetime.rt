@@ -31,7 +31,8 @@ pub(crate) fn lifetime_or_char(tail: &str) -> (TokenKind, &str)
     ensures raw { (c : ℕ) (s : List ℕ) → spec.is_character c s ≡ false → is_raw c s ≡ true
         → IsLocalAt TokenKind 1 spec.lifetime_or_char (c ∷ s) }
     ensures long_character { (c : ℕ) (s : List ℕ) → spec.is_character c s ≡ false → is_raw c s ≡ false
-        → begins (codes "'") (drop (run_len is_word s) s) ≡ true → IsLocalAt TokenKind 0 spec.lifetime_or_char (c ∷ s) }
+        → begins (codes "'") (drop (run_len is_word s) s) ≡ true
+        → IsLocalAt TokenKind 0 spec.lifetime_or_char (c ∷ s) }
 {
     let Some((first, rest)) = split_first(tail) else {
         return char_literal(tail);
@@ -73,7 +74,8 @@ fn lifetime(first: char, rest: &str) -> (TokenKind, &str)
 
 /// What follows a hash and the start of an identifier, if these are at the front.
 fn strip_raw(rest: &str) -> Option<&str>
-    ensures { MatchOption result (marks_ident (chars rest.now) ≡ false) (λ name. (marks_ident (chars rest.now) ≡ true) × (name.now ≡ past 2 rest.now)) }
+    ensures { MatchOption result (marks_ident (chars rest.now) ≡ false)
+        (λ name. (marks_ident (chars rest.now) ≡ true) × (name.now ≡ past 2 rest.now)) }
 {
     let name = strip(rest, '#')?;
     let (first, tail) = split_first(name)?;

@@ -16,7 +16,8 @@ pub(crate) fn double_quoted_string(body: &str) -> (bool, &str)
     ensures shorter { length result.1.now ≤ length body.now }
     ensures read { (result.0, result.1.now) ≡ scanned spec.double_quoted_string body.now }
     ensures lookahead { IsLocal Bool 1 spec.double_quoted_string }
-    ensures closed { (s : List ℕ) → (spec.double_quoted_string s).0 ≡ true → IsLocalAt Bool 0 spec.double_quoted_string s }
+    ensures closed { (s : List ℕ) → (spec.double_quoted_string s).0 ≡ true
+        → IsLocalAt Bool 0 spec.double_quoted_string s }
 {
     let mut rest = body;
     'quoted: loop {
@@ -40,7 +41,8 @@ pub(crate) fn single_quoted_string(body: &str) -> (bool, &str)
     ensures shorter { length result.1.now ≤ length body.now }
     ensures read { (result.0, result.1.now) ≡ scanned spec.single_quoted_string body.now }
     ensures lookahead { IsLocal Bool 2 spec.single_quoted_string }
-    ensures closed { (s : List ℕ) → (spec.single_quoted_string s).0 ≡ true → IsLocalAt Bool 1 spec.single_quoted_string s }
+    ensures closed { (s : List ℕ) → (spec.single_quoted_string s).0 ≡ true
+        → IsLocalAt Bool 1 spec.single_quoted_string s }
 {
     if let Some(rest) = strip_lone(body) {
         return (true, rest);
@@ -64,7 +66,8 @@ pub(crate) fn single_quoted_string(body: &str) -> (bool, &str)
 
 /// What follows one character and a quote, if these are at the front. The character is no backslash.
 fn strip_lone(body: &str) -> Option<&str>
-    ensures { MatchOption result (spec.is_lone (chars body.now) ≡ false) (λ rest. (spec.is_lone (chars body.now) ≡ true) × (rest.now ≡ past 2 body.now)) }
+    ensures { MatchOption result (spec.is_lone (chars body.now) ≡ false)
+        (λ rest. (spec.is_lone (chars body.now) ≡ true) × (rest.now ≡ past 2 body.now)) }
 {
     let (first, tail) = split_first(body)?;
     if first == '\\' {
@@ -98,7 +101,8 @@ pub(crate) fn byte_str_literal<'a>(tail: &str, body: &'a str) -> (TokenKind, &'a
     requires body { body.now ≡ past 1 tail.now }
     requires fits { length tail.now + 1 < 2 ^ 32 }
     ensures read { (result.0, result.1.now) ≡ scanned (literal (after 1 spec.byte_str_body)) tail.now }
-    ensures lookahead { (s : List ℕ) → 1 ≤ length s → IsLocalAt TokenKind 1 (literal (after 1 spec.byte_str_body)) s }
+    ensures lookahead { (s : List ℕ) → 1 ≤ length s
+        → IsLocalAt TokenKind 1 (literal (after 1 spec.byte_str_body)) s }
 {
     let (terminated, rest) = double_quoted_string(body);
     with_suffix(LiteralKind::ByteStr { terminated }, terminated, tail, rest)
@@ -110,7 +114,8 @@ pub(crate) fn c_str_literal<'a>(tail: &str, body: &'a str) -> (TokenKind, &'a st
     requires body { body.now ≡ past 1 tail.now }
     requires fits { length tail.now + 1 < 2 ^ 32 }
     ensures read { (result.0, result.1.now) ≡ scanned (literal (after 1 spec.c_str_body)) tail.now }
-    ensures lookahead { (s : List ℕ) → 1 ≤ length s → IsLocalAt TokenKind 1 (literal (after 1 spec.c_str_body)) s }
+    ensures lookahead { (s : List ℕ) → 1 ≤ length s
+        → IsLocalAt TokenKind 1 (literal (after 1 spec.c_str_body)) s }
 {
     let (terminated, rest) = double_quoted_string(body);
     with_suffix(LiteralKind::CStr { terminated }, terminated, tail, rest)
@@ -122,7 +127,8 @@ pub(crate) fn char_literal(tail: &str) -> (TokenKind, &str)
     requires fits { length tail.now + 1 < 2 ^ 32 }
     ensures read { (result.0, result.1.now) ≡ scanned (literal spec.char_body) tail.now }
     ensures lookahead { IsLocal TokenKind 2 (literal spec.char_body) }
-    ensures closed { (s : List ℕ) → (spec.single_quoted_string s).0 ≡ true → IsLocalAt TokenKind 1 (literal spec.char_body) s }
+    ensures closed { (s : List ℕ) → (spec.single_quoted_string s).0 ≡ true
+        → IsLocalAt TokenKind 1 (literal spec.char_body) s }
 {
     let (terminated, rest) = single_quoted_string(tail);
     with_suffix(LiteralKind::Char { terminated }, terminated, tail, rest)
@@ -134,7 +140,8 @@ pub(crate) fn byte_literal<'a>(tail: &str, body: &'a str) -> (TokenKind, &'a str
     requires body { body.now ≡ past 1 tail.now }
     requires fits { length tail.now + 1 < 2 ^ 32 }
     ensures read { (result.0, result.1.now) ≡ scanned (literal (after 1 spec.byte_body)) tail.now }
-    ensures lookahead { (s : List ℕ) → 1 ≤ length s → IsLocalAt TokenKind 2 (literal (after 1 spec.byte_body)) s }
+    ensures lookahead { (s : List ℕ) → 1 ≤ length s
+        → IsLocalAt TokenKind 2 (literal (after 1 spec.byte_body)) s }
     ensures closed { (s : List ℕ) → 1 ≤ length s → (spec.single_quoted_string (drop 1 s)).0 ≡ true
         → IsLocalAt TokenKind 1 (literal (after 1 spec.byte_body)) s }
 {

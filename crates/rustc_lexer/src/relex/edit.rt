@@ -48,7 +48,8 @@ fn relex_from<S: Stepper>(
     ensures met_place { IfOk result (λ r. r.met.place ≡ bound old.now r.met.number) }
     ensures end { IfOk result (λ r. r.end ≡ bound (tokens_by (S.grammar stepper.old) text.now) (kept.number + length r.tokens.items)) }
     ensures kept { IfOk result (λ r. kept.number ≤ r.met.number) }
-    ensures count { IfOk result (λ r. S.count stepper.new ≡ S.count stepper.old + length r.tokens.items) }
+    ensures count { IfOk result
+        (λ r. S.count stepper.new ≡ S.count stepper.old + length r.tokens.items) }
     ensures rose { S.count stepper.old ≤ S.count stepper.new }
     ensures few { IfErr result (λ _. S.count stepper.new + kept.number ≤ S.count stepper.old + meet old.now (tokens_by (S.grammar stepper.old) text.now) damage.past damage.added damage.removed kept.number) }
 {
@@ -129,7 +130,8 @@ pub(crate) fn lex_edit<S: Stepper>(
     ensures tokens { OnOk result (tokens.new.items ≡ tokens_by (S.grammar stepper.old) (apply text.now start stop insert.now)) }
     ensures same { OnErr result (tokens.new.items ≡ tokens.old.items) }
     ensures landmarks { IfOk result (λ r. AreBounds tokens.new.items r.landmarks) }
-    ensures relexed { IfOk result (λ r. r.relexed ≡ relexed_of (S.grammar stepper.old) text.now start stop insert.now) }
+    ensures relexed { IfOk result
+        (λ r. r.relexed ≡ relexed_of (S.grammar stepper.old) text.now start stop insert.now) }
     ensures count { IfOk result (λ r. S.count stepper.new ≡ S.count stepper.old + r.relexed.lexed) }
     ensures rose { S.count stepper.old ≤ S.count stepper.new }
     ensures few { IfErr result (λ _. S.count stepper.new ≤ S.count stepper.old + (relexed_of (S.grammar stepper.old) text.now start stop insert.now).lexed) }

@@ -31,7 +31,8 @@ impl Landmarks {
 
     /// Remembers the bound, in place of the one in the same share of a text of `len` bytes.
     pub(crate) fn remember(&mut self, bound: Bound, len: usize)
-        ensures { (tokens : List Token) → AreBounds tokens self.old → IsBound tokens bound → AreBounds tokens self.new }
+        ensures { (tokens : List Token) → AreBounds tokens self.old → IsBound tokens bound
+            → AreBounds tokens self.new }
     {
         let share = len / COUNT + 1;
         let index = (bound.place / share).min(COUNT - 1);
@@ -55,7 +56,8 @@ impl Landmarks {
     /// `now`. One that stood between is `kept`.
     pub(crate) fn after(&self, kept: Bound, met: Bound, now: Bound) -> Landmarks
         requires { All (IsMovable met now) self.now.bounds }
-        ensures { (old new : List Token) → IsReplaced old new kept met now → AreBounds old self.now → AreBounds new result }
+        ensures { (old new : List Token) → IsReplaced old new kept met now → AreBounds old self.now
+            → AreBounds new result }
     {
         let mut bounds = [kept; COUNT];
         for (i, bound) in self.bounds.iter().enumerate() {
@@ -68,7 +70,8 @@ impl Landmarks {
 /// Where the bound is after an edit that keeps the tokens up to `kept`, and those from `met` on, which is then `now`.
 fn move_bound(bound: Bound, kept: Bound, met: Bound, now: Bound) -> Bound
     requires { IsMovable met now bound }
-    ensures { (old new : List Token) → IsReplaced old new kept met now → IsBound old bound → IsBound new result }
+    ensures { (old new : List Token) → IsReplaced old new kept met now → IsBound old bound
+        → IsBound new result }
 {
     if bound.number <= kept.number {
         bound

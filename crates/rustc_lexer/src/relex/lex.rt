@@ -22,7 +22,8 @@ pub(crate) fn lex_all<S: Stepper>(
     requires fits { Fits text.now }
     ensures tokens { IfOk result (λ r. r.0.items ≡ tokens_by (S.grammar stepper.old) text.now) }
     ensures landmarks { IfOk result (λ r. AreBounds r.0.items r.1) }
-    ensures count { IfOk result (λ r. S.count stepper.new ≡ S.count stepper.old + length r.0.items) }
+    ensures count { IfOk result
+        (λ r. S.count stepper.new ≡ S.count stepper.old + length r.0.items) }
     ensures grammar { S.grammar stepper.new ≡ S.grammar stepper.old }
     ensures number { S.number stepper.new ≡ S.number stepper.old }
 {
