@@ -138,13 +138,16 @@ literal_flags (RawStr n_hashes) = has_count n_hashes
 literal_flags (RawByteStr n_hashes) = has_count n_hashes
 literal_flags (RawCStr n_hashes) = has_count n_hashes
 
+abbrev pub frontmatter_flags : Bool → Bool → ℕ
+frontmatter_flags has_invalid_preceding_whitespace invalid_infostring = flag 32 has_invalid_preceding_whitespace + flag 64 invalid_infostring
+
 -- the sum of the bits: 1 terminated, 2 an integer with no digit, 4 an exponent with no digit, 8 a raw string that is not
 -- refused, 16 a lifetime that starts with a number, 32 white space before a frontmatter, 64 a bad infostring
 unfoldable pub flags_of : TokenKind → ℕ
 flags_of (BlockComment doc_style terminated) = flag 1 terminated
 flags_of (Literal kind suffix_start) = literal_flags kind
 flags_of (Lifetime starts_with_number) = flag 16 starts_with_number
-flags_of (Frontmatter has_invalid_preceding_whitespace invalid_infostring) = flag 32 has_invalid_preceding_whitespace + flag 64 invalid_infostring
+flags_of (Frontmatter has_invalid_preceding_whitespace invalid_infostring) = frontmatter_flags has_invalid_preceding_whitespace invalid_infostring
 flags_of kind = 0
 
 -- a token as numbers

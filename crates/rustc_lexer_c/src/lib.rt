@@ -10,4 +10,6 @@ pub mod classes;
 pub mod places;
 pub mod raw_str;
 pub mod status;
+#[cfg(test)]
+mod tests;
 pub mod token;

@@ -1,6 +1,5 @@
 //! Tokens as numbers.
 ghost use Rattle.std.specs.Prelude.{◌≡◌};
-ghost use Rattle.rustc_lexer.specs.State.{suffix_start_of};
 ghost use Rattle.rustc_lexer_c.specs.Numbers as numbers;
 
 use rustc_lexer::{Base, DocStyle, LiteralKind, Token, TokenKind};
@@ -29,30 +28,54 @@ pub struct CToken {
 }
 
 /// The token as numbers.
-#[tactic(auto, unfolding(crate::specs::Numbers::token_numbers))]
+#[inline(always)]
+#[tactic(auto, unfolding(crate::specs::Numbers::token_numbers, crate::specs::Numbers::kind_number, crate::specs::Numbers::literal_of, crate::specs::Numbers::base_of, crate::specs::Numbers::style_of, crate::specs::Numbers::hashes_of, crate::specs::Numbers::flags_of))]
 pub(crate) fn token_numbers(token: Token) -> CToken
     ensures { result ≡ numbers.token_numbers token }
 {
-    CToken {
+    let bare = CToken {
         len: token.len,
-        suffix_start: suffix_start(token.kind),
+        suffix_start: 0,
         kind: kind_number(token.kind),
-        literal_kind: literal_kind(token.kind),
-        base: base(token.kind),
-        doc_style: doc_style(token.kind),
-        n_hashes: n_hashes(token.kind),
-        flags: flags(token.kind),
-    }
-}
-
-/// Where the suffix of a literal begins.
-#[inline(always)]
-fn suffix_start(kind: TokenKind) -> u32
-    ensures { result ≡ suffix_start_of kind }
-{
-    match kind {
-        TokenKind::Literal { suffix_start, .. } => suffix_start,
-        _ => 0,
+        literal_kind: 0,
+        base: 0,
+        doc_style: 0,
+        n_hashes: 0,
+        flags: 0,
+    };
+    match token.kind {
+        TokenKind::LineComment { doc_style } => CToken {
+            doc_style: style_number(doc_style),
+            ..bare
+        },
+        TokenKind::BlockComment {
+            doc_style,
+            terminated,
+        } => CToken {
+            doc_style: style_number(doc_style),
+            flags: flag(1, terminated),
+            ..bare
+        },
+        TokenKind::Frontmatter {
+            has_invalid_preceding_whitespace,
+            invalid_infostring,
+        } => CToken {
+            flags: frontmatter_flags(has_invalid_preceding_whitespace, invalid_infostring),
+            ..bare
+        },
+        TokenKind::Literal { kind, suffix_start } => CToken {
+            suffix_start,
+            literal_kind: literal_number(kind),
+            base: literal_base(kind),
+            n_hashes: literal_hashes(kind),
+            flags: literal_flags(kind),
+            ..bare
+        },
+        TokenKind::Lifetime { starts_with_number } => CToken {
+            flags: flag(16, starts_with_number),
+            ..bare
+        },
+        _ => bare,
     }
 }
 
@@ -109,15 +132,12 @@ fn kind_number(kind: TokenKind) -> u8
     }
 }
 
-/// The number of a kind of literal, or 0.
+/// The number of a kind of literal.
 #[inline(always)]
-#[tactic(auto, unfolding(crate::specs::Numbers::literal_of, crate::specs::Numbers::literal_number))]
-fn literal_kind(kind: TokenKind) -> u8
-    ensures { result ≡ numbers.literal_of kind }
+#[tactic(auto, unfolding(crate::specs::Numbers::literal_number))]
+fn literal_number(kind: LiteralKind) -> u8
+    ensures { result ≡ numbers.literal_number kind }
 {
-    let TokenKind::Literal { kind, .. } = kind else {
-        return 0;
-    };
     match kind {
         LiteralKind::Int { .. } => 1,
         LiteralKind::Float { .. } => 2,
@@ -134,13 +154,10 @@ fn literal_kind(kind: TokenKind) -> u8
 
 /// The base of a number, or 0.
 #[inline(always)]
-#[tactic(auto, unfolding(crate::specs::Numbers::base_of, crate::specs::Numbers::literal_base))]
-fn base(kind: TokenKind) -> u8
-    ensures { result ≡ numbers.base_of kind }
+#[tactic(auto, unfolding(crate::specs::Numbers::literal_base))]
+fn literal_base(kind: LiteralKind) -> u8
+    ensures { result ≡ numbers.literal_base kind }
 {
-    let TokenKind::Literal { kind, .. } = kind else {
-        return 0;
-    };
     match kind {
         LiteralKind::Int { base, .. } | LiteralKind::Float { base, .. } => base_number(base),
         _ => 0,
@@ -160,20 +177,6 @@ fn base_number(base: Base) -> u8
     }
 }
 
-/// The style of a doc comment, or 0.
-#[inline(always)]
-#[tactic(auto, unfolding(crate::specs::Numbers::style_of))]
-fn doc_style(kind: TokenKind) -> u8
-    ensures { result ≡ numbers.style_of kind }
-{
-    match kind {
-        TokenKind::LineComment { doc_style } | TokenKind::BlockComment { doc_style, .. } => {
-            style_number(doc_style)
-        }
-        _ => 0,
-    }
-}
-
 /// A style as a number.
 #[inline(always)]
 fn style_number(doc_style: Option<DocStyle>) -> u8
@@ -188,13 +191,10 @@ fn style_number(doc_style: Option<DocStyle>) -> u8
 
 /// The hashes of a raw string that is not refused, or 0.
 #[inline(always)]
-#[tactic(auto, unfolding(crate::specs::Numbers::hashes_of, crate::specs::Numbers::literal_hashes))]
-fn n_hashes(kind: TokenKind) -> u8
-    ensures { result ≡ numbers.hashes_of kind }
+#[tactic(auto, unfolding(crate::specs::Numbers::literal_hashes))]
+fn literal_hashes(kind: LiteralKind) -> u8
+    ensures { result ≡ numbers.literal_hashes kind }
 {
-    let TokenKind::Literal { kind, .. } = kind else {
-        return 0;
-    };
     match kind {
         LiteralKind::RawStr { n_hashes }
         | LiteralKind::RawByteStr { n_hashes }
@@ -203,26 +203,15 @@ fn n_hashes(kind: TokenKind) -> u8
     }
 }
 
-/// The sum of the flags of a kind.
-#[inline(always)]
-#[tactic(auto, unfolding(crate::specs::Numbers::flags_of))]
-fn flags(kind: TokenKind) -> u8
-    ensures { result ≡ numbers.flags_of kind }
+/// The flags of a frontmatter.
+fn frontmatter_flags(invalid_whitespace: bool, invalid_infostring: bool) -> u8
+    ensures { result ≡ numbers.frontmatter_flags invalid_whitespace invalid_infostring }
 {
-    match kind {
-        TokenKind::BlockComment { terminated, .. } => flag(1, terminated),
-        TokenKind::Literal { kind, .. } => literal_flags(kind),
-        TokenKind::Lifetime { starts_with_number } => flag(16, starts_with_number),
-        TokenKind::Frontmatter {
-            has_invalid_preceding_whitespace,
-            invalid_infostring,
-        } => match (has_invalid_preceding_whitespace, invalid_infostring) {
-            (false, false) => 0,
-            (true, false) => 32,
-            (false, true) => 64,
-            (true, true) => 96,
-        },
-        _ => 0,
+    match (invalid_whitespace, invalid_infostring) {
+        (false, false) => 0,
+        (true, false) => 32,
+        (false, true) => 64,
+        (true, true) => 96,
     }
 }
 

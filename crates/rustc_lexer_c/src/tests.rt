@@ -1,0 +1,66 @@
+//! Tests of the numbers that cross to C.
+use crate::batch::{CPlace, rustc_lexer_tokens};
+use crate::token::CToken;
+use std::process::Abort;
+
+const NO_TOKEN: CToken = CToken {
+    len: 0,
+    suffix_start: 0,
+    kind: 0,
+    literal_kind: 0,
+    base: 0,
+    doc_style: 0,
+    n_hashes: 0,
+    flags: 0,
+};
+
+/// The tokens of a text, which has `count` of them.
+fn batch(rt: &impl Abort, text: &[u8], frontmatter_allowed: u32, count: usize) -> [CToken; 32] {
+    let mut place = CPlace {
+        at: 0,
+        frontmatter_allowed,
+    };
+    let mut room = [NO_TOKEN; 32];
+    let mut written = 0;
+    assert_eq!(rt;
+        rustc_lexer_tokens(text, &mut place, &mut room, &mut written),
+        0
+    );
+    assert_eq!(rt; written, count);
+    assert_eq!(rt; place.at as usize, text.len());
+    room
+}
+
+#[test]
+fn symbols(rt: HostRuntime) {
+    let room = batch(&rt, b";,.(){}[]@#~?:$=!<>-&|+*/^%", 0, 27);
+    let mut number = 15u32;
+    for token in &room[..27] {
+        assert_eq!(rt; (token.kind as u32, token.len), (number, 1));
+        number = number.wrapping_add(1);
+    }
+}
+
+#[test]
+fn literals(rt: HostRuntime) {
+    let text = b"1 2.5 'a' b'a' \"a\" b\"a\" c\"a\" r\"a\" br\"a\" cr\"a\"";
+    let room = batch(&rt, text, 0, 19);
+    let mut number = 1u32;
+    for token in &room[..19] {
+        if token.kind == 13 {
+            assert_eq!(rt; token.literal_kind as u32, number);
+            number = number.wrapping_add(1);
+        }
+    }
+    assert_eq!(rt; number, 11);
+}
+
+#[test]
+fn a_token_of_each_flag(rt: HostRuntime) {
+    let room = batch(&rt, b"/**/0x 1e r\"\"'1 ", 0, 8);
+    let flags = [1, 2, 0, 4, 0, 8, 16, 0];
+    for (token, want) in room[..8].iter().zip(flags) {
+        assert_eq!(rt; token.flags, want);
+    }
+    assert_eq!(rt; batch(&rt, b" ---", 1, 1)[0].flags, 96);
+}
