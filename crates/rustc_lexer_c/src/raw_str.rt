@@ -70,8 +70,8 @@ pub extern "C" fn rustc_lexer_validate_raw_str(
     0
 }
 
-/// Writes the guarded string that the text begins with. Where there is none, the hashes at the front are none
-/// either: they are part of the next token.
+/// Writes the guarded string that the text begins with, or zeros where there is none. Hashes at the front are then
+/// part of the next token.
 #[unsafe(no_mangle)]
 pub extern "C" fn rustc_lexer_guarded_str(text: &[u8], string: &mut CGuardedStr) -> u32
     ensures status { IsTextStatus text.now result }
