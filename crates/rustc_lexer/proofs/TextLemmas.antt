@@ -1,5 +1,5 @@
 -- What the kind of a token says of its own text.
-use Rattle.std.proofs.Common.{◌≡◌, ℕ, suc, ◌+◌, ◌≤◌, ◌<◌, ◌==◌, ◌&&◌, ◌||◌, not, Bool, true, false, true≢false, eqb-true, length-append, if◌then◌else◌, List, [], ◌∷◌, ◌++◌, length, take, drop, codes, refl, sym, ap, subst, ◌∙◌, arith, take_at, All, Result, Ok, Err, Option, Some, None, rules, length-take}
+use Rattle.std.proofs.Common.{◌≡◌, ◌↔◌, ℕ, suc, ◌+◌, ◌-◌, ◌≤◌, ◌<◌, ◌==◌, ◌&&◌, ◌||◌, not, Bool, true, false, true≢false, eqb-true, length-append, if◌then◌else◌, List, [], ◌∷◌, ◌++◌, length, take, drop, codes, refl, sym, ap, subst, ◌∙◌, arith, take_at, All, Result, Ok, Err, Option, Some, None, IsSome, rules, length-take}
 use Rattle.std.specs.Char.{encode_utf8, len_utf8, is_ascii_alphabetic, is_ascii_digit}
 use Rattle.std.specs.List.{list_all}
 use Rattle.std.specs.Option.{is_some}
@@ -30,7 +30,7 @@ use Rattle.rustc_lexer.specs.laws.Lifetime.{raw, quoted_name, unquoted_name}
 use Rattle.rustc_lexer.specs.Literal.{Body, literal}
 use Rattle.rustc_lexer.specs.Number.{Front, is_sign, is_exponent_letter, begins_fraction, or_underscore, past_sign, float_exponent, optional_exponent, fraction_digits, fraction, past_digits, front, number_kind, number_body, number}
 use Rattle.rustc_lexer.specs.Quoted.{str_body, byte_str_body, c_str_body, char_body, byte_body}
-use Rattle.rustc_lexer.specs.Raw.{accepted, is_accepted, prefix_kind, prefix_len, raw_body, raw_literal, raw_read}
+use Rattle.rustc_lexer.specs.Raw.{accepted, is_accepted, is_r, prefix_kind, prefix_len, raw_body, raw_check, raw_literal, raw_read}
 use Rattle.rustc_lexer.specs.laws.Raw.{raw_check_own}
 use Rattle.rustc_lexer.specs.laws.Reach.{run_all}
 use Rattle.rustc_lexer.specs.Scan.{after, begins, bytes_of, gives, next_is, past, run, run_len}
@@ -209,27 +209,31 @@ refused : (r : Result ℕ RawStrError) → is_some (accepted r) ≡ false → is
 refused (Ok n) bad = bad
 refused (Err e) bad = refl
 
-checked-text : (prefix : RawPrefix) (text front s : List ℕ) → length front ≡ prefix_len prefix → chars text ≡ front ++ take (raw_literal prefix s).1 s → HasRawText (prefix_kind prefix (accepted (raw_read 0 s).0)) text
-checked-text R text front s e f = subst (λ (p : ℕ). IsChecked p text (accepted (raw_read 0 s).0)) e (raw_check_own R text front s f)
-checked-text Br text front s e f = subst (λ (p : ℕ). IsChecked p text (accepted (raw_read 0 s).0)) e (raw_check_own Br text front s f)
-checked-text Cr text front s e f = subst (λ (p : ℕ). IsChecked p text (accepted (raw_read 0 s).0)) e (raw_check_own Cr text front s f)
+abbrev IsTold : ℕ → List ℕ → Option ℕ → Type 0
+IsTold prefix text n_hashes = (raw_check text prefix ≡ Ok tt) ↔ IsSome n_hashes
+
+checked-text : (prefix : RawPrefix) (text front s : List ℕ) → length front ≡ prefix_len prefix → next_is is_r (drop (prefix_len prefix - 1) (chars text)) ≡ true
+    → chars text ≡ front ++ take (raw_literal prefix s).1 s → HasRawText (prefix_kind prefix (accepted (raw_read 0 s).0)) text
+checked-text R text front s e r f = (record { some = omega arith; letter = r }, subst (λ (p : ℕ). IsTold p text (accepted (raw_read 0 s).0)) e (raw_check_own R text front s f))
+checked-text Br text front s e r f = (record { some = omega arith; letter = r }, subst (λ (p : ℕ). IsTold p text (accepted (raw_read 0 s).0)) e (raw_check_own Br text front s f))
+checked-text Cr text front s e r f = (record { some = omega arith; letter = r }, subst (λ (p : ℕ). IsTold p text (accepted (raw_read 0 s).0)) e (raw_check_own Cr text front s f))
 
 is_good-raw : (prefix : RawPrefix) (n_hashes : Option ℕ) → is_good (prefix_kind prefix n_hashes) ≡ is_some n_hashes
 is_good-raw R n_hashes = refl
 is_good-raw Br n_hashes = refl
 is_good-raw Cr n_hashes = refl
 
-raw-text : (prefix : RawPrefix) (text front s : List ℕ) → length front ≡ prefix_len prefix → chars text ≡ front ++ take (raw_literal prefix s).1 s
+raw-text : (prefix : RawPrefix) (text front s : List ℕ) → length front ≡ prefix_len prefix → next_is is_r (drop (prefix_len prefix - 1) (chars text)) ≡ true → chars text ≡ front ++ take (raw_literal prefix s).1 s
     → length text ≡ prefix_len prefix + bytes_of (raw_literal prefix s).1 s → HasText (raw_literal prefix s).0 text
-raw-text prefix text front s e f g = (
+raw-text prefix text front s e r f g = (
   λ bad. suffix_none (prefix_len prefix) (raw_body (prefix_kind prefix) s) s (refused (raw_read 0 s).0 (sym (is_good-raw prefix (accepted (raw_read 0 s).0)) ∙ bad)) ∙ sym g,
-  checked-text prefix text front s e f,
+  checked-text prefix text front s e r f,
 )
 
 raw-tells : TellsAll 114 (raw_literal R)
 raw-tells s = record {
   within = suffix_within 1 (raw_body (prefix_kind R) s) s;
-  text = λ text e f. raw-text R text (114 ∷ []) s refl e (f ∙ ap (λ (k : ℕ). k + bytes_of (raw_literal R s).1 s) (length-encode 114));
+  text = λ text e f. raw-text R text (114 ∷ []) s refl (ap (next_is is_r) e) e (f ∙ ap (λ (k : ℕ). k + bytes_of (raw_literal R s).1 s) (length-encode 114));
 }
 
 -- past a prefix of two letters, of which the second is still to come
@@ -240,7 +244,8 @@ raw_past-tells prefix c (d ∷ s) two one r = record {
   text = λ text e f.
       let all : chars text ≡ c ∷ d ∷ take n s = e ∙ ap (λ (k : ℕ). c ∷ take k (d ∷ s)) next in
       let long : length text ≡ prefix_len prefix + bytes_of n s = f ∙ (ap (λ (k : ℕ). length (encode_utf8 c) + k) more ∙ omega (arith, one, small, two)) in
-      raw-text prefix text (c ∷ d ∷ []) s (sym two) all long;
+      let r : next_is is_r (drop (prefix_len prefix - 1) (chars text)) ≡ true = ap (λ (k : ℕ). next_is is_r (drop (k - 1) (chars text))) two ∙ (ap (λ cs. next_is is_r (drop 1 cs)) all ∙ is_114) in
+      raw-text prefix text (c ∷ d ∷ []) s (sym two) r all long;
 }
   where
     n : ℕ
@@ -249,8 +254,11 @@ raw_past-tells prefix c (d ∷ s) two one r = record {
     next : 1 + n ≡ suc n
     next = omega arith
 
+    is_114 : (d == 114) ≡ true
+    is_114 = (and_parts (d == 114) true (and_parts (begins (codes "r") (d ∷ s)) (next_is is_raw_mark s) r).0).0
+
     small : length (encode_utf8 d) ≡ 1
-    small = ap (λ (x : ℕ). length (encode_utf8 x)) (eqb-true d 114 (and_parts (d == 114) true (and_parts (begins (codes "r") (d ∷ s)) (next_is is_raw_mark s) r).0).0) ∙ length-encode 114
+    small = ap (λ (x : ℕ). length (encode_utf8 x)) (eqb-true d 114 is_114) ∙ length-encode 114
 
     more : bytes_of (1 + n) (d ∷ s) ≡ length (encode_utf8 d) + bytes_of n s
     more = ap (λ (k : ℕ). bytes_of k (d ∷ s)) next ∙ bytes_of-suc n d s

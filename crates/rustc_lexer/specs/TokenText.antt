@@ -8,7 +8,7 @@ use Rattle.rustc_lexer.specs.declared.token.Token.{Token}
 use Rattle.rustc_lexer.specs.declared.token.TokenKind.{TokenKind}
 use Rattle.rustc_lexer.specs.declared.token.TokenKind.TheVariants.{Ident, RawIdent, Literal, Eof}
 use Rattle.rustc_lexer.specs.Classes.{is_ident}
-use Rattle.rustc_lexer.specs.Raw.{raw_check}
+use Rattle.rustc_lexer.specs.Raw.{StartsRaw, raw_check}
 use Rattle.rustc_lexer.specs.Scan.{begins}
 
 -- a literal that is terminated, and not refused
@@ -23,9 +23,9 @@ is_good (RawByteStr n_hashes) = is_some n_hashes
 is_good (RawCStr n_hashes) = is_some n_hashes
 is_good kind = true
 
--- the check of the text refuses nothing exactly where the number of hashes is there
+-- the text may be checked, and the check refuses nothing exactly where the number of hashes is there
 abbrev pub IsChecked : ℕ → List ℕ → Option ℕ → Type 0
-IsChecked prefix text n_hashes = (raw_check text prefix ≡ Ok tt) ↔ IsSome n_hashes
+IsChecked prefix text n_hashes = StartsRaw text prefix × ((raw_check text prefix ≡ Ok tt) ↔ IsSome n_hashes)
 
 abbrev pub HasRawText : LiteralKind → List ℕ → Type 0
 HasRawText (RawStr n_hashes) text = IsChecked 1 text n_hashes
