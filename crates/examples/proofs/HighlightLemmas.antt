@@ -16,7 +16,7 @@ without_marks_whole text tokens cut = without_marks-parts text tokens ∙ take_a
 
 module _ {W : Type 0} (took : W → List ℕ → W → Type 0) where
   -- one more call before the others
-  writes_then : (w v u : W) (bs rest : List ℕ) → took w bs v → WritesInCalls took v rest u → WritesInCalls took w (bs ++ rest) u
+  pub writes_then : (w v u : W) (bs rest : List ℕ) → took w bs v → WritesInCalls took v rest u → WritesInCalls took w (bs ++ rest) u
   writes_then w v u bs rest call others = record { parts = bs ∷ others.parts; calls = (v, call, others.calls); whole = ap (λ xs. bs ++ xs) others.whole }
 
   -- the calls that write a token between its marks, and then those that write what is left

@@ -1,5 +1,9 @@
+pub mod Arriving
 pub mod Comments
 pub mod Counter
 pub mod Highlight
 pub mod Lines
+pub mod RawStrings
+pub mod Repaint
 pub mod Slices
+pub mod Spans

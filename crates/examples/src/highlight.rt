@@ -30,7 +30,7 @@ pub fn highlight<W: fmt::Write>(text: &str, output: &mut W) -> fmt::Result
 }
 
 /// The mark before a token, which sets the style of a terminal; none where the token is left plain.
-fn opening(kind: TokenKind) -> &'static str
+pub(crate) fn opening(kind: TokenKind) -> &'static str
     ensures { result.now ≡ open_mark kind }
 {
     match kind {
@@ -44,7 +44,7 @@ fn opening(kind: TokenKind) -> &'static str
 }
 
 /// The mark past a token, which sets the style back.
-fn closing(kind: TokenKind) -> &'static str
+pub(crate) fn closing(kind: TokenKind) -> &'static str
     ensures { result.now ≡ close_mark kind }
 {
     if opening(kind).is_empty() {

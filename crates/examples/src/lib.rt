@@ -1,9 +1,13 @@
 //! Callers of `rustc_lexer`, proved: what the documents and the examples of that crate quote.
 #![tactic(auto)]
 
+pub mod arriving;
 pub mod comments;
 pub mod highlight;
 pub mod lines;
+pub mod raw_strings;
+pub mod repaint;
 pub mod slices;
+pub mod spans;
 #[cfg(test)]
 mod tests;

@@ -1,9 +1,13 @@
 //! Each caller on texts that were made by hand.
+use crate::arriving::Arriving;
 use crate::comments::skip_comments;
 use crate::highlight::highlight;
 use crate::lines::{LineCounts, count_lines};
+use crate::raw_strings::{RawFault, raw_faults};
+use crate::repaint::{edit_shown, repaint};
 use crate::slices::find_word;
-use rustc_lexer::fits;
+use crate::spans::{Span, spans};
+use rustc_lexer::{LexedText, RawStrError, Relexed, Token, TokenKind, fits};
 
 const ALL_KINDS: &str =
     "//! A crate.\n\n// A note.\n/// Doubles.\nfn f() { /* x */ }\n    \n/* one\n\n   two */\nlet s = \"a\n\nb\"; // c";
@@ -74,4 +78,72 @@ fn comments(rt: HostRuntime) {
         assert!(rt; fits(text));
         assert_eq!(rt; skip_comments(text), want);
     }
+}
+
+#[test]
+fn parts_of_a_parser(rt: HostRuntime) {
+    let text = "fn /* é */ f(x) // d";
+    let span = |kind, start, stop, text| Span {
+        kind,
+        start,
+        stop,
+        text,
+    };
+    let want = [
+        span(TokenKind::Ident, 0, 2, "fn"),
+        span(TokenKind::Ident, 12, 13, "f"),
+        span(TokenKind::OpenParen, 13, 14, "("),
+        span(TokenKind::Ident, 14, 15, "x"),
+        span(TokenKind::CloseParen, 15, 16, ")"),
+    ];
+    assert!(rt; fits(text));
+    let found = spans(rt.alloc(), text).expect(&rt, "memory");
+    assert_eq!(rt; found.as_slice(), want.as_slice());
+}
+
+#[test]
+fn refused_raw_strings(rt: HostRuntime) {
+    let text = "r#\"a\"# br##\"abc\"# ";
+    let want = [RawFault {
+        start: 7,
+        error: RawStrError::NoTerminator {
+            expected: 2,
+            found: 1,
+            possible_terminator_offset: Some(9),
+        },
+    }];
+    assert!(rt; fits(text));
+    let found = raw_faults(rt.alloc(), text).expect(&rt, "memory");
+    assert_eq!(rt; found.as_slice(), want.as_slice());
+}
+
+#[test]
+fn pieces_that_arrive(rt: HostRuntime) {
+    let token = |kind, len| Token { kind, len };
+    let mut arriving = Arriving::new(rt.alloc());
+    let first = arriving.take("le").expect(&rt, "memory");
+    assert_eq!(rt; first.len(), 0);
+    assert!(rt; arriving.rest().len() == 2);
+    let second = arriving.take("t x").expect(&rt, "memory");
+    assert_eq!(rt; second.as_slice(), [token(TokenKind::Ident, 3)].as_slice());
+    assert_eq!(rt; arriving.rest(), " x");
+}
+
+#[test]
+fn paint_after_an_edit(rt: HostRuntime) {
+    let text = "let ab = cd + ef;";
+    let insert = "- 1 -";
+    assert!(rt; fits(text));
+    let mut lexed = LexedText::new(rt.alloc(), text).expect(&rt, "memory");
+    assert!(rt; lexed.accepts(12, 13, insert));
+    let relexed = edit_shown(&mut lexed, 12, 13, insert).expect(&rt, "memory");
+    let want = Relexed {
+        kept_front: 6,
+        lexed: 7,
+        kept_back: 3,
+    };
+    assert_eq!(rt; relexed, want);
+    let mut written = String::new(rt.alloc());
+    assert!(rt; repaint(&lexed, relexed, &mut written).is_ok());
+    assert_eq!(rt; written.as_str(), "cd - \x1b[32m1\x1b[0m -");
 }

@@ -1,0 +1,11 @@
+use Rattle.rustc_lexer.specs.declared.token.FrontmatterAllowed.TheVariants.{No}
+use Rattle.rustc_lexer.specs.State.{StandsAt}
+use Rattle.rustc_lexer.specs.Tokens.{tokens_of, tokens_left}
+use Rattle.examples.proofs.ArrivingLemmas.{IsTaken}
+use Rattle.examples.proofs.arriving.first_tokens.Given as goal
+
+abbrev pub invariant-loop-token : goal.invariant-loop-token
+invariant-loop-token l = record {
+  place : StandsAt l.text l.start l.token-iterator;
+  taken : IsTaken (tokens_of No l.text) l.first.items (tokens_left l.token-iterator) l.start l.place;
+}

@@ -1,0 +1,19 @@
+use Rattle.std.proofs.Common.{sym, ap, ◌∙◌, arith, length, subst}
+use Rattle.rustc_lexer.specs.Texts.{IsText}
+use Rattle.rustc_lexer.proofs.BoundLemmas.{tokens_le_bytes}
+use Rattle.examples.proofs.RepaintLemmas.{enough_for}
+use Rattle.examples.proofs.repaint.edit_shown.Goals as goal
+
+pub prove-unreachable-requires : goal.prove-unreachable-requires
+prove-unreachable-requires g c =
+    let text = c.args.lexed.now.text in
+    let is : IsText text = subst IsText c.text.ensures.text record { utf8 = c.text.utf8; fits = c.text.ensures.fits } in
+    let more = c.if-prove.true in
+    absurd (omega (arith, ap length c.tokens.ensures.from_scratch, ap length c.text.ensures.text, tokens_le_bytes (g.S.Stepper.law c.args.lexed.now.stepper) text is))
+
+pub returns-clause-enough : goal.returns-clause-enough
+returns-clause-enough g c =
+    let text = c.args.lexed.now.text in
+    let is : IsText text = subst IsText c.text.ensures.text record { utf8 = c.text.utf8; fits = c.text.ensures.fits } in
+    enough_for (g.S.Stepper.law c.args.lexed.now.stepper) text is c.args.start c.args.stop c.args.insert.now c.utf8.insert c.requires.accepted c.edit.result _ _ _
+    (sym c.tokens.ensures.tokens ∙ c.tokens.ensures.from_scratch) c.edit.ensures.from_scratch c.edit.ensures.text c.edit.ensures.relexed

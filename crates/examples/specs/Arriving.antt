@@ -1,0 +1,15 @@
+-- The tokens of a text that arrives in pieces.
+use Rattle.std.specs.Prelude.{ℕ, ◌≡◌, ◌≤◌, List, ◌++◌, length, take}
+use Rattle.rustc_lexer.specs.declared.token.FrontmatterAllowed.TheVariants.{No}
+use Rattle.rustc_lexer.specs.declared.token.Token.{Token}
+use Rattle.rustc_lexer.specs.Cuts.{bound}
+use Rattle.rustc_lexer.specs.Texts.{IsText}
+use Rattle.rustc_lexer.specs.Tokens.{tokens_of}
+
+-- however the text goes on, its tokens are those that were given and then those of the rest as it goes on
+abbrev pub GivesFirst : List ℕ → List Token → List ℕ → Type 0
+GivesFirst text given rest = (more : List ℕ) → IsText (text ++ more) → tokens_of No (text ++ more) ≡ given ++ tokens_of No (rest ++ more)
+
+-- the first of the tokens, up to the one that ends at the place
+abbrev pub IsFirstUpTo : ℕ → List Token → List Token → Type 0
+IsFirstUpTo place first tokens = (k : ℕ) → k ≤ length tokens → bound tokens k ≡ place → first ≡ take k tokens

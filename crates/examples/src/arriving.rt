@@ -1,0 +1,78 @@
+//! The tokens of a text that arrives in pieces.
+ghost use Rattle.std.specs.Prelude.{◌≡◌, ◌+◌, ◌<◌, ◌≤◌, ◌^◌, ◌++◌, IfOk, OnErr, List, ℕ, length, []};
+ghost use Rattle.rustc_lexer.specs.Classes.{Fits};
+ghost use Rattle.rustc_lexer.specs.Tokens.{tokens_of};
+ghost use Rattle.examples.specs.Arriving.{GivesFirst, IsFirstUpTo};
+
+use rustc_lexer::{FrontmatterAllowed, Token, settled, tokenize};
+use std::alloc::{AllocError, Global};
+use std::marker::Model;
+
+/// What has arrived of a text, but for the tokens that were given out.
+#[derive(Drop)]
+pub struct Arriving {
+    alloc: Global,
+    rest: String,
+}
+
+impl Model for Arriving {
+    ghost use Rattle.std.specs.Prelude.{List, ℕ};
+    ghost use Rattle.std.specs.String.{string_bytes};
+
+    ghost Value = { List ℕ };
+
+    ghost view = { λ a. string_bytes a.rest };
+}
+
+impl Arriving {
+    /// Nothing has arrived.
+    pub fn new(alloc: Global) -> Arriving
+        ensures { result ≡ [] }
+    {
+        Arriving {
+            alloc,
+            rest: String::new(alloc),
+        }
+    }
+
+    /// What has arrived and was not given out. Once all has arrived, its tokens are the last ones.
+    pub fn rest(&self) -> &str
+        ensures { result.now ≡ self.now }
+    {
+        self.rest.as_str()
+    }
+
+    /// Takes the next piece, and gives out the tokens that are sure by now. They are the next tokens of the whole
+    /// text, whatever comes.
+    pub fn take(&mut self, piece: &str) -> Result<Vec<Token>, AllocError>
+        requires fits { length self.old + length piece.now < 2 ^ 32 }
+        ensures given { IfOk result (λ given. GivesFirst (self.old ++ piece.now) given.items self.new) }
+        ensures few { IfOk result (λ given. length self.new ≤ length self.old + length piece.now) }
+        ensures same { OnErr result (self.new ≡ self.old) }
+    {
+        let mut text = String::with_capacity(self.alloc, self.rest.len() + piece.len())?;
+        text.push_str(self.rest.as_str())?;
+        text.push_str(piece)?;
+        let sure = settled(text.as_str());
+        let given = first_tokens(self.alloc, text.as_str(), sure)?;
+        self.rest = String::from_str(self.alloc, &text[sure..])?;
+        Ok(given)
+    }
+}
+
+/// The first tokens of a text, up to the one that ends at `place`.
+fn first_tokens(alloc: Global, text: &str, place: usize) -> Result<Vec<Token>, AllocError>
+    requires fits { Fits text.now }
+    ensures { IfOk result (λ first. IsFirstUpTo place first.items (tokens_of FrontmatterAllowed.No text.now)) }
+{
+    let mut first = Vec::new(alloc);
+    let mut start = 0;
+    for token in tokenize(text, FrontmatterAllowed::No) {
+        if start >= place {
+            break;
+        }
+        first.push(token)?;
+        start += token.len as usize;
+    }
+    Ok(first)
+}

@@ -1,0 +1,56 @@
+//! A text that is shown with its tokens marked, and painted anew where an edit changed them.
+ghost use Rattle.std.specs.Prelude.{◌≡◌, ◌-◌, OnOk, OnErr, IfOk, length};
+ghost use Rattle.std.specs.Fmt.{WritesInCalls};
+ghost use Rattle.rustc_lexer.specs.Edits.{IsEdit, apply};
+ghost use Rattle.rustc_lexer.specs.Pieces.{pieces_of};
+ghost use Rattle.examples.specs.Highlight.{with_marks};
+ghost use Rattle.examples.specs.Repaint.{changed, marked, shown_after};
+
+use crate::highlight::{closing, opening};
+use rustc_lexer::{LexedText, Relexed, Stepper};
+use std::alloc::AllocError;
+use std::fmt;
+
+/// Makes an edit, which has to be accepted. What was shown of the text is then what is to be shown, once
+/// [`repaint`] has painted the tokens that changed: those in front of them stay, and those behind them move by as
+/// many bytes as the text grew or shrank. Where memory is refused nothing has changed.
+pub fn edit_shown<S: Stepper>(
+    lexed: &mut LexedText<S>,
+    start: usize,
+    stop: usize,
+    insert: &str,
+) -> Result<Relexed, AllocError>
+    requires accepted { IsEdit lexed.old.text start stop insert.now }
+    ensures text { OnOk result (lexed.new.text ≡ apply lexed.old.text start stop insert.now) }
+    ensures same_text { OnErr result (lexed.new.text ≡ lexed.old.text) }
+    ensures same_tokens { OnErr result (lexed.new.tokens ≡ lexed.old.tokens) }
+    ensures grammar { S.grammar lexed.new.stepper ≡ S.grammar lexed.old.stepper }
+    ensures enough { IfOk result (λ relexed.
+        let new = pieces_of lexed.new.text lexed.new.tokens in
+        new ≡ shown_after relexed (length insert.now) (stop - start) (pieces_of lexed.old.text lexed.old.tokens) (changed relexed new)) }
+{
+    // So the tokens are those of the text.
+    prove!(lexed.tokens().len() <= lexed.text().len());
+    lexed.edit(start, stop, insert)
+}
+
+/// Writes the tokens that an edit changed, marked by their kinds as [`highlight`](crate::highlight) does.
+pub fn repaint<S: Stepper, W: fmt::Write>(
+    lexed: &LexedText<S>,
+    relexed: Relexed,
+    output: &mut W,
+) -> fmt::Result
+    ensures { OnOk result (WritesInCalls W.write_str_gives output.old
+        (with_marks (marked (changed relexed (pieces_of lexed.now.text lexed.now.tokens)))) output.new) }
+{
+    let mut pieces = lexed.pieces();
+    for _ in 0..relexed.kept_front {
+        pieces.next();
+    }
+    for piece in pieces.take(relexed.lexed) {
+        output.write_str(opening(piece.token.kind))?;
+        output.write_str(piece.text)?;
+        output.write_str(closing(piece.token.kind))?;
+    }
+    Ok(())
+}
