@@ -1,9 +1,10 @@
-/* Refuses one request for memory: number REFUSE, counted from 1. Loaded in front of the C library, by
-   tests/refused_memory. At the end it writes how many requests there were into the file REFUSE_COUNT. */
+/* Refuses one request for memory: number REFUSE, counted from 1; or each of them, where REFUSE is `all`. Loaded in
+   front of the C library, by tests/refused_memory and tests/program. At the end it writes how many requests there were into the file REFUSE_COUNT. */
 #define _GNU_SOURCE
 #include <dlfcn.h>
 #include <stdio.h>
 #include <stdlib.h>
+#include <string.h>
 
 static unsigned long requests;
 
@@ -11,7 +12,7 @@ static int refused(void)
 {
     const char *number = getenv("REFUSE");
     requests++;
-    return number && strtoul(number, NULL, 10) == requests;
+    return number && (strcmp(number, "all") == 0 || strtoul(number, NULL, 10) == requests);
 }
 
 void *malloc(size_t size)
