@@ -13,6 +13,15 @@ module _ (first : List ℕ → Token) (old : List Token) (text : List ℕ) (past
   abbrev pub test : ℕ → Bool
   test j = meets_at old past added removed (bound (tokens_by first text) j)
 
+  -- the bound of the old tokens that a place was followed to, and whether it meets it
+  pub record IsFollowed (place number at_place : ℕ) (met : Bool) : Type 0 where
+    pub number_bound : number ≤ length old
+    pub place_is : at_place ≡ bound old number
+    pub below : (k : ℕ) → k < number → bound old k + added < max past place + removed
+    pub met_is : met ≡ meets_at old past added removed place
+    pub past_edit : met ≡ true → past ≤ place
+    pub same_place : met ≡ true → at_place ≡ place - added + removed
+
   -- the tokens so far, and what is still to be searched
   pub record IsGoing (items : List Token) (place number at_place : ℕ) (met : Bool) : Type 0 where
     pub to : IsLexedTo first text items place
@@ -24,6 +33,20 @@ module _ (first : List ℕ → Token) (old : List Token) (text : List ℕ) (past
     pub met_is : met ≡ meets_at old past added removed place
     pub past_edit : met ≡ true → past ≤ place
     pub same_place : met ≡ true → at_place ≡ place - added + removed
+
+  going : (items : List Token) (place number at_place : ℕ) (met : Bool) → IsLexedTo first text items place → kept ≤ length items
+      → least_from test (length (tokens_by first text) - length items) (length items) ≡ meet old (tokens_by first text) past added removed kept → IsFollowed place number at_place met → IsGoing items place number at_place met
+  going items place number at_place met to kept_le search at = record {
+    to = to;
+    kept_le = kept_le;
+    search = search;
+    number_bound = at.number_bound;
+    place_is = at.place_is;
+    below = at.below;
+    met_is = at.met_is;
+    past_edit = at.past_edit;
+    same_place = at.same_place;
+  }
 
   pub kept_to : kept ≤ length old → kept ≤ length (tokens_by first text) → take kept old ≡ take kept (tokens_by first text) → IsLexedTo first text (take kept old) (bound old kept)
   kept_to few fewer same =
@@ -76,35 +99,16 @@ module _ (first : List ℕ → Token) (old : List Token) (text : List ℕ) (past
         same_place = sym at.place_is ∙ (e ∙ ap (λ p. p - added + removed) same);
       }
 
-  pub going_start : (items : List Token) (place number at_place : ℕ) (met : Bool) → kept ≤ length old → kept ≤ length (tokens_by first text) → take kept old ≡ take kept (tokens_by first text) → items ≡ take kept old → place ≡ bound old kept → number ≤ length old → at_place ≡ bound old number → ((k : ℕ) → k < number → bound old k + added < max past place + removed) → met ≡ meets_at old past added removed place → (met ≡ true → past ≤ place) → (met ≡ true → at_place ≡ place - added + removed) → IsGoing items place number at_place met
-  going_start items place number at_place met few fewer same are is_at a b c d e f = record {
-    to = rw (are, is_at) (kept_to few fewer same);
-    kept_le = rw are (omega (arith, length-take-le kept old few));
-    search = rw are (kept_search few);
-    number_bound = a;
-    place_is = b;
-    below = c;
-    met_is = d;
-    past_edit = e;
-    same_place = f;
-  }
+  pub going_start : (items : List Token) (place number at_place : ℕ) (met : Bool) → kept ≤ length old → kept ≤ length (tokens_by first text) → take kept old ≡ take kept (tokens_by first text) → items ≡ take kept old → place ≡ bound old kept → IsFollowed place number at_place met → IsGoing items place number at_place met
+  going_start items place number at_place met few fewer same are is_at at =
+      going items place number at_place met (rw (are, is_at) (kept_to few fewer same)) (rw are (omega (arith, length-take-le kept old few))) (rw are (kept_search few)) at
 
-  pub going_more : IsGrammar first → IsText text → (items more : List Token) (place next number number' at_place at_place' : ℕ) (met met' : Bool) (token : Token) → IsGoing items place number at_place met → met ≡ false → place < length text → token ≡ first (drop place text) → more ≡ items ++ token ∷ [] → next ≡ place + token.len → number' ≤ length old → at_place' ≡ bound old number' → ((k : ℕ) → k < number' → bound old k + added < max past next + removed) → met' ≡ meets_at old past added removed next → (met' ≡ true → past ≤ next) → (met' ≡ true → at_place' ≡ next - added + removed) → IsGoing more next number' at_place' met'
-  going_more law is items more place next number number' at_place at_place' met met' token at out inside token_is more_is next_is a b c d e f =
+  pub going_more : IsGrammar first → IsText text → (items more : List Token) (place next number number' at_place at_place' : ℕ) (met met' : Bool) (token : Token) → IsGoing items place number at_place met → met ≡ false → place < length text → token ≡ first (drop place text) → more ≡ items ++ token ∷ [] → next ≡ place + token.len → IsFollowed next number' at_place' met' → IsGoing more next number' at_place' met'
+  going_more law is items more place next number number' at_place at_place' met met' token at out inside token_is more_is next_is followed =
       let to : IsLexedTo first text more next = rw (more_is, next_is, token_is) (lexed_more law text items place is at.to inside) in
       let long : length more ≡ suc (length items) = rw more_is (omega (arith, length-append items (token ∷ []))) in
       let le = at.kept_le in
-      record {
-        to = to;
-        kept_le = omega arith;
-        search = sym (search_more items more place next met at.to to long at.met_is out) ∙ at.search;
-        number_bound = a;
-        place_is = b;
-        below = c;
-        met_is = d;
-        past_edit = e;
-        same_place = f;
-      }
+      going more next number' at_place' met' to (omega arith) (sym (search_more items more place next met at.to to long at.met_is out) ∙ at.search) followed
 
   -- where another token was lexed, the meeting is past it
   pub going_least : IsGrammar first → IsText text → (items : List Token) (place number at_place : ℕ) (met : Bool) → IsGoing items place number at_place met → met ≡ false → place < length text → suc (length items) ≤ meet old (tokens_by first text) past added removed kept

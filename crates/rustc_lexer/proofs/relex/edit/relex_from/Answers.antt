@@ -22,7 +22,8 @@ loop-state-init g c =
     let items : front ++ c.new-tokens.result.items ≡ front = ap (λ xs. front ++ xs) c.new-tokens.ensures.items ∙ append-nil front in
     let f = c.follow-state.ensures in (
       going_start (g.S.Stepper.grammar c.args.stepper.now) c.args.old.now c.args.text.now c.args.damage.past c.args.damage.added c.args.damage.removed c.args.kept.number
-          _ _ _ _ _ c.requires.kept_number c.requires.kept_new c.requires.kept_same items c.requires.kept_place f.number f.place f.below f.met f.past f.same_place,
+          _ _ _ _ _ c.requires.kept_number c.requires.kept_new c.requires.kept_same items c.requires.kept_place
+          record { number_bound = f.number; place_is = f.place; below = f.below; met_is = f.met; past_edit = f.past; same_place = f.same_place },
       refl,
       refl,
       rw c.new-tokens.ensures.items (omega arith),
@@ -72,7 +73,8 @@ loop-state-preserved g c =
     let f = c.follow-state-in-loop-state.ensures in (
       going_more (g.S.Stepper.grammar c.args.stepper.now) c.args.old.now c.args.text.now c.args.damage.past c.args.damage.added c.args.damage.removed c.args.kept.number law is
           (front ++ c.loop-state.tokens.items) (front ++ c.push.new.self.items) c.loop-state.place (c.loop-state.place + c.step-token.result.len) _ _ _ _ _ _ c.step-token.result
-          c.loop-state.invariant.0 (not_true _ c.loop-state-test.true) inside token more refl f.number f.place f.below f.met f.past f.same_place,
+          c.loop-state.invariant.0 (not_true _ c.loop-state-test.true) inside token more refl
+          record { number_bound = f.number; place_is = f.place; below = f.below; met_is = f.met; past_edit = f.past; same_place = f.same_place },
       c.step-token.ensures.grammar ∙ c.loop-state.invariant.1,
       c.step-token.ensures.number ∙ c.loop-state.invariant.2,
       rw c.in_ok-push.ensures.items (omega (arith, c.step-token.ensures.count, c.loop-state.invariant.3, length-append c.loop-state.tokens.items (c.step-token.result ∷ []))),
