@@ -24,6 +24,8 @@ mod kinds;
 #[cfg(test)]
 mod numbers;
 #[cfg(test)]
+mod orders;
+#[cfg(test)]
 mod original;
 #[cfg(test)]
 mod quotes;

@@ -1,9 +1,13 @@
 //! Rows that look at what is left where a request for memory is refused.
 //!
 //! Run by itself the program meets no refusal. The script `tests/refused_memory` runs it again and again, with
-//! its first request for memory refused, then its second, and so on: it has to print the same line each time.
+//! its first request for memory refused, then its second, and so on, and then with each refused: it has to print
+//! the same line each time.
 #![tactic(auto)]
 
+mod lexing;
+
+use crate::lexing::lexing_holds;
 use lex_vectors::steppers::Counting;
 use rustc_lexer::{
     Edit, EditStop, FrontmatterAllowed, LexedText, Relexed, Stepper, fits, tokenize,
@@ -214,6 +218,9 @@ fn main(rt: HostRuntime) -> io::Result<()> {
     }
     if !bad_edit_holds(rt.alloc()) {
         println!(rt; "the bad edit does not hold")?;
+    }
+    if !lexing_holds() {
+        println!(rt; "the calls that take no memory do not hold")?;
     }
     println!(rt; "rows of refused memory: done")
 }

@@ -1,0 +1,139 @@
+//! The numbers of bases, and the orders and the equality of the types of an answer.
+use rustc_lexer::{Base, GuardedStr, LiteralKind, RawStrError, Token, TokenKind};
+
+#[test]
+fn numbers_of_bases(rt: HostRuntime) {
+    assert_eq!(rt; Base::Binary as u8, 2);
+    assert_eq!(rt; Base::Octal as u8, 8);
+    assert_eq!(rt; Base::Decimal as u8, 10);
+    assert_eq!(rt; Base::Hexadecimal as u8, 16);
+}
+
+/// Asserts that of two values in a row the one that stands first is the smaller, and that each equals itself.
+macro_rules! assert_ascending {
+    ($rt:expr, $values:expr) => {
+        for (left_place, left) in $values.iter().enumerate() {
+            for (right_place, right) in $values.iter().enumerate() {
+                assert_eq!($rt; left < right, left_place < right_place, "{left_place}, {right_place}");
+                assert_eq!($rt; left.cmp(right), left_place.cmp(&right_place), "{left_place}, {right_place}");
+                assert_eq!($rt; left == right, left_place == right_place, "{left_place}, {right_place}");
+            }
+        }
+    };
+}
+
+#[test]
+fn order_of_bases(rt: HostRuntime) {
+    let bases = [Base::Binary, Base::Octal, Base::Decimal, Base::Hexadecimal];
+    assert_ascending!(rt, bases);
+}
+
+#[test]
+fn order_of_literals(rt: HostRuntime) {
+    let no_hashes = None;
+    let kinds = [
+        LiteralKind::Int {
+            base: Base::Binary,
+            empty_int: true,
+        },
+        LiteralKind::Int {
+            base: Base::Octal,
+            empty_int: false,
+        },
+        LiteralKind::Int {
+            base: Base::Octal,
+            empty_int: true,
+        },
+        LiteralKind::Float {
+            base: Base::Binary,
+            empty_exponent: true,
+        },
+        LiteralKind::Float {
+            base: Base::Decimal,
+            empty_exponent: false,
+        },
+        LiteralKind::Char { terminated: false },
+        LiteralKind::Char { terminated: true },
+        LiteralKind::Byte { terminated: false },
+        LiteralKind::Str { terminated: false },
+        LiteralKind::ByteStr { terminated: false },
+        LiteralKind::CStr { terminated: false },
+        LiteralKind::RawStr {
+            n_hashes: no_hashes,
+        },
+        LiteralKind::RawStr { n_hashes: Some(0) },
+        LiteralKind::RawStr {
+            n_hashes: Some(255),
+        },
+        LiteralKind::RawByteStr {
+            n_hashes: no_hashes,
+        },
+        LiteralKind::RawCStr {
+            n_hashes: no_hashes,
+        },
+    ];
+    assert_ascending!(rt, kinds);
+}
+
+/// A guarded string with these fields.
+fn guarded(n_hashes: u32, terminated: bool, token_len: u32) -> GuardedStr {
+    GuardedStr {
+        n_hashes,
+        terminated,
+        token_len,
+    }
+}
+
+#[test]
+fn order_of_guarded_strings(rt: HostRuntime) {
+    let strings = [
+        guarded(1, false, 9),
+        guarded(1, true, 8),
+        guarded(1, true, 9),
+        guarded(2, false, 3),
+    ];
+    assert_ascending!(rt, strings);
+}
+
+/// A refusal for want of an end, with these fields.
+fn no_terminator(expected: u32, found: u32, offset: Option<u32>) -> RawStrError {
+    RawStrError::NoTerminator {
+        expected,
+        found,
+        possible_terminator_offset: offset,
+    }
+}
+
+#[test]
+fn order_of_refusals(rt: HostRuntime) {
+    let refusals = [
+        RawStrError::InvalidStarter { bad_char: 'a' },
+        RawStrError::InvalidStarter { bad_char: 'é' },
+        no_terminator(1, 9, Some(9)),
+        no_terminator(2, 0, None),
+        no_terminator(2, 1, Some(3)),
+        no_terminator(2, 1, Some(4)),
+        RawStrError::TooManyDelimiters { found: 0 },
+        RawStrError::TooManyDelimiters { found: 256 },
+    ];
+    assert_ascending!(rt, refusals);
+}
+
+#[test]
+fn tokens_of_one_length(rt: HostRuntime) {
+    let ident = Token {
+        kind: TokenKind::Ident,
+        len: 1,
+    };
+    let unknown = Token {
+        kind: TokenKind::Unknown,
+        len: 1,
+    };
+    let longer = Token {
+        kind: TokenKind::Ident,
+        len: 2,
+    };
+    assert!(rt; ident == ident);
+    assert!(rt; !(ident == unknown));
+    assert!(rt; !(ident == longer));
+}

@@ -1,0 +1,137 @@
+//! Rows of calls that take no memory: they answer the same whichever request is refused.
+use rustc_lexer::TokenKind::{Dot, Frontmatter, Ident, Literal, Slash, UnknownPrefix, Whitespace};
+use rustc_lexer::{
+    Base, Cursor, FrontmatterAllowed, GuardedStr, LiteralKind, RawStrError, Token, TokenKind, fits,
+    is_ident, settled, starts_raw, strip_shebang, tokenize, validate_raw_str,
+};
+
+/// A text, whether a frontmatter may stand in front, and the kinds and lengths of its tokens.
+type Row = (
+    &'static str,
+    FrontmatterAllowed,
+    &'static [(TokenKind, u32)],
+);
+
+const SPACE: (TokenKind, u32) = (Whitespace, 1);
+
+const ONE: (TokenKind, u32) = (
+    Literal {
+        kind: LiteralKind::Int {
+            base: Base::Decimal,
+            empty_int: false,
+        },
+        suffix_start: 1,
+    },
+    1,
+);
+
+const OPEN_CHAR: (TokenKind, u32) = (
+    Literal {
+        kind: LiteralKind::Char { terminated: false },
+        suffix_start: 1,
+    },
+    1,
+);
+
+const CHAR: (TokenKind, u32) = (
+    Literal {
+        kind: LiteralKind::Char { terminated: true },
+        suffix_start: 3,
+    },
+    3,
+);
+
+const BLOCK: TokenKind = TokenKind::BlockComment {
+    doc_style: None,
+    terminated: true,
+};
+
+const FRONT: TokenKind = Frontmatter {
+    has_invalid_preceding_whitespace: false,
+    invalid_infostring: false,
+};
+
+static ROWS: &[Row] = &[
+    (
+        "/* /* */ */'a'",
+        FrontmatterAllowed::No,
+        &[(BLOCK, 11), CHAR],
+    ),
+    (
+        "1..2",
+        FrontmatterAllowed::No,
+        &[ONE, (Dot, 1), (Dot, 1), ONE],
+    ),
+    (
+        "'/x'",
+        FrontmatterAllowed::No,
+        &[OPEN_CHAR, (Slash, 1), (UnknownPrefix, 1), OPEN_CHAR],
+    ),
+    ("'''", FrontmatterAllowed::No, &[CHAR]),
+    (
+        "---\n//!d\nuse a",
+        FrontmatterAllowed::Yes,
+        &[(FRONT, 8), SPACE, (Ident, 3), SPACE, (Ident, 1)],
+    ),
+    (
+        "---\nq------\nfn x",
+        FrontmatterAllowed::Yes,
+        &[(FRONT, 11), SPACE, (Ident, 2), SPACE, (Ident, 1)],
+    ),
+];
+
+/// Whether the text has these tokens and no others.
+fn has_tokens(row: &Row) -> bool {
+    let (text, allowed, wanted) = *row;
+    if !fits(text) {
+        return false;
+    }
+    let mut tokens = tokenize(text, allowed);
+    for (kind, len) in wanted {
+        let want = Token {
+            kind: *kind,
+            len: *len,
+        };
+        if tokens.next() != Some(want) {
+            return false;
+        }
+    }
+    tokens.next().is_none()
+}
+
+/// Whether the check of a raw string with a prefix of one byte refuses it so.
+fn is_refused(text: &str, refusal: RawStrError) -> bool {
+    fits(text) && starts_raw(text, 1) && validate_raw_str(text, 1) == Err(refusal)
+}
+
+/// Whether the text begins with this guarded string.
+fn is_guarded(text: &str, string: GuardedStr) -> bool {
+    fits(text)
+        && Cursor::new(text, FrontmatterAllowed::No).guarded_double_quoted_string() == Some(string)
+}
+
+/// Whether each call answers what it does where there is memory.
+pub fn lexing_holds() -> bool {
+    let too_few = RawStrError::NoTerminator {
+        expected: 2,
+        found: 1,
+        possible_terminator_offset: Some(8),
+    };
+    let string = GuardedStr {
+        n_hashes: 2,
+        terminated: true,
+        token_len: 7,
+    };
+    let shebang = "#!///x\n[a]";
+    let prefix = "k# ";
+    ROWS.iter().all(|row| has_tokens(row))
+        && is_refused("r##\"abc\"#", too_few)
+        && is_refused("r#", RawStrError::InvalidStarter { bad_char: '\0' })
+        && is_guarded("##\"a\"#x", string)
+        && fits(shebang)
+        && strip_shebang(shebang) == Some(6)
+        && fits(prefix)
+        && settled(prefix) == 1
+        && is_ident("a1")
+        && !is_ident("1a")
+}
