@@ -1,0 +1,4 @@
+pub mod CallLemmas
+pub mod EscapeLemmas
+pub mod PageLemmas
+pub mod PieceLemmas

@@ -1,0 +1,47 @@
+-- A text as a page shows it, and the text that a page shows.
+use Rattle.std.specs.Prelude.{ℕ, zero, suc, ◌==◌, Bool, true, false, ◌||◌, not, if◌then◌else◌, List, [], ◌∷◌, ◌++◌, codes, length, take}
+use Rattle.std.specs.Str.{byte, bytes_eq}
+
+-- the bytes that a page would read as its own
+abbrev pub is_special : ℕ → Bool
+is_special b = b == byte "&" || b == byte "<" || b == byte ">"
+
+-- the entity for `&`, `<` or else `>`
+abbrev pub entity : ℕ → List ℕ
+entity b = if b == byte "&" then codes "&amp;" else (if b == byte "<" then codes "&lt;" else codes "&gt;")
+
+abbrev pub escaped_byte : ℕ → List ℕ
+escaped_byte b = if is_special b then entity b else b ∷ []
+
+-- the text with entities for `&`, `<` and `>`
+abbrev pub escaped : List ℕ → List ℕ
+escaped [] = []
+escaped (b ∷ bs) = escaped_byte b ++ escaped bs
+
+abbrev pub begins_with : List ℕ → List ℕ → Bool
+begins_with name bs = bytes_eq (take (length name) bs) name
+
+-- the text that is written with entities, past the first bytes, which belong to an entity
+abbrev pub unescaped_past : ℕ → List ℕ → List ℕ
+unescaped_past n [] = []
+unescaped_past (suc n) (b ∷ bs) = unescaped_past n bs
+unescaped_past zero (b ∷ bs) =
+    if not (b == byte "&") then b ∷ unescaped_past 0 bs
+    else (if begins_with (codes "amp;") bs then byte "&" ∷ unescaped_past 4 bs
+    else (if begins_with (codes "lt;") bs then byte "<" ∷ unescaped_past 3 bs
+    else (if begins_with (codes "gt;") bs then byte ">" ∷ unescaped_past 3 bs
+    else b ∷ unescaped_past 0 bs)))
+
+-- what a text with entities says
+abbrev pub unescaped : List ℕ → List ℕ
+unescaped bs = unescaped_past 0 bs
+
+-- what stands outside of tags, from inside of one or from outside
+abbrev pub untagged_from : Bool → List ℕ → List ℕ
+untagged_from inside [] = []
+untagged_from true (b ∷ bs) = untagged_from (not (b == byte ">")) bs
+untagged_from false (b ∷ bs) = if b == byte "<" then untagged_from true bs else b ∷ untagged_from false bs
+
+-- a page's text: what stands outside of tags, each of which goes from `<` to `>`
+abbrev pub untagged : List ℕ → List ℕ
+untagged bs = untagged_from false bs

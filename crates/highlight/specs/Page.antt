@@ -1,0 +1,63 @@
+-- A text with its tokens marked.
+use Rattle.std.specs.Prelude.{ℕ, List, [], ◌∷◌, ◌++◌, take, drop}
+use Rattle.rustc_lexer.specs.declared.token.Token.{Token}
+use Rattle.rustc_lexer.specs.declared.token.TokenKind.{TokenKind}
+use Rattle.rustc_lexer.specs.declared.token.FrontmatterAllowed.TheVariants.{Yes}
+use Rattle.rustc_lexer.specs.Tokens.{tokens_of}
+use Rattle.highlight.specs.declared.page.TheConstants.{HEAD, FOOT}
+use Rattle.highlight.specs.declared.style.Style.{Style}
+use Rattle.highlight.specs.declared.style.Style.TheVariants.{Html, Colours, NoColours}
+use Rattle.highlight.specs.Class.{class_of}
+use Rattle.highlight.specs.Escape.{escaped}
+use Rattle.highlight.specs.Fault.{fault_of}
+use Rattle.highlight.specs.Mark.{class_open, class_close, open_if, close_if}
+
+-- a part of a marked text: a mark, or a part of the text itself
+pub data Part : Type 0 where
+  Mark : List ℕ → Part
+  Own : List ℕ → Part
+
+-- a token: the marks that open it, its text, and the marks that close it
+abbrev pub token_parts : Style → TokenKind → List ℕ → List Part
+token_parts style kind text =
+    Mark (open_if style (fault_of kind text)) ∷ Mark (class_open style (class_of kind text)) ∷ Own text
+    ∷ Mark (class_close style (class_of kind text)) ∷ Mark (close_if style (fault_of kind text)) ∷ []
+
+-- each token of a text between its marks
+abbrev pub parts : Style → List ℕ → List Token → List Part
+parts style text [] = []
+parts style text (token ∷ tokens) = token_parts style token.kind (take token.len text) ++ parts style (drop token.len text) tokens
+
+-- a part of the text as it is written: in a page with entities, in a terminal as it is
+abbrev pub shown : Style → List ℕ → List ℕ
+shown Html text = escaped text
+shown Colours text = text
+shown NoColours text = text
+
+abbrev pub with_marks : Style → List Part → List ℕ
+with_marks style [] = []
+with_marks style (Mark bytes ∷ ps) = bytes ++ with_marks style ps
+with_marks style (Own bytes ∷ ps) = shown style bytes ++ with_marks style ps
+
+abbrev pub without_marks : List Part → List ℕ
+without_marks [] = []
+without_marks (Mark bytes ∷ ps) = without_marks ps
+without_marks (Own bytes ∷ ps) = bytes ++ without_marks ps
+
+-- the text with its tokens marked
+abbrev pub marked : Style → List ℕ → List Token → List ℕ
+marked style text tokens = with_marks style (parts style text tokens)
+
+-- what stands before the text: in a page its head, in a terminal nothing
+abbrev pub head : Style → List ℕ
+head Html = HEAD.now
+head style = []
+
+-- what stands past it
+abbrev pub foot : Style → List ℕ
+foot Html = FOOT.now
+foot style = []
+
+-- all that is written of a text
+abbrev pub printed : Style → List ℕ → List ℕ
+printed style text = head style ++ (marked style text (tokens_of Yes text) ++ foot style)

@@ -1,0 +1,136 @@
+//! A text with its tokens marked, for a terminal or as a page.
+ghost use Rattle.std.specs.Prelude.{◌≡◌, OnOk};
+ghost use Rattle.std.specs.Fmt.{WritesInCalls};
+ghost use Rattle.rustc_lexer.specs.Classes.{Fits};
+ghost use Rattle.rustc_lexer.specs.Tokens.{tokens_of};
+ghost use Rattle.highlight.specs.Escape.{unescaped, untagged};
+ghost use Rattle.highlight.specs.Page.{foot, head, marked, parts, printed, shown, token_parts, with_marks, without_marks};
+
+use crate::class::class_of;
+use crate::escape::write_escaped;
+use crate::fault::fault_of;
+use crate::style::{Style, class_close, class_open, close_fault, open_fault};
+use rustc_lexer::{FrontmatterAllowed, TokenKind, tokenize};
+use std::fmt;
+
+/// What stands in a page before the text. A page drops the newline past `<pre>`.
+const HEAD: &str = "<!DOCTYPE html>
+<html lang=\"en\">
+<head>
+<meta charset=\"utf-8\">
+<meta name=\"viewport\" content=\"width=device-width\">
+<title>Rust</title>
+<style>
+:root { color-scheme: light dark; --back: #ffffff; --plain: #24292f; --comment: #6e7781; --doc: #2f6f4f;
+  --keyword: #a0268c; --type: #0b5cad; --text: #0a6b2d; --number: #9a4a00; --lifetime: #8a5a00; --fault: #c4162a; }
+@media (prefers-color-scheme: dark) {
+  :root { --back: #16181d; --plain: #d7dae0; --comment: #858d99; --doc: #83b79b; --keyword: #d58fe0;
+    --type: #79b8ff; --text: #8fd18b; --number: #f0a868; --lifetime: #e5c07b; --fault: #ff7b85; }
+}
+body { margin: 0; background: var(--back); color: var(--plain); }
+pre { margin: 0; padding: 1em 1.5em; font: 14px/1.5 ui-monospace, \"DejaVu Sans Mono\", monospace; tab-size: 4;
+  white-space: pre-wrap; overflow-wrap: anywhere; }
+.comment { color: var(--comment); font-style: italic; }
+.doc { color: var(--doc); font-style: italic; }
+.keyword { color: var(--keyword); font-weight: bold; }
+.type { color: var(--type); }
+.text { color: var(--text); }
+.number { color: var(--number); }
+.lifetime { color: var(--lifetime); }
+mark { background: none; color: inherit; text-decoration: underline wavy var(--fault); }
+mark::before { content: attr(title); float: right; margin-left: 2em; color: var(--fault);
+  font-family: sans-serif; font-size: 12px; line-height: 21px; }
+</style>
+</head>
+<body>
+<pre>
+";
+
+/// What stands in a page past the text.
+const FOOT: &str = "</pre>
+</body>
+</html>
+";
+
+/// Writes a whole text with its tokens marked, as a page where the style is that of pages.
+pub fn write_text<W: fmt::Write>(style: Style, text: &str, output: &mut W) -> fmt::Result
+    requires fits { Fits text.now }
+    ensures { OnOk result (WritesInCalls W.write_str_gives output.old (printed style text.now) output.new) }
+{
+    output.write_str(head(style))?;
+    write_marked(style, text, output)?;
+    output.write_str(foot(style))
+}
+
+/// What stands before the text.
+fn head(style: Style) -> &'static str
+    ensures { result.now ≡ head style }
+{
+    match style {
+        Style::Html => HEAD,
+        Style::Colours | Style::NoColours => "",
+    }
+}
+
+/// What stands past the text.
+fn foot(style: Style) -> &'static str
+    ensures { result.now ≡ foot style }
+{
+    match style {
+        Style::Html => FOOT,
+        Style::Colours | Style::NoColours => "",
+    }
+}
+
+/// Writes the tokens of a whole text between their marks: in colours by the class of each, and with a sentence at each that
+/// has a fault.
+///
+/// Without the marks it is the text. In a page the text is what stands outside of the tags, with its entities
+/// undone.
+#[tactic(auto, using(crate::proofs::PageLemmas::without_marks_whole, crate::proofs::PageLemmas::page_text))]
+pub fn write_marked<W: fmt::Write>(style: Style, text: &str, output: &mut W) -> fmt::Result
+    requires fits { Fits text.now }
+    ensures written { OnOk result (WritesInCalls W.write_str_gives output.old
+        (marked style text.now (tokens_of FrontmatterAllowed.Yes text.now)) output.new) }
+    ensures text { without_marks (parts style text.now (tokens_of FrontmatterAllowed.Yes text.now)) ≡ text.now }
+    ensures page { unescaped (untagged (marked Style.Html text.now (tokens_of FrontmatterAllowed.Yes text.now))) ≡ text.now }
+{
+    let mut start = 0;
+    for token in tokenize(text, FrontmatterAllowed::Yes) {
+        let end = start + token.len as usize;
+        write_token(style, token.kind, &text[start..end], output)?;
+        start = end;
+    }
+    Ok(())
+}
+
+/// Writes a token between its marks.
+fn write_token<W: fmt::Write>(
+    style: Style,
+    kind: TokenKind,
+    text: &str,
+    output: &mut W,
+) -> fmt::Result
+    requires fits { Fits text.now }
+    ensures { OnOk result (WritesInCalls W.write_str_gives output.old (with_marks style (token_parts style kind text.now)) output.new) }
+{
+    let class = class_of(kind, text);
+    let fault = fault_of(kind, text);
+    open_fault(style, fault, output)?;
+    output.write_str(class_open(style, class))?;
+    write_shown(style, text, output)?;
+    output.write_str(class_close(style, class))?;
+    close_fault(style, fault, output)
+}
+
+/// Writes a part of the text: in a page with entities, in a terminal as it is.
+#[tactic(auto, using(crate::proofs::CallLemmas::tried_call))]
+fn write_shown<W: fmt::Write>(style: Style, text: &str, output: &mut W) -> fmt::Result
+    ensures { OnOk result (WritesInCalls W.write_str_gives output.old (shown style text.now) output.new) }
+{
+    match style {
+        Style::Html => write_escaped(text, output),
+        Style::Colours => output.write_str(text),
+        Style::NoColours => output.write_str(text),
+    }
+}
