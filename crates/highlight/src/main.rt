@@ -9,6 +9,8 @@ mod page;
 mod run;
 mod stop;
 mod style;
+#[cfg(test)]
+mod tests;
 
 use job::{Job, read_job};
 use run::{run, write_out};

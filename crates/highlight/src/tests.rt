@@ -1,0 +1,188 @@
+//! Marks, the sentence of each fault, words, and ends that fail.
+use crate::job::{Job, read_job};
+use crate::page::write_marked;
+use crate::run::run;
+use crate::stop::{Stop, status};
+use crate::style::Style;
+use rustc_lexer::fits;
+use std::alloc::{AllocError, Global};
+use std::io;
+use std::io::{Error, ErrorKind, Write};
+use std::test::Fail;
+
+/// Whether this is what is written of the text.
+fn is_written(alloc: Global, style: Style, text: &str, want: &str) -> bool {
+    let mut written = String::new(alloc);
+    fits(text) && write_marked(style, text, &mut written).is_ok() && written.as_str() == want
+}
+
+#[test]
+fn sentences(rt: HostRuntime) {
+    let rows = [
+        ("a /* b", "a /* b <- nothing closes this comment"),
+        (
+            " ---\n---\n",
+            " ---\n--- <- white space stands before this frontmatter\n",
+        ),
+        (
+            "---a b\n---\n",
+            "---a b\n--- <- the first line of this frontmatter holds more than a name\n",
+        ),
+        ("a🙂 b", "a🙂 <- this name holds an emoji b"),
+        ("z\"a\"", "z <- no literal has this prefix\"a\""),
+        ("'z#", "'z <- no lifetime has this prefix#"),
+        ("##a", "## <- these marks are reserved for strings to comea"),
+        (
+            "'1a",
+            "'1a <- this lifetime begins with a digit or holds an emoji",
+        ),
+        ("¬", "¬ <- no token begins with this character"),
+        ("0x;", "0x <- this number has no digits;"),
+        ("1e;", "1e <- the exponent has no digits;"),
+        ("'", "' <- nothing closes this character"),
+        ("b'", "b' <- nothing closes this byte"),
+        ("\"a", "\"a <- nothing closes this string"),
+        ("b\"a", "b\"a <- nothing closes this string"),
+        ("c\"a", "c\"a <- nothing closes this string"),
+        ("r#~", "r#~ <- a raw string begins with hashes and a quote"),
+        (
+            "br#\"a",
+            "br#\"a <- nothing closes this raw string: a quote and 1 # would",
+        ),
+        (
+            "r##\"abc\"#",
+            "r##\"abc\"# <- a quote and 2 # would close this raw string; at byte 8 it has 1",
+        ),
+    ];
+    for (text, want) in rows {
+        assert!(rt;
+            is_written(rt.alloc(), Style::NoColours, text, want),
+            "at {text:?}"
+        );
+    }
+}
+
+#[test]
+fn too_many_hashes(rt: HostRuntime) -> Result<(), Fail> {
+    let hashes = "#".repeat(rt.alloc(), 256)?;
+    let text = format!(in rt.alloc(); "r{hashes}\"a\"{hashes}")?;
+    let want = format!(in rt.alloc();
+        "{text} <- a raw string has at most 255 hashes on each side, and this one 256"
+    )?;
+    assert!(rt; is_written(rt.alloc(), Style::NoColours, text.as_str(), want.as_str()));
+    Ok(())
+}
+
+#[test]
+fn colours(rt: HostRuntime) {
+    let rows = [
+        ("", ""),
+        (
+            "let x: Vec<u8> = 'é'; // b",
+            "\x1b[35mlet\x1b[0m x: \x1b[1;34mVec\x1b[0m<u8> = \x1b[32m'é'\x1b[0m; \x1b[90m// b\x1b[0m",
+        ),
+        (
+            "&'a 1 /// d",
+            "&\x1b[33m'a\x1b[0m \x1b[36m1\x1b[0m \x1b[36m/// d\x1b[0m",
+        ),
+        (
+            "0x;",
+            "\x1b[4;31m\x1b[36m0x\x1b[0m\x1b[0;31m <- this number has no digits\x1b[0m;",
+        ),
+    ];
+    for (text, want) in rows {
+        assert!(rt;
+            is_written(rt.alloc(), Style::Colours, text, want),
+            "at {text:?}"
+        );
+    }
+}
+
+#[test]
+fn tags(rt: HostRuntime) {
+    let rows = [
+        ("a<b>&&c", "a&lt;b&gt;&amp;&amp;c"),
+        ("\"&amp;\"", "<span class=\"text\">\"&amp;amp;\"</span>"),
+        (
+            "r##\"<\"#",
+            "<mark title=\"a quote and 2 # would close this raw string; at byte 6 it has 1\"><span class=\"text\">r##\"&lt;\"#</span></mark>",
+        ),
+        ("é", "é"),
+    ];
+    for (text, want) in rows {
+        assert!(rt;
+            is_written(rt.alloc(), Style::Html, text, want),
+            "at {text:?}"
+        );
+    }
+}
+
+/// The job that the words ask for.
+fn job_of(alloc: Global, texts: &[&str], colours: bool) -> Result<Option<Job>, AllocError> {
+    let mut words = Vec::new(alloc);
+    for text in texts {
+        words.push(String::from_str(alloc, text)?)?;
+    }
+    Ok(read_job(words.as_slice(), colours))
+}
+
+#[test]
+fn words(rt: HostRuntime) -> Result<(), Fail> {
+    let alloc = rt.alloc();
+    assert_eq!(rt; job_of(alloc, &[], true)?, Some(Job::Show(Style::Colours)));
+    assert_eq!(rt;
+        job_of(alloc, &[], false)?,
+        Some(Job::Show(Style::NoColours))
+    );
+    assert_eq!(rt;
+        job_of(alloc, &["--html"], false)?,
+        Some(Job::Show(Style::Html))
+    );
+    assert_eq!(rt; job_of(alloc, &["--help"], true)?, Some(Job::Help));
+    assert_eq!(rt; job_of(alloc, &["html"], true)?, None);
+    assert_eq!(rt; job_of(alloc, &["--html", "--help"], true)?, None);
+    Ok(())
+}
+
+/// Takes nothing, and fails with an error of this kind.
+#[derive(Drop)]
+struct FailingWriter(ErrorKind);
+
+impl Write for FailingWriter {
+    fn write(&mut self, _buf: &[u8]) -> io::Result<usize> {
+        Err(Error::from(self.0))
+    }
+
+    fn flush(&mut self) -> io::Result<()> {
+        Ok(())
+    }
+}
+
+#[test]
+fn writers_that_fail(rt: HostRuntime) {
+    let rows = [
+        (ErrorKind::BrokenPipe, Stop::ClosedPipe, 0),
+        (ErrorKind::Other, Stop::Write, 7),
+    ];
+    for (kind, stop, ends) in rows {
+        let mut input: &[u8] = b"fn";
+        let answer = run(
+            rt.alloc(),
+            Style::Colours,
+            &mut input,
+            &mut FailingWriter(kind),
+        );
+        assert_eq!(rt; answer, Err(stop));
+        assert_eq!(rt; status(&stop), ends);
+    }
+}
+
+#[test]
+fn no_text(rt: HostRuntime) {
+    let mut input: &[u8] = b"a\xff";
+    let mut output = Vec::new(rt.alloc());
+    let answer = run(rt.alloc(), Style::Html, &mut input, &mut output);
+    assert_eq!(rt; answer, Err(Stop::NotUtf8));
+    assert!(rt; output.is_empty());
+    assert_eq!(rt; status(&Stop::NotUtf8), 3);
+}
