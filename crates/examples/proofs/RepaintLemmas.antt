@@ -7,7 +7,7 @@ use Rattle.rustc_lexer.specs.declared.relex.edit.Relexed.{Relexed}
 use Rattle.rustc_lexer.specs.declared.relex.pieces.Piece.{Piece}
 use Rattle.rustc_lexer.specs.declared.token.Token.{Token}
 use Rattle.rustc_lexer.specs.Cuts.{bound, tokens_by}
-use Rattle.rustc_lexer.specs.Edits.{IsEdit, apply, ends_past, front, front_from, is_bound, least_from, meet, meets_at, relexed_of}
+use Rattle.rustc_lexer.specs.Edits.{IsEdit, apply, ends_past, is_bound, kept_front, kept_front_from, least_from, meet, meets_at, relexed_of}
 use Rattle.rustc_lexer.specs.Settled.{has_two}
 use Rattle.rustc_lexer.specs.Texts.{IsGrammar, IsText}
 use Rattle.rustc_lexer.specs.Pieces.{Left, Placed, YieldsPiece, pieces_from, pieces_left, pieces_of}
@@ -42,7 +42,7 @@ module _ {W : Type 0} (took : W → List ℕ → W → Type 0) where
 
 -- two characters follow the kept front
 front-two : (text : List ℕ) (to from : ℕ) (ts : List Token) → IsUtf8 text → ((k : ℕ) → k ≤ length ts → IsCharBoundary text (from + bound ts k))
-    → (front_from text to from ts ≤ length ts) × (0 < front_from text to from ts → has_two text (from + bound ts (front_from text to from ts)) to ≡ true)
+    → (kept_front_from text to from ts ≤ length ts) × (0 < kept_front_from text to from ts → has_two text (from + bound ts (kept_front_from text to from ts)) to ≡ true)
 front-two text to from [] is inside = (omega arith, λ some. absurd (omega arith))
 front-two text to from (t ∷ ts) is inside = by_test (front-two text to (from + t.len) ts is next) (has_two text (from + t.len) to) refl
   where
@@ -50,7 +50,7 @@ front-two text to from (t ∷ ts) is inside = by_test (front-two text to (from +
     next k few = let e : from + (t.len + bound ts k) ≡ from + t.len + bound ts k = omega arith in subst (IsCharBoundary text) e (inside (suc k) (omega arith))
 
     n : ℕ
-    n = front_from text to (from + t.len) ts
+    n = kept_front_from text to (from + t.len) ts
 
     at : (k : ℕ) → from + t.len + bound ts k ≡ from + bound (t ∷ ts) (suc k)
     at k = omega arith
@@ -136,7 +136,7 @@ module _ {first : List ℕ → Token} (law : IsGrammar first) (text : List ℕ) 
   new = tokens_by first new_text
 
   abbrev kept : ℕ
-  kept = front text old start
+  kept = kept_front text old start
 
   -- whether the new tokens meet the old ones at a bound
   abbrev test : ℕ → Bool
