@@ -4,6 +4,7 @@ use Rattle.std.specs.Prelude.{IfSome, slice_get}
 use Rattle.std.specs.Str.{IsCharBoundary}
 use Rattle.std.proofs.lemmas.Bool.{and_parts, and_from, leb-true, le-leb, lt-ltb}
 use Rattle.std.proofs.lemmas.Bool.Decides.{nat_tests}
+use Rattle.rustc_lexer.specs.declared.edition.Edition.{Edition}
 use Rattle.rustc_lexer.specs.declared.relex.edit_list.Edit.{Edit as TextEdit}
 use Rattle.rustc_lexer.specs.declared.relex.edit_list.EditStop.{EditStop}
 use Rattle.rustc_lexer.specs.declared.relex.edit_list.EditStop.TheVariants.{Range, TooLong, Memory}
@@ -77,9 +78,9 @@ too_long (suc k) at text (e ∷ es) below are bad =
     (number (at + 1 + k) (at + suc k) (omega arith) EditTooLong _ (too_long k (at + 1) (applied text e) es (omega arith) are.1 bad))
 
 -- a list of edits that stops prints nothing
-pub stop-printed : (s : EditStop) (text new : List ℕ) (es : List TextEdit) → IsStop s new es → AreEdits text (take (stop_at s) es) → new ≡ apply_list text (take (stop_at s) es)
-    → IsPrinted (Err (stop_fault s)) (listed (edited_from 0 text es))
-stop-printed (Range at) text new es stop are e = ap listed (number (0 + at) at (omega arith) EditRange _ (out_of_range at 0 text es stop.0 are (subst (λ (t : List ℕ). IfSome (slice_get es at) (λ e. IsInside t e.start e.stop → ⊥)) e stop.1)))
-stop-printed (TooLong at) text new es stop are e =
-    ap listed (number (0 + at) at (omega arith) EditTooLong _ (too_long at 0 text es stop.0 are (subst (λ (t : List ℕ). IfSome (slice_get es at) (λ e. IsInside t e.start e.stop × (IsShort t e.start e.stop e.insert.now → ⊥))) e stop.1)))
-stop-printed (Memory at) text new es stop are e = tt
+pub stop-printed : (edition : Edition) (s : EditStop) (text new : List ℕ) (es : List TextEdit) → IsStop s new es → AreEdits text (take (stop_at s) es) → new ≡ apply_list text (take (stop_at s) es)
+    → IsPrinted (Err (stop_fault s)) (listed edition (edited_from 0 text es))
+stop-printed edition (Range at) text new es stop are e = ap (listed edition) (number (0 + at) at (omega arith) EditRange _ (out_of_range at 0 text es stop.0 are (subst (λ (t : List ℕ). IfSome (slice_get es at) (λ e. IsInside t e.start e.stop → ⊥)) e stop.1)))
+stop-printed edition (TooLong at) text new es stop are e =
+    ap (listed edition) (number (0 + at) at (omega arith) EditTooLong _ (too_long at 0 text es stop.0 are (subst (λ (t : List ℕ). IfSome (slice_get es at) (λ e. IsInside t e.start e.stop × (IsShort t e.start e.stop e.insert.now → ⊥))) e stop.1)))
+stop-printed edition (Memory at) text new es stop are e = tt

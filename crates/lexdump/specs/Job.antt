@@ -2,6 +2,8 @@
 use Rattle.std.specs.Prelude.{ℕ, ◌≡◌, ◌+◌, ◌*◌, ◌-◌, ◌&&◌, nat_le, if◌then◌else◌, List, [], ◌∷◌, length, map, codes, Option, Some, None}
 use Rattle.std.specs.Option.{option_map, option_zip}
 use Rattle.std.specs.Str.{all_ascii_digits, bytes_eq}
+use Rattle.rustc_lexer.specs.declared.edition.Edition.{Edition}
+use Rattle.rustc_lexer.specs.declared.edition.Edition.TheVariants.{E2015, E2018, E2021, E2024}
 use Rattle.rustc_lexer.specs.declared.relex.edit_list.Edit.{Edit as TextEdit}
 use Rattle.lexdump.specs.declared.fault.Fault.{Fault}
 use Rattle.lexdump.specs.declared.fault.Fault.TheVariants.{Arguments, Memory}
@@ -16,10 +18,10 @@ pub record Replacement : Type 0 where
 
 -- what words ask for
 pub data Command : Type 0 where
-  plain : Command
+  plain : Edition → Command
   front : Command
   shebang : Command
-  edit : List Replacement → Command
+  edit : Edition → List Replacement → Command
 
 -- the number that decimal digits write, after those of n
 abbrev pub number_after : ℕ → List ℕ → ℕ
@@ -52,26 +54,48 @@ first_replacement (start ∷ []) = None
 first_replacement (start ∷ stop ∷ []) = None
 first_replacement (start ∷ stop ∷ insert ∷ words) = option_map (λ edit. (edit, words)) (replacement_of start stop insert)
 
--- what the words after the program's name ask for: no words for the tokens of the text, `front` for those with a
--- frontmatter, `shebang` for the length of its shebang line, `edit` and one edit or more for the tokens of the edited text
+-- the edition that a year names
+abbrev pub edition_of : List ℕ → Option Edition
+edition_of year =
+    if bytes_eq year (codes "2015") then Some E2015
+    else (if bytes_eq year (codes "2018") then Some E2018
+    else (if bytes_eq year (codes "2021") then Some E2021
+    else (if bytes_eq year (codes "2024") then Some E2024
+    else None)))
+
+-- what words ask for in an edition: no words for the tokens of the text, `edit` and one edit or more for those of the
+-- edited text
+abbrev pub job_in : Edition → List (List ℕ) → Option Command
+job_in edition [] = Some (plain edition)
+job_in edition (word ∷ []) = None
+job_in edition (word ∷ start ∷ words) = if bytes_eq word (codes "edit") then option_map (edit edition) (replacements_of (start ∷ words)) else None
+
+-- the same, where the edition may be none
+abbrev pub job_by : Option Edition → List (List ℕ) → Option Command
+job_by None words = None
+job_by (Some edition) words = job_in edition words
+
+-- what the words after the program's name ask for: `front` for the tokens of the text with a frontmatter, `shebang` for the
+-- length of its shebang line, `--edition` and a year for what the words after them ask for in that edition, and else what
+-- they ask for in the newest one
 abbrev pub job_of : List (List ℕ) → Option Command
-job_of [] = Some plain
+job_of [] = Some (plain E2024)
 job_of (word ∷ []) = if bytes_eq word (codes "front") then Some front else (if bytes_eq word (codes "shebang") then Some shebang else None)
-job_of (word ∷ start ∷ words) = if bytes_eq word (codes "edit") then option_map edit (replacements_of (start ∷ words)) else None
+job_of (word ∷ second ∷ words) = if bytes_eq word (codes "--edition") then job_by (edition_of second) words else job_in E2024 (word ∷ second ∷ words)
 
 abbrev pub replacement : TextEdit → Replacement
 replacement e = record { start = e.start; stop = e.stop; insert = e.insert.now }
 
 -- what a job does, with its edits as a list
 abbrev pub command_of : Job → Command
-command_of Plain = plain
+command_of (Plain edition) = plain edition
 command_of Front = front
 command_of Shebang = shebang
-command_of (Edit edits) = edit (map replacement edits.items)
+command_of (Edit edition edits) = edit edition (map replacement edits.items)
 
 -- the words ask for edits
 abbrev pub AsksEdits : Option Command → Type 0
-AsksEdits (Some (edit edits)) = Unit {0}
+AsksEdits (Some (edit edition edits)) = Unit {0}
 AsksEdits command = ⊥
 
 -- why no job is made of words: they ask for none, or memory for their edits was refused

@@ -4,9 +4,11 @@ use Rattle.std.specs.Global.{Global}
 use Rattle.std.specs.Str.{is_utf8}
 use Rattle.std.specs.Io.KnownBytes.{Keeps, Appends}
 use Rattle.std.specs.declared.string.String.{String}
+use Rattle.rustc_lexer.specs.declared.edition.Edition.{Edition}
 use Rattle.rustc_lexer.specs.declared.relex.edit_list.Edit.{Edit as TextEdit}
-use Rattle.rustc_lexer.specs.declared.token.FrontmatterAllowed.TheVariants.{Yes, No}
+use Rattle.rustc_lexer.specs.declared.token.FrontmatterAllowed.TheVariants.{Yes}
 use Rattle.rustc_lexer.specs.EditLists.{applied}
+use Rattle.rustc_lexer.specs.Edition.{tokens_in}
 use Rattle.rustc_lexer.specs.Shebang.{shebang}
 use Rattle.rustc_lexer.specs.Tokens.{tokens_of}
 use Rattle.lexdump.specs.declared.fault.Fault.{Fault}
@@ -34,17 +36,17 @@ edited_from at text [] = Ok text
 edited_from at text (e ∷ es) =
     if not (is_inside text e) then Err (EditRange at) else (if not (is_short text e) then Err (EditTooLong at) else edited_from (at + 1) (applied text e) es)
 
--- the listing of a text
-abbrev pub listed : Result (List ℕ) Fault → Result (List ℕ) Fault
-listed (Ok text) = Ok (listing (tokens_of No text))
-listed (Err fault) = Err fault
+-- the listing of a text in an edition
+abbrev pub listed : Edition → Result (List ℕ) Fault → Result (List ℕ) Fault
+listed edition (Ok text) = Ok (listing (tokens_in edition text))
+listed edition (Err fault) = Err fault
 
 -- what is printed of a text, or why nothing is
 abbrev pub printed : Job → List ℕ → Result (List ℕ) Fault
-printed Plain text = listed (Ok text)
+printed (Plain edition) text = listed edition (Ok text)
 printed Front text = Ok (listing (tokens_of Yes text))
 printed Shebang text = Ok (shebang_line (shebang text))
-printed (Edit edits) text = listed (edited_from 0 text edits.items)
+printed (Edit edition edits) text = listed edition (edited_from 0 text edits.items)
 
 -- printing comes to that, unless memory was refused
 abbrev pub IsPrinted : Result (String Global) Fault → Result (List ℕ) Fault → Type 0

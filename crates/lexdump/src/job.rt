@@ -1,23 +1,28 @@
 //! What a run is to do.
 ghost use Rattle.std.specs.Prelude.{◌≡◌, ◌<◌, ◌↔◌, IfErr, IfOk, IsSome, IsTrue, Some, length, map, string_bytes};
 ghost use Rattle.std.specs.Option.{option_map};
-ghost use Rattle.lexdump.specs.Job.{command_of, first_replacement, job_of, place_of, replacement, replacements_of, IsJobFault};
+ghost use Rattle.lexdump.specs.Job.{command_of, edition_of, first_replacement, job_in, job_of, place_of, replacement, replacements_of, IsJobFault};
 
 use crate::fault::Fault;
-use rustc_lexer::Edit;
+use rustc_lexer::{Edit, Edition};
 use std::alloc::{AllocError, Global};
 
 /// What a run is to do with its input.
 #[derive(Drop)]
 pub enum Job<'a> {
-    /// List the tokens of the text.
-    Plain,
+    /// List the tokens of the text in an edition.
+    Plain {
+        edition: Edition,
+    },
     /// List them, where a frontmatter may stand in front.
     Front,
     /// Tell the length of the shebang line.
     Shebang,
-    /// List the tokens of the text after the edits.
-    Edit { edits: Vec<Edit<'a>> },
+    /// List the tokens of the text after the edits, in an edition.
+    Edit {
+        edition: Edition,
+        edits: Vec<Edit<'a>>,
+    },
 }
 
 /// Reads the words after the program's name. It asks for memory only for edits, and only once all words are
@@ -27,13 +32,44 @@ pub fn read_job<'a>(alloc: Global, words: &'a [String]) -> Result<Job<'a>, Fault
     ensures fault { IfErr result (λ fault. IsJobFault fault (job_of (map string_bytes words.now))) }
 {
     match words {
-        [] => Ok(Job::Plain),
         [command] if command.as_str() == "front" => Ok(Job::Front),
         [command] if command.as_str() == "shebang" => Ok(Job::Shebang),
+        [option, year, rest @ ..] if option.as_str() == "--edition" => {
+            let Some(edition) = read_edition(year.as_str()) else {
+                return Err(Fault::Arguments);
+            };
+            read_job_in(alloc, rest, edition)
+        }
+        _ => read_job_in(alloc, words, Edition::E2024),
+    }
+}
+
+/// Reads the words of a job that lists the tokens of an edition.
+fn read_job_in<'a>(alloc: Global, words: &'a [String], edition: Edition) -> Result<Job<'a>, Fault>
+    ensures job { IfOk result (λ job. job_in edition (map string_bytes words.now) ≡ Some (command_of job)) }
+    ensures fault { IfErr result (λ fault. IsJobFault fault (job_in edition (map string_bytes words.now))) }
+{
+    match words {
+        [] => Ok(Job::Plain { edition }),
+        [_] => Err(Fault::Arguments),
         [command, edits @ ..] if command.as_str() == "edit" && are_edits(edits) => Ok(Job::Edit {
+            edition,
             edits: read_edits(alloc, edits)?,
         }),
         _ => Err(Fault::Arguments),
+    }
+}
+
+/// The edition that a year names.
+fn read_edition(year: &str) -> Option<Edition>
+    ensures { result ≡ edition_of year.now }
+{
+    match year {
+        "2015" => Some(Edition::E2015),
+        "2018" => Some(Edition::E2018),
+        "2021" => Some(Edition::E2021),
+        "2024" => Some(Edition::E2024),
+        _ => None,
     }
 }
 

@@ -4,14 +4,15 @@ ghost use Rattle.lexdump.specs.Listing.{base_text, fields_text, hashes_text, lin
 ghost use Rattle.lexdump.specs.Rest.{IsRest};
 ghost use Rattle.lexdump.specs.Outcome.{edited_from, listed, IsPrinted};
 ghost use Rattle.rustc_lexer.specs.Classes.{Fits};
+ghost use Rattle.rustc_lexer.specs.Edition.{tokens_in};
 ghost use Rattle.rustc_lexer.specs.Shebang.{shebang};
 ghost use Rattle.rustc_lexer.specs.Tokens.{tokens_of};
 
 use crate::fault::Fault;
 use itoa::write_digits;
 use rustc_lexer::{
-    Base, DocStyle, Edit, FrontmatterAllowed, LexedText, LiteralKind, Stepper, Token, TokenKind,
-    strip_shebang, tokenize,
+    Base, DocStyle, Edit, Edition, FrontmatterAllowed, LexedText, LiteralKind, Stepper, Token,
+    TokenKind, strip_shebang, tokenize, tokenize_in,
 };
 use std::alloc::{AllocError, Global};
 use std::fmt;
@@ -35,6 +36,20 @@ pub fn list_tokens(
     Ok(listing)
 }
 
+/// The same of the tokens in an edition.
+pub fn list_tokens_in(alloc: Global, text: &str, edition: Edition) -> Result<String, AllocError>
+    requires fits { Fits text.now }
+    ensures { IfOk result (λ listed. string_bytes listed ≡ listing (tokens_in edition text.now)) }
+{
+    let mut listing = String::new(alloc);
+    let mut place = 0;
+    for token in tokenize_in(text, edition) {
+        push_line(&mut listing, place, token)?;
+        place += token.len;
+    }
+    Ok(listing)
+}
+
 /// The line that tells the length of the shebang line of a text.
 pub fn shebang_length(alloc: Global, text: &str) -> Result<String, AllocError>
     requires fits { Fits text.now }
@@ -46,12 +61,17 @@ pub fn shebang_length(alloc: Global, text: &str) -> Result<String, AllocError>
     }
 }
 
-/// The listing of the tokens of a text after the edits.
-pub fn list_edited(alloc: Global, text: &str, edits: &[Edit<'_>]) -> Result<String, Fault>
+/// The listing of the tokens of a text after the edits, in an edition.
+pub fn list_edited(
+    alloc: Global,
+    text: &str,
+    edition: Edition,
+    edits: &[Edit<'_>],
+) -> Result<String, Fault>
     requires { Fits text.now }
-    ensures { IsPrinted result (listed (edited_from 0 text.now edits.now)) }
+    ensures { IsPrinted result (listed edition (edited_from 0 text.now edits.now)) }
 {
-    let mut lexed = LexedText::new(alloc, text)?;
+    let mut lexed = LexedText::new_in(alloc, text, edition)?;
     lexed.edit_all(edits)?;
     Ok(list_pieces(alloc, &lexed)?)
 }

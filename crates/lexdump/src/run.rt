@@ -6,7 +6,7 @@ ghost use Rattle.lexdump.specs.Outcome.{outcome, printed, IsAnswer, IsPrinted, A
 
 use crate::fault::Fault;
 use crate::job::Job;
-use crate::listing::{list_edited, list_tokens, shebang_length};
+use crate::listing::{list_edited, list_tokens, list_tokens_in, shebang_length};
 use crate::watched::Watched;
 use rustc_lexer::FrontmatterAllowed;
 use std::alloc::Global;
@@ -47,10 +47,10 @@ fn print(alloc: Global, job: &Job<'_>, text: &str) -> Result<String, Fault>
     ensures { IsPrinted result (printed job.now text.now) }
 {
     match job {
-        Job::Plain => Ok(list_tokens(alloc, text, FrontmatterAllowed::No)?),
+        Job::Plain { edition } => Ok(list_tokens_in(alloc, text, *edition)?),
         Job::Front => Ok(list_tokens(alloc, text, FrontmatterAllowed::Yes)?),
         Job::Shebang => Ok(shebang_length(alloc, text)?),
-        Job::Edit { edits } => list_edited(alloc, text, edits.as_slice()),
+        Job::Edit { edition, edits } => list_edited(alloc, text, *edition, edits.as_slice()),
     }
 }
 

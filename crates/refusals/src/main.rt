@@ -10,7 +10,8 @@ mod lexing;
 use crate::lexing::lexing_holds;
 use lex_vectors::steppers::Counting;
 use rustc_lexer::{
-    Edit, EditStop, FrontmatterAllowed, LexedText, Relexed, Stepper, fits, tokenize,
+    Edit, EditStop, Edition, FrontmatterAllowed, LexedText, Relexed, Stepper, Steps, fits,
+    tokenize, tokenize_in,
 };
 use std::alloc::Global;
 use std::io;
@@ -207,6 +208,37 @@ fn bad_edit_holds(alloc: Global) -> bool {
     lexed.edit_all(&[edit]) == Err(EditStop::Range { at: 0 }) && is_held(&lexed, text)
 }
 
+/// Whether another edition is taken with its tokens, or nothing changes where it is refused memory.
+fn edition_holds(alloc: Global) -> bool {
+    let text = "'r#foo";
+    if !fits(text) {
+        return false;
+    }
+    let Ok(mut lexed) = LexedText::new(alloc, text) else {
+        return true;
+    };
+    let taken = lexed.set_edition(Edition::E2018);
+    let (edition, count) = match taken {
+        Ok(()) => (Edition::E2018, 3),
+        Err(_) => (Edition::E2024, 1),
+    };
+    lexed.edition() == edition && lexed.text() == text && is_held_in(&lexed, edition, count)
+}
+
+/// Whether the tokens are those of the edition, so many of them.
+fn is_held_in(lexed: &LexedText<Steps>, edition: Edition, count: usize) -> bool {
+    if !fits(lexed.text()) {
+        return false;
+    }
+    let mut tokens = tokenize_in(lexed.text(), edition);
+    for token in lexed.tokens() {
+        if tokens.next() != Some(*token) {
+            return false;
+        }
+    }
+    tokens.next().is_none() && lexed.tokens().len() == count
+}
+
 fn main(rt: HostRuntime) -> io::Result<()> {
     for (number, row) in EDITS.iter().enumerate() {
         if !edit_holds(rt.alloc(), row) {
@@ -221,6 +253,9 @@ fn main(rt: HostRuntime) -> io::Result<()> {
     }
     if !lexing_holds() {
         println!(rt; "the calls that take no memory do not hold")?;
+    }
+    if !edition_holds(rt.alloc()) {
+        println!(rt; "the other edition does not hold")?;
     }
     println!(rt; "rows of refused memory: done")
 }

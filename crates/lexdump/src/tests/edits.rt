@@ -20,7 +20,7 @@ fn edited(
 
 #[test]
 fn listings(rt: HostRuntime) -> Result<(), Fail> {
-    let rows: [(&str, &[&str], &str); 7] = [
+    let rows: [(&str, &[&str], &str); 10] = [
         (
             "ab cd ef",
             &["edit", "8", "8", "z"],
@@ -48,6 +48,17 @@ fn listings(rt: HostRuntime) -> Result<(), Fail> {
             &["edit", "9", "9", "z"],
             "0 1 Ident\n1 1 Whitespace\n2 4 InvalidIdent\n6 1 Whitespace\n7 3 Ident\n",
         ),
+        (
+            "#\"a\"",
+            &["--edition", "2021"],
+            "0 1 Pound\n1 3 Literal kind=Str terminated=true suffix_start=3\n",
+        ),
+        (
+            "'r#foo",
+            &["--edition", "2018", "edit", "6", "6", "x"],
+            "0 2 Lifetime starts_with_number=false\n2 1 Pound\n3 4 Ident\n",
+        ),
+        ("'r#foo", &["edit", "6", "6", "x"], "0 7 RawLifetime\n"),
     ];
     for (row, (text, words, want)) in rows.iter().enumerate() {
         let came = edited(&rt, words, text.as_bytes(), usize::MAX, Failure::Never)?;

@@ -2,12 +2,19 @@
 use crate::fault::{Fault, status};
 use crate::job::{Job, read_job};
 use crate::tests::words_of;
-use rustc_lexer::Edit;
+use rustc_lexer::{Edit, Edition};
 use std::test::Fail;
 
 #[test]
 fn no_words(rt: HostRuntime) {
-    assert!(rt; matches!(read_job(rt.alloc(), &[]), Ok(Job::Plain)));
+    assert!(rt;
+        matches!(
+            read_job(rt.alloc(), &[]),
+            Ok(Job::Plain {
+                edition: Edition::E2024
+            })
+        )
+    );
 }
 
 #[test]
@@ -16,6 +23,30 @@ fn one_word(rt: HostRuntime) -> Result<(), Fail> {
     assert!(rt; matches!(read_job(rt.alloc(), words.as_slice()), Ok(Job::Front)));
     let words = words_of(rt.alloc(), &["shebang"])?;
     assert!(rt; matches!(read_job(rt.alloc(), words.as_slice()), Ok(Job::Shebang)));
+    Ok(())
+}
+
+#[test]
+fn editions(rt: HostRuntime) -> Result<(), Fail> {
+    let rows = [
+        ("2015", Edition::E2015),
+        ("2018", Edition::E2018),
+        ("2021", Edition::E2021),
+        ("2024", Edition::E2024),
+    ];
+    for (year, want) in rows {
+        let words = words_of(rt.alloc(), &["--edition", year])?;
+        let Job::Plain { edition } = read_job(rt.alloc(), words.as_slice())? else {
+            return Err(Fail::new("no listing"));
+        };
+        assert_eq!(rt; edition, want);
+        let words = words_of(rt.alloc(), &["--edition", year, "edit", "6", "6", "x"])?;
+        let Job::Edit { edition, edits } = read_job(rt.alloc(), words.as_slice())? else {
+            return Err(Fail::new("no edits"));
+        };
+        assert_eq!(rt; edition, want);
+        assert_eq!(rt; edits.len(), 1);
+    }
     Ok(())
 }
 
@@ -84,7 +115,11 @@ fn edits(rt: HostRuntime) -> Result<(), Fail> {
     ];
     for (row, (texts, want)) in rows.iter().enumerate() {
         let words = words_of(rt.alloc(), texts)?;
-        let Job::Edit { edits } = read_job(rt.alloc(), words.as_slice())? else {
+        let Job::Edit {
+            edition: Edition::E2024,
+            edits,
+        } = read_job(rt.alloc(), words.as_slice())?
+        else {
             return Err(Fail::new("no edits"));
         };
         assert!(rt; edits.as_slice() == *want, "row {row}");
@@ -108,7 +143,11 @@ fn one_to_ten_digits(rt: HostRuntime) -> Result<(), Fail> {
     ];
     for (digits, want) in rows {
         let words = words_of(rt.alloc(), &["edit", digits, digits, digits])?;
-        let Job::Edit { edits } = read_job(rt.alloc(), words.as_slice())? else {
+        let Job::Edit {
+            edition: Edition::E2024,
+            edits,
+        } = read_job(rt.alloc(), words.as_slice())?
+        else {
             return Err(Fail::new("no edits"));
         };
         let want = Edit {
@@ -123,7 +162,7 @@ fn one_to_ten_digits(rt: HostRuntime) -> Result<(), Fail> {
 
 #[test]
 fn no_job(rt: HostRuntime) -> Result<(), Fail> {
-    let rows: [&[&str]; 28] = [
+    let rows: [&[&str]; 36] = [
         &[""],
         &["x"],
         &["front", "front"],
@@ -152,6 +191,14 @@ fn no_job(rt: HostRuntime) -> Result<(), Fail> {
         &["edit", "1", "2 ", "z"],
         &["edit", "1", "\u{661}", "z"],
         &["edit", "0", "0", "", "0", "+", ""],
+        &["--edition"],
+        &["--edition", "2016"],
+        &["--edition", "2018", "front"],
+        &["--edition", "2018", "shebang"],
+        &["edit", "0", "0", "x", "--edition", "2018"],
+        &["--edition", "2018", "--edition", "2018"],
+        &["--edition", "2018", "edit"],
+        &["2018"],
     ];
     for (row, texts) in rows.iter().enumerate() {
         let words = words_of(rt.alloc(), texts)?;

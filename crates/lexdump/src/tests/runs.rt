@@ -4,7 +4,13 @@ use crate::job::Job;
 use crate::run::run;
 use crate::tests::ends::{Failure, dump};
 use crate::watched::Watched;
+use rustc_lexer::Edition;
 use std::test::Fail;
+
+/// The job of a run with no words.
+const PLAIN: Job<'static> = Job::Plain {
+    edition: Edition::E2024,
+};
 
 const MAIN: &[u8] = b"fn main() {}\n";
 
@@ -13,7 +19,7 @@ const MAIN_LISTING: &[u8] =
 
 #[test]
 fn a_byte_at_a_time(rt: HostRuntime) {
-    let came = dump(&rt, &Job::Plain, MAIN, usize::MAX, Failure::Never);
+    let came = dump(&rt, &PLAIN, MAIN, usize::MAX, Failure::Never);
     assert_eq!(rt; came.answer, Ok(()));
     assert_eq!(rt; came.written.as_slice(), MAIN_LISTING);
     assert!(rt; !came.reader_failed);
@@ -24,7 +30,7 @@ fn a_byte_at_a_time(rt: HostRuntime) {
 fn whole_pieces(rt: HostRuntime) {
     let mut input = Watched::new(MAIN);
     let mut output = Watched::new(Vec::new(rt.alloc()));
-    let answer = run(rt.alloc(), &Job::Plain, &mut input, &mut output);
+    let answer = run(rt.alloc(), &PLAIN, &mut input, &mut output);
     assert_eq!(rt; answer, Ok(()));
     assert_eq!(rt; output.into_inner().as_slice(), MAIN_LISTING);
 }
@@ -46,13 +52,7 @@ fn deep_comments(rt: HostRuntime) -> Result<(), Fail> {
         for _ in 0..100_000 {
             text.push_str(mark)?;
         }
-        let came = dump(
-            &rt,
-            &Job::Plain,
-            text.as_bytes(),
-            usize::MAX,
-            Failure::Never,
-        );
+        let came = dump(&rt, &PLAIN, text.as_bytes(), usize::MAX, Failure::Never);
         assert_eq!(rt; came.answer, Ok(()));
         assert_eq!(rt; came.written.as_slice(), want.as_bytes());
     }
@@ -61,7 +61,7 @@ fn deep_comments(rt: HostRuntime) -> Result<(), Fail> {
 
 #[test]
 fn empty_input(rt: HostRuntime) {
-    let came = dump(&rt, &Job::Plain, b"", usize::MAX, Failure::Never);
+    let came = dump(&rt, &PLAIN, b"", usize::MAX, Failure::Never);
     assert_eq!(rt; came.answer, Ok(()));
     assert!(rt; came.written.is_empty());
 }
@@ -69,7 +69,7 @@ fn empty_input(rt: HostRuntime) {
 #[test]
 fn a_failing_reader(rt: HostRuntime) {
     for fails_at in 0..3 {
-        let came = dump(&rt, &Job::Plain, MAIN, fails_at, Failure::Never);
+        let came = dump(&rt, &PLAIN, MAIN, fails_at, Failure::Never);
         assert_eq!(rt; came.answer, Err(Fault::Read));
         assert!(rt; came.reader_failed);
         assert!(rt; !came.writer_failed);
@@ -81,7 +81,7 @@ fn a_failing_reader(rt: HostRuntime) {
 fn a_failing_writer(rt: HostRuntime) {
     for at in 0..MAIN_LISTING.len() {
         for failure in [Failure::ErrorAt(at), Failure::ZeroAt(at)] {
-            let came = dump(&rt, &Job::Plain, MAIN, usize::MAX, failure);
+            let came = dump(&rt, &PLAIN, MAIN, usize::MAX, failure);
             assert_eq!(rt; came.answer, Err(Fault::Write));
             assert!(rt; came.writer_failed);
             assert!(rt; !came.reader_failed);
@@ -92,7 +92,7 @@ fn a_failing_writer(rt: HostRuntime) {
 
 #[test]
 fn a_failing_flush(rt: HostRuntime) {
-    let came = dump(&rt, &Job::Plain, MAIN, usize::MAX, Failure::Flush);
+    let came = dump(&rt, &PLAIN, MAIN, usize::MAX, Failure::Flush);
     assert_eq!(rt; came.answer, Err(Fault::Write));
     assert!(rt; came.writer_failed);
     assert_eq!(rt; came.written.as_slice(), MAIN_LISTING);
@@ -102,7 +102,7 @@ fn a_failing_flush(rt: HostRuntime) {
 fn no_text(rt: HostRuntime) {
     let texts: [&[u8]; 3] = [b"\xff", b"a\xc3", b"\xed\xa0\x80"];
     for bytes in texts {
-        let came = dump(&rt, &Job::Plain, bytes, usize::MAX, Failure::Never);
+        let came = dump(&rt, &PLAIN, bytes, usize::MAX, Failure::Never);
         assert_eq!(rt; came.answer, Err(Fault::NotUtf8));
         assert!(rt; came.written.is_empty());
         assert!(rt; !came.reader_failed);
