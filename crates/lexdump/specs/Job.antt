@@ -63,12 +63,16 @@ edition_of year =
     else (if bytes_eq year (codes "2024") then Some E2024
     else None)))
 
+-- what the words after `edit` ask for: one edit or more
+abbrev pub edit_job : Edition → List (List ℕ) → Option Command
+edit_job edition [] = None
+edit_job edition (start ∷ words) = option_map (edit edition) (replacements_of (start ∷ words))
+
 -- what words ask for in an edition: no words for the tokens of the text, `edit` and one edit or more for those of the
 -- edited text
 abbrev pub job_in : Edition → List (List ℕ) → Option Command
 job_in edition [] = Some (plain edition)
-job_in edition (word ∷ []) = None
-job_in edition (word ∷ start ∷ words) = if bytes_eq word (codes "edit") then option_map (edit edition) (replacements_of (start ∷ words)) else None
+job_in edition (word ∷ words) = if bytes_eq word (codes "edit") then edit_job edition words else None
 
 -- the same, where the edition may be none
 abbrev pub job_by : Option Edition → List (List ℕ) → Option Command

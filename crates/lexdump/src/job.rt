@@ -1,7 +1,7 @@
 //! What a run is to do.
 ghost use Rattle.std.specs.Prelude.{◌≡◌, ◌<◌, ◌↔◌, IfErr, IfOk, IsSome, IsTrue, Some, length, map, string_bytes};
 ghost use Rattle.std.specs.Option.{option_map};
-ghost use Rattle.lexdump.specs.Job.{command_of, edition_of, first_replacement, job_in, job_of, place_of, replacement, replacements_of, IsJobFault};
+ghost use Rattle.lexdump.specs.Job.{command_of, edit_job, edition_of, first_replacement, job_in, job_of, place_of, replacement, replacements_of, IsJobFault};
 
 use crate::fault::Fault;
 use rustc_lexer::{Edit, Edition};
@@ -51,13 +51,25 @@ fn read_job_in<'a>(alloc: Global, words: &'a [String], edition: Edition) -> Resu
 {
     match words {
         [] => Ok(Job::Plain { edition }),
-        [_] => Err(Fault::Arguments),
-        [command, edits @ ..] if command.as_str() == "edit" && are_edits(edits) => Ok(Job::Edit {
-            edition,
-            edits: read_edits(alloc, edits)?,
-        }),
+        [command, edits @ ..] if command.as_str() == "edit" => {
+            read_edit_job(alloc, edits, edition)
+        }
         _ => Err(Fault::Arguments),
     }
+}
+
+/// Reads the words after `edit`.
+fn read_edit_job<'a>(alloc: Global, words: &'a [String], edition: Edition) -> Result<Job<'a>, Fault>
+    ensures job { IfOk result (λ job. edit_job edition (map string_bytes words.now) ≡ Some (command_of job)) }
+    ensures fault { IfErr result (λ fault. IsJobFault fault (edit_job edition (map string_bytes words.now))) }
+{
+    if !are_edits(words) {
+        return Err(Fault::Arguments);
+    }
+    Ok(Job::Edit {
+        edition,
+        edits: read_edits(alloc, words)?,
+    })
 }
 
 /// The edition that a year names.
