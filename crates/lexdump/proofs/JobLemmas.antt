@@ -1,13 +1,15 @@
 -- The words of a job.
-use Rattle.std.proofs.Common.{◌≡◌, ℕ, ◌<◌, ◌≤◌, ◌^◌, ◌&&◌, ◌≢◌, Bool, true, false, List, [], ◌∷◌, ◌++◌, length, get_or, append_assoc, rules, refl, sym, ap, ◌∙◌, arith, Option, Some, None, Result, Ok, Err}
-use Rattle.std.specs.Prelude.{nat_le, is_some, unwrap_or}
+use Rattle.std.proofs.Common.{◌≡◌, ◌↔◌, true≢false, ℕ, ◌<◌, ◌≤◌, ◌^◌, ◌&&◌, ◌≢◌, Bool, true, false, List, [], ◌∷◌, ◌++◌, length, get_or, append_assoc, rules, refl, sym, ap, ◌∙◌, arith, Option, Some, None, Result, Ok, Err}
+use Rattle.std.specs.Bool.{IsTrue}
+use Rattle.std.specs.Prelude.{nat_le, is_some, unwrap_or, IsSome}
 use Rattle.std.specs.Option.{option_map, option_zip}
 use Rattle.std.specs.Result.{result_ok, OkIff}
 use Rattle.std.specs.Str.{all_ascii_digits}
 use Rattle.std.specs.Str.Parse.{ParsesUnsigned}
 use Rattle.std.proofs.lemmas.Bool.{and_parts, and_from, leb-true, le-leb}
 use Rattle.std.proofs.lemmas.Str.Parse.{IsNumeralModel, numerals_by_fold, tells_all_ascii_digits, parse_plain}
-use Rattle.lexdump.specs.Job.{Replacement, number_after, number_of, place_of, replacement_of, replacements_of, first_replacement}
+use Rattle.rustc_lexer.specs.declared.edition.Edition.{Edition}
+use Rattle.lexdump.specs.Job.{edit, edit_job, AsksEdits, Replacement, number_after, number_of, place_of, replacement_of, replacements_of, first_replacement}
 
 numbers : IsNumeralModel (λ ds. all_ascii_digits ds ≡ true) number_of
 numbers = numerals_by_fold _ tells_all_ascii_digits number_after (search rules)
@@ -97,3 +99,21 @@ read_more words rest after edits e read first = read ∙ (ap (option_map (λ mor
     by_edits : (r : Option (List Replacement)) → option_map (λ more. edits ++ more) (option_map (λ more. e ∷ more) r) ≡ option_map (λ more. (edits ++ e ∷ []) ++ more) r
     by_edits None = refl
     by_edits (Some es) = ap (λ (xs : List Replacement). let r : Option (List Replacement) = Some xs in r) (sym (append_assoc edits (e ∷ []) es))
+
+-- words that are no edits ask for no job after `edit`
+pub no_edits : (edition : Edition) (words : List (List ℕ)) (n : ℕ) (are : Bool) → length words ≡ n → (IsTrue are ↔ ((0 < n) × IsSome (replacements_of words))) → are ≡ false → edit_job edition words ≡ None
+no_edits edition [] n are e is shut = refl
+no_edits edition (start ∷ words) n are e is shut = by_edits (replacements_of (start ∷ words)) refl
+  where
+    by_edits : (r : Option (List Replacement)) → replacements_of (start ∷ words) ≡ r → option_map (edit edition) r ≡ None
+    by_edits None f = refl
+    by_edits (Some es) f = let is_so : are ≡ true = is.1 (omega (arith, e), ap is_some f) in absurd (true≢false (sym is_so ∙ shut))
+
+-- and words that are edits ask for them
+pub asks_edits : (edition : Edition) (words : List (List ℕ)) (n : ℕ) (are : Bool) → length words ≡ n → (IsTrue are ↔ ((0 < n) × IsSome (replacements_of words))) → are ≡ true → AsksEdits (edit_job edition words)
+asks_edits edition [] n are e is so = let p = is.0 so in absurd (omega (arith, e, p.0))
+asks_edits edition (start ∷ words) n are e is so = by_edits (replacements_of (start ∷ words)) (is.0 so).1
+  where
+    by_edits : (r : Option (List Replacement)) → is_some r ≡ true → AsksEdits (option_map (edit edition) r)
+    by_edits None f = absurd (true≢false (sym f))
+    by_edits (Some es) f = tt
