@@ -54,7 +54,8 @@ fn dump<R: Read, W: Write>(
     ensures read { IsErrOf result Fault.Read ↔ IsTrue input.new.failed }
     ensures write { IsErrOf result Fault.Write ↔ IsTrue output.new.failed }
     ensures flushed { IfOk result (λ _. output.new.flushed ≡ true) }
-    ensures silent { IfErr result (λ fault. fault ≢ Fault.Write → Keeps (W.contents output.old.inner) (W.contents output.new.inner)) }
+    ensures silent { IfErr result (λ fault. fault ≢ Fault.Write
+        → Keeps (W.contents output.old.inner) (W.contents output.new.inner)) }
     ensures ran { Ran (words_of args)
         (R.remaining input.old.inner) (W.contents output.old.inner) (W.contents output.new.inner) result }
 {

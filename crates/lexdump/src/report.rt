@@ -17,7 +17,8 @@ use std::io::Write;
 pub fn report<E: Write>(outcome: &Result<(), Fault>, errors: &mut Watched<E>) -> u8
     requires { errors.old.failed ≡ false }
     ensures status { result ≡ exit_status outcome.now }
-    ensures line { errors.new.failed ≡ false → Appends (E.contents errors.old.inner) (E.contents errors.new.inner) (told outcome.now) }
+    ensures line { errors.new.failed ≡ false
+        → Appends (E.contents errors.old.inner) (E.contents errors.new.inner) (told outcome.now) }
     ensures front { AppendsFront (E.contents errors.old.inner) (E.contents errors.new.inner) (told outcome.now) }
 {
     match outcome {
@@ -35,8 +36,10 @@ fn tell<E: Write>(fault: &Fault, errors: &mut Watched<E>) -> Result<(), Fault>
     requires { errors.old.failed ≡ false }
     ensures failed { IsErrOf result Fault.Write ↔ IsTrue errors.new.failed }
     ensures only { IfErr result (λ fault. fault ≡ Fault.Write) }
-    ensures ok { OnOk result (Appends (E.contents errors.old.inner) (E.contents errors.new.inner) (fault_line fault.now)) }
-    ensures err { OnErr result (AppendsFront (E.contents errors.old.inner) (E.contents errors.new.inner) (fault_line fault.now)) }
+    ensures ok { OnOk result
+        (Appends (E.contents errors.old.inner) (E.contents errors.new.inner) (fault_line fault.now)) }
+    ensures err { OnErr result
+        (AppendsFront (E.contents errors.old.inner) (E.contents errors.new.inner) (fault_line fault.now)) }
 {
     let (before, number, after) = line_parts(fault);
     write_bytes(errors, before.as_bytes())?;
@@ -49,8 +52,10 @@ fn write_number<E: Write>(errors: &mut Watched<E>, number: Option<usize>) -> Res
     requires { errors.old.failed ≡ false }
     ensures failed { IsErrOf result Fault.Write ↔ IsTrue errors.new.failed }
     ensures only { IfErr result (λ fault. fault ≡ Fault.Write) }
-    ensures ok { OnOk result (Appends (E.contents errors.old.inner) (E.contents errors.new.inner) (number_text number)) }
-    ensures err { OnErr result (AppendsFront (E.contents errors.old.inner) (E.contents errors.new.inner) (number_text number)) }
+    ensures ok { OnOk result
+        (Appends (E.contents errors.old.inner) (E.contents errors.new.inner) (number_text number)) }
+    ensures err { OnErr result
+        (AppendsFront (E.contents errors.old.inner) (E.contents errors.new.inner) (number_text number)) }
 {
     match number {
         Some(number) => write_bytes(errors, Buffer::new().format(number).as_bytes()),

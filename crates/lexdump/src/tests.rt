@@ -2,8 +2,11 @@
 mod edits;
 mod ends;
 mod faults;
+mod hostile;
 mod jobs;
+mod program;
 mod runs;
+mod turns;
 
 use std::alloc::{AllocError, Global};
 

@@ -5,7 +5,6 @@ use crate::run::run;
 use crate::tests::ends::{Failure, dump};
 use crate::watched::Watched;
 use rustc_lexer::Edition;
-use std::test::Fail;
 
 /// The job of a run with no words.
 const PLAIN: Job<'static> = Job::Plain {
@@ -33,30 +32,6 @@ fn whole_pieces(rt: HostRuntime) {
     let answer = run(rt.alloc(), &PLAIN, &mut input, &mut output);
     assert_eq!(rt; answer, Ok(()));
     assert_eq!(rt; output.into_inner().as_slice(), MAIN_LISTING);
-}
-
-#[test]
-fn deep_comments(rt: HostRuntime) -> Result<(), Fail> {
-    let marks = [
-        (
-            "/*",
-            "0 200000 BlockComment doc_style=none terminated=false\n",
-        ),
-        (
-            "*/",
-            "0 400000 BlockComment doc_style=none terminated=true\n",
-        ),
-    ];
-    let mut text = String::new(rt.alloc());
-    for (mark, want) in marks {
-        for _ in 0..100_000 {
-            text.push_str(mark)?;
-        }
-        let came = dump(&rt, &PLAIN, text.as_bytes(), usize::MAX, Failure::Never);
-        assert_eq!(rt; came.answer, Ok(()));
-        assert_eq!(rt; came.written.as_slice(), want.as_bytes());
-    }
-    Ok(())
 }
 
 #[test]
