@@ -5,3 +5,4 @@ pub mod ListingLemmas
 pub mod OutcomeLemmas
 pub mod PieceLemmas
 pub mod PlaceLemmas
+pub mod ProgramLemmas
