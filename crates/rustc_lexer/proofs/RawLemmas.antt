@@ -94,6 +94,11 @@ past_quote-is now rest mid (Some tail) is e le h =
     at_quote [] f g = absurd (true≢false (sym f))
     at_quote (c ∷ s) f g = ap (λ x. x ∷ s) (eqb-true c 34 (and_parts (c == 34) true f).0) ∙ ap (λ xs. 34 ∷ xs) (sym g)
 
+-- a quote in front has nothing before it
+pub no_run-before : (s : List ℕ) → begins (34 ∷ []) s ≡ true → run_len is_no_quote s ≡ 0
+no_run-before [] e = absurd (true≢false (sym e))
+no_run-before (c ∷ s) e = let quote : is_quote c ≡ true = (and_parts (c == 34) true e).0 in rw quote refl
+
 -- past a run without quotes, a quote, and its hashes
 module _ (v w : List ℕ) (at_quote : drop (run_len is_no_quote v) v ≡ 34 ∷ w) where
   -- a test that fails at each other character

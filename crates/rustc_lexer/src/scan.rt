@@ -43,6 +43,7 @@ pub(crate) fn third(rest: &str) -> char
 }
 
 /// The first character and what follows it.
+#[inline(always)]
 pub(crate) fn split_first(rest: &str) -> Option<(char, &str)>
     ensures { MatchOption result (chars rest.now ≡ [])
         (λ r. (chars rest.now ≡ r.0 ∷ chars r.1.now) × (r.1.now ≡ past 1 rest.now)
@@ -54,6 +55,7 @@ pub(crate) fn split_first(rest: &str) -> Option<(char, &str)>
 }
 
 /// Whether a character stands next that passes the test. None does at the end of the text.
+#[inline(always)]
 pub(crate) fn next_is<F: Fn(char) -> bool>(rest: &str, test: F) -> bool
     requires callable { F.IsAlwaysCallable test }
     ensures { (class : ℕ → Bool) → ((c : ℕ) (b : Bool) → F.post test c b → b ≡ class c)

@@ -42,6 +42,7 @@ pub(crate) fn invalid_ident(tail: &str) -> (TokenKind, &str)
 }
 
 /// What a hash and an identifier leave, if these stand here.
+#[inline(always)]
 pub(crate) fn eat_marked(tail: &str) -> Option<&str>
     ensures read { MatchOption result (spec.marks_ident (chars tail.now) ≡ false)
         (λ rest. (spec.marks_ident (chars tail.now) ≡ true) × (rest.now ≡ past (2 + run_len Classes.is_id_continue (drop 2 (chars tail.now))) tail.now)) }

@@ -10,6 +10,7 @@ use crate::scan::{eat_continue, split_first};
 use crate::token::{LiteralKind, TokenKind};
 
 /// What a suffix leaves of the text, if one stands here.
+#[inline(always)]
 pub(crate) fn eat_literal_suffix(rest: &str) -> &str
     ensures shorter { length result.now ≤ length rest.now }
     ensures past { result.now ≡ past (suffix_len (chars rest.now)) rest.now }

@@ -130,7 +130,7 @@ fn raw_text(text: &str, n_hashes: u32, before: u32) -> (Result<u8, RawStrError>,
     (Err(error), "")
 }
 
-/// What follows the first quote of the text.
+/// What follows the first quote of the text. A quote that stands right here needs no search.
 #[inline(always)]
 fn past_quote(rest: &str) -> Option<&str>
     ensures { let place = run_len spec.is_no_quote (chars rest.now) in
@@ -138,6 +138,9 @@ fn past_quote(rest: &str) -> Option<&str>
         (drop place (chars rest.now) ≡ [])
         (λ tail. (drop place (chars rest.now) ≡ byte "\"" ∷ chars tail.now) × (tail.now ≡ past (suc place) rest.now) × (length tail.now < length rest.now)) }
 {
+    if let Some(tail) = strip(rest, '"') {
+        return Some(tail);
+    }
     strip(eat_until(rest, b'"'), '"')
 }
 
