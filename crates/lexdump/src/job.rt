@@ -46,8 +46,10 @@ pub fn read_job<'a>(alloc: Global, words: &'a [String]) -> Result<Job<'a>, Fault
 
 /// Reads the words of a job that lists the tokens of an edition.
 fn read_job_in<'a>(alloc: Global, words: &'a [String], edition: Edition) -> Result<Job<'a>, Fault>
-    ensures job { IfOk result (λ job. job_in edition (map string_bytes words.now) ≡ Some (command_of job)) }
-    ensures fault { IfErr result (λ fault. IsJobFault fault (job_in edition (map string_bytes words.now))) }
+    ensures job { IfOk result
+        (λ job. job_in edition (map string_bytes words.now) ≡ Some (command_of job)) }
+    ensures fault { IfErr result
+        (λ fault. IsJobFault fault (job_in edition (map string_bytes words.now))) }
 {
     match words {
         [] => Ok(Job::Plain { edition }),
@@ -60,8 +62,10 @@ fn read_job_in<'a>(alloc: Global, words: &'a [String], edition: Edition) -> Resu
 
 /// Reads the words after `edit`.
 fn read_edit_job<'a>(alloc: Global, words: &'a [String], edition: Edition) -> Result<Job<'a>, Fault>
-    ensures job { IfOk result (λ job. edit_job edition (map string_bytes words.now) ≡ Some (command_of job)) }
-    ensures fault { IfErr result (λ fault. IsJobFault fault (edit_job edition (map string_bytes words.now))) }
+    ensures job { IfOk result
+        (λ job. edit_job edition (map string_bytes words.now) ≡ Some (command_of job)) }
+    ensures fault { IfErr result
+        (λ fault. IsJobFault fault (edit_job edition (map string_bytes words.now))) }
 {
     if !are_edits(words) {
         return Err(Fault::Arguments);
@@ -87,7 +91,8 @@ fn read_edition(year: &str) -> Option<Edition>
 
 /// Whether the words are one edit or more, three words each.
 fn are_edits(words: &[String]) -> bool
-    ensures { IsTrue result ↔ ((0 < length words.now) × IsSome (replacements_of (map string_bytes words.now))) }
+    ensures { IsTrue result
+        ↔ ((0 < length words.now) × IsSome (replacements_of (map string_bytes words.now))) }
 {
     let mut rest = words;
     while let Some((_, after)) = first_edit(rest) {
@@ -99,7 +104,9 @@ fn are_edits(words: &[String]) -> bool
 /// The edits that the words write.
 fn read_edits<'a>(alloc: Global, words: &'a [String]) -> Result<Vec<Edit<'a>>, AllocError>
     requires { IsSome (replacements_of (map string_bytes words.now)) }
-    ensures { IfOk result (λ edits. replacements_of (map string_bytes words.now) ≡ Some (map replacement edits.items)) }
+    ensures { IfOk result
+        (λ edits. replacements_of (map string_bytes words.now)
+        ≡ Some (map replacement edits.items)) }
 {
     let mut edits = Vec::new(alloc);
     let mut rest = words;
@@ -112,7 +119,8 @@ fn read_edits<'a>(alloc: Global, words: &'a [String]) -> Result<Vec<Edit<'a>>, A
 
 /// The edit that the first three words write, and the words after them.
 fn first_edit<'a>(words: &'a [String]) -> Option<(Edit<'a>, &'a [String])>
-    ensures { option_map (λ p. (replacement p.0, map string_bytes p.1.now)) result ≡ first_replacement (map string_bytes words.now) }
+    ensures { option_map (λ p. (replacement p.0, map string_bytes p.1.now)) result
+        ≡ first_replacement (map string_bytes words.now) }
 {
     let [start, stop, insert, rest @ ..] = words else {
         return None;

@@ -25,7 +25,8 @@ pub fn list_tokens(
     frontmatter_allowed: FrontmatterAllowed,
 ) -> Result<String, AllocError>
     requires fits { Fits text.now }
-    ensures { IfOk result (λ listed. string_bytes listed ≡ listing (tokens_of frontmatter_allowed text.now)) }
+    ensures { IfOk result
+        (λ listed. string_bytes listed ≡ listing (tokens_of frontmatter_allowed text.now)) }
 {
     let mut listing = String::new(alloc);
     let mut start = 0;
@@ -90,7 +91,8 @@ fn list_pieces<S: Stepper>(alloc: Global, lexed: &LexedText<S>) -> Result<String
 /// Adds the line of a token that begins at the byte `start`.
 #[tactic(auto, unfolding(crate::specs::Listing::line_text))]
 fn push_line(listing: &mut String, start: u32, token: Token) -> Result<(), AllocError>
-    ensures { OnOk result (string_bytes listing.new ≡ string_bytes listing.old ++ line_text start token) }
+    ensures { OnOk result
+        (string_bytes listing.new ≡ string_bytes listing.old ++ line_text start token) }
 {
     push_place(listing, start, token.len)?;
     match rest_of_line(token.kind) {
@@ -104,7 +106,8 @@ const PLACE: usize = 22;
 
 /// Adds the start and the length of a token, and a space after each.
 fn push_place(listing: &mut String, start: u32, len: u32) -> Result<(), AllocError>
-    ensures { OnOk result (string_bytes listing.new ≡ string_bytes listing.old ++ place_text start len) }
+    ensures { OnOk result
+        (string_bytes listing.new ≡ string_bytes listing.old ++ place_text start len) }
 {
     // Written from the last byte to the first.
     let mut place = [b' '; PLACE];

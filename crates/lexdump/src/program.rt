@@ -29,7 +29,8 @@ pub fn program<R: Read, W: Write, E: Write>(
     requires tells { errors.old.failed ≡ false }
     ensures ended { (outcome : Result (Unit {0}) TheFault)
         × Ran (words_of args)
-        (R.remaining input.old.inner) (W.contents output.old.inner) (W.contents output.new.inner) outcome
+        (R.remaining input.old.inner) (W.contents output.old.inner)
+        (W.contents output.new.inner) outcome
         × (IsErrOf outcome Fault.Read ↔ IsTrue input.new.failed)
         × (IsErrOf outcome Fault.Write ↔ IsTrue output.new.failed)
         × (IfOk outcome (λ _. output.new.flushed ≡ true))
@@ -57,7 +58,8 @@ fn dump<R: Read, W: Write>(
     ensures silent { IfErr result (λ fault. fault ≢ Fault.Write
         → Keeps (W.contents output.old.inner) (W.contents output.new.inner)) }
     ensures ran { Ran (words_of args)
-        (R.remaining input.old.inner) (W.contents output.old.inner) (W.contents output.new.inner) result }
+        (R.remaining input.old.inner) (W.contents output.old.inner)
+        (W.contents output.new.inner) result }
 {
     let Some(args) = args else {
         return Err(Fault::Memory);

@@ -19,7 +19,8 @@ pub fn report<E: Write>(outcome: &Result<(), Fault>, errors: &mut Watched<E>) ->
     ensures status { result ≡ exit_status outcome.now }
     ensures line { errors.new.failed ≡ false
         → Appends (E.contents errors.old.inner) (E.contents errors.new.inner) (told outcome.now) }
-    ensures front { AppendsFront (E.contents errors.old.inner) (E.contents errors.new.inner) (told outcome.now) }
+    ensures front { AppendsFront (E.contents errors.old.inner) (E.contents errors.new.inner)
+        (told outcome.now) }
 {
     match outcome {
         Ok(()) => 0,
@@ -37,9 +38,11 @@ fn tell<E: Write>(fault: &Fault, errors: &mut Watched<E>) -> Result<(), Fault>
     ensures failed { IsErrOf result Fault.Write ↔ IsTrue errors.new.failed }
     ensures only { IfErr result (λ fault. fault ≡ Fault.Write) }
     ensures ok { OnOk result
-        (Appends (E.contents errors.old.inner) (E.contents errors.new.inner) (fault_line fault.now)) }
+        (Appends (E.contents errors.old.inner) (E.contents errors.new.inner)
+        (fault_line fault.now)) }
     ensures err { OnErr result
-        (AppendsFront (E.contents errors.old.inner) (E.contents errors.new.inner) (fault_line fault.now)) }
+        (AppendsFront (E.contents errors.old.inner) (E.contents errors.new.inner)
+        (fault_line fault.now)) }
 {
     let (before, number, after) = line_parts(fault);
     write_bytes(errors, before.as_bytes())?;
@@ -55,7 +58,8 @@ fn write_number<E: Write>(errors: &mut Watched<E>, number: Option<usize>) -> Res
     ensures ok { OnOk result
         (Appends (E.contents errors.old.inner) (E.contents errors.new.inner) (number_text number)) }
     ensures err { OnErr result
-        (AppendsFront (E.contents errors.old.inner) (E.contents errors.new.inner) (number_text number)) }
+        (AppendsFront (E.contents errors.old.inner) (E.contents errors.new.inner)
+        (number_text number)) }
 {
     match number {
         Some(number) => write_bytes(errors, Buffer::new().format(number).as_bytes()),

@@ -27,10 +27,14 @@ pub fn run<R: Read, W: Write>(
     ensures read { IsErrOf result Fault.Read ↔ IsTrue input.new.failed }
     ensures write { IsErrOf result Fault.Write ↔ IsTrue output.new.failed }
     ensures flushed { IfOk result (λ _. output.new.flushed ≡ true) }
-    ensures silent { IfErr result (λ fault. fault ≢ Fault.Write → Keeps (W.contents output.old.inner) (W.contents output.new.inner)) }
-    ensures outcome { IfSome (R.remaining input.old.inner) (λ bytes. IsAnswer result (outcome job.now bytes)) }
+    ensures silent { IfErr result
+        (λ fault. fault ≢ Fault.Write
+        → Keeps (W.contents output.old.inner) (W.contents output.new.inner)) }
+    ensures outcome { IfSome (R.remaining input.old.inner)
+        (λ bytes. IsAnswer result (outcome job.now bytes)) }
     ensures written { IfSome (R.remaining input.old.inner) (λ bytes.
-        Writes (W.contents output.old.inner) (W.contents output.new.inner) result (outcome job.now bytes)) }
+        Writes (W.contents output.old.inner) (W.contents output.new.inner) result
+        (outcome job.now bytes)) }
 {
     let bytes = read_all(alloc, input)?;
     let text = match std::str::from_utf8(bytes.as_slice()) {
@@ -87,8 +91,10 @@ fn write_all<W: Write>(output: &mut Watched<W>, text: &[u8]) -> Result<(), Fault
     ensures failed { IsErrOf result Fault.Write ↔ IsTrue output.new.failed }
     ensures flushed { IfOk result (λ _. output.new.flushed ≡ true) }
     ensures only { IfErr result (λ fault. fault ≡ Fault.Write) }
-    ensures ok { OnOk result (Appends (W.contents output.old.inner) (W.contents output.new.inner) text.now) }
-    ensures err { OnErr result (AppendsFront (W.contents output.old.inner) (W.contents output.new.inner) text.now) }
+    ensures ok { OnOk result
+        (Appends (W.contents output.old.inner) (W.contents output.new.inner) text.now) }
+    ensures err { OnErr result
+        (AppendsFront (W.contents output.old.inner) (W.contents output.new.inner) text.now) }
 {
     write_bytes(output, text)?;
     if output.flush().is_err() {
@@ -102,8 +108,10 @@ pub(crate) fn write_bytes<W: Write>(output: &mut Watched<W>, text: &[u8]) -> Res
     requires writes { output.old.failed ≡ false }
     ensures failed { IsErrOf result Fault.Write ↔ IsTrue output.new.failed }
     ensures only { IfErr result (λ fault. fault ≡ Fault.Write) }
-    ensures ok { OnOk result (Appends (W.contents output.old.inner) (W.contents output.new.inner) text.now) }
-    ensures err { OnErr result (AppendsFront (W.contents output.old.inner) (W.contents output.new.inner) text.now) }
+    ensures ok { OnOk result
+        (Appends (W.contents output.old.inner) (W.contents output.new.inner) text.now) }
+    ensures err { OnErr result
+        (AppendsFront (W.contents output.old.inner) (W.contents output.new.inner) text.now) }
 {
     let mut rest = text;
     while !rest.is_empty() {

@@ -47,16 +47,22 @@ impl<'a> Model for Cursor<'a> {
 
     ghost Value = { State };
 
-    ghost view = { λ c. record { pending = c.index - c.start; rest = drop c.index c.text.now; frontmatter_allowed = c.frontmatter_allowed } };
+    ghost view = { λ c. record {
+      pending = c.index - c.start;
+      rest = drop c.index c.text.now;
+      frontmatter_allowed = c.frontmatter_allowed;
+    } };
 
-    ghost invariant = { λ c. (c.start ≤ c.index) × IsCharBoundary c.text.now c.index × IsCharBoundary c.text.now c.start × Fits c.text.now };
+    ghost invariant = { λ c. (c.start ≤ c.index) × IsCharBoundary c.text.now c.index
+        × IsCharBoundary c.text.now c.start × Fits c.text.now };
 }
 
 impl<'a> Cursor<'a> {
     /// A cursor at the front of the text, which has at most `u32::MAX` bytes.
     pub fn new(input: &'a str, frontmatter_allowed: FrontmatterAllowed) -> Cursor<'a>
         requires fits { Fits input.now }
-        ensures { result ≡ record { pending = 0; rest = input.now; frontmatter_allowed = frontmatter_allowed } }
+        ensures { result
+            ≡ record { pending = 0; rest = input.now; frontmatter_allowed = frontmatter_allowed } }
     {
         Cursor {
             text: input,

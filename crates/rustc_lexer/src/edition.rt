@@ -176,7 +176,8 @@ fn has_marked_name(text: &str) -> bool
 
 /// Whether an emoji that no identifier goes on with stands in the name that goes on here.
 fn holds_emoji(rest: &str) -> bool
-    ensures { result ≡ not (list_all is_id_continue (take (run_len is_word (chars rest.now)) (chars rest.now))) }
+    ensures { result
+        ≡ not (list_all is_id_continue (take (run_len is_word (chars rest.now)) (chars rest.now))) }
 {
     next_is(eat_continue(rest), is_emoji)
 }

@@ -36,7 +36,8 @@ pub use stepper::{Stepper, Steps};
 /// ```
 pub fn tokenize<'a>(input: &'a str, frontmatter_allowed: FrontmatterAllowed) -> Tokens<'a>
     requires fits { Fits input.now }
-    ensures state { result ≡ record { pending = 0; rest = input.now; frontmatter_allowed = frontmatter_allowed } }
+    ensures state { result
+        ≡ record { pending = 0; rest = input.now; frontmatter_allowed = frontmatter_allowed } }
     ensures tokens { tokens_left result ≡ tokens_of frontmatter_allowed input.now }
     ensures partitions { Partitions input.now (tokens_of frontmatter_allowed input.now) }
     ensures restarts { RestartsAtBounds input.now }

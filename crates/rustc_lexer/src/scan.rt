@@ -163,7 +163,8 @@ pub(crate) fn eat_whitespace(rest: &str) -> &str
 pub(crate) fn eat_until(rest: &str, stop: u8) -> &str
     requires ascii { stop < 128 }
     ensures shorter { length result.now ≤ length rest.now }
-    ensures past { result.now ≡ past (run_len (λ c. not (is_byte stop c)) (chars rest.now)) rest.now }
+    ensures past { result.now
+        ≡ past (run_len (λ c. not (is_byte stop c)) (chars rest.now)) rest.now }
 {
     match find(stop, rest.as_bytes()) {
         Some(place) => &rest[place..],
@@ -177,7 +178,8 @@ pub(crate) fn eat_until_either(rest: &str, one: u8, two: u8) -> &str
     requires one { one < 128 }
     requires two { two < 128 }
     ensures shorter { length result.now ≤ length rest.now }
-    ensures past { result.now ≡ past (run_len (λ c. not (is_byte2 one two c)) (chars rest.now)) rest.now }
+    ensures past { result.now
+        ≡ past (run_len (λ c. not (is_byte2 one two c)) (chars rest.now)) rest.now }
 {
     match find_either(one, two, rest.as_bytes()) {
         Some(place) => &rest[place..],
@@ -189,7 +191,8 @@ pub(crate) fn eat_until_either(rest: &str, one: u8, two: u8) -> &str
 #[inline]
 pub(crate) fn eat_decimal(rest: &str) -> &str
     ensures shorter { length result.now ≤ length rest.now }
-    ensures past { result.now ≡ past (run_len (or_underscore is_ascii_digit) (chars rest.now)) rest.now }
+    ensures past { result.now
+        ≡ past (run_len (or_underscore is_ascii_digit) (chars rest.now)) rest.now }
 {
     let left = &rest[run_end::<Decimal>(rest.as_bytes())..];
     if begins_wide(left) {
@@ -203,7 +206,8 @@ pub(crate) fn eat_decimal(rest: &str) -> &str
 #[inline]
 pub(crate) fn eat_hexadecimal(rest: &str) -> &str
     ensures shorter { length result.now ≤ length rest.now }
-    ensures past { result.now ≡ past (run_len (or_underscore is_ascii_hexdigit) (chars rest.now)) rest.now }
+    ensures past { result.now
+        ≡ past (run_len (or_underscore is_ascii_hexdigit) (chars rest.now)) rest.now }
 {
     let left = &rest[run_end::<Hexadecimal>(rest.as_bytes())..];
     if begins_wide(left) {

@@ -32,9 +32,11 @@ pub extern "C" fn rustc_lexer_tokens(
     count: &mut usize,
 ) -> u32
     ensures status { IsPlaceStatus text.now place.old.at result }
-    ensures batch { result ≡ 0 →
-        spec.IsBatch text.now (spec.state_at text.now place.old) room.old place.new room.new count.new }
-    ensures refused { result ≢ 0 → spec.IsUntouched place.old place.new room.old room.new count.new }
+    ensures batch { result ≡ 0
+        → spec.IsBatch text.now (spec.state_at text.now place.old)
+        room.old place.new room.new count.new }
+    ensures refused { result ≢ 0
+        → spec.IsUntouched place.old place.new room.old room.new count.new }
 {
     match text_of(text) {
         Ok(text) => batch(text, place, room, count),
@@ -55,9 +57,11 @@ pub extern "C" fn rustc_lexer_tokens_unchecked(
 ) -> u32
     requires utf8 { IsUtf8 text.now }
     ensures status { IsPlaceStatus text.now place.old.at result }
-    ensures batch { result ≡ 0 →
-        spec.IsBatch text.now (spec.state_at text.now place.old) room.old place.new room.new count.new }
-    ensures refused { result ≢ 0 → spec.IsUntouched place.old place.new room.old room.new count.new }
+    ensures batch { result ≡ 0
+        → spec.IsBatch text.now (spec.state_at text.now place.old)
+        room.old place.new room.new count.new }
+    ensures refused { result ≢ 0
+        → spec.IsUntouched place.old place.new room.old room.new count.new }
 {
     if text.len() > u32::MAX as usize {
         *count = 0;
@@ -76,9 +80,11 @@ pub extern "C" fn rustc_lexer_tokens_unchecked(
 fn batch(text: &str, place: &mut CPlace, room: &mut [CToken], count: &mut usize) -> u32
     requires fits { Fits text.now }
     ensures status { IsPlaceStatus text.now place.old.at result }
-    ensures batch { result ≡ 0 →
-        spec.IsBatch text.now (spec.state_at text.now place.old) room.old place.new room.new count.new }
-    ensures refused { result ≢ 0 → spec.IsUntouched place.old place.new room.old room.new count.new }
+    ensures batch { result ≡ 0
+        → spec.IsBatch text.now (spec.state_at text.now place.old)
+        room.old place.new room.new count.new }
+    ensures refused { result ≢ 0
+        → spec.IsUntouched place.old place.new room.old room.new count.new }
 {
     if !text.is_char_boundary(place.at as usize) {
         *count = 0;
@@ -92,7 +98,8 @@ fn batch(text: &str, place: &mut CPlace, room: &mut [CToken], count: &mut usize)
 fn fill(text: &str, place: &mut CPlace, room: &mut [CToken]) -> usize
     requires fits { Fits text.now }
     requires boundary { IsCharBoundary text.now place.old.at }
-    ensures { spec.IsBatch text.now (spec.state_at text.now place.old) room.old place.new room.new result }
+    ensures { spec.IsBatch text.now (spec.state_at text.now place.old)
+        room.old place.new room.new result }
 {
     let mut at = place.at as usize;
     let mut allowed = allowed_of(place.frontmatter_allowed);

@@ -76,7 +76,8 @@ pub extern "C" fn rustc_lexer_validate_raw_str(
 pub extern "C" fn rustc_lexer_guarded_str(text: &[u8], string: &mut CGuardedStr) -> u32
     ensures status { IsTextStatus text.now result }
     ensures string { result ≡ 0 →
-        string.new ≡ spec.guarded_numbers (guarded record { pending = 0; rest = text.now; frontmatter_allowed = No }).0 }
+        string.new ≡ spec.guarded_numbers
+        (guarded record { pending = 0; rest = text.now; frontmatter_allowed = No }).0 }
     ensures refused { result ≢ 0 → string.new ≡ spec.guarded_numbers None }
 {
     match text_of(text) {

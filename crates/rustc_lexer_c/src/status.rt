@@ -32,7 +32,8 @@ impl Refusal {
 
 /// The bytes as a text that can be lexed.
 pub(crate) fn text_of(bytes: &[u8]) -> Result<&str, Refusal>
-    ensures { MatchResult result (λ text. (text.now ≡ bytes.now) × IsText bytes.now) (spec.IsNoText bytes.now) }
+    ensures { MatchResult result
+        (λ text. (text.now ≡ bytes.now) × IsText bytes.now) (spec.IsNoText bytes.now) }
 {
     if bytes.len() > u32::MAX as usize {
         return Err(Refusal::TooLong);

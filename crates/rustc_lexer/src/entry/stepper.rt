@@ -54,7 +54,8 @@ impl Steps {
         ensures count { ⟦<Steps as Stepper>⟧.count result ≡ 0 }
         ensures number { ⟦<Steps as Stepper>⟧.number result ≡ 2024 }
         ensures grammar { ⟦<Steps as Stepper>⟧.grammar result ≡ first_token }
-        ensures tokens { (text : List ℕ) → tokens_by (⟦<Steps as Stepper>⟧.grammar result) text ≡ tokens_of No text }
+        ensures tokens { (text : List ℕ)
+            → tokens_by (⟦<Steps as Stepper>⟧.grammar result) text ≡ tokens_of No text }
     {
         Steps::new_in(Edition::E2024)
     }

@@ -45,8 +45,11 @@ pub(crate) fn invalid_ident(tail: &str) -> (TokenKind, &str)
 #[inline(always)]
 pub(crate) fn eat_marked(tail: &str) -> Option<&str>
     ensures read { MatchOption result (spec.marks_ident (chars tail.now) ≡ false)
-        (λ rest. (spec.marks_ident (chars tail.now) ≡ true) × (rest.now ≡ past (2 + run_len Classes.is_id_continue (drop 2 (chars tail.now))) tail.now)) }
-    ensures lookahead { (kind : TokenKind) (other : List ℕ → TokenKind × ℕ) (s : List ℕ) → spec.marks_ident s ≡ true
+        (λ rest. (spec.marks_ident (chars tail.now) ≡ true)
+        × (rest.now ≡ past (2 + run_len Classes.is_id_continue (drop 2 (chars tail.now)))
+        tail.now)) }
+    ensures lookahead { (kind : TokenKind) (other : List ℕ → TokenKind × ℕ) (s : List ℕ)
+        → spec.marks_ident s ≡ true
         → IsLocalAt TokenKind 1 (spec.marked kind other) s }
 {
     let (first, word) = split_first(strip(tail, '#')?)?;

@@ -30,8 +30,8 @@ pub(crate) fn lifetime_or_char(tail: &str) -> (TokenKind, &str)
         → IsLocalAt TokenKind 1 spec.lifetime_or_char s }
     ensures raw { (c : ℕ) (s : List ℕ) → spec.is_character c s ≡ false → is_raw c s ≡ true
         → IsLocalAt TokenKind 1 spec.lifetime_or_char (c ∷ s) }
-    ensures long_character { (c : ℕ) (s : List ℕ) → spec.is_character c s ≡ false → is_raw c s ≡ false
-        → begins (codes "'") (drop (run_len is_word s) s) ≡ true
+    ensures long_character { (c : ℕ) (s : List ℕ) → spec.is_character c s ≡ false
+        → is_raw c s ≡ false → begins (codes "'") (drop (run_len is_word s) s) ≡ true
         → IsLocalAt TokenKind 0 spec.lifetime_or_char (c ∷ s) }
 {
     let Some((first, rest)) = split_first(tail) else {
@@ -104,7 +104,8 @@ fn plain_lifetime(first: char, rest: &str) -> (TokenKind, &str)
 /// What a name is that no quote follows. It begins with `first`, and `rest` is what follows it.
 #[inline(always)]
 fn lifetime_kind(first: char, holds_emoji: bool, rest: &str) -> TokenKind
-    ensures { result ≡ (if begins (codes "#") (chars rest.now) && not (is_ascii_digit first) then UnknownPrefixLifetime
+    ensures { result ≡ (if begins (codes "#") (chars rest.now) && not (is_ascii_digit first)
+        then UnknownPrefixLifetime
         else Lifetime (is_ascii_digit first || is_emoji first || holds_emoji)) }
 {
     if strip(rest, '#').is_some() && !first.is_ascii_digit() {

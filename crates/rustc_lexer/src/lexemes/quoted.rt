@@ -100,7 +100,8 @@ pub(crate) fn str_literal(tail: &str) -> (TokenKind, &str)
 pub(crate) fn byte_str_literal<'a>(tail: &str, body: &'a str) -> (TokenKind, &'a str)
     requires body { body.now ≡ past 1 tail.now }
     requires fits { length tail.now + 1 < 2 ^ 32 }
-    ensures read { (result.0, result.1.now) ≡ scanned (literal (after 1 spec.byte_str_body)) tail.now }
+    ensures read { (result.0, result.1.now)
+        ≡ scanned (literal (after 1 spec.byte_str_body)) tail.now }
     ensures lookahead { (s : List ℕ) → 1 ≤ length s
         → IsLocalAt TokenKind 1 (literal (after 1 spec.byte_str_body)) s }
 {
@@ -159,7 +160,8 @@ pub(crate) fn with_suffix<'a>(
 ) -> (TokenKind, &'a str)
     requires inside { length rest.now ≤ length tail.now }
     requires fits { length tail.now + 1 < 2 ^ 32 }
-    ensures { (body : List ℕ → Body × ℕ) → (record { kind = kind; takes_suffix = takes_suffix }, rest.now) ≡ scanned body tail.now
+    ensures { (body : List ℕ → Body × ℕ)
+        → (record { kind = kind; takes_suffix = takes_suffix }, rest.now) ≡ scanned body tail.now
         → (result.0, result.1.now) ≡ scanned (literal body) tail.now }
 {
     let token = literal(kind, tail, rest);

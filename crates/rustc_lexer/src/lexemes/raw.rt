@@ -136,7 +136,8 @@ fn past_quote(rest: &str) -> Option<&str>
     ensures { let place = run_len spec.is_no_quote (chars rest.now) in
         MatchOption result
         (drop place (chars rest.now) ≡ [])
-        (λ tail. (drop place (chars rest.now) ≡ byte "\"" ∷ chars tail.now) × (tail.now ≡ past (suc place) rest.now) × (length tail.now < length rest.now)) }
+        (λ tail. (drop place (chars rest.now) ≡ byte "\"" ∷ chars tail.now)
+        × (tail.now ≡ past (suc place) rest.now) × (length tail.now < length rest.now)) }
 {
     if let Some(tail) = strip(rest, '"') {
         return Some(tail);

@@ -44,14 +44,22 @@ fn relex_from<S: Stepper>(
     requires { IsReady (S.grammar stepper.old) old.now text.now kept damage }
     ensures grammar { S.grammar stepper.new ≡ S.grammar stepper.old }
     ensures number { S.number stepper.new ≡ S.number stepper.old }
-    ensures met { IfOk result (λ r. IsMet (S.grammar stepper.old) old.now text.now damage.past damage.added damage.removed kept.number (take kept.number old.now ++ r.tokens.items) r.met.number) }
+    ensures met { IfOk result
+        (λ r. IsMet (S.grammar stepper.old) old.now text.now
+        damage.past damage.added damage.removed
+        kept.number (take kept.number old.now ++ r.tokens.items) r.met.number) }
     ensures met_place { IfOk result (λ r. r.met.place ≡ bound old.now r.met.number) }
-    ensures end { IfOk result (λ r. r.end ≡ bound (tokens_by (S.grammar stepper.old) text.now) (kept.number + length r.tokens.items)) }
+    ensures end { IfOk result
+        (λ r. r.end ≡ bound (tokens_by (S.grammar stepper.old) text.now)
+        (kept.number + length r.tokens.items)) }
     ensures kept { IfOk result (λ r. kept.number ≤ r.met.number) }
     ensures count { IfOk result
         (λ r. S.count stepper.new ≡ S.count stepper.old + length r.tokens.items) }
     ensures rose { S.count stepper.old ≤ S.count stepper.new }
-    ensures few { IfErr result (λ _. S.count stepper.new + kept.number ≤ S.count stepper.old + meet old.now (tokens_by (S.grammar stepper.old) text.now) damage.past damage.added damage.removed kept.number) }
+    ensures few { IfErr result
+        (λ _. S.count stepper.new + kept.number
+        ≤ S.count stepper.old + meet old.now (tokens_by (S.grammar stepper.old) text.now)
+        damage.past damage.added damage.removed kept.number) }
 {
     let mut tokens = Vec::new(alloc);
     let mut place = kept.place;
@@ -126,15 +134,21 @@ pub(crate) fn lex_edit<S: Stepper>(
     requires edit { IsEdit text.now start stop insert.now }
     ensures grammar { S.grammar stepper.new ≡ S.grammar stepper.old }
     ensures number { S.number stepper.new ≡ S.number stepper.old }
-    ensures text { IfOk result (λ r. bytes_or r.text text.now ≡ apply text.now start stop insert.now) }
-    ensures tokens { OnOk result (tokens.new.items ≡ tokens_by (S.grammar stepper.old) (apply text.now start stop insert.now)) }
+    ensures text { IfOk result
+        (λ r. bytes_or r.text text.now ≡ apply text.now start stop insert.now) }
+    ensures tokens { OnOk result
+        (tokens.new.items
+        ≡ tokens_by (S.grammar stepper.old) (apply text.now start stop insert.now)) }
     ensures same { OnErr result (tokens.new.items ≡ tokens.old.items) }
     ensures landmarks { IfOk result (λ r. AreBounds tokens.new.items r.landmarks) }
     ensures relexed { IfOk result
         (λ r. r.relexed ≡ relexed_of (S.grammar stepper.old) text.now start stop insert.now) }
     ensures count { IfOk result (λ r. S.count stepper.new ≡ S.count stepper.old + r.relexed.lexed) }
     ensures rose { S.count stepper.old ≤ S.count stepper.new }
-    ensures few { IfErr result (λ _. S.count stepper.new ≤ S.count stepper.old + (relexed_of (S.grammar stepper.old) text.now start stop insert.now).lexed) }
+    ensures few { IfErr result
+        (λ _. S.count stepper.new
+        ≤ S.count stepper.old
+        + (relexed_of (S.grammar stepper.old) text.now start stop insert.now).lexed) }
 {
     let old = tokens.as_slice();
     let kept = kept_front(text, old, start, landmarks.nearest(start));

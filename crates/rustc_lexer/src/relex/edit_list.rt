@@ -35,14 +35,22 @@ impl<S: Stepper> LexedText<S> {
     pub fn edit_all(&mut self, edits: &[Edit<'_>]) -> Result<(), EditStop>
         ensures accepted { OnOk result (AreEdits self.old.text edits.now) }
         ensures text { OnOk result (self.new.text ≡ apply_list self.old.text edits.now) }
-        ensures from_scratch { self.new.tokens ≡ tokens_by (S.grammar self.old.stepper) self.new.text }
+        ensures from_scratch { self.new.tokens
+            ≡ tokens_by (S.grammar self.old.stepper) self.new.text }
         ensures grammar { S.grammar self.new.stepper ≡ S.grammar self.old.stepper }
         ensures number { S.number self.new.stepper ≡ S.number self.old.stepper }
-        ensures count { OnOk result (S.count self.new.stepper ≡ S.count self.old.stepper + lexed_list (S.grammar self.old.stepper) self.old.text edits.now) }
+        ensures count { OnOk result
+            (S.count self.new.stepper
+            ≡ S.count self.old.stepper
+            + lexed_list (S.grammar self.old.stepper) self.old.text edits.now) }
         ensures stop { IfErr result (λ e. IsStop e self.new.text edits.now) }
-        ensures stop_accepted { IfErr result (λ e. AreEdits self.old.text (take (stop_at e) edits.now)) }
-        ensures stop_text { IfErr result (λ e. self.new.text ≡ apply_list self.old.text (take (stop_at e) edits.now)) }
-        ensures stop_count { IfErr result (λ e. IsCounted e (S.grammar self.old.stepper) self.old.text edits.now (S.count self.old.stepper) (S.count self.new.stepper)) }
+        ensures stop_accepted { IfErr result
+            (λ e. AreEdits self.old.text (take (stop_at e) edits.now)) }
+        ensures stop_text { IfErr result
+            (λ e. self.new.text ≡ apply_list self.old.text (take (stop_at e) edits.now)) }
+        ensures stop_count { IfErr result
+            (λ e. IsCounted e (S.grammar self.old.stepper) self.old.text edits.now
+            (S.count self.old.stepper) (S.count self.new.stepper)) }
     {
         // So the tokens are those of the text, also where there is no edit.
         prove!(self.is_consistent());

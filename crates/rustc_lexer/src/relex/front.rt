@@ -119,15 +119,18 @@ pub(crate) fn follow(tokens: &[Token], from: Bound, place: usize, damage: Damage
     requires number { from.number ≤ length tokens.now }
     requires place { from.place ≡ bound tokens.now from.number }
     requires fits { (k : ℕ) → k ≤ length tokens.now → bound tokens.now k < 2 ^ 32 }
-    requires below { (k : ℕ) → k < from.number → bound tokens.now k + damage.added < max damage.past place + damage.removed }
+    requires below { (k : ℕ) → k < from.number
+        → bound tokens.now k + damage.added < max damage.past place + damage.removed }
     requires added_le { damage.added ≤ damage.past }
     requires place_fits { place + damage.removed < 2 ^ 64 }
     ensures number { result.at.number ≤ length tokens.now }
     ensures place { result.at.place ≡ bound tokens.now result.at.number }
-    ensures below { (k : ℕ) → k < result.at.number → bound tokens.now k + damage.added < max damage.past place + damage.removed }
+    ensures below { (k : ℕ) → k < result.at.number
+        → bound tokens.now k + damage.added < max damage.past place + damage.removed }
     ensures met { result.met ≡ meets_at tokens.now damage.past damage.added damage.removed place }
     ensures past { result.met ≡ true → damage.past ≤ place }
-    ensures same_place { result.met ≡ true → result.at.place ≡ place - damage.added + damage.removed }
+    ensures same_place { result.met ≡ true
+        → result.at.place ≡ place - damage.added + damage.removed }
 {
     if place < damage.past {
         return Meeting {

@@ -39,9 +39,15 @@ impl<S: Stepper> Model for LexedText<S> {
 
     ghost Value = { Held S };
 
-    ghost view = { λ a. record { text = string_bytes a.text; tokens = a.tokens.items; stepper = a.stepper } };
+    ghost view = { λ a. record {
+      text = string_bytes a.text;
+      tokens = a.tokens.items;
+      stepper = a.stepper;
+    } };
 
-    ghost invariant = { λ a. IsText (string_bytes a.text) × (a.tokens.items ≡ tokens_by (S.grammar a.stepper) (string_bytes a.text)) × AreBounds a.tokens.items a.landmarks };
+    ghost invariant = { λ a. IsText (string_bytes a.text)
+        × (a.tokens.items ≡ tokens_by (S.grammar a.stepper) (string_bytes a.text))
+        × AreBounds a.tokens.items a.landmarks };
 }
 
 impl<S: Stepper> LexedText<S> {
@@ -49,7 +55,8 @@ impl<S: Stepper> LexedText<S> {
     pub fn with(alloc: Global, text: &str, stepper: S) -> Result<LexedText<S>, AllocError>
         requires fits { Fits text.now }
         ensures text { IfOk result (λ l. l.text ≡ text.now) }
-        ensures from_scratch { IfOk result (λ l. l.tokens ≡ tokens_by (S.grammar l.stepper) text.now) }
+        ensures from_scratch { IfOk result
+            (λ l. l.tokens ≡ tokens_by (S.grammar l.stepper) text.now) }
         ensures grammar { IfOk result (λ l. S.grammar l.stepper ≡ S.grammar stepper) }
         ensures number { IfOk result (λ l. S.number l.stepper ≡ S.number stepper) }
         ensures count { IfOk result (λ l. S.count l.stepper ≡ S.count stepper + length l.tokens) }
@@ -92,7 +99,8 @@ impl<S: Stepper> LexedText<S> {
     /// Whether there are no more tokens than bytes. It is so, since the tokens are those of the text and none is empty.
     pub(crate) fn is_consistent(&self) -> bool
         ensures always { IsTrue result }
-        ensures from_scratch { self.now.tokens ≡ tokens_by (S.grammar self.now.stepper) self.now.text }
+        ensures from_scratch { self.now.tokens
+            ≡ tokens_by (S.grammar self.now.stepper) self.now.text }
     {
         self.tokens.len() <= self.text.len()
     }
@@ -119,15 +127,21 @@ impl<S: Stepper> LexedText<S> {
     pub fn edit(&mut self, start: usize, stop: usize, insert: &str) -> Result<Relexed, AllocError>
         requires accepted { IsEdit self.old.text start stop insert.now }
         ensures text { OnOk result (self.new.text ≡ apply self.old.text start stop insert.now) }
-        ensures from_scratch { self.new.tokens ≡ tokens_by (S.grammar self.old.stepper) self.new.text }
-        ensures relexed { IfOk result (λ r. r ≡ relexed_of (S.grammar self.old.stepper) self.old.text start stop insert.now) }
-        ensures count { IfOk result (λ r. S.count self.new.stepper ≡ S.count self.old.stepper + r.lexed) }
+        ensures from_scratch { self.new.tokens
+            ≡ tokens_by (S.grammar self.old.stepper) self.new.text }
+        ensures relexed { IfOk result
+            (λ r. r ≡ relexed_of (S.grammar self.old.stepper) self.old.text start stop insert.now) }
+        ensures count { IfOk result
+            (λ r. S.count self.new.stepper ≡ S.count self.old.stepper + r.lexed) }
         ensures grammar { S.grammar self.new.stepper ≡ S.grammar self.old.stepper }
         ensures number { S.number self.new.stepper ≡ S.number self.old.stepper }
         ensures rose { S.count self.old.stepper ≤ S.count self.new.stepper }
         ensures same_text { OnErr result (self.new.text ≡ self.old.text) }
         ensures same_tokens { OnErr result (self.new.tokens ≡ self.old.tokens) }
-        ensures few { OnErr result (S.count self.new.stepper ≤ S.count self.old.stepper + (relexed_of (S.grammar self.old.stepper) self.old.text start stop insert.now).lexed) }
+        ensures few { OnErr result
+            (S.count self.new.stepper
+            ≤ S.count self.old.stepper
+            + (relexed_of (S.grammar self.old.stepper) self.old.text start stop insert.now).lexed) }
     {
         let Edited {
             text,

@@ -38,7 +38,8 @@ impl<'a> Model for Pieces<'a> {
 
     ghost view = { λ p. record { text = p.text.now; start = p.start; tokens = p.tokens.now } };
 
-    ghost invariant = { λ p. (length p.text.now < 2 ^ 32) × CutsFrom p.text.now p.start p.tokens.now };
+    ghost invariant = { λ p. (length p.text.now < 2 ^ 32)
+        × CutsFrom p.text.now p.start p.tokens.now };
 }
 
 impl<'a> Iterator for Pieces<'a> {

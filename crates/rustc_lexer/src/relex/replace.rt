@@ -14,7 +14,8 @@ pub(crate) fn replace(
 ) -> Result<(), AllocError>
     requires from_le_to { from ≤ to }
     requires to_inside { to ≤ length list.old.items }
-    ensures replaced { OnOk result (list.new.items ≡ take from list.old.items ++ (with.now ++ drop to list.old.items)) }
+    ensures replaced { OnOk result
+        (list.new.items ≡ take from list.old.items ++ (with.now ++ drop to list.old.items)) }
     ensures same { OnErr result (list.new.items ≡ list.old.items) }
 {
     if with.len() == to - from {

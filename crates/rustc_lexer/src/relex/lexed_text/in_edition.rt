@@ -20,7 +20,8 @@ impl LexedText<Steps> {
         requires fits { Fits text.now }
         ensures text { IfOk result (λ l. l.text ≡ text.now) }
         ensures from_scratch { IfOk result (λ l. l.tokens ≡ tokens_in edition text.now) }
-        ensures grammar { IfOk result (λ l. ⟦<Steps as Stepper>⟧.grammar l.stepper ≡ first_token_in edition) }
+        ensures grammar { IfOk result
+            (λ l. ⟦<Steps as Stepper>⟧.grammar l.stepper ≡ first_token_in edition) }
         ensures number { IfOk result (λ l. ⟦<Steps as Stepper>⟧.number l.stepper ≡ year edition) }
         ensures count { IfOk result (λ l. ⟦<Steps as Stepper>⟧.count l.stepper ≡ length l.tokens) }
     {
@@ -30,7 +31,8 @@ impl LexedText<Steps> {
     /// The edition that the tokens are of. Edits keep it.
     pub fn edition(&self) -> Edition
         ensures number { ⟦<Steps as Stepper>⟧.number self.now.stepper ≡ year result }
-        ensures only { (edition : Edition) → ⟦<Steps as Stepper>⟧.number self.now.stepper ≡ year edition → result ≡ edition }
+        ensures only { (edition : Edition)
+            → ⟦<Steps as Stepper>⟧.number self.now.stepper ≡ year edition → result ≡ edition }
         ensures grammar { ⟦<Steps as Stepper>⟧.grammar self.now.stepper ≡ first_token_in result }
         ensures from_scratch { self.now.tokens ≡ tokens_in result self.now.text }
     {
@@ -41,9 +43,11 @@ impl LexedText<Steps> {
     pub fn set_edition(&mut self, edition: Edition) -> Result<(), AllocError>
         ensures text { self.new.text ≡ self.old.text }
         ensures from_scratch { OnOk result (self.new.tokens ≡ tokens_in edition self.new.text) }
-        ensures grammar { OnOk result (⟦<Steps as Stepper>⟧.grammar self.new.stepper ≡ first_token_in edition) }
+        ensures grammar { OnOk result
+            (⟦<Steps as Stepper>⟧.grammar self.new.stepper ≡ first_token_in edition) }
         ensures number { OnOk result (⟦<Steps as Stepper>⟧.number self.new.stepper ≡ year edition) }
-        ensures count { OnOk result (⟦<Steps as Stepper>⟧.count self.new.stepper ≡ length self.new.tokens) }
+        ensures count { OnOk result
+            (⟦<Steps as Stepper>⟧.count self.new.stepper ≡ length self.new.tokens) }
         ensures same { OnErr result (self.new ≡ self.old) }
     {
         let mut stepper = Steps::new_in(edition);
