@@ -10,6 +10,8 @@ pub mod Lifetime
 pub mod Literal
 pub mod Lookahead
 pub mod Number
+pub mod NumberGrammar
+pub mod NumberLongest
 pub mod Quoted
 pub mod Raw
 pub mod Reach
