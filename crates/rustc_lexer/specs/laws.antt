@@ -17,3 +17,4 @@ pub mod Raw
 pub mod Reach
 pub mod Texts
 pub mod TokenBy
+pub mod Within

@@ -1,6 +1,5 @@
 -- The number that is read is the longest that stands at the front of its text.
-use Rattle.std.proofs.Common.{◌≡◌, ℕ, suc, nat_le, ◌+◌, ◌≤◌, ◌<◌, ◌==◌, ◌&&◌, ◌||◌, ◌⊎◌, inl, inr, not, Bool, true, false, true≢false, List, [], ◌∷◌, ◌++◌, length, take, drop, refl, sym, ap, ◌∙◌, subst, arith, codes, append_assoc, length-append, take-append-drop, length-take-le}
-use Rattle.std.proofs.Math.Seq.{take-append_seam, drop-append_seam}
+use Rattle.std.proofs.Common.{◌≡◌, ℕ, suc, nat_le, ◌+◌, ◌≤◌, ◌<◌, ◌==◌, ◌&&◌, ◌||◌, inl, inr, not, Bool, true, false, true≢false, List, [], ◌∷◌, ◌++◌, length, take, drop, refl, sym, ap, ◌∙◌, subst, arith, codes, append_assoc, length-append, take-append-drop, length-take-le}
 use Rattle.std.proofs.lemmas.Bool.{agree_below_at, and_parts, eqb-true, leb-true, ne_eqb, or_cases, or_right}
 use Rattle.std.specs.Char.{is_ascii_digit}
 use Rattle.std.specs.List.{list_all, list_any}
@@ -12,71 +11,10 @@ use Rattle.rustc_lexer.specs.declared.token.LiteralKind.{LiteralKind}
 use Rattle.rustc_lexer.specs.declared.token.LiteralKind.TheVariants.{Int, Float}
 use Rattle.rustc_lexer.specs.laws.Choice.{by_test}
 use Rattle.rustc_lexer.specs.laws.NumberGrammar.{number-stands}
-use Rattle.rustc_lexer.specs.laws.Reach.{run_len-in, run_len-out}
+use Rattle.rustc_lexer.specs.laws.Within.{Within, within-suc, within-one, within-any, then-within, run-within}
 use Rattle.rustc_lexer.specs.Number.{or_underscore, digits, Front, front_of, prefixed, binary, octal, hexadecimal, decimal, front_past_zero, front, float, is_exponent_letter, is_sign, past_sign, float_exponent, optional_exponent, fraction_digits, fraction, is_no_fraction, begins_fraction, past_digits, tail, number_kind}
 use Rattle.rustc_lexer.specs.NumberGrammar.{AreDigits, is_digit_of, IsWhole, plain, with_b, with_o, with_x, IsExponent, signed, unsigned, IsTailBefore, nothing, dot, of_fraction, of_exponent, of_both, IsNumberBefore, of_prefix, of_parts, NumberStands, AreLongest}
-use Rattle.rustc_lexer.specs.Scan.{then_by, and_then, after, begins, gives, next_is, read_as, run, run_as, run_len}
-
--- ---- what is read, and what could be
-
--- these characters are what is read, or a beginning of it for this reason
-abbrev Within : {A : Type 0} → Type 0 → A × ℕ → A → ℕ → Type 0
-Within reason r a n = (reason × (n < r.1)) ⊎ (r ≡ (a, n))
-
--- a beginning, for no reason that matters
-shorter : {A : Type 0} (r : A × ℕ) (a : A) (n : ℕ) → n < r.1 → Within (Unit {0}) r a n
-shorter r a n lt = inl (tt, lt)
-
-within-as : {A B : Type 0} {R : Type 0} (f : A → B) (r : A × ℕ) (a : A) (n : ℕ) → Within R r a n → Within R (f r.0, r.1) (f a) n
-within-as {A} {B} f r a n w = elim w [ inl h ↦ inl h | inr e ↦ inr (ap (λ (r : A × ℕ). let q : B × ℕ = (f r.0, r.1) in q) e) ]
-
--- past one character
-within-suc : {A : Type 0} {R : Type 0} (r : A × ℕ) (a : A) (n : ℕ) → Within R r a n → Within R (r.0, suc r.1) a (suc n)
-within-suc {A} r a n w = elim w [ inl h ↦ inl (h.0, omega (arith, h.1)) | inr e ↦ inr (ap (λ (r : A × ℕ). let q : A × ℕ = (r.0, suc r.1) in q) e) ]
-
-within-one : {A : Type 0} {R : Type 0} (r : A × ℕ) (a : A) (n : ℕ) → Within R r a n → Within R (r.0, 1 + r.1) a (suc n)
-within-one {A} {R} r a n w = let one : suc r.1 ≡ 1 + r.1 = omega arith in subst (λ (m : ℕ). Within R (r.0, m) a (suc n)) one (within-suc r a n w)
-
--- whatever the reason
-within-any : {A : Type 0} {R : Type 0} (r : A × ℕ) (a : A) (n : ℕ) → Within R r a n → Within (Unit {0}) r a n
-within-any r a n w = elim w [ inl h ↦ inl (tt, h.1) | inr e ↦ inr e ]
-
--- one scanner after another: the second could read nothing where the first could read more
-then-within : {A B : Type 0} {R : Type 0} (scan : List ℕ → A × ℕ) (next : A → List ℕ → B × ℕ) (w left : List ℕ) (a : A) (b : B) (m : ℕ)
-    → Within R (scan (w ++ left)) a (length w) → Within (Unit {0}) (next a left) b m → (R → m ≡ 0) → Within (Unit {0}) (and_then scan next (w ++ left)) b (length w + m)
-then-within {A} {B} scan next w left a b m one two none = elim one [ inl h ↦ inl (tt, omega (arith, h.1, none h.0)) | inr e ↦ by_first e ]
-  where
-    by_first : scan (w ++ left) ≡ (a, length w) → Within (Unit {0}) (and_then scan next (w ++ left)) b (length w + m)
-    by_first e =
-        let read : and_then scan next (w ++ left) ≡ ((next a left).0, length w + (next a left).1) =
-        ap (λ (p : A × ℕ). then_by p (w ++ left) next) e
-        ∙ ap (λ (xs : List ℕ). let r : B × ℕ = ((next a xs).0, length w + (next a xs).1) in r) (drop-append_seam w left) in
-        subst (λ (r : B × ℕ). Within (Unit {0}) r b (length w + m)) (sym read)
-        (elim two [ inl h ↦ inl (tt, omega (arith, h.1)) | inr e ↦ inr (ap (λ (r : B × ℕ). let q : B × ℕ = (r.0, length w + r.1) in q) e) ])
-
--- a run, and a beginning of it
-run-past : (p : ℕ → Bool) (ds left : List ℕ) → list_all p ds ≡ true → run_len p (ds ++ left) ≡ length ds + run_len p left
-run-past p [] left all = omega arith
-run-past p (d ∷ ds) left all =
-    let both = and_parts (p d) (list_all p ds) all in
-    omega (arith, run_len-in p d (ds ++ left) both.0, run-past p ds left both.1)
-
-run_len-next : (p : ℕ → Bool) (s : List ℕ) → next_is p s ≡ true → 0 < run_len p s
-run_len-next p [] t = absurd (true≢false (sym t))
-run_len-next p (c ∷ s) t = omega (arith, run_len-in p c s t)
-
-run_len-none : (p : ℕ → Bool) (s : List ℕ) → next_is p s ≡ false → run_len p s ≡ 0
-run_len-none p [] t = refl
-run_len-none p (c ∷ s) t = run_len-out p c s t
-
-run-within : {A : Type 0} (f : List ℕ → A) (p : ℕ → Bool) (ds left : List ℕ) → list_all p ds ≡ true → Within (next_is p left ≡ true) (run_as (λ front rest. f front) p (ds ++ left)) (f ds) (length ds)
-run-within {A} f p ds left all = by_next (next_is p left) refl
-  where
-    by_next : (b : Bool) → next_is p left ≡ b → Within (next_is p left ≡ true) (run_as (λ front rest. f front) p (ds ++ left)) (f ds) (length ds)
-    by_next true t = inl (t, omega (arith, run-past p ds left all, run_len-next p left t))
-    by_next false t =
-        let len : run_len p (ds ++ left) ≡ length ds = omega (arith, run-past p ds left all, run_len-none p left t) in
-        inr (ap (λ (n : ℕ). let r : A × ℕ = (f (take n (ds ++ left)), n) in r) len ∙ ap (λ (xs : List ℕ). let r : A × ℕ = (f xs, length ds) in r) (take-append_seam ds left))
+use Rattle.rustc_lexer.specs.Scan.{and_then, after, begins, gives, next_is, read_as, run, run_len}
 
 -- ---- characters
 
@@ -137,7 +75,7 @@ exponent-no_digit (unsigned {e = e} letter are) left = letter-no_digit e letter
 
 -- ---- a fraction
 
--- its digits, and then
+-- its digits, and an exponent or none
 digits-within : (base : Base) (kind : LiteralKind) (d : ℕ) (ds left : List ℕ) (m : ℕ) → is_ascii_digit d ≡ true → AreDigits is_ascii_digit ds → Within (Unit {0}) (optional_exponent base left) kind m
     → (next_is (or_underscore is_ascii_digit) left ≡ true → m ≡ 0) → Within (Unit {0}) (fraction base (d ∷ ds ++ left)) kind (suc (length ds) + m)
 unfolding fraction
@@ -147,6 +85,7 @@ digits-within base kind d ds left m digit are past none =
     subst (λ (r : LiteralKind × ℕ). Within (Unit {0}) r kind (suc (length ds) + m)) (sym read)
     (then-within (run base (or_underscore is_ascii_digit)) optional_exponent (d ∷ ds) left base kind m (run-within (λ front. base) (or_underscore is_ascii_digit) (d ∷ ds) left all) past none)
 
+-- no exponent
 none-within : (base : Base) (left : List ℕ) → Within (Unit {0}) (optional_exponent base left) (Float base false) 0
 none-within base left =
     by_test (λ (r : LiteralKind × ℕ). Within (Unit {0}) r (Float base false) 0) (next_is is_exponent_letter left) (after 1 (float_exponent base) left) (gives (Float base false) left) (λ t. inl (tt, omega arith)) (λ t. inr refl)
@@ -211,11 +150,12 @@ next-or_right : (p q : ℕ → Bool) (s : List ℕ) → next_is q s ≡ true →
 next-or_right p q [] t = absurd (true≢false (sym t))
 next-or_right p q (c ∷ s) t = or_right (p c) (q c) t
 
--- a whole number, with its first digit
+-- the front of a number, with its first digit
 abbrev front_all : List ℕ → Front × ℕ
 front_all [] = (front_of Decimal false, 0)
 front_all (c ∷ s) = ((front c s).0, suc (front c s).1)
 
+-- what goes on as a run does
 within-goes : {A : Type 0} (base : Base) (left : List ℕ) (r : A × ℕ) (a : A) (n : ℕ) → Within (next_is (or_underscore (is_digit_of base)) left ≡ true) r a n → Within (next_is (goes_on base) left ≡ true) r a n
 within-goes base left r a n w = elim w [ inl h ↦ inl (next-or_right is_prefix_letter (or_underscore (is_digit_of base)) left h.0, h.1) | inr e ↦ inr e ]
 
@@ -285,7 +225,7 @@ tail-none left (of_both {base = base} ds digit are is) t = absurd (true≢false 
 
 -- ---- a number
 
--- with its first digit
+-- up to a suffix, with its first digit
 abbrev number_all : List ℕ → LiteralKind × ℕ
 number_all s = and_then front_all tail s
 
