@@ -10,8 +10,11 @@ pub mod Lifetime
 pub mod Literal
 pub mod Lookahead
 pub mod Number
+pub mod NumberGrammar
+pub mod NumberLongest
 pub mod Quoted
 pub mod Raw
 pub mod Reach
 pub mod Texts
 pub mod TokenBy
+pub mod Within

@@ -2,7 +2,7 @@
 ghost use Rattle.std.specs.Prelude.{◌≡◌, ◌+◌, ◌<◌, ◌^◌, false, length};
 ghost use Rattle.std.specs.Char.{is_ascii_digit, is_ascii_hexdigit};
 ghost use Rattle.rustc_lexer.specs.Number as spec;
-ghost use Rattle.rustc_lexer.specs.NumberGrammar.{AreNumbers};
+ghost use Rattle.rustc_lexer.specs.NumberGrammar.{AreLongest};
 ghost use Rattle.rustc_lexer.specs.Scan.{IsLocal, scanned};
 ghost use Rattle.rustc_lexer.specs.declared.token.TokenKind.{TokenKind};
 
@@ -13,7 +13,8 @@ use crate::token::{Base, LiteralKind, TokenKind};
 
 /// A number with its suffix. `first_digit` is its first character, and `tail` what follows that.
 ///
-/// Its text, up to the suffix, is one that the grammar of numbers has.
+/// Its text, up to the suffix, is the longest at the front that the grammar of numbers has. There a
+/// dot that no digit follows is part of a number only where neither a dot nor a name is next.
 ///
 /// Rust Reference, [Number literals](https://doc.rust-lang.org/reference/tokens.html#number-literals).
 #[inline(always)]
@@ -21,7 +22,7 @@ pub(crate) fn number(first_digit: char, tail: &str) -> (TokenKind, &str)
     requires fits { length tail.now + 1 < 2 ^ 32 }
     ensures read { (result.0, result.1.now) ≡ scanned (spec.number first_digit) tail.now }
     ensures lookahead { IsLocal TokenKind 2 (spec.number first_digit) }
-    ensures grammar { AreNumbers }
+    ensures grammar { AreLongest }
 {
     let (kind, rest) = number_kind(first_digit, tail);
     (literal(kind, tail, rest), eat_literal_suffix(rest))

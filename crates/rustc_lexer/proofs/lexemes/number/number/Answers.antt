@@ -1,6 +1,7 @@
 use Rattle.std.proofs.Common.{refl, ap, ◌∙◌}
 use Rattle.rustc_lexer.specs.Number.{with_suffix, number_kind, number_body}
-use Rattle.rustc_lexer.specs.laws.Number.{number_local, numbers-are}
+use Rattle.rustc_lexer.specs.laws.Number.{number_local}
+use Rattle.rustc_lexer.specs.laws.NumberLongest.{numbers-longest}
 use Rattle.rustc_lexer.proofs.LiteralLemmas.{with-suffix}
 use Rattle.rustc_lexer.proofs.ScanLemmas.{scanned-shorter, scanned-read_as}
 use Rattle.rustc_lexer.proofs.lexemes.number.number.Goals as goal
@@ -17,4 +18,4 @@ pub returns-clause-lookahead : goal.returns-clause-lookahead
 returns-clause-lookahead c = number_local c.args.first_digit
 
 pub returns-clause-grammar : goal.returns-clause-grammar
-returns-clause-grammar c = numbers-are
+returns-clause-grammar c = numbers-longest

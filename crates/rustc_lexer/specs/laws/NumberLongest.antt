@@ -1,0 +1,266 @@
+-- The number that is read is the longest that stands at the front of its text.
+use Rattle.std.proofs.Common.{◌≡◌, ℕ, suc, nat_le, ◌+◌, ◌≤◌, ◌<◌, ◌==◌, ◌&&◌, ◌||◌, inl, inr, not, Bool, true, false, true≢false, List, [], ◌∷◌, ◌++◌, length, take, drop, refl, sym, ap, ◌∙◌, subst, arith, codes, append_assoc, length-append, take-append-drop, length-take-le}
+use Rattle.std.proofs.lemmas.Bool.{agree_below_at, and_parts, eqb-true, leb-true, ne_eqb, or_cases, or_right}
+use Rattle.std.specs.Char.{is_ascii_digit}
+use Rattle.std.specs.List.{list_all, list_any}
+use Rattle.std.specs.Str.{byte}
+use Rattle.unicode_ident.proofs.Computing.{unicode_ident}
+use Rattle.rustc_lexer.specs.declared.token.Base.{Base}
+use Rattle.rustc_lexer.specs.declared.token.Base.TheVariants.{Binary, Octal, Decimal, Hexadecimal}
+use Rattle.rustc_lexer.specs.declared.token.LiteralKind.{LiteralKind}
+use Rattle.rustc_lexer.specs.declared.token.LiteralKind.TheVariants.{Int, Float}
+use Rattle.rustc_lexer.specs.laws.Choice.{by_test}
+use Rattle.rustc_lexer.specs.laws.NumberGrammar.{number-stands}
+use Rattle.rustc_lexer.specs.laws.Within.{Within, within-suc, within-one, within-any, then-within, run-within}
+use Rattle.rustc_lexer.specs.Number.{or_underscore, digits, Front, front_of, prefixed, binary, octal, hexadecimal, decimal, front_past_zero, front, float, is_exponent_letter, is_sign, past_sign, float_exponent, optional_exponent, fraction_digits, fraction, is_no_fraction, begins_fraction, past_digits, tail, number_kind}
+use Rattle.rustc_lexer.specs.NumberGrammar.{AreDigits, is_digit_of, IsWhole, plain, with_b, with_o, with_x, IsExponent, signed, unsigned, IsTailBefore, nothing, dot, of_fraction, of_exponent, of_both, IsNumberBefore, of_prefix, of_parts, NumberStands, AreLongest}
+use Rattle.rustc_lexer.specs.Scan.{and_then, after, begins, gives, next_is, read_as, run, run_len}
+
+-- ---- characters
+
+-- one of two
+of_two : (P : ℕ → Type 0) (a b c : ℕ) → (c == a || c == b) ≡ true → P a → P b → P c
+of_two P a b c e at_a at_b = elim (or_cases (c == a) (c == b) e) [ inl f ↦ subst P (sym (eqb-true c a f)) at_a | inr f ↦ subst P (sym (eqb-true c b f)) at_b ]
+
+letter-no_digit : (e : ℕ) → is_exponent_letter e ≡ true → or_underscore is_ascii_digit e ≡ false
+letter-no_digit e t = of_two (λ x. or_underscore is_ascii_digit x ≡ false) 101 69 e t refl refl
+
+sign-no_digit : (g : ℕ) → is_sign g ≡ true → or_underscore is_ascii_digit g ≡ false
+sign-no_digit g t = of_two (λ x. or_underscore is_ascii_digit x ≡ false) 43 45 g t refl refl
+
+digit-small : (d : ℕ) → is_ascii_digit d ≡ true → d < 128
+digit-small d t = let le : d ≤ 57 = leb-true d 57 (and_parts (nat_le 48 d) (nat_le d 57) t).1 in omega arith
+
+digit-fraction : (d : ℕ) → is_ascii_digit d ≡ true → is_no_fraction d ≡ false
+unfolding unicode_ident
+digit-fraction d t = sym (ap (λ b. b && is_no_fraction d) t) ∙ agree_below_at (λ b. is_ascii_digit b && is_no_fraction b) (λ b. false) 128 d refl (digit-small d t)
+
+-- what is in a class is not a character that is not
+other_than : (p : ℕ → Bool) (k d : ℕ) → p k ≡ false → p d ≡ true → (d == k) ≡ false
+other_than p k d out in_class = ne_eqb d k (λ e. true≢false (sym in_class ∙ (ap p e ∙ out)))
+
+-- ---- an exponent
+
+exponent-within : {base : Base} {kind : LiteralKind} {t : List ℕ} → IsExponent base kind t → (left : List ℕ) → Within (Unit {0}) (after 1 (float_exponent base) (t ++ left)) kind (length t)
+exponent-within (signed {base} {e} {g} {ds} letter sign are) left =
+    let read : float_exponent base (g ∷ ds ++ left) ≡ after 1 (past_sign base) (g ∷ ds ++ left) = rw sign refl in
+    let past = past_sign base (ds ++ left) in
+    let kind : LiteralKind = Float base (not (list_any is_ascii_digit ds)) in
+    let within : Within (Unit {0}) (after 1 (past_sign base) (g ∷ ds ++ left)) kind (suc (length ds)) =
+    within-one past kind (length ds) (within-any past kind (length ds) (run-within (λ front. float base (list_any is_ascii_digit front)) (or_underscore is_ascii_digit) ds left are)) in
+    within-one (float_exponent base (g ∷ ds ++ left)) kind (suc (length ds)) (subst (λ (r : LiteralKind × ℕ). Within (Unit {0}) r kind (suc (length ds))) (sym read) within)
+exponent-within (unsigned {base} {e} {ds} letter are) left =
+    within-one (float_exponent base (ds ++ left)) kind (length ds)
+    (by_test (λ (r : LiteralKind × ℕ). Within (Unit {0}) r kind (length ds)) (next_is is_sign (ds ++ left)) (after 1 (past_sign base) (ds ++ left)) (past_sign base (ds ++ left)) (at_sign ds are)
+    (λ t. within-any (past_sign base (ds ++ left)) kind (length ds) (run-within (λ front. float base (list_any is_ascii_digit front)) (or_underscore is_ascii_digit) ds left are)))
+  where
+    kind : LiteralKind
+    kind = Float base (not (list_any is_ascii_digit ds))
+
+    at_sign : (xs : List ℕ) → AreDigits is_ascii_digit xs → next_is is_sign (xs ++ left) ≡ true → Within (Unit {0}) (after 1 (past_sign base) (xs ++ left)) kind (length xs)
+    at_sign [] are t = inl (tt, omega arith)
+    at_sign (d ∷ xs) are t = absurd (true≢false (sym (and_parts (or_underscore is_ascii_digit d) (list_all (or_underscore is_ascii_digit) xs) are).0 ∙ sign-no_digit d t))
+
+exponent-letter : {base : Base} {kind : LiteralKind} {e : ℕ} {ds : List ℕ} → IsExponent base kind (e ∷ ds) → is_exponent_letter e ≡ true
+exponent-letter (signed letter sign are) = letter
+exponent-letter (unsigned letter are) = letter
+
+exponent-next : {base : Base} {kind : LiteralKind} {t : List ℕ} → IsExponent base kind t → (left : List ℕ) → next_is is_exponent_letter (t ++ left) ≡ true
+exponent-next (signed letter sign are) left = letter
+exponent-next (unsigned letter are) left = letter
+
+exponent-no_digit : {base : Base} {kind : LiteralKind} {t : List ℕ} → IsExponent base kind t → (left : List ℕ) → next_is (or_underscore is_ascii_digit) (t ++ left) ≡ false
+exponent-no_digit (signed {e = e} letter sign are) left = letter-no_digit e letter
+exponent-no_digit (unsigned {e = e} letter are) left = letter-no_digit e letter
+
+-- ---- a fraction
+
+-- its digits, and an exponent or none
+digits-within : (base : Base) (kind : LiteralKind) (d : ℕ) (ds left : List ℕ) (m : ℕ) → is_ascii_digit d ≡ true → AreDigits is_ascii_digit ds → Within (Unit {0}) (optional_exponent base left) kind m
+    → (next_is (or_underscore is_ascii_digit) left ≡ true → m ≡ 0) → Within (Unit {0}) (fraction base (d ∷ ds ++ left)) kind (suc (length ds) + m)
+unfolding fraction
+digits-within base kind d ds left m digit are past none =
+    let read : fraction base (d ∷ ds ++ left) ≡ fraction_digits base (d ∷ ds ++ left) = rw digit refl in
+    let all : AreDigits is_ascii_digit (d ∷ ds) = rw digit are in
+    subst (λ (r : LiteralKind × ℕ). Within (Unit {0}) r kind (suc (length ds) + m)) (sym read)
+    (then-within (run base (or_underscore is_ascii_digit)) optional_exponent (d ∷ ds) left base kind m (run-within (λ front. base) (or_underscore is_ascii_digit) (d ∷ ds) left all) past none)
+
+-- no exponent
+none-within : (base : Base) (left : List ℕ) → Within (Unit {0}) (optional_exponent base left) (Float base false) 0
+none-within base left =
+    by_test (λ (r : LiteralKind × ℕ). Within (Unit {0}) r (Float base false) 0) (next_is is_exponent_letter left) (after 1 (float_exponent base) left) (gives (Float base false) left) (λ t. inl (tt, omega arith)) (λ t. inr refl)
+
+-- no digit after the dot
+dot-within : (base : Base) (left : List ℕ) → Within (Unit {0}) (fraction base left) (Float base false) 0
+unfolding fraction
+dot-within base left =
+    by_test (λ (r : LiteralKind × ℕ). Within (Unit {0}) r (Float base false) 0) (next_is is_ascii_digit left) (fraction_digits base left) (gives (Float base false) left) (λ t. inl (tt, some left t)) (λ t. inr refl)
+  where
+    some : (left : List ℕ) → next_is is_ascii_digit left ≡ true → 0 < (fraction_digits base left).1
+    some [] t = absurd (true≢false (sym t))
+    some (c ∷ s) t = let more : run_len (or_underscore is_ascii_digit) (c ∷ s) ≡ suc (run_len (or_underscore is_ascii_digit) s) = rw t refl in omega arith
+
+-- a dot that goes with what follows it
+at_dot : (base : Base) (kind : LiteralKind) (s : List ℕ) (m : ℕ) → next_is is_no_fraction s ≡ false → Within (Unit {0}) (fraction base s) kind m → Within (Unit {0}) (past_digits base (46 ∷ s)) kind (suc m)
+at_dot base kind s m free w =
+    let read : past_digits base (46 ∷ s) ≡ after 1 (fraction base) (46 ∷ s) = rw free refl in
+    subst (λ (r : LiteralKind × ℕ). Within (Unit {0}) r kind (suc m)) (sym read) (within-one (fraction base s) kind m w)
+
+-- ---- what follows the whole part
+
+tail-within : (left : List ℕ) {base : Base} {kind : LiteralKind} {t : List ℕ} → IsTailBefore left base kind t → Within (Unit {0}) (past_digits base (t ++ left)) kind (length t)
+tail-within left (nothing {base = base}) =
+    by_test (λ (r : LiteralKind × ℕ). Within (Unit {0}) r (Int base false) 0) (begins_fraction left) (after 1 (fraction base) left) _ (λ t. inl (tt, omega arith))
+    (λ t. by_test (λ (r : LiteralKind × ℕ). Within (Unit {0}) r (Int base false) 0) (next_is is_exponent_letter left) (after 1 (float_exponent base) left) (gives (Int base false) left) (λ t. inl (tt, omega arith)) (λ t. inr refl))
+tail-within left (dot {base = base} free) = at_dot base (Float base false) left 0 free (dot-within base left)
+tail-within left (of_fraction {base = base} {d = d} {ds = ds} digit are) =
+    let sum : suc (length ds) + 0 ≡ suc (length ds) = omega arith in
+    at_dot base (Float base false) (d ∷ ds ++ left) (suc (length ds)) (digit-fraction d digit)
+    (subst (λ (n : ℕ). Within (Unit {0}) (fraction base (d ∷ ds ++ left)) (Float base false) n) sum (digits-within base (Float base false) d ds left 0 digit are (none-within base left) (λ t. refl)))
+tail-within left (of_exponent {base = base} {kind = kind} {e = e} {ds = ds} no_digit is) =
+    let letter : is_exponent_letter e ≡ true = exponent-letter is in
+    let no_dot : (e == 46) ≡ false = other_than is_exponent_letter 46 e refl letter in
+    let read : past_digits base (e ∷ ds ++ left) ≡ after 1 (float_exponent base) (e ∷ ds ++ left) = rw (no_dot, letter) refl in
+    subst (λ (r : LiteralKind × ℕ). Within (Unit {0}) r kind (suc (length ds))) (sym read) (exponent-within is left)
+tail-within left (of_both {base = base} {kind = kind} {d = d} {e = e} ds digit are is) =
+    let read : optional_exponent base (e ++ left) ≡ after 1 (float_exponent base) (e ++ left) = rw (exponent-next is left) refl in
+    let past : Within (Unit {0}) (optional_exponent base (e ++ left)) kind (length e) = subst (λ (r : LiteralKind × ℕ). Within (Unit {0}) r kind (length e)) (sym read) (exponent-within is left) in
+    let text : ds ++ e ++ left ≡ ds ++ (e ++ left) = append_assoc ds e left in
+    let sum : suc (length ds) + length e ≡ suc (length (ds ++ e)) = omega (arith, length-append ds e) in
+    at_dot base kind (d ∷ ds ++ e ++ left) (suc (length (ds ++ e))) (digit-fraction d digit)
+    (subst (λ (n : ℕ). Within (Unit {0}) (fraction base (d ∷ ds ++ e ++ left)) kind n) sum
+    (subst (λ (xs : List ℕ). Within (Unit {0}) (fraction base (d ∷ xs)) kind (suc (length ds) + length e)) (sym text)
+    (digits-within base kind d ds (e ++ left) (length e) digit are past (λ t. absurd (true≢false (sym t ∙ exponent-no_digit is left))))))
+
+-- ---- the whole part
+
+-- the letter of a prefix
+abbrev is_prefix_letter : ℕ → Bool
+is_prefix_letter c = c == byte "b" || (c == byte "o" || c == byte "x")
+
+-- whether the whole part of a number could go on with this character
+abbrev goes_on : Base → ℕ → Bool
+goes_on base c = is_prefix_letter c || or_underscore (is_digit_of base) c
+
+next-or : (p q : ℕ → Bool) (s : List ℕ) → next_is p s ≡ true → next_is (λ c. p c || q c) s ≡ true
+next-or p q [] t = absurd (true≢false (sym t))
+next-or p q (c ∷ s) t = rw t refl
+
+next-or_right : (p q : ℕ → Bool) (s : List ℕ) → next_is q s ≡ true → next_is (λ c. p c || q c) s ≡ true
+next-or_right p q [] t = absurd (true≢false (sym t))
+next-or_right p q (c ∷ s) t = or_right (p c) (q c) t
+
+-- the front of a number, with its first digit
+abbrev front_all : List ℕ → Front × ℕ
+front_all [] = (front_of Decimal false, 0)
+front_all (c ∷ s) = ((front c s).0, suc (front c s).1)
+
+-- what goes on as a run does
+within-goes : {A : Type 0} (base : Base) (left : List ℕ) (r : A × ℕ) (a : A) (n : ℕ) → Within (next_is (or_underscore (is_digit_of base)) left ≡ true) r a n → Within (next_is (goes_on base) left ≡ true) r a n
+within-goes base left r a n w = elim w [ inl h ↦ inl (next-or_right is_prefix_letter (or_underscore (is_digit_of base)) left h.0, h.1) | inr e ↦ inr e ]
+
+-- past the first digit and a prefix
+prefix-within : (base : Base) (ds left : List ℕ) → AreDigits (is_digit_of base) ds → Within (next_is (goes_on base) left ≡ true) (let r = digits (is_digit_of base) (ds ++ left) in (prefixed base r.0, suc (1 + r.1))) (front_of base (not (list_any (is_digit_of base) ds))) (suc (suc (length ds)))
+prefix-within base ds left are =
+    let r : Front × ℕ = read_as (prefixed base) (digits (is_digit_of base)) (ds ++ left) in
+    let f : Front = front_of base (not (list_any (is_digit_of base) ds)) in
+    within-suc (r.0, 1 + r.1) f (suc (length ds)) (within-one r f (length ds) (within-goes base left r f (length ds) (run-within (λ front. prefixed base (list_any (is_digit_of base) front)) (or_underscore (is_digit_of base)) ds left are)))
+
+dot-stops : (base : Base) → goes_on base 46 ≡ false
+dot-stops Binary = refl
+dot-stops Octal = refl
+dot-stops Decimal = refl
+dot-stops Hexadecimal = refl
+
+letter-stops : (base : Base) (e : ℕ) → is_digit_of base e ≡ false → is_exponent_letter e ≡ true → goes_on base e ≡ false
+letter-stops base e no_digit letter =
+    let no_prefix : is_prefix_letter e ≡ false = of_two (λ x. is_prefix_letter x ≡ false) 101 69 e letter refl refl in
+    let no_underscore : (e == 95) ≡ false = other_than is_exponent_letter 95 e refl letter in
+    rw (no_prefix, no_digit, no_underscore) refl
+
+-- what is past a first digit 0
+past_zero : (P : Front × ℕ → Type 0) (s : List ℕ) → (begins (codes "b") s ≡ true → P (after 1 binary s)) → (begins (codes "o") s ≡ true → P (after 1 octal s)) → (begins (codes "x") s ≡ true → P (after 1 hexadecimal s)) → P (decimal s) → P (front_past_zero s)
+past_zero P s at_b at_o at_x at_none =
+    by_test P (begins (codes "b") s) (after 1 binary s) _ at_b (λ t. by_test P (begins (codes "o") s) (after 1 octal s) _ at_o (λ t. by_test P (begins (codes "x") s) (after 1 hexadecimal s) (decimal s) at_x (λ t. at_none)))
+
+begins-letter : (letter : ℕ) (s : List ℕ) → is_prefix_letter letter ≡ true → begins (letter ∷ []) s ≡ true → next_is is_prefix_letter s ≡ true
+begins-letter letter [] is t = absurd (true≢false (sym t))
+begins-letter letter (c ∷ s) is t = ap is_prefix_letter (eqb-true c letter (and_parts (c == letter) true t).0) ∙ is
+
+-- digits past the first one, with no prefix
+abbrev IsPlainWithin : List ℕ → List ℕ → Front × ℕ → Type 0
+IsPlainWithin left ds r = Within (next_is (goes_on Decimal) left ≡ true) (r.0, suc r.1) (front_of Decimal false) (suc (length ds))
+
+whole-within : {base : Base} {empty : Bool} {w : List ℕ} → IsWhole base empty w → (left : List ℕ) → Within (next_is (goes_on base) left ≡ true) (front_all (w ++ left)) (front_of base empty) (length w)
+whole-within (plain {d} {ds} digit are) left = by_test (IsPlainWithin left ds) (d == byte "0") (front_past_zero (ds ++ left)) (decimal (ds ++ left)) (λ t. at_zero ds are) (λ t. at_run ds are)
+  where
+    at_run : (ds : List ℕ) → AreDigits is_ascii_digit ds → IsPlainWithin left ds (decimal (ds ++ left))
+    at_run ds are =
+        let r = decimal (ds ++ left) in
+        within-suc r (front_of Decimal false) (length ds) (within-goes Decimal left r (front_of Decimal false) (length ds) (run-within (λ front. front_of Decimal false) (or_underscore is_ascii_digit) ds left are))
+
+    at_letter : (letter : ℕ) (m : Front × ℕ) → is_prefix_letter letter ≡ true → begins (letter ∷ []) left ≡ true → IsPlainWithin left [] (m.0, 1 + m.1)
+    at_letter letter m is t = inl (next-or is_prefix_letter (or_underscore is_ascii_digit) left (begins-letter letter left is t), omega arith)
+
+    no_letter : (letter d : ℕ) (ds : List ℕ) → or_underscore is_ascii_digit letter ≡ false → AreDigits is_ascii_digit (d ∷ ds) → begins (letter ∷ []) (d ∷ ds ++ left) ≡ true → ⊥
+    no_letter letter d ds out are t =
+        let digit : or_underscore is_ascii_digit d ≡ true = (and_parts (or_underscore is_ascii_digit d) (list_all (or_underscore is_ascii_digit) ds) are).0 in
+        true≢false (sym (and_parts (d == letter) true t).0 ∙ other_than (or_underscore is_ascii_digit) letter d out digit)
+
+    at_zero : (ds : List ℕ) → AreDigits is_ascii_digit ds → IsPlainWithin left ds (front_past_zero (ds ++ left))
+    at_zero [] are = past_zero (IsPlainWithin left []) left (at_letter 98 (binary (drop 1 left)) refl) (at_letter 111 (octal (drop 1 left)) refl) (at_letter 120 (hexadecimal (drop 1 left)) refl) (at_run [] are)
+    at_zero (d ∷ ds) are =
+        past_zero (IsPlainWithin left (d ∷ ds)) (d ∷ ds ++ left) (λ t. absurd (no_letter 98 d ds refl are t)) (λ t. absurd (no_letter 111 d ds refl are t)) (λ t. absurd (no_letter 120 d ds refl are t)) (at_run (d ∷ ds) are)
+whole-within (with_b {ds} are) left = prefix-within Binary ds left are
+whole-within (with_o {ds} are) left = prefix-within Octal ds left are
+whole-within (with_x {ds} are) left = prefix-within Hexadecimal ds left are
+
+-- only where nothing follows the whole part could that go on
+tail-none : (left : List ℕ) {base : Base} {kind : LiteralKind} {t : List ℕ} → IsTailBefore left base kind t → next_is (goes_on base) (t ++ left) ≡ true → length t ≡ 0
+tail-none left nothing t = refl
+tail-none left (dot {base = base} free) t = absurd (true≢false (sym t ∙ dot-stops base))
+tail-none left (of_fraction {base = base} digit are) t = absurd (true≢false (sym t ∙ dot-stops base))
+tail-none left (of_exponent {base = base} {e = e} no_digit is) t = absurd (true≢false (sym t ∙ letter-stops base e no_digit (exponent-letter is)))
+tail-none left (of_both {base = base} ds digit are is) t = absurd (true≢false (sym t ∙ dot-stops base))
+
+-- ---- a number
+
+-- up to a suffix, with its first digit
+abbrev number_all : List ℕ → LiteralKind × ℕ
+number_all s = and_then front_all tail s
+
+number_all-is : (first : ℕ) (s : List ℕ) → number_all (first ∷ s) ≡ ((number_kind first s).0, 1 + (number_kind first s).1)
+unfolding number_kind
+number_all-is first s =
+    let n : ℕ = (front first s).1 in
+    let m : ℕ = (tail (front first s).0 (drop n s)).1 in
+    let sum : suc n + m ≡ 1 + (n + m) = omega arith in
+    ap (λ (k : ℕ). let r : LiteralKind × ℕ = ((tail (front first s).0 (drop n s)).0, k) in r) sum
+
+number-within : (left : List ℕ) {kind : LiteralKind} {t : List ℕ} → IsNumberBefore left kind t → Within (Unit {0}) (number_all (t ++ left)) kind (length t)
+number-within left (of_prefix {base = base} {whole = w} whole) =
+    let sum : length w + 0 ≡ length w = omega arith in
+    subst (λ (n : ℕ). Within (Unit {0}) (number_all (w ++ left)) (Int base true) n) sum (then-within front_all tail w left (front_of base true) (Int base true) 0 (whole-within whole left) (inr refl) (λ t. refl))
+number-within left (of_parts {base = base} {kind = kind} {whole = w} {tail = t} whole is) =
+    let text : w ++ t ++ left ≡ w ++ (t ++ left) = append_assoc w t left in
+    let sum : length w + length t ≡ length (w ++ t) = sym (length-append w t) in
+    subst (λ (n : ℕ). Within (Unit {0}) (number_all (w ++ t ++ left)) kind n) sum
+    (subst (λ (xs : List ℕ). Within (Unit {0}) (number_all xs) kind (length w + length t)) (sym text)
+    (then-within front_all tail w (t ++ left) (front_of base false) kind (length t) (whole-within whole (t ++ left)) (tail-within left is) (tail-none left is)))
+
+-- what stands there is what is read, or shorter
+stands-within : (first : ℕ) (s : List ℕ) (kind : LiteralKind) (n : ℕ) → NumberStands kind n (first ∷ s) → Within (Unit {0}) ((number_kind first s).0, 1 + (number_kind first s).1) kind n
+stands-within first s kind n stands =
+    let text : take n (first ∷ s) ++ drop n (first ∷ s) ≡ first ∷ s = take-append-drop n (first ∷ s) in
+    let len : length (take n (first ∷ s)) ≡ n = length-take-le n (first ∷ s) stands.inside in
+    subst (λ (r : LiteralKind × ℕ). Within (Unit {0}) r kind n) (number_all-is first s)
+    (subst (λ (m : ℕ). Within (Unit {0}) (number_all (first ∷ s)) kind m) len
+    (subst (λ (xs : List ℕ). Within (Unit {0}) (number_all xs) kind (length (take n (first ∷ s)))) text (number-within (drop n (first ∷ s)) stands.is_number)))
+
+-- the number that is read is the longest that stands there
+pub numbers-longest : AreLongest
+numbers-longest first s digit = record {
+  stands = number-stands first s digit;
+  longest = λ other m is. elim (stands-within first s other m is) [ inl h ↦ omega (arith, h.1) | inr e ↦ omega (arith, ap (λ (r : LiteralKind × ℕ). r.1) e) ];
+  only = λ other is. elim (stands-within first s other (1 + (number_kind first s).1) is) [ inl h ↦ absurd (omega (arith, h.1)) | inr e ↦ sym (ap (λ (r : LiteralKind × ℕ). r.0) e) ];
+}
