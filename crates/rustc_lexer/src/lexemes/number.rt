@@ -44,7 +44,8 @@ fn number_kind(first_digit: char, tail: &str) -> (LiteralKind, &str)
 /// exponent.
 #[inline(always)]
 fn front(first_digit: char, tail: &str) -> (Base, bool, &str)
-    ensures { (spec.front_of result.0 result.1, result.2.now) ≡ scanned (spec.front first_digit) tail.now }
+    ensures { (spec.front_of result.0 result.1, result.2.now)
+        ≡ scanned (spec.front first_digit) tail.now }
 {
     if first_digit == '0' {
         front_past_zero(tail)
@@ -56,7 +57,8 @@ fn front(first_digit: char, tail: &str) -> (Base, bool, &str)
 /// The same, where the first digit is 0.
 #[inline(always)]
 fn front_past_zero(tail: &str) -> (Base, bool, &str)
-    ensures { (spec.front_of result.0 result.1, result.2.now) ≡ scanned spec.front_past_zero tail.now }
+    ensures { (spec.front_of result.0 result.1, result.2.now)
+        ≡ scanned spec.front_past_zero tail.now }
 {
     let Some((letter, digits)) = split_first(tail) else {
         return (Base::Decimal, false, tail);
