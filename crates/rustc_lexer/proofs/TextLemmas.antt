@@ -38,7 +38,7 @@ use Rattle.rustc_lexer.specs.State.{suffix_start_of, HasSuffixWithin}
 use Rattle.rustc_lexer.specs.Texts.{IsText}
 use Rattle.rustc_lexer.specs.laws.TokenBy.{scalars-take}
 use Rattle.rustc_lexer.specs.Tokens.{tokens_of}
-use Rattle.rustc_lexer.specs.TokenText.{is_good, IsChecked, HasRawText, HasText, HaveTexts}
+use Rattle.rustc_lexer.specs.TokenText.{is_good, HasRawText, HasText, HaveTexts}
 use Rattle.rustc_lexer.proofs.CharSteps.{bytes_of-suc}
 use Rattle.rustc_lexer.proofs.FrontmatterLemmas.{frontmatter-text, frontmatter-suffix, token_at-either}
 use Rattle.rustc_lexer.proofs.PastLemmas.{split_past}
