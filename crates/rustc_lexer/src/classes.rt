@@ -48,11 +48,11 @@ pub fn is_horizontal_whitespace(c: char) -> bool
 pub fn is_id_start(c: char) -> bool
     ensures { result ≡ Classes.is_id_start c }
 {
-    c == '_' || begins_letter(c)
+    c == '_' || is_xid_start(c)
 }
 
-/// Whether the character is `XID_Start`.
-fn begins_letter(c: char) -> bool
+/// Whether the character is `XID_Start`. Those in ASCII are told without the table.
+fn is_xid_start(c: char) -> bool
     ensures { result ≡ is_xid_start c }
 {
     if c.is_ascii() {
