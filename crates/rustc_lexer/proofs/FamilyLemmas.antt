@@ -2,12 +2,13 @@
 use Rattle.std.proofs.Common.{◌≡◌, ℕ, ◌<◌, ◌≤◌, ◌==◌, ◌&&◌, nat_le, not, Bool, true, false, true≢false, List, [], ◌∷◌, get_or, refl, sym, ap, ◌∙◌, arith}
 use Rattle.std.specs.Char.{is_ascii_digit}
 use Rattle.std.specs.Str.{chars}
-use Rattle.std.proofs.lemmas.Bool.{agree_below_at, eqb-true, lt-leb, ne_eqb}
+use Rattle.std.proofs.lemmas.Bool.{lt-leb, ne_eqb}
+use Rattle.std.proofs.lemmas.List.FromFn.{get_or-map-range_with_len}
 use Rattle.unicode_ident.specs.Ident.{is_xid_start}
 use Rattle.unicode_ident.proofs.Computing.{unicode_ident}
 use Rattle.rustc_lexer.specs.declared.lexemes.family.TheConstants.{FAMILIES}
 use Rattle.rustc_lexer.specs.declared.lexemes.family.Family.{Family}
-use Rattle.rustc_lexer.specs.declared.lexemes.family.Family.TheVariants.{Slash, Space, Word, Number, Quote, Str, Emoji, Hash, Symbol}
+use Rattle.rustc_lexer.specs.declared.lexemes.family.Family.TheVariants.{Slash, Space, Word, Emoji, Symbol}
 use Rattle.rustc_lexer.specs.declared.token.TokenKind.{TokenKind}
 use Rattle.rustc_lexer.specs.Classes.{is_id_start, is_whitespace}
 use Rattle.rustc_lexer.specs.Emoji.{is_emoji}
@@ -23,38 +24,9 @@ by_family f c tail read e g = e ∙ sym (scanned-same (past_first c) (read_by f 
 
 -- ---- the table of families
 
-number_of : Family → ℕ
-number_of Slash = 0
-number_of Space = 1
-number_of Word = 2
-number_of Number = 3
-number_of Quote = 4
-number_of Str = 5
-number_of Emoji = 6
-number_of Hash = 7
-number_of Symbol = 8
-
-numbered : List Family
-numbered = Slash ∷ Space ∷ Word ∷ Number ∷ Quote ∷ Str ∷ Emoji ∷ Hash ∷ Symbol ∷ []
-
-back : (f : Family) → get_or numbered (number_of f) Slash ≡ f
-unfolding number_of numbered
-back Slash = refl
-back Space = refl
-back Word = refl
-back Number = refl
-back Quote = refl
-back Str = refl
-back Emoji = refl
-back Hash = refl
-back Symbol = refl
-
-same_number : (f g : Family) → number_of f ≡ number_of g → f ≡ g
-same_number f g e = sym (back f) ∙ (ap (λ n. get_or numbered n Slash) e ∙ back g)
-
 pub table : (c : ℕ) → c < 128 → get_or FAMILIES c Slash ≡ family_of c
-unfolding number_of is_emoji unicode_ident
-table c small = same_number _ _ (eqb-true _ _ (agree_below_at (λ b. number_of (get_or FAMILIES b Slash) == number_of (family_of b)) (λ _. true) 128 c refl small))
+unfolding is_emoji unicode_ident
+table c small = get_or-map-range_with_len family_of 0 128 c c Slash small (omega arith)
 
 -- ---- past ASCII
 

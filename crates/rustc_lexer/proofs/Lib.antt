@@ -43,6 +43,7 @@ pub mod SettledLemmas
 pub mod ShebangLemmas
 pub mod SpaceLemmas
 pub mod StateLemmas
+pub mod SymbolLemmas
 pub mod TallyWalk
 pub mod TextLemmas
 pub mod TokensLemmas

@@ -15,6 +15,7 @@ use crate::lexemes::lifetime::lifetime_or_char;
 use crate::lexemes::number::number;
 use crate::lexemes::quick::quick_token;
 use crate::lexemes::quoted::str_literal;
+use crate::lexemes::symbol::symbol_kind;
 use crate::lexemes::word::word;
 use crate::scan::{eat_whitespace, split_first};
 use crate::token::{Token, TokenKind};
@@ -30,6 +31,7 @@ mod number;
 pub(crate) mod quick;
 pub(crate) mod quoted;
 pub(crate) mod raw;
+mod symbol;
 mod word;
 
 /// The token at the front of a text. At the end of the text it is `Eof`, of length 0.
@@ -87,40 +89,5 @@ fn past_first(first: char, tail: &str) -> (TokenKind, &str)
         Family::Emoji => invalid_ident(tail),
         Family::Hash => hash(tail),
         Family::Symbol => (symbol_kind(first), tail),
-    }
-}
-
-/// What a character other than a hash is by itself.
-#[inline(always)]
-fn symbol_kind(c: char) -> TokenKind
-    ensures { result ≡ spec.symbol_kind c }
-{
-    match c {
-        ';' => TokenKind::Semi,
-        ',' => TokenKind::Comma,
-        '.' => TokenKind::Dot,
-        '(' => TokenKind::OpenParen,
-        ')' => TokenKind::CloseParen,
-        '{' => TokenKind::OpenBrace,
-        '}' => TokenKind::CloseBrace,
-        '[' => TokenKind::OpenBracket,
-        ']' => TokenKind::CloseBracket,
-        '@' => TokenKind::At,
-        '~' => TokenKind::Tilde,
-        '?' => TokenKind::Question,
-        ':' => TokenKind::Colon,
-        '$' => TokenKind::Dollar,
-        '=' => TokenKind::Eq,
-        '!' => TokenKind::Bang,
-        '<' => TokenKind::Lt,
-        '>' => TokenKind::Gt,
-        '-' => TokenKind::Minus,
-        '&' => TokenKind::And,
-        '|' => TokenKind::Or,
-        '+' => TokenKind::Plus,
-        '*' => TokenKind::Star,
-        '^' => TokenKind::Caret,
-        '%' => TokenKind::Percent,
-        _ => TokenKind::Unknown,
     }
 }
