@@ -1,4 +1,4 @@
-//! Marks, the sentence of each fault, words, and ends that fail.
+//! Marks, the sentence of each fault, shebang lines, words, and ends that fail.
 use crate::job::{Job, read_job};
 use crate::page::write_marked;
 use crate::run::run;
@@ -115,6 +115,35 @@ fn tags(rt: HostRuntime) {
             "at {text:?}"
         );
     }
+}
+
+#[test]
+fn shebang_lines(rt: HostRuntime) {
+    let rows = [
+        (
+            "#!/usr/bin/env rust\n---\na\n---\nfn",
+            "\x1b[90m#!/usr/bin/env rust\x1b[0m\n\x1b[36m---\na\n---\x1b[0m\n\x1b[35mfn\x1b[0m",
+        ),
+        ("#!/bin/sh 0x", "\x1b[90m#!/bin/sh 0x\x1b[0m"),
+        ("#!\r\nfn", "\x1b[90m#!\x1b[0m\r\n\x1b[35mfn\x1b[0m"),
+        ("#![a] // b", "#![a] \x1b[90m// b\x1b[0m"),
+        ("#! [a]\n---\n---", "#! [a]\n---\n---"),
+        (" #!/bin/sh", " #!/bin/sh"),
+    ];
+    for (text, want) in rows {
+        assert!(rt;
+            is_written(rt.alloc(), Style::Colours, text, want),
+            "at {text:?}"
+        );
+    }
+    assert!(rt;
+        is_written(
+            rt.alloc(),
+            Style::Html,
+            "#!a<b\n¬",
+            "<span class=\"comment\">#!a&lt;b</span>\n<mark title=\"no token begins with this character\">¬</mark>",
+        )
+    );
 }
 
 /// The job that the words ask for.
