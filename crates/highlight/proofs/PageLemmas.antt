@@ -4,13 +4,15 @@ use Rattle.std.specs.Prelude.{codes, decimal, IfSome}
 use Rattle.std.specs.Fmt.{digit_glyph, digits, digits_onto, WritesInCalls}
 use Rattle.std.proofs.lemmas.Bool.{ne_eqb}
 use Rattle.std.proofs.lemmas.Str.{IsUtf8-drop}
+use Rattle.rustc_lexer.specs.declared.edition.Edition.{Edition}
 use Rattle.rustc_lexer.specs.declared.token.FrontmatterAllowed.TheVariants.{Yes}
 use Rattle.rustc_lexer.specs.declared.token.Token.{Token}
 use Rattle.rustc_lexer.specs.declared.token.TokenKind.{TokenKind}
 use Rattle.rustc_lexer.specs.Classes.{Fits}
 use Rattle.rustc_lexer.specs.Shebang.{shebang}
 use Rattle.rustc_lexer.specs.Texts.{IsText}
-use Rattle.rustc_lexer.specs.Tokens.{bound, tokens_of, Partitions}
+use Rattle.rustc_lexer.specs.Tokens.{bound, Partitions}
+use Rattle.rustc_lexer.proofs.EditionLemmas.{partitions-in}
 use Rattle.rustc_lexer.proofs.TokensLemmas.{partitions}
 use Rattle.highlight.specs.declared.class.Class.{Class}
 use Rattle.highlight.specs.declared.class.Class.TheVariants.{Plain, Comment, Doc, Keyword, TypeName, Text, Number, Lifetime}
@@ -22,7 +24,7 @@ use Rattle.highlight.specs.Class.{class_of}
 use Rattle.highlight.specs.Escape.{escaped, unescaped, untagged, untagged_from}
 use Rattle.highlight.specs.Fault.{fault_of, sentence}
 use Rattle.highlight.specs.Mark.{class_open, class_close, open_if, close_if}
-use Rattle.highlight.specs.Page.{Part, Mark, Own, class_parts, line_parts, marked, marked_tokens, parts, past_line, shown, text_parts, token_parts, with_marks, without_marks}
+use Rattle.highlight.specs.Page.{Part, Mark, Own, class_parts, line_parts, marked, marked_tokens, parts, past_line, shown, text_parts, token_parts, tokens_for, with_marks, without_marks}
 use Rattle.highlight.proofs.CallLemmas.{no_calls, on_ok_then, one_call, writes_both, writes_whole}
 use Rattle.highlight.proofs.EscapeLemmas.{escaped_append, unescaped_escaped, untagged_escaped}
 
@@ -35,19 +37,29 @@ without_marks-parts style text (token ∷ tokens) =
 without_marks_whole : (style : Style) (text : List ℕ) (tokens : List Token) → Partitions text tokens → without_marks (parts style text tokens) ≡ text
 without_marks_whole style text tokens cut = without_marks-parts style text tokens ∙ take_all (bound tokens (length tokens)) text (let w = cut.whole in omega arith)
 
--- the tokens of what follows a shebang line cut it
-module _ (text : List ℕ) (is : IsText text) where
-  cut_past : (line : Option ℕ) → IfSome line (λ len. IsCharBoundary text len) → Partitions (past_line line text) (tokens_of Yes (past_line line text))
-  cut_past None bounded = partitions text Yes is
-  cut_past (Some len) bounded =
-      let shorter = length-drop len text in
-      partitions (drop len text) Yes record { utf8 = IsUtf8-drop text len is.utf8 bounded; fits = let few = is.fits in omega arith }
+-- the tokens of a text cut it
+partitions_for : (edition : Option Edition) (text : List ℕ) → IsText text → Partitions text (tokens_for edition text)
+partitions_for None text is = partitions text Yes is
+partitions_for (Some edition) text is = partitions-in edition text is
+
+-- those of what follows a shebang line cut that
+cut_past : (edition : Option Edition) (text : List ℕ) (line : Option ℕ) → IfSome line (λ len. IsCharBoundary text len) → IsText text → Partitions (past_line line text) (tokens_for edition (past_line line text))
+cut_past edition text None bounded is = partitions_for edition text is
+cut_past edition text (Some len) bounded is =
+    let shorter = length-drop len text in
+    partitions_for edition (drop len text) record { utf8 = IsUtf8-drop text len is.utf8 bounded; fits = let few = is.fits in omega arith }
+
+-- the parts of a text with this shebang line
+abbrev parts_with : Style → Option Edition → List ℕ → Option ℕ → List Part
+parts_with style edition text line = line_parts style line text ++ parts style (past_line line text) (tokens_for edition (past_line line text))
 
 -- without the marks, a text is as it was
-pub text_is : (style : Style) (text : List ℕ) (line : Option ℕ) → line ≡ shebang text → IfSome line (λ len. IsCharBoundary text len) → IsUtf8 text → Fits text → without_marks (text_parts style text) ≡ text
-text_is style text line is bounded utf8 fits = subst (λ (l : Option ℕ). without_marks (line_parts style l text ++ parts style (past_line l text) (tokens_of Yes (past_line l text))) ≡ text) is (by line (cut_past text record { utf8 = utf8; fits = fits } line bounded))
+pub text_is : (style : Style) (edition : Option Edition) (text : List ℕ) (line : Option ℕ) → line ≡ shebang text → IfSome line (λ len. IsCharBoundary text len) → IsUtf8 text → Fits text
+    → without_marks (text_parts style edition text) ≡ text
+text_is style edition text line is bounded utf8 fits =
+    subst (λ (l : Option ℕ). without_marks (parts_with style edition text l) ≡ text) is (by line (cut_past edition text line bounded record { utf8 = utf8; fits = fits }))
   where
-    by : (l : Option ℕ) → Partitions (past_line l text) (tokens_of Yes (past_line l text)) → without_marks (line_parts style l text ++ parts style (past_line l text) (tokens_of Yes (past_line l text))) ≡ text
+    by : (l : Option ℕ) → Partitions (past_line l text) (tokens_for edition (past_line l text)) → without_marks (parts_with style edition text l) ≡ text
     by None cut = without_marks_whole style text _ cut
     by (Some len) cut = ap (λ xs. take len text ++ xs) (without_marks_whole style (drop len text) _ cut) ∙ take-append-drop len text
 
@@ -156,10 +168,11 @@ untagged_text text (Some len) rest tokens =
     in_class_shown Comment (take len text) _
     ∙ (ap (λ xs. escaped (take len text) ++ xs) (untagged_tokens rest tokens) ∙ sym (escaped_append (take len text) (without_marks (parts Html rest tokens))))
 
-pub page_is : (text : List ℕ) (line : Option ℕ) → line ≡ shebang text → IfSome line (λ len. IsCharBoundary text len) → IsUtf8 text → Fits text → unescaped (untagged (marked Html text)) ≡ text
-page_is text line is bounded utf8 fits =
+pub page_is : (edition : Option Edition) (text : List ℕ) (line : Option ℕ) → line ≡ shebang text → IfSome line (λ len. IsCharBoundary text len) → IsUtf8 text → Fits text
+    → unescaped (untagged (marked Html edition text)) ≡ text
+page_is edition text line is bounded utf8 fits =
     ap unescaped (untagged_text text (shebang text) (past_line (shebang text) text) _)
-    ∙ (unescaped_escaped (without_marks (text_parts Html text)) ∙ text_is Html text line is bounded utf8 fits)
+    ∙ (unescaped_escaped (without_marks (text_parts Html edition text)) ∙ text_is Html edition text line is bounded utf8 fits)
 
 -- ---- the calls that write the tokens
 
@@ -212,11 +225,11 @@ module _ {W : Type 0} (took : W → List ℕ → W → Type 0) where
   writes_nothing style w text left none = subst (λ (ts : List Token). WritesInCalls took w (marked_tokens style text ts) w) (sym none) (no_calls took w)
 
   -- a shebang line, and then the tokens of what follows it
-  pub writes_past : {T E : Type 0} (style : Style) (w v u : W) (text line rest : List ℕ) (len : ℕ) (r : Result T E) → Some len ≡ shebang text → line ≡ take (len - 0) text → rest ≡ drop len text
-      → WritesInCalls took w (with_marks style (class_parts style Comment line)) v → OnOk r (WritesInCalls took v (marked_tokens style rest (tokens_of Yes rest)) u)
-      → OnOk r (WritesInCalls took w (marked style text) u)
-  writes_past style w v u text line rest len r some is past first more = on_ok_then r more (λ wrote.
-      subst (λ (l : Option ℕ). WritesInCalls took w (with_marks style (line_parts style l text ++ parts style (past_line l text) (tokens_of Yes (past_line l text)))) u) some (
-      writes_parts style (class_parts style Comment (take len text)) (parts style (drop len text) (tokens_of Yes (drop len text))) w v u
+  pub writes_past : {T E : Type 0} (style : Style) (edition : Option Edition) (w v u : W) (text line rest : List ℕ) (len : ℕ) (r : Result T E) → Some len ≡ shebang text → line ≡ take (len - 0) text
+      → rest ≡ drop len text → WritesInCalls took w (with_marks style (class_parts style Comment line)) v → OnOk r (WritesInCalls took v (marked_tokens style rest (tokens_for edition rest)) u)
+      → OnOk r (WritesInCalls took w (marked style edition text) u)
+  writes_past style edition w v u text line rest len r some is past first more = on_ok_then r more (λ wrote.
+      subst (λ (l : Option ℕ). WritesInCalls took w (with_marks style (parts_with style edition text l)) u) some (
+      writes_parts style (class_parts style Comment (take len text)) (parts style (drop len text) (tokens_for edition (drop len text))) w v u
       (let all : len - 0 ≡ len = omega arith in subst (λ (xs : List ℕ). WritesInCalls took w (with_marks style (class_parts style Comment xs)) v) (is ∙ ap (λ (k : ℕ). take k text) all) first)
-      (subst (λ (xs : List ℕ). WritesInCalls took v (marked_tokens style xs (tokens_of Yes xs)) u) past wrote)))
+      (subst (λ (xs : List ℕ). WritesInCalls took v (marked_tokens style xs (tokens_for edition xs)) u) past wrote)))

@@ -1,8 +1,10 @@
 -- A text with its shebang line and its tokens marked.
 use Rattle.std.specs.Prelude.{ℕ, List, [], ◌∷◌, ◌++◌, take, drop, Option, Some, None}
+use Rattle.rustc_lexer.specs.declared.edition.Edition.{Edition}
 use Rattle.rustc_lexer.specs.declared.token.Token.{Token}
 use Rattle.rustc_lexer.specs.declared.token.TokenKind.{TokenKind}
 use Rattle.rustc_lexer.specs.declared.token.FrontmatterAllowed.TheVariants.{Yes}
+use Rattle.rustc_lexer.specs.Edition.{tokens_in}
 use Rattle.rustc_lexer.specs.Shebang.{shebang}
 use Rattle.rustc_lexer.specs.Tokens.{tokens_of}
 use Rattle.highlight.specs.declared.class.Class.{Class}
@@ -44,9 +46,14 @@ abbrev pub past_line : Option ℕ → List ℕ → List ℕ
 past_line None text = text
 past_line (Some len) text = drop len text
 
+-- the tokens of a text: those of an edition, or, where none is named, of the newest one with a frontmatter allowed
+abbrev pub tokens_for : Option Edition → List ℕ → List Token
+tokens_for None text = tokens_of Yes text
+tokens_for (Some edition) text = tokens_in edition text
+
 -- a whole text: its shebang line, and the tokens of what follows
-abbrev pub text_parts : Style → List ℕ → List Part
-text_parts style text = line_parts style (shebang text) text ++ parts style (past_line (shebang text) text) (tokens_of Yes (past_line (shebang text) text))
+abbrev pub text_parts : Style → Option Edition → List ℕ → List Part
+text_parts style edition text = line_parts style (shebang text) text ++ parts style (past_line (shebang text) text) (tokens_for edition (past_line (shebang text) text))
 
 -- a part of the text as it is written: in a page with entities, in a terminal as it is
 abbrev pub shown : Style → List ℕ → List ℕ
@@ -69,8 +76,8 @@ abbrev pub marked_tokens : Style → List ℕ → List Token → List ℕ
 marked_tokens style text tokens = with_marks style (parts style text tokens)
 
 -- the same of a whole text
-abbrev pub marked : Style → List ℕ → List ℕ
-marked style text = with_marks style (text_parts style text)
+abbrev pub marked : Style → Option Edition → List ℕ → List ℕ
+marked style edition text = with_marks style (text_parts style edition text)
 
 -- what stands before the text: in a page its head, in a terminal nothing
 abbrev pub head : Style → List ℕ
@@ -83,5 +90,5 @@ foot Html = FOOT.now
 foot style = []
 
 -- all that is written of a text
-abbrev pub printed : Style → List ℕ → List ℕ
-printed style text = head style ++ (marked style text ++ foot style)
+abbrev pub printed : Style → Option Edition → List ℕ → List ℕ
+printed style edition text = head style ++ (marked style edition text ++ foot style)

@@ -2,15 +2,16 @@
 ghost use Rattle.std.specs.Prelude.{◌≡◌, OnOk};
 ghost use Rattle.std.specs.Fmt.{WritesInCalls};
 ghost use Rattle.rustc_lexer.specs.Classes.{Fits};
+ghost use Rattle.rustc_lexer.specs.Edition.{tokens_in};
 ghost use Rattle.rustc_lexer.specs.Tokens.{tokens_of};
 ghost use Rattle.highlight.specs.Escape.{unescaped, untagged};
-ghost use Rattle.highlight.specs.Page.{class_parts, foot, head, marked, marked_tokens, printed, shown, text_parts, token_parts, with_marks, without_marks};
+ghost use Rattle.highlight.specs.Page.{class_parts, foot, head, marked, marked_tokens, printed, shown, text_parts, token_parts, tokens_for, with_marks, without_marks};
 
 use crate::class::{Class, class_of};
 use crate::escape::write_escaped;
 use crate::fault::fault_of;
 use crate::style::{Style, class_close, class_open, close_fault, open_fault};
-use rustc_lexer::{FrontmatterAllowed, TokenKind, strip_shebang, tokenize};
+use rustc_lexer::{Edition, FrontmatterAllowed, TokenKind, strip_shebang, tokenize, tokenize_in};
 use std::fmt;
 
 /// What stands in a page before the text. A page drops the newline past `<pre>`.
@@ -53,12 +54,18 @@ const FOOT: &str = "</pre>
 ";
 
 /// Writes a whole text between marks, as a page where the style is that of pages.
-pub fn write_text<W: fmt::Write>(style: Style, text: &str, output: &mut W) -> fmt::Result
+pub fn write_text<W: fmt::Write>(
+    style: Style,
+    edition: Option<Edition>,
+    text: &str,
+    output: &mut W,
+) -> fmt::Result
     requires fits { Fits text.now }
-    ensures { OnOk result (WritesInCalls W.write_str_gives output.old (printed style text.now) output.new) }
+    ensures { OnOk result (WritesInCalls W.write_str_gives output.old
+        (printed style edition text.now) output.new) }
 {
     output.write_str(head(style))?;
-    write_marked(style, text, output)?;
+    write_marked(style, edition, text, output)?;
     output.write_str(foot(style))
 }
 
@@ -89,21 +96,44 @@ fn foot(style: Style) -> &'static str
 /// Without the marks it is the text. In a page the text is what stands outside of the tags, with
 /// its entities undone.
 #[tactic(auto, using(crate::proofs::PageLemmas::text_is, crate::proofs::PageLemmas::page_is, crate::proofs::PageLemmas::writes_past))]
-pub fn write_marked<W: fmt::Write>(style: Style, text: &str, output: &mut W) -> fmt::Result
+pub fn write_marked<W: fmt::Write>(
+    style: Style,
+    edition: Option<Edition>,
+    text: &str,
+    output: &mut W,
+) -> fmt::Result
     requires fits { Fits text.now }
     ensures written { OnOk result (WritesInCalls W.write_str_gives output.old
-        (marked style text.now) output.new) }
-    ensures text { without_marks (text_parts style text.now) ≡ text.now }
-    ensures page { unescaped (untagged (marked Style.Html text.now)) ≡ text.now }
+        (marked style edition text.now) output.new) }
+    ensures text { without_marks (text_parts style edition text.now) ≡ text.now }
+    ensures page { unescaped (untagged (marked Style.Html edition text.now)) ≡ text.now }
 {
     let Some(end) = strip_shebang(text) else {
-        return write_tokens(style, text, output);
+        return write_code(style, edition, text, output);
     };
     write_in_class(style, Class::Comment, &text[..end], output)?;
-    write_tokens(style, &text[end..], output)
+    write_code(style, edition, &text[end..], output)
 }
 
-/// Writes the tokens of a text, each between its marks. A frontmatter may stand in front.
+/// Writes the tokens of a text, each between its marks: those of an edition, or, where none is
+/// named, those of the newest one, with a frontmatter allowed.
+fn write_code<W: fmt::Write>(
+    style: Style,
+    edition: Option<Edition>,
+    text: &str,
+    output: &mut W,
+) -> fmt::Result
+    requires fits { Fits text.now }
+    ensures { OnOk result (WritesInCalls W.write_str_gives output.old
+        (marked_tokens style text.now (tokens_for edition text.now)) output.new) }
+{
+    match edition {
+        None => write_tokens(style, text, output),
+        Some(edition) => write_tokens_in(style, edition, text, output),
+    }
+}
+
+/// Writes the tokens of a text that a frontmatter may stand in front of.
 fn write_tokens<W: fmt::Write>(style: Style, text: &str, output: &mut W) -> fmt::Result
     requires fits { Fits text.now }
     ensures { OnOk result (WritesInCalls W.write_str_gives output.old
@@ -111,6 +141,26 @@ fn write_tokens<W: fmt::Write>(style: Style, text: &str, output: &mut W) -> fmt:
 {
     let mut start = 0;
     for token in tokenize(text, FrontmatterAllowed::Yes) {
+        let end = start + token.len as usize;
+        write_token(style, token.kind, &text[start..end], output)?;
+        start = end;
+    }
+    Ok(())
+}
+
+/// Writes the tokens of a text in an edition.
+fn write_tokens_in<W: fmt::Write>(
+    style: Style,
+    edition: Edition,
+    text: &str,
+    output: &mut W,
+) -> fmt::Result
+    requires fits { Fits text.now }
+    ensures { OnOk result (WritesInCalls W.write_str_gives output.old
+        (marked_tokens style text.now (tokens_in edition text.now)) output.new) }
+{
+    let mut start = 0;
+    for token in tokenize_in(text, edition) {
         let end = start + token.len as usize;
         write_token(style, token.kind, &text[start..end], output)?;
         start = end;
