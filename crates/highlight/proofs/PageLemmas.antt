@@ -1,11 +1,19 @@
--- What the marked tokens of a text say.
-use Rattle.std.proofs.Common.{◌≡◌, ℕ, zero, suc, ◌+◌, ◌/◌, ◌%◌, ◌<◌, ◌==◌, if◌then◌else◌, Bool, true, false, List, [], ◌∷◌, ◌++◌, length, take, drop, refl, sym, ap, subst, ◌∙◌, arith, take-add, take_all, append_assoc, Option, Some, None, not, nat_lt}
-use Rattle.std.specs.Prelude.{codes, decimal}
+-- What a marked text says, and the calls that write it.
+use Rattle.std.proofs.Common.{◌≡◌, ℕ, zero, suc, ◌+◌, ◌/◌, ◌%◌, ◌<◌, ◌==◌, if◌then◌else◌, Bool, true, false, List, [], ◌∷◌, ◌++◌, length, take, drop, refl, sym, ap, subst, ◌∙◌, arith, take-add, take_all, append_assoc, Option, Some, None, not, nat_lt, length-drop, take-append-drop, IsCharBoundary, IsUtf8, Result, OnOk, ◌-◌}
+use Rattle.std.specs.Prelude.{codes, decimal, IfSome}
 use Rattle.std.specs.Fmt.{digit_glyph, digits, digits_onto, WritesInCalls}
 use Rattle.std.proofs.lemmas.Bool.{ne_eqb}
+use Rattle.std.proofs.lemmas.Str.{IsUtf8-drop}
+use Rattle.rustc_lexer.specs.declared.edition.Edition.{Edition}
+use Rattle.rustc_lexer.specs.declared.token.FrontmatterAllowed.TheVariants.{Yes}
 use Rattle.rustc_lexer.specs.declared.token.Token.{Token}
 use Rattle.rustc_lexer.specs.declared.token.TokenKind.{TokenKind}
+use Rattle.rustc_lexer.specs.Classes.{Fits}
+use Rattle.rustc_lexer.specs.Shebang.{shebang}
+use Rattle.rustc_lexer.specs.Texts.{IsText}
 use Rattle.rustc_lexer.specs.Tokens.{bound, Partitions}
+use Rattle.rustc_lexer.proofs.EditionLemmas.{partitions-in}
+use Rattle.rustc_lexer.proofs.TokensLemmas.{partitions}
 use Rattle.highlight.specs.declared.class.Class.{Class}
 use Rattle.highlight.specs.declared.class.Class.TheVariants.{Plain, Comment, Doc, Keyword, TypeName, Text, Number, Lifetime}
 use Rattle.highlight.specs.declared.fault.Fault.{Fault}
@@ -16,8 +24,8 @@ use Rattle.highlight.specs.Class.{class_of}
 use Rattle.highlight.specs.Escape.{escaped, unescaped, untagged, untagged_from}
 use Rattle.highlight.specs.Fault.{fault_of, sentence}
 use Rattle.highlight.specs.Mark.{class_open, class_close, open_if, close_if}
-use Rattle.highlight.specs.Page.{marked, parts, shown, token_parts, with_marks, without_marks}
-use Rattle.highlight.proofs.CallLemmas.{no_calls, one_call, writes_both}
+use Rattle.highlight.specs.Page.{Part, Mark, Own, class_parts, line_parts, marked, marked_tokens, parts, past_line, shown, text_parts, token_parts, tokens_for, with_marks, without_marks}
+use Rattle.highlight.proofs.CallLemmas.{no_calls, on_ok_then, one_call, writes_both, writes_whole}
 use Rattle.highlight.proofs.EscapeLemmas.{escaped_append, unescaped_escaped, untagged_escaped}
 
 -- without the marks, the parts are the text as far as the tokens go
@@ -26,8 +34,34 @@ without_marks-parts style text [] = refl
 without_marks-parts style text (token ∷ tokens) =
     ap (λ bs. take token.len text ++ bs) (without_marks-parts style (drop token.len text) tokens) ∙ sym (take-add token.len (bound tokens (length tokens)) text)
 
-pub without_marks_whole : (style : Style) (text : List ℕ) (tokens : List Token) → Partitions text tokens → without_marks (parts style text tokens) ≡ text
+without_marks_whole : (style : Style) (text : List ℕ) (tokens : List Token) → Partitions text tokens → without_marks (parts style text tokens) ≡ text
 without_marks_whole style text tokens cut = without_marks-parts style text tokens ∙ take_all (bound tokens (length tokens)) text (let w = cut.whole in omega arith)
+
+-- the tokens of a text cut it
+partitions_for : (edition : Option Edition) (text : List ℕ) → IsText text → Partitions text (tokens_for edition text)
+partitions_for None text is = partitions text Yes is
+partitions_for (Some edition) text is = partitions-in edition text is
+
+-- those of what follows a shebang line cut that
+cut_past : (edition : Option Edition) (text : List ℕ) (line : Option ℕ) → IfSome line (λ len. IsCharBoundary text len) → IsText text → Partitions (past_line line text) (tokens_for edition (past_line line text))
+cut_past edition text None bounded is = partitions_for edition text is
+cut_past edition text (Some len) bounded is =
+    let shorter = length-drop len text in
+    partitions_for edition (drop len text) record { utf8 = IsUtf8-drop text len is.utf8 bounded; fits = let few = is.fits in omega arith }
+
+-- the parts of a text with this shebang line
+abbrev parts_with : Style → Option Edition → List ℕ → Option ℕ → List Part
+parts_with style edition text line = line_parts style line text ++ parts style (past_line line text) (tokens_for edition (past_line line text))
+
+-- without the marks, a text is as it was
+pub text_is : (style : Style) (edition : Option Edition) (text : List ℕ) (line : Option ℕ) → line ≡ shebang text → IfSome line (λ len. IsCharBoundary text len) → IsUtf8 text → Fits text
+    → without_marks (text_parts style edition text) ≡ text
+text_is style edition text line is bounded utf8 fits =
+    subst (λ (l : Option ℕ). without_marks (parts_with style edition text l) ≡ text) is (by line (cut_past edition text line bounded record { utf8 = utf8; fits = fits }))
+  where
+    by : (l : Option ℕ) → Partitions (past_line l text) (tokens_for edition (past_line l text)) → without_marks (parts_with style edition text l) ≡ text
+    by None cut = without_marks_whole style text _ cut
+    by (Some len) cut = ap (λ xs. take len text ++ xs) (without_marks_whole style (drop len text) _ cut) ∙ take-append-drop len text
 
 -- ---- no mark of a page shows anything
 
@@ -110,67 +144,92 @@ class_close_unseen Text rest = refl
 class_close_unseen Number rest = refl
 class_close_unseen Lifetime rest = refl
 
--- what a page shows of its tokens is their text with entities
-untagged_marked : (text : List ℕ) (tokens : List Token) → untagged (marked Html text tokens) ≡ escaped (without_marks (parts Html text tokens))
-untagged_marked text [] = refl
-untagged_marked text (token ∷ tokens) =
+-- what a page shows of a part in its class is its text with entities
+in_class_shown : (class : Class) (own rest : List ℕ) → untagged_from false (class_open Html class ++ (escaped own ++ (class_close Html class ++ rest))) ≡ escaped own ++ untagged_from false rest
+in_class_shown class own rest =
+    class_open_unseen class _ ∙ (untagged_escaped own _ ∙ ap (λ xs. escaped own ++ xs) (class_close_unseen class rest))
+
+-- the same of tokens
+untagged_tokens : (text : List ℕ) (tokens : List Token) → untagged (marked_tokens Html text tokens) ≡ escaped (without_marks (parts Html text tokens))
+untagged_tokens text [] = refl
+untagged_tokens text (token ∷ tokens) =
     let own : List ℕ = take token.len text in
     let fault : Option Fault = fault_of token.kind own in
-    let class : Class = class_of token.kind own in
     open_unseen fault _
-    ∙ (class_open_unseen class _
-    ∙ (untagged_escaped own _
-    ∙ (ap (λ xs. escaped own ++ xs) (class_close_unseen class _ ∙ (close_unseen fault _ ∙ untagged_marked (drop token.len text) tokens))
-    ∙ sym (escaped_append own (without_marks (parts Html (drop token.len text) tokens))))))
+    ∙ (in_class_shown (class_of token.kind own) own _
+    ∙ (ap (λ xs. escaped own ++ xs) (close_unseen fault _ ∙ untagged_tokens (drop token.len text) tokens)
+    ∙ sym (escaped_append own (without_marks (parts Html (drop token.len text) tokens)))))
 
-pub page_text : (text : List ℕ) (tokens : List Token) → Partitions text tokens → unescaped (untagged (marked Html text tokens)) ≡ text
-page_text text tokens cut =
-    ap unescaped (untagged_marked text tokens) ∙ (unescaped_escaped (without_marks (parts Html text tokens)) ∙ without_marks_whole Html text tokens cut)
+-- the same of a whole text
+untagged_text : (text : List ℕ) (line : Option ℕ) (rest : List ℕ) (tokens : List Token)
+    → untagged (with_marks Html (line_parts Html line text ++ parts Html rest tokens)) ≡ escaped (without_marks (line_parts Html line text ++ parts Html rest tokens))
+untagged_text text None rest tokens = untagged_tokens rest tokens
+untagged_text text (Some len) rest tokens =
+    in_class_shown Comment (take len text) _
+    ∙ (ap (λ xs. escaped (take len text) ++ xs) (untagged_tokens rest tokens) ∙ sym (escaped_append (take len text) (without_marks (parts Html rest tokens))))
+
+pub page_is : (edition : Option Edition) (text : List ℕ) (line : Option ℕ) → line ≡ shebang text → IfSome line (λ len. IsCharBoundary text len) → IsUtf8 text → Fits text
+    → unescaped (untagged (marked Html edition text)) ≡ text
+page_is edition text line is bounded utf8 fits =
+    ap unescaped (untagged_text text (shebang text) (past_line (shebang text) text) _)
+    ∙ (unescaped_escaped (without_marks (text_parts Html edition text)) ∙ text_is Html edition text line is bounded utf8 fits)
 
 -- ---- the calls that write the tokens
 
-with_marks-append : (style : Style) (kind : TokenKind) (own : List ℕ) (text : List ℕ) (tokens : List Token)
-    → with_marks style (token_parts style kind own ++ parts style text tokens) ≡ with_marks style (token_parts style kind own) ++ marked style text tokens
-with_marks-append style kind own text tokens =
-    five (open_if style (fault_of kind own)) (class_open style (class_of kind own)) (shown style own) (class_close style (class_of kind own)) (close_if style (fault_of kind own)) (marked style text tokens)
-  where
-    five : (a b t d e m : List ℕ) → a ++ (b ++ (t ++ (d ++ (e ++ m)))) ≡ (a ++ (b ++ (t ++ (d ++ (e ++ []))))) ++ m
-    five a b t d e m =
-        sym (append_assoc a (b ++ (t ++ (d ++ (e ++ [])))) m
-        ∙ ap (λ xs. a ++ xs) (append_assoc b (t ++ (d ++ (e ++ []))) m
-        ∙ ap (λ xs. b ++ xs) (append_assoc t (d ++ (e ++ [])) m
-        ∙ ap (λ xs. t ++ xs) (append_assoc d (e ++ []) m
-        ∙ ap (λ xs. d ++ xs) (append_assoc e [] m)))))
+with_marks-append : (style : Style) (ps qs : List Part) → with_marks style (ps ++ qs) ≡ with_marks style ps ++ with_marks style qs
+with_marks-append style [] qs = refl
+with_marks-append style (Mark bytes ∷ ps) qs = ap (λ xs. bytes ++ xs) (with_marks-append style ps qs) ∙ sym (append_assoc bytes (with_marks style ps) (with_marks style qs))
+with_marks-append style (Own bytes ∷ ps) qs =
+    ap (λ xs. shown style bytes ++ xs) (with_marks-append style ps qs) ∙ sym (append_assoc (shown style bytes) (with_marks style ps) (with_marks style qs))
 
 module _ {W : Type 0} (took : W → List ℕ → W → Type 0) where
+  -- some parts, and then others
+  pub writes_parts : (style : Style) (ps qs : List Part) (w0 w1 w2 : W) → WritesInCalls took w0 (with_marks style ps) w1 → WritesInCalls took w1 (with_marks style qs) w2
+      → WritesInCalls took w0 (with_marks style (ps ++ qs)) w2
+  writes_parts style ps qs w0 w1 w2 first more = writes_whole took w0 w1 w2 _ _ _ (with_marks-append style ps qs) first more
+
+  -- a part of the text between the marks of its class
+  pub writes_in_class : (style : Style) (class : Class) (own : List ℕ) (w0 w1 w2 w3 : W) (before after : List ℕ) → before ≡ class_open style class → after ≡ class_close style class
+      → took w0 before w1 → WritesInCalls took w1 (shown style own) w2 → took w2 after w3 → WritesInCalls took w0 (with_marks style (class_parts style class own)) w3
+  writes_in_class style class own w0 w1 w2 w3 before after opens closes a b d =
+      let open_call = subst (λ (bs : List ℕ). took w0 bs w1) opens a in
+      let close_call = subst (λ (bs : List ℕ). took w2 bs w3) closes d in
+      writes_both took w0 w1 w3 _ _ (one_call took w0 w1 _ open_call) (
+      writes_both took w1 w2 w3 _ _ b (
+      writes_both took w2 w3 w3 _ _ (one_call took w2 w3 _ close_call) (no_calls took w3)))
+
   -- a token between its marks
-  pub writes_parts : (style : Style) (kind : TokenKind) (own : List ℕ) (w0 w1 w2 w3 w4 w5 : W) (fault : Option Fault) (class : Class) (before after : List ℕ)
-      → fault ≡ fault_of kind own → class ≡ class_of kind own → before ≡ class_open style class → after ≡ class_close style class
-      → WritesInCalls took w0 (open_if style fault) w1 → took w1 before w2 → WritesInCalls took w2 (shown style own) w3 → took w3 after w4
-      → WritesInCalls took w4 (close_if style fault) w5 → WritesInCalls took w0 (with_marks style (token_parts style kind own)) w5
-  writes_parts style kind own w0 w1 w2 w3 w4 w5 fault class before after is_fault is_class opens closes a b t d e =
+  pub writes_between : (style : Style) (kind : TokenKind) (own : List ℕ) (w0 w1 w2 w3 : W) (fault : Option Fault) (class : Class)
+      → fault ≡ fault_of kind own → class ≡ class_of kind own
+      → WritesInCalls took w0 (open_if style fault) w1 → WritesInCalls took w1 (with_marks style (class_parts style class own)) w2
+      → WritesInCalls took w2 (close_if style fault) w3 → WritesInCalls took w0 (with_marks style (token_parts style kind own)) w3
+  writes_between style kind own w0 w1 w2 w3 fault class is_fault is_class a b d =
       let first = subst (λ (f : Option Fault). WritesInCalls took w0 (open_if style f) w1) is_fault a in
-      let last = subst (λ (f : Option Fault). WritesInCalls took w4 (close_if style f) w5) is_fault e in
-      let open_call = subst (λ (bs : List ℕ). took w1 bs w2) (opens ∙ ap (λ (k : Class). class_open style k) is_class) b in
-      let close_call = subst (λ (bs : List ℕ). took w3 bs w4) (closes ∙ ap (λ (k : Class). class_close style k) is_class) d in
-      writes_both took w0 w1 w5 _ _ first (
-      writes_both took w1 w2 w5 _ _ (one_call took w1 w2 _ open_call) (
-      writes_both took w2 w3 w5 _ _ t (
-      writes_both took w3 w4 w5 _ _ (one_call took w3 w4 _ close_call) (
-      writes_both took w4 w5 w5 _ _ last (no_calls took w5)))))
+      let inside = subst (λ (k : Class). WritesInCalls took w1 (with_marks style (class_parts style k own)) w2) is_class b in
+      let last = subst (λ (f : Option Fault). WritesInCalls took w2 (close_if style f) w3) is_fault d in
+      writes_both took w0 w1 w3 _ _ first (
+      writes_parts style (class_parts style (class_of kind own) own) (Mark (close_if style (fault_of kind own)) ∷ []) w1 w2 w3 inside (writes_both took w2 w3 w3 _ _ last (no_calls took w3)))
 
   -- a token, and then those that are left
   pub writes_token : (style : Style) (w0 w1 w : W) (text rest own : List ℕ) (left others : List Token) (token : Token)
       → left ≡ token ∷ others → rest ≡ drop token.len text → own ≡ take token.len text
       → WritesInCalls took w0 (with_marks style (token_parts style token.kind own)) w1
-      → WritesInCalls took w1 (marked style rest others) w → WritesInCalls took w0 (marked style text left) w
+      → WritesInCalls took w1 (marked_tokens style rest others) w → WritesInCalls took w0 (marked_tokens style text left) w
   writes_token style w0 w1 w text rest own left others token first past is wrote more =
-      let whole : marked style text left ≡ with_marks style (token_parts style token.kind own) ++ marked style rest others =
-      ap (λ (ts : List Token). marked style text ts) first
-      ∙ (with_marks-append style token.kind (take token.len text) (drop token.len text) others
-      ∙ (ap (λ (xs : List ℕ). with_marks style (token_parts style token.kind xs) ++ marked style (drop token.len text) others) (sym is)
-      ∙ ap (λ (xs : List ℕ). with_marks style (token_parts style token.kind own) ++ marked style xs others) (sym past))) in
-      subst (λ (xs : List ℕ). WritesInCalls took w0 xs w) (sym whole) (writes_both took w0 w1 w _ _ wrote more)
+      subst (λ (ts : List Token). WritesInCalls took w0 (marked_tokens style text ts) w) (sym first) (
+      writes_parts style (token_parts style token.kind (take token.len text)) (parts style (drop token.len text) others) w0 w1 w
+      (subst (λ (xs : List ℕ). WritesInCalls took w0 (with_marks style (token_parts style token.kind xs)) w1) is wrote)
+      (subst (λ (xs : List ℕ). WritesInCalls took w1 (marked_tokens style xs others) w) past more))
 
-  pub writes_nothing : (style : Style) (w : W) (text : List ℕ) (left : List Token) → left ≡ [] → WritesInCalls took w (marked style text left) w
-  writes_nothing style w text left none = subst (λ (ts : List Token). WritesInCalls took w (marked style text ts) w) (sym none) (no_calls took w)
+  pub writes_nothing : (style : Style) (w : W) (text : List ℕ) (left : List Token) → left ≡ [] → WritesInCalls took w (marked_tokens style text left) w
+  writes_nothing style w text left none = subst (λ (ts : List Token). WritesInCalls took w (marked_tokens style text ts) w) (sym none) (no_calls took w)
+
+  -- a shebang line, and then the tokens of what follows it
+  pub writes_past : {T E : Type 0} (style : Style) (edition : Option Edition) (w v u : W) (text line rest : List ℕ) (len : ℕ) (r : Result T E) → Some len ≡ shebang text → line ≡ take (len - 0) text
+      → rest ≡ drop len text → WritesInCalls took w (with_marks style (class_parts style Comment line)) v → OnOk r (WritesInCalls took v (marked_tokens style rest (tokens_for edition rest)) u)
+      → OnOk r (WritesInCalls took w (marked style edition text) u)
+  writes_past style edition w v u text line rest len r some is past first more = on_ok_then r more (λ wrote.
+      subst (λ (l : Option ℕ). WritesInCalls took w (with_marks style (parts_with style edition text l)) u) some (
+      writes_parts style (class_parts style Comment (take len text)) (parts style (drop len text) (tokens_for edition (drop len text))) w v u
+      (let all : len - 0 ≡ len = omega arith in subst (λ (xs : List ℕ). WritesInCalls took w (with_marks style (class_parts style Comment xs)) v) (is ∙ ap (λ (k : ℕ). take k text) all) first)
+      (subst (λ (xs : List ℕ). WritesInCalls took v (marked_tokens style xs (tokens_for edition xs)) u) past wrote)))

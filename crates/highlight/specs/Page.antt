@@ -1,9 +1,14 @@
--- A text with its tokens marked.
-use Rattle.std.specs.Prelude.{ℕ, List, [], ◌∷◌, ◌++◌, take, drop}
+-- A text with its shebang line and its tokens marked.
+use Rattle.std.specs.Prelude.{ℕ, List, [], ◌∷◌, ◌++◌, take, drop, Option, Some, None}
+use Rattle.rustc_lexer.specs.declared.edition.Edition.{Edition}
 use Rattle.rustc_lexer.specs.declared.token.Token.{Token}
 use Rattle.rustc_lexer.specs.declared.token.TokenKind.{TokenKind}
 use Rattle.rustc_lexer.specs.declared.token.FrontmatterAllowed.TheVariants.{Yes}
+use Rattle.rustc_lexer.specs.Edition.{tokens_in}
+use Rattle.rustc_lexer.specs.Shebang.{shebang}
 use Rattle.rustc_lexer.specs.Tokens.{tokens_of}
+use Rattle.highlight.specs.declared.class.Class.{Class}
+use Rattle.highlight.specs.declared.class.Class.TheVariants.{Comment}
 use Rattle.highlight.specs.declared.page.TheConstants.{HEAD, FOOT}
 use Rattle.highlight.specs.declared.style.Style.{Style}
 use Rattle.highlight.specs.declared.style.Style.TheVariants.{Html, Colours, NoColours}
@@ -17,16 +22,38 @@ pub data Part : Type 0 where
   Mark : List ℕ → Part
   Own : List ℕ → Part
 
--- a token: the marks that open it, its text, and the marks that close it
+-- a part of the text between the marks of its class
+abbrev pub class_parts : Style → Class → List ℕ → List Part
+class_parts style class text = Mark (class_open style class) ∷ Own text ∷ Mark (class_close style class) ∷ []
+
+-- a token between the marks of its class, and around those the marks of its fault
 abbrev pub token_parts : Style → TokenKind → List ℕ → List Part
 token_parts style kind text =
-    Mark (open_if style (fault_of kind text)) ∷ Mark (class_open style (class_of kind text)) ∷ Own text
-    ∷ Mark (class_close style (class_of kind text)) ∷ Mark (close_if style (fault_of kind text)) ∷ []
+    Mark (open_if style (fault_of kind text)) ∷ (class_parts style (class_of kind text) text ++ (Mark (close_if style (fault_of kind text)) ∷ []))
 
 -- each token of a text between its marks
 abbrev pub parts : Style → List ℕ → List Token → List Part
 parts style text [] = []
 parts style text (token ∷ tokens) = token_parts style token.kind (take token.len text) ++ parts style (drop token.len text) tokens
+
+-- the shebang line, where a text has one, between the marks of a comment
+abbrev pub line_parts : Style → Option ℕ → List ℕ → List Part
+line_parts style None text = []
+line_parts style (Some len) text = class_parts style Comment (take len text)
+
+-- what follows that line, which is the whole text where it has none
+abbrev pub past_line : Option ℕ → List ℕ → List ℕ
+past_line None text = text
+past_line (Some len) text = drop len text
+
+-- the tokens of a text: those of an edition, or, where none is named, of the newest one with a frontmatter allowed
+abbrev pub tokens_for : Option Edition → List ℕ → List Token
+tokens_for None text = tokens_of Yes text
+tokens_for (Some edition) text = tokens_in edition text
+
+-- a whole text: its shebang line, and the tokens of what follows
+abbrev pub text_parts : Style → Option Edition → List ℕ → List Part
+text_parts style edition text = line_parts style (shebang text) text ++ parts style (past_line (shebang text) text) (tokens_for edition (past_line (shebang text) text))
 
 -- a part of the text as it is written: in a page with entities, in a terminal as it is
 abbrev pub shown : Style → List ℕ → List ℕ
@@ -44,9 +71,13 @@ without_marks [] = []
 without_marks (Mark bytes ∷ ps) = without_marks ps
 without_marks (Own bytes ∷ ps) = bytes ++ without_marks ps
 
--- the text with its tokens marked
-abbrev pub marked : Style → List ℕ → List Token → List ℕ
-marked style text tokens = with_marks style (parts style text tokens)
+-- each token of a text between its marks, as it is written
+abbrev pub marked_tokens : Style → List ℕ → List Token → List ℕ
+marked_tokens style text tokens = with_marks style (parts style text tokens)
+
+-- the same of a whole text
+abbrev pub marked : Style → Option Edition → List ℕ → List ℕ
+marked style edition text = with_marks style (text_parts style edition text)
 
 -- what stands before the text: in a page its head, in a terminal nothing
 abbrev pub head : Style → List ℕ
@@ -59,5 +90,5 @@ foot Html = FOOT.now
 foot style = []
 
 -- all that is written of a text
-abbrev pub printed : Style → List ℕ → List ℕ
-printed style text = head style ++ (marked style text (tokens_of Yes text) ++ foot style)
+abbrev pub printed : Style → Option Edition → List ℕ → List ℕ
+printed style edition text = head style ++ (marked style edition text ++ foot style)

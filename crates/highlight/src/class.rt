@@ -13,7 +13,8 @@ pub enum Class {
     Comment,
     /// A doc comment, or a frontmatter.
     Doc,
-    /// A keyword, as `while`.
+    /// A keyword, as `while`. One list stands for all editions: `async`, `await` and `dyn` are
+    /// keywords in 2015 too, and `try` and `gen` in none.
     Keyword,
     /// A name that begins with a capital letter of ASCII.
     TypeName,

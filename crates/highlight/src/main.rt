@@ -23,6 +23,7 @@ use stop::{Stop, status};
 const HELP: &str = "highlight < FILE           writes a Rust source in the colours of a terminal
 highlight --html < FILE    writes it as a page
 highlight --help           writes these lines
+With --edition YEAR, alone or beside --html, the source is read as Rust of 2015, 2018, 2021 or 2024.
 A token with a fault is underlined, with a sentence that says what is wrong.
 Where NO_COLOR is set, and not empty, a terminal gets no escape sequences.
 ";
@@ -48,7 +49,13 @@ fn highlight(rt: &HostRuntime) -> Result<(), Stop> {
         }
     }
     match read_job(words.as_slice(), wants_colours(rt)) {
-        Some(Job::Show(style)) => run(rt.alloc(), style, &mut rt.stdin(), &mut rt.stdout()),
+        Some(Job::Show { style, edition }) => run(
+            rt.alloc(),
+            style,
+            edition,
+            &mut rt.stdin(),
+            &mut rt.stdout(),
+        ),
         Some(Job::Help) => write_out(&mut rt.stdout(), HELP),
         None => Err(Stop::Arguments),
     }

@@ -1,16 +1,17 @@
-//! A text with its tokens marked, for a terminal or as a page.
+//! A text with its shebang line and its tokens marked, for a terminal or as a page.
 ghost use Rattle.std.specs.Prelude.{◌≡◌, OnOk};
 ghost use Rattle.std.specs.Fmt.{WritesInCalls};
 ghost use Rattle.rustc_lexer.specs.Classes.{Fits};
+ghost use Rattle.rustc_lexer.specs.Edition.{tokens_in};
 ghost use Rattle.rustc_lexer.specs.Tokens.{tokens_of};
 ghost use Rattle.highlight.specs.Escape.{unescaped, untagged};
-ghost use Rattle.highlight.specs.Page.{foot, head, marked, parts, printed, shown, token_parts, with_marks, without_marks};
+ghost use Rattle.highlight.specs.Page.{class_parts, foot, head, marked, marked_tokens, printed, shown, text_parts, token_parts, tokens_for, with_marks, without_marks};
 
-use crate::class::class_of;
+use crate::class::{Class, class_of};
 use crate::escape::write_escaped;
 use crate::fault::fault_of;
 use crate::style::{Style, class_close, class_open, close_fault, open_fault};
-use rustc_lexer::{FrontmatterAllowed, TokenKind, tokenize};
+use rustc_lexer::{Edition, FrontmatterAllowed, TokenKind, strip_shebang, tokenize, tokenize_in};
 use std::fmt;
 
 /// What stands in a page before the text. A page drops the newline past `<pre>`.
@@ -52,13 +53,19 @@ const FOOT: &str = "</pre>
 </html>
 ";
 
-/// Writes a whole text with its tokens marked, as a page where the style is that of pages.
-pub fn write_text<W: fmt::Write>(style: Style, text: &str, output: &mut W) -> fmt::Result
+/// Writes a whole text between marks, as a page where the style is that of pages.
+pub fn write_text<W: fmt::Write>(
+    style: Style,
+    edition: Option<Edition>,
+    text: &str,
+    output: &mut W,
+) -> fmt::Result
     requires fits { Fits text.now }
-    ensures { OnOk result (WritesInCalls W.write_str_gives output.old (printed style text.now) output.new) }
+    ensures { OnOk result (WritesInCalls W.write_str_gives output.old
+        (printed style edition text.now) output.new) }
 {
     output.write_str(head(style))?;
-    write_marked(style, text, output)?;
+    write_marked(style, edition, text, output)?;
     output.write_str(foot(style))
 }
 
@@ -82,21 +89,78 @@ fn foot(style: Style) -> &'static str
     }
 }
 
-/// Writes the tokens of a whole text between their marks: in colours by the class of each, and with a sentence at each that
-/// has a fault.
+/// Writes a whole text: its shebang line, where it has one, between the marks of a comment, and the
+/// tokens of what follows between theirs. The marks are colours by the class of each token, and a
+/// sentence at each that has a fault.
 ///
-/// Without the marks it is the text. In a page the text is what stands outside of the tags, with its entities
-/// undone.
-#[tactic(auto, using(crate::proofs::PageLemmas::without_marks_whole, crate::proofs::PageLemmas::page_text))]
-pub fn write_marked<W: fmt::Write>(style: Style, text: &str, output: &mut W) -> fmt::Result
+/// Without the marks it is the text. In a page the text is what stands outside of the tags, with
+/// its entities undone.
+#[tactic(auto, using(crate::proofs::PageLemmas::text_is, crate::proofs::PageLemmas::page_is, crate::proofs::PageLemmas::writes_past))]
+pub fn write_marked<W: fmt::Write>(
+    style: Style,
+    edition: Option<Edition>,
+    text: &str,
+    output: &mut W,
+) -> fmt::Result
     requires fits { Fits text.now }
     ensures written { OnOk result (WritesInCalls W.write_str_gives output.old
-        (marked style text.now (tokens_of FrontmatterAllowed.Yes text.now)) output.new) }
-    ensures text { without_marks (parts style text.now (tokens_of FrontmatterAllowed.Yes text.now)) ≡ text.now }
-    ensures page { unescaped (untagged (marked Style.Html text.now (tokens_of FrontmatterAllowed.Yes text.now))) ≡ text.now }
+        (marked style edition text.now) output.new) }
+    ensures text { without_marks (text_parts style edition text.now) ≡ text.now }
+    ensures page { unescaped (untagged (marked Style.Html edition text.now)) ≡ text.now }
+{
+    let Some(end) = strip_shebang(text) else {
+        return write_code(style, edition, text, output);
+    };
+    write_in_class(style, Class::Comment, &text[..end], output)?;
+    write_code(style, edition, &text[end..], output)
+}
+
+/// Writes the tokens of a text, each between its marks: those of an edition, or, where none is
+/// named, those of the newest one, with a frontmatter allowed.
+fn write_code<W: fmt::Write>(
+    style: Style,
+    edition: Option<Edition>,
+    text: &str,
+    output: &mut W,
+) -> fmt::Result
+    requires fits { Fits text.now }
+    ensures { OnOk result (WritesInCalls W.write_str_gives output.old
+        (marked_tokens style text.now (tokens_for edition text.now)) output.new) }
+{
+    match edition {
+        None => write_tokens(style, text, output),
+        Some(edition) => write_tokens_in(style, edition, text, output),
+    }
+}
+
+/// Writes the tokens of a text that a frontmatter may stand in front of.
+fn write_tokens<W: fmt::Write>(style: Style, text: &str, output: &mut W) -> fmt::Result
+    requires fits { Fits text.now }
+    ensures { OnOk result (WritesInCalls W.write_str_gives output.old
+        (marked_tokens style text.now (tokens_of FrontmatterAllowed.Yes text.now)) output.new) }
 {
     let mut start = 0;
     for token in tokenize(text, FrontmatterAllowed::Yes) {
+        let end = start + token.len as usize;
+        write_token(style, token.kind, &text[start..end], output)?;
+        start = end;
+    }
+    Ok(())
+}
+
+/// Writes the tokens of a text in an edition.
+fn write_tokens_in<W: fmt::Write>(
+    style: Style,
+    edition: Edition,
+    text: &str,
+    output: &mut W,
+) -> fmt::Result
+    requires fits { Fits text.now }
+    ensures { OnOk result (WritesInCalls W.write_str_gives output.old
+        (marked_tokens style text.now (tokens_in edition text.now)) output.new) }
+{
+    let mut start = 0;
+    for token in tokenize_in(text, edition) {
         let end = start + token.len as usize;
         write_token(style, token.kind, &text[start..end], output)?;
         start = end;
@@ -112,15 +176,28 @@ fn write_token<W: fmt::Write>(
     output: &mut W,
 ) -> fmt::Result
     requires fits { Fits text.now }
-    ensures { OnOk result (WritesInCalls W.write_str_gives output.old (with_marks style (token_parts style kind text.now)) output.new) }
+    ensures { OnOk result (WritesInCalls W.write_str_gives output.old
+        (with_marks style (token_parts style kind text.now)) output.new) }
 {
-    let class = class_of(kind, text);
     let fault = fault_of(kind, text);
     open_fault(style, fault, output)?;
+    write_in_class(style, class_of(kind, text), text, output)?;
+    close_fault(style, fault, output)
+}
+
+/// Writes a part of the text between the marks of its class.
+fn write_in_class<W: fmt::Write>(
+    style: Style,
+    class: Class,
+    text: &str,
+    output: &mut W,
+) -> fmt::Result
+    ensures { OnOk result (WritesInCalls W.write_str_gives output.old
+        (with_marks style (class_parts style class text.now)) output.new) }
+{
     output.write_str(class_open(style, class))?;
     write_shown(style, text, output)?;
-    output.write_str(class_close(style, class))?;
-    close_fault(style, fault, output)
+    output.write_str(class_close(style, class))
 }
 
 /// Writes a part of the text: in a page with entities, in a terminal as it is.

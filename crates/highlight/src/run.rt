@@ -9,7 +9,7 @@ ghost use Rattle.highlight.specs.Stop.{IsWriteStop};
 use crate::page::write_text;
 use crate::stop::Stop;
 use crate::style::Style;
-use rustc_lexer::fits;
+use rustc_lexer::{Edition, fits};
 use std::alloc::Global;
 use std::fmt;
 use std::io::{ErrorKind, Read, Write};
@@ -18,10 +18,12 @@ use std::io::{ErrorKind, Read, Write};
 pub fn run<R: Read, W: Write>(
     alloc: Global,
     style: Style,
+    edition: Option<Edition>,
     input: &mut R,
     output: &mut W,
 ) -> Result<(), Stop>
-    ensures written { OnOk result (IfSome (R.remaining input.old) (λ bytes. Appends (W.contents output.old) (W.contents output.new) (printed style bytes))) }
+    ensures written { OnOk result (IfSome (R.remaining input.old) (λ bytes.
+        Appends (W.contents output.old) (W.contents output.new) (printed style edition bytes))) }
     ensures text { IsErrOf result Stop.NotUtf8 → IfSome (R.remaining input.old) (λ bytes. ¬ (IsUtf8 bytes)) }
     ensures long { IsErrOf result Stop.TooLong → IfSome (R.remaining input.old) (λ bytes. 2 ^ 32 ≤ length bytes) }
     ensures silent { IfErr result (λ stop. stop ≢ Stop.Write → stop ≢ Stop.ClosedPipe → Keeps (W.contents output.old) (W.contents output.new)) }
@@ -39,19 +41,24 @@ pub fn run<R: Read, W: Write>(
     if !fits(text) {
         return Err(Stop::TooLong);
     }
-    let Ok(made) = print(alloc, style, text) else {
+    let Ok(made) = print(alloc, style, edition, text) else {
         return Err(Stop::Memory);
     };
     write_out(output, made.as_str())
 }
 
 /// All that is written of the text.
-fn print(alloc: Global, style: Style, text: &str) -> Result<String, fmt::Error>
+fn print(
+    alloc: Global,
+    style: Style,
+    edition: Option<Edition>,
+    text: &str,
+) -> Result<String, fmt::Error>
     requires { Fits text.now }
-    ensures { IfOk result (λ made. string_bytes made ≡ printed style text.now) }
+    ensures { IfOk result (λ made. string_bytes made ≡ printed style edition text.now) }
 {
     let mut made = String::new(alloc);
-    write_text(style, text, &mut made)?;
+    write_text(style, edition, text, &mut made)?;
     Ok(made)
 }
 

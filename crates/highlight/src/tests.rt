@@ -1,10 +1,10 @@
-//! Marks, the sentence of each fault, words, and ends that fail.
+//! Marks, the sentence of each fault, shebang lines, words, editions, and ends that fail.
 use crate::job::{Job, read_job};
 use crate::page::write_marked;
 use crate::run::run;
 use crate::stop::{Stop, status};
 use crate::style::Style;
-use rustc_lexer::fits;
+use rustc_lexer::{Edition, fits};
 use std::alloc::{AllocError, Global};
 use std::io;
 use std::io::{Error, ErrorKind, Write};
@@ -12,8 +12,21 @@ use std::test::Fail;
 
 /// Whether this is what is written of the text.
 fn is_written(alloc: Global, style: Style, text: &str, want: &str) -> bool {
+    is_written_in(alloc, style, None, text, want)
+}
+
+/// The same by the tokens of an edition.
+fn is_written_in(
+    alloc: Global,
+    style: Style,
+    edition: Option<Edition>,
+    text: &str,
+    want: &str,
+) -> bool {
     let mut written = String::new(alloc);
-    fits(text) && write_marked(style, text, &mut written).is_ok() && written.as_str() == want
+    fits(text)
+        && write_marked(style, edition, text, &mut written).is_ok()
+        && written.as_str() == want
 }
 
 #[test]
@@ -117,6 +130,35 @@ fn tags(rt: HostRuntime) {
     }
 }
 
+#[test]
+fn shebang_lines(rt: HostRuntime) {
+    let rows = [
+        (
+            "#!/usr/bin/env rust\n---\na\n---\nfn",
+            "\x1b[90m#!/usr/bin/env rust\x1b[0m\n\x1b[36m---\na\n---\x1b[0m\n\x1b[35mfn\x1b[0m",
+        ),
+        ("#!/bin/sh 0x", "\x1b[90m#!/bin/sh 0x\x1b[0m"),
+        ("#!\r\nfn", "\x1b[90m#!\x1b[0m\r\n\x1b[35mfn\x1b[0m"),
+        ("#![a] // b", "#![a] \x1b[90m// b\x1b[0m"),
+        ("#! [a]\n---\n---", "#! [a]\n---\n---"),
+        (" #!/bin/sh", " #!/bin/sh"),
+    ];
+    for (text, want) in rows {
+        assert!(rt;
+            is_written(rt.alloc(), Style::Colours, text, want),
+            "at {text:?}"
+        );
+    }
+    assert!(rt;
+        is_written(
+            rt.alloc(),
+            Style::Html,
+            "#!a<b\n¬",
+            "<span class=\"comment\">#!a&lt;b</span>\n<mark title=\"no token begins with this character\">¬</mark>",
+        )
+    );
+}
+
 /// The job that the words ask for.
 fn job_of(alloc: Global, texts: &[&str], colours: bool) -> Result<Option<Job>, AllocError> {
     let mut words = Vec::new(alloc);
@@ -126,22 +168,109 @@ fn job_of(alloc: Global, texts: &[&str], colours: bool) -> Result<Option<Job>, A
     Ok(read_job(words.as_slice(), colours))
 }
 
+/// To show a text in a style and an edition.
+fn shown(style: Style, edition: Option<Edition>) -> Option<Job> {
+    Some(Job::Show { style, edition })
+}
+
 #[test]
 fn words(rt: HostRuntime) -> Result<(), Fail> {
     let alloc = rt.alloc();
-    assert_eq!(rt; job_of(alloc, &[], true)?, Some(Job::Show(Style::Colours)));
-    assert_eq!(rt;
-        job_of(alloc, &[], false)?,
-        Some(Job::Show(Style::NoColours))
-    );
+    assert_eq!(rt; job_of(alloc, &[], true)?, shown(Style::Colours, None));
+    assert_eq!(rt; job_of(alloc, &[], false)?, shown(Style::NoColours, None));
     assert_eq!(rt;
         job_of(alloc, &["--html"], false)?,
-        Some(Job::Show(Style::Html))
+        shown(Style::Html, None)
     );
     assert_eq!(rt; job_of(alloc, &["--help"], true)?, Some(Job::Help));
     assert_eq!(rt; job_of(alloc, &["html"], true)?, None);
     assert_eq!(rt; job_of(alloc, &["--html", "--help"], true)?, None);
     Ok(())
+}
+
+#[test]
+fn years(rt: HostRuntime) -> Result<(), Fail> {
+    let alloc = rt.alloc();
+    let rows = [
+        ("2015", Edition::E2015),
+        ("2018", Edition::E2018),
+        ("2021", Edition::E2021),
+        ("2024", Edition::E2024),
+    ];
+    for (year, edition) in rows {
+        let edition = Some(edition);
+        assert_eq!(rt;
+            job_of(alloc, &["--edition", year], true)?,
+            shown(Style::Colours, edition)
+        );
+        assert_eq!(rt;
+            job_of(alloc, &["--edition", year], false)?,
+            shown(Style::NoColours, edition)
+        );
+        assert_eq!(rt;
+            job_of(alloc, &["--edition", year, "--html"], true)?,
+            shown(Style::Html, edition)
+        );
+        assert_eq!(rt;
+            job_of(alloc, &["--html", "--edition", year], false)?,
+            shown(Style::Html, edition)
+        );
+    }
+    let bad: [&[&str]; 9] = [
+        &["--edition"],
+        &["--edition", "2020"],
+        &["--edition", "2018 "],
+        &["--edition", "--html", "2018"],
+        &["--edition", "2018", "--edition", "2018"],
+        &["--edition", "2018", "--help"],
+        &["--edition", "2018", "--html", "--html"],
+        &["--html", "--edition"],
+        &["--html", "--edition", "E2018"],
+    ];
+    for words in bad {
+        assert_eq!(rt; job_of(alloc, words, true)?, None, "at {words:?}");
+    }
+    Ok(())
+}
+
+#[test]
+fn editions(rt: HostRuntime) {
+    let guarded =
+        "#\" <- these marks are reserved for strings to comea <- no literal has this prefix\" <- nothing closes this string";
+    let prefix = "z <- no literal has this prefix\"a\"";
+    let rows = [
+        (None, "#\"a\"", guarded),
+        (Some(Edition::E2024), "#\"a\"", guarded),
+        (Some(Edition::E2021), "#\"a\"", "#\"a\""),
+        (Some(Edition::E2018), "#\"a\"", "#\"a\""),
+        (Some(Edition::E2015), "#\"a\"", "#\"a\""),
+        (Some(Edition::E2024), "z\"a\"", prefix),
+        (Some(Edition::E2021), "z\"a\"", prefix),
+        (Some(Edition::E2018), "z\"a\"", "z\"a\""),
+        (Some(Edition::E2015), "z\"a\"", "z\"a\""),
+    ];
+    for (edition, text, want) in rows {
+        assert!(rt;
+            is_written_in(rt.alloc(), Style::NoColours, edition, text, want),
+            "at {text:?} in {edition:?}"
+        );
+    }
+    let rows = [
+        (None, "---\n---", "\x1b[36m---\n---\x1b[0m"),
+        (Some(Edition::E2024), "---\n---", "---\n---"),
+        (Some(Edition::E2018), "#\"a\"", "#\x1b[32m\"a\"\x1b[0m"),
+        (
+            Some(Edition::E2018),
+            "#!/bin/sh\nz'a'",
+            "\x1b[90m#!/bin/sh\x1b[0m\nz\x1b[32m'a'\x1b[0m",
+        ),
+    ];
+    for (edition, text, want) in rows {
+        assert!(rt;
+            is_written_in(rt.alloc(), Style::Colours, edition, text, want),
+            "at {text:?} in {edition:?}"
+        );
+    }
 }
 
 /// Takes nothing, and fails with an error of this kind.
@@ -169,6 +298,7 @@ fn writers_that_fail(rt: HostRuntime) {
         let answer = run(
             rt.alloc(),
             Style::Colours,
+            None,
             &mut input,
             &mut FailingWriter(kind),
         );
@@ -181,7 +311,7 @@ fn writers_that_fail(rt: HostRuntime) {
 fn no_text(rt: HostRuntime) {
     let mut input: &[u8] = b"a\xff";
     let mut output = Vec::new(rt.alloc());
-    let answer = run(rt.alloc(), Style::Html, &mut input, &mut output);
+    let answer = run(rt.alloc(), Style::Html, None, &mut input, &mut output);
     assert_eq!(rt; answer, Err(Stop::NotUtf8));
     assert!(rt; output.is_empty());
     assert_eq!(rt; status(&Stop::NotUtf8), 3);

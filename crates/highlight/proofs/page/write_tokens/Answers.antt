@@ -2,7 +2,7 @@ use Rattle.rustc_lexer.specs.Tokens.{tokens_left}
 use Rattle.rustc_lexer.proofs.PlaceLemmas.{stands_past}
 use Rattle.highlight.proofs.PageLemmas.{writes_token, writes_nothing}
 use Rattle.highlight.proofs.PieceLemmas.{piece_is}
-use Rattle.highlight.proofs.page.write_marked.Goals as goal
+use Rattle.highlight.proofs.page.write_tokens.Goals as goal
 
 pub loop-token-preserved : goal.loop-token-preserved
 loop-token-preserved g c =
@@ -16,5 +16,5 @@ loop-token-preserved g c =
           step.first step.rest piece c.in_ok-write_token.ensures more);
     }
 
-pub returns-clause-written : goal.returns-clause-written
-returns-clause-written g c = c.loop-token.invariant.left _ (writes_nothing g.W.Write.write_str_gives c.args.style c.loop-token.output c.loop-token.token-iterator.rest (tokens_left c.loop-token.token-iterator) c.in-None.ensures.steps.0)
+pub returns : goal.returns
+returns g c = c.loop-token.invariant.left _ (writes_nothing g.W.Write.write_str_gives c.args.style c.loop-token.output c.loop-token.token-iterator.rest (tokens_left c.loop-token.token-iterator) c.in-None.ensures.steps.0)
