@@ -68,9 +68,9 @@ at_bound_no : (k : ℕ) (text : List ℕ) → IsText text → IsCutAt first_toke
 at_bound_no k text is = subst (λ ts. IsCutAt first_token text ts k) (sym (tokens-by text)) (at_bound first_token_grammar k text is)
 
 -- past a settled place the tokens are those of the rest, however the text goes on
-pub gives_first : (text given_text rest : List ℕ) (place : ℕ) (given : List Token) → IsText text → text ≡ given_text → IsSettled text (tokens_of No text) place → StaysUpTo place text (tokens_of No)
-    → IsFirstUpTo place given (tokens_of No text) → rest ≡ drop place text → GivesFirst given_text given rest
-gives_first text given_text rest place given is same settled stays first left =
+pub gives_first : (text rest : List ℕ) (place : ℕ) (given : List Token) → IsText text → IsSettled text (tokens_of No text) place → StaysUpTo place text (tokens_of No)
+    → IsFirstUpTo place given (tokens_of No text) → rest ≡ drop place text → GivesFirst text given rest
+gives_first text rest place given is settled stays first left =
     let k : ℕ = settled.at_bound.0 in
     let few : k ≤ length (tokens_of No text) = settled.at_bound.1 in
     let at : bound (tokens_of No text) k ≡ place = settled.at_bound.2 in
@@ -82,7 +82,7 @@ gives_first text given_text rest place given is same settled stays first left =
     let back : drop k whole ≡ tokens_of No (drop place text ++ more) =
     (at_bound_no k (text ++ more) its).rest ∙ (sym (tokens-by (drop (bound whole k) (text ++ more))) ∙ ap (tokens_of No) (ap (λ p. drop p (text ++ more)) there ∙ drop-append-le place text more inside)) in
     sym (take-append-drop k whole) ∙ (ap (λ ts. ts ++ drop k whole) (front ∙ sym (first k few at)) ∙ ap (λ ts. given ++ ts) back)) in
-    subst (λ bs. GivesFirst bs given rest) same (subst (λ bs. GivesFirst text given bs) (sym left) all)
+    subst (λ bs. GivesFirst text given bs) (sym left) all
 
 pub settled_boundary : (text : List ℕ) (place : ℕ) → IsText text → IsSettled text (tokens_of No text) place → ((k : ℕ) → k ≤ length (tokens_of No text) → IsCharBoundary text (bound (tokens_of No text) k)) → IsCharBoundary text place
 settled_boundary text place is settled boundaries = subst (IsCharBoundary text) settled.at_bound.2 (boundaries settled.at_bound.0 settled.at_bound.1)
