@@ -17,6 +17,7 @@ IsFirstUpTo place first tokens = (k : ℕ) → k ≤ length tokens → bound tok
 
 -- all tokens that are sure are given: those up to the settled place, where the rest begins
 pub record GivesSure (text : List ℕ) (given : List Token) (rest : List ℕ) : Type 0 where
+  pub is_text : IsText text
   pub place : ℕ
   pub settled : IsSettled text (tokens_of No text) place
   pub first : IsFirstUpTo place given (tokens_of No text)

@@ -2,6 +2,7 @@ pub mod Arriving
 pub mod Comments
 pub mod Counter
 pub mod Highlight
+pub mod Joined
 pub mod Lines
 pub mod RawStrings
 pub mod Repaint

@@ -3,6 +3,7 @@ ghost use Rattle.std.specs.Prelude.{◌≡◌, ◌+◌, ◌<◌, ◌^◌, ◌++�
 ghost use Rattle.rustc_lexer.specs.Classes.{Fits};
 ghost use Rattle.rustc_lexer.specs.Tokens.{tokens_of};
 ghost use Rattle.examples.specs.Arriving.{GivesFirst, GivesSure, IsFirstUpTo};
+ghost use Rattle.examples.specs.Joined.{joined};
 
 use rustc_lexer::{FrontmatterAllowed, Token, settled, tokenize};
 use std::alloc::{AllocError, Global};
@@ -57,6 +58,22 @@ impl Arriving {
         self.rest = String::from_str(self.alloc, rest)?;
         Ok(given)
     }
+}
+
+/// The tokens of a text that is given in pieces, which may be cut anywhere between two characters.
+pub fn lex_pieces(alloc: Global, pieces: &[&str]) -> Result<Vec<Token>, AllocError>
+    requires fits { length (joined pieces.now) < 2 ^ 32 }
+    ensures { IfOk result (λ tokens. tokens.items ≡ tokens_of FrontmatterAllowed.No (joined pieces.now)) }
+{
+    let mut arriving = Arriving::new(alloc);
+    let mut tokens = Vec::new(alloc);
+    for piece in pieces {
+        tokens.append(&mut arriving.take(piece)?)?;
+    }
+    for token in tokenize(arriving.rest(), FrontmatterAllowed::No) {
+        tokens.push(token)?;
+    }
+    Ok(tokens)
 }
 
 /// The tokens of a text that are sure, however it goes on, and the text past them.

@@ -1,5 +1,5 @@
 //! Each caller on texts that were made by hand.
-use crate::arriving::Arriving;
+use crate::arriving::{Arriving, lex_pieces};
 use crate::comments::skip_comments;
 use crate::highlight::highlight;
 use crate::lines::{LineCounts, count_lines};
@@ -7,7 +7,7 @@ use crate::raw_strings::{RawFault, raw_faults};
 use crate::repaint::{edit_shown, repaint};
 use crate::slices::find_word;
 use crate::spans::{Span, spans};
-use rustc_lexer::{LexedText, RawStrError, Relexed, Token, TokenKind, fits};
+use rustc_lexer::{LexedText, LiteralKind, RawStrError, Relexed, Token, TokenKind, fits};
 
 const ALL_KINDS: &str =
     "//! A crate.\n\n// A note.\n/// Doubles.\nfn f() { /* x */ }\n    \n/* one\n\n   two */\nlet s = \"a\n\nb\"; // c";
@@ -127,6 +127,34 @@ fn pieces_that_arrive(rt: HostRuntime) {
     let second = arriving.take("t x").expect(&rt, "memory");
     assert_eq!(rt; second.as_slice(), [token(TokenKind::Ident, 3)].as_slice());
     assert_eq!(rt; arriving.rest(), " x");
+}
+
+#[test]
+fn pieces_of_a_whole(rt: HostRuntime) {
+    // Cut inside a comment, an identifier and a raw string.
+    let pieces = ["/* on", "e */le", "t s = r#\"a", "", "\"é\"#;"];
+    let token = |kind, len| Token { kind, len };
+    let comment = TokenKind::BlockComment {
+        doc_style: None,
+        terminated: true,
+    };
+    let string = TokenKind::Literal {
+        kind: LiteralKind::RawStr { n_hashes: Some(1) },
+        suffix_start: 9,
+    };
+    let want = [
+        token(comment, 9),
+        token(TokenKind::Ident, 3),
+        token(TokenKind::Whitespace, 1),
+        token(TokenKind::Ident, 1),
+        token(TokenKind::Whitespace, 1),
+        token(TokenKind::Eq, 1),
+        token(TokenKind::Whitespace, 1),
+        token(string, 9),
+        token(TokenKind::Semi, 1),
+    ];
+    let found = lex_pieces(rt.alloc(), &pieces).expect(&rt, "memory");
+    assert_eq!(rt; found.as_slice(), want.as_slice());
 }
 
 #[test]
