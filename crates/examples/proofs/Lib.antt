@@ -5,3 +5,4 @@ pub mod PieceLemmas
 pub mod RawStringLemmas
 pub mod RepaintLemmas
 pub mod SpanLemmas
+pub mod SplitLemmas

@@ -8,3 +8,4 @@ pub mod RawStrings
 pub mod Repaint
 pub mod Slices
 pub mod Spans
+pub mod Split

@@ -7,7 +7,8 @@ use crate::raw_strings::{RawFault, raw_faults};
 use crate::repaint::{edit_shown, repaint};
 use crate::slices::find_word;
 use crate::spans::{Span, spans};
-use rustc_lexer::{LexedText, LiteralKind, RawStrError, Relexed, Token, TokenKind, fits};
+use crate::split::split_in;
+use rustc_lexer::{Edition, LexedText, LiteralKind, RawStrError, Relexed, Token, TokenKind, fits};
 
 const ALL_KINDS: &str =
     "//! A crate.\n\n// A note.\n/// Doubles.\nfn f() { /* x */ }\n    \n/* one\n\n   two */\nlet s = \"a\n\nb\"; // c";
@@ -174,4 +175,29 @@ fn paint_after_an_edit(rt: HostRuntime) {
     let mut written = String::new(rt.alloc());
     assert!(rt; repaint(&lexed, relexed, &mut written).is_ok());
     assert_eq!(rt; written.as_str(), "cd - \x1b[32m1\x1b[0m -");
+}
+
+#[test]
+fn parts_in_each_edition(rt: HostRuntime) {
+    let text = "r#c k#x z\"s\" 'r#a #\"a\"";
+    let newest = [
+        "r#c", " ", "k#x", " ", "z", "\"s\"", " ", "'r#a", " ", "#\"", "a", "\"",
+    ];
+    let without_guards = [
+        "r#c", " ", "k#x", " ", "z", "\"s\"", " ", "'r#a", " ", "#", "\"a\"",
+    ];
+    let without_prefixes = [
+        "r#c", " ", "k#x", " ", "z", "\"s\"", " ", "'r", "#", "a", " ", "#", "\"a\"",
+    ];
+    let rows = [
+        (Edition::E2024, newest.as_slice()),
+        (Edition::E2021, without_guards.as_slice()),
+        (Edition::E2018, without_prefixes.as_slice()),
+        (Edition::E2015, without_prefixes.as_slice()),
+    ];
+    for (edition, want) in rows {
+        assert!(rt; fits(text));
+        let parts = split_in(rt.alloc(), text, edition).expect(&rt, "memory");
+        assert_eq!(rt; parts.as_slice(), want, "in {edition:?}");
+    }
 }
