@@ -1,6 +1,6 @@
 use Rattle.std.proofs.Common.{drop, refl}
 use Rattle.rustc_lexer.specs.Edition.{tokens_in, tokens_left_in}
-use Rattle.examples.proofs.PieceLemmas.{piece_is}
+use Rattle.rustc_lexer.proofs.PlaceLemmas.{piece_is}
 use Rattle.examples.proofs.SplitLemmas.{cut_past, rest_past, part_more, parts_joined}
 use Rattle.examples.proofs.split.split_in.Goals as goal
 
