@@ -1,7 +1,10 @@
 -- The tokens of a text that arrives in pieces.
-use Rattle.std.proofs.Common.{◌≡◌, ℕ, suc, ◌+◌, ◌<◌, ◌≤◌, List, [], ◌∷◌, ◌++◌, length, take, drop, refl, sym, ap, subst, ◌∙◌, arith, append_assoc, length-append, take_at, take-append-drop, inl, inr, eq-or-lt_of_le, IsCharBoundary}
+use Rattle.std.proofs.Common.{◌≡◌, ℕ, suc, ◌+◌, ◌<◌, ◌≤◌, List, [], ◌∷◌, ◌++◌, length, take, drop, refl, sym, ap, subst, ◌∙◌, arith, append_assoc, length-append, take_at, take-append-drop, length-drop, get_or, Bor, ◌^◌, inl, inr, eq-or-lt_of_le, IsCharBoundary, IsUtf8}
 use Rattle.std.proofs.lemmas.Bool.Decides.{leb_tells}
-use Rattle.std.proofs.lemmas.List.{drop-append-le}
+use Rattle.std.proofs.Math.Seq.{drop-append_seam}
+use Rattle.std.proofs.lemmas.List.{append-nil, drop-append-le, take_more}
+use Rattle.std.proofs.lemmas.List.Concat.{flat_map-append}
+use Rattle.std.proofs.lemmas.Str.{IsCharBoundary-from_take, IsUtf8-append, IsUtf8-drop, IsUtf8-nil}
 use Rattle.rustc_lexer.specs.declared.token.FrontmatterAllowed.TheVariants.{No}
 use Rattle.rustc_lexer.specs.declared.token.Token.{Token}
 use Rattle.rustc_lexer.specs.Cuts.{bound}
@@ -14,7 +17,8 @@ use Rattle.rustc_lexer.specs.Tokens.{tokens_of}
 use Rattle.rustc_lexer.proofs.BoundLemmas.{bound_mono, rises}
 use Rattle.rustc_lexer.proofs.CutLemmas.{IsCutAt, at_bound}
 use Rattle.rustc_lexer.proofs.EditLemmas.{bound-same}
-use Rattle.examples.specs.Arriving.{GivesFirst, IsFirstUpTo}
+use Rattle.examples.specs.Arriving.{GivesFirst, GivesSure, IsFirstUpTo}
+use Rattle.examples.specs.Joined.{joined}
 
 -- the end of a token
 bound-next : (items others : List Token) (token : Token) → bound (items ++ token ∷ others) (length items) + token.len ≡ bound (items ++ token ∷ others) (suc (length items))
@@ -68,9 +72,9 @@ at_bound_no : (k : ℕ) (text : List ℕ) → IsText text → IsCutAt first_toke
 at_bound_no k text is = subst (λ ts. IsCutAt first_token text ts k) (sym (tokens-by text)) (at_bound first_token_grammar k text is)
 
 -- past a settled place the tokens are those of the rest, however the text goes on
-pub gives_first : (text given_text rest : List ℕ) (place : ℕ) (given : List Token) → IsText text → text ≡ given_text → IsSettled text (tokens_of No text) place → StaysUpTo place text (tokens_of No)
-    → IsFirstUpTo place given (tokens_of No text) → rest ≡ drop place text → GivesFirst given_text given rest
-gives_first text given_text rest place given is same settled stays first left =
+pub gives_first : (text rest : List ℕ) (place : ℕ) (given : List Token) → IsText text → IsSettled text (tokens_of No text) place → StaysUpTo place text (tokens_of No)
+    → IsFirstUpTo place given (tokens_of No text) → rest ≡ drop place text → GivesFirst text given rest
+gives_first text rest place given is settled stays first left =
     let k : ℕ = settled.at_bound.0 in
     let few : k ≤ length (tokens_of No text) = settled.at_bound.1 in
     let at : bound (tokens_of No text) k ≡ place = settled.at_bound.2 in
@@ -82,7 +86,55 @@ gives_first text given_text rest place given is same settled stays first left =
     let back : drop k whole ≡ tokens_of No (drop place text ++ more) =
     (at_bound_no k (text ++ more) its).rest ∙ (sym (tokens-by (drop (bound whole k) (text ++ more))) ∙ ap (tokens_of No) (ap (λ p. drop p (text ++ more)) there ∙ drop-append-le place text more inside)) in
     sym (take-append-drop k whole) ∙ (ap (λ ts. ts ++ drop k whole) (front ∙ sym (first k few at)) ∙ ap (λ ts. given ++ ts) back)) in
-    subst (λ bs. GivesFirst bs given rest) same (subst (λ bs. GivesFirst text given bs) (sym left) all)
+    subst (λ bs. GivesFirst text given bs) (sym left) all
 
 pub settled_boundary : (text : List ℕ) (place : ℕ) → IsText text → IsSettled text (tokens_of No text) place → ((k : ℕ) → k ≤ length (tokens_of No text) → IsCharBoundary text (bound (tokens_of No text) k)) → IsCharBoundary text place
 settled_boundary text place is settled boundaries = subst (IsCharBoundary text) settled.at_bound.2 (boundaries settled.at_bound.0 settled.at_bound.1)
+
+-- ---- many pieces
+
+-- what was given out of the text so far, and what is held
+pub record HasGiven (taken : List ℕ) (given : List Token) (rest : List ℕ) : Type 0 where
+  pub text : IsUtf8 taken
+  pub held : IsUtf8 rest
+  pub short : length rest ≤ length taken
+  pub first : GivesFirst taken given rest
+
+utf8_past : (xs ys : List ℕ) → IsUtf8 xs → IsUtf8 (xs ++ ys) → IsUtf8 ys
+utf8_past xs ys front whole =
+    subst IsUtf8 (drop-append_seam xs ys) (IsUtf8-drop (xs ++ ys) (length xs) whole
+    (IsCharBoundary-from_take (xs ++ ys) (length xs) whole (omega (arith, length-append xs ys)) (subst IsUtf8 (sym (take_at xs ys (length xs) refl)) front)))
+
+-- one piece more
+pub gives_more : (taken piece rest past : List ℕ) (given more : List Token) → HasGiven taken given rest → GivesFirst (rest ++ piece) more past → GivesSure (rest ++ piece) more past
+    → HasGiven (taken ++ piece) (given ++ more) past
+gives_more taken piece rest past given more at first sure =
+    let text : IsUtf8 (taken ++ piece) = IsUtf8-append taken piece at.text (utf8_past rest piece at.held sure.is_text.utf8) in
+    let left : IsText (drop (bound (tokens_of No (rest ++ piece)) sure.settled.at_bound.0) (rest ++ piece)) = (at_bound_no sure.settled.at_bound.0 (rest ++ piece) sure.is_text).past in
+    record {
+      text = text;
+      held = subst IsUtf8 (sym sure.past) (subst (λ n. IsUtf8 (drop n (rest ++ piece))) sure.settled.at_bound.2 left.utf8);
+      short = omega (arith, at.short, ap length sure.past, length-drop sure.place (rest ++ piece), length-append rest piece, length-append taken piece);
+      first = λ others its.
+          let fits = its.fits in
+          let here : IsText ((rest ++ piece) ++ others) = record {
+            utf8 = IsUtf8-append (rest ++ piece) others sure.is_text.utf8 (utf8_past (taken ++ piece) others text its.utf8);
+            fits = omega (arith, at.short, length-append (rest ++ piece) others, length-append rest piece, length-append (taken ++ piece) others, length-append taken piece);
+          } in
+          ap (tokens_of No) (append_assoc taken piece others) ∙ (at.first (piece ++ others) (subst IsText (append_assoc taken piece others) its)
+          ∙ (ap (λ bs. given ++ tokens_of No bs) (sym (append_assoc rest piece others)) ∙ (ap (λ ts. given ++ ts) (first others here) ∙ sym (append_assoc given more (tokens_of No (past ++ others))))));
+    }
+
+-- nothing has come
+pub gives_none : HasGiven [] [] []
+gives_none = record { text = IsUtf8-nil; held = IsUtf8-nil; short = omega arith; first = λ more its. refl }
+
+-- nothing more comes
+pub all_given : (whole rest : List ℕ) (given : List Token) → HasGiven whole given rest → length whole < 2 ^ 32 → given ++ tokens_of No rest ≡ tokens_of No whole
+all_given whole rest given at fits =
+    let is : IsText whole = record { utf8 = at.text; fits = fits } in
+    sym (ap (tokens_of No) (sym (append-nil whole)) ∙ (at.first [] (subst IsText (sym (append-nil whole)) is) ∙ ap (λ bs. given ++ tokens_of No bs) (append-nil rest)))
+
+pub joined_more : (pieces : List (Bor (List ℕ))) (i : ℕ) (d : Bor (List ℕ)) → i < length pieces → joined (take (i + 1) pieces) ≡ joined (take i pieces) ++ (get_or pieces i d).now
+joined_more pieces i d less =
+    ap joined (take_more pieces i d less) ∙ (flat_map-append (λ (p : Bor (List ℕ)). p.now) (take i pieces) (get_or pieces i d ∷ []) ∙ ap (λ bs. joined (take i pieces) ++ bs) (append-nil (get_or pieces i d).now))

@@ -1,7 +1,7 @@
 pub mod ArrivingLemmas
 pub mod HighlightLemmas
 pub mod LineLemmas
-pub mod PieceLemmas
 pub mod RawStringLemmas
 pub mod RepaintLemmas
 pub mod SpanLemmas
+pub mod SplitLemmas

@@ -1,8 +1,9 @@
 -- The tokens of a text that arrives in pieces.
-use Rattle.std.specs.Prelude.{ℕ, ◌≡◌, ◌≤◌, List, ◌++◌, length, take}
+use Rattle.std.specs.Prelude.{ℕ, ◌≡◌, ◌≤◌, List, ◌++◌, length, take, drop}
 use Rattle.rustc_lexer.specs.declared.token.FrontmatterAllowed.TheVariants.{No}
 use Rattle.rustc_lexer.specs.declared.token.Token.{Token}
 use Rattle.rustc_lexer.specs.Cuts.{bound}
+use Rattle.rustc_lexer.specs.Settled.{IsSettled}
 use Rattle.rustc_lexer.specs.Texts.{IsText}
 use Rattle.rustc_lexer.specs.Tokens.{tokens_of}
 
@@ -13,3 +14,11 @@ GivesFirst text given rest = (more : List ℕ) → IsText (text ++ more) → tok
 -- the first of the tokens, up to the one that ends at the place
 abbrev pub IsFirstUpTo : ℕ → List Token → List Token → Type 0
 IsFirstUpTo place first tokens = (k : ℕ) → k ≤ length tokens → bound tokens k ≡ place → first ≡ take k tokens
+
+-- all tokens that are sure are given: those up to the settled place, where the rest begins
+pub record GivesSure (text : List ℕ) (given : List Token) (rest : List ℕ) : Type 0 where
+  pub is_text : IsText text
+  pub place : ℕ
+  pub settled : IsSettled text (tokens_of No text) place
+  pub first : IsFirstUpTo place given (tokens_of No text)
+  pub past : rest ≡ drop place text

@@ -1,8 +1,9 @@
 //! The tokens of a text that arrives in pieces.
-ghost use Rattle.std.specs.Prelude.{◌≡◌, ◌+◌, ◌<◌, ◌≤◌, ◌^◌, ◌++◌, IfOk, OnErr, List, ℕ, length, []};
+ghost use Rattle.std.specs.Prelude.{◌≡◌, ◌+◌, ◌<◌, ◌^◌, ◌++◌, IfOk, OnErr, List, ℕ, length, []};
 ghost use Rattle.rustc_lexer.specs.Classes.{Fits};
 ghost use Rattle.rustc_lexer.specs.Tokens.{tokens_of};
-ghost use Rattle.examples.specs.Arriving.{GivesFirst, IsFirstUpTo};
+ghost use Rattle.examples.specs.Arriving.{GivesFirst, GivesSure, IsFirstUpTo};
+ghost use Rattle.examples.specs.Joined.{joined};
 
 use rustc_lexer::{FrontmatterAllowed, Token, settled, tokenize};
 use std::alloc::{AllocError, Global};
@@ -42,22 +43,48 @@ impl Arriving {
         self.rest.as_str()
     }
 
-    /// Takes the next piece, and gives out the tokens that are sure by now. They are the next tokens of the whole
+    /// Takes the next piece, and gives out all tokens that are sure by now. They are the next tokens of the whole
     /// text, whatever comes.
     pub fn take(&mut self, piece: &str) -> Result<Vec<Token>, AllocError>
         requires fits { length self.old + length piece.now < 2 ^ 32 }
         ensures given { IfOk result (λ given. GivesFirst (self.old ++ piece.now) given.items self.new) }
-        ensures few { IfOk result (λ given. length self.new ≤ length self.old + length piece.now) }
+        ensures sure { IfOk result (λ given. GivesSure (self.old ++ piece.now) given.items self.new) }
         ensures same { OnErr result (self.new ≡ self.old) }
     {
         let mut text = String::with_capacity(self.alloc, self.rest.len() + piece.len())?;
         text.push_str(self.rest.as_str())?;
         text.push_str(piece)?;
-        let sure = settled(text.as_str());
-        let given = first_tokens(self.alloc, text.as_str(), sure)?;
-        self.rest = String::from_str(self.alloc, &text[sure..])?;
+        let (given, rest) = sure_tokens(self.alloc, text.as_str())?;
+        self.rest = String::from_str(self.alloc, rest)?;
         Ok(given)
     }
+}
+
+/// The tokens of a text that is given in pieces, which may be cut anywhere between two characters.
+pub fn lex_pieces(alloc: Global, pieces: &[&str]) -> Result<Vec<Token>, AllocError>
+    requires fits { length (joined pieces.now) < 2 ^ 32 }
+    ensures { IfOk result (λ tokens. tokens.items ≡ tokens_of FrontmatterAllowed.No (joined pieces.now)) }
+{
+    let mut arriving = Arriving::new(alloc);
+    let mut tokens = Vec::new(alloc);
+    for piece in pieces {
+        tokens.append(&mut arriving.take(piece)?)?;
+    }
+    for token in tokenize(arriving.rest(), FrontmatterAllowed::No) {
+        tokens.push(token)?;
+    }
+    Ok(tokens)
+}
+
+/// The tokens of a text that are sure, however it goes on, and the text past them.
+fn sure_tokens<'a>(alloc: Global, text: &'a str) -> Result<(Vec<Token>, &'a str), AllocError>
+    requires fits { Fits text.now }
+    ensures given { IfOk result (λ r. GivesFirst text.now r.0.items r.1.now) }
+    ensures sure { IfOk result (λ r. GivesSure text.now r.0.items r.1.now) }
+{
+    let sure = settled(text);
+    let given = first_tokens(alloc, text, sure)?;
+    Ok((given, &text[sure..]))
 }
 
 /// The first tokens of a text, up to the one that ends at `place`.

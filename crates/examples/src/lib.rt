@@ -9,5 +9,6 @@ pub mod raw_strings;
 pub mod repaint;
 pub mod slices;
 pub mod spans;
+pub mod split;
 #[cfg(test)]
 mod tests;

@@ -1,5 +1,5 @@
 //! Each caller on texts that were made by hand.
-use crate::arriving::Arriving;
+use crate::arriving::{Arriving, lex_pieces};
 use crate::comments::skip_comments;
 use crate::highlight::highlight;
 use crate::lines::{LineCounts, count_lines};
@@ -7,7 +7,8 @@ use crate::raw_strings::{RawFault, raw_faults};
 use crate::repaint::{edit_shown, repaint};
 use crate::slices::find_word;
 use crate::spans::{Span, spans};
-use rustc_lexer::{LexedText, RawStrError, Relexed, Token, TokenKind, fits};
+use crate::split::split_in;
+use rustc_lexer::{Edition, LexedText, LiteralKind, RawStrError, Relexed, Token, TokenKind, fits};
 
 const ALL_KINDS: &str =
     "//! A crate.\n\n// A note.\n/// Doubles.\nfn f() { /* x */ }\n    \n/* one\n\n   two */\nlet s = \"a\n\nb\"; // c";
@@ -130,6 +131,34 @@ fn pieces_that_arrive(rt: HostRuntime) {
 }
 
 #[test]
+fn pieces_of_a_whole(rt: HostRuntime) {
+    // Cut inside a comment, an identifier and a raw string.
+    let pieces = ["/* on", "e */le", "t s = r#\"a", "", "\"é\"#;"];
+    let token = |kind, len| Token { kind, len };
+    let comment = TokenKind::BlockComment {
+        doc_style: None,
+        terminated: true,
+    };
+    let string = TokenKind::Literal {
+        kind: LiteralKind::RawStr { n_hashes: Some(1) },
+        suffix_start: 9,
+    };
+    let want = [
+        token(comment, 9),
+        token(TokenKind::Ident, 3),
+        token(TokenKind::Whitespace, 1),
+        token(TokenKind::Ident, 1),
+        token(TokenKind::Whitespace, 1),
+        token(TokenKind::Eq, 1),
+        token(TokenKind::Whitespace, 1),
+        token(string, 9),
+        token(TokenKind::Semi, 1),
+    ];
+    let found = lex_pieces(rt.alloc(), &pieces).expect(&rt, "memory");
+    assert_eq!(rt; found.as_slice(), want.as_slice());
+}
+
+#[test]
 fn paint_after_an_edit(rt: HostRuntime) {
     let text = "let ab = cd + ef;";
     let insert = "- 1 -";
@@ -146,4 +175,29 @@ fn paint_after_an_edit(rt: HostRuntime) {
     let mut written = String::new(rt.alloc());
     assert!(rt; repaint(&lexed, relexed, &mut written).is_ok());
     assert_eq!(rt; written.as_str(), "cd - \x1b[32m1\x1b[0m -");
+}
+
+#[test]
+fn parts_in_each_edition(rt: HostRuntime) {
+    let text = "r#c k#x z\"s\" 'r#a #\"a\"";
+    let newest = [
+        "r#c", " ", "k#x", " ", "z", "\"s\"", " ", "'r#a", " ", "#\"", "a", "\"",
+    ];
+    let without_guards = [
+        "r#c", " ", "k#x", " ", "z", "\"s\"", " ", "'r#a", " ", "#", "\"a\"",
+    ];
+    let without_prefixes = [
+        "r#c", " ", "k#x", " ", "z", "\"s\"", " ", "'r", "#", "a", " ", "#", "\"a\"",
+    ];
+    let rows = [
+        (Edition::E2024, newest.as_slice()),
+        (Edition::E2021, without_guards.as_slice()),
+        (Edition::E2018, without_prefixes.as_slice()),
+        (Edition::E2015, without_prefixes.as_slice()),
+    ];
+    for (edition, want) in rows {
+        assert!(rt; fits(text));
+        let parts = split_in(rt.alloc(), text, edition).expect(&rt, "memory");
+        assert_eq!(rt; parts.as_slice(), want, "in {edition:?}");
+    }
 }

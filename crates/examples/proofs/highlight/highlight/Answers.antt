@@ -1,8 +1,7 @@
 use Rattle.std.proofs.Common.{refl}
 use Rattle.rustc_lexer.specs.Tokens.{tokens_left}
-use Rattle.rustc_lexer.proofs.PlaceLemmas.{stands_past}
+use Rattle.rustc_lexer.proofs.PlaceLemmas.{piece_is, stands_past}
 use Rattle.examples.proofs.HighlightLemmas.{writes_token, writes_nothing}
-use Rattle.examples.proofs.PieceLemmas.{piece_is}
 use Rattle.examples.proofs.highlight.highlight.Goals as goal
 
 pub loop-token-preserved : goal.loop-token-preserved

@@ -1,9 +1,8 @@
 use Rattle.std.proofs.Common.{arith}
 use Rattle.rustc_lexer.specs.declared.token.FrontmatterAllowed.TheVariants.{Yes}
 use Rattle.rustc_lexer.specs.Tokens.{tokens_of, tokens_left}
-use Rattle.rustc_lexer.proofs.PlaceLemmas.{stands_past}
+use Rattle.rustc_lexer.proofs.PlaceLemmas.{piece_is, stands_past}
 use Rattle.examples.proofs.LineLemmas.{bytes_step, bytes_end}
-use Rattle.examples.proofs.PieceLemmas.{piece_is}
 use Rattle.examples.proofs.lines.count_lines.Goals as goal
 
 pub loop-token-preserved : goal.loop-token-preserved

@@ -1,7 +1,6 @@
 use Rattle.std.proofs.Common.{refl, sym, ◌∙◌, drop}
 use Rattle.rustc_lexer.specs.Tokens.{tokens_left}
-use Rattle.rustc_lexer.proofs.PlaceLemmas.{stands_past}
-use Rattle.examples.proofs.PieceLemmas.{piece_is}
+use Rattle.rustc_lexer.proofs.PlaceLemmas.{piece_is, stands_past}
 use Rattle.examples.proofs.RawStringLemmas.{fault_found, texts_past, text_here}
 use Rattle.examples.proofs.raw_strings.raw_faults.Goals as goal
 

@@ -1,7 +1,6 @@
 use Rattle.std.proofs.Common.{refl, sym, ◌∙◌, ◌≡◌, length, arith, drop}
 use Rattle.rustc_lexer.specs.Tokens.{tokens_left}
-use Rattle.rustc_lexer.proofs.PlaceLemmas.{stands_past}
-use Rattle.examples.proofs.PieceLemmas.{piece_is}
+use Rattle.rustc_lexer.proofs.PlaceLemmas.{piece_is, stands_past}
 use Rattle.examples.proofs.SpanLemmas.{spans_step, span_is}
 use Rattle.examples.proofs.spans.spans.Goals as goal
 
