@@ -1,9 +1,8 @@
 -- The loop that splits a text.
-use Rattle.std.proofs.Common.{◌≡◌, ℕ, ◌+◌, List, [], ◌∷◌, ◌++◌, Bor, length, map, take, drop, refl, sym, ap, subst, ◌∙◌, append_assoc, take-add, take_all, drop-drop, IsCharBoundary, arith}
+use Rattle.std.proofs.Common.{◌≡◌, ℕ, ◌+◌, List, [], ◌∷◌, ◌++◌, Bor, length, map, take, drop, refl, sym, ap, ◌∙◌, append_assoc, take-add, take_all, drop-drop, arith}
 use Rattle.std.specs.List.{flat_map}
 use Rattle.std.proofs.lemmas.List.{append-nil, map-append}
 use Rattle.std.proofs.lemmas.List.Folds.{flat_map-map}
-use Rattle.std.proofs.lemmas.Str.{IsCharBoundary-from_rest}
 use Rattle.rustc_lexer.specs.declared.token.Token.{Token}
 use Rattle.rustc_lexer.specs.Cuts.{bound}
 use Rattle.rustc_lexer.specs.Edition.{Reading, TakesTokenIn, tokens_left_in}
@@ -12,24 +11,17 @@ use Rattle.rustc_lexer.specs.Tokens.{Partitions}
 use Rattle.examples.specs.Joined.{joined}
 use Rattle.examples.specs.Split.{texts_of}
 
--- past a token the text may be cut again, and what is left follows
-module _ (text : List ℕ) (start : ℕ) (s t : Reading) (token : Token) (rest : drop start text ≡ s.rest) (takes : TakesTokenIn s token t) where
-  pub cut_past : IsCharBoundary text start → IsCharBoundary text (start + token.len)
-  cut_past at = IsCharBoundary-from_rest text start token.len at.0 (subst (λ bs. IsCharBoundary bs token.len) (sym rest) takes.boundary)
-
-  pub rest_past : drop (start + token.len) text ≡ t.rest
-  rest_past = sym (drop-drop token.len start text) ∙ (ap (drop token.len) rest ∙ sym takes.rest)
-
-  -- one part more
-  pub part_more : (parts more : List (Bor (List ℕ))) (part : Bor (List ℕ)) (all : List (List ℕ)) → map (λ (p : Bor (List ℕ)). p.now) parts ++ texts_of (pieces_from text start (tokens_left_in s)) ≡ all
-      → more ≡ parts ++ part ∷ [] → part.now ≡ take token.len (drop start text) → map (λ (p : Bor (List ℕ)). p.now) more ++ texts_of (pieces_from text (start + token.len) (tokens_left_in t)) ≡ all
-  part_more parts more part all at pushed own =
-      let now : Bor (List ℕ) → List ℕ = λ p. p.now in
-      let left : List (List ℕ) = texts_of (pieces_from text (start + token.len) (tokens_left_in t)) in
-      let here : texts_of (pieces_from text start (tokens_left_in s)) ≡ part.now ∷ left =
-      ap (λ ts. texts_of (pieces_from text start ts)) takes.first ∙ ap (λ (bs : List ℕ). bs ∷ left) (sym own) in
-      ap (λ (ps : List (Bor (List ℕ))). map now ps ++ left) pushed ∙ (ap (λ xs. xs ++ left) (map-append now parts (part ∷ []))
-      ∙ (append_assoc (map now parts) (part.now ∷ []) left ∙ (ap (λ xs. map now parts ++ xs) (sym here) ∙ at)))
+-- one part more
+pub part_more : (text : List ℕ) (start : ℕ) (s t : Reading) (token : Token) (parts more : List (Bor (List ℕ))) (part : Bor (List ℕ)) (all : List (List ℕ)) → TakesTokenIn s token t
+    → map (λ (p : Bor (List ℕ)). p.now) parts ++ texts_of (pieces_from text start (tokens_left_in s)) ≡ all
+    → more ≡ parts ++ part ∷ [] → part.now ≡ take token.len (drop start text) → map (λ (p : Bor (List ℕ)). p.now) more ++ texts_of (pieces_from text (start + token.len) (tokens_left_in t)) ≡ all
+part_more text start s t token parts more part all takes at pushed own =
+    let now : Bor (List ℕ) → List ℕ = λ p. p.now in
+    let left : List (List ℕ) = texts_of (pieces_from text (start + token.len) (tokens_left_in t)) in
+    let here : texts_of (pieces_from text start (tokens_left_in s)) ≡ part.now ∷ left =
+    ap (λ ts. texts_of (pieces_from text start ts)) takes.first ∙ ap (λ (bs : List ℕ). bs ∷ left) (sym own) in
+    ap (λ (ps : List (Bor (List ℕ))). map now ps ++ left) pushed ∙ (ap (λ xs. xs ++ left) (map-append now parts (part ∷ []))
+    ∙ (append_assoc (map now parts) (part.now ∷ []) left ∙ (ap (λ xs. map now parts ++ xs) (sym here) ∙ at)))
 
 -- the texts of the pieces, joined, are the text as far as the tokens go
 texts-joined : (text : List ℕ) (start : ℕ) (tokens : List Token) → flat_map (λ (bs : List ℕ). bs) (texts_of (pieces_from text start tokens)) ≡ take (bound tokens (length tokens)) (drop start text)

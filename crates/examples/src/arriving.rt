@@ -44,11 +44,13 @@ impl Arriving {
     }
 
     /// Takes the next piece, and gives out all tokens that are sure by now. They are the next tokens of the whole
-    /// text, whatever comes.
+    /// text, whatever comes. `Err` where memory is refused: then the piece was not taken.
     pub fn take(&mut self, piece: &str) -> Result<Vec<Token>, AllocError>
         requires fits { length self.old + length piece.now < 2 ^ 32 }
-        ensures given { IfOk result (λ given. GivesFirst (self.old ++ piece.now) given.items self.new) }
-        ensures sure { IfOk result (λ given. GivesSure (self.old ++ piece.now) given.items self.new) }
+        ensures given { IfOk result
+            (λ given. GivesFirst (self.old ++ piece.now) given.items self.new) }
+        ensures sure { IfOk result
+            (λ given. GivesSure (self.old ++ piece.now) given.items self.new) }
         ensures same { OnErr result (self.new ≡ self.old) }
     {
         let mut text = String::with_capacity(self.alloc, self.rest.len() + piece.len())?;
@@ -60,10 +62,12 @@ impl Arriving {
     }
 }
 
-/// The tokens of a text that is given in pieces, which may be cut anywhere between two characters.
+/// The tokens of a text that is given in pieces, which may be cut anywhere between two characters. `Err` where memory
+/// is refused.
 pub fn lex_pieces(alloc: Global, pieces: &[&str]) -> Result<Vec<Token>, AllocError>
     requires fits { length (joined pieces.now) < 2 ^ 32 }
-    ensures { IfOk result (λ tokens. tokens.items ≡ tokens_of FrontmatterAllowed.No (joined pieces.now)) }
+    ensures { IfOk result
+        (λ tokens. tokens.items ≡ tokens_of FrontmatterAllowed.No (joined pieces.now)) }
 {
     let mut arriving = Arriving::new(alloc);
     let mut tokens = Vec::new(alloc);
@@ -90,7 +94,8 @@ fn sure_tokens<'a>(alloc: Global, text: &'a str) -> Result<(Vec<Token>, &'a str)
 /// The first tokens of a text, up to the one that ends at `place`.
 fn first_tokens(alloc: Global, text: &str, place: usize) -> Result<Vec<Token>, AllocError>
     requires fits { Fits text.now }
-    ensures { IfOk result (λ first. IsFirstUpTo place first.items (tokens_of FrontmatterAllowed.No text.now)) }
+    ensures { IfOk result
+        (λ first. IsFirstUpTo place first.items (tokens_of FrontmatterAllowed.No text.now)) }
 {
     let mut first = Vec::new(alloc);
     let mut start = 0;

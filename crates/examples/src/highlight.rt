@@ -16,7 +16,8 @@ pub fn highlight<W: fmt::Write>(text: &str, output: &mut W) -> fmt::Result
     requires fits { Fits text.now }
     ensures written { OnOk result (WritesInCalls W.write_str_gives output.old
         (with_marks (parts text.now (tokens_of FrontmatterAllowed.No text.now))) output.new) }
-    ensures text { without_marks (parts text.now (tokens_of FrontmatterAllowed.No text.now)) ≡ text.now }
+    ensures text { without_marks (parts text.now (tokens_of FrontmatterAllowed.No text.now))
+        ≡ text.now }
 {
     let mut start = 0;
     for token in tokenize(text, FrontmatterAllowed::No) {

@@ -23,7 +23,9 @@ pub struct RawFault {
 /// The raw strings of a whole file that are refused, in order.
 pub fn raw_faults(alloc: Global, text: &str) -> Result<Vec<RawFault>, AllocError>
     requires fits { Fits text.now }
-    ensures { IfOk result (λ faults. faults.items ≡ faults_of (pieces_of text.now (tokens_of FrontmatterAllowed.Yes text.now))) }
+    ensures { IfOk result
+        (λ faults. faults.items
+        ≡ faults_of (pieces_of text.now (tokens_of FrontmatterAllowed.Yes text.now))) }
 {
     let mut faults = Vec::new(alloc);
     let mut start = 0;

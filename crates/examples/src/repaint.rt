@@ -27,7 +27,8 @@ pub fn edit_shown<S: Stepper>(
     ensures grammar { S.grammar lexed.new.stepper ≡ S.grammar lexed.old.stepper }
     ensures enough { IfOk result (λ relexed.
         let new = pieces_of lexed.new.text lexed.new.tokens in
-        new ≡ shown_after relexed (length insert.now) (stop - start) (pieces_of lexed.old.text lexed.old.tokens) (changed relexed new)) }
+        new ≡ shown_after relexed (length insert.now) (stop - start)
+        (pieces_of lexed.old.text lexed.old.tokens) (changed relexed new)) }
 {
     // So the tokens are those of the text.
     prove!(lexed.tokens().len() <= lexed.text().len());
@@ -41,7 +42,8 @@ pub fn repaint<S: Stepper, W: fmt::Write>(
     output: &mut W,
 ) -> fmt::Result
     ensures { OnOk result (WritesInCalls W.write_str_gives output.old
-        (with_marks (marked (changed relexed (pieces_of lexed.now.text lexed.now.tokens)))) output.new) }
+        (with_marks (marked (changed relexed (pieces_of lexed.now.text lexed.now.tokens))))
+        output.new) }
 {
     let mut pieces = lexed.pieces();
     for _ in 0..relexed.kept_front {

@@ -10,7 +10,8 @@ use rustc_lexer::{FrontmatterAllowed, TokenKind, tokenize};
 /// Where a word first stands in a text as an identifier or a keyword, and not in a comment or a literal.
 pub fn find_word(text: &str, word: &str) -> Option<usize>
     requires fits { Fits text.now }
-    ensures { result ≡ find_start word.now (pieces_of text.now (tokens_of FrontmatterAllowed.No text.now)) }
+    ensures { result
+        ≡ find_start word.now (pieces_of text.now (tokens_of FrontmatterAllowed.No text.now)) }
 {
     let mut start = 0;
     for token in tokenize(text, FrontmatterAllowed::No) {

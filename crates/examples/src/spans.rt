@@ -25,7 +25,13 @@ impl<'a> Span<'a> {
     /// The token of this kind and text that begins at `start`.
     fn new(kind: TokenKind, start: usize, text: &'a str) -> Span<'a>
         requires { start + length text.now < 2 ^ 64 }
-        ensures { spanned result ≡ record { kind = kind; start = start; stop = start + length text.now; text = text.now } }
+        ensures { spanned result
+            ≡ record {
+              kind = kind;
+              start = start;
+              stop = start + length text.now;
+              text = text.now;
+            } }
     {
         Span {
             kind,
@@ -39,7 +45,9 @@ impl<'a> Span<'a> {
 /// The tokens of a whole file but for white space and comments, in order.
 pub fn spans<'a>(alloc: Global, text: &'a str) -> Result<Vec<Span<'a>>, AllocError>
     requires fits { Fits text.now }
-    ensures { IfOk result (λ spans. map spanned spans.items ≡ spans_of (pieces_of text.now (tokens_of FrontmatterAllowed.Yes text.now))) }
+    ensures { IfOk result
+        (λ spans. map spanned spans.items
+        ≡ spans_of (pieces_of text.now (tokens_of FrontmatterAllowed.Yes text.now))) }
 {
     let mut spans = Vec::new(alloc);
     let mut start = 0;

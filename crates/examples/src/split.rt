@@ -16,7 +16,9 @@ pub fn split_in<'a>(
     edition: Edition,
 ) -> Result<Vec<&'a str>, AllocError>
     requires fits { Fits text.now }
-    ensures parts { IfOk result (λ parts. map (λ part. part.now) parts.items ≡ texts_of (pieces_of text.now (tokens_in edition text.now))) }
+    ensures parts { IfOk result
+        (λ parts. map (λ part. part.now) parts.items
+        ≡ texts_of (pieces_of text.now (tokens_in edition text.now))) }
     ensures whole { IfOk result (λ parts. joined parts.items ≡ text.now) }
 {
     let mut parts = Vec::new(alloc);

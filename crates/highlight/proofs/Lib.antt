@@ -1,4 +1,3 @@
 pub mod CallLemmas
 pub mod EscapeLemmas
 pub mod PageLemmas
-pub mod PieceLemmas

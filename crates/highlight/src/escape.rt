@@ -9,7 +9,8 @@ use std::fmt;
 /// Writes a text with entities for `&`, `<` and `>`.
 #[tactic(auto, using(crate::proofs::EscapeLemmas::unescaped_escaped))]
 pub fn write_escaped<W: fmt::Write>(text: &str, output: &mut W) -> fmt::Result
-    ensures written { OnOk result (WritesInCalls W.write_str_gives output.old (escaped text.now) output.new) }
+    ensures written { OnOk result
+        (WritesInCalls W.write_str_gives output.old (escaped text.now) output.new) }
     ensures undone { unescaped (escaped text.now) ≡ text.now }
 {
     let mut rest = text;

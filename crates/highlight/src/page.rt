@@ -203,7 +203,8 @@ fn write_in_class<W: fmt::Write>(
 /// Writes a part of the text: in a page with entities, in a terminal as it is.
 #[tactic(auto, using(crate::proofs::CallLemmas::tried_call))]
 fn write_shown<W: fmt::Write>(style: Style, text: &str, output: &mut W) -> fmt::Result
-    ensures { OnOk result (WritesInCalls W.write_str_gives output.old (shown style text.now) output.new) }
+    ensures { OnOk result
+        (WritesInCalls W.write_str_gives output.old (shown style text.now) output.new) }
 {
     match style {
         Style::Html => write_escaped(text, output),

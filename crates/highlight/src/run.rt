@@ -24,9 +24,13 @@ pub fn run<R: Read, W: Write>(
 ) -> Result<(), Stop>
     ensures written { OnOk result (IfSome (R.remaining input.old) (λ bytes.
         Appends (W.contents output.old) (W.contents output.new) (printed style edition bytes))) }
-    ensures text { IsErrOf result Stop.NotUtf8 → IfSome (R.remaining input.old) (λ bytes. ¬ (IsUtf8 bytes)) }
-    ensures long { IsErrOf result Stop.TooLong → IfSome (R.remaining input.old) (λ bytes. 2 ^ 32 ≤ length bytes) }
-    ensures silent { IfErr result (λ stop. stop ≢ Stop.Write → stop ≢ Stop.ClosedPipe → Keeps (W.contents output.old) (W.contents output.new)) }
+    ensures text { IsErrOf result Stop.NotUtf8
+        → IfSome (R.remaining input.old) (λ bytes. ¬ (IsUtf8 bytes)) }
+    ensures long { IsErrOf result Stop.TooLong
+        → IfSome (R.remaining input.old) (λ bytes. 2 ^ 32 ≤ length bytes) }
+    ensures silent { IfErr result
+        (λ stop. stop ≢ Stop.Write → stop ≢ Stop.ClosedPipe
+        → Keeps (W.contents output.old) (W.contents output.new)) }
 {
     let mut bytes = Vec::new(alloc);
     if let Err(error) = input.read_to_end(&mut bytes) {

@@ -61,7 +61,8 @@ pub fn class_close(style: Style, class: Class) -> &'static str
 /// Writes the mark before a token with a fault: in a page a tag with the sentence.
 #[tactic(auto, using(crate::proofs::CallLemmas::tried_call))]
 pub fn open_fault<W: fmt::Write>(style: Style, fault: Option<Fault>, output: &mut W) -> fmt::Result
-    ensures { OnOk result (WritesInCalls W.write_str_gives output.old (open_if style fault) output.new) }
+    ensures { OnOk result
+        (WritesInCalls W.write_str_gives output.old (open_if style fault) output.new) }
 {
     match (style, fault) {
         (Style::Html, Some(fault)) => write!(output, "<mark title=\"{fault}\">"),
@@ -73,7 +74,8 @@ pub fn open_fault<W: fmt::Write>(style: Style, fault: Option<Fault>, output: &mu
 /// Writes the mark past a token with a fault: in a terminal with the sentence.
 #[tactic(auto, using(crate::proofs::CallLemmas::tried_call))]
 pub fn close_fault<W: fmt::Write>(style: Style, fault: Option<Fault>, output: &mut W) -> fmt::Result
-    ensures { OnOk result (WritesInCalls W.write_str_gives output.old (close_if style fault) output.new) }
+    ensures { OnOk result
+        (WritesInCalls W.write_str_gives output.old (close_if style fault) output.new) }
 {
     match (style, fault) {
         (Style::Html, Some(_)) => output.write_str("</mark>"),

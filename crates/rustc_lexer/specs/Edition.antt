@@ -67,6 +67,10 @@ pub record Reading : Type 0 where
 abbrev pub tokens_left_in : Reading → List Token
 tokens_left_in s = tokens_in s.edition s.rest
 
+-- the text that is left is what follows `place`, which is between characters
+abbrev pub StandsIn : List ℕ → ℕ → Reading → Type 0
+StandsIn text place s = IsCharBoundary text place × (drop place text ≡ s.rest)
+
 -- the token is the first of those that are left, and is taken off the text: it is not empty, and ends between characters
 pub record TakesTokenIn (s : Reading) (token : Token) (t : Reading) : Type 0 where
   pub first : tokens_left_in s ≡ token ∷ tokens_left_in t

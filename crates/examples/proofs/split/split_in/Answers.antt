@@ -1,7 +1,7 @@
 use Rattle.std.proofs.Common.{drop, refl}
 use Rattle.rustc_lexer.specs.Edition.{tokens_in, tokens_left_in}
-use Rattle.rustc_lexer.proofs.PlaceLemmas.{piece_is}
-use Rattle.examples.proofs.SplitLemmas.{cut_past, rest_past, part_more, parts_joined}
+use Rattle.rustc_lexer.proofs.PlaceLemmas.{piece_is, stands_past_in}
+use Rattle.examples.proofs.SplitLemmas.{part_more, parts_joined}
 use Rattle.examples.proofs.split.split_in.Goals as goal
 
 pub loop-token-preserved : goal.loop-token-preserved
@@ -11,13 +11,11 @@ loop-token-preserved c =
     let at = c.loop-token.token-iterator in
     let past = c.next.new.self in
     let token = c.in-Some.token in
-    let rest = c.loop-token.invariant.rest in
     let step = c.in-Some.ensures.steps in
     let piece = piece_is text (drop start text) c.range.result.now start token.len c.range.ensures.value refl in
     record {
-      place = cut_past text start at past token rest step c.loop-token.invariant.place;
-      rest = rest_past text start at past token rest step;
-      left = part_more text start at past token rest step c.loop-token.parts.items c.push.new.self.items c.range.result _ c.loop-token.invariant.left c.in_ok-push.ensures.items piece;
+      place = stands_past_in text start at past token c.loop-token.invariant.place step;
+      left = part_more text start at past token c.loop-token.parts.items c.push.new.self.items c.range.result _ step c.loop-token.invariant.left c.in_ok-push.ensures.items piece;
     }
 
 pub returns-clause-whole : goal.returns-clause-whole

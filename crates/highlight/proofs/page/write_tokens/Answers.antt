@@ -1,7 +1,6 @@
 use Rattle.rustc_lexer.specs.Tokens.{tokens_left}
-use Rattle.rustc_lexer.proofs.PlaceLemmas.{stands_past}
+use Rattle.rustc_lexer.proofs.PlaceLemmas.{piece_is, stands_past}
 use Rattle.highlight.proofs.PageLemmas.{writes_token, writes_nothing}
-use Rattle.highlight.proofs.PieceLemmas.{piece_is}
 use Rattle.highlight.proofs.page.write_tokens.Goals as goal
 
 pub loop-token-preserved : goal.loop-token-preserved

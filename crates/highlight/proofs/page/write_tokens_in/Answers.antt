@@ -1,6 +1,6 @@
 use Rattle.rustc_lexer.specs.Edition.{tokens_left_in}
+use Rattle.rustc_lexer.proofs.PlaceLemmas.{piece_is, stands_past_in}
 use Rattle.highlight.proofs.PageLemmas.{writes_token, writes_nothing}
-use Rattle.highlight.proofs.PieceLemmas.{piece_is, stands_past_in}
 use Rattle.highlight.proofs.page.write_tokens_in.Goals as goal
 
 pub loop-token-preserved : goal.loop-token-preserved

@@ -1,7 +1,6 @@
 use Rattle.std.specs.Fmt.{WritesInCalls}
-use Rattle.rustc_lexer.specs.Edition.{tokens_in, tokens_left_in}
+use Rattle.rustc_lexer.specs.Edition.{StandsIn, tokens_in, tokens_left_in}
 use Rattle.highlight.specs.Page.{marked_tokens}
-use Rattle.highlight.proofs.PieceLemmas.{StandsIn}
 use Rattle.highlight.proofs.page.write_tokens_in.Given as goal
 
 abbrev pub invariant-loop-token : goal.invariant-loop-token
