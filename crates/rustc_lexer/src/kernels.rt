@@ -176,11 +176,15 @@ pub(crate) fn find(stop: u8, bytes: &[u8]) -> Option<usize>
     memchr(stop, bytes)
 }
 
-/// The first place of either byte. It mostly is within 32 bytes, and these are looked at in the same way.
+/// The first place of either byte. Where such bytes stand together it is the first one, and else it mostly is within
+/// 32 bytes, which are looked at in the same way.
 #[inline(always)]
 pub(crate) fn find_either(one: u8, two: u8, bytes: &[u8]) -> Option<usize>
     ensures { IsFirstByte (is_byte2 one two) bytes.now result }
 {
+    if !bytes.is_empty() && (bytes[0] == one || bytes[0] == two) {
+        return Some(0);
+    }
     if bytes.len() >= 32 {
         let v = u8x32::from_slice(bytes);
         let found = (v.simd_eq(u8x32::splat(one)) | v.simd_eq(u8x32::splat(two))).to_bitmask();
