@@ -1,4 +1,4 @@
-use Rattle.std.proofs.Common.{◌≡◌, List, ℕ, Option, Some, drop, map, rules, string_bytes}
+use Rattle.std.proofs.Common.{◌≡◌, Some, drop, map, rules, string_bytes}
 use Rattle.std.specs.Vec.Iter.{into_iter_items}
 use Rattle.lexdump.specs.Job.{command_of, job_of}
 use Rattle.lexdump.proofs.ProgramLemmas.{ran-job}
