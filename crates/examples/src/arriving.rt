@@ -43,8 +43,8 @@ impl Arriving {
         self.rest.as_str()
     }
 
-    /// Takes the next piece, and gives out all tokens that are sure by now. They are the next tokens of the whole
-    /// text, whatever comes. `Err` where memory is refused: then the piece was not taken.
+    /// Takes the next piece, and gives out all tokens that are sure by now, as two characters follow them. They are
+    /// the next tokens of the whole text, whatever comes. `Err` where memory is refused: then the piece was not taken.
     pub fn take(&mut self, piece: &str) -> Result<Vec<Token>, AllocError>
         requires fits { length self.old + length piece.now < 2 ^ 32 }
         ensures given { IfOk result

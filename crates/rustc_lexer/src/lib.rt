@@ -1,22 +1,22 @@
 //! A lexer for Rust source: a text goes in, tokens come out.
 //!
 //! A token is a kind and a length in bytes. The lexer refuses no text: a fault, as a comment that
-//! nothing closes, is a flag on its token, or a token of the kind `Unknown`. Lexing takes no memory: only
+//! nothing closes, is told by a field of its token or by the token's kind. Lexing takes no memory: only
 //! a [`LexedText`], which keeps a text with its tokens and takes edits, does.
 #![tactic(auto)]
 
-pub mod classes;
-pub mod cursor;
-pub mod edition;
-pub mod entry;
+mod classes;
+mod cursor;
+mod edition;
+mod entry;
 mod frontmatter;
 mod kernels;
 mod lexemes;
 mod raw_check;
-pub mod relex;
+mod relex;
 mod scan;
 mod shebang;
-pub mod token;
+mod token;
 
 pub use classes::{
     UNICODE_VERSION, fits, is_horizontal_whitespace, is_id_continue, is_id_start, is_ident,
