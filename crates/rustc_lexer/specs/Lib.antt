@@ -15,6 +15,7 @@ pub mod Hash
 pub mod Held
 pub mod Ident
 pub mod Landmarks
+pub mod Language
 pub mod Least
 pub mod Lexeme
 pub mod Lifetime

@@ -1,0 +1,192 @@
+-- What the language says of runs, and which family the first character of a text chooses.
+use Rattle.std.proofs.Common.{◌≡◌, ◌≢◌, ℕ, zero, suc, ◌+◌, ◌≤◌, ◌<◌, ◌==◌, ◌&&◌, ◌||◌, ◌⊎◌, inl, inr, nat_le, not, Bool, true, false, true≢false, if◌then◌else◌, List, [], ◌∷◌, ◌++◌, length, take, drop, codes, refl, sym, ap, ◌∙◌, subst, arith}
+use Rattle.std.proofs.Math.Seq.{take-append_seam, drop-append_seam}
+use Rattle.std.proofs.lemmas.Bool.{agree_below_at, and_parts, and_from, eqb-true, leb-true, ne_eqb, or_cases, or_parts, or_from, or_left, or_right, not-true, false_from_ne_true}
+use Rattle.std.specs.Char.{is_ascii_digit}
+use Rattle.std.specs.List.{list_all}
+use Rattle.unicode_ident.proofs.Computing.{unicode_ident}
+use Rattle.rustc_lexer.specs.declared.lexemes.family.Family.{Family}
+use Rattle.rustc_lexer.specs.declared.lexemes.family.Family.TheVariants.{Slash, Space, Word, Number, Quote, Str, Emoji, Hash, Symbol}
+use Rattle.rustc_lexer.specs.declared.token.TokenKind.{TokenKind}
+use Rattle.rustc_lexer.specs.Classes.{is_among, is_whitespace, is_id_start, is_id_continue}
+use Rattle.rustc_lexer.specs.Emoji.{is_emoji, emoji_ranges}
+use Rattle.rustc_lexer.specs.laws.Choice.{by_test}
+use Rattle.rustc_lexer.specs.laws.Reach.{run_len-in, run_len-out, run_all}
+use Rattle.rustc_lexer.specs.Language.{AreAll, Goes, Stops, is_word, is_word_start, is_name_start, is_mark, begins_more}
+use Rattle.rustc_lexer.specs.Lexeme.{family_of, past_first, read_by}
+use Rattle.rustc_lexer.specs.Scan.{next_is, begins, run_len}
+
+-- ---- runs
+
+-- a run ends where what follows stops it
+pub run_len-here : (p : ℕ → Bool) (w next : List ℕ) → AreAll p w → Stops p next → run_len p (w ++ next) ≡ length w
+run_len-here p [] [] all stop = refl
+run_len-here p [] (c ∷ next) all stop = run_len-out p c next stop
+run_len-here p (c ∷ w) next all stop =
+    let parts = and_parts (p c) (list_all p w) all in
+    run_len-in p c (w ++ next) parts.0 ∙ ap suc (run_len-here p w next parts.1 stop)
+
+-- what follows a run stops it
+pub run-stops : (p : ℕ → Bool) (s : List ℕ) → Stops p (drop (run_len p s) s)
+run-stops p [] = refl
+run-stops p (c ∷ s) = by_test (λ n. Stops p (drop n (c ∷ s))) (p c) (suc (run_len p s)) 0 (λ e. run-stops p s) (λ e. e)
+
+-- no character of one class is in the other
+pub apart : (p q : ℕ → Bool) (s : List ℕ) → ((c : ℕ) → p c ≡ true → q c ≡ false) → Goes p s → Stops q s
+apart p q [] away t = refl
+apart p q (c ∷ s) away t = away c t
+
+-- what is in a class is no character that is not
+pub other_than : (p : ℕ → Bool) (k d : ℕ) → p k ≡ false → p d ≡ true → (d == k) ≡ false
+other_than p k d out in_class = ne_eqb d k (λ e. true≢false (sym in_class ∙ (ap p e ∙ out)))
+
+-- what holds of each character in a list
+pub among : (f : ℕ → Bool) (ds : List ℕ) → list_all f ds ≡ true → (c : ℕ) → is_among ds c ≡ true → f c ≡ true
+among f [] all c e = absurd (true≢false (sym e))
+among f (d ∷ ds) all c e = let parts = and_parts (f d) (list_all f ds) all in elim (or_cases (c == d) (is_among ds c) e) [ inl a ↦ ap f (eqb-true c d a) ∙ parts.0 | inr g ↦ among f ds parts.1 c g ]
+
+pub none-among : (f : ℕ → Bool) (ds : List ℕ) → list_all (λ d. not (f d)) ds ≡ true → (c : ℕ) → is_among ds c ≡ true → f c ≡ false
+none-among f ds all c e = not-true (f c) (among (λ d. not (f d)) ds all c e)
+
+pub either-way : {A : Type 0} (b : Bool) → b ≡ true → b ≡ false → A
+either-way b t f = absurd (true≢false (sym t ∙ f))
+
+-- ---- classes that do not meet
+
+spaces : List ℕ
+spaces = 0x9 ∷ 0xA ∷ 0xB ∷ 0xC ∷ 0xD ∷ 0x20 ∷ 0x85 ∷ 0x200E ∷ 0x200F ∷ 0x2028 ∷ 0x2029 ∷ []
+
+space-no_word_start : (c : ℕ) → is_whitespace c ≡ true → is_word_start c ≡ false
+unfolding unicode_ident is_emoji emoji_ranges
+space-no_word_start c e = none-among is_word_start (0x9 ∷ 0xA ∷ 0xB ∷ 0xC ∷ 0xD ∷ 0x20 ∷ 0x85 ∷ 0x200E ∷ 0x200F ∷ 0x2028 ∷ 0x2029 ∷ []) refl c e
+
+pub word_start-no_space : (c : ℕ) → is_word_start c ≡ true → is_whitespace c ≡ false
+word_start-no_space c e = false_from_ne_true (is_whitespace c) (λ s. either-way (is_word_start c) e (space-no_word_start c s))
+
+pub digit-small : (d : ℕ) → is_ascii_digit d ≡ true → d < 128
+digit-small d t = let le : d ≤ 57 = leb-true d 57 (and_parts (nat_le 48 d) (nat_le d 57) t).1 in omega arith
+
+-- a digit is no white space and begins no word, and is no mark
+pub digit-other : (d : ℕ) → is_ascii_digit d ≡ true → (is_whitespace d || (is_word_start d || ((d == 47) || is_mark d))) ≡ false
+unfolding unicode_ident is_emoji emoji_ranges
+digit-other d t = sym (ap (λ b. b && (is_whitespace d || (is_word_start d || ((d == 47) || is_mark d)))) t) ∙ agree_below_at (λ b. is_ascii_digit b && (is_whitespace b || (is_word_start b || ((b == 47) || is_mark b)))) (λ b. false) 128 d refl (digit-small d t)
+
+pub word_start-no_digit : (c : ℕ) → is_word_start c ≡ true → is_ascii_digit c ≡ false
+word_start-no_digit c e = false_from_ne_true (is_ascii_digit c) (λ d. either-way (is_word_start c) e (or_parts (is_word_start c) _ (or_parts (is_whitespace c) _ (digit-other c d)).1).0)
+
+-- marks are in no word
+mark-no_word : (c : ℕ) → is_mark c ≡ true → is_word c ≡ false
+unfolding unicode_ident is_emoji emoji_ranges
+mark-no_word c e = none-among is_word (codes "#\"'") refl c e
+
+pub word-no_mark : (c : ℕ) → is_word c ≡ true → is_mark c ≡ false
+word-no_mark c e = false_from_ne_true (is_mark c) (λ m. either-way (is_word c) e (mark-no_word c m))
+
+pub mark-stops : (s : List ℕ) → Goes is_mark s → Stops is_word s
+mark-stops s = apart is_mark is_word s mark-no_word
+
+pub start-word_start : (c : ℕ) → is_id_start c ≡ true → is_word_start c ≡ true
+start-word_start c e = or_left (is_id_start c) (is_emoji c) e
+
+-- ---- families
+
+slash-no_space : is_whitespace 47 ≡ false
+slash-no_space = refl
+
+slash-no_start : is_word_start 47 ≡ false
+unfolding unicode_ident is_emoji emoji_ranges
+slash-no_start = refl
+
+chooses : (c : ℕ) (f : Family) → family_of c ≡ f → past_first c ≡ read_by f c
+unfolding past_first
+chooses c f e = ap (λ g. read_by g c) e
+
+pub chooses-slash : past_first 47 ≡ read_by Slash 47
+chooses-slash = chooses 47 Slash refl
+
+pub chooses-space : (c : ℕ) → is_whitespace c ≡ true → past_first c ≡ read_by Space c
+chooses-space c e = chooses c Space (rw (other_than is_whitespace 47 c refl e, e) refl)
+
+pub chooses-word : (c : ℕ) → is_id_start c ≡ true → past_first c ≡ read_by Word c
+chooses-word c e =
+    let w : is_word_start c ≡ true = start-word_start c e in
+    chooses c Word (rw (other_than is_word_start 47 c slash-no_start w, word_start-no_space c w, e) refl)
+
+pub chooses-number : (c : ℕ) → is_ascii_digit c ≡ true → past_first c ≡ read_by Number c
+chooses-number c e =
+    let parts = or_parts (is_whitespace c) _ (digit-other c e) in
+    let more = or_parts (is_word_start c) _ parts.1 in
+    let starts = or_parts (is_id_start c) (is_emoji c) more.0 in
+    let last = or_parts (c == 47) (is_mark c) more.1 in
+    chooses c Number (rw (last.0, parts.0, starts.0, e) refl)
+
+pub chooses-quote : past_first 39 ≡ read_by Quote 39
+unfolding unicode_ident is_emoji emoji_ranges
+chooses-quote = chooses 39 Quote refl
+
+pub chooses-str : past_first 34 ≡ read_by Str 34
+unfolding unicode_ident is_emoji emoji_ranges
+chooses-str = chooses 34 Str refl
+
+pub chooses-hash : past_first 35 ≡ read_by Hash 35
+unfolding unicode_ident is_emoji emoji_ranges
+chooses-hash = chooses 35 Hash refl
+
+mark-no_word_start : (c : ℕ) → is_mark c ≡ true → is_word_start c ≡ false
+unfolding unicode_ident is_emoji emoji_ranges
+mark-no_word_start c e = none-among is_word_start (codes "#\"'") refl c e
+
+word_start-no_mark : (c : ℕ) → is_word_start c ≡ true → is_mark c ≡ false
+word_start-no_mark c e = false_from_ne_true (is_mark c) (λ m. either-way (is_word_start c) e (mark-no_word_start c m))
+
+pub chooses-emoji : (c : ℕ) → is_id_start c ≡ false → is_emoji c ≡ true → past_first c ≡ read_by Emoji c
+chooses-emoji c f e =
+    let w : is_word_start c ≡ true = or_right (is_id_start c) (is_emoji c) e in
+    let m = or_parts (c == 35) _ (word_start-no_mark c w) in
+    let n = or_parts (c == 34) _ m.1 in
+    let o = or_parts (c == 39) _ n.1 in
+    chooses c Emoji (rw (other_than is_word_start 47 c slash-no_start w, word_start-no_space c w, f, word_start-no_digit c w, o.0, n.0, e) refl)
+
+pub chooses-symbol : (c : ℕ) → begins_more c ≡ false → past_first c ≡ read_by Symbol c
+chooses-symbol c e =
+    let a = or_parts (is_whitespace c || is_name_start c) _ e in
+    let b = or_parts (is_whitespace c) _ a.0 in
+    let d = or_parts (is_id_start c || is_ascii_digit c) _ b.1 in
+    let f = or_parts (is_id_start c) _ d.0 in
+    let s = or_parts (c == 47) _ a.1 in
+    let q = or_parts (c == 39) _ s.1 in
+    let r = or_parts (c == 34) _ q.1 in
+    let h = or_parts (c == 35) _ r.1 in
+    chooses c Symbol (rw (s.0, b.0, f.0, f.1, q.0, r.0, d.1, h.0) refl)
+
+-- what holds of each family, at each character that chooses it
+pub record EachChosen (P : ℕ → (List ℕ → TokenKind × ℕ) → Type 0) : Type 0 where
+  pub of_slash : P 47 (read_by Slash 47)
+  pub of_space : (c : ℕ) → is_whitespace c ≡ true → P c (read_by Space c)
+  pub of_word : (c : ℕ) → is_id_start c ≡ true → P c (read_by Word c)
+  pub of_number : (c : ℕ) → is_ascii_digit c ≡ true → P c (read_by Number c)
+  pub of_quote : P 39 (read_by Quote 39)
+  pub of_str : P 34 (read_by Str 34)
+  pub of_emoji : (c : ℕ) → is_id_start c ≡ false → is_emoji c ≡ true → P c (read_by Emoji c)
+  pub of_hash : P 35 (read_by Hash 35)
+  pub of_symbol : (c : ℕ) → begins_more c ≡ false → P c (read_by Symbol c)
+
+branch : (P : ℕ → (List ℕ → TokenKind × ℕ) → Type 0) (c : ℕ) (test : Bool) (f g : Family) → (test ≡ true → P c (read_by f c)) → (test ≡ false → P c (read_by g c)) → P c (read_by (if test then f else g) c)
+branch P c true f g here there = here refl
+branch P c false f g here there = there refl
+
+at : (P : ℕ → (List ℕ → TokenKind × ℕ) → Type 0) (c d : ℕ) (f : Family) → P d (read_by f d) → (c == d) ≡ true → P c (read_by f c)
+at P c d f is e = subst (λ (x : ℕ). P x (read_by f x)) (sym (eqb-true c d e)) is
+
+pub each_chosen : (P : ℕ → (List ℕ → TokenKind × ℕ) → Type 0) → EachChosen P → (c : ℕ) → P c (past_first c)
+unfolding past_first
+each_chosen P each c =
+    branch P c (c == 47) Slash _ (at P c 47 Slash each.of_slash)
+    (λ a. branch P c (is_whitespace c) Space _ (each.of_space c)
+    (λ b. branch P c (is_id_start c) Word _ (each.of_word c)
+    (λ d. branch P c (is_ascii_digit c) Number _ (each.of_number c)
+    (λ e. branch P c (c == 39) Quote _ (at P c 39 Quote each.of_quote)
+    (λ f. branch P c (c == 34) Str _ (at P c 34 Str each.of_str)
+    (λ g. branch P c (is_emoji c) Emoji _ (each.of_emoji c d)
+    (λ h. branch P c (c == 35) Hash Symbol (at P c 35 Hash each.of_hash)
+    (λ i. each.of_symbol c (rw (a, b, d, e, f, g, h, i) refl)))))))))
