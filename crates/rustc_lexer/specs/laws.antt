@@ -6,6 +6,7 @@ pub mod Edition
 pub mod Family
 pub mod Hash
 pub mod Ident
+pub mod LanguageComments
 pub mod LanguageRuns
 pub mod Lifetime
 pub mod Literal

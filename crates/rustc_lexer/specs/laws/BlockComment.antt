@@ -10,22 +10,22 @@ use Rattle.rustc_lexer.specs.laws.Reach.{IsToldBy, cut, cut_past, HasFirst, cut_
 use Rattle.rustc_lexer.specs.Scan.{IsLocalAt, IsLocal, IsFound}
 
 -- a mark has two characters, so each closed comment has
-two_at_least : {s : List ℕ} {n : ℕ} → Closes s n → 2 ≤ n
+pub two_at_least : {s : List ℕ} {n : ℕ} → Closes s n → 2 ≤ n
 two_at_least at_mark = omega arith
 two_at_least (nested p q) = omega arith
 two_at_least (past_one e f p) = omega (arith, two_at_least p)
 
-closes-inside : {s : List ℕ} {n : ℕ} → Closes s n → n ≤ length s
+pub closes-inside : {s : List ℕ} {n : ℕ} → Closes s n → n ≤ length s
 closes-inside at_mark = omega arith
 closes-inside (nested {s} {a} {b} p q) = omega (arith, closes-inside p, closes-inside q, length-drop a s)
 closes-inside (past_one e f p) = omega (arith, closes-inside p)
 
-at_closing_told : IsToldBy 2 at_closing
+pub at_closing_told : IsToldBy 2 at_closing
 at_closing_told [] = refl
 at_closing_told (c ∷ []) = refl
 at_closing_told (c ∷ d ∷ s) = refl
 
-at_opening_told : IsToldBy 2 at_opening
+pub at_opening_told : IsToldBy 2 at_opening
 at_opening_told [] = refl
 at_opening_told (c ∷ []) = refl
 at_opening_told (c ∷ d ∷ s) = refl
@@ -74,7 +74,7 @@ comment_end_found s n e =
     found_at comment_end 0 s n e (closes-inside is) (λ u a. comment_end-found (closes-same is u (cut n (n + 0) u s (omega arith) a)))
 
 -- the style is told by two characters
-style_told : IsToldBy 2 block_doc_style
+pub style_told : IsToldBy 2 block_doc_style
 style_told [] = refl
 style_told (c ∷ []) = refl
 style_told (c ∷ d ∷ s) = refl

@@ -1,5 +1,5 @@
 -- What the language says of runs, and which family the first character of a text chooses.
-use Rattle.std.proofs.Common.{◌≡◌, ◌≢◌, ℕ, zero, suc, ◌+◌, ◌≤◌, ◌<◌, ◌==◌, ◌&&◌, ◌||◌, ◌⊎◌, inl, inr, nat_le, not, Bool, true, false, true≢false, if◌then◌else◌, List, [], ◌∷◌, ◌++◌, length, take, drop, codes, refl, sym, ap, ◌∙◌, subst, arith}
+use Rattle.std.proofs.Common.{◌≡◌, ◌≢◌, ℕ, zero, suc, ◌+◌, ◌≤◌, ◌<◌, ◌==◌, ◌&&◌, ◌||◌, ◌⊎◌, inl, inr, nat_le, not, Bool, true, false, true≢false, if◌then◌else◌, List, [], ◌∷◌, ◌++◌, length, take, drop, codes, refl, sym, ap, ◌∙◌, subst, arith, take_all}
 use Rattle.std.proofs.Math.Seq.{take-append_seam, drop-append_seam}
 use Rattle.std.proofs.lemmas.Bool.{agree_below_at, and_parts, and_from, eqb-true, leb-true, ne_eqb, or_cases, or_parts, or_from, or_left, or_right, not-true, false_from_ne_true}
 use Rattle.std.specs.Char.{is_ascii_digit}
@@ -11,10 +11,10 @@ use Rattle.rustc_lexer.specs.declared.token.TokenKind.{TokenKind}
 use Rattle.rustc_lexer.specs.Classes.{is_among, is_whitespace, is_id_start, is_id_continue}
 use Rattle.rustc_lexer.specs.Emoji.{is_emoji, emoji_ranges}
 use Rattle.rustc_lexer.specs.laws.Choice.{by_test}
-use Rattle.rustc_lexer.specs.laws.Reach.{run_len-in, run_len-out, run_all}
-use Rattle.rustc_lexer.specs.Language.{AreAll, Goes, Stops, is_word, is_word_start, is_name_start, is_mark, begins_more}
-use Rattle.rustc_lexer.specs.Lexeme.{family_of, past_first, read_by}
-use Rattle.rustc_lexer.specs.Scan.{next_is, begins, run_len}
+use Rattle.rustc_lexer.specs.laws.Reach.{IsToldBy, told_same, run_len-in, run_len-out, run_all}
+use Rattle.rustc_lexer.specs.Language.{AreAll, Goes, Stops, is_word, is_word_start, is_name_start, is_mark, begins_more, IsTokenBefore}
+use Rattle.rustc_lexer.specs.Lexeme.{family_of, past_first, read_by, lexeme}
+use Rattle.rustc_lexer.specs.Scan.{after, next_is, begins, run_len}
 
 -- ---- runs
 
@@ -190,3 +190,39 @@ each_chosen P each c =
     (λ g. branch P c (is_emoji c) Emoji _ (each.of_emoji c d)
     (λ h. branch P c (c == 35) Hash Symbol (at P c 35 Hash each.of_hash)
     (λ i. each.of_symbol c (rw (a, b, d, e, f, g, h, i) refl)))))))))
+
+-- ---- tokens
+
+-- what is read past the first character `c` is a token
+abbrev pub Sound : ℕ → List ℕ → TokenKind × ℕ → Type 0
+Sound c s r = IsTokenBefore (drop r.1 s) r.0 (c ∷ take r.1 s)
+
+-- the text is read as a token of this kind, in so many characters
+abbrev pub Read : TokenKind → ℕ → List ℕ → Type 0
+Read kind n s = lexeme s ≡ (kind, n)
+
+pub pair : {A : Type 0} (a b : A) (m n : ℕ) → a ≡ b → m ≡ n → ◌≡◌ {A = A × ℕ} (a, m) (b, n)
+pair {A} a b m n e f = ap (λ (x : A). let r : A × ℕ = (x, m) in r) e ∙ ap (λ (k : ℕ). let r : A × ℕ = (b, k) in r) f
+
+pub read-first : (c : ℕ) (scan : List ℕ → TokenKind × ℕ) (s : List ℕ) (kind : TokenKind) (n m : ℕ) → past_first c ≡ scan → scan s ≡ (kind, n) → suc n ≡ m → Read kind m (c ∷ s)
+read-first c scan s kind n m e f g =
+    ap (λ (scan : List ℕ → TokenKind × ℕ). let r : TokenKind × ℕ = ((scan s).0, suc (scan s).1) in r) e
+    ∙ (ap (λ (r : TokenKind × ℕ). let q : TokenKind × ℕ = (r.0, suc r.1) in q) f ∙ ap (λ (k : ℕ). let r : TokenKind × ℕ = (kind, k) in r) g)
+
+-- past one character more
+pub sound-after : (c d : ℕ) (s : List ℕ) (scan : List ℕ → TokenKind × ℕ) → IsTokenBefore (drop (scan s).1 s) (scan s).0 (c ∷ d ∷ take (scan s).1 s) → Sound c (d ∷ s) (after 1 scan (d ∷ s))
+sound-after c d s scan is =
+    let more : suc (scan s).1 ≡ 1 + (scan s).1 = omega arith in
+    subst (λ (n : ℕ). IsTokenBefore (drop n (d ∷ s)) (scan s).0 (c ∷ take n (d ∷ s))) more is
+
+-- what is told by the first characters is told by a front that has them
+pub told-front : {B : Type 0} (j : ℕ) (f : List ℕ → B) → IsToldBy j f → (w next : List ℕ) → j ≤ length w → f (w ++ next) ≡ f w
+told-front j f told w next le = told_same j (length w) f (w ++ next) w told le (take-append_seam w next ∙ sym (take_all (length w) w (omega arith)))
+
+pub begins-next : (d : ℕ) (s : List ℕ) → begins (d ∷ []) s ≡ next_is (is_among (d ∷ [])) s
+begins-next d [] = refl
+begins-next d (c ∷ s) = by_bool (c == d)
+  where
+    by_bool : (b : Bool) → (b && true) ≡ (b || false)
+    by_bool true = refl
+    by_bool false = refl

@@ -31,7 +31,7 @@ use Rattle.rustc_lexer.specs.laws.TokenBy.{token_by_local}
 use Rattle.rustc_lexer.specs.laws.Hash.{hash_local}
 
 -- the style of a comment is told by the comment
-line_doc_style-own : (s : List ℕ) → line_doc_style (take (run_len is_no_newline s) s) ≡ line_doc_style s
+pub line_doc_style-own : (s : List ℕ) → line_doc_style (take (run_len is_no_newline s) s) ≡ line_doc_style s
 line_doc_style-own [] = refl
 line_doc_style-own (c ∷ s) = by_newline (c == 10) refl
   where

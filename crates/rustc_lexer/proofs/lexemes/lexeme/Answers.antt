@@ -1,4 +1,4 @@
-use Rattle.rustc_lexer.specs.laws.LanguageRuns.{run_len-here, each_chosen}
+use Rattle.rustc_lexer.specs.laws.LanguageComments.{slash-sound}
 use Rattle.rustc_lexer.specs.laws.Lookahead.{lexeme_local, first_token_grammar}
 use Rattle.rustc_lexer.proofs.lexemes.lexeme.Goals as goal
 
