@@ -1,0 +1,281 @@
+-- Words are in their languages, and what is there is read so.
+use Rattle.std.proofs.Common.{◌≡◌, ℕ, zero, suc, ◌+◌, ◌≤◌, ◌==◌, ◌&&◌, ◌||◌, not, Bool, true, false, true≢false, if◌then◌else◌, List, [], ◌∷◌, ◌++◌, length, take, drop, codes, refl, sym, ap, ◌∙◌, subst, arith, take-append-drop}
+use Rattle.std.proofs.Math.Seq.{take-append_seam, drop-append_seam}
+use Rattle.std.proofs.lemmas.Bool.{and_parts, eqb-true, or_parts, or_from, or_cases, false_from_ne_true}
+use Rattle.std.specs.List.{list_all, list_any}
+use Rattle.unicode_ident.proofs.Computing.{unicode_ident}
+use Rattle.rustc_lexer.specs.declared.token.TokenKind.{TokenKind}
+use Rattle.rustc_lexer.specs.declared.token.TokenKind.TheVariants.{Ident, InvalidIdent, RawIdent, ForcedKeywordIdent, UnknownPrefix}
+use Rattle.rustc_lexer.specs.Classes.{is_among, is_id_start, is_id_continue, is_ident}
+use Rattle.rustc_lexer.specs.Emoji.{is_emoji, emoji_ranges}
+use Rattle.rustc_lexer.specs.Ident.{ident_kind, ident_or_unknown_prefix, invalid_ident, marks_ident, marked}
+use Rattle.rustc_lexer.specs.laws.Choice.{EachArm, by_arm, at_char}
+use Rattle.rustc_lexer.specs.laws.LanguageRuns.{run_len-here, run-stops, either-way, Sound, Read, pair, read-first, sound-after, begins-next, chooses-word, chooses-emoji, word-no_mark, mark-stops, start-word_start}
+use Rattle.rustc_lexer.specs.laws.Reach.{run_all}
+use Rattle.rustc_lexer.specs.Language as the
+use Rattle.rustc_lexer.specs.Language.{AreAll, Goes, Stops, IsTokenBefore, is_word, is_word_start, is_mark, openings, is_opening, begins_ident_past}
+use Rattle.rustc_lexer.specs.Lexeme.{letter_r, letter_k, letter_b, letter_c, letters, raw_or_ident, word, is_raw_mark, begins_raw}
+use Rattle.rustc_lexer.specs.Scan.{after, begins, next_is, run, run_len}
+
+-- ---- what begins no identifier
+
+-- none of these begins the text
+pub record BeginsNone (s : List ℕ) : Type 0 where
+  pub r_quote : begins (codes "r\"") s ≡ false
+  pub r_hash : begins (codes "r#") s ≡ false
+  pub b_one : begins (codes "b'") s ≡ false
+  pub b_quote : begins (codes "b\"") s ≡ false
+  pub br_quote : begins (codes "br\"") s ≡ false
+  pub br_hash : begins (codes "br#") s ≡ false
+  pub c_quote : begins (codes "c\"") s ≡ false
+  pub cr_quote : begins (codes "cr\"") s ≡ false
+  pub cr_hash : begins (codes "cr#") s ≡ false
+  pub k_hash : begins_ident_past (codes "k#") s ≡ false
+
+pub begins-none : (s : List ℕ) → is_opening s ≡ false → BeginsNone s
+begins-none s e =
+    let all = or_parts (list_any (λ front. begins front s) openings) (begins_ident_past (codes "k#") s) e in
+    let a = or_parts (begins (codes "r\"") s) _ all.0 in
+    let b = or_parts (begins (codes "r#") s) _ a.1 in
+    let c = or_parts (begins (codes "b'") s) _ b.1 in
+    let d = or_parts (begins (codes "b\"") s) _ c.1 in
+    let f = or_parts (begins (codes "br\"") s) _ d.1 in
+    let g = or_parts (begins (codes "br#") s) _ f.1 in
+    let h = or_parts (begins (codes "c\"") s) _ g.1 in
+    let i = or_parts (begins (codes "cr\"") s) _ h.1 in
+    let j = or_parts (begins (codes "cr#") s) _ i.1 in
+    record { r_quote = a.0; r_hash = b.0; b_one = c.0; b_quote = d.0; br_quote = f.0; br_hash = g.0; c_quote = h.0; cr_quote = i.0; cr_hash = j.0; k_hash = all.1 }
+
+pub no-opening : (s : List ℕ) → BeginsNone s → is_opening s ≡ false
+no-opening s n =
+    or_from (list_any (λ front. begins front s) openings) (begins_ident_past (codes "k#") s)
+    (or_from _ _ n.r_quote (or_from _ _ n.r_hash (or_from _ _ n.b_one (or_from _ _ n.b_quote (or_from _ _ n.br_quote (or_from _ _ n.br_hash (or_from _ _ n.c_quote (or_from _ _ n.cr_quote (or_from _ _ n.cr_hash refl)))))))))
+    n.k_hash
+
+-- no mark of a raw string is next
+raw_mark-stops : (s : List ℕ) → begins (codes "\"") s ≡ false → begins (codes "#") s ≡ false → Stops is_raw_mark s
+raw_mark-stops [] e f = refl
+raw_mark-stops (d ∷ s) e f = or_from (d == 35) _ (or_parts (d == 35) false (sym (begins-next 35 (d ∷ s)) ∙ f)).0 (sym (begins-next 34 (d ∷ s)) ∙ e)
+
+pub raw_mark-none : (s : List ℕ) → Stops is_raw_mark s → (begins (codes "\"") s ≡ false) × (begins (codes "#") s ≡ false)
+raw_mark-none [] e = (refl, refl)
+raw_mark-none (d ∷ s) e =
+    let parts = or_parts (d == 35) _ e in
+    (begins-next 34 (d ∷ s) ∙ parts.1, begins-next 35 (d ∷ s) ∙ or_from (d == 35) false parts.0 refl)
+
+raw-none : (s : List ℕ) → begins (codes "r\"") s ≡ false → begins (codes "r#") s ≡ false → begins_raw s ≡ false
+raw-none [] e f = refl
+raw-none (d ∷ s) e f = by_r (d == 114) refl
+  where
+    by_r : (b : Bool) → (d == 114) ≡ b → begins_raw (d ∷ s) ≡ false
+    by_r false g = rw g refl
+    by_r true g = let q : begins (codes "\"") s ≡ false = rw g at e in let h : begins (codes "#") s ≡ false = rw g at f in rw g (raw_mark-stops s q h)
+
+pub none-raw : (s : List ℕ) → begins_raw s ≡ false → (begins (codes "r\"") s ≡ false) × (begins (codes "r#") s ≡ false)
+none-raw [] e = (refl, refl)
+none-raw (d ∷ s) e = by_r (d == 114) refl
+  where
+    by_r : (b : Bool) → (d == 114) ≡ b → (begins (codes "r\"") (d ∷ s) ≡ false) × (begins (codes "r#") (d ∷ s) ≡ false)
+    by_r false g = (rw g refl, rw g refl)
+    by_r true g = let parts = raw_mark-none s (rw g at e) in (rw g parts.0, rw g parts.1)
+
+-- ---- what is read there as an identifier
+
+r-plain : (s : List ℕ) → BeginsNone (114 ∷ s) → letter_r s ≡ ident_or_unknown_prefix s
+r-plain s n =
+    let q : begins (codes "\"") s ≡ false = n.r_quote in
+    let h : begins (codes "#") s ≡ false = n.r_hash in
+    let m : marks_ident s ≡ false = rw h refl in
+    rw (m, raw_mark-stops s q h) refl
+
+k-plain : (s : List ℕ) → BeginsNone (107 ∷ s) → letter_k s ≡ ident_or_unknown_prefix s
+k-plain s n = let m : marks_ident s ≡ false = n.k_hash in rw m refl
+
+b-plain : (s : List ℕ) → BeginsNone (98 ∷ s) → letter_b s ≡ ident_or_unknown_prefix s
+b-plain s n =
+    let a : begins (codes "'") s ≡ false = n.b_one in
+    let q : begins (codes "\"") s ≡ false = n.b_quote in
+    rw (a, q, raw-none s n.br_quote n.br_hash) refl
+
+c-plain : (s : List ℕ) → BeginsNone (99 ∷ s) → letter_c s ≡ ident_or_unknown_prefix s
+c-plain s n =
+    let q : begins (codes "\"") s ≡ false = n.c_quote in
+    rw (q, raw-none s n.cr_quote n.cr_hash) refl
+
+abbrev IsPlain : ℕ → (List ℕ → TokenKind × ℕ) → Type 0
+IsPlain c scan = (s : List ℕ) → is_opening (c ∷ s) ≡ false → scan s ≡ ident_or_unknown_prefix s
+
+letters-plain : EachArm IsPlain letters
+letters-plain = (
+  at_char IsPlain 114 letter_r (λ s e. r-plain s (begins-none (114 ∷ s) e)),
+  (
+    at_char IsPlain 107 letter_k (λ s e. k-plain s (begins-none (107 ∷ s) e)),
+    (
+      at_char IsPlain 98 letter_b (λ s e. b-plain s (begins-none (98 ∷ s) e)),
+      (
+        at_char IsPlain 99 letter_c (λ s e. c-plain s (begins-none (99 ∷ s) e)),
+        tt,
+      ),
+    ),
+  ),
+)
+
+word-plain : (c : ℕ) (s : List ℕ) → is_opening (c ∷ s) ≡ false → word c s ≡ ident_or_unknown_prefix s
+word-plain c = by_arm IsPlain letters (λ c. ident_or_unknown_prefix) c letters-plain (λ none s e. refl)
+
+-- ---- a word right before a mark
+
+-- where a word and a mark begin what a word and what follows it do, it is that word
+record IsWholeWord (f w next : List ℕ) : Type 0 where
+  same : w ≡ f
+  at_mark : Goes is_mark next
+
+whole-word : (f : List ℕ) (m : ℕ) (w next : List ℕ) → is_mark m ≡ true → AreAll is_word f → AreAll is_word w → Stops is_word next → begins (f ++ m ∷ []) (w ++ next) ≡ true → IsWholeWord f w next
+whole-word [] m [] [] mark fs ws stop e = absurd (true≢false (sym e))
+whole-word [] m [] (d ∷ next) mark fs ws stop e = record { same = refl; at_mark = ap is_mark (eqb-true d m (and_parts (d == m) true e).0) ∙ mark }
+whole-word [] m (d ∷ w) next mark fs ws stop e =
+    let same : d ≡ m = eqb-true d m (and_parts (d == m) true e).0 in
+    absurd (either-way (is_mark d) (ap is_mark same ∙ mark) (word-no_mark d (and_parts (is_word d) (list_all is_word w) ws).0))
+whole-word (x ∷ f) m [] [] mark fs ws stop e = absurd (true≢false (sym e))
+whole-word (x ∷ f) m [] (d ∷ next) mark fs ws stop e =
+    let same : d ≡ x = eqb-true d x (and_parts (d == x) _ e).0 in
+    absurd (either-way (is_word d) (ap is_word same ∙ (and_parts (is_word x) (list_all is_word f) fs).0) stop)
+whole-word (x ∷ f) m (d ∷ w) next mark fs ws stop e =
+    let parts = and_parts (d == x) _ e in
+    let more = whole-word f m w next mark (and_parts (is_word x) (list_all is_word f) fs).1 (and_parts (is_word d) (list_all is_word w) ws).1 stop parts.1 in
+    record { same = ap (λ (y : ℕ). y ∷ w) (eqb-true d x parts.0) ∙ ap (λ (ys : List ℕ). x ∷ ys) more.same; at_mark = more.at_mark }
+
+module _ (c : ℕ) (w next : List ℕ) (ws : AreAll is_word w) (stop : Stops is_word next) (right : Goes is_mark next → is_ident (c ∷ w) ≡ false) where
+  no-front : (x : ℕ) (f : List ℕ) (m : ℕ) → is_mark m ≡ true → AreAll is_word f → is_ident (x ∷ f) ≡ true → begins (x ∷ f ++ m ∷ []) (c ∷ w ++ next) ≡ false
+  no-front x f m mark fs is = false_from_ne_true (begins (x ∷ f ++ m ∷ []) (c ∷ w ++ next)) (λ e.
+      let parts = and_parts (c == x) _ e in
+      let whole = whole-word f m w next mark fs ws stop parts.1 in
+      let same : c ∷ w ≡ x ∷ f = ap (λ (y : ℕ). y ∷ w) (eqb-true c x parts.0) ∙ ap (λ (ys : List ℕ). x ∷ ys) whole.same in
+      either-way (is_ident (c ∷ w)) (ap is_ident same ∙ is) (right whole.at_mark))
+
+  -- a word that no mark follows, or that is no identifier, begins nothing else
+  pub word-no_opening : is_opening (c ∷ w ++ next) ≡ false
+  unfolding unicode_ident is_emoji emoji_ranges
+  word-no_opening = no-opening (c ∷ w ++ next) record {
+    r_quote = no-front 114 [] 34 refl refl refl;
+    r_hash = no-front 114 [] 35 refl refl refl;
+    b_one = no-front 98 [] 39 refl refl refl;
+    b_quote = no-front 98 [] 34 refl refl refl;
+    br_quote = no-front 98 (114 ∷ []) 34 refl refl refl;
+    br_hash = no-front 98 (114 ∷ []) 35 refl refl refl;
+    c_quote = no-front 99 [] 34 refl refl refl;
+    cr_quote = no-front 99 (114 ∷ []) 34 refl refl refl;
+    cr_hash = no-front 99 (114 ∷ []) 35 refl refl refl;
+    k_hash = by_front (begins (codes "k#") (c ∷ w ++ next)) (no-front 107 [] 35 refl refl refl);
+  }
+    where
+      by_front : (b : Bool) → b ≡ false → (b && next_is is_id_start (drop 1 (w ++ next))) ≡ false
+      by_front b e = rw e refl
+
+-- ---- identifiers
+
+-- its first character, and that it is one
+pub record HasStart (w : List ℕ) : Type 0 where
+  pub first : ℕ
+  pub rest : List ℕ
+  pub whole : w ≡ first ∷ rest
+  pub start : is_id_start first ≡ true
+  pub all : AreAll is_id_continue rest
+
+pub ident-start : (w : List ℕ) → is_ident w ≡ true → HasStart w
+ident-start [] e = absurd (true≢false (sym e))
+ident-start (c ∷ w) e = let parts = and_parts (is_id_start c) (list_all is_id_continue w) e in record { first = c; rest = w; whole = refl; start = parts.0; all = parts.1 }
+
+continue-word : (w : List ℕ) → AreAll is_id_continue w → AreAll is_word w
+continue-word [] all = refl
+continue-word (c ∷ w) all = let parts = and_parts (is_id_continue c) (list_all is_id_continue w) all in rw parts.0 (continue-word w parts.1)
+
+-- what is read of a word
+ident-read : (w next : List ℕ) → AreAll is_word w → Stops is_word next → ident_or_unknown_prefix (w ++ next) ≡ (ident_kind w next, length w)
+ident-read w next all stop =
+    ap (λ (n : ℕ). (ident_kind (take n (w ++ next)) (drop n (w ++ next)), n)) (run_len-here is_word w next all stop)
+    ∙ (ap (λ (front : List ℕ). (ident_kind front (drop (length w) (w ++ next)), length w)) (take-append_seam w next) ∙ ap (λ (rest : List ℕ). (ident_kind w rest, length w)) (drop-append_seam w next))
+
+plain-read : (c : ℕ) (w next : List ℕ) (kind : TokenKind) → is_id_start c ≡ true → AreAll is_word w → Stops is_word next → is_opening (c ∷ w ++ next) ≡ false → ident_kind w next ≡ kind → Read kind (suc (length w)) (c ∷ w ++ next)
+plain-read c w next kind start all stop free is =
+    read-first c (word c) (w ++ next) kind (length w) _ (chooses-word c start) (word-plain c (w ++ next) free ∙ (ident-read w next all stop ∙ ap (λ (k : TokenKind). (k, length w)) is)) refl
+
+pub ident-is_read : (w next : List ℕ) → is_ident w ≡ true → Stops is_word next → Stops is_mark next → Read Ident (length w) (w ++ next)
+ident-is_read [] next is stop none = absurd (true≢false (sym is))
+ident-is_read (c ∷ w) next is stop none =
+    let parts = and_parts (is_id_start c) (list_all is_id_continue w) is in
+    let all : AreAll is_word w = continue-word w parts.1 in
+    plain-read c w next Ident parts.0 all stop (word-no_opening c w next all stop (λ goes. either-way (next_is is_mark next) goes none)) (rw (parts.1, none) refl)
+
+pub prefix-read : (w next : List ℕ) → is_ident w ≡ true → Goes is_mark next → is_opening (w ++ next) ≡ false → Read UnknownPrefix (length w) (w ++ next)
+prefix-read [] next is goes free = absurd (true≢false (sym is))
+prefix-read (c ∷ w) next is goes free =
+    let parts = and_parts (is_id_start c) (list_all is_id_continue w) is in
+    plain-read c w next UnknownPrefix parts.0 (continue-word w parts.1) (mark-stops next goes) free (rw (parts.1, goes) refl)
+
+pub invalid-read : (c : ℕ) (w next : List ℕ) → is_word_start c ≡ true → AreAll is_word w → is_ident (c ∷ w) ≡ false → Stops is_word next → Read InvalidIdent (suc (length w)) (c ∷ w ++ next)
+invalid-read c w next start all wrong stop = by_start (is_id_start c) refl
+  where
+    by_start : (b : Bool) → is_id_start c ≡ b → Read InvalidIdent (suc (length w)) (c ∷ w ++ next)
+    by_start true e =
+        let no_ident : list_all is_id_continue w ≡ false = rw e at wrong in
+        plain-read c w next InvalidIdent e all stop (word-no_opening c w next all stop (λ goes. wrong)) (rw no_ident refl)
+    by_start false e =
+        let emoji : is_emoji c ≡ true = rw e at start in
+        read-first c invalid_ident (w ++ next) InvalidIdent (length w) _ (chooses-emoji c e emoji) (ap (λ (n : ℕ). (InvalidIdent, n)) (run_len-here is_word w next all stop)) refl
+
+-- past a mark
+marked-read : (kind : TokenKind) (other : List ℕ → TokenKind × ℕ) (w next : List ℕ) → is_ident w ≡ true → Stops is_id_continue next → marked kind other (35 ∷ w ++ next) ≡ (kind, suc (length w))
+marked-read kind other [] next is stop = absurd (true≢false (sym is))
+marked-read kind other (c ∷ w) next is stop =
+    let parts = and_parts (is_id_start c) (list_all is_id_continue w) is in
+    let sum : 2 + length w ≡ suc (suc (length w)) = omega arith in
+    let reads : marked kind other (35 ∷ c ∷ w ++ next) ≡ after 2 (run kind is_id_continue) (35 ∷ c ∷ w ++ next) = rw parts.0 refl in
+    reads ∙ (ap (λ (n : ℕ). (kind, 2 + n)) (run_len-here is_id_continue w next parts.1 stop) ∙ ap (λ (n : ℕ). (kind, n)) sum)
+
+letter-start : (is_id_start 114 ≡ true) × (is_id_start 107 ≡ true)
+unfolding unicode_ident
+letter-start = (refl, refl)
+
+pub raw_ident-read : (w next : List ℕ) → is_ident w ≡ true → Stops is_id_continue next → Read RawIdent (suc (suc (length w))) (114 ∷ 35 ∷ w ++ next)
+raw_ident-read w next is stop = read-first 114 (word 114) (35 ∷ w ++ next) RawIdent (suc (length w)) _ (chooses-word 114 letter-start.0) (marked-read RawIdent raw_or_ident w next is stop) refl
+
+pub keyword-read : (w next : List ℕ) → is_ident w ≡ true → Stops is_id_continue next → Read ForcedKeywordIdent (suc (suc (length w))) (107 ∷ 35 ∷ w ++ next)
+keyword-read w next is stop = read-first 107 (word 107) (35 ∷ w ++ next) ForcedKeywordIdent (suc (length w)) _ (chooses-word 107 letter-start.1) (marked-read ForcedKeywordIdent ident_or_unknown_prefix w next is stop) refl
+
+-- ---- and what is read is one of these
+
+pub ident-sound : (c : ℕ) → is_id_start c ≡ true → (s : List ℕ) → is_opening (c ∷ s) ≡ false → Sound c s (ident_or_unknown_prefix s)
+ident-sound c start s free = by_kind (list_all is_id_continue (take n s)) (next_is is_mark (drop n s)) refl refl
+  where
+    n : ℕ
+    n = run_len is_word s
+
+    whole : c ∷ take n s ++ drop n s ≡ c ∷ s
+    whole = ap (λ (xs : List ℕ). c ∷ xs) (take-append-drop n s)
+
+    by_kind : (plain at_mark : Bool) → list_all is_id_continue (take n s) ≡ plain → next_is is_mark (drop n s) ≡ at_mark → IsTokenBefore (drop n s) (if plain then (if at_mark then UnknownPrefix else Ident) else InvalidIdent) (c ∷ take n s)
+    by_kind true true e f = the.unknown_prefix (rw (start, e) refl) f (ap is_opening whole ∙ free)
+    by_kind true false e f = the.ident (rw (start, e) refl) (run-stops is_word s) f
+    by_kind false at_mark e f = the.invalid_ident (start-word_start c start) (run_all is_word s) (rw (start, e) refl) (run-stops is_word s)
+
+pub invalid-sound : (c : ℕ) → is_id_start c ≡ false → is_emoji c ≡ true → (s : List ℕ) → Sound c s (invalid_ident s)
+invalid-sound c no_start emoji s = the.invalid_ident (rw (no_start, emoji) refl) (run_all is_word s) (rw no_start refl) (run-stops is_word s)
+
+-- past a mark
+marked-sound : (kind : TokenKind) (c : ℕ) → ((w next : List ℕ) → is_ident w ≡ true → Stops is_id_continue next → IsTokenBefore next kind (c ∷ 35 ∷ w)) → (s : List ℕ) → marks_ident s ≡ true → Sound c s (after 2 (run kind is_id_continue) s)
+marked-sound kind c is [] e = absurd (true≢false (sym e))
+marked-sound kind c is (h ∷ []) e = absurd (true≢false (sym (and_parts (begins (codes "#") (h ∷ [])) false e).1))
+marked-sound kind c is (h ∷ d ∷ s) e =
+    let parts = and_parts (begins (codes "#") (h ∷ d ∷ s)) (is_id_start d) e in
+    let n : ℕ = run_len is_id_continue s in
+    let more : suc (suc n) ≡ 2 + n = omega arith in
+    let hash : 35 ≡ h = sym (eqb-true h 35 (and_parts (h == 35) true parts.0).0) in
+    subst (λ (m : ℕ). IsTokenBefore (drop m (h ∷ d ∷ s)) kind (c ∷ take m (h ∷ d ∷ s))) more
+    (subst (λ (x : ℕ). IsTokenBefore (drop n s) kind (c ∷ x ∷ d ∷ take n s)) hash (is (d ∷ take n s) (drop n s) (rw parts.1 (run_all is_id_continue s)) (run-stops is_id_continue s)))
+
+pub raw_ident-sound : (s : List ℕ) → marks_ident s ≡ true → Sound 114 s (after 2 (run RawIdent is_id_continue) s)
+raw_ident-sound = marked-sound RawIdent 114 (λ w next is stop. the.raw_ident is stop)
+
+pub keyword-sound : (s : List ℕ) → marks_ident s ≡ true → Sound 107 s (after 2 (run ForcedKeywordIdent is_id_continue) s)
+keyword-sound = marked-sound ForcedKeywordIdent 107 (λ w next is stop. the.forced_keyword is stop)
