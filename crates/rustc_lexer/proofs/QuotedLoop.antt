@@ -3,37 +3,11 @@ use Rattle.std.proofs.Common.{◌≡◌, ◌≢◌, ℕ, suc, ◌+◌, ◌==◌,
 use Rattle.std.specs.Str.{chars, IsUtf8}
 use Rattle.std.proofs.lemmas.Bool.{ne_eqb}
 use Rattle.rustc_lexer.specs.Scan.{begins, past, run_len, scanned}
-use mathlib.Core.List.{reverse_aux}
-use Rattle.rustc_lexer.specs.Least.{one_more, least}
-use Rattle.rustc_lexer.specs.Quoted.{is_backslash, is_odd, free_place, stopped, quoted, at_single_stop, is_lone, single_quoted_string}
+use Rattle.rustc_lexer.specs.Least.{one_more}
+use Rattle.rustc_lexer.specs.Quoted.{is_backslash, stopped, quoted, at_single_stop, is_lone, single_quoted_string}
+use Rattle.rustc_lexer.specs.laws.Seek.{seek, free_place-seek}
 use Rattle.rustc_lexer.proofs.ScanLemmas.{run_len-stop}
 use Rattle.rustc_lexer.proofs.PastLemmas.{past-zero, past-past, past-two, chars-past, IsUtf8-past}
-
--- one pass finds the place that is sought, which knows whether the next character is escaped
-abbrev pub seek : (List ℕ → Bool) → List ℕ → Bool → Option ℕ
-seek test [] escaped = None
-seek test (c ∷ cs) escaped = if not escaped && test (c ∷ cs) then Some 0 else one_more (seek test cs (if escaped then false else is_backslash c))
-
--- the characters before, the last first, leave the next one escaped
-abbrev escapes : List ℕ → Bool
-escapes before = is_odd (run_len is_backslash before)
-
-escapes-cons : (c : ℕ) (before : List ℕ) → escapes (c ∷ before) ≡ (if escapes before then false else is_backslash c)
-escapes-cons c before = by_test (is_backslash c) (escapes before) refl refl
-  where
-    by_test : (b d : Bool) → is_backslash c ≡ b → escapes before ≡ d → escapes (c ∷ before) ≡ (if escapes before then false else is_backslash c)
-    by_test true true e f = rw (e, f) refl
-    by_test true false e f = rw (e, f) refl
-    by_test false true e f = rw (e, f) refl
-    by_test false false e f = rw (e, f) refl
-
-seek-least : (test : List ℕ → Bool) (s before : List ℕ) → least (λ place. not (escapes (reverse_aux (take place s) before)) && test (drop place s)) (length s) ≡ seek test s (escapes before)
-seek-least test [] before = refl
-seek-least test (c ∷ cs) before =
-    ap (λ o. if not (escapes before) && test (c ∷ cs) then Some 0 else one_more o) (seek-least test cs (c ∷ before) ∙ ap (seek test cs) (escapes-cons c before))
-
-pub free_place-seek : (test : List ℕ → Bool) (s : List ℕ) → free_place test s ≡ seek test s false
-free_place-seek test s = seek-least test s []
 
 -- what follows the run of a class begins with no character of it
 pub run_fails : (p : ℕ → Bool) (text left s : List ℕ) (c : ℕ) → IsUtf8 text → left ≡ past (run_len p (chars text)) text → chars left ≡ c ∷ s → p c ≡ false

@@ -7,6 +7,7 @@ pub mod Family
 pub mod Hash
 pub mod Ident
 pub mod LanguageComments
+pub mod LanguageQuoted
 pub mod LanguageRuns
 pub mod LanguageWords
 pub mod Lifetime
@@ -18,6 +19,7 @@ pub mod NumberLongest
 pub mod Quoted
 pub mod Raw
 pub mod Reach
+pub mod Seek
 pub mod Texts
 pub mod TokenBy
 pub mod Within
