@@ -122,13 +122,13 @@ guard (suc n) = byte "#" ∷ guard n
 
 -- no quote with so many hashes right behind it is in the text
 abbrev pub Lacks : ℕ → List ℕ → Type 0
-Lacks n w = (u v : List ℕ) → w ≡ u ++ byte "\"" ∷ guard n ++ v → ⊥
+Lacks n w = (u v : List ℕ) → w ≡ u ++ (byte "\"" ∷ guard n ++ v) → ⊥
 
 -- past the `r` of a raw string, and how many hashes it has, if it is good: the same hashes stand on both sides of the quotes,
 -- 255 at most. What is not closed takes all of the text; and hashes that no quote follows take one character more
 pub data IsRaw (next : List ℕ) : Option ℕ → List ℕ → Type 0 where
-  closed : (n : ℕ) (w : List ℕ) → n ≤ 255 → Lacks n w → IsRaw next (Some n) (guard n ++ byte "\"" ∷ w ++ byte "\"" ∷ guard n)
-  too_many : (n : ℕ) (w : List ℕ) → 255 < n → Lacks n w → IsRaw next None (guard n ++ byte "\"" ∷ w ++ byte "\"" ∷ guard n)
+  closed : (n : ℕ) (w : List ℕ) → n ≤ 255 → Lacks n w → IsRaw next (Some n) (guard n ++ (byte "\"" ∷ w ++ byte "\"" ∷ guard n))
+  too_many : (n : ℕ) (w : List ℕ) → 255 < n → Lacks n w → IsRaw next None (guard n ++ (byte "\"" ∷ w ++ byte "\"" ∷ guard n))
   unclosed : (n : ℕ) (w : List ℕ) → next ≡ [] → Lacks n w → IsRaw next None (guard n ++ byte "\"" ∷ w)
   no_quote : (n c : ℕ) → is_among (codes "\"#") c ≡ false → IsRaw next None (guard (suc n) ++ c ∷ [])
   no_more : (n : ℕ) → next ≡ [] → IsRaw next None (guard (suc n))

@@ -8,6 +8,7 @@ pub mod Hash
 pub mod Ident
 pub mod LanguageComments
 pub mod LanguageQuoted
+pub mod LanguageRaw
 pub mod LanguageRuns
 pub mod LanguageWords
 pub mod Lifetime

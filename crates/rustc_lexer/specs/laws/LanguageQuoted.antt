@@ -4,17 +4,13 @@ use Rattle.std.proofs.Math.Seq.{take-append_seam, drop-append_seam}
 use Rattle.std.proofs.lemmas.Bool.{and_parts, eqb-true, or_parts, or_from, or_cases, not-true}
 use Rattle.std.proofs.lemmas.List.{append-nil}
 use Rattle.rustc_lexer.specs.Classes.{is_among}
-use Rattle.rustc_lexer.specs.laws.LanguageRuns.{either-way, pair, begins-next}
+use Rattle.rustc_lexer.specs.laws.LanguageRuns.{either-way, pair, parted}
 use Rattle.rustc_lexer.specs.Language as the
 use Rattle.rustc_lexer.specs.Language.{QuotedTo, ends, plain, escape, SingleTo, IsDoubleQuoted, IsSingleQuoted}
 use Rattle.rustc_lexer.specs.Least.{one_more}
 use Rattle.rustc_lexer.specs.Quoted.{is_backslash, free_place, stopped, quoted, at_double_quote, double_quoted_string, at_single_stop, is_lone, single_quoted_string}
 use Rattle.rustc_lexer.specs.Scan.{begins}
 use Rattle.rustc_lexer.specs.laws.Seek.{seek, free_place-seek}
-
-drop-length : (s : List ℕ) → drop (length s) s ≡ []
-drop-length [] = refl
-drop-length (c ∷ s) = drop-length s
 
 -- ---- one pass
 
@@ -105,13 +101,6 @@ pub to-end : {special : ℕ → Bool} {v : List ℕ} → QuotedTo [] special v �
 to-end ends end = ends
 to-end (plain out q) end = plain out (to-end q end)
 to-end (escape q) end = escape (to-end q end)
-
--- what is read, of a text in two parts
-parted : (Is : List ℕ → Bool → List ℕ → Type 0) (v next s : List ℕ) (t : Bool) (r : Bool × ℕ) → v ++ next ≡ s → r ≡ (t, length v) → Is next t v → Is (drop r.1 s) r.0 (take r.1 s)
-parted Is v next s t r e f is =
-    subst (λ (q : Bool × ℕ). Is (drop q.1 s) q.0 (take q.1 s)) (sym f)
-    (subst (λ (u : List ℕ). Is (drop (length v) u) t (take (length v) u)) e
-    (subst (λ (w : List ℕ). Is (drop (length v) (v ++ next)) t w) (sym (take-append_seam v next)) (subst (λ (u : List ℕ). Is u t v) (sym (drop-append_seam v next)) is)))
 
 -- ---- double quotes
 

@@ -226,3 +226,10 @@ begins-next d (c ∷ s) = by_bool (c == d)
     by_bool : (b : Bool) → (b && true) ≡ (b || false)
     by_bool true = refl
     by_bool false = refl
+
+-- what is read, of a text in two parts
+pub parted : {A : Type 0} (Is : List ℕ → A → List ℕ → Type 0) (v next s : List ℕ) (a : A) (r : A × ℕ) → v ++ next ≡ s → r ≡ (a, length v) → Is next a v → Is (drop r.1 s) r.0 (take r.1 s)
+parted {A} Is v next s a r e f is =
+    subst (λ (q : A × ℕ). Is (drop q.1 s) q.0 (take q.1 s)) (sym f)
+    (subst (λ (u : List ℕ). Is (drop (length v) u) a (take (length v) u)) e
+    (subst (λ (w : List ℕ). Is (drop (length v) (v ++ next)) a w) (sym (take-append_seam v next)) (subst (λ (u : List ℕ). Is u a v) (sym (drop-append_seam v next)) is)))

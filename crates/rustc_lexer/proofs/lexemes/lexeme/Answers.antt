@@ -1,3 +1,4 @@
+use Rattle.rustc_lexer.specs.laws.LanguageRaw.{raw-sound}
 use Rattle.rustc_lexer.specs.laws.LanguageQuoted.{single-sound}
 use Rattle.rustc_lexer.specs.laws.LanguageWords.{ident-sound}
 use Rattle.rustc_lexer.specs.laws.LanguageComments.{slash-sound}
