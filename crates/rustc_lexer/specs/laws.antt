@@ -7,6 +7,8 @@ pub mod Family
 pub mod Hash
 pub mod Ident
 pub mod LanguageComments
+pub mod LanguageLifetimes
+pub mod LanguageLiterals
 pub mod LanguageQuoted
 pub mod LanguageRaw
 pub mod LanguageRuns

@@ -262,20 +262,21 @@ ident-sound c start s free = by_kind (list_all is_id_continue (take n s)) (next_
 pub invalid-sound : (c : ℕ) → is_id_start c ≡ false → is_emoji c ≡ true → (s : List ℕ) → Sound c s (invalid_ident s)
 invalid-sound c no_start emoji s = the.invalid_ident (rw (no_start, emoji) refl) (run_all is_word s) (rw no_start refl) (run-stops is_word s)
 
--- past a mark
-marked-sound : (kind : TokenKind) (c : ℕ) → ((w next : List ℕ) → is_ident w ≡ true → Stops is_id_continue next → IsTokenBefore next kind (c ∷ 35 ∷ w)) → (s : List ℕ) → marks_ident s ≡ true → Sound c s (after 2 (run kind is_id_continue) s)
-marked-sound kind c is [] e = absurd (true≢false (sym e))
-marked-sound kind c is (h ∷ []) e = absurd (true≢false (sym (and_parts (begins (codes "#") (h ∷ [])) false e).1))
-marked-sound kind c is (h ∷ d ∷ s) e =
+-- past a mark, where this is so of what may stand there
+pub marked-sound : (P : List ℕ → List ℕ → Type 0) → ((w next : List ℕ) → is_ident w ≡ true → Stops is_id_continue next → P next (35 ∷ w)) → (s : List ℕ) → marks_ident s ≡ true
+    → P (drop (2 + run_len is_id_continue (drop 2 s)) s) (take (2 + run_len is_id_continue (drop 2 s)) s)
+marked-sound P is [] e = absurd (true≢false (sym e))
+marked-sound P is (h ∷ []) e = absurd (true≢false (sym (and_parts (begins (codes "#") (h ∷ [])) false e).1))
+marked-sound P is (h ∷ d ∷ s) e =
     let parts = and_parts (begins (codes "#") (h ∷ d ∷ s)) (is_id_start d) e in
     let n : ℕ = run_len is_id_continue s in
     let more : suc (suc n) ≡ 2 + n = omega arith in
     let hash : 35 ≡ h = sym (eqb-true h 35 (and_parts (h == 35) true parts.0).0) in
-    subst (λ (m : ℕ). IsTokenBefore (drop m (h ∷ d ∷ s)) kind (c ∷ take m (h ∷ d ∷ s))) more
-    (subst (λ (x : ℕ). IsTokenBefore (drop n s) kind (c ∷ x ∷ d ∷ take n s)) hash (is (d ∷ take n s) (drop n s) (rw parts.1 (run_all is_id_continue s)) (run-stops is_id_continue s)))
+    subst (λ (m : ℕ). P (drop m (h ∷ d ∷ s)) (take m (h ∷ d ∷ s))) more
+    (subst (λ (x : ℕ). P (drop n s) (x ∷ d ∷ take n s)) hash (is (d ∷ take n s) (drop n s) (rw parts.1 (run_all is_id_continue s)) (run-stops is_id_continue s)))
 
 pub raw_ident-sound : (s : List ℕ) → marks_ident s ≡ true → Sound 114 s (after 2 (run RawIdent is_id_continue) s)
-raw_ident-sound = marked-sound RawIdent 114 (λ w next is stop. the.raw_ident is stop)
+raw_ident-sound = marked-sound (λ next w. IsTokenBefore next RawIdent (114 ∷ w)) (λ w next is stop. the.raw_ident is stop)
 
 pub keyword-sound : (s : List ℕ) → marks_ident s ≡ true → Sound 107 s (after 2 (run ForcedKeywordIdent is_id_continue) s)
-keyword-sound = marked-sound ForcedKeywordIdent 107 (λ w next is stop. the.forced_keyword is stop)
+keyword-sound = marked-sound (λ next w. IsTokenBefore next ForcedKeywordIdent (107 ∷ w)) (λ w next is stop. the.forced_keyword is stop)

@@ -1,3 +1,5 @@
+use Rattle.rustc_lexer.specs.laws.LanguageLifetimes.{name-reads}
+use Rattle.rustc_lexer.specs.laws.LanguageLiterals.{byte-reads}
 use Rattle.rustc_lexer.specs.laws.LanguageRaw.{raw-sound}
 use Rattle.rustc_lexer.specs.laws.LanguageQuoted.{single-sound}
 use Rattle.rustc_lexer.specs.laws.LanguageWords.{ident-sound}

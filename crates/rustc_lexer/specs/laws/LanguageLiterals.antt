@@ -1,0 +1,308 @@
+-- Literals are in their languages, with their suffixes, and what is there is read so.
+use Rattle.std.proofs.Common.{◌≡◌, ℕ, zero, suc, ◌+◌, ◌≤◌, ◌<◌, ◌==◌, ◌&&◌, ◌||◌, nat_lt, not, Bool, true, false, true≢false, if◌then◌else◌, List, [], ◌∷◌, ◌++◌, length, take, drop, codes, refl, sym, ap, ◌∙◌, subst, arith, append_assoc, length-append, length-take-le, take-append-drop, take-add, drop-drop, Option, Some, None, Result, Ok, Err}
+use Rattle.std.proofs.Math.Seq.{take-append_seam, drop-append_seam}
+use Rattle.std.proofs.lemmas.Bool.{and_parts, eqb-true, or_parts, false_from_ne_true, lt-ltb}
+use Rattle.std.proofs.lemmas.List.{append-nil}
+use Rattle.std.proofs.lemmas.Str.{encodes-append, length-encode}
+use Rattle.std.specs.Char.{encode_utf8, len_utf8, is_ascii_digit}
+use Rattle.std.specs.List.{list_all}
+use Rattle.std.specs.Option.{is_some}
+use Rattle.std.specs.Str.{encode_utf8_all}
+use Rattle.unicode_ident.proofs.Computing.{unicode_ident}
+use Rattle.rustc_lexer.specs.declared.lexemes.raw.RawPrefix.{RawPrefix}
+use Rattle.rustc_lexer.specs.declared.lexemes.raw.RawPrefix.TheVariants.{R, Br, Cr}
+use Rattle.rustc_lexer.specs.declared.token.Base.{Base}
+use Rattle.rustc_lexer.specs.declared.token.LiteralKind.{LiteralKind}
+use Rattle.rustc_lexer.specs.declared.token.LiteralKind.TheVariants.{Char, Byte, Str, ByteStr, CStr, RawStr, RawByteStr, RawCStr}
+use Rattle.rustc_lexer.specs.declared.token.RawStrError.{RawStrError}
+use Rattle.rustc_lexer.specs.declared.token.TokenKind.{TokenKind}
+use Rattle.rustc_lexer.specs.declared.token.TokenKind.TheVariants.{Literal}
+use Rattle.rustc_lexer.specs.Classes.{is_among, is_id_start, is_id_continue, is_ident}
+use Rattle.rustc_lexer.specs.Ident.{marks_ident}
+use Rattle.rustc_lexer.specs.laws.Choice.{by_test}
+use Rattle.rustc_lexer.specs.laws.Ident.{marks_ident-told}
+use Rattle.rustc_lexer.specs.laws.LanguageQuoted.{double-read, double-sound, single-read, single-sound}
+use Rattle.rustc_lexer.specs.laws.LanguageRaw.{raw-read, raw-sound}
+use Rattle.rustc_lexer.specs.laws.LanguageRuns.{run_len-here, run-stops, either-way, other_than, Sound, Read, pair, read-first, sound-after, told-front, digit-small, chooses-word, chooses-number, chooses-str}
+use Rattle.rustc_lexer.specs.laws.Number.{number_kind_local}
+use Rattle.rustc_lexer.specs.laws.NumberLongest.{numbers-longest}
+use Rattle.rustc_lexer.specs.laws.Reach.{run_all}
+use Rattle.rustc_lexer.specs.Language as the
+use Rattle.rustc_lexer.specs.Language.{AreAll, Goes, Stops, bytes, begins_ident_past, guard, IsDoubleQuoted, IsSingleQuoted, IsRaw, IsLiteralBefore, IsSuffixBefore, IsTokenBefore}
+use Rattle.rustc_lexer.specs.Lexeme.{is_raw_mark, letter_b, letter_c, word}
+use Rattle.rustc_lexer.specs.Literal.{Body, suffix_len, suffixed, literal_past, literal}
+use Rattle.rustc_lexer.specs.Number.{with_suffix, number_kind, number_body, number}
+use Rattle.rustc_lexer.specs.NumberGrammar.{IsWhole, plain, with_b, with_o, with_x, IsNumberBefore, of_prefix, of_parts, NumberStands, IsLongestNumber}
+use Rattle.rustc_lexer.specs.Quoted.{double_quoted_string, single_quoted_string, quoted_body, str_body, byte_str_body, c_str_body, byte_body}
+use Rattle.rustc_lexer.specs.Raw.{hashes, raw_read, accepted, is_accepted, raw_body, prefix_kind, prefix_len, raw_literal}
+use Rattle.rustc_lexer.specs.Scan.{after, begins, bytes_of, next_is, run_len}
+
+-- ---- bytes
+
+pub bytes-append : (v w : List ℕ) → bytes (v ++ w) ≡ bytes v + bytes w
+bytes-append v w = ap length (encodes-append v w) ∙ length-append (encode_utf8_all v) (encode_utf8_all w)
+
+-- a character of one byte
+pub bytes-one : (c : ℕ) (w : List ℕ) → len_utf8 c ≡ 1 → bytes (c ∷ w) ≡ 1 + bytes w
+bytes-one c w e = omega (arith, length-append (encode_utf8 c) (encode_utf8_all w), length-encode c, e)
+
+bytes-letter : (c : ℕ) → len_utf8 c ≡ 1 → bytes (c ∷ []) ≡ 1
+bytes-letter c e = omega (arith, bytes-one c [] e)
+
+bytes-letters : (c d : ℕ) → len_utf8 c ≡ 1 → len_utf8 d ≡ 1 → bytes (c ∷ d ∷ []) ≡ 2
+bytes-letters c d e f = omega (arith, bytes-one c (d ∷ []) e, bytes-letter d f)
+
+-- ---- suffixes
+
+suffix-sound : (s : List ℕ) → IsSuffixBefore (drop (suffix_len s) s) (take (suffix_len s) s)
+suffix-sound [] = the.none refl
+suffix-sound (c ∷ s) =
+    by_test (λ (n : ℕ). IsSuffixBefore (drop n (c ∷ s)) (take n (c ∷ s))) (is_id_start c) (1 + run_len is_id_continue s) 0 (λ e.
+    let n : ℕ = run_len is_id_continue s in
+    let more : suc n ≡ 1 + n = omega arith in
+    subst (λ (m : ℕ). IsSuffixBefore (drop m (c ∷ s)) (take m (c ∷ s))) more (the.some (rw e (run_all is_id_continue s)) (run-stops is_id_continue s))) (λ e. the.none e)
+
+suffix-read : {next w : List ℕ} → IsSuffixBefore next w → suffix_len (w ++ next) ≡ length w
+suffix-read {next} (the.none stop) = rw stop refl
+suffix-read {next} (the.some {w} is stop) = by_first w is
+  where
+    by_first : (w : List ℕ) → is_ident w ≡ true → suffix_len (w ++ next) ≡ length w
+    by_first [] is = absurd (true≢false (sym is))
+    by_first (c ∷ w) is =
+        let parts = and_parts (is_id_start c) (list_all is_id_continue w) is in
+        let read : suffix_len (c ∷ w ++ next) ≡ 1 + run_len is_id_continue (w ++ next) = rw parts.0 refl in
+        omega (arith, read, run_len-here is_id_continue w next parts.1 stop)
+
+-- ---- a literal and its suffix
+
+-- past a front of p bytes
+pub literal-sound : (front : List ℕ) (p : ℕ) (kind : LiteralKind) (takes : Bool) (m : ℕ) (s : List ℕ) → bytes front ≡ p → IsLiteralBefore (drop m s) kind takes (front ++ take m s)
+    → IsTokenBefore (drop (m + suffixed takes (drop m s)) s) (Literal kind (p + bytes_of m s)) (front ++ take (m + suffixed takes (drop m s)) s)
+literal-sound front p kind false m s e is =
+    let none : m ≡ m + 0 = omega arith in
+    let start : bytes (front ++ take m s) ≡ p + bytes_of m s = bytes-append front (take m s) ∙ ap (λ (k : ℕ). k + bytes_of m s) e in
+    subst (λ (n : ℕ). IsTokenBefore (drop n s) (Literal kind (p + bytes_of m s)) (front ++ take n s)) none
+    (subst (λ (k : ℕ). IsTokenBefore (drop m s) (Literal kind k) (front ++ take m s)) start (the.literal is))
+literal-sound front p kind true m s e is =
+    let k : ℕ = suffix_len (drop m s) in
+    let start : bytes (front ++ take m s) ≡ p + bytes_of m s = bytes-append front (take m s) ∙ ap (λ (k : ℕ). k + bytes_of m s) e in
+    let left : drop k (drop m s) ≡ drop (m + k) s = drop-drop k m s in
+    let text : (front ++ take m s) ++ take k (drop m s) ≡ front ++ take (m + k) s = append_assoc front (take m s) (take k (drop m s)) ∙ ap (λ (w : List ℕ). front ++ w) (sym (take-add m k s)) in
+    let before : IsLiteralBefore (take k (drop m s) ++ drop k (drop m s)) kind true (front ++ take m s) = subst (λ (u : List ℕ). IsLiteralBefore u kind true (front ++ take m s)) (sym (take-append-drop k (drop m s))) is in
+    subst (λ (w : List ℕ). IsTokenBefore (drop (m + k) s) (Literal kind (p + bytes_of m s)) w) text
+    (subst (λ (b : ℕ). IsTokenBefore (drop (m + k) s) (Literal kind b) ((front ++ take m s) ++ take k (drop m s))) start
+    (subst (λ (u : List ℕ). IsTokenBefore u (Literal kind (bytes (front ++ take m s))) ((front ++ take m s) ++ take k (drop m s))) left (the.literal_with before (suffix-sound (drop m s)))))
+
+-- what a literal is read as, past a front of p bytes
+pub past-read : (front v rest : List ℕ) (p : ℕ) (kind : LiteralKind) (takes : Bool) (body : Body × ℕ) → body ≡ (record { kind = kind; takes_suffix = takes }, length v) → bytes front ≡ p
+    → literal_past p body (v ++ rest) ≡ (Literal kind (bytes (front ++ v)), length v + suffixed takes rest)
+past-read front v rest p kind takes body e f =
+    let start : p + bytes_of (length v) (v ++ rest) ≡ bytes (front ++ v) = ap (λ (k : ℕ). k + bytes_of (length v) (v ++ rest)) (sym f) ∙ (ap (λ (w : List ℕ). bytes front + bytes w) (take-append_seam v rest) ∙ sym (bytes-append front v)) in
+    ap (λ (b : Body × ℕ). literal_past p b (v ++ rest)) e ∙ pair _ _ _ _ (ap (Literal kind) start) (ap (λ (u : List ℕ). length v + suffixed takes u) (drop-append_seam v rest))
+
+-- a literal up to its suffix is read with the suffix that stands there
+abbrev pub ReadsLiteral : List ℕ → LiteralKind → Bool → List ℕ → Type 0
+ReadsLiteral next kind takes w = Read (Literal kind (bytes w)) (length w + suffixed takes next) (w ++ next)
+
+pub plain-read : (next : List ℕ) (kind : LiteralKind) (w : List ℕ) → ReadsLiteral next kind false w → Read (Literal kind (bytes w)) (length w) (w ++ next)
+plain-read next kind w e = e ∙ pair _ _ _ _ refl (omega arith)
+
+pub with_suffix-read : (next : List ℕ) (kind : LiteralKind) (w suffix : List ℕ) → ReadsLiteral (suffix ++ next) kind true w → IsSuffixBefore next suffix → Read (Literal kind (bytes w)) (length (w ++ suffix)) (w ++ suffix ++ next)
+with_suffix-read next kind w suffix e is = subst (λ (s : List ℕ). Read (Literal kind (bytes w)) (length (w ++ suffix)) s) (sym (append_assoc w suffix next)) (e ∙ pair _ _ _ _ refl (omega (arith, suffix-read is, length-append w suffix)))
+
+-- ---- strings
+
+pub str-sound : (s : List ℕ) → Sound 34 s (literal str_body s)
+str-sound s = literal-sound (34 ∷ []) 1 _ (double_quoted_string s).0 (double_quoted_string s).1 s (bytes-letter 34 refl) (the.str (double-sound s))
+
+lettered-sound : (c d : ℕ) (kind : Bool → LiteralKind) (scan : List ℕ → Bool × ℕ) (s : List ℕ) → len_utf8 c ≡ 1 → IsLiteralBefore (drop (scan s).1 s) (kind (scan s).0) (scan s).0 (c ∷ d ∷ take (scan s).1 s) → Sound c (d ∷ s) (literal (after 1 (quoted_body kind scan)) (d ∷ s))
+lettered-sound c d kind scan s one is =
+    let m : ℕ = (scan s).1 in
+    let more : suc m ≡ 1 + m = omega arith in
+    literal-sound (c ∷ []) 1 (kind (scan s).0) (scan s).0 (1 + m) (d ∷ s) (bytes-letter c one)
+    (subst (λ (n : ℕ). IsLiteralBefore (drop n (d ∷ s)) (kind (scan s).0) (scan s).0 (c ∷ take n (d ∷ s))) more is)
+
+at-letter : (c d : ℕ) (scan : List ℕ → TokenKind × ℕ) → ((s : List ℕ) → Sound c (d ∷ s) (scan (d ∷ s))) → (s : List ℕ) → begins (d ∷ []) s ≡ true → Sound c s (scan s)
+at-letter c d scan is [] e = absurd (true≢false (sym e))
+at-letter c d scan is (x ∷ s) e = subst (λ (y : ℕ). Sound c (y ∷ s) (scan (y ∷ s))) (sym (eqb-true x d (and_parts (x == d) true e).0)) (is s)
+
+pub byte-sound : (s : List ℕ) → begins (codes "'") s ≡ true → Sound 98 s (literal (after 1 byte_body) s)
+byte-sound = at-letter 98 39 (literal (after 1 byte_body)) (λ s. lettered-sound 98 39 Byte single_quoted_string s refl (the.byte_char (single-sound s)))
+
+pub byte_str-sound : (s : List ℕ) → begins (codes "\"") s ≡ true → Sound 98 s (literal (after 1 byte_str_body) s)
+byte_str-sound = at-letter 98 34 (literal (after 1 byte_str_body)) (λ s. lettered-sound 98 34 ByteStr double_quoted_string s refl (the.byte_str (double-sound s)))
+
+pub c_str-sound : (s : List ℕ) → begins (codes "\"") s ≡ true → Sound 99 s (literal (after 1 c_str_body) s)
+c_str-sound = at-letter 99 34 (literal (after 1 c_str_body)) (λ s. lettered-sound 99 34 CStr double_quoted_string s refl (the.c_str (double-sound s)))
+
+pub str-reads : (next : List ℕ) (t : Bool) (w : List ℕ) → IsDoubleQuoted next t w → ReadsLiteral next (Str t) t (34 ∷ w)
+str-reads next t w q =
+    read-first 34 (literal str_body) (w ++ next) _ _ _ chooses-str
+    (past-read (34 ∷ []) w next 1 (Str t) t (str_body (w ++ next)) (ap (λ (r : Bool × ℕ). let b : Body = record { kind = Str r.0; takes_suffix = r.0 } in (b, r.1)) (double-read q)) (bytes-letter 34 refl)) (omega arith)
+
+lettered-reads : (c d : ℕ) (kind : Bool → LiteralKind) (scan : List ℕ → Bool × ℕ) (next : List ℕ) (t : Bool) (w : List ℕ) → is_id_start c ≡ true → len_utf8 c ≡ 1 → word c (d ∷ w ++ next) ≡ literal (after 1 (quoted_body kind scan)) (d ∷ w ++ next) → scan (w ++ next) ≡ (t, length w)
+    → ReadsLiteral next (kind t) t (c ∷ d ∷ w)
+lettered-reads c d kind scan next t w start one is e =
+    read-first c (word c) (d ∷ w ++ next) _ _ _ (chooses-word c start)
+    (is ∙ past-read (c ∷ []) (d ∷ w) next 1 (kind t) t (after 1 (quoted_body kind scan) (d ∷ w ++ next)) (ap (λ (r : Bool × ℕ). let b : Body = record { kind = kind r.0; takes_suffix = r.0 } in (b, 1 + r.1)) e ∙ pair _ _ _ _ refl (omega arith)) (bytes-letter c one)) (omega arith)
+
+letters-start : (is_id_start 98 ≡ true) × (is_id_start 99 ≡ true) × (is_id_start 114 ≡ true)
+unfolding unicode_ident
+letters-start = (refl, refl, refl)
+
+-- ---- raw strings
+
+accepts : (r : Result ℕ RawStrError) → is_accepted r ≡ is_some (accepted r)
+accepts (Ok n) = refl
+accepts (Err e) = refl
+
+-- what marks an identifier in a front of a text marks one in the text
+marks-front : (m : ℕ) (s : List ℕ) → marks_ident (take m s) ≡ true → marks_ident s ≡ true
+marks-front zero s e = absurd (true≢false (sym e))
+marks-front (suc m) [] e = e
+marks-front (suc m) (c ∷ s) e = let parts = and_parts (begins (codes "#") (c ∷ take m s)) _ e in rw (and_parts (c == 35) true parts.0).0 (next_start m s parts.1)
+  where
+    next_start : (m : ℕ) (s : List ℕ) → next_is is_id_start (take m s) ≡ true → next_is is_id_start s ≡ true
+    next_start zero s e = absurd (true≢false (sym e))
+    next_start (suc m) [] e = e
+    next_start (suc m) (c ∷ s) e = e
+
+abbrev taken : List ℕ → ℕ
+taken s = (raw_read 0 s).1
+
+pub raw_str-sound : (s : List ℕ) → Goes is_raw_mark s → marks_ident s ≡ false → Sound 114 s (raw_literal R s)
+raw_str-sound s mark no_ident =
+    let free : begins_ident_past (codes "#") (take (taken s) s) ≡ false = false_from_ne_true (marks_ident (take (taken s) s)) (λ e. either-way (marks_ident s) (marks-front (taken s) s e) no_ident) in
+    literal-sound (114 ∷ []) 1 (RawStr (accepted (raw_read 0 s).0)) (is_accepted (raw_read 0 s).0) (taken s) s (bytes-letter 114 refl)
+    (subst (λ (b : Bool). IsLiteralBefore (drop (taken s) s) (RawStr (accepted (raw_read 0 s).0)) b (114 ∷ take (taken s) s)) (sym (accepts (raw_read 0 s).0)) (the.raw_str (raw-sound s mark) free))
+
+pub raw_byte_str-sound : (s : List ℕ) → Goes is_raw_mark s → Sound 98 (114 ∷ s) (after 1 (raw_literal Br) (114 ∷ s))
+raw_byte_str-sound s mark =
+    sound-after 98 114 s (raw_literal Br)
+    (literal-sound (98 ∷ 114 ∷ []) 2 (RawByteStr (accepted (raw_read 0 s).0)) (is_accepted (raw_read 0 s).0) (taken s) s (bytes-letters 98 114 refl refl)
+    (subst (λ (b : Bool). IsLiteralBefore (drop (taken s) s) (RawByteStr (accepted (raw_read 0 s).0)) b (98 ∷ 114 ∷ take (taken s) s)) (sym (accepts (raw_read 0 s).0)) (the.raw_byte_str (raw-sound s mark))))
+
+pub raw_c_str-sound : (s : List ℕ) → Goes is_raw_mark s → Sound 99 (114 ∷ s) (after 1 (raw_literal Cr) (114 ∷ s))
+raw_c_str-sound s mark =
+    sound-after 99 114 s (raw_literal Cr)
+    (literal-sound (99 ∷ 114 ∷ []) 2 (RawCStr (accepted (raw_read 0 s).0)) (is_accepted (raw_read 0 s).0) (taken s) s (bytes-letters 99 114 refl refl)
+    (subst (λ (b : Bool). IsLiteralBefore (drop (taken s) s) (RawCStr (accepted (raw_read 0 s).0)) b (99 ∷ 114 ∷ take (taken s) s)) (sym (accepts (raw_read 0 s).0)) (the.raw_c_str (raw-sound s mark))))
+
+-- what follows the `r`
+guard-mark : (n c : ℕ) (s : List ℕ) → is_raw_mark c ≡ true → Goes is_raw_mark (guard n ++ c ∷ s)
+guard-mark zero c s e = e
+guard-mark (suc n) c s e = refl
+
+raw-mark : {next : List ℕ} {o : Option ℕ} {w : List ℕ} → IsRaw next o w → Goes is_raw_mark (w ++ next)
+raw-mark {next} (the.closed n w le lacks) = subst (λ (s : List ℕ). Goes is_raw_mark s) (sym (append_assoc (guard n) (34 ∷ w ++ 34 ∷ guard n) next)) (guard-mark n 34 _ refl)
+raw-mark {next} (the.too_many n w le lacks) = subst (λ (s : List ℕ). Goes is_raw_mark s) (sym (append_assoc (guard n) (34 ∷ w ++ 34 ∷ guard n) next)) (guard-mark n 34 _ refl)
+raw-mark {next} (the.unclosed n w none lacks) = subst (λ (s : List ℕ). Goes is_raw_mark s) (sym (append_assoc (guard n) (34 ∷ w) next)) (guard-mark n 34 _ refl)
+raw-mark {next} (the.no_quote n c out) = refl
+raw-mark {next} (the.no_more n none) = refl
+
+whole-marks : (w next : List ℕ) → next ≡ [] → marks_ident (w ++ next) ≡ marks_ident w
+whole-marks w next none = ap (λ (xs : List ℕ). marks_ident (w ++ xs)) none ∙ ap marks_ident (append-nil w)
+
+raw-marks : {next : List ℕ} {o : Option ℕ} {w : List ℕ} → IsRaw next o w → marks_ident (w ++ next) ≡ marks_ident w
+raw-marks {next} (the.closed n w le lacks) = told-front 2 marks_ident marks_ident-told (guard n ++ (34 ∷ w ++ 34 ∷ guard n)) next (omega (arith, length-append (guard n) (34 ∷ w ++ 34 ∷ guard n), length-append w (34 ∷ guard n)))
+raw-marks {next} (the.too_many n w le lacks) = told-front 2 marks_ident marks_ident-told (guard n ++ (34 ∷ w ++ 34 ∷ guard n)) next (omega (arith, length-append (guard n) (34 ∷ w ++ 34 ∷ guard n), length-append w (34 ∷ guard n)))
+raw-marks {next} (the.unclosed n w none lacks) = whole-marks (guard n ++ 34 ∷ w) next none
+raw-marks {next} (the.no_quote n c out) = told-front 2 marks_ident marks_ident-told (guard (suc n) ++ c ∷ []) next (omega (arith, length-append (guard n) (c ∷ [])))
+raw-marks {next} (the.no_more n none) = whole-marks (guard (suc n)) next none
+
+-- the body of a literal, from what is read of it
+raw-body : (kind : Option ℕ → LiteralKind) (next : List ℕ) (o : Option ℕ) (w : List ℕ) → IsRaw next o w → raw_body kind (w ++ next) ≡ (record { kind = kind o; takes_suffix = is_some o }, length w)
+raw-body kind next o w q =
+    let r : Result ℕ RawStrError × ℕ = raw_read 0 (w ++ next) in
+    ap (λ (b : Bool). let body : Body = record { kind = kind (accepted r.0); takes_suffix = b } in (body, r.1)) (accepts r.0)
+    ∙ ap (λ (p : Option ℕ × ℕ). let body : Body = record { kind = kind p.0; takes_suffix = is_some p.0 } in (body, p.1)) (raw-read q)
+
+pub raw_str-reads : (next : List ℕ) (o : Option ℕ) (w : List ℕ) → IsRaw next o w → begins_ident_past (codes "#") w ≡ false → ReadsLiteral next (RawStr o) (is_some o) (114 ∷ w)
+raw_str-reads next o w q free =
+    let no_ident : marks_ident (w ++ next) ≡ false = raw-marks q ∙ free in
+    read-first 114 (word 114) (w ++ next) (Literal (RawStr o) (bytes (114 ∷ w))) (length w + suffixed (is_some o) next) _ (chooses-word 114 letters-start.2)
+    (rw (no_ident, raw-mark q) (past-read (114 ∷ []) w next 1 (RawStr o) (is_some o) (raw_body RawStr (w ++ next)) (raw-body RawStr next o w q) (bytes-letter 114 refl))) (omega arith)
+
+raw_past-reads : (c : ℕ) (prefix : RawPrefix) (next : List ℕ) (o : Option ℕ) (w : List ℕ) → is_id_start c ≡ true → len_utf8 c ≡ 1 → prefix_len prefix ≡ 2 → word c (114 ∷ w ++ next) ≡ after 1 (raw_literal prefix) (114 ∷ w ++ next) → IsRaw next o w
+    → ReadsLiteral next (prefix_kind prefix o) (is_some o) (c ∷ 114 ∷ w)
+raw_past-reads c prefix next o w start one two is q =
+    read-first c (word c) (114 ∷ w ++ next) _ _ _ (chooses-word c start)
+    (is ∙ ap (λ (r : TokenKind × ℕ). let p : TokenKind × ℕ = (r.0, 1 + r.1) in p)
+    (past-read (c ∷ 114 ∷ []) w next (prefix_len prefix) (prefix_kind prefix o) (is_some o) (raw_body (prefix_kind prefix) (w ++ next)) (raw-body (prefix_kind prefix) next o w q) (bytes-letters c 114 one refl ∙ sym two))) (omega arith)
+
+-- ---- numbers
+
+digit-one : (c : ℕ) → is_ascii_digit c ≡ true → len_utf8 c ≡ 1
+digit-one c digit = let small : nat_lt c 0x80 ≡ true = lt-ltb c 128 (digit-small c digit) in rw small refl
+
+pub number-sound : (c : ℕ) → is_ascii_digit c ≡ true → (s : List ℕ) → Sound c s (number c s)
+number-sound c digit s = literal-sound (c ∷ []) 1 kind true m s (bytes-letter c (digit-one c digit))
+    (the.number (subst (λ (n : ℕ). IsLongestNumber kind n (c ∷ take m s ++ drop m s)) len (subst (λ (u : List ℕ). IsLongestNumber kind (1 + m) (c ∷ u)) (sym (take-append-drop m s)) (numbers-longest c s digit))))
+  where
+    kind : LiteralKind
+    kind = (number_kind c s).0
+
+    m : ℕ
+    m = (number_kind c s).1
+
+    len : 1 + m ≡ suc (length (take m s))
+    len = let at = number_kind_local c s in omega (arith, length-take-le m s at.inside)
+
+-- its first digit
+record HasDigit (w : List ℕ) : Type 0 where
+  first : ℕ
+  rest : List ℕ
+  whole : w ≡ first ∷ rest
+  digit : is_ascii_digit first ≡ true
+
+whole-digit : {base : Base} {empty : Bool} {w : List ℕ} → IsWhole base empty w → HasDigit w
+whole-digit (plain {d} {ds} digit are) = record { first = d; rest = ds; whole = refl; digit = digit }
+whole-digit (with_b {ds} are) = record { first = 48; rest = 98 ∷ ds; whole = refl; digit = refl }
+whole-digit (with_o {ds} are) = record { first = 48; rest = 111 ∷ ds; whole = refl; digit = refl }
+whole-digit (with_x {ds} are) = record { first = 48; rest = 120 ∷ ds; whole = refl; digit = refl }
+
+number-digit : {next : List ℕ} {kind : LiteralKind} {w : List ℕ} → IsNumberBefore next kind w → HasDigit w
+number-digit (of_prefix whole) = whole-digit whole
+number-digit (of_parts {whole = w} {tail = t} whole is) = let d = whole-digit whole in record { first = d.first; rest = d.rest ++ t; whole = ap (λ (xs : List ℕ). xs ++ t) d.whole; digit = d.digit }
+
+first-reads : (next : List ℕ) (kind : LiteralKind) (c : ℕ) (v : List ℕ) → is_ascii_digit c ≡ true → IsLongestNumber kind (length (c ∷ v)) (c ∷ v ++ next) → ReadsLiteral next kind true (c ∷ v)
+first-reads next kind c v digit is =
+    read-first c (number c) (v ++ next) _ _ _ (chooses-number c digit)
+    (past-read (c ∷ []) v next 1 kind true (number_body c (v ++ next)) (ap (λ (r : LiteralKind × ℕ). let b : Body × ℕ = (with_suffix r.0, r.1) in b) read) (bytes-letter c (digit-one c digit))) (omega arith)
+  where
+    m : ℕ
+    m = (number_kind c (v ++ next)).1
+
+    the_read : IsLongestNumber (number_kind c (v ++ next)).0 (1 + m) (c ∷ v ++ next)
+    the_read = numbers-longest c (v ++ next) digit
+
+    len : suc (length v) ≡ 1 + m
+    len = let long = the_read.longest kind (suc (length v)) is.stands in let short = is.longest (number_kind c (v ++ next)).0 (1 + m) the_read.stands in omega arith
+
+    same : kind ≡ (number_kind c (v ++ next)).0
+    same = the_read.only kind (subst (λ (n : ℕ). NumberStands kind n (c ∷ v ++ next)) len is.stands)
+
+    read : number_kind c (v ++ next) ≡ (kind, length v)
+    read = pair _ _ _ _ (sym same) (omega (arith, len))
+
+pub number-reads : (next : List ℕ) (kind : LiteralKind) (w : List ℕ) → IsLongestNumber kind (length w) (w ++ next) → ReadsLiteral next kind true w
+number-reads next kind w is =
+    let d : HasDigit w = subst HasDigit (take-append_seam w next) (number-digit is.stands.is_number) in
+    subst (ReadsLiteral next kind true) (sym d.whole) (first-reads next kind d.first d.rest d.digit (subst (λ (u : List ℕ). IsLongestNumber kind (length u) (u ++ next)) d.whole is))
+
+-- ---- all but characters
+
+pub byte-reads : {next : List ℕ} (t : Bool) (w : List ℕ) → IsSingleQuoted next t w → ReadsLiteral next (Byte t) t (98 ∷ 39 ∷ w)
+byte-reads {next} t w q = lettered-reads 98 39 Byte single_quoted_string next t w letters-start.0 refl refl (single-read q)
+
+pub byte_str-reads : {next : List ℕ} (t : Bool) (w : List ℕ) → IsDoubleQuoted next t w → ReadsLiteral next (ByteStr t) t (98 ∷ 34 ∷ w)
+byte_str-reads {next} t w q = lettered-reads 98 34 ByteStr double_quoted_string next t w letters-start.0 refl refl (double-read q)
+
+pub c_str-reads : {next : List ℕ} (t : Bool) (w : List ℕ) → IsDoubleQuoted next t w → ReadsLiteral next (CStr t) t (99 ∷ 34 ∷ w)
+c_str-reads {next} t w q = lettered-reads 99 34 CStr double_quoted_string next t w letters-start.1 refl refl (double-read q)
+
+pub raw_byte_str-reads : {next : List ℕ} (o : Option ℕ) (w : List ℕ) → IsRaw next o w → ReadsLiteral next (RawByteStr o) (is_some o) (98 ∷ 114 ∷ w)
+raw_byte_str-reads {next} o w q = let mark : Goes is_raw_mark (w ++ next) = raw-mark q in raw_past-reads 98 Br next o w letters-start.0 refl refl (rw mark refl) q
+
+pub raw_c_str-reads : {next : List ℕ} (o : Option ℕ) (w : List ℕ) → IsRaw next o w → ReadsLiteral next (RawCStr o) (is_some o) (99 ∷ 114 ∷ w)
+raw_c_str-reads {next} o w q = let mark : Goes is_raw_mark (w ++ next) = raw-mark q in raw_past-reads 99 Cr next o w letters-start.1 refl refl (rw mark refl) q
