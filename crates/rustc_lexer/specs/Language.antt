@@ -1,5 +1,5 @@
 -- The language of the tokens of Rust: which texts a token of each kind may have, and before what. One rule for each form.
-use Rattle.std.specs.Prelude.{◌≡◌, ◌<◌, ◌≤◌, ℕ, zero, suc, ◌==◌, ◌||◌, ◌&&◌, not, Bool, true, false, List, [], ◌∷◌, ◌++◌, length, take, drop, codes, Option, Some, None}
+use Rattle.std.specs.Prelude.{◌≡◌, ◌<◌, ◌≤◌, ◌↔◌, ℕ, zero, suc, ◌==◌, ◌||◌, ◌&&◌, not, Bool, true, false, List, [], ◌∷◌, ◌++◌, length, take, drop, codes, Option, Some, None}
 use Rattle.std.specs.Char.{is_ascii_digit}
 use Rattle.std.specs.List.{list_all, list_any}
 use Rattle.std.specs.Option.{is_some}
@@ -13,7 +13,7 @@ use Rattle.rustc_lexer.specs.declared.token.TokenKind.{TokenKind}
 use Rattle.rustc_lexer.specs.declared.token.TokenKind.TheVariants.{LineComment, BlockComment, Whitespace, Ident, InvalidIdent, RawIdent, ForcedKeywordIdent, UnknownPrefix, UnknownPrefixLifetime, RawLifetime, GuardedStrPrefix, Literal, Lifetime, Slash, Pound, Eof}
 use Rattle.rustc_lexer.specs.Classes.{is_among, is_whitespace, is_id_start, is_id_continue, is_ident}
 use Rattle.rustc_lexer.specs.Emoji.{is_emoji}
-use Rattle.rustc_lexer.specs.Lexeme.{symbol_kind}
+use Rattle.rustc_lexer.specs.Lexeme.{symbol_kind, lexeme}
 use Rattle.rustc_lexer.specs.NumberGrammar.{IsLongestNumber}
 use Rattle.rustc_lexer.specs.Scan.{begins, next_is}
 
@@ -190,6 +190,10 @@ pub data IsTokenBefore (next : List ℕ) : TokenKind → List ℕ → Type 0 whe
   pound : Stops (is_among (codes "\"#")) next → IsTokenBefore next Pound (codes "#")
   guarded : {c : ℕ} → is_among (codes "\"#") c ≡ true → IsTokenBefore next GuardedStrPrefix (byte "#" ∷ c ∷ [])
   symbol : {c : ℕ} → begins_more c ≡ false → IsTokenBefore next (symbol_kind c) (c ∷ [])
+
+-- what is read at the front of a text is the token that the language has there, the only one
+abbrev pub IsLanguage : Type 0
+IsLanguage = (next w : List ℕ) (kind : TokenKind) → IsTokenBefore next kind w ↔ (lexeme (w ++ next) ≡ (kind, length w))
 
 -- the tokens of a list of characters
 pub data AreTokens : List ℕ → List Token → Type 0 where

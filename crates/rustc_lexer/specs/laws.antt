@@ -6,6 +6,7 @@ pub mod Edition
 pub mod Family
 pub mod Hash
 pub mod Ident
+pub mod Language
 pub mod LanguageComments
 pub mod LanguageLifetimes
 pub mod LanguageLiterals

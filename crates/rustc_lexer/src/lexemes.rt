@@ -2,6 +2,7 @@
 ghost use Rattle.std.specs.Prelude.{◌≡◌, ◌+◌, ◌<◌, ◌^◌, length};
 ghost use Rattle.rustc_lexer.specs.declared.token.TokenKind.{TokenKind};
 ghost use Rattle.rustc_lexer.specs.Classes.{Fits};
+ghost use Rattle.rustc_lexer.specs.Language.{IsLanguage};
 ghost use Rattle.rustc_lexer.specs.Lexeme as spec;
 ghost use Rattle.rustc_lexer.specs.Quick.{IsFirstToken};
 ghost use Rattle.rustc_lexer.specs.Scan.{IsLocal, scanned};
@@ -47,6 +48,7 @@ pub(crate) fn lexeme(text: &str) -> Token
     ensures token { IsFirstToken text.now result }
     ensures lookahead { IsLocal TokenKind 2 spec.lexeme }
     ensures grammar { IsGrammar spec.first_token }
+    ensures language { IsLanguage }
 {
     match quick_token(text) {
         Some(token) => token,

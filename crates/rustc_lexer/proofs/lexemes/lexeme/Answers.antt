@@ -1,9 +1,4 @@
-use Rattle.rustc_lexer.specs.laws.LanguageLifetimes.{name-reads}
-use Rattle.rustc_lexer.specs.laws.LanguageLiterals.{byte-reads}
-use Rattle.rustc_lexer.specs.laws.LanguageRaw.{raw-sound}
-use Rattle.rustc_lexer.specs.laws.LanguageQuoted.{single-sound}
-use Rattle.rustc_lexer.specs.laws.LanguageWords.{ident-sound}
-use Rattle.rustc_lexer.specs.laws.LanguageComments.{slash-sound}
+use Rattle.rustc_lexer.specs.laws.Language.{language}
 use Rattle.rustc_lexer.specs.laws.Lookahead.{lexeme_local, first_token_grammar}
 use Rattle.rustc_lexer.proofs.lexemes.lexeme.Goals as goal
 
@@ -18,3 +13,9 @@ returns-in-None-clause-lookahead c = lexeme_local
 
 pub returns-in-None-clause-grammar : goal.returns-in-None-clause-grammar
 returns-in-None-clause-grammar c = first_token_grammar
+
+pub returns-in-Some-clause-language : goal.returns-in-Some-clause-language
+returns-in-Some-clause-language c = language
+
+pub returns-in-None-clause-language : goal.returns-in-None-clause-language
+returns-in-None-clause-language c = language

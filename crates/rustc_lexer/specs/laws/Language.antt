@@ -1,0 +1,162 @@
+-- What is read at the front of a text is a token of the language, and a token of the language is what is read.
+use Rattle.std.proofs.Common.{◌≡◌, ◌↔◌, ℕ, suc, ◌+◌, ◌==◌, ◌&&◌, ◌||◌, not, Bool, true, false, true≢false, if◌then◌else◌, List, [], ◌∷◌, ◌++◌, length, take, drop, codes, refl, sym, ap, ◌∙◌, subst, arith, append-nil}
+use Rattle.std.proofs.Math.Seq.{take-append_seam, drop-append_seam}
+use Rattle.std.proofs.lemmas.Bool.{and_parts, eqb-true, or_parts}
+use Rattle.unicode_ident.proofs.Computing.{unicode_ident}
+use Rattle.rustc_lexer.specs.declared.lexemes.raw.RawPrefix.TheVariants.{R, Br, Cr}
+use Rattle.rustc_lexer.specs.declared.token.LiteralKind.{LiteralKind}
+use Rattle.rustc_lexer.specs.declared.token.TokenKind.{TokenKind}
+use Rattle.rustc_lexer.specs.declared.token.TokenKind.TheVariants.{RawIdent, ForcedKeywordIdent, Literal}
+use Rattle.rustc_lexer.specs.Classes.{is_id_start, is_id_continue}
+use Rattle.rustc_lexer.specs.Ident.{ident_or_unknown_prefix, marks_ident}
+use Rattle.rustc_lexer.specs.laws.Choice.{by_test, EachArm, by_arm, at_char, fits_some}
+use Rattle.rustc_lexer.specs.laws.LanguageComments.{space-sound, space-read, hash-sound, pound-read, guarded-read, symbol-sound, symbol-read, slash-sound, slash-read, line-read, block-read, open-read}
+use Rattle.rustc_lexer.specs.laws.LanguageLifetimes.{quote-sound, lifetime-read, prefix-read, raw_lifetime-read, char-reads, one-reads, name-reads}
+use Rattle.rustc_lexer.specs.laws.LanguageLiterals.{str-sound, byte-sound, byte_str-sound, c_str-sound, raw_str-sound, raw_byte_str-sound, raw_c_str-sound, number-sound, ReadsLiteral, plain-read, with_suffix-read, str-reads, byte-reads, byte_str-reads, c_str-reads, raw_str-reads, raw_byte_str-reads, raw_c_str-reads, number-reads}
+use Rattle.rustc_lexer.specs.laws.LanguageRuns.{Sound, Read, EachChosen, each_chosen}
+use Rattle.rustc_lexer.specs.laws.LanguageWords.{BeginsNone, no-opening, raw_mark-none, none-raw, ident-sound, invalid-sound, raw_ident-sound, keyword-sound, ident-is_read, prefix-read as word_prefix-read, invalid-read, raw_ident-read, keyword-read}
+use Rattle.rustc_lexer.specs.Language as the
+use Rattle.rustc_lexer.specs.Language.{Goes, Stops, bytes, is_opening, IsLiteralBefore, IsTokenBefore, IsLanguage}
+use Rattle.rustc_lexer.specs.Lexeme.{is_raw_mark, raw_or_ident, begins_raw, raw_past_or_ident, letter_r, letter_k, letter_b, letter_c, letters, word, past_first, lexeme}
+use Rattle.rustc_lexer.specs.Literal.{literal}
+use Rattle.rustc_lexer.specs.Quoted.{byte_body, byte_str_body, c_str_body}
+use Rattle.rustc_lexer.specs.Raw.{raw_literal}
+use Rattle.rustc_lexer.specs.Scan.{after, begins, next_is, run}
+
+-- ---- what is read is a token
+
+abbrev SoundAll : ℕ → (List ℕ → TokenKind × ℕ) → Type 0
+SoundAll c scan = (s : List ℕ) → Sound c s (scan s)
+
+letters-start : (is_id_start 114 ≡ true) × (is_id_start 107 ≡ true) × (is_id_start 98 ≡ true) × (is_id_start 99 ≡ true)
+unfolding unicode_ident
+letters-start = (refl, refl, refl, refl)
+
+r-sound : SoundAll 114 letter_r
+r-sound s = by_test (Sound 114 s) (marks_ident s) (after 2 (run RawIdent is_id_continue) s) (raw_or_ident s) (raw_ident-sound s)
+    (λ e. by_test (Sound 114 s) (next_is is_raw_mark s) (raw_literal R s) (ident_or_unknown_prefix s) (λ f. raw_str-sound s f e) (λ f. ident-sound 114 letters-start.0 s (free f)))
+  where
+    free : Stops is_raw_mark s → is_opening (114 ∷ s) ≡ false
+    free f =
+        let none = raw_mark-none s f in
+        no-opening (114 ∷ s) record { r_quote = none.0; r_hash = none.1; b_one = refl; b_quote = refl; br_quote = refl; br_hash = refl; c_quote = refl; cr_quote = refl; cr_hash = refl; k_hash = refl }
+
+k-sound : SoundAll 107 letter_k
+k-sound s = by_test (Sound 107 s) (marks_ident s) (after 2 (run ForcedKeywordIdent is_id_continue) s) (ident_or_unknown_prefix s) (keyword-sound s) (λ e. ident-sound 107 letters-start.1 s
+    (no-opening (107 ∷ s) record { r_quote = refl; r_hash = refl; b_one = refl; b_quote = refl; br_quote = refl; br_hash = refl; c_quote = refl; cr_quote = refl; cr_hash = refl; k_hash = e }))
+
+-- an `r` and its mark, past one letter
+raw-parts : (c : ℕ) (scan : List ℕ → TokenKind × ℕ) → ((s : List ℕ) → Goes is_raw_mark s → Sound c (114 ∷ s) (scan (114 ∷ s))) → (s : List ℕ) → begins_raw s ≡ true → Sound c s (scan s)
+raw-parts c scan is [] e = absurd (true≢false (sym e))
+raw-parts c scan is (d ∷ s) e =
+    let parts = and_parts (begins (codes "r") (d ∷ s)) (next_is is_raw_mark s) e in
+    subst (λ (x : ℕ). Sound c (x ∷ s) (scan (x ∷ s))) (sym (eqb-true d 114 (and_parts (d == 114) true parts.0).0)) (is s parts.1)
+
+b-sound : SoundAll 98 letter_b
+b-sound s = by_test (Sound 98 s) (begins (codes "'") s) (literal (after 1 byte_body) s) _ (byte-sound s)
+    (λ e. by_test (Sound 98 s) (begins (codes "\"") s) (literal (after 1 byte_str_body) s) (raw_past_or_ident Br s) (byte_str-sound s)
+    (λ f. by_test (Sound 98 s) (begins_raw s) (after 1 (raw_literal Br) s) (ident_or_unknown_prefix s) (raw-parts 98 (after 1 (raw_literal Br)) raw_byte_str-sound s) (λ g. ident-sound 98 letters-start.2 s (free e f g))))
+  where
+    free : begins (codes "'") s ≡ false → begins (codes "\"") s ≡ false → begins_raw s ≡ false → is_opening (98 ∷ s) ≡ false
+    free e f g =
+        let none = none-raw s g in
+        no-opening (98 ∷ s) record { r_quote = refl; r_hash = refl; b_one = e; b_quote = f; br_quote = none.0; br_hash = none.1; c_quote = refl; cr_quote = refl; cr_hash = refl; k_hash = refl }
+
+c-sound : SoundAll 99 letter_c
+c-sound s = by_test (Sound 99 s) (begins (codes "\"") s) (literal (after 1 c_str_body) s) (raw_past_or_ident Cr s) (c_str-sound s)
+    (λ f. by_test (Sound 99 s) (begins_raw s) (after 1 (raw_literal Cr) s) (ident_or_unknown_prefix s) (raw-parts 99 (after 1 (raw_literal Cr)) raw_c_str-sound s) (λ g. ident-sound 99 letters-start.3 s (free f g)))
+  where
+    free : begins (codes "\"") s ≡ false → begins_raw s ≡ false → is_opening (99 ∷ s) ≡ false
+    free f g =
+        let none = none-raw s g in
+        no-opening (99 ∷ s) record { r_quote = refl; r_hash = refl; b_one = refl; b_quote = refl; br_quote = refl; br_hash = refl; c_quote = f; cr_quote = none.0; cr_hash = none.1; k_hash = refl }
+
+letters-sound : EachArm SoundAll letters
+letters-sound = (
+  at_char SoundAll 114 letter_r r-sound,
+  (
+    at_char SoundAll 107 letter_k k-sound,
+    (
+      at_char SoundAll 98 letter_b b-sound,
+      (
+        at_char SoundAll 99 letter_c c-sound,
+        tt,
+      ),
+    ),
+  ),
+)
+
+word-sound : (c : ℕ) → is_id_start c ≡ true → SoundAll c (word c)
+word-sound c start = by_arm SoundAll letters (λ c. ident_or_unknown_prefix) c letters-sound (λ none s. ident-sound c start s (free none s))
+  where
+    free : fits_some letters c ≡ false → (s : List ℕ) → is_opening (c ∷ s) ≡ false
+    free none s =
+        let r = or_parts (c == 114) _ none in
+        let k = or_parts (c == 107) _ r.1 in
+        let b = or_parts (c == 98) _ k.1 in
+        let d = or_parts (c == 99) _ b.1 in
+        rw (r.0, k.0, b.0, d.0) refl
+
+families-sound : EachChosen SoundAll
+families-sound = record {
+  of_slash = slash-sound;
+  of_space = space-sound;
+  of_word = word-sound;
+  of_number = number-sound;
+  of_quote = quote-sound;
+  of_str = str-sound;
+  of_emoji = invalid-sound;
+  of_hash = hash-sound;
+  of_symbol = symbol-sound;
+}
+
+pub lexeme-sound : (s : List ℕ) → IsTokenBefore (drop (lexeme s).1 s) (lexeme s).0 (take (lexeme s).1 s)
+lexeme-sound [] = the.end refl
+lexeme-sound (c ∷ s) = each_chosen SoundAll families-sound c s
+
+-- ---- a token is what is read
+
+literal-reads : {next : List ℕ} {kind : LiteralKind} {takes : Bool} {w : List ℕ} → IsLiteralBefore next kind takes w → ReadsLiteral next kind takes w
+literal-reads {next} (the.number {kind} {w} is) = number-reads next kind w is
+literal-reads {next} (the.str {t} {w} q) = str-reads next t w q
+literal-reads {next} (the.byte_str {t} {w} q) = byte_str-reads t w q
+literal-reads {next} (the.c_str {t} {w} q) = c_str-reads t w q
+literal-reads {next} (the.byte_char {t} {w} q) = byte-reads t w q
+literal-reads {next} (the.char_of_one {c} out) = one-reads next c out
+literal-reads {next} (the.char {t} {w} q stop) = char-reads t w q stop
+literal-reads {next} (the.char_of_name {c} {d} w start all) = name-reads next c d w start all
+literal-reads {next} (the.raw_str {n} {w} q free) = raw_str-reads next n w q free
+literal-reads {next} (the.raw_byte_str {n} {w} q) = raw_byte_str-reads n w q
+literal-reads {next} (the.raw_c_str {n} {w} q) = raw_c_str-reads n w q
+
+pub token-read : {next : List ℕ} {kind : TokenKind} {w : List ℕ} → IsTokenBefore next kind w → lexeme (w ++ next) ≡ (kind, length w)
+token-read {next} (the.end none) = ap lexeme none
+token-read {next} (the.whitespace {c} {w} all stop) = space-read c w next all stop
+token-read {next} (the.line_comment {style} {w} all stop is) = line-read style w next all stop is
+token-read {next} (the.block_comment {style} {w} p is) = block-read style w next p is
+token-read {next} (the.open_comment {style} {w} none never is) = open-read style w next none never is
+token-read {next} (the.ident {w} is stop none) = ident-is_read w next is stop none
+token-read {next} (the.unknown_prefix {w} is goes free) = word_prefix-read w next is goes free
+token-read {next} (the.invalid_ident {c} {w} start all wrong stop) = invalid-read c w next start all wrong stop
+token-read {next} (the.raw_ident {w} is stop) = raw_ident-read w next is stop
+token-read {next} (the.forced_keyword {w} is stop) = keyword-read w next is stop
+token-read {next} (the.lifetime {c} {w} start all stop quote hash) = lifetime-read c w next start all stop quote hash
+token-read {next} (the.unknown_prefix_lifetime {c} {w} start all hash free) = prefix-read c w next start all hash free
+token-read {next} (the.raw_lifetime {w} is stop) = raw_lifetime-read w next is stop
+token-read {next} (the.literal {kind} {w} is) = plain-read next kind w (literal-reads is)
+token-read {next} (the.literal_with {kind} {w} {suffix} is suffix_is) = with_suffix-read next kind w suffix (literal-reads is) suffix_is
+token-read {next} (the.slash stop) = slash-read next stop
+token-read {next} (the.pound stop) = pound-read next stop
+token-read {next} (the.guarded {c} is) = guarded-read c next is
+token-read {next} (the.symbol {c} is) = symbol-read c next is
+
+-- ---- both
+
+pub language : IsLanguage
+language next w kind = (token-read, read-token)
+  where
+    read-token : lexeme (w ++ next) ≡ (kind, length w) → IsTokenBefore next kind w
+    read-token e =
+        subst (λ (u : List ℕ). IsTokenBefore u kind w) (drop-append_seam w next)
+        (subst (λ (v : List ℕ). IsTokenBefore (drop (length w) (w ++ next)) kind v) (take-append_seam w next)
+        (subst (λ (r : TokenKind × ℕ). IsTokenBefore (drop r.1 (w ++ next)) r.0 (take r.1 (w ++ next))) e (lexeme-sound (w ++ next))))
