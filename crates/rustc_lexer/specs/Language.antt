@@ -3,9 +3,11 @@ use Rattle.std.specs.Prelude.{◌≡◌, ◌<◌, ◌≤◌, ◌↔◌, ℕ, zer
 use Rattle.std.specs.Char.{is_ascii_digit}
 use Rattle.std.specs.List.{list_all, list_any}
 use Rattle.std.specs.Option.{is_some}
-use Rattle.std.specs.Str.{byte, encode_utf8_all}
+use Rattle.std.specs.Str.{byte, chars, encode_utf8_all}
 use Rattle.rustc_lexer.specs.declared.token.DocStyle.{DocStyle}
 use Rattle.rustc_lexer.specs.declared.token.DocStyle.TheVariants.{Outer, Inner}
+use Rattle.rustc_lexer.specs.declared.token.FrontmatterAllowed.{FrontmatterAllowed}
+use Rattle.rustc_lexer.specs.declared.token.FrontmatterAllowed.TheVariants.{Yes, No}
 use Rattle.rustc_lexer.specs.declared.token.LiteralKind.{LiteralKind}
 use Rattle.rustc_lexer.specs.declared.token.LiteralKind.TheVariants.{Char, Byte, Str, ByteStr, CStr, RawStr, RawByteStr, RawCStr}
 use Rattle.rustc_lexer.specs.declared.token.Token.{Token}
@@ -13,9 +15,12 @@ use Rattle.rustc_lexer.specs.declared.token.TokenKind.{TokenKind}
 use Rattle.rustc_lexer.specs.declared.token.TokenKind.TheVariants.{LineComment, BlockComment, Whitespace, Ident, InvalidIdent, RawIdent, ForcedKeywordIdent, UnknownPrefix, UnknownPrefixLifetime, RawLifetime, GuardedStrPrefix, Literal, Lifetime, Slash, Pound, Eof}
 use Rattle.rustc_lexer.specs.Classes.{is_among, is_whitespace, is_id_start, is_id_continue, is_ident}
 use Rattle.rustc_lexer.specs.Emoji.{is_emoji}
+use Rattle.rustc_lexer.specs.Frontmatter.{frontmatter, opens}
 use Rattle.rustc_lexer.specs.Lexeme.{symbol_kind, lexeme}
 use Rattle.rustc_lexer.specs.NumberGrammar.{IsLongestNumber}
 use Rattle.rustc_lexer.specs.Scan.{begins, next_is}
+use Rattle.rustc_lexer.specs.State.{allowed_after}
+use Rattle.rustc_lexer.specs.Tokens.{tokens_of}
 
 -- ---- words
 
@@ -195,7 +200,17 @@ pub data IsTokenBefore (next : List ℕ) : TokenKind → List ℕ → Type 0 whe
 abbrev pub IsLanguage : Type 0
 IsLanguage = (next w : List ℕ) (kind : TokenKind) → IsTokenBefore next kind w ↔ (lexeme (w ++ next) ≡ (kind, length w))
 
--- the tokens of a list of characters
-pub data AreTokens : List ℕ → List Token → Type 0 where
-  nothing : AreTokens [] []
-  something : {kind : TokenKind} {c : ℕ} {w next : List ℕ} {tokens : List Token} → IsTokenBefore next kind (c ∷ w) → AreTokens next tokens → AreTokens (c ∷ w ++ next) (record { kind = kind; len = bytes (c ∷ w) } ∷ tokens)
+-- ---- texts
+
+-- the tokens of these characters: where a frontmatter is allowed and opens, it is first (see `Frontmatter.antt`); else one
+-- token that the language has, and the tokens of what follows it
+pub data AreTokens : FrontmatterAllowed → List ℕ → List Token → Type 0 where
+  nothing : {allowed : FrontmatterAllowed} → AreTokens allowed [] []
+  something : {allowed : FrontmatterAllowed} {kind : TokenKind} {c : ℕ} {w next : List ℕ} {tokens : List Token} → IsTokenBefore next kind (c ∷ w) → (allowed ≡ Yes → opens (c ∷ w ++ next) ≡ false)
+      → AreTokens (allowed_after allowed kind) next tokens → AreTokens allowed (c ∷ w ++ next) (record { kind = kind; len = bytes (c ∷ w) } ∷ tokens)
+  frontmatter_first : {c : ℕ} (w : List ℕ) {next : List ℕ} {tokens : List Token} → opens (c ∷ w ++ next) ≡ true → (frontmatter (encode_utf8_all (c ∷ w ++ next))).len ≡ bytes (c ∷ w)
+      → AreTokens No next tokens → AreTokens Yes (c ∷ w ++ next) (frontmatter (encode_utf8_all (c ∷ w ++ next)) ∷ tokens)
+
+-- these tokens are those of the text, and no other list is
+abbrev pub AreTheTokens : FrontmatterAllowed → List ℕ → Type 0
+AreTheTokens allowed text = (tokens : List Token) → AreTokens allowed (chars text) tokens ↔ (tokens ≡ tokens_of allowed text)

@@ -1,3 +1,4 @@
+use Rattle.rustc_lexer.proofs.LanguageLemmas.{language}
 use Rattle.rustc_lexer.proofs.TokensLemmas.{partitions, restarts}
 use Rattle.rustc_lexer.proofs.TextLemmas.{suffixes, texts}
 use Rattle.rustc_lexer.proofs.entry.tokenize.Goals as goal
@@ -13,3 +14,6 @@ returns-clause-suffixes c = suffixes _ _ record { utf8 = c.utf8.input; fits = c.
 
 pub returns-clause-texts : goal.returns-clause-texts
 returns-clause-texts c = texts _ _ record { utf8 = c.utf8.input; fits = c.requires.fits }
+
+pub returns-clause-language : goal.returns-clause-language
+returns-clause-language c = language _ _ record { utf8 = c.utf8.input; fits = c.requires.fits }
