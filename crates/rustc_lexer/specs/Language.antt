@@ -16,10 +16,11 @@ use Rattle.rustc_lexer.specs.declared.token.TokenKind.TheVariants.{LineComment, 
 use Rattle.rustc_lexer.specs.Classes.{is_among, is_whitespace, is_id_start, is_id_continue, is_ident}
 use Rattle.rustc_lexer.specs.Emoji.{is_emoji}
 use Rattle.rustc_lexer.specs.Frontmatter.{frontmatter, opens}
-use Rattle.rustc_lexer.specs.Lexeme.{symbol_kind, lexeme}
+use Rattle.rustc_lexer.specs.Lexeme.{lexeme}
 use Rattle.rustc_lexer.specs.NumberGrammar.{IsLongestNumber}
 use Rattle.rustc_lexer.specs.Scan.{begins, next_is}
 use Rattle.rustc_lexer.specs.State.{allowed_after}
+use Rattle.rustc_lexer.specs.Symbols.{symbol_kind}
 use Rattle.rustc_lexer.specs.Tokens.{tokens_of}
 
 -- ---- words

@@ -9,7 +9,7 @@ use Rattle.rustc_lexer.specs.declared.lexemes.family.Family.{Family}
 use Rattle.rustc_lexer.specs.declared.lexemes.family.Family.TheVariants.{Slash, Space, Word, Number, Quote, Str, Emoji, Hash, Symbol}
 use Rattle.rustc_lexer.specs.declared.token.Token.{Token}
 use Rattle.rustc_lexer.specs.declared.token.TokenKind.{TokenKind}
-use Rattle.rustc_lexer.specs.declared.token.TokenKind.TheVariants.{Whitespace, RawIdent, ForcedKeywordIdent, Semi, Comma, Dot, OpenParen, CloseParen, OpenBrace, CloseBrace, OpenBracket, CloseBracket, At, Tilde, Question, Colon, Dollar, Eq, Bang, Lt, Gt, Minus, And, Or, Plus, Star, Caret, Percent, Unknown, Eof}
+use Rattle.rustc_lexer.specs.declared.token.TokenKind.TheVariants.{Whitespace, RawIdent, ForcedKeywordIdent, Eof}
 use Rattle.rustc_lexer.specs.Choice.{Arm, arm, chosen}
 use Rattle.rustc_lexer.specs.Classes.{is_among, is_whitespace, is_id_start}
 use Rattle.rustc_lexer.specs.Comment.{slash}
@@ -21,24 +21,7 @@ use Rattle.rustc_lexer.specs.Literal.{literal}
 use Rattle.rustc_lexer.specs.Number.{number}
 use Rattle.rustc_lexer.specs.Quoted.{byte_body, byte_str_body, c_str_body, str_body}
 use Rattle.rustc_lexer.specs.Scan.{after, begins, gives, run, token_by, next_is}
-
--- the tokens of one symbol, beside the hash
-abbrev pub symbols : List (ℕ × TokenKind)
-symbols =
-    (byte ";", Semi) ∷ (byte ",", Comma) ∷ (byte ".", Dot) ∷ (byte "(", OpenParen) ∷ (byte ")", CloseParen)
-    ∷ (byte "{", OpenBrace) ∷ (byte "}", CloseBrace) ∷ (byte "[", OpenBracket) ∷ (byte "]", CloseBracket)
-    ∷ (byte "@", At) ∷ (byte "~", Tilde) ∷ (byte "?", Question) ∷ (byte ":", Colon)
-    ∷ (byte "$", Dollar) ∷ (byte "=", Eq) ∷ (byte "!", Bang) ∷ (byte "<", Lt) ∷ (byte ">", Gt) ∷ (byte "-", Minus)
-    ∷ (byte "&", And) ∷ (byte "|", Or) ∷ (byte "+", Plus) ∷ (byte "*", Star) ∷ (byte "^", Caret) ∷ (byte "%", Percent)
-    ∷ []
-
-abbrev pub kind_among : List (ℕ × TokenKind) → ℕ → TokenKind
-kind_among [] c = Unknown
-kind_among (s ∷ ss) c = if c == s.0 then s.1 else kind_among ss c
-
--- what a character is by itself
-abbrev pub symbol_kind : ℕ → TokenKind
-symbol_kind c = kind_among symbols c
+pub use Rattle.rustc_lexer.specs.Symbols.{symbols, kind_among, symbol_kind}
 
 -- what follows the first character of a white space
 abbrev pub whitespace : List ℕ → TokenKind × ℕ

@@ -30,6 +30,7 @@ pub mod Scan
 pub mod Settled
 pub mod Shebang
 pub mod State
+pub mod Symbols
 pub mod Texts
 pub mod TokenText
 pub mod Tokens

@@ -1,5 +1,5 @@
 -- Numbers as a grammar: which texts are numbers, up to a suffix, before what, and of which kind.
-use Rattle.std.specs.Prelude.{◌≡◌, ℕ, ◌+◌, ◌≤◌, not, Bool, true, false, List, [], ◌∷◌, ◌++◌, length, take, drop}
+use Rattle.std.specs.Prelude.{◌≡◌, ℕ, ◌+◌, ◌≤◌, ◌==◌, ◌||◌, not, Bool, true, false, List, [], ◌∷◌, ◌++◌, length, take, drop}
 use Rattle.std.specs.Char.{is_ascii_digit, is_ascii_hexdigit}
 use Rattle.std.specs.List.{list_all, list_any}
 use Rattle.std.specs.Str.{byte}
@@ -7,8 +7,23 @@ use Rattle.rustc_lexer.specs.declared.token.Base.{Base}
 use Rattle.rustc_lexer.specs.declared.token.Base.TheVariants.{Binary, Octal, Decimal, Hexadecimal}
 use Rattle.rustc_lexer.specs.declared.token.LiteralKind.{LiteralKind}
 use Rattle.rustc_lexer.specs.declared.token.LiteralKind.TheVariants.{Int, Float}
-use Rattle.rustc_lexer.specs.Number.{or_underscore, is_exponent_letter, is_sign, is_no_fraction, number_kind}
+use Rattle.rustc_lexer.specs.Classes.{is_id_start}
+use Rattle.rustc_lexer.specs.Number.{number_kind}
 use Rattle.rustc_lexer.specs.Scan.{next_is}
+
+-- a class with the underscore; what an exponent begins with, and its signs; and a dot right before one of the last is no part of
+-- a number, as in `1..2` and `1.max(2)`
+abbrev pub or_underscore : (ℕ → Bool) → ℕ → Bool
+or_underscore p c = p c || c == byte "_"
+
+abbrev pub is_exponent_letter : ℕ → Bool
+is_exponent_letter c = c == byte "e" || c == byte "E"
+
+abbrev pub is_sign : ℕ → Bool
+is_sign c = c == byte "+" || c == byte "-"
+
+abbrev pub is_no_fraction : ℕ → Bool
+is_no_fraction c = c == byte "." || is_id_start c
 
 -- digits and underscores, if any
 abbrev pub AreDigits : (ℕ → Bool) → List ℕ → Type 0
