@@ -1,5 +1,5 @@
 -- The tokens of a text are those that the language allows, and no other list of tokens is.
-use Rattle.std.proofs.Common.{◌≡◌, ◌↔◌, ℕ, zero, suc, ◌+◌, ◌<◌, ◌≤◌, Bool, true, false, if◌then◌else◌, List, [], ◌∷◌, ◌++◌, length, take, drop, refl, sym, ap, ◌∙◌, subst, arith, drop_at, length-append, length-take-le, take-append-drop}
+use Rattle.std.proofs.Common.{◌≡◌, ◌↔◌, ℕ, zero, suc, ◌+◌, ◌<◌, ◌≤◌, ◌==◌, Bool, true, false, if◌then◌else◌, List, [], ◌∷◌, ◌++◌, length, take, drop, refl, sym, ap, ◌∙◌, subst, arith, take_at, drop_at, length-append, length-take-le, take-append-drop}
 use lib.Utf8.{scalars}
 use Rattle.std.proofs.Math.Seq.{take-append_seam, drop-append_seam}
 use Rattle.std.proofs.lemmas.Str.{chars-append, chars-nil, IsUtf8-take, chars-encodes, encodes-append, encodes-chars, length-le-encodes, scalars-chars}
@@ -11,14 +11,15 @@ use Rattle.rustc_lexer.specs.declared.token.TokenKind.{TokenKind}
 use Rattle.rustc_lexer.specs.declared.token.TokenKind.TheVariants.{Whitespace, Eof}
 use Rattle.rustc_lexer.specs.Frontmatter.{frontmatter, opens}
 use Rattle.rustc_lexer.specs.laws.Language.{lexeme-sound, token-read}
-use Rattle.rustc_lexer.specs.laws.TokenBy.{scalars-drop}
-use Rattle.rustc_lexer.specs.Language.{bytes, IsTokenBefore, AreTokens, nothing, something, frontmatter_first, AreTheTokens}
+use Rattle.rustc_lexer.specs.laws.TokenBy.{scalars-take, scalars-drop}
+use Rattle.rustc_lexer.specs.Language.{bytes, IsTokenBefore, AreTokens, nothing, something, frontmatter_first, AreTheTokens, IsTokenOf, TakesTokenOf}
 use Rattle.rustc_lexer.specs.Lexeme.{past_first, lexeme, first_token}
 use Rattle.rustc_lexer.specs.Scan.{bytes_of}
-use Rattle.rustc_lexer.specs.State.{token_at, allowed_after}
+use Rattle.rustc_lexer.specs.State.{State, token_at, allowed_after, advance}
 use Rattle.rustc_lexer.specs.Texts.{IsText}
 use Rattle.rustc_lexer.specs.Tokens.{tokens_of}
 use Rattle.rustc_lexer.proofs.FrontmatterLemmas.{IsCutOff, frontmatter-cut}
+use Rattle.rustc_lexer.proofs.StateLemmas.{state, advance-end, first-advanced}
 use Rattle.rustc_lexer.proofs.TokensLemmas.{token_at-cuts, by_tokens, tokens-nil, tokens-cons}
 
 -- ---- texts and characters
@@ -29,14 +30,18 @@ empty-text text is e = sym (encodes-chars text is.utf8) ∙ ap encode_utf8_all e
 -- a text in two parts
 record Split (text w next : List ℕ) : Type 0 where
   left : drop (bytes w) text ≡ encode_utf8_all next
+  front : take (bytes w) text ≡ encode_utf8_all w
   some : 0 < length w → 0 < length text
   again : chars (encode_utf8_all next) ≡ next
+  again_front : chars (encode_utf8_all w) ≡ w
 
 split : (text w next : List ℕ) → IsText text → chars text ≡ w ++ next → Split text w next
 split text w next is e =
     let whole : text ≡ encode_utf8_all w ++ encode_utf8_all next = sym (encodes-chars text is.utf8) ∙ (ap encode_utf8_all e ∙ encodes-append w next) in
     record {
       left = ap (drop (bytes w)) whole ∙ drop_at (encode_utf8_all w) (encode_utf8_all next) _ refl;
+      front = ap (take (bytes w)) whole ∙ take_at (encode_utf8_all w) (encode_utf8_all next) _ refl;
+      again_front = chars-encodes w (ap scalars (sym (take-append_seam w next) ∙ ap (take (length w)) (sym e)) ∙ scalars-take (length w) (chars text) (scalars-chars text is.utf8));
       some = λ lt. omega (arith, ap length whole, length-append (encode_utf8_all w) (encode_utf8_all next), length-le-encodes w);
       again = chars-encodes next (ap scalars (sym (drop-append_seam w next) ∙ ap (drop (length w)) (sym e)) ∙ scalars-drop (length w) (chars text) (scalars-chars text is.utf8));
     }
@@ -158,3 +163,35 @@ tokens-are = by_tokens AreOf (λ allowed. rw (tokens-nil allowed) (subst (λ (cs
 -- these and no others
 pub language : (text : List ℕ) (allowed : FrontmatterAllowed) → IsText text → AreTheTokens allowed text
 language text allowed is tokens = (λ are. sym (tokens-read are text is refl), λ e. subst (AreTokens allowed (chars text)) (sym e) (tokens-are text allowed is))
+
+-- ---- one token
+
+first_token-of : (text : List ℕ) → IsText text → IsTokenOf text (first_token text)
+unfolding first_token
+first_token-of text is =
+    let n : ℕ = (lexeme (chars text)).1 in
+    let w : List ℕ = take n (chars text) in
+    let next : List ℕ = drop n (chars text) in
+    let parts = split text w next is (sym (take-append-drop n (chars text))) in
+    subst (λ (u : List ℕ). IsTokenBefore u (lexeme (chars text)).0 (chars (take (bytes w) text))) (sym (ap chars parts.left ∙ parts.again))
+    (subst (λ (v : List ℕ). IsTokenBefore next (lexeme (chars text)).0 v) (sym (ap chars parts.front ∙ parts.again_front)) (lexeme-sound (chars text)))
+
+first_token-empty : first_token [] ≡ record { kind = Eof; len = 0 }
+unfolding first_token
+first_token-empty = ap (λ (cs : List ℕ). let t : Token = record { kind = (lexeme cs).0; len = bytes_of (lexeme cs).1 cs } in t) chars-nil
+
+-- of a cursor
+pub advance-language : (s : State) → IsText s.rest → TakesTokenOf s (advance s).0
+advance-language s is none free = by_rest s.rest refl
+  where
+    at : s ≡ state 0 s.rest s.frontmatter_allowed
+    at = ap (λ (n : ℕ). state n s.rest s.frontmatter_allowed) none
+
+    by_rest : (rest : List ℕ) → s.rest ≡ rest → IsTokenOf s.rest (advance s).0
+    by_rest [] e =
+        let empty : first_token [] ≡ record { kind = Eof; len = 0 } = first_token-empty in
+        let read : (advance s).0 ≡ record { kind = Eof; len = 0 } = ap (λ (r : Token × State). r.0) (advance-end 0 s.rest s.frontmatter_allowed s (sym at) (ap (λ (r : List ℕ). length r == 0) e)) in
+        subst (IsTokenOf s.rest) (ap first_token e ∙ (empty ∙ sym read)) (first_token-of s.rest is)
+    by_rest (b ∷ bs) e =
+        let read : (advance s).0 ≡ first_token s.rest = first-advanced s.rest s.frontmatter_allowed s at (omega (arith, ap length e)) ∙ at-first s.frontmatter_allowed s.rest free in
+        subst (IsTokenOf s.rest) (sym read) (first_token-of s.rest is)

@@ -19,7 +19,7 @@ use Rattle.rustc_lexer.specs.Frontmatter.{frontmatter, opens}
 use Rattle.rustc_lexer.specs.Lexeme.{lexeme}
 use Rattle.rustc_lexer.specs.NumberGrammar.{IsLongestNumber}
 use Rattle.rustc_lexer.specs.Scan.{begins, next_is}
-use Rattle.rustc_lexer.specs.State.{allowed_after}
+use Rattle.rustc_lexer.specs.State.{State, allowed_after}
 use Rattle.rustc_lexer.specs.Symbols.{symbol_kind}
 use Rattle.rustc_lexer.specs.Tokens.{tokens_of}
 
@@ -202,6 +202,14 @@ abbrev pub IsLanguage : Type 0
 IsLanguage = (next w : List ℕ) (kind : TokenKind) → IsTokenBefore next kind w ↔ (lexeme (w ++ next) ≡ (kind, length w))
 
 -- ---- texts
+
+-- the token at the front of a text is a token of the language, where the rest of the text follows it
+abbrev pub IsTokenOf : List ℕ → Token → Type 0
+IsTokenOf text token = IsTokenBefore (chars (drop token.len text)) token.kind (chars (take token.len text))
+
+-- so it is where a cursor has no frontmatter and no bytes pending
+abbrev pub TakesTokenOf : State → Token → Type 0
+TakesTokenOf s token = s.pending ≡ 0 → (s.frontmatter_allowed ≡ Yes → opens (chars s.rest) ≡ false) → IsTokenOf s.rest token
 
 -- the tokens of these characters: where a frontmatter is allowed and opens, it is first (see `Frontmatter.antt`); else one
 -- token that the language has, and the tokens of what follows it

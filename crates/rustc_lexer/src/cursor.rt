@@ -2,6 +2,7 @@
 ghost use Rattle.std.specs.Prelude.{◌≡◌, ◌≢◌, ◌+◌, ◌^◌, ◌<◌, length, slice_index};
 ghost use Rattle.std.specs.Str.{chars};
 ghost use Rattle.rustc_lexer.specs.Classes.{Fits};
+ghost use Rattle.rustc_lexer.specs.Language.{TakesTokenOf};
 ghost use Rattle.rustc_lexer.specs.State.{advance, allowed_after, token_past, HasSuffixWithin};
 ghost use Rattle.rustc_lexer.specs.Tokens.{StaysAtEnd, TakesPending};
 
@@ -109,6 +110,7 @@ impl<'a> Cursor<'a> {
         ensures state { self.new ≡ (advance self.old).1 }
         ensures end { result.kind ≡ TokenKind.Eof → StaysAtEnd self.old result self.new }
         ensures past { result.kind ≢ TokenKind.Eof → TakesPending self.old result self.new }
+        ensures language { TakesTokenOf self.old result }
     {
         let rest = self.as_str();
         if rest.is_empty() {
