@@ -1,5 +1,5 @@
 -- The tokens of a text are those that the language allows, and no other list of tokens is.
-use Rattle.std.proofs.Common.{◌≡◌, ◌↔◌, ℕ, zero, suc, ◌+◌, ◌<◌, ◌≤◌, ◌==◌, Bool, true, false, if◌then◌else◌, List, [], ◌∷◌, ◌++◌, length, take, drop, refl, sym, ap, ◌∙◌, subst, arith, take_at, drop_at, length-append, length-take-le, take-append-drop}
+use Rattle.std.proofs.Common.{◌≡◌, ℕ, ◌<◌, ◌==◌, Bool, true, false, List, [], ◌∷◌, ◌++◌, length, take, drop, refl, sym, ap, ◌∙◌, subst, arith, take_at, drop_at, length-append, length-take-le, take-append-drop}
 use lib.Utf8.{scalars}
 use Rattle.std.proofs.Math.Seq.{take-append_seam, drop-append_seam}
 use Rattle.std.proofs.lemmas.Str.{chars-append, chars-nil, IsUtf8-take, chars-encodes, encodes-append, encodes-chars, length-le-encodes, scalars-chars}
@@ -8,7 +8,7 @@ use Rattle.rustc_lexer.specs.declared.token.FrontmatterAllowed.{FrontmatterAllow
 use Rattle.rustc_lexer.specs.declared.token.FrontmatterAllowed.TheVariants.{Yes, No}
 use Rattle.rustc_lexer.specs.declared.token.Token.{Token}
 use Rattle.rustc_lexer.specs.declared.token.TokenKind.{TokenKind}
-use Rattle.rustc_lexer.specs.declared.token.TokenKind.TheVariants.{Whitespace, Eof}
+use Rattle.rustc_lexer.specs.declared.token.TokenKind.TheVariants.{Eof}
 use Rattle.rustc_lexer.specs.Frontmatter.{frontmatter, opens}
 use Rattle.rustc_lexer.specs.laws.Language.{lexeme-sound, token-read}
 use Rattle.rustc_lexer.specs.laws.TokenBy.{scalars-take, scalars-drop}

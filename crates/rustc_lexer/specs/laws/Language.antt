@@ -1,23 +1,23 @@
 -- What is read at the front of a text is a token of the language, and a token of the language is what is read.
-use Rattle.std.proofs.Common.{◌≡◌, ◌↔◌, ℕ, suc, ◌+◌, ◌==◌, ◌&&◌, ◌||◌, not, Bool, true, false, true≢false, if◌then◌else◌, List, [], ◌∷◌, ◌++◌, length, take, drop, codes, refl, sym, ap, ◌∙◌, subst, arith, append-nil}
+use Rattle.std.proofs.Common.{◌≡◌, ℕ, ◌==◌, Bool, true, false, true≢false, List, [], ◌∷◌, ◌++◌, length, take, drop, codes, refl, sym, ap, subst}
 use Rattle.std.proofs.Math.Seq.{take-append_seam, drop-append_seam}
 use Rattle.std.proofs.lemmas.Bool.{and_parts, eqb-true, or_parts}
 use Rattle.unicode_ident.proofs.Computing.{unicode_ident}
 use Rattle.rustc_lexer.specs.declared.lexemes.raw.RawPrefix.TheVariants.{R, Br, Cr}
 use Rattle.rustc_lexer.specs.declared.token.LiteralKind.{LiteralKind}
 use Rattle.rustc_lexer.specs.declared.token.TokenKind.{TokenKind}
-use Rattle.rustc_lexer.specs.declared.token.TokenKind.TheVariants.{RawIdent, ForcedKeywordIdent, Literal}
+use Rattle.rustc_lexer.specs.declared.token.TokenKind.TheVariants.{RawIdent, ForcedKeywordIdent}
 use Rattle.rustc_lexer.specs.Classes.{is_id_start, is_id_continue}
 use Rattle.rustc_lexer.specs.Ident.{ident_or_unknown_prefix, marks_ident}
 use Rattle.rustc_lexer.specs.laws.Choice.{by_test, EachArm, by_arm, at_char, fits_some}
 use Rattle.rustc_lexer.specs.laws.LanguageComments.{space-sound, space-read, hash-sound, pound-read, guarded-read, symbol-sound, symbol-read, slash-sound, slash-read, line-read, block-read, open-read}
 use Rattle.rustc_lexer.specs.laws.LanguageLifetimes.{quote-sound, lifetime-read, prefix-read, raw_lifetime-read, char-reads, one-reads, name-reads}
 use Rattle.rustc_lexer.specs.laws.LanguageLiterals.{str-sound, byte-sound, byte_str-sound, c_str-sound, raw_str-sound, raw_byte_str-sound, raw_c_str-sound, number-sound, ReadsLiteral, plain-read, with_suffix-read, str-reads, byte-reads, byte_str-reads, c_str-reads, raw_str-reads, raw_byte_str-reads, raw_c_str-reads, number-reads}
-use Rattle.rustc_lexer.specs.laws.LanguageRuns.{Sound, Read, EachChosen, each_chosen}
-use Rattle.rustc_lexer.specs.laws.LanguageWords.{BeginsNone, no-opening, raw_mark-none, none-raw, ident-sound, invalid-sound, raw_ident-sound, keyword-sound, ident-is_read, prefix-read as word_prefix-read, invalid-read, raw_ident-read, keyword-read}
+use Rattle.rustc_lexer.specs.laws.LanguageRuns.{Sound, EachChosen, each_chosen}
+use Rattle.rustc_lexer.specs.laws.LanguageWords.{no-opening, raw_mark-none, none-raw, ident-sound, invalid-sound, raw_ident-sound, keyword-sound, ident-is_read, prefix-read as word_prefix-read, invalid-read, raw_ident-read, keyword-read}
 use Rattle.rustc_lexer.specs.Language as the
 use Rattle.rustc_lexer.specs.Language.{Goes, Stops, bytes, is_opening, IsLiteralBefore, IsTokenBefore, IsLanguage}
-use Rattle.rustc_lexer.specs.Lexeme.{is_raw_mark, raw_or_ident, begins_raw, raw_past_or_ident, letter_r, letter_k, letter_b, letter_c, letters, word, past_first, lexeme}
+use Rattle.rustc_lexer.specs.Lexeme.{is_raw_mark, raw_or_ident, begins_raw, raw_past_or_ident, letter_r, letter_k, letter_b, letter_c, letters, word, lexeme}
 use Rattle.rustc_lexer.specs.Literal.{literal}
 use Rattle.rustc_lexer.specs.Quoted.{byte_body, byte_str_body, c_str_body}
 use Rattle.rustc_lexer.specs.Raw.{raw_literal}

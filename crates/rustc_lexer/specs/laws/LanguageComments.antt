@@ -1,5 +1,5 @@
 -- Comments, white space and symbols are in their languages, and what is there is read so.
-use Rattle.std.proofs.Common.{◌≡◌, ℕ, zero, suc, ◌+◌, ◌≤◌, ◌==◌, ◌&&◌, ◌||◌, not, Bool, true, false, true≢false, if◌then◌else◌, List, [], ◌∷◌, ◌++◌, length, take, drop, codes, refl, sym, ap, ◌∙◌, subst, arith, append_assoc, length-append, length-take-le, length-drop, take-add, take-append-drop, take-take, take_all, Option, Some, None}
+use Rattle.std.proofs.Common.{◌≡◌, ℕ, suc, ◌+◌, ◌≤◌, ◌==◌, ◌&&◌, ◌||◌, not, Bool, true, false, true≢false, if◌then◌else◌, List, [], ◌∷◌, ◌++◌, length, take, drop, codes, refl, sym, ap, ◌∙◌, subst, arith, append_assoc, length-append, length-take-le, take-add, take-append-drop, take_all, Option, Some, None}
 use Rattle.std.proofs.Math.Seq.{take-append_seam, drop-append_seam}
 use Rattle.std.proofs.lemmas.Bool.{and_parts, eqb-true, or_parts, or_from}
 use Rattle.std.proofs.lemmas.List.{append-nil}
@@ -15,9 +15,9 @@ use Rattle.rustc_lexer.specs.Hash.{is_guarded_mark, hash}
 use Rattle.rustc_lexer.specs.laws.BlockComment.{two_at_least, closes-inside, at_closing_told, at_opening_told, style_told}
 use Rattle.rustc_lexer.specs.laws.BlockGrammar.{comment_end-found, comment_end-allowed}
 use Rattle.rustc_lexer.specs.laws.Choice.{by_test}
-use Rattle.rustc_lexer.specs.laws.LanguageRuns.{run_len-here, run-stops, either-way, Sound, Read, pair, read-first, sound-after, told-front, begins-next, chooses-slash, chooses-space, chooses-hash, chooses-symbol}
+use Rattle.rustc_lexer.specs.laws.LanguageRuns.{run_len-here, run-stops, Sound, Read, pair, read-first, sound-after, told-front, begins-next, chooses-slash, chooses-space, chooses-hash, chooses-symbol}
 use Rattle.rustc_lexer.specs.laws.Lookahead.{line_doc_style-own}
-use Rattle.rustc_lexer.specs.laws.Reach.{told_same, run_all}
+use Rattle.rustc_lexer.specs.laws.Reach.{run_all}
 use Rattle.rustc_lexer.specs.Language as the
 use Rattle.rustc_lexer.specs.Language.{AreAll, Goes, Stops, IsStyle, inner, outer, no_outer, no_mark, IsLineStyle, IsBlockStyle, Closes, IsTokenBefore, begins_more, is_inline}
 use Rattle.rustc_lexer.specs.Lexeme.{whitespace, symbol, symbol_kind}

@@ -1,12 +1,11 @@
 -- Characters and lifetimes are in their languages, and what is there is read so.
-use Rattle.std.proofs.Common.{◌≡◌, ℕ, zero, suc, ◌+◌, ◌≤◌, ◌==◌, ◌&&◌, ◌||◌, not, Bool, true, false, true≢false, if◌then◌else◌, List, [], ◌∷◌, ◌++◌, length, take, drop, codes, refl, sym, ap, ◌∙◌, subst, arith, append_assoc, length-append, take-append-drop, take-add}
+use Rattle.std.proofs.Common.{◌≡◌, ℕ, zero, suc, ◌+◌, ◌==◌, ◌&&◌, ◌||◌, not, Bool, true, false, true≢false, if◌then◌else◌, List, [], ◌∷◌, ◌++◌, length, take, drop, codes, refl, sym, ap, ◌∙◌, subst, arith, append_assoc, length-append, take-append-drop, take-add}
 use Rattle.std.proofs.Math.Seq.{take-append_seam, drop-append_seam}
-use Rattle.std.proofs.lemmas.Bool.{and_parts, eqb-true, or_parts, or_from, or_left, or_right, false_from_ne_true}
+use Rattle.std.proofs.lemmas.Bool.{and_parts, eqb-true, or_parts, or_left, false_from_ne_true}
 use Rattle.std.specs.Char.{is_ascii_digit}
 use Rattle.std.specs.List.{list_all}
 use Rattle.std.specs.Str.{encode_utf8_all}
 use Rattle.unicode_ident.proofs.Computing.{unicode_ident}
-use Rattle.rustc_lexer.specs.declared.token.LiteralKind.{LiteralKind}
 use Rattle.rustc_lexer.specs.declared.token.LiteralKind.TheVariants.{Char}
 use Rattle.rustc_lexer.specs.declared.token.TokenKind.{TokenKind}
 use Rattle.rustc_lexer.specs.declared.token.TokenKind.TheVariants.{Literal, Lifetime, RawLifetime, UnknownPrefixLifetime}
@@ -16,16 +15,16 @@ use Rattle.rustc_lexer.specs.Ident.{marks_ident}
 use Rattle.rustc_lexer.specs.laws.Choice.{by_test}
 use Rattle.rustc_lexer.specs.laws.LanguageLiterals.{bytes-append, bytes-one, literal-sound, past-read, ReadsLiteral}
 use Rattle.rustc_lexer.specs.laws.LanguageQuoted.{single-read, single-sound}
-use Rattle.rustc_lexer.specs.laws.LanguageRuns.{run_len-here, run-stops, either-way, other_than, Sound, Read, pair, read-first, begins-next, apart, chooses-quote, word-no_mark, mark-stops, word_start-no_digit}
+use Rattle.rustc_lexer.specs.laws.LanguageRuns.{run_len-here, run-stops, either-way, other_than, Sound, Read, pair, read-first, begins-next, chooses-quote, word-no_mark, mark-stops, word_start-no_digit}
 use Rattle.rustc_lexer.specs.laws.LanguageWords.{marked-sound}
-use Rattle.rustc_lexer.specs.laws.Lifetime.{raw, name_of, quoted_name, unquoted_name}
+use Rattle.rustc_lexer.specs.laws.Lifetime.{raw, quoted_name, unquoted_name}
 use Rattle.rustc_lexer.specs.laws.Reach.{run_all}
 use Rattle.rustc_lexer.specs.Language as the
 use Rattle.rustc_lexer.specs.Language.{AreAll, Goes, Stops, bytes, is_word, is_word_start, is_name_start, is_mark, begins_ident_past, QuotedTo, ends, plain, escape, IsSingleQuoted, IsTokenBefore, IsLiteralBefore}
 use Rattle.rustc_lexer.specs.Lifetime.{is_marked, past_name, plain_lifetime, lifetime, is_character, is_raw, lifetime_or_char}
-use Rattle.rustc_lexer.specs.Literal.{Body, literal, suffixed}
-use Rattle.rustc_lexer.specs.Quoted.{single_quoted_string, char_body, is_lone}
-use Rattle.rustc_lexer.specs.Scan.{after, begins, next_is, run, run_len}
+use Rattle.rustc_lexer.specs.Literal.{Body, literal}
+use Rattle.rustc_lexer.specs.Quoted.{single_quoted_string, char_body}
+use Rattle.rustc_lexer.specs.Scan.{begins, next_is, run_len}
 
 -- ---- classes
 

@@ -1,14 +1,13 @@
 -- Quoted text is in its language, and what is there is read so.
-use Rattle.std.proofs.Common.{◌≡◌, ℕ, zero, suc, ◌+◌, ◌≤◌, ◌==◌, ◌&&◌, ◌||◌, ◌⊎◌, inl, inr, not, Bool, true, false, true≢false, if◌then◌else◌, List, [], ◌∷◌, ◌++◌, length, take, drop, codes, refl, sym, ap, ◌∙◌, subst, arith, append_assoc, length-append, take_all, Option, Some, None}
-use Rattle.std.proofs.Math.Seq.{take-append_seam, drop-append_seam}
-use Rattle.std.proofs.lemmas.Bool.{and_parts, eqb-true, or_parts, or_from, or_cases, not-true}
+use Rattle.std.proofs.Common.{◌≡◌, ℕ, zero, suc, ◌+◌, ◌≤◌, ◌==◌, ◌&&◌, ◌||◌, ◌⊎◌, inl, inr, not, Bool, true, false, true≢false, List, [], ◌∷◌, ◌++◌, length, take, drop, codes, refl, sym, ap, ◌∙◌, subst, arith, append_assoc, length-append, Option, Some, None}
+use Rattle.std.proofs.lemmas.Bool.{and_parts, eqb-true, or_parts, or_cases}
 use Rattle.std.proofs.lemmas.List.{append-nil}
 use Rattle.rustc_lexer.specs.Classes.{is_among}
 use Rattle.rustc_lexer.specs.laws.LanguageRuns.{either-way, pair, parted}
 use Rattle.rustc_lexer.specs.Language as the
 use Rattle.rustc_lexer.specs.Language.{QuotedTo, ends, plain, escape, SingleTo, IsDoubleQuoted, IsSingleQuoted}
 use Rattle.rustc_lexer.specs.Least.{one_more}
-use Rattle.rustc_lexer.specs.Quoted.{is_backslash, free_place, stopped, quoted, at_double_quote, double_quoted_string, at_single_stop, is_lone, single_quoted_string}
+use Rattle.rustc_lexer.specs.Quoted.{is_backslash, stopped, quoted, at_double_quote, double_quoted_string, at_single_stop, is_lone, single_quoted_string}
 use Rattle.rustc_lexer.specs.Scan.{begins}
 use Rattle.rustc_lexer.specs.laws.Seek.{seek, free_place-seek}
 

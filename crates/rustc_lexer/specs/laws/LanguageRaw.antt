@@ -1,19 +1,17 @@
 -- Raw strings are in their language, and what is there is read so.
-use Rattle.std.proofs.Common.{◌≡◌, ℕ, zero, suc, ◌+◌, ◌≤◌, ◌<◌, ◌==◌, ◌&&◌, ◌||◌, nat_le, not, Bool, true, false, true≢false, if◌then◌else◌, List, [], ◌∷◌, ◌++◌, length, get_or, take, drop, codes, refl, sym, ap, ◌∙◌, subst, arith, append_assoc, length-append, take-append-drop, take_all, Option, Some, None, Result, Ok, Err}
-use Rattle.std.proofs.Math.Seq.{take-append_seam, drop-append_seam}
+use Rattle.std.proofs.Common.{◌≡◌, ℕ, zero, suc, ◌+◌, ◌≤◌, ◌<◌, ◌==◌, nat_le, Bool, true, false, true≢false, if◌then◌else◌, List, [], ◌∷◌, ◌++◌, length, get_or, take, drop, codes, refl, sym, ap, ◌∙◌, subst, arith, append_assoc, length-append, Option, Some, None, Result, Err}
+use Rattle.std.proofs.Math.Seq.{drop-append_seam}
 use Rattle.std.proofs.lemmas.Bool.{and_parts, eqb-true, or_parts, or_from, leb-true, leb-false, le-leb, lt-leb, false_from_ne_true}
 use Rattle.std.proofs.lemmas.List.{append-nil}
-use Rattle.std.specs.Option.{is_some}
 use Rattle.rustc_lexer.specs.declared.token.RawStrError.{RawStrError}
-use Rattle.rustc_lexer.specs.declared.token.RawStrError.TheVariants.{InvalidStarter, TooManyDelimiters}
+use Rattle.rustc_lexer.specs.declared.token.RawStrError.TheVariants.{InvalidStarter}
 use Rattle.rustc_lexer.specs.Classes.{is_among}
 use Rattle.rustc_lexer.specs.laws.LanguageRuns.{either-way, pair, parted, run-stops}
 use Rattle.rustc_lexer.specs.Language as the
 use Rattle.rustc_lexer.specs.Language.{Goes, Stops, guard, Lacks, IsRaw}
 use Rattle.rustc_lexer.specs.Least.{one_more}
 use Rattle.rustc_lexer.specs.Lexeme.{is_raw_mark}
-use Rattle.rustc_lexer.specs.Raw.{is_hash, is_quote, hashes, closes, close, hash_count, raw_closed, raw_text, raw_starter, raw_read, accepted, is_accepted}
-use Rattle.rustc_lexer.specs.Scan.{gives, next_is, run_len}
+use Rattle.rustc_lexer.specs.Raw.{is_hash, is_quote, hashes, closes, close, hash_count, raw_closed, raw_text, raw_starter, raw_read, accepted}
 
 -- ---- hashes
 
@@ -85,16 +83,16 @@ close-read : (n : ℕ) (w next : List ℕ) → Lacks n w → close n (w ++ (34 �
 close-read n [] next lacks = rw (closes-here n next) refl
 close-read n (c ∷ w) next lacks =
     let open_here : closes n (c ∷ w ++ (34 ∷ guard n ++ next)) ≡ false = false_from_ne_true (closes n (c ∷ w ++ (34 ∷ guard n ++ next))) (λ e.
-        let parts = closes-quote n c (w ++ (34 ∷ guard n ++ next)) e in
-        lacks-front n c w lacks (before-quote n w (guard n ++ next) parts.1) parts.0) in
+    let parts = closes-quote n c (w ++ (34 ∷ guard n ++ next)) e in
+    lacks-front n c w lacks (before-quote n w (guard n ++ next) parts.1) parts.0) in
     rw open_here (ap one_more (close-read n w next (lacks-rest n c w lacks)))
 
 unclosed-read : (n : ℕ) (w : List ℕ) → Lacks n w → close n w ≡ None
 unclosed-read n [] lacks = refl
 unclosed-read n (c ∷ w) lacks =
     let open_here : closes n (c ∷ w) ≡ false = false_from_ne_true (closes n (c ∷ w)) (λ e.
-        let parts = closes-quote n c w e in
-        lacks-front n c w lacks record { rest = drop n w; whole = split-hashes n w parts.1 } parts.0) in
+    let parts = closes-quote n c w e in
+    lacks-front n c w lacks record { rest = drop n w; whole = split-hashes n w parts.1 } parts.0) in
     rw open_here (ap one_more (unclosed-read n w (lacks-rest n c w lacks)))
 
 data Closing (n : ℕ) (u : List ℕ) : Option ℕ → Type 0 where

@@ -1,17 +1,17 @@
 -- What the language says of runs, and which family the first character of a text chooses.
-use Rattle.std.proofs.Common.{◌≡◌, ◌≢◌, ℕ, zero, suc, ◌+◌, ◌≤◌, ◌<◌, ◌==◌, ◌&&◌, ◌||◌, ◌⊎◌, inl, inr, nat_le, not, Bool, true, false, true≢false, if◌then◌else◌, List, [], ◌∷◌, ◌++◌, length, take, drop, codes, refl, sym, ap, ◌∙◌, subst, arith, take_all}
+use Rattle.std.proofs.Common.{◌≡◌, ℕ, suc, ◌+◌, ◌≤◌, ◌<◌, ◌==◌, ◌&&◌, ◌||◌, inl, inr, nat_le, not, Bool, true, false, true≢false, if◌then◌else◌, List, [], ◌∷◌, ◌++◌, length, take, drop, codes, refl, sym, ap, ◌∙◌, subst, arith, take_all}
 use Rattle.std.proofs.Math.Seq.{take-append_seam, drop-append_seam}
-use Rattle.std.proofs.lemmas.Bool.{agree_below_at, and_parts, and_from, eqb-true, leb-true, ne_eqb, or_cases, or_parts, or_from, or_left, or_right, not-true, false_from_ne_true}
+use Rattle.std.proofs.lemmas.Bool.{agree_below_at, and_parts, eqb-true, leb-true, ne_eqb, or_cases, or_parts, or_left, or_right, not-true, false_from_ne_true}
 use Rattle.std.specs.Char.{is_ascii_digit}
 use Rattle.std.specs.List.{list_all}
 use Rattle.unicode_ident.proofs.Computing.{unicode_ident}
 use Rattle.rustc_lexer.specs.declared.lexemes.family.Family.{Family}
 use Rattle.rustc_lexer.specs.declared.lexemes.family.Family.TheVariants.{Slash, Space, Word, Number, Quote, Str, Emoji, Hash, Symbol}
 use Rattle.rustc_lexer.specs.declared.token.TokenKind.{TokenKind}
-use Rattle.rustc_lexer.specs.Classes.{is_among, is_whitespace, is_id_start, is_id_continue}
+use Rattle.rustc_lexer.specs.Classes.{is_among, is_whitespace, is_id_start}
 use Rattle.rustc_lexer.specs.Emoji.{is_emoji, emoji_ranges}
 use Rattle.rustc_lexer.specs.laws.Choice.{by_test}
-use Rattle.rustc_lexer.specs.laws.Reach.{IsToldBy, told_same, run_len-in, run_len-out, run_all}
+use Rattle.rustc_lexer.specs.laws.Reach.{IsToldBy, told_same, run_len-in, run_len-out}
 use Rattle.rustc_lexer.specs.Language.{AreAll, Goes, Stops, is_word, is_word_start, is_name_start, is_mark, begins_more, IsTokenBefore}
 use Rattle.rustc_lexer.specs.Lexeme.{family_of, past_first, read_by, lexeme}
 use Rattle.rustc_lexer.specs.Scan.{after, next_is, begins, run_len}

@@ -1,16 +1,16 @@
 -- Words are in their languages, and what is there is read so.
-use Rattle.std.proofs.Common.{◌≡◌, ℕ, zero, suc, ◌+◌, ◌≤◌, ◌==◌, ◌&&◌, ◌||◌, not, Bool, true, false, true≢false, if◌then◌else◌, List, [], ◌∷◌, ◌++◌, length, take, drop, codes, refl, sym, ap, ◌∙◌, subst, arith, take-append-drop}
+use Rattle.std.proofs.Common.{◌≡◌, ℕ, suc, ◌+◌, ◌==◌, ◌&&◌, Bool, true, false, true≢false, if◌then◌else◌, List, [], ◌∷◌, ◌++◌, length, take, drop, codes, refl, sym, ap, ◌∙◌, subst, arith, take-append-drop}
 use Rattle.std.proofs.Math.Seq.{take-append_seam, drop-append_seam}
-use Rattle.std.proofs.lemmas.Bool.{and_parts, eqb-true, or_parts, or_from, or_cases, false_from_ne_true}
+use Rattle.std.proofs.lemmas.Bool.{and_parts, eqb-true, or_parts, or_from, false_from_ne_true}
 use Rattle.std.specs.List.{list_all, list_any}
 use Rattle.unicode_ident.proofs.Computing.{unicode_ident}
 use Rattle.rustc_lexer.specs.declared.token.TokenKind.{TokenKind}
 use Rattle.rustc_lexer.specs.declared.token.TokenKind.TheVariants.{Ident, InvalidIdent, RawIdent, ForcedKeywordIdent, UnknownPrefix}
-use Rattle.rustc_lexer.specs.Classes.{is_among, is_id_start, is_id_continue, is_ident}
+use Rattle.rustc_lexer.specs.Classes.{is_id_start, is_id_continue, is_ident}
 use Rattle.rustc_lexer.specs.Emoji.{is_emoji, emoji_ranges}
 use Rattle.rustc_lexer.specs.Ident.{ident_kind, ident_or_unknown_prefix, invalid_ident, marks_ident, marked}
 use Rattle.rustc_lexer.specs.laws.Choice.{EachArm, by_arm, at_char}
-use Rattle.rustc_lexer.specs.laws.LanguageRuns.{run_len-here, run-stops, either-way, Sound, Read, pair, read-first, sound-after, begins-next, chooses-word, chooses-emoji, word-no_mark, mark-stops, start-word_start}
+use Rattle.rustc_lexer.specs.laws.LanguageRuns.{run_len-here, run-stops, either-way, Sound, Read, read-first, begins-next, chooses-word, chooses-emoji, word-no_mark, mark-stops, start-word_start}
 use Rattle.rustc_lexer.specs.laws.Reach.{run_all}
 use Rattle.rustc_lexer.specs.Language as the
 use Rattle.rustc_lexer.specs.Language.{AreAll, Goes, Stops, IsTokenBefore, is_word, is_word_start, is_mark, openings, is_opening, begins_ident_past}
