@@ -288,6 +288,19 @@ closing_end-ends n rest =
     (first_some-ends rest (inner_attribute rest) _ (before-ends (codes "#![") rest)
     (first_some-ends rest (lone_dashes rest) [] (alone-ends rest) (whole-ends rest))))))
 
+-- the closing ends between characters
+closing-boundary : (rest : List ℕ) (place : ℕ) → IsLineEnd rest place → IsCharBoundary rest place
+closing-boundary rest place ends = elim (cases_lt place (length rest)) [
+  | inl l ↦ IsCharBoundary-before_ascii rest place l (let h = ends.here l in omega arith)
+  | inr g ↦ let same : length rest ≡ place = let i = ends.inside in omega arith in subst (IsCharBoundary rest) same (IsCharBoundary-end rest)
+]
+
+pub closing_end-boundary : (n : ℕ) (rest : List ℕ) → IsCharBoundary rest (closing_end n rest)
+closing_end-boundary n rest = closing-boundary rest (closing_end n rest) (closing_end-ends n rest)
+
+pub closing_end-inside : (n : ℕ) (rest : List ℕ) → closing_end n rest ≤ length rest
+closing_end-inside n rest = let ends = closing_end-ends n rest in let i = ends.inside in omega arith
+
 -- a frontmatter is not empty, and ends between characters
 pub record IsCutOff (text : List ℕ) (token : Token) : Type 0 where
   pub not_empty : 0 < token.len
@@ -309,15 +322,9 @@ frontmatter-cut text is e =
     record {
       not_empty = omega (arith, length-le-encodes (take n s), length-take n s);
       inside = let i = ends.inside in omega arith;
-      boundary = IsCharBoundary-from_rest text b (closing_end (fence_len s) rest) (omega arith) (subst (λ xs. IsCharBoundary xs (closing_end (fence_len s) rest)) (sym left) (at_end rest (closing_end (fence_len s) rest) ends));
+      boundary = IsCharBoundary-from_rest text b (closing_end (fence_len s) rest) (omega arith) (subst (λ xs. IsCharBoundary xs (closing_end (fence_len s) rest)) (sym left) (closing-boundary rest (closing_end (fence_len s) rest) ends));
     }
   where
-    at_end : (rest : List ℕ) (place : ℕ) → IsLineEnd rest place → IsCharBoundary rest place
-    at_end rest place ends = elim (cases_lt place (length rest)) [
-      | inl l ↦ IsCharBoundary-before_ascii rest place l (let h = ends.here l in omega arith)
-      | inr g ↦ let same : length rest ≡ place = let i = ends.inside in omega arith in subst (IsCharBoundary rest) same (IsCharBoundary-end rest)
-    ]
-
     begins-dashes : (n : ℕ) (s : List ℕ) → begins (dashes n) s ≡ true → n ≤ run_len is_dash s
     begins-dashes n s e = elim (cases_lt (run_len is_dash s) n) [ inl few ↦ absurd (true≢false (sym e ∙ begins-few n s few)) | inr enough ↦ enough ]
 

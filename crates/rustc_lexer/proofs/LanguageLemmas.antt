@@ -1,24 +1,27 @@
 -- The tokens of a text are those that the language allows, and no other list of tokens is.
-use Rattle.std.proofs.Common.{◌≡◌, ℕ, ◌<◌, ◌==◌, Bool, true, false, List, [], ◌∷◌, ◌++◌, length, take, drop, refl, sym, ap, ◌∙◌, subst, arith, take_at, drop_at, length-append, length-take-le, take-append-drop}
+use Rattle.std.proofs.Common.{◌≡◌, ℕ, suc, ◌+◌, ◌<◌, ◌≤◌, ◌==◌, ◌||◌, not, codes, append_assoc, drop-drop, Bool, true, false, List, [], ◌∷◌, ◌++◌, length, take, drop, refl, sym, ap, ◌∙◌, subst, arith, take_at, drop_at, length-append, length-take-le, take-append-drop}
 use lib.Utf8.{scalars}
 use Rattle.std.proofs.Math.Seq.{take-append_seam, drop-append_seam}
-use Rattle.std.proofs.lemmas.Str.{chars-append, chars-nil, IsUtf8-take, chars-encodes, encodes-append, encodes-chars, length-le-encodes, scalars-chars}
+use Rattle.std.proofs.lemmas.Str.{chars-append, chars-nil, IsUtf8-take, IsUtf8-drop, IsCharBoundary-from_take, chars-encodes, encodes-append, encodes-chars, length-le-encodes, scalars-chars}
 use Rattle.std.specs.Str.{chars, encode_utf8_all, IsUtf8}
 use Rattle.rustc_lexer.specs.declared.token.FrontmatterAllowed.{FrontmatterAllowed}
 use Rattle.rustc_lexer.specs.declared.token.FrontmatterAllowed.TheVariants.{Yes, No}
 use Rattle.rustc_lexer.specs.declared.token.Token.{Token}
 use Rattle.rustc_lexer.specs.declared.token.TokenKind.{TokenKind}
-use Rattle.rustc_lexer.specs.declared.token.TokenKind.TheVariants.{Eof}
-use Rattle.rustc_lexer.specs.Frontmatter.{frontmatter, opens}
+use Rattle.rustc_lexer.specs.declared.token.TokenKind.TheVariants.{Frontmatter, Eof}
+use Rattle.rustc_lexer.specs.Classes.{is_among, is_whitespace}
+use Rattle.rustc_lexer.specs.Frontmatter.{is_newline, fence_len, opening_len, opens, closing_end, past_opening, frontmatter}
 use Rattle.rustc_lexer.specs.laws.Language.{lexeme-sound, token-read}
+use Rattle.rustc_lexer.specs.laws.LanguageFrontmatter.{fence-length, opening-read, Opened, opened, opens-none, none-opens}
+use Rattle.rustc_lexer.specs.laws.LanguageLiterals.{bytes-append}
 use Rattle.rustc_lexer.specs.laws.TokenBy.{scalars-take, scalars-drop}
-use Rattle.rustc_lexer.specs.Language.{bytes, IsTokenBefore, AreTokens, nothing, something, frontmatter_first, AreTheTokens, IsTokenOf, TakesTokenOf}
+use Rattle.rustc_lexer.specs.Language.{bytes, fence, IsLabelBefore, IsOpeningBefore, opening, OpensNone, IsTokenBefore, AreTokens, nothing, something, frontmatter_first, AreTheTokens, IsTokenOf, TakesTokenOf}
 use Rattle.rustc_lexer.specs.Lexeme.{past_first, lexeme, first_token}
-use Rattle.rustc_lexer.specs.Scan.{bytes_of}
+use Rattle.rustc_lexer.specs.Scan.{bytes_of, next_is, past}
 use Rattle.rustc_lexer.specs.State.{State, token_at, allowed_after, advance}
 use Rattle.rustc_lexer.specs.Texts.{IsText}
 use Rattle.rustc_lexer.specs.Tokens.{tokens_of}
-use Rattle.rustc_lexer.proofs.FrontmatterLemmas.{IsCutOff, frontmatter-cut}
+use Rattle.rustc_lexer.proofs.FrontmatterLemmas.{closing_end-boundary, closing_end-inside}
 use Rattle.rustc_lexer.proofs.StateLemmas.{state, advance-end, first-advanced}
 use Rattle.rustc_lexer.proofs.TokensLemmas.{token_at-cuts, by_tokens, tokens-nil, tokens-cons}
 
@@ -31,6 +34,8 @@ empty-text text is e = sym (encodes-chars text is.utf8) ∙ ap encode_utf8_all e
 record Split (text w next : List ℕ) : Type 0 where
   left : drop (bytes w) text ≡ encode_utf8_all next
   front : take (bytes w) text ≡ encode_utf8_all w
+  inside : bytes w ≤ length text
+  front_utf8 : IsUtf8 (encode_utf8_all w)
   some : 0 < length w → 0 < length text
   again : chars (encode_utf8_all next) ≡ next
   again_front : chars (encode_utf8_all w) ≡ w
@@ -42,6 +47,8 @@ split text w next is e =
       left = ap (drop (bytes w)) whole ∙ drop_at (encode_utf8_all w) (encode_utf8_all next) _ refl;
       front = ap (take (bytes w)) whole ∙ take_at (encode_utf8_all w) (encode_utf8_all next) _ refl;
       again_front = chars-encodes w (ap scalars (sym (take-append_seam w next) ∙ ap (take (length w)) (sym e)) ∙ scalars-take (length w) (chars text) (scalars-chars text is.utf8));
+      inside = omega (arith, ap length whole, length-append (encode_utf8_all w) (encode_utf8_all next));
+      front_utf8 = (w, (ap scalars (sym (take-append_seam w next) ∙ ap (take (length w)) (sym e)) ∙ scalars-take (length w) (chars text) (scalars-chars text is.utf8), refl));
       some = λ lt. omega (arith, ap length whole, length-append (encode_utf8_all w) (encode_utf8_all next), length-le-encodes w);
       again = chars-encodes next (ap scalars (sym (drop-append_seam w next) ∙ ap (drop (length w)) (sym e)) ∙ scalars-drop (length w) (chars text) (scalars-chars text is.utf8));
     }
@@ -66,6 +73,36 @@ after-frontmatter : (text : List ℕ) → allowed_after Yes (frontmatter text).k
 unfolding frontmatter
 after-frontmatter text = refl
 
+opening-some : {next w : List ℕ} {n : ℕ} → IsOpeningBefore next n w → 1 ≤ length w
+opening-some (opening n space label spaces no_line many is stop) = omega (arith, length-append space (fence n ++ label), length-append (fence n) label, fence-length n)
+
+newline-same : (s : List ℕ) → next_is is_newline s ≡ next_is (is_among (codes "\n")) s
+newline-same [] = refl
+newline-same (c ∷ s) = by_bool (c == 10)
+  where
+    by_bool : (b : Bool) → b ≡ (b || false)
+    by_bool true = refl
+    by_bool false = refl
+
+-- the frontmatter of a text that begins with an opening
+frontmatter-is : (text : List ℕ) (n : ℕ) (front rest : List ℕ) → IsText text → chars text ≡ front ++ rest → IsOpeningBefore rest n front
+    → frontmatter text ≡ record { kind = Frontmatter (next_is is_whitespace front) (not (next_is (is_among (codes "\n")) rest)); len = bytes front + closing_end n (encode_utf8_all rest) }
+unfolding frontmatter past_opening past
+frontmatter-is text n front rest is e is_opening =
+    let r = opening-read is_opening in
+    let parts = split text front rest is e in
+    let len : opening_len (chars text) ≡ length front = ap opening_len e ∙ r.len in
+    let past_is : past_opening text ≡ encode_utf8_all rest = ap (λ (k : ℕ). encode_utf8_all (drop k (chars text))) len ∙ ap encode_utf8_all (ap (drop (length front)) e ∙ drop-append_seam front rest) in
+    let size : bytes_of (opening_len (chars text)) (chars text) ≡ bytes front = ap (λ (k : ℕ). bytes_of k (chars text)) len ∙ ap bytes (ap (take (length front)) e ∙ take-append_seam front rest) in
+    let count : fence_len (chars text) ≡ n = ap fence_len e ∙ r.dashes in
+    let space : next_is is_whitespace (chars text) ≡ next_is is_whitespace front = ap (next_is is_whitespace) e ∙ r.space in
+    let line : next_is is_newline (chars (past_opening text)) ≡ next_is (is_among (codes "\n")) rest = ap (next_is is_newline) (ap chars past_is ∙ parts.again) ∙ newline-same rest in
+    let closes : closing_end (fence_len (chars text)) (past_opening text) ≡ closing_end n (encode_utf8_all rest) = ap (λ (k : ℕ). closing_end k (past_opening text)) count ∙ ap (closing_end n) past_is in
+    ap (λ (b : Bool). let t : Token = record { kind = Frontmatter b (not (next_is is_newline (chars (past_opening text)))); len = bytes_of (opening_len (chars text)) (chars text) + closing_end (fence_len (chars text)) (past_opening text) } in t) space
+    ∙ (ap (λ (b : Bool). let t : Token = record { kind = Frontmatter (next_is is_whitespace front) (not b); len = bytes_of (opening_len (chars text)) (chars text) + closing_end (fence_len (chars text)) (past_opening text) } in t) line
+    ∙ (ap (λ (k : ℕ). let t : Token = record { kind = Frontmatter (next_is is_whitespace front) (not (next_is (is_among (codes "\n")) rest)); len = k + closing_end (fence_len (chars text)) (past_opening text) } in t) size
+    ∙ ap (λ (k : ℕ). let t : Token = record { kind = Frontmatter (next_is is_whitespace front) (not (next_is (is_among (codes "\n")) rest)); len = bytes front + k } in t) closes))
+
 -- one token more
 step : (allowed : FrontmatterAllowed) (text w next : List ℕ) (token : Token) (tokens : List Token) → IsText text → 0 < length w → chars text ≡ w ++ next → token_at allowed text ≡ token → token.len ≡ bytes w
     → ((u : List ℕ) → IsText u → chars u ≡ next → tokens_of (allowed_after allowed token.kind) u ≡ tokens) → tokens_of allowed text ≡ token ∷ tokens
@@ -81,11 +118,14 @@ step allowed text w next token tokens is lt e f len rest =
 tokens-read : {allowed : FrontmatterAllowed} {cs : List ℕ} {tokens : List Token} → AreTokens allowed cs tokens → (text : List ℕ) → IsText text → chars text ≡ cs → tokens_of allowed text ≡ tokens
 tokens-read (nothing {allowed}) text is e = ap (tokens_of allowed) (empty-text text is e) ∙ tokens-nil allowed
 tokens-read (something {allowed} {kind} {c} {w} {next} {tokens} p free rest) text is e =
-    step allowed text (c ∷ w) next (record { kind = kind; len = bytes (c ∷ w) }) tokens is (omega arith) e (at-first allowed text (λ y. ap opens e ∙ free y) ∙ first-is p text e) refl (λ u text_u f. tokens-read rest u text_u f)
-tokens-read (frontmatter_first {c} w {next} {tokens} opened len rest) text is e =
-    let whole : text ≡ encode_utf8_all (c ∷ w ++ next) = sym (encodes-chars text is.utf8) ∙ ap encode_utf8_all e in
-    step Yes text (c ∷ w) next (frontmatter (encode_utf8_all (c ∷ w ++ next))) tokens is (omega arith) e (at-frontmatter text (ap opens e ∙ opened) ∙ ap frontmatter whole) len
-    (λ u text_u f. ap (λ (allowed : FrontmatterAllowed). tokens_of allowed u) (after-frontmatter (encode_utf8_all (c ∷ w ++ next))) ∙ tokens-read rest u text_u f)
+    step allowed text (c ∷ w) next (record { kind = kind; len = bytes (c ∷ w) }) tokens is (omega arith) e (at-first allowed text (λ y. ap opens e ∙ none-opens (c ∷ w ++ next) (free y)) ∙ first-is p text e) refl (λ u text_u f. tokens-read rest u text_u f)
+tokens-read (frontmatter_first {n} {front} {next} {tokens} body is_opening len rest) text is e =
+    let r = opening-read is_opening in
+    let token : Token = record { kind = Frontmatter (next_is is_whitespace front) (not (next_is (is_among (codes "\n")) (body ++ next))); len = bytes front + bytes body } in
+    let whole : chars text ≡ (front ++ body) ++ next = e ∙ sym (append_assoc front body next) in
+    let same : frontmatter text ≡ token = frontmatter-is text n front (body ++ next) is e is_opening ∙ ap (λ (k : ℕ). let t : Token = record { kind = Frontmatter (next_is is_whitespace front) (not (next_is (is_among (codes "\n")) (body ++ next))); len = bytes front + k } in t) (sym len) in
+    step Yes text (front ++ body) next token tokens is (omega (arith, opening-some is_opening, length-append front body)) whole (at-frontmatter text (ap opens e ∙ r.opens_here) ∙ same) (sym (bytes-append front body))
+    (λ u text_u f. tokens-read rest u text_u f)
 
 -- ---- and the tokens are such a list
 
@@ -106,41 +146,37 @@ lexeme-first allowed text (c ∷ s) is e some free rest =
     let tokens : List Token = tokens_of (allowed_after allowed token.kind) (drop token.len text) in
     let rest_are : AreTokens (allowed_after allowed (past_first c s).0) (drop m s) tokens = subst (λ (k : TokenKind). AreTokens (allowed_after allowed k) (drop m s) tokens) kind (subst (λ (cs : List ℕ). AreTokens (allowed_after allowed token.kind) cs tokens) left rest) in
     subst (λ (t : Token). AreTokens allowed (c ∷ s) (t ∷ tokens)) (sym same)
-    (subst (λ (cs : List ℕ). AreTokens allowed cs (record { kind = (past_first c s).0; len = bytes (c ∷ take m s) } ∷ tokens)) whole (something (lexeme-sound (c ∷ s)) (λ y. ap opens (whole ∙ sym e) ∙ free y) rest_are))
+    (subst (λ (cs : List ℕ). AreTokens allowed cs (record { kind = (past_first c s).0; len = bytes (c ∷ take m s) } ∷ tokens)) whole (something (lexeme-sound (c ∷ s)) (λ y. opens-none (c ∷ take m s ++ drop m s) (ap opens (whole ∙ sym e) ∙ free y)) rest_are))
 
 frontmatter-first : (text : List ℕ) → IsText text → 0 < length text → opens (chars text) ≡ true
     → AreTokens (allowed_after Yes (frontmatter text).kind) (chars (drop (frontmatter text).len text)) (tokens_of (allowed_after Yes (frontmatter text).kind) (drop (frontmatter text).len text))
     → AreTokens Yes (chars text) (frontmatter text ∷ tokens_of (allowed_after Yes (frontmatter text).kind) (drop (frontmatter text).len text))
-frontmatter-first text is some opened rest = by_front (chars (take n text)) refl
+frontmatter-first text is some opened_here rest_are = put (opened (chars text) opened_here)
   where
-    n : ℕ
-    n = (frontmatter text).len
-
     tokens : List Token
-    tokens = tokens_of (allowed_after Yes (frontmatter text).kind) (drop n text)
+    tokens = tokens_of (allowed_after Yes (frontmatter text).kind) (drop (frontmatter text).len text)
 
-    cut : IsCutOff text (frontmatter text)
-    cut = frontmatter-cut text is.utf8 opened
-
-    utf8 : IsUtf8 (take n text)
-    utf8 = IsUtf8-take text n is.utf8 cut.boundary
-
-    parts : chars (take n text) ++ chars (drop n text) ≡ chars text
-    parts = sym (chars-append (take n text) (drop n text) utf8) ∙ ap chars (take-append-drop n text)
-
-    size : bytes (chars (take n text)) ≡ n
-    size = ap length (encodes-chars (take n text) utf8) ∙ length-take-le n text cut.inside
-
-    by_front : (front : List ℕ) → chars (take n text) ≡ front → AreTokens Yes (chars text) (frontmatter text ∷ tokens)
-    by_front [] e = absurd (let none : 0 ≡ n = sym (ap bytes e) ∙ size in let lt = cut.not_empty in omega arith)
-    by_front (c ∷ w) e =
-        let next : List ℕ = chars (drop n text) in
-        let whole : c ∷ w ++ next ≡ chars text = ap (λ (u : List ℕ). u ++ next) (sym e) ∙ parts in
-        let again : encode_utf8_all (c ∷ w ++ next) ≡ text = ap encode_utf8_all whole ∙ encodes-chars text is.utf8 in
-        let rest_are : AreTokens No next tokens = subst (λ (allowed : FrontmatterAllowed). AreTokens allowed next tokens) (after-frontmatter text) rest in
+    put : Opened (chars text) → AreTokens Yes (chars text) (frontmatter text ∷ tokens)
+    put o =
+        let n : ℕ = o.count in
+        let parts = split text o.front o.rest is (sym o.whole) in
+        let left : List ℕ = encode_utf8_all o.rest in
+        let left_utf8 : IsUtf8 left = subst IsUtf8 parts.left (IsUtf8-drop text (bytes o.front) is.utf8 (IsCharBoundary-from_take text (bytes o.front) is.utf8 parts.inside (subst IsUtf8 (sym parts.front) parts.front_utf8))) in
+        let m : ℕ = closing_end n left in
+        let body : List ℕ = chars (take m left) in
+        let next : List ℕ = chars (drop m left) in
+        let utf8 : IsUtf8 (take m left) = IsUtf8-take left m left_utf8 (closing_end-boundary n left) in
+        let body_is : body ++ next ≡ o.rest = sym (chars-append (take m left) (drop m left) utf8) ∙ (ap chars (take-append-drop m left) ∙ parts.again) in
+        let size : bytes body ≡ m = ap length (encodes-chars (take m left) utf8) ∙ length-take-le m left (closing_end-inside n left) in
+        let is_opening : IsOpeningBefore (body ++ next) n o.front = subst (λ (u : List ℕ). IsOpeningBefore u n o.front) (sym body_is) o.is in
+        let len : bytes body ≡ closing_end n (encode_utf8_all (body ++ next)) = size ∙ ap (λ (u : List ℕ). closing_end n (encode_utf8_all u)) (sym body_is) in
+        let whole : o.front ++ (body ++ next) ≡ chars text = ap (λ (u : List ℕ). o.front ++ u) body_is ∙ o.whole in
+        let same : frontmatter text ≡ record { kind = Frontmatter (next_is is_whitespace o.front) (not (next_is (is_among (codes "\n")) (body ++ next))); len = bytes o.front + bytes body } =
+        frontmatter-is text n o.front (body ++ next) is (sym whole) is_opening ∙ ap (λ (k : ℕ). let t : Token = record { kind = Frontmatter (next_is is_whitespace o.front) (not (next_is (is_among (codes "\n")) (body ++ next))); len = bytes o.front + k } in t) (sym len) in
+        let cut : drop (frontmatter text).len text ≡ drop m left = ap (λ (t : Token). drop t.len text) same ∙ (ap (λ (k : ℕ). drop (bytes o.front + k) text) size ∙ (sym (drop-drop m (bytes o.front) text) ∙ ap (drop m) parts.left)) in
+        let rest_is : AreTokens No next tokens = subst (λ (cs : List ℕ). AreTokens No cs tokens) (ap chars cut) (subst (λ (allowed : FrontmatterAllowed). AreTokens allowed (chars (drop (frontmatter text).len text)) tokens) (after-frontmatter text) rest_are) in
         subst (λ (cs : List ℕ). AreTokens Yes cs (frontmatter text ∷ tokens)) whole
-        (subst (λ (u : List ℕ). AreTokens Yes (c ∷ w ++ next) (frontmatter u ∷ tokens)) again
-        (frontmatter_first w (ap opens whole ∙ opened) (ap (λ (u : List ℕ). (frontmatter u).len) again ∙ (sym size ∙ ap bytes e)) rest_are))
+        (subst (λ (t : Token). AreTokens Yes (o.front ++ (body ++ next)) (t ∷ tokens)) (sym same) (frontmatter_first body is_opening len rest_is))
 
 -- what is left to show of a first token
 abbrev Puts : FrontmatterAllowed → List ℕ → Token → Type 0
@@ -193,5 +229,5 @@ advance-language s is none free = by_rest s.rest refl
         let read : (advance s).0 ≡ record { kind = Eof; len = 0 } = ap (λ (r : Token × State). r.0) (advance-end 0 s.rest s.frontmatter_allowed s (sym at) (ap (λ (r : List ℕ). length r == 0) e)) in
         subst (IsTokenOf s.rest) (ap first_token e ∙ (empty ∙ sym read)) (first_token-of s.rest is)
     by_rest (b ∷ bs) e =
-        let read : (advance s).0 ≡ first_token s.rest = first-advanced s.rest s.frontmatter_allowed s at (omega (arith, ap length e)) ∙ at-first s.frontmatter_allowed s.rest free in
+        let read : (advance s).0 ≡ first_token s.rest = first-advanced s.rest s.frontmatter_allowed s at (omega (arith, ap length e)) ∙ at-first s.frontmatter_allowed s.rest (λ y. none-opens (chars s.rest) (free y)) in
         subst (IsTokenOf s.rest) (sym read) (first_token-of s.rest is)

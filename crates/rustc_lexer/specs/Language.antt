@@ -1,5 +1,5 @@
 -- The language of the tokens of Rust: which texts a token of each kind may have, and before what. One rule for each form.
-use Rattle.std.specs.Prelude.{◌≡◌, ◌<◌, ◌≤◌, ◌↔◌, ℕ, zero, suc, ◌==◌, ◌||◌, ◌&&◌, not, Bool, true, false, List, [], ◌∷◌, ◌++◌, length, take, drop, codes, Option, Some, None}
+use Rattle.std.specs.Prelude.{◌≡◌, ◌+◌, ◌<◌, ◌≤◌, ◌↔◌, ℕ, zero, suc, ◌==◌, ◌||◌, ◌&&◌, not, Bool, true, false, List, [], ◌∷◌, ◌++◌, length, take, drop, codes, Option, Some, None}
 use Rattle.std.specs.Char.{is_ascii_digit}
 use Rattle.std.specs.List.{list_all, list_any}
 use Rattle.std.specs.Option.{is_some}
@@ -12,10 +12,10 @@ use Rattle.rustc_lexer.specs.declared.token.LiteralKind.{LiteralKind}
 use Rattle.rustc_lexer.specs.declared.token.LiteralKind.TheVariants.{Char, Byte, Str, ByteStr, CStr, RawStr, RawByteStr, RawCStr}
 use Rattle.rustc_lexer.specs.declared.token.Token.{Token}
 use Rattle.rustc_lexer.specs.declared.token.TokenKind.{TokenKind}
-use Rattle.rustc_lexer.specs.declared.token.TokenKind.TheVariants.{LineComment, BlockComment, Whitespace, Ident, InvalidIdent, RawIdent, ForcedKeywordIdent, UnknownPrefix, UnknownPrefixLifetime, RawLifetime, GuardedStrPrefix, Literal, Lifetime, Slash, Pound, Eof}
-use Rattle.rustc_lexer.specs.Classes.{is_among, is_whitespace, is_id_start, is_id_continue, is_ident}
+use Rattle.rustc_lexer.specs.declared.token.TokenKind.TheVariants.{LineComment, BlockComment, Whitespace, Frontmatter, Ident, InvalidIdent, RawIdent, ForcedKeywordIdent, UnknownPrefix, UnknownPrefixLifetime, RawLifetime, GuardedStrPrefix, Literal, Lifetime, Slash, Pound, Eof}
+use Rattle.rustc_lexer.specs.Classes.{is_among, is_whitespace, is_horizontal_whitespace, is_id_start, is_id_continue, is_ident}
 use Rattle.rustc_lexer.specs.Emoji.{is_emoji}
-use Rattle.rustc_lexer.specs.Frontmatter.{frontmatter, opens}
+use Rattle.rustc_lexer.specs.Frontmatter.{closing_end}
 use Rattle.rustc_lexer.specs.Lexeme.{lexeme}
 use Rattle.rustc_lexer.specs.NumberGrammar.{IsLongestNumber}
 use Rattle.rustc_lexer.specs.Scan.{begins, next_is}
@@ -162,6 +162,32 @@ pub data IsSuffixBefore (next : List ℕ) : List ℕ → Type 0 where
   none : Stops is_id_start next → IsSuffixBefore next []
   some : {w : List ℕ} → is_ident w ≡ true → Stops is_id_continue next → IsSuffixBefore next w
 
+-- ---- frontmatter
+
+-- what an infostring goes on with
+abbrev pub is_info : ℕ → Bool
+is_info c = is_id_continue c || is_among (codes "-.") c
+
+-- so many dashes
+abbrev pub fence : ℕ → List ℕ
+fence zero = []
+fence (suc n) = byte "-" ∷ fence n
+
+-- what follows the dashes on their line: spaces and tabs; and an infostring and more of those, if one begins there
+pub data IsLabelBefore (next : List ℕ) : List ℕ → Type 0 where
+  blank : {w : List ℕ} → AreAll is_horizontal_whitespace w → Stops is_horizontal_whitespace next → Stops is_id_start next → IsLabelBefore next w
+  named : (u : List ℕ) (c : ℕ) (v w : List ℕ) → AreAll is_horizontal_whitespace u → is_id_start c ≡ true → AreAll is_info v → Stops is_info (w ++ next) → AreAll is_horizontal_whitespace w → Stops is_horizontal_whitespace next
+      → IsLabelBefore next (u ++ (c ∷ v ++ w))
+
+-- the opening of a frontmatter: white space that ends no line, three dashes or more, and their label
+pub data IsOpeningBefore (next : List ℕ) : ℕ → List ℕ → Type 0 where
+  opening : (n : ℕ) (space label : List ℕ) → AreAll is_whitespace space → ((u : List ℕ) → space ≡ u ++ codes "\n" → ⊥) → 3 ≤ n → IsLabelBefore next label → Stops (is_among (codes "-")) (label ++ next)
+      → IsOpeningBefore next n (space ++ (fence n ++ label))
+
+-- none stands at the front
+abbrev pub OpensNone : List ℕ → Type 0
+OpensNone s = (n : ℕ) (w next : List ℕ) → s ≡ w ++ next → IsOpeningBefore next n w → ⊥
+
 -- ---- tokens
 
 -- what begins more than one character by itself
@@ -207,18 +233,18 @@ IsLanguage = (next w : List ℕ) (kind : TokenKind) → IsTokenBefore next kind 
 abbrev pub IsTokenOf : List ℕ → Token → Type 0
 IsTokenOf text token = IsTokenBefore (chars (drop token.len text)) token.kind (chars (take token.len text))
 
--- so it is where a cursor has no frontmatter and no bytes pending
+-- so it is where a cursor has no bytes pending, and no frontmatter is allowed or none opens
 abbrev pub TakesTokenOf : State → Token → Type 0
-TakesTokenOf s token = s.pending ≡ 0 → (s.frontmatter_allowed ≡ Yes → opens (chars s.rest) ≡ false) → IsTokenOf s.rest token
+TakesTokenOf s token = s.pending ≡ 0 → (s.frontmatter_allowed ≡ Yes → OpensNone (chars s.rest)) → IsTokenOf s.rest token
 
--- the tokens of these characters: where a frontmatter is allowed and opens, it is first (see `Frontmatter.antt`); else one
--- token that the language has, and the tokens of what follows it
+-- the tokens of these characters: one that the language has, and the tokens of what follows it. Where one is allowed and
+-- opens, a frontmatter is first: with so much behind its opening as the steps of `closing_end` say, which are of bytes
 pub data AreTokens : FrontmatterAllowed → List ℕ → List Token → Type 0 where
   nothing : {allowed : FrontmatterAllowed} → AreTokens allowed [] []
-  something : {allowed : FrontmatterAllowed} {kind : TokenKind} {c : ℕ} {w next : List ℕ} {tokens : List Token} → IsTokenBefore next kind (c ∷ w) → (allowed ≡ Yes → opens (c ∷ w ++ next) ≡ false)
+  something : {allowed : FrontmatterAllowed} {kind : TokenKind} {c : ℕ} {w next : List ℕ} {tokens : List Token} → IsTokenBefore next kind (c ∷ w) → (allowed ≡ Yes → OpensNone (c ∷ w ++ next))
       → AreTokens (allowed_after allowed kind) next tokens → AreTokens allowed (c ∷ w ++ next) (record { kind = kind; len = bytes (c ∷ w) } ∷ tokens)
-  frontmatter_first : {c : ℕ} (w : List ℕ) {next : List ℕ} {tokens : List Token} → opens (c ∷ w ++ next) ≡ true → (frontmatter (encode_utf8_all (c ∷ w ++ next))).len ≡ bytes (c ∷ w)
-      → AreTokens No next tokens → AreTokens Yes (c ∷ w ++ next) (frontmatter (encode_utf8_all (c ∷ w ++ next)) ∷ tokens)
+  frontmatter_first : {n : ℕ} {front next : List ℕ} {tokens : List Token} (body : List ℕ) → IsOpeningBefore (body ++ next) n front → bytes body ≡ closing_end n (encode_utf8_all (body ++ next)) → AreTokens No next tokens
+      → AreTokens Yes (front ++ (body ++ next)) (record { kind = Frontmatter (next_is is_whitespace front) (not (next_is (is_among (codes "\n")) (body ++ next))); len = bytes front + bytes body } ∷ tokens)
 
 -- these tokens are those of the text, and no other list is
 abbrev pub AreTheTokens : FrontmatterAllowed → List ℕ → Type 0

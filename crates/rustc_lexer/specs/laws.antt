@@ -8,6 +8,7 @@ pub mod Hash
 pub mod Ident
 pub mod Language
 pub mod LanguageComments
+pub mod LanguageFrontmatter
 pub mod LanguageLifetimes
 pub mod LanguageLiterals
 pub mod LanguageQuoted
