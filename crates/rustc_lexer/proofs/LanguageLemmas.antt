@@ -12,10 +12,11 @@ use Rattle.rustc_lexer.specs.declared.token.TokenKind.TheVariants.{Frontmatter, 
 use Rattle.rustc_lexer.specs.Classes.{is_among, is_whitespace}
 use Rattle.rustc_lexer.specs.Frontmatter.{is_newline, fence_len, opening_len, opens, closing_end, past_opening, frontmatter}
 use Rattle.rustc_lexer.specs.laws.Language.{lexeme-sound, token-read}
+use Rattle.rustc_lexer.specs.laws.LanguageClosing.{ends-read, ends-are}
 use Rattle.rustc_lexer.specs.laws.LanguageFrontmatter.{fence-length, opening-read, Opened, opened, opens-none, none-opens}
 use Rattle.rustc_lexer.specs.laws.LanguageLiterals.{bytes-append}
 use Rattle.rustc_lexer.specs.laws.TokenBy.{scalars-take, scalars-drop}
-use Rattle.rustc_lexer.specs.Language.{bytes, fence, IsLabelBefore, IsOpeningBefore, opening, OpensNone, IsTokenBefore, AreTokens, nothing, something, frontmatter_first, AreTheTokens, IsTokenOf, TakesTokenOf}
+use Rattle.rustc_lexer.specs.Language.{bytes, fence, IsLabelBefore, IsOpeningBefore, opening, OpensNone, EndsAt, IsTokenBefore, AreTokens, nothing, something, frontmatter_first, AreTheTokens, IsTokenOf, TakesTokenOf}
 use Rattle.rustc_lexer.specs.Lexeme.{past_first, lexeme, first_token}
 use Rattle.rustc_lexer.specs.Scan.{bytes_of, next_is, past}
 use Rattle.rustc_lexer.specs.State.{State, token_at, allowed_after, advance}
@@ -119,7 +120,8 @@ tokens-read : {allowed : FrontmatterAllowed} {cs : List ℕ} {tokens : List Toke
 tokens-read (nothing {allowed}) text is e = ap (tokens_of allowed) (empty-text text is e) ∙ tokens-nil allowed
 tokens-read (something {allowed} {kind} {c} {w} {next} {tokens} p free rest) text is e =
     step allowed text (c ∷ w) next (record { kind = kind; len = bytes (c ∷ w) }) tokens is (omega arith) e (at-first allowed text (λ y. ap opens e ∙ none-opens (c ∷ w ++ next) (free y)) ∙ first-is p text e) refl (λ u text_u f. tokens-read rest u text_u f)
-tokens-read (frontmatter_first {n} {front} {next} {tokens} body is_opening len rest) text is e =
+tokens-read (frontmatter_first {n} {front} {next} {tokens} body is_opening is_end rest) text is e =
+    let len : bytes body ≡ closing_end n (encode_utf8_all (body ++ next)) = sym (ends-read is_end) in
     let r = opening-read is_opening in
     let token : Token = record { kind = Frontmatter (next_is is_whitespace front) (not (next_is (is_among (codes "\n")) (body ++ next))); len = bytes front + bytes body } in
     let whole : chars text ≡ (front ++ body) ++ next = e ∙ sym (append_assoc front body next) in
@@ -176,7 +178,7 @@ frontmatter-first text is some opened_here rest_are = put (opened (chars text) o
         let cut : drop (frontmatter text).len text ≡ drop m left = ap (λ (t : Token). drop t.len text) same ∙ (ap (λ (k : ℕ). drop (bytes o.front + k) text) size ∙ (sym (drop-drop m (bytes o.front) text) ∙ ap (drop m) parts.left)) in
         let rest_is : AreTokens No next tokens = subst (λ (cs : List ℕ). AreTokens No cs tokens) (ap chars cut) (subst (λ (allowed : FrontmatterAllowed). AreTokens allowed (chars (drop (frontmatter text).len text)) tokens) (after-frontmatter text) rest_are) in
         subst (λ (cs : List ℕ). AreTokens Yes cs (frontmatter text ∷ tokens)) whole
-        (subst (λ (t : Token). AreTokens Yes (o.front ++ (body ++ next)) (t ∷ tokens)) (sym same) (frontmatter_first body is_opening len rest_is))
+        (subst (λ (t : Token). AreTokens Yes (o.front ++ (body ++ next)) (t ∷ tokens)) (sym same) (frontmatter_first body is_opening (subst (EndsAt n (encode_utf8_all (body ++ next))) (sym len) (ends-are n (encode_utf8_all (body ++ next)))) rest_is))
 
 -- what is left to show of a first token
 abbrev Puts : FrontmatterAllowed → List ℕ → Token → Type 0

@@ -15,7 +15,6 @@ use Rattle.rustc_lexer.specs.declared.token.TokenKind.{TokenKind}
 use Rattle.rustc_lexer.specs.declared.token.TokenKind.TheVariants.{LineComment, BlockComment, Whitespace, Frontmatter, Ident, InvalidIdent, RawIdent, ForcedKeywordIdent, UnknownPrefix, UnknownPrefixLifetime, RawLifetime, GuardedStrPrefix, Literal, Lifetime, Slash, Pound, Eof}
 use Rattle.rustc_lexer.specs.Classes.{is_among, is_whitespace, is_horizontal_whitespace, is_id_start, is_id_continue, is_ident}
 use Rattle.rustc_lexer.specs.Emoji.{is_emoji}
-use Rattle.rustc_lexer.specs.Frontmatter.{closing_end}
 use Rattle.rustc_lexer.specs.Lexeme.{lexeme}
 use Rattle.rustc_lexer.specs.NumberGrammar.{IsLongestNumber}
 use Rattle.rustc_lexer.specs.Scan.{begins, next_is}
@@ -188,6 +187,50 @@ pub data IsOpeningBefore (next : List ℕ) : ℕ → List ℕ → Type 0 where
 abbrev pub OpensNone : List ℕ → Type 0
 OpensNone s = (n : ℕ) (w next : List ℕ) → s ≡ w ++ next → IsOpeningBefore next n w → ⊥
 
+-- The end of a frontmatter, in what follows its opening. Texts are bytes here: each pattern is in ASCII.
+
+-- the first place from `start` on where a pattern stands; and that it stands at none
+pub record IsFirst (pattern s : List ℕ) (start i : ℕ) : Type 0 where
+  pub past : start ≤ i
+  pub here : begins pattern (drop i s) ≡ true
+  pub before : (j : ℕ) → start ≤ j → j < i → begins pattern (drop j s) ≡ false
+
+abbrev pub IsNowhere : List ℕ → List ℕ → ℕ → Type 0
+IsNowhere pattern s start = (j : ℕ) → start ≤ j → begins pattern (drop j s) ≡ false
+
+-- how much of these stands on their line
+pub data LineOf : List ℕ → ℕ → Type 0 where
+  line : (u v : List ℕ) → AreAll is_inline u → Stops is_inline v → LineOf (u ++ v) (length u)
+
+-- only spaces and tabs stand before the place: from `start` on, or from a line's start that is no earlier
+pub data IsBlankBefore (s : List ℕ) (start i : ℕ) : Type 0 where
+  from_start : AreAll is_horizontal_whitespace (drop start (take i s)) → IsBlankBefore s start i
+  from_line : {k : ℕ} → start ≤ k → begins (codes "\n") (drop k s) ≡ true → k < i → AreAll is_horizontal_whitespace (drop (suc k) (take i s)) → IsBlankBefore s start i
+
+-- the first three dashes with only that before them, from `start` on; each three are looked for past the end of those before
+pub data IsLone (s : List ℕ) : ℕ → Option ℕ → Type 0 where
+  none : {start : ℕ} → IsNowhere (fence 3) s start → IsLone s start None
+  this : {start i : ℕ} → IsFirst (fence 3) s start i → IsBlankBefore s start i → IsLone s start (Some i)
+  later : {start i : ℕ} {o : Option ℕ} → IsFirst (fence 3) s start i → (IsBlankBefore s start i → ⊥) → IsLone s (i + 3) o → IsLone s start o
+
+-- no line begins with a fence; and none with Rust
+abbrev pub NoFence : ℕ → List ℕ → Type 0
+NoFence n s = IsNowhere (byte "\n" ∷ fence n) s 0 × IsNowhere (byte "\n" ∷ fence 3) s 0
+
+abbrev pub NoRust : List ℕ → Type 0
+NoRust s = IsNowhere (codes "\nuse ") s 0 × IsNowhere (codes "\n//!") s 0 × IsNowhere (codes "\n#![") s 0
+
+-- where it ends: with the line of a fence of as many dashes, or of three; before a `use` item, an inner doc or an inner attribute;
+-- with the line of three dashes alone; or with the text. Each holds where none before it does
+pub data EndsAt (n : ℕ) (s : List ℕ) : ℕ → Type 0 where
+  full_fence : {i k : ℕ} → IsFirst (byte "\n" ∷ fence n) s 0 i → LineOf (drop (suc i) s) k → EndsAt n s (suc i + k)
+  short_fence : {i k : ℕ} → IsNowhere (byte "\n" ∷ fence n) s 0 → IsFirst (byte "\n" ∷ fence 3) s 0 i → LineOf (drop (suc i) s) k → EndsAt n s (suc i + k)
+  use_item : {i : ℕ} → NoFence n s → IsFirst (codes "\nuse ") s 0 i → EndsAt n s i
+  inner_doc : {i : ℕ} → NoFence n s → IsNowhere (codes "\nuse ") s 0 → IsFirst (codes "\n//!") s 0 i → EndsAt n s i
+  inner_attribute : {i : ℕ} → NoFence n s → IsNowhere (codes "\nuse ") s 0 → IsNowhere (codes "\n//!") s 0 → IsFirst (codes "\n#![") s 0 i → EndsAt n s i
+  lone_dashes : {i k : ℕ} → NoFence n s → NoRust s → IsLone s 0 (Some i) → LineOf (drop i s) k → EndsAt n s (i + k)
+  all : NoFence n s → NoRust s → IsLone s 0 None → EndsAt n s (length s)
+
 -- ---- tokens
 
 -- what begins more than one character by itself
@@ -238,12 +281,12 @@ abbrev pub TakesTokenOf : State → Token → Type 0
 TakesTokenOf s token = s.pending ≡ 0 → (s.frontmatter_allowed ≡ Yes → OpensNone (chars s.rest)) → IsTokenOf s.rest token
 
 -- the tokens of these characters: one that the language has, and the tokens of what follows it. Where one is allowed and
--- opens, a frontmatter is first: with so much behind its opening as the steps of `closing_end` say, which are of bytes
+-- opens, a frontmatter is first
 pub data AreTokens : FrontmatterAllowed → List ℕ → List Token → Type 0 where
   nothing : {allowed : FrontmatterAllowed} → AreTokens allowed [] []
   something : {allowed : FrontmatterAllowed} {kind : TokenKind} {c : ℕ} {w next : List ℕ} {tokens : List Token} → IsTokenBefore next kind (c ∷ w) → (allowed ≡ Yes → OpensNone (c ∷ w ++ next))
       → AreTokens (allowed_after allowed kind) next tokens → AreTokens allowed (c ∷ w ++ next) (record { kind = kind; len = bytes (c ∷ w) } ∷ tokens)
-  frontmatter_first : {n : ℕ} {front next : List ℕ} {tokens : List Token} (body : List ℕ) → IsOpeningBefore (body ++ next) n front → bytes body ≡ closing_end n (encode_utf8_all (body ++ next)) → AreTokens No next tokens
+  frontmatter_first : {n : ℕ} {front next : List ℕ} {tokens : List Token} (body : List ℕ) → IsOpeningBefore (body ++ next) n front → EndsAt n (encode_utf8_all (body ++ next)) (bytes body) → AreTokens No next tokens
       → AreTokens Yes (front ++ (body ++ next)) (record { kind = Frontmatter (next_is is_whitespace front) (not (next_is (is_among (codes "\n")) (body ++ next))); len = bytes front + bytes body } ∷ tokens)
 
 -- these tokens are those of the text, and no other list is

@@ -7,6 +7,7 @@ pub mod Family
 pub mod Hash
 pub mod Ident
 pub mod Language
+pub mod LanguageClosing
 pub mod LanguageComments
 pub mod LanguageFrontmatter
 pub mod LanguageLifetimes
