@@ -1,5 +1,5 @@
 -- The tokens of a text are those that the language allows, and no other list of tokens is.
-use Rattle.std.proofs.Common.{◌≡◌, ℕ, suc, ◌+◌, ◌<◌, ◌≤◌, ◌==◌, ◌||◌, not, codes, append_assoc, drop-drop, Bool, true, false, List, [], ◌∷◌, ◌++◌, length, take, drop, refl, sym, ap, ◌∙◌, subst, arith, take_at, drop_at, length-append, length-take-le, take-append-drop}
+use Rattle.std.proofs.Common.{◌≡◌, ℕ, ◌+◌, ◌<◌, ◌≤◌, ◌==◌, ◌||◌, not, codes, append_assoc, drop-drop, Bool, true, false, List, [], ◌∷◌, ◌++◌, length, take, drop, refl, sym, ap, ◌∙◌, subst, arith, take_at, drop_at, length-append, length-take-le, take-append-drop}
 use lib.Utf8.{scalars}
 use Rattle.std.proofs.Math.Seq.{take-append_seam, drop-append_seam}
 use Rattle.std.proofs.lemmas.Str.{chars-append, chars-nil, IsUtf8-take, IsUtf8-drop, IsCharBoundary-from_take, chars-encodes, encodes-append, encodes-chars, length-le-encodes, scalars-chars}
@@ -16,7 +16,9 @@ use Rattle.rustc_lexer.specs.laws.LanguageClosing.{ends-read, ends-are}
 use Rattle.rustc_lexer.specs.laws.LanguageFrontmatter.{fence-length, opening-read, Opened, opened, opens-none, none-opens}
 use Rattle.rustc_lexer.specs.laws.LanguageLiterals.{bytes-append}
 use Rattle.rustc_lexer.specs.laws.TokenBy.{scalars-take, scalars-drop}
-use Rattle.rustc_lexer.specs.Language.{bytes, fence, IsLabelBefore, IsOpeningBefore, opening, OpensNone, EndsAt, IsTokenBefore, AreTokens, nothing, something, frontmatter_first, AreTheTokens, IsTokenOf, TakesTokenOf}
+use Rattle.rustc_lexer.specs.FrontmatterGrammar.{fence, IsOpeningBefore, opening, EndsAt}
+use Rattle.rustc_lexer.specs.Language.{IsTokenBefore, AreTokens, nothing, something, frontmatter_first, AreTheTokens, IsTokenOf, TakesTokenOf}
+use Rattle.rustc_lexer.specs.Spans.{bytes}
 use Rattle.rustc_lexer.specs.Lexeme.{past_first, lexeme, first_token}
 use Rattle.rustc_lexer.specs.Scan.{bytes_of, next_is, past}
 use Rattle.rustc_lexer.specs.State.{State, token_at, allowed_after, advance}

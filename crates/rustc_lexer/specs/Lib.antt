@@ -10,6 +10,7 @@ pub mod EditLists
 pub mod Edits
 pub mod Emoji
 pub mod Frontmatter
+pub mod FrontmatterGrammar
 pub mod Guarded
 pub mod Hash
 pub mod Held
@@ -29,6 +30,7 @@ pub mod Raw
 pub mod Scan
 pub mod Settled
 pub mod Shebang
+pub mod Spans
 pub mod State
 pub mod Symbols
 pub mod Texts

@@ -16,7 +16,8 @@ use Rattle.rustc_lexer.specs.laws.LanguageLiterals.{str-sound, byte-sound, byte_
 use Rattle.rustc_lexer.specs.laws.LanguageRuns.{Sound, EachChosen, each_chosen}
 use Rattle.rustc_lexer.specs.laws.LanguageWords.{no-opening, raw_mark-none, none-raw, ident-sound, invalid-sound, raw_ident-sound, keyword-sound, ident-is_read, prefix-read as word_prefix-read, invalid-read, raw_ident-read, keyword-read}
 use Rattle.rustc_lexer.specs.Language as the
-use Rattle.rustc_lexer.specs.Language.{Goes, Stops, bytes, is_opening, IsLiteralBefore, IsTokenBefore, IsLanguage}
+use Rattle.rustc_lexer.specs.Language.{is_opening, IsLiteralBefore, IsTokenBefore, IsLanguage}
+use Rattle.rustc_lexer.specs.Spans.{Goes, Stops}
 use Rattle.rustc_lexer.specs.Lexeme.{is_raw_mark, raw_or_ident, begins_raw, raw_past_or_ident, letter_r, letter_k, letter_b, letter_c, letters, word, lexeme}
 use Rattle.rustc_lexer.specs.Literal.{literal}
 use Rattle.rustc_lexer.specs.Quoted.{byte_body, byte_str_body, c_str_body}

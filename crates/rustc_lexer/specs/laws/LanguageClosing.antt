@@ -1,15 +1,16 @@
 -- The end of a frontmatter is the one that the language has.
-use Rattle.std.proofs.Common.{◌≡◌, ℕ, zero, suc, ◌+◌, ◌-◌, ◌≤◌, ◌<◌, ◌==◌, ◌&&◌, ◌⊎◌, inl, inr, max, not, Bool, true, false, true≢false, if◌then◌else◌, List, [], ◌∷◌, ◌++◌, length, take, drop, codes, refl, sym, ap, ◌∙◌, subst, arith, length-drop, length-take-le, take-append-drop, slice_index, drop-drop, Option, Some, None}
-use Rattle.std.proofs.lemmas.Bool.{and_parts, eqb-true, false_from_ne_true, true_from_ne_false, cases_lt}
+use Rattle.std.proofs.Common.{◌≡◌, ℕ, zero, suc, ◌+◌, ◌-◌, ◌≤◌, ◌<◌, ◌==◌, inl, inr, max, Bool, true, false, true≢false, if◌then◌else◌, List, [], ◌∷◌, ◌++◌, length, take, drop, codes, refl, sym, ap, ◌∙◌, subst, arith, length-drop, length-take-le, take-append-drop, slice_index, drop-drop, Option, Some, None}
+use Rattle.std.proofs.lemmas.Bool.{and_parts, false_from_ne_true, cases_lt}
 use Rattle.std.proofs.lemmas.List.{drop_all}
 use Rattle.std.specs.List.{list_all}
-use Rattle.rustc_lexer.specs.Classes.{is_among, is_horizontal_whitespace}
+use Rattle.rustc_lexer.specs.Classes.{is_horizontal_whitespace}
 use Rattle.rustc_lexer.specs.Comment.{is_no_newline}
-use Rattle.rustc_lexer.specs.Frontmatter.{newline, is_newline, dashes, first, line_end, past_newline, past_place, full_fence, short_fence, use_item, inner_doc, inner_attribute, places_from, places, line_start, stands_alone, first_alone, lone_dashes, first_some, recoveries, closing_end}
+use Rattle.rustc_lexer.specs.Frontmatter.{is_newline, dashes, first, past_newline, past_place, places_from, line_start, stands_alone, first_alone, first_some, closing_end}
 use Rattle.rustc_lexer.specs.laws.LanguageRuns.{run_len-here, run-stops, either-way}
-use Rattle.rustc_lexer.specs.laws.Reach.{begins-length, run_all, run_len_le, IsLeast, least-some, least-is}
-use Rattle.rustc_lexer.specs.Language as the
-use Rattle.rustc_lexer.specs.Language.{AreAll, Stops, fence, IsFirst, IsNowhere, LineOf, line, IsBlankBefore, from_start, from_line, IsLone, NoFence, NoRust, EndsAt}
+use Rattle.rustc_lexer.specs.laws.Reach.{begins-length, run_all, run_len_le, least-some, least-is}
+use Rattle.rustc_lexer.specs.FrontmatterGrammar as the
+use Rattle.rustc_lexer.specs.FrontmatterGrammar.{fence, IsFirst, IsNowhere, LineOf, line, IsBlankBefore, from_start, from_line, IsLone, NoFence, NoRust, EndsAt}
+use Rattle.rustc_lexer.specs.Spans.{AreAll}
 use Rattle.rustc_lexer.specs.Least.{one_more, least}
 use Rattle.rustc_lexer.specs.Scan.{begins, run_len}
 

@@ -19,7 +19,8 @@ use Rattle.rustc_lexer.specs.laws.LanguageRuns.{run_len-here, run-stops, Sound, 
 use Rattle.rustc_lexer.specs.laws.Lookahead.{line_doc_style-own}
 use Rattle.rustc_lexer.specs.laws.Reach.{run_all}
 use Rattle.rustc_lexer.specs.Language as the
-use Rattle.rustc_lexer.specs.Language.{AreAll, Goes, Stops, IsStyle, inner, outer, no_outer, no_mark, IsLineStyle, IsBlockStyle, Closes, IsTokenBefore, begins_more, is_inline}
+use Rattle.rustc_lexer.specs.Language.{IsStyle, inner, outer, no_outer, no_mark, IsLineStyle, IsBlockStyle, Closes, IsTokenBefore, begins_more}
+use Rattle.rustc_lexer.specs.Spans.{AreAll, Goes, Stops, is_inline}
 use Rattle.rustc_lexer.specs.Lexeme.{whitespace, symbol, symbol_kind}
 use Rattle.rustc_lexer.specs.Scan.{after, begins, gives, next_is, run_len}
 

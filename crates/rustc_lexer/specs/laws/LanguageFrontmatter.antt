@@ -1,15 +1,15 @@
 -- The opening of a frontmatter is in its language, and what is there is read so.
-use Rattle.std.proofs.Common.{◌≡◌, ℕ, zero, suc, ◌+◌, ◌≤◌, ◌==◌, ◌&&◌, ◌||◌, not, Bool, true, false, true≢false, if◌then◌else◌, List, [], ◌∷◌, ◌++◌, length, take, drop, codes, refl, sym, ap, ◌∙◌, subst, arith, append_assoc, length-append, take-append-drop}
+use Rattle.std.proofs.Common.{◌≡◌, ℕ, zero, suc, ◌+◌, ◌≤◌, ◌==◌, not, Bool, true, false, true≢false, if◌then◌else◌, List, [], ◌∷◌, ◌++◌, length, take, drop, codes, refl, sym, ap, ◌∙◌, arith, append_assoc, length-append, take-append-drop}
 use Rattle.std.proofs.Math.Seq.{take-append_seam, drop-append_seam}
-use Rattle.std.proofs.lemmas.Bool.{and_parts, and_from, eqb-true, or_parts, not-true, false_from_ne_true}
-use Rattle.std.specs.List.{list_all}
+use Rattle.std.proofs.lemmas.Bool.{and_parts, eqb-true, or_parts, not-true, false_from_ne_true}
 use Rattle.unicode_ident.proofs.Computing.{unicode_ident}
 use Rattle.rustc_lexer.specs.Classes.{is_among, is_whitespace, is_horizontal_whitespace, is_id_start}
-use Rattle.rustc_lexer.specs.Frontmatter.{is_newline, is_dash, dashes, then_len, spaces_len, fence_len, blanks_len, is_infostring, infostring_len, label_len, opening_len, ends_line, opens}
-use Rattle.rustc_lexer.specs.laws.LanguageRuns.{run_len-here, run-stops, either-way, none-among, apart}
+use Rattle.rustc_lexer.specs.Frontmatter.{is_dash, dashes, then_len, spaces_len, fence_len, blanks_len, is_infostring, infostring_len, label_len, opening_len, ends_line, opens}
+use Rattle.rustc_lexer.specs.laws.LanguageRuns.{run_len-here, run-stops, either-way, none-among}
 use Rattle.rustc_lexer.specs.laws.Reach.{run_all, run_len-in, run_len-out}
-use Rattle.rustc_lexer.specs.Language as the
-use Rattle.rustc_lexer.specs.Language.{AreAll, Goes, Stops, is_info, fence, IsLabelBefore, IsOpeningBefore, OpensNone}
+use Rattle.rustc_lexer.specs.FrontmatterGrammar as the
+use Rattle.rustc_lexer.specs.FrontmatterGrammar.{is_info, fence, IsLabelBefore, IsOpeningBefore, OpensNone}
+use Rattle.rustc_lexer.specs.Spans.{AreAll, Stops}
 use Rattle.rustc_lexer.specs.Scan.{begins, next_is, run_len}
 
 -- ---- classes

@@ -20,7 +20,8 @@ use Rattle.rustc_lexer.specs.laws.LanguageWords.{marked-sound}
 use Rattle.rustc_lexer.specs.laws.Lifetime.{raw, quoted_name, unquoted_name}
 use Rattle.rustc_lexer.specs.laws.Reach.{run_all}
 use Rattle.rustc_lexer.specs.Language as the
-use Rattle.rustc_lexer.specs.Language.{AreAll, Goes, Stops, bytes, is_word, is_word_start, is_name_start, is_mark, begins_ident_past, QuotedTo, ends, plain, escape, IsSingleQuoted, IsTokenBefore, IsLiteralBefore}
+use Rattle.rustc_lexer.specs.Language.{is_word, is_word_start, is_name_start, is_mark, begins_ident_past, QuotedTo, ends, plain, escape, IsSingleQuoted, IsTokenBefore, IsLiteralBefore}
+use Rattle.rustc_lexer.specs.Spans.{AreAll, Goes, Stops, bytes}
 use Rattle.rustc_lexer.specs.Lifetime.{is_marked, past_name, plain_lifetime, lifetime, is_character, is_raw, lifetime_or_char}
 use Rattle.rustc_lexer.specs.Literal.{Body, literal}
 use Rattle.rustc_lexer.specs.Quoted.{single_quoted_string, char_body}

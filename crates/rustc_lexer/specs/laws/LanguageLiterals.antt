@@ -28,7 +28,8 @@ use Rattle.rustc_lexer.specs.laws.Number.{number_kind_local}
 use Rattle.rustc_lexer.specs.laws.NumberLongest.{numbers-longest}
 use Rattle.rustc_lexer.specs.laws.Reach.{run_all}
 use Rattle.rustc_lexer.specs.Language as the
-use Rattle.rustc_lexer.specs.Language.{AreAll, Goes, Stops, bytes, begins_ident_past, guard, IsDoubleQuoted, IsSingleQuoted, IsRaw, IsLiteralBefore, IsSuffixBefore, IsTokenBefore}
+use Rattle.rustc_lexer.specs.Language.{begins_ident_past, guard, IsDoubleQuoted, IsSingleQuoted, IsRaw, IsLiteralBefore, IsSuffixBefore, IsTokenBefore}
+use Rattle.rustc_lexer.specs.Spans.{Goes, bytes}
 use Rattle.rustc_lexer.specs.Lexeme.{is_raw_mark, word}
 use Rattle.rustc_lexer.specs.Literal.{Body, suffix_len, suffixed, literal_past, literal}
 use Rattle.rustc_lexer.specs.Number.{with_suffix, number_kind, number_body, number}

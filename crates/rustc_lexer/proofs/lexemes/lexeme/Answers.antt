@@ -1,4 +1,3 @@
-use Rattle.rustc_lexer.specs.laws.LanguageFrontmatter.{opened}
 use Rattle.rustc_lexer.specs.laws.Language.{language}
 use Rattle.rustc_lexer.specs.laws.Lookahead.{lexeme_local, first_token_grammar}
 use Rattle.rustc_lexer.proofs.lexemes.lexeme.Goals as goal
