@@ -8,7 +8,7 @@ use Rattle.rustc_lexer.specs.declared.token.FrontmatterAllowed.{FrontmatterAllow
 use Rattle.rustc_lexer.specs.declared.token.FrontmatterAllowed.TheVariants.{Yes, No}
 use Rattle.rustc_lexer.specs.declared.token.Token.{Token}
 use Rattle.rustc_lexer.specs.declared.token.TokenKind.{TokenKind}
-use Rattle.rustc_lexer.specs.declared.token.TokenKind.TheVariants.{Frontmatter, Eof}
+use Rattle.rustc_lexer.specs.declared.token.TokenKind.TheVariants.{Whitespace, Frontmatter, Eof}
 use Rattle.rustc_lexer.specs.Classes.{is_among, is_whitespace}
 use Rattle.rustc_lexer.specs.Frontmatter.{is_newline, fence_len, opening_len, opens, closing_end, past_opening, frontmatter}
 use Rattle.rustc_lexer.specs.laws.Language.{lexeme-sound, token-read}
@@ -17,7 +17,7 @@ use Rattle.rustc_lexer.specs.laws.LanguageFrontmatter.{fence-length, opening-rea
 use Rattle.rustc_lexer.specs.laws.LanguageLiterals.{bytes-append}
 use Rattle.rustc_lexer.specs.laws.TokenBy.{scalars-take, scalars-drop}
 use Rattle.rustc_lexer.specs.FrontmatterGrammar.{fence, IsOpeningBefore, opening, EndsAt}
-use Rattle.rustc_lexer.specs.Language.{IsTokenBefore, AreTokens, nothing, something, frontmatter_first, AreTheTokens, IsTokenOf, TakesTokenOf}
+use Rattle.rustc_lexer.specs.Language.{allowed_past, IsTokenBefore, AreTokens, nothing, something, frontmatter_first, AreTheTokens, IsTokenOf, TakesTokenOf}
 use Rattle.rustc_lexer.specs.Spans.{bytes}
 use Rattle.rustc_lexer.specs.Lexeme.{past_first, lexeme, first_token}
 use Rattle.rustc_lexer.specs.Scan.{bytes_of, next_is, past}
@@ -26,6 +26,7 @@ use Rattle.rustc_lexer.specs.Texts.{IsText}
 use Rattle.rustc_lexer.specs.Tokens.{tokens_of}
 use Rattle.rustc_lexer.proofs.FrontmatterLemmas.{closing_end-boundary, closing_end-inside}
 use Rattle.rustc_lexer.proofs.StateLemmas.{state, advance-end, first-advanced}
+use Rattle.rustc_lexer.proofs.TextLemmas.{first_token-not_end}
 use Rattle.rustc_lexer.proofs.TokensLemmas.{token_at-cuts, by_tokens, tokens-nil, tokens-cons}
 
 -- ---- texts and characters
@@ -106,6 +107,12 @@ frontmatter-is text n front rest is e is_opening =
     ∙ (ap (λ (k : ℕ). let t : Token = record { kind = Frontmatter (next_is is_whitespace front) (not (next_is (is_among (codes "\n")) rest)); len = k + closing_end (fence_len (chars text)) (past_opening text) } in t) size
     ∙ ap (λ (k : ℕ). let t : Token = record { kind = Frontmatter (next_is is_whitespace front) (not (next_is (is_among (codes "\n")) rest)); len = bytes front + k } in t) closes))
 
+-- past what is not the end
+same-allowed : (allowed : FrontmatterAllowed) (kind : TokenKind) → (kind ≡ Eof → ⊥) → allowed_past allowed kind ≡ allowed_after allowed kind
+same-allowed allowed Whitespace some = refl
+same-allowed allowed Eof some = absurd (some refl)
+same-allowed allowed kind some = refl
+
 -- one token more
 step : (allowed : FrontmatterAllowed) (text w next : List ℕ) (token : Token) (tokens : List Token) → IsText text → 0 < length w → chars text ≡ w ++ next → token_at allowed text ≡ token → token.len ≡ bytes w
     → ((u : List ℕ) → IsText u → chars u ≡ next → tokens_of (allowed_after allowed token.kind) u ≡ tokens) → tokens_of allowed text ≡ token ∷ tokens
@@ -121,7 +128,8 @@ step allowed text w next token tokens is lt e f len rest =
 tokens-read : {allowed : FrontmatterAllowed} {cs : List ℕ} {tokens : List Token} → AreTokens allowed cs tokens → (text : List ℕ) → IsText text → chars text ≡ cs → tokens_of allowed text ≡ tokens
 tokens-read (nothing {allowed}) text is e = ap (tokens_of allowed) (empty-text text is e) ∙ tokens-nil allowed
 tokens-read (something {allowed} {kind} {c} {w} {next} {tokens} p free rest) text is e =
-    step allowed text (c ∷ w) next (record { kind = kind; len = bytes (c ∷ w) }) tokens is (omega arith) e (at-first allowed text (λ y. ap opens e ∙ none-opens (c ∷ w ++ next) (free y)) ∙ first-is p text e) refl (λ u text_u f. tokens-read rest u text_u f)
+    step allowed text (c ∷ w) next (record { kind = kind; len = bytes (c ∷ w) }) tokens is (omega arith) e (at-first allowed text (λ y. ap opens e ∙ none-opens (c ∷ w ++ next) (free y)) ∙ first-is p text e) refl
+    (λ u text_u f. ap (λ (a : FrontmatterAllowed). tokens_of a u) (sym (same-allowed allowed kind (λ end. first_token-not_end text is ((split text (c ∷ w) next is e).some (omega arith)) (ap (λ (t : Token). t.kind) (first-is p text e) ∙ end)))) ∙ tokens-read rest u text_u f)
 tokens-read (frontmatter_first {n} {front} {next} {tokens} body is_opening is_end rest) text is e =
     let len : bytes body ≡ closing_end n (encode_utf8_all (body ++ next)) = sym (ends-read is_end) in
     let r = opening-read is_opening in
@@ -148,7 +156,9 @@ lexeme-first allowed text (c ∷ s) is e some free rest =
     let left : chars (drop token.len text) ≡ drop m s = ap chars (ap (λ (t : Token). drop t.len text) same ∙ parts.left) ∙ parts.again in
     let kind : token.kind ≡ (past_first c s).0 = ap (λ (t : Token). t.kind) same in
     let tokens : List Token = tokens_of (allowed_after allowed token.kind) (drop token.len text) in
-    let rest_are : AreTokens (allowed_after allowed (past_first c s).0) (drop m s) tokens = subst (λ (k : TokenKind). AreTokens (allowed_after allowed k) (drop m s) tokens) kind (subst (λ (cs : List ℕ). AreTokens (allowed_after allowed token.kind) cs tokens) left rest) in
+    let not_end : (past_first c s).0 ≡ Eof → ⊥ = λ end. first_token-not_end text is some (kind ∙ end) in
+    let rest_after : AreTokens (allowed_after allowed (past_first c s).0) (drop m s) tokens = subst (λ (k : TokenKind). AreTokens (allowed_after allowed k) (drop m s) tokens) kind (subst (λ (cs : List ℕ). AreTokens (allowed_after allowed token.kind) cs tokens) left rest) in
+    let rest_are : AreTokens (allowed_past allowed (past_first c s).0) (drop m s) tokens = subst (λ (a : FrontmatterAllowed). AreTokens a (drop m s) tokens) (sym (same-allowed allowed (past_first c s).0 not_end)) rest_after in
     subst (λ (t : Token). AreTokens allowed (c ∷ s) (t ∷ tokens)) (sym same)
     (subst (λ (cs : List ℕ). AreTokens allowed cs (record { kind = (past_first c s).0; len = bytes (c ∷ take m s) } ∷ tokens)) whole (something (lexeme-sound (c ∷ s)) (λ y. opens-none (c ∷ take m s ++ drop m s) (ap opens (whole ∙ sym e) ∙ free y)) rest_are))
 

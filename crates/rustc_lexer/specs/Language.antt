@@ -20,7 +20,7 @@ use Rattle.rustc_lexer.specs.Lexeme.{lexeme}
 use Rattle.rustc_lexer.specs.NumberGrammar.{IsLongestNumber}
 use Rattle.rustc_lexer.specs.Scan.{begins, next_is}
 use Rattle.rustc_lexer.specs.Spans.{AreAll, Goes, Stops, bytes, is_inline}
-use Rattle.rustc_lexer.specs.State.{State, allowed_after}
+use Rattle.rustc_lexer.specs.State.{State}
 use Rattle.rustc_lexer.specs.Symbols.{symbol_kind}
 use Rattle.rustc_lexer.specs.Tokens.{tokens_of}
 
@@ -193,12 +193,17 @@ IsTokenOf text token = IsTokenBefore (chars (drop token.len text)) token.kind (c
 abbrev pub TakesTokenOf : State → Token → Type 0
 TakesTokenOf s token = s.pending ≡ 0 → (s.frontmatter_allowed ≡ Yes → OpensNone (chars s.rest)) → IsTokenOf s.rest token
 
+-- past white space a frontmatter may stand that might stand before it, and past nothing else
+abbrev pub allowed_past : FrontmatterAllowed → TokenKind → FrontmatterAllowed
+allowed_past allowed Whitespace = allowed
+allowed_past allowed kind = No
+
 -- the tokens of these characters: one that the language has, and the tokens of what follows it. Where one is allowed and
 -- opens, a frontmatter is first
 pub data AreTokens : FrontmatterAllowed → List ℕ → List Token → Type 0 where
   nothing : {allowed : FrontmatterAllowed} → AreTokens allowed [] []
   something : {allowed : FrontmatterAllowed} {kind : TokenKind} {c : ℕ} {w next : List ℕ} {tokens : List Token} → IsTokenBefore next kind (c ∷ w) → (allowed ≡ Yes → OpensNone (c ∷ w ++ next))
-      → AreTokens (allowed_after allowed kind) next tokens → AreTokens allowed (c ∷ w ++ next) (record { kind = kind; len = bytes (c ∷ w) } ∷ tokens)
+      → AreTokens (allowed_past allowed kind) next tokens → AreTokens allowed (c ∷ w ++ next) (record { kind = kind; len = bytes (c ∷ w) } ∷ tokens)
   frontmatter_first : {n : ℕ} {front next : List ℕ} {tokens : List Token} (body : List ℕ) → IsOpeningBefore (body ++ next) n front → EndsAt n (encode_utf8_all (body ++ next)) (bytes body) → AreTokens No next tokens
       → AreTokens Yes (front ++ (body ++ next)) (record { kind = Frontmatter (next_is is_whitespace front) (not (next_is (is_among (codes "\n")) (body ++ next))); len = bytes front + bytes body } ∷ tokens)
 
