@@ -31,20 +31,20 @@ use Rattle.rustc_lexer.proofs.TokensLemmas.{token_at-cuts, by_tokens, tokens-nil
 
 -- ---- texts and characters
 
-empty-text : (text : List ℕ) → IsText text → chars text ≡ [] → text ≡ []
+pub empty-text : (text : List ℕ) → IsText text → chars text ≡ [] → text ≡ []
 empty-text text is e = sym (encodes-chars text is.utf8) ∙ ap encode_utf8_all e
 
 -- a text in two parts
-record Split (text w next : List ℕ) : Type 0 where
-  left : drop (bytes w) text ≡ encode_utf8_all next
-  front : take (bytes w) text ≡ encode_utf8_all w
-  inside : bytes w ≤ length text
-  front_utf8 : IsUtf8 (encode_utf8_all w)
-  some : 0 < length w → 0 < length text
-  again : chars (encode_utf8_all next) ≡ next
-  again_front : chars (encode_utf8_all w) ≡ w
+pub record Split (text w next : List ℕ) : Type 0 where
+  pub left : drop (bytes w) text ≡ encode_utf8_all next
+  pub front : take (bytes w) text ≡ encode_utf8_all w
+  pub inside : bytes w ≤ length text
+  pub front_utf8 : IsUtf8 (encode_utf8_all w)
+  pub some : 0 < length w → 0 < length text
+  pub again : chars (encode_utf8_all next) ≡ next
+  pub again_front : chars (encode_utf8_all w) ≡ w
 
-split : (text w next : List ℕ) → IsText text → chars text ≡ w ++ next → Split text w next
+pub split : (text w next : List ℕ) → IsText text → chars text ≡ w ++ next → Split text w next
 split text w next is e =
     let whole : text ≡ encode_utf8_all w ++ encode_utf8_all next = sym (encodes-chars text is.utf8) ∙ (ap encode_utf8_all e ∙ encodes-append w next) in
     record {
@@ -59,7 +59,7 @@ split text w next is e =
 
 -- ---- a list that the language allows is the list of the tokens
 
-first-is : {next : List ℕ} {kind : TokenKind} {c : ℕ} {w : List ℕ} → IsTokenBefore next kind (c ∷ w) → (text : List ℕ) → chars text ≡ c ∷ w ++ next → first_token text ≡ record { kind = kind; len = bytes (c ∷ w) }
+pub first-is : {next : List ℕ} {kind : TokenKind} {c : ℕ} {w : List ℕ} → IsTokenBefore next kind (c ∷ w) → (text : List ℕ) → chars text ≡ c ∷ w ++ next → first_token text ≡ record { kind = kind; len = bytes (c ∷ w) }
 unfolding first_token
 first-is {next} {kind} {c} {w} p text e =
     ap (λ (cs : List ℕ). let t : Token = record { kind = (lexeme cs).0; len = bytes_of (lexeme cs).1 cs } in t) e

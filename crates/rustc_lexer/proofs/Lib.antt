@@ -21,6 +21,7 @@ pub mod IdentLemmas
 pub mod KernelLemmas
 pub mod LandmarkLemmas
 pub mod LaneLemmas
+pub mod LanguageInLemmas
 pub mod LanguageLemmas
 pub mod LexemeLemmas
 pub mod LifetimeLemmas

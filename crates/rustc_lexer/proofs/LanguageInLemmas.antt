@@ -1,0 +1,305 @@
+-- The tokens of a text in an edition are those that its language allows, and no other list of tokens is.
+use Rattle.std.proofs.Common.{◌≡◌, ℕ, zero, suc, ◌+◌, ◌<◌, ◌≤◌, ◌==◌, ◌||◌, not, nat_le, Bool, true, false, true≢false, List, [], ◌∷◌, ◌++◌, length, take, drop, codes, refl, sym, ap, ◌∙◌, subst, arith, rules, take-append-drop}
+use lib.Utf8.{encode}
+use Rattle.std.proofs.Math.Seq.{take-append_seam}
+use Rattle.std.proofs.lemmas.Bool.{and_parts, leb-true, leb-false}
+use Rattle.std.proofs.lemmas.Str.{chars-nil}
+use Rattle.std.specs.Char.{is_ascii_digit}
+use Rattle.std.specs.List.{list_all}
+use Rattle.std.specs.Str.{chars, encode_utf8_all}
+use Rattle.rustc_lexer.specs.declared.edition.Edition.{Edition}
+use Rattle.rustc_lexer.specs.declared.edition.Edition.TheVariants.{E2015, E2018, E2021, E2024}
+use Rattle.rustc_lexer.specs.declared.token.Token.{Token}
+use Rattle.rustc_lexer.specs.declared.token.TokenKind.{TokenKind}
+use Rattle.rustc_lexer.specs.declared.token.TokenKind.TheVariants.{Ident, UnknownPrefix, UnknownPrefixLifetime, RawLifetime, Lifetime, GuardedStrPrefix, Pound}
+use Rattle.rustc_lexer.specs.Classes.{is_among, is_id_start, is_id_continue, is_ident}
+use Rattle.rustc_lexer.specs.Cuts.{tokens_by}
+use Rattle.rustc_lexer.specs.Edition.{year, token, has_marked_name, before_2024, before_2021, changed, first_token_in, tokens_in}
+use Rattle.rustc_lexer.specs.Emoji.{is_emoji}
+use Rattle.rustc_lexer.specs.Language as the
+use Rattle.rustc_lexer.specs.Language.{is_word, is_word_start, begins_ident_past, IsTokenBefore}
+use Rattle.rustc_lexer.specs.LanguageIn.{since, IsTokenIn, kept, pound, ident, lifetime, lifetime_r, AreTokensIn, nothing, something, AreTheTokensIn, IsPage}
+use Rattle.rustc_lexer.specs.Lexeme.{past_first, lexeme, first_token, symbols, kind_among, symbol_kind}
+use Rattle.rustc_lexer.specs.Scan.{begins, bytes_of, next_is, run_len}
+use Rattle.rustc_lexer.specs.Spans.{AreAll, Goes, Stops, bytes}
+use Rattle.rustc_lexer.specs.Texts.{IsText, IsGrammar}
+use Rattle.rustc_lexer.specs.laws.Choice.{by_test}
+use Rattle.rustc_lexer.specs.laws.Edition.{edition_grammar}
+use Rattle.rustc_lexer.specs.laws.Language.{lexeme-sound}
+use Rattle.rustc_lexer.specs.laws.LanguageRuns.{word_start-no_digit, mark-stops, run_len-here}
+use Rattle.rustc_lexer.specs.laws.LanguageWords.{ident-start, marked-sound}
+use Rattle.rustc_lexer.proofs.CutLemmas.{past_first as text_past, shorter, tokens-nil, tokens-cons}
+use Rattle.rustc_lexer.proofs.LanguageLemmas.{empty-text, Split, split, first-is}
+
+-- ---- what an edition keeps
+
+oldest : (edition : Edition) → 2015 ≤ year edition
+oldest E2015 = omega arith
+oldest E2018 = omega arith
+oldest E2021 = omega arith
+oldest E2024 = omega arith
+
+keeps : (edition : Edition) (cs : List ℕ) (kind : TokenKind) (len : ℕ) → since kind ≤ year edition → changed edition cs (token kind len) ≡ token kind len
+keeps E2024 cs kind len le = refl
+keeps E2021 cs GuardedStrPrefix len le = absurd (omega (arith, le))
+keeps E2021 cs kind len le = refl
+keeps E2018 cs GuardedStrPrefix len le = absurd (omega (arith, le))
+keeps E2018 cs RawLifetime len le = absurd (omega (arith, le))
+keeps E2018 cs UnknownPrefix len le = absurd (omega (arith, le))
+keeps E2018 cs UnknownPrefixLifetime len le = absurd (omega (arith, le))
+keeps E2018 cs kind len le = refl
+keeps E2015 cs GuardedStrPrefix len le = absurd (omega (arith, le))
+keeps E2015 cs RawLifetime len le = absurd (omega (arith, le))
+keeps E2015 cs UnknownPrefix len le = absurd (omega (arith, le))
+keeps E2015 cs UnknownPrefixLifetime len le = absurd (omega (arith, le))
+keeps E2015 cs kind len le = refl
+
+guarded-cut : (edition : Edition) (cs : List ℕ) (len : ℕ) → year edition < 2024 → changed edition cs (token GuardedStrPrefix len) ≡ token Pound 1
+guarded-cut E2024 cs len lt = absurd (omega (arith, lt))
+guarded-cut E2021 cs len lt = refl
+guarded-cut E2018 cs len lt = refl
+guarded-cut E2015 cs len lt = refl
+
+before : (edition : Edition) (cs : List ℕ) (t : Token) → year edition < 2021 → changed edition cs t ≡ before_2021 cs t.kind t.len
+before E2024 cs t lt = absurd (omega (arith, lt))
+before E2021 cs t lt = absurd (omega (arith, lt))
+before E2018 cs t lt = refl
+before E2015 cs t lt = refl
+
+-- ---- the tokens that an edition may not keep, as they stand on the page
+
+data View (next : List ℕ) : TokenKind → List ℕ → Type 0 where
+  cut_hash : {c : ℕ} → View next GuardedStrPrefix (35 ∷ c ∷ [])
+  cut_raw : {w : List ℕ} → is_ident w ≡ true → View next RawLifetime (39 ∷ 114 ∷ 35 ∷ w)
+  name : {c : ℕ} {w : List ℕ} → is_word_start c ≡ true → AreAll is_word w → Goes (is_among (codes "#")) next → View next UnknownPrefixLifetime (39 ∷ c ∷ w)
+  prefix : {w : List ℕ} → View next UnknownPrefix w
+  other : {kind : TokenKind} {w : List ℕ} → since kind ≡ 2015 → View next kind w
+
+abbrev AllOld : List (ℕ × TokenKind) → Type 0
+AllOld [] = Unit {0}
+AllOld (s ∷ ss) = (since s.1 ≡ 2015) × AllOld ss
+
+among-old : (ss : List (ℕ × TokenKind)) (c : ℕ) → AllOld ss → since (kind_among ss c) ≡ 2015
+among-old [] c h = refl
+among-old (s ∷ ss) c h = by_test (λ kind. since kind ≡ 2015) (c == s.0) s.1 (kind_among ss c) (λ e. h.0) (λ e. among-old ss c h.1)
+
+symbol-old : (c : ℕ) → since (symbol_kind c) ≡ 2015
+symbol-old c = among-old symbols c (search rules)
+
+view : {next : List ℕ} {kind : TokenKind} {w : List ℕ} → IsTokenBefore next kind w → View next kind w
+view (the.end none) = other refl
+view (the.whitespace all stop) = other refl
+view (the.line_comment all stop is) = other refl
+view (the.block_comment p is) = other refl
+view (the.open_comment none never is) = other refl
+view (the.ident is stop none) = other refl
+view (the.unknown_prefix is goes free) = prefix
+view (the.invalid_ident start all wrong stop) = other refl
+view (the.raw_ident is stop) = other refl
+view (the.forced_keyword is stop) = other refl
+view (the.lifetime start all stop quote hash) = other refl
+view (the.unknown_prefix_lifetime start all hash free) = name start all hash
+view (the.raw_lifetime is stop) = cut_raw is
+view (the.literal is) = other refl
+view (the.literal_with is suffix_is) = other refl
+view (the.slash stop) = other refl
+view (the.pound stop) = other refl
+view (the.guarded is) = cut_hash
+view (the.symbol {c} is) = other (symbol-old c)
+
+hash-mark : (s : List ℕ) → Goes (is_among (codes "#")) s → Stops is_word s
+hash-mark [] e = refl
+hash-mark (c ∷ s) e = mark-stops (c ∷ s) (by_bool (c == 35) e)
+  where
+    by_bool : (b : Bool) → (b || false) ≡ true → (b || is_among (codes "\"'") c) ≡ true
+    by_bool true e = refl
+    by_bool false e = absurd (true≢false (sym e))
+
+-- whether a name is marked
+name-marked : (c : ℕ) (w next : List ℕ) → is_word_start c ≡ true → AreAll is_word w → Goes (is_among (codes "#")) next → has_marked_name (39 ∷ c ∷ w ++ next) ≡ (is_emoji c || not (list_all is_id_continue w))
+name-marked c w next start all hash =
+    ap (λ (b : Bool). b || is_emoji c || not (list_all is_id_continue (take (run_len is_word (w ++ next)) (w ++ next)))) (word_start-no_digit c start)
+    ∙ (ap (λ (n : ℕ). is_emoji c || not (list_all is_id_continue (take n (w ++ next)))) (run_len-here is_word w next all (hash-mark next hash))
+    ∙ ap (λ (v : List ℕ). is_emoji c || not (list_all is_id_continue v)) (take-append_seam w next))
+
+lifetime-marked : {next : List ℕ} {kind : TokenKind} {c : ℕ} {w : List ℕ} → View next kind (39 ∷ c ∷ w) → kind ≡ UnknownPrefixLifetime → has_marked_name (39 ∷ c ∷ w ++ next) ≡ (is_emoji c || not (list_all is_id_continue w))
+lifetime-marked {next} {kind} {c} {w} (cut_raw is) e = absurd (cc e)
+lifetime-marked {next} {kind} {c} {w} (name start all hash) e = name-marked c w next start all hash
+lifetime-marked {next} {kind} {c} {w} prefix e = absurd (cc e)
+lifetime-marked {next} {kind} {c} {w} (other old) e = absurd (let n : 2021 ≡ 2015 = sym (ap since e) ∙ old in omega (arith, n))
+
+-- ---- a token of an edition is what is read in it
+
+hash-one : bytes (35 ∷ []) ≡ 1
+unfolding encode
+hash-one = refl
+
+r-two : bytes (39 ∷ 114 ∷ []) ≡ 2
+unfolding encode
+r-two = refl
+
+-- a raw lifetime stands where one begins
+abbrev IsRawBefore : List ℕ → List ℕ → Type 0
+IsRawBefore next w = IsTokenBefore next RawLifetime (39 ∷ 114 ∷ w)
+
+raw-first : (next text : List ℕ) → chars text ≡ 39 ∷ 114 ∷ next → begins_ident_past (codes "#") next ≡ true → (first_token text).kind ≡ RawLifetime
+raw-first next text e goes =
+    let n : ℕ = 2 + run_len is_id_continue (drop 2 next) in
+    ap (λ (t : Token). t.kind) (first-is (marked-sound IsRawBefore (λ w rest is stop. the.raw_lifetime is stop) next goes) text (e ∙ ap (λ (u : List ℕ). 39 ∷ 114 ∷ u) (sym (take-append-drop n next))))
+
+token-read-in : {edition : Edition} {next : List ℕ} {kind : TokenKind} {c : ℕ} {w : List ℕ} → IsTokenIn edition next kind (c ∷ w) → (text : List ℕ) → chars text ≡ c ∷ w ++ next → first_token_in edition text ≡ token kind (bytes (c ∷ w))
+token-read-in {edition} {next} {kind} {c} {w} (kept le p) text e = ap (changed edition (chars text)) (first-is p text e) ∙ keeps edition (chars text) kind (bytes (c ∷ w)) le
+token-read-in {edition} {next} (pound lt) text e = by_next next e ∙ ap (token Pound) (sym hash-one)
+  where
+    by_next : (s : List ℕ) → chars text ≡ 35 ∷ s → first_token_in edition text ≡ token Pound 1
+    by_next s f = by_bool (next_is (is_among (codes "\"#")) s) refl
+      where
+        guarded : (u : List ℕ) → chars text ≡ 35 ∷ u → next_is (is_among (codes "\"#")) u ≡ true → first_token_in edition text ≡ token Pound 1
+        guarded [] g b = absurd (true≢false (sym b))
+        guarded (d ∷ u) g b = ap (changed edition (chars text)) (first-is {next = u} (the.guarded {c = d} b) text g) ∙ guarded-cut edition (chars text) (bytes (35 ∷ d ∷ [])) lt
+
+        by_bool : (b : Bool) → next_is (is_among (codes "\"#")) s ≡ b → first_token_in edition text ≡ token Pound 1
+        by_bool true b = guarded s f b
+        by_bool false b = ap (changed edition (chars text)) (first-is {next = s} (the.pound b) text f) ∙ (keeps edition (chars text) Pound (bytes (35 ∷ [])) (oldest edition) ∙ ap (token Pound) hash-one)
+token-read-in {edition} {next} {kind} {c} {w} (ident lt p) text e = ap (changed edition (chars text)) (first-is p text e) ∙ before edition (chars text) (token UnknownPrefix (bytes (c ∷ w))) lt
+token-read-in {edition} {next} (lifetime {c} {w} lt p) text e =
+    ap (changed edition (chars text)) (first-is p text e) ∙ (before edition (chars text) (token UnknownPrefixLifetime (bytes (39 ∷ c ∷ w))) lt
+    ∙ ap (λ (b : Bool). token (Lifetime b) (bytes (39 ∷ c ∷ w))) (ap has_marked_name e ∙ lifetime-marked (view p) refl))
+token-read-in {edition} {next} (lifetime_r lt goes) text e =
+    before edition (chars text) (first_token text) lt ∙ (ap (λ (k : TokenKind). before_2021 (chars text) k (first_token text).len) (raw-first next text e goes) ∙ ap (token (Lifetime false)) (sym r-two))
+
+-- ---- what is read in an edition is a token of it
+
+-- a token, and the front of these characters that it is
+record Front (edition : Edition) (cs : List ℕ) (t : Token) : Type 0 where
+  kind : TokenKind
+  c : ℕ
+  w : List ℕ
+  next : List ℕ
+  whole : c ∷ w ++ next ≡ cs
+  same : t ≡ token kind (bytes (c ∷ w))
+  is : IsTokenIn edition next kind (c ∷ w)
+
+abbrev Fronts : Edition → List ℕ → TokenKind → ℕ → List ℕ → Type 0
+Fronts edition next kind c w = Front edition (c ∷ w ++ next) (changed edition (c ∷ w ++ next) (token kind (bytes (c ∷ w))))
+
+keep : (edition : Edition) (next : List ℕ) (kind : TokenKind) (c : ℕ) (w : List ℕ) → since kind ≤ year edition → IsTokenBefore next kind (c ∷ w) → Fronts edition next kind c w
+keep edition next kind c w le p = record { kind = kind; c = c; w = w; next = next; whole = refl; same = keeps edition (c ∷ w ++ next) kind (bytes (c ∷ w)) le; is = kept le p }
+
+goes-name : (w next : List ℕ) → is_ident w ≡ true → begins_ident_past (codes "#") (35 ∷ w ++ next) ≡ true
+goes-name [] next is = absurd (true≢false (sym is))
+goes-name (c ∷ w) next is = (and_parts (is_id_start c) (list_all is_id_continue w) is).0
+
+-- by which of them an edition has
+by_year : {A : Type 0} (a b : ℕ) → (a ≤ b → A) → (b < a → A) → A
+by_year {A} a b le lt = by_bool (nat_le a b) refl
+  where
+    by_bool : (t : Bool) → nat_le a b ≡ t → A
+    by_bool true e = le (leb-true a b e)
+    by_bool false e = lt (leb-false a b e)
+
+fronts : {next : List ℕ} {kind : TokenKind} {c : ℕ} {w : List ℕ} (edition : Edition) → View next kind (c ∷ w) → IsTokenBefore next kind (c ∷ w) → Fronts edition next kind c w
+fronts {next} {kind} {c} {w} edition (other old) p = keep edition next kind c w (let le = oldest edition in omega (arith, old)) p
+fronts {next} edition (cut_hash {c}) p = by_year 2024 (year edition) (λ le. keep edition next GuardedStrPrefix 35 (c ∷ []) le p) (λ lt. record {
+  kind = Pound;
+  c = 35;
+  w = [];
+  next = c ∷ next;
+  whole = refl;
+  same = guarded-cut edition (35 ∷ c ∷ next) (bytes (35 ∷ c ∷ [])) lt ∙ ap (token Pound) (sym hash-one);
+  is = pound lt;
+})
+fronts {next} edition (cut_raw {w} is) p = by_year 2021 (year edition) (λ le. keep edition next RawLifetime 39 (114 ∷ 35 ∷ w) le p) (λ lt. record {
+  kind = Lifetime false;
+  c = 39;
+  w = 114 ∷ [];
+  next = 35 ∷ w ++ next;
+  whole = refl;
+  same = before edition (39 ∷ 114 ∷ 35 ∷ w ++ next) (token RawLifetime (bytes (39 ∷ 114 ∷ 35 ∷ w))) lt ∙ ap (token (Lifetime false)) (sym r-two);
+  is = lifetime_r lt (goes-name w next is);
+})
+fronts {next} edition (name {c} {w} start all hash) p = by_year 2021 (year edition) (λ le. keep edition next UnknownPrefixLifetime 39 (c ∷ w) le p) (λ lt. record {
+  kind = Lifetime (is_emoji c || not (list_all is_id_continue w));
+  c = 39;
+  w = c ∷ w;
+  next = next;
+  whole = refl;
+  same = before edition (39 ∷ c ∷ w ++ next) (token UnknownPrefixLifetime (bytes (39 ∷ c ∷ w))) lt ∙ ap (λ (b : Bool). token (Lifetime b) (bytes (39 ∷ c ∷ w))) (name-marked c w next start all hash);
+  is = lifetime lt p;
+})
+fronts {next} {kind} {c} {w} edition prefix p = by_year 2021 (year edition) (λ le. keep edition next UnknownPrefix c w le p) (λ lt. record {
+  kind = Ident;
+  c = c;
+  w = w;
+  next = next;
+  whole = refl;
+  same = before edition (c ∷ w ++ next) (token UnknownPrefix (bytes (c ∷ w))) lt;
+  is = ident lt p;
+})
+
+first-front : (edition : Edition) (text cs : List ℕ) → IsText text → 0 < length text → chars text ≡ cs → Front edition (chars text) (first_token_in edition text)
+unfolding first_token
+first-front edition text [] is some e = absurd (omega (arith, ap length (empty-text text is e)))
+first-front edition text (c ∷ s) is some e =
+    let m : ℕ = (past_first c s).1 in
+    let p : IsTokenBefore (drop m s) (past_first c s).0 (c ∷ take m s) = lexeme-sound (c ∷ s) in
+    let there : Fronts edition (drop m s) (past_first c s).0 c (take m s) = fronts edition (view p) p in
+    let here : Front edition (c ∷ s) (changed edition (c ∷ s) (token (past_first c s).0 (bytes (c ∷ take m s)))) =
+    subst (λ (u : List ℕ). Front edition (c ∷ u) (changed edition (c ∷ u) (token (past_first c s).0 (bytes (c ∷ take m s))))) (take-append-drop m s) there in
+    subst (λ (cs : List ℕ). Front edition cs (changed edition cs (token (lexeme cs).0 (bytes_of (lexeme cs).1 cs)))) (sym e) here
+
+-- ---- texts
+
+-- what is left past the first token
+left-is : (edition : Edition) (text w next : List ℕ) (kind : TokenKind) → IsText text → chars text ≡ w ++ next → first_token_in edition text ≡ token kind (bytes w) → drop (first_token_in edition text).len text ≡ encode_utf8_all next
+left-is edition text w next kind is e f = ap (λ (t : Token). drop t.len text) f ∙ (split text w next is e).left
+
+tokens-read-in : {edition : Edition} {cs : List ℕ} {tokens : List Token} → AreTokensIn edition cs tokens → (text : List ℕ) → IsText text → chars text ≡ cs → tokens_in edition text ≡ tokens
+tokens-read-in {edition} nothing text is e = ap (tokens_in edition) (empty-text text is e) ∙ tokens-nil (first_token_in edition)
+tokens-read-in {edition} (something {kind} {c} {w} {next} {tokens} p rest) text is e =
+    let law : IsGrammar (first_token_in edition) = edition_grammar edition in
+    let parts = split text (c ∷ w) next is e in
+    let some : 0 < length text = parts.some (omega arith) in
+    let same : first_token_in edition text ≡ token kind (bytes (c ∷ w)) = token-read-in p text e in
+    let left : drop (first_token_in edition text).len text ≡ encode_utf8_all next = left-is edition text (c ∷ w) next kind is e same in
+    tokens-cons law text is some
+    ∙ (ap (λ (t : Token). t ∷ tokens_in edition (drop (first_token_in edition text).len text)) same
+    ∙ ap (λ (ts : List Token). token kind (bytes (c ∷ w)) ∷ ts) (ap (tokens_in edition) left ∙ tokens-read-in rest (encode_utf8_all next) (subst IsText left (text_past law text is some)) parts.again))
+
+tokens-are-in : (edition : Edition) (n : ℕ) (text : List ℕ) → IsText text → length text ≤ n → AreTokensIn edition (chars text) (tokens_in edition text)
+tokens-are-in edition n [] is le = rw (tokens-nil (first_token_in edition)) (subst (λ (cs : List ℕ). AreTokensIn edition cs []) (sym chars-nil) nothing)
+tokens-are-in edition zero (b ∷ bs) is le = absurd (omega (arith, le))
+tokens-are-in edition (suc n) (b ∷ bs) is le =
+    let text : List ℕ = b ∷ bs in
+    let law : IsGrammar (first_token_in edition) = edition_grammar edition in
+    let some : 0 < length text = omega arith in
+    let f = first-front edition text (chars text) is some refl in
+    let parts = split text (f.c ∷ f.w) f.next is (sym f.whole) in
+    let left : drop (first_token_in edition text).len text ≡ encode_utf8_all f.next = left-is edition text (f.c ∷ f.w) f.next f.kind is (sym f.whole) f.same in
+    let less = shorter law text is some in
+    let rest : AreTokensIn edition (chars (drop (first_token_in edition text).len text)) (tokens_in edition (drop (first_token_in edition text).len text)) = tokens-are-in edition n (drop (first_token_in edition text).len text) (text_past law text is some) (omega (arith, le)) in
+    let rest_are : AreTokensIn edition f.next (tokens_in edition (drop (first_token_in edition text).len text)) = subst (λ (cs : List ℕ). AreTokensIn edition cs (tokens_in edition (drop (first_token_in edition text).len text))) (ap chars left ∙ parts.again) rest in
+    rw (tokens-cons law text is some) (subst (λ (cs : List ℕ). AreTokensIn edition cs (first_token_in edition text ∷ tokens_in edition (drop (first_token_in edition text).len text))) f.whole
+    (subst (λ (t : Token). AreTokensIn edition (f.c ∷ f.w ++ f.next) (t ∷ tokens_in edition (drop (first_token_in edition text).len text))) (sym f.same) (something f.is rest_are)))
+
+-- these and no others
+pub language-in : (edition : Edition) (text : List ℕ) → IsText text → AreTheTokensIn edition text
+language-in edition text is tokens = (λ are. sym (tokens-read-in are text is refl), λ e. subst (AreTokensIn edition (chars text)) (sym e) (tokens-are-in edition (length text) text is (omega arith)))
+
+-- the newest edition has the page
+on-page : {edition : Edition} {next : List ℕ} {kind : TokenKind} {w : List ℕ} → year edition ≡ 2024 → IsTokenIn edition next kind w → IsTokenBefore next kind w
+on-page e (kept le p) = p
+on-page e (pound lt) = absurd (omega (arith, e, lt))
+on-page e (ident lt p) = absurd (omega (arith, e, lt))
+on-page e (lifetime lt p) = absurd (omega (arith, e, lt))
+on-page e (lifetime_r lt goes) = absurd (omega (arith, e, lt))
+
+newest : (kind : TokenKind) → since kind ≤ 2024
+newest GuardedStrPrefix = omega arith
+newest RawLifetime = omega arith
+newest UnknownPrefix = omega arith
+newest UnknownPrefixLifetime = omega arith
+newest kind = omega arith
+
+pub page-in : (edition : Edition) → IsPage edition
+page-in edition e next w kind = (on-page (ap year e), λ p. kept (subst (λ (x : Edition). since kind ≤ year x) (sym e) (newest kind)) p)
