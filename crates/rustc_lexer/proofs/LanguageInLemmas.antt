@@ -1,5 +1,5 @@
 -- The tokens of a text in an edition are those that its language allows, and no other list of tokens is.
-use Rattle.std.proofs.Common.{◌≡◌, ℕ, zero, suc, ◌+◌, ◌<◌, ◌≤◌, ◌==◌, ◌||◌, not, nat_le, Bool, true, false, true≢false, List, [], ◌∷◌, ◌++◌, length, take, drop, codes, refl, sym, ap, ◌∙◌, subst, arith, rules, take-append-drop}
+use Rattle.std.proofs.Common.{◌≡◌, ℕ, zero, suc, ◌+◌, ◌<◌, ◌≤◌, ◌==◌, ◌||◌, not, nat_le, Bool, true, false, true≢false, List, [], ◌∷◌, ◌++◌, length, take, drop, codes, refl, sym, ap, ◌∙◌, subst, arith, rules, take-append-drop, Result, Ok, Err, IfOk}
 use lib.Utf8.{encode}
 use Rattle.std.proofs.Math.Seq.{take-append_seam}
 use Rattle.std.proofs.lemmas.Bool.{and_parts, leb-true, leb-false}
@@ -303,3 +303,11 @@ newest kind = omega arith
 
 pub page-in : (edition : Edition) → IsPage edition
 page-in edition e next w kind = (on-page (ap year e), λ p. kept (subst (λ (x : Edition). since kind ≤ year x) (sym e) (newest kind)) p)
+
+-- tokens that are those of the text
+pub are-in : (edition : Edition) (text : List ℕ) → IsText text → (tokens : List Token) → tokens ≡ tokens_in edition text → AreTokensIn edition (chars text) tokens
+are-in edition text is tokens e = (language-in edition text is tokens).1 e
+
+pub IfOk-two : {X Y : Type 0} (r : Result X Y) (P Q R : X → Type 0) → ((x : X) → P x → Q x → R x) → IfOk r P → IfOk r Q → IfOk r R
+IfOk-two (Ok x) P Q R f p q = f x p q
+IfOk-two (Err e) P Q R f p q = p

@@ -1,8 +1,10 @@
 //! A text that is kept with its tokens in an edition.
 ghost use Rattle.std.specs.Prelude.{◌≡◌, IfOk, OnErr, OnOk, length};
+ghost use Rattle.std.specs.Str.{chars};
 ghost use Rattle.rustc_lexer.specs.declared.edition.Edition.{Edition};
 ghost use Rattle.rustc_lexer.specs.Classes.{Fits};
 ghost use Rattle.rustc_lexer.specs.Edition.{first_token_in, tokens_in, year};
+ghost use Rattle.rustc_lexer.specs.LanguageIn.{AreTokensIn};
 
 use crate::edition::Edition;
 use crate::entry::stepper::{Stepper, Steps};
@@ -22,6 +24,7 @@ impl LexedText<Steps> {
         ensures from_scratch { IfOk result (λ l. l.tokens ≡ tokens_in edition text.now) }
         ensures grammar { IfOk result
             (λ l. ⟦<Steps as Stepper>⟧.grammar l.stepper ≡ first_token_in edition) }
+        ensures language { IfOk result (λ l. AreTokensIn edition (chars text.now) l.tokens) }
         ensures number { IfOk result (λ l. ⟦<Steps as Stepper>⟧.number l.stepper ≡ year edition) }
         ensures count { IfOk result (λ l. ⟦<Steps as Stepper>⟧.count l.stepper ≡ length l.tokens) }
     {
