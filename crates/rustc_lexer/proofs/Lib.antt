@@ -23,6 +23,7 @@ pub mod LandmarkLemmas
 pub mod LaneLemmas
 pub mod LanguageInLemmas
 pub mod LanguageLemmas
+pub mod LanguageRefusals
 pub mod LexemeLemmas
 pub mod LifetimeLemmas
 pub mod LiteralLemmas

@@ -17,6 +17,7 @@ pub mod Held
 pub mod Ident
 pub mod Landmarks
 pub mod Language
+pub mod LanguageCalls
 pub mod LanguageIn
 pub mod Least
 pub mod Lexeme

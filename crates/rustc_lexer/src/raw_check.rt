@@ -1,6 +1,7 @@
 //! The check of a raw string.
 ghost use Rattle.std.specs.Prelude.{◌≡◌, ◌<◌, ◌↔◌, length, IsTrue};
 ghost use Rattle.rustc_lexer.specs.Classes.{Fits};
+ghost use Rattle.rustc_lexer.specs.LanguageCalls.{IsTheRawAnswer};
 ghost use Rattle.rustc_lexer.specs.Raw as spec;
 ghost use Rattle.rustc_lexer.specs.Scan.{past};
 
@@ -35,7 +36,8 @@ pub fn starts_raw(input: &str, prefix_len: u32) -> bool
 pub fn validate_raw_str(input: &str, prefix_len: u32) -> Result<(), RawStrError>
     requires fits { Fits input.now }
     requires raw { spec.StartsRaw input.now prefix_len }
-    ensures { result ≡ spec.raw_check input.now prefix_len }
+    ensures check { result ≡ spec.raw_check input.now prefix_len }
+    ensures language { IsTheRawAnswer input.now prefix_len result }
 {
     let (read, _) = raw_double_quoted_string(past_chars(input, prefix_len), prefix_len);
     match read {

@@ -22,22 +22,22 @@ head-same c d s u e = ap (λ xs. get_or xs 0 0) e
 tail-same : (c d : ℕ) (s u : List ℕ) → c ∷ s ≡ d ∷ u → s ≡ u
 tail-same c d s u e = ap (drop 1) e
 
-guard-length : (n : ℕ) → length (guard n) ≡ n
+pub guard-length : (n : ℕ) → length (guard n) ≡ n
 guard-length zero = refl
 guard-length (suc n) = ap suc (guard-length n)
 
 -- hashes that no more of them follow
-guard-hashes : (n : ℕ) (v : List ℕ) → Stops is_hash v → hashes (guard n ++ v) ≡ n
+pub guard-hashes : (n : ℕ) (v : List ℕ) → Stops is_hash v → hashes (guard n ++ v) ≡ n
 guard-hashes zero [] stop = refl
 guard-hashes zero (c ∷ v) stop = rw stop refl
 guard-hashes (suc n) v stop = ap suc (guard-hashes n v stop)
 
-at_least : (n : ℕ) (v : List ℕ) → n ≤ hashes (guard n ++ v)
+pub at_least : (n : ℕ) (v : List ℕ) → n ≤ hashes (guard n ++ v)
 at_least zero v = omega arith
 at_least (suc n) v = omega (arith, at_least n v)
 
 -- where so many hashes stand
-split-hashes : (n : ℕ) (s : List ℕ) → n ≤ hashes s → s ≡ guard n ++ drop n s
+pub split-hashes : (n : ℕ) (s : List ℕ) → n ≤ hashes s → s ≡ guard n ++ drop n s
 split-hashes zero s le = refl
 split-hashes (suc n) [] le = absurd (omega arith)
 split-hashes (suc n) (c ∷ s) le = by_hash (split-hashes n s) (is_hash c) refl
@@ -49,11 +49,11 @@ split-hashes (suc n) (c ∷ s) le = by_hash (split-hashes n s) (is_hash c) refl
     by_hash ih false e = let none : hashes (c ∷ s) ≡ 0 = rw e refl in absurd (omega arith)
 
 -- and where a quote comes behind them, they stand before that
-record GuardBegins (n : ℕ) (w : List ℕ) : Type 0 where
-  rest : List ℕ
-  whole : w ≡ guard n ++ rest
+pub record GuardBegins (n : ℕ) (w : List ℕ) : Type 0 where
+  pub rest : List ℕ
+  pub whole : w ≡ guard n ++ rest
 
-before-quote : (n : ℕ) (w z : List ℕ) → n ≤ hashes (w ++ 34 ∷ z) → GuardBegins n w
+pub before-quote : (n : ℕ) (w z : List ℕ) → n ≤ hashes (w ++ 34 ∷ z) → GuardBegins n w
 before-quote zero w z le = record { rest = w; whole = refl }
 before-quote (suc n) [] z le = absurd (omega arith)
 before-quote (suc n) (c ∷ w) z le = by_hash (before-quote n w z) (is_hash c) refl
@@ -70,17 +70,17 @@ before-quote (suc n) (c ∷ w) z le = by_hash (before-quote n w z) (is_hash c) r
 closes-here : (n : ℕ) (v : List ℕ) → closes n (34 ∷ guard n ++ v) ≡ true
 closes-here n v = le-leb n (hashes (guard n ++ v)) (at_least n v)
 
-closes-quote : (n c : ℕ) (s : List ℕ) → closes n (c ∷ s) ≡ true → (c ≡ 34) × (n ≤ hashes s)
+pub closes-quote : (n c : ℕ) (s : List ℕ) → closes n (c ∷ s) ≡ true → (c ≡ 34) × (n ≤ hashes s)
 closes-quote n c s e = let parts = and_parts (is_quote c) (nat_le n (hashes s)) e in (eqb-true c 34 parts.0, leb-true n (hashes s) parts.1)
 
-lacks-rest : (n c : ℕ) (w : List ℕ) → Lacks n (c ∷ w) → Lacks n w
+pub lacks-rest : (n c : ℕ) (w : List ℕ) → Lacks n (c ∷ w) → Lacks n w
 lacks-rest n c w lacks u v e = lacks (c ∷ u) v (ap (λ (xs : List ℕ). c ∷ xs) e)
 
-lacks-front : (n c : ℕ) (w : List ℕ) → Lacks n (c ∷ w) → (g : GuardBegins n w) → c ≡ 34 → ⊥
+pub lacks-front : (n c : ℕ) (w : List ℕ) → Lacks n (c ∷ w) → (g : GuardBegins n w) → c ≡ 34 → ⊥
 lacks-front n c w lacks g e = lacks [] g.rest (ap (λ (x : ℕ). x ∷ w) e ∙ ap (λ (xs : List ℕ). 34 ∷ xs) g.whole)
 
 -- the first quote with its hashes
-close-read : (n : ℕ) (w next : List ℕ) → Lacks n w → close n (w ++ (34 ∷ guard n ++ next)) ≡ Some (length w)
+pub close-read : (n : ℕ) (w next : List ℕ) → Lacks n w → close n (w ++ (34 ∷ guard n ++ next)) ≡ Some (length w)
 close-read n [] next lacks = rw (closes-here n next) refl
 close-read n (c ∷ w) next lacks =
     let open_here : closes n (c ∷ w ++ (34 ∷ guard n ++ next)) ≡ false = false_from_ne_true (closes n (c ∷ w ++ (34 ∷ guard n ++ next))) (λ e.
@@ -88,7 +88,7 @@ close-read n (c ∷ w) next lacks =
     lacks-front n c w lacks (before-quote n w (guard n ++ next) parts.1) parts.0) in
     rw open_here (ap one_more (close-read n w next (lacks-rest n c w lacks)))
 
-unclosed-read : (n : ℕ) (w : List ℕ) → Lacks n w → close n w ≡ None
+pub unclosed-read : (n : ℕ) (w : List ℕ) → Lacks n w → close n w ≡ None
 unclosed-read n [] lacks = refl
 unclosed-read n (c ∷ w) lacks =
     let open_here : closes n (c ∷ w) ≡ false = false_from_ne_true (closes n (c ∷ w)) (λ e.
@@ -96,11 +96,11 @@ unclosed-read n (c ∷ w) lacks =
     lacks-front n c w lacks record { rest = drop n w; whole = split-hashes n w parts.1 } parts.0) in
     rw open_here (ap one_more (unclosed-read n w (lacks-rest n c w lacks)))
 
-data Closing (n : ℕ) (u : List ℕ) : Option ℕ → Type 0 where
+pub data Closing (n : ℕ) (u : List ℕ) : Option ℕ → Type 0 where
   found : (w z : List ℕ) → Lacks n w → w ++ (34 ∷ guard n ++ z) ≡ u → Closing n u (Some (length w))
   lost : Lacks n u → Closing n u None
 
-nothing-lacks : (n : ℕ) → Lacks n []
+pub nothing-lacks : (n : ℕ) → Lacks n []
 nothing-lacks n u v e = absurd (let no : 0 ≡ length (u ++ (34 ∷ guard n ++ v)) = ap length e in omega (arith, length-append u (34 ∷ guard n ++ v)))
 
 -- a character more in front, where no quote with its hashes stands
@@ -111,7 +111,7 @@ lacks-more n c w u rest whole open_here lacks [] v e =
     either-way (closes n (c ∷ u)) (ap (λ (x : ℕ). closes n (x ∷ u)) quote ∙ (ap (λ (xs : List ℕ). closes n (34 ∷ xs)) (sym text) ∙ closes-here n (v ++ rest))) open_here
 lacks-more n c w u rest whole open_here lacks (x ∷ a) v e = lacks a v (tail-same c x w (a ++ (34 ∷ guard n ++ v)) e)
 
-closing : (n : ℕ) (u : List ℕ) → Closing n u (close n u)
+pub closing : (n : ℕ) (u : List ℕ) → Closing n u (close n u)
 closing n [] = lost (nothing-lacks n)
 closing n (c ∷ u) = by_close (closes n (c ∷ u)) refl (closing n u)
   where
@@ -160,7 +160,7 @@ whole-length : (n : ℕ) (w : List ℕ) → n + suc (suc (length w) + n) ≡ len
 whole-length n w = omega (arith, length-append (guard n) (34 ∷ w ++ 34 ∷ guard n), length-append w (34 ∷ guard n), guard-length n)
 
 -- a closed one, before what follows it
-whole-text : (n : ℕ) (w next : List ℕ) → (guard n ++ (34 ∷ w ++ 34 ∷ guard n)) ++ next ≡ guard n ++ (34 ∷ w ++ (34 ∷ guard n ++ next))
+pub whole-text : (n : ℕ) (w next : List ℕ) → (guard n ++ (34 ∷ w ++ 34 ∷ guard n)) ++ next ≡ guard n ++ (34 ∷ w ++ (34 ∷ guard n ++ next))
 whole-text n w next = append_assoc (guard n) (34 ∷ w ++ 34 ∷ guard n) next ∙ ap (λ (xs : List ℕ). guard n ++ 34 ∷ xs) (append_assoc w (34 ∷ guard n) next)
 
 closed-seen : (n : ℕ) (w next : List ℕ) (o : Option ℕ) → Lacks n w → accepted (hash_count n) ≡ o → raw_seen ((guard n ++ (34 ∷ w ++ 34 ∷ guard n)) ++ next) ≡ (o, length (guard n ++ (34 ∷ w ++ 34 ∷ guard n)))
@@ -201,13 +201,13 @@ abbrev IsRead : List ℕ → Type 0
 IsRead s = IsRaw (drop (raw_seen s).1 s) (raw_seen s).0 (take (raw_seen s).1 s)
 
 -- the hashes at the front, and what follows them
-record Guarded (s : List ℕ) : Type 0 where
-  count : ℕ
-  left : List ℕ
-  whole : guard count ++ left ≡ s
-  stops : Stops is_hash left
+pub record Guarded (s : List ℕ) : Type 0 where
+  pub count : ℕ
+  pub left : List ℕ
+  pub whole : guard count ++ left ≡ s
+  pub stops : Stops is_hash left
 
-guarded : (s : List ℕ) → Guarded s
+pub guarded : (s : List ℕ) → Guarded s
 guarded s = record { count = hashes s; left = drop (hashes s) s; whole = sym (split-hashes (hashes s) s (omega arith)); stops = run-stops is_hash s }
 
 past-quote : (n : ℕ) (u : List ℕ) {o : Option ℕ} → Closing n u o → IsRead (guard n ++ 34 ∷ u)

@@ -1,0 +1,29 @@
+-- What the calls beside the tokens answer, in the words of the language.
+use Rattle.std.specs.Prelude.{◌≡◌, ◌+◌, ◌<◌, ◌≤◌, ◌↔◌, ℕ, suc, true, false, List, ◌∷◌, ◌++◌, drop, codes, Option, Some, None, Result, Ok, Err}
+use Rattle.std.specs.Str.{byte, chars}
+use Rattle.rustc_lexer.specs.declared.token.RawStrError.{RawStrError}
+use Rattle.rustc_lexer.specs.declared.token.RawStrError.TheVariants.{InvalidStarter, NoTerminator, TooManyDelimiters}
+use Rattle.rustc_lexer.specs.Classes.{is_among}
+use Rattle.rustc_lexer.specs.Language.{guard, Lacks}
+use Rattle.rustc_lexer.specs.Spans.{bytes}
+
+-- ---- why a raw string is refused
+
+-- the most hashes that stand behind a quote of this text, if one has any; and where the first quote with so many ends,
+-- past a front and p bytes
+pub data IsBest (p : ℕ) (front w : List ℕ) : ℕ → Option ℕ → Type 0 where
+  none : Lacks 1 w → IsBest p front w 0 None
+  best : {n : ℕ} (u v : List ℕ) → 0 < n → w ≡ u ++ (byte "\"" ∷ guard n ++ v) → Lacks n u → Lacks (suc n) w → IsBest p front w n (Some (p + bytes (front ++ (u ++ codes "\""))))
+
+-- what stands past the `r` of a prefix of p characters, and whether it is a good string, or why not
+pub data IsRawAnswer (p : ℕ) : List ℕ → Result Unit RawStrError → Type 0 where
+  good : (n : ℕ) (w next : List ℕ) → n ≤ 255 → Lacks n w → IsRawAnswer p (guard n ++ (byte "\"" ∷ w ++ (byte "\"" ∷ guard n ++ next))) (Ok tt)
+  too_many : (n : ℕ) (w next : List ℕ) → 255 < n → Lacks n w → IsRawAnswer p (guard n ++ (byte "\"" ∷ w ++ (byte "\"" ∷ guard n ++ next))) (Err (TooManyDelimiters n))
+  unclosed : (n : ℕ) (w : List ℕ) {m : ℕ} {end : Option ℕ} → Lacks n w → IsBest p (guard n ++ codes "\"") w m end → IsRawAnswer p (guard n ++ byte "\"" ∷ w) (Err (NoTerminator n m end))
+  -- the end of the text counts as U+0000
+  no_quote : (n c : ℕ) (next : List ℕ) → is_among (codes "\"#") c ≡ false → IsRawAnswer p (guard n ++ c ∷ next) (Err (InvalidStarter c))
+  no_more : (n : ℕ) → IsRawAnswer p (guard n) (Err (InvalidStarter 0))
+
+-- the answer is that of the text, and no other is
+abbrev pub IsTheRawAnswer : List ℕ → ℕ → Result Unit RawStrError → Type 0
+IsTheRawAnswer text p answer = (other : Result Unit RawStrError) → IsRawAnswer p (drop p (chars text)) other ↔ (other ≡ answer)
