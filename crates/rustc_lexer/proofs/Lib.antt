@@ -21,6 +21,7 @@ pub mod IdentLemmas
 pub mod KernelLemmas
 pub mod LandmarkLemmas
 pub mod LaneLemmas
+pub mod LanguageGuarded
 pub mod LanguageInLemmas
 pub mod LanguageLemmas
 pub mod LanguageRefusals

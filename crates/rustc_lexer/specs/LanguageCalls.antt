@@ -1,11 +1,13 @@
 -- What the calls beside the tokens answer, in the words of the language.
-use Rattle.std.specs.Prelude.{◌≡◌, ◌+◌, ◌<◌, ◌≤◌, ◌↔◌, ℕ, suc, true, false, List, ◌∷◌, ◌++◌, drop, codes, Option, Some, None, Result, Ok, Err}
+use Rattle.std.specs.Prelude.{◌≡◌, ◌+◌, ◌<◌, ◌≤◌, ◌↔◌, ℕ, suc, Bool, true, false, List, ◌∷◌, ◌++◌, drop, codes, Option, Some, None, Result, Ok, Err}
 use Rattle.std.specs.Str.{byte, chars}
+use Rattle.rustc_lexer.specs.declared.token.GuardedStr.{GuardedStr}
 use Rattle.rustc_lexer.specs.declared.token.RawStrError.{RawStrError}
 use Rattle.rustc_lexer.specs.declared.token.RawStrError.TheVariants.{InvalidStarter, NoTerminator, TooManyDelimiters}
 use Rattle.rustc_lexer.specs.Classes.{is_among}
-use Rattle.rustc_lexer.specs.Language.{guard, Lacks}
-use Rattle.rustc_lexer.specs.Spans.{bytes}
+use Rattle.rustc_lexer.specs.Language.{guard, Lacks, IsDoubleQuoted, IsSuffixBefore}
+use Rattle.rustc_lexer.specs.Spans.{Stops, bytes}
+use Rattle.rustc_lexer.specs.State.{State}
 
 -- ---- why a raw string is refused
 
@@ -27,3 +29,24 @@ pub data IsRawAnswer (p : ℕ) : List ℕ → Result Unit RawStrError → Type 0
 -- the answer is that of the text, and no other is
 abbrev pub IsTheRawAnswer : List ℕ → ℕ → Result Unit RawStrError → Type 0
 IsTheRawAnswer text p answer = (other : Result Unit RawStrError) → IsRawAnswer p (drop p (chars text)) other ↔ (other ≡ answer)
+
+-- ---- guarded strings
+
+-- hashes, a quote and what that begins; past the quote that closes it as many hashes at most, all that stand there if they
+-- are fewer, and a suffix
+pub data IsGuardedBefore (next : List ℕ) : ℕ → Bool → List ℕ → Type 0 where
+  closed : (n k : ℕ) {w suffix : List ℕ} → IsDoubleQuoted (guard k ++ (suffix ++ next)) true w → k ≤ n → (k < n → Stops (is_among (codes "#")) (suffix ++ next)) → IsSuffixBefore next suffix
+      → IsGuardedBefore next n true (guard n ++ (byte "\"" ∷ w ++ (guard k ++ suffix)))
+  unclosed : (n : ℕ) {w : List ℕ} → IsDoubleQuoted next false w → IsGuardedBefore next n false (guard n ++ (byte "\"" ∷ w))
+
+-- what is taken of the text of a cursor: such a string, with what is pending; or hashes with none, which are pending then
+pub data TakesGuarded (s : State) : Option GuardedStr × State → Type 0 where
+  string : {n : ℕ} {terminated : Bool} {w next : List ℕ} → chars s.rest ≡ w ++ next → IsGuardedBefore next n terminated w → TakesGuarded s (
+    Some record { n_hashes = n; terminated = terminated; token_len = s.pending + bytes w },
+    record { pending = 0; rest = drop (bytes w) s.rest; frontmatter_allowed = s.frontmatter_allowed },
+  )
+  none : (n : ℕ) (next : List ℕ) → chars s.rest ≡ guard n ++ next → Stops (is_among (codes "\"#")) next → TakesGuarded s (None, record { pending = s.pending + n; rest = drop n s.rest; frontmatter_allowed = s.frontmatter_allowed })
+
+-- so does the call, and nothing else is so
+abbrev pub TakesTheGuarded : State → Option GuardedStr → State → Type 0
+TakesTheGuarded s answer t = (other : Option GuardedStr × State) → TakesGuarded s other ↔ (other ≡ (answer, t))

@@ -55,7 +55,7 @@ bytes-letters c d e f = omega (arith, bytes-one c (d ∷ []) e, bytes-letter d f
 
 -- ---- suffixes
 
-suffix-sound : (s : List ℕ) → IsSuffixBefore (drop (suffix_len s) s) (take (suffix_len s) s)
+pub suffix-sound : (s : List ℕ) → IsSuffixBefore (drop (suffix_len s) s) (take (suffix_len s) s)
 suffix-sound [] = the.none refl
 suffix-sound (c ∷ s) =
     by_test (λ (n : ℕ). IsSuffixBefore (drop n (c ∷ s)) (take n (c ∷ s))) (is_id_start c) (1 + run_len is_id_continue s) 0 (λ e.
@@ -63,7 +63,7 @@ suffix-sound (c ∷ s) =
     let more : suc n ≡ 1 + n = omega arith in
     subst (λ (m : ℕ). IsSuffixBefore (drop m (c ∷ s)) (take m (c ∷ s))) more (the.some (rw e (run_all is_id_continue s)) (run-stops is_id_continue s))) (λ e. the.none e)
 
-suffix-read : {next w : List ℕ} → IsSuffixBefore next w → suffix_len (w ++ next) ≡ length w
+pub suffix-read : {next w : List ℕ} → IsSuffixBefore next w → suffix_len (w ++ next) ≡ length w
 suffix-read {next} (the.none stop) = rw stop refl
 suffix-read {next} (the.some {w} is stop) = by_first w is
   where

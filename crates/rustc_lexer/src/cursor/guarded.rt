@@ -2,6 +2,7 @@
 ghost use Rattle.std.specs.Prelude.{◌≡◌, ◌≤◌, IfSome, min, length};
 ghost use Rattle.std.specs.Str.{chars, IsCharBoundary};
 ghost use Rattle.rustc_lexer.specs.Guarded as spec;
+ghost use Rattle.rustc_lexer.specs.LanguageCalls.{TakesTheGuarded};
 ghost use Rattle.rustc_lexer.specs.Raw.{hashes};
 ghost use Rattle.rustc_lexer.specs.Scan.{past, scanned};
 
@@ -25,6 +26,7 @@ impl<'a> Cursor<'a> {
     pub fn guarded_double_quoted_string(&mut self) -> Option<GuardedStr>
         ensures answer { result ≡ (spec.guarded self.old).0 }
         ensures state { self.new ≡ (spec.guarded self.old).1 }
+        ensures language { TakesTheGuarded self.old result self.new }
     {
         let rest = self.as_str();
         let n_hashes = count_hashes(rest);
