@@ -25,6 +25,7 @@ pub mod LanguageGuarded
 pub mod LanguageInLemmas
 pub mod LanguageLemmas
 pub mod LanguageRefusals
+pub mod LanguageShebang
 pub mod LexemeLemmas
 pub mod LifetimeLemmas
 pub mod LiteralLemmas

@@ -1,12 +1,14 @@
 -- What the calls beside the tokens answer, in the words of the language.
-use Rattle.std.specs.Prelude.{◌≡◌, ◌+◌, ◌<◌, ◌≤◌, ◌↔◌, ℕ, suc, Bool, true, false, List, ◌∷◌, ◌++◌, drop, codes, Option, Some, None, Result, Ok, Err}
+use Rattle.std.specs.Prelude.{◌≡◌, ◌+◌, ◌<◌, ◌≤◌, ◌↔◌, ℕ, suc, Bool, true, false, List, [], ◌∷◌, length, ◌++◌, drop, codes, Option, Some, None, Result, Ok, Err}
 use Rattle.std.specs.Str.{byte, chars}
 use Rattle.rustc_lexer.specs.declared.token.GuardedStr.{GuardedStr}
 use Rattle.rustc_lexer.specs.declared.token.RawStrError.{RawStrError}
 use Rattle.rustc_lexer.specs.declared.token.RawStrError.TheVariants.{InvalidStarter, NoTerminator, TooManyDelimiters}
+use Rattle.rustc_lexer.specs.declared.token.TokenKind.TheVariants.{LineComment, BlockComment, Whitespace}
 use Rattle.rustc_lexer.specs.Classes.{is_among}
-use Rattle.rustc_lexer.specs.Language.{guard, Lacks, IsDoubleQuoted, IsSuffixBefore}
-use Rattle.rustc_lexer.specs.Spans.{Stops, bytes}
+use Rattle.rustc_lexer.specs.Language.{guard, Lacks, IsDoubleQuoted, IsSuffixBefore, IsTokenBefore}
+use Rattle.rustc_lexer.specs.Scan.{begins}
+use Rattle.rustc_lexer.specs.Spans.{AreAll, Stops, bytes, is_inline}
 use Rattle.rustc_lexer.specs.State.{State}
 
 -- ---- why a raw string is refused
@@ -50,3 +52,28 @@ pub data TakesGuarded (s : State) : Option GuardedStr × State → Type 0 where
 -- so does the call, and nothing else is so
 abbrev pub TakesTheGuarded : State → Option GuardedStr → State → Type 0
 TakesTheGuarded s answer t = (other : Option GuardedStr × State) → TakesGuarded s other ↔ (other ≡ (answer, t))
+
+-- ---- shebang lines
+
+-- what makes an attribute of `#!`: a bracket, past white space and comments that are no docs
+pub data IsAttributeRest : List ℕ → Type 0 where
+  bracket : (next : List ℕ) → IsAttributeRest (byte "[" ∷ next)
+  space : {c : ℕ} {w next : List ℕ} → IsTokenBefore next Whitespace (c ∷ w) → IsAttributeRest next → IsAttributeRest (c ∷ w ++ next)
+  line_comment : {c : ℕ} {w next : List ℕ} → IsTokenBefore next (LineComment None) (c ∷ w) → IsAttributeRest next → IsAttributeRest (c ∷ w ++ next)
+  block_comment : {c : ℕ} {w next : List ℕ} {terminated : Bool} → IsTokenBefore next (BlockComment None terminated) (c ∷ w) → IsAttributeRest next → IsAttributeRest (c ∷ w ++ next)
+
+-- a line, before its end: a newline, a carriage return and a newline, or the end of the text. Texts are bytes here
+pub data IsLineBefore (next w : List ℕ) : Type 0 where
+  to_newline : AreAll is_inline w → begins (codes "\n") next ≡ true → ((u : List ℕ) → w ≡ u ++ codes "\r" → ⊥) → IsLineBefore next w
+  to_return : AreAll is_inline w → begins (codes "\r\n") next ≡ true → IsLineBefore next w
+  to_end : AreAll is_inline w → next ≡ [] → IsLineBefore next w
+
+-- how long the shebang line is, if one stands at the front of the text
+pub data IsShebang (text : List ℕ) : Option ℕ → Type 0 where
+  shebang : (w next : List ℕ) → text ≡ codes "#!" ++ (w ++ next) → (IsAttributeRest (chars (w ++ next)) → ⊥) → IsLineBefore next w → IsShebang text (Some (length (codes "#!" ++ w)))
+  attribute : (rest : List ℕ) → text ≡ codes "#!" ++ rest → IsAttributeRest (chars rest) → IsShebang text None
+  no_mark : begins (codes "#!") text ≡ false → IsShebang text None
+
+-- the answer is that of the text, and no other is
+abbrev pub IsTheShebang : List ℕ → Option ℕ → Type 0
+IsTheShebang text answer = (other : Option ℕ) → IsShebang text other ↔ (other ≡ answer)

@@ -2,6 +2,7 @@
 ghost use Rattle.std.specs.Prelude.{◌≡◌, ◌≤◌, IfSome, IsNone, codes, false, length};
 ghost use Rattle.std.specs.Str.{IsCharBoundary};
 ghost use Rattle.rustc_lexer.specs.Classes.{Fits};
+ghost use Rattle.rustc_lexer.specs.LanguageCalls.{IsTheShebang};
 ghost use Rattle.rustc_lexer.specs.Scan.{begins};
 ghost use Rattle.rustc_lexer.specs.Shebang as spec;
 ghost use Rattle.rustc_lexer.specs.Tokens.{tokens_of};
@@ -22,6 +23,7 @@ use crate::token::{FrontmatterAllowed, TokenKind};
 pub fn strip_shebang(input: &str) -> Option<usize>
     requires fits { Fits input.now }
     ensures line { result ≡ spec.shebang input.now }
+    ensures language { IsTheShebang input.now result }
     ensures range { IfSome result (λ end. (2 ≤ end) × (end ≤ length input.now)) }
     ensures boundary { IfSome result (λ end. IsCharBoundary input.now end) }
     ensures front { begins (codes "#!") input.now ≡ false → IsNone result }

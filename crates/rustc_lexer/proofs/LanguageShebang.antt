@@ -1,0 +1,293 @@
+-- What is taken for a shebang line is what the language says, and nothing else is.
+use Rattle.std.proofs.Common.{◌≡◌, ℕ, zero, suc, ◌+◌, ◌-◌, ◌<◌, ◌≤◌, ◌==◌, ◌&&◌, ◌||◌, not, Bool, true, false, true≢false, if◌then◌else◌, List, [], ◌∷◌, ◌++◌, length, get_or, take, drop, codes, refl, sym, ap, ◌∙◌, subst, arith, take-append-drop, length-append, Option, Some, None}
+use lib.Utf8.{encode}
+use Rattle.std.proofs.lemmas.Bool.{and_parts, eqb-true}
+use Rattle.std.proofs.lemmas.List.{append-nil}
+use Rattle.std.proofs.lemmas.Str.{chars-nil, IsUtf8-drop, IsCharBoundary-from_take}
+use Rattle.std.specs.List.{list_all, prefix_len}
+use Rattle.std.specs.Str.{chars, encode_utf8_all, IsUtf8}
+use Rattle.unicode_ident.proofs.Computing.{unicode_ident}
+use Rattle.rustc_lexer.specs.declared.token.DocStyle.{DocStyle}
+use Rattle.rustc_lexer.specs.declared.token.FrontmatterAllowed.TheVariants.{No}
+use Rattle.rustc_lexer.specs.declared.token.Token.{Token}
+use Rattle.rustc_lexer.specs.declared.token.TokenKind.{TokenKind}
+use Rattle.rustc_lexer.specs.declared.token.TokenKind.TheVariants.{LineComment, BlockComment, Whitespace, OpenBracket}
+use Rattle.rustc_lexer.specs.Comment.{is_no_newline}
+use Rattle.rustc_lexer.specs.Cuts.{tokens_by}
+use Rattle.rustc_lexer.specs.Emoji.{is_emoji, emoji_ranges}
+use Rattle.rustc_lexer.specs.Language as page
+use Rattle.rustc_lexer.specs.Language.{begins_more, IsTokenBefore}
+use Rattle.rustc_lexer.specs.LanguageCalls as the
+use Rattle.rustc_lexer.specs.LanguageCalls.{IsAttributeRest, IsLineBefore, IsShebang, IsTheShebang}
+use Rattle.rustc_lexer.specs.Lexeme.{past_first, lexeme, first_token, symbols, kind_among, symbol_kind}
+use Rattle.rustc_lexer.specs.Scan.{begins, bytes_of}
+use Rattle.rustc_lexer.specs.Shebang.{is_passed, is_open_bracket, is_attribute, before_newline, line_len, shebang_past, shebang}
+use Rattle.rustc_lexer.specs.Spans.{AreAll, is_inline, bytes}
+use Rattle.rustc_lexer.specs.Texts.{IsText, IsGrammar}
+use Rattle.rustc_lexer.specs.Tokens.{tokens_of}
+use Rattle.rustc_lexer.specs.laws.Choice.{by_test}
+use Rattle.rustc_lexer.specs.laws.Cuts.{tokens-by}
+use Rattle.rustc_lexer.specs.laws.Language.{lexeme-sound}
+use Rattle.rustc_lexer.specs.laws.Lookahead.{first_token_grammar}
+use Rattle.rustc_lexer.proofs.CutLemmas.{past_first as text_past, shorter, tokens-nil, tokens-cons}
+use Rattle.rustc_lexer.proofs.LanguageLemmas.{empty-text, Split, split, first-is}
+
+-- ---- an attribute
+
+abbrev ts : List ℕ → List Token
+ts text = tokens_by first_token text
+
+abbrev has_bracket : TokenKind → List Token → Bool
+has_bracket kind tokens = if is_passed kind then is_attribute tokens else is_open_bracket kind
+
+-- the tokens of a text that begins with one
+first-step : (text : List ℕ) (kind : TokenKind) (c : ℕ) (w next : List ℕ) → IsText text → chars text ≡ c ∷ w ++ next → IsTokenBefore next kind (c ∷ w) → is_attribute (ts text) ≡ has_bracket kind (ts (drop (first_token text).len text))
+first-step text kind c w next is e p =
+    let some : 0 < length text = (split text (c ∷ w) next is e).some (omega arith) in
+    ap is_attribute (tokens-cons first_token_grammar text is some) ∙ ap (λ (t : Token). has_bracket t.kind (ts (drop (first_token text).len text))) (first-is p text e)
+
+-- what is left of it
+record Rest (text next : List ℕ) : Type 0 where
+  text_left : IsText (drop (first_token text).len text)
+  left : chars (drop (first_token text).len text) ≡ next
+  less : length (drop (first_token text).len text) < length text
+
+rest-is : (text : List ℕ) (kind : TokenKind) (c : ℕ) (w next : List ℕ) → IsText text → chars text ≡ c ∷ w ++ next → IsTokenBefore next kind (c ∷ w) → Rest text next
+rest-is text kind c w next is e p =
+    let parts = split text (c ∷ w) next is e in
+    let some : 0 < length text = parts.some (omega arith) in
+    record {
+      text_left = text_past first_token_grammar text is some;
+      left = ap (λ (t : Token). chars (drop t.len text)) (first-is p text e) ∙ (ap chars parts.left ∙ parts.again);
+      less = shorter first_token_grammar text is some;
+    }
+
+bracket-alone : begins_more 91 ≡ false
+unfolding unicode_ident is_emoji emoji_ranges
+bracket-alone = refl
+
+attribute-read : {cs : List ℕ} → IsAttributeRest cs → (text : List ℕ) → IsText text → chars text ≡ cs → is_attribute (ts text) ≡ true
+attribute-read (the.bracket next) text is e = first-step text OpenBracket 91 [] next is e (page.symbol {c = 91} bracket-alone)
+attribute-read (the.space {c} {w} {next} p rest) text is e = let r = rest-is text Whitespace c w next is e p in first-step text Whitespace c w next is e p ∙ attribute-read rest (drop (first_token text).len text) r.text_left r.left
+attribute-read (the.line_comment {c} {w} {next} p rest) text is e = let r = rest-is text (LineComment None) c w next is e p in first-step text (LineComment None) c w next is e p ∙ attribute-read rest (drop (first_token text).len text) r.text_left r.left
+attribute-read (the.block_comment {c} {w} {next} {terminated} p rest) text is e =
+    let r = rest-is text (BlockComment None terminated) c w next is e p in first-step text (BlockComment None terminated) c w next is e p ∙ attribute-read rest (drop (first_token text).len text) r.text_left r.left
+
+-- a bracket is what it is alone
+among-bracket : (ss : List (ℕ × TokenKind)) (c : ℕ) → list_all (λ s. not (is_open_bracket s.1) || (s.0 == 91)) ss ≡ true → is_open_bracket (kind_among ss c) ≡ true → c ≡ 91
+among-bracket [] c all e = absurd (true≢false (sym e))
+among-bracket (s ∷ ss) c all e =
+    let parts = and_parts (not (is_open_bracket s.1) || (s.0 == 91)) (list_all (λ s. not (is_open_bracket s.1) || (s.0 == 91)) ss) all in
+    by_test (λ kind. is_open_bracket kind ≡ true → c ≡ 91) (c == s.0) s.1 (kind_among ss c) (λ f g. eqb-true c s.0 f ∙ eqb-true s.0 91 (ap (λ (b : Bool). not b || (s.0 == 91)) (sym g) ∙ parts.0)) (λ f. among-bracket ss c parts.1) e
+
+bracket-view : {next : List ℕ} {kind : TokenKind} {w : List ℕ} → IsTokenBefore next kind w → is_open_bracket kind ≡ true → w ≡ 91 ∷ []
+bracket-view (page.end none) e = absurd (true≢false (sym e))
+bracket-view (page.whitespace all stop) e = absurd (true≢false (sym e))
+bracket-view (page.line_comment all stop is) e = absurd (true≢false (sym e))
+bracket-view (page.block_comment p is) e = absurd (true≢false (sym e))
+bracket-view (page.open_comment none never is) e = absurd (true≢false (sym e))
+bracket-view (page.ident is stop none) e = absurd (true≢false (sym e))
+bracket-view (page.unknown_prefix is goes free) e = absurd (true≢false (sym e))
+bracket-view (page.invalid_ident start all wrong stop) e = absurd (true≢false (sym e))
+bracket-view (page.raw_ident is stop) e = absurd (true≢false (sym e))
+bracket-view (page.forced_keyword is stop) e = absurd (true≢false (sym e))
+bracket-view (page.lifetime start all stop quote hash) e = absurd (true≢false (sym e))
+bracket-view (page.unknown_prefix_lifetime start all hash free) e = absurd (true≢false (sym e))
+bracket-view (page.raw_lifetime is stop) e = absurd (true≢false (sym e))
+bracket-view (page.literal is) e = absurd (true≢false (sym e))
+bracket-view (page.literal_with is suffix_is) e = absurd (true≢false (sym e))
+bracket-view (page.slash stop) e = absurd (true≢false (sym e))
+bracket-view (page.pound stop) e = absurd (true≢false (sym e))
+bracket-view (page.guarded is) e = absurd (true≢false (sym e))
+bracket-view (page.symbol {c} is) e = ap (λ (x : ℕ). x ∷ []) (among-bracket symbols c refl e)
+
+-- by what the first token is
+attribute-first : (kind : TokenKind) (c : ℕ) (w next : List ℕ) (tokens : List Token) → IsTokenBefore next kind (c ∷ w) → has_bracket kind tokens ≡ true → (is_attribute tokens ≡ true → IsAttributeRest next) → IsAttributeRest (c ∷ w ++ next)
+attribute-first Whitespace c w next tokens p e rest = the.space p (rest e)
+attribute-first (LineComment None) c w next tokens p e rest = the.line_comment p (rest e)
+attribute-first (LineComment (Some style)) c w next tokens p e rest = absurd (true≢false (sym e))
+attribute-first (BlockComment None terminated) c w next tokens p e rest = the.block_comment p (rest e)
+attribute-first (BlockComment (Some style) terminated) c w next tokens p e rest = absurd (true≢false (sym e))
+attribute-first OpenBracket c w next tokens p e rest = subst (λ (v : List ℕ). IsAttributeRest (v ++ next)) (sym (bracket-view p refl)) (the.bracket next)
+attribute-first kind c w next tokens p e rest = absurd (true≢false (sym e))
+
+attribute-is : (n : ℕ) (text cs : List ℕ) → IsText text → chars text ≡ cs → length text ≤ n → is_attribute (ts text) ≡ true → IsAttributeRest cs
+attribute-is n text [] is e le t = absurd (true≢false (sym t ∙ (ap (λ (x : List ℕ). is_attribute (ts x)) (empty-text text is e) ∙ ap is_attribute (tokens-nil first_token))))
+attribute-is zero text (c ∷ s) is e le t = absurd (let some : 0 < length text = (split text (c ∷ s) [] is (e ∙ sym (append-nil (c ∷ s)))).some (omega arith) in omega (arith, some, le))
+attribute-is (suc n) text (c ∷ s) is e le t =
+    let m : ℕ = (past_first c s).1 in
+    let kind : TokenKind = (past_first c s).0 in
+    let p : IsTokenBefore (drop m s) kind (c ∷ take m s) = lexeme-sound (c ∷ s) in
+    let here : chars text ≡ c ∷ take m s ++ drop m s = e ∙ ap (λ (x : List ℕ). c ∷ x) (sym (take-append-drop m s)) in
+    let r = rest-is text kind c (take m s) (drop m s) is here p in
+    let left : List ℕ = drop (first_token text).len text in
+    subst (λ (x : List ℕ). IsAttributeRest (c ∷ x)) (take-append-drop m s)
+    (attribute-first kind c (take m s) (drop m s) (ts left) p (sym (first-step text kind c (take m s) (drop m s) is here p) ∙ t) (λ f. attribute-is n left (drop m s) r.text_left r.left (let less = r.less in omega (arith, le)) f))
+
+-- ---- a line
+
+more : (k : ℕ) → 1 + k ≡ suc k
+more k = omega arith
+
+prefix-here : (w next : List ℕ) → AreAll is_inline w → begins (codes "\n") next ≡ true → before_newline (w ++ next) ≡ length w
+prefix-here [] [] all e = absurd (true≢false (sym e))
+prefix-here [] (c ∷ next) all e = rw (and_parts (c == 10) true e).0 refl
+prefix-here (c ∷ w) next all e = let parts = and_parts (is_inline c) (list_all is_inline w) all in rw parts.0 (more (prefix_len is_no_newline (w ++ next)) ∙ ap suc (prefix-here w next parts.1 e))
+
+prefix-all : (w : List ℕ) → AreAll is_inline w → before_newline w ≡ length w
+prefix-all [] all = refl
+prefix-all (c ∷ w) all = let parts = and_parts (is_inline c) (list_all is_inline w) all in rw parts.0 (more (prefix_len is_no_newline w) ∙ ap suc (prefix-all w parts.1))
+
+abbrev line_to : List ℕ → ℕ → ℕ
+line_to text n = if begins (codes "\r\n") (drop (n - 1) text) then n - 1 else n
+
+-- a carriage return is no newline
+prefix-return : (w next : List ℕ) → AreAll is_inline w → begins (codes "\r\n") next ≡ true → before_newline (w ++ next) ≡ suc (length w)
+prefix-return [] [] all e = absurd (true≢false (sym e))
+prefix-return [] (c ∷ next) all e =
+    let parts = and_parts (c == 13) (begins (codes "\n") next) e in
+    let is : c ≡ 13 = eqb-true c 13 parts.0 in
+    ap (λ (x : ℕ). before_newline (x ∷ next)) is ∙ (more (prefix_len is_no_newline next) ∙ ap suc (prefix-here [] next refl parts.1))
+prefix-return (c ∷ w) next all e = let parts = and_parts (is_inline c) (list_all is_inline w) all in rw parts.0 (more (prefix_len is_no_newline (w ++ next)) ∙ ap suc (prefix-return w next parts.1 e))
+
+drop-length : (w next : List ℕ) → drop (length w) (w ++ next) ≡ next
+drop-length [] next = refl
+drop-length (c ∷ w) next = drop-length w next
+
+short : (s : List ℕ) → length s ≤ 1 → begins (codes "\r\n") s ≡ false
+short [] le = refl
+short (c ∷ []) le = elim (c == 13) as (λ (b : Bool). b && false ≡ false) [ true ↦ refl | false ↦ refl ]
+short (c ∷ d ∷ s) le = absurd (omega arith)
+
+less : (k : ℕ) → suc k - 1 ≡ k
+less k = omega arith
+
+-- a character more in front changes nothing at the end
+one_less : (c d : ℕ) (w s : List ℕ) → begins (codes "\r\n") (drop (length (c ∷ d ∷ w) - 1) (c ∷ d ∷ s)) ≡ begins (codes "\r\n") (drop (length (d ∷ w) - 1) (d ∷ s))
+one_less c d w s = ap (λ (k : ℕ). begins (codes "\r\n") (drop k (c ∷ d ∷ s))) (less (suc (length w))) ∙ sym (ap (λ (k : ℕ). begins (codes "\r\n") (drop k (d ∷ s))) (less (length w)))
+
+no_return-before : (w next : List ℕ) → begins (codes "\n") next ≡ true → ((u : List ℕ) → w ≡ u ++ 13 ∷ [] → ⊥) → begins (codes "\r\n") (drop (length w - 1) (w ++ next)) ≡ false
+no_return-before [] [] e free = refl
+no_return-before [] (c ∷ next) e free = ap (λ (x : ℕ). begins (codes "\r\n") (x ∷ next)) (eqb-true c 10 (and_parts (c == 10) true e).0)
+no_return-before (c ∷ []) next e free = by_return (c == 13) refl
+  where
+    by_return : (b : Bool) → (c == 13) ≡ b → (c == 13) && begins (codes "\n") next ≡ false
+    by_return true f = absurd (free [] (ap (λ (x : ℕ). x ∷ []) (eqb-true c 13 f)))
+    by_return false f = rw f refl
+no_return-before (c ∷ d ∷ w) next e free = one_less c d w (w ++ next) ∙ no_return-before (d ∷ w) next e (λ u f. free (c ∷ u) (ap (λ (x : List ℕ). c ∷ x) f))
+
+line-read : {next w : List ℕ} → IsLineBefore next w → line_len (w ++ next) ≡ length w
+line-read {next} {w} (the.to_newline all e free) =
+    ap (line_to (w ++ next)) (prefix-here w next all e) ∙ ap (λ (b : Bool). if b then length w - 1 else length w) (no_return-before w next e free)
+line-read {next} {w} (the.to_return all e) =
+    let past : begins (codes "\r\n") (drop (suc (length w) - 1) (w ++ next)) ≡ true = ap (λ (k : ℕ). begins (codes "\r\n") (drop k (w ++ next))) (less (length w)) ∙ (ap (begins (codes "\r\n")) (drop-length w next) ∙ e) in
+    ap (line_to (w ++ next)) (prefix-return w next all e) ∙ (ap (λ (b : Bool). if b then suc (length w) - 1 else suc (length w)) past ∙ less (length w))
+line-read {next} {w} (the.to_end all none) =
+    ap (λ (x : List ℕ). line_len (w ++ x)) none ∙ (ap line_len (append-nil w) ∙ (ap (line_to w) (prefix-all w all) ∙ ap (λ (b : Bool). if b then length w - 1 else length w) (at_end w)))
+  where
+    at_end : (w : List ℕ) → begins (codes "\r\n") (drop (length w - 1) w) ≡ false
+    at_end [] = refl
+    at_end (c ∷ []) = short (c ∷ []) (omega arith)
+    at_end (c ∷ d ∷ w) = one_less c d w w ∙ at_end (d ∷ w)
+
+record HasLine (text : List ℕ) : Type 0 where
+  w : List ℕ
+  next : List ℕ
+  whole : w ++ next ≡ text
+  is : IsLineBefore next w
+
+-- one character more, that no newline is and that does not begin the end
+longer : (c : ℕ) (w next : List ℕ) → (c == 10) ≡ false → begins (codes "\r\n") (c ∷ w ++ next) ≡ false → IsLineBefore next w → IsLineBefore next (c ∷ w)
+longer c w next e f (the.to_newline all n free) = the.to_newline (rw e all) n (no_return w f free)
+  where
+    no_return : (w : List ℕ) → begins (codes "\r\n") (c ∷ w ++ next) ≡ false → ((u : List ℕ) → w ≡ u ++ 13 ∷ [] → ⊥) → (u : List ℕ) → c ∷ w ≡ u ++ 13 ∷ [] → ⊥
+    no_return [] f free [] g = true≢false (sym (ap (λ (x : ℕ). (x == 13) && begins (codes "\n") next) (ap (λ (xs : List ℕ). get_or xs 0 0) g) ∙ n) ∙ f)
+    no_return (d ∷ w) f free [] g = absurd (let free : suc (suc (length w)) ≡ 1 = ap length g in omega (arith, free))
+    no_return w f free (x ∷ u) g = free u (ap (drop 1) g)
+longer c w next e f (the.to_return all n) = the.to_return (rw e all) n
+longer c w next e f (the.to_end all none) = the.to_end (rw e all) none
+
+has-line : (text : List ℕ) → HasLine text
+has-line [] = record { w = []; next = []; whole = refl; is = the.to_end refl refl }
+has-line (c ∷ s) = by_newline (has-line s) (c == 10) refl
+  where
+    by_return : HasLine s → (b : Bool) → (c == 10) ≡ false → begins (codes "\r\n") (c ∷ s) ≡ b → HasLine (c ∷ s)
+    by_return ih true e f = record { w = []; next = c ∷ s; whole = refl; is = the.to_return refl f }
+    by_return ih false e f = record { w = c ∷ ih.w; next = ih.next; whole = ap (λ (x : List ℕ). c ∷ x) ih.whole; is = longer c ih.w ih.next e (ap (λ (x : List ℕ). begins (codes "\r\n") (c ∷ x)) ih.whole ∙ f) ih.is }
+
+    by_newline : HasLine s → (b : Bool) → (c == 10) ≡ b → HasLine (c ∷ s)
+    by_newline ih true e = record { w = []; next = c ∷ s; whole = refl; is = the.to_newline refl (rw e refl) none }
+      where
+        none : (u : List ℕ) → [] ≡ u ++ 13 ∷ [] → ⊥
+        none u f = absurd (let free : 0 ≡ length (u ++ 13 ∷ []) = ap length f in omega (arith, free, length-append u (13 ∷ [])))
+    by_newline ih false e = by_return ih (begins (codes "\r\n") (c ∷ s)) e refl
+
+-- ---- the answer
+
+mark-utf8 : IsUtf8 (35 ∷ 33 ∷ [])
+unfolding encode
+mark-utf8 = (35 ∷ 33 ∷ [], (refl, refl))
+
+tail-text : (text rest : List ℕ) → IsText text → text ≡ 35 ∷ 33 ∷ rest → IsText rest
+tail-text text rest is e = record {
+  utf8 = subst IsUtf8 (ap (drop 2) e) (IsUtf8-drop text 2 is.utf8 (IsCharBoundary-from_take text 2 is.utf8 (omega (arith, ap length e)) (subst IsUtf8 (sym (ap (take 2) e)) mark-utf8)));
+  fits = let f = is.fits in omega (arith, ap length e);
+}
+
+past-mark : (text rest : List ℕ) → text ≡ 35 ∷ 33 ∷ rest → shebang text ≡ (if is_attribute (ts rest) then None else Some (2 + line_len rest))
+unfolding shebang
+past-mark text rest e = ap shebang e ∙ ap (λ (tokens : List Token). let r : Option ℕ = if is_attribute tokens then None else Some (2 + line_len rest) in r) (tokens-by rest)
+
+no-mark : (text : List ℕ) → begins (codes "#!") text ≡ false → shebang text ≡ None
+unfolding shebang
+no-mark text e = ap (λ (b : Bool). if b then shebang_past (drop 2 text) else None) e
+
+answer-read : {text : List ℕ} {r : Option ℕ} → IsText text → IsShebang text r → r ≡ shebang text
+answer-read {text} is (the.shebang w next e free line) = sym (past-mark text (w ++ next) e ∙ (by_attribute (is_attribute (ts (w ++ next))) refl ∙ ap (λ (k : ℕ). Some (2 + k)) (line-read line) ∙ ap Some (two (length w))))
+  where
+    two : (k : ℕ) → 2 + k ≡ suc (suc k)
+    two k = omega arith
+
+    by_attribute : (b : Bool) → is_attribute (ts (w ++ next)) ≡ b → (if is_attribute (ts (w ++ next)) then None else Some (2 + line_len (w ++ next))) ≡ Some (2 + line_len (w ++ next))
+    by_attribute true f = absurd (free (attribute-is (length (w ++ next)) (w ++ next) (chars (w ++ next)) (tail-text text (w ++ next) is e) refl (omega arith) f))
+    by_attribute false f = rw f refl
+answer-read {text} is (the.attribute rest e attribute) = sym (past-mark text rest e ∙ ap (λ (b : Bool). let r : Option ℕ = if b then None else Some (2 + line_len rest) in r) (attribute-read attribute rest (tail-text text rest is e) refl))
+answer-read {text} is (the.no_mark e) = sym (no-mark text e)
+
+record HasShebang (text : List ℕ) : Type 0 where
+  answer : Option ℕ
+  is : IsShebang text answer
+
+front-is : (s : List ℕ) → begins (codes "#!") s ≡ true → s ≡ 35 ∷ 33 ∷ drop 2 s
+front-is [] e = absurd (true≢false (sym e))
+front-is (c ∷ []) e = absurd (true≢false (sym (and_parts (c == 35) false e).1))
+front-is (c ∷ d ∷ s) e =
+    let parts = and_parts (c == 35) ((d == 33) && true) e in
+    ap (λ (x : ℕ). x ∷ d ∷ s) (eqb-true c 35 parts.0) ∙ ap (λ (x : ℕ). 35 ∷ x ∷ s) (eqb-true d 33 (and_parts (d == 33) true parts.1).0)
+
+has-shebang : (text : List ℕ) → IsText text → HasShebang text
+has-shebang text is = by_mark (begins (codes "#!") text) refl
+  where
+    past : (rest : List ℕ) → text ≡ 35 ∷ 33 ∷ rest → HasShebang text
+    past rest e = by_attribute (is_attribute (ts rest)) refl
+      where
+        by_attribute : (b : Bool) → is_attribute (ts rest) ≡ b → HasShebang text
+        by_attribute true f = record { answer = None; is = the.attribute rest e (attribute-is (length rest) rest (chars rest) (tail-text text rest is e) refl (omega arith) f) }
+        by_attribute false f =
+            let l = has-line rest in
+            let whole : text ≡ 35 ∷ 33 ∷ (l.w ++ l.next) = e ∙ ap (λ (x : List ℕ). 35 ∷ 33 ∷ x) (sym l.whole) in
+            record {
+              answer = _;
+              is = the.shebang l.w l.next whole (λ a. true≢false (sym (attribute-read a (l.w ++ l.next) (tail-text text (l.w ++ l.next) is whole) refl) ∙ (ap (λ (x : List ℕ). is_attribute (ts x)) l.whole ∙ f))) l.is;
+            }
+
+    by_mark : (b : Bool) → begins (codes "#!") text ≡ b → HasShebang text
+    by_mark true e = past (drop 2 text) (front-is text e)
+    by_mark false e = record { answer = None; is = the.no_mark e }
+
+-- this one and no other
+pub shebang-answer : (text : List ℕ) (answer : Option ℕ) → IsText text → answer ≡ shebang text → IsTheShebang text answer
+shebang-answer text answer is e other = (
+  λ s. answer-read is s ∙ sym e,
+  λ f. let h = has-shebang text is in subst (IsShebang text) (answer-read is h.is ∙ sym (f ∙ e)) h.is,
+)
