@@ -19,6 +19,7 @@ pub mod Landmarks
 pub mod Language
 pub mod LanguageCalls
 pub mod LanguageIn
+pub mod LanguageReach
 pub mod Least
 pub mod Lexeme
 pub mod Lifetime

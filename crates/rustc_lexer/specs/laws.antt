@@ -14,6 +14,7 @@ pub mod LanguageLifetimes
 pub mod LanguageLiterals
 pub mod LanguageQuoted
 pub mod LanguageRaw
+pub mod LanguageReach
 pub mod LanguageRuns
 pub mod LanguageWords
 pub mod Lifetime
