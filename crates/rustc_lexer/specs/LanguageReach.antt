@@ -1,5 +1,6 @@
 -- How far a token of each kind looks: so many characters past its end tell whether it stands there, and the end of the text.
 use Rattle.std.specs.Prelude.{◌≡◌, ℕ, true, false, List, take}
+use Rattle.rustc_lexer.specs.declared.token.Base.TheVariants.{Decimal}
 use Rattle.rustc_lexer.specs.declared.token.LiteralKind.{LiteralKind}
 use Rattle.rustc_lexer.specs.declared.token.LiteralKind.TheVariants.{Int, Float, Char, Byte}
 use Rattle.rustc_lexer.specs.declared.token.TokenKind.{TokenKind}
@@ -37,3 +38,21 @@ reach kind = 0
 -- a token stands before each text that begins so
 abbrev pub LooksNoFurther : Type 0
 LooksNoFurther = (next other w : List ℕ) (kind : TokenKind) → IsTokenBefore next kind w → take (reach kind) other ≡ take (reach kind) next → IsTokenBefore other kind w
+
+-- a text, and what may follow it and what may not, which no more than so many characters tell apart
+pub record Needs (kind : TokenKind) (n : ℕ) : Type 0 where
+  pub w : List ℕ
+  pub next : List ℕ
+  pub other : List ℕ
+  pub stands : IsTokenBefore next kind w
+  pub alike : take n other ≡ take n next
+  pub fails : IsTokenBefore other kind w → ⊥
+
+-- where two characters are said, one is not enough: `k` before `#1` and `#a`, `'r` likewise, `1` before `..` and `.5`, a quote
+-- before a newline
+pub record NeedsTwo : Type 0 where
+  pub prefix : Needs UnknownPrefix 1
+  pub prefix_lifetime : Needs UnknownPrefixLifetime 1
+  pub integer : Needs (Literal (Int Decimal false) 1) 1
+  pub character : Needs (Literal (Char false) 1) 1
+  pub a_byte : Needs (Literal (Byte false) 2) 1

@@ -3,7 +3,7 @@ ghost use Rattle.std.specs.Prelude.{◌≡◌, ◌<◌, length, All};
 ghost use Rattle.std.specs.Iterator.{at_most};
 ghost use Rattle.rustc_lexer.specs.Classes.{Fits};
 ghost use Rattle.rustc_lexer.specs.Language.{AreTheTokens};
-ghost use Rattle.rustc_lexer.specs.LanguageReach.{LooksNoFurther};
+ghost use Rattle.rustc_lexer.specs.LanguageReach.{LooksNoFurther, NeedsTwo};
 ghost use Rattle.rustc_lexer.specs.State.{HasSuffixWithin};
 ghost use Rattle.rustc_lexer.specs.TokenText.{HaveTexts};
 ghost use Rattle.rustc_lexer.specs.Tokens.{tokens_of, tokens_left, Partitions, RestartsAtBounds, YieldsToken};
@@ -46,7 +46,7 @@ pub fn tokenize<'a>(input: &'a str, frontmatter_allowed: FrontmatterAllowed) -> 
     ensures suffixes { All HasSuffixWithin (tokens_of frontmatter_allowed input.now) }
     ensures texts { HaveTexts input.now (tokens_of frontmatter_allowed input.now) }
     ensures language { AreTheTokens frontmatter_allowed input.now }
-    ensures reach { LooksNoFurther }
+    ensures reach { LooksNoFurther × NeedsTwo }
 {
     Tokens {
         cursor: Cursor::new(input, frontmatter_allowed),

@@ -1,15 +1,20 @@
 -- How far a token of each kind looks can be read off the conditions of the language on what follows.
-use Rattle.std.proofs.Common.{◌≡◌, ℕ, zero, suc, ◌+◌, ◌≤◌, Bool, true, false, List, [], ◌∷◌, ◌++◌, length, take, drop, codes, refl, sym, ap, ◌∙◌, subst, arith, take-add, Option}
+use Rattle.std.proofs.Common.{true≢false, ◌≡◌, ℕ, zero, suc, ◌+◌, ◌<◌, ◌≤◌, Bool, true, false, List, [], ◌∷◌, ◌++◌, length, take, drop, codes, refl, sym, ap, ◌∙◌, subst, arith, take-add, Option}
+use lib.Utf8.{encode}
 use Rattle.std.proofs.Math.Seq.{take-append_seam, drop-append_seam}
+use Rattle.unicode_ident.proofs.Computing.{unicode_ident}
 use Rattle.rustc_lexer.specs.declared.token.Base.{Base}
+use Rattle.rustc_lexer.specs.declared.token.Base.TheVariants.{Decimal}
 use Rattle.rustc_lexer.specs.declared.token.LiteralKind.{LiteralKind}
 use Rattle.rustc_lexer.specs.declared.token.LiteralKind.TheVariants.{Int, Float, Char, Byte}
 use Rattle.rustc_lexer.specs.declared.token.TokenKind.{TokenKind}
 use Rattle.rustc_lexer.specs.declared.token.TokenKind.TheVariants.{Literal, UnknownPrefix, UnknownPrefixLifetime}
 use Rattle.rustc_lexer.specs.Language as the
 use Rattle.rustc_lexer.specs.Language.{IsDoubleQuoted, SingleTo, QuotedTo, IsSingleQuoted, IsRaw, IsLiteralBefore, IsSuffixBefore, IsTokenBefore}
-use Rattle.rustc_lexer.specs.LanguageReach.{literal_reach, reach, LooksNoFurther}
-use Rattle.rustc_lexer.specs.Lexeme.{lexeme}
+use Rattle.rustc_lexer.specs.LanguageReach.{literal_reach, reach, LooksNoFurther, Needs, NeedsTwo}
+use Rattle.rustc_lexer.specs.Lexeme.{past_first, lexeme}
+use Rattle.rustc_lexer.specs.Emoji.{is_emoji, emoji_ranges}
+use Rattle.rustc_lexer.specs.Number.{number_kind, fraction}
 use Rattle.rustc_lexer.specs.NumberGrammar as number
 use Rattle.rustc_lexer.specs.NumberGrammar.{IsExponent, IsTailBefore, IsNumberBefore}
 use Rattle.rustc_lexer.specs.Scan.{begins, next_is}
@@ -160,3 +165,22 @@ token-alike {next} (the.symbol is) other e = the.symbol is
 
 pub looks_no_further : LooksNoFurther
 looks_no_further next other w kind p e = token-alike p other e
+
+-- ---- and where it is two, one is not enough
+
+-- by what is read before one and before the other
+needs : (kind : TokenKind) (n : ℕ) (w next other : List ℕ) → lexeme (w ++ next) ≡ (kind, length w) → take n other ≡ take n next → (lexeme (w ++ other) ≡ (kind, length w) → ⊥) → Needs kind n
+needs kind n w next other read alike differs = record { w = w; next = next; other = other; stands = (language next w kind).1 read; alike = alike; fails = λ p. differs ((language other w kind).0 p) }
+
+other_length : (m n : ℕ) → m ≡ n → n < m → ⊥
+other_length m n e lt = absurd (omega (arith, e, lt))
+
+pub needs_two : NeedsTwo
+unfolding unicode_ident is_emoji emoji_ranges past_first encode number_kind fraction
+needs_two = record {
+  prefix = needs UnknownPrefix 1 (codes "k") (codes "#1") (codes "#a") refl refl (λ e. other_length 3 1 (ap (λ (r : TokenKind × ℕ). r.1) e) (omega arith));
+  prefix_lifetime = needs UnknownPrefixLifetime 1 (codes "'r") (codes "#1") (codes "#a") refl refl (λ e. other_length 4 2 (ap (λ (r : TokenKind × ℕ). r.1) e) (omega arith));
+  integer = needs (Literal (Int Decimal false) 1) 1 (codes "1") (codes "..") (codes ".5") refl refl (λ e. other_length 3 1 (ap (λ (r : TokenKind × ℕ). r.1) e) (omega arith));
+  character = needs (Literal (Char false) 1) 1 (codes "'") (codes "\nx") (codes "\n'") refl refl (λ e. other_length 3 1 (ap (λ (r : TokenKind × ℕ). r.1) e) (omega arith));
+  a_byte = needs (Literal (Byte false) 2) 1 (codes "b'") (codes "\nx") (codes "\n'") refl refl (λ e. other_length 4 2 (ap (λ (r : TokenKind × ℕ). r.1) e) (omega arith));
+}

@@ -1,4 +1,4 @@
-use Rattle.rustc_lexer.specs.laws.LanguageReach.{looks_no_further}
+use Rattle.rustc_lexer.specs.laws.LanguageReach.{looks_no_further, needs_two}
 use Rattle.rustc_lexer.proofs.LanguageLemmas.{language}
 use Rattle.rustc_lexer.proofs.TokensLemmas.{partitions, restarts}
 use Rattle.rustc_lexer.proofs.TextLemmas.{suffixes, texts}
@@ -20,4 +20,4 @@ pub returns-clause-language : goal.returns-clause-language
 returns-clause-language c = language _ _ record { utf8 = c.utf8.input; fits = c.requires.fits }
 
 pub returns-clause-reach : goal.returns-clause-reach
-returns-clause-reach c = looks_no_further
+returns-clause-reach c = (looks_no_further, needs_two)
