@@ -3,7 +3,6 @@ use Rattle.std.proofs.Common.{◌≡◌, ℕ, zero, suc, ◌+◌, ◌<◌, ◌�
 use Rattle.std.proofs.Math.Nat.{min-le_left, min-le_right, min-eq_left, min-eq_right}
 use Rattle.std.proofs.Math.Seq.{take-append_seam, drop-append_seam}
 use Rattle.std.proofs.lemmas.Bool.{cases_lt, eqb-true, or_from}
-use Rattle.std.proofs.lemmas.List.{append-nil}
 use Rattle.std.specs.Str.{chars}
 use Rattle.rustc_lexer.specs.declared.token.GuardedStr.{GuardedStr}
 use Rattle.rustc_lexer.specs.Classes.{is_among}
@@ -20,7 +19,7 @@ use Rattle.rustc_lexer.specs.Spans.{Stops, bytes}
 use Rattle.rustc_lexer.specs.State.{State}
 use Rattle.rustc_lexer.specs.laws.LanguageLiterals.{suffix-sound, suffix-read}
 use Rattle.rustc_lexer.specs.laws.LanguageQuoted.{double-read, double-sound}
-use Rattle.rustc_lexer.specs.laws.LanguageRaw.{guard-length, guard-hashes, at_least, split-hashes, Guarded, guarded}
+use Rattle.rustc_lexer.specs.laws.LanguageRaw.{guard-length, guard-hashes, at_least, split-hashes, guarded}
 use Rattle.rustc_lexer.specs.laws.LanguageRuns.{run-stops}
 
 -- ---- hashes

@@ -4,7 +4,6 @@ use lib.Utf8.{encode}
 use Rattle.std.proofs.Math.Seq.{take-append_seam}
 use Rattle.std.proofs.lemmas.Bool.{and_parts, leb-true, leb-false}
 use Rattle.std.proofs.lemmas.Str.{chars-nil}
-use Rattle.std.specs.Char.{is_ascii_digit}
 use Rattle.std.specs.List.{list_all}
 use Rattle.std.specs.Str.{chars, encode_utf8_all}
 use Rattle.rustc_lexer.specs.declared.edition.Edition.{Edition}
@@ -13,23 +12,22 @@ use Rattle.rustc_lexer.specs.declared.token.Token.{Token}
 use Rattle.rustc_lexer.specs.declared.token.TokenKind.{TokenKind}
 use Rattle.rustc_lexer.specs.declared.token.TokenKind.TheVariants.{Ident, UnknownPrefix, UnknownPrefixLifetime, RawLifetime, Lifetime, GuardedStrPrefix, Pound}
 use Rattle.rustc_lexer.specs.Classes.{is_among, is_id_start, is_id_continue, is_ident}
-use Rattle.rustc_lexer.specs.Cuts.{tokens_by}
-use Rattle.rustc_lexer.specs.Edition.{year, token, has_marked_name, before_2024, before_2021, changed, first_token_in, tokens_in}
+use Rattle.rustc_lexer.specs.Edition.{year, token, has_marked_name, before_2021, changed, first_token_in, tokens_in}
 use Rattle.rustc_lexer.specs.Emoji.{is_emoji}
 use Rattle.rustc_lexer.specs.Language as the
 use Rattle.rustc_lexer.specs.Language.{is_word, is_word_start, begins_ident_past, IsTokenBefore}
 use Rattle.rustc_lexer.specs.LanguageIn.{since, IsTokenIn, kept, pound, ident, lifetime, lifetime_r, AreTokensIn, nothing, something, AreTheTokensIn, IsPage}
 use Rattle.rustc_lexer.specs.Lexeme.{past_first, lexeme, first_token, symbols, kind_among, symbol_kind}
-use Rattle.rustc_lexer.specs.Scan.{begins, bytes_of, next_is, run_len}
+use Rattle.rustc_lexer.specs.Scan.{bytes_of, next_is, run_len}
 use Rattle.rustc_lexer.specs.Spans.{AreAll, Goes, Stops, bytes}
 use Rattle.rustc_lexer.specs.Texts.{IsText, IsGrammar}
 use Rattle.rustc_lexer.specs.laws.Choice.{by_test}
 use Rattle.rustc_lexer.specs.laws.Edition.{edition_grammar}
 use Rattle.rustc_lexer.specs.laws.Language.{lexeme-sound}
 use Rattle.rustc_lexer.specs.laws.LanguageRuns.{word_start-no_digit, mark-stops, run_len-here}
-use Rattle.rustc_lexer.specs.laws.LanguageWords.{ident-start, marked-sound}
+use Rattle.rustc_lexer.specs.laws.LanguageWords.{marked-sound}
 use Rattle.rustc_lexer.proofs.CutLemmas.{past_first as text_past, shorter, tokens-nil, tokens-cons}
-use Rattle.rustc_lexer.proofs.LanguageLemmas.{empty-text, Split, split, first-is}
+use Rattle.rustc_lexer.proofs.LanguageLemmas.{empty-text, split, first-is}
 
 -- ---- what an edition keeps
 

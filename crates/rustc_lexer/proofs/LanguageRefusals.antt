@@ -1,5 +1,5 @@
 -- Why a raw string is refused is what the language says, and nothing else is.
-use Rattle.std.proofs.Common.{◌≡◌, ℕ, zero, suc, ◌+◌, ◌<◌, ◌≤◌, ◌==◌, nat_le, max, Bool, true, false, true≢false, if◌then◌else◌, List, [], ◌∷◌, ◌++◌, length, take, drop, codes, refl, sym, ap, ◌∙◌, subst, arith, append_assoc, length-append, Option, Some, None, Result, Ok, Err}
+use Rattle.std.proofs.Common.{◌≡◌, ℕ, zero, suc, ◌+◌, ◌<◌, ◌≤◌, ◌==◌, nat_le, Bool, true, false, if◌then◌else◌, List, [], ◌∷◌, ◌++◌, length, take, drop, refl, sym, ap, ◌∙◌, subst, arith, append_assoc, length-append, Option, Some, None, Result, Ok, Err}
 use Rattle.std.proofs.Math.Nat.{le-max_left, le-max_right, max-le}
 use Rattle.std.proofs.Math.Seq.{take-append_seam, drop-append_seam}
 use Rattle.std.proofs.lemmas.Bool.{eqb-true, or_parts, or_from, leb-true, leb-false, le-leb, lt-leb, false_from_ne_true, eq-eqb}
@@ -7,17 +7,15 @@ use Rattle.std.proofs.lemmas.List.{append-nil}
 use Rattle.std.specs.Str.{chars}
 use Rattle.rustc_lexer.specs.declared.token.RawStrError.{RawStrError}
 use Rattle.rustc_lexer.specs.declared.token.RawStrError.TheVariants.{InvalidStarter, NoTerminator, TooManyDelimiters}
-use Rattle.rustc_lexer.specs.Classes.{is_among}
 use Rattle.rustc_lexer.specs.Language.{guard, Lacks}
 use Rattle.rustc_lexer.specs.LanguageCalls as the
 use Rattle.rustc_lexer.specs.LanguageCalls.{IsBest, IsRawAnswer, IsTheRawAnswer}
 use Rattle.rustc_lexer.specs.Least.{one_more}
-use Rattle.rustc_lexer.specs.Raw.{is_hash, is_quote, hashes, close, most_hashes, quote_hashes, quote_with, best_quote, quote_if, quote_end, hash_count, raw_closed, raw_text, raw_starter, raw_read, checked, raw_check}
+use Rattle.rustc_lexer.specs.Raw.{is_hash, hashes, close, most_hashes, quote_hashes, quote_with, best_quote, quote_if, quote_end, hash_count, raw_closed, raw_starter, raw_read, checked, raw_check}
 use Rattle.rustc_lexer.specs.Scan.{bytes_of}
 use Rattle.rustc_lexer.specs.Spans.{Stops, bytes}
-use Rattle.rustc_lexer.specs.laws.Choice.{by_test}
 use Rattle.rustc_lexer.specs.laws.LanguageLiterals.{bytes-append, bytes-one}
-use Rattle.rustc_lexer.specs.laws.LanguageRaw.{guard-length, guard-hashes, at_least, split-hashes, GuardBegins, before-quote, lacks-rest, lacks-front, close-read, unclosed-read, Closing, found, lost, closing, Guarded, guarded}
+use Rattle.rustc_lexer.specs.laws.LanguageRaw.{guard-length, guard-hashes, at_least, split-hashes, before-quote, lacks-rest, lacks-front, close-read, unclosed-read, Closing, found, lost, closing, guarded}
 
 -- ---- the most hashes behind a quote
 
@@ -99,11 +97,11 @@ best-read p n {w} (the.best {n = m} u v some whole lacks most_so) =
     record {
       most = most;
       at =
-      ap (λ (k : ℕ). quote_end (p + suc n) w (quote_if k w)) most
-      ∙ (ap (λ (b : Bool). quote_end (p + suc n) w (if b then None else quote_with m w)) has
-      ∙ (ap (λ (x : List ℕ). quote_end (p + suc n) x (quote_with m x)) whole
-      ∙ (ap (quote_end (p + suc n) (u ++ (34 ∷ guard m ++ v))) (quote-first m u v some lacks exact)
-      ∙ ap Some (end-at p n m u v))));
+          ap (λ (k : ℕ). quote_end (p + suc n) w (quote_if k w)) most
+          ∙ (ap (λ (b : Bool). quote_end (p + suc n) w (if b then None else quote_with m w)) has
+          ∙ (ap (λ (x : List ℕ). quote_end (p + suc n) x (quote_with m x)) whole
+          ∙ (ap (quote_end (p + suc n) (u ++ (34 ∷ guard m ++ v))) (quote-first m u v some lacks exact)
+          ∙ ap Some (end-at p n m u v))));
     }
   where
     most_at : (m : ℕ) (u v w : List ℕ) → w ≡ u ++ (34 ∷ guard m ++ v) → most_hashes w ≡ m → hashes (guard m ++ v) ≤ m

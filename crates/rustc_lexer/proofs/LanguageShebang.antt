@@ -3,12 +3,10 @@ use Rattle.std.proofs.Common.{◌≡◌, ℕ, zero, suc, ◌+◌, ◌-◌, ◌<�
 use lib.Utf8.{encode}
 use Rattle.std.proofs.lemmas.Bool.{and_parts, eqb-true}
 use Rattle.std.proofs.lemmas.List.{append-nil}
-use Rattle.std.proofs.lemmas.Str.{chars-nil, IsUtf8-drop, IsCharBoundary-from_take}
+use Rattle.std.proofs.lemmas.Str.{IsUtf8-drop, IsCharBoundary-from_take}
 use Rattle.std.specs.List.{list_all, prefix_len}
-use Rattle.std.specs.Str.{chars, encode_utf8_all, IsUtf8}
+use Rattle.std.specs.Str.{chars, IsUtf8}
 use Rattle.unicode_ident.proofs.Computing.{unicode_ident}
-use Rattle.rustc_lexer.specs.declared.token.DocStyle.{DocStyle}
-use Rattle.rustc_lexer.specs.declared.token.FrontmatterAllowed.TheVariants.{No}
 use Rattle.rustc_lexer.specs.declared.token.Token.{Token}
 use Rattle.rustc_lexer.specs.declared.token.TokenKind.{TokenKind}
 use Rattle.rustc_lexer.specs.declared.token.TokenKind.TheVariants.{LineComment, BlockComment, Whitespace, OpenBracket}
@@ -19,18 +17,17 @@ use Rattle.rustc_lexer.specs.Language as page
 use Rattle.rustc_lexer.specs.Language.{begins_more, IsTokenBefore}
 use Rattle.rustc_lexer.specs.LanguageCalls as the
 use Rattle.rustc_lexer.specs.LanguageCalls.{IsAttributeRest, IsLineBefore, IsShebang, IsTheShebang}
-use Rattle.rustc_lexer.specs.Lexeme.{past_first, lexeme, first_token, symbols, kind_among, symbol_kind}
-use Rattle.rustc_lexer.specs.Scan.{begins, bytes_of}
+use Rattle.rustc_lexer.specs.Lexeme.{past_first, first_token, symbols, kind_among}
+use Rattle.rustc_lexer.specs.Scan.{begins}
 use Rattle.rustc_lexer.specs.Shebang.{is_passed, is_open_bracket, is_attribute, before_newline, line_len, shebang_past, shebang}
-use Rattle.rustc_lexer.specs.Spans.{AreAll, is_inline, bytes}
-use Rattle.rustc_lexer.specs.Texts.{IsText, IsGrammar}
-use Rattle.rustc_lexer.specs.Tokens.{tokens_of}
+use Rattle.rustc_lexer.specs.Spans.{AreAll, is_inline}
+use Rattle.rustc_lexer.specs.Texts.{IsText}
 use Rattle.rustc_lexer.specs.laws.Choice.{by_test}
 use Rattle.rustc_lexer.specs.laws.Cuts.{tokens-by}
 use Rattle.rustc_lexer.specs.laws.Language.{lexeme-sound}
 use Rattle.rustc_lexer.specs.laws.Lookahead.{first_token_grammar}
 use Rattle.rustc_lexer.proofs.CutLemmas.{past_first as text_past, shorter, tokens-nil, tokens-cons}
-use Rattle.rustc_lexer.proofs.LanguageLemmas.{empty-text, Split, split, first-is}
+use Rattle.rustc_lexer.proofs.LanguageLemmas.{empty-text, split, first-is}
 
 -- ---- an attribute
 

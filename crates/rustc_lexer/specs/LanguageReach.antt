@@ -1,5 +1,5 @@
 -- How far a token of each kind looks: so many characters past its end tell whether it stands there, and the end of the text.
-use Rattle.std.specs.Prelude.{◌≡◌, ℕ, true, false, List, take}
+use Rattle.std.specs.Prelude.{◌≡◌, ℕ, false, List, take}
 use Rattle.rustc_lexer.specs.declared.token.Base.TheVariants.{Decimal}
 use Rattle.rustc_lexer.specs.declared.token.LiteralKind.{LiteralKind}
 use Rattle.rustc_lexer.specs.declared.token.LiteralKind.TheVariants.{Int, Float, Char, Byte}

@@ -1,5 +1,5 @@
 -- How far a token of each kind looks can be read off the conditions of the language on what follows.
-use Rattle.std.proofs.Common.{true≢false, ◌≡◌, ℕ, zero, suc, ◌+◌, ◌<◌, ◌≤◌, Bool, true, false, List, [], ◌∷◌, ◌++◌, length, take, drop, codes, refl, sym, ap, ◌∙◌, subst, arith, take-add, Option}
+use Rattle.std.proofs.Common.{◌≡◌, ℕ, ◌+◌, ◌<◌, Bool, true, false, List, [], ◌∷◌, ◌++◌, length, take, drop, codes, refl, sym, ap, ◌∙◌, subst, arith, take-add, Option}
 use lib.Utf8.{encode}
 use Rattle.std.proofs.Math.Seq.{take-append_seam, drop-append_seam}
 use Rattle.unicode_ident.proofs.Computing.{unicode_ident}
@@ -21,7 +21,7 @@ use Rattle.rustc_lexer.specs.Scan.{begins, next_is}
 use Rattle.rustc_lexer.specs.Spans.{Goes, Stops}
 use Rattle.rustc_lexer.specs.laws.Language.{language, token-read}
 use Rattle.rustc_lexer.specs.laws.Lookahead.{lexeme_local}
-use Rattle.rustc_lexer.specs.laws.Reach.{IsToldBy, told_same, next_is-told}
+use Rattle.rustc_lexer.specs.laws.Reach.{told_same, next_is-told}
 
 -- ---- one character, and the end
 
