@@ -120,6 +120,34 @@ module _ {first : List ℕ → Token} (law : IsGrammar first) (text : List ℕ) 
   pub met_whole : (j i : ℕ) → start + length insert ≤ bound (tokens_by first new) j → bound (tokens_by first text) i ≡ bound (tokens_by first new) j - length insert + (stop - start) → take j (tokens_by first new) ++ drop i (tokens_by first text) ≡ tokens_by first new
   met_whole j i past met = ap (λ ts. take j (tokens_by first new) ++ ts) (sym (met_rest j i past met)) ∙ take-append-drop j (tokens_by first new)
 
+take-nil : (n : ℕ) → take {A = ℕ} n [] ≡ []
+take-nil zero = refl
+take-nil (suc n) = refl
+
+drop_of-take : (p n : ℕ) (xs : List ℕ) → drop p (take n xs) ≡ take (n - p) (drop p xs)
+drop_of-take zero n xs = ap (λ m. take m xs) e
+  where
+    e : n ≡ n - zero
+    e = omega arith
+drop_of-take (suc p) zero xs = none
+  where
+    e : zero - suc p ≡ zero
+    e = omega arith
+
+    none : drop (suc p) (take zero xs) ≡ take (zero - suc p) (drop (suc p) xs)
+    none = sym (ap (λ m. take m (drop (suc p) xs)) e)
+drop_of-take (suc p) (suc n) [] = sym (take-nil (suc n - suc p))
+drop_of-take (suc p) (suc n) (x ∷ xs) = drop_of-take p n xs ∙ ap (λ m. take m (drop p xs)) e
+  where
+    e : n - p ≡ suc n - suc p
+    e = omega arith
+
+-- what stands from a place up to another is in the text up to that one
+pub has_two-same : (text other : List ℕ) (place to : ℕ) → take to text ≡ take to other → has_two text place to ≡ has_two other place to
+unfolding has_two
+has_two-same text other place to same =
+    ap (λ xs. leb 2 (length (chars xs))) (sym (drop_of-take place to text) ∙ (ap (drop place) same ∙ drop_of-take place to other))
+
 pub has_two-late : (text : List ℕ) (place to : ℕ) → to ≤ place → has_two text place to ≡ false
 has_two-late text place to late = by_test (has_two text place to) refl
   where

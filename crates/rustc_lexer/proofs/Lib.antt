@@ -26,6 +26,7 @@ pub mod LanguageInLemmas
 pub mod LanguageLemmas
 pub mod LanguageRefusals
 pub mod LanguageShebang
+pub mod LengthLemmas
 pub mod LexemeLemmas
 pub mod LifetimeLemmas
 pub mod LiteralLemmas
@@ -42,6 +43,7 @@ pub mod QuotedLoop
 pub mod RawLemmas
 pub mod RawReadLemmas
 pub mod ReadyLemmas
+pub mod RelexingLemmas
 pub mod RunLemmas
 pub mod ScanLemmas
 pub mod SettledLemmas

@@ -30,6 +30,7 @@ pub mod Pieces
 pub mod Quick
 pub mod Quoted
 pub mod Raw
+pub mod Relexing
 pub mod Scan
 pub mod Settled
 pub mod Shebang

@@ -26,7 +26,9 @@ pub use cursor::Cursor;
 pub use edition::{Edition, EditionTokens, tokenize_in};
 pub use entry::{Stepper, Steps, Tokens, tokenize};
 pub use raw_check::{starts_raw, validate_raw_str};
-pub use relex::{Edit, EditStop, LexedText, Piece, Pieces, Relexed, settled};
+pub use relex::{
+    Bound, Change, Edit, EditStop, LexedText, Measured, Piece, Pieces, Relexed, Relexing, settled,
+};
 pub use shebang::strip_shebang;
 pub use token::{
     Base, DocStyle, FrontmatterAllowed, GuardedStr, LiteralKind, RawStrError, Token, TokenKind,

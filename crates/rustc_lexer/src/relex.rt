@@ -6,11 +6,14 @@ mod landmarks;
 mod lex;
 mod lexed_text;
 mod pieces;
+mod relexing;
 mod replace;
 mod settle;
 
 pub use edit::Relexed;
 pub use edit_list::{Edit, EditStop};
+pub use front::{Bound, Measured};
 pub use lexed_text::LexedText;
 pub use pieces::{Piece, Pieces};
+pub use relexing::{Change, Relexing};
 pub use settle::settled;

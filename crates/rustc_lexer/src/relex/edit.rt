@@ -1,13 +1,16 @@
 //! One edit: what it keeps of the old tokens, and what it lexes.
-ghost use Rattle.std.specs.Prelude.{◌≡◌, ◌+◌, ◌++◌, ◌≤◌, IfOk, IfErr, OnOk, OnErr, length, take};
+ghost use Rattle.std.specs.Prelude.{◌≡◌, ◌+◌, ◌≤◌, IfOk, IfErr, OnOk, OnErr, List, ℕ, length, map};
+ghost use Rattle.rustc_lexer.specs.declared.token.Token.{Token};
 ghost use Rattle.rustc_lexer.specs.Classes.{Fits};
-ghost use Rattle.rustc_lexer.specs.Cuts.{bound, tokens_by};
-ghost use Rattle.rustc_lexer.specs.Edits.{meet, IsMet, IsEdit, IsReady, apply, bytes_or, relexed_of};
-ghost use Rattle.rustc_lexer.specs.Landmarks.{AreBounds};
+ghost use Rattle.rustc_lexer.specs.Cuts.{tokens_by};
+ghost use Rattle.rustc_lexer.specs.Edits.{IsEdit, apply, bytes_or, relexed_of};
+ghost use Rattle.rustc_lexer.specs.Landmarks.{AreBounds, IsBound};
+ghost use Rattle.rustc_lexer.specs.Relexing.{IsChange, IsLexed, IsMadeOf, MayGoOn};
 
 use crate::entry::stepper::Stepper;
-use crate::relex::front::{Bound, Damage, follow, kept_front};
+use crate::relex::front::Bound;
 use crate::relex::landmarks::Landmarks;
+use crate::relex::relexing::{Change, Relexing};
 use crate::relex::replace::replace;
 use crate::token::Token;
 use std::alloc::{AllocError, Global};
@@ -23,58 +26,45 @@ pub struct Relexed {
     pub kept_back: usize,
 }
 
-/// What was lexed of a new text: the tokens between the kept front and the old tokens, and where these begin, as a
-/// bound of the old tokens and as a place in the new text.
-#[derive(Drop)]
-struct Lexed {
-    tokens: Vec<Token>,
-    met: Bound,
-    end: usize,
-}
-
-/// Lexes the new text from the kept front on, until it meets the old tokens.
-fn relex_from<S: Stepper>(
+/// Lexes the new text from the kept front on, until it meets the old tokens, and answers the tokens between with
+/// the place of the meeting.
+fn relex<S: Stepper>(
     alloc: Global,
     stepper: &mut S,
     old: &[Token],
-    kept: Bound,
+    near: Bound,
     text: &str,
-    damage: Damage,
-) -> Result<Lexed, AllocError>
-    requires { IsReady (S.grammar stepper.old) old.now text.now kept damage }
+    change: Change,
+) -> Result<(Vec<Token>, Relexing), AllocError>
+    requires fits { Fits text.now }
+    requires change { IsChange text.now change }
     ensures grammar { S.grammar stepper.new ≡ S.grammar stepper.old }
     ensures number { S.number stepper.new ≡ S.number stepper.old }
-    ensures met { IfOk result
-        (λ r. IsMet (S.grammar stepper.old) old.now text.now
-        damage.past damage.added damage.removed
-        kept.number (take kept.number old.now ++ r.tokens.items) r.met.number) }
-    ensures met_place { IfOk result (λ r. r.met.place ≡ bound old.now r.met.number) }
-    ensures end { IfOk result
-        (λ r. r.end ≡ bound (tokens_by (S.grammar stepper.old) text.now)
-        (kept.number + length r.tokens.items)) }
-    ensures kept { IfOk result (λ r. kept.number ≤ r.met.number) }
+    ensures lexed { IfOk result
+        (λ r. (before insert : List ℕ)
+        → IsMadeOf (S.grammar stepper.old) before (map (λ (t : Token). t.len) old.now)
+        change insert text.now
+        → IsBound (tokens_by (S.grammar stepper.old) before) near
+        → IsLexed (S.grammar stepper.old) before change text.now r.0.items r.1) }
+    ensures may_go_on { IfOk result (λ r. MayGoOn text.now (length old.now) r.1) }
     ensures count { IfOk result
-        (λ r. S.count stepper.new ≡ S.count stepper.old + length r.tokens.items) }
+        (λ r. S.count stepper.new ≡ S.count stepper.old + length r.0.items) }
     ensures rose { S.count stepper.old ≤ S.count stepper.new }
     ensures few { IfErr result
-        (λ _. S.count stepper.new + kept.number
-        ≤ S.count stepper.old + meet old.now (tokens_by (S.grammar stepper.old) text.now)
-        damage.past damage.added damage.removed kept.number) }
+        (λ _. (before insert : List ℕ)
+        → IsMadeOf (S.grammar stepper.old) before (map (λ (t : Token). t.len) old.now)
+        change insert text.now
+        → IsBound (tokens_by (S.grammar stepper.old) before) near
+        → S.count stepper.new
+        ≤ S.count stepper.old
+        + (relexed_of (S.grammar stepper.old) before change.start change.old_stop insert).lexed) }
 {
     let mut tokens = Vec::new(alloc);
-    let mut place = kept.place;
-    let mut state = follow(old, kept, place, damage);
-    while !state.met {
-        let token = stepper.step(&text[place..]);
+    let mut at = Relexing::begin(text, old, change, near);
+    while let Some(token) = at.next(stepper, text, old, change) {
         tokens.push(token)?;
-        place += token.len as usize;
-        state = follow(old, state.at, place, damage);
     }
-    Ok(Lexed {
-        tokens,
-        met: state.at,
-        end: place,
-    })
+    Ok((tokens, at))
 }
 
 /// The text with `insert` for its bytes from `start` up to `stop`, or `None` where that changes nothing.
@@ -150,31 +140,23 @@ pub(crate) fn lex_edit<S: Stepper>(
         ≤ S.count stepper.old
         + (relexed_of (S.grammar stepper.old) text.now start stop insert.now).lexed) }
 {
-    let old = tokens.as_slice();
-    let kept = kept_front(text, old, start, landmarks.nearest(start));
     let new = splice(alloc, text, start, stop, insert)?;
-    let damage = Damage {
-        past: start + insert.len(),
-        added: insert.len(),
-        removed: stop - start,
+    let change = Change {
+        start,
+        old_stop: stop,
+        new_stop: start + insert.len(),
     };
-    let Lexed {
-        tokens: lexed,
-        met,
-        end,
-    } = relex_from(alloc, stepper, old, kept, text_or(&new, text), damage)?;
-    let relexed = Relexed {
-        kept_front: kept.number,
-        lexed: lexed.len(),
-        kept_back: old.len() - met.number,
-    };
-    replace(tokens, kept.number, met.number, lexed.as_slice())?;
+    let old = tokens.as_slice();
+    let near = landmarks.nearest(start);
+    let (lexed, end) = relex(alloc, stepper, old, near, text_or(&new, text), change)?;
+    let relexed = end.counts(old.len());
+    replace(tokens, end.front.number, end.back.number, lexed.as_slice())?;
     let now = Bound {
-        number: kept.number + relexed.lexed,
-        place: end,
+        number: end.front.number + relexed.lexed,
+        place: end.at,
     };
-    let mut landmarks = landmarks.after(kept, met, now);
-    landmarks.remember(kept, text.len());
+    let mut landmarks = landmarks.after(end.front, end.back, now);
+    landmarks.remember(end.front, text.len());
     Ok(Edited {
         text: new,
         relexed,

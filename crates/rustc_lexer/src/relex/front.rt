@@ -1,18 +1,49 @@
 //! What an edit keeps of the old tokens.
-ghost use Rattle.std.specs.Prelude.{◌≡◌, ◌+◌, ◌-◌, ◌<◌, ◌≤◌, ◌^◌, length, ℕ, true, IsCharBoundary, max};
-ghost use Rattle.rustc_lexer.specs.Edits.{kept_front, AreCuts, meets_at};
+//!
+//! Only the lengths of the old tokens are read. Each function here may be called with any lengths; what it finds is
+//! said of lengths that are those of a text's tokens.
+ghost use Rattle.std.specs.Prelude.{◌≡◌, ◌+◌, ◌-◌, ◌*◌, ◌<◌, ◌≤◌, ◌^◌, List, length, map, ℕ, true, false, IsCharBoundary, max};
+ghost use Rattle.rustc_lexer.specs.declared.token.Token.{Token};
+ghost use Rattle.rustc_lexer.specs.Edits.{kept_front};
 ghost use Rattle.rustc_lexer.specs.Settled.{has_two};
 ghost use Rattle.rustc_lexer.specs.Cuts.{bound};
 ghost use Rattle.rustc_lexer.specs.Landmarks.{IsBound};
+ghost use Rattle.rustc_lexer.specs.Relexing.{HasLengths, IsFront, IsFollowed};
 
 use crate::token::Token;
 
+/// What has a length in bytes, as a token.
+pub trait Measured {
+    /// The length in bytes.
+    ghost bytes: { Self → ℕ };
+
+    /// The length in bytes.
+    fn len(&self) -> u32
+        ensures { result ≡ bytes self.now };
+}
+
+impl Measured for Token {
+    ghost bytes = { λ token. token.len };
+
+    fn len(&self) -> u32 {
+        self.len
+    }
+}
+
 /// A bound of a list of tokens: its number and its place.
-#[derive(Clone, Copy)]
-pub(crate) struct Bound {
+#[derive(Clone, Copy, Debug, PartialEq, Eq)]
+pub struct Bound {
+    /// How many tokens stand before it.
     pub number: usize,
+    /// Where it is, in bytes from the start of the text.
     pub place: usize,
 }
+
+/// The first bound, which each list has.
+const FIRST: Bound = Bound {
+    number: 0,
+    place: 0,
+};
 
 /// Whether at least two characters stand between the places.
 pub(crate) fn two_stand(text: &str, from: usize, to: usize) -> bool
@@ -33,70 +64,92 @@ pub(crate) fn two_stand(text: &str, from: usize, to: usize) -> bool
     }
 }
 
-/// The last bound up to `from` that is at least two characters before `start`, or the first one.
-fn walk_back(text: &str, tokens: &[Token], start: usize, from: Bound) -> Bound
-    requires cuts { AreCuts text.now tokens.now }
-    requires boundary { IsCharBoundary text.now start }
-    requires from { IsBound tokens.now from }
-    ensures number { result.number ≤ length tokens.now }
-    ensures place { result.place ≡ bound tokens.now result.number }
-    ensures two { 0 < result.number → has_two text.now result.place start ≡ true }
+/// Whether `from` is between characters, and at least two of them stand from there up to `to`.
+fn stand_before(text: &str, from: usize, to: usize) -> bool
+    requires to_boundary { IsCharBoundary text.now to }
+    ensures late { to ≤ from → result ≡ false }
+    ensures boundary { result ≡ true → IsCharBoundary text.now from }
+    ensures two { IsCharBoundary text.now from → result ≡ has_two text.now from to }
 {
-    let mut number = from.number;
-    let mut place = from.place;
-    while number > 0 {
-        if two_stand(text, place, start) {
-            break;
-        }
-        number -= 1;
-        place -= tokens[number].len as usize;
+    text.is_char_boundary(from) && two_stand(text, from, to)
+}
+
+/// The last bound up to `from` that is at least two characters before `start`, or the first one.
+fn walk_back<T: Measured>(text: &str, tokens: &[T], start: usize, from: Bound) -> Bound
+    requires boundary { IsCharBoundary text.now start }
+    ensures number { result.number ≤ length tokens.now }
+    ensures boundary { IsCharBoundary text.now result.place }
+    ensures before { result.place ≤ start }
+    ensures bound { (old : List ℕ) (ts : List Token)
+        → IsFront old ts (map T.bytes tokens.now) text.now start → IsBound ts from
+        → IsBound ts result × (0 < result.number → has_two old result.place start ≡ true) }
+{
+    if from.number > tokens.len() {
+        return FIRST;
     }
-    Bound { number, place }
+    let mut at = from;
+    while at.number > 0 {
+        if stand_before(text, at.place, start) {
+            return at;
+        }
+        let number = at.number - 1;
+        at = Bound {
+            number,
+            place: at.place.saturating_sub(tokens[number].len() as usize),
+        };
+    }
+    FIRST
 }
 
 /// How many of the tokens end at least two characters before `start`. The search begins at `near`, which may be
 /// any bound.
-pub(crate) fn kept_front(text: &str, tokens: &[Token], start: usize, near: Bound) -> Bound
-    requires cuts { AreCuts text.now tokens.now }
+pub(crate) fn kept_front<T: Measured>(text: &str, tokens: &[T], start: usize, near: Bound) -> Bound
     requires boundary { IsCharBoundary text.now start }
-    requires near { IsBound tokens.now near }
-    ensures number { result.number ≡ kept_front text.now tokens.now start }
-    ensures place { result.place ≡ bound tokens.now result.number }
-    ensures number_bound { result.number ≤ length tokens.now }
-    ensures two { 0 < result.number → has_two text.now result.place start ≡ true }
+    ensures number { result.number ≤ length tokens.now }
+    ensures boundary { IsCharBoundary text.now result.place }
+    ensures before { result.place ≤ start }
+    ensures front { (old : List ℕ) (ts : List Token)
+        → IsFront old ts (map T.bytes tokens.now) text.now start → IsBound ts near
+        → (result.number ≡ kept_front old ts start)
+        × IsBound ts result
+        × (0 < result.number → has_two old result.place start ≡ true) }
 {
-    let from = walk_back(text, tokens, start, near);
-    let mut number = from.number;
-    let mut place = from.place;
-    while number < tokens.len() {
-        let next = place + tokens[number].len as usize;
-        if !two_stand(text, next, start) {
+    let mut at = walk_back(text, tokens, start, near);
+    while at.number < tokens.len() {
+        let next = Bound {
+            number: at.number + 1,
+            place: at.place + tokens[at.number].len() as usize,
+        };
+        if !stand_before(text, next.place, start) {
             break;
         }
-        number += 1;
-        place = next;
+        at = next;
     }
-    Bound { number, place }
+    at
 }
 
 /// The first bound from `from` on that is at or past `target`, or the last one.
-fn next_bound(tokens: &[Token], from: Bound, target: usize) -> Bound
+fn next_bound<T: Measured>(tokens: &[T], from: Bound, target: usize) -> Bound
     requires number { from.number ≤ length tokens.now }
-    requires place { from.place ≡ bound tokens.now from.number }
-    requires fits { (k : ℕ) → k ≤ length tokens.now → bound tokens.now k < 2 ^ 32 }
-    requires below { (k : ℕ) → k < from.number → bound tokens.now k < target }
+    requires small { from.place < 2 ^ 40 }
+    requires target_small { target < 2 ^ 34 }
     ensures number { result.number ≤ length tokens.now }
-    ensures place { result.place ≡ bound tokens.now result.number }
-    ensures below { (k : ℕ) → k < result.number → bound tokens.now k < target }
-    ensures reached { result.number < length tokens.now → target ≤ result.place }
+    ensures ahead { from.number ≤ result.number }
+    ensures small { result.place < 2 ^ 40 }
+    ensures bound { (ts : List Token) → HasLengths ts (map T.bytes tokens.now) → IsBound ts from
+        → ((k : ℕ) → k < from.number → bound ts k < target)
+        → IsBound ts result
+        × ((k : ℕ) → k < result.number → bound ts k < target)
+        × (result.number < length tokens.now → target ≤ result.place) }
 {
-    let mut number = from.number;
-    let mut place = from.place;
-    while number < tokens.len() && place < target {
-        place += tokens[number].len as usize;
-        number += 1;
+    let mut at = from;
+    while at.number < tokens.len() && at.place < target {
+        at = Bound {
+            number: at.number + 1,
+            place: at.place + tokens[at.number].len() as usize,
+        };
     }
-    Bound { number, place }
+    at
 }
 
 /// A place in the old tokens, and whether the new tokens meet it.
@@ -115,22 +168,23 @@ pub(crate) struct Damage {
 }
 
 /// Whether the bound of the new tokens at `place` is past the edit and, moved back, a bound of the old tokens.
-pub(crate) fn follow(tokens: &[Token], from: Bound, place: usize, damage: Damage) -> Meeting
+pub(crate) fn follow<T: Measured>(
+    tokens: &[T],
+    from: Bound,
+    place: usize,
+    damage: Damage,
+) -> Meeting
     requires number { from.number ≤ length tokens.now }
-    requires place { from.place ≡ bound tokens.now from.number }
-    requires fits { (k : ℕ) → k ≤ length tokens.now → bound tokens.now k < 2 ^ 32 }
-    requires below { (k : ℕ) → k < from.number
-        → bound tokens.now k + damage.added < max damage.past place + damage.removed }
+    requires small { from.place < 2 ^ 40 }
     requires added_le { damage.added ≤ damage.past }
-    requires place_fits { place + damage.removed < 2 ^ 64 }
+    requires place_fits { place + damage.removed < 2 ^ 34 }
     ensures number { result.at.number ≤ length tokens.now }
-    ensures place { result.at.place ≡ bound tokens.now result.at.number }
-    ensures below { (k : ℕ) → k < result.at.number
-        → bound tokens.now k + damage.added < max damage.past place + damage.removed }
-    ensures met { result.met ≡ meets_at tokens.now damage.past damage.added damage.removed place }
-    ensures past { result.met ≡ true → damage.past ≤ place }
-    ensures same_place { result.met ≡ true
-        → result.at.place ≡ place - damage.added + damage.removed }
+    ensures ahead { from.number ≤ result.at.number }
+    ensures small { result.at.place < 2 ^ 40 }
+    ensures followed { (ts : List Token) → HasLengths ts (map T.bytes tokens.now) → IsBound ts from
+        → ((k : ℕ) → k < from.number
+        → bound ts k + damage.added < max damage.past place + damage.removed)
+        → IsFollowed ts damage place result }
 {
     if place < damage.past {
         return Meeting {

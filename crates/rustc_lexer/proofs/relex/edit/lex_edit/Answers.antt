@@ -1,91 +1,142 @@
-use Rattle.std.proofs.Common.{◌≡◌, length, sym, ap, ◌∙◌, arith, rules}
+use Rattle.std.proofs.Common.{◌≡◌, ◌+◌, length, sym, ap, ◌∙◌, arith}
+use Rattle.std.proofs.lemmas.List.{length-map}
 use Rattle.std.proofs.lemmas.List.Elements.{All-contains}
 use Rattle.rustc_lexer.specs.declared.relex.edit.Relexed.{Relexed}
+use Rattle.rustc_lexer.specs.declared.token.Token.{Token}
+use Rattle.rustc_lexer.specs.Cuts.{bound, tokens_by}
 use Rattle.rustc_lexer.specs.Edits.{apply}
 use Rattle.rustc_lexer.specs.Texts.{IsText}
 use Rattle.rustc_lexer.specs.Landmarks.{AreBounds, IsBound}
 use Rattle.rustc_lexer.proofs.EditLemmas.{IfErr-always}
 use Rattle.rustc_lexer.proofs.LandmarkLemmas.{replaced_for, list_for, kept_stays}
-use Rattle.rustc_lexer.proofs.ReadyLemmas.{ready_for, cuts_for, lexed_for, put_together, counted}
+use Rattle.rustc_lexer.proofs.ReadyLemmas.{put_together}
+use Rattle.rustc_lexer.proofs.RelexingLemmas.{made_for, made_change, made_text, lexed_met}
 use Rattle.rustc_lexer.proofs.relex.edit.lex_edit.Goals as goal
 
-pub kept_front-kept-requires-clause-cuts : goal.kept_front-kept-requires-clause-cuts
-kept_front-kept-requires-clause-cuts g c =
-    let is : IsText c.args.text.now = record { utf8 = c.utf8.text; fits = c.requires.fits } in
-    let old = c.as_slice-old.ensures.value ∙ c.requires.from_scratch in
-    cuts_for (g.S.Stepper.law c.args.stepper.now) c.args.text.now is c.args.start c.args.stop c.args.insert.now c.utf8.insert c.requires.edit c.as_slice-old.result.now old
-
-pub kept_front-kept-requires-clause-near : goal.kept_front-kept-requires-clause-near
-kept_front-kept-requires-clause-near g c =
-    let are : AreBounds c.as_slice-old.result.now c.args.landmarks.now = rw c.as_slice-old.ensures.value c.requires.landmarks in
-    All-contains (IsBound c.as_slice-old.result.now) c.args.landmarks.now.bounds _ are c.nearest.ensures
-
-pub relex_from-requires : goal.relex_from-requires
-relex_from-requires g c =
+pub relex-requires-clause-fits : goal.relex-requires-clause-fits
+relex-requires-clause-fits g c =
     let is : IsText c.args.text.now = record { utf8 = c.utf8.text; fits = c.requires.fits } in
     let old = c.as_slice-old.ensures.value ∙ c.requires.from_scratch in
     let new : c.text_or.result.now ≡ apply c.args.text.now c.args.start c.args.stop c.args.insert.now = c.text_or.ensures ∙ c.in_ok-new.ensures in
-    let k = c.kept_front-kept.ensures in
-    ready_for (g.S.Stepper.law c.args.stepper.now) c.args.text.now is c.args.start c.args.stop c.args.insert.now c.utf8.insert c.requires.edit c.as_slice-old.result.now c.text_or.result.now c.kept_front-kept.result old new k.number_bound k.place k.two
+    (made_text (g.S.Stepper.law c.args.stepper.now) _ _ _ _ _ (made_for c.args.text.now is c.args.start c.args.stop c.args.insert.now c.utf8.insert c.requires.edit _ _ old new)).fits
+
+pub relex-requires-clause-change : goal.relex-requires-clause-change
+relex-requires-clause-change g c =
+    let is : IsText c.args.text.now = record { utf8 = c.utf8.text; fits = c.requires.fits } in
+    let old = c.as_slice-old.ensures.value ∙ c.requires.from_scratch in
+    let new : c.text_or.result.now ≡ apply c.args.text.now c.args.start c.args.stop c.args.insert.now = c.text_or.ensures ∙ c.in_ok-new.ensures in
+    made_change (g.S.Stepper.law c.args.stepper.now) _ _ _ _ _ (made_for c.args.text.now is c.args.start c.args.stop c.args.insert.now c.utf8.insert c.requires.edit _ _ old new)
 
 pub returns-in_err-lexed-clause-few : goal.returns-in_err-lexed-clause-few
 returns-in_err-lexed-clause-few g c =
     let is : IsText c.args.text.now = record { utf8 = c.utf8.text; fits = c.requires.fits } in
     let old = c.as_slice-old.ensures.value ∙ c.requires.from_scratch in
     let new : c.text_or.result.now ≡ apply c.args.text.now c.args.start c.args.stop c.args.insert.now = c.text_or.ensures ∙ c.in_ok-new.ensures in
-    let lexed = lexed_for (g.S.Stepper.law c.args.stepper.now) c.args.text.now is c.args.start c.args.stop c.args.insert.now c.utf8.insert c.requires.edit c.as_slice-old.result.now c.text_or.result.now c.kept_front-kept.result.number old new c.kept_front-kept.ensures.number in
-    IfErr-always c.from_residual-in_err-lexed.result (omega (arith, lexed, c.in_err-lexed.ensures.few))
+    let made = made_for c.args.text.now is c.args.start c.args.stop c.args.insert.now c.utf8.insert c.requires.edit _ _ old new in
+    let near = All-contains (IsBound (tokens_by (g.S.Stepper.grammar c.args.stepper.now) c.args.text.now)) c.args.landmarks.now.bounds _ (rw (sym c.requires.from_scratch) c.requires.landmarks) c.nearest-near.ensures in
+    IfErr-always c.from_residual-in_err-lexed.result (c.in_err-lexed.ensures.few c.args.text.now c.args.insert.now made near)
+
+pub replace-requires-clause-from_le_to : goal.replace-requires-clause-from_le_to
+replace-requires-clause-from_le_to g c = c.in_ok-lexed.ensures.may_go_on.apart
 
 pub returns-in_err-replace-clause-few : goal.returns-in_err-replace-clause-few
 returns-in_err-replace-clause-few g c =
     let is : IsText c.args.text.now = record { utf8 = c.utf8.text; fits = c.requires.fits } in
+    let law = g.S.Stepper.law c.args.stepper.now in
     let old = c.as_slice-old.ensures.value ∙ c.requires.from_scratch in
     let new : c.text_or.result.now ≡ apply c.args.text.now c.args.start c.args.stop c.args.insert.now = c.text_or.ensures ∙ c.in_ok-new.ensures in
-    let lexed = ap (λ (r : Relexed). r.lexed) (counted (g.S.Stepper.law c.args.stepper.now) c.args.text.now is c.args.start c.args.stop c.args.insert.now c.utf8.insert c.requires.edit c.as_slice-old.result.now c.text_or.result.now c.in_ok-lexed.field-0.tokens.items c.in_ok-lexed.field-0.met.number c.kept_front-kept.result.number old new c.kept_front-kept.ensures.number_bound c.kept_front-kept.ensures.number c.in_ok-lexed.ensures.met) in
-    IfErr-always c.from_residual-in_err-replace.result (omega (arith, lexed, c.in_ok-lexed.ensures.count))
-
-pub returns-clause-tokens : goal.returns-clause-tokens
-returns-clause-tokens g c =
-    let is : IsText c.args.text.now = record { utf8 = c.utf8.text; fits = c.requires.fits } in
-    let old = c.as_slice-old.ensures.value ∙ c.requires.from_scratch in
-    let new : c.text_or.result.now ≡ apply c.args.text.now c.args.start c.args.stop c.args.insert.now = c.text_or.ensures ∙ c.in_ok-new.ensures in
-    let kept = c.kept_front-kept.result.number in
-    let met = c.in_ok-lexed.field-0.met.number in
-    list_for _ _ _ _ _ _ _ c.as_slice-old.ensures.value c.as_slice.ensures.value c.in_ok-replace.ensures.replaced
-    ∙ put_together (g.S.Stepper.law c.args.stepper.now) c.args.text.now is c.args.start c.args.stop c.args.insert.now c.utf8.insert c.requires.edit c.as_slice-old.result.now c.text_or.result.now c.in_ok-lexed.field-0.tokens.items met kept old new c.in_ok-lexed.ensures.met
+    let made = made_for c.args.text.now is c.args.start c.args.stop c.args.insert.now c.utf8.insert c.requires.edit _ _ old new in
+    let near = All-contains (IsBound (tokens_by (g.S.Stepper.grammar c.args.stepper.now) c.args.text.now)) c.args.landmarks.now.bounds _ (rw (sym c.requires.from_scratch) c.requires.landmarks) c.nearest-near.ensures in
+    let l = c.in_ok-lexed.ensures.lexed c.args.text.now c.args.insert.now made near in
+    let end = c.in_ok-lexed.end in
+    let many = length-map c.as_slice-old.result.now (λ (t : Token). t.len) in
+    let exact = c.counts-relexed.ensures.exact (g.S.Stepper.grammar c.args.stepper.now) c.args.text.now _ c.args.insert.now c.text_or.result.now _ law made many l.stands l.met in
+    let same = ap (λ (r : Relexed). r.lexed) exact.0 in
+    let counts = ap (λ (r : Relexed). r.lexed) c.counts-relexed.ensures.counts in
+    let size : c.counts-relexed.result.lexed ≡ length c.in_ok-lexed.lexed.items = counts ∙ l.lexed in
+    IfErr-always c.from_residual-in_err-replace.result (omega (arith, same, size, c.in_ok-lexed.ensures.count))
 
 pub returns-clause-relexed : goal.returns-clause-relexed
 returns-clause-relexed g c =
     let is : IsText c.args.text.now = record { utf8 = c.utf8.text; fits = c.requires.fits } in
+    let law = g.S.Stepper.law c.args.stepper.now in
     let old = c.as_slice-old.ensures.value ∙ c.requires.from_scratch in
     let new : c.text_or.result.now ≡ apply c.args.text.now c.args.start c.args.stop c.args.insert.now = c.text_or.ensures ∙ c.in_ok-new.ensures in
-    let len : c.len.result ≡ length c.in_ok-lexed.field-0.tokens.items = search rules in
-    rw len (sym (counted (g.S.Stepper.law c.args.stepper.now) c.args.text.now is c.args.start c.args.stop c.args.insert.now c.utf8.insert c.requires.edit c.as_slice-old.result.now c.text_or.result.now c.in_ok-lexed.field-0.tokens.items c.in_ok-lexed.field-0.met.number c.kept_front-kept.result.number old new c.kept_front-kept.ensures.number_bound c.kept_front-kept.ensures.number c.in_ok-lexed.ensures.met))
+    let made = made_for c.args.text.now is c.args.start c.args.stop c.args.insert.now c.utf8.insert c.requires.edit _ _ old new in
+    let near = All-contains (IsBound (tokens_by (g.S.Stepper.grammar c.args.stepper.now) c.args.text.now)) c.args.landmarks.now.bounds _ (rw (sym c.requires.from_scratch) c.requires.landmarks) c.nearest-near.ensures in
+    let l = c.in_ok-lexed.ensures.lexed c.args.text.now c.args.insert.now made near in
+    let end = c.in_ok-lexed.end in
+    let many = length-map c.as_slice-old.result.now (λ (t : Token). t.len) in
+    let exact = c.counts-relexed.ensures.exact (g.S.Stepper.grammar c.args.stepper.now) c.args.text.now _ c.args.insert.now c.text_or.result.now _ law made many l.stands l.met in
+    exact.0
+
+pub returns-clause-count : goal.returns-clause-count
+returns-clause-count g c =
+    let is : IsText c.args.text.now = record { utf8 = c.utf8.text; fits = c.requires.fits } in
+    let law = g.S.Stepper.law c.args.stepper.now in
+    let old = c.as_slice-old.ensures.value ∙ c.requires.from_scratch in
+    let new : c.text_or.result.now ≡ apply c.args.text.now c.args.start c.args.stop c.args.insert.now = c.text_or.ensures ∙ c.in_ok-new.ensures in
+    let made = made_for c.args.text.now is c.args.start c.args.stop c.args.insert.now c.utf8.insert c.requires.edit _ _ old new in
+    let near = All-contains (IsBound (tokens_by (g.S.Stepper.grammar c.args.stepper.now) c.args.text.now)) c.args.landmarks.now.bounds _ (rw (sym c.requires.from_scratch) c.requires.landmarks) c.nearest-near.ensures in
+    let l = c.in_ok-lexed.ensures.lexed c.args.text.now c.args.insert.now made near in
+    let end = c.in_ok-lexed.end in
+    let counts = ap (λ (r : Relexed). r.lexed) c.counts-relexed.ensures.counts in
+    let size : c.counts-relexed.result.lexed ≡ length c.in_ok-lexed.lexed.items = counts ∙ l.lexed in
+    omega (arith, size, c.in_ok-lexed.ensures.count)
+
+pub returns-clause-tokens : goal.returns-clause-tokens
+returns-clause-tokens g c =
+    let is : IsText c.args.text.now = record { utf8 = c.utf8.text; fits = c.requires.fits } in
+    let law = g.S.Stepper.law c.args.stepper.now in
+    let old = c.as_slice-old.ensures.value ∙ c.requires.from_scratch in
+    let new : c.text_or.result.now ≡ apply c.args.text.now c.args.start c.args.stop c.args.insert.now = c.text_or.ensures ∙ c.in_ok-new.ensures in
+    let made = made_for c.args.text.now is c.args.start c.args.stop c.args.insert.now c.utf8.insert c.requires.edit _ _ old new in
+    let near = All-contains (IsBound (tokens_by (g.S.Stepper.grammar c.args.stepper.now) c.args.text.now)) c.args.landmarks.now.bounds _ (rw (sym c.requires.from_scratch) c.requires.landmarks) c.nearest-near.ensures in
+    let l = c.in_ok-lexed.ensures.lexed c.args.text.now c.args.insert.now made near in
+    let end = c.in_ok-lexed.end in
+    list_for _ _ _ _ _ _ _ c.as_slice-old.ensures.value c.as_slice.ensures.value c.in_ok-replace.ensures.replaced
+    ∙ put_together law c.args.text.now is c.args.start c.args.stop c.args.insert.now c.utf8.insert c.requires.edit c.as_slice-old.result.now c.text_or.result.now c.in_ok-lexed.lexed.items end.back.number end.front.number old new (rw old (lexed_met law _ _ _ _ _ made end l.stands c.in_ok-lexed.lexed.items l.met l.lexed l.tokens_are))
 
 pub after-landmarks-requires : goal.after-landmarks-requires
 after-landmarks-requires g c =
     let is : IsText c.args.text.now = record { utf8 = c.utf8.text; fits = c.requires.fits } in
+    let law = g.S.Stepper.law c.args.stepper.now in
     let old = c.as_slice-old.ensures.value ∙ c.requires.from_scratch in
     let new : c.text_or.result.now ≡ apply c.args.text.now c.args.start c.args.stop c.args.insert.now = c.text_or.ensures ∙ c.in_ok-new.ensures in
+    let made = made_for c.args.text.now is c.args.start c.args.stop c.args.insert.now c.utf8.insert c.requires.edit _ _ old new in
+    let near = All-contains (IsBound (tokens_by (g.S.Stepper.grammar c.args.stepper.now) c.args.text.now)) c.args.landmarks.now.bounds _ (rw (sym c.requires.from_scratch) c.requires.landmarks) c.nearest-near.ensures in
+    let l = c.in_ok-lexed.ensures.lexed c.args.text.now c.args.insert.now made near in
+    let end = c.in_ok-lexed.end in
+    let counts = ap (λ (r : Relexed). r.lexed) c.counts-relexed.ensures.counts in
+    let size : c.counts-relexed.result.lexed ≡ length c.in_ok-lexed.lexed.items = counts ∙ l.lexed in
+    let first = g.S.Stepper.grammar c.args.stepper.now in
     let are : AreBounds c.as_slice-old.result.now c.args.landmarks.now = rw c.as_slice-old.ensures.value c.requires.landmarks in
-    let made = list_for _ _ _ _ _ _ _ c.as_slice-old.ensures.value c.as_slice.ensures.value c.in_ok-replace.ensures.replaced in
-    let len : c.len.result ≡ length c.in_ok-lexed.field-0.tokens.items = search rules in
-    let k = c.kept_front-kept.ensures in
-    let l = c.in_ok-lexed.ensures in
-    let replaced = replaced_for (g.S.Stepper.law c.args.stepper.now) c.args.text.now is c.args.start c.args.stop c.args.insert.now c.utf8.insert c.requires.edit _ _ _ _ c.kept_front-kept.result c.in_ok-lexed.field-0.met c.len.result c.in_ok-lexed.field-0.end c.args.landmarks.now
-    old new made len k.number_bound k.place l.met_place l.end l.met are in
+    let list = list_for _ _ _ _ _ _ _ c.as_slice-old.ensures.value c.as_slice.ensures.value c.in_ok-replace.ensures.replaced in
+    let front : IsBound c.as_slice-old.result.now end.front = rw old l.stands.front_bound in
+    let back : IsBound c.as_slice-old.result.now end.back = rw old l.stands.followed.bound_is in
+    let place : end.at ≡ bound (tokens_by first c.text_or.result.now) (end.front.number + length c.in_ok-lexed.lexed.items) = l.stands.place ∙ ap (λ n. bound (tokens_by first c.text_or.result.now) (end.front.number + n)) l.lexed in
+    let replaced = replaced_for law c.args.text.now is c.args.start c.args.stop c.args.insert.now c.utf8.insert c.requires.edit _ _ _ _ end.front end.back c.counts-relexed.result.lexed end.at c.args.landmarks.now
+    old new list size front.0 front.1 back.1 place (rw old (lexed_met law _ _ _ _ _ made end l.stands c.in_ok-lexed.lexed.items l.met l.lexed l.tokens_are)) are in
     replaced.0
 
 pub returns-clause-landmarks : goal.returns-clause-landmarks
 returns-clause-landmarks g c =
     let is : IsText c.args.text.now = record { utf8 = c.utf8.text; fits = c.requires.fits } in
+    let law = g.S.Stepper.law c.args.stepper.now in
     let old = c.as_slice-old.ensures.value ∙ c.requires.from_scratch in
     let new : c.text_or.result.now ≡ apply c.args.text.now c.args.start c.args.stop c.args.insert.now = c.text_or.ensures ∙ c.in_ok-new.ensures in
+    let made = made_for c.args.text.now is c.args.start c.args.stop c.args.insert.now c.utf8.insert c.requires.edit _ _ old new in
+    let near = All-contains (IsBound (tokens_by (g.S.Stepper.grammar c.args.stepper.now) c.args.text.now)) c.args.landmarks.now.bounds _ (rw (sym c.requires.from_scratch) c.requires.landmarks) c.nearest-near.ensures in
+    let l = c.in_ok-lexed.ensures.lexed c.args.text.now c.args.insert.now made near in
+    let end = c.in_ok-lexed.end in
+    let counts = ap (λ (r : Relexed). r.lexed) c.counts-relexed.ensures.counts in
+    let size : c.counts-relexed.result.lexed ≡ length c.in_ok-lexed.lexed.items = counts ∙ l.lexed in
+    let first = g.S.Stepper.grammar c.args.stepper.now in
     let are : AreBounds c.as_slice-old.result.now c.args.landmarks.now = rw c.as_slice-old.ensures.value c.requires.landmarks in
-    let made = list_for _ _ _ _ _ _ _ c.as_slice-old.ensures.value c.as_slice.ensures.value c.in_ok-replace.ensures.replaced in
-    let len : c.len.result ≡ length c.in_ok-lexed.field-0.tokens.items = search rules in
-    let k = c.kept_front-kept.ensures in
-    let l = c.in_ok-lexed.ensures in
-    let replaced = replaced_for (g.S.Stepper.law c.args.stepper.now) c.args.text.now is c.args.start c.args.stop c.args.insert.now c.utf8.insert c.requires.edit _ _ _ _ c.kept_front-kept.result c.in_ok-lexed.field-0.met c.len.result c.in_ok-lexed.field-0.end c.args.landmarks.now
-    old new made len k.number_bound k.place l.met_place l.end l.met are in
+    let list = list_for _ _ _ _ _ _ _ c.as_slice-old.ensures.value c.as_slice.ensures.value c.in_ok-replace.ensures.replaced in
+    let front : IsBound c.as_slice-old.result.now end.front = rw old l.stands.front_bound in
+    let back : IsBound c.as_slice-old.result.now end.back = rw old l.stands.followed.bound_is in
+    let place : end.at ≡ bound (tokens_by first c.text_or.result.now) (end.front.number + length c.in_ok-lexed.lexed.items) = l.stands.place ∙ ap (λ n. bound (tokens_by first c.text_or.result.now) (end.front.number + n)) l.lexed in
+    let replaced = replaced_for law c.args.text.now is c.args.start c.args.stop c.args.insert.now c.utf8.insert c.requires.edit _ _ _ _ end.front end.back c.counts-relexed.result.lexed end.at c.args.landmarks.now
+    old new list size front.0 front.1 back.1 place (rw old (lexed_met law _ _ _ _ _ made end l.stands c.in_ok-lexed.lexed.items l.met l.lexed l.tokens_are)) are in
     c.remember.ensures _ (c.after-landmarks.ensures _ _ replaced.1 are) (kept_stays _ _ _ _ _ replaced.1)

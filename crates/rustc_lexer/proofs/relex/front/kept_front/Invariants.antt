@@ -1,9 +1,15 @@
-use Rattle.std.proofs.Common.{length, ◌-◌}
+use Rattle.std.proofs.Common.{length, map, List, ℕ, ◌≤◌, ◌-◌, IsCharBoundary}
+use Rattle.rustc_lexer.specs.declared.token.Token.{Token}
+use Rattle.rustc_lexer.specs.Landmarks.{IsBound}
+use Rattle.rustc_lexer.specs.Relexing.{IsFront}
 use Rattle.rustc_lexer.proofs.FrontLemmas.{IsKept}
 use Rattle.rustc_lexer.proofs.relex.front.kept_front.Given as goal
 
-abbrev pub invariant-loop-number : goal.invariant-loop-number
-invariant-loop-number l = IsKept l.text l.tokens l.start l.number l.place
+abbrev pub invariant-loop-at : goal.invariant-loop-at
+invariant-loop-at g l = (l.at.number ≤ length l.tokens)
+    × IsCharBoundary l.text l.at.place
+    × (l.at.place ≤ l.start)
+    × ((old : List ℕ) (ts : List Token) → IsFront old ts (map g.T.Measured.bytes l.tokens) l.text l.start → IsBound ts l.fn.near → IsKept old ts l.start l.at.number l.at.place)
 
-abbrev pub decreases-loop-number : goal.decreases-loop-number
-decreases-loop-number l = length l.tokens - l.number
+abbrev pub decreases-loop-at : goal.decreases-loop-at
+decreases-loop-at g l = length l.tokens - l.at.number

@@ -1,13 +1,22 @@
-use Rattle.std.proofs.Common.{below_more, arith, ◌≡◌, ◌<◌}
+use Rattle.std.proofs.Common.{below_more, arith, ap, ◌∙◌, ◌≡◌, ◌<◌, ◌+◌, length}
 use Rattle.rustc_lexer.specs.Cuts.{bound}
 use Rattle.rustc_lexer.proofs.FrontLemmas.{bound-more}
+use Rattle.rustc_lexer.proofs.LengthLemmas.{as_many, as_long, no_token}
 use Rattle.rustc_lexer.proofs.relex.front.next_bound.Goals as goal
 
-pub loop-number-preserved : goal.loop-number-preserved
-loop-number-preserved c =
-    let test : c.loop-number.place < c.args.target = c.if-place-target.true in
-    let place : c.loop-number.place ≡ bound c.args.tokens.now c.loop-number.number = c.loop-number.invariant.1 in (
-      omega (arith, c.loop-number-test.true),
-      bound-more c.args.tokens.now c.loop-number.number c.loop-number.place _ place c.loop-number-test.true,
-      below_more _ _ c.loop-number.invariant.2 (omega arith),
+pub loop-at-preserved : goal.loop-at-preserved
+loop-at-preserved g c =
+    let number = c.loop-at.at.number in
+    let few = c.loop-at-test.true in (
+      omega arith,
+      omega arith,
+      omega arith,
+      λ ts are from before.
+          let so = c.loop-at.invariant.3 ts are from before in
+          let many = as_many g.T.Measured.bytes c.args.tokens.now ts are in
+          let fewer : number < length ts = omega (arith, many) in
+          let test : c.loop-at.at.place < c.args.target = c.if-at-target.true in
+          let place : c.loop-at.at.place ≡ bound ts number = so.0.1 in
+          let long = as_long g.T.Measured.bytes c.args.tokens.now ts are number _ _ c.len.ensures c.index-tokens-at.is few in
+          ((omega (arith, many), ap (λ n. c.loop-at.at.place + n) long ∙ bound-more ts number c.loop-at.at.place no_token place fewer), below_more _ _ so.1 (omega arith)),
     )

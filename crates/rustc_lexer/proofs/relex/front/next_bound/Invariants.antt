@@ -1,9 +1,16 @@
-use Rattle.std.proofs.Common.{length, ◌-◌, ◌≡◌, ◌≤◌, ◌<◌, ℕ}
+use Rattle.std.proofs.Common.{length, map, List, ℕ, ◌≤◌, ◌<◌, ◌-◌, ◌^◌}
+use Rattle.rustc_lexer.specs.declared.token.Token.{Token}
 use Rattle.rustc_lexer.specs.Cuts.{bound}
+use Rattle.rustc_lexer.specs.Landmarks.{IsBound}
+use Rattle.rustc_lexer.specs.Relexing.{HasLengths}
 use Rattle.rustc_lexer.proofs.relex.front.next_bound.Given as goal
 
-abbrev pub invariant-loop-number : goal.invariant-loop-number
-invariant-loop-number l = (l.number ≤ length l.tokens) × (l.place ≡ bound l.tokens l.number) × ((k : ℕ) → k < l.number → bound l.tokens k < l.target)
+abbrev pub invariant-loop-at : goal.invariant-loop-at
+invariant-loop-at g l = (l.at.number ≤ length l.tokens)
+    × (l.fn.from.number ≤ l.at.number)
+    × (l.at.place < 2 ^ 40)
+    × ((ts : List Token) → HasLengths ts (map g.T.Measured.bytes l.tokens) → IsBound ts l.fn.from → ((k : ℕ) → k < l.fn.from.number → bound ts k < l.target)
+    → IsBound ts l.at × ((k : ℕ) → k < l.at.number → bound ts k < l.target))
 
-abbrev pub decreases-loop-number : goal.decreases-loop-number
-decreases-loop-number l = length l.tokens - l.number
+abbrev pub decreases-loop-at : goal.decreases-loop-at
+decreases-loop-at g l = length l.tokens - l.at.number

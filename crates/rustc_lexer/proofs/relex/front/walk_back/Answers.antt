@@ -1,8 +1,33 @@
-use Rattle.rustc_lexer.proofs.FrontLemmas.{back_inside, back_place}
+use Rattle.std.proofs.Common.{sym, ap, ◌∙◌, arith, ◌-◌, ◌<◌, length}
+use Rattle.std.proofs.lemmas.Str.{IsCharBoundary-from_drop}
+use Rattle.rustc_lexer.proofs.FrontLemmas.{back_place}
+use Rattle.rustc_lexer.proofs.LengthLemmas.{as_long, no_token, stand_alike}
 use Rattle.rustc_lexer.proofs.relex.front.walk_back.Goals as goal
 
-pub overflow_sub-place : goal.overflow_sub-place
-overflow_sub-place c = back_inside c.args.tokens.now c.loop-number.number c.loop-number.place _ c.loop-number.invariant.1 c.loop-number-test.true c.loop-number.invariant.0
+pub returns-then-from-tokens-clause-boundary : goal.returns-then-from-tokens-clause-boundary
+returns-then-from-tokens-clause-boundary g c = IsCharBoundary-from_drop c.args.text.now 0 (omega arith) c.utf8.text
 
-pub loop-number-preserved : goal.loop-number-preserved
-loop-number-preserved c = back_place c.args.tokens.now c.loop-number.number c.loop-number.place _ c.loop-number.invariant.1 c.loop-number-test.true c.loop-number.invariant.0
+pub returns-clause-boundary : goal.returns-clause-boundary
+returns-clause-boundary g c = IsCharBoundary-from_drop c.args.text.now 0 (omega arith) c.utf8.text
+
+pub returns-then-stand_before-clause-bound : goal.returns-then-stand_before-clause-bound
+returns-then-stand_before-clause-bound g c = λ old ts is from.
+    let at = c.loop-at.invariant.1 old ts is from in (
+      at,
+      λ some. let there = is.cuts c.loop-at.at.number at.0 in
+          sym (stand_alike old c.args.text.now c.loop-at.at.place c.args.start c.stand_before.result is.utf8 c.utf8.text is.same c.requires.boundary.0 (rw at.1 there.1) c.stand_before.ensures.late c.stand_before.ensures.two)
+          ∙ c.if-stand_before.true,
+    )
+
+pub loop-at-preserved : goal.loop-at-preserved
+loop-at-preserved g c = (
+  omega arith,
+  λ old ts is from.
+      let at = c.loop-at.invariant.1 old ts is from in
+      let number = c.loop-at.at.number in
+      let some : 0 < number = c.loop-at-test.true in
+      let few : number - 1 < length c.args.tokens.now = omega arith in
+      let long = as_long g.T.Measured.bytes c.args.tokens.now ts is.lengths_are (number - 1) _ _ c.len.ensures c.index-tokens-number.is few in
+      let back = back_place ts number c.loop-at.at.place no_token at.1 some at.0 in
+      (back.0, c.saturating_sub.ensures ∙ (ap (λ n. c.loop-at.at.place - n) long ∙ back.1)),
+)

@@ -1,9 +1,12 @@
-use Rattle.std.proofs.Common.{length, ◌≡◌, ◌≤◌}
-use Rattle.rustc_lexer.specs.Cuts.{bound}
+use Rattle.std.proofs.Common.{length, map, List, ℕ, ◌≤◌}
+use Rattle.rustc_lexer.specs.declared.token.Token.{Token}
+use Rattle.rustc_lexer.specs.Landmarks.{IsBound}
+use Rattle.rustc_lexer.specs.Relexing.{IsFront}
 use Rattle.rustc_lexer.proofs.relex.front.walk_back.Given as goal
 
-abbrev pub invariant-loop-number : goal.invariant-loop-number
-invariant-loop-number l = (l.number ≤ length l.tokens) × (l.place ≡ bound l.tokens l.number)
+abbrev pub invariant-loop-at : goal.invariant-loop-at
+invariant-loop-at g l = (l.at.number ≤ length l.tokens)
+    × ((old : List ℕ) (ts : List Token) → IsFront old ts (map g.T.Measured.bytes l.tokens) l.text l.start → IsBound ts l.fn.from → IsBound ts l.at)
 
-abbrev pub decreases-loop-number : goal.decreases-loop-number
-decreases-loop-number l = l.number
+abbrev pub decreases-loop-at : goal.decreases-loop-at
+decreases-loop-at g l = l.at.number

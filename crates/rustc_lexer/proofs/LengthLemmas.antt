@@ -1,0 +1,45 @@
+-- Tokens that are known by their lengths alone.
+use Rattle.std.proofs.Common.{◌≡◌, ℕ, ◌<◌, ◌≤◌, Bool, true, false, List, length, map, get_or, take, sym, ap, ◌∙◌, subst, arith, inl, inr, true≢false, IsUtf8, IsCharBoundary}
+use Rattle.std.proofs.lemmas.List.{get_or-map, length-map, take-take}
+use Rattle.std.proofs.lemmas.Bool.Decides.{leb_tells}
+use Rattle.std.proofs.lemmas.Str.{IsUtf8-take, IsCharBoundary-from_take}
+use Rattle.rustc_lexer.specs.declared.token.Token.{Token}
+use Rattle.rustc_lexer.specs.declared.token.TokenKind.TheVariants.{Eof}
+use Rattle.rustc_lexer.specs.Relexing.{HasLengths}
+use Rattle.rustc_lexer.specs.Settled.{has_two}
+use Rattle.rustc_lexer.proofs.EditLemmas.{has_two-late, has_two-same}
+
+-- what stands past the end of a list
+pub no_token : Token
+no_token = record { kind = Eof; len = 0 }
+
+module _ {X : Type 0} (f : X → ℕ) (xs : List X) (ts : List Token) (are : HasLengths ts (map f xs)) where
+  pub as_many : length xs ≡ length ts
+  as_many = sym (length-map xs f) ∙ (ap (λ (ns : List ℕ). length ns) are ∙ length-map ts (λ (t : Token). t.len))
+
+  pub as_long : (i : ℕ) (x : X) (len : ℕ) → len ≡ f x → x ≡ get_or xs i x → i < length xs → len ≡ (get_or ts i no_token).len
+  as_long i x len its at few =
+      let fewer : i < length ts = omega (arith, as_many) in
+      its ∙ (ap f at ∙ (sym (get_or-map f xs i x 0 few) ∙ (ap (λ (ns : List ℕ). get_or ns i 0) are ∙ get_or-map (λ (t : Token). t.len) ts i no_token 0 fewer)))
+
+-- texts that are the same up to a place are cut alike before it
+pub cut_alike : (old text : List ℕ) (place start : ℕ) → IsUtf8 old → IsUtf8 text → take start text ≡ take start old → place ≤ start → start ≤ length text → IsCharBoundary old place → IsCharBoundary text place
+cut_alike old text place start is its same before inside cut =
+    let front : take place text ≡ take place old = sym (take-take place start text before) ∙ (ap (take place) same ∙ take-take place start old before) in
+    IsCharBoundary-from_take text place its (omega arith) (subst IsUtf8 (sym front) (IsUtf8-take old place is cut))
+
+-- whether two characters stand before a place is told by the text up to there
+pub stand_alike : (old text : List ℕ) (place start : ℕ) (two : Bool) → IsUtf8 old → IsUtf8 text → take start text ≡ take start old → start ≤ length text → IsCharBoundary old place → (start ≤ place → two ≡ false) → (IsCharBoundary text place → two ≡ has_two text place start) → two ≡ has_two old place start
+stand_alike old text place start two is its same inside cut late here = elim (leb_tells start place) [
+  | inl past ↦ late past.1 ∙ sym (has_two-late old place start past.1)
+  | inr before ↦
+      let le : place ≤ start = (let b = before.1 in omega arith) in
+      here (cut_alike old text place start is its same le inside cut) ∙ has_two-same text old place start same
+]
+
+-- where two characters stand before a place, it is past them
+pub stood_before : (place start : ℕ) (two : Bool) → (start ≤ place → two ≡ false) → two ≡ true → place ≤ start
+stood_before place start two late hit = elim (leb_tells start place) [
+  | inl past ↦ absurd (true≢false (sym hit ∙ late past.1))
+  | inr before ↦ let b = before.1 in omega arith
+]

@@ -1,0 +1,283 @@
+-- Relexing by the lengths of the old tokens: where it stands, from its beginning to the meeting.
+use Rattle.std.proofs.Common.{◌≡◌, ℕ, zero, suc, ◌+◌, ◌-◌, ◌<◌, ◌≤◌, Bool, true, false, cond, List, [], ◌∷◌, ◌++◌, length, map, take, drop, refl, sym, ap, ◌∙◌, subst, arith, length-drop, length-append, IsUtf8, take-add, take_at, drop-drop, length-take-le, append_assoc, eq-or-lt_of_le, inl, inr, IsCharBoundary, max}
+use Rattle.std.proofs.lemmas.List.{length-map}
+use Rattle.std.proofs.Math.Nat.{le-max_left, le-max_right, max-le}
+use Rattle.std.proofs.lemmas.Str.{IsUtf8-append, IsUtf8-drop, IsCharBoundary-at_seam, IsCharBoundary-from_drop}
+use Rattle.rustc_lexer.specs.declared.relex.edit.Relexed.{Relexed}
+use Rattle.rustc_lexer.specs.declared.relex.front.Bound.{Bound}
+use Rattle.rustc_lexer.specs.declared.relex.front.Damage.{Damage}
+use Rattle.rustc_lexer.specs.declared.relex.front.Meeting.{Meeting}
+use Rattle.rustc_lexer.specs.declared.relex.relexing.Change.{Change}
+use Rattle.rustc_lexer.specs.declared.relex.relexing.Relexing.{Relexing}
+use Rattle.rustc_lexer.specs.declared.token.Token.{Token}
+use Rattle.rustc_lexer.specs.Cuts.{bound, tokens_by}
+use Rattle.rustc_lexer.specs.Edits.{apply, kept_front, IsEdit, least_from, meet, meets_at, relexed_of, IsMet, IsReady}
+use Rattle.rustc_lexer.specs.Landmarks.{IsBound}
+use Rattle.rustc_lexer.specs.Relexing.{IsChange, IsFront, IsFollowed, IsMadeOf, Stands, IsWhole, damage_of, known}
+use Rattle.rustc_lexer.specs.Settled.{has_two}
+use Rattle.rustc_lexer.specs.Texts.{IsText, IsGrammar}
+use Rattle.rustc_lexer.proofs.BoundLemmas.{least_from_ge, bound-last}
+use Rattle.rustc_lexer.proofs.CutLemmas.{IsCutAt, at_bound, tokens-cons}
+use Rattle.rustc_lexer.proofs.EditLemmas.{IsEdited, edited, bound-same, start_inside}
+use Rattle.rustc_lexer.proofs.MeetingLemmas.{IsGoing, going_inside, going_least, going_met, test}
+use Rattle.rustc_lexer.proofs.ProgressLemmas.{IsLexedTo, lexed_more}
+use Rattle.rustc_lexer.proofs.ReadyLemmas.{cuts, ready_for, counts_for, lexed_for, whole_for}
+
+-- a number up to the first that passes is where the search for it may begin
+pub least_from-skip : (test : ℕ → Bool) (n k j : ℕ) → k ≤ j → j ≤ least_from test n k → least_from test (n - (j - k)) j ≡ least_from test n k
+least_from-skip test zero k j le few =
+    let same : j ≡ k = omega arith in
+    let none : zero - (j - k) ≡ zero = omega arith in
+    ap (λ n. least_from test n j) none ∙ same
+least_from-skip test (suc n) k j le few = elim (eq-or-lt_of_le le) [
+  | inl same ↦
+      let all : suc n - (j - k) ≡ suc n = omega arith in
+      ap (λ n. least_from test n j) all ∙ ap (least_from test (suc n)) (sym same)
+  | inr more ↦ by_test (least_from-skip test n (suc k) j) more (test k) few
+]
+  where
+    by_test : (suc k ≤ j → j ≤ least_from test n (suc k) → least_from test (n - (j - suc k)) j ≡ least_from test n (suc k)) → k < j → (b : Bool) → j ≤ cond b k (least_from test n (suc k)) → least_from test (suc n - (j - k)) j ≡ cond b k (least_from test n (suc k))
+    by_test ih more true h = absurd (omega arith)
+    by_test ih more false h =
+        let left : suc n - (j - k) ≡ n - (j - suc k) = omega arith in
+        ap (λ n. least_from test n j) left ∙ ih (omega arith) h
+
+pub meet-skip : (old new : List Token) (past added removed k j : ℕ) → k ≤ j → j ≤ length new → j ≤ meet old new past added removed k → least_from (λ i. meets_at old past added removed (bound new i)) (length new - j) j ≡ meet old new past added removed k
+unfolding meet
+meet-skip old new past added removed k j le inside few =
+    let tests : ℕ → Bool = λ i. meets_at old past added removed (bound new i) in
+    let left : length new - j ≡ (length new - k) - (j - k) = omega arith in
+    ap (λ n. least_from tests n j) left ∙ least_from-skip tests (length new - k) k j le few
+
+pub meet_ge : (old new : List Token) (past added removed k : ℕ) → k ≤ meet old new past added removed k
+unfolding meet
+meet_ge old new past added removed k = least_from_ge (λ i. meets_at old past added removed (bound new i)) (length new - k) k
+
+damage_is : (change : Change) (insert : List ℕ) → change.new_stop ≡ change.start + length insert → damage_of change ≡ record { past = change.start + length insert; added = length insert; removed = change.old_stop - change.start }
+damage_is change insert e =
+    let added : change.new_stop - change.start ≡ length insert = omega arith in
+    rw (added, e) refl
+
+module _ {first : List ℕ → Token} (law : IsGrammar first) (before lengths insert text : List ℕ) (change : Change) (is : IsMadeOf first before lengths change insert text) where
+  abbrev pub old : List Token
+  old = tokens_by first before
+
+  abbrev pub new : List Token
+  new = tokens_by first text
+
+  abbrev pub damage : Damage
+  damage = damage_of change
+
+  ed : IsEdited before change.start change.old_stop insert (apply before change.start change.old_stop insert)
+  ed = edited before change.start change.old_stop insert is.is_text is.inserted is.edit
+
+  pub made_text : IsText text
+  made_text = rw is.made ed.text_is
+
+  pub made_front : IsFront before old lengths text change.start
+  made_front = record {
+    utf8 = is.is_text.utf8;
+    cuts = cuts law before is.is_text;
+    lengths_are = is.lengths_are;
+    same = ap (take change.start) is.made ∙ ed.front;
+  }
+
+  -- such a change may have made the text
+  pub made_change : IsChange text change
+  unfolding apply
+  made_change =
+      let e = is.edit.inside in
+      let a = e.start_le_stop in
+      let b = e.stop_inside in
+      let f = is.is_text.fits in
+      let n = is.new_stop in
+      let short : length (take change.start before) ≡ change.start = length-take-le change.start before (omega arith) in
+      let back : IsUtf8 (drop change.old_stop before) = IsUtf8-drop before change.old_stop is.is_text.utf8 e.stop_boundary in
+      let next : length (take change.start before ++ insert) ≡ change.new_stop = omega (arith, length-append (take change.start before) insert, short) in
+      record {
+        start_le_old = a;
+        old_short = omega arith;
+        start_le_new = omega arith;
+        start_boundary = subst (IsCharBoundary text) short (IsCharBoundary-at_seam text (take change.start before) (insert ++ drop change.old_stop before) is.made (IsUtf8-append insert _ is.inserted back));
+        new_boundary = subst (IsCharBoundary text) next (IsCharBoundary-at_seam text (take change.start before ++ insert) (drop change.old_stop before) (is.made ∙ sym (append_assoc (take change.start before) insert (drop change.old_stop before))) back);
+      }
+
+  -- what lexing from the kept front asks
+  ready : (kept : Bound) → IsBound old kept → (0 < kept.number → has_two before kept.place change.start ≡ true) → IsReady first old text kept damage
+  ready kept at two =
+      rw (damage_is change insert is.new_stop) (ready_for law before is.is_text change.start change.old_stop insert is.inserted is.edit old text kept refl is.made at.0 at.1 two)
+
+  -- each bound before the kept front is before the edit
+  pub front_below : (kept : Bound) → IsBound old kept → (0 < kept.number → has_two before kept.place change.start ≡ true) → (k : ℕ) → k < kept.number → bound old k + damage.added < max damage.past kept.place + damage.removed
+  front_below kept at two k less =
+      let b = (ready kept at two).kept_before k less in
+      let m = le-max_left damage.past kept.place in
+      omega arith
+
+  pub stands_first : (kept : Bound) (to : Meeting) → kept.number ≡ kept_front before old change.start → IsBound old kept → (0 < kept.number → has_two before kept.place change.start ≡ true) → IsFollowed old damage kept.place to → Stands first before change text record { front = kept; lexed = 0; back = to.at; at = kept.place; met = to.met }
+  stands_first kept to number at two followed =
+      let r = ready kept at two in
+      let none : kept.number + 0 ≡ kept.number = omega arith in
+      record {
+        front_number = number;
+        front_bound = at;
+        front_same = r.kept_same;
+        inside = omega (arith, r.kept_new);
+        place = at.1 ∙ (bound-same kept.number old new r.kept_same ∙ ap (bound new) (sym none));
+        not_past = omega (arith, meet_ge old new damage.past damage.added damage.removed kept.number);
+        followed = followed;
+      }
+
+  module _ (at : Relexing) (stands : Stands first before change text at) where
+    abbrev pub items : List Token
+    items = take (known at) new
+
+    long : length items ≡ known at
+    long = length-take-le (known at) new stands.inside
+
+    to : IsLexedTo first text items at.at
+    to = record {
+      number = omega (arith, long, stands.inside);
+      items_are = ap (λ n. take n new) (sym long);
+      place_is = stands.place ∙ ap (bound new) (sym long);
+    }
+
+    going : IsGoing first old text damage.past damage.added damage.removed at.front.number items at.at at.back.number at.back.place at.met
+    going = record {
+      to = to;
+      kept_le = omega (arith, long);
+      search = ap (λ n. least_from (test first old text damage.past damage.added damage.removed at.front.number) (length new - n) n) long
+          ∙ meet-skip old new damage.past damage.added damage.removed at.front.number (known at) (omega arith) stands.inside stands.not_past;
+      number_bound = stands.followed.bound_is.0;
+      place_is = stands.followed.bound_is.1;
+      below = stands.followed.below;
+      met_is = stands.followed.met_is;
+      past_edit = stands.followed.past_edit;
+      same_place = stands.followed.same_place;
+    }
+
+    -- where the old tokens are not met, more text is left
+    pub stands_inside : at.met ≡ false → at.at < length text
+    stands_inside out =
+        let l = ed.len in
+        let e = is.edit.inside.start_le_stop in
+        let f = is.edit.inside.stop_inside in
+        let m : length text ≡ length (apply before change.start change.old_stop insert) = ap (λ (t : List ℕ). length t) is.made in
+        let n = is.new_stop in
+        let s : change.start + length insert ≤ length (apply before change.start change.old_stop insert) = start_inside law before change.start change.old_stop insert _ is.is_text is.edit ed in
+        let added : damage.added ≤ damage.past = omega arith in
+        let past : damage.past ≤ length text = omega arith in
+        let ends : bound old (length old) + damage.added ≡ length text + damage.removed = omega (arith, bound-last law before is.is_text) in
+        going_inside first old text damage.past damage.added damage.removed at.front.number law made_text items at.at at.back.number at.back.place at.met going added past ends out
+
+    pub stands_end : length text ≤ at.at → at.met ≡ true
+    stands_end ends = by_test at.met refl
+      where
+        by_test : (b : Bool) → at.met ≡ b → b ≡ true
+        by_test true e = refl
+        by_test false e = absurd (let more = stands_inside e in omega arith)
+
+    -- each bound that was passed is before a later place too
+    pub below_later : (later : ℕ) → at.at ≤ later → (k : ℕ) → k < at.back.number → bound old k + damage.added < max damage.past later + damage.removed
+    below_later later le k less =
+        let b = stands.followed.below k less in
+        let m : max damage.past at.at ≤ max damage.past later = max-le (le-max_left damage.past later) (omega (arith, le-max_right damage.past later)) in
+        omega arith
+
+    pub is_met : at.met ≡ true → IsMet first old text damage.past damage.added damage.removed at.front.number items at.back.number
+    is_met hit = going_met first old text damage.past damage.added damage.removed at.front.number items at.at at.back.number at.back.place at.met going hit
+
+    met_by : at.met ≡ true → IsMet first old text (change.start + length insert) (length insert) (change.old_stop - change.start) at.front.number items at.back.number
+    met_by hit =
+        let same : damage ≡ record { past = change.start + length insert; added = length insert; removed = change.old_stop - change.start } = damage_is change insert is.new_stop in
+        subst (λ (d : Damage). IsMet first old text d.past d.added d.removed at.front.number items at.back.number) same (is_met hit)
+
+    -- no more was lexed than the whole edit lexes
+    pub few_lexed : at.lexed ≤ (relexed_of first before change.start change.old_stop insert).lexed
+    few_lexed =
+        let same : damage ≡ record { past = change.start + length insert; added = length insert; removed = change.old_stop - change.start } = damage_is change insert is.new_stop in
+        let all = lexed_for law before is.is_text change.start change.old_stop insert is.inserted is.edit old text at.front.number refl is.made stands.front_number in
+        let few : known at ≤ meet old new (change.start + length insert) (length insert) (change.old_stop - change.start) at.front.number = subst (λ (d : Damage). known at ≤ meet old new d.past d.added d.removed at.front.number) same stands.not_past in
+        omega arith
+
+    -- at the meeting: the counts are those of the edit, and the new tokens are whole
+    pub counts_met : at.met ≡ true → (length lengths ≡ length old) × (relexed_of first before change.start change.old_stop insert ≡ record { kept_front = at.front.number; lexed = at.lexed; kept_back = length old - at.back.number }) × IsWhole old new at
+    counts_met hit =
+        let met = met_by hit in
+        let counted : relexed_of first before change.start change.old_stop insert ≡ record { kept_front = at.front.number; lexed = length items - at.front.number; kept_back = length old - at.back.number } =
+        counts_for law before is.is_text change.start change.old_stop insert is.inserted is.edit old text items at.back.number at.front.number refl is.made stands.front_number met in
+        let lexed : length items - at.front.number ≡ at.lexed = omega (arith, long) in
+        let whole : items ++ drop at.back.number old ≡ new = whole_for law before is.is_text change.start change.old_stop insert is.inserted is.edit old text items at.back.number at.front.number refl is.made met ∙ ap (tokens_by first) (sym is.made) in
+        let split : items ≡ take at.front.number old ++ take at.lexed (drop at.front.number new) = take-add at.front.number at.lexed new ∙ ap (λ (ts : List Token). ts ++ take at.lexed (drop at.front.number new)) (sym stands.front_same) in (
+          ap (λ (ns : List ℕ). length ns) is.lengths_are ∙ length-map old (λ (t : Token). t.len),
+          counted ∙ ap (λ (n : ℕ). let r : Relexed = record { kept_front = at.front.number; lexed = n; kept_back = length old - at.back.number } in r) lexed,
+          sym (append_assoc (take at.front.number old) (take at.lexed (drop at.front.number new)) (drop at.back.number old)) ∙ (ap (λ (ts : List Token). ts ++ drop at.back.number old) (sym split) ∙ whole),
+        )
+
+    -- the tokens that were lexed for it, behind the kept front
+    pub lexed_met : (tokens : List Token) → at.met ≡ true → at.lexed ≡ length tokens → drop at.front.number new ≡ tokens ++ drop (known at) new → IsMet first old text (change.start + length insert) (length insert) (change.old_stop - change.start) at.front.number (take at.front.number old ++ tokens) at.back.number
+    lexed_met tokens hit lexed are =
+        let here : take at.lexed (drop at.front.number new) ≡ tokens = ap (take at.lexed) are ∙ take_at tokens (drop (known at) new) at.lexed (sym lexed) in
+        let split : items ≡ take at.front.number old ++ tokens = take-add at.front.number at.lexed new ∙ (ap (λ (ts : List Token). ts ++ take at.lexed (drop at.front.number new)) (sym stands.front_same) ∙ ap (λ (ts : List Token). take at.front.number old ++ ts) here) in
+        subst (λ (ts : List Token). IsMet first old text (change.start + length insert) (length insert) (change.old_stop - change.start) at.front.number ts at.back.number) split (met_by hit)
+
+    -- one token more
+    module _ (token : Token) (to_next : Meeting) (out : at.met ≡ false) (token_is : token ≡ first (drop at.at text)) (followed : IsFollowed old damage (at.at + token.len) to_next) where
+      abbrev pub past_token : Relexing
+      past_token = record { front = at.front; lexed = at.lexed + 1; back = to_next.at; at = at.at + token.len; met = to_next.met }
+
+      pub stands_next : Stands first before change text past_token
+      stands_next =
+          let more = lexed_more law text items at.at made_text to (stands_inside out) in
+          let count : length (items ++ first (drop at.at text) ∷ []) ≡ known past_token = omega (arith, long, length-append items (first (drop at.at text) ∷ [])) in
+          let len : at.at + token.len ≡ at.at + (first (drop at.at text)).len = ap (λ (t : Token). at.at + t.len) token_is in
+          record {
+            front_number = stands.front_number;
+            front_bound = stands.front_bound;
+            front_same = stands.front_same;
+            inside = omega (arith, count, more.number);
+            place = len ∙ (more.place_is ∙ ap (bound new) count);
+            not_past = omega (arith, long, going_least first old text damage.past damage.added damage.removed at.front.number law made_text items at.at at.back.number at.back.place at.met going out (stands_inside out));
+            followed = followed;
+          }
+
+      pub gives_next : drop (known at) new ≡ token ∷ drop (known past_token) new
+      gives_next =
+          let cut : IsCutAt first text new (known at) = at_bound law (known at) text made_text in
+          let left : List ℕ = drop at.at text in
+          let here : drop (known at) new ≡ tokens_by first left = cut.rest ∙ ap (λ p. tokens_by first (drop p text)) (sym stands.place) in
+          let past : IsText left = subst (λ p. IsText (drop p text)) (sym stands.place) cut.past in
+          let more = stands_inside out in
+          let some : 0 < length left = omega (arith, length-drop at.at text) in
+          let cons : drop (known at) new ≡ token ∷ tokens_by first (drop (first left).len left) = here ∙ (tokens-cons law left past some ∙ ap (λ (t : Token). t ∷ tokens_by first (drop (first left).len left)) (sym token_is)) in
+          let count : known at + 1 ≡ known past_token = omega arith in
+          cons ∙ ap (λ (ts : List Token). token ∷ ts) (ap (drop 1) (sym cons) ∙ (drop-drop 1 (known at) new ∙ ap (λ n. drop n new) count))
+
+-- the place past a token
+pub step_place : {first : List ℕ → Token} (law : IsGrammar first) (text : List ℕ) (at : ℕ) (token : Token) → IsText text → IsCharBoundary text at → at < length text → token ≡ first (drop at text) → (0 < token.len) × IsCharBoundary text (at + token.len)
+step_place {first} law text at token is cut more token_is =
+    let left : List ℕ = drop at text in
+    let past : IsText left = record { utf8 = IsUtf8-drop text at is.utf8 cut; fits = (let f = is.fits in omega (arith, length-drop at text)) } in
+    let some : 0 < length left = omega (arith, length-drop at text) in
+    let len : token.len ≡ (first left).len = ap (λ (t : Token). t.len) token_is in
+    let inside : at + token.len ≤ length text = omega (arith, len, law.inside left past some, length-drop at text) in
+    let back : IsUtf8 (drop (at + token.len) text) = rw (← drop-drop token.len at text, len) (law.back left past some) in
+    (omega (arith, len, law.not_empty left past some), IsCharBoundary-from_drop text (at + token.len) inside back)
+
+-- where nothing was lexed, all tokens past the front are left
+pub all_lexed : (new : List Token) (at : Relexing) (items : List Token) → items ≡ [] → at.lexed ≡ 0 → drop at.front.number new ≡ items ++ drop (known at) new
+all_lexed new at items none zero_lexed =
+    let same : at.front.number ≡ known at = omega arith in
+    ap (λ n. drop n new) same ∙ ap (λ (ts : List Token). ts ++ drop (known at) new) (sym none)
+
+-- what `edit` asks, of a list and a text that are known by equations
+pub made_for : {first : List ℕ → Token} (text : List ℕ) → IsText text → (start stop : ℕ) (insert : List ℕ) → IsUtf8 insert → IsEdit text start stop insert → (old : List Token) (new : List ℕ) → old ≡ tokens_by first text → new ≡ apply text start stop insert
+    → IsMadeOf first text (map (λ (t : Token). t.len) old) (record { start = start; old_stop = stop; new_stop = start + length insert }) insert new
+made_for text is start stop insert its edit old new e f = record {
+  is_text = is;
+  lengths_are = ap (map (λ (t : Token). t.len)) e;
+  edit = edit;
+  inserted = its;
+  made = f;
+  new_stop = refl;
+}

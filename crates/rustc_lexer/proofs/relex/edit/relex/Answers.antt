@@ -1,0 +1,64 @@
+use Rattle.std.proofs.Common.{◌≡◌, ◌+◌, ◌∷◌, [], ◌++◌, List, ℕ, length, map, drop, refl, sym, ap, ◌∙◌, subst, arith, append_assoc, length-append}
+use Rattle.rustc_lexer.specs.declared.token.Token.{Token}
+use Rattle.rustc_lexer.specs.Cuts.{tokens_by}
+use Rattle.rustc_lexer.specs.Relexing.{IsMadeOf, Stands, known}
+use Rattle.rustc_lexer.proofs.EditLemmas.{IfErr-always}
+use Rattle.rustc_lexer.proofs.RelexingLemmas.{few_lexed, all_lexed}
+use Rattle.rustc_lexer.proofs.relex.edit.relex.Goals as goal
+
+pub loop-token-init : goal.loop-token-init
+loop-token-init g c =
+    let none = c.new-tokens.ensures.items in (
+      c.begin-at.ensures.may_go_on,
+      refl,
+      refl,
+      rw none (omega arith),
+      rw none c.begin-at.ensures.none,
+      λ before insert is near.
+          let first = g.S.Stepper.grammar c.args.stepper.now in
+          let stands = c.begin-at.ensures.stands first before insert (g.S.Stepper.law c.args.stepper.now) is near in
+          (stands, all_lexed (tokens_by first c.args.text.now) c.begin-at.result c.new-tokens.result.items none c.begin-at.ensures.none),
+    )
+
+pub loop-token-smaller : goal.loop-token-smaller
+loop-token-smaller g c =
+    let step = c.in-Some.ensures.step.0 in
+    let inside = step.inside in
+    let some = step.not_empty in
+    let place = step.place in
+    omega arith
+
+pub loop-token-preserved : goal.loop-token-preserved
+loop-token-preserved g c =
+    let first = g.S.Stepper.grammar c.args.stepper.now in
+    let at = c.loop-token.at in
+    let past = c.next.new.self in
+    let token = c.in-Some.token in
+    let step = c.in-Some.ensures.step in
+    let lexed = step.0.lexed in
+    let front = ap (λ b. b.number) step.0.front in
+    let more = c.in_ok-push.ensures.items in
+    let count : length c.push.new.self.items ≡ length c.loop-token.tokens.items + 1 = rw more (omega (arith, length-append c.loop-token.tokens.items (token ∷ []))) in (
+      c.in-Some.ensures.may_go_on,
+      c.in-Some.ensures.grammar ∙ c.loop-token.invariant.1,
+      c.in-Some.ensures.number ∙ c.loop-token.invariant.2,
+      omega (arith, step.1, count, c.loop-token.invariant.3),
+      omega (arith, lexed, count, c.loop-token.invariant.4),
+      λ before insert is near.
+          let so = c.loop-token.invariant.5 before insert is near in
+          let next = subst (λ (f : List ℕ → Token). IsMadeOf f before (map (λ (t : Token). t.len) c.args.old.now) c.args.change insert c.args.text.now → Stands f before c.args.change c.args.text.now at → Stands f before c.args.change c.args.text.now past × (drop (known at) (tokens_by f c.args.text.now) ≡ token ∷ drop (known past) (tokens_by f c.args.text.now))) c.loop-token.invariant.1 (c.in-Some.ensures.stands before insert) is so.0 in
+          let new = tokens_by first c.args.text.now in
+          (next.0, ap (λ n. drop n new) front ∙ (so.1 ∙ (ap (λ ts. c.loop-token.tokens.items ++ ts) next.1 ∙ (sym (append_assoc c.loop-token.tokens.items (token ∷ []) (drop (known past) new)) ∙ ap (λ ts. ts ++ drop (known past) new) (sym more))))),
+    )
+
+pub returns-in_err-push-clause-few : goal.returns-in_err-push-clause-few
+returns-in_err-push-clause-few g c =
+    let first = g.S.Stepper.grammar c.args.stepper.now in
+    let at = c.loop-token.at in
+    let past = c.next.new.self in
+    let step = c.in-Some.ensures.step in
+    let lexed = step.0.lexed in
+    IfErr-always c.from_residual.result (λ before insert is near.
+    let so = c.loop-token.invariant.5 before insert is near in
+    let next = subst (λ (f : List ℕ → Token). IsMadeOf f before (map (λ (t : Token). t.len) c.args.old.now) c.args.change insert c.args.text.now → Stands f before c.args.change c.args.text.now at → Stands f before c.args.change c.args.text.now past × (drop (known at) (tokens_by f c.args.text.now) ≡ c.in-Some.token ∷ drop (known past) (tokens_by f c.args.text.now))) c.loop-token.invariant.1 (c.in-Some.ensures.stands before insert) is so.0 in
+    omega (arith, step.1, lexed, c.loop-token.invariant.3, c.loop-token.invariant.4, few_lexed (g.S.Stepper.law c.args.stepper.now) before _ insert _ c.args.change is past next.0))

@@ -1,0 +1,18 @@
+use Rattle.std.proofs.Common.{length, map, List, ℕ, ◌-◌, ◌≡◌, ◌+◌, ◌++◌, drop}
+use Rattle.rustc_lexer.specs.declared.token.Token.{Token}
+use Rattle.rustc_lexer.specs.Cuts.{tokens_by}
+use Rattle.rustc_lexer.specs.Landmarks.{IsBound}
+use Rattle.rustc_lexer.specs.Relexing.{IsMadeOf, MayGoOn, Stands, known}
+use Rattle.rustc_lexer.proofs.relex.edit.relex.Given as goal
+
+abbrev pub invariant-loop-token : goal.invariant-loop-token
+invariant-loop-token g l = MayGoOn l.text (length l.old) l.at
+    × (g.S.Stepper.grammar l.stepper ≡ g.S.Stepper.grammar l.fn.stepper)
+    × (g.S.Stepper.number l.stepper ≡ g.S.Stepper.number l.fn.stepper)
+    × (g.S.Stepper.count l.stepper ≡ g.S.Stepper.count l.fn.stepper + length l.tokens.items)
+    × (l.at.lexed ≡ length l.tokens.items)
+    × ((before insert : List ℕ) → IsMadeOf (g.S.Stepper.grammar l.fn.stepper) before (map (λ (t : Token). t.len) l.old) l.change insert l.text → IsBound (tokens_by (g.S.Stepper.grammar l.fn.stepper) before) l.fn.near
+    → Stands (g.S.Stepper.grammar l.fn.stepper) before l.change l.text l.at × (drop l.at.front.number (tokens_by (g.S.Stepper.grammar l.fn.stepper) l.text) ≡ l.tokens.items ++ drop (known l.at) (tokens_by (g.S.Stepper.grammar l.fn.stepper) l.text)))
+
+abbrev pub decreases-loop-token : goal.decreases-loop-token
+decreases-loop-token g l = length l.text - l.at.at

@@ -1,0 +1,9 @@
+use Rattle.std.proofs.Common.{ap, sym, ◌∙◌, ◌-◌, ℕ}
+use Rattle.rustc_lexer.specs.declared.relex.edit.Relexed.{Relexed}
+use Rattle.rustc_lexer.proofs.RelexingLemmas.{counts_met}
+use Rattle.rustc_lexer.proofs.relex.relexing.Relexing.counts.Goals as goal
+
+pub returns-clause-exact : goal.returns-clause-exact
+returns-clause-exact c = λ first before lengths insert text change law is many stands hit.
+    let met = counts_met law before lengths insert text change is c.args.self.now stands hit in
+    (ap (λ (n : ℕ). let r : Relexed = record { kept_front = c.args.self.now.front.number; lexed = c.args.self.now.lexed; kept_back = n - c.args.self.now.back.number } in r) (sym many ∙ met.0) ∙ sym met.1, met.2)

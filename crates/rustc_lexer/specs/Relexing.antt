@@ -1,0 +1,104 @@
+-- Lexing again what an edit changed, where only the lengths of the old tokens are at hand.
+use Rattle.std.specs.Prelude.{ℕ, ◌≡◌, ◌+◌, ◌-◌, ◌<◌, ◌≤◌, ◌^◌, ◌++◌, true, List, length, map, take, drop, max, IsCharBoundary, Option, Some, None, ◌∷◌}
+use Rattle.std.specs.Str.{IsUtf8}
+use Rattle.rustc_lexer.specs.declared.token.Token.{Token}
+use Rattle.rustc_lexer.specs.declared.relex.front.Damage.{Damage}
+use Rattle.rustc_lexer.specs.declared.relex.front.Meeting.{Meeting}
+use Rattle.rustc_lexer.specs.declared.relex.relexing.Change.{Change}
+use Rattle.rustc_lexer.specs.declared.relex.relexing.Relexing.{Relexing}
+use Rattle.rustc_lexer.specs.Cuts.{bound, tokens_by}
+use Rattle.rustc_lexer.specs.Edits.{apply, kept_front, AreCuts, IsEdit, meet, meets_at}
+use Rattle.rustc_lexer.specs.Landmarks.{IsBound}
+use Rattle.rustc_lexer.specs.Texts.{IsText}
+
+-- these are the lengths of the tokens
+abbrev pub HasLengths : List Token → List ℕ → Type 0
+HasLengths tokens lengths = lengths ≡ map (λ (t : Token). t.len) tokens
+
+-- the old text, which may be cut at the bounds of the tokens, and the new one are the same up to `start`
+pub record IsFront (old : List ℕ) (tokens : List Token) (lengths text : List ℕ) (start : ℕ) : Type 0 where
+  pub utf8 : IsUtf8 old
+  pub cuts : AreCuts old tokens
+  pub lengths_are : HasLengths tokens lengths
+  pub same : take start text ≡ take start old
+
+-- a place of the new text was followed to a bound of the old tokens, before which none was met; and whether it meets it
+pub record IsFollowed (old : List Token) (damage : Damage) (place : ℕ) (to : Meeting) : Type 0 where
+  pub bound_is : IsBound old to.at
+  pub below : (k : ℕ) → k < to.at.number → bound old k + damage.added < max damage.past place + damage.removed
+  pub met_is : to.met ≡ meets_at old damage.past damage.added damage.removed place
+  pub past_edit : to.met ≡ true → damage.past ≤ place
+  pub same_place : to.met ≡ true → to.at.place ≡ place - damage.added + damage.removed
+
+-- what a change did to a text
+abbrev pub damage_of : Change → Damage
+damage_of change = record { past = change.new_stop; added = change.new_stop - change.start; removed = change.old_stop - change.start }
+
+-- the change is one that may have made the text: what it put in is inside, between characters
+pub record IsChange (text : List ℕ) (change : Change) : Type 0 where
+  pub start_le_old : change.start ≤ change.old_stop
+  pub old_short : change.old_stop < 2 ^ 32
+  pub start_le_new : change.start ≤ change.new_stop
+  pub start_boundary : IsCharBoundary text change.start
+  pub new_boundary : IsCharBoundary text change.new_stop
+
+-- the change made the text of `old`, whose tokens have the lengths, by putting in `insert`
+pub record IsMadeOf (first : List ℕ → Token) (old lengths : List ℕ) (change : Change) (insert text : List ℕ) : Type 0 where
+  pub is_text : IsText old
+  pub lengths_are : HasLengths (tokens_by first old) lengths
+  pub edit : IsEdit old change.start change.old_stop insert
+  pub inserted : IsUtf8 insert
+  pub made : text ≡ apply old change.start change.old_stop insert
+  pub new_stop : change.new_stop ≡ change.start + length insert
+
+-- the numbers are such that relexing may go on from them
+pub record MayGoOn (text : List ℕ) (count : ℕ) (at : Relexing) : Type 0 where
+  pub boundary : IsCharBoundary text at.at
+  pub number : at.back.number ≤ count
+  pub apart : at.front.number ≤ at.back.number
+  pub small : at.back.place < 2 ^ 40
+  pub few : at.lexed ≤ at.at
+
+-- how many of the new tokens are known: those of the front, and those that were lexed
+abbrev pub known : Relexing → ℕ
+known at = at.front.number + at.lexed
+
+-- relexing stands at a bound of the new tokens, past the kept front and not past the meeting
+pub record Stands (first : List ℕ → Token) (old : List ℕ) (change : Change) (text : List ℕ) (at : Relexing) : Type 0 where
+  pub front_number : at.front.number ≡ kept_front old (tokens_by first old) change.start
+  pub front_bound : IsBound (tokens_by first old) at.front
+  pub front_same : take at.front.number (tokens_by first old) ≡ take at.front.number (tokens_by first text)
+  pub inside : known at ≤ length (tokens_by first text)
+  pub place : at.at ≡ bound (tokens_by first text) (known at)
+  pub not_past : known at ≤ meet (tokens_by first old) (tokens_by first text) (damage_of change).past (damage_of change).added (damage_of change).removed at.front.number
+  pub followed : IsFollowed (tokens_by first old) (damage_of change) at.at record { at = at.back; met = at.met }
+
+-- past the token at the place where relexing stands
+pub record IsStepTo (first : List ℕ → Token) (text : List ℕ) (at : Relexing) (token : Token) (at' : Relexing) : Type 0 where
+  pub token_is : token ≡ first (drop at.at text)
+  pub inside : at.at < length text
+  pub not_empty : 0 < token.len
+  pub front : at'.front ≡ at.front
+  pub lexed : at'.lexed ≡ at.lexed + 1
+  pub place : at'.at ≡ at.at + token.len
+
+-- what a call of `next` does: nothing, or one step of the stepper, whose token is the first of the text that is left there
+abbrev pub TakesStep : (List ℕ → Token) → List ℕ → ℕ → Relexing → Option Token → ℕ → Relexing → Type 0
+TakesStep first text count at None count' at' = (at' ≡ at) × (count' ≡ count)
+TakesStep first text count at (Some token) count' at' = IsStepTo first text at token at' × (count' ≡ count + 1)
+
+-- what it gives is the next of the tokens, and nothing only where the old ones are met
+abbrev pub GivesNext : List Token → Relexing → Option Token → Relexing → Type 0
+GivesNext tokens at None at' = at'.met ≡ true
+GivesNext tokens at (Some token) at' = drop (known at) tokens ≡ token ∷ drop (known at') tokens
+
+-- relexing has met the old tokens, and these are the tokens that were lexed for it
+pub record IsLexed (first : List ℕ → Token) (old : List ℕ) (change : Change) (text : List ℕ) (tokens : List Token) (at : Relexing) : Type 0 where
+  pub stands : Stands first old change text at
+  pub met : at.met ≡ true
+  pub lexed : at.lexed ≡ length tokens
+  pub tokens_are : drop at.front.number (tokens_by first text) ≡ tokens ++ drop (known at) (tokens_by first text)
+
+-- the old tokens up to the kept front, those that were lexed and the old ones behind the meeting are the new tokens
+abbrev pub IsWhole : List Token → List Token → Relexing → Type 0
+IsWhole old new at = take at.front.number old ++ (take at.lexed (drop at.front.number new) ++ drop at.back.number old) ≡ new

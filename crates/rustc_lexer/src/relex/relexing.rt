@@ -1,0 +1,150 @@
+//! Lexing again what an edit changed, on lists that the caller holds.
+ghost use Rattle.std.specs.Prelude.{◌≡◌, ◌-◌, ◌≤◌, ◌↔◌, IsTrue, List, length, map, ℕ, true};
+ghost use Rattle.rustc_lexer.specs.declared.relex.relexing.Change.{Change};
+ghost use Rattle.rustc_lexer.specs.declared.token.Token.{Token};
+ghost use Rattle.rustc_lexer.specs.Edits.{relexed_of};
+ghost use Rattle.rustc_lexer.specs.Classes.{Fits};
+ghost use Rattle.rustc_lexer.specs.Cuts.{tokens_by};
+ghost use Rattle.rustc_lexer.specs.Landmarks.{IsBound};
+ghost use Rattle.rustc_lexer.specs.Relexing as spec;
+ghost use Rattle.rustc_lexer.specs.Texts.{IsGrammar};
+
+use crate::entry::stepper::Stepper;
+use crate::relex::edit::Relexed;
+use crate::relex::front::{Bound, Damage, Measured, follow, kept_front};
+use crate::token::Token;
+
+/// An edit that was made, by its places in bytes: what stood from `start` up to `old_stop` was taken out, and what
+/// now stands from `start` up to `new_stop` was put in.
+#[derive(Clone, Copy, Debug, PartialEq, Eq)]
+pub struct Change {
+    pub start: usize,
+    pub old_stop: usize,
+    pub new_stop: usize,
+}
+
+impl Change {
+    /// Whether the change may have made the text.
+    pub fn may_make(&self, text: &str) -> bool
+        ensures { IsTrue result ↔ spec.IsChange text.now self.now }
+    {
+        self.start <= self.old_stop
+            && self.old_stop <= u32::MAX as usize
+            && self.start <= self.new_stop
+            && text.is_char_boundary(self.start)
+            && text.is_char_boundary(self.new_stop)
+    }
+
+    /// What the change did to the text.
+    fn damage(self) -> Damage
+        requires old { self.start ≤ self.old_stop }
+        requires new { self.start ≤ self.new_stop }
+        ensures { result ≡ spec.damage_of self }
+    {
+        Damage {
+            past: self.new_stop,
+            added: self.new_stop - self.start,
+            removed: self.old_stop - self.start,
+        }
+    }
+}
+
+/// How far a changed text is lexed again: up to a bound of its tokens, from its kept front on.
+///
+/// The old tokens are known by their lengths alone. Where these are the lengths of the tokens of an old text, of
+/// which the change made the present one, all numbers are exact. Any others may be passed too, and then they mean
+/// nothing.
+#[derive(Clone, Copy, Debug, PartialEq, Eq)]
+pub struct Relexing {
+    /// How many of the old tokens stay at the front, and where they end.
+    pub front: Bound,
+    /// How many tokens were lexed.
+    pub lexed: usize,
+    /// A bound of the old tokens. Once it is met, the tokens behind it stay.
+    pub back: Bound,
+    /// Where the last token that was lexed ends, in the present text.
+    pub at: usize,
+    /// Whether that is the bound of the old tokens.
+    pub met: bool,
+}
+
+impl Relexing {
+    /// The kept front, and nothing lexed. The search for it begins at `near`, which may be any bound of the old
+    /// tokens.
+    pub fn begin<T: Measured>(text: &str, old: &[T], change: Change, near: Bound) -> Relexing
+        requires fits { Fits text.now }
+        requires change { spec.IsChange text.now change }
+        ensures may_go_on { spec.MayGoOn text.now (length old.now) result }
+        ensures none { result.lexed ≡ 0 }
+        ensures stands { (first : List ℕ → Token) (before insert : List ℕ) → IsGrammar first
+            → spec.IsMadeOf first before (map T.bytes old.now) change insert text.now
+            → IsBound (tokens_by first before) near
+            → spec.Stands first before change text.now result }
+    {
+        let front = kept_front(text, old, change.start, near);
+        let to = follow(old, front, front.place, change.damage());
+        Relexing {
+            front,
+            lexed: 0,
+            back: to.at,
+            at: front.place,
+            met: to.met,
+        }
+    }
+
+    /// The next token, or `None` where the old tokens are met.
+    pub fn next<S: Stepper, T: Measured>(
+        &mut self,
+        stepper: &mut S,
+        text: &str,
+        old: &[T],
+        change: Change,
+    ) -> Option<Token>
+        requires fits { Fits text.now }
+        requires change { spec.IsChange text.now change }
+        requires may_go_on { spec.MayGoOn text.now (length old.now) self.old }
+        ensures may_go_on { spec.MayGoOn text.now (length old.now) self.new }
+        ensures grammar { S.grammar stepper.new ≡ S.grammar stepper.old }
+        ensures number { S.number stepper.new ≡ S.number stepper.old }
+        ensures step { spec.TakesStep (S.grammar stepper.old) text.now
+            (S.count stepper.old) self.old result (S.count stepper.new) self.new }
+        ensures stands { (before insert : List ℕ)
+            → spec.IsMadeOf (S.grammar stepper.old) before (map T.bytes old.now) change insert text.now
+            → spec.Stands (S.grammar stepper.old) before change text.now self.old
+            → spec.Stands (S.grammar stepper.old) before change text.now self.new
+            × spec.GivesNext (tokens_by (S.grammar stepper.old) text.now) self.old result self.new }
+    {
+        if self.met || self.at == text.len() {
+            return None;
+        }
+        let token = stepper.step(&text[self.at..]);
+        let at = self.at + token.len as usize;
+        let to = follow(old, self.back, at, change.damage());
+        *self = Relexing {
+            front: self.front,
+            lexed: self.lexed + 1,
+            back: to.at,
+            at,
+            met: to.met,
+        };
+        Some(token)
+    }
+    /// The counts of the edit, once the old tokens are met, of which there are `old_count`.
+    pub fn counts(&self, old_count: usize) -> Relexed
+        requires number { self.now.back.number ≤ old_count }
+        ensures counts { result
+            ≡ record { kept_front = self.now.front.number; lexed = self.now.lexed; kept_back = old_count - self.now.back.number } }
+        ensures exact { (first : List ℕ → Token) (before lengths insert text : List ℕ) (change : Change)
+            → IsGrammar first → spec.IsMadeOf first before lengths change insert text
+            → length lengths ≡ old_count → spec.Stands first before change text self.now
+            → self.now.met ≡ true
+            → (result ≡ relexed_of first before change.start change.old_stop insert)
+            × spec.IsWhole (tokens_by first before) (tokens_by first text) self.now }
+    {
+        Relexed {
+            kept_front: self.front.number,
+            lexed: self.lexed,
+            kept_back: old_count - self.back.number,
+        }
+    }
+}
