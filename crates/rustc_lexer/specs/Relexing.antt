@@ -1,5 +1,5 @@
 -- Lexing again what an edit changed, where only the lengths of the old tokens are at hand.
-use Rattle.std.specs.Prelude.{ℕ, ◌≡◌, ◌+◌, ◌-◌, ◌<◌, ◌≤◌, ◌^◌, ◌++◌, true, List, length, map, take, drop, max, IsCharBoundary, Option, Some, None, ◌∷◌}
+use Rattle.std.specs.Prelude.{ℕ, ◌≡◌, ◌+◌, ◌-◌, ◌<◌, ◌≤◌, ◌^◌, ◌++◌, true, List, length, map, take, drop, max, IsCharBoundary, Option, Some, None, ◌∷◌, Bool, ◌||◌, nat_eq}
 use Rattle.std.specs.Str.{IsUtf8}
 use Rattle.rustc_lexer.specs.declared.token.Token.{Token}
 use Rattle.rustc_lexer.specs.declared.relex.front.Damage.{Damage}
@@ -82,9 +82,14 @@ pub record IsStepTo (first : List ℕ → Token) (text : List ℕ) (at : Relexin
   pub lexed : at'.lexed ≡ at.lexed + 1
   pub place : at'.at ≡ at.at + token.len
 
--- what a call of `next` does: nothing, or one step of the stepper, whose token is the first of the text that is left there
+-- the old tokens are met, or no text is left
+abbrev pub is_over : List ℕ → Relexing → Bool
+is_over text at = at.met || nat_eq at.at (length text)
+
+-- what a call of `next` does: nothing, where relexing is over, or else one step of the stepper, whose token is the first of
+-- the text that is left there
 abbrev pub TakesStep : (List ℕ → Token) → List ℕ → ℕ → Relexing → Option Token → ℕ → Relexing → Type 0
-TakesStep first text count at None count' at' = (at' ≡ at) × (count' ≡ count)
+TakesStep first text count at None count' at' = (at' ≡ at) × (count' ≡ count) × (is_over text at ≡ true)
 TakesStep first text count at (Some token) count' at' = IsStepTo first text at token at' × (count' ≡ count + 1)
 
 -- what it gives is the next of the tokens, and nothing only where the old ones are met

@@ -4,13 +4,15 @@ use Rattle.std.specs.Str.{IsUtf8, IsCharBoundary}
 use Rattle.rustc_lexer.specs.Raw.{StartsRaw}
 use Rattle.rustc_lexer.specs.Texts.{IsText}
 use Rattle.rustc_lexer_c.specs.declared.status.Refusal.{Refusal}
-use Rattle.rustc_lexer_c.specs.declared.status.Refusal.TheVariants.{NotUtf8, TooLong, BadPlace, NotRaw}
+use Rattle.rustc_lexer_c.specs.declared.status.Refusal.TheVariants.{NotUtf8, TooLong, BadPlace, NotRaw, BadEdition, BadEdit}
 
 abbrev pub refusal_number : Refusal → ℕ
 refusal_number NotUtf8 = 1
 refusal_number TooLong = 2
 refusal_number BadPlace = 3
 refusal_number NotRaw = 4
+refusal_number BadEdition = 5
+refusal_number BadEdit = 6
 
 -- why bytes are no text that can be lexed; their length is looked at first
 abbrev pub IsNoText : List ℕ → Refusal → Type 0

@@ -9,6 +9,7 @@ pub mod batch;
 pub mod classes;
 pub mod places;
 pub mod raw_str;
+pub mod relex;
 pub mod status;
 #[cfg(test)]
 mod tests;

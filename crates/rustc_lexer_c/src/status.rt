@@ -14,6 +14,10 @@ pub(crate) enum Refusal {
     BadPlace,
     /// No raw string begins at the text's front.
     NotRaw,
+    /// No edition has the year.
+    BadEdition,
+    /// The edit cannot have made the text, or relexing cannot go on from the numbers.
+    BadEdit,
 }
 
 impl Refusal {
@@ -26,6 +30,8 @@ impl Refusal {
             Refusal::TooLong => 2,
             Refusal::BadPlace => 3,
             Refusal::NotRaw => 4,
+            Refusal::BadEdition => 5,
+            Refusal::BadEdit => 6,
         }
     }
 }

@@ -14,6 +14,9 @@ use crate::relex::edit::Relexed;
 use crate::relex::front::{Bound, Damage, Measured, follow, kept_front};
 use crate::token::Token;
 
+/// A place that no bound of a list that is passed in good faith has.
+const MOST: usize = 1 << 40;
+
 /// An edit that was made, by its places in bytes: what stood from `start` up to `old_stop` was taken out, and what
 /// now stands from `start` up to `new_stop` was put in.
 #[derive(Clone, Copy, Debug, PartialEq, Eq)]
@@ -92,6 +95,30 @@ impl Relexing {
         }
     }
 
+    /// Whether `next` may be called, with this text and so many old tokens. It is so after `begin` and after `next`:
+    /// this is for numbers that come from elsewhere.
+    pub fn may_go_on(&self, text: &str, old_count: usize) -> bool
+        ensures { IsTrue result ↔ spec.MayGoOn text.now old_count self.now }
+    {
+        text.is_char_boundary(self.at)
+            && self.back.number <= old_count
+            && self.front.number <= self.back.number
+            && self.back.place < MOST
+            && self.lexed <= self.at
+    }
+
+    /// Whether the old tokens are met, or no text is left. Where the lengths are those of an old text, no text is left
+    /// only where they are met.
+    pub fn is_over(&self, text: &str) -> bool
+        ensures over { result ≡ spec.is_over text.now self.now }
+        ensures met { (first : List ℕ → Token) (before lengths insert : List ℕ) (change : Change)
+            → IsGrammar first → spec.IsMadeOf first before lengths change insert text.now
+            → spec.Stands first before change text.now self.now
+            → result ≡ self.now.met }
+    {
+        self.met || self.at == text.len()
+    }
+
     /// The next token, or `None` where the old tokens are met.
     pub fn next<S: Stepper, T: Measured>(
         &mut self,
@@ -114,7 +141,7 @@ impl Relexing {
             → spec.Stands (S.grammar stepper.old) before change text.now self.new
             × spec.GivesNext (tokens_by (S.grammar stepper.old) text.now) self.old result self.new }
     {
-        if self.met || self.at == text.len() {
+        if self.is_over(text) {
             return None;
         }
         let token = stepper.step(&text[self.at..]);

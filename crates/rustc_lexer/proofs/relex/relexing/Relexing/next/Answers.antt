@@ -1,19 +1,21 @@
-use Rattle.std.proofs.Common.{ap, sym, ◌∙◌, arith, ◌+◌}
+use Rattle.std.proofs.Common.{ap, sym, ◌∙◌, arith, ◌+◌, length, length-drop}
 use Rattle.rustc_lexer.specs.Cuts.{tokens_by}
 use Rattle.rustc_lexer.specs.Relexing.{IsFollowed, damage_of}
 use Rattle.rustc_lexer.specs.Texts.{IsText}
-use Rattle.rustc_lexer.proofs.RelexingLemmas.{stands_end, stands_next, gives_next, below_later, step_place}
+use Rattle.rustc_lexer.proofs.RelexingLemmas.{stands_next, gives_next, below_later, not_over, step_place}
 use Rattle.rustc_lexer.proofs.relex.relexing.Relexing.next.Goals as goal
-use Rattle.rustc_lexer.proofs.relex.relexing.Relexing.next.Goals.{then-self-via-then-self, then-self-via-else-self+then-self-text}
 
-pub returns-then-self-clause-stands : goal.returns-then-self-clause-stands
-returns-then-self-clause-stands g c = λ before insert is stands. (
-  stands,
-  elim c.then-self.branch [
-    | then-self-via-then-self w ↦ w.if-self.true
-    | then-self-via-else-self+then-self-text w ↦ let ends = w.if-self-text.true in stands_end (g.S.Stepper.law c.args.stepper.now) before _ insert _ c.args.change is c.args.self.now stands (omega arith)
-  ],
-)
+pub range_from-requires : goal.range_from-requires
+range_from-requires g c = λ some. c.requires.may_go_on.boundary
+
+pub step-token-requires-clause-not_empty : goal.step-token-requires-clause-not_empty
+step-token-requires-clause-not_empty g c =
+    let more = (not_over c.args.self.now.met c.args.self.now.at (length c.args.text.now) c.requires.may_go_on.boundary.0 (sym c.is_over.ensures.over ∙ c.if-is_over.false)).1 in
+    rw c.range_from.ensures.value (omega (arith, length-drop c.args.self.now.at c.args.text.now))
+
+pub returns-then-is_over-clause-stands : goal.returns-then-is_over-clause-stands
+returns-then-is_over-clause-stands g c = λ before insert is stands.
+    (stands, sym (c.is_over.ensures.met (g.S.Stepper.grammar c.args.stepper.now) before _ insert c.args.change (g.S.Stepper.law c.args.stepper.now) is stands) ∙ c.if-is_over.true)
 
 pub returns-clause-may_go_on : goal.returns-clause-may_go_on
 returns-clause-may_go_on g c =
@@ -21,8 +23,8 @@ returns-clause-may_go_on g c =
     let may = c.requires.may_go_on in
     let inside = may.boundary.0 in
     let token = c.step-token.ensures.token ∙ ap (g.S.Stepper.grammar c.args.stepper.now) c.range_from.ensures.value in
-    let more = c.if-self-text.false in
-    let step = step_place (g.S.Stepper.law c.args.stepper.now) c.args.text.now c.args.self.now.at c.step-token.result is may.boundary (omega arith) token in
+    let more = (not_over c.args.self.now.met c.args.self.now.at (length c.args.text.now) inside (sym c.is_over.ensures.over ∙ c.if-is_over.false)).1 in
+    let step = step_place (g.S.Stepper.law c.args.stepper.now) c.args.text.now c.args.self.now.at c.step-token.result is may.boundary more token in
     record {
       boundary = step.1;
       number = c.follow-to.ensures.number;
@@ -36,9 +38,10 @@ returns-clause-stands g c = λ before insert is stands.
     let law = g.S.Stepper.law c.args.stepper.now in
     let at = c.args.self.now in
     let token = c.step-token.ensures.token ∙ ap (g.S.Stepper.grammar c.args.stepper.now) c.range_from.ensures.value in
+    let out = sym (c.is_over.ensures.met (g.S.Stepper.grammar c.args.stepper.now) before _ insert c.args.change law is stands) ∙ c.if-is_over.false in
     let later = below_later law before _ insert _ c.args.change is at stands (at.at + c.step-token.result.len) (omega arith) in
     let to = c.follow-to.ensures.followed (tokens_by (g.S.Stepper.grammar c.args.stepper.now) before) is.lengths_are stands.followed.bound_is (rw c.damage.ensures later) in
     let followed : IsFollowed (tokens_by (g.S.Stepper.grammar c.args.stepper.now) before) (damage_of c.args.change) (at.at + c.step-token.result.len) c.follow-to.result = rw (sym c.damage.ensures) to in (
-      stands_next law before _ insert _ c.args.change is at stands c.step-token.result c.follow-to.result c.if-self.false token followed,
-      gives_next law before _ insert _ c.args.change is at stands c.step-token.result c.follow-to.result c.if-self.false token followed,
+      stands_next law before _ insert _ c.args.change is at stands c.step-token.result c.follow-to.result out token followed,
+      gives_next law before _ insert _ c.args.change is at stands c.step-token.result c.follow-to.result out token followed,
     )

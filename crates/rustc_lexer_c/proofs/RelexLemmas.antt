@@ -1,0 +1,114 @@
+-- How far a text is relexed, as numbers and back.
+use Rattle.std.proofs.Common.{◌≡◌, ◌≢◌, ℕ, ◌+◌, ◌-◌, ◌≤◌, Bool, true, false, ◌||◌, if◌then◌else◌, eqb, List, ◌++◌, length, map, take, drop, refl, sym, ap, ◌∙◌, subst, arith, Option}
+use Rattle.std.proofs.Common.{Some, None}
+use Rattle.std.proofs.lemmas.List.{length-map}
+use Rattle.rustc_lexer.specs.declared.edition.Edition.{Edition}
+use Rattle.rustc_lexer.specs.declared.edition.Edition.TheVariants.{E2024}
+use Rattle.rustc_lexer.specs.declared.relex.edit.Relexed.{Relexed}
+use Rattle.rustc_lexer.specs.declared.relex.relexing.Relexing.{Relexing}
+use Rattle.rustc_lexer.specs.declared.token.Token.{Token}
+use Rattle.rustc_lexer.specs.Cuts.{tokens_by}
+use Rattle.rustc_lexer.specs.Edition.{first_token_in, tokens_in}
+use Rattle.rustc_lexer.specs.Relexing.{IsMadeOf, IsWhole, MayGoOn, Stands, is_over, known}
+use Rattle.rustc_lexer.specs.Texts.{IsGrammar}
+use Rattle.rustc_lexer.specs.laws.Edition.{edition_grammar}
+use Rattle.rustc_lexer.proofs.RelexingLemmas.{over_met, few_lexed, counts_met}
+use Rattle.rustc_lexer_c.specs.declared.relex.CChange.{CChange}
+use Rattle.rustc_lexer_c.specs.declared.relex.CRelexing.{CRelexing}
+use Rattle.rustc_lexer_c.specs.declared.token.CToken.{CToken}
+use Rattle.rustc_lexer_c.specs.Numbers.{token_numbers}
+use Rattle.rustc_lexer_c.specs.Relex.{IsPassed, IsRelexBatch, change_of, lexed_before, numbers_of, relexing_of}
+
+edition_or : Option Edition → Edition
+edition_or (Some edition) = edition
+edition_or None = E2024
+
+pub edition_same : (a b : Edition) (r o : Option Edition) → r ≡ Some a → r ≡ o → o ≡ Some b → a ≡ b
+unfolding edition_or
+edition_same a b r o e f g = ap edition_or (sym e ∙ (f ∙ g))
+
+-- the stage tells whether it is over
+abbrev pub stage_of : Bool → ℕ
+stage_of over = if over then 2 else 1
+
+pub stage_goes_on : (over : Bool) → stage_of over ≢ 2 → (stage_of over ≡ 1) × (over ≡ false)
+stage_goes_on true not = absurd (not refl)
+stage_goes_on false not = (refl, refl)
+
+pub stage_some : (over : Bool) → stage_of over ≢ 0
+stage_some true e = absurd (omega arith)
+stage_some false e = absurd (omega arith)
+
+pub stage_over : (over : Bool) → eqb (stage_of over) 2 ≡ over
+stage_over true = refl
+stage_over false = refl
+
+pub stage_met : (over : Bool) → stage_of over ≡ 2 → over ≡ true
+stage_met true e = refl
+stage_met false e = absurd (omega arith)
+
+-- the numbers are those of where it stands
+relex_back : (text : List ℕ) (n : ℕ) (at : Relexing) → at.back.number ≤ n → is_over text at ≡ at.met → relexing_of n (numbers_of text n at) ≡ at
+relex_back text n at few over =
+    let number : n - (n - at.back.number) ≡ at.back.number = omega arith in
+    let met : eqb (stage_of (is_over text at)) 2 ≡ at.met = stage_over (is_over text at) ∙ over in
+    rw (number, met) refl
+
+module _ (edition : Edition) (text : List ℕ) (old : List CToken) (change : CChange) (c : CRelexing) (room filled : List CToken) (count : ℕ) (begin at : Relexing) where
+  abbrev pub lens : List ℕ
+  lens = map (λ (t : CToken). t.len) old
+
+  abbrev pub first : List ℕ → Token
+  first = first_token_in edition
+
+  pub over_is : (before insert : List ℕ) → IsMadeOf first before lens (change_of change) insert text → Stands first before (change_of change) text at → is_over text at ≡ at.met
+  over_is before insert is stands = by_test at.met refl
+    where
+      by_test : (b : Bool) → at.met ≡ b → (at.met || eqb at.at (length text)) ≡ at.met
+      by_test true e = ap (λ m. m || eqb at.at (length text)) e ∙ sym e
+      by_test false e = ap (λ m. m || eqb at.at (length text)) e ∙ over_met (edition_grammar edition) before lens insert text (change_of change) is at stands e
+
+  pub batch_is : count ≤ length room → drop count filled ≡ drop count room → at.lexed ≡ begin.lexed + count → at.front ≡ begin.front → MayGoOn text (length old) at → (is_over text at ≡ false → count ≡ length room) → begin.lexed ≡ lexed_before c
+      → ((first : List ℕ → Token) (before insert : List ℕ) → IsGrammar first → IsMadeOf first before lens (change_of change) insert text → IsPassed first before (change_of change) text (length old) c → Stands first before (change_of change) text begin)
+      → ((before insert : List ℕ) → IsMadeOf first before lens (change_of change) insert text → Stands first before (change_of change) text begin → Stands first before (change_of change) text at × (filled ≡ map token_numbers (take count (drop (known begin) (tokens_in edition text))) ++ drop count room))
+      → IsRelexBatch edition text old change c room (numbers_of text (length old) at) filled count
+  batch_is within rest lexed front may goes_on before_lexed begun tokens = record {
+    within = within;
+    rest = rest;
+    lexed = omega arith;
+    goes_on = λ not. let on = stage_goes_on (is_over text at) not in (on.0, goes_on on.1);
+    may_relex = λ _.
+        let few = may.number in
+        let back : length old - (length old - at.back.number) ≡ at.back.number = omega arith in (
+          omega arith,
+          record {
+            boundary = may.boundary;
+            number = omega arith;
+            apart = (let apart = may.apart in omega arith);
+            small = may.small;
+            few = may.few;
+          },
+        );
+    relexed = λ before insert is passed.
+        let law = edition_grammar edition in
+        let so = tokens before insert is (begun first before insert law is passed) in
+        let over = over_is before insert is so.0 in
+        let same = relex_back text (length old) at may.number over in
+        let number = ap (λ b. b.number) front in
+        let at_begin : known begin ≡ at.front.number + lexed_before c = omega arith in
+        let many : length lens ≡ length old = length-map old (λ (t : CToken). t.len) in
+        record {
+          passed = record {
+            near = λ e. absurd (stage_some (is_over text at) e);
+            stands = λ _. subst (Stands first before (change_of change) text) (sym same) so.0;
+          };
+          tokens = so.1 ∙ ap (λ n. map token_numbers (take count (drop n (tokens_in edition text))) ++ drop count room) at_begin;
+          few = few_lexed law before lens insert text (change_of change) is at so.0;
+          counts = λ e.
+              let met = counts_met law before lens insert text (change_of change) is at so.0 (sym over ∙ stage_met (is_over text at) e) in
+              met.1 ∙ ap (λ (n : ℕ). let r : Relexed = record { kept_front = at.front.number; lexed = at.lexed; kept_back = n - at.back.number } in r) (sym met.0 ∙ many);
+          whole = λ e.
+              let met = counts_met law before lens insert text (change_of change) is at so.0 (sym over ∙ stage_met (is_over text at) e) in
+              subst (IsWhole (tokens_by first before) (tokens_by first text)) (sym same) met.2;
+        };
+  }

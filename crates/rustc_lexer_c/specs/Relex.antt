@@ -1,0 +1,104 @@
+-- Relexing from C: an edit, and how far its text is lexed again.
+use Rattle.std.specs.Prelude.{ℕ, ◌≡◌, ◌≢◌, ◌+◌, ◌-◌, ◌≤◌, ◌<◌, ◌^◌, if◌then◌else◌, nat_eq, List, ◌++◌, length, map, take, drop, Option, Some, None}
+use Rattle.std.specs.Str.{IsUtf8}
+use Rattle.rustc_lexer.specs.declared.edition.Edition.{Edition}
+use Rattle.rustc_lexer.specs.declared.edition.Edition.TheVariants.{E2015, E2018, E2021, E2024}
+use Rattle.rustc_lexer.specs.declared.relex.front.Bound.{Bound}
+use Rattle.rustc_lexer.specs.declared.relex.relexing.Change.{Change}
+use Rattle.rustc_lexer.specs.declared.relex.relexing.Relexing.{Relexing}
+use Rattle.rustc_lexer.specs.declared.token.Token.{Token}
+use Rattle.rustc_lexer.specs.Cuts.{tokens_by}
+use Rattle.rustc_lexer.specs.Edition.{first_token_in}
+use Rattle.rustc_lexer.specs.Edits.{relexed_of}
+use Rattle.rustc_lexer.specs.Landmarks.{IsBound}
+use Rattle.rustc_lexer.specs.Relexing.{IsChange, IsMadeOf, IsWhole, MayGoOn, Stands, is_over}
+use Rattle.rustc_lexer.specs.Texts.{IsText}
+use Rattle.rustc_lexer_c.specs.declared.relex.CChange.{CChange}
+use Rattle.rustc_lexer_c.specs.declared.relex.CRelexing.{CRelexing}
+use Rattle.rustc_lexer_c.specs.declared.token.CToken.{CToken}
+use Rattle.rustc_lexer_c.specs.Numbers.{token_numbers}
+
+-- the edition of a year
+abbrev pub edition_of : ℕ → Option Edition
+edition_of year =
+    if nat_eq year 2024 then Some E2024
+    else if nat_eq year 2021 then Some E2021
+    else if nat_eq year 2018 then Some E2018
+    else if nat_eq year 2015 then Some E2015
+    else None
+
+abbrev pub change_of : CChange → Change
+change_of c = record { start = c.start; old_stop = c.old_stop; new_stop = c.new_stop }
+
+-- the bound that the fields for the front have
+abbrev pub front_of : CRelexing → Bound
+front_of c = record { number = c.kept_front; place = c.front_place }
+
+-- how far so many old tokens were relexed
+abbrev pub relexing_of : ℕ → CRelexing → Relexing
+relexing_of count c = record {
+  front = front_of c;
+  lexed = c.lexed;
+  back = record { number = count - c.kept_back; place = c.back_place };
+  at = c.at;
+  met = nat_eq c.stage 2;
+}
+
+-- how many tokens were written by the calls before
+abbrev pub lexed_before : CRelexing → ℕ
+lexed_before c = if nat_eq c.stage 0 then 0 else c.lexed
+
+-- a call may begin or go on with the numbers
+abbrev pub MayRelex : List ℕ → ℕ → CRelexing → Type 0
+MayRelex text count c = c.stage ≢ 0 → (c.kept_back ≤ count) × MayGoOn text count (relexing_of count c)
+
+-- the numbers are those that a call may begin with, of which only a bound of the old tokens counts, or that a call left
+pub record IsPassed (first : List ℕ → Token) (before : List ℕ) (change : Change) (text : List ℕ) (count : ℕ) (c : CRelexing) : Type 0 where
+  pub near : c.stage ≡ 0 → IsBound (tokens_by first before) (front_of c)
+  pub stands : c.stage ≢ 0 → Stands first before change text (relexing_of count c)
+
+-- the tokens of the present text that follow the front and those of the calls before are written; what is left to do is what
+-- `relexed_of` says, and once the stage is 2 nothing is: the tokens that were kept and lexed are those of the present text
+pub record IsRelexed (first : List ℕ → Token) (before : List ℕ) (change : CChange) (insert text : List ℕ) (old : List CToken) (c : CRelexing) (room : List CToken) (c' : CRelexing) (filled : List CToken) (count : ℕ) : Type 0 where
+  pub passed : IsPassed first before (change_of change) text (length old) c'
+  pub tokens : filled ≡ map token_numbers (take count (drop (c'.kept_front + lexed_before c) (tokens_by first text))) ++ drop count room
+  pub few : c'.lexed ≤ (relexed_of first before change.start change.old_stop insert).lexed
+  pub counts : c'.stage ≡ 2 → relexed_of first before change.start change.old_stop insert ≡ record { kept_front = c'.kept_front; lexed = c'.lexed; kept_back = c'.kept_back }
+  pub whole : c'.stage ≡ 2 → IsWhole (tokens_by first before) (tokens_by first text) (relexing_of (length old) c')
+
+-- what a call does for any numbers, and what for those of an edit: of each text of which the old tokens are those in the
+-- edition, and of which the edit made the present text
+pub record IsRelexBatch (edition : Edition) (text : List ℕ) (old : List CToken) (change : CChange) (c : CRelexing) (room : List CToken) (c' : CRelexing) (filled : List CToken) (count : ℕ) : Type 0 where
+  pub within : count ≤ length room
+  pub rest : drop count filled ≡ drop count room
+  pub lexed : c'.lexed ≡ lexed_before c + count
+  pub goes_on : c'.stage ≢ 2 → (c'.stage ≡ 1) × (count ≡ length room)
+  pub may_relex : MayRelex text (length old) c'
+  pub relexed : (before insert : List ℕ) → IsMadeOf (first_token_in edition) before (map (λ (t : CToken). t.len) old) (change_of change) insert text → IsPassed (first_token_in edition) before (change_of change) text (length old) c
+      → IsRelexed (first_token_in edition) before change insert text old c room c' filled count
+
+-- nothing is written
+pub record IsNotRelexed (c c' : CRelexing) (room room' : List CToken) (count : ℕ) : Type 0 where
+  pub same : c' ≡ c
+  pub same_room : room' ≡ room
+  pub none : count ≡ 0
+
+-- the status of a call that relexes
+pub record IsRelexStatus (bytes : List ℕ) (change : CChange) (year count : ℕ) (c : CRelexing) (status : ℕ) : Type 0 where
+  pub ok : IsText bytes → (edition : Edition) → edition_of year ≡ Some edition → IsChange bytes (change_of change) → MayRelex bytes count c → status ≡ 0
+  pub not_utf8 : length bytes < 2 ^ 32 → ¬ (IsUtf8 bytes) → status ≡ 1
+  pub too_long : 2 ^ 32 ≤ length bytes → status ≡ 2
+  pub bad_edition : IsText bytes → edition_of year ≡ None → status ≡ 5
+  pub bad_edit : IsText bytes → (edition : Edition) → edition_of year ≡ Some edition → ¬ (IsChange bytes (change_of change) × MayRelex bytes count c) → status ≡ 6
+
+-- how far it was relexed, as numbers
+abbrev pub numbers_of : List ℕ → ℕ → Relexing → CRelexing
+numbers_of text count at = record {
+  kept_front = at.front.number;
+  front_place = at.front.place;
+  lexed = at.lexed;
+  kept_back = count - at.back.number;
+  back_place = at.back.place;
+  at = at.at;
+  stage = if is_over text at then 2 else 1;
+}

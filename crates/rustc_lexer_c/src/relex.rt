@@ -1,0 +1,272 @@
+//! Relexing: the tokens of a text that was edited, by its old tokens.
+ghost use Rattle.std.specs.Prelude.{◌≡◌, ◌≢◌, ◌+◌, ◌≤◌, ◌↔◌, ◌++◌, List, ℕ, Some, None, IfSome, false, length, map, take, drop};
+ghost use Rattle.std.specs.Str.{IsUtf8};
+ghost use Rattle.rustc_lexer.specs.declared.edition.Edition.{Edition};
+ghost use Rattle.rustc_lexer.specs.declared.token.Token.{Token};
+ghost use Rattle.rustc_lexer.specs.Classes.{Fits};
+ghost use Rattle.rustc_lexer.specs.Edition.{first_token_in, tokens_in};
+ghost use Rattle.rustc_lexer.specs.Relexing.{IsChange, IsMadeOf, MayGoOn, Stands, is_over, known};
+ghost use Rattle.rustc_lexer.specs.Texts.{IsGrammar};
+ghost use Rattle.rustc_lexer_c.specs.Numbers as numbers;
+ghost use Rattle.rustc_lexer_c.specs.Relex as spec;
+
+use crate::status::{Refusal, text_of};
+use crate::token::{CToken, token_numbers};
+use rustc_lexer::{Bound, Change, Edition, Measured, Relexing, Steps};
+
+/// An edit that was made, by its places in bytes: what stood from `start` up to `old_stop` was taken out, and what now
+/// stands from `start` up to `new_stop` was put in.
+#[repr(C)]
+#[derive(Clone, Copy, Debug, PartialEq, Eq)]
+pub struct CChange {
+    pub start: u32,
+    pub old_stop: u32,
+    pub new_stop: u32,
+}
+
+/// How far an edited text is lexed again.
+#[repr(C)]
+#[derive(Clone, Copy, Debug, PartialEq, Eq)]
+pub struct CRelexing {
+    /// How many old tokens stay at the front. At stage 0: the number of any bound of the old tokens, where the search
+    /// for it begins.
+    pub kept_front: usize,
+    /// Where they end, in bytes.
+    pub front_place: usize,
+    /// How many tokens were written, by all calls.
+    pub lexed: usize,
+    /// How many old tokens stay at the back, at stage 2.
+    pub kept_back: usize,
+    /// Where they begin in the old text.
+    pub back_place: usize,
+    /// Where the tokens that were written end in the present text, and so where those at the back begin.
+    pub at: usize,
+    /// 0 before the first call, 1 where there are more tokens to write, 2 where there are none.
+    pub stage: u32,
+}
+
+impl Measured for CToken {
+    ghost bytes = { λ token. token.len };
+
+    fn len(&self) -> u32 {
+        self.len
+    }
+}
+
+/// Writes the tokens of the present text that an edit asks for into the room, as many as there is room for, and their
+/// number into `count`. They stand between the old tokens that stay at the front and those that stay at the back.
+///
+/// `old` has the tokens of the text before the edit, of which only the lengths are read. Any others may be passed too,
+/// and then the answer means nothing.
+#[unsafe(no_mangle)]
+pub extern "C" fn rustc_lexer_relex(
+    text: &[u8],
+    old: &[CToken],
+    change: &CChange,
+    edition: u32,
+    relexing: &mut CRelexing,
+    room: &mut [CToken],
+    count: &mut usize,
+) -> u32
+    ensures status { spec.IsRelexStatus text.now change.now edition (length old.now) relexing.old result }
+    ensures batch { result ≡ 0 → (year : Edition) → spec.edition_of edition ≡ Some year
+        → spec.IsRelexBatch year text.now old.now change.now relexing.old
+        room.old relexing.new room.new count.new }
+    ensures refused { result ≢ 0
+        → spec.IsNotRelexed relexing.old relexing.new room.old room.new count.new }
+{
+    match text_of(text) {
+        Ok(text) => relex(text, old, change, edition, relexing, room, count),
+        Err(refusal) => {
+            *count = 0;
+            refusal.number()
+        }
+    }
+}
+
+/// The same of a text that `rustc_lexer_check` found to be UTF-8, which is not tested again.
+#[unsafe(no_mangle)]
+pub extern "C" fn rustc_lexer_relex_unchecked(
+    text: &[u8],
+    old: &[CToken],
+    change: &CChange,
+    edition: u32,
+    relexing: &mut CRelexing,
+    room: &mut [CToken],
+    count: &mut usize,
+) -> u32
+    requires utf8 { IsUtf8 text.now }
+    ensures status { spec.IsRelexStatus text.now change.now edition (length old.now) relexing.old result }
+    ensures batch { result ≡ 0 → (year : Edition) → spec.edition_of edition ≡ Some year
+        → spec.IsRelexBatch year text.now old.now change.now relexing.old
+        room.old relexing.new room.new count.new }
+    ensures refused { result ≢ 0
+        → spec.IsNotRelexed relexing.old relexing.new room.old room.new count.new }
+{
+    if text.len() > u32::MAX as usize {
+        *count = 0;
+        return Refusal::TooLong.number();
+    }
+    // The caller promises it.
+    relex(
+        unsafe { std::str::from_utf8_unchecked(text) },
+        old,
+        change,
+        edition,
+        relexing,
+        room,
+        count,
+    )
+}
+
+/// Relexes a text.
+fn relex(
+    text: &str,
+    old: &[CToken],
+    change: &CChange,
+    edition: u32,
+    relexing: &mut CRelexing,
+    room: &mut [CToken],
+    count: &mut usize,
+) -> u32
+    requires fits { Fits text.now }
+    ensures status { spec.IsRelexStatus text.now change.now edition (length old.now) relexing.old result }
+    ensures batch { result ≡ 0 → (year : Edition) → spec.edition_of edition ≡ Some year
+        → spec.IsRelexBatch year text.now old.now change.now relexing.old
+        room.old relexing.new room.new count.new }
+    ensures refused { result ≢ 0
+        → spec.IsNotRelexed relexing.old relexing.new room.old room.new count.new }
+{
+    *count = 0;
+    let Some(edition) = edition_of(edition) else {
+        return Refusal::BadEdition.number();
+    };
+    let change = change_of(change);
+    if !change.may_make(text) {
+        return Refusal::BadEdit.number();
+    }
+    let Some(mut at) = standing(text, old, change, relexing) else {
+        return Refusal::BadEdit.number();
+    };
+    *count = fill(text, old, change, edition, &mut at, room);
+    *relexing = relexing_numbers(&at, text, old.len());
+    0
+}
+
+/// The edition of a year.
+fn edition_of(year: u32) -> Option<Edition>
+    ensures { result ≡ spec.edition_of year }
+{
+    match year {
+        2024 => Some(Edition::E2024),
+        2021 => Some(Edition::E2021),
+        2018 => Some(Edition::E2018),
+        2015 => Some(Edition::E2015),
+        _ => None,
+    }
+}
+
+/// The edit.
+fn change_of(change: &CChange) -> Change
+    ensures { result ≡ spec.change_of change.now }
+{
+    Change {
+        start: change.start as usize,
+        old_stop: change.old_stop as usize,
+        new_stop: change.new_stop as usize,
+    }
+}
+
+/// Where to begin or to go on, or `None` where the numbers are none that a call left.
+fn standing(text: &str, old: &[CToken], change: Change, relexing: &CRelexing) -> Option<Relexing>
+    requires fits { Fits text.now }
+    requires change { IsChange text.now change }
+    ensures none { result ≡ None ↔ ¬ (spec.MayRelex text.now (length old.now) relexing.now) }
+    ensures some { IfSome result (λ at. MayGoOn text.now (length old.now) at
+        × (at.lexed ≡ spec.lexed_before relexing.now)
+        × ((first : List ℕ → Token) (before insert : List ℕ) → IsGrammar first
+        → IsMadeOf first before (map (λ (t : CToken). t.len) old.now) change insert text.now
+        → spec.IsPassed first before change text.now (length old.now) relexing.now
+        → Stands first before change text.now at)) }
+{
+    let front = Bound {
+        number: relexing.kept_front,
+        place: relexing.front_place,
+    };
+    if relexing.stage == 0 {
+        return Some(Relexing::begin(text, old, change, front));
+    }
+    if relexing.kept_back > old.len() {
+        return None;
+    }
+    let at = Relexing {
+        front,
+        lexed: relexing.lexed,
+        back: Bound {
+            number: old.len() - relexing.kept_back,
+            place: relexing.back_place,
+        },
+        at: relexing.at,
+        met: relexing.stage == 2,
+    };
+    if at.may_go_on(text, old.len()) {
+        Some(at)
+    } else {
+        None
+    }
+}
+
+/// Writes tokens as long as there is room, and answers their number.
+fn fill(
+    text: &str,
+    old: &[CToken],
+    change: Change,
+    edition: Edition,
+    at: &mut Relexing,
+    room: &mut [CToken],
+) -> usize
+    requires fits { Fits text.now }
+    requires change { IsChange text.now change }
+    requires may_go_on { MayGoOn text.now (length old.now) at.old }
+    ensures within { result ≤ length room.old }
+    ensures rest { drop result room.new ≡ drop result room.old }
+    ensures lexed { at.new.lexed ≡ at.old.lexed + result }
+    ensures front { at.new.front ≡ at.old.front }
+    ensures may_go_on { MayGoOn text.now (length old.now) at.new }
+    ensures goes_on { is_over text.now at.new ≡ false → result ≡ length room.old }
+    ensures tokens { (before insert : List ℕ)
+        → IsMadeOf (first_token_in edition) before (map (λ (t : CToken). t.len) old.now)
+        change insert text.now
+        → Stands (first_token_in edition) before change text.now at.old
+        → Stands (first_token_in edition) before change text.now at.new
+        × (room.new ≡ map numbers.token_numbers
+        (take result (drop (known at.old) (tokens_in edition text.now)))
+        ++ drop result room.old) }
+{
+    let mut steps = Steps::new_in(edition);
+    let mut count = 0;
+    while count < room.len() {
+        let Some(token) = at.next(&mut steps, text, old, change) else {
+            break;
+        };
+        room[count] = token_numbers(token);
+        count += 1;
+    }
+    count
+}
+
+/// How far it is relexed, as numbers.
+fn relexing_numbers(at: &Relexing, text: &str, old_count: usize) -> CRelexing
+    requires may_go_on { MayGoOn text.now old_count at.now }
+    ensures { result ≡ spec.numbers_of text.now old_count at.now }
+{
+    CRelexing {
+        kept_front: at.front.number,
+        front_place: at.front.place,
+        lexed: at.lexed,
+        kept_back: old_count - at.back.number,
+        back_place: at.back.place,
+        at: at.at,
+        stage: if at.is_over(text) { 2 } else { 1 },
+    }
+}
