@@ -61,6 +61,11 @@ static int check_bad_texts(void) {
         CHECK(error.error == 0 && error.bad_char == 0 && error.expected == 0 && error.found == 0);
         CHECK(rustc_lexer_guarded_str(text, len, &string) == RUSTC_LEXER_NOT_UTF8 && string.is_some == 0);
         CHECK(rustc_lexer_is_ident(text, len, &is) == RUSTC_LEXER_NOT_UTF8 && is == 0);
+        struct rustc_lexer_edit edit = {0, 0, (uint32_t)len};
+        struct rustc_lexer_relexing relexing = {0};
+        CHECK(rustc_lexer_relex(text, len, room, 0, &edit, 2024, &relexing, room + 1, ROOM - 1, &count) ==
+                  RUSTC_LEXER_NOT_UTF8 &&
+              count == 0 && relexing.stage == 0 && is_marked(0));
     }
     return 0;
 }
@@ -146,11 +151,143 @@ static int check_others(void) {
     return 0;
 }
 
+typedef uint32_t relex_call(const uint8_t *, size_t, const struct rustc_lexer_token *, size_t,
+                            const struct rustc_lexer_edit *, uint32_t, struct rustc_lexer_relexing *,
+                            struct rustc_lexer_token *, size_t, size_t *);
+
+#define MOST 64
+
+/* A text with its tokens, as a program in C keeps them. */
+struct held {
+    char text[MOST];
+    size_t len;
+    struct rustc_lexer_token tokens[MOST];
+    size_t count;
+    struct rustc_lexer_relexing relexing;
+};
+
+/* Puts `insert` in place of the bytes from `start` up to `stop`, by rooms of so many tokens. */
+static uint32_t edit_held(relex_call *relex, struct held *held, size_t start, size_t stop, const char *insert,
+                          uint32_t edition, size_t room_len) {
+    struct rustc_lexer_token lexed[MOST];
+    struct rustc_lexer_edit edit = {(uint32_t)start, (uint32_t)stop, (uint32_t)(start + strlen(insert))};
+    size_t written = 0, count;
+    memmove(held->text + edit.new_stop, held->text + stop, held->len - stop);
+    memcpy(held->text + start, insert, strlen(insert));
+    held->len += edit.new_stop - stop;
+    held->relexing.stage = 0;
+    do {
+        uint32_t status = relex((const uint8_t *)held->text, held->len, held->tokens, held->count, &edit, edition,
+                                &held->relexing, room, room_len, &count);
+        if (status != RUSTC_LEXER_OK)
+            return status;
+        memcpy(lexed + written, room, count * sizeof room[0]);
+        written += count;
+    } while (held->relexing.stage == 1);
+    size_t front = held->relexing.kept_front, back = held->relexing.kept_back;
+    memmove(held->tokens + front + written, held->tokens + held->count - back, back * sizeof room[0]);
+    memcpy(held->tokens + front, lexed, written * sizeof room[0]);
+    held->count = front + written + back;
+    return written == held->relexing.lexed ? RUSTC_LEXER_OK : 99;
+}
+
+/* Whether the tokens are those of the text from scratch. */
+static bool is_from_scratch(const struct held *held) {
+    struct rustc_lexer_token all[MOST];
+    struct rustc_lexer_place place = {0, 0};
+    size_t count;
+    memset(all, 0, sizeof all);
+    if (rustc_lexer_tokens((const uint8_t *)held->text, held->len, &place, all, MOST, &count) != RUSTC_LEXER_OK)
+        return false;
+    for (size_t i = 0; i < count; i++)
+        if (all[i].len != held->tokens[i].len || all[i].kind != held->tokens[i].kind ||
+            all[i].flags != held->tokens[i].flags || all[i].suffix_start != held->tokens[i].suffix_start)
+            return false;
+    return count == held->count;
+}
+
+static int check_edits(relex_call *relex) {
+    struct held held;
+    for (size_t room_len = 1; room_len <= ROOM; room_len++) {
+        memset(&held, 0, sizeof held);
+        CHECK(edit_held(relex, &held, 0, 0, "let ab = cd + ef;", 2024, room_len) == RUSTC_LEXER_OK);
+        CHECK(is_from_scratch(&held) && held.count == 12 && held.relexing.lexed == 12);
+        CHECK(edit_held(relex, &held, 12, 13, "- 1 -", 2024, room_len) == RUSTC_LEXER_OK);
+        CHECK(is_from_scratch(&held) && held.count == 16);
+        CHECK(held.relexing.kept_front == 6 && held.relexing.lexed == 7 && held.relexing.kept_back == 3);
+        CHECK(held.relexing.front_place == 9 && held.relexing.back_place == 13 && held.relexing.at == 17);
+        CHECK(edit_held(relex, &held, 0, 0, "/*", 2024, room_len) == RUSTC_LEXER_OK);
+        CHECK(is_from_scratch(&held) && held.count == 1 && held.relexing.kept_back == 0);
+        CHECK(edit_held(relex, &held, 1, 2, "", 2024, room_len) == RUSTC_LEXER_OK);
+        CHECK(is_from_scratch(&held) && held.count == 17);
+        CHECK(edit_held(relex, &held, 1, 1, "\xc3\xa9", 2024, room_len) == RUSTC_LEXER_OK && is_from_scratch(&held));
+        CHECK(edit_held(relex, &held, 0, held.len, "", 2024, room_len) == RUSTC_LEXER_OK && held.count == 0);
+    }
+    return 0;
+}
+
+static int check_editions(relex_call *relex) {
+    static const struct {
+        uint32_t edition;
+        size_t count;
+    } years[] = {{2015, 4}, {2018, 4}, {2021, 3}, {2024, 2}};
+    struct held held;
+    for (size_t i = 0; i < 4; i++) {
+        memset(&held, 0, sizeof held);
+        CHECK(edit_held(relex, &held, 0, 0, "'r#a##", years[i].edition, ROOM) == RUSTC_LEXER_OK);
+        CHECK(held.count == years[i].count + (years[i].edition < 2021));
+    }
+    memset(&held, 0, sizeof held);
+    CHECK(edit_held(relex, &held, 0, 0, "a", 2022, ROOM) == RUSTC_LEXER_BAD_EDITION);
+    CHECK(held.relexing.stage == 0 && held.relexing.at == 0);
+    return 0;
+}
+
+/* Edits that cannot be, numbers that no call left, and old tokens that are not those of any text. */
+static int check_bad_edits(relex_call *relex) {
+    static const uint8_t text[] = "a\xc3\xa9 b";
+    static const struct rustc_lexer_edit bad[] = {{3, 2, 3}, {3, 3, 1}, {2, 3, 3}, {1, 1, 2}, {0, 0, 6}, {9, 9, 9}};
+    static const uint32_t lens[] = {0, 1, 2, 3, 5, 0x7fffffff, UINT32_MAX};
+    struct rustc_lexer_token old[5];
+    size_t count = 99;
+    memset(old, 0, sizeof old);
+    for (size_t i = 0; i < sizeof bad / sizeof bad[0]; i++) {
+        struct rustc_lexer_relexing relexing = {0};
+        memset(room, 0xAA, sizeof room);
+        CHECK(relex(text, 5, old, 5, &bad[i], 2024, &relexing, room, ROOM, &count) == RUSTC_LEXER_BAD_EDIT);
+        CHECK(count == 0 && relexing.stage == 0 && is_marked(0));
+    }
+    struct rustc_lexer_edit good = {3, 3, 4};
+    struct rustc_lexer_relexing none[] = {{0, 0, 0, 6, 0, 0, 1}, {0, 0, 0, 0, 0, 2, 1}, {0, 0, 0, 0, 0, 6, 1},
+                                          {0, 0, 4, 0, 0, 3, 1}, {3, 0, 0, 3, 0, 0, 1}, {0, 0, 0, 0, SIZE_MAX, 0, 1}};
+    for (size_t i = 0; i < sizeof none / sizeof none[0]; i++)
+        CHECK(relex(text, 5, old, 5, &good, 2024, &none[i], room, ROOM, &count) == RUSTC_LEXER_BAD_EDIT && count == 0);
+    for (size_t i = 0; i < 7 * 7 * 7 * 7; i++) {
+        size_t number = i;
+        for (size_t k = 0; k < 4; k++, number /= 7)
+            old[k].len = lens[number % 7];
+        for (size_t near = 0; near < 8; near++) {
+            struct rustc_lexer_relexing relexing = {near, near * near * near * 1000003, 0, 0, 0, 0, 0};
+            size_t calls = 0;
+            do {
+                CHECK(relex(text, 5, old, 5, &good, 2024, &relexing, room, 1, &count) == RUSTC_LEXER_OK);
+                CHECK(relexing.kept_front + relexing.kept_back <= 5 && count <= 1 && ++calls <= 5);
+            } while (relexing.stage == 1);
+            CHECK(relexing.stage == 2);
+        }
+    }
+    return 0;
+}
+
 int main(void) {
     batch_call *const calls[] = {rustc_lexer_tokens, rustc_lexer_tokens_unchecked};
     CHECK(sizeof(struct rustc_lexer_token) == 16);
     for (int i = 0; i < 2; i++)
         if (check_empty_text(calls[i]) || check_room(calls[i]) || check_frontmatter(calls[i]) || check_places(calls[i]))
+            return 1;
+    relex_call *const relexes[] = {rustc_lexer_relex, rustc_lexer_relex_unchecked};
+    for (int i = 0; i < 2; i++)
+        if (check_edits(relexes[i]) || check_editions(relexes[i]) || check_bad_edits(relexes[i]))
             return 1;
     return check_bad_texts() || check_others();
 }

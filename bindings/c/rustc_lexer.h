@@ -8,8 +8,9 @@
  *   - `len` bytes can be read at `text`, and nothing writes to them during the call;
  *   - each pointer that is not const points to memory that the caller may write to, that is aligned for its type
  *     and that nothing else uses during the call: `room` to `room_len` tokens, the others to one value. What is
- *     there before the call does not matter, but for `place`.
- *   - what `rustc_lexer_tokens_unchecked` says of its text.
+ *     there before the call does not matter, but for `place` and `relexing`;
+ *   - `old_len` tokens can be read at `old`, and one value at `edit`, and nothing writes to them during the call.
+ *   - what the calls with `_unchecked` say of their texts.
  * All else is tested. Each call answers a status; with one that is not 0 it has written zeros, or nothing where that
  * is said.
  *
@@ -26,13 +27,15 @@
 extern "C" {
 #endif
 
-/* Statuses. They are judged in the order 2, 1, and then 3 or 4. */
+/* Statuses. They are judged in the order 2, 1, and then 3 or 4, or 5 and 6. */
 enum {
     RUSTC_LEXER_OK = 0,
     RUSTC_LEXER_NOT_UTF8 = 1,  /* the text is not UTF-8 */
     RUSTC_LEXER_TOO_LONG = 2,  /* the text has more than 4294967295 bytes */
     RUSTC_LEXER_BAD_PLACE = 3, /* the place is past the end of the text, or inside a character */
-    RUSTC_LEXER_NOT_RAW = 4    /* character number prefix_len of the text, counted from 1, is no r */
+    RUSTC_LEXER_NOT_RAW = 4,   /* character number prefix_len of the text, counted from 1, is no r */
+    RUSTC_LEXER_BAD_EDITION = 5, /* the edition is none of 2015, 2018, 2021 and 2024 */
+    RUSTC_LEXER_BAD_EDIT = 6   /* the edit cannot have made the text, or relexing cannot go on from the numbers */
 };
 
 /* Kinds of tokens. No token that is written has the kind 0 or 43. */
@@ -132,6 +135,25 @@ struct rustc_lexer_place {
     uint32_t frontmatter_allowed; /* whether a frontmatter may stand there: 0 for no, any other number for yes */
 };
 
+/* An edit that was made, in bytes from the start of the text. It took out what stood from `start` up to `old_stop` of the
+ * old text, and put in what stands from `start` up to `new_stop` of the present one. */
+struct rustc_lexer_edit {
+    uint32_t start;
+    uint32_t old_stop;
+    uint32_t new_stop;
+};
+
+/* How far an edited text is lexed again. All zeros is a good beginning. */
+struct rustc_lexer_relexing {
+    size_t kept_front;  /* how many old tokens stay at the front; at stage 0, see rustc_lexer_relex */
+    size_t front_place; /* where they end */
+    size_t lexed;       /* how many tokens all calls together have written */
+    size_t kept_back;   /* at stage 2: how many old tokens stay at the back */
+    size_t back_place;  /* at stage 2: where those begin in the old text */
+    size_t at;          /* where what was written ends in the present text; at stage 2 those at the back begin there */
+    uint32_t stage;     /* 0: to begin; 1: there are more tokens to write; 2: there are none */
+};
+
 /* Why a raw string is refused. A field that the error does not have is 0. */
 struct rustc_lexer_raw_str_error {
     uint32_t error;      /* 0: none; 1: invalid starter; 2: no terminator; 3: too many delimiters */
@@ -168,6 +190,43 @@ uint32_t rustc_lexer_tokens(const uint8_t *text, size_t len, struct rustc_lexer_
  * since. On another text this may do anything. The length and the place are tested. */
 uint32_t rustc_lexer_tokens_unchecked(const uint8_t *text, size_t len, struct rustc_lexer_place *place,
                                       struct rustc_lexer_token *room, size_t room_len, size_t *count);
+
+/* Keeps a list of tokens with a text under edits. `text` is the text after an edit, and `old` the tokens of the text
+ * before it, all of them. The tokens after it are
+ *
+ *     the first `kept_front` of `old`, the `lexed` tokens that are written, the last `kept_back` of `old`.
+ *
+ * Set `stage` to 0 before the first call for an edit. While it is 1 the room was too small: take the tokens from it and
+ * call again, with nothing else changed, as often as it takes. It is 2 when all are written. `count` is how many this call
+ * wrote; it is `room_len` at stage 1.
+ *
+ * At stage 0 the search for the kept front begins at token `kept_front`, which begins at `front_place`. Any bound of the
+ * old tokens will do, and a near one makes the call fast: 0 and 0, or what the call for the edit before has left there.
+ *
+ * Of `old` only the lengths are read. Where they are not those of the tokens of the text before the edit, in the edition,
+ * or the two numbers at stage 0 are not a bound of them, the answer is of no use, but the call is as safe as with any
+ * others: it reads and writes where it may, and it ends. `kept_front` and `kept_back` together are then too no more than
+ * `old_len`.
+ *
+ * The edition is a year: 2015, 2018, 2021 or 2024. No frontmatter is allowed, so the tokens of 2024 are those of
+ * rustc_lexer_tokens from {0, 0}. To lex a whole text in an edition, pass no old tokens, the edit {0, 0, len} and zeros.
+ *
+ * With another status than 0 the room and `relexing` stay as they were, and `count` is 0. RUSTC_LEXER_BAD_EDIT says that
+ * `start` is past one of the others, that `start` or `new_stop` is past the end of the text or inside a character, or that
+ * the numbers of a later stage are none that a call has left.
+ *
+ * Each call tests the whole text. */
+uint32_t rustc_lexer_relex(const uint8_t *text, size_t len, const struct rustc_lexer_token *old, size_t old_len,
+                           const struct rustc_lexer_edit *edit, uint32_t edition,
+                           struct rustc_lexer_relexing *relexing, struct rustc_lexer_token *room, size_t room_len,
+                           size_t *count);
+
+/* The same. The caller promises that the text is UTF-8, as for rustc_lexer_tokens_unchecked: also where a text that was
+ * is edited between characters, and what is put in is. */
+uint32_t rustc_lexer_relex_unchecked(const uint8_t *text, size_t len, const struct rustc_lexer_token *old,
+                                     size_t old_len, const struct rustc_lexer_edit *edit, uint32_t edition,
+                                     struct rustc_lexer_relexing *relexing, struct rustc_lexer_token *room,
+                                     size_t room_len, size_t *count);
 
 /* Writes the length of the shebang line at the front of the text, without the end of the line, or 0 where there is
  * none. A shebang line has at least 2 bytes. */

@@ -2,12 +2,15 @@
 //!
 //! What each call asks for, as the header `bindings/c/rustc_lexer.h` has it: pointers that are not null, with their
 //! lengths (those of a slice or a reference are so), memory of its own for what is written (each is behind a `&mut`),
-//! and UTF-8 for `rustc_lexer_tokens_unchecked` (each text is a `&str`). All else the library tests itself.
+//! and UTF-8 for the calls with `_unchecked` (each text is a `&str`). All else the library tests itself. What is read
+//! is behind a `&` and has values that were written, so nothing changes it during a call.
 
 use crate::cursor::FrontmatterAllowed;
+use crate::edition::Edition;
 
+/// A token as numbers.
 #[repr(C)]
-#[derive(Clone, Copy)]
+#[derive(Clone, Copy, Debug, PartialEq, Eq)]
 pub struct CToken {
     pub len: u32,
     pub suffix_start: u32,
@@ -49,6 +52,43 @@ impl Place {
     }
 }
 
+/// An edit that was made, by its places in bytes.
+#[repr(C)]
+pub struct Change {
+    pub start: u32,
+    pub old_stop: u32,
+    pub new_stop: u32,
+}
+
+/// How far an edited text is lexed again.
+#[repr(C)]
+#[derive(Default)]
+pub struct Relexing {
+    pub kept_front: usize,
+    pub front_place: usize,
+    pub lexed: usize,
+    pub kept_back: usize,
+    pub back_place: usize,
+    pub at: usize,
+    pub stage: u32,
+}
+
+impl Relexing {
+    /// Before the first call, with a bound of the old tokens.
+    pub fn begin(near_number: usize, near_place: usize) -> Relexing {
+        Relexing {
+            kept_front: near_number,
+            front_place: near_place,
+            ..Relexing::default()
+        }
+    }
+
+    /// Whether there are no more tokens to write.
+    pub fn is_done(&self) -> bool {
+        self.stage == 2
+    }
+}
+
 #[repr(C)]
 #[derive(Default)]
 pub struct CRawStrError {
@@ -79,6 +119,19 @@ unsafe extern "C" {
         room_len: usize,
         count: *mut usize,
     ) -> u32;
+    fn rustc_lexer_relex_unchecked(
+        text: *const u8,
+        len: usize,
+        old: *const CToken,
+        old_len: usize,
+        edit: *const Change,
+        edition: u32,
+        relexing: *mut Relexing,
+        room: *mut CToken,
+        room_len: usize,
+        count: *mut usize,
+    ) -> u32;
+    fn rustc_lexer_settled(text: *const u8, len: usize, end: *mut usize) -> u32;
     fn rustc_lexer_strip_shebang(text: *const u8, len: usize, line_len: *mut usize) -> u32;
     fn rustc_lexer_validate_raw_str(
         text: *const u8,
@@ -122,6 +175,47 @@ pub fn tokens(text: &str, place: &mut Place, room: &mut [CToken]) -> usize {
         "the text fits, and the place is one that a call left"
     );
     count
+}
+
+/// Writes tokens of an edited text into the room, as far as it goes, and answers their number.
+pub fn relex(
+    text: &str,
+    old: &[CToken],
+    change: &Change,
+    edition: Edition,
+    relexing: &mut Relexing,
+    room: &mut [CToken],
+) -> usize {
+    let mut count = 0;
+    // SAFETY: all pointers are those of one slice or one reference, with its length; the text is UTF-8.
+    let status = unsafe {
+        rustc_lexer_relex_unchecked(
+            text.as_ptr(),
+            text.len(),
+            old.as_ptr(),
+            old.len(),
+            change,
+            edition.year(),
+            relexing,
+            room.as_mut_ptr(),
+            room.len(),
+            &mut count,
+        )
+    };
+    assert_eq!(
+        status, 0,
+        "the text fits, the edit made it, and the numbers are those of a call"
+    );
+    count
+}
+
+/// The end of the last token that at least two characters follow, or 0.
+pub fn settled(text: &str) -> usize {
+    let mut end = 0;
+    // SAFETY: the pointers are those of a slice, with its length, and of a reference.
+    let status = unsafe { rustc_lexer_settled(text.as_ptr(), text.len(), &mut end) };
+    assert_eq!(status, 0, "the text fits");
+    end
 }
 
 /// The length of the shebang line, or 0.
