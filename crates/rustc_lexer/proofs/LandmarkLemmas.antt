@@ -6,11 +6,12 @@ use Rattle.rustc_lexer.specs.declared.relex.landmarks.Landmarks.{Landmarks}
 use Rattle.rustc_lexer.specs.declared.token.Token.{Token}
 use Rattle.rustc_lexer.specs.Texts.{IsText, IsGrammar}
 use Rattle.rustc_lexer.specs.Cuts.{bound, tokens_by}
-use Rattle.rustc_lexer.specs.Edits.{apply, IsEdit, IsMet}
+use Rattle.rustc_lexer.specs.Edits.{apply, IsEdit}
 use Rattle.rustc_lexer.specs.Landmarks.{AreBounds, IsBound, IsMovable, IsReplaced}
 use Rattle.rustc_lexer.proofs.BoundLemmas.{bound_mono, tokens_le_bytes}
 use Rattle.rustc_lexer.proofs.EditLemmas.{IsEdited, edited, bound-same}
 use Rattle.rustc_lexer.proofs.FrontLemmas.{bound-shift}
+use Rattle.rustc_lexer.proofs.MeetingLemmas.{IsMet}
 use Rattle.rustc_lexer.proofs.ReadyLemmas.{bounds_fit, put_together}
 
 module _ (old new : List Token) (kept met now : Bound) (is : IsReplaced old new kept met now) where

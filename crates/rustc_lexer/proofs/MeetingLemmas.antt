@@ -1,26 +1,24 @@
 -- Lexing on from the kept front until the new tokens meet the old ones.
-use Rattle.std.proofs.Common.{◌≡◌, ℕ, suc, ◌+◌, ◌-◌, ◌<◌, ◌≤◌, max, Bool, true, false, List, [], ◌∷◌, ◌++◌, length, take, drop, refl, sym, ap, ◌∙◌, arith, leb, le-leb, length-take-le, length-append, eq-or-lt_of_le, inl, inr, true≢false}
-use Rattle.std.proofs.lemmas.Bool.Decides.{leb_tells}
+use Rattle.std.proofs.Common.{◌≡◌, ℕ, suc, ◌+◌, ◌-◌, ◌<◌, ◌≤◌, max, Bool, true, false, List, [], ◌∷◌, ◌++◌, length, take, drop, refl, sym, ap, ◌∙◌, arith, leb, le-leb, length-append, eq-or-lt_of_le, inl, inr, true≢false}
 use Rattle.rustc_lexer.specs.declared.token.Token.{Token}
 use Rattle.rustc_lexer.specs.Texts.{IsText, IsGrammar}
 use Rattle.rustc_lexer.specs.Cuts.{bound, tokens_by}
-use Rattle.rustc_lexer.specs.Edits.{meets_at, least_from, meet, IsMet}
+use Rattle.rustc_lexer.specs.Edits.{meets_at, least_from, meet}
 use Rattle.rustc_lexer.proofs.BoundLemmas.{is_bound-intro, least_from_ge, least_from-more, least_from-here}
-use Rattle.rustc_lexer.proofs.EditLemmas.{bound-same}
 use Rattle.rustc_lexer.proofs.ProgressLemmas.{IsLexedTo, IsPlace, lexed_place, lexed_more}
+
+-- the items are the first tokens of the new text, up to where they meet the old ones at bound `number`
+pub record IsMet (first : List ℕ → Token) (old : List Token) (text : List ℕ) (past added removed kept : ℕ) (items : List Token) (number : ℕ) : Type 0 where
+  pub items_are : items ≡ take (length items) (tokens_by first text)
+  pub least : length items ≡ meet old (tokens_by first text) past added removed kept
+  pub kept_le : kept ≤ length items
+  pub number_bound : number ≤ length old
+  pub past_edit : past ≤ bound (tokens_by first text) (length items)
+  pub same_place : bound old number ≡ bound (tokens_by first text) (length items) - added + removed
 
 module _ (first : List ℕ → Token) (old : List Token) (text : List ℕ) (past added removed kept : ℕ) where
   abbrev pub test : ℕ → Bool
   test j = meets_at old past added removed (bound (tokens_by first text) j)
-
-  -- the bound of the old tokens that a place was followed to, and whether it meets it
-  pub record IsFollowed (place number at_place : ℕ) (met : Bool) : Type 0 where
-    pub number_bound : number ≤ length old
-    pub place_is : at_place ≡ bound old number
-    pub below : (k : ℕ) → k < number → bound old k + added < max past place + removed
-    pub met_is : met ≡ meets_at old past added removed place
-    pub past_edit : met ≡ true → past ≤ place
-    pub same_place : met ≡ true → at_place ≡ place - added + removed
 
   -- the tokens so far, and what is still to be searched
   pub record IsGoing (items : List Token) (place number at_place : ℕ) (met : Bool) : Type 0 where
@@ -33,33 +31,6 @@ module _ (first : List ℕ → Token) (old : List Token) (text : List ℕ) (past
     pub met_is : met ≡ meets_at old past added removed place
     pub past_edit : met ≡ true → past ≤ place
     pub same_place : met ≡ true → at_place ≡ place - added + removed
-
-  going : (items : List Token) (place number at_place : ℕ) (met : Bool) → IsLexedTo first text items place → kept ≤ length items
-      → least_from test (length (tokens_by first text) - length items) (length items) ≡ meet old (tokens_by first text) past added removed kept → IsFollowed place number at_place met → IsGoing items place number at_place met
-  going items place number at_place met to kept_le search at = record {
-    to = to;
-    kept_le = kept_le;
-    search = search;
-    number_bound = at.number_bound;
-    place_is = at.place_is;
-    below = at.below;
-    met_is = at.met_is;
-    past_edit = at.past_edit;
-    same_place = at.same_place;
-  }
-
-  pub kept_to : kept ≤ length old → kept ≤ length (tokens_by first text) → take kept old ≡ take kept (tokens_by first text) → IsLexedTo first text (take kept old) (bound old kept)
-  kept_to few fewer same =
-      let long : length (take kept old) ≡ kept = length-take-le kept old few in
-      record {
-        number = rw long fewer;
-        items_are = same ∙ ap (λ n. take n (tokens_by first text)) (sym long);
-        place_is = bound-same kept old (tokens_by first text) same ∙ ap (bound (tokens_by first text)) (sym long);
-      }
-
-  pub kept_search : kept ≤ length old → least_from test (length (tokens_by first text) - length (take kept old)) (length (take kept old)) ≡ meet old (tokens_by first text) past added removed kept
-  unfolding meet
-  kept_search few = ap (λ n. least_from test (length (tokens_by first text) - n) n) (length-take-le kept old few)
 
   pub going_inside : IsGrammar first → IsText text → (items : List Token) (place number at_place : ℕ) (met : Bool) → IsGoing items place number at_place met → added ≤ past → past ≤ length text → bound old (length old) + added ≡ length text + removed → met ≡ false → place < length text
   going_inside law is items place number at_place met at le inside ends out =
@@ -99,17 +70,6 @@ module _ (first : List ℕ → Token) (old : List Token) (text : List ℕ) (past
         same_place = sym at.place_is ∙ (e ∙ ap (λ p. p - added + removed) same);
       }
 
-  pub going_start : (items : List Token) (place number at_place : ℕ) (met : Bool) → kept ≤ length old → kept ≤ length (tokens_by first text) → take kept old ≡ take kept (tokens_by first text) → items ≡ take kept old → place ≡ bound old kept → IsFollowed place number at_place met → IsGoing items place number at_place met
-  going_start items place number at_place met few fewer same are is_at at =
-      going items place number at_place met (rw (are, is_at) (kept_to few fewer same)) (rw are (omega (arith, length-take-le kept old few))) (rw are (kept_search few)) at
-
-  pub going_more : IsGrammar first → IsText text → (items more : List Token) (place next number number' at_place at_place' : ℕ) (met met' : Bool) (token : Token) → IsGoing items place number at_place met → met ≡ false → place < length text → token ≡ first (drop place text) → more ≡ items ++ token ∷ [] → next ≡ place + token.len → IsFollowed next number' at_place' met' → IsGoing more next number' at_place' met'
-  going_more law is items more place next number number' at_place at_place' met met' token at out inside token_is more_is next_is followed =
-      let to : IsLexedTo first text more next = rw (more_is, next_is, token_is) (lexed_more law text items place is at.to inside) in
-      let long : length more ≡ suc (length items) = rw more_is (omega (arith, length-append items (token ∷ []))) in
-      let le = at.kept_le in
-      going more next number' at_place' met' to (omega arith) (sym (search_more items more place next met at.to to long at.met_is out) ∙ at.search) followed
-
   -- where another token was lexed, the meeting is past it
   pub going_least : IsGrammar first → IsText text → (items : List Token) (place number at_place : ℕ) (met : Bool) → IsGoing items place number at_place met → met ≡ false → place < length text → suc (length items) ≤ meet old (tokens_by first text) past added removed kept
   going_least law is items place number at_place met at out inside =
@@ -117,9 +77,3 @@ module _ (first : List ℕ → Token) (old : List Token) (text : List ℕ) (past
       let to = lexed_more law text items place is at.to inside in
       let long : length more ≡ suc (length items) = omega (arith, length-append items (first (drop place text) ∷ [])) in
       meet_more more items long (sym (search_more items more place _ met at.to to long at.met_is out) ∙ at.search)
-
-  pub kept_le_number : (items : List Token) (number : ℕ) → added ≤ past → ((k : ℕ) → k < kept → bound old k + added < past + removed) → IsMet first old text past added removed kept items number → kept ≤ number
-  kept_le_number items number le before met = elim (leb_tells kept number) [
-    | inl few ↦ few.1
-    | inr more ↦ absurd (let b = before number more.1 in let e = met.same_place in let p = met.past_edit in omega arith)
-  ]

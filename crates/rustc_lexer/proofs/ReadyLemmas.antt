@@ -1,17 +1,23 @@
 -- An edit: what lexing from the kept front asks, and what it leaves.
-use Rattle.std.proofs.Common.{◌≡◌, ℕ, ◌+◌, ◌-◌, ◌<◌, ◌≤◌, ◌^◌, true, List, ◌++◌, length, take, drop, refl, sym, ap, ◌∙◌, subst, arith, length-take, length-take-le, length-append, append_assoc, IsUtf8}
-use Rattle.rustc_lexer.specs.declared.relex.edit.Relexed.{Relexed}
+use Rattle.std.proofs.Common.{◌≡◌, ℕ, ◌+◌, ◌-◌, ◌<◌, ◌≤◌, ◌^◌, true, List, ◌++◌, length, take, drop, refl, sym, ap, ◌∙◌, subst, arith, length-take, append_assoc, IsUtf8}
 use Rattle.rustc_lexer.specs.declared.relex.front.Bound.{Bound}
 use Rattle.rustc_lexer.specs.declared.relex.front.Damage.{Damage}
 use Rattle.rustc_lexer.specs.declared.token.Token.{Token}
 use Rattle.rustc_lexer.specs.Texts.{IsText, IsGrammar}
 use Rattle.rustc_lexer.specs.Cuts.{bound, tokens_by}
-use Rattle.rustc_lexer.specs.Edits.{apply, IsEdit, IsReady, AreCuts, kept_front, ends_past, meet, IsMet, relexed_of}
+use Rattle.rustc_lexer.specs.Edits.{apply, IsEdit, AreCuts, kept_front, ends_past, meet, relexed_of}
 use Rattle.rustc_lexer.specs.Settled.{has_two}
 use Rattle.rustc_lexer.proofs.CutLemmas.{at_bound}
-use Rattle.rustc_lexer.proofs.BoundLemmas.{bound_mono, rises, ends_past-at, bound-last}
-use Rattle.rustc_lexer.proofs.EditLemmas.{IsEdited, edited, start_inside, kept_same, met_whole, has_two-before}
+use Rattle.rustc_lexer.proofs.BoundLemmas.{bound_mono, rises, ends_past-at}
+use Rattle.rustc_lexer.proofs.EditLemmas.{IsEdited, edited, kept_same, met_whole, has_two-before}
+use Rattle.rustc_lexer.proofs.MeetingLemmas.{IsMet}
 use Rattle.std.proofs.lemmas.Str.{IsCharBoundary-from_drop}
+
+-- the new text has the tokens of the kept front, which are before the edit
+pub record IsReady (first : List ℕ → Token) (old : List Token) (text : List ℕ) (kept : Bound) (damage : Damage) : Type 0 where
+  pub kept_same : take kept.number old ≡ take kept.number (tokens_by first text)
+  pub kept_new : kept.number ≤ length (tokens_by first text)
+  pub kept_before : (k : ℕ) → k < kept.number → bound old k + damage.added < damage.past + damage.removed
 
 -- what an edit does to the text
 abbrev pub damage_of : ℕ → ℕ → List ℕ → Damage
@@ -25,7 +31,6 @@ module _ {first : List ℕ → Token} (law : IsGrammar first) (text : List ℕ) 
   bounds_fit k few = omega (arith, (cuts k few).0, is.fits)
 
   module _ (start stop : ℕ) (insert new : List ℕ) (edit : IsEdit text start stop insert) (ed : IsEdited text start stop insert new) where
-    -- what lexing from the kept front asks
     pub ready : (kept : Bound) → kept.number ≤ length (tokens_by first text) → kept.place ≡ bound (tokens_by first text) kept.number → (0 < kept.number → has_two text kept.place start ≡ true) → IsReady first (tokens_by first text) new kept (damage_of start stop insert)
     ready kept few at two =
         let two_past : 0 < kept.number → has_two text (bound (tokens_by first text) kept.number) start ≡ true = λ some. subst (λ p. has_two text p start ≡ true) at (two some) in
@@ -36,17 +41,9 @@ module _ {first : List ℕ → Token} (law : IsGrammar first) (text : List ℕ) 
         let f = is.fits in
         let l = ed.len in
         record {
-          text_fits = ed.text_is.fits;
-          old_fits = bounds_fit;
-          kept_number = few;
-          kept_place = at;
           kept_same = sym same;
           kept_new = omega (arith, length-take kept.number (tokens_by first new), length-take kept.number (tokens_by first text));
           kept_before = λ k less. omega (arith, bound_mono (tokens_by first text) k kept.number (omega arith), has_two-before text (bound (tokens_by first text) kept.number) start (two_past (omega arith)));
-          added_le = omega arith;
-          past_inside = start_inside law text start stop insert new is edit ed;
-          removed_fits = omega arith;
-          end_meets = omega (arith, bound-last law text is);
         }
 
     -- what it leaves: the new tokens are whole, and the counts are those of the edit
@@ -72,9 +69,6 @@ module _ {first : List ℕ → Token} (law : IsGrammar first) (text : List ℕ) 
       let at' : kept.place ≡ bound (tokens_by first text) kept.number = at ∙ ap (λ ts. bound ts kept.number) e in
       rw (e, f) (ready law text is start stop insert (apply text start stop insert) edit (edited text start stop insert is its edit) kept few' at' two)
 
-  pub cuts_for : (old : List Token) → old ≡ tokens_by first text → AreCuts text old
-  cuts_for old e = rw e (cuts law text is)
-
   pub whole_for : (old : List Token) (new : List ℕ) (items : List Token) (number kept : ℕ) → old ≡ tokens_by first text → new ≡ apply text start stop insert → IsMet first old new (start + length insert) (length insert) (stop - start) kept items number → items ++ drop number old ≡ tokens_by first (apply text start stop insert)
   whole_for old new items number kept e f met =
       let met' : IsMet first (tokens_by first text) (apply text start stop insert) (start + length insert) (length insert) (stop - start) kept items number = rw (e, f) at met in
@@ -93,8 +87,3 @@ module _ {first : List ℕ → Token} (law : IsGrammar first) (text : List ℕ) 
   -- the kept front, what was lexed, and the kept back
   pub put_together : (old : List Token) (new : List ℕ) (lexed : List Token) (number kept : ℕ) → old ≡ tokens_by first text → new ≡ apply text start stop insert → IsMet first old new (start + length insert) (length insert) (stop - start) kept (take kept old ++ lexed) number → take kept old ++ (lexed ++ drop number old) ≡ tokens_by first (apply text start stop insert)
   put_together old new lexed number kept e f met = sym (append_assoc (take kept old) lexed (drop number old)) ∙ whole_for old new (take kept old ++ lexed) number kept e f met
-
-  pub counted : (old : List Token) (new : List ℕ) (lexed : List Token) (number kept : ℕ) → old ≡ tokens_by first text → new ≡ apply text start stop insert → kept ≤ length old → kept ≡ kept_front text old start → IsMet first old new (start + length insert) (length insert) (stop - start) kept (take kept old ++ lexed) number → relexed_of first text start stop insert ≡ record { kept_front = kept; lexed = length lexed; kept_back = length old - number }
-  counted old new lexed number kept e f few k met =
-      let long : length (take kept old ++ lexed) - kept ≡ length lexed = omega (arith, length-append (take kept old) lexed, length-take-le kept old few) in
-      counts_for old new (take kept old ++ lexed) number kept e f k met ∙ ap (λ (n : ℕ). let r : Relexed = record { kept_front = kept; lexed = n; kept_back = length old - number } in r) long

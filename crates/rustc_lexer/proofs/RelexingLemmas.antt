@@ -11,7 +11,7 @@ use Rattle.rustc_lexer.specs.declared.relex.relexing.Change.{Change}
 use Rattle.rustc_lexer.specs.declared.relex.relexing.Relexing.{Relexing}
 use Rattle.rustc_lexer.specs.declared.token.Token.{Token}
 use Rattle.rustc_lexer.specs.Cuts.{bound, tokens_by}
-use Rattle.rustc_lexer.specs.Edits.{apply, kept_front, IsEdit, least_from, meet, meets_at, relexed_of, IsMet, IsReady}
+use Rattle.rustc_lexer.specs.Edits.{apply, kept_front, IsEdit, least_from, meet, meets_at, relexed_of}
 use Rattle.rustc_lexer.specs.Landmarks.{IsBound}
 use Rattle.rustc_lexer.specs.Relexing.{IsChange, IsFront, IsFollowed, IsMadeOf, Stands, IsWhole, damage_of, known}
 use Rattle.rustc_lexer.specs.Settled.{has_two}
@@ -19,9 +19,9 @@ use Rattle.rustc_lexer.specs.Texts.{IsText, IsGrammar}
 use Rattle.rustc_lexer.proofs.BoundLemmas.{least_from_ge, bound-last}
 use Rattle.rustc_lexer.proofs.CutLemmas.{IsCutAt, at_bound, tokens-cons}
 use Rattle.rustc_lexer.proofs.EditLemmas.{IsEdited, edited, bound-same, start_inside}
-use Rattle.rustc_lexer.proofs.MeetingLemmas.{IsGoing, going_inside, going_least, going_met, test}
+use Rattle.rustc_lexer.proofs.MeetingLemmas.{IsGoing, IsMet, going_inside, going_least, going_met, test}
 use Rattle.rustc_lexer.proofs.ProgressLemmas.{IsLexedTo, lexed_more}
-use Rattle.rustc_lexer.proofs.ReadyLemmas.{cuts, ready_for, counts_for, lexed_for, whole_for}
+use Rattle.rustc_lexer.proofs.ReadyLemmas.{IsReady, cuts, ready_for, counts_for, lexed_for, whole_for}
 
 -- a number up to the first that passes is where the search for it may begin
 pub least_from-skip : (test : ℕ → Bool) (n k j : ℕ) → k ≤ j → j ≤ least_from test n k → least_from test (n - (j - k)) j ≡ least_from test n k

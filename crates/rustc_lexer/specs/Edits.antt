@@ -1,12 +1,10 @@
 -- What an edit makes of a text, and what it keeps of its tokens.
-use Rattle.std.specs.Prelude.{ℕ, ◌≡◌, zero, suc, ◌+◌, ◌-◌, ◌<◌, ◌≤◌, ◌^◌, ◌&&◌, ◌||◌, Bool, cond, nat_le, nat_eq, List, [], ◌∷◌, ◌++◌, length, take, drop, IsCharBoundary, Option}
+use Rattle.std.specs.Prelude.{ℕ, zero, suc, ◌+◌, ◌-◌, ◌<◌, ◌≤◌, ◌^◌, ◌&&◌, ◌||◌, Bool, cond, nat_le, nat_eq, List, [], ◌∷◌, ◌++◌, length, take, drop, IsCharBoundary, Option}
 use Rattle.std.proofs.Common.{Some, None}
 use Rattle.std.specs.String.{string_bytes}
 use Rattle.std.specs.declared.string.String.{String}
 use Rattle.rustc_lexer.specs.declared.token.Token.{Token}
 use Rattle.rustc_lexer.specs.declared.relex.edit.Relexed.{Relexed}
-use Rattle.rustc_lexer.specs.declared.relex.front.Bound.{Bound}
-use Rattle.rustc_lexer.specs.declared.relex.front.Damage.{Damage}
 use Rattle.rustc_lexer.specs.Cuts.{bound, tokens_by}
 use Rattle.rustc_lexer.specs.Settled.{has_two}
 
@@ -65,29 +63,6 @@ least_from test (suc n) j = cond (test j) j (least_from test n (suc j))
 -- the number of the bound of the new tokens at which lexing from bound k meets the old ones
 unfoldable pub meet : List Token → List Token → ℕ → ℕ → ℕ → ℕ → ℕ
 meet old new past added removed k = least_from (λ j. meets_at old past added removed (bound new j)) (length new - k) k
-
--- the new text can be lexed on from the kept front, and its end would meet that of the old one
-pub record IsReady (first : List ℕ → Token) (old : List Token) (text : List ℕ) (kept : Bound) (damage : Damage) : Type 0 where
-  pub text_fits : length text < 2 ^ 32
-  pub old_fits : (k : ℕ) → k ≤ length old → bound old k < 2 ^ 32
-  pub kept_number : kept.number ≤ length old
-  pub kept_place : kept.place ≡ bound old kept.number
-  pub kept_same : take kept.number old ≡ take kept.number (tokens_by first text)
-  pub kept_new : kept.number ≤ length (tokens_by first text)
-  pub kept_before : (k : ℕ) → k < kept.number → bound old k + damage.added < damage.past + damage.removed
-  pub added_le : damage.added ≤ damage.past
-  pub past_inside : damage.past ≤ length text
-  pub removed_fits : damage.removed < 2 ^ 32
-  pub end_meets : bound old (length old) + damage.added ≡ length text + damage.removed
-
--- the items are the first tokens of the new text, up to where they meet the old ones at bound `number`
-pub record IsMet (first : List ℕ → Token) (old : List Token) (text : List ℕ) (past added removed kept : ℕ) (items : List Token) (number : ℕ) : Type 0 where
-  pub items_are : items ≡ take (length items) (tokens_by first text)
-  pub least : length items ≡ meet old (tokens_by first text) past added removed kept
-  pub kept_le : kept ≤ length items
-  pub number_bound : number ≤ length old
-  pub past_edit : past ≤ bound (tokens_by first text) (length items)
-  pub same_place : bound old number ≡ bound (tokens_by first text) (length items) - added + removed
 
 -- what an edit keeps of the old tokens, and how many it lexes
 unfoldable pub relexed_of : (List ℕ → Token) → List ℕ → ℕ → ℕ → List ℕ → Relexed

@@ -1,7 +1,7 @@
 -- How far a text is relexed, as numbers and back.
 use Rattle.std.proofs.Common.{◌≡◌, ◌≢◌, ℕ, ◌+◌, ◌-◌, ◌≤◌, Bool, true, false, ◌||◌, if◌then◌else◌, eqb, List, ◌++◌, length, map, take, drop, refl, sym, ap, ◌∙◌, subst, arith, Option}
-use Rattle.std.proofs.Common.{Some, None}
-use Rattle.std.proofs.lemmas.List.{length-map}
+use Rattle.std.proofs.Common.{Some, None, take-add}
+use Rattle.std.proofs.lemmas.List.{length-map, length-drop, length-take-le, take_at, drop-drop, map-append, take-map, drop-map}
 use Rattle.rustc_lexer.specs.declared.edition.Edition.{Edition}
 use Rattle.rustc_lexer.specs.declared.edition.Edition.TheVariants.{E2024}
 use Rattle.rustc_lexer.specs.declared.relex.edit.Relexed.{Relexed}
@@ -17,7 +17,7 @@ use Rattle.rustc_lexer_c.specs.declared.relex.CChange.{CChange}
 use Rattle.rustc_lexer_c.specs.declared.relex.CRelexing.{CRelexing}
 use Rattle.rustc_lexer_c.specs.declared.token.CToken.{CToken}
 use Rattle.rustc_lexer_c.specs.Numbers.{token_numbers}
-use Rattle.rustc_lexer_c.specs.Relex.{IsPassed, IsRelexBatch, change_of, lexed_before, numbers_of, relexing_of}
+use Rattle.rustc_lexer_c.specs.Relex.{IsPassed, IsRelexBatch, change_of, lexed_before, numbers_of, relexing_of, written}
 
 edition_or : Option Edition → Edition
 edition_or (Some edition) = edition
@@ -53,6 +53,28 @@ relex_back text n at few over =
     let number : n - (n - at.back.number) ≡ at.back.number = omega arith in
     let met : eqb (stage_of (is_over text at)) 2 ≡ at.met = stage_over (is_over text at) ∙ over in
     rw (number, met) refl
+
+-- what this call wrote comes behind what was written
+written_more : (new : List Token) (front before count lexed : ℕ) (room filled : List CToken) → lexed ≡ before + count → front + lexed ≤ length new → filled ≡ map token_numbers (take count (drop (front + before) new)) ++ drop count room → written new front lexed ≡ written new front before ++ take count filled
+written_more new front before count lexed room filled sum inside e =
+    let part : List Token = take count (drop (front + before) new) in
+    let long : length part ≡ count = length-take-le count (drop (front + before) new) (omega (arith, length-drop (front + before) new)) in
+    let here : take count filled ≡ map token_numbers part = ap (take count) e ∙ take_at (map token_numbers part) (drop count room) count (length-map part token_numbers ∙ long) in
+    let split : take lexed (drop front new) ≡ take before (drop front new) ++ part =
+    ap (λ n. take n (drop front new)) sum ∙ (take-add before count (drop front new) ∙ ap (λ (ts : List Token). take before (drop front new) ++ take count ts) (drop-drop before front new)) in
+    ap (map token_numbers) split ∙ (map-append token_numbers (take before (drop front new)) part ∙ ap (λ (l : List CToken). written new front before ++ l) (sym here))
+
+-- the list that is put together is that of the new tokens
+list_whole : (tokens new : List Token) (at : Relexing) (n : ℕ) (old : List CToken) → n ≡ at.back.number → old ≡ map token_numbers tokens → IsWhole tokens new at → take at.front.number old ++ (written new at.front.number at.lexed ++ drop n old) ≡ map token_numbers new
+list_whole tokens new at n old same e whole =
+    let front : take at.front.number old ≡ map token_numbers (take at.front.number tokens) = ap (take at.front.number) e ∙ take-map token_numbers at.front.number tokens in
+    let back : drop n old ≡ map token_numbers (drop at.back.number tokens) = ap (λ m. drop m old) same ∙ (ap (drop at.back.number) e ∙ drop-map token_numbers at.back.number tokens) in
+    let middle : List Token = take at.lexed (drop at.front.number new) in
+    let rest : written new at.front.number at.lexed ++ drop n old ≡ map token_numbers (middle ++ drop at.back.number tokens) =
+    ap (λ (l : List CToken). map token_numbers middle ++ l) back ∙ sym (map-append token_numbers middle (drop at.back.number tokens)) in
+    ap (λ (l : List CToken). l ++ (written new at.front.number at.lexed ++ drop n old)) front
+    ∙ (ap (λ (l : List CToken). map token_numbers (take at.front.number tokens) ++ l) rest
+    ∙ (sym (map-append token_numbers (take at.front.number tokens) (middle ++ drop at.back.number tokens)) ∙ ap (map token_numbers) whole))
 
 module _ (edition : Edition) (text : List ℕ) (old : List CToken) (change : CChange) (c : CRelexing) (room filled : List CToken) (count : ℕ) (begin at : Relexing) where
   abbrev pub lens : List ℕ
@@ -97,18 +119,21 @@ module _ (edition : Edition) (text : List ℕ) (old : List CToken) (change : CCh
         let number = ap (λ b. b.number) front in
         let at_begin : known begin ≡ at.front.number + lexed_before c = omega arith in
         let many : length lens ≡ length old = length-map old (λ (t : CToken). t.len) in
+        let filled_is = so.1 ∙ ap (λ n. map token_numbers (take count (drop n (tokens_in edition text))) ++ drop count room) at_begin in
+        let back : length old - (length old - at.back.number) ≡ at.back.number = (let few = may.number in omega arith) in
         record {
           passed = record {
             near = λ e. absurd (stage_some (is_over text at) e);
             stands = λ _. subst (Stands first before (change_of change) text) (sym same) so.0;
           };
-          tokens = so.1 ∙ ap (λ n. map token_numbers (take count (drop n (tokens_in edition text))) ++ drop count room) at_begin;
+          tokens = filled_is;
+          more = written_more (tokens_in edition text) at.front.number (lexed_before c) count at.lexed room filled (omega arith) so.0.inside filled_is;
           few = few_lexed law before lens insert text (change_of change) is at so.0;
           counts = λ e.
               let met = counts_met law before lens insert text (change_of change) is at so.0 (sym over ∙ stage_met (is_over text at) e) in
               met.1 ∙ ap (λ (n : ℕ). let r : Relexed = record { kept_front = at.front.number; lexed = at.lexed; kept_back = n - at.back.number } in r) (sym met.0 ∙ many);
-          whole = λ e.
+          list = λ e are.
               let met = counts_met law before lens insert text (change_of change) is at so.0 (sym over ∙ stage_met (is_over text at) e) in
-              subst (IsWhole (tokens_by first before) (tokens_by first text)) (sym same) met.2;
+              list_whole (tokens_by first before) (tokens_by first text) at (length old - (length old - at.back.number)) old back are met.2;
         };
   }

@@ -11,7 +11,7 @@ use Rattle.rustc_lexer.specs.Cuts.{tokens_by}
 use Rattle.rustc_lexer.specs.Edition.{first_token_in}
 use Rattle.rustc_lexer.specs.Edits.{relexed_of}
 use Rattle.rustc_lexer.specs.Landmarks.{IsBound}
-use Rattle.rustc_lexer.specs.Relexing.{IsChange, IsMadeOf, IsWhole, MayGoOn, Stands, is_over}
+use Rattle.rustc_lexer.specs.Relexing.{IsChange, IsMadeOf, MayGoOn, Stands, is_over}
 use Rattle.rustc_lexer.specs.Texts.{IsText}
 use Rattle.rustc_lexer_c.specs.declared.relex.CChange.{CChange}
 use Rattle.rustc_lexer_c.specs.declared.relex.CRelexing.{CRelexing}
@@ -57,14 +57,21 @@ pub record IsPassed (first : List ℕ → Token) (before : List ℕ) (change : C
   pub near : c.stage ≡ 0 → IsBound (tokens_by first before) (front_of c)
   pub stands : c.stage ≢ 0 → Stands first before change text (relexing_of count c)
 
--- the tokens of the present text that follow the front and those of the calls before are written; what is left to do is what
--- `relexed_of` says, and once the stage is 2 nothing is: the tokens that were kept and lexed are those of the present text
+-- so many tokens of the present text past those of the front, as numbers
+abbrev pub written : List Token → ℕ → ℕ → List CToken
+written tokens front lexed = map token_numbers (take lexed (drop front tokens))
+
+-- the tokens of the present text that follow the front and those of the calls before are written. Once the stage is 2 the
+-- counts are those of the edit, and the list that has the old tokens of the front, all that was written, and the old tokens
+-- of the back is the tokens of the present text
 pub record IsRelexed (first : List ℕ → Token) (before : List ℕ) (change : CChange) (insert text : List ℕ) (old : List CToken) (c : CRelexing) (room : List CToken) (c' : CRelexing) (filled : List CToken) (count : ℕ) : Type 0 where
   pub passed : IsPassed first before (change_of change) text (length old) c'
   pub tokens : filled ≡ map token_numbers (take count (drop (c'.kept_front + lexed_before c) (tokens_by first text))) ++ drop count room
+  pub more : written (tokens_by first text) c'.kept_front c'.lexed ≡ written (tokens_by first text) c'.kept_front (lexed_before c) ++ take count filled
   pub few : c'.lexed ≤ (relexed_of first before change.start change.old_stop insert).lexed
   pub counts : c'.stage ≡ 2 → relexed_of first before change.start change.old_stop insert ≡ record { kept_front = c'.kept_front; lexed = c'.lexed; kept_back = c'.kept_back }
-  pub whole : c'.stage ≡ 2 → IsWhole (tokens_by first before) (tokens_by first text) (relexing_of (length old) c')
+  pub list : c'.stage ≡ 2 → old ≡ map token_numbers (tokens_by first before)
+      → take c'.kept_front old ++ (written (tokens_by first text) c'.kept_front c'.lexed ++ drop (length old - c'.kept_back) old) ≡ map token_numbers (tokens_by first text)
 
 -- what a call does for any numbers, and what for those of an edit: of each text of which the old tokens are those in the
 -- edition, and of which the edit made the present text
