@@ -54,7 +54,7 @@ impl Place {
 
 /// An edit that was made, by its places in bytes.
 #[repr(C)]
-pub struct Change {
+pub struct Edit {
     pub start: u32,
     pub old_stop: u32,
     pub new_stop: u32,
@@ -124,7 +124,7 @@ unsafe extern "C" {
         len: usize,
         old: *const CToken,
         old_len: usize,
-        edit: *const Change,
+        edit: *const Edit,
         edition: u32,
         relexing: *mut Relexing,
         room: *mut CToken,
@@ -181,7 +181,7 @@ pub fn tokens(text: &str, place: &mut Place, room: &mut [CToken]) -> usize {
 pub fn relex(
     text: &str,
     old: &[CToken],
-    change: &Change,
+    edit: &Edit,
     edition: Edition,
     relexing: &mut Relexing,
     room: &mut [CToken],
@@ -194,7 +194,7 @@ pub fn relex(
             text.len(),
             old.as_ptr(),
             old.len(),
-            change,
+            edit,
             edition.year(),
             relexing,
             room.as_mut_ptr(),

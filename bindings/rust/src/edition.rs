@@ -1,6 +1,6 @@
 //! Editions of Rust, and the tokens of a text in one.
 
-use crate::border::{self, CToken, Change, Relexing, NO_TOKEN};
+use crate::border::{self, CToken, Edit, Relexing, NO_TOKEN};
 use crate::token::{self, Token};
 use crate::BATCH;
 
@@ -26,8 +26,8 @@ impl Edition {
 }
 
 /// What makes a text of no text: all of it is put in.
-pub(crate) fn whole(text: &str) -> Change {
-    Change {
+pub(crate) fn whole(text: &str) -> Edit {
+    Edit {
         start: 0,
         old_stop: 0,
         // The text fits.

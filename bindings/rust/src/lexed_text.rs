@@ -1,6 +1,6 @@
 //! A text that is kept with its tokens under edits.
 
-use crate::border::{self, CToken, Change, Relexing, NO_TOKEN};
+use crate::border::{self, CToken, Edit, Relexing, NO_TOKEN};
 use crate::edition::{whole, Edition};
 use crate::landmarks::{Bound, Landmarks};
 use crate::token::{self, Token};
@@ -149,7 +149,7 @@ impl LexedText {
         );
         self.text.replace_range(range.clone(), insert);
         // All places are in texts that fit.
-        let change = Change {
+        let edit = Edit {
             start: range.start as u32,
             old_stop: range.end as u32,
             new_stop: (range.start + insert.len()) as u32,
@@ -157,19 +157,19 @@ impl LexedText {
         let near = self.landmarks.nearest_place(range.start);
         let mut relexing = Relexing::begin(near.number, near.place);
         while !relexing.is_done() {
-            self.more_tokens(&change, &mut relexing);
+            self.more_tokens(&edit, &mut relexing);
         }
         self.put_lexed(&relexing)
     }
 
     /// Lexes as many tokens into the room as are there, or `ROOM`.
-    fn more_tokens(&mut self, change: &Change, relexing: &mut Relexing) {
+    fn more_tokens(&mut self, edit: &Edit, relexing: &mut Relexing) {
         let len = self.room.len();
         self.room.resize(len + len.max(ROOM), NO_TOKEN);
         let count = border::relex(
             &self.text,
             &self.tokens,
-            change,
+            edit,
             self.edition,
             relexing,
             &mut self.room[len..],
@@ -206,7 +206,7 @@ impl LexedText {
     fn lex_all(&mut self) {
         self.tokens.clear();
         self.landmarks = Landmarks::new();
-        let change = whole(&self.text);
+        let edit = whole(&self.text);
         let mut relexing = Relexing::default();
         while !relexing.is_done() {
             let number = self.tokens.len();
@@ -215,7 +215,7 @@ impl LexedText {
                 .remember(Bound { number, place }, self.text.len());
             self.tokens.resize(number + SPACING, NO_TOKEN);
             let room = &mut self.tokens[number..];
-            let count = border::relex(&self.text, &[], &change, self.edition, &mut relexing, room);
+            let count = border::relex(&self.text, &[], &edit, self.edition, &mut relexing, room);
             self.tokens.truncate(number + count);
         }
     }

@@ -13,7 +13,7 @@ use Rattle.rustc_lexer.specs.Relexing.{IsMadeOf, IsWhole, MayGoOn, Stands, is_ov
 use Rattle.rustc_lexer.specs.Texts.{IsGrammar}
 use Rattle.rustc_lexer.specs.laws.Edition.{edition_grammar}
 use Rattle.rustc_lexer.proofs.RelexingLemmas.{over_met, few_lexed, counts_met}
-use Rattle.rustc_lexer_c.specs.declared.relex.CChange.{CChange}
+use Rattle.rustc_lexer_c.specs.declared.relex.CEdit.{CEdit}
 use Rattle.rustc_lexer_c.specs.declared.relex.CRelexing.{CRelexing}
 use Rattle.rustc_lexer_c.specs.declared.token.CToken.{CToken}
 use Rattle.rustc_lexer_c.specs.Numbers.{token_numbers}
@@ -76,7 +76,7 @@ list_whole tokens new at n old same e whole =
     ∙ (ap (λ (l : List CToken). map token_numbers (take at.front.number tokens) ++ l) rest
     ∙ (sym (map-append token_numbers (take at.front.number tokens) (middle ++ drop at.back.number tokens)) ∙ ap (map token_numbers) whole))
 
-module _ (edition : Edition) (text : List ℕ) (old : List CToken) (change : CChange) (c : CRelexing) (room filled : List CToken) (count : ℕ) (begin at : Relexing) where
+module _ (edition : Edition) (text : List ℕ) (old : List CToken) (change : CEdit) (c : CRelexing) (room filled : List CToken) (count : ℕ) (begin at : Relexing) where
   abbrev pub lens : List ℕ
   lens = map (λ (t : CToken). t.len) old
 

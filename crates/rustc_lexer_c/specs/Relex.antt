@@ -13,7 +13,7 @@ use Rattle.rustc_lexer.specs.Edits.{relexed_of}
 use Rattle.rustc_lexer.specs.Landmarks.{IsBound}
 use Rattle.rustc_lexer.specs.Relexing.{IsChange, IsMadeOf, MayGoOn, Stands, is_over}
 use Rattle.rustc_lexer.specs.Texts.{IsText}
-use Rattle.rustc_lexer_c.specs.declared.relex.CChange.{CChange}
+use Rattle.rustc_lexer_c.specs.declared.relex.CEdit.{CEdit}
 use Rattle.rustc_lexer_c.specs.declared.relex.CRelexing.{CRelexing}
 use Rattle.rustc_lexer_c.specs.declared.token.CToken.{CToken}
 use Rattle.rustc_lexer_c.specs.Numbers.{token_numbers}
@@ -27,7 +27,7 @@ edition_of year =
     else if nat_eq year 2015 then Some E2015
     else None
 
-abbrev pub change_of : CChange → Change
+abbrev pub change_of : CEdit → Change
 change_of c = record { start = c.start; old_stop = c.old_stop; new_stop = c.new_stop }
 
 -- the bound that the fields for the front have
@@ -64,25 +64,25 @@ written tokens front lexed = map token_numbers (take lexed (drop front tokens))
 -- the tokens of the present text that follow the front and those of the calls before are written. Once the stage is 2 the
 -- counts are those of the edit, and the list that has the old tokens of the front, all that was written, and the old tokens
 -- of the back is the tokens of the present text
-pub record IsRelexed (first : List ℕ → Token) (before : List ℕ) (change : CChange) (insert text : List ℕ) (old : List CToken) (c : CRelexing) (room : List CToken) (c' : CRelexing) (filled : List CToken) (count : ℕ) : Type 0 where
-  pub passed : IsPassed first before (change_of change) text (length old) c'
+pub record IsRelexed (first : List ℕ → Token) (before : List ℕ) (edit : CEdit) (insert text : List ℕ) (old : List CToken) (c : CRelexing) (room : List CToken) (c' : CRelexing) (filled : List CToken) (count : ℕ) : Type 0 where
+  pub passed : IsPassed first before (change_of edit) text (length old) c'
   pub tokens : filled ≡ map token_numbers (take count (drop (c'.kept_front + lexed_before c) (tokens_by first text))) ++ drop count room
   pub more : written (tokens_by first text) c'.kept_front c'.lexed ≡ written (tokens_by first text) c'.kept_front (lexed_before c) ++ take count filled
-  pub few : c'.lexed ≤ (relexed_of first before change.start change.old_stop insert).lexed
-  pub counts : c'.stage ≡ 2 → relexed_of first before change.start change.old_stop insert ≡ record { kept_front = c'.kept_front; lexed = c'.lexed; kept_back = c'.kept_back }
+  pub few : c'.lexed ≤ (relexed_of first before edit.start edit.old_stop insert).lexed
+  pub counts : c'.stage ≡ 2 → relexed_of first before edit.start edit.old_stop insert ≡ record { kept_front = c'.kept_front; lexed = c'.lexed; kept_back = c'.kept_back }
   pub list : c'.stage ≡ 2 → old ≡ map token_numbers (tokens_by first before)
       → take c'.kept_front old ++ (written (tokens_by first text) c'.kept_front c'.lexed ++ drop (length old - c'.kept_back) old) ≡ map token_numbers (tokens_by first text)
 
 -- what a call does for any numbers, and what for those of an edit: of each text of which the old tokens are those in the
 -- edition, and of which the edit made the present text
-pub record IsRelexBatch (edition : Edition) (text : List ℕ) (old : List CToken) (change : CChange) (c : CRelexing) (room : List CToken) (c' : CRelexing) (filled : List CToken) (count : ℕ) : Type 0 where
+pub record IsRelexBatch (edition : Edition) (text : List ℕ) (old : List CToken) (edit : CEdit) (c : CRelexing) (room : List CToken) (c' : CRelexing) (filled : List CToken) (count : ℕ) : Type 0 where
   pub within : count ≤ length room
   pub rest : drop count filled ≡ drop count room
   pub lexed : c'.lexed ≡ lexed_before c + count
   pub goes_on : c'.stage ≢ 2 → (c'.stage ≡ 1) × (count ≡ length room)
   pub may_relex : MayRelex text (length old) c'
-  pub relexed : (before insert : List ℕ) → IsMadeOf (first_token_in edition) before (map (λ (t : CToken). t.len) old) (change_of change) insert text → IsPassed (first_token_in edition) before (change_of change) text (length old) c
-      → IsRelexed (first_token_in edition) before change insert text old c room c' filled count
+  pub relexed : (before insert : List ℕ) → IsMadeOf (first_token_in edition) before (map (λ (t : CToken). t.len) old) (change_of edit) insert text → IsPassed (first_token_in edition) before (change_of edit) text (length old) c
+      → IsRelexed (first_token_in edition) before edit insert text old c room c' filled count
 
 -- nothing is written
 pub record IsNotRelexed (c c' : CRelexing) (room room' : List CToken) (count : ℕ) : Type 0 where
@@ -91,12 +91,12 @@ pub record IsNotRelexed (c c' : CRelexing) (room room' : List CToken) (count : �
   pub none : count ≡ 0
 
 -- the status of a call that relexes
-pub record IsRelexStatus (bytes : List ℕ) (change : CChange) (year count : ℕ) (c : CRelexing) (status : ℕ) : Type 0 where
-  pub ok : IsText bytes → (edition : Edition) → edition_of year ≡ Some edition → IsChange bytes (change_of change) → MayRelex bytes count c → status ≡ 0
+pub record IsRelexStatus (bytes : List ℕ) (edit : CEdit) (year count : ℕ) (c : CRelexing) (status : ℕ) : Type 0 where
+  pub ok : IsText bytes → (edition : Edition) → edition_of year ≡ Some edition → IsChange bytes (change_of edit) → MayRelex bytes count c → status ≡ 0
   pub not_utf8 : length bytes < 2 ^ 32 → ¬ (IsUtf8 bytes) → status ≡ 1
   pub too_long : 2 ^ 32 ≤ length bytes → status ≡ 2
   pub bad_edition : IsText bytes → edition_of year ≡ None → status ≡ 5
-  pub bad_edit : IsText bytes → (edition : Edition) → edition_of year ≡ Some edition → ¬ (IsChange bytes (change_of change) × MayRelex bytes count c) → status ≡ 6
+  pub bad_edit : IsText bytes → (edition : Edition) → edition_of year ≡ Some edition → ¬ (IsChange bytes (change_of edit) × MayRelex bytes count c) → status ≡ 6
 
 -- how far it was relexed, as numbers
 abbrev pub numbers_of : List ℕ → ℕ → Relexing → CRelexing

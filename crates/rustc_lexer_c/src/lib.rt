@@ -1,7 +1,7 @@
 //! The lexer for C, and for whatever can call C: a static library over `rustc_lexer`.
 //!
 //! A text comes as a pointer and a length, tokens go into the caller's room, and nothing takes memory. Nothing
-//! checks what C passes, so each call tests its text and answers a status; only `rustc_lexer_tokens_unchecked` asks
+//! checks what C passes, so each call tests its text and answers a status; only the calls with `_unchecked` ask
 //! for UTF-8. What crosses is written down in `bindings/c/rustc_lexer.h`.
 #![tactic(auto)]
 

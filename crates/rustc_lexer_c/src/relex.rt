@@ -18,7 +18,7 @@ use rustc_lexer::{Bound, Change, Edition, Measured, Relexing, Steps};
 /// stands from `start` up to `new_stop` was put in.
 #[repr(C)]
 #[derive(Clone, Copy, Debug, PartialEq, Eq)]
-pub struct CChange {
+pub struct CEdit {
     pub start: u32,
     pub old_stop: u32,
     pub new_stop: u32,
@@ -62,21 +62,21 @@ impl Measured for CToken {
 pub extern "C" fn rustc_lexer_relex(
     text: &[u8],
     old: &[CToken],
-    change: &CChange,
+    edit: &CEdit,
     edition: u32,
     relexing: &mut CRelexing,
     room: &mut [CToken],
     count: &mut usize,
 ) -> u32
-    ensures status { spec.IsRelexStatus text.now change.now edition (length old.now) relexing.old result }
+    ensures status { spec.IsRelexStatus text.now edit.now edition (length old.now) relexing.old result }
     ensures batch { result ≡ 0 → (year : Edition) → spec.edition_of edition ≡ Some year
-        → spec.IsRelexBatch year text.now old.now change.now relexing.old
+        → spec.IsRelexBatch year text.now old.now edit.now relexing.old
         room.old relexing.new room.new count.new }
     ensures refused { result ≢ 0
         → spec.IsNotRelexed relexing.old relexing.new room.old room.new count.new }
 {
     match text_of(text) {
-        Ok(text) => relex(text, old, change, edition, relexing, room, count),
+        Ok(text) => relex(text, old, edit, edition, relexing, room, count),
         Err(refusal) => {
             *count = 0;
             refusal.number()
@@ -89,16 +89,16 @@ pub extern "C" fn rustc_lexer_relex(
 pub extern "C" fn rustc_lexer_relex_unchecked(
     text: &[u8],
     old: &[CToken],
-    change: &CChange,
+    edit: &CEdit,
     edition: u32,
     relexing: &mut CRelexing,
     room: &mut [CToken],
     count: &mut usize,
 ) -> u32
     requires utf8 { IsUtf8 text.now }
-    ensures status { spec.IsRelexStatus text.now change.now edition (length old.now) relexing.old result }
+    ensures status { spec.IsRelexStatus text.now edit.now edition (length old.now) relexing.old result }
     ensures batch { result ≡ 0 → (year : Edition) → spec.edition_of edition ≡ Some year
-        → spec.IsRelexBatch year text.now old.now change.now relexing.old
+        → spec.IsRelexBatch year text.now old.now edit.now relexing.old
         room.old relexing.new room.new count.new }
     ensures refused { result ≢ 0
         → spec.IsNotRelexed relexing.old relexing.new room.old room.new count.new }
@@ -111,7 +111,7 @@ pub extern "C" fn rustc_lexer_relex_unchecked(
     relex(
         unsafe { std::str::from_utf8_unchecked(text) },
         old,
-        change,
+        edit,
         edition,
         relexing,
         room,
@@ -123,16 +123,16 @@ pub extern "C" fn rustc_lexer_relex_unchecked(
 fn relex(
     text: &str,
     old: &[CToken],
-    change: &CChange,
+    edit: &CEdit,
     edition: u32,
     relexing: &mut CRelexing,
     room: &mut [CToken],
     count: &mut usize,
 ) -> u32
     requires fits { Fits text.now }
-    ensures status { spec.IsRelexStatus text.now change.now edition (length old.now) relexing.old result }
+    ensures status { spec.IsRelexStatus text.now edit.now edition (length old.now) relexing.old result }
     ensures batch { result ≡ 0 → (year : Edition) → spec.edition_of edition ≡ Some year
-        → spec.IsRelexBatch year text.now old.now change.now relexing.old
+        → spec.IsRelexBatch year text.now old.now edit.now relexing.old
         room.old relexing.new room.new count.new }
     ensures refused { result ≢ 0
         → spec.IsNotRelexed relexing.old relexing.new room.old room.new count.new }
@@ -141,7 +141,7 @@ fn relex(
     let Some(edition) = edition_of(edition) else {
         return Refusal::BadEdition.number();
     };
-    let change = change_of(change);
+    let change = change_of(edit);
     if !change.may_make(text) {
         return Refusal::BadEdit.number();
     }
@@ -166,14 +166,14 @@ fn edition_of(year: u32) -> Option<Edition>
     }
 }
 
-/// The edit.
-fn change_of(change: &CChange) -> Change
-    ensures { result ≡ spec.change_of change.now }
+/// What the edit changed.
+fn change_of(edit: &CEdit) -> Change
+    ensures { result ≡ spec.change_of edit.now }
 {
     Change {
-        start: change.start as usize,
-        old_stop: change.old_stop as usize,
-        new_stop: change.new_stop as usize,
+        start: edit.start as usize,
+        old_stop: edit.old_stop as usize,
+        new_stop: edit.new_stop as usize,
     }
 }
 

@@ -1,5 +1,6 @@
 //! Tests of the numbers that cross to C.
 use crate::batch::{CPlace, rustc_lexer_tokens};
+use crate::relex::{CEdit, CRelexing, rustc_lexer_relex};
 use crate::token::CToken;
 use std::process::Abort;
 
@@ -63,4 +64,53 @@ fn a_token_of_each_flag(rt: HostRuntime) {
         assert_eq!(rt; token.flags, want);
     }
     assert_eq!(rt; batch(&rt, b" ---", 1, 1)[0].flags, 96);
+}
+
+/// The edit of `docs/RELEXING.md`, by rooms of so many tokens.
+fn relexed(rt: &impl Abort, room_len: usize) -> CRelexing {
+    let all = batch(rt, b"let ab = cd + ef;", 0, 12);
+    let old = &all[..12];
+    let edit = CEdit {
+        start: 12,
+        old_stop: 13,
+        new_stop: 17,
+    };
+    let mut relexing = CRelexing {
+        kept_front: 0,
+        front_place: 0,
+        lexed: 0,
+        kept_back: 0,
+        back_place: 0,
+        at: 0,
+        stage: 0,
+    };
+    for _ in 0..8 {
+        let mut room = [NO_TOKEN; 32];
+        let mut count = 0;
+        assert!(rt; room_len <= 32);
+        let text = b"let ab = cd - 1 - ef;";
+        assert_eq!(rt;
+            rustc_lexer_relex(
+                text,
+                old,
+                &edit,
+                2024,
+                &mut relexing,
+                &mut room[..room_len],
+                &mut count,
+            ),
+            0
+        );
+    }
+    relexing
+}
+
+#[test]
+fn an_edit(rt: HostRuntime) {
+    for room_len in 1..9 {
+        let end = relexed(&rt, room_len);
+        assert_eq!(&rt; (end.kept_front, end.lexed, end.kept_back), (6, 7, 3));
+        assert_eq!(&rt; (end.front_place, end.back_place, end.at), (9, 13, 17));
+        assert_eq!(&rt; end.stage, 2);
+    }
 }
