@@ -135,8 +135,8 @@ struct rustc_lexer_place {
     uint32_t frontmatter_allowed; /* whether a frontmatter may stand there: 0 for no, any other number for yes */
 };
 
-/* An edit that was made, in bytes from the start of the text. It took out what stood from `start` up to `old_stop` of the
- * old text, and put in what stands from `start` up to `new_stop` of the present one. */
+/* An edit that was made, in bytes from the start of the text. It took out what stood from `start` up to `old_stop` of
+ * the old text, and put in what stands from `start` up to `new_stop` of the present one. */
 struct rustc_lexer_edit {
     uint32_t start;
     uint32_t old_stop;
@@ -196,24 +196,26 @@ uint32_t rustc_lexer_tokens_unchecked(const uint8_t *text, size_t len, struct ru
  *
  *     the first `kept_front` of `old`, the `lexed` tokens that are written, the last `kept_back` of `old`.
  *
- * Set `stage` to 0 before the first call for an edit. While it is 1 the room was too small: take the tokens from it and
- * call again, with nothing else changed, as often as it takes. It is 2 when all are written. `count` is how many this call
- * wrote; it is `room_len` at stage 1.
+ * Set `stage` to 0 before the first call for an edit. While it is 1 the room was too small: take the tokens from it
+ * and call again, with nothing else changed, as often as it takes. It is 2 when all are written. `count` is how many
+ * this call wrote; it is `room_len` at stage 1.
  *
- * At stage 0 the search for the kept front begins at token `kept_front`, which begins at `front_place`. Any bound of the
- * old tokens will do, and a near one makes the call fast: 0 and 0, or what the call for the edit before has left there.
+ * At stage 0 the search for the kept front begins at token `kept_front`, which begins at `front_place`. Any bound of
+ * the old tokens will do, and a near one makes the call fast: 0 and 0, or what the call for the edit before has left
+ * there.
  *
- * Of `old` only the lengths are read. Where they are not those of the tokens of the text before the edit, in the edition,
- * or the two numbers at stage 0 are not a bound of them, the answer is of no use, but the call is as safe as with any
- * others: it reads and writes where it may, and it ends. `kept_front` and `kept_back` together are then too no more than
- * `old_len`.
+ * Of `old` only the lengths are read. Where they are not those of the tokens of the text before the edit, in the
+ * edition, or the two numbers at stage 0 are not a bound of them, the answer is of no use, but the call is as safe as
+ * with any others: it reads and writes where it may, and it ends. `kept_front` and `kept_back` together are then too
+ * no more than `old_len`.
  *
  * The edition is a year: 2015, 2018, 2021 or 2024. No frontmatter is allowed, so the tokens of 2024 are those of
- * rustc_lexer_tokens from {0, 0}. To lex a whole text in an edition, pass no old tokens, the edit {0, 0, len} and zeros.
+ * rustc_lexer_tokens from {0, 0}. To lex a whole text in an edition, pass no old tokens, the edit {0, 0, len} and
+ * zeros.
  *
- * With another status than 0 the room and `relexing` stay as they were, and `count` is 0. RUSTC_LEXER_BAD_EDIT says that
- * `start` is past one of the others, that `start` or `new_stop` is past the end of the text or inside a character, or that
- * the numbers of a later stage are none that a call has left.
+ * With another status than 0 the room and `relexing` stay as they were, and `count` is 0. RUSTC_LEXER_BAD_EDIT says
+ * that `start` is past one of the others, that `start` or `new_stop` is past the end of the text or inside a
+ * character, or that the numbers of a later stage are none that a call has left.
  *
  * Each call tests the whole text. */
 uint32_t rustc_lexer_relex(const uint8_t *text, size_t len, const struct rustc_lexer_token *old, size_t old_len,
@@ -221,8 +223,8 @@ uint32_t rustc_lexer_relex(const uint8_t *text, size_t len, const struct rustc_l
                            struct rustc_lexer_relexing *relexing, struct rustc_lexer_token *room, size_t room_len,
                            size_t *count);
 
-/* The same. The caller promises that the text is UTF-8, as for rustc_lexer_tokens_unchecked: also where a text that was
- * is edited between characters, and what is put in is. */
+/* The same. The caller promises that the text is UTF-8, as for rustc_lexer_tokens_unchecked: also where a text that
+ * was is edited between characters, and what is put in is. */
 uint32_t rustc_lexer_relex_unchecked(const uint8_t *text, size_t len, const struct rustc_lexer_token *old,
                                      size_t old_len, const struct rustc_lexer_edit *edit, uint32_t edition,
                                      struct rustc_lexer_relexing *relexing, struct rustc_lexer_token *room,

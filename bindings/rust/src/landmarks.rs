@@ -46,8 +46,8 @@ impl Landmarks {
             .unwrap_or(&first)
     }
 
-    /// Moves them over an edit that keeps the tokens up to `kept`, and those from `met` on, which is then `now`. One that
-    /// stood between is then `kept`.
+    /// Moves them over an edit that keeps the tokens up to `kept`, and those from `met` on, which is then `now`. One
+    /// that stood between is then `kept`.
     pub fn move_over(&mut self, kept: Bound, met: Bound, now: Bound) {
         for bound in &mut self.0 {
             if bound.number >= met.number && bound.number > kept.number {

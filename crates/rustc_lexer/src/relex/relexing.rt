@@ -156,11 +156,16 @@ impl Relexing {
         };
         Some(token)
     }
+
     /// The counts of the edit, once the old tokens are met, of which there are `old_count`.
     pub fn counts(&self, old_count: usize) -> Relexed
         requires number { self.now.back.number ≤ old_count }
         ensures counts { result
-            ≡ record { kept_front = self.now.front.number; lexed = self.now.lexed; kept_back = old_count - self.now.back.number } }
+            ≡ record {
+              kept_front = self.now.front.number;
+              lexed = self.now.lexed;
+              kept_back = old_count - self.now.back.number;
+            } }
         ensures exact { (first : List ℕ → Token) (before lengths insert text : List ℕ) (change : Change)
             → IsGrammar first → spec.IsMadeOf first before lengths change insert text
             → length lengths ≡ old_count → spec.Stands first before change text self.now
