@@ -1,0 +1,229 @@
+-- A text in order has the tokens of the text, but for the white space, and stays.
+use Rattle.std.proofs.Common.{◌≡◌, ℕ, suc, ◌≤◌, ◌&&◌, inl, inr, not, Bool, true, false, true≢false, if◌then◌else◌, List, [], ◌∷◌, ◌++◌, length, length-append, take, drop, codes, refl, sym, ap, ◌∙◌, subst, arith}
+use lib.Utf8.{scalar, scalars}
+use Rattle.std.proofs.Math.Seq.{take-append_seam, drop-append_seam}
+use Rattle.std.proofs.lemmas.Bool.{and_parts, cases_Bool, not-true}
+use Rattle.std.proofs.lemmas.Str.{encodes-append, length-le-encodes}
+use Rattle.std.specs.Char.{encode_utf8}
+use Rattle.std.specs.Str.{encode_utf8_all}
+use Rattle.rustc_lexer.specs.declared.token.FrontmatterAllowed.{FrontmatterAllowed}
+use Rattle.rustc_lexer.specs.declared.token.FrontmatterAllowed.TheVariants.{Yes, No}
+use Rattle.rustc_lexer.specs.declared.token.Token.{Token}
+use Rattle.rustc_lexer.specs.declared.token.TokenKind.{TokenKind}
+use Rattle.rustc_lexer.specs.declared.token.TokenKind.TheVariants.{Whitespace}
+use Rattle.rustc_lexer.specs.Classes.{is_whitespace}
+use Rattle.rustc_lexer.specs.Frontmatter.{dashes, ends_line, opens}
+use Rattle.rustc_lexer.specs.FrontmatterGrammar.{OpensNone}
+use Rattle.rustc_lexer.specs.Language as the
+use Rattle.rustc_lexer.specs.Language.{allowed_past, IsTokenBefore, AreTokens, nothing, something, frontmatter_first}
+use Rattle.rustc_lexer.specs.Spans.{AreAll, Stops, bytes}
+use Rattle.rustc_lexer.specs.laws.Language.{token-read}
+use Rattle.rustc_lexer.specs.laws.LanguageFrontmatter.{opens-none, none-opens}
+use Rattle.rustc_lexer.specs.laws.LanguageRuns.{among, chooses-space, run_len-here}
+use Rattle.rustc_lexer.specs.laws.Reach.{run_len-out}
+use Rattle.rustc_lexer.specs.Scan.{begins}
+use Rattle.tidy.specs.Order.{in_order, is_space, space_in_order, part_in_order, code_in_order, parts}
+use Rattle.tidy.proofs.NearLemmas.{Near, ends, space, near-append, near-begins, near-empty, near-space, Stays, token-near}
+use Rattle.tidy.proofs.OrderLemmas.{HasFirst, order-all, order-first, order-near, order-ends, order-again, order-bytes, order-size}
+
+-- ---- a token and what follows it
+
+pub code-cons : (u next : List ℕ) (kind : TokenKind) (tokens : List Token)
+    → code_in_order (encode_utf8_all (u ++ next)) (record { kind = kind; len = bytes u } ∷ tokens) ≡ part_in_order kind (encode_utf8_all u) tokens ++ code_in_order (encode_utf8_all next) tokens
+code-cons u next kind tokens =
+    ap (λ (text : List ℕ). part_in_order kind (take (bytes u) text) tokens ++ code_in_order (drop (bytes u) text) tokens) (encodes-append u next)
+    ∙ (ap (λ (xs : List ℕ). part_in_order kind xs tokens ++ code_in_order (drop (bytes u) (encode_utf8_all u ++ encode_utf8_all next)) tokens) (take-append_seam (encode_utf8_all u) (encode_utf8_all next))
+    ∙ ap (λ (xs : List ℕ). part_in_order kind (encode_utf8_all u) tokens ++ code_in_order xs tokens) (drop-append_seam (encode_utf8_all u) (encode_utf8_all next)))
+
+pub parts-cons : (u next : List ℕ) (kind : TokenKind) (tokens : List Token)
+    → parts (encode_utf8_all (u ++ next)) (record { kind = kind; len = bytes u } ∷ tokens) ≡ (kind, if is_space kind then [] else encode_utf8_all u) ∷ parts (encode_utf8_all next) tokens
+parts-cons u next kind tokens =
+    ap (λ (text : List ℕ). let p : TokenKind × List ℕ = (kind, if is_space kind then [] else take (bytes u) text) in p ∷ parts (drop (bytes u) text) tokens) (encodes-append u next)
+    ∙ (ap (λ (xs : List ℕ). let p : TokenKind × List ℕ = (kind, if is_space kind then [] else xs) in p ∷ parts (drop (bytes u) (encode_utf8_all u ++ encode_utf8_all next)) tokens) (take-append_seam (encode_utf8_all u) (encode_utf8_all next))
+    ∙ ap (λ (xs : List ℕ). let p : TokenKind × List ℕ = (kind, if is_space kind then [] else encode_utf8_all u) in p ∷ parts xs tokens) (drop-append_seam (encode_utf8_all u) (encode_utf8_all next)))
+
+-- only a text with no characters has no tokens
+pub none-left : {allowed : FrontmatterAllowed} {cs : List ℕ} {tokens : List Token} → AreTokens allowed cs tokens → length tokens ≡ 0 → cs ≡ []
+none-left (nothing) e = refl
+none-left (something p free rest) e = absurd (omega (arith, e))
+none-left (frontmatter_first body is_opening is_end rest) e = absurd (omega (arith, e))
+
+-- ---- where a frontmatter opens
+
+opens-space : (u next : List ℕ) → AreAll is_whitespace u → Stops is_whitespace next → opens (u ++ next) ≡ (begins (dashes 3) next && not (ends_line u))
+opens-space u next all stop =
+    ap (λ (n : ℕ). begins (dashes 3) (drop n (u ++ next)) && not (ends_line (take n (u ++ next)))) (run_len-here is_whitespace u next all stop)
+    ∙ (ap (λ (xs : List ℕ). begins (dashes 3) xs && not (ends_line (take (length u) (u ++ next)))) (drop-append_seam u next)
+    ∙ ap (λ (xs : List ℕ). begins (dashes 3) next && not (ends_line xs)) (take-append_seam u next))
+
+opens-solid : (c : ℕ) (s : List ℕ) → is_whitespace c ≡ false → opens (c ∷ s) ≡ (begins (dashes 3) (c ∷ s) && true)
+opens-solid c s e = ap (λ (n : ℕ). begins (dashes 3) (drop n (c ∷ s)) && not (ends_line (take n (c ∷ s)))) (run_len-out is_whitespace c s e)
+
+-- a token that is no white space begins with none
+pub no-space : {next : List ℕ} {kind : TokenKind} {c : ℕ} {w : List ℕ} → IsTokenBefore next kind (c ∷ w) → is_space kind ≡ false → is_whitespace c ≡ false
+no-space {next} {kind} {c} {w} p solid = elim (cases_Bool (is_whitespace c)) [
+  | inl e ↦ absurd (true≢false (ap is_space (ap (λ (r : TokenKind × ℕ). r.0) (ap (λ (scan : List ℕ → TokenKind × ℕ). let r : TokenKind × ℕ = ((scan (w ++ next)).0, suc (scan (w ++ next)).1) in r) (sym (chooses-space c e)) ∙ token-read p)) ∙ solid))
+  | inr e ↦ e
+]
+
+-- ---- characters
+
+pub scalars-parts : (u v : List ℕ) → scalars (u ++ v) ≡ true → (scalars u ≡ true) × (scalars v ≡ true)
+scalars-parts [] v e = (refl, e)
+scalars-parts (c ∷ u) v e = let parts = and_parts (scalar c) _ e in let more = scalars-parts u v parts.1 in (rw parts.0 more.0, more.1)
+
+pub scalars-join : (u v : List ℕ) → scalars u ≡ true → scalars v ≡ true → scalars (u ++ v) ≡ true
+scalars-join [] v e f = f
+scalars-join (c ∷ u) v e f = let parts = and_parts (scalar c) _ e in rw parts.0 (scalars-join u v parts.1 f)
+
+space-scalars : (u : List ℕ) → AreAll is_whitespace u → scalars u ≡ true
+space-scalars [] all = refl
+space-scalars (c ∷ u) all =
+    let parts = and_parts (is_whitespace c) _ all in
+    rw (among scalar (0x9 ∷ 0xA ∷ 0xB ∷ 0xC ∷ 0xD ∷ 0x20 ∷ 0x85 ∷ 0x200E ∷ 0x200F ∷ 0x2028 ∷ 0x2029 ∷ []) refl c parts.0) (space-scalars u parts.1)
+
+-- ---- what putting in order makes of a text
+
+-- by a way to put in order
+abbrev pub Order : Type 0
+Order = List ℕ → List Token → List ℕ
+
+pub record Tidies (order : Order) (allowed : FrontmatterAllowed) (cs : List ℕ) (tokens : List Token) : Type 0 where
+  pub out : List ℕ
+  pub outs : List Token
+  pub are : AreTokens allowed out outs
+  pub near : Near cs out
+  pub is : order (encode_utf8_all cs) tokens ≡ encode_utf8_all out
+  pub same : parts (encode_utf8_all out) outs ≡ parts (encode_utf8_all cs) tokens
+  pub again : order (encode_utf8_all out) outs ≡ encode_utf8_all out
+  pub count : length tokens ≡ length outs
+  pub size : bytes out ≤ bytes cs
+  pub good : scalars cs ≡ true → scalars out ≡ true
+
+-- white space in its place: what it becomes
+pub record Spaces (u : List ℕ) (tokens : List Token) (s t : List ℕ) : Type 0 where
+  pub first : ℕ
+  pub rest : List ℕ
+  pub all : AreAll is_whitespace (first ∷ rest)
+  pub near : Near (u ++ s) (first ∷ rest ++ t)
+  pub is : space_in_order (encode_utf8_all u) tokens ≡ encode_utf8_all (first ∷ rest)
+  pub again : (outs : List Token) → length tokens ≡ length outs → space_in_order (encode_utf8_all (first ∷ rest)) outs ≡ encode_utf8_all (first ∷ rest)
+  pub closed : opens (u ++ s) ≡ false → opens (first ∷ rest ++ t) ≡ false
+  pub size : bytes (first ∷ rest) ≤ bytes u
+
+newline-one : encode_utf8_all (10 ∷ []) ≡ codes "\n"
+unfolding encode_utf8
+newline-one = refl
+
+newline-again : (outs : List Token) → 0 ≡ length outs → space_in_order (encode_utf8_all (10 ∷ [])) outs ≡ encode_utf8_all (10 ∷ [])
+newline-again [] e = sym newline-one
+newline-again (t ∷ ts) e = absurd (omega (arith, e))
+
+newline-size : (c : ℕ) (w : List ℕ) → bytes (10 ∷ []) ≤ bytes (c ∷ w)
+newline-size c w = let le = length-le-encodes (c ∷ w) in let one = ap length newline-one in omega arith
+
+pub spaces : (c : ℕ) (w : List ℕ) (tokens : List Token) {s t : List ℕ} → AreAll is_whitespace (c ∷ w) → Stops is_whitespace s → Near s t → (length tokens ≡ 0 → s ≡ []) → Spaces (c ∷ w) tokens s t
+spaces c w [] {s} {t} all stop near none = record {
+  first = 10;
+  rest = [];
+  all = refl;
+  near = space (and_parts (is_whitespace c) _ all).0 refl (λ e. (refl, λ f. ap (begins (codes "'")) (near-empty near (none refl))));
+  is = sym newline-one;
+  again = newline-again;
+  closed = λ e. ap (λ (xs : List ℕ). opens (10 ∷ xs)) (near-empty near (none refl));
+  size = newline-size c w;
+}
+spaces c w (token ∷ tokens) {s} {t} all stop near none = by_first (order-first c w)
+  where
+    u : List ℕ
+    u = c ∷ w
+
+    by_first : HasFirst (in_order u) → Spaces u (token ∷ tokens) s t
+    by_first has = record {
+      first = has.first;
+      rest = has.rest;
+      all = all_space;
+      near = subst (λ (xs : List ℕ). Near (c ∷ w ++ s) (xs ++ t)) has.whole (order-near c w all near);
+      is = order-bytes u all ∙ ap encode_utf8_all has.whole;
+      again = twice;
+      closed = λ e. opens-space (has.first ∷ has.rest) t all_space stop_t ∙ (ap (λ (b : Bool). b && not (ends_line (has.first ∷ has.rest))) (sym (near-begins (dashes 3) refl near)) ∙ (ap (λ (b : Bool). begins (dashes 3) s && not b) (sym (ap ends_line has.whole) ∙ order-ends u) ∙ (sym (opens-space u s all stop) ∙ e)));
+      size = subst (λ (xs : List ℕ). bytes xs ≤ bytes u) has.whole (order-size u);
+    }
+      where
+        all_space : AreAll is_whitespace (has.first ∷ has.rest)
+        all_space = subst (AreAll is_whitespace) has.whole (order-all u all)
+
+        stop_t : Stops is_whitespace t
+        stop_t = sym (near-space near) ∙ stop
+
+        twice : (outs : List Token) → suc (length tokens) ≡ length outs → space_in_order (encode_utf8_all (has.first ∷ has.rest)) outs ≡ encode_utf8_all (has.first ∷ has.rest)
+        twice [] e = absurd (omega (arith, e))
+        twice (o ∷ os) e = order-bytes (has.first ∷ has.rest) all_space ∙ ap encode_utf8_all (ap in_order (sym has.whole) ∙ (order-again u ∙ has.whole))
+
+-- a token of white space more
+-- how an order treats a token, and by which it goes on
+abbrev pub Puts : Order → Order → TokenKind → List ℕ → Type 0
+Puts order more kind u = (left : List ℕ) (ts : List Token) → order (encode_utf8_all (u ++ left)) (record { kind = kind; len = bytes u } ∷ ts) ≡ (if is_space kind then space_in_order (encode_utf8_all u) ts else encode_utf8_all u) ++ more (encode_utf8_all left) ts
+
+pub space-step : (order left : Order) (allowed : FrontmatterAllowed) (c : ℕ) (w next : List ℕ) (tokens : List Token) → ((u : List ℕ) → Puts order left Whitespace u) → AreAll is_whitespace (c ∷ w) → Stops is_whitespace next → (allowed ≡ Yes → OpensNone (c ∷ w ++ next)) → (length tokens ≡ 0 → next ≡ [])
+    → Tidies left allowed next tokens → Tidies order allowed (c ∷ w ++ next) (record { kind = Whitespace; len = bytes (c ∷ w) } ∷ tokens)
+space-step order left allowed c w next tokens puts all stop free none more =
+    let sp = spaces c w tokens all stop more.near none in
+    record {
+      out = sp.first ∷ sp.rest ++ more.out;
+      outs = record { kind = Whitespace; len = bytes (sp.first ∷ sp.rest) } ∷ more.outs;
+      are = something (the.whitespace sp.all (sym (near-space more.near) ∙ stop)) (λ y. opens-none (sp.first ∷ sp.rest ++ more.out) (sp.closed (none-opens (c ∷ w ++ next) (free y)))) more.are;
+      near = sp.near;
+      is = puts (c ∷ w) next tokens ∙ (ap (λ (xs : List ℕ). xs ++ left (encode_utf8_all next) tokens) sp.is ∙ (ap (λ (xs : List ℕ). encode_utf8_all (sp.first ∷ sp.rest) ++ xs) more.is ∙ sym (encodes-append (sp.first ∷ sp.rest) more.out)));
+      same = parts-cons (sp.first ∷ sp.rest) more.out Whitespace more.outs ∙ (ap (λ (ps : List (TokenKind × List ℕ)). let p : TokenKind × List ℕ = (Whitespace, []) in p ∷ ps) more.same ∙ sym (parts-cons (c ∷ w) next Whitespace tokens));
+      again = puts (sp.first ∷ sp.rest) more.out more.outs ∙ (ap (λ (xs : List ℕ). xs ++ left (encode_utf8_all more.out) more.outs) (sp.again more.outs more.count) ∙ (ap (λ (xs : List ℕ). encode_utf8_all (sp.first ∷ sp.rest) ++ xs) more.again ∙ sym (encodes-append (sp.first ∷ sp.rest) more.out)));
+      count = ap suc more.count;
+      size = let a = sp.size in let b = more.size in let e = ap length (encodes-append (sp.first ∷ sp.rest) more.out) in let f = ap length (encodes-append (c ∷ w) next) in let g = length-append (encode_utf8_all (sp.first ∷ sp.rest)) (encode_utf8_all more.out) in let h = length-append (encode_utf8_all (c ∷ w)) (encode_utf8_all next) in omega arith;
+      good = λ e. scalars-join (sp.first ∷ sp.rest) more.out (space-scalars (sp.first ∷ sp.rest) sp.all) (more.good (scalars-parts (c ∷ w) next e).1);
+    }
+
+-- another token more
+pub solid-step : (order left : Order) (allowed : FrontmatterAllowed) (kind : TokenKind) (c : ℕ) (w next : List ℕ) (tokens : List Token) → Puts order left kind (c ∷ w) → IsTokenBefore next kind (c ∷ w) → (allowed ≡ Yes → OpensNone (c ∷ w ++ next))
+    → (more : Tidies left (allowed_past allowed kind) next tokens) → Stays more.out kind (c ∷ w) → Tidies order allowed (c ∷ w ++ next) (record { kind = kind; len = bytes (c ∷ w) } ∷ tokens)
+solid-step order left allowed kind c w next tokens puts p free more stays = record {
+  out = c ∷ w ++ more.out;
+  outs = record { kind = kind; len = bytes (c ∷ w) } ∷ more.outs;
+  are = something stays.token (λ y. opens-none (c ∷ w ++ more.out) (opens-solid c (w ++ more.out) first ∙ (ap (λ (b : Bool). b && true) (sym (near-begins (dashes 3) refl near)) ∙ (sym (opens-solid c (w ++ next) first) ∙ none-opens (c ∷ w ++ next) (free y))))) more.are;
+  near = near;
+  is = own next tokens ∙ (ap (λ (xs : List ℕ). encode_utf8_all (c ∷ w) ++ xs) more.is ∙ sym (encodes-append (c ∷ w) more.out));
+  same = parts-cons (c ∷ w) more.out kind more.outs ∙ (ap (λ (ps : List (TokenKind × List ℕ)). let q : TokenKind × List ℕ = (kind, if is_space kind then [] else encode_utf8_all (c ∷ w)) in q ∷ ps) more.same ∙ sym (parts-cons (c ∷ w) next kind tokens));
+  again = own more.out more.outs ∙ (ap (λ (xs : List ℕ). encode_utf8_all (c ∷ w) ++ xs) more.again ∙ sym (encodes-append (c ∷ w) more.out));
+  count = ap suc more.count;
+  size = let b = more.size in let e = ap length (encodes-append (c ∷ w) more.out) in let f = ap length (encodes-append (c ∷ w) next) in let g = length-append (encode_utf8_all (c ∷ w)) (encode_utf8_all more.out) in let h = length-append (encode_utf8_all (c ∷ w)) (encode_utf8_all next) in omega arith;
+  good = λ e. let both = scalars-parts (c ∷ w) next e in scalars-join (c ∷ w) more.out both.0 (more.good both.1);
+}
+  where
+    near : Near (c ∷ w ++ next) (c ∷ w ++ more.out)
+    near = near-append (c ∷ w) more.near
+
+    solid : is_space kind ≡ false
+    solid = not-true (is_space kind) (and_parts (not (is_space kind)) _ (stays.is_solid (omega arith))).0
+
+    first : is_whitespace c ≡ false
+    first = no-space p solid
+
+    own : (rest : List ℕ) (ts : List Token) → order (encode_utf8_all (c ∷ w ++ rest)) (record { kind = kind; len = bytes (c ∷ w) } ∷ ts) ≡ encode_utf8_all (c ∷ w) ++ left (encode_utf8_all rest) ts
+    own rest ts = puts rest ts ∙ ap (λ (b : Bool). (if b then space_in_order (encode_utf8_all (c ∷ w)) ts else encode_utf8_all (c ∷ w)) ++ left (encode_utf8_all rest) ts) solid
+
+-- none may stand past what none may stand before
+past-no : (kind : TokenKind) → allowed_past No kind ≡ No
+past-no Whitespace = refl
+past-no kind = refl
+
+-- with no frontmatter
+pub code-tidies : {allowed : FrontmatterAllowed} {cs : List ℕ} {tokens : List Token} → allowed ≡ No → AreTokens allowed cs tokens → Tidies code_in_order allowed cs tokens
+code-tidies is_no (nothing) = record { out = []; outs = []; are = nothing; near = ends; is = refl; same = refl; again = refl; count = refl; size = omega arith; good = λ e. e }
+code-tidies is_no (frontmatter_first body is_opening is_end rest) = absurd (cc)
+code-tidies is_no (something {allowed} {kind} {c} {w} {next} {tokens} p free rest) = by_token (code-tidies (ap (λ (a : FrontmatterAllowed). allowed_past a kind) is_no ∙ past-no kind) rest)
+  where
+    by_token : Tidies code_in_order (allowed_past allowed kind) next tokens → Tidies code_in_order allowed (c ∷ w ++ next) (record { kind = kind; len = bytes (c ∷ w) } ∷ tokens)
+    by_token more = elim (token-near more.near p) [
+      | inl run ↦ subst (λ (k : TokenKind). Tidies code_in_order allowed (c ∷ w ++ next) (record { kind = k; len = bytes (c ∷ w) } ∷ tokens)) (sym run.kind_is) (space-step code_in_order code_in_order allowed c w next tokens (λ u left ts. code-cons u left Whitespace ts) run.all run.stop free (none-left rest)
+          (subst (λ (k : TokenKind). Tidies code_in_order (allowed_past allowed k) next tokens) run.kind_is more))
+      | inr stays ↦ solid-step code_in_order code_in_order allowed kind c w next tokens (λ left ts. code-cons (c ∷ w) left kind ts) p free more stays
+    ]

@@ -1,0 +1,10 @@
+pub mod SourceLemmas
+pub mod NearLemmas
+pub mod OrderLemmas
+pub mod CodeLemmas
+pub mod LineLemmas
+pub mod CallLemmas
+pub mod LoopLemmas
+pub mod FirstLemmas
+pub mod DocumentLemmas
+pub mod ShebangLemmas

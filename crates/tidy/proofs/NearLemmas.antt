@@ -1,0 +1,328 @@
+-- Texts that differ in their white space alone begin with the same tokens.
+use Rattle.std.proofs.Common.{◌≡◌, ℕ, zero, suc, ◌+◌, ◌<◌, ◌≤◌, ◌==◌, ◌&&◌, ◌||◌, ◌⊎◌, inl, inr, not, Bool, true, false, true≢false, List, [], ◌∷◌, ◌++◌, length, length-append, take, drop, codes, refl, sym, ap, ◌∙◌, subst, arith}
+use Rattle.std.proofs.Math.Seq.{take-append_seam, drop-append_seam}
+use Rattle.std.proofs.lemmas.Bool.{and_parts, cases_Bool, eqb-true, not-true}
+use Rattle.std.specs.Char.{is_ascii_digit, is_ascii_hexdigit}
+use Rattle.std.specs.List.{list_all, list_any}
+use Rattle.unicode_ident.proofs.Computing.{unicode_ident}
+use Rattle.rustc_lexer.specs.declared.token.LiteralKind.{LiteralKind}
+use Rattle.rustc_lexer.specs.declared.token.TokenKind.{TokenKind}
+use Rattle.rustc_lexer.specs.declared.token.TokenKind.TheVariants.{Whitespace}
+use Rattle.rustc_lexer.specs.Classes.{is_among, is_whitespace, is_id_start, is_id_continue}
+use Rattle.rustc_lexer.specs.Emoji.{is_emoji, emoji_ranges}
+use Rattle.rustc_lexer.specs.Language as the
+use Rattle.rustc_lexer.specs.Language.{is_word, is_mark, begins_ident_past, openings, is_opening, IsDoubleQuoted, IsSingleQuoted, IsRaw, IsLiteralBefore, IsSuffixBefore, IsTokenBefore}
+use Rattle.rustc_lexer.specs.Spans.{AreAll, Stops, is_inline}
+use Rattle.rustc_lexer.specs.laws.LanguageRuns.{none-among}
+use Rattle.rustc_lexer.specs.NumberGrammar as num
+use Rattle.rustc_lexer.specs.NumberGrammar.{or_underscore, is_exponent_letter, is_sign, is_no_fraction, AreDigits, IsWhole, IsExponent, IsTailBefore, IsNumberBefore, NumberStands, IsLongestNumber}
+use Rattle.rustc_lexer.specs.Scan.{begins, next_is}
+use Rattle.rustc_lexer.specs.Symbols.{symbols, kind_among, symbol_kind}
+use Rattle.tidy.specs.Order.{is_space, is_front}
+
+-- two texts up to the first white space at which they differ: a newline stays one, and a quote comes no nearer to it
+pub data Near : List ℕ → List ℕ → Type 0 where
+  ends : Near [] []
+  space : {c d : ℕ} {s t : List ℕ} → is_whitespace c ≡ true → is_whitespace d ≡ true → ((c == 10) ≡ true → ((d == 10) ≡ true) × (begins (codes "'") s ≡ false → begins (codes "'") t ≡ false)) → Near (c ∷ s) (d ∷ t)
+  same : {c : ℕ} {s t : List ℕ} → Near s t → Near (c ∷ s) (c ∷ t)
+
+pub near-refl : (s : List ℕ) → Near s s
+near-refl [] = ends
+near-refl (c ∷ s) = same (near-refl s)
+
+pub near-append : (w : List ℕ) {s t : List ℕ} → Near s t → Near (w ++ s) (w ++ t)
+near-append [] near = near
+near-append (c ∷ w) near = same (near-append w near)
+
+pub near-empty : {s t : List ℕ} → Near s t → s ≡ [] → t ≡ []
+near-empty ends e = refl
+near-empty (space {c} {d} {s} {t} a b k) e = absurd (let n : suc (length s) ≡ 0 = ap length e in omega arith)
+near-empty (same {c} {s} {t} near) e = absurd (let n : suc (length s) ≡ 0 = ap length e in omega arith)
+
+-- ---- classes
+
+-- no white space is in the class
+abbrev pub IsSolid : (ℕ → Bool) → Type 0
+IsSolid p = (c : ℕ) → is_whitespace c ≡ true → p c ≡ false
+
+word-solid : IsSolid is_word
+unfolding unicode_ident is_emoji emoji_ranges
+word-solid c e = none-among is_word (0x9 ∷ 0xA ∷ 0xB ∷ 0xC ∷ 0xD ∷ 0x20 ∷ 0x85 ∷ 0x200E ∷ 0x200F ∷ 0x2028 ∷ 0x2029 ∷ []) refl c e
+
+start-solid : IsSolid is_id_start
+unfolding unicode_ident
+start-solid c e = none-among is_id_start (0x9 ∷ 0xA ∷ 0xB ∷ 0xC ∷ 0xD ∷ 0x20 ∷ 0x85 ∷ 0x200E ∷ 0x200F ∷ 0x2028 ∷ 0x2029 ∷ []) refl c e
+
+continue-solid : IsSolid is_id_continue
+unfolding unicode_ident
+continue-solid c e = none-among is_id_continue (0x9 ∷ 0xA ∷ 0xB ∷ 0xC ∷ 0xD ∷ 0x20 ∷ 0x85 ∷ 0x200E ∷ 0x200F ∷ 0x2028 ∷ 0x2029 ∷ []) refl c e
+
+fraction-solid : IsSolid is_no_fraction
+unfolding unicode_ident
+fraction-solid c e = none-among is_no_fraction (0x9 ∷ 0xA ∷ 0xB ∷ 0xC ∷ 0xD ∷ 0x20 ∷ 0x85 ∷ 0x200E ∷ 0x200F ∷ 0x2028 ∷ 0x2029 ∷ []) refl c e
+
+-- a class that computes
+by_list : (p : ℕ → Bool) → list_all (λ d. not (p d)) (0x9 ∷ 0xA ∷ 0xB ∷ 0xC ∷ 0xD ∷ 0x20 ∷ 0x85 ∷ 0x200E ∷ 0x200F ∷ 0x2028 ∷ 0x2029 ∷ []) ≡ true → IsSolid p
+by_list p all c e = none-among p (0x9 ∷ 0xA ∷ 0xB ∷ 0xC ∷ 0xD ∷ 0x20 ∷ 0x85 ∷ 0x200E ∷ 0x200F ∷ 0x2028 ∷ 0x2029 ∷ []) all c e
+
+-- ---- what comes next
+
+pub near-next : (p : ℕ → Bool) → IsSolid p → {s t : List ℕ} → Near s t → next_is p s ≡ next_is p t
+near-next p solid ends = refl
+near-next p solid (space {c} {d} a b k) = solid c a ∙ sym (solid d b)
+near-next p solid (same near) = refl
+
+pub near-space : {s t : List ℕ} → Near s t → next_is is_whitespace s ≡ next_is is_whitespace t
+near-space ends = refl
+near-space (space {c} {d} a b k) = a ∙ sym b
+near-space (same near) = refl
+
+-- nothing in these characters is white space
+abbrev pub is_plain : ℕ → Bool
+is_plain c = not (is_whitespace c)
+
+pub plain-other : (c d : ℕ) → is_plain c ≡ true → is_whitespace d ≡ true → (d == c) ≡ false
+plain-other c d plain blank = elim (cases_Bool (d == c)) [
+  | inl e ↦ absurd (true≢false (sym blank ∙ (ap is_whitespace (eqb-true d c e) ∙ not-true (is_whitespace c) plain)))
+  | inr e ↦ e
+]
+
+-- and what follows these characters
+pub near-then : (p : ℕ → Bool) → IsSolid p → (front : List ℕ) → AreAll is_plain front → {s t : List ℕ} → Near s t
+    → (begins front s && next_is p (drop (length front) s)) ≡ (begins front t && next_is p (drop (length front) t))
+near-then p solid [] all near = near-next p solid near
+near-then p solid (f ∷ front) all ends = refl
+near-then p solid (f ∷ front) all (space {c} {d} a b k) =
+    let plain = (and_parts (is_plain f) _ all).0 in
+    rw (plain-other f c plain a, plain-other f d plain b) refl
+near-then p solid (f ∷ front) all (same {c} near) = elim (cases_Bool (c == f)) [
+  | inl e ↦ rw e (near-then p solid front (and_parts (is_plain f) _ all).1 near)
+  | inr e ↦ rw e refl
+]
+
+pub near-begins : (front : List ℕ) → AreAll is_plain front → {s t : List ℕ} → Near s t → begins front s ≡ begins front t
+near-begins [] all near = refl
+near-begins (f ∷ front) all ends = refl
+near-begins (f ∷ front) all (space {c} {d} a b k) =
+    let plain = (and_parts (is_plain f) _ all).0 in
+    rw (plain-other f c plain a, plain-other f d plain b) refl
+near-begins (f ∷ front) all (same {c} near) = ap (λ (b : Bool). c == f && b) (near-begins front (and_parts (is_plain f) _ all).1 near)
+
+near-any : (fronts : List (List ℕ)) → list_all (λ front. list_all is_plain front) fronts ≡ true → {s t : List ℕ} → Near s t → list_any (λ front. begins front s) fronts ≡ list_any (λ front. begins front t) fronts
+near-any [] all near = refl
+near-any (front ∷ fronts) all {s} {t} near =
+    let parts = and_parts (list_all is_plain front) _ all in
+    ap (λ (b : Bool). b || list_any (λ front. begins front s) fronts) (near-begins front parts.0 near) ∙ ap (λ (b : Bool). begins front t || b) (near-any fronts parts.1 near)
+
+near-opening : {s t : List ℕ} → Near s t → is_opening s ≡ is_opening t
+near-opening {s} {t} near =
+    ap (λ (b : Bool). b || begins_ident_past (codes "k#") s) (near-any openings refl near) ∙ ap (λ (b : Bool). list_any (λ front. begins front t) openings || b) (near-then is_id_start start-solid (codes "k#") refl near)
+
+near-inline : {s t : List ℕ} → Near s t → Stops is_inline s → Stops is_inline t
+near-inline ends stop = refl
+near-inline (space {c} {d} a b k) stop = elim (cases_Bool (c == 10)) [
+  | inl e ↦ rw (k e).0 refl
+  | inr e ↦ absurd (true≢false (sym (ap not e) ∙ stop))
+]
+near-inline (same near) stop = stop
+
+near-newline : {s t : List ℕ} → Near s t → begins (codes "\n") s ≡ true → begins (codes "\n") t ≡ true
+near-newline ends e = e
+near-newline (space {c} {d} a b k) e = rw (k (and_parts (c == 10) true e).0).0 refl
+near-newline (same near) e = e
+
+near-lone : {s t : List ℕ} → Near s t → begins (codes "\n") s ≡ true → begins (codes "\n'") s ≡ false → begins (codes "\n'") t ≡ false
+near-lone ends e f = f
+near-lone (space {c} {d} {s} {t} a b k) e f =
+    let at = (and_parts (c == 10) true e).0 in
+    let kept = k at in
+    rw kept.0 (kept.1 (sym (ap (λ (x : Bool). x && begins (codes "'") s) at) ∙ f))
+near-lone (same {c} {s} {t} near) e f = ap (λ (b : Bool). c == 10 && b) (sym (near-begins (codes "'") refl near)) ∙ f
+
+-- ---- numbers
+
+digits-plain : (ds : List ℕ) → AreDigits is_ascii_digit ds → AreAll is_plain ds
+digits-plain [] all = refl
+digits-plain (d ∷ ds) all =
+    let parts = and_parts (or_underscore is_ascii_digit d) _ all in
+    rw (plain-of (or_underscore is_ascii_digit) (by_list (or_underscore is_ascii_digit) refl) d parts.0) (digits-plain ds parts.1)
+  where
+    plain-of : (p : ℕ → Bool) → IsSolid p → (c : ℕ) → p c ≡ true → is_whitespace c ≡ false
+    plain-of p solid c e = elim (cases_Bool (is_whitespace c)) [ inl f ↦ absurd (true≢false (sym e ∙ solid c f)) | inr f ↦ f ]
+
+pub solid-plain : (p : ℕ → Bool) → IsSolid p → (c : ℕ) → p c ≡ true → is_whitespace c ≡ false
+solid-plain p solid c e = elim (cases_Bool (is_whitespace c)) [ inl f ↦ absurd (true≢false (sym e ∙ solid c f)) | inr f ↦ f ]
+
+hexdigits-plain : (ds : List ℕ) → AreDigits is_ascii_hexdigit ds → AreAll is_plain ds
+hexdigits-plain [] all = refl
+hexdigits-plain (d ∷ ds) all =
+    let parts = and_parts (or_underscore is_ascii_hexdigit d) _ all in
+    rw (solid-plain (or_underscore is_ascii_hexdigit) (by_list (or_underscore is_ascii_hexdigit) refl) d parts.0) (hexdigits-plain ds parts.1)
+
+-- one character more
+one-plain : (p : ℕ → Bool) → IsSolid p → (c : ℕ) (w : List ℕ) → p c ≡ true → AreAll is_plain w → AreAll is_plain (c ∷ w)
+one-plain p solid c w e all = rw (solid-plain p solid c e) all
+
+append-plain : (v w : List ℕ) → AreAll is_plain v → AreAll is_plain w → AreAll is_plain (v ++ w)
+append-plain [] w a b = b
+append-plain (c ∷ v) w a b = let parts = and_parts (is_plain c) _ a in rw (parts.0) (append-plain v w parts.1 b)
+
+whole-plain : {base : _} {none : Bool} {w : List ℕ} → IsWhole base none w → AreAll is_plain w
+whole-plain (num.plain {d} {ds} e all) = one-plain is_ascii_digit (by_list is_ascii_digit refl) d ds e (digits-plain ds all)
+whole-plain (num.with_b {ds} all) = digits-plain ds all
+whole-plain (num.with_o {ds} all) = digits-plain ds all
+whole-plain (num.with_x {ds} all) = hexdigits-plain ds all
+
+exponent-plain : {base : _} {kind : LiteralKind} {w : List ℕ} → IsExponent base kind w → AreAll is_plain w
+exponent-plain (num.signed {base} {e} {g} {ds} letter sign all) = one-plain is_exponent_letter (by_list is_exponent_letter refl) e (g ∷ ds) letter (one-plain is_sign (by_list is_sign refl) g ds sign (digits-plain ds all))
+exponent-plain (num.unsigned {base} {e} {ds} letter all) = one-plain is_exponent_letter (by_list is_exponent_letter refl) e ds letter (digits-plain ds all)
+
+tail-plain : {next : List ℕ} {base : _} {kind : LiteralKind} {w : List ℕ} → IsTailBefore next base kind w → AreAll is_plain w
+tail-plain (num.nothing) = refl
+tail-plain (num.dot stop) = refl
+tail-plain (num.of_fraction {base} {d} {ds} e all) = one-plain is_ascii_digit (by_list is_ascii_digit refl) d ds e (digits-plain ds all)
+tail-plain (num.of_exponent other is) = exponent-plain is
+tail-plain (num.of_both {base} {kind} {d} {e} ds digit all is) = one-plain is_ascii_digit (by_list is_ascii_digit refl) d (ds ++ e) digit (append-plain ds e (digits-plain ds all) (exponent-plain is))
+
+number-plain : {next : List ℕ} {kind : LiteralKind} {w : List ℕ} → IsNumberBefore next kind w → AreAll is_plain w
+number-plain (num.of_prefix is) = whole-plain is
+number-plain (num.of_parts {base} {kind} {whole} {tail} is more) = append-plain whole tail (whole-plain is) (tail-plain more)
+
+tail-before : {s t : List ℕ} → next_is is_no_fraction s ≡ next_is is_no_fraction t → {base : _} {kind : LiteralKind} {w : List ℕ} → IsTailBefore s base kind w → IsTailBefore t base kind w
+tail-before e (num.nothing) = num.nothing
+tail-before e (num.dot stop) = num.dot (sym e ∙ stop)
+tail-before e (num.of_fraction d all) = num.of_fraction d all
+tail-before e (num.of_exponent other is) = num.of_exponent other is
+tail-before e (num.of_both ds d all is) = num.of_both ds d all is
+
+number-before : {s t : List ℕ} → next_is is_no_fraction s ≡ next_is is_no_fraction t → {kind : LiteralKind} {w : List ℕ} → IsNumberBefore s kind w → IsNumberBefore t kind w
+number-before e (num.of_prefix is) = num.of_prefix is
+number-before e (num.of_parts is more) = num.of_parts is (tail-before e more)
+
+-- the same front of both texts
+record SameFront (m : ℕ) (s t : List ℕ) : Type 0 where
+  inside : m ≤ length s
+  front : take m t ≡ take m s
+  left : Near (drop m s) (drop m t)
+
+same-front : (m : ℕ) {s t : List ℕ} → Near s t → m ≤ length t → AreAll is_plain (take m t) → SameFront m s t
+same-front zero near le all = record { inside = omega arith; front = refl; left = near }
+same-front (suc m) ends le all = absurd (omega arith)
+same-front (suc m) (space {c} {d} {s} {t} a b k) le all = absurd (true≢false (sym b ∙ not-true (is_whitespace d) (and_parts (is_plain d) _ all).0))
+same-front (suc m) (same {c} {s} {t} near) le all =
+    let more = same-front m near (omega arith) (and_parts (is_plain c) _ all).1 in
+    record { inside = let i = more.inside in omega arith; front = ap (λ (xs : List ℕ). c ∷ xs) more.front; left = more.left }
+
+stands-back : {s t : List ℕ} → Near s t → {kind : LiteralKind} {m : ℕ} → NumberStands kind m t → NumberStands kind m s
+stands-back {s} {t} near {kind} {m} at =
+    let same = same-front m near at.inside (number-plain at.is_number) in
+    record {
+      inside = same.inside;
+      is_number = subst (λ (xs : List ℕ). IsNumberBefore (drop m s) kind xs) same.front (number-before (sym (near-next is_no_fraction fraction-solid same.left)) at.is_number);
+    }
+
+near-number : {kind : LiteralKind} (w : List ℕ) {s t : List ℕ} → Near s t → IsLongestNumber kind (length w) (w ++ s) → IsLongestNumber kind (length w) (w ++ t)
+near-number {kind} w {s} {t} near is = record {
+  stands = record {
+    inside = let e : length (w ++ t) ≡ length w + length t = length-append w t in omega arith;
+    is_number =
+        subst (λ (xs : List ℕ). IsNumberBefore (drop (length w) (w ++ t)) kind xs) (sym (take-append_seam w t))
+        (subst (λ (xs : List ℕ). IsNumberBefore xs kind w) (sym (drop-append_seam w t))
+        (number-before (near-next is_no_fraction fraction-solid near)
+        (subst (λ (xs : List ℕ). IsNumberBefore xs kind w) (drop-append_seam w s)
+        (subst (λ (xs : List ℕ). IsNumberBefore (drop (length w) (w ++ s)) kind xs) (take-append_seam w s) is.stands.is_number))));
+  };
+  longest = λ other m at. is.longest other m (stands-back (near-append w near) at);
+  only = λ other at. is.only other (stands-back (near-append w near) at);
+}
+
+-- ---- tokens
+
+double-near : {s t : List ℕ} → Near s t → {b : Bool} {w : List ℕ} → IsDoubleQuoted s b w → IsDoubleQuoted t b w
+double-near near (the.closed q) = the.closed q
+double-near near (the.unclosed none q) = the.unclosed (near-empty near none) q
+double-near near (the.unclosed_escape none q) = the.unclosed_escape (near-empty near none) q
+
+single-near : {s t : List ℕ} → Near s t → {b : Bool} {w : List ℕ} → IsSingleQuoted s b w → IsSingleQuoted t b w
+single-near near (the.one e) = the.one e
+single-near near (the.closed {w} q e) = the.closed q (sym (near-begins (codes "''") refl (near-append w near)) ∙ e)
+single-near near (the.closed_line q) = the.closed_line q
+single-near near (the.at_slash {w} q e f) = the.at_slash q (sym (near-begins (codes "/") refl near) ∙ e) (sym (near-begins (codes "/'") refl (near-append w near)) ∙ f)
+single-near near (the.at_newline q e f) = the.at_newline q (near-newline near e) (near-lone near e f)
+single-near near (the.unclosed none q) = the.unclosed (near-empty near none) q
+single-near near (the.unclosed_escape none q) = the.unclosed_escape (near-empty near none) q
+
+raw-near : {s t : List ℕ} → Near s t → {n : _} {w : List ℕ} → IsRaw s n w → IsRaw t n w
+raw-near near (the.closed n w le q) = the.closed n w le q
+raw-near near (the.too_many n w le q) = the.too_many n w le q
+raw-near near (the.unclosed n w none q) = the.unclosed n w (near-empty near none) q
+raw-near near (the.no_quote n c e) = the.no_quote n c e
+raw-near near (the.no_more n none) = the.no_more n (near-empty near none)
+
+literal-near : {s t : List ℕ} → Near s t → {kind : LiteralKind} {b : Bool} {w : List ℕ} → IsLiteralBefore s kind b w → IsLiteralBefore t kind b w
+literal-near near (the.number {kind} {w} is) = the.number (near-number w near is)
+literal-near near (the.str q) = the.str (double-near near q)
+literal-near near (the.byte_str q) = the.byte_str (double-near near q)
+literal-near near (the.c_str q) = the.c_str (double-near near q)
+literal-near near (the.byte_char q) = the.byte_char (single-near near q)
+literal-near near (the.char_of_one e) = the.char_of_one e
+literal-near near (the.char q stop) = the.char (single-near near q) stop
+literal-near near (the.char_of_name w e all) = the.char_of_name w e all
+literal-near near (the.raw_str q free) = the.raw_str (raw-near near q) free
+literal-near near (the.raw_byte_str q) = the.raw_byte_str (raw-near near q)
+literal-near near (the.raw_c_str q) = the.raw_c_str (raw-near near q)
+
+suffix-near : {s t : List ℕ} → Near s t → {w : List ℕ} → IsSuffixBefore s w → IsSuffixBefore t w
+suffix-near near (the.none stop) = the.none (sym (near-next is_id_start start-solid near) ∙ stop)
+suffix-near near (the.some is stop) = the.some is (sym (near-next is_id_continue continue-solid near) ∙ stop)
+
+-- the kind of what is no white space and no frontmatter
+abbrev pub is_solid_kind : TokenKind → Bool
+is_solid_kind kind = not (is_space kind) && not (is_front kind)
+
+-- each symbol is of such a kind
+symbol-solid : (c : ℕ) → is_solid_kind (symbol_kind c) ≡ true
+symbol-solid c = by_table symbols refl
+  where
+    by_table : (ss : List (ℕ × TokenKind)) → list_all (λ s. is_solid_kind s.1) ss ≡ true → is_solid_kind (kind_among ss c) ≡ true
+    by_table [] all = refl
+    by_table (s ∷ ss) all =
+        let parts = and_parts (is_solid_kind s.1) _ all in
+        elim (cases_Bool (c == s.0)) [ inl e ↦ rw e parts.0 | inr e ↦ rw e (by_table ss parts.1) ]
+
+-- the token is white space up to what follows; or it is none, and is a token before the other text too
+pub record IsSpaceRun (next : List ℕ) (kind : TokenKind) (w : List ℕ) : Type 0 where
+  pub kind_is : kind ≡ Whitespace
+  pub all : AreAll is_whitespace w
+  pub stop : Stops is_whitespace next
+
+pub record Stays (next : List ℕ) (kind : TokenKind) (w : List ℕ) : Type 0 where
+  pub is_solid : 0 < length w → is_solid_kind kind ≡ true
+  pub token : IsTokenBefore next kind w
+
+pub token-near : {s t : List ℕ} → Near s t → {kind : TokenKind} {w : List ℕ} → IsTokenBefore s kind w → IsSpaceRun s kind w ⊎ Stays t kind w
+token-near near (the.end none) = inr record { is_solid = λ some. absurd (omega arith); token = the.end (near-empty near none) }
+token-near near (the.whitespace all stop) = inl record { kind_is = refl; all = all; stop = stop }
+token-near near (the.line_comment all stop is) = inr record { is_solid = λ some. refl; token = the.line_comment all (near-inline near stop) is }
+token-near near (the.block_comment p is) = inr record { is_solid = λ some. refl; token = the.block_comment p is }
+token-near near (the.open_comment none never is) = inr record { is_solid = λ some. refl; token = the.open_comment (near-empty near none) never is }
+token-near near (the.ident is stop none) = inr record { is_solid = λ some. refl; token = the.ident is (sym (near-next is_word word-solid near) ∙ stop) (sym (near-next is_mark (by_list is_mark refl) near) ∙ none) }
+token-near near (the.unknown_prefix {w} is goes free) = inr record { is_solid = λ some. refl; token = the.unknown_prefix is (sym (near-next is_mark (by_list is_mark refl) near) ∙ goes) (sym (near-opening (near-append w near)) ∙ free) }
+token-near near (the.invalid_ident start all wrong stop) = inr record { is_solid = λ some. refl; token = the.invalid_ident start all wrong (sym (near-next is_word word-solid near) ∙ stop) }
+token-near near (the.raw_ident is stop) = inr record { is_solid = λ some. refl; token = the.raw_ident is (sym (near-next is_id_continue continue-solid near) ∙ stop) }
+token-near near (the.forced_keyword is stop) = inr record { is_solid = λ some. refl; token = the.forced_keyword is (sym (near-next is_id_continue continue-solid near) ∙ stop) }
+token-near near (the.lifetime start all stop quote hash) = inr record {
+  is_solid = λ some. refl;
+  token = the.lifetime start all (sym (near-next is_word word-solid near) ∙ stop) (sym (near-next (is_among (codes "'")) (by_list (is_among (codes "'")) refl) near) ∙ quote) (λ goes. hash (near-next (is_among (codes "#")) (by_list (is_among (codes "#")) refl) near ∙ goes));
+}
+token-near near (the.unknown_prefix_lifetime {c} {w} start all hash free) = inr record {
+  is_solid = λ some. refl;
+  token = the.unknown_prefix_lifetime start all (sym (near-next (is_among (codes "#")) (by_list (is_among (codes "#")) refl) near) ∙ hash) (sym (near-then is_id_start start-solid (codes "r#") refl (near-append (c ∷ w) near)) ∙ free);
+}
+token-near near (the.raw_lifetime is stop) = inr record { is_solid = λ some. refl; token = the.raw_lifetime is (sym (near-next is_id_continue continue-solid near) ∙ stop) }
+token-near near (the.literal is) = inr record { is_solid = λ some. refl; token = the.literal (literal-near near is) }
+token-near near (the.literal_with {kind} {w} {suffix} is suffix_is) = inr record { is_solid = λ some. refl; token = the.literal_with (literal-near (near-append suffix near) is) (suffix-near near suffix_is) }
+token-near near (the.slash stop) = inr record { is_solid = λ some. refl; token = the.slash (sym (near-next (is_among (codes "/*")) (by_list (is_among (codes "/*")) refl) near) ∙ stop) }
+token-near near (the.pound stop) = inr record { is_solid = λ some. refl; token = the.pound (sym (near-next (is_among (codes "\"#")) (by_list (is_among (codes "\"#")) refl) near) ∙ stop) }
+token-near near (the.guarded is) = inr record { is_solid = λ some. refl; token = the.guarded is }
+token-near near (the.symbol {c} is) = inr record { is_solid = λ some. symbol-solid c; token = the.symbol is }

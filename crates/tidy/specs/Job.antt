@@ -1,0 +1,10 @@
+-- What the words after the program's name ask for.
+use Rattle.std.specs.Prelude.{ℕ, if◌then◌else◌, List, [], ◌∷◌, codes, Option, Some, None}
+use Rattle.std.specs.Str.{bytes_eq}
+use Rattle.tidy.specs.declared.job.Job.{Job}
+use Rattle.tidy.specs.declared.job.Job.TheVariants.{Write, Check, Help}
+
+abbrev pub job_of : List (List ℕ) → Option Job
+job_of [] = Some Write
+job_of (word ∷ []) = if bytes_eq word (codes "--check") then Some Check else (if bytes_eq word (codes "--help") then Some Help else None)
+job_of (word ∷ next ∷ words) = None

@@ -1,0 +1,61 @@
+//! A whole text in order.
+ghost use Rattle.std.specs.Prelude.{◌≡◌, ◌≤◌, IfOk, length, string_bytes};
+ghost use Rattle.std.specs.Str.{IsCharBoundary};
+ghost use Rattle.rustc_lexer.specs.Classes.{Fits};
+ghost use Rattle.tidy.specs.Order as spec;
+
+use crate::source::push_source;
+use rustc_lexer::strip_shebang;
+use std::alloc::{AllocError, Global};
+
+/// A text with its white space in order. Its shebang line and all tokens but white space stay, with their texts,
+/// and a text in order stays as it is.
+pub fn tidied(alloc: Global, text: &str) -> Result<String, AllocError>
+    requires fits { Fits text.now }
+    ensures text { IfOk result (λ out. string_bytes out ≡ spec.tidied text.now) }
+    ensures law { spec.IsSound text.now }
+{
+    let made = ordered(alloc, text)?;
+    if is_same_len(strip_shebang(made.as_str()), strip_shebang(text)) {
+        Ok(made)
+    } else {
+        String::from_str(alloc, text)
+    }
+}
+
+/// The shebang line, and what follows it in order.
+fn ordered(alloc: Global, text: &str) -> Result<String, AllocError>
+    requires fits { Fits text.now }
+    ensures text { IfOk result (λ out. string_bytes out ≡ spec.document_in_order text.now) }
+    ensures inside { spec.line_end text.now ≤ length text.now }
+    ensures boundary { IsCharBoundary text.now (spec.line_end text.now) }
+{
+    let end = line_len(text);
+    let mut made = String::from_str(alloc, &text[..end])?;
+    push_source(alloc, &text[end..], &mut made)?;
+    Ok(made)
+}
+
+/// The length of the shebang line, or 0.
+fn line_len(text: &str) -> usize
+    requires fits { Fits text.now }
+    ensures line { result ≡ spec.line_end text.now }
+    ensures inside { result ≤ length text.now }
+    ensures boundary { IsCharBoundary text.now result }
+{
+    match strip_shebang(text) {
+        Some(end) => end,
+        None => 0,
+    }
+}
+
+/// Whether both are none, or both the same.
+fn is_same_len(len: Option<usize>, other: Option<usize>) -> bool
+    ensures { result ≡ spec.is_same_len len other }
+{
+    match (len, other) {
+        (None, None) => true,
+        (Some(len), Some(other)) => len == other,
+        _ => false,
+    }
+}

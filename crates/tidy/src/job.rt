@@ -1,0 +1,26 @@
+//! What a run is to do.
+ghost use Rattle.std.specs.Prelude.{◌≡◌, map, string_bytes};
+ghost use Rattle.tidy.specs.Job.{job_of};
+
+/// What a run is to do.
+#[derive(Clone, Copy, Debug, PartialEq, Eq)]
+pub enum Job {
+    /// Write standard input in order.
+    Write,
+    /// Say whether it is in order.
+    Check,
+    /// Say what the program takes.
+    Help,
+}
+
+/// The job that the words after the program's name ask for, or `None` where they ask for none.
+pub fn read_job(words: &[String]) -> Option<Job>
+    ensures { result ≡ job_of (map string_bytes words.now) }
+{
+    match words {
+        [] => Some(Job::Write),
+        [word] if word.as_str() == "--check" => Some(Job::Check),
+        [word] if word.as_str() == "--help" => Some(Job::Help),
+        _ => None,
+    }
+}

@@ -1,0 +1,99 @@
+//! White space and tokens in order.
+ghost use Rattle.std.specs.Prelude.{◌≡◌, ◌<◌, ◌≤◌, ◌-◌, ◌++◌, OnOk, drop, length, false, true, string_bytes, if◌then◌else◌, codes};
+ghost use Rattle.rustc_lexer.specs.Classes.{Fits};
+ghost use Rattle.rustc_lexer.specs.Spans.{AreAll};
+ghost use Rattle.rustc_lexer.specs.Tokens.{tokens_of};
+ghost use Rattle.tidy.specs.Order as spec;
+
+use memchr::memchr;
+use rustc_lexer::{FrontmatterAllowed, TokenKind, tokenize};
+use std::alloc::AllocError;
+
+/// Appends the tokens of a text, with the white space in order.
+pub fn push_code(
+    text: &str,
+    allowed: FrontmatterAllowed,
+    output: &mut String,
+) -> Result<(), AllocError>
+    requires fits { Fits text.now }
+    ensures { OnOk result (string_bytes output.new
+        ≡ string_bytes output.old ++ spec.code_in_order text.now (tokens_of allowed text.now)) }
+{
+    let mut start = 0;
+    for token in tokenize(text, allowed) {
+        let end = start + token.len as usize;
+        push_part(token.kind, &text[start..end], end == text.len(), output)?;
+        start = end;
+    }
+    Ok(())
+}
+
+/// Appends a token, or, where it is white space, that in order.
+pub fn push_part(
+    kind: TokenKind,
+    part: &str,
+    is_last: bool,
+    output: &mut String,
+) -> Result<(), AllocError>
+    ensures { OnOk result (string_bytes output.new
+        ≡ string_bytes output.old ++ (if spec.is_space kind
+        then (if is_last then codes "\n" else spec.in_order part.now) else part.now)) }
+{
+    if !is_space(kind) {
+        return output.push_str(part);
+    }
+    if is_last {
+        return output.push_str("\n");
+    }
+    push_in_order(part, output)
+}
+
+/// Whether the token is white space.
+pub fn is_space(kind: TokenKind) -> bool
+    ensures { result ≡ spec.is_space kind }
+{
+    matches!(kind, TokenKind::Whitespace)
+}
+
+/// Appends white space in order: no blank before a newline, and no three newlines in a row.
+#[tactic(auto, using(crate::proofs::OrderLemmas::in_order_is))]
+fn push_in_order(space: &str, output: &mut String) -> Result<(), AllocError>
+    ensures ordered { spec.IsInOrder (spec.in_order space.now) }
+    ensures written { OnOk result (string_bytes output.new
+        ≡ string_bytes output.old ++ spec.in_order space.now) }
+{
+    let mut rest = space;
+    let mut newlines: usize = 0;
+    while let Some(at) = memchr(b'\n', rest.as_bytes()) {
+        let end = solid_end(rest.as_bytes(), at);
+        if 0 < end {
+            output.push_str(&rest[..end])?;
+            newlines = 0;
+        }
+        if newlines < 2 {
+            output.push('\n')?;
+            newlines += 1;
+        }
+        rest = &rest[at + 1..];
+    }
+    output.push_str(rest)
+}
+
+/// Where the blanks right before a place begin.
+fn solid_end(bytes: &[u8], place: usize) -> usize
+    requires inside { place ≤ length bytes.now }
+    ensures { spec.IsSolidEnd bytes.now place result }
+{
+    let mut end = place;
+    'blanks: while end > 0 && is_blank(bytes[end - 1]) {
+        end -= 1;
+    }
+    end
+}
+
+/// Space, tab and carriage return.
+fn is_blank(byte: u8) -> bool
+    ensures { result ≡ spec.is_blank byte }
+{
+    matches!(byte, b' ' | b'\t' | b'\r')
+}

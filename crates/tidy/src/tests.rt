@@ -1,0 +1,111 @@
+//! Texts in order, words, whole runs, and ends that fail.
+use crate::document::tidied;
+use crate::job::{Job, read_job};
+use crate::run::{check, run};
+use crate::stop::{Stop, status};
+use rustc_lexer::fits;
+use std::alloc::{AllocError, Global};
+use std::io;
+use std::io::{Error, ErrorKind, Write};
+use std::test::Fail;
+
+/// Whether this is the text in order.
+fn is_tidied(alloc: Global, text: &str, want: &str) -> bool {
+    fits(text) && tidied(alloc, text).is_ok_and(|made| made.as_str() == want)
+}
+
+#[test]
+fn texts(rt: HostRuntime) {
+    let rows = [
+        ("", ""),
+        ("fn", "fn"),
+        (" \t\n \n\n", "\n"),
+        ("fn  ", "fn\n"),
+        ("a \t\r\n\r\n\n\n    b\t c \n", "a\n\n    b\t c\n"),
+        ("a \r \n\r\r\nb", "a\n\nb"),
+        ("// a  \r\nb", "// a  \r\nb"),
+        ("/* \n\n\n\n */ \n", "/* \n\n\n\n */\n"),
+        ("\"a  \n\n\n\n\" \n;", "\"a  \n\n\n\n\"\n;"),
+        ("\"a  \n\n\n\n", "\"a  \n\n\n\n"),
+        ("r#\"  \n\"#  \n", "r#\"  \n\"#\n"),
+        ("r#  \n\n\n\na", "r# \n\na"),
+        ("'a \n\n\n\nb", "'a\n\nb"),
+        ("b'x  \n\n \n\ny", "b'x  \n\ny"),
+        ("b'\n \n'", "b'\n\n'"),
+        ("a\u{85} \n\u{2028}\n\n\n\nb", "a\u{85}\n\u{2028}\n\nb"),
+        (" \n\n\n---\na  \n--- \n\n\n\nb", "\n\n---\na  \n--- \n\nb"),
+        ("---\na\nuse \n\n\n\nb", "---\na\nuse \n\n\n\nb"),
+        ("#!/bin/sh \r\n\r\n\n\nfn \n", "#!/bin/sh \n\nfn\n"),
+        ("#!x\r\r\nfn \n", "#!x\r\r\nfn \n"),
+        ("#![a] \n\n\n\nfn", "#![a]\n\nfn"),
+    ];
+    for (text, want) in rows {
+        assert!(rt; is_tidied(rt.alloc(), text, want), "at {text:?}");
+    }
+}
+
+/// The job that the words ask for.
+fn job_of(alloc: Global, texts: &[&str]) -> Result<Option<Job>, AllocError> {
+    let mut words = Vec::new(alloc);
+    for text in texts {
+        words.push(String::from_str(alloc, text)?)?;
+    }
+    Ok(read_job(words.as_slice()))
+}
+
+#[test]
+fn words(rt: HostRuntime) -> Result<(), Fail> {
+    let alloc = rt.alloc();
+    assert_eq!(rt; job_of(alloc, &[])?, Some(Job::Write));
+    assert_eq!(rt; job_of(alloc, &["--check"])?, Some(Job::Check));
+    assert_eq!(rt; job_of(alloc, &["--help"])?, Some(Job::Help));
+    assert_eq!(rt; job_of(alloc, &["check"])?, None);
+    assert_eq!(rt; job_of(alloc, &["--check", "--check"])?, None);
+    Ok(())
+}
+
+#[test]
+fn runs(rt: HostRuntime) {
+    let mut input: &[u8] = b"fn \n";
+    let mut output = Vec::new(rt.alloc());
+    assert_eq!(rt; run(rt.alloc(), &mut input, &mut output), Ok(()));
+    assert_eq!(rt; output.as_slice(), b"fn\n".as_slice());
+    let rows: [(&[u8], Result<(), Stop>); 3] = [
+        (b"fn\n", Ok(())),
+        (b"fn \n", Err(Stop::Untidy)),
+        (b"fn\xff", Err(Stop::NotUtf8)),
+    ];
+    for (bytes, want) in rows {
+        let mut input = bytes;
+        assert_eq!(rt; check(rt.alloc(), &mut input), want);
+    }
+    assert_eq!(rt; status(&Stop::Untidy), 1);
+}
+
+/// Takes nothing, and fails with an error of this kind.
+#[derive(Drop)]
+struct FailingWriter(ErrorKind);
+
+impl Write for FailingWriter {
+    fn write(&mut self, _buf: &[u8]) -> io::Result<usize> {
+        Err(Error::from(self.0))
+    }
+
+    fn flush(&mut self) -> io::Result<()> {
+        Ok(())
+    }
+}
+
+#[test]
+fn writers_that_fail(rt: HostRuntime) {
+    let rows = [
+        (ErrorKind::BrokenPipe, Stop::ClosedPipe, 0),
+        (ErrorKind::Other, Stop::Write, 7),
+    ];
+    for (kind, stop, ends) in rows {
+        let mut input: &[u8] = b"fn";
+        let answer = run(rt.alloc(), &mut input, &mut FailingWriter(kind));
+        assert_eq!(rt; answer, Err(stop));
+        assert_eq!(rt; status(&stop), ends);
+    }
+}
