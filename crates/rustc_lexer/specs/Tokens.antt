@@ -4,7 +4,8 @@ use Rattle.rustc_lexer.specs.declared.token.FrontmatterAllowed.{FrontmatterAllow
 use Rattle.rustc_lexer.specs.declared.token.FrontmatterAllowed.TheVariants.{No}
 use Rattle.rustc_lexer.specs.declared.token.Token.{Token}
 pub use Rattle.rustc_lexer.specs.Cuts.{bound}
-use Rattle.rustc_lexer.specs.State.{State, token_at, allowed_after, advance}
+use Rattle.rustc_lexer.specs.State.{State, allowed_after}
+use Rattle.rustc_lexer.specs.means.Taking.{token_at, advance}
 
 -- the first `count` tokens of a text
 abbrev pub cut : FrontmatterAllowed → ℕ → List ℕ → List Token

@@ -3,8 +3,8 @@ ghost use Rattle.std.specs.Prelude.{◌≡◌, ◌+◌, ℕ, List, true, false, 
 ghost use Rattle.std.specs.Str.{chars};
 ghost use Rattle.rustc_lexer.specs.declared.token.TokenKind.{TokenKind};
 ghost use Rattle.rustc_lexer.specs.Classes;
-ghost use Rattle.rustc_lexer.specs.Ident as spec;
-ghost use Rattle.rustc_lexer.specs.Scan.{IsLocal, IsLocalAt, past, run_len, scanned};
+ghost use Rattle.rustc_lexer.specs.means.Ident as spec;
+ghost use Rattle.rustc_lexer.specs.means.Scan.{IsLocal, IsLocalAt, past, run_len, scanned};
 
 use crate::classes::emoji::is_emoji;
 use crate::classes::{is_id_continue, is_id_start};

@@ -1,9 +1,9 @@
 //! The commonest tokens, told by their bytes: identifiers, white space, hashes and symbols.
 ghost use Rattle.std.specs.Prelude.{◌≡◌, not, drop, IfSome};
 ghost use Rattle.rustc_lexer.specs.Classes.{Fits};
-ghost use Rattle.rustc_lexer.specs.Hash.{is_guarded_mark};
-ghost use Rattle.rustc_lexer.specs.Quick.{turns_word, is_space_lead, IsFirstToken};
-ghost use Rattle.rustc_lexer.specs.Scan;
+ghost use Rattle.rustc_lexer.specs.means.Hash.{is_guarded_mark};
+ghost use Rattle.rustc_lexer.specs.means.Quick.{turns_word, is_space_lead, IsFirstToken};
+ghost use Rattle.rustc_lexer.specs.means.Scan;
 
 use crate::kernels::{Continue, Space, run_end, short_run_end};
 use crate::lexemes::family::{Family, family_of_byte};

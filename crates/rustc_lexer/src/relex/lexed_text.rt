@@ -4,7 +4,7 @@ ghost use Rattle.rustc_lexer.specs.declared.token.FrontmatterAllowed.TheVariants
 ghost use Rattle.rustc_lexer.specs.Classes.{Fits};
 ghost use Rattle.rustc_lexer.specs.Cuts.{tokens_by};
 ghost use Rattle.rustc_lexer.specs.Edits.{IsEdit, IsInside, apply, bytes_or, relexed_of};
-ghost use Rattle.rustc_lexer.specs.Lexeme.{first_token};
+ghost use Rattle.rustc_lexer.specs.means.Lexeme.{first_token};
 ghost use Rattle.rustc_lexer.specs.Tokens.{tokens_of};
 
 use crate::edition::Edition;
