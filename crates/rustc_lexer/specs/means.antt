@@ -7,6 +7,7 @@ pub mod Frontmatter
 pub mod Guarded
 pub mod Hash
 pub mod Ident
+pub mod Landmarks
 pub mod Least
 pub mod Lexeme
 pub mod Lifetime
@@ -15,6 +16,7 @@ pub mod Number
 pub mod Quick
 pub mod Quoted
 pub mod Raw
+pub mod Relexing
 pub mod Scan
 pub mod Shebang
 pub mod Taking

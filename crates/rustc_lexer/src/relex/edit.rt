@@ -4,8 +4,9 @@ ghost use Rattle.rustc_lexer.specs.declared.token.Token.{Token};
 ghost use Rattle.rustc_lexer.specs.Classes.{Fits};
 ghost use Rattle.rustc_lexer.specs.Cuts.{tokens_by};
 ghost use Rattle.rustc_lexer.specs.Edits.{IsEdit, apply, bytes_or, relexed_of};
-ghost use Rattle.rustc_lexer.specs.Landmarks.{AreBounds, IsBound};
-ghost use Rattle.rustc_lexer.specs.Relexing.{IsChange, IsLexed, IsMadeOf, MayGoOn};
+ghost use Rattle.rustc_lexer.specs.means.Landmarks.{AreBounds};
+ghost use Rattle.rustc_lexer.specs.Relexing.{IsBound, IsChange, IsMadeOf, MayGoOn};
+ghost use Rattle.rustc_lexer.specs.means.Relexing.{IsLexed};
 
 use crate::entry::stepper::Stepper;
 use crate::relex::front::Bound;

@@ -34,7 +34,7 @@ impl<S: Stepper> Model for LexedText<S> {
     ghost use Rattle.std.specs.String.{string_bytes};
     ghost use Rattle.rustc_lexer.specs.Held.{Held};
     ghost use Rattle.rustc_lexer.specs.Cuts.{tokens_by};
-    ghost use Rattle.rustc_lexer.specs.Landmarks.{AreBounds};
+    ghost use Rattle.rustc_lexer.specs.means.Landmarks.{AreBounds};
     ghost use Rattle.rustc_lexer.specs.Texts.{IsText};
 
     ghost Value = { Held S };

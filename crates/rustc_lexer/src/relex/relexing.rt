@@ -5,8 +5,9 @@ ghost use Rattle.rustc_lexer.specs.declared.token.Token.{Token};
 ghost use Rattle.rustc_lexer.specs.Edits.{relexed_of};
 ghost use Rattle.rustc_lexer.specs.Classes.{Fits};
 ghost use Rattle.rustc_lexer.specs.Cuts.{tokens_by};
-ghost use Rattle.rustc_lexer.specs.Landmarks.{IsBound};
+ghost use Rattle.rustc_lexer.specs.Relexing.{IsBound};
 ghost use Rattle.rustc_lexer.specs.Relexing as spec;
+ghost use Rattle.rustc_lexer.specs.means.Relexing.{damage_of};
 ghost use Rattle.rustc_lexer.specs.Texts.{IsGrammar};
 
 use crate::entry::stepper::Stepper;
@@ -42,7 +43,7 @@ impl Change {
     fn damage(self) -> Damage
         requires old { self.start ≤ self.old_stop }
         requires new { self.start ≤ self.new_stop }
-        ensures { result ≡ spec.damage_of self }
+        ensures { result ≡ damage_of self }
     {
         Damage {
             past: self.new_stop,

@@ -6,7 +6,8 @@ use Rattle.rustc_lexer.specs.declared.token.Token.{Token}
 use Rattle.rustc_lexer.specs.Cuts.{bound, tokens_by}
 use Rattle.rustc_lexer.specs.Edits.{apply}
 use Rattle.rustc_lexer.specs.Texts.{IsText}
-use Rattle.rustc_lexer.specs.Landmarks.{AreBounds, IsBound}
+use Rattle.rustc_lexer.specs.means.Landmarks.{AreBounds}
+use Rattle.rustc_lexer.specs.Relexing.{IsBound}
 use Rattle.rustc_lexer.proofs.EditLemmas.{IfErr-always}
 use Rattle.rustc_lexer.proofs.LandmarkLemmas.{replaced_for, list_for, kept_stays}
 use Rattle.rustc_lexer.proofs.ReadyLemmas.{put_together}
