@@ -9,9 +9,10 @@ ghost use Rattle.rustc_lexer.specs.Tokens.{tokens_of};
 
 use crate::edition::Edition;
 use crate::entry::stepper::{Stepper, Steps};
-use crate::relex::edit::{Edited, Relexed, lex_edit};
+use crate::relex::edit::{Edited, lex_edit};
 use crate::relex::landmarks::Landmarks;
 use crate::relex::lex::lex_all;
+use crate::relex::relexing::Relexed;
 use crate::token::Token;
 use std::alloc::{AllocError, Global};
 use std::marker::Model;
