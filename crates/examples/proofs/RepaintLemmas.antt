@@ -151,7 +151,7 @@ module _ {first : List ℕ → Token} (law : IsGrammar first) (text : List ℕ) 
   kept_two : (kept ≤ length old) × (0 < kept → has_two text (bound old kept) start ≡ true)
   kept_two =
       let zero_is : (k : ℕ) → bound old k ≡ 0 + bound old k = λ k. omega arith in
-      let two = front-two text start 0 old is.utf8 (λ k few. subst (IsCharBoundary text) (zero_is k) (cuts law text is k few).1) in
+      let two = front-two text start 0 old is.utf8 (λ k few. subst (IsCharBoundary text) (zero_is k) (cuts law text is k few)) in
       (two.0, λ some. subst (λ p. has_two text p start ≡ true) (sym (zero_is kept)) (two.1 some))
 
   front_same : take kept new ≡ take kept old

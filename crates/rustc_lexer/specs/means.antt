@@ -13,6 +13,7 @@ pub mod Lexeme
 pub mod Lifetime
 pub mod Literal
 pub mod Number
+pub mod Pieces
 pub mod Quick
 pub mod Quoted
 pub mod Raw

@@ -5,14 +5,13 @@ use Rattle.rustc_lexer.specs.declared.relex.front.Damage.{Damage}
 use Rattle.rustc_lexer.specs.declared.relex.relexing.Change.{Change}
 use Rattle.rustc_lexer.specs.declared.relex.relexing.Relexing.{Relexing}
 use Rattle.rustc_lexer.specs.declared.token.Token.{Token}
-use Rattle.rustc_lexer.specs.Cuts.{tokens_by}
-use Rattle.rustc_lexer.specs.Edits.{AreCuts}
+use Rattle.rustc_lexer.specs.Cuts.{AreBoundaries, tokens_by}
 use Rattle.rustc_lexer.specs.Relexing.{HasLengths, Stands, added_by, known, removed_by}
 
 -- the old text, which may be cut at the bounds of the tokens, and the new one are the same up to `start`
 pub record IsFront (old : List ℕ) (tokens : List Token) (lengths text : List ℕ) (start : ℕ) : Type 0 where
   pub utf8 : IsUtf8 old
-  pub cuts : AreCuts old tokens
+  pub cuts : AreBoundaries old tokens
   pub lengths_are : HasLengths tokens lengths
   pub same : take start text ≡ take start old
 
