@@ -9,7 +9,7 @@ use Rattle.rustc_lexer.specs.declared.token.FrontmatterAllowed.TheVariants.{Yes}
 use Rattle.rustc_lexer.specs.declared.token.Token.{Token}
 use Rattle.rustc_lexer.specs.declared.token.TokenKind.{TokenKind}
 use Rattle.rustc_lexer.specs.Classes.{Fits}
-use Rattle.rustc_lexer.specs.Shebang.{shebang}
+use Rattle.rustc_lexer.specs.means.Shebang.{shebang}
 use Rattle.rustc_lexer.specs.Texts.{IsText}
 use Rattle.rustc_lexer.specs.Tokens.{bound, Partitions}
 use Rattle.rustc_lexer.proofs.EditionLemmas.{partitions-in}

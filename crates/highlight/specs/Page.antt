@@ -5,7 +5,7 @@ use Rattle.rustc_lexer.specs.declared.token.Token.{Token}
 use Rattle.rustc_lexer.specs.declared.token.TokenKind.{TokenKind}
 use Rattle.rustc_lexer.specs.declared.token.FrontmatterAllowed.TheVariants.{Yes}
 use Rattle.rustc_lexer.specs.Edition.{tokens_in}
-use Rattle.rustc_lexer.specs.Shebang.{shebang}
+use Rattle.rustc_lexer.specs.means.Shebang.{shebang}
 use Rattle.rustc_lexer.specs.Tokens.{tokens_of}
 use Rattle.highlight.specs.declared.class.Class.{Class}
 use Rattle.highlight.specs.declared.class.Class.TheVariants.{Comment}

@@ -9,7 +9,7 @@ use Rattle.rustc_lexer.specs.declared.relex.edit_list.Edit.{Edit as TextEdit}
 use Rattle.rustc_lexer.specs.declared.token.FrontmatterAllowed.TheVariants.{Yes}
 use Rattle.rustc_lexer.specs.EditLists.{applied}
 use Rattle.rustc_lexer.specs.Edition.{tokens_in}
-use Rattle.rustc_lexer.specs.Shebang.{shebang}
+use Rattle.rustc_lexer.specs.means.Shebang.{shebang}
 use Rattle.rustc_lexer.specs.Tokens.{tokens_of}
 use Rattle.lexdump.specs.declared.fault.Fault.{Fault}
 use Rattle.lexdump.specs.declared.fault.Fault.TheVariants.{NotUtf8, TooLong, EditRange, EditTooLong, Memory, Read, Write}

@@ -5,7 +5,7 @@ ghost use Rattle.lexdump.specs.Rest.{IsRest};
 ghost use Rattle.lexdump.specs.Outcome.{edited_from, listed, IsPrinted};
 ghost use Rattle.rustc_lexer.specs.Classes.{Fits};
 ghost use Rattle.rustc_lexer.specs.Edition.{tokens_in};
-ghost use Rattle.rustc_lexer.specs.Shebang.{shebang};
+ghost use Rattle.rustc_lexer.specs.means.Shebang.{shebang};
 ghost use Rattle.rustc_lexer.specs.Tokens.{tokens_of};
 
 use crate::fault::Fault;

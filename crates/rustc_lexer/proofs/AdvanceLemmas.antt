@@ -6,7 +6,8 @@ use Rattle.rustc_lexer.specs.declared.token.FrontmatterAllowed.{FrontmatterAllow
 use Rattle.rustc_lexer.specs.declared.token.Token.{Token}
 use Rattle.rustc_lexer.specs.declared.token.TokenKind.{TokenKind}
 use Rattle.rustc_lexer.specs.declared.token.TokenKind.TheVariants.{Eof, Literal}
-use Rattle.rustc_lexer.specs.State.{State, kind_past, token_at, token_past, advance}
+use Rattle.rustc_lexer.specs.State.{State, kind_past, token_past}
+use Rattle.rustc_lexer.specs.means.Taking.{token_at, advance}
 use Rattle.rustc_lexer.specs.Texts.{IsText}
 use Rattle.rustc_lexer.specs.Tokens.{tokens_of, tokens_left, StaysAtEnd, TakesPending}
 use Rattle.rustc_lexer.proofs.FrontmatterLemmas.{frontmatter-not_end, token_at-either}

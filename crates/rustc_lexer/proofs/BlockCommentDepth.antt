@@ -1,10 +1,10 @@
 -- The end of a block comment is found in one pass that counts depth.
 use Rattle.std.proofs.Common.{◌≡◌, ℕ, zero, suc, pred, ◌+◌, ◌≤◌, ◌==◌, ◌&&◌, Bool, true, false, if◌then◌else◌, List, [], ◌∷◌, length, drop, refl, sym, ap, ◌∙◌, arith, subst, length-drop, drop-drop, Option, Some, None}
 use Rattle.std.proofs.Math.Bool.{and-true}
-use Rattle.rustc_lexer.specs.Least.{more}
-use Rattle.rustc_lexer.specs.BlockComment.{at_closing, at_opening, followed_by, end_within, comment_end}
+use Rattle.rustc_lexer.specs.means.Least.{more}
+use Rattle.rustc_lexer.specs.means.BlockComment.{at_closing, at_opening, followed_by, end_within, comment_end}
 use Rattle.rustc_lexer.specs.laws.BlockGrammar.{mark}
-use Rattle.rustc_lexer.specs.Scan.{begins}
+use Rattle.rustc_lexer.specs.means.Scan.{begins}
 use Rattle.rustc_lexer.proofs.ScanLemmas.{more-more}
 
 -- how many characters are taken until the machine is done

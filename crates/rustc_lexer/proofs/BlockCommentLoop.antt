@@ -5,9 +5,9 @@ use Rattle.std.proofs.lemmas.Bool.{and_parts, or_cases, or_parts, eqb-true, eqb-
 use Rattle.rustc_lexer.specs.declared.token.DocStyle.{DocStyle}
 use Rattle.rustc_lexer.specs.declared.token.TokenKind.{TokenKind}
 use Rattle.rustc_lexer.specs.declared.token.TokenKind.TheVariants.{BlockComment}
-use Rattle.rustc_lexer.specs.Least.{more}
-use Rattle.rustc_lexer.specs.BlockComment.{block_doc_style, comment_end, block_comment, block_comment_to}
-use Rattle.rustc_lexer.specs.Scan.{begins, or_all, or_all_at, past, run_len, scanned}
+use Rattle.rustc_lexer.specs.means.Least.{more}
+use Rattle.rustc_lexer.specs.means.BlockComment.{block_doc_style, comment_end, block_comment, block_comment_to}
+use Rattle.rustc_lexer.specs.means.Scan.{begins, or_all, or_all_at, past, run_len, scanned}
 use Rattle.rustc_lexer.proofs.BlockCommentDepth.{until, until-done, until-go, until-none, is_done, next_depth, ends, comment_end-ends}
 use Rattle.rustc_lexer.proofs.PastLemmas.{past-zero, past-past, chars-past, IsUtf8-cut}
 use Rattle.rustc_lexer.proofs.QuotedLoop.{run_fails}

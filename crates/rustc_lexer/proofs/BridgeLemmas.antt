@@ -6,8 +6,8 @@ use Rattle.std.specs.Str.{chars, encode_utf8_all, IsUtf8, IsCharBoundary}
 use Rattle.std.proofs.lemmas.Bool.{lt-ltb, ltb-true}
 use Rattle.std.proofs.lemmas.Str.{chars-nil, chars_past_char, encodes-chars, IsUtf8-past_char, encode_ascii, IsCharBoundary-from_drop}
 use Rattle.std.proofs.lemmas.List.Sums.{prefix_len-le-length}
-use Rattle.rustc_lexer.specs.ByteRuns.{is_wide}
-use Rattle.rustc_lexer.specs.Scan.{past, next_is, run_len}
+use Rattle.rustc_lexer.specs.means.ByteRuns.{is_wide}
+use Rattle.rustc_lexer.specs.means.Scan.{past, next_is, run_len}
 
 -- a text that begins with a byte of ASCII
 module _ (b : ℕ) (bs : List ℕ) (is : IsUtf8 (b ∷ bs)) (small : b < 128) where

@@ -3,7 +3,7 @@ use Rattle.std.proofs.Common.{◌≡◌, ℕ, suc, ◌+◌, List, ◌∷◌, ◌
 use Rattle.std.specs.Char.{encode_utf8, len_utf8}
 use Rattle.std.specs.Str.{chars, encode_utf8_all, IsUtf8, IsCharBoundary}
 use Rattle.std.proofs.lemmas.Str.{chars_past_char, IsUtf8-past_char, length-encode, drop_past_char, IsCharBoundary-from_drop}
-use Rattle.rustc_lexer.specs.Scan.{bytes_of}
+use Rattle.rustc_lexer.specs.means.Scan.{bytes_of}
 
 -- the loop stands at `left`, with `end` bytes taken
 pub record Stands (text left : List ℕ) (end : ℕ) : Type 0 where

@@ -6,7 +6,7 @@ use Rattle.std.specs.Str.{chars, encode_utf8_all}
 use Rattle.std.proofs.lemmas.Str.{length-encode, len_utf8_bounds}
 use Rattle.std.proofs.lemmas.Bool.{ne_eqb}
 use Rattle.rustc_lexer.specs.Classes.{is_id_start, is_id_continue, is_ident}
-use Rattle.rustc_lexer.specs.Scan.{past, run_len}
+use Rattle.rustc_lexer.specs.means.Scan.{past, run_len}
 
 -- nothing is past the run of a class where all is in the class
 none_past : (p : ℕ → Bool) (cs : List ℕ) → (length (encode_utf8_all (drop (run_len p cs) cs)) == 0) ≡ list_all p cs

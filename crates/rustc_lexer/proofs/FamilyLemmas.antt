@@ -12,8 +12,8 @@ use Rattle.rustc_lexer.specs.declared.lexemes.family.Family.TheVariants.{Slash, 
 use Rattle.rustc_lexer.specs.declared.token.TokenKind.{TokenKind}
 use Rattle.rustc_lexer.specs.Classes.{is_id_start, is_whitespace}
 use Rattle.rustc_lexer.specs.Emoji.{is_emoji}
-use Rattle.rustc_lexer.specs.Lexeme.{family_of, past_first, read_by}
-use Rattle.rustc_lexer.specs.Scan.{scanned}
+use Rattle.rustc_lexer.specs.means.Lexeme.{family_of, past_first, read_by}
+use Rattle.rustc_lexer.specs.means.Scan.{scanned}
 use Rattle.rustc_lexer.proofs.ScanLemmas.{scanned-same}
 use Rattle.rustc_lexer.proofs.SpaceLemmas.{each}
 

@@ -7,11 +7,11 @@ use Rattle.std.proofs.lemmas.List.Folds.{list_all_at}
 use Rattle.std.specs.List.{list_all}
 use Rattle.rustc_lexer.specs.Classes.{is_horizontal_whitespace}
 use Rattle.memchr.specs.Find.{FindsNeedle, IsFirstByte, OccursAt, is_byte}
-use Rattle.rustc_lexer.specs.Comment.{is_no_newline}
-use Rattle.rustc_lexer.specs.Frontmatter.{dashes, first, first_alone, is_dash, is_newline, line_end, line_start, newline, places, places_from, stands_alone}
-use Rattle.rustc_lexer.specs.Least.{least, more, one_more}
-use Rattle.rustc_lexer.specs.Raw.{least_place}
-use Rattle.rustc_lexer.specs.Scan.{begins, run_len}
+use Rattle.rustc_lexer.specs.means.Comment.{is_no_newline}
+use Rattle.rustc_lexer.specs.means.Frontmatter.{dashes, first, first_alone, is_dash, is_newline, line_end, line_start, newline, places, places_from, stands_alone}
+use Rattle.rustc_lexer.specs.means.Least.{least, more, one_more}
+use Rattle.rustc_lexer.specs.means.Raw.{least_place}
+use Rattle.rustc_lexer.specs.means.Scan.{begins, run_len}
 use Rattle.rustc_lexer.proofs.RawLemmas.{more-zero, one_more-more, place-here, place-on}
 use Rattle.rustc_lexer.proofs.ScanLemmas.{more-more}
 

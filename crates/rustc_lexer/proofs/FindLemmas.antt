@@ -10,8 +10,8 @@ use Rattle.std.specs.List.{prefix_len}
 use Rattle.std.proofs.lemmas.List.{get_or-drop}
 use Rattle.std.proofs.lemmas.Str.{byte_from_char, inside_one, encodes-chars, IsCharBoundary-from_drop}
 use Rattle.memchr.specs.Find.{IsFirstByte, is_byte, is_byte2}
-use Rattle.rustc_lexer.specs.ByteRuns.{outside}
-use Rattle.rustc_lexer.specs.Scan.{past, run_len}
+use Rattle.rustc_lexer.specs.means.ByteRuns.{outside}
+use Rattle.rustc_lexer.specs.means.Scan.{past, run_len}
 use Rattle.rustc_lexer.proofs.BridgeLemmas.{past_run, past_run-in, past_run-out}
 use Rattle.rustc_lexer.proofs.KernelLemmas.{run_stops, run_short}
 use Rattle.rustc_lexer.proofs.PastLemmas.{IsUtf8-past}

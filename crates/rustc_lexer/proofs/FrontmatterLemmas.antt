@@ -12,14 +12,15 @@ use Rattle.rustc_lexer.specs.declared.token.FrontmatterAllowed.TheVariants.{Yes,
 use Rattle.rustc_lexer.specs.declared.token.Token.{Token}
 use Rattle.rustc_lexer.specs.declared.token.TokenKind.TheVariants.{Frontmatter, Eof}
 use Rattle.rustc_lexer.specs.Classes.{is_whitespace, is_id_start}
-use Rattle.rustc_lexer.specs.Comment.{is_no_newline}
-use Rattle.rustc_lexer.specs.Frontmatter.{closing_end, dashes, ends_line, fence_len, first, first_alone, first_some, frontmatter, full_fence, infostring_len, inner_attribute, inner_doc, is_dash, is_infostring, is_newline, label_len, line_end, lone_dashes, newline, opening_len, opens, past_newline, past_opening, past_place, places, places_from, recoveries, recovery, short_fence, spaces_len, stands_alone, then_len, use_item}
-use Rattle.rustc_lexer.specs.Least.{one_more}
-use Rattle.rustc_lexer.specs.Lexeme.{first_token}
+use Rattle.rustc_lexer.specs.means.Comment.{is_no_newline}
+use Rattle.rustc_lexer.specs.means.Frontmatter.{closing_end, dashes, ends_line, fence_len, first, first_alone, first_some, frontmatter, full_fence, infostring_len, inner_attribute, inner_doc, is_dash, is_infostring, is_newline, label_len, line_end, lone_dashes, newline, opening_len, opens, past_newline, past_opening, past_place, places, places_from, recoveries, recovery, short_fence, spaces_len, stands_alone, then_len, use_item}
+use Rattle.rustc_lexer.specs.means.Least.{one_more}
+use Rattle.rustc_lexer.specs.means.Lexeme.{first_token}
 use Rattle.rustc_lexer.proofs.RawLemmas.{place-here, place-on}
 use Rattle.rustc_lexer.specs.laws.Reach.{run_len_le}
-use Rattle.rustc_lexer.specs.Scan.{begins, bytes_of, next_is, past, run_len}
-use Rattle.rustc_lexer.specs.State.{HasSuffixWithin, token_at}
+use Rattle.rustc_lexer.specs.means.Scan.{begins, bytes_of, next_is, past, run_len}
+use Rattle.rustc_lexer.specs.State.{HasSuffixWithin}
+use Rattle.rustc_lexer.specs.means.Taking.{token_at}
 use Rattle.rustc_lexer.specs.TokenText.{HasText}
 use Rattle.rustc_lexer.proofs.CharSteps.{bytes_of-suc}
 use Rattle.rustc_lexer.proofs.FenceLemmas.{begins-enough, begins-few}

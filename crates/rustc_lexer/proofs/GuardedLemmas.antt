@@ -4,11 +4,11 @@ use Rattle.std.specs.Str.{chars, IsUtf8, IsCharBoundary}
 use Rattle.std.proofs.lemmas.Str.{IsCharBoundary-from_drop}
 use Rattle.rustc_lexer.specs.declared.token.FrontmatterAllowed.{FrontmatterAllowed}
 use Rattle.rustc_lexer.specs.declared.token.GuardedStr.{GuardedStr}
-use Rattle.rustc_lexer.specs.Guarded.{closing_len, guarded_body, string_past, guarded_by, guarded}
-use Rattle.rustc_lexer.specs.Literal.{suffix_len}
-use Rattle.rustc_lexer.specs.Quoted.{double_quoted_string}
-use Rattle.rustc_lexer.specs.Raw.{hashes, is_quote}
-use Rattle.rustc_lexer.specs.Scan.{begins, bytes_of, next_is, past, scanned}
+use Rattle.rustc_lexer.specs.means.Guarded.{closing_len, guarded_body, string_past, guarded_by, guarded}
+use Rattle.rustc_lexer.specs.means.Literal.{suffix_len}
+use Rattle.rustc_lexer.specs.means.Quoted.{double_quoted_string}
+use Rattle.rustc_lexer.specs.means.Raw.{hashes, is_quote}
+use Rattle.rustc_lexer.specs.means.Scan.{begins, bytes_of, next_is, past, scanned}
 use Rattle.rustc_lexer.specs.State.{State}
 use Rattle.rustc_lexer.proofs.PastLemmas.{past-past, past-drop, chars-past, IsUtf8-past, length-past}
 use Rattle.rustc_lexer.proofs.RawLemmas.{hash_bytes}

@@ -5,10 +5,10 @@ use Rattle.std.proofs.lemmas.Bool.{eqb-true, or_cases, ltb-true, ltb-false}
 use Rattle.std.proofs.lemmas.Str.{chars-nil, encode_ascii, encodes-chars}
 use Rattle.rustc_lexer.specs.declared.token.TokenKind.TheVariants.{GuardedStrPrefix, Pound}
 use Rattle.rustc_lexer.specs.declared.lexemes.family.Family.TheVariants.{Hash}
-use Rattle.rustc_lexer.specs.Hash.{is_guarded_mark, hash}
-use Rattle.rustc_lexer.specs.Lexeme.{family_of, past_first}
-use Rattle.rustc_lexer.specs.Quick.{IsFirstToken}
-use Rattle.rustc_lexer.specs.Scan.{after, gives, next_is, past, scanned}
+use Rattle.rustc_lexer.specs.means.Hash.{is_guarded_mark, hash}
+use Rattle.rustc_lexer.specs.means.Lexeme.{family_of, past_first}
+use Rattle.rustc_lexer.specs.means.Quick.{IsFirstToken}
+use Rattle.rustc_lexer.specs.means.Scan.{after, gives, next_is, past, scanned}
 use Rattle.rustc_lexer.proofs.BridgeLemmas.{chars-ascii}
 use Rattle.rustc_lexer.proofs.FamilyLemmas.{by_family}
 use Rattle.rustc_lexer.proofs.PastLemmas.{past-one}

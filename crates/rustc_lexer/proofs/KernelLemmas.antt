@@ -6,7 +6,7 @@ use Rattle.std.proofs.lemmas.List.Folds.{prefix_len-append}
 use Rattle.std.proofs.lemmas.List.Sums.{prefix_len-le-length}
 use Rattle.std.proofs.lemmas.Bool.{cases_lt, eq-eqb, ne_eqb}
 use Rattle.std.specs.List.{prefix_len}
-use Rattle.rustc_lexer.specs.ByteRuns.{outside}
+use Rattle.rustc_lexer.specs.means.ByteRuns.{outside}
 use lib.Lanes.{chunk, mask_l}
 use lib.Count.{count_trailing_zeros}
 

@@ -6,15 +6,15 @@ use Rattle.std.proofs.lemmas.Bool.{cases_lt, eqb-true, or_from}
 use Rattle.std.specs.Str.{chars}
 use Rattle.rustc_lexer.specs.declared.token.GuardedStr.{GuardedStr}
 use Rattle.rustc_lexer.specs.Classes.{is_among}
-use Rattle.rustc_lexer.specs.Guarded as spec
-use Rattle.rustc_lexer.specs.Guarded.{closing_len, guarded_body, string_past, guarded_by}
+use Rattle.rustc_lexer.specs.means.Guarded as spec
+use Rattle.rustc_lexer.specs.means.Guarded.{closing_len, guarded_body, string_past, guarded_by}
 use Rattle.rustc_lexer.specs.Language.{guard, IsDoubleQuoted, IsSuffixBefore}
 use Rattle.rustc_lexer.specs.LanguageCalls as the
 use Rattle.rustc_lexer.specs.LanguageCalls.{IsGuardedBefore, TakesGuarded, TakesTheGuarded}
-use Rattle.rustc_lexer.specs.Literal.{suffix_len}
-use Rattle.rustc_lexer.specs.Quoted.{double_quoted_string}
-use Rattle.rustc_lexer.specs.Raw.{is_hash, is_quote, hashes}
-use Rattle.rustc_lexer.specs.Scan.{bytes_of, next_is}
+use Rattle.rustc_lexer.specs.means.Literal.{suffix_len}
+use Rattle.rustc_lexer.specs.means.Quoted.{double_quoted_string}
+use Rattle.rustc_lexer.specs.means.Raw.{is_hash, is_quote, hashes}
+use Rattle.rustc_lexer.specs.means.Scan.{bytes_of, next_is}
 use Rattle.rustc_lexer.specs.Spans.{Stops, bytes}
 use Rattle.rustc_lexer.specs.State.{State}
 use Rattle.rustc_lexer.specs.laws.LanguageLiterals.{suffix-sound, suffix-read}

@@ -16,9 +16,10 @@ use Rattle.rustc_lexer.specs.Edition.{year, token, has_marked_name, before_2021,
 use Rattle.rustc_lexer.specs.Emoji.{is_emoji}
 use Rattle.rustc_lexer.specs.Language as the
 use Rattle.rustc_lexer.specs.Language.{is_word, is_word_start, begins_ident_past, IsTokenBefore}
-use Rattle.rustc_lexer.specs.LanguageIn.{since, IsTokenIn, kept, pound, ident, lifetime, lifetime_r, AreTokensIn, nothing, something, AreTheTokensIn, IsPage}
-use Rattle.rustc_lexer.specs.Lexeme.{past_first, lexeme, first_token, symbols, kind_among, symbol_kind}
-use Rattle.rustc_lexer.specs.Scan.{bytes_of, next_is, run_len}
+use Rattle.rustc_lexer.specs.LanguageIn.{since, IsTokenIn, kept, pound, ident, lifetime, lifetime_r, AreTokensIn, nothing, something}
+use Rattle.rustc_lexer.specs.LanguageHolds.{AreTheTokensIn, IsPage}
+use Rattle.rustc_lexer.specs.means.Lexeme.{past_first, lexeme, first_token, symbols, kind_among, symbol_kind}
+use Rattle.rustc_lexer.specs.means.Scan.{bytes_of, next_is, run_len}
 use Rattle.rustc_lexer.specs.Spans.{AreAll, Goes, Stops, bytes}
 use Rattle.rustc_lexer.specs.Texts.{IsText, IsGrammar}
 use Rattle.rustc_lexer.specs.laws.Choice.{by_test}

@@ -10,18 +10,20 @@ use Rattle.rustc_lexer.specs.declared.token.Token.{Token}
 use Rattle.rustc_lexer.specs.declared.token.TokenKind.{TokenKind}
 use Rattle.rustc_lexer.specs.declared.token.TokenKind.TheVariants.{Whitespace, Frontmatter, Eof}
 use Rattle.rustc_lexer.specs.Classes.{is_among, is_whitespace}
-use Rattle.rustc_lexer.specs.Frontmatter.{is_newline, fence_len, opening_len, opens, closing_end, past_opening, frontmatter}
+use Rattle.rustc_lexer.specs.means.Frontmatter.{is_newline, fence_len, opening_len, opens, closing_end, past_opening, frontmatter}
 use Rattle.rustc_lexer.specs.laws.Language.{lexeme-sound, token-read}
 use Rattle.rustc_lexer.specs.laws.LanguageClosing.{ends-read, ends-are}
 use Rattle.rustc_lexer.specs.laws.LanguageFrontmatter.{fence-length, opening-read, Opened, opened, opens-none, none-opens}
 use Rattle.rustc_lexer.specs.laws.LanguageLiterals.{bytes-append}
 use Rattle.rustc_lexer.specs.laws.TokenBy.{scalars-take, scalars-drop}
 use Rattle.rustc_lexer.specs.FrontmatterGrammar.{fence, IsOpeningBefore, opening, EndsAt}
-use Rattle.rustc_lexer.specs.Language.{allowed_past, IsTokenBefore, AreTokens, nothing, something, frontmatter_first, AreTheTokens, IsTokenOf, TakesTokenOf}
+use Rattle.rustc_lexer.specs.Language.{allowed_past, IsTokenBefore, AreTokens, nothing, something, frontmatter_first, IsTokenOf}
+use Rattle.rustc_lexer.specs.LanguageHolds.{AreTheTokens, TakesTokenOf}
 use Rattle.rustc_lexer.specs.Spans.{bytes}
-use Rattle.rustc_lexer.specs.Lexeme.{past_first, lexeme, first_token}
-use Rattle.rustc_lexer.specs.Scan.{bytes_of, next_is, past}
-use Rattle.rustc_lexer.specs.State.{State, token_at, allowed_after, advance}
+use Rattle.rustc_lexer.specs.means.Lexeme.{past_first, lexeme, first_token}
+use Rattle.rustc_lexer.specs.means.Scan.{bytes_of, next_is, past}
+use Rattle.rustc_lexer.specs.State.{State, allowed_after}
+use Rattle.rustc_lexer.specs.means.Taking.{token_at, advance}
 use Rattle.rustc_lexer.specs.Texts.{IsText}
 use Rattle.rustc_lexer.specs.Tokens.{tokens_of}
 use Rattle.rustc_lexer.proofs.FrontmatterLemmas.{closing_end-boundary, closing_end-inside}

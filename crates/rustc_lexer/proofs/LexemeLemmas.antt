@@ -5,9 +5,9 @@ use Rattle.std.proofs.lemmas.Str.{IsCharBoundary-from_drop}
 use Rattle.rustc_lexer.specs.declared.token.Token.{Token}
 use Rattle.rustc_lexer.specs.declared.token.TokenKind.{TokenKind}
 use Rattle.rustc_lexer.specs.declared.token.TokenKind.TheVariants.{Eof}
-use Rattle.rustc_lexer.specs.Lexeme.{past_first, lexeme, first_token}
-use Rattle.rustc_lexer.specs.Quick.{IsFirstToken}
-use Rattle.rustc_lexer.specs.Scan.{bytes_of, past, scanned}
+use Rattle.rustc_lexer.specs.means.Lexeme.{past_first, lexeme, first_token}
+use Rattle.rustc_lexer.specs.means.Quick.{IsFirstToken}
+use Rattle.rustc_lexer.specs.means.Scan.{bytes_of, past, scanned}
 use Rattle.rustc_lexer.specs.State.{HasSuffixWithin}
 use Rattle.rustc_lexer.proofs.PastLemmas.{past-past, past-drop, IsUtf8-past, length-past}
 use Rattle.rustc_lexer.proofs.TextLemmas.{first_token-suffix}

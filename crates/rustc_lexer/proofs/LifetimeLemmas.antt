@@ -9,13 +9,13 @@ use Rattle.rustc_lexer.specs.declared.token.TokenKind.{TokenKind}
 use Rattle.rustc_lexer.specs.declared.token.TokenKind.TheVariants.{Literal, Lifetime, RawLifetime, UnknownPrefixLifetime}
 use Rattle.rustc_lexer.specs.Classes.{is_id_continue}
 use Rattle.rustc_lexer.specs.Emoji.{is_emoji}
-use Rattle.rustc_lexer.specs.Ident.{is_word, marks_ident}
-use Rattle.rustc_lexer.specs.Lifetime.{past_name, plain_lifetime, lifetime, is_character, lifetime_or_char}
+use Rattle.rustc_lexer.specs.means.Ident.{is_word, marks_ident}
+use Rattle.rustc_lexer.specs.means.Lifetime.{past_name, plain_lifetime, lifetime, is_character, lifetime_or_char}
 use Rattle.rustc_lexer.specs.laws.Lifetime.{name_of, quoted_name, raw, unquoted_name}
-use Rattle.rustc_lexer.specs.Literal.{literal}
-use Rattle.rustc_lexer.specs.Quoted.{char_body}
+use Rattle.rustc_lexer.specs.means.Literal.{literal}
+use Rattle.rustc_lexer.specs.means.Quoted.{char_body}
 use Rattle.rustc_lexer.specs.laws.Reach.{run_len_le}
-use Rattle.rustc_lexer.specs.Scan.{begins, bytes_of, past, run, run_len, scanned}
+use Rattle.rustc_lexer.specs.means.Scan.{begins, bytes_of, past, run, run_len, scanned}
 use Rattle.rustc_lexer.proofs.PastLemmas.{past-zero, past-past, chars-past, length-past, IsUtf8-past}
 use Rattle.rustc_lexer.proofs.IdentLemmas.{has_emoji, word_runs, word_all, word_more}
 use Rattle.rustc_lexer.proofs.ScanLemmas.{scanned-and_then, scanned-after, scanned-no, scanned-yes}

@@ -5,8 +5,8 @@ use Rattle.std.proofs.lemmas.Str.{encodes-append, length-encode, len_utf8_bounds
 use Rattle.rustc_lexer.specs.declared.token.TokenKind.{TokenKind}
 use Rattle.rustc_lexer.specs.declared.token.LiteralKind.{LiteralKind}
 use Rattle.rustc_lexer.specs.declared.token.TokenKind.TheVariants.{Literal}
-use Rattle.rustc_lexer.specs.Literal.{Body, suffix_len, suffixed, literal_past}
-use Rattle.rustc_lexer.specs.Scan.{bytes_of, past, scanned}
+use Rattle.rustc_lexer.specs.means.Literal.{Body, suffix_len, suffixed, literal_past}
+use Rattle.rustc_lexer.specs.means.Scan.{bytes_of, past, scanned}
 use Rattle.rustc_lexer.specs.State.{suffix_start_of}
 use Rattle.rustc_lexer.proofs.CharSteps.{bytes_of-suc}
 use Rattle.rustc_lexer.proofs.PastLemmas.{past-zero, past-past, chars-past, IsUtf8-past, length-past}

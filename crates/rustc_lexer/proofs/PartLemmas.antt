@@ -3,9 +3,9 @@ use Rattle.std.proofs.Common.{◌≡◌, ℕ, ◌<◌, ◌&&◌, ◌||◌, ◌==
 use Rattle.std.specs.Char.{is_ascii_alphanumeric, is_ascii_digit, is_ascii_hexdigit}
 use Rattle.std.proofs.lemmas.Bool.{agree_below_at, and_parts, ltb-true, lt-ltb}
 use Rattle.unicode_ident.proofs.IdentLemmas.{is_xid_continue-ascii}
-use Rattle.rustc_lexer.specs.ByteRuns.{is_continue_byte, is_space_byte, is_decimal_byte, is_hexadecimal_byte}
+use Rattle.rustc_lexer.specs.means.ByteRuns.{is_continue_byte, is_space_byte, is_decimal_byte, is_hexadecimal_byte}
 use Rattle.rustc_lexer.specs.Classes.{is_id_continue, is_whitespace}
-use Rattle.rustc_lexer.specs.Number.{or_underscore}
+use Rattle.rustc_lexer.specs.means.Number.{or_underscore}
 use Rattle.rustc_lexer.proofs.BridgeLemmas.{IsPart}
 
 small : (p : ℕ → Bool) (b : ℕ) → (nat_lt b 128 && p b) ≡ true → b < 128

@@ -9,14 +9,14 @@ use Rattle.std.proofs.lemmas.List.Sums.{prefix_len-le-length}
 use Rattle.unicode_ident.proofs.IdentLemmas.{is_xid_continue-ascii}
 use Rattle.rustc_lexer.specs.declared.token.TokenKind.{TokenKind}
 use Rattle.rustc_lexer.specs.declared.token.TokenKind.TheVariants.{Ident, UnknownPrefix, Whitespace}
-use Rattle.rustc_lexer.specs.ByteRuns.{is_continue_byte, is_space_byte, is_wide}
+use Rattle.rustc_lexer.specs.means.ByteRuns.{is_continue_byte, is_space_byte, is_wide}
 use Rattle.rustc_lexer.specs.Classes.{is_id_continue}
 use Rattle.rustc_lexer.specs.Emoji.{is_emoji}
-use Rattle.rustc_lexer.specs.Ident.{ident_or_unknown_prefix, is_prefix_mark, marks_ident}
+use Rattle.rustc_lexer.specs.means.Ident.{ident_or_unknown_prefix, is_prefix_mark, marks_ident}
 use Rattle.rustc_lexer.specs.laws.Choice.{by_arm}
-use Rattle.rustc_lexer.specs.Lexeme.{family_of, letters, word, symbol_kind, past_first, is_raw_mark, begins_raw}
-use Rattle.rustc_lexer.specs.Quick.{is_space_lead, turns_word, IsFirstToken}
-use Rattle.rustc_lexer.specs.Scan.{begins, next_is, past, run_len, scanned}
+use Rattle.rustc_lexer.specs.means.Lexeme.{family_of, letters, word, symbol_kind, past_first, is_raw_mark, begins_raw}
+use Rattle.rustc_lexer.specs.means.Quick.{is_space_lead, turns_word, IsFirstToken}
+use Rattle.rustc_lexer.specs.means.Scan.{begins, next_is, past, run_len, scanned}
 use Rattle.rustc_lexer.proofs.BridgeLemmas.{chars-ascii, IsUtf8-ascii, skips, stops_here}
 use Rattle.rustc_lexer.proofs.IdentLemmas.{ident_or_unknown_prefix-valid}
 use Rattle.rustc_lexer.proofs.LexemeLemmas.{made}

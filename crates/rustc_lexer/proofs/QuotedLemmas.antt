@@ -2,9 +2,9 @@
 use Rattle.std.proofs.Common.{◌≡◌, ℕ, ◌≤◌, Bool, List, length, sym, ap, ◌∙◌, arith}
 use Rattle.std.specs.Str.{IsUtf8}
 use Rattle.rustc_lexer.specs.declared.token.LiteralKind.{LiteralKind}
-use Rattle.rustc_lexer.specs.Literal.{Body}
-use Rattle.rustc_lexer.specs.Quoted.{quoted_body}
-use Rattle.rustc_lexer.specs.Scan.{after, past, scanned}
+use Rattle.rustc_lexer.specs.means.Literal.{Body}
+use Rattle.rustc_lexer.specs.means.Quoted.{quoted_body}
+use Rattle.rustc_lexer.specs.means.Scan.{after, past, scanned}
 use Rattle.rustc_lexer.proofs.PastLemmas.{length-past}
 use Rattle.rustc_lexer.proofs.ScanLemmas.{scanned-after}
 

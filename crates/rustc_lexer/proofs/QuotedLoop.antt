@@ -2,9 +2,9 @@
 use Rattle.std.proofs.Common.{◌≡◌, ◌≢◌, ℕ, suc, ◌+◌, ◌==◌, ◌&&◌, not, Bool, true, false, if◌then◌else◌, List, [], ◌∷◌, length, drop, refl, sym, ap, ◌∙◌, arith, ◌<◌, subst, eq-eqb, Option, Some, None, MatchOption, Bor}
 use Rattle.std.specs.Str.{chars, IsUtf8}
 use Rattle.std.proofs.lemmas.Bool.{ne_eqb}
-use Rattle.rustc_lexer.specs.Scan.{begins, past, run_len, scanned}
-use Rattle.rustc_lexer.specs.Least.{one_more}
-use Rattle.rustc_lexer.specs.Quoted.{is_backslash, stopped, quoted, at_single_stop, is_lone, single_quoted_string}
+use Rattle.rustc_lexer.specs.means.Scan.{begins, past, run_len, scanned}
+use Rattle.rustc_lexer.specs.means.Least.{one_more}
+use Rattle.rustc_lexer.specs.means.Quoted.{is_backslash, stopped, quoted, at_single_stop, is_lone, single_quoted_string}
 use Rattle.rustc_lexer.specs.laws.Seek.{seek, free_place-seek}
 use Rattle.rustc_lexer.proofs.ScanLemmas.{run_len-stop}
 use Rattle.rustc_lexer.proofs.PastLemmas.{past-zero, past-past, past-two, chars-past, IsUtf8-past}

@@ -6,9 +6,9 @@ use Rattle.std.proofs.lemmas.Bool.{eqb-true, eq-eqb, ne_eqb, le-leb, lt-leb, not
 use Rattle.std.proofs.lemmas.Str.{encode_ascii, IsCharBoundary-from_drop}
 use Rattle.rustc_lexer.specs.declared.token.RawStrError.{RawStrError}
 use Rattle.rustc_lexer.specs.declared.token.RawStrError.TheVariants.{NoTerminator}
-use Rattle.rustc_lexer.specs.Least.{one_more, more}
-use Rattle.rustc_lexer.specs.Raw.{least_place, is_hash, is_quote, is_no_quote, hashes, closes, close, quote_hashes, most_hashes, quote_with, quote_if, best_quote, quote_end, hash_count, raw_closed, raw_text}
-use Rattle.rustc_lexer.specs.Scan.{begins, bytes_of, past, run_len, scanned}
+use Rattle.rustc_lexer.specs.means.Least.{one_more, more}
+use Rattle.rustc_lexer.specs.means.Raw.{least_place, is_hash, is_quote, is_no_quote, hashes, closes, close, quote_hashes, most_hashes, quote_with, quote_if, best_quote, quote_end, hash_count, raw_closed, raw_text}
+use Rattle.rustc_lexer.specs.means.Scan.{begins, bytes_of, past, run_len, scanned}
 use Rattle.rustc_lexer.proofs.CharSteps.{bytes_of-suc}
 use Rattle.rustc_lexer.proofs.ScanLemmas.{run_len-stop, more-more}
 use Rattle.rustc_lexer.proofs.PastLemmas.{past-zero, past-past, past-drop, chars-past, IsUtf8-past, length-past}

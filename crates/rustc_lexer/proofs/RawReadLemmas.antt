@@ -8,9 +8,9 @@ use Rattle.rustc_lexer.specs.declared.token.LiteralKind.{LiteralKind}
 use Rattle.rustc_lexer.specs.declared.token.RawStrError.{RawStrError}
 use Rattle.rustc_lexer.specs.declared.token.RawStrError.TheVariants.{InvalidStarter}
 use Rattle.rustc_lexer.specs.declared.token.TokenKind.TheVariants.{Literal}
-use Rattle.rustc_lexer.specs.Literal.{suffix_len}
-use Rattle.rustc_lexer.specs.Raw.{is_quote, hashes, raw_text, past_starter, raw_starter, raw_read, raw_body, accepted, is_accepted, prefix_kind, prefix_len, raw_literal, checked, raw_check, is_r, StartsRaw}
-use Rattle.rustc_lexer.specs.Scan.{bytes_of, gives, next_is, past, scanned}
+use Rattle.rustc_lexer.specs.means.Literal.{suffix_len}
+use Rattle.rustc_lexer.specs.means.Raw.{is_quote, hashes, raw_text, past_starter, raw_starter, raw_read, raw_body, accepted, is_accepted, prefix_kind, prefix_len, raw_literal, checked, raw_check, is_r, StartsRaw}
+use Rattle.rustc_lexer.specs.means.Scan.{bytes_of, gives, next_is, past, scanned}
 use Rattle.rustc_lexer.proofs.PastLemmas.{past-zero, past-past, chars-past, IsUtf8-past, length-past}
 use Rattle.rustc_lexer.proofs.RawLemmas.{hash_len}
 use Rattle.rustc_lexer.proofs.ScanLemmas.{scanned-after, scanned-gives, scanned-shorter, scanned-read_as}

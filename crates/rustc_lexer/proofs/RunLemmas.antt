@@ -3,7 +3,7 @@ use Rattle.std.proofs.Common.{◌≡◌, ℕ, ◌+◌, Bool, true, false, List, 
 use Rattle.std.specs.Char.{encode_utf8, len_utf8}
 use Rattle.std.specs.Str.{chars, IsUtf8}
 use Rattle.std.proofs.lemmas.Str.{chars-nil}
-use Rattle.rustc_lexer.specs.Scan.{bytes_of, past, run_len}
+use Rattle.rustc_lexer.specs.means.Scan.{bytes_of, past, run_len}
 use Rattle.rustc_lexer.proofs.PastLemmas.{past-drop}
 use Rattle.rustc_lexer.proofs.CharSteps.{Stands, step, bytes_of-suc}
 

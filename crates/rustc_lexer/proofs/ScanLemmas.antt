@@ -1,10 +1,10 @@
 -- What scanners read of a text and leave of it.
 use Rattle.std.proofs.Common.{◌≡◌, ℕ, suc, ◌+◌, ◌≤◌, Bool, true, false, if◌then◌else◌, List, [], ◌∷◌, length, drop, refl, sym, ap, ◌∙◌, arith, Option, Some, None}
 use Rattle.std.specs.Str.{chars, IsUtf8}
-use Rattle.rustc_lexer.specs.Scan.{after, and_then, gives, next_is, past, read_as, run_len, scanned}
+use Rattle.rustc_lexer.specs.means.Scan.{after, and_then, gives, next_is, past, read_as, run_len, scanned}
 use Rattle.rustc_lexer.specs.Classes.{is_id_start, is_id_continue}
-use Rattle.rustc_lexer.specs.Least.{more}
-use Rattle.rustc_lexer.specs.Literal.{suffix_len}
+use Rattle.rustc_lexer.specs.means.Least.{more}
+use Rattle.rustc_lexer.specs.means.Literal.{suffix_len}
 use Rattle.rustc_lexer.proofs.PastLemmas.{past-zero, past-past, chars-past, length-past}
 
 module _ {A : Type 0} where

@@ -4,9 +4,9 @@ use Rattle.std.proofs.Math.Seq.{drop-cons}
 use Rattle.std.proofs.lemmas.Bool.{and_parts, cases_lt, eqb-true, eq-eqb, ne_eqb}
 use Rattle.std.proofs.lemmas.List.Sums.{prefix_len-le-length, prefix_len_passes, prefix_len_stops}
 use Rattle.rustc_lexer.specs.declared.token.FrontmatterAllowed.TheVariants.{No}
-use Rattle.rustc_lexer.specs.Comment.{is_no_newline}
-use Rattle.rustc_lexer.specs.Scan.{begins}
-use Rattle.rustc_lexer.specs.Shebang.{is_attribute, before_newline, line_len, shebang_past, shebang}
+use Rattle.rustc_lexer.specs.means.Comment.{is_no_newline}
+use Rattle.rustc_lexer.specs.means.Scan.{begins}
+use Rattle.rustc_lexer.specs.means.Shebang.{is_attribute, before_newline, line_len, shebang_past, shebang}
 use Rattle.rustc_lexer.specs.Tokens.{tokens_of}
 
 -- what begins with `#!`

@@ -6,10 +6,10 @@ use Rattle.std.specs.Str.{chars, encode_utf8_all, IsUtf8}
 use Rattle.std.proofs.lemmas.Bool.{and_parts, or_cases, eqb-true}
 use Rattle.std.proofs.lemmas.List.{get_or_append_left}
 use Rattle.std.proofs.lemmas.Str.{encodes-chars, length-encode, len_utf8_bounds}
-use Rattle.rustc_lexer.specs.ByteRuns.{is_space_byte}
+use Rattle.rustc_lexer.specs.means.ByteRuns.{is_space_byte}
 use Rattle.rustc_lexer.specs.Classes.{is_among, is_whitespace}
-use Rattle.rustc_lexer.specs.Quick.{is_space_lead}
-use Rattle.rustc_lexer.specs.Scan.{next_is, past, run_len}
+use Rattle.rustc_lexer.specs.means.Quick.{is_space_lead}
+use Rattle.rustc_lexer.specs.means.Scan.{next_is, past, run_len}
 use Rattle.rustc_lexer.proofs.BridgeLemmas.{Skips, left_there, ends_out, ends_none}
 use Rattle.rustc_lexer.proofs.PartLemmas.{space_part}
 

@@ -5,7 +5,8 @@ use Rattle.rustc_lexer.specs.declared.token.FrontmatterAllowed.{FrontmatterAllow
 use Rattle.rustc_lexer.specs.declared.token.Token.{Token}
 use Rattle.rustc_lexer.specs.declared.token.TokenKind.{TokenKind}
 use Rattle.rustc_lexer.specs.declared.token.TokenKind.TheVariants.{Eof, Literal}
-use Rattle.rustc_lexer.specs.State.{State, kind_past, token_at, token_past, allowed_after, advance_by, advance}
+use Rattle.rustc_lexer.specs.State.{State, kind_past, token_past, allowed_after}
+use Rattle.rustc_lexer.specs.means.Taking.{token_at, advance_by, advance}
 
 abbrev pub state : ℕ → List ℕ → FrontmatterAllowed → State
 state pending rest allowed = record { pending = pending; rest = rest; frontmatter_allowed = allowed }

@@ -6,7 +6,7 @@ use Rattle.std.specs.List.{list_all}
 use Rattle.rustc_lexer.specs.declared.token.TokenKind.{TokenKind}
 use Rattle.rustc_lexer.specs.declared.lexemes.symbol.TheConstants.{SYMBOLS}
 use Rattle.rustc_lexer.specs.declared.token.TokenKind.TheVariants.{Unknown}
-use Rattle.rustc_lexer.specs.Lexeme.{kind_among, symbol_kind, symbols}
+use Rattle.rustc_lexer.specs.means.Lexeme.{kind_among, symbol_kind, symbols}
 
 pub symbol_table : (c : ℕ) (none : TokenKind) → c < 128 → get_or SYMBOLS c none ≡ symbol_kind c
 symbol_table c none small = get_or-map-range_with_len symbol_kind 0 128 c c none small (omega arith)

@@ -18,22 +18,22 @@ use Rattle.rustc_lexer.specs.declared.token.RawStrError.{RawStrError}
 use Rattle.rustc_lexer.specs.declared.token.Token.{Token}
 use Rattle.rustc_lexer.specs.declared.token.TokenKind.{TokenKind}
 use Rattle.rustc_lexer.specs.declared.token.TokenKind.TheVariants.{Ident, RawIdent, InvalidIdent, UnknownPrefix, ForcedKeywordIdent, Literal, Lifetime, UnknownPrefixLifetime, Slash, Whitespace, GuardedStrPrefix, Pound, Eof}
-use Rattle.rustc_lexer.specs.BlockComment.{block_comment, block_comment_to, comment_end}
+use Rattle.rustc_lexer.specs.means.BlockComment.{block_comment, block_comment_to, comment_end}
 use Rattle.rustc_lexer.specs.Classes.{is_id_start, is_id_continue, is_ident}
-use Rattle.rustc_lexer.specs.Comment.{slash, line_comment}
-use Rattle.rustc_lexer.specs.Ident.{is_word, is_prefix_mark, ident_or_unknown_prefix, invalid_ident, marks_ident}
+use Rattle.rustc_lexer.specs.means.Comment.{slash, line_comment}
+use Rattle.rustc_lexer.specs.means.Ident.{is_word, is_prefix_mark, ident_or_unknown_prefix, invalid_ident, marks_ident}
 use Rattle.rustc_lexer.specs.laws.Choice.{by_test, EachArm, by_arm, at_char}
 use Rattle.rustc_lexer.specs.laws.Family.{EachFamily, each_family}
-use Rattle.rustc_lexer.specs.Lexeme.{whitespace, letter_r, letter_k, letter_b, letter_c, raw_or_ident, raw_past_or_ident, begins_raw, is_raw_mark, letters, word, symbols, kind_among, symbol_kind, symbol, past_first, lexeme, first_token}
-use Rattle.rustc_lexer.specs.Lifetime.{is_marked, plain_lifetime, is_character, lifetime_or_char, is_raw}
+use Rattle.rustc_lexer.specs.means.Lexeme.{whitespace, letter_r, letter_k, letter_b, letter_c, raw_or_ident, raw_past_or_ident, begins_raw, is_raw_mark, letters, word, symbols, kind_among, symbol_kind, symbol, past_first, lexeme, first_token}
+use Rattle.rustc_lexer.specs.means.Lifetime.{is_marked, plain_lifetime, is_character, lifetime_or_char, is_raw}
 use Rattle.rustc_lexer.specs.laws.Lifetime.{raw, quoted_name, unquoted_name}
-use Rattle.rustc_lexer.specs.Literal.{Body, literal}
-use Rattle.rustc_lexer.specs.Number.{Front, is_sign, is_exponent_letter, begins_fraction, or_underscore, past_sign, float_exponent, optional_exponent, fraction_digits, fraction, past_digits, front, number_kind, number_body, number}
-use Rattle.rustc_lexer.specs.Quoted.{str_body, byte_str_body, c_str_body, char_body, byte_body}
-use Rattle.rustc_lexer.specs.Raw.{accepted, is_accepted, is_r, prefix_kind, prefix_len, raw_body, raw_check, raw_literal, raw_read}
+use Rattle.rustc_lexer.specs.means.Literal.{Body, literal}
+use Rattle.rustc_lexer.specs.means.Number.{Front, is_sign, is_exponent_letter, begins_fraction, or_underscore, past_sign, float_exponent, optional_exponent, fraction_digits, fraction, past_digits, front, number_kind, number_body, number}
+use Rattle.rustc_lexer.specs.means.Quoted.{str_body, byte_str_body, c_str_body, char_body, byte_body}
+use Rattle.rustc_lexer.specs.means.Raw.{accepted, is_accepted, is_r, prefix_kind, prefix_len, raw_body, raw_check, raw_literal, raw_read}
 use Rattle.rustc_lexer.specs.laws.Raw.{raw_check_own}
 use Rattle.rustc_lexer.specs.laws.Reach.{run_all}
-use Rattle.rustc_lexer.specs.Scan.{after, begins, bytes_of, gives, next_is, past, run, run_len}
+use Rattle.rustc_lexer.specs.means.Scan.{after, begins, bytes_of, gives, next_is, past, run, run_len}
 use Rattle.rustc_lexer.specs.State.{suffix_start_of, HasSuffixWithin}
 use Rattle.rustc_lexer.specs.Texts.{IsText}
 use Rattle.rustc_lexer.specs.laws.TokenBy.{scalars-take}
@@ -44,7 +44,7 @@ use Rattle.rustc_lexer.proofs.FrontmatterLemmas.{frontmatter-text, frontmatter-s
 use Rattle.rustc_lexer.proofs.PastLemmas.{split_past}
 use Rattle.rustc_lexer.proofs.LiteralLemmas.{bytes-add, suffix_none, suffix_within, suffix-first}
 use Rattle.rustc_lexer.proofs.TokensLemmas.{by_tokens, tokens-nil, tokens-cons}
-use Rattle.rustc_lexer.specs.Hash.{is_guarded_mark, hash}
+use Rattle.rustc_lexer.specs.means.Hash.{is_guarded_mark, hash}
 use Rattle.rustc_lexer.specs.laws.Lookahead.{first_token_grammar}
 
 -- of what is read past the first character `c`: the suffix begins within the token, and its text is as the kind says

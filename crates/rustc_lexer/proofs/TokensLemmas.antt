@@ -9,15 +9,16 @@ use Rattle.std.proofs.lemmas.List.Elements.{All-nil, All-cons}
 use Rattle.rustc_lexer.specs.declared.token.FrontmatterAllowed.{FrontmatterAllowed}
 use Rattle.rustc_lexer.specs.declared.token.FrontmatterAllowed.TheVariants.{No}
 use Rattle.rustc_lexer.specs.declared.token.Token.{Token}
-use Rattle.rustc_lexer.specs.Frontmatter.{frontmatter}
+use Rattle.rustc_lexer.specs.means.Frontmatter.{frontmatter}
 use Rattle.rustc_lexer.specs.laws.Lookahead.{first_token_grammar}
-use Rattle.rustc_lexer.specs.State.{State, token_at, token_past, allowed_after, advance}
+use Rattle.rustc_lexer.specs.State.{State, token_past, allowed_after}
+use Rattle.rustc_lexer.specs.means.Taking.{token_at, advance}
 use Rattle.rustc_lexer.proofs.FrontmatterLemmas.{frontmatter-cut, token_at-either}
 use Rattle.rustc_lexer.proofs.StateLemmas.{past_token, advance-some, token_past-zero}
 use Rattle.rustc_lexer.specs.Texts.{IsText}
 use Rattle.rustc_lexer.specs.laws.Cuts.{tokens-by}
 use Rattle.rustc_lexer.specs.Cuts.{tokens_by}
-use Rattle.rustc_lexer.specs.Lexeme.{first_token}
+use Rattle.rustc_lexer.specs.means.Lexeme.{first_token}
 use Rattle.rustc_lexer.proofs.CutLemmas.{at_bound}
 use Rattle.rustc_lexer.specs.Tokens.{cut, tokens_of, tokens_left, bound, Partitions, TakesToken}
 

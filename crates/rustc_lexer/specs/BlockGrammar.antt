@@ -1,7 +1,7 @@
 -- A block comment as a relation: one rule for each form.
 use Rattle.std.specs.Prelude.{◌≡◌, ℕ, ◌+◌, false, List, ◌∷◌, drop, Some}
 use Rattle.std.specs.Str.{byte}
-use Rattle.rustc_lexer.specs.BlockComment.{at_closing, at_opening, comment_end}
+use Rattle.rustc_lexer.specs.means.BlockComment.{at_closing, at_opening, comment_end}
 
 -- what closes a comment, in so many characters: a closing mark; an opening mark, what closes the comment that it opens,
 -- and what closes this one after that; or a character that begins no mark, and what closes after it

@@ -2,8 +2,7 @@
 use Rattle.std.specs.Prelude.{◌≡◌, ◌+◌, ◌<◌, ◌≤◌, ◌||◌, ℕ, zero, suc, Bool, true, false, List, [], ◌∷◌, ◌++◌, length, take, drop, codes, Option, Some, None}
 use Rattle.std.specs.Str.{byte}
 use Rattle.rustc_lexer.specs.Classes.{is_among, is_whitespace, is_horizontal_whitespace, is_id_start, is_id_continue}
-use Rattle.rustc_lexer.specs.Scan.{begins}
-use Rattle.rustc_lexer.specs.Spans.{AreAll, Stops, is_inline}
+use Rattle.rustc_lexer.specs.Spans.{begins, AreAll, Stops, is_inline}
 
 -- ---- its opening
 

@@ -1,5 +1,5 @@
 -- The language of the tokens of Rust: which texts a token of each kind may have, and before what. One rule for each form.
-use Rattle.std.specs.Prelude.{◌≡◌, ◌+◌, ◌<◌, ◌≤◌, ◌↔◌, ℕ, zero, suc, ◌==◌, ◌||◌, ◌&&◌, not, Bool, true, false, List, [], ◌∷◌, ◌++◌, length, take, drop, codes, Option, Some, None}
+use Rattle.std.specs.Prelude.{◌≡◌, ◌+◌, ◌<◌, ◌≤◌, ℕ, zero, suc, ◌==◌, ◌||◌, ◌&&◌, not, Bool, true, false, List, [], ◌∷◌, ◌++◌, length, take, drop, codes, Option, Some, None}
 use Rattle.std.specs.Char.{is_ascii_digit}
 use Rattle.std.specs.List.{list_all, list_any}
 use Rattle.std.specs.Option.{is_some}
@@ -16,13 +16,9 @@ use Rattle.rustc_lexer.specs.declared.token.TokenKind.TheVariants.{LineComment, 
 use Rattle.rustc_lexer.specs.Classes.{is_among, is_whitespace, is_id_start, is_id_continue, is_ident}
 use Rattle.rustc_lexer.specs.Emoji.{is_emoji}
 use Rattle.rustc_lexer.specs.FrontmatterGrammar.{IsOpeningBefore, OpensNone, EndsAt}
-use Rattle.rustc_lexer.specs.Lexeme.{lexeme}
 use Rattle.rustc_lexer.specs.NumberGrammar.{IsLongestNumber}
-use Rattle.rustc_lexer.specs.Scan.{begins, next_is}
-use Rattle.rustc_lexer.specs.Spans.{AreAll, Goes, Stops, bytes, is_inline}
-use Rattle.rustc_lexer.specs.State.{State}
+use Rattle.rustc_lexer.specs.Spans.{begins, next_is, AreAll, Goes, Stops, bytes, is_inline}
 use Rattle.rustc_lexer.specs.Symbols.{symbol_kind}
-use Rattle.rustc_lexer.specs.Tokens.{tokens_of}
 
 -- ---- words
 
@@ -179,19 +175,11 @@ pub data IsTokenBefore (next : List ℕ) : TokenKind → List ℕ → Type 0 whe
   guarded : {c : ℕ} → is_among (codes "\"#") c ≡ true → IsTokenBefore next GuardedStrPrefix (byte "#" ∷ c ∷ [])
   symbol : {c : ℕ} → begins_more c ≡ false → IsTokenBefore next (symbol_kind c) (c ∷ [])
 
--- what is read at the front of a text is the token that the language has there, the only one
-abbrev pub IsLanguage : Type 0
-IsLanguage = (next w : List ℕ) (kind : TokenKind) → IsTokenBefore next kind w ↔ (lexeme (w ++ next) ≡ (kind, length w))
-
 -- ---- texts
 
 -- the token at the front of a text is a token of the language, where the rest of the text follows it
 abbrev pub IsTokenOf : List ℕ → Token → Type 0
 IsTokenOf text token = IsTokenBefore (chars (drop token.len text)) token.kind (chars (take token.len text))
-
--- so it is where a cursor has no bytes pending, and no frontmatter is allowed or none opens
-abbrev pub TakesTokenOf : State → Token → Type 0
-TakesTokenOf s token = s.pending ≡ 0 → (s.frontmatter_allowed ≡ Yes → OpensNone (chars s.rest)) → IsTokenOf s.rest token
 
 -- past white space a frontmatter may stand that might stand before it, and past nothing else
 abbrev pub allowed_past : FrontmatterAllowed → TokenKind → FrontmatterAllowed
@@ -206,7 +194,3 @@ pub data AreTokens : FrontmatterAllowed → List ℕ → List Token → Type 0 w
       → AreTokens (allowed_past allowed kind) next tokens → AreTokens allowed (c ∷ w ++ next) (record { kind = kind; len = bytes (c ∷ w) } ∷ tokens)
   frontmatter_first : {n : ℕ} {front next : List ℕ} {tokens : List Token} (body : List ℕ) → IsOpeningBefore (body ++ next) n front → EndsAt n (encode_utf8_all (body ++ next)) (bytes body) → AreTokens No next tokens
       → AreTokens Yes (front ++ (body ++ next)) (record { kind = Frontmatter (next_is is_whitespace front) (not (next_is (is_among (codes "\n")) (body ++ next))); len = bytes front + bytes body } ∷ tokens)
-
--- these tokens are those of the text, and no other list is
-abbrev pub AreTheTokens : FrontmatterAllowed → List ℕ → Type 0
-AreTheTokens allowed text = (tokens : List Token) → AreTokens allowed (chars text) tokens ↔ (tokens ≡ tokens_of allowed text)

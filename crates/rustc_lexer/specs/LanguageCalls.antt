@@ -1,5 +1,5 @@
 -- What the calls beside the tokens answer, in the words of the language.
-use Rattle.std.specs.Prelude.{◌≡◌, ◌+◌, ◌<◌, ◌≤◌, ◌↔◌, ℕ, suc, Bool, true, false, List, [], ◌∷◌, length, ◌++◌, drop, codes, Option, Some, None, Result, Ok, Err}
+use Rattle.std.specs.Prelude.{◌≡◌, ◌==◌, ◌+◌, ◌-◌, ◌<◌, ◌≤◌, ◌↔◌, ℕ, suc, Bool, true, false, List, [], ◌∷◌, length, ◌++◌, drop, codes, Option, Some, None, Result, Ok, Err}
 use Rattle.std.specs.Str.{byte, chars}
 use Rattle.rustc_lexer.specs.declared.token.GuardedStr.{GuardedStr}
 use Rattle.rustc_lexer.specs.declared.token.RawStrError.{RawStrError}
@@ -7,11 +7,18 @@ use Rattle.rustc_lexer.specs.declared.token.RawStrError.TheVariants.{InvalidStar
 use Rattle.rustc_lexer.specs.declared.token.TokenKind.TheVariants.{LineComment, BlockComment, Whitespace}
 use Rattle.rustc_lexer.specs.Classes.{is_among}
 use Rattle.rustc_lexer.specs.Language.{guard, Lacks, IsDoubleQuoted, IsSuffixBefore, IsTokenBefore}
-use Rattle.rustc_lexer.specs.Scan.{begins}
-use Rattle.rustc_lexer.specs.Spans.{AreAll, Stops, bytes, is_inline}
+use Rattle.rustc_lexer.specs.Spans.{begins, next_is, AreAll, Stops, bytes, is_inline}
 use Rattle.rustc_lexer.specs.State.{State}
 
 -- ---- why a raw string is refused
+
+abbrev pub is_r : ℕ → Bool
+is_r c = c == byte "r"
+
+-- character number p of the text, counted from 1, is `r`
+pub record StartsRaw (text : List ℕ) (p : ℕ) : Type 0 where
+  pub some : 0 < p
+  pub letter : next_is is_r (drop (p - 1) (chars text)) ≡ true
 
 -- the most hashes that stand behind a quote of this text, if one has any; and where the first quote with so many ends,
 -- past a front and p bytes

@@ -1,14 +1,13 @@
 -- The language of the tokens in each edition: the page of the newest, and what stands in the place of what an edition has not.
-use Rattle.std.specs.Prelude.{◌≡◌, ◌<◌, ◌≤◌, ◌↔◌, ℕ, ◌||◌, not, true, false, List, [], ◌∷◌, ◌++◌, codes}
+use Rattle.std.specs.Prelude.{◌≡◌, ◌<◌, ◌≤◌, ℕ, ◌||◌, not, true, false, List, [], ◌∷◌, ◌++◌, codes}
 use Rattle.std.specs.List.{list_all}
-use Rattle.std.specs.Str.{byte, chars}
+use Rattle.std.specs.Str.{byte}
 use Rattle.rustc_lexer.specs.declared.edition.Edition.{Edition}
-use Rattle.rustc_lexer.specs.declared.edition.Edition.TheVariants.{E2024}
 use Rattle.rustc_lexer.specs.declared.token.Token.{Token}
 use Rattle.rustc_lexer.specs.declared.token.TokenKind.{TokenKind}
 use Rattle.rustc_lexer.specs.declared.token.TokenKind.TheVariants.{Ident, UnknownPrefix, UnknownPrefixLifetime, RawLifetime, Lifetime, GuardedStrPrefix, Pound}
 use Rattle.rustc_lexer.specs.Classes.{is_id_continue}
-use Rattle.rustc_lexer.specs.Edition.{year, tokens_in}
+use Rattle.rustc_lexer.specs.Edition.{year}
 use Rattle.rustc_lexer.specs.Emoji.{is_emoji}
 use Rattle.rustc_lexer.specs.Language.{begins_ident_past, IsTokenBefore}
 use Rattle.rustc_lexer.specs.Spans.{bytes}
@@ -36,11 +35,3 @@ pub data IsTokenIn (edition : Edition) (next : List ℕ) : TokenKind → List �
 pub data AreTokensIn (edition : Edition) : List ℕ → List Token → Type 0 where
   nothing : AreTokensIn edition [] []
   something : {kind : TokenKind} {c : ℕ} {w next : List ℕ} {tokens : List Token} → IsTokenIn edition next kind (c ∷ w) → AreTokensIn edition next tokens → AreTokensIn edition (c ∷ w ++ next) (record { kind = kind; len = bytes (c ∷ w) } ∷ tokens)
-
--- these tokens are those of the text in the edition, and no other list is
-abbrev pub AreTheTokensIn : Edition → List ℕ → Type 0
-AreTheTokensIn edition text = (tokens : List Token) → AreTokensIn edition (chars text) tokens ↔ (tokens ≡ tokens_in edition text)
-
--- the newest edition has the tokens of the page
-abbrev pub IsPage : Edition → Type 0
-IsPage edition = edition ≡ E2024 → (next w : List ℕ) (kind : TokenKind) → IsTokenIn edition next kind w ↔ IsTokenBefore next kind w

@@ -8,8 +8,7 @@ use Rattle.rustc_lexer.specs.declared.token.Base.TheVariants.{Binary, Octal, Dec
 use Rattle.rustc_lexer.specs.declared.token.LiteralKind.{LiteralKind}
 use Rattle.rustc_lexer.specs.declared.token.LiteralKind.TheVariants.{Int, Float}
 use Rattle.rustc_lexer.specs.Classes.{is_id_start}
-use Rattle.rustc_lexer.specs.Number.{number_kind}
-use Rattle.rustc_lexer.specs.Scan.{next_is}
+use Rattle.rustc_lexer.specs.Spans.{next_is}
 
 -- a class with the underscore; what an exponent begins with, and its signs; and a dot right before one of the last is no part of
 -- a number, as in `1..2` and `1.max(2)`
@@ -70,7 +69,3 @@ pub record IsLongestNumber (kind : LiteralKind) (n : ℕ) (s : List ℕ) : Type 
   pub stands : NumberStands kind n s
   pub longest : (other : LiteralKind) (m : ℕ) → NumberStands other m s → m ≤ n
   pub only : (other : LiteralKind) → NumberStands other n s → other ≡ kind
-
--- the number that is read, up to its suffix, is the longest that stands at the front of the text
-abbrev pub AreLongest : Type 0
-AreLongest = (first : ℕ) (s : List ℕ) → is_ascii_digit first ≡ true → IsLongestNumber (number_kind first s).0 (1 + (number_kind first s).1) (first ∷ s)

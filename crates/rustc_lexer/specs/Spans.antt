@@ -1,8 +1,18 @@
 -- What stands in a text, and what follows it: the words of the grammars.
-use Rattle.std.specs.Prelude.{◌≡◌, ◌==◌, ℕ, not, Bool, true, false, List, length}
+use Rattle.std.specs.Prelude.{◌≡◌, ◌==◌, ◌&&◌, ℕ, not, Bool, true, false, List, [], ◌∷◌, length}
 use Rattle.std.specs.List.{list_all}
 use Rattle.std.specs.Str.{byte, encode_utf8_all}
-use Rattle.rustc_lexer.specs.Scan.{next_is}
+
+-- whether the text begins with these characters
+abbrev pub begins : List ℕ → List ℕ → Bool
+begins [] s = true
+begins (c ∷ cs) [] = false
+begins (c ∷ cs) (d ∷ s) = d == c && begins cs s
+
+-- whether the next character is in the class; the end of the text is in none
+abbrev pub next_is : (ℕ → Bool) → List ℕ → Bool
+next_is p [] = false
+next_is p (c ∷ s) = p c
 
 -- all characters are in the class
 abbrev pub AreAll : (ℕ → Bool) → List ℕ → Type 0

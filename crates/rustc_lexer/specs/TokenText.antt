@@ -8,8 +8,8 @@ use Rattle.rustc_lexer.specs.declared.token.Token.{Token}
 use Rattle.rustc_lexer.specs.declared.token.TokenKind.{TokenKind}
 use Rattle.rustc_lexer.specs.declared.token.TokenKind.TheVariants.{Ident, RawIdent, Literal, Eof}
 use Rattle.rustc_lexer.specs.Classes.{is_ident}
-use Rattle.rustc_lexer.specs.Raw.{StartsRaw, raw_check}
-use Rattle.rustc_lexer.specs.Scan.{begins}
+use Rattle.rustc_lexer.specs.means.Raw.{StartsRaw, raw_check}
+use Rattle.rustc_lexer.specs.Spans.{begins}
 
 -- a literal that is terminated, and not refused
 abbrev pub is_good : LiteralKind → Bool

@@ -2,8 +2,9 @@
 ghost use Rattle.std.specs.Prelude.{◌≡◌, ◌≢◌, ◌+◌, ◌^◌, ◌<◌, length, slice_index};
 ghost use Rattle.std.specs.Str.{chars};
 ghost use Rattle.rustc_lexer.specs.Classes.{Fits};
-ghost use Rattle.rustc_lexer.specs.Language.{TakesTokenOf};
-ghost use Rattle.rustc_lexer.specs.State.{advance, allowed_after, token_past, HasSuffixWithin};
+ghost use Rattle.rustc_lexer.specs.LanguageHolds.{TakesTokenOf};
+ghost use Rattle.rustc_lexer.specs.means.Taking.{advance};
+ghost use Rattle.rustc_lexer.specs.State.{allowed_after, token_past, HasSuffixWithin};
 ghost use Rattle.rustc_lexer.specs.Tokens.{StaysAtEnd, TakesPending};
 
 use crate::frontmatter::token_at;

@@ -7,9 +7,9 @@ ghost use Rattle.rustc_lexer.specs.declared.edition.Edition.TheVariants.{E2015, 
 ghost use Rattle.rustc_lexer.specs.declared.token.FrontmatterAllowed.TheVariants.{No};
 ghost use Rattle.rustc_lexer.specs.Classes.{Fits, is_id_continue};
 ghost use Rattle.rustc_lexer.specs.Edition as spec;
-ghost use Rattle.rustc_lexer.specs.Ident.{is_word};
-ghost use Rattle.rustc_lexer.specs.LanguageIn.{AreTheTokensIn, IsPage};
-ghost use Rattle.rustc_lexer.specs.Scan.{run_len};
+ghost use Rattle.rustc_lexer.specs.means.Ident.{is_word};
+ghost use Rattle.rustc_lexer.specs.LanguageHolds.{AreTheTokensIn, IsPage};
+ghost use Rattle.rustc_lexer.specs.means.Scan.{run_len};
 ghost use Rattle.rustc_lexer.specs.Settled.{AreLocal};
 ghost use Rattle.rustc_lexer.specs.Tokens.{tokens_of, Partitions};
 

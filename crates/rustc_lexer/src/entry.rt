@@ -2,7 +2,7 @@
 ghost use Rattle.std.specs.Prelude.{◌≡◌, ◌<◌, length, All};
 ghost use Rattle.std.specs.Iterator.{at_most};
 ghost use Rattle.rustc_lexer.specs.Classes.{Fits};
-ghost use Rattle.rustc_lexer.specs.Language.{AreTheTokens};
+ghost use Rattle.rustc_lexer.specs.LanguageHolds.{AreTheTokens};
 ghost use Rattle.rustc_lexer.specs.LanguageReach.{LooksNoFurther, NeedsTwo};
 ghost use Rattle.rustc_lexer.specs.State.{HasSuffixWithin};
 ghost use Rattle.rustc_lexer.specs.TokenText.{HaveTexts};

@@ -3,9 +3,9 @@ ghost use Rattle.std.specs.Prelude.{◌≡◌, ◌+◌, ◌-◌, ◌≤◌, ◌<
 ghost use Rattle.std.specs.Str.{chars, IsCharBoundary};
 ghost use Rattle.rustc_lexer.specs.declared.token.FrontmatterAllowed.TheVariants.{Yes};
 ghost use Rattle.rustc_lexer.specs.Classes.{Fits};
-ghost use Rattle.rustc_lexer.specs.Frontmatter as spec;
-ghost use Rattle.rustc_lexer.specs.Scan.{past, run_len};
-ghost use Rattle.rustc_lexer.specs.State as state;
+ghost use Rattle.rustc_lexer.specs.means.Frontmatter as spec;
+ghost use Rattle.rustc_lexer.specs.means.Scan.{past, run_len};
+ghost use Rattle.rustc_lexer.specs.means.Taking as state;
 ghost use Rattle.rustc_lexer.specs.State.{HasSuffixWithin};
 
 use crate::classes::{is_horizontal_whitespace, is_id_continue, is_id_start, is_whitespace};

@@ -2,10 +2,10 @@
 ghost use Rattle.std.specs.Prelude.{◌≡◌, ◌+◌, ◌<◌, ◌^◌, length};
 ghost use Rattle.rustc_lexer.specs.declared.token.TokenKind.{TokenKind};
 ghost use Rattle.rustc_lexer.specs.Classes.{Fits};
-ghost use Rattle.rustc_lexer.specs.Language.{IsLanguage};
-ghost use Rattle.rustc_lexer.specs.Lexeme as spec;
-ghost use Rattle.rustc_lexer.specs.Quick.{IsFirstToken};
-ghost use Rattle.rustc_lexer.specs.Scan.{IsLocal, scanned};
+ghost use Rattle.rustc_lexer.specs.LanguageHolds.{IsLanguage};
+ghost use Rattle.rustc_lexer.specs.means.Lexeme as spec;
+ghost use Rattle.rustc_lexer.specs.means.Quick.{IsFirstToken};
+ghost use Rattle.rustc_lexer.specs.means.Scan.{IsLocal, scanned};
 ghost use Rattle.rustc_lexer.specs.Texts.{IsGrammar};
 
 use crate::lexemes::comment::slash;
@@ -25,7 +25,7 @@ mod block_comment;
 mod comment;
 mod family;
 mod hash;
-mod ident;
+pub(crate) mod ident;
 mod lifetime;
 pub(crate) mod literal;
 mod number;

@@ -2,8 +2,8 @@
 ghost use Rattle.std.specs.Prelude.{◌≡◌, ◌<◌, ◌↔◌, length, IsTrue};
 ghost use Rattle.rustc_lexer.specs.Classes.{Fits};
 ghost use Rattle.rustc_lexer.specs.LanguageCalls.{IsTheRawAnswer};
-ghost use Rattle.rustc_lexer.specs.Raw as spec;
-ghost use Rattle.rustc_lexer.specs.Scan.{past};
+ghost use Rattle.rustc_lexer.specs.means.Raw as spec;
+ghost use Rattle.rustc_lexer.specs.means.Scan.{past};
 
 use crate::lexemes::raw::raw_double_quoted_string;
 use crate::scan::{first, split_first};

@@ -3,17 +3,16 @@ ghost use Rattle.std.specs.Prelude.{◌≡◌, ◌<◌, ◌≤◌, ℕ, ◌∷�
 ghost use Rattle.std.specs.Char.{is_ascii_digit, is_ascii_hexdigit};
 ghost use Rattle.std.specs.Str.{chars};
 ghost use Rattle.memchr.specs.Find.{is_byte, is_byte2};
-ghost use Rattle.rustc_lexer.specs.ByteRuns.{is_continue_byte, is_wide};
+ghost use Rattle.rustc_lexer.specs.means.ByteRuns.{is_continue_byte, is_wide};
 ghost use Rattle.rustc_lexer.specs.Classes;
-ghost use Rattle.rustc_lexer.specs.Number.{or_underscore};
-ghost use Rattle.rustc_lexer.specs.Scan;
-ghost use Rattle.rustc_lexer.specs.Scan.{begins, past, run_len};
+ghost use Rattle.rustc_lexer.specs.means.Number.{or_underscore};
+ghost use Rattle.rustc_lexer.specs.means.Scan;
+ghost use Rattle.rustc_lexer.specs.means.Scan.{begins, past, run_len};
 
 use crate::classes::is_whitespace;
 use crate::kernels::{
-    Continue, Decimal, Hexadecimal, Space, find, find_either, run_end, short_run_end,
+    Continue, Decimal, Hexadecimal, Space, ends_space, find, find_either, run_end, short_run_end,
 };
-use crate::lexemes::quick::ends_space;
 
 /// The first character, or U+0000 where the text ends.
 pub(crate) fn first(rest: &str) -> char

@@ -3,8 +3,8 @@ ghost use Rattle.std.specs.Prelude.{◌≡◌, ◌≤◌, IfSome, IsNone, codes,
 ghost use Rattle.std.specs.Str.{IsCharBoundary};
 ghost use Rattle.rustc_lexer.specs.Classes.{Fits};
 ghost use Rattle.rustc_lexer.specs.LanguageCalls.{IsTheShebang};
-ghost use Rattle.rustc_lexer.specs.Scan.{begins};
-ghost use Rattle.rustc_lexer.specs.Shebang as spec;
+ghost use Rattle.rustc_lexer.specs.means.Scan.{begins};
+ghost use Rattle.rustc_lexer.specs.means.Shebang as spec;
 ghost use Rattle.rustc_lexer.specs.Tokens.{tokens_of};
 
 use crate::entry::tokenize;

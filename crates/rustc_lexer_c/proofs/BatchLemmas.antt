@@ -7,7 +7,8 @@ use Rattle.rustc_lexer.specs.declared.token.Token.{Token}
 use Rattle.rustc_lexer.specs.declared.token.TokenKind.{TokenKind}
 use Rattle.rustc_lexer.specs.declared.token.TokenKind.TheVariants.{Literal}
 use Rattle.rustc_lexer.specs.declared.token.FrontmatterAllowed.TheVariants.{Yes, No}
-use Rattle.rustc_lexer.specs.State.{State, kind_past, allowed_after, advance_by, advance}
+use Rattle.rustc_lexer.specs.State.{State, kind_past, allowed_after}
+use Rattle.rustc_lexer.specs.means.Taking.{advance_by, advance}
 use Rattle.rustc_lexer_c.specs.declared.token.CToken.{CToken}
 use Rattle.rustc_lexer_c.specs.Batch.{allowed_of, allowed_number, state_past}
 use Rattle.rustc_lexer_c.specs.Numbers.{token_numbers}

@@ -3,7 +3,8 @@ use Rattle.std.specs.Prelude.{ℕ, zero, suc, ◌≡◌, List, ◌++◌, length,
 use Rattle.std.specs.Str.{IsCharBoundary}
 use Rattle.rustc_lexer.specs.declared.token.FrontmatterAllowed.{FrontmatterAllowed}
 use Rattle.rustc_lexer.specs.declared.token.FrontmatterAllowed.TheVariants.{Yes, No}
-use Rattle.rustc_lexer.specs.State.{State, advance}
+use Rattle.rustc_lexer.specs.State.{State}
+use Rattle.rustc_lexer.specs.means.Taking.{advance}
 use Rattle.rustc_lexer.specs.Tokens.{tokens_left}
 use Rattle.rustc_lexer_c.specs.declared.batch.CPlace.{CPlace}
 use Rattle.rustc_lexer_c.specs.declared.token.CToken.{CToken}

@@ -2,7 +2,7 @@
 ghost use Rattle.std.specs.Prelude.{◌≡◌, ◌≢◌};
 ghost use Rattle.rustc_lexer.specs.declared.token.FrontmatterAllowed.TheVariants.{No};
 ghost use Rattle.rustc_lexer.specs.Settled.{IsSettled, StaysUpTo};
-ghost use Rattle.rustc_lexer.specs.Shebang.{shebang};
+ghost use Rattle.rustc_lexer.specs.means.Shebang.{shebang};
 ghost use Rattle.rustc_lexer.specs.Tokens.{tokens_of};
 ghost use Rattle.rustc_lexer_c.specs.RawStr.{some_or_zero};
 ghost use Rattle.rustc_lexer_c.specs.Status.{IsTextStatus};

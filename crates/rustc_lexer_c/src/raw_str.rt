@@ -1,8 +1,8 @@
 //! Raw strings and guarded strings.
 ghost use Rattle.std.specs.Prelude.{◌≡◌, ◌≢◌, None};
 ghost use Rattle.rustc_lexer.specs.declared.token.FrontmatterAllowed.TheVariants.{No};
-ghost use Rattle.rustc_lexer.specs.Guarded.{guarded};
-ghost use Rattle.rustc_lexer.specs.Raw.{raw_check};
+ghost use Rattle.rustc_lexer.specs.means.Guarded.{guarded};
+ghost use Rattle.rustc_lexer.specs.means.Raw.{raw_check};
 ghost use Rattle.rustc_lexer_c.specs.RawStr as spec;
 ghost use Rattle.rustc_lexer_c.specs.Status.{IsRawStatus, IsTextStatus};
 

@@ -12,7 +12,7 @@ use Rattle.rustc_lexer.specs.declared.token.Token.{Token}
 use Rattle.rustc_lexer.specs.declared.token.TokenKind.{TokenKind}
 use Rattle.rustc_lexer.specs.declared.token.TokenKind.TheVariants.{Whitespace}
 use Rattle.rustc_lexer.specs.Classes.{is_whitespace}
-use Rattle.rustc_lexer.specs.Frontmatter.{dashes, ends_line, opens}
+use Rattle.rustc_lexer.specs.means.Frontmatter.{dashes, ends_line, opens}
 use Rattle.rustc_lexer.specs.FrontmatterGrammar.{OpensNone}
 use Rattle.rustc_lexer.specs.Language as the
 use Rattle.rustc_lexer.specs.Language.{allowed_past, IsTokenBefore, AreTokens, nothing, something, frontmatter_first}
@@ -21,7 +21,7 @@ use Rattle.rustc_lexer.specs.laws.Language.{token-read}
 use Rattle.rustc_lexer.specs.laws.LanguageFrontmatter.{opens-none, none-opens}
 use Rattle.rustc_lexer.specs.laws.LanguageRuns.{among, chooses-space, run_len-here}
 use Rattle.rustc_lexer.specs.laws.Reach.{run_len-out}
-use Rattle.rustc_lexer.specs.Scan.{begins}
+use Rattle.rustc_lexer.specs.means.Scan.{begins}
 use Rattle.tidy.specs.Order.{in_order, is_space, space_in_order, part_in_order, code_in_order, parts}
 use Rattle.tidy.proofs.NearLemmas.{Near, ends, space, near-append, near-begins, near-empty, near-space, Stays, token-near}
 use Rattle.tidy.proofs.OrderLemmas.{HasFirst, order-all, order-first, order-near, order-ends, order-again, order-bytes, order-size}

@@ -5,7 +5,8 @@ use Rattle.rustc_lexer.specs.declared.token.FrontmatterAllowed.TheVariants.{Yes,
 use Rattle.rustc_lexer.specs.declared.token.Token.{Token}
 use Rattle.rustc_lexer.specs.declared.token.TokenKind.{TokenKind}
 use Rattle.rustc_lexer.specs.declared.token.TokenKind.TheVariants.{Whitespace, Frontmatter}
-use Rattle.rustc_lexer.specs.State.{State, token_at, allowed_after}
+use Rattle.rustc_lexer.specs.State.{State, allowed_after}
+use Rattle.rustc_lexer.specs.means.Taking.{token_at}
 use Rattle.rustc_lexer.specs.Texts.{IsText}
 use Rattle.rustc_lexer.specs.Tokens.{tokens_of, tokens_left, TakesToken}
 use Rattle.rustc_lexer.proofs.TokensLemmas.{CutsOff, token_at-cuts, tokens-cons, tokens-nil}

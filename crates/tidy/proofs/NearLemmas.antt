@@ -16,7 +16,7 @@ use Rattle.rustc_lexer.specs.Spans.{AreAll, Stops, is_inline}
 use Rattle.rustc_lexer.specs.laws.LanguageRuns.{none-among}
 use Rattle.rustc_lexer.specs.NumberGrammar as num
 use Rattle.rustc_lexer.specs.NumberGrammar.{or_underscore, is_exponent_letter, is_sign, is_no_fraction, AreDigits, IsWhole, IsExponent, IsTailBefore, IsNumberBefore, NumberStands, IsLongestNumber}
-use Rattle.rustc_lexer.specs.Scan.{begins, next_is}
+use Rattle.rustc_lexer.specs.means.Scan.{begins, next_is}
 use Rattle.rustc_lexer.specs.Symbols.{symbols, kind_among, symbol_kind}
 use Rattle.tidy.specs.Order.{is_space, is_front}
 

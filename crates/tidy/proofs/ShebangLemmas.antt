@@ -15,8 +15,8 @@ use Rattle.rustc_lexer.specs.Language as the
 use Rattle.rustc_lexer.specs.Language.{begins_more, AreTokens, something}
 use Rattle.rustc_lexer.specs.Spans.{bytes}
 use Rattle.rustc_lexer.specs.laws.LanguageFrontmatter.{opens-none}
-use Rattle.rustc_lexer.specs.Scan.{begins}
-use Rattle.rustc_lexer.specs.Shebang.{is_passed, is_open_bracket, is_attribute, line_len, shebang_past, shebang}
+use Rattle.rustc_lexer.specs.means.Scan.{begins}
+use Rattle.rustc_lexer.specs.means.Shebang.{is_passed, is_open_bracket, is_attribute, line_len, shebang_past, shebang}
 use Rattle.rustc_lexer.specs.Texts.{IsText}
 use Rattle.rustc_lexer.specs.Tokens.{tokens_of}
 use Rattle.rustc_lexer.proofs.LanguageLemmas.{language}

@@ -15,8 +15,9 @@ use Rattle.rustc_lexer.specs.FrontmatterGrammar.{IsOpeningBefore, OpensNone, End
 use Rattle.rustc_lexer.specs.Language.{allowed_past, IsTokenBefore, AreTokens, nothing, something, frontmatter_first}
 use Rattle.rustc_lexer.specs.Spans.{Stops, bytes}
 use Rattle.rustc_lexer.specs.laws.LanguageLiterals.{bytes-append}
-use Rattle.rustc_lexer.specs.Scan.{next_is}
-use Rattle.rustc_lexer.specs.State.{token_at, allowed_after}
+use Rattle.rustc_lexer.specs.means.Scan.{next_is}
+use Rattle.rustc_lexer.specs.means.Taking.{token_at}
+use Rattle.rustc_lexer.specs.State.{allowed_after}
 use Rattle.rustc_lexer.specs.Texts.{IsText}
 use Rattle.rustc_lexer.specs.Tokens.{tokens_of}
 use Rattle.rustc_lexer.proofs.LanguageLemmas.{language}

@@ -1,10 +1,10 @@
 -- The end that the definition finds is the one that the rules allow.
 use Rattle.std.proofs.Common.{◌≡◌, ℕ, zero, suc, ◌+◌, ◌≤◌, ◌==◌, ◌&&◌, Bool, true, false, true≢false, List, [], ◌∷◌, length, drop, refl, sym, ap, ◌∙◌, arith, subst, length-drop, Option, Some, None}
 use Rattle.std.proofs.lemmas.Bool.{and_parts, eqb-true}
-use Rattle.rustc_lexer.specs.Least.{more}
-use Rattle.rustc_lexer.specs.BlockComment.{at_closing, at_opening, end_within, comment_end, followed_by}
+use Rattle.rustc_lexer.specs.means.Least.{more}
+use Rattle.rustc_lexer.specs.means.BlockComment.{at_closing, at_opening, end_within, comment_end, followed_by}
 use Rattle.rustc_lexer.specs.BlockGrammar.{Closes, at_mark, nested, past_one}
-use Rattle.rustc_lexer.specs.Scan.{begins}
+use Rattle.rustc_lexer.specs.means.Scan.{begins}
 
 -- the two characters that a text begins with
 pub record Mark (a b c : ℕ) (cs : List ℕ) : Type 0 where

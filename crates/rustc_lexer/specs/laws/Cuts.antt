@@ -6,7 +6,7 @@ use Rattle.rustc_lexer.specs.declared.token.Token.{Token}
 use Rattle.rustc_lexer.specs.declared.token.TokenKind.{TokenKind}
 use Rattle.rustc_lexer.specs.declared.token.TokenKind.TheVariants.{Whitespace, Eof}
 use Rattle.rustc_lexer.specs.Cuts.{cut_by, tokens_by}
-use Rattle.rustc_lexer.specs.Lexeme.{first_token}
+use Rattle.rustc_lexer.specs.means.Lexeme.{first_token}
 use Rattle.rustc_lexer.specs.State.{allowed_after}
 use Rattle.rustc_lexer.specs.Tokens.{cut, tokens_of}
 

@@ -6,15 +6,15 @@ use Rattle.rustc_lexer.specs.declared.lexemes.family.Family.{Family}
 use Rattle.rustc_lexer.specs.declared.lexemes.family.Family.TheVariants.{Slash, Space, Word, Number, Quote, Str, Emoji, Hash, Symbol}
 use Rattle.rustc_lexer.specs.declared.token.TokenKind.{TokenKind}
 use Rattle.rustc_lexer.specs.Classes.{is_whitespace, is_id_start}
-use Rattle.rustc_lexer.specs.Comment.{slash}
+use Rattle.rustc_lexer.specs.means.Comment.{slash}
 use Rattle.rustc_lexer.specs.Emoji.{is_emoji}
-use Rattle.rustc_lexer.specs.Hash.{hash}
-use Rattle.rustc_lexer.specs.Ident.{invalid_ident}
-use Rattle.rustc_lexer.specs.Lexeme.{past_first, read_by, symbol, whitespace, word}
-use Rattle.rustc_lexer.specs.Lifetime.{lifetime_or_char}
-use Rattle.rustc_lexer.specs.Literal.{literal}
-use Rattle.rustc_lexer.specs.Number.{number}
-use Rattle.rustc_lexer.specs.Quoted.{str_body}
+use Rattle.rustc_lexer.specs.means.Hash.{hash}
+use Rattle.rustc_lexer.specs.means.Ident.{invalid_ident}
+use Rattle.rustc_lexer.specs.means.Lexeme.{past_first, read_by, symbol, whitespace, word}
+use Rattle.rustc_lexer.specs.means.Lifetime.{lifetime_or_char}
+use Rattle.rustc_lexer.specs.means.Literal.{literal}
+use Rattle.rustc_lexer.specs.means.Number.{number}
+use Rattle.rustc_lexer.specs.means.Quoted.{str_body}
 
 -- of each family, at each character that chooses it
 pub record EachFamily (P : ℕ → (List ℕ → TokenKind × ℕ) → Type 0) : Type 0 where

@@ -2,9 +2,9 @@
 use Rattle.std.proofs.Common.{◌≡◌, ℕ, List, true, drop, arith}
 use Rattle.rustc_lexer.specs.declared.token.TokenKind.{TokenKind}
 use Rattle.rustc_lexer.specs.declared.token.TokenKind.TheVariants.{GuardedStrPrefix, Pound}
-use Rattle.rustc_lexer.specs.Hash.{is_guarded_mark, hash}
+use Rattle.rustc_lexer.specs.means.Hash.{is_guarded_mark, hash}
 use Rattle.rustc_lexer.specs.laws.Reach.{after_at, gives_local, next_is-length, next_is-told, next_is_local, yes_at}
-use Rattle.rustc_lexer.specs.Scan.{IsLocal, IsLocalAt, after, gives, next_is}
+use Rattle.rustc_lexer.specs.means.Scan.{IsLocal, IsLocalAt, after, gives, next_is}
 
 -- a hash looks at the next character
 pub hash_local : IsLocal TokenKind 1 hash

@@ -4,9 +4,9 @@ use Rattle.std.specs.List.{list_all}
 use Rattle.rustc_lexer.specs.declared.token.TokenKind.{TokenKind}
 use Rattle.rustc_lexer.specs.declared.token.TokenKind.TheVariants.{Ident, InvalidIdent, UnknownPrefix}
 use Rattle.rustc_lexer.specs.Classes.{is_id_continue}
-use Rattle.rustc_lexer.specs.Ident.{is_word, is_prefix_mark, ident_kind, ident_or_unknown_prefix, invalid_ident, marks_ident, marked}
+use Rattle.rustc_lexer.specs.means.Ident.{is_word, is_prefix_mark, ident_kind, ident_or_unknown_prefix, invalid_ident, marks_ident, marked}
 use Rattle.rustc_lexer.specs.laws.Reach.{IsToldBy, next_is-told, wider, after_at, yes_at, either_at, run_as_local, run_local}
-use Rattle.rustc_lexer.specs.Scan.{IsLocalAt, IsLocal, after, run}
+use Rattle.rustc_lexer.specs.means.Scan.{IsLocalAt, IsLocal, after, run}
 
 -- an identifier looks at the character after it
 pub ident_or_unknown_prefix_local : IsLocal TokenKind 1 ident_or_unknown_prefix

@@ -8,7 +8,7 @@ use Rattle.rustc_lexer.specs.declared.token.LiteralKind.{LiteralKind}
 use Rattle.rustc_lexer.specs.declared.token.TokenKind.{TokenKind}
 use Rattle.rustc_lexer.specs.declared.token.TokenKind.TheVariants.{RawIdent, ForcedKeywordIdent}
 use Rattle.rustc_lexer.specs.Classes.{is_id_start, is_id_continue}
-use Rattle.rustc_lexer.specs.Ident.{ident_or_unknown_prefix, marks_ident}
+use Rattle.rustc_lexer.specs.means.Ident.{ident_or_unknown_prefix, marks_ident}
 use Rattle.rustc_lexer.specs.laws.Choice.{by_test, EachArm, by_arm, at_char, fits_some}
 use Rattle.rustc_lexer.specs.laws.LanguageComments.{space-sound, space-read, hash-sound, pound-read, guarded-read, symbol-sound, symbol-read, slash-sound, slash-read, line-read, block-read, open-read}
 use Rattle.rustc_lexer.specs.laws.LanguageLifetimes.{quote-sound, lifetime-read, prefix-read, raw_lifetime-read, char-reads, one-reads, name-reads}
@@ -16,13 +16,14 @@ use Rattle.rustc_lexer.specs.laws.LanguageLiterals.{str-sound, byte-sound, byte_
 use Rattle.rustc_lexer.specs.laws.LanguageRuns.{Sound, EachChosen, each_chosen}
 use Rattle.rustc_lexer.specs.laws.LanguageWords.{no-opening, raw_mark-none, none-raw, ident-sound, invalid-sound, raw_ident-sound, keyword-sound, ident-is_read, prefix-read as word_prefix-read, invalid-read, raw_ident-read, keyword-read}
 use Rattle.rustc_lexer.specs.Language as the
-use Rattle.rustc_lexer.specs.Language.{is_opening, IsLiteralBefore, IsTokenBefore, IsLanguage}
+use Rattle.rustc_lexer.specs.Language.{is_opening, IsLiteralBefore, IsTokenBefore}
+use Rattle.rustc_lexer.specs.LanguageHolds.{IsLanguage}
 use Rattle.rustc_lexer.specs.Spans.{Goes, Stops}
-use Rattle.rustc_lexer.specs.Lexeme.{is_raw_mark, raw_or_ident, begins_raw, raw_past_or_ident, letter_r, letter_k, letter_b, letter_c, letters, word, lexeme}
-use Rattle.rustc_lexer.specs.Literal.{literal}
-use Rattle.rustc_lexer.specs.Quoted.{byte_body, byte_str_body, c_str_body}
-use Rattle.rustc_lexer.specs.Raw.{raw_literal}
-use Rattle.rustc_lexer.specs.Scan.{after, begins, next_is, run}
+use Rattle.rustc_lexer.specs.means.Lexeme.{is_raw_mark, raw_or_ident, begins_raw, raw_past_or_ident, letter_r, letter_k, letter_b, letter_c, letters, word, lexeme}
+use Rattle.rustc_lexer.specs.means.Literal.{literal}
+use Rattle.rustc_lexer.specs.means.Quoted.{byte_body, byte_str_body, c_str_body}
+use Rattle.rustc_lexer.specs.means.Raw.{raw_literal}
+use Rattle.rustc_lexer.specs.means.Scan.{after, begins, next_is, run}
 
 -- ---- what is read is a token
 

@@ -7,11 +7,11 @@ use Rattle.rustc_lexer.specs.declared.token.DocStyle.{DocStyle}
 use Rattle.rustc_lexer.specs.declared.token.DocStyle.TheVariants.{Outer, Inner}
 use Rattle.rustc_lexer.specs.declared.token.TokenKind.{TokenKind}
 use Rattle.rustc_lexer.specs.declared.token.TokenKind.TheVariants.{LineComment, BlockComment, Whitespace, GuardedStrPrefix, Pound, Slash}
-use Rattle.rustc_lexer.specs.BlockComment.{at_closing, at_opening, block_doc_style, block_comment_to, block_comment, comment_end}
+use Rattle.rustc_lexer.specs.means.BlockComment.{at_closing, at_opening, block_doc_style, block_comment_to, block_comment, comment_end}
 use Rattle.rustc_lexer.specs.BlockGrammar.{Closes as ClosesIn, at_mark, nested as nested_in, past_one}
 use Rattle.rustc_lexer.specs.Classes.{is_among, is_whitespace}
-use Rattle.rustc_lexer.specs.Comment.{line_doc_style, is_no_newline, line_comment, slash}
-use Rattle.rustc_lexer.specs.Hash.{is_guarded_mark, hash}
+use Rattle.rustc_lexer.specs.means.Comment.{line_doc_style, is_no_newline, line_comment, slash}
+use Rattle.rustc_lexer.specs.means.Hash.{is_guarded_mark, hash}
 use Rattle.rustc_lexer.specs.laws.BlockComment.{two_at_least, closes-inside, at_closing_told, at_opening_told, style_told}
 use Rattle.rustc_lexer.specs.laws.BlockGrammar.{comment_end-found, comment_end-allowed}
 use Rattle.rustc_lexer.specs.laws.Choice.{by_test}
@@ -21,8 +21,8 @@ use Rattle.rustc_lexer.specs.laws.Reach.{run_all}
 use Rattle.rustc_lexer.specs.Language as the
 use Rattle.rustc_lexer.specs.Language.{IsStyle, inner, outer, no_outer, no_mark, IsLineStyle, IsBlockStyle, Closes, IsTokenBefore, begins_more}
 use Rattle.rustc_lexer.specs.Spans.{AreAll, Goes, Stops, is_inline}
-use Rattle.rustc_lexer.specs.Lexeme.{whitespace, symbol, symbol_kind}
-use Rattle.rustc_lexer.specs.Scan.{after, begins, gives, next_is, run_len}
+use Rattle.rustc_lexer.specs.means.Lexeme.{whitespace, symbol, symbol_kind}
+use Rattle.rustc_lexer.specs.means.Scan.{after, begins, gives, next_is, run_len}
 
 -- ---- white space and symbols
 

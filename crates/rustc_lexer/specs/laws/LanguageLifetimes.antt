@@ -11,7 +11,7 @@ use Rattle.rustc_lexer.specs.declared.token.TokenKind.{TokenKind}
 use Rattle.rustc_lexer.specs.declared.token.TokenKind.TheVariants.{Literal, Lifetime, RawLifetime, UnknownPrefixLifetime}
 use Rattle.rustc_lexer.specs.Classes.{is_among, is_id_start, is_id_continue, is_ident}
 use Rattle.rustc_lexer.specs.Emoji.{is_emoji, emoji_ranges}
-use Rattle.rustc_lexer.specs.Ident.{marks_ident}
+use Rattle.rustc_lexer.specs.means.Ident.{marks_ident}
 use Rattle.rustc_lexer.specs.laws.Choice.{by_test}
 use Rattle.rustc_lexer.specs.laws.LanguageLiterals.{bytes-append, bytes-one, literal-sound, past-read, ReadsLiteral}
 use Rattle.rustc_lexer.specs.laws.LanguageQuoted.{single-read, single-sound}
@@ -22,10 +22,10 @@ use Rattle.rustc_lexer.specs.laws.Reach.{run_all}
 use Rattle.rustc_lexer.specs.Language as the
 use Rattle.rustc_lexer.specs.Language.{is_word, is_word_start, is_name_start, is_mark, begins_ident_past, QuotedTo, ends, plain, escape, IsSingleQuoted, IsTokenBefore, IsLiteralBefore}
 use Rattle.rustc_lexer.specs.Spans.{AreAll, Goes, Stops, bytes}
-use Rattle.rustc_lexer.specs.Lifetime.{is_marked, past_name, plain_lifetime, lifetime, is_character, is_raw, lifetime_or_char}
-use Rattle.rustc_lexer.specs.Literal.{Body, literal}
-use Rattle.rustc_lexer.specs.Quoted.{single_quoted_string, char_body}
-use Rattle.rustc_lexer.specs.Scan.{begins, next_is, run_len}
+use Rattle.rustc_lexer.specs.means.Lifetime.{is_marked, past_name, plain_lifetime, lifetime, is_character, is_raw, lifetime_or_char}
+use Rattle.rustc_lexer.specs.means.Literal.{Body, literal}
+use Rattle.rustc_lexer.specs.means.Quoted.{single_quoted_string, char_body}
+use Rattle.rustc_lexer.specs.means.Scan.{begins, next_is, run_len}
 
 -- ---- classes
 

@@ -18,7 +18,7 @@ use Rattle.rustc_lexer.specs.declared.token.RawStrError.{RawStrError}
 use Rattle.rustc_lexer.specs.declared.token.TokenKind.{TokenKind}
 use Rattle.rustc_lexer.specs.declared.token.TokenKind.TheVariants.{Literal}
 use Rattle.rustc_lexer.specs.Classes.{is_id_start, is_id_continue, is_ident}
-use Rattle.rustc_lexer.specs.Ident.{marks_ident}
+use Rattle.rustc_lexer.specs.means.Ident.{marks_ident}
 use Rattle.rustc_lexer.specs.laws.Choice.{by_test}
 use Rattle.rustc_lexer.specs.laws.Ident.{marks_ident-told}
 use Rattle.rustc_lexer.specs.laws.LanguageQuoted.{double-read, double-sound, single-read, single-sound}
@@ -30,13 +30,13 @@ use Rattle.rustc_lexer.specs.laws.Reach.{run_all}
 use Rattle.rustc_lexer.specs.Language as the
 use Rattle.rustc_lexer.specs.Language.{begins_ident_past, guard, IsDoubleQuoted, IsSingleQuoted, IsRaw, IsLiteralBefore, IsSuffixBefore, IsTokenBefore}
 use Rattle.rustc_lexer.specs.Spans.{Goes, bytes}
-use Rattle.rustc_lexer.specs.Lexeme.{is_raw_mark, word}
-use Rattle.rustc_lexer.specs.Literal.{Body, suffix_len, suffixed, literal_past, literal}
-use Rattle.rustc_lexer.specs.Number.{with_suffix, number_kind, number_body, number}
+use Rattle.rustc_lexer.specs.means.Lexeme.{is_raw_mark, word}
+use Rattle.rustc_lexer.specs.means.Literal.{Body, suffix_len, suffixed, literal_past, literal}
+use Rattle.rustc_lexer.specs.means.Number.{with_suffix, number_kind, number_body, number}
 use Rattle.rustc_lexer.specs.NumberGrammar.{IsWhole, plain, with_b, with_o, with_x, IsNumberBefore, of_prefix, of_parts, NumberStands, IsLongestNumber}
-use Rattle.rustc_lexer.specs.Quoted.{double_quoted_string, single_quoted_string, quoted_body, str_body, byte_str_body, c_str_body, byte_body}
-use Rattle.rustc_lexer.specs.Raw.{raw_read, accepted, is_accepted, raw_body, prefix_kind, prefix_len, raw_literal}
-use Rattle.rustc_lexer.specs.Scan.{after, begins, bytes_of, next_is, run_len}
+use Rattle.rustc_lexer.specs.means.Quoted.{double_quoted_string, single_quoted_string, quoted_body, str_body, byte_str_body, c_str_body, byte_body}
+use Rattle.rustc_lexer.specs.means.Raw.{raw_read, accepted, is_accepted, raw_body, prefix_kind, prefix_len, raw_literal}
+use Rattle.rustc_lexer.specs.means.Scan.{after, begins, bytes_of, next_is, run_len}
 
 -- ---- bytes
 

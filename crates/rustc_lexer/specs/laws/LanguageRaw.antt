@@ -10,9 +10,9 @@ use Rattle.rustc_lexer.specs.laws.LanguageRuns.{either-way, pair, parted, run-st
 use Rattle.rustc_lexer.specs.Language as the
 use Rattle.rustc_lexer.specs.Language.{guard, Lacks, IsRaw}
 use Rattle.rustc_lexer.specs.Spans.{Goes, Stops}
-use Rattle.rustc_lexer.specs.Least.{one_more}
-use Rattle.rustc_lexer.specs.Lexeme.{is_raw_mark}
-use Rattle.rustc_lexer.specs.Raw.{is_hash, is_quote, hashes, closes, close, hash_count, raw_closed, raw_text, raw_starter, raw_read, accepted}
+use Rattle.rustc_lexer.specs.means.Least.{one_more}
+use Rattle.rustc_lexer.specs.means.Lexeme.{is_raw_mark}
+use Rattle.rustc_lexer.specs.means.Raw.{is_hash, is_quote, hashes, closes, close, hash_count, raw_closed, raw_text, raw_starter, raw_read, accepted}
 
 -- ---- hashes
 

@@ -12,12 +12,12 @@ use Rattle.rustc_lexer.specs.declared.token.TokenKind.TheVariants.{Literal, Unkn
 use Rattle.rustc_lexer.specs.Language as the
 use Rattle.rustc_lexer.specs.Language.{IsDoubleQuoted, SingleTo, QuotedTo, IsSingleQuoted, IsRaw, IsLiteralBefore, IsSuffixBefore, IsTokenBefore}
 use Rattle.rustc_lexer.specs.LanguageReach.{literal_reach, reach, LooksNoFurther, Needs, NeedsTwo}
-use Rattle.rustc_lexer.specs.Lexeme.{past_first, lexeme}
+use Rattle.rustc_lexer.specs.means.Lexeme.{past_first, lexeme}
 use Rattle.rustc_lexer.specs.Emoji.{is_emoji, emoji_ranges}
-use Rattle.rustc_lexer.specs.Number.{number_kind, fraction}
+use Rattle.rustc_lexer.specs.means.Number.{number_kind, fraction}
 use Rattle.rustc_lexer.specs.NumberGrammar as number
 use Rattle.rustc_lexer.specs.NumberGrammar.{IsExponent, IsTailBefore, IsNumberBefore}
-use Rattle.rustc_lexer.specs.Scan.{begins, next_is}
+use Rattle.rustc_lexer.specs.means.Scan.{begins, next_is}
 use Rattle.rustc_lexer.specs.Spans.{Goes, Stops}
 use Rattle.rustc_lexer.specs.laws.Language.{language, token-read}
 use Rattle.rustc_lexer.specs.laws.Lookahead.{lexeme_local}

@@ -14,8 +14,8 @@ use Rattle.rustc_lexer.specs.laws.Choice.{by_test}
 use Rattle.rustc_lexer.specs.laws.Reach.{IsToldBy, told_same, run_len-in, run_len-out}
 use Rattle.rustc_lexer.specs.Language.{is_word, is_word_start, is_name_start, is_mark, begins_more, IsTokenBefore}
 use Rattle.rustc_lexer.specs.Spans.{AreAll, Goes, Stops}
-use Rattle.rustc_lexer.specs.Lexeme.{family_of, past_first, read_by, lexeme}
-use Rattle.rustc_lexer.specs.Scan.{after, next_is, begins, run_len}
+use Rattle.rustc_lexer.specs.means.Lexeme.{family_of, past_first, read_by, lexeme}
+use Rattle.rustc_lexer.specs.means.Scan.{after, next_is, begins, run_len}
 
 -- ---- runs
 

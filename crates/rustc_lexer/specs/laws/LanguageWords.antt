@@ -8,15 +8,15 @@ use Rattle.rustc_lexer.specs.declared.token.TokenKind.{TokenKind}
 use Rattle.rustc_lexer.specs.declared.token.TokenKind.TheVariants.{Ident, InvalidIdent, RawIdent, ForcedKeywordIdent, UnknownPrefix}
 use Rattle.rustc_lexer.specs.Classes.{is_id_start, is_id_continue, is_ident}
 use Rattle.rustc_lexer.specs.Emoji.{is_emoji, emoji_ranges}
-use Rattle.rustc_lexer.specs.Ident.{ident_kind, ident_or_unknown_prefix, invalid_ident, marks_ident, marked}
+use Rattle.rustc_lexer.specs.means.Ident.{ident_kind, ident_or_unknown_prefix, invalid_ident, marks_ident, marked}
 use Rattle.rustc_lexer.specs.laws.Choice.{EachArm, by_arm, at_char}
 use Rattle.rustc_lexer.specs.laws.LanguageRuns.{run_len-here, run-stops, either-way, Sound, Read, read-first, begins-next, chooses-word, chooses-emoji, word-no_mark, mark-stops, start-word_start}
 use Rattle.rustc_lexer.specs.laws.Reach.{run_all}
 use Rattle.rustc_lexer.specs.Language as the
 use Rattle.rustc_lexer.specs.Language.{IsTokenBefore, is_word, is_word_start, is_mark, openings, is_opening, begins_ident_past}
 use Rattle.rustc_lexer.specs.Spans.{AreAll, Goes, Stops}
-use Rattle.rustc_lexer.specs.Lexeme.{letter_r, letter_k, letter_b, letter_c, letters, raw_or_ident, word, is_raw_mark, begins_raw}
-use Rattle.rustc_lexer.specs.Scan.{after, begins, next_is, run, run_len}
+use Rattle.rustc_lexer.specs.means.Lexeme.{letter_r, letter_k, letter_b, letter_c, letters, raw_or_ident, word, is_raw_mark, begins_raw}
+use Rattle.rustc_lexer.specs.means.Scan.{after, begins, next_is, run, run_len}
 
 -- ---- what begins no identifier
 

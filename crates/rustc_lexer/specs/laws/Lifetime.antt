@@ -7,14 +7,14 @@ use Rattle.rustc_lexer.specs.declared.token.LiteralKind.TheVariants.{Char}
 use Rattle.rustc_lexer.specs.declared.token.TokenKind.{TokenKind}
 use Rattle.rustc_lexer.specs.declared.token.TokenKind.TheVariants.{Literal, Lifetime, RawLifetime, UnknownPrefixLifetime}
 use Rattle.rustc_lexer.specs.Classes.{is_id_continue}
-use Rattle.rustc_lexer.specs.Ident.{is_word, marks_ident}
+use Rattle.rustc_lexer.specs.means.Ident.{is_word, marks_ident}
 use Rattle.rustc_lexer.specs.laws.Ident.{marks_ident-told, past_mark_at}
-use Rattle.rustc_lexer.specs.Lifetime.{is_name_start, is_marked, past_name, plain_lifetime, lifetime, is_character, is_character_at, is_raw, lifetime_or_char}
-use Rattle.rustc_lexer.specs.Literal.{literal}
-use Rattle.rustc_lexer.specs.Quoted.{char_body, single_quoted_string}
+use Rattle.rustc_lexer.specs.means.Lifetime.{is_name_start, is_marked, past_name, plain_lifetime, lifetime, is_character, is_character_at, is_raw, lifetime_or_char}
+use Rattle.rustc_lexer.specs.means.Literal.{literal}
+use Rattle.rustc_lexer.specs.means.Quoted.{char_body, single_quoted_string}
 use Rattle.rustc_lexer.specs.laws.Quoted.{char_local, char_closed, single_closed}
 use Rattle.rustc_lexer.specs.laws.Reach.{IsToldBy, begins-told, begins-length, told_same, wider, same_at, and_then_at, and_then_local, yes_at, no_at, either_at, first_at, first_local, run_as_local}
-use Rattle.rustc_lexer.specs.Scan.{IsLocalAt, IsLocal, after, begins, gives, run, run_as, run_len}
+use Rattle.rustc_lexer.specs.means.Scan.{IsLocalAt, IsLocal, after, begins, gives, run, run_as, run_len}
 
 -- what a name is that no quote follows, and one that a quote follows
 abbrev pub unquoted_name : ℕ → List ℕ → List ℕ → TokenKind × ℕ

@@ -4,9 +4,9 @@ use Rattle.std.specs.Str.{encode_utf8_all}
 use Rattle.rustc_lexer.specs.declared.token.TokenKind.{TokenKind}
 use Rattle.rustc_lexer.specs.declared.token.TokenKind.TheVariants.{Literal}
 use Rattle.rustc_lexer.specs.Classes.{is_id_start, is_id_continue}
-use Rattle.rustc_lexer.specs.Literal.{Body, suffix_len, suffixed, literal_past, literal}
+use Rattle.rustc_lexer.specs.means.Literal.{Body, suffix_len, suffixed, literal_past, literal}
 use Rattle.rustc_lexer.specs.laws.Reach.{cut, cut_past, after_at, begins-told, begins-length, either_at, next_is_local, gives_local, run_local, same_at}
-use Rattle.rustc_lexer.specs.Scan.{IsLocalAt, IsLocal, after, begins, bytes_of, gives, next_is, run}
+use Rattle.rustc_lexer.specs.means.Scan.{IsLocalAt, IsLocal, after, begins, bytes_of, gives, next_is, run}
 
 -- a suffix looks at the character after it
 suffix_local : IsLocal Bool 1 (λ s. (true, suffix_len s))

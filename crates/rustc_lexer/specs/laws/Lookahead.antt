@@ -7,25 +7,25 @@ use Rattle.rustc_lexer.specs.declared.token.LiteralKind.{LiteralKind}
 use Rattle.rustc_lexer.specs.declared.token.LiteralKind.TheVariants.{Byte, ByteStr, CStr}
 use Rattle.rustc_lexer.specs.declared.token.TokenKind.{TokenKind}
 use Rattle.rustc_lexer.specs.declared.token.TokenKind.TheVariants.{LineComment, Slash, Whitespace, RawIdent, ForcedKeywordIdent, Eof}
-use Rattle.rustc_lexer.specs.BlockComment.{block_comment}
+use Rattle.rustc_lexer.specs.means.BlockComment.{block_comment}
 use Rattle.rustc_lexer.specs.laws.BlockComment.{block_comment_local}
 use Rattle.rustc_lexer.specs.laws.Choice.{EachArm, by_arm}
 use Rattle.rustc_lexer.specs.laws.Family.{EachFamily, each_family}
 use Rattle.rustc_lexer.specs.Classes.{is_whitespace}
-use Rattle.rustc_lexer.specs.Comment.{line_comment, line_doc_style, is_no_newline, slash}
-use Rattle.rustc_lexer.specs.Ident.{ident_or_unknown_prefix}
+use Rattle.rustc_lexer.specs.means.Comment.{line_comment, line_doc_style, is_no_newline, slash}
+use Rattle.rustc_lexer.specs.means.Ident.{ident_or_unknown_prefix}
 use Rattle.rustc_lexer.specs.laws.Ident.{ident_or_unknown_prefix_local, invalid_ident_local, marked_local}
-use Rattle.rustc_lexer.specs.Lexeme.{letter_b, letters, word, symbol_kind, past_first, lexeme, first_token, raw_or_ident, begins_raw, raw_past_or_ident, is_raw_mark}
+use Rattle.rustc_lexer.specs.means.Lexeme.{letter_b, letters, word, symbol_kind, past_first, lexeme, first_token, raw_or_ident, begins_raw, raw_past_or_ident, is_raw_mark}
 use Rattle.rustc_lexer.specs.laws.Lifetime.{lifetime_or_char_local}
-use Rattle.rustc_lexer.specs.Literal.{literal}
+use Rattle.rustc_lexer.specs.means.Literal.{literal}
 use Rattle.rustc_lexer.specs.laws.Literal.{prefixed_local}
 use Rattle.rustc_lexer.specs.laws.Number.{number_local}
-use Rattle.rustc_lexer.specs.Quoted.{quoted_body, double_quoted_string, byte_body}
+use Rattle.rustc_lexer.specs.means.Quoted.{quoted_body, double_quoted_string, byte_body}
 use Rattle.rustc_lexer.specs.laws.Quoted.{str_local, str_body_local, char_body_local}
-use Rattle.rustc_lexer.specs.Raw.{raw_literal}
+use Rattle.rustc_lexer.specs.means.Raw.{raw_literal}
 use Rattle.rustc_lexer.specs.laws.Raw.{raw_literal_local}
 use Rattle.rustc_lexer.specs.laws.Reach.{IsToldBy, next_is-told, wider, same_at, after_at, either_at, begins_local, first_local, gives_local, run_as_local, run_local}
-use Rattle.rustc_lexer.specs.Scan.{IsLocal, after, begins, gives, next_is, run_as, run_len}
+use Rattle.rustc_lexer.specs.means.Scan.{IsLocal, after, begins, gives, next_is, run_as, run_len}
 use Rattle.rustc_lexer.specs.Texts.{IsGrammar}
 use Rattle.rustc_lexer.specs.laws.TokenBy.{token_by_local}
 use Rattle.rustc_lexer.specs.laws.Hash.{hash_local}

@@ -9,9 +9,9 @@ use Rattle.rustc_lexer.specs.declared.token.LiteralKind.{LiteralKind}
 use Rattle.rustc_lexer.specs.declared.token.LiteralKind.TheVariants.{Int, Float}
 use Rattle.rustc_lexer.specs.declared.token.TokenKind.{TokenKind}
 use Rattle.rustc_lexer.specs.laws.Literal.{literal_local}
-use Rattle.rustc_lexer.specs.Number.{or_underscore, digits, Front, prefixed, decimal, front_past_zero, front, float, is_exponent_letter, is_sign, past_sign, float_exponent, optional_exponent, fraction_digits, fraction, begins_fraction, past_digits, tail, number_kind, with_suffix, number_body, number}
+use Rattle.rustc_lexer.specs.means.Number.{or_underscore, digits, Front, prefixed, decimal, front_past_zero, front, float, is_exponent_letter, is_sign, past_sign, float_exponent, optional_exponent, fraction_digits, fraction, begins_fraction, past_digits, tail, number_kind, with_suffix, number_body, number}
 use Rattle.rustc_lexer.specs.laws.Reach.{IsToldBy, next_is-told, wider, read_as_at, and_then_local, after_at, either_at, begins_local, next_is_local, gives_local, run_as_local, run_local}
-use Rattle.rustc_lexer.specs.Scan.{IsLocalAt, IsLocal, after, gives, next_is, read_as, run}
+use Rattle.rustc_lexer.specs.means.Scan.{IsLocalAt, IsLocal, after, gives, next_is, read_as, run}
 
 pub digits_local : (is_digit : ℕ → Bool) → IsLocal Bool 1 (digits is_digit)
 digits_local is_digit = run_as_local (λ front rest. list_any is_digit front) (or_underscore is_digit) (λ front s. refl)

@@ -12,9 +12,9 @@ use Rattle.rustc_lexer.specs.declared.token.LiteralKind.TheVariants.{Int, Float}
 use Rattle.rustc_lexer.specs.laws.Choice.{by_test}
 use Rattle.rustc_lexer.specs.laws.Number.{number_kind_local}
 use Rattle.rustc_lexer.specs.laws.Reach.{run_all}
-use Rattle.rustc_lexer.specs.Number.{or_underscore, is_underscore, digits, Front, prefixed, binary, octal, hexadecimal, decimal, front_past_zero, front, is_exponent_letter, is_sign, past_sign, float_exponent, optional_exponent, fraction_digits, fraction, is_no_fraction, begins_fraction, past_digits, tail, number_kind}
+use Rattle.rustc_lexer.specs.means.Number.{or_underscore, is_underscore, digits, Front, prefixed, binary, octal, hexadecimal, decimal, front_past_zero, front, is_exponent_letter, is_sign, past_sign, float_exponent, optional_exponent, fraction_digits, fraction, is_no_fraction, begins_fraction, past_digits, tail, number_kind}
 use Rattle.rustc_lexer.specs.NumberGrammar.{AreDigits, is_digit_of, IsWhole, plain, with_b, with_o, with_x, IsExponent, signed, unsigned, IsTailBefore, nothing, dot, of_fraction, of_exponent, of_both, IsNumberBefore, of_prefix, of_parts, NumberStands}
-use Rattle.rustc_lexer.specs.Scan.{after, begins, gives, next_is, read_as, run_len}
+use Rattle.rustc_lexer.specs.means.Scan.{after, begins, gives, next_is, read_as, run_len}
 
 -- what a scanner takes past one character, and what it leaves
 take-one : (c n : ℕ) (s : List ℕ) → c ∷ take n s ≡ take (1 + n) (c ∷ s)

@@ -12,9 +12,10 @@ use Rattle.rustc_lexer.specs.declared.token.LiteralKind.TheVariants.{Int, Float}
 use Rattle.rustc_lexer.specs.laws.Choice.{by_test}
 use Rattle.rustc_lexer.specs.laws.NumberGrammar.{number-stands}
 use Rattle.rustc_lexer.specs.laws.Within.{Within, within-suc, within-one, within-any, then-within, run-within}
-use Rattle.rustc_lexer.specs.Number.{or_underscore, digits, Front, front_of, prefixed, binary, octal, hexadecimal, decimal, front_past_zero, front, float, is_exponent_letter, is_sign, past_sign, float_exponent, optional_exponent, fraction_digits, fraction, is_no_fraction, begins_fraction, past_digits, tail, number_kind}
-use Rattle.rustc_lexer.specs.NumberGrammar.{AreDigits, is_digit_of, IsWhole, plain, with_b, with_o, with_x, IsExponent, signed, unsigned, IsTailBefore, nothing, dot, of_fraction, of_exponent, of_both, IsNumberBefore, of_prefix, of_parts, NumberStands, AreLongest}
-use Rattle.rustc_lexer.specs.Scan.{and_then, after, begins, gives, next_is, read_as, run, run_len}
+use Rattle.rustc_lexer.specs.means.Number.{or_underscore, digits, Front, front_of, prefixed, binary, octal, hexadecimal, decimal, front_past_zero, front, float, is_exponent_letter, is_sign, past_sign, float_exponent, optional_exponent, fraction_digits, fraction, is_no_fraction, begins_fraction, past_digits, tail, number_kind}
+use Rattle.rustc_lexer.specs.NumberGrammar.{AreDigits, is_digit_of, IsWhole, plain, with_b, with_o, with_x, IsExponent, signed, unsigned, IsTailBefore, nothing, dot, of_fraction, of_exponent, of_both, IsNumberBefore, of_prefix, of_parts, NumberStands}
+use Rattle.rustc_lexer.specs.LanguageHolds.{AreLongest}
+use Rattle.rustc_lexer.specs.means.Scan.{and_then, after, begins, gives, next_is, read_as, run, run_len}
 
 -- ---- characters
 

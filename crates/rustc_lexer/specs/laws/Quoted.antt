@@ -4,11 +4,11 @@ use Rattle.std.specs.Str.{byte}
 use Rattle.rustc_lexer.specs.declared.token.LiteralKind.{LiteralKind}
 use Rattle.rustc_lexer.specs.declared.token.LiteralKind.TheVariants.{Char, Byte, Str, ByteStr, CStr}
 use Rattle.rustc_lexer.specs.declared.token.TokenKind.{TokenKind}
-use Rattle.rustc_lexer.specs.Literal.{Body, literal}
+use Rattle.rustc_lexer.specs.means.Literal.{Body, literal}
 use Rattle.rustc_lexer.specs.laws.Literal.{literal_at, literal_local}
-use Rattle.rustc_lexer.specs.Quoted.{is_backslash, is_odd, is_escaped, free_place, stopped, quoted, at_double_quote, double_quoted_string, at_single_stop, is_lone, single_quoted_string, quoted_body, str_body, byte_str_body, c_str_body, char_body, byte_body}
+use Rattle.rustc_lexer.specs.means.Quoted.{is_backslash, is_odd, is_escaped, free_place, stopped, quoted, at_double_quote, double_quoted_string, at_single_stop, is_lone, single_quoted_string, quoted_body, str_body, byte_str_body, c_str_body, char_body, byte_body}
 use Rattle.rustc_lexer.specs.laws.Reach.{IsToldBy, cut, cut_past, told_same, begins-told, begins-length, all_at, read_as_at, after_at, yes_at, no_at, either_at, wider, found-inside, found-same, least_found}
-use Rattle.rustc_lexer.specs.Scan.{IsLocalAt, IsLocal, IsFound, after, begins, run_len}
+use Rattle.rustc_lexer.specs.means.Scan.{IsLocalAt, IsLocal, IsFound, after, begins, run_len}
 
 module _ (k : ℕ) (some : 0 < k) (test : List ℕ → Bool) (told : IsToldBy k test) where
   -- the place of a stop depends on what stands before it and on what tells it

@@ -7,11 +7,11 @@ use Rattle.rustc_lexer.specs.declared.token.LiteralKind.{LiteralKind}
 use Rattle.rustc_lexer.specs.declared.token.RawStrError.{RawStrError}
 use Rattle.rustc_lexer.specs.declared.token.RawStrError.TheVariants.{InvalidStarter, TooManyDelimiters}
 use Rattle.rustc_lexer.specs.declared.token.TokenKind.{TokenKind}
-use Rattle.rustc_lexer.specs.Literal.{Body}
+use Rattle.rustc_lexer.specs.means.Literal.{Body}
 use Rattle.rustc_lexer.specs.laws.Literal.{literal_at}
-use Rattle.rustc_lexer.specs.Raw.{is_hash, is_quote, hashes, closes, close, raw_closed, raw_text, past_starter, raw_starter, raw_read, accepted, is_accepted, raw_body, prefix_kind, prefix_len, raw_literal, checked, raw_check, HasEnd, EndsItself, RefusedEndsItself}
+use Rattle.rustc_lexer.specs.means.Raw.{is_hash, is_quote, hashes, closes, close, raw_closed, raw_text, past_starter, raw_starter, raw_read, accepted, is_accepted, raw_body, prefix_kind, prefix_len, raw_literal, checked, raw_check, HasEnd, EndsItself, RefusedEndsItself}
 use Rattle.rustc_lexer.specs.laws.Reach.{IsToldBy, cut, cut_past, told_same, wider, all_at, read_as_at, and_then_at, first_at, gives_local, run_len_le, run_len_same, found-same, least-some, least_found}
-use Rattle.rustc_lexer.specs.Scan.{IsLocalAt, IsLocal, IsFound, gives, run_len}
+use Rattle.rustc_lexer.specs.means.Scan.{IsLocalAt, IsLocal, IsFound, gives, run_len}
 
 run_len-take : (p : ℕ → Bool) (k : ℕ) (s : List ℕ) → run_len p (take k s) ≡ min k (run_len p s)
 run_len-take p zero s = omega arith

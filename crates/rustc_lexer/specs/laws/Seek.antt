@@ -1,9 +1,9 @@
 -- The place of a stop in a quoted text is found by one pass.
 use Rattle.std.proofs.Common.{◌≡◌, ℕ, ◌&&◌, not, Bool, true, false, if◌then◌else◌, List, [], ◌∷◌, length, take, drop, refl, ap, ◌∙◌, Option, Some, None}
 use mathlib.Core.List.{reverse_aux}
-use Rattle.rustc_lexer.specs.Least.{one_more, least}
-use Rattle.rustc_lexer.specs.Quoted.{is_backslash, is_odd, free_place}
-use Rattle.rustc_lexer.specs.Scan.{run_len}
+use Rattle.rustc_lexer.specs.means.Least.{one_more, least}
+use Rattle.rustc_lexer.specs.means.Quoted.{is_backslash, is_odd, free_place}
+use Rattle.rustc_lexer.specs.means.Scan.{run_len}
 
 -- one pass finds the place that is sought, which knows whether the next character is escaped
 abbrev pub seek : (List ℕ → Bool) → List ℕ → Bool → Option ℕ

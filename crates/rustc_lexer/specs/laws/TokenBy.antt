@@ -5,7 +5,7 @@ use Rattle.std.proofs.lemmas.Str.{chars-append, chars-encodes, encodes-chars, sc
 use Rattle.rustc_lexer.specs.declared.token.TokenKind.{TokenKind}
 use Rattle.rustc_lexer.specs.Texts.{IsText, IsGrammar, AgreePast}
 use Rattle.rustc_lexer.specs.laws.Texts.{agree_inside}
-use Rattle.rustc_lexer.specs.Scan.{IsLocal, token_by}
+use Rattle.rustc_lexer.specs.means.Scan.{IsLocal, token_by}
 
 -- what is left of a text past a front that may be cut off
 pub left_text : (other : List ℕ) (n : ℕ) → IsText other → n ≤ length other → IsUtf8 (take n other) → IsText (drop n other)

@@ -4,7 +4,7 @@ use Rattle.std.proofs.Math.Seq.{take-append_seam, drop-append_seam}
 use Rattle.std.proofs.lemmas.Bool.{and_parts}
 use Rattle.std.specs.List.{list_all}
 use Rattle.rustc_lexer.specs.laws.Reach.{run_len-in, run_len-out}
-use Rattle.rustc_lexer.specs.Scan.{then_by, and_then, next_is, run_as, run_len}
+use Rattle.rustc_lexer.specs.means.Scan.{then_by, and_then, next_is, run_as, run_len}
 
 -- this answer and this length are what is read, or the length is less than what is read, for this reason
 abbrev pub Within : {A : Type 0} → Type 0 → A × ℕ → A → ℕ → Type 0

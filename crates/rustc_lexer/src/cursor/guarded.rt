@@ -1,10 +1,10 @@
 //! Guarded strings.
 ghost use Rattle.std.specs.Prelude.{◌≡◌, ◌≤◌, IfSome, min, length};
 ghost use Rattle.std.specs.Str.{chars, IsCharBoundary};
-ghost use Rattle.rustc_lexer.specs.Guarded as spec;
+ghost use Rattle.rustc_lexer.specs.means.Guarded as spec;
 ghost use Rattle.rustc_lexer.specs.LanguageCalls.{TakesTheGuarded};
-ghost use Rattle.rustc_lexer.specs.Raw.{hashes};
-ghost use Rattle.rustc_lexer.specs.Scan.{past, scanned};
+ghost use Rattle.rustc_lexer.specs.means.Raw.{hashes};
+ghost use Rattle.rustc_lexer.specs.means.Scan.{past, scanned};
 
 use crate::cursor::Cursor;
 use crate::lexemes::literal::eat_literal_suffix;

@@ -5,7 +5,7 @@ ghost use Rattle.rustc_lexer.specs.declared.token.Token.{Token};
 ghost use Rattle.rustc_lexer.specs.Classes.{Fits};
 ghost use Rattle.rustc_lexer.specs.Cuts.{tokens_by};
 ghost use Rattle.rustc_lexer.specs.Edition.{first_token_in, year};
-ghost use Rattle.rustc_lexer.specs.Lexeme.{first_token};
+ghost use Rattle.rustc_lexer.specs.means.Lexeme.{first_token};
 ghost use Rattle.rustc_lexer.specs.Texts.{IsGrammar};
 ghost use Rattle.rustc_lexer.specs.Tokens.{tokens_of};
 

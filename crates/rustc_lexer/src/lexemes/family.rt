@@ -1,6 +1,6 @@
 //! The families of tokens: the first character of a token chooses one.
 ghost use Rattle.std.specs.Prelude.{◌≡◌, ◌<◌, ◌≤◌, MatchOption};
-ghost use Rattle.rustc_lexer.specs.Lexeme as spec;
+ghost use Rattle.rustc_lexer.specs.means.Lexeme as spec;
 
 use crate::classes::emoji::is_emoji;
 use crate::classes::is_whitespace;

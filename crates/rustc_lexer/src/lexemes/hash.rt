@@ -1,9 +1,9 @@
 //! A hash: a symbol, or the prefix of a guarded string.
 ghost use Rattle.std.specs.Prelude.{◌≡◌, ℕ, List, true};
 ghost use Rattle.rustc_lexer.specs.declared.token.TokenKind.{TokenKind};
-ghost use Rattle.rustc_lexer.specs.Hash as spec;
-ghost use Rattle.rustc_lexer.specs.Scan;
-ghost use Rattle.rustc_lexer.specs.Scan.{IsLocal, IsLocalAt, scanned};
+ghost use Rattle.rustc_lexer.specs.means.Hash as spec;
+ghost use Rattle.rustc_lexer.specs.means.Scan;
+ghost use Rattle.rustc_lexer.specs.means.Scan.{IsLocal, IsLocalAt, scanned};
 
 use crate::scan::split_first;
 use crate::token::TokenKind;

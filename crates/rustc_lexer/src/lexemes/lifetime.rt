@@ -5,11 +5,11 @@ ghost use Rattle.std.specs.Str.{chars};
 ghost use Rattle.rustc_lexer.specs.declared.token.TokenKind.{TokenKind};
 ghost use Rattle.rustc_lexer.specs.declared.token.TokenKind.TheVariants.{Lifetime, UnknownPrefixLifetime};
 ghost use Rattle.rustc_lexer.specs.Emoji.{is_emoji};
-ghost use Rattle.rustc_lexer.specs.Ident.{is_word, marks_ident};
-ghost use Rattle.rustc_lexer.specs.Lifetime as spec;
-ghost use Rattle.rustc_lexer.specs.Lifetime.{is_character_at, is_raw};
-ghost use Rattle.rustc_lexer.specs.Quoted.{single_quoted_string};
-ghost use Rattle.rustc_lexer.specs.Scan.{IsLocal, IsLocalAt, begins, past, run_len, scanned};
+ghost use Rattle.rustc_lexer.specs.means.Ident.{is_word, marks_ident};
+ghost use Rattle.rustc_lexer.specs.means.Lifetime as spec;
+ghost use Rattle.rustc_lexer.specs.means.Lifetime.{is_character_at, is_raw};
+ghost use Rattle.rustc_lexer.specs.means.Quoted.{single_quoted_string};
+ghost use Rattle.rustc_lexer.specs.means.Scan.{IsLocal, IsLocalAt, begins, past, run_len, scanned};
 
 use crate::classes::emoji::is_emoji;
 use crate::classes::is_id_start;

@@ -1,9 +1,9 @@
 //! Numbers.
 ghost use Rattle.std.specs.Prelude.{◌≡◌, ◌+◌, ◌<◌, ◌^◌, false, length};
 ghost use Rattle.std.specs.Char.{is_ascii_digit, is_ascii_hexdigit};
-ghost use Rattle.rustc_lexer.specs.Number as spec;
-ghost use Rattle.rustc_lexer.specs.NumberGrammar.{AreLongest};
-ghost use Rattle.rustc_lexer.specs.Scan.{IsLocal, scanned};
+ghost use Rattle.rustc_lexer.specs.means.Number as spec;
+ghost use Rattle.rustc_lexer.specs.LanguageHolds.{AreLongest};
+ghost use Rattle.rustc_lexer.specs.means.Scan.{IsLocal, scanned};
 ghost use Rattle.rustc_lexer.specs.declared.token.TokenKind.{TokenKind};
 
 use crate::classes::is_id_start;

@@ -2,9 +2,9 @@
 ghost use Rattle.std.specs.Prelude.{◌≡◌, ◌+◌, ◌≤◌, ◌<◌, ◌^◌, ◌∷◌, ℕ, List, Bool, true, false, length, drop, MatchOption};
 ghost use Rattle.std.specs.Str.{chars};
 ghost use Rattle.rustc_lexer.specs.declared.token.TokenKind.{TokenKind};
-ghost use Rattle.rustc_lexer.specs.Literal.{Body, literal};
-ghost use Rattle.rustc_lexer.specs.Quoted as spec;
-ghost use Rattle.rustc_lexer.specs.Scan.{IsLocal, IsLocalAt, after, past, scanned};
+ghost use Rattle.rustc_lexer.specs.means.Literal.{Body, literal};
+ghost use Rattle.rustc_lexer.specs.means.Quoted as spec;
+ghost use Rattle.rustc_lexer.specs.means.Scan.{IsLocal, IsLocalAt, after, past, scanned};
 
 use crate::lexemes::literal::{eat_literal_suffix, literal};
 use crate::scan::{eat_until_either, split_first, strip};

@@ -4,9 +4,9 @@ ghost use Rattle.std.specs.Str.{byte, chars};
 ghost use Rattle.rustc_lexer.specs.declared.lexemes.raw.RawPrefix.{RawPrefix};
 ghost use Rattle.rustc_lexer.specs.declared.token.RawStrError.{RawStrError};
 ghost use Rattle.rustc_lexer.specs.declared.token.TokenKind.{TokenKind};
-ghost use Rattle.rustc_lexer.specs.Raw as spec;
-ghost use Rattle.rustc_lexer.specs.Raw.{EndsItself, RefusedEndsItself};
-ghost use Rattle.rustc_lexer.specs.Scan.{IsLocal, past, run_len, scanned};
+ghost use Rattle.rustc_lexer.specs.means.Raw as spec;
+ghost use Rattle.rustc_lexer.specs.means.Raw.{EndsItself, RefusedEndsItself};
+ghost use Rattle.rustc_lexer.specs.means.Scan.{IsLocal, past, run_len, scanned};
 
 use crate::lexemes::literal::eat_literal_suffix;
 use crate::scan::{eat_until, eat_while, split_first, strip};

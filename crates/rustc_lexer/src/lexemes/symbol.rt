@@ -1,6 +1,6 @@
 //! Tokens of one symbol.
 ghost use Rattle.std.specs.Prelude.{◌≡◌};
-ghost use Rattle.rustc_lexer.specs.Lexeme as spec;
+ghost use Rattle.rustc_lexer.specs.means.Lexeme as spec;
 
 use crate::token::TokenKind;
 use crate::token::TokenKind::{

@@ -1,8 +1,8 @@
 //! What begins with a letter: identifiers, and the literals that a letter marks.
 ghost use Rattle.std.specs.Prelude.{◌≡◌, ◌+◌, ◌<◌, ◌^◌, length};
-ghost use Rattle.rustc_lexer.specs.Lexeme as spec;
-ghost use Rattle.rustc_lexer.specs.Raw.{prefix_len};
-ghost use Rattle.rustc_lexer.specs.Scan.{scanned};
+ghost use Rattle.rustc_lexer.specs.means.Lexeme as spec;
+ghost use Rattle.rustc_lexer.specs.means.Raw.{prefix_len};
+ghost use Rattle.rustc_lexer.specs.means.Scan.{scanned};
 
 use crate::lexemes::ident::{eat_marked, ident_or_unknown_prefix};
 use crate::lexemes::quoted::{byte_literal, byte_str_literal, c_str_literal};

@@ -3,8 +3,9 @@ use Rattle.std.specs.Str.{chars}
 use Rattle.rustc_lexer.specs.declared.token.FrontmatterAllowed.TheVariants.{No}
 use Rattle.rustc_lexer.specs.declared.token.Token.{Token}
 use Rattle.rustc_lexer.specs.Edition.{changed}
-use Rattle.rustc_lexer.specs.Lexeme.{first_token}
-use Rattle.rustc_lexer.specs.State.{State, advance}
+use Rattle.rustc_lexer.specs.means.Lexeme.{first_token}
+use Rattle.rustc_lexer.specs.State.{State}
+use Rattle.rustc_lexer.specs.means.Taking.{advance}
 use Rattle.rustc_lexer.proofs.EditionLemmas.{boundary-of}
 use Rattle.rustc_lexer.proofs.StateLemmas.{first-advanced, state}
 use Rattle.rustc_lexer.proofs.edition.token_in.Goals as goal

@@ -1,6 +1,6 @@
 use Rattle.std.proofs.Common.{◌≡◌, ◌+◌, ◌-◌, ◌≤◌, length, drop}
-use Rattle.rustc_lexer.specs.Frontmatter.{is_dash}
-use Rattle.rustc_lexer.specs.Scan.{run_len}
+use Rattle.rustc_lexer.specs.means.Frontmatter.{is_dash}
+use Rattle.rustc_lexer.specs.means.Scan.{run_len}
 use Rattle.rustc_lexer.proofs.frontmatter.dashes_end.Given as goal
 
 abbrev pub invariant-dashes : goal.invariant-dashes

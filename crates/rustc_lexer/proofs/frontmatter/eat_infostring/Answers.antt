@@ -1,6 +1,6 @@
 use Rattle.std.proofs.Common.{sym, ◌∙◌}
 use Rattle.rustc_lexer.specs.Classes.{is_id_start}
-use Rattle.rustc_lexer.specs.Frontmatter.{is_infostring}
+use Rattle.rustc_lexer.specs.means.Frontmatter.{is_infostring}
 use Rattle.rustc_lexer.proofs.FrontmatterLemmas.{infostring-yes, infostring-no}
 use Rattle.rustc_lexer.proofs.ScanLemmas.{next_is-cons, next_is-nil}
 use Rattle.rustc_lexer.proofs.frontmatter.eat_infostring.Goals as goal

@@ -1,7 +1,7 @@
 use Rattle.std.proofs.Common.{◌≡◌, ◌≤◌, true, drop, take}
 use Rattle.std.specs.List.{list_all}
 use Rattle.rustc_lexer.specs.Classes.{is_horizontal_whitespace}
-use Rattle.rustc_lexer.specs.Frontmatter.{line_start}
+use Rattle.rustc_lexer.specs.means.Frontmatter.{line_start}
 use Rattle.rustc_lexer.proofs.frontmatter.stands_alone.Given as goal
 
 abbrev pub invariant-blanks : goal.invariant-blanks

@@ -1,5 +1,5 @@
 use Rattle.std.proofs.Common.{ℕ, ◌==◌, ◌↔◌, IsTrue, sym, subst, arith}
-use Rattle.rustc_lexer.specs.Raw.{StartsRaw}
+use Rattle.rustc_lexer.specs.means.Raw.{StartsRaw}
 use Rattle.rustc_lexer.proofs.RawReadLemmas.{starts_is}
 use Rattle.rustc_lexer.proofs.raw_check.starts_raw.Goals as goal
 

@@ -1,5 +1,5 @@
 use Rattle.std.proofs.Common.{sym}
-use Rattle.rustc_lexer.specs.ByteRuns.{is_continue_byte}
+use Rattle.rustc_lexer.specs.means.ByteRuns.{is_continue_byte}
 use Rattle.rustc_lexer.specs.Classes.{is_id_continue}
 use Rattle.rustc_lexer.proofs.BridgeLemmas.{may_cut, goes_on, left_there, stops_here}
 use Rattle.rustc_lexer.proofs.PartLemmas.{continue_part}

@@ -1,5 +1,5 @@
 use Rattle.std.proofs.Common.{length, sym, ap, ◌∙◌, arith, length-drop}
-use Rattle.rustc_lexer.specs.ByteRuns.{is_continue_byte}
+use Rattle.rustc_lexer.specs.means.ByteRuns.{is_continue_byte}
 use Rattle.rustc_lexer.specs.Classes.{is_id_continue}
 use Rattle.rustc_lexer.proofs.BridgeLemmas.{may_cut, skip_char, skip_one, wide_stops, ends_out, ends_none, ends_narrow}
 use Rattle.rustc_lexer.proofs.PartLemmas.{continue_part}

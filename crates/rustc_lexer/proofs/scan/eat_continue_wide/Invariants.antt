@@ -1,7 +1,7 @@
 use Rattle.std.proofs.Common.{◌≤◌, length}
 use denote.Text.{Utf8}
 use denote.Shadow.{shadow}
-use Rattle.rustc_lexer.specs.ByteRuns.{is_continue_byte}
+use Rattle.rustc_lexer.specs.means.ByteRuns.{is_continue_byte}
 use Rattle.rustc_lexer.specs.Classes.{is_id_continue}
 use Rattle.rustc_lexer.proofs.BridgeLemmas.{Skips}
 use Rattle.rustc_lexer.proofs.scan.eat_continue_wide.Given as goal

@@ -1,7 +1,7 @@
 use Rattle.std.proofs.Common.{sym}
-use Rattle.rustc_lexer.specs.ByteRuns.{is_decimal_byte}
+use Rattle.rustc_lexer.specs.means.ByteRuns.{is_decimal_byte}
 use Rattle.std.specs.Char.{is_ascii_digit}
-use Rattle.rustc_lexer.specs.Number.{or_underscore}
+use Rattle.rustc_lexer.specs.means.Number.{or_underscore}
 use Rattle.rustc_lexer.proofs.BridgeLemmas.{may_cut, goes_on, stops_here}
 use Rattle.rustc_lexer.proofs.PartLemmas.{decimal_part}
 use Rattle.rustc_lexer.proofs.scan.eat_decimal.Goals as goal

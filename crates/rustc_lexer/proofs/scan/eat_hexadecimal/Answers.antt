@@ -1,7 +1,7 @@
 use Rattle.std.proofs.Common.{sym}
-use Rattle.rustc_lexer.specs.ByteRuns.{is_hexadecimal_byte}
+use Rattle.rustc_lexer.specs.means.ByteRuns.{is_hexadecimal_byte}
 use Rattle.std.specs.Char.{is_ascii_hexdigit}
-use Rattle.rustc_lexer.specs.Number.{or_underscore}
+use Rattle.rustc_lexer.specs.means.Number.{or_underscore}
 use Rattle.rustc_lexer.proofs.BridgeLemmas.{may_cut, goes_on, stops_here}
 use Rattle.rustc_lexer.proofs.PartLemmas.{hexadecimal_part}
 use Rattle.rustc_lexer.proofs.scan.eat_hexadecimal.Goals as goal

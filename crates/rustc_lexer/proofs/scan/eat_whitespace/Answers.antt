@@ -1,9 +1,9 @@
 use Rattle.std.proofs.Common.{sym, ap, ◌∙◌}
 use Rattle.std.proofs.lemmas.Bool.{not-true}
-use Rattle.rustc_lexer.specs.ByteRuns.{is_space_byte}
+use Rattle.rustc_lexer.specs.means.ByteRuns.{is_space_byte}
 use Rattle.rustc_lexer.specs.Classes.{is_whitespace}
-use Rattle.rustc_lexer.specs.Quick.{is_space_lead}
-use Rattle.rustc_lexer.specs.Scan.{next_is}
+use Rattle.rustc_lexer.specs.means.Quick.{is_space_lead}
+use Rattle.rustc_lexer.specs.means.Scan.{next_is}
 use Rattle.rustc_lexer.proofs.BridgeLemmas.{may_cut, goes_on}
 use Rattle.rustc_lexer.proofs.PartLemmas.{space_part}
 use Rattle.rustc_lexer.proofs.SpaceLemmas.{space_stops_here}

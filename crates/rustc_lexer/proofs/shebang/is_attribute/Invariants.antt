@@ -1,6 +1,6 @@
 use Rattle.std.proofs.Common.{◌≡◌, length}
 use Rattle.rustc_lexer.specs.declared.token.FrontmatterAllowed.TheVariants.{No}
-use Rattle.rustc_lexer.specs.Shebang.{is_attribute}
+use Rattle.rustc_lexer.specs.means.Shebang.{is_attribute}
 use Rattle.rustc_lexer.specs.Tokens.{tokens_of, tokens_left}
 use Rattle.rustc_lexer.proofs.shebang.is_attribute.Given as goal
 

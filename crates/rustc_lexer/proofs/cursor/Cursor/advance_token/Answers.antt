@@ -1,9 +1,10 @@
 use Rattle.std.proofs.Common.{◌≡◌, ◌+◌, ◌-◌, ◌==◌, List, ℕ, length, drop, drop-drop, refl, sym, ap, subst, ◌∙◌, arith}
 use Rattle.rustc_lexer.specs.declared.token.Token.{Token}
-use Rattle.rustc_lexer.specs.State.{State, token_at, token_past}
+use Rattle.rustc_lexer.specs.State.{State, token_past}
+use Rattle.rustc_lexer.specs.means.Taking.{token_at}
 use Rattle.rustc_lexer.specs.Texts.{IsText}
 use Rattle.rustc_lexer.proofs.AdvanceLemmas.{not_end, takes_pending, stays_at_end, something}
-use Rattle.rustc_lexer.specs.Language.{TakesTokenOf}
+use Rattle.rustc_lexer.specs.LanguageHolds.{TakesTokenOf}
 use Rattle.rustc_lexer.proofs.LanguageLemmas.{advance-language}
 use Rattle.rustc_lexer.proofs.StateLemmas.{state, past_token, past_token-is, advance-end, advance-some}
 use Rattle.rustc_lexer.proofs.cursor.Cursor.advance_token.Goals as goal

@@ -1,5 +1,5 @@
 use Rattle.std.proofs.Common.{rules, arith}
-use Rattle.rustc_lexer.specs.Raw.{is_hash}
+use Rattle.rustc_lexer.specs.means.Raw.{is_hash}
 use Rattle.rustc_lexer.proofs.GuardedLemmas.{hash_boundary}
 use Rattle.rustc_lexer.proofs.RawLemmas.{hash_len}
 use Rattle.rustc_lexer.proofs.cursor.guarded.count_hashes.Goals as goal

@@ -1,7 +1,7 @@
 use Rattle.std.proofs.Common.{arith, ap, ◌≡◌, ◌∙◌, ℕ, min}
 use Rattle.std.specs.Str.{chars}
-use Rattle.rustc_lexer.specs.Raw.{hashes}
-use Rattle.rustc_lexer.specs.Scan.{past}
+use Rattle.rustc_lexer.specs.means.Raw.{hashes}
+use Rattle.rustc_lexer.specs.means.Scan.{past}
 use Rattle.rustc_lexer.proofs.GuardedLemmas.{hash_boundary, hash_cut}
 use Rattle.rustc_lexer.proofs.cursor.guarded.eat_hashes.Goals as goal
 

@@ -1,6 +1,6 @@
 use Rattle.std.proofs.Common.{ℕ, bit_and, refl, arith}
 use Rattle.std.proofs.lemmas.Simd.{zip2_splat}
-use Rattle.rustc_lexer.specs.ByteRuns.{outside, is_decimal_byte}
+use Rattle.rustc_lexer.specs.means.ByteRuns.{outside, is_decimal_byte}
 use Rattle.rustc_lexer.proofs.LaneLemmas.{joined, splat_is, least, masked}
 use Rattle.rustc_lexer.proofs.kernels.DecimalByteClass.stops.Goals as goal
 

@@ -1,9 +1,9 @@
 use Rattle.std.proofs.Common.{List, codes, if◌then◌else◌, ℕ, sym, ◌∙◌}
 use Rattle.rustc_lexer.specs.declared.token.TokenKind.{TokenKind}
 use Rattle.rustc_lexer.specs.declared.token.TokenKind.TheVariants.{Slash}
-use Rattle.rustc_lexer.specs.BlockComment.{block_comment}
-use Rattle.rustc_lexer.specs.Comment.{line_comment}
-use Rattle.rustc_lexer.specs.Scan.{after, begins, gives}
+use Rattle.rustc_lexer.specs.means.BlockComment.{block_comment}
+use Rattle.rustc_lexer.specs.means.Comment.{line_comment}
+use Rattle.rustc_lexer.specs.means.Scan.{after, begins, gives}
 use Rattle.rustc_lexer.proofs.ScanLemmas.{scanned-after, scanned-gives, scanned-yes, scanned-no}
 use Rattle.rustc_lexer.proofs.lexemes.comment.slash.Goals as goal
 

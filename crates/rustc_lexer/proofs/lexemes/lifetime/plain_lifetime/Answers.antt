@@ -1,5 +1,5 @@
 use Rattle.std.proofs.Common.{refl}
-use Rattle.rustc_lexer.specs.Ident.{is_word}
+use Rattle.rustc_lexer.specs.means.Ident.{is_word}
 use Rattle.rustc_lexer.specs.laws.Lifetime.{plain_lifetime_local}
 use Rattle.rustc_lexer.proofs.LifetimeLemmas.{plain_lifetime-quoted, plain_lifetime-unquoted_name}
 use Rattle.rustc_lexer.proofs.lexemes.lifetime.plain_lifetime.Goals as goal

@@ -1,5 +1,5 @@
 use Rattle.std.proofs.Common.{sym, ◌∙◌}
-use Rattle.rustc_lexer.specs.Number.{is_sign, past_sign}
+use Rattle.rustc_lexer.specs.means.Number.{is_sign, past_sign}
 use Rattle.rustc_lexer.proofs.NumberLemmas.{next-in}
 use Rattle.rustc_lexer.proofs.lexemes.number.eat_float_exponent.Goals as goal
 

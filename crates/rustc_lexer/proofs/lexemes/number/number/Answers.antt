@@ -1,5 +1,5 @@
 use Rattle.std.proofs.Common.{refl, ap, ◌∙◌}
-use Rattle.rustc_lexer.specs.Number.{with_suffix, number_kind, number_body}
+use Rattle.rustc_lexer.specs.means.Number.{with_suffix, number_kind, number_body}
 use Rattle.rustc_lexer.specs.laws.Number.{number_local}
 use Rattle.rustc_lexer.specs.laws.NumberLongest.{numbers-longest}
 use Rattle.rustc_lexer.proofs.LiteralLemmas.{with-suffix}

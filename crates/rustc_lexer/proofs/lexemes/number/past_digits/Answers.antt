@@ -1,5 +1,5 @@
 use Rattle.std.proofs.Common.{sym, ap, ◌∙◌}
-use Rattle.rustc_lexer.specs.Number.{is_no_fraction}
+use Rattle.rustc_lexer.specs.means.Number.{is_no_fraction}
 use Rattle.rustc_lexer.proofs.NumberLemmas.{past_digits-end, pick-fraction, pick-int_before_dot, pick-exponent, pick-int}
 use Rattle.rustc_lexer.proofs.lexemes.number.past_digits.Goals as goal
 

@@ -1,6 +1,6 @@
 use Rattle.rustc_lexer.specs.declared.token.LiteralKind.TheVariants.{Byte}
-use Rattle.rustc_lexer.specs.Quoted.{single_quoted_string, byte_body}
-use Rattle.rustc_lexer.specs.Scan.{after}
+use Rattle.rustc_lexer.specs.means.Quoted.{single_quoted_string, byte_body}
+use Rattle.rustc_lexer.specs.means.Scan.{after}
 use Rattle.rustc_lexer.specs.laws.Quoted.{byte_at, byte_closed}
 use Rattle.rustc_lexer.proofs.QuotedLemmas.{body-after, shorter-after}
 use Rattle.rustc_lexer.proofs.lexemes.quoted.byte_literal.Goals as goal

@@ -1,6 +1,6 @@
 use Rattle.rustc_lexer.specs.declared.token.LiteralKind.TheVariants.{ByteStr}
-use Rattle.rustc_lexer.specs.Quoted.{double_quoted_string, byte_str_body}
-use Rattle.rustc_lexer.specs.Scan.{after}
+use Rattle.rustc_lexer.specs.means.Quoted.{double_quoted_string, byte_str_body}
+use Rattle.rustc_lexer.specs.means.Scan.{after}
 use Rattle.rustc_lexer.specs.laws.Quoted.{byte_str_at}
 use Rattle.rustc_lexer.proofs.QuotedLemmas.{body-after, shorter-after}
 use Rattle.rustc_lexer.proofs.lexemes.quoted.byte_str_literal.Goals as goal

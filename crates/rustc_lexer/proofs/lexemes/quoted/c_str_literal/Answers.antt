@@ -1,6 +1,6 @@
 use Rattle.rustc_lexer.specs.declared.token.LiteralKind.TheVariants.{CStr}
-use Rattle.rustc_lexer.specs.Quoted.{double_quoted_string, c_str_body}
-use Rattle.rustc_lexer.specs.Scan.{after}
+use Rattle.rustc_lexer.specs.means.Quoted.{double_quoted_string, c_str_body}
+use Rattle.rustc_lexer.specs.means.Scan.{after}
 use Rattle.rustc_lexer.specs.laws.Quoted.{c_str_at}
 use Rattle.rustc_lexer.proofs.QuotedLemmas.{body-after, shorter-after}
 use Rattle.rustc_lexer.proofs.lexemes.quoted.c_str_literal.Goals as goal

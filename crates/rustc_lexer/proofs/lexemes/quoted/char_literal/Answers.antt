@@ -1,5 +1,5 @@
 use Rattle.rustc_lexer.specs.declared.token.LiteralKind.TheVariants.{Char}
-use Rattle.rustc_lexer.specs.Quoted.{single_quoted_string, char_body}
+use Rattle.rustc_lexer.specs.means.Quoted.{single_quoted_string, char_body}
 use Rattle.rustc_lexer.specs.laws.Quoted.{char_local, char_closed}
 use Rattle.rustc_lexer.proofs.QuotedLemmas.{body-read}
 use Rattle.rustc_lexer.proofs.lexemes.quoted.char_literal.Goals as goal

@@ -1,7 +1,7 @@
 use Rattle.std.proofs.Common.{length}
 use denote.Text.{Utf8}
 use denote.Shadow.{shadow}
-use Rattle.rustc_lexer.specs.Quoted.{at_single_stop}
+use Rattle.rustc_lexer.specs.means.Quoted.{at_single_stop}
 use Rattle.rustc_lexer.proofs.QuotedLoop.{Seeking}
 use Rattle.rustc_lexer.proofs.lexemes.quoted.single_quoted_string.Given as goal
 

@@ -1,5 +1,5 @@
 use Rattle.rustc_lexer.specs.declared.token.LiteralKind.TheVariants.{Str}
-use Rattle.rustc_lexer.specs.Quoted.{double_quoted_string, str_body}
+use Rattle.rustc_lexer.specs.means.Quoted.{double_quoted_string, str_body}
 use Rattle.rustc_lexer.specs.laws.Quoted.{str_local}
 use Rattle.rustc_lexer.proofs.QuotedLemmas.{body-read}
 use Rattle.rustc_lexer.proofs.lexemes.quoted.str_literal.Goals as goal

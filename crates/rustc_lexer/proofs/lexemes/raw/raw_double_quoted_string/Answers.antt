@@ -1,5 +1,5 @@
 use Rattle.std.proofs.Common.{rules, arith}
-use Rattle.rustc_lexer.specs.Raw.{is_hash}
+use Rattle.rustc_lexer.specs.means.Raw.{is_hash}
 use Rattle.rustc_lexer.specs.laws.Raw.{raw_read_local, raw_read_within}
 use Rattle.rustc_lexer.proofs.RawReadLemmas.{no_starter, bad_starter, past_opening}
 use Rattle.rustc_lexer.proofs.lexemes.raw.raw_double_quoted_string.Goals as goal

@@ -1,5 +1,5 @@
 use Rattle.std.proofs.Common.{rules, arith}
-use Rattle.rustc_lexer.specs.Raw.{is_hash}
+use Rattle.rustc_lexer.specs.means.Raw.{is_hash}
 use Rattle.rustc_lexer.proofs.RawLemmas.{search_start, search_on, search_more, may_cut, closed_here, never_closed}
 use Rattle.rustc_lexer.proofs.lexemes.raw.raw_text.Goals as goal
 

@@ -2,7 +2,7 @@ use Rattle.std.proofs.Common.{List, subst, ◌∙◌}
 use Rattle.rustc_lexer.specs.declared.token.FrontmatterAllowed.TheVariants.{No}
 use Rattle.rustc_lexer.specs.declared.token.Token.{Token}
 use Rattle.rustc_lexer.specs.Cuts.{tokens_by}
-use Rattle.rustc_lexer.specs.Lexeme.{first_token}
+use Rattle.rustc_lexer.specs.means.Lexeme.{first_token}
 use Rattle.rustc_lexer.specs.Settled.{IsSettled}
 use Rattle.rustc_lexer.specs.laws.Lookahead.{first_token_grammar}
 use Rattle.rustc_lexer.specs.Tokens.{tokens_of}

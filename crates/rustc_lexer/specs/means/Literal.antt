@@ -1,10 +1,10 @@
--- Literals: a body, and a suffix where the body takes one.
+-- Means, by how it is read: literals: a body, and a suffix where the body takes one.
 use Rattle.std.specs.Prelude.{ℕ, ◌+◌, Bool, if◌then◌else◌, List, drop}
 use Rattle.rustc_lexer.specs.declared.token.LiteralKind.{LiteralKind}
 use Rattle.rustc_lexer.specs.declared.token.TokenKind.{TokenKind}
 use Rattle.rustc_lexer.specs.declared.token.TokenKind.TheVariants.{Literal}
 use Rattle.rustc_lexer.specs.Classes.{is_id_start, is_id_continue}
-use Rattle.rustc_lexer.specs.Scan.{next_is, run_len, bytes_of}
+use Rattle.rustc_lexer.specs.means.Scan.{next_is, run_len, bytes_of}
 
 -- an identifier, if one stands here
 abbrev pub suffix_len : List ℕ → ℕ

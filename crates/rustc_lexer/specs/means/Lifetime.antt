@@ -1,4 +1,4 @@
--- What follows a single quote: a character, or a lifetime.
+-- Means, by how it is read: what follows a single quote: a character, or a lifetime.
 use Rattle.std.specs.Prelude.{ℕ, suc, ◌+◌, ◌==◌, ◌&&◌, ◌||◌, not, Bool, true, if◌then◌else◌, List, [], ◌∷◌, length, codes}
 use Rattle.std.specs.Char.{is_ascii_digit}
 use Rattle.std.specs.List.{list_all}
@@ -8,10 +8,10 @@ use Rattle.rustc_lexer.specs.declared.token.TokenKind.{TokenKind}
 use Rattle.rustc_lexer.specs.declared.token.TokenKind.TheVariants.{Literal, Lifetime, RawLifetime, UnknownPrefixLifetime}
 use Rattle.rustc_lexer.specs.Classes.{is_id_start, is_id_continue}
 use Rattle.rustc_lexer.specs.Emoji.{is_emoji}
-use Rattle.rustc_lexer.specs.Ident.{is_word, marks_ident}
-use Rattle.rustc_lexer.specs.Literal.{literal}
-use Rattle.rustc_lexer.specs.Quoted.{char_body}
-use Rattle.rustc_lexer.specs.Scan.{after, and_then, begins, gives, run, run_as}
+use Rattle.rustc_lexer.specs.means.Ident.{is_word, marks_ident}
+use Rattle.rustc_lexer.specs.means.Literal.{literal}
+use Rattle.rustc_lexer.specs.means.Quoted.{char_body}
+use Rattle.rustc_lexer.specs.means.Scan.{after, and_then, begins, gives, run, run_as}
 
 -- what the name of a lifetime begins with; digits and emoji are let through, and marked
 abbrev pub is_name_start : ℕ → Bool

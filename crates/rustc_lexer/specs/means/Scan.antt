@@ -1,8 +1,9 @@
--- Scanners: what is read at the front of a list of characters, and how many of them are taken.
+-- Means, by how it is read: scanners: what is read at the front of a list of characters, and how many of them are taken.
 use Rattle.std.specs.Prelude.{ℕ, suc, ◌≡◌, ◌+◌, ◌≤◌, ◌==◌, ◌&&◌, Bool, true, false, if◌then◌else◌, List, [], ◌∷◌, length, take, drop, Option, Some, None}
 use Rattle.std.specs.Str.{chars, encode_utf8_all}
 use Rattle.rustc_lexer.specs.declared.token.Token.{Token}
 use Rattle.rustc_lexer.specs.declared.token.TokenKind.{TokenKind}
+pub use Rattle.rustc_lexer.specs.Spans.{begins, next_is}
 
 -- what is read of this text depends on no more than `reach` characters past what is taken: a text that has the same first
 -- characters up to there, or ends with this one before that, is read alike
@@ -57,17 +58,6 @@ or_all end s = or_all_at (end s) s
 -- an end that is found depends on no more than `reach` characters past it
 abbrev pub IsFound : ℕ → (List ℕ → Option ℕ) → Type 0
 IsFound reach end = (s : List ℕ) (n : ℕ) → end s ≡ Some n → IsLocalAt (Option ℕ) reach (λ u. (end u, (or_all end u).1)) s
-
--- whether the text begins with these characters
-abbrev pub begins : List ℕ → List ℕ → Bool
-begins [] s = true
-begins (c ∷ cs) [] = false
-begins (c ∷ cs) (d ∷ s) = d == c && begins cs s
-
--- whether the next character is in the class; the end of the text is in none
-abbrev pub next_is : (ℕ → Bool) → List ℕ → Bool
-next_is p [] = false
-next_is p (c ∷ s) = p c
 
 -- how many bytes the first n characters take
 abbrev pub bytes_of : ℕ → List ℕ → ℕ

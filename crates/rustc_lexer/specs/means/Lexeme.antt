@@ -1,7 +1,7 @@
--- The token at the front of a text.
+-- Means, by how it is read: the token at the front of a text.
 use Rattle.rustc_lexer.specs.declared.lexemes.raw.RawPrefix.TheVariants.{R, Br, Cr}
 use Rattle.rustc_lexer.specs.declared.lexemes.raw.RawPrefix.{RawPrefix}
-use Rattle.rustc_lexer.specs.Raw.{raw_literal}
+use Rattle.rustc_lexer.specs.means.Raw.{raw_literal}
 use Rattle.std.specs.Prelude.{ℕ, suc, ◌==◌, if◌then◌else◌, List, [], ◌∷◌, Bool, codes, ◌&&◌, drop}
 use Rattle.std.specs.Char.{is_ascii_digit}
 use Rattle.std.specs.Str.{byte}
@@ -10,17 +10,17 @@ use Rattle.rustc_lexer.specs.declared.lexemes.family.Family.TheVariants.{Slash, 
 use Rattle.rustc_lexer.specs.declared.token.Token.{Token}
 use Rattle.rustc_lexer.specs.declared.token.TokenKind.{TokenKind}
 use Rattle.rustc_lexer.specs.declared.token.TokenKind.TheVariants.{Whitespace, RawIdent, ForcedKeywordIdent, Eof}
-use Rattle.rustc_lexer.specs.Choice.{Arm, arm, chosen}
+use Rattle.rustc_lexer.specs.means.Choice.{Arm, arm, chosen}
 use Rattle.rustc_lexer.specs.Classes.{is_among, is_whitespace, is_id_start}
-use Rattle.rustc_lexer.specs.Comment.{slash}
+use Rattle.rustc_lexer.specs.means.Comment.{slash}
 use Rattle.rustc_lexer.specs.Emoji.{is_emoji}
-use Rattle.rustc_lexer.specs.Hash.{hash}
-use Rattle.rustc_lexer.specs.Ident.{ident_or_unknown_prefix, invalid_ident, marked}
-use Rattle.rustc_lexer.specs.Lifetime.{lifetime_or_char}
-use Rattle.rustc_lexer.specs.Literal.{literal}
-use Rattle.rustc_lexer.specs.Number.{number}
-use Rattle.rustc_lexer.specs.Quoted.{byte_body, byte_str_body, c_str_body, str_body}
-use Rattle.rustc_lexer.specs.Scan.{after, begins, gives, run, token_by, next_is}
+use Rattle.rustc_lexer.specs.means.Hash.{hash}
+use Rattle.rustc_lexer.specs.means.Ident.{ident_or_unknown_prefix, invalid_ident, marked}
+use Rattle.rustc_lexer.specs.means.Lifetime.{lifetime_or_char}
+use Rattle.rustc_lexer.specs.means.Literal.{literal}
+use Rattle.rustc_lexer.specs.means.Number.{number}
+use Rattle.rustc_lexer.specs.means.Quoted.{byte_body, byte_str_body, c_str_body, str_body}
+use Rattle.rustc_lexer.specs.means.Scan.{after, begins, gives, run, token_by, next_is}
 pub use Rattle.rustc_lexer.specs.Symbols.{symbols, kind_among, symbol_kind}
 
 -- what follows the first character of a white space

@@ -1,4 +1,4 @@
--- Numbers that may be none, and the least that passes a test.
+-- Means, by how it is read: numbers that may be none, and the least that passes a test.
 use Rattle.std.specs.Prelude.{ℕ, zero, suc, ◌+◌, Bool, if◌then◌else◌, Option, Some, None}
 
 -- so much more, if there is one

@@ -1,4 +1,4 @@
--- Runs of bytes in the ASCII part of a class.
+-- Means, by how it is read: runs of bytes in the ASCII part of a class.
 use Rattle.std.specs.Prelude.{ℕ, Bool, not, ◌||◌, ◌&&◌, ◌==◌, nat_lt, nat_le}
 use Rattle.std.specs.Char.{is_ascii_alphanumeric, is_ascii_digit, is_ascii_hexdigit}
 

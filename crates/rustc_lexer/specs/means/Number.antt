@@ -1,4 +1,4 @@
--- Numbers.
+-- Means, by how it is read: numbers.
 use Rattle.std.specs.Prelude.{ℕ, ◌==◌, ◌&&◌, ◌||◌, not, Bool, false, true, if◌then◌else◌, List, drop, codes}
 use Rattle.std.specs.Char.{is_ascii_digit, is_ascii_hexdigit}
 use Rattle.std.specs.List.{list_any}
@@ -9,8 +9,8 @@ use Rattle.rustc_lexer.specs.declared.token.LiteralKind.{LiteralKind}
 use Rattle.rustc_lexer.specs.declared.token.LiteralKind.TheVariants.{Int, Float}
 use Rattle.rustc_lexer.specs.declared.token.TokenKind.{TokenKind}
 use Rattle.rustc_lexer.specs.Classes.{is_id_start}
-use Rattle.rustc_lexer.specs.Literal.{Body, literal}
-use Rattle.rustc_lexer.specs.Scan.{after, and_then, begins, gives, next_is, read_as, run, run_as}
+use Rattle.rustc_lexer.specs.means.Literal.{Body, literal}
+use Rattle.rustc_lexer.specs.means.Scan.{after, and_then, begins, gives, next_is, read_as, run, run_as}
 
 abbrev pub is_underscore : ℕ → Bool
 is_underscore c = c == byte "_"

@@ -1,11 +1,11 @@
--- Quoted text: what follows an opening quote.
+-- Means, by how it is read: quoted text: what follows an opening quote.
 use Rattle.std.specs.Prelude.{ℕ, zero, suc, ◌==◌, ◌&&◌, ◌||◌, not, Bool, true, false, if◌then◌else◌, List, [], ◌∷◌, length, take, drop, reverse, codes, Option, Some, None}
 use Rattle.std.specs.Str.{byte}
 use Rattle.rustc_lexer.specs.declared.token.LiteralKind.{LiteralKind}
 use Rattle.rustc_lexer.specs.declared.token.LiteralKind.TheVariants.{Char, Byte, Str, ByteStr, CStr}
-use Rattle.rustc_lexer.specs.Least.{least}
-use Rattle.rustc_lexer.specs.Literal.{Body}
-use Rattle.rustc_lexer.specs.Scan.{begins, run_len}
+use Rattle.rustc_lexer.specs.means.Least.{least}
+use Rattle.rustc_lexer.specs.means.Literal.{Body}
+use Rattle.rustc_lexer.specs.means.Scan.{begins, run_len}
 
 abbrev pub is_backslash : ℕ → Bool
 is_backslash c = c == byte "\\"

@@ -1,11 +1,11 @@
--- Comments.
+-- Means, by how it is read: comments.
 use Rattle.std.specs.Prelude.{ℕ, ◌==◌, ◌&&◌, not, Bool, if◌then◌else◌, List, codes, Option, Some, None}
 use Rattle.rustc_lexer.specs.declared.token.DocStyle.{DocStyle}
 use Rattle.rustc_lexer.specs.declared.token.DocStyle.TheVariants.{Outer, Inner}
 use Rattle.rustc_lexer.specs.declared.token.TokenKind.{TokenKind}
 use Rattle.rustc_lexer.specs.declared.token.TokenKind.TheVariants.{LineComment, Slash}
-use Rattle.rustc_lexer.specs.BlockComment.{block_comment}
-use Rattle.rustc_lexer.specs.Scan.{after, begins, gives, run_len}
+use Rattle.rustc_lexer.specs.means.BlockComment.{block_comment}
+use Rattle.rustc_lexer.specs.means.Scan.{after, begins, gives, run_len}
 
 -- of what follows `//`: `!` makes the doc of what the comment stands in, and one more `/`, but not two, the doc of
 -- what comes next

@@ -1,4 +1,4 @@
--- A choice between scanners by the first character.
+-- Means, by how it is read: a choice between scanners by the first character.
 use Rattle.std.specs.Prelude.{ℕ, Bool, if◌then◌else◌, List, [], ◌∷◌}
 use Rattle.rustc_lexer.specs.declared.token.TokenKind.{TokenKind}
 

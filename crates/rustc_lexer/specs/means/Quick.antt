@@ -1,10 +1,10 @@
--- What bytes say of a token.
+-- Means, by how it is read: what bytes say of a token.
 use Rattle.std.specs.Prelude.{ℕ, Bool, List, ◌≡◌, ◌≤◌, ◌||◌, ◌==◌, length}
 use Rattle.std.specs.Str.{IsCharBoundary}
 use Rattle.rustc_lexer.specs.declared.token.Token.{Token}
-use Rattle.rustc_lexer.specs.ByteRuns.{is_wide}
-use Rattle.rustc_lexer.specs.Ident.{is_prefix_mark}
-use Rattle.rustc_lexer.specs.Lexeme.{first_token}
+use Rattle.rustc_lexer.specs.means.ByteRuns.{is_wide}
+use Rattle.rustc_lexer.specs.means.Ident.{is_prefix_mark}
+use Rattle.rustc_lexer.specs.means.Lexeme.{first_token}
 use Rattle.rustc_lexer.specs.State.{HasSuffixWithin}
 
 -- the token is the first of the text, and may be taken off it

@@ -1,11 +1,11 @@
--- Block comments, from what follows the opening mark.
+-- Means, by how it is read: block comments, from what follows the opening mark.
 use Rattle.std.specs.Prelude.{◌≡◌, ℕ, zero, suc, ◌&&◌, not, Bool, true, false, if◌then◌else◌, List, [], ◌∷◌, length, drop, codes, Option, Some, None}
 use Rattle.rustc_lexer.specs.declared.token.DocStyle.{DocStyle}
 use Rattle.rustc_lexer.specs.declared.token.DocStyle.TheVariants.{Outer, Inner}
 use Rattle.rustc_lexer.specs.declared.token.TokenKind.{TokenKind}
 use Rattle.rustc_lexer.specs.declared.token.TokenKind.TheVariants.{BlockComment}
-use Rattle.rustc_lexer.specs.Least.{more}
-use Rattle.rustc_lexer.specs.Scan.{IsLocalAt, begins}
+use Rattle.rustc_lexer.specs.means.Least.{more}
+use Rattle.rustc_lexer.specs.means.Scan.{IsLocalAt, begins}
 
 -- whether a mark stands here that closes a comment, or one that opens another
 abbrev pub at_closing : List ℕ → Bool

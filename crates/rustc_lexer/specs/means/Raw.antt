@@ -1,4 +1,4 @@
--- Raw strings, and the check of one.
+-- Means, by how it is read: raw strings, and the check of one.
 use Rattle.std.specs.Prelude.{ℕ, zero, suc, ◌≡◌, ◌+◌, ◌-◌, ◌<◌, ◌==◌, nat_le, max, Bool, true, false, ◌&&◌, not, if◌then◌else◌, List, [], ◌∷◌, length, drop, Option, Some, None, IsNone, Result, Ok, Err}
 use Rattle.std.specs.Str.{byte, chars}
 use Rattle.rustc_lexer.specs.declared.lexemes.raw.RawPrefix.{RawPrefix}
@@ -8,9 +8,10 @@ use Rattle.rustc_lexer.specs.declared.token.LiteralKind.TheVariants.{RawStr, Raw
 use Rattle.rustc_lexer.specs.declared.token.RawStrError.{RawStrError}
 use Rattle.rustc_lexer.specs.declared.token.RawStrError.TheVariants.{InvalidStarter, NoTerminator, TooManyDelimiters}
 use Rattle.rustc_lexer.specs.declared.token.TokenKind.{TokenKind}
-use Rattle.rustc_lexer.specs.Least.{least}
-use Rattle.rustc_lexer.specs.Literal.{Body, literal_past}
-use Rattle.rustc_lexer.specs.Scan.{IsLocalAt, after, bytes_of, gives, next_is, run_len}
+use Rattle.rustc_lexer.specs.means.Least.{least}
+use Rattle.rustc_lexer.specs.means.Literal.{Body, literal_past}
+use Rattle.rustc_lexer.specs.means.Scan.{IsLocalAt, after, bytes_of, gives, next_is, run_len}
+pub use Rattle.rustc_lexer.specs.LanguageCalls.{is_r, StartsRaw}
 
 -- the least place from which the text passes a test
 abbrev pub least_place : (List ℕ → Bool) → List ℕ → Option ℕ
@@ -130,14 +131,6 @@ checked (Err e) = Err e
 -- the check of a text whose prefix is p characters long
 unfoldable pub raw_check : List ℕ → ℕ → Result Unit RawStrError
 raw_check text p = checked (raw_read p (drop p (chars text))).0
-
-abbrev pub is_r : ℕ → Bool
-is_r c = c == byte "r"
-
--- character number p of the text, counted from 1, is `r`
-pub record StartsRaw (text : List ℕ) (p : ℕ) : Type 0 where
-  pub some : 0 < p
-  pub letter : next_is is_r (drop (p - 1) (chars text)) ≡ true
 
 -- what is read has an end of its own, and not the end of the text; v is what follows the first hashes
 abbrev pub HasEnd : List ℕ → Result ℕ RawStrError → Type 0

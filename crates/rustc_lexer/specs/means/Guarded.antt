@@ -1,11 +1,11 @@
--- Guarded strings: a string with hashes on both sides.
+-- Means, by how it is read: guarded strings: a string with hashes on both sides.
 use Rattle.std.specs.Prelude.{ℕ, suc, ◌+◌, min, Bool, if◌then◌else◌, List, drop, Option, Some, None}
 use Rattle.std.specs.Str.{chars}
 use Rattle.rustc_lexer.specs.declared.token.GuardedStr.{GuardedStr}
-use Rattle.rustc_lexer.specs.Literal.{suffix_len}
-use Rattle.rustc_lexer.specs.Quoted.{double_quoted_string}
-use Rattle.rustc_lexer.specs.Raw.{hashes, is_quote}
-use Rattle.rustc_lexer.specs.Scan.{bytes_of, next_is}
+use Rattle.rustc_lexer.specs.means.Literal.{suffix_len}
+use Rattle.rustc_lexer.specs.means.Quoted.{double_quoted_string}
+use Rattle.rustc_lexer.specs.means.Raw.{hashes, is_quote}
+use Rattle.rustc_lexer.specs.means.Scan.{bytes_of, next_is}
 use Rattle.rustc_lexer.specs.State.{State}
 
 -- what follows the closing quote: n hashes at most, and a suffix

@@ -1,9 +1,9 @@
--- A hash: a symbol, or the prefix of a guarded string.
+-- Means, by how it is read: a hash: a symbol, or the prefix of a guarded string.
 use Rattle.std.specs.Prelude.{ℕ, Bool, if◌then◌else◌, List, codes}
 use Rattle.rustc_lexer.specs.declared.token.TokenKind.{TokenKind}
 use Rattle.rustc_lexer.specs.declared.token.TokenKind.TheVariants.{GuardedStrPrefix, Pound}
 use Rattle.rustc_lexer.specs.Classes.{is_among}
-use Rattle.rustc_lexer.specs.Scan.{after, gives, next_is}
+use Rattle.rustc_lexer.specs.means.Scan.{after, gives, next_is}
 
 -- a guarded string goes on after its first hash with a quote or a hash
 abbrev pub is_guarded_mark : ℕ → Bool

@@ -1,0 +1,44 @@
+-- Means, by how it is read: what an edition has in place of the token at the front of a text.
+use Rattle.std.specs.Prelude.{ℕ, Bool, false, List, [], ◌∷◌, take}
+use Rattle.std.specs.Str.{chars}
+use Rattle.rustc_lexer.specs.declared.edition.Edition.{Edition}
+use Rattle.rustc_lexer.specs.declared.edition.Edition.TheVariants.{E2021, E2024}
+use Rattle.rustc_lexer.specs.declared.token.Token.{Token}
+use Rattle.rustc_lexer.specs.declared.token.TokenKind.{TokenKind}
+use Rattle.rustc_lexer.specs.declared.token.TokenKind.TheVariants.{Ident, UnknownPrefix, UnknownPrefixLifetime, RawLifetime, Lifetime, GuardedStrPrefix, Pound}
+use Rattle.rustc_lexer.specs.means.Ident.{is_word}
+use Rattle.rustc_lexer.specs.means.Lexeme.{first_token}
+use Rattle.rustc_lexer.specs.means.Lifetime.{is_marked}
+use Rattle.rustc_lexer.specs.means.Scan.{run_len}
+
+abbrev pub token : TokenKind → ℕ → Token
+token kind len = record { kind = kind; len = len }
+
+-- whether the name that stands after a quote is one that no lifetime of Rust has; the characters begin with the quote
+abbrev pub has_marked_name : List ℕ → Bool
+has_marked_name [] = false
+has_marked_name (quote ∷ []) = false
+has_marked_name (quote ∷ c ∷ s) = is_marked c (take (run_len is_word s) s)
+
+-- a token as an edition before 2024 has it, where no guarded string is kept free: a hash is a symbol, whatever follows it
+abbrev pub before_2024 : TokenKind → ℕ → Token
+before_2024 GuardedStrPrefix len = token Pound 1
+before_2024 kind len = token kind len
+
+-- the token of these characters as an edition before 2021 has it, where no prefix is kept free either: no lifetime is raw,
+-- and what stands right before a mark is an identifier or a lifetime, as it is elsewhere
+abbrev pub before_2021 : List ℕ → TokenKind → ℕ → Token
+before_2021 cs RawLifetime len = token (Lifetime false) 2
+before_2021 cs UnknownPrefix len = token Ident len
+before_2021 cs UnknownPrefixLifetime len = token (Lifetime (has_marked_name cs)) len
+before_2021 cs kind len = before_2024 kind len
+
+-- the token at the front of these characters, changed to what an edition has in its place
+abbrev pub changed : Edition → List ℕ → Token → Token
+changed E2024 cs t = t
+changed E2021 cs t = before_2024 t.kind t.len
+changed edition cs t = before_2021 cs t.kind t.len
+
+-- the token at the front of a text, in an edition
+abbrev pub first_token_in : Edition → List ℕ → Token
+first_token_in edition text = changed edition (chars text) (first_token text)
