@@ -2,6 +2,7 @@
 ghost use Rattle.std.specs.Prelude.{◌≡◌, ◌≢◌, ◌↔◌, ◌^◌, ◌<◌, false, true, IsTrue, IsErrOf, IfErr, IfOk, IfSome, OnErr, OnOk, length};
 ghost use Rattle.std.specs.Io.KnownBytes.{Appends, Keeps};
 ghost use Rattle.rustc_lexer.specs.Classes.{Fits};
+ghost use Rattle.rustc_lexer.specs.LanguageHolds.{IsDetermined};
 ghost use Rattle.lexdump.specs.Outcome.{outcome, printed, IsAnswer, IsPrinted, AppendsFront, Writes, EndsReading, IsReadingFault};
 
 use crate::fault::Fault;
@@ -16,6 +17,7 @@ use std::io::{Read, Write};
 ///
 /// Nothing is written before all of it is made: after every fault but `Fault::Write` the output is as it was.
 /// At `Ok` the last thing asked of the output was a flush, and it was not refused.
+#[tactic(auto, using(rustc_lexer::proofs::LanguageInLemmas::determined))]
 pub fn run<R: Read, W: Write>(
     alloc: Global,
     job: &Job<'_>,
@@ -35,6 +37,7 @@ pub fn run<R: Read, W: Write>(
     ensures written { IfSome (R.remaining input.old.inner) (λ bytes.
         Writes (W.contents output.old.inner) (W.contents output.new.inner) result
         (outcome job.now bytes)) }
+    ensures language { IsDetermined }
 {
     let bytes = read_all(alloc, input)?;
     let text = match std::str::from_utf8(bytes.as_slice()) {

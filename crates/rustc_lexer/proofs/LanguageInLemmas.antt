@@ -12,12 +12,13 @@ use Rattle.rustc_lexer.specs.declared.token.Token.{Token}
 use Rattle.rustc_lexer.specs.declared.token.TokenKind.{TokenKind}
 use Rattle.rustc_lexer.specs.declared.token.TokenKind.TheVariants.{Ident, UnknownPrefix, UnknownPrefixLifetime, RawLifetime, Lifetime, GuardedStrPrefix, Pound}
 use Rattle.rustc_lexer.specs.Classes.{is_among, is_id_start, is_id_continue, is_ident}
+use Rattle.rustc_lexer.specs.Cuts.{tokens_by}
 use Rattle.rustc_lexer.specs.Edition.{year, token, has_marked_name, before_2021, changed, first_token_in, tokens_in}
 use Rattle.rustc_lexer.specs.Emoji.{is_emoji}
 use Rattle.rustc_lexer.specs.Language as the
 use Rattle.rustc_lexer.specs.Language.{is_word, is_word_start, begins_ident_past, IsTokenBefore}
 use Rattle.rustc_lexer.specs.LanguageIn.{since, IsTokenIn, kept, pound, ident, lifetime, lifetime_r, AreTokensIn, nothing, something}
-use Rattle.rustc_lexer.specs.LanguageHolds.{AreTheTokensIn, IsPage}
+use Rattle.rustc_lexer.specs.LanguageHolds.{AreTheTokensIn, IsPage, HoldsTheOnlyTokensIn, HoldsTheOnlyTokensBy, IsDetermined}
 use Rattle.rustc_lexer.specs.means.Lexeme.{past_first, lexeme, first_token, symbols, kind_among, symbol_kind}
 use Rattle.rustc_lexer.specs.means.Scan.{bytes_of, next_is, run_len}
 use Rattle.rustc_lexer.specs.Spans.{AreAll, Goes, Stops, bytes}
@@ -28,7 +29,7 @@ use Rattle.rustc_lexer.specs.laws.Language.{lexeme-sound}
 use Rattle.rustc_lexer.specs.laws.LanguageRuns.{word_start-no_digit, mark-stops, run_len-here}
 use Rattle.rustc_lexer.specs.laws.LanguageWords.{marked-sound}
 use Rattle.rustc_lexer.proofs.CutLemmas.{past_first as text_past, shorter, tokens-nil, tokens-cons}
-use Rattle.rustc_lexer.proofs.LanguageLemmas.{empty-text, split, first-is}
+use Rattle.rustc_lexer.proofs.LanguageLemmas.{empty-text, split, first-is, language}
 
 -- ---- what an edition keeps
 
@@ -303,10 +304,18 @@ newest kind = omega arith
 pub page-in : (edition : Edition) → IsPage edition
 page-in edition e next w kind = (on-page (ap year e), λ p. kept (subst (λ (x : Edition). since kind ≤ year x) (sym e) (newest kind)) p)
 
--- tokens that are those of the text
-pub are-in : (edition : Edition) (text : List ℕ) → IsText text → (tokens : List Token) → tokens ≡ tokens_in edition text → AreTokensIn edition (chars text) tokens
-are-in edition text is tokens e = (language-in edition text is tokens).1 e
+-- tokens that are held
+pub held-in : (edition : Edition) (text : List ℕ) → IsText text → (held : List Token) → held ≡ tokens_in edition text → HoldsTheOnlyTokensIn edition text held
+held-in edition text is held e tokens = let only = language-in edition text is tokens in (λ are. only.0 are ∙ sym e, λ f. only.1 (f ∙ e))
 
+pub held-by : (grammar : List ℕ → Token) (text : List ℕ) → IsText text → (held : List Token) → held ≡ tokens_by grammar text → HoldsTheOnlyTokensBy grammar text held
+held-by grammar text is held e edition f = held-in edition text is held (e ∙ ap (λ (first : List ℕ → Token). tokens_by first text) f)
+
+-- every text has one list
+pub determined : IsDetermined
+determined = record { tokens = λ text allowed is. language text allowed is; tokens_in = λ text edition is. language-in edition text is }
+
+-- where two facts of what is answered give a third
 pub IfOk-two : {X Y : Type 0} (r : Result X Y) (P Q R : X → Type 0) → ((x : X) → P x → Q x → R x) → IfOk r P → IfOk r Q → IfOk r R
 IfOk-two (Ok x) P Q R f p q = f x p q
 IfOk-two (Err e) P Q R f p q = p

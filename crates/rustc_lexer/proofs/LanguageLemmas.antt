@@ -2,6 +2,7 @@
 use Rattle.std.proofs.Common.{◌≡◌, ℕ, ◌+◌, ◌<◌, ◌≤◌, ◌==◌, ◌||◌, not, codes, append_assoc, drop-drop, Bool, true, false, List, [], ◌∷◌, ◌++◌, length, take, drop, refl, sym, ap, ◌∙◌, subst, arith, take_at, drop_at, length-append, length-take-le, take-append-drop}
 use lib.Utf8.{scalars}
 use Rattle.std.proofs.Math.Seq.{take-append_seam, drop-append_seam}
+use Rattle.std.proofs.lemmas.Bool.{ne_eqb}
 use Rattle.std.proofs.lemmas.Str.{chars-append, chars-nil, IsUtf8-take, IsUtf8-drop, IsCharBoundary-from_take, chars-encodes, encodes-append, encodes-chars, length-le-encodes, scalars-chars}
 use Rattle.std.specs.Str.{chars, encode_utf8_all, IsUtf8}
 use Rattle.rustc_lexer.specs.declared.token.FrontmatterAllowed.{FrontmatterAllowed}
@@ -18,16 +19,16 @@ use Rattle.rustc_lexer.specs.laws.LanguageLiterals.{bytes-append}
 use Rattle.rustc_lexer.specs.laws.TokenBy.{scalars-take, scalars-drop}
 use Rattle.rustc_lexer.specs.FrontmatterGrammar.{fence, IsOpeningBefore, opening, EndsAt}
 use Rattle.rustc_lexer.specs.Language.{allowed_past, IsTokenBefore, AreTokens, nothing, something, frontmatter_first, IsTokenOf}
-use Rattle.rustc_lexer.specs.LanguageHolds.{AreTheTokens, TakesTokenOf}
+use Rattle.rustc_lexer.specs.LanguageHolds.{AreTheTokens, TakesTokenOf, TakesFirst}
 use Rattle.rustc_lexer.specs.Spans.{bytes}
 use Rattle.rustc_lexer.specs.means.Lexeme.{past_first, lexeme, first_token}
 use Rattle.rustc_lexer.specs.means.Scan.{bytes_of, next_is, past}
 use Rattle.rustc_lexer.specs.State.{State, allowed_after}
 use Rattle.rustc_lexer.specs.means.Taking.{token_at, advance}
 use Rattle.rustc_lexer.specs.Texts.{IsText}
-use Rattle.rustc_lexer.specs.Tokens.{tokens_of}
+use Rattle.rustc_lexer.specs.Tokens.{tokens_of, tokens_left}
 use Rattle.rustc_lexer.proofs.FrontmatterLemmas.{closing_end-boundary, closing_end-inside}
-use Rattle.rustc_lexer.proofs.StateLemmas.{state, advance-end, first-advanced}
+use Rattle.rustc_lexer.proofs.StateLemmas.{state, past_token, advance-end, advance-some, first-advanced}
 use Rattle.rustc_lexer.proofs.TextLemmas.{first_token-not_end}
 use Rattle.rustc_lexer.proofs.TokensLemmas.{token_at-cuts, by_tokens, tokens-nil, tokens-cons}
 
@@ -247,3 +248,16 @@ advance-language s is none free = by_rest s.rest refl
     by_rest (b ∷ bs) e =
         let read : (advance s).0 ≡ first_token s.rest = first-advanced s.rest s.frontmatter_allowed s at (omega (arith, ap length e)) ∙ at-first s.frontmatter_allowed s.rest (λ y. none-opens (chars s.rest) (free y)) in
         subst (IsTokenOf s.rest) (sym read) (first_token-of s.rest is)
+
+-- with bytes pending, and where a frontmatter opens
+pub takes-first : (s t : State) (token : Token) → IsText s.rest → 0 < length s.rest → token ≡ (advance s).0 → t ≡ (advance s).1 → TakesFirst s token t
+takes-first s t token is some e f =
+    let taken : Token = token_at s.frontmatter_allowed s.rest in
+    let whole = advance-some s.pending s.rest s.frontmatter_allowed s refl (ne_eqb (length s.rest) 0 (λ none. omega arith)) in
+    let left : t ≡ past_token s.rest s.frontmatter_allowed taken = f ∙ ap (λ (r : Token × State). r.1) whole in
+    let tokens : tokens_of s.frontmatter_allowed s.rest ≡ taken ∷ tokens_left t = tokens-cons s.frontmatter_allowed s.rest is some ∙ ap (λ (x : State). taken ∷ tokens_left x) (sym left) in
+    record {
+      taken = taken;
+      with_pending = e ∙ ap (λ (r : Token × State). r.0) whole;
+      first = subst (AreTokens s.frontmatter_allowed (chars s.rest)) tokens (tokens-are s.rest s.frontmatter_allowed is);
+    }

@@ -1,5 +1,6 @@
 -- Editions: their years, and the tokens of a text in one.
-use Rattle.std.specs.Prelude.{ℕ, ◌≡◌, ◌<◌, ◌≤◌, List, [], ◌∷◌, length, drop, IsCharBoundary, Option, Some, None}
+use Rattle.std.specs.Prelude.{ℕ, ◌≡◌, ◌<◌, ◌≤◌, codes, if◌then◌else◌, List, [], ◌∷◌, length, drop, IsCharBoundary, Option, Some, None}
+use Rattle.std.specs.Str.{bytes_eq}
 use Rattle.rustc_lexer.specs.declared.edition.Edition.{Edition}
 use Rattle.rustc_lexer.specs.declared.edition.Edition.TheVariants.{E2015, E2018, E2021, E2024}
 use Rattle.rustc_lexer.specs.declared.token.Token.{Token}
@@ -12,6 +13,15 @@ year E2015 = 2015
 year E2018 = 2018
 year E2021 = 2021
 year E2024 = 2024
+
+-- the edition that a word names, by its year
+abbrev pub edition_of : List ℕ → Option Edition
+edition_of word =
+    if bytes_eq word (codes "2015") then Some E2015
+    else (if bytes_eq word (codes "2018") then Some E2018
+    else (if bytes_eq word (codes "2021") then Some E2021
+    else (if bytes_eq word (codes "2024") then Some E2024
+    else None)))
 
 -- the tokens of a text, in an edition: the first one, then those of what follows it
 abbrev pub tokens_in : Edition → List ℕ → List Token

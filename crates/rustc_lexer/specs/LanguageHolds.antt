@@ -8,13 +8,14 @@ use Rattle.rustc_lexer.specs.declared.token.FrontmatterAllowed.{FrontmatterAllow
 use Rattle.rustc_lexer.specs.declared.token.FrontmatterAllowed.TheVariants.{Yes}
 use Rattle.rustc_lexer.specs.declared.token.Token.{Token}
 use Rattle.rustc_lexer.specs.declared.token.TokenKind.{TokenKind}
-use Rattle.rustc_lexer.specs.Edition.{tokens_in}
+use Rattle.rustc_lexer.specs.Edition.{first_token_in, tokens_in}
 use Rattle.rustc_lexer.specs.FrontmatterGrammar.{OpensNone}
 use Rattle.rustc_lexer.specs.Language.{AreTokens, IsTokenBefore, IsTokenOf}
 use Rattle.rustc_lexer.specs.LanguageIn.{AreTokensIn, IsTokenIn}
 use Rattle.rustc_lexer.specs.NumberGrammar.{IsLongestNumber}
-use Rattle.rustc_lexer.specs.State.{State}
-use Rattle.rustc_lexer.specs.Tokens.{tokens_of}
+use Rattle.rustc_lexer.specs.State.{State, token_past}
+use Rattle.rustc_lexer.specs.Texts.{IsText}
+use Rattle.rustc_lexer.specs.Tokens.{tokens_of, tokens_left}
 use Rattle.rustc_lexer.specs.means.Lexeme.{lexeme}
 use Rattle.rustc_lexer.specs.means.Number.{number_kind}
 
@@ -41,3 +42,23 @@ AreTheTokensIn edition text = (tokens : List Token) → AreTokensIn edition (cha
 -- the newest edition has the tokens of the page
 abbrev pub IsPage : Edition → Type 0
 IsPage edition = edition ≡ E2024 → (next w : List ℕ) (kind : TokenKind) → IsTokenIn edition next kind w ↔ IsTokenBefore next kind w
+
+-- in each state of a cursor that has text left: what it takes is the first of the tokens that the language allows there, a
+-- frontmatter where one opens, with the bytes that were pending before it; the others are left
+pub record TakesFirst (s : State) (token : Token) (t : State) : Type 0 where
+  pub taken : Token
+  pub with_pending : token ≡ token_past s.pending taken
+  pub first : AreTokens s.frontmatter_allowed (chars s.rest) (taken ∷ tokens_left t)
+
+-- these tokens of a text are the only ones that the language allows for it in the edition
+abbrev pub HoldsTheOnlyTokensIn : Edition → List ℕ → List Token → Type 0
+HoldsTheOnlyTokensIn edition text held = (tokens : List Token) → AreTokensIn edition (chars text) tokens ↔ (tokens ≡ held)
+
+-- so they are where they come from a grammar, and that is the one of an edition
+abbrev pub HoldsTheOnlyTokensBy : (List ℕ → Token) → List ℕ → List Token → Type 0
+HoldsTheOnlyTokensBy grammar text held = (edition : Edition) → grammar ≡ first_token_in edition → HoldsTheOnlyTokensIn edition text held
+
+-- of every text that fits the language allows one list, with a frontmatter allowed or not, and in each edition
+pub record IsDetermined : Type 0 where
+  pub tokens : (text : List ℕ) (allowed : FrontmatterAllowed) → IsText text → AreTheTokens allowed text
+  pub tokens_in : (text : List ℕ) (edition : Edition) → IsText text → AreTheTokensIn edition text

@@ -2,7 +2,7 @@
 ghost use Rattle.std.specs.Prelude.{◌≡◌, ◌≢◌, ◌+◌, ◌^◌, ◌<◌, length, slice_index};
 ghost use Rattle.std.specs.Str.{chars};
 ghost use Rattle.rustc_lexer.specs.Classes.{Fits};
-ghost use Rattle.rustc_lexer.specs.LanguageHolds.{TakesTokenOf};
+ghost use Rattle.rustc_lexer.specs.LanguageHolds.{TakesFirst, TakesTokenOf};
 ghost use Rattle.rustc_lexer.specs.means.Taking.{advance};
 ghost use Rattle.rustc_lexer.specs.State.{allowed_after, token_past, HasSuffixWithin};
 ghost use Rattle.rustc_lexer.specs.Tokens.{StaysAtEnd, TakesPending};
@@ -112,6 +112,7 @@ impl<'a> Cursor<'a> {
         ensures end { result.kind ≡ TokenKind.Eof → StaysAtEnd self.old result self.new }
         ensures past { result.kind ≢ TokenKind.Eof → TakesPending self.old result self.new }
         ensures language { TakesTokenOf self.old result }
+        ensures pending { result.kind ≢ TokenKind.Eof → TakesFirst self.old result self.new }
     {
         let rest = self.as_str();
         if rest.is_empty() {

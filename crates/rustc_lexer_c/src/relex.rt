@@ -5,6 +5,7 @@ ghost use Rattle.rustc_lexer.specs.declared.edition.Edition.{Edition};
 ghost use Rattle.rustc_lexer.specs.declared.token.Token.{Token};
 ghost use Rattle.rustc_lexer.specs.Classes.{Fits};
 ghost use Rattle.rustc_lexer.specs.Edition.{first_token_in, tokens_in};
+ghost use Rattle.rustc_lexer.specs.LanguageHolds.{IsDetermined};
 ghost use Rattle.rustc_lexer.specs.Relexing.{IsChange, IsMadeOf, MayGoOn, Stands, is_over, known};
 ghost use Rattle.rustc_lexer.specs.Texts.{IsGrammar};
 ghost use Rattle.rustc_lexer_c.specs.Numbers as numbers;
@@ -59,6 +60,7 @@ impl Measured for CToken {
 /// `old` has the tokens of the text before the edit, of which only the lengths are read. Any others may be passed too,
 /// and then the answer means nothing.
 #[unsafe(no_mangle)]
+#[tactic(auto, using(rustc_lexer::proofs::LanguageInLemmas::determined))]
 pub extern "C" fn rustc_lexer_relex(
     text: &[u8],
     old: &[CToken],
@@ -74,6 +76,7 @@ pub extern "C" fn rustc_lexer_relex(
         room.old relexing.new room.new count.new }
     ensures refused { result ≢ 0
         → spec.IsNotRelexed relexing.old relexing.new room.old room.new count.new }
+    ensures language { IsDetermined }
 {
     match text_of(text) {
         Ok(text) => relex(text, old, edit, edition, relexing, room, count),

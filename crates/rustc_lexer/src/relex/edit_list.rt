@@ -2,6 +2,7 @@
 ghost use Rattle.std.specs.Prelude.{◌≡◌, ◌+◌, IfErr, OnOk, take};
 ghost use Rattle.rustc_lexer.specs.Cuts.{tokens_by};
 ghost use Rattle.rustc_lexer.specs.EditLists.{apply_list, AreEdits, lexed_list, stop_at, IsStop, IsCounted};
+ghost use Rattle.rustc_lexer.specs.LanguageHolds.{HoldsTheOnlyTokensBy};
 
 use crate::entry::stepper::Stepper;
 use crate::relex::lexed_text::LexedText;
@@ -37,6 +38,8 @@ impl<S: Stepper> LexedText<S> {
         ensures text { OnOk result (self.new.text ≡ apply_list self.old.text edits.now) }
         ensures from_scratch { self.new.tokens
             ≡ tokens_by (S.grammar self.old.stepper) self.new.text }
+        ensures language { HoldsTheOnlyTokensBy (S.grammar self.old.stepper) self.new.text
+            self.new.tokens }
         ensures grammar { S.grammar self.new.stepper ≡ S.grammar self.old.stepper }
         ensures number { S.number self.new.stepper ≡ S.number self.old.stepper }
         ensures count { OnOk result

@@ -4,6 +4,7 @@ ghost use Rattle.rustc_lexer.specs.declared.token.FrontmatterAllowed.TheVariants
 ghost use Rattle.rustc_lexer.specs.Classes.{Fits};
 ghost use Rattle.rustc_lexer.specs.Cuts.{tokens_by};
 ghost use Rattle.rustc_lexer.specs.Edits.{IsEdit, IsInside, apply, bytes_or, relexed_of};
+ghost use Rattle.rustc_lexer.specs.LanguageHolds.{HoldsTheOnlyTokensBy};
 ghost use Rattle.rustc_lexer.specs.means.Lexeme.{first_token};
 ghost use Rattle.rustc_lexer.specs.Tokens.{tokens_of};
 
@@ -86,6 +87,7 @@ impl<S: Stepper> LexedText<S> {
     pub fn tokens(&self) -> &[Token]
         ensures tokens { result.now ≡ self.now.tokens }
         ensures from_scratch { result.now ≡ tokens_by (S.grammar self.now.stepper) self.now.text }
+        ensures language { HoldsTheOnlyTokensBy (S.grammar self.now.stepper) self.now.text result.now }
     {
         self.tokens.as_slice()
     }
@@ -102,6 +104,8 @@ impl<S: Stepper> LexedText<S> {
         ensures always { IsTrue result }
         ensures from_scratch { self.now.tokens
             ≡ tokens_by (S.grammar self.now.stepper) self.now.text }
+        ensures language { HoldsTheOnlyTokensBy (S.grammar self.now.stepper) self.now.text
+            self.now.tokens }
     {
         self.tokens.len() <= self.text.len()
     }
@@ -130,6 +134,8 @@ impl<S: Stepper> LexedText<S> {
         ensures text { OnOk result (self.new.text ≡ apply self.old.text start stop insert.now) }
         ensures from_scratch { self.new.tokens
             ≡ tokens_by (S.grammar self.old.stepper) self.new.text }
+        ensures language { HoldsTheOnlyTokensBy (S.grammar self.old.stepper) self.new.text
+            self.new.tokens }
         ensures relexed { IfOk result
             (λ r. r ≡ relexed_of (S.grammar self.old.stepper) self.old.text start stop insert.now) }
         ensures count { IfOk result

@@ -1,10 +1,9 @@
 //! A text that is kept with its tokens in an edition.
 ghost use Rattle.std.specs.Prelude.{◌≡◌, IfOk, OnErr, OnOk, length};
-ghost use Rattle.std.specs.Str.{chars};
 ghost use Rattle.rustc_lexer.specs.declared.edition.Edition.{Edition};
 ghost use Rattle.rustc_lexer.specs.Classes.{Fits};
 ghost use Rattle.rustc_lexer.specs.Edition.{first_token_in, tokens_in, year};
-ghost use Rattle.rustc_lexer.specs.LanguageIn.{AreTokensIn};
+ghost use Rattle.rustc_lexer.specs.LanguageHolds.{HoldsTheOnlyTokensIn};
 
 use crate::edition::Edition;
 use crate::entry::stepper::{Stepper, Steps};
@@ -24,7 +23,7 @@ impl LexedText<Steps> {
         ensures from_scratch { IfOk result (λ l. l.tokens ≡ tokens_in edition text.now) }
         ensures grammar { IfOk result
             (λ l. ⟦<Steps as Stepper>⟧.grammar l.stepper ≡ first_token_in edition) }
-        ensures language { IfOk result (λ l. AreTokensIn edition (chars text.now) l.tokens) }
+        ensures language { IfOk result (λ l. HoldsTheOnlyTokensIn edition text.now l.tokens) }
         ensures number { IfOk result (λ l. ⟦<Steps as Stepper>⟧.number l.stepper ≡ year edition) }
         ensures count { IfOk result (λ l. ⟦<Steps as Stepper>⟧.count l.stepper ≡ length l.tokens) }
     {
@@ -38,6 +37,7 @@ impl LexedText<Steps> {
             → ⟦<Steps as Stepper>⟧.number self.now.stepper ≡ year edition → result ≡ edition }
         ensures grammar { ⟦<Steps as Stepper>⟧.grammar self.now.stepper ≡ first_token_in result }
         ensures from_scratch { self.now.tokens ≡ tokens_in result self.now.text }
+        ensures language { HoldsTheOnlyTokensIn result self.now.text self.now.tokens }
     {
         self.stepper.edition()
     }
@@ -46,6 +46,8 @@ impl LexedText<Steps> {
     pub fn set_edition(&mut self, edition: Edition) -> Result<(), AllocError>
         ensures text { self.new.text ≡ self.old.text }
         ensures from_scratch { OnOk result (self.new.tokens ≡ tokens_in edition self.new.text) }
+        ensures language { OnOk result
+            (HoldsTheOnlyTokensIn edition self.new.text self.new.tokens) }
         ensures grammar { OnOk result
             (⟦<Steps as Stepper>⟧.grammar self.new.stepper ≡ first_token_in edition) }
         ensures number { OnOk result (⟦<Steps as Stepper>⟧.number self.new.stepper ≡ year edition) }

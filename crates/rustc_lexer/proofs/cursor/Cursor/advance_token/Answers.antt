@@ -5,7 +5,7 @@ use Rattle.rustc_lexer.specs.means.Taking.{token_at}
 use Rattle.rustc_lexer.specs.Texts.{IsText}
 use Rattle.rustc_lexer.proofs.AdvanceLemmas.{not_end, takes_pending, stays_at_end, something}
 use Rattle.rustc_lexer.specs.LanguageHolds.{TakesTokenOf}
-use Rattle.rustc_lexer.proofs.LanguageLemmas.{advance-language}
+use Rattle.rustc_lexer.proofs.LanguageLemmas.{advance-language, takes-first}
 use Rattle.rustc_lexer.proofs.StateLemmas.{state, past_token, past_token-is, advance-end, advance-some}
 use Rattle.rustc_lexer.proofs.cursor.Cursor.advance_token.Goals as goal
 
@@ -19,6 +19,7 @@ returns-then-is_empty c =
       end = λ e. stays_at_end _ _ _ c.as_str-rest.ensures.rest (sym c.if-is_empty.ensures) refl;
       past = λ other. absurd (other refl);
       language = subst (TakesTokenOf c.args.self.now) (ap (λ (r : Token × State). r.0) none) (advance-language c.args.self.now (subst IsText c.as_str-rest.ensures.rest record { utf8 = c.as_str-rest.utf8; fits = c.as_str-rest.ensures.fits }));
+      pending = λ other. absurd (other refl);
     }
 
 pub returns : goal.returns
@@ -43,4 +44,5 @@ returns c =
       end = λ e. absurd (not_end c.args.self.now _ _ text left token state e);
       past = λ other. takes_pending c.args.self.now _ _ text left token state;
       language = subst (TakesTokenOf c.args.self.now) (sym token) (advance-language c.args.self.now text);
+      pending = λ other. takes-first c.args.self.now _ _ text left token state;
     }
