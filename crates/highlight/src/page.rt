@@ -32,7 +32,8 @@ const HEAD: &str = "<!DOCTYPE html>
 }
 body { margin: 0; background: var(--back); color: var(--plain); }
 pre { margin: 0; padding: 1em 1.5em; font: 14px/1.5 ui-monospace, \"DejaVu Sans Mono\", monospace; tab-size: 4;
-  white-space: pre-wrap; overflow-wrap: anywhere; }
+  white-space: pre-wrap; word-break: break-all; overflow-wrap: anywhere; }
+.comment, .doc, mark::after { word-break: normal; }
 .comment { color: var(--comment); font-style: italic; }
 .doc { color: var(--doc); font-style: italic; }
 .keyword { color: var(--keyword); font-weight: bold; }
