@@ -7,8 +7,8 @@ use core::iter::FusedIterator;
 
 /// The tokens of a text, in order.
 ///
-/// The first is taken by itself, so that a caller who needs no other pays for no other; those behind it come 8 at a
-/// time, and then 256 at a time.
+/// The first is taken by itself, so that a caller who needs no other pays for no other. The next 8 come together, and
+/// then 256 at a time.
 ///
 /// ```
 /// use ra_ap_rustc_lexer::{tokenize, FrontmatterAllowed, TokenKind};
