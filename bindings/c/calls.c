@@ -1,5 +1,6 @@
-/* Calls of the library at its edges: texts that are not UTF-8, empty texts, room for no token and for one, a batch that
- * ends before a frontmatter, bad places. Exits with 1 at the first check that fails, and says which. */
+/* Calls of the library at its edges: texts that are not UTF-8, empty texts, null, room for no token and for one, a batch
+ * that ends before a frontmatter, bad places; the bytes of records; and a text under edits, compared with lexing it
+ * anew. Exits with 1 at the first check that fails, and says which. */
 #include <stdio.h>
 #include <string.h>
 
@@ -83,6 +84,77 @@ static int check_empty_text(batch_call *tokens) {
     return 0;
 }
 
+/* A pointer may be null where its length is 0. */
+static int check_null(void) {
+    struct rustc_lexer_place place = {0, 1};
+    struct rustc_lexer_raw_str_error error;
+    struct rustc_lexer_guarded_str string;
+    struct rustc_lexer_edit edit = {0, 0, 0};
+    struct rustc_lexer_relexing relexing = {0};
+    size_t count = 99, end = 99;
+    uint32_t is = 9;
+    CHECK(rustc_lexer_check(NULL, 0) == RUSTC_LEXER_OK);
+    CHECK(rustc_lexer_tokens(NULL, 0, &place, NULL, 0, &count) == RUSTC_LEXER_OK && count == 0);
+    CHECK(rustc_lexer_tokens(NULL, 0, &place, room, ROOM, &count) == RUSTC_LEXER_OK && count == 0);
+    CHECK(rustc_lexer_tokens_unchecked(NULL, 0, &place, NULL, 0, &count) == RUSTC_LEXER_OK && count == 0);
+    CHECK(rustc_lexer_tokens((const uint8_t *)"a", 1, &place, NULL, 0, &count) == RUSTC_LEXER_OK && place.at == 0);
+    CHECK(rustc_lexer_first_token_unchecked(NULL, 0, 0).kind == 0);
+    CHECK(rustc_lexer_relex(NULL, 0, NULL, 0, &edit, 2024, &relexing, NULL, 0, &count) == RUSTC_LEXER_OK);
+    CHECK(count == 0 && relexing.stage == 2 && relexing.kept_front == 0 && relexing.kept_back == 0);
+    CHECK(rustc_lexer_relex_unchecked(NULL, 0, NULL, 0, &edit, 2015, &(struct rustc_lexer_relexing){0}, room, ROOM,
+                                      &count) == RUSTC_LEXER_OK && count == 0);
+    CHECK(rustc_lexer_strip_shebang(NULL, 0, &end) == RUSTC_LEXER_OK && end == 0);
+    CHECK(rustc_lexer_strip_shebang_unchecked(NULL, 0, &end) == RUSTC_LEXER_OK && end == 0);
+    CHECK(rustc_lexer_settled(NULL, 0, &end) == RUSTC_LEXER_OK && end == 0);
+    CHECK(rustc_lexer_validate_raw_str(NULL, 0, 1, &error) == RUSTC_LEXER_NOT_RAW);
+    CHECK(rustc_lexer_validate_raw_str_unchecked(NULL, 0, 1, &error) == RUSTC_LEXER_NOT_RAW);
+    CHECK(!rustc_lexer_starts_raw_unchecked(NULL, 0, 1));
+    CHECK(rustc_lexer_guarded_str(NULL, 0, &string) == RUSTC_LEXER_OK && string.is_some == 0);
+    CHECK(rustc_lexer_guarded_str_unchecked(NULL, 0, &string) == RUSTC_LEXER_OK && string.is_some == 0);
+    CHECK(rustc_lexer_is_ident(NULL, 0, &is) == RUSTC_LEXER_OK && is == 0);
+    CHECK(!rustc_lexer_is_ident_unchecked(NULL, 0));
+    return 0;
+}
+
+/* The bytes of records, of which none is left as it was. */
+static int check_records(void) {
+    static const struct {
+        const char *text;
+        uint8_t bytes[4];
+        uint32_t suffix_start, len;
+    } rows[] = {
+        {"//!", {RUSTC_LEXER_LINE_COMMENT, RUSTC_LEXER_INNER_DOC}, 0, 3},
+        {"/** */", {RUSTC_LEXER_BLOCK_COMMENT, RUSTC_LEXER_OUTER_DOC, 1}, 0, 6},
+        {"/* ", {RUSTC_LEXER_BLOCK_COMMENT, RUSTC_LEXER_NO_DOC, 0}, 0, 3},
+        {"a", {RUSTC_LEXER_IDENT}, 0, 1},
+        {"'1", {RUSTC_LEXER_LIFETIME, 1}, 0, 2},
+        {"0xu8", {RUSTC_LEXER_LITERAL, RUSTC_LEXER_INT, 16, 1}, 2, 4},
+        {"1e", {RUSTC_LEXER_LITERAL, RUSTC_LEXER_FLOAT, 10, 1}, 2, 2},
+        {"b'a'", {RUSTC_LEXER_LITERAL, RUSTC_LEXER_BYTE, 1}, 4, 4},
+        {"r##\"a\"##", {RUSTC_LEXER_LITERAL, RUSTC_LEXER_RAW_STR, 1, 2}, 8, 8},
+        {"br\"a", {RUSTC_LEXER_LITERAL, RUSTC_LEXER_RAW_BYTE_STR, 0}, 4, 4},
+        {"%", {RUSTC_LEXER_PERCENT}, 0, 1},
+    };
+    size_t count;
+    for (size_t i = 0; i < sizeof rows / sizeof rows[0]; i++) {
+        const uint8_t *text = (const uint8_t *)rows[i].text;
+        struct rustc_lexer_place place = {0, 0};
+        struct rustc_lexer_token want, first = rustc_lexer_first_token_unchecked(text, strlen(rows[i].text), 0);
+        memcpy(&want, rows[i].bytes, 4);
+        want.suffix_start = rows[i].suffix_start;
+        want.len = rows[i].len;
+        CHECK(call(rustc_lexer_tokens, rows[i].text, strlen(rows[i].text), &place, ROOM, &count) == RUSTC_LEXER_OK);
+        CHECK(count == 1 && memcmp(room, &want, sizeof want) == 0 && memcmp(&first, &want, sizeof want) == 0);
+    }
+    const uint8_t *document = (const uint8_t *)" ---\na\n---\n";
+    struct rustc_lexer_token first = rustc_lexer_first_token_unchecked(document, 11, 7);
+    CHECK(first.kind == RUSTC_LEXER_FRONTMATTER && first.has_invalid_preceding_whitespace == 1);
+    CHECK(rustc_lexer_first_token_unchecked(document, 11, 0).kind == RUSTC_LEXER_WHITESPACE);
+    CHECK(strcmp(rustc_lexer_kind_name(RUSTC_LEXER_EOF), "Eof") == 0 && *rustc_lexer_kind_name(0) == 0);
+    CHECK(*rustc_lexer_kind_name(44) == 0 && *rustc_lexer_literal_kind_name(0) == 0);
+    return 0;
+}
+
 static int check_room(batch_call *tokens) {
     struct rustc_lexer_place place = {0, 0};
     size_t count;
@@ -105,7 +177,7 @@ static int check_frontmatter(batch_call *tokens) {
     CHECK(call(tokens, text, 12, &place, 1, &count) == RUSTC_LEXER_OK);
     CHECK(count == 1 && is_token(0, RUSTC_LEXER_WHITESPACE, 1) && place.at == 1 && place.frontmatter_allowed == 1);
     CHECK(call(tokens, text, 12, &place, 1, &count) == RUSTC_LEXER_OK);
-    CHECK(count == 1 && is_token(0, RUSTC_LEXER_FRONTMATTER, 9) && room[0].flags == 0);
+    CHECK(count == 1 && is_token(0, RUSTC_LEXER_FRONTMATTER, 9) && room[0].invalid_infostring == 0);
     CHECK(place.at == 10 && place.frontmatter_allowed == 0);
     place.at = 1;
     CHECK(call(tokens, text, 12, &place, 1, &count) == RUSTC_LEXER_OK);
@@ -138,12 +210,20 @@ static int check_others(void) {
     CHECK(error.expected == 2 && error.found == 1 && error.has_offset == 1 && error.possible_terminator_offset == 8);
     CHECK(rustc_lexer_validate_raw_str(raw, 9, 0, &error) == RUSTC_LEXER_NOT_RAW && error.error == 0);
     CHECK(rustc_lexer_validate_raw_str(raw, 9, 2, &error) == RUSTC_LEXER_NOT_RAW);
+    CHECK(rustc_lexer_validate_raw_str_unchecked(raw, 9, 1, &error) == RUSTC_LEXER_OK && error.error == 2);
+    CHECK(rustc_lexer_starts_raw_unchecked(raw, 9, 1) && !rustc_lexer_starts_raw_unchecked(raw, 9, 0));
+    CHECK(!rustc_lexer_starts_raw_unchecked(raw, 9, 2));
     CHECK(rustc_lexer_guarded_str((const uint8_t *)"##\"a\"###x", 9, &string) == RUSTC_LEXER_OK);
+    CHECK(string.is_some == 1 && string.n_hashes == 2 && string.terminated == 1 && string.token_len == 7);
+    CHECK(rustc_lexer_guarded_str_unchecked((const uint8_t *)"##\"a\"###x", 9, &string) == RUSTC_LEXER_OK);
     CHECK(string.is_some == 1 && string.n_hashes == 2 && string.terminated == 1 && string.token_len == 7);
     CHECK(rustc_lexer_guarded_str((const uint8_t *)"##x", 3, &string) == RUSTC_LEXER_OK && string.is_some == 0);
     CHECK(rustc_lexer_settled((const uint8_t *)"ab cd ef", 8, &end) == RUSTC_LEXER_OK && end == 6);
     CHECK(rustc_lexer_settled((const uint8_t *)"k#", 2, &end) == RUSTC_LEXER_OK && end == 0);
     CHECK(rustc_lexer_strip_shebang((const uint8_t *)"#!///x\n[a]", 10, &end) == RUSTC_LEXER_OK && end == 6);
+    CHECK(rustc_lexer_strip_shebang_unchecked((const uint8_t *)"#!///x\n[a]", 10, &end) == RUSTC_LEXER_OK && end == 6);
+    CHECK(rustc_lexer_is_ident_unchecked((const uint8_t *)"a1", 2));
+    CHECK(!rustc_lexer_is_ident_unchecked((const uint8_t *)"1a", 2));
     CHECK(rustc_lexer_is_ident((const uint8_t *)"a1", 2, &is) == RUSTC_LEXER_OK && is == 1);
     CHECK(rustc_lexer_is_whitespace(0x2028) && !rustc_lexer_is_whitespace(0xA0) && !rustc_lexer_is_whitespace(0xD800));
     CHECK(rustc_lexer_is_id_start('_') && !rustc_lexer_is_id_start('0') && rustc_lexer_is_id_continue('0'));
@@ -156,7 +236,7 @@ typedef uint32_t relex_call(const uint8_t *, size_t, const struct rustc_lexer_to
                             const struct rustc_lexer_edit *, uint32_t, struct rustc_lexer_relexing *,
                             struct rustc_lexer_token *, size_t, size_t *);
 
-#define MOST 64
+#define MOST 200
 
 /* A text with its tokens, as a program in C keeps them. */
 struct held {
@@ -192,6 +272,14 @@ static uint32_t edit_held(relex_call *relex, struct held *held, size_t start, si
     return written == held->relexing.lexed ? RUSTC_LEXER_OK : 99;
 }
 
+/* Lexes the whole text, by one room. */
+static uint32_t lex_whole(relex_call *relex, struct held *held, uint32_t edition) {
+    struct rustc_lexer_edit all = {0, 0, (uint32_t)held->len};
+    struct rustc_lexer_relexing relexing = {0};
+    return relex((const uint8_t *)held->text, held->len, NULL, 0, &all, edition, &relexing, held->tokens, MOST,
+                 &held->count);
+}
+
 /* Whether the tokens are those of the text from scratch. */
 static bool is_from_scratch(const struct held *held) {
     struct rustc_lexer_token all[MOST];
@@ -200,10 +288,8 @@ static bool is_from_scratch(const struct held *held) {
     memset(all, 0, sizeof all);
     if (rustc_lexer_tokens((const uint8_t *)held->text, held->len, &place, all, MOST, &count) != RUSTC_LEXER_OK)
         return false;
-    for (size_t i = 0; i < count; i++)
-        if (all[i].len != held->tokens[i].len || all[i].kind != held->tokens[i].kind ||
-            all[i].flags != held->tokens[i].flags || all[i].suffix_start != held->tokens[i].suffix_start)
-            return false;
+    if (memcmp(all, held->tokens, count * sizeof all[0]) != 0)
+        return false;
     return count == held->count;
 }
 
@@ -280,9 +366,84 @@ static int check_bad_edits(relex_call *relex) {
     return 0;
 }
 
+/* Numbers that look as if drawn by chance, below a bound. */
+static size_t below(uint64_t *random, size_t bound) {
+    *random = *random * 6364136223846793005u + 1442695040888963407u;
+    return (size_t)(*random >> 33) % bound;
+}
+
+/* A place between characters, at or past another. */
+static size_t place_from(uint64_t *random, const struct held *held, size_t start, size_t most) {
+    size_t left = held->len - start;
+    size_t place = start + below(random, (left < most ? left : most) + 1);
+    while (place < held->len && (held->text[place] & 0xC0) == 0x80)
+        place++;
+    return place;
+}
+
+/* The ends of the tokens, behind a 0. */
+static void fill_bounds(const struct held *held, size_t bounds[MOST + 1]) {
+    bounds[0] = 0;
+    for (size_t i = 0; i < held->count; i++)
+        bounds[i + 1] = bounds[i] + held->tokens[i].len;
+}
+
+/* How many characters begin between two places. */
+static size_t characters(const char *text, size_t start, size_t stop) {
+    size_t count = 0;
+    for (size_t i = start; i < stop; i++)
+        count += (text[i] & 0xC0) != 0x80;
+    return count;
+}
+
+/* Whether the counts of an edit are the ones that docs/RELEXING.md says: the old tokens stay that end two characters
+ * before the edit, and the first two bounds behind it that meet end what is lexed. */
+static bool has_counts(const struct held *old, const struct held *held, size_t start, size_t stop, size_t inserted) {
+    size_t before[MOST + 1], now[MOST + 1], front = 0;
+    fill_bounds(old, before);
+    fill_bounds(held, now);
+    while (front < old->count && before[front + 1] <= start && characters(old->text, before[front + 1], start) >= 2)
+        front++;
+    for (size_t met = front; met <= held->count; met++)
+        for (size_t number = 0; now[met] >= start + inserted && number <= old->count; number++)
+            if (before[number] + inserted == now[met] + stop - start)
+                return held->relexing.kept_front == front && held->relexing.lexed == met - front &&
+                       held->relexing.kept_back == old->count - number;
+    return false;
+}
+
+/* 10,000 edits of one text, each compared with lexing the text anew. */
+static int check_random_edits(relex_call *relex, uint32_t edition) {
+    static const char *const bits[] = {
+        "a",    "r",  "br", "c",  "1",   "0x", "e",  ".",      "_",   " ",   "\n",       "\xc3\xa9",
+        "\"",   "'",  "#",  "##", "r#",  "\\", "/",  "//",     "/*",  "*/",  "k#",       "\xf0\x9f\x98\x80",
+        "!",    "'r#", "b'", "->", "x = 1;", "///", "\"#", "\xe2\x80\xa8",
+    };
+    static struct held held, old, anew;
+    uint64_t random = edition;
+    memset(&held, 0, sizeof held);
+    for (size_t edits = 0; edits < 10000; edits++) {
+        char insert[16] = "";
+        for (size_t i = below(&random, 4); i > 0 && strlen(insert) < 10; i--)
+            strcat(insert, bits[below(&random, sizeof bits / sizeof bits[0])]);
+        size_t start = place_from(&random, &held, 0, held.len);
+        size_t stop = place_from(&random, &held, start, held.len > MOST - 40 ? MOST : 4);
+        if (held.len - (stop - start) + strlen(insert) > MOST)
+            continue;
+        old = held;
+        CHECK(edit_held(relex, &held, start, stop, insert, edition, 1 + below(&random, ROOM)) == RUSTC_LEXER_OK);
+        memcpy(anew.text, held.text, held.len);
+        anew.len = held.len;
+        CHECK(lex_whole(relex, &anew, edition) == RUSTC_LEXER_OK);
+        CHECK(anew.count == held.count && memcmp(anew.tokens, held.tokens, held.count * sizeof room[0]) == 0);
+        CHECK(has_counts(&old, &held, start, stop, strlen(insert)));
+    }
+    return 0;
+}
+
 int main(void) {
     batch_call *const calls[] = {rustc_lexer_tokens, rustc_lexer_tokens_unchecked};
-    CHECK(sizeof(struct rustc_lexer_token) == 16);
+    CHECK(sizeof(struct rustc_lexer_token) == 12 && sizeof(struct rustc_lexer_relexing) == 7 * sizeof(size_t));
     for (int i = 0; i < 2; i++)
         if (check_empty_text(calls[i]) || check_room(calls[i]) || check_frontmatter(calls[i]) || check_places(calls[i]))
             return 1;
@@ -290,5 +451,8 @@ int main(void) {
     for (int i = 0; i < 2; i++)
         if (check_edits(relexes[i]) || check_editions(relexes[i]) || check_bad_edits(relexes[i]))
             return 1;
-    return check_bad_texts() || check_others();
+    for (uint32_t edition = 2015; edition <= 2024; edition += 3)
+        if (check_random_edits(relexes[edition % 2], edition))
+            return 1;
+    return check_bad_texts() || check_null() || check_records() || check_others();
 }

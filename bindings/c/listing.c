@@ -12,65 +12,57 @@
 #define ROOM 1024
 #endif
 
-static const char *const kinds[] = {
-    "", "LineComment", "BlockComment", "Whitespace", "Frontmatter", "Ident", "InvalidIdent", "RawIdent",
-    "ForcedKeywordIdent", "UnknownPrefix", "UnknownPrefixLifetime", "RawLifetime", "GuardedStrPrefix", "Literal",
-    "Lifetime", "Semi", "Comma", "Dot", "OpenParen", "CloseParen", "OpenBrace", "CloseBrace", "OpenBracket",
-    "CloseBracket", "At", "Pound", "Tilde", "Question", "Colon", "Dollar", "Eq", "Bang", "Lt", "Gt", "Minus", "And",
-    "Or", "Plus", "Star", "Slash", "Caret", "Percent", "Unknown", "Eof",
+static const char *const styles[] = {
+    [RUSTC_LEXER_NO_DOC] = "none",
+    [RUSTC_LEXER_OUTER_DOC] = "outer",
+    [RUSTC_LEXER_INNER_DOC] = "inner",
 };
 
-static const char *const literals[] = {
-    "", "Int", "Float", "Char", "Byte", "Str", "ByteStr", "CStr", "RawStr", "RawByteStr", "RawCStr",
-};
-
-static const char *const styles[] = {"none", "outer", "inner"};
-
-static const char *truth(const struct rustc_lexer_token *token, unsigned flag) {
-    return token->flags & flag ? "true" : "false";
+static const char *truth(uint8_t so) {
+    return so == 1 ? "true" : so == 0 ? "false" : "neither";
 }
 
 static void print_literal(const struct rustc_lexer_token *token) {
-    printf(" kind=%s", literals[token->literal_kind]);
+    printf(" kind=%s", rustc_lexer_literal_kind_name(token->literal_kind));
     switch (token->literal_kind) {
     case RUSTC_LEXER_INT:
-        printf(" base=%u empty_int=%s", token->base, truth(token, RUSTC_LEXER_EMPTY_INT));
+        printf(" base=%u empty_int=%s", token->base, truth(token->empty_int));
         break;
     case RUSTC_LEXER_FLOAT:
-        printf(" base=%u empty_exponent=%s", token->base, truth(token, RUSTC_LEXER_EMPTY_EXPONENT));
+        printf(" base=%u empty_exponent=%s", token->base, truth(token->empty_exponent));
         break;
     case RUSTC_LEXER_RAW_STR:
     case RUSTC_LEXER_RAW_BYTE_STR:
     case RUSTC_LEXER_RAW_C_STR:
-        if (token->flags & RUSTC_LEXER_HAS_HASHES)
+        if (token->has_hashes)
             printf(" n_hashes=%u", token->n_hashes);
         else
             printf(" n_hashes=none");
         break;
     default:
-        printf(" terminated=%s", truth(token, RUSTC_LEXER_TERMINATED));
+        printf(" terminated=%s", truth(token->terminated));
     }
     printf(" suffix_start=%u", token->suffix_start);
 }
 
 static void print_token(size_t start, const struct rustc_lexer_token *token) {
-    printf("%zu %u %s", start, token->len, kinds[token->kind]);
+    printf("%zu %u %s", start, token->len, rustc_lexer_kind_name(token->kind));
     switch (token->kind) {
     case RUSTC_LEXER_LINE_COMMENT:
         printf(" doc_style=%s", styles[token->doc_style]);
         break;
     case RUSTC_LEXER_BLOCK_COMMENT:
-        printf(" doc_style=%s terminated=%s", styles[token->doc_style], truth(token, RUSTC_LEXER_TERMINATED));
+        printf(" doc_style=%s terminated=%s", styles[token->doc_style], truth(token->terminated));
         break;
     case RUSTC_LEXER_FRONTMATTER:
         printf(" has_invalid_preceding_whitespace=%s invalid_infostring=%s",
-               truth(token, RUSTC_LEXER_INVALID_WHITESPACE), truth(token, RUSTC_LEXER_INVALID_INFOSTRING));
+               truth(token->has_invalid_preceding_whitespace), truth(token->invalid_infostring));
         break;
     case RUSTC_LEXER_LITERAL:
         print_literal(token);
         break;
     case RUSTC_LEXER_LIFETIME:
-        printf(" starts_with_number=%s", truth(token, RUSTC_LEXER_STARTS_WITH_NUMBER));
+        printf(" starts_with_number=%s", truth(token->starts_with_number));
         break;
     default:
         break;

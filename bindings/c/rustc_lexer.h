@@ -4,7 +4,7 @@
  * Nothing takes memory, and nothing keeps a pointer past its call. Calls may be made from any thread.
  *
  * What the caller promises, which no call can test:
- *   - no pointer is null, also where its length is 0;
+ *   - no pointer is null, but one whose length is 0 may be;
  *   - `len` bytes can be read at `text`, and nothing writes to them during the call;
  *   - each pointer that is not const points to memory that the caller may write to, that is aligned for its type
  *     and that nothing else uses during the call: `room` to `room_len` tokens, the others to one value. What is
@@ -106,28 +106,98 @@ enum {
     RUSTC_LEXER_INNER_DOC = 2
 };
 
-/* Flags of tokens. The field `flags` is the sum of those that hold. */
-enum {
-    RUSTC_LEXER_TERMINATED = 1,             /* a block comment or a literal in quotes is closed */
-    RUSTC_LEXER_EMPTY_INT = 2,              /* an integer has no digit behind the prefix of its base */
-    RUSTC_LEXER_EMPTY_EXPONENT = 4,         /* an exponent has no digit */
-    RUSTC_LEXER_HAS_HASHES = 8,             /* a raw string is not refused, and n_hashes is the number of its hashes */
-    RUSTC_LEXER_STARTS_WITH_NUMBER = 16,    /* a lifetime begins with a digit or holds an emoji */
-    RUSTC_LEXER_INVALID_WHITESPACE = 32,    /* white space that ends no line stands before a frontmatter */
-    RUSTC_LEXER_INVALID_INFOSTRING = 64     /* the first line of a frontmatter is a bad one */
+/* A token, of 12 bytes. Behind its kind stand the fields of the kind, a byte for each. The names of one union belong to
+ * different kinds. A byte that the kind has no field for is 0, and a field that says whether something is so is 0 or
+ * 1. */
+struct rustc_lexer_token {
+    uint8_t kind;
+    union {
+        uint8_t doc_style;                        /* of a comment */
+        uint8_t literal_kind;                     /* of a literal */
+        uint8_t starts_with_number;               /* of a lifetime: it begins with a digit or holds an emoji */
+        uint8_t has_invalid_preceding_whitespace; /* of a frontmatter: white space stands before it that ends no line */
+    };
+    union {
+        uint8_t terminated;         /* of a block comment, or a literal in quotes that is not raw: it is closed */
+        uint8_t base;               /* of an integer or a float: 2, 8, 10 or 16 */
+        uint8_t has_hashes;         /* of a raw string: it is not refused, and n_hashes is the number of its hashes */
+        uint8_t invalid_infostring; /* of a frontmatter: its first line is a bad one */
+    };
+    union {
+        uint8_t empty_int;      /* of an integer: it has no digit behind the prefix of its base */
+        uint8_t empty_exponent; /* of a float: its exponent has no digit */
+        uint8_t n_hashes;       /* of a raw string */
+    };
+    uint32_t suffix_start; /* of a literal: where its suffix begins, in bytes from the token's start; len: none */
+    uint32_t len;          /* in bytes, at least 1 */
 };
 
-/* A token. A field that its kind does not have is 0. 16 bytes, of which the last 2 mean nothing. */
-struct rustc_lexer_token {
-    uint32_t len;          /* in bytes, at least 1 */
-    uint32_t suffix_start; /* of a literal: where its suffix begins, in bytes from the token's start; len: none */
-    uint8_t kind;
-    uint8_t literal_kind;  /* of a literal */
-    uint8_t base;          /* of an integer or a float: 2, 8, 10 or 16 */
-    uint8_t doc_style;     /* of a comment */
-    uint8_t n_hashes;      /* of a raw string with the flag RUSTC_LEXER_HAS_HASHES */
-    uint8_t flags;
-};
+/* The name of a kind of token, or "" for another number. */
+static inline const char *rustc_lexer_kind_name(uint8_t kind) {
+    switch (kind) {
+    case RUSTC_LEXER_LINE_COMMENT: return "LineComment";
+    case RUSTC_LEXER_BLOCK_COMMENT: return "BlockComment";
+    case RUSTC_LEXER_WHITESPACE: return "Whitespace";
+    case RUSTC_LEXER_FRONTMATTER: return "Frontmatter";
+    case RUSTC_LEXER_IDENT: return "Ident";
+    case RUSTC_LEXER_INVALID_IDENT: return "InvalidIdent";
+    case RUSTC_LEXER_RAW_IDENT: return "RawIdent";
+    case RUSTC_LEXER_FORCED_KEYWORD_IDENT: return "ForcedKeywordIdent";
+    case RUSTC_LEXER_UNKNOWN_PREFIX: return "UnknownPrefix";
+    case RUSTC_LEXER_UNKNOWN_PREFIX_LIFETIME: return "UnknownPrefixLifetime";
+    case RUSTC_LEXER_RAW_LIFETIME: return "RawLifetime";
+    case RUSTC_LEXER_GUARDED_STR_PREFIX: return "GuardedStrPrefix";
+    case RUSTC_LEXER_LITERAL: return "Literal";
+    case RUSTC_LEXER_LIFETIME: return "Lifetime";
+    case RUSTC_LEXER_SEMI: return "Semi";
+    case RUSTC_LEXER_COMMA: return "Comma";
+    case RUSTC_LEXER_DOT: return "Dot";
+    case RUSTC_LEXER_OPEN_PAREN: return "OpenParen";
+    case RUSTC_LEXER_CLOSE_PAREN: return "CloseParen";
+    case RUSTC_LEXER_OPEN_BRACE: return "OpenBrace";
+    case RUSTC_LEXER_CLOSE_BRACE: return "CloseBrace";
+    case RUSTC_LEXER_OPEN_BRACKET: return "OpenBracket";
+    case RUSTC_LEXER_CLOSE_BRACKET: return "CloseBracket";
+    case RUSTC_LEXER_AT: return "At";
+    case RUSTC_LEXER_POUND: return "Pound";
+    case RUSTC_LEXER_TILDE: return "Tilde";
+    case RUSTC_LEXER_QUESTION: return "Question";
+    case RUSTC_LEXER_COLON: return "Colon";
+    case RUSTC_LEXER_DOLLAR: return "Dollar";
+    case RUSTC_LEXER_EQ: return "Eq";
+    case RUSTC_LEXER_BANG: return "Bang";
+    case RUSTC_LEXER_LT: return "Lt";
+    case RUSTC_LEXER_GT: return "Gt";
+    case RUSTC_LEXER_MINUS: return "Minus";
+    case RUSTC_LEXER_AND: return "And";
+    case RUSTC_LEXER_OR: return "Or";
+    case RUSTC_LEXER_PLUS: return "Plus";
+    case RUSTC_LEXER_STAR: return "Star";
+    case RUSTC_LEXER_SLASH: return "Slash";
+    case RUSTC_LEXER_CARET: return "Caret";
+    case RUSTC_LEXER_PERCENT: return "Percent";
+    case RUSTC_LEXER_UNKNOWN: return "Unknown";
+    case RUSTC_LEXER_EOF: return "Eof";
+    default: return "";
+    }
+}
+
+/* The name of a kind of literal, or "" for another number. */
+static inline const char *rustc_lexer_literal_kind_name(uint8_t literal_kind) {
+    switch (literal_kind) {
+    case RUSTC_LEXER_INT: return "Int";
+    case RUSTC_LEXER_FLOAT: return "Float";
+    case RUSTC_LEXER_CHAR: return "Char";
+    case RUSTC_LEXER_BYTE: return "Byte";
+    case RUSTC_LEXER_STR: return "Str";
+    case RUSTC_LEXER_BYTE_STR: return "ByteStr";
+    case RUSTC_LEXER_C_STR: return "CStr";
+    case RUSTC_LEXER_RAW_STR: return "RawStr";
+    case RUSTC_LEXER_RAW_BYTE_STR: return "RawByteStr";
+    case RUSTC_LEXER_RAW_C_STR: return "RawCStr";
+    default: return "";
+    }
+}
 
 /* A place in a text. A text begins at {0, 0}, or at {0, 1} where it is a whole document. */
 struct rustc_lexer_place {
@@ -151,7 +221,7 @@ struct rustc_lexer_relexing {
     size_t kept_back;   /* at stage 2: how many old tokens stay at the back */
     size_t back_place;  /* at stage 2: where those begin in the old text */
     size_t at;          /* where what was written ends in the present text; at stage 2 those at the back begin there */
-    uint32_t stage;     /* 0: to begin; 1: there are more tokens to write; 2: there are none */
+    size_t stage;       /* 0: to begin; 1: there are more tokens to write; 2: there are none */
 };
 
 /* Why a raw string is refused. A field that the error does not have is 0. */
@@ -186,10 +256,18 @@ uint32_t rustc_lexer_check(const uint8_t *text, size_t len);
 uint32_t rustc_lexer_tokens(const uint8_t *text, size_t len, struct rustc_lexer_place *place,
                             struct rustc_lexer_token *room, size_t room_len, size_t *count);
 
-/* The same. The caller promises that the text is UTF-8: rustc_lexer_check has answered 0 for it, and it was not changed
- * since. On another text this may do anything. The length and the place are tested. */
+/* Does what rustc_lexer_tokens does. The caller promises that the text is UTF-8: rustc_lexer_check has answered 0 for
+ * it, and it was not changed since. On another text this may do anything. The length and the place are tested.
+ *
+ * Each other call with `_unchecked` does what the one without does, and asks for this promise. It costs what it reads,
+ * whatever the length of the text. */
 uint32_t rustc_lexer_tokens_unchecked(const uint8_t *text, size_t len, struct rustc_lexer_place *place,
                                       struct rustc_lexer_token *room, size_t room_len, size_t *count);
+
+/* The first token of a text, for a caller who needs no other. All its bytes are 0 where the text is empty or has more
+ * than 4294967295 bytes. `frontmatter_allowed` is as in a place. The caller promises that the text is UTF-8. */
+struct rustc_lexer_token rustc_lexer_first_token_unchecked(const uint8_t *text, size_t len,
+                                                           uint32_t frontmatter_allowed);
 
 /* Keeps a list of tokens with a text under edits. `text` is the text after an edit, and `old` the tokens of the text
  * before it, all of them. The tokens after it are
@@ -223,8 +301,7 @@ uint32_t rustc_lexer_relex(const uint8_t *text, size_t len, const struct rustc_l
                            struct rustc_lexer_relexing *relexing, struct rustc_lexer_token *room, size_t room_len,
                            size_t *count);
 
-/* The same. The caller promises that the text is UTF-8, as for rustc_lexer_tokens_unchecked: also where a text that
- * was is edited between characters, and what is put in is. */
+/* A text that was UTF-8 is so after an edit between characters, where what is put in is. */
 uint32_t rustc_lexer_relex_unchecked(const uint8_t *text, size_t len, const struct rustc_lexer_token *old,
                                      size_t old_len, const struct rustc_lexer_edit *edit, uint32_t edition,
                                      struct rustc_lexer_relexing *relexing, struct rustc_lexer_token *room,
@@ -233,6 +310,7 @@ uint32_t rustc_lexer_relex_unchecked(const uint8_t *text, size_t len, const stru
 /* Writes the length of the shebang line at the front of the text, without the end of the line, or 0 where there is
  * none. A shebang line has at least 2 bytes. */
 uint32_t rustc_lexer_strip_shebang(const uint8_t *text, size_t len, size_t *line_len);
+uint32_t rustc_lexer_strip_shebang_unchecked(const uint8_t *text, size_t len, size_t *line_len);
 
 /* Writes the end of the last token that at least two characters follow, or 0, with no frontmatter allowed. However
  * the text goes on, its tokens up to there stay. */
@@ -242,12 +320,22 @@ uint32_t rustc_lexer_settled(const uint8_t *text, size_t len, size_t *end);
  * characters of its prefix, with the r: 1 for r, 2 for br and cr. */
 uint32_t rustc_lexer_validate_raw_str(const uint8_t *text, size_t len, uint32_t prefix_len,
                                       struct rustc_lexer_raw_str_error *error);
+uint32_t rustc_lexer_validate_raw_str_unchecked(const uint8_t *text, size_t len, uint32_t prefix_len,
+                                                struct rustc_lexer_raw_str_error *error);
+
+/* Whether the status of rustc_lexer_validate_raw_str is not RUSTC_LEXER_NOT_RAW for the text, of any length. */
+bool rustc_lexer_starts_raw_unchecked(const uint8_t *text, size_t len, uint32_t prefix_len);
 
 /* Writes the guarded string that the text begins with: hashes, a string, as many hashes at most, a suffix. */
 uint32_t rustc_lexer_guarded_str(const uint8_t *text, size_t len, struct rustc_lexer_guarded_str *string);
+uint32_t rustc_lexer_guarded_str_unchecked(const uint8_t *text, size_t len,
+                                           struct rustc_lexer_guarded_str *string);
 
 /* Writes 1 where the text is an identifier, else 0. */
 uint32_t rustc_lexer_is_ident(const uint8_t *text, size_t len, uint32_t *is);
+
+/* Whether the text is an identifier, of any length. */
+bool rustc_lexer_is_ident_unchecked(const uint8_t *text, size_t len);
 
 /* Classes of characters. False of a number that is no character. */
 bool rustc_lexer_is_whitespace(uint32_t code);

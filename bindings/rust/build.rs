@@ -20,7 +20,7 @@ fn folder() -> PathBuf {
     let package = PathBuf::from(said("CARGO_MANIFEST_DIR"));
     let of_release = package.join("lib");
     match env::var_os("RUSTC_LEXER_C_LIB") {
-        Some(folder) => PathBuf::from(folder),
+        Some(folder) => package.join(folder),
         None if of_release.exists() => of_release,
         None => {
             let repository = package.ancestors().nth(2).unwrap_or(&package);

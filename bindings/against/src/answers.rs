@@ -14,10 +14,20 @@ fn order<T: Ord>(lines: &mut String, name: &str, list: &[T]) {
     }
 }
 
+/// The classes of a character.
+#[derive(PartialEq)]
+pub struct Classes {
+    /// Of white space, and of that within a line. They are the same in each version of Unicode.
+    pub spaces: [bool; 2],
+    /// Of what words begin with, and go on with.
+    pub words: [bool; 2],
+    pub is_emoji: bool,
+}
+
 macro_rules! answers_of {
     ($lexer:ident) => {
         mod $lexer {
-            use super::{line, order};
+            use super::{line, order, Classes};
             use $lexer::{
                 is_ident, strip_shebang, tokenize, validate_raw_str, Cursor, FrontmatterAllowed,
             };
@@ -106,14 +116,17 @@ macro_rules! answers_of {
                 guarded(text, lines);
             }
 
-            /// The classes of a character.
-            pub fn classes(c: char) -> [bool; 4] {
-                [
-                    $lexer::is_whitespace(c),
-                    $lexer::is_horizontal_whitespace(c),
-                    $lexer::is_id_start(c),
-                    $lexer::is_id_continue(c),
-                ]
+            /// The classes of a character. What is no word and lexes as an invalid one is an emoji.
+            pub fn classes(c: char) -> Classes {
+                let first = tokenize(c.encode_utf8(&mut [0; 4]), FrontmatterAllowed::No).next();
+                Classes {
+                    spaces: [
+                        $lexer::is_whitespace(c),
+                        $lexer::is_horizontal_whitespace(c),
+                    ],
+                    words: [$lexer::is_id_start(c), $lexer::is_id_continue(c)],
+                    is_emoji: first.is_some_and(|token| token.kind == TokenKind::InvalidIdent),
+                }
             }
         }
     };
@@ -122,9 +135,9 @@ macro_rules! answers_of {
 answers_of!(original);
 answers_of!(proved);
 
-/// Whether both put a character into the same classes.
-pub fn classes_agree(c: char) -> bool {
-    original::classes(c) == proved::classes(c)
+/// The classes of a character, by the original and by the proved lexer.
+pub fn classes(c: char) -> [Classes; 2] {
+    [original::classes(c), proved::classes(c)]
 }
 
 /// The answers of both of one text, kept for their room.

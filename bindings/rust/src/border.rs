@@ -1,37 +1,18 @@
-//! The calls of the static library. This is the one module with `unsafe` in it.
+//! The calls of the static library. This is the one module with `unsafe` in it, but for the constants of `layout.rs`.
 //!
-//! What each call asks for, as the header `bindings/c/rustc_lexer.h` has it: pointers that are not null, with their
-//! lengths (those of a slice or a reference are so), memory of its own for what is written (each is behind a `&mut`),
-//! and UTF-8 for the calls with `_unchecked` (each text is a `&str`). All else the library tests itself. What is read
-//! is behind a `&` and has values that were written, so nothing changes it during a call.
+//! What each call asks for, as the header `bindings/c/rustc_lexer.h` has it: pointers with their lengths (those of a
+//! slice or a reference are so), memory of its own for what is written (each is behind a `&mut`), and UTF-8 for the
+//! calls with `_unchecked` (each text is a `&str`). All else the library tests itself. What is read is behind a `&`,
+//! so nothing changes it during a call.
+//!
+//! A token crosses as it is: `layout.rs` holds the compiler to the bytes that the library writes.
 
-use crate::cursor::FrontmatterAllowed;
 use crate::edition::Edition;
-
-/// A token as numbers.
-#[repr(C)]
-#[derive(Clone, Copy, Debug, PartialEq, Eq)]
-pub struct CToken {
-    pub len: u32,
-    pub suffix_start: u32,
-    pub kind: u8,
-    pub literal_kind: u8,
-    pub base: u8,
-    pub doc_style: u8,
-    pub n_hashes: u8,
-    pub flags: u8,
-}
-
-pub const NO_TOKEN: CToken = CToken {
-    len: 0,
-    suffix_start: 0,
-    kind: 0,
-    literal_kind: 0,
-    base: 0,
-    doc_style: 0,
-    n_hashes: 0,
-    flags: 0,
-};
+use crate::token::Token;
+use alloc::vec::Vec;
+use core::hint::assert_unchecked;
+use core::mem::{transmute, MaybeUninit};
+use core::slice;
 
 /// A place in a text.
 #[repr(C)]
@@ -40,24 +21,24 @@ pub struct Place {
     pub frontmatter_allowed: u32,
 }
 
-impl Place {
-    pub fn start(frontmatter_allowed: FrontmatterAllowed) -> Place {
-        Place {
-            at: 0,
-            frontmatter_allowed: match frontmatter_allowed {
-                FrontmatterAllowed::Yes => 1,
-                FrontmatterAllowed::No => 0,
-            },
-        }
-    }
-}
-
 /// An edit that was made, by its places in bytes.
 #[repr(C)]
 pub struct Edit {
     pub start: u32,
     pub old_stop: u32,
     pub new_stop: u32,
+}
+
+impl Edit {
+    /// What makes a text of no text: all of it is put in.
+    pub fn whole(text: &str) -> Edit {
+        Edit {
+            start: 0,
+            old_stop: 0,
+            // The text fits.
+            new_stop: text.len() as u32,
+        }
+    }
 }
 
 /// How far an edited text is lexed again.
@@ -70,7 +51,7 @@ pub struct Relexing {
     pub kept_back: usize,
     pub back_place: usize,
     pub at: usize,
-    pub stage: u32,
+    pub stage: usize,
 }
 
 impl Relexing {
@@ -109,38 +90,62 @@ pub struct CGuardedStr {
     pub token_len: u32,
 }
 
+/// A token as it crosses, or zeros for none. `layout.rs` holds the compiler to a `Token` of these words.
+#[repr(C)]
+#[derive(Clone, Copy)]
+struct Words([u32; 3]);
+
+/// The token, of which the compiler then knows that it is not `None`.
+#[inline(always)]
+fn known(token: &Token) -> Token {
+    let kind: *const u8 = (token as *const Token).cast();
+    // SAFETY: the first byte of a token is the number of its kind, and no kind has the number 0.
+    unsafe { assert_unchecked(*kind != 0) };
+    *token
+}
+
 // The declarations of `bindings/c/rustc_lexer.h`. Nothing compares the two.
 unsafe extern "C" {
+    fn rustc_lexer_first_token_unchecked(text: *const u8, len: usize, allowed: u32) -> Words;
     fn rustc_lexer_tokens_unchecked(
         text: *const u8,
         len: usize,
         place: *mut Place,
-        room: *mut CToken,
+        room: *mut Words,
         room_len: usize,
         count: *mut usize,
     ) -> u32;
     fn rustc_lexer_relex_unchecked(
         text: *const u8,
         len: usize,
-        old: *const CToken,
+        old: *const Words,
         old_len: usize,
         edit: *const Edit,
         edition: u32,
         relexing: *mut Relexing,
-        room: *mut CToken,
+        room: *mut Words,
         room_len: usize,
         count: *mut usize,
     ) -> u32;
     fn rustc_lexer_settled(text: *const u8, len: usize, end: *mut usize) -> u32;
-    fn rustc_lexer_strip_shebang(text: *const u8, len: usize, line_len: *mut usize) -> u32;
-    fn rustc_lexer_validate_raw_str(
+    fn rustc_lexer_strip_shebang_unchecked(
+        text: *const u8,
+        len: usize,
+        line_len: *mut usize,
+    ) -> u32;
+    fn rustc_lexer_validate_raw_str_unchecked(
         text: *const u8,
         len: usize,
         prefix_len: u32,
         error: *mut CRawStrError,
     ) -> u32;
-    fn rustc_lexer_guarded_str(text: *const u8, len: usize, string: *mut CGuardedStr) -> u32;
-    fn rustc_lexer_is_ident(text: *const u8, len: usize, is: *mut u32) -> u32;
+    fn rustc_lexer_guarded_str_unchecked(
+        text: *const u8,
+        len: usize,
+        string: *mut CGuardedStr,
+    ) -> u32;
+    fn rustc_lexer_starts_raw_unchecked(text: *const u8, len: usize, prefix_len: u32) -> bool;
+    fn rustc_lexer_is_ident_unchecked(text: *const u8, len: usize) -> bool;
     fn rustc_lexer_is_whitespace(code: u32) -> bool;
     fn rustc_lexer_is_horizontal_whitespace(code: u32) -> bool;
     fn rustc_lexer_is_id_start(code: u32) -> bool;
@@ -148,6 +153,7 @@ unsafe extern "C" {
 }
 
 /// The text, which has at most `u32::MAX` bytes.
+#[inline]
 pub fn fitting(text: &str) -> &str {
     assert!(
         u32::try_from(text.len()).is_ok(),
@@ -156,54 +162,145 @@ pub fn fitting(text: &str) -> &str {
     text
 }
 
-/// Writes the tokens from the place on into the room, moves the place behind them, and answers their number.
-pub fn tokens(text: &str, place: &mut Place, room: &mut [CToken]) -> usize {
-    let mut count = 0;
-    // SAFETY: all pointers are those of one slice or one reference, with its length; the text is UTF-8.
-    let status = unsafe {
-        rustc_lexer_tokens_unchecked(
-            text.as_ptr(),
-            text.len(),
-            place,
-            room.as_mut_ptr(),
-            room.len(),
-            &mut count,
-        )
+/// The first token of a text, or `None` where the text is empty.
+#[inline]
+pub fn first_token(text: &str, frontmatter_allowed: u32) -> Option<Token> {
+    // SAFETY: the pointer is that of a slice, with its length; the text is UTF-8.
+    let words = unsafe {
+        rustc_lexer_first_token_unchecked(text.as_ptr(), text.len(), frontmatter_allowed)
     };
-    assert_eq!(
-        status, 0,
-        "the text fits, and the place is one that a call left"
-    );
-    count
+    if words.0[2] == 0 {
+        return None;
+    }
+    // SAFETY: the library wrote them, and they are not zeros, since a token is not empty.
+    Some(unsafe { transmute::<[u32; 3], Token>(words.0) })
 }
 
-/// Writes tokens of an edited text into the room, as far as it goes, and answers their number.
+/// How many tokens cross in one call, at most.
+pub const BATCH: usize = 256;
+
+/// Tokens that came over the border together, and are given out one by one.
+pub struct Batch {
+    room: [MaybeUninit<Token>; BATCH],
+    /// How many were given out.
+    given: u32,
+    /// How many of the room were written.
+    count: u32,
+}
+
+impl Batch {
+    /// No tokens.
+    #[inline]
+    pub fn new() -> Batch {
+        Batch {
+            room: [const { MaybeUninit::uninit() }; BATCH],
+            given: 0,
+            count: 0,
+        }
+    }
+
+    /// Those that are left.
+    #[inline]
+    pub fn left(&self) -> &[Token] {
+        let left = &self.room[self.given as usize..self.count as usize];
+        // SAFETY: the library wrote the first `count` of the room.
+        unsafe { slice::from_raw_parts(left.as_ptr().cast(), left.len()) }
+    }
+
+    /// The next of those that are left.
+    #[inline(always)]
+    pub fn next(&mut self) -> Option<Token> {
+        if self.given >= self.count {
+            return None;
+        }
+        // SAFETY: `given` is less than `count`, and the library wrote so many: the fetches alone set `count`.
+        let token = unsafe {
+            let token = self.room.get_unchecked(self.given as usize);
+            known(token.assume_init_ref())
+        };
+        self.given += 1;
+        Some(token)
+    }
+
+    /// Fetches tokens from the place on, at most so many, in place of all that are left. Whether there are any.
+    pub fn fetch(&mut self, text: &str, place: &mut Place, most: usize) -> bool {
+        let mut count = 0;
+        let room = &mut self.room[..most];
+        // SAFETY: all pointers are those of one slice or one reference, with its length; the text is UTF-8.
+        let status = unsafe {
+            rustc_lexer_tokens_unchecked(
+                text.as_ptr(),
+                text.len(),
+                place,
+                room.as_mut_ptr().cast(),
+                room.len(),
+                &mut count,
+            )
+        };
+        assert!(
+            status == 0 && count <= most,
+            "the text fits, and the place is one that a call left"
+        );
+        self.given = 0;
+        self.count = count as u32;
+        count != 0
+    }
+
+    /// Fetches tokens of a whole text in an edition, in place of all that are left. Whether there are any.
+    pub fn fetch_in(&mut self, text: &str, edition: Edition, relexing: &mut Relexing) -> bool {
+        let whole = Edit::whole(text);
+        let count = relex_into(text, &[], &whole, edition, relexing, &mut self.room);
+        self.given = 0;
+        self.count = count as u32;
+        count != 0
+    }
+}
+
+/// Puts tokens of an edited text at the end of the list, at most so many.
 pub fn relex(
     text: &str,
-    old: &[CToken],
+    old: &[Token],
     edit: &Edit,
     edition: Edition,
     relexing: &mut Relexing,
-    room: &mut [CToken],
+    list: &mut Vec<Token>,
+    most: usize,
+) {
+    list.reserve(most);
+    let room = &mut list.spare_capacity_mut()[..most];
+    let count = relex_into(text, old, edit, edition, relexing, room);
+    // SAFETY: so many tokens were written behind those of the list, where there is room.
+    unsafe { list.set_len(list.len() + count) };
+}
+
+/// Writes tokens of an edited text into the room, and answers their number.
+fn relex_into(
+    text: &str,
+    old: &[Token],
+    edit: &Edit,
+    edition: Edition,
+    relexing: &mut Relexing,
+    room: &mut [MaybeUninit<Token>],
 ) -> usize {
     let mut count = 0;
-    // SAFETY: all pointers are those of one slice or one reference, with its length; the text is UTF-8.
+    // SAFETY: all pointers are those of one slice or one reference, with its length; the text is UTF-8. Of the old
+    // tokens the library reads the lengths.
     let status = unsafe {
         rustc_lexer_relex_unchecked(
             text.as_ptr(),
             text.len(),
-            old.as_ptr(),
+            old.as_ptr().cast(),
             old.len(),
             edit,
             edition.year(),
             relexing,
-            room.as_mut_ptr(),
+            room.as_mut_ptr().cast(),
             room.len(),
             &mut count,
         )
     };
-    assert_eq!(
-        status, 0,
+    assert!(
+        status == 0 && count <= room.len(),
         "the text fits, the edit made it, and the numbers are those of a call"
     );
     count
@@ -221,8 +318,9 @@ pub fn settled(text: &str) -> usize {
 /// The length of the shebang line, or 0.
 pub fn shebang_len(text: &str) -> usize {
     let mut len = 0;
-    // SAFETY: the pointers are those of a slice, with its length, and of a reference.
-    let status = unsafe { rustc_lexer_strip_shebang(text.as_ptr(), text.len(), &mut len) };
+    // SAFETY: the pointers are those of a slice, with its length, and of a reference; the text is UTF-8.
+    let status =
+        unsafe { rustc_lexer_strip_shebang_unchecked(text.as_ptr(), text.len(), &mut len) };
     assert_eq!(status, 0, "the text fits");
     len
 }
@@ -230,9 +328,10 @@ pub fn shebang_len(text: &str) -> usize {
 /// Why the raw string is refused, or `None` where no raw string begins the text.
 pub fn raw_str_error(text: &str, prefix_len: u32) -> Option<CRawStrError> {
     let mut error = CRawStrError::default();
-    // SAFETY: the pointers are those of a slice, with its length, and of a reference.
-    let status =
-        unsafe { rustc_lexer_validate_raw_str(text.as_ptr(), text.len(), prefix_len, &mut error) };
+    // SAFETY: the pointers are those of a slice, with its length, and of a reference; the text is UTF-8.
+    let status = unsafe {
+        rustc_lexer_validate_raw_str_unchecked(text.as_ptr(), text.len(), prefix_len, &mut error)
+    };
     if status == 0 {
         Some(error)
     } else {
@@ -243,18 +342,21 @@ pub fn raw_str_error(text: &str, prefix_len: u32) -> Option<CRawStrError> {
 /// The guarded string at the front of the text.
 pub fn guarded_str(text: &str) -> CGuardedStr {
     let mut string = CGuardedStr::default();
-    // SAFETY: the pointers are those of a slice, with its length, and of a reference.
-    let status = unsafe { rustc_lexer_guarded_str(text.as_ptr(), text.len(), &mut string) };
+    // SAFETY: the pointers are those of a slice, with its length, and of a reference; the text is UTF-8.
+    let status =
+        unsafe { rustc_lexer_guarded_str_unchecked(text.as_ptr(), text.len(), &mut string) };
     assert_eq!(status, 0, "the text fits");
     string
 }
 
-/// Whether the text is an identifier; false where it has more than `u32::MAX` bytes.
+pub fn starts_raw(text: &str, prefix_len: u32) -> bool {
+    // SAFETY: the pointer is that of a slice, with its length; the text is UTF-8.
+    unsafe { rustc_lexer_starts_raw_unchecked(text.as_ptr(), text.len(), prefix_len) }
+}
+
 pub fn is_ident(text: &str) -> bool {
-    let mut is = 0;
-    // SAFETY: the pointers are those of a slice, with its length, and of a reference.
-    let status = unsafe { rustc_lexer_is_ident(text.as_ptr(), text.len(), &mut is) };
-    status == 0 && is == 1
+    // SAFETY: the pointer is that of a slice, with its length; the text is UTF-8.
+    unsafe { rustc_lexer_is_ident_unchecked(text.as_ptr(), text.len()) }
 }
 
 pub fn is_whitespace(c: char) -> bool {

@@ -1,20 +1,37 @@
 //! Editions of Rust, and the tokens of a text in one.
 
-use crate::border::{self, CToken, Edit, Relexing, NO_TOKEN};
-use crate::token::{self, Token};
-use crate::BATCH;
+use crate::border::{self, Batch, Relexing};
+use crate::token::Token;
+use core::iter::FusedIterator;
 
 /// An edition of Rust, in the order of their years.
+///
+/// ```
+/// use ra_ap_rustc_lexer::{tokenize_in, Edition};
+///
+/// let count = |edition| tokenize_in("'r#a", edition).count();
+/// assert_eq!((count(Edition::E2018), count(Edition::E2021)), (3, 1));
+/// ```
 #[derive(Clone, Copy, Debug, PartialEq, Eq, PartialOrd, Ord, Hash)]
 pub enum Edition {
+    /// Rust of 2015: no token has a prefix of its own but the raw ones.
     E2015,
+    /// Rust of 2018, of which the tokens are those of 2015.
     E2018,
+    /// Rust of 2021: words and lifetimes right before a mark are prefixes, and `'r#a` is a lifetime.
     E2021,
+    /// Rust of 2024: `#"` and `##` may begin a guarded string.
     E2024,
 }
 
 impl Edition {
     /// The year that names it.
+    ///
+    /// ```
+    /// use ra_ap_rustc_lexer::Edition;
+    ///
+    /// assert_eq!(Edition::E2024.year(), 2024);
+    /// ```
     pub fn year(self) -> u32 {
         match self {
             Edition::E2015 => 2015,
@@ -25,18 +42,16 @@ impl Edition {
     }
 }
 
-/// What makes a text of no text: all of it is put in.
-pub(crate) fn whole(text: &str) -> Edit {
-    Edit {
-        start: 0,
-        old_stop: 0,
-        // The text fits.
-        new_stop: text.len() as u32,
-    }
-}
-
 /// The tokens of a text in an edition, in order. No frontmatter is allowed: with `Edition::E2024` they are those of
 /// [`tokenize`](crate::tokenize) with `FrontmatterAllowed::No`.
+///
+/// ```
+/// use ra_ap_rustc_lexer::{tokenize_in, Edition, TokenKind};
+///
+/// let first = |edition| tokenize_in("##", edition).next().map(|token| token.kind);
+/// assert_eq!(first(Edition::E2021), Some(TokenKind::Pound));
+/// assert_eq!(first(Edition::E2024), Some(TokenKind::GuardedStrPrefix));
+/// ```
 ///
 /// # Panics
 ///
@@ -46,22 +61,25 @@ pub fn tokenize_in(text: &str, edition: Edition) -> EditionTokens<'_> {
         text: border::fitting(text),
         edition,
         relexing: Relexing::default(),
-        room: [NO_TOKEN; BATCH],
-        given: 0,
-        count: 0,
+        batch: Batch::new(),
     }
 }
 
-/// The iterator of [`tokenize_in`]: a text, how far it is lexed, and the last batch.
+/// The iterator of [`tokenize_in`].
+///
+/// ```
+/// use ra_ap_rustc_lexer::{tokenize_in, Edition, EditionTokens};
+///
+/// let tokens: EditionTokens<'_> = tokenize_in("a b", Edition::E2015);
+/// assert_eq!(tokens.map(|token| token.len).sum::<u32>(), 3);
+/// ```
 pub struct EditionTokens<'a> {
     text: &'a str,
     edition: Edition,
+    /// How far the text is lexed.
     relexing: Relexing,
-    room: [CToken; BATCH],
-    /// How many tokens of the batch were given out.
-    given: usize,
-    /// How many tokens the batch has.
-    count: usize,
+    /// Tokens that were lexed and not given out.
+    batch: Batch,
 }
 
 impl Iterator for EditionTokens<'_> {
@@ -69,22 +87,18 @@ impl Iterator for EditionTokens<'_> {
 
     #[inline]
     fn next(&mut self) -> Option<Token> {
-        if self.given == self.count {
-            self.given = 0;
-            self.count = border::relex(
-                self.text,
-                &[],
-                &whole(self.text),
-                self.edition,
-                &mut self.relexing,
-                &mut self.room,
-            );
-            if self.count == 0 {
-                return None;
-            }
+        if let Some(token) = self.batch.next() {
+            return Some(token);
         }
-        let token = token::from_numbers(&self.room[self.given]);
-        self.given += 1;
-        Some(token)
+        if self
+            .batch
+            .fetch_in(self.text, self.edition, &mut self.relexing)
+        {
+            self.batch.next()
+        } else {
+            None
+        }
     }
 }
+
+impl FusedIterator for EditionTokens<'_> {}

@@ -1,12 +1,14 @@
 //! A text that is kept with its tokens under edits.
 
-use crate::border::{self, CToken, Edit, Relexing, NO_TOKEN};
-use crate::edition::{whole, Edition};
+use crate::border::{self, Edit, Relexing};
+use crate::edition::Edition;
 use crate::landmarks::{Bound, Landmarks};
-use crate::token::{self, Token};
-use std::iter::FusedIterator;
-use std::ops::Range;
-use std::slice;
+use crate::token::Token;
+use alloc::string::String;
+use alloc::vec::Vec;
+use core::iter::FusedIterator;
+use core::ops::Range;
+use core::slice;
 
 /// How many tokens cross in one call where a whole text is lexed.
 const SPACING: usize = 1024;
@@ -29,16 +31,25 @@ const ROOM: usize = 64;
 #[derive(Clone, Debug)]
 pub struct LexedText {
     text: String,
-    /// The tokens of the text in the edition, as they came over the border. Nothing but a call of `relex` makes any.
-    tokens: Vec<CToken>,
+    /// The tokens of the text in the edition. Nothing but a call of `relex` makes any.
+    tokens: Vec<Token>,
     edition: Edition,
     /// Bounds of the tokens, where the search of an edit may begin.
     landmarks: Landmarks,
     /// What an edit lexes, before it is put among the tokens; empty between edits.
-    room: Vec<CToken>,
+    room: Vec<Token>,
 }
 
-/// The counts of one edit.
+/// The counts of one edit. The tokens behind it are the first `kept_front` of those before it, then `lexed` new ones,
+/// and then the last `kept_back` of those before it.
+///
+/// ```
+/// use ra_ap_rustc_lexer::{LexedText, Relexed};
+///
+/// let mut lexed = LexedText::new("a + b + c + d");
+/// let counts = Relexed { kept_front: 6, lexed: 3, kept_back: 4 };
+/// assert_eq!(lexed.edit(8..8, "x"), counts);
+/// ```
 #[derive(Clone, Copy, Debug, PartialEq, Eq)]
 pub struct Relexed {
     /// How many tokens at the front stay as they are.
@@ -50,7 +61,16 @@ pub struct Relexed {
 }
 
 impl Relexed {
-    /// The numbers of the tokens that were lexed.
+    /// The numbers of the tokens that were lexed, among those behind the edit.
+    ///
+    /// ```
+    /// use ra_ap_rustc_lexer::LexedText;
+    ///
+    /// let mut lexed = LexedText::new("a + b + c + d");
+    /// let relexed = lexed.edit(8..8, "x");
+    /// let written: u32 = lexed.tokens()[relexed.range()].iter().map(|token| token.len).sum();
+    /// assert_eq!(written, 4);
+    /// ```
     pub fn range(&self) -> Range<usize> {
         self.kept_front..self.kept_front + self.lexed
     }
@@ -58,6 +78,12 @@ impl Relexed {
 
 impl LexedText {
     /// The text with its tokens, those of [`tokenize`](crate::tokenize) with `FrontmatterAllowed::No`.
+    ///
+    /// ```
+    /// use ra_ap_rustc_lexer::LexedText;
+    ///
+    /// assert_eq!(LexedText::new("let x;").tokens().len(), 4);
+    /// ```
     ///
     /// # Panics
     ///
@@ -67,6 +93,12 @@ impl LexedText {
     }
 
     /// The text with its tokens in an edition.
+    ///
+    /// ```
+    /// use ra_ap_rustc_lexer::{Edition, LexedText};
+    ///
+    /// assert_eq!(LexedText::new_in("'r#a", Edition::E2018).tokens().len(), 3);
+    /// ```
     ///
     /// # Panics
     ///
@@ -85,27 +117,61 @@ impl LexedText {
     }
 
     /// The text.
+    ///
+    /// ```
+    /// use ra_ap_rustc_lexer::LexedText;
+    ///
+    /// assert_eq!(LexedText::new("let x;").text(), "let x;");
+    /// ```
     pub fn text(&self) -> &str {
         &self.text
     }
 
-    /// Its tokens, in order. `len`, `nth` and `skip` take the same time for any number.
-    pub fn tokens(&self) -> LexedTokens<'_> {
-        LexedTokens(self.tokens.iter())
+    /// Its tokens, in order. The slice costs nothing: they are kept as the library writes them.
+    ///
+    /// ```
+    /// use ra_ap_rustc_lexer::{LexedText, TokenKind};
+    ///
+    /// let lexed = LexedText::new("a + b");
+    /// assert_eq!(lexed.tokens()[2].kind, TokenKind::Plus);
+    /// ```
+    pub fn tokens(&self) -> &[Token] {
+        &self.tokens
     }
 
     /// The edition that the tokens are of.
+    ///
+    /// ```
+    /// use ra_ap_rustc_lexer::{Edition, LexedText};
+    ///
+    /// assert_eq!(LexedText::new("").edition(), Edition::E2024);
+    /// ```
     pub fn edition(&self) -> Edition {
         self.edition
     }
 
     /// Lexes the text again, in another edition.
+    ///
+    /// ```
+    /// use ra_ap_rustc_lexer::{Edition, LexedText};
+    ///
+    /// let mut lexed = LexedText::new("'r#a");
+    /// lexed.set_edition(Edition::E2015);
+    /// assert_eq!(lexed.tokens().len(), 3);
+    /// ```
     pub fn set_edition(&mut self, edition: Edition) {
         self.edition = edition;
         self.lex_all();
     }
 
     /// The tokens with their places and their parts of the text, in order.
+    ///
+    /// ```
+    /// use ra_ap_rustc_lexer::LexedText;
+    ///
+    /// let lexed = LexedText::new("a + b");
+    /// assert_eq!(lexed.pieces().nth(2).map(|piece| (piece.start, piece.text)), Some((2, "+")));
+    /// ```
     pub fn pieces(&self) -> Pieces<'_> {
         Pieces {
             text: &self.text,
@@ -115,6 +181,15 @@ impl LexedText {
     }
 
     /// The pieces of some tokens, by their numbers: after an edit those of `relexed.range()` are to be painted anew.
+    ///
+    /// ```
+    /// use ra_ap_rustc_lexer::LexedText;
+    ///
+    /// let mut lexed = LexedText::new("a + b + c + d");
+    /// let relexed = lexed.edit(8..8, "x");
+    /// let painted: Vec<&str> = lexed.pieces_of(relexed.range()).map(|piece| piece.text).collect();
+    /// assert_eq!(painted, ["+", " ", "xc"]);
+    /// ```
     ///
     /// # Panics
     ///
@@ -130,6 +205,13 @@ impl LexedText {
     }
 
     /// Whether the range is inside the text, between characters, and the edit makes a text of at most `u32::MAX` bytes.
+    ///
+    /// ```
+    /// use ra_ap_rustc_lexer::LexedText;
+    ///
+    /// let lexed = LexedText::new("é");
+    /// assert!(lexed.accepts(0..2, "e") && !lexed.accepts(1..2, "e"));
+    /// ```
     pub fn accepts(&self, range: Range<usize>, insert: &str) -> bool {
         range.start <= range.end
             && self.text.is_char_boundary(range.start)
@@ -138,6 +220,14 @@ impl LexedText {
     }
 
     /// Puts `insert` in place of the range of bytes.
+    ///
+    /// ```
+    /// use ra_ap_rustc_lexer::LexedText;
+    ///
+    /// let mut lexed = LexedText::new("let x = 1;");
+    /// lexed.edit(8..9, "\"one\"");
+    /// assert_eq!((lexed.text(), lexed.tokens().len()), ("let x = \"one\";", 8));
+    /// ```
     ///
     /// # Panics
     ///
@@ -162,19 +252,19 @@ impl LexedText {
         self.put_lexed(&relexing)
     }
 
-    /// Lexes as many tokens into the room as are there, or `ROOM`.
+    /// Lexes tokens behind those that are in the room: as many as are there, or `ROOM`.
     fn more_tokens(&mut self, edit: &Edit, relexing: &mut Relexing) {
-        let len = self.room.len();
-        self.room.resize(len + len.max(ROOM), NO_TOKEN);
-        let count = border::relex(
-            &self.text,
-            &self.tokens,
+        let most = self.room.len().max(ROOM);
+        let (text, old) = (&self.text, &self.tokens);
+        border::relex(
+            text,
+            old,
             edit,
             self.edition,
             relexing,
-            &mut self.room[len..],
+            &mut self.room,
+            most,
         );
-        self.room.truncate(len + count);
     }
 
     /// Puts what was lexed between the tokens that are kept.
@@ -191,8 +281,8 @@ impl LexedText {
             number: kept.number + self.room.len(),
             place: relexing.at,
         };
-        replace(&mut self.tokens, kept.number..met.number, &self.room);
-        self.room.clear();
+        self.tokens
+            .splice(kept.number..met.number, self.room.drain(..));
         self.landmarks.move_over(kept, met, now);
         self.landmarks.remember(kept, self.text.len());
         Relexed {
@@ -206,72 +296,42 @@ impl LexedText {
     fn lex_all(&mut self) {
         self.tokens.clear();
         self.landmarks = Landmarks::new();
-        let edit = whole(&self.text);
+        let edit = Edit::whole(&self.text);
         let mut relexing = Relexing::default();
         while !relexing.is_done() {
             let number = self.tokens.len();
             let place = relexing.at;
             self.landmarks
                 .remember(Bound { number, place }, self.text.len());
-            self.tokens.resize(number + SPACING, NO_TOKEN);
-            let room = &mut self.tokens[number..];
-            let count = border::relex(&self.text, &[], &edit, self.edition, &mut relexing, room);
-            self.tokens.truncate(number + count);
+            let text = &self.text;
+            let tokens = &mut self.tokens;
+            border::relex(
+                text,
+                &[],
+                &edit,
+                self.edition,
+                &mut relexing,
+                tokens,
+                SPACING,
+            );
         }
     }
 }
 
-/// Puts items in place of a range of a list. Where as many stand there, nothing else moves.
-fn replace(list: &mut Vec<CToken>, range: Range<usize>, with: &[CToken]) {
-    let old_len = list.len();
-    let new_len = old_len - range.len() + with.len();
-    if new_len > old_len {
-        list.resize(new_len, NO_TOKEN);
-    }
-    if new_len != old_len {
-        list.copy_within(range.end..old_len, range.start + with.len());
-        list.truncate(new_len);
-    }
-    list[range.start..range.start + with.len()].copy_from_slice(with);
-}
-
 /// How many bytes the tokens have.
-fn bytes_of(tokens: &[CToken]) -> usize {
+fn bytes_of(tokens: &[Token]) -> usize {
     tokens.iter().map(|token| token.len as usize).sum()
 }
 
-/// The iterator of [`LexedText::tokens`].
-#[derive(Clone, Debug)]
-pub struct LexedTokens<'a>(slice::Iter<'a, CToken>);
-
-impl Iterator for LexedTokens<'_> {
-    type Item = Token;
-
-    #[inline]
-    fn next(&mut self) -> Option<Token> {
-        self.0.next().map(token::from_numbers)
-    }
-
-    fn size_hint(&self) -> (usize, Option<usize>) {
-        self.0.size_hint()
-    }
-
-    fn nth(&mut self, number: usize) -> Option<Token> {
-        self.0.nth(number).map(token::from_numbers)
-    }
-}
-
-impl DoubleEndedIterator for LexedTokens<'_> {
-    fn next_back(&mut self) -> Option<Token> {
-        self.0.next_back().map(token::from_numbers)
-    }
-}
-
-impl ExactSizeIterator for LexedTokens<'_> {}
-
-impl FusedIterator for LexedTokens<'_> {}
-
 /// A token, where it stands in its text, and its part of the text.
+///
+/// ```
+/// use ra_ap_rustc_lexer::{LexedText, Piece, TokenKind};
+///
+/// let lexed = LexedText::new("fn f");
+/// let names = lexed.pieces().filter(|piece: &Piece<'_>| piece.token.kind == TokenKind::Ident);
+/// assert!(names.map(|piece| piece.text).eq(["fn", "f"]));
+/// ```
 #[derive(Clone, Copy, Debug, PartialEq, Eq)]
 pub struct Piece<'a> {
     /// Where the token begins, in bytes from the start of the text.
@@ -283,11 +343,19 @@ pub struct Piece<'a> {
 }
 
 /// The iterator of [`LexedText::pieces`] and [`LexedText::pieces_of`].
+///
+/// ```
+/// use ra_ap_rustc_lexer::{LexedText, Pieces};
+///
+/// let lexed = LexedText::new("a b");
+/// let pieces: Pieces<'_> = lexed.pieces();
+/// assert_eq!(pieces.len(), 3);
+/// ```
 #[derive(Clone, Debug)]
 pub struct Pieces<'a> {
     text: &'a str,
     start: usize,
-    tokens: slice::Iter<'a, CToken>,
+    tokens: slice::Iter<'a, Token>,
 }
 
 impl<'a> Iterator for Pieces<'a> {
@@ -295,7 +363,7 @@ impl<'a> Iterator for Pieces<'a> {
 
     #[inline]
     fn next(&mut self) -> Option<Piece<'a>> {
-        let token = token::from_numbers(self.tokens.next()?);
+        let token = *self.tokens.next()?;
         let start = self.start;
         self.start += token.len as usize;
         Some(Piece {

@@ -1,8 +1,18 @@
-//! Tokens: what each is, and how long; and what the numbers of the border stand for.
+//! Tokens: what each is, and how long.
+//!
+//! Their layout is the border's, and `layout.rs` tests it: `repr` and the numbers here say what the library writes.
 
-use crate::border::{CRawStrError, CToken};
+use crate::border::CRawStrError;
 
-/// A token: what it is, and how many bytes of the text it takes.
+/// A token: what it is, and how many bytes of the text it takes. Where it stands is the sum of the lengths before it.
+///
+/// ```
+/// use ra_ap_rustc_lexer::{tokenize, FrontmatterAllowed, Token, TokenKind};
+///
+/// let first = tokenize("while x", FrontmatterAllowed::No).next();
+/// assert_eq!(first, Some(Token { kind: TokenKind::Ident, len: 5 }));
+/// ```
+#[repr(C)]
 #[derive(Clone, Copy, Debug, PartialEq, Eq)]
 pub struct Token {
     /// What the token is.
@@ -12,15 +22,34 @@ pub struct Token {
 }
 
 /// What a token is.
+///
+/// ```
+/// use ra_ap_rustc_lexer::{tokenize, FrontmatterAllowed, TokenKind};
+///
+/// let is_trivia = |kind| {
+///     matches!(
+///         kind,
+///         TokenKind::Whitespace | TokenKind::LineComment { .. } | TokenKind::BlockComment { .. }
+///     )
+/// };
+/// let tokens = tokenize("a /* b */ + c", FrontmatterAllowed::No);
+/// assert_eq!(tokens.filter(|token| !is_trivia(token.kind)).count(), 3);
+/// ```
+#[repr(u8)]
 #[derive(Clone, Copy, Debug, PartialEq, Eq)]
 pub enum TokenKind {
-    /// From `//` up to the end of the line, as `// note`.
-    LineComment { doc_style: Option<DocStyle> },
-
-    /// From `/*` up to the `*/` that closes it, as `/* note */`. Comments nest. One that nothing closes
-    /// takes the rest of the text.
-    BlockComment {
+    /// From `//` up to the end of the line, such as `// note`.
+    LineComment {
+        /// Whether it is a doc comment, such as `/// note`, and where that stands.
         doc_style: Option<DocStyle>,
+    } = 1,
+
+    /// From `/*` up to the `*/` that closes it, such as `/* note */`. Comments nest. One that nothing closes takes the
+    /// rest of the text.
+    BlockComment {
+        /// Whether it is a doc comment, such as `/** note */`, and where that stands.
+        doc_style: Option<DocStyle>,
+        /// Whether a `*/` closes it.
         terminated: bool,
     },
 
@@ -35,16 +64,16 @@ pub enum TokenKind {
         invalid_infostring: bool,
     },
 
-    /// An identifier or a keyword, as `value` or `while`.
+    /// An identifier or a keyword, such as `value` or `while`.
     Ident,
 
     /// What would be an identifier but for an emoji in it.
     InvalidIdent,
 
-    /// An identifier that is written raw, as `r#while`.
+    /// An identifier that is written raw, such as `r#while`.
     RawIdent,
 
-    /// A keyword that is forced, as `k#while`.
+    /// A keyword that is forced, such as `k#while`.
     ForcedKeywordIdent,
 
     /// An identifier right before `#`, `"` or `'`, as the `z` of `z"a"`. The mark is no part of it.
@@ -53,21 +82,22 @@ pub enum TokenKind {
     /// The same of a lifetime right before `#`, as the `'z` of `'z#`.
     UnknownPrefixLifetime,
 
-    /// A lifetime that is written raw, as `'r#while`.
+    /// A lifetime that is written raw, such as `'r#while`.
     RawLifetime,
 
     /// `#"` or `##`, with which a guarded string may begin.
     GuardedStrPrefix,
 
-    /// A literal with its suffix, as `12u8` or `"note"`.
+    /// A literal with its suffix, such as `12u8` or `"note"`.
     Literal {
+        /// What literal it is.
         kind: LiteralKind,
         /// Where the suffix begins, in bytes from the start of the token. It is the token's length where
         /// there is no suffix.
         suffix_start: u32,
     },
 
-    /// A lifetime, as `'a`.
+    /// A lifetime, such as `'a`.
     Lifetime {
         /// It begins with a digit, or holds an emoji, and so is none in Rust.
         starts_with_number: bool,
@@ -135,49 +165,158 @@ pub enum TokenKind {
     Eof,
 }
 
+impl TokenKind {
+    /// The name of the kind, without its fields.
+    ///
+    /// ```
+    /// use ra_ap_rustc_lexer::{DocStyle, TokenKind};
+    ///
+    /// let kind = TokenKind::LineComment { doc_style: Some(DocStyle::Outer) };
+    /// assert_eq!(kind.name(), "LineComment");
+    /// ```
+    pub fn name(&self) -> &'static str {
+        match self {
+            TokenKind::LineComment { .. } => "LineComment",
+            TokenKind::BlockComment { .. } => "BlockComment",
+            TokenKind::Whitespace => "Whitespace",
+            TokenKind::Frontmatter { .. } => "Frontmatter",
+            TokenKind::Ident => "Ident",
+            TokenKind::InvalidIdent => "InvalidIdent",
+            TokenKind::RawIdent => "RawIdent",
+            TokenKind::ForcedKeywordIdent => "ForcedKeywordIdent",
+            TokenKind::UnknownPrefix => "UnknownPrefix",
+            TokenKind::UnknownPrefixLifetime => "UnknownPrefixLifetime",
+            TokenKind::RawLifetime => "RawLifetime",
+            TokenKind::GuardedStrPrefix => "GuardedStrPrefix",
+            TokenKind::Literal { .. } => "Literal",
+            TokenKind::Lifetime { .. } => "Lifetime",
+            TokenKind::Semi => "Semi",
+            TokenKind::Comma => "Comma",
+            TokenKind::Dot => "Dot",
+            TokenKind::OpenParen => "OpenParen",
+            TokenKind::CloseParen => "CloseParen",
+            TokenKind::OpenBrace => "OpenBrace",
+            TokenKind::CloseBrace => "CloseBrace",
+            TokenKind::OpenBracket => "OpenBracket",
+            TokenKind::CloseBracket => "CloseBracket",
+            TokenKind::At => "At",
+            TokenKind::Pound => "Pound",
+            TokenKind::Tilde => "Tilde",
+            TokenKind::Question => "Question",
+            TokenKind::Colon => "Colon",
+            TokenKind::Dollar => "Dollar",
+            TokenKind::Eq => "Eq",
+            TokenKind::Bang => "Bang",
+            TokenKind::Lt => "Lt",
+            TokenKind::Gt => "Gt",
+            TokenKind::Minus => "Minus",
+            TokenKind::And => "And",
+            TokenKind::Or => "Or",
+            TokenKind::Plus => "Plus",
+            TokenKind::Star => "Star",
+            TokenKind::Slash => "Slash",
+            TokenKind::Caret => "Caret",
+            TokenKind::Percent => "Percent",
+            TokenKind::Unknown => "Unknown",
+            TokenKind::Eof => "Eof",
+        }
+    }
+}
+
 /// Where a doc comment stands: before what it describes, or inside it.
+///
+/// ```
+/// use ra_ap_rustc_lexer::{tokenize, DocStyle, FrontmatterAllowed, TokenKind};
+///
+/// let kind = tokenize("//! note", FrontmatterAllowed::No).next().unwrap().kind;
+/// assert_eq!(kind, TokenKind::LineComment { doc_style: Some(DocStyle::Inner) });
+/// ```
+#[repr(u8)]
 #[derive(Clone, Copy, Debug, PartialEq, Eq)]
 pub enum DocStyle {
     /// `///` or `/**`
-    Outer,
+    Outer = 1,
     /// `//!` or `/*!`
     Inner,
 }
 
 /// What a literal is. Its suffix has no part in this: `1f32` is an `Int`.
+///
+/// ```
+/// use ra_ap_rustc_lexer::{tokenize, Base, FrontmatterAllowed, LiteralKind, TokenKind};
+///
+/// let kind = tokenize("0x1Fu8", FrontmatterAllowed::No).next().unwrap().kind;
+/// let literal = LiteralKind::Int { base: Base::Hexadecimal, empty_int: false };
+/// assert_eq!(kind, TokenKind::Literal { kind: literal, suffix_start: 4 });
+/// ```
+#[repr(u8)]
 #[derive(Clone, Copy, Debug, PartialEq, Eq, PartialOrd, Ord)]
 pub enum LiteralKind {
-    /// An integer, as `12u8` or `0x1F`.
+    /// An integer, such as `12u8` or `0x1F`.
     Int {
+        /// The base that its prefix names.
         base: Base,
-        /// No digit follows the prefix of the base, as in `0x`.
+        /// No digit follows the prefix of the base, such as in `0x`.
         empty_int: bool,
-    },
-    /// A number with a point or an exponent, as `1.5` or `2e9`.
+    } = 1,
+    /// A number with a point or an exponent, such as `1.5` or `2e9`.
     Float {
+        /// The base that its prefix names.
         base: Base,
-        /// No digit follows the letter of the exponent, as in `2e`.
+        /// No digit follows the letter of the exponent, such as in `2e`.
         empty_exponent: bool,
     },
-    /// `'a'`
-    Char { terminated: bool },
-    /// `b'a'`
-    Byte { terminated: bool },
-    /// `"note"`
-    Str { terminated: bool },
-    /// `b"note"`
-    ByteStr { terminated: bool },
-    /// `c"note"`
-    CStr { terminated: bool },
-    /// `r"note"` or `r#"note"#`, with the number of its hashes; `None` where it is refused.
-    RawStr { n_hashes: Option<u8> },
-    /// The same after `br`.
-    RawByteStr { n_hashes: Option<u8> },
-    /// The same after `cr`.
-    RawCStr { n_hashes: Option<u8> },
+    /// A character, such as `'a'`.
+    Char {
+        /// Whether a quote closes it.
+        terminated: bool,
+    },
+    /// A byte, such as `b'a'`.
+    Byte {
+        /// Whether a quote closes it.
+        terminated: bool,
+    },
+    /// A string, such as `"note"`.
+    Str {
+        /// Whether a quote closes it.
+        terminated: bool,
+    },
+    /// A string of bytes, such as `b"note"`.
+    ByteStr {
+        /// Whether a quote closes it.
+        terminated: bool,
+    },
+    /// A string for C, such as `c"note"`.
+    CStr {
+        /// Whether a quote closes it.
+        terminated: bool,
+    },
+    /// A raw string, such as `r"note"` or `r#"note"#`.
+    RawStr {
+        /// How many hashes stand on each side; `None` where the string is refused.
+        n_hashes: Option<u8>,
+    },
+    /// A raw string of bytes, such as `br"note"`.
+    RawByteStr {
+        /// How many hashes stand on each side; `None` where the string is refused.
+        n_hashes: Option<u8>,
+    },
+    /// A raw string for C, such as `cr"note"`.
+    RawCStr {
+        /// How many hashes stand on each side; `None` where the string is refused.
+        n_hashes: Option<u8>,
+    },
 }
 
-/// A guarded string, as `#"note"#`: a string between hashes.
+/// A guarded string, such as `#"note"#`: a string between hashes.
+///
+/// ```
+/// use ra_ap_rustc_lexer::{Cursor, FrontmatterAllowed, GuardedStr};
+///
+/// let mut cursor = Cursor::new("#\"note\"# x", FrontmatterAllowed::No);
+/// let string = GuardedStr { n_hashes: 1, terminated: true, token_len: 8 };
+/// assert_eq!(cursor.guarded_double_quoted_string(), Some(string));
+/// ```
 #[derive(Clone, Copy, Debug, PartialEq, Eq, PartialOrd, Ord)]
 pub struct GuardedStr {
     /// How many hashes stand before the string.
@@ -189,10 +328,20 @@ pub struct GuardedStr {
 }
 
 /// Why a raw string is refused.
+///
+/// ```
+/// use ra_ap_rustc_lexer::{validate_raw_str, RawStrError};
+///
+/// let error = RawStrError::InvalidStarter { bad_char: '~' };
+/// assert_eq!(validate_raw_str("r#~\"note\"#", 1), Err(error));
+/// ```
 #[derive(Clone, Copy, Debug, PartialEq, Eq, PartialOrd, Ord)]
 pub enum RawStrError {
     /// Neither a hash nor a quote stands where the string should begin, as in `r#~"note"#`.
-    InvalidStarter { bad_char: char },
+    InvalidStarter {
+        /// What stands there, or U+0000 at the end of the text.
+        bad_char: char,
+    },
     /// Nothing closes the string, as in `r##"note"#`.
     NoTerminator {
         /// How many hashes would close it.
@@ -204,10 +353,20 @@ pub enum RawStrError {
         possible_terminator_offset: Option<u32>,
     },
     /// More than 255 hashes stand on each side of the string.
-    TooManyDelimiters { found: u32 },
+    TooManyDelimiters {
+        /// How many hashes stand before it.
+        found: u32,
+    },
 }
 
-/// The base that a number is written in.
+/// The base that a number is written in. `Base::Octal as u32` is 8, and so on.
+///
+/// ```
+/// use ra_ap_rustc_lexer::Base;
+///
+/// assert_eq!(u32::from_str_radix("1F", Base::Hexadecimal as u32), Ok(31));
+/// ```
+#[repr(u8)]
 #[derive(Clone, Copy, Debug, PartialEq, Eq, PartialOrd, Ord)]
 pub enum Base {
     /// After `0b`.
@@ -218,152 +377,6 @@ pub enum Base {
     Decimal = 10,
     /// After `0x`.
     Hexadecimal = 16,
-}
-
-const TERMINATED: u8 = 1;
-const EMPTY_INT: u8 = 2;
-const EMPTY_EXPONENT: u8 = 4;
-const HAS_HASHES: u8 = 8;
-const STARTS_WITH_NUMBER: u8 = 16;
-const INVALID_WHITESPACE: u8 = 32;
-const INVALID_INFOSTRING: u8 = 64;
-
-/// The kinds that have no fields, by their numbers. `Eof` stands where no such kind has the number.
-static BARE: [TokenKind; 44] = [
-    TokenKind::Eof,
-    TokenKind::Eof,
-    TokenKind::Eof,
-    TokenKind::Whitespace,
-    TokenKind::Eof,
-    TokenKind::Ident,
-    TokenKind::InvalidIdent,
-    TokenKind::RawIdent,
-    TokenKind::ForcedKeywordIdent,
-    TokenKind::UnknownPrefix,
-    TokenKind::UnknownPrefixLifetime,
-    TokenKind::RawLifetime,
-    TokenKind::GuardedStrPrefix,
-    TokenKind::Eof,
-    TokenKind::Eof,
-    TokenKind::Semi,
-    TokenKind::Comma,
-    TokenKind::Dot,
-    TokenKind::OpenParen,
-    TokenKind::CloseParen,
-    TokenKind::OpenBrace,
-    TokenKind::CloseBrace,
-    TokenKind::OpenBracket,
-    TokenKind::CloseBracket,
-    TokenKind::At,
-    TokenKind::Pound,
-    TokenKind::Tilde,
-    TokenKind::Question,
-    TokenKind::Colon,
-    TokenKind::Dollar,
-    TokenKind::Eq,
-    TokenKind::Bang,
-    TokenKind::Lt,
-    TokenKind::Gt,
-    TokenKind::Minus,
-    TokenKind::And,
-    TokenKind::Or,
-    TokenKind::Plus,
-    TokenKind::Star,
-    TokenKind::Slash,
-    TokenKind::Caret,
-    TokenKind::Percent,
-    TokenKind::Unknown,
-    TokenKind::Eof,
-];
-
-impl CToken {
-    fn has(&self, flag: u8) -> bool {
-        self.flags & flag != 0
-    }
-
-    fn doc_style(&self) -> Option<DocStyle> {
-        match self.doc_style {
-            1 => Some(DocStyle::Outer),
-            2 => Some(DocStyle::Inner),
-            _ => None,
-        }
-    }
-
-    fn base(&self) -> Base {
-        match self.base {
-            2 => Base::Binary,
-            8 => Base::Octal,
-            16 => Base::Hexadecimal,
-            _ => Base::Decimal,
-        }
-    }
-
-    fn n_hashes(&self) -> Option<u8> {
-        self.has(HAS_HASHES).then_some(self.n_hashes)
-    }
-
-    fn literal_kind(&self) -> LiteralKind {
-        let terminated = self.has(TERMINATED);
-        match self.literal_kind {
-            1 => LiteralKind::Int {
-                base: self.base(),
-                empty_int: self.has(EMPTY_INT),
-            },
-            2 => LiteralKind::Float {
-                base: self.base(),
-                empty_exponent: self.has(EMPTY_EXPONENT),
-            },
-            3 => LiteralKind::Char { terminated },
-            4 => LiteralKind::Byte { terminated },
-            5 => LiteralKind::Str { terminated },
-            6 => LiteralKind::ByteStr { terminated },
-            7 => LiteralKind::CStr { terminated },
-            8 => LiteralKind::RawStr {
-                n_hashes: self.n_hashes(),
-            },
-            9 => LiteralKind::RawByteStr {
-                n_hashes: self.n_hashes(),
-            },
-            10 => LiteralKind::RawCStr {
-                n_hashes: self.n_hashes(),
-            },
-            number => unreachable!("no kind of literal has the number {number}"),
-        }
-    }
-
-    #[inline]
-    fn kind(&self) -> TokenKind {
-        match self.kind {
-            1 => TokenKind::LineComment {
-                doc_style: self.doc_style(),
-            },
-            2 => TokenKind::BlockComment {
-                doc_style: self.doc_style(),
-                terminated: self.has(TERMINATED),
-            },
-            4 => TokenKind::Frontmatter {
-                has_invalid_preceding_whitespace: self.has(INVALID_WHITESPACE),
-                invalid_infostring: self.has(INVALID_INFOSTRING),
-            },
-            13 => TokenKind::Literal {
-                kind: self.literal_kind(),
-                suffix_start: self.suffix_start,
-            },
-            14 => TokenKind::Lifetime {
-                starts_with_number: self.has(STARTS_WITH_NUMBER),
-            },
-            number => BARE[usize::from(number)],
-        }
-    }
-}
-
-/// The token that the numbers stand for.
-#[inline]
-pub(crate) fn from_numbers(token: &CToken) -> Token {
-    Token {
-        kind: token.kind(),
-        len: token.len,
-    }
 }
 
 /// The token with the bytes that were pending before it.

@@ -133,8 +133,7 @@ fn counts(
 
 fn check(lexed: &LexedText, context: &str) {
     let scratch: Vec<Token> = tokenize_in(lexed.text(), lexed.edition()).collect();
-    assert!(lexed.tokens().eq(scratch.iter().copied()), "{context}");
-    assert_eq!(lexed.tokens().len(), scratch.len());
+    assert_eq!(lexed.tokens(), scratch, "{context}");
     let mut start = 0;
     for (piece, token) in lexed.pieces().zip(&scratch) {
         let end = start + token.len as usize;
@@ -149,7 +148,7 @@ fn check(lexed: &LexedText, context: &str) {
 
 fn edit_and_check(lexed: &mut LexedText, range: Range<usize>, insert: &str) {
     let before = lexed.text().to_string();
-    let old: Vec<Token> = lexed.tokens().collect();
+    let old = lexed.tokens().to_vec();
     let relexed = lexed.edit(range.clone(), insert);
     let mut text = before.clone();
     text.replace_range(range.clone(), insert);
@@ -159,10 +158,9 @@ fn edit_and_check(lexed: &mut LexedText, range: Range<usize>, insert: &str) {
         lexed.edition()
     );
     check(lexed, &context);
-    let new: Vec<Token> = lexed.tokens().collect();
     assert_eq!(
         (relexed.kept_front, relexed.lexed, relexed.kept_back),
-        counts(&before, &old, &new, &range, insert.len()),
+        counts(&before, &old, lexed.tokens(), &range, insert.len()),
         "{context}"
     );
     let painted: Vec<_> = lexed.pieces_of(relexed.range()).collect();
@@ -177,13 +175,27 @@ fn edit_and_check(lexed: &mut LexedText, range: Range<usize>, insert: &str) {
 #[test]
 fn random_edits_of_short_texts() {
     let mut random = Random(1);
-    for round in 0..2_000 {
+    for round in 0..800 {
         let edition = EDITIONS[round % 4];
         let mut lexed = LexedText::new_in(random.text(40), edition);
         check(&lexed, "at the start");
         for _ in 0..12 {
             let range = random.range(lexed.text());
             let insert = random.text(3);
+            edit_and_check(&mut lexed, range, &insert);
+        }
+    }
+}
+
+#[test]
+fn ten_thousand_edits_of_one_text_in_each_edition() {
+    for edition in EDITIONS {
+        let mut random = Random(u64::from(edition.year()));
+        let mut lexed = LexedText::new_in(random.text(200), edition);
+        for _ in 0..10_000 {
+            let range = random.range(lexed.text());
+            let most = if lexed.text().len() < 400 { 20 } else { 2 };
+            let insert = random.text(most);
             edit_and_check(&mut lexed, range, &insert);
         }
     }
@@ -228,12 +240,9 @@ fn the_example_of_the_documents() {
         (relexed.kept_front, relexed.lexed, relexed.kept_back),
         (6, 3, 3)
     );
+    assert_eq!(lexed.tokens()[2].kind, TokenKind::Ident);
     assert_eq!(
-        lexed.tokens().nth(2).map(|token| token.kind),
-        Some(TokenKind::Ident)
-    );
-    assert_eq!(
-        lexed.tokens().next_back().map(|token| token.kind),
+        lexed.tokens().last().map(|token| token.kind),
         Some(TokenKind::Semi)
     );
 }
@@ -242,6 +251,8 @@ fn the_example_of_the_documents() {
 fn editions() {
     let kinds = |edition| tokenize_in("'r#a##", edition).count();
     assert_eq!(EDITIONS.map(kinds), [5, 5, 3, 2]);
+    assert_eq!(EDITIONS.map(Edition::year), [2015, 2018, 2021, 2024]);
+    assert!(EDITIONS.is_sorted() && EDITIONS[0] < EDITIONS[1]);
     let text = "a ".repeat(1000) + "r#\"b\"# c\"d\" 'é";
     assert!(tokenize_in(&text, Edition::E2024).eq(tokenize(&text, FrontmatterAllowed::No)));
     assert_eq!(tokenize_in("", Edition::E2015).next(), None);

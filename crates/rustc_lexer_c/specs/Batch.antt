@@ -1,8 +1,9 @@
 -- Tokens in batches: as many as there is room for, and where to go on.
-use Rattle.std.specs.Prelude.{ℕ, zero, suc, ◌≡◌, List, ◌++◌, length, map, take, drop, min}
+use Rattle.std.specs.Prelude.{ℕ, zero, suc, ◌≡◌, List, [], ◌∷◌, ◌++◌, length, map, take, drop, min}
 use Rattle.std.specs.Str.{IsCharBoundary}
 use Rattle.rustc_lexer.specs.declared.token.FrontmatterAllowed.{FrontmatterAllowed}
 use Rattle.rustc_lexer.specs.declared.token.FrontmatterAllowed.TheVariants.{Yes, No}
+use Rattle.rustc_lexer.specs.declared.token.Token.{Token}
 use Rattle.rustc_lexer.specs.State.{State}
 use Rattle.rustc_lexer.specs.means.Taking.{advance}
 use Rattle.rustc_lexer.specs.Tokens.{tokens_left}
@@ -18,6 +19,15 @@ allowed_of (suc n) = Yes
 abbrev pub allowed_number : FrontmatterAllowed → ℕ
 allowed_number No = 0
 allowed_number Yes = 1
+
+-- zeros, which are the numbers of no token
+abbrev pub no_token : CToken
+no_token = record { kind = 0; first = 0; second = 0; third = 0; suffix_start = 0; len = 0 }
+
+-- the first of some tokens as numbers
+abbrev pub first_numbers : List Token → CToken
+first_numbers [] = no_token
+first_numbers (token ∷ tokens) = token_numbers token
 
 -- the state of a cursor that stands at the place, with nothing pending
 abbrev pub state_at : List ℕ → CPlace → State

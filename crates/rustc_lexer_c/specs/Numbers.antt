@@ -1,5 +1,5 @@
 -- The numbers by which a token crosses to C. They are fixed: a new kind gets a new number.
-use Rattle.std.specs.Prelude.{ℕ, ◌+◌, Bool, if◌then◌else◌, Option, Some, None}
+use Rattle.std.specs.Prelude.{ℕ, Bool, true, false, Option, Some, None}
 use Rattle.rustc_lexer.specs.declared.token.Base.{Base}
 use Rattle.rustc_lexer.specs.declared.token.Base.TheVariants.{Binary, Octal, Decimal, Hexadecimal}
 use Rattle.rustc_lexer.specs.declared.token.DocStyle.{DocStyle}
@@ -71,94 +71,78 @@ literal_number (RawStr n_hashes) = 8
 literal_number (RawByteStr n_hashes) = 9
 literal_number (RawCStr n_hashes) = 10
 
--- the same of a kind, and 0 where it is no literal
-unfoldable pub literal_of : TokenKind → ℕ
-literal_of (Literal kind suffix_start) = literal_number kind
-literal_of kind = 0
-
 abbrev pub base_number : Base → ℕ
 base_number Binary = 2
 base_number Octal = 8
 base_number Decimal = 10
 base_number Hexadecimal = 16
 
-unfoldable pub literal_base : LiteralKind → ℕ
-literal_base (Int base empty_int) = base_number base
-literal_base (Float base empty_exponent) = base_number base
-literal_base kind = 0
-
--- the base of a number, and 0 of all else
-unfoldable pub base_of : TokenKind → ℕ
-base_of (Literal kind suffix_start) = literal_base kind
-base_of kind = 0
-
 abbrev pub style_number : Option DocStyle → ℕ
 style_number None = 0
 style_number (Some Outer) = 1
 style_number (Some Inner) = 2
 
--- the style of a doc comment, and 0 of all else
-unfoldable pub style_of : TokenKind → ℕ
-style_of (LineComment doc_style) = style_number doc_style
-style_of (BlockComment doc_style terminated) = style_number doc_style
-style_of kind = 0
+abbrev pub bool_number : Bool → ℕ
+bool_number false = 0
+bool_number true = 1
 
-abbrev pub count_or_zero : Option ℕ → ℕ
-count_or_zero None = 0
-count_or_zero (Some count) = count
+-- 1 where there is a number, else 0; and the number, or 0
+abbrev pub some_number : Option ℕ → ℕ
+some_number None = 0
+some_number (Some n) = 1
 
-unfoldable pub literal_hashes : LiteralKind → ℕ
-literal_hashes (RawStr n_hashes) = count_or_zero n_hashes
-literal_hashes (RawByteStr n_hashes) = count_or_zero n_hashes
-literal_hashes (RawCStr n_hashes) = count_or_zero n_hashes
-literal_hashes kind = 0
+abbrev pub some_or_zero : Option ℕ → ℕ
+some_or_zero None = 0
+some_or_zero (Some n) = n
 
--- the hashes of a raw string that is not refused, and 0 of all else
-unfoldable pub hashes_of : TokenKind → ℕ
-hashes_of (Literal kind suffix_start) = literal_hashes kind
-hashes_of kind = 0
+-- the fields of a kind of literal, a byte for each in their order, behind its number; the hashes of a raw string are two
+-- bytes, and a byte that no field has is 0
+unfoldable pub literal_second : LiteralKind → ℕ
+literal_second (Int base empty_int) = base_number base
+literal_second (Float base empty_exponent) = base_number base
+literal_second (Char terminated) = bool_number terminated
+literal_second (Byte terminated) = bool_number terminated
+literal_second (Str terminated) = bool_number terminated
+literal_second (ByteStr terminated) = bool_number terminated
+literal_second (CStr terminated) = bool_number terminated
+literal_second (RawStr n_hashes) = some_number n_hashes
+literal_second (RawByteStr n_hashes) = some_number n_hashes
+literal_second (RawCStr n_hashes) = some_number n_hashes
 
--- a bit where it is so
-abbrev pub flag : ℕ → Bool → ℕ
-flag bit so = if so then bit else 0
+unfoldable pub literal_third : LiteralKind → ℕ
+literal_third (Int base empty_int) = bool_number empty_int
+literal_third (Float base empty_exponent) = bool_number empty_exponent
+literal_third (RawStr n_hashes) = some_or_zero n_hashes
+literal_third (RawByteStr n_hashes) = some_or_zero n_hashes
+literal_third (RawCStr n_hashes) = some_or_zero n_hashes
+literal_third kind = 0
 
-abbrev pub has_count : Option ℕ → ℕ
-has_count None = 0
-has_count (Some count) = 8
+-- the fields of a kind, in the same way: of a literal the first is its kind
+unfoldable pub first_of : TokenKind → ℕ
+first_of (LineComment doc_style) = style_number doc_style
+first_of (BlockComment doc_style terminated) = style_number doc_style
+first_of (Frontmatter has_invalid_preceding_whitespace invalid_infostring) = bool_number has_invalid_preceding_whitespace
+first_of (Literal kind suffix_start) = literal_number kind
+first_of (Lifetime starts_with_number) = bool_number starts_with_number
+first_of kind = 0
 
-unfoldable pub literal_flags : LiteralKind → ℕ
-literal_flags (Int base empty_int) = flag 2 empty_int
-literal_flags (Float base empty_exponent) = flag 4 empty_exponent
-literal_flags (Char terminated) = flag 1 terminated
-literal_flags (Byte terminated) = flag 1 terminated
-literal_flags (Str terminated) = flag 1 terminated
-literal_flags (ByteStr terminated) = flag 1 terminated
-literal_flags (CStr terminated) = flag 1 terminated
-literal_flags (RawStr n_hashes) = has_count n_hashes
-literal_flags (RawByteStr n_hashes) = has_count n_hashes
-literal_flags (RawCStr n_hashes) = has_count n_hashes
+unfoldable pub second_of : TokenKind → ℕ
+second_of (BlockComment doc_style terminated) = bool_number terminated
+second_of (Frontmatter has_invalid_preceding_whitespace invalid_infostring) = bool_number invalid_infostring
+second_of (Literal kind suffix_start) = literal_second kind
+second_of kind = 0
 
-abbrev pub frontmatter_flags : Bool → Bool → ℕ
-frontmatter_flags has_invalid_preceding_whitespace invalid_infostring = flag 32 has_invalid_preceding_whitespace + flag 64 invalid_infostring
-
--- the sum of the bits: 1 terminated, 2 an integer with no digit, 4 an exponent with no digit, 8 a raw string that is not
--- refused, 16 a lifetime that starts with a number, 32 white space before a frontmatter, 64 a bad infostring
-unfoldable pub flags_of : TokenKind → ℕ
-flags_of (BlockComment doc_style terminated) = flag 1 terminated
-flags_of (Literal kind suffix_start) = literal_flags kind
-flags_of (Lifetime starts_with_number) = flag 16 starts_with_number
-flags_of (Frontmatter has_invalid_preceding_whitespace invalid_infostring) = frontmatter_flags has_invalid_preceding_whitespace invalid_infostring
-flags_of kind = 0
+unfoldable pub third_of : TokenKind → ℕ
+third_of (Literal kind suffix_start) = literal_third kind
+third_of kind = 0
 
 -- a token as numbers
 unfoldable pub token_numbers : Token → CToken
 token_numbers token = record {
-  len = token.len;
-  suffix_start = suffix_start_of token.kind;
   kind = kind_number token.kind;
-  literal_kind = literal_of token.kind;
-  base = base_of token.kind;
-  doc_style = style_of token.kind;
-  n_hashes = hashes_of token.kind;
-  flags = flags_of token.kind;
+  first = first_of token.kind;
+  second = second_of token.kind;
+  third = third_of token.kind;
+  suffix_start = suffix_start_of token.kind;
+  len = token.len;
 }

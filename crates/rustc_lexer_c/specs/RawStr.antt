@@ -1,24 +1,11 @@
 -- The numbers by which the check of a raw string, and a guarded string, cross to C.
-use Rattle.std.specs.Prelude.{ℕ, Bool, true, false, Option, Some, None, Result, Ok, Err}
+use Rattle.std.specs.Prelude.{Option, Some, None, Result, Ok, Err}
 use Rattle.rustc_lexer.specs.declared.token.GuardedStr.{GuardedStr}
 use Rattle.rustc_lexer.specs.declared.token.RawStrError.{RawStrError}
 use Rattle.rustc_lexer.specs.declared.token.RawStrError.TheVariants.{InvalidStarter, NoTerminator, TooManyDelimiters}
 use Rattle.rustc_lexer_c.specs.declared.raw_str.CGuardedStr.{CGuardedStr}
 use Rattle.rustc_lexer_c.specs.declared.raw_str.CRawStrError.{CRawStrError}
-
-abbrev pub bool_number : Bool → ℕ
-bool_number false = 0
-bool_number true = 1
-
--- the offset where there is one, or 0
-abbrev pub some_or_zero : Option ℕ → ℕ
-some_or_zero None = 0
-some_or_zero (Some n) = n
-
--- 1 where there is an offset, else 0
-abbrev pub some_number : Option ℕ → ℕ
-some_number None = 0
-some_number (Some n) = 1
+use Rattle.rustc_lexer_c.specs.Numbers.{bool_number, some_number, some_or_zero}
 
 abbrev pub no_error : CRawStrError
 no_error = record { error = 0; bad_char = 0; expected = 0; found = 0; has_offset = 0; possible_terminator_offset = 0 }

@@ -4,10 +4,11 @@ ghost use Rattle.std.specs.Str.{IsUtf8, IsCharBoundary};
 ghost use Rattle.rustc_lexer.specs.Classes.{Fits};
 ghost use Rattle.rustc_lexer.specs.LanguageHolds.{IsDetermined};
 ghost use Rattle.rustc_lexer.specs.State.{allowed_after};
+ghost use Rattle.rustc_lexer.specs.Tokens.{tokens_of};
 ghost use Rattle.rustc_lexer_c.specs.Batch as spec;
 ghost use Rattle.rustc_lexer_c.specs.Status.{IsPlaceStatus};
 
-use crate::status::{Refusal, text_of};
+use crate::status::{Refusal, text_of, utf8_text_of};
 use crate::token::{CToken, token_numbers};
 use rustc_lexer::{FrontmatterAllowed, TokenKind, tokenize};
 
@@ -66,17 +67,57 @@ pub extern "C" fn rustc_lexer_tokens_unchecked(
     ensures refused { result ≢ 0
         → spec.IsUntouched place.old place.new room.old room.new count.new }
 {
-    if text.len() > u32::MAX as usize {
-        *count = 0;
-        return Refusal::TooLong.number();
+    match utf8_text_of(text) {
+        Ok(text) => batch(text, place, room, count),
+        Err(refusal) => {
+            *count = 0;
+            refusal.number()
+        }
     }
-    // The caller promises it.
-    batch(
-        unsafe { std::str::from_utf8_unchecked(text) },
-        place,
-        room,
-        count,
-    )
+}
+
+/// The first token of a text that `rustc_lexer_check` found to be UTF-8, or zeros where there is none: the text is
+/// empty, or has more than `u32::MAX` bytes.
+#[unsafe(no_mangle)]
+pub extern "C" fn rustc_lexer_first_token_unchecked(text: &[u8], frontmatter_allowed: u32) -> CToken
+    requires utf8 { IsUtf8 text.now }
+    ensures token { Fits text.now
+        → result ≡ spec.first_numbers (tokens_of (spec.allowed_of frontmatter_allowed) text.now) }
+    ensures too_long { ¬ (Fits text.now) → result ≡ spec.no_token }
+{
+    match utf8_text_of(text) {
+        Ok(text) => match allowed_of(frontmatter_allowed) {
+            FrontmatterAllowed::No => first_token(text, FrontmatterAllowed::No),
+            FrontmatterAllowed::Yes => first_token(text, FrontmatterAllowed::Yes),
+        },
+        Err(_) => no_token(),
+    }
+}
+
+/// The first token of a text as numbers, or zeros.
+#[inline(always)]
+fn first_token(text: &str, allowed: FrontmatterAllowed) -> CToken
+    requires fits { Fits text.now }
+    ensures { result ≡ spec.first_numbers (tokens_of allowed text.now) }
+{
+    match tokenize(text, allowed).next() {
+        Some(token) => token_numbers(token),
+        None => no_token(),
+    }
+}
+
+/// Zeros, which are no token.
+fn no_token() -> CToken
+    ensures { result ≡ spec.no_token }
+{
+    CToken {
+        kind: 0,
+        first: 0,
+        second: 0,
+        third: 0,
+        suffix_start: 0,
+        len: 0,
+    }
 }
 
 /// Writes the batch at the place of a text.
@@ -93,19 +134,25 @@ fn batch(text: &str, place: &mut CPlace, room: &mut [CToken], count: &mut usize)
         *count = 0;
         return Refusal::BadPlace.number();
     }
-    *count = fill(text, place, room);
+    // A loop for each of the two: where no frontmatter is allowed, none of its tokens asks for it.
+    *count = match allowed_of(place.frontmatter_allowed) {
+        FrontmatterAllowed::No => fill(text, FrontmatterAllowed::No, place, room),
+        FrontmatterAllowed::Yes => fill(text, FrontmatterAllowed::Yes, place, room),
+    };
     0
 }
 
 /// Writes the batch at a place between characters, and answers its number of tokens.
-fn fill(text: &str, place: &mut CPlace, room: &mut [CToken]) -> usize
+#[inline(always)]
+fn fill(text: &str, begun: FrontmatterAllowed, place: &mut CPlace, room: &mut [CToken]) -> usize
     requires fits { Fits text.now }
     requires boundary { IsCharBoundary text.now place.old.at }
+    requires begun { begun ≡ spec.allowed_of place.old.frontmatter_allowed }
     ensures { spec.IsBatch text.now (spec.state_at text.now place.old)
         room.old place.new room.new result }
 {
     let mut at = place.at as usize;
-    let mut allowed = allowed_of(place.frontmatter_allowed);
+    let mut allowed = begun;
     let mut tokens = tokenize(&text[at..], allowed);
     let mut count = 0;
     while count < room.len() {

@@ -1,10 +1,10 @@
 //! Classes of characters, each by its code.
 ghost use Rattle.std.specs.Prelude.{◌≡◌, ◌≢◌, false};
 ghost use Rattle.std.specs.Char.{IsScalar};
-ghost use Rattle.std.specs.Str.{chars};
+ghost use Rattle.std.specs.Str.{IsUtf8, chars};
 ghost use Rattle.rustc_lexer.specs.Classes;
 ghost use Rattle.rustc_lexer_c.specs.Status.{IsTextStatus};
-ghost use Rattle.rustc_lexer_c.specs.RawStr.{bool_number};
+ghost use Rattle.rustc_lexer_c.specs.Numbers.{bool_number};
 
 use crate::status::text_of;
 use rustc_lexer::{is_horizontal_whitespace, is_id_continue, is_id_start, is_ident, is_whitespace};
@@ -74,4 +74,14 @@ pub extern "C" fn rustc_lexer_is_ident(text: &[u8], is: &mut u32) -> u32
             refusal.number()
         }
     }
+}
+
+/// Whether the text, which is UTF-8 of any length, is an identifier.
+#[unsafe(no_mangle)]
+pub extern "C" fn rustc_lexer_is_ident_unchecked(text: &[u8]) -> bool
+    requires utf8 { IsUtf8 text.now }
+    ensures { result ≡ Classes.is_ident (chars text.now) }
+{
+    // The caller promises it.
+    is_ident(unsafe { std::str::from_utf8_unchecked(text) })
 }

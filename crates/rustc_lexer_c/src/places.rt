@@ -1,13 +1,15 @@
 //! Places in a text: the end of its shebang line, and how far its tokens are sure.
 ghost use Rattle.std.specs.Prelude.{◌≡◌, ◌≢◌};
+ghost use Rattle.std.specs.Str.{IsUtf8};
+ghost use Rattle.rustc_lexer.specs.Classes.{Fits};
 ghost use Rattle.rustc_lexer.specs.declared.token.FrontmatterAllowed.TheVariants.{No};
 ghost use Rattle.rustc_lexer.specs.Settled.{IsSettled, StaysUpTo};
 ghost use Rattle.rustc_lexer.specs.means.Shebang.{shebang};
 ghost use Rattle.rustc_lexer.specs.Tokens.{tokens_of};
-ghost use Rattle.rustc_lexer_c.specs.RawStr.{some_or_zero};
+ghost use Rattle.rustc_lexer_c.specs.Numbers.{some_or_zero};
 ghost use Rattle.rustc_lexer_c.specs.Status.{IsTextStatus};
 
-use crate::status::text_of;
+use crate::status::{text_of, utf8_text_of};
 use rustc_lexer::{settled, strip_shebang};
 
 /// Writes the length of the shebang line at the front of a text, without the end of the line; 0 where there is none.
@@ -19,7 +21,27 @@ pub extern "C" fn rustc_lexer_strip_shebang(text: &[u8], line_len: &mut usize) -
 {
     match text_of(text) {
         Ok(text) => {
-            *line_len = strip_shebang(text).unwrap_or(0);
+            *line_len = shebang_len(text);
+            0
+        }
+        Err(refusal) => {
+            *line_len = 0;
+            refusal.number()
+        }
+    }
+}
+
+/// Writes the length of the shebang line of a text that `rustc_lexer_check` found to be UTF-8, which is not tested again.
+#[unsafe(no_mangle)]
+pub extern "C" fn rustc_lexer_strip_shebang_unchecked(text: &[u8], line_len: &mut usize) -> u32
+    requires utf8 { IsUtf8 text.now }
+    ensures status { IsTextStatus text.now result }
+    ensures line { result ≡ 0 → line_len.new ≡ some_or_zero (shebang text.now) }
+    ensures refused { result ≢ 0 → line_len.new ≡ 0 }
+{
+    match utf8_text_of(text) {
+        Ok(text) => {
+            *line_len = shebang_len(text);
             0
         }
         Err(refusal) => {
@@ -48,4 +70,12 @@ pub extern "C" fn rustc_lexer_settled(text: &[u8], end: &mut usize) -> u32
             refusal.number()
         }
     }
+}
+
+/// The length of the shebang line, or 0.
+fn shebang_len(text: &str) -> usize
+    requires fits { Fits text.now }
+    ensures { result ≡ some_or_zero (shebang text.now) }
+{
+    strip_shebang(text).unwrap_or(0)
 }

@@ -1,12 +1,14 @@
 //! Raw strings and guarded strings.
-ghost use Rattle.std.specs.Prelude.{◌≡◌, ◌≢◌, None};
+ghost use Rattle.std.specs.Prelude.{◌≡◌, ◌≢◌, ◌↔◌, IsTrue, None};
+ghost use Rattle.std.specs.Str.{IsUtf8};
+ghost use Rattle.rustc_lexer.specs.Classes.{Fits};
 ghost use Rattle.rustc_lexer.specs.declared.token.FrontmatterAllowed.TheVariants.{No};
 ghost use Rattle.rustc_lexer.specs.means.Guarded.{guarded};
-ghost use Rattle.rustc_lexer.specs.means.Raw.{raw_check};
+ghost use Rattle.rustc_lexer.specs.means.Raw.{StartsRaw, raw_check};
 ghost use Rattle.rustc_lexer_c.specs.RawStr as spec;
 ghost use Rattle.rustc_lexer_c.specs.Status.{IsRawStatus, IsTextStatus};
 
-use crate::status::{Refusal, text_of};
+use crate::status::{Refusal, text_of, utf8_text_of};
 use rustc_lexer::{
     Cursor, FrontmatterAllowed, GuardedStr, RawStrError, starts_raw, validate_raw_str,
 };
@@ -55,19 +57,60 @@ pub extern "C" fn rustc_lexer_validate_raw_str(
     ensures error { result ≡ 0 → error.new ≡ spec.answer_numbers (raw_check text.now prefix_len) }
     ensures refused { result ≢ 0 → error.new ≡ spec.no_error }
 {
-    let text = match text_of(text) {
-        Ok(text) => text,
+    match text_of(text) {
+        Ok(text) => raw_str(text, prefix_len, error),
         Err(refusal) => {
             *error = no_error();
-            return refusal.number();
+            refusal.number()
         }
-    };
+    }
+}
+
+/// Checks the raw string of a text that `rustc_lexer_check` found to be UTF-8, which is not tested again: no more is read
+/// than the string.
+#[unsafe(no_mangle)]
+pub extern "C" fn rustc_lexer_validate_raw_str_unchecked(
+    text: &[u8],
+    prefix_len: u32,
+    error: &mut CRawStrError,
+) -> u32
+    requires utf8 { IsUtf8 text.now }
+    ensures status { IsRawStatus text.now prefix_len result }
+    ensures error { result ≡ 0 → error.new ≡ spec.answer_numbers (raw_check text.now prefix_len) }
+    ensures refused { result ≢ 0 → error.new ≡ spec.no_error }
+{
+    match utf8_text_of(text) {
+        Ok(text) => raw_str(text, prefix_len, error),
+        Err(refusal) => {
+            *error = no_error();
+            refusal.number()
+        }
+    }
+}
+
+/// Checks the raw string that a text begins with.
+fn raw_str(text: &str, prefix_len: u32, error: &mut CRawStrError) -> u32
+    requires fits { Fits text.now }
+    ensures status { IsRawStatus text.now prefix_len result }
+    ensures error { result ≡ 0 → error.new ≡ spec.answer_numbers (raw_check text.now prefix_len) }
+    ensures refused { result ≢ 0 → error.new ≡ spec.no_error }
+{
     if !starts_raw(text, prefix_len) {
         *error = no_error();
         return Refusal::NotRaw.number();
     }
     *error = answer_numbers(validate_raw_str(text, prefix_len));
     0
+}
+
+/// Whether `rustc_lexer_validate_raw_str` takes the text, which is UTF-8, with the prefix: its status is then not 4.
+#[unsafe(no_mangle)]
+pub extern "C" fn rustc_lexer_starts_raw_unchecked(text: &[u8], prefix_len: u32) -> bool
+    requires utf8 { IsUtf8 text.now }
+    ensures { IsTrue result ↔ StartsRaw text.now prefix_len }
+{
+    // The caller promises it.
+    starts_raw(unsafe { std::str::from_utf8_unchecked(text) }, prefix_len)
 }
 
 /// Writes the guarded string that the text begins with, or zeros where there is none. Hashes at the front are then
@@ -82,8 +125,7 @@ pub extern "C" fn rustc_lexer_guarded_str(text: &[u8], string: &mut CGuardedStr)
 {
     match text_of(text) {
         Ok(text) => {
-            let mut cursor = Cursor::new(text, FrontmatterAllowed::No);
-            *string = guarded_numbers(cursor.guarded_double_quoted_string());
+            *string = guarded_str(text);
             0
         }
         Err(refusal) => {
@@ -91,6 +133,39 @@ pub extern "C" fn rustc_lexer_guarded_str(text: &[u8], string: &mut CGuardedStr)
             refusal.number()
         }
     }
+}
+
+/// Writes the guarded string of a text that `rustc_lexer_check` found to be UTF-8, which is not tested again: no more is
+/// read than the string.
+#[unsafe(no_mangle)]
+pub extern "C" fn rustc_lexer_guarded_str_unchecked(text: &[u8], string: &mut CGuardedStr) -> u32
+    requires utf8 { IsUtf8 text.now }
+    ensures status { IsTextStatus text.now result }
+    ensures string { result ≡ 0 →
+        string.new ≡ spec.guarded_numbers
+        (guarded record { pending = 0; rest = text.now; frontmatter_allowed = No }).0 }
+    ensures refused { result ≢ 0 → string.new ≡ spec.guarded_numbers None }
+{
+    match utf8_text_of(text) {
+        Ok(text) => {
+            *string = guarded_str(text);
+            0
+        }
+        Err(refusal) => {
+            *string = guarded_numbers(None);
+            refusal.number()
+        }
+    }
+}
+
+/// The guarded string that a text begins with, as numbers.
+fn guarded_str(text: &str) -> CGuardedStr
+    requires fits { Fits text.now }
+    ensures { result ≡ spec.guarded_numbers
+        (guarded record { pending = 0; rest = text.now; frontmatter_allowed = No }).0 }
+{
+    let mut cursor = Cursor::new(text, FrontmatterAllowed::No);
+    guarded_numbers(cursor.guarded_double_quoted_string())
 }
 
 /// The answer as numbers.

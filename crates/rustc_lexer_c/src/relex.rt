@@ -11,7 +11,7 @@ ghost use Rattle.rustc_lexer.specs.Texts.{IsGrammar};
 ghost use Rattle.rustc_lexer_c.specs.Numbers as numbers;
 ghost use Rattle.rustc_lexer_c.specs.Relex as spec;
 
-use crate::status::{Refusal, text_of};
+use crate::status::{Refusal, text_of, utf8_text_of};
 use crate::token::{CToken, token_numbers};
 use rustc_lexer::{Bound, Change, Edition, Measured, Relexing, Steps};
 
@@ -43,7 +43,7 @@ pub struct CRelexing {
     /// Where the tokens that were written end in the present text, and so where those at the back begin.
     pub at: usize,
     /// 0 before the first call, 1 where there are more tokens to write, 2 where there are none.
-    pub stage: u32,
+    pub stage: usize,
 }
 
 impl Measured for CToken {
@@ -106,20 +106,13 @@ pub extern "C" fn rustc_lexer_relex_unchecked(
     ensures refused { result ≢ 0
         → spec.IsNotRelexed relexing.old relexing.new room.old room.new count.new }
 {
-    if text.len() > u32::MAX as usize {
-        *count = 0;
-        return Refusal::TooLong.number();
+    match utf8_text_of(text) {
+        Ok(text) => relex(text, old, edit, edition, relexing, room, count),
+        Err(refusal) => {
+            *count = 0;
+            refusal.number()
+        }
     }
-    // The caller promises it.
-    relex(
-        unsafe { std::str::from_utf8_unchecked(text) },
-        old,
-        edit,
-        edition,
-        relexing,
-        room,
-        count,
-    )
 }
 
 /// Relexes a text.

@@ -1,5 +1,6 @@
 //! The statuses of calls, and the tests that they come from.
 ghost use Rattle.std.specs.Prelude.{◌≡◌, MatchResult};
+ghost use Rattle.std.specs.Str.{IsUtf8};
 ghost use Rattle.rustc_lexer.specs.Texts.{IsText};
 ghost use Rattle.rustc_lexer_c.specs.Status as spec;
 
@@ -48,6 +49,19 @@ pub(crate) fn text_of(bytes: &[u8]) -> Result<&str, Refusal>
         Ok(text) => Ok(text),
         Err(_) => Err(Refusal::NotUtf8),
     }
+}
+
+/// Bytes that are UTF-8 as a text that can be lexed. They are not tested again.
+pub(crate) fn utf8_text_of(bytes: &[u8]) -> Result<&str, Refusal>
+    requires utf8 { IsUtf8 bytes.now }
+    ensures { MatchResult result
+        (λ text. (text.now ≡ bytes.now) × IsText bytes.now) (spec.IsNoText bytes.now) }
+{
+    if bytes.len() > u32::MAX as usize {
+        return Err(Refusal::TooLong);
+    }
+    // The caller promises it.
+    Ok(unsafe { std::str::from_utf8_unchecked(bytes) })
 }
 
 /// Whether the bytes are a text that can be lexed: UTF-8, of at most `u32::MAX` bytes. The answer is the status

@@ -5,14 +5,12 @@ use crate::token::CToken;
 use std::process::Abort;
 
 const NO_TOKEN: CToken = CToken {
-    len: 0,
-    suffix_start: 0,
     kind: 0,
-    literal_kind: 0,
-    base: 0,
-    doc_style: 0,
-    n_hashes: 0,
-    flags: 0,
+    first: 0,
+    second: 0,
+    third: 0,
+    suffix_start: 0,
+    len: 0,
 };
 
 /// The tokens of a text, which has `count` of them.
@@ -49,7 +47,7 @@ fn literals(rt: HostRuntime) {
     let mut number = 1u32;
     for token in &room[..19] {
         if token.kind == 13 {
-            assert_eq!(rt; token.literal_kind as u32, number);
+            assert_eq!(rt; token.first as u32, number);
             number = number.wrapping_add(1);
         }
     }
@@ -57,13 +55,23 @@ fn literals(rt: HostRuntime) {
 }
 
 #[test]
-fn a_token_of_each_flag(rt: HostRuntime) {
+fn a_token_of_each_field(rt: HostRuntime) {
     let room = batch(&rt, b"/**/0x 1e r\"\"'1 ", 0, 8);
-    let flags = [1, 2, 0, 4, 0, 8, 16, 0];
-    for (token, want) in room[..8].iter().zip(flags) {
-        assert_eq!(rt; token.flags, want);
+    let fields = [
+        (0, 1, 0),
+        (1, 16, 1),
+        (0, 0, 0),
+        (2, 10, 1),
+        (0, 0, 0),
+        (8, 1, 0),
+        (1, 0, 0),
+        (0, 0, 0),
+    ];
+    for (token, want) in room[..8].iter().zip(fields) {
+        assert_eq!(rt; (token.first, token.second, token.third), want);
     }
-    assert_eq!(rt; batch(&rt, b" ---", 1, 1)[0].flags, 96);
+    let front = batch(&rt, b" ---", 1, 1)[0];
+    assert_eq!(rt; (front.first, front.second, front.third), (1, 1, 0));
 }
 
 /// The edit of `docs/RELEXING.md`, by rooms of so many tokens.

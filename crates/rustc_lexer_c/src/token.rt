@@ -4,78 +4,94 @@ ghost use Rattle.rustc_lexer_c.specs.Numbers as numbers;
 
 use rustc_lexer::{Base, DocStyle, LiteralKind, Token, TokenKind};
 
-/// A token as it crosses to C: its length in bytes, its kind, and the fields of that kind. A field that the kind
-/// does not have is 0.
+/// A token as it crosses to C: its kind, the fields of the kind as a byte each, and its length. A byte that no field
+/// has is 0.
+///
+/// These are the bytes of a `Token` of plain Rust whose enums are `repr(u8)`, with the numbers of `specs/Numbers.antt`.
 #[repr(C)]
 #[derive(Clone, Copy, Debug, PartialEq, Eq)]
 pub struct CToken {
-    /// The length in bytes.
-    pub len: u32,
-    /// Of a literal: where its suffix begins, in bytes from the start of the token.
-    pub suffix_start: u32,
     /// The number of the kind.
     pub kind: u8,
-    /// Of a literal: the number of its kind.
-    pub literal_kind: u8,
-    /// Of a number: 2, 8, 10 or 16.
-    pub base: u8,
-    /// Of a comment: 0 for none, 1 for outer, 2 for inner.
-    pub doc_style: u8,
-    /// Of a raw string: the number of its hashes, where the flag 8 is set.
-    pub n_hashes: u8,
-    /// The sum of the flags.
-    pub flags: u8,
+    /// Its first field: of a literal the number of its kind.
+    pub first: u8,
+    /// Its second field: of a literal the first that its kind has.
+    pub second: u8,
+    /// Of a literal the second field that its kind has.
+    pub third: u8,
+    /// Of a literal: where its suffix begins, in bytes from the start of the token.
+    pub suffix_start: u32,
+    /// The length in bytes.
+    pub len: u32,
 }
 
 /// The token as numbers.
 #[inline(always)]
-#[tactic(auto, unfolding(crate::specs::Numbers::token_numbers, crate::specs::Numbers::kind_number, crate::specs::Numbers::literal_of, crate::specs::Numbers::base_of, crate::specs::Numbers::style_of, crate::specs::Numbers::hashes_of, crate::specs::Numbers::flags_of))]
+#[tactic(auto, unfolding(crate::specs::Numbers::token_numbers, crate::specs::Numbers::kind_number, crate::specs::Numbers::first_of, crate::specs::Numbers::second_of, crate::specs::Numbers::third_of))]
 pub(crate) fn token_numbers(token: Token) -> CToken
     ensures { result ≡ numbers.token_numbers token }
 {
-    let bare = CToken {
-        len: token.len,
-        suffix_start: 0,
-        kind: kind_number(token.kind),
-        literal_kind: 0,
-        base: 0,
-        doc_style: 0,
-        n_hashes: 0,
-        flags: 0,
-    };
-    match token.kind {
+    let kind = token.kind;
+    let len = token.len;
+    match kind {
         TokenKind::LineComment { doc_style } => CToken {
-            doc_style: style_number(doc_style),
-            ..bare
+            first: style_number(doc_style),
+            ..bare(kind, len)
         },
         TokenKind::BlockComment {
             doc_style,
             terminated,
         } => CToken {
-            doc_style: style_number(doc_style),
-            flags: flag(1, terminated),
-            ..bare
+            first: style_number(doc_style),
+            second: u8::from(terminated),
+            ..bare(kind, len)
         },
         TokenKind::Frontmatter {
             has_invalid_preceding_whitespace,
             invalid_infostring,
         } => CToken {
-            flags: frontmatter_flags(has_invalid_preceding_whitespace, invalid_infostring),
-            ..bare
+            first: u8::from(has_invalid_preceding_whitespace),
+            second: u8::from(invalid_infostring),
+            ..bare(kind, len)
         },
-        TokenKind::Literal { kind, suffix_start } => CToken {
+        TokenKind::Literal {
+            kind: literal,
             suffix_start,
-            literal_kind: literal_number(kind),
-            base: literal_base(kind),
-            n_hashes: literal_hashes(kind),
-            flags: literal_flags(kind),
-            ..bare
+        } => CToken {
+            first: literal_number(literal),
+            second: literal_second(literal),
+            third: literal_third(literal),
+            suffix_start,
+            ..bare(kind, len)
         },
         TokenKind::Lifetime { starts_with_number } => CToken {
-            flags: flag(16, starts_with_number),
-            ..bare
+            first: u8::from(starts_with_number),
+            ..bare(kind, len)
         },
-        _ => bare,
+        _ => bare(kind, len),
+    }
+}
+
+/// The numbers of a token, of which no field is set.
+#[inline(always)]
+#[tactic(auto, unfolding(crate::specs::Numbers::kind_number))]
+fn bare(kind: TokenKind, len: u32) -> CToken
+    ensures { result ≡ record {
+      kind = numbers.kind_number kind;
+      first = 0;
+      second = 0;
+      third = 0;
+      suffix_start = 0;
+      len = len;
+    } }
+{
+    CToken {
+        kind: kind_number(kind),
+        first: 0,
+        second: 0,
+        third: 0,
+        suffix_start: 0,
+        len,
     }
 }
 
@@ -152,18 +168,6 @@ fn literal_number(kind: LiteralKind) -> u8
     }
 }
 
-/// The base of a number, or 0.
-#[inline(always)]
-#[tactic(auto, unfolding(crate::specs::Numbers::literal_base))]
-fn literal_base(kind: LiteralKind) -> u8
-    ensures { result ≡ numbers.literal_base kind }
-{
-    match kind {
-        LiteralKind::Int { base, .. } | LiteralKind::Float { base, .. } => base_number(base),
-        _ => 0,
-    }
-}
-
 /// A base as a number.
 #[inline(always)]
 fn base_number(base: Base) -> u8
@@ -189,59 +193,37 @@ fn style_number(doc_style: Option<DocStyle>) -> u8
     }
 }
 
-/// The hashes of a raw string that is not refused, or 0.
+/// The first field of a kind of literal.
 #[inline(always)]
-#[tactic(auto, unfolding(crate::specs::Numbers::literal_hashes))]
-fn literal_hashes(kind: LiteralKind) -> u8
-    ensures { result ≡ numbers.literal_hashes kind }
+#[tactic(auto, unfolding(crate::specs::Numbers::literal_second))]
+fn literal_second(kind: LiteralKind) -> u8
+    ensures { result ≡ numbers.literal_second kind }
 {
     match kind {
+        LiteralKind::Int { base, .. } | LiteralKind::Float { base, .. } => base_number(base),
+        LiteralKind::Char { terminated }
+        | LiteralKind::Byte { terminated }
+        | LiteralKind::Str { terminated }
+        | LiteralKind::ByteStr { terminated }
+        | LiteralKind::CStr { terminated } => u8::from(terminated),
+        LiteralKind::RawStr { n_hashes }
+        | LiteralKind::RawByteStr { n_hashes }
+        | LiteralKind::RawCStr { n_hashes } => u8::from(n_hashes.is_some()),
+    }
+}
+
+/// The second field of a kind of literal, or the number of hashes, or 0.
+#[inline(always)]
+#[tactic(auto, unfolding(crate::specs::Numbers::literal_third))]
+fn literal_third(kind: LiteralKind) -> u8
+    ensures { result ≡ numbers.literal_third kind }
+{
+    match kind {
+        LiteralKind::Int { empty_int, .. } => u8::from(empty_int),
+        LiteralKind::Float { empty_exponent, .. } => u8::from(empty_exponent),
         LiteralKind::RawStr { n_hashes }
         | LiteralKind::RawByteStr { n_hashes }
         | LiteralKind::RawCStr { n_hashes } => n_hashes.unwrap_or(0),
         _ => 0,
     }
-}
-
-/// The flags of a frontmatter.
-fn frontmatter_flags(invalid_whitespace: bool, invalid_infostring: bool) -> u8
-    ensures { result ≡ numbers.frontmatter_flags invalid_whitespace invalid_infostring }
-{
-    match (invalid_whitespace, invalid_infostring) {
-        (false, false) => 0,
-        (true, false) => 32,
-        (false, true) => 64,
-        (true, true) => 96,
-    }
-}
-
-/// The flags of a kind of literal.
-#[inline(always)]
-#[tactic(auto, unfolding(crate::specs::Numbers::literal_flags))]
-fn literal_flags(kind: LiteralKind) -> u8
-    ensures { result ≡ numbers.literal_flags kind }
-{
-    match kind {
-        LiteralKind::Int { empty_int, .. } => flag(2, empty_int),
-        LiteralKind::Float { empty_exponent, .. } => flag(4, empty_exponent),
-        LiteralKind::Char { terminated }
-        | LiteralKind::Byte { terminated }
-        | LiteralKind::Str { terminated }
-        | LiteralKind::ByteStr { terminated }
-        | LiteralKind::CStr { terminated } => flag(1, terminated),
-        LiteralKind::RawStr { n_hashes }
-        | LiteralKind::RawByteStr { n_hashes }
-        | LiteralKind::RawCStr { n_hashes } => match n_hashes {
-            None => 0,
-            Some(_) => 8,
-        },
-    }
-}
-
-/// The bit where it is so, else 0.
-#[inline(always)]
-fn flag(bit: u8, so: bool) -> u8
-    ensures { result ≡ numbers.flag bit so }
-{
-    if so { bit } else { 0 }
 }

@@ -15,7 +15,7 @@ begun rest cut allowed given s e f g = cc
 
 pub loop-count-init : goal.loop-count-init
 loop-count-init c =
-    let at = begun _ _ _ _ c.tokenize-tokens.result c.tokenize-tokens.ensures.state c.range_from.ensures.value c.allowed_of-allowed.ensures in
+    let at = begun _ _ _ _ c.tokenize-tokens.result c.tokenize-tokens.ensures.state c.range_from.ensures.value c.requires.begun in
     record {
       past = at;
       allowed = sym (ap (λ (s : State). s.frontmatter_allowed) c.tokenize-tokens.ensures.state);
