@@ -12,7 +12,8 @@ pub(crate) mod emoji;
 /// The version of Unicode that this crate names as its own. No answer rests on it.
 pub const UNICODE_VERSION: (u8, u8, u8) = (18, 0, 0);
 
-/// Whether the character is white space in Rust: one of the eleven of `Pattern_White_Space`.
+/// Whether the character is white space in Rust: one of the eleven of `Pattern_White_Space`. No version of
+/// Unicode adds one.
 ///
 /// Rust Reference, [Whitespace](https://doc.rust-lang.org/reference/whitespace.html).
 pub fn is_whitespace(c: char) -> bool
@@ -44,6 +45,8 @@ pub fn is_horizontal_whitespace(c: char) -> bool
 
 /// Whether an identifier may begin with the character: `_`, or `XID_Start` as `unicode_ident` has it.
 ///
+/// Its table is that of `DerivedCoreProperties.txt` of Unicode 18.0.
+///
 /// Rust Reference, [Identifiers](https://doc.rust-lang.org/reference/identifiers.html).
 pub fn is_id_start(c: char) -> bool
     ensures { result ≡ Classes.is_id_start c }
@@ -64,6 +67,8 @@ fn is_xid_start(c: char) -> bool
 
 /// Whether an identifier may go on with the character: `XID_Continue` as `unicode_ident` has it.
 ///
+/// Its table is that of `DerivedCoreProperties.txt` of Unicode 18.0.
+///
 /// Rust Reference, [Identifiers](https://doc.rust-lang.org/reference/identifiers.html).
 pub fn is_id_continue(c: char) -> bool
     ensures { result ≡ Classes.is_id_continue c }
@@ -83,7 +88,7 @@ fn is_ascii_continue(c: char) -> bool
 }
 
 /// Whether the text is an identifier: not empty, with a character at its front that an identifier may begin with,
-/// and no others than those that it may go on with.
+/// and no others than those that it may go on with. [`is_id_start`] and [`is_id_continue`] tell by which tables.
 ///
 /// Rust Reference, [Identifiers](https://doc.rust-lang.org/reference/identifiers.html).
 pub fn is_ident(string: &str) -> bool
