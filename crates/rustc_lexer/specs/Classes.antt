@@ -1,4 +1,6 @@
--- Classes of characters, as sets.
+-- Classes of characters, as sets. What begins an identifier and what continues one is told by the
+-- crate `unicode_ident`: by the rows of `DerivedCoreProperties.txt` of Unicode 18.0. White space is
+-- `Pattern_White_Space`, which no version of Unicode changes.
 use Rattle.std.specs.Prelude.{ℕ, Bool, false, ◌||◌, ◌&&◌, ◌==◌, ◌<◌, ◌^◌, List, [], ◌∷◌, length}
 use Rattle.std.specs.List.{list_all, list_any}
 use Rattle.unicode_ident.specs.Ident.{is_xid_start, is_xid_continue}
@@ -16,11 +18,11 @@ is_whitespace c = is_among (0x9 ∷ 0xA ∷ 0xB ∷ 0xC ∷ 0xD ∷ 0x20 ∷ 0x8
 abbrev pub is_horizontal_whitespace : ℕ → Bool
 is_horizontal_whitespace c = is_among (0x9 ∷ 0x20 ∷ []) c
 
--- an underscore, and what Unicode lets an identifier begin with
+-- an underscore, and what Unicode lets an identifier begin with: `XID_Start`
 abbrev pub is_id_start : ℕ → Bool
 is_id_start c = c == 0x5F || is_xid_start c
 
--- what Unicode lets an identifier go on with
+-- what Unicode lets an identifier go on with: `XID_Continue`, which has the underscore
 abbrev pub is_id_continue : ℕ → Bool
 is_id_continue c = is_xid_continue c
 

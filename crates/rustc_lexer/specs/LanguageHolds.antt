@@ -43,8 +43,9 @@ AreTheTokensIn edition text = (tokens : List Token) → AreTokensIn edition (cha
 abbrev pub IsPage : Edition → Type 0
 IsPage edition = edition ≡ E2024 → (next w : List ℕ) (kind : TokenKind) → IsTokenIn edition next kind w ↔ IsTokenBefore next kind w
 
--- in each state of a cursor that has text left: what it takes is the first of the tokens that the language allows there, a
--- frontmatter where one opens, with the bytes that were pending before it; the others are left
+-- in each state of a cursor that has text left: what it takes is the first of the tokens that the
+-- language allows there, a frontmatter where one opens, with the bytes that were pending before it;
+-- the others are left
 pub record TakesFirst (s : State) (token : Token) (t : State) : Type 0 where
   pub taken : Token
   pub with_pending : token ≡ token_past s.pending taken
@@ -52,13 +53,20 @@ pub record TakesFirst (s : State) (token : Token) (t : State) : Type 0 where
 
 -- these tokens of a text are the only ones that the language allows for it in the edition
 abbrev pub HoldsTheOnlyTokensIn : Edition → List ℕ → List Token → Type 0
-HoldsTheOnlyTokensIn edition text held = (tokens : List Token) → AreTokensIn edition (chars text) tokens ↔ (tokens ≡ held)
+HoldsTheOnlyTokensIn edition text held =
+    (tokens : List Token) → AreTokensIn edition (chars text) tokens ↔ (tokens ≡ held)
 
 -- so they are where they come from a grammar, and that is the one of an edition
 abbrev pub HoldsTheOnlyTokensBy : (List ℕ → Token) → List ℕ → List Token → Type 0
-HoldsTheOnlyTokensBy grammar text held = (edition : Edition) → grammar ≡ first_token_in edition → HoldsTheOnlyTokensIn edition text held
+HoldsTheOnlyTokensBy grammar text held =
+    (edition : Edition) → grammar ≡ first_token_in edition → HoldsTheOnlyTokensIn edition text held
 
--- of every text that fits the language allows one list, with a frontmatter allowed or not, and in each edition
+-- for every text that fits the language allows one list of tokens, whether a frontmatter may stand
+-- in front or not, and one in each edition
 pub record IsDetermined : Type 0 where
-  pub tokens : (text : List ℕ) (allowed : FrontmatterAllowed) → IsText text → AreTheTokens allowed text
-  pub tokens_in : (text : List ℕ) (edition : Edition) → IsText text → AreTheTokensIn edition text
+  pub tokens : (text : List ℕ) (allowed : FrontmatterAllowed)
+      → IsText text
+      → AreTheTokens allowed text
+  pub tokens_in : (text : List ℕ) (edition : Edition)
+      → IsText text
+      → AreTheTokensIn edition text

@@ -9,7 +9,8 @@ pub(crate) mod emoji;
 /// The version of Unicode that this crate names as its own. No answer rests on it.
 pub const UNICODE_VERSION: (u8, u8, u8) = (18, 0, 0);
 
-/// Whether the character is white space in Rust: one of the eleven of `Pattern_White_Space`.
+/// Whether the character is white space in Rust: one of the eleven of `Pattern_White_Space`. No version of
+/// Unicode adds one.
 ///
 /// Rust Reference, [Whitespace](https://doc.rust-lang.org/reference/whitespace.html).
 pub fn is_whitespace(c: char) -> bool
@@ -41,6 +42,8 @@ pub fn is_horizontal_whitespace(c: char) -> bool
 
 /// Whether an identifier may begin with the character: `_`, or `XID_Start` as `unicode_ident` has it.
 ///
+/// Its table is that of `DerivedCoreProperties.txt` of Unicode 18.0.
+///
 /// Rust Reference, [Identifiers](https://doc.rust-lang.org/reference/identifiers.html).
 pub fn is_id_start(c: char) -> bool
     ensures { result ≡ Classes.is_id_start c }
@@ -60,6 +63,8 @@ fn is_xid_start(c: char) -> bool
 }
 
 /// Whether an identifier may go on with the character: `XID_Continue` as `unicode_ident` has it.
+///
+/// Its table is that of `DerivedCoreProperties.txt` of Unicode 18.0.
 ///
 /// Rust Reference, [Identifiers](https://doc.rust-lang.org/reference/identifiers.html).
 pub fn is_id_continue(c: char) -> bool

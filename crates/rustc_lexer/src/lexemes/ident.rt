@@ -60,7 +60,7 @@ pub(crate) fn eat_marked(tail: &str) -> Option<&str>
 }
 
 /// Whether the text is an identifier: not empty, with a character at its front that an identifier may begin with,
-/// and no others than those that it may go on with.
+/// and no others than those that it may go on with. [`is_id_start`] and [`is_id_continue`] tell by which tables.
 ///
 /// Rust Reference, [Identifiers](https://doc.rust-lang.org/reference/identifiers.html).
 pub fn is_ident(string: &str) -> bool
