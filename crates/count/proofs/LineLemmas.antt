@@ -1,6 +1,6 @@
 -- A counter that went through a text has counted its lines.
 use Rattle.std.proofs.Common.{◌≡◌, ℕ, suc, ◌+◌, ◌<◌, ◌==◌, ◌||◌, Bool, true, false, cond, if◌then◌else◌, List, [], ◌∷◌, ◌++◌, length, map, take, drop, refl, sym, ap, ◌∙◌, arith, eqb-true, length-drop}
-use Rattle.std.specs.List.{count_by, list_any, slice_split, onto_first}
+use Rattle.std.specs.List.{count_by, slice_split, onto_first}
 use Rattle.std.specs.Str.Lines.{lines, lines_of_parts}
 use Rattle.std.proofs.lemmas.List.{map-append, length-map, take-append-drop}
 use Rattle.std.proofs.lemmas.List.Sums.{sum_by-cons}
@@ -8,7 +8,7 @@ use Rattle.std.proofs.lemmas.List.Splits.{length-slice_split}
 use Rattle.rustc_lexer.specs.declared.token.Token.{Token}
 use Rattle.rustc_lexer.specs.Cuts.{bound}
 use Rattle.count.specs.declared.lines.Class.{Class}
-use Rattle.count.specs.declared.lines.Class.TheVariants.{Code, Doc, Comment, Space}
+use Rattle.count.specs.declared.lines.Class.TheVariants.{Code}
 use Rattle.count.specs.declared.lines.Counter.{Counter}
 use Rattle.count.specs.declared.lines.Line.{Line}
 use Rattle.count.specs.declared.lines.LineCounts.{LineCounts}

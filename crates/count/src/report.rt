@@ -87,10 +87,13 @@ fn push_row(
         doc_and_comment,
     } = *counts;
     let lines = counts.lines();
-    let row = format!(in alloc;
-        "{code:>10}{doc:>10}{comment:>10}{blank:>10}{lines:>10}{code_and_doc:>10}{code_and_comment:>13}{doc_and_comment:>12}  {name}\n"
-    )?;
-    table.push_str(row.as_str())
+    let once = format!(in alloc; "{code:>10}{doc:>10}{comment:>10}{blank:>10}{lines:>10}")?;
+    table.push_str(once.as_str())?;
+    let both = format!(in alloc; "{code_and_doc:>10}{code_and_comment:>13}{doc_and_comment:>12}")?;
+    table.push_str(both.as_str())?;
+    table.push_str("  ")?;
+    table.push_str(name)?;
+    table.push_str("\n")
 }
 
 /// An object with the sums, and with the files, if that is wanted.

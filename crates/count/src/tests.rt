@@ -137,7 +137,10 @@ fn reports(rt: HostRuntime) -> Result<(), Fail> {
     let text = write_report(alloc, layout, &report)?;
     assert_eq!(rt;
         text.as_slice(),
-        b"{\"total\":{\"code\":11,\"doc\":2,\"comment\":3,\"blank\":4,\"lines\":20,\"code_and_doc\":5,\"code_and_comment\":6,\"doc_and_comment\":7}}\n".as_slice()
+        b"{\"total\":{\"code\":11,\"doc\":2,\"comment\":3,\"blank\":4,\
+          \"lines\":20,\"code_and_doc\":5,\
+          \"code_and_comment\":6,\"doc_and_comment\":7}}\n"
+            .as_slice()
     );
     Ok(())
 }

@@ -1,7 +1,6 @@
-use Rattle.std.proofs.Common.{◌≡◌, ap, map, take, drop, ◌∙◌, sym, length, arith}
-use Rattle.std.specs.Str.Lines.{lines}
+use Rattle.std.proofs.Common.{◌≡◌, ap, map, take, drop, ◌∙◌, sym, arith}
 use Rattle.count.specs.declared.lines.LineCounts.{LineCounts}
-use Rattle.count.specs.Lines.{byte_of, source_marks, shebang_len, lines_counted, line_counts}
+use Rattle.count.specs.Lines.{byte_of, source_marks, shebang_len, lines_counted}
 use Rattle.count.proofs.LineLemmas.{document_counts, bytes-marks, lines-counted}
 use Rattle.count.proofs.lines.count_lines.Goals as goal
 
