@@ -1,7 +1,8 @@
-//! Puts the white space of a Rust source in order.
+//! Puts the white space of Rust sources in order.
 #![tactic(auto)]
 
 mod document;
+mod files;
 mod job;
 mod order;
 mod run;
@@ -10,46 +11,79 @@ mod stop;
 #[cfg(test)]
 mod tests;
 
-use job::{Job, read_job};
+use files::tidy_paths;
+use job::{Job, Task, read_job};
 use run::{check, run, write_out};
-use std::env;
 use std::process::ExitCode;
+use std::{env, process};
 use stop::{Stop, status};
 
-/// What the program takes.
-const HELP: &str = "tidy < FILE            writes a Rust source with its white space in order
-tidy --check < FILE    writes nothing, and ends with status 1 where that is not the source
-tidy --help            writes these lines
-Only white space between tokens is changed: spaces, tabs and carriage returns before a newline go,
-of newlines in a row two stay, and white space at the end becomes one newline.
-";
-
-/// Reads the arguments, and then standard input, and writes to standard output.
-fn tidy(rt: &HostRuntime) -> Result<(), Stop> {
-    let mut words = Vec::new(rt.alloc());
-    let Ok(args) = env::args(rt) else {
-        return Err(Stop::Memory);
-    };
-    for word in args.skip(1) {
-        if words.push(word).is_err() {
-            return Err(Stop::Memory);
-        }
+/// Does the job.
+fn tidy(rt: &HostRuntime, job: &Job<'_>) -> Result<(), Stop> {
+    if !job.paths.is_empty() {
+        return tidy_files(rt, job);
     }
-    match read_job(words.as_slice()) {
-        Some(Job::Write) => run(rt.alloc(), &mut rt.stdin(), &mut rt.stdout()),
-        Some(Job::Check) => check(rt.alloc(), &mut rt.stdin()),
-        Some(Job::Help) => write_out(&mut rt.stdout(), HELP),
-        None => Err(Stop::Arguments),
+    match job.task {
+        Task::Write => run(rt.alloc(), &mut rt.stdin(), &mut rt.stdout()),
+        Task::Check => check(rt.alloc(), &mut rt.stdin()),
     }
 }
 
-fn main(rt: HostRuntime) -> ExitCode {
-    let Err(stop) = tidy(&rt) else {
-        return ExitCode::SUCCESS;
+/// Puts files in order, or names those that are not. What was passed over, and a line on all, goes to standard error.
+fn tidy_files(rt: &HostRuntime, job: &Job<'_>) -> Result<(), Stop> {
+    let id = process::id(rt.process());
+    let Ok(outcome) = tidy_paths(rt, id, job.task, job.paths.as_slice()) else {
+        return Err(Stop::Memory);
     };
-    if stop != Stop::ClosedPipe {
-        // Where this line can't be written there is nobody to tell.
+    // Where a line can't be written to standard error there is nobody to tell.
+    for fault in &outcome.faults {
+        let _ = eprintln!(rt; "tidy: {fault}");
+    }
+    let changed = outcome.changed.len();
+    let read = outcome.read;
+    if job.task == Task::Check {
+        for path in &outcome.changed {
+            write_out(&mut rt.stdout(), path.as_str())?;
+            write_out(&mut rt.stdout(), "\n")?;
+        }
+        let _ = eprintln!(rt; "tidy: {changed} of {read} files would change");
+    } else {
+        let _ = eprintln!(rt; "tidy: {changed} of {read} files changed");
+    }
+    if !outcome.faults.is_empty() {
+        return Err(Stop::Passed);
+    }
+    if job.task == Task::Check && changed > 0 {
+        return Err(Stop::Untidy);
+    }
+    Ok(())
+}
+
+/// Reads the words of the command line, and does what they ask for: the status.
+fn run_words(rt: &HostRuntime) -> u8 {
+    let Ok(args) = env::args(rt) else {
+        return status(&Stop::Memory);
+    };
+    let Ok(words) = args.collect::<Vec<String>>(rt.alloc()) else {
+        return status(&Stop::Memory);
+    };
+    let (stop, is_told) = match read_job(rt.alloc(), words.as_slice()) {
+        Ok(job) => match tidy(rt, &job) {
+            Ok(()) => return 0,
+            Err(stop) => (stop, !job.paths.is_empty() && stop == Stop::Untidy),
+        },
+        Err(error) => {
+            // Where this text can't be written there is nobody to tell.
+            let _ = error.print(rt);
+            return if error.use_stderr() { 2 } else { 0 };
+        }
+    };
+    if !is_told && stop != Stop::ClosedPipe && stop != Stop::Passed {
         let _ = eprintln!(rt; "tidy: {stop}");
     }
-    ExitCode::from(status(&stop))
+    status(&stop)
+}
+
+fn main(rt: HostRuntime) -> ExitCode {
+    ExitCode::from(run_words(&rt))
 }

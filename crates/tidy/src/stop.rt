@@ -9,8 +9,8 @@ use std::fmt;
 pub enum Stop {
     /// The input is not in order, where that was asked.
     Untidy,
-    /// The words after the program's name are none that it knows.
-    Arguments,
+    /// Some file was passed over. It is named already, and all else is done.
+    Passed,
     /// The input is not UTF-8.
     NotUtf8,
     /// The input has more than `u32::MAX` bytes.
@@ -32,8 +32,7 @@ pub fn status(stop: &Stop) -> u8
     match stop {
         Stop::ClosedPipe => 0,
         Stop::Untidy => 1,
-        Stop::Arguments => 2,
-        Stop::NotUtf8 => 3,
+        Stop::NotUtf8 | Stop::Passed => 3,
         Stop::TooLong => 4,
         Stop::Memory => 6,
         Stop::Read | Stop::Write => 7,
@@ -46,7 +45,7 @@ impl fmt::Display for Stop {
     fn fmt<W: fmt::Write>(&self, f: &mut fmt::Formatter<W>) -> fmt::Result {
         f.write_str(match self {
             Stop::Untidy => "not in order",
-            Stop::Arguments => "unknown words; --help tells what it takes",
+            Stop::Passed => "not everything is in order",
             Stop::NotUtf8 => "input is not UTF-8",
             Stop::TooLong => "input too long",
             Stop::Memory => "no memory",

@@ -1,9 +1,11 @@
 //! Texts in order, words, whole runs, and ends that fail.
 use crate::document::tidied;
-use crate::job::{Job, read_job};
+use crate::files::changed;
+use crate::job::{Task, read_job};
 use crate::run::{check, run};
 use crate::stop::{Stop, status};
 use rustc_lexer::fits;
+use sources::{Fault, Reason};
 use std::alloc::{AllocError, Global};
 use std::io;
 use std::io::{Error, ErrorKind, Write};
@@ -44,23 +46,28 @@ fn texts(rt: HostRuntime) {
     }
 }
 
-/// The job that the words ask for.
-fn job_of(alloc: Global, texts: &[&str]) -> Result<Option<Job>, AllocError> {
+/// The words of a command line.
+fn words_of(alloc: Global, texts: &[&str]) -> Result<Vec<String>, AllocError> {
     let mut words = Vec::new(alloc);
     for text in texts {
         words.push(String::from_str(alloc, text)?)?;
     }
-    Ok(read_job(words.as_slice()))
+    Ok(words)
 }
 
 #[test]
 fn words(rt: HostRuntime) -> Result<(), Fail> {
     let alloc = rt.alloc();
-    assert_eq!(rt; job_of(alloc, &[])?, Some(Job::Write));
-    assert_eq!(rt; job_of(alloc, &["--check"])?, Some(Job::Check));
-    assert_eq!(rt; job_of(alloc, &["--help"])?, Some(Job::Help));
-    assert_eq!(rt; job_of(alloc, &["check"])?, None);
-    assert_eq!(rt; job_of(alloc, &["--check", "--check"])?, None);
+    let words = words_of(alloc, &["tidy", "src", "--check", "a b.rs"])?;
+    let job = read_job(alloc, words.as_slice())?;
+    assert_eq!(rt; job.task, Task::Check);
+    assert_eq!(rt; job.paths.as_slice(), ["src", "a b.rs"].as_slice());
+    let none = words_of(alloc, &["tidy"])?;
+    let job = read_job(alloc, none.as_slice())?;
+    assert_eq!(rt; job.task, Task::Write);
+    assert!(rt; job.paths.is_empty());
+    let wrong = words_of(alloc, &["tidy", "--no"])?;
+    assert!(rt; read_job(alloc, wrong.as_slice()).is_err());
     Ok(())
 }
 
@@ -80,6 +87,17 @@ fn runs(rt: HostRuntime) {
         assert_eq!(rt; check(rt.alloc(), &mut input), want);
     }
     assert_eq!(rt; status(&Stop::Untidy), 1);
+}
+
+#[test]
+fn files(rt: HostRuntime) -> Result<(), Fail> {
+    let alloc = rt.alloc();
+    assert!(rt; changed(alloc, b"fn\n".as_slice())?.is_none());
+    let text = changed(alloc, b"fn \n".as_slice())?.ok_or("a text")?;
+    assert_eq!(rt; text.as_str(), "fn\n");
+    let fault = Fault::Source(Reason::NotUtf8);
+    assert!(rt; changed(alloc, b"fn\xff \n".as_slice()).is_err_and(|e| e == fault));
+    Ok(())
 }
 
 /// Takes nothing, and fails with an error of this kind.

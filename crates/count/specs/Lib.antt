@@ -1,0 +1,4 @@
+pub mod Counter
+pub mod Lines
+pub mod Report
+pub mod Stop
