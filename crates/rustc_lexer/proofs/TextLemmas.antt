@@ -1,25 +1,22 @@
 -- What the kind of a token says of its own text.
-use Rattle.std.proofs.Common.{◌≡◌, ◌↔◌, ℕ, suc, ◌+◌, ◌-◌, ◌≤◌, ◌<◌, ◌==◌, ◌&&◌, ◌||◌, not, Bool, true, false, true≢false, eqb-true, length-append, if◌then◌else◌, List, [], ◌∷◌, ◌++◌, length, take, drop, codes, refl, sym, ap, subst, ◌∙◌, arith, take_at, All, Result, Ok, Err, Option, Some, None, IsSome, rules, length-take}
-use Rattle.std.specs.Char.{encode_utf8, len_utf8, is_ascii_alphabetic, is_ascii_digit}
+use Rattle.std.proofs.Common.{◌≡◌, ◌↔◌, ℕ, suc, ◌+◌, ◌-◌, ◌≤◌, ◌<◌, ◌==◌, ◌&&◌, not, Bool, true, false, true≢false, eqb-true, length-append, if◌then◌else◌, List, [], ◌∷◌, ◌++◌, length, take, drop, codes, refl, sym, ap, subst, ◌∙◌, arith, take_at, All, Ok, Option, Some, None, IsSome, rules, length-take}
+use Rattle.std.specs.Char.{encode_utf8, len_utf8, is_ascii_digit}
 use Rattle.std.specs.List.{list_all}
-use Rattle.std.specs.Option.{is_some}
 use Rattle.std.specs.Str.{chars, encode_utf8_all}
 use Rattle.std.proofs.lemmas.Bool.{and_parts}
 use Rattle.std.proofs.lemmas.List.Elements.{All-nil, All-cons}
 use Rattle.std.proofs.lemmas.Str.{chars-encodes, scalars-chars, length-encode}
-use Rattle.unicode_ident.proofs.IdentLemmas.{is_xid_start-ascii}
 use Rattle.rustc_lexer.specs.declared.lexemes.raw.RawPrefix.{RawPrefix}
 use Rattle.rustc_lexer.specs.declared.lexemes.raw.RawPrefix.TheVariants.{R, Br, Cr}
 use Rattle.rustc_lexer.specs.declared.token.Base.{Base}
 use Rattle.rustc_lexer.specs.declared.token.FrontmatterAllowed.{FrontmatterAllowed}
 use Rattle.rustc_lexer.specs.declared.token.LiteralKind.{LiteralKind}
 use Rattle.rustc_lexer.specs.declared.token.LiteralKind.TheVariants.{Int, Float}
-use Rattle.rustc_lexer.specs.declared.token.RawStrError.{RawStrError}
 use Rattle.rustc_lexer.specs.declared.token.Token.{Token}
 use Rattle.rustc_lexer.specs.declared.token.TokenKind.{TokenKind}
 use Rattle.rustc_lexer.specs.declared.token.TokenKind.TheVariants.{Ident, RawIdent, InvalidIdent, UnknownPrefix, ForcedKeywordIdent, Literal, Lifetime, UnknownPrefixLifetime, Slash, Whitespace, GuardedStrPrefix, Pound, Eof}
 use Rattle.rustc_lexer.specs.means.BlockComment.{block_comment, block_comment_to, comment_end}
-use Rattle.rustc_lexer.specs.Classes.{is_id_start, is_id_continue, is_ident}
+use Rattle.rustc_lexer.specs.Classes.{is_id_continue}
 use Rattle.rustc_lexer.specs.means.Comment.{slash, line_comment}
 use Rattle.rustc_lexer.specs.means.Ident.{is_word, is_prefix_mark, ident_or_unknown_prefix, invalid_ident, marks_ident}
 use Rattle.rustc_lexer.specs.laws.Choice.{by_test, EachArm, by_arm, at_char}
@@ -30,19 +27,18 @@ use Rattle.rustc_lexer.specs.laws.Lifetime.{raw, quoted_name, unquoted_name}
 use Rattle.rustc_lexer.specs.means.Literal.{Body, literal}
 use Rattle.rustc_lexer.specs.means.Number.{Front, is_sign, is_exponent_letter, begins_fraction, or_underscore, past_sign, float_exponent, optional_exponent, fraction_digits, fraction, past_digits, front, number_kind, number_body, number}
 use Rattle.rustc_lexer.specs.means.Quoted.{str_body, byte_str_body, c_str_body, char_body, byte_body}
-use Rattle.rustc_lexer.specs.means.Raw.{accepted, is_accepted, is_r, prefix_kind, prefix_len, raw_body, raw_check, raw_literal, raw_read}
+use Rattle.rustc_lexer.specs.means.Raw.{accepted, is_r, prefix_kind, prefix_len, raw_body, raw_check, raw_literal, raw_read}
 use Rattle.rustc_lexer.specs.laws.Raw.{raw_check_own}
-use Rattle.rustc_lexer.specs.laws.Reach.{run_all}
 use Rattle.rustc_lexer.specs.means.Scan.{after, begins, bytes_of, gives, next_is, past, run, run_len}
 use Rattle.rustc_lexer.specs.State.{suffix_start_of, HasSuffixWithin}
 use Rattle.rustc_lexer.specs.Texts.{IsText}
 use Rattle.rustc_lexer.specs.laws.TokenBy.{scalars-take}
 use Rattle.rustc_lexer.specs.Tokens.{tokens_of}
-use Rattle.rustc_lexer.specs.TokenText.{is_good, HasRawText, HasText, HaveTexts}
+use Rattle.rustc_lexer.specs.TokenText.{HasRawText, HasText, HaveTexts}
 use Rattle.rustc_lexer.proofs.CharSteps.{bytes_of-suc}
 use Rattle.rustc_lexer.proofs.FrontmatterLemmas.{frontmatter-text, frontmatter-suffix, token_at-either}
 use Rattle.rustc_lexer.proofs.PastLemmas.{split_past}
-use Rattle.rustc_lexer.proofs.LiteralLemmas.{bytes-add, suffix_none, suffix_within, suffix-first}
+use Rattle.rustc_lexer.proofs.LiteralLemmas.{bytes-add, suffix_within, suffix-first}
 use Rattle.rustc_lexer.proofs.TokensLemmas.{by_tokens, tokens-nil, tokens-cons}
 use Rattle.rustc_lexer.specs.means.Hash.{is_guarded_mark, hash}
 use Rattle.rustc_lexer.specs.laws.Lookahead.{first_token_grammar}
@@ -50,7 +46,7 @@ use Rattle.rustc_lexer.specs.laws.Lookahead.{first_token_grammar}
 -- of what is read past the first character `c`: the suffix begins within the token, and its text is as the kind says
 record Tells (c : ℕ) (s : List ℕ) (read : TokenKind × ℕ) : Type 0 where
   within : suffix_start_of read.0 ≤ 1 + bytes_of read.1 s
-  text : (text : List ℕ) → chars text ≡ c ∷ take read.1 s → length text ≡ length (encode_utf8 c) + bytes_of read.1 s → HasText read.0 text
+  text : (text : List ℕ) → chars text ≡ c ∷ take read.1 s → HasText read.0 text
 
 abbrev TellsAll : ℕ → (List ℕ → TokenKind × ℕ) → Type 0
 TellsAll c scan = (s : List ℕ) → Tells c s (scan s)
@@ -58,18 +54,14 @@ TellsAll c scan = (s : List ℕ) → Tells c s (scan s)
 -- ---- kinds that say nothing of their text
 
 abbrev is_silent : TokenKind → Bool
-is_silent Ident = false
-is_silent RawIdent = false
 is_silent (Literal kind suffix_start) = false
 is_silent Eof = false
 is_silent kind = true
 
 silent : (c : ℕ) (s : List ℕ) (kind : TokenKind) (n : ℕ) → is_silent kind ≡ true → Tells c s (kind, n)
-silent c s Ident n e = absurd (true≢false (sym e))
-silent c s RawIdent n e = absurd (true≢false (sym e))
 silent c s (Literal kind suffix_start) n e = absurd (true≢false (sym e))
 silent c s Eof n e = absurd (true≢false (sym e))
-silent c s kind n e = record { within = omega arith; text = λ text e f. tt }
+silent c s kind n e = record { within = omega arith; text = λ text e. tt }
 
 slash-tells : (c : ℕ) → TellsAll c slash
 slash-tells c s = by_test (Tells c s) (begins (codes "/") s) (after 1 line_comment s) _ (λ e. silent c s _ _ refl)
@@ -95,39 +87,22 @@ symbol-tells c s = silent c s (symbol_kind c) 0 (among-silent symbols c (search 
 
 -- ---- identifiers
 
-ident_or_unknown_prefix-tells : (c : ℕ) → is_id_start c ≡ true → TellsAll c ident_or_unknown_prefix
-ident_or_unknown_prefix-tells c start s = by_kind (next_is is_prefix_mark (drop n s)) (list_all is_id_continue (take n s)) refl
+ident_or_unknown_prefix-tells : (c : ℕ) → TellsAll c ident_or_unknown_prefix
+ident_or_unknown_prefix-tells c s = by_kind (next_is is_prefix_mark (drop n s)) (list_all is_id_continue (take n s))
   where
     n : ℕ
     n = run_len is_word s
 
-    by_kind : (marked plain : Bool) → list_all is_id_continue (take n s) ≡ plain → Tells c s (if plain then (if marked then UnknownPrefix else Ident) else InvalidIdent, n)
-    by_kind true true g = silent c s UnknownPrefix n refl
-    by_kind false true g = record { within = omega arith; text = λ text e f. ap is_ident e ∙ (ap (λ (b : Bool). b && list_all is_id_continue (take n s)) start ∙ g) }
-    by_kind marked false g = silent c s InvalidIdent n refl
-
-raw_ident-tells : (s : List ℕ) → marks_ident s ≡ true → Tells 114 s (after 2 (run RawIdent is_id_continue) s)
-raw_ident-tells [] m = absurd (true≢false (sym m))
-raw_ident-tells (h ∷ []) m = absurd (true≢false (sym (and_parts (begins (codes "#") (h ∷ [])) false m).1))
-raw_ident-tells (h ∷ d ∷ s) m = record {
-  within = omega arith;
-  text = λ text e f.
-      let n : ℕ = run_len is_id_continue s in
-      let parts = and_parts (begins (codes "#") (h ∷ d ∷ s)) (is_id_start d) m in
-      let two : 2 + n ≡ suc (suc n) = omega arith in
-      let all : chars text ≡ 114 ∷ h ∷ d ∷ take n s = e ∙ ap (λ (k : ℕ). 114 ∷ take k (h ∷ d ∷ s)) two in
-      (ap (begins (codes "r#")) all ∙ parts.0, ap (λ (xs : List ℕ). is_ident (drop 2 xs)) all ∙ (ap (λ (b : Bool). b && list_all is_id_continue (take n s)) parts.1 ∙ run_all is_id_continue s));
-}
+    by_kind : (marked plain : Bool) → Tells c s (if plain then (if marked then UnknownPrefix else Ident) else InvalidIdent, n)
+    by_kind true true = silent c s UnknownPrefix n refl
+    by_kind false true = silent c s Ident n refl
+    by_kind marked false = silent c s InvalidIdent n refl
 
 -- ---- literals
 
--- a literal that is good says nothing more; one that is not takes no suffix
-literal-tells : (c : ℕ) (s : List ℕ) (body : List ℕ → Body × ℕ) → (is_good (body s).0.kind ≡ false → ((body s).0.takes_suffix ≡ false) × (length (encode_utf8 c) ≡ 1))
-    → ((text : List ℕ) → HasRawText (body s).0.kind text) → Tells c s (literal body s)
-literal-tells c s body ends other = record {
-  within = suffix_within 1 (body s) s;
-  text = λ text e f. (λ bad. suffix_none 1 (body s) s (ends bad).0 ∙ sym (f ∙ ap (λ (k : ℕ). k + bytes_of (literal body s).1 s) (ends bad).1), other text);
-}
+-- a literal says of its text what a raw string does
+literal-tells : (c : ℕ) (s : List ℕ) (body : List ℕ → Body × ℕ) → ((text : List ℕ) → HasRawText (body s).0.kind text) → Tells c s (literal body s)
+literal-tells c s body other = record { within = suffix_within 1 (body s) s; text = λ text e. other text }
 
 -- what a number is
 abbrev IsNumber : LiteralKind → Type 0
@@ -160,13 +135,8 @@ number_kind-number c s =
     of_number f.empty (gives (Int f.base true) left) (past_digits f.base left) tt (past_digits-number f.base left)
 
 number-tells : (c : ℕ) → TellsAll c (number c)
-number-tells c s = literal-tells c s (number_body c) (good (number_kind c s).0 (number_kind-number c s)) (other (number_kind c s).0 (number_kind-number c s))
+number-tells c s = literal-tells c s (number_body c) (other (number_kind c s).0 (number_kind-number c s))
   where
-    good : (kind : LiteralKind) → IsNumber kind → is_good kind ≡ false → (true ≡ false) × (length (encode_utf8 c) ≡ 1)
-    good (Int base empty_int) is bad = absurd (true≢false bad)
-    good (Float base empty_exponent) is bad = absurd (true≢false bad)
-    good kind is bad = absurd is
-
     other : (kind : LiteralKind) → IsNumber kind → (text : List ℕ) → HasRawText kind text
     other (Int base empty_int) is text = tt
     other (Float base empty_exponent) is text = tt
@@ -195,19 +165,15 @@ plain_lifetime-tells c s = by_test (λ r. Tells 39 (c ∷ s) (r.0, suc (n + r.1)
     quoted : begins (codes "'") left ≡ true → Tells 39 (c ∷ s) ((quoted_name c name left).0, suc (n + 1))
     quoted t = record {
       within = omega (arith, length-append (encode_utf8 c) (encode_utf8_all name), length-append (encode_utf8 c) (encode_utf8_all (take (n + 1) s)), bytes-add n 1 s, next-quote left t);
-      text = λ text e f. (λ bad. absurd (true≢false bad), tt);
+      text = λ text e. tt;
     }
 
 quote-tells : TellsAll 39 lifetime_or_char
-quote-tells [] = literal-tells 39 [] char_body (λ bad. (bad, length-encode 39)) (λ text. tt)
-quote-tells (c ∷ s) = by_test (Tells 39 (c ∷ s)) (is_character c s) (literal char_body (c ∷ s)) _ (λ e. literal-tells 39 (c ∷ s) char_body (λ bad. (bad, length-encode 39)) (λ text. tt))
+quote-tells [] = literal-tells 39 [] char_body (λ text. tt)
+quote-tells (c ∷ s) = by_test (Tells 39 (c ∷ s)) (is_character c s) (literal char_body (c ∷ s)) _ (λ e. literal-tells 39 (c ∷ s) char_body (λ text. tt))
     (λ e. by_test (λ r. Tells 39 (c ∷ s) (r.0, suc r.1)) (is_raw c s) (raw s) (plain_lifetime c s) (λ f. silent 39 (c ∷ s) _ _ refl) (λ f. plain_lifetime-tells c s))
 
 -- ---- raw strings
-
-refused : (r : Result ℕ RawStrError) → is_some (accepted r) ≡ false → is_accepted r ≡ false
-refused (Ok n) bad = bad
-refused (Err e) bad = refl
 
 abbrev IsTold : ℕ → List ℕ → Option ℕ → Type 0
 IsTold prefix text n_hashes = (raw_check text prefix ≡ Ok tt) ↔ IsSome n_hashes
@@ -218,34 +184,21 @@ checked-text R text front s e r f = (record { some = omega arith; letter = r }, 
 checked-text Br text front s e r f = (record { some = omega arith; letter = r }, subst (λ (p : ℕ). IsTold p text (accepted (raw_read 0 s).0)) e (raw_check_own Br text front s f))
 checked-text Cr text front s e r f = (record { some = omega arith; letter = r }, subst (λ (p : ℕ). IsTold p text (accepted (raw_read 0 s).0)) e (raw_check_own Cr text front s f))
 
-is_good-raw : (prefix : RawPrefix) (n_hashes : Option ℕ) → is_good (prefix_kind prefix n_hashes) ≡ is_some n_hashes
-is_good-raw R n_hashes = refl
-is_good-raw Br n_hashes = refl
-is_good-raw Cr n_hashes = refl
-
-raw-text : (prefix : RawPrefix) (text front s : List ℕ) → length front ≡ prefix_len prefix → next_is is_r (drop (prefix_len prefix - 1) (chars text)) ≡ true → chars text ≡ front ++ take (raw_literal prefix s).1 s
-    → length text ≡ prefix_len prefix + bytes_of (raw_literal prefix s).1 s → HasText (raw_literal prefix s).0 text
-raw-text prefix text front s e r f g = (
-  λ bad. suffix_none (prefix_len prefix) (raw_body (prefix_kind prefix) s) s (refused (raw_read 0 s).0 (sym (is_good-raw prefix (accepted (raw_read 0 s).0)) ∙ bad)) ∙ sym g,
-  checked-text prefix text front s e r f,
-)
-
 raw-tells : TellsAll 114 (raw_literal R)
 raw-tells s = record {
   within = suffix_within 1 (raw_body (prefix_kind R) s) s;
-  text = λ text e f. raw-text R text (114 ∷ []) s refl (ap (next_is is_r) e) e (f ∙ ap (λ (k : ℕ). k + bytes_of (raw_literal R s).1 s) (length-encode 114));
+  text = λ text e. checked-text R text (114 ∷ []) s refl (ap (next_is is_r) e) e;
 }
 
 -- past a prefix of two letters, of which the second is still to come
-raw_past-tells : (prefix : RawPrefix) (c : ℕ) (s : List ℕ) → prefix_len prefix ≡ 2 → length (encode_utf8 c) ≡ 1 → begins_raw s ≡ true → Tells c s (after 1 (raw_literal prefix) s)
-raw_past-tells prefix c [] two one r = absurd (true≢false (sym r))
-raw_past-tells prefix c (d ∷ s) two one r = record {
+raw_past-tells : (prefix : RawPrefix) (c : ℕ) (s : List ℕ) → prefix_len prefix ≡ 2 → begins_raw s ≡ true → Tells c s (after 1 (raw_literal prefix) s)
+raw_past-tells prefix c [] two r = absurd (true≢false (sym r))
+raw_past-tells prefix c (d ∷ s) two r = record {
   within = omega (arith, two, suffix_within (prefix_len prefix) (raw_body (prefix_kind prefix) s) s, more, small);
-  text = λ text e f.
+  text = λ text e.
       let all : chars text ≡ c ∷ d ∷ take n s = e ∙ ap (λ (k : ℕ). c ∷ take k (d ∷ s)) next in
-      let long : length text ≡ prefix_len prefix + bytes_of n s = f ∙ (ap (λ (k : ℕ). length (encode_utf8 c) + k) more ∙ omega (arith, one, small, two)) in
       let r : next_is is_r (drop (prefix_len prefix - 1) (chars text)) ≡ true = ap (λ (k : ℕ). next_is is_r (drop (k - 1) (chars text))) two ∙ (ap (λ cs. next_is is_r (drop 1 cs)) all ∙ is_114) in
-      raw-text prefix text (c ∷ d ∷ []) s (sym two) r all long;
+      checked-text prefix text (c ∷ d ∷ []) s (sym two) r all;
 }
   where
     n : ℕ
@@ -265,31 +218,24 @@ raw_past-tells prefix c (d ∷ s) two one r = record {
 
 -- ---- letters
 
-starts : (c : ℕ) → c < 128 → (is_ascii_alphabetic c) ≡ true → is_id_start c ≡ true
-starts c l e = rw (is_xid_start-ascii c l, e) (by_any (c == 95))
-  where
-    by_any : (b : Bool) → b || true ≡ true
-    by_any true = refl
-    by_any false = refl
-
 r-tells : TellsAll 114 letter_r
-r-tells s = by_test (Tells 114 s) (marks_ident s) (after 2 (run RawIdent is_id_continue) s) (raw_or_ident s) (raw_ident-tells s)
-    (λ e. by_test (Tells 114 s) (next_is is_raw_mark s) (raw_literal R s) (ident_or_unknown_prefix s) (λ f. raw-tells s) (λ f. ident_or_unknown_prefix-tells 114 (starts 114 (omega arith) refl) s))
+r-tells s = by_test (Tells 114 s) (marks_ident s) (after 2 (run RawIdent is_id_continue) s) (raw_or_ident s) (λ e. silent 114 s _ _ refl)
+    (λ e. by_test (Tells 114 s) (next_is is_raw_mark s) (raw_literal R s) (ident_or_unknown_prefix s) (λ f. raw-tells s) (λ f. ident_or_unknown_prefix-tells 114 s))
 
 k-tells : TellsAll 107 letter_k
-k-tells s = by_test (Tells 107 s) (marks_ident s) (after 2 (run ForcedKeywordIdent is_id_continue) s) (ident_or_unknown_prefix s) (λ e. silent 107 s _ _ refl) (λ e. ident_or_unknown_prefix-tells 107 (starts 107 (omega arith) refl) s)
+k-tells s = by_test (Tells 107 s) (marks_ident s) (after 2 (run ForcedKeywordIdent is_id_continue) s) (ident_or_unknown_prefix s) (λ e. silent 107 s _ _ refl) (λ e. ident_or_unknown_prefix-tells 107 s)
 
-past-tells : (prefix : RawPrefix) (c : ℕ) → prefix_len prefix ≡ 2 → length (encode_utf8 c) ≡ 1 → is_id_start c ≡ true → TellsAll c (raw_past_or_ident prefix)
-past-tells prefix c two one start s = by_test (Tells c s) (begins_raw s) (after 1 (raw_literal prefix) s) (ident_or_unknown_prefix s) (raw_past-tells prefix c s two one) (λ e. ident_or_unknown_prefix-tells c start s)
+past-tells : (prefix : RawPrefix) (c : ℕ) → prefix_len prefix ≡ 2 → TellsAll c (raw_past_or_ident prefix)
+past-tells prefix c two s = by_test (Tells c s) (begins_raw s) (after 1 (raw_literal prefix) s) (ident_or_unknown_prefix s) (raw_past-tells prefix c s two) (λ e. ident_or_unknown_prefix-tells c s)
 
 b-tells : TellsAll 98 letter_b
-b-tells s = by_test (Tells 98 s) (begins (codes "'") s) (literal (after 1 byte_body) s) _ (λ e. literal-tells 98 s (after 1 byte_body) (λ bad. (bad, length-encode 98)) (λ text. tt))
-    (λ e. by_test (Tells 98 s) (begins (codes "\"") s) (literal (after 1 byte_str_body) s) (raw_past_or_ident Br s) (λ f. literal-tells 98 s (after 1 byte_str_body) (λ bad. (bad, length-encode 98)) (λ text. tt))
-    (λ f. past-tells Br 98 refl (length-encode 98) (starts 98 (omega arith) refl) s))
+b-tells s = by_test (Tells 98 s) (begins (codes "'") s) (literal (after 1 byte_body) s) _ (λ e. literal-tells 98 s (after 1 byte_body) (λ text. tt))
+    (λ e. by_test (Tells 98 s) (begins (codes "\"") s) (literal (after 1 byte_str_body) s) (raw_past_or_ident Br s) (λ f. literal-tells 98 s (after 1 byte_str_body) (λ text. tt))
+    (λ f. past-tells Br 98 refl s))
 
 c-tells : TellsAll 99 letter_c
-c-tells s = by_test (Tells 99 s) (begins (codes "\"") s) (literal (after 1 c_str_body) s) (raw_past_or_ident Cr s) (λ e. literal-tells 99 s (after 1 c_str_body) (λ bad. (bad, length-encode 99)) (λ text. tt))
-    (λ e. past-tells Cr 99 refl (length-encode 99) (starts 99 (omega arith) refl) s)
+c-tells s = by_test (Tells 99 s) (begins (codes "\"") s) (literal (after 1 c_str_body) s) (raw_past_or_ident Cr s) (λ e. literal-tells 99 s (after 1 c_str_body) (λ text. tt))
+    (λ e. past-tells Cr 99 refl s)
 
 letters-tell : EachArm TellsAll letters
 letters-tell = (
@@ -306,8 +252,8 @@ letters-tell = (
   ),
 )
 
-word-tells : (c : ℕ) → is_id_start c ≡ true → TellsAll c (word c)
-word-tells c start = by_arm TellsAll letters (λ c. ident_or_unknown_prefix) c letters-tell (λ none. ident_or_unknown_prefix-tells c start)
+word-tells : (c : ℕ) → TellsAll c (word c)
+word-tells c = by_arm TellsAll letters (λ c. ident_or_unknown_prefix) c letters-tell (λ none. ident_or_unknown_prefix-tells c)
 
 -- ---- all
 
@@ -315,10 +261,10 @@ families-tell : EachFamily TellsAll
 families-tell = record {
   of_slash = λ c e. slash-tells c;
   of_space = λ c e s. silent c s Whitespace (whitespace s).1 refl;
-  of_word = word-tells;
+  of_word = λ c e. word-tells c;
   of_number = λ c e. number-tells c;
   of_quote = at_char TellsAll 39 lifetime_or_char quote-tells;
-  of_str = at_char TellsAll 34 (literal str_body) (λ s. literal-tells 34 s str_body (λ bad. (bad, length-encode 34)) (λ text. tt));
+  of_str = at_char TellsAll 34 (literal str_body) (λ s. literal-tells 34 s str_body (λ text. tt));
   of_emoji = λ c e s. silent c s InvalidIdent (invalid_ident s).1 refl;
   of_hash = λ c e. hash-tells c;
   of_symbol = symbol-tells;
@@ -346,7 +292,7 @@ first_token-text text is = by_chars (chars text) refl
         let whole : text ≡ encode_utf8_all (take n (c ∷ s)) ++ past n text = split_past n text is.utf8 ∙ ap (λ (xs : List ℕ). encode_utf8_all (take n xs) ++ past n text) e in
         let own : take (bytes_of n (c ∷ s)) text ≡ encode_utf8_all (take n (c ∷ s)) = ap (take (bytes_of n (c ∷ s))) whole ∙ take_at (encode_utf8_all (take n (c ∷ s))) (past n text) _ refl in
         let are : chars (take (bytes_of n (c ∷ s)) text) ≡ take n (c ∷ s) = ap chars own ∙ chars-encodes (take n (c ∷ s)) (scalars-take n (c ∷ s) (let all = scalars-chars text is.utf8 in rw e at all)) in
-        (first-tells c s).text _ are (ap length own ∙ bytes_of-suc (past_first c s).1 c s)
+        (first-tells c s).text _ are
 
 -- no token of a text is the end
 pub first_token-not_end : (text : List ℕ) → IsText text → 0 < length text → (first_token text).kind ≡ Eof → ⊥
