@@ -1,12 +1,12 @@
 -- The language of the tokens of Rust, as the compiler's lexer has them: which texts a token of each
 -- kind may have, and before what. One rule for each form, and nothing of how a text is read.
 --
--- Notation. `w` is the text of a token and `next` all that follows it. Both are characters,
--- `Chars`, and at the end of the text `next` is []. In bytes are the `text` of `BeginsWith`,
--- which is `Utf8`, each `len`, and where a suffix begins. A NUL is a character like others. `P →
--- ⊥` is: not P. No rule denies what it defines, so each relation is the least one that its rules
--- make. Fields stand in the order of src/token.rt: LineComment doc_style, BlockComment doc_style
--- terminated, Lifetime starts_with_number, Literal kind suffix_start, Frontmatter
+-- Notation. `w` is the text of a token and `next` all that follows it. Both are characters (type
+-- `Chars`), and at the end of the text `next` is []. In bytes are the `text` of `BeginsWith` (type
+-- `Utf8`), each `len`, and where a suffix begins. A NUL is a character like others. `P → ⊥` denies
+-- P. No rule denies what it defines, so each relation is the least one that its rules make. Fields
+-- stand in the order of src/token.rt: LineComment doc_style, BlockComment doc_style terminated,
+-- Lifetime starts_with_number, Literal kind suffix_start, Frontmatter
 -- has_invalid_preceding_whitespace invalid_infostring.
 --
 --   form         rules                                   in the Rust Reference

@@ -62,7 +62,7 @@ pub data IsSingleQuoted (next : Chars) : (terminated : Bool) → Chars → Type 
   closed_line : {w : Chars}
       → SingleTo (codes "\n'") w
       → IsSingleQuoted next true w
-  -- or it ends before a slash: `ab` before `/c'`; not at once before `/'`: '/' is a character
+  -- or it ends before a slash: `ab` before `/c'`; not at once before `/'` (see one)
   at_slash : {w : Chars}
       → SingleTo [] w
       → NextIn (codes "/") next
