@@ -148,6 +148,7 @@ static int check_others(void) {
     CHECK(rustc_lexer_is_whitespace(0x2028) && !rustc_lexer_is_whitespace(0xA0) && !rustc_lexer_is_whitespace(0xD800));
     CHECK(rustc_lexer_is_id_start('_') && !rustc_lexer_is_id_start('0') && rustc_lexer_is_id_continue('0'));
     CHECK(!rustc_lexer_is_id_start(0x110000) && rustc_lexer_is_horizontal_whitespace('\t'));
+    CHECK(rustc_lexer_abi_1() == RUSTC_LEXER_ABI);
     return 0;
 }
 

@@ -255,6 +255,17 @@ bool rustc_lexer_is_horizontal_whitespace(uint32_t code);
 bool rustc_lexer_is_id_start(uint32_t code);
 bool rustc_lexer_is_id_continue(uint32_t code);
 
+/* The number of this interface. It rises with each change that a program which was built with the header before would
+ * not survive. The call answers it, and its name has the number too. Each object file that GCC 11, Clang 13 or a later
+ * one builds with this header asks for that name, so the program does not link with a library of another number. */
+#define RUSTC_LEXER_ABI 1
+uint32_t rustc_lexer_abi_1(void);
+#ifdef __has_attribute
+#if __has_attribute(used) && __has_attribute(retain)
+__attribute__((used, retain)) static uint32_t (*const rustc_lexer_linked_abi)(void) = rustc_lexer_abi_1;
+#endif
+#endif
+
 #ifdef __cplusplus
 }
 #endif

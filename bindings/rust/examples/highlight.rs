@@ -1,7 +1,7 @@
 //! Keeps a file highlighted under edits. Each line of standard input is an edit: START STOP TEXT. What was painted anew
 //! is printed, and not the rest: `cargo run --example highlight -- FILE`.
 
-use rustc_lexer::{LexedText, TokenKind};
+use ra_ap_rustc_lexer::{LexedText, TokenKind};
 use std::{env, fs, io};
 
 fn main() -> io::Result<()> {

@@ -19,7 +19,7 @@ const ROOM: usize = 64;
 /// An edit lexes again what it has to, and keeps every other token as it is.
 ///
 /// ```
-/// use rustc_lexer::LexedText;
+/// use ra_ap_rustc_lexer::LexedText;
 ///
 /// let mut lexed = LexedText::new("let ab = cd + ef;");
 /// let relexed = lexed.edit(12..13, "- 1 -");

@@ -1,6 +1,6 @@
 //! The calls of the binding: what no row of tokens looks at.
 
-use rustc_lexer::{
+use ra_ap_rustc_lexer::{
     is_horizontal_whitespace, is_id_continue, is_id_start, is_ident, is_whitespace, tokenize,
     validate_raw_str, Cursor, FrontmatterAllowed, GuardedStr, LiteralKind, RawStrError, Token,
     TokenKind, UNICODE_VERSION,

@@ -1,6 +1,6 @@
 //! A text that is kept with its tokens, against lexing it from scratch and against what an edit is to keep.
 
-use rustc_lexer::{
+use ra_ap_rustc_lexer::{
     fits, settled, starts_raw, tokenize, tokenize_in, Edition, FrontmatterAllowed, LexedText,
     Token, TokenKind,
 };

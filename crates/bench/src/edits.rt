@@ -92,7 +92,7 @@ pub(crate) fn edit_letters(
 }
 
 /// The index of a place in a text of so many bytes.
-fn index_of(place: Place, len: usize, random: u64) -> usize {
+pub(crate) fn index_of(place: Place, len: usize, random: u64) -> usize {
     match place {
         Place::Middle => len / 2,
         Place::End => len,
@@ -101,7 +101,7 @@ fn index_of(place: Place, len: usize, random: u64) -> usize {
 }
 
 /// The next of a sequence of numbers that look as if drawn by chance (Knuth's linear congruence of 64 bits).
-fn next_random(random: u64) -> u64 {
+pub(crate) fn next_random(random: u64) -> u64 {
     random
         .wrapping_mul(6_364_136_223_846_793_005)
         .wrapping_add(1_442_695_040_888_963_407)

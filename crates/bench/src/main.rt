@@ -1,14 +1,16 @@
 //! Measures the lexer on a text from standard input: how long it takes to lex it, or to edit it.
 //!
 //! `bench lex TIMES` lexes the text so many times. `bench edit PLACE TIMES` keeps it with its tokens and types
-//! and deletes so many letters, where PLACE is `middle`, `end` or `jumping`. `bench check` does a little of
-//! both and asks no clock, so that what it prints is the same each time.
+//! and deletes so many letters, where PLACE is `middle`, `end` or `jumping`. `bench work PLACE TIMES` does that
+//! and counts: the steps that the stepper was asked for, the bytes of the tokens that it gave, and the tokens that
+//! moved. `bench check` does a little of each and asks no clock, so that what it prints is the same each time.
 #![tactic(auto)]
 
 ghost use Rattle.rustc_lexer.specs.Classes.{Fits};
 
 use crate::edits::{Place, edit_letters, time_edits};
 use crate::lexing::{sum_tokens, time_lexing};
+use crate::work::print_work;
 use anyhow::{Context, Result, bail};
 use rustc_lexer::{LexedText, fits};
 use std::env;
@@ -16,6 +18,7 @@ use std::io::Read;
 
 mod edits;
 mod lexing;
+mod work;
 
 /// What is asked for.
 #[derive(Clone, Copy)]
@@ -23,6 +26,7 @@ enum Task {
     Check,
     Lex { times: u32 },
     Edit { place: Place, times: u32 },
+    Work { place: Place, times: u32 },
 }
 
 fn main(rt: HostRuntime) -> Result<()> {
@@ -38,6 +42,7 @@ fn main(rt: HostRuntime) -> Result<()> {
         Task::Check => check(&rt, text),
         Task::Lex { times } => time_lexing(&rt, text, times),
         Task::Edit { place, times } => time_edits(&rt, text, place, times),
+        Task::Work { place, times } => print_work(&rt, text, place, times),
     }
 }
 
@@ -45,7 +50,7 @@ fn main(rt: HostRuntime) -> Result<()> {
 fn read_task(rt: &HostRuntime) -> Result<Task> {
     let mut words = env::args(rt)?;
     let _program = words.next();
-    let command = words.next().context("give check, lex or edit")?;
+    let command = words.next().context("give check, lex, edit or work")?;
     match command.as_str() {
         "check" => Ok(Task::Check),
         "lex" => {
@@ -57,7 +62,12 @@ fn read_task(rt: &HostRuntime) -> Result<Task> {
             let times = read_times(words.next())?;
             Ok(Task::Edit { place, times })
         }
-        _ => bail!("give check, lex or edit"),
+        "work" => {
+            let place = read_place(words.next())?;
+            let times = read_times(words.next())?;
+            Ok(Task::Work { place, times })
+        }
+        _ => bail!("give check, lex, edit or work"),
     }
 }
 
@@ -75,7 +85,7 @@ fn read_place(word: Option<String>) -> Result<Place> {
     }
 }
 
-/// Lexes the text once and edits it twice in each place.
+/// Lexes the text once, edits it twice in each place, and counts the work of edits of a thousand of it.
 fn check(rt: &HostRuntime, text: &str) -> Result<()>
     requires { Fits text.now }
 {
@@ -92,6 +102,13 @@ fn check(rt: &HostRuntime, text: &str) -> Result<()>
             "{name}: edits {}, tokens lexed {}, sum {}",
             work.edits, work.lexed, work.sum
         )?;
+    }
+    let many = text.repeat(rt.alloc(), 1000)?;
+    if !fits(many.as_str()) {
+        bail!("the text is longer than a lexer takes");
+    }
+    for place in [Place::Middle, Place::End] {
+        print_work(rt, many.as_str(), place, 10)?;
     }
     Ok(())
 }

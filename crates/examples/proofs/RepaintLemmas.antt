@@ -3,7 +3,7 @@ use Rattle.std.proofs.Common.{◌≡◌, ℕ, zero, suc, ◌+◌, ◌-◌, ◌<�
 use Rattle.std.proofs.lemmas.Bool.{and_parts}
 use Rattle.std.proofs.lemmas.List.{drop-take}
 use Rattle.std.specs.Fmt.{WritesInCalls}
-use Rattle.rustc_lexer.specs.declared.relex.edit.Relexed.{Relexed}
+use Rattle.rustc_lexer.specs.declared.relex.relexing.Relexed.{Relexed}
 use Rattle.rustc_lexer.specs.declared.relex.pieces.Piece.{Piece}
 use Rattle.rustc_lexer.specs.declared.token.Token.{Token}
 use Rattle.rustc_lexer.specs.Cuts.{bound, tokens_by}
@@ -151,7 +151,7 @@ module _ {first : List ℕ → Token} (law : IsGrammar first) (text : List ℕ) 
   kept_two : (kept ≤ length old) × (0 < kept → has_two text (bound old kept) start ≡ true)
   kept_two =
       let zero_is : (k : ℕ) → bound old k ≡ 0 + bound old k = λ k. omega arith in
-      let two = front-two text start 0 old is.utf8 (λ k few. subst (IsCharBoundary text) (zero_is k) (cuts law text is k few).1) in
+      let two = front-two text start 0 old is.utf8 (λ k few. subst (IsCharBoundary text) (zero_is k) (cuts law text is k few)) in
       (two.0, λ some. subst (λ p. has_two text p start ≡ true) (sym (zero_is kept)) (two.1 some))
 
   front_same : take kept new ≡ take kept old

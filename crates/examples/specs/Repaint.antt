@@ -1,6 +1,6 @@
 -- What is shown of a text that is kept with its tokens, and what an edit makes of it.
 use Rattle.std.specs.Prelude.{ℕ, ◌+◌, ◌-◌, List, [], ◌∷◌, ◌++◌, length, map, take, drop}
-use Rattle.rustc_lexer.specs.declared.relex.edit.Relexed.{Relexed}
+use Rattle.rustc_lexer.specs.declared.relex.relexing.Relexed.{Relexed}
 use Rattle.rustc_lexer.specs.Pieces.{Placed}
 use Rattle.examples.specs.Highlight.{Part, Mark, Text, close_mark, open_mark}
 

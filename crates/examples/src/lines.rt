@@ -27,9 +27,10 @@ enum LineKind {
 
 /// Counts the lines of a text.
 ///
-/// A line of nothing but white space is blank, also inside a comment or a string. Any other line is code if a
-/// token that is no comment stands in it; else it is of a doc comment if one stands in it, and else of a comment.
-/// What follows the last newline is a line if it is not empty.
+/// A line of nothing but white space is blank, also inside a comment or a string. There only white space of ASCII
+/// counts: a space, a tab, a newline, a form feed or a carriage return. Any other line is code if a token that is no
+/// comment stands in it; else it is of a doc comment if one stands in it, and else of a comment. What follows the
+/// last newline is a line if it is not empty.
 pub fn count_lines(text: &str) -> LineCounts
     requires fits { Fits text.now }
     ensures { result ≡ line_counts text.now (tokens_of FrontmatterAllowed.Yes text.now) }

@@ -10,12 +10,13 @@ use Rattle.rustc_lexer.specs.declared.token.TokenKind.TheVariants.{LineComment, 
 use Rattle.highlight.specs.declared.class.Class.{Class}
 use Rattle.highlight.specs.declared.class.Class.TheVariants.{Plain, Comment, Doc, Keyword, TypeName, Text, Number, Lifetime}
 
+-- words that are keywords wherever they stand; `union` is a name in other places, and so is not among them
 abbrev pub keywords : List (List ℕ)
 keywords =
     codes "as" ∷ codes "async" ∷ codes "await" ∷ codes "break" ∷ codes "const" ∷ codes "continue" ∷ codes "crate" ∷ codes "dyn" ∷ codes "else" ∷ codes "enum"
     ∷ codes "extern" ∷ codes "false" ∷ codes "fn" ∷ codes "for" ∷ codes "if" ∷ codes "impl" ∷ codes "in" ∷ codes "let" ∷ codes "loop" ∷ codes "match" ∷ codes "mod"
     ∷ codes "move" ∷ codes "mut" ∷ codes "pub" ∷ codes "ref" ∷ codes "return" ∷ codes "self" ∷ codes "Self" ∷ codes "static" ∷ codes "struct" ∷ codes "super"
-    ∷ codes "trait" ∷ codes "true" ∷ codes "type" ∷ codes "union" ∷ codes "unsafe" ∷ codes "use" ∷ codes "where" ∷ codes "while" ∷ []
+    ∷ codes "trait" ∷ codes "true" ∷ codes "type" ∷ codes "unsafe" ∷ codes "use" ∷ codes "where" ∷ codes "while" ∷ []
 
 -- a name that begins with a capital letter of ASCII
 abbrev pub is_type_name : List ℕ → Bool

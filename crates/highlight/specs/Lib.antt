@@ -3,5 +3,8 @@ pub mod Escape
 pub mod Fault
 pub mod Job
 pub mod Mark
+pub mod Outcome
 pub mod Page
+pub mod Program
 pub mod Stop
+pub mod Watch

@@ -1,5 +1,5 @@
 -- The marks around a token.
-use Rattle.std.specs.Prelude.{ℕ, List, [], ◌∷◌, ◌++◌, codes, Option, Some, None}
+use Rattle.std.specs.Prelude.{ℕ, List, [], ◌∷◌, ◌++◌, codes}
 use Rattle.highlight.specs.declared.class.Class.{Class}
 use Rattle.highlight.specs.declared.class.Class.TheVariants.{Plain, Comment, Doc, Keyword, TypeName, Text, Number, Lifetime}
 use Rattle.highlight.specs.declared.fault.Fault.{Fault}
@@ -36,21 +36,18 @@ class_close Html class = codes "</span>"
 class_close Colours class = sgr (codes "0")
 class_close NoColours class = []
 
+-- before the first line of a token with a fault: in a page with the sentence that says what is wrong
 abbrev pub fault_open : Style → Fault → List ℕ
 fault_open Html fault = codes "<mark title=\"" ++ (sentence fault ++ codes "\">")
 fault_open Colours fault = sgr (codes "4;31")
 fault_open NoColours fault = []
 
+-- that sentence between brackets, so that no code runs into it
+abbrev pub bracketed : Fault → List ℕ
+bracketed fault = codes " [<- " ++ (sentence fault ++ codes "]")
+
+-- past that line: in a terminal with the sentence
 abbrev pub fault_close : Style → Fault → List ℕ
 fault_close Html fault = codes "</mark>"
-fault_close Colours fault = sgr (codes "0;31") ++ (codes " <- " ++ (sentence fault ++ sgr (codes "0")))
-fault_close NoColours fault = codes " <- " ++ sentence fault
-
--- the marks of a fault, where there is one
-abbrev pub open_if : Style → Option Fault → List ℕ
-open_if style None = []
-open_if style (Some fault) = fault_open style fault
-
-abbrev pub close_if : Style → Option Fault → List ℕ
-close_if style None = []
-close_if style (Some fault) = fault_close style fault
+fault_close Colours fault = sgr (codes "0;31") ++ (bracketed fault ++ sgr (codes "0"))
+fault_close NoColours fault = bracketed fault

@@ -1,5 +1,6 @@
 -- A text with its shebang line and its tokens marked.
-use Rattle.std.specs.Prelude.{ℕ, List, [], ◌∷◌, ◌++◌, take, drop, Option, Some, None}
+use Rattle.std.specs.Prelude.{ℕ, suc, ◌==◌, Bool, ◌||◌, if◌then◌else◌, List, [], ◌∷◌, ◌++◌, take, drop, Option, Some, None}
+use Rattle.std.specs.Str.{byte}
 use Rattle.rustc_lexer.specs.declared.edition.Edition.{Edition}
 use Rattle.rustc_lexer.specs.declared.token.Token.{Token}
 use Rattle.rustc_lexer.specs.declared.token.TokenKind.{TokenKind}
@@ -9,27 +10,47 @@ use Rattle.rustc_lexer.specs.means.Shebang.{shebang}
 use Rattle.rustc_lexer.specs.Tokens.{tokens_of}
 use Rattle.highlight.specs.declared.class.Class.{Class}
 use Rattle.highlight.specs.declared.class.Class.TheVariants.{Comment}
+use Rattle.highlight.specs.declared.fault.Fault.{Fault}
 use Rattle.highlight.specs.declared.page.TheConstants.{HEAD, FOOT}
 use Rattle.highlight.specs.declared.style.Style.{Style}
 use Rattle.highlight.specs.declared.style.Style.TheVariants.{Html, Colours, NoColours}
 use Rattle.highlight.specs.Class.{class_of}
 use Rattle.highlight.specs.Escape.{escaped}
 use Rattle.highlight.specs.Fault.{fault_of}
-use Rattle.highlight.specs.Mark.{class_open, class_close, open_if, close_if}
+use Rattle.highlight.specs.Mark.{class_open, class_close, fault_open, fault_close}
 
 -- a part of a marked text: a mark, or a part of the text itself
 pub data Part : Type 0 where
   Mark : List ℕ → Part
   Own : List ℕ → Part
 
--- a part of the text between the marks of its class
+-- a part of the text between the marks of its class, and nothing around no text
 abbrev pub class_parts : Style → Class → List ℕ → List Part
-class_parts style class text = Mark (class_open style class) ∷ Own text ∷ Mark (class_close style class) ∷ []
+class_parts style class [] = []
+class_parts style class (b ∷ bs) = Mark (class_open style class) ∷ Own (b ∷ bs) ∷ Mark (class_close style class) ∷ []
 
--- a token between the marks of its class, and around those the marks of its fault
+-- the bytes that end a line: a newline and a carriage return
+abbrev pub ends_line : ℕ → Bool
+ends_line b = b == byte "\n" || b == byte "\r"
+
+-- how many bytes stand before the first that ends a line
+abbrev pub first_line : List ℕ → ℕ
+first_line [] = 0
+first_line (b ∷ bs) = if ends_line b then 0 else suc (first_line bs)
+
+-- a token with a fault: its first line between the marks of the fault, and all of it between those of its class
+abbrev pub fault_parts : Style → Fault → Class → List ℕ → List Part
+fault_parts style fault class text =
+    Mark (fault_open style fault)
+    ∷ (class_parts style class (take (first_line text) text) ++ (Mark (fault_close style fault) ∷ class_parts style class (drop (first_line text) text)))
+
+abbrev pub parts_by : Style → Option Fault → Class → List ℕ → List Part
+parts_by style None class text = class_parts style class text
+parts_by style (Some fault) class text = fault_parts style fault class text
+
+-- a token between its marks
 abbrev pub token_parts : Style → TokenKind → List ℕ → List Part
-token_parts style kind text =
-    Mark (open_if style (fault_of kind text)) ∷ (class_parts style (class_of kind text) text ++ (Mark (close_if style (fault_of kind text)) ∷ []))
+token_parts style kind text = parts_by style (fault_of kind text) (class_of kind text) text
 
 -- each token of a text between its marks
 abbrev pub parts : Style → List ℕ → List Token → List Part

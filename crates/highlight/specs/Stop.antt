@@ -1,5 +1,5 @@
 -- Why a run stops: its status, and its line on standard error.
-use Rattle.std.specs.Prelude.{ℕ, List, codes}
+use Rattle.std.specs.Prelude.{ℕ, List, [], ◌∷◌, ◌++◌, codes, Result, Ok, Err}
 use Rattle.highlight.specs.declared.stop.Stop.{Stop}
 use Rattle.highlight.specs.declared.stop.Stop.TheVariants.{Arguments, NotUtf8, TooLong, Memory, Read, Write, ClosedPipe}
 
@@ -12,17 +12,26 @@ status_of Memory = 6
 status_of Read = 7
 status_of Write = 7
 
-abbrev pub stop_text : Stop → List ℕ
-stop_text Arguments = codes "unknown words; --help tells what it takes"
-stop_text NotUtf8 = codes "input is not UTF-8"
-stop_text TooLong = codes "input too long"
-stop_text Memory = codes "no memory"
-stop_text Read = codes "read failed"
-stop_text Write = codes "write failed"
-stop_text ClosedPipe = codes "nobody reads the output"
+-- the line that is told under the program's name
+abbrev pub told_by_name : List ℕ → List ℕ
+told_by_name text = codes "highlight: " ++ (text ++ 10 ∷ [])
 
--- what a failed write stops with
-abbrev pub IsWriteStop : Stop → Type 0
-IsWriteStop Write = Unit {0}
-IsWriteStop ClosedPipe = Unit {0}
-IsWriteStop stop = ⊥
+-- the line that tells of a stop; a closed pipe has none
+abbrev pub stop_line : Stop → List ℕ
+stop_line Arguments = told_by_name (codes "unknown words; --help tells what it takes")
+stop_line NotUtf8 = told_by_name (codes "input is not UTF-8")
+stop_line TooLong = told_by_name (codes "input too long")
+stop_line Memory = told_by_name (codes "no memory")
+stop_line Read = told_by_name (codes "read failed")
+stop_line Write = told_by_name (codes "write failed")
+stop_line ClosedPipe = []
+
+-- the status with which the program ends
+abbrev pub exit_status : Result (Unit {0}) Stop → ℕ
+exit_status (Ok done) = 0
+exit_status (Err stop) = status_of stop
+
+-- what is told of a run: the line of its stop, if it has one
+abbrev pub told : Result (Unit {0}) Stop → List ℕ
+told (Ok done) = []
+told (Err stop) = stop_line stop

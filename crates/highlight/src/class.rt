@@ -13,7 +13,7 @@ pub enum Class {
     Comment,
     /// A doc comment, or a frontmatter.
     Doc,
-    /// A keyword, as `while`. One list stands for all editions: `async`, `await` and `dyn` are
+    /// A keyword, such as `while`. One list stands for all editions: `async`, `await` and `dyn` are
     /// keywords in 2015 too, and `try` and `gen` in none.
     Keyword,
     /// A name that begins with a capital letter of ASCII.
@@ -70,10 +70,11 @@ fn is_type_name(word: &str) -> bool
     word.as_bytes().first().is_some_and(u8::is_ascii_uppercase)
 }
 
-/// The keywords that the standard library's names cannot be.
-const KEYWORDS: [&str; 39] = [
+/// Words that are keywords wherever they stand. A word that is one in some places and a name in others, such as
+/// `union`, is not among them: its token alone does not tell.
+const KEYWORDS: [&str; 38] = [
     "as", "async", "await", "break", "const", "continue", "crate", "dyn", "else", "enum", "extern",
     "false", "fn", "for", "if", "impl", "in", "let", "loop", "match", "mod", "move", "mut", "pub",
-    "ref", "return", "self", "Self", "static", "struct", "super", "trait", "true", "type", "union",
+    "ref", "return", "self", "Self", "static", "struct", "super", "trait", "true", "type",
     "unsafe", "use", "where", "while",
 ];

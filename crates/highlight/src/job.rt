@@ -1,6 +1,6 @@
 //! What a run is to do.
 ghost use Rattle.std.specs.Prelude.{◌≡◌, map, string_bytes};
-ghost use Rattle.highlight.specs.Job.{edition_of, job_of, style_of};
+ghost use Rattle.highlight.specs.Job.{edition_of, in_edition, is_help, job_of, options_of, page, style_of, when_of, with_colours};
 
 use crate::style::Style;
 use rustc_lexer::Edition;
@@ -18,40 +18,129 @@ pub enum Job {
     Help,
 }
 
+/// When colours are written.
+#[derive(Clone, Copy)]
+enum When {
+    /// Where the output is a terminal that takes them.
+    Auto,
+    Always,
+    Never,
+}
+
+/// What the options ask for; `None` for one that is not given.
+#[derive(Clone, Copy)]
+struct Options {
+    html: bool,
+    edition: Option<Edition>,
+    color: Option<When>,
+}
+
+/// What no option asks for.
+const NO_OPTIONS: Options = Options {
+    html: false,
+    edition: None,
+    color: None,
+};
+
 /// The job that the words after the program's name ask for, or `None` where they ask for none. `colours` says
-/// whether a terminal gets colours.
+/// whether the output is a terminal that takes colours.
 pub fn read_job(words: &[String], colours: bool) -> Option<Job>
     ensures { result ≡ job_of (map string_bytes words.now) colours }
 {
+    if is_help(words) {
+        return Some(Job::Help);
+    }
+    let options = read_options(NO_OPTIONS, words)?;
+    Some(Job::Show {
+        style: style_of(options, colours),
+        edition: options.edition,
+    })
+}
+
+/// Whether the words are `--help` alone.
+fn is_help(words: &[String]) -> bool
+    ensures { result ≡ is_help (map string_bytes words.now) }
+{
     match words {
-        [word] if word.as_str() == "--help" => Some(Job::Help),
-        [] | [_] => Some(Job::Show {
-            edition: None,
-            style: read_style(words, colours)?,
-        }),
-        [option, year, rest @ ..] if option.as_str() == "--edition" => Some(Job::Show {
-            edition: Some(read_edition(year.as_str())?),
-            style: read_style(rest, colours)?,
-        }),
-        [html, option, year] if html.as_str() == "--html" && option.as_str() == "--edition" => {
-            Some(Job::Show {
-                edition: Some(read_edition(year.as_str())?),
-                style: Style::Html,
-            })
+        [word] => word.as_str() == "--help",
+        _ => false,
+    }
+}
+
+/// The options and those that the words write, in any order and each at most once: so it calls itself four times at most.
+fn read_options(options: Options, words: &[String]) -> Option<Options>
+    ensures { result ≡ options_of options (map string_bytes words.now) }
+{
+    match words {
+        [] => Some(options),
+        [word, after @ ..] if word.as_str() == "--html" => read_options(page(options)?, after),
+        [word, year, after @ ..] if word.as_str() == "--edition" => {
+            let edition = read_edition(year.as_str())?;
+            read_options(in_edition(options, edition)?, after)
+        }
+        [word, when, after @ ..] if word.as_str() == "--color" => {
+            let when = read_when(when.as_str())?;
+            read_options(with_colours(options, when)?, after)
         }
         _ => None,
     }
 }
 
-/// The style that the words ask for, or `None` where they ask for none.
-fn read_style(words: &[String], colours: bool) -> Option<Style>
-    ensures { result ≡ style_of (map string_bytes words.now) colours }
+/// The options with `--html`, unless they have it.
+fn page(options: Options) -> Option<Options>
+    ensures { result ≡ page options }
 {
-    match words {
-        [] if colours => Some(Style::Colours),
-        [] => Some(Style::NoColours),
-        [word] if word.as_str() == "--html" => Some(Style::Html),
-        _ => None,
+    if options.html {
+        return None;
+    }
+    Some(Options {
+        html: true,
+        ..options
+    })
+}
+
+/// The options with an edition, unless they have one.
+fn in_edition(options: Options, edition: Edition) -> Option<Options>
+    ensures { result ≡ in_edition options edition }
+{
+    match options.edition {
+        Some(_) => None,
+        None => Some(Options {
+            edition: Some(edition),
+            ..options
+        }),
+    }
+}
+
+/// The options with `--color`, unless they have it.
+fn with_colours(options: Options, when: When) -> Option<Options>
+    ensures { result ≡ with_colours options when }
+{
+    match options.color {
+        Some(_) => None,
+        None => Some(Options {
+            color: Some(when),
+            ..options
+        }),
+    }
+}
+
+/// The style that the options ask for.
+fn style_of(options: Options, colours: bool) -> Style
+    ensures { result ≡ style_of options colours }
+{
+    if options.html {
+        return Style::Html;
+    }
+    let coloured = match options.color {
+        None | Some(When::Auto) => colours,
+        Some(When::Always) => true,
+        Some(When::Never) => false,
+    };
+    if coloured {
+        Style::Colours
+    } else {
+        Style::NoColours
     }
 }
 
@@ -64,6 +153,18 @@ fn read_edition(year: &str) -> Option<Edition>
         "2018" => Some(Edition::E2018),
         "2021" => Some(Edition::E2021),
         "2024" => Some(Edition::E2024),
+        _ => None,
+    }
+}
+
+/// When colours are written, by the word after `--color`.
+fn read_when(word: &str) -> Option<When>
+    ensures { result ≡ when_of word.now }
+{
+    match word {
+        "auto" => Some(When::Auto),
+        "always" => Some(When::Always),
+        "never" => Some(When::Never),
         _ => None,
     }
 }

@@ -1,16 +1,18 @@
 //! A text with its shebang line and its tokens marked, for a terminal or as a page.
 ghost use Rattle.std.specs.Prelude.{◌≡◌, OnOk};
 ghost use Rattle.std.specs.Fmt.{WritesInCalls};
+ghost use Rattle.std.specs.Str.{IsCharBoundary};
 ghost use Rattle.rustc_lexer.specs.Classes.{Fits};
 ghost use Rattle.rustc_lexer.specs.Edition.{tokens_in};
 ghost use Rattle.rustc_lexer.specs.Tokens.{tokens_of};
 ghost use Rattle.highlight.specs.Escape.{unescaped, untagged};
-ghost use Rattle.highlight.specs.Page.{class_parts, foot, head, marked, marked_tokens, printed, shown, text_parts, token_parts, tokens_for, with_marks, without_marks};
+ghost use Rattle.highlight.specs.Page.{class_parts, fault_parts, first_line, foot, head, marked, marked_tokens, printed, shown, text_parts, token_parts, tokens_for, with_marks, without_marks};
 
 use crate::class::{Class, class_of};
 use crate::escape::write_escaped;
-use crate::fault::fault_of;
+use crate::fault::{Fault, fault_of};
 use crate::style::{Style, class_close, class_open, close_fault, open_fault};
+use memchr::memchr2;
 use rustc_lexer::{Edition, FrontmatterAllowed, TokenKind, strip_shebang, tokenize, tokenize_in};
 use std::fmt;
 
@@ -30,7 +32,8 @@ const HEAD: &str = "<!DOCTYPE html>
 }
 body { margin: 0; background: var(--back); color: var(--plain); }
 pre { margin: 0; padding: 1em 1.5em; font: 14px/1.5 ui-monospace, \"DejaVu Sans Mono\", monospace; tab-size: 4;
-  white-space: pre-wrap; overflow-wrap: anywhere; }
+  white-space: pre-wrap; word-break: break-all; overflow-wrap: anywhere; }
+.comment, .doc, mark::after { word-break: normal; }
 .comment { color: var(--comment); font-style: italic; }
 .doc { color: var(--doc); font-style: italic; }
 .keyword { color: var(--keyword); font-weight: bold; }
@@ -39,8 +42,9 @@ pre { margin: 0; padding: 1em 1.5em; font: 14px/1.5 ui-monospace, \"DejaVu Sans 
 .number { color: var(--number); }
 .lifetime { color: var(--lifetime); }
 mark { background: none; color: inherit; text-decoration: underline wavy var(--fault); }
-mark::before { content: attr(title); float: right; margin-left: 2em; color: var(--fault);
-  font-family: sans-serif; font-size: 12px; line-height: 21px; }
+mark::after { content: attr(title); display: inline-block; max-width: 100%; box-sizing: border-box; margin: 0 0.5em;
+  padding: 0 0.5em; border: 1px solid var(--fault); border-radius: 4px; color: var(--fault);
+  font: 12px/1.4 sans-serif; white-space: normal; }
 </style>
 </head>
 <body>
@@ -168,7 +172,7 @@ fn write_tokens_in<W: fmt::Write>(
     Ok(())
 }
 
-/// Writes a token between its marks.
+/// Writes a token between its marks. Where it has a fault, its first line stands between the marks of that too.
 fn write_token<W: fmt::Write>(
     style: Style,
     kind: TokenKind,
@@ -179,13 +183,43 @@ fn write_token<W: fmt::Write>(
     ensures { OnOk result (WritesInCalls W.write_str_gives output.old
         (with_marks style (token_parts style kind text.now)) output.new) }
 {
-    let fault = fault_of(kind, text);
-    open_fault(style, fault, output)?;
-    write_in_class(style, class_of(kind, text), text, output)?;
-    close_fault(style, fault, output)
+    let class = class_of(kind, text);
+    match fault_of(kind, text) {
+        None => write_in_class(style, class, text, output),
+        Some(fault) => write_with_fault(style, fault, class, text, output),
+    }
 }
 
-/// Writes a part of the text between the marks of its class.
+/// Writes a token with a fault between its marks.
+fn write_with_fault<W: fmt::Write>(
+    style: Style,
+    fault: Fault,
+    class: Class,
+    text: &str,
+    output: &mut W,
+) -> fmt::Result
+    ensures { OnOk result (WritesInCalls W.write_str_gives output.old
+        (with_marks style (fault_parts style fault class text.now)) output.new) }
+{
+    let end = first_line(text);
+    open_fault(style, fault, output)?;
+    write_in_class(style, class, &text[..end], output)?;
+    close_fault(style, fault, output)?;
+    write_in_class(style, class, &text[end..], output)
+}
+
+/// How many bytes stand before the first newline or carriage return.
+fn first_line(text: &str) -> usize
+    ensures value { result ≡ first_line text.now }
+    ensures bounded { IsCharBoundary text.now result }
+{
+    match memchr2(b'\n', b'\r', text.as_bytes()) {
+        Some(at) => at,
+        None => text.len(),
+    }
+}
+
+/// Writes a part of the text between the marks of its class, and nothing where it is empty.
 fn write_in_class<W: fmt::Write>(
     style: Style,
     class: Class,
@@ -195,6 +229,9 @@ fn write_in_class<W: fmt::Write>(
     ensures { OnOk result (WritesInCalls W.write_str_gives output.old
         (with_marks style (class_parts style class text.now)) output.new) }
 {
+    if text.is_empty() {
+        return Ok(());
+    }
     output.write_str(class_open(style, class))?;
     write_shown(style, text, output)?;
     output.write_str(class_close(style, class))

@@ -1,8 +1,6 @@
 //! Why a run stops.
-ghost use Rattle.std.specs.Prelude.{◌≡◌, Some};
-ghost use Rattle.highlight.specs.Stop.{status_of, stop_text};
-
-use std::fmt;
+ghost use Rattle.std.specs.Prelude.{◌≡◌};
+ghost use Rattle.highlight.specs.Stop.{status_of, stop_line};
 
 /// Why a run stops.
 #[derive(Clone, Copy, Debug, PartialEq, Eq)]
@@ -17,7 +15,7 @@ pub enum Stop {
     Memory,
     /// The reader failed.
     Read,
-    /// The writer failed.
+    /// The writer failed, or took nothing of what it was given.
     Write,
     /// Nobody reads the output any more.
     ClosedPipe,
@@ -37,18 +35,17 @@ pub fn status(stop: &Stop) -> u8
     }
 }
 
-impl fmt::Display for Stop {
-    ghost output = { λ stop. Some (stop_text stop) };
-
-    fn fmt<W: fmt::Write>(&self, f: &mut fmt::Formatter<W>) -> fmt::Result {
-        f.write_str(match self {
-            Stop::Arguments => "unknown words; --help tells what it takes",
-            Stop::NotUtf8 => "input is not UTF-8",
-            Stop::TooLong => "input too long",
-            Stop::Memory => "no memory",
-            Stop::Read => "read failed",
-            Stop::Write => "write failed",
-            Stop::ClosedPipe => "nobody reads the output",
-        })
+/// The line that tells of it on standard error. A closed pipe is met in silence.
+pub fn line(stop: &Stop) -> &'static str
+    ensures { result.now ≡ stop_line stop.now }
+{
+    match stop {
+        Stop::Arguments => "highlight: unknown words; --help tells what it takes\n",
+        Stop::NotUtf8 => "highlight: input is not UTF-8\n",
+        Stop::TooLong => "highlight: input too long\n",
+        Stop::Memory => "highlight: no memory\n",
+        Stop::Read => "highlight: read failed\n",
+        Stop::Write => "highlight: write failed\n",
+        Stop::ClosedPipe => "",
     }
 }

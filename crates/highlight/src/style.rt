@@ -1,7 +1,7 @@
 //! The marks around a token: tags of a page, or escape sequences of a terminal.
 ghost use Rattle.std.specs.Prelude.{◌≡◌, OnOk};
 ghost use Rattle.std.specs.Fmt.{WritesInCalls};
-ghost use Rattle.highlight.specs.Mark.{class_close, class_open, close_if, open_if};
+ghost use Rattle.highlight.specs.Mark.{class_close, class_open, fault_close, fault_open};
 
 use crate::class::Class;
 use crate::fault::Fault;
@@ -58,29 +58,28 @@ pub fn class_close(style: Style, class: Class) -> &'static str
     }
 }
 
-/// Writes the mark before a token with a fault: in a page a tag with the sentence.
+/// Writes the mark before the first line of a token with a fault: in a page a tag with the sentence.
 #[tactic(auto, using(crate::proofs::CallLemmas::tried_call))]
-pub fn open_fault<W: fmt::Write>(style: Style, fault: Option<Fault>, output: &mut W) -> fmt::Result
+pub fn open_fault<W: fmt::Write>(style: Style, fault: Fault, output: &mut W) -> fmt::Result
     ensures { OnOk result
-        (WritesInCalls W.write_str_gives output.old (open_if style fault) output.new) }
+        (WritesInCalls W.write_str_gives output.old (fault_open style fault) output.new) }
 {
-    match (style, fault) {
-        (Style::Html, Some(fault)) => write!(output, "<mark title=\"{fault}\">"),
-        (Style::Colours, Some(_)) => output.write_str("\x1b[4;31m"),
-        (Style::NoColours, Some(_)) | (_, None) => Ok(()),
+    match style {
+        Style::Html => write!(output, "<mark title=\"{fault}\">"),
+        Style::Colours => output.write_str("\x1b[4;31m"),
+        Style::NoColours => Ok(()),
     }
 }
 
-/// Writes the mark past a token with a fault: in a terminal with the sentence.
+/// Writes the mark past the first line of a token with a fault: in a terminal with the sentence.
 #[tactic(auto, using(crate::proofs::CallLemmas::tried_call))]
-pub fn close_fault<W: fmt::Write>(style: Style, fault: Option<Fault>, output: &mut W) -> fmt::Result
+pub fn close_fault<W: fmt::Write>(style: Style, fault: Fault, output: &mut W) -> fmt::Result
     ensures { OnOk result
-        (WritesInCalls W.write_str_gives output.old (close_if style fault) output.new) }
+        (WritesInCalls W.write_str_gives output.old (fault_close style fault) output.new) }
 {
-    match (style, fault) {
-        (Style::Html, Some(_)) => output.write_str("</mark>"),
-        (Style::Colours, Some(fault)) => write!(output, "\x1b[0;31m <- {fault}\x1b[0m"),
-        (Style::NoColours, Some(fault)) => write!(output, " <- {fault}"),
-        (_, None) => Ok(()),
+    match style {
+        Style::Html => output.write_str("</mark>"),
+        Style::Colours => write!(output, "\x1b[0;31m [<- {fault}]\x1b[0m"),
+        Style::NoColours => write!(output, " [<- {fault}]"),
     }
 }

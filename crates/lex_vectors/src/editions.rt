@@ -6,7 +6,8 @@ use rustc_lexer::TokenKind::{
     GuardedStrPrefix, Ident, Pound, RawLifetime, UnknownPrefix, UnknownPrefixLifetime, Whitespace,
 };
 use rustc_lexer::{
-    Edit, Edition, LexedText, LiteralKind, Relexed, Steps, Token, TokenKind, fits, tokenize_in,
+    Edit, Edition, LexedText, LiteralKind, Relexed, Steps, Token, TokenKind, UnknownEdition, fits,
+    tokenize_in,
 };
 use std::alloc::{AllocError, Global};
 use std::process::Abort;
@@ -269,4 +270,23 @@ fn editions_are_in_the_order_of_their_years(rt: HostRuntime) {
     assert!(rt; Edition::E2015 < Edition::E2018);
     assert!(rt; Edition::E2018 < Edition::E2021);
     assert!(rt; Edition::E2021 < Edition::E2024);
+}
+
+#[test]
+fn a_year_names_its_edition(rt: HostRuntime) {
+    let named = [
+        ("2015", Edition::E2015, 2015),
+        ("2018", Edition::E2018, 2018),
+        ("2021", Edition::E2021, 2021),
+        ("2024", Edition::E2024, 2024),
+    ];
+    for (index, (word, edition, year)) in named.into_iter().enumerate() {
+        assert_eq!(rt; word.parse::<Edition>(), Ok(edition));
+        assert_eq!(rt; edition.year(), year);
+        assert_eq!(rt; Edition::ALL.get(index).copied(), Some(edition));
+    }
+    for word in ["", "2016", "02015", "2024 ", "E2024"] {
+        assert_eq!(rt; word.parse::<Edition>(), Err(UnknownEdition), "{word}");
+    }
+    assert_eq!(rt; Edition::ALL.len(), named.len());
 }

@@ -34,6 +34,8 @@ pub fn program<R: Read, W: Write, E: Write>(
         × (IsErrOf outcome Fault.Read ↔ IsTrue input.new.failed)
         × (IsErrOf outcome Fault.Write ↔ IsTrue output.new.failed)
         × (IfOk outcome (λ _. output.new.flushed ≡ true))
+        × (IfErr outcome (λ fault. fault ≢ Fault.Write
+        → Keeps (W.contents output.old.inner) (W.contents output.new.inner)))
         × (result ≡ exit_status outcome)
         × (errors.new.failed ≡ false
         → Appends (E.contents errors.old.inner) (E.contents errors.new.inner) (told outcome))

@@ -2,7 +2,8 @@
 use rustc_lexer::TokenKind::{Dot, Frontmatter, Ident, Literal, Slash, UnknownPrefix, Whitespace};
 use rustc_lexer::{
     Base, Cursor, FrontmatterAllowed, GuardedStr, LiteralKind, RawStrError, Token, TokenKind, fits,
-    is_ident, settled, starts_raw, strip_shebang, tokenize, validate_raw_str,
+    is_horizontal_whitespace, is_id_continue, is_id_start, is_ident, is_whitespace, settled,
+    starts_raw, strip_shebang, tokenize, validate_raw_str,
 };
 
 /// A text, whether a frontmatter may stand in front, and the kinds and lengths of its tokens.
@@ -110,6 +111,36 @@ fn is_guarded(text: &str, string: GuardedStr) -> bool {
         && Cursor::new(text, FrontmatterAllowed::No).guarded_double_quoted_string() == Some(string)
 }
 
+/// Whether the classes of characters and the cursor's own calls answer what they do where there is memory.
+fn calls_hold() -> bool {
+    let text = "é+b c";
+    if !fits(text) {
+        return false;
+    }
+    let mut cursor = Cursor::new(text, FrontmatterAllowed::No);
+    let looks = cursor.first() == 'é' && cursor.third() == 'b';
+    let word = Token {
+        kind: Ident,
+        len: 2,
+    };
+    let plus = Token {
+        kind: TokenKind::Plus,
+        len: 1,
+    };
+    looks
+        && cursor.advance_token() == word
+        && cursor.advance_token() == plus
+        && cursor.as_str() == "b c"
+        && is_whitespace('\u{2028}')
+        && !is_whitespace('\u{a0}')
+        && is_horizontal_whitespace('\t')
+        && !is_horizontal_whitespace('\n')
+        && is_id_start('é')
+        && !is_id_start('1')
+        && is_id_continue('1')
+        && !is_id_continue('-')
+}
+
 /// Whether each call answers what it does where there is memory.
 pub fn lexing_holds() -> bool {
     let too_few = RawStrError::NoTerminator {
@@ -134,4 +165,5 @@ pub fn lexing_holds() -> bool {
         && settled(prefix) == 1
         && is_ident("a1")
         && !is_ident("1a")
+        && calls_hold()
 }

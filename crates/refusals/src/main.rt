@@ -3,6 +3,9 @@
 //! Run by itself the program meets no refusal. The script `tests/refused_memory` runs it again and again, with
 //! its first request for memory refused, then its second, and so on, and then with each refused: it has to print
 //! the same line each time.
+//!
+//! `refusals make ROW` keeps the text of a row of edits with its tokens, and `refusals edit ROW` edits it too. By
+//! the requests for memory that the second makes over the first, the script knows those of the edit.
 #![tactic(auto)]
 
 mod lexing;
@@ -14,7 +17,7 @@ use rustc_lexer::{
     tokenize, tokenize_in,
 };
 use std::alloc::Global;
-use std::io;
+use std::{env, io};
 
 /// A text, an edit of it, what it makes, and its counts.
 #[derive(Clone, Copy)]
@@ -239,7 +242,43 @@ fn is_held_in(lexed: &LexedText<Steps>, edition: Edition, count: usize) -> bool 
     tokens.next().is_none() && lexed.tokens().len() == count
 }
 
+/// Whether a row is edited, and its number, by the words after the program's name; `None` where they name none.
+fn read_row(rt: &HostRuntime) -> Option<(bool, usize)> {
+    let mut words = env::args(rt).ok()?;
+    let _ = words.next();
+    let edits = match words.next()?.as_str() {
+        "make" => false,
+        "edit" => true,
+        _ => return None,
+    };
+    let number = words.next()?.parse::<usize>().ok()?;
+    Some((edits, number))
+}
+
+/// Keeps the text of a row with its tokens, and edits it if that is asked. Whether all of it was done.
+fn take_row(alloc: Global, row: &EditRow, edits: bool) -> bool {
+    if !fits(row.text) {
+        return false;
+    }
+    let Ok(mut lexed) = LexedText::new(alloc, row.text) else {
+        return false;
+    };
+    let edit = row.edit;
+    if !edits {
+        return true;
+    }
+    lexed.accepts(edit.start, edit.stop, edit.insert)
+        && lexed.edit(edit.start, edit.stop, edit.insert) == Ok(row.counts)
+}
+
 fn main(rt: HostRuntime) -> io::Result<()> {
+    if let Some((edits, number)) = read_row(&rt) {
+        let done = match EDITS.get(number) {
+            Some(row) => take_row(rt.alloc(), row, edits),
+            None => false,
+        };
+        return println!(rt; "row {number}: {}", if done { "done" } else { "not done" });
+    }
     for (number, row) in EDITS.iter().enumerate() {
         if !edit_holds(rt.alloc(), row) {
             println!(rt; "edit {number} does not hold")?;

@@ -2,8 +2,8 @@
 use Rattle.std.proofs.Common.{◌≡◌, ℕ, zero, suc, ◌+◌, ◌-◌, ◌<◌, ◌≤◌, true, false, cond, List, [], ◌∷◌, length, get_or, drop, sym, ap, ◌∙◌, subst, arith, IsUtf8, IsCharBoundary, drop-cons, length-drop}
 use Rattle.std.proofs.lemmas.List.{drop_all}
 use Rattle.rustc_lexer.specs.declared.token.Token.{Token}
-use Rattle.rustc_lexer.specs.Cuts.{bound}
-use Rattle.rustc_lexer.specs.Edits.{kept_front, kept_front_from, AreCuts}
+use Rattle.rustc_lexer.specs.Cuts.{AreBoundaries, bound}
+use Rattle.rustc_lexer.specs.Edits.{kept_front, kept_front_from}
 use Rattle.rustc_lexer.specs.Settled.{has_two}
 use Rattle.rustc_lexer.proofs.EditLemmas.{front-none, has_two-mono}
 use Rattle.rustc_lexer.proofs.ProgressLemmas.{IsNext, next-from_drop}
@@ -29,7 +29,7 @@ kept_more text tokens start number place d at few two =
       two = λ some. two;
     }
 
-pub next_place : (text : List ℕ) (tokens : List Token) (start number place : ℕ) (d : Token) → AreCuts text tokens → IsKept text tokens start number place → number < length tokens → (place + (get_or tokens number d).len ≤ length text) × IsCharBoundary text (place + (get_or tokens number d).len)
+pub next_place : (text : List ℕ) (tokens : List Token) (start number place : ℕ) (d : Token) → AreBoundaries text tokens → IsKept text tokens start number place → number < length tokens → IsCharBoundary text (place + (get_or tokens number d).len)
 next_place text tokens start number place d cuts at few =
     let x : Token = get_or tokens number d in
     let next : IsNext tokens number x = next-from_drop tokens number x _ (drop-cons tokens number d few) in
@@ -57,7 +57,7 @@ bound-shift (t ∷ ts) (suc n) k =
     let ih = bound-shift ts n k in
     ap (bound (t ∷ ts)) e ∙ omega (arith, ih)
 
-pub kept_here : (text : List ℕ) (tokens : List Token) (start number place : ℕ) (d : Token) → IsUtf8 text → AreCuts text tokens → IsKept text tokens start number place → number < length tokens → has_two text (place + (get_or tokens number d).len) start ≡ false → number ≡ kept_front text tokens start
+pub kept_here : (text : List ℕ) (tokens : List Token) (start number place : ℕ) (d : Token) → IsUtf8 text → AreBoundaries text tokens → IsKept text tokens start number place → number < length tokens → has_two text (place + (get_or tokens number d).len) start ≡ false → number ≡ kept_front text tokens start
 kept_here text tokens start number place d is cuts at few out =
     let x : Token = get_or tokens number d in
     let here : drop number tokens ≡ x ∷ drop (suc number) tokens = drop-cons tokens number d few in
@@ -66,7 +66,7 @@ kept_here text tokens start number place d is cuts at few out =
     let rest : kept_front_from text start (place + x.len) (drop (suc number) tokens) ≡ 0 =
     front-none text start (place + x.len) (drop (suc number) tokens) is
     (λ k less. let s : bound tokens (suc number + k) ≡ place + x.len + bound (drop (suc number) tokens) k = bound-shift tokens (suc number) k ∙ ap (λ n. n + bound (drop (suc number) tokens) k) (sym e) in
-    subst (IsCharBoundary text) s (cuts (suc number + k) (omega (arith, length-drop (suc number) tokens))).1) out in
+    subst (IsCharBoundary text) s (cuts (suc number + k) (omega (arith, length-drop (suc number) tokens)))) out in
     let counted : kept_front_from text start place (drop number tokens) ≡ 0 =
     ap (kept_front_from text start place) here ∙ (ap (λ b. cond b 1 0 + kept_front_from text start (place + x.len) (drop (suc number) tokens)) out ∙ ap (λ n. 0 + n) rest) in
     omega (arith, at.count, counted)
@@ -101,12 +101,12 @@ front-all text to from (t ∷ ts) (suc n) is few cuts two =
     omega (arith, counted, rest, moved)
 
 -- a bound that two characters follow is in the kept front, and so are those before it
-pub kept_from : (text : List ℕ) (tokens : List Token) (start number place : ℕ) → IsUtf8 text → AreCuts text tokens → number ≤ length tokens → place ≡ bound tokens number → (0 < number → has_two text place start ≡ true) → IsKept text tokens start number place
+pub kept_from : (text : List ℕ) (tokens : List Token) (start number place : ℕ) → IsUtf8 text → AreBoundaries text tokens → number ≤ length tokens → place ≡ bound tokens number → (0 < number → has_two text place start ≡ true) → IsKept text tokens start number place
 kept_from text tokens start number place is cuts few at two =
     let whole : (k : ℕ) → bound tokens k ≡ 0 + bound tokens k = λ k. omega arith in
     let here : 0 + bound tokens number ≡ place = omega (arith, at) in
     let all : kept_front_from text start 0 tokens ≡ number + kept_front_from text start (0 + bound tokens number) (drop number tokens) =
-    front-all text start 0 tokens number is few (λ k less. subst (IsCharBoundary text) (whole k) (cuts k less).1) (λ some. subst (λ p. has_two text p start ≡ true) (sym here) (two some)) in
+    front-all text start 0 tokens number is few (λ k less. subst (IsCharBoundary text) (whole k) (cuts k less)) (λ some. subst (λ p. has_two text p start ≡ true) (sym here) (two some)) in
     record {
       number_bound = few;
       place_is = at;

@@ -4,8 +4,8 @@ use Rattle.rustc_lexer.specs.declared.relex.front.Bound.{Bound}
 use Rattle.rustc_lexer.specs.declared.relex.front.Damage.{Damage}
 use Rattle.rustc_lexer.specs.declared.token.Token.{Token}
 use Rattle.rustc_lexer.specs.Texts.{IsText, IsGrammar}
-use Rattle.rustc_lexer.specs.Cuts.{bound, tokens_by}
-use Rattle.rustc_lexer.specs.Edits.{apply, IsEdit, AreCuts, kept_front, ends_past, meet, relexed_of}
+use Rattle.rustc_lexer.specs.Cuts.{AreBoundaries, bound, tokens_by}
+use Rattle.rustc_lexer.specs.Edits.{apply, IsEdit, kept_front, ends_past, meet, relexed_of}
 use Rattle.rustc_lexer.specs.Settled.{has_two}
 use Rattle.rustc_lexer.proofs.CutLemmas.{at_bound}
 use Rattle.rustc_lexer.proofs.BoundLemmas.{bound_mono, rises, ends_past-at}
@@ -24,8 +24,8 @@ abbrev pub damage_of : ℕ → ℕ → List ℕ → Damage
 damage_of start stop insert = record { past = start + length insert; added = length insert; removed = stop - start }
 
 module _ {first : List ℕ → Token} (law : IsGrammar first) (text : List ℕ) (is : IsText text) where
-  pub cuts : AreCuts text (tokens_by first text)
-  cuts k few = let cut = at_bound law k text is in (cut.inside, IsCharBoundary-from_drop text _ cut.inside cut.past.utf8)
+  pub cuts : AreBoundaries text (tokens_by first text)
+  cuts k few = let cut = at_bound law k text is in IsCharBoundary-from_drop text _ cut.inside cut.past.utf8
 
   pub bounds_fit : (k : ℕ) → k ≤ length (tokens_by first text) → bound (tokens_by first text) k < 2 ^ 32
   bounds_fit k few = omega (arith, (cuts k few).0, is.fits)

@@ -3,7 +3,7 @@ use Rattle.std.proofs.Common.{◌≡◌, ℕ, zero, suc, ◌+◌, ◌-◌, ◌<�
 use Rattle.std.proofs.lemmas.List.{length-map}
 use Rattle.std.proofs.Math.Nat.{le-max_left, le-max_right, max-le}
 use Rattle.std.proofs.lemmas.Str.{IsUtf8-append, IsUtf8-drop, IsCharBoundary-at_seam, IsCharBoundary-from_drop}
-use Rattle.rustc_lexer.specs.declared.relex.edit.Relexed.{Relexed}
+use Rattle.rustc_lexer.specs.declared.relex.relexing.Relexed.{Relexed}
 use Rattle.rustc_lexer.specs.declared.relex.front.Bound.{Bound}
 use Rattle.rustc_lexer.specs.declared.relex.front.Damage.{Damage}
 use Rattle.rustc_lexer.specs.declared.relex.front.Meeting.{Meeting}
@@ -12,8 +12,8 @@ use Rattle.rustc_lexer.specs.declared.relex.relexing.Relexing.{Relexing}
 use Rattle.rustc_lexer.specs.declared.token.Token.{Token}
 use Rattle.rustc_lexer.specs.Cuts.{bound, tokens_by}
 use Rattle.rustc_lexer.specs.Edits.{apply, kept_front, IsEdit, least_from, meet, meets_at, relexed_of}
-use Rattle.rustc_lexer.specs.Landmarks.{IsBound}
-use Rattle.rustc_lexer.specs.Relexing.{IsChange, IsFront, IsFollowed, IsMadeOf, Stands, IsWhole, damage_of, known}
+use Rattle.rustc_lexer.specs.Relexing.{IsBound, IsChange, IsFollowed, IsMadeOf, Stands, IsWhole, known}
+use Rattle.rustc_lexer.specs.means.Relexing.{IsFront, damage_of}
 use Rattle.rustc_lexer.specs.Settled.{has_two}
 use Rattle.rustc_lexer.specs.Texts.{IsText, IsGrammar}
 use Rattle.rustc_lexer.proofs.BoundLemmas.{least_from_ge, bound-last}
@@ -114,7 +114,7 @@ module _ {first : List ℕ → Token} (law : IsGrammar first) (before lengths in
       let m = le-max_left damage.past kept.place in
       omega arith
 
-  pub stands_first : (kept : Bound) (to : Meeting) → kept.number ≡ kept_front before old change.start → IsBound old kept → (0 < kept.number → has_two before kept.place change.start ≡ true) → IsFollowed old damage kept.place to → Stands first before change text record { front = kept; lexed = 0; back = to.at; at = kept.place; met = to.met }
+  pub stands_first : (kept : Bound) (to : Meeting) → kept.number ≡ kept_front before old change.start → IsBound old kept → (0 < kept.number → has_two before kept.place change.start ≡ true) → IsFollowed old damage.past damage.added damage.removed kept.place to.at to.met → Stands first before change text record { front = kept; lexed = 0; back = to.at; at = kept.place; met = to.met }
   stands_first kept to number at two followed =
       let r = ready kept at two in
       let none : kept.number + 0 ≡ kept.number = omega arith in
@@ -230,7 +230,7 @@ module _ {first : List ℕ → Token} (law : IsGrammar first) (before lengths in
         subst (λ (ts : List Token). IsMet first old text (change.start + length insert) (length insert) (change.old_stop - change.start) at.front.number ts at.back.number) split (met_by hit)
 
     -- one token more
-    module _ (token : Token) (to_next : Meeting) (out : at.met ≡ false) (token_is : token ≡ first (drop at.at text)) (followed : IsFollowed old damage (at.at + token.len) to_next) where
+    module _ (token : Token) (to_next : Meeting) (out : at.met ≡ false) (token_is : token ≡ first (drop at.at text)) (followed : IsFollowed old damage.past damage.added damage.removed (at.at + token.len) to_next.at to_next.met) where
       abbrev pub past_token : Relexing
       past_token = record { front = at.front; lexed = at.lexed + 1; back = to_next.at; at = at.at + token.len; met = to_next.met }
 

@@ -1,5 +1,5 @@
 -- The tokens of a text by a grammar, which tells the first token of each text.
-use Rattle.std.specs.Prelude.{ℕ, zero, suc, ◌+◌, List, [], ◌∷◌, length, drop}
+use Rattle.std.specs.Prelude.{ℕ, zero, suc, ◌+◌, ◌≤◌, List, [], ◌∷◌, length, drop, IsCharBoundary}
 use Rattle.rustc_lexer.specs.declared.token.Token.{Token}
 
 -- the first `count` tokens of a text
@@ -17,3 +17,7 @@ abbrev pub bound : List Token → ℕ → ℕ
 bound tokens zero = 0
 bound [] (suc k) = 0
 bound (t ∷ ts) (suc k) = t.len + bound ts k
+
+-- each bound of the tokens is inside the text, between characters
+abbrev pub AreBoundaries : List ℕ → List Token → Type 0
+AreBoundaries text tokens = (k : ℕ) → k ≤ length tokens → IsCharBoundary text (bound tokens k)

@@ -4,7 +4,7 @@ use Rattle.std.proofs.Common.{Some, None}
 use Rattle.std.specs.String.{string_bytes}
 use Rattle.std.specs.declared.string.String.{String}
 use Rattle.rustc_lexer.specs.declared.token.Token.{Token}
-use Rattle.rustc_lexer.specs.declared.relex.edit.Relexed.{Relexed}
+use Rattle.rustc_lexer.specs.declared.relex.relexing.Relexed.{Relexed}
 use Rattle.rustc_lexer.specs.Cuts.{bound, tokens_by}
 use Rattle.rustc_lexer.specs.Settled.{has_two}
 
@@ -72,7 +72,3 @@ relexed_of first text start stop insert =
     let k : ℕ = kept_front text old start in
     let j : ℕ = meet old new (start + length insert) (length insert) (stop - start) k in
     record { kept_front = k; lexed = j - k; kept_back = ends_past old (bound new j - length insert + (stop - start)) }
-
--- each bound of the tokens is inside the text, between characters
-abbrev pub AreCuts : List ℕ → List Token → Type 0
-AreCuts text tokens = (k : ℕ) → k ≤ length tokens → (bound tokens k ≤ length text) × IsCharBoundary text (bound tokens k)

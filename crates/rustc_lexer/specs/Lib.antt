@@ -7,7 +7,6 @@ pub mod Edits
 pub mod Emoji
 pub mod FrontmatterGrammar
 pub mod Held
-pub mod Landmarks
 pub mod Language
 pub mod LanguageCalls
 pub mod LanguageHolds

@@ -1,8 +1,7 @@
 -- The pieces of a text that is kept with its tokens.
-use Rattle.std.specs.Prelude.{ℕ, ◌+◌, ◌^◌, ◌≡◌, ◌<◌, ◌≤◌, List, [], ◌∷◌, length, take, drop, IsCharBoundary, Option, Some, None}
+use Rattle.std.specs.Prelude.{ℕ, ◌+◌, ◌^◌, ◌≡◌, ◌<◌, ◌≤◌, List, [], ◌∷◌, length, take, drop, Option, Some, None}
 use Rattle.rustc_lexer.specs.declared.relex.pieces.Piece.{Piece}
 use Rattle.rustc_lexer.specs.declared.token.Token.{Token}
-use Rattle.rustc_lexer.specs.Cuts.{bound}
 
 -- where a token stands, the token, and its text
 pub record Placed : Type 0 where
@@ -47,7 +46,3 @@ pub record TakesPiece (s : Left) (piece : Piece) (t : Left) : Type 0 where
 abbrev pub YieldsPiece : Left → Option Piece → Left → Type 0
 YieldsPiece s None t = (pieces_left s ≡ []) × (t ≡ s)
 YieldsPiece s (Some piece) t = TakesPiece s piece t
-
--- each bound of the tokens, the first of which begins at `start`, is inside the text, between characters
-abbrev pub CutsFrom : List ℕ → ℕ → List Token → Type 0
-CutsFrom text start tokens = (k : ℕ) → k ≤ length tokens → (start + bound tokens k ≤ length text) × IsCharBoundary text (start + bound tokens k)

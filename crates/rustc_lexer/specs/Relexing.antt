@@ -2,37 +2,36 @@
 use Rattle.std.specs.Prelude.{ℕ, ◌≡◌, ◌+◌, ◌-◌, ◌<◌, ◌≤◌, ◌^◌, ◌++◌, true, List, length, map, take, drop, max, IsCharBoundary, Option, Some, None, ◌∷◌, Bool, ◌||◌, nat_eq}
 use Rattle.std.specs.Str.{IsUtf8}
 use Rattle.rustc_lexer.specs.declared.token.Token.{Token}
-use Rattle.rustc_lexer.specs.declared.relex.front.Damage.{Damage}
-use Rattle.rustc_lexer.specs.declared.relex.front.Meeting.{Meeting}
+use Rattle.rustc_lexer.specs.declared.relex.front.Bound.{Bound}
 use Rattle.rustc_lexer.specs.declared.relex.relexing.Change.{Change}
 use Rattle.rustc_lexer.specs.declared.relex.relexing.Relexing.{Relexing}
 use Rattle.rustc_lexer.specs.Cuts.{bound, tokens_by}
-use Rattle.rustc_lexer.specs.Edits.{apply, kept_front, AreCuts, IsEdit, meet, meets_at}
-use Rattle.rustc_lexer.specs.Landmarks.{IsBound}
+use Rattle.rustc_lexer.specs.Edits.{apply, kept_front, IsEdit, meet, meets_at}
 use Rattle.rustc_lexer.specs.Texts.{IsText}
+
+-- the number and the place are those of a bound of the tokens
+abbrev pub IsBound : List Token → Bound → Type 0
+IsBound tokens at = (at.number ≤ length tokens) × (at.place ≡ bound tokens at.number)
 
 -- these are the lengths of the tokens
 abbrev pub HasLengths : List Token → List ℕ → Type 0
 HasLengths tokens lengths = lengths ≡ map (λ (t : Token). t.len) tokens
 
--- the old text, which may be cut at the bounds of the tokens, and the new one are the same up to `start`
-pub record IsFront (old : List ℕ) (tokens : List Token) (lengths text : List ℕ) (start : ℕ) : Type 0 where
-  pub utf8 : IsUtf8 old
-  pub cuts : AreCuts old tokens
-  pub lengths_are : HasLengths tokens lengths
-  pub same : take start text ≡ take start old
+-- a place of the new text was followed to a bound of the old tokens, before which none was met; and whether it meets it.
+-- The edit ends at `past` in the new text, where `added` bytes stand for `removed`
+pub record IsFollowed (old : List Token) (past added removed place : ℕ) (back : Bound) (met : Bool) : Type 0 where
+  pub bound_is : IsBound old back
+  pub below : (k : ℕ) → k < back.number → bound old k + added < max past place + removed
+  pub met_is : met ≡ meets_at old past added removed place
+  pub past_edit : met ≡ true → past ≤ place
+  pub same_place : met ≡ true → back.place ≡ place - added + removed
 
--- a place of the new text was followed to a bound of the old tokens, before which none was met; and whether it meets it
-pub record IsFollowed (old : List Token) (damage : Damage) (place : ℕ) (to : Meeting) : Type 0 where
-  pub bound_is : IsBound old to.at
-  pub below : (k : ℕ) → k < to.at.number → bound old k + damage.added < max damage.past place + damage.removed
-  pub met_is : to.met ≡ meets_at old damage.past damage.added damage.removed place
-  pub past_edit : to.met ≡ true → damage.past ≤ place
-  pub same_place : to.met ≡ true → to.at.place ≡ place - damage.added + damage.removed
+-- how many bytes a change put in, and how many it took out
+abbrev pub added_by : Change → ℕ
+added_by change = change.new_stop - change.start
 
--- what a change did to a text
-abbrev pub damage_of : Change → Damage
-damage_of change = record { past = change.new_stop; added = change.new_stop - change.start; removed = change.old_stop - change.start }
+abbrev pub removed_by : Change → ℕ
+removed_by change = change.old_stop - change.start
 
 -- the change is one that may have made the text: what it put in is inside, between characters
 pub record IsChange (text : List ℕ) (change : Change) : Type 0 where
@@ -70,8 +69,8 @@ pub record Stands (first : List ℕ → Token) (old : List ℕ) (change : Change
   pub front_same : take at.front.number (tokens_by first old) ≡ take at.front.number (tokens_by first text)
   pub inside : known at ≤ length (tokens_by first text)
   pub place : at.at ≡ bound (tokens_by first text) (known at)
-  pub not_past : known at ≤ meet (tokens_by first old) (tokens_by first text) (damage_of change).past (damage_of change).added (damage_of change).removed at.front.number
-  pub followed : IsFollowed (tokens_by first old) (damage_of change) at.at record { at = at.back; met = at.met }
+  pub not_past : known at ≤ meet (tokens_by first old) (tokens_by first text) change.new_stop (added_by change) (removed_by change) at.front.number
+  pub followed : IsFollowed (tokens_by first old) change.new_stop (added_by change) (removed_by change) at.at at.back at.met
 
 -- past the token at the place where relexing stands
 pub record IsStepTo (first : List ℕ → Token) (text : List ℕ) (at : Relexing) (token : Token) (at' : Relexing) : Type 0 where
@@ -96,13 +95,6 @@ TakesStep first text count at (Some token) count' at' = IsStepTo first text at t
 abbrev pub GivesNext : List Token → Relexing → Option Token → Relexing → Type 0
 GivesNext tokens at None at' = at'.met ≡ true
 GivesNext tokens at (Some token) at' = drop (known at) tokens ≡ token ∷ drop (known at') tokens
-
--- relexing has met the old tokens, and these are the tokens that were lexed for it
-pub record IsLexed (first : List ℕ → Token) (old : List ℕ) (change : Change) (text : List ℕ) (tokens : List Token) (at : Relexing) : Type 0 where
-  pub stands : Stands first old change text at
-  pub met : at.met ≡ true
-  pub lexed : at.lexed ≡ length tokens
-  pub tokens_are : drop at.front.number (tokens_by first text) ≡ tokens ++ drop (known at) (tokens_by first text)
 
 -- the old tokens up to the kept front, those that were lexed and the old ones behind the meeting are the new tokens
 abbrev pub IsWhole : List Token → List Token → Relexing → Type 0

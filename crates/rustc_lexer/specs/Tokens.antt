@@ -3,6 +3,7 @@ use Rattle.std.specs.Prelude.{ℕ, zero, suc, ◌≡◌, ◌-◌, ◌<◌, ◌�
 use Rattle.rustc_lexer.specs.declared.token.FrontmatterAllowed.{FrontmatterAllowed}
 use Rattle.rustc_lexer.specs.declared.token.FrontmatterAllowed.TheVariants.{No}
 use Rattle.rustc_lexer.specs.declared.token.Token.{Token}
+use Rattle.rustc_lexer.specs.Cuts.{AreBoundaries}
 pub use Rattle.rustc_lexer.specs.Cuts.{bound}
 use Rattle.rustc_lexer.specs.State.{State, allowed_after}
 use Rattle.rustc_lexer.specs.means.Taking.{token_at, advance}
@@ -26,7 +27,7 @@ tokens_left s = tokens_of s.frontmatter_allowed s.rest
 -- the tokens cut the text: none is empty, each ends between characters, and together they are as long as the text
 pub record Partitions (text : List ℕ) (tokens : List Token) : Type 0 where
   pub not_empty : All (λ t. 0 < t.len) tokens
-  pub boundaries : (k : ℕ) → k ≤ length tokens → IsCharBoundary text (bound tokens k)
+  pub boundaries : AreBoundaries text tokens
   pub whole : bound tokens (length tokens) ≡ length text
 
 -- with no frontmatter allowed, the text past any bound has the rest of the tokens

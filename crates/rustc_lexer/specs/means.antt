@@ -7,14 +7,17 @@ pub mod Frontmatter
 pub mod Guarded
 pub mod Hash
 pub mod Ident
+pub mod Landmarks
 pub mod Least
 pub mod Lexeme
 pub mod Lifetime
 pub mod Literal
 pub mod Number
+pub mod Pieces
 pub mod Quick
 pub mod Quoted
 pub mod Raw
+pub mod Relexing
 pub mod Scan
 pub mod Shebang
 pub mod Taking

@@ -1,11 +1,8 @@
 //! Classes of characters.
 ghost use Rattle.std.specs.Prelude.{◌≡◌, ◌↔◌, ◌||◌, ◌==◌, IsTrue};
 ghost use Rattle.std.specs.Char.{is_ascii_alphanumeric};
-ghost use Rattle.std.specs.Str.{chars};
 ghost use Rattle.rustc_lexer.specs.Classes;
 ghost use Rattle.unicode_ident.specs.Ident.{is_xid_start};
-
-use crate::scan::{eat_while, split_first};
 
 pub(crate) mod emoji;
 
@@ -85,19 +82,6 @@ fn is_ascii_continue(c: char) -> bool
     ensures { result ≡ (is_ascii_alphanumeric c || (c == 95)) }
 {
     c.is_ascii_alphanumeric() || c == '_'
-}
-
-/// Whether the text is an identifier: not empty, with a character at its front that an identifier may begin with,
-/// and no others than those that it may go on with. [`is_id_start`] and [`is_id_continue`] tell by which tables.
-///
-/// Rust Reference, [Identifiers](https://doc.rust-lang.org/reference/identifiers.html).
-pub fn is_ident(string: &str) -> bool
-    ensures { result ≡ Classes.is_ident (chars string.now) }
-{
-    match split_first(string) {
-        Some((first, tail)) => is_id_start(first) && eat_while(tail, is_id_continue).is_empty(),
-        None => false,
-    }
 }
 
 /// Whether the text has at most `u32::MAX` bytes, so that each length in it is a `u32`.

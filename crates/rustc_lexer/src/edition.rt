@@ -1,7 +1,8 @@
 //! The tokens of a text in an edition of Rust.
-ghost use Rattle.std.specs.Prelude.{◌≡◌, ◌<◌, not, length, take, IsCharBoundary};
+ghost use Rattle.std.specs.Prelude.{◌≡◌, ◌<◌, not, codes, length, take, IsCharBoundary, Some};
 ghost use Rattle.std.specs.Iterator.{at_most};
 ghost use Rattle.std.specs.List.{list_all};
+ghost use Rattle.std.specs.Result.{result_ok};
 ghost use Rattle.std.specs.Str.{chars};
 ghost use Rattle.rustc_lexer.specs.declared.edition.Edition.TheVariants.{E2015, E2018, E2024};
 ghost use Rattle.rustc_lexer.specs.declared.token.FrontmatterAllowed.TheVariants.{No};
@@ -17,8 +18,10 @@ use crate::classes::emoji::is_emoji;
 use crate::cursor::Cursor;
 use crate::scan::{eat_continue, next_is, split_first};
 use crate::token::{FrontmatterAllowed, Token, TokenKind};
+use std::fmt;
 use std::iter::Iterator;
 use std::marker::Model;
+use std::str::FromStr;
 
 /// An edition of Rust, in the order of their years.
 #[derive(Clone, Copy, Debug, PartialEq, Eq, PartialOrd, Ord)]
@@ -27,6 +30,57 @@ pub enum Edition {
     E2018,
     E2021,
     E2024,
+}
+
+impl Edition {
+    /// All editions, in the order of their years.
+    pub const ALL: [Edition; 4] = [
+        Edition::E2015,
+        Edition::E2018,
+        Edition::E2021,
+        Edition::E2024,
+    ];
+
+    /// The year that names the edition.
+    pub fn year(self) -> u16
+        ensures { result ≡ spec.year self }
+    {
+        match self {
+            Edition::E2015 => 2015,
+            Edition::E2018 => 2018,
+            Edition::E2021 => 2021,
+            Edition::E2024 => 2024,
+        }
+    }
+}
+
+/// Reads the year that names an edition, such as `2021`.
+impl FromStr for Edition {
+    type Err = UnknownEdition;
+
+    ghost from_str_gives = { λ word read. result_ok read ≡ spec.edition_of word };
+
+    fn from_str(word: &str) -> Result<Edition, UnknownEdition> {
+        match word {
+            "2015" => Ok(Edition::E2015),
+            "2018" => Ok(Edition::E2018),
+            "2021" => Ok(Edition::E2021),
+            "2024" => Ok(Edition::E2024),
+            _ => Err(UnknownEdition),
+        }
+    }
+}
+
+/// A word names no edition.
+#[derive(Clone, Copy, Debug, PartialEq, Eq)]
+pub struct UnknownEdition;
+
+impl fmt::Display for UnknownEdition {
+    ghost output = { λ _. Some (codes "no edition of Rust has this year") };
+
+    fn fmt<W: fmt::Write>(&self, f: &mut fmt::Formatter<W>) -> fmt::Result {
+        f.write_str("no edition of Rust has this year")
+    }
 }
 
 /// The tokens of a text in an edition, in order. The text has at most `u32::MAX` bytes, and no frontmatter.

@@ -1,9 +1,11 @@
 //! How far runs of bytes go and where a byte stands, 32 bytes at a time.
 ghost use Rattle.memchr.specs.Find.{IsFirstByte, is_byte, is_byte2};
-ghost use Rattle.std.specs.Prelude.{◌≡◌, ◌≤◌, ℕ, Bool, length, map};
+ghost use Rattle.std.specs.Prelude.{◌≡◌, ◌≤◌, ℕ, Bool, drop, length, map, not};
 ghost use Rattle.std.specs.List.{prefix_len};
 ghost use Rattle.std.specs.Simd.Lanes.{mask_l};
 ghost use Rattle.rustc_lexer.specs.means.ByteRuns.{is_continue_byte, is_space_byte, is_decimal_byte, is_hexadecimal_byte, outside};
+ghost use Rattle.rustc_lexer.specs.means.Quick.{is_space_lead, turns_word};
+ghost use Rattle.rustc_lexer.specs.means.Scan;
 
 use memchr::{memchr, memchr2};
 use std::simd::prelude::*;
@@ -193,4 +195,28 @@ pub(crate) fn find_either(one: u8, two: u8, bytes: &[u8]) -> Option<usize>
         }
     }
     memchr2(one, two, bytes)
+}
+
+/// Whether a word that ends there is an identifier, by the byte after it.
+#[inline(always)]
+pub(crate) fn ends_word(bytes: &[u8], end: usize) -> bool
+    ensures { result ≡ not (Scan.next_is turns_word (drop end bytes.now)) }
+{
+    if end < bytes.len() {
+        bytes[end] < 128 && !matches!(bytes[end], b'#' | b'"' | b'\'')
+    } else {
+        true
+    }
+}
+
+/// Whether no white space outside ASCII stands there, by its first byte.
+#[inline(always)]
+pub(crate) fn ends_space(bytes: &[u8], end: usize) -> bool
+    ensures { result ≡ not (Scan.next_is is_space_lead (drop end bytes.now)) }
+{
+    if end < bytes.len() {
+        bytes[end] != 0xC2 && bytes[end] != 0xE2
+    } else {
+        true
+    }
 }

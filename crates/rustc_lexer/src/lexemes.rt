@@ -25,7 +25,7 @@ mod block_comment;
 mod comment;
 mod family;
 mod hash;
-mod ident;
+pub(crate) mod ident;
 mod lifetime;
 pub(crate) mod literal;
 mod number;

@@ -19,12 +19,12 @@ mod shebang;
 mod token;
 
 pub use classes::{
-    UNICODE_VERSION, fits, is_horizontal_whitespace, is_id_continue, is_id_start, is_ident,
-    is_whitespace,
+    UNICODE_VERSION, fits, is_horizontal_whitespace, is_id_continue, is_id_start, is_whitespace,
 };
 pub use cursor::Cursor;
-pub use edition::{Edition, EditionTokens, tokenize_in};
+pub use edition::{Edition, EditionTokens, UnknownEdition, tokenize_in};
 pub use entry::{Stepper, Steps, Tokens, tokenize};
+pub use lexemes::ident::is_ident;
 pub use raw_check::{starts_raw, validate_raw_str};
 pub use relex::{
     Bound, Change, Edit, EditStop, LexedText, Measured, Piece, Pieces, Relexed, Relexing, settled,

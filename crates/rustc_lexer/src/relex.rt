@@ -10,10 +10,9 @@ mod relexing;
 mod replace;
 mod settle;
 
-pub use edit::Relexed;
 pub use edit_list::{Edit, EditStop};
 pub use front::{Bound, Measured};
 pub use lexed_text::LexedText;
 pub use pieces::{Piece, Pieces};
-pub use relexing::{Change, Relexing};
+pub use relexing::{Change, Relexed, Relexing};
 pub use settle::settled;

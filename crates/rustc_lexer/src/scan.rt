@@ -11,9 +11,8 @@ ghost use Rattle.rustc_lexer.specs.means.Scan.{begins, past, run_len};
 
 use crate::classes::is_whitespace;
 use crate::kernels::{
-    Continue, Decimal, Hexadecimal, Space, find, find_either, run_end, short_run_end,
+    Continue, Decimal, Hexadecimal, Space, ends_space, find, find_either, run_end, short_run_end,
 };
-use crate::lexemes::quick::ends_space;
 
 /// The first character, or U+0000 where the text ends.
 pub(crate) fn first(rest: &str) -> char

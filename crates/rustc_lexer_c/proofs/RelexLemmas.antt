@@ -1,10 +1,9 @@
 -- How far a text is relexed, as numbers and back.
-use Rattle.std.proofs.Common.{◌≡◌, ◌≢◌, ℕ, ◌+◌, ◌-◌, ◌≤◌, Bool, true, false, ◌||◌, if◌then◌else◌, eqb, List, ◌++◌, length, map, take, drop, refl, sym, ap, ◌∙◌, subst, arith, Option}
-use Rattle.std.proofs.Common.{Some, None, take-add}
+use Rattle.std.proofs.Common.{◌≡◌, ◌≢◌, ℕ, ◌+◌, ◌-◌, ◌≤◌, Bool, true, false, ◌||◌, if◌then◌else◌, eqb, List, ◌++◌, length, map, take, drop, refl, sym, ap, ◌∙◌, subst, arith, Option, Some, None, take-add}
 use Rattle.std.proofs.lemmas.List.{length-map, length-drop, length-take-le, take_at, drop-drop, map-append, take-map, drop-map}
 use Rattle.rustc_lexer.specs.declared.edition.Edition.{Edition}
 use Rattle.rustc_lexer.specs.declared.edition.Edition.TheVariants.{E2024}
-use Rattle.rustc_lexer.specs.declared.relex.edit.Relexed.{Relexed}
+use Rattle.rustc_lexer.specs.declared.relex.relexing.Relexed.{Relexed}
 use Rattle.rustc_lexer.specs.declared.relex.relexing.Relexing.{Relexing}
 use Rattle.rustc_lexer.specs.declared.token.Token.{Token}
 use Rattle.rustc_lexer.specs.Cuts.{tokens_by}

@@ -10,8 +10,7 @@ use Rattle.rustc_lexer.specs.declared.token.Token.{Token}
 use Rattle.rustc_lexer.specs.Cuts.{tokens_by}
 use Rattle.rustc_lexer.specs.Edition.{first_token_in}
 use Rattle.rustc_lexer.specs.Edits.{relexed_of}
-use Rattle.rustc_lexer.specs.Landmarks.{IsBound}
-use Rattle.rustc_lexer.specs.Relexing.{IsChange, IsMadeOf, MayGoOn, Stands, is_over}
+use Rattle.rustc_lexer.specs.Relexing.{IsBound, IsChange, IsMadeOf, MayGoOn, Stands, is_over}
 use Rattle.rustc_lexer.specs.Texts.{IsText}
 use Rattle.rustc_lexer_c.specs.declared.relex.CEdit.{CEdit}
 use Rattle.rustc_lexer_c.specs.declared.relex.CRelexing.{CRelexing}

@@ -5,6 +5,7 @@
 //! for UTF-8. What crosses is written down in `bindings/c/rustc_lexer.h`.
 #![tactic(auto)]
 
+pub mod abi;
 pub mod batch;
 pub mod classes;
 pub mod places;

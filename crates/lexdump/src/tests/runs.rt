@@ -5,6 +5,7 @@ use crate::run::run;
 use crate::tests::ends::{Failure, dump};
 use crate::watched::Watched;
 use rustc_lexer::Edition;
+use std::test::Fail;
 
 /// The job of a run with no words.
 const PLAIN: Job<'static> = Job::Plain {
@@ -107,4 +108,33 @@ fn frontmatter(rt: HostRuntime) {
     let came = dump(&rt, &Job::Front, text, usize::MAX, Failure::Never);
     assert_eq!(rt; came.answer, Ok(()));
     assert_eq!(rt; came.written.as_slice(), &want[..]);
+}
+
+/// Whether a text of so many letters is listed as one identifier.
+fn is_listed(rt: &HostRuntime, letters: usize) -> Result<bool, Fail> {
+    let text = "x".repeat(rt.alloc(), letters)?;
+    let want = if letters == 0 {
+        String::new(rt.alloc())
+    } else {
+        format!(in rt.alloc(); "0 {letters} Ident\n")?
+    };
+    let mut input = Watched::new(text.as_bytes());
+    let mut output = Watched::new(Vec::new(rt.alloc()));
+    Ok(
+        run(rt.alloc(), &PLAIN, &mut input, &mut output) == Ok(())
+            && output.into_inner().as_slice() == want.as_bytes(),
+    )
+}
+
+#[test]
+fn each_size(rt: HostRuntime) -> Result<(), Fail> {
+    for letters in 0..5000 {
+        assert!(rt; is_listed(&rt, letters)?, "{letters} bytes");
+    }
+    for letters in [
+        65534, 65535, 65536, 65537, 131071, 131072, 131073, 196608, 1000000,
+    ] {
+        assert!(rt; is_listed(&rt, letters)?, "{letters} bytes");
+    }
+    Ok(())
 }

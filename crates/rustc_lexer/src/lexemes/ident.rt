@@ -8,7 +8,7 @@ ghost use Rattle.rustc_lexer.specs.means.Scan.{IsLocal, IsLocalAt, past, run_len
 
 use crate::classes::emoji::is_emoji;
 use crate::classes::{is_id_continue, is_id_start};
-use crate::lexemes::quick::ends_word;
+use crate::kernels::ends_word;
 use crate::scan::{eat_continue, eat_while, next_is, split_first, strip};
 use crate::token::TokenKind;
 
@@ -57,6 +57,19 @@ pub(crate) fn eat_marked(tail: &str) -> Option<&str>
         return None;
     }
     Some(eat_continue(word))
+}
+
+/// Whether the text is an identifier: not empty, with a character at its front that an identifier may begin with,
+/// and no others than those that it may go on with.
+///
+/// Rust Reference, [Identifiers](https://doc.rust-lang.org/reference/identifiers.html).
+pub fn is_ident(string: &str) -> bool
+    ensures { result ≡ Classes.is_ident (chars string.now) }
+{
+    match split_first(string) {
+        Some((first, tail)) => is_id_start(first) && eat_while(tail, is_id_continue).is_empty(),
+        None => false,
+    }
 }
 
 /// What an identifier or the name of a lifetime goes on with, right or wrong.

@@ -1,11 +1,11 @@
 //! The commonest tokens, told by their bytes: identifiers, white space, hashes and symbols.
-ghost use Rattle.std.specs.Prelude.{◌≡◌, not, drop, IfSome};
+ghost use Rattle.std.specs.Prelude.{◌≡◌, IfSome};
 ghost use Rattle.rustc_lexer.specs.Classes.{Fits};
 ghost use Rattle.rustc_lexer.specs.means.Hash.{is_guarded_mark};
-ghost use Rattle.rustc_lexer.specs.means.Quick.{turns_word, is_space_lead, IsFirstToken};
+ghost use Rattle.rustc_lexer.specs.means.Quick.{IsFirstToken};
 ghost use Rattle.rustc_lexer.specs.means.Scan;
 
-use crate::kernels::{Continue, Space, run_end, short_run_end};
+use crate::kernels::{Continue, Space, ends_space, ends_word, run_end, short_run_end};
 use crate::lexemes::family::{Family, family_of_byte};
 use crate::lexemes::symbol::symbol_kind;
 use crate::token::{Token, TokenKind};
@@ -67,28 +67,4 @@ fn begins_guarded(bytes: &[u8]) -> bool
     ensures { result ≡ Scan.next_is is_guarded_mark bytes.now }
 {
     !bytes.is_empty() && matches!(bytes[0], b'"' | b'#')
-}
-
-/// Whether a word that ends there is an identifier, by the byte after it.
-#[inline(always)]
-pub(crate) fn ends_word(bytes: &[u8], end: usize) -> bool
-    ensures { result ≡ not (Scan.next_is turns_word (drop end bytes.now)) }
-{
-    if end < bytes.len() {
-        bytes[end] < 128 && !matches!(bytes[end], b'#' | b'"' | b'\'')
-    } else {
-        true
-    }
-}
-
-/// Whether no white space outside ASCII stands there, by its first byte.
-#[inline(always)]
-pub(crate) fn ends_space(bytes: &[u8], end: usize) -> bool
-    ensures { result ≡ not (Scan.next_is is_space_lead (drop end bytes.now)) }
-{
-    if end < bytes.len() {
-        bytes[end] != 0xC2 && bytes[end] != 0xE2
-    } else {
-        true
-    }
 }

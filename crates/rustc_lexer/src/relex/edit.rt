@@ -4,27 +4,17 @@ ghost use Rattle.rustc_lexer.specs.declared.token.Token.{Token};
 ghost use Rattle.rustc_lexer.specs.Classes.{Fits};
 ghost use Rattle.rustc_lexer.specs.Cuts.{tokens_by};
 ghost use Rattle.rustc_lexer.specs.Edits.{IsEdit, apply, bytes_or, relexed_of};
-ghost use Rattle.rustc_lexer.specs.Landmarks.{AreBounds, IsBound};
-ghost use Rattle.rustc_lexer.specs.Relexing.{IsChange, IsLexed, IsMadeOf, MayGoOn};
+ghost use Rattle.rustc_lexer.specs.means.Landmarks.{AreBounds};
+ghost use Rattle.rustc_lexer.specs.Relexing.{IsBound, IsChange, IsMadeOf, MayGoOn};
+ghost use Rattle.rustc_lexer.specs.means.Relexing.{IsLexed};
 
 use crate::entry::stepper::Stepper;
 use crate::relex::front::Bound;
 use crate::relex::landmarks::Landmarks;
-use crate::relex::relexing::{Change, Relexing};
+use crate::relex::relexing::{Change, Relexed, Relexing};
 use crate::relex::replace::replace;
 use crate::token::Token;
 use std::alloc::{AllocError, Global};
-
-/// The counts of one edit.
-#[derive(Clone, Copy, Debug, PartialEq, Eq)]
-pub struct Relexed {
-    /// How many tokens at the front stay as they are.
-    pub kept_front: usize,
-    /// How many tokens were lexed.
-    pub lexed: usize,
-    /// How many tokens at the back stay as they are.
-    pub kept_back: usize,
-}
 
 /// Lexes the new text from the kept front on, until it meets the old tokens, and answers the tokens between with
 /// the place of the meeting.

@@ -7,8 +7,8 @@ ghost use Rattle.rustc_lexer.specs.declared.token.Token.{Token};
 ghost use Rattle.rustc_lexer.specs.Edits.{kept_front};
 ghost use Rattle.rustc_lexer.specs.Settled.{has_two};
 ghost use Rattle.rustc_lexer.specs.Cuts.{bound};
-ghost use Rattle.rustc_lexer.specs.Landmarks.{IsBound};
-ghost use Rattle.rustc_lexer.specs.Relexing.{HasLengths, IsFront, IsFollowed};
+ghost use Rattle.rustc_lexer.specs.Relexing.{IsBound, HasLengths, IsFollowed};
+ghost use Rattle.rustc_lexer.specs.means.Relexing.{IsFront};
 
 use crate::token::Token;
 
@@ -184,7 +184,7 @@ pub(crate) fn follow<T: Measured>(
     ensures followed { (ts : List Token) → HasLengths ts (map T.bytes tokens.now) → IsBound ts from
         → ((k : ℕ) → k < from.number
         → bound ts k + damage.added < max damage.past place + damage.removed)
-        → IsFollowed ts damage place result }
+        → IsFollowed ts damage.past damage.added damage.removed place result.at result.met }
 {
     if place < damage.past {
         return Meeting {

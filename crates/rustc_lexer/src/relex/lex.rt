@@ -2,7 +2,7 @@
 ghost use Rattle.std.specs.Prelude.{◌≡◌, ◌+◌, IfOk, length};
 ghost use Rattle.rustc_lexer.specs.Classes.{Fits};
 ghost use Rattle.rustc_lexer.specs.Cuts.{tokens_by};
-ghost use Rattle.rustc_lexer.specs.Landmarks.{AreBounds};
+ghost use Rattle.rustc_lexer.specs.means.Landmarks.{AreBounds};
 
 use crate::entry::stepper::Stepper;
 use crate::relex::front::Bound;

@@ -10,9 +10,10 @@ ghost use Rattle.rustc_lexer.specs.Tokens.{tokens_of};
 
 use crate::edition::Edition;
 use crate::entry::stepper::{Stepper, Steps};
-use crate::relex::edit::{Edited, Relexed, lex_edit};
+use crate::relex::edit::{Edited, lex_edit};
 use crate::relex::landmarks::Landmarks;
 use crate::relex::lex::lex_all;
+use crate::relex::relexing::Relexed;
 use crate::token::Token;
 use std::alloc::{AllocError, Global};
 use std::marker::Model;
@@ -35,7 +36,7 @@ impl<S: Stepper> Model for LexedText<S> {
     ghost use Rattle.std.specs.String.{string_bytes};
     ghost use Rattle.rustc_lexer.specs.Held.{Held};
     ghost use Rattle.rustc_lexer.specs.Cuts.{tokens_by};
-    ghost use Rattle.rustc_lexer.specs.Landmarks.{AreBounds};
+    ghost use Rattle.rustc_lexer.specs.means.Landmarks.{AreBounds};
     ghost use Rattle.rustc_lexer.specs.Texts.{IsText};
 
     ghost Value = { Held S };

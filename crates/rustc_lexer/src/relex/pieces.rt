@@ -32,14 +32,15 @@ pub struct Pieces<'a> {
 
 impl<'a> Model for Pieces<'a> {
     ghost use Rattle.std.specs.Prelude.{◌≡◌, ◌<◌, ◌^◌, length};
-    ghost use Rattle.rustc_lexer.specs.Pieces.{Left, CutsFrom};
+    ghost use Rattle.rustc_lexer.specs.Pieces.{Left};
+    ghost use Rattle.rustc_lexer.specs.means.Pieces.{AreBoundariesFrom};
 
     ghost Value = { Left };
 
     ghost view = { λ p. record { text = p.text.now; start = p.start; tokens = p.tokens.now } };
 
     ghost invariant = { λ p. (length p.text.now < 2 ^ 32)
-        × CutsFrom p.text.now p.start p.tokens.now };
+        × AreBoundariesFrom p.text.now p.start p.tokens.now };
 }
 
 impl<'a> Iterator for Pieces<'a> {

@@ -5,12 +5,12 @@ ghost use Rattle.rustc_lexer.specs.declared.token.Token.{Token};
 ghost use Rattle.rustc_lexer.specs.Edits.{relexed_of};
 ghost use Rattle.rustc_lexer.specs.Classes.{Fits};
 ghost use Rattle.rustc_lexer.specs.Cuts.{tokens_by};
-ghost use Rattle.rustc_lexer.specs.Landmarks.{IsBound};
+ghost use Rattle.rustc_lexer.specs.Relexing.{IsBound};
 ghost use Rattle.rustc_lexer.specs.Relexing as spec;
+ghost use Rattle.rustc_lexer.specs.means.Relexing.{damage_of};
 ghost use Rattle.rustc_lexer.specs.Texts.{IsGrammar};
 
 use crate::entry::stepper::Stepper;
-use crate::relex::edit::Relexed;
 use crate::relex::front::{Bound, Damage, Measured, follow, kept_front};
 use crate::token::Token;
 
@@ -42,7 +42,7 @@ impl Change {
     fn damage(self) -> Damage
         requires old { self.start ≤ self.old_stop }
         requires new { self.start ≤ self.new_stop }
-        ensures { result ≡ spec.damage_of self }
+        ensures { result ≡ damage_of self }
     {
         Damage {
             past: self.new_stop,
@@ -50,6 +50,17 @@ impl Change {
             removed: self.old_stop - self.start,
         }
     }
+}
+
+/// The counts of one edit.
+#[derive(Clone, Copy, Debug, PartialEq, Eq)]
+pub struct Relexed {
+    /// How many tokens at the front stay as they are.
+    pub kept_front: usize,
+    /// How many tokens were lexed.
+    pub lexed: usize,
+    /// How many tokens at the back stay as they are.
+    pub kept_back: usize,
 }
 
 /// How far a changed text is lexed again: up to a bound of its tokens, from its kept front on.

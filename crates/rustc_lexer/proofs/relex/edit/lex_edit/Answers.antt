@@ -1,12 +1,13 @@
 use Rattle.std.proofs.Common.{◌≡◌, ◌+◌, length, sym, ap, ◌∙◌, arith}
 use Rattle.std.proofs.lemmas.List.{length-map}
 use Rattle.std.proofs.lemmas.List.Elements.{All-contains}
-use Rattle.rustc_lexer.specs.declared.relex.edit.Relexed.{Relexed}
+use Rattle.rustc_lexer.specs.declared.relex.relexing.Relexed.{Relexed}
 use Rattle.rustc_lexer.specs.declared.token.Token.{Token}
 use Rattle.rustc_lexer.specs.Cuts.{bound, tokens_by}
 use Rattle.rustc_lexer.specs.Edits.{apply}
 use Rattle.rustc_lexer.specs.Texts.{IsText}
-use Rattle.rustc_lexer.specs.Landmarks.{AreBounds, IsBound}
+use Rattle.rustc_lexer.specs.means.Landmarks.{AreBounds}
+use Rattle.rustc_lexer.specs.Relexing.{IsBound}
 use Rattle.rustc_lexer.proofs.EditLemmas.{IfErr-always}
 use Rattle.rustc_lexer.proofs.LandmarkLemmas.{replaced_for, list_for, kept_stays}
 use Rattle.rustc_lexer.proofs.ReadyLemmas.{put_together}

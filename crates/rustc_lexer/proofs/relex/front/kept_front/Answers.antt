@@ -27,7 +27,7 @@ loop-at-preserved g c = (
       let same : c.loop-at.at.place + c.len.result ≡ c.loop-at.at.place + (get_or ts number no_token).len = ap (λ n. c.loop-at.at.place + n) long in
       let fewer : number < length ts = omega (arith, as_many g.T.Measured.bytes c.args.tokens.now ts is.lengths_are) in
       let next = next_place old ts c.args.start number c.loop-at.at.place no_token is.cuts at fewer in
-      let two = stand_alike old c.args.text.now (c.loop-at.at.place + c.len.result) c.args.start c.stand_before.result is.utf8 c.utf8.text is.same c.requires.boundary.0 (rw same next.1) c.stand_before.ensures.late c.stand_before.ensures.two in
+      let two = stand_alike old c.args.text.now (c.loop-at.at.place + c.len.result) c.args.start c.stand_before.result is.utf8 c.utf8.text is.same c.requires.boundary.0 (rw same next) c.stand_before.ensures.late c.stand_before.ensures.two in
       rw same (kept_more old ts c.args.start number c.loop-at.at.place no_token at fewer (ap (λ p. has_two old p c.args.start) (sym same) ∙ (sym two ∙ c.if-not-stand_before.false))),
 )
 
@@ -46,5 +46,5 @@ returns-then-not-stand_before-clause-front g c = λ old ts is near.
     let same : c.loop-at.at.place + c.len.result ≡ c.loop-at.at.place + (get_or ts number no_token).len = ap (λ n. c.loop-at.at.place + n) long in
     let fewer : number < length ts = omega (arith, as_many g.T.Measured.bytes c.args.tokens.now ts is.lengths_are) in
     let next = next_place old ts c.args.start number c.loop-at.at.place no_token is.cuts at fewer in
-    let two = stand_alike old c.args.text.now (c.loop-at.at.place + c.len.result) c.args.start c.stand_before.result is.utf8 c.utf8.text is.same c.requires.boundary.0 (rw same next.1) c.stand_before.ensures.late c.stand_before.ensures.two in
+    let two = stand_alike old c.args.text.now (c.loop-at.at.place + c.len.result) c.args.start c.stand_before.result is.utf8 c.utf8.text is.same c.requires.boundary.0 (rw same next) c.stand_before.ensures.late c.stand_before.ensures.two in
     (kept_here old ts c.args.start number c.loop-at.at.place no_token is.utf8 is.cuts at fewer (ap (λ p. has_two old p c.args.start) (sym same) ∙ (sym two ∙ c.if-not-stand_before.true)), (at.number_bound, at.place_is), at.two)

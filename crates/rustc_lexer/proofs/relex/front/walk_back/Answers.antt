@@ -15,7 +15,7 @@ returns-then-stand_before-clause-bound g c = λ old ts is from.
     let at = c.loop-at.invariant.1 old ts is from in (
       at,
       λ some. let there = is.cuts c.loop-at.at.number at.0 in
-          sym (stand_alike old c.args.text.now c.loop-at.at.place c.args.start c.stand_before.result is.utf8 c.utf8.text is.same c.requires.boundary.0 (rw at.1 there.1) c.stand_before.ensures.late c.stand_before.ensures.two)
+          sym (stand_alike old c.args.text.now c.loop-at.at.place c.args.start c.stand_before.result is.utf8 c.utf8.text is.same c.requires.boundary.0 (rw at.1 there) c.stand_before.ensures.late c.stand_before.ensures.two)
           ∙ c.if-stand_before.true,
     )
 

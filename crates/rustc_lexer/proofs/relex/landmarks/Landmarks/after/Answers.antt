@@ -1,6 +1,6 @@
 use Rattle.std.proofs.Common.{arith}
 use Rattle.std.proofs.lemmas.List.Elements.{All-replicate, All-set}
-use Rattle.rustc_lexer.specs.Landmarks.{IsBound}
+use Rattle.rustc_lexer.specs.Relexing.{IsBound}
 use Rattle.rustc_lexer.proofs.LandmarkLemmas.{kept_stays}
 use Rattle.rustc_lexer.proofs.relex.landmarks.Landmarks.after.Goals as goal
 

@@ -1,5 +1,5 @@
 use Rattle.std.proofs.lemmas.List.Elements.{All-set}
-use Rattle.rustc_lexer.specs.Landmarks.{IsBound}
+use Rattle.rustc_lexer.specs.Relexing.{IsBound}
 use Rattle.rustc_lexer.proofs.relex.landmarks.Landmarks.remember.Goals as goal
 
 pub returns : goal.returns

@@ -12,8 +12,8 @@ range-requires c =
     let head = cuts_head c.self.inside.text.now c.self.inside.start _ _ _ c.in_ok-token.ensures.cases.0 c.self.invariant.1 in
     record {
       start_le_end = omega arith;
-      start_boundary = λ some. (cuts_at c.self.inside.text.now c.self.inside.start _ c.self.invariant.1).1;
-      end_boundary = head.1;
+      start_boundary = λ some. (cuts_at c.self.inside.text.now c.self.inside.start _ c.self.invariant.1);
+      end_boundary = head;
     }
 
 pub invariant_of-self : goal.invariant_of-self

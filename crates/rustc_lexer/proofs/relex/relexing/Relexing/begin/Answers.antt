@@ -1,5 +1,7 @@
-use Rattle.std.proofs.Common.{sym}
+use Rattle.std.proofs.Common.{subst}
+use Rattle.rustc_lexer.specs.declared.relex.front.Damage.{Damage}
 use Rattle.rustc_lexer.specs.Cuts.{tokens_by}
+use Rattle.rustc_lexer.specs.Relexing.{IsFollowed}
 use Rattle.rustc_lexer.proofs.RelexingLemmas.{made_front, stands_first, front_below}
 use Rattle.rustc_lexer.proofs.relex.relexing.Relexing.begin.Goals as goal
 
@@ -7,4 +9,5 @@ pub returns-clause-stands : goal.returns-clause-stands
 returns-clause-stands g c = λ first before insert law is near.
     let k = c.kept_front-front.ensures.front before (tokens_by first before) (made_front law before _ insert _ c.args.change is) near in
     let to = c.follow-to.ensures.followed (tokens_by first before) is.lengths_are k.1 (rw c.damage.ensures (front_below law before _ insert _ c.args.change is c.kept_front-front.result k.1 k.2)) in
-    stands_first law before _ insert _ c.args.change is c.kept_front-front.result c.follow-to.result k.0 k.1 k.2 (rw (sym c.damage.ensures) to)
+    let Followed : Damage → Type 0 = λ d. IsFollowed (tokens_by first before) d.past d.added d.removed c.kept_front-front.result.place c.follow-to.result.at c.follow-to.result.met in
+    stands_first law before _ insert _ c.args.change is c.kept_front-front.result c.follow-to.result k.0 k.1 k.2 (subst Followed c.damage.ensures to)

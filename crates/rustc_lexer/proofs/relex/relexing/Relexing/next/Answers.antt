@@ -1,6 +1,7 @@
-use Rattle.std.proofs.Common.{ap, sym, ◌∙◌, arith, ◌+◌, length, length-drop}
+use Rattle.std.proofs.Common.{ap, sym, subst, ◌∙◌, arith, ◌+◌, length, length-drop}
+use Rattle.rustc_lexer.specs.declared.relex.front.Damage.{Damage}
 use Rattle.rustc_lexer.specs.Cuts.{tokens_by}
-use Rattle.rustc_lexer.specs.Relexing.{IsFollowed, damage_of}
+use Rattle.rustc_lexer.specs.Relexing.{IsFollowed}
 use Rattle.rustc_lexer.specs.Texts.{IsText}
 use Rattle.rustc_lexer.proofs.RelexingLemmas.{stands_next, gives_next, below_later, not_over, step_place}
 use Rattle.rustc_lexer.proofs.relex.relexing.Relexing.next.Goals as goal
@@ -41,7 +42,8 @@ returns-clause-stands g c = λ before insert is stands.
     let out = sym (c.is_over.ensures.met (g.S.Stepper.grammar c.args.stepper.now) before _ insert c.args.change law is stands) ∙ c.if-is_over.false in
     let later = below_later law before _ insert _ c.args.change is at stands (at.at + c.step-token.result.len) (omega arith) in
     let to = c.follow-to.ensures.followed (tokens_by (g.S.Stepper.grammar c.args.stepper.now) before) is.lengths_are stands.followed.bound_is (rw c.damage.ensures later) in
-    let followed : IsFollowed (tokens_by (g.S.Stepper.grammar c.args.stepper.now) before) (damage_of c.args.change) (at.at + c.step-token.result.len) c.follow-to.result = rw (sym c.damage.ensures) to in (
+    let Followed : Damage → Type 0 = λ d. IsFollowed (tokens_by (g.S.Stepper.grammar c.args.stepper.now) before) d.past d.added d.removed (at.at + c.step-token.result.len) c.follow-to.result.at c.follow-to.result.met in
+    let followed = subst Followed c.damage.ensures to in (
       stands_next law before _ insert _ c.args.change is at stands c.step-token.result c.follow-to.result out token followed,
       gives_next law before _ insert _ c.args.change is at stands c.step-token.result c.follow-to.result out token followed,
     )

@@ -1,15 +1,12 @@
--- Bounds of a list of tokens that are remembered, and what becomes of them in an edit.
-use Rattle.std.specs.Prelude.{◌≡◌, ◌+◌, ◌<◌, ◌≤◌, ◌^◌, List, length, take, drop}
+-- Means, by how it is read: bounds of a list of tokens that are remembered, and what becomes of them in an edit.
+use Rattle.std.specs.Prelude.{◌≡◌, ◌+◌, ◌<◌, ◌≤◌, ◌^◌, List, take, drop}
 use Rattle.std.specs.List.{All}
 use Rattle.rustc_lexer.specs.declared.relex.front.Bound.{Bound}
 use Rattle.rustc_lexer.specs.declared.relex.landmarks.Landmarks.{Landmarks}
 use Rattle.rustc_lexer.specs.declared.token.Token.{Token}
-use Rattle.rustc_lexer.specs.Cuts.{bound}
+use Rattle.rustc_lexer.specs.Relexing.{IsBound}
 
--- the number and the place are those of a bound of the tokens
-abbrev pub IsBound : List Token → Bound → Type 0
-IsBound tokens at = (at.number ≤ length tokens) × (at.place ≡ bound tokens at.number)
-
+-- all of them are bounds of the tokens
 abbrev pub AreBounds : List Token → Landmarks → Type 0
 AreBounds tokens landmarks = All (IsBound tokens) landmarks.bounds
 

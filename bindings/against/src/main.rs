@@ -1,0 +1,190 @@
+//! Lexes texts by the original and by the proved lexer, in one process, and compares all that they answer. Prints
+//! counts, and each of the first differences. Ends with status 1 where there is one.
+//!
+//!     against [--texts N] [--seed N] PATH..
+//!
+//! Compared are each character, each file of a PATH (of a folder those that end in `.rs`, at any depth), and N random
+//! texts (200,000, if not given), of which half are parts of the files with something put in.
+
+mod answers;
+mod texts;
+
+use std::collections::HashSet;
+use std::path::{Path, PathBuf};
+use std::process::ExitCode;
+use std::{env, fs};
+
+use answers::Pair;
+use texts::Random;
+
+/// How many differences are shown.
+const SHOWN: usize = 20;
+
+/// What was asked for on the command line.
+struct Asked {
+    texts: u64,
+    seed: u64,
+    paths: Vec<PathBuf>,
+}
+
+fn asked() -> Result<Asked, String> {
+    let mut asked = Asked {
+        texts: 200_000,
+        seed: 1,
+        paths: Vec::new(),
+    };
+    let mut words = env::args_os().skip(1);
+    while let Some(word) = words.next() {
+        let number = match word.to_str() {
+            Some("--texts") => &mut asked.texts,
+            Some("--seed") => &mut asked.seed,
+            _ => {
+                asked.paths.push(PathBuf::from(word));
+                continue;
+            }
+        };
+        let next = words.next().and_then(|word| word.into_string().ok());
+        *number = next
+            .and_then(|digits| digits.parse().ok())
+            .ok_or_else(|| format!("{} wants a number", word.to_string_lossy()))?;
+    }
+    Ok(asked)
+}
+
+/// The texts of the files at and below a path. Files that are not UTF-8 are passed over, for both lexers take `&str`.
+fn read(path: &Path, files: &mut Vec<(PathBuf, String)>) -> Result<(), String> {
+    let failed = |error| format!("{}: {error}", path.display());
+    if path.is_dir() {
+        let entries = fs::read_dir(path).map_err(failed)?;
+        let mut below = Vec::new();
+        for entry in entries {
+            below.push(entry.map_err(failed)?.path());
+        }
+        below.sort();
+        below.retain(|path| path.is_dir() || path.extension().is_some_and(|end| end == "rs"));
+        return below
+            .iter()
+            .filter(|path| !path.is_symlink())
+            .try_for_each(|path| read(path, files));
+    }
+    let bytes = fs::read(path).map_err(failed)?;
+    if let Ok(text) = String::from_utf8(bytes) {
+        files.push((path.to_path_buf(), text));
+    }
+    Ok(())
+}
+
+/// The counts of a comparison.
+#[derive(Default)]
+struct Counts {
+    texts: u64,
+    bytes: u64,
+    answers: u64,
+    differences: u64,
+}
+
+impl Counts {
+    /// Compares what the two say of a text, and shows where they differ.
+    fn compare(&mut self, pair: &mut Pair, name: &str, text: &str) {
+        self.texts += 1;
+        self.bytes += text.len() as u64;
+        match pair.compare(text) {
+            Ok(answers) => self.answers += answers as u64,
+            Err([original, proved]) => {
+                self.differences += 1;
+                if self.differences as usize <= SHOWN {
+                    let start: String = text.chars().take(200).collect();
+                    println!("{name}: {start:?}\n  original: {original}\n  proved:   {proved}");
+                }
+            }
+        }
+    }
+
+    fn print(&self, name: &str) {
+        let Counts {
+            texts,
+            bytes,
+            answers,
+            differences,
+        } = self;
+        println!(
+            "{name}: {texts} texts, {bytes} bytes, {answers} answers, {differences} differences"
+        );
+    }
+}
+
+/// Compares each character: its classes, and the tokens of texts with it. Where the two go by other versions of
+/// Unicode, the characters on which they differ are the answer, and no difference.
+fn characters(pair: &mut Pair, counts: &mut Counts) -> HashSet<char> {
+    let versions = [original::UNICODE_VERSION, proved::UNICODE_VERSION];
+    let mut unsettled = HashSet::new();
+    for c in '\0'..=char::MAX {
+        let texts = [
+            format!("{c}"),
+            format!("a{c}b"),
+            format!("'{c}"),
+            format!("1{c}"),
+            format!("{c}#"),
+        ];
+        let agree =
+            answers::classes_agree(c) && texts.iter().all(|text| pair.compare(text).is_ok());
+        if agree || versions[0] == versions[1] {
+            texts
+                .iter()
+                .for_each(|text| counts.compare(pair, "character", text));
+            counts.differences += u64::from(!answers::classes_agree(c));
+        } else {
+            unsettled.insert(c);
+        }
+    }
+    println!(
+        "Unicode {:?} and {:?}: {} characters differ for that, and no text that is compared has one",
+        versions[0],
+        versions[1],
+        unsettled.len()
+    );
+    unsettled
+}
+
+fn main() -> ExitCode {
+    let mut files = Vec::new();
+    let asked = asked().and_then(|asked| {
+        asked
+            .paths
+            .iter()
+            .try_for_each(|path| read(path, &mut files))?;
+        Ok(asked)
+    });
+    let asked = match asked {
+        Ok(asked) => asked,
+        Err(error) => {
+            eprintln!("against: {error}");
+            return ExitCode::from(2);
+        }
+    };
+    let mut pair = Pair::default();
+    let mut of_characters = Counts::default();
+    let unsettled = characters(&mut pair, &mut of_characters);
+    of_characters.print("characters");
+
+    let all = files.len();
+    files.retain(|(_, text)| !text.chars().any(|c| unsettled.contains(&c)));
+    let mut of_files = Counts::default();
+    for (path, text) in &files {
+        of_files.compare(&mut pair, &path.to_string_lossy(), text);
+    }
+    of_files.print("files");
+    println!("files with such a character: {}", all - files.len());
+
+    let mut of_texts = Counts::default();
+    let mut random = Random::new(asked.seed, &unsettled);
+    for number in 0..asked.texts {
+        let text = random.text(&files);
+        of_texts.compare(&mut pair, &format!("random text {number}"), &text);
+    }
+    of_texts.print("random texts");
+
+    let differences = of_characters.differences + of_files.differences + of_texts.differences;
+    println!("differences: {differences}");
+    ExitCode::from(u8::from(differences != 0))
+}

@@ -1,0 +1,93 @@
+//! Random texts, full of what lexers trip over.
+
+use std::collections::HashSet;
+use std::path::PathBuf;
+
+/// What texts are put together from, beside characters of any kind.
+#[rustfmt::skip]
+const PIECES: &[&str] = &[
+    " ", " ", "\n", "\r\n", "\t", "\u{b}", "\u{85}", "\u{200e}", "\u{2028}", "\u{a0}", "\u{feff}", "\0",
+    "a", "b", "c", "r", "k", "e", "E", "x", "_", "_1", "é", "名", "foo", "self", "br", "cr", "rb", "bc",
+    "0", "1", "9", "0x", "0b", "0o", "0_", "1.", "1..", "1e", "1e+", "2E-_", "3.0", ".5", "0xF_", "0b12", "1u8", "1.f",
+    "'", "'a", "'a'", "'r#", "'\\", "b'", "\"", "\"\"", "b\"", "c\"", "\\", "\\\\", "\\\"", "\\\n",
+    "#", "##", "###", "#\"", "\"#", "\"##", "r\"", "r#", "r#\"", "r##\"", "br\"", "br#\"", "cr#\"", "r#_", "k#a",
+    "/", "//", "///", "//!", "////", "/*", "/**", "/*!", "/***", "*/", "/**/", "*", "!",
+    "---", "----", "\n---", "\n---\n", "---a", "--- a.b-c \n", "-", "#!", "#![", "#!/bin/sh\n",
+    "[", "]", "(", ")", "{", "}", "<", ">", "=", "&", "|", "+", "^", "%", "~", "?", ":", "::", "$", "@", ";", ",", ".",
+    "😀", "👩", "\u{fe0f}", "1😀", "'😀", "€", "№", "\u{301}", "\u{10ffff}",
+];
+
+/// The source of random texts.
+pub struct Random<'a> {
+    state: u64,
+    unsettled: &'a HashSet<char>,
+}
+
+impl<'a> Random<'a> {
+    /// The texts of a seed, with none of the unsettled characters.
+    pub fn new(seed: u64, unsettled: &'a HashSet<char>) -> Random<'a> {
+        Random {
+            state: seed,
+            unsettled,
+        }
+    }
+
+    /// The next number, of Steele, Lea and Flood's generator "SplitMix".
+    fn number(&mut self) -> u64 {
+        self.state = self.state.wrapping_add(0x9e37_79b9_7f4a_7c15);
+        let mut mixed = self.state;
+        mixed = (mixed ^ (mixed >> 30)).wrapping_mul(0xbf58_476d_1ce4_e5b9);
+        mixed = (mixed ^ (mixed >> 27)).wrapping_mul(0x94d0_49bb_1331_11eb);
+        mixed ^ (mixed >> 31)
+    }
+
+    /// A number below a limit, which is not 0.
+    fn below(&mut self, limit: usize) -> usize {
+        (self.number() % limit as u64) as usize
+    }
+
+    /// A piece, or now and then any character that is settled.
+    fn put_piece(&mut self, text: &mut String) {
+        if self.below(16) > 0 {
+            let piece = PIECES[self.below(PIECES.len())];
+            if !piece.chars().any(|c| self.unsettled.contains(&c)) {
+                text.push_str(piece);
+            }
+            return;
+        }
+        let limit = [0x80, 0x800, 0x3000, 0x20000, 0x110000][self.below(5)];
+        match char::from_u32(self.below(limit) as u32) {
+            Some(c) if !self.unsettled.contains(&c) => text.push(c),
+            _ => {}
+        }
+    }
+
+    /// A part of a text, from one character to another, of up to about 300 bytes.
+    fn part<'t>(&mut self, text: &'t str) -> &'t str {
+        let boundary = |mut at: usize| {
+            while !text.is_char_boundary(at) {
+                at -= 1;
+            }
+            at
+        };
+        let start = boundary(self.below(text.len() + 1));
+        let end = (start + self.below(300)).min(text.len());
+        &text[start..boundary(end).max(start)]
+    }
+
+    /// A text: pieces alone, or parts of files with pieces between them.
+    pub fn text(&mut self, files: &[(PathBuf, String)]) -> String {
+        let mut text = String::new();
+        let count = 1 + self.below(12);
+        if files.is_empty() || self.below(2) == 0 {
+            (0..count).for_each(|_| self.put_piece(&mut text));
+            return text;
+        }
+        for _ in 0..1 + count / 4 {
+            let file = &files[self.below(files.len())].1;
+            text.push_str(self.part(file));
+            (0..self.below(3)).for_each(|_| self.put_piece(&mut text));
+        }
+        text
+    }
+}

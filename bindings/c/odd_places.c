@@ -1,0 +1,249 @@
+/* Calls of the library with texts and rooms at odd places: right before a page that may not be read, right behind one,
+ * and in a block of the heap that is as long as they are. Texts end anywhere, also inside a character; rooms have few
+ * tokens, and edits are random. Exits with 1 at the first check that fails, and says which.
+ *
+ *     odd_places ROUNDS FILE..
+ *
+ * Each round takes random parts of the files. */
+#define _DEFAULT_SOURCE
+#include <stdio.h>
+#include <stdlib.h>
+#include <string.h>
+#include <sys/mman.h>
+#include <unistd.h>
+
+#include "rustc_lexer.h"
+
+#define CHECK(so) \
+    do { \
+        if (!(so)) { \
+            printf("odd_places.c:%d: %s\n", __LINE__, #so); \
+            exit(1); \
+        } \
+    } while (0)
+
+/* The longest text, and so the most tokens. */
+#define MOST 400
+
+enum placement { BEFORE_A_PAGE, BEHIND_A_PAGE, HEAP, PLACEMENTS };
+
+/* How many edits were compared. */
+static unsigned long edits;
+
+/* Bytes at a place, and what they are a part of. */
+struct block {
+    void *bytes;
+    void *whole;
+    size_t whole_len; /* 0: of the heap */
+};
+
+static struct block block_of(size_t len, enum placement placement) {
+    struct block block = {NULL, NULL, 0};
+    if (placement == HEAP) {
+        block.bytes = block.whole = malloc(len);
+        CHECK(block.bytes != NULL);
+        return block;
+    }
+    size_t page = (size_t)sysconf(_SC_PAGESIZE), middle = (len / page + 1) * page;
+    block.whole_len = middle + 2 * page;
+    block.whole = mmap(NULL, block.whole_len, PROT_NONE, MAP_PRIVATE | MAP_ANONYMOUS, -1, 0);
+    CHECK(block.whole != MAP_FAILED);
+    unsigned char *start = (unsigned char *)block.whole + page;
+    CHECK(mprotect(start, middle, PROT_READ | PROT_WRITE) == 0);
+    block.bytes = placement == BEFORE_A_PAGE ? start + middle - len : start;
+    return block;
+}
+
+static struct block copy_of(const void *bytes, size_t len, enum placement placement) {
+    struct block block = block_of(len, placement);
+    if (len > 0)
+        memcpy(block.bytes, bytes, len);
+    return block;
+}
+
+static void release(struct block block) {
+    if (block.whole_len == 0)
+        free(block.whole);
+    else
+        CHECK(munmap(block.whole, block.whole_len) == 0);
+}
+
+/* The next number of a linear congruential generator, below a limit that is not 0. */
+static size_t below(size_t limit) {
+    static uint64_t state = 1;
+    state = state * 6364136223846793005u + 1442695040888963407u;
+    return (size_t)(state >> 33) % limit;
+}
+
+struct list {
+    struct rustc_lexer_token tokens[MOST];
+    size_t count;
+};
+
+static bool is_same(const struct list *one, const struct list *other) {
+    for (size_t i = 0; i < one->count && i < other->count; i++)
+        if (one->tokens[i].len != other->tokens[i].len || one->tokens[i].kind != other->tokens[i].kind ||
+            one->tokens[i].suffix_start != other->tokens[i].suffix_start)
+            return false;
+    return one->count == other->count;
+}
+
+/* Adds what stands in the room to the list. */
+static void take(struct list *list, const struct rustc_lexer_token *room, size_t count) {
+    CHECK(list->count + count <= MOST);
+    if (count > 0)
+        memcpy(list->tokens + list->count, room, count * sizeof room[0]);
+    list->count += count;
+}
+
+/* The tokens of a text by rooms of so many. */
+static void lex(const uint8_t *text, size_t len, uint32_t allowed, bool tested, size_t room_len,
+                enum placement placement, struct list *list) {
+    struct rustc_lexer_place at = {0, allowed};
+    struct block room = block_of(room_len * sizeof(struct rustc_lexer_token), placement);
+    struct block place = copy_of(&at, sizeof at, placement);
+    struct block count = block_of(sizeof(size_t), placement);
+    size_t written;
+    list->count = 0;
+    do {
+        uint32_t status = (tested ? rustc_lexer_tokens : rustc_lexer_tokens_unchecked)(
+            text, len, place.bytes, room.bytes, room_len, count.bytes);
+        CHECK(status == RUSTC_LEXER_OK);
+        memcpy(&written, count.bytes, sizeof written);
+        CHECK(written <= room_len);
+        take(list, room.bytes, written);
+    } while (written == room_len && written > 0);
+    memcpy(&at, place.bytes, sizeof at);
+    CHECK(room_len == 0 ? at.at == 0 : at.at == len);
+    release(room);
+    release(place);
+    release(count);
+}
+
+/* The tokens of a text after an edit, by rooms of so many, from those before it, which become the new ones. */
+static void relex(const uint8_t *text, size_t len, struct rustc_lexer_edit made, size_t room_len,
+                  enum placement placement, struct list *list) {
+    struct list lexed = {.count = 0}, before = *list;
+    struct rustc_lexer_relexing from = {.stage = 0};
+    struct block old = copy_of(before.tokens, before.count * sizeof before.tokens[0], placement);
+    struct block room = block_of(room_len * sizeof(struct rustc_lexer_token), placement);
+    struct block edit = copy_of(&made, sizeof made, placement), count = block_of(sizeof(size_t), placement);
+    struct block relexing = copy_of(&from, sizeof from, placement);
+    size_t written;
+    do {
+        CHECK(rustc_lexer_relex(text, len, old.bytes, before.count, edit.bytes, 2024, relexing.bytes, room.bytes,
+                                room_len, count.bytes) == RUSTC_LEXER_OK);
+        memcpy(&written, count.bytes, sizeof written);
+        memcpy(&from, relexing.bytes, sizeof from);
+        take(&lexed, room.bytes, written);
+    } while (from.stage == 1);
+    CHECK(from.kept_front + from.kept_back <= before.count);
+    list->count = 0;
+    take(list, before.tokens, from.kept_front);
+    take(list, lexed.tokens, lexed.count);
+    take(list, before.tokens + before.count - from.kept_back, from.kept_back);
+    release(old);
+    release(room);
+    release(edit);
+    release(count);
+    release(relexing);
+}
+
+/* The calls that take any bytes, on bytes at a place: they answer, and write no more than their answer. */
+static uint32_t call_all(const uint8_t *text, size_t len, enum placement placement) {
+    uint32_t status = rustc_lexer_check(text, len);
+    struct block end = block_of(sizeof(size_t), placement), is = block_of(sizeof(uint32_t), placement);
+    struct block error = block_of(sizeof(struct rustc_lexer_raw_str_error), placement);
+    struct block string = block_of(sizeof(struct rustc_lexer_guarded_str), placement);
+    size_t answer;
+    CHECK(rustc_lexer_strip_shebang(text, len, end.bytes) == status);
+    memcpy(&answer, end.bytes, sizeof answer);
+    CHECK(answer <= len);
+    CHECK(rustc_lexer_settled(text, len, end.bytes) == status);
+    memcpy(&answer, end.bytes, sizeof answer);
+    CHECK(answer <= len);
+    CHECK(rustc_lexer_is_ident(text, len, is.bytes) == status);
+    CHECK(rustc_lexer_guarded_str(text, len, string.bytes) == status);
+    for (uint32_t prefix_len = 0; prefix_len < 4; prefix_len++) {
+        uint32_t raw = rustc_lexer_validate_raw_str(text, len, prefix_len, error.bytes);
+        CHECK(raw == status || (status == RUSTC_LEXER_OK && raw == RUSTC_LEXER_NOT_RAW));
+    }
+    release(end);
+    release(is);
+    release(error);
+    release(string);
+    return status;
+}
+
+/* All calls on a text. */
+static void check_text(const uint8_t *bytes, size_t len) {
+    static const size_t rooms[] = {1, 2, 3, 5, 8, 31, MOST};
+    static struct list whole, batches;
+    for (int placement = 0; placement < PLACEMENTS; placement++) {
+        struct block text = copy_of(bytes, len, placement);
+        if (call_all(text.bytes, len, placement) == RUSTC_LEXER_OK) {
+            for (uint32_t allowed = 0; allowed < 2; allowed++) {
+                lex(text.bytes, len, allowed, true, MOST, placement, &whole);
+                lex(text.bytes, len, allowed, false, 0, placement, &batches);
+                for (size_t i = 0; i < sizeof rooms / sizeof rooms[0]; i++) {
+                    lex(text.bytes, len, allowed, i % 2 == 0, rooms[i], placement, &batches);
+                    CHECK(is_same(&whole, &batches));
+                }
+            }
+        }
+        release(text);
+    }
+}
+
+/* The last place at or before `at` that is between characters. */
+static size_t boundary(const uint8_t *bytes, size_t len, size_t at) {
+    while (at < len && at > 0 && (bytes[at] & 0xC0) == 0x80)
+        at--;
+    return at;
+}
+
+/* A random edit: where it makes a text of a text, the tokens by relexing are those from scratch. */
+static void check_edit(const uint8_t *bytes, size_t len, const uint8_t *insert, size_t insert_len) {
+    static struct list list, whole;
+    uint8_t after[2 * MOST];
+    size_t start = boundary(bytes, len, below(len + 1));
+    size_t stop = boundary(bytes, len, start + below(len - start + 1));
+    struct rustc_lexer_edit edit = {(uint32_t)start, (uint32_t)stop, (uint32_t)(start + insert_len)};
+    size_t after_len = len - (stop - start) + insert_len;
+    memcpy(after, bytes, start);
+    memcpy(after + start, insert, insert_len);
+    memcpy(after + edit.new_stop, bytes + stop, len - stop);
+    if (rustc_lexer_check(bytes, len) != RUSTC_LEXER_OK || rustc_lexer_check(after, after_len) != RUSTC_LEXER_OK)
+        return;
+    for (int placement = 0; placement < PLACEMENTS; placement++) {
+        struct block text = copy_of(after, after_len, placement);
+        lex(bytes, len, 0, true, MOST, HEAP, &list);
+        lex(text.bytes, after_len, 0, true, MOST, HEAP, &whole);
+        relex(text.bytes, after_len, edit, 1 + below(9), placement, &list);
+        CHECK(is_same(&whole, &list));
+        release(text);
+    }
+    edits++;
+}
+
+int main(int count, char **words) {
+    static uint8_t file[1 << 20];
+    CHECK(count > 2);
+    for (int word = 2; word < count; word++) {
+        FILE *stream = fopen(words[word], "rb");
+        CHECK(stream != NULL);
+        size_t len = fread(file, 1, sizeof file, stream);
+        CHECK(fclose(stream) == 0);
+        for (long round = 0; round < atol(words[1]); round++) {
+            size_t from = below(len + 1), part = below(MOST / 2);
+            part = part < len - from ? part : len - from;
+            check_text(file + from, part);
+            size_t other = below(len + 1), insert = below(9);
+            check_edit(file + from, part, file + other, insert < len - other ? insert : len - other);
+        }
+    }
+    check_text(file, 0);
+    CHECK(edits > 0);
+    printf("odd_places: all calls answer as they should, %lu edits among them\n", edits);
+    return 0;
+}

@@ -1,0 +1,8 @@
+-- Means, by how it is read: what the pieces of a text keep.
+use Rattle.std.specs.Prelude.{ℕ, ◌+◌, ◌≤◌, List, length, IsCharBoundary}
+use Rattle.rustc_lexer.specs.declared.token.Token.{Token}
+use Rattle.rustc_lexer.specs.Cuts.{bound}
+
+-- each bound of the tokens, the first of which begins at `start`, is inside the text, between characters
+abbrev pub AreBoundariesFrom : List ℕ → ℕ → List Token → Type 0
+AreBoundariesFrom text start tokens = (k : ℕ) → k ≤ length tokens → IsCharBoundary text (start + bound tokens k)

@@ -1,0 +1,27 @@
+-- Means, by how it is read: the parts of relexing.
+use Rattle.std.specs.Prelude.{ℕ, ◌≡◌, ◌++◌, true, List, length, take, drop}
+use Rattle.std.specs.Str.{IsUtf8}
+use Rattle.rustc_lexer.specs.declared.relex.front.Damage.{Damage}
+use Rattle.rustc_lexer.specs.declared.relex.relexing.Change.{Change}
+use Rattle.rustc_lexer.specs.declared.relex.relexing.Relexing.{Relexing}
+use Rattle.rustc_lexer.specs.declared.token.Token.{Token}
+use Rattle.rustc_lexer.specs.Cuts.{AreBoundaries, tokens_by}
+use Rattle.rustc_lexer.specs.Relexing.{HasLengths, Stands, added_by, known, removed_by}
+
+-- the old text, which may be cut at the bounds of the tokens, and the new one are the same up to `start`
+pub record IsFront (old : List ℕ) (tokens : List Token) (lengths text : List ℕ) (start : ℕ) : Type 0 where
+  pub utf8 : IsUtf8 old
+  pub cuts : AreBoundaries old tokens
+  pub lengths_are : HasLengths tokens lengths
+  pub same : take start text ≡ take start old
+
+-- what a change did to a text
+abbrev pub damage_of : Change → Damage
+damage_of change = record { past = change.new_stop; added = added_by change; removed = removed_by change }
+
+-- relexing has met the old tokens, and these are the tokens that were lexed for it
+pub record IsLexed (first : List ℕ → Token) (old : List ℕ) (change : Change) (text : List ℕ) (tokens : List Token) (at : Relexing) : Type 0 where
+  pub stands : Stands first old change text at
+  pub met : at.met ≡ true
+  pub lexed : at.lexed ≡ length tokens
+  pub tokens_are : drop at.front.number (tokens_by first text) ≡ tokens ++ drop (known at) (tokens_by first text)
