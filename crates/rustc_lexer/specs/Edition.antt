@@ -1,4 +1,4 @@
--- The tokens of a text in an edition.
+-- The tokens of a text in an edition, and the edition that a word names.
 use Rattle.std.specs.Prelude.{ℕ, ◌≡◌, ◌<◌, ◌≤◌, codes, if◌then◌else◌, List, [], ◌∷◌, length, drop}
 use Rattle.std.specs.Prelude.{IsCharBoundary, Option, Some, None}
 use Rattle.std.specs.Str.{bytes_eq}
