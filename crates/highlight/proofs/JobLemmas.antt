@@ -6,7 +6,8 @@ use Rattle.std.specs.Str.{bytes_eq}
 use Rattle.rustc_lexer.specs.declared.edition.Edition.{Edition}
 use Rattle.highlight.specs.declared.job.Options.{Options}
 use Rattle.highlight.specs.declared.job.When.{When}
-use Rattle.highlight.specs.Job.{edition_of, in_edition, options_of, page, when_of, with_colours}
+use Rattle.rustc_lexer.specs.Edition.{edition_of}
+use Rattle.highlight.specs.Job.{in_edition, options_of, page, when_of, with_colours}
 
 abbrev Word : Type 0
 Word = String Global

@@ -3,7 +3,7 @@ use Rattle.std.specs.Prelude.{ℕ, Bool, true, false, if◌then◌else◌, List,
 use Rattle.std.specs.Option.{option_and_then, option_map}
 use Rattle.std.specs.Str.{bytes_eq}
 use Rattle.rustc_lexer.specs.declared.edition.Edition.{Edition}
-use Rattle.rustc_lexer.specs.declared.edition.Edition.TheVariants.{E2015, E2018, E2021, E2024}
+use Rattle.rustc_lexer.specs.Edition.{edition_of}
 use Rattle.highlight.specs.declared.job.Job.{Job}
 use Rattle.highlight.specs.declared.job.Job.TheVariants.{Show, Help}
 use Rattle.highlight.specs.declared.job.Options.{Options}
@@ -11,15 +11,6 @@ use Rattle.highlight.specs.declared.job.When.{When}
 use Rattle.highlight.specs.declared.job.When.TheVariants.{Auto, Always, Never}
 use Rattle.highlight.specs.declared.style.Style.{Style}
 use Rattle.highlight.specs.declared.style.Style.TheVariants.{Html, Colours, NoColours}
-
--- the edition that a year names
-abbrev pub edition_of : List ℕ → Option Edition
-edition_of year =
-    if bytes_eq year (codes "2015") then Some E2015
-    else (if bytes_eq year (codes "2018") then Some E2018
-    else (if bytes_eq year (codes "2021") then Some E2021
-    else (if bytes_eq year (codes "2024") then Some E2024
-    else None)))
 
 -- when colours are written
 abbrev pub when_of : List ℕ → Option When

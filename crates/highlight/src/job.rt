@@ -1,9 +1,10 @@
 //! What a run is to do.
 ghost use Rattle.std.specs.Prelude.{◌≡◌, map, string_bytes};
-ghost use Rattle.highlight.specs.Job.{edition_of, in_edition, is_help, job_of, options_of, page, style_of, when_of, with_colours};
+ghost use Rattle.highlight.specs.Job.{in_edition, is_help, job_of, options_of, page, style_of, when_of, with_colours};
 
 use crate::style::Style;
 use rustc_lexer::Edition;
+use std::str::FromStr;
 
 /// What a run is to do.
 #[derive(Clone, Copy, Debug, PartialEq, Eq)]
@@ -75,7 +76,7 @@ fn read_options(options: Options, words: &[String]) -> Option<Options>
         [] => Some(options),
         [word, after @ ..] if word.as_str() == "--html" => read_options(page(options)?, after),
         [word, year, after @ ..] if word.as_str() == "--edition" => {
-            let edition = read_edition(year.as_str())?;
+            let edition = Edition::from_str(year.as_str()).ok()?;
             read_options(in_edition(options, edition)?, after)
         }
         [word, when, after @ ..] if word.as_str() == "--color" => {
@@ -141,19 +142,6 @@ fn style_of(options: Options, colours: bool) -> Style
         Style::Colours
     } else {
         Style::NoColours
-    }
-}
-
-/// The edition that a year names.
-fn read_edition(year: &str) -> Option<Edition>
-    ensures { result ≡ edition_of year.now }
-{
-    match year {
-        "2015" => Some(Edition::E2015),
-        "2018" => Some(Edition::E2018),
-        "2021" => Some(Edition::E2021),
-        "2024" => Some(Edition::E2024),
-        _ => None,
     }
 }
 

@@ -3,8 +3,9 @@ use Rattle.std.specs.Prelude.{ℕ, ◌≡◌, ◌+◌, ◌*◌, ◌-◌, ◌&&�
 use Rattle.std.specs.Option.{option_map, option_zip}
 use Rattle.std.specs.Str.{all_ascii_digits, bytes_eq}
 use Rattle.rustc_lexer.specs.declared.edition.Edition.{Edition}
-use Rattle.rustc_lexer.specs.declared.edition.Edition.TheVariants.{E2015, E2018, E2021, E2024}
+use Rattle.rustc_lexer.specs.declared.edition.Edition.TheVariants.{E2024}
 use Rattle.rustc_lexer.specs.declared.relex.edit_list.Edit.{Edit as TextEdit}
+use Rattle.rustc_lexer.specs.Edition.{edition_of}
 use Rattle.lexdump.specs.declared.fault.Fault.{Fault}
 use Rattle.lexdump.specs.declared.fault.Fault.TheVariants.{Arguments, Memory}
 use Rattle.lexdump.specs.declared.job.Job.{Job}
@@ -53,15 +54,6 @@ first_replacement [] = None
 first_replacement (start ∷ []) = None
 first_replacement (start ∷ stop ∷ []) = None
 first_replacement (start ∷ stop ∷ insert ∷ words) = option_map (λ edit. (edit, words)) (replacement_of start stop insert)
-
--- the edition that a year names
-abbrev pub edition_of : List ℕ → Option Edition
-edition_of year =
-    if bytes_eq year (codes "2015") then Some E2015
-    else (if bytes_eq year (codes "2018") then Some E2018
-    else (if bytes_eq year (codes "2021") then Some E2021
-    else (if bytes_eq year (codes "2024") then Some E2024
-    else None)))
 
 -- what the words after `edit` ask for: one edit or more
 abbrev pub edit_job : Edition → List (List ℕ) → Option Command

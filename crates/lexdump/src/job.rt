@@ -1,11 +1,12 @@
 //! What a run is to do.
 ghost use Rattle.std.specs.Prelude.{◌≡◌, ◌<◌, ◌↔◌, IfErr, IfOk, IsSome, IsTrue, Some, length, map, string_bytes};
 ghost use Rattle.std.specs.Option.{option_map};
-ghost use Rattle.lexdump.specs.Job.{command_of, edit_job, edition_of, first_replacement, job_in, job_of, place_of, replacement, replacements_of, IsJobFault};
+ghost use Rattle.lexdump.specs.Job.{command_of, edit_job, first_replacement, job_in, job_of, place_of, replacement, replacements_of, IsJobFault};
 
 use crate::fault::Fault;
 use rustc_lexer::{Edit, Edition};
 use std::alloc::{AllocError, Global};
+use std::str::FromStr;
 
 /// What a run is to do with its input.
 #[derive(Drop)]
@@ -35,7 +36,7 @@ pub fn read_job<'a>(alloc: Global, words: &'a [String]) -> Result<Job<'a>, Fault
         [command] if command.as_str() == "front" => Ok(Job::Front),
         [command] if command.as_str() == "shebang" => Ok(Job::Shebang),
         [option, year, rest @ ..] if option.as_str() == "--edition" => {
-            let Some(edition) = read_edition(year.as_str()) else {
+            let Ok(edition) = Edition::from_str(year.as_str()) else {
                 return Err(Fault::Arguments);
             };
             read_job_in(alloc, rest, edition)
@@ -74,19 +75,6 @@ fn read_edit_job<'a>(alloc: Global, words: &'a [String], edition: Edition) -> Re
         edition,
         edits: read_edits(alloc, words)?,
     })
-}
-
-/// The edition that a year names.
-fn read_edition(year: &str) -> Option<Edition>
-    ensures { result ≡ edition_of year.now }
-{
-    match year {
-        "2015" => Some(Edition::E2015),
-        "2018" => Some(Edition::E2018),
-        "2021" => Some(Edition::E2021),
-        "2024" => Some(Edition::E2024),
-        _ => None,
-    }
 }
 
 /// Whether the words are one edit or more, three words each.

@@ -7,7 +7,7 @@ use Rattle.rustc_lexer.specs.declared.token.GuardedStr.{GuardedStr}
 use Rattle.rustc_lexer.specs.means.Guarded.{closing_len, guarded_body, string_past, guarded_by, guarded}
 use Rattle.rustc_lexer.specs.means.Literal.{suffix_len}
 use Rattle.rustc_lexer.specs.means.Quoted.{double_quoted_string}
-use Rattle.rustc_lexer.specs.means.Raw.{hashes, is_quote}
+use Rattle.rustc_lexer.specs.means.Raw.{hash_run, is_quote}
 use Rattle.rustc_lexer.specs.means.Scan.{begins, bytes_of, next_is, past, scanned}
 use Rattle.rustc_lexer.specs.State.{State}
 use Rattle.rustc_lexer.proofs.PastLemmas.{past-past, past-drop, chars-past, IsUtf8-past, length-past}
@@ -15,7 +15,7 @@ use Rattle.rustc_lexer.proofs.RawLemmas.{hash_bytes}
 use Rattle.rustc_lexer.proofs.StateLemmas.{state}
 
 -- some of the hashes at the front
-module _ (rest : List ℕ) (is : IsUtf8 rest) (n : ℕ) (few : n ≤ hashes (chars rest)) where
+module _ (rest : List ℕ) (is : IsUtf8 rest) (n : ℕ) (few : n ≤ hash_run (chars rest)) where
   hash_bytes_are : bytes_of n (chars rest) ≡ n
   hash_bytes_are = hash_bytes n (chars rest) few
 
@@ -27,7 +27,7 @@ module _ (rest : List ℕ) (is : IsUtf8 rest) (n : ℕ) (few : n ≤ hashes (cha
 
 -- a string that is closed, with the hashes and the suffix after its quote
 module _ (body left mid end : List ℕ) (n : ℕ) (closed : Bool) (is : IsUtf8 body) (read : (closed, left) ≡ scanned double_quoted_string body)
-    (cut : mid ≡ past (min n (hashes (chars left))) left) (suffix : end ≡ past (suffix_len (chars mid)) mid) where
+    (cut : mid ≡ past (min n (hash_run (chars left))) left) (suffix : end ≡ past (suffix_len (chars mid)) mid) where
   abbrev q : ℕ
   q = (double_quoted_string (chars body)).1
 
@@ -35,7 +35,7 @@ module _ (body left mid end : List ℕ) (n : ℕ) (closed : Bool) (is : IsUtf8 b
   ahead = drop q (chars body)
 
   abbrev m : ℕ
-  m = min n (hashes ahead)
+  m = min n (hash_run ahead)
 
   left_is : left ≡ past q body
   left_is = ap (λ (r : Bool × List ℕ). r.1) read
@@ -44,7 +44,7 @@ module _ (body left mid end : List ℕ) (n : ℕ) (closed : Bool) (is : IsUtf8 b
   left_chars = ap chars left_is ∙ chars-past q body is
 
   mid_is : mid ≡ past (q + m) body
-  mid_is = cut ∙ (ap (λ (s : List ℕ). past (min n (hashes s)) left) left_chars ∙ (ap (past m) left_is ∙ past-past m q body is))
+  mid_is = cut ∙ (ap (λ (s : List ℕ). past (min n (hash_run s)) left) left_chars ∙ (ap (past m) left_is ∙ past-past m q body is))
 
   mid_chars : chars mid ≡ drop m ahead
   mid_chars = ap chars mid_is ∙ (chars-past (q + m) body is ∙ sym (drop-drop m q (chars body)))
@@ -69,7 +69,7 @@ begins-quote (c ∷ s) = by_test (c == 34)
     by_test false = refl
 
 -- what follows the n hashes at the front
-module _ (rest front : List ℕ) (n : ℕ) (is : IsUtf8 rest) (count : n ≡ hashes (chars rest)) (cut : front ≡ drop n rest) where
+module _ (rest front : List ℕ) (n : ℕ) (is : IsUtf8 rest) (count : n ≡ hash_run (chars rest)) (cut : front ≡ drop n rest) where
   front_is : front ≡ past n rest
   front_is = cut ∙ hash_cut rest is n (omega arith)
 
@@ -120,7 +120,7 @@ module _ (rest front : List ℕ) (n : ℕ) (is : IsUtf8 rest) (count : n ≡ has
 
 -- a cursor at `index` of a text, whose next token begins at `start`, with n hashes next
 module _ (text : List ℕ) (index start : ℕ) (allowed : FrontmatterAllowed) (s : State) (rest : List ℕ) (view : state (index - start) (drop index text) allowed ≡ s) (place : rest ≡ s.rest) (before : start ≤ index)
-    (n : ℕ) (count : n ≡ hashes (chars rest)) where
+    (n : ℕ) (count : n ≡ hash_run (chars rest)) where
   here : rest ≡ drop index text
   here = place ∙ sym (ap (λ (x : State). x.rest) view)
 

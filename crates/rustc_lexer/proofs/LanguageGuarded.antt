@@ -8,14 +8,16 @@ use Rattle.rustc_lexer.specs.declared.token.GuardedStr.{GuardedStr}
 use Rattle.rustc_lexer.specs.Classes.{is_among}
 use Rattle.rustc_lexer.specs.means.Guarded as spec
 use Rattle.rustc_lexer.specs.means.Guarded.{closing_len, guarded_body, string_past, guarded_by}
-use Rattle.rustc_lexer.specs.Language.{guard, IsDoubleQuoted, IsSuffixBefore}
+use Rattle.rustc_lexer.specs.LiteralGrammar.{hashes, IsDoubleQuoted, IsSuffixBefore}
 use Rattle.rustc_lexer.specs.LanguageCalls as the
-use Rattle.rustc_lexer.specs.LanguageCalls.{IsGuardedBefore, TakesGuarded, TakesTheGuarded}
+use Rattle.rustc_lexer.specs.LanguageCalls.{IsGuardedBefore}
+use Rattle.rustc_lexer.specs.LanguageHolds as holds
+use Rattle.rustc_lexer.specs.LanguageHolds.{TakesGuarded, TakesTheGuarded}
 use Rattle.rustc_lexer.specs.means.Literal.{suffix_len}
 use Rattle.rustc_lexer.specs.means.Quoted.{double_quoted_string}
-use Rattle.rustc_lexer.specs.means.Raw.{is_hash, is_quote, hashes}
+use Rattle.rustc_lexer.specs.means.Raw.{is_hash, is_quote, hash_run}
 use Rattle.rustc_lexer.specs.means.Scan.{bytes_of, next_is}
-use Rattle.rustc_lexer.specs.Spans.{Stops, bytes}
+use Rattle.rustc_lexer.specs.Spans.{NextIsNot, bytes}
 use Rattle.rustc_lexer.specs.State.{State}
 use Rattle.rustc_lexer.specs.laws.LanguageLiterals.{suffix-sound, suffix-read}
 use Rattle.rustc_lexer.specs.laws.LanguageQuoted.{double-read, double-sound}
@@ -32,7 +34,7 @@ same-class (c ∷ s) = by_bool (c == 35)
     by_bool true = refl
     by_bool false = refl
 
-no-hash : (s : List ℕ) → Stops (is_among (codes "\"#")) s → Stops is_hash s
+no-hash : (s : List ℕ) → NextIsNot (is_among (codes "\"#")) s → NextIsNot is_hash s
 no-hash [] e = refl
 no-hash (c ∷ s) e = by_bools (c == 34) (c == 35) e
   where
@@ -41,7 +43,7 @@ no-hash (c ∷ s) e = by_bools (c == 34) (c == 35) e
     by_bools false true e = absurd (true≢false e)
     by_bools false false e = refl
 
-no-quote : (s : List ℕ) → Stops (is_among (codes "\"#")) s → next_is is_quote s ≡ false
+no-quote : (s : List ℕ) → NextIsNot (is_among (codes "\"#")) s → next_is is_quote s ≡ false
 no-quote [] e = refl
 no-quote (c ∷ s) e = by_bool (c == 34) e
   where
@@ -49,20 +51,20 @@ no-quote (c ∷ s) e = by_bool (c == 34) e
     by_bool true e = absurd (true≢false e)
     by_bool false e = refl
 
-past-guard : (n : ℕ) (s : List ℕ) → drop n (guard n ++ s) ≡ s
-past-guard n s = ap (λ (m : ℕ). drop m (guard n ++ s)) (sym (guard-length n)) ∙ drop-append_seam (guard n) s
+past-guard : (n : ℕ) (s : List ℕ) → drop n (hashes n ++ s) ≡ s
+past-guard n s = ap (λ (m : ℕ). drop m (hashes n ++ s)) (sym (guard-length n)) ∙ drop-append_seam (hashes n) s
 
-past-one : (n c : ℕ) (s : List ℕ) → drop (suc n) (guard n ++ c ∷ s) ≡ s
+past-one : (n c : ℕ) (s : List ℕ) → drop (suc n) (hashes n ++ c ∷ s) ≡ s
 past-one zero c s = refl
 past-one (suc n) c s = past-one n c s
 
 -- ---- what is there is taken
 
 -- a string past its hashes and its quote
-string-past : (n : ℕ) (y : List ℕ) (t : Bool) (m : ℕ) → guarded_body n y ≡ (t, m) → string_past n (guard n ++ 34 ∷ y) ≡ Some (t, bytes_of (suc n + m) (guard n ++ 34 ∷ y))
+string-past : (n : ℕ) (y : List ℕ) (t : Bool) (m : ℕ) → guarded_body n y ≡ (t, m) → string_past n (hashes n ++ 34 ∷ y) ≡ Some (t, bytes_of (suc n + m) (hashes n ++ 34 ∷ y))
 string-past n y t m e =
-    ap (λ (a : Bool). let b : Bool × ℕ = guarded_body n (drop (suc n) (guard n ++ 34 ∷ y)) in let r : Option (Bool × ℕ) = if a then Some (b.0, bytes_of (suc n + b.1) (guard n ++ 34 ∷ y)) else None in r) (ap (next_is is_quote) (past-guard n (34 ∷ y)))
-    ∙ ap (λ (b : Bool × ℕ). let r : Option (Bool × ℕ) = Some (b.0, bytes_of (suc n + b.1) (guard n ++ 34 ∷ y)) in r) (ap (guarded_body n) (past-one n 34 y) ∙ e)
+    ap (λ (a : Bool). let b : Bool × ℕ = guarded_body n (drop (suc n) (hashes n ++ 34 ∷ y)) in let r : Option (Bool × ℕ) = if a then Some (b.0, bytes_of (suc n + b.1) (hashes n ++ 34 ∷ y)) else None in r) (ap (next_is is_quote) (past-guard n (34 ∷ y)))
+    ∙ ap (λ (b : Bool × ℕ). let r : Option (Bool × ℕ) = Some (b.0, bytes_of (suc n + b.1) (hashes n ++ 34 ∷ y)) in r) (ap (guarded_body n) (past-one n 34 y) ∙ e)
 
 body-closed : (n : ℕ) (w z : List ℕ) → double_quoted_string (w ++ z) ≡ (true, length w) → guarded_body n (w ++ z) ≡ (true, length w + closing_len n z)
 body-closed n w z e =
@@ -73,52 +75,52 @@ body-open : (n : ℕ) (w z : List ℕ) → double_quoted_string (w ++ z) ≡ (fa
 body-open n w z e = ap (λ (r : Bool × ℕ). let q : Bool × ℕ = (r.0, r.1 + (if r.0 then closing_len n (drop r.1 (w ++ z)) else 0)) in q) e
 
 -- so many of the hashes
-hashes-taken : (n k : ℕ) (s : List ℕ) → k ≤ n → (k < n → Stops (is_among (codes "#")) s) → min n (hashes (guard k ++ s)) ≡ k
+hashes-taken : (n k : ℕ) (s : List ℕ) → k ≤ n → (k < n → NextIsNot (is_among (codes "#")) s) → min n (hash_run (hashes k ++ s)) ≡ k
 hashes-taken n k s le stop = elim (cases_lt k n) [
   | inl lt ↦ ap (min n) (guard-hashes k s (sym (same-class s) ∙ stop lt)) ∙ min-eq_right le
-  | inr ge ↦ let same : n ≡ k = omega arith in ap (λ (m : ℕ). min m (hashes (guard k ++ s))) same ∙ min-eq_left (at_least k s)
+  | inr ge ↦ let same : n ≡ k = omega arith in ap (λ (m : ℕ). min m (hash_run (hashes k ++ s))) same ∙ min-eq_left (at_least k s)
 ]
 
-closing-read : {n k : ℕ} {suffix next : List ℕ} → k ≤ n → (k < n → Stops (is_among (codes "#")) (suffix ++ next)) → IsSuffixBefore next suffix → closing_len n (guard k ++ (suffix ++ next)) ≡ k + length suffix
+closing-read : {n k : ℕ} {suffix next : List ℕ} → k ≤ n → (k < n → NextIsNot (is_among (codes "#")) (suffix ++ next)) → IsSuffixBefore next suffix → closing_len n (hashes k ++ (suffix ++ next)) ≡ k + length suffix
 closing-read {n} {k} {suffix} {next} le stop is =
-    ap (λ (m : ℕ). m + suffix_len (drop m (guard k ++ (suffix ++ next)))) (hashes-taken n k (suffix ++ next) le stop)
+    ap (λ (m : ℕ). m + suffix_len (drop m (hashes k ++ (suffix ++ next)))) (hashes-taken n k (suffix ++ next) le stop)
     ∙ (ap (λ (s : List ℕ). k + suffix_len s) (past-guard k (suffix ++ next)) ∙ ap (λ (m : ℕ). k + m) (suffix-read is))
 
 record GuardedRead (n : ℕ) (t : Bool) (w next : List ℕ) : Type 0 where
-  count : hashes (w ++ next) ≡ n
+  count : hash_run (w ++ next) ≡ n
   read : string_past n (w ++ next) ≡ Some (t, bytes w)
 
 -- a text past its hashes, a quote and so much more
-read-parts : (n : ℕ) (t : Bool) (v next : List ℕ) (m : ℕ) → guarded_body n (v ++ next) ≡ (t, m) → m ≡ length v → GuardedRead n t (guard n ++ 34 ∷ v) next
+read-parts : (n : ℕ) (t : Bool) (v next : List ℕ) (m : ℕ) → guarded_body n (v ++ next) ≡ (t, m) → m ≡ length v → GuardedRead n t (hashes n ++ 34 ∷ v) next
 read-parts n t v next m e f =
-    let text : (guard n ++ 34 ∷ v) ++ next ≡ guard n ++ 34 ∷ (v ++ next) = append_assoc (guard n) (34 ∷ v) next in
-    let size : suc n + m ≡ length (guard n ++ 34 ∷ v) = omega (arith, length-append (guard n) (34 ∷ v), guard-length n, f) in
-    let taken : bytes_of (suc n + m) (guard n ++ 34 ∷ (v ++ next)) ≡ bytes (guard n ++ 34 ∷ v) =
-    ap (bytes_of (suc n + m)) (sym text) ∙ (ap (λ (k : ℕ). bytes_of k ((guard n ++ 34 ∷ v) ++ next)) size ∙ ap bytes (take-append_seam (guard n ++ 34 ∷ v) next)) in
+    let text : (hashes n ++ 34 ∷ v) ++ next ≡ hashes n ++ 34 ∷ (v ++ next) = append_assoc (hashes n) (34 ∷ v) next in
+    let size : suc n + m ≡ length (hashes n ++ 34 ∷ v) = omega (arith, length-append (hashes n) (34 ∷ v), guard-length n, f) in
+    let taken : bytes_of (suc n + m) (hashes n ++ 34 ∷ (v ++ next)) ≡ bytes (hashes n ++ 34 ∷ v) =
+    ap (bytes_of (suc n + m)) (sym text) ∙ (ap (λ (k : ℕ). bytes_of k ((hashes n ++ 34 ∷ v) ++ next)) size ∙ ap bytes (take-append_seam (hashes n ++ 34 ∷ v) next)) in
     record {
-      count = ap hashes text ∙ guard-hashes n (34 ∷ (v ++ next)) refl;
+      count = ap hash_run text ∙ guard-hashes n (34 ∷ (v ++ next)) refl;
       read = ap (string_past n) text ∙ (string-past n (v ++ next) t m e ∙ ap (λ (k : ℕ). let r : Option (Bool × ℕ) = Some (t, k) in r) taken);
     }
 
 guarded-read : {next : List ℕ} {n : ℕ} {t : Bool} {w : List ℕ} → IsGuardedBefore next n t w → GuardedRead n t w next
 guarded-read {next} (the.closed n k {w} {suffix} q le stop is) =
-    let text : (w ++ (guard k ++ suffix)) ++ next ≡ w ++ (guard k ++ (suffix ++ next)) = append_assoc w (guard k ++ suffix) next ∙ ap (λ (x : List ℕ). w ++ x) (append_assoc (guard k) suffix next) in
-    read-parts n true (w ++ (guard k ++ suffix)) next (length w + closing_len n (guard k ++ (suffix ++ next))) (ap (guarded_body n) text ∙ body-closed n w (guard k ++ (suffix ++ next)) (double-read q))
-    (omega (arith, closing-read le stop is, length-append w (guard k ++ suffix), length-append (guard k) suffix, guard-length k))
+    let text : (w ++ (hashes k ++ suffix)) ++ next ≡ w ++ (hashes k ++ (suffix ++ next)) = append_assoc w (hashes k ++ suffix) next ∙ ap (λ (x : List ℕ). w ++ x) (append_assoc (hashes k) suffix next) in
+    read-parts n true (w ++ (hashes k ++ suffix)) next (length w + closing_len n (hashes k ++ (suffix ++ next))) (ap (guarded_body n) text ∙ body-closed n w (hashes k ++ (suffix ++ next)) (double-read q))
+    (omega (arith, closing-read le stop is, length-append w (hashes k ++ suffix), length-append (hashes k) suffix, guard-length k))
 guarded-read {next} (the.unclosed n {w} q) = read-parts n false w next (length w + 0) (body-open n w next (double-read q)) (omega arith)
 
 takes-read : {s : State} {r : Option GuardedStr × State} → TakesGuarded s r → r ≡ spec.guarded s
 unfolding spec.guarded
-takes-read {s} (the.string {n} {terminated} {w} {next} e is) =
+takes-read {s} (holds.string {n} {terminated} {w} {next} e is) =
     let r = guarded-read is in
-    sym (ap (λ (cs : List ℕ). guarded_by (hashes cs) (string_past (hashes cs) cs) s) e
+    sym (ap (λ (cs : List ℕ). guarded_by (hash_run cs) (string_past (hash_run cs) cs) s) e
     ∙ (ap (λ (k : ℕ). guarded_by k (string_past k (w ++ next)) s) r.count ∙ ap (λ (o : Option (Bool × ℕ)). guarded_by n o s) r.read))
-takes-read {s} (the.none n next e stop) =
-    let count : hashes (guard n ++ next) ≡ n = guard-hashes n next (no-hash next stop) in
-    let read : string_past n (guard n ++ next) ≡ None =
-    ap (λ (a : Bool). let b : Bool × ℕ = guarded_body n (drop (suc n) (guard n ++ next)) in let r : Option (Bool × ℕ) = if a then Some (b.0, bytes_of (suc n + b.1) (guard n ++ next)) else None in r) (ap (next_is is_quote) (past-guard n next) ∙ no-quote next stop) in
-    sym (ap (λ (cs : List ℕ). guarded_by (hashes cs) (string_past (hashes cs) cs) s) e
-    ∙ (ap (λ (k : ℕ). guarded_by k (string_past k (guard n ++ next)) s) count ∙ ap (λ (o : Option (Bool × ℕ)). guarded_by n o s) read))
+takes-read {s} (holds.none n next e stop) =
+    let count : hash_run (hashes n ++ next) ≡ n = guard-hashes n next (no-hash next stop) in
+    let read : string_past n (hashes n ++ next) ≡ None =
+    ap (λ (a : Bool). let b : Bool × ℕ = guarded_body n (drop (suc n) (hashes n ++ next)) in let r : Option (Bool × ℕ) = if a then Some (b.0, bytes_of (suc n + b.1) (hashes n ++ next)) else None in r) (ap (next_is is_quote) (past-guard n next) ∙ no-quote next stop) in
+    sym (ap (λ (cs : List ℕ). guarded_by (hash_run cs) (string_past (hash_run cs) cs) s) e
+    ∙ (ap (λ (k : ℕ). guarded_by k (string_past k (hashes n ++ next)) s) count ∙ ap (λ (o : Option (Bool × ℕ)). guarded_by n o s) read))
 
 -- ---- and something is there
 
@@ -129,39 +131,39 @@ record Taken (s : State) : Type 0 where
 taken : (s : State) → Taken s
 taken s = let g = guarded (chars s.rest) in by_left g.count g.left (sym g.whole) g.stops
   where
-    by_string : (n : ℕ) (u : List ℕ) (t : Bool) (m : ℕ) → chars s.rest ≡ guard n ++ 34 ∷ u → IsDoubleQuoted (drop m u) t (take m u) → Taken s
+    by_string : (n : ℕ) (u : List ℕ) (t : Bool) (m : ℕ) → chars s.rest ≡ hashes n ++ 34 ∷ u → IsDoubleQuoted (drop m u) t (take m u) → Taken s
     by_string n u true m e is =
         let z : List ℕ = drop m u in
-        let k : ℕ = min n (hashes z) in
+        let k : ℕ = min n (hash_run z) in
         let y : List ℕ = drop k z in
         let j : ℕ = suffix_len y in
         let parts : take j y ++ drop j y ≡ y = take-append-drop j y in
-        let hashed : z ≡ guard k ++ y = split-hashes k z (min-le_right n (hashes z)) in
-        let there : z ≡ guard k ++ (take j y ++ drop j y) = hashed ∙ ap (λ (x : List ℕ). guard k ++ x) (sym parts) in
-        let body : (take m u ++ (guard k ++ take j y)) ++ drop j y ≡ u =
-        append_assoc (take m u) (guard k ++ take j y) (drop j y) ∙ (ap (λ (x : List ℕ). take m u ++ x) (append_assoc (guard k) (take j y) (drop j y) ∙ sym there) ∙ take-append-drop m u) in
-        let whole : chars s.rest ≡ (guard n ++ (34 ∷ take m u ++ (guard k ++ take j y))) ++ drop j y =
-        e ∙ sym (append_assoc (guard n) (34 ∷ take m u ++ (guard k ++ take j y)) (drop j y) ∙ ap (λ (x : List ℕ). guard n ++ 34 ∷ x) body) in
-        let stop : k < n → Stops (is_among (codes "#")) (take j y ++ drop j y) =
-        λ lt. subst (Stops (is_among (codes "#"))) (sym parts) (same-class y ∙ subst (λ (i : ℕ). Stops is_hash (drop i z)) (all lt) (run-stops is_hash z)) in
-        record { answer = _; is = the.string whole (the.closed n k (subst (λ (x : List ℕ). IsDoubleQuoted x true (take m u)) there is) (min-le_left n (hashes z)) stop (suffix-sound y)) }
+        let hashed : z ≡ hashes k ++ y = split-hashes k z (min-le_right n (hash_run z)) in
+        let there : z ≡ hashes k ++ (take j y ++ drop j y) = hashed ∙ ap (λ (x : List ℕ). hashes k ++ x) (sym parts) in
+        let body : (take m u ++ (hashes k ++ take j y)) ++ drop j y ≡ u =
+        append_assoc (take m u) (hashes k ++ take j y) (drop j y) ∙ (ap (λ (x : List ℕ). take m u ++ x) (append_assoc (hashes k) (take j y) (drop j y) ∙ sym there) ∙ take-append-drop m u) in
+        let whole : chars s.rest ≡ (hashes n ++ (34 ∷ take m u ++ (hashes k ++ take j y))) ++ drop j y =
+        e ∙ sym (append_assoc (hashes n) (34 ∷ take m u ++ (hashes k ++ take j y)) (drop j y) ∙ ap (λ (x : List ℕ). hashes n ++ 34 ∷ x) body) in
+        let stop : k < n → NextIsNot (is_among (codes "#")) (take j y ++ drop j y) =
+        λ lt. subst (NextIsNot (is_among (codes "#"))) (sym parts) (same-class y ∙ subst (λ (i : ℕ). NextIsNot is_hash (drop i z)) (all lt) (run-stops is_hash z)) in
+        record { answer = _; is = holds.string whole (the.closed n k (subst (λ (x : List ℕ). IsDoubleQuoted x true (take m u)) there is) (min-le_left n (hash_run z)) stop (suffix-sound y)) }
       where
-        all : min n (hashes (drop m u)) < n → hashes (drop m u) ≡ min n (hashes (drop m u))
-        all lt = elim (cases_lt (hashes (drop m u)) n) [
+        all : min n (hash_run (drop m u)) < n → hash_run (drop m u) ≡ min n (hash_run (drop m u))
+        all lt = elim (cases_lt (hash_run (drop m u)) n) [
           | inl less ↦ sym (min-eq_right (omega arith))
-          | inr more ↦ absurd (let same : min n (hashes (drop m u)) ≡ n = min-eq_left more in omega (arith, same, lt))
+          | inr more ↦ absurd (let same : min n (hash_run (drop m u)) ≡ n = min-eq_left more in omega (arith, same, lt))
         ]
     by_string n u false m e is =
-        let whole : chars s.rest ≡ (guard n ++ (34 ∷ take m u)) ++ drop m u = e ∙ sym (append_assoc (guard n) (34 ∷ take m u) (drop m u) ∙ ap (λ (x : List ℕ). guard n ++ 34 ∷ x) (take-append-drop m u)) in
-        record { answer = _; is = the.string whole (the.unclosed n is) }
+        let whole : chars s.rest ≡ (hashes n ++ (34 ∷ take m u)) ++ drop m u = e ∙ sym (append_assoc (hashes n) (34 ∷ take m u) (drop m u) ∙ ap (λ (x : List ℕ). hashes n ++ 34 ∷ x) (take-append-drop m u)) in
+        record { answer = _; is = holds.string whole (the.unclosed n is) }
 
-    by_left : (n : ℕ) (v : List ℕ) → chars s.rest ≡ guard n ++ v → Stops is_hash v → Taken s
-    by_left n [] e stop = record { answer = _; is = the.none n [] e refl }
+    by_left : (n : ℕ) (v : List ℕ) → chars s.rest ≡ hashes n ++ v → NextIsNot is_hash v → Taken s
+    by_left n [] e stop = record { answer = _; is = holds.none n [] e refl }
     by_left n (c ∷ u) e stop = by_quote (c == 34) refl
       where
         by_quote : (b : Bool) → (c == 34) ≡ b → Taken s
-        by_quote true f = by_string n u (double_quoted_string u).0 (double_quoted_string u).1 (e ∙ ap (λ (x : ℕ). guard n ++ x ∷ u) (eqb-true c 34 f)) (double-sound u)
-        by_quote false f = record { answer = _; is = the.none n (c ∷ u) e (or_from (c == 34) _ f (or_from (c == 35) false stop refl)) }
+        by_quote true f = by_string n u (double_quoted_string u).0 (double_quoted_string u).1 (e ∙ ap (λ (x : ℕ). hashes n ++ x ∷ u) (eqb-true c 34 f)) (double-sound u)
+        by_quote false f = record { answer = _; is = holds.none n (c ∷ u) e (or_from (c == 34) _ f (or_from (c == 35) false stop refl)) }
 
 -- this and nothing else
 pub guarded-answer : (s t : State) (answer : Option GuardedStr) → answer ≡ (spec.guarded s).0 → t ≡ (spec.guarded s).1 → TakesTheGuarded s answer t

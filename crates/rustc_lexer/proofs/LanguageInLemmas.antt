@@ -1,5 +1,5 @@
 -- The tokens of a text in an edition are those that its language allows, and no other list of tokens is.
-use Rattle.std.proofs.Common.{◌≡◌, ℕ, zero, suc, ◌+◌, ◌<◌, ◌≤◌, ◌==◌, ◌||◌, not, nat_le, Bool, true, false, true≢false, List, [], ◌∷◌, ◌++◌, length, take, drop, codes, refl, sym, ap, ◌∙◌, subst, arith, rules, take-append-drop, Result, Ok, Err, IfOk}
+use Rattle.std.proofs.Common.{◌≡◌, ℕ, zero, suc, ◌+◌, ◌<◌, ◌≤◌, ◌==◌, ◌||◌, nat_le, Bool, true, false, true≢false, List, [], ◌∷◌, ◌++◌, length, take, drop, codes, refl, sym, ap, ◌∙◌, subst, arith, rules, take-append-drop, Result, Ok, Err, IfOk}
 use lib.Utf8.{encode}
 use Rattle.std.proofs.Math.Seq.{take-append_seam}
 use Rattle.std.proofs.lemmas.Bool.{and_parts, leb-true, leb-false}
@@ -14,19 +14,19 @@ use Rattle.rustc_lexer.specs.declared.token.TokenKind.TheVariants.{Ident, Unknow
 use Rattle.rustc_lexer.specs.Classes.{is_among, is_id_start, is_id_continue, is_ident}
 use Rattle.rustc_lexer.specs.Cuts.{tokens_by}
 use Rattle.rustc_lexer.specs.Edition.{year, token, has_marked_name, before_2021, changed, first_token_in, tokens_in}
-use Rattle.rustc_lexer.specs.Emoji.{is_emoji}
 use Rattle.rustc_lexer.specs.Language as the
-use Rattle.rustc_lexer.specs.Language.{is_word, is_word_start, begins_ident_past, IsTokenBefore}
-use Rattle.rustc_lexer.specs.LanguageIn.{since, IsTokenIn, kept, pound, ident, lifetime, lifetime_r, AreTokensIn, nothing, something}
-use Rattle.rustc_lexer.specs.LanguageHolds.{AreTheTokensIn, IsPage, HoldsTheOnlyTokensIn, HoldsTheOnlyTokensBy, IsDetermined}
+use Rattle.rustc_lexer.specs.Spans.{is_word_continue, is_word_start, begins_ident_after}
+use Rattle.rustc_lexer.specs.Language.{is_bad_name, IsTokenBefore}
+use Rattle.rustc_lexer.specs.LanguageIn.{kept_since, IsTokenIn, kept, pound, ident, lifetime, lifetime_r, AreTokensIn, nothing, something}
+use Rattle.rustc_lexer.specs.LanguageHolds.{AreTheOnlyTokensIn, NewestIsPage, HoldsTheOnlyTokensIn, HoldsTheOnlyTokensBy, IsDetermined}
 use Rattle.rustc_lexer.specs.means.Lexeme.{past_first, lexeme, first_token, symbols, kind_among, symbol_kind}
 use Rattle.rustc_lexer.specs.means.Scan.{bytes_of, next_is, run_len}
-use Rattle.rustc_lexer.specs.Spans.{AreAll, Goes, Stops, bytes}
+use Rattle.rustc_lexer.specs.Spans.{AreAll, NextIs, NextIsNot, bytes}
 use Rattle.rustc_lexer.specs.Texts.{IsText, IsGrammar}
 use Rattle.rustc_lexer.specs.laws.Choice.{by_test}
 use Rattle.rustc_lexer.specs.laws.Edition.{edition_grammar}
 use Rattle.rustc_lexer.specs.laws.Language.{lexeme-sound}
-use Rattle.rustc_lexer.specs.laws.LanguageRuns.{word_start-no_digit, mark-stops, run_len-here}
+use Rattle.rustc_lexer.specs.laws.LanguageRuns.{mark-stops, run_len-here}
 use Rattle.rustc_lexer.specs.laws.LanguageWords.{marked-sound}
 use Rattle.rustc_lexer.proofs.CutLemmas.{past_first as text_past, shorter, tokens-nil, tokens-cons}
 use Rattle.rustc_lexer.proofs.LanguageLemmas.{empty-text, split, first-is, language}
@@ -39,7 +39,7 @@ oldest E2018 = omega arith
 oldest E2021 = omega arith
 oldest E2024 = omega arith
 
-keeps : (edition : Edition) (cs : List ℕ) (kind : TokenKind) (len : ℕ) → since kind ≤ year edition → changed edition cs (token kind len) ≡ token kind len
+keeps : (edition : Edition) (cs : List ℕ) (kind : TokenKind) (len : ℕ) → kept_since kind ≤ year edition → changed edition cs (token kind len) ≡ token kind len
 keeps E2024 cs kind len le = refl
 keeps E2021 cs GuardedStrPrefix len le = absurd (omega (arith, le))
 keeps E2021 cs kind len le = refl
@@ -71,19 +71,19 @@ before E2015 cs t lt = refl
 data View (next : List ℕ) : TokenKind → List ℕ → Type 0 where
   cut_hash : {c : ℕ} → View next GuardedStrPrefix (35 ∷ c ∷ [])
   cut_raw : {w : List ℕ} → is_ident w ≡ true → View next RawLifetime (39 ∷ 114 ∷ 35 ∷ w)
-  name : {c : ℕ} {w : List ℕ} → is_word_start c ≡ true → AreAll is_word w → Goes (is_among (codes "#")) next → View next UnknownPrefixLifetime (39 ∷ c ∷ w)
+  name : {c : ℕ} {w : List ℕ} → is_word_start c ≡ true → AreAll is_word_continue w → NextIs (is_among (codes "#")) next → View next UnknownPrefixLifetime (39 ∷ c ∷ w)
   prefix : {w : List ℕ} → View next UnknownPrefix w
-  other : {kind : TokenKind} {w : List ℕ} → since kind ≡ 2015 → View next kind w
+  other : {kind : TokenKind} {w : List ℕ} → kept_since kind ≡ 2015 → View next kind w
 
 abbrev AllOld : List (ℕ × TokenKind) → Type 0
 AllOld [] = Unit {0}
-AllOld (s ∷ ss) = (since s.1 ≡ 2015) × AllOld ss
+AllOld (s ∷ ss) = (kept_since s.1 ≡ 2015) × AllOld ss
 
-among-old : (ss : List (ℕ × TokenKind)) (c : ℕ) → AllOld ss → since (kind_among ss c) ≡ 2015
+among-old : (ss : List (ℕ × TokenKind)) (c : ℕ) → AllOld ss → kept_since (kind_among ss c) ≡ 2015
 among-old [] c h = refl
-among-old (s ∷ ss) c h = by_test (λ kind. since kind ≡ 2015) (c == s.0) s.1 (kind_among ss c) (λ e. h.0) (λ e. among-old ss c h.1)
+among-old (s ∷ ss) c h = by_test (λ kind. kept_since kind ≡ 2015) (c == s.0) s.1 (kind_among ss c) (λ e. h.0) (λ e. among-old ss c h.1)
 
-symbol-old : (c : ℕ) → since (symbol_kind c) ≡ 2015
+symbol-old : (c : ℕ) → kept_since (symbol_kind c) ≡ 2015
 symbol-old c = among-old symbols c (search rules)
 
 view : {next : List ℕ} {kind : TokenKind} {w : List ℕ} → IsTokenBefore next kind w → View next kind w
@@ -104,10 +104,10 @@ view (the.literal is) = other refl
 view (the.literal_with is suffix_is) = other refl
 view (the.slash stop) = other refl
 view (the.pound stop) = other refl
-view (the.guarded is) = cut_hash
+view (the.guarded_prefix is) = cut_hash
 view (the.symbol {c} is) = other (symbol-old c)
 
-hash-mark : (s : List ℕ) → Goes (is_among (codes "#")) s → Stops is_word s
+hash-mark : (s : List ℕ) → NextIs (is_among (codes "#")) s → NextIsNot is_word_continue s
 hash-mark [] e = refl
 hash-mark (c ∷ s) e = mark-stops (c ∷ s) (by_bool (c == 35) e)
   where
@@ -116,17 +116,16 @@ hash-mark (c ∷ s) e = mark-stops (c ∷ s) (by_bool (c == 35) e)
     by_bool false e = absurd (true≢false (sym e))
 
 -- whether a name is marked
-name-marked : (c : ℕ) (w next : List ℕ) → is_word_start c ≡ true → AreAll is_word w → Goes (is_among (codes "#")) next → has_marked_name (39 ∷ c ∷ w ++ next) ≡ (is_emoji c || not (list_all is_id_continue w))
-name-marked c w next start all hash =
-    ap (λ (b : Bool). b || is_emoji c || not (list_all is_id_continue (take (run_len is_word (w ++ next)) (w ++ next)))) (word_start-no_digit c start)
-    ∙ (ap (λ (n : ℕ). is_emoji c || not (list_all is_id_continue (take n (w ++ next)))) (run_len-here is_word w next all (hash-mark next hash))
-    ∙ ap (λ (v : List ℕ). is_emoji c || not (list_all is_id_continue v)) (take-append_seam w next))
+name-marked : (c : ℕ) (w next : List ℕ) → AreAll is_word_continue w → NextIs (is_among (codes "#")) next → has_marked_name (39 ∷ c ∷ w ++ next) ≡ is_bad_name (c ∷ w)
+name-marked c w next all hash =
+    ap (λ (n : ℕ). is_bad_name (c ∷ take n (w ++ next))) (run_len-here is_word_continue w next all (hash-mark next hash))
+    ∙ ap (λ (v : List ℕ). is_bad_name (c ∷ v)) (take-append_seam w next)
 
-lifetime-marked : {next : List ℕ} {kind : TokenKind} {c : ℕ} {w : List ℕ} → View next kind (39 ∷ c ∷ w) → kind ≡ UnknownPrefixLifetime → has_marked_name (39 ∷ c ∷ w ++ next) ≡ (is_emoji c || not (list_all is_id_continue w))
+lifetime-marked : {next : List ℕ} {kind : TokenKind} {c : ℕ} {w : List ℕ} → View next kind (39 ∷ c ∷ w) → kind ≡ UnknownPrefixLifetime → has_marked_name (39 ∷ c ∷ w ++ next) ≡ is_bad_name (c ∷ w)
 lifetime-marked {next} {kind} {c} {w} (cut_raw is) e = absurd (cc e)
-lifetime-marked {next} {kind} {c} {w} (name start all hash) e = name-marked c w next start all hash
+lifetime-marked {next} {kind} {c} {w} (name start all hash) e = name-marked c w next all hash
 lifetime-marked {next} {kind} {c} {w} prefix e = absurd (cc e)
-lifetime-marked {next} {kind} {c} {w} (other old) e = absurd (let n : 2021 ≡ 2015 = sym (ap since e) ∙ old in omega (arith, n))
+lifetime-marked {next} {kind} {c} {w} (other old) e = absurd (let n : 2021 ≡ 2015 = sym (ap kept_since e) ∙ old in omega (arith, n))
 
 -- ---- a token of an edition is what is read in it
 
@@ -142,7 +141,7 @@ r-two = refl
 abbrev IsRawBefore : List ℕ → List ℕ → Type 0
 IsRawBefore next w = IsTokenBefore next RawLifetime (39 ∷ 114 ∷ w)
 
-raw-first : (next text : List ℕ) → chars text ≡ 39 ∷ 114 ∷ next → begins_ident_past (codes "#") next ≡ true → (first_token text).kind ≡ RawLifetime
+raw-first : (next text : List ℕ) → chars text ≡ 39 ∷ 114 ∷ next → begins_ident_after (codes "#") next ≡ true → (first_token text).kind ≡ RawLifetime
 raw-first next text e goes =
     let n : ℕ = 2 + run_len is_id_continue (drop 2 next) in
     ap (λ (t : Token). t.kind) (first-is (marked-sound IsRawBefore (λ w rest is stop. the.raw_lifetime is stop) next goes) text (e ∙ ap (λ (u : List ℕ). 39 ∷ 114 ∷ u) (sym (take-append-drop n next))))
@@ -156,7 +155,7 @@ token-read-in {edition} {next} (pound lt) text e = by_next next e ∙ ap (token 
       where
         guarded : (u : List ℕ) → chars text ≡ 35 ∷ u → next_is (is_among (codes "\"#")) u ≡ true → first_token_in edition text ≡ token Pound 1
         guarded [] g b = absurd (true≢false (sym b))
-        guarded (d ∷ u) g b = ap (changed edition (chars text)) (first-is {next = u} (the.guarded {c = d} b) text g) ∙ guarded-cut edition (chars text) (bytes (35 ∷ d ∷ [])) lt
+        guarded (d ∷ u) g b = ap (changed edition (chars text)) (first-is {next = u} (the.guarded_prefix {c = d} b) text g) ∙ guarded-cut edition (chars text) (bytes (35 ∷ d ∷ [])) lt
 
         by_bool : (b : Bool) → next_is (is_among (codes "\"#")) s ≡ b → first_token_in edition text ≡ token Pound 1
         by_bool true b = guarded s f b
@@ -183,10 +182,10 @@ record Front (edition : Edition) (cs : List ℕ) (t : Token) : Type 0 where
 abbrev Fronts : Edition → List ℕ → TokenKind → ℕ → List ℕ → Type 0
 Fronts edition next kind c w = Front edition (c ∷ w ++ next) (changed edition (c ∷ w ++ next) (token kind (bytes (c ∷ w))))
 
-keep : (edition : Edition) (next : List ℕ) (kind : TokenKind) (c : ℕ) (w : List ℕ) → since kind ≤ year edition → IsTokenBefore next kind (c ∷ w) → Fronts edition next kind c w
+keep : (edition : Edition) (next : List ℕ) (kind : TokenKind) (c : ℕ) (w : List ℕ) → kept_since kind ≤ year edition → IsTokenBefore next kind (c ∷ w) → Fronts edition next kind c w
 keep edition next kind c w le p = record { kind = kind; c = c; w = w; next = next; whole = refl; same = keeps edition (c ∷ w ++ next) kind (bytes (c ∷ w)) le; is = kept le p }
 
-goes-name : (w next : List ℕ) → is_ident w ≡ true → begins_ident_past (codes "#") (35 ∷ w ++ next) ≡ true
+goes-name : (w next : List ℕ) → is_ident w ≡ true → begins_ident_after (codes "#") (35 ∷ w ++ next) ≡ true
 goes-name [] next is = absurd (true≢false (sym is))
 goes-name (c ∷ w) next is = (and_parts (is_id_start c) (list_all is_id_continue w) is).0
 
@@ -219,12 +218,12 @@ fronts {next} edition (cut_raw {w} is) p = by_year 2021 (year edition) (λ le. k
   is = lifetime_r lt (goes-name w next is);
 })
 fronts {next} edition (name {c} {w} start all hash) p = by_year 2021 (year edition) (λ le. keep edition next UnknownPrefixLifetime 39 (c ∷ w) le p) (λ lt. record {
-  kind = Lifetime (is_emoji c || not (list_all is_id_continue w));
+  kind = Lifetime (is_bad_name (c ∷ w));
   c = 39;
   w = c ∷ w;
   next = next;
   whole = refl;
-  same = before edition (39 ∷ c ∷ w ++ next) (token UnknownPrefixLifetime (bytes (39 ∷ c ∷ w))) lt ∙ ap (λ (b : Bool). token (Lifetime b) (bytes (39 ∷ c ∷ w))) (name-marked c w next start all hash);
+  same = before edition (39 ∷ c ∷ w ++ next) (token UnknownPrefixLifetime (bytes (39 ∷ c ∷ w))) lt ∙ ap (λ (b : Bool). token (Lifetime b) (bytes (39 ∷ c ∷ w))) (name-marked c w next all hash);
   is = lifetime lt p;
 })
 fronts {next} {kind} {c} {w} edition prefix p = by_year 2021 (year edition) (λ le. keep edition next UnknownPrefix c w le p) (λ lt. record {
@@ -283,7 +282,7 @@ tokens-are-in edition (suc n) (b ∷ bs) is le =
     (subst (λ (t : Token). AreTokensIn edition (f.c ∷ f.w ++ f.next) (t ∷ tokens_in edition (drop (first_token_in edition text).len text))) (sym f.same) (something f.is rest_are)))
 
 -- these and no others
-pub language-in : (edition : Edition) (text : List ℕ) → IsText text → AreTheTokensIn edition text
+pub language-in : (edition : Edition) (text : List ℕ) → IsText text → AreTheOnlyTokensIn edition text
 language-in edition text is tokens = (λ are. sym (tokens-read-in are text is refl), λ e. subst (AreTokensIn edition (chars text)) (sym e) (tokens-are-in edition (length text) text is (omega arith)))
 
 -- the newest edition has the page
@@ -294,15 +293,15 @@ on-page e (ident lt p) = absurd (omega (arith, e, lt))
 on-page e (lifetime lt p) = absurd (omega (arith, e, lt))
 on-page e (lifetime_r lt goes) = absurd (omega (arith, e, lt))
 
-newest : (kind : TokenKind) → since kind ≤ 2024
+newest : (kind : TokenKind) → kept_since kind ≤ 2024
 newest GuardedStrPrefix = omega arith
 newest RawLifetime = omega arith
 newest UnknownPrefix = omega arith
 newest UnknownPrefixLifetime = omega arith
 newest kind = omega arith
 
-pub page-in : (edition : Edition) → IsPage edition
-page-in edition e next w kind = (on-page (ap year e), λ p. kept (subst (λ (x : Edition). since kind ≤ year x) (sym e) (newest kind)) p)
+pub page-in : (edition : Edition) → NewestIsPage edition
+page-in edition e next w kind = (on-page (ap year e), λ p. kept (subst (λ (x : Edition). kept_since kind ≤ year x) (sym e) (newest kind)) p)
 
 -- tokens that are held
 pub held-in : (edition : Edition) (text : List ℕ) → IsText text → (held : List Token) → held ≡ tokens_in edition text → HoldsTheOnlyTokensIn edition text held

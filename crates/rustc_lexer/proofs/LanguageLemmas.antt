@@ -9,7 +9,7 @@ use Rattle.rustc_lexer.specs.declared.token.FrontmatterAllowed.{FrontmatterAllow
 use Rattle.rustc_lexer.specs.declared.token.FrontmatterAllowed.TheVariants.{Yes, No}
 use Rattle.rustc_lexer.specs.declared.token.Token.{Token}
 use Rattle.rustc_lexer.specs.declared.token.TokenKind.{TokenKind}
-use Rattle.rustc_lexer.specs.declared.token.TokenKind.TheVariants.{Whitespace, Frontmatter, Eof}
+use Rattle.rustc_lexer.specs.declared.token.TokenKind.TheVariants.{Frontmatter, Eof}
 use Rattle.rustc_lexer.specs.Classes.{is_among, is_whitespace}
 use Rattle.rustc_lexer.specs.means.Frontmatter.{is_newline, fence_len, opening_len, opens, closing_end, past_opening, frontmatter}
 use Rattle.rustc_lexer.specs.laws.Language.{lexeme-sound, token-read}
@@ -18,8 +18,8 @@ use Rattle.rustc_lexer.specs.laws.LanguageFrontmatter.{fence-length, opening-rea
 use Rattle.rustc_lexer.specs.laws.LanguageLiterals.{bytes-append}
 use Rattle.rustc_lexer.specs.laws.TokenBy.{scalars-take, scalars-drop}
 use Rattle.rustc_lexer.specs.FrontmatterGrammar.{fence, IsOpeningBefore, opening, EndsAt}
-use Rattle.rustc_lexer.specs.Language.{allowed_past, IsTokenBefore, AreTokens, nothing, something, frontmatter_first, IsTokenOf}
-use Rattle.rustc_lexer.specs.LanguageHolds.{AreTheTokens, TakesTokenOf, TakesFirst}
+use Rattle.rustc_lexer.specs.Language.{IsTokenBefore, AreTokens, nothing, something, frontmatter_first, BeginsWith}
+use Rattle.rustc_lexer.specs.LanguageHolds.{AreTheOnlyTokens, TakesTokenOf, TakesFirst}
 use Rattle.rustc_lexer.specs.Spans.{bytes}
 use Rattle.rustc_lexer.specs.means.Lexeme.{past_first, lexeme, first_token}
 use Rattle.rustc_lexer.specs.means.Scan.{bytes_of, next_is, past}
@@ -29,7 +29,6 @@ use Rattle.rustc_lexer.specs.Texts.{IsText}
 use Rattle.rustc_lexer.specs.Tokens.{tokens_of, tokens_left}
 use Rattle.rustc_lexer.proofs.FrontmatterLemmas.{closing_end-boundary, closing_end-inside}
 use Rattle.rustc_lexer.proofs.StateLemmas.{state, past_token, advance-end, advance-some, first-advanced}
-use Rattle.rustc_lexer.proofs.TextLemmas.{first_token-not_end}
 use Rattle.rustc_lexer.proofs.TokensLemmas.{token_at-cuts, by_tokens, tokens-nil, tokens-cons}
 
 -- ---- texts and characters
@@ -110,11 +109,9 @@ frontmatter-is text n front rest is e is_opening =
     ∙ (ap (λ (k : ℕ). let t : Token = record { kind = Frontmatter (next_is is_whitespace front) (not (next_is (is_among (codes "\n")) rest)); len = k + closing_end (fence_len (chars text)) (past_opening text) } in t) size
     ∙ ap (λ (k : ℕ). let t : Token = record { kind = Frontmatter (next_is is_whitespace front) (not (next_is (is_among (codes "\n")) rest)); len = bytes front + k } in t) closes))
 
--- past what is not the end
-same-allowed : (allowed : FrontmatterAllowed) (kind : TokenKind) → (kind ≡ Eof → ⊥) → allowed_past allowed kind ≡ allowed_after allowed kind
-same-allowed allowed Whitespace some = refl
-same-allowed allowed Eof some = absurd (some refl)
-same-allowed allowed kind some = refl
+-- three dashes or more open it
+opening-dashes : {next w : List ℕ} {n : ℕ} → IsOpeningBefore next n w → 3 ≤ n
+opening-dashes (opening n space label white last three is stop) = three
 
 -- one token more
 step : (allowed : FrontmatterAllowed) (text w next : List ℕ) (token : Token) (tokens : List Token) → IsText text → 0 < length w → chars text ≡ w ++ next → token_at allowed text ≡ token → token.len ≡ bytes w
@@ -132,9 +129,9 @@ tokens-read : {allowed : FrontmatterAllowed} {cs : List ℕ} {tokens : List Toke
 tokens-read (nothing {allowed}) text is e = ap (tokens_of allowed) (empty-text text is e) ∙ tokens-nil allowed
 tokens-read (something {allowed} {kind} {c} {w} {next} {tokens} p free rest) text is e =
     step allowed text (c ∷ w) next (record { kind = kind; len = bytes (c ∷ w) }) tokens is (omega arith) e (at-first allowed text (λ y. ap opens e ∙ none-opens (c ∷ w ++ next) (free y)) ∙ first-is p text e) refl
-    (λ u text_u f. ap (λ (a : FrontmatterAllowed). tokens_of a u) (sym (same-allowed allowed kind (λ end. first_token-not_end text is ((split text (c ∷ w) next is e).some (omega arith)) (ap (λ (t : Token). t.kind) (first-is p text e) ∙ end)))) ∙ tokens-read rest u text_u f)
-tokens-read (frontmatter_first {n} {front} {next} {tokens} body is_opening is_end rest) text is e =
-    let len : bytes body ≡ closing_end n (encode_utf8_all (body ++ next)) = sym (ends-read is_end) in
+    (λ u text_u f. tokens-read rest u text_u f)
+tokens-read (frontmatter_first {n} {opening = front} {next} {tokens} body is_opening is_end rest) text is e =
+    let len : bytes body ≡ closing_end n (encode_utf8_all (body ++ next)) = sym (ends-read (opening-dashes is_opening) is_end) in
     let r = opening-read is_opening in
     let token : Token = record { kind = Frontmatter (next_is is_whitespace front) (not (next_is (is_among (codes "\n")) (body ++ next))); len = bytes front + bytes body } in
     let whole : chars text ≡ (front ++ body) ++ next = e ∙ sym (append_assoc front body next) in
@@ -159,9 +156,7 @@ lexeme-first allowed text (c ∷ s) is e some free rest =
     let left : chars (drop token.len text) ≡ drop m s = ap chars (ap (λ (t : Token). drop t.len text) same ∙ parts.left) ∙ parts.again in
     let kind : token.kind ≡ (past_first c s).0 = ap (λ (t : Token). t.kind) same in
     let tokens : List Token = tokens_of (allowed_after allowed token.kind) (drop token.len text) in
-    let not_end : (past_first c s).0 ≡ Eof → ⊥ = λ end. first_token-not_end text is some (kind ∙ end) in
-    let rest_after : AreTokens (allowed_after allowed (past_first c s).0) (drop m s) tokens = subst (λ (k : TokenKind). AreTokens (allowed_after allowed k) (drop m s) tokens) kind (subst (λ (cs : List ℕ). AreTokens (allowed_after allowed token.kind) cs tokens) left rest) in
-    let rest_are : AreTokens (allowed_past allowed (past_first c s).0) (drop m s) tokens = subst (λ (a : FrontmatterAllowed). AreTokens a (drop m s) tokens) (sym (same-allowed allowed (past_first c s).0 not_end)) rest_after in
+    let rest_are : AreTokens (allowed_after allowed (past_first c s).0) (drop m s) tokens = subst (λ (k : TokenKind). AreTokens (allowed_after allowed k) (drop m s) tokens) kind (subst (λ (cs : List ℕ). AreTokens (allowed_after allowed token.kind) cs tokens) left rest) in
     subst (λ (t : Token). AreTokens allowed (c ∷ s) (t ∷ tokens)) (sym same)
     (subst (λ (cs : List ℕ). AreTokens allowed cs (record { kind = (past_first c s).0; len = bytes (c ∷ take m s) } ∷ tokens)) whole (something (lexeme-sound (c ∷ s)) (λ y. opens-none (c ∷ take m s ++ drop m s) (ap opens (whole ∙ sym e) ∙ free y)) rest_are))
 
@@ -193,7 +188,7 @@ frontmatter-first text is some opened_here rest_are = put (opened (chars text) o
         let cut : drop (frontmatter text).len text ≡ drop m left = ap (λ (t : Token). drop t.len text) same ∙ (ap (λ (k : ℕ). drop (bytes o.front + k) text) size ∙ (sym (drop-drop m (bytes o.front) text) ∙ ap (drop m) parts.left)) in
         let rest_is : AreTokens No next tokens = subst (λ (cs : List ℕ). AreTokens No cs tokens) (ap chars cut) (subst (λ (allowed : FrontmatterAllowed). AreTokens allowed (chars (drop (frontmatter text).len text)) tokens) (after-frontmatter text) rest_are) in
         subst (λ (cs : List ℕ). AreTokens Yes cs (frontmatter text ∷ tokens)) whole
-        (subst (λ (t : Token). AreTokens Yes (o.front ++ (body ++ next)) (t ∷ tokens)) (sym same) (frontmatter_first body is_opening (subst (EndsAt n (encode_utf8_all (body ++ next))) (sym len) (ends-are n (encode_utf8_all (body ++ next)))) rest_is))
+        (subst (λ (t : Token). AreTokens Yes (o.front ++ (body ++ next)) (t ∷ tokens)) (sym same) (frontmatter_first body is_opening (subst (EndsAt n (encode_utf8_all (body ++ next))) (sym len) (ends-are n (encode_utf8_all (body ++ next)) (opening-dashes is_opening))) rest_is))
 
 -- what is left to show of a first token
 abbrev Puts : FrontmatterAllowed → List ℕ → Token → Type 0
@@ -214,12 +209,12 @@ tokens-are : (text : List ℕ) (allowed : FrontmatterAllowed) → IsText text �
 tokens-are = by_tokens AreOf (λ allowed. rw (tokens-nil allowed) (subst (λ (cs : List ℕ). AreTokens allowed cs []) (sym chars-nil) nothing)) (λ text allowed is some rest. rw (tokens-cons allowed text is some) (puts allowed text is some rest))
 
 -- these and no others
-pub language : (text : List ℕ) (allowed : FrontmatterAllowed) → IsText text → AreTheTokens allowed text
+pub language : (text : List ℕ) (allowed : FrontmatterAllowed) → IsText text → AreTheOnlyTokens allowed text
 language text allowed is tokens = (λ are. sym (tokens-read are text is refl), λ e. subst (AreTokens allowed (chars text)) (sym e) (tokens-are text allowed is))
 
 -- ---- one token
 
-first_token-of : (text : List ℕ) → IsText text → IsTokenOf text (first_token text)
+first_token-of : (text : List ℕ) → IsText text → BeginsWith text (first_token text)
 unfolding first_token
 first_token-of text is =
     let n : ℕ = (lexeme (chars text)).1 in
@@ -240,14 +235,14 @@ advance-language s is none free = by_rest s.rest refl
     at : s ≡ state 0 s.rest s.frontmatter_allowed
     at = ap (λ (n : ℕ). state n s.rest s.frontmatter_allowed) none
 
-    by_rest : (rest : List ℕ) → s.rest ≡ rest → IsTokenOf s.rest (advance s).0
+    by_rest : (rest : List ℕ) → s.rest ≡ rest → BeginsWith s.rest (advance s).0
     by_rest [] e =
         let empty : first_token [] ≡ record { kind = Eof; len = 0 } = first_token-empty in
         let read : (advance s).0 ≡ record { kind = Eof; len = 0 } = ap (λ (r : Token × State). r.0) (advance-end 0 s.rest s.frontmatter_allowed s (sym at) (ap (λ (r : List ℕ). length r == 0) e)) in
-        subst (IsTokenOf s.rest) (ap first_token e ∙ (empty ∙ sym read)) (first_token-of s.rest is)
+        subst (BeginsWith s.rest) (ap first_token e ∙ (empty ∙ sym read)) (first_token-of s.rest is)
     by_rest (b ∷ bs) e =
         let read : (advance s).0 ≡ first_token s.rest = first-advanced s.rest s.frontmatter_allowed s at (omega (arith, ap length e)) ∙ at-first s.frontmatter_allowed s.rest (λ y. none-opens (chars s.rest) (free y)) in
-        subst (IsTokenOf s.rest) (sym read) (first_token-of s.rest is)
+        subst (BeginsWith s.rest) (sym read) (first_token-of s.rest is)
 
 -- with bytes pending, and where a frontmatter opens
 pub takes-first : (s t : State) (token : Token) → IsText s.rest → 0 < length s.rest → token ≡ (advance s).0 → t ≡ (advance s).1 → TakesFirst s token t

@@ -7,92 +7,93 @@ use Rattle.std.proofs.lemmas.List.{append-nil}
 use Rattle.std.specs.Str.{chars}
 use Rattle.rustc_lexer.specs.declared.token.RawStrError.{RawStrError}
 use Rattle.rustc_lexer.specs.declared.token.RawStrError.TheVariants.{InvalidStarter, NoTerminator, TooManyDelimiters}
-use Rattle.rustc_lexer.specs.Language.{guard, Lacks}
+use Rattle.rustc_lexer.specs.LiteralGrammar.{hashes, NoQuoteWith}
 use Rattle.rustc_lexer.specs.LanguageCalls as the
-use Rattle.rustc_lexer.specs.LanguageCalls.{IsBest, IsRawAnswer, IsTheRawAnswer}
+use Rattle.rustc_lexer.specs.LanguageCalls.{IsLikelyEnd, IsRawAnswer}
+use Rattle.rustc_lexer.specs.LanguageHolds.{IsTheRawAnswer}
 use Rattle.rustc_lexer.specs.means.Least.{one_more}
-use Rattle.rustc_lexer.specs.means.Raw.{is_hash, hashes, close, most_hashes, quote_hashes, quote_with, best_quote, quote_if, quote_end, hash_count, raw_closed, raw_starter, raw_read, checked, raw_check}
+use Rattle.rustc_lexer.specs.means.Raw.{is_hash, hash_run, close, most_hashes, quote_hashes, quote_with, best_quote, quote_if, quote_end, hash_count, raw_closed, raw_starter, raw_read, checked, raw_check}
 use Rattle.rustc_lexer.specs.means.Scan.{bytes_of}
-use Rattle.rustc_lexer.specs.Spans.{Stops, bytes}
+use Rattle.rustc_lexer.specs.Spans.{NextIsNot, bytes}
 use Rattle.rustc_lexer.specs.laws.LanguageLiterals.{bytes-append, bytes-one}
 use Rattle.rustc_lexer.specs.laws.LanguageRaw.{guard-length, guard-hashes, at_least, split-hashes, before-quote, lacks-rest, lacks-front, close-read, unclosed-read, Closing, found, lost, closing, guarded}
 
 -- ---- the most hashes behind a quote
 
 -- the hashes behind a quote, and none behind another character
-at-quote : (w : List ℕ) → quote_hashes (34 ∷ w) ≡ hashes w
+at-quote : (w : List ℕ) → quote_hashes (34 ∷ w) ≡ hash_run w
 at-quote w = refl
 
 at-other : (c : ℕ) (w : List ℕ) → (c == 34) ≡ false → quote_hashes (c ∷ w) ≡ 0
 at-other c w e = rw e refl
 
-few-here : (m c : ℕ) (w : List ℕ) → Lacks (suc m) (c ∷ w) → quote_hashes (c ∷ w) ≤ m
+few-here : (m c : ℕ) (w : List ℕ) → NoQuoteWith (suc m) (c ∷ w) → quote_hashes (c ∷ w) ≤ m
 few-here m c w lacks = by_quote (c == 34) refl
   where
     by_quote : (b : Bool) → (c == 34) ≡ b → quote_hashes (c ∷ w) ≤ m
     by_quote false e = let none = at-other c w e in omega arith
-    by_quote true e = by_count (nat_le (suc m) (hashes w)) refl
+    by_quote true e = by_count (nat_le (suc m) (hash_run w)) refl
       where
-        same : quote_hashes (c ∷ w) ≡ hashes w
+        same : quote_hashes (c ∷ w) ≡ hash_run w
         same = ap (λ (x : ℕ). quote_hashes (x ∷ w)) (eqb-true c 34 e)
 
-        by_count : (b : Bool) → nat_le (suc m) (hashes w) ≡ b → quote_hashes (c ∷ w) ≤ m
-        by_count true f = absurd (lacks-front (suc m) c w lacks record { rest = drop (suc m) w; whole = split-hashes (suc m) w (leb-true (suc m) (hashes w) f) } (eqb-true c 34 e))
-        by_count false f = let lt : hashes w < suc m = leb-false (suc m) (hashes w) f in omega (arith, same)
+        by_count : (b : Bool) → nat_le (suc m) (hash_run w) ≡ b → quote_hashes (c ∷ w) ≤ m
+        by_count true f = absurd (lacks-front (suc m) c w lacks record { rest = drop (suc m) w; whole = split-hashes (suc m) w (leb-true (suc m) (hash_run w) f) } (eqb-true c 34 e))
+        by_count false f = let lt : hash_run w < suc m = leb-false (suc m) (hash_run w) f in omega (arith, same)
 
-most-few : (m : ℕ) (w : List ℕ) → Lacks (suc m) w → most_hashes w ≤ m
+most-few : (m : ℕ) (w : List ℕ) → NoQuoteWith (suc m) w → most_hashes w ≤ m
 most-few m [] lacks = omega arith
 most-few m (c ∷ w) lacks = max-le (few-here m c w lacks) (most-few m w (lacks-rest (suc m) c w lacks))
 
-most-many : (m : ℕ) (u v : List ℕ) → m ≤ most_hashes (u ++ (34 ∷ guard m ++ v))
-most-many m [] v = omega (arith, at_least m v, le-max_left (hashes (guard m ++ v)) (most_hashes (guard m ++ v)))
-most-many m (c ∷ u) v = omega (arith, most-many m u v, le-max_right (quote_hashes (c ∷ u ++ (34 ∷ guard m ++ v))) (most_hashes (u ++ (34 ∷ guard m ++ v))))
+most-many : (m : ℕ) (u v : List ℕ) → m ≤ most_hashes (u ++ (34 ∷ hashes m ++ v))
+most-many m [] v = omega (arith, at_least m v, le-max_left (hash_run (hashes m ++ v)) (most_hashes (hashes m ++ v)))
+most-many m (c ∷ u) v = omega (arith, most-many m u v, le-max_right (quote_hashes (c ∷ u ++ (34 ∷ hashes m ++ v))) (most_hashes (u ++ (34 ∷ hashes m ++ v))))
 
-lacks-past : (m : ℕ) (w : List ℕ) → most_hashes w < m → Lacks m w
+lacks-past : (m : ℕ) (w : List ℕ) → most_hashes w < m → NoQuoteWith m w
 lacks-past m w lt u v e = absurd (omega (arith, lt, ap most_hashes e, most-many m u v))
 
 -- the first quote with so many
-quote-first : (m : ℕ) (u v : List ℕ) → 0 < m → Lacks m u → hashes (guard m ++ v) ≡ m → quote_with m (u ++ (34 ∷ guard m ++ v)) ≡ Some (length u)
-quote-first m [] v some lacks e = let here : (hashes (guard m ++ v) == m) ≡ true = eq-eqb (hashes (guard m ++ v)) m e in rw here refl
+quote-first : (m : ℕ) (u v : List ℕ) → 0 < m → NoQuoteWith m u → hash_run (hashes m ++ v) ≡ m → quote_with m (u ++ (34 ∷ hashes m ++ v)) ≡ Some (length u)
+quote-first m [] v some lacks e = let here : (hash_run (hashes m ++ v) == m) ≡ true = eq-eqb (hash_run (hashes m ++ v)) m e in rw here refl
 quote-first m (c ∷ u) v some lacks e =
-    let s : List ℕ = u ++ (34 ∷ guard m ++ v) in
+    let s : List ℕ = u ++ (34 ∷ hashes m ++ v) in
     let other : (quote_hashes (c ∷ s) == m) ≡ false = false_from_ne_true (quote_hashes (c ∷ s) == m) (λ t. not_here (c == 34) refl (eqb-true (quote_hashes (c ∷ s)) m t)) in
     rw other (ap one_more (quote-first m u v some (lacks-rest m c u lacks) e))
   where
-    not_here : (b : Bool) → (c == 34) ≡ b → quote_hashes (c ∷ u ++ (34 ∷ guard m ++ v)) ≡ m → ⊥
-    not_here false f t = absurd (let none = at-other c (u ++ (34 ∷ guard m ++ v)) f in omega (arith, none, t, some))
+    not_here : (b : Bool) → (c == 34) ≡ b → quote_hashes (c ∷ u ++ (34 ∷ hashes m ++ v)) ≡ m → ⊥
+    not_here false f t = absurd (let none = at-other c (u ++ (34 ∷ hashes m ++ v)) f in omega (arith, none, t, some))
     not_here true f t =
-        let same : quote_hashes (c ∷ u ++ (34 ∷ guard m ++ v)) ≡ hashes (u ++ (34 ∷ guard m ++ v)) = ap (λ (x : ℕ). quote_hashes (x ∷ u ++ (34 ∷ guard m ++ v))) (eqb-true c 34 f) in
-        lacks-front m c u lacks (before-quote m u (guard m ++ v) (omega (arith, same, t))) (eqb-true c 34 f)
+        let same : quote_hashes (c ∷ u ++ (34 ∷ hashes m ++ v)) ≡ hash_run (u ++ (34 ∷ hashes m ++ v)) = ap (λ (x : ℕ). quote_hashes (x ∷ u ++ (34 ∷ hashes m ++ v))) (eqb-true c 34 f) in
+        lacks-front m c u lacks (before-quote m u (hashes m ++ v) (omega (arith, same, t))) (eqb-true c 34 f)
 
 -- hashes take a byte each
-pub guard-bytes : (n : ℕ) → bytes (guard n) ≡ n
+pub guard-bytes : (n : ℕ) → bytes (hashes n) ≡ n
 guard-bytes zero = refl
-guard-bytes (suc n) = omega (arith, bytes-one 35 (guard n) refl, guard-bytes n)
+guard-bytes (suc n) = omega (arith, bytes-one 35 (hashes n) refl, guard-bytes n)
 
-front-bytes : (n : ℕ) → bytes (guard n ++ 34 ∷ []) ≡ suc n
-front-bytes n = omega (arith, bytes-append (guard n) (34 ∷ []), guard-bytes n, bytes-one 34 [] refl)
+front-bytes : (n : ℕ) → bytes (hashes n ++ 34 ∷ []) ≡ suc n
+front-bytes n = omega (arith, bytes-append (hashes n) (34 ∷ []), guard-bytes n, bytes-one 34 [] refl)
 
 -- where it ends
-end-at : (p n m : ℕ) (u v : List ℕ) → p + suc n + bytes_of (suc (length u)) (u ++ (34 ∷ guard m ++ v)) ≡ p + bytes ((guard n ++ 34 ∷ []) ++ (u ++ 34 ∷ []))
+end-at : (p n m : ℕ) (u v : List ℕ) → p + suc n + bytes_of (suc (length u)) (u ++ (34 ∷ hashes m ++ v)) ≡ p + bytes ((hashes n ++ 34 ∷ []) ++ (u ++ 34 ∷ []))
 end-at p n m u v =
-    let text : u ++ (34 ∷ guard m ++ v) ≡ (u ++ 34 ∷ []) ++ (guard m ++ v) = sym (append_assoc u (34 ∷ []) (guard m ++ v)) in
+    let text : u ++ (34 ∷ hashes m ++ v) ≡ (u ++ 34 ∷ []) ++ (hashes m ++ v) = sym (append_assoc u (34 ∷ []) (hashes m ++ v)) in
     let size : suc (length u) ≡ length (u ++ 34 ∷ []) = omega (arith, length-append u (34 ∷ [])) in
-    let here : take (suc (length u)) (u ++ (34 ∷ guard m ++ v)) ≡ u ++ 34 ∷ [] = ap (take (suc (length u))) text ∙ (ap (λ (k : ℕ). take k ((u ++ 34 ∷ []) ++ (guard m ++ v))) size ∙ take-append_seam (u ++ 34 ∷ []) (guard m ++ v)) in
-    omega (arith, ap bytes here, bytes-append (guard n ++ 34 ∷ []) (u ++ 34 ∷ []), front-bytes n)
+    let here : take (suc (length u)) (u ++ (34 ∷ hashes m ++ v)) ≡ u ++ 34 ∷ [] = ap (take (suc (length u))) text ∙ (ap (λ (k : ℕ). take k ((u ++ 34 ∷ []) ++ (hashes m ++ v))) size ∙ take-append_seam (u ++ 34 ∷ []) (hashes m ++ v)) in
+    omega (arith, ap bytes here, bytes-append (hashes n ++ 34 ∷ []) (u ++ 34 ∷ []), front-bytes n)
 
 record BestIs (p n m : ℕ) (w : List ℕ) (end : Option ℕ) : Type 0 where
   most : most_hashes w ≡ m
   at : quote_end (p + suc n) w (best_quote w) ≡ end
 
-best-read : (p n : ℕ) {w : List ℕ} {m : ℕ} {end : Option ℕ} → IsBest p (guard n ++ 34 ∷ []) w m end → BestIs p n m w end
+best-read : (p n : ℕ) {w : List ℕ} {m : ℕ} {end : Option ℕ} → IsLikelyEnd p (hashes n ++ 34 ∷ []) w m end → BestIs p n m w end
 best-read p n {w} (the.none lacks) =
     let most : most_hashes w ≡ 0 = omega (arith, most-few 0 w lacks) in
     record { most = most; at = ap (λ (k : ℕ). quote_end (p + suc n) w (quote_if k w)) most }
 best-read p n {w} (the.best {n = m} u v some whole lacks most_so) =
     let many : m ≤ most_hashes w = subst (λ (x : List ℕ). m ≤ most_hashes x) (sym whole) (most-many m u v) in
     let most : most_hashes w ≡ m = omega (arith, most-few m w most_so, many) in
-    let exact : hashes (guard m ++ v) ≡ m = omega (arith, at_least m v, most_at m u v w whole most) in
+    let exact : hash_run (hashes m ++ v) ≡ m = omega (arith, at_least m v, most_at m u v w whole most) in
     let has : (m == 0) ≡ false = false_from_ne_true (m == 0) (λ z. absurd (let none : m ≡ 0 = eqb-true m 0 z in omega (arith, none, some))) in
     record {
       most = most;
@@ -100,14 +101,14 @@ best-read p n {w} (the.best {n = m} u v some whole lacks most_so) =
           ap (λ (k : ℕ). quote_end (p + suc n) w (quote_if k w)) most
           ∙ (ap (λ (b : Bool). quote_end (p + suc n) w (if b then None else quote_with m w)) has
           ∙ (ap (λ (x : List ℕ). quote_end (p + suc n) x (quote_with m x)) whole
-          ∙ (ap (quote_end (p + suc n) (u ++ (34 ∷ guard m ++ v))) (quote-first m u v some lacks exact)
+          ∙ (ap (quote_end (p + suc n) (u ++ (34 ∷ hashes m ++ v))) (quote-first m u v some lacks exact)
           ∙ ap Some (end-at p n m u v))));
     }
   where
-    most_at : (m : ℕ) (u v w : List ℕ) → w ≡ u ++ (34 ∷ guard m ++ v) → most_hashes w ≡ m → hashes (guard m ++ v) ≤ m
-    most_at m [] v w e f = omega (arith, ap most_hashes e, f, le-max_left (hashes (guard m ++ v)) (most_hashes (guard m ++ v)))
+    most_at : (m : ℕ) (u v w : List ℕ) → w ≡ u ++ (34 ∷ hashes m ++ v) → most_hashes w ≡ m → hash_run (hashes m ++ v) ≤ m
+    most_at m [] v w e f = omega (arith, ap most_hashes e, f, le-max_left (hash_run (hashes m ++ v)) (most_hashes (hashes m ++ v)))
     most_at m (c ∷ u) v w e f =
-        let s : List ℕ = u ++ (34 ∷ guard m ++ v) in
+        let s : List ℕ = u ++ (34 ∷ hashes m ++ v) in
         let more : most_hashes s ≤ m = omega (arith, ap most_hashes e, f, le-max_right (quote_hashes (c ∷ s)) (most_hashes s)) in
         most_at m u v s refl (omega (arith, more, most-many m u v))
 
@@ -115,7 +116,7 @@ best-read p n {w} (the.best {n = m} u v some whole lacks most_so) =
 record HasBest (p : ℕ) (front w : List ℕ) : Type 0 where
   count : ℕ
   end : Option ℕ
-  is : IsBest p front w count end
+  is : IsLikelyEnd p front w count end
 
 has-best : (p : ℕ) (front w : List ℕ) → HasBest p front w
 has-best p front w = by_most (most_hashes w) refl
@@ -130,12 +131,12 @@ has-best p front w = by_most (most_hashes w) refl
 
 -- ---- the answer
 
-starts : (p n : ℕ) (v : List ℕ) → Stops is_hash v → checked (raw_read p (guard n ++ v)).0 ≡ checked (raw_starter p n v).0
+starts : (p n : ℕ) (v : List ℕ) → NextIsNot is_hash v → checked (raw_read p (hashes n ++ v)).0 ≡ checked (raw_starter p n v).0
 starts p n v stop =
-    let left : drop n (guard n ++ v) ≡ v = ap (λ (m : ℕ). drop m (guard n ++ v)) (sym (guard-length n)) ∙ drop-append_seam (guard n) v in
-    ap (λ (m : ℕ). checked (raw_starter p m (drop m (guard n ++ v))).0) (guard-hashes n v stop) ∙ ap (λ (x : List ℕ). checked (raw_starter p n x).0) left
+    let left : drop n (hashes n ++ v) ≡ v = ap (λ (m : ℕ). drop m (hashes n ++ v)) (sym (guard-length n)) ∙ drop-append_seam (hashes n) v in
+    ap (λ (m : ℕ). checked (raw_starter p m (drop m (hashes n ++ v))).0) (guard-hashes n v stop) ∙ ap (λ (x : List ℕ). checked (raw_starter p n x).0) left
 
-past-quote : (p n : ℕ) (u : List ℕ) → checked (raw_read p (guard n ++ 34 ∷ u)).0 ≡ checked (raw_closed n (p + suc n) u (close n u)).0
+past-quote : (p n : ℕ) (u : List ℕ) → checked (raw_read p (hashes n ++ 34 ∷ u)).0 ≡ checked (raw_closed n (p + suc n) u (close n u)).0
 past-quote p n u = starts p n (34 ∷ u) refl
 
 few : (n : ℕ) → n ≤ 255 → checked (hash_count n) ≡ Ok tt
@@ -146,10 +147,10 @@ many n lt = rw (lt-leb n 255 lt) refl
 
 answer-read : {p : ℕ} {s : List ℕ} {r : Result Unit RawStrError} → IsRawAnswer p s r → r ≡ checked (raw_read p s).0
 answer-read {p} (the.good n w next le lacks) =
-    sym (past-quote p n (w ++ (34 ∷ guard n ++ next)) ∙ (ap (λ (o : Option ℕ). checked (raw_closed n (p + suc n) (w ++ (34 ∷ guard n ++ next)) o).0) (close-read n w next lacks) ∙ few n le))
+    sym (past-quote p n (w ++ (34 ∷ hashes n ++ next)) ∙ (ap (λ (o : Option ℕ). checked (raw_closed n (p + suc n) (w ++ (34 ∷ hashes n ++ next)) o).0) (close-read n w next lacks) ∙ few n le))
 answer-read {p} (the.too_many n w next lt lacks) =
-    sym (past-quote p n (w ++ (34 ∷ guard n ++ next)) ∙ (ap (λ (o : Option ℕ). checked (raw_closed n (p + suc n) (w ++ (34 ∷ guard n ++ next)) o).0) (close-read n w next lacks) ∙ many n lt))
-answer-read {p} (the.unclosed n w {m} {end} lacks is_best) =
+    sym (past-quote p n (w ++ (34 ∷ hashes n ++ next)) ∙ (ap (λ (o : Option ℕ). checked (raw_closed n (p + suc n) (w ++ (34 ∷ hashes n ++ next)) o).0) (close-read n w next lacks) ∙ many n lt))
+answer-read {p} (the.unclosed n w {found = m} {place = end} lacks is_best) =
     let b = best-read p n is_best in
     sym (past-quote p n w ∙ (ap (λ (o : Option ℕ). checked (raw_closed n (p + suc n) w o).0) (unclosed-read n w lacks)
     ∙ (ap (λ (k : ℕ). let r : Result Unit RawStrError = Err (NoTerminator n k (quote_end (p + suc n) w (best_quote w))) in r) b.most ∙ ap (λ (o : Option ℕ). let r : Result Unit RawStrError = Err (NoTerminator n m o) in r) b.at)))
@@ -157,7 +158,7 @@ answer-read {p} (the.no_quote n c next out) =
     let parts = or_parts (c == 34) _ out in
     let no_hash : is_hash c ≡ false = (or_parts (c == 35) false parts.1).0 in
     sym (starts p n (c ∷ next) no_hash ∙ rw parts.0 refl)
-answer-read {p} (the.no_more n) = sym (ap (λ (s : List ℕ). checked (raw_read p s).0) (sym (append-nil (guard n))) ∙ starts p n [] refl)
+answer-read {p} (the.no_more n) = sym (ap (λ (s : List ℕ). checked (raw_read p s).0) (sym (append-nil (hashes n))) ∙ starts p n [] refl)
 
 -- there is one
 record HasAnswer (p : ℕ) (s : List ℕ) : Type 0 where
@@ -167,20 +168,20 @@ record HasAnswer (p : ℕ) (s : List ℕ) : Type 0 where
 has-answer : (p : ℕ) (s : List ℕ) → HasAnswer p s
 has-answer p s = let g = guarded s in subst (HasAnswer p) g.whole (by_left g.count g.left g.stops)
   where
-    closed : (n : ℕ) (u : List ℕ) {o : Option ℕ} → Closing n u o → HasAnswer p (guard n ++ 34 ∷ u)
-    closed n u (found w z lacks whole) = subst (λ (x : List ℕ). HasAnswer p (guard n ++ 34 ∷ x)) whole (by_count (nat_le n 255) refl)
+    closed : (n : ℕ) (u : List ℕ) {o : Option ℕ} → Closing n u o → HasAnswer p (hashes n ++ 34 ∷ u)
+    closed n u (found w z lacks whole) = subst (λ (x : List ℕ). HasAnswer p (hashes n ++ 34 ∷ x)) whole (by_count (nat_le n 255) refl)
       where
-        by_count : (b : Bool) → nat_le n 255 ≡ b → HasAnswer p (guard n ++ (34 ∷ w ++ (34 ∷ guard n ++ z)))
+        by_count : (b : Bool) → nat_le n 255 ≡ b → HasAnswer p (hashes n ++ (34 ∷ w ++ (34 ∷ hashes n ++ z)))
         by_count true e = record { answer = Ok tt; is = the.good n w z (leb-true n 255 e) lacks }
         by_count false e = record { answer = Err (TooManyDelimiters n); is = the.too_many n w z (leb-false n 255 e) lacks }
-    closed n u (lost lacks) = let b = has-best p (guard n ++ 34 ∷ []) u in record { answer = Err (NoTerminator n b.count b.end); is = the.unclosed n u lacks b.is }
+    closed n u (lost lacks) = let b = has-best p (hashes n ++ 34 ∷ []) u in record { answer = Err (NoTerminator n b.count b.end); is = the.unclosed n u lacks b.is }
 
-    by_left : (n : ℕ) (v : List ℕ) → Stops is_hash v → HasAnswer p (guard n ++ v)
-    by_left n [] stop = record { answer = Err (InvalidStarter 0); is = subst (λ (x : List ℕ). IsRawAnswer p x (Err (InvalidStarter 0))) (sym (append-nil (guard n))) (the.no_more n) }
+    by_left : (n : ℕ) (v : List ℕ) → NextIsNot is_hash v → HasAnswer p (hashes n ++ v)
+    by_left n [] stop = record { answer = Err (InvalidStarter 0); is = subst (λ (x : List ℕ). IsRawAnswer p x (Err (InvalidStarter 0))) (sym (append-nil (hashes n))) (the.no_more n) }
     by_left n (c ∷ u) stop = by_quote (c == 34) refl
       where
-        by_quote : (b : Bool) → (c == 34) ≡ b → HasAnswer p (guard n ++ c ∷ u)
-        by_quote true e = subst (λ (x : ℕ). HasAnswer p (guard n ++ x ∷ u)) (sym (eqb-true c 34 e)) (closed n u (closing n u))
+        by_quote : (b : Bool) → (c == 34) ≡ b → HasAnswer p (hashes n ++ c ∷ u)
+        by_quote true e = subst (λ (x : ℕ). HasAnswer p (hashes n ++ x ∷ u)) (sym (eqb-true c 34 e)) (closed n u (closing n u))
         by_quote false e = record { answer = Err (InvalidStarter c); is = the.no_quote n c u (or_from (c == 34) _ e (or_from (c == 35) false stop refl)) }
 
 -- this one and no other

@@ -14,9 +14,10 @@ use Rattle.rustc_lexer.specs.means.Comment.{is_no_newline}
 use Rattle.rustc_lexer.specs.Cuts.{tokens_by}
 use Rattle.rustc_lexer.specs.Emoji.{is_emoji, emoji_ranges}
 use Rattle.rustc_lexer.specs.Language as page
-use Rattle.rustc_lexer.specs.Language.{begins_more, IsTokenBefore}
+use Rattle.rustc_lexer.specs.Language.{has_rule, IsTokenBefore}
 use Rattle.rustc_lexer.specs.LanguageCalls as the
-use Rattle.rustc_lexer.specs.LanguageCalls.{IsAttributeRest, IsLineBefore, IsShebang, IsTheShebang}
+use Rattle.rustc_lexer.specs.LanguageCalls.{IsAttributeRest, IsLineBefore, IsShebang}
+use Rattle.rustc_lexer.specs.LanguageHolds.{IsTheShebang}
 use Rattle.rustc_lexer.specs.means.Lexeme.{past_first, first_token, symbols, kind_among}
 use Rattle.rustc_lexer.specs.means.Scan.{begins}
 use Rattle.rustc_lexer.specs.means.Shebang.{is_passed, is_open_bracket, is_attribute, before_newline, line_len, shebang_past, shebang}
@@ -59,7 +60,7 @@ rest-is text kind c w next is e p =
       less = shorter first_token_grammar text is some;
     }
 
-bracket-alone : begins_more 91 ≡ false
+bracket-alone : has_rule 91 ≡ false
 unfolding unicode_ident is_emoji emoji_ranges
 bracket-alone = refl
 
@@ -95,7 +96,7 @@ bracket-view (page.literal is) e = absurd (true≢false (sym e))
 bracket-view (page.literal_with is suffix_is) e = absurd (true≢false (sym e))
 bracket-view (page.slash stop) e = absurd (true≢false (sym e))
 bracket-view (page.pound stop) e = absurd (true≢false (sym e))
-bracket-view (page.guarded is) e = absurd (true≢false (sym e))
+bracket-view (page.guarded_prefix is) e = absurd (true≢false (sym e))
 bracket-view (page.symbol {c} is) e = ap (λ (x : ℕ). x ∷ []) (among-bracket symbols c refl e)
 
 -- by what the first token is
@@ -249,7 +250,7 @@ answer-read {text} is (the.shebang w next e free line) = sym (past-mark text (w 
     by_attribute true f = absurd (free (attribute-is (length (w ++ next)) (w ++ next) (chars (w ++ next)) (tail-text text (w ++ next) is e) refl (omega arith) f))
     by_attribute false f = rw f refl
 answer-read {text} is (the.attribute rest e attribute) = sym (past-mark text rest e ∙ ap (λ (b : Bool). let r : Option ℕ = if b then None else Some (2 + line_len rest) in r) (attribute-read attribute rest (tail-text text rest is e) refl))
-answer-read {text} is (the.no_mark e) = sym (no-mark text e)
+answer-read {text} is (the.no_start e) = sym (no-mark text e)
 
 record HasShebang (text : List ℕ) : Type 0 where
   answer : Option ℕ
@@ -280,7 +281,7 @@ has-shebang text is = by_mark (begins (codes "#!") text) refl
 
     by_mark : (b : Bool) → begins (codes "#!") text ≡ b → HasShebang text
     by_mark true e = past (drop 2 text) (front-is text e)
-    by_mark false e = record { answer = None; is = the.no_mark e }
+    by_mark false e = record { answer = None; is = the.no_start e }
 
 -- this one and no other
 pub shebang-answer : (text : List ℕ) (answer : Option ℕ) → IsText text → answer ≡ shebang text → IsTheShebang text answer

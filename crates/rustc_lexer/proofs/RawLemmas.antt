@@ -7,7 +7,7 @@ use Rattle.std.proofs.lemmas.Str.{encode_ascii, IsCharBoundary-from_drop}
 use Rattle.rustc_lexer.specs.declared.token.RawStrError.{RawStrError}
 use Rattle.rustc_lexer.specs.declared.token.RawStrError.TheVariants.{NoTerminator}
 use Rattle.rustc_lexer.specs.means.Least.{one_more, more}
-use Rattle.rustc_lexer.specs.means.Raw.{least_place, is_hash, is_quote, is_no_quote, hashes, closes, close, quote_hashes, most_hashes, quote_with, quote_if, best_quote, quote_end, hash_count, raw_closed, raw_text}
+use Rattle.rustc_lexer.specs.means.Raw.{least_place, is_hash, is_quote, is_no_quote, hash_run, closes, close, quote_hashes, most_hashes, quote_with, quote_if, best_quote, quote_end, hash_count, raw_closed, raw_text}
 use Rattle.rustc_lexer.specs.means.Scan.{begins, bytes_of, past, run_len, scanned}
 use Rattle.rustc_lexer.proofs.CharSteps.{bytes_of-suc}
 use Rattle.rustc_lexer.proofs.ScanLemmas.{run_len-stop, more-more}
@@ -55,7 +55,7 @@ module _ (p : ℕ → Bool) (none : (c : ℕ) → p c ≡ true → is_quote c �
       by_class : most_hashes s ≡ most_hashes (drop (run_len p s) s) → (b : Bool) → p c ≡ b → most_hashes (c ∷ s) ≡ most_hashes (drop (run_len p (c ∷ s)) (c ∷ s))
       by_class ih true e =
           let n : ℕ = run_len p s in
-          let no_hashes : quote_hashes (c ∷ s) ≡ 0 = ap (λ (b : Bool). if b then hashes s else 0) (none c e) in
+          let no_hashes : quote_hashes (c ∷ s) ≡ 0 = ap (λ (b : Bool). if b then hash_run s else 0) (none c e) in
           let same : max 0 (most_hashes s) ≡ most_hashes s = omega arith in
           ap (λ (m : ℕ). max m (most_hashes s)) no_hashes ∙ (same ∙ (ih ∙ ap (λ (b : Bool). most_hashes (drop (if b then suc n else 0) (c ∷ s))) (sym e)))
       by_class ih false e = ap (λ (b : Bool). most_hashes (drop (if b then suc (run_len p s) else 0) (c ∷ s))) (sym e)
@@ -109,20 +109,20 @@ module _ (v w : List ℕ) (at_quote : drop (run_len is_no_quote v) v ≡ 34 ∷ 
     pub place-at : test (34 ∷ w) ≡ true → least_place test v ≡ Some (run_len is_no_quote v)
     place-at e = to-quote ∙ (ap (more (run_len is_no_quote v)) (place-here test 34 w e) ∙ ap Some (omega arith))
 
-    pub place-past : test (34 ∷ w) ≡ false → least_place test v ≡ more (suc (run_len is_no_quote v) + hashes w) (least_place test (drop (hashes w) w))
+    pub place-past : test (34 ∷ w) ≡ false → least_place test v ≡ more (suc (run_len is_no_quote v) + hash_run w) (least_place test (drop (hash_run w) w))
     place-past e =
         to-quote
         ∙ (ap (more (run_len is_no_quote v)) (place-on test 34 w e ∙ ap one_more (skip-place is_hash hash-no_quote test fails w))
-        ∙ more-quote (run_len is_no_quote v) (hashes w) (least_place test (drop (hashes w) w)))
+        ∙ more-quote (run_len is_no_quote v) (hash_run w) (least_place test (drop (hash_run w) w)))
 
-  pub most-past : most_hashes v ≡ max (hashes w) (most_hashes (drop (hashes w) w))
-  most-past = skip-most is_no_quote other-no_quote v ∙ (ap most_hashes at_quote ∙ ap (max (hashes w)) (skip-most is_hash hash-no_quote w))
+  pub most-past : most_hashes v ≡ max (hash_run w) (most_hashes (drop (hash_run w) w))
+  most-past = skip-most is_no_quote other-no_quote v ∙ (ap most_hashes at_quote ∙ ap (max (hash_run w)) (skip-most is_hash hash-no_quote w))
 
 closes-fails : (n c : ℕ) (s : List ℕ) → is_quote c ≡ false → closes n (c ∷ s) ≡ false
-closes-fails n c s e = ap (λ b. b && nat_le n (hashes s)) e
+closes-fails n c s e = ap (λ b. b && nat_le n (hash_run s)) e
 
 counts-fails : (m c : ℕ) (s : List ℕ) → 0 < m → is_quote c ≡ false → (quote_hashes (c ∷ s) == m) ≡ false
-counts-fails m c s some e = ap (λ (b : Bool). (if b then hashes s else 0) == m) e ∙ ne_eqb 0 m (λ f. omega arith)
+counts-fails m c s some e = ap (λ (b : Bool). (if b then hash_run s else 0) == m) e ∙ ne_eqb 0 m (λ f. omega arith)
 
 -- `found` hashes at most stand after a quote of what was passed, and `end` is where the first such quote ends
 pub record Searching (n before : ℕ) (text left : List ℕ) (found : ℕ) (end : Option ℕ) : Type 0 where
@@ -146,21 +146,21 @@ search_start n before text is = record {
 }
 
 -- the hashes at the front are one byte each
-pub hash_bytes : (n : ℕ) (w : List ℕ) → n ≤ hashes w → bytes_of n w ≡ n
+pub hash_bytes : (n : ℕ) (w : List ℕ) → n ≤ hash_run w → bytes_of n w ≡ n
 hash_bytes zero w le = refl
 hash_bytes (suc n) [] le = absurd (omega arith)
 hash_bytes (suc n) (c ∷ w) le = by_hash (λ f. hash_bytes n w f) (is_hash c) refl le
   where
-    by_hash : (n ≤ hashes w → bytes_of n w ≡ n) → (b : Bool) → is_hash c ≡ b → suc n ≤ (if b then suc (hashes w) else 0) → bytes_of (suc n) (c ∷ w) ≡ suc n
+    by_hash : (n ≤ hash_run w → bytes_of n w ≡ n) → (b : Bool) → is_hash c ≡ b → suc n ≤ (if b then suc (hash_run w) else 0) → bytes_of (suc n) (c ∷ w) ≡ suc n
     by_hash ih true e le =
         let one : length (encode_utf8 c) ≡ 1 = ap length (encode_ascii c (let f = eqb-true c 35 e in omega arith)) in
         let rest : bytes_of n w ≡ n = ih (omega arith) in
         bytes_of-suc n c w ∙ omega arith
     by_hash ih false e le = absurd (omega arith)
 
-pub hash_len : (text rest : List ℕ) → IsUtf8 text → rest ≡ past (hashes (chars text)) text → length text - length rest ≡ hashes (chars text)
+pub hash_len : (text rest : List ℕ) → IsUtf8 text → rest ≡ past (hash_run (chars text)) text → length text - length rest ≡ hash_run (chars text)
 hash_len text rest is e =
-    let n : ℕ = hashes (chars text) in
+    let n : ℕ = hash_run (chars text) in
     let one : bytes_of n (chars text) ≡ n = hash_bytes n (chars text) (omega arith) in
     let all : n + length rest ≡ length text = ap (λ (k : ℕ). k + length rest) (sym one) ∙ (ap (λ (xs : List ℕ). bytes_of n (chars text) + length xs) e ∙ length-past n text is) in
     omega arith
@@ -175,36 +175,36 @@ module _ (n before : ℕ) (text left tail next : List ℕ) (found : ℕ) (end : 
   tail_utf8 : IsUtf8 tail
   tail_utf8 = subst IsUtf8 (sym tail_at) (IsUtf8-past (at.taken + suc (run_len is_no_quote (chars left))) text is)
 
-  count : length tail - length next ≡ hashes (chars tail)
+  count : length tail - length next ≡ hash_run (chars tail)
   count = hash_len tail next tail_utf8 next_is
 
-  next_reads : chars next ≡ drop (hashes (chars tail)) (chars tail)
-  next_reads = ap chars next_is ∙ chars-past (hashes (chars tail)) tail tail_utf8
+  next_reads : chars next ≡ drop (hash_run (chars tail)) (chars tail)
+  next_reads = ap chars next_is ∙ chars-past (hash_run (chars tail)) tail tail_utf8
 
-  next_at : next ≡ past (at.taken + (suc (run_len is_no_quote (chars left)) + hashes (chars tail))) text
+  next_at : next ≡ past (at.taken + (suc (run_len is_no_quote (chars left)) + hash_run (chars tail))) text
   next_at =
       let k : ℕ = run_len is_no_quote (chars left) in
-      let h : ℕ = hashes (chars tail) in
+      let h : ℕ = hash_run (chars tail) in
       let same : (at.taken + suc k) + h ≡ at.taken + (suc k + h) = omega arith in
       next_is ∙ (ap (past h) tail_at ∙ (past-past h (at.taken + suc k) text is ∙ ap (λ (m : ℕ). past m text) same))
 
   place_on : (test : List ℕ → Bool) → ((c : ℕ) (s : List ℕ) → is_quote c ≡ false → test (c ∷ s) ≡ false) → test (34 ∷ chars tail) ≡ false → least_place test (chars text) ≡ more at.taken (least_place test (chars left))
-      → least_place test (chars text) ≡ more (at.taken + (suc (run_len is_no_quote (chars left)) + hashes (chars tail))) (least_place test (chars next))
+      → least_place test (chars text) ≡ more (at.taken + (suc (run_len is_no_quote (chars left)) + hash_run (chars tail))) (least_place test (chars next))
   place_on test fails e f =
-      let d : ℕ = suc (run_len is_no_quote (chars left)) + hashes (chars tail) in
+      let d : ℕ = suc (run_len is_no_quote (chars left)) + hash_run (chars tail) in
       f
       ∙ (ap (more at.taken) (place-past (chars left) (chars tail) quote test fails e)
-      ∙ (more-more at.taken d (least_place test (drop (hashes (chars tail)) (chars tail)))
+      ∙ (more-more at.taken d (least_place test (drop (hash_run (chars tail)) (chars tail)))
       ∙ ap (λ s. more (at.taken + d) (least_place test s)) (sym next_reads)))
 
-  most_on : most_hashes (chars text) ≡ max found (max (hashes (chars tail)) (most_hashes (chars next)))
-  most_on = at.most ∙ ap (max found) (most-past (chars left) (chars tail) quote ∙ ap (λ s. max (hashes (chars tail)) (most_hashes s)) (sym next_reads))
+  most_on : most_hashes (chars text) ≡ max found (max (hash_run (chars tail)) (most_hashes (chars next)))
+  most_on = at.most ∙ ap (max found) (most-past (chars left) (chars tail) quote ∙ ap (λ s. max (hash_run (chars tail)) (most_hashes s)) (sym next_reads))
 
   -- the quote has too few hashes to close
   module _ (few : length tail - length next < n) (shorter : length next ≤ length text) where
-    on : (to : ℕ) (o : Option ℕ) → found ≤ to → hashes (chars tail) ≤ to → max found (hashes (chars tail)) ≡ to → o ≡ quote_end before (chars text) (quote_if to (chars text)) → Searching n before text next to o
+    on : (to : ℕ) (o : Option ℕ) → found ≤ to → hash_run (chars tail) ≤ to → max found (hash_run (chars tail)) ≡ to → o ≡ quote_end before (chars text) (quote_if to (chars text)) → Searching n before text next to o
     on to o above here most e =
-        let h : ℕ = hashes (chars tail) in
+        let h : ℕ = hash_run (chars tail) in
         let is_count = count in
         record {
           taken = at.taken + (suc (run_len is_no_quote (chars left)) + h);
@@ -221,7 +221,7 @@ module _ (n before : ℕ) (text left tail next : List ℕ) (found : ℕ) (end : 
 
     pub search_more : found < length tail - length next → Searching n before text next (length tail - length next) (Some (before + (length text - length tail)))
     search_more less =
-        let h : ℕ = hashes (chars tail) in
+        let h : ℕ = hash_run (chars tail) in
         let k : ℕ = run_len is_no_quote (chars left) in
         let is_count = count in
         let some : (h == 0) ≡ false = ne_eqb h 0 (λ f. omega arith) in
@@ -250,7 +250,7 @@ module _ (n before : ℕ) (text left tail next : List ℕ) (found : ℕ) (end : 
     closed_here read cut e f =
         let k : ℕ = run_len is_no_quote (chars left) in
         let closes_here : close n (chars text) ≡ Some (at.taken + k) =
-        at.closes_at ∙ ap (more at.taken) (place-at (chars left) (chars tail) quote (closes n) (closes-fails n) (le-leb n (hashes (chars tail)) (let is_count = count in omega arith))) in
+        at.closes_at ∙ ap (more at.taken) (place-at (chars left) (chars tail) quote (closes n) (closes-fails n) (le-leb n (hash_run (chars tail)) (let is_count = count in omega arith))) in
         let same : (at.taken + suc k) + n ≡ suc (at.taken + k) + n = omega arith in
         let left_is : cut ≡ past (suc (at.taken + k) + n) text = f ∙ (cut_is ∙ (ap (past n) tail_at ∙ (past-past n (at.taken + suc k) text is ∙ ap (λ (m : ℕ). past m text) same))) in
         ap (λ (r : Result ℕ RawStrError). (r, cut)) e

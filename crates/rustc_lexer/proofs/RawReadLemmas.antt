@@ -9,7 +9,7 @@ use Rattle.rustc_lexer.specs.declared.token.RawStrError.{RawStrError}
 use Rattle.rustc_lexer.specs.declared.token.RawStrError.TheVariants.{InvalidStarter}
 use Rattle.rustc_lexer.specs.declared.token.TokenKind.TheVariants.{Literal}
 use Rattle.rustc_lexer.specs.means.Literal.{suffix_len}
-use Rattle.rustc_lexer.specs.means.Raw.{is_quote, hashes, raw_text, past_starter, raw_starter, raw_read, raw_body, accepted, is_accepted, prefix_kind, prefix_len, raw_literal, checked, raw_check, is_r, StartsRaw}
+use Rattle.rustc_lexer.specs.means.Raw.{is_quote, hash_run, raw_text, past_starter, raw_starter, raw_read, raw_body, accepted, is_accepted, prefix_kind, prefix_len, raw_literal, checked, raw_check, is_r, StartsRaw}
 use Rattle.rustc_lexer.specs.means.Scan.{bytes_of, gives, next_is, past, scanned}
 use Rattle.rustc_lexer.proofs.PastLemmas.{past-zero, past-past, chars-past, IsUtf8-past, length-past}
 use Rattle.rustc_lexer.proofs.RawLemmas.{hash_len}
@@ -20,24 +20,24 @@ abbrev Left : Type 0
 Left = Result ℕ RawStrError × List ℕ
 
 -- `from` follows the first hashes
-module _ (prefix : ℕ) (text from : List ℕ) (is : IsUtf8 text) (from_is : from ≡ past (hashes (chars text)) text) where
+module _ (prefix : ℕ) (text from : List ℕ) (is : IsUtf8 text) (from_is : from ≡ past (hash_run (chars text)) text) where
   from_utf8 : IsUtf8 from
-  from_utf8 = subst IsUtf8 (sym from_is) (IsUtf8-past (hashes (chars text)) text is)
+  from_utf8 = subst IsUtf8 (sym from_is) (IsUtf8-past (hash_run (chars text)) text is)
 
-  to_starter : scanned (raw_read prefix) text ≡ scanned (raw_starter prefix (hashes (chars text))) from
-  to_starter = scanned-after (hashes (chars text)) (raw_starter prefix (hashes (chars text))) text from is from_is
+  to_starter : scanned (raw_read prefix) text ≡ scanned (raw_starter prefix (hash_run (chars text))) from
+  to_starter = scanned-after (hash_run (chars text)) (raw_starter prefix (hash_run (chars text))) text from is from_is
 
   pub no_starter : chars from ≡ [] → (Err (InvalidStarter 0), from) ≡ scanned (raw_read prefix) text
   no_starter e =
       sym (to_starter
-      ∙ (ap (λ (s : List ℕ). let r : Left = ((raw_starter prefix (hashes (chars text)) s).0, past (raw_starter prefix (hashes (chars text)) s).1 from) in r) e
+      ∙ (ap (λ (s : List ℕ). let r : Left = ((raw_starter prefix (hash_run (chars text)) s).0, past (raw_starter prefix (hash_run (chars text)) s).1 from) in r) e
       ∙ ap (λ (xs : List ℕ). let r : Left = (Err (InvalidStarter 0), xs) in r) (past-zero from from_utf8)))
 
   -- `body` follows the character after the hashes
   module _ (c : ℕ) (body : List ℕ) (reads : chars from ≡ c ∷ chars body) (body_is : body ≡ past 1 from) where
-    to_body : scanned (raw_read prefix) text ≡ scanned (past_starter prefix (hashes (chars text)) c) body
+    to_body : scanned (raw_read prefix) text ≡ scanned (past_starter prefix (hash_run (chars text)) c) body
     to_body =
-        let n : ℕ = hashes (chars text) in
+        let n : ℕ = hash_run (chars text) in
         let m : ℕ = (past_starter prefix n c (chars body)).1 in
         let same : 1 + m ≡ suc m = omega arith in
         let left : past (suc m) from ≡ past m body = sym (ap (past m) body_is ∙ (past-past m 1 from from_utf8 ∙ ap (λ (k : ℕ). past k from) same)) in
@@ -50,9 +50,9 @@ module _ (prefix : ℕ) (text from : List ℕ) (is : IsUtf8 text) (from_is : fro
 
     -- what is read of the body, where it is known whether that character is a quote
     by_quote : (b : Bool) → is_quote c ≡ b
-        → scanned (raw_read prefix) text ≡ scanned (λ u. if b then raw_text (hashes (chars text)) (prefix + suc (hashes (chars text))) u else gives (Err (InvalidStarter c)) u) body
+        → scanned (raw_read prefix) text ≡ scanned (λ u. if b then raw_text (hash_run (chars text)) (prefix + suc (hash_run (chars text))) u else gives (Err (InvalidStarter c)) u) body
     by_quote b e =
-        let n : ℕ = hashes (chars text) in
+        let n : ℕ = hash_run (chars text) in
         to_body
         ∙ ap (λ (b : Bool). let r : Result ℕ RawStrError × ℕ = if b then raw_text n (prefix + suc n) (chars body) else gives (Err (InvalidStarter c)) (chars body) in let t : Left = (r.0, past r.1 body) in t) e
 
@@ -62,7 +62,7 @@ module _ (prefix : ℕ) (text from : List ℕ) (is : IsUtf8 text) (from_is : fro
     pub past_opening : (read : Result ℕ RawStrError) (left : List ℕ) → c ≡ 34
         → (read, left) ≡ scanned (raw_text (length text - length from) (prefix + (length text - length from) + 1)) body → (read, left) ≡ scanned (raw_read prefix) text
     past_opening read left e f =
-        let n : ℕ = hashes (chars text) in
+        let n : ℕ = hash_run (chars text) in
         let count : length text - length from ≡ n = hash_len text from is from_is in
         let before : prefix + n + 1 ≡ prefix + suc n = omega arith in
         f

@@ -9,10 +9,11 @@ use Rattle.unicode_ident.specs.Ident.{is_xid_start, is_xid_continue}
 abbrev pub is_among : List ℕ → ℕ → Bool
 is_among ds c = list_any (λ d. c == d) ds
 
--- tab, line feed, vertical tab, form feed, carriage return, space, next line, the marks of direction, and the
--- separators of lines and paragraphs
+-- tab, line feed, vertical tab, form feed, carriage return, space, next line, the marks of
+-- direction, and the separators of lines and paragraphs
 abbrev pub is_whitespace : ℕ → Bool
-is_whitespace c = is_among (0x9 ∷ 0xA ∷ 0xB ∷ 0xC ∷ 0xD ∷ 0x20 ∷ 0x85 ∷ 0x200E ∷ 0x200F ∷ 0x2028 ∷ 0x2029 ∷ []) c
+is_whitespace c =
+    is_among (0x9 ∷ 0xA ∷ 0xB ∷ 0xC ∷ 0xD ∷ 0x20 ∷ 0x85 ∷ 0x200E ∷ 0x200F ∷ 0x2028 ∷ 0x2029 ∷ []) c
 
 -- tab and space
 abbrev pub is_horizontal_whitespace : ℕ → Bool

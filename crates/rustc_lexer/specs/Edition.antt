@@ -1,18 +1,13 @@
--- Editions: their years, and the tokens of a text in one.
-use Rattle.std.specs.Prelude.{ℕ, ◌≡◌, ◌<◌, ◌≤◌, codes, if◌then◌else◌, List, [], ◌∷◌, length, drop, IsCharBoundary, Option, Some, None}
+-- The tokens of a text in an edition.
+use Rattle.std.specs.Prelude.{ℕ, ◌≡◌, ◌<◌, ◌≤◌, codes, if◌then◌else◌, List, [], ◌∷◌, length, drop}
+use Rattle.std.specs.Prelude.{IsCharBoundary, Option, Some, None}
 use Rattle.std.specs.Str.{bytes_eq}
 use Rattle.rustc_lexer.specs.declared.edition.Edition.{Edition}
 use Rattle.rustc_lexer.specs.declared.edition.Edition.TheVariants.{E2015, E2018, E2021, E2024}
 use Rattle.rustc_lexer.specs.declared.token.Token.{Token}
 use Rattle.rustc_lexer.specs.Cuts.{bound, tokens_by}
+pub use Rattle.rustc_lexer.specs.LanguageIn.{year}
 pub use Rattle.rustc_lexer.specs.means.Edition.{token, has_marked_name, before_2024, before_2021, changed, first_token_in}
-
--- the year that names an edition
-abbrev pub year : Edition → ℕ
-year E2015 = 2015
-year E2018 = 2018
-year E2021 = 2021
-year E2024 = 2024
 
 -- the edition that a word names, by its year
 abbrev pub edition_of : List ℕ → Option Edition

@@ -1,196 +1,234 @@
--- The language of the tokens of Rust: which texts a token of each kind may have, and before what. One rule for each form.
-use Rattle.std.specs.Prelude.{◌≡◌, ◌+◌, ◌<◌, ◌≤◌, ℕ, zero, suc, ◌==◌, ◌||◌, ◌&&◌, not, Bool, true, false, List, [], ◌∷◌, ◌++◌, length, take, drop, codes, Option, Some, None}
+-- The language of the tokens of Rust, as the compiler's lexer has them: which texts a token of each
+-- kind may have, and before what. One rule for each form, and nothing of how a text is read.
+--
+-- Notation. `w` is the text of a token and `next` all that follows it. Both are characters (type
+-- `Chars`), and at the end of the text `next` is []. In bytes are the `text` of `BeginsWith` (type
+-- `Utf8`), each `len`, and where a suffix begins. A NUL is a character like others. `P → ⊥` denies
+-- P. No rule denies what it defines, so each relation is the least one that its rules make. Fields
+-- stand in the order of src/token.rt: LineComment doc_style, BlockComment doc_style terminated,
+-- Lifetime starts_with_number, Literal kind suffix_start, Frontmatter
+-- has_invalid_preceding_whitespace invalid_infostring.
+--
+--   form         rules                                   in the Rust Reference
+--   white space  whitespace                              WHITESPACE
+--   comments     line_comment, block_comment,            LINE_COMMENT, BLOCK_COMMENT, and their
+--                open_comment                            INNER_.. and OUTER_.. docs
+--   words        ident, invalid_ident, raw_ident,        IDENTIFIER_OR_KEYWORD, RAW_IDENTIFIER
+--                forced_keyword
+--   reserved     unknown_prefix, guarded_prefix,         RESERVED_TOKEN_.., RESERVED_POUNDS,
+--                unknown_prefix_lifetime                 RESERVED_GUARDED_STRING_LITERAL
+--   lifetimes    lifetime, raw_lifetime                  LIFETIME_TOKEN, RAW_LIFETIME
+--   literals     literal, literal_with; LiteralGrammar   CHAR_LITERAL .. RAW_C_STRING_LITERAL,
+--                                                        SUFFIX
+--   numbers      NumberGrammar                           INTEGER_LITERAL, FLOAT_LITERAL
+--   symbols      slash, pound, symbol; Symbols           PUNCTUATION
+--   whole texts  AreTokens; FrontmatterGrammar           RFC 3503
+--
+-- Beyond the Reference: what is unclosed, empty or has an emoji is a token too, for a compiler's
+-- messages. What is proved of this page, and what is not, stands in LanguageHolds.antt.
+use Rattle.std.specs.Prelude.{◌≡◌, ◌+◌, ℕ, ◌||◌, not, Bool, true, false}
+use Rattle.std.specs.Prelude.{List, [], ◌∷◌, ◌++◌, take, drop, codes, Option, Some, None}
 use Rattle.std.specs.Char.{is_ascii_digit}
 use Rattle.std.specs.List.{list_all, list_any}
-use Rattle.std.specs.Option.{is_some}
 use Rattle.std.specs.Str.{byte, chars, encode_utf8_all}
 use Rattle.rustc_lexer.specs.declared.token.DocStyle.{DocStyle}
 use Rattle.rustc_lexer.specs.declared.token.DocStyle.TheVariants.{Outer, Inner}
 use Rattle.rustc_lexer.specs.declared.token.FrontmatterAllowed.{FrontmatterAllowed}
 use Rattle.rustc_lexer.specs.declared.token.FrontmatterAllowed.TheVariants.{Yes, No}
 use Rattle.rustc_lexer.specs.declared.token.LiteralKind.{LiteralKind}
-use Rattle.rustc_lexer.specs.declared.token.LiteralKind.TheVariants.{Char, Byte, Str, ByteStr, CStr, RawStr, RawByteStr, RawCStr}
 use Rattle.rustc_lexer.specs.declared.token.Token.{Token}
 use Rattle.rustc_lexer.specs.declared.token.TokenKind.{TokenKind}
-use Rattle.rustc_lexer.specs.declared.token.TokenKind.TheVariants.{LineComment, BlockComment, Whitespace, Frontmatter, Ident, InvalidIdent, RawIdent, ForcedKeywordIdent, UnknownPrefix, UnknownPrefixLifetime, RawLifetime, GuardedStrPrefix, Literal, Lifetime, Slash, Pound, Eof}
-use Rattle.rustc_lexer.specs.Classes.{is_among, is_whitespace, is_id_start, is_id_continue, is_ident}
+use Rattle.rustc_lexer.specs.declared.token.TokenKind.TheVariants.{Whitespace, Frontmatter, Eof}
+use Rattle.rustc_lexer.specs.declared.token.TokenKind.TheVariants.{LineComment, BlockComment, Ident}
+use Rattle.rustc_lexer.specs.declared.token.TokenKind.TheVariants.{InvalidIdent, RawIdent}
+use Rattle.rustc_lexer.specs.declared.token.TokenKind.TheVariants.{ForcedKeywordIdent, Lifetime}
+use Rattle.rustc_lexer.specs.declared.token.TokenKind.TheVariants.{UnknownPrefix, RawLifetime}
+use Rattle.rustc_lexer.specs.declared.token.TokenKind.TheVariants.{UnknownPrefixLifetime, Literal}
+use Rattle.rustc_lexer.specs.declared.token.TokenKind.TheVariants.{GuardedStrPrefix, Slash, Pound}
+use Rattle.rustc_lexer.specs.Classes.{is_among, is_whitespace, is_id_continue, is_ident}
 use Rattle.rustc_lexer.specs.Emoji.{is_emoji}
-use Rattle.rustc_lexer.specs.FrontmatterGrammar.{IsOpeningBefore, OpensNone, EndsAt}
-use Rattle.rustc_lexer.specs.NumberGrammar.{IsLongestNumber}
-use Rattle.rustc_lexer.specs.Spans.{begins, next_is, AreAll, Goes, Stops, bytes, is_inline}
+use Rattle.rustc_lexer.specs.FrontmatterGrammar.{IsOpeningBefore, OpensNone, EndsAt, allowed_after}
+use Rattle.rustc_lexer.specs.LiteralGrammar.{IsLiteralBefore, IsSuffixBefore}
+use Rattle.rustc_lexer.specs.Spans.{Chars, Utf8, begins, next_is, AreAll, NextIs, NextIsNot, NextIn}
+use Rattle.rustc_lexer.specs.Spans.{NextNotIn, bytes, is_inline, is_word_start, is_word_continue}
+use Rattle.rustc_lexer.specs.Spans.{is_name_start, begins_ident_after}
 use Rattle.rustc_lexer.specs.Symbols.{symbol_kind}
-
--- ---- words
-
--- what words are made of, right or wrong, and what begins a word; what begins the name of a lifetime
-abbrev pub is_word : ℕ → Bool
-is_word c = is_id_continue c || is_emoji c
-
-abbrev pub is_word_start : ℕ → Bool
-is_word_start c = is_id_start c || is_emoji c
-
-abbrev pub is_name_start : ℕ → Bool
-is_name_start c = is_id_start c || is_ascii_digit c || is_emoji c
-
--- right behind one of these words are prefixes
-abbrev pub is_mark : ℕ → Bool
-is_mark c = is_among (codes "#\"'") c
-
--- these characters, and then the start of an identifier
-abbrev pub begins_ident_past : List ℕ → List ℕ → Bool
-begins_ident_past front s = begins front s && next_is is_id_start (drop (length front) s)
-
--- what begins no identifier, though its first characters could: a literal, a raw identifier or a forced keyword
-abbrev pub openings : List (List ℕ)
-openings =
-    codes "r\"" ∷ codes "r#" ∷ codes "b'" ∷ codes "b\"" ∷ codes "br\"" ∷ codes "br#" ∷ codes "c\"" ∷ codes "cr\"" ∷ codes "cr#" ∷ []
-
-abbrev pub is_opening : List ℕ → Bool
-is_opening s = list_any (λ front. begins front s) openings || begins_ident_past (codes "k#") s
 
 -- ---- comments
 
--- of what follows `//` or `/*`, by the mark of that, `/` or `*`: `!` is a doc of what it stands in; the mark once more is
--- one of what comes next, where none of the others follows
-pub data IsStyle (mark : ℕ) (others : ℕ → Bool) : Option DocStyle → List ℕ → Type 0 where
-  inner : {w : List ℕ} → IsStyle mark others (Some Inner) (byte "!" ∷ w)
-  outer : {w : List ℕ} → Stops others w → IsStyle mark others (Some Outer) (mark ∷ w)
-  no_outer : {w : List ℕ} → Goes others w → IsStyle mark others None (mark ∷ w)
-  no_mark : {w : List ℕ} → Stops (is_among (mark ∷ codes "!")) w → IsStyle mark others None w
+-- the doc style of a comment, by what follows its // or /*: Inner for `!`; Outer for `again`, /
+-- or * once more, if none of `undocs` follows that (////, /*** and /**/ are no docs); else none
+pub data IsStyle (again : ℕ) (undocs : Chars) : Option DocStyle → Chars → Type 0 where
+  inner : {w : Chars} → IsStyle again undocs (Some Inner) (byte "!" ∷ w)
+  outer : {w : Chars} → NextNotIn undocs w → IsStyle again undocs (Some Outer) (again ∷ w)
+  no_outer : {w : Chars} → NextIn undocs w → IsStyle again undocs None (again ∷ w)
+  neither : {w : Chars} → NextNotIn (again ∷ codes "!") w → IsStyle again undocs None w
 
-abbrev pub IsLineStyle : Option DocStyle → List ℕ → Type 0
-IsLineStyle style w = IsStyle (byte "/") (is_among (codes "/")) style w
+abbrev pub IsLineStyle : Option DocStyle → Chars → Type 0
+IsLineStyle style w = IsStyle (byte "/") (codes "/") style w
 
-abbrev pub IsBlockStyle : Option DocStyle → List ℕ → Type 0
-IsBlockStyle style w = IsStyle (byte "*") (is_among (codes "*/")) style w
+abbrev pub IsBlockStyle : Option DocStyle → Chars → Type 0
+IsBlockStyle style w = IsStyle (byte "*") (codes "*/") style w
 
--- what closes a block comment: `*/`; or first a comment inside, or a character that begins neither
-pub data Closes : List ℕ → Type 0 where
-  mark : Closes (codes "*/")
-  nested : {v w : List ℕ} → Closes v → Closes w → Closes (codes "/*" ++ v ++ w)
-  other : {c : ℕ} {w : List ℕ} → begins (codes "*/") (c ∷ w) ≡ false → begins (codes "/*") (c ∷ w) ≡ false → Closes w → Closes (c ∷ w)
+-- what follows /*, up to and with the */ that closes it: comments inside it, and other characters
+pub data IsCommentRest : Chars → Type 0 where
+  closing : IsCommentRest (codes "*/")
+  nested : {v w : Chars}
+      → IsCommentRest v
+      → IsCommentRest w
+      → IsCommentRest (codes "/*" ++ v ++ w)
+  other : {c : ℕ} {w : Chars}
+      → begins (codes "*/") (c ∷ w) ≡ false
+      → begins (codes "/*") (c ∷ w) ≡ false
+      → IsCommentRest w
+      → IsCommentRest (c ∷ w)
 
--- ---- quoted text
+-- ---- words
 
--- characters outside a class and escapes, a backslash with any character, and then this end
-pub data QuotedTo (end : List ℕ) (special : ℕ → Bool) : List ℕ → Type 0 where
-  ends : QuotedTo end special end
-  plain : {c : ℕ} {w : List ℕ} → special c ≡ false → QuotedTo end special w → QuotedTo end special (c ∷ w)
-  escape : {c : ℕ} {w : List ℕ} → QuotedTo end special w → QuotedTo end special (byte "\\" ∷ c ∷ w)
+-- a word right before one of these is a prefix
+abbrev pub ends_prefix : ℕ → Bool
+ends_prefix c = is_among (codes "#\"'") c
 
--- past a double quote, and whether it is closed: what is not takes all of the text, of which a backslash may be the last
-pub data IsDoubleQuoted (next : List ℕ) : Bool → List ℕ → Type 0 where
-  closed : {w : List ℕ} → QuotedTo (codes "\"") (is_among (codes "\"\\")) w → IsDoubleQuoted next true w
-  unclosed : {w : List ℕ} → next ≡ [] → QuotedTo [] (is_among (codes "\"\\")) w → IsDoubleQuoted next false w
-  unclosed_escape : {w : List ℕ} → next ≡ [] → QuotedTo (codes "\\") (is_among (codes "\"\\")) w → IsDoubleQuoted next false w
+-- the prefixes that are known, with what ends them: those of literals and of raw identifiers; and
+-- `k#` where an identifier follows it
+abbrev pub known_prefixes : List Chars
+known_prefixes =
+    codes "r\"" ∷ codes "r#" ∷ codes "b'" ∷ codes "b\"" ∷ codes "br\"" ∷ codes "br#"
+    ∷ codes "c\"" ∷ codes "cr\"" ∷ codes "cr#" ∷ []
 
-abbrev pub SingleTo : List ℕ → List ℕ → Type 0
-SingleTo end w = QuotedTo end (is_among (codes "'/\n\\")) w
+abbrev pub begins_prefixed : Chars → Bool
+begins_prefixed s =
+    list_any (λ prefix. begins prefix s) known_prefixes || begins_ident_after (codes "k#") s
 
--- past a single quote: one character and a quote; or a text with no quote, slash or newline, which a quote closes, also one
--- right behind a newline; with no such quote it goes up to a slash, up to a newline, or takes all of the text. A quote or a
--- slash that is that one character closes and stops nothing
-pub data IsSingleQuoted (next : List ℕ) : Bool → List ℕ → Type 0 where
-  one : {c : ℕ} → (c == byte "\\") ≡ false → IsSingleQuoted next true (c ∷ codes "'")
-  closed : {w : List ℕ} → SingleTo (codes "'") w → begins (codes "''") (w ++ next) ≡ false → IsSingleQuoted next true w
-  closed_line : {w : List ℕ} → SingleTo (codes "\n'") w → IsSingleQuoted next true w
-  at_slash : {w : List ℕ} → SingleTo [] w → begins (codes "/") next ≡ true → begins (codes "/'") (w ++ next) ≡ false → IsSingleQuoted next false w
-  at_newline : {w : List ℕ} → SingleTo [] w → begins (codes "\n") next ≡ true → begins (codes "\n'") next ≡ false → IsSingleQuoted next false w
-  unclosed : {w : List ℕ} → next ≡ [] → SingleTo [] w → IsSingleQuoted next false w
-  unclosed_escape : {w : List ℕ} → next ≡ [] → SingleTo (codes "\\") w → IsSingleQuoted next false w
+-- a name that no lifetime of Rust has: a digit or an emoji comes first, or later an emoji that no
+-- identifier goes on with: `1`, `😀`, `ℹ`, `a😀`; not `aℹ`
+abbrev pub is_bad_name : Chars → Bool
+is_bad_name [] = false
+is_bad_name (c ∷ w) = is_ascii_digit c || is_emoji c || not (list_all is_id_continue w)
 
--- so many hashes, and with a quote before them
-abbrev pub guard : ℕ → List ℕ
-guard zero = []
-guard (suc n) = byte "#" ∷ guard n
-
--- no quote with so many hashes right behind it is in the text
-abbrev pub Lacks : ℕ → List ℕ → Type 0
-Lacks n w = (u v : List ℕ) → w ≡ u ++ (byte "\"" ∷ guard n ++ v) → ⊥
-
--- past the `r` of a raw string, and how many hashes it has, if it is good: the same hashes stand on both sides of the quotes,
--- 255 at most. What is not closed takes all of the text; and hashes that no quote follows take one character more
-pub data IsRaw (next : List ℕ) : Option ℕ → List ℕ → Type 0 where
-  closed : (n : ℕ) (w : List ℕ) → n ≤ 255 → Lacks n w → IsRaw next (Some n) (guard n ++ (byte "\"" ∷ w ++ byte "\"" ∷ guard n))
-  too_many : (n : ℕ) (w : List ℕ) → 255 < n → Lacks n w → IsRaw next None (guard n ++ (byte "\"" ∷ w ++ byte "\"" ∷ guard n))
-  unclosed : (n : ℕ) (w : List ℕ) → next ≡ [] → Lacks n w → IsRaw next None (guard n ++ byte "\"" ∷ w)
-  no_quote : (n c : ℕ) → is_among (codes "\"#") c ≡ false → IsRaw next None (guard (suc n) ++ c ∷ [])
-  no_more : (n : ℕ) → next ≡ [] → IsRaw next None (guard (suc n))
-
--- ---- literals
-
--- a literal up to its suffix, and whether it may have one
-pub data IsLiteralBefore (next : List ℕ) : LiteralKind → Bool → List ℕ → Type 0 where
-  number : {kind : LiteralKind} {w : List ℕ} → IsLongestNumber kind (length w) (w ++ next) → IsLiteralBefore next kind true w
-  str : {t : Bool} {w : List ℕ} → IsDoubleQuoted next t w → IsLiteralBefore next (Str t) t (codes "\"" ++ w)
-  byte_str : {t : Bool} {w : List ℕ} → IsDoubleQuoted next t w → IsLiteralBefore next (ByteStr t) t (codes "b\"" ++ w)
-  c_str : {t : Bool} {w : List ℕ} → IsDoubleQuoted next t w → IsLiteralBefore next (CStr t) t (codes "c\"" ++ w)
-  byte_char : {t : Bool} {w : List ℕ} → IsSingleQuoted next t w → IsLiteralBefore next (Byte t) t (codes "b'" ++ w)
-  -- a character is one, or begins with what begins no name; a longer name between quotes has no suffix
-  char_of_one : {c : ℕ} → (c == byte "\\") ≡ false → IsLiteralBefore next (Char true) true (byte "'" ∷ c ∷ codes "'")
-  char : {t : Bool} {w : List ℕ} → IsSingleQuoted next t w → Stops is_name_start w → IsLiteralBefore next (Char t) t (codes "'" ++ w)
-  char_of_name : {c d : ℕ} (w : List ℕ) → is_name_start c ≡ true → AreAll is_word (d ∷ w) → IsLiteralBefore next (Char true) false (byte "'" ∷ c ∷ d ∷ w ++ codes "'")
-  -- `r#` and the start of an identifier begin a raw identifier
-  raw_str : {n : Option ℕ} {w : List ℕ} → IsRaw next n w → begins_ident_past (codes "#") w ≡ false → IsLiteralBefore next (RawStr n) (is_some n) (codes "r" ++ w)
-  raw_byte_str : {n : Option ℕ} {w : List ℕ} → IsRaw next n w → IsLiteralBefore next (RawByteStr n) (is_some n) (codes "br" ++ w)
-  raw_c_str : {n : Option ℕ} {w : List ℕ} → IsRaw next n w → IsLiteralBefore next (RawCStr n) (is_some n) (codes "cr" ++ w)
-
--- an identifier, or nothing where none begins
-pub data IsSuffixBefore (next : List ℕ) : List ℕ → Type 0 where
-  none : Stops is_id_start next → IsSuffixBefore next []
-  some : {w : List ℕ} → is_ident w ≡ true → Stops is_id_continue next → IsSuffixBefore next w
+-- a character that another rule begins with
+abbrev pub has_rule : ℕ → Bool
+has_rule c = is_whitespace c || is_name_start c || is_among (codes "/'\"#") c
 
 -- ---- tokens
 
--- what begins more than one character by itself
-abbrev pub begins_more : ℕ → Bool
-begins_more c = is_whitespace c || is_name_start c || is_among (codes "/'\"#") c
-
 -- w is a token of this kind where `next` follows it
-pub data IsTokenBefore (next : List ℕ) : TokenKind → List ℕ → Type 0 where
+pub data IsTokenBefore (next : Chars) : TokenKind → Chars → Type 0 where
   end : next ≡ [] → IsTokenBefore next Eof []
-  whitespace : {c : ℕ} {w : List ℕ} → AreAll is_whitespace (c ∷ w) → Stops is_whitespace next → IsTokenBefore next Whitespace (c ∷ w)
-  -- comments
-  line_comment : {style : Option DocStyle} {w : List ℕ} → AreAll is_inline w → Stops is_inline next → IsLineStyle style w → IsTokenBefore next (LineComment style) (codes "//" ++ w)
-  block_comment : {style : Option DocStyle} {w : List ℕ} → Closes w → IsBlockStyle style w → IsTokenBefore next (BlockComment style true) (codes "/*" ++ w)
-  open_comment : {style : Option DocStyle} {w : List ℕ} → next ≡ [] → ((n : ℕ) → Closes (take n w) → ⊥) → IsBlockStyle style w → IsTokenBefore next (BlockComment style false) (codes "/*" ++ w)
-  -- words: one with an emoji is no identifier; one right before a mark is a prefix, and is kept free
-  ident : {w : List ℕ} → is_ident w ≡ true → Stops is_word next → Stops is_mark next → IsTokenBefore next Ident w
-  unknown_prefix : {w : List ℕ} → is_ident w ≡ true → Goes is_mark next → is_opening (w ++ next) ≡ false → IsTokenBefore next UnknownPrefix w
-  invalid_ident : {c : ℕ} {w : List ℕ} → is_word_start c ≡ true → AreAll is_word w → is_ident (c ∷ w) ≡ false → Stops is_word next → IsTokenBefore next InvalidIdent (c ∷ w)
-  raw_ident : {w : List ℕ} → is_ident w ≡ true → Stops is_id_continue next → IsTokenBefore next RawIdent (codes "r#" ++ w)
-  forced_keyword : {w : List ℕ} → is_ident w ≡ true → Stops is_id_continue next → IsTokenBefore next ForcedKeywordIdent (codes "k#" ++ w)
-  -- lifetimes: one that begins with a digit, or has an emoji, is none of Rust
-  lifetime : {c : ℕ} {w : List ℕ} → is_name_start c ≡ true → AreAll is_word w → Stops is_word next → Stops (is_among (codes "'")) next → (Goes (is_among (codes "#")) next → is_ascii_digit c ≡ true)
-      → IsTokenBefore next (Lifetime (is_ascii_digit c || is_emoji c || not (list_all is_id_continue w))) (byte "'" ∷ c ∷ w)
-  unknown_prefix_lifetime : {c : ℕ} {w : List ℕ} → is_word_start c ≡ true → AreAll is_word w → Goes (is_among (codes "#")) next → begins_ident_past (codes "r#") (c ∷ w ++ next) ≡ false
+  -- all of it that stands there
+  whitespace : {c : ℕ} {w : Chars}
+      → AreAll is_whitespace (c ∷ w)
+      → NextIsNot is_whitespace next
+      → IsTokenBefore next Whitespace (c ∷ w)
+  -- `// a`, `/// a`, `//! a`, up to the newline
+  line_comment : {style : Option DocStyle} {w : Chars}
+      → AreAll is_inline w
+      → NextIsNot is_inline next
+      → IsLineStyle style w
+      → IsTokenBefore next (LineComment style) (codes "//" ++ w)
+  -- `/* a /* b */ c */`; and `/* /* */`, which nothing closes, with all of the text
+  block_comment : {style : Option DocStyle} {w : Chars}
+      → IsCommentRest w
+      → IsBlockStyle style w
+      → IsTokenBefore next (BlockComment style true) (codes "/*" ++ w)
+  open_comment : {style : Option DocStyle} {w : Chars}
+      → next ≡ []
+      → ((n : ℕ) → IsCommentRest (take n w) → ⊥)
+      → IsBlockStyle style w
+      → IsTokenBefore next (BlockComment style false) (codes "/*" ++ w)
+  -- `value`, `fn`, `_`; not `value` before a quote
+  ident : {w : Chars}
+      → is_ident w ≡ true
+      → NextIsNot is_word_continue next
+      → NextIsNot ends_prefix next
+      → IsTokenBefore next Ident w
+  -- `z` before `"a"`, `k` before `#1`; not `b` before `"a"`, nor `k` before `#fn`
+  unknown_prefix : {w : Chars}
+      → is_ident w ≡ true
+      → NextIs ends_prefix next
+      → begins_prefixed (w ++ next) ≡ false
+      → IsTokenBefore next UnknownPrefix w
+  -- a word that is no identifier, as it has an emoji: `a😀`, `😀a`; not `ℹ`, which is a start too
+  invalid_ident : {c : ℕ} {w : Chars}
+      → is_word_start c ≡ true
+      → AreAll is_word_continue w
+      → is_ident (c ∷ w) ≡ false
+      → NextIsNot is_word_continue next
+      → IsTokenBefore next InvalidIdent (c ∷ w)
+  -- `r#fn`, `k#fn`
+  raw_ident : {w : Chars}
+      → is_ident w ≡ true
+      → NextIsNot is_id_continue next
+      → IsTokenBefore next RawIdent (codes "r#" ++ w)
+  forced_keyword : {w : Chars}
+      → is_ident w ≡ true
+      → NextIsNot is_id_continue next
+      → IsTokenBefore next ForcedKeywordIdent (codes "k#" ++ w)
+  -- `'a`; `'1`, also before a hash; not `'a'`, nor `'a` before a hash
+  lifetime : {c : ℕ} {w : Chars}
+      → is_name_start c ≡ true
+      → AreAll is_word_continue w
+      → NextIsNot is_word_continue next
+      → NextNotIn (codes "'") next
+      → (NextIn (codes "#") next → is_ascii_digit c ≡ true)
+      → IsTokenBefore next (Lifetime (is_bad_name (c ∷ w))) (byte "'" ∷ c ∷ w)
+  -- `'a` before `#`, `'r` before `#1`; not `'r` before `#a`
+  unknown_prefix_lifetime : {c : ℕ} {w : Chars}
+      → is_word_start c ≡ true
+      → AreAll is_word_continue w
+      → NextIn (codes "#") next
+      → begins_ident_after (codes "r#") (c ∷ w ++ next) ≡ false
       → IsTokenBefore next UnknownPrefixLifetime (byte "'" ∷ c ∷ w)
-  raw_lifetime : {w : List ℕ} → is_ident w ≡ true → Stops is_id_continue next → IsTokenBefore next RawLifetime (codes "'r#" ++ w)
-  -- literals, with where the suffix begins
-  literal : {kind : LiteralKind} {w : List ℕ} → IsLiteralBefore next kind false w → IsTokenBefore next (Literal kind (bytes w)) w
-  literal_with : {kind : LiteralKind} {w suffix : List ℕ} → IsLiteralBefore (suffix ++ next) kind true w → IsSuffixBefore next suffix → IsTokenBefore next (Literal kind (bytes w)) (w ++ suffix)
-  -- symbols; what is none, and begins nothing else, is unknown
-  slash : Stops (is_among (codes "/*")) next → IsTokenBefore next Slash (codes "/")
-  pound : Stops (is_among (codes "\"#")) next → IsTokenBefore next Pound (codes "#")
-  guarded : {c : ℕ} → is_among (codes "\"#") c ≡ true → IsTokenBefore next GuardedStrPrefix (byte "#" ∷ c ∷ [])
-  symbol : {c : ℕ} → begins_more c ≡ false → IsTokenBefore next (symbol_kind c) (c ∷ [])
+  -- `'r#a`, also before a quote
+  raw_lifetime : {w : Chars}
+      → is_ident w ≡ true
+      → NextIsNot is_id_continue next
+      → IsTokenBefore next RawLifetime (codes "'r#" ++ w)
+  -- `'ab'`, `"a` at the end: no suffix, and where it would begin is the end of the token
+  literal : {kind : LiteralKind} {w : Chars}
+      → IsLiteralBefore next kind false w
+      → IsTokenBefore next (Literal kind (bytes w)) w
+  -- `1u8`, `"a"`, `"a"s`
+  literal_with : {kind : LiteralKind} {w suffix : Chars}
+      → IsLiteralBefore (suffix ++ next) kind true w
+      → IsSuffixBefore next suffix
+      → IsTokenBefore next (Literal kind (bytes w)) (w ++ suffix)
+  slash : NextNotIn (codes "/*") next → IsTokenBefore next Slash (codes "/")
+  pound : NextNotIn (codes "\"#") next → IsTokenBefore next Pound (codes "#")
+  -- `#"`, `##`: a guarded string may begin so
+  guarded_prefix : {c : ℕ}
+      → is_among (codes "\"#") c ≡ true
+      → IsTokenBefore next GuardedStrPrefix (byte "#" ∷ c ∷ [])
+  -- `+`, `;`; and what is no symbol is Unknown, such as `\`
+  symbol : {c : ℕ} → has_rule c ≡ false → IsTokenBefore next (symbol_kind c) (c ∷ [])
 
 -- ---- texts
 
--- the token at the front of a text is a token of the language, where the rest of the text follows it
-abbrev pub IsTokenOf : List ℕ → Token → Type 0
-IsTokenOf text token = IsTokenBefore (chars (drop token.len text)) token.kind (chars (take token.len text))
+-- the token at the front of the text is of the language, where the rest of the text follows it
+abbrev pub BeginsWith : Utf8 → Token → Type 0
+BeginsWith text token =
+    IsTokenBefore (chars (drop token.len text)) token.kind (chars (take token.len text))
 
--- past white space a frontmatter may stand that might stand before it, and past nothing else
-abbrev pub allowed_past : FrontmatterAllowed → TokenKind → FrontmatterAllowed
-allowed_past allowed Whitespace = allowed
-allowed_past allowed kind = No
+-- a frontmatter of this opening and this body: white space before its dashes is a fault, and so is
+-- what is no newline right behind its opening
+abbrev pub frontmatter_token : Chars → Chars → Chars → Token
+frontmatter_token opening body next =
+    let spaced : Bool = next_is is_whitespace opening in
+    let bad_label : Bool = not (next_is (is_among (codes "\n")) (body ++ next)) in
+    record { kind = Frontmatter spaced bad_label; len = bytes opening + bytes body }
 
--- the tokens of these characters: one that the language has, and the tokens of what follows it. Where one is allowed and
--- opens, a frontmatter is first
-pub data AreTokens : FrontmatterAllowed → List ℕ → List Token → Type 0 where
+-- the tokens of these characters: a token, and the tokens of what follows it; or, where a
+-- frontmatter is allowed and opens, that and the tokens of what follows it
+pub data AreTokens : FrontmatterAllowed → Chars → List Token → Type 0 where
   nothing : {allowed : FrontmatterAllowed} → AreTokens allowed [] []
-  something : {allowed : FrontmatterAllowed} {kind : TokenKind} {c : ℕ} {w next : List ℕ} {tokens : List Token} → IsTokenBefore next kind (c ∷ w) → (allowed ≡ Yes → OpensNone (c ∷ w ++ next))
-      → AreTokens (allowed_past allowed kind) next tokens → AreTokens allowed (c ∷ w ++ next) (record { kind = kind; len = bytes (c ∷ w) } ∷ tokens)
-  frontmatter_first : {n : ℕ} {front next : List ℕ} {tokens : List Token} (body : List ℕ) → IsOpeningBefore (body ++ next) n front → EndsAt n (encode_utf8_all (body ++ next)) (bytes body) → AreTokens No next tokens
-      → AreTokens Yes (front ++ (body ++ next)) (record { kind = Frontmatter (next_is is_whitespace front) (not (next_is (is_among (codes "\n")) (body ++ next))); len = bytes front + bytes body } ∷ tokens)
+  something : {allowed : FrontmatterAllowed} {kind : TokenKind}
+      {c : ℕ} {w next : Chars} {tokens : List Token}
+      → IsTokenBefore next kind (c ∷ w)
+      → (allowed ≡ Yes → OpensNone (c ∷ w ++ next))
+      → AreTokens (allowed_after allowed kind) next tokens
+      → AreTokens allowed (c ∷ w ++ next) (record { kind = kind; len = bytes (c ∷ w) } ∷ tokens)
+  frontmatter_first : {n : ℕ} {opening next : Chars} {tokens : List Token} (body : Chars)
+      → IsOpeningBefore (body ++ next) n opening
+      → EndsAt n (encode_utf8_all (body ++ next)) (bytes body)
+      → AreTokens No next tokens
+      → AreTokens Yes (opening ++ (body ++ next)) (frontmatter_token opening body next ∷ tokens)

@@ -1,37 +1,65 @@
--- The language of the tokens in each edition: the page of the newest, and what stands in the place of what an edition has not.
-use Rattle.std.specs.Prelude.{◌≡◌, ◌<◌, ◌≤◌, ℕ, ◌||◌, not, true, false, List, [], ◌∷◌, ◌++◌, codes}
-use Rattle.std.specs.List.{list_all}
+-- The language of the tokens in each edition, for what the compiler's lexer leaves to its caller:
+-- guarded strings, raw lifetimes and reserved prefixes. It is the page of the newest edition, and
+-- what stands in the place of what an edition has not. C strings and `k#` are read alike in all
+-- editions, though Rust has C strings since 2021 only (docs/EDITIONS.md, "What is left to a
+-- compiler"). No frontmatter stands here. `w` and `next` are as in Language.antt.
+use Rattle.std.specs.Prelude.{◌≡◌, ◌<◌, ◌≤◌, ℕ, true, false, List, [], ◌∷◌, ◌++◌, codes}
 use Rattle.std.specs.Str.{byte}
 use Rattle.rustc_lexer.specs.declared.edition.Edition.{Edition}
+use Rattle.rustc_lexer.specs.declared.edition.Edition.TheVariants.{E2015, E2018, E2021, E2024}
 use Rattle.rustc_lexer.specs.declared.token.Token.{Token}
 use Rattle.rustc_lexer.specs.declared.token.TokenKind.{TokenKind}
-use Rattle.rustc_lexer.specs.declared.token.TokenKind.TheVariants.{Ident, UnknownPrefix, UnknownPrefixLifetime, RawLifetime, Lifetime, GuardedStrPrefix, Pound}
-use Rattle.rustc_lexer.specs.Classes.{is_id_continue}
-use Rattle.rustc_lexer.specs.Edition.{year}
-use Rattle.rustc_lexer.specs.Emoji.{is_emoji}
-use Rattle.rustc_lexer.specs.Language.{begins_ident_past, IsTokenBefore}
-use Rattle.rustc_lexer.specs.Spans.{bytes}
+use Rattle.rustc_lexer.specs.declared.token.TokenKind.TheVariants.{Ident, UnknownPrefix, Lifetime}
+use Rattle.rustc_lexer.specs.declared.token.TokenKind.TheVariants.{UnknownPrefixLifetime, Pound}
+use Rattle.rustc_lexer.specs.declared.token.TokenKind.TheVariants.{RawLifetime, GuardedStrPrefix}
+use Rattle.rustc_lexer.specs.Language.{is_bad_name, IsTokenBefore}
+use Rattle.rustc_lexer.specs.Spans.{Chars, bytes, begins_ident_after}
 
--- the year of the first edition that has tokens of the kind
-abbrev pub since : TokenKind → ℕ
-since GuardedStrPrefix = 2024
-since RawLifetime = 2021
-since UnknownPrefix = 2021
-since UnknownPrefixLifetime = 2021
-since kind = 2015
+-- the year that names an edition
+abbrev pub year : Edition → ℕ
+year E2015 = 2015
+year E2018 = 2018
+year E2021 = 2021
+year E2024 = 2024
+
+-- the year of the first edition in which a token of the kind is kept whole; 2015 where no edition
+-- cuts it here, also where Rust has the kind only since a later one
+abbrev pub kept_since : TokenKind → ℕ
+kept_since GuardedStrPrefix = 2024
+kept_since RawLifetime = 2021
+kept_since UnknownPrefix = 2021
+kept_since UnknownPrefixLifetime = 2021
+kept_since kind = 2015
 
 -- w is a token of this kind in the edition where `next` follows it
-pub data IsTokenIn (edition : Edition) (next : List ℕ) : TokenKind → List ℕ → Type 0 where
-  kept : {kind : TokenKind} {w : List ℕ} → since kind ≤ year edition → IsTokenBefore next kind w → IsTokenIn edition next kind w
-  -- a hash, whatever follows it
-  pound : year edition < since GuardedStrPrefix → IsTokenIn edition next Pound (codes "#")
-  -- what would be a prefix is an identifier or a lifetime
-  ident : {w : List ℕ} → year edition < since UnknownPrefix → IsTokenBefore next UnknownPrefix w → IsTokenIn edition next Ident w
-  lifetime : {c : ℕ} {w : List ℕ} → year edition < since UnknownPrefixLifetime → IsTokenBefore next UnknownPrefixLifetime (byte "'" ∷ c ∷ w) → IsTokenIn edition next (Lifetime (is_emoji c || not (list_all is_id_continue w))) (byte "'" ∷ c ∷ w)
-  -- the front of what would be a raw lifetime is a lifetime
-  lifetime_r : year edition < since RawLifetime → begins_ident_past (codes "#") next ≡ true → IsTokenIn edition next (Lifetime false) (codes "'r")
+pub data IsTokenIn (edition : Edition) (next : Chars) : TokenKind → Chars → Type 0 where
+  kept : {kind : TokenKind} {w : Chars}
+      → kept_since kind ≤ year edition
+      → IsTokenBefore next kind w
+      → IsTokenIn edition next kind w
+  -- a hash, whatever follows it: `#` before `"a"`
+  pound :
+      year edition < kept_since GuardedStrPrefix
+      → IsTokenIn edition next Pound (codes "#")
+  -- what would be a prefix is an identifier or a lifetime: `z` before `"a"`, `'a` before `#`
+  ident : {w : Chars}
+      → year edition < kept_since UnknownPrefix
+      → IsTokenBefore next UnknownPrefix w
+      → IsTokenIn edition next Ident w
+  lifetime : {c : ℕ} {w : Chars}
+      → year edition < kept_since UnknownPrefixLifetime
+      → IsTokenBefore next UnknownPrefixLifetime (byte "'" ∷ c ∷ w)
+      → IsTokenIn edition next (Lifetime (is_bad_name (c ∷ w))) (byte "'" ∷ c ∷ w)
+  -- the first two characters of what would be a raw lifetime: `'r` before `#a`
+  lifetime_r :
+      year edition < kept_since RawLifetime
+      → begins_ident_after (codes "#") next ≡ true
+      → IsTokenIn edition next (Lifetime false) (codes "'r")
 
 -- the tokens of these characters: one that the language has, and the tokens of what follows it
-pub data AreTokensIn (edition : Edition) : List ℕ → List Token → Type 0 where
+pub data AreTokensIn (edition : Edition) : Chars → List Token → Type 0 where
   nothing : AreTokensIn edition [] []
-  something : {kind : TokenKind} {c : ℕ} {w next : List ℕ} {tokens : List Token} → IsTokenIn edition next kind (c ∷ w) → AreTokensIn edition next tokens → AreTokensIn edition (c ∷ w ++ next) (record { kind = kind; len = bytes (c ∷ w) } ∷ tokens)
+  something : {kind : TokenKind} {c : ℕ} {w next : Chars} {tokens : List Token}
+      → IsTokenIn edition next kind (c ∷ w)
+      → AreTokensIn edition next tokens
+      → AreTokensIn edition (c ∷ w ++ next) (record { kind = kind; len = bytes (c ∷ w) } ∷ tokens)

@@ -12,6 +12,7 @@ pub mod LanguageCalls
 pub mod LanguageHolds
 pub mod LanguageIn
 pub mod LanguageReach
+pub mod LiteralGrammar
 pub mod NumberGrammar
 pub mod Pieces
 pub mod Relexing

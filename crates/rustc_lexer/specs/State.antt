@@ -1,22 +1,16 @@
 -- The state of a cursor, and what a token leaves of it.
 use Rattle.std.specs.Prelude.{ℕ, ◌≡◌, ◌+◌, ◌≤◌, List, drop, IsCharBoundary}
 use Rattle.rustc_lexer.specs.declared.token.FrontmatterAllowed.{FrontmatterAllowed}
-use Rattle.rustc_lexer.specs.declared.token.FrontmatterAllowed.TheVariants.{No}
 use Rattle.rustc_lexer.specs.declared.token.Token.{Token}
 use Rattle.rustc_lexer.specs.declared.token.TokenKind.{TokenKind}
-use Rattle.rustc_lexer.specs.declared.token.TokenKind.TheVariants.{Whitespace, Literal, Eof}
+use Rattle.rustc_lexer.specs.declared.token.TokenKind.TheVariants.{Literal}
+pub use Rattle.rustc_lexer.specs.FrontmatterGrammar.{allowed_after}
 
 -- how many bytes were taken since the last token, the text that is left, and whether a frontmatter may stand there
 pub record State : Type 0 where
   pub pending : ℕ
   pub rest : List ℕ
   pub frontmatter_allowed : FrontmatterAllowed
-
--- white space and the end leave a frontmatter allowed; nothing else does
-abbrev pub allowed_after : FrontmatterAllowed → TokenKind → FrontmatterAllowed
-allowed_after allowed Whitespace = allowed
-allowed_after allowed Eof = allowed
-allowed_after allowed kind = No
 
 -- where the suffix begins counts the bytes that were pending
 abbrev pub kind_past : ℕ → TokenKind → TokenKind

@@ -9,7 +9,7 @@ ghost use Rattle.rustc_lexer.specs.declared.token.FrontmatterAllowed.TheVariants
 ghost use Rattle.rustc_lexer.specs.Classes.{Fits, is_id_continue};
 ghost use Rattle.rustc_lexer.specs.Edition as spec;
 ghost use Rattle.rustc_lexer.specs.means.Ident.{is_word};
-ghost use Rattle.rustc_lexer.specs.LanguageHolds.{AreTheTokensIn, IsPage};
+ghost use Rattle.rustc_lexer.specs.LanguageHolds.{AreTheOnlyTokensIn, NewestIsPage};
 ghost use Rattle.rustc_lexer.specs.means.Scan.{run_len};
 ghost use Rattle.rustc_lexer.specs.Settled.{AreLocal};
 ghost use Rattle.rustc_lexer.specs.Tokens.{tokens_of, Partitions};
@@ -99,8 +99,8 @@ pub fn tokenize_in<'a>(text: &'a str, edition: Edition) -> EditionTokens<'a>
     ensures restarts { spec.RestartsIn edition text.now }
     ensures local { AreLocal (spec.tokens_in edition) }
     ensures newest { spec.tokens_in E2024 text.now ≡ tokens_of No text.now }
-    ensures language { AreTheTokensIn edition text.now }
-    ensures page { IsPage edition }
+    ensures language { AreTheOnlyTokensIn edition text.now }
+    ensures page { NewestIsPage edition }
     ensures oldest { spec.tokens_in E2015 text.now ≡ spec.tokens_in E2018 text.now }
 {
     EditionTokens {

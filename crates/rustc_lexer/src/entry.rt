@@ -2,8 +2,8 @@
 ghost use Rattle.std.specs.Prelude.{◌≡◌, ◌<◌, length, All};
 ghost use Rattle.std.specs.Iterator.{at_most};
 ghost use Rattle.rustc_lexer.specs.Classes.{Fits};
-ghost use Rattle.rustc_lexer.specs.LanguageHolds.{AreTheTokens};
-ghost use Rattle.rustc_lexer.specs.LanguageReach.{LooksNoFurther, NeedsTwo};
+ghost use Rattle.rustc_lexer.specs.LanguageHolds.{AreTheOnlyTokens, EachBeginsWithOne};
+ghost use Rattle.rustc_lexer.specs.LanguageReach.{LooksNoFurther, NoneLooksLess, RefusedStands};
 ghost use Rattle.rustc_lexer.specs.State.{HasSuffixWithin};
 ghost use Rattle.rustc_lexer.specs.TokenText.{HaveTexts};
 ghost use Rattle.rustc_lexer.specs.Tokens.{tokens_of, tokens_left, Partitions, RestartsAtBounds, YieldsToken};
@@ -45,8 +45,9 @@ pub fn tokenize<'a>(input: &'a str, frontmatter_allowed: FrontmatterAllowed) -> 
     ensures restarts { RestartsAtBounds input.now }
     ensures suffixes { All HasSuffixWithin (tokens_of frontmatter_allowed input.now) }
     ensures texts { HaveTexts input.now (tokens_of frontmatter_allowed input.now) }
-    ensures language { AreTheTokens frontmatter_allowed input.now }
-    ensures reach { LooksNoFurther × NeedsTwo }
+    ensures language { AreTheOnlyTokens frontmatter_allowed input.now }
+    ensures one_token { EachBeginsWithOne }
+    ensures reach { LooksNoFurther × RefusedStands × NoneLooksLess }
 {
     Tokens {
         cursor: Cursor::new(input, frontmatter_allowed),

@@ -1,7 +1,7 @@
 //! The check of a raw string.
 ghost use Rattle.std.specs.Prelude.{◌≡◌, ◌<◌, ◌↔◌, length, IsTrue};
 ghost use Rattle.rustc_lexer.specs.Classes.{Fits};
-ghost use Rattle.rustc_lexer.specs.LanguageCalls.{IsTheRawAnswer};
+ghost use Rattle.rustc_lexer.specs.LanguageHolds.{IsTheRawAnswer};
 ghost use Rattle.rustc_lexer.specs.means.Raw as spec;
 ghost use Rattle.rustc_lexer.specs.means.Scan.{past};
 

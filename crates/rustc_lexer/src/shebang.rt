@@ -2,7 +2,7 @@
 ghost use Rattle.std.specs.Prelude.{◌≡◌, ◌≤◌, IfSome, IsNone, codes, false, length};
 ghost use Rattle.std.specs.Str.{IsCharBoundary};
 ghost use Rattle.rustc_lexer.specs.Classes.{Fits};
-ghost use Rattle.rustc_lexer.specs.LanguageCalls.{IsTheShebang};
+ghost use Rattle.rustc_lexer.specs.LanguageHolds.{IsTheShebang};
 ghost use Rattle.rustc_lexer.specs.means.Scan.{begins};
 ghost use Rattle.rustc_lexer.specs.means.Shebang as spec;
 ghost use Rattle.rustc_lexer.specs.Tokens.{tokens_of};

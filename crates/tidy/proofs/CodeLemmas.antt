@@ -10,13 +10,14 @@ use Rattle.rustc_lexer.specs.declared.token.FrontmatterAllowed.{FrontmatterAllow
 use Rattle.rustc_lexer.specs.declared.token.FrontmatterAllowed.TheVariants.{Yes, No}
 use Rattle.rustc_lexer.specs.declared.token.Token.{Token}
 use Rattle.rustc_lexer.specs.declared.token.TokenKind.{TokenKind}
-use Rattle.rustc_lexer.specs.declared.token.TokenKind.TheVariants.{Whitespace}
+use Rattle.rustc_lexer.specs.declared.token.TokenKind.TheVariants.{Whitespace, Eof}
 use Rattle.rustc_lexer.specs.Classes.{is_whitespace}
 use Rattle.rustc_lexer.specs.means.Frontmatter.{dashes, ends_line, opens}
 use Rattle.rustc_lexer.specs.FrontmatterGrammar.{OpensNone}
 use Rattle.rustc_lexer.specs.Language as the
-use Rattle.rustc_lexer.specs.Language.{allowed_past, IsTokenBefore, AreTokens, nothing, something, frontmatter_first}
-use Rattle.rustc_lexer.specs.Spans.{AreAll, Stops, bytes}
+use Rattle.rustc_lexer.specs.FrontmatterGrammar.{allowed_after}
+use Rattle.rustc_lexer.specs.Language.{IsTokenBefore, AreTokens, nothing, something, frontmatter_first}
+use Rattle.rustc_lexer.specs.Spans.{AreAll, NextIsNot, bytes}
 use Rattle.rustc_lexer.specs.laws.Language.{token-read}
 use Rattle.rustc_lexer.specs.laws.LanguageFrontmatter.{opens-none, none-opens}
 use Rattle.rustc_lexer.specs.laws.LanguageRuns.{among, chooses-space, run_len-here}
@@ -50,7 +51,7 @@ none-left (frontmatter_first body is_opening is_end rest) e = absurd (omega (ari
 
 -- ---- where a frontmatter opens
 
-opens-space : (u next : List ℕ) → AreAll is_whitespace u → Stops is_whitespace next → opens (u ++ next) ≡ (begins (dashes 3) next && not (ends_line u))
+opens-space : (u next : List ℕ) → AreAll is_whitespace u → NextIsNot is_whitespace next → opens (u ++ next) ≡ (begins (dashes 3) next && not (ends_line u))
 opens-space u next all stop =
     ap (λ (n : ℕ). begins (dashes 3) (drop n (u ++ next)) && not (ends_line (take n (u ++ next)))) (run_len-here is_whitespace u next all stop)
     ∙ (ap (λ (xs : List ℕ). begins (dashes 3) xs && not (ends_line (take (length u) (u ++ next)))) (drop-append_seam u next)
@@ -122,7 +123,7 @@ newline-again (t ∷ ts) e = absurd (omega (arith, e))
 newline-size : (c : ℕ) (w : List ℕ) → bytes (10 ∷ []) ≤ bytes (c ∷ w)
 newline-size c w = let le = length-le-encodes (c ∷ w) in let one = ap length newline-one in omega arith
 
-pub spaces : (c : ℕ) (w : List ℕ) (tokens : List Token) {s t : List ℕ} → AreAll is_whitespace (c ∷ w) → Stops is_whitespace s → Near s t → (length tokens ≡ 0 → s ≡ []) → Spaces (c ∷ w) tokens s t
+pub spaces : (c : ℕ) (w : List ℕ) (tokens : List Token) {s t : List ℕ} → AreAll is_whitespace (c ∷ w) → NextIsNot is_whitespace s → Near s t → (length tokens ≡ 0 → s ≡ []) → Spaces (c ∷ w) tokens s t
 spaces c w [] {s} {t} all stop near none = record {
   first = 10;
   rest = [];
@@ -153,7 +154,7 @@ spaces c w (token ∷ tokens) {s} {t} all stop near none = by_first (order-first
         all_space : AreAll is_whitespace (has.first ∷ has.rest)
         all_space = subst (AreAll is_whitespace) has.whole (order-all u all)
 
-        stop_t : Stops is_whitespace t
+        stop_t : NextIsNot is_whitespace t
         stop_t = sym (near-space near) ∙ stop
 
         twice : (outs : List Token) → suc (length tokens) ≡ length outs → space_in_order (encode_utf8_all (has.first ∷ has.rest)) outs ≡ encode_utf8_all (has.first ∷ has.rest)
@@ -165,7 +166,7 @@ spaces c w (token ∷ tokens) {s} {t} all stop near none = by_first (order-first
 abbrev pub Puts : Order → Order → TokenKind → List ℕ → Type 0
 Puts order more kind u = (left : List ℕ) (ts : List Token) → order (encode_utf8_all (u ++ left)) (record { kind = kind; len = bytes u } ∷ ts) ≡ (if is_space kind then space_in_order (encode_utf8_all u) ts else encode_utf8_all u) ++ more (encode_utf8_all left) ts
 
-pub space-step : (order left : Order) (allowed : FrontmatterAllowed) (c : ℕ) (w next : List ℕ) (tokens : List Token) → ((u : List ℕ) → Puts order left Whitespace u) → AreAll is_whitespace (c ∷ w) → Stops is_whitespace next → (allowed ≡ Yes → OpensNone (c ∷ w ++ next)) → (length tokens ≡ 0 → next ≡ [])
+pub space-step : (order left : Order) (allowed : FrontmatterAllowed) (c : ℕ) (w next : List ℕ) (tokens : List Token) → ((u : List ℕ) → Puts order left Whitespace u) → AreAll is_whitespace (c ∷ w) → NextIsNot is_whitespace next → (allowed ≡ Yes → OpensNone (c ∷ w ++ next)) → (length tokens ≡ 0 → next ≡ [])
     → Tidies left allowed next tokens → Tidies order allowed (c ∷ w ++ next) (record { kind = Whitespace; len = bytes (c ∷ w) } ∷ tokens)
 space-step order left allowed c w next tokens puts all stop free none more =
     let sp = spaces c w tokens all stop more.near none in
@@ -184,7 +185,7 @@ space-step order left allowed c w next tokens puts all stop free none more =
 
 -- another token more
 pub solid-step : (order left : Order) (allowed : FrontmatterAllowed) (kind : TokenKind) (c : ℕ) (w next : List ℕ) (tokens : List Token) → Puts order left kind (c ∷ w) → IsTokenBefore next kind (c ∷ w) → (allowed ≡ Yes → OpensNone (c ∷ w ++ next))
-    → (more : Tidies left (allowed_past allowed kind) next tokens) → Stays more.out kind (c ∷ w) → Tidies order allowed (c ∷ w ++ next) (record { kind = kind; len = bytes (c ∷ w) } ∷ tokens)
+    → (more : Tidies left (allowed_after allowed kind) next tokens) → Stays more.out kind (c ∷ w) → Tidies order allowed (c ∷ w ++ next) (record { kind = kind; len = bytes (c ∷ w) } ∷ tokens)
 solid-step order left allowed kind c w next tokens puts p free more stays = record {
   out = c ∷ w ++ more.out;
   outs = record { kind = kind; len = bytes (c ∷ w) } ∷ more.outs;
@@ -211,19 +212,20 @@ solid-step order left allowed kind c w next tokens puts p free more stays = reco
     own rest ts = puts rest ts ∙ ap (λ (b : Bool). (if b then space_in_order (encode_utf8_all (c ∷ w)) ts else encode_utf8_all (c ∷ w)) ++ left (encode_utf8_all rest) ts) solid
 
 -- none may stand past what none may stand before
-past-no : (kind : TokenKind) → allowed_past No kind ≡ No
+past-no : (kind : TokenKind) → allowed_after No kind ≡ No
 past-no Whitespace = refl
+past-no Eof = refl
 past-no kind = refl
 
 -- with no frontmatter
 pub code-tidies : {allowed : FrontmatterAllowed} {cs : List ℕ} {tokens : List Token} → allowed ≡ No → AreTokens allowed cs tokens → Tidies code_in_order allowed cs tokens
 code-tidies is_no (nothing) = record { out = []; outs = []; are = nothing; near = ends; is = refl; same = refl; again = refl; count = refl; size = omega arith; good = λ e. e }
 code-tidies is_no (frontmatter_first body is_opening is_end rest) = absurd (cc)
-code-tidies is_no (something {allowed} {kind} {c} {w} {next} {tokens} p free rest) = by_token (code-tidies (ap (λ (a : FrontmatterAllowed). allowed_past a kind) is_no ∙ past-no kind) rest)
+code-tidies is_no (something {allowed} {kind} {c} {w} {next} {tokens} p free rest) = by_token (code-tidies (ap (λ (a : FrontmatterAllowed). allowed_after a kind) is_no ∙ past-no kind) rest)
   where
-    by_token : Tidies code_in_order (allowed_past allowed kind) next tokens → Tidies code_in_order allowed (c ∷ w ++ next) (record { kind = kind; len = bytes (c ∷ w) } ∷ tokens)
+    by_token : Tidies code_in_order (allowed_after allowed kind) next tokens → Tidies code_in_order allowed (c ∷ w ++ next) (record { kind = kind; len = bytes (c ∷ w) } ∷ tokens)
     by_token more = elim (token-near more.near p) [
       | inl run ↦ subst (λ (k : TokenKind). Tidies code_in_order allowed (c ∷ w ++ next) (record { kind = k; len = bytes (c ∷ w) } ∷ tokens)) (sym run.kind_is) (space-step code_in_order code_in_order allowed c w next tokens (λ u left ts. code-cons u left Whitespace ts) run.all run.stop free (none-left rest)
-          (subst (λ (k : TokenKind). Tidies code_in_order (allowed_past allowed k) next tokens) run.kind_is more))
+          (subst (λ (k : TokenKind). Tidies code_in_order (allowed_after allowed k) next tokens) run.kind_is more))
       | inr stays ↦ solid-step code_in_order code_in_order allowed kind c w next tokens (λ left ts. code-cons (c ∷ w) left kind ts) p free more stays
     ]

@@ -7,13 +7,16 @@ use Rattle.std.specs.List.{list_all, list_any}
 use Rattle.unicode_ident.proofs.Computing.{unicode_ident}
 use Rattle.rustc_lexer.specs.declared.token.LiteralKind.{LiteralKind}
 use Rattle.rustc_lexer.specs.declared.token.TokenKind.{TokenKind}
-use Rattle.rustc_lexer.specs.declared.token.TokenKind.TheVariants.{Whitespace}
+use Rattle.rustc_lexer.specs.declared.token.TokenKind.TheVariants.{Whitespace, Eof}
 use Rattle.rustc_lexer.specs.Classes.{is_among, is_whitespace, is_id_start, is_id_continue}
 use Rattle.rustc_lexer.specs.Emoji.{is_emoji, emoji_ranges}
 use Rattle.rustc_lexer.specs.Language as the
-use Rattle.rustc_lexer.specs.Language.{is_word, is_mark, begins_ident_past, openings, is_opening, IsDoubleQuoted, IsSingleQuoted, IsRaw, IsLiteralBefore, IsSuffixBefore, IsTokenBefore}
-use Rattle.rustc_lexer.specs.Spans.{AreAll, Stops, is_inline}
-use Rattle.rustc_lexer.specs.laws.LanguageRuns.{none-among}
+use Rattle.rustc_lexer.specs.LiteralGrammar as lit
+use Rattle.rustc_lexer.specs.Spans.{is_word_continue, begins_ident_after}
+use Rattle.rustc_lexer.specs.Language.{ends_prefix, known_prefixes, begins_prefixed, IsTokenBefore}
+use Rattle.rustc_lexer.specs.LiteralGrammar.{IsDoubleQuoted, IsSingleQuoted, IsRaw, IsLiteralBefore, IsSuffixBefore}
+use Rattle.rustc_lexer.specs.Spans.{AreAll, NextIsNot, is_inline}
+use Rattle.rustc_lexer.specs.laws.LanguageRuns.{none-among, begins-next}
 use Rattle.rustc_lexer.specs.NumberGrammar as num
 use Rattle.rustc_lexer.specs.NumberGrammar.{or_underscore, is_exponent_letter, is_sign, is_no_fraction, AreDigits, IsWhole, IsExponent, IsTailBefore, IsNumberBefore, NumberStands, IsLongestNumber}
 use Rattle.rustc_lexer.specs.means.Scan.{begins, next_is}
@@ -45,9 +48,9 @@ near-empty (same {c} {s} {t} near) e = absurd (let n : suc (length s) ≡ 0 = ap
 abbrev pub IsSolid : (ℕ → Bool) → Type 0
 IsSolid p = (c : ℕ) → is_whitespace c ≡ true → p c ≡ false
 
-word-solid : IsSolid is_word
+word-solid : IsSolid is_word_continue
 unfolding unicode_ident is_emoji emoji_ranges
-word-solid c e = none-among is_word (0x9 ∷ 0xA ∷ 0xB ∷ 0xC ∷ 0xD ∷ 0x20 ∷ 0x85 ∷ 0x200E ∷ 0x200F ∷ 0x2028 ∷ 0x2029 ∷ []) refl c e
+word-solid c e = none-among is_word_continue (0x9 ∷ 0xA ∷ 0xB ∷ 0xC ∷ 0xD ∷ 0x20 ∷ 0x85 ∷ 0x200E ∷ 0x200F ∷ 0x2028 ∷ 0x2029 ∷ []) refl c e
 
 start-solid : IsSolid is_id_start
 unfolding unicode_ident
@@ -114,11 +117,11 @@ near-any (front ∷ fronts) all {s} {t} near =
     let parts = and_parts (list_all is_plain front) _ all in
     ap (λ (b : Bool). b || list_any (λ front. begins front s) fronts) (near-begins front parts.0 near) ∙ ap (λ (b : Bool). begins front t || b) (near-any fronts parts.1 near)
 
-near-opening : {s t : List ℕ} → Near s t → is_opening s ≡ is_opening t
+near-opening : {s t : List ℕ} → Near s t → begins_prefixed s ≡ begins_prefixed t
 near-opening {s} {t} near =
-    ap (λ (b : Bool). b || begins_ident_past (codes "k#") s) (near-any openings refl near) ∙ ap (λ (b : Bool). list_any (λ front. begins front t) openings || b) (near-then is_id_start start-solid (codes "k#") refl near)
+    ap (λ (b : Bool). b || begins_ident_after (codes "k#") s) (near-any known_prefixes refl near) ∙ ap (λ (b : Bool). list_any (λ front. begins front t) known_prefixes || b) (near-then is_id_start start-solid (codes "k#") refl near)
 
-near-inline : {s t : List ℕ} → Near s t → Stops is_inline s → Stops is_inline t
+near-inline : {s t : List ℕ} → Near s t → NextIsNot is_inline s → NextIsNot is_inline t
 near-inline ends stop = refl
 near-inline (space {c} {d} a b k) stop = elim (cases_Bool (c == 10)) [
   | inl e ↦ rw (k e).0 refl
@@ -233,52 +236,56 @@ near-number {kind} w {s} {t} near is = record {
         (subst (λ (xs : List ℕ). IsNumberBefore (drop (length w) (w ++ s)) kind xs) (take-append_seam w s) is.stands.is_number))));
   };
   longest = λ other m at. is.longest other m (stands-back (near-append w near) at);
-  only = λ other at. is.only other (stands-back (near-append w near) at);
 }
 
 -- ---- tokens
 
 double-near : {s t : List ℕ} → Near s t → {b : Bool} {w : List ℕ} → IsDoubleQuoted s b w → IsDoubleQuoted t b w
-double-near near (the.closed q) = the.closed q
-double-near near (the.unclosed none q) = the.unclosed (near-empty near none) q
-double-near near (the.unclosed_escape none q) = the.unclosed_escape (near-empty near none) q
+double-near near (lit.closed q) = lit.closed q
+double-near near (lit.unclosed none q) = lit.unclosed (near-empty near none) q
+double-near near (lit.unclosed_escape none q) = lit.unclosed_escape (near-empty near none) q
 
 single-near : {s t : List ℕ} → Near s t → {b : Bool} {w : List ℕ} → IsSingleQuoted s b w → IsSingleQuoted t b w
-single-near near (the.one e) = the.one e
-single-near near (the.closed {w} q e) = the.closed q (sym (near-begins (codes "''") refl (near-append w near)) ∙ e)
-single-near near (the.closed_line q) = the.closed_line q
-single-near near (the.at_slash {w} q e f) = the.at_slash q (sym (near-begins (codes "/") refl near) ∙ e) (sym (near-begins (codes "/'") refl (near-append w near)) ∙ f)
-single-near near (the.at_newline q e f) = the.at_newline q (near-newline near e) (near-lone near e f)
-single-near near (the.unclosed none q) = the.unclosed (near-empty near none) q
-single-near near (the.unclosed_escape none q) = the.unclosed_escape (near-empty near none) q
+single-near near (lit.one e) = lit.one e
+single-near near (lit.closed {w} q e) = lit.closed q (sym (near-begins (codes "''") refl (near-append w near)) ∙ e)
+single-near near (lit.closed_line q) = lit.closed_line q
+single-near {s} {t} near (lit.at_slash {w} q e f) = lit.at_slash q (sym (begins-next 47 t) ∙ (sym (near-begins (codes "/") refl near) ∙ (begins-next 47 s ∙ e))) (sym (near-begins (codes "/'") refl (near-append w near)) ∙ f)
+single-near {s} {t} near (lit.at_newline q e f) = let line = begins-next 10 s ∙ e in lit.at_newline q (sym (begins-next 10 t) ∙ near-newline near line) (near-lone near line f)
+single-near near (lit.unclosed none q) = lit.unclosed (near-empty near none) q
+single-near near (lit.unclosed_escape none q) = lit.unclosed_escape (near-empty near none) q
 
 raw-near : {s t : List ℕ} → Near s t → {n : _} {w : List ℕ} → IsRaw s n w → IsRaw t n w
-raw-near near (the.closed n w le q) = the.closed n w le q
-raw-near near (the.too_many n w le q) = the.too_many n w le q
-raw-near near (the.unclosed n w none q) = the.unclosed n w (near-empty near none) q
-raw-near near (the.no_quote n c e) = the.no_quote n c e
-raw-near near (the.no_more n none) = the.no_more n (near-empty near none)
+raw-near near (lit.closed n w le q) = lit.closed n w le q
+raw-near near (lit.too_many n w le q) = lit.too_many n w le q
+raw-near near (lit.unclosed n w none q) = lit.unclosed n w (near-empty near none) q
+raw-near near (lit.no_quote n c e) = lit.no_quote n c e
+raw-near near (lit.no_more n none) = lit.no_more n (near-empty near none)
 
 literal-near : {s t : List ℕ} → Near s t → {kind : LiteralKind} {b : Bool} {w : List ℕ} → IsLiteralBefore s kind b w → IsLiteralBefore t kind b w
-literal-near near (the.number {kind} {w} is) = the.number (near-number w near is)
-literal-near near (the.str q) = the.str (double-near near q)
-literal-near near (the.byte_str q) = the.byte_str (double-near near q)
-literal-near near (the.c_str q) = the.c_str (double-near near q)
-literal-near near (the.byte_char q) = the.byte_char (single-near near q)
-literal-near near (the.char_of_one e) = the.char_of_one e
-literal-near near (the.char q stop) = the.char (single-near near q) stop
-literal-near near (the.char_of_name w e all) = the.char_of_name w e all
-literal-near near (the.raw_str q free) = the.raw_str (raw-near near q) free
-literal-near near (the.raw_byte_str q) = the.raw_byte_str (raw-near near q)
-literal-near near (the.raw_c_str q) = the.raw_c_str (raw-near near q)
+literal-near near (lit.number {kind} {w} is) = lit.number (near-number w near is)
+literal-near near (lit.str q) = lit.str (double-near near q)
+literal-near near (lit.byte_str q) = lit.byte_str (double-near near q)
+literal-near near (lit.c_str q) = lit.c_str (double-near near q)
+literal-near near (lit.byte_char q) = lit.byte_char (single-near near q)
+literal-near near (lit.char_of_one e) = lit.char_of_one e
+literal-near near (lit.char q stop) = lit.char (single-near near q) stop
+literal-near near (lit.char_of_name w e all) = lit.char_of_name w e all
+literal-near near (lit.raw_str q free) = lit.raw_str (raw-near near q) free
+literal-near near (lit.raw_byte_str q) = lit.raw_byte_str (raw-near near q)
+literal-near near (lit.raw_c_str q) = lit.raw_c_str (raw-near near q)
 
 suffix-near : {s t : List ℕ} → Near s t → {w : List ℕ} → IsSuffixBefore s w → IsSuffixBefore t w
-suffix-near near (the.none stop) = the.none (sym (near-next is_id_start start-solid near) ∙ stop)
-suffix-near near (the.some is stop) = the.some is (sym (near-next is_id_continue continue-solid near) ∙ stop)
+suffix-near near (lit.none stop) = lit.none (sym (near-next is_id_start start-solid near) ∙ stop)
+suffix-near near (lit.some is stop) = lit.some is (sym (near-next is_id_continue continue-solid near) ∙ stop)
 
--- the kind of what is no white space and no frontmatter
+-- the end of the text
+abbrev pub is_end : TokenKind → Bool
+is_end Eof = true
+is_end kind = false
+
+-- the kind of what is no white space, no frontmatter and not the end
 abbrev pub is_solid_kind : TokenKind → Bool
-is_solid_kind kind = not (is_space kind) && not (is_front kind)
+is_solid_kind kind = not (is_space kind) && (not (is_front kind) && not (is_end kind))
 
 -- each symbol is of such a kind
 symbol-solid : (c : ℕ) → is_solid_kind (symbol_kind c) ≡ true
@@ -294,7 +301,7 @@ symbol-solid c = by_table symbols refl
 pub record IsSpaceRun (next : List ℕ) (kind : TokenKind) (w : List ℕ) : Type 0 where
   pub kind_is : kind ≡ Whitespace
   pub all : AreAll is_whitespace w
-  pub stop : Stops is_whitespace next
+  pub stop : NextIsNot is_whitespace next
 
 pub record Stays (next : List ℕ) (kind : TokenKind) (w : List ℕ) : Type 0 where
   pub is_solid : 0 < length w → is_solid_kind kind ≡ true
@@ -306,14 +313,14 @@ token-near near (the.whitespace all stop) = inl record { kind_is = refl; all = a
 token-near near (the.line_comment all stop is) = inr record { is_solid = λ some. refl; token = the.line_comment all (near-inline near stop) is }
 token-near near (the.block_comment p is) = inr record { is_solid = λ some. refl; token = the.block_comment p is }
 token-near near (the.open_comment none never is) = inr record { is_solid = λ some. refl; token = the.open_comment (near-empty near none) never is }
-token-near near (the.ident is stop none) = inr record { is_solid = λ some. refl; token = the.ident is (sym (near-next is_word word-solid near) ∙ stop) (sym (near-next is_mark (by_list is_mark refl) near) ∙ none) }
-token-near near (the.unknown_prefix {w} is goes free) = inr record { is_solid = λ some. refl; token = the.unknown_prefix is (sym (near-next is_mark (by_list is_mark refl) near) ∙ goes) (sym (near-opening (near-append w near)) ∙ free) }
-token-near near (the.invalid_ident start all wrong stop) = inr record { is_solid = λ some. refl; token = the.invalid_ident start all wrong (sym (near-next is_word word-solid near) ∙ stop) }
+token-near near (the.ident is stop none) = inr record { is_solid = λ some. refl; token = the.ident is (sym (near-next is_word_continue word-solid near) ∙ stop) (sym (near-next ends_prefix (by_list ends_prefix refl) near) ∙ none) }
+token-near near (the.unknown_prefix {w} is goes free) = inr record { is_solid = λ some. refl; token = the.unknown_prefix is (sym (near-next ends_prefix (by_list ends_prefix refl) near) ∙ goes) (sym (near-opening (near-append w near)) ∙ free) }
+token-near near (the.invalid_ident start all wrong stop) = inr record { is_solid = λ some. refl; token = the.invalid_ident start all wrong (sym (near-next is_word_continue word-solid near) ∙ stop) }
 token-near near (the.raw_ident is stop) = inr record { is_solid = λ some. refl; token = the.raw_ident is (sym (near-next is_id_continue continue-solid near) ∙ stop) }
 token-near near (the.forced_keyword is stop) = inr record { is_solid = λ some. refl; token = the.forced_keyword is (sym (near-next is_id_continue continue-solid near) ∙ stop) }
 token-near near (the.lifetime start all stop quote hash) = inr record {
   is_solid = λ some. refl;
-  token = the.lifetime start all (sym (near-next is_word word-solid near) ∙ stop) (sym (near-next (is_among (codes "'")) (by_list (is_among (codes "'")) refl) near) ∙ quote) (λ goes. hash (near-next (is_among (codes "#")) (by_list (is_among (codes "#")) refl) near ∙ goes));
+  token = the.lifetime start all (sym (near-next is_word_continue word-solid near) ∙ stop) (sym (near-next (is_among (codes "'")) (by_list (is_among (codes "'")) refl) near) ∙ quote) (λ goes. hash (near-next (is_among (codes "#")) (by_list (is_among (codes "#")) refl) near ∙ goes));
 }
 token-near near (the.unknown_prefix_lifetime {c} {w} start all hash free) = inr record {
   is_solid = λ some. refl;
@@ -324,5 +331,5 @@ token-near near (the.literal is) = inr record { is_solid = λ some. refl; token 
 token-near near (the.literal_with {kind} {w} {suffix} is suffix_is) = inr record { is_solid = λ some. refl; token = the.literal_with (literal-near (near-append suffix near) is) (suffix-near near suffix_is) }
 token-near near (the.slash stop) = inr record { is_solid = λ some. refl; token = the.slash (sym (near-next (is_among (codes "/*")) (by_list (is_among (codes "/*")) refl) near) ∙ stop) }
 token-near near (the.pound stop) = inr record { is_solid = λ some. refl; token = the.pound (sym (near-next (is_among (codes "\"#")) (by_list (is_among (codes "\"#")) refl) near) ∙ stop) }
-token-near near (the.guarded is) = inr record { is_solid = λ some. refl; token = the.guarded is }
+token-near near (the.guarded_prefix is) = inr record { is_solid = λ some. refl; token = the.guarded_prefix is }
 token-near near (the.symbol {c} is) = inr record { is_solid = λ some. symbol-solid c; token = the.symbol is }

@@ -12,7 +12,7 @@ use Rattle.rustc_lexer.specs.declared.token.TokenKind.{TokenKind}
 use Rattle.rustc_lexer.specs.declared.token.TokenKind.TheVariants.{Pound, Bang}
 use Rattle.rustc_lexer.specs.Emoji.{is_emoji, emoji_ranges}
 use Rattle.rustc_lexer.specs.Language as the
-use Rattle.rustc_lexer.specs.Language.{begins_more, AreTokens, something}
+use Rattle.rustc_lexer.specs.Language.{has_rule, AreTokens, something}
 use Rattle.rustc_lexer.specs.Spans.{bytes}
 use Rattle.rustc_lexer.specs.laws.LanguageFrontmatter.{opens-none}
 use Rattle.rustc_lexer.specs.means.Scan.{begins}
@@ -72,7 +72,7 @@ mark-told text is = elim (cases_Bool (begins (codes "#!") text)) [
     back : begins (codes "#!") (chars text) ≡ true → begins (codes "#!") text ≡ true
     back t = ap (begins (codes "#!")) (sym (encodes-chars text is.utf8) ∙ (ap encode_utf8_all (front-is (chars text) t) ∙ mark-encodes (drop 2 (chars text))))
 
-bang-alone : begins_more 33 ≡ false
+bang-alone : has_rule 33 ≡ false
 unfolding unicode_ident is_emoji emoji_ranges
 bang-alone = refl
 

@@ -1,5 +1,5 @@
 -- A source in order, with a frontmatter or without, has its tokens, but for the white space, and stays.
-use Rattle.std.proofs.Common.{◌≡◌, ℕ, suc, ◌+◌, ◌<◌, ◌≤◌, ◌^◌, inl, inr, not, Bool, true, false, true≢false, if◌then◌else◌, List, [], ◌∷◌, ◌++◌, length, length-append, take, drop, codes, append_assoc, refl, sym, ap, ◌∙◌, subst, arith}
+use Rattle.std.proofs.Common.{◌≡◌, ℕ, suc, ◌+◌, ◌<◌, ◌≤◌, ◌^◌, ◌&&◌, inl, inr, not, Bool, true, false, true≢false, if◌then◌else◌, List, [], ◌∷◌, ◌++◌, length, length-append, take, drop, codes, append_assoc, refl, sym, ap, ◌∙◌, subst, arith}
 use lib.Utf8.{scalars}
 use Rattle.std.proofs.Math.Seq.{take-append_seam, drop-append_seam}
 use Rattle.std.proofs.lemmas.Bool.{and_parts, eqb-true, not-true}
@@ -9,11 +9,12 @@ use Rattle.rustc_lexer.specs.declared.token.FrontmatterAllowed.{FrontmatterAllow
 use Rattle.rustc_lexer.specs.declared.token.FrontmatterAllowed.TheVariants.{Yes, No}
 use Rattle.rustc_lexer.specs.declared.token.Token.{Token}
 use Rattle.rustc_lexer.specs.declared.token.TokenKind.{TokenKind}
-use Rattle.rustc_lexer.specs.declared.token.TokenKind.TheVariants.{Whitespace, Frontmatter}
+use Rattle.rustc_lexer.specs.declared.token.TokenKind.TheVariants.{Whitespace, Frontmatter, Eof}
 use Rattle.rustc_lexer.specs.Classes.{is_among, is_whitespace}
 use Rattle.rustc_lexer.specs.FrontmatterGrammar.{IsOpeningBefore, OpensNone, EndsAt}
-use Rattle.rustc_lexer.specs.Language.{allowed_past, IsTokenBefore, AreTokens, nothing, something, frontmatter_first}
-use Rattle.rustc_lexer.specs.Spans.{Stops, bytes}
+use Rattle.rustc_lexer.specs.FrontmatterGrammar.{allowed_after}
+use Rattle.rustc_lexer.specs.Language.{IsTokenBefore, AreTokens, nothing, something, frontmatter_first}
+use Rattle.rustc_lexer.specs.Spans.{NextIsNot, bytes}
 use Rattle.rustc_lexer.specs.laws.LanguageLiterals.{bytes-append}
 use Rattle.rustc_lexer.specs.means.Scan.{next_is}
 use Rattle.rustc_lexer.specs.means.Taking.{token_at}
@@ -23,7 +24,7 @@ use Rattle.rustc_lexer.specs.Tokens.{tokens_of}
 use Rattle.rustc_lexer.proofs.LanguageLemmas.{language}
 use Rattle.rustc_lexer.proofs.TokensLemmas.{tokens-nil, tokens-cons}
 use Rattle.tidy.specs.Order.{is_space, is_front, is_bool, is_same_front, begins_with, if_kept, space_in_order, code_in_order, front_in_order, source_in_order, source_tidied, source_parts, parts}
-use Rattle.tidy.proofs.NearLemmas.{Near, ends, near-append, near-refl, IsSpaceRun, is_solid_kind, token-near}
+use Rattle.tidy.proofs.NearLemmas.{Near, ends, near-append, near-refl, IsSpaceRun, is_end, is_solid_kind, token-near}
 use Rattle.tidy.proofs.CodeLemmas.{Tidies, Puts, none-left, scalars-parts, scalars-join, space-step, solid-step, code-cons, parts-cons, code-tidies}
 
 -- ---- what is a frontmatter
@@ -175,12 +176,16 @@ solid-puts u kind no_front left ts = ap (λ (b : Bool). if b then if_kept t text
     text = encode_utf8_all (u ++ left)
 
 -- nothing that is no white space leaves a frontmatter allowed
-past-solid : (kind : TokenKind) → is_space kind ≡ false → allowed_past Yes kind ≡ No
-past-solid Whitespace e = absurd (true≢false e)
-past-solid kind e = refl
+past-solid : (kind : TokenKind) → is_space kind ≡ false → is_end kind ≡ false → allowed_after Yes kind ≡ No
+past-solid Whitespace e f = absurd (true≢false e)
+past-solid Eof e f = absurd (true≢false f)
+past-solid kind e f = refl
 
-solid-no : (kind : TokenKind) → is_solid_kind kind ≡ true → (is_space kind ≡ false) × (is_front kind ≡ false)
-solid-no kind e = let both = and_parts (not (is_space kind)) _ e in (not-true (is_space kind) both.0, not-true (is_front kind) both.1)
+solid-no : (kind : TokenKind) → is_solid_kind kind ≡ true → (is_space kind ≡ false) × (is_front kind ≡ false) × (is_end kind ≡ false)
+solid-no kind e =
+    let both = and_parts (not (is_space kind)) (not (is_front kind) && not (is_end kind)) e in
+    let more = and_parts (not (is_front kind)) (not (is_end kind)) both.1 in
+    (not-true (is_space kind) both.0, not-true (is_front kind) more.0, not-true (is_end kind) more.1)
 
 -- the kind of a token that is no run of white space
 kind-solid : {next : List ℕ} {kind : TokenKind} {c : ℕ} {w : List ℕ} → is_whitespace c ≡ false → IsTokenBefore next kind (c ∷ w) → is_solid_kind kind ≡ true
@@ -190,23 +195,23 @@ kind-solid {next} {kind} {c} {w} other p = elim (token-near (near-refl next) p) 
 ]
 
 solid-front : (kind : TokenKind) (c : ℕ) (w next : List ℕ) (tokens : List Token) → is_solid_kind kind ≡ true → IsTokenBefore next kind (c ∷ w) → (Yes ≡ Yes → OpensNone (c ∷ w ++ next))
-    → AreTokens (allowed_past Yes kind) next tokens → Tidies front_in_order Yes (c ∷ w ++ next) (record { kind = kind; len = bytes (c ∷ w) } ∷ tokens)
-solid-front kind c w next tokens solid p free rest = by_token (code-tidies (past-solid kind known.0) rest)
+    → AreTokens (allowed_after Yes kind) next tokens → Tidies front_in_order Yes (c ∷ w ++ next) (record { kind = kind; len = bytes (c ∷ w) } ∷ tokens)
+solid-front kind c w next tokens solid p free rest = by_token (code-tidies (past-solid kind known.0 known.2) rest)
   where
-    known : (is_space kind ≡ false) × (is_front kind ≡ false)
+    known : (is_space kind ≡ false) × (is_front kind ≡ false) × (is_end kind ≡ false)
     known = solid-no kind solid
 
-    by_token : Tidies code_in_order (allowed_past Yes kind) next tokens → Tidies front_in_order Yes (c ∷ w ++ next) (record { kind = kind; len = bytes (c ∷ w) } ∷ tokens)
+    by_token : Tidies code_in_order (allowed_after Yes kind) next tokens → Tidies front_in_order Yes (c ∷ w ++ next) (record { kind = kind; len = bytes (c ∷ w) } ∷ tokens)
     by_token more = elim (token-near more.near p) [
       | inl run ↦ absurd (true≢false (sym (ap is_space run.kind_is) ∙ known.0))
       | inr stays ↦ solid-step front_in_order code_in_order Yes kind c w next tokens (solid-puts (c ∷ w) kind known.1) p free more stays
     ]
 
-front-tidies : {allowed : FrontmatterAllowed} {cs : List ℕ} {tokens : List Token} → allowed ≡ Yes → scalars cs ≡ true → bytes cs < 2 ^ 32 → Stops is_whitespace cs → AreTokens allowed cs tokens → Tidies front_in_order Yes cs tokens
+front-tidies : {allowed : FrontmatterAllowed} {cs : List ℕ} {tokens : List Token} → allowed ≡ Yes → scalars cs ≡ true → bytes cs < 2 ^ 32 → NextIsNot is_whitespace cs → AreTokens allowed cs tokens → Tidies front_in_order Yes cs tokens
 front-tidies yes_is good fits stop (nothing) = record { out = []; outs = []; are = nothing; near = ends; is = refl; same = refl; again = refl; count = refl; size = omega arith; good = λ e. e }
 front-tidies yes_is good fits stop (frontmatter_first body is_opening is_end rest) = opened-tidies body good fits is_opening is_end rest
 front-tidies yes_is good fits stop (something {allowed} {kind} {c} {w} {next} {tokens} p free rest) =
-    solid-front kind c w next tokens (kind-solid stop p) p (λ y. free yes_is) (subst (λ (a : FrontmatterAllowed). AreTokens (allowed_past a kind) next tokens) yes_is rest)
+    solid-front kind c w next tokens (kind-solid stop p) p (λ y. free yes_is) (subst (λ (a : FrontmatterAllowed). AreTokens (allowed_after a kind) next tokens) yes_is rest)
 
 -- ---- with white space first, or none
 
@@ -243,13 +248,13 @@ as-source cs t ts solid tidy = record {
 
 source-tidies : {allowed : FrontmatterAllowed} {cs : List ℕ} {tokens : List Token} → allowed ≡ Yes → scalars cs ≡ true → bytes cs < 2 ^ 32 → AreTokens allowed cs tokens → Tidies source_in_order Yes cs tokens
 source-tidies yes_is good fits (nothing) = record { out = []; outs = []; are = nothing; near = ends; is = refl; same = refl; again = refl; count = refl; size = omega arith; good = λ e. e }
-source-tidies yes_is good fits (frontmatter_first {n} {front} {next} {tokens} body is_opening is_end rest) =
+source-tidies yes_is good fits (frontmatter_first {n} {opening = front} {next} {tokens} body is_opening is_end rest) =
     as-source (front ++ (body ++ next)) (record { kind = Frontmatter (next_is is_whitespace front) (not (next_is (is_among (codes "\n")) (body ++ next))); len = bytes front + bytes body }) tokens refl
     (opened-tidies body good fits is_opening is_end rest)
 source-tidies yes_is good fits (something {allowed} {kind} {c} {w} {next} {tokens} p free rest) = elim (token-near (near-refl next) p) [
   | inl run ↦ spaced run
   | inr stays ↦ (let solid = stays.is_solid (omega arith) in as-source (c ∷ w ++ next) (record { kind = kind; len = bytes (c ∷ w) }) tokens (solid-no kind solid).0
-      (solid-front kind c w next tokens solid p (λ y. free yes_is) (subst (λ (a : FrontmatterAllowed). AreTokens (allowed_past a kind) next tokens) yes_is rest)))
+      (solid-front kind c w next tokens solid p (λ y. free yes_is) (subst (λ (a : FrontmatterAllowed). AreTokens (allowed_after a kind) next tokens) yes_is rest)))
 ]
   where
     next-fits : bytes next < 2 ^ 32
@@ -258,7 +263,7 @@ source-tidies yes_is good fits (something {allowed} {kind} {c} {w} {next} {token
     spaced : IsSpaceRun next kind (c ∷ w) → Tidies source_in_order Yes (c ∷ w ++ next) (record { kind = kind; len = bytes (c ∷ w) } ∷ tokens)
     spaced run = subst (λ (k : TokenKind). Tidies source_in_order Yes (c ∷ w ++ next) (record { kind = k; len = bytes (c ∷ w) } ∷ tokens)) (sym run.kind_is)
         (space-step source_in_order front_in_order Yes c w next tokens source-puts run.all run.stop (λ y. free yes_is) (none-left rest)
-        (front-tidies (ap (λ (a : FrontmatterAllowed). allowed_past a kind) yes_is ∙ ap (allowed_past Yes) run.kind_is) (scalars-parts (c ∷ w) next good).1 next-fits run.stop rest))
+        (front-tidies (ap (λ (a : FrontmatterAllowed). allowed_after a kind) yes_is ∙ ap (allowed_after Yes) run.kind_is) (scalars-parts (c ∷ w) next good).1 next-fits run.stop rest))
 
 -- ---- texts
 

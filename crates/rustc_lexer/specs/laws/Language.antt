@@ -1,5 +1,5 @@
 -- What is read at the front of a text is a token of the language, and a token of the language is what is read.
-use Rattle.std.proofs.Common.{◌≡◌, ℕ, ◌==◌, Bool, true, false, true≢false, List, [], ◌∷◌, ◌++◌, length, take, drop, codes, refl, sym, ap, subst}
+use Rattle.std.proofs.Common.{◌≡◌, ℕ, ◌==◌, Bool, true, false, true≢false, List, [], ◌∷◌, ◌++◌, length, take, drop, codes, refl, sym, ap, ◌∙◌, subst, take-append-drop}
 use Rattle.std.proofs.Math.Seq.{take-append_seam, drop-append_seam}
 use Rattle.std.proofs.lemmas.Bool.{and_parts, eqb-true, or_parts}
 use Rattle.unicode_ident.proofs.Computing.{unicode_ident}
@@ -16,9 +16,11 @@ use Rattle.rustc_lexer.specs.laws.LanguageLiterals.{str-sound, byte-sound, byte_
 use Rattle.rustc_lexer.specs.laws.LanguageRuns.{Sound, EachChosen, each_chosen}
 use Rattle.rustc_lexer.specs.laws.LanguageWords.{no-opening, raw_mark-none, none-raw, ident-sound, invalid-sound, raw_ident-sound, keyword-sound, ident-is_read, prefix-read as word_prefix-read, invalid-read, raw_ident-read, keyword-read}
 use Rattle.rustc_lexer.specs.Language as the
-use Rattle.rustc_lexer.specs.Language.{is_opening, IsLiteralBefore, IsTokenBefore}
-use Rattle.rustc_lexer.specs.LanguageHolds.{IsLanguage}
-use Rattle.rustc_lexer.specs.Spans.{Goes, Stops}
+use Rattle.rustc_lexer.specs.LiteralGrammar as lit
+use Rattle.rustc_lexer.specs.Language.{begins_prefixed, IsTokenBefore}
+use Rattle.rustc_lexer.specs.LiteralGrammar.{IsLiteralBefore}
+use Rattle.rustc_lexer.specs.LanguageHolds.{EachBeginsWithOne, IsLanguage}
+use Rattle.rustc_lexer.specs.Spans.{NextIs, NextIsNot}
 use Rattle.rustc_lexer.specs.means.Lexeme.{is_raw_mark, raw_or_ident, begins_raw, raw_past_or_ident, letter_r, letter_k, letter_b, letter_c, letters, word, lexeme}
 use Rattle.rustc_lexer.specs.means.Literal.{literal}
 use Rattle.rustc_lexer.specs.means.Quoted.{byte_body, byte_str_body, c_str_body}
@@ -38,7 +40,7 @@ r-sound : SoundAll 114 letter_r
 r-sound s = by_test (Sound 114 s) (marks_ident s) (after 2 (run RawIdent is_id_continue) s) (raw_or_ident s) (raw_ident-sound s)
     (λ e. by_test (Sound 114 s) (next_is is_raw_mark s) (raw_literal R s) (ident_or_unknown_prefix s) (λ f. raw_str-sound s f e) (λ f. ident-sound 114 letters-start.0 s (free f)))
   where
-    free : Stops is_raw_mark s → is_opening (114 ∷ s) ≡ false
+    free : NextIsNot is_raw_mark s → begins_prefixed (114 ∷ s) ≡ false
     free f =
         let none = raw_mark-none s f in
         no-opening (114 ∷ s) record { r_quote = none.0; r_hash = none.1; b_one = refl; b_quote = refl; br_quote = refl; br_hash = refl; c_quote = refl; cr_quote = refl; cr_hash = refl; k_hash = refl }
@@ -48,7 +50,7 @@ k-sound s = by_test (Sound 107 s) (marks_ident s) (after 2 (run ForcedKeywordIde
     (no-opening (107 ∷ s) record { r_quote = refl; r_hash = refl; b_one = refl; b_quote = refl; br_quote = refl; br_hash = refl; c_quote = refl; cr_quote = refl; cr_hash = refl; k_hash = e }))
 
 -- an `r` and its mark, past one letter
-raw-parts : (c : ℕ) (scan : List ℕ → TokenKind × ℕ) → ((s : List ℕ) → Goes is_raw_mark s → Sound c (114 ∷ s) (scan (114 ∷ s))) → (s : List ℕ) → begins_raw s ≡ true → Sound c s (scan s)
+raw-parts : (c : ℕ) (scan : List ℕ → TokenKind × ℕ) → ((s : List ℕ) → NextIs is_raw_mark s → Sound c (114 ∷ s) (scan (114 ∷ s))) → (s : List ℕ) → begins_raw s ≡ true → Sound c s (scan s)
 raw-parts c scan is [] e = absurd (true≢false (sym e))
 raw-parts c scan is (d ∷ s) e =
     let parts = and_parts (begins (codes "r") (d ∷ s)) (next_is is_raw_mark s) e in
@@ -59,7 +61,7 @@ b-sound s = by_test (Sound 98 s) (begins (codes "'") s) (literal (after 1 byte_b
     (λ e. by_test (Sound 98 s) (begins (codes "\"") s) (literal (after 1 byte_str_body) s) (raw_past_or_ident Br s) (byte_str-sound s)
     (λ f. by_test (Sound 98 s) (begins_raw s) (after 1 (raw_literal Br) s) (ident_or_unknown_prefix s) (raw-parts 98 (after 1 (raw_literal Br)) raw_byte_str-sound s) (λ g. ident-sound 98 letters-start.2 s (free e f g))))
   where
-    free : begins (codes "'") s ≡ false → begins (codes "\"") s ≡ false → begins_raw s ≡ false → is_opening (98 ∷ s) ≡ false
+    free : begins (codes "'") s ≡ false → begins (codes "\"") s ≡ false → begins_raw s ≡ false → begins_prefixed (98 ∷ s) ≡ false
     free e f g =
         let none = none-raw s g in
         no-opening (98 ∷ s) record { r_quote = refl; r_hash = refl; b_one = e; b_quote = f; br_quote = none.0; br_hash = none.1; c_quote = refl; cr_quote = refl; cr_hash = refl; k_hash = refl }
@@ -68,7 +70,7 @@ c-sound : SoundAll 99 letter_c
 c-sound s = by_test (Sound 99 s) (begins (codes "\"") s) (literal (after 1 c_str_body) s) (raw_past_or_ident Cr s) (c_str-sound s)
     (λ f. by_test (Sound 99 s) (begins_raw s) (after 1 (raw_literal Cr) s) (ident_or_unknown_prefix s) (raw-parts 99 (after 1 (raw_literal Cr)) raw_c_str-sound s) (λ g. ident-sound 99 letters-start.3 s (free f g)))
   where
-    free : begins (codes "\"") s ≡ false → begins_raw s ≡ false → is_opening (99 ∷ s) ≡ false
+    free : begins (codes "\"") s ≡ false → begins_raw s ≡ false → begins_prefixed (99 ∷ s) ≡ false
     free f g =
         let none = none-raw s g in
         no-opening (99 ∷ s) record { r_quote = refl; r_hash = refl; b_one = refl; b_quote = refl; br_quote = refl; br_hash = refl; c_quote = f; cr_quote = none.0; cr_hash = none.1; k_hash = refl }
@@ -91,7 +93,7 @@ letters-sound = (
 word-sound : (c : ℕ) → is_id_start c ≡ true → SoundAll c (word c)
 word-sound c start = by_arm SoundAll letters (λ c. ident_or_unknown_prefix) c letters-sound (λ none s. ident-sound c start s (free none s))
   where
-    free : fits_some letters c ≡ false → (s : List ℕ) → is_opening (c ∷ s) ≡ false
+    free : fits_some letters c ≡ false → (s : List ℕ) → begins_prefixed (c ∷ s) ≡ false
     free none s =
         let r = or_parts (c == 114) _ none in
         let k = or_parts (c == 107) _ r.1 in
@@ -119,17 +121,17 @@ lexeme-sound (c ∷ s) = each_chosen SoundAll families-sound c s
 -- ---- a token is what is read
 
 literal-reads : {next : List ℕ} {kind : LiteralKind} {takes : Bool} {w : List ℕ} → IsLiteralBefore next kind takes w → ReadsLiteral next kind takes w
-literal-reads {next} (the.number {kind} {w} is) = number-reads next kind w is
-literal-reads {next} (the.str {t} {w} q) = str-reads next t w q
-literal-reads {next} (the.byte_str {t} {w} q) = byte_str-reads t w q
-literal-reads {next} (the.c_str {t} {w} q) = c_str-reads t w q
-literal-reads {next} (the.byte_char {t} {w} q) = byte-reads t w q
-literal-reads {next} (the.char_of_one {c} out) = one-reads next c out
-literal-reads {next} (the.char {t} {w} q stop) = char-reads t w q stop
-literal-reads {next} (the.char_of_name {c} {d} w start all) = name-reads next c d w start all
-literal-reads {next} (the.raw_str {n} {w} q free) = raw_str-reads next n w q free
-literal-reads {next} (the.raw_byte_str {n} {w} q) = raw_byte_str-reads n w q
-literal-reads {next} (the.raw_c_str {n} {w} q) = raw_c_str-reads n w q
+literal-reads {next} (lit.number {kind} {w} is) = number-reads next kind w is
+literal-reads {next} (lit.str {t} {w} q) = str-reads next t w q
+literal-reads {next} (lit.byte_str {t} {w} q) = byte_str-reads t w q
+literal-reads {next} (lit.c_str {t} {w} q) = c_str-reads t w q
+literal-reads {next} (lit.byte_char {t} {w} q) = byte-reads t w q
+literal-reads {next} (lit.char_of_one {c} out) = one-reads next c out
+literal-reads {next} (lit.char {t} {w} q stop) = char-reads t w q stop
+literal-reads {next} (lit.char_of_name {c} {d} w start all) = name-reads next c d w start all
+literal-reads {next} (lit.raw_str {n} {w} q free) = raw_str-reads next n w q free
+literal-reads {next} (lit.raw_byte_str {n} {w} q) = raw_byte_str-reads n w q
+literal-reads {next} (lit.raw_c_str {n} {w} q) = raw_c_str-reads n w q
 
 pub token-read : {next : List ℕ} {kind : TokenKind} {w : List ℕ} → IsTokenBefore next kind w → lexeme (w ++ next) ≡ (kind, length w)
 token-read {next} (the.end none) = ap lexeme none
@@ -149,7 +151,7 @@ token-read {next} (the.literal {kind} {w} is) = plain-read next kind w (literal-
 token-read {next} (the.literal_with {kind} {w} {suffix} is suffix_is) = with_suffix-read next kind w suffix (literal-reads is) suffix_is
 token-read {next} (the.slash stop) = slash-read next stop
 token-read {next} (the.pound stop) = pound-read next stop
-token-read {next} (the.guarded {c} is) = guarded-read c next is
+token-read {next} (the.guarded_prefix {c} is) = guarded-read c next is
 token-read {next} (the.symbol {c} is) = symbol-read c next is
 
 -- ---- both
@@ -162,3 +164,18 @@ language next w kind = (token-read, read-token)
         subst (λ (u : List ℕ). IsTokenBefore u kind w) (drop-append_seam w next)
         (subst (λ (v : List ℕ). IsTokenBefore (drop (length w) (w ++ next)) kind v) (take-append_seam w next)
         (subst (λ (r : TokenKind × ℕ). IsTokenBefore (drop r.1 (w ++ next)) r.0 (take r.1 (w ++ next))) e (lexeme-sound (w ++ next))))
+
+-- and each text begins with one
+pub begins-one : EachBeginsWithOne
+begins-one s = record {
+  kind = (lexeme s).0;
+  w = take (lexeme s).1 s;
+  next = drop (lexeme s).1 s;
+  whole = sym (take-append-drop (lexeme s).1 s);
+  is = lexeme-sound s;
+  only = λ other v after e p.
+      let read : lexeme s ≡ (other, length v) = ap lexeme e ∙ token-read p in (
+        sym (ap (λ (r : TokenKind × ℕ). r.0) read),
+        sym (ap (λ (r : TokenKind × ℕ). take r.1 s) read ∙ (ap (take (length v)) e ∙ take-append_seam v after)),
+      );
+}

@@ -1,5 +1,5 @@
 -- The end of a frontmatter is the one that the language has.
-use Rattle.std.proofs.Common.{◌≡◌, ℕ, zero, suc, ◌+◌, ◌-◌, ◌≤◌, ◌<◌, ◌==◌, inl, inr, max, Bool, true, false, true≢false, if◌then◌else◌, List, [], ◌∷◌, ◌++◌, length, take, drop, codes, refl, sym, ap, ◌∙◌, subst, arith, length-drop, length-take-le, take-append-drop, slice_index, drop-drop, Option, Some, None}
+use Rattle.std.proofs.Common.{◌≡◌, ℕ, zero, suc, ◌+◌, ◌-◌, ◌≤◌, ◌<◌, ◌==◌, ◌&&◌, inl, inr, max, Bool, true, false, true≢false, if◌then◌else◌, List, [], ◌∷◌, ◌++◌, length, take, drop, codes, refl, sym, ap, ◌∙◌, subst, arith, length-drop, length-take-le, take-append-drop, slice_index, drop-drop, Option, Some, None}
 use Rattle.std.proofs.lemmas.Bool.{and_parts, false_from_ne_true, cases_lt}
 use Rattle.std.proofs.lemmas.List.{drop_all}
 use Rattle.std.specs.List.{list_all}
@@ -47,7 +47,7 @@ module _ (c : ℕ) (cs : List ℕ) where
   first-none {s} none = least-none (λ place. begins (c ∷ cs) (drop place s)) (length s) (λ j lt. none j (omega arith))
 
   is-first : (s : List ℕ) (i : ℕ) → first (c ∷ cs) s ≡ Some i → IsFirst (c ∷ cs) s 0 i
-  is-first s i e = let is = least-some (λ place. begins (c ∷ cs) (drop place s)) (length s) i e in record { past = omega arith; here = is.here; before = λ j le lt. is.before j lt }
+  is-first s i e = let is = least-some (λ place. begins (c ∷ cs) (drop place s)) (length s) i e in record { from = omega arith; here = is.here; before = λ j le lt. is.before j lt }
 
   is-nowhere : (s : List ℕ) → first (c ∷ cs) s ≡ None → IsNowhere (c ∷ cs) s 0
   is-nowhere s e j le = elim (cases_lt j (length s)) [ inl lt ↦ none-least (λ place. begins (c ∷ cs) (drop place s)) (length s) e j lt | inr ge ↦ past-none s j (omega arith) ]
@@ -161,7 +161,7 @@ alone_from start s = first_alone start (spots start (drop start s)) s
 from-first : (s : List ℕ) (start i : ℕ) → IsFirst (fence 3) s start i → spots start (drop start s) ≡ i ∷ spots (i + 3) (drop (i + 3) s)
 from-first s start i is =
     let d : ℕ = i - start in
-    let past = is.past in
+    let from = is.from in
     let whole : start + d ≡ i = omega arith in
     let same : (j : ℕ) → drop j (drop start s) ≡ drop (start + j) s = λ j. drop-drop j start s in
     let here : begins (dashes 3) (drop d (drop start s)) ≡ true = ap (begins (dashes 3)) (same d ∙ ap (λ (n : ℕ). drop n s) whole) ∙ is.here in
@@ -191,7 +191,7 @@ place-of s start = by_first (first (fence 3) (drop start s)) refl
     by_first (Some d) e =
         let is = is-first 45 (45 ∷ 45 ∷ []) (drop start s) d e in
         found (start + d) record {
-          past = omega arith;
+          from = omega arith;
           here = ap (begins (fence 3)) (sym (drop-drop d start s)) ∙ is.here;
           before = λ j le lt. let sum : start + (j - start) ≡ j = omega arith in ap (begins (fence 3)) (sym (drop-drop (j - start) start s ∙ ap (λ (n : ℕ). drop n s) sum)) ∙ is.before (j - start) (omega arith) (omega arith);
         }
@@ -208,7 +208,7 @@ any-lone (suc fuel) s start fits = by_place (any-lone fuel s) (place-of s start)
     by_blank : ((next : ℕ) → length s < next + fuel → AnyLone s next) → (i : ℕ) → IsFirst (fence 3) s start i → (b : Bool) → stands_alone start i s ≡ b → AnyLone s start
     by_blank ih i is true e = record { answer = Some i; is = the.this is (stands-blank s start i e) }
     by_blank ih i is false e =
-        let past = is.past in
+        let from = is.from in
         let more = ih (i + 3) (omega arith) in
         record { answer = more.answer; is = the.later is (λ blank. either-way (stands_alone start i s) (blank-stands blank) e) more.is }
 
@@ -240,18 +240,52 @@ closing-is n s f g u d a l ef eg eu ed ea el =
     ∙ (ap (λ (o : Option ℕ). steps s f g u d o (alone_from 0 s)) ea
     ∙ ap (λ (o : Option ℕ). steps s f g u d a o) el)))))
 
-pub ends-read : {n : ℕ} {s : List ℕ} {m : ℕ} → EndsAt n s m → closing_end n s ≡ m
-ends-read {n} {s} (the.full_fence {i} {k} is l) = closing-is n s (Some i) _ _ _ _ _ (first-is 10 (fence n) is) refl refl refl refl refl ∙ ap (λ (k : ℕ). suc i + k) (line-read l)
-ends-read {n} {s} (the.short_fence {i} {k} none is l) = closing-is n s None (Some i) _ _ _ _ (first-none 10 (fence n) none) (first-is 10 (fence 3) is) refl refl refl refl ∙ ap (λ (k : ℕ). suc i + k) (line-read l)
-ends-read {n} {s} (the.use_item {i} free is) = closing-is n s None None (Some i) _ _ _ (first-none 10 (fence n) free.0) (first-none 10 (fence 3) free.1) (first-is 10 (codes "use ") is) refl refl refl
-ends-read {n} {s} (the.inner_doc {i} free no_use is) = closing-is n s None None None (Some i) _ _ (first-none 10 (fence n) free.0) (first-none 10 (fence 3) free.1) (first-none 10 (codes "use ") no_use) (first-is 10 (codes "//!") is) refl refl
-ends-read {n} {s} (the.inner_attribute {i} free no_use no_doc is) =
-    closing-is n s None None None None (Some i) _ (first-none 10 (fence n) free.0) (first-none 10 (fence 3) free.1) (first-none 10 (codes "use ") no_use) (first-none 10 (codes "//!") no_doc) (first-is 10 (codes "#![") is) refl
-ends-read {n} {s} (the.lone_dashes {i} {k} free no_rust is l) =
-    closing-is n s None None None None None (Some i) (first-none 10 (fence n) free.0) (first-none 10 (fence 3) free.1) (first-none 10 (codes "use ") no_rust.0) (first-none 10 (codes "//!") no_rust.1) (first-none 10 (codes "#![") no_rust.2) (lone-read is)
+-- where three dashes begin nothing, no more of them do
+no-more : (n : ℕ) (s : List ℕ) → 3 ≤ n → begins (fence 3) s ≡ false → begins (fence n) s ≡ false
+no-more (suc (suc (suc n))) [] le none = refl
+no-more (suc (suc (suc n))) (a ∷ []) le none = by_first (a == 45)
+  where
+    by_first : (b : Bool) → (b && false) ≡ false
+    by_first true = refl
+    by_first false = refl
+no-more (suc (suc (suc n))) (a ∷ b ∷ []) le none = by_two (a == 45) (b == 45)
+  where
+    by_two : (p q : Bool) → (p && (q && false)) ≡ false
+    by_two true true = refl
+    by_two true false = refl
+    by_two false q = refl
+no-more (suc (suc (suc n))) (a ∷ b ∷ c ∷ s) le none = by_three (a == 45) (b == 45) (c == 45) none
+  where
+    by_three : (p q r : Bool) → (p && (q && (r && true))) ≡ false → (p && (q && (r && begins (fence n) s))) ≡ false
+    by_three true true true e = absurd (true≢false e)
+    by_three true true false e = refl
+    by_three true false r e = refl
+    by_three false q r e = refl
+no-more n s le none = absurd (omega (arith, le))
+
+no-longer : (n : ℕ) (s : List ℕ) → 3 ≤ n → NoFence s → IsNowhere (10 ∷ fence n) s 0
+no-longer n s three free j le = past_newline_none (drop j s) (free j le)
+  where
+    past_newline_none : (u : List ℕ) → begins (10 ∷ fence 3) u ≡ false → begins (10 ∷ fence n) u ≡ false
+    past_newline_none [] e = refl
+    past_newline_none (c ∷ u) e = by_newline (c == 10) (no-more n u three) e
+      where
+        by_newline : (b : Bool) → (begins (fence 3) u ≡ false → begins (fence n) u ≡ false) → (b && begins (fence 3) u) ≡ false → (b && begins (fence n) u) ≡ false
+        by_newline true more e = more e
+        by_newline false more e = refl
+
+pub ends-read : {n : ℕ} {s : List ℕ} {m : ℕ} → 3 ≤ n → EndsAt n s m → closing_end n s ≡ m
+ends-read {n} {s} three (the.full_fence {i} {k} is l) = closing-is n s (Some i) _ _ _ _ _ (first-is 10 (fence n) is) refl refl refl refl refl ∙ ap (λ (k : ℕ). suc i + k) (line-read l)
+ends-read {n} {s} three (the.short_fence {i} {k} none is l) = closing-is n s None (Some i) _ _ _ _ (first-none 10 (fence n) none) (first-is 10 (fence 3) is) refl refl refl refl ∙ ap (λ (k : ℕ). suc i + k) (line-read l)
+ends-read {n} {s} three (the.use_item {i} free is) = closing-is n s None None (Some i) _ _ _ (first-none 10 (fence n) (no-longer n s three free)) (first-none 10 (fence 3) free) (first-is 10 (codes "use ") is) refl refl refl
+ends-read {n} {s} three (the.inner_doc {i} free no_use is) = closing-is n s None None None (Some i) _ _ (first-none 10 (fence n) (no-longer n s three free)) (first-none 10 (fence 3) free) (first-none 10 (codes "use ") no_use) (first-is 10 (codes "//!") is) refl refl
+ends-read {n} {s} three (the.inner_attribute {i} free no_use no_doc is) =
+    closing-is n s None None None None (Some i) _ (first-none 10 (fence n) (no-longer n s three free)) (first-none 10 (fence 3) free) (first-none 10 (codes "use ") no_use) (first-none 10 (codes "//!") no_doc) (first-is 10 (codes "#![") is) refl
+ends-read {n} {s} three (the.lone_dashes {i} {k} free no_rust is l) =
+    closing-is n s None None None None None (Some i) (first-none 10 (fence n) (no-longer n s three free)) (first-none 10 (fence 3) free) (first-none 10 (codes "use ") no_rust.0) (first-none 10 (codes "//!") no_rust.1) (first-none 10 (codes "#![") no_rust.2) (lone-read is)
     ∙ ap (λ (k : ℕ). i + k) (line-read l)
-ends-read {n} {s} (the.all free no_rust is) =
-    closing-is n s None None None None None None (first-none 10 (fence n) free.0) (first-none 10 (fence 3) free.1) (first-none 10 (codes "use ") no_rust.0) (first-none 10 (codes "//!") no_rust.1) (first-none 10 (codes "#![") no_rust.2) (lone-read is)
+ends-read {n} {s} three (the.all free no_rust is) =
+    closing-is n s None None None None None None (first-none 10 (fence n) (no-longer n s three free)) (first-none 10 (fence 3) free) (first-none 10 (codes "use ") no_rust.0) (first-none 10 (codes "//!") no_rust.1) (first-none 10 (codes "#![") no_rust.2) (lone-read is)
 
 record AnyEnd (n : ℕ) (s : List ℕ) : Type 0 where
   place : ℕ
@@ -260,29 +294,29 @@ record AnyEnd (n : ℕ) (s : List ℕ) : Type 0 where
 any-end : (n : ℕ) (s : List ℕ) → AnyEnd n s
 any-end n s = by_full (first (10 ∷ fence n) s) refl
   where
-    by_lone : NoFence n s → NoRust s → (o : Option ℕ) → alone_from 0 s ≡ o → AnyEnd n s
+    by_lone : NoFence s → NoRust s → (o : Option ℕ) → alone_from 0 s ≡ o → AnyEnd n s
     by_lone free rust (Some i) e = record { place = i + run_len is_no_newline (drop i s); is = the.lone_dashes free rust (subst (IsLone s 0) e (lone-is s)) (line-of (drop i s)) }
     by_lone free rust None e = record { place = length s; is = the.all free rust (subst (IsLone s 0) e (lone-is s)) }
 
-    by_attribute : NoFence n s → IsNowhere (codes "\nuse ") s 0 → IsNowhere (codes "\n//!") s 0 → (o : Option ℕ) → first (codes "\n#![") s ≡ o → AnyEnd n s
+    by_attribute : NoFence s → IsNowhere (codes "\nuse ") s 0 → IsNowhere (codes "\n//!") s 0 → (o : Option ℕ) → first (codes "\n#![") s ≡ o → AnyEnd n s
     by_attribute free no_use no_doc (Some i) e = record { place = i; is = the.inner_attribute free no_use no_doc (is-first 10 (codes "#![") s i e) }
     by_attribute free no_use no_doc None e = by_lone free (no_use, no_doc, is-nowhere 10 (codes "#![") s e) (alone_from 0 s) refl
 
-    by_doc : NoFence n s → IsNowhere (codes "\nuse ") s 0 → (o : Option ℕ) → first (codes "\n//!") s ≡ o → AnyEnd n s
+    by_doc : NoFence s → IsNowhere (codes "\nuse ") s 0 → (o : Option ℕ) → first (codes "\n//!") s ≡ o → AnyEnd n s
     by_doc free no_use (Some i) e = record { place = i; is = the.inner_doc free no_use (is-first 10 (codes "//!") s i e) }
     by_doc free no_use None e = by_attribute free no_use (is-nowhere 10 (codes "//!") s e) (first (codes "\n#![") s) refl
 
-    by_use : NoFence n s → (o : Option ℕ) → first (codes "\nuse ") s ≡ o → AnyEnd n s
+    by_use : NoFence s → (o : Option ℕ) → first (codes "\nuse ") s ≡ o → AnyEnd n s
     by_use free (Some i) e = record { place = i; is = the.use_item free (is-first 10 (codes "use ") s i e) }
     by_use free None e = by_doc free (is-nowhere 10 (codes "use ") s e) (first (codes "\n//!") s) refl
 
     by_short : IsNowhere (10 ∷ fence n) s 0 → (o : Option ℕ) → first (10 ∷ fence 3) s ≡ o → AnyEnd n s
     by_short none (Some i) e = record { place = suc i + run_len is_no_newline (drop (suc i) s); is = the.short_fence none (is-first 10 (fence 3) s i e) (line-of (drop (suc i) s)) }
-    by_short none None e = by_use (none, is-nowhere 10 (fence 3) s e) (first (codes "\nuse ") s) refl
+    by_short none None e = by_use (is-nowhere 10 (fence 3) s e) (first (codes "\nuse ") s) refl
 
     by_full : (o : Option ℕ) → first (10 ∷ fence n) s ≡ o → AnyEnd n s
     by_full (Some i) e = record { place = suc i + run_len is_no_newline (drop (suc i) s); is = the.full_fence (is-first 10 (fence n) s i e) (line-of (drop (suc i) s)) }
     by_full None e = by_short (is-nowhere 10 (fence n) s e) (first (10 ∷ fence 3) s) refl
 
-pub ends-are : (n : ℕ) (s : List ℕ) → EndsAt n s (closing_end n s)
-ends-are n s = let any = any-end n s in subst (EndsAt n s) (sym (ends-read any.is)) any.is
+pub ends-are : (n : ℕ) (s : List ℕ) → 3 ≤ n → EndsAt n s (closing_end n s)
+ends-are n s three = let any = any-end n s in subst (EndsAt n s) (sym (ends-read three any.is)) any.is

@@ -19,8 +19,8 @@ use Rattle.rustc_lexer.specs.laws.LanguageRuns.{run_len-here, run-stops, Sound, 
 use Rattle.rustc_lexer.specs.laws.Lookahead.{line_doc_style-own}
 use Rattle.rustc_lexer.specs.laws.Reach.{run_all}
 use Rattle.rustc_lexer.specs.Language as the
-use Rattle.rustc_lexer.specs.Language.{IsStyle, inner, outer, no_outer, no_mark, IsLineStyle, IsBlockStyle, Closes, IsTokenBefore, begins_more}
-use Rattle.rustc_lexer.specs.Spans.{AreAll, Goes, Stops, is_inline}
+use Rattle.rustc_lexer.specs.Language.{IsStyle, inner, outer, no_outer, neither, IsLineStyle, IsBlockStyle, IsCommentRest, IsTokenBefore, has_rule}
+use Rattle.rustc_lexer.specs.Spans.{NextIn, NextNotIn, AreAll, NextIsNot, is_inline}
 use Rattle.rustc_lexer.specs.means.Lexeme.{whitespace, symbol, symbol_kind}
 use Rattle.rustc_lexer.specs.means.Scan.{after, begins, gives, next_is, run_len}
 
@@ -29,7 +29,7 @@ use Rattle.rustc_lexer.specs.means.Scan.{after, begins, gives, next_is, run_len}
 pub space-sound : (c : ℕ) → is_whitespace c ≡ true → (s : List ℕ) → Sound c s (whitespace s)
 space-sound c e s = the.whitespace (rw e (run_all is_whitespace s)) (run-stops is_whitespace s)
 
-pub space-read : (c : ℕ) (w next : List ℕ) → AreAll is_whitespace (c ∷ w) → Stops is_whitespace next → Read Whitespace (suc (length w)) (c ∷ w ++ next)
+pub space-read : (c : ℕ) (w next : List ℕ) → AreAll is_whitespace (c ∷ w) → NextIsNot is_whitespace next → Read Whitespace (suc (length w)) (c ∷ w ++ next)
 space-read c w next all stop =
     let parts = and_parts (is_whitespace c) _ all in
     read-first c whitespace (w ++ next) Whitespace (length w) _ (chooses-space c parts.0) (ap (λ (n : ℕ). (Whitespace, n)) (run_len-here is_whitespace w next parts.1 stop)) refl
@@ -39,32 +39,32 @@ hash-sound s = by_test (Sound 35 s) (next_is is_guarded_mark s) (after 1 (gives 
   where
     at_mark_here : (s : List ℕ) → next_is is_guarded_mark s ≡ true → Sound 35 s (after 1 (gives GuardedStrPrefix) s)
     at_mark_here [] e = absurd (true≢false (sym e))
-    at_mark_here (d ∷ s) e = the.guarded e
+    at_mark_here (d ∷ s) e = the.guarded_prefix e
 
-pub pound-read : (next : List ℕ) → Stops (is_among (codes "\"#")) next → Read Pound 1 (35 ∷ next)
+pub pound-read : (next : List ℕ) → NextNotIn (codes "\"#") next → Read Pound 1 (35 ∷ next)
 pound-read next stop = read-first 35 hash next Pound 0 1 chooses-hash (rw stop refl) refl
 
 pub guarded-read : (c : ℕ) (next : List ℕ) → is_among (codes "\"#") c ≡ true → Read GuardedStrPrefix 2 (35 ∷ c ∷ next)
 guarded-read c next is = read-first 35 hash (c ∷ next) GuardedStrPrefix 1 2 chooses-hash (rw is refl) refl
 
-pub symbol-sound : (c : ℕ) → begins_more c ≡ false → (s : List ℕ) → Sound c s (symbol c s)
+pub symbol-sound : (c : ℕ) → has_rule c ≡ false → (s : List ℕ) → Sound c s (symbol c s)
 symbol-sound c e s = the.symbol e
 
-pub symbol-read : (c : ℕ) (next : List ℕ) → begins_more c ≡ false → Read (symbol_kind c) 1 (c ∷ next)
+pub symbol-read : (c : ℕ) (next : List ℕ) → has_rule c ≡ false → Read (symbol_kind c) 1 (c ∷ next)
 symbol-read c next e = read-first c (symbol c) next (symbol_kind c) 0 1 (chooses-symbol c e) refl refl
 
 -- ---- line comments
 
 -- the style that is told is the one of the language
 line-styled : (w : List ℕ) → IsLineStyle (line_doc_style w) w
-line-styled [] = no_mark refl
+line-styled [] = neither refl
 line-styled (c ∷ s) = by_test (λ style. IsLineStyle style (c ∷ s)) (begins (codes "!") (c ∷ s)) (Some Inner) _ inner_here
     (λ e. by_test (λ style. IsLineStyle style (c ∷ s)) (begins (codes "/") (c ∷ s) && not (begins (codes "//") (c ∷ s))) (Some Outer) None outer_here (none_here e (c == 47) (begins (codes "/") s) refl refl))
   where
     inner_here : begins (codes "!") (c ∷ s) ≡ true → IsLineStyle (Some Inner) (c ∷ s)
     inner_here e = subst (λ (x : ℕ). IsLineStyle (Some Inner) (x ∷ s)) (sym (eqb-true c 33 (and_parts (c == 33) true e).0)) inner
 
-    by_slash : (b : Bool) → (c == 47) ≡ true → begins (codes "/") s ≡ b → IsStyle 47 (is_among (codes "/")) (if b then None else Some Outer) (c ∷ s)
+    by_slash : (b : Bool) → (c == 47) ≡ true → begins (codes "/") s ≡ b → IsStyle 47 (codes "/") (if b then None else Some Outer) (c ∷ s)
     by_slash true f g = subst (λ (x : ℕ). IsLineStyle None (x ∷ s)) (sym (eqb-true c 47 f)) (no_outer (sym (begins-next 47 s) ∙ g))
     by_slash false f g = subst (λ (x : ℕ). IsLineStyle (Some Outer) (x ∷ s)) (sym (eqb-true c 47 f)) (outer (sym (begins-next 47 s) ∙ g))
 
@@ -79,15 +79,15 @@ line-styled (c ∷ s) = by_test (λ style. IsLineStyle style (c ∷ s)) (begins 
     none_here : begins (codes "!") (c ∷ s) ≡ false → (b d : Bool) → (c == 47) ≡ b → begins (codes "/") s ≡ d → ((b && true) && not (b && d)) ≡ false → IsLineStyle None (c ∷ s)
     none_here e true true f g h = by_slash true f g
     none_here e true false f g h = absurd (true≢false h)
-    none_here e false d f g h = no_mark (rw f (sym (begins-next 33 (c ∷ s)) ∙ e))
+    none_here e false d f g h = neither (rw f (sym (begins-next 33 (c ∷ s)) ∙ e))
 
 line-style-is : {style : Option DocStyle} {w : List ℕ} → IsLineStyle style w → line_doc_style w ≡ style
 line-style-is inner = refl
 line-style-is (outer {w} stop) = rw (begins-next 47 w ∙ stop) refl
 line-style-is (no_outer {w} goes) = rw (begins-next 47 w ∙ goes) refl
-line-style-is (no_mark {w} stop) = by_first w stop
+line-style-is (neither {w} stop) = by_first w stop
   where
-    by_first : (w : List ℕ) → Stops (is_among (47 ∷ 33 ∷ [])) w → line_doc_style w ≡ None
+    by_first : (w : List ℕ) → NextNotIn (47 ∷ 33 ∷ []) w → line_doc_style w ≡ None
     by_first [] stop = refl
     by_first (c ∷ s) stop = let parts = or_parts (c == 47) _ stop in let more = or_parts (c == 33) _ parts.1 in rw (parts.0, more.0) refl
 
@@ -96,7 +96,7 @@ line-sound s =
     let n : ℕ = run_len is_no_newline s in
     the.line_comment (run_all is_no_newline s) (run-stops is_no_newline s) (subst (λ (style : Option DocStyle). IsLineStyle style (take n s)) (line_doc_style-own s) (line-styled (take n s)))
 
-pub line-read : (style : Option DocStyle) (w next : List ℕ) → AreAll is_inline w → Stops is_inline next → IsLineStyle style w → Read (LineComment style) (suc (suc (length w))) (47 ∷ 47 ∷ w ++ next)
+pub line-read : (style : Option DocStyle) (w next : List ℕ) → AreAll is_inline w → NextIsNot is_inline next → IsLineStyle style w → Read (LineComment style) (suc (suc (length w))) (47 ∷ 47 ∷ w ++ next)
 line-read style w next all stop is =
     let len : run_len is_no_newline (w ++ next) ≡ length w = run_len-here is_no_newline w next all stop in
     let own : line_doc_style w ≡ line_doc_style (w ++ next) = ap line_doc_style (sym (ap (λ (n : ℕ). take n (w ++ next)) len ∙ take-append_seam w next)) ∙ line_doc_style-own (w ++ next) in
@@ -105,14 +105,14 @@ line-read style w next all stop is =
 
 -- ---- block comments
 
-closes-two : {w : List ℕ} → Closes w → 2 ≤ length w
-closes-two the.mark = omega arith
+closes-two : {w : List ℕ} → IsCommentRest w → 2 ≤ length w
+closes-two the.closing = omega arith
 closes-two (the.nested {v} {w} p q) = omega (arith, length-append v w)
 closes-two (the.other e f p) = omega (arith, closes-two p)
 
 -- what the text has closes the comment in the text
-closes-in : {w : List ℕ} → Closes w → (next : List ℕ) → ClosesIn (w ++ next) (length w)
-closes-in the.mark next = at_mark
+closes-in : {w : List ℕ} → IsCommentRest w → (next : List ℕ) → ClosesIn (w ++ next) (length w)
+closes-in the.closing next = at_mark
 closes-in (the.nested {v} {w} p q) next =
     let text : v ++ (w ++ next) ≡ v ++ w ++ next = sym (append_assoc v w next) in
     let sum : 2 + (length v + length w) ≡ suc (suc (length (v ++ w))) = omega (arith, length-append v w) in
@@ -126,12 +126,12 @@ closes-in (the.other {c} {w} e f p) next =
     subst (λ (n : ℕ). ClosesIn (c ∷ w ++ next) n) one (past_one shut shows (closes-in p next))
 
 -- and the other way
-closes-text : {s : List ℕ} {n : ℕ} → ClosesIn s n → Closes (take n s)
-closes-text at_mark = the.mark
+closes-text : {s : List ℕ} {n : ℕ} → ClosesIn s n → IsCommentRest (take n s)
+closes-text at_mark = the.closing
 closes-text (nested_in {s} {a} {b} p q) =
     let two : 2 + (a + b) ≡ suc (suc (a + b)) = omega arith in
     let text : 47 ∷ 42 ∷ take a s ++ take b (drop a s) ≡ take (2 + (a + b)) (47 ∷ 42 ∷ s) = ap (λ (xs : List ℕ). 47 ∷ 42 ∷ xs) (sym (take-add a b s)) ∙ ap (λ (n : ℕ). take n (47 ∷ 42 ∷ s)) (sym two) in
-    subst Closes text (the.nested (closes-text p) (closes-text q))
+    subst IsCommentRest text (the.nested (closes-text p) (closes-text q))
 closes-text (past_one {c} {m} {u} e f p) =
     let one : 1 + m ≡ suc m = omega arith in
     let le : m ≤ length u = closes-inside p in
@@ -139,10 +139,10 @@ closes-text (past_one {c} {m} {u} e f p) =
     let whole : c ∷ take m u ++ drop m u ≡ c ∷ u = ap (λ (xs : List ℕ). c ∷ xs) (take-append-drop m u) in
     let shut : at_closing (c ∷ take m u) ≡ false = sym (told-front 2 at_closing at_closing_told (c ∷ take m u) (drop m u) (omega (arith, two_at_least p, len))) ∙ (ap at_closing whole ∙ e) in
     let shows : at_opening (c ∷ take m u) ≡ false = sym (told-front 2 at_opening at_opening_told (c ∷ take m u) (drop m u) (omega (arith, two_at_least p, len))) ∙ (ap at_opening whole ∙ f) in
-    subst (λ (n : ℕ). Closes (take n (c ∷ u))) (sym one) (the.other shut shows (closes-text p))
+    subst (λ (n : ℕ). IsCommentRest (take n (c ∷ u))) (sym one) (the.other shut shows (closes-text p))
 
 block-styled : (w : List ℕ) → IsBlockStyle (block_doc_style w) w
-block-styled [] = no_mark refl
+block-styled [] = neither refl
 block-styled (c ∷ s) = by_test (λ style. IsBlockStyle style (c ∷ s)) (begins (codes "!") (c ∷ s)) (Some Inner) _ inner_here (λ e. by_star e (c == 42) (begins (codes "*") s) (begins (codes "/") s) refl refl refl)
   where
     inner_here : begins (codes "!") (c ∷ s) ≡ true → IsBlockStyle (Some Inner) (c ∷ s)
@@ -165,13 +165,13 @@ block-styled (c ∷ s) = by_test (λ style. IsBlockStyle style (c ∷ s)) (begin
     by_star e true true d f g h = goes None f (no_outer (next s ∙ rw g refl))
     by_star e true false true f g h = goes None f (no_outer (next s ∙ rw (g, h) refl))
     by_star e true false false f g h = goes (Some Outer) f (outer (next s ∙ rw (g, h) refl))
-    by_star e false b d f g h = no_mark (rw f (sym (begins-next 33 (c ∷ s)) ∙ e))
+    by_star e false b d f g h = neither (rw f (sym (begins-next 33 (c ∷ s)) ∙ e))
 
 block-style-is : {style : Option DocStyle} {w : List ℕ} → IsBlockStyle style w → block_doc_style w ≡ style
 block-style-is inner = refl
 block-style-is (outer {w} stop) = by_first w stop
   where
-    by_first : (w : List ℕ) → Stops (is_among (codes "*/")) w → block_doc_style (42 ∷ w) ≡ Some Outer
+    by_first : (w : List ℕ) → NextNotIn (codes "*/") w → block_doc_style (42 ∷ w) ≡ Some Outer
     by_first [] stop = refl
     by_first (c ∷ s) stop = let parts = or_parts (c == 42) _ stop in let more = or_parts (c == 47) _ parts.1 in rw (parts.0, more.0) refl
 block-style-is (no_outer {w} goes) = by_first w goes
@@ -181,12 +181,12 @@ block-style-is (no_outer {w} goes) = by_first w goes
     by_two false true e = refl
     by_two false false e = absurd (true≢false (sym e))
 
-    by_first : (w : List ℕ) → Goes (is_among (codes "*/")) w → block_doc_style (42 ∷ w) ≡ None
+    by_first : (w : List ℕ) → NextIn (codes "*/") w → block_doc_style (42 ∷ w) ≡ None
     by_first [] goes = absurd (true≢false (sym goes))
     by_first (c ∷ s) goes = by_two (c == 42) (c == 47) goes
-block-style-is (no_mark {w} stop) = by_first w stop
+block-style-is (neither {w} stop) = by_first w stop
   where
-    by_first : (w : List ℕ) → Stops (is_among (42 ∷ 33 ∷ [])) w → block_doc_style w ≡ None
+    by_first : (w : List ℕ) → NextNotIn (42 ∷ 33 ∷ []) w → block_doc_style w ≡ None
     by_first [] stop = refl
     by_first (c ∷ s) stop = let parts = or_parts (c == 42) _ stop in let more = or_parts (c == 33) _ parts.1 in rw (parts.0, more.0) refl
 
@@ -213,14 +213,14 @@ block-sound s = by_end (comment_end s) refl
         style_told-front : (s : List ℕ) (n : ℕ) → ClosesIn s n → block_doc_style (take n s) ≡ block_doc_style s
         style_told-front s n p = sym (told-front 2 block_doc_style style_told (take n s) (drop n s) (omega (arith, two_at_least p, length-take-le n s (closes-inside p)))) ∙ ap block_doc_style (take-append-drop n s)
 
-pub block-read : (style : Option DocStyle) (w next : List ℕ) → Closes w → IsBlockStyle style w → Read (BlockComment style true) (suc (suc (length w))) (47 ∷ 42 ∷ w ++ next)
+pub block-read : (style : Option DocStyle) (w next : List ℕ) → IsCommentRest w → IsBlockStyle style w → Read (BlockComment style true) (suc (suc (length w))) (47 ∷ 42 ∷ w ++ next)
 block-read style w next p is =
     let found : comment_end (w ++ next) ≡ Some (length w) = comment_end-found (closes-in p next) in
     let own : block_doc_style (w ++ next) ≡ style = told-front 2 block_doc_style style_told w next (closes-two p) ∙ block-style-is is in
     let reads : block_comment (w ++ next) ≡ (BlockComment style true, length w) = ap (λ (o : Option ℕ). block_comment_to o (w ++ next)) found ∙ ap (λ (d : Option DocStyle). (BlockComment d true, length w)) own in
     read-first 47 slash (42 ∷ w ++ next) (BlockComment style true) (1 + length w) _ chooses-slash (ap (λ (r : TokenKind × ℕ). let q : TokenKind × ℕ = (r.0, 1 + r.1) in q) reads) (omega arith)
 
-pub open-read : (style : Option DocStyle) (w next : List ℕ) → next ≡ [] → ((n : ℕ) → Closes (take n w) → ⊥) → IsBlockStyle style w → Read (BlockComment style false) (suc (suc (length w))) (47 ∷ 42 ∷ w ++ next)
+pub open-read : (style : Option DocStyle) (w next : List ℕ) → next ≡ [] → ((n : ℕ) → IsCommentRest (take n w) → ⊥) → IsBlockStyle style w → Read (BlockComment style false) (suc (suc (length w))) (47 ∷ 42 ∷ w ++ next)
 open-read style w next none never is =
     let text : w ++ next ≡ w = ap (λ (xs : List ℕ). w ++ xs) none ∙ append-nil w in
     let reads : block_comment w ≡ (BlockComment style false, length w) = ap (λ (o : Option ℕ). block_comment_to o w) (not_found (comment_end w) refl) ∙ ap (λ (d : Option DocStyle). (BlockComment d false, length w)) (block-style-is is) in
@@ -244,13 +244,13 @@ slash-sound s = by_test (Sound 47 s) (begins (codes "/") s) (after 1 line_commen
     at_block [] e = absurd (true≢false (sym e))
     at_block (d ∷ s) e = subst (λ (x : ℕ). Sound 47 (x ∷ s) (after 1 block_comment (x ∷ s))) (sym (eqb-true d 42 (and_parts (d == 42) true e).0)) (sound-after 47 42 s block_comment (block-sound s))
 
-    alone : (s : List ℕ) → begins (codes "/") s ≡ false → begins (codes "*") s ≡ false → Stops (is_among (codes "/*")) s
+    alone : (s : List ℕ) → begins (codes "/") s ≡ false → begins (codes "*") s ≡ false → NextNotIn (codes "/*") s
     alone [] e f = refl
     alone (d ∷ s) e f = or_from (d == 47) _ (or_parts (d == 47) false (sym (begins-next 47 (d ∷ s)) ∙ e)).0 (sym (begins-next 42 (d ∷ s)) ∙ f)
 
-pub slash-read : (next : List ℕ) → Stops (is_among (codes "/*")) next → Read Slash 1 (47 ∷ next)
+pub slash-read : (next : List ℕ) → NextNotIn (codes "/*") next → Read Slash 1 (47 ∷ next)
 slash-read next stop = read-first 47 slash next Slash 0 1 chooses-slash (by_next next stop) refl
   where
-    by_next : (next : List ℕ) → Stops (is_among (codes "/*")) next → slash next ≡ (Slash, 0)
+    by_next : (next : List ℕ) → NextNotIn (codes "/*") next → slash next ≡ (Slash, 0)
     by_next [] stop = refl
     by_next (c ∷ s) stop = let parts = or_parts (c == 47) _ stop in let more = or_parts (c == 42) _ parts.1 in rw (parts.0, more.0) refl

@@ -9,7 +9,7 @@ use Rattle.rustc_lexer.specs.laws.LanguageRuns.{run_len-here, run-stops, either-
 use Rattle.rustc_lexer.specs.laws.Reach.{run_all, run_len-in, run_len-out}
 use Rattle.rustc_lexer.specs.FrontmatterGrammar as the
 use Rattle.rustc_lexer.specs.FrontmatterGrammar.{is_info, fence, IsLabelBefore, IsOpeningBefore, OpensNone}
-use Rattle.rustc_lexer.specs.Spans.{AreAll, Stops}
+use Rattle.rustc_lexer.specs.Spans.{AreAll, NextIsNot}
 use Rattle.rustc_lexer.specs.means.Scan.{begins, next_is, run_len}
 
 -- ---- classes
@@ -45,7 +45,7 @@ pub fence-length : (n : ℕ) → length (fence n) ≡ n
 fence-length zero = refl
 fence-length (suc n) = ap suc (fence-length n)
 
-fence-run : (n : ℕ) (v : List ℕ) → Stops is_dash v → run_len is_dash (fence n ++ v) ≡ n
+fence-run : (n : ℕ) (v : List ℕ) → NextIsNot is_dash v → run_len is_dash (fence n ++ v) ≡ n
 fence-run zero [] stop = refl
 fence-run zero (c ∷ v) stop = run_len-out is_dash c v stop
 fence-run (suc n) v stop = ap suc (fence-run n v stop)
@@ -71,25 +71,25 @@ begin-run (suc n) (c ∷ s) e =
     let parts = and_parts (c == 45) (begins (dashes n) s) e in
     omega (arith, run_len-in is_dash c s parts.0, begin-run n s parts.1)
 
-dash-stops : (s : List ℕ) → Stops (is_among (codes "-")) s → Stops is_dash s
+dash-stops : (s : List ℕ) → NextIsNot (is_among (codes "-")) s → NextIsNot is_dash s
 dash-stops [] e = refl
 dash-stops (c ∷ s) e = (or_parts (c == 45) false e).0
 
-stops-dash : (s : List ℕ) → Stops is_dash s → Stops (is_among (codes "-")) s
+stops-dash : (s : List ℕ) → NextIsNot is_dash s → NextIsNot (is_among (codes "-")) s
 stops-dash [] e = refl
 stops-dash (c ∷ s) e = rw e refl
 
-fence-no_space : (n : ℕ) (v : List ℕ) → 3 ≤ n → Stops is_whitespace (fence n ++ v)
+fence-no_space : (n : ℕ) (v : List ℕ) → 3 ≤ n → NextIsNot is_whitespace (fence n ++ v)
 fence-no_space zero v le = absurd (omega arith)
 fence-no_space (suc n) v le = refl
 
 -- ---- what is there is read
 
-blanks-none : (s : List ℕ) → Stops is_horizontal_whitespace s → blanks_len s ≡ 0
+blanks-none : (s : List ℕ) → NextIsNot is_horizontal_whitespace s → blanks_len s ≡ 0
 blanks-none [] stop = refl
 blanks-none (c ∷ s) stop = run_len-out is_horizontal_whitespace c s stop
 
-info-none : (s : List ℕ) → Stops is_id_start s → infostring_len s ≡ 0
+info-none : (s : List ℕ) → NextIsNot is_id_start s → infostring_len s ≡ 0
 info-none s stop = rw stop refl
 
 -- one length, then the next of what follows it
@@ -166,7 +166,7 @@ labelled s = by_rest r refl (run-stops is_horizontal_whitespace s)
     blanks : AreAll is_horizontal_whitespace u
     blanks = run_all is_horizontal_whitespace s
 
-    by_start : (c : ℕ) (t : List ℕ) → r ≡ c ∷ t → Stops is_horizontal_whitespace (c ∷ t) → (b : Bool) → is_id_start c ≡ b → Labelled s
+    by_start : (c : ℕ) (t : List ℕ) → r ≡ c ∷ t → NextIsNot is_horizontal_whitespace (c ∷ t) → (b : Bool) → is_id_start c ≡ b → Labelled s
     by_start c t e stop false f = record { label = u; rest = c ∷ t; whole = ap (λ (xs : List ℕ). u ++ xs) (sym e) ∙ whole; is = the.blank blanks stop f }
     by_start c t e stop true f =
         let v : List ℕ = take (run_len is_info t) t in
@@ -183,7 +183,7 @@ labelled s = by_rest r refl (run-stops is_horizontal_whitespace s)
           is = the.named u c v w blanks f (run_all is_info t) (ap (next_is is_info) whole_w ∙ run-stops is_info t) (run_all is_horizontal_whitespace t2) (run-stops is_horizontal_whitespace t2);
         }
 
-    by_rest : (t : List ℕ) → r ≡ t → Stops is_horizontal_whitespace r → Labelled s
+    by_rest : (t : List ℕ) → r ≡ t → NextIsNot is_horizontal_whitespace r → Labelled s
     by_rest [] e stop = record { label = u; rest = []; whole = ap (λ (xs : List ℕ). u ++ xs) (sym e) ∙ whole; is = the.blank blanks refl refl }
     by_rest (c ∷ t) e stop = by_start c t e (ap (next_is is_horizontal_whitespace) (sym e) ∙ stop) (is_id_start c) refl
 
@@ -202,7 +202,7 @@ opened s e =
     let n : ℕ = run_len is_dash r in
     let l = labelled (drop n r) in
     let no_line : ends_line space ≡ false = not-true (ends_line space) parts.1 in
-    let stop : Stops is_dash (l.label ++ l.rest) = ap (next_is is_dash) l.whole ∙ run-stops is_dash r in
+    let stop : NextIsNot is_dash (l.label ++ l.rest) = ap (next_is is_dash) l.whole ∙ run-stops is_dash r in
     let fenced : fence n ++ drop n r ≡ r = ap (λ (xs : List ℕ). xs ++ drop n r) (sym (run-fence r)) ∙ take-append-drop n r in
     record {
       count = n;

@@ -20,8 +20,11 @@ use Rattle.rustc_lexer.specs.laws.LanguageWords.{marked-sound}
 use Rattle.rustc_lexer.specs.laws.Lifetime.{raw, quoted_name, unquoted_name}
 use Rattle.rustc_lexer.specs.laws.Reach.{run_all}
 use Rattle.rustc_lexer.specs.Language as the
-use Rattle.rustc_lexer.specs.Language.{is_word, is_word_start, is_name_start, is_mark, begins_ident_past, QuotedTo, ends, plain, escape, IsSingleQuoted, IsTokenBefore, IsLiteralBefore}
-use Rattle.rustc_lexer.specs.Spans.{AreAll, Goes, Stops, bytes}
+use Rattle.rustc_lexer.specs.LiteralGrammar as lit
+use Rattle.rustc_lexer.specs.Spans.{NextIn, is_word_continue, is_word_start, is_name_start, begins_ident_after}
+use Rattle.rustc_lexer.specs.Language.{ends_prefix, IsTokenBefore}
+use Rattle.rustc_lexer.specs.LiteralGrammar.{ends, plain, escape, IsSingleQuoted, IsLiteralBefore}
+use Rattle.rustc_lexer.specs.Spans.{AreAll, NextIs, NextIsNot, bytes}
 use Rattle.rustc_lexer.specs.means.Lifetime.{is_marked, past_name, plain_lifetime, lifetime, is_character, is_raw, lifetime_or_char}
 use Rattle.rustc_lexer.specs.means.Literal.{Body, literal}
 use Rattle.rustc_lexer.specs.means.Quoted.{single_quoted_string, char_body}
@@ -33,34 +36,34 @@ backslash-none : (is_name_start 92 ≡ false) × (is_name_start 47 ≡ false) ×
 unfolding unicode_ident is_emoji emoji_ranges
 backslash-none = (refl, refl, refl)
 
-mark-in : (c d : ℕ) → is_mark d ≡ true → (c == d) ≡ true → is_mark c ≡ true
-mark-in c d is e = ap is_mark (eqb-true c d e) ∙ is
+mark-in : (c d : ℕ) → ends_prefix d ≡ true → (c == d) ≡ true → ends_prefix c ≡ true
+mark-in c d is e = ap ends_prefix (eqb-true c d e) ∙ is
 
 -- a word does not begin with a mark, nor does what follows it
-word-begins : (d : ℕ) (w next : List ℕ) → is_mark d ≡ true → AreAll is_word w → begins (d ∷ []) next ≡ false → begins (d ∷ []) (w ++ next) ≡ false
+word-begins : (d : ℕ) (w next : List ℕ) → ends_prefix d ≡ true → AreAll is_word_continue w → begins (d ∷ []) next ≡ false → begins (d ∷ []) (w ++ next) ≡ false
 word-begins d [] next mark all none = none
-word-begins d (c ∷ w) next mark all none = false_from_ne_true (begins (d ∷ []) (c ∷ w ++ next)) (λ e. either-way (is_mark c) (mark-in c d mark (and_parts (c == d) true e).0) (word-no_mark c (and_parts (is_word c) (list_all is_word w) all).0))
+word-begins d (c ∷ w) next mark all none = false_from_ne_true (begins (d ∷ []) (c ∷ w ++ next)) (λ e. either-way (ends_prefix c) (mark-in c d mark (and_parts (c == d) true e).0) (word-no_mark c (and_parts (is_word_continue c) (list_all is_word_continue w) all).0))
 
 -- ---- lifetimes
 
 -- what is read of a name
-name-read : (c : ℕ) (w next : List ℕ) → AreAll is_word w → Stops is_word next → plain_lifetime c (w ++ next) ≡ ((past_name c w next).0, length w + (past_name c w next).1)
+name-read : (c : ℕ) (w next : List ℕ) → AreAll is_word_continue w → NextIsNot is_word_continue next → plain_lifetime c (w ++ next) ≡ ((past_name c w next).0, length w + (past_name c w next).1)
 name-read c w next all stop =
-    ap (λ (n : ℕ). let r : TokenKind × ℕ = ((past_name c (take n (w ++ next)) (drop n (w ++ next))).0, n + (past_name c (take n (w ++ next)) (drop n (w ++ next))).1) in r) (run_len-here is_word w next all stop)
+    ap (λ (n : ℕ). let r : TokenKind × ℕ = ((past_name c (take n (w ++ next)) (drop n (w ++ next))).0, n + (past_name c (take n (w ++ next)) (drop n (w ++ next))).1) in r) (run_len-here is_word_continue w next all stop)
     ∙ (ap (λ (front : List ℕ). let r : TokenKind × ℕ = ((past_name c front (drop (length w) (w ++ next))).0, length w + (past_name c front (drop (length w) (w ++ next))).1) in r) (take-append_seam w next)
     ∙ ap (λ (rest : List ℕ). let r : TokenKind × ℕ = ((past_name c w rest).0, length w + (past_name c w rest).1) in r) (drop-append_seam w next))
 
 -- a name that is no character and not raw
-plain-read : (c : ℕ) (w next : List ℕ) (kind : TokenKind) (n : ℕ) → is_name_start c ≡ true → begins (codes "'") (w ++ next) ≡ false → is_raw c (w ++ next) ≡ false → AreAll is_word w → Stops is_word next → past_name c w next ≡ (kind, n) → Read kind (suc (suc (length w + n))) (39 ∷ c ∷ w ++ next)
+plain-read : (c : ℕ) (w next : List ℕ) (kind : TokenKind) (n : ℕ) → is_name_start c ≡ true → begins (codes "'") (w ++ next) ≡ false → is_raw c (w ++ next) ≡ false → AreAll is_word_continue w → NextIsNot is_word_continue next → past_name c w next ≡ (kind, n) → Read kind (suc (suc (length w + n))) (39 ∷ c ∷ w ++ next)
 plain-read c w next kind n start none no_raw all stop e =
     read-first 39 lifetime_or_char (c ∷ w ++ next) kind (suc (length w + n)) _ chooses-quote
     (rw (none, start, no_raw) (ap (λ (r : TokenKind × ℕ). let q : TokenKind × ℕ = (r.0, suc r.1) in q) (name-read c w next all stop ∙ ap (λ (r : TokenKind × ℕ). let q : TokenKind × ℕ = (r.0, length w + r.1) in q) e))) refl
 
-begins-none : (d : ℕ) (s : List ℕ) → Stops (is_among (d ∷ [])) s → begins (d ∷ []) s ≡ false
+begins-none : (d : ℕ) (s : List ℕ) → NextIsNot (is_among (d ∷ [])) s → begins (d ∷ []) s ≡ false
 begins-none d s e = begins-next d s ∙ e
 
 -- `r` is raw before a hash and the start of an identifier alone
-no_raw-word : (c : ℕ) (w next : List ℕ) → AreAll is_word w → (begins (codes "#") next ≡ true → (c == 114) ≡ false) → is_raw c (w ++ next) ≡ false
+no_raw-word : (c : ℕ) (w next : List ℕ) → AreAll is_word_continue w → (begins (codes "#") next ≡ true → (c == 114) ≡ false) → is_raw c (w ++ next) ≡ false
 no_raw-word c w next all other = by_hash (begins (codes "#") next) refl
   where
     never : (a b : Bool) → b ≡ false → (a && (b && next_is is_id_start (drop 1 (w ++ next)))) ≡ false
@@ -71,7 +74,7 @@ no_raw-word c w next all other = by_hash (begins (codes "#") next) refl
     by_hash true e = rw (other e) refl
     by_hash false e = never (c == 114) (begins (codes "#") (w ++ next)) (word-begins 35 w next refl all e)
 
-pub lifetime-read : (c : ℕ) (w next : List ℕ) → is_name_start c ≡ true → AreAll is_word w → Stops is_word next → Stops (is_among (codes "'")) next → (Goes (is_among (codes "#")) next → is_ascii_digit c ≡ true)
+pub lifetime-read : (c : ℕ) (w next : List ℕ) → is_name_start c ≡ true → AreAll is_word_continue w → NextIsNot is_word_continue next → NextIsNot (is_among (codes "'")) next → (NextIs (is_among (codes "#")) next → is_ascii_digit c ≡ true)
     → Read (Lifetime (is_ascii_digit c || is_emoji c || not (list_all is_id_continue w))) (suc (suc (length w))) (39 ∷ c ∷ w ++ next)
 lifetime-read c w next start all stop quote hash =
     plain-read c w next (Lifetime (is_marked c w)) 0 start (word-begins 39 w next refl all (begins-none 39 next quote)) (no_raw-word c w next all (λ e. other_than is_ascii_digit 114 c refl (hash (sym (begins-next 35 next) ∙ e)))) all stop
@@ -82,7 +85,7 @@ lifetime-read c w next start all stop quote hash =
     by_hash true e = let digit : is_ascii_digit c ≡ true = hash (sym (begins-next 35 next) ∙ e) in rw (e, digit) refl
     by_hash false e = rw e refl
 
-hash-mark : (c : ℕ) → is_among (codes "#") c ≡ true → is_mark c ≡ true
+hash-mark : (c : ℕ) → is_among (codes "#") c ≡ true → ends_prefix c ≡ true
 hash-mark c e = or_left (c == 35) _ (hash c e)
   where
     by_bool : (b : Bool) → (b || false) ≡ true → b ≡ true
@@ -92,7 +95,7 @@ hash-mark c e = or_left (c == 35) _ (hash c e)
     hash : (c : ℕ) → is_among (codes "#") c ≡ true → (c == 35) ≡ true
     hash c e = by_bool (c == 35) e
 
-hash-stops : (next : List ℕ) → Goes (is_among (codes "#")) next → Stops is_word next
+hash-stops : (next : List ℕ) → NextIs (is_among (codes "#")) next → NextIsNot is_word_continue next
 hash-stops [] e = refl
 hash-stops (c ∷ s) e = mark-stops (c ∷ s) (hash-mark c e)
 
@@ -101,7 +104,7 @@ hash-no_quote [] e = refl
 hash-no_quote (c ∷ s) e = rw (eqb-true c 35 (and_parts (c == 35) true e).0) refl
 
 -- the two ways to say what is raw
-raw-same : (c : ℕ) (s : List ℕ) → begins_ident_past (codes "r#") (c ∷ s) ≡ is_raw c s
+raw-same : (c : ℕ) (s : List ℕ) → begins_ident_after (codes "r#") (c ∷ s) ≡ is_raw c s
 raw-same c s = assoc (c == 114) (begins (codes "#") s) (next_is is_id_start (drop 1 s))
   where
     assoc : (a b d : Bool) → ((a && b) && d) ≡ (a && (b && d))
@@ -116,7 +119,7 @@ word_start-name c e = by_bool (is_id_start c) (is_ascii_digit c) (is_emoji c) e
     by_bool false true b e = refl
     by_bool false false b e = e
 
-pub prefix-read : (c : ℕ) (w next : List ℕ) → is_word_start c ≡ true → AreAll is_word w → Goes (is_among (codes "#")) next → begins_ident_past (codes "r#") (c ∷ w ++ next) ≡ false → Read UnknownPrefixLifetime (suc (suc (length w))) (39 ∷ c ∷ w ++ next)
+pub prefix-read : (c : ℕ) (w next : List ℕ) → is_word_start c ≡ true → AreAll is_word_continue w → NextIs (is_among (codes "#")) next → begins_ident_after (codes "r#") (c ∷ w ++ next) ≡ false → Read UnknownPrefixLifetime (suc (suc (length w))) (39 ∷ c ∷ w ++ next)
 prefix-read c w next start all hash free =
     let at_hash : begins (codes "#") next ≡ true = begins-next 35 next ∙ hash in
     let quote : begins (codes "'") next ≡ false = hash-no_quote next at_hash in
@@ -127,7 +130,7 @@ r-name : is_name_start 114 ≡ true
 unfolding unicode_ident is_emoji emoji_ranges
 r-name = refl
 
-pub raw_lifetime-read : (w next : List ℕ) → is_ident w ≡ true → Stops is_id_continue next → Read RawLifetime (suc (suc (suc (length w)))) (39 ∷ 114 ∷ 35 ∷ w ++ next)
+pub raw_lifetime-read : (w next : List ℕ) → is_ident w ≡ true → NextIsNot is_id_continue next → Read RawLifetime (suc (suc (suc (length w)))) (39 ∷ 114 ∷ 35 ∷ w ++ next)
 raw_lifetime-read [] next is stop = absurd (true≢false (sym is))
 raw_lifetime-read (c ∷ w) next is stop =
     let parts = and_parts (is_id_start c) (list_all is_id_continue w) is in
@@ -152,7 +155,7 @@ name-sound c s start none no_raw = by_test (λ r. IsLifetime c s (r.0, n + r.1))
     (λ e. subst (λ (m : ℕ). IsTokenBefore (drop m s) (unquoted_name c name left).0 (39 ∷ c ∷ take m s)) same (unquoted e (begins (codes "#") left) (is_ascii_digit c) refl refl))
   where
     n : ℕ
-    n = run_len is_word s
+    n = run_len is_word_continue s
 
     name : List ℕ
     name = take n s
@@ -169,19 +172,19 @@ name-sound c s start none no_raw = by_test (λ r. IsLifetime c s (r.0, n + r.1))
     quoted [] (q ∷ rest) e f g = absurd (either-way (begins (codes "'") s) (ap (begins (codes "'")) (sym (take-append-drop n s) ∙ (ap (λ (u : List ℕ). u ++ drop n s) e ∙ f)) ∙ g) none)
     quoted (d ∷ w) (q ∷ rest) e f g =
         let quote : q ≡ 39 = eqb-true q 39 (and_parts (q == 39) true g).0 in
-        let all : AreAll is_word (d ∷ w) = ap (list_all is_word) (sym e) ∙ run_all is_word s in
+        let all : AreAll is_word_continue (d ∷ w) = ap (list_all is_word_continue) (sym e) ∙ run_all is_word_continue s in
         let text : 39 ∷ c ∷ d ∷ w ++ 39 ∷ [] ≡ 39 ∷ c ∷ take (n + 1) s = ap (λ (u : List ℕ). 39 ∷ c ∷ u) (ap (λ (x : ℕ). d ∷ w ++ x ∷ []) (sym quote) ∙ (ap (λ (u : List ℕ). u ++ take 1 (q ∷ rest)) (sym e) ∙ (ap (λ (u : List ℕ). take n s ++ take 1 u) (sym f) ∙ sym (take-add n 1 s)))) in
         let size : bytes (39 ∷ c ∷ d ∷ w ++ 39 ∷ []) ≡ 2 + length (encode_utf8_all (c ∷ d ∷ w)) = omega (arith, bytes-one 39 (c ∷ d ∷ w ++ 39 ∷ []) refl, bytes-append (c ∷ d ∷ w) (39 ∷ []), bytes-one 39 [] refl) in
         subst (λ (u : List ℕ). IsTokenBefore (drop (n + 1) s) (Literal (Char true) (2 + length (encode_utf8_all (c ∷ d ∷ w)))) u) text
-        (subst (λ (b : ℕ). IsTokenBefore (drop (n + 1) s) (Literal (Char true) b) (39 ∷ c ∷ d ∷ w ++ 39 ∷ [])) size (the.literal (the.char_of_name w start all)))
+        (subst (λ (b : ℕ). IsTokenBefore (drop (n + 1) s) (Literal (Char true) b) (39 ∷ c ∷ d ∷ w ++ 39 ∷ [])) size (the.literal (lit.char_of_name w start all)))
 
-    stops : Stops is_word left
-    stops = run-stops is_word s
+    stops : NextIsNot is_word_continue left
+    stops = run-stops is_word_continue s
 
     unquoted : begins (codes "'") left ≡ false → (hash digit : Bool) → begins (codes "#") left ≡ hash → is_ascii_digit c ≡ digit → IsTokenBefore left (if hash && not digit then UnknownPrefixLifetime else Lifetime (is_marked c name)) (39 ∷ c ∷ name)
-    unquoted e true false f g = the.unknown_prefix_lifetime (no_digit-start c start g) (run_all is_word s) (sym (begins-next 35 left) ∙ f) (raw-same c (name ++ left) ∙ (ap (is_raw c) (take-append-drop n s) ∙ no_raw))
-    unquoted e true true f g = the.lifetime start (run_all is_word s) stops (sym (begins-next 39 left) ∙ e) (λ h. g)
-    unquoted e false digit f g = the.lifetime start (run_all is_word s) stops (sym (begins-next 39 left) ∙ e) (λ h. absurd (either-way (begins (codes "#") left) (begins-next 35 left ∙ h) f))
+    unquoted e true false f g = the.unknown_prefix_lifetime (no_digit-start c start g) (run_all is_word_continue s) (sym (begins-next 35 left) ∙ f) (raw-same c (name ++ left) ∙ (ap (is_raw c) (take-append-drop n s) ∙ no_raw))
+    unquoted e true true f g = the.lifetime start (run_all is_word_continue s) stops (sym (begins-next 39 left) ∙ e) (λ h. g)
+    unquoted e false digit f g = the.lifetime start (run_all is_word_continue s) stops (sym (begins-next 39 left) ∙ e) (λ h. absurd (either-way (begins (codes "#") left) (begins-next 35 left ∙ h) f))
 
 raw-lifetime : (c : ℕ) (s : List ℕ) → is_raw c s ≡ true → IsLifetime c s (raw s)
 raw-lifetime c s e =
@@ -200,10 +203,10 @@ lifetime-sound c s e =
 
 -- ---- characters
 
-char-sound : (s : List ℕ) → Stops is_name_start s → Sound 39 s (literal char_body s)
-char-sound s stop = literal-sound (39 ∷ []) 1 (Char (single_quoted_string s).0) (single_quoted_string s).0 (single_quoted_string s).1 s (bytes-one 39 [] refl ∙ omega arith) (the.char (single-sound s) (front-stops (single_quoted_string s).1 s stop))
+char-sound : (s : List ℕ) → NextIsNot is_name_start s → Sound 39 s (literal char_body s)
+char-sound s stop = literal-sound (39 ∷ []) 1 (Char (single_quoted_string s).0) (single_quoted_string s).0 (single_quoted_string s).1 s (bytes-one 39 [] refl ∙ omega arith) (lit.char (single-sound s) (front-stops (single_quoted_string s).1 s stop))
   where
-    front-stops : (m : ℕ) (s : List ℕ) → Stops is_name_start s → Stops is_name_start (take m s)
+    front-stops : (m : ℕ) (s : List ℕ) → NextIsNot is_name_start s → NextIsNot is_name_start (take m s)
     front-stops zero s e = refl
     front-stops (suc m) [] e = refl
     front-stops (suc m) (c ∷ s) e = e
@@ -215,7 +218,7 @@ one-sound c (d ∷ s) start e =
     let out : (c == 92) ≡ false = other_than is_name_start 92 c backslash-none.0 start in
     let quote : 39 ≡ d = sym (eqb-true d 39 (and_parts (d == 39) true e).0) in
     let read : single_quoted_string (c ∷ 39 ∷ s) ≡ (true, 2) = rw out refl in
-    let one : IsLiteralBefore (drop 2 (c ∷ 39 ∷ s)) (Char true) true (39 ∷ take 2 (c ∷ 39 ∷ s)) = the.char_of_one out in
+    let one : IsLiteralBefore (drop 2 (c ∷ 39 ∷ s)) (Char true) true (39 ∷ take 2 (c ∷ 39 ∷ s)) = lit.char_of_one out in
     subst (λ (x : ℕ). Sound 39 (c ∷ x ∷ s) (literal char_body (c ∷ x ∷ s))) quote
     (literal-sound (39 ∷ []) 1 (Char (single_quoted_string (c ∷ 39 ∷ s)).0) (single_quoted_string (c ∷ 39 ∷ s)).0 (single_quoted_string (c ∷ 39 ∷ s)).1 (c ∷ 39 ∷ s) (bytes-one 39 [] refl ∙ omega arith)
     (subst (λ (r : Bool × ℕ). IsLiteralBefore (drop r.1 (c ∷ 39 ∷ s)) (Char r.0) r.0 (39 ∷ take r.1 (c ∷ 39 ∷ s))) (sym read) one))
@@ -233,7 +236,7 @@ quote-sound (c ∷ s) = by_test (Sound 39 (c ∷ s)) (is_character c s) (literal
     by_name false e f = char-sound (c ∷ s) e
 
 -- what begins no name is a character
-quote-char : (s : List ℕ) → Stops is_name_start s → lifetime_or_char s ≡ literal char_body s
+quote-char : (s : List ℕ) → NextIsNot is_name_start s → lifetime_or_char s ≡ literal char_body s
 quote-char [] e = refl
 quote-char (c ∷ s) e = rw (e, or_true (begins (codes "'") s)) refl
   where
@@ -242,53 +245,53 @@ quote-char (c ∷ s) e = rw (e, or_true (begins (codes "'") s)) refl
     or_true false = refl
 
 -- nor does what follows it, if it is empty
-next-stops : {next : List ℕ} {t : Bool} {w : List ℕ} → IsSingleQuoted next t w → Stops is_name_start w → Stops is_name_start (w ++ next)
-next-stops {next} (the.one out) e = e
-next-stops {next} (the.closed {w} q none) e = by_end q e
+next-stops : {next : List ℕ} {t : Bool} {w : List ℕ} → IsSingleQuoted next t w → NextIsNot is_name_start w → NextIsNot is_name_start (w ++ next)
+next-stops {next} (lit.one out) e = e
+next-stops {next} (lit.closed {w} q none) e = by_end q e
   where
-    by_end : {w : List ℕ} → the.SingleTo (39 ∷ []) w → Stops is_name_start w → Stops is_name_start (w ++ next)
+    by_end : {w : List ℕ} → lit.SingleTo (39 ∷ []) w → NextIsNot is_name_start w → NextIsNot is_name_start (w ++ next)
     by_end ends e = e
     by_end (plain out q) e = e
     by_end (escape q) e = e
-next-stops {next} (the.closed_line {w} q) e = by_end q e
+next-stops {next} (lit.closed_line {w} q) e = by_end q e
   where
-    by_end : {w : List ℕ} → the.SingleTo (10 ∷ 39 ∷ []) w → Stops is_name_start w → Stops is_name_start (w ++ next)
+    by_end : {w : List ℕ} → lit.SingleTo (10 ∷ 39 ∷ []) w → NextIsNot is_name_start w → NextIsNot is_name_start (w ++ next)
     by_end ends e = e
     by_end (plain out q) e = e
     by_end (escape q) e = e
-next-stops {next} (the.at_slash {w} q at none) e = empty-or w next e (at-stops 47 next backslash-none.1 at)
+next-stops {next} (lit.at_slash {w} q at none) e = empty-or w next e (at-stops 47 next backslash-none.1 at)
   where
-    at-stops : (d : ℕ) (next : List ℕ) → is_name_start d ≡ false → begins (d ∷ []) next ≡ true → Stops is_name_start next
+    at-stops : (d : ℕ) (next : List ℕ) → is_name_start d ≡ false → NextIn (d ∷ []) next → NextIsNot is_name_start next
     at-stops d [] out at = refl
-    at-stops d (c ∷ s) out at = ap is_name_start (eqb-true c d (and_parts (c == d) true at).0) ∙ out
+    at-stops d (c ∷ s) out at = ap is_name_start (eqb-true c d (and_parts (c == d) true (begins-next d (c ∷ s) ∙ at)).0) ∙ out
 
-    empty-or : (w next : List ℕ) → Stops is_name_start w → Stops is_name_start next → Stops is_name_start (w ++ next)
+    empty-or : (w next : List ℕ) → NextIsNot is_name_start w → NextIsNot is_name_start next → NextIsNot is_name_start (w ++ next)
     empty-or [] next e f = f
     empty-or (c ∷ w) next e f = e
-next-stops {next} (the.at_newline {w} q at none) e = empty-or w next e (at-stops 10 next backslash-none.2 at)
+next-stops {next} (lit.at_newline {w} q at none) e = empty-or w next e (at-stops 10 next backslash-none.2 at)
   where
-    at-stops : (d : ℕ) (next : List ℕ) → is_name_start d ≡ false → begins (d ∷ []) next ≡ true → Stops is_name_start next
+    at-stops : (d : ℕ) (next : List ℕ) → is_name_start d ≡ false → NextIn (d ∷ []) next → NextIsNot is_name_start next
     at-stops d [] out at = refl
-    at-stops d (c ∷ s) out at = ap is_name_start (eqb-true c d (and_parts (c == d) true at).0) ∙ out
+    at-stops d (c ∷ s) out at = ap is_name_start (eqb-true c d (and_parts (c == d) true (begins-next d (c ∷ s) ∙ at)).0) ∙ out
 
-    empty-or : (w next : List ℕ) → Stops is_name_start w → Stops is_name_start next → Stops is_name_start (w ++ next)
+    empty-or : (w next : List ℕ) → NextIsNot is_name_start w → NextIsNot is_name_start next → NextIsNot is_name_start (w ++ next)
     empty-or [] next e f = f
     empty-or (c ∷ w) next e f = e
-next-stops {next} (the.unclosed {w} none q) e = subst (λ (xs : List ℕ). Stops is_name_start (w ++ xs)) (sym none) (alone w e)
+next-stops {next} (lit.unclosed {w} none q) e = subst (λ (xs : List ℕ). NextIsNot is_name_start (w ++ xs)) (sym none) (alone w e)
   where
-    alone : (w : List ℕ) → Stops is_name_start w → Stops is_name_start (w ++ [])
+    alone : (w : List ℕ) → NextIsNot is_name_start w → NextIsNot is_name_start (w ++ [])
     alone [] e = refl
     alone (c ∷ w) e = e
-next-stops {next} (the.unclosed_escape {w} none q) e = subst (λ (xs : List ℕ). Stops is_name_start (w ++ xs)) (sym none) (alone w e)
+next-stops {next} (lit.unclosed_escape {w} none q) e = subst (λ (xs : List ℕ). NextIsNot is_name_start (w ++ xs)) (sym none) (alone w e)
   where
-    alone : (w : List ℕ) → Stops is_name_start w → Stops is_name_start (w ++ [])
+    alone : (w : List ℕ) → NextIsNot is_name_start w → NextIsNot is_name_start (w ++ [])
     alone [] e = refl
     alone (c ∷ w) e = e
 
 abbrev char_of : Bool × ℕ → Body × ℕ
 char_of r = (record { kind = Char r.0; takes_suffix = r.0 }, r.1)
 
-pub char-reads : {next : List ℕ} (t : Bool) (w : List ℕ) → IsSingleQuoted next t w → Stops is_name_start w → ReadsLiteral next (Char t) t (39 ∷ w)
+pub char-reads : {next : List ℕ} (t : Bool) (w : List ℕ) → IsSingleQuoted next t w → NextIsNot is_name_start w → ReadsLiteral next (Char t) t (39 ∷ w)
 char-reads {next} t w q stop =
     read-first 39 lifetime_or_char (w ++ next) _ _ _ chooses-quote
     (quote-char (w ++ next) (next-stops q stop) ∙ past-read (39 ∷ []) w next 1 (Char t) t (char_body (w ++ next)) (ap char_of (single-read q)) (bytes-one 39 [] refl ∙ omega arith)) (omega arith)
@@ -298,11 +301,11 @@ one-reads next c out =
     let read : single_quoted_string (c ∷ 39 ∷ next) ≡ (true, 2) = rw out refl in
     read-first 39 lifetime_or_char (c ∷ 39 ∷ next) _ _ _ chooses-quote (past-read (39 ∷ []) (c ∷ 39 ∷ []) next 1 (Char true) true (char_body (c ∷ 39 ∷ next)) (ap char_of read) (bytes-one 39 [] refl ∙ omega arith)) (omega arith)
 
-pub name-reads : (next : List ℕ) (c d : ℕ) (w : List ℕ) → is_name_start c ≡ true → AreAll is_word (d ∷ w) → ReadsLiteral next (Char true) false (39 ∷ c ∷ d ∷ w ++ 39 ∷ [])
+pub name-reads : (next : List ℕ) (c d : ℕ) (w : List ℕ) → is_name_start c ≡ true → AreAll is_word_continue (d ∷ w) → ReadsLiteral next (Char true) false (39 ∷ c ∷ d ∷ w ++ 39 ∷ [])
 name-reads next c d w start all =
     let text : 39 ∷ c ∷ d ∷ w ++ 39 ∷ next ≡ 39 ∷ c ∷ d ∷ w ++ 39 ∷ [] ++ next = ap (λ (u : List ℕ). 39 ∷ c ∷ d ∷ u) (sym (append_assoc w (39 ∷ []) next)) in
-    let first_word : is_word d ≡ true = (and_parts (is_word d) (list_all is_word w) all).0 in
-    let none : (d == 39) ≡ false = false_from_ne_true (d == 39) (λ e. either-way (is_mark d) (mark-in d 39 refl e) (word-no_mark d first_word)) in
+    let first_word : is_word_continue d ≡ true = (and_parts (is_word_continue d) (list_all is_word_continue w) all).0 in
+    let none : (d == 39) ≡ false = false_from_ne_true (d == 39) (λ e. either-way (ends_prefix d) (mark-in d 39 refl e) (word-no_mark d first_word)) in
     let size : 2 + length (encode_utf8_all (c ∷ d ∷ w)) ≡ bytes (39 ∷ c ∷ d ∷ w ++ 39 ∷ []) = omega (arith, bytes-one 39 (c ∷ d ∷ w ++ 39 ∷ []) refl, bytes-append (c ∷ d ∷ w) (39 ∷ []), bytes-one 39 [] refl) in
     subst (λ (s : List ℕ). Read (Literal (Char true) (bytes (39 ∷ c ∷ d ∷ w ++ 39 ∷ []))) (length (39 ∷ c ∷ d ∷ w ++ 39 ∷ []) + 0) s) text
     (plain-read c (d ∷ w) (39 ∷ next) (Literal (Char true) (2 + length (encode_utf8_all (c ∷ d ∷ w)))) 1 start (rw none refl) (no_raw-word c (d ∷ w) (39 ∷ next) all (λ e. absurd (true≢false (sym e)))) all (mark-stops (39 ∷ next) refl) refl

@@ -25,15 +25,18 @@ use Rattle.rustc_lexer.specs.laws.LanguageQuoted.{double-read, double-sound, sin
 use Rattle.rustc_lexer.specs.laws.LanguageRaw.{raw-read, raw-sound}
 use Rattle.rustc_lexer.specs.laws.LanguageRuns.{run_len-here, run-stops, either-way, Sound, Read, pair, read-first, sound-after, told-front, digit-small, chooses-word, chooses-number, chooses-str}
 use Rattle.rustc_lexer.specs.laws.Number.{number_kind_local}
-use Rattle.rustc_lexer.specs.laws.NumberLongest.{numbers-longest}
+use Rattle.rustc_lexer.specs.laws.NumberLongest.{longest-read, longest-is}
 use Rattle.rustc_lexer.specs.laws.Reach.{run_all}
 use Rattle.rustc_lexer.specs.Language as the
-use Rattle.rustc_lexer.specs.Language.{begins_ident_past, guard, IsDoubleQuoted, IsSingleQuoted, IsRaw, IsLiteralBefore, IsSuffixBefore, IsTokenBefore}
-use Rattle.rustc_lexer.specs.Spans.{Goes, bytes}
+use Rattle.rustc_lexer.specs.LiteralGrammar as lit
+use Rattle.rustc_lexer.specs.Spans.{begins_ident_after}
+use Rattle.rustc_lexer.specs.LiteralGrammar.{hashes, IsDoubleQuoted, IsSingleQuoted, IsRaw, IsLiteralBefore, IsSuffixBefore}
+use Rattle.rustc_lexer.specs.Language.{IsTokenBefore}
+use Rattle.rustc_lexer.specs.Spans.{NextIs, bytes}
 use Rattle.rustc_lexer.specs.means.Lexeme.{is_raw_mark, word}
 use Rattle.rustc_lexer.specs.means.Literal.{Body, suffix_len, suffixed, literal_past, literal}
 use Rattle.rustc_lexer.specs.means.Number.{with_suffix, number_kind, number_body, number}
-use Rattle.rustc_lexer.specs.NumberGrammar.{IsWhole, plain, with_b, with_o, with_x, IsNumberBefore, of_prefix, of_parts, NumberStands, IsLongestNumber}
+use Rattle.rustc_lexer.specs.NumberGrammar.{IsWhole, plain, with_b, with_o, with_x, IsNumberBefore, of_prefix, of_parts, IsLongestNumber}
 use Rattle.rustc_lexer.specs.means.Quoted.{double_quoted_string, single_quoted_string, quoted_body, str_body, byte_str_body, c_str_body, byte_body}
 use Rattle.rustc_lexer.specs.means.Raw.{raw_read, accepted, is_accepted, raw_body, prefix_kind, prefix_len, raw_literal}
 use Rattle.rustc_lexer.specs.means.Scan.{after, begins, bytes_of, next_is, run_len}
@@ -56,16 +59,16 @@ bytes-letters c d e f = omega (arith, bytes-one c (d ∷ []) e, bytes-letter d f
 -- ---- suffixes
 
 pub suffix-sound : (s : List ℕ) → IsSuffixBefore (drop (suffix_len s) s) (take (suffix_len s) s)
-suffix-sound [] = the.none refl
+suffix-sound [] = lit.none refl
 suffix-sound (c ∷ s) =
     by_test (λ (n : ℕ). IsSuffixBefore (drop n (c ∷ s)) (take n (c ∷ s))) (is_id_start c) (1 + run_len is_id_continue s) 0 (λ e.
     let n : ℕ = run_len is_id_continue s in
     let more : suc n ≡ 1 + n = omega arith in
-    subst (λ (m : ℕ). IsSuffixBefore (drop m (c ∷ s)) (take m (c ∷ s))) more (the.some (rw e (run_all is_id_continue s)) (run-stops is_id_continue s))) (λ e. the.none e)
+    subst (λ (m : ℕ). IsSuffixBefore (drop m (c ∷ s)) (take m (c ∷ s))) more (lit.some (rw e (run_all is_id_continue s)) (run-stops is_id_continue s))) (λ e. lit.none e)
 
 pub suffix-read : {next w : List ℕ} → IsSuffixBefore next w → suffix_len (w ++ next) ≡ length w
-suffix-read {next} (the.none stop) = rw stop refl
-suffix-read {next} (the.some {w} is stop) = by_first w is
+suffix-read {next} (lit.none stop) = rw stop refl
+suffix-read {next} (lit.some {w} is stop) = by_first w is
   where
     by_first : (w : List ℕ) → is_ident w ≡ true → suffix_len (w ++ next) ≡ length w
     by_first [] is = absurd (true≢false (sym is))
@@ -114,7 +117,7 @@ with_suffix-read next kind w suffix e is = subst (λ (s : List ℕ). Read (Liter
 -- ---- strings
 
 pub str-sound : (s : List ℕ) → Sound 34 s (literal str_body s)
-str-sound s = literal-sound (34 ∷ []) 1 _ (double_quoted_string s).0 (double_quoted_string s).1 s (bytes-letter 34 refl) (the.str (double-sound s))
+str-sound s = literal-sound (34 ∷ []) 1 _ (double_quoted_string s).0 (double_quoted_string s).1 s (bytes-letter 34 refl) (lit.str (double-sound s))
 
 lettered-sound : (c d : ℕ) (kind : Bool → LiteralKind) (scan : List ℕ → Bool × ℕ) (s : List ℕ) → len_utf8 c ≡ 1 → IsLiteralBefore (drop (scan s).1 s) (kind (scan s).0) (scan s).0 (c ∷ d ∷ take (scan s).1 s) → Sound c (d ∷ s) (literal (after 1 (quoted_body kind scan)) (d ∷ s))
 lettered-sound c d kind scan s one is =
@@ -128,13 +131,13 @@ at-letter c d scan is [] e = absurd (true≢false (sym e))
 at-letter c d scan is (x ∷ s) e = subst (λ (y : ℕ). Sound c (y ∷ s) (scan (y ∷ s))) (sym (eqb-true x d (and_parts (x == d) true e).0)) (is s)
 
 pub byte-sound : (s : List ℕ) → begins (codes "'") s ≡ true → Sound 98 s (literal (after 1 byte_body) s)
-byte-sound = at-letter 98 39 (literal (after 1 byte_body)) (λ s. lettered-sound 98 39 Byte single_quoted_string s refl (the.byte_char (single-sound s)))
+byte-sound = at-letter 98 39 (literal (after 1 byte_body)) (λ s. lettered-sound 98 39 Byte single_quoted_string s refl (lit.byte_char (single-sound s)))
 
 pub byte_str-sound : (s : List ℕ) → begins (codes "\"") s ≡ true → Sound 98 s (literal (after 1 byte_str_body) s)
-byte_str-sound = at-letter 98 34 (literal (after 1 byte_str_body)) (λ s. lettered-sound 98 34 ByteStr double_quoted_string s refl (the.byte_str (double-sound s)))
+byte_str-sound = at-letter 98 34 (literal (after 1 byte_str_body)) (λ s. lettered-sound 98 34 ByteStr double_quoted_string s refl (lit.byte_str (double-sound s)))
 
 pub c_str-sound : (s : List ℕ) → begins (codes "\"") s ≡ true → Sound 99 s (literal (after 1 c_str_body) s)
-c_str-sound = at-letter 99 34 (literal (after 1 c_str_body)) (λ s. lettered-sound 99 34 CStr double_quoted_string s refl (the.c_str (double-sound s)))
+c_str-sound = at-letter 99 34 (literal (after 1 c_str_body)) (λ s. lettered-sound 99 34 CStr double_quoted_string s refl (lit.c_str (double-sound s)))
 
 pub str-reads : (next : List ℕ) (t : Bool) (w : List ℕ) → IsDoubleQuoted next t w → ReadsLiteral next (Str t) t (34 ∷ w)
 str-reads next t w q =
@@ -171,45 +174,45 @@ marks-front (suc m) (c ∷ s) e = let parts = and_parts (begins (codes "#") (c �
 abbrev taken : List ℕ → ℕ
 taken s = (raw_read 0 s).1
 
-pub raw_str-sound : (s : List ℕ) → Goes is_raw_mark s → marks_ident s ≡ false → Sound 114 s (raw_literal R s)
+pub raw_str-sound : (s : List ℕ) → NextIs is_raw_mark s → marks_ident s ≡ false → Sound 114 s (raw_literal R s)
 raw_str-sound s mark no_ident =
-    let free : begins_ident_past (codes "#") (take (taken s) s) ≡ false = false_from_ne_true (marks_ident (take (taken s) s)) (λ e. either-way (marks_ident s) (marks-front (taken s) s e) no_ident) in
+    let free : begins_ident_after (codes "#") (take (taken s) s) ≡ false = false_from_ne_true (marks_ident (take (taken s) s)) (λ e. either-way (marks_ident s) (marks-front (taken s) s e) no_ident) in
     literal-sound (114 ∷ []) 1 (RawStr (accepted (raw_read 0 s).0)) (is_accepted (raw_read 0 s).0) (taken s) s (bytes-letter 114 refl)
-    (subst (λ (b : Bool). IsLiteralBefore (drop (taken s) s) (RawStr (accepted (raw_read 0 s).0)) b (114 ∷ take (taken s) s)) (sym (accepts (raw_read 0 s).0)) (the.raw_str (raw-sound s mark) free))
+    (subst (λ (b : Bool). IsLiteralBefore (drop (taken s) s) (RawStr (accepted (raw_read 0 s).0)) b (114 ∷ take (taken s) s)) (sym (accepts (raw_read 0 s).0)) (lit.raw_str (raw-sound s mark) free))
 
-pub raw_byte_str-sound : (s : List ℕ) → Goes is_raw_mark s → Sound 98 (114 ∷ s) (after 1 (raw_literal Br) (114 ∷ s))
+pub raw_byte_str-sound : (s : List ℕ) → NextIs is_raw_mark s → Sound 98 (114 ∷ s) (after 1 (raw_literal Br) (114 ∷ s))
 raw_byte_str-sound s mark =
     sound-after 98 114 s (raw_literal Br)
     (literal-sound (98 ∷ 114 ∷ []) 2 (RawByteStr (accepted (raw_read 0 s).0)) (is_accepted (raw_read 0 s).0) (taken s) s (bytes-letters 98 114 refl refl)
-    (subst (λ (b : Bool). IsLiteralBefore (drop (taken s) s) (RawByteStr (accepted (raw_read 0 s).0)) b (98 ∷ 114 ∷ take (taken s) s)) (sym (accepts (raw_read 0 s).0)) (the.raw_byte_str (raw-sound s mark))))
+    (subst (λ (b : Bool). IsLiteralBefore (drop (taken s) s) (RawByteStr (accepted (raw_read 0 s).0)) b (98 ∷ 114 ∷ take (taken s) s)) (sym (accepts (raw_read 0 s).0)) (lit.raw_byte_str (raw-sound s mark))))
 
-pub raw_c_str-sound : (s : List ℕ) → Goes is_raw_mark s → Sound 99 (114 ∷ s) (after 1 (raw_literal Cr) (114 ∷ s))
+pub raw_c_str-sound : (s : List ℕ) → NextIs is_raw_mark s → Sound 99 (114 ∷ s) (after 1 (raw_literal Cr) (114 ∷ s))
 raw_c_str-sound s mark =
     sound-after 99 114 s (raw_literal Cr)
     (literal-sound (99 ∷ 114 ∷ []) 2 (RawCStr (accepted (raw_read 0 s).0)) (is_accepted (raw_read 0 s).0) (taken s) s (bytes-letters 99 114 refl refl)
-    (subst (λ (b : Bool). IsLiteralBefore (drop (taken s) s) (RawCStr (accepted (raw_read 0 s).0)) b (99 ∷ 114 ∷ take (taken s) s)) (sym (accepts (raw_read 0 s).0)) (the.raw_c_str (raw-sound s mark))))
+    (subst (λ (b : Bool). IsLiteralBefore (drop (taken s) s) (RawCStr (accepted (raw_read 0 s).0)) b (99 ∷ 114 ∷ take (taken s) s)) (sym (accepts (raw_read 0 s).0)) (lit.raw_c_str (raw-sound s mark))))
 
 -- what follows the `r`
-guard-mark : (n c : ℕ) (s : List ℕ) → is_raw_mark c ≡ true → Goes is_raw_mark (guard n ++ c ∷ s)
+guard-mark : (n c : ℕ) (s : List ℕ) → is_raw_mark c ≡ true → NextIs is_raw_mark (hashes n ++ c ∷ s)
 guard-mark zero c s e = e
 guard-mark (suc n) c s e = refl
 
-raw-mark : {next : List ℕ} {o : Option ℕ} {w : List ℕ} → IsRaw next o w → Goes is_raw_mark (w ++ next)
-raw-mark {next} (the.closed n w le lacks) = subst (λ (s : List ℕ). Goes is_raw_mark s) (sym (append_assoc (guard n) (34 ∷ w ++ 34 ∷ guard n) next)) (guard-mark n 34 _ refl)
-raw-mark {next} (the.too_many n w le lacks) = subst (λ (s : List ℕ). Goes is_raw_mark s) (sym (append_assoc (guard n) (34 ∷ w ++ 34 ∷ guard n) next)) (guard-mark n 34 _ refl)
-raw-mark {next} (the.unclosed n w none lacks) = subst (λ (s : List ℕ). Goes is_raw_mark s) (sym (append_assoc (guard n) (34 ∷ w) next)) (guard-mark n 34 _ refl)
-raw-mark {next} (the.no_quote n c out) = refl
-raw-mark {next} (the.no_more n none) = refl
+raw-mark : {next : List ℕ} {o : Option ℕ} {w : List ℕ} → IsRaw next o w → NextIs is_raw_mark (w ++ next)
+raw-mark {next} (lit.closed n w le lacks) = subst (λ (s : List ℕ). NextIs is_raw_mark s) (sym (append_assoc (hashes n) (34 ∷ w ++ 34 ∷ hashes n) next)) (guard-mark n 34 _ refl)
+raw-mark {next} (lit.too_many n w le lacks) = subst (λ (s : List ℕ). NextIs is_raw_mark s) (sym (append_assoc (hashes n) (34 ∷ w ++ 34 ∷ hashes n) next)) (guard-mark n 34 _ refl)
+raw-mark {next} (lit.unclosed n w none lacks) = subst (λ (s : List ℕ). NextIs is_raw_mark s) (sym (append_assoc (hashes n) (34 ∷ w) next)) (guard-mark n 34 _ refl)
+raw-mark {next} (lit.no_quote n c out) = refl
+raw-mark {next} (lit.no_more n none) = refl
 
 whole-marks : (w next : List ℕ) → next ≡ [] → marks_ident (w ++ next) ≡ marks_ident w
 whole-marks w next none = ap (λ (xs : List ℕ). marks_ident (w ++ xs)) none ∙ ap marks_ident (append-nil w)
 
 raw-marks : {next : List ℕ} {o : Option ℕ} {w : List ℕ} → IsRaw next o w → marks_ident (w ++ next) ≡ marks_ident w
-raw-marks {next} (the.closed n w le lacks) = told-front 2 marks_ident marks_ident-told (guard n ++ (34 ∷ w ++ 34 ∷ guard n)) next (omega (arith, length-append (guard n) (34 ∷ w ++ 34 ∷ guard n), length-append w (34 ∷ guard n)))
-raw-marks {next} (the.too_many n w le lacks) = told-front 2 marks_ident marks_ident-told (guard n ++ (34 ∷ w ++ 34 ∷ guard n)) next (omega (arith, length-append (guard n) (34 ∷ w ++ 34 ∷ guard n), length-append w (34 ∷ guard n)))
-raw-marks {next} (the.unclosed n w none lacks) = whole-marks (guard n ++ 34 ∷ w) next none
-raw-marks {next} (the.no_quote n c out) = told-front 2 marks_ident marks_ident-told (guard (suc n) ++ c ∷ []) next (omega (arith, length-append (guard n) (c ∷ [])))
-raw-marks {next} (the.no_more n none) = whole-marks (guard (suc n)) next none
+raw-marks {next} (lit.closed n w le lacks) = told-front 2 marks_ident marks_ident-told (hashes n ++ (34 ∷ w ++ 34 ∷ hashes n)) next (omega (arith, length-append (hashes n) (34 ∷ w ++ 34 ∷ hashes n), length-append w (34 ∷ hashes n)))
+raw-marks {next} (lit.too_many n w le lacks) = told-front 2 marks_ident marks_ident-told (hashes n ++ (34 ∷ w ++ 34 ∷ hashes n)) next (omega (arith, length-append (hashes n) (34 ∷ w ++ 34 ∷ hashes n), length-append w (34 ∷ hashes n)))
+raw-marks {next} (lit.unclosed n w none lacks) = whole-marks (hashes n ++ 34 ∷ w) next none
+raw-marks {next} (lit.no_quote n c out) = told-front 2 marks_ident marks_ident-told (hashes (suc n) ++ c ∷ []) next (omega (arith, length-append (hashes n) (c ∷ [])))
+raw-marks {next} (lit.no_more n none) = whole-marks (hashes (suc n)) next none
 
 -- the body of a literal, from what is read of it
 raw-body : (kind : Option ℕ → LiteralKind) (next : List ℕ) (o : Option ℕ) (w : List ℕ) → IsRaw next o w → raw_body kind (w ++ next) ≡ (record { kind = kind o; takes_suffix = is_some o }, length w)
@@ -218,7 +221,7 @@ raw-body kind next o w q =
     ap (λ (b : Bool). let body : Body = record { kind = kind (accepted r.0); takes_suffix = b } in (body, r.1)) (accepts r.0)
     ∙ ap (λ (p : Option ℕ × ℕ). let body : Body = record { kind = kind p.0; takes_suffix = is_some p.0 } in (body, p.1)) (raw-read q)
 
-pub raw_str-reads : (next : List ℕ) (o : Option ℕ) (w : List ℕ) → IsRaw next o w → begins_ident_past (codes "#") w ≡ false → ReadsLiteral next (RawStr o) (is_some o) (114 ∷ w)
+pub raw_str-reads : (next : List ℕ) (o : Option ℕ) (w : List ℕ) → IsRaw next o w → begins_ident_after (codes "#") w ≡ false → ReadsLiteral next (RawStr o) (is_some o) (114 ∷ w)
 raw_str-reads next o w q free =
     let no_ident : marks_ident (w ++ next) ≡ false = raw-marks q ∙ free in
     read-first 114 (word 114) (w ++ next) (Literal (RawStr o) (bytes (114 ∷ w))) (length w + suffixed (is_some o) next) _ (chooses-word 114 letters-start.2)
@@ -238,7 +241,7 @@ digit-one c digit = let small : nat_lt c 0x80 ≡ true = lt-ltb c 128 (digit-sma
 
 pub number-sound : (c : ℕ) → is_ascii_digit c ≡ true → (s : List ℕ) → Sound c s (number c s)
 number-sound c digit s = literal-sound (c ∷ []) 1 kind true m s (bytes-letter c (digit-one c digit))
-    (the.number (subst (λ (n : ℕ). IsLongestNumber kind n (c ∷ take m s ++ drop m s)) len (subst (λ (u : List ℕ). IsLongestNumber kind (1 + m) (c ∷ u)) (sym (take-append-drop m s)) (numbers-longest c s digit))))
+    (lit.number (subst (λ (n : ℕ). IsLongestNumber kind n (c ∷ take m s ++ drop m s)) len (subst (λ (u : List ℕ). IsLongestNumber kind (1 + m) (c ∷ u)) (sym (take-append-drop m s)) (longest-read c s digit))))
   where
     kind : LiteralKind
     kind = (number_kind c s).0
@@ -274,17 +277,11 @@ first-reads next kind c v digit is =
     m : ℕ
     m = (number_kind c (v ++ next)).1
 
-    the_read : IsLongestNumber (number_kind c (v ++ next)).0 (1 + m) (c ∷ v ++ next)
-    the_read = numbers-longest c (v ++ next) digit
-
-    len : suc (length v) ≡ 1 + m
-    len = let long = the_read.longest kind (suc (length v)) is.stands in let short = is.longest (number_kind c (v ++ next)).0 (1 + m) the_read.stands in omega arith
-
-    same : kind ≡ (number_kind c (v ++ next)).0
-    same = the_read.only kind (subst (λ (n : ℕ). NumberStands kind n (c ∷ v ++ next)) len is.stands)
+    whole : (kind ≡ (number_kind c (v ++ next)).0) × (suc (length v) ≡ 1 + m)
+    whole = longest-is c (v ++ next) digit is
 
     read : number_kind c (v ++ next) ≡ (kind, length v)
-    read = pair _ _ _ _ (sym same) (omega (arith, len))
+    read = pair _ _ _ _ (sym whole.0) (omega (arith, whole.1))
 
 pub number-reads : (next : List ℕ) (kind : LiteralKind) (w : List ℕ) → IsLongestNumber kind (length w) (w ++ next) → ReadsLiteral next kind true w
 number-reads next kind w is =
@@ -303,7 +300,7 @@ pub c_str-reads : {next : List ℕ} (t : Bool) (w : List ℕ) → IsDoubleQuoted
 c_str-reads {next} t w q = lettered-reads 99 34 CStr double_quoted_string next t w letters-start.1 refl refl (double-read q)
 
 pub raw_byte_str-reads : {next : List ℕ} (o : Option ℕ) (w : List ℕ) → IsRaw next o w → ReadsLiteral next (RawByteStr o) (is_some o) (98 ∷ 114 ∷ w)
-raw_byte_str-reads {next} o w q = let mark : Goes is_raw_mark (w ++ next) = raw-mark q in raw_past-reads 98 Br next o w letters-start.0 refl refl (rw mark refl) q
+raw_byte_str-reads {next} o w q = let mark : NextIs is_raw_mark (w ++ next) = raw-mark q in raw_past-reads 98 Br next o w letters-start.0 refl refl (rw mark refl) q
 
 pub raw_c_str-reads : {next : List ℕ} (o : Option ℕ) (w : List ℕ) → IsRaw next o w → ReadsLiteral next (RawCStr o) (is_some o) (99 ∷ 114 ∷ w)
-raw_c_str-reads {next} o w q = let mark : Goes is_raw_mark (w ++ next) = raw-mark q in raw_past-reads 99 Cr next o w letters-start.1 refl refl (rw mark refl) q
+raw_c_str-reads {next} o w q = let mark : NextIs is_raw_mark (w ++ next) = raw-mark q in raw_past-reads 99 Cr next o w letters-start.1 refl refl (rw mark refl) q

@@ -3,9 +3,9 @@ use Rattle.std.proofs.Common.{◌≡◌, ℕ, zero, suc, ◌+◌, ◌≤◌, ◌
 use Rattle.std.proofs.lemmas.Bool.{and_parts, eqb-true, or_parts, or_cases}
 use Rattle.std.proofs.lemmas.List.{append-nil}
 use Rattle.rustc_lexer.specs.Classes.{is_among}
-use Rattle.rustc_lexer.specs.laws.LanguageRuns.{either-way, pair, parted}
-use Rattle.rustc_lexer.specs.Language as the
-use Rattle.rustc_lexer.specs.Language.{QuotedTo, ends, plain, escape, SingleTo, IsDoubleQuoted, IsSingleQuoted}
+use Rattle.rustc_lexer.specs.laws.LanguageRuns.{begins-next, either-way, pair, parted}
+use Rattle.rustc_lexer.specs.LiteralGrammar as lit
+use Rattle.rustc_lexer.specs.LiteralGrammar.{QuotedTo, ends, plain, escape, SingleTo, IsDoubleQuoted, IsSingleQuoted}
 use Rattle.rustc_lexer.specs.means.Least.{one_more}
 use Rattle.rustc_lexer.specs.means.Quoted.{is_backslash, stopped, quoted, at_double_quote, double_quoted_string, at_single_stop, is_lone, single_quoted_string}
 use Rattle.rustc_lexer.specs.means.Scan.{begins}
@@ -113,9 +113,9 @@ double-straight : (c : ℕ) → is_double c ≡ false → is_backslash c ≡ fal
 double-straight c e = (or_parts (c == 92) false (or_parts (c == 34) _ e).1).0
 
 pub double-read : {next : List ℕ} {t : Bool} {w : List ℕ} → IsDoubleQuoted next t w → double_quoted_string (w ++ next) ≡ (t, length w)
-double-read {next} (the.closed q) = quoted-read 34 at_double_quote is_double refl double-goes double-straight (λ s. refl) q next true refl
-double-read {next} (the.unclosed {w} none q) = subst (λ (s : List ℕ). double_quoted_string (w ++ s) ≡ (false, length w)) (sym none) (quoted-read 34 at_double_quote is_double refl double-goes double-straight (λ s. refl) q [] false refl)
-double-read {next} (the.unclosed_escape {w} none q) = subst (λ (s : List ℕ). double_quoted_string (w ++ s) ≡ (false, length w)) (sym none) (quoted-read 34 at_double_quote is_double refl double-goes double-straight (λ s. refl) q [] false refl)
+double-read {next} (lit.closed q) = quoted-read 34 at_double_quote is_double refl double-goes double-straight (λ s. refl) q next true refl
+double-read {next} (lit.unclosed {w} none q) = subst (λ (s : List ℕ). double_quoted_string (w ++ s) ≡ (false, length w)) (sym none) (quoted-read 34 at_double_quote is_double refl double-goes double-straight (λ s. refl) q [] false refl)
+double-read {next} (lit.unclosed_escape {w} none q) = subst (λ (s : List ℕ). double_quoted_string (w ++ s) ≡ (false, length w)) (sym none) (quoted-read 34 at_double_quote is_double refl double-goes double-straight (λ s. refl) q [] false refl)
 
 pub double-sound : (s : List ℕ) → IsDoubleQuoted (drop (double_quoted_string s).1 s) (double_quoted_string s).0 (take (double_quoted_string s).1 s)
 double-sound s = by_outcome (outcome 34 at_double_quote is_double refl double-goes double-straight (λ s. refl) s)
@@ -127,12 +127,12 @@ double-sound s = by_outcome (outcome 34 at_double_quote is_double refl double-go
         let here : double_quoted_string (x ∷ rest) ≡ (true, 1) = ap (λ (y : ℕ). double_quoted_string (y ∷ rest)) same ∙ quoted-read 34 at_double_quote is_double refl double-goes double-straight (λ s. refl) {end = 34 ∷ []} {w = 34 ∷ []} ends rest true refl in
         let len : length v + 1 ≡ length (v ++ 34 ∷ []) = sym (length-append v (34 ∷ [])) in
         let text : (v ++ 34 ∷ []) ++ rest ≡ v ++ x ∷ rest = append_assoc v (34 ∷ []) rest ∙ ap (λ (y : ℕ). v ++ y ∷ rest) (sym same) in
-        parted IsDoubleQuoted (v ++ 34 ∷ []) rest (v ++ x ∷ rest) true _ text (e ∙ (ap (λ (r : Bool × ℕ). let q : Bool × ℕ = (r.0, length v + r.1) in q) here ∙ ap (λ (n : ℕ). (true, n)) len)) (the.closed (to-end q (34 ∷ [])))
+        parted IsDoubleQuoted (v ++ 34 ∷ []) rest (v ++ x ∷ rest) true _ text (e ∙ (ap (λ (r : Bool × ℕ). let q : Bool × ℕ = (r.0, length v + r.1) in q) here ∙ ap (λ (n : ℕ). (true, n)) len)) (lit.closed (to-end q (34 ∷ [])))
 
     by_outcome : {s : List ℕ} → Outcome 34 at_double_quote is_double refl double-goes double-straight (λ s. refl) s → IsDoubleQuoted (drop (double_quoted_string s).1 s) (double_quoted_string s).0 (take (double_quoted_string s).1 s)
     by_outcome (stops v x rest q sp nb e) = at_stop v x rest q (elim (or_cases (x == 34) _ sp) [ inl is ↦ is | inr f ↦ absurd (either-way (is_backslash x) (elim (or_cases (x == 92) false f) [ inl g ↦ g | inr g ↦ absurd (true≢false (sym g)) ]) nb) ]) e
-    by_outcome (whole {s} q e) = parted IsDoubleQuoted s [] s false _ (append-nil s) e (the.unclosed refl q)
-    by_outcome (escaped {s} q e) = parted IsDoubleQuoted s [] s false _ (append-nil s) e (the.unclosed_escape refl q)
+    by_outcome (whole {s} q e) = parted IsDoubleQuoted s [] s false _ (append-nil s) e (lit.unclosed refl q)
+    by_outcome (escaped {s} q e) = parted IsDoubleQuoted s [] s false _ (append-nil s) e (lit.unclosed_escape refl q)
 
 -- ---- single quotes
 
@@ -239,11 +239,14 @@ newline-stops (c ∷ s) e none =
     ap (λ (x : ℕ). stopped 39 (seek at_single_stop (x ∷ s) false) (x ∷ s)) same ∙ ap (λ o. stopped 39 o (10 ∷ s)) found
 
 pub single-read : {next : List ℕ} {t : Bool} {w : List ℕ} → IsSingleQuoted next t w → single_quoted_string (w ++ next) ≡ (t, length w)
-single-read {next} (the.one {c} out) = rw out refl
-single-read {next} (the.closed {w} q none) = by-lone w next true (closed-lone q next none) (to-read q next true refl)
-single-read {next} (the.closed_line {w} q) = by-lone w next true (line-lone q next) (to-read q next true refl)
-single-read {next} (the.at_slash {w} q at none) = by_first q none
+single-read {next} (lit.one {c} out) = rw out refl
+single-read {next} (lit.closed {w} q none) = by-lone w next true (closed-lone q next none) (to-read q next true refl)
+single-read {next} (lit.closed_line {w} q) = by-lone w next true (line-lone q next) (to-read q next true refl)
+single-read {next} (lit.at_slash {w} q slash none) = by_first q none
   where
+    at : begins (47 ∷ []) next ≡ true
+    at = begins-next 47 next ∙ slash
+
     by_first : {w : List ℕ} → SingleTo [] w → begins (47 ∷ 39 ∷ []) (w ++ next) ≡ false → single_quoted_string (w ++ next) ≡ (false, length w)
     by_first ends none = let alone = stop-alone 47 next refl at none in by-lone [] next false (λ e. absurd (either-way (is_lone next) e alone.1)) (to-read {end = []} {w = []} ends next false (slash-stops next at))
     by_first (plain {c} {w} out q) none = by-lone (c ∷ w) next false (λ e. absurd (none-second q next (not_quote next at) (and_parts (not (begins (92 ∷ []) (c ∷ w ++ next))) _ e).1)) (to-read {end = []} {w = c ∷ w} (plain {c = c} {w = w} out q) next false (slash-stops next at))
@@ -252,9 +255,9 @@ single-read {next} (the.at_slash {w} q at none) = by_first q none
         not_quote [] at = refl
         not_quote (c ∷ s) at = rw (eqb-true c 47 (and_parts (c == 47) true at).0) refl
     by_first (escape {c} {w} q) none = by-lone (92 ∷ c ∷ w) next false (λ e. absurd (true≢false (sym e))) (to-read {end = []} {w = 92 ∷ c ∷ w} (escape {c = c} {w = w} q) next false (slash-stops next at))
-single-read {next} (the.at_newline {w} q at none) = let alone = stop-alone 10 next refl at none in by-lone w next false (λ e. absurd (none-lone q next alone.0 alone.1 e)) (to-read q next false (newline-stops next at none))
-single-read {next} (the.unclosed {w} none q) = subst (λ (s : List ℕ). single_quoted_string (w ++ s) ≡ (false, length w)) (sym none) (by-lone w [] false (λ e. absurd (none-lone q [] refl refl e)) (to-read q [] false refl))
-single-read {next} (the.unclosed_escape {w} none q) = subst (λ (s : List ℕ). single_quoted_string (w ++ s) ≡ (false, length w)) (sym none) (by-lone w [] false (λ e. absurd (last-lone q e)) (to-read q [] false refl))
+single-read {next} (lit.at_newline {w} q line none) = let at = begins-next 10 next ∙ line in let alone = stop-alone 10 next refl at none in by-lone w next false (λ e. absurd (none-lone q next alone.0 alone.1 e)) (to-read q next false (newline-stops next at none))
+single-read {next} (lit.unclosed {w} none q) = subst (λ (s : List ℕ). single_quoted_string (w ++ s) ≡ (false, length w)) (sym none) (by-lone w [] false (λ e. absurd (none-lone q [] refl refl e)) (to-read q [] false refl))
+single-read {next} (lit.unclosed_escape {w} none q) = subst (λ (s : List ℕ). single_quoted_string (w ++ s) ≡ (false, length w)) (sym none) (by-lone w [] false (λ e. absurd (last-lone q e)) (to-read q [] false refl))
 
 -- what is not one character and a quote begins with none
 lone-none : (d : ℕ) (s : List ℕ) → (d == 92) ≡ false → is_lone s ≡ false → begins (d ∷ 39 ∷ []) s ≡ false
@@ -274,7 +277,7 @@ single-sound s = by_lone (is_lone s) refl
     one_here (c ∷ d ∷ s) e =
         let parts = and_parts (not (begins (92 ∷ []) (c ∷ d ∷ s))) _ e in
         let second : 39 ≡ d = sym (eqb-true d 39 (and_parts (d == 39) true parts.1).0) in
-        subst (λ (x : ℕ). IsSingleQuoted s true (c ∷ x ∷ [])) second (the.one (first_free (c == 92) refl parts.0))
+        subst (λ (x : ℕ). IsSingleQuoted s true (c ∷ x ∷ [])) second (lit.one (first_free (c == 92) refl parts.0))
       where
         first_free : (b : Bool) → (c == 92) ≡ b → not ((c == 92) && true) ≡ true → (c == 92) ≡ false
         first_free false f g = f
@@ -287,11 +290,11 @@ single-sound s = by_lone (is_lone s) refl
         let len : length v + 1 ≡ length (v ++ 39 ∷ []) = sym (length-append v (39 ∷ [])) in
         let text : (v ++ 39 ∷ []) ++ rest ≡ v ++ x ∷ rest = append_assoc v (39 ∷ []) rest ∙ ap (λ (y : ℕ). v ++ y ∷ rest) (sym is) in
         parted IsSingleQuoted (v ++ 39 ∷ []) rest (v ++ x ∷ rest) true _ text (e ∙ (ap (λ (r : Bool × ℕ). let q : Bool × ℕ = (r.0, length v + r.1) in q) here ∙ ap (λ (n : ℕ). (true, n)) len))
-        (the.closed (to-end q (39 ∷ [])) (ap (begins (39 ∷ 39 ∷ [])) text ∙ lone-none 39 (v ++ x ∷ rest) refl alone))
+        (lit.closed (to-end q (39 ∷ [])) (ap (begins (39 ∷ 39 ∷ [])) text ∙ lone-none 39 (v ++ x ∷ rest) refl alone))
     at_stop v x rest q alone e (inr (inl is)) =
         let here : past_quote (x ∷ rest) ≡ (false, 0) = ap (λ (y : ℕ). past_quote (y ∷ rest)) is ∙ to-read {end = []} {w = []} ends (47 ∷ rest) false (slash-stops (47 ∷ rest) refl) in
         parted IsSingleQuoted v (x ∷ rest) (v ++ x ∷ rest) false _ refl (e ∙ (ap (λ (r : Bool × ℕ). let q : Bool × ℕ = (r.0, length v + r.1) in q) here ∙ pair _ _ _ _ refl (omega arith)))
-        (the.at_slash q (rw is refl) (lone-none 47 (v ++ x ∷ rest) refl alone))
+        (lit.at_slash q (rw is refl) (lone-none 47 (v ++ x ∷ rest) refl alone))
     at_stop v x rest q alone e (inr (inr is)) = by_next (begins (39 ∷ []) rest) refl
       where
         closes_line : (rest : List ℕ) → begins (39 ∷ []) rest ≡ true → past_quote (v ++ x ∷ rest) ≡ ((past_quote (x ∷ rest)).0, length v + (past_quote (x ∷ rest)).1)
@@ -303,7 +306,7 @@ single-sound s = by_lone (is_lone s) refl
             let len : length v + 2 ≡ length (v ++ 10 ∷ 39 ∷ []) = sym (length-append v (10 ∷ 39 ∷ [])) in
             let text : (v ++ 10 ∷ 39 ∷ []) ++ rest ≡ v ++ x ∷ d ∷ rest = append_assoc v (10 ∷ 39 ∷ []) rest ∙ (ap (λ (y : ℕ). v ++ y ∷ 39 ∷ rest) (sym is) ∙ ap (λ (y : ℕ). v ++ x ∷ y ∷ rest) (sym second)) in
             parted IsSingleQuoted (v ++ 10 ∷ 39 ∷ []) rest (v ++ x ∷ d ∷ rest) true _ text (e ∙ (ap (λ (r : Bool × ℕ). let q : Bool × ℕ = (r.0, length v + r.1) in q) here ∙ ap (λ (n : ℕ). (true, n)) len))
-            (the.closed_line (to-end q (10 ∷ 39 ∷ [])))
+            (lit.closed_line (to-end q (10 ∷ 39 ∷ [])))
 
         by_next : (b : Bool) → begins (39 ∷ []) rest ≡ b → IsSingleQuoted (drop (past_quote (v ++ x ∷ rest)).1 (v ++ x ∷ rest)) (past_quote (v ++ x ∷ rest)).0 (take (past_quote (v ++ x ∷ rest)).1 (v ++ x ∷ rest))
         by_next true f = closes_line rest f e
@@ -311,7 +314,7 @@ single-sound s = by_lone (is_lone s) refl
             let none : begins (10 ∷ 39 ∷ []) (10 ∷ rest) ≡ false = f in
             let here : past_quote (x ∷ rest) ≡ (false, 0) = ap (λ (y : ℕ). past_quote (y ∷ rest)) is ∙ to-read {end = []} {w = []} ends (10 ∷ rest) false (newline-stops (10 ∷ rest) refl none) in
             parted IsSingleQuoted v (x ∷ rest) (v ++ x ∷ rest) false _ refl (e ∙ (ap (λ (r : Bool × ℕ). let q : Bool × ℕ = (r.0, length v + r.1) in q) here ∙ pair _ _ _ _ refl (omega arith)))
-            (the.at_newline q (rw is refl) (rw is f))
+            (lit.at_newline q (rw is refl) (rw is f))
 
     which : (x : ℕ) → is_single x ≡ true → is_backslash x ≡ false → (x ≡ 39) ⊎ ((x ≡ 47) ⊎ (x ≡ 10))
     which x sp nb = elim (or_cases (x == 39) _ sp) [ inl a ↦ inl (eqb-true x 39 a) | inr b ↦ inr (rest b) ]
@@ -324,8 +327,8 @@ single-sound s = by_lone (is_lone s) refl
 
     by_outcome : {s : List ℕ} → Outcome 39 at_single_stop is_single refl single-goes single-straight single-slashed s → is_lone s ≡ false → IsSingleQuoted (drop (past_quote s).1 s) (past_quote s).0 (take (past_quote s).1 s)
     by_outcome (stops v x rest q sp nb e) alone = at_stop v x rest q alone e (which x sp nb)
-    by_outcome (whole {s} q e) alone = parted IsSingleQuoted s [] s false _ (append-nil s) e (the.unclosed refl q)
-    by_outcome (escaped {s} q e) alone = parted IsSingleQuoted s [] s false _ (append-nil s) e (the.unclosed_escape refl q)
+    by_outcome (whole {s} q e) alone = parted IsSingleQuoted s [] s false _ (append-nil s) e (lit.unclosed refl q)
+    by_outcome (escaped {s} q e) alone = parted IsSingleQuoted s [] s false _ (append-nil s) e (lit.unclosed_escape refl q)
 
     by_lone : (b : Bool) → is_lone s ≡ b → IsSingleQuoted (drop (single_quoted_string s).1 s) (single_quoted_string s).0 (take (single_quoted_string s).1 s)
     by_lone true e = rw e (one_here s e)

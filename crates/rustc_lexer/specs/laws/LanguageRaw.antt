@@ -7,12 +7,12 @@ use Rattle.rustc_lexer.specs.declared.token.RawStrError.{RawStrError}
 use Rattle.rustc_lexer.specs.declared.token.RawStrError.TheVariants.{InvalidStarter}
 use Rattle.rustc_lexer.specs.Classes.{is_among}
 use Rattle.rustc_lexer.specs.laws.LanguageRuns.{either-way, pair, parted, run-stops}
-use Rattle.rustc_lexer.specs.Language as the
-use Rattle.rustc_lexer.specs.Language.{guard, Lacks, IsRaw}
-use Rattle.rustc_lexer.specs.Spans.{Goes, Stops}
+use Rattle.rustc_lexer.specs.LiteralGrammar as lit
+use Rattle.rustc_lexer.specs.LiteralGrammar.{hashes, NoQuoteWith, IsRaw}
+use Rattle.rustc_lexer.specs.Spans.{NextIs, NextIsNot}
 use Rattle.rustc_lexer.specs.means.Least.{one_more}
 use Rattle.rustc_lexer.specs.means.Lexeme.{is_raw_mark}
-use Rattle.rustc_lexer.specs.means.Raw.{is_hash, is_quote, hashes, closes, close, hash_count, raw_closed, raw_text, raw_starter, raw_read, accepted}
+use Rattle.rustc_lexer.specs.means.Raw.{is_hash, is_quote, hash_run, closes, close, hash_count, raw_closed, raw_text, raw_starter, raw_read, accepted}
 
 -- ---- hashes
 
@@ -22,73 +22,73 @@ head-same c d s u e = ap (λ xs. get_or xs 0 0) e
 tail-same : (c d : ℕ) (s u : List ℕ) → c ∷ s ≡ d ∷ u → s ≡ u
 tail-same c d s u e = ap (drop 1) e
 
-pub guard-length : (n : ℕ) → length (guard n) ≡ n
+pub guard-length : (n : ℕ) → length (hashes n) ≡ n
 guard-length zero = refl
 guard-length (suc n) = ap suc (guard-length n)
 
 -- hashes that no more of them follow
-pub guard-hashes : (n : ℕ) (v : List ℕ) → Stops is_hash v → hashes (guard n ++ v) ≡ n
+pub guard-hashes : (n : ℕ) (v : List ℕ) → NextIsNot is_hash v → hash_run (hashes n ++ v) ≡ n
 guard-hashes zero [] stop = refl
 guard-hashes zero (c ∷ v) stop = rw stop refl
 guard-hashes (suc n) v stop = ap suc (guard-hashes n v stop)
 
-pub at_least : (n : ℕ) (v : List ℕ) → n ≤ hashes (guard n ++ v)
+pub at_least : (n : ℕ) (v : List ℕ) → n ≤ hash_run (hashes n ++ v)
 at_least zero v = omega arith
 at_least (suc n) v = omega (arith, at_least n v)
 
 -- where so many hashes stand
-pub split-hashes : (n : ℕ) (s : List ℕ) → n ≤ hashes s → s ≡ guard n ++ drop n s
+pub split-hashes : (n : ℕ) (s : List ℕ) → n ≤ hash_run s → s ≡ hashes n ++ drop n s
 split-hashes zero s le = refl
 split-hashes (suc n) [] le = absurd (omega arith)
 split-hashes (suc n) (c ∷ s) le = by_hash (split-hashes n s) (is_hash c) refl
   where
-    by_hash : (n ≤ hashes s → s ≡ guard n ++ drop n s) → (b : Bool) → is_hash c ≡ b → c ∷ s ≡ guard (suc n) ++ drop n s
+    by_hash : (n ≤ hash_run s → s ≡ hashes n ++ drop n s) → (b : Bool) → is_hash c ≡ b → c ∷ s ≡ hashes (suc n) ++ drop n s
     by_hash ih true e =
-        let more : hashes (c ∷ s) ≡ suc (hashes s) = rw e refl in
+        let more : hash_run (c ∷ s) ≡ suc (hash_run s) = rw e refl in
         ap (λ (x : ℕ). x ∷ s) (eqb-true c 35 e) ∙ ap (λ (xs : List ℕ). 35 ∷ xs) (ih (omega arith))
-    by_hash ih false e = let none : hashes (c ∷ s) ≡ 0 = rw e refl in absurd (omega arith)
+    by_hash ih false e = let none : hash_run (c ∷ s) ≡ 0 = rw e refl in absurd (omega arith)
 
 -- and where a quote comes behind them, they stand before that
 pub record GuardBegins (n : ℕ) (w : List ℕ) : Type 0 where
   pub rest : List ℕ
-  pub whole : w ≡ guard n ++ rest
+  pub whole : w ≡ hashes n ++ rest
 
-pub before-quote : (n : ℕ) (w z : List ℕ) → n ≤ hashes (w ++ 34 ∷ z) → GuardBegins n w
+pub before-quote : (n : ℕ) (w z : List ℕ) → n ≤ hash_run (w ++ 34 ∷ z) → GuardBegins n w
 before-quote zero w z le = record { rest = w; whole = refl }
 before-quote (suc n) [] z le = absurd (omega arith)
 before-quote (suc n) (c ∷ w) z le = by_hash (before-quote n w z) (is_hash c) refl
   where
-    by_hash : (n ≤ hashes (w ++ 34 ∷ z) → GuardBegins n w) → (b : Bool) → is_hash c ≡ b → GuardBegins (suc n) (c ∷ w)
+    by_hash : (n ≤ hash_run (w ++ 34 ∷ z) → GuardBegins n w) → (b : Bool) → is_hash c ≡ b → GuardBegins (suc n) (c ∷ w)
     by_hash ih true e =
-        let more : hashes (c ∷ w ++ 34 ∷ z) ≡ suc (hashes (w ++ 34 ∷ z)) = rw e refl in
+        let more : hash_run (c ∷ w ++ 34 ∷ z) ≡ suc (hash_run (w ++ 34 ∷ z)) = rw e refl in
         let g = ih (omega arith) in
         record { rest = g.rest; whole = ap (λ (x : ℕ). x ∷ w) (eqb-true c 35 e) ∙ ap (λ (xs : List ℕ). 35 ∷ xs) g.whole }
-    by_hash ih false e = let none : hashes (c ∷ w ++ 34 ∷ z) ≡ 0 = rw e refl in absurd (omega arith)
+    by_hash ih false e = let none : hash_run (c ∷ w ++ 34 ∷ z) ≡ 0 = rw e refl in absurd (omega arith)
 
 -- ---- where a string closes
 
-closes-here : (n : ℕ) (v : List ℕ) → closes n (34 ∷ guard n ++ v) ≡ true
-closes-here n v = le-leb n (hashes (guard n ++ v)) (at_least n v)
+closes-here : (n : ℕ) (v : List ℕ) → closes n (34 ∷ hashes n ++ v) ≡ true
+closes-here n v = le-leb n (hash_run (hashes n ++ v)) (at_least n v)
 
-pub closes-quote : (n c : ℕ) (s : List ℕ) → closes n (c ∷ s) ≡ true → (c ≡ 34) × (n ≤ hashes s)
-closes-quote n c s e = let parts = and_parts (is_quote c) (nat_le n (hashes s)) e in (eqb-true c 34 parts.0, leb-true n (hashes s) parts.1)
+pub closes-quote : (n c : ℕ) (s : List ℕ) → closes n (c ∷ s) ≡ true → (c ≡ 34) × (n ≤ hash_run s)
+closes-quote n c s e = let parts = and_parts (is_quote c) (nat_le n (hash_run s)) e in (eqb-true c 34 parts.0, leb-true n (hash_run s) parts.1)
 
-pub lacks-rest : (n c : ℕ) (w : List ℕ) → Lacks n (c ∷ w) → Lacks n w
+pub lacks-rest : (n c : ℕ) (w : List ℕ) → NoQuoteWith n (c ∷ w) → NoQuoteWith n w
 lacks-rest n c w lacks u v e = lacks (c ∷ u) v (ap (λ (xs : List ℕ). c ∷ xs) e)
 
-pub lacks-front : (n c : ℕ) (w : List ℕ) → Lacks n (c ∷ w) → (g : GuardBegins n w) → c ≡ 34 → ⊥
+pub lacks-front : (n c : ℕ) (w : List ℕ) → NoQuoteWith n (c ∷ w) → (g : GuardBegins n w) → c ≡ 34 → ⊥
 lacks-front n c w lacks g e = lacks [] g.rest (ap (λ (x : ℕ). x ∷ w) e ∙ ap (λ (xs : List ℕ). 34 ∷ xs) g.whole)
 
 -- the first quote with its hashes
-pub close-read : (n : ℕ) (w next : List ℕ) → Lacks n w → close n (w ++ (34 ∷ guard n ++ next)) ≡ Some (length w)
+pub close-read : (n : ℕ) (w next : List ℕ) → NoQuoteWith n w → close n (w ++ (34 ∷ hashes n ++ next)) ≡ Some (length w)
 close-read n [] next lacks = rw (closes-here n next) refl
 close-read n (c ∷ w) next lacks =
-    let open_here : closes n (c ∷ w ++ (34 ∷ guard n ++ next)) ≡ false = false_from_ne_true (closes n (c ∷ w ++ (34 ∷ guard n ++ next))) (λ e.
-    let parts = closes-quote n c (w ++ (34 ∷ guard n ++ next)) e in
-    lacks-front n c w lacks (before-quote n w (guard n ++ next) parts.1) parts.0) in
+    let open_here : closes n (c ∷ w ++ (34 ∷ hashes n ++ next)) ≡ false = false_from_ne_true (closes n (c ∷ w ++ (34 ∷ hashes n ++ next))) (λ e.
+    let parts = closes-quote n c (w ++ (34 ∷ hashes n ++ next)) e in
+    lacks-front n c w lacks (before-quote n w (hashes n ++ next) parts.1) parts.0) in
     rw open_here (ap one_more (close-read n w next (lacks-rest n c w lacks)))
 
-pub unclosed-read : (n : ℕ) (w : List ℕ) → Lacks n w → close n w ≡ None
+pub unclosed-read : (n : ℕ) (w : List ℕ) → NoQuoteWith n w → close n w ≡ None
 unclosed-read n [] lacks = refl
 unclosed-read n (c ∷ w) lacks =
     let open_here : closes n (c ∷ w) ≡ false = false_from_ne_true (closes n (c ∷ w)) (λ e.
@@ -97,26 +97,26 @@ unclosed-read n (c ∷ w) lacks =
     rw open_here (ap one_more (unclosed-read n w (lacks-rest n c w lacks)))
 
 pub data Closing (n : ℕ) (u : List ℕ) : Option ℕ → Type 0 where
-  found : (w z : List ℕ) → Lacks n w → w ++ (34 ∷ guard n ++ z) ≡ u → Closing n u (Some (length w))
-  lost : Lacks n u → Closing n u None
+  found : (w z : List ℕ) → NoQuoteWith n w → w ++ (34 ∷ hashes n ++ z) ≡ u → Closing n u (Some (length w))
+  lost : NoQuoteWith n u → Closing n u None
 
-pub nothing-lacks : (n : ℕ) → Lacks n []
-nothing-lacks n u v e = absurd (let no : 0 ≡ length (u ++ (34 ∷ guard n ++ v)) = ap length e in omega (arith, length-append u (34 ∷ guard n ++ v)))
+pub nothing-lacks : (n : ℕ) → NoQuoteWith n []
+nothing-lacks n u v e = absurd (let no : 0 ≡ length (u ++ (34 ∷ hashes n ++ v)) = ap length e in omega (arith, length-append u (34 ∷ hashes n ++ v)))
 
 -- a character more in front, where no quote with its hashes stands
-lacks-more : (n c : ℕ) (w u rest : List ℕ) → w ++ rest ≡ u → closes n (c ∷ u) ≡ false → Lacks n w → Lacks n (c ∷ w)
+lacks-more : (n c : ℕ) (w u rest : List ℕ) → w ++ rest ≡ u → closes n (c ∷ u) ≡ false → NoQuoteWith n w → NoQuoteWith n (c ∷ w)
 lacks-more n c w u rest whole open_here lacks [] v e =
-    let quote : c ≡ 34 = head-same c 34 w (guard n ++ v) e in
-    let text : guard n ++ (v ++ rest) ≡ u = sym (append_assoc (guard n) v rest) ∙ (ap (λ (xs : List ℕ). xs ++ rest) (sym (tail-same c 34 w (guard n ++ v) e)) ∙ whole) in
+    let quote : c ≡ 34 = head-same c 34 w (hashes n ++ v) e in
+    let text : hashes n ++ (v ++ rest) ≡ u = sym (append_assoc (hashes n) v rest) ∙ (ap (λ (xs : List ℕ). xs ++ rest) (sym (tail-same c 34 w (hashes n ++ v) e)) ∙ whole) in
     either-way (closes n (c ∷ u)) (ap (λ (x : ℕ). closes n (x ∷ u)) quote ∙ (ap (λ (xs : List ℕ). closes n (34 ∷ xs)) (sym text) ∙ closes-here n (v ++ rest))) open_here
-lacks-more n c w u rest whole open_here lacks (x ∷ a) v e = lacks a v (tail-same c x w (a ++ (34 ∷ guard n ++ v)) e)
+lacks-more n c w u rest whole open_here lacks (x ∷ a) v e = lacks a v (tail-same c x w (a ++ (34 ∷ hashes n ++ v)) e)
 
 pub closing : (n : ℕ) (u : List ℕ) → Closing n u (close n u)
 closing n [] = lost (nothing-lacks n)
 closing n (c ∷ u) = by_close (closes n (c ∷ u)) refl (closing n u)
   where
     more : {o : Option ℕ} → closes n (c ∷ u) ≡ false → Closing n u o → Closing n (c ∷ u) (one_more o)
-    more e (found w z lacks whole) = found (c ∷ w) z (lacks-more n c w u (34 ∷ guard n ++ z) whole e lacks) (ap (λ (xs : List ℕ). c ∷ xs) whole)
+    more e (found w z lacks whole) = found (c ∷ w) z (lacks-more n c w u (34 ∷ hashes n ++ z) whole e lacks) (ap (λ (xs : List ℕ). c ∷ xs) whole)
     more e (lost lacks) = lost (lacks-more n c u u [] (append-nil u) e lacks)
 
     by_close : (b : Bool) → closes n (c ∷ u) ≡ b → Closing n u (close n u) → Closing n (c ∷ u) (if b then Some 0 else one_more (close n u))
@@ -137,10 +137,10 @@ raw_seen s = (accepted (raw_read 0 s).0, (raw_read 0 s).1)
 abbrev starter_seen : ℕ → List ℕ → Option ℕ × ℕ
 starter_seen n v = (accepted (raw_starter 0 n v).0, n + (raw_starter 0 n v).1)
 
-starts : (n : ℕ) (v : List ℕ) → Stops is_hash v → raw_seen (guard n ++ v) ≡ starter_seen n v
+starts : (n : ℕ) (v : List ℕ) → NextIsNot is_hash v → raw_seen (hashes n ++ v) ≡ starter_seen n v
 starts n v stop =
-    let left : drop n (guard n ++ v) ≡ v = ap (λ (m : ℕ). drop m (guard n ++ v)) (sym (guard-length n)) ∙ drop-append_seam (guard n) v in
-    ap (λ (m : ℕ). starter_seen m (drop m (guard n ++ v))) (guard-hashes n v stop) ∙ ap (starter_seen n) left
+    let left : drop n (hashes n ++ v) ≡ v = ap (λ (m : ℕ). drop m (hashes n ++ v)) (sym (guard-length n)) ∙ drop-append_seam (hashes n) v in
+    ap (λ (m : ℕ). starter_seen m (drop m (hashes n ++ v))) (guard-hashes n v stop) ∙ ap (starter_seen n) left
 
 -- past the quote
 abbrev closed_seen : ℕ → List ℕ → Option ℕ → Option ℕ × ℕ
@@ -156,44 +156,44 @@ bad : (n : ℕ) → 255 < n → accepted (hash_count n) ≡ None
 bad n lt = rw (lt-leb n 255 lt) refl
 
 -- its length
-whole-length : (n : ℕ) (w : List ℕ) → n + suc (suc (length w) + n) ≡ length (guard n ++ (34 ∷ w ++ 34 ∷ guard n))
-whole-length n w = omega (arith, length-append (guard n) (34 ∷ w ++ 34 ∷ guard n), length-append w (34 ∷ guard n), guard-length n)
+whole-length : (n : ℕ) (w : List ℕ) → n + suc (suc (length w) + n) ≡ length (hashes n ++ (34 ∷ w ++ 34 ∷ hashes n))
+whole-length n w = omega (arith, length-append (hashes n) (34 ∷ w ++ 34 ∷ hashes n), length-append w (34 ∷ hashes n), guard-length n)
 
 -- a closed one, before what follows it
-pub whole-text : (n : ℕ) (w next : List ℕ) → (guard n ++ (34 ∷ w ++ 34 ∷ guard n)) ++ next ≡ guard n ++ (34 ∷ w ++ (34 ∷ guard n ++ next))
-whole-text n w next = append_assoc (guard n) (34 ∷ w ++ 34 ∷ guard n) next ∙ ap (λ (xs : List ℕ). guard n ++ 34 ∷ xs) (append_assoc w (34 ∷ guard n) next)
+pub whole-text : (n : ℕ) (w next : List ℕ) → (hashes n ++ (34 ∷ w ++ 34 ∷ hashes n)) ++ next ≡ hashes n ++ (34 ∷ w ++ (34 ∷ hashes n ++ next))
+whole-text n w next = append_assoc (hashes n) (34 ∷ w ++ 34 ∷ hashes n) next ∙ ap (λ (xs : List ℕ). hashes n ++ 34 ∷ xs) (append_assoc w (34 ∷ hashes n) next)
 
-closed-seen : (n : ℕ) (w next : List ℕ) (o : Option ℕ) → Lacks n w → accepted (hash_count n) ≡ o → raw_seen ((guard n ++ (34 ∷ w ++ 34 ∷ guard n)) ++ next) ≡ (o, length (guard n ++ (34 ∷ w ++ 34 ∷ guard n)))
+closed-seen : (n : ℕ) (w next : List ℕ) (o : Option ℕ) → NoQuoteWith n w → accepted (hash_count n) ≡ o → raw_seen ((hashes n ++ (34 ∷ w ++ 34 ∷ hashes n)) ++ next) ≡ (o, length (hashes n ++ (34 ∷ w ++ 34 ∷ hashes n)))
 closed-seen n w next o lacks count =
     ap raw_seen (whole-text n w next)
-    ∙ (starts n (34 ∷ (w ++ (34 ∷ guard n ++ next))) refl
-    ∙ (quote-seen n (w ++ (34 ∷ guard n ++ next))
-    ∙ (ap (closed_seen n (w ++ (34 ∷ guard n ++ next))) (close-read n w next lacks) ∙ pair _ _ _ _ count (whole-length n w))))
+    ∙ (starts n (34 ∷ (w ++ (34 ∷ hashes n ++ next))) refl
+    ∙ (quote-seen n (w ++ (34 ∷ hashes n ++ next))
+    ∙ (ap (closed_seen n (w ++ (34 ∷ hashes n ++ next))) (close-read n w next lacks) ∙ pair _ _ _ _ count (whole-length n w))))
 
-unclosed-seen : (n : ℕ) (w : List ℕ) → Lacks n w → raw_seen (guard n ++ 34 ∷ w) ≡ (None, length (guard n ++ 34 ∷ w))
+unclosed-seen : (n : ℕ) (w : List ℕ) → NoQuoteWith n w → raw_seen (hashes n ++ 34 ∷ w) ≡ (None, length (hashes n ++ 34 ∷ w))
 unclosed-seen n w lacks =
     starts n (34 ∷ w) refl
     ∙ (quote-seen n w
-    ∙ (ap (closed_seen n w) (unclosed-read n w lacks) ∙ pair _ _ _ _ refl (omega (arith, length-append (guard n) (34 ∷ w), guard-length n))))
+    ∙ (ap (closed_seen n w) (unclosed-read n w lacks) ∙ pair _ _ _ _ refl (omega (arith, length-append (hashes n) (34 ∷ w), guard-length n))))
 
-no_quote-seen : (n c : ℕ) (next : List ℕ) → is_among (codes "\"#") c ≡ false → raw_seen ((guard n ++ c ∷ []) ++ next) ≡ (None, length (guard n ++ c ∷ []))
+no_quote-seen : (n c : ℕ) (next : List ℕ) → is_among (codes "\"#") c ≡ false → raw_seen ((hashes n ++ c ∷ []) ++ next) ≡ (None, length (hashes n ++ c ∷ []))
 no_quote-seen n c next out =
     let parts = or_parts (c == 34) _ out in
     let no_hash : is_hash c ≡ false = (or_parts (c == 35) false parts.1).0 in
     let read : raw_starter 0 n (c ∷ next) ≡ (Err (InvalidStarter c), 1) = rw parts.0 refl in
-    ap raw_seen (append_assoc (guard n) (c ∷ []) next)
+    ap raw_seen (append_assoc (hashes n) (c ∷ []) next)
     ∙ (starts n (c ∷ next) no_hash
-    ∙ (ap (λ (r : Result ℕ RawStrError × ℕ). let q : Seen = (accepted r.0, n + r.1) in q) read ∙ pair _ _ _ _ refl (omega (arith, length-append (guard n) (c ∷ []), guard-length n))))
+    ∙ (ap (λ (r : Result ℕ RawStrError × ℕ). let q : Seen = (accepted r.0, n + r.1) in q) read ∙ pair _ _ _ _ refl (omega (arith, length-append (hashes n) (c ∷ []), guard-length n))))
 
-no_more-seen : (n : ℕ) → raw_seen (guard n) ≡ (None, length (guard n))
-no_more-seen n = ap raw_seen (sym (append-nil (guard n))) ∙ (starts n [] refl ∙ pair _ _ _ _ refl (omega (arith, guard-length n)))
+no_more-seen : (n : ℕ) → raw_seen (hashes n) ≡ (None, length (hashes n))
+no_more-seen n = ap raw_seen (sym (append-nil (hashes n))) ∙ (starts n [] refl ∙ pair _ _ _ _ refl (omega (arith, guard-length n)))
 
 pub raw-read : {next : List ℕ} {o : Option ℕ} {w : List ℕ} → IsRaw next o w → raw_seen (w ++ next) ≡ (o, length w)
-raw-read {next} (the.closed n w le lacks) = closed-seen n w next (Some n) lacks (good n le)
-raw-read {next} (the.too_many n w lt lacks) = closed-seen n w next None lacks (bad n lt)
-raw-read {next} (the.unclosed n w none lacks) = ap (λ (xs : List ℕ). raw_seen ((guard n ++ 34 ∷ w) ++ xs)) none ∙ (ap raw_seen (append-nil (guard n ++ 34 ∷ w)) ∙ unclosed-seen n w lacks)
-raw-read {next} (the.no_quote n c out) = no_quote-seen (suc n) c next out
-raw-read {next} (the.no_more n none) = ap (λ (xs : List ℕ). raw_seen (guard (suc n) ++ xs)) none ∙ (ap raw_seen (append-nil (guard (suc n))) ∙ no_more-seen (suc n))
+raw-read {next} (lit.closed n w le lacks) = closed-seen n w next (Some n) lacks (good n le)
+raw-read {next} (lit.too_many n w lt lacks) = closed-seen n w next None lacks (bad n lt)
+raw-read {next} (lit.unclosed n w none lacks) = ap (λ (xs : List ℕ). raw_seen ((hashes n ++ 34 ∷ w) ++ xs)) none ∙ (ap raw_seen (append-nil (hashes n ++ 34 ∷ w)) ∙ unclosed-seen n w lacks)
+raw-read {next} (lit.no_quote n c out) = no_quote-seen (suc n) c next out
+raw-read {next} (lit.no_more n none) = ap (λ (xs : List ℕ). raw_seen (hashes (suc n) ++ xs)) none ∙ (ap raw_seen (append-nil (hashes (suc n))) ∙ no_more-seen (suc n))
 
 -- ---- and what is read is one of these
 
@@ -204,41 +204,41 @@ IsRead s = IsRaw (drop (raw_seen s).1 s) (raw_seen s).0 (take (raw_seen s).1 s)
 pub record Guarded (s : List ℕ) : Type 0 where
   pub count : ℕ
   pub left : List ℕ
-  pub whole : guard count ++ left ≡ s
-  pub stops : Stops is_hash left
+  pub whole : hashes count ++ left ≡ s
+  pub stops : NextIsNot is_hash left
 
 pub guarded : (s : List ℕ) → Guarded s
-guarded s = record { count = hashes s; left = drop (hashes s) s; whole = sym (split-hashes (hashes s) s (omega arith)); stops = run-stops is_hash s }
+guarded s = record { count = hash_run s; left = drop (hash_run s) s; whole = sym (split-hashes (hash_run s) s (omega arith)); stops = run-stops is_hash s }
 
-past-quote : (n : ℕ) (u : List ℕ) {o : Option ℕ} → Closing n u o → IsRead (guard n ++ 34 ∷ u)
+past-quote : (n : ℕ) (u : List ℕ) {o : Option ℕ} → Closing n u o → IsRead (hashes n ++ 34 ∷ u)
 past-quote n u (found w z lacks whole) = by_count (nat_le n 255) refl
   where
-    text : (guard n ++ (34 ∷ w ++ 34 ∷ guard n)) ++ z ≡ guard n ++ 34 ∷ u
-    text = whole-text n w z ∙ ap (λ (xs : List ℕ). guard n ++ 34 ∷ xs) whole
+    text : (hashes n ++ (34 ∷ w ++ 34 ∷ hashes n)) ++ z ≡ hashes n ++ 34 ∷ u
+    text = whole-text n w z ∙ ap (λ (xs : List ℕ). hashes n ++ 34 ∷ xs) whole
 
-    seen : (o : Option ℕ) → accepted (hash_count n) ≡ o → raw_seen (guard n ++ 34 ∷ u) ≡ (o, length (guard n ++ (34 ∷ w ++ 34 ∷ guard n)))
+    seen : (o : Option ℕ) → accepted (hash_count n) ≡ o → raw_seen (hashes n ++ 34 ∷ u) ≡ (o, length (hashes n ++ (34 ∷ w ++ 34 ∷ hashes n)))
     seen o e = ap raw_seen (sym text) ∙ closed-seen n w z o lacks e
 
-    by_count : (b : Bool) → nat_le n 255 ≡ b → IsRead (guard n ++ 34 ∷ u)
-    by_count true e = let le : n ≤ 255 = leb-true n 255 e in parted IsRaw (guard n ++ (34 ∷ w ++ 34 ∷ guard n)) z (guard n ++ 34 ∷ u) (Some n) _ text (seen (Some n) (good n le)) (the.closed n w le lacks)
-    by_count false e = let lt : 255 < n = leb-false n 255 e in parted IsRaw (guard n ++ (34 ∷ w ++ 34 ∷ guard n)) z (guard n ++ 34 ∷ u) None _ text (seen None (bad n lt)) (the.too_many n w lt lacks)
-past-quote n u (lost lacks) = parted IsRaw (guard n ++ 34 ∷ u) [] (guard n ++ 34 ∷ u) None _ (append-nil (guard n ++ 34 ∷ u)) (unclosed-seen n u lacks) (the.unclosed n u refl lacks)
+    by_count : (b : Bool) → nat_le n 255 ≡ b → IsRead (hashes n ++ 34 ∷ u)
+    by_count true e = let le : n ≤ 255 = leb-true n 255 e in parted IsRaw (hashes n ++ (34 ∷ w ++ 34 ∷ hashes n)) z (hashes n ++ 34 ∷ u) (Some n) _ text (seen (Some n) (good n le)) (lit.closed n w le lacks)
+    by_count false e = let lt : 255 < n = leb-false n 255 e in parted IsRaw (hashes n ++ (34 ∷ w ++ 34 ∷ hashes n)) z (hashes n ++ 34 ∷ u) None _ text (seen None (bad n lt)) (lit.too_many n w lt lacks)
+past-quote n u (lost lacks) = parted IsRaw (hashes n ++ 34 ∷ u) [] (hashes n ++ 34 ∷ u) None _ (append-nil (hashes n ++ 34 ∷ u)) (unclosed-seen n u lacks) (lit.unclosed n u refl lacks)
 
-past-guard : (n : ℕ) (v : List ℕ) → Stops is_hash v → Goes is_raw_mark (guard n ++ v) → IsRead (guard n ++ v)
+past-guard : (n : ℕ) (v : List ℕ) → NextIsNot is_hash v → NextIs is_raw_mark (hashes n ++ v) → IsRead (hashes n ++ v)
 past-guard zero [] stop mark = absurd (true≢false (sym mark))
-past-guard (suc n) [] stop mark = subst IsRead (sym (append-nil (guard (suc n)))) (parted IsRaw (guard (suc n)) [] (guard (suc n)) None _ (append-nil (guard (suc n))) (no_more-seen (suc n)) (the.no_more n refl))
+past-guard (suc n) [] stop mark = subst IsRead (sym (append-nil (hashes (suc n)))) (parted IsRaw (hashes (suc n)) [] (hashes (suc n)) None _ (append-nil (hashes (suc n))) (no_more-seen (suc n)) (lit.no_more n refl))
 past-guard n (c ∷ u) stop mark = by_quote (c == 34) refl
   where
-    not_quote : (n : ℕ) → (c == 34) ≡ false → Goes is_raw_mark (guard n ++ c ∷ u) → IsRead (guard n ++ c ∷ u)
+    not_quote : (n : ℕ) → (c == 34) ≡ false → NextIs is_raw_mark (hashes n ++ c ∷ u) → IsRead (hashes n ++ c ∷ u)
     not_quote zero e mark = absurd (either-way (is_raw_mark c) mark (or_from (c == 35) _ stop (or_from (c == 34) false e refl)))
     not_quote (suc n) e mark =
         let out : is_among (codes "\"#") c ≡ false = or_from (c == 34) _ e (or_from (c == 35) false stop refl) in
-        parted IsRaw (guard (suc n) ++ c ∷ []) u (guard (suc n) ++ c ∷ u) None _ (append_assoc (guard (suc n)) (c ∷ []) u)
-        (ap raw_seen (sym (append_assoc (guard (suc n)) (c ∷ []) u)) ∙ no_quote-seen (suc n) c u out) (the.no_quote n c out)
+        parted IsRaw (hashes (suc n) ++ c ∷ []) u (hashes (suc n) ++ c ∷ u) None _ (append_assoc (hashes (suc n)) (c ∷ []) u)
+        (ap raw_seen (sym (append_assoc (hashes (suc n)) (c ∷ []) u)) ∙ no_quote-seen (suc n) c u out) (lit.no_quote n c out)
 
-    by_quote : (b : Bool) → (c == 34) ≡ b → IsRead (guard n ++ c ∷ u)
-    by_quote true e = subst (λ (x : ℕ). IsRead (guard n ++ x ∷ u)) (sym (eqb-true c 34 e)) (past-quote n u (closing n u))
+    by_quote : (b : Bool) → (c == 34) ≡ b → IsRead (hashes n ++ c ∷ u)
+    by_quote true e = subst (λ (x : ℕ). IsRead (hashes n ++ x ∷ u)) (sym (eqb-true c 34 e)) (past-quote n u (closing n u))
     by_quote false e = not_quote n e mark
 
-pub raw-sound : (s : List ℕ) → Goes is_raw_mark s → IsRaw (drop (raw_seen s).1 s) (raw_seen s).0 (take (raw_seen s).1 s)
-raw-sound s mark = let g = guarded s in subst IsRead g.whole (past-guard g.count g.left g.stops (subst (λ (xs : List ℕ). Goes is_raw_mark xs) (sym g.whole) mark))
+pub raw-sound : (s : List ℕ) → NextIs is_raw_mark s → IsRaw (drop (raw_seen s).1 s) (raw_seen s).0 (take (raw_seen s).1 s)
+raw-sound s mark = let g = guarded s in subst IsRead g.whole (past-guard g.count g.left g.stops (subst (λ (xs : List ℕ). NextIs is_raw_mark xs) (sym g.whole) mark))

@@ -1,25 +1,36 @@
 -- How far a token of each kind looks can be read off the conditions of the language on what follows.
-use Rattle.std.proofs.Common.{◌≡◌, ℕ, ◌+◌, ◌<◌, Bool, true, false, List, [], ◌∷◌, ◌++◌, length, take, drop, codes, refl, sym, ap, ◌∙◌, subst, arith, take-add, Option}
+use Rattle.std.proofs.Common.{◌≡◌, ℕ, suc, ◌+◌, ◌-◌, ◌<◌, ◌==◌, ◌&&◌, if◌then◌else◌, get_or, not, Bool, true, false, true≢false, List, [], ◌∷◌, ◌++◌, length, take, drop, codes, refl, sym, ap, ◌∙◌, subst, arith, take-add, Option, Some, None}
 use lib.Utf8.{encode}
 use Rattle.std.proofs.Math.Seq.{take-append_seam, drop-append_seam}
+use Rattle.std.proofs.lemmas.Bool.{and_parts, or_parts, or_from, eqb-true, not-true}
+use Rattle.std.proofs.lemmas.List.{append-nil}
+use Rattle.std.specs.List.{list_all, list_any}
+use Rattle.std.specs.Option.{is_some}
+use Rattle.rustc_lexer.specs.Classes.{is_id_start, is_id_continue, is_ident}
 use Rattle.unicode_ident.proofs.Computing.{unicode_ident}
 use Rattle.rustc_lexer.specs.declared.token.Base.{Base}
 use Rattle.rustc_lexer.specs.declared.token.Base.TheVariants.{Decimal}
 use Rattle.rustc_lexer.specs.declared.token.LiteralKind.{LiteralKind}
-use Rattle.rustc_lexer.specs.declared.token.LiteralKind.TheVariants.{Int, Float, Char, Byte}
+use Rattle.rustc_lexer.specs.declared.token.LiteralKind.TheVariants.{Int, Float, Char, Byte, Str, ByteStr, CStr, RawStr, RawByteStr, RawCStr}
 use Rattle.rustc_lexer.specs.declared.token.TokenKind.{TokenKind}
-use Rattle.rustc_lexer.specs.declared.token.TokenKind.TheVariants.{Literal, UnknownPrefix, UnknownPrefixLifetime}
+use Rattle.rustc_lexer.specs.declared.token.TokenKind.TheVariants.{LineComment, BlockComment, Whitespace, Ident, InvalidIdent, RawIdent, ForcedKeywordIdent, RawLifetime, Lifetime, Slash, Pound, Eof, Literal, UnknownPrefix, UnknownPrefixLifetime}
 use Rattle.rustc_lexer.specs.Language as the
-use Rattle.rustc_lexer.specs.Language.{IsDoubleQuoted, SingleTo, QuotedTo, IsSingleQuoted, IsRaw, IsLiteralBefore, IsSuffixBefore, IsTokenBefore}
-use Rattle.rustc_lexer.specs.LanguageReach.{literal_reach, reach, LooksNoFurther, Needs, NeedsTwo}
+use Rattle.rustc_lexer.specs.LiteralGrammar as lit
+use Rattle.rustc_lexer.specs.LiteralGrammar.{IsDoubleQuoted, SingleTo, IsSingleQuoted, IsRaw, IsLiteralBefore, IsSuffixBefore}
+use Rattle.rustc_lexer.specs.Language.{ends_prefix, known_prefixes, begins_prefixed, IsTokenBefore}
+use Rattle.rustc_lexer.specs.LanguageReach.{is_only, is_long_char, literal_reach, reach, is_refused, LooksNoFurther, RefusedStands, Needs, NoneLooksLess}
 use Rattle.rustc_lexer.specs.means.Lexeme.{past_first, lexeme}
 use Rattle.rustc_lexer.specs.Emoji.{is_emoji, emoji_ranges}
 use Rattle.rustc_lexer.specs.means.Number.{number_kind, fraction}
 use Rattle.rustc_lexer.specs.NumberGrammar as number
 use Rattle.rustc_lexer.specs.NumberGrammar.{IsExponent, IsTailBefore, IsNumberBefore}
 use Rattle.rustc_lexer.specs.means.Scan.{begins, next_is}
-use Rattle.rustc_lexer.specs.Spans.{Goes, Stops}
+use Rattle.rustc_lexer.specs.Spans.{AreAll, NextIs, NextIsNot, is_word_continue, is_name_start, begins_ident_after}
 use Rattle.rustc_lexer.specs.laws.Language.{language, token-read}
+use Rattle.rustc_lexer.specs.Symbols.{symbols, kind_among}
+use Rattle.rustc_lexer.specs.laws.Choice.{by_test}
+use Rattle.rustc_lexer.specs.laws.LanguageRuns.{either-way, word-no_mark}
+use Rattle.rustc_lexer.specs.laws.LanguageWords.{continue-word}
 use Rattle.rustc_lexer.specs.laws.Lookahead.{lexeme_local}
 use Rattle.rustc_lexer.specs.laws.Reach.{told_same, next_is-told}
 
@@ -32,10 +43,10 @@ ends s (c ∷ u) e none = absurd (let no : 1 ≡ 0 = ap length e ∙ ap (λ (x :
 same : (p : ℕ → Bool) (s u : List ℕ) → take 1 u ≡ take 1 s → next_is p u ≡ next_is p s
 same p s u e = told_same 1 1 (next_is p) u s (next_is-told p) (omega arith) e
 
-stops : (p : ℕ → Bool) (s u : List ℕ) → take 1 u ≡ take 1 s → Stops p s → Stops p u
+stops : (p : ℕ → Bool) (s u : List ℕ) → take 1 u ≡ take 1 s → NextIsNot p s → NextIsNot p u
 stops p s u e stop = same p s u e ∙ stop
 
-goes : (p : ℕ → Bool) (s u : List ℕ) → take 1 u ≡ take 1 s → Goes p s → Goes p u
+goes : (p : ℕ → Bool) (s u : List ℕ) → take 1 u ≡ take 1 s → NextIs p s → NextIs p u
 goes p s u e go = same p s u e ∙ go
 
 past : (w s u : List ℕ) → take 1 u ≡ take 1 s → take 1 (w ++ u) ≡ take 1 (w ++ s)
@@ -57,25 +68,29 @@ by_two next other w kind p e =
 
 -- ---- literals
 
-exponent-two : {base : Base} {kind : LiteralKind} {w : List ℕ} → IsExponent base kind w → literal_reach kind ≡ 2
-exponent-two (number.signed e g ds) = refl
-exponent-two (number.unsigned e ds) = refl
+-- how far a number looks; and it is no raw string
+abbrev IsNumberKind : LiteralKind → List ℕ → Type 0
+IsNumberKind kind v = (literal_reach kind v ≡ 2) × (is_refused kind ≡ false)
 
-tail-two : {next : List ℕ} {base : Base} {kind : LiteralKind} {w : List ℕ} → IsTailBefore next base kind w → literal_reach kind ≡ 2
-tail-two number.nothing = refl
-tail-two (number.dot e) = refl
-tail-two (number.of_fraction d ds) = refl
-tail-two (number.of_exponent e is) = exponent-two is
-tail-two (number.of_both ds d all is) = exponent-two is
+exponent-two : {base : Base} {kind : LiteralKind} {w : List ℕ} → IsExponent base kind w → (v : List ℕ) → IsNumberKind kind v
+exponent-two (number.signed e g ds) v = (refl, refl)
+exponent-two (number.unsigned e ds) v = (refl, refl)
 
-number-two : {next : List ℕ} {kind : LiteralKind} {w : List ℕ} → IsNumberBefore next kind w → literal_reach kind ≡ 2
-number-two (number.of_prefix is) = refl
-number-two (number.of_parts is tail) = tail-two tail
+tail-two : {next : List ℕ} {base : Base} {kind : LiteralKind} {w : List ℕ} → IsTailBefore next base kind w → (v : List ℕ) → IsNumberKind kind v
+tail-two number.nothing v = (refl, refl)
+tail-two (number.dot e) v = (refl, refl)
+tail-two (number.of_fraction d ds) v = (refl, refl)
+tail-two (number.of_exponent e is) v = exponent-two is v
+tail-two (number.of_both ds d all is) v = exponent-two is v
+
+number-two : {next : List ℕ} {kind : LiteralKind} {w : List ℕ} → IsNumberBefore next kind w → (v : List ℕ) → IsNumberKind kind v
+number-two (number.of_prefix is) v = (refl, refl)
+number-two (number.of_parts is tail) v = tail-two tail v
 
 double-alike : {next : List ℕ} {t : Bool} {w : List ℕ} → IsDoubleQuoted next t w → (other : List ℕ) → take 1 other ≡ take 1 next → IsDoubleQuoted other t w
-double-alike {next} (the.closed q) other e = the.closed q
-double-alike {next} (the.unclosed none q) other e = the.unclosed (ends next other e none) q
-double-alike {next} (the.unclosed_escape none q) other e = the.unclosed_escape (ends next other e none) q
+double-alike {next} (lit.closed q) other e = lit.closed q
+double-alike {next} (lit.unclosed none q) other e = lit.unclosed (ends next other e none) q
+double-alike {next} (lit.unclosed_escape none q) other e = lit.unclosed_escape (ends next other e none) q
 
 -- two quotes that begin a text of which the first character is told
 lone-alike : (w s u : List ℕ) → take 1 u ≡ take 1 s → SingleTo (codes "'") w → begins (codes "''") (w ++ s) ≡ false → begins (codes "''") (w ++ u) ≡ false
@@ -88,99 +103,329 @@ lone-alike (c ∷ d ∷ w) s u e q f = f
 
 -- past a quote, where one closes the text
 single-alike : {next : List ℕ} {t : Bool} {w : List ℕ} → IsSingleQuoted next t w → t ≡ true → (other : List ℕ) → take 1 other ≡ take 1 next → IsSingleQuoted other t w
-single-alike {next} (the.one out) t other e = the.one out
-single-alike {next} (the.closed {w} q f) t other e = the.closed q (lone-alike w next other e q f)
-single-alike {next} (the.closed_line q) t other e = the.closed_line q
-single-alike {next} (the.at_slash q a f) t other e = absurd (cc t)
-single-alike {next} (the.at_newline q a f) t other e = absurd (cc t)
-single-alike {next} (the.unclosed none q) t other e = absurd (cc t)
-single-alike {next} (the.unclosed_escape none q) t other e = absurd (cc t)
+single-alike {next} (lit.one out) t other e = lit.one out
+single-alike {next} (lit.closed {w} q f) t other e = lit.closed q (lone-alike w next other e q f)
+single-alike {next} (lit.closed_line q) t other e = lit.closed_line q
+single-alike {next} (lit.at_slash q a f) t other e = absurd (cc t)
+single-alike {next} (lit.at_newline q a f) t other e = absurd (cc t)
+single-alike {next} (lit.unclosed none q) t other e = absurd (cc t)
+single-alike {next} (lit.unclosed_escape none q) t other e = absurd (cc t)
 
 raw-alike : {next : List ℕ} {o : Option ℕ} {w : List ℕ} → IsRaw next o w → (other : List ℕ) → take 1 other ≡ take 1 next → IsRaw other o w
-raw-alike {next} (the.closed n w le lacks) other e = the.closed n w le lacks
-raw-alike {next} (the.too_many n w lt lacks) other e = the.too_many n w lt lacks
-raw-alike {next} (the.unclosed n w none lacks) other e = the.unclosed n w (ends next other e none) lacks
-raw-alike {next} (the.no_quote n c out) other e = the.no_quote n c out
-raw-alike {next} (the.no_more n none) other e = the.no_more n (ends next other e none)
+raw-alike {next} (lit.closed n w le lacks) other e = lit.closed n w le lacks
+raw-alike {next} (lit.too_many n w lt lacks) other e = lit.too_many n w lt lacks
+raw-alike {next} (lit.unclosed n w none lacks) other e = lit.unclosed n w (ends next other e none) lacks
+raw-alike {next} (lit.no_quote n c out) other e = lit.no_quote n c out
+raw-alike {next} (lit.no_more n none) other e = lit.no_more n (ends next other e none)
 
-char-closed : (t : Bool) → literal_reach (Char t) ≡ 1 → t ≡ true
-char-closed true e = refl
-char-closed false e = absurd (omega (arith, e))
+char-closed : (t : Bool) (v : List ℕ) → literal_reach (Char t) v ≡ 1 → t ≡ true
+char-closed true v e = refl
+char-closed false v e = absurd (omega (arith, e))
 
-byte-closed : (t : Bool) → literal_reach (Byte t) ≡ 1 → t ≡ true
-byte-closed true e = refl
-byte-closed false e = absurd (omega (arith, e))
+byte-closed : (t : Bool) (v : List ℕ) → literal_reach (Byte t) v ≡ 1 → t ≡ true
+byte-closed true v e = refl
+byte-closed false v e = absurd (omega (arith, e))
 
-literal-alike : {next : List ℕ} {kind : LiteralKind} {takes : Bool} {w : List ℕ} → IsLiteralBefore next kind takes w → literal_reach kind ≡ 1 → (other : List ℕ) → take 1 other ≡ take 1 next → IsLiteralBefore other kind takes w
-literal-alike {next} (the.number {kind} {w} is) one other e = absurd (let two = number-two is.stands.is_number in omega (arith, one, two))
-literal-alike {next} (the.str q) one other e = the.str (double-alike q other e)
-literal-alike {next} (the.byte_str q) one other e = the.byte_str (double-alike q other e)
-literal-alike {next} (the.c_str q) one other e = the.c_str (double-alike q other e)
-literal-alike {next} (the.byte_char {t} q) one other e = the.byte_char (single-alike q (byte-closed t one) other e)
-literal-alike {next} (the.char_of_one out) one other e = the.char_of_one out
-literal-alike {next} (the.char {t} q stop) one other e = the.char (single-alike q (char-closed t one) other e) stop
-literal-alike {next} (the.char_of_name w start all) one other e = the.char_of_name w start all
-literal-alike {next} (the.raw_str q free) one other e = the.raw_str (raw-alike q other e) free
-literal-alike {next} (the.raw_byte_str q) one other e = the.raw_byte_str (raw-alike q other e)
-literal-alike {next} (the.raw_c_str q) one other e = the.raw_c_str (raw-alike q other e)
+literal-alike : {next : List ℕ} {kind : LiteralKind} {takes : Bool} {w : List ℕ} → IsLiteralBefore next kind takes w → (v : List ℕ) → literal_reach kind v ≡ 1 → (other : List ℕ) → take 1 other ≡ take 1 next → IsLiteralBefore other kind takes w
+literal-alike {next} (lit.number {kind} {w} is) v one other e = absurd (let two = (number-two is.stands.is_number v).0 in omega (arith, one, two))
+literal-alike {next} (lit.str q) v one other e = lit.str (double-alike q other e)
+literal-alike {next} (lit.byte_str q) v one other e = lit.byte_str (double-alike q other e)
+literal-alike {next} (lit.c_str q) v one other e = lit.c_str (double-alike q other e)
+literal-alike {next} (lit.byte_char {t} q) v one other e = lit.byte_char (single-alike q (byte-closed t v one) other e)
+literal-alike {next} (lit.char_of_one out) v one other e = lit.char_of_one out
+literal-alike {next} (lit.char {t} q stop) v one other e = lit.char (single-alike q (char-closed t v one) other e) stop
+literal-alike {next} (lit.char_of_name w start all) v one other e = lit.char_of_name w start all
+literal-alike {next} (lit.raw_str q free) v one other e = lit.raw_str (raw-alike q other e) free
+literal-alike {next} (lit.raw_byte_str q) v one other e = lit.raw_byte_str (raw-alike q other e)
+literal-alike {next} (lit.raw_c_str q) v one other e = lit.raw_c_str (raw-alike q other e)
 
 suffix-alike : {next w : List ℕ} → IsSuffixBefore next w → (other : List ℕ) → take 1 other ≡ take 1 next → IsSuffixBefore other w
-suffix-alike {next} (the.none stop) other e = the.none (stops _ next other e stop)
-suffix-alike {next} (the.some is stop) other e = the.some is (stops _ next other e stop)
+suffix-alike {next} (lit.none stop) other e = lit.none (stops _ next other e stop)
+suffix-alike {next} (lit.some is stop) other e = lit.some is (stops _ next other e stop)
 
--- by how far the kind looks
-by_kind : {A : Type 0} (kind : LiteralKind) → (literal_reach kind ≡ 1 → A) → (literal_reach kind ≡ 2 → A) → A
-by_kind (Int base empty) one two = two refl
-by_kind (Float base empty) one two = two refl
-by_kind (Char false) one two = two refl
-by_kind (Byte false) one two = two refl
-by_kind kind one two = one refl
+-- a character behind a quote that one closes, and what follows
+closed-first : {next : List ℕ} {t : Bool} {w : List ℕ} → IsSingleQuoted next t w → t ≡ true → NextIsNot is_name_start w → (s : List ℕ) → NextIsNot is_name_start (w ++ s)
+closed-first (lit.one out) t stop s = stop
+closed-first (lit.closed q f) t stop s = by_end q stop
+  where
+    by_end : {w : List ℕ} → SingleTo (codes "'") w → NextIsNot is_name_start w → NextIsNot is_name_start (w ++ s)
+    by_end lit.ends stop = stop
+    by_end (lit.plain out q) stop = stop
+    by_end (lit.escape q) stop = stop
+closed-first (lit.closed_line q) t stop s = by_end q stop
+  where
+    by_end : {w : List ℕ} → SingleTo (codes "\n'") w → NextIsNot is_name_start w → NextIsNot is_name_start (w ++ s)
+    by_end lit.ends stop = stop
+    by_end (lit.plain out q) stop = stop
+    by_end (lit.escape q) stop = stop
+closed-first (lit.at_slash q a f) t stop s = absurd (cc t)
+closed-first (lit.at_newline q a f) t stop s = absurd (cc t)
+closed-first (lit.unclosed none q) t stop s = absurd (cc t)
+closed-first (lit.unclosed_escape none q) t stop s = absurd (cc t)
+
+and-false : (b : Bool) → (b && false) ≡ false
+and-false true = refl
+and-false false = refl
+
+-- what looks at nothing
+literal-none : {next : List ℕ} {kind : LiteralKind} {takes : Bool} {w : List ℕ} → IsLiteralBefore next kind takes w → (s : List ℕ) → literal_reach kind (w ++ s) ≡ 0 → (takes ≡ false) × ((other : List ℕ) → IsLiteralBefore other kind takes w)
+literal-none (lit.number {kind} {w} is) s e = absurd (let two = (number-two is.stands.is_number (w ++ s)).0 in omega (arith, two, e))
+literal-none (lit.str q) s e = absurd (omega (arith, e))
+literal-none (lit.byte_str q) s e = absurd (omega (arith, e))
+literal-none (lit.c_str q) s e = absurd (omega (arith, e))
+literal-none (lit.byte_char {t} q) s e = absurd (by_closed t _ e)
+  where
+    by_closed : (t : Bool) (v : List ℕ) → literal_reach (Byte t) v ≡ 0 → ⊥
+    by_closed true v e = absurd (omega (arith, e))
+    by_closed false v e = absurd (omega (arith, e))
+literal-none (lit.char_of_one {c} out) s e = absurd (let long : is_long_char (39 ∷ c ∷ 39 ∷ s) ≡ false = and-false (is_name_start c) in let one : literal_reach (Char true) (39 ∷ c ∷ 39 ∷ s) ≡ 1 = rw long refl in omega (arith, e, one))
+literal-none {next} (lit.char {t} {w} q stop) s e = absurd (by_closed t q e)
+  where
+    by_closed : (t : Bool) → IsSingleQuoted next t w → literal_reach (Char t) (39 ∷ w ++ s) ≡ 0 → ⊥
+    by_closed true q e = absurd (let first : next_is is_name_start (w ++ s) ≡ false = closed-first q refl stop s in let one : literal_reach (Char true) (39 ∷ w ++ s) ≡ 1 = rw first refl in omega (arith, e, one))
+    by_closed false q e = absurd (omega (arith, e))
+literal-none (lit.char_of_name w start all) s e = (refl, λ other. lit.char_of_name w start all)
+literal-none (lit.raw_str q free) s e = absurd (omega (arith, e))
+literal-none (lit.raw_byte_str q) s e = absurd (omega (arith, e))
+literal-none (lit.raw_c_str q) s e = absurd (omega (arith, e))
+
+literal-end : {next : List ℕ} {kind : LiteralKind} {w : List ℕ} → IsLiteralBefore next kind false w → literal_reach kind w ≡ 0 → (other : List ℕ) → IsLiteralBefore other kind false w
+literal-end {next} {kind} {w} is none other = (literal-none is [] (subst (λ (v : List ℕ). literal_reach kind v ≡ 0) (sym (append-nil w)) none)).1 other
+
+abbrev long_reach : Bool → ℕ
+long_reach b = if b then 0 else 1
+
+-- by how far the literal looks
+by_reach : {A : Type 0} (kind : LiteralKind) (w : List ℕ) → (literal_reach kind w ≡ 0 → A) → (literal_reach kind w ≡ 1 → A) → (literal_reach kind w ≡ 2 → A) → A
+by_reach (Int base empty) w none one two = two refl
+by_reach (Float base empty) w none one two = two refl
+by_reach (Char false) w none one two = two refl
+by_reach (Byte false) w none one two = two refl
+by_reach {A} (Char true) w none one two = by_long (is_long_char w) none one
+  where
+    by_long : (b : Bool) → (long_reach b ≡ 0 → A) → (long_reach b ≡ 1 → A) → A
+    by_long true none one = none refl
+    by_long false none one = one refl
+by_reach kind w none one two = one refl
+
+-- ---- prefixes
+
+-- in a word of two characters or more, or of another one, no hash stands behind this character
+no-hash : (d c : ℕ) (w s : List ℕ) → AreAll is_word_continue w → is_only d (c ∷ w) ≡ false → begins_ident_after (d ∷ 35 ∷ []) (c ∷ w ++ s) ≡ false
+no-hash d c [] s all e = rw e refl
+no-hash d c (x ∷ w) s all e =
+    let none : (x == 35) ≡ false = (or_parts (x == 35) _ (word-no_mark x (and_parts (is_word_continue x) (list_all is_word_continue w) all).0)).0 in
+    by_first (c == d) none
+  where
+    by_first : (b : Bool) → (x == 35) ≡ false → ((b && ((x == 35) && true)) && next_is is_id_start (w ++ s)) ≡ false
+    by_first true e = rw e refl
+    by_first false e = refl
+
+-- a known prefix ends with its mark, and is told by that: letters, and then any character of a mark
+mark-told : (letters w : List ℕ) (m c : ℕ) (u v : List ℕ) → list_all is_word_continue letters ≡ true → ends_prefix c ≡ true → begins (letters ++ (m ∷ [])) (w ++ c ∷ v) ≡ begins (letters ++ (m ∷ [])) (w ++ c ∷ u)
+mark-told [] [] m c u v all mark = refl
+mark-told [] (x ∷ w) m c u v all mark = refl
+mark-told (l ∷ ls) [] m c u v all mark = by_letter (c == l) refl
+  where
+    by_letter : (b : Bool) → (c == l) ≡ b → (b && begins (ls ++ (m ∷ [])) v) ≡ (b && begins (ls ++ (m ∷ [])) u)
+    by_letter true e = either-way (ends_prefix c) mark (ap ends_prefix (eqb-true c l e) ∙ word-no_mark l (and_parts (is_word_continue l) (list_all is_word_continue ls) all).0)
+    by_letter false e = refl
+mark-told (l ∷ ls) (x ∷ w) m c u v all mark = ap (λ (b : Bool). (x == l) && b) (mark-told ls w m c u v (and_parts (is_word_continue l) (list_all is_word_continue ls) all).1 mark)
+
+known-told : (w : List ℕ) (c : ℕ) (u v : List ℕ) → ends_prefix c ≡ true → list_any (λ prefix. begins prefix (w ++ c ∷ v)) known_prefixes ≡ list_any (λ prefix. begins prefix (w ++ c ∷ u)) known_prefixes
+unfolding unicode_ident
+known-told w c u v mark = rw (
+  mark-told (codes "r") w 34 c u v refl mark,
+  mark-told (codes "r") w 35 c u v refl mark,
+  mark-told (codes "b") w 39 c u v refl mark,
+  mark-told (codes "b") w 34 c u v refl mark,
+  mark-told (codes "br") w 34 c u v refl mark,
+  mark-told (codes "br") w 35 c u v refl mark,
+  mark-told (codes "c") w 34 c u v refl mark,
+  mark-told (codes "cr") w 34 c u v refl mark,
+  mark-told (codes "cr") w 35 c u v refl mark,
+) refl
+
+prefixed-alike : (w next other : List ℕ) → is_ident w ≡ true → is_only 107 w ≡ false → NextIs ends_prefix next → take 1 other ≡ take 1 next → begins_prefixed (w ++ next) ≡ false → begins_prefixed (w ++ other) ≡ false
+prefixed-alike [] next other is only go e free = absurd (true≢false (sym is))
+prefixed-alike (x ∷ w) [] other is only go e free = absurd (true≢false (sym go))
+prefixed-alike (x ∷ w) (c ∷ u) [] is only go e free = absurd (let no : 0 ≡ 1 = ap length e in omega (arith, no))
+prefixed-alike (x ∷ w) (c ∷ u) (d ∷ v) is only go e free =
+    let same : d ≡ c = ap (λ (s : List ℕ). get_or s 0 0) e in
+    let known : list_any (λ prefix. begins prefix (x ∷ w ++ c ∷ v)) known_prefixes ≡ false = known-told (x ∷ w) c u v go ∙ (or_parts (list_any (λ prefix. begins prefix (x ∷ w ++ c ∷ u)) known_prefixes) _ free).0 in
+    let all : AreAll is_word_continue w = continue-word w (and_parts (is_id_start x) (list_all is_id_continue w) is).1 in
+    subst (λ (y : ℕ). begins_prefixed (x ∷ w ++ y ∷ v) ≡ false) (sym same) (or_from _ _ known (no-hash 107 x w (c ∷ v) all only))
+
+-- by whether a prefix is the one that looks further
+by_only : {A : Type 0} (b : Bool) (other next : List ℕ) → take (if b then 2 else 1) other ≡ take (if b then 2 else 1) next → (b ≡ true → take 2 other ≡ take 2 next → A) → (b ≡ false → take 1 other ≡ take 1 next → A) → A
+by_only true other next e two one = two refl e
+by_only false other next e two one = one refl e
 
 -- ---- tokens
 
-token-alike : {next : List ℕ} {kind : TokenKind} {w : List ℕ} → IsTokenBefore next kind w → (other : List ℕ) → take (reach kind) other ≡ take (reach kind) next → IsTokenBefore other kind w
+token-alike : {next : List ℕ} {kind : TokenKind} {w : List ℕ} → IsTokenBefore next kind w → (other : List ℕ) → take (reach kind w) other ≡ take (reach kind w) next → IsTokenBefore other kind w
 token-alike {next} (the.end none) other e = the.end (ends next other e none)
 token-alike {next} (the.whitespace all stop) other e = the.whitespace all (stops _ next other e stop)
 token-alike {next} (the.line_comment all stop is) other e = the.line_comment all (stops _ next other e stop) is
 token-alike {next} (the.block_comment p is) other e = the.block_comment p is
 token-alike {next} (the.open_comment none never is) other e = the.open_comment (ends next other e none) never is
 token-alike {next} (the.ident is stop none) other e = the.ident is (stops _ next other e stop) (stops _ next other e none)
-token-alike {next} (the.unknown_prefix {w} is go free) other e = by_two next other w UnknownPrefix (the.unknown_prefix is go free) e
+token-alike {next} (the.unknown_prefix {w} is go free) other e = by_only (is_only 107 w) other next e
+    (λ is_k two. by_two next other w UnknownPrefix (the.unknown_prefix is go free) two)
+    (λ no_k one. the.unknown_prefix is (goes _ next other one go) (prefixed-alike w next other is no_k go one free))
 token-alike {next} (the.invalid_ident start all wrong stop) other e = the.invalid_ident start all wrong (stops _ next other e stop)
 token-alike {next} (the.raw_ident is stop) other e = the.raw_ident is (stops _ next other e stop)
 token-alike {next} (the.forced_keyword is stop) other e = the.forced_keyword is (stops _ next other e stop)
 token-alike {next} (the.lifetime start all stop quote hash) other e = the.lifetime start all (stops _ next other e stop) (stops _ next other e quote) (λ go. hash (goes _ other next (sym e) go))
-token-alike {next} (the.unknown_prefix_lifetime {c} {w} start all hash free) other e = by_two next other (39 ∷ c ∷ w) UnknownPrefixLifetime (the.unknown_prefix_lifetime start all hash free) e
+token-alike {next} (the.unknown_prefix_lifetime {c} {w} start all hash free) other e = by_only (is_only 114 (c ∷ w)) other next e
+    (λ is_r two. by_two next other (39 ∷ c ∷ w) UnknownPrefixLifetime (the.unknown_prefix_lifetime start all hash free) two)
+    (λ no_r one. the.unknown_prefix_lifetime start all (goes _ next other one hash) (no-hash 114 c w other all no_r))
 token-alike {next} (the.raw_lifetime is stop) other e = the.raw_lifetime is (stops _ next other e stop)
-token-alike {next} (the.literal {kind} {w} is) other e = by_kind kind
-    (λ one. the.literal (literal-alike is one other (subst (λ (k : ℕ). take k other ≡ take k next) one e)))
+token-alike {next} (the.literal {kind} {w} is) other e = by_reach kind w
+    (λ none. the.literal (literal-end is none other))
+    (λ one. the.literal (literal-alike is w one other (subst (λ (k : ℕ). take k other ≡ take k next) one e)))
     (λ two. by_two next other w _ (the.literal is) (subst (λ (k : ℕ). take k other ≡ take k next) two e))
-token-alike {next} (the.literal_with {kind} {w} {suffix} is suffix_is) other e = by_kind kind
-    (λ one. let near = subst (λ (k : ℕ). take k other ≡ take k next) one e in the.literal_with (literal-alike is one (suffix ++ other) (past suffix next other near)) (suffix-alike suffix_is other near))
+token-alike {next} (the.literal_with {kind} {w} {suffix} is suffix_is) other e = by_reach kind (w ++ suffix)
+    (λ none. absurd (true≢false (literal-none is suffix none).0))
+    (λ one. let near = subst (λ (k : ℕ). take k other ≡ take k next) one e in the.literal_with (literal-alike is (w ++ suffix) one (suffix ++ other) (past suffix next other near)) (suffix-alike suffix_is other near))
     (λ two. by_two next other (w ++ suffix) _ (the.literal_with is suffix_is) (subst (λ (k : ℕ). take k other ≡ take k next) two e))
 token-alike {next} (the.slash stop) other e = the.slash (stops _ next other e stop)
 token-alike {next} (the.pound stop) other e = the.pound (stops _ next other e stop)
-token-alike {next} (the.guarded is) other e = the.guarded is
+token-alike {next} (the.guarded_prefix is) other e = the.guarded_prefix is
 token-alike {next} (the.symbol is) other e = the.symbol is
+
+-- ---- what is refused, with an end of its own
+
+raw-stands : {c : ℕ} {next : List ℕ} {o : Option ℕ} {w : List ℕ} → IsRaw (c ∷ next) o w → o ≡ None → (other : List ℕ) → IsRaw other o w
+raw-stands (lit.closed n w le lacks) e other = absurd (cc e)
+raw-stands (lit.too_many n w lt lacks) e other = lit.too_many n w lt lacks
+raw-stands {c} {next} (lit.unclosed n w none lacks) e other = absurd (let no : suc (length next) ≡ 0 = ap length none in omega (arith, no))
+raw-stands (lit.no_quote n c out) e other = lit.no_quote n c out
+raw-stands {c} {next} (lit.no_more n none) e other = absurd (let no : suc (length next) ≡ 0 = ap length none in omega (arith, no))
+
+none-r : (n : Option ℕ) → is_refused (RawStr n) ≡ true → n ≡ None
+none-r None e = refl
+none-r (Some n) e = absurd (true≢false (sym e))
+
+none-br : (n : Option ℕ) → is_refused (RawByteStr n) ≡ true → n ≡ None
+none-br None e = refl
+none-br (Some n) e = absurd (true≢false (sym e))
+
+none-cr : (n : Option ℕ) → is_refused (RawCStr n) ≡ true → n ≡ None
+none-cr None e = refl
+none-cr (Some n) e = absurd (true≢false (sym e))
+
+literal-takes : {next : List ℕ} {kind : LiteralKind} {takes : Bool} {w : List ℕ} → IsLiteralBefore next kind takes w → is_refused kind ≡ true → takes ≡ false
+literal-takes (lit.number is) e = absurd (either-way _ e (number-two is.stands.is_number []).1)
+literal-takes (lit.str q) e = absurd (true≢false (sym e))
+literal-takes (lit.byte_str q) e = absurd (true≢false (sym e))
+literal-takes (lit.c_str q) e = absurd (true≢false (sym e))
+literal-takes (lit.byte_char q) e = absurd (true≢false (sym e))
+literal-takes (lit.char_of_one out) e = absurd (true≢false (sym e))
+literal-takes (lit.char q stop) e = absurd (true≢false (sym e))
+literal-takes (lit.char_of_name w start all) e = refl
+literal-takes (lit.raw_str {n} q free) e = ap is_some (none-r n e)
+literal-takes (lit.raw_byte_str {n} q) e = ap is_some (none-br n e)
+literal-takes (lit.raw_c_str {n} q) e = ap is_some (none-cr n e)
+
+literal-stands : {c : ℕ} {next : List ℕ} {kind : LiteralKind} {takes : Bool} {w : List ℕ} → IsLiteralBefore (c ∷ next) kind takes w → is_refused kind ≡ true → (other : List ℕ) → IsLiteralBefore other kind takes w
+literal-stands (lit.number is) e other = absurd (either-way _ e (number-two is.stands.is_number []).1)
+literal-stands (lit.str q) e other = absurd (true≢false (sym e))
+literal-stands (lit.byte_str q) e other = absurd (true≢false (sym e))
+literal-stands (lit.c_str q) e other = absurd (true≢false (sym e))
+literal-stands (lit.byte_char q) e other = absurd (true≢false (sym e))
+literal-stands (lit.char_of_one out) e other = absurd (true≢false (sym e))
+literal-stands (lit.char q stop) e other = absurd (true≢false (sym e))
+literal-stands (lit.char_of_name w start all) e other = lit.char_of_name w start all
+literal-stands (lit.raw_str {n} q free) e other = lit.raw_str (raw-stands q (none-r n e) other) free
+literal-stands (lit.raw_byte_str {n} q) e other = lit.raw_byte_str (raw-stands q (none-br n e) other)
+literal-stands (lit.raw_c_str {n} q) e other = lit.raw_c_str (raw-stands q (none-cr n e) other)
+
+abbrev is_refused_token : TokenKind → Bool
+is_refused_token (Literal kind suffix_start) = is_refused kind
+is_refused_token kind = false
+
+among-none : (ss : List (ℕ × TokenKind)) (c : ℕ) → list_all (λ (s : ℕ × TokenKind). not (is_refused_token s.1)) ss ≡ true → is_refused_token (kind_among ss c) ≡ false
+among-none [] c all = refl
+among-none (s ∷ ss) c all =
+    let parts = and_parts (not (is_refused_token s.1)) (list_all (λ (s : ℕ × TokenKind). not (is_refused_token s.1)) ss) all in
+    by_test (λ kind. is_refused_token kind ≡ false) (c == s.0) s.1 (kind_among ss c) (λ e. not-true _ parts.0) (λ e. among-none ss c parts.1)
+
+token-stands : {c : ℕ} {next : List ℕ} {kind : TokenKind} {w : List ℕ} → IsTokenBefore (c ∷ next) kind w → is_refused_token kind ≡ true → (other : List ℕ) → IsTokenBefore other kind w
+token-stands (the.end none) e other = absurd (true≢false (sym e))
+token-stands (the.whitespace all stop) e other = absurd (true≢false (sym e))
+token-stands (the.line_comment all stop is) e other = absurd (true≢false (sym e))
+token-stands (the.block_comment p is) e other = absurd (true≢false (sym e))
+token-stands (the.open_comment none never is) e other = absurd (true≢false (sym e))
+token-stands (the.ident is stop none) e other = absurd (true≢false (sym e))
+token-stands (the.unknown_prefix is go free) e other = absurd (true≢false (sym e))
+token-stands (the.invalid_ident start all wrong stop) e other = absurd (true≢false (sym e))
+token-stands (the.raw_ident is stop) e other = absurd (true≢false (sym e))
+token-stands (the.forced_keyword is stop) e other = absurd (true≢false (sym e))
+token-stands (the.lifetime start all stop quote hash) e other = absurd (true≢false (sym e))
+token-stands (the.unknown_prefix_lifetime start all hash free) e other = absurd (true≢false (sym e))
+token-stands (the.raw_lifetime is stop) e other = absurd (true≢false (sym e))
+token-stands (the.literal is) e other = the.literal (literal-stands is e other)
+token-stands (the.literal_with is suffix_is) e other = absurd (true≢false (literal-takes is e))
+token-stands (the.slash stop) e other = absurd (true≢false (sym e))
+token-stands (the.pound stop) e other = absurd (true≢false (sym e))
+token-stands (the.guarded_prefix is) e other = absurd (true≢false (sym e))
+token-stands (the.symbol {c} is) e other = absurd (either-way _ e (among-none symbols c refl))
+
+pub refused_stands : RefusedStands
+refused_stands c n next other w kind refused p = token-stands p refused other
 
 pub looks_no_further : LooksNoFurther
 looks_no_further next other w kind p e = token-alike p other e
 
--- ---- and where it is two, one is not enough
+-- ---- and no less is enough
 
 -- by what is read before one and before the other
-needs : (kind : TokenKind) (n : ℕ) (w next other : List ℕ) → lexeme (w ++ next) ≡ (kind, length w) → take n other ≡ take n next → (lexeme (w ++ other) ≡ (kind, length w) → ⊥) → Needs kind n
-needs kind n w next other read alike differs = record { w = w; next = next; other = other; stands = (language next w kind).1 read; alike = alike; fails = λ p. differs ((language other w kind).0 p) }
+needs : (kind : TokenKind) (w next other : List ℕ) (n : ℕ) → 0 < reach kind w → lexeme (w ++ next) ≡ (kind, length w) → take (reach kind w - 1) other ≡ take (reach kind w - 1) next → (lexeme (w ++ other)).1 ≡ n → length w < n → Needs kind w
+needs kind w next other n some read alike longer lt = record {
+  next = next;
+  other = other;
+  some = some;
+  stands = (language next w kind).1 read;
+  alike = alike;
+  fails = λ p. let same : (lexeme (w ++ other)).1 ≡ length w = ap (λ (r : TokenKind × ℕ). r.1) ((language other w kind).0 p) in absurd (omega (arith, same, longer, lt));
+}
 
-other_length : (m n : ℕ) → m ≡ n → n < m → ⊥
-other_length m n e lt = absurd (omega (arith, e, lt))
-
-pub needs_two : NeedsTwo
+pub none_looks_less : NoneLooksLess
 unfolding unicode_ident is_emoji emoji_ranges past_first encode number_kind fraction
-needs_two = record {
-  prefix = needs UnknownPrefix 1 (codes "k") (codes "#1") (codes "#a") refl refl (λ e. other_length 3 1 (ap (λ (r : TokenKind × ℕ). r.1) e) (omega arith));
-  prefix_lifetime = needs UnknownPrefixLifetime 1 (codes "'r") (codes "#1") (codes "#a") refl refl (λ e. other_length 4 2 (ap (λ (r : TokenKind × ℕ). r.1) e) (omega arith));
-  integer = needs (Literal (Int Decimal false) 1) 1 (codes "1") (codes "..") (codes ".5") refl refl (λ e. other_length 3 1 (ap (λ (r : TokenKind × ℕ). r.1) e) (omega arith));
-  character = needs (Literal (Char false) 1) 1 (codes "'") (codes "\nx") (codes "\n'") refl refl (λ e. other_length 3 1 (ap (λ (r : TokenKind × ℕ). r.1) e) (omega arith));
-  a_byte = needs (Literal (Byte false) 2) 1 (codes "b'") (codes "\nx") (codes "\n'") refl refl (λ e. other_length 4 2 (ap (λ (r : TokenKind × ℕ). r.1) e) (omega arith));
+none_looks_less = record {
+  end = needs Eof [] [] (codes " ") 1 (omega arith) refl refl refl (omega arith);
+  whitespace = needs Whitespace (codes " ") (codes "a") (codes " ") 2 (omega arith) refl refl refl (omega arith);
+  line_comment = needs (LineComment None) (codes "//") (codes "\n") (codes "a") 3 (omega arith) refl refl refl (omega arith);
+  open_comment = needs (BlockComment None false) (codes "/*") [] (codes "a") 3 (omega arith) refl refl refl (omega arith);
+  ident = needs Ident (codes "a") (codes " ") (codes "b") 2 (omega arith) refl refl refl (omega arith);
+  invalid_ident = needs InvalidIdent (0x1F600 ∷ []) (codes " ") (codes "b") 2 (omega arith) refl refl refl (omega arith);
+  raw_ident = needs RawIdent (codes "r#a") (codes " ") (codes "b") 4 (omega arith) refl refl refl (omega arith);
+  forced_keyword = needs ForcedKeywordIdent (codes "k#a") (codes " ") (codes "b") 4 (omega arith) refl refl refl (omega arith);
+  prefix = needs UnknownPrefix (codes "a") (codes "#") (codes "b") 2 (omega arith) refl refl refl (omega arith);
+  prefix_k = needs UnknownPrefix (codes "k") (codes "#1") (codes "#a") 3 (omega arith) refl refl refl (omega arith);
+  lifetime = needs (Lifetime false) (codes "'a") (codes " ") (codes "b") 3 (omega arith) refl refl refl (omega arith);
+  prefix_lifetime = needs UnknownPrefixLifetime (codes "'a") (codes "#") (codes "b") 3 (omega arith) refl refl refl (omega arith);
+  prefix_lifetime_r = needs UnknownPrefixLifetime (codes "'r") (codes "#1") (codes "#a") 4 (omega arith) refl refl refl (omega arith);
+  raw_lifetime = needs RawLifetime (codes "'r#a") (codes " ") (codes "b") 5 (omega arith) refl refl refl (omega arith);
+  number = needs (Literal (Int Decimal false) 1) (codes "1") (codes "..") (codes ".5") 3 (omega arith) refl refl refl (omega arith);
+  character = needs (Literal (Char true) 3) (codes "'a'") (codes " ") (codes "b") 4 (omega arith) refl refl refl (omega arith);
+  two_quotes = needs (Literal (Char true) 2) (codes "''") (codes " ") (codes "'") 3 (omega arith) refl refl refl (omega arith);
+  stopped_character = needs (Literal (Char false) 1) (codes "'") (codes "\nx") (codes "\n'") 3 (omega arith) refl refl refl (omega arith);
+  a_byte = needs (Literal (Byte true) 4) (codes "b'a'") (codes " ") (codes "b") 5 (omega arith) refl refl refl (omega arith);
+  stopped_byte = needs (Literal (Byte false) 2) (codes "b'") (codes "\nx") (codes "\n'") 4 (omega arith) refl refl refl (omega arith);
+  string = needs (Literal (Str true) 2) (codes "\"\"") (codes " ") (codes "b") 3 (omega arith) refl refl refl (omega arith);
+  open_string = needs (Literal (Str false) 1) (codes "\"") [] (codes "b") 2 (omega arith) refl refl refl (omega arith);
+  byte_string = needs (Literal (ByteStr true) 3) (codes "b\"\"") (codes " ") (codes "b") 4 (omega arith) refl refl refl (omega arith);
+  open_byte_string = needs (Literal (ByteStr false) 2) (codes "b\"") [] (codes "b") 3 (omega arith) refl refl refl (omega arith);
+  c_string = needs (Literal (CStr true) 3) (codes "c\"\"") (codes " ") (codes "b") 4 (omega arith) refl refl refl (omega arith);
+  open_c_string = needs (Literal (CStr false) 2) (codes "c\"") [] (codes "b") 3 (omega arith) refl refl refl (omega arith);
+  raw_string = needs (Literal (RawStr (Some 0)) 3) (codes "r\"\"") (codes " ") (codes "b") 4 (omega arith) refl refl refl (omega arith);
+  open_raw_string = needs (Literal (RawStr None) 2) (codes "r\"") [] (codes "b") 3 (omega arith) refl refl refl (omega arith);
+  raw_byte_string = needs (Literal (RawByteStr (Some 0)) 4) (codes "br\"\"") (codes " ") (codes "b") 5 (omega arith) refl refl refl (omega arith);
+  open_raw_byte_string = needs (Literal (RawByteStr None) 3) (codes "br\"") [] (codes "b") 4 (omega arith) refl refl refl (omega arith);
+  raw_c_string = needs (Literal (RawCStr (Some 0)) 4) (codes "cr\"\"") (codes " ") (codes "b") 5 (omega arith) refl refl refl (omega arith);
+  open_raw_c_string = needs (Literal (RawCStr None) 3) (codes "cr\"") [] (codes "b") 4 (omega arith) refl refl refl (omega arith);
+  slash = needs Slash (codes "/") (codes " ") (codes "/") 2 (omega arith) refl refl refl (omega arith);
+  pound = needs Pound (codes "#") (codes " ") (codes "#") 2 (omega arith) refl refl refl (omega arith);
 }

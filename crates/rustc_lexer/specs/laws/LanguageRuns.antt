@@ -12,15 +12,16 @@ use Rattle.rustc_lexer.specs.Classes.{is_among, is_whitespace, is_id_start}
 use Rattle.rustc_lexer.specs.Emoji.{is_emoji, emoji_ranges}
 use Rattle.rustc_lexer.specs.laws.Choice.{by_test}
 use Rattle.rustc_lexer.specs.laws.Reach.{IsToldBy, told_same, run_len-in, run_len-out}
-use Rattle.rustc_lexer.specs.Language.{is_word, is_word_start, is_name_start, is_mark, begins_more, IsTokenBefore}
-use Rattle.rustc_lexer.specs.Spans.{AreAll, Goes, Stops}
+use Rattle.rustc_lexer.specs.Spans.{is_word_continue, is_word_start, is_name_start}
+use Rattle.rustc_lexer.specs.Language.{ends_prefix, has_rule, IsTokenBefore}
+use Rattle.rustc_lexer.specs.Spans.{AreAll, NextIs, NextIsNot}
 use Rattle.rustc_lexer.specs.means.Lexeme.{family_of, past_first, read_by, lexeme}
 use Rattle.rustc_lexer.specs.means.Scan.{after, next_is, begins, run_len}
 
 -- ---- runs
 
 -- a run ends where what follows stops it
-pub run_len-here : (p : ℕ → Bool) (w next : List ℕ) → AreAll p w → Stops p next → run_len p (w ++ next) ≡ length w
+pub run_len-here : (p : ℕ → Bool) (w next : List ℕ) → AreAll p w → NextIsNot p next → run_len p (w ++ next) ≡ length w
 run_len-here p [] [] all stop = refl
 run_len-here p [] (c ∷ next) all stop = run_len-out p c next stop
 run_len-here p (c ∷ w) next all stop =
@@ -28,12 +29,12 @@ run_len-here p (c ∷ w) next all stop =
     run_len-in p c (w ++ next) parts.0 ∙ ap suc (run_len-here p w next parts.1 stop)
 
 -- what follows a run stops it
-pub run-stops : (p : ℕ → Bool) (s : List ℕ) → Stops p (drop (run_len p s) s)
+pub run-stops : (p : ℕ → Bool) (s : List ℕ) → NextIsNot p (drop (run_len p s) s)
 run-stops p [] = refl
-run-stops p (c ∷ s) = by_test (λ n. Stops p (drop n (c ∷ s))) (p c) (suc (run_len p s)) 0 (λ e. run-stops p s) (λ e. e)
+run-stops p (c ∷ s) = by_test (λ n. NextIsNot p (drop n (c ∷ s))) (p c) (suc (run_len p s)) 0 (λ e. run-stops p s) (λ e. e)
 
 -- no character of one class is in the other
-pub apart : (p q : ℕ → Bool) (s : List ℕ) → ((c : ℕ) → p c ≡ true → q c ≡ false) → Goes p s → Stops q s
+pub apart : (p q : ℕ → Bool) (s : List ℕ) → ((c : ℕ) → p c ≡ true → q c ≡ false) → NextIs p s → NextIsNot q s
 apart p q [] away t = refl
 apart p q (c ∷ s) away t = away c t
 
@@ -68,23 +69,23 @@ pub digit-small : (d : ℕ) → is_ascii_digit d ≡ true → d < 128
 digit-small d t = let le : d ≤ 57 = leb-true d 57 (and_parts (nat_le 48 d) (nat_le d 57) t).1 in omega arith
 
 -- a digit is no white space and begins no word, and is no mark
-pub digit-other : (d : ℕ) → is_ascii_digit d ≡ true → (is_whitespace d || (is_word_start d || ((d == 47) || is_mark d))) ≡ false
+pub digit-other : (d : ℕ) → is_ascii_digit d ≡ true → (is_whitespace d || (is_word_start d || ((d == 47) || ends_prefix d))) ≡ false
 unfolding unicode_ident is_emoji emoji_ranges
-digit-other d t = sym (ap (λ b. b && (is_whitespace d || (is_word_start d || ((d == 47) || is_mark d)))) t) ∙ agree_below_at (λ b. is_ascii_digit b && (is_whitespace b || (is_word_start b || ((b == 47) || is_mark b)))) (λ b. false) 128 d refl (digit-small d t)
+digit-other d t = sym (ap (λ b. b && (is_whitespace d || (is_word_start d || ((d == 47) || ends_prefix d)))) t) ∙ agree_below_at (λ b. is_ascii_digit b && (is_whitespace b || (is_word_start b || ((b == 47) || ends_prefix b)))) (λ b. false) 128 d refl (digit-small d t)
 
 pub word_start-no_digit : (c : ℕ) → is_word_start c ≡ true → is_ascii_digit c ≡ false
 word_start-no_digit c e = false_from_ne_true (is_ascii_digit c) (λ d. either-way (is_word_start c) e (or_parts (is_word_start c) _ (or_parts (is_whitespace c) _ (digit-other c d)).1).0)
 
 -- marks are in no word
-mark-no_word : (c : ℕ) → is_mark c ≡ true → is_word c ≡ false
+mark-no_word : (c : ℕ) → ends_prefix c ≡ true → is_word_continue c ≡ false
 unfolding unicode_ident is_emoji emoji_ranges
-mark-no_word c e = none-among is_word (codes "#\"'") refl c e
+mark-no_word c e = none-among is_word_continue (codes "#\"'") refl c e
 
-pub word-no_mark : (c : ℕ) → is_word c ≡ true → is_mark c ≡ false
-word-no_mark c e = false_from_ne_true (is_mark c) (λ m. either-way (is_word c) e (mark-no_word c m))
+pub word-no_mark : (c : ℕ) → is_word_continue c ≡ true → ends_prefix c ≡ false
+word-no_mark c e = false_from_ne_true (ends_prefix c) (λ m. either-way (is_word_continue c) e (mark-no_word c m))
 
-pub mark-stops : (s : List ℕ) → Goes is_mark s → Stops is_word s
-mark-stops s = apart is_mark is_word s mark-no_word
+pub mark-stops : (s : List ℕ) → NextIs ends_prefix s → NextIsNot is_word_continue s
+mark-stops s = apart ends_prefix is_word_continue s mark-no_word
 
 pub start-word_start : (c : ℕ) → is_id_start c ≡ true → is_word_start c ≡ true
 start-word_start c e = or_left (is_id_start c) (is_emoji c) e
@@ -118,7 +119,7 @@ chooses-number c e =
     let parts = or_parts (is_whitespace c) _ (digit-other c e) in
     let more = or_parts (is_word_start c) _ parts.1 in
     let starts = or_parts (is_id_start c) (is_emoji c) more.0 in
-    let last = or_parts (c == 47) (is_mark c) more.1 in
+    let last = or_parts (c == 47) (ends_prefix c) more.1 in
     chooses c Number (rw (last.0, parts.0, starts.0, e) refl)
 
 pub chooses-quote : past_first 39 ≡ read_by Quote 39
@@ -133,12 +134,12 @@ pub chooses-hash : past_first 35 ≡ read_by Hash 35
 unfolding unicode_ident is_emoji emoji_ranges
 chooses-hash = chooses 35 Hash refl
 
-mark-no_word_start : (c : ℕ) → is_mark c ≡ true → is_word_start c ≡ false
+mark-no_word_start : (c : ℕ) → ends_prefix c ≡ true → is_word_start c ≡ false
 unfolding unicode_ident is_emoji emoji_ranges
 mark-no_word_start c e = none-among is_word_start (codes "#\"'") refl c e
 
-word_start-no_mark : (c : ℕ) → is_word_start c ≡ true → is_mark c ≡ false
-word_start-no_mark c e = false_from_ne_true (is_mark c) (λ m. either-way (is_word_start c) e (mark-no_word_start c m))
+word_start-no_mark : (c : ℕ) → is_word_start c ≡ true → ends_prefix c ≡ false
+word_start-no_mark c e = false_from_ne_true (ends_prefix c) (λ m. either-way (is_word_start c) e (mark-no_word_start c m))
 
 pub chooses-emoji : (c : ℕ) → is_id_start c ≡ false → is_emoji c ≡ true → past_first c ≡ read_by Emoji c
 chooses-emoji c f e =
@@ -148,7 +149,7 @@ chooses-emoji c f e =
     let o = or_parts (c == 39) _ n.1 in
     chooses c Emoji (rw (other_than is_word_start 47 c slash-no_start w, word_start-no_space c w, f, word_start-no_digit c w, o.0, n.0, e) refl)
 
-pub chooses-symbol : (c : ℕ) → begins_more c ≡ false → past_first c ≡ read_by Symbol c
+pub chooses-symbol : (c : ℕ) → has_rule c ≡ false → past_first c ≡ read_by Symbol c
 chooses-symbol c e =
     let a = or_parts (is_whitespace c || is_name_start c) _ e in
     let b = or_parts (is_whitespace c) _ a.0 in
@@ -170,7 +171,7 @@ pub record EachChosen (P : ℕ → (List ℕ → TokenKind × ℕ) → Type 0) :
   pub of_str : P 34 (read_by Str 34)
   pub of_emoji : (c : ℕ) → is_id_start c ≡ false → is_emoji c ≡ true → P c (read_by Emoji c)
   pub of_hash : P 35 (read_by Hash 35)
-  pub of_symbol : (c : ℕ) → begins_more c ≡ false → P c (read_by Symbol c)
+  pub of_symbol : (c : ℕ) → has_rule c ≡ false → P c (read_by Symbol c)
 
 branch : (P : ℕ → (List ℕ → TokenKind × ℕ) → Type 0) (c : ℕ) (test : Bool) (f g : Family) → (test ≡ true → P c (read_by f c)) → (test ≡ false → P c (read_by g c)) → P c (read_by (if test then f else g) c)
 branch P c true f g here there = here refl

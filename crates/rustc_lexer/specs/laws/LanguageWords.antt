@@ -13,8 +13,9 @@ use Rattle.rustc_lexer.specs.laws.Choice.{EachArm, by_arm, at_char}
 use Rattle.rustc_lexer.specs.laws.LanguageRuns.{run_len-here, run-stops, either-way, Sound, Read, read-first, begins-next, chooses-word, chooses-emoji, word-no_mark, mark-stops, start-word_start}
 use Rattle.rustc_lexer.specs.laws.Reach.{run_all}
 use Rattle.rustc_lexer.specs.Language as the
-use Rattle.rustc_lexer.specs.Language.{IsTokenBefore, is_word, is_word_start, is_mark, openings, is_opening, begins_ident_past}
-use Rattle.rustc_lexer.specs.Spans.{AreAll, Goes, Stops}
+use Rattle.rustc_lexer.specs.Language.{IsTokenBefore, ends_prefix, known_prefixes, begins_prefixed}
+use Rattle.rustc_lexer.specs.Spans.{is_word_continue, is_word_start, begins_ident_after}
+use Rattle.rustc_lexer.specs.Spans.{AreAll, NextIs, NextIsNot}
 use Rattle.rustc_lexer.specs.means.Lexeme.{letter_r, letter_k, letter_b, letter_c, letters, raw_or_ident, word, is_raw_mark, begins_raw}
 use Rattle.rustc_lexer.specs.means.Scan.{after, begins, next_is, run, run_len}
 
@@ -31,11 +32,11 @@ pub record BeginsNone (s : List ℕ) : Type 0 where
   pub c_quote : begins (codes "c\"") s ≡ false
   pub cr_quote : begins (codes "cr\"") s ≡ false
   pub cr_hash : begins (codes "cr#") s ≡ false
-  pub k_hash : begins_ident_past (codes "k#") s ≡ false
+  pub k_hash : begins_ident_after (codes "k#") s ≡ false
 
-pub begins-none : (s : List ℕ) → is_opening s ≡ false → BeginsNone s
+pub begins-none : (s : List ℕ) → begins_prefixed s ≡ false → BeginsNone s
 begins-none s e =
-    let all = or_parts (list_any (λ front. begins front s) openings) (begins_ident_past (codes "k#") s) e in
+    let all = or_parts (list_any (λ front. begins front s) known_prefixes) (begins_ident_after (codes "k#") s) e in
     let a = or_parts (begins (codes "r\"") s) _ all.0 in
     let b = or_parts (begins (codes "r#") s) _ a.1 in
     let c = or_parts (begins (codes "b'") s) _ b.1 in
@@ -47,18 +48,18 @@ begins-none s e =
     let j = or_parts (begins (codes "cr#") s) _ i.1 in
     record { r_quote = a.0; r_hash = b.0; b_one = c.0; b_quote = d.0; br_quote = f.0; br_hash = g.0; c_quote = h.0; cr_quote = i.0; cr_hash = j.0; k_hash = all.1 }
 
-pub no-opening : (s : List ℕ) → BeginsNone s → is_opening s ≡ false
+pub no-opening : (s : List ℕ) → BeginsNone s → begins_prefixed s ≡ false
 no-opening s n =
-    or_from (list_any (λ front. begins front s) openings) (begins_ident_past (codes "k#") s)
+    or_from (list_any (λ front. begins front s) known_prefixes) (begins_ident_after (codes "k#") s)
     (or_from _ _ n.r_quote (or_from _ _ n.r_hash (or_from _ _ n.b_one (or_from _ _ n.b_quote (or_from _ _ n.br_quote (or_from _ _ n.br_hash (or_from _ _ n.c_quote (or_from _ _ n.cr_quote (or_from _ _ n.cr_hash refl)))))))))
     n.k_hash
 
 -- no mark of a raw string is next
-raw_mark-stops : (s : List ℕ) → begins (codes "\"") s ≡ false → begins (codes "#") s ≡ false → Stops is_raw_mark s
+raw_mark-stops : (s : List ℕ) → begins (codes "\"") s ≡ false → begins (codes "#") s ≡ false → NextIsNot is_raw_mark s
 raw_mark-stops [] e f = refl
 raw_mark-stops (d ∷ s) e f = or_from (d == 35) _ (or_parts (d == 35) false (sym (begins-next 35 (d ∷ s)) ∙ f)).0 (sym (begins-next 34 (d ∷ s)) ∙ e)
 
-pub raw_mark-none : (s : List ℕ) → Stops is_raw_mark s → (begins (codes "\"") s ≡ false) × (begins (codes "#") s ≡ false)
+pub raw_mark-none : (s : List ℕ) → NextIsNot is_raw_mark s → (begins (codes "\"") s ≡ false) × (begins (codes "#") s ≡ false)
 raw_mark-none [] e = (refl, refl)
 raw_mark-none (d ∷ s) e =
     let parts = or_parts (d == 35) _ e in
@@ -104,7 +105,7 @@ c-plain s n =
     rw (q, raw-none s n.cr_quote n.cr_hash) refl
 
 abbrev IsPlain : ℕ → (List ℕ → TokenKind × ℕ) → Type 0
-IsPlain c scan = (s : List ℕ) → is_opening (c ∷ s) ≡ false → scan s ≡ ident_or_unknown_prefix s
+IsPlain c scan = (s : List ℕ) → begins_prefixed (c ∷ s) ≡ false → scan s ≡ ident_or_unknown_prefix s
 
 letters-plain : EachArm IsPlain letters
 letters-plain = (
@@ -121,7 +122,7 @@ letters-plain = (
   ),
 )
 
-word-plain : (c : ℕ) (s : List ℕ) → is_opening (c ∷ s) ≡ false → word c s ≡ ident_or_unknown_prefix s
+word-plain : (c : ℕ) (s : List ℕ) → begins_prefixed (c ∷ s) ≡ false → word c s ≡ ident_or_unknown_prefix s
 word-plain c = by_arm IsPlain letters (λ c. ident_or_unknown_prefix) c letters-plain (λ none s e. refl)
 
 -- ---- a word right before a mark
@@ -129,25 +130,25 @@ word-plain c = by_arm IsPlain letters (λ c. ident_or_unknown_prefix) c letters-
 -- where a word and a mark begin what a word and what follows it do, it is that word
 record IsWholeWord (f w next : List ℕ) : Type 0 where
   same : w ≡ f
-  at_mark : Goes is_mark next
+  at_mark : NextIs ends_prefix next
 
-whole-word : (f : List ℕ) (m : ℕ) (w next : List ℕ) → is_mark m ≡ true → AreAll is_word f → AreAll is_word w → Stops is_word next → begins (f ++ m ∷ []) (w ++ next) ≡ true → IsWholeWord f w next
+whole-word : (f : List ℕ) (m : ℕ) (w next : List ℕ) → ends_prefix m ≡ true → AreAll is_word_continue f → AreAll is_word_continue w → NextIsNot is_word_continue next → begins (f ++ m ∷ []) (w ++ next) ≡ true → IsWholeWord f w next
 whole-word [] m [] [] mark fs ws stop e = absurd (true≢false (sym e))
-whole-word [] m [] (d ∷ next) mark fs ws stop e = record { same = refl; at_mark = ap is_mark (eqb-true d m (and_parts (d == m) true e).0) ∙ mark }
+whole-word [] m [] (d ∷ next) mark fs ws stop e = record { same = refl; at_mark = ap ends_prefix (eqb-true d m (and_parts (d == m) true e).0) ∙ mark }
 whole-word [] m (d ∷ w) next mark fs ws stop e =
     let same : d ≡ m = eqb-true d m (and_parts (d == m) true e).0 in
-    absurd (either-way (is_mark d) (ap is_mark same ∙ mark) (word-no_mark d (and_parts (is_word d) (list_all is_word w) ws).0))
+    absurd (either-way (ends_prefix d) (ap ends_prefix same ∙ mark) (word-no_mark d (and_parts (is_word_continue d) (list_all is_word_continue w) ws).0))
 whole-word (x ∷ f) m [] [] mark fs ws stop e = absurd (true≢false (sym e))
 whole-word (x ∷ f) m [] (d ∷ next) mark fs ws stop e =
     let same : d ≡ x = eqb-true d x (and_parts (d == x) _ e).0 in
-    absurd (either-way (is_word d) (ap is_word same ∙ (and_parts (is_word x) (list_all is_word f) fs).0) stop)
+    absurd (either-way (is_word_continue d) (ap is_word_continue same ∙ (and_parts (is_word_continue x) (list_all is_word_continue f) fs).0) stop)
 whole-word (x ∷ f) m (d ∷ w) next mark fs ws stop e =
     let parts = and_parts (d == x) _ e in
-    let more = whole-word f m w next mark (and_parts (is_word x) (list_all is_word f) fs).1 (and_parts (is_word d) (list_all is_word w) ws).1 stop parts.1 in
+    let more = whole-word f m w next mark (and_parts (is_word_continue x) (list_all is_word_continue f) fs).1 (and_parts (is_word_continue d) (list_all is_word_continue w) ws).1 stop parts.1 in
     record { same = ap (λ (y : ℕ). y ∷ w) (eqb-true d x parts.0) ∙ ap (λ (ys : List ℕ). x ∷ ys) more.same; at_mark = more.at_mark }
 
-module _ (c : ℕ) (w next : List ℕ) (ws : AreAll is_word w) (stop : Stops is_word next) (right : Goes is_mark next → is_ident (c ∷ w) ≡ false) where
-  no-front : (x : ℕ) (f : List ℕ) (m : ℕ) → is_mark m ≡ true → AreAll is_word f → is_ident (x ∷ f) ≡ true → begins (x ∷ f ++ m ∷ []) (c ∷ w ++ next) ≡ false
+module _ (c : ℕ) (w next : List ℕ) (ws : AreAll is_word_continue w) (stop : NextIsNot is_word_continue next) (right : NextIs ends_prefix next → is_ident (c ∷ w) ≡ false) where
+  no-front : (x : ℕ) (f : List ℕ) (m : ℕ) → ends_prefix m ≡ true → AreAll is_word_continue f → is_ident (x ∷ f) ≡ true → begins (x ∷ f ++ m ∷ []) (c ∷ w ++ next) ≡ false
   no-front x f m mark fs is = false_from_ne_true (begins (x ∷ f ++ m ∷ []) (c ∷ w ++ next)) (λ e.
       let parts = and_parts (c == x) _ e in
       let whole = whole-word f m w next mark fs ws stop parts.1 in
@@ -155,7 +156,7 @@ module _ (c : ℕ) (w next : List ℕ) (ws : AreAll is_word w) (stop : Stops is_
       either-way (is_ident (c ∷ w)) (ap is_ident same ∙ is) (right whole.at_mark))
 
   -- a word that no mark follows, or that is no identifier, begins nothing else
-  pub word-no_opening : is_opening (c ∷ w ++ next) ≡ false
+  pub word-no_opening : begins_prefixed (c ∷ w ++ next) ≡ false
   unfolding unicode_ident is_emoji emoji_ranges
   word-no_opening = no-opening (c ∷ w ++ next) record {
     r_quote = no-front 114 [] 34 refl refl refl;
@@ -187,34 +188,34 @@ pub ident-start : (w : List ℕ) → is_ident w ≡ true → HasStart w
 ident-start [] e = absurd (true≢false (sym e))
 ident-start (c ∷ w) e = let parts = and_parts (is_id_start c) (list_all is_id_continue w) e in record { first = c; rest = w; whole = refl; start = parts.0; all = parts.1 }
 
-continue-word : (w : List ℕ) → AreAll is_id_continue w → AreAll is_word w
+pub continue-word : (w : List ℕ) → AreAll is_id_continue w → AreAll is_word_continue w
 continue-word [] all = refl
 continue-word (c ∷ w) all = let parts = and_parts (is_id_continue c) (list_all is_id_continue w) all in rw parts.0 (continue-word w parts.1)
 
 -- what is read of a word
-ident-read : (w next : List ℕ) → AreAll is_word w → Stops is_word next → ident_or_unknown_prefix (w ++ next) ≡ (ident_kind w next, length w)
+ident-read : (w next : List ℕ) → AreAll is_word_continue w → NextIsNot is_word_continue next → ident_or_unknown_prefix (w ++ next) ≡ (ident_kind w next, length w)
 ident-read w next all stop =
-    ap (λ (n : ℕ). (ident_kind (take n (w ++ next)) (drop n (w ++ next)), n)) (run_len-here is_word w next all stop)
+    ap (λ (n : ℕ). (ident_kind (take n (w ++ next)) (drop n (w ++ next)), n)) (run_len-here is_word_continue w next all stop)
     ∙ (ap (λ (front : List ℕ). (ident_kind front (drop (length w) (w ++ next)), length w)) (take-append_seam w next) ∙ ap (λ (rest : List ℕ). (ident_kind w rest, length w)) (drop-append_seam w next))
 
-plain-read : (c : ℕ) (w next : List ℕ) (kind : TokenKind) → is_id_start c ≡ true → AreAll is_word w → Stops is_word next → is_opening (c ∷ w ++ next) ≡ false → ident_kind w next ≡ kind → Read kind (suc (length w)) (c ∷ w ++ next)
+plain-read : (c : ℕ) (w next : List ℕ) (kind : TokenKind) → is_id_start c ≡ true → AreAll is_word_continue w → NextIsNot is_word_continue next → begins_prefixed (c ∷ w ++ next) ≡ false → ident_kind w next ≡ kind → Read kind (suc (length w)) (c ∷ w ++ next)
 plain-read c w next kind start all stop free is =
     read-first c (word c) (w ++ next) kind (length w) _ (chooses-word c start) (word-plain c (w ++ next) free ∙ (ident-read w next all stop ∙ ap (λ (k : TokenKind). (k, length w)) is)) refl
 
-pub ident-is_read : (w next : List ℕ) → is_ident w ≡ true → Stops is_word next → Stops is_mark next → Read Ident (length w) (w ++ next)
+pub ident-is_read : (w next : List ℕ) → is_ident w ≡ true → NextIsNot is_word_continue next → NextIsNot ends_prefix next → Read Ident (length w) (w ++ next)
 ident-is_read [] next is stop none = absurd (true≢false (sym is))
 ident-is_read (c ∷ w) next is stop none =
     let parts = and_parts (is_id_start c) (list_all is_id_continue w) is in
-    let all : AreAll is_word w = continue-word w parts.1 in
-    plain-read c w next Ident parts.0 all stop (word-no_opening c w next all stop (λ goes. either-way (next_is is_mark next) goes none)) (rw (parts.1, none) refl)
+    let all : AreAll is_word_continue w = continue-word w parts.1 in
+    plain-read c w next Ident parts.0 all stop (word-no_opening c w next all stop (λ goes. either-way (next_is ends_prefix next) goes none)) (rw (parts.1, none) refl)
 
-pub prefix-read : (w next : List ℕ) → is_ident w ≡ true → Goes is_mark next → is_opening (w ++ next) ≡ false → Read UnknownPrefix (length w) (w ++ next)
+pub prefix-read : (w next : List ℕ) → is_ident w ≡ true → NextIs ends_prefix next → begins_prefixed (w ++ next) ≡ false → Read UnknownPrefix (length w) (w ++ next)
 prefix-read [] next is goes free = absurd (true≢false (sym is))
 prefix-read (c ∷ w) next is goes free =
     let parts = and_parts (is_id_start c) (list_all is_id_continue w) is in
     plain-read c w next UnknownPrefix parts.0 (continue-word w parts.1) (mark-stops next goes) free (rw (parts.1, goes) refl)
 
-pub invalid-read : (c : ℕ) (w next : List ℕ) → is_word_start c ≡ true → AreAll is_word w → is_ident (c ∷ w) ≡ false → Stops is_word next → Read InvalidIdent (suc (length w)) (c ∷ w ++ next)
+pub invalid-read : (c : ℕ) (w next : List ℕ) → is_word_start c ≡ true → AreAll is_word_continue w → is_ident (c ∷ w) ≡ false → NextIsNot is_word_continue next → Read InvalidIdent (suc (length w)) (c ∷ w ++ next)
 invalid-read c w next start all wrong stop = by_start (is_id_start c) refl
   where
     by_start : (b : Bool) → is_id_start c ≡ b → Read InvalidIdent (suc (length w)) (c ∷ w ++ next)
@@ -223,10 +224,10 @@ invalid-read c w next start all wrong stop = by_start (is_id_start c) refl
         plain-read c w next InvalidIdent e all stop (word-no_opening c w next all stop (λ goes. wrong)) (rw no_ident refl)
     by_start false e =
         let emoji : is_emoji c ≡ true = rw e at start in
-        read-first c invalid_ident (w ++ next) InvalidIdent (length w) _ (chooses-emoji c e emoji) (ap (λ (n : ℕ). (InvalidIdent, n)) (run_len-here is_word w next all stop)) refl
+        read-first c invalid_ident (w ++ next) InvalidIdent (length w) _ (chooses-emoji c e emoji) (ap (λ (n : ℕ). (InvalidIdent, n)) (run_len-here is_word_continue w next all stop)) refl
 
 -- past a mark
-marked-read : (kind : TokenKind) (other : List ℕ → TokenKind × ℕ) (w next : List ℕ) → is_ident w ≡ true → Stops is_id_continue next → marked kind other (35 ∷ w ++ next) ≡ (kind, suc (length w))
+marked-read : (kind : TokenKind) (other : List ℕ → TokenKind × ℕ) (w next : List ℕ) → is_ident w ≡ true → NextIsNot is_id_continue next → marked kind other (35 ∷ w ++ next) ≡ (kind, suc (length w))
 marked-read kind other [] next is stop = absurd (true≢false (sym is))
 marked-read kind other (c ∷ w) next is stop =
     let parts = and_parts (is_id_start c) (list_all is_id_continue w) is in
@@ -238,33 +239,33 @@ letter-start : (is_id_start 114 ≡ true) × (is_id_start 107 ≡ true)
 unfolding unicode_ident
 letter-start = (refl, refl)
 
-pub raw_ident-read : (w next : List ℕ) → is_ident w ≡ true → Stops is_id_continue next → Read RawIdent (suc (suc (length w))) (114 ∷ 35 ∷ w ++ next)
+pub raw_ident-read : (w next : List ℕ) → is_ident w ≡ true → NextIsNot is_id_continue next → Read RawIdent (suc (suc (length w))) (114 ∷ 35 ∷ w ++ next)
 raw_ident-read w next is stop = read-first 114 (word 114) (35 ∷ w ++ next) RawIdent (suc (length w)) _ (chooses-word 114 letter-start.0) (marked-read RawIdent raw_or_ident w next is stop) refl
 
-pub keyword-read : (w next : List ℕ) → is_ident w ≡ true → Stops is_id_continue next → Read ForcedKeywordIdent (suc (suc (length w))) (107 ∷ 35 ∷ w ++ next)
+pub keyword-read : (w next : List ℕ) → is_ident w ≡ true → NextIsNot is_id_continue next → Read ForcedKeywordIdent (suc (suc (length w))) (107 ∷ 35 ∷ w ++ next)
 keyword-read w next is stop = read-first 107 (word 107) (35 ∷ w ++ next) ForcedKeywordIdent (suc (length w)) _ (chooses-word 107 letter-start.1) (marked-read ForcedKeywordIdent ident_or_unknown_prefix w next is stop) refl
 
 -- ---- and what is read is one of these
 
-pub ident-sound : (c : ℕ) → is_id_start c ≡ true → (s : List ℕ) → is_opening (c ∷ s) ≡ false → Sound c s (ident_or_unknown_prefix s)
-ident-sound c start s free = by_kind (list_all is_id_continue (take n s)) (next_is is_mark (drop n s)) refl refl
+pub ident-sound : (c : ℕ) → is_id_start c ≡ true → (s : List ℕ) → begins_prefixed (c ∷ s) ≡ false → Sound c s (ident_or_unknown_prefix s)
+ident-sound c start s free = by_kind (list_all is_id_continue (take n s)) (next_is ends_prefix (drop n s)) refl refl
   where
     n : ℕ
-    n = run_len is_word s
+    n = run_len is_word_continue s
 
     whole : c ∷ take n s ++ drop n s ≡ c ∷ s
     whole = ap (λ (xs : List ℕ). c ∷ xs) (take-append-drop n s)
 
-    by_kind : (plain at_mark : Bool) → list_all is_id_continue (take n s) ≡ plain → next_is is_mark (drop n s) ≡ at_mark → IsTokenBefore (drop n s) (if plain then (if at_mark then UnknownPrefix else Ident) else InvalidIdent) (c ∷ take n s)
-    by_kind true true e f = the.unknown_prefix (rw (start, e) refl) f (ap is_opening whole ∙ free)
-    by_kind true false e f = the.ident (rw (start, e) refl) (run-stops is_word s) f
-    by_kind false at_mark e f = the.invalid_ident (start-word_start c start) (run_all is_word s) (rw (start, e) refl) (run-stops is_word s)
+    by_kind : (plain at_mark : Bool) → list_all is_id_continue (take n s) ≡ plain → next_is ends_prefix (drop n s) ≡ at_mark → IsTokenBefore (drop n s) (if plain then (if at_mark then UnknownPrefix else Ident) else InvalidIdent) (c ∷ take n s)
+    by_kind true true e f = the.unknown_prefix (rw (start, e) refl) f (ap begins_prefixed whole ∙ free)
+    by_kind true false e f = the.ident (rw (start, e) refl) (run-stops is_word_continue s) f
+    by_kind false at_mark e f = the.invalid_ident (start-word_start c start) (run_all is_word_continue s) (rw (start, e) refl) (run-stops is_word_continue s)
 
 pub invalid-sound : (c : ℕ) → is_id_start c ≡ false → is_emoji c ≡ true → (s : List ℕ) → Sound c s (invalid_ident s)
-invalid-sound c no_start emoji s = the.invalid_ident (rw (no_start, emoji) refl) (run_all is_word s) (rw no_start refl) (run-stops is_word s)
+invalid-sound c no_start emoji s = the.invalid_ident (rw (no_start, emoji) refl) (run_all is_word_continue s) (rw no_start refl) (run-stops is_word_continue s)
 
 -- past a mark, where this is so of what may stand there
-pub marked-sound : (P : List ℕ → List ℕ → Type 0) → ((w next : List ℕ) → is_ident w ≡ true → Stops is_id_continue next → P next (35 ∷ w)) → (s : List ℕ) → marks_ident s ≡ true
+pub marked-sound : (P : List ℕ → List ℕ → Type 0) → ((w next : List ℕ) → is_ident w ≡ true → NextIsNot is_id_continue next → P next (35 ∷ w)) → (s : List ℕ) → marks_ident s ≡ true
     → P (drop (2 + run_len is_id_continue (drop 2 s)) s) (take (2 + run_len is_id_continue (drop 2 s)) s)
 marked-sound P is [] e = absurd (true≢false (sym e))
 marked-sound P is (h ∷ []) e = absurd (true≢false (sym (and_parts (begins (codes "#") (h ∷ [])) false e).1))

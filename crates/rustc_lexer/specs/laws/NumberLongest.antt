@@ -13,7 +13,7 @@ use Rattle.rustc_lexer.specs.laws.Choice.{by_test}
 use Rattle.rustc_lexer.specs.laws.NumberGrammar.{number-stands}
 use Rattle.rustc_lexer.specs.laws.Within.{Within, within-suc, within-one, within-any, then-within, run-within}
 use Rattle.rustc_lexer.specs.means.Number.{or_underscore, digits, Front, front_of, prefixed, binary, octal, hexadecimal, decimal, front_past_zero, front, float, is_exponent_letter, is_sign, past_sign, float_exponent, optional_exponent, fraction_digits, fraction, is_no_fraction, begins_fraction, past_digits, tail, number_kind}
-use Rattle.rustc_lexer.specs.NumberGrammar.{AreDigits, is_digit_of, IsWhole, plain, with_b, with_o, with_x, IsExponent, signed, unsigned, IsTailBefore, nothing, dot, of_fraction, of_exponent, of_both, IsNumberBefore, of_prefix, of_parts, NumberStands}
+use Rattle.rustc_lexer.specs.NumberGrammar.{AreDigits, is_digit_of, IsWhole, plain, with_b, with_o, with_x, IsExponent, signed, unsigned, IsTailBefore, nothing, dot, of_fraction, of_exponent, of_both, IsNumberBefore, of_prefix, of_parts, NumberStands, IsLongestNumber}
 use Rattle.rustc_lexer.specs.LanguageHolds.{AreLongest}
 use Rattle.rustc_lexer.specs.means.Scan.{and_then, after, begins, gives, next_is, read_as, run, run_len}
 
@@ -259,9 +259,27 @@ stands-within first s kind n stands =
     (subst (λ (xs : List ℕ). Within (Unit {0}) (number_all xs) kind (length (take n (first ∷ s)))) text (number-within (drop n (first ∷ s)) stands.is_number)))
 
 -- the number that is read is the longest that stands there
-pub numbers-longest : AreLongest
-numbers-longest first s digit = record {
+pub longest-read : (first : ℕ) (s : List ℕ) → is_ascii_digit first ≡ true → IsLongestNumber (number_kind first s).0 (1 + (number_kind first s).1) (first ∷ s)
+longest-read first s digit = record {
   stands = number-stands first s digit;
   longest = λ other m is. elim (stands-within first s other m is) [ inl h ↦ omega (arith, h.1) | inr e ↦ omega (arith, ap (λ (r : LiteralKind × ℕ). r.1) e) ];
-  only = λ other is. elim (stands-within first s other (1 + (number_kind first s).1) is) [ inl h ↦ absurd (omega (arith, h.1)) | inr e ↦ sym (ap (λ (r : LiteralKind × ℕ). r.0) e) ];
 }
+
+-- and none of another kind is as long
+only-read : (first : ℕ) (s : List ℕ) (other : LiteralKind) (n : ℕ) → NumberStands other n (first ∷ s) → n ≡ 1 + (number_kind first s).1 → other ≡ (number_kind first s).0
+only-read first s other n is len = elim (stands-within first s other n is) [ inl h ↦ absurd (omega (arith, h.1, len)) | inr e ↦ sym (ap (λ (r : LiteralKind × ℕ). r.0) e) ]
+
+-- the longest number is the one that is read
+pub longest-is : {kind : LiteralKind} {n : ℕ} (first : ℕ) (s : List ℕ) → is_ascii_digit first ≡ true → IsLongestNumber kind n (first ∷ s) → (kind ≡ (number_kind first s).0) × (n ≡ 1 + (number_kind first s).1)
+longest-is {kind} {n} first s digit is =
+    let the_read = longest-read first s digit in
+    let long = the_read.longest kind n is.stands in
+    let short = is.longest (number_kind first s).0 (1 + (number_kind first s).1) the_read.stands in
+    let len : n ≡ 1 + (number_kind first s).1 = omega (arith, long, short) in
+    (only-read first s kind n is.stands len, len)
+
+pub numbers-longest : AreLongest
+numbers-longest first s kind n digit = (
+  longest-is first s digit,
+  λ e. subst (λ (k : LiteralKind). IsLongestNumber k n (first ∷ s)) (sym e.0) (subst (λ (m : ℕ). IsLongestNumber (number_kind first s).0 m (first ∷ s)) (sym e.1) (longest-read first s digit)),
+)

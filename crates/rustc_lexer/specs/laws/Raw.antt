@@ -9,7 +9,7 @@ use Rattle.rustc_lexer.specs.declared.token.RawStrError.TheVariants.{InvalidStar
 use Rattle.rustc_lexer.specs.declared.token.TokenKind.{TokenKind}
 use Rattle.rustc_lexer.specs.means.Literal.{Body}
 use Rattle.rustc_lexer.specs.laws.Literal.{literal_at}
-use Rattle.rustc_lexer.specs.means.Raw.{is_hash, is_quote, hashes, closes, close, raw_closed, raw_text, past_starter, raw_starter, raw_read, accepted, is_accepted, raw_body, prefix_kind, prefix_len, raw_literal, checked, raw_check, HasEnd, EndsItself, RefusedEndsItself}
+use Rattle.rustc_lexer.specs.means.Raw.{is_hash, is_quote, hash_run, closes, close, raw_closed, raw_text, past_starter, raw_starter, raw_read, accepted, is_accepted, raw_body, prefix_kind, prefix_len, raw_literal, checked, raw_check, HasEnd, EndsItself, RefusedEndsItself}
 use Rattle.rustc_lexer.specs.laws.Reach.{IsToldBy, cut, cut_past, told_same, wider, all_at, read_as_at, and_then_at, first_at, gives_local, run_len_le, run_len_same, found-same, least-some, least_found}
 use Rattle.rustc_lexer.specs.means.Scan.{IsLocalAt, IsLocal, IsFound, gives, run_len}
 
@@ -30,11 +30,11 @@ le-min n k x le = by_test (nat_le n x) refl
 -- whether a quote closes is told by it and n characters
 closes-told : (n : ℕ) → IsToldBy (suc n) (closes n)
 closes-told n [] = refl
-closes-told n (c ∷ s) = ap (λ b. is_quote c && b) (ap (nat_le n) (run_len-take is_hash n s) ∙ le-min n n (hashes s) (omega arith))
+closes-told n (c ∷ s) = ap (λ b. is_quote c && b) (ap (nat_le n) (run_len-take is_hash n s) ∙ le-min n n (hash_run s) (omega arith))
 
 closes-length : (n : ℕ) (s : List ℕ) → closes n s ≡ true → suc n ≤ length s
 closes-length n [] e = absurd (true≢false (sym e))
-closes-length n (c ∷ s) e = let le = leb-true n (hashes s) (and_parts (is_quote c) (nat_le n (hashes s)) e).1 in omega (arith, run_len_le is_hash s)
+closes-length n (c ∷ s) e = let le = leb-true n (hash_run s) (and_parts (is_quote c) (nat_le n (hash_run s)) e).1 in omega (arith, run_len_le is_hash s)
 
 -- the place of the close depends on the close alone
 close_found : (n : ℕ) → IsFound (suc n) (close n)
@@ -102,14 +102,14 @@ starter-some prefix n (c ∷ s) end = omega arith
 
 -- how many hashes the text begins with
 abbrev hash_count : List ℕ → ℕ × ℕ
-hash_count s = (hashes s, hashes s)
+hash_count s = (hash_run s, hash_run s)
 
 hash_count_local : IsLocal ℕ 1 hash_count
 hash_count_local s = record { inside = run_len_le is_hash s; local = λ u e. ap (λ (n : ℕ). let r : ℕ × ℕ = (n, n) in r) (run_len_same is_hash s u e) }
 
-raw_read_ended : (prefix : ℕ) (s : List ℕ) → IsEnded (drop (hashes s) s) (raw_read prefix) s
+raw_read_ended : (prefix : ℕ) (s : List ℕ) → IsEnded (drop (hash_run s) s) (raw_read prefix) s
 raw_read_ended prefix s =
-    let n : ℕ = hashes s in
+    let n : ℕ = hash_run s in
     let is = raw_starter_ended prefix n (drop n s) in
     record {
       within = λ end. and_then_at 1 0 hash_count (raw_starter prefix) s (hash_count_local s) (is.within end) (omega (arith, starter-some prefix n (drop n s) end));
@@ -117,7 +117,7 @@ raw_read_ended prefix s =
     }
 
 pub raw_read_local : (prefix : ℕ) → IsLocal (Result ℕ RawStrError) 1 (raw_read prefix)
-raw_read_local prefix s = ended_local (drop (hashes s) s) (raw_read prefix) s (raw_read_ended prefix s)
+raw_read_local prefix s = ended_local (drop (hash_run s) s) (raw_read prefix) s (raw_read_ended prefix s)
 
 pub raw_read_within : (prefix : ℕ) → EndsItself prefix
 raw_read_within prefix s = (raw_read_ended prefix s).within
@@ -139,13 +139,13 @@ starter-prefix p q n (c ∷ v) = by_quote (is_quote c) (close n v)
     by_quote false o = refl
 
 pub raw_read_prefix : (p q : ℕ) (s : List ℕ) → seen 0 (raw_read p s) ≡ seen 0 (raw_read q s)
-raw_read_prefix p q s = ap (λ (r : Option ℕ × ℕ). let t : Option ℕ × ℕ = (r.0, 0 + r.1) in t) (starter-prefix p q (hashes s) (drop (hashes s) s))
+raw_read_prefix p q s = ap (λ (r : Option ℕ × ℕ). let t : Option ℕ × ℕ = (r.0, 0 + r.1) in t) (starter-prefix p q (hash_run s) (drop (hash_run s) s))
 
 -- alone, the text of a raw string is read as it was where it stood
 pub raw_read_own : (prefix : ℕ) (s : List ℕ) (t : ℕ) → (raw_read 0 s).1 ≤ t → accepted (raw_read prefix (take t s)).0 ≡ accepted (raw_read 0 s).0
 raw_read_own prefix s t le = ap (λ (r : Option ℕ × ℕ). r.0) (raw_read_prefix prefix 0 (take t s)) ∙ ap (λ (r : Read). accepted r.0) (by_end ((raw_read_ended 0 s).ends))
   where
-    by_end : HasEnd (drop (hashes s) s) (raw_read 0 s).0 ⊎ ((raw_read 0 s).1 ≡ length s) → raw_read 0 (take t s) ≡ raw_read 0 s
+    by_end : HasEnd (drop (hash_run s) s) (raw_read 0 s).0 ⊎ ((raw_read 0 s).1 ≡ length s) → raw_read 0 (take t s) ≡ raw_read 0 s
     by_end (inl end) = (raw_read_within 0 s end).local (take t s) (take-take ((raw_read 0 s).1 + 0) t s (omega arith))
     by_end (inr all) = ap (raw_read 0) (take_all t s (omega arith))
 

@@ -20,12 +20,12 @@ has_marked_name [] = false
 has_marked_name (quote ∷ []) = false
 has_marked_name (quote ∷ c ∷ s) = is_marked c (take (run_len is_word s) s)
 
--- a token as an edition before 2024 has it, where no guarded string is kept free: a hash is a symbol, whatever follows it
+-- a token as an edition before 2024 has it, where no guarded string is reserved: a hash is a symbol, whatever follows it
 abbrev pub before_2024 : TokenKind → ℕ → Token
 before_2024 GuardedStrPrefix len = token Pound 1
 before_2024 kind len = token kind len
 
--- the token of these characters as an edition before 2021 has it, where no prefix is kept free either: no lifetime is raw,
+-- the token of these characters as an edition before 2021 has it, where no prefix is reserved either: no lifetime is raw,
 -- and what stands right before a mark is an identifier or a lifetime, as it is elsewhere
 abbrev pub before_2021 : List ℕ → TokenKind → ℕ → Token
 before_2021 cs RawLifetime len = token (Lifetime false) 2

@@ -4,13 +4,13 @@ use Rattle.std.specs.Str.{chars}
 use Rattle.rustc_lexer.specs.declared.token.GuardedStr.{GuardedStr}
 use Rattle.rustc_lexer.specs.means.Literal.{suffix_len}
 use Rattle.rustc_lexer.specs.means.Quoted.{double_quoted_string}
-use Rattle.rustc_lexer.specs.means.Raw.{hashes, is_quote}
+use Rattle.rustc_lexer.specs.means.Raw.{hash_run, is_quote}
 use Rattle.rustc_lexer.specs.means.Scan.{bytes_of, next_is}
 use Rattle.rustc_lexer.specs.State.{State}
 
 -- what follows the closing quote: n hashes at most, and a suffix
 abbrev pub closing_len : ℕ → List ℕ → ℕ
-closing_len n s = min n (hashes s) + suffix_len (drop (min n (hashes s)) s)
+closing_len n s = min n (hash_run s) + suffix_len (drop (min n (hash_run s)) s)
 
 -- what follows the opening quote: whether a quote closes it, and how much it takes; with no such quote all is taken
 abbrev pub guarded_body : ℕ → List ℕ → Bool × ℕ
@@ -33,4 +33,4 @@ guarded_by n (Some string) s = (
 
 -- the guarded string at the front of a state, if one stands there, and the state after it
 unfoldable pub guarded : State → Option GuardedStr × State
-guarded s = guarded_by (hashes (chars s.rest)) (string_past (hashes (chars s.rest)) (chars s.rest)) s
+guarded s = guarded_by (hash_run (chars s.rest)) (string_past (hash_run (chars s.rest)) (chars s.rest)) s

@@ -32,12 +32,12 @@ abbrev pub is_no_quote : ℕ → Bool
 is_no_quote c = not (is_quote c)
 
 -- how many hashes stand at the front
-abbrev pub hashes : List ℕ → ℕ
-hashes s = run_len is_hash s
+abbrev pub hash_run : List ℕ → ℕ
+hash_run s = run_len is_hash s
 
 -- a quote stands at the front, and at least n hashes directly after it
 abbrev pub closes : ℕ → List ℕ → Bool
-closes n s = next_is is_quote s && nat_le n (hashes (drop 1 s))
+closes n s = next_is is_quote s && nat_le n (hash_run (drop 1 s))
 
 -- the least place of a quote that at least n hashes follow
 abbrev pub close : ℕ → List ℕ → Option ℕ
@@ -45,7 +45,7 @@ close n u = least_place (closes n) u
 
 -- how many hashes stand directly after the quote at the front; 0 where there is no quote
 abbrev pub quote_hashes : List ℕ → ℕ
-quote_hashes s = if next_is is_quote s then hashes (drop 1 s) else 0
+quote_hashes s = if next_is is_quote s then hash_run (drop 1 s) else 0
 
 -- the most hashes that stand directly after a quote
 abbrev pub most_hashes : List ℕ → ℕ
@@ -92,7 +92,7 @@ raw_starter prefix n (c ∷ u) = ((past_starter prefix n c u).0, suc (past_start
 -- what follows the `r`: the number of hashes on each side, or why the string is refused. An offset counts `prefix`
 -- bytes for what stands before
 abbrev pub raw_read : ℕ → List ℕ → Result ℕ RawStrError × ℕ
-raw_read prefix s = after (hashes s) (raw_starter prefix (hashes s)) s
+raw_read prefix s = after (hash_run s) (raw_starter prefix (hash_run s)) s
 
 -- the number of hashes, if the string is not refused
 abbrev pub accepted : Result ℕ RawStrError → Option ℕ
@@ -141,8 +141,8 @@ HasEnd v (Err (NoTerminator n m end)) = ⊥
 
 -- what has an end of its own depends on nothing past it
 abbrev pub EndsItself : ℕ → Type 0
-EndsItself prefix = (s : List ℕ) → HasEnd (drop (hashes s) s) (raw_read prefix s).0 → IsLocalAt (Result ℕ RawStrError) 0 (raw_read prefix) s
+EndsItself prefix = (s : List ℕ) → HasEnd (drop (hash_run s) s) (raw_read prefix s).0 → IsLocalAt (Result ℕ RawStrError) 0 (raw_read prefix) s
 
 -- a refused raw string with an end of its own depends on nothing past it
 abbrev pub RefusedEndsItself : RawPrefix → Type 0
-RefusedEndsItself prefix = (s : List ℕ) → IsNone (accepted (raw_read 0 s).0) → HasEnd (drop (hashes s) s) (raw_read 0 s).0 → IsLocalAt TokenKind 0 (raw_literal prefix) s
+RefusedEndsItself prefix = (s : List ℕ) → IsNone (accepted (raw_read 0 s).0) → HasEnd (drop (hash_run s) s) (raw_read 0 s).0 → IsLocalAt TokenKind 0 (raw_literal prefix) s

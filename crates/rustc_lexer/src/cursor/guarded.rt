@@ -2,8 +2,8 @@
 ghost use Rattle.std.specs.Prelude.{◌≡◌, ◌≤◌, IfSome, min, length};
 ghost use Rattle.std.specs.Str.{chars, IsCharBoundary};
 ghost use Rattle.rustc_lexer.specs.means.Guarded as spec;
-ghost use Rattle.rustc_lexer.specs.LanguageCalls.{TakesTheGuarded};
-ghost use Rattle.rustc_lexer.specs.means.Raw.{hashes};
+ghost use Rattle.rustc_lexer.specs.LanguageHolds.{TakesTheGuarded};
+ghost use Rattle.rustc_lexer.specs.means.Raw.{hash_run};
 ghost use Rattle.rustc_lexer.specs.means.Scan.{past, scanned};
 
 use crate::cursor::Cursor;
@@ -48,7 +48,7 @@ impl<'a> Cursor<'a> {
 
 /// How many hashes stand at the front of the text.
 fn count_hashes(rest: &str) -> usize
-    ensures count { result ≡ hashes (chars rest.now) }
+    ensures count { result ≡ hash_run (chars rest.now) }
     ensures boundary { IsCharBoundary rest.now result }
 {
     rest.len() - eat_while(rest, |c| c == '#').len()
@@ -57,7 +57,7 @@ fn count_hashes(rest: &str) -> usize
 /// Whether a quote closes the string that follows the hashes, and the length of the string with the hashes; `None`
 /// where no string follows them.
 fn string_past(rest: &str, n_hashes: usize) -> Option<(bool, usize)>
-    requires { n_hashes ≡ hashes (chars rest.now) }
+    requires { n_hashes ≡ hash_run (chars rest.now) }
     ensures read { result ≡ spec.string_past n_hashes (chars rest.now) }
     ensures boundary { IfSome result (λ string. IsCharBoundary rest.now string.1) }
 {
@@ -82,7 +82,7 @@ fn guarded_body(body: &str, n_hashes: usize) -> (bool, &str)
 /// What `most` hashes at most leave of the text.
 fn eat_hashes(rest: &str, most: usize) -> &str
     ensures shorter { length result.now ≤ length rest.now }
-    ensures past { result.now ≡ past (min most (hashes (chars rest.now))) rest.now }
+    ensures past { result.now ≡ past (min most (hash_run (chars rest.now))) rest.now }
 {
     &rest[count_hashes(rest).min(most)..]
 }

@@ -1,7 +1,8 @@
 use Rattle.std.proofs.Common.{◌∙◌, List, ℕ, ap, sym}
 use Rattle.std.specs.Prelude.{codes}
 use Rattle.std.specs.Str.{bytes_eq}
-use Rattle.highlight.specs.Job.{edition_of, when_of}
+use Rattle.rustc_lexer.specs.Edition.{edition_of}
+use Rattle.highlight.specs.Job.{when_of}
 use Rattle.highlight.proofs.JobLemmas.{page_at, edition_at, colours_at}
 use Rattle.highlight.proofs.job.+read_options.Goals as goal
 
@@ -19,7 +20,7 @@ returns-in_ok-in_edition-in-len2-up n c =
     c.in-len2-up.len_at_least c.word-item.is c.word-item-2.is c.year-item.is
     (ap (λ (xs : List ℕ). bytes_eq xs (codes "--html")) (sym c.as_str.ensures.value) ∙ (sym c.eq.ensures ∙ c.if-eq.false))
     (ap (λ (xs : List ℕ). bytes_eq xs (codes "--edition")) (sym c.as_str-2.ensures.value) ∙ (sym c.eq-2.ensures ∙ c.if-eq-2.true))
-    (c.in_ok-edition-in-len2-up.ensures ∙ ap edition_of c.as_str-in-len2-up.ensures.value)
+    (c.in_ok-edition-in-len2-up.ensures.value ∙ (c.from_str.ensures ∙ ap edition_of c.as_str-in-len2-up.ensures.value))
     c.in_ok-in_edition-in-len2-up.ensures
 
 pub returns-in_ok-with_colours-in-len2-up-2 : goal.returns-in_ok-with_colours-in-len2-up-2

@@ -1,4 +1,5 @@
-use Rattle.rustc_lexer.specs.laws.LanguageReach.{looks_no_further, needs_two}
+use Rattle.rustc_lexer.specs.laws.Language.{begins-one}
+use Rattle.rustc_lexer.specs.laws.LanguageReach.{looks_no_further, refused_stands, none_looks_less}
 use Rattle.rustc_lexer.proofs.LanguageLemmas.{language}
 use Rattle.rustc_lexer.proofs.TokensLemmas.{partitions, restarts}
 use Rattle.rustc_lexer.proofs.TextLemmas.{suffixes, texts}
@@ -20,4 +21,7 @@ pub returns-clause-language : goal.returns-clause-language
 returns-clause-language c = language _ _ record { utf8 = c.utf8.input; fits = c.requires.fits }
 
 pub returns-clause-reach : goal.returns-clause-reach
-returns-clause-reach c = (looks_no_further, needs_two)
+returns-clause-reach c = (looks_no_further, refused_stands, none_looks_less)
+
+pub returns-clause-one_token : goal.returns-clause-one_token
+returns-clause-one_token c = begins-one
