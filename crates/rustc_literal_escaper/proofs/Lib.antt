@@ -1,0 +1,4 @@
+pub mod DigitLemmas
+pub mod SingleLemmas
+pub mod PlaceLemmas
+pub mod ItemLemmas

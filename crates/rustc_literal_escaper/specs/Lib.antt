@@ -1,0 +1,9 @@
+pub mod Elements
+pub mod Escape
+pub mod Fatal
+pub mod Meaning
+pub mod Mode
+pub mod Runs
+pub mod Single
+pub mod Told
+pub mod Units
