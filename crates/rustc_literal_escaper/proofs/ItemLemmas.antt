@@ -5,13 +5,13 @@ use Rattle.std.specs.Str.{byte, chars, IsUtf8}
 use Rattle.std.proofs.lemmas.Bool.{true≢false}
 use Rattle.std.proofs.lemmas.Str.{encodes-chars}
 use Rattle.rustc_literal_escaper.specs.declared.element.Element.{Element}
-use Rattle.rustc_literal_escaper.specs.Elements.{Front, Item, front, raw_front, is_newline, item_at, items_from, items_in, line_end, one, past_backslash, place, unescaped, is_passed_over}
+use Rattle.rustc_literal_escaper.specs.Elements.{Front, Item, front, front_by, raw_front, is_newline, item_at, items_from, items_in, line_end, one, past_backslash, TakesFirst, place, unescaped, is_passed_over}
 use Rattle.rustc_literal_escaper.specs.Escape.{braced, closed, closed_at_run, escape, hex, is_digit_or_underscore, is_hex, short, unicode}
 use Rattle.rustc_literal_escaper.specs.Runs.{front_run, past_run}
 
 -- ---- each step takes a character at least
 
-either : {A : Type 0} (P : A → Type 0) (b : Bool) (x y : A) → P x → P y → P (if b then x else y)
+pub either : {A : Type 0} (P : A → Type 0) (b : Bool) (x y : A) → P x → P y → P (if b then x else y)
 either P true x y p q = p
 either P false x y p q = q
 
@@ -67,6 +67,10 @@ pub raw_front-shorter : Shortens raw_front
 unfolding raw_front
 raw_front-shorter c s = omega arith
 
+pub front_by-shorter : (raw : Bool) → Shortens (front_by raw)
+front_by-shorter true = raw_front-shorter
+front_by-shorter false = front-shorter
+
 -- ---- so any number of steps that is large enough gives the same items
 
 module _ (at : ℕ → List ℕ → Front) (shorter : Shortens at) (total : ℕ) where
@@ -80,10 +84,6 @@ module _ (at : ℕ → List ℕ → Front) (shorter : Shortens at) (total : ℕ)
   enough (suc m) (suc n) (c ∷ s) a b =
       let h : length (at c s).left ≤ length s = shorter c s in
       ap (λ (is : List Item). map (item_at total (place total (c ∷ s))) (at c s).told ++ is) (enough m n (at c s).left (omega arith) (omega arith))
-
-  pub items-nil : items_from at total [] ≡ []
-  unfolding items_from
-  items-nil = refl
 
   pub items-cons : (c : ℕ) (s : List ℕ) → items_from at total (c ∷ s) ≡ map (item_at total (place total (c ∷ s))) (at c s).told ++ items_from at total (at c s).left
   unfolding items_from
@@ -107,3 +107,23 @@ pub told-none : (a b : Option Item) → is_some a ≡ false → (a ≡ None → 
 told-none None None e h = refl
 told-none None (Some x) e h = absurd (let f : Some x ≡ None = h refl in cc)
 told-none (Some x) b e h = absurd (true≢false e)
+
+-- no items are in nothing
+pub nothing : (at : ℕ → List ℕ → Front) (total : ℕ) → items_from at total [] ≡ []
+unfolding items_from
+nothing at total = refl
+
+-- with nothing waiting, an iterator takes the first of what is told, and keeps the rest
+pub takes_first : (at : ℕ → List ℕ → Front) (total : ℕ) (waiting first second : Option Item) (rest left : List ℕ) → None ≡ waiting
+    → items_from at total rest ≡ (option_to_list first ++ option_to_list second) ++ items_from at total left → (first ≡ None → (second ≡ None) × (left ≡ []))
+    → TakesFirst (option_to_list waiting ++ items_from at total rest) first (option_to_list second ++ items_from at total left)
+takes_first at total waiting first second rest left none told all =
+    subst (λ (w : Option Item). TakesFirst (option_to_list w ++ items_from at total rest) first (option_to_list second ++ items_from at total left)) none (by_first first second told all)
+  where
+    by_first : (first second : Option Item) → items_from at total rest ≡ (option_to_list first ++ option_to_list second) ++ items_from at total left → (first ≡ None → (second ≡ None) × (left ≡ []))
+        → TakesFirst (items_from at total rest) first (option_to_list second ++ items_from at total left)
+    by_first (Some x) second told all = told
+    by_first None second told all =
+        let ends : option_to_list second ++ items_from at total left ≡ [] =
+        ap (λ (o : Option Item). option_to_list o ++ items_from at total left) (all refl).0 ∙ (ap (items_from at total) (all refl).1 ∙ nothing at total) in
+        (told ∙ ends, ends)

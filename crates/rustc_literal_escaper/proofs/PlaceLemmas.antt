@@ -26,13 +26,13 @@ or_false : (a : Bool) → a ≡ a || false
 or_false true = refl
 or_false false = refl
 
-front_run-yes : (p : ℕ → Bool) (c : ℕ) (s : List ℕ) → p c ≡ true → front_run p (c ∷ s) ≡ c ∷ front_run p s
+pub front_run-yes : (p : ℕ → Bool) (c : ℕ) (s : List ℕ) → p c ≡ true → front_run p (c ∷ s) ≡ c ∷ front_run p s
 front_run-yes p c s e = rw e refl
 
 front_run-no : (p : ℕ → Bool) (c : ℕ) (s : List ℕ) → p c ≡ false → front_run p (c ∷ s) ≡ []
 front_run-no p c s e = rw e refl
 
-past_run-yes : (p : ℕ → Bool) (c : ℕ) (s : List ℕ) → p c ≡ true → past_run p (c ∷ s) ≡ past_run p s
+pub past_run-yes : (p : ℕ → Bool) (c : ℕ) (s : List ℕ) → p c ≡ true → past_run p (c ∷ s) ≡ past_run p s
 past_run-yes p c s e = rw e refl
 
 past_run-no : (p : ℕ → Bool) (c : ℕ) (s : List ℕ) → p c ≡ false → past_run p (c ∷ s) ≡ c ∷ s

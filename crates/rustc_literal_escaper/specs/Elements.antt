@@ -1,5 +1,5 @@
 -- What stands between double quotes: its elements in order, each with its place in bytes.
-use Rattle.std.specs.Prelude.{ℕ, zero, suc, ◌-◌, ◌==◌, ◌||◌, Bool, false, if◌then◌else◌, List, [], ◌∷◌, ◌++◌, length, map}
+use Rattle.std.specs.Prelude.{Option, Some, None, ◌≡◌, ℕ, zero, suc, ◌-◌, ◌==◌, ◌||◌, Bool, true, false, if◌then◌else◌, List, [], ◌∷◌, ◌++◌, length, map}
 use Rattle.std.specs.Char.{is_whitespace}
 use Rattle.std.specs.List.{list_any}
 use Rattle.std.specs.Str.{byte, chars, encode_utf8_all}
@@ -64,8 +64,15 @@ unfoldable pub front : ℕ → List ℕ → Front
 front c s = if c == byte "\\" then past_backslash s else one (unescaped c, s)
 
 -- the front of a raw string's text: each character is itself, but for a carriage return
+abbrev pub raw_element : ℕ → Element
+raw_element c = if c == 13 then Fault BareCarriageReturnInRawString else Plain c
+
 unfoldable pub raw_front : ℕ → List ℕ → Front
-raw_front c s = one ((if c == 13 then Fault BareCarriageReturnInRawString else Plain c), s)
+raw_front c s = one (raw_element c, s)
+
+abbrev pub front_by : Bool → ℕ → List ℕ → Front
+front_by true = raw_front
+front_by false = front
 
 -- an element and its place
 abbrev pub Item : Type 0
@@ -88,9 +95,11 @@ items_in at (suc count) total (c ∷ s) = map (item_at total (place total (c ∷
 unfoldable pub items_from : (ℕ → List ℕ → Front) → ℕ → List ℕ → List Item
 items_from at total s = items_in at (length s) total s
 
--- the items of a text
-abbrev pub items_of : List ℕ → List Item
-items_of text = items_from front (length text) (chars text)
+-- the items of a text, raw or not
+abbrev pub items_of : Bool → List ℕ → List Item
+items_of raw text = items_from (front_by raw) (length text) (chars text)
 
-abbrev pub raw_items_of : List ℕ → List Item
-raw_items_of text = items_from raw_front (length text) (chars text)
+-- an iterator whose items left are a list: it takes the first, and with none left it stays so
+abbrev pub TakesFirst : {A : Type 0} → List A → Option A → List A → Type 0
+TakesFirst s None t = (s ≡ []) × (t ≡ [])
+TakesFirst s (Some item) t = s ≡ item ∷ t

@@ -1,12 +1,11 @@
 //! The elements of what stands between double quotes.
-ghost use Rattle.std.specs.Prelude.{◌≡◌, ◌++◌, length};
+ghost use Rattle.std.specs.Prelude.{◌≡◌, true, false, length};
 ghost use Rattle.std.specs.Iterator.{at_most};
-ghost use Rattle.std.specs.Option.{option_to_list};
-ghost use Rattle.rustc_literal_escaper.specs.Elements.{items_of, raw_items_of};
+ghost use Rattle.rustc_literal_escaper.specs.Elements.{items_of, TakesFirst};
+ghost use Rattle.rustc_literal_escaper.specs.Places.{ArePlaced};
+ghost use Rattle.rustc_literal_escaper.specs.Plain.{StandsForItself};
 
 use crate::element::Element;
-use crate::error::EscapeError;
-use crate::scan::split_first;
 use crate::steps::{Told, advance};
 use std::iter::Iterator;
 use std::marker::Model;
@@ -18,6 +17,8 @@ pub struct Elements<'a> {
     rest: &'a str,
     /// How many bytes the text has.
     total: usize,
+    /// Whether it is a raw string's.
+    raw: bool,
     /// What comes before the elements of the rest.
     waiting: Option<(Range<usize>, Element)>,
 }
@@ -26,11 +27,11 @@ impl<'a> Model for Elements<'a> {
     ghost use Rattle.std.specs.Prelude.{List, ◌++◌, ◌≤◌, length};
     ghost use Rattle.std.specs.Option.{option_to_list};
     ghost use Rattle.std.specs.Str.{chars};
-    ghost use Rattle.rustc_literal_escaper.specs.Elements.{Item, items_from, front};
+    ghost use Rattle.rustc_literal_escaper.specs.Elements.{Item, items_from, front_by};
 
     ghost Value = { List Item };
 
-    ghost view = { λ e. option_to_list e.waiting ++ items_from front e.total (chars e.rest.now) };
+    ghost view = { λ e. option_to_list e.waiting ++ items_from (front_by e.raw) e.total (chars e.rest.now) };
 
     ghost invariant = { λ e. length e.rest.now ≤ e.total };
 }
@@ -38,11 +39,28 @@ impl<'a> Model for Elements<'a> {
 impl<'a> Elements<'a> {
     /// The elements of `src`, which is what stands between the quotes of a string, byte string or C string.
     pub fn new(src: &'a str) -> Elements<'a>
-        ensures { result ≡ items_of src.now }
+        ensures items { result ≡ items_of false src.now }
+        ensures plain { StandsForItself false src.now }
+        ensures places { ArePlaced src.now (items_of false src.now) }
     {
         Elements {
             rest: src,
             total: src.len(),
+            raw: false,
+            waiting: None,
+        }
+    }
+
+    /// The elements of `src`, which is what stands between the quotes of a raw string, of any kind.
+    pub fn new_raw(src: &'a str) -> Elements<'a>
+        ensures items { result ≡ items_of true src.now }
+        ensures plain { StandsForItself true src.now }
+        ensures places { ArePlaced src.now (items_of true src.now) }
+    {
+        Elements {
+            rest: src,
+            total: src.len(),
+            raw: true,
             waiting: None,
         }
     }
@@ -51,7 +69,7 @@ impl<'a> Elements<'a> {
 impl<'a> Iterator for Elements<'a> {
     type Item = (Range<usize>, Element);
 
-    ghost next_gives = { λ s r t. s ≡ option_to_list r ++ t };
+    ghost next_gives = { TakesFirst };
 
     ghost remaining = { λ s. at_most (length s) };
 
@@ -64,7 +82,7 @@ impl<'a> Iterator for Elements<'a> {
             first,
             second,
             left,
-        } = advance(self.rest, self.total);
+        } = advance(self.rest, self.total, self.raw);
         self.rest = left;
         self.waiting = second;
         first

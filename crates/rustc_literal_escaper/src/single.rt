@@ -1,6 +1,7 @@
 //! Characters and bytes.
 ghost use Rattle.std.specs.Prelude.{◌≡◌, ◌≤◌, ◌<◌, MatchOption, [], length};
 ghost use Rattle.std.specs.Str.{chars, IsUtf8};
+ghost use Rattle.rustc_literal_escaper.specs.RoundTrip.{ByteComesBack, CharComesBack};
 ghost use Rattle.rustc_literal_escaper.specs.Single as spec;
 ghost use Rattle.rustc_literal_escaper.specs.Single.{byte_literal, char_literal, StartsWithSingle};
 
@@ -17,6 +18,14 @@ use crate::scan::split_first;
 /// unescape_char("ab") // Err(EscapeError::MoreThanOneChar)
 /// ```
 pub fn unescape_char(src: &str) -> Result<char, EscapeError>
+    ensures literal { result ≡ char_literal (chars src.now) }
+    ensures escapes { CharComesBack }
+{
+    read_char(src)
+}
+
+/// The character of the one element, if nothing is left past it.
+fn read_char(src: &str) -> Result<char, EscapeError>
     ensures { result ≡ char_literal (chars src.now) }
 {
     let Some((element, left)) = single(src) else {
@@ -32,6 +41,14 @@ pub fn unescape_char(src: &str) -> Result<char, EscapeError>
 
 /// The byte that a byte literal stands for, of which `src` is what stands between the quotes.
 pub fn unescape_byte(src: &str) -> Result<u8, EscapeError>
+    ensures literal { result ≡ byte_literal (chars src.now) }
+    ensures escapes { ByteComesBack }
+{
+    read_byte(src)
+}
+
+/// The byte of the one element, if nothing is left past it.
+fn read_byte(src: &str) -> Result<u8, EscapeError>
     ensures { result ≡ byte_literal (chars src.now) }
 {
     let Some((element, left)) = single(src) else {

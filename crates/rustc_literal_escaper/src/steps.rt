@@ -22,17 +22,17 @@ pub(crate) struct Told<'a> {
 }
 
 /// The first items of what is left of a text of `total` bytes. None is told where none comes any more.
-pub(crate) fn advance(rest: &str, total: usize) -> Told<'_>
+pub(crate) fn advance(rest: &str, total: usize, raw: bool) -> Told<'_>
     requires fits { length rest.now ≤ total }
-    ensures told { spec.items_from spec.front total (chars rest.now)
-        ≡ told_by result ++ spec.items_from spec.front total (chars result.left.now) }
+    ensures told { spec.items_from (spec.front_by raw) total (chars rest.now)
+        ≡ told_by result ++ spec.items_from (spec.front_by raw) total (chars result.left.now) }
     ensures all { result.first ≡ None → (result.second ≡ None) × (chars result.left.now ≡ []) }
     ensures shorter { length result.left.now ≤ length rest.now }
     ensures text { IsUtf8 result.left.now }
 {
     let mut left = rest;
     'steps: while let Some((c, tail)) = split_first(left) {
-        let told = step(c, tail, total - left.len(), total);
+        let told = step_by(raw, c, tail, total - left.len(), total);
         if told.first.is_some() {
             return told;
         }
@@ -42,6 +42,35 @@ pub(crate) fn advance(rest: &str, total: usize) -> Told<'_>
         first: None,
         second: None,
         left,
+    }
+}
+
+/// What is told at the character `c` of a raw string or another, as [`step`] does.
+#[tactic(auto, unfolding(crate::specs::Elements::raw_front))]
+fn step_by(raw: bool, c: char, tail: &str, start: usize, total: usize) -> Told<'_>
+    requires fits { length tail.now ≤ total }
+    ensures told { told_by result
+        ≡ map (spec.item_at total start) (spec.front_by raw c (chars tail.now)).told }
+    ensures left { chars result.left.now ≡ (spec.front_by raw c (chars tail.now)).left }
+    ensures none { result.first ≡ None → result.second ≡ None }
+    ensures shorter { length result.left.now ≤ length tail.now }
+    ensures text { IsUtf8 result.left.now }
+{
+    if raw {
+        one(raw_element(c), tail, start, total)
+    } else {
+        step(c, tail, start, total)
+    }
+}
+
+/// What a character of a raw string is.
+fn raw_element(c: char) -> Element
+    ensures { result ≡ spec.raw_element c }
+{
+    if c == '\r' {
+        Element::Fault(EscapeError::BareCarriageReturnInRawString)
+    } else {
+        Element::Plain(c)
     }
 }
 

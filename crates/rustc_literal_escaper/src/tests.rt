@@ -1,4 +1,5 @@
 use super::*;
+use std::test::Fail;
 
 /// What is wrong between single quotes, in a character and in a byte alike.
 const BAD_IN_BOTH: [(&str, EscapeError); 32] = [
@@ -167,4 +168,148 @@ fn modes(rt: HostRuntime) {
     assert_eq!(rt; Mode::RawStr.prefix_noraw(), "");
     assert_eq!(rt; Mode::RawByteStr.prefix_noraw(), "b");
     assert_eq!(rt; Mode::CStr.prefix_noraw(), "c");
+}
+
+/// What the elements of a string stand for, with their places.
+fn characters_of(
+    rt: &HostRuntime,
+    elements: Elements<'_>,
+) -> Result<Vec<(usize, usize, Result<char, EscapeError>)>, Fail> {
+    let mut found = Vec::new(rt.alloc());
+    for (range, element) in elements {
+        found.push((range.start, range.end, element.to_char()))?;
+    }
+    Ok(found)
+}
+
+#[test]
+fn warnings_of_strings(rt: HostRuntime) -> Result<(), Fail> {
+    let found = characters_of(&rt, Elements::new("\\\n"))?;
+    assert_eq!(rt; found.len(), 0);
+    let found = characters_of(&rt, Elements::new("\\\n "))?;
+    assert_eq!(rt; found.len(), 0);
+    let found = characters_of(&rt, Elements::new("\\\n \u{a0} x"))?;
+    let expected = [
+        (0, 5, Err(EscapeError::UnskippedWhitespaceWarning)),
+        (3, 5, Ok('\u{a0}')),
+        (5, 6, Ok(' ')),
+        (6, 7, Ok('x')),
+    ];
+    assert_eq!(rt; found.as_slice(), expected.as_slice());
+    let found = characters_of(&rt, Elements::new("\\\n  \n  x"))?;
+    let expected = [
+        (0, 7, Err(EscapeError::MultipleSkippedLinesWarning)),
+        (7, 8, Ok('x')),
+    ];
+    assert_eq!(rt; found.as_slice(), expected.as_slice());
+    Ok(())
+}
+
+#[test]
+fn raw_strings(rt: HostRuntime) -> Result<(), Fail> {
+    let found = characters_of(&rt, Elements::new_raw("\rx"))?;
+    let expected = [
+        (0, 1, Err(EscapeError::BareCarriageReturnInRawString)),
+        (1, 2, Ok('x')),
+    ];
+    assert_eq!(rt; found.as_slice(), expected.as_slice());
+    let found = characters_of(&rt, Elements::new_raw("\r"))?;
+    let expected = [(0, 1, Err(EscapeError::BareCarriageReturnInRawString))];
+    assert_eq!(rt; found.as_slice(), expected.as_slice());
+    Ok(())
+}
+
+#[test]
+fn strings(rt: HostRuntime) -> Result<(), Fail> {
+    let rows = [
+        ("foo", "foo"),
+        ("", ""),
+        (" \t\n", " \t\n"),
+        ("hello \\\n     world", "hello world"),
+        ("thread's", "thread's"),
+    ];
+    for (src, expected) in rows {
+        let mut text = String::new(rt.alloc());
+        let mut faults = false;
+        unescape_str(src, |_, unit| match unit {
+            Ok(c) => {
+                let _ = text.push(c);
+            }
+            Err(_) => faults = true,
+        });
+        assert!(rt; !faults);
+        assert_eq!(rt; text.as_str(), expected);
+        let mut bytes = Vec::new(rt.alloc());
+        unescape_byte_str(src, |_, unit| {
+            let _ = bytes.push(unit);
+        });
+        let mut expected_bytes = Vec::new(rt.alloc());
+        for byte in expected.bytes() {
+            expected_bytes.push(Ok(byte))?;
+        }
+        assert_eq!(rt; bytes.as_slice(), expected_bytes.as_slice());
+    }
+    Ok(())
+}
+
+#[test]
+fn raw_byte_strings(rt: HostRuntime) -> Result<(), Fail> {
+    let mut found = Vec::new(rt.alloc());
+    check_raw_byte_str("\r🦀a", |range, unit| {
+        let _ = found.push((range.start, range.end, unit));
+    });
+    let expected = [
+        (0, 1, Err(EscapeError::BareCarriageReturnInRawString)),
+        (1, 5, Err(EscapeError::NonAsciiCharInByte)),
+        (5, 6, Ok(b'a')),
+    ];
+    assert_eq!(rt; found.as_slice(), expected.as_slice());
+    let mut found = Vec::new(rt.alloc());
+    check_raw_str("\r", |range, unit| {
+        let _ = found.push((range.start, range.end, unit));
+    });
+    let expected = [(0, 1, Err(EscapeError::BareCarriageReturnInRawString))];
+    assert_eq!(rt; found.as_slice(), expected.as_slice());
+    Ok(())
+}
+
+#[test]
+fn c_strings(rt: HostRuntime) -> Result<(), Fail> {
+    let mut found = Vec::new(rt.alloc());
+    unescape_c_str("\\x41\\xa5¥\\0", |range, unit| {
+        let _ = found.push((range.start, range.end, unit));
+    });
+    let expected = [
+        (0, 4, MixedUnit::try_from('A')),
+        (4, 8, MixedUnit::try_from(0xa5)),
+        (8, 10, MixedUnit::try_from('¥')),
+        (10, 12, Err(EscapeError::NulInCStr)),
+    ];
+    assert_eq!(rt; found.as_slice(), expected.as_slice());
+    let mut found = Vec::new(rt.alloc());
+    check_raw_c_str("a\0", |range, unit| {
+        let _ = found.push((range.start, range.end, unit.is_ok()));
+    });
+    assert_eq!(rt; found.as_slice(), [(0, 1, true), (1, 2, false)].as_slice());
+    Ok(())
+}
+
+#[test]
+fn errors_alone(rt: HostRuntime) -> Result<(), Fail> {
+    let mut found = Vec::new(rt.alloc());
+    check_for_errors("a\\qb\\u{110000}", Mode::Str, |range, error| {
+        let _ = found.push((range.start, range.end, error));
+    });
+    let expected = [
+        (1, 3, EscapeError::InvalidEscape),
+        (4, 14, EscapeError::OutOfRangeUnicodeEscape),
+    ];
+    assert_eq!(rt; found.as_slice(), expected.as_slice());
+    let mut found = Vec::new(rt.alloc());
+    check_for_errors("spam", Mode::Char, |range, error| {
+        let _ = found.push((range.start, range.end, error));
+    });
+    let expected = [(0, 2, EscapeError::MoreThanOneChar)];
+    assert_eq!(rt; found.as_slice(), expected.as_slice());
+    Ok(())
 }
