@@ -1,0 +1,97 @@
+-- The digits between braces, one by one.
+use Rattle.std.proofs.Common.{◌≡◌, ℕ, zero, suc, zero-add, add-zero, ◌+◌, ◌*◌, ◌^◌, ◌<◌, ◌==◌, ◌||◌, Bool, true, false, true≢false, if◌then◌else◌, List, [], ◌∷◌, length, fold, filter, refl, sym, ap, ◌∙◌, subst, arith, rules, nat_le, nat_lt, min}
+use Rattle.std.specs.Char.{digit_value}
+use Rattle.std.proofs.lemmas.Bool.{ne_eqb}
+use Rattle.std.proofs.lemmas.Bool.Decides.{nat_tests}
+use Rattle.rustc_literal_escaper.specs.declared.element.Element.{Element}
+use Rattle.rustc_literal_escaper.specs.declared.element.Element.TheVariants.{Unicode, Fault}
+use Rattle.rustc_literal_escaper.specs.declared.error.EscapeError.TheVariants.{InvalidCharInUnicodeEscape, UnclosedUnicodeEscape, OverlongUnicodeEscape}
+use Rattle.rustc_literal_escaper.specs.Escape.{is_hex, is_digit_or_underscore, closed, closed_at_run}
+use Rattle.rustc_literal_escaper.specs.Runs.{front_run, past_run}
+
+-- one more digit has room in 24 bits
+pub with_room : (v n : ℕ) → v < 16 ^ min n 6 → n < 6 → v < 16 ^ 5
+with_room v zero h l = omega arith
+with_room v (suc zero) h l = omega arith
+with_room v (suc (suc zero)) h l = omega arith
+with_room v (suc (suc (suc zero))) h l = omega arith
+with_room v (suc (suc (suc (suc zero)))) h l = omega arith
+with_room v (suc (suc (suc (suc (suc zero))))) h l = omega arith
+with_room v (suc (suc (suc (suc (suc (suc n)))))) h l = absurd (omega arith)
+
+abbrev pub with_digit : ℕ → ℕ → ℕ → ℕ
+with_digit v n d = if nat_lt n 6 then v * 16 + d else v
+
+-- the number whose first `n` digits make `v`, and whose others are these
+abbrev pub number_past : ℕ → ℕ → List ℕ → Element
+number_past v n digits = if nat_le (n + length digits) 6 then Unicode (fold (λ value digit. value * 16 + digit_value digit) v digits) else Fault OverlongUnicodeEscape
+
+abbrev pub closed_past : (ℕ → Bool) → ℕ → ℕ → List ℕ → List ℕ → Element × List ℕ
+closed_past h v n digits [] = (Fault UnclosedUnicodeEscape, [])
+closed_past h v n digits (c ∷ s) = (if c == 125 then number_past v n (filter h digits) else Fault InvalidCharInUnicodeEscape, s)
+
+-- of any two classes: the same
+abbrev pub left_by : (ℕ → Bool) → (ℕ → Bool) → ℕ → ℕ → List ℕ → Element × List ℕ
+left_by p h v n s = closed_past h v n (front_run p s) (past_run p s)
+
+-- what is read of what is left, past digits that made `v`
+unfoldable pub left_at : ℕ → ℕ → List ℕ → Element × List ℕ
+left_at v n s = left_by is_digit_or_underscore is_hex v n s
+
+pub left_at-start : (s : List ℕ) → left_at 0 0 s ≡ closed_at_run s
+unfolding left_at
+left_at-start s = by_run (front_run is_digit_or_underscore s) (past_run is_digit_or_underscore s)
+  where
+    by_run : (digits left : List ℕ) → closed_past is_hex 0 0 digits left ≡ closed digits left
+    by_run digits [] = refl
+    by_run digits (c ∷ t) = rw (zero-add (length (filter is_hex digits))) refl
+
+pub left_at-end : (v n : ℕ) → left_at v n [] ≡ (Fault UnclosedUnicodeEscape, [])
+unfolding left_at
+left_at-end v n = refl
+
+pub left_at-underscore : (v n c : ℕ) (s : List ℕ) → c ≡ 95 → left_at v n (c ∷ s) ≡ left_at v n s
+unfolding left_at
+left_at-underscore v n c s e = subst (λ (d : ℕ). left_at v n (d ∷ s) ≡ left_at v n s) (sym e) (by_run (front_run is_digit_or_underscore s) (past_run is_digit_or_underscore s))
+  where
+    by_run : (digits left : List ℕ) → closed_past is_hex v n (95 ∷ digits) left ≡ closed_past is_hex v n digits left
+    by_run digits [] = refl
+    by_run digits (d ∷ t) = refl
+
+pub left_at-brace : (v n c : ℕ) (s : List ℕ) → c ≡ 125 → left_at v n (c ∷ s) ≡ ((if nat_le n 6 then Unicode v else Fault OverlongUnicodeEscape), s)
+unfolding left_at
+left_at-brace v n c s e = subst (λ (d : ℕ). left_at v n (d ∷ s) ≡ ((if nat_le n 6 then Unicode v else Fault OverlongUnicodeEscape), s)) (sym e) (rw (add-zero n) refl)
+
+number_digit : (v n c : ℕ) (ds : List ℕ) → number_past v n (c ∷ ds) ≡ number_past (with_digit v n (digit_value c)) (n + 1) ds
+number_digit v n c ds =
+    let one : n + suc (length ds) ≡ (n + 1) + length ds = omega arith in
+    rw one (grind (arith, nat_tests))
+
+by_digit : (p h : ℕ → Bool) (v n c : ℕ) (s : List ℕ) → p c ≡ true → h c ≡ true → left_by p h v n (c ∷ s) ≡ left_by p h (with_digit v n (digit_value c)) (n + 1) s
+by_digit p h v n c s a b = rw a (by_run (front_run p s) (past_run p s))
+  where
+    by_run : (digits left : List ℕ) → closed_past h v n (c ∷ digits) left ≡ closed_past h (with_digit v n (digit_value c)) (n + 1) digits left
+    by_run digits [] = refl
+    by_run digits (d ∷ t) = rw b (rw (number_digit v n c (filter h digits)) refl)
+
+any : (b : Bool) → b || true ≡ true
+any true = refl
+any false = refl
+
+pub left_at-digit : (v n c : ℕ) (s : List ℕ) → is_hex c ≡ true → left_at v n (c ∷ s) ≡ left_at (with_digit v n (digit_value c)) (n + 1) s
+unfolding left_at
+left_at-digit v n c s e = by_digit is_digit_or_underscore is_hex v n c s (ap (λ b. (c == 95) || b) e ∙ any (c == 95)) e
+
+by_other : (p h : ℕ → Bool) (v n c : ℕ) (s : List ℕ) → p c ≡ false → (c == 125) ≡ false → left_by p h v n (c ∷ s) ≡ (Fault InvalidCharInUnicodeEscape, s)
+by_other p h v n c s a b = rw a (rw b refl)
+
+pub left_at-other : (v n c : ℕ) (s : List ℕ) → (c ≡ 95 → ⊥) → (c ≡ 125 → ⊥) → is_hex c ≡ false → left_at v n (c ∷ s) ≡ (Fault InvalidCharInUnicodeEscape, s)
+unfolding left_at
+left_at-other v n c s a b e = by_other is_digit_or_underscore is_hex v n c s (ap (λ x. x || is_hex c) (ne_eqb c 95 a) ∙ e) (ne_eqb c 125 b)
+
+-- what a digit of `to_digit` is, and what is none
+pub hex-yes : (c : ℕ) → digit_value c < 16 → is_hex c ≡ true
+hex-yes c l = grind (arith, nat_tests)
+
+pub hex-no : (c : ℕ) → (digit_value c < 16 → ⊥) → is_hex c ≡ false
+hex-no c l = grind (arith, nat_tests)

@@ -1,0 +1,44 @@
+-- The errors of a list of items, one item at a time.
+use Rattle.std.proofs.Common.{◌≡◌, Bool, false, if◌then◌else◌, ℕ, ◌-◌, length, List, [], ◌∷◌, Option, Some, None, refl, sym, ap, ◌∙◌}
+use Rattle.std.specs.Option.{option_to_list}
+use Rattle.std.specs.Str.{chars, IsUtf8}
+use Rattle.std.proofs.lemmas.Str.{encodes-chars}
+use Rattle.rustc_literal_escaper.specs.declared.element.Element.{Element}
+use Rattle.rustc_literal_escaper.specs.declared.error.EscapeError.TheVariants.{MoreThanOneChar}
+use Rattle.rustc_literal_escaper.specs.declared.error.EscapeError.{EscapeError}
+use Rattle.rustc_literal_escaper.specs.declared.mode.Mode.{Mode}
+use Rattle.rustc_literal_escaper.specs.Elements.{Item, items_of}
+use Rattle.rustc_literal_escaper.specs.Errors.{Error, alone_error, error_of, errors_in, errors_of, is_raw, is_single, put, single_error}
+use Rattle.rustc_literal_escaper.specs.Single.{StartsWithSingle}
+
+-- an item with nothing wrong adds none
+pub errors-none : (mode : Mode) (s t : List Item) (i : Item) → s ≡ i ∷ t → None ≡ error_of mode i.1 → errors_in mode t ≡ errors_in mode s
+errors-none mode s t i e none = ap (λ (o : Option EscapeError). put i.0 o (errors_in mode t)) none ∙ sym (ap (errors_in mode) e)
+
+-- another adds its own in front
+pub errors-some : (mode : Mode) (s t : List Item) (i : Item) (error : EscapeError) → s ≡ i ∷ t → Some error ≡ error_of mode i.1 → (i.0, error) ∷ errors_in mode t ≡ errors_in mode s
+errors-some mode s t i error e some = ap (λ (o : Option EscapeError). put i.0 o (errors_in mode t)) some ∙ sym (ap (errors_in mode) e)
+
+-- what is wrong between single quotes, by the first element
+single_error-starts : (total : ℕ) (mode : Mode) (s left : List ℕ) (e : Element) → StartsWithSingle s e left → single_error total mode s ≡ alone_error total (error_of mode e) left
+single_error-starts total mode [] left e h = absurd h
+single_error-starts total mode (c ∷ s) left e h = ap (λ (r : Element × List ℕ). alone_error total (error_of mode r.0) r.1) (sym h)
+
+error_to-is : (total : ℕ) (error : EscapeError) (left : List ℕ) → IsUtf8 left → Some (record { start = 0; end = total - length left }, error) ≡ alone_error total (Some error) (chars left)
+error_to-is total error left is = ap (λ (n : ℕ). Some (record { start = 0; end = total - n }, error)) (sym (ap length (encodes-chars left is)))
+
+pub single_error-some : (total : ℕ) (mode : Mode) (s left : List ℕ) (e : Element) (error : EscapeError) → StartsWithSingle s e (chars left) → IsUtf8 left → Some error ≡ error_of mode e
+    → Some (record { start = 0; end = total - length left }, error) ≡ single_error total mode s
+single_error-some total mode s left e error h is some = error_to-is total error left is ∙ (ap (λ (o : Option EscapeError). alone_error total o (chars left)) some ∙ sym (single_error-starts total mode s (chars left) e h))
+
+pub single_error-more : (total : ℕ) (mode : Mode) (s left more : List ℕ) (e : Element) (d : ℕ) → StartsWithSingle s e (chars left) → None ≡ error_of mode e → chars left ≡ d ∷ chars more → IsUtf8 more
+    → Some (record { start = 0; end = total - length more }, MoreThanOneChar) ≡ single_error total mode s
+single_error-more total mode s left more e d h none reads is =
+    error_to-is total MoreThanOneChar more is
+    ∙ (ap (alone_error total None) (sym reads) ∙ (ap (λ (o : Option EscapeError). alone_error total o (chars left)) none ∙ sym (single_error-starts total mode s (chars left) e h)))
+
+-- a literal between double quotes has the errors of its elements
+pub errors_of-strings : (mode : Mode) (text : List ℕ) (items : List Item) → false ≡ is_single mode → items ≡ items_of (is_raw mode) text → errors_in mode items ≡ errors_of mode text
+errors_of-strings mode text items double are =
+    ap (errors_in mode) are
+    ∙ ap (λ (b : Bool). if b then option_to_list (single_error (length text) mode (chars text)) else errors_in mode (items_of (is_raw mode) text)) double

@@ -1,0 +1,105 @@
+-- What stands between double quotes: its elements in order, each with its place in bytes.
+use Rattle.std.specs.Prelude.{Option, Some, None, ◌≡◌, ℕ, zero, suc, ◌-◌, ◌==◌, ◌||◌, Bool, true, false, if◌then◌else◌, List, [], ◌∷◌, ◌++◌, length, map}
+use Rattle.std.specs.Char.{is_whitespace}
+use Rattle.std.specs.List.{list_any}
+use Rattle.std.specs.Str.{byte, chars, encode_utf8_all}
+use Rattle.std.specs.declared.ops.Range.{Range}
+use Rattle.rustc_literal_escaper.specs.declared.element.Element.{Element}
+use Rattle.rustc_literal_escaper.specs.declared.element.Element.TheVariants.{Plain, Fault}
+use Rattle.rustc_literal_escaper.specs.declared.error.EscapeError.TheVariants.{EscapeOnlyChar, BareCarriageReturn, BareCarriageReturnInRawString, UnskippedWhitespaceWarning, MultipleSkippedLinesWarning}
+use Rattle.rustc_literal_escaper.specs.Escape.{escape}
+use Rattle.rustc_literal_escaper.specs.Runs.{front_run, past_run}
+
+-- what stands at the front: what is told of it, each with what is left past the characters that it marks, and what is left
+-- past it
+pub record Front : Type 0 where
+  pub told : List (Element × List ℕ)
+  pub left : List ℕ
+
+-- one element
+abbrev pub one : Element × List ℕ → Front
+one read = record { told = read ∷ []; left = read.1 }
+
+abbrev pub is_newline : ℕ → Bool
+is_newline c = c == 10
+
+abbrev pub begins_line : List ℕ → Bool
+begins_line [] = false
+begins_line (c ∷ s) = is_newline c
+
+-- a backslash at a line's end passes over this white space: newlines, carriage returns, tabs and spaces
+abbrev pub is_passed_over : ℕ → Bool
+is_passed_over c = c == 10 || c == 13 || c == 9 || c == 32
+
+-- a warning where more than one line end is passed over, that marks all that is
+abbrev pub more_lines : List ℕ → List ℕ → List (Element × List ℕ)
+more_lines passed left = if list_any is_newline passed then (Fault MultipleSkippedLinesWarning, left) ∷ [] else []
+
+-- a warning where other white space follows, that marks its first character too
+abbrev pub more_space : List ℕ → List (Element × List ℕ)
+more_space [] = []
+more_space (c ∷ s) = if is_whitespace c then (Fault UnskippedWhitespaceWarning, s) ∷ [] else []
+
+-- past a backslash and a newline
+abbrev pub line_end : List ℕ → Front
+line_end s = record {
+  told = more_lines (front_run is_passed_over s) (past_run is_passed_over s) ++ more_space (past_run is_passed_over s);
+  left = past_run is_passed_over s;
+}
+
+-- past a backslash
+abbrev pub past_backslash : List ℕ → Front
+past_backslash [] = one (escape [])
+past_backslash (c ∷ s) = if is_newline c then line_end s else one (escape (c ∷ s))
+
+-- a character that is not escaped: a double quote and a carriage return have to be
+abbrev pub unescaped : ℕ → Element
+unescaped c =
+    if c == byte "\"" then Fault EscapeOnlyChar else
+    if c == 13 then Fault BareCarriageReturn else
+    Plain c
+
+-- the front of what begins with the character `c`
+unfoldable pub front : ℕ → List ℕ → Front
+front c s = if c == byte "\\" then past_backslash s else one (unescaped c, s)
+
+-- the front of a raw string's text: each character is itself, but for a carriage return
+abbrev pub raw_element : ℕ → Element
+raw_element c = if c == 13 then Fault BareCarriageReturnInRawString else Plain c
+
+unfoldable pub raw_front : ℕ → List ℕ → Front
+raw_front c s = one (raw_element c, s)
+
+abbrev pub front_by : Bool → ℕ → List ℕ → Front
+front_by true = raw_front
+front_by false = front
+
+-- an element and its place
+abbrev pub Item : Type 0
+Item = Range ℕ × Element
+
+-- the place in a text of `total` bytes before what is left of it
+abbrev pub place : ℕ → List ℕ → ℕ
+place total left = total - length (encode_utf8_all left)
+
+abbrev pub item_at : ℕ → ℕ → Element × List ℕ → Item
+item_at total start told = (record { start = start; end = place total told.1 }, told.0)
+
+-- the items of what is left of a text of `total` bytes, in no more than `count` steps
+abbrev pub items_in : (ℕ → List ℕ → Front) → ℕ → ℕ → List ℕ → List Item
+items_in at zero total s = []
+items_in at (suc count) total [] = []
+items_in at (suc count) total (c ∷ s) = map (item_at total (place total (c ∷ s))) (at c s).told ++ items_in at count total (at c s).left
+
+-- each step takes a character at least
+unfoldable pub items_from : (ℕ → List ℕ → Front) → ℕ → List ℕ → List Item
+items_from at total s = items_in at (length s) total s
+
+-- the items of a text, raw or not
+abbrev pub items_of : Bool → List ℕ → List Item
+items_of raw text = items_from (front_by raw) (length text) (chars text)
+
+-- an iterator whose items left are a list: it takes the first, and with none left it stays so
+abbrev pub TakesFirst : {A : Type 0} → List A → Option A → List A → Type 0
+TakesFirst s None t = (s ≡ []) × (t ≡ [])
+TakesFirst s (Some item) t = s ≡ item ∷ t

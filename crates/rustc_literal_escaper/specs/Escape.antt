@@ -1,0 +1,72 @@
+-- The escapes: what may follow a backslash, what it is, and what is left past it. A fault takes the characters up to the one
+-- that shows it.
+use Rattle.std.specs.Prelude.{ℕ, ◌+◌, ◌*◌, ◌==◌, ◌||◌, nat_le, Bool, if◌then◌else◌, List, [], ◌∷◌, length, fold, filter}
+use Rattle.std.specs.Char.{digit_value, is_digit}
+use Rattle.std.specs.Str.{byte}
+use Rattle.rustc_literal_escaper.specs.declared.element.Element.{Element}
+use Rattle.rustc_literal_escaper.specs.declared.element.Element.TheVariants.{Byte, Unicode, Fault}
+use Rattle.rustc_literal_escaper.specs.declared.error.EscapeError.TheVariants.{LoneSlash, InvalidEscape, TooShortHexEscape, InvalidCharInHexEscape, NoBraceInUnicodeEscape, InvalidCharInUnicodeEscape, EmptyUnicodeEscape, UnclosedUnicodeEscape, LeadingUnderscoreUnicodeEscape, OverlongUnicodeEscape}
+use Rattle.rustc_literal_escaper.specs.Runs.{front_run, past_run}
+
+abbrev pub is_hex : ℕ → Bool
+is_hex c = is_digit c 16
+
+-- the escapes of one character: NUL, tab, newline, carriage return, and the quotes and the backslash for themselves
+abbrev pub short : ℕ → Element
+short c =
+    if c == byte "0" then Byte 0 else
+    if c == byte "t" then Byte 9 else
+    if c == byte "n" then Byte 10 else
+    if c == byte "r" then Byte 13 else
+    if c == byte "\"" then Byte c else
+    if c == byte "'" then Byte c else
+    if c == byte "\\" then Byte c else
+    Fault InvalidEscape
+
+-- `\x` and two hexadecimal digits
+abbrev pub hex : List ℕ → Element × List ℕ
+hex [] = (Fault TooShortHexEscape, [])
+hex (h ∷ []) = (if is_hex h then Fault TooShortHexEscape else Fault InvalidCharInHexEscape, [])
+hex (h ∷ l ∷ s) =
+    if is_hex h then ((if is_hex l then Byte (digit_value h * 16 + digit_value l) else Fault InvalidCharInHexEscape), s)
+    else (Fault InvalidCharInHexEscape, l ∷ s)
+
+-- the digits of a number may be joined by underscores
+abbrev pub is_digit_or_underscore : ℕ → Bool
+is_digit_or_underscore c = c == byte "_" || is_hex c
+
+abbrev pub hex_value : List ℕ → ℕ
+hex_value digits = fold (λ value digit. value * 16 + digit_value digit) 0 digits
+
+-- the number of at most six digits
+abbrev pub number : List ℕ → Element
+number digits = if nat_le (length digits) 6 then Unicode (hex_value digits) else Fault OverlongUnicodeEscape
+
+-- what stands before the closing brace, and what follows: a brace, another character, or nothing
+abbrev pub closed : List ℕ → List ℕ → Element × List ℕ
+closed digits [] = (Fault UnclosedUnicodeEscape, [])
+closed digits (c ∷ s) = (if c == byte "}" then number (filter is_hex digits) else Fault InvalidCharInUnicodeEscape, s)
+
+abbrev pub closed_at_run : List ℕ → Element × List ℕ
+closed_at_run s = closed (front_run is_digit_or_underscore s) (past_run is_digit_or_underscore s)
+
+abbrev pub braced : List ℕ → Element × List ℕ
+braced [] = (Fault UnclosedUnicodeEscape, [])
+braced (c ∷ s) =
+    if c == byte "_" then (Fault LeadingUnderscoreUnicodeEscape, s) else
+    if c == byte "}" then (Fault EmptyUnicodeEscape, s) else
+    if is_hex c then closed_at_run (c ∷ s) else
+    (Fault InvalidCharInUnicodeEscape, s)
+
+-- `\u`, and between braces a number of hexadecimal digits
+abbrev pub unicode : List ℕ → Element × List ℕ
+unicode [] = (Fault NoBraceInUnicodeEscape, [])
+unicode (c ∷ s) = if c == byte "{" then braced s else (Fault NoBraceInUnicodeEscape, s)
+
+-- what follows a backslash
+abbrev pub escape : List ℕ → Element × List ℕ
+escape [] = (Fault LoneSlash, [])
+escape (c ∷ s) =
+    if c == byte "x" then hex s else
+    if c == byte "u" then unicode s else
+    (short c, s)

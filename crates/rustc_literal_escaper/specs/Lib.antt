@@ -1,0 +1,13 @@
+pub mod Elements
+pub mod Errors
+pub mod Escape
+pub mod Fatal
+pub mod Meaning
+pub mod Mode
+pub mod Places
+pub mod Plain
+pub mod RoundTrip
+pub mod Runs
+pub mod Single
+pub mod Told
+pub mod Units

@@ -1,0 +1,19 @@
+-- Texts in which nothing is escaped and nothing is wrong.
+use Rattle.std.specs.Prelude.{◌≡◌, ℕ, ◌==◌, ◌&&◌, not, Bool, true, false, List, map}
+use Rattle.std.specs.List.{list_all}
+use Rattle.std.specs.Str.{byte, chars}
+use Rattle.rustc_literal_escaper.specs.declared.element.Element.{Element}
+use Rattle.rustc_literal_escaper.specs.declared.element.Element.TheVariants.{Plain}
+use Rattle.rustc_literal_escaper.specs.Elements.{Item, items_of}
+
+-- between double quotes all but a backslash, a double quote and a carriage return; in a raw string all but the last
+abbrev pub is_plain : Bool → ℕ → Bool
+is_plain false c = not (c == byte "\\") && (not (c == byte "\"") && not (c == 13))
+is_plain true c = not (c == 13)
+
+abbrev pub elements_in : List Item → List Element
+elements_in items = map (λ item. item.1) items
+
+-- a text of such characters is those characters
+abbrev pub StandsForItself : Bool → List ℕ → Type 0
+StandsForItself raw text = list_all (is_plain raw) (chars text) ≡ true → elements_in (items_of raw text) ≡ map Plain (chars text)

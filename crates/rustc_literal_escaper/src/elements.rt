@@ -1,0 +1,90 @@
+//! The elements of what stands between double quotes.
+ghost use Rattle.std.specs.Prelude.{◌≡◌, true, false, length};
+ghost use Rattle.std.specs.Iterator.{at_most};
+ghost use Rattle.rustc_literal_escaper.specs.Elements.{items_of, TakesFirst};
+ghost use Rattle.rustc_literal_escaper.specs.Places.{ArePlaced};
+ghost use Rattle.rustc_literal_escaper.specs.Plain.{StandsForItself};
+
+use crate::element::Element;
+use crate::steps::{Told, advance};
+use std::iter::Iterator;
+use std::marker::Model;
+use std::ops::Range;
+
+/// An iterator over the elements of a string, each with its place in bytes, made by [`Elements::new`].
+#[derive(Drop)]
+pub struct Elements<'a> {
+    rest: &'a str,
+    /// How many bytes the text has.
+    total: usize,
+    /// Whether it is a raw string's.
+    raw: bool,
+    /// What comes before the elements of the rest.
+    waiting: Option<(Range<usize>, Element)>,
+}
+
+impl<'a> Model for Elements<'a> {
+    ghost use Rattle.std.specs.Prelude.{List, ◌++◌, ◌≤◌, length};
+    ghost use Rattle.std.specs.Option.{option_to_list};
+    ghost use Rattle.std.specs.Str.{chars};
+    ghost use Rattle.rustc_literal_escaper.specs.Elements.{Item, items_from, front_by};
+
+    ghost Value = { List Item };
+
+    ghost view = { λ e. option_to_list e.waiting ++ items_from (front_by e.raw) e.total (chars e.rest.now) };
+
+    ghost invariant = { λ e. length e.rest.now ≤ e.total };
+}
+
+impl<'a> Elements<'a> {
+    /// The elements of `src`, which is what stands between the quotes of a string, byte string or C string.
+    pub fn new(src: &'a str) -> Elements<'a>
+        ensures items { result ≡ items_of false src.now }
+        ensures plain { StandsForItself false src.now }
+        ensures places { ArePlaced src.now (items_of false src.now) }
+    {
+        Elements {
+            rest: src,
+            total: src.len(),
+            raw: false,
+            waiting: None,
+        }
+    }
+
+    /// The elements of `src`, which is what stands between the quotes of a raw string, of any kind.
+    pub fn new_raw(src: &'a str) -> Elements<'a>
+        ensures items { result ≡ items_of true src.now }
+        ensures plain { StandsForItself true src.now }
+        ensures places { ArePlaced src.now (items_of true src.now) }
+    {
+        Elements {
+            rest: src,
+            total: src.len(),
+            raw: true,
+            waiting: None,
+        }
+    }
+}
+
+impl<'a> Iterator for Elements<'a> {
+    type Item = (Range<usize>, Element);
+
+    ghost next_gives = { TakesFirst };
+
+    ghost remaining = { λ s. at_most (length s) };
+
+    /// The next element, or `None` past the last one, from then on.
+    fn next(&mut self) -> Option<(Range<usize>, Element)> {
+        if let Some(item) = self.waiting.take() {
+            return Some(item);
+        }
+        let Told {
+            first,
+            second,
+            left,
+        } = advance(self.rest, self.total, self.raw);
+        self.rest = left;
+        self.waiting = second;
+        first
+    }
+}

@@ -1,0 +1,157 @@
+//! What follows a backslash.
+ghost use Rattle.std.specs.Prelude.{◌≡◌, ◌≤◌, ◌<◌, ◌^◌, ◌+◌, ◌*◌, min, nat_le, nat_lt, if◌then◌else◌, length};
+ghost use Rattle.std.specs.Str.{chars, IsUtf8};
+ghost use Rattle.rustc_literal_escaper.specs.Escape as spec;
+ghost use Rattle.rustc_literal_escaper.specs.Escape.{closed_at_run};
+
+use crate::element::Element;
+use crate::error::EscapeError;
+use crate::scan::split_first;
+
+/// A number between braces has no more digits than this.
+const MOST_DIGITS: usize = 6;
+
+/// The escape at the front of what follows a backslash, and what is left past it.
+pub(crate) fn escape(rest: &str) -> (Element, &str)
+    ensures shorter { length result.1.now ≤ length rest.now }
+    ensures text { IsUtf8 result.1.now }
+    ensures read { (result.0, chars result.1.now) ≡ spec.escape (chars rest.now) }
+{
+    let Some((c, tail)) = split_first(rest) else {
+        return (Element::Fault(EscapeError::LoneSlash), rest);
+    };
+    match c {
+        'x' => hex(tail),
+        'u' => unicode(tail),
+        _ => (short(c), tail),
+    }
+}
+
+/// The byte that a backslash and this character stand for.
+fn short(c: char) -> Element
+    ensures { result ≡ spec.short c }
+{
+    match c {
+        '0' => Element::Byte(0),
+        't' => Element::Byte(b'\t'),
+        'n' => Element::Byte(b'\n'),
+        'r' => Element::Byte(b'\r'),
+        '"' | '\'' | '\\' => Element::Byte(c as u8),
+        _ => Element::Fault(EscapeError::InvalidEscape),
+    }
+}
+
+/// The byte of two digits. `rest` follows the `x`.
+fn hex(rest: &str) -> (Element, &str)
+    ensures shorter { length result.1.now ≤ length rest.now }
+    ensures text { IsUtf8 result.1.now }
+    ensures read { (result.0, chars result.1.now) ≡ spec.hex (chars rest.now) }
+{
+    let Some((high, tail)) = split_first(rest) else {
+        return (Element::Fault(EscapeError::TooShortHexEscape), rest);
+    };
+    let Some(high) = high.to_digit(16) else {
+        return (Element::Fault(EscapeError::InvalidCharInHexEscape), tail);
+    };
+    let Some((low, left)) = split_first(tail) else {
+        return (Element::Fault(EscapeError::TooShortHexEscape), tail);
+    };
+    let Some(low) = low.to_digit(16) else {
+        return (Element::Fault(EscapeError::InvalidCharInHexEscape), left);
+    };
+    (Element::Byte((high * 16 + low) as u8), left)
+}
+
+/// The number between braces. `rest` follows the `u`.
+fn unicode(rest: &str) -> (Element, &str)
+    ensures shorter { length result.1.now ≤ length rest.now }
+    ensures text { IsUtf8 result.1.now }
+    ensures read { (result.0, chars result.1.now) ≡ spec.unicode (chars rest.now) }
+{
+    let Some((brace, body)) = split_first(rest) else {
+        return (Element::Fault(EscapeError::NoBraceInUnicodeEscape), rest);
+    };
+    if brace == '{' {
+        braced(body)
+    } else {
+        (Element::Fault(EscapeError::NoBraceInUnicodeEscape), body)
+    }
+}
+
+/// The number up to the closing brace. `body` follows the opening one.
+fn braced(body: &str) -> (Element, &str)
+    ensures shorter { length result.1.now ≤ length body.now }
+    ensures text { IsUtf8 result.1.now }
+    ensures read { (result.0, chars result.1.now) ≡ spec.braced (chars body.now) }
+{
+    let Some((first, tail)) = split_first(body) else {
+        return (Element::Fault(EscapeError::UnclosedUnicodeEscape), body);
+    };
+    match first {
+        '_' => (
+            Element::Fault(EscapeError::LeadingUnderscoreUnicodeEscape),
+            tail,
+        ),
+        '}' => (Element::Fault(EscapeError::EmptyUnicodeEscape), tail),
+        _ if first.is_digit(16) => digits(body),
+        _ => (
+            Element::Fault(EscapeError::InvalidCharInUnicodeEscape),
+            tail,
+        ),
+    }
+}
+
+/// The number of the digits at the front, up to the closing brace.
+fn digits(body: &str) -> (Element, &str)
+    ensures shorter { length result.1.now ≤ length body.now }
+    ensures text { IsUtf8 result.1.now }
+    ensures read { (result.0, chars result.1.now) ≡ closed_at_run (chars body.now) }
+{
+    let mut value = 0;
+    let mut count: usize = 0;
+    let mut rest = body;
+    'digits: while let Some((c, tail)) = split_first(rest) {
+        rest = tail;
+        if c == '_' {
+            continue;
+        }
+        if c == '}' {
+            return (number(value, count), rest);
+        }
+        let Some(digit) = c.to_digit(16) else {
+            return (
+                Element::Fault(EscapeError::InvalidCharInUnicodeEscape),
+                rest,
+            );
+        };
+        value = with_digit(value, count, digit);
+        count += 1;
+    }
+    (Element::Fault(EscapeError::UnclosedUnicodeEscape), rest)
+}
+
+/// The number of that many digits, which has `value` where they are not too many.
+fn number(value: u32, count: usize) -> Element
+    ensures { result ≡ if nat_le count MOST_DIGITS then Element.Unicode value
+        else Element.Fault EscapeError.OverlongUnicodeEscape }
+{
+    if count <= MOST_DIGITS {
+        Element::Unicode(value)
+    } else {
+        Element::Fault(EscapeError::OverlongUnicodeEscape)
+    }
+}
+
+/// The value of `count` digits and one more. Past the most that there may be it stays.
+fn with_digit(value: u32, count: usize, digit: u32) -> u32
+    requires value { value < 16 ^ min count MOST_DIGITS }
+    requires digit { digit < 16 }
+    ensures value { result ≡ if nat_lt count MOST_DIGITS then value * 16 + digit else value }
+    ensures fits { result < 16 ^ min (count + 1) MOST_DIGITS }
+{
+    if count < MOST_DIGITS {
+        value * 16 + digit
+    } else {
+        value
+    }
+}

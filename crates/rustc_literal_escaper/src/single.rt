@@ -1,0 +1,98 @@
+//! Characters and bytes.
+ghost use Rattle.std.specs.Prelude.{◌≡◌, ◌≤◌, ◌<◌, MatchOption, [], length};
+ghost use Rattle.std.specs.Str.{chars, IsUtf8};
+ghost use Rattle.rustc_literal_escaper.specs.RoundTrip.{ByteComesBack, CharComesBack};
+ghost use Rattle.rustc_literal_escaper.specs.Single as spec;
+ghost use Rattle.rustc_literal_escaper.specs.Single.{byte_literal, char_literal, StartsWithSingle};
+
+use crate::element::Element;
+use crate::error::EscapeError;
+use crate::escape::escape;
+use crate::scan::split_first;
+
+/// The character that a character literal stands for, of which `src` is what stands between the quotes.
+///
+/// ```ignore
+/// unescape_char("a") // Ok('a')
+/// unescape_char("\\n") // Ok('\n'): a backslash and an n
+/// unescape_char("ab") // Err(EscapeError::MoreThanOneChar)
+/// ```
+pub fn unescape_char(src: &str) -> Result<char, EscapeError>
+    ensures literal { result ≡ char_literal (chars src.now) }
+    ensures escapes { CharComesBack }
+{
+    read_char(src)
+}
+
+/// The character of the one element, if nothing is left past it.
+fn read_char(src: &str) -> Result<char, EscapeError>
+    ensures { result ≡ char_literal (chars src.now) }
+{
+    let Some((element, left)) = single(src) else {
+        return Err(EscapeError::ZeroChars);
+    };
+    let c = element.to_char()?;
+    if left.is_empty() {
+        Ok(c)
+    } else {
+        Err(EscapeError::MoreThanOneChar)
+    }
+}
+
+/// The byte that a byte literal stands for, of which `src` is what stands between the quotes.
+pub fn unescape_byte(src: &str) -> Result<u8, EscapeError>
+    ensures literal { result ≡ byte_literal (chars src.now) }
+    ensures escapes { ByteComesBack }
+{
+    read_byte(src)
+}
+
+/// The byte of the one element, if nothing is left past it.
+fn read_byte(src: &str) -> Result<u8, EscapeError>
+    ensures { result ≡ byte_literal (chars src.now) }
+{
+    let Some((element, left)) = single(src) else {
+        return Err(EscapeError::ZeroChars);
+    };
+    let byte = element.to_byte()?;
+    if left.is_empty() {
+        Ok(byte)
+    } else {
+        Err(EscapeError::MoreThanOneChar)
+    }
+}
+
+/// The element at the front, between single quotes, and what is left past it.
+pub(crate) fn single(src: &str) -> Option<(Element, &str)>
+    ensures { MatchOption result (chars src.now ≡ [])
+        (λ r. StartsWithSingle (chars src.now) r.0 (chars r.1.now) × IsUtf8 r.1.now
+        × (length r.1.now ≤ length src.now)) }
+{
+    let (c, tail) = split_first(src)?;
+    let (element, left) = first(c, tail);
+    Some((element, left))
+}
+
+/// The element that begins with the character `c`, and what is left past it.
+fn first(c: char, tail: &str) -> (Element, &str)
+    ensures shorter { length result.1.now ≤ length tail.now }
+    ensures text { IsUtf8 result.1.now }
+    ensures read { (result.0, chars result.1.now) ≡ spec.single c (chars tail.now) }
+{
+    if c == '\\' {
+        escape(tail)
+    } else {
+        (unescaped(c), tail)
+    }
+}
+
+/// What a character that is not escaped is between single quotes.
+fn unescaped(c: char) -> Element
+    ensures { result ≡ spec.unescaped c }
+{
+    match c {
+        '\n' | '\t' | '\'' => Element::Fault(EscapeError::EscapeOnlyChar),
+        '\r' => Element::Fault(EscapeError::BareCarriageReturn),
+        _ => Element::Plain(c),
+    }
+}

@@ -1,0 +1,203 @@
+//! The steps over what stands between double quotes.
+ghost use Rattle.std.specs.Prelude.{◌≡◌, ◌≤◌, ◌<◌, ◌++◌, ◌∷◌, [], length, map, not, IsSome, IsTrue, MatchOption};
+ghost use Rattle.std.specs.List.{list_any};
+ghost use Rattle.std.specs.Option.{option_to_list};
+ghost use Rattle.std.specs.Str.{chars, IsUtf8};
+ghost use Rattle.rustc_literal_escaper.specs.Elements as spec;
+ghost use Rattle.rustc_literal_escaper.specs.Runs.{front_run, past_run};
+ghost use Rattle.rustc_literal_escaper.specs.Told.{told_by};
+
+use crate::element::Element;
+use crate::error::EscapeError;
+use crate::escape::escape;
+use crate::scan::split_first;
+use std::ops::Range;
+
+/// What is told at a place, at most two items, and what is left past it.
+#[derive(Drop)]
+pub(crate) struct Told<'a> {
+    pub(crate) first: Option<(Range<usize>, Element)>,
+    pub(crate) second: Option<(Range<usize>, Element)>,
+    pub(crate) left: &'a str,
+}
+
+/// The first items of what is left of a text of `total` bytes. None is told where none comes any more.
+pub(crate) fn advance(rest: &str, total: usize, raw: bool) -> Told<'_>
+    requires fits { length rest.now ≤ total }
+    ensures told { spec.items_from (spec.front_by raw) total (chars rest.now)
+        ≡ told_by result ++ spec.items_from (spec.front_by raw) total (chars result.left.now) }
+    ensures all { result.first ≡ None → (result.second ≡ None) × (chars result.left.now ≡ []) }
+    ensures shorter { length result.left.now ≤ length rest.now }
+    ensures text { IsUtf8 result.left.now }
+{
+    let mut left = rest;
+    'steps: while let Some((c, tail)) = split_first(left) {
+        let told = step_by(raw, c, tail, total - left.len(), total);
+        if told.first.is_some() {
+            return told;
+        }
+        left = told.left;
+    }
+    Told {
+        first: None,
+        second: None,
+        left,
+    }
+}
+
+/// What is told at the character `c` of a raw string or another, as [`step`] does.
+#[tactic(auto, unfolding(crate::specs::Elements::raw_front))]
+fn step_by(raw: bool, c: char, tail: &str, start: usize, total: usize) -> Told<'_>
+    requires fits { length tail.now ≤ total }
+    ensures told { told_by result
+        ≡ map (spec.item_at total start) (spec.front_by raw c (chars tail.now)).told }
+    ensures left { chars result.left.now ≡ (spec.front_by raw c (chars tail.now)).left }
+    ensures none { result.first ≡ None → result.second ≡ None }
+    ensures shorter { length result.left.now ≤ length tail.now }
+    ensures text { IsUtf8 result.left.now }
+{
+    if raw {
+        one(raw_element(c), tail, start, total)
+    } else {
+        step(c, tail, start, total)
+    }
+}
+
+/// What a character of a raw string is.
+fn raw_element(c: char) -> Element
+    ensures { result ≡ spec.raw_element c }
+{
+    if c == '\r' {
+        Element::Fault(EscapeError::BareCarriageReturnInRawString)
+    } else {
+        Element::Plain(c)
+    }
+}
+
+/// What is told at the character `c`, which begins at the place `start`, before `tail`.
+#[tactic(auto, unfolding(crate::specs::Elements::front))]
+fn step(c: char, tail: &str, start: usize, total: usize) -> Told<'_>
+    requires fits { length tail.now ≤ total }
+    ensures told { told_by result
+        ≡ map (spec.item_at total start) (spec.front c (chars tail.now)).told }
+    ensures left { chars result.left.now ≡ (spec.front c (chars tail.now)).left }
+    ensures none { result.first ≡ None → result.second ≡ None }
+    ensures shorter { length result.left.now ≤ length tail.now }
+    ensures text { IsUtf8 result.left.now }
+{
+    if c != '\\' {
+        return one(unescaped(c), tail, start, total);
+    }
+    if let Some(line) = strip_newline(tail) {
+        return line_end(line, start, total);
+    }
+    let (element, left) = escape(tail);
+    one(element, left, start, total)
+}
+
+/// One item, of the element from the place `start` up to what is left past it.
+fn one(element: Element, left: &str, start: usize, total: usize) -> Told<'_>
+    requires fits { length left.now ≤ total }
+    ensures told { told_by result
+        ≡ spec.item_at total start (element, chars left.now) ∷ [] }
+    ensures some { IsSome result.first }
+    ensures left { result.left.now ≡ left.now }
+{
+    Told {
+        first: Some((start..total - left.len(), element)),
+        second: None,
+        left,
+    }
+}
+
+/// What a character that is not escaped is between double quotes.
+fn unescaped(c: char) -> Element
+    ensures { result ≡ spec.unescaped c }
+{
+    match c {
+        '"' => Element::Fault(EscapeError::EscapeOnlyChar),
+        '\r' => Element::Fault(EscapeError::BareCarriageReturn),
+        _ => Element::Plain(c),
+    }
+}
+
+/// What follows a newline, if the text begins with one.
+fn strip_newline(text: &str) -> Option<&str>
+    ensures { MatchOption result (IsTrue (not (spec.begins_line (chars text.now))))
+        (λ r. (chars text.now ≡ 10 ∷ chars r.now) × (length r.now < length text.now)) }
+{
+    let (c, tail) = split_first(text)?;
+    if c == '\n' { Some(tail) } else { None }
+}
+
+/// The warnings past a backslash and a newline, which begin at the place `start`.
+fn line_end(line: &str, start: usize, total: usize) -> Told<'_>
+    requires fits { length line.now ≤ total }
+    ensures told { told_by result
+        ≡ map (spec.item_at total start) (spec.line_end (chars line.now)).told }
+    ensures left { chars result.left.now ≡ (spec.line_end (chars line.now)).left }
+    ensures none { result.first ≡ None → result.second ≡ None }
+    ensures shorter { length result.left.now ≤ length line.now }
+    ensures text { IsUtf8 result.left.now }
+{
+    let (more_lines, left) = pass_over(line);
+    let more_space = more_space(left, start, total);
+    if more_lines {
+        let lines = (
+            start..total - left.len(),
+            Element::Fault(EscapeError::MultipleSkippedLinesWarning),
+        );
+        Told {
+            first: Some(lines),
+            second: more_space,
+            left,
+        }
+    } else {
+        Told {
+            first: more_space,
+            second: None,
+            left,
+        }
+    }
+}
+
+/// Whether a newline is among the white space that is passed over, and what is left past that.
+fn pass_over(line: &str) -> (bool, &str)
+    ensures newline { result.0
+        ≡ list_any spec.is_newline (front_run spec.is_passed_over (chars line.now)) }
+    ensures left { chars result.1.now ≡ past_run spec.is_passed_over (chars line.now) }
+    ensures shorter { length result.1.now ≤ length line.now }
+    ensures text { IsUtf8 result.1.now }
+{
+    let mut newline = false;
+    let mut left = line;
+    'passed: while let Some((c, tail)) = split_first(left) {
+        if !is_passed_over(c) {
+            return (newline, left);
+        }
+        newline = newline | (c == '\n');
+        left = tail;
+    }
+    (newline, left)
+}
+
+/// Whether this is white space that a backslash at a line's end passes over.
+fn is_passed_over(c: char) -> bool
+    ensures { result ≡ spec.is_passed_over c }
+{
+    matches!(c, '\n' | '\r' | '\t' | ' ')
+}
+
+/// The warning where white space stands next.
+fn more_space(left: &str, start: usize, total: usize) -> Option<(Range<usize>, Element)>
+    requires fits { length left.now ≤ total }
+    ensures { option_to_list result
+        ≡ map (spec.item_at total start) (spec.more_space (chars left.now)) }
+{
+    let (c, tail) = split_first(left)?;
+    if !c.is_whitespace() {
+        return None;
+    }
+    let warning = Element::Fault(EscapeError::UnskippedWhitespaceWarning);
+    Some((start..total - tail.len(), warning))
+}
