@@ -11,7 +11,7 @@ use std::iter::Iterator;
 use std::marker::Model;
 use std::ops::Range;
 
-/// An iterator over the elements of a string, each with its place in bytes, made by [`Elements::new`].
+/// An iterator over the elements of a string, each with its place in bytes, made by [`Elements::new`] or [`Elements::new_raw`].
 #[derive(Drop)]
 pub struct Elements<'a> {
     rest: &'a str,
@@ -31,7 +31,8 @@ impl<'a> Model for Elements<'a> {
 
     ghost Value = { List Item };
 
-    ghost view = { λ e. option_to_list e.waiting ++ items_from (front_by e.raw) e.total (chars e.rest.now) };
+    ghost view = { λ e. option_to_list e.waiting
+        ++ items_from (front_by e.raw) e.total (chars e.rest.now) };
 
     ghost invariant = { λ e. length e.rest.now ≤ e.total };
 }
