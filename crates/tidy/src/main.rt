@@ -11,6 +11,8 @@ mod stop;
 #[cfg(test)]
 mod tests;
 
+use clap::Error;
+use clap::error::ErrorKind;
 use files::tidy_paths;
 use job::{Job, Task, read_job};
 use run::{check, run, write_out};
@@ -59,24 +61,36 @@ fn tidy_files(rt: &HostRuntime, job: &Job<'_>) -> Result<(), Stop> {
     Ok(())
 }
 
+/// Says that a request for memory was refused: the status.
+fn no_memory(rt: &HostRuntime) -> u8 {
+    let _ = eprintln!(rt; "tidy: {}", Stop::Memory);
+    status(&Stop::Memory)
+}
+
+/// Says why the words ask for no job, or what they ask to be told: the status.
+fn explain(rt: &HostRuntime, error: &Error) -> u8 {
+    if error.kind() == ErrorKind::OutOfMemory {
+        return no_memory(rt);
+    }
+    // Where this text can't be written there is nobody to tell.
+    let _ = error.print(rt);
+    if error.use_stderr() { 2 } else { 0 }
+}
+
 /// Reads the words of the command line, and does what they ask for: the status.
 fn run_words(rt: &HostRuntime) -> u8 {
     let Ok(args) = env::args(rt) else {
-        return status(&Stop::Memory);
+        return no_memory(rt);
     };
     let Ok(words) = args.collect::<Vec<String>>(rt.alloc()) else {
-        return status(&Stop::Memory);
+        return no_memory(rt);
     };
     let (stop, is_told) = match read_job(rt.alloc(), words.as_slice()) {
         Ok(job) => match tidy(rt, &job) {
             Ok(()) => return 0,
             Err(stop) => (stop, !job.paths.is_empty() && stop == Stop::Untidy),
         },
-        Err(error) => {
-            // Where this text can't be written there is nobody to tell.
-            let _ = error.print(rt);
-            return if error.use_stderr() { 2 } else { 0 };
-        }
+        Err(error) => return explain(rt, &error),
     };
     if !is_told && stop != Stop::ClosedPipe && stop != Stop::Passed {
         let _ = eprintln!(rt; "tidy: {stop}");
