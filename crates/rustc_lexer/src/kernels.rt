@@ -27,6 +27,7 @@ pub(crate) trait ByteClass {
 }
 
 /// What an identifier goes on with.
+#[derive(Clone, Copy)]
 pub(crate) struct Continue;
 
 impl ByteClass for Continue {
@@ -48,6 +49,7 @@ impl ByteClass for Continue {
 }
 
 /// White space.
+#[derive(Clone, Copy)]
 pub(crate) struct Space;
 
 impl ByteClass for Space {
@@ -66,6 +68,7 @@ impl ByteClass for Space {
 }
 
 /// Decimal digits and underscores.
+#[derive(Clone, Copy)]
 pub(crate) struct Decimal;
 
 impl ByteClass for Decimal {
@@ -84,6 +87,7 @@ impl ByteClass for Decimal {
 }
 
 /// Hexadecimal digits and underscores.
+#[derive(Clone, Copy)]
 pub(crate) struct Hexadecimal;
 
 impl ByteClass for Hexadecimal {
