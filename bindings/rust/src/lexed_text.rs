@@ -235,7 +235,7 @@ impl LexedText {
     pub fn edit(&mut self, range: Range<usize>, insert: &str) -> Relexed {
         assert!(
             self.accepts(range.clone(), insert),
-            "the range {range:?} is inside the text, between characters, and the new text fits"
+            "the edit of {range:?} is outside the text, inside a character, or makes too long a text"
         );
         self.text.replace_range(range.clone(), insert);
         // All places are in texts that fit.

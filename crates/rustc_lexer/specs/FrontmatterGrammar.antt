@@ -89,7 +89,7 @@ pub data IsBlankBefore (s : Utf8) (start i : ℕ) : Type 0 where
 
 -- the first three dashes with only spaces and tabs before them on their line. The search goes on
 -- behind three that are rejected, and from there on what stood before counts no more: in
--- `! ------` the second three are such, as the compiler's lexer has it
+-- `! ------` the second three are such
 pub data IsLone (s : Utf8) : (start : ℕ) → Option ℕ → Type 0 where
   none : {start : ℕ} → IsNowhere (fence 3) s start → IsLone s start None
   this : {start i : ℕ}

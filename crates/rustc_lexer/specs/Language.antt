@@ -56,8 +56,8 @@ use Rattle.rustc_lexer.specs.Symbols.{symbol_kind}
 
 -- ---- comments
 
--- the doc style of a comment, by what follows its // or /*: Inner for `!`; Outer for `again`, /
--- or * once more, if none of `undocs` follows that (////, /*** and /**/ are no docs); else none
+-- the doc style of a comment, by what follows its // or /*: Inner for `!`; Outer where / or * comes
+-- once more (`again`) and none of `undocs` follows (////, /*** and /**/ are no docs); else none
 pub data IsStyle (again : ℕ) (undocs : Chars) : Option DocStyle → Chars → Type 0 where
   inner : {w : Chars} → IsStyle again undocs (Some Inner) (byte "!" ∷ w)
   outer : {w : Chars} → NextNotIn undocs w → IsStyle again undocs (Some Outer) (again ∷ w)

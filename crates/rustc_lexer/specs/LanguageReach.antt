@@ -79,7 +79,7 @@ is_refused (RawByteStr None) = true
 is_refused (RawCStr None) = true
 is_refused kind = false
 
--- and that text follows, and so has an end of its own, looks at nothing
+-- such a string that is not at the end of the text looks at nothing
 abbrev pub RefusedStands : Type 0
 RefusedStands =
     (c suffix_start : ℕ) (next other w : Chars) (kind : LiteralKind)
