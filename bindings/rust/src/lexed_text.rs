@@ -235,7 +235,7 @@ impl LexedText {
     pub fn edit(&mut self, range: Range<usize>, insert: &str) -> Relexed {
         assert!(
             self.accepts(range.clone(), insert),
-            "the edit of {range:?} is outside the text, inside a character, or makes too long a text"
+            "the edit of {range:?} has to be inside the text, between characters, and to make a text that fits"
         );
         self.text.replace_range(range.clone(), insert);
         // All places are in texts that fit.
