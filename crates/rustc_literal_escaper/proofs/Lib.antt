@@ -6,3 +6,5 @@ pub mod ErrorLemmas
 pub mod PlainLemmas
 pub mod PlacedLemmas
 pub mod RoundTripLemmas
+pub mod WrittenLemmas
+pub mod RebuiltLemmas

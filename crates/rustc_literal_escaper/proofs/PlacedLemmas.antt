@@ -19,22 +19,22 @@ use Rattle.rustc_literal_escaper.proofs.ItemLemmas.{either}
 
 -- ---- what is left is an end of what there was
 
-abbrev Ends : List ℕ → List ℕ → Type 0
+abbrev pub Ends : List ℕ → List ℕ → Type 0
 Ends left s = (front : List ℕ) × (s ≡ front ++ left)
 
-all : (s : List ℕ) → Ends s s
+pub all : (s : List ℕ) → Ends s s
 all s = ([], refl)
 
-past : (c : ℕ) (left s : List ℕ) → Ends left s → Ends left (c ∷ s)
+pub past : (c : ℕ) (left s : List ℕ) → Ends left s → Ends left (c ∷ s)
 past c left s e = (c ∷ e.0, ap (λ xs. c ∷ xs) e.1)
 
-through : (a b s : List ℕ) → Ends a b → Ends b s → Ends a s
+pub through : (a b s : List ℕ) → Ends a b → Ends b s → Ends a s
 through a b s e f = (f.0 ++ e.0, f.1 ∙ (ap (λ xs. f.0 ++ xs) e.1 ∙ sym (append_assoc f.0 e.0 a)))
 
-abbrev EndsAt : List ℕ → Element × List ℕ → Type 0
+abbrev pub EndsAt : List ℕ → Element × List ℕ → Type 0
 EndsAt s read = Ends read.1 s
 
-past_run-ends : (p : ℕ → Bool) (s : List ℕ) → Ends (past_run p s) s
+pub past_run-ends : (p : ℕ → Bool) (s : List ℕ) → Ends (past_run p s) s
 past_run-ends p [] = all []
 past_run-ends p (c ∷ s) = either (λ xs. Ends xs (c ∷ s)) (p c) (past_run p s) (c ∷ s) (past c (past_run p s) s (past_run-ends p s)) (all (c ∷ s))
 
@@ -59,7 +59,7 @@ unicode-ends : (s : List ℕ) → EndsAt s (unicode s)
 unicode-ends [] = all []
 unicode-ends (c ∷ s) = either (EndsAt (c ∷ s)) (c == byte "{") (braced s) _ (past c (braced s).1 s (braced-ends s)) (past c s s (all s))
 
-escape-ends : (s : List ℕ) → EndsAt s (escape s)
+pub escape-ends : (s : List ℕ) → EndsAt s (escape s)
 escape-ends [] = all []
 escape-ends (c ∷ s) = either (EndsAt (c ∷ s)) (c == byte "x") (hex s) _ (past c (hex s).1 s (hex-ends s))
     (either (EndsAt (c ∷ s)) (c == byte "u") (unicode s) _ (past c (unicode s).1 s (unicode-ends s)) (past c s s (all s)))

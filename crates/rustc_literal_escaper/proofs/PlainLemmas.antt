@@ -8,7 +8,7 @@ use Rattle.rustc_literal_escaper.specs.Elements.{Front, Item, front, front_by, i
 use Rattle.rustc_literal_escaper.specs.Plain.{elements_in, is_plain, StandsForItself}
 use Rattle.rustc_literal_escaper.proofs.ItemLemmas.{front_by-shorter, items-cons, nothing}
 
-front-plain : (c : ℕ) (s : List ℕ) → is_plain false c ≡ true → front c s ≡ one (Plain c, s)
+pub front-plain : (c : ℕ) (s : List ℕ) → is_plain false c ≡ true → front c s ≡ one (Plain c, s)
 unfolding front
 front-plain c s e =
     let p = and_parts (not (c == byte "\\")) (not (c == byte "\"") && not (c == 13)) e in
@@ -19,7 +19,7 @@ raw_front-plain : (c : ℕ) (s : List ℕ) → is_plain true c ≡ true → raw_
 unfolding raw_front
 raw_front-plain c s e = rw (not-true (c == 13) e) refl
 
-front_by-plain : (raw : Bool) (c : ℕ) (s : List ℕ) → is_plain raw c ≡ true → front_by raw c s ≡ one (Plain c, s)
+pub front_by-plain : (raw : Bool) (c : ℕ) (s : List ℕ) → is_plain raw c ≡ true → front_by raw c s ≡ one (Plain c, s)
 front_by-plain true c s e = raw_front-plain c s e
 front_by-plain false c s e = front-plain c s e
 

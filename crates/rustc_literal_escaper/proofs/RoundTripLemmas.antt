@@ -18,10 +18,10 @@ use Rattle.rustc_literal_escaper.specs.Runs.{front_run, past_run}
 use Rattle.rustc_literal_escaper.specs.Single.{alone, byte_literal, char_literal}
 use Rattle.rustc_literal_escaper.proofs.PlaceLemmas.{front_run-yes, past_run-yes}
 
-by_eq : (P : ℕ → Type 0) (c k : ℕ) → P k → ((c == k) ≡ false → P c) → P c
+pub by_eq : (P : ℕ → Type 0) (c k : ℕ) → P k → ((c == k) ≡ false → P c) → P c
 by_eq P c k same other = elim (cases_Bool (c == k)) [ inl e ↦ subst P (sym (eqb-true c k e)) same | inr e ↦ other e ]
 
-pick : {A : Type 0} (P : A → Type 0) (b : Bool) (x y : A) → (b ≡ true → P x) → (b ≡ false → P y) → P (cond b x y)
+pub pick : {A : Type 0} (P : A → Type 0) (b : Bool) (x y : A) → (b ≡ true → P x) → (b ≡ false → P y) → P (cond b x y)
 pick P true x y p q = p refl
 pick P false x y p q = q refl
 
@@ -34,7 +34,7 @@ hex-digit : (n : ℕ) → n < 16 → is_hex (digit_char n) ≡ true
 hex-digit n l = ap (λ v. nat_lt v 16) (digit_value-digit_char n (omega arith)) ∙ lt-ltb n 16 l
 
 -- the last hexadecimal digit of each number
-abbrev word : List ℕ → List ℕ
+abbrev pub word : List ℕ → List ℕ
 word qs = map (λ q. digit_char (q % 16)) qs
 
 last : (q : ℕ) → q % 16 < 16
@@ -44,7 +44,7 @@ word-hex : (qs : List ℕ) → list_all is_hex (word qs) ≡ true
 word-hex [] = refl
 word-hex (q ∷ qs) = ap (λ b. b && list_all is_hex (word qs)) (hex-digit (q % 16) (last q)) ∙ word-hex qs
 
-abbrev value_past : ℕ → List ℕ → ℕ
+abbrev pub value_past : ℕ → List ℕ → ℕ
 value_past v qs = fold (λ value q. value * 16 + q % 16) v qs
 
 word-value : (v : ℕ) (qs : List ℕ) → fold (λ value digit. value * 16 + digit_value digit) v (word qs) ≡ value_past v qs
@@ -65,28 +65,29 @@ any false = refl
 in_run : (d : ℕ) → is_hex d ≡ true → is_digit_or_underscore d ≡ true
 in_run d h = ap (λ b. (d == 95) || b) h ∙ any (d == 95)
 
-front_run-digits : (ds : List ℕ) → list_all is_hex ds ≡ true → front_run is_digit_or_underscore (ds ++ 125 ∷ []) ≡ ds
-front_run-digits [] e = refl
-front_run-digits (d ∷ ds) e = let q = and_parts (is_hex d) (list_all is_hex ds) e in front_run-yes is_digit_or_underscore d (ds ++ 125 ∷ []) (in_run d q.0) ∙ ap (λ xs. d ∷ xs) (front_run-digits ds q.1)
+-- before the closing brace and what follows it
+front_run-digits : (ds s : List ℕ) → list_all is_hex ds ≡ true → front_run is_digit_or_underscore (ds ++ 125 ∷ s) ≡ ds
+front_run-digits [] s e = refl
+front_run-digits (d ∷ ds) s e = let q = and_parts (is_hex d) (list_all is_hex ds) e in front_run-yes is_digit_or_underscore d (ds ++ 125 ∷ s) (in_run d q.0) ∙ ap (λ xs. d ∷ xs) (front_run-digits ds s q.1)
 
-past_run-digits : (ds : List ℕ) → list_all is_hex ds ≡ true → past_run is_digit_or_underscore (ds ++ 125 ∷ []) ≡ 125 ∷ []
-past_run-digits [] e = refl
-past_run-digits (d ∷ ds) e = let q = and_parts (is_hex d) (list_all is_hex ds) e in past_run-yes is_digit_or_underscore d (ds ++ 125 ∷ []) (in_run d q.0) ∙ past_run-digits ds q.1
+past_run-digits : (ds s : List ℕ) → list_all is_hex ds ≡ true → past_run is_digit_or_underscore (ds ++ 125 ∷ s) ≡ 125 ∷ s
+past_run-digits [] s e = refl
+past_run-digits (d ∷ ds) s e = let q = and_parts (is_hex d) (list_all is_hex ds) e in past_run-yes is_digit_or_underscore d (ds ++ 125 ∷ s) (in_run d q.0) ∙ past_run-digits ds s q.1
 
-closed-digits : (ds : List ℕ) → list_all is_hex ds ≡ true → nat_le (length ds) 6 ≡ true → closed_at_run (ds ++ 125 ∷ []) ≡ (Unicode (hex_value ds), [])
-closed-digits ds e few =
-    ap (λ xs. closed xs (past_run is_digit_or_underscore (ds ++ 125 ∷ []))) (front_run-digits ds e)
-    ∙ (ap (closed ds) (past_run-digits ds e)
-    ∙ (ap (λ (xs : List ℕ). (number xs, nil)) (filter-all is_hex ds e)
-    ∙ ap (λ (b : Bool). ((if b then Unicode (hex_value ds) else Fault OverlongUnicodeEscape), nil)) few))
+closed-digits : (ds s : List ℕ) → list_all is_hex ds ≡ true → nat_le (length ds) 6 ≡ true → closed_at_run (ds ++ 125 ∷ s) ≡ (Unicode (hex_value ds), s)
+closed-digits ds s e few =
+    ap (λ xs. closed xs (past_run is_digit_or_underscore (ds ++ 125 ∷ s))) (front_run-digits ds s e)
+    ∙ (ap (closed ds) (past_run-digits ds s e)
+    ∙ (ap (λ (xs : List ℕ). (number xs, s)) (filter-all is_hex ds e)
+    ∙ ap (λ (b : Bool). ((if b then Unicode (hex_value ds) else Fault OverlongUnicodeEscape), s)) few))
 
 not_hex : (d k : ℕ) → is_hex k ≡ false → is_hex d ≡ true → (d == k) ≡ false
 not_hex d k none some = ne_eqb d k (λ e. true≢false (sym some ∙ (ap is_hex e ∙ none)))
 
-braced-digits : (d : ℕ) (ds : List ℕ) → list_all is_hex (d ∷ ds) ≡ true → nat_le (length (d ∷ ds)) 6 ≡ true → braced (d ∷ (ds ++ 125 ∷ [])) ≡ (Unicode (hex_value (d ∷ ds)), [])
-braced-digits d ds e few =
+braced-digits : (d : ℕ) (ds s : List ℕ) → list_all is_hex (d ∷ ds) ≡ true → nat_le (length (d ∷ ds)) 6 ≡ true → braced (d ∷ (ds ++ 125 ∷ s)) ≡ (Unicode (hex_value (d ∷ ds)), s)
+braced-digits d ds s e few =
     let h : is_hex d ≡ true = (and_parts (is_hex d) (list_all is_hex ds) e).0 in
-    choose (d == 95) (d == 125) (is_hex d) _ _ _ _ (not_hex d 95 refl h) (not_hex d 125 refl h) h ∙ closed-digits (d ∷ ds) e few
+    choose (d == 95) (d == 125) (is_hex d) _ _ _ _ (not_hex d 95 refl h) (not_hex d 125 refl h) h ∙ closed-digits (d ∷ ds) s e few
   where
     choose : (a b c : Bool) (x y z w : Element × List ℕ) → a ≡ false → b ≡ false → c ≡ true → (if a then x else if b then y else if c then z else w) ≡ z
     choose false false true x y z w p q r = refl
@@ -99,7 +100,7 @@ braced-digits d ds e few =
 low : (c : ℕ) → nat_le 57344 c ≡ true → nat_lt c 57344 ≡ false
 low c e = grind (arith, nat_tests)
 
-scalar-is : (c : ℕ) → IsScalar c → scalar_of c ≡ Ok c
+pub scalar-is : (c : ℕ) → IsScalar c → scalar_of c ≡ Ok c
 scalar-is c e = by_test (nat_lt c 0xD800) (nat_le 57344 c) (nat_lt c 0xE000) (nat_lt c 0x11_0000) e (low c)
   where
     by_test : (a b d f : Bool) → cond a true (b && f) ≡ true → (b ≡ true → d ≡ false) → ◌≡◌ {A = Result ℕ EscapeError} (if a then Ok c else if d then Err LoneSurrogateUnicodeEscape else if f then Ok c else Err OutOfRangeUnicodeEscape) (Ok c)
@@ -108,10 +109,18 @@ scalar-is c e = by_test (nat_lt c 0xD800) (nat_le 57344 c) (nat_lt c 0xE000) (na
         let p = and_parts b f h in
         rw (g p.0) (rw p.1 refl)
 
-unicode-word : (c q : ℕ) (qs : List ℕ) → IsScalar c → nat_le (length (word (q ∷ qs))) 6 ≡ true → value_past 0 (q ∷ qs) ≡ c → char_literal (92 ∷ 117 ∷ 123 ∷ (word (q ∷ qs) ++ 125 ∷ [])) ≡ Ok c
+-- a number that is written with its digits between braces
+abbrev pub braces : List ℕ → List ℕ
+braces qs = 92 ∷ 117 ∷ 123 ∷ (word qs ++ 125 ∷ [])
+
+-- what the braces hold is that number
+pub word-read : (c q : ℕ) (qs s : List ℕ) → nat_le (length (word (q ∷ qs))) 6 ≡ true → value_past 0 (q ∷ qs) ≡ c → braced (word (q ∷ qs) ++ 125 ∷ s) ≡ (Unicode c, s)
+word-read c q qs s few value =
+    braced-digits (digit_char (q % 16)) (word qs) s (word-hex (q ∷ qs)) few ∙ ap (λ (n : ℕ). (Unicode n, s)) (word-value 0 (q ∷ qs) ∙ value)
+
+unicode-word : (c q : ℕ) (qs : List ℕ) → IsScalar c → nat_le (length (word (q ∷ qs))) 6 ≡ true → value_past 0 (q ∷ qs) ≡ c → char_literal (braces (q ∷ qs)) ≡ Ok c
 unicode-word c q qs is few value =
-    ap (λ (r : Element × List ℕ). alone (char_of r.0) r.1) (braced-digits (digit_char (q % 16)) (word qs) (word-hex (q ∷ qs)) few)
-    ∙ (ap (λ (n : ℕ). alone (scalar_of n) []) (word-value 0 (q ∷ qs) ∙ value) ∙ ap (λ (r : Result ℕ EscapeError). alone r []) (scalar-is c is))
+    ap (λ (r : Element × List ℕ). alone (char_of r.0) r.1) (word-read c q qs [] few value) ∙ ap (λ (r : Result ℕ EscapeError). alone r []) (scalar-is c is)
 
 -- ---- the digits of a number, from the first on
 
@@ -155,30 +164,32 @@ scalar-small c e = by_test (nat_lt c 0xD800) (nat_le 57344 c) (nat_lt c 0x11_000
     by_test true b f h x y = let l = x refl in omega arith
     by_test false b f h x y = let l = y (and_parts b f h).1 in omega arith
 
-unicode-back : (c : ℕ) → IsScalar c → char_literal (escape_unicode c) ≡ Ok c
-unicode-back c is =
-    let P : List ℕ → Type 0 = λ xs. char_literal xs ≡ Ok c in
-    let written : List ℕ → List ℕ = λ qs. 92 ∷ 117 ∷ 123 ∷ (word qs ++ 125 ∷ []) in
+-- what holds of a number of up to six digits that make `c`, holds of what is written of `c`
+pub unicode-by : (P : List ℕ → Type 0) (c : ℕ) → IsScalar c → ((q : ℕ) (qs : List ℕ) → nat_le (length (word (q ∷ qs))) 6 ≡ true → value_past 0 (q ∷ qs) ≡ c → P (braces (q ∷ qs))) → P (escape_unicode c)
+unicode-by P c is holds =
     let q1 : List ℕ = c / 1 ∷ [] in
     let q2 : List ℕ = c / 0x10 ∷ q1 in
     let q3 : List ℕ = c / 0x100 ∷ q2 in
     let q4 : List ℕ = c / 0x1000 ∷ q3 in
     let q5 : List ℕ = c / 0x1_0000 ∷ q4 in
     let q6 : List ℕ = c / 0x10_0000 ∷ q5 in
-    let from5 : List ℕ = cond (nat_lt c 0x10_0000) (written q5) (written q6) in
-    let from4 : List ℕ = cond (nat_lt c 0x1_0000) (written q4) from5 in
-    let from3 : List ℕ = cond (nat_lt c 0x1000) (written q3) from4 in
-    let from2 : List ℕ = cond (nat_lt c 0x100) (written q2) from3 in
-    let p6 : P (written q6) = unicode-word c (c / 0x10_0000) q5 is refl (at1 c _ (at2 c _ (at3 c _ (at4 c _ (at5 c _ (first6 c (scalar-small c is))))))) in
-    let p5 : P from5 = pick P (nat_lt c 0x10_0000) (written q5) (written q6) (λ e. unicode-word c (c / 0x1_0000) q4 is refl (at1 c _ (at2 c _ (at3 c _ (at4 c _ (first5 c (ltb-true c 0x10_0000 e))))))) (λ e. p6) in
-    let p4 : P from4 = pick P (nat_lt c 0x1_0000) (written q4) from5 (λ e. unicode-word c (c / 0x1000) q3 is refl (at1 c _ (at2 c _ (at3 c _ (first4 c (ltb-true c 0x1_0000 e)))))) (λ e. p5) in
-    let p3 : P from3 = pick P (nat_lt c 0x1000) (written q3) from4 (λ e. unicode-word c (c / 0x100) q2 is refl (at1 c _ (at2 c _ (first3 c (ltb-true c 0x1000 e))))) (λ e. p4) in
-    let p2 : P from2 = pick P (nat_lt c 0x100) (written q2) from3 (λ e. unicode-word c (c / 0x10) q1 is refl (at1 c _ (first2 c (ltb-true c 0x100 e)))) (λ e. p3) in
-    pick P (nat_lt c 0x10) (written q1) from2 (λ e. unicode-word c (c / 1) [] is refl (first1 c (ltb-true c 0x10 e))) (λ e. p2)
+    let from5 : List ℕ = cond (nat_lt c 0x10_0000) (braces q5) (braces q6) in
+    let from4 : List ℕ = cond (nat_lt c 0x1_0000) (braces q4) from5 in
+    let from3 : List ℕ = cond (nat_lt c 0x1000) (braces q3) from4 in
+    let from2 : List ℕ = cond (nat_lt c 0x100) (braces q2) from3 in
+    let p6 : P (braces q6) = holds (c / 0x10_0000) q5 refl (at1 c _ (at2 c _ (at3 c _ (at4 c _ (at5 c _ (first6 c (scalar-small c is))))))) in
+    let p5 : P from5 = pick P (nat_lt c 0x10_0000) (braces q5) (braces q6) (λ e. holds (c / 0x1_0000) q4 refl (at1 c _ (at2 c _ (at3 c _ (at4 c _ (first5 c (ltb-true c 0x10_0000 e))))))) (λ e. p6) in
+    let p4 : P from4 = pick P (nat_lt c 0x1_0000) (braces q4) from5 (λ e. holds (c / 0x1000) q3 refl (at1 c _ (at2 c _ (at3 c _ (first4 c (ltb-true c 0x1_0000 e)))))) (λ e. p5) in
+    let p3 : P from3 = pick P (nat_lt c 0x1000) (braces q3) from4 (λ e. holds (c / 0x100) q2 refl (at1 c _ (at2 c _ (first3 c (ltb-true c 0x1000 e))))) (λ e. p4) in
+    let p2 : P from2 = pick P (nat_lt c 0x100) (braces q2) from3 (λ e. holds (c / 0x10) q1 refl (at1 c _ (first2 c (ltb-true c 0x100 e)))) (λ e. p3) in
+    pick P (nat_lt c 0x10) (braces q1) from2 (λ e. holds (c / 1) [] refl (first1 c (ltb-true c 0x10 e))) (λ e. p2)
+
+unicode-back : (c : ℕ) → IsScalar c → char_literal (escape_unicode c) ≡ Ok c
+unicode-back c is = unicode-by (λ xs. char_literal xs ≡ Ok c) c is (λ q qs. unicode-word c q qs is)
 
 -- ---- characters and bytes that are written as they are
 
-plain-back : (P : List ℕ → Type 0) (c : ℕ) (xs : List ℕ) → (c == 9) ≡ false → (c == 13) ≡ false → (c == 10) ≡ false → (c == 39) ≡ false → (c == 34) ≡ false → (c == 92) ≡ false
+pub plain-back : (P : List ℕ → Type 0) (c : ℕ) (xs : List ℕ) → (c == 9) ≡ false → (c == 13) ≡ false → (c == 10) ≡ false → (c == 39) ≡ false → (c == 34) ≡ false → (c == 92) ≡ false
     → P xs → (nat_lt c 127 ≡ true → P (c ∷ [])) → P (escape_or c xs)
 plain-back P c xs a b d e f g other plain = rw (a, b, d, e, f, g) (pick P (nat_lt c 32) _ _ (λ h. other) (λ h. pick P (nat_lt c 127) _ _ plain (λ i. other)))
 
@@ -197,8 +208,9 @@ char_comes_back c is =
 byte-value : (b : ℕ) → b < 256 → b / 0x10 % 16 * 16 + b / 1 % 16 ≡ b
 byte-value b l = let d : b / 1 ≡ b = div-one b in rw d (omega arith)
 
-byte-hex : (b : ℕ) → b < 256 → byte_literal (92 ∷ 120 ∷ (word (b / 0x10 ∷ b / 1 ∷ []))) ≡ Ok b
-byte-hex b l =
+-- the two digits of a byte are that byte
+pub byte-read : (b : ℕ) (s : List ℕ) → b < 256 → hex (hex_digit_at 0x10 b ∷ hex_digit_at 1 b ∷ s) ≡ (Byte b, s)
+byte-read b s l =
     let h = hex-digit (b / 0x10 % 16) (last (b / 0x10)) in
     let k = hex-digit (b / 1 % 16) (last (b / 1)) in
     let i = last (b / 0x10) in
@@ -206,10 +218,13 @@ byte-hex b l =
     let value : digit_value (digit_char (b / 0x10 % 16)) * 16 + digit_value (digit_char (b / 1 % 16)) ≡ b =
     ap (λ (n : ℕ). n * 16 + digit_value (digit_char (b / 1 % 16))) (digit_value-digit_char (b / 0x10 % 16) (omega arith))
     ∙ (ap (λ (n : ℕ). b / 0x10 % 16 * 16 + n) (digit_value-digit_char (b / 1 % 16) (omega arith)) ∙ byte-value b l) in
-    ap (λ (r : Element × List ℕ). alone (byte_of r.0) r.1) (by_test (is_hex (digit_char (b / 0x10 % 16))) (is_hex (digit_char (b / 1 % 16))) _ h k) ∙ ap (λ (n : ℕ). alone (Ok n) []) value
+    by_test (is_hex (digit_char (b / 0x10 % 16))) (is_hex (digit_char (b / 1 % 16))) _ h k ∙ ap (λ (n : ℕ). (Byte n, s)) value
   where
-    by_test : (p q : Bool) (n : ℕ) → p ≡ true → q ≡ true → ◌≡◌ {A = Element × List ℕ} (if p then ((if q then Byte n else Fault InvalidCharInHexEscape), []) else (Fault InvalidCharInHexEscape, digit_char (b / 1 % 16) ∷ [])) (Byte n, [])
+    by_test : (p q : Bool) (n : ℕ) → p ≡ true → q ≡ true → ◌≡◌ {A = Element × List ℕ} (if p then ((if q then Byte n else Fault InvalidCharInHexEscape), s) else (Fault InvalidCharInHexEscape, digit_char (b / 1 % 16) ∷ s)) (Byte n, s)
     by_test p q n h k = rw (h, k) refl
+
+byte-hex : (b : ℕ) → b < 256 → byte_literal (92 ∷ 120 ∷ (word (b / 0x10 ∷ b / 1 ∷ []))) ≡ Ok b
+byte-hex b l = ap (λ (r : Element × List ℕ). alone (byte_of r.0) r.1) (byte-read b [] l)
 
 pub byte_comes_back : ByteComesBack
 byte_comes_back b l =

@@ -6,8 +6,10 @@ pub mod Meaning
 pub mod Mode
 pub mod Places
 pub mod Plain
+pub mod Rebuilt
 pub mod RoundTrip
 pub mod Runs
 pub mod Single
 pub mod Told
 pub mod Units
+pub mod Written

@@ -4,6 +4,7 @@ ghost use Rattle.std.specs.Iterator.{at_most};
 ghost use Rattle.rustc_literal_escaper.specs.Elements.{items_of, TakesFirst};
 ghost use Rattle.rustc_literal_escaper.specs.Places.{ArePlaced};
 ghost use Rattle.rustc_literal_escaper.specs.Plain.{StandsForItself};
+ghost use Rattle.rustc_literal_escaper.specs.Rebuilt.{IsRebuilt};
 
 use crate::element::Element;
 use crate::steps::{Told, advance};
@@ -43,6 +44,7 @@ impl<'a> Elements<'a> {
         ensures items { result ≡ items_of false src.now }
         ensures plain { StandsForItself false src.now }
         ensures places { ArePlaced src.now (items_of false src.now) }
+        ensures rebuilt { IsRebuilt false src.now }
     {
         Elements {
             rest: src,
@@ -57,6 +59,7 @@ impl<'a> Elements<'a> {
         ensures items { result ≡ items_of true src.now }
         ensures plain { StandsForItself true src.now }
         ensures places { ArePlaced src.now (items_of true src.now) }
+        ensures rebuilt { IsRebuilt true src.now }
     {
         Elements {
             rest: src,

@@ -1,7 +1,8 @@
 //! What the literals of Rust stand for: their escapes, and what is wrong in them.
 //!
 //! The lexer takes `"\q"` for one token. This crate reads what stands between the quotes: it answers what a
-//! literal stands for, unit by unit, and tells each fault with its place. It takes no memory.
+//! literal stands for, unit by unit, and tells each fault with its place. That takes no memory. The other way
+//! round it writes texts and bytes as they stand between double quotes.
 #![tactic(auto)]
 
 mod check;
@@ -15,6 +16,7 @@ mod single;
 mod steps;
 mod strings;
 mod unit;
+mod written;
 
 pub use check::check_for_errors;
 pub use element::Element;
@@ -27,6 +29,7 @@ pub use strings::{
     unescape_str,
 };
 pub use unit::{MixedUnit, NonZeroChar, NonZeroU8};
+pub use written::{EscapeCStrError, escape_byte_str, escape_c_str, escape_str};
 
 #[cfg(test)]
 mod tests;

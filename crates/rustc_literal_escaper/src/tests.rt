@@ -313,3 +313,43 @@ fn errors_alone(rt: HostRuntime) -> Result<(), Fail> {
     assert_eq!(rt; found.as_slice(), expected.as_slice());
     Ok(())
 }
+
+#[test]
+fn written_strings(rt: HostRuntime) -> Result<(), Fail> {
+    let rows = [
+        ("", "<"),
+        ("a\"b'\\", "<a\\\"b\\'\\\\"),
+        ("\n\r\t", "<\\n\\r\\t"),
+        ("\0é😻", "<\\u{0}\\u{e9}\\u{1f63b}"),
+    ];
+    for (text, expected) in rows {
+        let mut out = String::from_str(rt.alloc(), "<")?;
+        escape_str(text, &mut out)?;
+        assert_eq!(rt; out.as_str(), expected);
+    }
+    Ok(())
+}
+
+#[test]
+fn written_bytes(rt: HostRuntime) -> Result<(), Fail> {
+    let mut out = String::from_str(rt.alloc(), "<")?;
+    escape_byte_str(
+        [0, 7, b'\n', b'"', b'A', 127, 128, 255].as_slice(),
+        &mut out,
+    )?;
+    assert_eq!(rt; out.as_str(), "<\\x00\\x07\\n\\\"A\\x7f\\x80\\xff");
+    Ok(())
+}
+
+#[test]
+fn written_c_strings(rt: HostRuntime) -> Result<(), Fail> {
+    let mut out = String::from_str(rt.alloc(), "<")?;
+    assert_eq!(rt; escape_c_str("é\n".as_bytes(), &mut out), Ok(()));
+    assert_eq!(rt; out.as_str(), "<\\xc3\\xa9\\n");
+    assert_eq!(rt;
+        escape_c_str("a\0b".as_bytes(), &mut out),
+        Err(EscapeCStrError::Nul)
+    );
+    assert_eq!(rt; out.as_str(), "<\\xc3\\xa9\\n");
+    Ok(())
+}

@@ -1,6 +1,7 @@
 use Rattle.std.proofs.Common.{true}
 use Rattle.rustc_literal_escaper.proofs.PlacedLemmas.{are_placed}
 use Rattle.rustc_literal_escaper.proofs.PlainLemmas.{stands_for_itself}
+use Rattle.rustc_literal_escaper.proofs.RebuiltLemmas.{is_rebuilt}
 use Rattle.rustc_literal_escaper.proofs.elements.Elements.new_raw.Goals as goal
 
 pub returns-clause-plain : goal.returns-clause-plain
@@ -8,3 +9,6 @@ returns-clause-plain c = stands_for_itself true c.args.src.now
 
 pub returns-clause-places : goal.returns-clause-places
 returns-clause-places c = are_placed c.args.src.now c.utf8.src true
+
+pub returns-clause-rebuilt : goal.returns-clause-rebuilt
+returns-clause-rebuilt c = is_rebuilt true c.args.src.now c.utf8.src

@@ -1,0 +1,240 @@
+-- The text, put together again from the places of its items.
+use Rattle.std.proofs.Common.{◌≡◌, ℕ, zero, suc, ◌+◌, ◌-◌, ◌≤◌, ◌<◌, ◌==◌, ◌&&◌, Bool, true, false, not, if◌then◌else◌, List, [], ◌∷◌, ◌++◌, length, length-append, append_assoc, map, filter, nat_lt, refl, sym, ap, subst, ◌∙◌, arith}
+use Rattle.std.specs.Char.{encode_utf8, is_ascii, is_whitespace}
+use Rattle.std.specs.List.{AllByRecursion, list_all, list_any}
+use Rattle.std.specs.Str.{byte, chars, encode_utf8_all, IsAscii, IsUtf8}
+use Rattle.std.specs.declared.ops.Range.{Range}
+use Rattle.std.proofs.lemmas.Bool.{eqb-true}
+use Rattle.std.proofs.lemmas.Bool.Decides.{nat_tests}
+use Rattle.std.proofs.lemmas.List.Elements.{filter-append}
+use Rattle.std.proofs.lemmas.Str.{encode_ascii, encodes-append, encodes-chars, encodes-IsAscii}
+use Rattle.rustc_literal_escaper.specs.declared.element.Element.{Element}
+use Rattle.rustc_literal_escaper.specs.declared.element.Element.TheVariants.{Byte, Fault, Plain, Unicode}
+use Rattle.rustc_literal_escaper.specs.declared.error.EscapeError.TheVariants.{BareCarriageReturn, BareCarriageReturnInRawString, EmptyUnicodeEscape, EscapeOnlyChar, InvalidCharInHexEscape, InvalidCharInUnicodeEscape, InvalidEscape, LeadingUnderscoreUnicodeEscape, MultipleSkippedLinesWarning, NoBraceInUnicodeEscape, OverlongUnicodeEscape, TooShortHexEscape, UnskippedWhitespaceWarning}
+use Rattle.rustc_literal_escaper.specs.Elements.{Front, Item, front, front_by, is_newline, is_passed_over, item_at, items_from, items_in, items_of, line_end, more_lines, more_space, one, past_backslash, place, raw_element, raw_front, unescaped}
+use Rattle.rustc_literal_escaper.specs.Escape.{braced, closed, closed_at_run, escape, hex, hex_value, is_digit_or_underscore, is_hex, number, short, unicode}
+use Rattle.rustc_literal_escaper.specs.Rebuilt.{AreLineEnds, IsMadeOf, IsNext, IsRebuilt, is_unit, is_warning, line_ends, places_of}
+use Rattle.rustc_literal_escaper.specs.Runs.{front_run, past_run}
+use Rattle.rustc_literal_escaper.proofs.ItemLemmas.{either}
+use Rattle.rustc_literal_escaper.proofs.PlacedLemmas.{Ends, all, escape-ends, past, past_run-ends, through}
+use Rattle.rustc_literal_escaper.proofs.RoundTripLemmas.{pick}
+use Rattle.rustc_literal_escaper.proofs.WrittenLemmas.{is-ascii}
+
+-- ---- what is no warning
+
+abbrev Tells : Element → Type 0
+Tells e = is_warning e ≡ false
+
+abbrev TellsAt : Element × List ℕ → Type 0
+TellsAt read = Tells read.0
+
+short-tells : (c : ℕ) → Tells (short c)
+short-tells c =
+    either Tells (c == byte "0") _ _ refl (either Tells (c == byte "t") _ _ refl (either Tells (c == byte "n") _ _ refl (either Tells (c == byte "r") _ _ refl
+    (either Tells (c == byte "\"") _ _ refl (either Tells (c == byte "'") _ _ refl (either Tells (c == byte "\\") _ _ refl refl))))))
+
+hex-tells : (s : List ℕ) → TellsAt (hex s)
+hex-tells [] = refl
+hex-tells (h ∷ []) = either Tells (is_hex h) (Fault TooShortHexEscape) (Fault InvalidCharInHexEscape) refl refl
+hex-tells (h ∷ l ∷ s) = either TellsAt (is_hex h) _ _ (either Tells (is_hex l) _ _ refl refl) refl
+
+number-tells : (digits : List ℕ) → Tells (number digits)
+number-tells digits = either Tells _ (Unicode (hex_value digits)) (Fault OverlongUnicodeEscape) refl refl
+
+closed-tells : (digits s : List ℕ) → TellsAt (closed digits s)
+closed-tells digits [] = refl
+closed-tells digits (c ∷ s) = either Tells (c == byte "}") (number (filter is_hex digits)) (Fault InvalidCharInUnicodeEscape) (number-tells (filter is_hex digits)) refl
+
+braced-tells : (s : List ℕ) → TellsAt (braced s)
+braced-tells [] = refl
+braced-tells (c ∷ s) = either TellsAt (c == byte "_") _ _ refl (either TellsAt (c == byte "}") _ _ refl
+    (either TellsAt (is_hex c) (closed_at_run (c ∷ s)) _ (closed-tells (front_run is_digit_or_underscore (c ∷ s)) (past_run is_digit_or_underscore (c ∷ s))) refl))
+
+unicode-tells : (s : List ℕ) → TellsAt (unicode s)
+unicode-tells [] = refl
+unicode-tells (c ∷ s) = either TellsAt (c == byte "{") (braced s) _ (braced-tells s) refl
+
+escape-tells : (s : List ℕ) → TellsAt (escape s)
+escape-tells [] = refl
+escape-tells (c ∷ s) = either TellsAt (c == byte "x") (hex s) _ (hex-tells s) (either TellsAt (c == byte "u") (unicode s) _ (unicode-tells s) (short-tells c))
+
+unescaped-tells : (c : ℕ) → Tells (unescaped c)
+unescaped-tells c = either Tells (c == byte "\"") (Fault EscapeOnlyChar) _ refl (either Tells (c == 13) (Fault BareCarriageReturn) (Plain c) refl refl)
+
+raw-tells : (c : ℕ) → Tells (raw_element c)
+raw-tells c = either Tells (c == 13) (Fault BareCarriageReturnInRawString) (Plain c) refl refl
+
+-- ---- a line end that is skipped
+
+run-cut : (p : ℕ → Bool) (s : List ℕ) → s ≡ front_run p s ++ past_run p s
+run-cut p [] = refl
+run-cut p (c ∷ s) = by_test (p c) (run-cut p s)
+  where
+    by_test : (b : Bool) → s ≡ front_run p s ++ past_run p s → c ∷ s ≡ (if b then c ∷ front_run p s else []) ++ (if b then past_run p s else c ∷ s)
+    by_test true e = ap (λ xs. c ∷ xs) e
+    by_test false e = refl
+
+run-all : (p : ℕ → Bool) (s : List ℕ) → list_all p (front_run p s) ≡ true
+run-all p [] = refl
+run-all p (c ∷ s) = pick (λ (xs : List ℕ). list_all p xs ≡ true) (p c) (c ∷ front_run p s) [] (λ e. rw e (run-all p s)) (λ e. refl)
+
+space-ascii : (s : List ℕ) → list_all is_passed_over s ≡ true → list_all is_ascii s ≡ true
+space-ascii [] e = refl
+space-ascii (c ∷ s) e = let p = parts (is_passed_over c) (list_all is_passed_over s) e in rw (ascii c p.0) (space-ascii s p.1)
+  where
+    parts : (a b : Bool) → a && b ≡ true → (a ≡ true) × (b ≡ true)
+    parts true true e = (refl, refl)
+    parts true false e = (refl, e)
+    parts false b e = absurd (let f : false ≡ true = e in cc)
+
+    ascii : (c : ℕ) → is_passed_over c ≡ true → is_ascii c ≡ true
+    ascii c e = grind (arith, nat_tests)
+
+-- in front of what is made of some places it changes nothing
+skip : (space : List ℕ) → list_all is_passed_over space ≡ true → (from : ℕ) (left : List ℕ) (places : List (Range ℕ))
+    → IsMadeOf false (from + (2 + length space)) left places → IsMadeOf false from (92 ∷ 10 ∷ (space ++ left)) places
+skip space e from left [] made = (space ∷ made.0, rw e made.1, ap (λ (xs : List ℕ). 92 ∷ 10 ∷ (space ++ xs)) made.2)
+skip space e from left (r ∷ places) made = (
+  made.0,
+  record {
+    skipped = 92 ∷ 10 ∷ (space ++ made.1.skipped);
+    marked = made.1.marked;
+    line_ends = (space ∷ made.1.line_ends.0, rw e made.1.line_ends.1, ap (λ (xs : List ℕ). 92 ∷ 10 ∷ (space ++ xs)) made.1.line_ends.2);
+    start = (let s = made.1.start in let l = length-append space made.1.skipped in omega arith);
+    end = made.1.end;
+    whole = ap (λ (xs : List ℕ). 92 ∷ 10 ∷ (space ++ xs)) made.1.whole ∙ ap (λ (xs : List ℕ). 92 ∷ 10 ∷ xs) (sym (append_assoc space made.1.skipped (made.1.marked ++ made.0)));
+  },
+  made.2,
+)
+
+-- ---- one step
+
+none : (raw : Bool) → AreLineEnds raw []
+none true = refl
+none false = ([], refl, refl)
+
+module _ (raw : Bool) (total count : ℕ) where
+  abbrev places_past : List ℕ → List (Range ℕ)
+  places_past left = places_of (items_in (front_by raw) count total left)
+
+  -- what is told at `c` before `s`, with what is told of what is left past it
+  abbrev IsMadeAt : ℕ → List ℕ → Front → Type 0
+  IsMadeAt c s at = IsMadeOf raw (place total (c ∷ s)) (encode_utf8_all (c ∷ s)) (places_of (map (item_at total (place total (c ∷ s))) at.told ++ items_in (front_by raw) count total at.left))
+
+  one-made : (c : ℕ) (s : List ℕ) (read : Element × List ℕ) → Tells read.0 → Ends read.1 s → length (encode_utf8_all (c ∷ s)) ≤ total
+      → IsMadeOf raw (place total read.1) (encode_utf8_all read.1) (places_past read.1) → IsMadeAt c s (one read)
+  one-made c s read tells ends fits made = subst (IsMadeOf raw from (encode_utf8_all (c ∷ s))) (sym first) (
+    encode_utf8_all read.1,
+    record {
+      skipped = [];
+      marked = encode_utf8_all (c ∷ ends.0);
+      line_ends = none raw;
+      start = (omega arith);
+      end = (let l = lengths in omega arith);
+      whole = cut;
+    },
+    made,
+  )
+    where
+      from : ℕ
+      from = place total (c ∷ s)
+
+      first : places_of (item_at total (place total (c ∷ s)) read ∷ items_in (front_by raw) count total read.1) ≡ record { start = place total (c ∷ s); end = place total read.1 } ∷ places_past read.1
+      first = rw tells refl
+
+      cut : encode_utf8_all (c ∷ s) ≡ encode_utf8_all (c ∷ ends.0) ++ encode_utf8_all read.1
+      cut = ap (λ (xs : List ℕ). encode_utf8_all (c ∷ xs)) ends.1 ∙ encodes-append (c ∷ ends.0) read.1
+
+      lengths : length (encode_utf8_all (c ∷ s)) ≡ length (encode_utf8_all (c ∷ ends.0)) + length (encode_utf8_all read.1)
+      lengths = ap length cut ∙ length-append (encode_utf8_all (c ∷ ends.0)) (encode_utf8_all read.1)
+
+  -- warnings alone, past a line end that is skipped
+  line-made : (s : List ℕ) → raw ≡ false → length (encode_utf8_all (92 ∷ 10 ∷ s)) ≤ total
+      → IsMadeOf raw (place total (past_run is_passed_over s)) (encode_utf8_all (past_run is_passed_over s)) (places_past (past_run is_passed_over s)) → IsMadeAt 92 (10 ∷ s) (line_end s)
+  line-made s is fits made =
+      subst (IsMadeOf raw from (encode_utf8_all (92 ∷ 10 ∷ s))) (sym (ap (map (λ (i : Item). i.0)) (filter-append is_unit (map at (line_end s).told) items ∙ ap (λ (is : List Item). is ++ filter is_unit items) warned)))
+      (subst (λ (b : Bool). IsMadeOf b from (encode_utf8_all (92 ∷ 10 ∷ s)) (places_past left)) (sym is)
+      (subst (λ (xs : List ℕ). IsMadeOf false from xs (places_past left)) (sym cut)
+      (skip space (run-all is_passed_over s) from (encode_utf8_all left) (places_past left)
+      (subst (λ (n : ℕ). IsMadeOf false n (encode_utf8_all left) (places_past left)) here (subst (λ (b : Bool). IsMadeOf b (place total left) (encode_utf8_all left) (places_past left)) is made)))))
+    where
+      from : ℕ
+      from = place total (92 ∷ 10 ∷ s)
+
+      at : Element × List ℕ → Item
+      at = item_at total (place total (92 ∷ 10 ∷ s))
+
+      space : List ℕ
+      space = front_run is_passed_over s
+
+      left : List ℕ
+      left = past_run is_passed_over s
+
+      items : List Item
+      items = items_in (front_by raw) count total (past_run is_passed_over s)
+
+      warned : filter is_unit (map at (line_end s).told) ≡ []
+      warned = either (λ (told : List (Element × List ℕ)). filter is_unit (map at (told ++ more_space left)) ≡ []) (list_any is_newline space) ((Fault MultipleSkippedLinesWarning, left) ∷ []) [] (more left) (more left)
+        where
+          more : (left : List ℕ) → filter is_unit (map at (more_space left)) ≡ []
+          more [] = refl
+          more (d ∷ t) = either (λ (told : List (Element × List ℕ)). filter is_unit (map at told) ≡ []) (is_whitespace d) ((Fault UnskippedWhitespaceWarning, t) ∷ []) [] refl refl
+
+      ascii : encode_utf8_all space ≡ space
+      ascii = encodes-IsAscii space (is-ascii space (space-ascii space (run-all is_passed_over s)))
+
+      cut : encode_utf8_all (92 ∷ 10 ∷ s) ≡ 92 ∷ 10 ∷ (space ++ encode_utf8_all left)
+      cut = ap (λ (xs : List ℕ). xs ++ (encode_utf8 10 ++ encode_utf8_all s)) (encode_ascii 92 (omega arith))
+          ∙ (ap (λ (xs : List ℕ). 92 ∷ (xs ++ encode_utf8_all s)) (encode_ascii 10 (omega arith))
+          ∙ (ap (λ (xs : List ℕ). 92 ∷ 10 ∷ encode_utf8_all xs) (run-cut is_passed_over s)
+          ∙ ap (λ (xs : List ℕ). 92 ∷ 10 ∷ xs) (encodes-append space left ∙ ap (λ (xs : List ℕ). xs ++ encode_utf8_all left) ascii)))
+
+      here : place total left ≡ from + (2 + length space)
+      here = let l = ap length cut in let k = length-append space (encode_utf8_all left) in omega arith
+
+-- so at each step, whichever way the text is read
+module _ (total count : ℕ) where
+  abbrev RestIsMade : Bool → List ℕ → Type 0
+  RestIsMade raw s = (left : List ℕ) → Ends left s → IsMadeOf raw (place total left) (encode_utf8_all left) (places_past raw total count left)
+
+  raw-made : (c : ℕ) (s : List ℕ) → length (encode_utf8_all (c ∷ s)) ≤ total → RestIsMade true s → IsMadeAt true total count c s (raw_front c s)
+  unfolding raw_front
+  raw-made c s fits rest = one-made true total count c s (raw_element c, s) (raw-tells c) (all s) fits (rest s (all s))
+
+  line_end-made : (c d : ℕ) (t : List ℕ) → c ≡ 92 → d ≡ 10 → length (encode_utf8_all (c ∷ d ∷ t)) ≤ total → RestIsMade false (d ∷ t) → IsMadeAt false total count c (d ∷ t) (line_end t)
+  line_end-made c d t e f fits rest =
+      subst (λ (k : ℕ). length (encode_utf8_all (k ∷ d ∷ t)) ≤ total → IsMadeAt false total count k (d ∷ t) (line_end t)) (sym e)
+      (subst (λ (k : ℕ). length (encode_utf8_all (92 ∷ k ∷ t)) ≤ total → IsMadeAt false total count 92 (k ∷ t) (line_end t)) (sym f)
+      (λ within. line-made false total count t refl within (rest (past_run is_passed_over t) (past d (past_run is_passed_over t) t (past_run-ends is_passed_over t))))) fits
+
+  slash-made : (c : ℕ) (s : List ℕ) → c ≡ 92 → length (encode_utf8_all (c ∷ s)) ≤ total → RestIsMade false s → IsMadeAt false total count c s (past_backslash s)
+  slash-made c [] e fits rest = one-made false total count c [] (escape []) refl (all []) fits (rest [] (all []))
+  slash-made c (d ∷ t) e fits rest = pick (IsMadeAt false total count c (d ∷ t)) (is_newline d) (line_end t) (one (escape (d ∷ t)))
+      (λ n. line_end-made c d t e (eqb-true d 10 n) fits rest)
+      (λ n. one-made false total count c (d ∷ t) (escape (d ∷ t)) (escape-tells (d ∷ t)) (escape-ends (d ∷ t)) fits (rest (escape (d ∷ t)).1 (escape-ends (d ∷ t))))
+
+  front-made : (c : ℕ) (s : List ℕ) → length (encode_utf8_all (c ∷ s)) ≤ total → RestIsMade false s → IsMadeAt false total count c s (front c s)
+  unfolding front
+  front-made c s fits rest = pick (IsMadeAt false total count c s) (c == byte "\\") (past_backslash s) (one (unescaped c, s))
+      (λ e. slash-made c s (eqb-true c 92 e) fits rest) (λ e. one-made false total count c s (unescaped c, s) (unescaped-tells c) (all s) fits (rest s (all s)))
+
+  step-made : (raw : Bool) (c : ℕ) (s : List ℕ) → length (encode_utf8_all (c ∷ s)) ≤ total → RestIsMade raw s → IsMadeAt raw total count c s (front_by raw c s)
+  step-made true = raw-made
+  step-made false = front-made
+
+made : (raw : Bool) (total count : ℕ) (s : List ℕ) → length s ≤ count → length (encode_utf8_all s) ≤ total → IsMadeOf raw (place total s) (encode_utf8_all s) (places_of (items_in (front_by raw) count total s))
+made raw total zero [] few fits = none raw
+made raw total zero (c ∷ s) few fits = absurd (omega arith)
+made raw total (suc count) [] few fits = none raw
+made raw total (suc count) (c ∷ s) few fits = step-made total count raw c s fits (λ left ends. made raw total count left
+    (let l : length s ≡ length ends.0 + length left = ap length ends.1 ∙ length-append ends.0 left in omega arith)
+    (let l : length (encode_utf8_all s) ≡ length (encode_utf8_all ends.0) + length (encode_utf8_all left) = ap length (ap encode_utf8_all ends.1 ∙ encodes-append ends.0 left) ∙ length-append (encode_utf8_all ends.0) (encode_utf8_all left) in
+    let k : length (encode_utf8 c ++ encode_utf8_all s) ≡ length (encode_utf8 c) + length (encode_utf8_all s) = length-append (encode_utf8 c) (encode_utf8_all s) in omega arith))
+
+pub is_rebuilt : (raw : Bool) (text : List ℕ) → IsUtf8 text → IsRebuilt raw text
+unfolding items_from
+is_rebuilt raw text is =
+    let whole : length (encode_utf8_all (chars text)) ≡ length text = ap length (encodes-chars text is) in
+    subst (λ (n : ℕ). IsMadeOf raw n text (places_of (items_of raw text))) (omega arith)
+    (subst (λ (xs : List ℕ). IsMadeOf raw (place (length text) (chars text)) xs (places_of (items_of raw text))) (encodes-chars text is)
+    (made raw (length text) (length (chars text)) (chars text) (omega arith) (omega arith)))

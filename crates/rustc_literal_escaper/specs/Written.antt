@@ -1,0 +1,27 @@
+-- Texts and bytes, written so that they stand between double quotes.
+use Rattle.std.specs.Prelude.{◌≡◌, ℕ, true, false, List, ◌++◌, map, Result, Ok}
+use Rattle.std.specs.Char.{is_ascii}
+use Rattle.std.specs.Char.Escape.{escape_ascii, escape_default}
+use Rattle.std.specs.List.{flat_map, list_all}
+use Rattle.std.specs.Str.{chars}
+use Rattle.rustc_literal_escaper.specs.declared.element.Element.{Element}
+use Rattle.rustc_literal_escaper.specs.declared.error.EscapeError.{EscapeError}
+use Rattle.rustc_literal_escaper.specs.Elements.{items_of}
+
+-- a text: each character as `char::escape_default` writes it
+abbrev pub written_text : List ℕ → List ℕ
+written_text text = flat_map escape_default (chars text)
+
+-- bytes: each as `u8::escape_ascii` writes it
+abbrev pub written_bytes : List ℕ → List ℕ
+written_bytes bytes = flat_map escape_ascii bytes
+
+-- what stands between double quotes is these units in order: nothing in it is wrong, and nothing is warned of
+abbrev pub StandsFor : {U : Type 0} → (Element → Result U EscapeError) → List ℕ → List U → Type 0
+StandsFor meaning text units = map (λ item. meaning item.1) (items_of false text) ≡ map Ok units
+
+-- some bytes of ASCII were appended
+pub record Grows (old new : List ℕ) : Type 0 where
+  pub more : List ℕ
+  pub ascii : list_all is_ascii more ≡ true
+  pub grown : new ≡ old ++ more

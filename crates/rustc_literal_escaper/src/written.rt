@@ -1,0 +1,146 @@
+//! Texts and bytes, written so that they stand between double quotes.
+ghost use Rattle.std.specs.Prelude.{◌≡◌, ◌↔◌, ◌++◌, Contains, IsErrOf, OnErr, OnOk, map};
+ghost use Rattle.std.specs.Char.Escape.{escape_ascii, escape_default};
+ghost use Rattle.std.specs.Str.{chars};
+ghost use Rattle.std.specs.String.{string_bytes};
+ghost use Rattle.rustc_literal_escaper.specs.Meaning.{byte_of, char_of, unit_of};
+ghost use Rattle.rustc_literal_escaper.specs.Units.{unit_of_byte};
+ghost use Rattle.rustc_literal_escaper.specs.Written.{Grows, StandsFor, written_bytes, written_text};
+
+use crate::scan::split_first;
+use std::alloc::AllocError;
+
+/// Why a C string was not written.
+#[derive(Clone, Copy, Debug, PartialEq, Eq)]
+pub enum EscapeCStrError {
+    /// A byte is 0, which no C string has and no escape writes.
+    Nul,
+    /// Memory was refused.
+    OutOfMemory,
+}
+
+impl From<AllocError> for EscapeCStrError {
+    ghost use Rattle.rustc_literal_escaper.specs.declared.written.EscapeCStrError.TheVariants.{OutOfMemory};
+
+    ghost from_gives = { λ _ error. error ≡ OutOfMemory };
+
+    fn from(_error: AllocError) -> EscapeCStrError {
+        EscapeCStrError::OutOfMemory
+    }
+}
+
+/// Appends `text` to `out`, as it is written between the double quotes of a string.
+///
+/// Each character is written as `char::escape_default` writes it, so all of it is ASCII. [`unescape_str`] reads
+/// the characters of `text` from it. Where memory is refused, `out` is as it was.
+///
+/// ```ignore
+/// escape_str("a\"é\n", &mut out)? // appends a\"\u{e9}\n, of eleven bytes
+/// ```
+///
+/// [`unescape_str`]: crate::unescape_str
+pub fn escape_str(text: &str, out: &mut String) -> Result<(), AllocError>
+    ensures written { OnOk result
+        (string_bytes out.new ≡ string_bytes out.old ++ written_text text.now) }
+    ensures refused { OnErr result (string_bytes out.new ≡ string_bytes out.old) }
+    ensures comes_back { StandsFor char_of (written_text text.now) (chars text.now) }
+{
+    let start = out.len();
+    let pushed = push_text(text, out);
+    if pushed.is_err() {
+        out.truncate(start);
+    }
+    pushed
+}
+
+/// Appends `bytes` to `out`, as they are written between the double quotes of a byte string.
+///
+/// Each byte is written as `u8::escape_ascii` writes it, so all of it is ASCII. [`unescape_byte_str`] reads the
+/// bytes from it. Where memory is refused, `out` is as it was.
+///
+/// [`unescape_byte_str`]: crate::unescape_byte_str
+pub fn escape_byte_str(bytes: &[u8], out: &mut String) -> Result<(), AllocError>
+    ensures written { OnOk result
+        (string_bytes out.new ≡ string_bytes out.old ++ written_bytes bytes.now) }
+    ensures refused { OnErr result (string_bytes out.new ≡ string_bytes out.old) }
+    ensures comes_back { StandsFor byte_of (written_bytes bytes.now) bytes.now }
+{
+    let start = out.len();
+    let pushed = push_bytes(bytes, out);
+    if pushed.is_err() {
+        out.truncate(start);
+    }
+    pushed
+}
+
+/// Appends the bytes of a C string to `out`, as they are written between its double quotes.
+///
+/// `bytes` is without the NUL at the end. They are written as [`escape_byte_str`] writes them, and
+/// [`unescape_c_str`] reads them from it: a byte below 128 as a character, any other as `HighByte`. A byte that
+/// is 0 is refused first. Past any `Err`, `out` is as it was.
+///
+/// [`unescape_c_str`]: crate::unescape_c_str
+pub fn escape_c_str(bytes: &[u8], out: &mut String) -> Result<(), EscapeCStrError>
+    ensures written { OnOk result
+        (string_bytes out.new ≡ string_bytes out.old ++ written_bytes bytes.now) }
+    ensures nul { IsErrOf result EscapeCStrError.Nul ↔ Contains bytes.now 0 }
+    ensures refused { OnErr result (string_bytes out.new ≡ string_bytes out.old) }
+    ensures comes_back { OnOk result
+        (StandsFor unit_of (written_bytes bytes.now) (map unit_of_byte bytes.now)) }
+{
+    if bytes.contains(&0) {
+        return Err(EscapeCStrError::Nul);
+    }
+    escape_byte_str(bytes, out)?;
+    Ok(())
+}
+
+/// Appends the characters of a text.
+fn push_text(text: &str, out: &mut String) -> Result<(), AllocError>
+    ensures written { OnOk result
+        (string_bytes out.new ≡ string_bytes out.old ++ written_text text.now) }
+    ensures refused { OnErr result (Grows (string_bytes out.old) (string_bytes out.new)) }
+{
+    let mut left = text;
+    'chars: while let Some((c, tail)) = split_first(left) {
+        push_char(c, out)?;
+        left = tail;
+    }
+    Ok(())
+}
+
+/// Appends one character.
+fn push_char(c: char, out: &mut String) -> Result<(), AllocError>
+    ensures written { OnOk result
+        (string_bytes out.new ≡ string_bytes out.old ++ escape_default c) }
+    ensures refused { OnErr result (Grows (string_bytes out.old) (string_bytes out.new)) }
+{
+    for part in c.escape_default() {
+        out.push(part)?;
+    }
+    Ok(())
+}
+
+/// Appends bytes.
+fn push_bytes(bytes: &[u8], out: &mut String) -> Result<(), AllocError>
+    ensures written { OnOk result
+        (string_bytes out.new ≡ string_bytes out.old ++ written_bytes bytes.now) }
+    ensures refused { OnErr result (Grows (string_bytes out.old) (string_bytes out.new)) }
+{
+    for byte in bytes {
+        push_byte(*byte, out)?;
+    }
+    Ok(())
+}
+
+/// Appends one byte.
+fn push_byte(byte: u8, out: &mut String) -> Result<(), AllocError>
+    ensures written { OnOk result
+        (string_bytes out.new ≡ string_bytes out.old ++ escape_ascii byte) }
+    ensures refused { OnErr result (Grows (string_bytes out.old) (string_bytes out.new)) }
+{
+    for part in byte.escape_ascii() {
+        out.push(part as char)?;
+    }
+    Ok(())
+}
