@@ -4,6 +4,7 @@ pub mod PlaceLemmas
 pub mod ItemLemmas
 pub mod ErrorLemmas
 pub mod PlainLemmas
+pub mod SkipLemmas
 pub mod PlacedLemmas
 pub mod RoundTripLemmas
 pub mod WrittenLemmas

@@ -74,6 +74,11 @@ abbrev pub front_by : Bool → ℕ → List ℕ → Front
 front_by true = raw_front
 front_by false = front
 
+-- a list that is not empty begins with this element alone, and this is left past it
+abbrev pub StartsWithOne : Bool → List ℕ → Element → List ℕ → Type 0
+StartsWithOne raw [] element left = ⊥
+StartsWithOne raw (c ∷ s) element left = front_by raw c s ≡ one (element, left)
+
 -- an element and its place
 abbrev pub Item : Type 0
 Item = Range ℕ × Element

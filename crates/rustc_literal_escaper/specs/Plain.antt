@@ -1,5 +1,5 @@
 -- Texts in which nothing is escaped and nothing is wrong.
-use Rattle.std.specs.Prelude.{◌≡◌, ℕ, ◌==◌, ◌&&◌, not, Bool, true, false, List, map}
+use Rattle.std.specs.Prelude.{◌≡◌, ℕ, ◌==◌, ◌&&◌, not, Bool, true, false, List, ◌++◌, map}
 use Rattle.std.specs.List.{list_all}
 use Rattle.std.specs.Str.{byte, chars}
 use Rattle.rustc_literal_escaper.specs.declared.element.Element.{Element}
@@ -17,3 +17,9 @@ elements_in items = map (λ item. item.1) items
 -- a text of such characters is those characters
 abbrev pub StandsForItself : Bool → List ℕ → Type 0
 StandsForItself raw text = list_all (is_plain raw) (chars text) ≡ true → elements_in (items_of raw text) ≡ map Plain (chars text)
+
+-- plain characters are in front of what is left
+pub record PassesPlain (raw : Bool) (s left : List ℕ) : Type 0 where
+  pub passed : List ℕ
+  pub plain : list_all (is_plain raw) passed ≡ true
+  pub whole : s ≡ passed ++ left

@@ -96,6 +96,7 @@ fn check_elements<F: FnMut(Range<usize>, EscapeError)>(
 {
     'items: while let Some((range, element)) = elements.next() {
         let Some(error) = error_of(mode, element) else {
+            elements.skip_plain(element, mode);
             continue;
         };
         callback(range, error);

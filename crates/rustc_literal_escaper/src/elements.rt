@@ -1,13 +1,16 @@
 //! The elements of what stands between double quotes.
-ghost use Rattle.std.specs.Prelude.{◌≡◌, true, false, length};
+ghost use Rattle.std.specs.Prelude.{◌≡◌, ◌≤◌, ℕ, None, true, false, length};
 ghost use Rattle.std.specs.Iterator.{at_most};
 ghost use Rattle.rustc_literal_escaper.specs.Elements.{items_of, TakesFirst};
+ghost use Rattle.rustc_literal_escaper.specs.Errors.{error_of, errors_in};
 ghost use Rattle.rustc_literal_escaper.specs.Places.{ArePlaced};
 ghost use Rattle.rustc_literal_escaper.specs.Plain.{StandsForItself};
 ghost use Rattle.rustc_literal_escaper.specs.Rebuilt.{IsRebuilt};
 
 use crate::element::Element;
-use crate::steps::{Told, advance};
+use crate::mode::Mode;
+use crate::scan::past_plain;
+use crate::steps::{Told, advance, first_item};
 use std::iter::Iterator;
 use std::marker::Model;
 use std::ops::Range;
@@ -68,6 +71,29 @@ impl<'a> Elements<'a> {
             waiting: None,
         }
     }
+
+    /// Passes over the plain characters in front, where nothing is wrong with any of them in this mode.
+    ///
+    /// It does so past an element that is plain, for then more of them are likely.
+    #[inline(always)]
+    pub(crate) fn skip_plain(&mut self, past: Element, mode: Mode)
+        ensures same { errors_in mode self.new ≡ errors_in mode self.old }
+        ensures fewer { length self.new ≤ length self.old }
+    {
+        let Element::Plain(_) = past else {
+            return;
+        };
+        if takes_all(mode) {
+            self.rest = past_plain(self.rest, self.raw);
+        }
+    }
+}
+
+/// Whether no plain character is wrong in such a literal.
+fn takes_all(mode: Mode) -> bool
+    ensures { result ≡ true → (c : ℕ) → error_of mode (Element.Plain c) ≡ None }
+{
+    matches!(mode, Mode::Str | Mode::RawStr)
 }
 
 impl<'a> Iterator for Elements<'a> {
@@ -78,8 +104,13 @@ impl<'a> Iterator for Elements<'a> {
     ghost remaining = { λ s. at_most (length s) };
 
     /// The next element, or `None` past the last one, from then on.
+    #[inline(always)]
     fn next(&mut self) -> Option<(Range<usize>, Element)> {
         if let Some(item) = self.waiting.take() {
+            return Some(item);
+        }
+        if let Some((item, left)) = first_item(self.rest, self.total, self.raw) {
+            self.rest = left;
             return Some(item);
         }
         let Told {

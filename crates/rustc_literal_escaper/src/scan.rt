@@ -1,6 +1,9 @@
 //! Characters at the front of a text.
-ghost use Rattle.std.specs.Prelude.{◌≡◌, ◌<◌, ◌∷◌, [], length, MatchOption};
+ghost use Rattle.std.specs.Prelude.{◌≡◌, ◌<◌, ◌≤◌, true, false, ◌∷◌, [], length, MatchOption};
 ghost use Rattle.std.specs.Str.{chars, IsUtf8};
+ghost use Rattle.rustc_literal_escaper.specs.Plain.{PassesPlain};
+
+use memchr::{memchr, memchr3};
 
 /// The first character and what follows it.
 #[inline(always)]
@@ -12,4 +15,41 @@ pub(crate) fn split_first(rest: &str) -> Option<(char, &str)>
     let mut chars = rest.chars();
     let first = chars.next()?;
     Some((first, chars.as_str()))
+}
+
+/// What is left past the plain characters in front.
+pub(crate) fn past_plain(rest: &str, raw: bool) -> &str
+    ensures passes { PassesPlain raw (chars rest.now) (chars result.now) }
+    ensures text { IsUtf8 result.now }
+    ensures shorter { length result.now ≤ length rest.now }
+{
+    if raw {
+        past_plain_raw(rest)
+    } else {
+        past_plain_escaped(rest)
+    }
+}
+
+/// The same of a raw string.
+fn past_plain_raw(rest: &str) -> &str
+    ensures passes { PassesPlain true (chars rest.now) (chars result.now) }
+    ensures text { IsUtf8 result.now }
+    ensures shorter { length result.now ≤ length rest.now }
+{
+    match memchr(b'\r', rest.as_bytes()) {
+        Some(at) => &rest[at..],
+        None => "",
+    }
+}
+
+/// The same of a string that may have escapes.
+fn past_plain_escaped(rest: &str) -> &str
+    ensures passes { PassesPlain false (chars rest.now) (chars result.now) }
+    ensures text { IsUtf8 result.now }
+    ensures shorter { length result.now ≤ length rest.now }
+{
+    match memchr3(b'\\', b'"', b'\r', rest.as_bytes()) {
+        Some(at) => &rest[at..],
+        None => "",
+    }
 }

@@ -1,5 +1,5 @@
 //! The steps over what stands between double quotes.
-ghost use Rattle.std.specs.Prelude.{◌≡◌, ◌≤◌, ◌<◌, ◌++◌, ◌∷◌, [], length, map, not, IsSome, IsTrue, MatchOption};
+ghost use Rattle.std.specs.Prelude.{◌≡◌, ◌≤◌, ◌<◌, ◌++◌, ◌∷◌, [], length, map, not, IfSome, IsSome, IsTrue, MatchOption};
 ghost use Rattle.std.specs.List.{list_any};
 ghost use Rattle.std.specs.Option.{option_to_list};
 ghost use Rattle.std.specs.Str.{chars, IsUtf8};
@@ -61,6 +61,48 @@ fn step_by(raw: bool, c: char, tail: &str, start: usize, total: usize) -> Told<'
     } else {
         step(c, tail, start, total)
     }
+}
+
+/// The item at the front of what is left of a text of `total` bytes, and what is left past it.
+///
+/// It is `None` at the end of the text, and where something else than one element is told: at a line end that is
+/// skipped.
+#[inline(always)]
+pub(crate) fn first_item(
+    rest: &str,
+    total: usize,
+    raw: bool,
+) -> Option<((Range<usize>, Element), &str)>
+    requires fits { length rest.now ≤ total }
+    ensures { IfSome result (λ r.
+        (spec.items_from (spec.front_by raw) total (chars rest.now)
+        ≡ r.0 ∷ spec.items_from (spec.front_by raw) total (chars r.1.now))
+        × (length r.1.now ≤ length rest.now) × IsUtf8 r.1.now) }
+{
+    let (element, left) = first_element(rest, raw)?;
+    let range = total - rest.len()..total - left.len();
+    Some(((range, element), left))
+}
+
+/// The element at the front, and what is left past it, as [`first_item`] has them.
+#[inline(always)]
+#[tactic(auto, unfolding(crate::specs::Elements::front, crate::specs::Elements::raw_front))]
+fn first_element(rest: &str, raw: bool) -> Option<(Element, &str)>
+    ensures { IfSome result (λ r. spec.StartsWithOne raw (chars rest.now) r.0 (chars r.1.now)
+        × IsUtf8 r.1.now × (length r.1.now < length rest.now)) }
+{
+    let (c, tail) = split_first(rest)?;
+    if raw {
+        return Some((raw_element(c), tail));
+    }
+    if c != '\\' {
+        return Some((unescaped(c), tail));
+    }
+    if strip_newline(tail).is_some() {
+        return None;
+    }
+    let (element, left) = escape(tail);
+    Some((element, left))
 }
 
 /// What a character of a raw string is.
