@@ -13,7 +13,7 @@ use Rattle.rustc_lexer.specs.Edits.{IsInside, IsShort}
 use Rattle.lexdump.specs.declared.fault.Fault.{Fault}
 use Rattle.lexdump.specs.declared.fault.Fault.TheVariants.{EditRange, EditTooLong}
 use Rattle.lexdump.specs.Fault.{stop_fault}
-use Rattle.lexdump.specs.Outcome.{is_boundary, is_inside, is_short, edited_from, listed, IsPrinted}
+use Rattle.lexdump.specs.Outcome.{is_boundary, is_inside, is_short, edited_from, listed, IsRefused}
 
 boundary-true : (text : List ℕ) (i : ℕ) → is_boundary text i ≡ true → IsCharBoundary text i
 boundary-true text i e = grind (arith, nat_tests)
@@ -79,7 +79,7 @@ too_long (suc k) at text (e ∷ es) below are bad =
 
 -- a list of edits that stops prints nothing
 pub stop-printed : (edition : Edition) (s : EditStop) (text new : List ℕ) (es : List TextEdit) → IsStop s new es → AreEdits text (take (stop_at s) es) → new ≡ apply_list text (take (stop_at s) es)
-    → IsPrinted (Err (stop_fault s)) (listed edition (edited_from 0 text es))
+    → IsRefused (stop_fault s) (listed edition (edited_from 0 text es))
 stop-printed edition (Range at) text new es stop are e = ap (listed edition) (number (0 + at) at (omega arith) EditRange _ (out_of_range at 0 text es stop.0 are (subst (λ (t : List ℕ). IfSome (slice_get es at) (λ e. IsInside t e.start e.stop → ⊥)) e stop.1)))
 stop-printed edition (TooLong at) text new es stop are e =
     ap (listed edition) (number (0 + at) at (omega arith) EditTooLong _ (too_long at 0 text es stop.0 are (subst (λ (t : List ℕ). IfSome (slice_get es at) (λ e. IsInside t e.start e.stop × (IsShort t e.start e.stop e.insert.now → ⊥))) e stop.1)))

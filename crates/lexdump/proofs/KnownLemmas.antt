@@ -6,6 +6,7 @@ use Rattle.std.proofs.lemmas.Bool.{ne_eqb}
 use Rattle.std.proofs.Math.Seq.{take-append-add}
 use Rattle.std.proofs.lemmas.List.{take-append-le}
 use Rattle.lexdump.specs.Outcome.{AppendsFront}
+use Rattle.lexdump.specs.Pushed.{Went}
 
 pub appends-none : (old : Option (List ℕ)) → Appends old old []
 appends-none None = tt
@@ -28,12 +29,6 @@ consumes-more None mid new xs ys a b = tt
 consumes-more (Some o) None new xs ys a b = absurd a
 consumes-more (Some o) (Some m) None xs ys a b = absurd b
 consumes-more (Some o) (Some m) (Some n) xs ys a b = a ∙ (ap (λ zs. xs ++ zs) b ∙ sym (append_assoc xs ys n))
-
--- a front of the text went out, and the rest is still to come
-pub record Went (old new : Option (List ℕ)) (text rest : List ℕ) : Type 0 where
-  pub front : List ℕ
-  pub whole : text ≡ front ++ rest
-  pub grew : Appends old new front
 
 pub went_more : (old mid new : Option (List ℕ)) (text rest cut : List ℕ) (n : ℕ) → Went old mid text rest → Appends mid new (take n rest) → cut ≡ drop n rest → Went old new text cut
 went_more old mid new text rest cut n w a e = record {

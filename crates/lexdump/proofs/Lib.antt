@@ -6,3 +6,4 @@ pub mod OutcomeLemmas
 pub mod PieceLemmas
 pub mod PlaceLemmas
 pub mod ProgramLemmas
+pub mod PushLemmas

@@ -1,15 +1,16 @@
 -- The answer of a run is that of its outcome.
-use Rattle.std.proofs.Common.{◌≡◌, ℕ, ◌<◌, ◌≤◌, ◌^◌, nat_le, Bool, true, false, List, length, refl, sym, ap, ◌∙◌, arith, subst, inl, inr, Option, Some, None, Result, Ok, Err, Vec, Global}
-use Rattle.std.specs.Prelude.{IfSome, IfErr, OnOk, OnErr}
+use Rattle.std.proofs.Common.{◌≡◌, ◌≢◌, ℕ, ◌<◌, ◌≤◌, ◌^◌, nat_le, Bool, true, false, List, [], ◌++◌, length, refl, sym, ap, ◌∙◌, arith, subst, inl, inr, Option, Some, None, Result, Ok, Err, Vec, Global}
+use Rattle.std.specs.Prelude.{IfSome, IfErr, IfOk, OnOk, OnErr}
 use Rattle.std.specs.Str.{IsUtf8, is_utf8}
 use Rattle.std.proofs.lemmas.Bool.{le-leb}
 use Rattle.std.proofs.lemmas.Bool.Decides.{leb_tells}
-use Rattle.std.specs.Io.KnownBytes.{Appends}
+use Rattle.std.specs.Io.KnownBytes.{Appends, Keeps}
 use Rattle.std.proofs.lemmas.Str.{IsUtf8-from_is_utf8, is_utf8-from_IsUtf8}
 use Rattle.lexdump.specs.declared.fault.Fault.{Fault}
 use Rattle.lexdump.specs.declared.fault.Fault.TheVariants.{Arguments, NotUtf8, TooLong, EditRange, EditTooLong, Memory, Read, Write}
 use Rattle.lexdump.specs.declared.job.Job.{Job}
-use Rattle.lexdump.specs.Outcome.{printed, outcome, IsAnswer, IsPrinted, AppendsFront, Writes, IsReadingFault, EndsReading}
+use Rattle.lexdump.specs.Outcome.{printed, outcome, IsAnswer, AppendsFront, Writes, IsReadingFault, EndsReading}
+use Rattle.lexdump.specs.Pushed.{Prints}
 
 below : (a b : ℕ) → b < a → nat_le a b ≡ false
 below a b h = elim (leb_tells a b) [ inl p ↦ absurd (omega arith) | inr p ↦ p.0 ]
@@ -53,22 +54,19 @@ module _ (job : Job) (known : Option (List ℕ)) (read : Vec ℕ Global) (text :
   comes_to : (bytes : List ℕ) → read.items ≡ bytes → outcome job bytes ≡ printed job text
   comes_to bytes e = ap (outcome job) (sym (same ∙ e)) ∙ outcome-text job text fits is
 
-  pub answer_unprinted : (fault : Fault) → IsPrinted (Err fault) (printed job text) → IfSome known (λ bytes. IsAnswer (Err fault) (outcome job bytes))
+  pub answer_unprinted : (fault : Fault) → IsAnswer (Err fault) (printed job text) → IfSome known (λ bytes. IsAnswer (Err fault) (outcome job bytes))
   answer_unprinted fault not_printed = by_known known ends
     where
-      by_fault : (f : Fault) → IsPrinted (Err f) (printed job text) → (o : Result (List ℕ) Fault) → o ≡ printed job text → IsAnswer (Err f) o
-      by_fault (EditRange at) h o e = e ∙ h
-      by_fault (EditTooLong at) h o e = e ∙ h
-      by_fault Memory h o e = tt
-      by_fault Arguments h o e = absurd h
-      by_fault NotUtf8 h o e = absurd h
-      by_fault TooLong h o e = absurd h
-      by_fault Read h o e = absurd h
-      by_fault Write h o e = absurd h
-
       by_known : (k : Option (List ℕ)) → EndsReading k (Ok read) → IfSome k (λ bytes. IsAnswer (Err fault) (outcome job bytes))
       by_known None e = tt
-      by_known (Some bytes) e = by_fault fault not_printed (outcome job bytes) (comes_to bytes e)
+      by_known (Some bytes) e = subst (λ (o : Result (List ℕ) Fault). IsAnswer (Err fault) o) (sym (comes_to bytes e)) not_printed
+
+  pub writes_unprinted : (fault : Fault) (old new : Option (List ℕ)) → Writes old new (Err fault) (printed job text) → IfSome known (λ bytes. Writes old new (Err fault) (outcome job bytes))
+  writes_unprinted fault old new writes = by_known known ends
+    where
+      by_known : (k : Option (List ℕ)) → EndsReading k (Ok read) → IfSome k (λ bytes. Writes old new (Err fault) (outcome job bytes))
+      by_known None e = tt
+      by_known (Some bytes) e = subst (λ (o : Result (List ℕ) Fault). Writes old new (Err fault) o) (sym (comes_to bytes e)) writes
 
   module _ (made : List ℕ) (prints : printed job text ≡ Ok made) (old new : Option (List ℕ)) (result : Result (Unit {0}) Fault) (only : IfErr result (λ fault. fault ≡ Write)) where
     pub answer_text : IfSome known (λ bytes. IsAnswer result (outcome job bytes))
@@ -92,6 +90,48 @@ module _ (job : Job) (known : Option (List ℕ)) (read : Vec ℕ Global) (text :
         by_known : (k : Option (List ℕ)) → EndsReading k (Ok read) → IfSome k (λ bytes. Writes old new result (outcome job bytes))
         by_known None e = tt
         by_known (Some bytes) e = subst (λ (o : Result (List ℕ) Fault). Writes old new result o) (sym (comes_to bytes e ∙ prints)) (by_result result only ok err)
+
+-- printing that stops: what it answers, and what went out
+module _ (old new : Option (List ℕ)) (held left : List ℕ) (printed : Result (List ℕ) Fault) where
+  pub stop_answer : (fault : Fault) → Prints old new held left (Err fault) printed → IsAnswer (Err fault) printed
+  stop_answer Memory p = tt
+  stop_answer (EditRange at) p = p.0
+  stop_answer (EditTooLong at) p = p.0
+  stop_answer Write p = (p.0, p.1)
+  stop_answer Read p = tt
+  stop_answer Arguments p = let e = p.2.0 in cc
+  stop_answer NotUtf8 p = let e = p.2.0 in cc
+  stop_answer TooLong p = let e = p.2.0 in cc
+
+  pub stop_writes : held ≡ [] → (fault : Fault) → Prints old new held left (Err fault) printed → Writes old new (Err fault) printed
+  stop_writes none Memory p = p
+  stop_writes none (EditRange at) p = p.1
+  stop_writes none (EditTooLong at) p = p.1
+  stop_writes none Write p = subst (λ (o : Result (List ℕ) Fault). IfOk o (λ text. AppendsFront old new text)) (sym p.1) (subst (λ (xs : List ℕ). AppendsFront old new (xs ++ p.0)) none p.2.1)
+  stop_writes none Read p = let e = p.2.0 in cc
+  stop_writes none Arguments p = let e = p.2.0 in cc
+  stop_writes none NotUtf8 p = let e = p.2.0 in cc
+  stop_writes none TooLong p = let e = p.2.0 in cc
+
+  pub stop_no_read : (fault : Fault) → Prints old new held left (Err fault) printed → ¬ (fault ≡ Read)
+  stop_no_read Memory p e = cc
+  stop_no_read (EditRange at) p e = cc
+  stop_no_read (EditTooLong at) p e = cc
+  stop_no_read Write p e = cc
+  stop_no_read Read p e = let f = p.2.0 in cc
+  stop_no_read Arguments p e = cc
+  stop_no_read NotUtf8 p e = cc
+  stop_no_read TooLong p e = cc
+
+  pub stop_silent : (fault : Fault) → Prints old new held left (Err fault) printed → fault ≢ Write → Keeps old new
+  stop_silent Memory p other = p
+  stop_silent (EditRange at) p other = p.1
+  stop_silent (EditTooLong at) p other = p.1
+  stop_silent Write p other = absurd (other refl)
+  stop_silent Read p other = absurd (other p.2.0)
+  stop_silent Arguments p other = absurd (other p.2.0)
+  stop_silent NotUtf8 p other = absurd (other p.2.0)
+  stop_silent TooLong p other = absurd (other p.2.0)
 
 -- a fault of reading is none of writing
 pub reads_only : (fault : Fault) → IsReadingFault fault → ¬ (fault ≡ Write)

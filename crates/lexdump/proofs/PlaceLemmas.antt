@@ -1,14 +1,11 @@
 -- The start and the length of a token, written from the last byte to the first.
-use Rattle.std.proofs.Common.{◌≡◌, ℕ, suc, ◌+◌, ◌-◌, ◌<◌, ◌≤◌, ◌^◌, List, [], ◌∷◌, ◌++◌, length, take, drop, get_or, sym, ap, ◌∙◌, arith, replicate, take_all, length-drop, Result, Ok, Err}
-use Rattle.std.specs.Prelude.{if◌then◌else◌, is_ok, OnOk}
+use Rattle.std.proofs.Common.{◌≡◌, ℕ, suc, ◌+◌, ◌-◌, ◌<◌, ◌≤◌, ◌^◌, List, [], ◌∷◌, ◌++◌, length, take, drop, get_or, sym, ap, ◌∙◌, arith, replicate, append_assoc, take_all, length-drop}
 use Rattle.std.specs.Fmt.{decimal}
-use Rattle.std.specs.Str.{IsUtf8}
 use Rattle.std.proofs.Math.Seq.{drop-cons}
-use Rattle.std.proofs.lemmas.Fmt.{IsAscii-decimal, length-decimal-le}
+use Rattle.std.proofs.lemmas.Fmt.{length-decimal-le}
 use Rattle.std.proofs.lemmas.List.{get_or-take, get_or-replicate}
-use Rattle.std.proofs.lemmas.Str.{IsAscii-append, IsUtf8-from_ascii}
-use Rattle.std.proofs.lemmas.Str.Ascii.{IsAscii-cons, IsAscii-nil}
-use Rattle.lexdump.specs.Listing.{place_text}
+use Rattle.rustc_lexer.specs.declared.token.Token.{Token}
+use Rattle.lexdump.specs.Listing.{fields_text, kind_name, line_text, place_text}
 
 pub short : (n : ℕ) → n < 2 ^ 32 → length (decimal n) ≤ 10
 short n small = length-decimal-le 10 n (omega arith) (omega arith) (omega arith)
@@ -27,15 +24,11 @@ place-written start len at from spaces one two blank size after_space end len_at
     space : drop (at - 1) one ≡ 32 ∷ drop at one
     space = drop-cons one (at - 1) 0 (omega arith) ∙ (ap (λ (x : ℕ). x ∷ drop (suc (at - 1)) one) blank_at ∙ ap (λ (n : ℕ). 32 ∷ drop n one) at_is)
 
-pub IsUtf8-place : (start len : ℕ) → start < 2 ^ 32 → len < 2 ^ 32 → IsUtf8 (place_text start len)
-IsUtf8-place start len small few =
-    IsUtf8-from_ascii (place_text start len)
-    (IsAscii-append (decimal start) _ (IsAscii-decimal start (omega arith)) (IsAscii-cons 32 (decimal len ++ 32 ∷ []) (omega arith) (IsAscii-append (decimal len) _ (IsAscii-decimal len (omega arith)) (IsAscii-cons 32 [] (omega arith) IsAscii-nil))))
-
 pub same-place : (a b c d : ℕ) → a ≡ b → c ≡ d → place_text a c ≡ place_text b d
 same-place a b c d e f = ap (λ (n : ℕ). place_text n c) e ∙ ap (place_text b) f
 
--- what a text that took more has, where it took it
-pub appended : {T E : Type 0} (result : Result T E) (old new piece more : List ℕ) → new ≡ (if is_ok result then old ++ piece else old) → piece ≡ more → OnOk result (new ≡ old ++ more)
-appended (Ok done) old new piece more grew is = grew ∙ ap (λ xs. old ++ xs) is
-appended (Err error) old new piece more grew is = tt
+-- the place of a token and the rest of its line
+pub line-is : (start : ℕ) (token : Token) (rest : List ℕ) → rest ≡ kind_name token.kind ++ (fields_text token.kind ++ 10 ∷ []) → place_text start token.len ++ rest ≡ line_text start token
+unfolding line_text
+line-is start token rest e =
+    append_assoc (decimal start) (32 ∷ (decimal token.len ++ 32 ∷ [])) rest ∙ ap (λ xs. decimal start ++ 32 ∷ xs) (append_assoc (decimal token.len) (32 ∷ []) rest ∙ ap (λ xs. decimal token.len ++ 32 ∷ xs) e)

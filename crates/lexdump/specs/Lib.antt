@@ -3,5 +3,6 @@ pub mod Job
 pub mod Listing
 pub mod Outcome
 pub mod Program
+pub mod Pushed
 pub mod Rest
 pub mod Watch

@@ -1,9 +1,8 @@
 -- What a run comes to, by the bytes that it reads.
-use Rattle.std.specs.Prelude.{ℕ, ◌+◌, ◌-◌, ◌^◌, ◌≡◌, ◌≤◌, Bool, ◌&&◌, ◌||◌, nat_le, nat_lt, not, if◌then◌else◌, List, [], ◌∷◌, length, slice_index, take, Option, Some, None, Result, Ok, Err, IfOk, Vec, string_bytes}
+use Rattle.std.specs.Prelude.{ℕ, ◌+◌, ◌-◌, ◌^◌, ◌≡◌, ◌≤◌, Bool, ◌&&◌, ◌||◌, nat_le, nat_lt, not, if◌then◌else◌, List, [], ◌∷◌, length, slice_index, take, Option, Some, None, Result, Ok, Err, IfOk, Vec}
 use Rattle.std.specs.Global.{Global}
 use Rattle.std.specs.Str.{is_utf8}
 use Rattle.std.specs.Io.KnownBytes.{Keeps, Appends}
-use Rattle.std.specs.declared.string.String.{String}
 use Rattle.rustc_lexer.specs.declared.edition.Edition.{Edition}
 use Rattle.rustc_lexer.specs.declared.relex.edit_list.Edit.{Edit as TextEdit}
 use Rattle.rustc_lexer.specs.declared.token.FrontmatterAllowed.TheVariants.{Yes}
@@ -48,13 +47,12 @@ printed Front text = Ok (listing (tokens_of Yes text))
 printed Shebang text = Ok (shebang_line (shebang text))
 printed (Edit edition edits) text = listed edition (edited_from 0 text edits.items)
 
--- printing comes to that, unless memory was refused
-abbrev pub IsPrinted : Result (String Global) Fault → Result (List ℕ) Fault → Type 0
-IsPrinted (Ok made) printed = printed ≡ Ok (string_bytes made)
-IsPrinted (Err Memory) printed = Unit {0}
-IsPrinted (Err (EditRange at)) printed = printed ≡ Err (EditRange at)
-IsPrinted (Err (EditTooLong at)) printed = printed ≡ Err (EditTooLong at)
-IsPrinted (Err fault) printed = ⊥
+-- why there is nothing to print: an edit is bad, or memory was refused
+abbrev pub IsRefused : Fault → Result (List ℕ) Fault → Type 0
+IsRefused Memory printed = Unit {0}
+IsRefused (EditRange at) printed = printed ≡ Err (EditRange at)
+IsRefused (EditTooLong at) printed = printed ≡ Err (EditTooLong at)
+IsRefused fault printed = ⊥
 
 -- the text that is printed, or why nothing is: the input is too long, it is no text, or an edit is bad
 unfoldable pub outcome : Job → List ℕ → Result (List ℕ) Fault

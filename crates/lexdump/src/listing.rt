@@ -1,103 +1,143 @@
 //! The listing of tokens: a line for each, with its start, its length, its kind and the fields of that.
-ghost use Rattle.std.specs.Prelude.{◌≡◌, ◌++◌, IfOk, OnOk, Some, string_bytes};
-ghost use Rattle.lexdump.specs.Listing.{base_text, fields_text, hashes_text, line_text, listing, literal_text, place_text, shebang_line, style_text};
-ghost use Rattle.lexdump.specs.Rest.{IsRest};
-ghost use Rattle.lexdump.specs.Outcome.{edited_from, listed, IsPrinted};
+ghost use Rattle.std.specs.Prelude.{◌≡◌, ◌++◌, Ok, codes, false, is_err, IfErr, IfOk};
+ghost use Rattle.lexdump.specs.Listing.{base_text, bool_text, fields_text, hashes_text, line_text, listing, literal_text, place_text, shebang_line, style_text};
+ghost use Rattle.lexdump.specs.Pushed.{Pushes};
+ghost use Rattle.lexdump.specs.Rest.{field_text, fields_shown, IsRest};
+ghost use Rattle.lexdump.specs.Outcome.{edited_from, listed, IsRefused};
 ghost use Rattle.rustc_lexer.specs.Classes.{Fits};
 ghost use Rattle.rustc_lexer.specs.Edition.{tokens_in};
 ghost use Rattle.rustc_lexer.specs.means.Shebang.{shebang};
 ghost use Rattle.rustc_lexer.specs.Tokens.{tokens_of};
 
 use crate::fault::Fault;
+use crate::output::Block;
+use crate::watched::Watched;
 use itoa::write_digits;
 use rustc_lexer::{
-    Base, DocStyle, Edit, Edition, FrontmatterAllowed, LexedText, LiteralKind, Stepper, Token,
-    TokenKind, strip_shebang, tokenize, tokenize_in,
+    Base, DocStyle, Edit, Edition, FrontmatterAllowed, LexedText, LiteralKind, Stepper, Steps,
+    Token, TokenKind, strip_shebang, tokenize, tokenize_in,
 };
-use std::alloc::{AllocError, Global};
-use std::fmt;
-use std::fmt::Write;
+use std::alloc::Global;
+use std::io::Write;
 
-/// The listing of the tokens of a text, which has at most `u32::MAX` bytes.
-pub fn list_tokens(
-    alloc: Global,
+/// Lists the tokens of a text, which has at most `u32::MAX` bytes.
+pub fn list_tokens<W: Write>(
+    lines: &mut Block,
+    output: &mut Watched<W>,
     text: &str,
     frontmatter_allowed: FrontmatterAllowed,
-) -> Result<String, AllocError>
+) -> Result<(), Fault>
     requires fits { Fits text.now }
-    ensures { IfOk result
-        (λ listed. string_bytes listed ≡ listing (tokens_of frontmatter_allowed text.now)) }
+    requires writes { output.old.failed ≡ false }
+    ensures failed { output.new.failed ≡ is_err result }
+    ensures pushed { Pushes (W.contents output.old.inner) (W.contents output.new.inner)
+        lines.old lines.new (listing (tokens_of frontmatter_allowed text.now)) result }
 {
-    let mut listing = String::new(alloc);
     let mut start = 0;
     for token in tokenize(text, frontmatter_allowed) {
-        push_line(&mut listing, start, token)?;
+        push_line(lines, output, start, token)?;
         start += token.len;
     }
-    Ok(listing)
+    Ok(())
 }
 
 /// The same of the tokens in an edition.
-pub fn list_tokens_in(alloc: Global, text: &str, edition: Edition) -> Result<String, AllocError>
+pub fn list_tokens_in<W: Write>(
+    lines: &mut Block,
+    output: &mut Watched<W>,
+    text: &str,
+    edition: Edition,
+) -> Result<(), Fault>
     requires fits { Fits text.now }
-    ensures { IfOk result (λ listed. string_bytes listed ≡ listing (tokens_in edition text.now)) }
+    requires writes { output.old.failed ≡ false }
+    ensures failed { output.new.failed ≡ is_err result }
+    ensures pushed { Pushes (W.contents output.old.inner) (W.contents output.new.inner)
+        lines.old lines.new (listing (tokens_in edition text.now)) result }
 {
-    let mut listing = String::new(alloc);
     let mut place = 0;
     for token in tokenize_in(text, edition) {
-        push_line(&mut listing, place, token)?;
+        push_line(lines, output, place, token)?;
         place += token.len;
     }
-    Ok(listing)
+    Ok(())
 }
 
-/// The line that tells the length of the shebang line of a text.
-pub fn shebang_length(alloc: Global, text: &str) -> Result<String, AllocError>
+/// Tells the length of the shebang line of a text.
+#[tactic(auto, using(crate::proofs::PushLemmas::pushes_both, crate::proofs::PushLemmas::pushes_first))]
+pub fn tell_shebang<W: Write>(
+    lines: &mut Block,
+    output: &mut Watched<W>,
+    text: &str,
+) -> Result<(), Fault>
     requires fits { Fits text.now }
-    ensures { IfOk result (λ line. string_bytes line ≡ shebang_line (shebang text.now)) }
+    requires writes { output.old.failed ≡ false }
+    ensures failed { output.new.failed ≡ is_err result }
+    ensures pushed { Pushes (W.contents output.old.inner) (W.contents output.new.inner)
+        lines.old lines.new (shebang_line (shebang text.now)) result }
 {
     match strip_shebang(text) {
-        Some(length) => format!(in alloc; "{length}\n"),
-        None => String::from_str(alloc, "none\n"),
+        Some(length) => {
+            lines.push_number(output, length)?;
+            lines.push(output, "\n")
+        }
+        None => lines.push(output, "none\n"),
     }
 }
 
-/// The listing of the tokens of a text after the edits, in an edition.
-pub fn list_edited(
+/// The text after the edits, with its tokens in an edition.
+pub fn edited(
     alloc: Global,
     text: &str,
     edition: Edition,
     edits: &[Edit<'_>],
-) -> Result<String, Fault>
+) -> Result<LexedText<Steps>, Fault>
     requires { Fits text.now }
-    ensures { IsPrinted result (listed edition (edited_from 0 text.now edits.now)) }
+    ensures ok { IfOk result (λ lexed.
+        listed edition (edited_from 0 text.now edits.now) ≡ Ok (listing lexed.tokens)) }
+    ensures err { IfErr result (λ fault.
+        IsRefused fault (listed edition (edited_from 0 text.now edits.now))) }
 {
     let mut lexed = LexedText::new_in(alloc, text, edition)?;
     lexed.edit_all(edits)?;
-    Ok(list_pieces(alloc, &lexed)?)
+    Ok(lexed)
 }
 
-/// The listing of a text that is kept with its tokens.
-fn list_pieces<S: Stepper>(alloc: Global, lexed: &LexedText<S>) -> Result<String, AllocError>
-    ensures { IfOk result (λ listed. string_bytes listed ≡ listing lexed.now.tokens) }
+/// Lists the tokens of a text that is kept with them.
+pub fn list_pieces<W: Write, S: Stepper>(
+    lines: &mut Block,
+    output: &mut Watched<W>,
+    lexed: &LexedText<S>,
+) -> Result<(), Fault>
+    requires writes { output.old.failed ≡ false }
+    ensures failed { output.new.failed ≡ is_err result }
+    ensures pushed { Pushes (W.contents output.old.inner) (W.contents output.new.inner)
+        lines.old lines.new (listing lexed.now.tokens) result }
 {
-    let mut listing = String::new(alloc);
     for piece in lexed.pieces() {
-        push_line(&mut listing, piece.start, piece.token)?;
+        push_line(lines, output, piece.start, piece.token)?;
     }
-    Ok(listing)
+    Ok(())
 }
 
 /// Adds the line of a token that begins at the byte `start`.
-#[tactic(auto, unfolding(crate::specs::Listing::line_text))]
-fn push_line(listing: &mut String, start: u32, token: Token) -> Result<(), AllocError>
-    ensures { OnOk result
-        (string_bytes listing.new ≡ string_bytes listing.old ++ line_text start token) }
+fn push_line<W: Write>(
+    lines: &mut Block,
+    output: &mut Watched<W>,
+    start: u32,
+    token: Token,
+) -> Result<(), Fault>
+    requires writes { output.old.failed ≡ false }
+    ensures failed { output.new.failed ≡ is_err result }
+    ensures pushed { Pushes (W.contents output.old.inner) (W.contents output.new.inner)
+        lines.old lines.new (line_text start token) result }
 {
-    push_place(listing, start, token.len)?;
+    push_place(lines, output, start, token.len)?;
     match rest_of_line(token.kind) {
-        Rest::Line(line) => listing.push_str(line),
-        Rest::Name(name) => writeln!(listing, "{name}{}", Fields(token.kind)),
+        Rest::Line(line) => lines.push(output, line),
+        Rest::Name(name) => {
+            lines.push(output, name)?;
+            push_fields(lines, output, token.kind)
+        }
     }
 }
 
@@ -105,16 +145,22 @@ fn push_line(listing: &mut String, start: u32, token: Token) -> Result<(), Alloc
 const PLACE: usize = 22;
 
 /// Adds the start and the length of a token, and a space after each.
-fn push_place(listing: &mut String, start: u32, len: u32) -> Result<(), AllocError>
-    ensures { OnOk result
-        (string_bytes listing.new ≡ string_bytes listing.old ++ place_text start len) }
+fn push_place<W: Write>(
+    lines: &mut Block,
+    output: &mut Watched<W>,
+    start: u32,
+    len: u32,
+) -> Result<(), Fault>
+    requires writes { output.old.failed ≡ false }
+    ensures failed { output.new.failed ≡ is_err result }
+    ensures pushed { Pushes (W.contents output.old.inner) (W.contents output.new.inner)
+        lines.old lines.new (place_text start len) result }
 {
     // Written from the last byte to the first.
     let mut place = [b' '; PLACE];
     let len_at = write_digits(u64::from(len), &mut place, PLACE - 1);
     let start_at = write_digits(u64::from(start), &mut place, len_at - 1);
-    // Digits and spaces are UTF-8.
-    listing.push_str(unsafe { std::str::from_utf8_unchecked(&place[start_at..]) })
+    lines.push_bytes(output, &place[start_at..])
 }
 
 /// What stands in a line after the token's length.
@@ -178,90 +224,206 @@ fn rest_of_line(kind: TokenKind) -> Rest
     }
 }
 
-/// The fields of a kind, each after a space.
+/// A field: what stands before its value, and the value.
 #[derive(Clone, Copy)]
-struct Fields(TokenKind);
+struct Field {
+    label: &'static str,
+    value: Value,
+}
 
-impl fmt::Display for Fields {
-    ghost output = { λ k. Some (fields_text k.0) };
+/// The value of a field.
+#[derive(Clone, Copy)]
+enum Value {
+    Text(&'static str),
+    Number(u32),
+}
 
-    #[tactic(auto, unfolding(crate::specs::Listing::fields_text))]
-    fn fmt<W: fmt::Write>(&self, f: &mut fmt::Formatter<W>) -> fmt::Result {
-        match self.0 {
-            TokenKind::LineComment { doc_style } => write!(f, " doc_style={}", Style(doc_style)),
-            TokenKind::BlockComment {
-                doc_style,
-                terminated,
-            } => write!(f, " doc_style={} terminated={terminated}", Style(doc_style)),
-            TokenKind::Frontmatter {
-                has_invalid_preceding_whitespace,
-                invalid_infostring,
-            } => write!(
-                f,
-                " has_invalid_preceding_whitespace={has_invalid_preceding_whitespace} invalid_infostring={invalid_infostring}"
-            ),
-            TokenKind::Literal { kind, suffix_start } => {
-                write!(f, " kind={} suffix_start={suffix_start}", Shown(kind))
-            }
-            TokenKind::Lifetime { starts_with_number } => {
-                write!(f, " starts_with_number={starts_with_number}")
-            }
-            _ => Ok(()),
+/// A place where no field stands.
+const NONE: Field = Field {
+    label: "",
+    value: Value::Text(""),
+};
+
+/// Adds the fields of a kind, each after a space, and the end of the line.
+fn push_fields<W: Write>(
+    lines: &mut Block,
+    output: &mut Watched<W>,
+    kind: TokenKind,
+) -> Result<(), Fault>
+    requires writes { output.old.failed ≡ false }
+    ensures failed { output.new.failed ≡ is_err result }
+    ensures pushed { Pushes (W.contents output.old.inner) (W.contents output.new.inner)
+        lines.old lines.new (fields_text kind ++ codes "\n") result }
+{
+    let (first, second, third) = fields(kind);
+    push_field(lines, output, first)?;
+    push_field(lines, output, second)?;
+    push_field(lines, output, third)?;
+    lines.push(output, "\n")
+}
+
+/// Adds a field.
+#[tactic(auto, using(crate::proofs::PushLemmas::pushes_both, crate::proofs::PushLemmas::pushes_first))]
+fn push_field<W: Write>(
+    lines: &mut Block,
+    output: &mut Watched<W>,
+    field: Field,
+) -> Result<(), Fault>
+    requires writes { output.old.failed ≡ false }
+    ensures failed { output.new.failed ≡ is_err result }
+    ensures pushed { Pushes (W.contents output.old.inner) (W.contents output.new.inner)
+        lines.old lines.new (field_text field) result }
+{
+    lines.push(output, field.label)?;
+    match field.value {
+        Value::Text(text) => lines.push(output, text),
+        Value::Number(number) => lines.push_number(output, number as usize),
+    }
+}
+
+/// The fields of a kind, of which there are at most three.
+#[tactic(auto, unfolding(crate::specs::Listing::fields_text))]
+fn fields(kind: TokenKind) -> (Field, Field, Field)
+    ensures { fields_shown result.0 result.1 result.2 ≡ fields_text kind }
+{
+    match kind {
+        TokenKind::LineComment { doc_style } => {
+            (text_field(" doc_style=", style_name(doc_style)), NONE, NONE)
         }
+        TokenKind::BlockComment {
+            doc_style,
+            terminated,
+        } => (
+            text_field(" doc_style=", style_name(doc_style)),
+            text_field(" terminated=", bool_name(terminated)),
+            NONE,
+        ),
+        TokenKind::Frontmatter {
+            has_invalid_preceding_whitespace,
+            invalid_infostring,
+        } => (
+            text_field(
+                " has_invalid_preceding_whitespace=",
+                bool_name(has_invalid_preceding_whitespace),
+            ),
+            text_field(" invalid_infostring=", bool_name(invalid_infostring)),
+            NONE,
+        ),
+        TokenKind::Literal { kind, suffix_start } => {
+            let (first, second) = literal_fields(kind);
+            let suffix_start = Field {
+                label: " suffix_start=",
+                value: Value::Number(suffix_start),
+            };
+            (first, second, suffix_start)
+        }
+        TokenKind::Lifetime { starts_with_number } => (
+            text_field(" starts_with_number=", bool_name(starts_with_number)),
+            NONE,
+            NONE,
+        ),
+        _ => (NONE, NONE, NONE),
+    }
+}
+
+/// The field that tells the kind of a literal, and its own fields, of which there are at most two.
+#[tactic(auto, unfolding(crate::specs::Listing::literal_text))]
+fn literal_fields(kind: LiteralKind) -> (Field, Field)
+    ensures { field_text result.0 ++ field_text result.1 ≡ codes " kind=" ++ literal_text kind }
+{
+    match kind {
+        LiteralKind::Int { base, empty_int } => (
+            text_field(" kind=Int base=", base_name(base)),
+            text_field(" empty_int=", bool_name(empty_int)),
+        ),
+        LiteralKind::Float {
+            base,
+            empty_exponent,
+        } => (
+            text_field(" kind=Float base=", base_name(base)),
+            text_field(" empty_exponent=", bool_name(empty_exponent)),
+        ),
+        LiteralKind::Char { terminated } => {
+            (
+                text_field(" kind=Char terminated=", bool_name(terminated)),
+                NONE,
+            )
+        }
+        LiteralKind::Byte { terminated } => {
+            (
+                text_field(" kind=Byte terminated=", bool_name(terminated)),
+                NONE,
+            )
+        }
+        LiteralKind::Str { terminated } => {
+            (
+                text_field(" kind=Str terminated=", bool_name(terminated)),
+                NONE,
+            )
+        }
+        LiteralKind::ByteStr { terminated } => {
+            (
+                text_field(" kind=ByteStr terminated=", bool_name(terminated)),
+                NONE,
+            )
+        }
+        LiteralKind::CStr { terminated } => {
+            (
+                text_field(" kind=CStr terminated=", bool_name(terminated)),
+                NONE,
+            )
+        }
+        LiteralKind::RawStr { n_hashes } => {
+            (hashes_field(" kind=RawStr n_hashes=", n_hashes), NONE)
+        }
+        LiteralKind::RawByteStr { n_hashes } => {
+            (hashes_field(" kind=RawByteStr n_hashes=", n_hashes), NONE)
+        }
+        LiteralKind::RawCStr { n_hashes } => {
+            (hashes_field(" kind=RawCStr n_hashes=", n_hashes), NONE)
+        }
+    }
+}
+
+/// A field whose value is a text.
+fn text_field(label: &'static str, text: &'static str) -> Field
+    ensures { field_text result ≡ label.now ++ text.now }
+{
+    Field {
+        label,
+        value: Value::Text(text),
+    }
+}
+
+/// A field with the number of hashes of a raw string, or `none`.
+fn hashes_field(label: &'static str, n_hashes: Option<u8>) -> Field
+    ensures { field_text result ≡ label.now ++ hashes_text n_hashes }
+{
+    match n_hashes {
+        None => text_field(label, "none"),
+        Some(n) => Field {
+            label,
+            value: Value::Number(u32::from(n)),
+        },
     }
 }
 
 /// The style of a doc comment, or `none`.
-#[derive(Clone, Copy)]
-struct Style(Option<DocStyle>);
-
-impl fmt::Display for Style {
-    ghost output = { λ s. Some (style_text s.0) };
-
-    fn fmt<W: fmt::Write>(&self, f: &mut fmt::Formatter<W>) -> fmt::Result {
-        f.write_str(match self.0 {
-            None => "none",
-            Some(DocStyle::Outer) => "outer",
-            Some(DocStyle::Inner) => "inner",
-        })
+fn style_name(style: Option<DocStyle>) -> &'static str
+    ensures { result.now ≡ style_text style }
+{
+    match style {
+        None => "none",
+        Some(DocStyle::Outer) => "outer",
+        Some(DocStyle::Inner) => "inner",
     }
 }
 
-/// The kind of a literal with its own fields.
-#[derive(Clone, Copy)]
-struct Shown(LiteralKind);
-
-impl fmt::Display for Shown {
-    ghost output = { λ l. Some (literal_text l.0) };
-
-    #[tactic(auto, unfolding(crate::specs::Listing::literal_text))]
-    fn fmt<W: fmt::Write>(&self, f: &mut fmt::Formatter<W>) -> fmt::Result {
-        match self.0 {
-            LiteralKind::Int { base, empty_int } => {
-                write!(f, "Int base={} empty_int={empty_int}", base_name(base))
-            }
-            LiteralKind::Float {
-                base,
-                empty_exponent,
-            } => write!(
-                f,
-                "Float base={} empty_exponent={empty_exponent}",
-                base_name(base)
-            ),
-            LiteralKind::Char { terminated } => write!(f, "Char terminated={terminated}"),
-            LiteralKind::Byte { terminated } => write!(f, "Byte terminated={terminated}"),
-            LiteralKind::Str { terminated } => write!(f, "Str terminated={terminated}"),
-            LiteralKind::ByteStr { terminated } => write!(f, "ByteStr terminated={terminated}"),
-            LiteralKind::CStr { terminated } => write!(f, "CStr terminated={terminated}"),
-            LiteralKind::RawStr { n_hashes } => write!(f, "RawStr n_hashes={}", Hashes(n_hashes)),
-            LiteralKind::RawByteStr { n_hashes } => {
-                write!(f, "RawByteStr n_hashes={}", Hashes(n_hashes))
-            }
-            LiteralKind::RawCStr { n_hashes } => {
-                write!(f, "RawCStr n_hashes={}", Hashes(n_hashes))
-            }
-        }
-    }
+/// `true` or `false`.
+fn bool_name(value: bool) -> &'static str
+    ensures { result.now ≡ bool_text value }
+{
+    if value { "true" } else { "false" }
 }
 
 /// The base of a number, in decimal.
@@ -273,20 +435,5 @@ fn base_name(base: Base) -> &'static str
         Base::Octal => "8",
         Base::Decimal => "10",
         Base::Hexadecimal => "16",
-    }
-}
-
-/// The number of hashes of a raw string, or `none`.
-#[derive(Clone, Copy)]
-struct Hashes(Option<u8>);
-
-impl fmt::Display for Hashes {
-    ghost output = { λ h. Some (hashes_text h.0) };
-
-    fn fmt<W: fmt::Write>(&self, f: &mut fmt::Formatter<W>) -> fmt::Result {
-        match self.0 {
-            None => f.write_str("none"),
-            Some(n) => write!(f, "{n}"),
-        }
     }
 }

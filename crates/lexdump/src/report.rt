@@ -6,7 +6,7 @@ ghost use Rattle.lexdump.specs.Outcome.{AppendsFront};
 ghost use Rattle.lexdump.specs.Program.{exit_status, told};
 
 use crate::fault::{Fault, status};
-use crate::run::write_bytes;
+use crate::output::write_bytes;
 use crate::watched::Watched;
 use itoa::Buffer;
 use std::io::Write;

@@ -1,13 +1,15 @@
 //! A whole run: from the bytes of a reader to the lines of a writer.
-ghost use Rattle.std.specs.Prelude.{◌≡◌, ◌≢◌, ◌↔◌, ◌^◌, ◌<◌, false, true, IsTrue, IsErrOf, IfErr, IfOk, IfSome, OnErr, OnOk, length};
-ghost use Rattle.std.specs.Io.KnownBytes.{Appends, Keeps};
+ghost use Rattle.std.specs.Prelude.{◌≡◌, ◌≢◌, ◌↔◌, ◌^◌, ◌<◌, false, true, IsTrue, IsErrOf, IfErr, IfOk, IfSome, length};
+ghost use Rattle.std.specs.Io.KnownBytes.{Keeps};
 ghost use Rattle.rustc_lexer.specs.Classes.{Fits};
 ghost use Rattle.rustc_lexer.specs.LanguageHolds.{IsDetermined};
-ghost use Rattle.lexdump.specs.Outcome.{outcome, printed, IsAnswer, IsPrinted, AppendsFront, Writes, EndsReading, IsReadingFault};
+ghost use Rattle.lexdump.specs.Outcome.{outcome, printed, IsAnswer, Writes, EndsReading, IsReadingFault};
+ghost use Rattle.lexdump.specs.Pushed.{Prints};
 
 use crate::fault::Fault;
 use crate::job::Job;
-use crate::listing::{list_edited, list_tokens, list_tokens_in, shebang_length};
+use crate::listing::{edited, list_pieces, list_tokens, list_tokens_in, tell_shebang};
+use crate::output::Block;
 use crate::watched::Watched;
 use rustc_lexer::FrontmatterAllowed;
 use std::alloc::Global;
@@ -15,7 +17,8 @@ use std::io::{Read, Write};
 
 /// Reads all of the input, and then writes what the job prints of it.
 ///
-/// Nothing is written before all of it is made: after every fault but `Fault::Write` the output is as it was.
+/// The lines go out in blocks. Nothing that may be refused comes after the first byte: after every fault but
+/// `Fault::Write` the output is as it was.
 /// At `Ok` the last thing asked of the output was a flush, and it was not refused.
 #[tactic(auto, using(rustc_lexer::proofs::LanguageInLemmas::determined))]
 pub fn run<R: Read, W: Write>(
@@ -44,20 +47,33 @@ pub fn run<R: Read, W: Write>(
         Ok(text) => text,
         Err(_) => return Err(Fault::NotUtf8),
     };
-    let made = print(alloc, job, text)?;
-    write_all(output, made.as_str().as_bytes())
+    let mut lines = Block::new();
+    print(alloc, job, text, &mut lines, output)?;
+    lines.finish(output)
 }
 
-/// What the job prints of the text.
-fn print(alloc: Global, job: &Job<'_>, text: &str) -> Result<String, Fault>
-    requires { Fits text.now }
-    ensures { IsPrinted result (printed job.now text.now) }
+/// Prints what the job prints of the text.
+fn print<W: Write>(
+    alloc: Global,
+    job: &Job<'_>,
+    text: &str,
+    lines: &mut Block,
+    output: &mut Watched<W>,
+) -> Result<(), Fault>
+    requires fits { Fits text.now }
+    requires writes { output.old.failed ≡ false }
+    ensures failed { IsErrOf result Fault.Write ↔ IsTrue output.new.failed }
+    ensures prints { Prints (W.contents output.old.inner) (W.contents output.new.inner)
+        lines.old lines.new result (printed job.now text.now) }
 {
     match job {
-        Job::Plain { edition } => Ok(list_tokens_in(alloc, text, *edition)?),
-        Job::Front => Ok(list_tokens(alloc, text, FrontmatterAllowed::Yes)?),
-        Job::Shebang => Ok(shebang_length(alloc, text)?),
-        Job::Edit { edition, edits } => list_edited(alloc, text, *edition, edits.as_slice()),
+        Job::Plain { edition } => list_tokens_in(lines, output, text, *edition),
+        Job::Front => list_tokens(lines, output, text, FrontmatterAllowed::Yes),
+        Job::Shebang => tell_shebang(lines, output, text),
+        Job::Edit { edition, edits } => {
+            let lexed = edited(alloc, text, *edition, edits.as_slice())?;
+            list_pieces(lines, output, &lexed)
+        }
     }
 }
 
@@ -86,45 +102,4 @@ fn read_all<R: Read>(alloc: Global, input: &mut Watched<R>) -> Result<Vec<u8>, F
         }
         bytes.extend_from_slice(&piece[..count])?;
     }
-}
-
-/// Writes all of the text, and flushes.
-fn write_all<W: Write>(output: &mut Watched<W>, text: &[u8]) -> Result<(), Fault>
-    requires writes { output.old.failed ≡ false }
-    ensures failed { IsErrOf result Fault.Write ↔ IsTrue output.new.failed }
-    ensures flushed { IfOk result (λ _. output.new.flushed ≡ true) }
-    ensures only { IfErr result (λ fault. fault ≡ Fault.Write) }
-    ensures ok { OnOk result
-        (Appends (W.contents output.old.inner) (W.contents output.new.inner) text.now) }
-    ensures err { OnErr result
-        (AppendsFront (W.contents output.old.inner) (W.contents output.new.inner) text.now) }
-{
-    write_bytes(output, text)?;
-    if output.flush().is_err() {
-        return Err(Fault::Write);
-    }
-    Ok(())
-}
-
-/// Writes all of the text.
-pub(crate) fn write_bytes<W: Write>(output: &mut Watched<W>, text: &[u8]) -> Result<(), Fault>
-    requires writes { output.old.failed ≡ false }
-    ensures failed { IsErrOf result Fault.Write ↔ IsTrue output.new.failed }
-    ensures only { IfErr result (λ fault. fault ≡ Fault.Write) }
-    ensures ok { OnOk result
-        (Appends (W.contents output.old.inner) (W.contents output.new.inner) text.now) }
-    ensures err { OnErr result
-        (AppendsFront (W.contents output.old.inner) (W.contents output.new.inner) text.now) }
-{
-    let mut rest = text;
-    while !rest.is_empty() {
-        let Ok(count) = output.write(rest) else {
-            return Err(Fault::Write);
-        };
-        if count == 0 {
-            return Err(Fault::Write);
-        }
-        rest = &rest[count..];
-    }
-    Ok(())
 }

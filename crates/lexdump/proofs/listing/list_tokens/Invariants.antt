@@ -1,10 +1,12 @@
-use Rattle.std.proofs.Common.{length, string_bytes}
+use Rattle.std.proofs.Common.{◌≡◌, false, length}
 use Rattle.rustc_lexer.specs.Tokens.{tokens_of, tokens_left}
 use Rattle.lexdump.proofs.ListingLemmas.{Lists}
 use Rattle.lexdump.proofs.listing.list_tokens.Given as goal
 
 abbrev pub invariant-loop-token : goal.invariant-loop-token
-invariant-loop-token l = Lists (tokens_of l.fn.frontmatter_allowed l.text) (tokens_left l.token-iterator) (string_bytes l.listing) l.start (length l.text)
+invariant-loop-token g l =
+    (l.output.failed ≡ false)
+    × Lists (g.W.Write.contents l.fn.output.inner) (g.W.Write.contents l.output.inner) (tokens_of l.fn.frontmatter_allowed l.text) (tokens_left l.token-iterator) l.fn.lines l.lines l.start (length l.text)
 
 abbrev pub decreases-loop-token : goal.decreases-loop-token
-decreases-loop-token l = length l.token-iterator.rest
+decreases-loop-token g l = length l.token-iterator.rest

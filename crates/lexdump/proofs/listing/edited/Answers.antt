@@ -1,4 +1,4 @@
-use Rattle.std.proofs.Common.{ℕ, List, Result, Ok, sym, ap, ◌∙◌}
+use Rattle.std.proofs.Common.{ℕ, List, Result, Ok, ap, ◌∙◌, sym}
 use Rattle.std.proofs.lemmas.Result.{err_from_is_err_and}
 use Rattle.rustc_lexer.specs.declared.token.Token.{Token}
 use Rattle.rustc_lexer.specs.Cuts.{tokens_by}
@@ -7,16 +7,15 @@ use Rattle.lexdump.specs.declared.fault.Fault.{Fault}
 use Rattle.lexdump.specs.Listing.{listing}
 use Rattle.lexdump.specs.Outcome.{listed}
 use Rattle.lexdump.proofs.EditedLemmas.{edited-all, stop-printed}
-use Rattle.lexdump.proofs.listing.list_edited.Goals as goal
+use Rattle.lexdump.proofs.listing.edited.Goals as goal
 
-pub returns-in_err-edit_all : goal.returns-in_err-edit_all
-returns-in_err-edit_all c =
+pub returns-in_err-edit_all-clause-err : goal.returns-in_err-edit_all-clause-err
+returns-in_err-edit_all-clause-err c =
     let p = err_from_is_err_and c.from_residual-in_err-edit_all.result c.from_residual-in_err-edit_all.ensures.1 in
-    rw (p.1, p.2, ← c.in_ok-lexed.ensures.text) (stop-printed c.args.edition _ _ _ _ c.in_err-edit_all.ensures.stop c.in_err-edit_all.ensures.stop_accepted c.in_err-edit_all.ensures.stop_text)
+    rw (p.1, p.2, ← c.in_ok-lexed.ensures.text) (stop-printed c.args.edition c.in_err-edit_all.field-0.0 c.in_ok-lexed.lexed.text _ _ c.in_err-edit_all.ensures.stop c.in_err-edit_all.ensures.stop_accepted c.in_err-edit_all.ensures.stop_text)
 
-pub returns : goal.returns
-returns c =
+pub returns-clause-ok : goal.returns-clause-ok
+returns-clause-ok c =
     rw (← c.in_ok-lexed.ensures.text) (ap (listed c.args.edition) (edited-all 0 _ _ c.in_ok-edit_all.ensures.accepted)
-    ∙ ap (λ (xs : List ℕ). let r : Result (List ℕ) Fault = Ok xs in r) (sym (c.in_ok-list_pieces.ensures
-    ∙ ap listing (c.in_ok-edit_all.ensures.from_scratch
+    ∙ ap (λ (xs : List ℕ). let r : Result (List ℕ) Fault = Ok xs in r) (sym (ap listing (c.in_ok-edit_all.ensures.from_scratch
     ∙ (ap (λ (first : List ℕ → Token). tokens_by first c.edit_all.new.self.text) c.in_ok-lexed.ensures.grammar ∙ ap (tokens_in c.args.edition) c.in_ok-edit_all.ensures.text)))))

@@ -1,6 +1,6 @@
 use Rattle.std.proofs.Common.{refl, ◌∙◌}
 use Rattle.lexdump.proofs.KnownLemmas.{went_more, went_kept, went_front, cut_past, still_sound}
-use Rattle.lexdump.proofs.run.write_bytes.Goals as goal
+use Rattle.lexdump.proofs.output.write_bytes.Goals as goal
 
 pub loop-rest-preserved : goal.loop-rest-preserved
 loop-rest-preserved g c = (
