@@ -4,7 +4,7 @@ ghost use Rattle.lexdump.specs.Listing.{base_text, fields_text, hashes_text, lin
 ghost use Rattle.lexdump.specs.Rest.{IsRest};
 ghost use Rattle.lexdump.specs.Outcome.{edited_from, listed, IsPrinted};
 ghost use Rattle.rustc_lexer.specs.Classes.{Fits};
-ghost use Rattle.rustc_lexer.specs.Edition.{tokens_in};
+ghost use Rattle.rustc_lexer.specs.LanguageText.{mode_of, part};
 ghost use Rattle.rustc_lexer.specs.means.Shebang.{shebang};
 ghost use Rattle.rustc_lexer.specs.Tokens.{tokens_of};
 
@@ -26,7 +26,7 @@ pub fn list_tokens(
 ) -> Result<String, AllocError>
     requires fits { Fits text.now }
     ensures { IfOk result
-        (λ listed. string_bytes listed ≡ listing (tokens_of frontmatter_allowed text.now)) }
+        (λ listed. string_bytes listed ≡ listing (tokens_of (mode_of frontmatter_allowed) text.now)) }
 {
     let mut listing = String::new(alloc);
     let mut start = 0;
@@ -40,7 +40,7 @@ pub fn list_tokens(
 /// The same of the tokens in an edition.
 pub fn list_tokens_in(alloc: Global, text: &str, edition: Edition) -> Result<String, AllocError>
     requires fits { Fits text.now }
-    ensures { IfOk result (λ listed. string_bytes listed ≡ listing (tokens_in edition text.now)) }
+    ensures { IfOk result (λ listed. string_bytes listed ≡ listing (tokens_of (part edition) text.now)) }
 {
     let mut listing = String::new(alloc);
     let mut place = 0;
