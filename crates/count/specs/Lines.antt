@@ -4,11 +4,11 @@
 -- a string is code, and one inside of a comment is a comment.
 use Rattle.std.specs.Prelude.{ℕ, ◌+◌, ◌==◌, ◌&&◌, not, Bool, true, false, if◌then◌else◌, List, [], ◌∷◌, ◌++◌, map, take, drop, Some, None, unwrap_or}
 use Rattle.std.specs.List.{count_by, list_any}
-use Rattle.rustc_lexer.specs.declared.token.FrontmatterAllowed.TheVariants.{Yes}
 use Rattle.rustc_lexer.specs.declared.token.Token.{Token}
 use Rattle.rustc_lexer.specs.declared.token.TokenKind.{TokenKind}
 use Rattle.rustc_lexer.specs.declared.token.TokenKind.TheVariants.{LineComment, BlockComment, Whitespace}
 use Rattle.rustc_lexer.specs.means.Shebang.{shebang}
+use Rattle.rustc_lexer.specs.LanguageText.{document}
 use Rattle.rustc_lexer.specs.Tokens.{tokens_of}
 use Rattle.count.specs.declared.lines.Class.{Class}
 use Rattle.count.specs.declared.lines.Class.TheVariants.{Code, Doc, Comment, Space}
@@ -41,7 +41,7 @@ token_marks text [] = []
 token_marks text (token ∷ tokens) = map (mark (class_of token.kind)) (take token.len text) ++ token_marks (drop token.len text) tokens
 
 abbrev pub source_marks : List ℕ → List Mark
-source_marks text = token_marks text (tokens_of Yes text)
+source_marks text = token_marks text (tokens_of document text)
 
 -- a document may begin with a shebang line, which is code, and else is a source
 abbrev pub shebang_len : List ℕ → ℕ

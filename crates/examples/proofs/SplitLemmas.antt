@@ -5,20 +5,21 @@ use Rattle.std.proofs.lemmas.List.{append-nil, map-append}
 use Rattle.std.proofs.lemmas.List.Folds.{flat_map-map}
 use Rattle.rustc_lexer.specs.declared.token.Token.{Token}
 use Rattle.rustc_lexer.specs.Cuts.{bound}
-use Rattle.rustc_lexer.specs.Edition.{Reading, TakesTokenIn, tokens_left_in}
+use Rattle.rustc_lexer.specs.State.{State}
+use Rattle.rustc_lexer.specs.Tokens.{TakesToken, tokens_left}
 use Rattle.rustc_lexer.specs.Pieces.{pieces_from, pieces_of}
 use Rattle.rustc_lexer.specs.Tokens.{Partitions}
 use Rattle.examples.specs.Joined.{joined}
 use Rattle.examples.specs.Split.{texts_of}
 
 -- one part more
-pub part_more : (text : List ℕ) (start : ℕ) (s t : Reading) (token : Token) (parts more : List (Bor (List ℕ))) (part : Bor (List ℕ)) (all : List (List ℕ)) → TakesTokenIn s token t
-    → map (λ (p : Bor (List ℕ)). p.now) parts ++ texts_of (pieces_from text start (tokens_left_in s)) ≡ all
-    → more ≡ parts ++ part ∷ [] → part.now ≡ take token.len (drop start text) → map (λ (p : Bor (List ℕ)). p.now) more ++ texts_of (pieces_from text (start + token.len) (tokens_left_in t)) ≡ all
+pub part_more : (text : List ℕ) (start : ℕ) (s t : State) (token : Token) (parts more : List (Bor (List ℕ))) (part : Bor (List ℕ)) (all : List (List ℕ)) → TakesToken s token t
+    → map (λ (p : Bor (List ℕ)). p.now) parts ++ texts_of (pieces_from text start (tokens_left s)) ≡ all
+    → more ≡ parts ++ part ∷ [] → part.now ≡ take token.len (drop start text) → map (λ (p : Bor (List ℕ)). p.now) more ++ texts_of (pieces_from text (start + token.len) (tokens_left t)) ≡ all
 part_more text start s t token parts more part all takes at pushed own =
     let now : Bor (List ℕ) → List ℕ = λ p. p.now in
-    let left : List (List ℕ) = texts_of (pieces_from text (start + token.len) (tokens_left_in t)) in
-    let here : texts_of (pieces_from text start (tokens_left_in s)) ≡ part.now ∷ left =
+    let left : List (List ℕ) = texts_of (pieces_from text (start + token.len) (tokens_left t)) in
+    let here : texts_of (pieces_from text start (tokens_left s)) ≡ part.now ∷ left =
     ap (λ ts. texts_of (pieces_from text start ts)) takes.first ∙ ap (λ (bs : List ℕ). bs ∷ left) (sym own) in
     ap (λ (ps : List (Bor (List ℕ))). map now ps ++ left) pushed ∙ (ap (λ xs. xs ++ left) (map-append now parts (part ∷ []))
     ∙ (append_assoc (map now parts) (part.now ∷ []) left ∙ (ap (λ xs. map now parts ++ xs) (sym here) ∙ at)))

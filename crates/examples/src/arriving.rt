@@ -1,6 +1,8 @@
 //! The tokens of a text that arrives in pieces.
 ghost use Rattle.std.specs.Prelude.{◌≡◌, ◌+◌, ◌<◌, ◌^◌, ◌++◌, IfOk, OnErr, List, ℕ, length, []};
 ghost use Rattle.rustc_lexer.specs.Classes.{Fits};
+ghost use Rattle.rustc_lexer.specs.declared.edition.Edition.TheVariants.{E2024};
+ghost use Rattle.rustc_lexer.specs.LanguageText.{part};
 ghost use Rattle.rustc_lexer.specs.Tokens.{tokens_of};
 ghost use Rattle.examples.specs.Arriving.{GivesFirst, GivesSure, IsFirstUpTo};
 ghost use Rattle.examples.specs.Joined.{joined};
@@ -67,7 +69,7 @@ impl Arriving {
 pub fn lex_pieces(alloc: Global, pieces: &[&str]) -> Result<Vec<Token>, AllocError>
     requires fits { length (joined pieces.now) < 2 ^ 32 }
     ensures { IfOk result
-        (λ tokens. tokens.items ≡ tokens_of FrontmatterAllowed.No (joined pieces.now)) }
+        (λ tokens. tokens.items ≡ tokens_of (part E2024) (joined pieces.now)) }
 {
     let mut arriving = Arriving::new(alloc);
     let mut tokens = Vec::new(alloc);
@@ -95,7 +97,7 @@ fn sure_tokens<'a>(alloc: Global, text: &'a str) -> Result<(Vec<Token>, &'a str)
 fn first_tokens(alloc: Global, text: &str, place: usize) -> Result<Vec<Token>, AllocError>
     requires fits { Fits text.now }
     ensures { IfOk result
-        (λ first. IsFirstUpTo place first.items (tokens_of FrontmatterAllowed.No text.now)) }
+        (λ first. IsFirstUpTo place first.items (tokens_of (part E2024) text.now)) }
 {
     let mut first = Vec::new(alloc);
     let mut start = 0;

@@ -2,6 +2,8 @@
 ghost use Rattle.std.specs.Prelude.{◌≡◌, OnOk};
 ghost use Rattle.std.specs.Fmt.{WritesInCalls};
 ghost use Rattle.rustc_lexer.specs.Classes.{Fits};
+ghost use Rattle.rustc_lexer.specs.declared.edition.Edition.TheVariants.{E2024};
+ghost use Rattle.rustc_lexer.specs.LanguageText.{part};
 ghost use Rattle.rustc_lexer.specs.Tokens.{tokens_of};
 ghost use Rattle.examples.specs.Highlight.{close_mark, open_mark, parts, with_marks, without_marks};
 
@@ -15,8 +17,8 @@ use std::fmt;
 pub fn highlight<W: fmt::Write>(text: &str, output: &mut W) -> fmt::Result
     requires fits { Fits text.now }
     ensures written { OnOk result (WritesInCalls W.write_str_gives output.old
-        (with_marks (parts text.now (tokens_of FrontmatterAllowed.No text.now))) output.new) }
-    ensures text { without_marks (parts text.now (tokens_of FrontmatterAllowed.No text.now))
+        (with_marks (parts text.now (tokens_of (part E2024) text.now))) output.new) }
+    ensures text { without_marks (parts text.now (tokens_of (part E2024) text.now))
         ≡ text.now }
 {
     let mut start = 0;

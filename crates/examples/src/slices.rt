@@ -2,6 +2,8 @@
 ghost use Rattle.std.specs.Prelude.{◌≡◌};
 ghost use Rattle.rustc_lexer.specs.Classes.{Fits};
 ghost use Rattle.rustc_lexer.specs.Pieces.{pieces_of};
+ghost use Rattle.rustc_lexer.specs.declared.edition.Edition.TheVariants.{E2024};
+ghost use Rattle.rustc_lexer.specs.LanguageText.{part};
 ghost use Rattle.rustc_lexer.specs.Tokens.{tokens_of};
 ghost use Rattle.examples.specs.Slices.{find_start};
 
@@ -11,7 +13,7 @@ use rustc_lexer::{FrontmatterAllowed, TokenKind, tokenize};
 pub fn find_word(text: &str, word: &str) -> Option<usize>
     requires fits { Fits text.now }
     ensures { result
-        ≡ find_start word.now (pieces_of text.now (tokens_of FrontmatterAllowed.No text.now)) }
+        ≡ find_start word.now (pieces_of text.now (tokens_of (part E2024) text.now)) }
 {
     let mut start = 0;
     for token in tokenize(text, FrontmatterAllowed::No) {

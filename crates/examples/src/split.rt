@@ -1,7 +1,8 @@
 //! A text in the parts that its tokens are, in an edition.
 ghost use Rattle.std.specs.Prelude.{◌≡◌, IfOk, map};
 ghost use Rattle.rustc_lexer.specs.Classes.{Fits};
-ghost use Rattle.rustc_lexer.specs.Edition.{tokens_in};
+ghost use Rattle.rustc_lexer.specs.LanguageText.{part};
+ghost use Rattle.rustc_lexer.specs.Tokens.{tokens_of};
 ghost use Rattle.rustc_lexer.specs.Pieces.{pieces_of};
 ghost use Rattle.examples.specs.Joined.{joined};
 ghost use Rattle.examples.specs.Split.{texts_of};
@@ -18,7 +19,7 @@ pub fn split_in<'a>(
     requires fits { Fits text.now }
     ensures parts { IfOk result
         (λ parts. map (λ part. part.now) parts.items
-        ≡ texts_of (pieces_of text.now (tokens_in edition text.now))) }
+        ≡ texts_of (pieces_of text.now (tokens_of (part edition) text.now))) }
     ensures whole { IfOk result (λ parts. joined parts.items ≡ text.now) }
 {
     let mut parts = Vec::new(alloc);

@@ -5,14 +5,13 @@ use Rattle.std.specs.Fmt.{digit_glyph, digits, digits_onto, WritesInCalls}
 use Rattle.std.proofs.lemmas.Bool.{ne_eqb}
 use Rattle.std.proofs.lemmas.Str.{IsUtf8-drop}
 use Rattle.rustc_lexer.specs.declared.edition.Edition.{Edition}
-use Rattle.rustc_lexer.specs.declared.token.FrontmatterAllowed.TheVariants.{Yes}
 use Rattle.rustc_lexer.specs.declared.token.Token.{Token}
 use Rattle.rustc_lexer.specs.declared.token.TokenKind.{TokenKind}
 use Rattle.rustc_lexer.specs.Classes.{Fits}
 use Rattle.rustc_lexer.specs.means.Shebang.{shebang}
 use Rattle.rustc_lexer.specs.Texts.{IsText}
+use Rattle.rustc_lexer.specs.LanguageText.{document, part}
 use Rattle.rustc_lexer.specs.Tokens.{bound, Partitions}
-use Rattle.rustc_lexer.proofs.EditionLemmas.{partitions-in}
 use Rattle.rustc_lexer.proofs.TokensLemmas.{partitions}
 use Rattle.highlight.specs.declared.class.Class.{Class}
 use Rattle.highlight.specs.declared.class.Class.TheVariants.{Plain, Comment, Doc, Keyword, TypeName, Text, Number, Lifetime}
@@ -59,8 +58,8 @@ without_marks_whole style text tokens cut = without_marks-parts style text token
 
 -- the tokens of a text cut it
 partitions_for : (edition : Option Edition) (text : List ℕ) → IsText text → Partitions text (tokens_for edition text)
-partitions_for None text is = partitions text Yes is
-partitions_for (Some edition) text is = partitions-in edition text is
+partitions_for None text is = partitions text document is
+partitions_for (Some edition) text is = partitions text (part edition) is
 
 -- those of what follows a shebang line cut that
 cut_past : (edition : Option Edition) (text : List ℕ) (line : Option ℕ) → IfSome line (λ len. IsCharBoundary text len) → IsText text → Partitions (past_line line text) (tokens_for edition (past_line line text))

@@ -4,9 +4,8 @@ use Rattle.std.specs.Str.{byte}
 use Rattle.rustc_lexer.specs.declared.edition.Edition.{Edition}
 use Rattle.rustc_lexer.specs.declared.token.Token.{Token}
 use Rattle.rustc_lexer.specs.declared.token.TokenKind.{TokenKind}
-use Rattle.rustc_lexer.specs.declared.token.FrontmatterAllowed.TheVariants.{Yes}
-use Rattle.rustc_lexer.specs.Edition.{tokens_in}
 use Rattle.rustc_lexer.specs.means.Shebang.{shebang}
+use Rattle.rustc_lexer.specs.LanguageText.{document, part}
 use Rattle.rustc_lexer.specs.Tokens.{tokens_of}
 use Rattle.highlight.specs.declared.class.Class.{Class}
 use Rattle.highlight.specs.declared.class.Class.TheVariants.{Comment}
@@ -67,10 +66,10 @@ abbrev pub past_line : Option ℕ → List ℕ → List ℕ
 past_line None text = text
 past_line (Some len) text = drop len text
 
--- the tokens of a text: those of an edition, or, where none is named, of the newest one with a frontmatter allowed
+-- the tokens of a text: those of a part in an edition, or, where none is named, those of a document
 abbrev pub tokens_for : Option Edition → List ℕ → List Token
-tokens_for None text = tokens_of Yes text
-tokens_for (Some edition) text = tokens_in edition text
+tokens_for None text = tokens_of document text
+tokens_for (Some edition) text = tokens_of (part edition) text
 
 -- a whole text: its shebang line, and the tokens of what follows
 abbrev pub text_parts : Style → Option Edition → List ℕ → List Part

@@ -3,7 +3,7 @@ ghost use Rattle.std.specs.Prelude.{◌≡◌, OnOk};
 ghost use Rattle.std.specs.Fmt.{WritesInCalls};
 ghost use Rattle.std.specs.Str.{IsCharBoundary};
 ghost use Rattle.rustc_lexer.specs.Classes.{Fits};
-ghost use Rattle.rustc_lexer.specs.Edition.{tokens_in};
+ghost use Rattle.rustc_lexer.specs.LanguageText.{document, part};
 ghost use Rattle.rustc_lexer.specs.Tokens.{tokens_of};
 ghost use Rattle.highlight.specs.Escape.{unescaped, untagged};
 ghost use Rattle.highlight.specs.Page.{class_parts, fault_parts, first_line, foot, head, marked, marked_tokens, printed, shown, text_parts, token_parts, tokens_for, with_marks, without_marks};
@@ -141,7 +141,7 @@ fn write_code<W: fmt::Write>(
 fn write_tokens<W: fmt::Write>(style: Style, text: &str, output: &mut W) -> fmt::Result
     requires fits { Fits text.now }
     ensures { OnOk result (WritesInCalls W.write_str_gives output.old
-        (marked_tokens style text.now (tokens_of FrontmatterAllowed.Yes text.now)) output.new) }
+        (marked_tokens style text.now (tokens_of document text.now)) output.new) }
 {
     let mut start = 0;
     for token in tokenize(text, FrontmatterAllowed::Yes) {
@@ -161,7 +161,7 @@ fn write_tokens_in<W: fmt::Write>(
 ) -> fmt::Result
     requires fits { Fits text.now }
     ensures { OnOk result (WritesInCalls W.write_str_gives output.old
-        (marked_tokens style text.now (tokens_in edition text.now)) output.new) }
+        (marked_tokens style text.now (tokens_of (part edition) text.now)) output.new) }
 {
     let mut start = 0;
     for token in tokenize_in(text, edition) {

@@ -5,10 +5,9 @@ use Rattle.std.specs.Str.{is_utf8}
 use Rattle.std.specs.Io.KnownBytes.{Keeps, Appends}
 use Rattle.rustc_lexer.specs.declared.edition.Edition.{Edition}
 use Rattle.rustc_lexer.specs.declared.relex.edit_list.Edit.{Edit as TextEdit}
-use Rattle.rustc_lexer.specs.declared.token.FrontmatterAllowed.TheVariants.{Yes}
 use Rattle.rustc_lexer.specs.EditLists.{applied}
-use Rattle.rustc_lexer.specs.Edition.{tokens_in}
 use Rattle.rustc_lexer.specs.means.Shebang.{shebang}
+use Rattle.rustc_lexer.specs.LanguageText.{document, part}
 use Rattle.rustc_lexer.specs.Tokens.{tokens_of}
 use Rattle.lexdump.specs.declared.fault.Fault.{Fault}
 use Rattle.lexdump.specs.declared.fault.Fault.TheVariants.{NotUtf8, TooLong, EditRange, EditTooLong, Memory, Read, Write}
@@ -37,13 +36,13 @@ edited_from at text (e ∷ es) =
 
 -- the listing of a text in an edition
 abbrev pub listed : Edition → Result (List ℕ) Fault → Result (List ℕ) Fault
-listed edition (Ok text) = Ok (listing (tokens_in edition text))
+listed edition (Ok text) = Ok (listing (tokens_of (part edition) text))
 listed edition (Err fault) = Err fault
 
 -- what is printed of a text, or why nothing is
 abbrev pub printed : Job → List ℕ → Result (List ℕ) Fault
 printed (Plain edition) text = listed edition (Ok text)
-printed Front text = Ok (listing (tokens_of Yes text))
+printed Front text = Ok (listing (tokens_of document text))
 printed Shebang text = Ok (shebang_line (shebang text))
 printed (Edit edition edits) text = listed edition (edited_from 0 text edits.items)
 

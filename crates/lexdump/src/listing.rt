@@ -5,7 +5,7 @@ ghost use Rattle.lexdump.specs.Pushed.{Pushes};
 ghost use Rattle.lexdump.specs.Rest.{field_text, fields_shown, IsRest};
 ghost use Rattle.lexdump.specs.Outcome.{edited_from, listed, IsRefused};
 ghost use Rattle.rustc_lexer.specs.Classes.{Fits};
-ghost use Rattle.rustc_lexer.specs.Edition.{tokens_in};
+ghost use Rattle.rustc_lexer.specs.LanguageText.{mode_of, part};
 ghost use Rattle.rustc_lexer.specs.means.Shebang.{shebang};
 ghost use Rattle.rustc_lexer.specs.Tokens.{tokens_of};
 
@@ -31,7 +31,7 @@ pub fn list_tokens<W: Write>(
     requires writes { output.old.failed ≡ false }
     ensures failed { output.new.failed ≡ is_err result }
     ensures pushed { Pushes (W.contents output.old.inner) (W.contents output.new.inner)
-        lines.old lines.new (listing (tokens_of frontmatter_allowed text.now)) result }
+        lines.old lines.new (listing (tokens_of (mode_of frontmatter_allowed) text.now)) result }
 {
     let mut start = 0;
     for token in tokenize(text, frontmatter_allowed) {
@@ -52,7 +52,7 @@ pub fn list_tokens_in<W: Write>(
     requires writes { output.old.failed ≡ false }
     ensures failed { output.new.failed ≡ is_err result }
     ensures pushed { Pushes (W.contents output.old.inner) (W.contents output.new.inner)
-        lines.old lines.new (listing (tokens_in edition text.now)) result }
+        lines.old lines.new (listing (tokens_of (part edition) text.now)) result }
 {
     let mut place = 0;
     for token in tokenize_in(text, edition) {

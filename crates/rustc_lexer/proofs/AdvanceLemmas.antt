@@ -2,7 +2,6 @@
 use Rattle.std.proofs.Common.{◌≡◌, ◌≢◌, ℕ, ◌+◌, ◌-◌, ◌<◌, ◌==◌, List, [], ◌∷◌, length, true, false, true≢false, refl, sym, ap, ◌∙◌, arith}
 use Rattle.std.proofs.lemmas.Bool.{eqb-true, ne_eqb}
 use Rattle.std.proofs.lemmas.Str.{IsCharBoundary-from_take}
-use Rattle.rustc_lexer.specs.declared.token.FrontmatterAllowed.{FrontmatterAllowed}
 use Rattle.rustc_lexer.specs.declared.token.Token.{Token}
 use Rattle.rustc_lexer.specs.declared.token.TokenKind.{TokenKind}
 use Rattle.rustc_lexer.specs.declared.token.TokenKind.TheVariants.{Eof, Literal}
@@ -10,14 +9,9 @@ use Rattle.rustc_lexer.specs.State.{State, kind_past, token_past}
 use Rattle.rustc_lexer.specs.means.Taking.{token_at, advance}
 use Rattle.rustc_lexer.specs.Texts.{IsText}
 use Rattle.rustc_lexer.specs.Tokens.{tokens_of, tokens_left, StaysAtEnd, TakesPending}
-use Rattle.rustc_lexer.proofs.FrontmatterLemmas.{frontmatter-not_end, token_at-either}
 use Rattle.rustc_lexer.proofs.StateLemmas.{past_token, advance-some, token_past-zero}
-use Rattle.rustc_lexer.proofs.TextLemmas.{first_token-not_end}
+use Rattle.rustc_lexer.proofs.TextLemmas.{token_at-not_end}
 use Rattle.rustc_lexer.proofs.TokensLemmas.{CutsOff, token_at-cuts, tokens-nil, tokens-cons}
-
--- no token of a text is the end
-token_at-not_end : (allowed : FrontmatterAllowed) (text : List ℕ) → IsText text → 0 < length text → (token_at allowed text).kind ≡ Eof → ⊥
-token_at-not_end allowed text is some = token_at-either (λ (t : Token). t.kind ≡ Eof → ⊥) allowed text (first_token-not_end text is some) (λ opened. frontmatter-not_end text)
 
 -- pending bytes make no end of a token that is none
 kind_past-end : (pending : ℕ) (kind : TokenKind) → kind_past pending kind ≡ Eof → kind ≡ Eof
@@ -26,21 +20,21 @@ kind_past-end pending kind e = e
 
 module _ (s t : State) (token : Token) (is : IsText s.rest) (some : 0 < length s.rest) (e : token ≡ (advance s).0) (f : t ≡ (advance s).1) where
   pub not_end : token.kind ≢ Eof
-  not_end h = token_at-not_end s.frontmatter_allowed s.rest is some (kind_past-end s.pending (token_at s.frontmatter_allowed s.rest).kind (
-      ap (λ (r : Token × State). r.0.kind) (sym (advance-some s.pending s.rest s.frontmatter_allowed s refl (ne_eqb (length s.rest) 0 (λ none. omega arith))))
+  not_end h = token_at-not_end s.mode s.rest is some (kind_past-end s.pending (token_at s.mode s.rest).kind (
+      ap (λ (r : Token × State). r.0.kind) (sym (advance-some s.pending s.rest s.mode s refl (ne_eqb (length s.rest) 0 (λ none. omega arith))))
       ∙ (ap (λ (k : Token). k.kind) (sym e) ∙ h)))
 
   pub takes_pending : TakesPending s token t
   takes_pending =
-      let first : Token = token_at s.frontmatter_allowed s.rest in
-      let whole = advance-some s.pending s.rest s.frontmatter_allowed s refl (ne_eqb (length s.rest) 0 (λ none. omega arith)) in
+      let first : Token = token_at s.mode s.rest in
+      let whole = advance-some s.pending s.rest s.mode s refl (ne_eqb (length s.rest) 0 (λ none. omega arith)) in
       let token_is : token ≡ token_past s.pending first = e ∙ ap (λ (r : Token × State). r.0) whole in
-      let state_is : t ≡ past_token s.rest s.frontmatter_allowed first = f ∙ ap (λ (r : Token × State). r.1) whole in
-      let cuts : CutsOff s.rest first = token_at-cuts s.frontmatter_allowed s.rest is some in
+      let state_is : t ≡ past_token s.rest s.mode first = f ∙ ap (λ (r : Token × State). r.1) whole in
+      let cuts : CutsOff s.rest first = token_at-cuts s.mode s.rest is some in
       let own : (s.pending + first.len) - s.pending ≡ first.len = omega arith in
       let alone : s.pending ≡ 0 → token_past s.pending first ≡ first = λ none. ap (λ n. token_past n first) none ∙ token_past-zero first in
       rw (token_is, state_is) record {
-        first = λ none. tokens-cons s.frontmatter_allowed s.rest is some ∙ ap (λ (k : Token). k ∷ tokens_left (past_token s.rest s.frontmatter_allowed first)) (sym (alone none));
+        first = λ none. tokens-cons s.mode s.rest is some ∙ ap (λ (k : Token). k ∷ tokens_left (past_token s.rest s.mode first)) (sym (alone none));
         not_empty = let n = cuts.not_empty in omega arith;
         boundary = rw own (IsCharBoundary-from_take s.rest first.len is.utf8 cuts.inside cuts.front);
         rest = rw own refl;
@@ -50,7 +44,7 @@ module _ (s t : State) (token : Token) (is : IsText s.rest) (some : 0 < length s
 pub stays_at_end : (s : State) (token : Token) (text : List ℕ) → text ≡ s.rest → (length text == 0) ≡ true → token.len ≡ 0 → StaysAtEnd s token s
 stays_at_end s token text e none empty =
     let rest : s.rest ≡ [] = sym e ∙ nothing text none in
-    record { none_left = ap (tokens_of s.frontmatter_allowed) rest ∙ tokens-nil s.frontmatter_allowed; rest = rest; empty = empty; unchanged = refl }
+    record { none_left = ap (λ xs. tokens_of s.mode xs) rest ∙ tokens-nil s.mode; rest = rest; empty = empty; unchanged = refl }
   where
     nothing : (xs : List ℕ) → (length xs == 0) ≡ true → xs ≡ []
     nothing [] h = refl

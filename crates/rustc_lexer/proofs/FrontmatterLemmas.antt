@@ -7,15 +7,16 @@ use Rattle.std.proofs.lemmas.Bool.{cases_lt, eqb-true, and_parts, lt-ltb}
 use Rattle.std.proofs.lemmas.List.{get_or-drop}
 use Rattle.std.proofs.lemmas.List.Elements.{All-nil, All-cons, All-head, All-tail}
 use Rattle.std.proofs.lemmas.Str.{encode_ascii, byte_from_char, inside_one, length-encode, len_utf8_bounds, length-le-encodes, IsCharBoundary-end, IsCharBoundary-before_ascii, IsCharBoundary-from_rest}
-use Rattle.rustc_lexer.specs.declared.token.FrontmatterAllowed.{FrontmatterAllowed}
-use Rattle.rustc_lexer.specs.declared.token.FrontmatterAllowed.TheVariants.{Yes, No}
+use Rattle.rustc_lexer.specs.declared.edition.Edition.{Edition}
+use Rattle.rustc_lexer.specs.declared.edition.Edition.TheVariants.{E2024}
 use Rattle.rustc_lexer.specs.declared.token.Token.{Token}
-use Rattle.rustc_lexer.specs.declared.token.TokenKind.TheVariants.{Frontmatter, Eof}
+use Rattle.rustc_lexer.specs.declared.token.TokenKind.TheVariants.{Frontmatter}
 use Rattle.rustc_lexer.specs.Classes.{is_whitespace, is_id_start}
+use Rattle.rustc_lexer.specs.LanguageText.{Mode, document, part}
 use Rattle.rustc_lexer.specs.means.Comment.{is_no_newline}
+use Rattle.rustc_lexer.specs.means.Edition.{first_token_in}
 use Rattle.rustc_lexer.specs.means.Frontmatter.{closing_end, dashes, ends_line, fence_len, first, first_alone, first_some, frontmatter, full_fence, infostring_len, inner_attribute, inner_doc, is_dash, is_infostring, is_newline, label_len, line_end, lone_dashes, newline, opening_len, opens, past_newline, past_opening, past_place, places, places_from, recoveries, recovery, short_fence, spaces_len, stands_alone, then_len, use_item}
 use Rattle.rustc_lexer.specs.means.Least.{one_more}
-use Rattle.rustc_lexer.specs.means.Lexeme.{first_token}
 use Rattle.rustc_lexer.proofs.RawLemmas.{place-here, place-on}
 use Rattle.rustc_lexer.specs.laws.Reach.{run_len_le}
 use Rattle.rustc_lexer.specs.means.Scan.{begins, bytes_of, next_is, past, run_len}
@@ -337,16 +338,11 @@ pub frontmatter-text : (text : List ℕ) → HasText (frontmatter text).kind (ta
 unfolding frontmatter
 frontmatter-text text = tt
 
--- what holds of the frontmatter, where one opens, and of the lexeme holds of the token
--- a frontmatter is not the end
-pub frontmatter-not_end : (text : List ℕ) → (frontmatter text).kind ≡ Eof → ⊥
-unfolding frontmatter
-frontmatter-not_end text e = cc
-
-pub token_at-either : (P : Token → Type 0) (allowed : FrontmatterAllowed) (text : List ℕ) → P (first_token text) → (opens (chars text) ≡ true → P (frontmatter text)) → P (token_at allowed text)
-token_at-either P No text lexeme opened = lexeme
-token_at-either P Yes text lexeme opened = by_opening (opens (chars text)) refl
+-- what holds of the frontmatter, where one opens, and of the token of each edition holds of the token
+pub token_at-either : (P : Token → Type 0) (mode : Mode) (text : List ℕ) → ((edition : Edition) → P (first_token_in edition text)) → (opens (chars text) ≡ true → P (frontmatter text)) → P (token_at mode text)
+token_at-either P (part edition) text lexeme opened = lexeme edition
+token_at-either P document text lexeme opened = by_opening (opens (chars text)) refl
   where
-    by_opening : (b : Bool) → opens (chars text) ≡ b → P (token_at Yes text)
+    by_opening : (b : Bool) → opens (chars text) ≡ b → P (token_at document text)
     by_opening true e = rw e (opened e)
-    by_opening false e = rw e lexeme
+    by_opening false e = rw e (lexeme E2024)

@@ -2,13 +2,13 @@
 use Rattle.std.proofs.Common.{◌≡◌, ℕ, suc, ◌+◌, ◌-◌, ◌≤◌, ◌==◌, ◌&&◌, min, Bool, true, false, if◌then◌else◌, List, [], ◌∷◌, length, drop, drop-drop, refl, sym, ap, ◌∙◌, arith, subst, Option, Some, None}
 use Rattle.std.specs.Str.{chars, IsUtf8, IsCharBoundary}
 use Rattle.std.proofs.lemmas.Str.{IsCharBoundary-from_drop}
-use Rattle.rustc_lexer.specs.declared.token.FrontmatterAllowed.{FrontmatterAllowed}
 use Rattle.rustc_lexer.specs.declared.token.GuardedStr.{GuardedStr}
 use Rattle.rustc_lexer.specs.means.Guarded.{closing_len, guarded_body, string_past, guarded_by, guarded}
 use Rattle.rustc_lexer.specs.means.Literal.{suffix_len}
 use Rattle.rustc_lexer.specs.means.Quoted.{double_quoted_string}
 use Rattle.rustc_lexer.specs.means.Raw.{hash_run, is_quote}
 use Rattle.rustc_lexer.specs.means.Scan.{begins, bytes_of, next_is, past, scanned}
+use Rattle.rustc_lexer.specs.LanguageText.{Mode}
 use Rattle.rustc_lexer.specs.State.{State}
 use Rattle.rustc_lexer.proofs.PastLemmas.{past-past, past-drop, chars-past, IsUtf8-past, length-past}
 use Rattle.rustc_lexer.proofs.RawLemmas.{hash_bytes}
@@ -119,7 +119,7 @@ module _ (rest front : List ℕ) (n : ℕ) (is : IsUtf8 rest) (count : n ≡ has
         ∙ sym (ap chosen (quote_next ∙ e)))
 
 -- a cursor at `index` of a text, whose next token begins at `start`, with n hashes next
-module _ (text : List ℕ) (index start : ℕ) (allowed : FrontmatterAllowed) (s : State) (rest : List ℕ) (view : state (index - start) (drop index text) allowed ≡ s) (place : rest ≡ s.rest) (before : start ≤ index)
+module _ (text : List ℕ) (index start : ℕ) (mode : Mode) (s : State) (rest : List ℕ) (view : state (index - start) (drop index text) mode ≡ s) (place : rest ≡ s.rest) (before : start ≤ index)
     (n : ℕ) (count : n ≡ hash_run (chars rest)) where
   here : rest ≡ drop index text
   here = place ∙ sym (ap (λ (x : State). x.rest) view)
@@ -128,29 +128,29 @@ module _ (text : List ℕ) (index start : ℕ) (allowed : FrontmatterAllowed) (s
   further_on k = ap (drop k) here ∙ drop-drop k index text
 
   abbrev here_is : State
-  here_is = state (index - start) rest allowed
+  here_is = state (index - start) rest mode
 
   guarded-is : (o : Option (Bool × ℕ)) → o ≡ string_past n (chars rest) → guarded s ≡ guarded_by n o here_is
   unfolding guarded
   guarded-is o read =
-      ap guarded (sym view ∙ ap (λ (xs : List ℕ). state (index - start) xs allowed) (sym here))
+      ap guarded (sym view ∙ ap (λ (xs : List ℕ). state (index - start) xs mode) (sym here))
       ∙ (ap (λ (k : ℕ). guarded_by k (string_past k (chars rest)) here_is) (sym count) ∙ ap (λ (x : Option (Bool × ℕ)). guarded_by n x here_is) (sym read))
 
-  pub none_here : None ≡ string_past n (chars rest) → guarded s ≡ (None, state (index + n - start) (drop (index + n) text) allowed)
+  pub none_here : None ≡ string_past n (chars rest) → guarded s ≡ (None, state (index + n - start) (drop (index + n) text) mode)
   none_here read =
       let pending : (index - start) + n ≡ index + n - start = omega arith in
       guarded-is None read
-      ∙ (ap (λ (m : ℕ). let r : Option GuardedStr × State = (None, state m (drop n rest) allowed) in r) pending
-      ∙ ap (λ (xs : List ℕ). let r : Option GuardedStr × State = (None, state (index + n - start) xs allowed) in r) (further_on n))
+      ∙ (ap (λ (m : ℕ). let r : Option GuardedStr × State = (None, state m (drop n rest) mode) in r) pending
+      ∙ ap (λ (xs : List ℕ). let r : Option GuardedStr × State = (None, state (index + n - start) xs mode) in r) (further_on n))
 
   pub some_here : (closed : Bool) (t : ℕ) → Some (closed, t) ≡ string_past n (chars rest) → guarded s ≡ (
     Some record { n_hashes = n; terminated = closed; token_len = index + t - start },
-    state (index + t - (index + t)) (drop (index + t) text) allowed,
+    state (index + t - (index + t)) (drop (index + t) text) mode,
   )
   some_here closed t read =
       let len : (index - start) + t ≡ index + t - start = omega arith in
       let none_left : 0 ≡ index + t - (index + t) = omega arith in
       guarded-is (Some (closed, t)) read
-      ∙ (ap (λ (k : ℕ). let r : Option GuardedStr × State = (Some record { n_hashes = n; terminated = closed; token_len = k }, state 0 (drop t rest) allowed) in r) len
-      ∙ (ap (λ (k : ℕ). let r : Option GuardedStr × State = (Some record { n_hashes = n; terminated = closed; token_len = index + t - start }, state k (drop t rest) allowed) in r) none_left
-      ∙ ap (λ (xs : List ℕ). let r : Option GuardedStr × State = (Some record { n_hashes = n; terminated = closed; token_len = index + t - start }, state (index + t - (index + t)) xs allowed) in r) (further_on t)))
+      ∙ (ap (λ (k : ℕ). let r : Option GuardedStr × State = (Some record { n_hashes = n; terminated = closed; token_len = k }, state 0 (drop t rest) mode) in r) len
+      ∙ (ap (λ (k : ℕ). let r : Option GuardedStr × State = (Some record { n_hashes = n; terminated = closed; token_len = index + t - start }, state k (drop t rest) mode) in r) none_left
+      ∙ ap (λ (xs : List ℕ). let r : Option GuardedStr × State = (Some record { n_hashes = n; terminated = closed; token_len = index + t - start }, state (index + t - (index + t)) xs mode) in r) (further_on t)))

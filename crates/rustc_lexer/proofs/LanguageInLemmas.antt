@@ -1,35 +1,31 @@
--- The tokens of a text in an edition are those that its language allows, and no other list of tokens is.
-use Rattle.std.proofs.Common.{◌≡◌, ℕ, zero, suc, ◌+◌, ◌<◌, ◌≤◌, ◌==◌, ◌||◌, nat_le, Bool, true, false, true≢false, List, [], ◌∷◌, ◌++◌, length, take, drop, codes, refl, sym, ap, ◌∙◌, subst, arith, rules, take-append-drop, Result, Ok, Err, IfOk}
+-- The token at the front of a text in an edition is the one that its language has there.
+use Rattle.std.proofs.Common.{◌≡◌, ℕ, ◌+◌, ◌<◌, ◌≤◌, ◌==◌, ◌||◌, nat_le, Bool, true, false, true≢false, List, [], ◌∷◌, ◌++◌, length, take, drop, codes, refl, sym, ap, ◌∙◌, subst, arith, rules, take-append-drop}
 use lib.Utf8.{encode}
 use Rattle.std.proofs.Math.Seq.{take-append_seam}
 use Rattle.std.proofs.lemmas.Bool.{and_parts, leb-true, leb-false}
-use Rattle.std.proofs.lemmas.Str.{chars-nil}
 use Rattle.std.specs.List.{list_all}
-use Rattle.std.specs.Str.{chars, encode_utf8_all}
+use Rattle.std.specs.Str.{chars}
 use Rattle.rustc_lexer.specs.declared.edition.Edition.{Edition}
 use Rattle.rustc_lexer.specs.declared.edition.Edition.TheVariants.{E2015, E2018, E2021, E2024}
 use Rattle.rustc_lexer.specs.declared.token.Token.{Token}
 use Rattle.rustc_lexer.specs.declared.token.TokenKind.{TokenKind}
 use Rattle.rustc_lexer.specs.declared.token.TokenKind.TheVariants.{Ident, UnknownPrefix, UnknownPrefixLifetime, RawLifetime, Lifetime, GuardedStrPrefix, Pound}
 use Rattle.rustc_lexer.specs.Classes.{is_among, is_id_start, is_id_continue, is_ident}
-use Rattle.rustc_lexer.specs.Cuts.{tokens_by}
-use Rattle.rustc_lexer.specs.Edition.{year, token, has_marked_name, before_2021, changed, first_token_in, tokens_in}
+use Rattle.rustc_lexer.specs.Edition.{year, token, has_marked_name, before_2021, changed, first_token_in}
 use Rattle.rustc_lexer.specs.Language as the
 use Rattle.rustc_lexer.specs.Spans.{is_word_continue, is_word_start, begins_ident_after}
 use Rattle.rustc_lexer.specs.Language.{is_bad_name, IsTokenBefore}
-use Rattle.rustc_lexer.specs.LanguageIn.{kept_since, IsTokenIn, kept, pound, ident, lifetime, lifetime_r, AreTokensIn, nothing, something}
-use Rattle.rustc_lexer.specs.LanguageHolds.{AreTheOnlyTokensIn, NewestIsPage, HoldsTheOnlyTokensIn, HoldsTheOnlyTokensBy, IsDetermined}
+use Rattle.rustc_lexer.specs.LanguageIn.{kept_since, IsTokenIn, kept, pound, ident, lifetime, lifetime_r}
+use Rattle.rustc_lexer.specs.LanguageHolds.{NewestIsPage}
 use Rattle.rustc_lexer.specs.means.Lexeme.{past_first, lexeme, first_token, symbols, kind_among, symbol_kind}
 use Rattle.rustc_lexer.specs.means.Scan.{bytes_of, next_is, run_len}
 use Rattle.rustc_lexer.specs.Spans.{AreAll, NextIs, NextIsNot, bytes}
-use Rattle.rustc_lexer.specs.Texts.{IsText, IsGrammar}
+use Rattle.rustc_lexer.specs.Texts.{IsText}
 use Rattle.rustc_lexer.specs.laws.Choice.{by_test}
-use Rattle.rustc_lexer.specs.laws.Edition.{edition_grammar}
 use Rattle.rustc_lexer.specs.laws.Language.{lexeme-sound}
 use Rattle.rustc_lexer.specs.laws.LanguageRuns.{mark-stops, run_len-here}
 use Rattle.rustc_lexer.specs.laws.LanguageWords.{marked-sound}
-use Rattle.rustc_lexer.proofs.CutLemmas.{past_first as text_past, shorter, tokens-nil, tokens-cons}
-use Rattle.rustc_lexer.proofs.LanguageLemmas.{empty-text, split, first-is, language}
+use Rattle.rustc_lexer.proofs.LanguageLemmas.{empty-text, first-is}
 
 -- ---- what an edition keeps
 
@@ -146,7 +142,7 @@ raw-first next text e goes =
     let n : ℕ = 2 + run_len is_id_continue (drop 2 next) in
     ap (λ (t : Token). t.kind) (first-is (marked-sound IsRawBefore (λ w rest is stop. the.raw_lifetime is stop) next goes) text (e ∙ ap (λ (u : List ℕ). 39 ∷ 114 ∷ u) (sym (take-append-drop n next))))
 
-token-read-in : {edition : Edition} {next : List ℕ} {kind : TokenKind} {c : ℕ} {w : List ℕ} → IsTokenIn edition next kind (c ∷ w) → (text : List ℕ) → chars text ≡ c ∷ w ++ next → first_token_in edition text ≡ token kind (bytes (c ∷ w))
+pub token-read-in : {edition : Edition} {next : List ℕ} {kind : TokenKind} {c : ℕ} {w : List ℕ} → IsTokenIn edition next kind (c ∷ w) → (text : List ℕ) → chars text ≡ c ∷ w ++ next → first_token_in edition text ≡ token kind (bytes (c ∷ w))
 token-read-in {edition} {next} {kind} {c} {w} (kept le p) text e = ap (changed edition (chars text)) (first-is p text e) ∙ keeps edition (chars text) kind (bytes (c ∷ w)) le
 token-read-in {edition} {next} (pound lt) text e = by_next next e ∙ ap (token Pound) (sym hash-one)
   where
@@ -170,14 +166,14 @@ token-read-in {edition} {next} (lifetime_r lt goes) text e =
 -- ---- what is read in an edition is a token of it
 
 -- a token, and the front of these characters that it is
-record Front (edition : Edition) (cs : List ℕ) (t : Token) : Type 0 where
-  kind : TokenKind
-  c : ℕ
-  w : List ℕ
-  next : List ℕ
-  whole : c ∷ w ++ next ≡ cs
-  same : t ≡ token kind (bytes (c ∷ w))
-  is : IsTokenIn edition next kind (c ∷ w)
+pub record Front (edition : Edition) (cs : List ℕ) (t : Token) : Type 0 where
+  pub kind : TokenKind
+  pub c : ℕ
+  pub w : List ℕ
+  pub next : List ℕ
+  pub whole : c ∷ w ++ next ≡ cs
+  pub same : t ≡ token kind (bytes (c ∷ w))
+  pub is : IsTokenIn edition next kind (c ∷ w)
 
 abbrev Fronts : Edition → List ℕ → TokenKind → ℕ → List ℕ → Type 0
 Fronts edition next kind c w = Front edition (c ∷ w ++ next) (changed edition (c ∷ w ++ next) (token kind (bytes (c ∷ w))))
@@ -236,7 +232,7 @@ fronts {next} {kind} {c} {w} edition prefix p = by_year 2021 (year edition) (λ 
   is = ident lt p;
 })
 
-first-front : (edition : Edition) (text cs : List ℕ) → IsText text → 0 < length text → chars text ≡ cs → Front edition (chars text) (first_token_in edition text)
+pub first-front : (edition : Edition) (text cs : List ℕ) → IsText text → 0 < length text → chars text ≡ cs → Front edition (chars text) (first_token_in edition text)
 unfolding first_token
 first-front edition text [] is some e = absurd (omega (arith, ap length (empty-text text is e)))
 first-front edition text (c ∷ s) is some e =
@@ -247,74 +243,24 @@ first-front edition text (c ∷ s) is some e =
     subst (λ (u : List ℕ). Front edition (c ∷ u) (changed edition (c ∷ u) (token (past_first c s).0 (bytes (c ∷ take m s))))) (take-append-drop m s) there in
     subst (λ (cs : List ℕ). Front edition cs (changed edition cs (token (lexeme cs).0 (bytes_of (lexeme cs).1 cs)))) (sym e) here
 
--- ---- texts
+-- ---- the newest edition has the page
 
--- what is left past the first token
-left-is : (edition : Edition) (text w next : List ℕ) (kind : TokenKind) → IsText text → chars text ≡ w ++ next → first_token_in edition text ≡ token kind (bytes w) → drop (first_token_in edition text).len text ≡ encode_utf8_all next
-left-is edition text w next kind is e f = ap (λ (t : Token). drop t.len text) f ∙ (split text w next is e).left
+pub on_page : {edition : Edition} {next : List ℕ} {kind : TokenKind} {w : List ℕ} → edition ≡ E2024 → IsTokenIn edition next kind w → IsTokenBefore next kind w
+on_page newest (kept le p) = p
+on_page newest (pound lt) = absurd (omega (arith, ap year newest, lt))
+on_page newest (ident lt p) = absurd (omega (arith, ap year newest, lt))
+on_page newest (lifetime lt p) = absurd (omega (arith, ap year newest, lt))
+on_page newest (lifetime_r lt goes) = absurd (omega (arith, ap year newest, lt))
 
-tokens-read-in : {edition : Edition} {cs : List ℕ} {tokens : List Token} → AreTokensIn edition cs tokens → (text : List ℕ) → IsText text → chars text ≡ cs → tokens_in edition text ≡ tokens
-tokens-read-in {edition} nothing text is e = ap (tokens_in edition) (empty-text text is e) ∙ tokens-nil (first_token_in edition)
-tokens-read-in {edition} (something {kind} {c} {w} {next} {tokens} p rest) text is e =
-    let law : IsGrammar (first_token_in edition) = edition_grammar edition in
-    let parts = split text (c ∷ w) next is e in
-    let some : 0 < length text = parts.some (omega arith) in
-    let same : first_token_in edition text ≡ token kind (bytes (c ∷ w)) = token-read-in p text e in
-    let left : drop (first_token_in edition text).len text ≡ encode_utf8_all next = left-is edition text (c ∷ w) next kind is e same in
-    tokens-cons law text is some
-    ∙ (ap (λ (t : Token). t ∷ tokens_in edition (drop (first_token_in edition text).len text)) same
-    ∙ ap (λ (ts : List Token). token kind (bytes (c ∷ w)) ∷ ts) (ap (tokens_in edition) left ∙ tokens-read-in rest (encode_utf8_all next) (subst IsText left (text_past law text is some)) parts.again))
+kept_now : (kind : TokenKind) → kept_since kind ≤ 2024
+kept_now GuardedStrPrefix = omega arith
+kept_now RawLifetime = omega arith
+kept_now UnknownPrefix = omega arith
+kept_now UnknownPrefixLifetime = omega arith
+kept_now kind = omega arith
 
-tokens-are-in : (edition : Edition) (n : ℕ) (text : List ℕ) → IsText text → length text ≤ n → AreTokensIn edition (chars text) (tokens_in edition text)
-tokens-are-in edition n [] is le = rw (tokens-nil (first_token_in edition)) (subst (λ (cs : List ℕ). AreTokensIn edition cs []) (sym chars-nil) nothing)
-tokens-are-in edition zero (b ∷ bs) is le = absurd (omega (arith, le))
-tokens-are-in edition (suc n) (b ∷ bs) is le =
-    let text : List ℕ = b ∷ bs in
-    let law : IsGrammar (first_token_in edition) = edition_grammar edition in
-    let some : 0 < length text = omega arith in
-    let f = first-front edition text (chars text) is some refl in
-    let parts = split text (f.c ∷ f.w) f.next is (sym f.whole) in
-    let left : drop (first_token_in edition text).len text ≡ encode_utf8_all f.next = left-is edition text (f.c ∷ f.w) f.next f.kind is (sym f.whole) f.same in
-    let less = shorter law text is some in
-    let rest : AreTokensIn edition (chars (drop (first_token_in edition text).len text)) (tokens_in edition (drop (first_token_in edition text).len text)) = tokens-are-in edition n (drop (first_token_in edition text).len text) (text_past law text is some) (omega (arith, le)) in
-    let rest_are : AreTokensIn edition f.next (tokens_in edition (drop (first_token_in edition text).len text)) = subst (λ (cs : List ℕ). AreTokensIn edition cs (tokens_in edition (drop (first_token_in edition text).len text))) (ap chars left ∙ parts.again) rest in
-    rw (tokens-cons law text is some) (subst (λ (cs : List ℕ). AreTokensIn edition cs (first_token_in edition text ∷ tokens_in edition (drop (first_token_in edition text).len text))) f.whole
-    (subst (λ (t : Token). AreTokensIn edition (f.c ∷ f.w ++ f.next) (t ∷ tokens_in edition (drop (first_token_in edition text).len text))) (sym f.same) (something f.is rest_are)))
+pub of_page : {edition : Edition} {next : List ℕ} {kind : TokenKind} {w : List ℕ} → edition ≡ E2024 → IsTokenBefore next kind w → IsTokenIn edition next kind w
+of_page {edition} {next} {kind} newest p = kept (subst (λ (x : Edition). kept_since kind ≤ year x) (sym newest) (kept_now kind)) p
 
--- these and no others
-pub language-in : (edition : Edition) (text : List ℕ) → IsText text → AreTheOnlyTokensIn edition text
-language-in edition text is tokens = (λ are. sym (tokens-read-in are text is refl), λ e. subst (AreTokensIn edition (chars text)) (sym e) (tokens-are-in edition (length text) text is (omega arith)))
-
--- the newest edition has the page
-on-page : {edition : Edition} {next : List ℕ} {kind : TokenKind} {w : List ℕ} → year edition ≡ 2024 → IsTokenIn edition next kind w → IsTokenBefore next kind w
-on-page e (kept le p) = p
-on-page e (pound lt) = absurd (omega (arith, e, lt))
-on-page e (ident lt p) = absurd (omega (arith, e, lt))
-on-page e (lifetime lt p) = absurd (omega (arith, e, lt))
-on-page e (lifetime_r lt goes) = absurd (omega (arith, e, lt))
-
-newest : (kind : TokenKind) → kept_since kind ≤ 2024
-newest GuardedStrPrefix = omega arith
-newest RawLifetime = omega arith
-newest UnknownPrefix = omega arith
-newest UnknownPrefixLifetime = omega arith
-newest kind = omega arith
-
-pub page-in : (edition : Edition) → NewestIsPage edition
-page-in edition e next w kind = (on-page (ap year e), λ p. kept (subst (λ (x : Edition). kept_since kind ≤ year x) (sym e) (newest kind)) p)
-
--- tokens that are held
-pub held-in : (edition : Edition) (text : List ℕ) → IsText text → (held : List Token) → held ≡ tokens_in edition text → HoldsTheOnlyTokensIn edition text held
-held-in edition text is held e tokens = let only = language-in edition text is tokens in (λ are. only.0 are ∙ sym e, λ f. only.1 (f ∙ e))
-
-pub held-by : (grammar : List ℕ → Token) (text : List ℕ) → IsText text → (held : List Token) → held ≡ tokens_by grammar text → HoldsTheOnlyTokensBy grammar text held
-held-by grammar text is held e edition f = held-in edition text is held (e ∙ ap (λ (first : List ℕ → Token). tokens_by first text) f)
-
--- every text has one list
-pub determined : IsDetermined
-determined = record { tokens = λ text allowed is. language text allowed is; tokens_in = λ text edition is. language-in edition text is }
-
--- where two facts of what is answered give a third
-pub IfOk-two : {X Y : Type 0} (r : Result X Y) (P Q R : X → Type 0) → ((x : X) → P x → Q x → R x) → IfOk r P → IfOk r Q → IfOk r R
-IfOk-two (Ok x) P Q R f p q = f x p q
-IfOk-two (Err e) P Q R f p q = p
+pub page : NewestIsPage
+page next w kind = (on_page refl, of_page refl)

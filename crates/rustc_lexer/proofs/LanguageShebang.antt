@@ -24,7 +24,6 @@ use Rattle.rustc_lexer.specs.means.Shebang.{is_passed, is_open_bracket, is_attri
 use Rattle.rustc_lexer.specs.Spans.{AreAll, is_inline}
 use Rattle.rustc_lexer.specs.Texts.{IsText}
 use Rattle.rustc_lexer.specs.laws.Choice.{by_test}
-use Rattle.rustc_lexer.specs.laws.Cuts.{tokens-by}
 use Rattle.rustc_lexer.specs.laws.Language.{lexeme-sound}
 use Rattle.rustc_lexer.specs.laws.Lookahead.{first_token_grammar}
 use Rattle.rustc_lexer.proofs.CutLemmas.{past_first as text_past, shorter, tokens-nil, tokens-cons}
@@ -234,7 +233,7 @@ tail-text text rest is e = record {
 
 past-mark : (text rest : List ℕ) → text ≡ 35 ∷ 33 ∷ rest → shebang text ≡ (if is_attribute (ts rest) then None else Some (2 + line_len rest))
 unfolding shebang
-past-mark text rest e = ap shebang e ∙ ap (λ (tokens : List Token). let r : Option ℕ = if is_attribute tokens then None else Some (2 + line_len rest) in r) (tokens-by rest)
+past-mark text rest e = ap shebang e
 
 no-mark : (text : List ℕ) → begins (codes "#!") text ≡ false → shebang text ≡ None
 unfolding shebang

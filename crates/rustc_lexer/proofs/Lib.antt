@@ -26,6 +26,7 @@ pub mod LanguageInLemmas
 pub mod LanguageLemmas
 pub mod LanguageRefusals
 pub mod LanguageShebang
+pub mod LanguageTextLemmas
 pub mod LengthLemmas
 pub mod LexemeLemmas
 pub mod LifetimeLemmas

@@ -84,13 +84,3 @@ module _ {first : List ℕ → Token} (law : IsGrammar first) (text : List ℕ) 
 
 pub local : {first : List ℕ → Token} (law : IsGrammar first) → AreLocal (tokens_by first)
 local law text other k is its few agree = tokens_local law k text other is its few agree
-
--- what holds of the tokens by a grammar holds of what is the same on each text
-module _ (tokens others : List ℕ → List Token) (same : (text : List ℕ) → tokens text ≡ others text) where
-  pub same-local : AreLocal others → AreLocal tokens
-  same-local local text other k is its few agree =
-      ap (take k) (same other) ∙ (local text other k is its (rw (same text) at few) (rw (same text) at agree) ∙ sym (ap (take k) (same text)))
-
-  pub same-stays : (place : ℕ) (text : List ℕ) → StaysUpTo place text others → StaysUpTo place text tokens
-  same-stays place text stays more k its few le =
-      ap (take k) (same (text ++ more)) ∙ (stays more k its (rw (same text) at few) (rw (same text) at le) ∙ sym (ap (take k) (same text)))

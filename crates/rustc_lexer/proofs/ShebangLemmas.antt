@@ -3,10 +3,11 @@ use Rattle.std.proofs.Common.{◌≡◌, ◌≢◌, ℕ, suc, ◌+◌, ◌-◌, 
 use Rattle.std.proofs.Math.Seq.{drop-cons}
 use Rattle.std.proofs.lemmas.Bool.{and_parts, cases_lt, eqb-true, eq-eqb, ne_eqb}
 use Rattle.std.proofs.lemmas.List.Sums.{prefix_len-le-length, prefix_len_passes, prefix_len_stops}
-use Rattle.rustc_lexer.specs.declared.token.FrontmatterAllowed.TheVariants.{No}
+use Rattle.rustc_lexer.specs.declared.edition.Edition.TheVariants.{E2024}
 use Rattle.rustc_lexer.specs.means.Comment.{is_no_newline}
 use Rattle.rustc_lexer.specs.means.Scan.{begins}
 use Rattle.rustc_lexer.specs.means.Shebang.{is_attribute, before_newline, line_len, shebang_past, shebang}
+use Rattle.rustc_lexer.specs.LanguageText.{part}
 use Rattle.rustc_lexer.specs.Tokens.{tokens_of}
 
 -- what begins with `#!`
@@ -32,10 +33,10 @@ module _ (s tail : List ℕ) (n : ℕ) (two : n ≡ 2) (front : s ≡ 35 ∷ 33 
       ap (λ (b : Bool). if b then shebang_past (drop 2 s) else None) (ap (begins (codes "#!")) front)
       ∙ ap shebang_past (sym (cut ∙ ap (λ (k : ℕ). drop k s) two))
 
-  pub attribute_here : is_attribute (tokens_of No tail) ≡ true → None ≡ shebang s
+  pub attribute_here : is_attribute (tokens_of (part E2024) tail) ≡ true → None ≡ shebang s
   attribute_here e = sym (past_front ∙ ap (λ (b : Bool). let r : Option ℕ = if b then None else Some (2 + line_len tail) in r) e)
 
-  pub line_here : (len : ℕ) → is_attribute (tokens_of No tail) ≡ false → len ≡ line_len tail → Some (2 + len) ≡ shebang s
+  pub line_here : (len : ℕ) → is_attribute (tokens_of (part E2024) tail) ≡ false → len ≡ line_len tail → Some (2 + len) ≡ shebang s
   line_here len e f = ap (λ (k : ℕ). Some (2 + k)) f ∙ sym (past_front ∙ ap (λ (b : Bool). let r : Option ℕ = if b then None else Some (2 + line_len tail) in r) e)
 
 -- the first line of a text

@@ -1,38 +1,38 @@
 -- The state after a token.
 use Rattle.std.proofs.Common.{◌≡◌, ℕ, ◌==◌, true, false, true≢false, List, [], ◌∷◌, length, drop, refl, sym, ap, ◌∙◌, arith, zero-add, ◌+◌, ◌<◌}
 use Rattle.std.proofs.lemmas.Bool.{eqb-true, ne_eqb}
-use Rattle.rustc_lexer.specs.declared.token.FrontmatterAllowed.{FrontmatterAllowed}
 use Rattle.rustc_lexer.specs.declared.token.Token.{Token}
 use Rattle.rustc_lexer.specs.declared.token.TokenKind.{TokenKind}
 use Rattle.rustc_lexer.specs.declared.token.TokenKind.TheVariants.{Eof, Literal}
-use Rattle.rustc_lexer.specs.State.{State, kind_past, token_past, allowed_after}
+use Rattle.rustc_lexer.specs.LanguageText.{Mode, mode_after}
+use Rattle.rustc_lexer.specs.State.{State, kind_past, token_past}
 use Rattle.rustc_lexer.specs.means.Taking.{token_at, advance_by, advance}
 
-abbrev pub state : ℕ → List ℕ → FrontmatterAllowed → State
-state pending rest allowed = record { pending = pending; rest = rest; frontmatter_allowed = allowed }
+abbrev pub state : ℕ → List ℕ → Mode → State
+state pending rest mode = record { pending = pending; rest = rest; mode = mode }
 
-abbrev pub past_token : List ℕ → FrontmatterAllowed → Token → State
-past_token rest allowed token = state 0 (drop token.len rest) (allowed_after allowed token.kind)
+abbrev pub past_token : List ℕ → Mode → Token → State
+past_token rest mode token = state 0 (drop token.len rest) (mode_after mode token.kind)
 
-pub past_token-is : (rest cut : List ℕ) (allowed next : FrontmatterAllowed) (token : Token) → cut ≡ drop token.len rest → next ≡ allowed_after allowed token.kind → state 0 cut next ≡ past_token rest allowed token
-past_token-is rest cut allowed next token e f = ap (λ xs. state 0 xs next) e ∙ ap (λ (a : FrontmatterAllowed). state 0 (drop token.len rest) a) f
+pub past_token-is : (rest cut : List ℕ) (mode next : Mode) (token : Token) → cut ≡ drop token.len rest → next ≡ mode_after mode token.kind → state 0 cut next ≡ past_token rest mode token
+past_token-is rest cut mode next token e f = ap (λ xs. state 0 xs next) e ∙ ap (λ (m : Mode). state 0 (drop token.len rest) m) f
 
-module _ (pending : ℕ) (rest : List ℕ) (allowed : FrontmatterAllowed) (s : State) (e : state pending rest allowed ≡ s) where
+module _ (pending : ℕ) (rest : List ℕ) (mode : Mode) (s : State) (e : state pending rest mode ≡ s) where
   pub advance-end : (length rest == 0) ≡ true → advance s ≡ (record { kind = Eof; len = 0 }, s)
   unfolding advance
   advance-end none = sym (ap (λ (x : State). advance_by x.rest x) e) ∙ (at_end rest refl none ∙ ap (λ (x : State). let t : Token = record { kind = Eof; len = 0 } in (t, x)) e)
     where
-      at_end : (r : List ℕ) → rest ≡ r → (length r == 0) ≡ true → advance_by rest (state pending rest allowed) ≡ (record { kind = Eof; len = 0 }, state pending rest allowed)
-      at_end [] f none = ap (λ r. advance_by r (state pending rest allowed)) f
+      at_end : (r : List ℕ) → rest ≡ r → (length r == 0) ≡ true → advance_by rest (state pending rest mode) ≡ (record { kind = Eof; len = 0 }, state pending rest mode)
+      at_end [] f none = ap (λ r. advance_by r (state pending rest mode)) f
       at_end (b ∷ bs) f none = absurd (let z = eqb-true (length (b ∷ bs)) 0 none in omega arith)
 
-  pub advance-some : (length rest == 0) ≡ false → advance s ≡ (token_past pending (token_at allowed rest), past_token rest allowed (token_at allowed rest))
+  pub advance-some : (length rest == 0) ≡ false → advance s ≡ (token_past pending (token_at mode rest), past_token rest mode (token_at mode rest))
   unfolding advance
   advance-some some = sym (ap (λ (x : State). advance_by x.rest x) e) ∙ at_char rest refl some
     where
-      at_char : (r : List ℕ) → rest ≡ r → (length r == 0) ≡ false → advance_by rest (state pending rest allowed) ≡ (token_past pending (token_at allowed rest), past_token rest allowed (token_at allowed rest))
+      at_char : (r : List ℕ) → rest ≡ r → (length r == 0) ≡ false → advance_by rest (state pending rest mode) ≡ (token_past pending (token_at mode rest), past_token rest mode (token_at mode rest))
       at_char [] f some = absurd (true≢false some)
-      at_char (b ∷ bs) f some = ap (λ r. advance_by r (state pending rest allowed)) f
+      at_char (b ∷ bs) f some = ap (λ r. advance_by r (state pending rest mode)) f
 
 -- with nothing pending the token is the first one of the text
 kind_past-zero : (kind : TokenKind) → kind_past 0 kind ≡ kind
@@ -44,5 +44,5 @@ token_past-zero token =
     ap (λ (k : TokenKind). let t : Token = record { kind = k; len = 0 + token.len } in t) (kind_past-zero token.kind)
     ∙ ap (λ (n : ℕ). let t : Token = record { kind = token.kind; len = n } in t) (zero-add token.len)
 
-pub first-advanced : (text : List ℕ) (allowed : FrontmatterAllowed) (s : State) → s ≡ state 0 text allowed → 0 < length text → (advance s).0 ≡ token_at allowed text
-first-advanced text allowed s e some = ap (λ (r : Token × State). r.0) (advance-some 0 text allowed s (sym e) (ne_eqb (length text) 0 (λ none. omega arith))) ∙ token_past-zero (token_at allowed text)
+pub first-advanced : (text : List ℕ) (mode : Mode) (s : State) → s ≡ state 0 text mode → 0 < length text → (advance s).0 ≡ token_at mode text
+first-advanced text mode s e some = ap (λ (r : Token × State). r.0) (advance-some 0 text mode s (sym e) (ne_eqb (length text) 0 (λ none. omega arith))) ∙ token_past-zero (token_at mode text)

@@ -9,7 +9,6 @@ use Rattle.std.proofs.lemmas.Str.{chars-encodes, scalars-chars, length-encode}
 use Rattle.rustc_lexer.specs.declared.lexemes.raw.RawPrefix.{RawPrefix}
 use Rattle.rustc_lexer.specs.declared.lexemes.raw.RawPrefix.TheVariants.{R, Br, Cr}
 use Rattle.rustc_lexer.specs.declared.token.Base.{Base}
-use Rattle.rustc_lexer.specs.declared.token.FrontmatterAllowed.{FrontmatterAllowed}
 use Rattle.rustc_lexer.specs.declared.token.LiteralKind.{LiteralKind}
 use Rattle.rustc_lexer.specs.declared.token.LiteralKind.TheVariants.{Int, Float}
 use Rattle.rustc_lexer.specs.declared.token.Token.{Token}
@@ -19,6 +18,7 @@ use Rattle.rustc_lexer.specs.means.BlockComment.{block_comment, block_comment_to
 use Rattle.rustc_lexer.specs.Classes.{is_id_continue}
 use Rattle.rustc_lexer.specs.means.Comment.{slash, line_comment}
 use Rattle.rustc_lexer.specs.means.Ident.{is_word, is_prefix_mark, ident_or_unknown_prefix, invalid_ident, marks_ident}
+use Rattle.rustc_lexer.specs.LanguageText.{Mode}
 use Rattle.rustc_lexer.specs.laws.Choice.{by_test, EachArm, by_arm, at_char}
 use Rattle.rustc_lexer.specs.laws.Family.{EachFamily, each_family}
 use Rattle.rustc_lexer.specs.means.Lexeme.{whitespace, letter_r, letter_k, letter_b, letter_c, raw_or_ident, raw_past_or_ident, begins_raw, is_raw_mark, letters, word, symbols, kind_among, symbol_kind, symbol, past_first, lexeme, first_token}
@@ -36,12 +36,13 @@ use Rattle.rustc_lexer.specs.laws.TokenBy.{scalars-take}
 use Rattle.rustc_lexer.specs.Tokens.{tokens_of}
 use Rattle.rustc_lexer.specs.TokenText.{HasRawText, HasText, HaveTexts}
 use Rattle.rustc_lexer.proofs.CharSteps.{bytes_of-suc}
+use Rattle.rustc_lexer.proofs.EditionLemmas.{is_silent, changed-either}
 use Rattle.rustc_lexer.proofs.FrontmatterLemmas.{frontmatter-text, frontmatter-suffix, token_at-either}
 use Rattle.rustc_lexer.proofs.PastLemmas.{split_past}
 use Rattle.rustc_lexer.proofs.LiteralLemmas.{bytes-add, suffix_within, suffix-first}
-use Rattle.rustc_lexer.proofs.TokensLemmas.{by_tokens, tokens-nil, tokens-cons}
+use Rattle.rustc_lexer.proofs.TokensLemmas.{token_at-cuts, by_tokens, tokens-nil, tokens-cons}
 use Rattle.rustc_lexer.specs.means.Hash.{is_guarded_mark, hash}
-use Rattle.rustc_lexer.specs.laws.Lookahead.{first_token_grammar}
+use Rattle.rustc_lexer.specs.means.Taking.{token_at}
 
 -- of what is read past the first character `c`: the suffix begins within the token, and its text is as the kind says
 record Tells (c : ℕ) (s : List ℕ) (read : TokenKind × ℕ) : Type 0 where
@@ -52,11 +53,6 @@ abbrev TellsAll : ℕ → (List ℕ → TokenKind × ℕ) → Type 0
 TellsAll c scan = (s : List ℕ) → Tells c s (scan s)
 
 -- ---- kinds that say nothing of their text
-
-abbrev is_silent : TokenKind → Bool
-is_silent (Literal kind suffix_start) = false
-is_silent Eof = false
-is_silent kind = true
 
 silent : (c : ℕ) (s : List ℕ) (kind : TokenKind) (n : ℕ) → is_silent kind ≡ true → Tells c s (kind, n)
 silent c s (Literal kind suffix_start) n e = absurd (true≢false (sym e))
@@ -294,25 +290,46 @@ first_token-text text is = by_chars (chars text) refl
         let are : chars (take (bytes_of n (c ∷ s)) text) ≡ take n (c ∷ s) = ap chars own ∙ chars-encodes (take n (c ∷ s)) (scalars-take n (c ∷ s) (let all = scalars-chars text is.utf8 in rw e at all)) in
         (first-tells c s).text _ are
 
+-- the same of the token of each edition, and of what a document begins with
+abbrev HasOwnText : List ℕ → Token → Type 0
+HasOwnText text t = HasText t.kind (take t.len text)
+
+silent-text : (text : List ℕ) (kind : TokenKind) (len : ℕ) → is_silent kind ≡ true → HasOwnText text (record { kind = kind; len = len })
+silent-text text (Literal kind suffix_start) len e = absurd (true≢false (sym e))
+silent-text text Eof len e = absurd (true≢false (sym e))
+silent-text text kind len e = tt
+
+silent-suffix : (kind : TokenKind) (len : ℕ) → is_silent kind ≡ true → HasSuffixWithin (record { kind = kind; len = len })
+silent-suffix (Literal kind suffix_start) len e = absurd (true≢false (sym e))
+silent-suffix kind len e = omega arith
+
+pub token_at-text : (mode : Mode) (text : List ℕ) → IsText text → HasText (token_at mode text).kind (take (token_at mode text).len text)
+token_at-text mode text is = token_at-either (HasOwnText text) mode text
+    (λ edition. changed-either (HasOwnText text) (silent-text text) edition (chars text) (first_token text) (first_token-text text is))
+    (λ opened. frontmatter-text text)
+
+token_at-suffix : (mode : Mode) (text : List ℕ) → HasSuffixWithin (token_at mode text)
+token_at-suffix mode text = token_at-either HasSuffixWithin mode text
+    (λ edition. changed-either HasSuffixWithin silent-suffix edition (chars text) (first_token text) (first_token-suffix text))
+    (λ opened. frontmatter-suffix text)
+
 -- no token of a text is the end
-pub first_token-not_end : (text : List ℕ) → IsText text → 0 < length text → (first_token text).kind ≡ Eof → ⊥
-first_token-not_end text is some e =
-    let n : ℕ = (first_token text).len in
-    let none : length (take n text) ≡ 0 = subst (λ (kind : TokenKind). HasText kind (take n text)) e (first_token-text text is) in
-    let i = first_token_grammar.inside text is some in
-    let m = first_token_grammar.not_empty text is some in
-    omega (arith, length-take n text)
+pub token_at-not_end : (mode : Mode) (text : List ℕ) → IsText text → 0 < length text → (token_at mode text).kind ≡ Eof → ⊥
+token_at-not_end mode text is some e =
+    let n : ℕ = (token_at mode text).len in
+    let none : length (take n text) ≡ 0 = subst (λ (kind : TokenKind). HasText kind (take n text)) e (token_at-text mode text is) in
+    let cuts = token_at-cuts mode text is some in
+    omega (arith, length-take n text, cuts.inside, cuts.not_empty)
 
-abbrev TextsOf : List ℕ → FrontmatterAllowed → Type 0
-TextsOf text allowed = HaveTexts text (tokens_of allowed text)
+abbrev TextsOf : List ℕ → Mode → Type 0
+TextsOf text mode = HaveTexts text (tokens_of mode text)
 
-pub texts : (text : List ℕ) (allowed : FrontmatterAllowed) → IsText text → HaveTexts text (tokens_of allowed text)
-texts = by_tokens TextsOf (λ allowed. rw (tokens-nil allowed) tt) (λ text allowed is some rest. rw (tokens-cons allowed text is some)
-    (token_at-either (λ (t : Token). HasText t.kind (take t.len text)) allowed text (first_token-text text is) (λ opened. frontmatter-text text), rest))
+pub texts : (text : List ℕ) (mode : Mode) → IsText text → HaveTexts text (tokens_of mode text)
+texts = by_tokens TextsOf (λ mode. rw (tokens-nil mode) tt) (λ text mode is some rest. rw (tokens-cons mode text is some) (token_at-text mode text is, rest))
 
-abbrev SuffixesWithin : List ℕ → FrontmatterAllowed → Type 0
-SuffixesWithin text allowed = All HasSuffixWithin (tokens_of allowed text)
+abbrev SuffixesWithin : List ℕ → Mode → Type 0
+SuffixesWithin text mode = All HasSuffixWithin (tokens_of mode text)
 
-pub suffixes : (text : List ℕ) (allowed : FrontmatterAllowed) → IsText text → All HasSuffixWithin (tokens_of allowed text)
-suffixes = by_tokens SuffixesWithin (λ allowed. rw (tokens-nil allowed) (All-nil HasSuffixWithin)) (λ text allowed is some rest. rw (tokens-cons allowed text is some)
-    (All-cons HasSuffixWithin _ _ (token_at-either HasSuffixWithin allowed text (first_token-suffix text) (λ opened. frontmatter-suffix text)) rest))
+pub suffixes : (text : List ℕ) (mode : Mode) → IsText text → All HasSuffixWithin (tokens_of mode text)
+suffixes = by_tokens SuffixesWithin (λ mode. rw (tokens-nil mode) (All-nil HasSuffixWithin)) (λ text mode is some rest. rw (tokens-cons mode text is some)
+    (All-cons HasSuffixWithin _ _ (token_at-suffix mode text) rest))

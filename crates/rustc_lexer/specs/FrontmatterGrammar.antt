@@ -1,21 +1,11 @@
--- The language of a frontmatter: where one may stand, its opening, and where it ends. `w` and
+-- The language of a frontmatter: its opening, and where it ends. `w` and
 -- `next` are as in Language.antt.
 use Rattle.std.specs.Prelude.{◌≡◌, ◌+◌, ◌<◌, ◌≤◌, ◌||◌, ℕ, zero, suc, Bool, true, false}
 use Rattle.std.specs.Prelude.{List, [], ◌∷◌, ◌++◌, length, take, drop, codes, Option, Some, None}
 use Rattle.std.specs.Str.{byte}
-use Rattle.rustc_lexer.specs.declared.token.FrontmatterAllowed.{FrontmatterAllowed}
-use Rattle.rustc_lexer.specs.declared.token.FrontmatterAllowed.TheVariants.{No}
-use Rattle.rustc_lexer.specs.declared.token.TokenKind.{TokenKind}
-use Rattle.rustc_lexer.specs.declared.token.TokenKind.TheVariants.{Whitespace, Eof}
 use Rattle.rustc_lexer.specs.Classes.{is_among, is_whitespace, is_horizontal_whitespace}
 use Rattle.rustc_lexer.specs.Classes.{is_id_start, is_id_continue}
 use Rattle.rustc_lexer.specs.Spans.{Chars, Utf8, begins, AreAll, NextIsNot, NextNotIn, is_inline}
-
--- white space and the end of the text leave a frontmatter allowed; every other token forbids it
-abbrev pub allowed_after : FrontmatterAllowed → TokenKind → FrontmatterAllowed
-allowed_after allowed Whitespace = allowed
-allowed_after allowed Eof = allowed
-allowed_after allowed kind = No
 
 -- ---- its opening, in characters
 

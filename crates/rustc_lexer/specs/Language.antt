@@ -22,7 +22,7 @@
 --                                                        SUFFIX
 --   numbers      NumberGrammar                           INTEGER_LITERAL, FLOAT_LITERAL
 --   symbols      slash, pound, symbol; Symbols           PUNCTUATION
---   whole texts  AreTokens; FrontmatterGrammar           RFC 3503
+--   whole texts  LanguageText; FrontmatterGrammar        RFC 3503
 --
 -- Beyond the Reference: what is unclosed, empty or has an emoji is a token too, for a compiler's
 -- messages. What is proved of this page, and what is not, stands in LanguageHolds.antt.
@@ -30,15 +30,13 @@ use Rattle.std.specs.Prelude.{◌≡◌, ◌+◌, ℕ, ◌||◌, not, Bool, true
 use Rattle.std.specs.Prelude.{List, [], ◌∷◌, ◌++◌, take, drop, codes, Option, Some, None}
 use Rattle.std.specs.Char.{is_ascii_digit}
 use Rattle.std.specs.List.{list_all, list_any}
-use Rattle.std.specs.Str.{byte, chars, encode_utf8_all}
+use Rattle.std.specs.Str.{byte, chars}
 use Rattle.rustc_lexer.specs.declared.token.DocStyle.{DocStyle}
 use Rattle.rustc_lexer.specs.declared.token.DocStyle.TheVariants.{Outer, Inner}
-use Rattle.rustc_lexer.specs.declared.token.FrontmatterAllowed.{FrontmatterAllowed}
-use Rattle.rustc_lexer.specs.declared.token.FrontmatterAllowed.TheVariants.{Yes, No}
 use Rattle.rustc_lexer.specs.declared.token.LiteralKind.{LiteralKind}
 use Rattle.rustc_lexer.specs.declared.token.Token.{Token}
 use Rattle.rustc_lexer.specs.declared.token.TokenKind.{TokenKind}
-use Rattle.rustc_lexer.specs.declared.token.TokenKind.TheVariants.{Whitespace, Frontmatter, Eof}
+use Rattle.rustc_lexer.specs.declared.token.TokenKind.TheVariants.{Whitespace, Eof}
 use Rattle.rustc_lexer.specs.declared.token.TokenKind.TheVariants.{LineComment, BlockComment, Ident}
 use Rattle.rustc_lexer.specs.declared.token.TokenKind.TheVariants.{InvalidIdent, RawIdent}
 use Rattle.rustc_lexer.specs.declared.token.TokenKind.TheVariants.{ForcedKeywordIdent, Lifetime}
@@ -47,9 +45,8 @@ use Rattle.rustc_lexer.specs.declared.token.TokenKind.TheVariants.{UnknownPrefix
 use Rattle.rustc_lexer.specs.declared.token.TokenKind.TheVariants.{GuardedStrPrefix, Slash, Pound}
 use Rattle.rustc_lexer.specs.Classes.{is_among, is_whitespace, is_id_continue, is_ident}
 use Rattle.rustc_lexer.specs.Emoji.{is_emoji}
-use Rattle.rustc_lexer.specs.FrontmatterGrammar.{IsOpeningBefore, OpensNone, EndsAt, allowed_after}
 use Rattle.rustc_lexer.specs.LiteralGrammar.{IsLiteralBefore, IsSuffixBefore}
-use Rattle.rustc_lexer.specs.Spans.{Chars, Utf8, begins, next_is, AreAll, NextIs, NextIsNot, NextIn}
+use Rattle.rustc_lexer.specs.Spans.{Chars, Utf8, begins, AreAll, NextIs, NextIsNot, NextIn}
 use Rattle.rustc_lexer.specs.Spans.{NextNotIn, bytes, is_inline, is_word_start, is_word_continue}
 use Rattle.rustc_lexer.specs.Spans.{is_name_start, begins_ident_after}
 use Rattle.rustc_lexer.specs.Symbols.{symbol_kind}
@@ -202,33 +199,9 @@ pub data IsTokenBefore (next : Chars) : TokenKind → Chars → Type 0 where
   -- `+`, `;`; and what is no symbol is Unknown, such as `\`
   symbol : {c : ℕ} → has_rule c ≡ false → IsTokenBefore next (symbol_kind c) (c ∷ [])
 
--- ---- texts
+-- ---- in bytes
 
 -- the token at the front of the text is of the language, where the rest of the text follows it
 abbrev pub BeginsWith : Utf8 → Token → Type 0
 BeginsWith text token =
     IsTokenBefore (chars (drop token.len text)) token.kind (chars (take token.len text))
-
--- a frontmatter of this opening and this body: white space before its dashes is a fault, and so is
--- what is no newline right behind its opening
-abbrev pub frontmatter_token : Chars → Chars → Chars → Token
-frontmatter_token opening body next =
-    let spaced : Bool = next_is is_whitespace opening in
-    let bad_label : Bool = not (next_is (is_among (codes "\n")) (body ++ next)) in
-    record { kind = Frontmatter spaced bad_label; len = bytes opening + bytes body }
-
--- the tokens of these characters: a token, and the tokens of what follows it; or, where a
--- frontmatter is allowed and opens, that and the tokens of what follows it
-pub data AreTokens : FrontmatterAllowed → Chars → List Token → Type 0 where
-  nothing : {allowed : FrontmatterAllowed} → AreTokens allowed [] []
-  something : {allowed : FrontmatterAllowed} {kind : TokenKind}
-      {c : ℕ} {w next : Chars} {tokens : List Token}
-      → IsTokenBefore next kind (c ∷ w)
-      → (allowed ≡ Yes → OpensNone (c ∷ w ++ next))
-      → AreTokens (allowed_after allowed kind) next tokens
-      → AreTokens allowed (c ∷ w ++ next) (record { kind = kind; len = bytes (c ∷ w) } ∷ tokens)
-  frontmatter_first : {n : ℕ} {opening next : Chars} {tokens : List Token} (body : Chars)
-      → IsOpeningBefore (body ++ next) n opening
-      → EndsAt n (encode_utf8_all (body ++ next)) (bytes body)
-      → AreTokens No next tokens
-      → AreTokens Yes (opening ++ (body ++ next)) (frontmatter_token opening body next ∷ tokens)

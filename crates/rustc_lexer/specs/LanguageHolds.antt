@@ -15,18 +15,17 @@ use Rattle.std.specs.Char.{is_ascii_digit}
 use Rattle.std.specs.Str.{chars}
 use Rattle.rustc_lexer.specs.declared.edition.Edition.{Edition}
 use Rattle.rustc_lexer.specs.declared.edition.Edition.TheVariants.{E2024}
-use Rattle.rustc_lexer.specs.declared.token.FrontmatterAllowed.{FrontmatterAllowed}
-use Rattle.rustc_lexer.specs.declared.token.FrontmatterAllowed.TheVariants.{Yes}
 use Rattle.rustc_lexer.specs.declared.token.GuardedStr.{GuardedStr}
 use Rattle.rustc_lexer.specs.declared.token.LiteralKind.{LiteralKind}
 use Rattle.rustc_lexer.specs.declared.token.RawStrError.{RawStrError}
 use Rattle.rustc_lexer.specs.declared.token.Token.{Token}
 use Rattle.rustc_lexer.specs.declared.token.TokenKind.{TokenKind}
-use Rattle.rustc_lexer.specs.Edition.{first_token_in, tokens_in}
+use Rattle.rustc_lexer.specs.Edition.{first_token_in}
 use Rattle.rustc_lexer.specs.FrontmatterGrammar.{OpensNone}
-use Rattle.rustc_lexer.specs.Language.{AreTokens, BeginsWith, IsTokenBefore}
+use Rattle.rustc_lexer.specs.Language.{BeginsWith, IsTokenBefore}
 use Rattle.rustc_lexer.specs.LanguageCalls.{IsGuardedBefore, IsRawAnswer, IsShebang}
-use Rattle.rustc_lexer.specs.LanguageIn.{AreTokensIn, IsTokenIn}
+use Rattle.rustc_lexer.specs.LanguageIn.{IsTokenIn}
+use Rattle.rustc_lexer.specs.LanguageText.{Mode, document, part, AreTokens}
 use Rattle.rustc_lexer.specs.LiteralGrammar.{hashes}
 use Rattle.rustc_lexer.specs.NumberGrammar.{IsLongestNumber}
 use Rattle.rustc_lexer.specs.Spans.{Chars, Utf8, bytes, NextNotIn}
@@ -68,12 +67,12 @@ AreLongest =
     → IsLongestNumber kind n (c ∷ s)
     ↔ ((kind ≡ (number_kind c s).0) × (n ≡ 1 + (number_kind c s).1))
 
--- a token that is taken with no bytes pending, and where no frontmatter is allowed or none opens,
--- is of the language. Of other states this says nothing
+-- a token that is taken with no bytes pending, and where no frontmatter opens a document, is of the
+-- page. Of other states this says nothing
 abbrev pub TakesTokenOf : State → Token → Type 0
 TakesTokenOf s token =
     s.pending ≡ 0
-    → (s.frontmatter_allowed ≡ Yes → OpensNone (chars s.rest))
+    → (s.mode ≡ document → OpensNone (chars s.rest))
     → BeginsWith s.rest token
 
 -- in each state of a cursor that has text left: what it takes is the first of the tokens that the
@@ -82,48 +81,35 @@ TakesTokenOf s token =
 pub record TakesFirst (s : State) (token : Token) (t : State) : Type 0 where
   pub taken : Token
   pub with_pending : token ≡ token_past s.pending taken
-  pub first : AreTokens s.frontmatter_allowed (chars s.rest) (taken ∷ tokens_left t)
+  pub first : AreTokens s.mode (chars s.rest) (taken ∷ tokens_left t)
 
--- these tokens are those of the text, and no other list is
-abbrev pub AreTheOnlyTokens : FrontmatterAllowed → Utf8 → Type 0
-AreTheOnlyTokens allowed text =
-    (tokens : List Token)
-    → AreTokens allowed (chars text) tokens ↔ (tokens ≡ tokens_of allowed text)
+-- ---- texts
 
--- ---- editions
+-- these tokens of a text are the only ones that the language allows for it as it is read
+abbrev pub HoldsTheOnlyTokens : Mode → Utf8 → List Token → Type 0
+HoldsTheOnlyTokens mode text held =
+    (tokens : List Token) → AreTokens mode (chars text) tokens ↔ (tokens ≡ held)
 
--- these tokens are those of the text in the edition, and no other list is
-abbrev pub AreTheOnlyTokensIn : Edition → Utf8 → Type 0
-AreTheOnlyTokensIn edition text =
-    (tokens : List Token)
-    → AreTokensIn edition (chars text) tokens ↔ (tokens ≡ tokens_in edition text)
+-- so are those that the lexer gives
+abbrev pub AreTheOnlyTokens : Mode → Utf8 → Type 0
+AreTheOnlyTokens mode text = HoldsTheOnlyTokens mode text (tokens_of mode text)
 
--- the newest edition has the tokens of the page
-abbrev pub NewestIsPage : Edition → Type 0
-NewestIsPage edition =
-    edition ≡ E2024
-    → (next w : Chars) (kind : TokenKind)
-    → IsTokenIn edition next kind w ↔ IsTokenBefore next kind w
-
--- these tokens of a text are the only ones that the language allows for it in the edition
-abbrev pub HoldsTheOnlyTokensIn : Edition → Utf8 → List Token → Type 0
-HoldsTheOnlyTokensIn edition text held =
-    (tokens : List Token) → AreTokensIn edition (chars text) tokens ↔ (tokens ≡ held)
-
--- so they are where they come from a grammar, and that is the one of an edition
+-- and those that come from a grammar, where that is the one of an edition
 abbrev pub HoldsTheOnlyTokensBy : (Utf8 → Token) → Utf8 → List Token → Type 0
 HoldsTheOnlyTokensBy grammar text held =
-    (edition : Edition) → grammar ≡ first_token_in edition → HoldsTheOnlyTokensIn edition text held
+    (edition : Edition)
+    → grammar ≡ first_token_in edition
+    → HoldsTheOnlyTokens (part edition) text held
 
--- for every text that fits the language allows one list of tokens, whether a frontmatter may stand
--- in front or not, and one in each edition
-pub record IsDetermined : Type 0 where
-  pub tokens : (text : Utf8) (allowed : FrontmatterAllowed)
-      → IsText text
-      → AreTheOnlyTokens allowed text
-  pub tokens_in : (text : Utf8) (edition : Edition)
-      → IsText text
-      → AreTheOnlyTokensIn edition text
+-- so for every text that fits the language allows one list of tokens, as a document and as a part
+-- in each edition
+abbrev pub IsDetermined : Type 0
+IsDetermined = (text : Utf8) (mode : Mode) → IsText text → AreTheOnlyTokens mode text
+
+-- the newest edition, of which documents are, has the tokens of the page
+abbrev pub NewestIsPage : Type 0
+NewestIsPage =
+    (next w : Chars) (kind : TokenKind) → IsTokenIn E2024 next kind w ↔ IsTokenBefore next kind w
 
 -- ---- the calls beside the tokens
 

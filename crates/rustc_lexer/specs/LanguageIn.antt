@@ -2,18 +2,17 @@
 -- guarded strings, raw lifetimes and reserved prefixes. It is the page of the newest edition, and
 -- what stands in the place of what an edition has not. C strings and `k#` are read alike in all
 -- editions, though Rust has C strings since 2021 only (docs/EDITIONS.md, "What is left to a
--- compiler"). No frontmatter stands here. `w` and `next` are as in Language.antt.
-use Rattle.std.specs.Prelude.{◌≡◌, ◌<◌, ◌≤◌, ℕ, true, false, List, [], ◌∷◌, ◌++◌, codes}
+-- compiler"). `w` and `next` are as in Language.antt.
+use Rattle.std.specs.Prelude.{◌≡◌, ◌<◌, ◌≤◌, ℕ, true, false, ◌∷◌, codes}
 use Rattle.std.specs.Str.{byte}
 use Rattle.rustc_lexer.specs.declared.edition.Edition.{Edition}
 use Rattle.rustc_lexer.specs.declared.edition.Edition.TheVariants.{E2015, E2018, E2021, E2024}
-use Rattle.rustc_lexer.specs.declared.token.Token.{Token}
 use Rattle.rustc_lexer.specs.declared.token.TokenKind.{TokenKind}
 use Rattle.rustc_lexer.specs.declared.token.TokenKind.TheVariants.{Ident, UnknownPrefix, Lifetime}
 use Rattle.rustc_lexer.specs.declared.token.TokenKind.TheVariants.{UnknownPrefixLifetime, Pound}
 use Rattle.rustc_lexer.specs.declared.token.TokenKind.TheVariants.{RawLifetime, GuardedStrPrefix}
 use Rattle.rustc_lexer.specs.Language.{is_bad_name, IsTokenBefore}
-use Rattle.rustc_lexer.specs.Spans.{Chars, bytes, begins_ident_after}
+use Rattle.rustc_lexer.specs.Spans.{Chars, begins_ident_after}
 
 -- the year that names an edition
 abbrev pub year : Edition → ℕ
@@ -55,11 +54,3 @@ pub data IsTokenIn (edition : Edition) (next : Chars) : TokenKind → Chars → 
       year edition < kept_since RawLifetime
       → begins_ident_after (codes "#") next ≡ true
       → IsTokenIn edition next (Lifetime false) (codes "'r")
-
--- the tokens of these characters: one that the language has, and the tokens of what follows it
-pub data AreTokensIn (edition : Edition) : Chars → List Token → Type 0 where
-  nothing : AreTokensIn edition [] []
-  something : {kind : TokenKind} {c : ℕ} {w next : Chars} {tokens : List Token}
-      → IsTokenIn edition next kind (c ∷ w)
-      → AreTokensIn edition next tokens
-      → AreTokensIn edition (c ∷ w ++ next) (record { kind = kind; len = bytes (c ∷ w) } ∷ tokens)

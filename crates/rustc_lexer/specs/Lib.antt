@@ -1,4 +1,3 @@
-pub mod BlockGrammar
 pub mod Classes
 pub mod Cuts
 pub mod Edition
@@ -6,12 +5,12 @@ pub mod EditLists
 pub mod Edits
 pub mod Emoji
 pub mod FrontmatterGrammar
-pub mod Held
 pub mod Language
 pub mod LanguageCalls
 pub mod LanguageHolds
 pub mod LanguageIn
 pub mod LanguageReach
+pub mod LanguageText
 pub mod LiteralGrammar
 pub mod NumberGrammar
 pub mod Pieces

@@ -1,7 +1,13 @@
--- The pieces of a text that is kept with its tokens.
+-- A text that is kept with its tokens, and its pieces.
 use Rattle.std.specs.Prelude.{ℕ, ◌+◌, ◌^◌, ◌≡◌, ◌<◌, ◌≤◌, List, [], ◌∷◌, length, take, drop, Option, Some, None}
 use Rattle.rustc_lexer.specs.declared.relex.pieces.Piece.{Piece}
 use Rattle.rustc_lexer.specs.declared.token.Token.{Token}
+
+-- what a lexed text holds
+pub record Held (S : Type 0) : Type 0 where
+  pub text : List ℕ
+  pub tokens : List Token
+  pub stepper : S
 
 -- where a token stands, the token, and its text
 pub record Placed : Type 0 where

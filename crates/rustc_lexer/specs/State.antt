@@ -1,16 +1,15 @@
--- The state of a cursor, and what a token leaves of it.
+-- Where a cursor or an iterator is in its text, and what pending bytes make of a token.
 use Rattle.std.specs.Prelude.{ℕ, ◌≡◌, ◌+◌, ◌≤◌, List, drop, IsCharBoundary}
-use Rattle.rustc_lexer.specs.declared.token.FrontmatterAllowed.{FrontmatterAllowed}
 use Rattle.rustc_lexer.specs.declared.token.Token.{Token}
 use Rattle.rustc_lexer.specs.declared.token.TokenKind.{TokenKind}
 use Rattle.rustc_lexer.specs.declared.token.TokenKind.TheVariants.{Literal}
-pub use Rattle.rustc_lexer.specs.FrontmatterGrammar.{allowed_after}
+use Rattle.rustc_lexer.specs.LanguageText.{Mode}
 
--- how many bytes were taken since the last token, the text that is left, and whether a frontmatter may stand there
+-- how many bytes were taken since the last token, the text that is left, and how it is read
 pub record State : Type 0 where
   pub pending : ℕ
   pub rest : List ℕ
-  pub frontmatter_allowed : FrontmatterAllowed
+  pub mode : Mode
 
 -- where the suffix begins counts the bytes that were pending
 abbrev pub kind_past : ℕ → TokenKind → TokenKind

@@ -1,28 +1,35 @@
--- The tokens of a whole text, and their bounds.
+-- The tokens of a text as it is read, their bounds, and what the calls that take them do.
 use Rattle.std.specs.Prelude.{ℕ, zero, suc, ◌≡◌, ◌-◌, ◌<◌, ◌≤◌, List, [], ◌∷◌, length, drop, All, IsCharBoundary, Option, Some, None}
-use Rattle.rustc_lexer.specs.declared.token.FrontmatterAllowed.{FrontmatterAllowed}
-use Rattle.rustc_lexer.specs.declared.token.FrontmatterAllowed.TheVariants.{No}
+use Rattle.rustc_lexer.specs.declared.edition.Edition.{Edition}
 use Rattle.rustc_lexer.specs.declared.token.Token.{Token}
-use Rattle.rustc_lexer.specs.Cuts.{AreBoundaries}
+use Rattle.rustc_lexer.specs.Cuts.{AreBoundaries, tokens_by}
 pub use Rattle.rustc_lexer.specs.Cuts.{bound}
-use Rattle.rustc_lexer.specs.State.{State, allowed_after}
+use Rattle.rustc_lexer.specs.LanguageText.{Mode, document, part, mode_after}
+use Rattle.rustc_lexer.specs.State.{State}
+use Rattle.rustc_lexer.specs.means.Edition.{first_token_in}
 use Rattle.rustc_lexer.specs.means.Taking.{token_at, advance}
 
--- the first `count` tokens of a text
-abbrev pub cut : FrontmatterAllowed → ℕ → List ℕ → List Token
-cut allowed zero text = []
-cut allowed (suc count) [] = []
-cut allowed (suc count) (b ∷ bs) =
-    let token : Token = token_at allowed (b ∷ bs) in
-    token ∷ cut (allowed_after allowed token.kind) count (drop token.len (b ∷ bs))
+-- the tokens of a text, of which `count` at most are read as those of a document: each says how what follows it is read
+abbrev pub cut : Mode → ℕ → List ℕ → List Token
+cut (part edition) count text = tokens_by (first_token_in edition) text
+cut document zero text = []
+cut document (suc count) [] = []
+cut document (suc count) (b ∷ bs) =
+    let token : Token = token_at document (b ∷ bs) in
+    token ∷ cut (mode_after document token.kind) count (drop token.len (b ∷ bs))
 
--- the tokens of a text, which has no more of them than bytes
-unfoldable pub tokens_of : FrontmatterAllowed → List ℕ → List Token
-tokens_of allowed text = cut allowed (length text) text
+-- the tokens of a document, which has no more of them than bytes
+unfoldable pub tokens_of_document : List ℕ → List Token
+tokens_of_document text = cut document (length text) text
 
--- the tokens that a cursor with nothing pending will come to
+-- the tokens of a text
+abbrev pub tokens_of : Mode → List ℕ → List Token
+tokens_of (part edition) text = tokens_by (first_token_in edition) text
+tokens_of document text = tokens_of_document text
+
+-- the tokens that a cursor with nothing pending, or an iterator, will come to
 abbrev pub tokens_left : State → List Token
-tokens_left s = tokens_of s.frontmatter_allowed s.rest
+tokens_left s = tokens_of s.mode s.rest
 
 -- the tokens cut the text: none is empty, each ends between characters, and together they are as long as the text
 pub record Partitions (text : List ℕ) (tokens : List Token) : Type 0 where
@@ -30,18 +37,22 @@ pub record Partitions (text : List ℕ) (tokens : List Token) : Type 0 where
   pub boundaries : AreBoundaries text tokens
   pub whole : bound tokens (length tokens) ≡ length text
 
--- with no frontmatter allowed, the text past any bound has the rest of the tokens
-abbrev pub RestartsAtBounds : List ℕ → Type 0
-RestartsAtBounds text = (k : ℕ) → k ≤ length (tokens_of No text) → tokens_of No (drop (bound (tokens_of No text) k) text) ≡ drop k (tokens_of No text)
+-- a part past any of its bounds has the rest of the tokens
+abbrev pub RestartsAtBounds : Edition → List ℕ → Type 0
+RestartsAtBounds edition text =
+    let tokens : List Token = tokens_of (part edition) text in
+    (k : ℕ) → k ≤ length tokens → tokens_of (part edition) (drop (bound tokens k) text) ≡ drop k tokens
 
 -- with nothing pending, the token is the first of those that are left, and the state after it is as `advance` says: the
 -- token is not empty, ends between characters, and is taken off the text
 pub record TakesToken (s : State) (token : Token) (t : State) : Type 0 where
   pub first : tokens_left s ≡ token ∷ tokens_left t
   pub advances : advance s ≡ (token, t)
+  pub is : token ≡ token_at s.mode s.rest
   pub not_empty : 0 < token.len
   pub boundary : IsCharBoundary s.rest token.len
   pub rest : t.rest ≡ drop token.len s.rest
+  pub mode : t.mode ≡ mode_after s.mode token.kind
 
 -- what a call of `next` does: where no token is left it gives none and changes nothing; else it takes one
 abbrev pub YieldsToken : State → Option Token → State → Type 0

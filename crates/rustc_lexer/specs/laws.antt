@@ -1,7 +1,6 @@
 pub mod BlockComment
 pub mod BlockGrammar
 pub mod Choice
-pub mod Cuts
 pub mod Edition
 pub mod Family
 pub mod Hash

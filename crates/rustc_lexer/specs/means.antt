@@ -1,4 +1,5 @@
 pub mod BlockComment
+pub mod BlockGrammar
 pub mod ByteRuns
 pub mod Choice
 pub mod Comment

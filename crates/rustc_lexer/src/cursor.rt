@@ -1,10 +1,12 @@
 //! A cursor over a text, which takes it token by token.
 ghost use Rattle.std.specs.Prelude.{◌≡◌, ◌≢◌, ◌+◌, ◌^◌, ◌<◌, length, slice_index};
 ghost use Rattle.std.specs.Str.{chars};
+ghost use Rattle.rustc_lexer.specs.declared.edition.Edition.TheVariants.{E2024};
 ghost use Rattle.rustc_lexer.specs.Classes.{Fits};
 ghost use Rattle.rustc_lexer.specs.LanguageHolds.{TakesFirst, TakesTokenOf};
+ghost use Rattle.rustc_lexer.specs.LanguageText.{mode_after, mode_edition, mode_of};
 ghost use Rattle.rustc_lexer.specs.means.Taking.{advance};
-ghost use Rattle.rustc_lexer.specs.State.{allowed_after, token_past, HasSuffixWithin};
+ghost use Rattle.rustc_lexer.specs.State.{token_past, HasSuffixWithin};
 ghost use Rattle.rustc_lexer.specs.Tokens.{StaysAtEnd, TakesPending};
 
 use crate::frontmatter::token_at;
@@ -45,6 +47,7 @@ impl<'a> Model for Cursor<'a> {
     ghost use Rattle.std.specs.Prelude.{◌-◌, ◌≤◌, drop};
     ghost use Rattle.std.specs.Str.{IsCharBoundary};
     ghost use Rattle.rustc_lexer.specs.Classes.{Fits};
+    ghost use Rattle.rustc_lexer.specs.LanguageText.{mode_of};
     ghost use Rattle.rustc_lexer.specs.State.{State};
 
     ghost Value = { State };
@@ -52,7 +55,7 @@ impl<'a> Model for Cursor<'a> {
     ghost view = { λ c. record {
       pending = c.index - c.start;
       rest = drop c.index c.text.now;
-      frontmatter_allowed = c.frontmatter_allowed;
+      mode = mode_of c.frontmatter_allowed;
     } };
 
     ghost invariant = { λ c. (c.start ≤ c.index) × IsCharBoundary c.text.now c.index
@@ -64,7 +67,7 @@ impl<'a> Cursor<'a> {
     pub fn new(input: &'a str, frontmatter_allowed: FrontmatterAllowed) -> Cursor<'a>
         requires fits { Fits input.now }
         ensures { result
-            ≡ record { pending = 0; rest = input.now; frontmatter_allowed = frontmatter_allowed } }
+            ≡ record { pending = 0; rest = input.now; mode = mode_of frontmatter_allowed } }
     {
         Cursor {
             text: input,
@@ -78,6 +81,7 @@ impl<'a> Cursor<'a> {
     #[inline(always)]
     pub fn as_str(&self) -> &'a str
         ensures rest { result.now ≡ self.now.rest }
+        ensures newest { mode_edition self.now.mode ≡ E2024 }
         ensures fits { Fits result.now }
     {
         &self.text[self.index..]
@@ -134,7 +138,7 @@ impl<'a> Cursor<'a> {
 /// Whether a frontmatter may stand after a token of this kind.
 #[inline(always)]
 fn next_allowed(allowed: FrontmatterAllowed, kind: TokenKind) -> FrontmatterAllowed
-    ensures { result ≡ allowed_after allowed kind }
+    ensures { mode_of result ≡ mode_after (mode_of allowed) kind }
 {
     match kind {
         TokenKind::Whitespace | TokenKind::Eof => allowed,

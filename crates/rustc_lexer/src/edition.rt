@@ -1,5 +1,5 @@
 //! The tokens of a text in an edition of Rust.
-ghost use Rattle.std.specs.Prelude.{◌≡◌, ◌<◌, not, codes, length, take, IsCharBoundary, Some};
+ghost use Rattle.std.specs.Prelude.{◌≡◌, ◌<◌, not, codes, length, take, All, IsCharBoundary, Some};
 ghost use Rattle.std.specs.Iterator.{at_most};
 ghost use Rattle.std.specs.List.{list_all};
 ghost use Rattle.std.specs.Result.{result_ok};
@@ -9,10 +9,13 @@ ghost use Rattle.rustc_lexer.specs.declared.token.FrontmatterAllowed.TheVariants
 ghost use Rattle.rustc_lexer.specs.Classes.{Fits, is_id_continue};
 ghost use Rattle.rustc_lexer.specs.Edition as spec;
 ghost use Rattle.rustc_lexer.specs.means.Ident.{is_word};
-ghost use Rattle.rustc_lexer.specs.LanguageHolds.{AreTheOnlyTokensIn, NewestIsPage};
+ghost use Rattle.rustc_lexer.specs.LanguageHolds.{AreTheOnlyTokens, NewestIsPage};
+ghost use Rattle.rustc_lexer.specs.LanguageText.{mode_edition, mode_of, part};
 ghost use Rattle.rustc_lexer.specs.means.Scan.{run_len};
 ghost use Rattle.rustc_lexer.specs.Settled.{AreLocal};
-ghost use Rattle.rustc_lexer.specs.Tokens.{tokens_of, Partitions};
+ghost use Rattle.rustc_lexer.specs.State.{HasSuffixWithin};
+ghost use Rattle.rustc_lexer.specs.TokenText.{HaveTexts};
+ghost use Rattle.rustc_lexer.specs.Tokens.{tokens_of, tokens_left, Partitions, RestartsAtBounds, YieldsToken};
 
 use crate::classes::emoji::is_emoji;
 use crate::cursor::Cursor;
@@ -93,15 +96,17 @@ impl fmt::Display for UnknownEdition {
 /// them as over those of `tokenize`.
 pub fn tokenize_in<'a>(text: &'a str, edition: Edition) -> EditionTokens<'a>
     requires fits { Fits text.now }
-    ensures state { result ≡ record { edition = edition; rest = text.now } }
-    ensures tokens { spec.tokens_left_in result ≡ spec.tokens_in edition text.now }
-    ensures partitions { Partitions text.now (spec.tokens_in edition text.now) }
-    ensures restarts { spec.RestartsIn edition text.now }
-    ensures local { AreLocal (spec.tokens_in edition) }
-    ensures newest { spec.tokens_in E2024 text.now ≡ tokens_of No text.now }
-    ensures language { AreTheOnlyTokensIn edition text.now }
-    ensures page { NewestIsPage edition }
-    ensures oldest { spec.tokens_in E2015 text.now ≡ spec.tokens_in E2018 text.now }
+    ensures state { result ≡ record { pending = 0; rest = text.now; mode = part edition } }
+    ensures tokens { tokens_left result ≡ tokens_of (part edition) text.now }
+    ensures partitions { Partitions text.now (tokens_of (part edition) text.now) }
+    ensures restarts { RestartsAtBounds edition text.now }
+    ensures suffixes { All HasSuffixWithin (tokens_of (part edition) text.now) }
+    ensures texts { HaveTexts text.now (tokens_of (part edition) text.now) }
+    ensures local { AreLocal (tokens_of (part edition)) }
+    ensures newest { tokens_of (part E2024) text.now ≡ tokens_of (mode_of No) text.now }
+    ensures language { AreTheOnlyTokens (part edition) text.now }
+    ensures page { NewestIsPage }
+    ensures oldest { tokens_of (part E2015) text.now ≡ tokens_of (part E2018) text.now }
 {
     EditionTokens {
         edition,
@@ -118,11 +123,12 @@ pub struct EditionTokens<'a> {
 
 impl<'a> Model for EditionTokens<'a> {
     ghost use Rattle.rustc_lexer.specs.Classes.{Fits};
-    ghost use Rattle.rustc_lexer.specs.Edition.{Reading};
+    ghost use Rattle.rustc_lexer.specs.LanguageText.{part};
+    ghost use Rattle.rustc_lexer.specs.State.{State};
 
-    ghost Value = { Reading };
+    ghost Value = { State };
 
-    ghost view = { λ t. record { edition = t.edition; rest = t.rest.now } };
+    ghost view = { λ t. record { pending = 0; rest = t.rest.now; mode = part t.edition } };
 
     ghost invariant = { λ t. Fits t.rest.now };
 }
@@ -131,6 +137,8 @@ impl<'a> EditionTokens<'a> {
     /// The text whose tokens were not given out yet.
     pub fn as_str(&self) -> &'a str
         ensures rest { result.now ≡ self.now.rest }
+        ensures mode { self.now.mode ≡ part (mode_edition self.now.mode) }
+        ensures pending { self.now.pending ≡ 0 }
         ensures fits { Fits result.now }
     {
         self.rest
@@ -140,7 +148,7 @@ impl<'a> EditionTokens<'a> {
 impl<'a> Iterator for EditionTokens<'a> {
     type Item = Token;
 
-    ghost next_gives = { spec.YieldsTokenIn };
+    ghost next_gives = { YieldsToken };
 
     ghost remaining = { λ s. at_most (length s.rest) };
 

@@ -1,9 +1,11 @@
 //! The tokens of a text.
 ghost use Rattle.std.specs.Prelude.{◌≡◌, ◌<◌, length, All};
 ghost use Rattle.std.specs.Iterator.{at_most};
+ghost use Rattle.rustc_lexer.specs.declared.edition.Edition.TheVariants.{E2024};
 ghost use Rattle.rustc_lexer.specs.Classes.{Fits};
-ghost use Rattle.rustc_lexer.specs.LanguageHolds.{AreTheOnlyTokens, EachBeginsWithOne};
+ghost use Rattle.rustc_lexer.specs.LanguageHolds.{AreTheOnlyTokens, EachBeginsWithOne, NewestIsPage};
 ghost use Rattle.rustc_lexer.specs.LanguageReach.{LooksNoFurther, NoneLooksLess, RefusedStands};
+ghost use Rattle.rustc_lexer.specs.LanguageText.{mode_edition, mode_of};
 ghost use Rattle.rustc_lexer.specs.State.{HasSuffixWithin};
 ghost use Rattle.rustc_lexer.specs.TokenText.{HaveTexts};
 ghost use Rattle.rustc_lexer.specs.Tokens.{tokens_of, tokens_left, Partitions, RestartsAtBounds, YieldsToken};
@@ -39,13 +41,14 @@ pub use stepper::{Stepper, Steps};
 pub fn tokenize<'a>(input: &'a str, frontmatter_allowed: FrontmatterAllowed) -> Tokens<'a>
     requires fits { Fits input.now }
     ensures state { result
-        ≡ record { pending = 0; rest = input.now; frontmatter_allowed = frontmatter_allowed } }
-    ensures tokens { tokens_left result ≡ tokens_of frontmatter_allowed input.now }
-    ensures partitions { Partitions input.now (tokens_of frontmatter_allowed input.now) }
-    ensures restarts { RestartsAtBounds input.now }
-    ensures suffixes { All HasSuffixWithin (tokens_of frontmatter_allowed input.now) }
-    ensures texts { HaveTexts input.now (tokens_of frontmatter_allowed input.now) }
-    ensures language { AreTheOnlyTokens frontmatter_allowed input.now }
+        ≡ record { pending = 0; rest = input.now; mode = mode_of frontmatter_allowed } }
+    ensures tokens { tokens_left result ≡ tokens_of (mode_of frontmatter_allowed) input.now }
+    ensures partitions { Partitions input.now (tokens_of (mode_of frontmatter_allowed) input.now) }
+    ensures restarts { RestartsAtBounds E2024 input.now }
+    ensures suffixes { All HasSuffixWithin (tokens_of (mode_of frontmatter_allowed) input.now) }
+    ensures texts { HaveTexts input.now (tokens_of (mode_of frontmatter_allowed) input.now) }
+    ensures language { AreTheOnlyTokens (mode_of frontmatter_allowed) input.now }
+    ensures page { NewestIsPage }
     ensures one_token { EachBeginsWithOne }
     ensures reach { LooksNoFurther × RefusedStands × NoneLooksLess }
 {
@@ -76,6 +79,7 @@ impl<'a> Tokens<'a> {
     #[inline(always)]
     pub fn as_str(&self) -> &'a str
         ensures rest { result.now ≡ self.now.rest }
+        ensures newest { mode_edition self.now.mode ≡ E2024 }
         ensures fits { Fits result.now }
     {
         self.cursor.as_str()

@@ -1,8 +1,8 @@
 //! Frontmatter: what may stand in front of the first token, between two fences of dashes.
 ghost use Rattle.std.specs.Prelude.{◌≡◌, ◌+◌, ◌-◌, ◌≤◌, ◌<◌, ◌==◌, ◌&&◌, true, false, length, nat_lt, slice_index, drop, MatchOption, IfSome, ◌∷◌};
 ghost use Rattle.std.specs.Str.{chars, IsCharBoundary};
-ghost use Rattle.rustc_lexer.specs.declared.token.FrontmatterAllowed.TheVariants.{Yes};
 ghost use Rattle.rustc_lexer.specs.Classes.{Fits};
+ghost use Rattle.rustc_lexer.specs.LanguageText.{document, mode_of};
 ghost use Rattle.rustc_lexer.specs.means.Frontmatter as spec;
 ghost use Rattle.rustc_lexer.specs.means.Scan.{past, run_len};
 ghost use Rattle.rustc_lexer.specs.means.Taking as state;
@@ -21,7 +21,7 @@ const MIN_DASHES: usize = 3;
 #[inline(always)]
 pub(crate) fn token_at(text: &str, allowed: FrontmatterAllowed) -> Token
     requires fits { Fits text.now }
-    ensures token { result ≡ state.token_at allowed text.now }
+    ensures token { result ≡ state.token_at (mode_of allowed) text.now }
     ensures inside { result.len ≤ length text.now }
     ensures boundary { IsCharBoundary text.now result.len }
     ensures suffix { HasSuffixWithin result }
@@ -36,7 +36,7 @@ pub(crate) fn token_at(text: &str, allowed: FrontmatterAllowed) -> Token
 #[inline(never)]
 fn frontmatter_or_lexeme(text: &str) -> Token
     requires fits { Fits text.now }
-    ensures token { result ≡ state.token_at Yes text.now }
+    ensures token { result ≡ state.token_at document text.now }
     ensures inside { result.len ≤ length text.now }
     ensures boundary { IsCharBoundary text.now result.len }
     ensures suffix { HasSuffixWithin result }

@@ -1,8 +1,10 @@
 //! The shebang line that a document may begin with.
 ghost use Rattle.std.specs.Prelude.{◌≡◌, ◌≤◌, IfSome, IsNone, codes, false, length};
 ghost use Rattle.std.specs.Str.{IsCharBoundary};
+ghost use Rattle.rustc_lexer.specs.declared.edition.Edition.TheVariants.{E2024};
 ghost use Rattle.rustc_lexer.specs.Classes.{Fits};
 ghost use Rattle.rustc_lexer.specs.LanguageHolds.{IsTheShebang};
+ghost use Rattle.rustc_lexer.specs.LanguageText.{part};
 ghost use Rattle.rustc_lexer.specs.means.Scan.{begins};
 ghost use Rattle.rustc_lexer.specs.means.Shebang as spec;
 ghost use Rattle.rustc_lexer.specs.Tokens.{tokens_of};
@@ -38,7 +40,7 @@ pub fn strip_shebang(input: &str) -> Option<usize>
 /// Whether what follows `#!` is an attribute.
 fn is_attribute(tail: &str) -> bool
     requires fits { Fits tail.now }
-    ensures { result ≡ spec.is_attribute (tokens_of FrontmatterAllowed.No tail.now) }
+    ensures { result ≡ spec.is_attribute (tokens_of (part E2024) tail.now) }
 {
     for token in tokenize(tail, FrontmatterAllowed::No) {
         if !is_passed(token.kind) {

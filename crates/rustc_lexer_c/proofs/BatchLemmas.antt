@@ -4,30 +4,13 @@ use Rattle.std.proofs.lemmas.List.{length-drop, take-append-drop, take_more_set,
 use Rattle.std.proofs.Math.Nat.{min-eq_left, min-eq_right}
 use Rattle.rustc_lexer.specs.declared.token.FrontmatterAllowed.{FrontmatterAllowed}
 use Rattle.rustc_lexer.specs.declared.token.Token.{Token}
-use Rattle.rustc_lexer.specs.declared.token.TokenKind.{TokenKind}
-use Rattle.rustc_lexer.specs.declared.token.TokenKind.TheVariants.{Literal}
 use Rattle.rustc_lexer.specs.declared.token.FrontmatterAllowed.TheVariants.{Yes, No}
-use Rattle.rustc_lexer.specs.State.{State, kind_past, allowed_after}
-use Rattle.rustc_lexer.specs.means.Taking.{advance_by, advance}
+use Rattle.rustc_lexer.specs.LanguageText.{mode_of}
+use Rattle.rustc_lexer.specs.State.{State}
+use Rattle.rustc_lexer.specs.means.Taking.{advance}
 use Rattle.rustc_lexer_c.specs.declared.token.CToken.{CToken}
-use Rattle.rustc_lexer_c.specs.Batch.{allowed_of, allowed_number, state_past}
+use Rattle.rustc_lexer_c.specs.Batch.{allowed_of, allowed_number, mode_number, state_past}
 use Rattle.rustc_lexer_c.specs.Numbers.{token_numbers}
-
-after_kind-past : (allowed : FrontmatterAllowed) (pending : ℕ) (kind : TokenKind) → allowed_after allowed (kind_past pending kind) ≡ allowed_after allowed kind
-after_kind-past allowed pending (Literal kind start) = refl
-after_kind-past allowed pending kind = refl
-
-allowed_by : (rest : List ℕ) (s t : State) (token : Token) → advance_by rest s ≡ (token, t) → t.frontmatter_allowed ≡ allowed_after s.frontmatter_allowed token.kind
-allowed_by [] s t token e =
-    sym (ap (λ (r : Token × State). r.1.frontmatter_allowed) e) ∙ ap (λ (r : Token × State). allowed_after s.frontmatter_allowed r.0.kind) e
-allowed_by (b ∷ bs) s t token e =
-    sym (ap (λ (r : Token × State). r.1.frontmatter_allowed) e)
-    ∙ (sym (after_kind-past s.frontmatter_allowed s.pending _) ∙ ap (λ (r : Token × State). allowed_after s.frontmatter_allowed r.0.kind) e)
-
--- whether a frontmatter is allowed past a token
-pub allowed_step : (s t : State) (token : Token) → advance s ≡ (token, t) → t.frontmatter_allowed ≡ allowed_after s.frontmatter_allowed token.kind
-unfolding advance
-allowed_step s t token e = allowed_by s.rest s t token e
 
 -- the state past one more token
 pub state_step : (begin s t : State) (count : ℕ) (token : Token) → s ≡ state_past count begin → advance s ≡ (token, t) → t ≡ state_past (count + 1) begin
@@ -83,3 +66,8 @@ count_second count a b few same = let low : b ≤ a = omega arith in same ∙ sy
 pub allowed_back : (allowed : FrontmatterAllowed) → allowed_of (allowed_number allowed) ≡ allowed
 allowed_back No = refl
 allowed_back Yes = refl
+
+-- the number of a flag is that of what it asks for
+pub number_of-mode : (allowed : FrontmatterAllowed) → allowed_number allowed ≡ mode_number (mode_of allowed)
+number_of-mode Yes = refl
+number_of-mode No = refl

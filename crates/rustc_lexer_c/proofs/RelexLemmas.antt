@@ -7,7 +7,9 @@ use Rattle.rustc_lexer.specs.declared.relex.relexing.Relexed.{Relexed}
 use Rattle.rustc_lexer.specs.declared.relex.relexing.Relexing.{Relexing}
 use Rattle.rustc_lexer.specs.declared.token.Token.{Token}
 use Rattle.rustc_lexer.specs.Cuts.{tokens_by}
-use Rattle.rustc_lexer.specs.Edition.{first_token_in, tokens_in}
+use Rattle.rustc_lexer.specs.Edition.{first_token_in}
+use Rattle.rustc_lexer.specs.LanguageText.{part}
+use Rattle.rustc_lexer.specs.Tokens.{tokens_of}
 use Rattle.rustc_lexer.specs.Relexing.{IsMadeOf, IsWhole, MayGoOn, Stands, is_over, known}
 use Rattle.rustc_lexer.specs.Texts.{IsGrammar}
 use Rattle.rustc_lexer.specs.laws.Edition.{edition_grammar}
@@ -56,12 +58,12 @@ relex_back text n at few over =
 -- what this call wrote comes behind what was written
 written_more : (new : List Token) (front before count lexed : ℕ) (room filled : List CToken) → lexed ≡ before + count → front + lexed ≤ length new → filled ≡ map token_numbers (take count (drop (front + before) new)) ++ drop count room → written new front lexed ≡ written new front before ++ take count filled
 written_more new front before count lexed room filled sum inside e =
-    let part : List Token = take count (drop (front + before) new) in
-    let long : length part ≡ count = length-take-le count (drop (front + before) new) (omega (arith, length-drop (front + before) new)) in
-    let here : take count filled ≡ map token_numbers part = ap (take count) e ∙ take_at (map token_numbers part) (drop count room) count (length-map part token_numbers ∙ long) in
-    let split : take lexed (drop front new) ≡ take before (drop front new) ++ part =
+    let lexed_now : List Token = take count (drop (front + before) new) in
+    let long : length lexed_now ≡ count = length-take-le count (drop (front + before) new) (omega (arith, length-drop (front + before) new)) in
+    let here : take count filled ≡ map token_numbers lexed_now = ap (take count) e ∙ take_at (map token_numbers lexed_now) (drop count room) count (length-map lexed_now token_numbers ∙ long) in
+    let split : take lexed (drop front new) ≡ take before (drop front new) ++ lexed_now =
     ap (λ n. take n (drop front new)) sum ∙ (take-add before count (drop front new) ∙ ap (λ (ts : List Token). take before (drop front new) ++ take count ts) (drop-drop before front new)) in
-    ap (map token_numbers) split ∙ (map-append token_numbers (take before (drop front new)) part ∙ ap (λ (l : List CToken). written new front before ++ l) (sym here))
+    ap (map token_numbers) split ∙ (map-append token_numbers (take before (drop front new)) lexed_now ∙ ap (λ (l : List CToken). written new front before ++ l) (sym here))
 
 -- the list that is put together is that of the new tokens
 list_whole : (tokens new : List Token) (at : Relexing) (n : ℕ) (old : List CToken) → n ≡ at.back.number → old ≡ map token_numbers tokens → IsWhole tokens new at → take at.front.number old ++ (written new at.front.number at.lexed ++ drop n old) ≡ map token_numbers new
@@ -91,7 +93,7 @@ module _ (edition : Edition) (text : List ℕ) (old : List CToken) (change : CEd
 
   pub batch_is : count ≤ length room → drop count filled ≡ drop count room → at.lexed ≡ begin.lexed + count → at.front ≡ begin.front → MayGoOn text (length old) at → (is_over text at ≡ false → count ≡ length room) → begin.lexed ≡ lexed_before c
       → ((first : List ℕ → Token) (before insert : List ℕ) → IsGrammar first → IsMadeOf first before lens (change_of change) insert text → IsPassed first before (change_of change) text (length old) c → Stands first before (change_of change) text begin)
-      → ((before insert : List ℕ) → IsMadeOf first before lens (change_of change) insert text → Stands first before (change_of change) text begin → Stands first before (change_of change) text at × (filled ≡ map token_numbers (take count (drop (known begin) (tokens_in edition text))) ++ drop count room))
+      → ((before insert : List ℕ) → IsMadeOf first before lens (change_of change) insert text → Stands first before (change_of change) text begin → Stands first before (change_of change) text at × (filled ≡ map token_numbers (take count (drop (known begin) (tokens_of (part edition) text))) ++ drop count room))
       → IsRelexBatch edition text old change c room (numbers_of text (length old) at) filled count
   batch_is within rest lexed front may goes_on before_lexed begun tokens = record {
     within = within;
@@ -118,7 +120,7 @@ module _ (edition : Edition) (text : List ℕ) (old : List CToken) (change : CEd
         let number = ap (λ b. b.number) front in
         let at_begin : known begin ≡ at.front.number + lexed_before c = omega arith in
         let many : length lens ≡ length old = length-map old (λ (t : CToken). t.len) in
-        let filled_is = so.1 ∙ ap (λ n. map token_numbers (take count (drop n (tokens_in edition text))) ++ drop count room) at_begin in
+        let filled_is = so.1 ∙ ap (λ n. map token_numbers (take count (drop n (tokens_of (part edition) text))) ++ drop count room) at_begin in
         let back : length old - (length old - at.back.number) ≡ at.back.number = (let few = may.number in omega arith) in
         record {
           passed = record {
@@ -126,7 +128,7 @@ module _ (edition : Edition) (text : List ℕ) (old : List CToken) (change : CEd
             stands = λ _. subst (Stands first before (change_of change) text) (sym same) so.0;
           };
           tokens = filled_is;
-          more = written_more (tokens_in edition text) at.front.number (lexed_before c) count at.lexed room filled (omega arith) so.0.inside filled_is;
+          more = written_more (tokens_of (part edition) text) at.front.number (lexed_before c) count at.lexed room filled (omega arith) so.0.inside filled_is;
           few = few_lexed law before lens insert text (change_of change) is at so.0;
           counts = λ e.
               let met = counts_met law before lens insert text (change_of change) is at so.0 (sym over ∙ stage_met (is_over text at) e) in

@@ -4,6 +4,7 @@ use Rattle.std.specs.Str.{IsCharBoundary}
 use Rattle.rustc_lexer.specs.declared.token.FrontmatterAllowed.{FrontmatterAllowed}
 use Rattle.rustc_lexer.specs.declared.token.FrontmatterAllowed.TheVariants.{Yes, No}
 use Rattle.rustc_lexer.specs.declared.token.Token.{Token}
+use Rattle.rustc_lexer.specs.LanguageText.{Mode, document, part, mode_of}
 use Rattle.rustc_lexer.specs.State.{State}
 use Rattle.rustc_lexer.specs.means.Taking.{advance}
 use Rattle.rustc_lexer.specs.Tokens.{tokens_left}
@@ -20,6 +21,11 @@ abbrev pub allowed_number : FrontmatterAllowed → ℕ
 allowed_number No = 0
 allowed_number Yes = 1
 
+-- whether what is left may begin with a frontmatter: 1 in front of a document, 0 in a part
+abbrev pub mode_number : Mode → ℕ
+mode_number document = 1
+mode_number (part edition) = 0
+
 -- zeros, which are the numbers of no token
 abbrev pub no_token : CToken
 no_token = record { kind = 0; first = 0; second = 0; third = 0; suffix_start = 0; len = 0 }
@@ -31,7 +37,7 @@ first_numbers (token ∷ tokens) = token_numbers token
 
 -- the state of a cursor that stands at the place, with nothing pending
 abbrev pub state_at : List ℕ → CPlace → State
-state_at text place = record { pending = 0; rest = drop place.at text; frontmatter_allowed = allowed_of place.frontmatter_allowed }
+state_at text place = record { pending = 0; rest = drop place.at text; mode = mode_of (allowed_of place.frontmatter_allowed) }
 
 -- the state past `count` tokens
 abbrev pub state_past : ℕ → State → State
@@ -45,7 +51,7 @@ pub record IsBatch (text : List ℕ) (s : State) (room : List CToken) (place : C
   pub tokens : filled ≡ map token_numbers (take count (tokens_left s)) ++ drop count room
   pub boundary : IsCharBoundary text place.at
   pub rest : drop place.at text ≡ (state_past count s).rest
-  pub allowed : place.frontmatter_allowed ≡ allowed_number (state_past count s).frontmatter_allowed
+  pub allowed : place.frontmatter_allowed ≡ mode_number (state_past count s).mode
   pub left : tokens_left (state_at text place) ≡ drop count (tokens_left s)
 
 -- nothing is written

@@ -3,7 +3,7 @@ ghost use Rattle.std.specs.Prelude.{◌≡◌, ◌≢◌, length};
 ghost use Rattle.std.specs.Str.{IsUtf8, IsCharBoundary};
 ghost use Rattle.rustc_lexer.specs.Classes.{Fits};
 ghost use Rattle.rustc_lexer.specs.LanguageHolds.{IsDetermined};
-ghost use Rattle.rustc_lexer.specs.State.{allowed_after};
+ghost use Rattle.rustc_lexer.specs.LanguageText.{mode_after, mode_of};
 ghost use Rattle.rustc_lexer.specs.Tokens.{tokens_of};
 ghost use Rattle.rustc_lexer_c.specs.Batch as spec;
 ghost use Rattle.rustc_lexer_c.specs.Status.{IsPlaceStatus};
@@ -82,7 +82,7 @@ pub extern "C" fn rustc_lexer_tokens_unchecked(
 pub extern "C" fn rustc_lexer_first_token_unchecked(text: &[u8], frontmatter_allowed: u32) -> CToken
     requires utf8 { IsUtf8 text.now }
     ensures token { Fits text.now
-        → result ≡ spec.first_numbers (tokens_of (spec.allowed_of frontmatter_allowed) text.now) }
+        → result ≡ spec.first_numbers (tokens_of (mode_of (spec.allowed_of frontmatter_allowed)) text.now) }
     ensures too_long { ¬ (Fits text.now) → result ≡ spec.no_token }
 {
     match utf8_text_of(text) {
@@ -98,7 +98,7 @@ pub extern "C" fn rustc_lexer_first_token_unchecked(text: &[u8], frontmatter_all
 #[inline(always)]
 fn first_token(text: &str, allowed: FrontmatterAllowed) -> CToken
     requires fits { Fits text.now }
-    ensures { result ≡ spec.first_numbers (tokens_of allowed text.now) }
+    ensures { result ≡ spec.first_numbers (tokens_of (mode_of allowed) text.now) }
 {
     match tokenize(text, allowed).next() {
         Some(token) => token_numbers(token),
@@ -194,7 +194,7 @@ fn allowed_number(allowed: FrontmatterAllowed) -> u32
 
 /// Whether a frontmatter is allowed past a token of the kind.
 fn allowed_past(allowed: FrontmatterAllowed, kind: TokenKind) -> FrontmatterAllowed
-    ensures { result ≡ allowed_after allowed kind }
+    ensures { mode_of result ≡ mode_after (mode_of allowed) kind }
 {
     match kind {
         TokenKind::Whitespace | TokenKind::Eof => allowed,

@@ -2,7 +2,8 @@
 ghost use Rattle.std.specs.Prelude.{◌≡◌, ◌≢◌, ◌↔◌, IsTrue, None};
 ghost use Rattle.std.specs.Str.{IsUtf8};
 ghost use Rattle.rustc_lexer.specs.Classes.{Fits};
-ghost use Rattle.rustc_lexer.specs.declared.token.FrontmatterAllowed.TheVariants.{No};
+ghost use Rattle.rustc_lexer.specs.declared.edition.Edition.TheVariants.{E2024};
+ghost use Rattle.rustc_lexer.specs.LanguageText.{part};
 ghost use Rattle.rustc_lexer.specs.means.Guarded.{guarded};
 ghost use Rattle.rustc_lexer.specs.means.Raw.{StartsRaw, raw_check};
 ghost use Rattle.rustc_lexer_c.specs.RawStr as spec;
@@ -120,7 +121,7 @@ pub extern "C" fn rustc_lexer_guarded_str(text: &[u8], string: &mut CGuardedStr)
     ensures status { IsTextStatus text.now result }
     ensures string { result ≡ 0 →
         string.new ≡ spec.guarded_numbers
-        (guarded record { pending = 0; rest = text.now; frontmatter_allowed = No }).0 }
+        (guarded record { pending = 0; rest = text.now; mode = part E2024 }).0 }
     ensures refused { result ≢ 0 → string.new ≡ spec.guarded_numbers None }
 {
     match text_of(text) {
@@ -143,7 +144,7 @@ pub extern "C" fn rustc_lexer_guarded_str_unchecked(text: &[u8], string: &mut CG
     ensures status { IsTextStatus text.now result }
     ensures string { result ≡ 0 →
         string.new ≡ spec.guarded_numbers
-        (guarded record { pending = 0; rest = text.now; frontmatter_allowed = No }).0 }
+        (guarded record { pending = 0; rest = text.now; mode = part E2024 }).0 }
     ensures refused { result ≢ 0 → string.new ≡ spec.guarded_numbers None }
 {
     match utf8_text_of(text) {
@@ -162,7 +163,7 @@ pub extern "C" fn rustc_lexer_guarded_str_unchecked(text: &[u8], string: &mut CG
 fn guarded_str(text: &str) -> CGuardedStr
     requires fits { Fits text.now }
     ensures { result ≡ spec.guarded_numbers
-        (guarded record { pending = 0; rest = text.now; frontmatter_allowed = No }).0 }
+        (guarded record { pending = 0; rest = text.now; mode = part E2024 }).0 }
 {
     let mut cursor = Cursor::new(text, FrontmatterAllowed::No);
     guarded_numbers(cursor.guarded_double_quoted_string())

@@ -4,10 +4,12 @@ ghost use Rattle.std.specs.Str.{IsUtf8};
 ghost use Rattle.rustc_lexer.specs.declared.edition.Edition.{Edition};
 ghost use Rattle.rustc_lexer.specs.declared.token.Token.{Token};
 ghost use Rattle.rustc_lexer.specs.Classes.{Fits};
-ghost use Rattle.rustc_lexer.specs.Edition.{first_token_in, tokens_in};
+ghost use Rattle.rustc_lexer.specs.Edition.{first_token_in};
 ghost use Rattle.rustc_lexer.specs.LanguageHolds.{IsDetermined};
+ghost use Rattle.rustc_lexer.specs.LanguageText.{part};
 ghost use Rattle.rustc_lexer.specs.Relexing.{IsChange, IsMadeOf, MayGoOn, Stands, is_over, known};
 ghost use Rattle.rustc_lexer.specs.Texts.{IsGrammar};
+ghost use Rattle.rustc_lexer.specs.Tokens.{tokens_of};
 ghost use Rattle.rustc_lexer_c.specs.Numbers as numbers;
 ghost use Rattle.rustc_lexer_c.specs.Relex as spec;
 
@@ -236,7 +238,7 @@ fn fill(
         → Stands (first_token_in edition) before change text.now at.old
         → Stands (first_token_in edition) before change text.now at.new
         × (room.new ≡ map numbers.token_numbers
-        (take result (drop (known at.old) (tokens_in edition text.now)))
+        (take result (drop (known at.old) (tokens_of (part edition) text.now)))
         ++ drop result room.old) }
 {
     let mut steps = Steps::new_in(edition);

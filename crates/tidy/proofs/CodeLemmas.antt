@@ -6,23 +6,23 @@ use Rattle.std.proofs.lemmas.Bool.{and_parts, cases_Bool, not-true}
 use Rattle.std.proofs.lemmas.Str.{encodes-append, length-le-encodes}
 use Rattle.std.specs.Char.{encode_utf8}
 use Rattle.std.specs.Str.{encode_utf8_all}
-use Rattle.rustc_lexer.specs.declared.token.FrontmatterAllowed.{FrontmatterAllowed}
-use Rattle.rustc_lexer.specs.declared.token.FrontmatterAllowed.TheVariants.{Yes, No}
+use Rattle.rustc_lexer.specs.declared.edition.Edition.TheVariants.{E2024}
 use Rattle.rustc_lexer.specs.declared.token.Token.{Token}
 use Rattle.rustc_lexer.specs.declared.token.TokenKind.{TokenKind}
-use Rattle.rustc_lexer.specs.declared.token.TokenKind.TheVariants.{Whitespace, Eof}
+use Rattle.rustc_lexer.specs.declared.token.TokenKind.TheVariants.{Whitespace}
 use Rattle.rustc_lexer.specs.Classes.{is_whitespace}
 use Rattle.rustc_lexer.specs.means.Frontmatter.{dashes, ends_line, opens}
 use Rattle.rustc_lexer.specs.FrontmatterGrammar.{OpensNone}
 use Rattle.rustc_lexer.specs.Language as the
-use Rattle.rustc_lexer.specs.FrontmatterGrammar.{allowed_after}
-use Rattle.rustc_lexer.specs.Language.{IsTokenBefore, AreTokens, nothing, something, frontmatter_first}
+use Rattle.rustc_lexer.specs.Language.{IsTokenBefore}
+use Rattle.rustc_lexer.specs.LanguageText.{Mode, document, part, mode_edition, mode_after, AreTokens, nothing, something, frontmatter_first}
 use Rattle.rustc_lexer.specs.Spans.{AreAll, NextIsNot, bytes}
 use Rattle.rustc_lexer.specs.laws.Language.{token-read}
 use Rattle.rustc_lexer.specs.laws.LanguageFrontmatter.{opens-none, none-opens}
 use Rattle.rustc_lexer.specs.laws.LanguageRuns.{among, chooses-space, run_len-here}
 use Rattle.rustc_lexer.specs.laws.Reach.{run_len-out}
 use Rattle.rustc_lexer.specs.means.Scan.{begins}
+use Rattle.rustc_lexer.proofs.LanguageInLemmas.{on_page, of_page}
 use Rattle.tidy.specs.Order.{in_order, is_space, space_in_order, part_in_order, code_in_order, parts}
 use Rattle.tidy.proofs.NearLemmas.{Near, ends, space, near-append, near-begins, near-empty, near-space, Stays, token-near}
 use Rattle.tidy.proofs.OrderLemmas.{HasFirst, order-all, order-first, order-near, order-ends, order-again, order-bytes, order-size}
@@ -44,7 +44,7 @@ parts-cons u next kind tokens =
     ∙ ap (λ (xs : List ℕ). let p : TokenKind × List ℕ = (kind, if is_space kind then [] else encode_utf8_all u) in p ∷ parts xs tokens) (drop-append_seam (encode_utf8_all u) (encode_utf8_all next)))
 
 -- only a text with no characters has no tokens
-pub none-left : {allowed : FrontmatterAllowed} {cs : List ℕ} {tokens : List Token} → AreTokens allowed cs tokens → length tokens ≡ 0 → cs ≡ []
+pub none-left : {mode : Mode} {cs : List ℕ} {tokens : List Token} → AreTokens mode cs tokens → length tokens ≡ 0 → cs ≡ []
 none-left (nothing) e = refl
 none-left (something p free rest) e = absurd (omega (arith, e))
 none-left (frontmatter_first body is_opening is_end rest) e = absurd (omega (arith, e))
@@ -89,10 +89,10 @@ space-scalars (c ∷ u) all =
 abbrev pub Order : Type 0
 Order = List ℕ → List Token → List ℕ
 
-pub record Tidies (order : Order) (allowed : FrontmatterAllowed) (cs : List ℕ) (tokens : List Token) : Type 0 where
+pub record Tidies (order : Order) (mode : Mode) (cs : List ℕ) (tokens : List Token) : Type 0 where
   pub out : List ℕ
   pub outs : List Token
-  pub are : AreTokens allowed out outs
+  pub are : AreTokens mode out outs
   pub near : Near cs out
   pub is : order (encode_utf8_all cs) tokens ≡ encode_utf8_all out
   pub same : parts (encode_utf8_all out) outs ≡ parts (encode_utf8_all cs) tokens
@@ -166,14 +166,14 @@ spaces c w (token ∷ tokens) {s} {t} all stop near none = by_first (order-first
 abbrev pub Puts : Order → Order → TokenKind → List ℕ → Type 0
 Puts order more kind u = (left : List ℕ) (ts : List Token) → order (encode_utf8_all (u ++ left)) (record { kind = kind; len = bytes u } ∷ ts) ≡ (if is_space kind then space_in_order (encode_utf8_all u) ts else encode_utf8_all u) ++ more (encode_utf8_all left) ts
 
-pub space-step : (order left : Order) (allowed : FrontmatterAllowed) (c : ℕ) (w next : List ℕ) (tokens : List Token) → ((u : List ℕ) → Puts order left Whitespace u) → AreAll is_whitespace (c ∷ w) → NextIsNot is_whitespace next → (allowed ≡ Yes → OpensNone (c ∷ w ++ next)) → (length tokens ≡ 0 → next ≡ [])
-    → Tidies left allowed next tokens → Tidies order allowed (c ∷ w ++ next) (record { kind = Whitespace; len = bytes (c ∷ w) } ∷ tokens)
-space-step order left allowed c w next tokens puts all stop free none more =
+pub space-step : (order left : Order) (mode : Mode) (c : ℕ) (w next : List ℕ) (tokens : List Token) → mode_edition mode ≡ E2024 → ((u : List ℕ) → Puts order left Whitespace u) → AreAll is_whitespace (c ∷ w) → NextIsNot is_whitespace next → (mode ≡ document → OpensNone (c ∷ w ++ next)) → (length tokens ≡ 0 → next ≡ [])
+    → Tidies left (mode_after mode Whitespace) next tokens → Tidies order mode (c ∷ w ++ next) (record { kind = Whitespace; len = bytes (c ∷ w) } ∷ tokens)
+space-step order left mode c w next tokens newest puts all stop free none more =
     let sp = spaces c w tokens all stop more.near none in
     record {
       out = sp.first ∷ sp.rest ++ more.out;
       outs = record { kind = Whitespace; len = bytes (sp.first ∷ sp.rest) } ∷ more.outs;
-      are = something (the.whitespace sp.all (sym (near-space more.near) ∙ stop)) (λ y. opens-none (sp.first ∷ sp.rest ++ more.out) (sp.closed (none-opens (c ∷ w ++ next) (free y)))) more.are;
+      are = something (of_page newest (the.whitespace sp.all (sym (near-space more.near) ∙ stop))) (λ y. opens-none (sp.first ∷ sp.rest ++ more.out) (sp.closed (none-opens (c ∷ w ++ next) (free y)))) more.are;
       near = sp.near;
       is = puts (c ∷ w) next tokens ∙ (ap (λ (xs : List ℕ). xs ++ left (encode_utf8_all next) tokens) sp.is ∙ (ap (λ (xs : List ℕ). encode_utf8_all (sp.first ∷ sp.rest) ++ xs) more.is ∙ sym (encodes-append (sp.first ∷ sp.rest) more.out)));
       same = parts-cons (sp.first ∷ sp.rest) more.out Whitespace more.outs ∙ (ap (λ (ps : List (TokenKind × List ℕ)). let p : TokenKind × List ℕ = (Whitespace, []) in p ∷ ps) more.same ∙ sym (parts-cons (c ∷ w) next Whitespace tokens));
@@ -184,12 +184,12 @@ space-step order left allowed c w next tokens puts all stop free none more =
     }
 
 -- another token more
-pub solid-step : (order left : Order) (allowed : FrontmatterAllowed) (kind : TokenKind) (c : ℕ) (w next : List ℕ) (tokens : List Token) → Puts order left kind (c ∷ w) → IsTokenBefore next kind (c ∷ w) → (allowed ≡ Yes → OpensNone (c ∷ w ++ next))
-    → (more : Tidies left (allowed_after allowed kind) next tokens) → Stays more.out kind (c ∷ w) → Tidies order allowed (c ∷ w ++ next) (record { kind = kind; len = bytes (c ∷ w) } ∷ tokens)
-solid-step order left allowed kind c w next tokens puts p free more stays = record {
+pub solid-step : (order left : Order) (mode : Mode) (kind : TokenKind) (c : ℕ) (w next : List ℕ) (tokens : List Token) → mode_edition mode ≡ E2024 → Puts order left kind (c ∷ w) → IsTokenBefore next kind (c ∷ w) → (mode ≡ document → OpensNone (c ∷ w ++ next))
+    → (more : Tidies left (mode_after mode kind) next tokens) → Stays more.out kind (c ∷ w) → Tidies order mode (c ∷ w ++ next) (record { kind = kind; len = bytes (c ∷ w) } ∷ tokens)
+solid-step order left mode kind c w next tokens newest puts p free more stays = record {
   out = c ∷ w ++ more.out;
   outs = record { kind = kind; len = bytes (c ∷ w) } ∷ more.outs;
-  are = something stays.token (λ y. opens-none (c ∷ w ++ more.out) (opens-solid c (w ++ more.out) first ∙ (ap (λ (b : Bool). b && true) (sym (near-begins (dashes 3) refl near)) ∙ (sym (opens-solid c (w ++ next) first) ∙ none-opens (c ∷ w ++ next) (free y))))) more.are;
+  are = something (of_page newest stays.token) (λ y. opens-none (c ∷ w ++ more.out) (opens-solid c (w ++ more.out) first ∙ (ap (λ (b : Bool). b && true) (sym (near-begins (dashes 3) refl near)) ∙ (sym (opens-solid c (w ++ next) first) ∙ none-opens (c ∷ w ++ next) (free y))))) more.are;
   near = near;
   is = own next tokens ∙ (ap (λ (xs : List ℕ). encode_utf8_all (c ∷ w) ++ xs) more.is ∙ sym (encodes-append (c ∷ w) more.out));
   same = parts-cons (c ∷ w) more.out kind more.outs ∙ (ap (λ (ps : List (TokenKind × List ℕ)). let q : TokenKind × List ℕ = (kind, if is_space kind then [] else encode_utf8_all (c ∷ w)) in q ∷ ps) more.same ∙ sym (parts-cons (c ∷ w) next kind tokens));
@@ -211,21 +211,21 @@ solid-step order left allowed kind c w next tokens puts p free more stays = reco
     own : (rest : List ℕ) (ts : List Token) → order (encode_utf8_all (c ∷ w ++ rest)) (record { kind = kind; len = bytes (c ∷ w) } ∷ ts) ≡ encode_utf8_all (c ∷ w) ++ left (encode_utf8_all rest) ts
     own rest ts = puts rest ts ∙ ap (λ (b : Bool). (if b then space_in_order (encode_utf8_all (c ∷ w)) ts else encode_utf8_all (c ∷ w)) ++ left (encode_utf8_all rest) ts) solid
 
--- none may stand past what none may stand before
-past-no : (kind : TokenKind) → allowed_after No kind ≡ No
-past-no Whitespace = refl
-past-no Eof = refl
-past-no kind = refl
-
--- with no frontmatter
-pub code-tidies : {allowed : FrontmatterAllowed} {cs : List ℕ} {tokens : List Token} → allowed ≡ No → AreTokens allowed cs tokens → Tidies code_in_order allowed cs tokens
-code-tidies is_no (nothing) = record { out = []; outs = []; are = nothing; near = ends; is = refl; same = refl; again = refl; count = refl; size = omega arith; good = λ e. e }
-code-tidies is_no (frontmatter_first body is_opening is_end rest) = absurd (cc)
-code-tidies is_no (something {allowed} {kind} {c} {w} {next} {tokens} p free rest) = by_token (code-tidies (ap (λ (a : FrontmatterAllowed). allowed_after a kind) is_no ∙ past-no kind) rest)
+-- in a part
+pub code-tidies : {mode : Mode} {cs : List ℕ} {tokens : List Token} → mode ≡ part E2024 → AreTokens mode cs tokens → Tidies code_in_order mode cs tokens
+code-tidies is_part (nothing) = record { out = []; outs = []; are = nothing; near = ends; is = refl; same = refl; again = refl; count = refl; size = omega arith; good = λ e. e }
+code-tidies is_part (frontmatter_first body is_opening is_end rest) = absurd (cc)
+code-tidies is_part (something {mode} {kind} {c} {w} {next} {tokens} is free rest) = by_token (code-tidies (ap (λ (m : Mode). mode_after m kind) is_part) rest)
   where
-    by_token : Tidies code_in_order (allowed_after allowed kind) next tokens → Tidies code_in_order allowed (c ∷ w ++ next) (record { kind = kind; len = bytes (c ∷ w) } ∷ tokens)
+    newest : mode_edition mode ≡ E2024
+    newest = ap mode_edition is_part
+
+    p : IsTokenBefore next kind (c ∷ w)
+    p = on_page newest is
+
+    by_token : Tidies code_in_order (mode_after mode kind) next tokens → Tidies code_in_order mode (c ∷ w ++ next) (record { kind = kind; len = bytes (c ∷ w) } ∷ tokens)
     by_token more = elim (token-near more.near p) [
-      | inl run ↦ subst (λ (k : TokenKind). Tidies code_in_order allowed (c ∷ w ++ next) (record { kind = k; len = bytes (c ∷ w) } ∷ tokens)) (sym run.kind_is) (space-step code_in_order code_in_order allowed c w next tokens (λ u left ts. code-cons u left Whitespace ts) run.all run.stop free (none-left rest)
-          (subst (λ (k : TokenKind). Tidies code_in_order (allowed_after allowed k) next tokens) run.kind_is more))
-      | inr stays ↦ solid-step code_in_order code_in_order allowed kind c w next tokens (λ left ts. code-cons (c ∷ w) left kind ts) p free more stays
+      | inl run ↦ subst (λ (k : TokenKind). Tidies code_in_order mode (c ∷ w ++ next) (record { kind = k; len = bytes (c ∷ w) } ∷ tokens)) (sym run.kind_is) (space-step code_in_order code_in_order mode c w next tokens newest (λ u left ts. code-cons u left Whitespace ts) run.all run.stop free (none-left rest)
+          (subst (λ (k : TokenKind). Tidies code_in_order (mode_after mode k) next tokens) run.kind_is more))
+      | inr stays ↦ solid-step code_in_order code_in_order mode kind c w next tokens newest (λ left ts. code-cons (c ∷ w) left kind ts) p free more stays
     ]

@@ -5,9 +5,9 @@ use Rattle.std.proofs.lemmas.Bool.{eqb-true}
 use Rattle.std.proofs.lemmas.Str.{IsUtf8-drop}
 use Rattle.std.specs.List.{list_all}
 use Rattle.std.specs.Str.{IsCharBoundary}
-use Rattle.rustc_lexer.specs.declared.token.FrontmatterAllowed.TheVariants.{Yes}
 use Rattle.rustc_lexer.specs.means.Shebang.{shebang}
 use Rattle.rustc_lexer.specs.Texts.{IsText}
+use Rattle.rustc_lexer.specs.LanguageText.{document}
 use Rattle.rustc_lexer.specs.Tokens.{tokens_of}
 use Rattle.tidy.specs.Order.{is_no_front, code_in_order, end_of, line_end, source_tidied, source_parts, document_in_order, is_same_len, tidied, Solid, solid, IsSound}
 use Rattle.tidy.proofs.ShebangLemmas.{stays-none, source-code}
@@ -53,11 +53,11 @@ document-law text is inside boundary = by_check (is_same_len (shebang made) (she
     choose : (b : Bool) → is_same_len (shebang made) (shebang text) ≡ b → tidied text ≡ (if b then made else text)
     choose b e = ap (λ (x : Bool). if x then made else text) e
 
-    plain : shebang text ≡ None → list_all is_no_front (tokens_of Yes text) ≡ true → tidied text ≡ code_in_order text (tokens_of Yes text)
+    plain : shebang text ≡ None → list_all is_no_front (tokens_of document text) ≡ true → tidied text ≡ code_in_order text (tokens_of document text)
     plain none all =
         let whole : made ≡ source_tidied text = ap (λ (k : ℕ). take k text ++ source_tidied (drop k text)) (ap end_of none) in
         ap (λ (b : Bool). if b then made else text) (ap (λ (l : Option ℕ). is_same_len (shebang made) l) none ∙ ap (λ (l : Option ℕ). is_same_len l None) (ap shebang whole ∙ stays-none text is none))
-        ∙ (whole ∙ source-code text (tokens_of Yes text) all)
+        ∙ (whole ∙ source-code text (tokens_of document text) all)
 
     by_check : (b : Bool) → is_same_len (shebang made) (shebang text) ≡ b → DocumentLaw text
     by_check false e = record {

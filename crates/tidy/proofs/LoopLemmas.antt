@@ -1,18 +1,18 @@
 -- One token more of a text in order.
-use Rattle.std.proofs.Common.{◌≡◌, ℕ, suc, ◌+◌, ◌≤◌, ◌==◌, inl, inr, Bool, true≢false, if◌then◌else◌, List, [], ◌∷◌, ◌++◌, length, take, drop, codes, refl, sym, ap, ◌∙◌, arith, length-drop, append_assoc}
+use Rattle.std.proofs.Common.{◌≡◌, ℕ, suc, ◌+◌, ◌≤◌, ◌==◌, inl, inr, Bool, true≢false, if◌then◌else◌, List, [], ◌∷◌, ◌++◌, length, take, drop, codes, sym, ap, ◌∙◌, arith, length-drop, append_assoc}
 use Rattle.std.proofs.lemmas.Bool.{cases_Bool, eqb-true, eq-eqb, ne_eqb}
-use Rattle.rustc_lexer.specs.declared.token.FrontmatterAllowed.{FrontmatterAllowed}
 use Rattle.rustc_lexer.specs.declared.token.Token.{Token}
+use Rattle.rustc_lexer.specs.LanguageText.{Mode}
 use Rattle.rustc_lexer.specs.State.{State, StandsAt}
 use Rattle.rustc_lexer.specs.Tokens.{tokens_of, tokens_left, TakesToken}
 use Rattle.rustc_lexer.proofs.PlaceLemmas.{stands_past}
+use Rattle.rustc_lexer.proofs.TokensLemmas.{tokens-nil, tokens-some}
 use Rattle.tidy.specs.Order.{in_order, is_space, space_in_order, part_in_order, code_in_order}
 
 -- white space is the last token where no text is left
-pub space-last : (allowed : FrontmatterAllowed) (rest space : List ℕ) → space_in_order space (tokens_of allowed rest) ≡ (if length rest == 0 then codes "\n" else in_order space)
-unfolding tokens_of
-space-last allowed [] space = refl
-space-last allowed (c ∷ rest) space = sym (ap (λ (b : Bool). if b then codes "\n" else in_order space) (ne_eqb (suc (length rest)) 0 (λ e. omega (arith, e))))
+pub space-last : (mode : Mode) (rest space : List ℕ) → space_in_order space (tokens_of mode rest) ≡ (if length rest == 0 then codes "\n" else in_order space)
+space-last mode [] space = ap (space_in_order space) (tokens-nil mode)
+space-last mode (c ∷ rest) space = ap (space_in_order space) (tokens-some mode c rest).2 ∙ sym (ap (λ (b : Bool). if b then codes "\n" else in_order space) (ne_eqb (suc (length rest)) 0 (λ e. omega (arith, e))))
 
 -- whether a place is the end of the text
 pub end-is : (text rest : List ℕ) (place : ℕ) → place ≤ length text → drop place text ≡ rest → (place == length text) ≡ (length rest == 0)
@@ -42,4 +42,4 @@ code-step text place s t token before now part whole at step is made more =
     written : (if is_space token.kind then (if place + token.len == length text then codes "\n" else in_order part) else part) ≡ part_in_order token.kind (take token.len s.rest) (tokens_left t)
     written =
         ap (λ (xs : List ℕ). if is_space token.kind then (if place + token.len == length text then codes "\n" else in_order xs) else xs) is
-        ∙ ap (λ (xs : List ℕ). if is_space token.kind then xs else take token.len s.rest) (ap (λ (b : Bool). if b then codes "\n" else in_order (take token.len s.rest)) last ∙ sym (space-last t.frontmatter_allowed t.rest (take token.len s.rest)))
+        ∙ ap (λ (xs : List ℕ). if is_space token.kind then xs else take token.len s.rest) (ap (λ (b : Bool). if b then codes "\n" else in_order (take token.len s.rest)) last ∙ sym (space-last t.mode t.rest (take token.len s.rest)))

@@ -6,20 +6,22 @@ use Rattle.std.specs.Char.{encode_utf8}
 use Rattle.std.specs.List.{list_all}
 use Rattle.std.specs.Str.{chars, encode_utf8_all, IsUtf8}
 use Rattle.unicode_ident.proofs.Computing.{unicode_ident}
-use Rattle.rustc_lexer.specs.declared.token.FrontmatterAllowed.TheVariants.{Yes, No}
+use Rattle.rustc_lexer.specs.declared.edition.Edition.TheVariants.{E2024}
 use Rattle.rustc_lexer.specs.declared.token.Token.{Token}
 use Rattle.rustc_lexer.specs.declared.token.TokenKind.{TokenKind}
 use Rattle.rustc_lexer.specs.declared.token.TokenKind.TheVariants.{Pound, Bang}
 use Rattle.rustc_lexer.specs.Emoji.{is_emoji, emoji_ranges}
 use Rattle.rustc_lexer.specs.Language as the
-use Rattle.rustc_lexer.specs.Language.{has_rule, AreTokens, something}
+use Rattle.rustc_lexer.specs.Language.{has_rule}
+use Rattle.rustc_lexer.specs.LanguageText.{document, part, AreTokens, something}
 use Rattle.rustc_lexer.specs.Spans.{bytes}
 use Rattle.rustc_lexer.specs.laws.LanguageFrontmatter.{opens-none}
 use Rattle.rustc_lexer.specs.means.Scan.{begins}
 use Rattle.rustc_lexer.specs.means.Shebang.{is_passed, is_open_bracket, is_attribute, line_len, shebang_past, shebang}
 use Rattle.rustc_lexer.specs.Texts.{IsText}
 use Rattle.rustc_lexer.specs.Tokens.{tokens_of}
-use Rattle.rustc_lexer.proofs.LanguageLemmas.{language}
+use Rattle.rustc_lexer.proofs.LanguageInLemmas.{of_page}
+use Rattle.rustc_lexer.proofs.LanguageTextLemmas.{language}
 use Rattle.tidy.specs.Order.{is_space, is_front, is_no_front, space_in_order, if_kept, code_in_order, front_in_order, source_in_order, source_tidied, source_parts, parts}
 use Rattle.tidy.proofs.NearLemmas.{near-begins}
 use Rattle.tidy.proofs.SourceLemmas.{SourceLaw, source-law}
@@ -77,13 +79,13 @@ unfolding unicode_ident is_emoji emoji_ranges
 bang-alone = refl
 
 mark-tokens : (text : List ℕ) → IsText text → begins (codes "#!") text ≡ true
-    → tokens_of Yes text ≡ record { kind = Pound; len = bytes (35 ∷ []) } ∷ record { kind = Bang; len = bytes (33 ∷ []) } ∷ tokens_of No (drop 2 text)
+    → tokens_of document text ≡ record { kind = Pound; len = bytes (35 ∷ []) } ∷ record { kind = Bang; len = bytes (33 ∷ []) } ∷ tokens_of (part E2024) (drop 2 text)
 mark-tokens text is e =
     let m = marked text is e in
-    let rest : AreTokens No (chars (drop 2 text)) (tokens_of No (drop 2 text)) = (language (drop 2 text) No m.rest_is (tokens_of No (drop 2 text))).1 refl in
-    sym ((language text Yes is (record { kind = Pound; len = bytes (35 ∷ []) } ∷ record { kind = Bang; len = bytes (33 ∷ []) } ∷ tokens_of No (drop 2 text))).0
-    (subst (λ (cs : List ℕ). AreTokens Yes cs (record { kind = Pound; len = bytes (35 ∷ []) } ∷ record { kind = Bang; len = bytes (33 ∷ []) } ∷ tokens_of No (drop 2 text))) (sym m.chars_are)
-    (something {w = []} {next = 33 ∷ chars (drop 2 text)} (the.pound refl) (λ y. opens-none (35 ∷ 33 ∷ chars (drop 2 text)) refl) (something {w = []} {next = chars (drop 2 text)} (the.symbol {c = 33} bang-alone) (λ y. absurd (cc)) rest))))
+    let rest : AreTokens (part E2024) (chars (drop 2 text)) (tokens_of (part E2024) (drop 2 text)) = (language (drop 2 text) (part E2024) m.rest_is (tokens_of (part E2024) (drop 2 text))).1 refl in
+    sym ((language text document is (record { kind = Pound; len = bytes (35 ∷ []) } ∷ record { kind = Bang; len = bytes (33 ∷ []) } ∷ tokens_of (part E2024) (drop 2 text))).0
+    (subst (λ (cs : List ℕ). AreTokens document cs (record { kind = Pound; len = bytes (35 ∷ []) } ∷ record { kind = Bang; len = bytes (33 ∷ []) } ∷ tokens_of (part E2024) (drop 2 text))) (sym m.chars_are)
+    (something {w = []} {next = 33 ∷ chars (drop 2 text)} (of_page refl (the.pound refl)) (λ y. opens-none (35 ∷ 33 ∷ chars (drop 2 text)) refl) (something {w = []} {next = chars (drop 2 text)} (of_page refl (the.symbol {c = 33} bang-alone)) (λ y. absurd (cc)) rest))))
 
 -- ---- kinds
 
@@ -110,12 +112,12 @@ attribute-kinds [] = refl
 attribute-kinds (t ∷ ts) = ap (λ (b : Bool). if is_passed t.kind then b else is_open_bracket t.kind) (attribute-kinds ts)
 
 same-attribute : (text other : List ℕ) → IsText text → IsText other → begins (codes "#!") text ≡ true → begins (codes "#!") other ≡ true → source_parts other ≡ source_parts text
-    → is_attribute (tokens_of No (drop 2 other)) ≡ is_attribute (tokens_of No (drop 2 text))
+    → is_attribute (tokens_of (part E2024) (drop 2 other)) ≡ is_attribute (tokens_of (part E2024) (drop 2 text))
 unfolding kinds
 same-attribute text other is other_is e f same =
-    attribute-kinds (tokens_of No (drop 2 other))
-    ∙ (ap (λ (ks : List TokenKind). attribute_of (drop 2 ks)) (sym (ap kinds (mark-tokens other other_is f)) ∙ (sym (parts-kinds other (tokens_of Yes other)) ∙ (ap kinds_of same ∙ (parts-kinds text (tokens_of Yes text) ∙ ap kinds (mark-tokens text is e)))))
-    ∙ sym (attribute-kinds (tokens_of No (drop 2 text))))
+    attribute-kinds (tokens_of (part E2024) (drop 2 other))
+    ∙ (ap (λ (ks : List TokenKind). attribute_of (drop 2 ks)) (sym (ap kinds (mark-tokens other other_is f)) ∙ (sym (parts-kinds other (tokens_of document other)) ∙ (ap kinds_of same ∙ (parts-kinds text (tokens_of document text) ∙ ap kinds (mark-tokens text is e)))))
+    ∙ sym (attribute-kinds (tokens_of (part E2024) (drop 2 text))))
 
 -- ---- no shebang line comes
 
@@ -131,8 +133,8 @@ if_none : (b : Bool) (n : ℕ) → (if b then None else Some n) ≡ None → b �
 if_none true n e = refl
 if_none false n e = absurd (cc e)
 
-no_line : (tail : List ℕ) → shebang_past tail ≡ None → is_attribute (tokens_of No tail) ≡ true
-no_line tail e = if_none (is_attribute (tokens_of No tail)) (2 + line_len tail) e
+no_line : (tail : List ℕ) → shebang_past tail ≡ None → is_attribute (tokens_of (part E2024) tail) ≡ true
+no_line tail e = if_none (is_attribute (tokens_of (part E2024) tail)) (2 + line_len tail) e
 
 pub stays-none : (text : List ℕ) → IsText text → shebang text ≡ None → shebang (source_tidied text) ≡ None
 stays-none text is none = elim (cases_Bool (begins (codes "#!") text)) [

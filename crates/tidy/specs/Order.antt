@@ -2,11 +2,11 @@
 use Rattle.std.specs.Prelude.{◌≡◌, ℕ, ◌-◌, ◌<◌, ◌≤◌, get_or, ◌==◌, ◌&&◌, ◌||◌, not, Bool, true, false, if◌then◌else◌, List, [], ◌∷◌, ◌++◌, length, take, drop, codes, Option, Some, None}
 use Rattle.std.specs.List.{list_all}
 use Rattle.std.specs.Str.{byte}
-use Rattle.rustc_lexer.specs.declared.token.FrontmatterAllowed.TheVariants.{Yes}
 use Rattle.rustc_lexer.specs.declared.token.Token.{Token}
 use Rattle.rustc_lexer.specs.declared.token.TokenKind.{TokenKind}
 use Rattle.rustc_lexer.specs.declared.token.TokenKind.TheVariants.{Whitespace, Frontmatter}
 use Rattle.rustc_lexer.specs.Classes.{is_among}
+use Rattle.rustc_lexer.specs.LanguageText.{document}
 use Rattle.rustc_lexer.specs.means.Scan.{begins}
 use Rattle.rustc_lexer.specs.means.Shebang.{shebang}
 use Rattle.rustc_lexer.specs.Tokens.{tokens_of}
@@ -81,7 +81,7 @@ begins_with front (token ∷ tokens) = is_same_front front.kind token.kind && to
 -- where a frontmatter is first, what follows it is put in order only if the frontmatter stays one, and as long: what ends one
 -- that is not closed may be white space behind it
 abbrev pub if_kept : Token → List ℕ → List ℕ → List ℕ
-if_kept front text out = if begins_with front (tokens_of Yes out) then out else text
+if_kept front text out = if begins_with front (tokens_of document out) then out else text
 
 abbrev pub front_in_order : List ℕ → List Token → List ℕ
 front_in_order text [] = []
@@ -97,7 +97,7 @@ source_in_order text (token ∷ tokens) =
     else front_in_order text (token ∷ tokens)
 
 abbrev pub source_tidied : List ℕ → List ℕ
-source_tidied text = source_in_order text (tokens_of Yes text)
+source_tidied text = source_in_order text (tokens_of document text)
 
 -- a shebang line stays, and what follows it is a source
 abbrev pub end_of : Option ℕ → ℕ
@@ -126,7 +126,7 @@ pub record Solid : Type 0 where
   pub parts : List (TokenKind × List ℕ)
 
 abbrev pub source_parts : List ℕ → List (TokenKind × List ℕ)
-source_parts text = parts text (tokens_of Yes text)
+source_parts text = parts text (tokens_of document text)
 
 abbrev pub solid : List ℕ → Solid
 solid text = record { line = take (line_end text) text; parts = source_parts (drop (line_end text) text) }
@@ -140,4 +140,4 @@ pub record IsSound (text : List ℕ) : Type 0 where
   pub solid_same : solid (tidied text) ≡ solid text
   pub again : tidied (tidied text) ≡ tidied text
   pub shorter : length (tidied text) ≤ length text
-  pub in_order : shebang text ≡ None → list_all is_no_front (tokens_of Yes text) ≡ true → tidied text ≡ code_in_order text (tokens_of Yes text)
+  pub in_order : shebang text ≡ None → list_all is_no_front (tokens_of document text) ≡ true → tidied text ≡ code_in_order text (tokens_of document text)

@@ -1,6 +1,7 @@
 //! White space and tokens in order.
 ghost use Rattle.std.specs.Prelude.{◌≡◌, ◌<◌, ◌≤◌, ◌-◌, ◌++◌, OnOk, drop, length, false, true, string_bytes, if◌then◌else◌, codes};
 ghost use Rattle.rustc_lexer.specs.Classes.{Fits};
+ghost use Rattle.rustc_lexer.specs.LanguageText.{mode_of};
 ghost use Rattle.rustc_lexer.specs.Spans.{AreAll};
 ghost use Rattle.rustc_lexer.specs.Tokens.{tokens_of};
 ghost use Rattle.tidy.specs.Order as spec;
@@ -17,7 +18,7 @@ pub fn push_code(
 ) -> Result<(), AllocError>
     requires fits { Fits text.now }
     ensures { OnOk result (string_bytes output.new
-        ≡ string_bytes output.old ++ spec.code_in_order text.now (tokens_of allowed text.now)) }
+        ≡ string_bytes output.old ++ spec.code_in_order text.now (tokens_of (mode_of allowed) text.now)) }
 {
     let mut start = 0;
     for token in tokenize(text, allowed) {

@@ -1,6 +1,7 @@
 //! A source in order, with a frontmatter in front or without.
 ghost use Rattle.std.specs.Prelude.{◌≡◌, ◌++◌, OnOk, string_bytes};
 ghost use Rattle.rustc_lexer.specs.Classes.{Fits};
+ghost use Rattle.rustc_lexer.specs.LanguageText.{document};
 ghost use Rattle.rustc_lexer.specs.Tokens.{tokens_of};
 ghost use Rattle.tidy.specs.Order as spec;
 
@@ -32,7 +33,7 @@ fn push_front(alloc: Global, text: &str, output: &mut String) -> Result<(), Allo
     requires fits { Fits text.now }
     ensures { OnOk result (string_bytes output.new
         ≡ string_bytes output.old
-        ++ spec.front_in_order text.now (tokens_of FrontmatterAllowed.Yes text.now)) }
+        ++ spec.front_in_order text.now (tokens_of document text.now)) }
 {
     let mut tokens = tokenize(text, FrontmatterAllowed::Yes);
     let Some(first) = tokens.next() else {
@@ -54,7 +55,7 @@ fn push_front(alloc: Global, text: &str, output: &mut String) -> Result<(), Allo
 /// Whether the first token of a text is a frontmatter with the faults and the length of this one.
 fn begins_with(front: Token, text: &str) -> bool
     requires fits { Fits text.now }
-    ensures { result ≡ spec.begins_with front (tokens_of FrontmatterAllowed.Yes text.now) }
+    ensures { result ≡ spec.begins_with front (tokens_of document text.now) }
 {
     let Some(first) = tokenize(text, FrontmatterAllowed::Yes).next() else {
         return false;

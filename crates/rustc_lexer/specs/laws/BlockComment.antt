@@ -4,7 +4,7 @@ use Rattle.rustc_lexer.specs.declared.token.DocStyle.{DocStyle}
 use Rattle.rustc_lexer.specs.declared.token.TokenKind.{TokenKind}
 use Rattle.rustc_lexer.specs.declared.token.TokenKind.TheVariants.{BlockComment}
 use Rattle.rustc_lexer.specs.means.BlockComment.{at_closing, at_opening, comment_end, block_doc_style, block_comment_to, block_comment, IsClosedAlone}
-use Rattle.rustc_lexer.specs.BlockGrammar.{Closes, at_mark, nested, past_one}
+use Rattle.rustc_lexer.specs.means.BlockGrammar.{Closes, at_mark, nested, past_one}
 use Rattle.rustc_lexer.specs.laws.BlockGrammar.{comment_end-found, comment_end-allowed}
 use Rattle.rustc_lexer.specs.laws.Reach.{IsToldBy, cut, cut_past, HasFirst, cut_first, told_same, wider, all_at, found_at, found-inside, found-same}
 use Rattle.rustc_lexer.specs.means.Scan.{IsLocalAt, IsLocal, IsFound}

@@ -3,7 +3,7 @@ use Rattle.std.proofs.Common.{◌≡◌, ℕ, zero, suc, ◌+◌, ◌≤◌, ◌
 use Rattle.std.proofs.lemmas.Bool.{and_parts, eqb-true}
 use Rattle.rustc_lexer.specs.means.Least.{more}
 use Rattle.rustc_lexer.specs.means.BlockComment.{at_closing, at_opening, end_within, comment_end, followed_by}
-use Rattle.rustc_lexer.specs.BlockGrammar.{Closes, at_mark, nested, past_one}
+use Rattle.rustc_lexer.specs.means.BlockGrammar.{Closes, at_mark, nested, past_one}
 use Rattle.rustc_lexer.specs.means.Scan.{begins}
 
 -- the two characters that a text begins with

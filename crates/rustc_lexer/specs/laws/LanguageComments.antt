@@ -8,7 +8,7 @@ use Rattle.rustc_lexer.specs.declared.token.DocStyle.TheVariants.{Outer, Inner}
 use Rattle.rustc_lexer.specs.declared.token.TokenKind.{TokenKind}
 use Rattle.rustc_lexer.specs.declared.token.TokenKind.TheVariants.{LineComment, BlockComment, Whitespace, GuardedStrPrefix, Pound, Slash}
 use Rattle.rustc_lexer.specs.means.BlockComment.{at_closing, at_opening, block_doc_style, block_comment_to, block_comment, comment_end}
-use Rattle.rustc_lexer.specs.BlockGrammar.{Closes as ClosesIn, at_mark, nested as nested_in, past_one}
+use Rattle.rustc_lexer.specs.means.BlockGrammar.{Closes as ClosesIn, at_mark, nested as nested_in, past_one}
 use Rattle.rustc_lexer.specs.Classes.{is_among, is_whitespace}
 use Rattle.rustc_lexer.specs.means.Comment.{line_doc_style, is_no_newline, line_comment, slash}
 use Rattle.rustc_lexer.specs.means.Hash.{is_guarded_mark, hash}

@@ -25,10 +25,10 @@ string_past n cs =
 
 -- with no string the n hashes are pending; a string counts what is pending, and then nothing is
 abbrev pub guarded_by : ℕ → Option (Bool × ℕ) → State → Option GuardedStr × State
-guarded_by n None s = (None, record { pending = s.pending + n; rest = drop n s.rest; frontmatter_allowed = s.frontmatter_allowed })
+guarded_by n None s = (None, record { pending = s.pending + n; rest = drop n s.rest; mode = s.mode })
 guarded_by n (Some string) s = (
   Some record { n_hashes = n; terminated = string.0; token_len = s.pending + string.1 },
-  record { pending = 0; rest = drop string.1 s.rest; frontmatter_allowed = s.frontmatter_allowed },
+  record { pending = 0; rest = drop string.1 s.rest; mode = s.mode },
 )
 
 -- the guarded string at the front of a state, if one stands there, and the state after it

@@ -1,10 +1,11 @@
 -- Means, by how it is read: the shebang line that a document may begin with.
 use Rattle.std.specs.Prelude.{ℕ, ◌+◌, ◌-◌, Bool, true, false, if◌then◌else◌, List, [], ◌∷◌, drop, codes, Option, Some, None}
 use Rattle.std.specs.List.{prefix_len}
-use Rattle.rustc_lexer.specs.declared.token.FrontmatterAllowed.TheVariants.{No}
+use Rattle.rustc_lexer.specs.declared.edition.Edition.TheVariants.{E2024}
 use Rattle.rustc_lexer.specs.declared.token.Token.{Token}
 use Rattle.rustc_lexer.specs.declared.token.TokenKind.{TokenKind}
 use Rattle.rustc_lexer.specs.declared.token.TokenKind.TheVariants.{LineComment, BlockComment, Whitespace, OpenBracket}
+use Rattle.rustc_lexer.specs.LanguageText.{part}
 use Rattle.rustc_lexer.specs.means.Comment.{is_no_newline}
 use Rattle.rustc_lexer.specs.means.Scan.{begins}
 use Rattle.rustc_lexer.specs.Tokens.{tokens_of}
@@ -35,7 +36,7 @@ line_len text = if begins (codes "\r\n") (drop (before_newline text - 1) text) t
 
 -- what follows `#!`
 abbrev pub shebang_past : List ℕ → Option ℕ
-shebang_past tail = if is_attribute (tokens_of No tail) then None else Some (2 + line_len tail)
+shebang_past tail = if is_attribute (tokens_of (part E2024) tail) then None else Some (2 + line_len tail)
 
 -- the length of the shebang line at the front of a text, if one stands there
 unfoldable pub shebang : List ℕ → Option ℕ

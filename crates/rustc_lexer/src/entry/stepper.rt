@@ -1,10 +1,11 @@
 //! A grammar, met one token at a time.
 ghost use Rattle.std.specs.Prelude.{◌≡◌, ◌+◌, ◌<◌, List, ℕ, length};
-ghost use Rattle.rustc_lexer.specs.declared.token.FrontmatterAllowed.TheVariants.{No};
+ghost use Rattle.rustc_lexer.specs.declared.edition.Edition.TheVariants.{E2024};
 ghost use Rattle.rustc_lexer.specs.declared.token.Token.{Token};
 ghost use Rattle.rustc_lexer.specs.Classes.{Fits};
 ghost use Rattle.rustc_lexer.specs.Cuts.{tokens_by};
 ghost use Rattle.rustc_lexer.specs.Edition.{first_token_in, year};
+ghost use Rattle.rustc_lexer.specs.LanguageText.{part};
 ghost use Rattle.rustc_lexer.specs.means.Lexeme.{first_token};
 ghost use Rattle.rustc_lexer.specs.Texts.{IsGrammar};
 ghost use Rattle.rustc_lexer.specs.Tokens.{tokens_of};
@@ -55,7 +56,7 @@ impl Steps {
         ensures number { ⟦<Steps as Stepper>⟧.number result ≡ 2024 }
         ensures grammar { ⟦<Steps as Stepper>⟧.grammar result ≡ first_token }
         ensures tokens { (text : List ℕ)
-            → tokens_by (⟦<Steps as Stepper>⟧.grammar result) text ≡ tokens_of No text }
+            → tokens_by (⟦<Steps as Stepper>⟧.grammar result) text ≡ tokens_of (part E2024) text }
     {
         Steps::new_in(Edition::E2024)
     }

@@ -4,7 +4,7 @@ ghost use Rattle.std.specs.Str.{chars};
 ghost use Rattle.rustc_lexer.specs.declared.token.TokenKind.{TokenKind};
 ghost use Rattle.rustc_lexer.specs.means.BlockComment as spec;
 ghost use Rattle.rustc_lexer.specs.means.BlockComment.{IsClosedAlone};
-ghost use Rattle.rustc_lexer.specs.BlockGrammar.{Closes, IsEnd};
+ghost use Rattle.rustc_lexer.specs.means.BlockGrammar.{Closes, IsEnd};
 ghost use Rattle.rustc_lexer.specs.means.Scan.{IsFound, IsLocal, or_all, scanned};
 
 use crate::scan::{eat_until_either, first, second, split_first, strip};

@@ -1,10 +1,11 @@
 //! A text that is kept with its tokens.
 ghost use Rattle.std.specs.Prelude.{◌≡◌, ◌+◌, ◌≤◌, ◌↔◌, IfOk, IfErr, OnOk, OnErr, IsTrue, length, string_bytes};
-ghost use Rattle.rustc_lexer.specs.declared.token.FrontmatterAllowed.TheVariants.{No};
+ghost use Rattle.rustc_lexer.specs.declared.edition.Edition.TheVariants.{E2024};
 ghost use Rattle.rustc_lexer.specs.Classes.{Fits};
 ghost use Rattle.rustc_lexer.specs.Cuts.{tokens_by};
 ghost use Rattle.rustc_lexer.specs.Edits.{IsEdit, IsInside, apply, bytes_or, relexed_of};
 ghost use Rattle.rustc_lexer.specs.LanguageHolds.{HoldsTheOnlyTokensBy};
+ghost use Rattle.rustc_lexer.specs.LanguageText.{part};
 ghost use Rattle.rustc_lexer.specs.means.Lexeme.{first_token};
 ghost use Rattle.rustc_lexer.specs.Tokens.{tokens_of};
 
@@ -34,7 +35,7 @@ pub struct LexedText<S: Stepper> {
 impl<S: Stepper> Model for LexedText<S> {
     ghost use Rattle.std.specs.Prelude.{◌≡◌};
     ghost use Rattle.std.specs.String.{string_bytes};
-    ghost use Rattle.rustc_lexer.specs.Held.{Held};
+    ghost use Rattle.rustc_lexer.specs.Pieces.{Held};
     ghost use Rattle.rustc_lexer.specs.Cuts.{tokens_by};
     ghost use Rattle.rustc_lexer.specs.means.Landmarks.{AreBounds};
     ghost use Rattle.rustc_lexer.specs.Texts.{IsText};
@@ -185,7 +186,7 @@ impl LexedText<Steps> {
     pub fn new(alloc: Global, text: &str) -> Result<LexedText<Steps>, AllocError>
         requires fits { Fits text.now }
         ensures text { IfOk result (λ l. l.text ≡ text.now) }
-        ensures from_scratch { IfOk result (λ l. l.tokens ≡ tokens_of No text.now) }
+        ensures from_scratch { IfOk result (λ l. l.tokens ≡ tokens_of (part E2024) text.now) }
         ensures grammar { IfOk result (λ l. ⟦<Steps as Stepper>⟧.grammar l.stepper ≡ first_token) }
         ensures number { IfOk result (λ l. ⟦<Steps as Stepper>⟧.number l.stepper ≡ 2024) }
         ensures count { IfOk result (λ l. ⟦<Steps as Stepper>⟧.count l.stepper ≡ length l.tokens) }

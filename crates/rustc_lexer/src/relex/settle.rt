@@ -1,7 +1,8 @@
 //! How far the tokens of a text are sure, however the text goes on.
-ghost use Rattle.rustc_lexer.specs.declared.token.FrontmatterAllowed.TheVariants.{No};
+ghost use Rattle.rustc_lexer.specs.declared.edition.Edition.TheVariants.{E2024};
 ghost use Rattle.rustc_lexer.specs.Classes.{Fits};
 ghost use Rattle.rustc_lexer.specs.Cuts.{tokens_by};
+ghost use Rattle.rustc_lexer.specs.LanguageText.{part};
 ghost use Rattle.rustc_lexer.specs.Settled.{AreLocal, IsSettled, StaysUpTo};
 ghost use Rattle.rustc_lexer.specs.Tokens.{tokens_of};
 
@@ -13,9 +14,9 @@ use crate::relex::front::two_stand;
 /// Whatever is written behind the text, its tokens up to there stay as they are.
 pub fn settled(text: &str) -> usize
     requires fits { Fits text.now }
-    ensures settled { IsSettled text.now (tokens_of No text.now) result }
-    ensures stays { StaysUpTo result text.now (tokens_of No) }
-    ensures local { AreLocal (tokens_of No) }
+    ensures settled { IsSettled text.now (tokens_of (part E2024) text.now) result }
+    ensures stays { StaysUpTo result text.now (tokens_of (part E2024)) }
+    ensures local { AreLocal (tokens_of (part E2024)) }
 {
     settled_by(&mut Steps::new(), text)
 }

@@ -1,5 +1,6 @@
 use Rattle.std.specs.Fmt.{WritesInCalls}
-use Rattle.rustc_lexer.specs.declared.token.FrontmatterAllowed.TheVariants.{No}
+use Rattle.rustc_lexer.specs.declared.edition.Edition.TheVariants.{E2024}
+use Rattle.rustc_lexer.specs.LanguageText.{part}
 use Rattle.rustc_lexer.specs.State.{StandsAt}
 use Rattle.rustc_lexer.specs.Tokens.{tokens_of, tokens_left}
 use Rattle.examples.specs.Highlight.{parts, with_marks}
@@ -9,5 +10,5 @@ abbrev pub invariant-loop-token : goal.invariant-loop-token
 invariant-loop-token g l = record {
   place : StandsAt l.text l.start l.token-iterator;
   left : (w : _) → WritesInCalls g.W.Write.write_str_gives l.output (with_marks (parts l.token-iterator.rest (tokens_left l.token-iterator))) w
-      → WritesInCalls g.W.Write.write_str_gives l.initial.output (with_marks (parts l.text (tokens_of No l.text))) w;
+      → WritesInCalls g.W.Write.write_str_gives l.initial.output (with_marks (parts l.text (tokens_of (part E2024) l.text))) w;
 }

@@ -1,6 +1,7 @@
 use Rattle.std.proofs.Common.{◌≡◌}
-use Rattle.rustc_lexer.specs.declared.token.FrontmatterAllowed.TheVariants.{No}
+use Rattle.rustc_lexer.specs.declared.edition.Edition.TheVariants.{E2024}
 use Rattle.rustc_lexer.specs.Pieces.{pieces_from, pieces_of}
+use Rattle.rustc_lexer.specs.LanguageText.{part}
 use Rattle.rustc_lexer.specs.State.{StandsAt}
 use Rattle.rustc_lexer.specs.Tokens.{tokens_of, tokens_left}
 use Rattle.examples.specs.Slices.{find_start}
@@ -9,5 +10,5 @@ use Rattle.examples.proofs.slices.find_word.Given as goal
 abbrev pub invariant-loop-token : goal.invariant-loop-token
 invariant-loop-token l = record {
   place : StandsAt l.text l.start l.token-iterator;
-  found : find_start l.word (pieces_from l.text l.start (tokens_left l.token-iterator)) ≡ find_start l.word (pieces_of l.text (tokens_of No l.text));
+  found : find_start l.word (pieces_from l.text l.start (tokens_left l.token-iterator)) ≡ find_start l.word (pieces_of l.text (tokens_of (part E2024) l.text));
 }

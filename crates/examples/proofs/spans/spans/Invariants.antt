@@ -1,6 +1,6 @@
 use Rattle.std.proofs.Common.{◌≡◌, ◌++◌, map}
-use Rattle.rustc_lexer.specs.declared.token.FrontmatterAllowed.TheVariants.{Yes}
 use Rattle.rustc_lexer.specs.Pieces.{pieces_from, pieces_of}
+use Rattle.rustc_lexer.specs.LanguageText.{document}
 use Rattle.rustc_lexer.specs.State.{StandsAt}
 use Rattle.rustc_lexer.specs.Tokens.{tokens_of, tokens_left}
 use Rattle.examples.specs.Spans.{spanned, spans_of}
@@ -9,5 +9,5 @@ use Rattle.examples.proofs.spans.spans.Given as goal
 abbrev pub invariant-loop-token : goal.invariant-loop-token
 invariant-loop-token l = record {
   place : StandsAt l.text l.start l.token-iterator;
-  left : map spanned l.spans.items ++ spans_of (pieces_from l.text l.start (tokens_left l.token-iterator)) ≡ spans_of (pieces_of l.text (tokens_of Yes l.text));
+  left : map spanned l.spans.items ++ spans_of (pieces_from l.text l.start (tokens_left l.token-iterator)) ≡ spans_of (pieces_of l.text (tokens_of document l.text));
 }

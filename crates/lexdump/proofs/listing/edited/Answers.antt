@@ -2,7 +2,8 @@ use Rattle.std.proofs.Common.{ℕ, List, Result, Ok, ap, ◌∙◌, sym}
 use Rattle.std.proofs.lemmas.Result.{err_from_is_err_and}
 use Rattle.rustc_lexer.specs.declared.token.Token.{Token}
 use Rattle.rustc_lexer.specs.Cuts.{tokens_by}
-use Rattle.rustc_lexer.specs.Edition.{tokens_in}
+use Rattle.rustc_lexer.specs.LanguageText.{part}
+use Rattle.rustc_lexer.specs.Tokens.{tokens_of}
 use Rattle.lexdump.specs.declared.fault.Fault.{Fault}
 use Rattle.lexdump.specs.Listing.{listing}
 use Rattle.lexdump.specs.Outcome.{listed}
@@ -18,4 +19,4 @@ pub returns-clause-ok : goal.returns-clause-ok
 returns-clause-ok c =
     rw (← c.in_ok-lexed.ensures.text) (ap (listed c.args.edition) (edited-all 0 _ _ c.in_ok-edit_all.ensures.accepted)
     ∙ ap (λ (xs : List ℕ). let r : Result (List ℕ) Fault = Ok xs in r) (sym (ap listing (c.in_ok-edit_all.ensures.from_scratch
-    ∙ (ap (λ (first : List ℕ → Token). tokens_by first c.edit_all.new.self.text) c.in_ok-lexed.ensures.grammar ∙ ap (tokens_in c.args.edition) c.in_ok-edit_all.ensures.text)))))
+    ∙ (ap (λ (first : List ℕ → Token). tokens_by first c.edit_all.new.self.text) c.in_ok-lexed.ensures.grammar ∙ ap (tokens_of (part c.args.edition)) c.in_ok-edit_all.ensures.text)))))

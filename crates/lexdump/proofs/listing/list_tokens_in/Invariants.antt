@@ -1,12 +1,13 @@
 use Rattle.std.proofs.Common.{◌≡◌, false, length}
-use Rattle.rustc_lexer.specs.Edition.{tokens_in, tokens_left_in}
+use Rattle.rustc_lexer.specs.LanguageText.{part}
+use Rattle.rustc_lexer.specs.Tokens.{tokens_of, tokens_left}
 use Rattle.lexdump.proofs.ListingLemmas.{Lists}
 use Rattle.lexdump.proofs.listing.list_tokens_in.Given as goal
 
 abbrev pub invariant-loop-token : goal.invariant-loop-token
 invariant-loop-token g l =
     (l.output.failed ≡ false)
-    × Lists (g.W.Write.contents l.fn.output.inner) (g.W.Write.contents l.output.inner) (tokens_in l.fn.edition l.text) (tokens_left_in l.token-iterator) l.fn.lines l.lines l.place (length l.text)
+    × Lists (g.W.Write.contents l.fn.output.inner) (g.W.Write.contents l.output.inner) (tokens_of (part l.fn.edition) l.text) (tokens_left l.token-iterator) l.fn.lines l.lines l.place (length l.text)
 
 abbrev pub decreases-loop-token : goal.decreases-loop-token
 decreases-loop-token g l = length l.token-iterator.rest

@@ -1,8 +1,9 @@
 use Rattle.std.proofs.Common.{◌≡◌, ◌<◌, ℕ, List, length, ap, ◌∙◌}
 use Rattle.std.specs.Str.{chars}
-use Rattle.rustc_lexer.specs.declared.token.FrontmatterAllowed.TheVariants.{No}
+use Rattle.rustc_lexer.specs.declared.edition.Edition.TheVariants.{E2024}
 use Rattle.rustc_lexer.specs.declared.token.Token.{Token}
 use Rattle.rustc_lexer.specs.Edition.{changed}
+use Rattle.rustc_lexer.specs.LanguageText.{part}
 use Rattle.rustc_lexer.specs.means.Lexeme.{first_token}
 use Rattle.rustc_lexer.specs.State.{State}
 use Rattle.rustc_lexer.specs.means.Taking.{advance}
@@ -11,8 +12,8 @@ use Rattle.rustc_lexer.proofs.StateLemmas.{first-advanced, state}
 use Rattle.rustc_lexer.proofs.edition.token_in.Goals as goal
 
 -- the token that is changed is the first one of the text
-base : (text : List ℕ) (s : State) (token : Token) → token ≡ (advance s).0 → s ≡ state 0 text No → 0 < length text → token ≡ first_token text
-base text s token e is some = e ∙ first-advanced text No s is some
+base : (text : List ℕ) (s : State) (token : Token) → token ≡ (advance s).0 → s ≡ state 0 text (part E2024) → 0 < length text → token ≡ first_token text
+base text s token e is some = e ∙ first-advanced text (part E2024) s is some
 
 pub returns-clause-token : goal.returns-clause-token
 returns-clause-token c =

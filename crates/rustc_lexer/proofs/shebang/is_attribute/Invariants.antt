@@ -1,11 +1,12 @@
 use Rattle.std.proofs.Common.{◌≡◌, length}
-use Rattle.rustc_lexer.specs.declared.token.FrontmatterAllowed.TheVariants.{No}
+use Rattle.rustc_lexer.specs.declared.edition.Edition.TheVariants.{E2024}
+use Rattle.rustc_lexer.specs.LanguageText.{part}
 use Rattle.rustc_lexer.specs.means.Shebang.{is_attribute}
 use Rattle.rustc_lexer.specs.Tokens.{tokens_of, tokens_left}
 use Rattle.rustc_lexer.proofs.shebang.is_attribute.Given as goal
 
 abbrev pub invariant-loop-token : goal.invariant-loop-token
-invariant-loop-token l = is_attribute (tokens_left l.token-iterator) ≡ is_attribute (tokens_of No l.tail)
+invariant-loop-token l = is_attribute (tokens_left l.token-iterator) ≡ is_attribute (tokens_of (part E2024) l.tail)
 
 abbrev pub decreases-loop-token : goal.decreases-loop-token
 decreases-loop-token l = length l.token-iterator.rest

@@ -2,8 +2,10 @@
 ghost use Rattle.std.specs.Prelude.{◌≡◌, IfOk, OnErr, OnOk, length};
 ghost use Rattle.rustc_lexer.specs.declared.edition.Edition.{Edition};
 ghost use Rattle.rustc_lexer.specs.Classes.{Fits};
-ghost use Rattle.rustc_lexer.specs.Edition.{first_token_in, tokens_in, year};
-ghost use Rattle.rustc_lexer.specs.LanguageHolds.{HoldsTheOnlyTokensIn};
+ghost use Rattle.rustc_lexer.specs.Edition.{first_token_in, year};
+ghost use Rattle.rustc_lexer.specs.LanguageHolds.{HoldsTheOnlyTokens};
+ghost use Rattle.rustc_lexer.specs.LanguageText.{part};
+ghost use Rattle.rustc_lexer.specs.Tokens.{tokens_of};
 
 use crate::edition::Edition;
 use crate::entry::stepper::{Stepper, Steps};
@@ -20,10 +22,10 @@ impl LexedText<Steps> {
     ) -> Result<LexedText<Steps>, AllocError>
         requires fits { Fits text.now }
         ensures text { IfOk result (λ l. l.text ≡ text.now) }
-        ensures from_scratch { IfOk result (λ l. l.tokens ≡ tokens_in edition text.now) }
+        ensures from_scratch { IfOk result (λ l. l.tokens ≡ tokens_of (part edition) text.now) }
         ensures grammar { IfOk result
             (λ l. ⟦<Steps as Stepper>⟧.grammar l.stepper ≡ first_token_in edition) }
-        ensures language { IfOk result (λ l. HoldsTheOnlyTokensIn edition text.now l.tokens) }
+        ensures language { IfOk result (λ l. HoldsTheOnlyTokens (part edition) text.now l.tokens) }
         ensures number { IfOk result (λ l. ⟦<Steps as Stepper>⟧.number l.stepper ≡ year edition) }
         ensures count { IfOk result (λ l. ⟦<Steps as Stepper>⟧.count l.stepper ≡ length l.tokens) }
     {
@@ -36,8 +38,8 @@ impl LexedText<Steps> {
         ensures only { (edition : Edition)
             → ⟦<Steps as Stepper>⟧.number self.now.stepper ≡ year edition → result ≡ edition }
         ensures grammar { ⟦<Steps as Stepper>⟧.grammar self.now.stepper ≡ first_token_in result }
-        ensures from_scratch { self.now.tokens ≡ tokens_in result self.now.text }
-        ensures language { HoldsTheOnlyTokensIn result self.now.text self.now.tokens }
+        ensures from_scratch { self.now.tokens ≡ tokens_of (part result) self.now.text }
+        ensures language { HoldsTheOnlyTokens (part result) self.now.text self.now.tokens }
     {
         self.stepper.edition()
     }
@@ -45,9 +47,9 @@ impl LexedText<Steps> {
     /// Lexes the text again, in another edition. Where memory is refused nothing changes.
     pub fn set_edition(&mut self, edition: Edition) -> Result<(), AllocError>
         ensures text { self.new.text ≡ self.old.text }
-        ensures from_scratch { OnOk result (self.new.tokens ≡ tokens_in edition self.new.text) }
+        ensures from_scratch { OnOk result (self.new.tokens ≡ tokens_of (part edition) self.new.text) }
         ensures language { OnOk result
-            (HoldsTheOnlyTokensIn edition self.new.text self.new.tokens) }
+            (HoldsTheOnlyTokens (part edition) self.new.text self.new.tokens) }
         ensures grammar { OnOk result
             (⟦<Steps as Stepper>⟧.grammar self.new.stepper ≡ first_token_in edition) }
         ensures number { OnOk result (⟦<Steps as Stepper>⟧.number self.new.stepper ≡ year edition) }

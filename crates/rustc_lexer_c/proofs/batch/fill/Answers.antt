@@ -1,24 +1,26 @@
 use Rattle.std.proofs.Common.{◌≡◌, ℕ, ◌+◌, List, length, take, drop, refl, sym, ap, ◌∙◌, arith, slice_set}
 use Rattle.std.proofs.lemmas.List.{length-set}
 use Rattle.rustc_lexer.specs.declared.token.FrontmatterAllowed.{FrontmatterAllowed}
-use Rattle.rustc_lexer.specs.State.{State, allowed_after}
+use Rattle.rustc_lexer.specs.LanguageText.{Mode, mode_after, mode_of}
+use Rattle.rustc_lexer.specs.State.{State}
 use Rattle.rustc_lexer.specs.Tokens.{tokens_of, tokens_left}
 use Rattle.rustc_lexer.proofs.PlaceLemmas.{stands_past}
-use Rattle.rustc_lexer_c.specs.Batch.{allowed_of, allowed_number, state_at}
-use Rattle.rustc_lexer_c.proofs.BatchLemmas.{allowed_back, count_first, count_second, allowed_step, state_step, left_step, few_step, front_step, back_step, room_filled, all_taken}
+use Rattle.rustc_lexer.proofs.StateLemmas.{state}
+use Rattle.rustc_lexer_c.specs.Batch.{allowed_of, mode_number, state_at}
+use Rattle.rustc_lexer_c.proofs.BatchLemmas.{allowed_back, count_first, count_second, number_of-mode, state_step, left_step, few_step, front_step, back_step, room_filled, all_taken}
 use Rattle.rustc_lexer_c.proofs.batch.fill.Goals as goal
 use Rattle.rustc_lexer_c.proofs.batch.fill.Goals.{else-loop-count-test, then-loop-count-test+in_default}
 
-begun : (rest cut : List ℕ) (allowed given : FrontmatterAllowed) (s : State) → s ≡ record { pending = 0; rest = rest; frontmatter_allowed = allowed } → rest ≡ cut → allowed ≡ given
-    → s ≡ record { pending = 0; rest = cut; frontmatter_allowed = given }
-begun rest cut allowed given s e f g = cc
+begun : (rest cut : List ℕ) (allowed given : FrontmatterAllowed) (s : State) → s ≡ record { pending = 0; rest = rest; mode = mode_of allowed } → rest ≡ cut → allowed ≡ given
+    → s ≡ record { pending = 0; rest = cut; mode = mode_of given }
+begun rest cut allowed given s e f g = e ∙ (ap (λ xs. state 0 xs (mode_of allowed)) f ∙ ap (λ (a : FrontmatterAllowed). state 0 cut (mode_of a)) g)
 
 pub loop-count-init : goal.loop-count-init
 loop-count-init c =
     let at = begun _ _ _ _ c.tokenize-tokens.result c.tokenize-tokens.ensures.state c.range_from.ensures.value c.requires.begun in
     record {
       past = at;
-      allowed = sym (ap (λ (s : State). s.frontmatter_allowed) c.tokenize-tokens.ensures.state);
+      mode = sym (ap (λ (s : State). s.mode) c.tokenize-tokens.ensures.state);
       place = (c.requires.boundary, sym (ap (λ (s : State). s.rest) at));
       left = ap tokens_left at;
       few = omega arith;
@@ -47,7 +49,7 @@ loop-count-preserved c =
     let room = c.loop-count-test.true in
     record {
       past = state_step begin at past c.loop-count.count token inv.past step.advances;
-      allowed = c.allowed_past-allowed.ensures ∙ (ap (λ (a : FrontmatterAllowed). allowed_after a token.kind) inv.allowed ∙ sym (allowed_step at past token step.advances));
+      mode = c.allowed_past-allowed.ensures ∙ (ap (λ (m : Mode). mode_after m token.kind) inv.mode ∙ sym step.mode);
       place = stands_past c.args.text.now c.loop-count.at at past token inv.place step;
       left = left_step all (tokens_left past) c.loop-count.count token next;
       few = few_step all (tokens_left past) c.loop-count.count token next;
@@ -77,8 +79,8 @@ returns c =
       tokens = room_filled c.loop-count.room c.args.room.now all c.loop-count.count inv.front inv.back;
       boundary = inv.place.0;
       rest = inv.place.1 ∙ ap (λ (s : State). s.rest) inv.past;
-      allowed = c.allowed_number.ensures ∙ ap allowed_number (inv.allowed ∙ ap (λ (s : State). s.frontmatter_allowed) inv.past);
-      left = ap (λ n. tokens_of (allowed_of n) (drop c.loop-count.at c.args.text.now)) c.allowed_number.ensures
-          ∙ (ap (λ (a : FrontmatterAllowed). tokens_of a (drop c.loop-count.at c.args.text.now)) (allowed_back c.loop-count.allowed ∙ inv.allowed)
-          ∙ (ap (λ r. tokens_of c.loop-count.tokens.frontmatter_allowed r) inv.place.1 ∙ inv.left));
+      allowed = c.allowed_number.ensures ∙ (number_of-mode c.loop-count.allowed ∙ ap mode_number (inv.mode ∙ ap (λ (s : State). s.mode) inv.past));
+      left = ap (λ n. tokens_of (mode_of (allowed_of n)) (drop c.loop-count.at c.args.text.now)) c.allowed_number.ensures
+          ∙ (ap (λ (m : Mode). tokens_of m (drop c.loop-count.at c.args.text.now)) (ap mode_of (allowed_back c.loop-count.allowed) ∙ inv.mode)
+          ∙ (ap (λ r. tokens_of c.loop-count.tokens.mode r) inv.place.1 ∙ inv.left));
     }

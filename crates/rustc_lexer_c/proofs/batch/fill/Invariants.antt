@@ -1,4 +1,5 @@
 use Rattle.std.proofs.Common.{◌≡◌, ◌≤◌, length, map, take, drop}
+use Rattle.rustc_lexer.specs.LanguageText.{mode_of}
 use Rattle.rustc_lexer.specs.State.{StandsAt}
 use Rattle.rustc_lexer.specs.Tokens.{tokens_left}
 use Rattle.rustc_lexer_c.specs.Batch.{state_at, state_past}
@@ -8,7 +9,7 @@ use Rattle.rustc_lexer_c.proofs.batch.fill.Given as goal
 abbrev pub invariant-loop-count : goal.invariant-loop-count
 invariant-loop-count l = record {
   past : l.tokens ≡ state_past l.count (state_at l.text l.fn.place);
-  allowed : l.allowed ≡ l.tokens.frontmatter_allowed;
+  mode : mode_of l.allowed ≡ l.tokens.mode;
   place : StandsAt l.text l.at l.tokens;
   left : tokens_left l.tokens ≡ drop l.count (tokens_left (state_at l.text l.fn.place));
   few : l.count ≤ length (tokens_left (state_at l.text l.fn.place));

@@ -2,7 +2,8 @@ use Rattle.std.proofs.Common.{◌≡◌, ◌+◌, ◌∷◌, List, ℕ, map, tak
 use Rattle.std.proofs.lemmas.List.{length-set, drop-drop}
 use Rattle.rustc_lexer.specs.declared.token.Token.{Token}
 use Rattle.rustc_lexer.specs.Cuts.{tokens_by}
-use Rattle.rustc_lexer.specs.Edition.{tokens_in}
+use Rattle.rustc_lexer.specs.LanguageText.{part}
+use Rattle.rustc_lexer.specs.Tokens.{tokens_of}
 use Rattle.rustc_lexer.specs.Relexing.{IsMadeOf, Stands, known}
 use Rattle.rustc_lexer_c.specs.declared.token.CToken.{CToken}
 use Rattle.rustc_lexer_c.proofs.BatchLemmas.{front_step, back_step}
@@ -31,7 +32,7 @@ loop-count-preserved c =
       stands = λ before insert is begun.
           let so = inv.stands before insert is begun in
           let next = subst (λ (f : List ℕ → Token). IsMadeOf f before (map (λ (t : CToken). t.len) c.args.old.now) c.args.change insert text → Stands f before c.args.change text at → Stands f before c.args.change text past × (drop (known at) (tokens_by f text) ≡ token ∷ drop (known past) (tokens_by f text))) inv.grammar (c.in-Some.ensures.stands before insert) is so.0 in
-          let new = tokens_in c.args.edition text in
+          let new = tokens_of (part c.args.edition) text in
           let number = ap (λ b. b.number) inv.front in
           let here : known c.args.at.now + count ≡ known at = omega arith in
           let left : drop count (drop (known c.args.at.now) new) ≡ token ∷ drop (known past) new = drop-drop count (known c.args.at.now) new ∙ (ap (λ n. drop n new) here ∙ next.1) in (

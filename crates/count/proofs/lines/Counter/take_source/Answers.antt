@@ -1,5 +1,5 @@
 use Rattle.std.proofs.Common.{arith}
-use Rattle.rustc_lexer.specs.declared.token.FrontmatterAllowed.TheVariants.{Yes}
+use Rattle.rustc_lexer.specs.LanguageText.{document}
 use Rattle.rustc_lexer.specs.Tokens.{tokens_of, tokens_left}
 use Rattle.rustc_lexer.proofs.PlaceLemmas.{piece_is, stands_past}
 use Rattle.count.proofs.LineLemmas.{bytes_step, bytes-token_marks}
@@ -19,4 +19,4 @@ loop-token-preserved c =
     }
 
 pub returns-clause-whole : goal.returns-clause-whole
-returns-clause-whole c = bytes-token_marks (tokens_of Yes c.args.text.now) c.args.text.now c.tokenize-token-items.ensures.partitions.whole
+returns-clause-whole c = bytes-token_marks (tokens_of document c.args.text.now) c.args.text.now c.tokenize-token-items.ensures.partitions.whole

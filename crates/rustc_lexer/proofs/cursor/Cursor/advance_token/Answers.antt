@@ -1,11 +1,12 @@
 use Rattle.std.proofs.Common.{◌≡◌, ◌+◌, ◌-◌, ◌==◌, List, ℕ, length, drop, drop-drop, refl, sym, ap, subst, ◌∙◌, arith}
 use Rattle.rustc_lexer.specs.declared.token.Token.{Token}
+use Rattle.rustc_lexer.specs.LanguageText.{mode_of}
 use Rattle.rustc_lexer.specs.State.{State, token_past}
 use Rattle.rustc_lexer.specs.means.Taking.{token_at}
 use Rattle.rustc_lexer.specs.Texts.{IsText}
 use Rattle.rustc_lexer.proofs.AdvanceLemmas.{not_end, takes_pending, stays_at_end, something}
 use Rattle.rustc_lexer.specs.LanguageHolds.{TakesTokenOf}
-use Rattle.rustc_lexer.proofs.LanguageLemmas.{advance-language, takes-first}
+use Rattle.rustc_lexer.proofs.LanguageTextLemmas.{advance-language, takes-first}
 use Rattle.rustc_lexer.proofs.StateLemmas.{state, past_token, past_token-is, advance-end, advance-some}
 use Rattle.rustc_lexer.proofs.cursor.Cursor.advance_token.Goals as goal
 
@@ -18,7 +19,7 @@ returns-then-is_empty c =
       state = sym (ap (λ (r : Token × State). r.1) none);
       end = λ e. stays_at_end _ _ _ c.as_str-rest.ensures.rest (sym c.if-is_empty.ensures) refl;
       past = λ other. absurd (other refl);
-      language = subst (TakesTokenOf c.args.self.now) (ap (λ (r : Token × State). r.0) none) (advance-language c.args.self.now (subst IsText c.as_str-rest.ensures.rest record { utf8 = c.as_str-rest.utf8; fits = c.as_str-rest.ensures.fits }));
+      language = subst (TakesTokenOf c.args.self.now) (ap (λ (r : Token × State). r.0) none) (advance-language c.args.self.now c.as_str-rest.ensures.newest (subst IsText c.as_str-rest.ensures.rest record { utf8 = c.as_str-rest.utf8; fits = c.as_str-rest.ensures.fits }));
       pending = λ other. absurd (other refl);
     }
 
@@ -30,11 +31,11 @@ returns c =
     let none : (i + n) - (i + n) ≡ 0 = omega arith in
     let some = advance-some _ _ _ _ c.self.view_is (sym (ap (λ (xs : List ℕ). length xs == 0) is) ∙ sym c.if-is_empty.ensures) in
     let token = c.with_pending.ensures
-    ∙ (ap (λ (t : Token). token_past (c.self.inside.index - c.self.inside.start) t) (c.token_at-token.ensures.token ∙ ap (token_at c.self.inside.frontmatter_allowed) is)
+    ∙ (ap (λ (t : Token). token_past (c.self.inside.index - c.self.inside.start) t) (c.token_at-token.ensures.token ∙ ap (token_at (mode_of c.self.inside.frontmatter_allowed)) is)
     ∙ sym (ap (λ (r : Token × State). r.0) some)) in
-    let state = ap (λ p. state p (drop (i + n) c.self.inside.text.now) c.next_allowed-self-inside.result) none
-    ∙ (past_token-is (drop i c.self.inside.text.now) _ c.self.inside.frontmatter_allowed _ c.token_at-token.result (sym (drop-drop n i c.self.inside.text.now)) c.next_allowed-self-inside.ensures
-    ∙ (ap (λ (t : Token). past_token (drop i c.self.inside.text.now) c.self.inside.frontmatter_allowed t) (c.token_at-token.ensures.token ∙ ap (token_at c.self.inside.frontmatter_allowed) is)
+    let state = ap (λ p. state p (drop (i + n) c.self.inside.text.now) (mode_of c.next_allowed-self-inside.result)) none
+    ∙ (past_token-is (drop i c.self.inside.text.now) _ (mode_of c.self.inside.frontmatter_allowed) _ c.token_at-token.result (sym (drop-drop n i c.self.inside.text.now)) c.next_allowed-self-inside.ensures
+    ∙ (ap (λ (t : Token). past_token (drop i c.self.inside.text.now) (mode_of c.self.inside.frontmatter_allowed) t) (c.token_at-token.ensures.token ∙ ap (token_at (mode_of c.self.inside.frontmatter_allowed)) is)
     ∙ sym (ap (λ (r : Token × State). r.1) some))) in
     let text : IsText c.args.self.now.rest = subst IsText c.as_str-rest.ensures.rest record { utf8 = c.as_str-rest.utf8; fits = c.as_str-rest.ensures.fits } in
     let left = something _ _ c.as_str-rest.ensures.rest (sym c.if-is_empty.ensures) in
@@ -43,6 +44,6 @@ returns c =
       state = state;
       end = λ e. absurd (not_end c.args.self.now _ _ text left token state e);
       past = λ other. takes_pending c.args.self.now _ _ text left token state;
-      language = subst (TakesTokenOf c.args.self.now) (sym token) (advance-language c.args.self.now text);
+      language = subst (TakesTokenOf c.args.self.now) (sym token) (advance-language c.args.self.now c.as_str-rest.ensures.newest text);
       pending = λ other. takes-first c.args.self.now _ _ text left token state;
     }

@@ -4,7 +4,7 @@ use Rattle.rustc_lexer.specs.Edits.{IsEdit, apply, bytes_or}
 use Rattle.rustc_lexer.specs.Texts.{IsText}
 use Rattle.rustc_lexer.proofs.EditLemmas.{edited}
 use Rattle.rustc_lexer.specs.LanguageHolds.{HoldsTheOnlyTokensBy}
-use Rattle.rustc_lexer.proofs.LanguageInLemmas.{held-by}
+use Rattle.rustc_lexer.proofs.LanguageTextLemmas.{held-by}
 use Rattle.rustc_lexer.proofs.relex.lexed_text.LexedText.edit.Goals as goal
 
 pub invariant_of-self-2 : goal.invariant_of-self-2

@@ -1,4 +1,4 @@
--- A block comment as a relation: one rule for each form.
+-- Means, by how it is read: a block comment as a relation, one rule for each form.
 use Rattle.std.specs.Prelude.{◌≡◌, ℕ, ◌+◌, false, List, ◌∷◌, drop, Some}
 use Rattle.std.specs.Str.{byte}
 use Rattle.rustc_lexer.specs.means.BlockComment.{at_closing, at_opening, comment_end}
