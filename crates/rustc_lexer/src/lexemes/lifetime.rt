@@ -14,7 +14,7 @@ ghost use Rattle.rustc_lexer.specs.means.Scan.{IsLocal, IsLocalAt, begins, run_l
 use crate::classes::emoji::is_emoji;
 use crate::classes::is_id_start;
 use crate::lexemes::ident::{eat_marked, is_word};
-use crate::lexemes::quoted::char_literal;
+use crate::lexemes::quoted::{QuotedPrefix, quoted_literal};
 use crate::scan::{eat_continue, eat_while, split_first, strip};
 use crate::token::{LiteralKind, TokenKind};
 
@@ -35,10 +35,10 @@ pub(crate) fn lifetime_or_char(tail: &str) -> (TokenKind, &str)
         → IsLocalAt TokenKind 0 spec.lifetime_or_char (c ∷ s) }
 {
     let Some((first, rest)) = split_first(tail) else {
-        return char_literal(tail);
+        return quoted_literal(QuotedPrefix::Single, tail);
     };
     if is_character(first, rest) {
-        char_literal(tail)
+        quoted_literal(QuotedPrefix::Single, tail)
     } else {
         lifetime(first, rest)
     }
