@@ -14,11 +14,15 @@ fn a_name_is_that_of_its_variant(rt: HostRuntime) -> Result<(), AllocError> {
     for token in tokenize(ALL_KINDS, FrontmatterAllowed::No) {
         let shown = format!(in rt.alloc(); "{:?}", token.kind)?;
         assert_eq!(rt; shown.as_str().split(' ').next(), Some(token.kind.name()));
-        kinds[token.kind.number() as usize] = true;
+        let number = token.kind.number() as usize;
+        assert!(rt; number < 44);
+        kinds[number] = true;
         if let TokenKind::Literal { kind, .. } = token.kind {
             let shown = format!(in rt.alloc(); "{kind:?}")?;
             assert_eq!(rt; shown.as_str().split(' ').next(), Some(kind.name()));
-            literals[kind.number() as usize] = true;
+            let number = kind.number() as usize;
+            assert!(rt; number < 11);
+            literals[number] = true;
         }
     }
     for (number, seen) in kinds.into_iter().enumerate() {
