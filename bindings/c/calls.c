@@ -151,7 +151,7 @@ static int check_records(void) {
     CHECK(first.kind == RUSTC_LEXER_FRONTMATTER && first.has_invalid_preceding_whitespace == 1);
     CHECK(rustc_lexer_first_token_unchecked(document, 11, 0).kind == RUSTC_LEXER_WHITESPACE);
     CHECK(strcmp(rustc_lexer_kind_name(RUSTC_LEXER_EOF), "Eof") == 0 && *rustc_lexer_kind_name(0) == 0);
-    CHECK(*rustc_lexer_kind_name(44) == 0 && *rustc_lexer_literal_kind_name(0) == 0);
+    CHECK(*rustc_lexer_kind_name(255) == 0 && *rustc_lexer_literal_kind_name(0) == 0);
     return 0;
 }
 

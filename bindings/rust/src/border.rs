@@ -104,7 +104,7 @@ fn known(token: &Token) -> Token {
     *token
 }
 
-// The declarations of `bindings/c/rustc_lexer.h`. Nothing compares the two.
+// The declarations of `bindings/c/rustc_lexer.h`. In the repository `tests/numbers` compares the two.
 unsafe extern "C" {
     fn rustc_lexer_first_token_unchecked(text: *const u8, len: usize, allowed: u32) -> Words;
     fn rustc_lexer_tokens_unchecked(

@@ -18,7 +18,7 @@ macro_rules! kinds {
     };
 }
 
-/// The same of the kinds of literals, with a suffix that begins at 5.
+/// Each line: the bytes, and the pattern of the kind of literal that they are, with a suffix that begins at 5.
 macro_rules! literals {
     ($($bytes:expr => $kind:pat,)*) => {
         $(const _: () = assert!(matches!(

@@ -79,7 +79,7 @@ pub enum TokenKind {
     /// An identifier right before `#`, `"` or `'`, as the `z` of `z"a"`. The mark is no part of it.
     UnknownPrefix,
 
-    /// The same of a lifetime right before `#`, as the `'z` of `'z#`.
+    /// A lifetime right before `#`, as the `'z` of `'z#`. The mark is no part of it.
     UnknownPrefixLifetime,
 
     /// A lifetime that is written raw, such as `'r#while`.

@@ -62,97 +62,63 @@ pub(crate) fn sum_tokens(text: &str) -> TokenSum
 
 /// A number for each kind with its fields.
 fn number_of(kind: TokenKind) -> u64 {
-    match kind {
-        TokenKind::LineComment { doc_style } => with_field(0, style_number(doc_style)),
+    let fields = match kind {
+        TokenKind::LineComment { doc_style } => style_number(doc_style),
         TokenKind::BlockComment {
             doc_style,
             terminated,
-        } => with_field(
-            1,
-            style_number(doc_style).wrapping_add(if terminated { 4 } else { 0 }),
-        ),
-        TokenKind::Whitespace => 2,
+        } => two_numbers(style_number(doc_style), 4, terminated),
         TokenKind::Frontmatter {
             has_invalid_preceding_whitespace,
             invalid_infostring,
-        } => with_field(
-            3,
-            flag_number(has_invalid_preceding_whitespace).wrapping_add(if invalid_infostring {
-                2
-            } else {
-                0
-            }),
+        } => two_numbers(
+            u64::from(has_invalid_preceding_whitespace),
+            2,
+            invalid_infostring,
         ),
-        TokenKind::Ident => 4,
-        TokenKind::InvalidIdent => 5,
-        TokenKind::RawIdent => 6,
-        TokenKind::ForcedKeywordIdent => 7,
-        TokenKind::UnknownPrefix => 8,
-        TokenKind::UnknownPrefixLifetime => 9,
-        TokenKind::RawLifetime => 10,
-        TokenKind::GuardedStrPrefix => 11,
         TokenKind::Literal { kind, suffix_start } => {
-            with_field(12, literal_number(kind)).wrapping_add((suffix_start as u64) << 24)
+            literal_number(kind).wrapping_add((suffix_start as u64) << 18)
         }
-        TokenKind::Lifetime { starts_with_number } => {
-            with_field(13, flag_number(starts_with_number))
-        }
-        TokenKind::Semi => 14,
-        TokenKind::Comma => 15,
-        TokenKind::Dot => 16,
-        TokenKind::OpenParen => 17,
-        TokenKind::CloseParen => 18,
-        TokenKind::OpenBrace => 19,
-        TokenKind::CloseBrace => 20,
-        TokenKind::OpenBracket => 21,
-        TokenKind::CloseBracket => 22,
-        TokenKind::At => 23,
-        TokenKind::Pound => 24,
-        TokenKind::Tilde => 25,
-        TokenKind::Question => 26,
-        TokenKind::Colon => 27,
-        TokenKind::Dollar => 28,
-        TokenKind::Eq => 29,
-        TokenKind::Bang => 30,
-        TokenKind::Lt => 31,
-        TokenKind::Gt => 32,
-        TokenKind::Minus => 33,
-        TokenKind::And => 34,
-        TokenKind::Or => 35,
-        TokenKind::Plus => 36,
-        TokenKind::Star => 37,
-        TokenKind::Slash => 38,
-        TokenKind::Caret => 39,
-        TokenKind::Percent => 40,
-        TokenKind::Unknown => 41,
-        TokenKind::Eof => 42,
-    }
+        TokenKind::Lifetime { starts_with_number } => u64::from(starts_with_number),
+        _ => 0,
+    };
+    with_fields(kind.number(), fields)
 }
 
-/// The number of a kind of literal with its field.
+/// The number of a kind of literal with its fields.
 fn literal_number(kind: LiteralKind) -> u64 {
-    match kind {
-        LiteralKind::Int { base, empty_int } => {
-            with_field(0, (base as u64).wrapping_add(flag_number(empty_int)))
-        }
+    let fields = match kind {
+        LiteralKind::Int { base, empty_int } => two_numbers(base as u64, 1, empty_int),
         LiteralKind::Float {
             base,
             empty_exponent,
-        } => with_field(1, (base as u64).wrapping_add(flag_number(empty_exponent))),
-        LiteralKind::Char { terminated } => with_field(2, flag_number(terminated)),
-        LiteralKind::Byte { terminated } => with_field(3, flag_number(terminated)),
-        LiteralKind::Str { terminated } => with_field(4, flag_number(terminated)),
-        LiteralKind::ByteStr { terminated } => with_field(5, flag_number(terminated)),
-        LiteralKind::CStr { terminated } => with_field(6, flag_number(terminated)),
-        LiteralKind::RawStr { n_hashes } => with_field(7, hashes_number(n_hashes)),
-        LiteralKind::RawByteStr { n_hashes } => with_field(8, hashes_number(n_hashes)),
-        LiteralKind::RawCStr { n_hashes } => with_field(9, hashes_number(n_hashes)),
-    }
+        } => two_numbers(base as u64, 1, empty_exponent),
+        LiteralKind::Char { terminated }
+        | LiteralKind::Byte { terminated }
+        | LiteralKind::Str { terminated }
+        | LiteralKind::ByteStr { terminated }
+        | LiteralKind::CStr { terminated } => u64::from(terminated),
+        LiteralKind::RawStr { n_hashes }
+        | LiteralKind::RawByteStr { n_hashes }
+        | LiteralKind::RawCStr { n_hashes } => hashes_number(n_hashes),
+    };
+    with_fields(kind.number(), fields)
 }
 
-/// The number of a variant with a field.
-fn with_field(variant: u64, field: u64) -> u64 {
-    variant.wrapping_add(field.wrapping_mul(64))
+/// The number of a kind, counted from 0, with that of its fields.
+fn with_fields(kind: u8, fields: u64) -> u64 {
+    u64::from(kind)
+        .wrapping_sub(1)
+        .wrapping_add(fields.wrapping_mul(64))
+}
+
+/// The number of two fields: that of the first, and so much more where the second is set.
+fn two_numbers(first: u64, weight: u64, second: bool) -> u64 {
+    if second {
+        first.wrapping_add(weight)
+    } else {
+        first
+    }
 }
 
 fn style_number(style: Option<DocStyle>) -> u64 {
@@ -163,13 +129,10 @@ fn style_number(style: Option<DocStyle>) -> u64 {
     }
 }
 
-fn flag_number(flag: bool) -> u64 {
-    if flag { 1 } else { 0 }
-}
-
+/// How many hashes there are, or 256 where their number is refused.
 fn hashes_number(hashes: Option<u8>) -> u64 {
     match hashes {
         None => 256,
-        Some(n) => n as u64,
+        Some(n) => u64::from(n),
     }
 }

@@ -22,6 +22,8 @@ mod idents;
 #[cfg(test)]
 mod kinds;
 #[cfg(test)]
+mod names;
+#[cfg(test)]
 mod numbers;
 #[cfg(test)]
 mod orders;

@@ -18,7 +18,7 @@ impl Counting {
         Counting::new_in(Edition::E2024)
     }
 
-    /// The same in an edition.
+    /// One of an edition, which has counted no call.
     pub fn new_in(edition: Edition) -> Counting
         ensures { result.calls ≡ 0 }
     {

@@ -8,7 +8,8 @@ use Rattle.rustc_lexer.specs.declared.token.LiteralKind.{LiteralKind}
 use Rattle.rustc_lexer.specs.declared.token.LiteralKind.TheVariants.{Int, Float, Char, Byte, Str, ByteStr, CStr, RawStr, RawByteStr, RawCStr}
 use Rattle.rustc_lexer.specs.declared.token.Token.{Token}
 use Rattle.rustc_lexer.specs.declared.token.TokenKind.{TokenKind}
-use Rattle.rustc_lexer.specs.declared.token.TokenKind.TheVariants.{LineComment, BlockComment, Whitespace, Frontmatter, Ident, InvalidIdent, RawIdent, ForcedKeywordIdent, UnknownPrefix, UnknownPrefixLifetime, RawLifetime, GuardedStrPrefix, Literal, Lifetime, Semi, Comma, Dot, OpenParen, CloseParen, OpenBrace, CloseBrace, OpenBracket, CloseBracket, At, Pound, Tilde, Question, Colon, Dollar, Eq, Bang, Lt, Gt, Minus, And, Or, Plus, Star, Slash, Caret, Percent, Unknown, Eof}
+use Rattle.rustc_lexer.specs.declared.token.TokenKind.TheVariants.{LineComment, BlockComment, Frontmatter, Literal, Lifetime}
+pub use Rattle.rustc_lexer.specs.Kinds.{kind_name}
 
 abbrev pub bool_text : Bool → List ℕ
 bool_text true = codes "true"
@@ -41,52 +42,6 @@ literal_text (CStr terminated) = codes "CStr terminated=" ++ bool_text terminate
 literal_text (RawStr n_hashes) = codes "RawStr n_hashes=" ++ hashes_text n_hashes
 literal_text (RawByteStr n_hashes) = codes "RawByteStr n_hashes=" ++ hashes_text n_hashes
 literal_text (RawCStr n_hashes) = codes "RawCStr n_hashes=" ++ hashes_text n_hashes
-
--- the name of a kind
-unfoldable pub kind_name : TokenKind → List ℕ
-kind_name (LineComment doc_style) = codes "LineComment"
-kind_name (BlockComment doc_style terminated) = codes "BlockComment"
-kind_name Whitespace = codes "Whitespace"
-kind_name (Frontmatter has_invalid_preceding_whitespace invalid_infostring) = codes "Frontmatter"
-kind_name Ident = codes "Ident"
-kind_name InvalidIdent = codes "InvalidIdent"
-kind_name RawIdent = codes "RawIdent"
-kind_name ForcedKeywordIdent = codes "ForcedKeywordIdent"
-kind_name UnknownPrefix = codes "UnknownPrefix"
-kind_name UnknownPrefixLifetime = codes "UnknownPrefixLifetime"
-kind_name RawLifetime = codes "RawLifetime"
-kind_name GuardedStrPrefix = codes "GuardedStrPrefix"
-kind_name (Literal kind suffix_start) = codes "Literal"
-kind_name (Lifetime starts_with_number) = codes "Lifetime"
-kind_name Semi = codes "Semi"
-kind_name Comma = codes "Comma"
-kind_name Dot = codes "Dot"
-kind_name OpenParen = codes "OpenParen"
-kind_name CloseParen = codes "CloseParen"
-kind_name OpenBrace = codes "OpenBrace"
-kind_name CloseBrace = codes "CloseBrace"
-kind_name OpenBracket = codes "OpenBracket"
-kind_name CloseBracket = codes "CloseBracket"
-kind_name At = codes "At"
-kind_name Pound = codes "Pound"
-kind_name Tilde = codes "Tilde"
-kind_name Question = codes "Question"
-kind_name Colon = codes "Colon"
-kind_name Dollar = codes "Dollar"
-kind_name Eq = codes "Eq"
-kind_name Bang = codes "Bang"
-kind_name Lt = codes "Lt"
-kind_name Gt = codes "Gt"
-kind_name Minus = codes "Minus"
-kind_name And = codes "And"
-kind_name Or = codes "Or"
-kind_name Plus = codes "Plus"
-kind_name Star = codes "Star"
-kind_name Slash = codes "Slash"
-kind_name Caret = codes "Caret"
-kind_name Percent = codes "Percent"
-kind_name Unknown = codes "Unknown"
-kind_name Eof = codes "Eof"
 
 -- the fields of a kind, each after a space
 unfoldable pub fields_text : TokenKind → List ℕ

@@ -173,7 +173,7 @@ enum Rest {
 }
 
 /// What stands in the line of a kind after the token's length.
-#[tactic(auto, unfolding(crate::specs::Listing::kind_name, crate::specs::Listing::fields_text))]
+#[tactic(auto, unfolding(rustc_lexer::specs::Kinds::kind_entry, crate::specs::Listing::fields_text))]
 fn rest_of_line(kind: TokenKind) -> Rest
     ensures { IsRest kind result }
 {

@@ -28,6 +28,7 @@ use Rattle.rustc_lexer.specs.laws.Language.{lexeme-sound}
 use Rattle.rustc_lexer.specs.laws.Lookahead.{first_token_grammar}
 use Rattle.rustc_lexer.proofs.CutLemmas.{past_first as text_past, shorter, tokens-nil, tokens-cons}
 use Rattle.rustc_lexer.proofs.LanguageLemmas.{empty-text, split, first-is}
+use Rattle.rustc_lexer.proofs.ShebangLemmas.{front-is}
 
 -- ---- an attribute
 
@@ -254,13 +255,6 @@ answer-read {text} is (the.no_start e) = sym (no-mark text e)
 record HasShebang (text : List ℕ) : Type 0 where
   answer : Option ℕ
   is : IsShebang text answer
-
-front-is : (s : List ℕ) → begins (codes "#!") s ≡ true → s ≡ 35 ∷ 33 ∷ drop 2 s
-front-is [] e = absurd (true≢false (sym e))
-front-is (c ∷ []) e = absurd (true≢false (sym (and_parts (c == 35) false e).1))
-front-is (c ∷ d ∷ s) e =
-    let parts = and_parts (c == 35) ((d == 33) && true) e in
-    ap (λ (x : ℕ). x ∷ d ∷ s) (eqb-true c 35 parts.0) ∙ ap (λ (x : ℕ). 35 ∷ x ∷ s) (eqb-true d 33 (and_parts (d == 33) true parts.1).0)
 
 has-shebang : (text : List ℕ) → IsText text → HasShebang text
 has-shebang text is = by_mark (begins (codes "#!") text) refl

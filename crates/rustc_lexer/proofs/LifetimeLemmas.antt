@@ -47,12 +47,12 @@ pick-end text r none e =
     let whole : lifetime_or_char (chars text) ≡ literal char_body (chars text) = ap lifetime_or_char none ∙ ap (literal char_body) (sym none) in
     e ∙ ap (λ (p : TokenKind × ℕ). (p.0, past p.1 text)) (sym whole)
 
-pub pick-raw : (c : ℕ) (text name rest : List ℕ) → IsUtf8 text → c ≡ 114 → marks_ident (chars text) ≡ true → name ≡ past 2 text → rest ≡ past (run_len is_id_continue (chars name)) name
+pub pick-raw : (c : ℕ) (text rest : List ℕ) → c ≡ 114 → marks_ident (chars text) ≡ true → rest ≡ past (2 + run_len is_id_continue (drop 2 (chars text))) text
     → (RawLifetime, rest) ≡ scanned (lifetime c) text
-pick-raw c text name rest is e t cut left =
+pick-raw c text rest e t left =
     let raw_is : (c == 114 && marks_ident (chars text)) ≡ true = rw e t in
     ap (λ (xs : List ℕ). (RawLifetime, xs)) left
-    ∙ (sym (scanned-after 2 (run RawLifetime is_id_continue) text name is cut) ∙ sym (scanned-yes (λ s. c == 114 && marks_ident s) raw (plain_lifetime c) text raw_is))
+    ∙ sym (scanned-yes (λ s. c == 114 && marks_ident s) raw (plain_lifetime c) text raw_is)
 
 pub pick-plain_lifetime : (c : ℕ) (text : List ℕ) (r : TokenKind × List ℕ) → (c ≢ 114) ⊎ (marks_ident (chars text) ≡ false) → r ≡ scanned (plain_lifetime c) text → r ≡ scanned (lifetime c) text
 pick-plain_lifetime c text r out e = e ∙ sym (scanned-no (λ s. c == 114 && marks_ident s) raw (plain_lifetime c) text (not_raw out))

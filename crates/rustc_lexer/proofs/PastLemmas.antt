@@ -1,5 +1,5 @@
 -- A text past its first characters.
-use Rattle.std.proofs.Common.{◌≡◌, ℕ, ◌+◌, List, ◌++◌, length, take, drop, refl, sym, ap, ◌∙◌, arith, length-append, take-append-drop, drop_at, drop-drop}
+use Rattle.std.proofs.Common.{◌≡◌, ℕ, ◌+◌, List, [], ◌++◌, length, take, drop, refl, sym, ap, ◌∙◌, arith, length-append, take-append-drop, drop_at, drop-drop}
 use Rattle.std.specs.Char.{encode_utf8}
 use Rattle.std.specs.Str.{chars, encode_utf8_all, IsUtf8}
 use Rattle.std.proofs.lemmas.Str.{chars-encodes, encodes-chars, scalars-chars, encodes-append, chars_past_char, IsUtf8-past_char}
@@ -38,6 +38,11 @@ length-past n text is = omega (arith, ap length (split_past n text is), length-a
 
 pub past-drop : (n : ℕ) (text : List ℕ) → IsUtf8 text → past n text ≡ drop (bytes_of n (chars text)) text
 past-drop n text is = sym (ap (drop (bytes_of n (chars text))) (split_past n text is) ∙ drop_at (encode_utf8_all (take n (chars text))) (past n text) _ refl)
+
+-- of a text with no character all is past the first one
+pub past_end : (text : List ℕ) → IsUtf8 text → chars text ≡ [] → text ≡ past 1 text
+unfolding past
+past_end text is e = sym (encodes-chars text is) ∙ (ap encode_utf8_all e ∙ sym (ap (λ cs. encode_utf8_all (drop 1 cs)) e))
 
 -- a text past its first character
 pub past-one : (text rest : List ℕ) (c : ℕ) → IsUtf8 text → text ≡ encode_utf8 c ++ rest → past 1 text ≡ rest

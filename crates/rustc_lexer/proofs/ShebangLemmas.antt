@@ -11,7 +11,7 @@ use Rattle.rustc_lexer.specs.LanguageText.{part}
 use Rattle.rustc_lexer.specs.Tokens.{tokens_of}
 
 -- what begins with `#!`
-front-is : (s : List ℕ) → begins (codes "#!") s ≡ true → s ≡ 35 ∷ 33 ∷ drop 2 s
+pub front-is : (s : List ℕ) → begins (codes "#!") s ≡ true → s ≡ 35 ∷ 33 ∷ drop 2 s
 front-is [] e = absurd (true≢false (sym e))
 front-is (c ∷ []) e = absurd (true≢false (sym (and_parts (c == 35) false e).1))
 front-is (c ∷ d ∷ s) e =

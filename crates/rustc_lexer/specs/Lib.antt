@@ -4,7 +4,9 @@ pub mod Edition
 pub mod EditLists
 pub mod Edits
 pub mod Emoji
+pub mod ErrorTexts
 pub mod FrontmatterGrammar
+pub mod Kinds
 pub mod Language
 pub mod LanguageCalls
 pub mod LanguageHolds

@@ -77,7 +77,7 @@ pub fn is_id_continue(c: char) -> bool
     }
 }
 
-/// The same of a character in ASCII.
+/// Whether an identifier may go on with the character, which is in ASCII.
 fn is_ascii_continue(c: char) -> bool
     ensures { result ≡ (is_ascii_alphanumeric c || (c == 95)) }
 {

@@ -21,6 +21,7 @@ use crate::classes::emoji::is_emoji;
 use crate::cursor::Cursor;
 use crate::scan::{eat_continue, next_is, split_first};
 use crate::token::{FrontmatterAllowed, Token, TokenKind};
+use std::error::Error;
 use std::fmt;
 use std::iter::Iterator;
 use std::marker::Model;
@@ -85,6 +86,8 @@ impl fmt::Display for UnknownEdition {
         f.write_str("no edition of Rust has this year")
     }
 }
+
+impl Error for UnknownEdition {}
 
 /// The tokens of a text in an edition, in order. The text has at most `u32::MAX` bytes, and no frontmatter.
 ///

@@ -32,7 +32,7 @@ pub(crate) fn token_at(text: &str, allowed: FrontmatterAllowed) -> Token
     }
 }
 
-/// The same, where a frontmatter is allowed.
+/// The token at the front of a text where a frontmatter is allowed.
 #[inline(never)]
 fn frontmatter_or_lexeme(text: &str) -> Token
     requires fits { Fits text.now }
@@ -114,7 +114,7 @@ fn closing_end(rest: &[u8], n_dashes: usize) -> usize
     }
 }
 
-/// The same where no line begins with so many dashes: at the best guess of where Rust begins.
+/// Where a frontmatter ends that no line of so many dashes closes: at the best guess of where Rust begins.
 fn recovery(rest: &[u8]) -> usize
     ensures end { result ≡ spec.recovery rest.now }
     ensures inside { result ≤ length rest.now }

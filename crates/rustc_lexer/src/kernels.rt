@@ -124,7 +124,7 @@ pub(crate) fn run_end<C: ByteClass>(bytes: &[u8]) -> usize
     stops.trailing_zeros() as usize
 }
 
-/// The same, where mostly the first byte is not in the class.
+/// How many bytes at the front are in the class. Mostly the first one is not.
 #[inline(always)]
 pub(crate) fn short_run_end<C: ByteClass>(bytes: &[u8]) -> usize
     ensures value { result ≡ prefix_len C.passes bytes.now }
@@ -136,7 +136,7 @@ pub(crate) fn short_run_end<C: ByteClass>(bytes: &[u8]) -> usize
     0
 }
 
-/// The same, 32 bytes after another.
+/// How many bytes at the front are in the class, 32 bytes after another.
 #[inline(never)]
 fn run_end_by_lanes<C: ByteClass>(bytes: &[u8]) -> usize
     ensures value { result ≡ prefix_len C.passes bytes.now }
@@ -153,7 +153,7 @@ fn run_end_by_lanes<C: ByteClass>(bytes: &[u8]) -> usize
     end + run_end_by_bytes::<C>(&bytes[end..])
 }
 
-/// The same, a byte after another.
+/// How many bytes at the front are in the class, a byte after another.
 #[inline(never)]
 fn run_end_by_bytes<C: ByteClass>(bytes: &[u8]) -> usize
     ensures value { result ≡ prefix_len C.passes bytes.now }

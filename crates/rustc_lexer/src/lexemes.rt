@@ -15,7 +15,7 @@ use crate::lexemes::ident::invalid_ident;
 use crate::lexemes::lifetime::lifetime_or_char;
 use crate::lexemes::number::number;
 use crate::lexemes::quick::quick_token;
-use crate::lexemes::quoted::str_literal;
+use crate::lexemes::quoted::{QuotedPrefix, quoted_literal};
 use crate::lexemes::symbol::symbol_kind;
 use crate::lexemes::word::word;
 use crate::scan::{eat_whitespace, split_first};
@@ -87,7 +87,7 @@ fn past_first(first: char, tail: &str) -> (TokenKind, &str)
         Family::Word => word(first, tail),
         Family::Number => number(first, tail),
         Family::Quote => lifetime_or_char(tail),
-        Family::Str => str_literal(tail),
+        Family::Str => quoted_literal(QuotedPrefix::Double, tail),
         Family::Emoji => invalid_ident(tail),
         Family::Hash => hash(tail),
         Family::Symbol => (symbol_kind(first), tail),

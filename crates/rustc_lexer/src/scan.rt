@@ -119,7 +119,8 @@ pub(crate) fn eat_continue(rest: &str) -> &str
     }
 }
 
-/// The same, where no such byte of ASCII stands next.
+/// What follows the characters at the front that an identifier may go on with, where no such byte of ASCII stands
+/// next.
 #[inline(never)]
 fn eat_continue_wide(rest: &str) -> &str
     requires stops { Scan.next_is is_continue_byte rest.now ≡ false }

@@ -1,4 +1,10 @@
 //! Tokens: what each is, and how long.
+ghost use Rattle.std.specs.Prelude.{◌≡◌, Some};
+ghost use Rattle.rustc_lexer.specs.ErrorTexts.{raw_str_text};
+ghost use Rattle.rustc_lexer.specs.Kinds.{kind_name, kind_number, literal_name, literal_number};
+
+use std::error::Error;
+use std::fmt;
 
 /// A token: what it is, and how many bytes of the text it takes.
 #[derive(Clone, Copy, Debug, PartialEq, Eq)]
@@ -55,7 +61,7 @@ pub enum TokenKind {
     /// An identifier right before `#`, `"` or `'`, as the `z` of `z"a"`. The mark is no part of it.
     UnknownPrefix,
 
-    /// The same of a lifetime right before `#`, as the `'z` of `'z#`.
+    /// A lifetime right before `#`, as the `'z` of `'z#`. The mark is no part of it.
     UnknownPrefixLifetime,
 
     /// A lifetime that is written raw, as `'r#while`.
@@ -141,6 +147,113 @@ pub enum TokenKind {
     Eof,
 }
 
+impl TokenKind {
+    /// The name of the kind, which is that of its variant, such as `Ident`.
+    #[tactic(auto, unfolding(crate::specs::Kinds::kind_entry))]
+    pub fn name(self) -> &'static str
+        ensures { result.now ≡ kind_name self }
+    {
+        match self {
+            TokenKind::LineComment { .. } => "LineComment",
+            TokenKind::BlockComment { .. } => "BlockComment",
+            TokenKind::Whitespace => "Whitespace",
+            TokenKind::Frontmatter { .. } => "Frontmatter",
+            TokenKind::Ident => "Ident",
+            TokenKind::InvalidIdent => "InvalidIdent",
+            TokenKind::RawIdent => "RawIdent",
+            TokenKind::ForcedKeywordIdent => "ForcedKeywordIdent",
+            TokenKind::UnknownPrefix => "UnknownPrefix",
+            TokenKind::UnknownPrefixLifetime => "UnknownPrefixLifetime",
+            TokenKind::RawLifetime => "RawLifetime",
+            TokenKind::GuardedStrPrefix => "GuardedStrPrefix",
+            TokenKind::Literal { .. } => "Literal",
+            TokenKind::Lifetime { .. } => "Lifetime",
+            TokenKind::Semi => "Semi",
+            TokenKind::Comma => "Comma",
+            TokenKind::Dot => "Dot",
+            TokenKind::OpenParen => "OpenParen",
+            TokenKind::CloseParen => "CloseParen",
+            TokenKind::OpenBrace => "OpenBrace",
+            TokenKind::CloseBrace => "CloseBrace",
+            TokenKind::OpenBracket => "OpenBracket",
+            TokenKind::CloseBracket => "CloseBracket",
+            TokenKind::At => "At",
+            TokenKind::Pound => "Pound",
+            TokenKind::Tilde => "Tilde",
+            TokenKind::Question => "Question",
+            TokenKind::Colon => "Colon",
+            TokenKind::Dollar => "Dollar",
+            TokenKind::Eq => "Eq",
+            TokenKind::Bang => "Bang",
+            TokenKind::Lt => "Lt",
+            TokenKind::Gt => "Gt",
+            TokenKind::Minus => "Minus",
+            TokenKind::And => "And",
+            TokenKind::Or => "Or",
+            TokenKind::Plus => "Plus",
+            TokenKind::Star => "Star",
+            TokenKind::Slash => "Slash",
+            TokenKind::Caret => "Caret",
+            TokenKind::Percent => "Percent",
+            TokenKind::Unknown => "Unknown",
+            TokenKind::Eof => "Eof",
+        }
+    }
+
+    /// The number of the kind, from 1 on. It is fixed: a new kind gets a new number.
+    #[inline(always)]
+    #[tactic(auto, unfolding(crate::specs::Kinds::kind_entry))]
+    pub fn number(self) -> u8
+        ensures { result ≡ kind_number self }
+    {
+        match self {
+            TokenKind::LineComment { .. } => 1,
+            TokenKind::BlockComment { .. } => 2,
+            TokenKind::Whitespace => 3,
+            TokenKind::Frontmatter { .. } => 4,
+            TokenKind::Ident => 5,
+            TokenKind::InvalidIdent => 6,
+            TokenKind::RawIdent => 7,
+            TokenKind::ForcedKeywordIdent => 8,
+            TokenKind::UnknownPrefix => 9,
+            TokenKind::UnknownPrefixLifetime => 10,
+            TokenKind::RawLifetime => 11,
+            TokenKind::GuardedStrPrefix => 12,
+            TokenKind::Literal { .. } => 13,
+            TokenKind::Lifetime { .. } => 14,
+            TokenKind::Semi => 15,
+            TokenKind::Comma => 16,
+            TokenKind::Dot => 17,
+            TokenKind::OpenParen => 18,
+            TokenKind::CloseParen => 19,
+            TokenKind::OpenBrace => 20,
+            TokenKind::CloseBrace => 21,
+            TokenKind::OpenBracket => 22,
+            TokenKind::CloseBracket => 23,
+            TokenKind::At => 24,
+            TokenKind::Pound => 25,
+            TokenKind::Tilde => 26,
+            TokenKind::Question => 27,
+            TokenKind::Colon => 28,
+            TokenKind::Dollar => 29,
+            TokenKind::Eq => 30,
+            TokenKind::Bang => 31,
+            TokenKind::Lt => 32,
+            TokenKind::Gt => 33,
+            TokenKind::Minus => 34,
+            TokenKind::And => 35,
+            TokenKind::Or => 36,
+            TokenKind::Plus => 37,
+            TokenKind::Star => 38,
+            TokenKind::Slash => 39,
+            TokenKind::Caret => 40,
+            TokenKind::Percent => 41,
+            TokenKind::Unknown => 42,
+            TokenKind::Eof => 43,
+        }
+    }
+}
+
 /// Where a doc comment stands: before what it describes, or inside it.
 ///
 /// Rust Reference, [Doc comments](https://doc.rust-lang.org/reference/comments.html#doc-comments).
@@ -201,16 +314,57 @@ pub enum LiteralKind {
         /// How many hashes stand on each side.
         n_hashes: Option<u8>,
     },
-    /// The same after `br`.
+    /// `br"note"` or `br#"note"#`, with the number of its hashes; `None` where it is refused.
     RawByteStr {
         /// How many hashes stand on each side.
         n_hashes: Option<u8>,
     },
-    /// The same after `cr`.
+    /// `cr"note"` or `cr#"note"#`, with the number of its hashes; `None` where it is refused.
     RawCStr {
         /// How many hashes stand on each side.
         n_hashes: Option<u8>,
     },
+}
+
+impl LiteralKind {
+    /// The name of the kind, which is that of its variant, such as `Int`.
+    #[tactic(auto, unfolding(crate::specs::Kinds::literal_entry))]
+    pub fn name(self) -> &'static str
+        ensures { result.now ≡ literal_name self }
+    {
+        match self {
+            LiteralKind::Int { .. } => "Int",
+            LiteralKind::Float { .. } => "Float",
+            LiteralKind::Char { .. } => "Char",
+            LiteralKind::Byte { .. } => "Byte",
+            LiteralKind::Str { .. } => "Str",
+            LiteralKind::ByteStr { .. } => "ByteStr",
+            LiteralKind::CStr { .. } => "CStr",
+            LiteralKind::RawStr { .. } => "RawStr",
+            LiteralKind::RawByteStr { .. } => "RawByteStr",
+            LiteralKind::RawCStr { .. } => "RawCStr",
+        }
+    }
+
+    /// The number of the kind, from 1 on. It is fixed: a new kind gets a new number.
+    #[inline(always)]
+    #[tactic(auto, unfolding(crate::specs::Kinds::literal_entry))]
+    pub fn number(self) -> u8
+        ensures { result ≡ literal_number self }
+    {
+        match self {
+            LiteralKind::Int { .. } => 1,
+            LiteralKind::Float { .. } => 2,
+            LiteralKind::Char { .. } => 3,
+            LiteralKind::Byte { .. } => 4,
+            LiteralKind::Str { .. } => 5,
+            LiteralKind::ByteStr { .. } => 6,
+            LiteralKind::CStr { .. } => 7,
+            LiteralKind::RawStr { .. } => 8,
+            LiteralKind::RawByteStr { .. } => 9,
+            LiteralKind::RawCStr { .. } => 10,
+        }
+    }
 }
 
 /// A guarded string, as `#"note"#`: a string between hashes.
@@ -252,6 +406,27 @@ pub enum RawStrError {
         found: u32,
     },
 }
+
+impl fmt::Display for RawStrError {
+    ghost output = { λ error. Some (raw_str_text error) };
+
+    fn fmt<W: fmt::Write>(&self, f: &mut fmt::Formatter<W>) -> fmt::Result {
+        match self {
+            RawStrError::InvalidStarter { .. } => {
+                f.write_str("no hash or quote opens the raw string")
+            }
+            RawStrError::NoTerminator { expected, .. } => {
+                write!(f, "no quote with {expected} hashes closes the raw string")
+            }
+            RawStrError::TooManyDelimiters { found } => write!(
+                f,
+                "the raw string has {found} hashes on each side, and 255 are the most"
+            ),
+        }
+    }
+}
+
+impl Error for RawStrError {}
 
 /// The base that a number is written in.
 ///

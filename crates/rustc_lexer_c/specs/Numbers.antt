@@ -1,4 +1,4 @@
--- The numbers by which a token crosses to C. They are fixed: a new kind gets a new number.
+-- The numbers by which a token crosses to C: those of its kind, and a byte for each field of that.
 use Rattle.std.specs.Prelude.{ℕ, Bool, true, false, Option, Some, None}
 use Rattle.rustc_lexer.specs.declared.token.Base.{Base}
 use Rattle.rustc_lexer.specs.declared.token.Base.TheVariants.{Binary, Octal, Decimal, Hexadecimal}
@@ -8,68 +8,10 @@ use Rattle.rustc_lexer.specs.declared.token.LiteralKind.{LiteralKind}
 use Rattle.rustc_lexer.specs.declared.token.LiteralKind.TheVariants.{Int, Float, Char, Byte, Str, ByteStr, CStr, RawStr, RawByteStr, RawCStr}
 use Rattle.rustc_lexer.specs.declared.token.Token.{Token}
 use Rattle.rustc_lexer.specs.declared.token.TokenKind.{TokenKind}
-use Rattle.rustc_lexer.specs.declared.token.TokenKind.TheVariants.{LineComment, BlockComment, Whitespace, Frontmatter, Ident, InvalidIdent, RawIdent, ForcedKeywordIdent, UnknownPrefix, UnknownPrefixLifetime, RawLifetime, GuardedStrPrefix, Literal, Lifetime, Semi, Comma, Dot, OpenParen, CloseParen, OpenBrace, CloseBrace, OpenBracket, CloseBracket, At, Pound, Tilde, Question, Colon, Dollar, Eq, Bang, Lt, Gt, Minus, And, Or, Plus, Star, Slash, Caret, Percent, Unknown, Eof}
+use Rattle.rustc_lexer.specs.declared.token.TokenKind.TheVariants.{LineComment, BlockComment, Frontmatter, Literal, Lifetime}
+pub use Rattle.rustc_lexer.specs.Kinds.{kind_number, literal_number}
 use Rattle.rustc_lexer.specs.State.{suffix_start_of}
 use Rattle.rustc_lexer_c.specs.declared.token.CToken.{CToken}
-
--- the number of a kind; 0 is none
-unfoldable pub kind_number : TokenKind → ℕ
-kind_number (LineComment doc_style) = 1
-kind_number (BlockComment doc_style terminated) = 2
-kind_number Whitespace = 3
-kind_number (Frontmatter has_invalid_preceding_whitespace invalid_infostring) = 4
-kind_number Ident = 5
-kind_number InvalidIdent = 6
-kind_number RawIdent = 7
-kind_number ForcedKeywordIdent = 8
-kind_number UnknownPrefix = 9
-kind_number UnknownPrefixLifetime = 10
-kind_number RawLifetime = 11
-kind_number GuardedStrPrefix = 12
-kind_number (Literal kind suffix_start) = 13
-kind_number (Lifetime starts_with_number) = 14
-kind_number Semi = 15
-kind_number Comma = 16
-kind_number Dot = 17
-kind_number OpenParen = 18
-kind_number CloseParen = 19
-kind_number OpenBrace = 20
-kind_number CloseBrace = 21
-kind_number OpenBracket = 22
-kind_number CloseBracket = 23
-kind_number At = 24
-kind_number Pound = 25
-kind_number Tilde = 26
-kind_number Question = 27
-kind_number Colon = 28
-kind_number Dollar = 29
-kind_number Eq = 30
-kind_number Bang = 31
-kind_number Lt = 32
-kind_number Gt = 33
-kind_number Minus = 34
-kind_number And = 35
-kind_number Or = 36
-kind_number Plus = 37
-kind_number Star = 38
-kind_number Slash = 39
-kind_number Caret = 40
-kind_number Percent = 41
-kind_number Unknown = 42
-kind_number Eof = 43
-
--- the number of a kind of literal
-unfoldable pub literal_number : LiteralKind → ℕ
-literal_number (Int base empty_int) = 1
-literal_number (Float base empty_exponent) = 2
-literal_number (Char terminated) = 3
-literal_number (Byte terminated) = 4
-literal_number (Str terminated) = 5
-literal_number (ByteStr terminated) = 6
-literal_number (CStr terminated) = 7
-literal_number (RawStr n_hashes) = 8
-literal_number (RawByteStr n_hashes) = 9
-literal_number (RawCStr n_hashes) = 10
 
 abbrev pub base_number : Base → ℕ
 base_number Binary = 2

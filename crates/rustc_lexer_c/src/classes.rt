@@ -6,7 +6,7 @@ ghost use Rattle.rustc_lexer.specs.Classes;
 ghost use Rattle.rustc_lexer_c.specs.Status.{IsTextStatus};
 ghost use Rattle.rustc_lexer_c.specs.Numbers.{bool_number};
 
-use crate::status::text_of;
+use crate::status::{OK, text_of};
 use rustc_lexer::{is_horizontal_whitespace, is_id_continue, is_id_start, is_ident, is_whitespace};
 
 /// Whether the character is white space in Rust. False of a number that is no character.
@@ -67,7 +67,7 @@ pub extern "C" fn rustc_lexer_is_ident(text: &[u8], is: &mut u32) -> u32
     match text_of(text) {
         Ok(text) => {
             *is = u32::from(is_ident(text));
-            0
+            OK
         }
         Err(refusal) => {
             *is = 0;

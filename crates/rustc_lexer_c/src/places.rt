@@ -10,7 +10,7 @@ ghost use Rattle.rustc_lexer.specs.Tokens.{tokens_of};
 ghost use Rattle.rustc_lexer_c.specs.Numbers.{some_or_zero};
 ghost use Rattle.rustc_lexer_c.specs.Status.{IsTextStatus};
 
-use crate::status::{text_of, utf8_text_of};
+use crate::status::{OK, text_of, utf8_text_of};
 use rustc_lexer::{settled, strip_shebang};
 
 /// Writes the length of the shebang line at the front of a text, without the end of the line; 0 where there is none.
@@ -23,7 +23,7 @@ pub extern "C" fn rustc_lexer_strip_shebang(text: &[u8], line_len: &mut usize) -
     match text_of(text) {
         Ok(text) => {
             *line_len = shebang_len(text);
-            0
+            OK
         }
         Err(refusal) => {
             *line_len = 0;
@@ -43,7 +43,7 @@ pub extern "C" fn rustc_lexer_strip_shebang_unchecked(text: &[u8], line_len: &mu
     match utf8_text_of(text) {
         Ok(text) => {
             *line_len = shebang_len(text);
-            0
+            OK
         }
         Err(refusal) => {
             *line_len = 0;
@@ -64,7 +64,7 @@ pub extern "C" fn rustc_lexer_settled(text: &[u8], end: &mut usize) -> u32
     match text_of(text) {
         Ok(text) => {
             *end = settled(text);
-            0
+            OK
         }
         Err(refusal) => {
             *end = 0;

@@ -9,7 +9,7 @@ ghost use Rattle.rustc_lexer.specs.means.Raw.{StartsRaw, raw_check};
 ghost use Rattle.rustc_lexer_c.specs.RawStr as spec;
 ghost use Rattle.rustc_lexer_c.specs.Status.{IsRawStatus, IsTextStatus};
 
-use crate::status::{Refusal, text_of, utf8_text_of};
+use crate::status::{OK, Refusal, text_of, utf8_text_of};
 use rustc_lexer::{
     Cursor, FrontmatterAllowed, GuardedStr, RawStrError, starts_raw, validate_raw_str,
 };
@@ -31,6 +31,15 @@ pub struct CRawStrError {
     /// Of 2: where the first quote with so many hashes ends, in bytes.
     pub possible_terminator_offset: u32,
 }
+
+/// No raw string is refused.
+const NO_ERROR: u32 = 0;
+/// The numbers of the errors.
+const INVALID_STARTER: u32 = 1;
+
+const NO_TERMINATOR: u32 = 2;
+
+const TOO_MANY_DELIMITERS: u32 = 3;
 
 /// A guarded string. All is 0 where there is none.
 #[repr(C)]
@@ -101,7 +110,7 @@ fn raw_str(text: &str, prefix_len: u32, error: &mut CRawStrError) -> u32
         return Refusal::NotRaw.number();
     }
     *error = answer_numbers(validate_raw_str(text, prefix_len));
-    0
+    OK
 }
 
 /// Whether `rustc_lexer_validate_raw_str` takes the text, which is UTF-8, with the prefix: its status is then not 4.
@@ -127,7 +136,7 @@ pub extern "C" fn rustc_lexer_guarded_str(text: &[u8], string: &mut CGuardedStr)
     match text_of(text) {
         Ok(text) => {
             *string = guarded_str(text);
-            0
+            OK
         }
         Err(refusal) => {
             *string = guarded_numbers(None);
@@ -150,7 +159,7 @@ pub extern "C" fn rustc_lexer_guarded_str_unchecked(text: &[u8], string: &mut CG
     match utf8_text_of(text) {
         Ok(text) => {
             *string = guarded_str(text);
-            0
+            OK
         }
         Err(refusal) => {
             *string = guarded_numbers(None);
@@ -184,7 +193,7 @@ fn no_error() -> CRawStrError
     ensures { result ≡ spec.no_error }
 {
     CRawStrError {
-        error: 0,
+        error: NO_ERROR,
         bad_char: 0,
         expected: 0,
         found: 0,
@@ -199,7 +208,7 @@ fn error_numbers(error: RawStrError) -> CRawStrError
 {
     match error {
         RawStrError::InvalidStarter { bad_char } => CRawStrError {
-            error: 1,
+            error: INVALID_STARTER,
             bad_char: bad_char as u32,
             ..no_error()
         },
@@ -208,7 +217,7 @@ fn error_numbers(error: RawStrError) -> CRawStrError
             found,
             possible_terminator_offset,
         } => CRawStrError {
-            error: 2,
+            error: NO_TERMINATOR,
             expected,
             found,
             has_offset: u32::from(possible_terminator_offset.is_some()),
@@ -216,7 +225,7 @@ fn error_numbers(error: RawStrError) -> CRawStrError
             ..no_error()
         },
         RawStrError::TooManyDelimiters { found } => CRawStrError {
-            error: 3,
+            error: TOO_MANY_DELIMITERS,
             found,
             ..no_error()
         },

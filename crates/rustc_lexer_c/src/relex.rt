@@ -13,7 +13,7 @@ ghost use Rattle.rustc_lexer.specs.Tokens.{tokens_of};
 ghost use Rattle.rustc_lexer_c.specs.Numbers as numbers;
 ghost use Rattle.rustc_lexer_c.specs.Relex as spec;
 
-use crate::status::{Refusal, text_of, utf8_text_of};
+use crate::status::{OK, Refusal, text_of, utf8_text_of};
 use crate::token::{CToken, token_numbers};
 use rustc_lexer::{Bound, Change, Edition, Measured, Relexing, Steps};
 
@@ -89,7 +89,8 @@ pub extern "C" fn rustc_lexer_relex(
     }
 }
 
-/// The same of a text that `rustc_lexer_check` found to be UTF-8, which is not tested again.
+/// Relexes a text that `rustc_lexer_check` found to be UTF-8, which is not tested again. All else is as in
+/// `rustc_lexer_relex`.
 #[unsafe(no_mangle)]
 pub extern "C" fn rustc_lexer_relex_unchecked(
     text: &[u8],
@@ -148,7 +149,7 @@ fn relex(
     };
     *count = fill(text, old, change, edition, &mut at, room);
     *relexing = relexing_numbers(&at, text, old.len());
-    0
+    OK
 }
 
 /// The edition of a year.

@@ -4,6 +4,9 @@ ghost use Rattle.std.specs.Str.{IsUtf8};
 ghost use Rattle.rustc_lexer.specs.Texts.{IsText};
 ghost use Rattle.rustc_lexer_c.specs.Status as spec;
 
+/// The status of a call that was done.
+pub(crate) const OK: u32 = 0;
+
 /// Why a call is refused. It then changes nothing.
 #[derive(Clone, Copy)]
 pub(crate) enum Refusal {
@@ -71,7 +74,7 @@ pub extern "C" fn rustc_lexer_check(text: &[u8]) -> u32
     ensures { spec.IsTextStatus text.now result }
 {
     match text_of(text) {
-        Ok(_) => 0,
+        Ok(_) => OK,
         Err(refusal) => refusal.number(),
     }
 }

@@ -2,7 +2,7 @@
 ghost use Rattle.std.specs.Prelude.{◌≡◌};
 ghost use Rattle.rustc_lexer_c.specs.Numbers as numbers;
 
-use rustc_lexer::{Base, DocStyle, LiteralKind, Token, TokenKind};
+use rustc_lexer::{DocStyle, LiteralKind, Token, TokenKind};
 
 /// A token as it crosses to C: its kind, the fields of the kind as a byte each, and its length. A byte that no field
 /// has is 0.
@@ -27,7 +27,7 @@ pub struct CToken {
 
 /// The token as numbers.
 #[inline(always)]
-#[tactic(auto, unfolding(crate::specs::Numbers::token_numbers, crate::specs::Numbers::kind_number, crate::specs::Numbers::first_of, crate::specs::Numbers::second_of, crate::specs::Numbers::third_of))]
+#[tactic(auto, unfolding(crate::specs::Numbers::token_numbers, crate::specs::Numbers::first_of, crate::specs::Numbers::second_of, crate::specs::Numbers::third_of))]
 pub(crate) fn token_numbers(token: Token) -> CToken
     ensures { result ≡ numbers.token_numbers token }
 {
@@ -58,7 +58,7 @@ pub(crate) fn token_numbers(token: Token) -> CToken
             kind: literal,
             suffix_start,
         } => CToken {
-            first: literal_number(literal),
+            first: literal.number(),
             second: literal_second(literal),
             third: literal_third(literal),
             suffix_start,
@@ -74,7 +74,6 @@ pub(crate) fn token_numbers(token: Token) -> CToken
 
 /// The numbers of a token, of which no field is set.
 #[inline(always)]
-#[tactic(auto, unfolding(crate::specs::Numbers::kind_number))]
 fn bare(kind: TokenKind, len: u32) -> CToken
     ensures { result ≡ record {
       kind = numbers.kind_number kind;
@@ -86,98 +85,12 @@ fn bare(kind: TokenKind, len: u32) -> CToken
     } }
 {
     CToken {
-        kind: kind_number(kind),
+        kind: kind.number(),
         first: 0,
         second: 0,
         third: 0,
         suffix_start: 0,
         len,
-    }
-}
-
-/// The number of a kind.
-#[inline(always)]
-#[tactic(auto, unfolding(crate::specs::Numbers::kind_number))]
-fn kind_number(kind: TokenKind) -> u8
-    ensures { result ≡ numbers.kind_number kind }
-{
-    match kind {
-        TokenKind::LineComment { .. } => 1,
-        TokenKind::BlockComment { .. } => 2,
-        TokenKind::Whitespace => 3,
-        TokenKind::Frontmatter { .. } => 4,
-        TokenKind::Ident => 5,
-        TokenKind::InvalidIdent => 6,
-        TokenKind::RawIdent => 7,
-        TokenKind::ForcedKeywordIdent => 8,
-        TokenKind::UnknownPrefix => 9,
-        TokenKind::UnknownPrefixLifetime => 10,
-        TokenKind::RawLifetime => 11,
-        TokenKind::GuardedStrPrefix => 12,
-        TokenKind::Literal { .. } => 13,
-        TokenKind::Lifetime { .. } => 14,
-        TokenKind::Semi => 15,
-        TokenKind::Comma => 16,
-        TokenKind::Dot => 17,
-        TokenKind::OpenParen => 18,
-        TokenKind::CloseParen => 19,
-        TokenKind::OpenBrace => 20,
-        TokenKind::CloseBrace => 21,
-        TokenKind::OpenBracket => 22,
-        TokenKind::CloseBracket => 23,
-        TokenKind::At => 24,
-        TokenKind::Pound => 25,
-        TokenKind::Tilde => 26,
-        TokenKind::Question => 27,
-        TokenKind::Colon => 28,
-        TokenKind::Dollar => 29,
-        TokenKind::Eq => 30,
-        TokenKind::Bang => 31,
-        TokenKind::Lt => 32,
-        TokenKind::Gt => 33,
-        TokenKind::Minus => 34,
-        TokenKind::And => 35,
-        TokenKind::Or => 36,
-        TokenKind::Plus => 37,
-        TokenKind::Star => 38,
-        TokenKind::Slash => 39,
-        TokenKind::Caret => 40,
-        TokenKind::Percent => 41,
-        TokenKind::Unknown => 42,
-        TokenKind::Eof => 43,
-    }
-}
-
-/// The number of a kind of literal.
-#[inline(always)]
-#[tactic(auto, unfolding(crate::specs::Numbers::literal_number))]
-fn literal_number(kind: LiteralKind) -> u8
-    ensures { result ≡ numbers.literal_number kind }
-{
-    match kind {
-        LiteralKind::Int { .. } => 1,
-        LiteralKind::Float { .. } => 2,
-        LiteralKind::Char { .. } => 3,
-        LiteralKind::Byte { .. } => 4,
-        LiteralKind::Str { .. } => 5,
-        LiteralKind::ByteStr { .. } => 6,
-        LiteralKind::CStr { .. } => 7,
-        LiteralKind::RawStr { .. } => 8,
-        LiteralKind::RawByteStr { .. } => 9,
-        LiteralKind::RawCStr { .. } => 10,
-    }
-}
-
-/// A base as a number.
-#[inline(always)]
-fn base_number(base: Base) -> u8
-    ensures { result ≡ numbers.base_number base }
-{
-    match base {
-        Base::Binary => 2,
-        Base::Octal => 8,
-        Base::Decimal => 10,
-        Base::Hexadecimal => 16,
     }
 }
 
@@ -200,7 +113,7 @@ fn literal_second(kind: LiteralKind) -> u8
     ensures { result ≡ numbers.literal_second kind }
 {
     match kind {
-        LiteralKind::Int { base, .. } | LiteralKind::Float { base, .. } => base_number(base),
+        LiteralKind::Int { base, .. } | LiteralKind::Float { base, .. } => base as u8,
         LiteralKind::Char { terminated }
         | LiteralKind::Byte { terminated }
         | LiteralKind::Str { terminated }

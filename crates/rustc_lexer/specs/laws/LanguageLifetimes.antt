@@ -244,6 +244,15 @@ quote-char (c ∷ s) e = rw (e, or_true (begins (codes "'") s)) refl
     or_true true = refl
     or_true false = refl
 
+-- a character that begins none
+at-stops : (d : ℕ) (next : List ℕ) → is_name_start d ≡ false → NextIn (d ∷ []) next → NextIsNot is_name_start next
+at-stops d [] out at = refl
+at-stops d (c ∷ s) out at = ap is_name_start (eqb-true c d (and_parts (c == d) true (begins-next d (c ∷ s) ∙ at)).0) ∙ out
+
+empty-or : (w next : List ℕ) → NextIsNot is_name_start w → NextIsNot is_name_start next → NextIsNot is_name_start (w ++ next)
+empty-or [] next e f = f
+empty-or (c ∷ w) next e f = e
+
 -- nor does what follows it, if it is empty
 next-stops : {next : List ℕ} {t : Bool} {w : List ℕ} → IsSingleQuoted next t w → NextIsNot is_name_start w → NextIsNot is_name_start (w ++ next)
 next-stops {next} (lit.one out) e = e
@@ -260,23 +269,7 @@ next-stops {next} (lit.closed_line {w} q) e = by_end q e
     by_end (plain out q) e = e
     by_end (escape q) e = e
 next-stops {next} (lit.at_slash {w} q at none) e = empty-or w next e (at-stops 47 next backslash-none.1 at)
-  where
-    at-stops : (d : ℕ) (next : List ℕ) → is_name_start d ≡ false → NextIn (d ∷ []) next → NextIsNot is_name_start next
-    at-stops d [] out at = refl
-    at-stops d (c ∷ s) out at = ap is_name_start (eqb-true c d (and_parts (c == d) true (begins-next d (c ∷ s) ∙ at)).0) ∙ out
-
-    empty-or : (w next : List ℕ) → NextIsNot is_name_start w → NextIsNot is_name_start next → NextIsNot is_name_start (w ++ next)
-    empty-or [] next e f = f
-    empty-or (c ∷ w) next e f = e
 next-stops {next} (lit.at_newline {w} q at none) e = empty-or w next e (at-stops 10 next backslash-none.2 at)
-  where
-    at-stops : (d : ℕ) (next : List ℕ) → is_name_start d ≡ false → NextIn (d ∷ []) next → NextIsNot is_name_start next
-    at-stops d [] out at = refl
-    at-stops d (c ∷ s) out at = ap is_name_start (eqb-true c d (and_parts (c == d) true (begins-next d (c ∷ s) ∙ at)).0) ∙ out
-
-    empty-or : (w next : List ℕ) → NextIsNot is_name_start w → NextIsNot is_name_start next → NextIsNot is_name_start (w ++ next)
-    empty-or [] next e f = f
-    empty-or (c ∷ w) next e f = e
 next-stops {next} (lit.unclosed {w} none q) e = subst (λ (xs : List ℕ). NextIsNot is_name_start (w ++ xs)) (sym none) (alone w e)
   where
     alone : (w : List ℕ) → NextIsNot is_name_start w → NextIsNot is_name_start (w ++ [])

@@ -1,12 +1,14 @@
 -- How far quoted text looks past its end.
 use Rattle.std.proofs.Common.{◌≡◌, ℕ, suc, ◌+◌, ◌≤◌, ◌<◌, ◌&&◌, not, Bool, true, false, true≢false, if◌then◌else◌, List, [], ◌∷◌, length, take, drop, reverse, codes, refl, sym, ap, ◌∙◌, arith, length-drop, Option, Some, None}
 use Rattle.std.specs.Str.{byte}
+use Rattle.rustc_lexer.specs.declared.lexemes.quoted.QuotedPrefix.{QuotedPrefix}
+use Rattle.rustc_lexer.specs.declared.lexemes.quoted.QuotedPrefix.TheVariants.{Single, BSingle, Double, BDouble, CDouble}
 use Rattle.rustc_lexer.specs.declared.token.LiteralKind.{LiteralKind}
 use Rattle.rustc_lexer.specs.declared.token.LiteralKind.TheVariants.{Char, Byte, Str, ByteStr, CStr}
 use Rattle.rustc_lexer.specs.declared.token.TokenKind.{TokenKind}
 use Rattle.rustc_lexer.specs.means.Literal.{Body, literal}
 use Rattle.rustc_lexer.specs.laws.Literal.{literal_at, literal_local}
-use Rattle.rustc_lexer.specs.means.Quoted.{is_backslash, is_odd, is_escaped, free_place, stopped, quoted, at_double_quote, double_quoted_string, at_single_stop, is_lone, single_quoted_string, quoted_body, str_body, byte_str_body, c_str_body, char_body, byte_body}
+use Rattle.rustc_lexer.specs.means.Quoted.{is_backslash, is_odd, is_escaped, free_place, stopped, quoted, at_double_quote, double_quoted_string, at_single_stop, is_lone, single_quoted_string, quoted_body, str_body, byte_str_body, c_str_body, char_body, byte_body, quoted_string, quoted_literal, quoted_least, quoted_reach}
 use Rattle.rustc_lexer.specs.laws.Reach.{IsToldBy, cut, cut_past, told_same, begins-told, begins-length, all_at, read_as_at, after_at, yes_at, no_at, either_at, wider, found-inside, found-same, least_found}
 use Rattle.rustc_lexer.specs.means.Scan.{IsLocalAt, IsLocal, IsFound, after, begins, run_len}
 
@@ -166,3 +168,18 @@ byte_at s one = lettered_at 2 byte_body s (omega arith) one (char_body_local Byt
 
 pub byte_closed : (s : List ℕ) → 1 ≤ length s → (single_quoted_string (drop 1 s)).0 ≡ true → IsLocalAt TokenKind 1 (literal (after 1 byte_body)) s
 byte_closed s one t = lettered_at 1 byte_body s (omega arith) one (char_body_closed Byte (drop 1 s) t)
+
+-- any literal in quotes
+pub quoted_literal_at : (prefix : QuotedPrefix) (s : List ℕ) → quoted_least prefix ≤ length s → IsLocalAt TokenKind (quoted_reach prefix) (quoted_literal prefix) s
+quoted_literal_at Single s le = char_local s
+quoted_literal_at BSingle s le = byte_at s le
+quoted_literal_at Double s le = str_local s
+quoted_literal_at BDouble s le = byte_str_at s le
+quoted_literal_at CDouble s le = c_str_at s le
+
+pub quoted_literal_closed : (prefix : QuotedPrefix) (s : List ℕ) → quoted_least prefix ≤ length s → (quoted_string prefix s).0 ≡ true → IsLocalAt TokenKind 1 (quoted_literal prefix) s
+quoted_literal_closed Single s le t = char_closed s t
+quoted_literal_closed BSingle s le t = byte_closed s le t
+quoted_literal_closed Double s le t = str_local s
+quoted_literal_closed BDouble s le t = byte_str_at s le
+quoted_literal_closed CDouble s le t = c_str_at s le

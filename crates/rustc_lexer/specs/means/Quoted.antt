@@ -1,11 +1,14 @@
 -- Means, by how it is read: quoted text: what follows an opening quote.
 use Rattle.std.specs.Prelude.{ℕ, zero, suc, ◌==◌, ◌&&◌, ◌||◌, not, Bool, true, false, if◌then◌else◌, List, [], ◌∷◌, length, take, drop, reverse, codes, Option, Some, None}
 use Rattle.std.specs.Str.{byte}
+use Rattle.rustc_lexer.specs.declared.lexemes.quoted.QuotedPrefix.{QuotedPrefix}
+use Rattle.rustc_lexer.specs.declared.lexemes.quoted.QuotedPrefix.TheVariants.{Single, BSingle, Double, BDouble, CDouble}
 use Rattle.rustc_lexer.specs.declared.token.LiteralKind.{LiteralKind}
 use Rattle.rustc_lexer.specs.declared.token.LiteralKind.TheVariants.{Char, Byte, Str, ByteStr, CStr}
+use Rattle.rustc_lexer.specs.declared.token.TokenKind.{TokenKind}
 use Rattle.rustc_lexer.specs.means.Least.{least}
-use Rattle.rustc_lexer.specs.means.Literal.{Body}
-use Rattle.rustc_lexer.specs.means.Scan.{begins, run_len}
+use Rattle.rustc_lexer.specs.means.Literal.{Body, literal}
+use Rattle.rustc_lexer.specs.means.Scan.{after, begins, run_len}
 
 abbrev pub is_backslash : ℕ → Bool
 is_backslash c = c == byte "\\"
@@ -67,3 +70,38 @@ char_body s = quoted_body Char single_quoted_string s
 
 abbrev pub byte_body : List ℕ → Body × ℕ
 byte_body s = quoted_body Byte single_quoted_string s
+
+-- by what a literal in quotes begins with, past the first character of that: whether it is closed, and how much its body
+-- takes, with a quote that stands behind a letter
+abbrev pub quoted_string : QuotedPrefix → List ℕ → Bool × ℕ
+quoted_string Single s = single_quoted_string s
+quoted_string BSingle s = after 1 single_quoted_string s
+quoted_string Double s = double_quoted_string s
+quoted_string BDouble s = after 1 double_quoted_string s
+quoted_string CDouble s = after 1 double_quoted_string s
+
+abbrev pub quoted_kind : QuotedPrefix → Bool → LiteralKind
+quoted_kind Single terminated = Char terminated
+quoted_kind BSingle terminated = Byte terminated
+quoted_kind Double terminated = Str terminated
+quoted_kind BDouble terminated = ByteStr terminated
+quoted_kind CDouble terminated = CStr terminated
+
+abbrev pub quoted_literal : QuotedPrefix → List ℕ → TokenKind × ℕ
+quoted_literal prefix s = literal (quoted_body (quoted_kind prefix) (quoted_string prefix)) s
+
+-- how many characters of its prefix stand behind the first one
+abbrev pub quoted_least : QuotedPrefix → ℕ
+quoted_least Single = 0
+quoted_least BSingle = 1
+quoted_least Double = 0
+quoted_least BDouble = 1
+quoted_least CDouble = 1
+
+-- how far it looks past its end
+abbrev pub quoted_reach : QuotedPrefix → ℕ
+quoted_reach Single = 2
+quoted_reach BSingle = 2
+quoted_reach Double = 1
+quoted_reach BDouble = 1
+quoted_reach CDouble = 1

@@ -56,7 +56,7 @@ pub(crate) fn family_of(first: char) -> Family
     }
 }
 
-/// The same of a byte, and nothing of one from 128 up.
+/// The family that a byte of ASCII chooses, and none for a byte from 128 up.
 #[inline(always)]
 pub(crate) fn family_of_byte(first: u8) -> Option<Family>
     ensures { MatchOption result (128 ≤ first)
@@ -69,7 +69,7 @@ pub(crate) fn family_of_byte(first: u8) -> Option<Family>
     }
 }
 
-/// The same of a character that is not in ASCII.
+/// The family that a character chooses which is not in ASCII.
 fn family_past_ascii(first: char) -> Family
     requires { 128 ≤ first }
     ensures { result ≡ spec.family_of first }

@@ -1,20 +1,20 @@
 //! What begins with a single quote: characters and lifetimes.
-ghost use Rattle.std.specs.Prelude.{◌≡◌, ◌+◌, ◌<◌, ◌^◌, ◌∷◌, ◌&&◌, ◌||◌, not, if◌then◌else◌, ℕ, List, true, false, length, drop, codes, MatchOption};
+ghost use Rattle.std.specs.Prelude.{◌≡◌, ◌+◌, ◌<◌, ◌^◌, ◌∷◌, ◌&&◌, ◌||◌, not, if◌then◌else◌, ℕ, List, true, false, length, drop, codes};
 ghost use Rattle.std.specs.Char.{is_ascii_digit, len_utf8};
 ghost use Rattle.std.specs.Str.{chars};
 ghost use Rattle.rustc_lexer.specs.declared.token.TokenKind.{TokenKind};
 ghost use Rattle.rustc_lexer.specs.declared.token.TokenKind.TheVariants.{Lifetime, UnknownPrefixLifetime};
 ghost use Rattle.rustc_lexer.specs.Emoji.{is_emoji};
-ghost use Rattle.rustc_lexer.specs.means.Ident.{is_word, marks_ident};
+ghost use Rattle.rustc_lexer.specs.means.Ident.{is_word};
 ghost use Rattle.rustc_lexer.specs.means.Lifetime as spec;
 ghost use Rattle.rustc_lexer.specs.means.Lifetime.{is_character_at, is_raw};
 ghost use Rattle.rustc_lexer.specs.means.Quoted.{single_quoted_string};
-ghost use Rattle.rustc_lexer.specs.means.Scan.{IsLocal, IsLocalAt, begins, past, run_len, scanned};
+ghost use Rattle.rustc_lexer.specs.means.Scan.{IsLocal, IsLocalAt, begins, run_len, scanned};
 
 use crate::classes::emoji::is_emoji;
 use crate::classes::is_id_start;
-use crate::lexemes::ident::is_word;
-use crate::lexemes::quoted::char_literal;
+use crate::lexemes::ident::{eat_marked, is_word};
+use crate::lexemes::quoted::{QuotedPrefix, quoted_literal};
 use crate::scan::{eat_continue, eat_while, split_first, strip};
 use crate::token::{LiteralKind, TokenKind};
 
@@ -35,10 +35,10 @@ pub(crate) fn lifetime_or_char(tail: &str) -> (TokenKind, &str)
         → IsLocalAt TokenKind 0 spec.lifetime_or_char (c ∷ s) }
 {
     let Some((first, rest)) = split_first(tail) else {
-        return char_literal(tail);
+        return quoted_literal(QuotedPrefix::Single, tail);
     };
     if is_character(first, rest) {
-        char_literal(tail)
+        quoted_literal(QuotedPrefix::Single, tail)
     } else {
         lifetime(first, rest)
     }
@@ -65,24 +65,14 @@ fn lifetime(first: char, rest: &str) -> (TokenKind, &str)
     ensures { (result.0, result.1.now) ≡ scanned (spec.lifetime first) rest.now }
 {
     if first == 'r' {
-        if let Some(name) = strip_raw(rest) {
-            return (TokenKind::RawLifetime, eat_continue(name));
+        if let Some(left) = eat_marked(rest) {
+            return (TokenKind::RawLifetime, left);
         }
     }
     plain_lifetime(first, rest)
 }
 
-/// What follows a hash and the start of an identifier, if these are at the front.
-fn strip_raw(rest: &str) -> Option<&str>
-    ensures { MatchOption result (marks_ident (chars rest.now) ≡ false)
-        (λ name. (marks_ident (chars rest.now) ≡ true) × (name.now ≡ past 2 rest.now)) }
-{
-    let name = strip(rest, '#')?;
-    let (first, tail) = split_first(name)?;
-    if is_id_start(first) { Some(tail) } else { None }
-}
-
-/// The same where no raw lifetime stands there. A quote that follows the name makes a character of it.
+/// What a name is where no raw lifetime stands. A quote that follows the name makes a character of it.
 #[inline(always)]
 fn plain_lifetime(first: char, rest: &str) -> (TokenKind, &str)
     requires fits { len_utf8 first + length rest.now + 1 < 2 ^ 32 }

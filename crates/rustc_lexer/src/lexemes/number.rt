@@ -1,6 +1,7 @@
 //! Numbers.
 ghost use Rattle.std.specs.Prelude.{◌≡◌, ◌+◌, ◌<◌, ◌^◌, false, length};
 ghost use Rattle.std.specs.Char.{is_ascii_digit, is_ascii_hexdigit};
+ghost use Rattle.rustc_lexer.specs.declared.token.LiteralKind.TheVariants.{Float};
 ghost use Rattle.rustc_lexer.specs.means.Number as spec;
 ghost use Rattle.rustc_lexer.specs.LanguageHolds.{AreLongest};
 ghost use Rattle.rustc_lexer.specs.means.Scan.{IsLocal, scanned};
@@ -54,7 +55,7 @@ fn front(first_digit: char, tail: &str) -> (Base, bool, &str)
     }
 }
 
-/// The same, where the first digit is 0.
+/// The base of a number whose first digit is 0, whether its prefix has no digit after it, and what follows the digits.
 #[inline(always)]
 fn front_past_zero(tail: &str) -> (Base, bool, &str)
     ensures { (spec.front_of result.0 result.1, result.2.now)
@@ -117,11 +118,7 @@ fn fraction(base: Base, rest: &str) -> (LiteralKind, &str)
     if first(rest).is_ascii_digit() {
         optional_exponent(base, eat_decimal(rest))
     } else {
-        let float = LiteralKind::Float {
-            base,
-            empty_exponent: false,
-        };
-        (float, rest)
+        (full_float(base), rest)
     }
 }
 
@@ -130,17 +127,24 @@ fn fraction(base: Base, rest: &str) -> (LiteralKind, &str)
 fn optional_exponent(base: Base, rest: &str) -> (LiteralKind, &str)
     ensures { (result.0, result.1.now) ≡ scanned (spec.optional_exponent base) rest.now }
 {
-    let float = LiteralKind::Float {
-        base,
-        empty_exponent: false,
-    };
     let Some((letter, tail)) = split_first(rest) else {
-        return (float, rest);
+        return (full_float(base), rest);
     };
     if is_exponent_letter(letter) {
         eat_float_exponent(base, tail)
     } else {
-        (float, rest)
+        (full_float(base), rest)
+    }
+}
+
+/// A float whose exponent, if it has one, has digits.
+#[inline(always)]
+fn full_float(base: Base) -> LiteralKind
+    ensures { result ≡ Float base false }
+{
+    LiteralKind::Float {
+        base,
+        empty_exponent: false,
     }
 }
 
@@ -194,7 +198,7 @@ fn eat_decimal_digits(rest: &str) -> (bool, &str)
     (has_digit, eat_decimal(digits))
 }
 
-/// The same of hexadecimal digits.
+/// Whether a digit stands in the run of hexadecimal digits and underscores at the front, and what follows that run.
 fn eat_hexadecimal_digits(rest: &str) -> (bool, &str)
     ensures { (result.0, result.1.now) ≡ scanned (spec.digits is_ascii_hexdigit) rest.now }
 {

@@ -1,10 +1,9 @@
 //! Quoted text: strings and characters.
-ghost use Rattle.std.specs.Prelude.{◌≡◌, ◌+◌, ◌≤◌, ◌<◌, ◌^◌, ◌∷◌, ℕ, List, Bool, true, false, length, drop, MatchOption};
+ghost use Rattle.std.specs.Prelude.{◌≡◌, ◌+◌, ◌≤◌, ◌<◌, ◌^◌, ◌∷◌, ℕ, List, Bool, true, false, length, MatchOption};
 ghost use Rattle.std.specs.Str.{chars};
 ghost use Rattle.rustc_lexer.specs.declared.token.TokenKind.{TokenKind};
-ghost use Rattle.rustc_lexer.specs.means.Literal.{Body, literal};
 ghost use Rattle.rustc_lexer.specs.means.Quoted as spec;
-ghost use Rattle.rustc_lexer.specs.means.Scan.{IsLocal, IsLocalAt, after, past, scanned};
+ghost use Rattle.rustc_lexer.specs.means.Scan.{IsLocal, IsLocalAt, past, scanned};
 
 use crate::lexemes::literal::{eat_literal_suffix, literal};
 use crate::scan::{eat_until_either, split_first, strip};
@@ -84,90 +83,82 @@ fn stops_open(c: char, tail: &str) -> bool
     c == '/' || (c == '\n' && strip(tail, '\'').is_none())
 }
 
-/// A string, and what it leaves. `tail` is what follows its quote.
-#[inline(always)]
-pub(crate) fn str_literal(tail: &str) -> (TokenKind, &str)
-    requires fits { length tail.now + 1 < 2 ^ 32 }
-    ensures read { (result.0, result.1.now) ≡ scanned (literal spec.str_body) tail.now }
-    ensures lookahead { IsLocal TokenKind 1 (literal spec.str_body) }
-{
-    let (terminated, rest) = double_quoted_string(tail);
-    with_suffix(LiteralKind::Str { terminated }, terminated, tail, rest)
+/// What a literal in quotes begins with.
+#[derive(Clone, Copy)]
+pub(crate) enum QuotedPrefix {
+    /// `'`
+    Single,
+    /// `b'`
+    BSingle,
+    /// `"`
+    Double,
+    /// `b"`
+    BDouble,
+    /// `c"`
+    CDouble,
 }
 
-/// A byte string. `tail` is what follows its `b`, and `body` what follows the quote.
+/// A literal in quotes, and what it leaves. `tail` is what follows the first character of its prefix.
+///
+/// It looks at one character past its end, for its suffix or the end of the text. In single quotes that nothing
+/// closes it looks at two.
 #[inline(always)]
-pub(crate) fn byte_str_literal<'a>(tail: &str, body: &'a str) -> (TokenKind, &'a str)
-    requires body { body.now ≡ past 1 tail.now }
+pub(crate) fn quoted_literal(prefix: QuotedPrefix, tail: &str) -> (TokenKind, &str)
     requires fits { length tail.now + 1 < 2 ^ 32 }
-    ensures read { (result.0, result.1.now)
-        ≡ scanned (literal (after 1 spec.byte_str_body)) tail.now }
-    ensures lookahead { (s : List ℕ) → 1 ≤ length s
-        → IsLocalAt TokenKind 1 (literal (after 1 spec.byte_str_body)) s }
+    ensures read { (result.0, result.1.now) ≡ scanned (spec.quoted_literal prefix) tail.now }
+    ensures lookahead { (s : List ℕ) → spec.quoted_least prefix ≤ length s
+        → IsLocalAt TokenKind (spec.quoted_reach prefix) (spec.quoted_literal prefix) s }
+    ensures closed { (s : List ℕ) → spec.quoted_least prefix ≤ length s
+        → (spec.quoted_string prefix s).0 ≡ true
+        → IsLocalAt TokenKind 1 (spec.quoted_literal prefix) s }
 {
-    let (terminated, rest) = double_quoted_string(body);
-    with_suffix(LiteralKind::ByteStr { terminated }, terminated, tail, rest)
-}
-
-/// A C string. `tail` is what follows its `c`, and `body` what follows the quote.
-#[inline(always)]
-pub(crate) fn c_str_literal<'a>(tail: &str, body: &'a str) -> (TokenKind, &'a str)
-    requires body { body.now ≡ past 1 tail.now }
-    requires fits { length tail.now + 1 < 2 ^ 32 }
-    ensures read { (result.0, result.1.now) ≡ scanned (literal (after 1 spec.c_str_body)) tail.now }
-    ensures lookahead { (s : List ℕ) → 1 ≤ length s
-        → IsLocalAt TokenKind 1 (literal (after 1 spec.c_str_body)) s }
-{
-    let (terminated, rest) = double_quoted_string(body);
-    with_suffix(LiteralKind::CStr { terminated }, terminated, tail, rest)
-}
-
-/// A character. `tail` is what follows its quote.
-#[inline(always)]
-pub(crate) fn char_literal(tail: &str) -> (TokenKind, &str)
-    requires fits { length tail.now + 1 < 2 ^ 32 }
-    ensures read { (result.0, result.1.now) ≡ scanned (literal spec.char_body) tail.now }
-    ensures lookahead { IsLocal TokenKind 2 (literal spec.char_body) }
-    ensures closed { (s : List ℕ) → (spec.single_quoted_string s).0 ≡ true
-        → IsLocalAt TokenKind 1 (literal spec.char_body) s }
-{
-    let (terminated, rest) = single_quoted_string(tail);
-    with_suffix(LiteralKind::Char { terminated }, terminated, tail, rest)
-}
-
-/// A byte. `tail` is what follows its `b`, and `body` what follows the quote.
-#[inline(always)]
-pub(crate) fn byte_literal<'a>(tail: &str, body: &'a str) -> (TokenKind, &'a str)
-    requires body { body.now ≡ past 1 tail.now }
-    requires fits { length tail.now + 1 < 2 ^ 32 }
-    ensures read { (result.0, result.1.now) ≡ scanned (literal (after 1 spec.byte_body)) tail.now }
-    ensures lookahead { (s : List ℕ) → 1 ≤ length s
-        → IsLocalAt TokenKind 2 (literal (after 1 spec.byte_body)) s }
-    ensures closed { (s : List ℕ) → 1 ≤ length s → (spec.single_quoted_string (drop 1 s)).0 ≡ true
-        → IsLocalAt TokenKind 1 (literal (after 1 spec.byte_body)) s }
-{
-    let (terminated, rest) = single_quoted_string(body);
-    with_suffix(LiteralKind::Byte { terminated }, terminated, tail, rest)
-}
-
-/// The literal whose body is all of `tail` up to `rest`, with its suffix where it takes one, and what it leaves.
-#[inline(always)]
-pub(crate) fn with_suffix<'a>(
-    kind: LiteralKind,
-    takes_suffix: bool,
-    tail: &str,
-    rest: &'a str,
-) -> (TokenKind, &'a str)
-    requires inside { length rest.now ≤ length tail.now }
-    requires fits { length tail.now + 1 < 2 ^ 32 }
-    ensures { (body : List ℕ → Body × ℕ)
-        → (record { kind = kind; takes_suffix = takes_suffix }, rest.now) ≡ scanned body tail.now
-        → (result.0, result.1.now) ≡ scanned (literal body) tail.now }
-{
+    let (terminated, rest) = quoted_string(prefix, tail);
+    let kind = literal_kind(prefix, terminated);
     let token = literal(kind, tail, rest);
-    if takes_suffix {
+    if terminated {
         (token, eat_literal_suffix(rest))
     } else {
         (token, rest)
+    }
+}
+
+/// Whether a quote closes the literal, and what follows its body. `tail` is what follows the first character of its
+/// prefix.
+#[inline(always)]
+fn quoted_string(prefix: QuotedPrefix, tail: &str) -> (bool, &str)
+    ensures shorter { length result.1.now ≤ length tail.now }
+    ensures read { (result.0, result.1.now) ≡ scanned (spec.quoted_string prefix) tail.now }
+{
+    match prefix {
+        QuotedPrefix::Single => single_quoted_string(tail),
+        QuotedPrefix::BSingle => single_quoted_string(past_first(tail)),
+        QuotedPrefix::Double => double_quoted_string(tail),
+        QuotedPrefix::BDouble | QuotedPrefix::CDouble => double_quoted_string(past_first(tail)),
+    }
+}
+
+/// What follows the first character, if there is one.
+#[inline(always)]
+fn past_first(text: &str) -> &str
+    ensures shorter { length result.now ≤ length text.now }
+    ensures past { result.now ≡ past 1 text.now }
+{
+    match split_first(text) {
+        Some((_, rest)) => rest,
+        None => text,
+    }
+}
+
+/// The kind of the literal with this prefix.
+#[inline(always)]
+fn literal_kind(prefix: QuotedPrefix, terminated: bool) -> LiteralKind
+    ensures { result ≡ spec.quoted_kind prefix terminated }
+{
+    match prefix {
+        QuotedPrefix::Single => LiteralKind::Char { terminated },
+        QuotedPrefix::BSingle => LiteralKind::Byte { terminated },
+        QuotedPrefix::Double => LiteralKind::Str { terminated },
+        QuotedPrefix::BDouble => LiteralKind::ByteStr { terminated },
+        QuotedPrefix::CDouble => LiteralKind::CStr { terminated },
     }
 }

@@ -100,8 +100,8 @@ pub(crate) fn raw_double_quoted_string(
     raw_text(text, n_hashes, prefix_len + n_hashes + 1)
 }
 
-/// The same where `text` follows the opening quote, and `n_hashes` hashes stand before that. An offset
-/// counts `before` bytes for what stands before `text`.
+/// How the raw string goes on past its opening quote, before which `n_hashes` hashes stand; and what it leaves of
+/// `text`. An offset counts `before` bytes for what stands before `text`.
 #[inline(always)]
 fn raw_text(text: &str, n_hashes: u32, before: u32) -> (Result<u8, RawStrError>, &str)
     requires fits { before + length text.now < 2 ^ 32 }

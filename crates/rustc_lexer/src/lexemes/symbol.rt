@@ -45,20 +45,20 @@ static SYMBOLS: [TokenKind; 128] = [
     Unknown,
     Unknown,
     Unknown,
-    Bang,
+    Bang, // !
     Unknown,
     Unknown,
-    Dollar,
-    Percent,
-    And,
+    Dollar, // $
+    Percent, // %
+    And, // &
     Unknown,
-    OpenParen,
-    CloseParen,
-    Star,
-    Plus,
-    Comma,
-    Minus,
-    Dot,
+    OpenParen, // (
+    CloseParen, // )
+    Star, // *
+    Plus, // +
+    Comma, // ,
+    Minus, // -
+    Dot, // .
     Unknown,
     Unknown,
     Unknown,
@@ -70,13 +70,13 @@ static SYMBOLS: [TokenKind; 128] = [
     Unknown,
     Unknown,
     Unknown,
-    Colon,
-    Semi,
-    Lt,
-    Eq,
-    Gt,
-    Question,
-    At,
+    Colon, // :
+    Semi, // ;
+    Lt, // <
+    Eq, // =
+    Gt, // >
+    Question, // ?
+    At, // @
     Unknown,
     Unknown,
     Unknown,
@@ -103,10 +103,10 @@ static SYMBOLS: [TokenKind; 128] = [
     Unknown,
     Unknown,
     Unknown,
-    OpenBracket,
+    OpenBracket, // [
     Unknown,
-    CloseBracket,
-    Caret,
+    CloseBracket, // ]
+    Caret, // ^
     Unknown,
     Unknown,
     Unknown,
@@ -135,10 +135,10 @@ static SYMBOLS: [TokenKind; 128] = [
     Unknown,
     Unknown,
     Unknown,
-    OpenBrace,
-    Or,
-    CloseBrace,
-    Tilde,
+    OpenBrace, // {
+    Or, // |
+    CloseBrace, // }
+    Tilde, // ~
     Unknown,
 ];
 

@@ -5,7 +5,7 @@ ghost use Rattle.rustc_lexer.specs.means.Raw.{prefix_len};
 ghost use Rattle.rustc_lexer.specs.means.Scan.{scanned};
 
 use crate::lexemes::ident::{eat_marked, ident_or_unknown_prefix};
-use crate::lexemes::quoted::{byte_literal, byte_str_literal, c_str_literal};
+use crate::lexemes::quoted::{QuotedPrefix, quoted_literal};
 use crate::lexemes::raw::{RawPrefix, raw_literal};
 use crate::scan::{next_is, strip};
 use crate::token::TokenKind;
@@ -65,10 +65,10 @@ fn letter_b(tail: &str) -> (TokenKind, &str)
     requires fits { length tail.now + 1 < 2 ^ 32 }
     ensures { (result.0, result.1.now) ≡ scanned spec.letter_b tail.now }
 {
-    if let Some(body) = strip(tail, '\'') {
-        byte_literal(tail, body)
-    } else if let Some(body) = strip(tail, '"') {
-        byte_str_literal(tail, body)
+    if strip(tail, '\'').is_some() {
+        quoted_literal(QuotedPrefix::BSingle, tail)
+    } else if strip(tail, '"').is_some() {
+        quoted_literal(QuotedPrefix::BDouble, tail)
     } else {
         raw_or_ident(RawPrefix::Br, tail)
     }
@@ -80,9 +80,10 @@ fn letter_c(tail: &str) -> (TokenKind, &str)
     requires fits { length tail.now + 1 < 2 ^ 32 }
     ensures { (result.0, result.1.now) ≡ scanned spec.letter_c tail.now }
 {
-    match strip(tail, '"') {
-        Some(body) => c_str_literal(tail, body),
-        None => raw_or_ident(RawPrefix::Cr, tail),
+    if strip(tail, '"').is_some() {
+        quoted_literal(QuotedPrefix::CDouble, tail)
+    } else {
+        raw_or_ident(RawPrefix::Cr, tail)
     }
 }
 

@@ -1,11 +1,14 @@
 //! Edits in a row.
-ghost use Rattle.std.specs.Prelude.{◌≡◌, ◌+◌, IfErr, OnOk, take};
+ghost use Rattle.std.specs.Prelude.{◌≡◌, ◌+◌, IfErr, OnOk, Some, take};
 ghost use Rattle.rustc_lexer.specs.Cuts.{tokens_by};
 ghost use Rattle.rustc_lexer.specs.EditLists.{apply_list, AreEdits, lexed_list, stop_at, IsStop, IsCounted};
+ghost use Rattle.rustc_lexer.specs.ErrorTexts.{stop_text};
 ghost use Rattle.rustc_lexer.specs.LanguageHolds.{HoldsTheOnlyTokensBy};
 
 use crate::entry::stepper::Stepper;
 use crate::relex::lexed_text::LexedText;
+use std::error::Error;
+use std::fmt;
 
 /// One edit, its insertion borrowed.
 #[derive(Clone, Copy, Debug, PartialEq, Eq)]
@@ -30,6 +33,20 @@ pub enum EditStop {
     /// Memory was refused.
     Memory { at: usize },
 }
+
+impl fmt::Display for EditStop {
+    ghost output = { λ stop. Some (stop_text stop) };
+
+    fn fmt<W: fmt::Write>(&self, f: &mut fmt::Formatter<W>) -> fmt::Result {
+        match self {
+            EditStop::Range { at } => write!(f, "edit {at}: bad range"),
+            EditStop::TooLong { at } => write!(f, "edit {at}: text too long"),
+            EditStop::Memory { at } => write!(f, "edit {at}: no memory"),
+        }
+    }
+}
+
+impl Error for EditStop {}
 
 impl<S: Stepper> LexedText<S> {
     /// Makes the edits in order, as far as the first that is refused.

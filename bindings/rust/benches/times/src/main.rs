@@ -67,7 +67,8 @@ macro_rules! uses {
                 }
             }
 
-            /// A number of the kind with all its fields.
+            /// A number of the kind with all its fields; 0 for a kind that only one of the two lexers has.
+            #[allow(unreachable_patterns)]
             fn number(kind: TokenKind) -> u64 {
                 match kind {
                     TokenKind::LineComment { doc_style } => 1 + style(doc_style),
@@ -126,6 +127,7 @@ macro_rules! uses {
                     TokenKind::Percent => 41,
                     TokenKind::Unknown => 42,
                     TokenKind::Eof => 43,
+                    _ => 0,
                 }
             }
 

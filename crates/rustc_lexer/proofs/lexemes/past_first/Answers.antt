@@ -21,7 +21,7 @@ pub returns-in-Quote : goal.returns-in-Quote
 returns-in-Quote c = by_family Quote _ _ _ c.lifetime_or_char.ensures.read (sym c.in-Quote.is ∙ c.family_of.ensures)
 
 pub returns-in-Str : goal.returns-in-Str
-returns-in-Str c = by_family Str _ _ _ c.str_literal.ensures.read (sym c.in-Str.is ∙ c.family_of.ensures)
+returns-in-Str c = by_family Str _ _ _ c.quoted_literal.ensures.read (sym c.in-Str.is ∙ c.family_of.ensures)
 
 pub returns-in-Emoji : goal.returns-in-Emoji
 returns-in-Emoji c = by_family Emoji _ _ _ c.invalid_ident.ensures.read (sym c.in-Emoji.is ∙ c.family_of.ensures)

@@ -4,13 +4,13 @@ use Rattle.rustc_lexer.proofs.LifetimeLemmas.{first-length, pick-name, pick-char
 use Rattle.rustc_lexer.proofs.lexemes.lifetime.lifetime_or_char.Goals as goal
 
 pub returns-in_default : goal.returns-in_default
-returns-in_default c = record { read = pick-end _ _ c.in_default.ensures c.char_literal.ensures.read; lookahead = lifetime_or_char_local; character = char_at; raw = raw_lifetime_at; long_character = long_char_at }
+returns-in_default c = record { read = pick-end _ _ c.in_default.ensures c.quoted_literal.ensures.read; lookahead = lifetime_or_char_local; character = char_at; raw = raw_lifetime_at; long_character = long_char_at }
 
 pub lifetime-requires : goal.lifetime-requires
 lifetime-requires c = omega (arith, first-length _ _ _ c.utf8.tail c.in-Some.ensures.0 c.in-Some.ensures.1)
 
 pub returns-then-is_character : goal.returns-then-is_character
-returns-then-is_character c = record { read = pick-char _ _ _ c.utf8.tail c.in-Some.ensures.0 c.in-Some.ensures.1 _ (sym c.if-is_character.ensures) c.char_literal-then-is_character.ensures.read; lookahead = lifetime_or_char_local; character = char_at; raw = raw_lifetime_at; long_character = long_char_at }
+returns-then-is_character c = record { read = pick-char _ _ _ c.utf8.tail c.in-Some.ensures.0 c.in-Some.ensures.1 _ (sym c.if-is_character.ensures) c.quoted_literal-then-is_character.ensures.read; lookahead = lifetime_or_char_local; character = char_at; raw = raw_lifetime_at; long_character = long_char_at }
 
 pub returns-else-is_character : goal.returns-else-is_character
 returns-else-is_character c = record { read = pick-name _ _ _ c.utf8.tail c.in-Some.ensures.0 c.in-Some.ensures.1 _ (sym c.if-is_character.ensures) c.lifetime.ensures; lookahead = lifetime_or_char_local; character = char_at; raw = raw_lifetime_at; long_character = long_char_at }

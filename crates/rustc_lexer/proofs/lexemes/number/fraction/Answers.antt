@@ -17,7 +17,7 @@ returns-then-is_ascii_digit c =
 
 pub returns-else-is_ascii_digit : goal.returns-else-is_ascii_digit
 unfolding fraction
-returns-else-is_ascii_digit c = sym (
+returns-else-is_ascii_digit c = ap (λ k. (k, c.args.rest.now)) c.full_float.ensures ∙ sym (
     scanned-no (next_is is_ascii_digit) (fraction_digits c.args.base) (gives (Float c.args.base false)) _ (next_is-first is_ascii_digit (chars c.args.rest.now) refl ∙ (ap is_ascii_digit (sym c.first.ensures) ∙ sym c.if-is_ascii_digit.ensures.value))
     ∙ scanned-gives _ _ c.utf8.rest
     )
