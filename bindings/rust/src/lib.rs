@@ -41,6 +41,7 @@ mod edition;
 mod landmarks;
 mod layout;
 mod lexed_text;
+pub mod literal_escaper;
 mod token;
 mod tokens;
 
