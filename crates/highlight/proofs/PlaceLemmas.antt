@@ -1,8 +1,8 @@
 -- The first and the last quote of a literal.
-use Rattle.std.proofs.Common.{◌≡◌, ℕ, zero, suc, ◌+◌, ◌<◌, ◌≤◌, ◌==◌, ◌||◌, Bool, true, false, true≢false, List, [], ◌∷◌, length, get_or, refl, sym, ap, arith, inl, inr, Option, Some, None, IsCharBoundary, IsUtf8, slice_index}
+use Rattle.std.proofs.Common.{◌≡◌, ℕ, zero, suc, ◌+◌, ◌<◌, ◌==◌, Bool, true, false, List, [], ◌∷◌, length, get_or, refl, sym, ap, arith, inl, inr, Option, Some, None, IsCharBoundary, IsUtf8}
 use Rattle.std.specs.List.{list_any}
 use Rattle.std.proofs.lemmas.Bool.{cases_Bool, eqb-true}
-use Rattle.std.proofs.lemmas.Str.{IsCharBoundary-after_ascii, IsCharBoundary-before_ascii}
+use Rattle.std.proofs.lemmas.Str.{IsCharBoundary-after_ascii}
 use Rattle.memchr.specs.Find.{IsFirstByte, IsLastByte, is_byte}
 use Rattle.highlight.specs.Literal.{first_place, last_place}
 
@@ -68,6 +68,3 @@ module _ (b : ℕ) where
 
   pub past_first : (xs : List ℕ) (n : ℕ) → IsUtf8 xs → b < 128 → IsFirstByte (is_byte b) xs (Some n) → IsCharBoundary xs (n + 1)
   past_first xs n utf8 ascii found = IsCharBoundary-after_ascii xs n utf8 found.0.high (small xs n ascii found.1)
-
-  pub at_last : (xs : List ℕ) (n : ℕ) → b < 128 → IsLastByte (is_byte b) xs (Some n) → IsCharBoundary xs n
-  at_last xs n ascii found = IsCharBoundary-before_ascii xs n found.0.high (small xs n ascii found.1)

@@ -239,6 +239,11 @@ fn editions(rt: HostRuntime) {
         (Some(Edition::E2021), "z\"a\"", prefix),
         (Some(Edition::E2018), "z\"a\"", "z\"a\""),
         (Some(Edition::E2015), "z\"a\"", "z\"a\""),
+        (
+            Some(Edition::E2021),
+            "#\"\\q\"",
+            "#\"\\q [<- no escape is written like this]\"",
+        ),
     ];
     for (edition, text, want) in rows {
         assert!(rt;
