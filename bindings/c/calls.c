@@ -1,6 +1,6 @@
 /* Calls of the library at its edges: texts that are not UTF-8, empty texts, null, room for no token and for one, a batch
- * that ends before a frontmatter, bad places; the bytes of records; and a text under edits, compared with lexing it
- * anew. Exits with 1 at the first check that fails, and says which. */
+ * that ends before a frontmatter, bad places; the bytes of records; units of literals; and a text under edits,
+ * compared with lexing it anew. Exits with 1 at the first check that fails, and says which. */
 #include <stdio.h>
 #include <string.h>
 
@@ -58,6 +58,7 @@ static int check_bad_texts(void) {
         CHECK(rustc_lexer_strip_shebang(text, len, &end) == RUSTC_LEXER_NOT_UTF8 && end == 0);
         end = 99;
         CHECK(rustc_lexer_settled(text, len, &end) == RUSTC_LEXER_NOT_UTF8 && end == 0);
+        CHECK(rustc_lexer_unescape(text, len, RUSTC_LEXER_STR, 0, NULL, 0, &end) == RUSTC_LEXER_NOT_UTF8 && end == 0);
         CHECK(rustc_lexer_validate_raw_str(text, len, 1, &error) == RUSTC_LEXER_NOT_UTF8);
         CHECK(error.error == 0 && error.bad_char == 0 && error.expected == 0 && error.found == 0);
         CHECK(rustc_lexer_guarded_str(text, len, &string) == RUSTC_LEXER_NOT_UTF8 && string.is_some == 0);
@@ -441,11 +442,50 @@ static int check_random_edits(relex_call *relex, uint32_t edition) {
     return 0;
 }
 
+typedef uint32_t unescape_call(const uint8_t *, size_t, uint32_t, size_t, struct rustc_lexer_unit *, size_t, size_t *);
+
+static bool is_unit(struct rustc_lexer_unit unit, size_t start, size_t end, uint32_t kind, uint32_t value) {
+    return unit.start == start && unit.end == end && unit.kind == kind && unit.value == value;
+}
+
+static int check_units(unescape_call *unescape) {
+    static const uint8_t text[] = "a\\q\\xff\\\n\n b";
+    struct rustc_lexer_unit units[16];
+    size_t len = sizeof text - 1, count = 99;
+    CHECK(unescape(text, len, RUSTC_LEXER_C_STR, 0, units, 16, &count) == RUSTC_LEXER_OK && count == 5);
+    CHECK(is_unit(units[0], 0, 1, RUSTC_LEXER_UNIT_CHAR, 'a'));
+    CHECK(is_unit(units[1], 1, 3, RUSTC_LEXER_UNIT_ERROR, RUSTC_LEXER_INVALID_ESCAPE));
+    CHECK(is_unit(units[2], 3, 7, RUSTC_LEXER_UNIT_BYTE, 255));
+    CHECK(is_unit(units[3], 7, 11, RUSTC_LEXER_UNIT_WARNING, RUSTC_LEXER_MULTIPLE_SKIPPED_LINES_WARNING));
+    CHECK(is_unit(units[4], 11, 12, RUSTC_LEXER_UNIT_CHAR, 'b'));
+    CHECK(unescape(text, len, RUSTC_LEXER_STR, 2, units, 1, &count) == RUSTC_LEXER_OK && count == 1);
+    CHECK(is_unit(units[0], 3, 7, RUSTC_LEXER_UNIT_ERROR, RUSTC_LEXER_OUT_OF_RANGE_HEX_ESCAPE));
+    CHECK(unescape(text, len, RUSTC_LEXER_STR, 5, units, 16, &count) == RUSTC_LEXER_OK && count == 0);
+    CHECK(unescape(text, len, RUSTC_LEXER_RAW_STR, 0, units, 16, &count) == RUSTC_LEXER_OK && count == 12);
+    CHECK(unescape(text, len, RUSTC_LEXER_CHAR, 0, units, 16, &count) == RUSTC_LEXER_OK && count == 1);
+    CHECK(is_unit(units[0], 0, 12, RUSTC_LEXER_UNIT_ERROR, RUSTC_LEXER_MORE_THAN_ONE_CHAR));
+    CHECK(unescape(text, len, RUSTC_LEXER_CHAR, 1, units, 16, &count) == RUSTC_LEXER_OK && count == 0);
+    CHECK(unescape(text, 1, RUSTC_LEXER_BYTE, 0, units, 1, &count) == RUSTC_LEXER_OK && count == 1);
+    CHECK(is_unit(units[0], 0, 1, RUSTC_LEXER_UNIT_BYTE, 'a'));
+    CHECK(unescape(NULL, 0, RUSTC_LEXER_BYTE, 0, NULL, 0, &count) == RUSTC_LEXER_OK && count == 0);
+    CHECK(unescape(NULL, 0, RUSTC_LEXER_BYTE, 0, units, 1, &count) == RUSTC_LEXER_OK && count == 1);
+    CHECK(is_unit(units[0], 0, 0, RUSTC_LEXER_UNIT_ERROR, RUSTC_LEXER_ZERO_CHARS));
+    CHECK(unescape(text, len, RUSTC_LEXER_FLOAT, 0, units, 16, &count) == RUSTC_LEXER_BAD_MODE && count == 0);
+    CHECK(unescape(text, len, 11, 0, units, 16, &count) == RUSTC_LEXER_BAD_MODE && count == 0);
+    CHECK(is_unit(units[0], 0, 0, RUSTC_LEXER_UNIT_ERROR, RUSTC_LEXER_ZERO_CHARS));
+    return 0;
+}
+
 int main(void) {
     batch_call *const calls[] = {rustc_lexer_tokens, rustc_lexer_tokens_unchecked};
     CHECK(sizeof(struct rustc_lexer_token) == 12 && sizeof(struct rustc_lexer_relexing) == 7 * sizeof(size_t));
+    CHECK(sizeof(struct rustc_lexer_unit) == 2 * sizeof(size_t) + 8);
     for (int i = 0; i < 2; i++)
         if (check_empty_text(calls[i]) || check_room(calls[i]) || check_frontmatter(calls[i]) || check_places(calls[i]))
+            return 1;
+    unescape_call *const unescapes[] = {rustc_lexer_unescape, rustc_lexer_unescape_unchecked};
+    for (int i = 0; i < 2; i++)
+        if (check_units(unescapes[i]))
             return 1;
     relex_call *const relexes[] = {rustc_lexer_relex, rustc_lexer_relex_unchecked};
     for (int i = 0; i < 2; i++)

@@ -7,8 +7,8 @@
  *   - no pointer is null, but one whose length is 0 may be;
  *   - `len` bytes can be read at `text`, and nothing writes to them during the call;
  *   - each pointer that is not const points to memory that the caller may write to, that is aligned for its type
- *     and that nothing else uses during the call: `room` to `room_len` tokens, the others to one value. What is
- *     there before the call does not matter, but for `place` and `relexing`;
+ *     and that nothing else uses during the call: `room` to `room_len` tokens or units, the others to one value. What
+ *     is there before the call does not matter, but for `place` and `relexing`;
  *   - `old_len` tokens can be read at `old`, and one value at `edit`, and nothing writes to them during the call.
  *   - what the calls with `_unchecked` say of their texts.
  * All else is tested. Each call answers a status; with one that is not 0 it has written zeros, or nothing where that
@@ -27,7 +27,7 @@
 extern "C" {
 #endif
 
-/* Statuses. They are judged in the order 2, 1, and then 3 or 4, or 5 and 6. */
+/* Statuses. They are judged in the order 2, 1, and then 3 or 4 or 7, or 5 and 6. */
 enum {
     RUSTC_LEXER_OK = 0,
     RUSTC_LEXER_NOT_UTF8 = 1,  /* the text is not UTF-8 */
@@ -35,7 +35,8 @@ enum {
     RUSTC_LEXER_BAD_PLACE = 3, /* the place is past the end of the text, or inside a character */
     RUSTC_LEXER_NOT_RAW = 4,   /* character number prefix_len of the text, counted from 1, is no r */
     RUSTC_LEXER_BAD_EDITION = 5, /* the edition is none of 2015, 2018, 2021 and 2024 */
-    RUSTC_LEXER_BAD_EDIT = 6   /* the edit cannot have made the text, or relexing cannot go on from the numbers */
+    RUSTC_LEXER_BAD_EDIT = 6,  /* the edit cannot have made the text, or relexing cannot go on from the numbers */
+    RUSTC_LEXER_BAD_MODE = 7   /* the mode is none of the kinds of literals from RUSTC_LEXER_CHAR on */
 };
 
 /* Kinds of tokens. No token that is written has the kind 0 or 43. */
@@ -243,6 +244,49 @@ struct rustc_lexer_guarded_str {
     uint32_t token_len;  /* of all of it, in bytes */
 };
 
+/* Kinds of units. */
+enum {
+    RUSTC_LEXER_UNIT_CHAR = 1,    /* a character */
+    RUSTC_LEXER_UNIT_BYTE = 2,    /* a byte; in a C string one from 128 on */
+    RUSTC_LEXER_UNIT_ERROR = 3,   /* something is wrong */
+    RUSTC_LEXER_UNIT_WARNING = 4  /* something that a reader may want to be warned of */
+};
+
+/* What is wrong in a literal. The last two are warnings. */
+enum {
+    RUSTC_LEXER_ZERO_CHARS = 1,
+    RUSTC_LEXER_MORE_THAN_ONE_CHAR = 2,
+    RUSTC_LEXER_LONE_SLASH = 3,
+    RUSTC_LEXER_INVALID_ESCAPE = 4,
+    RUSTC_LEXER_BARE_CARRIAGE_RETURN = 5,
+    RUSTC_LEXER_BARE_CARRIAGE_RETURN_IN_RAW_STRING = 6,
+    RUSTC_LEXER_ESCAPE_ONLY_CHAR = 7,
+    RUSTC_LEXER_TOO_SHORT_HEX_ESCAPE = 8,
+    RUSTC_LEXER_INVALID_CHAR_IN_HEX_ESCAPE = 9,
+    RUSTC_LEXER_OUT_OF_RANGE_HEX_ESCAPE = 10,
+    RUSTC_LEXER_NO_BRACE_IN_UNICODE_ESCAPE = 11,
+    RUSTC_LEXER_INVALID_CHAR_IN_UNICODE_ESCAPE = 12,
+    RUSTC_LEXER_EMPTY_UNICODE_ESCAPE = 13,
+    RUSTC_LEXER_UNCLOSED_UNICODE_ESCAPE = 14,
+    RUSTC_LEXER_LEADING_UNDERSCORE_UNICODE_ESCAPE = 15,
+    RUSTC_LEXER_OVERLONG_UNICODE_ESCAPE = 16,
+    RUSTC_LEXER_LONE_SURROGATE_UNICODE_ESCAPE = 17,
+    RUSTC_LEXER_OUT_OF_RANGE_UNICODE_ESCAPE = 18,
+    RUSTC_LEXER_UNICODE_ESCAPE_IN_BYTE = 19,
+    RUSTC_LEXER_NON_ASCII_CHAR_IN_BYTE = 20,
+    RUSTC_LEXER_NUL_IN_C_STR = 21,
+    RUSTC_LEXER_UNSKIPPED_WHITESPACE_WARNING = 22,
+    RUSTC_LEXER_MULTIPLE_SKIPPED_LINES_WARNING = 23
+};
+
+/* A unit of what a literal stands for, or what is wrong, and its place. */
+struct rustc_lexer_unit {
+    size_t start;   /* in bytes from the front of the text */
+    size_t end;     /* the same, past the last byte */
+    uint32_t kind;  /* RUSTC_LEXER_UNIT_.. */
+    uint32_t value; /* the character, the byte, or the number of what is wrong */
+};
+
 /* RUSTC_LEXER_OK for a text that is UTF-8 and short enough, else the status that the other calls have for it. */
 uint32_t rustc_lexer_check(const uint8_t *text, size_t len);
 
@@ -330,6 +374,21 @@ bool rustc_lexer_starts_raw_unchecked(const uint8_t *text, size_t len, uint32_t 
 uint32_t rustc_lexer_guarded_str(const uint8_t *text, size_t len, struct rustc_lexer_guarded_str *string);
 uint32_t rustc_lexer_guarded_str_unchecked(const uint8_t *text, size_t len,
                                            struct rustc_lexer_guarded_str *string);
+
+/* Writes what a literal stands for: the units of the text that stands between its quotes, in order, as many as there
+ * is room for, and their number into `count`. The first `passed` units are passed over. `mode` is the kind of the
+ * literal, from RUSTC_LEXER_CHAR to RUSTC_LEXER_RAW_C_STR, as its token has it in `first`.
+ *
+ * Between double quotes the places follow each other. A backslash at a line's end has no unit, with the white space
+ * that it skips. But each of the two warnings may tell of it, at a place that begins at the backslash. Between single
+ * quotes there is one unit, and its place is all of the text.
+ *
+ * A text has no more units than bytes, or one where it is empty. Each call reads the text from its front, so room for
+ * as many units as bytes makes one call do. With another status than 0 the room stays as it was, and `count` is 0. */
+uint32_t rustc_lexer_unescape(const uint8_t *text, size_t len, uint32_t mode, size_t passed,
+                              struct rustc_lexer_unit *room, size_t room_len, size_t *count);
+uint32_t rustc_lexer_unescape_unchecked(const uint8_t *text, size_t len, uint32_t mode, size_t passed,
+                                        struct rustc_lexer_unit *room, size_t room_len, size_t *count);
 
 /* Writes 1 where the text is an identifier, else 0. */
 uint32_t rustc_lexer_is_ident(const uint8_t *text, size_t len, uint32_t *is);

@@ -1,5 +1,6 @@
 //! What a lexer answers of a text, as lines, so that the answers of two lexers with types of their own can be compared.
 
+use crate::literals;
 use std::fmt::{Debug, Write};
 
 /// Writes a value with its name as the next line.
@@ -150,10 +151,26 @@ pub struct Pair {
 impl Pair {
     /// The number of answers of a text, or the first that differ.
     pub fn compare(&mut self, text: &str) -> Result<usize, [String; 2]> {
+        self.compare_by(text, [original::answers, proved::answers])
+    }
+
+    /// The same of a text that stands between the quotes of a literal.
+    pub fn compare_literals(&mut self, text: &str) -> Result<usize, [String; 2]> {
+        self.compare_by(
+            text,
+            [literals::original::answers, literals::proved::answers],
+        )
+    }
+
+    fn compare_by(
+        &mut self,
+        text: &str,
+        [original, proved]: [fn(&str, &mut String); 2],
+    ) -> Result<usize, [String; 2]> {
         self.original.clear();
         self.proved.clear();
-        original::answers(text, &mut self.original);
-        proved::answers(text, &mut self.proved);
+        original(text, &mut self.original);
+        proved(text, &mut self.proved);
         if self.original == self.proved {
             return Ok(self.original.lines().count());
         }

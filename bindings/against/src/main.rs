@@ -4,9 +4,11 @@
 //!     against [--texts N] [--seed N] PATH..
 //!
 //! Compared are each character, each file of a PATH (of a folder those that end in `.rs`, at any depth), and N random
-//! texts (200,000, if not given), of which half are parts of the files with something put in.
+//! texts (200,000, if not given), of which half are parts of the files with something put in. Then come each character
+//! and N random texts as what stands between the quotes of a literal.
 
 mod answers;
+mod literals;
 mod texts;
 
 use std::collections::HashSet;
@@ -86,9 +88,18 @@ struct Counts {
 impl Counts {
     /// Compares what the two say of a text, and shows where they differ.
     fn compare(&mut self, pair: &mut Pair, name: &str, text: &str) {
+        self.count(name, text, pair.compare(text));
+    }
+
+    /// The same of what a text stands for between the quotes of a literal.
+    fn compare_literals(&mut self, pair: &mut Pair, name: &str, text: &str) {
+        self.count(name, text, pair.compare_literals(text));
+    }
+
+    fn count(&mut self, name: &str, text: &str, compared: Result<usize, [String; 2]>) {
         self.texts += 1;
         self.bytes += text.len() as u64;
-        match pair.compare(text) {
+        match compared {
             Ok(answers) => self.answers += answers as u64,
             Err([original, proved]) => {
                 self.differences += 1;
@@ -186,7 +197,25 @@ fn main() -> ExitCode {
     }
     of_texts.print("random texts");
 
-    let differences = of_characters.differences + of_files.differences + of_texts.differences;
+    let mut of_literals = Counts::default();
+    for c in '\0'..=char::MAX {
+        for text in [format!("{c}"), format!("\\{c}"), format!("\\\n{c}")] {
+            of_literals.compare_literals(&mut pair, "character in a literal", &text);
+        }
+    }
+    for (path, text) in &files {
+        of_literals.compare_literals(&mut pair, &path.to_string_lossy(), text);
+    }
+    for number in 0..asked.texts {
+        let text = random.literal();
+        of_literals.compare_literals(&mut pair, &format!("random literal {number}"), &text);
+    }
+    of_literals.print("literals");
+
+    let differences = of_characters.differences
+        + of_files.differences
+        + of_texts.differences
+        + of_literals.differences;
     println!("differences: {differences}");
     ExitCode::from(u8::from(differences != 0))
 }

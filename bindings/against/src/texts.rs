@@ -17,6 +17,16 @@ const PIECES: &[&str] = &[
     "😀", "👩", "\u{fe0f}", "1😀", "'😀", "€", "№", "\u{301}", "\u{10ffff}",
 ];
 
+/// What is put between the quotes of a literal, beside those.
+#[rustfmt::skip]
+const ESCAPES: &[&str] = &[
+    "\\n", "\\r", "\\t", "\\0", "\\\\", "\\'", "\\\"", "\\q", "\\é", "\\\r", "\\", "\r", "\0", "é", "😀",
+    "\\x", "\\x0", "\\x00", "\\x41", "\\x7f", "\\x80", "\\xFF", "\\xg", "\\x4g",
+    "\\u", "\\u{", "\\u{}", "\\u{_", "\\u{_0}", "\\u{0}", "\\u{41}", "\\u{4_1_}", "\\u{d7ff}", "\\u{D800}", "\\u{dfff}",
+    "\\u{e000}", "\\u{10ffff}", "\\u{110000}", "\\u{0000041}", "\\u{1234567", "\\u{12 }", "\\u{12é}", "}",
+    "\\\n", "\\\n\n", "\\\n  ", "\\\n \t\r\n", "\\\r\n", "\u{a0}", "\u{b}", "\u{c}", "\u{2028}",
+];
+
 /// The source of random texts.
 pub struct Random<'a> {
     state: u64,
@@ -60,6 +70,19 @@ impl<'a> Random<'a> {
             Some(c) if !self.unsettled.contains(&c) => text.push(c),
             _ => {}
         }
+    }
+
+    /// What may stand between the quotes of a literal. Now and then it is long.
+    pub fn literal(&mut self) -> String {
+        let most = if self.below(50) == 0 { 400 } else { 8 };
+        let mut text = String::new();
+        for _ in 0..self.below(most) {
+            match self.below(4) {
+                0 => self.put_piece(&mut text),
+                _ => text.push_str(ESCAPES[self.below(ESCAPES.len())]),
+            }
+        }
+        text
     }
 
     /// A part of a text, from one character to another, of up to about 300 bytes.

@@ -90,6 +90,17 @@ pub struct CGuardedStr {
     pub token_len: u32,
 }
 
+/// A unit of what a literal stands for, or what is wrong, and its place.
+#[repr(C)]
+#[derive(Clone, Copy)]
+pub struct Unit {
+    pub start: usize,
+    pub end: usize,
+    /// 1 for a character, 2 for a byte, 3 for an error, 4 for a warning.
+    pub kind: u32,
+    pub value: u32,
+}
+
 /// A token as it crosses, or zeros for none. `layout.rs` holds the compiler to a `Token` of these words.
 #[repr(C)]
 #[derive(Clone, Copy)]
@@ -143,6 +154,15 @@ unsafe extern "C" {
         text: *const u8,
         len: usize,
         string: *mut CGuardedStr,
+    ) -> u32;
+    fn rustc_lexer_unescape_unchecked(
+        text: *const u8,
+        len: usize,
+        mode: u32,
+        passed: usize,
+        room: *mut Unit,
+        room_len: usize,
+        count: *mut usize,
     ) -> u32;
     fn rustc_lexer_starts_raw_unchecked(text: *const u8, len: usize, prefix_len: u32) -> bool;
     fn rustc_lexer_is_ident_unchecked(text: *const u8, len: usize) -> bool;
@@ -347,6 +367,34 @@ pub fn guarded_str(text: &str) -> CGuardedStr {
         unsafe { rustc_lexer_guarded_str_unchecked(text.as_ptr(), text.len(), &mut string) };
     assert_eq!(status, 0, "the text fits");
     string
+}
+
+/// Writes units of what stands between a literal's quotes into the room, past the first ones, and answers them.
+pub fn units<'room>(
+    text: &str,
+    mode: u32,
+    passed: usize,
+    room: &'room mut [MaybeUninit<Unit>],
+) -> &'room [Unit] {
+    let mut count = 0;
+    // SAFETY: all pointers are those of one slice or one reference, with its length; the text is UTF-8.
+    let status = unsafe {
+        rustc_lexer_unescape_unchecked(
+            text.as_ptr(),
+            text.len(),
+            mode,
+            passed,
+            room.as_mut_ptr().cast(),
+            room.len(),
+            &mut count,
+        )
+    };
+    assert!(
+        status == 0 && count <= room.len(),
+        "the text fits, and the mode is one"
+    );
+    // SAFETY: the library wrote the first `count` of the room.
+    unsafe { slice::from_raw_parts(room.as_ptr().cast(), count) }
 }
 
 pub fn starts_raw(text: &str, prefix_len: u32) -> bool {

@@ -11,8 +11,8 @@
 //! ```
 //!
 //! Beside what the original has: [`LexedText`], a text that is kept with its tokens under edits, [`tokenize_in`] for
-//! editions, [`settled`] for a text that is still being written, [`fits`] and [`starts_raw`] for what would panic, and
-//! [`TokenKind::name`].
+//! editions, [`settled`] for a text that is still being written, [`fits`] and [`starts_raw`] for what would panic,
+//! [`TokenKind::name`], and [`literal_escaper`], what literals stand for.
 //!
 //! # What an edit rests on
 //!
@@ -41,6 +41,7 @@ mod edition;
 mod landmarks;
 mod layout;
 mod lexed_text;
+pub mod literal_escaper;
 mod token;
 mod tokens;
 

@@ -3,6 +3,9 @@ pub mod EscapeLemmas
 pub mod JobLemmas
 pub mod KnownLemmas
 pub mod LineLemmas
+pub mod LiteralLemmas
 pub mod OutcomeLemmas
 pub mod PageLemmas
+pub mod PartLemmas
+pub mod PlaceLemmas
 pub mod ProgramLemmas

@@ -2,7 +2,7 @@
 use Rattle.std.proofs.Common.{◌≡◌, ℕ, zero, suc, ◌<◌, ◌≤◌, ◌==◌, ◌||◌, Bool, true, false, true≢false, List, [], ◌∷◌, length, get_or, refl, sym, ap, subst, arith, inl, inr, Option, Some, None, IsCharBoundary, slice_index}
 use Rattle.std.proofs.lemmas.Bool.{cases_Bool, eqb-true}
 use Rattle.memchr.specs.Find.{IsFirstByte}
-use Rattle.highlight.specs.Page.{ends_line, first_line}
+use Rattle.highlight.specs.Part.{ends_line, first_line}
 
 none_ends : (bs : List ℕ) → ((k : ℕ) → k < length bs → ends_line (get_or bs k 0) ≡ true → ⊥) → first_line bs ≡ length bs
 none_ends [] none = refl

@@ -10,7 +10,9 @@ use Rattle.rustc_lexer.specs.declared.token.TokenKind.TheVariants.{BlockComment,
 use Rattle.rustc_lexer.specs.means.Raw.{is_r, raw_check}
 use Rattle.rustc_lexer.specs.means.Scan.{next_is}
 use Rattle.highlight.specs.declared.fault.Fault.{Fault}
-use Rattle.highlight.specs.declared.fault.Fault.TheVariants.{OpenComment, FrontmatterSpace, FrontmatterInfostring, InvalidName, UnknownPrefix, UnknownLifetimePrefix, GuardedString, InvalidLifetime, UnknownCharacter, EmptyNumber, EmptyExponent, OpenCharacter, OpenByte, OpenString, RawStarter, OpenRawString, FewHashes, ManyHashes}
+use Rattle.highlight.specs.declared.fault.Fault.TheVariants.{OpenComment, FrontmatterSpace, FrontmatterInfostring, InvalidName, UnknownPrefix, UnknownLifetimePrefix, GuardedString, InvalidLifetime, UnknownCharacter, EmptyNumber, EmptyExponent, OpenCharacter, OpenByte, OpenString, RawStarter, OpenRawString, FewHashes, ManyHashes, InLiteral}
+use Rattle.rustc_literal_escaper.specs.declared.error.EscapeError.{EscapeError}
+use Rattle.rustc_literal_escaper.specs.declared.error.EscapeError.TheVariants.{ZeroChars, MoreThanOneChar, LoneSlash, InvalidEscape, BareCarriageReturn, BareCarriageReturnInRawString, EscapeOnlyChar, TooShortHexEscape, InvalidCharInHexEscape, OutOfRangeHexEscape, NoBraceInUnicodeEscape, InvalidCharInUnicodeEscape, EmptyUnicodeEscape, UnclosedUnicodeEscape, LeadingUnderscoreUnicodeEscape, OverlongUnicodeEscape, LoneSurrogateUnicodeEscape, OutOfRangeUnicodeEscape, UnicodeEscapeInByte, NonAsciiCharInByte, NulInCStr, UnskippedWhitespaceWarning, MultipleSkippedLinesWarning}
 
 -- what the reason of a raw string's refusal is to a reader
 abbrev pub refusal : RawStrError → Fault
@@ -54,6 +56,32 @@ fault_of Unknown text = Some UnknownCharacter
 fault_of (Literal kind suffix_start) text = literal_fault kind text
 fault_of kind text = None
 
+-- what is wrong between the quotes of a literal
+abbrev pub error_sentence : EscapeError → List ℕ
+error_sentence ZeroChars = codes "nothing stands between these quotes"
+error_sentence MoreThanOneChar = codes "more than one character stands between these quotes"
+error_sentence LoneSlash = codes "nothing follows this backslash"
+error_sentence InvalidEscape = codes "no escape is written like this"
+error_sentence BareCarriageReturn = codes "a carriage return is written as an escape"
+error_sentence BareCarriageReturnInRawString = codes "a raw string has no carriage return"
+error_sentence EscapeOnlyChar = codes "this character is written as an escape here"
+error_sentence TooShortHexEscape = codes "this escape has two hexadecimal digits"
+error_sentence InvalidCharInHexEscape = codes "this escape has hexadecimal digits alone"
+error_sentence OutOfRangeHexEscape = codes "this escape goes up to 7f here"
+error_sentence NoBraceInUnicodeEscape = codes "this escape has braces around its digits"
+error_sentence InvalidCharInUnicodeEscape = codes "between these braces stand hexadecimal digits and underscores alone"
+error_sentence EmptyUnicodeEscape = codes "no digit stands between these braces"
+error_sentence UnclosedUnicodeEscape = codes "no brace closes this escape"
+error_sentence LeadingUnderscoreUnicodeEscape = codes "no underscore stands before the first digit"
+error_sentence OverlongUnicodeEscape = codes "this escape has six digits at most"
+error_sentence LoneSurrogateUnicodeEscape = codes "this is the number of a surrogate, which is no character"
+error_sentence OutOfRangeUnicodeEscape = codes "no character has so great a number"
+error_sentence UnicodeEscapeInByte = codes "no byte is written like this"
+error_sentence NonAsciiCharInByte = codes "this character is not in ASCII, and so is no byte"
+error_sentence NulInCStr = codes "no NUL stands in a C string"
+error_sentence UnskippedWhitespaceWarning = codes "the white space behind this line end is not all skipped"
+error_sentence MultipleSkippedLinesWarning = codes "more than one line end is skipped here"
+
 unfoldable pub sentence : Fault → List ℕ
 sentence OpenComment = codes "nothing closes this comment"
 sentence FrontmatterSpace = codes "white space stands before this frontmatter"
@@ -74,3 +102,4 @@ sentence (OpenRawString expected) = codes "nothing closes this raw string: a quo
 sentence (FewHashes expected found end) =
     codes "a quote and " ++ (decimal expected ++ (codes " # would close this raw string; at byte " ++ (decimal end ++ (codes " it has " ++ decimal found))))
 sentence (ManyHashes found) = codes "a raw string has at most 255 hashes on each side, and this one " ++ decimal found
+sentence (InLiteral error) = error_sentence error

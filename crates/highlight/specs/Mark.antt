@@ -1,7 +1,7 @@
 -- The marks around a token.
 use Rattle.std.specs.Prelude.{ℕ, List, [], ◌∷◌, ◌++◌, codes}
 use Rattle.highlight.specs.declared.class.Class.{Class}
-use Rattle.highlight.specs.declared.class.Class.TheVariants.{Plain, Comment, Doc, Keyword, TypeName, Text, Number, Lifetime}
+use Rattle.highlight.specs.declared.class.Class.TheVariants.{Plain, Comment, Doc, Keyword, TypeName, Text, Escape, Number, Lifetime}
 use Rattle.highlight.specs.declared.fault.Fault.{Fault}
 use Rattle.highlight.specs.declared.style.Style.{Style}
 use Rattle.highlight.specs.declared.style.Style.TheVariants.{Html, Colours, NoColours}
@@ -19,6 +19,7 @@ class_open Html Doc = codes "<span class=\"doc\">"
 class_open Html Keyword = codes "<span class=\"keyword\">"
 class_open Html TypeName = codes "<span class=\"type\">"
 class_open Html Text = codes "<span class=\"text\">"
+class_open Html Escape = codes "<span class=\"escape\">"
 class_open Html Number = codes "<span class=\"number\">"
 class_open Html Lifetime = codes "<span class=\"lifetime\">"
 class_open Colours Comment = sgr (codes "90")
@@ -26,6 +27,7 @@ class_open Colours Doc = sgr (codes "36")
 class_open Colours Keyword = sgr (codes "35")
 class_open Colours TypeName = sgr (codes "1;34")
 class_open Colours Text = sgr (codes "32")
+class_open Colours Escape = sgr (codes "96")
 class_open Colours Number = sgr (codes "36")
 class_open Colours Lifetime = sgr (codes "33")
 class_open NoColours class = []

@@ -1,6 +1,5 @@
 -- A text with its shebang line and its tokens marked.
-use Rattle.std.specs.Prelude.{ℕ, suc, ◌==◌, Bool, ◌||◌, if◌then◌else◌, List, [], ◌∷◌, ◌++◌, take, drop, Option, Some, None}
-use Rattle.std.specs.Str.{byte}
+use Rattle.std.specs.Prelude.{ℕ, List, [], ◌∷◌, ◌++◌, take, drop, Option, Some, None}
 use Rattle.rustc_lexer.specs.declared.edition.Edition.{Edition}
 use Rattle.rustc_lexer.specs.declared.token.Token.{Token}
 use Rattle.rustc_lexer.specs.declared.token.TokenKind.{TokenKind}
@@ -12,44 +11,25 @@ use Rattle.highlight.specs.declared.class.Class.TheVariants.{Comment}
 use Rattle.highlight.specs.declared.fault.Fault.{Fault}
 use Rattle.highlight.specs.declared.page.TheConstants.{HEAD, FOOT}
 use Rattle.highlight.specs.declared.style.Style.{Style}
-use Rattle.highlight.specs.declared.style.Style.TheVariants.{Html, Colours, NoColours}
+use Rattle.highlight.specs.declared.style.Style.TheVariants.{Html}
+use Rattle.rustc_literal_escaper.specs.declared.mode.Mode.{Mode}
 use Rattle.highlight.specs.Class.{class_of}
-use Rattle.highlight.specs.Escape.{escaped}
 use Rattle.highlight.specs.Fault.{fault_of}
-use Rattle.highlight.specs.Mark.{class_open, class_close, fault_open, fault_close}
+use Rattle.highlight.specs.Literal.{literal_parts, mode_of}
+use Rattle.highlight.specs.Part.{Part, class_parts, fault_parts, with_marks}
 
--- a part of a marked text: a mark, or a part of the text itself
-pub data Part : Type 0 where
-  Mark : List ℕ → Part
-  Own : List ℕ → Part
+-- a token without a fault: a literal that is closed has stretches
+abbrev pub sound_parts : Style → Option Mode → Class → List ℕ → List Part
+sound_parts style None class text = class_parts style class text
+sound_parts style (Some mode) class text = literal_parts style mode text
 
--- a part of the text between the marks of its class, and nothing around no text
-abbrev pub class_parts : Style → Class → List ℕ → List Part
-class_parts style class [] = []
-class_parts style class (b ∷ bs) = Mark (class_open style class) ∷ Own (b ∷ bs) ∷ Mark (class_close style class) ∷ []
-
--- the bytes that end a line: a newline and a carriage return
-abbrev pub ends_line : ℕ → Bool
-ends_line b = b == byte "\n" || b == byte "\r"
-
--- how many bytes stand before the first that ends a line
-abbrev pub first_line : List ℕ → ℕ
-first_line [] = 0
-first_line (b ∷ bs) = if ends_line b then 0 else suc (first_line bs)
-
--- a token with a fault: its first line between the marks of the fault, and all of it between those of its class
-abbrev pub fault_parts : Style → Fault → Class → List ℕ → List Part
-fault_parts style fault class text =
-    Mark (fault_open style fault)
-    ∷ (class_parts style class (take (first_line text) text) ++ (Mark (fault_close style fault) ∷ class_parts style class (drop (first_line text) text)))
-
-abbrev pub parts_by : Style → Option Fault → Class → List ℕ → List Part
-parts_by style None class text = class_parts style class text
-parts_by style (Some fault) class text = fault_parts style fault class text
+abbrev pub parts_by : Style → Option Fault → Option Mode → Class → List ℕ → List Part
+parts_by style None mode class text = sound_parts style mode class text
+parts_by style (Some fault) mode class text = fault_parts style fault class text
 
 -- a token between its marks
 abbrev pub token_parts : Style → TokenKind → List ℕ → List Part
-token_parts style kind text = parts_by style (fault_of kind text) (class_of kind text) text
+token_parts style kind text = parts_by style (fault_of kind text) (mode_of kind) (class_of kind text) text
 
 -- each token of a text between its marks
 abbrev pub parts : Style → List ℕ → List Token → List Part
@@ -74,22 +54,6 @@ tokens_for (Some edition) text = tokens_of (part edition) text
 -- a whole text: its shebang line, and the tokens of what follows
 abbrev pub text_parts : Style → Option Edition → List ℕ → List Part
 text_parts style edition text = line_parts style (shebang text) text ++ parts style (past_line (shebang text) text) (tokens_for edition (past_line (shebang text) text))
-
--- a part of the text as it is written: in a page with entities, in a terminal as it is
-abbrev pub shown : Style → List ℕ → List ℕ
-shown Html text = escaped text
-shown Colours text = text
-shown NoColours text = text
-
-abbrev pub with_marks : Style → List Part → List ℕ
-with_marks style [] = []
-with_marks style (Mark bytes ∷ ps) = bytes ++ with_marks style ps
-with_marks style (Own bytes ∷ ps) = shown style bytes ++ with_marks style ps
-
-abbrev pub without_marks : List Part → List ℕ
-without_marks [] = []
-without_marks (Mark bytes ∷ ps) = without_marks ps
-without_marks (Own bytes ∷ ps) = bytes ++ without_marks ps
 
 -- each token of a text between its marks, as it is written
 abbrev pub marked_tokens : Style → List ℕ → List Token → List ℕ

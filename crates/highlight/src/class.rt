@@ -20,6 +20,8 @@ pub enum Class {
     TypeName,
     /// A string, a character or a byte.
     Text,
+    /// An escape in one of these.
+    Escape,
     /// A number.
     Number,
     /// A lifetime or a label.

@@ -1,9 +1,10 @@
 //! What is wrong with a token.
 ghost use Rattle.std.specs.Prelude.{◌≡◌, Some};
 ghost use Rattle.rustc_lexer.specs.Classes.{Fits};
-ghost use Rattle.highlight.specs.Fault.{fault_of, literal_fault, raw_fault, sentence};
+ghost use Rattle.highlight.specs.Fault.{error_sentence, fault_of, literal_fault, raw_fault, sentence};
 
 use rustc_lexer::{LiteralKind, RawStrError, TokenKind, starts_raw, validate_raw_str};
+use rustc_literal_escaper::EscapeError;
 use std::fmt;
 
 /// What is wrong with a token. Its `Display` is a sentence that says so.
@@ -45,6 +46,8 @@ pub enum Fault {
     FewHashes { expected: u32, found: u32, end: u32 },
     /// A raw string has more than 255 hashes on each side.
     ManyHashes { found: u32 },
+    /// Something between the quotes of a literal.
+    InLiteral(EscapeError),
 }
 
 /// What is wrong with a token, by its kind and its text; `None` where nothing is.
@@ -132,6 +135,41 @@ fn raw_fault(text: &str, prefix_len: u32) -> Option<Fault>
     }
 }
 
+/// What is wrong between the quotes of a literal, as a sentence.
+fn error_sentence(error: EscapeError) -> &'static str
+    ensures { result.now ≡ error_sentence error }
+{
+    match error {
+        EscapeError::ZeroChars => "nothing stands between these quotes",
+        EscapeError::MoreThanOneChar => "more than one character stands between these quotes",
+        EscapeError::LoneSlash => "nothing follows this backslash",
+        EscapeError::InvalidEscape => "no escape is written like this",
+        EscapeError::BareCarriageReturn => "a carriage return is written as an escape",
+        EscapeError::BareCarriageReturnInRawString => "a raw string has no carriage return",
+        EscapeError::EscapeOnlyChar => "this character is written as an escape here",
+        EscapeError::TooShortHexEscape => "this escape has two hexadecimal digits",
+        EscapeError::InvalidCharInHexEscape => "this escape has hexadecimal digits alone",
+        EscapeError::OutOfRangeHexEscape => "this escape goes up to 7f here",
+        EscapeError::NoBraceInUnicodeEscape => "this escape has braces around its digits",
+        EscapeError::InvalidCharInUnicodeEscape =>
+            "between these braces stand hexadecimal digits and underscores alone",
+        EscapeError::EmptyUnicodeEscape => "no digit stands between these braces",
+        EscapeError::UnclosedUnicodeEscape => "no brace closes this escape",
+        EscapeError::LeadingUnderscoreUnicodeEscape =>
+            "no underscore stands before the first digit",
+        EscapeError::OverlongUnicodeEscape => "this escape has six digits at most",
+        EscapeError::LoneSurrogateUnicodeEscape =>
+            "this is the number of a surrogate, which is no character",
+        EscapeError::OutOfRangeUnicodeEscape => "no character has so great a number",
+        EscapeError::UnicodeEscapeInByte => "no byte is written like this",
+        EscapeError::NonAsciiCharInByte => "this character is not in ASCII, and so is no byte",
+        EscapeError::NulInCStr => "no NUL stands in a C string",
+        EscapeError::UnskippedWhitespaceWarning =>
+            "the white space behind this line end is not all skipped",
+        EscapeError::MultipleSkippedLinesWarning => "more than one line end is skipped here",
+    }
+}
+
 impl fmt::Display for Fault {
     ghost output = { λ fault. Some (sentence fault) };
 
@@ -173,6 +211,7 @@ impl fmt::Display for Fault {
                 f,
                 "a raw string has at most 255 hashes on each side, and this one {found}"
             ),
+            Fault::InLiteral(error) => f.write_str(error_sentence(*error)),
         }
     }
 }

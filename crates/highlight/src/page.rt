@@ -1,18 +1,18 @@
 //! A text with its shebang line and its tokens marked, for a terminal or as a page.
 ghost use Rattle.std.specs.Prelude.{◌≡◌, OnOk};
 ghost use Rattle.std.specs.Fmt.{WritesInCalls};
-ghost use Rattle.std.specs.Str.{IsCharBoundary};
 ghost use Rattle.rustc_lexer.specs.Classes.{Fits};
 ghost use Rattle.rustc_lexer.specs.LanguageText.{document, part};
 ghost use Rattle.rustc_lexer.specs.Tokens.{tokens_of};
 ghost use Rattle.highlight.specs.Escape.{unescaped, untagged};
-ghost use Rattle.highlight.specs.Page.{class_parts, fault_parts, first_line, foot, head, marked, marked_tokens, printed, shown, text_parts, token_parts, tokens_for, with_marks, without_marks};
+ghost use Rattle.highlight.specs.Page.{foot, head, marked, marked_tokens, printed, text_parts, token_parts, tokens_for};
+ghost use Rattle.highlight.specs.Part.{with_marks, without_marks};
 
 use crate::class::{Class, class_of};
-use crate::escape::write_escaped;
-use crate::fault::{Fault, fault_of};
-use crate::style::{Style, class_close, class_open, close_fault, open_fault};
-use memchr::memchr2;
+use crate::fault::fault_of;
+use crate::literal::{mode_of, write_literal};
+use crate::part::{write_in_class, write_with_fault};
+use crate::style::Style;
 use rustc_lexer::{Edition, FrontmatterAllowed, TokenKind, strip_shebang, tokenize, tokenize_in};
 use std::fmt;
 
@@ -25,10 +25,11 @@ const HEAD: &str = "<!DOCTYPE html>
 <title>Rust</title>
 <style>
 :root { color-scheme: light dark; --back: #ffffff; --plain: #24292f; --comment: #6e7781; --doc: #2f6f4f;
-  --keyword: #a0268c; --type: #0b5cad; --text: #0a6b2d; --number: #9a4a00; --lifetime: #8a5a00; --fault: #c4162a; }
+  --keyword: #a0268c; --type: #0b5cad; --text: #0a6b2d; --escape: #0f7c86; --number: #9a4a00; --lifetime: #8a5a00;
+  --fault: #c4162a; }
 @media (prefers-color-scheme: dark) {
   :root { --back: #16181d; --plain: #d7dae0; --comment: #858d99; --doc: #83b79b; --keyword: #d58fe0;
-    --type: #79b8ff; --text: #8fd18b; --number: #f0a868; --lifetime: #e5c07b; --fault: #ff7b85; }
+    --type: #79b8ff; --text: #8fd18b; --escape: #56d4dd; --number: #f0a868; --lifetime: #e5c07b; --fault: #ff7b85; }
 }
 body { margin: 0; background: var(--back); color: var(--plain); }
 pre { margin: 0; padding: 1em 1.5em; font: 14px/1.5 ui-monospace, \"DejaVu Sans Mono\", monospace; tab-size: 4;
@@ -39,6 +40,7 @@ pre { margin: 0; padding: 1em 1.5em; font: 14px/1.5 ui-monospace, \"DejaVu Sans 
 .keyword { color: var(--keyword); font-weight: bold; }
 .type { color: var(--type); }
 .text { color: var(--text); }
+.escape { color: var(--escape); }
 .number { color: var(--number); }
 .lifetime { color: var(--lifetime); }
 mark { background: none; color: inherit; text-decoration: underline wavy var(--fault); }
@@ -172,7 +174,8 @@ fn write_tokens_in<W: fmt::Write>(
     Ok(())
 }
 
-/// Writes a token between its marks. Where it has a fault, its first line stands between the marks of that too.
+/// Writes a token between its marks. Where it has a fault, its first line stands between the marks of that too. A literal
+/// without one has marks around its escapes, and around what is wrong in it.
 fn write_token<W: fmt::Write>(
     style: Style,
     kind: TokenKind,
@@ -184,68 +187,11 @@ fn write_token<W: fmt::Write>(
         (with_marks style (token_parts style kind text.now)) output.new) }
 {
     let class = class_of(kind, text);
-    match fault_of(kind, text) {
+    if let Some(fault) = fault_of(kind, text) {
+        return write_with_fault(style, fault, class, text, output);
+    }
+    match mode_of(kind) {
         None => write_in_class(style, class, text, output),
-        Some(fault) => write_with_fault(style, fault, class, text, output),
-    }
-}
-
-/// Writes a token with a fault between its marks.
-fn write_with_fault<W: fmt::Write>(
-    style: Style,
-    fault: Fault,
-    class: Class,
-    text: &str,
-    output: &mut W,
-) -> fmt::Result
-    ensures { OnOk result (WritesInCalls W.write_str_gives output.old
-        (with_marks style (fault_parts style fault class text.now)) output.new) }
-{
-    let end = first_line(text);
-    open_fault(style, fault, output)?;
-    write_in_class(style, class, &text[..end], output)?;
-    close_fault(style, fault, output)?;
-    write_in_class(style, class, &text[end..], output)
-}
-
-/// How many bytes stand before the first newline or carriage return.
-fn first_line(text: &str) -> usize
-    ensures value { result ≡ first_line text.now }
-    ensures bounded { IsCharBoundary text.now result }
-{
-    match memchr2(b'\n', b'\r', text.as_bytes()) {
-        Some(at) => at,
-        None => text.len(),
-    }
-}
-
-/// Writes a part of the text between the marks of its class, and nothing where it is empty.
-fn write_in_class<W: fmt::Write>(
-    style: Style,
-    class: Class,
-    text: &str,
-    output: &mut W,
-) -> fmt::Result
-    ensures { OnOk result (WritesInCalls W.write_str_gives output.old
-        (with_marks style (class_parts style class text.now)) output.new) }
-{
-    if text.is_empty() {
-        return Ok(());
-    }
-    output.write_str(class_open(style, class))?;
-    write_shown(style, text, output)?;
-    output.write_str(class_close(style, class))
-}
-
-/// Writes a part of the text: in a page with entities, in a terminal as it is.
-#[tactic(auto, using(crate::proofs::CallLemmas::tried_call))]
-fn write_shown<W: fmt::Write>(style: Style, text: &str, output: &mut W) -> fmt::Result
-    ensures { OnOk result
-        (WritesInCalls W.write_str_gives output.old (shown style text.now) output.new) }
-{
-    match style {
-        Style::Html => write_escaped(text, output),
-        Style::Colours => output.write_str(text),
-        Style::NoColours => output.write_str(text),
+        Some(mode) => write_literal(style, mode, text, output),
     }
 }

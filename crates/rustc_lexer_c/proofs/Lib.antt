@@ -1,2 +1,3 @@
 pub mod BatchLemmas
+pub mod EscapeLemmas
 pub mod RelexLemmas

@@ -1,4 +1,5 @@
 pub mod Batch
+pub mod Escapes
 pub mod Numbers
 pub mod RawStr
 pub mod Relex

@@ -4,7 +4,7 @@ use Rattle.std.specs.Str.{IsUtf8, IsCharBoundary}
 use Rattle.rustc_lexer.specs.means.Raw.{StartsRaw}
 use Rattle.rustc_lexer.specs.Texts.{IsText}
 use Rattle.rustc_lexer_c.specs.declared.status.Refusal.{Refusal}
-use Rattle.rustc_lexer_c.specs.declared.status.Refusal.TheVariants.{NotUtf8, TooLong, BadPlace, NotRaw, BadEdition, BadEdit}
+use Rattle.rustc_lexer_c.specs.declared.status.Refusal.TheVariants.{NotUtf8, TooLong, BadPlace, NotRaw, BadEdition, BadEdit, BadMode}
 
 abbrev pub refusal_number : Refusal → ℕ
 refusal_number NotUtf8 = 1
@@ -13,6 +13,7 @@ refusal_number BadPlace = 3
 refusal_number NotRaw = 4
 refusal_number BadEdition = 5
 refusal_number BadEdit = 6
+refusal_number BadMode = 7
 
 -- why bytes are no text that can be lexed; their length is looked at first
 abbrev pub IsNoText : List ℕ → Refusal → Type 0

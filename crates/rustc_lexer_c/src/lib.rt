@@ -1,4 +1,5 @@
-//! The lexer for C, and for whatever can call C: a static library over `rustc_lexer`.
+//! The lexer for C, and for whatever can call C: a static library over `rustc_lexer`
+//! and `rustc_literal_escaper`.
 //!
 //! A text comes as a pointer and a length, tokens go into the caller's room, and nothing takes memory. Nothing
 //! checks what C passes, so each call tests its text and answers a status; only the calls with `_unchecked` ask
@@ -8,6 +9,7 @@
 pub mod abi;
 pub mod batch;
 pub mod classes;
+pub mod escapes;
 pub mod places;
 pub mod raw_str;
 pub mod relex;

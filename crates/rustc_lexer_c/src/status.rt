@@ -22,6 +22,8 @@ pub(crate) enum Refusal {
     BadEdition,
     /// The edit cannot have made the text, or relexing cannot go on from the numbers.
     BadEdit,
+    /// No literal has the mode.
+    BadMode,
 }
 
 impl Refusal {
@@ -36,6 +38,7 @@ impl Refusal {
             Refusal::NotRaw => 4,
             Refusal::BadEdition => 5,
             Refusal::BadEdit => 6,
+            Refusal::BadMode => 7,
         }
     }
 }

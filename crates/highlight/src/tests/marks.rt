@@ -239,6 +239,11 @@ fn editions(rt: HostRuntime) {
         (Some(Edition::E2021), "z\"a\"", prefix),
         (Some(Edition::E2018), "z\"a\"", "z\"a\""),
         (Some(Edition::E2015), "z\"a\"", "z\"a\""),
+        (
+            Some(Edition::E2021),
+            "#\"\\q\"",
+            "#\"\\q [<- no escape is written like this]\"",
+        ),
     ];
     for (edition, text, want) in rows {
         assert!(rt;
@@ -262,4 +267,106 @@ fn editions(rt: HostRuntime) {
             "at {text:?} in {edition:?}"
         );
     }
+}
+
+#[test]
+fn faults_in_literals(rt: HostRuntime) {
+    let rows = [
+        ("''", "' [<- nothing stands between these quotes]'"),
+        (
+            "'ab'",
+            "'ab [<- more than one character stands between these quotes]'",
+        ),
+        ("b'\\q';", "b'\\q [<- no escape is written like this]';"),
+        ("\"a\\qb\"", "\"a\\q [<- no escape is written like this]b\""),
+        (
+            "\"é\\q\\w\"",
+            "\"é\\q [<- no escape is written like this]\\w [<- no escape is written like this]\"",
+        ),
+        (
+            "\"\\x8z\"",
+            "\"\\x8z [<- this escape has hexadecimal digits alone]\"",
+        ),
+        ("\"\\x80\"", "\"\\x80 [<- this escape goes up to 7f here]\""),
+        ("b\"\\x80\"", "b\"\\x80\""),
+        (
+            "b\"\\u{41}\"",
+            "b\"\\u{41} [<- no byte is written like this]\"",
+        ),
+        (
+            "b\"aé\"",
+            "b\"aé [<- this character is not in ASCII, and so is no byte]\"",
+        ),
+        ("c\"a\\0\"", "c\"a\\0 [<- no NUL stands in a C string]\""),
+        (
+            "\"\\u{D800}\"u8",
+            "\"\\u{D800} [<- this is the number of a surrogate, which is no character]\"u8",
+        ),
+        ("r#\"\\q \"é\"#", "r#\"\\q \"é\"#"),
+        (
+            "br\"é\"",
+            "br\"é [<- this character is not in ASCII, and so is no byte]\"",
+        ),
+        (
+            "r\"a\rb\"",
+            "r\"a [<- a raw string has no carriage return]\rb\"",
+        ),
+        (
+            "\"a\\\n\n b\"",
+            "\"a\\ [<- more than one line end is skipped here]\n\n b\"",
+        ),
+        (
+            "\"a\\\n\u{a0}b\"",
+            "\"a\\ [<- the white space behind this line end is not all skipped]\n\u{a0}b\"",
+        ),
+        ("\"\\q", "\"\\q [<- nothing closes this string]"),
+    ];
+    for (text, want) in rows {
+        assert!(rt;
+            is_written(rt.alloc(), Style::NoColours, text, want),
+            "at {text:?}"
+        );
+    }
+}
+
+#[test]
+fn escapes(rt: HostRuntime) {
+    let rows = [
+        (
+            "\"a\\n\\tb\"",
+            "\x1b[32m\"a\x1b[0m\x1b[96m\\n\x1b[0m\x1b[96m\\t\x1b[0m\x1b[32mb\"\x1b[0m",
+        ),
+        (
+            "b\"\\xff\"",
+            "\x1b[32mb\"\x1b[0m\x1b[96m\\xff\x1b[0m\x1b[32m\"\x1b[0m",
+        ),
+        (
+            "'\\''",
+            "\x1b[32m'\x1b[0m\x1b[96m\\'\x1b[0m\x1b[32m'\x1b[0m",
+        ),
+        (
+            "\"a\\\n  b\\\n\"",
+            "\x1b[32m\"a\x1b[0m\x1b[96m\\\n  \x1b[0m\x1b[32mb\x1b[0m\x1b[96m\\\n\x1b[0m\x1b[32m\"\x1b[0m",
+        ),
+        (
+            "\"\\q\"",
+            "\x1b[32m\"\x1b[0m\x1b[4;31m\x1b[32m\\q\x1b[0m\x1b[0;31m [<- no escape is written like this]\x1b[0m\x1b[32m\"\x1b[0m",
+        ),
+        ("r\"\\n\"", "\x1b[32mr\"\\n\"\x1b[0m"),
+        ("\"\"", "\x1b[32m\"\"\x1b[0m"),
+    ];
+    for (text, want) in rows {
+        assert!(rt;
+            is_written(rt.alloc(), Style::Colours, text, want),
+            "at {text:?}"
+        );
+    }
+    assert!(rt;
+        is_written(
+            rt.alloc(),
+            Style::Html,
+            "\"<\\n\"",
+            "<span class=\"text\">\"&lt;</span><span class=\"escape\">\\n</span><span class=\"text\">\"</span>",
+        )
+    );
 }

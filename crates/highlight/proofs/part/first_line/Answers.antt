@@ -1,8 +1,8 @@
 use Rattle.std.proofs.Common.{List, ℕ, Some, None, subst}
 use Rattle.memchr.specs.Find.{IsFirstByte}
-use Rattle.highlight.specs.Page.{ends_line}
+use Rattle.highlight.specs.Part.{ends_line}
 use Rattle.highlight.proofs.LineLemmas.{line_found, line_whole, may_cut}
-use Rattle.highlight.proofs.page.first_line.Goals as goal
+use Rattle.highlight.proofs.part.first_line.Goals as goal
 
 pub returns-in-Some-clause-value : goal.returns-in-Some-clause-value
 returns-in-Some-clause-value c = line_found c.args.text.now c.in-Some.at (subst (λ (xs : List ℕ). IsFirstByte ends_line xs (Some c.in-Some.at)) c.as_bytes.ensures.value c.in-Some.ensures)

@@ -1,6 +1,6 @@
 use Rattle.highlight.proofs.CallLemmas.{on_ok_then}
-use Rattle.highlight.proofs.PageLemmas.{writes_fault}
-use Rattle.highlight.proofs.page.write_with_fault.Goals as goal
+use Rattle.highlight.proofs.PartLemmas.{writes_fault}
+use Rattle.highlight.proofs.part.write_with_fault.Goals as goal
 
 pub returns : goal.returns
 returns g c =

@@ -1,7 +1,7 @@
 use Rattle.std.proofs.Common.{refl, ◌∙◌, sym}
 use Rattle.highlight.proofs.CallLemmas.{on_ok}
-use Rattle.highlight.proofs.PageLemmas.{writes_in_class}
-use Rattle.highlight.proofs.page.write_in_class.Goals as goal
+use Rattle.highlight.proofs.PartLemmas.{writes_in_class}
+use Rattle.highlight.proofs.part.write_in_class.Goals as goal
 
 pub returns : goal.returns
 returns g c =

@@ -1,0 +1,50 @@
+-- One more unit of a literal.
+use Rattle.std.proofs.Common.{◌≡◌, ℕ, zero, suc, ◌+◌, ◌<◌, ◌≤◌, List, [], ◌∷◌, ◌++◌, length, map, take, drop, min, sym, ap, ◌∙◌, arith, slice_set, Option, Some, None}
+use Rattle.std.proofs.lemmas.List.{drop-drop, drop-map, drop-set-lt, length-drop, length-map, map-append, take-append-drop, take-map, take_more_set}
+use Rattle.rustc_literal_escaper.specs.Elements.{TakesFirst}
+use Rattle.rustc_lexer_c.specs.declared.escapes.CUnit.{CUnit}
+use Rattle.rustc_lexer_c.specs.Escapes.{IsUnits}
+
+-- what is left past one more, if there is one
+pub passed_step : {X : Type 0} (all at past : List X) (over : ℕ) (next : Option X) → at ≡ drop over all → TakesFirst at next past → past ≡ drop (over + 1) all
+passed_step all at past over None is taken = taken.1 ∙ (ap (drop 1) (sym taken.0 ∙ is) ∙ drop-drop 1 over all)
+passed_step all at past over (Some x) is taken = ap (drop 1) (sym taken ∙ is) ∙ drop-drop 1 over all
+
+take_next : {X : Type 0} (xs : List X) (count : ℕ) (x : X) (ys : List X) → drop count xs ≡ x ∷ ys → take (suc count) xs ≡ take count xs ++ x ∷ []
+take_next [] zero x ys e = absurd (cc)
+take_next [] (suc count) x ys e = absurd (cc)
+take_next (y ∷ xs) zero x ys e = cc
+take_next (y ∷ xs) (suc count) x ys e = ap (λ l. y ∷ l) (take_next xs count x ys e)
+
+-- a list that is written into a room, one more at a time
+module _ {X Y : Type 0} (f : X → Y) (all left : List X) (count : ℕ) (x : X) (next : drop count all ≡ x ∷ left) where
+  pub few_step : count + 1 ≤ length all
+  few_step = let n = length-drop count all in let m = ap (λ (xs : List X). length xs) next in omega arith
+
+  -- the room past one more
+  pub front_step : (room : List Y) (y : Y) → y ≡ f x → count < length room → take count room ≡ map f (take count all) → take (count + 1) (slice_set room count y) ≡ map f (take (count + 1) all)
+  front_step room y is fits front =
+      let more : suc count ≡ count + 1 = omega arith in
+      take_more_set room count y fits
+      ∙ (ap (λ l. l ++ y ∷ []) front
+      ∙ (ap (λ z. map f (take count all) ++ z ∷ []) is
+      ∙ (sym (map-append f (take count all) (x ∷ []))
+      ∙ ap (map f) (sym (take_next all count x left next) ∙ ap (λ n. take n all) more))))
+
+pub back_step : {Y : Type 0} (room old : List Y) (count : ℕ) (y : Y) → drop count room ≡ drop count old → drop (count + 1) (slice_set room count y) ≡ drop (count + 1) old
+back_step room old count y back =
+    let low : count < count + 1 = omega arith in
+    drop-set-lt (count + 1) room count y low ∙ (sym (drop-drop 1 count room) ∙ (ap (drop 1) back ∙ drop-drop 1 count old))
+
+-- past all of a list none is left
+pub all_taken : {X : Type 0} (all : List X) (count : ℕ) → drop count all ≡ [] → length all ≤ count
+all_taken {X} all count none = let n = length-drop count all in let m = ap (λ (xs : List X). length xs) none in omega arith
+
+-- what the room holds at the end
+pub units_done : {X : Type 0} (f : X → CUnit) (all : List X) (passed : ℕ) (room old : List CUnit) (count : ℕ) → take count room ≡ map f (take count (drop passed all)) → drop count room ≡ drop count old
+    → count ≡ min (length old) (length (drop passed all)) → IsUnits (map f all) passed old room count
+units_done f all passed room old count front back is = record {
+  as_many = is ∙ ap (min (length old)) (sym (ap length (drop-map f passed all) ∙ length-map (drop passed all) f));
+  written = sym (take-append-drop count room)
+      ∙ (ap (λ l. l ++ drop count room) (front ∙ (sym (take-map f count (drop passed all)) ∙ ap (take count) (sym (drop-map f passed all)))) ∙ ap (λ l. take count (drop passed (map f all)) ++ l) back);
+}

@@ -1,0 +1,125 @@
+-- What a literal stands for, as it crosses to C: its units in order, each as numbers with its place.
+use Rattle.std.specs.Prelude.{ℕ, ◌≡◌, ◌<◌, ◌≤◌, ◌^◌, Bool, true, false, if◌then◌else◌, List, [], ◌∷◌, ◌++◌, length, map, take, drop, min, nat_eq, Option, Some, None, Result, Ok, Err}
+use Rattle.std.specs.Str.{IsUtf8, chars}
+use Rattle.std.specs.declared.ops.Range.{Range}
+use Rattle.rustc_lexer.specs.Texts.{IsText}
+use Rattle.rustc_literal_escaper.specs.declared.error.EscapeError.{EscapeError}
+use Rattle.rustc_literal_escaper.specs.declared.error.EscapeError.TheVariants.{ZeroChars, MoreThanOneChar, LoneSlash, InvalidEscape, BareCarriageReturn, BareCarriageReturnInRawString, EscapeOnlyChar, TooShortHexEscape, InvalidCharInHexEscape, OutOfRangeHexEscape, NoBraceInUnicodeEscape, InvalidCharInUnicodeEscape, EmptyUnicodeEscape, UnclosedUnicodeEscape, LeadingUnderscoreUnicodeEscape, OverlongUnicodeEscape, LoneSurrogateUnicodeEscape, OutOfRangeUnicodeEscape, UnicodeEscapeInByte, NonAsciiCharInByte, NulInCStr, UnskippedWhitespaceWarning, MultipleSkippedLinesWarning}
+use Rattle.rustc_literal_escaper.specs.declared.mode.Mode.{Mode}
+use Rattle.rustc_literal_escaper.specs.declared.mode.Mode.TheVariants.{Char, Byte, Str, RawStr, ByteStr, RawByteStr, CStr, RawCStr}
+use Rattle.rustc_literal_escaper.specs.declared.unit.MixedUnit.{MixedUnit}
+use Rattle.rustc_literal_escaper.specs.declared.unit.MixedUnit.TheVariants.{Char as CharUnit, HighByte}
+use Rattle.rustc_literal_escaper.specs.Elements.{Item, items_of}
+use Rattle.rustc_literal_escaper.specs.Errors.{is_raw, is_single}
+use Rattle.rustc_literal_escaper.specs.Meaning.{byte_of, char_of, raw_unit_of, unit_of}
+use Rattle.rustc_literal_escaper.specs.Single.{byte_literal, char_literal}
+use Rattle.rustc_lexer_c.specs.declared.escapes.CUnit.{CUnit}
+
+-- the mode of a number, which is that of the literal's kind in a token
+abbrev pub mode_of : ℕ → Option Mode
+mode_of number =
+    if nat_eq number 3 then Some Char
+    else if nat_eq number 4 then Some Byte
+    else if nat_eq number 5 then Some Str
+    else if nat_eq number 6 then Some ByteStr
+    else if nat_eq number 7 then Some CStr
+    else if nat_eq number 8 then Some RawStr
+    else if nat_eq number 9 then Some RawByteStr
+    else if nat_eq number 10 then Some RawCStr
+    else None
+
+-- the numbers of what may be wrong. They are fixed: a new error gets a new number
+abbrev pub error_number : EscapeError → ℕ
+error_number ZeroChars = 1
+error_number MoreThanOneChar = 2
+error_number LoneSlash = 3
+error_number InvalidEscape = 4
+error_number BareCarriageReturn = 5
+error_number BareCarriageReturnInRawString = 6
+error_number EscapeOnlyChar = 7
+error_number TooShortHexEscape = 8
+error_number InvalidCharInHexEscape = 9
+error_number OutOfRangeHexEscape = 10
+error_number NoBraceInUnicodeEscape = 11
+error_number InvalidCharInUnicodeEscape = 12
+error_number EmptyUnicodeEscape = 13
+error_number UnclosedUnicodeEscape = 14
+error_number LeadingUnderscoreUnicodeEscape = 15
+error_number OverlongUnicodeEscape = 16
+error_number LoneSurrogateUnicodeEscape = 17
+error_number OutOfRangeUnicodeEscape = 18
+error_number UnicodeEscapeInByte = 19
+error_number NonAsciiCharInByte = 20
+error_number NulInCStr = 21
+error_number UnskippedWhitespaceWarning = 22
+error_number MultipleSkippedLinesWarning = 23
+
+-- 3 for an error, 4 for a warning
+abbrev pub wrong_kind : EscapeError → ℕ
+wrong_kind UnskippedWhitespaceWarning = 4
+wrong_kind MultipleSkippedLinesWarning = 4
+wrong_kind error = 3
+
+abbrev pub unit_at : Range ℕ → ℕ → ℕ → CUnit
+unit_at place kind value = record { start = place.start; end = place.end; kind = kind; value = value }
+
+abbrev pub wrong_unit : Range ℕ → EscapeError → CUnit
+wrong_unit place error = unit_at place (wrong_kind error) (error_number error)
+
+-- a character has the kind 1, and a byte the kind 2
+abbrev pub char_unit : Range ℕ → Result ℕ EscapeError → CUnit
+char_unit place (Ok c) = unit_at place 1 c
+char_unit place (Err error) = wrong_unit place error
+
+abbrev pub byte_unit : Range ℕ → Result ℕ EscapeError → CUnit
+byte_unit place (Ok b) = unit_at place 2 b
+byte_unit place (Err error) = wrong_unit place error
+
+abbrev pub mixed_unit : Range ℕ → Result MixedUnit EscapeError → CUnit
+mixed_unit place (Ok (CharUnit c)) = unit_at place 1 c
+mixed_unit place (Ok (HighByte b)) = unit_at place 2 b
+mixed_unit place (Err error) = wrong_unit place error
+
+-- what an element stands for between double quotes
+abbrev pub item_unit : Mode → Item → CUnit
+item_unit Char item = char_unit item.0 (char_of item.1)
+item_unit Str item = char_unit item.0 (char_of item.1)
+item_unit RawStr item = char_unit item.0 (char_of item.1)
+item_unit Byte item = byte_unit item.0 (byte_of item.1)
+item_unit ByteStr item = byte_unit item.0 (byte_of item.1)
+item_unit RawByteStr item = byte_unit item.0 (byte_of item.1)
+item_unit CStr item = mixed_unit item.0 (unit_of item.1)
+item_unit RawCStr item = char_unit item.0 (raw_unit_of item.1)
+
+-- what stands between single quotes is one unit, of which the place is all of the text
+abbrev pub whole : List ℕ → Range ℕ
+whole text = record { start = 0; end = length text }
+
+abbrev pub single_unit : Mode → List ℕ → CUnit
+single_unit Byte text = byte_unit (whole text) (byte_literal (chars text))
+single_unit mode text = char_unit (whole text) (char_literal (chars text))
+
+-- the units of what stands between a literal's quotes
+abbrev pub units_of : Mode → List ℕ → List CUnit
+units_of mode text = if is_single mode then single_unit mode text ∷ [] else map (item_unit mode) (items_of (is_raw mode) text)
+
+-- a batch of them: past the first ones as many as there is room for, at the front of the room, whose rest stays
+pub record IsUnits (units : List CUnit) (passed : ℕ) (room filled : List CUnit) (count : ℕ) : Type 0 where
+  pub as_many : count ≡ min (length room) (length (drop passed units))
+  pub written : filled ≡ take count (drop passed units) ++ drop count room
+
+-- the batch of a text, where the number has a mode
+abbrev pub AreWritten : Option Mode → List ℕ → ℕ → List CUnit → List CUnit → ℕ → Type 0
+AreWritten None text passed room filled count = ⊥
+AreWritten (Some mode) text passed room filled count = IsUnits (units_of mode text) passed room filled count
+
+-- nothing is written
+abbrev pub AreNone : List CUnit → List CUnit → ℕ → Type 0
+AreNone room filled count = (filled ≡ room) × (count ≡ 0)
+
+-- the status of a call that takes a text and the number of a mode
+pub record IsModeStatus (bytes : List ℕ) (mode : Option Mode) (status : ℕ) : Type 0 where
+  pub ok : IsText bytes → (mode ≡ None → ⊥) → status ≡ 0
+  pub not_utf8 : length bytes < 2 ^ 32 → ¬ (IsUtf8 bytes) → status ≡ 1
+  pub too_long : 2 ^ 32 ≤ length bytes → status ≡ 2
+  pub bad_mode : IsText bytes → mode ≡ None → status ≡ 7

@@ -1,0 +1,316 @@
+//! What a literal stands for, and what is wrong in it.
+ghost use Rattle.std.specs.Prelude.{◌≡◌, ◌≢◌, ◌∷◌, [], None, map};
+ghost use Rattle.std.specs.Result.{result_err};
+ghost use Rattle.std.specs.Str.{IsUtf8};
+ghost use Rattle.rustc_lexer.specs.Texts.{IsText};
+ghost use Rattle.rustc_literal_escaper.specs.Elements.{items_of};
+ghost use Rattle.rustc_literal_escaper.specs.Errors as errors;
+ghost use Rattle.rustc_literal_escaper.specs.Meaning.{unit_of};
+ghost use Rattle.rustc_lexer_c.specs.Escapes as spec;
+
+use crate::status::{Refusal, text_of, utf8_text_of};
+use rustc_literal_escaper::{
+    Element, Elements, EscapeError, Mode, NonZeroChar, unescape_byte, unescape_char,
+};
+use std::ops::Range;
+
+/// A unit of what a literal stands for, or what is wrong, and its place in bytes.
+#[repr(C)]
+#[derive(Clone, Copy, Debug, PartialEq, Eq)]
+pub struct CUnit {
+    pub start: usize,
+    pub end: usize,
+    /// 1 for a character, 2 for a byte, 3 for an error, 4 for a warning.
+    pub kind: u32,
+    /// The character, the byte, or the number of what is wrong.
+    pub value: u32,
+}
+
+/// Writes units of what stands between the quotes of a literal into the room, as many as there is room for, and their
+/// number into `count`. The first `passed` units are passed over.
+///
+/// `mode` is the number of the literal's kind, 3 to 10. Between single quotes there is one unit, whose place is all of
+/// the text. Each call tests the whole text, and reads it from its front.
+#[unsafe(no_mangle)]
+pub extern "C" fn rustc_lexer_unescape(
+    text: &[u8],
+    mode: u32,
+    passed: usize,
+    room: &mut [CUnit],
+    count: &mut usize,
+) -> u32
+    ensures status { spec.IsModeStatus text.now (spec.mode_of mode) result }
+    ensures units { result ≡ 0
+        → spec.AreWritten (spec.mode_of mode) text.now passed room.old room.new count.new }
+    ensures refused { result ≢ 0 → spec.AreNone room.old room.new count.new }
+{
+    match text_of(text) {
+        Ok(text) => unescape(text, mode, passed, room, count),
+        Err(refusal) => {
+            *count = 0;
+            refusal.number()
+        }
+    }
+}
+
+/// The same of a text that `rustc_lexer_check` found to be UTF-8, which is not tested again.
+#[unsafe(no_mangle)]
+pub extern "C" fn rustc_lexer_unescape_unchecked(
+    text: &[u8],
+    mode: u32,
+    passed: usize,
+    room: &mut [CUnit],
+    count: &mut usize,
+) -> u32
+    requires utf8 { IsUtf8 text.now }
+    ensures status { spec.IsModeStatus text.now (spec.mode_of mode) result }
+    ensures units { result ≡ 0
+        → spec.AreWritten (spec.mode_of mode) text.now passed room.old room.new count.new }
+    ensures refused { result ≢ 0 → spec.AreNone room.old room.new count.new }
+{
+    match utf8_text_of(text) {
+        Ok(text) => unescape(text, mode, passed, room, count),
+        Err(refusal) => {
+            *count = 0;
+            refusal.number()
+        }
+    }
+}
+
+/// Writes units of a text.
+fn unescape(text: &str, mode: u32, passed: usize, room: &mut [CUnit], count: &mut usize) -> u32
+    requires text { IsText text.now }
+    ensures status { spec.IsModeStatus text.now (spec.mode_of mode) result }
+    ensures units { result ≡ 0
+        → spec.AreWritten (spec.mode_of mode) text.now passed room.old room.new count.new }
+    ensures refused { result ≢ 0 → spec.AreNone room.old room.new count.new }
+{
+    match mode_of(mode) {
+        None => {
+            *count = 0;
+            Refusal::BadMode.number()
+        }
+        Some(mode) => {
+            *count = fill(text, mode, passed, room);
+            0
+        }
+    }
+}
+
+/// The mode of a number.
+fn mode_of(number: u32) -> Option<Mode>
+    ensures { result ≡ spec.mode_of number }
+{
+    match number {
+        3 => Some(Mode::Char),
+        4 => Some(Mode::Byte),
+        5 => Some(Mode::Str),
+        6 => Some(Mode::ByteStr),
+        7 => Some(Mode::CStr),
+        8 => Some(Mode::RawStr),
+        9 => Some(Mode::RawByteStr),
+        10 => Some(Mode::RawCStr),
+        _ => None,
+    }
+}
+
+/// Writes units in a mode, and answers their number.
+fn fill(text: &str, mode: Mode, passed: usize, room: &mut [CUnit]) -> usize
+    ensures { spec.IsUnits (spec.units_of mode text.now) passed room.old room.new result }
+{
+    if is_single(mode) {
+        fill_one(single_unit(text, mode), passed, room)
+    } else {
+        fill_all(elements_of(text, mode), mode, passed, room)
+    }
+}
+
+/// Whether such a literal stands between single quotes.
+fn is_single(mode: Mode) -> bool
+    ensures { result ≡ errors.is_single mode }
+{
+    matches!(mode, Mode::Char | Mode::Byte)
+}
+
+/// Writes the one unit, if it is not passed over, and there is room.
+fn fill_one(unit: CUnit, passed: usize, room: &mut [CUnit]) -> usize
+    ensures { spec.IsUnits (unit ∷ []) passed room.old room.new result }
+{
+    if passed > 0 {
+        return 0;
+    }
+    if room.is_empty() {
+        return 0;
+    }
+    room[0] = unit;
+    1
+}
+
+/// The unit between single quotes.
+fn single_unit(text: &str, mode: Mode) -> CUnit
+    ensures { result ≡ spec.single_unit mode text.now }
+{
+    match mode {
+        Mode::Byte => byte_unit(0..text.len(), unescape_byte(text)),
+        _ => char_unit(0..text.len(), unescape_char(text)),
+    }
+}
+
+/// The elements between double quotes.
+fn elements_of(text: &str, mode: Mode) -> Elements<'_>
+    ensures { result ≡ items_of (errors.is_raw mode) text.now }
+{
+    match mode {
+        Mode::RawStr | Mode::RawByteStr | Mode::RawCStr => Elements::new_raw(text),
+        _ => Elements::new(text),
+    }
+}
+
+/// Writes the units of elements.
+fn fill_all(mut elements: Elements<'_>, mode: Mode, passed: usize, room: &mut [CUnit]) -> usize
+    ensures { spec.IsUnits (map (spec.item_unit mode) elements.entry) passed
+        room.old room.new result }
+{
+    let mut over = 0;
+    'passed: while over < passed {
+        if elements.next().is_none() {
+            return 0;
+        }
+        over += 1;
+    }
+    let mut count = 0;
+    'room: while count < room.len() {
+        let Some((place, element)) = elements.next() else {
+            break;
+        };
+        room[count] = item_unit(mode, place, element);
+        count += 1;
+    }
+    count
+}
+
+/// What an element stands for between double quotes, as numbers.
+fn item_unit(mode: Mode, place: Range<usize>, element: Element) -> CUnit
+    ensures { result ≡ spec.item_unit mode (place, element) }
+{
+    match mode {
+        Mode::Char | Mode::Str | Mode::RawStr => char_unit(place, element.to_char()),
+        Mode::Byte | Mode::ByteStr | Mode::RawByteStr => byte_unit(place, element.to_byte()),
+        Mode::CStr => mixed_unit(place, element),
+        Mode::RawCStr => raw_unit(place, element.to_raw_unit()),
+    }
+}
+
+/// A character as numbers, or what is wrong.
+fn char_unit(place: Range<usize>, meaning: Result<char, EscapeError>) -> CUnit
+    ensures { result ≡ spec.char_unit place meaning }
+{
+    match meaning {
+        Ok(c) => unit_at(place, 1, c as u32),
+        Err(error) => wrong_unit(place, error),
+    }
+}
+
+/// A byte as numbers, or what is wrong.
+fn byte_unit(place: Range<usize>, meaning: Result<u8, EscapeError>) -> CUnit
+    ensures { result ≡ spec.byte_unit place meaning }
+{
+    match meaning {
+        Ok(byte) => unit_at(place, 2, u32::from(byte)),
+        Err(error) => wrong_unit(place, error),
+    }
+}
+
+/// A unit of a C string as numbers, or what is wrong.
+fn mixed_unit(place: Range<usize>, element: Element) -> CUnit
+    ensures { result ≡ spec.mixed_unit place (unit_of element) }
+{
+    match element.to_mixed_unit().err() {
+        Some(error) => wrong_unit(place, error),
+        None => sound_unit(place, element),
+    }
+}
+
+/// A unit of a C string as numbers, where nothing is wrong with it.
+fn sound_unit(place: Range<usize>, element: Element) -> CUnit
+    requires sound { None ≡ result_err (unit_of element) }
+    ensures { result ≡ spec.mixed_unit place (unit_of element) }
+{
+    match element {
+        Element::Plain(c) => unit_at(place, 1, c as u32),
+        Element::Byte(byte) if byte < 128 => unit_at(place, 1, u32::from(byte)),
+        Element::Byte(byte) => unit_at(place, 2, u32::from(byte)),
+        Element::Unicode(_) => char_unit(place, element.to_char()),
+        Element::Fault(error) => wrong_unit(place, error),
+    }
+}
+
+/// A character of a raw C string as numbers, or what is wrong.
+fn raw_unit(place: Range<usize>, meaning: Result<NonZeroChar, EscapeError>) -> CUnit
+    ensures { result ≡ spec.char_unit place meaning }
+{
+    match meaning {
+        Ok(c) => unit_at(place, 1, c.get() as u32),
+        Err(error) => wrong_unit(place, error),
+    }
+}
+
+/// What is wrong, as numbers.
+fn wrong_unit(place: Range<usize>, error: EscapeError) -> CUnit
+    ensures { result ≡ spec.wrong_unit place error }
+{
+    unit_at(place, wrong_kind(error), error_number(error))
+}
+
+/// A unit of a kind.
+fn unit_at(place: Range<usize>, kind: u32, value: u32) -> CUnit
+    ensures { result ≡ spec.unit_at place kind value }
+{
+    CUnit {
+        start: place.start,
+        end: place.end,
+        kind,
+        value,
+    }
+}
+
+/// Whether what is wrong is an error or a warning.
+fn wrong_kind(error: EscapeError) -> u32
+    ensures { result ≡ spec.wrong_kind error }
+{
+    match error {
+        EscapeError::UnskippedWhitespaceWarning | EscapeError::MultipleSkippedLinesWarning => 4,
+        _ => 3,
+    }
+}
+
+/// The number of what is wrong.
+fn error_number(error: EscapeError) -> u32
+    ensures { result ≡ spec.error_number error }
+{
+    match error {
+        EscapeError::ZeroChars => 1,
+        EscapeError::MoreThanOneChar => 2,
+        EscapeError::LoneSlash => 3,
+        EscapeError::InvalidEscape => 4,
+        EscapeError::BareCarriageReturn => 5,
+        EscapeError::BareCarriageReturnInRawString => 6,
+        EscapeError::EscapeOnlyChar => 7,
+        EscapeError::TooShortHexEscape => 8,
+        EscapeError::InvalidCharInHexEscape => 9,
+        EscapeError::OutOfRangeHexEscape => 10,
+        EscapeError::NoBraceInUnicodeEscape => 11,
+        EscapeError::InvalidCharInUnicodeEscape => 12,
+        EscapeError::EmptyUnicodeEscape => 13,
+        EscapeError::UnclosedUnicodeEscape => 14,
+        EscapeError::LeadingUnderscoreUnicodeEscape => 15,
+        EscapeError::OverlongUnicodeEscape => 16,
+        EscapeError::LoneSurrogateUnicodeEscape => 17,
+        EscapeError::OutOfRangeUnicodeEscape => 18,
+        EscapeError::UnicodeEscapeInByte => 19,
+        EscapeError::NonAsciiCharInByte => 20,
+        EscapeError::NulInCStr => 21,
+        EscapeError::UnskippedWhitespaceWarning => 22,
+        EscapeError::MultipleSkippedLinesWarning => 23,
+    }
+}
