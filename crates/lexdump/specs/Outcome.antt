@@ -5,7 +5,7 @@ use Rattle.std.specs.Str.{is_utf8}
 use Rattle.std.specs.Io.KnownBytes.{Keeps, Appends}
 use Rattle.std.specs.declared.string.String.{String}
 use Rattle.rustc_lexer.specs.declared.edition.Edition.{Edition}
-use Rattle.rustc_lexer.specs.declared.relex.edit_list.Edit.{Edit as TextEdit}
+use Rattle.rustc_lexer.specs.declared.relex.edit.Edit.{Edit as TextEdit}
 use Rattle.rustc_lexer.specs.declared.token.FrontmatterAllowed.TheVariants.{Yes}
 use Rattle.rustc_lexer.specs.EditLists.{applied}
 use Rattle.rustc_lexer.specs.Edition.{tokens_in}
