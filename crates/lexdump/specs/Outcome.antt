@@ -4,7 +4,7 @@ use Rattle.std.specs.Global.{Global}
 use Rattle.std.specs.Str.{is_utf8}
 use Rattle.std.specs.Io.KnownBytes.{Keeps, Appends}
 use Rattle.rustc_lexer.specs.declared.edition.Edition.{Edition}
-use Rattle.rustc_lexer.specs.declared.relex.edit_list.Edit.{Edit as TextEdit}
+use Rattle.rustc_lexer.specs.declared.relex.edit.Edit.{Edit as TextEdit}
 use Rattle.rustc_lexer.specs.EditLists.{applied}
 use Rattle.rustc_lexer.specs.means.Shebang.{shebang}
 use Rattle.rustc_lexer.specs.LanguageText.{document, part}

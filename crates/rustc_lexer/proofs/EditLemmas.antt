@@ -1,5 +1,6 @@
 -- What an edit keeps: the front by locality, the back by a bound that both texts have.
-use Rattle.std.proofs.Common.{◌≡◌, ℕ, zero, suc, ◌+◌, ◌-◌, ◌*◌, ◌<◌, ◌≤◌, Bool, true, false, List, [], ◌∷◌, ◌++◌, length, take, drop, refl, sym, ap, ◌∙◌, subst, arith, length-drop, length-append, drop-drop, take-take, take-append-drop, take-add, take_at, drop_at, length-take-le, IsUtf8, IsCharBoundary, chars, leb-true, le-leb, leb, is_some, slice_get, encode_utf8, slice_range, append_assoc, eqb-true, ◌==◌, Result, Ok, Err, IfErr}
+use Rattle.std.proofs.Common.{◌≡◌, ℕ, zero, suc, ◌+◌, ◌-◌, ◌*◌, ◌<◌, ◌≤◌, Bool, true, false, List, [], ◌∷◌, ◌++◌, length, take, drop, refl, sym, ap, ◌∙◌, subst, arith, length-drop, length-append, drop-drop, take-take, take-append-drop, take-add, take_at, drop_at, length-take-le, IsUtf8, IsCharBoundary, chars, leb-true, le-leb, leb, is_some, slice_get, encode_utf8, slice_range, append_assoc, Result, Ok, Err, IfErr, OnOk, OnErr}
+use Rattle.std.specs.List.{replace_range}
 use Rattle.std.proofs.lemmas.List.{drop-take, take-append-le}
 use Rattle.std.proofs.lemmas.Str.{chars_past_char, chars-nil, IsUtf8-append, IsUtf8-take, IsUtf8-drop, IsUtf8-between, IsCharBoundary-from_drop, chars-append, length-encode, len_utf8_bounds, encodes-chars}
 use Rattle.std.proofs.Math.Utf8.{encodes}
@@ -213,14 +214,30 @@ has_two-long text place to is from until long =
     let enough : 2 ≤ length (chars xs) = omega (arith, bytes, length-chars xs its) in
     has_two-intro text place to enough
 
-pub spliced_is : (text insert : List ℕ) (start stop : ℕ) (none p front middle q whole : List ℕ) → none ≡ [] → p ≡ slice_range text 0 start → front ≡ none ++ p → middle ≡ front ++ insert → q ≡ drop stop text → whole ≡ middle ++ q → whole ≡ apply text start stop insert
+-- what is put in place, where there is room for it
+pub put_is : {E : Type 0} (result : Result Unit E) (text insert new : List ℕ) (start stop len room : ℕ) → len + length insert ≤ room
+    → OnOk result (new ≡ replace_range text start stop insert) → OnErr result (room < len + length insert) → new ≡ apply text start stop insert
 unfolding apply
-spliced_is text insert start stop none p front middle q whole a b c d e f =
-    let n : start - 0 ≡ start = omega arith in
-    rw (f, e, d, c, b, a, n) (append_assoc (take start text) insert (drop stop text))
+put_is (Ok _) text insert new start stop len room fits put full = put ∙ append_assoc (take start text) insert (drop stop text)
+put_is (Err _) text insert new start stop len room fits put full = absurd (omega arith)
 
--- nothing taken out, and nothing put in
-pub unchanged : (text insert : List ℕ) (start stop : ℕ) → start ≡ stop → (length insert == 0) ≡ true → text ≡ apply text start stop insert
+pub put_len : {E : Type 0} (result : Result Unit E) (len size removed added room : ℕ) → len + added ≤ room
+    → OnOk result (size + removed ≡ len + added) → OnErr result (room < len + added) → size + removed ≡ len + added
+put_len (Ok _) len size removed added room fits put full = put
+put_len (Err _) len size removed added room fits put full = absurd (omega arith)
+
+-- a text is what stands before, inside and behind a range of it
+pub three_parts : (text : List ℕ) (start stop : ℕ) → start ≤ stop → take start text ++ (slice_range text start stop ++ drop stop text) ≡ text
+three_parts text start stop less =
+    let turned : stop ≡ start + (stop - start) = omega arith in
+    ap (λ back. take start text ++ (slice_range text start stop ++ back)) (ap (λ n. drop n text) turned ∙ sym (drop-drop (stop - start) start text))
+    ∙ (ap (λ rest. take start text ++ rest) (take-append-drop (stop - start) (drop start text)) ∙ take-append-drop start text)
+
+-- what was taken out is put back
+pub put_back : (text : List ℕ) (start stop : ℕ) (insert : List ℕ) → IsText text → IsUtf8 insert → IsEdit text start stop insert
+    → apply (apply text start stop insert) start (start + length insert) (slice_range text start stop) ≡ text
 unfolding apply
-unchanged text [] start stop same none = sym (ap (λ n. take start text ++ drop n text) (sym same) ∙ take-append-drop start text)
-unchanged text (c ∷ insert) start stop same none = absurd (let no = eqb-true (length (c ∷ insert)) 0 none in omega arith)
+put_back text start stop insert is its edit =
+    let ed : IsEdited text start stop insert (apply text start stop insert) = edited text start stop insert is its edit in
+    ap (λ front. front ++ (slice_range text start stop ++ drop (start + length insert) (apply text start stop insert))) ed.front
+    ∙ (ap (λ back. take start text ++ (slice_range text start stop ++ back)) ed.back ∙ three_parts text start stop edit.inside.start_le_stop)

@@ -45,6 +45,7 @@ pub mod RawLemmas
 pub mod RawReadLemmas
 pub mod ReadyLemmas
 pub mod RelexingLemmas
+pub mod RenewedLemmas
 pub mod RunLemmas
 pub mod ScanLemmas
 pub mod SettledLemmas

@@ -1,8 +1,5 @@
 -- What an edit makes of a text, and what it keeps of its tokens.
-use Rattle.std.specs.Prelude.{ℕ, zero, suc, ◌+◌, ◌-◌, ◌<◌, ◌≤◌, ◌^◌, ◌&&◌, ◌||◌, Bool, cond, nat_le, nat_eq, List, [], ◌∷◌, ◌++◌, length, take, drop, IsCharBoundary, Option}
-use Rattle.std.proofs.Common.{Some, None}
-use Rattle.std.specs.String.{string_bytes}
-use Rattle.std.specs.declared.string.String.{String}
+use Rattle.std.specs.Prelude.{ℕ, zero, suc, ◌+◌, ◌-◌, ◌<◌, ◌≤◌, ◌^◌, ◌&&◌, ◌||◌, Bool, cond, nat_le, nat_eq, List, [], ◌∷◌, ◌++◌, length, take, drop, IsCharBoundary}
 use Rattle.rustc_lexer.specs.declared.token.Token.{Token}
 use Rattle.rustc_lexer.specs.declared.relex.relexing.Relexed.{Relexed}
 use Rattle.rustc_lexer.specs.Cuts.{bound, tokens_by}
@@ -11,11 +8,6 @@ use Rattle.rustc_lexer.specs.Settled.{has_two}
 -- the text with `insert` for its bytes from `start` up to `stop`
 unfoldable pub apply : List ℕ → ℕ → ℕ → List ℕ → List ℕ
 apply text start stop insert = take start text ++ (insert ++ drop stop text)
-
--- the new text, or the old one where there is none
-abbrev pub bytes_or : {Z : Type 0} → Option (String Z) → List ℕ → List ℕ
-bytes_or (Some new) old = string_bytes new
-bytes_or None old = old
 
 -- the range is inside the text, between characters
 pub record IsInside (text : List ℕ) (start stop : ℕ) : Type 0 where

@@ -10,7 +10,9 @@ mod relexing;
 mod replace;
 mod settle;
 
-pub use edit_list::{Edit, EditStop};
+pub use edit::Edit;
+pub use edit_list::EditStop;
+
 pub use front::{Bound, Measured};
 pub use lexed_text::LexedText;
 pub use pieces::{Piece, Pieces};

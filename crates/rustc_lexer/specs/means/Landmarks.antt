@@ -4,7 +4,8 @@ use Rattle.std.specs.List.{All}
 use Rattle.rustc_lexer.specs.declared.relex.front.Bound.{Bound}
 use Rattle.rustc_lexer.specs.declared.relex.landmarks.Landmarks.{Landmarks}
 use Rattle.rustc_lexer.specs.declared.token.Token.{Token}
-use Rattle.rustc_lexer.specs.Relexing.{IsBound}
+use Rattle.rustc_lexer.specs.declared.relex.relexing.Relexing.{Relexing}
+use Rattle.rustc_lexer.specs.Relexing.{IsBound, known}
 
 -- all of them are bounds of the tokens
 abbrev pub AreBounds : List Token → Landmarks → Type 0
@@ -22,3 +23,7 @@ pub record IsReplaced (old new : List Token) (kept met now : Bound) : Type 0 whe
 -- a bound at or past `met` can be moved to where `now` is
 abbrev pub IsMovable : Bound → Bound → Bound → Type 0
 IsMovable met now at = met.number ≤ at.number → (met.place ≤ at.place) × (at.number + now.number < 2 ^ 64) × (at.place + now.place < 2 ^ 64)
+
+-- where the last token ends that was lexed
+abbrev pub end_of : Relexing → Bound
+end_of at = record { number = known at; place = at.at }

@@ -25,3 +25,9 @@ pub record IsLexed (first : List ℕ → Token) (old : List ℕ) (change : Chang
   pub met : at.met ≡ true
   pub lexed : at.lexed ≡ length tokens
   pub tokens_are : drop at.front.number (tokens_by first text) ≡ tokens ++ drop (known at) (tokens_by first text)
+
+-- the tokens of the old text are replaced by those of the new one: the kept front and back stay, and what was lexed is between
+pub record IsRenewed (first : List ℕ → Token) (old : List ℕ) (change : Change) (text : List ℕ) (tokens now : List Token) (at : Relexing) : Type 0 where
+  pub lexed : List Token
+  pub lexed_is : IsLexed first old change text lexed at
+  pub now_is : now ≡ take at.front.number tokens ++ (lexed ++ drop at.back.number tokens)

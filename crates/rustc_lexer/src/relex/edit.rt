@@ -1,12 +1,16 @@
-//! One edit: what it keeps of the old tokens, and what it lexes.
-ghost use Rattle.std.specs.Prelude.{◌≡◌, ◌+◌, ◌≤◌, IfOk, IfErr, OnOk, OnErr, List, ℕ, length, map};
+//! One edit: the text that it makes, and the tokens that it lexes for it.
+ghost use Rattle.std.specs.Prelude.{◌≡◌, ◌+◌, ◌-◌, ◌^◌, ◌<◌, ◌≤◌, IfOk, IfErr, OnOk, OnErr, List, ℕ, length, map};
+ghost use Rattle.std.specs.List.{All};
+ghost use Rattle.std.specs.Str.{IsUtf8};
+ghost use Rattle.std.specs.String.{string_bytes, string_capacity, string_len};
 ghost use Rattle.rustc_lexer.specs.declared.token.Token.{Token};
 ghost use Rattle.rustc_lexer.specs.Classes.{Fits};
 ghost use Rattle.rustc_lexer.specs.Cuts.{tokens_by};
-ghost use Rattle.rustc_lexer.specs.Edits.{IsEdit, apply, bytes_or, relexed_of};
-ghost use Rattle.rustc_lexer.specs.means.Landmarks.{AreBounds};
-ghost use Rattle.rustc_lexer.specs.Relexing.{IsBound, IsChange, IsMadeOf, MayGoOn};
-ghost use Rattle.rustc_lexer.specs.means.Relexing.{IsLexed};
+ghost use Rattle.rustc_lexer.specs.Edits.{IsEdit, IsInside, apply, relexed_of};
+ghost use Rattle.rustc_lexer.specs.means.Landmarks.{AreBounds, IsMovable, IsReplaced, end_of};
+ghost use Rattle.rustc_lexer.specs.Relexing.{IsBound, IsChange, IsMadeOf, MayGoOn, known};
+ghost use Rattle.rustc_lexer.specs.means.Relexing.{IsLexed, IsRenewed};
+ghost use Rattle.rustc_lexer.specs.Texts.{IsText};
 
 use crate::entry::stepper::Stepper;
 use crate::relex::front::Bound;
@@ -15,6 +19,30 @@ use crate::relex::relexing::{Change, Relexed, Relexing};
 use crate::relex::replace::replace;
 use crate::token::Token;
 use std::alloc::{AllocError, Global};
+
+/// One edit, its insertion borrowed.
+#[derive(Clone, Copy, Debug, PartialEq, Eq)]
+pub struct Edit<'a> {
+    /// Where the bytes begin that are taken out.
+    pub start: usize,
+    /// Where they end.
+    pub stop: usize,
+    /// What is put in their place.
+    pub insert: &'a str,
+}
+
+/// Puts `insert` in place of the bytes from `start` up to `stop`, where the text has room for it beside them.
+fn put_in_place(text: &mut String, start: usize, stop: usize, insert: &str)
+    requires inside { IsInside (string_bytes text.old) start stop }
+    requires room { string_len text.old + length insert.now ≤ string_capacity text.old }
+    ensures text { string_bytes text.new ≡ apply (string_bytes text.old) start stop insert.now }
+    ensures len { string_len text.new + (stop - start) ≡ string_len text.old + length insert.now }
+    ensures capacity { string_capacity text.old ≤ string_capacity text.new }
+{
+    match text.replace_range(start..stop, insert) {
+        Ok(()) | Err(_) => {}
+    }
+}
 
 /// Lexes the new text from the kept front on, until it meets the old tokens, and answers the tokens between with
 /// the place of the meeting.
@@ -57,99 +85,124 @@ fn relex<S: Stepper>(
     Ok((tokens, at))
 }
 
-/// The text with `insert` for its bytes from `start` up to `stop`, or `None` where that changes nothing.
-fn splice(
+/// Puts the tokens of the changed text in place of the old ones, and answers where lexing met these. Where memory
+/// is refused the tokens stay as they are. The search for what stays begins at `near`.
+fn renew<S: Stepper>(
     alloc: Global,
+    stepper: &mut S,
+    tokens: &mut Vec<Token>,
+    near: Bound,
     text: &str,
-    start: usize,
-    stop: usize,
-    insert: &str,
-) -> Result<Option<String>, AllocError>
-    requires edit { IsEdit text.now start stop insert.now }
-    ensures { IfOk result (λ new. bytes_or new text.now ≡ apply text.now start stop insert.now) }
+    change: Change,
+) -> Result<Relexing, AllocError>
+    requires fits { Fits text.now }
+    requires change { IsChange text.now change }
+    ensures grammar { S.grammar stepper.new ≡ S.grammar stepper.old }
+    ensures number { S.number stepper.new ≡ S.number stepper.old }
+    ensures same { OnErr result (tokens.new.items ≡ tokens.old.items) }
+    ensures renewed { IfOk result
+        (λ at. (before insert : List ℕ)
+        → IsMadeOf (S.grammar stepper.old) before (map (λ (t : Token). t.len) tokens.old.items)
+        change insert text.now
+        → IsBound (tokens_by (S.grammar stepper.old) before) near
+        → IsRenewed (S.grammar stepper.old) before change text.now
+        tokens.old.items tokens.new.items at
+        × (S.count stepper.new ≡ S.count stepper.old + at.lexed)) }
+    ensures may_go_on { IfOk result (λ at. MayGoOn text.now (length tokens.old.items) at) }
+    ensures rose { S.count stepper.old ≤ S.count stepper.new }
+    ensures few { IfErr result
+        (λ _. (before insert : List ℕ)
+        → IsMadeOf (S.grammar stepper.old) before (map (λ (t : Token). t.len) tokens.old.items)
+        change insert text.now
+        → IsBound (tokens_by (S.grammar stepper.old) before) near
+        → S.count stepper.new
+        ≤ S.count stepper.old
+        + (relexed_of (S.grammar stepper.old) before change.start change.old_stop insert).lexed) }
 {
-    if start == stop && insert.is_empty() {
-        return Ok(None);
-    }
-    let mut new = String::with_capacity(alloc, text.len() - (stop - start) + insert.len())?;
-    new.push_str(&text[..start])?;
-    new.push_str(insert)?;
-    new.push_str(&text[stop..])?;
-    Ok(Some(new))
+    let (lexed, at) = relex(alloc, stepper, tokens.as_slice(), near, text, change)?;
+    replace(tokens, at.front.number, at.back.number, lexed.as_slice())?;
+    Ok(at)
 }
 
-/// The new text, or the old one where there is none.
-fn text_or<'a>(new: &'a Option<String>, old: &'a str) -> &'a str
-    ensures { result.now ≡ bytes_or new.now old.now }
-{
-    match new {
-        Some(new) => new.as_str(),
-        None => old,
-    }
-}
-
-/// What an edit made: the new text, if it changes, the counts, and landmarks among the new tokens.
-#[derive(Drop)]
-pub(crate) struct Edited {
-    pub text: Option<String>,
-    pub relexed: Relexed,
-    pub landmarks: Landmarks,
-}
-
-/// Makes the tokens of a text those of the edited text. Where memory is refused they stay as they are. The
-/// search for what stays begins at the nearest of the landmarks.
+/// Makes text and tokens those of the edited text. Where memory is refused both stay as they are. The search for
+/// what stays begins at the nearest of the landmarks.
 pub(crate) fn lex_edit<S: Stepper>(
     alloc: Global,
     stepper: &mut S,
-    text: &str,
+    text: &mut String,
     tokens: &mut Vec<Token>,
-    landmarks: &Landmarks,
-    start: usize,
-    stop: usize,
-    insert: &str,
-) -> Result<Edited, AllocError>
-    requires fits { Fits text.now }
-    requires from_scratch { tokens.old.items ≡ tokens_by (S.grammar stepper.old) text.now }
-    requires landmarks { AreBounds tokens.old.items landmarks.now }
-    requires edit { IsEdit text.now start stop insert.now }
+    landmarks: &mut Landmarks,
+    edit: Edit<'_>,
+) -> Result<Relexed, AllocError>
+    requires text { IsText (string_bytes text.old) }
+    requires insert { IsUtf8 edit.insert.now }
+    requires from_scratch { tokens.old.items
+        ≡ tokens_by (S.grammar stepper.old) (string_bytes text.old) }
+    requires landmarks { AreBounds tokens.old.items landmarks.old }
+    requires edit { IsEdit (string_bytes text.old) edit.start edit.stop edit.insert.now }
     ensures grammar { S.grammar stepper.new ≡ S.grammar stepper.old }
     ensures number { S.number stepper.new ≡ S.number stepper.old }
-    ensures text { IfOk result
-        (λ r. bytes_or r.text text.now ≡ apply text.now start stop insert.now) }
-    ensures tokens { OnOk result
-        (tokens.new.items
-        ≡ tokens_by (S.grammar stepper.old) (apply text.now start stop insert.now)) }
-    ensures same { OnErr result (tokens.new.items ≡ tokens.old.items) }
-    ensures landmarks { IfOk result (λ r. AreBounds tokens.new.items r.landmarks) }
+    ensures text { OnOk result
+        (string_bytes text.new
+        ≡ apply (string_bytes text.old) edit.entry.start edit.entry.stop edit.entry.insert.now) }
+    ensures same_text { OnErr result (string_bytes text.new ≡ string_bytes text.old) }
+    ensures is_text { IsText (string_bytes text.new) }
+    ensures from_scratch { tokens.new.items
+        ≡ tokens_by (S.grammar stepper.old) (string_bytes text.new) }
+    ensures same_tokens { OnErr result (tokens.new.items ≡ tokens.old.items) }
+    ensures landmarks { AreBounds tokens.new.items landmarks.new }
     ensures relexed { IfOk result
-        (λ r. r.relexed ≡ relexed_of (S.grammar stepper.old) text.now start stop insert.now) }
-    ensures count { IfOk result (λ r. S.count stepper.new ≡ S.count stepper.old + r.relexed.lexed) }
+        (λ r. r
+        ≡ relexed_of (S.grammar stepper.old) (string_bytes text.old)
+        edit.entry.start edit.entry.stop edit.entry.insert.now) }
+    ensures count { IfOk result (λ r. S.count stepper.new ≡ S.count stepper.old + r.lexed) }
     ensures rose { S.count stepper.old ≤ S.count stepper.new }
-    ensures few { IfErr result
-        (λ _. S.count stepper.new
+    ensures few { OnErr result
+        (S.count stepper.new
         ≤ S.count stepper.old
-        + (relexed_of (S.grammar stepper.old) text.now start stop insert.now).lexed) }
+        + (relexed_of (S.grammar stepper.old) (string_bytes text.old)
+        edit.entry.start edit.entry.stop edit.entry.insert.now).lexed) }
 {
-    let new = splice(alloc, text, start, stop, insert)?;
+    let Edit {
+        start,
+        stop,
+        insert,
+    } = edit;
+    let removed = String::from_str(alloc, &text[start..stop])?;
+    text.reserve(insert.len())?;
+    put_in_place(text, start, stop, insert);
     let change = Change {
         start,
         old_stop: stop,
         new_stop: start + insert.len(),
     };
-    let old = tokens.as_slice();
+    let count = tokens.as_slice().len();
     let near = landmarks.nearest(start);
-    let (lexed, end) = relex(alloc, stepper, old, near, text_or(&new, text), change)?;
-    let relexed = end.counts(old.len());
-    replace(tokens, end.front.number, end.back.number, lexed.as_slice())?;
+    let made = text.as_str();
+    match renew(alloc, stepper, tokens, near, made, change) {
+        Ok(at) => {
+            *landmarks = past_edit(landmarks, at, made.len());
+            Ok(at.counts(count))
+        }
+        Err(refused) => {
+            put_in_place(text, start, change.new_stop, removed.as_str());
+            Err(refused)
+        }
+    }
+}
+
+/// Where the landmarks are after an edit that was relexed so far, in a text of `len` bytes; its kept front is one.
+fn past_edit(landmarks: &Landmarks, at: Relexing, len: usize) -> Landmarks
+    requires small { known at < 2 ^ 64 }
+    requires movable { All (IsMovable at.back (end_of at)) landmarks.now.bounds }
+    ensures { (old new : List Token) → IsReplaced old new at.front at.back (end_of at)
+        → AreBounds old landmarks.now → AreBounds new result }
+{
     let now = Bound {
-        number: end.front.number + relexed.lexed,
-        place: end.at,
+        number: at.front.number + at.lexed,
+        place: at.at,
     };
-    let mut landmarks = landmarks.after(end.front, end.back, now);
-    landmarks.remember(end.front, text.len());
-    Ok(Edited {
-        text: new,
-        relexed,
-        landmarks,
-    })
+    let mut landmarks = landmarks.after(at.front, at.back, now);
+    landmarks.remember(at.front, len);
+    landmarks
 }

@@ -6,20 +6,10 @@ ghost use Rattle.rustc_lexer.specs.ErrorTexts.{stop_text};
 ghost use Rattle.rustc_lexer.specs.LanguageHolds.{HoldsTheOnlyTokensBy};
 
 use crate::entry::stepper::Stepper;
+use crate::relex::edit::Edit;
 use crate::relex::lexed_text::LexedText;
 use std::error::Error;
 use std::fmt;
-
-/// One edit, its insertion borrowed.
-#[derive(Clone, Copy, Debug, PartialEq, Eq)]
-pub struct Edit<'a> {
-    /// Where the bytes begin that are taken out.
-    pub start: usize,
-    /// Where they end.
-    pub stop: usize,
-    /// What is put in their place.
-    pub insert: &'a str,
-}
 
 /// Why a list of edits stopped, and at which of them, counted from 0. The edits before it stand.
 #[derive(Clone, Copy, Debug, PartialEq, Eq)]

@@ -1,9 +1,9 @@
 //! A text that is kept with its tokens.
-ghost use Rattle.std.specs.Prelude.{◌≡◌, ◌+◌, ◌≤◌, ◌↔◌, IfOk, IfErr, OnOk, OnErr, IsTrue, length, string_bytes};
+ghost use Rattle.std.specs.Prelude.{◌≡◌, ◌+◌, ◌≤◌, ◌↔◌, IfOk, IfErr, OnOk, OnErr, IsTrue, length};
 ghost use Rattle.rustc_lexer.specs.declared.edition.Edition.TheVariants.{E2024};
 ghost use Rattle.rustc_lexer.specs.Classes.{Fits};
 ghost use Rattle.rustc_lexer.specs.Cuts.{tokens_by};
-ghost use Rattle.rustc_lexer.specs.Edits.{IsEdit, IsInside, apply, bytes_or, relexed_of};
+ghost use Rattle.rustc_lexer.specs.Edits.{IsEdit, IsInside, apply, relexed_of};
 ghost use Rattle.rustc_lexer.specs.LanguageHolds.{HoldsTheOnlyTokensBy};
 ghost use Rattle.rustc_lexer.specs.LanguageText.{part};
 ghost use Rattle.rustc_lexer.specs.means.Lexeme.{first_token};
@@ -11,7 +11,7 @@ ghost use Rattle.rustc_lexer.specs.Tokens.{tokens_of};
 
 use crate::edition::Edition;
 use crate::entry::stepper::{Stepper, Steps};
-use crate::relex::edit::{Edited, lex_edit};
+use crate::relex::edit::{Edit, lex_edit};
 use crate::relex::landmarks::Landmarks;
 use crate::relex::lex::lex_all;
 use crate::relex::relexing::Relexed;
@@ -151,33 +151,18 @@ impl<S: Stepper> LexedText<S> {
             ≤ S.count self.old.stepper
             + (relexed_of (S.grammar self.old.stepper) self.old.text start stop insert.now).lexed) }
     {
-        let Edited {
-            text,
-            relexed,
-            landmarks,
-        } = lex_edit(
+        lex_edit(
             self.alloc,
             &mut self.stepper,
-            self.text.as_str(),
+            &mut self.text,
             &mut self.tokens,
-            &self.landmarks,
-            start,
-            stop,
-            insert,
-        )?;
-        put_text(&mut self.text, text);
-        self.landmarks = landmarks;
-        Ok(relexed)
-    }
-}
-
-/// Puts the new text in place of the old one, where there is one.
-fn put_text(old: &mut String, new: Option<String>)
-    ensures { string_bytes old.new ≡ bytes_or new (string_bytes old.old) }
-{
-    match new {
-        Some(new) => *old = new,
-        None => {}
+            &mut self.landmarks,
+            Edit {
+                start,
+                stop,
+                insert,
+            },
+        )
     }
 }
 
