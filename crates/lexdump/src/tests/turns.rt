@@ -3,7 +3,6 @@ ghost use Rattle.std.specs.Prelude.{◌≡◌, false};
 
 use crate::fault::Fault;
 use crate::job::{Job, read_job};
-use crate::output::Block;
 use crate::run::run;
 use crate::watched::Watched;
 use std::alloc::{AllocError, Global};
@@ -245,43 +244,5 @@ fn a_long_listing(rt: HostRuntime) -> Result<(), Fail> {
     // Each block lacks less than a name of 65536 bytes, so there are 52, and the first takes two calls.
     assert_eq!(rt; output.calls, 53);
     assert_eq!(rt; output.flushes, 1);
-    Ok(())
-}
-
-#[test]
-fn a_write_that_fails_in_a_later_block(rt: HostRuntime) -> Result<(), Fail> {
-    let job = plain(rt.alloc())?;
-    let (text, listing) = long_text(rt.alloc(), 5_000)?;
-    for fails in [Fails, Moves(0)] {
-        let turns = [Moves(65_536), Moves(1_000), fails];
-        let mut input = reader(text.as_bytes(), &[Moves(10_000)]);
-        let mut output = writer(rt.alloc(), &turns, false);
-        assert_eq!(rt;
-            run(rt.alloc(), &job, &mut input, &mut output),
-            Err(Fault::Write)
-        );
-        assert!(rt; output.failed());
-        let taken = output.into_inner().taken;
-        assert!(rt; taken.len() > 66_000 && taken.len() <= 66_536);
-        assert!(rt; listing.as_bytes().starts_with(taken.as_slice()));
-    }
-    Ok(())
-}
-
-#[test]
-fn pieces_around_a_block(rt: HostRuntime) -> Result<(), Fail> {
-    for size in [0, 1, 65_535, 65_536, 65_537, 200_000] {
-        let long = "x".repeat(rt.alloc(), size)?;
-        let mut block = Block::new();
-        let mut output = writer(rt.alloc(), &[], false);
-        assert_eq!(rt; block.push(&mut output, "a"), Ok(()));
-        assert_eq!(rt; block.push(&mut output, long.as_str()), Ok(()));
-        assert_eq!(rt; block.push_number(&mut output, size), Ok(()));
-        assert_eq!(rt; block.finish(&mut output), Ok(()));
-        let output = output.into_inner();
-        let want = format!(in rt.alloc(); "a{long}{size}")?;
-        assert!(rt; output.taken.as_slice() == want.as_bytes(), "{size} bytes");
-        assert_eq!(rt; output.flushes, 1);
-    }
     Ok(())
 }
