@@ -6,7 +6,7 @@ use Rattle.std.proofs.lemmas.List.{map-append, length-map, take-append-drop}
 use Rattle.std.proofs.lemmas.List.Sums.{sum_by-cons}
 use Rattle.std.proofs.lemmas.List.Splits.{length-slice_split}
 use Rattle.rustc_lexer.specs.declared.token.Token.{Token}
-use Rattle.rustc_lexer.specs.Cuts.{bound}
+use Rattle.rustc_lexer.specs.Tokens.{bound}
 use Rattle.count.specs.declared.lines.Class.{Class}
 use Rattle.count.specs.declared.lines.Class.TheVariants.{Code}
 use Rattle.count.specs.declared.lines.Counter.{Counter}

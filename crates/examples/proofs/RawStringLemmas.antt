@@ -2,7 +2,7 @@
 use Rattle.std.proofs.Common.{◌≡◌, ℕ, ◌+◌, List, [], ◌∷◌, ◌++◌, take, drop, sym, ap, subst, ◌∙◌, append_assoc, Option, Some, None}
 use Rattle.rustc_lexer.specs.declared.token.Token.{Token}
 use Rattle.rustc_lexer.specs.Pieces.{pieces_from}
-use Rattle.rustc_lexer.specs.TokenText.{HasText, HaveTexts}
+use Rattle.rustc_lexer.specs.Tokens.{HasText, HaveTexts}
 use Rattle.examples.specs.declared.raw_strings.RawFault.{RawFault}
 use Rattle.examples.specs.RawStrings.{faults_of, raw_fault, with_fault}
 

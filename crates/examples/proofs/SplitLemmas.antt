@@ -4,11 +4,9 @@ use Rattle.std.specs.List.{flat_map}
 use Rattle.std.proofs.lemmas.List.{append-nil, map-append}
 use Rattle.std.proofs.lemmas.List.Folds.{flat_map-map}
 use Rattle.rustc_lexer.specs.declared.token.Token.{Token}
-use Rattle.rustc_lexer.specs.Cuts.{bound}
+use Rattle.rustc_lexer.specs.Tokens.{bound, TakesToken, tokens_left, Partitions}
 use Rattle.rustc_lexer.specs.State.{State}
-use Rattle.rustc_lexer.specs.Tokens.{TakesToken, tokens_left}
 use Rattle.rustc_lexer.specs.Pieces.{pieces_from, pieces_of}
-use Rattle.rustc_lexer.specs.Tokens.{Partitions}
 use Rattle.examples.specs.Joined.{joined}
 use Rattle.examples.specs.Split.{texts_of}
 

@@ -3,8 +3,7 @@ ghost use Rattle.std.specs.Prelude.{◌≡◌, IfOk};
 ghost use Rattle.rustc_lexer.specs.Classes.{Fits};
 ghost use Rattle.rustc_lexer.specs.Pieces.{pieces_of};
 ghost use Rattle.rustc_lexer.specs.LanguageText.{document};
-ghost use Rattle.rustc_lexer.specs.Tokens.{tokens_of};
-ghost use Rattle.rustc_lexer.specs.TokenText.{HasText};
+ghost use Rattle.rustc_lexer.specs.Tokens.{tokens_of, HasText};
 ghost use Rattle.examples.specs.RawStrings.{faults_of, raw_fault, raw_prefix_len};
 
 use rustc_lexer::{

@@ -6,7 +6,7 @@ use Rattle.std.specs.Str.{bytes_eq}
 use Rattle.rustc_lexer.specs.declared.edition.Edition.{Edition}
 use Rattle.highlight.specs.declared.job.Options.{Options}
 use Rattle.highlight.specs.declared.job.When.{When}
-use Rattle.rustc_lexer.specs.Edition.{edition_of}
+use Rattle.rustc_lexer.specs.LanguageIn.{edition_of}
 use Rattle.highlight.specs.Job.{in_edition, options_of, page, when_of, with_colours}
 
 abbrev Word : Type 0

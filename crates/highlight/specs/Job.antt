@@ -3,7 +3,7 @@ use Rattle.std.specs.Prelude.{ℕ, Bool, true, false, if◌then◌else◌, List,
 use Rattle.std.specs.Option.{option_and_then, option_map}
 use Rattle.std.specs.Str.{bytes_eq}
 use Rattle.rustc_lexer.specs.declared.edition.Edition.{Edition}
-use Rattle.rustc_lexer.specs.Edition.{edition_of}
+use Rattle.rustc_lexer.specs.LanguageIn.{edition_of}
 use Rattle.highlight.specs.declared.job.Job.{Job}
 use Rattle.highlight.specs.declared.job.Job.TheVariants.{Show, Help}
 use Rattle.highlight.specs.declared.job.Options.{Options}

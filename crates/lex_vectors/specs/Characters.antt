@@ -5,7 +5,7 @@ use Rattle.rustc_lexer.specs.declared.token.TokenKind.{TokenKind}
 use Rattle.rustc_lexer.specs.declared.token.TokenKind.TheVariants.{Unknown, Eof}
 use Rattle.rustc_lexer.specs.laws.Reach.{first_local, gives_local}
 use Rattle.rustc_lexer.specs.means.Scan.{IsLocal, gives, token_by}
-use Rattle.rustc_lexer.specs.Texts.{IsGrammar}
+use Rattle.rustc_lexer.specs.Locality.{IsGrammar}
 use Rattle.rustc_lexer.specs.laws.TokenBy.{token_by_local}
 
 abbrev pub one_char : List ℕ → TokenKind × ℕ

@@ -4,8 +4,8 @@ use Rattle.std.proofs.lemmas.Bool.{lt-leb}
 use Rattle.std.proofs.lemmas.Bool.Decides.{leb_tells}
 use Rattle.std.proofs.lemmas.List.{drop_all}
 use Rattle.rustc_lexer.specs.declared.token.Token.{Token}
-use Rattle.rustc_lexer.specs.Texts.{IsText, IsGrammar}
-use Rattle.rustc_lexer.specs.Cuts.{bound, tokens_by}
+use Rattle.rustc_lexer.specs.Locality.{IsText, IsGrammar}
+use Rattle.rustc_lexer.specs.Tokens.{bound, tokens_by}
 use Rattle.rustc_lexer.specs.Edits.{is_bound, ends_past, least_from}
 use Rattle.rustc_lexer.proofs.CutLemmas.{IsCutAt, at_bound, tokens-cons, tokens-nil}
 use Rattle.rustc_lexer.proofs.ProgressLemmas.{IsNext, next-from_drop}

@@ -22,7 +22,7 @@ use Rattle.rustc_lexer.specs.laws.Reach.{run_len_le}
 use Rattle.rustc_lexer.specs.means.Scan.{begins, bytes_of, next_is, past, run_len}
 use Rattle.rustc_lexer.specs.State.{HasSuffixWithin}
 use Rattle.rustc_lexer.specs.means.Taking.{token_at}
-use Rattle.rustc_lexer.specs.TokenText.{HasText}
+use Rattle.rustc_lexer.specs.Tokens.{HasText}
 use Rattle.rustc_lexer.proofs.CharSteps.{bytes_of-suc}
 use Rattle.rustc_lexer.proofs.FenceLemmas.{begins-enough, begins-few}
 use Rattle.rustc_lexer.proofs.PastLemmas.{past-zero, split_past, past-past, past-drop, chars-past, IsUtf8-past, length-past}

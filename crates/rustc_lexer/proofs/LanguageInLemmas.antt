@@ -11,16 +11,15 @@ use Rattle.rustc_lexer.specs.declared.token.Token.{Token}
 use Rattle.rustc_lexer.specs.declared.token.TokenKind.{TokenKind}
 use Rattle.rustc_lexer.specs.declared.token.TokenKind.TheVariants.{Ident, UnknownPrefix, UnknownPrefixLifetime, RawLifetime, Lifetime, GuardedStrPrefix, Pound}
 use Rattle.rustc_lexer.specs.Classes.{is_among, is_id_start, is_id_continue, is_ident}
-use Rattle.rustc_lexer.specs.Edition.{year, token, has_marked_name, before_2021, changed, first_token_in}
+use Rattle.rustc_lexer.specs.LanguageIn.{year, kept_since, IsTokenIn, kept, pound, ident, lifetime, lifetime_r}
+use Rattle.rustc_lexer.specs.means.Edition.{token, has_marked_name, before_2021, changed, first_token_in}
 use Rattle.rustc_lexer.specs.Language as the
-use Rattle.rustc_lexer.specs.Spans.{is_word_continue, is_word_start, begins_ident_after}
+use Rattle.rustc_lexer.specs.Spans.{is_word_continue, is_word_start, begins_ident_after, AreAll, NextIs, NextIsNot, bytes}
 use Rattle.rustc_lexer.specs.Language.{is_bad_name, IsTokenBefore}
-use Rattle.rustc_lexer.specs.LanguageIn.{kept_since, IsTokenIn, kept, pound, ident, lifetime, lifetime_r}
 use Rattle.rustc_lexer.specs.LanguageHolds.{NewestIsPage}
 use Rattle.rustc_lexer.specs.means.Lexeme.{past_first, lexeme, first_token, symbols, kind_among, symbol_kind}
 use Rattle.rustc_lexer.specs.means.Scan.{bytes_of, next_is, run_len}
-use Rattle.rustc_lexer.specs.Spans.{AreAll, NextIs, NextIsNot, bytes}
-use Rattle.rustc_lexer.specs.Texts.{IsText}
+use Rattle.rustc_lexer.specs.Locality.{IsText}
 use Rattle.rustc_lexer.specs.laws.Choice.{by_test}
 use Rattle.rustc_lexer.specs.laws.Language.{lexeme-sound}
 use Rattle.rustc_lexer.specs.laws.LanguageRuns.{mark-stops, run_len-here}

@@ -13,7 +13,7 @@ use Rattle.rustc_lexer.specs.Language.{IsTokenBefore, BeginsWith}
 use Rattle.rustc_lexer.specs.Spans.{bytes}
 use Rattle.rustc_lexer.specs.means.Lexeme.{lexeme, first_token}
 use Rattle.rustc_lexer.specs.means.Scan.{bytes_of}
-use Rattle.rustc_lexer.specs.Texts.{IsText}
+use Rattle.rustc_lexer.specs.Locality.{IsText}
 
 -- ---- texts and characters
 

@@ -10,7 +10,7 @@ use Rattle.rustc_lexer.specs.declared.token.Token.{Token}
 use Rattle.rustc_lexer.specs.declared.token.TokenKind.{TokenKind}
 use Rattle.rustc_lexer.specs.declared.token.TokenKind.TheVariants.{Frontmatter, Eof}
 use Rattle.rustc_lexer.specs.Classes.{is_among, is_whitespace}
-use Rattle.rustc_lexer.specs.Cuts.{tokens_by}
+use Rattle.rustc_lexer.specs.Tokens.{tokens_by, tokens_of, tokens_left}
 use Rattle.rustc_lexer.specs.means.Edition.{token, first_token_in}
 use Rattle.rustc_lexer.specs.means.Frontmatter.{is_newline, fence_len, opening_len, opens, closing_end, past_opening, frontmatter}
 use Rattle.rustc_lexer.specs.laws.LanguageClosing.{ends-read, ends-are}
@@ -26,8 +26,7 @@ use Rattle.rustc_lexer.specs.means.Lexeme.{first_token}
 use Rattle.rustc_lexer.specs.means.Scan.{bytes_of, next_is, past}
 use Rattle.rustc_lexer.specs.State.{State}
 use Rattle.rustc_lexer.specs.means.Taking.{token_at, advance}
-use Rattle.rustc_lexer.specs.Texts.{IsText}
-use Rattle.rustc_lexer.specs.Tokens.{tokens_of, tokens_left}
+use Rattle.rustc_lexer.specs.Locality.{IsText}
 use Rattle.rustc_lexer.proofs.FrontmatterLemmas.{closing_end-boundary, closing_end-inside}
 use Rattle.rustc_lexer.proofs.LanguageInLemmas.{token-read-in, first-front}
 use Rattle.rustc_lexer.proofs.LanguageLemmas.{empty-text, split, first_token-of, first_token-empty}

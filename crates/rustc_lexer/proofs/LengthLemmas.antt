@@ -6,7 +6,7 @@ use Rattle.std.proofs.lemmas.Str.{IsUtf8-take, IsCharBoundary-from_take}
 use Rattle.rustc_lexer.specs.declared.token.Token.{Token}
 use Rattle.rustc_lexer.specs.declared.token.TokenKind.TheVariants.{Eof}
 use Rattle.rustc_lexer.specs.Relexing.{HasLengths}
-use Rattle.rustc_lexer.specs.Settled.{has_two}
+use Rattle.rustc_lexer.specs.Locality.{has_two}
 use Rattle.rustc_lexer.proofs.EditLemmas.{has_two-late, has_two-same}
 
 -- what stands past the end of a list

@@ -3,9 +3,8 @@ use Rattle.std.proofs.Common.{◌≡◌, ℕ, zero, suc, ◌+◌, ◌-◌, ◌<�
 use Rattle.std.proofs.lemmas.Bool.Decides.{leb_tells}
 use Rattle.std.proofs.lemmas.Str.{IsCharBoundary-from_drop, IsCharBoundary-end, IsUtf8-between}
 use Rattle.rustc_lexer.specs.declared.token.Token.{Token}
-use Rattle.rustc_lexer.specs.Cuts.{bound, tokens_by}
-use Rattle.rustc_lexer.specs.Settled.{has_two, AreLocal, IsSettled, StaysUpTo}
-use Rattle.rustc_lexer.specs.Texts.{IsText, IsGrammar, AgreePast}
+use Rattle.rustc_lexer.specs.Tokens.{bound, tokens_by}
+use Rattle.rustc_lexer.specs.Locality.{has_two, AreLocal, IsSettled, StaysUpTo, IsText, IsGrammar, AgreePast}
 use Rattle.rustc_lexer.proofs.BoundLemmas.{bound_mono, rises}
 use Rattle.rustc_lexer.proofs.CutLemmas.{at_bound, tokens_local}
 use Rattle.rustc_lexer.proofs.EditLemmas.{has_two-agree, has_two-mono}

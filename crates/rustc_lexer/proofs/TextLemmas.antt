@@ -31,10 +31,9 @@ use Rattle.rustc_lexer.specs.means.Raw.{accepted, is_r, prefix_kind, prefix_len,
 use Rattle.rustc_lexer.specs.laws.Raw.{raw_check_own}
 use Rattle.rustc_lexer.specs.means.Scan.{after, begins, bytes_of, gives, next_is, past, run, run_len}
 use Rattle.rustc_lexer.specs.State.{suffix_start_of, HasSuffixWithin}
-use Rattle.rustc_lexer.specs.Texts.{IsText}
+use Rattle.rustc_lexer.specs.Locality.{IsText}
 use Rattle.rustc_lexer.specs.laws.TokenBy.{scalars-take}
-use Rattle.rustc_lexer.specs.Tokens.{tokens_of}
-use Rattle.rustc_lexer.specs.TokenText.{HasRawText, HasText, HaveTexts}
+use Rattle.rustc_lexer.specs.Tokens.{tokens_of, HasRawText, HasText, HaveTexts}
 use Rattle.rustc_lexer.proofs.CharSteps.{bytes_of-suc}
 use Rattle.rustc_lexer.proofs.EditionLemmas.{is_silent, changed-either}
 use Rattle.rustc_lexer.proofs.FrontmatterLemmas.{frontmatter-text, frontmatter-suffix, token_at-either}

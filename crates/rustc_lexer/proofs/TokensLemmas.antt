@@ -8,7 +8,7 @@ use Rattle.std.proofs.lemmas.Str.{IsUtf8-append, IsUtf8-drop, IsUtf8-nil, IsUtf8
 use Rattle.std.proofs.lemmas.List.Elements.{All-nil, All-cons}
 use Rattle.rustc_lexer.specs.declared.edition.Edition.{Edition}
 use Rattle.rustc_lexer.specs.declared.token.Token.{Token}
-use Rattle.rustc_lexer.specs.Cuts.{tokens_by}
+use Rattle.rustc_lexer.specs.Tokens.{tokens_by, cut, tokens_of_document, tokens_of, tokens_left, bound, Partitions, RestartsAtBounds, TakesToken}
 use Rattle.rustc_lexer.specs.LanguageText.{Mode, document, part, mode_after}
 use Rattle.rustc_lexer.specs.laws.Edition.{edition_grammar}
 use Rattle.rustc_lexer.specs.means.Edition.{first_token_in}
@@ -18,8 +18,7 @@ use Rattle.rustc_lexer.specs.means.Taking.{token_at, advance}
 use Rattle.rustc_lexer.proofs.CutLemmas.{at_bound, tokens-nil as part-nil, tokens-cons as part-cons}
 use Rattle.rustc_lexer.proofs.FrontmatterLemmas.{frontmatter-cut, token_at-either}
 use Rattle.rustc_lexer.proofs.StateLemmas.{state, past_token, advance-some, token_past-zero}
-use Rattle.rustc_lexer.specs.Texts.{IsText}
-use Rattle.rustc_lexer.specs.Tokens.{cut, tokens_of_document, tokens_of, tokens_left, bound, Partitions, RestartsAtBounds, TakesToken}
+use Rattle.rustc_lexer.specs.Locality.{IsText}
 
 -- the token at the front of a text leaves a shorter text, and is one itself
 pub record CutsOff (text : List ℕ) (token : Token) : Type 0 where

@@ -20,7 +20,7 @@ use Rattle.rustc_lexer.specs.declared.token.LiteralKind.{LiteralKind}
 use Rattle.rustc_lexer.specs.declared.token.RawStrError.{RawStrError}
 use Rattle.rustc_lexer.specs.declared.token.Token.{Token}
 use Rattle.rustc_lexer.specs.declared.token.TokenKind.{TokenKind}
-use Rattle.rustc_lexer.specs.Edition.{first_token_in}
+use Rattle.rustc_lexer.specs.means.Edition.{first_token_in}
 use Rattle.rustc_lexer.specs.FrontmatterGrammar.{OpensNone}
 use Rattle.rustc_lexer.specs.Language.{BeginsWith, IsTokenBefore}
 use Rattle.rustc_lexer.specs.LanguageCalls.{IsGuardedBefore, IsRawAnswer, IsShebang}
@@ -30,7 +30,7 @@ use Rattle.rustc_lexer.specs.LiteralGrammar.{hashes}
 use Rattle.rustc_lexer.specs.NumberGrammar.{IsLongestNumber}
 use Rattle.rustc_lexer.specs.Spans.{Chars, Utf8, bytes, NextNotIn}
 use Rattle.rustc_lexer.specs.State.{State, token_past}
-use Rattle.rustc_lexer.specs.Texts.{IsText}
+use Rattle.rustc_lexer.specs.Locality.{IsText}
 use Rattle.rustc_lexer.specs.Tokens.{tokens_of, tokens_left}
 use Rattle.rustc_lexer.specs.means.Lexeme.{lexeme}
 use Rattle.rustc_lexer.specs.means.Number.{number_kind}

@@ -3,8 +3,9 @@
 -- what stands in the place of what an edition has not. C strings and `k#` are read alike in all
 -- editions, though Rust has C strings since 2021 only (docs/EDITIONS.md, "What is left to a
 -- compiler"). `w` and `next` are as in Language.antt.
-use Rattle.std.specs.Prelude.{◌≡◌, ◌<◌, ◌≤◌, ℕ, true, false, ◌∷◌, codes}
-use Rattle.std.specs.Str.{byte}
+use Rattle.std.specs.Prelude.{◌≡◌, ◌<◌, ◌≤◌, ℕ, if◌then◌else◌, true, false, List, [], ◌∷◌, codes}
+use Rattle.std.specs.Prelude.{Option, Some, None}
+use Rattle.std.specs.Str.{byte, bytes_eq}
 use Rattle.rustc_lexer.specs.declared.edition.Edition.{Edition}
 use Rattle.rustc_lexer.specs.declared.edition.Edition.TheVariants.{E2015, E2018, E2021, E2024}
 use Rattle.rustc_lexer.specs.declared.token.TokenKind.{TokenKind}
@@ -20,6 +21,15 @@ year E2015 = 2015
 year E2018 = 2018
 year E2021 = 2021
 year E2024 = 2024
+
+-- the edition that a word names, by its year
+abbrev pub edition_of : List ℕ → Option Edition
+edition_of word =
+    if bytes_eq word (codes "2015") then Some E2015
+    else (if bytes_eq word (codes "2018") then Some E2018
+    else (if bytes_eq word (codes "2021") then Some E2021
+    else (if bytes_eq word (codes "2024") then Some E2024
+    else None)))
 
 -- the year of the first edition in which a token of the kind is kept whole; 2015 where no edition
 -- cuts it here, also where Rust has the kind only since a later one

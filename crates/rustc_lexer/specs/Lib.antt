@@ -1,6 +1,4 @@
 pub mod Classes
-pub mod Cuts
-pub mod Edition
 pub mod EditLists
 pub mod Edits
 pub mod Emoji
@@ -14,15 +12,13 @@ pub mod LanguageIn
 pub mod LanguageReach
 pub mod LanguageText
 pub mod LiteralGrammar
+pub mod Locality
 pub mod NumberGrammar
 pub mod Pieces
 pub mod Relexing
-pub mod Settled
 pub mod Spans
 pub mod State
 pub mod Symbols
-pub mod Texts
-pub mod TokenText
 pub mod Tokens
 pub mod laws
 pub mod means

@@ -1,13 +1,40 @@
 -- The tokens of a text as it is read, their bounds, and what the calls that take them do.
-use Rattle.std.specs.Prelude.{ℕ, zero, suc, ◌≡◌, ◌-◌, ◌<◌, ◌≤◌, List, [], ◌∷◌, length, drop, All, IsCharBoundary, Option, Some, None}
-use Rattle.rustc_lexer.specs.declared.edition.Edition.{Edition}
-use Rattle.rustc_lexer.specs.declared.token.Token.{Token}
-use Rattle.rustc_lexer.specs.Cuts.{AreBoundaries, tokens_by}
-pub use Rattle.rustc_lexer.specs.Cuts.{bound}
+use Rattle.std.specs.Prelude.{ℕ, zero, suc, ◌≡◌, ◌↔◌, ◌+◌, ◌-◌, ◌<◌, ◌≤◌, List, [], ◌∷◌, length, take, drop, All, IsCharBoundary, Option, IsSome, Some, None, Ok}
 use Rattle.rustc_lexer.specs.LanguageText.{Mode, document, part, mode_after}
 use Rattle.rustc_lexer.specs.State.{State}
+use Rattle.rustc_lexer.specs.declared.edition.Edition.{Edition}
+use Rattle.rustc_lexer.specs.declared.token.LiteralKind.TheVariants.{RawStr, RawByteStr, RawCStr}
+use Rattle.rustc_lexer.specs.declared.token.LiteralKind.{LiteralKind}
+use Rattle.rustc_lexer.specs.declared.token.Token.{Token}
+use Rattle.rustc_lexer.specs.declared.token.TokenKind.TheVariants.{Literal, Eof}
+use Rattle.rustc_lexer.specs.declared.token.TokenKind.{TokenKind}
 use Rattle.rustc_lexer.specs.means.Edition.{first_token_in}
+use Rattle.rustc_lexer.specs.means.Raw.{StartsRaw, raw_check}
 use Rattle.rustc_lexer.specs.means.Taking.{token_at, advance}
+
+-- ---- by a grammar, which tells the first token of each text
+
+-- the first `count` tokens of a text
+abbrev pub cut_by : (List ℕ → Token) → ℕ → List ℕ → List Token
+cut_by first zero text = []
+cut_by first (suc count) [] = []
+cut_by first (suc count) (b ∷ bs) = first (b ∷ bs) ∷ cut_by first count (drop (first (b ∷ bs)).len (b ∷ bs))
+
+-- the tokens of a text, which has no more of them than bytes
+unfoldable pub tokens_by : (List ℕ → Token) → List ℕ → List Token
+tokens_by first text = cut_by first (length text) text
+
+-- bound number k: 0, or the end of the token before it
+abbrev pub bound : List Token → ℕ → ℕ
+bound tokens zero = 0
+bound [] (suc k) = 0
+bound (t ∷ ts) (suc k) = t.len + bound ts k
+
+-- each bound of the tokens is inside the text, between characters
+abbrev pub AreBoundaries : List ℕ → List Token → Type 0
+AreBoundaries text tokens = (k : ℕ) → k ≤ length tokens → IsCharBoundary text (bound tokens k)
+
+-- ---- as a text is read
 
 -- the tokens of a text, of which `count` at most are read as those of a document: each says how what follows it is read
 abbrev pub cut : Mode → ℕ → List ℕ → List Token
@@ -73,3 +100,26 @@ pub record StaysAtEnd (s : State) (token : Token) (t : State) : Type 0 where
   pub rest : s.rest ≡ []
   pub empty : token.len ≡ 0
   pub unchanged : t ≡ s
+
+-- ---- what the kind of a token says of its own text, beside the language: that a raw string may be checked by it
+
+-- the text may be checked, and the check refuses nothing exactly where the number of hashes is there
+abbrev pub IsChecked : ℕ → List ℕ → Option ℕ → Type 0
+IsChecked prefix text n_hashes = StartsRaw text prefix × ((raw_check text prefix ≡ Ok tt) ↔ IsSome n_hashes)
+
+abbrev pub HasRawText : LiteralKind → List ℕ → Type 0
+HasRawText (RawStr n_hashes) text = IsChecked 1 text n_hashes
+HasRawText (RawByteStr n_hashes) text = IsChecked 2 text n_hashes
+HasRawText (RawCStr n_hashes) text = IsChecked 2 text n_hashes
+HasRawText kind text = Unit {0}
+
+-- the text of a raw string may be checked, and at the end is nothing. Which texts each kind has is what the language says
+abbrev pub HasText : TokenKind → List ℕ → Type 0
+HasText (Literal kind suffix_start) text = HasRawText kind text
+HasText Eof text = length text ≡ 0
+HasText kind text = Unit {0}
+
+-- the text of each token is one of its kind
+abbrev pub HaveTexts : List ℕ → List Token → Type 0
+HaveTexts text [] = Unit {0}
+HaveTexts text (token ∷ tokens) = HasText token.kind (take token.len text) × HaveTexts (drop token.len text) tokens

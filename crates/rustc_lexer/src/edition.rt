@@ -7,15 +7,15 @@ ghost use Rattle.std.specs.Str.{chars};
 ghost use Rattle.rustc_lexer.specs.declared.edition.Edition.TheVariants.{E2015, E2018, E2024};
 ghost use Rattle.rustc_lexer.specs.declared.token.FrontmatterAllowed.TheVariants.{No};
 ghost use Rattle.rustc_lexer.specs.Classes.{Fits, is_id_continue};
-ghost use Rattle.rustc_lexer.specs.Edition as spec;
+ghost use Rattle.rustc_lexer.specs.LanguageIn.{edition_of, year};
+ghost use Rattle.rustc_lexer.specs.means.Edition as spec;
 ghost use Rattle.rustc_lexer.specs.means.Ident.{is_word};
 ghost use Rattle.rustc_lexer.specs.LanguageHolds.{AreTheOnlyTokens, NewestIsPage};
 ghost use Rattle.rustc_lexer.specs.LanguageText.{mode_edition, mode_of, part};
 ghost use Rattle.rustc_lexer.specs.means.Scan.{run_len};
-ghost use Rattle.rustc_lexer.specs.Settled.{AreLocal};
+ghost use Rattle.rustc_lexer.specs.Locality.{AreLocal};
 ghost use Rattle.rustc_lexer.specs.State.{HasSuffixWithin};
-ghost use Rattle.rustc_lexer.specs.TokenText.{HaveTexts};
-ghost use Rattle.rustc_lexer.specs.Tokens.{tokens_of, tokens_left, Partitions, RestartsAtBounds, YieldsToken};
+ghost use Rattle.rustc_lexer.specs.Tokens.{HaveTexts, tokens_of, tokens_left, Partitions, RestartsAtBounds, YieldsToken};
 
 use crate::classes::emoji::is_emoji;
 use crate::cursor::Cursor;
@@ -47,7 +47,7 @@ impl Edition {
 
     /// The year that names the edition.
     pub fn year(self) -> u16
-        ensures { result ≡ spec.year self }
+        ensures { result ≡ year self }
     {
         match self {
             Edition::E2015 => 2015,
@@ -62,7 +62,7 @@ impl Edition {
 impl FromStr for Edition {
     type Err = UnknownEdition;
 
-    ghost from_str_gives = { λ word read. result_ok read ≡ spec.edition_of word };
+    ghost from_str_gives = { λ word read. result_ok read ≡ edition_of word };
 
     fn from_str(word: &str) -> Result<Edition, UnknownEdition> {
         match word {

@@ -7,8 +7,7 @@ ghost use Rattle.rustc_lexer.specs.LanguageHolds.{AreTheOnlyTokens, EachBeginsWi
 ghost use Rattle.rustc_lexer.specs.LanguageReach.{LooksNoFurther, NoneLooksLess, RefusedStands};
 ghost use Rattle.rustc_lexer.specs.LanguageText.{mode_edition, mode_of};
 ghost use Rattle.rustc_lexer.specs.State.{HasSuffixWithin};
-ghost use Rattle.rustc_lexer.specs.TokenText.{HaveTexts};
-ghost use Rattle.rustc_lexer.specs.Tokens.{tokens_of, tokens_left, Partitions, RestartsAtBounds, YieldsToken};
+ghost use Rattle.rustc_lexer.specs.Tokens.{HaveTexts, tokens_of, tokens_left, Partitions, RestartsAtBounds, YieldsToken};
 
 use crate::cursor::Cursor;
 use crate::token::{FrontmatterAllowed, Token};

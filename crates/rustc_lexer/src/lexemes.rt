@@ -6,7 +6,7 @@ ghost use Rattle.rustc_lexer.specs.LanguageHolds.{IsLanguage};
 ghost use Rattle.rustc_lexer.specs.means.Lexeme as spec;
 ghost use Rattle.rustc_lexer.specs.means.Quick.{IsFirstToken};
 ghost use Rattle.rustc_lexer.specs.means.Scan.{IsLocal, scanned};
-ghost use Rattle.rustc_lexer.specs.Texts.{IsGrammar};
+ghost use Rattle.rustc_lexer.specs.Locality.{IsGrammar};
 
 use crate::lexemes::comment::slash;
 use crate::lexemes::family::{Family, family_of};

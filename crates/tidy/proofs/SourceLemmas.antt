@@ -17,7 +17,7 @@ use Rattle.rustc_lexer.specs.Spans.{NextIsNot, bytes}
 use Rattle.rustc_lexer.specs.laws.LanguageLiterals.{bytes-append}
 use Rattle.rustc_lexer.specs.means.Scan.{next_is}
 use Rattle.rustc_lexer.specs.means.Taking.{token_at}
-use Rattle.rustc_lexer.specs.Texts.{IsText}
+use Rattle.rustc_lexer.specs.Locality.{IsText}
 use Rattle.rustc_lexer.specs.Tokens.{tokens_of}
 use Rattle.rustc_lexer.proofs.LanguageInLemmas.{on_page}
 use Rattle.rustc_lexer.proofs.LanguageTextLemmas.{language}

@@ -15,7 +15,8 @@ use Rattle.rustc_lexer.specs.declared.token.TokenKind.TheVariants.{Ident, Unknow
 use Rattle.rustc_lexer.specs.means.BlockComment.{block_comment, block_comment_to, comment_end}
 use Rattle.rustc_lexer.specs.Classes.{is_id_continue}
 use Rattle.rustc_lexer.specs.means.Comment.{line_comment, slash}
-use Rattle.rustc_lexer.specs.Edition.{year, token, before_2024, before_2021, first_token_in}
+use Rattle.rustc_lexer.specs.LanguageIn.{year}
+use Rattle.rustc_lexer.specs.means.Edition.{token, before_2024, before_2021, first_token_in}
 use Rattle.rustc_lexer.specs.means.Hash.{is_guarded_mark, hash}
 use Rattle.rustc_lexer.specs.means.Ident.{is_word, is_prefix_mark, ident_or_unknown_prefix, marks_ident}
 use Rattle.rustc_lexer.specs.means.Lexeme.{raw_or_ident, is_raw_mark, begins_raw, raw_past_or_ident, letter_b, letters, word, symbols, kind_among, past_first, lexeme, first_token}
@@ -23,7 +24,7 @@ use Rattle.rustc_lexer.specs.means.Lifetime.{is_marked, plain_lifetime, lifetime
 use Rattle.rustc_lexer.specs.means.Literal.{literal}
 use Rattle.rustc_lexer.specs.means.Quoted.{byte_str_body, char_body}
 use Rattle.rustc_lexer.specs.means.Scan.{IsLocal, after, and_then, begins, bytes_of, gives, next_is, read_as, run_len, token_by}
-use Rattle.rustc_lexer.specs.Texts.{IsGrammar, AgreePast}
+use Rattle.rustc_lexer.specs.Locality.{IsGrammar, AgreePast}
 use Rattle.rustc_lexer.specs.laws.Choice.{by_test, EachArm, by_arm, at_char}
 use Rattle.rustc_lexer.specs.laws.Family.{EachFamily, each_family}
 use Rattle.rustc_lexer.specs.laws.Lifetime.{unquoted_name, quoted_name, name_of, name_local, quoted_name_at, is_raw_told, raw, is_character_told}

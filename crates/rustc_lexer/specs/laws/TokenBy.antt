@@ -3,7 +3,7 @@ use Rattle.std.proofs.Common.{◌≡◌, ℕ, zero, suc, ◌+◌, ◌<◌, ◌�
 use lib.Utf8.{encodes, scalars, scalar}
 use Rattle.std.proofs.lemmas.Str.{chars-append, chars-encodes, encodes-chars, scalars-chars, encodes-append, IsCharBoundary-from_take, IsUtf8-drop, length-le-encodes}
 use Rattle.rustc_lexer.specs.declared.token.TokenKind.{TokenKind}
-use Rattle.rustc_lexer.specs.Texts.{IsText, IsGrammar, AgreePast}
+use Rattle.rustc_lexer.specs.Locality.{IsText, IsGrammar, AgreePast}
 use Rattle.rustc_lexer.specs.laws.Texts.{agree_inside}
 use Rattle.rustc_lexer.specs.means.Scan.{IsLocal, token_by}
 

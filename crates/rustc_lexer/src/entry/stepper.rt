@@ -3,12 +3,12 @@ ghost use Rattle.std.specs.Prelude.{◌≡◌, ◌+◌, ◌<◌, List, ℕ, leng
 ghost use Rattle.rustc_lexer.specs.declared.edition.Edition.TheVariants.{E2024};
 ghost use Rattle.rustc_lexer.specs.declared.token.Token.{Token};
 ghost use Rattle.rustc_lexer.specs.Classes.{Fits};
-ghost use Rattle.rustc_lexer.specs.Cuts.{tokens_by};
-ghost use Rattle.rustc_lexer.specs.Edition.{first_token_in, year};
+ghost use Rattle.rustc_lexer.specs.Tokens.{tokens_by, tokens_of};
+ghost use Rattle.rustc_lexer.specs.means.Edition.{first_token_in};
+ghost use Rattle.rustc_lexer.specs.LanguageIn.{year};
 ghost use Rattle.rustc_lexer.specs.LanguageText.{part};
 ghost use Rattle.rustc_lexer.specs.means.Lexeme.{first_token};
-ghost use Rattle.rustc_lexer.specs.Texts.{IsGrammar};
-ghost use Rattle.rustc_lexer.specs.Tokens.{tokens_of};
+ghost use Rattle.rustc_lexer.specs.Locality.{IsGrammar};
 
 use crate::edition::{Edition, token_in};
 use crate::entry::tally::Tally;
@@ -82,7 +82,8 @@ impl Steps {
 }
 
 impl Stepper for Steps {
-    ghost use Rattle.rustc_lexer.specs.Edition.{first_token_in, year};
+    ghost use Rattle.rustc_lexer.specs.means.Edition.{first_token_in};
+    ghost use Rattle.rustc_lexer.specs.LanguageIn.{year};
     ghost use Rattle.rustc_lexer.specs.laws.Edition.{edition_grammar};
 
     ghost grammar = { λ s. first_token_in s.edition };

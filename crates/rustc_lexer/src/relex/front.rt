@@ -5,8 +5,8 @@
 ghost use Rattle.std.specs.Prelude.{◌≡◌, ◌+◌, ◌-◌, ◌*◌, ◌<◌, ◌≤◌, ◌^◌, List, length, map, ℕ, true, false, IsCharBoundary, max};
 ghost use Rattle.rustc_lexer.specs.declared.token.Token.{Token};
 ghost use Rattle.rustc_lexer.specs.Edits.{kept_front};
-ghost use Rattle.rustc_lexer.specs.Settled.{has_two};
-ghost use Rattle.rustc_lexer.specs.Cuts.{bound};
+ghost use Rattle.rustc_lexer.specs.Locality.{has_two};
+ghost use Rattle.rustc_lexer.specs.Tokens.{bound};
 ghost use Rattle.rustc_lexer.specs.Relexing.{IsBound, HasLengths, IsFollowed};
 ghost use Rattle.rustc_lexer.specs.means.Relexing.{IsFront};
 

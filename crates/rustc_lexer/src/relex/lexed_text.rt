@@ -2,12 +2,11 @@
 ghost use Rattle.std.specs.Prelude.{◌≡◌, ◌+◌, ◌≤◌, ◌↔◌, IfOk, IfErr, OnOk, OnErr, IsTrue, length};
 ghost use Rattle.rustc_lexer.specs.declared.edition.Edition.TheVariants.{E2024};
 ghost use Rattle.rustc_lexer.specs.Classes.{Fits};
-ghost use Rattle.rustc_lexer.specs.Cuts.{tokens_by};
+ghost use Rattle.rustc_lexer.specs.Tokens.{tokens_by, tokens_of};
 ghost use Rattle.rustc_lexer.specs.Edits.{IsEdit, IsInside, apply, relexed_of};
 ghost use Rattle.rustc_lexer.specs.LanguageHolds.{HoldsTheOnlyTokensBy};
 ghost use Rattle.rustc_lexer.specs.LanguageText.{part};
 ghost use Rattle.rustc_lexer.specs.means.Lexeme.{first_token};
-ghost use Rattle.rustc_lexer.specs.Tokens.{tokens_of};
 
 use crate::edition::Edition;
 use crate::entry::stepper::{Stepper, Steps};
@@ -36,9 +35,9 @@ impl<S: Stepper> Model for LexedText<S> {
     ghost use Rattle.std.specs.Prelude.{◌≡◌};
     ghost use Rattle.std.specs.String.{string_bytes};
     ghost use Rattle.rustc_lexer.specs.Pieces.{Held};
-    ghost use Rattle.rustc_lexer.specs.Cuts.{tokens_by};
+    ghost use Rattle.rustc_lexer.specs.Tokens.{tokens_by};
     ghost use Rattle.rustc_lexer.specs.means.Landmarks.{AreBounds};
-    ghost use Rattle.rustc_lexer.specs.Texts.{IsText};
+    ghost use Rattle.rustc_lexer.specs.Locality.{IsText};
 
     ghost Value = { Held S };
 

@@ -4,11 +4,11 @@ ghost use Rattle.rustc_lexer.specs.declared.relex.relexing.Change.{Change};
 ghost use Rattle.rustc_lexer.specs.declared.token.Token.{Token};
 ghost use Rattle.rustc_lexer.specs.Edits.{relexed_of};
 ghost use Rattle.rustc_lexer.specs.Classes.{Fits};
-ghost use Rattle.rustc_lexer.specs.Cuts.{tokens_by};
+ghost use Rattle.rustc_lexer.specs.Tokens.{tokens_by};
 ghost use Rattle.rustc_lexer.specs.Relexing.{IsBound};
 ghost use Rattle.rustc_lexer.specs.Relexing as spec;
 ghost use Rattle.rustc_lexer.specs.means.Relexing.{damage_of};
-ghost use Rattle.rustc_lexer.specs.Texts.{IsGrammar};
+ghost use Rattle.rustc_lexer.specs.Locality.{IsGrammar};
 
 use crate::entry::stepper::Stepper;
 use crate::relex::front::{Bound, Damage, Measured, follow, kept_front};

@@ -1,10 +1,9 @@
 //! How far the tokens of a text are sure, however the text goes on.
 ghost use Rattle.rustc_lexer.specs.declared.edition.Edition.TheVariants.{E2024};
 ghost use Rattle.rustc_lexer.specs.Classes.{Fits};
-ghost use Rattle.rustc_lexer.specs.Cuts.{tokens_by};
+ghost use Rattle.rustc_lexer.specs.Tokens.{tokens_by, tokens_of};
 ghost use Rattle.rustc_lexer.specs.LanguageText.{part};
-ghost use Rattle.rustc_lexer.specs.Settled.{AreLocal, IsSettled, StaysUpTo};
-ghost use Rattle.rustc_lexer.specs.Tokens.{tokens_of};
+ghost use Rattle.rustc_lexer.specs.Locality.{AreLocal, IsSettled, StaysUpTo};
 
 use crate::entry::stepper::{Stepper, Steps};
 use crate::relex::front::two_stand;

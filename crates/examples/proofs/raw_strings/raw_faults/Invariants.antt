@@ -2,8 +2,7 @@ use Rattle.std.proofs.Common.{◌≡◌, ◌++◌}
 use Rattle.rustc_lexer.specs.Pieces.{pieces_from, pieces_of}
 use Rattle.rustc_lexer.specs.LanguageText.{document}
 use Rattle.rustc_lexer.specs.State.{StandsAt}
-use Rattle.rustc_lexer.specs.Tokens.{tokens_of, tokens_left}
-use Rattle.rustc_lexer.specs.TokenText.{HaveTexts}
+use Rattle.rustc_lexer.specs.Tokens.{tokens_of, tokens_left, HaveTexts}
 use Rattle.examples.specs.RawStrings.{faults_of}
 use Rattle.examples.proofs.raw_strings.raw_faults.Given as goal
 

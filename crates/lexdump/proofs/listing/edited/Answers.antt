@@ -1,9 +1,8 @@
 use Rattle.std.proofs.Common.{ℕ, List, Result, Ok, ap, ◌∙◌, sym}
 use Rattle.std.proofs.lemmas.Result.{err_from_is_err_and}
 use Rattle.rustc_lexer.specs.declared.token.Token.{Token}
-use Rattle.rustc_lexer.specs.Cuts.{tokens_by}
+use Rattle.rustc_lexer.specs.Tokens.{tokens_by, tokens_of}
 use Rattle.rustc_lexer.specs.LanguageText.{part}
-use Rattle.rustc_lexer.specs.Tokens.{tokens_of}
 use Rattle.lexdump.specs.declared.fault.Fault.{Fault}
 use Rattle.lexdump.specs.Listing.{listing}
 use Rattle.lexdump.specs.Outcome.{listed}

@@ -2,7 +2,8 @@
 ghost use Rattle.std.specs.Prelude.{◌≡◌, IfOk, OnErr, OnOk, length};
 ghost use Rattle.rustc_lexer.specs.declared.edition.Edition.{Edition};
 ghost use Rattle.rustc_lexer.specs.Classes.{Fits};
-ghost use Rattle.rustc_lexer.specs.Edition.{first_token_in, year};
+ghost use Rattle.rustc_lexer.specs.means.Edition.{first_token_in};
+ghost use Rattle.rustc_lexer.specs.LanguageIn.{year};
 ghost use Rattle.rustc_lexer.specs.LanguageHolds.{HoldsTheOnlyTokens};
 ghost use Rattle.rustc_lexer.specs.LanguageText.{part};
 ghost use Rattle.rustc_lexer.specs.Tokens.{tokens_of};

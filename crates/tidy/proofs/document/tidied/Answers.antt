@@ -1,5 +1,5 @@
 use Rattle.std.proofs.Common.{length, ap, arith}
-use Rattle.rustc_lexer.specs.Texts.{IsText}
+use Rattle.rustc_lexer.specs.Locality.{IsText}
 use Rattle.tidy.proofs.DocumentLemmas.{document-law}
 use Rattle.tidy.proofs.document.tidied.Goals as goal
 

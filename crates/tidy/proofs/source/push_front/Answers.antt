@@ -1,7 +1,7 @@
 use Rattle.std.proofs.Common.{◌≡◌, ◌<◌, ◌^◌, ◌++◌, List, ℕ, true, false, length, string_bytes, ap, sym, ◌∙◌, subst}
 use Rattle.tidy.specs.Order.{is_front, begins_with}
 use Rattle.rustc_lexer.specs.LanguageText.{document}
-use Rattle.rustc_lexer.specs.Texts.{IsText}
+use Rattle.rustc_lexer.specs.Locality.{IsText}
 use Rattle.rustc_lexer.specs.Tokens.{tokens_of}
 use Rattle.tidy.proofs.CallLemmas.{on_ok_is}
 use Rattle.tidy.proofs.FirstLemmas.{first-is, made-fits, front-made}

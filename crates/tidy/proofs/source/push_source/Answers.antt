@@ -1,5 +1,5 @@
 use Rattle.std.proofs.Common.{◌≡◌, true, string_bytes, sym, ◌∙◌}
-use Rattle.rustc_lexer.specs.Texts.{IsText}
+use Rattle.rustc_lexer.specs.Locality.{IsText}
 use Rattle.tidy.specs.Order.{is_space}
 use Rattle.tidy.proofs.CallLemmas.{on_ok_then}
 use Rattle.tidy.proofs.FirstLemmas.{first-is, space-first}

@@ -3,7 +3,7 @@ use Rattle.rustc_lexer.specs.declared.token.Token.{Token}
 use Rattle.rustc_lexer.specs.LanguageText.{mode_of}
 use Rattle.rustc_lexer.specs.State.{State, token_past}
 use Rattle.rustc_lexer.specs.means.Taking.{token_at}
-use Rattle.rustc_lexer.specs.Texts.{IsText}
+use Rattle.rustc_lexer.specs.Locality.{IsText}
 use Rattle.rustc_lexer.proofs.AdvanceLemmas.{not_end, takes_pending, stays_at_end, something}
 use Rattle.rustc_lexer.specs.LanguageHolds.{TakesTokenOf}
 use Rattle.rustc_lexer.proofs.LanguageTextLemmas.{advance-language, takes-first}

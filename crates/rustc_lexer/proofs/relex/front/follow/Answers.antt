@@ -1,5 +1,5 @@
 use Rattle.std.proofs.Common.{sym, ap, ◌∙◌, arith, ◌+◌, ◌-◌, ◌≡◌, ◌≤◌, ◌<◌, ◌&&◌, eqb, eqb-true, le-leb, length}
-use Rattle.rustc_lexer.specs.Cuts.{bound}
+use Rattle.rustc_lexer.specs.Tokens.{bound}
 use Rattle.rustc_lexer.specs.Edits.{is_bound}
 use Rattle.rustc_lexer.proofs.BoundLemmas.{is_bound-decide}
 use Rattle.rustc_lexer.proofs.LengthLemmas.{as_many}

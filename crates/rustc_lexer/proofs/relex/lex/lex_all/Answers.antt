@@ -1,6 +1,6 @@
 use Rattle.std.proofs.Common.{◌≡◌, length, drop, refl, sym, ap, ◌∙◌, arith, rules, ◌∷◌, [], length-append}
-use Rattle.rustc_lexer.specs.Cuts.{bound, tokens_by}
-use Rattle.rustc_lexer.specs.Texts.{IsText}
+use Rattle.rustc_lexer.specs.Tokens.{bound, tokens_by}
+use Rattle.rustc_lexer.specs.Locality.{IsText}
 use Rattle.rustc_lexer.proofs.ProgressLemmas.{lexed_place, lexed_more, lexed_whole}
 use Rattle.rustc_lexer.proofs.relex.lex.lex_all.Goals as goal
 use Rattle.rustc_lexer.proofs.relex.lex.lex_all.Goals.{then-number-eq0, else-number-eq0}

@@ -1,5 +1,5 @@
 use Rattle.std.proofs.Common.{◌≡◌, ◌+◌, take}
-use Rattle.rustc_lexer.specs.Cuts.{tokens_by}
+use Rattle.rustc_lexer.specs.Tokens.{tokens_by}
 use Rattle.rustc_lexer.specs.EditLists.{apply_list, AreEdits, lexed_list}
 use Rattle.rustc_lexer.specs.LanguageHolds.{HoldsTheOnlyTokensBy}
 use Rattle.rustc_lexer.proofs.relex.lexed_text.LexedText.edit_all.Given as goal

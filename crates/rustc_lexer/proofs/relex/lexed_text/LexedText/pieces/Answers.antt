@@ -1,5 +1,5 @@
 use Rattle.std.proofs.Common.{sym, ap, ◌∙◌}
-use Rattle.rustc_lexer.specs.Cuts.{tokens_by}
+use Rattle.rustc_lexer.specs.Tokens.{tokens_by}
 use Rattle.rustc_lexer.proofs.PieceLemmas.{cuts_whole}
 use Rattle.rustc_lexer.proofs.relex.lexed_text.LexedText.pieces.Goals as goal
 

@@ -1,8 +1,7 @@
 use Rattle.std.proofs.Common.{List, ℕ, ap, ◌∙◌, string_bytes}
 use Rattle.rustc_lexer.specs.declared.token.Token.{Token}
-use Rattle.rustc_lexer.specs.Cuts.{tokens_by}
+use Rattle.rustc_lexer.specs.Tokens.{tokens_by, tokens_of}
 use Rattle.rustc_lexer.specs.LanguageText.{part}
-use Rattle.rustc_lexer.specs.Tokens.{tokens_of}
 use Rattle.rustc_lexer.proofs.LanguageTextLemmas.{held-in}
 use Rattle.rustc_lexer.proofs.relex.lexed_text.in_edition.LexedText+Steps.set_edition.Goals as goal
 
