@@ -72,7 +72,7 @@ takes_first edition text left token is nonempty e f =
 
 -- the same, where the state is seen as the fields of a value, and its text as a slice
 module _ (edition : Edition) (inside text : List ℕ) (s : Reading) (view : reading edition inside ≡ s) (rest : text ≡ s.rest) where
-  state_is : reading edition text ≡ s
+  pub state_is : reading edition text ≡ s
   state_is = ap (reading edition) (rest ∙ ap (λ (x : Reading). x.rest) (sym view)) ∙ view
 
   pub takes_in : (left : List ℕ) (token : Token) → IsUtf8 text → length text < 2 ^ 32 → (length text == 0) ≡ false → token ≡ first_token_in edition text → left ≡ drop token.len text → TakesFirstIn s (reading edition left) token

@@ -1,4 +1,5 @@
 pub mod BlockGrammar
+pub mod Bulk
 pub mod Classes
 pub mod Cuts
 pub mod Edition
