@@ -1,8 +1,10 @@
 pub mod AdvanceLemmas
+pub mod BitLemmas
 pub mod BlockCommentDepth
 pub mod BlockCommentLoop
 pub mod BoundLemmas
 pub mod BridgeLemmas
+pub mod BulkLemmas
 pub mod CharSteps
 pub mod ClassLemmas
 pub mod CutLemmas
@@ -10,6 +12,7 @@ pub mod EditLemmas
 pub mod EditListLemmas
 pub mod EditionLemmas
 pub mod EmojiLemmas
+pub mod EndsLemmas
 pub mod FamilyLemmas
 pub mod FenceLemmas
 pub mod FindLemmas

@@ -1,3 +1,4 @@
+pub mod Bulk
 pub mod Classes
 pub mod EditLists
 pub mod Edits

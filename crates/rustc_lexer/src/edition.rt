@@ -27,6 +27,8 @@ use std::iter::Iterator;
 use std::marker::Model;
 use std::str::FromStr;
 
+mod fill;
+
 /// An edition of Rust, in the order of their years.
 #[derive(Clone, Copy, Debug, PartialEq, Eq, PartialOrd, Ord)]
 pub enum Edition {

@@ -14,6 +14,7 @@ use crate::token::{FrontmatterAllowed, Token};
 use std::iter::Iterator;
 use std::marker::Model;
 
+mod fill;
 pub(crate) mod stepper;
 mod tally;
 

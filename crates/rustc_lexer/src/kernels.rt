@@ -1,9 +1,10 @@
 //! How far runs of bytes go and where a byte stands, 32 bytes at a time.
 ghost use Rattle.memchr.specs.Find.{IsFirstByte, is_byte, is_byte2};
-ghost use Rattle.std.specs.Prelude.{◌≡◌, ◌≤◌, ℕ, Bool, drop, length, map, not};
+ghost use Rattle.std.specs.Prelude.{◌≡◌, ◌≤◌, ◌<◌, ◌&&◌, ◌||◌, ℕ, suc, Bool, false, drop, length, map, not};
 ghost use Rattle.std.specs.List.{prefix_len};
 ghost use Rattle.std.specs.Simd.Lanes.{mask_l};
 ghost use Rattle.rustc_lexer.specs.means.ByteRuns.{is_continue_byte, is_space_byte, is_decimal_byte, is_hexadecimal_byte, outside};
+ghost use Rattle.rustc_lexer.specs.means.Ends.{bit, IsEnds};
 ghost use Rattle.rustc_lexer.specs.means.Quick.{is_space_lead, turns_word};
 ghost use Rattle.rustc_lexer.specs.means.Scan;
 
@@ -106,6 +107,49 @@ impl ByteClass for Hexadecimal {
             & from_0.simd_ge(u8x32::splat(10))
             & v.simd_ne(u8x32::splat(b'_'))).to_bitmask()
     }
+}
+
+/// Bit k is set where lane k is of a word.
+#[inline(always)]
+fn words(v: u8x64) -> u64
+    ensures { result ≡ mask_l (map is_continue_byte v) }
+{
+    let from_a = (v | u8x64::splat(0x20)) - u8x64::splat(b'a');
+    let from_0 = v - u8x64::splat(b'0');
+    (from_a.simd_lt(u8x64::splat(26))
+        | from_0.simd_lt(u8x64::splat(10))
+        | v.simd_eq(u8x64::splat(b'_'))).to_bitmask()
+}
+
+/// Bit k is set where lane k is white space.
+#[inline(always)]
+fn spaces(v: u8x64) -> u64
+    ensures { result ≡ mask_l (map is_space_byte v) }
+{
+    let from_tab = v - u8x64::splat(b'\t');
+    (v.simd_eq(u8x64::splat(b' ')) | from_tab.simd_lt(u8x64::splat(5))).to_bitmask()
+}
+
+/// Bit k is set where bytes k - 1 and k are not both of a word, nor both white space.
+#[inline(always)]
+fn apart(words: u64, spaces: u64) -> u64
+    ensures first { bit result 0 ≡ false }
+    ensures later { (k : ℕ) → suc k < 64 → bit result (suc k)
+        ≡ not ((bit words k && bit words (suc k)) || (bit spaces k && bit spaces (suc k))) }
+{
+    !(((words << 1) & words) | ((spaces << 1) & spaces)) & !1
+}
+
+/// Where the runs of words and of white space end in the next 64 bytes: nothing where there are fewer.
+#[inline(never)]
+pub(crate) fn ends_of_runs(bytes: &[u8]) -> u64
+    ensures { IsEnds bytes.now result }
+{
+    if bytes.len() < 64 {
+        return 0;
+    }
+    let v = u8x64::from_slice(bytes);
+    apart(words(v), spaces(v))
 }
 
 /// How many bytes at the front are in the class. It mostly ends within 32 bytes.

@@ -33,6 +33,7 @@ pub(crate) mod quick;
 pub(crate) mod quoted;
 pub(crate) mod raw;
 mod symbol;
+pub(crate) mod told;
 mod word;
 
 /// The token at the front of a text. At the end of the text it is `Eof`, of length 0.

@@ -5,6 +5,7 @@
 //! a [`LexedText`], which keeps a text with its tokens and takes edits, does.
 #![tactic(auto)]
 
+mod bulk;
 mod classes;
 mod cursor;
 mod edition;
@@ -18,6 +19,7 @@ mod scan;
 mod shebang;
 mod token;
 
+pub use bulk::Record;
 pub use classes::{
     UNICODE_VERSION, fits, is_horizontal_whitespace, is_id_continue, is_id_start, is_whitespace,
 };

@@ -1,0 +1,132 @@
+-- One bit of a word, through each operation on it.
+use Rattle.std.proofs.Common.{◌≡◌, ℕ, zero, suc, ◌+◌, ◌-◌, ◌*◌, ◌/◌, ◌%◌, ◌^◌, ◌<◌, ◌≤◌, min, max, Bool, true, false, true≢false, not, ◌&&◌, ◌||◌, ◌==◌, List, get_or, cond, refl, sym, ap, ap₂, ◌∙◌, subst, arith, w64, bit_and, bit_or, inl, inr}
+use Rattle.std.specs.Int.{bit_at}
+use Rattle.std.proofs.lemmas.Bool.{agree_below_at, and_right, cases_lt}
+use Rattle.std.proofs.lemmas.Nat.{and_le_l, and_le_r, or_lt, shl-shr, shr-shr, shr_le}
+use Rattle.std.proofs.lemmas.Nat.Bits.{bit_at_and, bit_at_or, bit_at_not, bit_at-lt, bit_at-zero, bit_at_above, bit_at-trailing_zeros}
+use Rattle.std.proofs.lemmas.Simd.{bit_mask_l}
+use lib.Count.{count_trailing_zeros}
+use lib.Pow.{field, mod-mod-pow}
+use lib.Lanes.{mask_l}
+use Rattle.rustc_lexer.specs.means.Ends.{bit}
+
+bit_cases : (P : ℕ → Type 0) → P 0 → P 1 → (x : ℕ) → x < 2 → P x
+bit_cases P p q zero h = p
+bit_cases P p q (suc zero) h = q
+bit_cases P p q (suc (suc r)) h = absurd (omega arith)
+
+two_bits : (P : ℕ → ℕ → Type 0) → P 0 0 → P 0 1 → P 1 0 → P 1 1 → (a b i : ℕ) → P (bit_at a i) (bit_at b i)
+two_bits P p q r s a b i = bit_cases (λ x. P x (bit_at b i)) (bit_cases (P 0) p q (bit_at b i) (bit_at-lt b i)) (bit_cases (P 1) r s (bit_at b i) (bit_at-lt b i)) (bit_at a i) (bit_at-lt a i)
+
+bit-and : (a b i : ℕ) → bit (bit_and a b) i ≡ (bit a i && bit b i)
+unfolding bit
+bit-and a b i = ap (λ n. n == 1) (bit_at_and a b i) ∙ two_bits (λ x y. (min x y == 1) ≡ ((x == 1) && (y == 1))) refl refl refl refl a b i
+
+bit-or : (a b i : ℕ) → bit (bit_or a b) i ≡ (bit a i || bit b i)
+unfolding bit
+bit-or a b i = ap (λ n. n == 1) (bit_at_or a b i) ∙ two_bits (λ x y. (max x y == 1) ≡ ((x == 1) || (y == 1))) refl refl refl refl a b i
+
+abbrev flip : ℕ → ℕ
+flip a = 2 ^ 64 - 1 - a
+
+bit-flip : (a i : ℕ) → a < 2 ^ 64 → i < 64 → bit (flip a) i ≡ not (bit a i)
+unfolding bit
+bit-flip a i ha hi = ap (λ n. n == 1) (bit_at_not w64 a i ha hi) ∙ bit_cases (λ x. ((1 - x) == 1) ≡ not (x == 1)) refl refl (bit_at a i) (bit_at-lt a i)
+
+bit-mod : (n i : ℕ) → i < 64 → bit (n % 2 ^ 64) i ≡ bit n i
+unfolding bit
+bit-mod n i h =
+    let m = 63 - i in
+    let e : m + 1 + i ≡ 64 = omega arith in
+    ap (λ x. x == 1) (subst (λ w. bit_at (n % 2 ^ w) i ≡ bit_at n i) e (ap (λ x. x % 2) (field n (m + 1) i) ∙ mod-mod-pow (n / 2 ^ i) m 1))
+
+bit-shl_one : (k y : ℕ) → suc k < 64 → bit (y * 2 % 2 ^ 64) (suc k) ≡ bit y k
+unfolding bit
+bit-shl_one k y h = bit-mod (y * 2) (suc k) h ∙ ap (λ x. x % 2 == 1) (ap (λ n. y * 2 / 2 ^ n) (let e : suc k ≡ 1 + k = omega arith in e) ∙ (sym (shr-shr (y * 2) 1 k) ∙ ap (λ x. x / 2 ^ k) (shl-shr y 1)))
+
+bit-shr : (y n k : ℕ) → bit (y / 2 ^ n) k ≡ bit y (n + k)
+unfolding bit
+bit-shr y n k = ap (λ x. x % 2 == 1) (shr-shr y n k)
+
+pub bit-mask_l : (ms : List Bool) (i : ℕ) → bit (mask_l ms) i ≡ get_or ms i false
+unfolding bit
+bit-mask_l ms i = ap (λ x. x == 1) (bit_mask_l ms i) ∙ back (get_or ms i false)
+  where
+    back : (b : Bool) → (cond b 1 0 == 1) ≡ b
+    back true = refl
+    back false = refl
+
+bit-above : (x i : ℕ) → x < 2 ^ 64 → 64 ≤ i → bit x i ≡ false
+unfolding bit
+bit-above x i small far = ap (λ n. n == 1) (bit_at_above x 64 i small far)
+
+-- a bit that is set is among the 64
+pub within : (x i : ℕ) → x < 2 ^ 64 → bit x i ≡ true → i < 64
+within x i small set = elim (cases_lt i 64) [ inl near ↦ near | inr far ↦ absurd (true≢false (sym set ∙ bit-above x i small far)) ]
+
+pub bit-zero : (i : ℕ) → bit 0 i ≡ false
+unfolding bit
+bit-zero i = ap (λ n. n == 1) (bit_at-zero i)
+
+-- ---- all bits but the lowest
+
+abbrev high : ℕ
+high = 2 ^ 64 - 2
+
+high-low : bit high 0 ≡ false
+unfolding bit
+high-low = refl
+
+high-high : (k : ℕ) → suc k < 64 → bit high (suc k) ≡ true
+unfolding bit
+high-high k h = agree_below_at (λ j. bit high (suc j)) (λ _. true) 63 k refl (omega arith)
+
+and-true : (b : Bool) → (b && true) ≡ b
+and-true true = refl
+and-true false = refl
+
+pub low-off : (x : ℕ) → bit (bit_and x high) 0 ≡ false
+low-off x = bit-and x high 0 ∙ and_right _ _ high-low
+
+pub high-stays : (x k : ℕ) → suc k < 64 → bit (bit_and x high) (suc k) ≡ bit x (suc k)
+high-stays x k h = bit-and x high (suc k) ∙ (ap (λ t. bit x (suc k) && t) (high-high k h) ∙ and-true (bit x (suc k)))
+
+-- ---- bits that do not stand together in either of two words
+
+module _ (w s : ℕ) (fits : w < 2 ^ 64) (fits_too : s < 2 ^ 64) where
+  abbrev together : ℕ
+  together = bit_or (bit_and (w * 2 % 2 ^ 64) w) (bit_and (s * 2 % 2 ^ 64) s)
+
+  pub apart-first : bit (bit_and (flip together) high) 0 ≡ false
+  apart-first = low-off (flip together)
+
+  pub apart-later : (k : ℕ) → suc k < 64 → bit (bit_and (flip together) high) (suc k) ≡ not ((bit w k && bit w (suc k)) || (bit s k && bit s (suc k)))
+  apart-later k h =
+      let small : together < 2 ^ 64 = or_lt 64 (bit_and (w * 2 % 2 ^ 64) w) (bit_and (s * 2 % 2 ^ 64) s) (omega (arith, and_le_r (w * 2 % 2 ^ 64) w)) (omega (arith, and_le_r (s * 2 % 2 ^ 64) s)) in
+      high-stays (flip together) k h ∙ (bit-flip together (suc k) small h ∙ ap not (bit-or _ _ (suc k) ∙ ap₂ (λ a b. a || b) (both w) (both s)))
+    where
+      both : (x : ℕ) → bit (bit_and (x * 2 % 2 ^ 64) x) (suc k) ≡ (bit x k && bit x (suc k))
+      both x = bit-and (x * 2 % 2 ^ 64) x (suc k) ∙ ap (λ t. t && bit x (suc k)) (bit-shl_one k x h)
+
+-- ---- bits past a place, of a word of 64 bits
+
+module _ (x n : ℕ) where
+  pub past-first : bit (bit_and (x / 2 ^ n) high) 0 ≡ false
+  past-first = low-off (x / 2 ^ n)
+
+  pub past-later : x < 2 ^ 64 → (k : ℕ) → bit (bit_and (x / 2 ^ n) high) (suc k) ≡ bit x (n + suc k)
+  past-later small k = elim (cases_lt (suc k) 64) [
+    | inl near ↦ high-stays (x / 2 ^ n) k near ∙ bit-shr x n (suc k)
+    | inr far ↦ bit-above (bit_and (x / 2 ^ n) high) (suc k) (omega (arith, and_le_l (x / 2 ^ n) high, shr_le x n)) far ∙ sym (bit-above x (n + suc k) small (omega arith))
+  ]
+
+-- ---- the lowest bit
+
+module _ (x : ℕ) (some : 0 < x) (small : x < 2 ^ 64) where
+  pub lowest : bit x (count_trailing_zeros 64 x) ≡ true
+  unfolding bit
+  lowest = ap (λ n. n == 1) (bit_at-trailing_zeros w64 x some small).1
+
+  pub below-lowest : (k : ℕ) → k < count_trailing_zeros 64 x → bit x k ≡ false
+  unfolding bit
+  below-lowest k l = ap (λ n. n == 1) ((bit_at-trailing_zeros w64 x some small).2 k l)

@@ -1,0 +1,213 @@
+-- A room that is filled from the front with the tokens of a text.
+use Rattle.std.proofs.Common.{All, ◌≡◌, ℕ, zero, suc, ◌+◌, ◌<◌, ◌≤◌, List, [], ◌∷◌, ◌++◌, length, map, take, drop, min, false, ◌==◌, inl, inr, refl, sym, ap, subst, ◌∙◌, arith, slice_set, length-drop}
+use Rattle.std.proofs.lemmas.Bool.{cases_lt, ne_eqb}
+use Rattle.std.proofs.lemmas.List.{take-append-drop, take_more_set, drop-set-lt, drop-drop, drop_all, length-set, map-append}
+use Rattle.std.proofs.lemmas.List.Elements.{All-head, All-tail}
+use Rattle.std.proofs.lemmas.Str.{IsCharBoundary-from_drop}
+use Rattle.std.proofs.Math.Nat.{min-eq_left, min-eq_right, min-le_right}
+use Rattle.rustc_lexer.specs.declared.token.Token.{Token}
+use Rattle.rustc_lexer.specs.declared.edition.Edition.{Edition}
+use Rattle.rustc_lexer.specs.declared.edition.Edition.TheVariants.{E2024}
+use Rattle.rustc_lexer.specs.Bulk.{IsFilled, state_past}
+use Rattle.rustc_lexer.specs.Tokens.{bound, tokens_by, tokens_of, tokens_left, Partitions, TakesToken}
+use Rattle.rustc_lexer.specs.State.{State}
+use Rattle.rustc_lexer.specs.Locality.{IsText, IsGrammar}
+use Rattle.rustc_lexer.specs.LanguageText.{Mode, part}
+use Rattle.rustc_lexer.specs.means.Lexeme.{first_token}
+use Rattle.rustc_lexer.specs.means.Taking.{advance}
+use Rattle.rustc_lexer.specs.laws.Lookahead.{first_token_grammar}
+use Rattle.rustc_lexer.proofs.CutLemmas.{IsCutAt, at_bound, tokens-cons, tokens-nil}
+use Rattle.rustc_lexer.proofs.ProgressLemmas.{IsNext, IsPlace, next-from_drop}
+use Rattle.rustc_lexer.proofs.StateLemmas.{state, past_token, advance-some}
+use Rattle.rustc_lexer.proofs.TokensLemmas.{partitions, restarts}
+
+-- the first `count` tokens are written, and the rest of the room is as it was
+pub record IsWritten {X : Type 0} (written : Token → X) (tokens : List Token) (room filled : List X) (count : ℕ) : Type 0 where
+  pub front : take count filled ≡ map written (take count tokens)
+  pub back : drop count filled ≡ drop count room
+  pub few : count ≤ length tokens
+  pub within : count ≤ length room
+  pub long : length filled ≡ length room
+
+pub none_written : {X : Type 0} (written : Token → X) (tokens : List Token) (room : List X) → IsWritten written tokens room room 0
+none_written written tokens room = record { front = refl; back = refl; few = omega arith; within = omega arith; long = refl }
+
+module _ {X : Type 0} (written : Token → X) (tokens left : List Token) (room filled : List X) (count : ℕ) (token : Token) (is : IsWritten written tokens room filled count) (next : drop count tokens ≡ token ∷ left) (fits : count < length filled) where
+  pub one_written : (x : X) → x ≡ written token → IsWritten written tokens room (slice_set filled count x) (count + 1)
+  one_written x e =
+      let more : count + 1 ≡ suc count = omega arith in
+      let step : IsNext tokens count token = next-from_drop tokens count token left next in
+      let low : count < count + 1 = omega arith in
+      record {
+        front = take_more_set filled count x fits ∙ (ap (λ l. l ++ x ∷ []) is.front ∙ (ap (λ y. map written (take count tokens) ++ y ∷ []) e
+            ∙ (sym (map-append written (take count tokens) (token ∷ [])) ∙ ap (map written) (sym step.more ∙ ap (λ n. take n tokens) (sym more)))));
+        back = drop-set-lt (count + 1) filled count x low ∙ (sym (drop-drop 1 count filled) ∙ (ap (drop 1) is.back ∙ drop-drop 1 count room));
+        few = let n = step.number in omega arith;
+        within = let l = is.long in omega arith;
+        long = length-set filled count x ∙ is.long;
+      }
+
+-- either no token is left, or no room
+pub all_written : {X : Type 0} (written : Token → X) (tokens : List Token) (room filled : List X) (count : ℕ) → IsWritten written tokens room filled count → length tokens ≤ count → IsFilled written tokens room filled count
+all_written written tokens room filled count is all = record {
+  as_many = let n : length tokens ≤ length room = omega (arith, is.within) in let e : count ≡ length tokens = omega (arith, is.few) in e ∙ sym (min-eq_right n);
+  tokens = sym (take-append-drop count filled) ∙ (ap (λ l. l ++ drop count filled) is.front ∙ ap (λ l. map written (take count tokens) ++ l) is.back);
+}
+
+pub full_written : {X : Type 0} (written : Token → X) (tokens : List Token) (room filled : List X) (count : ℕ) → IsWritten written tokens room filled count → length filled ≤ count → IsFilled written tokens room filled count
+full_written written tokens room filled count is full = record {
+  as_many = let n : length room ≤ length tokens = omega (arith, is.few, is.long) in let e : count ≡ length room = omega (arith, is.within, is.long) in e ∙ sym (min-eq_left n);
+  tokens = sym (take-append-drop count filled) ∙ (ap (λ l. l ++ drop count filled) is.front ∙ ap (λ l. map written (take count tokens) ++ l) is.back);
+}
+
+-- ---- where the tokens end in the text
+
+module _ {first : List ℕ → Token} (law : IsGrammar first) (text : List ℕ) (is : IsText text) (count at : ℕ) (place : at ≡ bound (tokens_by first text) count) where
+  cut : IsCutAt first text (tokens_by first text) count
+  cut = at_bound law count text is
+
+  pub stands : IsPlace text at
+  stands = rw place record { inside = cut.inside; boundary = IsCharBoundary-from_drop text _ cut.inside cut.past.utf8; front = cut.front; past = cut.past }
+
+  pub next_token : at < length text → drop count (tokens_by first text) ≡ first (drop at text) ∷ tokens_by first (drop (first (drop at text)).len (drop at text))
+  next_token more =
+      let some : 0 < length (drop at text) = omega (arith, length-drop at text) in
+      cut.rest ∙ (ap (λ p. tokens_by first (drop p text)) (sym place) ∙ tokens-cons law (drop at text) stands.past some)
+
+  pub next_place : at < length text → at + (first (drop at text)).len ≡ bound (tokens_by first text) (count + 1)
+  next_place more =
+      let step : IsNext (tokens_by first text) count (first (drop at text)) = next-from_drop _ count _ _ (next_token more) in
+      let e : count + 1 ≡ suc count = omega arith in
+      let z : bound (tokens_by first text) (suc count) ≡ at + (first (drop at text)).len = step.end ∙ ap (λ n. n + (first (drop at text)).len) (sym place) in
+      sym (ap (bound (tokens_by first text)) e ∙ z)
+
+  pub next_some : at < length text → 0 < (first (drop at text)).len
+  next_some more = law.not_empty (drop at text) stands.past (omega (arith, length-drop at text))
+
+  pub over : length text ≤ at → length (tokens_by first text) ≤ count
+  over all =
+      let none : drop (bound (tokens_by first text) count) text ≡ [] = drop_all _ text (omega (arith, place)) in
+      let gone : drop count (tokens_by first text) ≡ [] = cut.rest ∙ (ap (tokens_by first) none ∙ tokens-nil first) in
+      let no : length (drop count (tokens_by first text)) ≡ 0 = ap length gone in
+      omega (arith, length-drop count (tokens_by first text))
+
+-- ---- the state past some tokens, where no frontmatter is allowed
+
+pub plain_state : (s : State) (text : List ℕ) → s.pending ≡ 0 → s.rest ≡ text → s.mode ≡ part E2024 → s ≡ state 0 text (part E2024)
+plain_state s text p r a = ap (λ n. state n s.rest s.mode) p ∙ (ap (λ xs. state 0 xs s.mode) r ∙ ap (state 0 text) a)
+
+pub state_past-no : (text : List ℕ) → IsText text → (s : State) → s ≡ state 0 text (part E2024) → (count : ℕ) → count ≤ length (tokens_of (part E2024) text) → state_past count s ≡ state 0 (drop (bound (tokens_of (part E2024) text) count) text) (part E2024)
+state_past-no text is s e zero few = e
+state_past-no text is s e (suc count) few =
+    let all : List Token = tokens_of (part E2024) text in
+    let by : all ≡ tokens_by first_token text = refl in
+    let at : ℕ = bound all count in
+    let place : at ≡ bound (tokens_by first_token text) count = ap (λ ts. bound ts count) by in
+    let rest : List ℕ = drop at text in
+    let more : at < length text = some_left text is count at place (let n : length all ≡ length (tokens_by first_token text) = ap length by in omega arith) in
+    let some : (length rest == 0) ≡ false = ne_eqb (length rest) 0 (λ none. omega (arith, length-drop at text)) in
+    let ih : state_past count s ≡ state 0 rest (part E2024) = state_past-no text is s e count (omega arith) in
+    let taken : (advance (state 0 rest (part E2024))).1 ≡ past_token rest (part E2024) (first_token rest) = ap (λ (r : Token × State). r.1) (advance-some 0 rest (part E2024) (state 0 rest (part E2024)) refl some) in
+    let one : count + 1 ≡ suc count = omega arith in
+    let far : at + (first_token rest).len ≡ bound all (suc count) = next_place first_token_grammar text is count at place more ∙ (ap (bound (tokens_by first_token text)) one ∙ ap (λ ts. bound ts (suc count)) (sym by)) in
+    ap (λ (x : State). (advance x).1) ih ∙ (taken ∙ ap (λ xs. state 0 xs (part E2024)) (drop-drop (first_token rest).len at text ∙ ap (λ n. drop n text) far))
+  where
+    some_left : (text : List ℕ) → IsText text → (count at : ℕ) → at ≡ bound (tokens_by first_token text) count → count < length (tokens_by first_token text) → at < length text
+    some_left text is count at place few = elim (cases_lt at (length text)) [
+      | inl near ↦ near
+      | inr far ↦ absurd (let o = over first_token_grammar text is count at place far in omega arith)
+    ]
+
+-- each token has a byte at least
+pub count_bound : (tokens : List Token) → All (λ t. 0 < t.len) tokens → (count : ℕ) → count ≤ length tokens → count ≤ bound tokens count
+count_bound tokens some zero few = omega arith
+count_bound [] some (suc count) few = absurd (omega arith)
+count_bound (t ∷ ts) some (suc count) few = let ih = count_bound ts (All-tail (λ (t : Token). 0 < t.len) t ts some) count (omega arith) in let one = All-head (λ (t : Token). 0 < t.len) t ts some in omega arith
+
+pub fewer_left : (text left : List ℕ) (tokens : List Token) → Partitions text tokens → (room count : ℕ) → count ≡ min room (length tokens) → left ≡ drop (bound tokens count) text → length left + count ≤ length text
+fewer_left text left tokens parts room count e cut =
+    let few : count ≤ length tokens = omega (arith, min-le_right room (length tokens)) in
+    let inside = (parts.boundaries count few).0 in
+    let long : length left ≡ length (drop (bound tokens count) text) = ap length cut in
+    omega (arith, inside, long, length-drop (bound tokens count) text, count_bound tokens parts.not_empty count few)
+
+pub shorter_left : (text left : List ℕ) (tokens : List Token) → Partitions text tokens → (room count : ℕ) → count ≡ min room (length tokens) → left ≡ drop (bound tokens count) text → 0 < room → 0 < length text → length left < length text
+shorter_left text left tokens parts room count e cut some_room some_text =
+    let some : 0 < length tokens = elim (cases_lt 0 (length tokens)) [
+      | inl more ↦ more
+      | inr none ↦ absurd (let n : length tokens ≡ 0 = omega arith in let w : bound tokens (length tokens) ≡ 0 = ap (bound tokens) n in omega (arith, w, parts.whole))
+    ] in
+    let counted : 0 < count = elim (cases_lt room (length tokens)) [
+      | inl near ↦ let le : room ≤ length tokens = omega arith in omega (arith, e, min-eq_left le)
+      | inr far ↦ omega (arith, e, min-eq_right far)
+    ] in
+    omega (arith, counted, fewer_left text left tokens parts room count e cut)
+
+-- ---- what a call of `fill` leaves
+
+pub record Fills {X : Type 0} (written : Token → X) (s t : State) (room filled : List X) (count : ℕ) : Type 0 where
+  pub holds : IsFilled written (tokens_left s) room filled count
+  pub state_is : t ≡ state_past count s
+  pub left : tokens_left t ≡ drop count (tokens_left s)
+  pub rest : t.rest ≡ drop (bound (tokens_left s) count) s.rest
+  pub progress : 0 < length room → 0 < length s.rest → length t.rest < length s.rest
+
+pub fills : {X : Type 0} (written : Token → X) (s t : State) (text : List ℕ) → IsText text → text ≡ s.rest → s.pending ≡ 0 → s.mode ≡ part E2024 → (room filled : List X) (count bytes : ℕ)
+    → IsFilled written (tokens_of (part E2024) text) room filled count → bytes ≡ bound (tokens_of (part E2024) text) count → t ≡ state 0 (drop bytes s.rest) s.mode → Fills written s t room filled count
+fills written s t text is e pending none room filled count bytes filling at after =
+    let all : tokens_of (part E2024) text ≡ tokens_left s = ap (tokens_of (part E2024)) e ∙ ap (λ (a : Mode). tokens_of a s.rest) (sym none) in
+    let whole : IsText s.rest = subst IsText e is in
+    let here : IsFilled written (tokens_left s) room filled count = subst (λ (ts : List Token). IsFilled written ts room filled count) all filling in
+    let no : tokens_left s ≡ tokens_of (part E2024) s.rest = ap (λ (a : Mode). tokens_of a s.rest) none in
+    let few : count ≤ length (tokens_of (part E2024) s.rest) = omega (arith, here.as_many, min-le_right (length room) (length (tokens_left s)), ap length no) in
+    let end : bytes ≡ bound (tokens_of (part E2024) s.rest) count = at ∙ ap (λ (ts : List Token). bound ts count) (all ∙ no) in
+    let past : t ≡ state 0 (drop (bound (tokens_of (part E2024) s.rest) count) s.rest) (part E2024) = after ∙ (ap (λ n. state 0 (drop n s.rest) s.mode) end ∙ ap (λ (a : Mode). state 0 (drop (bound (tokens_of (part E2024) s.rest) count) s.rest) a) none) in
+    record {
+      holds = here;
+      state_is = past ∙ sym (state_past-no s.rest whole s (plain_state s s.rest pending refl none) count few);
+      left = ap (λ (x : State). tokens_left x) past ∙ (restarts E2024 s.rest whole count few ∙ sym (ap (drop count) no));
+      rest = ap (λ (x : State). x.rest) past ∙ ap (λ (ts : List Token). drop (bound ts count) s.rest) (sym no);
+      progress = λ places some. shorter_left s.rest t.rest (tokens_of (part E2024) s.rest) (partitions s.rest (part E2024) whole) (length room) count (here.as_many ∙ ap (λ (ts : List Token). min (length room) (length ts)) no) (ap (λ (x : State). x.rest) past) places some;
+    }
+
+pub record FillsIn {X : Type 0} (written : Token → X) (s t : State) (room filled : List X) (count : ℕ) : Type 0 where
+  pub holds : IsFilled written (tokens_left s) room filled count
+  pub left : tokens_left t ≡ drop count (tokens_left s)
+  pub rest : t.rest ≡ drop (bound (tokens_left s) count) s.rest
+  pub progress : 0 < length room → 0 < length s.rest → length t.rest < length s.rest
+
+pub fills_in : {X : Type 0} (written : Token → X) (edition : Edition) (text left : List ℕ) → IsText text → (room filled : List X) (count bytes : ℕ)
+    → IsFilled written (tokens_of (part edition) text) room filled count → bytes ≡ bound (tokens_of (part edition) text) count → left ≡ drop bytes text → FillsIn written (state 0 text (part edition)) (state 0 left (part edition)) room filled count
+fills_in written edition text left is room filled count bytes filling at cut =
+    let all : List Token = tokens_of (part edition) text in
+    let few : count ≤ length all = omega (arith, filling.as_many, min-le_right (length room) (length all)) in
+    let rest : left ≡ drop (bound all count) text = cut ∙ ap (λ n. drop n text) at in
+    record {
+      holds = filling;
+      left = ap (tokens_of (part edition)) rest ∙ restarts edition text is count few;
+      rest = rest;
+      progress = λ places some. shorter_left text left all (partitions text (part edition) is) (length room) count filling.as_many rest places some;
+    }
+
+-- ---- one token after another
+
+pub none_more : (all : List Token) (count : ℕ) → drop count all ≡ [] → length all ≤ count
+none_more all count none = let n = length-drop count all in let m = ap (λ (ts : List Token). length ts) none in omega arith
+
+module _ (s at past : State) (count : ℕ) (token : Token) (there : at ≡ state_past count s) (left : tokens_left at ≡ drop count (tokens_left s)) (cut : at.rest ≡ drop (bound (tokens_left s) count) s.rest) (takes : TakesToken at token past) where
+  more_is : count + 1 ≡ suc count
+  more_is = omega arith
+
+  pub next_is : drop count (tokens_left s) ≡ token ∷ tokens_left past
+  next_is = sym left ∙ takes.first
+
+  pub past_more : past ≡ state_past (count + 1) s
+  past_more = sym (ap (λ (r : Token × State). r.1) takes.advances) ∙ (ap (λ (x : State). (advance x).1) there ∙ sym (ap (λ n. state_past n s) more_is))
+
+  pub left_more : tokens_left past ≡ drop (count + 1) (tokens_left s)
+  left_more = ap (drop 1) (sym next_is) ∙ drop-drop 1 count (tokens_left s)
+
+  pub rest_more : past.rest ≡ drop (bound (tokens_left s) (count + 1)) s.rest
+  rest_more =
+      let step : IsNext (tokens_left s) count token = next-from_drop (tokens_left s) count token (tokens_left past) next_is in
+      takes.rest ∙ (ap (drop token.len) cut ∙ (drop-drop token.len (bound (tokens_left s) count) s.rest ∙ ap (λ n. drop n s.rest) (sym (ap (bound (tokens_left s)) more_is ∙ step.end))))

@@ -1,0 +1,272 @@
+-- The ends of runs, what is known past them, and the tokens that are told by them.
+use Rattle.std.proofs.Common.{◌≡◌, ◌≢◌, ℕ, zero, suc, ◌+◌, ◌^◌, ◌<◌, ◌≤◌, Bool, true, false, true≢false, not, ◌&&◌, ◌||◌, List, ◌∷◌, length, map, drop, get_or, refl, sym, ap, ap₂, subst, ◌∙◌, arith, length-drop, ◌⊎◌, inl, inr}
+use Rattle.std.specs.List.{prefix_len}
+use Rattle.std.specs.Str.{IsUtf8}
+use Rattle.std.proofs.Math.Seq.{drop-cons}
+use Rattle.std.proofs.lemmas.Bool.{agree_below_at, and_from, and_parts, and_cases, or_parts, or_cases, cases_lt, not-true, not-false, le-ltb, lt-ltb}
+use Rattle.std.proofs.lemmas.List.{get_or-map, get_or-drop}
+use Rattle.std.proofs.lemmas.List.FromFn.{get_or-map-range_with_len}
+use Rattle.std.proofs.lemmas.List.Sums.{prefix_len_is}
+use Rattle.std.proofs.lemmas.Simd.{length-chunk, get_or-chunk}
+use lib.Lanes.{chunk, mask_l}
+use Rattle.unicode_ident.proofs.Computing.{unicode_ident}
+use Rattle.rustc_lexer.specs.declared.edition.Edition.{Edition}
+use Rattle.rustc_lexer.specs.declared.edition.Edition.TheVariants.{E2015, E2018, E2021, E2024}
+use Rattle.rustc_lexer.specs.declared.lexemes.told.TheConstants.{TOLD}
+use Rattle.rustc_lexer.specs.declared.lexemes.family.Family.{Family}
+use Rattle.rustc_lexer.specs.declared.lexemes.family.Family.TheVariants.{Slash, Space, Word, Number, Quote, Str, Emoji, Hash, Symbol}
+use Rattle.rustc_lexer.specs.declared.token.TokenKind.{TokenKind}
+use Rattle.rustc_lexer.specs.declared.token.TokenKind.TheVariants.{Ident, Whitespace, GuardedStrPrefix, RawLifetime, UnknownPrefix, UnknownPrefixLifetime, Eof}
+use Rattle.rustc_lexer.specs.Bulk.{has_fields}
+use Rattle.rustc_lexer.specs.means.Edition.{before_2024, before_2021, changed}
+use Rattle.rustc_lexer.specs.declared.token.Token.{Token}
+use Rattle.rustc_lexer.specs.means.Ends.{bit, goes_on, is_end, IsEnds, told, told_in, StaysWithin}
+use Rattle.rustc_lexer.specs.means.ByteRuns.{is_continue_byte, is_space_byte}
+use Rattle.rustc_lexer.specs.Emoji.{is_emoji}
+use Rattle.rustc_lexer.specs.means.Lexeme.{family_of, symbol_kind}
+use Rattle.rustc_lexer.specs.means.Quick.{is_space_lead, turns_word, IsFirstToken}
+use Rattle.rustc_lexer.specs.means.Scan.{next_is}
+use Rattle.rustc_lexer.proofs.BitLemmas.{bit-mask_l, bit-zero, within}
+use Rattle.rustc_lexer.proofs.QuickLemmas.{word_first, space_first, symbol_first}
+
+pub no_ends : (text : List ℕ) → IsEnds text 0
+no_ends text j set = absurd (true≢false (sym set ∙ bit-zero j))
+
+at_lane : (p : ℕ → Bool) (v : List ℕ) (k m : ℕ) → length v ≡ 64 → m ≡ mask_l (map p v) → k < 64 → bit m k ≡ p (get_or v k 0)
+at_lane p v k m long e l = ap (λ x. bit x k) e ∙ (bit-mask_l (map p v) k ∙ get_or-map p v k 0 false (omega (arith, long)))
+
+-- the ends of runs of the first 64 bytes
+module _ (text : List ℕ) (m words spaces : ℕ) (long : 64 ≤ length text) (small : m < 2 ^ 64) (of_words : words ≡ mask_l (map is_continue_byte (chunk 0 64 text))) (of_spaces : spaces ≡ mask_l (map is_space_byte (chunk 0 64 text)))
+    (first : bit m 0 ≡ false) (later : (k : ℕ) → suc k < 64 → bit m (suc k) ≡ not ((bit words k && bit words (suc k)) || (bit spaces k && bit spaces (suc k)))) where
+  at_byte : (p : ℕ → Bool) (mask k : ℕ) → mask ≡ mask_l (map p (chunk 0 64 text)) → k < 64 → bit mask k ≡ p (get_or text k 0)
+  at_byte p mask k e l = at_lane p (chunk 0 64 text) k mask (length-chunk 0 64 text long) e l ∙ ap p (get_or-chunk 0 64 text k 0 l ∙ ap (λ i. get_or text i 0) (let z : 0 + k ≡ k = omega arith in z))
+
+  is_at : (k : ℕ) → k < 64 → bit m k ≡ is_end text k
+  is_at zero l = first
+  is_at (suc k) l = later k l ∙ ap not (ap₂ (λ a b. a || b) (both is_continue_byte words of_words) (both is_space_byte spaces of_spaces))
+    where
+      both : (p : ℕ → Bool) (mask : ℕ) → mask ≡ mask_l (map p (chunk 0 64 text)) → (bit mask k && bit mask (suc k)) ≡ (p (get_or text k 0) && p (get_or text (suc k) 0))
+      both p mask e = ap₂ (λ a b. a && b) (at_byte p mask k e (omega arith)) (at_byte p mask (suc k) e l)
+
+  pub are_ends : IsEnds text m
+  are_ends j set =
+      let near : j < 64 = within m j small set in
+      (omega arith, λ k le. is_at k (omega arith))
+
+-- ---- what is known past some bytes
+
+end_past : (n : ℕ) (text : List ℕ) (k : ℕ) → is_end (drop n text) (suc k) ≡ is_end text (n + suc k)
+end_past n text k =
+    let e : n + suc k ≡ suc (n + k) = omega arith in
+    ap₂ (λ a b. not (goes_on a b)) (get_or-drop n text k 0) (get_or-drop n text (suc k) 0 ∙ ap (λ i. get_or text i 0) e) ∙ ap (is_end text) (sym e)
+
+pub ends_past : (text : List ℕ) (m n late : ℕ) → IsEnds text m → bit late 0 ≡ false → ((k : ℕ) → bit late (suc k) ≡ bit m (n + suc k)) → IsEnds (drop n text) late
+ends_past text m n late ends first later zero set = absurd (true≢false (sym set ∙ first))
+ends_past text m n late ends first later (suc j) set =
+    let there = ends (n + suc j) (sym (later j) ∙ set) in
+    let room = there.0 in
+    (omega (arith, length-drop n text), at)
+  where
+    at : (k : ℕ) → k ≤ suc j → bit late k ≡ is_end (drop n text) k
+    at zero le = first
+    at (suc k) le = later k ∙ ((ends (n + suc j) (sym (later j) ∙ set)).1 (n + suc k) (omega arith) ∙ sym (end_past n text k))
+
+-- ---- where a run ends
+
+apart : (b : ℕ) → (is_continue_byte b && is_space_byte b) ≡ false
+apart b = elim (cases_lt b 128) [ inl small ↦ agree_below_at (λ x. is_continue_byte x && is_space_byte x) (λ _. false) 128 b refl small | inr wide ↦ rw (le-ltb b 128 wide) refl ]
+
+-- the bytes that go on with one another up to an end
+pub record RunsTo (text : List ℕ) (n : ℕ) : Type 0 where
+  pub room : suc n < length text
+  pub on : (k : ℕ) → k < n → goes_on (get_or text k 0) (get_or text (suc k) 0) ≡ true
+  pub end : goes_on (get_or text n 0) (get_or text (suc n) 0) ≡ false
+
+pub runs_to : (text : List ℕ) (ends n : ℕ) → IsEnds text ends → bit ends (suc n) ≡ true → ((k : ℕ) → k < suc n → bit ends k ≡ false) → RunsTo text n
+runs_to text ends n are set least = record {
+  room = (are (suc n) set).0;
+  on = λ k l. not-false _ (sym ((are (suc n) set).1 (suc k) (omega arith)) ∙ least (suc k) (omega arith));
+  end = not-true _ (sym ((are (suc n) set).1 (suc n) (omega arith)) ∙ set);
+}
+
+module _ (p other : ℕ → Bool) (parted : (b : ℕ) → (p b && other b) ≡ false) (text : List ℕ) (n : ℕ) (room : suc n < length text)
+    (on : (k : ℕ) → k < n → ((p (get_or text k 0) && p (get_or text (suc k) 0)) || (other (get_or text k 0) && other (get_or text (suc k) 0))) ≡ true)
+    (end : ((p (get_or text n 0) && p (get_or text (suc n) 0)) || (other (get_or text n 0) && other (get_or text (suc n) 0))) ≡ false) (first : p (get_or text 0 0) ≡ true) where
+  in_run : (k : ℕ) → k ≤ n → p (get_or text k 0) ≡ true
+  in_run zero l = first
+  in_run (suc k) l = by_cases (in_run k (omega arith)) (or_cases _ _ (on k (omega arith)))
+    where
+      by_cases : p (get_or text k 0) ≡ true → ((p (get_or text k 0) && p (get_or text (suc k) 0)) ≡ true) ⊎ ((other (get_or text k 0) && other (get_or text (suc k) 0)) ≡ true) → p (get_or text (suc k) 0) ≡ true
+      by_cases before (inl same) = (and_parts _ _ same).1
+      by_cases before (inr different) = absurd (true≢false (sym (and_from _ _ before (and_parts (other (get_or text k 0)) _ different).0) ∙ parted (get_or text k 0)))
+
+  past_run : p (get_or text (suc n) 0) ≡ false
+  past_run = elim (and_cases (p (get_or text n 0)) (p (get_or text (suc n) 0)) (or_parts _ _ end).0) [
+    | inl before ↦ absurd (true≢false (sym (in_run n (omega arith)) ∙ before))
+    | inr out ↦ out
+  ]
+
+  run_is : prefix_len p text ≡ suc n
+  run_is = prefix_len_is p text (suc n) 0 (omega arith) (λ k l. in_run k (omega arith)) (λ l. past_run)
+
+-- ---- what the first byte tells
+
+pub told_table : (b : ℕ) (none : TokenKind) → b < 256 → get_or TOLD b none ≡ told b
+unfolding is_emoji unicode_ident
+told_table b none small = get_or-map-range_with_len told 0 256 b b none small (omega arith)
+
+is_word_family : Family → Bool
+is_word_family Word = true
+is_word_family other = false
+
+is_space_family : Family → Bool
+is_space_family Space = true
+is_space_family other = false
+
+is_symbol_family : Family → Bool
+is_symbol_family Symbol = true
+is_symbol_family other = false
+
+holds : (a b : Bool) → (not a || b) ≡ true → a ≡ true → b ≡ true
+holds a b e f = let g = ap (λ t. not t || b) f in sym g ∙ e
+
+word_continues : (b : ℕ) → b < 128 → Word ≡ family_of b → is_continue_byte b ≡ true
+unfolding is_emoji unicode_ident is_word_family
+word_continues b l e = holds _ _ (agree_below_at (λ x. not (is_word_family (family_of x)) || is_continue_byte x) (λ _. true) 128 b refl l) (sym (ap is_word_family e))
+
+space_continues : (b : ℕ) → b < 128 → Space ≡ family_of b → is_space_byte b ≡ true
+unfolding is_emoji unicode_ident is_space_family
+space_continues b l e = holds _ _ (agree_below_at (λ x. not (is_space_family (family_of x)) || is_space_byte x) (λ _. true) 128 b refl l) (sym (ap is_space_family e))
+
+symbol_alone : (b : ℕ) → b < 128 → Symbol ≡ family_of b → not (is_continue_byte b || is_space_byte b) ≡ true
+unfolding is_emoji unicode_ident is_symbol_family
+symbol_alone b l e = holds _ _ (agree_below_at (λ x. not (is_symbol_family (family_of x)) || not (is_continue_byte x || is_space_byte x)) (λ _. true) 128 b refl l) (sym (ap is_symbol_family e))
+
+pub record Tells (b : ℕ) : Type 0 where
+  pub small : b < 128
+  pub by : ((told b ≡ Ident) × (Word ≡ family_of b)) ⊎ (((told b ≡ Whitespace) × (Space ≡ family_of b)) ⊎ ((told b ≡ symbol_kind b) × (Symbol ≡ family_of b)))
+
+pub tells : (b : ℕ) → told b ≢ Eof → Tells b
+tells b some = elim (cases_lt b 128) [
+  | inl small ↦ let at : told b ≡ told_in (family_of b) b = rw (lt-ltb b 128 small) refl in record { small = small; by = by_family (family_of b) refl at }
+  | inr wide ↦ absurd (some (rw (le-ltb b 128 wide) refl))
+]
+  where
+    by_family : (f : Family) → family_of b ≡ f → told b ≡ told_in f b → ((told b ≡ Ident) × (Word ≡ family_of b)) ⊎ (((told b ≡ Whitespace) × (Space ≡ family_of b)) ⊎ ((told b ≡ symbol_kind b) × (Symbol ≡ family_of b)))
+    by_family Word e is = inl (is, sym e)
+    by_family Space e is = inr (inl (is, sym e))
+    by_family Symbol e is = inr (inr (is, sym e))
+    by_family Slash e is = absurd (some is)
+    by_family Number e is = absurd (some is)
+    by_family Quote e is = absurd (some is)
+    by_family Str e is = absurd (some is)
+    by_family Emoji e is = absurd (some is)
+    by_family Hash e is = absurd (some is)
+
+-- ---- a token by its run and the byte past that
+
+module _ (text : List ℕ) (is : IsUtf8 text) (b : ℕ) (rest : List ℕ) (e : text ≡ b ∷ rest) (n next : ℕ) (run : RunsTo text n) (last : next ≡ get_or text (suc n) 0) where
+  front : get_or text 0 0 ≡ b
+  front = ap (λ xs. get_or xs 0 0) e
+
+  counted : (p : ℕ → Bool) → p b ≡ true → prefix_len p text ≡ suc n → n ≡ prefix_len p rest
+  counted p in_class all =
+      let whole : prefix_len p (b ∷ rest) ≡ suc n = sym (ap (prefix_len p) e) ∙ all in
+      let more : prefix_len p (b ∷ rest) ≡ 1 + prefix_len p rest = rw in_class refl in
+      omega arith
+
+  left : drop n rest ≡ next ∷ drop (suc (suc n)) text
+  left = ap (drop (suc n)) (sym e) ∙ (drop-cons text (suc n) 0 run.room ∙ ap (λ (x : ℕ). x ∷ drop (suc (suc n)) text) (sym last))
+
+  as_word : b < 128 → Word ≡ family_of b → turns_word next ≡ false → IsFirstToken text record { kind = Ident; len = 1 + n }
+  as_word small family stays =
+      let in_class = word_continues b small family in
+      let all : prefix_len is_continue_byte text ≡ suc n = run_is is_continue_byte is_space_byte apart text n run.room run.on run.end (ap is_continue_byte front ∙ in_class) in
+      word_first text b rest n is e small family (counted is_continue_byte in_class all) (ap not (ap (next_is turns_word) left ∙ stays))
+
+  as_space : b < 128 → Space ≡ family_of b → is_space_lead next ≡ false → IsFirstToken text record { kind = Whitespace; len = 1 + n }
+  as_space small family stays =
+      let in_class = space_continues b small family in
+      let all : prefix_len is_space_byte text ≡ suc n = run_is is_space_byte is_continue_byte (λ x. and_comm (is_space_byte x) (is_continue_byte x) ∙ apart x) text n run.room (λ k l. swapped (get_or text k 0) (get_or text (suc k) 0) ∙ run.on k l) (swapped (get_or text n 0) (get_or text (suc n) 0) ∙ run.end) (ap is_space_byte front ∙ in_class) in
+      space_first text b rest n is e small family (counted is_space_byte in_class all) (ap not (ap (next_is is_space_lead) left ∙ stays))
+    where
+      and_comm : (x y : Bool) → (x && y) ≡ (y && x)
+      and_comm true true = refl
+      and_comm true false = refl
+      and_comm false true = refl
+      and_comm false false = refl
+
+      or_comm : (x y : Bool) → (x || y) ≡ (y || x)
+      or_comm true true = refl
+      or_comm true false = refl
+      or_comm false true = refl
+      or_comm false false = refl
+
+      swapped : (x y : ℕ) → ((is_space_byte x && is_space_byte y) || (is_continue_byte x && is_continue_byte y)) ≡ goes_on x y
+      swapped x y = or_comm (is_space_byte x && is_space_byte y) (is_continue_byte x && is_continue_byte y)
+
+  as_symbol : b < 128 → Symbol ≡ family_of b → IsFirstToken text record { kind = symbol_kind b; len = 1 + n }
+  as_symbol small family = subst (λ k. IsFirstToken text record { kind = symbol_kind b; len = 1 + k }) (alone n refl) (symbol_first text b rest (symbol_kind b) is e small family refl)
+    where
+      out : (is_continue_byte b ≡ false) × (is_space_byte b ≡ false)
+      out = or_parts (is_continue_byte b) (is_space_byte b) (not-true _ (symbol_alone b small family))
+
+      alone : (m : ℕ) → n ≡ m → 0 ≡ n
+      alone zero f = sym f
+      alone (suc m) f = absurd (true≢false (sym (run.on 0 (omega arith)) ∙ rw (ap is_continue_byte front ∙ out.0, ap is_space_byte front ∙ out.1) refl))
+
+  pub as_told : Tells b → StaysWithin (told b) next → IsFirstToken text record { kind = told b; len = suc n }
+  as_told t stays = subst (λ k. IsFirstToken text record { kind = told b; len = k }) (let z : 1 + n ≡ suc n = omega arith in z) (by_kind t.by)
+    where
+      by_kind : ((told b ≡ Ident) × (Word ≡ family_of b)) ⊎ (((told b ≡ Whitespace) × (Space ≡ family_of b)) ⊎ ((told b ≡ symbol_kind b) × (Symbol ≡ family_of b))) → IsFirstToken text record { kind = told b; len = 1 + n }
+      by_kind (inl w) = subst (λ (k : TokenKind). IsFirstToken text record { kind = k; len = 1 + n }) (sym w.0) (as_word t.small w.1 (stays.word w.0))
+      by_kind (inr (inl s)) = subst (λ (k : TokenKind). IsFirstToken text record { kind = k; len = 1 + n }) (sym s.0) (as_space t.small s.1 (stays.space s.0))
+      by_kind (inr (inr y)) = subst (λ (k : TokenKind). IsFirstToken text record { kind = k; len = 1 + n }) (sym y.0) (as_symbol t.small y.1)
+
+-- the token that the first byte and the lowest end tell
+module _ (text : List ℕ) (is : IsUtf8 text) (b : ℕ) (rest : List ℕ) (e : text ≡ b ∷ rest) (some : told b ≢ Eof) (ends end next : ℕ) (are : IsEnds text ends) (set : bit ends end ≡ true) (least : (k : ℕ) → k < end → bit ends k ≡ false)
+    (last : next ≡ get_or text end 0) where
+  at_end : StaysWithin (told b) next → (n : ℕ) → end ≡ n → IsFirstToken text record { kind = told b; len = n }
+  at_end stays zero f = absurd (true≢false (sym set ∙ (ap (bit ends) f ∙ (are end set).1 0 (omega arith))))
+  at_end stays (suc n) f = as_told text is b rest e n next (runs_to text ends n are (ap (bit ends) (sym f) ∙ set) (λ k l. least k (omega arith))) (last ∙ ap (λ i. get_or text i 0) f) (tells b some) stays
+
+  pub token_told : (kind : TokenKind) → kind ≡ told b → StaysWithin kind next → IsFirstToken text record { kind = kind; len = end }
+  token_told kind f stays = subst (λ (k : TokenKind). IsFirstToken text record { kind = k; len = end }) (sym f) (at_end (subst (λ (k : TokenKind). StaysWithin k next) f stays) end refl)
+
+-- ---- what is told has no fields, and each edition has it
+
+pub told_bare : (b : ℕ) → told b ≢ Eof → has_fields (told b) ≡ false
+unfolding is_emoji unicode_ident
+told_bare b some = agree_below_at (λ x. has_fields (told x)) (λ _. false) 128 b refl (tells b some).small
+
+-- whether an older edition has another token in place of one of this kind
+abbrev is_newer : TokenKind → Bool
+is_newer GuardedStrPrefix = true
+is_newer RawLifetime = true
+is_newer UnknownPrefix = true
+is_newer UnknownPrefixLifetime = true
+is_newer kind = false
+
+told_older : (b : ℕ) → told b ≢ Eof → is_newer (told b) ≡ false
+unfolding is_emoji unicode_ident
+told_older b some = agree_below_at (λ x. is_newer (told x)) (λ _. false) 128 b refl (tells b some).small
+
+older_2021 : (kind : TokenKind) (len : ℕ) → is_newer kind ≡ false → before_2024 kind len ≡ record { kind = kind; len = len }
+older_2021 GuardedStrPrefix len old = absurd (true≢false old)
+older_2021 kind len old = refl
+
+older_2018 : (cs : List ℕ) (kind : TokenKind) (len : ℕ) → is_newer kind ≡ false → before_2021 cs kind len ≡ record { kind = kind; len = len }
+older_2018 cs GuardedStrPrefix len old = absurd (true≢false old)
+older_2018 cs RawLifetime len old = absurd (true≢false old)
+older_2018 cs UnknownPrefix len old = absurd (true≢false old)
+older_2018 cs UnknownPrefixLifetime len old = absurd (true≢false old)
+older_2018 cs kind len old = refl
+
+older : (edition : Edition) (cs : List ℕ) (t : Token) → is_newer t.kind ≡ false → changed edition cs t ≡ t
+older E2024 cs t old = refl
+older E2021 cs t old = older_2021 t.kind t.len old
+older E2018 cs t old = older_2018 cs t.kind t.len old
+older E2015 cs t old = older_2018 cs t.kind t.len old
+
+pub told_same : (b : ℕ) → told b ≢ Eof → (edition : Edition) (cs : List ℕ) (kind : TokenKind) (len : ℕ) → kind ≡ told b → changed edition cs record { kind = kind; len = len } ≡ record { kind = kind; len = len }
+told_same b some edition cs kind len e = older edition cs record { kind = kind; len = len } (ap is_newer e ∙ told_older b some)

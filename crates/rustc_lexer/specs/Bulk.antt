@@ -1,0 +1,27 @@
+-- Many tokens at once, written into a room.
+use Rattle.std.specs.Prelude.{ℕ, zero, suc, Bool, true, false, ◌≡◌, List, ◌++◌, length, map, take, drop, min}
+use Rattle.rustc_lexer.specs.declared.token.Token.{Token}
+use Rattle.rustc_lexer.specs.declared.token.TokenKind.{TokenKind}
+use Rattle.rustc_lexer.specs.declared.token.TokenKind.TheVariants.{LineComment, BlockComment, Frontmatter, Literal, Lifetime}
+use Rattle.rustc_lexer.specs.State.{State}
+use Rattle.rustc_lexer.specs.means.Taking.{advance}
+
+-- whether tokens of the kind differ in more than their length
+abbrev pub has_fields : TokenKind → Bool
+has_fields (LineComment doc_style) = true
+has_fields (BlockComment doc_style terminated) = true
+has_fields (Frontmatter has_invalid_preceding_whitespace invalid_infostring) = true
+has_fields (Literal kind suffix_start) = true
+has_fields (Lifetime starts_with_number) = true
+has_fields kind = false
+
+-- the room holds the first of the tokens at its front, each as it is written: as many as there are, or as there is room
+-- for; the rest of the room stays
+pub record IsFilled {X : Type 0} (written : Token → X) (left : List Token) (room filled : List X) (count : ℕ) : Type 0 where
+  pub as_many : count ≡ min (length room) (length left)
+  pub tokens : filled ≡ map written (take count left) ++ drop count room
+
+-- the state past `count` tokens
+abbrev pub state_past : ℕ → State → State
+state_past zero s = s
+state_past (suc count) s = (advance (state_past count s)).1

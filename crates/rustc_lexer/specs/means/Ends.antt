@@ -1,0 +1,41 @@
+-- Means, by how it is read: where runs of bytes end, as the bits of a number, and the tokens that these tell.
+use Rattle.std.specs.Prelude.{ℕ, zero, suc, Bool, true, false, not, ◌&&◌, ◌||◌, ◌==◌, ◌≡◌, ◌<◌, ◌≤◌, nat_lt, List, length, slice_index, if◌then◌else◌}
+use Rattle.std.specs.Int.{bit_at}
+use Rattle.rustc_lexer.specs.declared.lexemes.family.Family.{Family}
+use Rattle.rustc_lexer.specs.declared.lexemes.family.Family.TheVariants.{Space, Symbol, Word}
+use Rattle.rustc_lexer.specs.declared.token.TokenKind.{TokenKind}
+use Rattle.rustc_lexer.specs.declared.token.TokenKind.TheVariants.{Ident, Whitespace, Eof}
+use Rattle.rustc_lexer.specs.means.ByteRuns.{is_continue_byte, is_space_byte}
+use Rattle.rustc_lexer.specs.means.Lexeme.{family_of, symbol_kind}
+use Rattle.rustc_lexer.specs.means.Quick.{is_space_lead, turns_word}
+
+unfoldable pub bit : ℕ → ℕ → Bool
+bit m k = bit_at m k == 1
+
+-- both bytes are of a word, or both white space
+abbrev pub goes_on : ℕ → ℕ → Bool
+goes_on a b = (is_continue_byte a && is_continue_byte b) || (is_space_byte a && is_space_byte b)
+
+-- byte k does not go on with the run of the byte before it
+abbrev pub is_end : List ℕ → ℕ → Bool
+is_end text zero = false
+is_end text (suc k) = not (goes_on (slice_index text k) (slice_index text (suc k)))
+
+-- the bits tell the ends of runs, up to the highest that is set
+abbrev pub IsEnds : List ℕ → ℕ → Type 0
+IsEnds text m = (j : ℕ) → bit m j ≡ true → (j < length text) × ((k : ℕ) → k ≤ j → bit m k ≡ is_end text k)
+
+-- the kind of a token that the first character, of ASCII, and its run tell; Eof where they tell none
+abbrev pub told_in : Family → ℕ → TokenKind
+told_in Word c = Ident
+told_in Space c = Whitespace
+told_in Symbol c = symbol_kind c
+told_in other c = Eof
+
+abbrev pub told : ℕ → TokenKind
+told b = if nat_lt b 128 then told_in (family_of b) b else Eof
+
+-- a byte after which a token of the kind neither turns nor goes on
+pub record StaysWithin (kind : TokenKind) (next : ℕ) : Type 0 where
+  pub word : kind ≡ Ident → turns_word next ≡ false
+  pub space : kind ≡ Whitespace → is_space_lead next ≡ false

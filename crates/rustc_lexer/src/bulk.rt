@@ -1,0 +1,91 @@
+//! Many tokens at once, written into a room.
+ghost use Rattle.std.specs.Prelude.{◌≡◌, ◌<◌, IsCharBoundary, false, length};
+ghost use Rattle.rustc_lexer.specs.declared.token.Token.{Token};
+ghost use Rattle.rustc_lexer.specs.Bulk.{has_fields, IsFilled};
+ghost use Rattle.rustc_lexer.specs.Classes.{Fits};
+ghost use Rattle.rustc_lexer.specs.Tokens.{bound, tokens_of};
+ghost use Rattle.rustc_lexer.specs.means.Edition.{first_token_in};
+ghost use Rattle.rustc_lexer.specs.LanguageText.{part};
+ghost use Rattle.rustc_lexer.specs.means.Ends.{IsEnds};
+
+use crate::edition::{Edition, token_in};
+use crate::lexemes::told::{ends_for, ends_left, told};
+use crate::token::{Token, TokenKind};
+
+/// What tokens are written as, where many are written at once.
+pub trait Record: Copy {
+    /// What each token is written as.
+    ghost written: { Token → Self };
+
+    /// What the token is written as.
+    fn of(token: Token) -> Self
+        ensures { result ≡ written token };
+
+    /// The same of a token whose kind has no fields. Most tokens have none.
+    fn bare(kind: TokenKind, len: u32) -> Self
+        requires { has_fields kind ≡ false }
+        ensures { result ≡ written (record { kind = kind; len = len }) };
+}
+
+/// A token, as it is.
+impl Record for Token {
+    ghost written = { λ token. token };
+
+    #[inline(always)]
+    fn of(token: Token) -> Token {
+        token
+    }
+
+    #[inline(always)]
+    fn bare(kind: TokenKind, len: u32) -> Token {
+        Token { kind, len }
+    }
+}
+
+/// Writes the first tokens of a text into the room, in an edition: as many as there are, or as it has room for. Their
+/// number, and how many bytes they have.
+///
+/// The ends of runs are found 64 bytes at a time. Where these tell a token, its kind is a look in a table and its length
+/// a count of zeros, with no branch on either.
+#[inline(always)]
+pub(crate) fn fill<R: Record>(text: &str, edition: Edition, room: &mut [R]) -> (usize, usize)
+    requires fits { Fits text.now }
+    ensures filled { IsFilled R.written (tokens_of (part edition) text.now) room.old room.new result.0 }
+    ensures bytes { result.1 ≡ bound (tokens_of (part edition) text.now) result.0 }
+    ensures boundary { IsCharBoundary text.now result.1 }
+{
+    let mut count = 0;
+    let mut at = 0;
+    let mut ends = 0;
+    'tokens: while count < room.len() && at < text.len() {
+        let rest = &text[at..];
+        ends = ends_for(rest, ends);
+        let len = put(rest, edition, ends, &mut room[count]);
+        ends = ends_left(ends, len);
+        at += len as usize;
+        count += 1;
+    }
+    (count, at)
+}
+
+/// Writes the token at the front of the text into its place, and answers its length in bytes.
+#[inline(always)]
+fn put<R: Record>(rest: &str, edition: Edition, ends: u64, place: &mut R) -> u32
+    requires not_empty { 0 < length rest.now }
+    requires fits { Fits rest.now }
+    requires ends { IsEnds rest.now ends }
+    ensures record { place.new ≡ R.written (first_token_in edition rest.now) }
+    ensures len { result ≡ (first_token_in edition rest.now).len }
+{
+    match told(rest, ends) {
+        Some(token) => {
+            *place = R::bare(token.kind, token.len);
+            token.len
+        }
+        None => {
+            let token = token_in(rest, edition);
+            *place = R::of(token);
+            token.len
+        }
+    }
+}
