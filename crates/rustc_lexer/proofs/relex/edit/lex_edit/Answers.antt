@@ -93,7 +93,7 @@ returns-in-Ok-clause-relexed g c =
     let near = All-contains (IsBound (tokens_by first old)) c.args.landmarks.now.bounds _ (rw (sym c.requires.from_scratch) c.requires.landmarks) c.nearest-near.ensures in
     let renewed = c.in-Ok.ensures.renewed old e.insert.now made near in
     let l = renewed.0.lexed_is in
-    let many : length (map (λ (t : Token). t.len) c.args.tokens.now.items) ≡ length c.as_slice.result.now = omega (arith, length-map c.args.tokens.now.items (λ (t : Token). t.len), ap length c.as_slice.ensures.value) in
+    let many : length (map (λ (t : Token). t.len) c.args.tokens.now.items) ≡ length c.as_slice-count.result.now = omega (arith, length-map c.args.tokens.now.items (λ (t : Token). t.len), ap length c.as_slice-count.ensures.value) in
     let exact = c.counts.ensures.exact first old _ e.insert.now c.as_str-made.result.now _ law made many l.stands l.met in
     exact.0
 
