@@ -1,2 +1,4 @@
 pub mod BatchLemmas
+pub mod FillLemmas
 pub mod RelexLemmas
+pub mod TokenLemmas
