@@ -1,7 +1,7 @@
 //! Lexing a text many times.
 ghost use Rattle.rustc_lexer.specs.Classes.{Fits};
 
-use anyhow::Result;
+use anyhow::{Result, bail};
 use rustc_lexer::{DocStyle, FrontmatterAllowed, LiteralKind, Token, TokenKind, tokenize};
 use std::time::Instant;
 
@@ -58,6 +58,73 @@ pub(crate) fn sum_tokens(text: &str) -> TokenSum
         tokens = tokens.and(token);
     }
     tokens
+}
+
+/// Lexes the text so many times, many tokens at once, and prints what was found and two least times: that of all, and
+/// that of writing the tokens alone.
+pub(crate) fn time_filling(rt: &HostRuntime, text: &str, times: u32) -> Result<()>
+    requires { Fits text.now }
+{
+    let mut tokens = TokenSum::new();
+    let mut least = u128::MAX;
+    let mut least_alone = u128::MAX;
+    for _ in 0..times {
+        let start = Instant::now(rt)?;
+        tokens = sum_filled(text);
+        least = least.min(start.elapsed(rt)?.as_nanos());
+        let start = Instant::now(rt)?;
+        let count = count_filled(text);
+        least_alone = least_alone.min(start.elapsed(rt)?.as_nanos());
+        if count != tokens.count {
+            bail!("two ways to fill a room give different numbers of tokens");
+        }
+    }
+    println!(rt; "tokens {}, sum {}", tokens.count, tokens.sum)?;
+    println!(rt; "least time {least} ns")?;
+    println!(rt; "least time with no look at the tokens {least_alone} ns")?;
+    Ok(())
+}
+
+/// How many tokens are written at once.
+const ROOM: usize = 256;
+
+/// A room in which no token was written yet.
+fn new_room() -> [Token; ROOM] {
+    [Token {
+        kind: TokenKind::Eof,
+        len: 0,
+    }; ROOM]
+}
+
+/// Lexes the text once, many tokens at a time.
+#[inline(never)]
+pub(crate) fn sum_filled(text: &str) -> TokenSum
+    requires { Fits text.now }
+{
+    let mut sum = TokenSum::new();
+    let mut room = new_room();
+    let mut tokens = tokenize(text, FrontmatterAllowed::No);
+    'left: while !tokens.as_str().is_empty() {
+        let count = tokens.fill(&mut room);
+        for token in room.iter().take(count) {
+            sum = sum.and(*token);
+        }
+    }
+    sum
+}
+
+/// Lexes the text once, many tokens at a time, and counts them.
+#[inline(never)]
+fn count_filled(text: &str) -> u64
+    requires { Fits text.now }
+{
+    let mut sum = 0u64;
+    let mut room = new_room();
+    let mut tokens = tokenize(text, FrontmatterAllowed::No);
+    'left: while !tokens.as_str().is_empty() {
+        sum = sum.wrapping_add(tokens.fill(&mut room) as u64);
+    }
+    sum
 }
 
 /// A number for each kind with its fields.

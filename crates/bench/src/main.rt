@@ -1,15 +1,16 @@
 //! Measures the lexer on a text from standard input: how long it takes to lex it, or to edit it.
 //!
-//! `bench lex TIMES` lexes the text so many times. `bench edit PLACE TIMES` keeps it with its tokens and types
-//! and deletes so many letters, where PLACE is `middle`, `end` or `jumping`. `bench work PLACE TIMES` does that
-//! and counts: the steps that the stepper was asked for, the bytes of the tokens that it gave, and the tokens that
-//! moved. `bench check` does a little of each and asks no clock, so that what it prints is the same each time.
+//! `bench lex TIMES` lexes the text so many times, and `bench bulk TIMES` lexes it many tokens at once. `bench edit PLACE
+//! TIMES` keeps it with its tokens and types and deletes so many letters, where PLACE is `middle`, `end` or `jumping`.
+//! `bench work PLACE TIMES` does that and counts: the steps that the stepper was asked for, the bytes of the tokens that
+//! it gave, and the tokens that moved. `bench check` does a little of each and asks no clock, so that what it prints is
+//! the same each time.
 #![tactic(auto)]
 
 ghost use Rattle.rustc_lexer.specs.Classes.{Fits};
 
 use crate::edits::{Place, edit_letters, time_edits};
-use crate::lexing::{sum_tokens, time_lexing};
+use crate::lexing::{sum_filled, sum_tokens, time_filling, time_lexing};
 use crate::work::print_work;
 use anyhow::{Context, Result, bail};
 use rustc_lexer::{LexedText, fits};
@@ -25,6 +26,7 @@ mod work;
 enum Task {
     Check,
     Lex { times: u32 },
+    Bulk { times: u32 },
     Edit { place: Place, times: u32 },
     Work { place: Place, times: u32 },
 }
@@ -41,6 +43,7 @@ fn main(rt: HostRuntime) -> Result<()> {
     match task {
         Task::Check => check(&rt, text),
         Task::Lex { times } => time_lexing(&rt, text, times),
+        Task::Bulk { times } => time_filling(&rt, text, times),
         Task::Edit { place, times } => time_edits(&rt, text, place, times),
         Task::Work { place, times } => print_work(&rt, text, place, times),
     }
@@ -50,12 +53,16 @@ fn main(rt: HostRuntime) -> Result<()> {
 fn read_task(rt: &HostRuntime) -> Result<Task> {
     let mut words = env::args(rt)?;
     let _program = words.next();
-    let command = words.next().context("give check, lex, edit or work")?;
+    let command = words.next().context("give check, lex, bulk, edit or work")?;
     match command.as_str() {
         "check" => Ok(Task::Check),
         "lex" => {
             let times = read_times(words.next())?;
             Ok(Task::Lex { times })
+        }
+        "bulk" => {
+            let times = read_times(words.next())?;
+            Ok(Task::Bulk { times })
         }
         "edit" => {
             let place = read_place(words.next())?;
@@ -67,7 +74,7 @@ fn read_task(rt: &HostRuntime) -> Result<Task> {
             let times = read_times(words.next())?;
             Ok(Task::Work { place, times })
         }
-        _ => bail!("give check, lex, edit or work"),
+        _ => bail!("give check, lex, bulk, edit or work"),
     }
 }
 
@@ -91,6 +98,8 @@ fn check(rt: &HostRuntime, text: &str) -> Result<()>
 {
     let tokens = sum_tokens(text);
     println!(rt; "tokens {}, sum {}", tokens.count, tokens.sum)?;
+    let filled = sum_filled(text);
+    println!(rt; "in bulk: tokens {}, sum {}", filled.count, filled.sum)?;
     for (name, place) in [
         ("middle", Place::Middle),
         ("end", Place::End),

@@ -4,9 +4,9 @@ use Rattle.std.specs.Str.{IsCharBoundary}
 use Rattle.rustc_lexer.specs.declared.token.FrontmatterAllowed.{FrontmatterAllowed}
 use Rattle.rustc_lexer.specs.declared.token.FrontmatterAllowed.TheVariants.{Yes, No}
 use Rattle.rustc_lexer.specs.declared.token.Token.{Token}
+pub use Rattle.rustc_lexer.specs.Bulk.{state_past}
 use Rattle.rustc_lexer.specs.LanguageText.{Mode, document, part, mode_of}
 use Rattle.rustc_lexer.specs.State.{State}
-use Rattle.rustc_lexer.specs.means.Taking.{advance}
 use Rattle.rustc_lexer.specs.Tokens.{tokens_left}
 use Rattle.rustc_lexer_c.specs.declared.batch.CPlace.{CPlace}
 use Rattle.rustc_lexer_c.specs.declared.token.CToken.{CToken}
@@ -38,11 +38,6 @@ first_numbers (token ∷ tokens) = token_numbers token
 -- the state of a cursor that stands at the place, with nothing pending
 abbrev pub state_at : List ℕ → CPlace → State
 state_at text place = record { pending = 0; rest = drop place.at text; mode = mode_of (allowed_of place.frontmatter_allowed) }
-
--- the state past `count` tokens
-abbrev pub state_past : ℕ → State → State
-state_past zero s = s
-state_past (suc count) s = (advance (state_past count s)).1
 
 -- the batch at a state: as many of the tokens that are left there as there is room for, as numbers, at the front of the
 -- room, whose rest stays; and the place behind them, from which the tokens are those that are left past the batch

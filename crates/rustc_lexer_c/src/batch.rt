@@ -134,25 +134,40 @@ fn batch(text: &str, place: &mut CPlace, room: &mut [CToken], count: &mut usize)
         *count = 0;
         return Refusal::BadPlace.number();
     }
-    // A loop for each of the two: where no frontmatter is allowed, none of its tokens asks for it.
     *count = match allowed_of(place.frontmatter_allowed) {
-        FrontmatterAllowed::No => fill(text, FrontmatterAllowed::No, place, room),
-        FrontmatterAllowed::Yes => fill(text, FrontmatterAllowed::Yes, place, room),
+        FrontmatterAllowed::No => fill(text, place, room),
+        FrontmatterAllowed::Yes => fill_singly(text, place, room),
     };
     0
 }
 
-/// Writes the batch at a place between characters, and answers its number of tokens.
-#[inline(always)]
-fn fill(text: &str, begun: FrontmatterAllowed, place: &mut CPlace, room: &mut [CToken]) -> usize
+/// Writes the batch at a place between characters where no frontmatter is allowed, and answers its number of tokens.
+fn fill(text: &str, place: &mut CPlace, room: &mut [CToken]) -> usize
     requires fits { Fits text.now }
     requires boundary { IsCharBoundary text.now place.old.at }
-    requires begun { begun ≡ spec.allowed_of place.old.frontmatter_allowed }
+    requires none { spec.allowed_of place.old.frontmatter_allowed ≡ FrontmatterAllowed.No }
+    ensures { spec.IsBatch text.now (spec.state_at text.now place.old)
+        room.old place.new room.new result }
+{
+    let mut tokens = tokenize(&text[place.at as usize..], FrontmatterAllowed::No);
+    let count = tokens.fill(room);
+    *place = CPlace {
+        at: (text.len() - tokens.as_str().len()) as u32,
+        frontmatter_allowed: 0,
+    };
+    count
+}
+
+/// The same where one is allowed, one token after another.
+fn fill_singly(text: &str, place: &mut CPlace, room: &mut [CToken]) -> usize
+    requires fits { Fits text.now }
+    requires boundary { IsCharBoundary text.now place.old.at }
+    requires begun { spec.allowed_of place.old.frontmatter_allowed ≡ FrontmatterAllowed.Yes }
     ensures { spec.IsBatch text.now (spec.state_at text.now place.old)
         room.old place.new room.new result }
 {
     let mut at = place.at as usize;
-    let mut allowed = begun;
+    let mut allowed = FrontmatterAllowed::Yes;
     let mut tokens = tokenize(&text[at..], allowed);
     let mut count = 0;
     while count < room.len() {

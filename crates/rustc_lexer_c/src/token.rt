@@ -2,7 +2,7 @@
 ghost use Rattle.std.specs.Prelude.{◌≡◌};
 ghost use Rattle.rustc_lexer_c.specs.Numbers as numbers;
 
-use rustc_lexer::{DocStyle, LiteralKind, Token, TokenKind};
+use rustc_lexer::{DocStyle, LiteralKind, Record, Token, TokenKind};
 
 /// A token as it crosses to C: its kind, the fields of the kind as a byte each, and its length. A byte that no field
 /// has is 0.
@@ -23,6 +23,23 @@ pub struct CToken {
     pub suffix_start: u32,
     /// The length in bytes.
     pub len: u32,
+}
+
+/// A token is written as its numbers.
+impl Record for CToken {
+    ghost use Rattle.rustc_lexer_c.specs.Numbers.{token_numbers};
+
+    ghost written = { token_numbers };
+
+    #[inline(always)]
+    fn of(token: Token) -> CToken {
+        token_numbers(token)
+    }
+
+    #[inline(always)]
+    fn bare(kind: TokenKind, len: u32) -> CToken {
+        bare(kind, len)
+    }
 }
 
 /// The token as numbers.

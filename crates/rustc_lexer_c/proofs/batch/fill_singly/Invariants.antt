@@ -4,7 +4,7 @@ use Rattle.rustc_lexer.specs.State.{StandsAt}
 use Rattle.rustc_lexer.specs.Tokens.{tokens_left}
 use Rattle.rustc_lexer_c.specs.Batch.{state_at, state_past}
 use Rattle.rustc_lexer_c.specs.Numbers.{token_numbers}
-use Rattle.rustc_lexer_c.proofs.batch.fill.Given as goal
+use Rattle.rustc_lexer_c.proofs.batch.fill_singly.Given as goal
 
 abbrev pub invariant-loop-count : goal.invariant-loop-count
 invariant-loop-count l = record {
