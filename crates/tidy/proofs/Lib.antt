@@ -8,3 +8,5 @@ pub mod LoopLemmas
 pub mod FirstLemmas
 pub mod DocumentLemmas
 pub mod ShebangLemmas
+pub mod DiffLemmas
+pub mod HunkLemmas

@@ -1,2 +1,3 @@
+pub mod Diff
 pub mod Order
 pub mod Stop

@@ -1,9 +1,10 @@
 //! Files that are put in order where they lie.
 ghost use Rattle.std.specs.Prelude.{◌≡◌, ◌≢◌, IfOk, IfSome, None, Ok, OnOk, string_bytes};
+ghost use Rattle.tidy.specs.Diff.{IsDiff};
 ghost use Rattle.tidy.specs.Order.{IsSound, tidied};
 
-use crate::document;
 use crate::job::Task;
+use crate::{document, hunks};
 use sources::{Fault, PathFault, Reason, find, read_source, text_of};
 use std::alloc::{AllocError, Global};
 use std::fs::{File, Metadata, OpenFile};
@@ -19,6 +20,8 @@ pub struct Outcome {
     pub read: usize,
     /// Those that are written anew, or would be, in order.
     pub changed: Vec<String>,
+    /// What would change, as a diff, where that was asked.
+    pub diff: String,
     /// Those that were passed over. They are as they were.
     pub faults: Vec<PathFault>,
 }
@@ -37,10 +40,11 @@ pub fn tidy_paths<R: Files + AllocGlobal + Clone + Drop>(
     let mut outcome = Outcome {
         read: 0,
         changed: Vec::new(rt.alloc()),
+        diff: String::new(rt.alloc()),
         faults: found.faults,
     };
     for path in found.files {
-        let came = tidy_file(rt, id, task, path.as_str());
+        let came = tidy_file(rt, id, task, path.as_str(), &mut outcome.diff);
         outcome.take(path, came)?;
     }
     Ok(outcome)
@@ -66,12 +70,13 @@ impl Outcome {
     }
 }
 
-/// Puts one file in order, and says whether it changes.
+/// Puts one file in order, or appends the diff, and says whether it changes.
 fn tidy_file<R: Files + AllocGlobal + Clone + Drop>(
     rt: &R,
     id: u32,
     task: Task,
     path: &str,
+    diff: &mut String,
 ) -> Result<bool, Fault> {
     let before = fs::metadata(rt, path)?;
     if !before.is_file() {
@@ -81,10 +86,31 @@ fn tidy_file<R: Files + AllocGlobal + Clone + Drop>(
     let Some(text) = changed(rt.alloc(), bytes.as_slice())? else {
         return Ok(false);
     };
-    if task == Task::Write {
-        replace(rt, id, path, &before, text.as_str())?;
+    match task {
+        Task::Write => replace(rt, id, path, &before, text.as_str())?,
+        Task::Diff => {
+            let shown = file_diff(rt.alloc(), path, bytes.as_slice(), text.as_str())?;
+            if diff.push_str(shown.as_str()).is_err() {
+                return Err(Fault::Memory);
+            }
+        }
+        Task::Check => {}
     }
     Ok(true)
+}
+
+/// The diff of a file that has these bytes and is to have that text.
+fn file_diff(alloc: Global, path: &str, bytes: &[u8], made: &str) -> Result<String, Fault>
+    ensures { IfOk result (λ diff. IsDiff path.now bytes.now made.now (string_bytes diff)) }
+{
+    let text = match text_of(bytes) {
+        Ok(text) => text,
+        Err(reason) => return Err(Fault::Source(reason)),
+    };
+    let Ok(diff) = hunks::diff(alloc, path, text, made) else {
+        return Err(Fault::Memory);
+    };
+    Ok(diff)
 }
 
 /// The text in order of a source that is not in order; `None` for one that is.

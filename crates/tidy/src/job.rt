@@ -9,6 +9,8 @@ pub enum Task {
     Write,
     /// Write nothing, and say so.
     Check,
+    /// Write nothing, and show what would change.
+    Diff,
 }
 
 /// What a run is to do.
@@ -27,6 +29,12 @@ fn command<'a>(alloc: Global) -> Result<Command<'a>, AllocError> {
         .help(
             "write nothing but the names of files that would change; status 1 where there are any",
         );
+    let diff = Arg::new(alloc, "diff")
+        .long("diff")
+        .action(ArgAction::SetTrue)
+        .help(
+            "write nothing but what would change, as a unified diff; status 1 where there is any",
+        );
     let paths = Arg::new(alloc, "paths")
         .value_name("PATH")
         .num_args(0..)
@@ -40,6 +48,7 @@ fn command<'a>(alloc: Global) -> Result<Command<'a>, AllocError> {
 and white space at the end becomes one newline. Nothing else is changed.",
         )
         .arg(check)?
+        .arg(diff)?
         .arg(paths)
 }
 
@@ -50,7 +59,9 @@ pub fn read_job<'a>(alloc: Global, words: &'a [String]) -> Result<Job<'a>, Error
     if let Some(given) = matches.get_strs("paths") {
         paths.extend_from_slice(given)?;
     }
-    let task = if matches.get_flag("check") {
+    let task = if matches.get_flag("diff") {
+        Task::Diff
+    } else if matches.get_flag("check") {
         Task::Check
     } else {
         Task::Write

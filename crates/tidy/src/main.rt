@@ -1,8 +1,10 @@
 //! Puts the white space of Rust sources in order.
 #![tactic(auto)]
 
+mod diff;
 mod document;
 mod files;
+mod hunks;
 mod job;
 mod order;
 mod run;
@@ -15,7 +17,7 @@ use clap::Error;
 use clap::error::ErrorKind;
 use files::tidy_paths;
 use job::{Job, Task, read_job};
-use run::{check, run, write_out};
+use run::{check, run, show, write_out};
 use std::process::ExitCode;
 use std::{env, process};
 use stop::{Stop, status};
@@ -28,6 +30,18 @@ fn tidy(rt: &HostRuntime, job: &Job<'_>) -> Result<(), Stop> {
     match job.task {
         Task::Write => run(rt.alloc(), &mut rt.stdin(), &mut rt.stdout()),
         Task::Check => check(rt.alloc(), &mut rt.stdin()),
+        Task::Diff => tidy_shown(rt),
+    }
+}
+
+/// Shows what would change in standard input.
+fn tidy_shown(rt: &HostRuntime) -> Result<(), Stop> {
+    match show(rt.alloc(), &mut rt.stdin())? {
+        None => Ok(()),
+        Some(diff) => {
+            write_out(&mut rt.stdout(), diff.as_str())?;
+            Err(Stop::Untidy)
+        }
     }
 }
 
@@ -48,14 +62,17 @@ fn tidy_files(rt: &HostRuntime, job: &Job<'_>) -> Result<(), Stop> {
             write_out(&mut rt.stdout(), path.as_str())?;
             write_out(&mut rt.stdout(), "\n")?;
         }
-        let _ = eprintln!(rt; "tidy: {changed} of {read} files would change");
-    } else {
+    }
+    write_out(&mut rt.stdout(), outcome.diff.as_str())?;
+    if job.task == Task::Write {
         let _ = eprintln!(rt; "tidy: {changed} of {read} files changed");
+    } else {
+        let _ = eprintln!(rt; "tidy: {changed} of {read} files would change");
     }
     if !outcome.faults.is_empty() {
         return Err(Stop::Passed);
     }
-    if job.task == Task::Check && changed > 0 {
+    if job.task != Task::Write && changed > 0 {
         return Err(Stop::Untidy);
     }
     Ok(())
@@ -88,7 +105,10 @@ fn run_words(rt: &HostRuntime) -> u8 {
     let (stop, is_told) = match read_job(rt.alloc(), words.as_slice()) {
         Ok(job) => match tidy(rt, &job) {
             Ok(()) => return 0,
-            Err(stop) => (stop, !job.paths.is_empty() && stop == Stop::Untidy),
+            Err(stop) => (
+                stop,
+                stop == Stop::Untidy && (job.task == Task::Diff || !job.paths.is_empty()),
+            ),
         },
         Err(error) => return explain(rt, &error),
     };

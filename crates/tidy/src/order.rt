@@ -93,7 +93,7 @@ fn solid_end(bytes: &[u8], place: usize) -> usize
 }
 
 /// Space, tab and carriage return.
-fn is_blank(byte: u8) -> bool
+pub fn is_blank(byte: u8) -> bool
     ensures { result ≡ spec.is_blank byte }
 {
     matches!(byte, b' ' | b'\t' | b'\r')

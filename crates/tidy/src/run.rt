@@ -1,12 +1,13 @@
 //! A whole run: from the bytes of a reader to those of a writer.
-ghost use Rattle.std.specs.Prelude.{◌≡◌, ◌≢◌, ◌≤◌, ◌^◌, IfErr, IfOk, IfSome, IsErrOf, OnOk, length};
+ghost use Rattle.std.specs.Prelude.{◌≡◌, ◌≢◌, ◌≤◌, ◌^◌, IfErr, IfOk, IfSome, IsErrOf, None, Ok, OnOk, codes, length, string_bytes};
 ghost use Rattle.std.specs.Io.KnownBytes.{Appends, Keeps};
 ghost use Rattle.std.specs.Str.{IsUtf8};
+ghost use Rattle.tidy.specs.Diff.{IsDiff};
 ghost use Rattle.tidy.specs.Order.{tidied, IsSound};
 ghost use Rattle.tidy.specs.Stop.{IsWriteStop};
 
-use crate::document;
 use crate::stop::Stop;
+use crate::{document, hunks};
 use rustc_lexer::fits;
 use std::alloc::Global;
 use std::io::{ErrorKind, Read, Write};
@@ -63,6 +64,36 @@ pub fn check<R: Read>(alloc: Global, input: &mut R) -> Result<(), Stop>
     } else {
         Err(Stop::Untidy)
     }
+}
+
+/// Reads all of the input, and answers what would change, as a diff; `None` where it is in order.
+pub fn show<R: Read>(alloc: Global, input: &mut R) -> Result<Option<String>, Stop>
+    ensures in_order { result ≡ Ok None
+        → IfSome (R.remaining input.old) (λ bytes. tidied bytes ≡ bytes) }
+    ensures shown { IfOk result (λ shown. IfSome shown (λ diff. IfSome (R.remaining input.old) (λ bytes.
+        IsDiff (codes "stdin") bytes (tidied bytes) (string_bytes diff)))) }
+    ensures text { IsErrOf result Stop.NotUtf8
+        → IfSome (R.remaining input.old) (λ bytes. ¬ (IsUtf8 bytes)) }
+    ensures long { IsErrOf result Stop.TooLong
+        → IfSome (R.remaining input.old) (λ bytes. 2 ^ 32 ≤ length bytes) }
+{
+    let bytes = read_all(alloc, input)?;
+    let Ok(text) = std::str::from_utf8(bytes.as_slice()) else {
+        return Err(Stop::NotUtf8);
+    };
+    if !fits(text) {
+        return Err(Stop::TooLong);
+    }
+    let Ok(made) = document::tidied(alloc, text) else {
+        return Err(Stop::Memory);
+    };
+    if text == made.as_str() {
+        return Ok(None);
+    }
+    let Ok(diff) = hunks::diff(alloc, "stdin", text, made.as_str()) else {
+        return Err(Stop::Memory);
+    };
+    Ok(Some(diff))
 }
 
 /// All of the input.

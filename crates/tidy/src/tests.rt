@@ -2,7 +2,7 @@
 use crate::document::tidied;
 use crate::files::changed;
 use crate::job::{Task, read_job};
-use crate::run::{check, run};
+use crate::run::{check, run, show};
 use crate::stop::{Stop, status};
 use rustc_lexer::fits;
 use sources::{Fault, Reason};
@@ -62,6 +62,8 @@ fn words(rt: HostRuntime) -> Result<(), Fail> {
     let job = read_job(alloc, words.as_slice())?;
     assert_eq!(rt; job.task, Task::Check);
     assert_eq!(rt; job.paths.as_slice(), ["src", "a b.rs"].as_slice());
+    let both = words_of(alloc, &["tidy", "--check", "--diff"])?;
+    assert_eq!(rt; read_job(alloc, both.as_slice())?.task, Task::Diff);
     let none = words_of(alloc, &["tidy"])?;
     let job = read_job(alloc, none.as_slice())?;
     assert_eq!(rt; job.task, Task::Write);
@@ -87,6 +89,40 @@ fn runs(rt: HostRuntime) {
         assert_eq!(rt; check(rt.alloc(), &mut input), want);
     }
     assert_eq!(rt; status(&Stop::Untidy), 1);
+}
+
+#[test]
+fn diffs(rt: HostRuntime) {
+    let rows: [(&[u8], Option<&str>); 3] = [
+        (b"fn\n", None),
+        (
+            b"a \n\"b \r\n\"\r\n \n\n\nc",
+            Some(
+                "--- a/stdin\t\n+++ b/stdin\t\n@@ -1,7 +1,5 @@\n-a \n+a\n \"b \r\n-\"\r\n+\"\n\
+- \n+\n-\n-\n c\n\\ No newline at end of file\n",
+            ),
+        ),
+        (
+            b"1\n2\n3\n4 \n5\n6\n7\n8\n9\n10\n11\n12 ",
+            Some(
+                "--- a/stdin\t\n+++ b/stdin\t\n@@ -1,7 +1,7 @@\n 1\n 2\n 3\n-4 \n+4\n 5\n 6\n 7\n\
+@@ -9,4 +9,4 @@\n 9\n 10\n 11\n-12 \n\\ No newline at end of file\n+12\n",
+            ),
+        ),
+    ];
+    for (text, want) in rows {
+        let mut input = text;
+        let shown = show(rt.alloc(), &mut input);
+        assert!(rt;
+            shown.is_ok_and(|diff| match (diff, want) {
+                (None, None) => true,
+                (Some(diff), Some(want)) => diff.as_str() == want,
+                _ => false,
+            })
+        );
+    }
+    let mut wrong: &[u8] = b"fn\xff \n";
+    assert!(rt; show(rt.alloc(), &mut wrong).is_err_and(|stop| stop == Stop::NotUtf8));
 }
 
 #[test]
