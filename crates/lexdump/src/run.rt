@@ -20,7 +20,7 @@ use std::io::{Read, Write};
 /// The lines go out in blocks. Nothing that may be refused comes after the first byte: after every fault but
 /// `Fault::Write` the output is as it was.
 /// At `Ok` the last thing asked of the output was a flush, and it was not refused.
-#[tactic(auto, using(rustc_lexer::proofs::LanguageInLemmas::determined))]
+#[tactic(auto, using(rustc_lexer::proofs::LanguageTextLemmas::determined))]
 pub fn run<R: Read, W: Write>(
     alloc: Global,
     job: &Job<'_>,

@@ -27,7 +27,7 @@ pub struct CPlace {
 ///
 /// Each call tests the whole text. `rustc_lexer_tokens_unchecked` does not.
 #[unsafe(no_mangle)]
-#[tactic(auto, using(rustc_lexer::proofs::LanguageInLemmas::determined))]
+#[tactic(auto, using(rustc_lexer::proofs::LanguageTextLemmas::determined))]
 pub extern "C" fn rustc_lexer_tokens(
     text: &[u8],
     place: &mut CPlace,

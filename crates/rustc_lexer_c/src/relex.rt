@@ -62,7 +62,7 @@ impl Measured for CToken {
 /// `old` has the tokens of the text before the edit, of which only the lengths are read. Any others may be passed too,
 /// and then the answer means nothing.
 #[unsafe(no_mangle)]
-#[tactic(auto, using(rustc_lexer::proofs::LanguageInLemmas::determined))]
+#[tactic(auto, using(rustc_lexer::proofs::LanguageTextLemmas::determined))]
 pub extern "C" fn rustc_lexer_relex(
     text: &[u8],
     old: &[CToken],
