@@ -12,7 +12,6 @@ mod settle;
 
 pub use edit::Edit;
 pub use edit_list::EditStop;
-
 pub use front::{Bound, Measured};
 pub use lexed_text::LexedText;
 pub use pieces::{Piece, Pieces};
