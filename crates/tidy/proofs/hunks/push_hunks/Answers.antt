@@ -21,4 +21,4 @@ hunks-preserved c = record {
         (c.hunks.at + (length c.in-Some.part.same.now + length c.in-Some.part.shown.now)) (sym c.split_at.ensures.back ∙ c.in-Some.ensures.whole) refl
 
 pub returns : goal.returns
-returns c = all-written c.hunks.invariant.written (subst AreSame c.split_at.ensures.back (c.in_default.ensures.none c.in_default.is))
+returns c = all-written c.hunks.invariant.written (subst AreSame c.split_at.ensures.back (c.in_default.ensures.none refl))
