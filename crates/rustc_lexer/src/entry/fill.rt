@@ -8,12 +8,15 @@ use crate::edition::Edition;
 use crate::entry::Tokens;
 use std::iter::Iterator;
 
+/// The ends of runs are found for so many bytes at once. It does not pay for fewer.
+const BLOCK: usize = 64;
+
 impl<'a> Tokens<'a> {
     /// Writes the next tokens into the room, as many as are left, or as there is room for. Answers their number, which
     /// is less than the length of the room only where no token is left.
     ///
     /// They are the tokens that so many calls of `next` give, and take less time: most of them are found 64 bytes at a
-    /// time. Where a frontmatter may still stand they come one by one.
+    /// time. Where a frontmatter may still stand, or fewer than 64 bytes are left, they come one by one.
     ///
     /// ```ignore
     /// let mut room = [Token { kind: TokenKind::Eof, len: 0 }; 256];
@@ -34,7 +37,7 @@ impl<'a> Tokens<'a> {
             → length self.new.rest < length self.old.rest }
     {
         let rest = self.as_str();
-        if self.cursor.allows_none() {
+        if self.cursor.allows_none() && rest.len() >= BLOCK {
             let (count, bytes) = bulk::fill(rest, Edition::E2024, room);
             self.cursor.skip(bytes);
             return count;
@@ -42,7 +45,7 @@ impl<'a> Tokens<'a> {
         self.fill_singly(room)
     }
 
-    /// The same, one token after another.
+    /// Writes the next tokens into the room, as `fill` does, one after another.
     fn fill_singly<R: Record>(&mut self, room: &mut [R]) -> usize
         ensures filled { IsFilled R.written (tokens_left self.old) room.old room.new result }
         ensures state { self.new ≡ state_past result self.old }

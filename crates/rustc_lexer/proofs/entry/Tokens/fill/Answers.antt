@@ -7,8 +7,8 @@ use Rattle.rustc_lexer.proofs.StateLemmas.{state}
 use Rattle.rustc_lexer.proofs.TokensLemmas.{partitions}
 use Rattle.rustc_lexer.proofs.entry.Tokens.fill.Goals as goal
 
-pub returns-then-allows_none : goal.returns-then-allows_none
-returns-then-allows_none g c =
+pub returns-then-rest-ge-BLOCK : goal.returns-then-rest-ge-BLOCK
+returns-then-rest-ge-BLOCK g c =
     let all = fills g.R.Record.written c.args.self.now c.skip.new.self c.as_str-rest.result.now record { utf8 = c.as_str-rest.utf8; fits = c.as_str-rest.ensures.fits } c.as_str-rest.ensures.rest
     (sym (ap (λ (x : State). x.pending) c.self.view_is) ∙ c.self.invariant)
     (sym (ap (λ (x : State). x.mode) c.self.view_is) ∙ c.allows_none.ensures c.if-allows_none.true)
