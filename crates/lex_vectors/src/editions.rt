@@ -1,7 +1,7 @@
 //! The tokens of a text in each edition, and edits of a text that is kept in one.
-use crate::kinds::{BAD_LIFETIME, LIFETIME, OPEN_STR, STR};
-use crate::rows::literal;
 use crate::steppers::Counting;
+use crate::tables::kinds::{BAD_LIFETIME, LIFETIME, OPEN_STR, STR};
+use crate::tables::row::literal;
 use rustc_lexer::TokenKind::{
     GuardedStrPrefix, Ident, Pound, RawLifetime, UnknownPrefix, UnknownPrefixLifetime, Whitespace,
 };

@@ -1,7 +1,7 @@
 //! Edits of a text that is kept with its tokens: one by one, and lists of them.
-use crate::kinds::{BLOCK, FLOAT, OPEN_STR, STR};
-use crate::rows::literal;
 use crate::steppers::{Characters, Counting};
+use crate::tables::kinds::{BLOCK, FLOAT, OPEN_STR, STR};
+use crate::tables::row::literal;
 use rustc_lexer::TokenKind::{
     ForcedKeywordIdent, GuardedStrPrefix, Ident, InvalidIdent, RawLifetime, Whitespace,
 };

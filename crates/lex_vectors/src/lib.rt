@@ -20,8 +20,6 @@ mod hostile;
 #[cfg(test)]
 mod idents;
 #[cfg(test)]
-mod kinds;
-#[cfg(test)]
 mod names;
 #[cfg(test)]
 mod numbers;
@@ -38,5 +36,7 @@ mod rows;
 #[cfg(test)]
 mod shebang;
 pub mod steppers;
+#[cfg(test)]
+mod tables;
 #[cfg(test)]
 mod texts;

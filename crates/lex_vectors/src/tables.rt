@@ -1,0 +1,15 @@
+//! The rows, as data. The tests of the bindings read these files too: each names nothing but the lexer's types, and other
+//! tables.
+pub(crate) mod comments;
+pub(crate) mod first_path;
+pub(crate) mod frontmatter;
+pub(crate) mod guarded;
+pub(crate) mod hostile;
+pub(crate) mod idents;
+pub(crate) mod kinds;
+pub(crate) mod numbers;
+pub(crate) mod original;
+pub(crate) mod quotes;
+pub(crate) mod raw_strings;
+pub(crate) mod row;
+pub(crate) mod shebang;
