@@ -42,7 +42,7 @@ impl<'a> Tokens<'a> {
         self.fill_singly(room)
     }
 
-    /// The same, one token after another.
+    /// Writes the first tokens that are left into the room, one after another.
     fn fill_singly<R: Record>(&mut self, room: &mut [R]) -> usize
         ensures filled { IsFilled R.written (tokens_left self.old) room.old room.new result }
         ensures state { self.new ≡ state_past result self.old }
