@@ -1,7 +1,6 @@
 pub mod CallLemmas
 pub mod EscapeLemmas
 pub mod JobLemmas
-pub mod KnownLemmas
 pub mod LineLemmas
 pub mod LiteralLemmas
 pub mod OutcomeLemmas

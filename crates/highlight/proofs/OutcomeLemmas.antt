@@ -1,17 +1,22 @@
 -- A run ends as its outcome says.
 use Rattle.std.proofs.Common.{◌≡◌, ℕ, ◌<◌, ◌≤◌, ◌^◌, nat_le, Bool, true, false, List, length, refl, sym, ap, ◌∙◌, arith, subst, inl, inr, Option, Some, None, Result, Ok, Err, Vec, Global}
-use Rattle.std.specs.Prelude.{IfSome, IfErr, OnOk, OnErr}
+use Rattle.std.specs.Prelude.{IfSome, IfErr, IsErrOf, IsTrue, OnOk, OnErr, ◌↔◌}
 use Rattle.std.specs.Str.{IsUtf8, is_utf8}
 use Rattle.std.specs.Io.KnownBytes.{Appends, Keeps}
 use Rattle.std.proofs.lemmas.Bool.{le-leb}
 use Rattle.std.proofs.lemmas.Bool.Decides.{leb_tells}
 use Rattle.std.proofs.lemmas.Str.{IsUtf8-from_is_utf8, is_utf8-from_IsUtf8}
+use Rattle.ends.specs.declared.reading.ReadStop.{ReadStop}
+use Rattle.ends.specs.declared.reading.ReadStop.TheVariants.{TooLong as TooLongRead, Memory as MemoryRead, Failed}
+use Rattle.ends.specs.Known.{AppendsFront}
+use Rattle.ends.specs.Reading.{EndsReading}
 use Rattle.rustc_lexer.specs.declared.edition.Edition.{Edition}
 use Rattle.highlight.specs.declared.stop.Stop.{Stop}
 use Rattle.highlight.specs.declared.stop.Stop.TheVariants.{Arguments, NotUtf8, TooLong, Memory, Read, Write, ClosedPipe}
 use Rattle.highlight.specs.declared.style.Style.{Style}
-use Rattle.highlight.specs.Outcome.{outcome, AppendsFront, Ends, EndsReading, IsReadStop, IsWriteStop}
+use Rattle.highlight.specs.Outcome.{outcome, Ends, IsWriteStop}
 use Rattle.highlight.specs.Page.{printed}
+use Rattle.highlight.specs.Stop.{read_stop}
 
 below : (a b : ℕ) → b < a → nat_le a b ≡ false
 below a b h = elim (leb_tells a b) [ inl p ↦ absurd (omega arith) | inr p ↦ p.0 ]
@@ -36,16 +41,17 @@ outcome-text style edition bytes fits is =
     rw (f, e) refl
 
 -- reading stopped
-pub ends_unread : (style : Style) (edition : Option Edition) (known old new : Option (List ℕ)) (stop : Stop) → IsReadStop stop → EndsReading known (Err stop) → Keeps old new
-    → IfSome known (λ bytes. Ends old new (Err stop) (outcome style edition bytes))
-ends_unread style edition None old new stop is ends kept = tt
-ends_unread style edition (Some bytes) old new TooLong is ends kept = (outcome-long style edition bytes ends, kept)
-ends_unread style edition (Some bytes) old new Memory is ends kept = kept
-ends_unread style edition (Some bytes) old new Read is ends kept = kept
-ends_unread style edition (Some bytes) old new Arguments is ends kept = absurd is
-ends_unread style edition (Some bytes) old new NotUtf8 is ends kept = absurd is
-ends_unread style edition (Some bytes) old new Write is ends kept = absurd is
-ends_unread style edition (Some bytes) old new ClosedPipe is ends kept = absurd is
+pub ends_unread : (style : Style) (edition : Option Edition) (known old new : Option (List ℕ)) (stop : ReadStop) → EndsReading known (Err stop) → Keeps old new
+    → IfSome known (λ bytes. Ends old new (Err (read_stop stop)) (outcome style edition bytes))
+ends_unread style edition None old new stop ends kept = tt
+ends_unread style edition (Some bytes) old new TooLongRead ends kept = (outcome-long style edition bytes ends, kept)
+ends_unread style edition (Some bytes) old new MemoryRead ends kept = kept
+ends_unread style edition (Some bytes) old new Failed ends kept = kept
+
+-- bytes that no call touched
+pub keeps_same : (old : Option (List ℕ)) → Keeps old old
+keeps_same None = tt
+keeps_same (Some xs) = refl
 
 -- what was read is no text
 pub ends_no_text : (style : Style) (edition : Option Edition) (known old new : Option (List ℕ)) (read : Vec ℕ Global) → EndsReading known (Ok read) → length read.items < 2 ^ 32 → ¬ (IsUtf8 read.items) → Keeps old new
@@ -85,11 +91,22 @@ pub ends_help : (old new : Option (List ℕ)) (help made : List ℕ) (result : R
 ends_help old new help made result is only ok err = subst (λ (xs : List ℕ). Ends old new result (Ok xs)) is (ends_writing old new made result only ok err)
 
 -- a stop of reading is none of writing
-pub reads_no_write : (stop : Stop) → IsReadStop stop → ¬ (stop ≡ Write)
-reads_no_write stop is e = subst IsReadStop e is
+pub reads_no_write : (stop : ReadStop) → ¬ (read_stop stop ≡ Write)
+reads_no_write TooLongRead e = cc
+reads_no_write MemoryRead e = cc
+reads_no_write Failed e = cc
 
-pub reads_no_closed : (stop : Stop) → IsReadStop stop → ¬ (stop ≡ ClosedPipe)
-reads_no_closed stop is e = subst IsReadStop e is
+pub reads_no_closed : (stop : ReadStop) → ¬ (read_stop stop ≡ ClosedPipe)
+reads_no_closed TooLongRead e = cc
+reads_no_closed MemoryRead e = cc
+reads_no_closed Failed e = cc
+
+-- the run stops by a failed read where the reading does
+pub read_tells : (stop : ReadStop) (failed : Bool) → IsErrOf (let r : Result (Vec ℕ Global) ReadStop = Err stop in r) Failed ↔ IsTrue failed
+    → IsErrOf (let r : Result (Unit {0}) Stop = Err (read_stop stop) in r) Read ↔ IsTrue failed
+read_tells TooLongRead failed tells = (λ e. cc, λ t. let e = tells.1 t in cc)
+read_tells MemoryRead failed tells = (λ e. cc, λ t. let e = tells.1 t in cc)
+read_tells Failed failed tells = (λ e. tells.0 refl, λ t. refl)
 
 pub writes_no_read : (stop : Stop) → IsWriteStop stop → ¬ (stop ≡ Read)
 writes_no_read stop is e = subst IsWriteStop e is

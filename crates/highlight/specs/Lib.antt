@@ -9,4 +9,3 @@ pub mod Page
 pub mod Part
 pub mod Program
 pub mod Stop
-pub mod Watch

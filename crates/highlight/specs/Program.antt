@@ -1,12 +1,10 @@
 -- What the program comes to, by its arguments and the bytes that it reads.
-use Rattle.std.specs.Prelude.{ℕ, ◌≡◌, ◌==◌, Bool, true, false, ◌&&◌, List, [], Option, Some, None, Result, Ok, Err, IfSome, drop, length, map, string_bytes}
+use Rattle.std.specs.Prelude.{ℕ, ◌≡◌, ◌==◌, Bool, true, false, ◌&&◌, List, [], Option, Some, None, Result, Ok, Err, IfSome, length, string_bytes}
 use Rattle.std.specs.Option.{option_map}
 use Rattle.std.specs.Global.{Global}
-use Rattle.std.specs.Vec.Iter.{into_iter_items}
 use Rattle.std.specs.declared.env.VarError.{VarError}
 use Rattle.std.specs.declared.env.VarError.TheVariants.{NotPresent, NotUnicode, OutOfMemory}
 use Rattle.std.specs.declared.string.String.{String}
-use Rattle.std.specs.declared.vec.IntoIter.{IntoIter}
 use Rattle.highlight.specs.declared.job.Job.{Job}
 use Rattle.highlight.specs.declared.job.Job.TheVariants.{Show, Help}
 use Rattle.highlight.specs.declared.program.TheConstants.{HELP}
@@ -14,10 +12,6 @@ use Rattle.highlight.specs.declared.stop.Stop.{Stop}
 use Rattle.highlight.specs.declared.stop.Stop.TheVariants.{Arguments, Memory}
 use Rattle.highlight.specs.Job.{job_of}
 use Rattle.highlight.specs.Outcome.{outcome, Ends}
-
--- the words after the program's name, where the arguments could be had
-abbrev pub words_of : Option (IntoIter (String Global) Global) → Option (List (List ℕ))
-words_of args = option_map (λ words. map string_bytes (drop 1 (into_iter_items words))) args
 
 -- no value, or an empty one
 abbrev pub is_unset : Result (String Global) VarError → Option Bool

@@ -1,5 +1,7 @@
 -- Why a run stops: its status, and its line on standard error.
 use Rattle.std.specs.Prelude.{ℕ, List, [], ◌∷◌, ◌++◌, codes, Result, Ok, Err}
+use Rattle.ends.specs.declared.reading.ReadStop.{ReadStop}
+use Rattle.ends.specs.declared.reading.ReadStop.TheVariants.{TooLong as TooLongRead, Memory as MemoryRead, Failed}
 use Rattle.highlight.specs.declared.stop.Stop.{Stop}
 use Rattle.highlight.specs.declared.stop.Stop.TheVariants.{Arguments, NotUtf8, TooLong, Memory, Read, Write, ClosedPipe}
 
@@ -35,3 +37,9 @@ exit_status (Err stop) = status_of stop
 abbrev pub told : Result (Unit {0}) Stop → List ℕ
 told (Ok done) = []
 told (Err stop) = stop_line stop
+
+-- why a run stops where reading does
+abbrev pub read_stop : ReadStop → Stop
+read_stop TooLongRead = TooLong
+read_stop MemoryRead = Memory
+read_stop Failed = Read

@@ -15,13 +15,12 @@ mod stop;
 mod style;
 #[cfg(test)]
 mod tests;
-mod watched;
 
+use ends::Watched;
 use program::{Start, program};
 use std::env;
 use std::io::IsTerminal;
 use std::process::ExitCode;
-use watched::Watched;
 
 fn main(rt: HostRuntime) -> ExitCode {
     let start = Start {

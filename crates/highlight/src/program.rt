@@ -1,18 +1,18 @@
 //! The whole program, over any ends.
-ghost use Rattle.std.specs.Prelude.{◌≡◌, ◌≢◌, ◌↔◌, false, true, IsErrOf, IsTrue, IfErr, IfOk, Result, drop};
+ghost use Rattle.std.specs.Prelude.{◌≡◌, ◌≢◌, ◌↔◌, false, true, IsErrOf, IsTrue, IfErr, IfOk, Result};
 ghost use Rattle.std.specs.Io.KnownBytes.{Appends, Keeps};
-ghost use Rattle.std.specs.Vec.Iter.{into_iter_items};
 ghost use Rattle.highlight.specs.declared.stop.Stop.{Stop as TheStop};
-ghost use Rattle.highlight.specs.Outcome.{AppendsFront};
-ghost use Rattle.highlight.specs.Program.{colours_of, words_of, Ran};
+ghost use Rattle.ends.specs.Known.{AppendsFront};
+ghost use Rattle.ends.specs.Words.{words_of};
+ghost use Rattle.highlight.specs.Program.{colours_of, Ran};
 ghost use Rattle.highlight.specs.Stop.{exit_status, told};
 
 use crate::job::{Job, read_job};
 use crate::report::report;
-use crate::run::{run, write_all};
+use crate::run::{put, run};
 use crate::stop::Stop;
-use crate::watched::Watched;
-use std::alloc::{AllocError, Global};
+use ends::{Watched, past_name};
+use std::alloc::Global;
 use std::env::{Args, VarError};
 use std::io::{Read, Write};
 
@@ -48,22 +48,22 @@ pub fn program<R: Read, W: Write, E: Write>(
     errors: &mut Watched<E>,
 ) -> u8
     requires reads { input.old.failed ≡ false }
-    requires writes { output.old.failed ≡ false }
+    requires writes { output.old.faulty ≡ false }
     requires open { output.old.closed ≡ false }
-    requires tells { errors.old.failed ≡ false }
+    requires tells { errors.old.faulty ≡ false }
     requires heard { errors.old.closed ≡ false }
     ensures ended { (outcome : Result (Unit {0}) TheStop)
         × Ran (words_of start.args) (colours_of start.no_color start.is_terminal)
         (R.remaining input.old.inner) (W.contents output.old.inner)
         (W.contents output.new.inner) outcome
         × (IsErrOf outcome Stop.Read ↔ IsTrue input.new.failed)
-        × (IsErrOf outcome Stop.Write ↔ IsTrue output.new.failed)
+        × (IsErrOf outcome Stop.Write ↔ IsTrue output.new.faulty)
         × (IsErrOf outcome Stop.ClosedPipe ↔ IsTrue output.new.closed)
         × (IfOk outcome (λ _. output.new.flushed ≡ true))
         × (IfErr outcome (λ stop. stop ≢ Stop.Write → stop ≢ Stop.ClosedPipe
         → Keeps (W.contents output.old.inner) (W.contents output.new.inner)))
         × (result ≡ exit_status outcome)
-        × (errors.new.failed ≡ false → errors.new.closed ≡ false
+        × (errors.new.faulty ≡ false → errors.new.closed ≡ false
         → Appends (E.contents errors.old.inner) (E.contents errors.new.inner) (told outcome))
         × AppendsFront (E.contents errors.old.inner) (E.contents errors.new.inner) (told outcome) }
 {
@@ -79,10 +79,10 @@ fn show<R: Read, W: Write>(
     output: &mut Watched<W>,
 ) -> Result<(), Stop>
     requires reads { input.old.failed ≡ false }
-    requires writes { output.old.failed ≡ false }
+    requires writes { output.old.faulty ≡ false }
     requires open { output.old.closed ≡ false }
     ensures read { IsErrOf result Stop.Read ↔ IsTrue input.new.failed }
-    ensures write { IsErrOf result Stop.Write ↔ IsTrue output.new.failed }
+    ensures write { IsErrOf result Stop.Write ↔ IsTrue output.new.faulty }
     ensures closed { IsErrOf result Stop.ClosedPipe ↔ IsTrue output.new.closed }
     ensures flushed { IfOk result (λ _. output.new.flushed ≡ true) }
     ensures silent { IfErr result (λ stop. stop ≢ Stop.Write → stop ≢ Stop.ClosedPipe
@@ -107,21 +107,9 @@ fn show<R: Read, W: Write>(
     };
     match read_job(words.as_slice(), colours) {
         Some(Job::Show { style, edition }) => run(alloc, style, edition, input, output),
-        Some(Job::Help) => write_all(output, HELP.as_bytes()),
+        Some(Job::Help) => put(output, HELP.as_bytes()),
         None => Err(Stop::Arguments),
     }
-}
-
-/// The words after the first, which is the program's name.
-fn past_name(alloc: Global, mut args: Args) -> Result<Vec<String>, AllocError>
-    ensures { IfOk result (λ words. words.items ≡ drop 1 (into_iter_items args)) }
-{
-    let _ = args.next();
-    let mut words = Vec::new(alloc);
-    while let Some(word) = args.next() {
-        words.push(word)?;
-    }
-    Ok(words)
 }
 
 /// Whether colours are written where the words do not say, by the value of `NO_COLOR`; `None` where memory for that

@@ -1,22 +1,22 @@
 //! What is told of a run that stopped, and its status.
 ghost use Rattle.std.specs.Prelude.{◌≡◌, false};
 ghost use Rattle.std.specs.Io.KnownBytes.{Appends};
-ghost use Rattle.highlight.specs.Outcome.{AppendsFront};
+ghost use Rattle.ends.specs.Known.{AppendsFront};
 ghost use Rattle.highlight.specs.Stop.{exit_status, told};
 
-use crate::run::write_bytes;
+use crate::run::put;
 use crate::stop::{Stop, line, status};
-use crate::watched::Watched;
+use ends::Watched;
 use std::io::Write;
 
-/// Writes the line of the stop, if any, and answers the status of the program.
+/// Writes the line of the stop, if any, flushes, and answers the status of the program.
 ///
 /// What goes out is all of the line where the writer does not fail, else a beginning of it. The status is the same.
 pub fn report<E: Write>(outcome: &Result<(), Stop>, errors: &mut Watched<E>) -> u8
-    requires sound { errors.old.failed ≡ false }
+    requires sound { errors.old.faulty ≡ false }
     requires open { errors.old.closed ≡ false }
     ensures status { result ≡ exit_status outcome.now }
-    ensures line { errors.new.failed ≡ false → errors.new.closed ≡ false
+    ensures line { errors.new.faulty ≡ false → errors.new.closed ≡ false
         → Appends (E.contents errors.old.inner) (E.contents errors.new.inner) (told outcome.now) }
     ensures front { AppendsFront (E.contents errors.old.inner) (E.contents errors.new.inner)
         (told outcome.now) }
@@ -25,7 +25,7 @@ pub fn report<E: Write>(outcome: &Result<(), Stop>, errors: &mut Watched<E>) -> 
         Ok(()) => 0,
         Err(stop) => {
             // Where this line can't be written there is nobody to tell.
-            let _ = write_bytes(errors, line(stop).as_bytes());
+            let _ = put(errors, line(stop).as_bytes());
             status(stop)
         }
     }

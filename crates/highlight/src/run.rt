@@ -1,19 +1,19 @@
 //! A whole run: from the bytes of a reader to those of a writer.
-ghost use Rattle.std.specs.Prelude.{◌≡◌, ◌≢◌, ◌↔◌, ◌^◌, ◌<◌, false, true, if◌then◌else◌, IfErr, IfOk, IfSome, IsErrOf, IsTrue, OnErr, OnOk, length, string_bytes};
+ghost use Rattle.std.specs.Prelude.{◌≡◌, ◌≢◌, ◌↔◌, false, true, IfErr, IfOk, IfSome, IsErrOf, IsTrue, OnErr, OnOk, string_bytes};
 ghost use Rattle.std.specs.Io.KnownBytes.{Appends, Keeps};
 ghost use Rattle.rustc_lexer.specs.Classes.{Fits};
-ghost use Rattle.highlight.specs.Outcome.{outcome, AppendsFront, Ends, EndsReading, IsReadStop, IsWriteStop};
+ghost use Rattle.highlight.specs.Outcome.{outcome, Ends, IsWriteStop};
 ghost use Rattle.highlight.specs.Page.{printed};
-ghost use Rattle.highlight.specs.Watch.{is_closed};
+ghost use Rattle.ends.specs.Known.{AppendsFront};
 
 use crate::page::write_text;
 use crate::stop::Stop;
 use crate::style::Style;
-use crate::watched::{Watched, is_closed};
+use ends::{Watched, WriteStop, read_all, write_all};
 use rustc_lexer::Edition;
 use std::alloc::Global;
+use std::fmt;
 use std::io::{Read, Write};
-use std::{fmt, io};
 
 /// Reads all of the input, and then writes it with its tokens marked.
 ///
@@ -27,10 +27,10 @@ pub fn run<R: Read, W: Write>(
     output: &mut Watched<W>,
 ) -> Result<(), Stop>
     requires reads { input.old.failed ≡ false }
-    requires writes { output.old.failed ≡ false }
+    requires writes { output.old.faulty ≡ false }
     requires open { output.old.closed ≡ false }
     ensures read { IsErrOf result Stop.Read ↔ IsTrue input.new.failed }
-    ensures write { IsErrOf result Stop.Write ↔ IsTrue output.new.failed }
+    ensures write { IsErrOf result Stop.Write ↔ IsTrue output.new.faulty }
     ensures closed { IsErrOf result Stop.ClosedPipe ↔ IsTrue output.new.closed }
     ensures flushed { IfOk result (λ _. output.new.flushed ≡ true) }
     ensures silent { IfErr result
@@ -48,7 +48,7 @@ pub fn run<R: Read, W: Write>(
     let Ok(made) = print(alloc, style, edition, text) else {
         return Err(Stop::Memory);
     };
-    write_all(output, made.as_str().as_bytes())
+    put(output, made.as_str().as_bytes())
 }
 
 /// All that is written of the text.
@@ -66,40 +66,11 @@ fn print(
     Ok(made)
 }
 
-/// How many bytes a read asks for.
-const PIECE: usize = 65536;
-
-/// All bytes up to the end of the input, of which there are at most `u32::MAX`.
-fn read_all<R: Read>(alloc: Global, input: &mut Watched<R>) -> Result<Vec<u8>, Stop>
-    requires reads { input.old.failed ≡ false }
-    ensures failed { IsErrOf result Stop.Read ↔ IsTrue input.new.failed }
-    ensures fits { IfOk result (λ bytes. length bytes.items < 2 ^ 32) }
-    ensures stops { IfErr result IsReadStop }
-    ensures ends { EndsReading (R.remaining input.old.inner) result }
-{
-    let mut bytes = Vec::new(alloc);
-    let mut piece = [0u8; PIECE];
-    loop {
-        let Ok(count) = input.read(&mut piece) else {
-            return Err(Stop::Read);
-        };
-        if count == 0 {
-            return Ok(bytes);
-        }
-        if count > u32::MAX as usize - bytes.len() {
-            return Err(Stop::TooLong);
-        }
-        if bytes.extend_from_slice(&piece[..count]).is_err() {
-            return Err(Stop::Memory);
-        }
-    }
-}
-
 /// Writes all of the text, and flushes.
-pub fn write_all<W: Write>(output: &mut Watched<W>, text: &[u8]) -> Result<(), Stop>
-    requires writes { output.old.failed ≡ false }
+pub fn put<W: Write>(output: &mut Watched<W>, text: &[u8]) -> Result<(), Stop>
+    requires writes { output.old.faulty ≡ false }
     requires open { output.old.closed ≡ false }
-    ensures failed { IsErrOf result Stop.Write ↔ IsTrue output.new.failed }
+    ensures failed { IsErrOf result Stop.Write ↔ IsTrue output.new.faulty }
     ensures closed { IsErrOf result Stop.ClosedPipe ↔ IsTrue output.new.closed }
     ensures flushed { IfOk result (λ _. output.new.flushed ≡ true) }
     ensures only { IfErr result IsWriteStop }
@@ -108,46 +79,9 @@ pub fn write_all<W: Write>(output: &mut Watched<W>, text: &[u8]) -> Result<(), S
     ensures err { OnErr result
         (AppendsFront (W.contents output.old.inner) (W.contents output.new.inner) text.now) }
 {
-    write_bytes(output, text)?;
-    match output.flush() {
+    match write_all(output, text) {
         Ok(()) => Ok(()),
-        Err(error) => Err(write_stop(&error)),
-    }
-}
-
-/// Writes all of the text.
-pub fn write_bytes<W: Write>(output: &mut Watched<W>, text: &[u8]) -> Result<(), Stop>
-    requires writes { output.old.failed ≡ false }
-    requires open { output.old.closed ≡ false }
-    ensures failed { IsErrOf result Stop.Write ↔ IsTrue output.new.failed }
-    ensures closed { IsErrOf result Stop.ClosedPipe ↔ IsTrue output.new.closed }
-    ensures only { IfErr result IsWriteStop }
-    ensures ok { OnOk result
-        (Appends (W.contents output.old.inner) (W.contents output.new.inner) text.now) }
-    ensures err { OnErr result
-        (AppendsFront (W.contents output.old.inner) (W.contents output.new.inner) text.now) }
-{
-    let mut rest = text;
-    while !rest.is_empty() {
-        let count = match output.write(rest) {
-            Ok(count) => count,
-            Err(error) => return Err(write_stop(&error)),
-        };
-        if count == 0 {
-            return Err(Stop::Write);
-        }
-        rest = &rest[count..];
-    }
-    Ok(())
-}
-
-/// Why a run stops where the writer answers an error.
-fn write_stop(error: &io::Error) -> Stop
-    ensures { result ≡ (if is_closed error.now then Stop.ClosedPipe else Stop.Write) }
-{
-    if is_closed(error) {
-        Stop::ClosedPipe
-    } else {
-        Stop::Write
+        Err(WriteStop::Failed) => Err(Stop::Write),
+        Err(WriteStop::ClosedPipe) => Err(Stop::ClosedPipe),
     }
 }

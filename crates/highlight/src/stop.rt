@@ -1,6 +1,8 @@
 //! Why a run stops.
 ghost use Rattle.std.specs.Prelude.{◌≡◌};
-ghost use Rattle.highlight.specs.Stop.{status_of, stop_line};
+ghost use Rattle.highlight.specs.Stop.{read_stop, status_of, stop_line};
+
+use ends::ReadStop;
 
 /// Why a run stops.
 #[derive(Clone, Copy, Debug, PartialEq, Eq)]
@@ -47,5 +49,17 @@ pub fn line(stop: &Stop) -> &'static str
         Stop::Read => "highlight: read failed\n",
         Stop::Write => "highlight: write failed\n",
         Stop::ClosedPipe => "",
+    }
+}
+
+impl From<ReadStop> for Stop {
+    ghost from_gives = { λ read stop. stop ≡ read_stop read };
+
+    fn from(read: ReadStop) -> Stop {
+        match read {
+            ReadStop::TooLong => Stop::TooLong,
+            ReadStop::Memory => Stop::Memory,
+            ReadStop::Failed => Stop::Read,
+        }
     }
 }

@@ -1,6 +1,5 @@
 pub mod EditedLemmas
 pub mod JobLemmas
-pub mod KnownLemmas
 pub mod ListingLemmas
 pub mod OutcomeLemmas
 pub mod PieceLemmas

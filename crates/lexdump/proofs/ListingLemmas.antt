@@ -3,8 +3,7 @@ use Rattle.std.proofs.Common.{◌≡◌, ℕ, ◌+◌, List, [], ◌∷◌, ◌+
 use Rattle.rustc_lexer.specs.declared.token.Token.{Token}
 use Rattle.rustc_lexer.specs.Tokens.{bound}
 use Rattle.lexdump.specs.Listing.{line_text, listing_from, listing}
-use Rattle.lexdump.specs.Outcome.{AppendsFront}
-use Rattle.lexdump.specs.Pushed.{Went}
+use Rattle.ends.specs.Known.{AppendsFront, Went}
 use Rattle.lexdump.proofs.PushLemmas.{went_none, went_pushed, front_pushed}
 
 -- of what was held first and the listing of all, what is held and the lines of the tokens that are left are still to

@@ -1,15 +1,20 @@
 -- The answer of a run is that of its outcome.
 use Rattle.std.proofs.Common.{◌≡◌, ◌≢◌, ℕ, ◌<◌, ◌≤◌, ◌^◌, nat_le, Bool, true, false, List, [], ◌++◌, length, refl, sym, ap, ◌∙◌, arith, subst, inl, inr, Option, Some, None, Result, Ok, Err, Vec, Global}
-use Rattle.std.specs.Prelude.{IfSome, IfErr, IfOk, OnOk, OnErr}
+use Rattle.std.specs.Prelude.{IfSome, IfErr, IfOk, IsErrOf, IsTrue, OnOk, OnErr, ◌↔◌}
 use Rattle.std.specs.Str.{IsUtf8, is_utf8}
 use Rattle.std.proofs.lemmas.Bool.{le-leb}
 use Rattle.std.proofs.lemmas.Bool.Decides.{leb_tells}
 use Rattle.std.specs.Io.KnownBytes.{Appends, Keeps}
 use Rattle.std.proofs.lemmas.Str.{IsUtf8-from_is_utf8, is_utf8-from_IsUtf8}
+use Rattle.ends.specs.declared.reading.ReadStop.{ReadStop}
+use Rattle.ends.specs.declared.reading.ReadStop.TheVariants.{TooLong as TooLongRead, Memory as MemoryRead, Failed}
+use Rattle.ends.specs.Known.{AppendsFront}
+use Rattle.ends.specs.Reading.{EndsReading}
+use Rattle.lexdump.specs.Fault.{read_fault}
 use Rattle.lexdump.specs.declared.fault.Fault.{Fault}
 use Rattle.lexdump.specs.declared.fault.Fault.TheVariants.{Arguments, NotUtf8, TooLong, EditRange, EditTooLong, Memory, Read, Write}
 use Rattle.lexdump.specs.declared.job.Job.{Job}
-use Rattle.lexdump.specs.Outcome.{printed, outcome, IsAnswer, AppendsFront, Writes, IsReadingFault, EndsReading}
+use Rattle.lexdump.specs.Outcome.{printed, outcome, IsAnswer, Writes}
 use Rattle.lexdump.specs.Pushed.{Prints}
 
 below : (a b : ℕ) → b < a → nat_le a b ≡ false
@@ -34,16 +39,11 @@ outcome-text job bytes fits is =
     let f : nat_le (2 ^ 32) (length bytes) ≡ false = below (2 ^ 32) (length bytes) fits in
     rw (f, e) refl
 
-pub answer_fault : (job : Job) (known : Option (List ℕ)) (fault : Fault) → IsReadingFault fault → EndsReading known (Err fault) → IfSome known (λ bytes. IsAnswer (Err fault) (outcome job bytes))
-answer_fault job None fault is ends = tt
-answer_fault job (Some bytes) TooLong is ends = outcome-long job bytes ends
-answer_fault job (Some bytes) Memory is ends = tt
-answer_fault job (Some bytes) Read is ends = tt
-answer_fault job (Some bytes) Arguments is ends = absurd is
-answer_fault job (Some bytes) NotUtf8 is ends = absurd is
-answer_fault job (Some bytes) (EditRange at) is ends = absurd is
-answer_fault job (Some bytes) (EditTooLong at) is ends = absurd is
-answer_fault job (Some bytes) Write is ends = absurd is
+pub answer_unread : (job : Job) (known : Option (List ℕ)) (stop : ReadStop) → EndsReading known (Err stop) → IfSome known (λ bytes. IsAnswer (Err (read_fault stop)) (outcome job bytes))
+answer_unread job None stop ends = tt
+answer_unread job (Some bytes) TooLongRead ends = outcome-long job bytes ends
+answer_unread job (Some bytes) MemoryRead ends = tt
+answer_unread job (Some bytes) Failed ends = tt
 
 pub answer_no_text : (job : Job) (known : Option (List ℕ)) (read : Vec ℕ Global) → EndsReading known (Ok read) → length read.items < 2 ^ 32 → ¬ (IsUtf8 read.items) → IfSome known (λ bytes. IsAnswer (Err NotUtf8) (outcome job bytes))
 answer_no_text job None read ends fits none = tt
@@ -134,5 +134,14 @@ module _ (old new : Option (List ℕ)) (held left : List ℕ) (printed : Result 
   stop_silent TooLong p other = absurd (other p.2.0)
 
 -- a fault of reading is none of writing
-pub reads_only : (fault : Fault) → IsReadingFault fault → ¬ (fault ≡ Write)
-reads_only fault is e = subst IsReadingFault e is
+pub reads_only : (stop : ReadStop) → ¬ (read_fault stop ≡ Write)
+reads_only TooLongRead e = cc
+reads_only MemoryRead e = cc
+reads_only Failed e = cc
+
+-- the run stops by a failed read where the reading does
+pub read_tells : (stop : ReadStop) (failed : Bool) → IsErrOf (let r : Result (Vec ℕ Global) ReadStop = Err stop in r) Failed ↔ IsTrue failed
+    → IsErrOf (let r : Result (Unit {0}) Fault = Err (read_fault stop) in r) Read ↔ IsTrue failed
+read_tells TooLongRead failed tells = (λ e. cc, λ t. let e = tells.1 t in cc)
+read_tells MemoryRead failed tells = (λ e. cc, λ t. let e = tells.1 t in cc)
+read_tells Failed failed tells = (λ e. tells.0 refl, λ t. refl)

@@ -3,8 +3,7 @@ use Rattle.std.proofs.Common.{◌≡◌, ℕ, ◌+◌, List, [], ◌∷◌, ◌+
 use Rattle.rustc_lexer.specs.declared.token.Token.{Token}
 use Rattle.rustc_lexer.specs.Pieces.{Placed, pieces_from, pieces_of}
 use Rattle.lexdump.specs.Listing.{line_text, listing_from, listing}
-use Rattle.lexdump.specs.Outcome.{AppendsFront}
-use Rattle.lexdump.specs.Pushed.{Went}
+use Rattle.ends.specs.Known.{AppendsFront, Went}
 use Rattle.lexdump.proofs.PushLemmas.{went_none, went_pushed, front_pushed}
 
 -- the lines of the pieces

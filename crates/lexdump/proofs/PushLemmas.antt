@@ -3,9 +3,9 @@ use Rattle.std.proofs.Common.{◌≡◌, ℕ, List, [], ◌++◌, refl, sym, ap,
 use Rattle.std.specs.Io.KnownBytes.{Appends}
 use Rattle.lexdump.specs.declared.fault.Fault.{Fault}
 use Rattle.lexdump.specs.declared.fault.Fault.TheVariants.{Write}
-use Rattle.lexdump.specs.Outcome.{AppendsFront}
-use Rattle.lexdump.specs.Pushed.{Pushes, Went}
-use Rattle.lexdump.proofs.KnownLemmas.{appends-none, appends-more, front_first, front_more}
+use Rattle.ends.specs.Known.{AppendsFront, Went}
+use Rattle.lexdump.specs.Pushed.{Pushes}
+use Rattle.ends.proofs.KnownLemmas.{appends-none, appends-more, front_first, front_more}
 
 -- nothing went out yet
 pub went_none : (old : Option (List ℕ)) (bytes : List ℕ) → Went old old bytes bytes
@@ -66,3 +66,7 @@ pushes_same old new held left one bytes result e p = subst (λ (xs : List ℕ). 
 pub three-fields : (one two three end all : List ℕ) → one ++ (two ++ three) ≡ all → one ++ (two ++ (three ++ end)) ≡ all ++ end
 three-fields one two three end all e =
     ap (λ xs. one ++ xs) (sym (append_assoc two three end)) ∙ (sym (append_assoc one (two ++ three) end) ∙ ap (λ xs. xs ++ end) e)
+
+pub on_err : {T E P : Type 0} (result : Result T E) → P → OnErr result P
+on_err (Ok done) p = tt
+on_err (Err error) p = p

@@ -1,5 +1,7 @@
 -- The statuses of the program, and its lines on standard error.
 use Rattle.std.specs.Prelude.{ℕ, List, [], ◌∷◌, ◌++◌, codes, decimal, Option, Some, None}
+use Rattle.ends.specs.declared.reading.ReadStop.{ReadStop}
+use Rattle.ends.specs.declared.reading.ReadStop.TheVariants.{TooLong as TooLongRead, Memory as MemoryRead, Failed}
 use Rattle.rustc_lexer.specs.declared.relex.edit_list.EditStop.{EditStop}
 use Rattle.rustc_lexer.specs.declared.relex.edit_list.EditStop.TheVariants.{Range as RangeStop, TooLong as TooLongStop, Memory as MemoryStop}
 use Rattle.lexdump.specs.declared.fault.Fault.{Fault}
@@ -39,3 +41,9 @@ abbrev pub stop_fault : EditStop → Fault
 stop_fault (RangeStop at) = EditRange at
 stop_fault (TooLongStop at) = EditTooLong at
 stop_fault (MemoryStop at) = Memory
+
+-- the fault of reading that stopped
+abbrev pub read_fault : ReadStop → Fault
+read_fault TooLongRead = TooLong
+read_fault MemoryRead = Memory
+read_fault Failed = Read

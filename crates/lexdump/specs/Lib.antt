@@ -5,4 +5,3 @@ pub mod Outcome
 pub mod Program
 pub mod Pushed
 pub mod Rest
-pub mod Watch

@@ -1,20 +1,11 @@
 -- What the program comes to, by its arguments and the bytes that it reads.
-use Rattle.std.specs.Prelude.{ℕ, ◌≡◌, List, [], Option, Some, None, Result, Ok, Err, IfSome, drop, map, string_bytes}
-use Rattle.std.specs.Option.{option_map}
-use Rattle.std.specs.Global.{Global}
-use Rattle.std.specs.Vec.Iter.{into_iter_items}
-use Rattle.std.specs.declared.string.String.{String}
-use Rattle.std.specs.declared.vec.IntoIter.{IntoIter}
+use Rattle.std.specs.Prelude.{ℕ, ◌≡◌, List, [], Option, Some, None, Result, Ok, Err, IfSome}
 use Rattle.lexdump.specs.declared.fault.Fault.{Fault}
 use Rattle.lexdump.specs.declared.fault.Fault.TheVariants.{Arguments, Memory}
 use Rattle.lexdump.specs.declared.job.Job.{Job}
 use Rattle.lexdump.specs.Fault.{fault_line, status_of}
 use Rattle.lexdump.specs.Job.{Command, command_of, job_of}
 use Rattle.lexdump.specs.Outcome.{outcome, IsAnswer, Writes}
-
--- the words after the program's name, where the arguments could be had
-abbrev pub words_of : Option (IntoIter (String Global) Global) → Option (List (List ℕ))
-words_of args = option_map (λ words. map string_bytes (drop 1 (into_iter_items words))) args
 
 -- the status with which the program ends
 abbrev pub exit_status : Result (Unit {0}) Fault → ℕ

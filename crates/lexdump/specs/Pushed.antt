@@ -1,15 +1,9 @@
 -- What bytes that are pushed come to, where some are still held.
 use Rattle.std.specs.Prelude.{ℕ, ◌≡◌, List, ◌++◌, Option, Result, Ok, Err}
-use Rattle.std.specs.Io.KnownBytes.{Keeps, Appends}
+use Rattle.std.specs.Io.KnownBytes.{Keeps}
+use Rattle.ends.specs.Known.{AppendsFront, Went}
 use Rattle.lexdump.specs.declared.fault.Fault.{Fault}
 use Rattle.lexdump.specs.declared.fault.Fault.TheVariants.{EditRange, EditTooLong, Memory, Write}
-use Rattle.lexdump.specs.Outcome.{AppendsFront}
-
--- a front of the bytes went out, and the rest is still to come
-pub record Went (old new : Option (List ℕ)) (bytes rest : List ℕ) : Type 0 where
-  pub front : List ℕ
-  pub whole : bytes ≡ front ++ rest
-  pub grew : Appends old new front
 
 -- bytes come behind those that are held: what went out of them all, and what is held then, are all of them in order;
 -- after a failed write a beginning of them went out

@@ -1,10 +1,13 @@
 //! Why a run stops.
-ghost use Rattle.std.specs.Prelude.{◌≡◌};
-ghost use Rattle.lexdump.specs.Fault.{status_of, stop_fault};
+ghost use Rattle.std.specs.Prelude.{◌≡◌, Some};
+ghost use Rattle.lexdump.specs.Fault.{fault_text, read_fault, status_of, stop_fault};
 ghost use Rattle.lexdump.specs.declared.fault.Fault.TheVariants.{Memory};
 
+use ends::ReadStop;
 use rustc_lexer::EditStop;
 use std::alloc::{AllocError, AllocFailed};
+use std::error::Error;
+use std::fmt;
 
 /// Why a run stops.
 #[derive(Clone, Copy, Debug, PartialEq, Eq)]
@@ -41,6 +44,26 @@ pub fn status(fault: &Fault) -> u8
     }
 }
 
+impl fmt::Display for Fault {
+    ghost output = { λ fault. Some (fault_text fault) };
+
+    #[tactic(auto, unfolding(crate::specs::Fault::fault_text))]
+    fn fmt<W: fmt::Write>(&self, f: &mut fmt::Formatter<W>) -> fmt::Result {
+        match self {
+            Fault::Arguments => f.write_str("bad arguments"),
+            Fault::NotUtf8 => f.write_str("input is not UTF-8"),
+            Fault::TooLong => f.write_str("input too long"),
+            Fault::EditRange { at } => write!(f, "edit {at}: bad range"),
+            Fault::EditTooLong { at } => write!(f, "edit {at}: text too long"),
+            Fault::Memory => f.write_str("no memory"),
+            Fault::Read => f.write_str("read failed"),
+            Fault::Write => f.write_str("write failed"),
+        }
+    }
+}
+
+impl Error for Fault {}
+
 impl From<EditStop> for Fault {
     ghost from_gives = { λ stop fault. fault ≡ stop_fault stop };
 
@@ -49,6 +72,18 @@ impl From<EditStop> for Fault {
             EditStop::Range { at } => Fault::EditRange { at },
             EditStop::TooLong { at } => Fault::EditTooLong { at },
             EditStop::Memory { at: _ } => Fault::Memory,
+        }
+    }
+}
+
+impl From<ReadStop> for Fault {
+    ghost from_gives = { λ stop fault. fault ≡ read_fault stop };
+
+    fn from(stop: ReadStop) -> Fault {
+        match stop {
+            ReadStop::TooLong => Fault::TooLong,
+            ReadStop::Memory => Fault::Memory,
+            ReadStop::Failed => Fault::Read,
         }
     }
 }

@@ -11,7 +11,7 @@ ghost use Rattle.rustc_lexer.specs.Tokens.{tokens_of};
 
 use crate::fault::Fault;
 use crate::output::Block;
-use crate::watched::Watched;
+use ends::Watched;
 use itoa::write_digits;
 use rustc_lexer::{
     Base, DocStyle, Edit, Edition, FrontmatterAllowed, LexedText, LiteralKind, Stepper, Steps,
@@ -41,7 +41,7 @@ pub fn list_tokens<W: Write>(
     Ok(())
 }
 
-/// The same of the tokens in an edition.
+/// Lists the tokens of a text in an edition.
 pub fn list_tokens_in<W: Write>(
     lines: &mut Block,
     output: &mut Watched<W>,

@@ -2,11 +2,11 @@
 ghost use Rattle.std.specs.Prelude.{◌≡◌, ◌+◌, ◌≤◌, ◌++◌, [], false, true, is_err, length, IfErr, IfOk, OnErr, OnOk};
 ghost use Rattle.std.specs.Fmt.{decimal};
 ghost use Rattle.std.specs.Io.KnownBytes.{Appends};
-ghost use Rattle.lexdump.specs.Outcome.{AppendsFront};
+ghost use Rattle.ends.specs.Known.{AppendsFront};
 ghost use Rattle.lexdump.specs.Pushed.{Pushes};
 
 use crate::fault::Fault;
-use crate::watched::Watched;
+use ends::Watched;
 use itoa::Buffer;
 use std::io::Write;
 use std::marker::Model;
@@ -158,15 +158,8 @@ pub fn write_bytes<W: Write>(output: &mut Watched<W>, bytes: &[u8]) -> Result<()
     ensures err { OnErr result
         (AppendsFront (W.contents output.old.inner) (W.contents output.new.inner) bytes.now) }
 {
-    let mut rest = bytes;
-    while !rest.is_empty() {
-        let Ok(count) = output.write(rest) else {
-            return Err(Fault::Write);
-        };
-        if count == 0 {
-            return Err(Fault::Write);
-        }
-        rest = &rest[count..];
+    match ends::write_bytes(output, bytes) {
+        Ok(()) => Ok(()),
+        Err(_) => Err(Fault::Write),
     }
-    Ok(())
 }

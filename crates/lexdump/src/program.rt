@@ -1,17 +1,17 @@
 //! The whole program, over any ends.
-ghost use Rattle.std.specs.Prelude.{◌≡◌, ◌≢◌, ◌↔◌, false, true, IsErrOf, IsTrue, IfErr, IfOk, drop, Result};
+ghost use Rattle.std.specs.Prelude.{◌≡◌, ◌≢◌, ◌↔◌, false, true, IsErrOf, IsTrue, IfErr, IfOk, Result};
 ghost use Rattle.std.specs.Io.KnownBytes.{Appends, Keeps};
-ghost use Rattle.std.specs.Vec.Iter.{into_iter_items};
 ghost use Rattle.lexdump.specs.declared.fault.Fault.{Fault as TheFault};
-ghost use Rattle.lexdump.specs.Outcome.{AppendsFront};
-ghost use Rattle.lexdump.specs.Program.{exit_status, told, words_of, Ran};
+ghost use Rattle.ends.specs.Known.{AppendsFront};
+ghost use Rattle.ends.specs.Words.{words_of};
+ghost use Rattle.lexdump.specs.Program.{exit_status, told, Ran};
 
 use crate::fault::Fault;
 use crate::job::read_job;
 use crate::report::report;
 use crate::run::run;
-use crate::watched::Watched;
-use std::alloc::{AllocError, Global};
+use ends::{Watched, past_name};
+use std::alloc::Global;
 use std::env::Args;
 use std::io::{Read, Write};
 
@@ -73,16 +73,4 @@ fn dump<R: Read, W: Write>(
         Ok(job) => run(alloc, &job, input, output),
         Err(fault) => Err(fault),
     }
-}
-
-/// The words after the first, which is the program's name.
-fn past_name(alloc: Global, mut args: Args) -> Result<Vec<String>, AllocError>
-    ensures { IfOk result (λ words. words.items ≡ drop 1 (into_iter_items args)) }
-{
-    let _ = args.next();
-    let mut words = Vec::new(alloc);
-    while let Some(word) = args.next() {
-        words.push(word)?;
-    }
-    Ok(words)
 }

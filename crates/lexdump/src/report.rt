@@ -2,12 +2,12 @@
 ghost use Rattle.std.specs.Prelude.{◌≡◌, ◌++◌, ◌↔◌, false, IsErrOf, IsTrue, IfErr, OnErr, OnOk};
 ghost use Rattle.std.specs.Io.KnownBytes.{Appends};
 ghost use Rattle.lexdump.specs.Fault.{fault_line, number_text};
-ghost use Rattle.lexdump.specs.Outcome.{AppendsFront};
+ghost use Rattle.ends.specs.Known.{AppendsFront};
 ghost use Rattle.lexdump.specs.Program.{exit_status, told};
 
 use crate::fault::{Fault, status};
 use crate::output::write_bytes;
-use crate::watched::Watched;
+use ends::Watched;
 use itoa::Buffer;
 use std::io::Write;
 

@@ -1,16 +1,16 @@
 //! A whole run: from the bytes of a reader to the lines of a writer.
-ghost use Rattle.std.specs.Prelude.{◌≡◌, ◌≢◌, ◌↔◌, ◌^◌, ◌<◌, false, true, IsTrue, IsErrOf, IfErr, IfOk, IfSome, length};
+ghost use Rattle.std.specs.Prelude.{◌≡◌, ◌≢◌, ◌↔◌, false, true, IsTrue, IsErrOf, IfErr, IfOk, IfSome};
 ghost use Rattle.std.specs.Io.KnownBytes.{Keeps};
 ghost use Rattle.rustc_lexer.specs.Classes.{Fits};
 ghost use Rattle.rustc_lexer.specs.LanguageHolds.{IsDetermined};
-ghost use Rattle.lexdump.specs.Outcome.{outcome, printed, IsAnswer, Writes, EndsReading, IsReadingFault};
+ghost use Rattle.lexdump.specs.Outcome.{outcome, printed, IsAnswer, Writes};
 ghost use Rattle.lexdump.specs.Pushed.{Prints};
 
 use crate::fault::Fault;
 use crate::job::Job;
 use crate::listing::{edited, list_pieces, list_tokens, list_tokens_in, tell_shebang};
 use crate::output::Block;
-use crate::watched::Watched;
+use ends::{Watched, read_all};
 use rustc_lexer::FrontmatterAllowed;
 use std::alloc::Global;
 use std::io::{Read, Write};
@@ -74,32 +74,5 @@ fn print<W: Write>(
             let lexed = edited(alloc, text, *edition, edits.as_slice())?;
             list_pieces(lines, output, &lexed)
         }
-    }
-}
-
-/// How many bytes a read asks for.
-const PIECE: usize = 65536;
-
-/// All bytes up to the end of the input, of which there are at most `u32::MAX`.
-fn read_all<R: Read>(alloc: Global, input: &mut Watched<R>) -> Result<Vec<u8>, Fault>
-    requires reads { input.old.failed ≡ false }
-    ensures failed { IsErrOf result Fault.Read ↔ IsTrue input.new.failed }
-    ensures fits { IfOk result (λ bytes. length bytes.items < 2 ^ 32) }
-    ensures faults { IfErr result IsReadingFault }
-    ensures ends { EndsReading (R.remaining input.old.inner) result }
-{
-    let mut bytes = Vec::new(alloc);
-    let mut piece = [0u8; PIECE];
-    loop {
-        let Ok(count) = input.read(&mut piece) else {
-            return Err(Fault::Read);
-        };
-        if count == 0 {
-            return Ok(bytes);
-        }
-        if count > u32::MAX as usize - bytes.len() {
-            return Err(Fault::TooLong);
-        }
-        bytes.extend_from_slice(&piece[..count])?;
     }
 }

@@ -21,7 +21,7 @@ pub trait Record: Copy {
     fn of(token: Token) -> Self
         ensures { result ≡ written token };
 
-    /// The same of a token whose kind has no fields. Most tokens have none.
+    /// What a token is written as whose kind has no fields. Most tokens have none.
     fn bare(kind: TokenKind, len: u32) -> Self
         requires { has_fields kind ≡ false }
         ensures { result ≡ written (record { kind = kind; len = len }) };

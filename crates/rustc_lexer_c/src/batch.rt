@@ -51,7 +51,7 @@ pub extern "C" fn rustc_lexer_tokens(
     }
 }
 
-/// The same of a text that `rustc_lexer_check` found to be UTF-8, which is not tested again.
+/// Writes the tokens from a place on of a text that `rustc_lexer_check` found to be UTF-8, which is not tested again.
 #[unsafe(no_mangle)]
 pub extern "C" fn rustc_lexer_tokens_unchecked(
     text: &[u8],
@@ -158,7 +158,7 @@ fn fill(text: &str, place: &mut CPlace, room: &mut [CToken]) -> usize
     count
 }
 
-/// The same where one is allowed, one token after another.
+/// Writes the batch where a frontmatter is allowed, one token after another.
 fn fill_singly(text: &str, place: &mut CPlace, room: &mut [CToken]) -> usize
     requires fits { Fits text.now }
     requires boundary { IsCharBoundary text.now place.old.at }

@@ -53,7 +53,7 @@ pub extern "C" fn rustc_lexer_unescape(
     }
 }
 
-/// The same of a text that `rustc_lexer_check` found to be UTF-8, which is not tested again.
+/// Writes units of a text that `rustc_lexer_check` found to be UTF-8, which is not tested again.
 #[unsafe(no_mangle)]
 pub extern "C" fn rustc_lexer_unescape_unchecked(
     text: &[u8],

@@ -1,7 +1,7 @@
 //! Readers and writers that fail once and would then go on, that give after their end, and that take a part.
 ghost use Rattle.std.specs.Prelude.{◌≡◌, false};
 
-use crate::watched::Watched;
+use ends::Watched;
 use std::alloc::Global;
 use std::io;
 use std::io::{Error, ErrorKind, Read, Write};
@@ -72,6 +72,7 @@ impl<'a> Write for TurnWriter<'a> {
 
 pub(super) fn reader<'a>(bytes: &'a [u8], turns: &'a [Turn]) -> Watched<TurnReader<'a>>
     ensures failed { result.failed ≡ false }
+    ensures faulty { result.faulty ≡ false }
     ensures closed { result.closed ≡ false }
 {
     Watched::new(TurnReader {
@@ -87,6 +88,7 @@ pub(super) fn writer<'a>(
     fails_flush: Option<ErrorKind>,
 ) -> Watched<TurnWriter<'a>>
     ensures failed { result.failed ≡ false }
+    ensures faulty { result.faulty ≡ false }
     ensures closed { result.closed ≡ false }
 {
     Watched::new(TurnWriter {

@@ -2,7 +2,7 @@
 use crate::program::{Start, program};
 use crate::tests::ends::{Turn, reader, writer};
 use crate::tests::words_of;
-use crate::watched::Watched;
+use ends::Watched;
 use std::env::VarError;
 use std::io::ErrorKind;
 use std::test::Fail;

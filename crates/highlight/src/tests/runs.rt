@@ -4,7 +4,7 @@ use crate::stop::Stop;
 use crate::style::Style;
 use crate::tests::ends::Turn::{Fails, Moves};
 use crate::tests::ends::{Turn, reader, writer};
-use crate::watched::Watched;
+use ends::Watched;
 use std::io::{ErrorKind, Read, Write};
 use std::test::Fail;
 

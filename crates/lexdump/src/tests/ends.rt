@@ -2,7 +2,7 @@
 use crate::fault::Fault;
 use crate::job::Job;
 use crate::run::run;
-use crate::watched::Watched;
+use ends::Watched;
 use std::io;
 use std::io::{Error, ErrorKind, Read, Write};
 

@@ -1,7 +1,8 @@
 //! The statuses and the lines on standard error.
 use crate::fault::{Fault, status};
 use crate::report::report;
-use crate::watched::Watched;
+use ends::Watched;
+use std::test::Fail;
 
 #[test]
 fn statuses(rt: HostRuntime) {
@@ -26,7 +27,7 @@ fn told(rt: &HostRuntime, outcome: &Result<(), Fault>) -> (Vec<u8>, u8) {
 }
 
 #[test]
-fn lines_on_standard_error(rt: HostRuntime) {
+fn lines_on_standard_error(rt: HostRuntime) -> Result<(), Fail> {
     let rows: [(Fault, &str, u8); 10] = [
         (Fault::Arguments, "lexdump: bad arguments\n", 2),
         (Fault::NotUtf8, "lexdump: input is not UTF-8\n", 3),
@@ -56,6 +57,8 @@ fn lines_on_standard_error(rt: HostRuntime) {
         (Fault::Write, "lexdump: write failed\n", 7),
     ];
     for (fault, line, status) in rows {
+        let shown = format!(in rt.alloc(); "lexdump: {fault}\n")?;
+        assert_eq!(rt; shown.as_str(), line);
         let came = told(&rt, &Err(fault));
         assert_eq!(rt; came.0.as_slice(), line.as_bytes());
         assert_eq!(rt; came.1, status);
@@ -63,4 +66,5 @@ fn lines_on_standard_error(rt: HostRuntime) {
     let came = told(&rt, &Ok(()));
     assert!(rt; came.0.is_empty());
     assert_eq!(rt; came.1, 0);
+    Ok(())
 }

@@ -1,7 +1,7 @@
 //! The whole program over ends in memory.
 use crate::program::program;
 use crate::tests::words_of;
-use crate::watched::Watched;
+use ends::Watched;
 use std::test::Fail;
 
 #[test]

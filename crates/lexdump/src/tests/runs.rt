@@ -3,7 +3,7 @@ use crate::fault::{Fault, status};
 use crate::job::Job;
 use crate::run::run;
 use crate::tests::ends::{Failure, dump};
-use crate::watched::Watched;
+use ends::Watched;
 use rustc_lexer::Edition;
 use std::test::Fail;
 

@@ -4,7 +4,7 @@ ghost use Rattle.std.specs.Prelude.{◌≡◌, false};
 use crate::fault::Fault;
 use crate::job::{Job, read_job};
 use crate::run::run;
-use crate::watched::Watched;
+use ends::Watched;
 use std::alloc::{AllocError, Global};
 use std::io;
 use std::io::{Error, ErrorKind, Read, Write};

@@ -1,6 +1,7 @@
 use Rattle.std.proofs.Common.{◌++◌, List, ℕ, refl, ap, ◌∙◌}
 use Rattle.lexdump.specs.Fault.{number_text}
-use Rattle.lexdump.proofs.KnownLemmas.{front_first, front_more, front_last, on_err}
+use Rattle.ends.proofs.KnownLemmas.{front_first, front_more, front_last}
+use Rattle.lexdump.proofs.PushLemmas.{on_err}
 use Rattle.std.proofs.lemmas.Result.{on_err_weaker}
 use Rattle.lexdump.proofs.report.tell.Goals as goal
 

@@ -1,21 +1,15 @@
-use Rattle.std.proofs.Common.{ℕ, List, ◌++◌, length, true≢false, subst, sym, ap, ◌∙◌, arith}
-use Rattle.std.specs.Prelude.{IsTrue}
+use Rattle.std.proofs.Common.{ℕ, List, ◌++◌, length, subst, sym, ap, ◌∙◌, arith}
 use Rattle.std.specs.Str.{IsUtf8}
 use Rattle.std.proofs.lemmas.Result.{err_from_is_err_and}
-use Rattle.lexdump.specs.Pushed.{Went}
-use Rattle.lexdump.proofs.OutcomeLemmas.{answer_fault, answer_no_text, answer_unprinted, writes_unprinted, answer_text, writes_text, stop_answer, stop_writes, stop_no_read, stop_silent, reads_only}
+use Rattle.ends.specs.Known.{Went}
+use Rattle.lexdump.proofs.OutcomeLemmas.{answer_unread, answer_no_text, answer_unprinted, writes_unprinted, answer_text, writes_text, stop_answer, stop_writes, stop_no_read, stop_silent}
 use Rattle.lexdump.proofs.PushLemmas.{finishes_ok, finishes_err}
 use Rattle.lexdump.proofs.run.run.Goals as goal
-
-pub returns-in_err-bytes-clause-write : goal.returns-in_err-bytes-clause-write
-returns-in_err-bytes-clause-write g c =
-    let p = err_from_is_err_and c.from_residual.result c.from_residual.ensures.1 in
-    rw (p.1, p.2) (λ e. absurd (reads_only _ c.in_err-bytes.ensures.faults (cc)), λ t. absurd (true≢false (sym (subst IsTrue c.requires.writes t))))
 
 pub returns-in_err-bytes-clause-outcome : goal.returns-in_err-bytes-clause-outcome
 returns-in_err-bytes-clause-outcome g c =
     let p = err_from_is_err_and c.from_residual.result c.from_residual.ensures.1 in
-    rw (p.1, p.2) (answer_fault c.args.job.now _ _ c.in_err-bytes.ensures.faults c.in_err-bytes.ensures.ends)
+    rw (p.1, p.2) (answer_unread c.args.job.now _ _ c.in_err-bytes.ensures.ends)
 
 pub returns-in-Err-clause-outcome : goal.returns-in-Err-clause-outcome
 returns-in-Err-clause-outcome g c = answer_no_text c.args.job.now _ _ c.in_ok-bytes.ensures.ends c.in_ok-bytes.ensures.fits (subst (λ (xs : List ℕ). ¬ (IsUtf8 xs)) c.as_slice.ensures.value c.in-Err.ensures.cases.0)

@@ -1,0 +1,69 @@
+-- The known bytes of readers and writers, over loops.
+use Rattle.std.proofs.Common.{◌≡◌, ◌≢◌, ◌==◌, ◌||◌, ◌&&◌, Bool, false, ℕ, ◌+◌, ◌-◌, List, [], ◌∷◌, ◌++◌, length, take, drop, refl, sym, ap, ◌∙◌, arith, append_assoc, append-nil, length-append, take-append-drop, take_at, length-drop, take_all, subst, Option, Some, None, Result, Ok, Err}
+use Rattle.std.specs.Io.KnownBytes.{Appends, Consumes, Keeps}
+use Rattle.std.proofs.Math.Seq.{take-append-add}
+use Rattle.std.proofs.lemmas.List.{take-append-le}
+use Rattle.ends.specs.Known.{AppendsFront, Went}
+
+pub appends-none : (old : Option (List ℕ)) → Appends old old []
+appends-none None = tt
+appends-none (Some xs) = sym (append-nil xs)
+
+pub appends-more : (old mid new : Option (List ℕ)) (xs ys : List ℕ) → Appends old mid xs → Appends mid new ys → Appends old new (xs ++ ys)
+appends-more None mid new xs ys a b = tt
+appends-more (Some o) None new xs ys a b = absurd a
+appends-more (Some o) (Some m) None xs ys a b = absurd b
+appends-more (Some o) (Some m) (Some n) xs ys a b = b ∙ (ap (λ zs. zs ++ ys) a ∙ append_assoc o xs ys)
+
+pub appends-kept : (old mid new : Option (List ℕ)) (xs : List ℕ) → Appends old mid xs → Keeps mid new → Appends old new xs
+appends-kept None mid new xs a b = tt
+appends-kept (Some o) None new xs a b = absurd a
+appends-kept (Some o) (Some m) None xs a b = absurd b
+appends-kept (Some o) (Some m) (Some n) xs a b = b ∙ a
+
+pub consumes-more : (old mid new : Option (List ℕ)) (xs ys : List ℕ) → Consumes old mid xs → Consumes mid new ys → Consumes old new (xs ++ ys)
+consumes-more None mid new xs ys a b = tt
+consumes-more (Some o) None new xs ys a b = absurd a
+consumes-more (Some o) (Some m) None xs ys a b = absurd b
+consumes-more (Some o) (Some m) (Some n) xs ys a b = a ∙ (ap (λ zs. xs ++ zs) b ∙ sym (append_assoc xs ys n))
+
+pub went_more : (old mid new : Option (List ℕ)) (text rest cut : List ℕ) (n : ℕ) → Went old mid text rest → Appends mid new (take n rest) → cut ≡ drop n rest → Went old new text cut
+went_more old mid new text rest cut n w a e = record {
+  front = w.front ++ take n rest;
+  whole = w.whole ∙ (ap (λ xs. w.front ++ xs) (sym (take-append-drop n rest) ∙ ap (λ xs. take n rest ++ xs) (sym e)) ∙ sym (append_assoc w.front (take n rest) cut));
+  grew = appends-more old mid new w.front (take n rest) w.grew a;
+}
+
+pub went_kept : (old mid new : Option (List ℕ)) (text rest : List ℕ) → Went old mid text rest → Keeps mid new → Went old new text rest
+went_kept old mid new text rest w k = record { front = w.front; whole = w.whole; grew = appends-kept old mid new w.front w.grew k }
+
+pub went_front : (old new : Option (List ℕ)) (text rest : List ℕ) → Went old new text rest → AppendsFront old new text
+went_front old new text rest w =
+    let n : ℕ = length w.front in
+    let front : take n text ≡ w.front = ap (take n) w.whole ∙ take_at w.front rest n refl in
+    (n, omega (arith, ap length w.whole, length-append w.front rest), subst (λ (xs : List ℕ). Appends old new xs) (sym front) w.grew)
+
+pub went_all : (old new : Option (List ℕ)) (text rest : List ℕ) → Went old new text rest → length rest ≡ 0 → Appends old new text
+went_all old new text [] w none = subst (λ (xs : List ℕ). Appends old new xs) (sym (w.whole ∙ append-nil w.front)) w.grew
+went_all old new text (b ∷ bs) w none = absurd (omega arith)
+
+-- what is cut off a slice past its first n bytes, as a slice of a slice
+pub cut_past : (n : ℕ) (rest : List ℕ) → take (length rest - n) (drop n rest) ≡ drop n rest
+cut_past n rest = take_all (length rest - n) (drop n rest) (omega (arith, length-drop n rest))
+
+-- a beginning of a text is one of each text that goes on from it
+pub front_first : (old new : Option (List ℕ)) (xs ys text : List ℕ) → xs ++ ys ≡ text → AppendsFront old new xs → AppendsFront old new text
+front_first old new xs ys text e f =
+    (f.0, omega (arith, f.1, length-append xs ys, ap length e), subst (λ (zs : List ℕ). Appends old new zs) (sym (ap (take f.0) (sym e) ∙ take-append-le f.0 xs ys f.1)) f.2)
+
+-- a text and then a beginning of another
+pub front_more : (old mid new : Option (List ℕ)) (xs ys text : List ℕ) → xs ++ ys ≡ text → Appends old mid xs → AppendsFront mid new ys → AppendsFront old new text
+front_more old mid new xs ys text e a f = (
+  length xs + f.0,
+  omega (arith, f.1, length-append xs ys, ap length e),
+  subst (λ (zs : List ℕ). Appends old new zs) (sym (ap (take (length xs + f.0)) (sym e) ∙ take-append-add xs ys f.0)) (appends-more old mid new xs (take f.0 ys) a f.2),
+)
+
+-- two texts and then a beginning of a third
+pub front_last : (old mid late new : Option (List ℕ)) (xs ys zs text : List ℕ) → xs ++ (ys ++ zs) ≡ text → Appends old mid xs → Appends mid late ys → AppendsFront late new zs → AppendsFront old new text
+front_last old mid late new xs ys zs text e a b f = front_more old mid new xs (ys ++ zs) text e a (front_more mid late new ys zs (ys ++ zs) refl b f)

@@ -1,0 +1,2 @@
+mod FlagLemmas
+pub mod KnownLemmas

@@ -1,0 +1,5 @@
+pub mod Known
+pub mod Reading
+pub mod Watch
+pub mod Words
+pub mod Writing

@@ -1,0 +1,152 @@
+//! A reader or a writer, how it has failed, and whether it was flushed last.
+ghost use Rattle.std.specs.Prelude.{◌≡◌, ◌||◌, ◌&&◌, false, is_err, is_ok, not};
+ghost use Rattle.std.specs.Io.{ReadsAtMost, WritesAtMost};
+ghost use Rattle.std.specs.Io.KnownBytes.{Keeps, ReadConsumes, WriteAppends};
+ghost use Rattle.ends.specs.Watch.{has_closed, is_closed, took_nothing};
+
+use std::io;
+use std::io::{Error, ErrorKind, Read, Write};
+use std::marker::Model;
+
+/// A reader or a writer, with how it has failed and whether it was flushed last. It hands on each answer as it is.
+///
+/// It has failed if it once answered an error, or took none of the bytes that it was given to write. It was closed if a
+/// write or a flush once answered that nobody reads what is written, and it is faulty if it once failed otherwise. It
+/// was flushed last if the last call was a flush that was not refused.
+#[derive(Drop)]
+pub struct Watched<T> {
+    inner: T,
+    failed: bool,
+    faulty: bool,
+    closed: bool,
+    flushed: bool,
+}
+
+impl<T> Model for Watched<T> {
+    ghost use Rattle.ends.specs.Watch.{Watch};
+
+    ghost Value = { Watch T };
+
+    ghost view = { λ w. record { inner = w.inner; failed = w.failed; faulty = w.faulty; closed = w.closed; flushed = w.flushed } };
+}
+
+impl<T> Watched<T> {
+    /// An end that has not failed, and of which nothing was asked yet.
+    pub fn new(inner: T) -> Watched<T>
+        ensures { result ≡ record { inner = inner; failed = false; faulty = false; closed = false; flushed = false } }
+    {
+        Watched {
+            inner,
+            failed: false,
+            faulty: false,
+            closed: false,
+            flushed: false,
+        }
+    }
+
+    /// Whether it has failed.
+    pub fn failed(&self) -> bool
+        ensures { result ≡ self.now.failed }
+    {
+        self.failed
+    }
+
+    /// The reader or writer itself.
+    pub fn into_inner(self) -> T
+        ensures { result ≡ self.inner }
+    {
+        let Watched {
+            inner,
+            failed: _,
+            faulty: _,
+            closed: _,
+            flushed: _,
+        } = self;
+        inner
+    }
+
+    /// Notes whether a call failed, whether it found a closed pipe, and whether it was a flush that was not refused.
+    fn note(&mut self, failed: bool, closed: bool, flushed: bool)
+        ensures inner { self.new.inner ≡ self.old.inner }
+        ensures failed { self.new.failed ≡ (self.old.failed || failed) }
+        ensures faulty { self.new.faulty ≡ (self.old.faulty || (failed && not closed)) }
+        ensures closed { self.new.closed ≡ (self.old.closed || closed) }
+        ensures flushed { self.new.flushed ≡ flushed }
+    {
+        self.failed = self.failed || failed;
+        self.faulty = self.faulty || (failed && !closed);
+        self.closed = self.closed || closed;
+        self.flushed = flushed;
+    }
+}
+
+/// Whether the error says that nobody reads what is written.
+pub fn is_closed(error: &Error) -> bool
+    ensures { result ≡ is_closed error.now }
+{
+    matches!(error.kind(), ErrorKind::BrokenPipe)
+}
+
+/// Whether the answer says that nobody reads what is written.
+fn has_closed<T>(answer: &io::Result<T>) -> bool
+    ensures { result ≡ has_closed answer.now }
+{
+    match answer {
+        Ok(_) => false,
+        Err(error) => is_closed(error),
+    }
+}
+
+impl<R: Read> Read for Watched<R> {
+    ghost remaining = { λ w. R.remaining w.inner };
+
+    fn read(&mut self, buf: &mut [u8]) -> io::Result<usize>
+        ensures bound { ReadsAtMost result buf.new }
+        ensures bytes { ReadConsumes (R.remaining self.old.inner)
+            (R.remaining self.new.inner) result buf.new }
+        ensures failed { self.new.failed ≡ (self.old.failed || is_err result) }
+        ensures faulty { self.new.faulty ≡ (self.old.faulty || is_err result) }
+        ensures closed { self.new.closed ≡ self.old.closed }
+        ensures flushed { self.new.flushed ≡ false }
+    {
+        let answer = self.inner.read(buf);
+        self.note(answer.is_err(), false, false);
+        answer
+    }
+}
+
+impl<W: Write> Write for Watched<W> {
+    ghost contents = { λ w. W.contents w.inner };
+
+    fn write(&mut self, buf: &[u8]) -> io::Result<usize>
+        ensures bound { WritesAtMost result buf.now }
+        ensures bytes { WriteAppends (W.contents self.old.inner)
+            (W.contents self.new.inner) result buf.now }
+        ensures failed { self.new.failed ≡ (self.old.failed || took_nothing result buf.now) }
+        ensures faulty { self.new.faulty
+            ≡ (self.old.faulty || (took_nothing result buf.now && not (has_closed result))) }
+        ensures closed { self.new.closed ≡ (self.old.closed || has_closed result) }
+        ensures flushed { self.new.flushed ≡ false }
+    {
+        let answer = self.inner.write(buf);
+        let failed = match &answer {
+            Ok(count) => *count == 0 && !buf.is_empty(),
+            Err(_) => true,
+        };
+        self.note(failed, has_closed(&answer), false);
+        answer
+    }
+
+    fn flush(&mut self) -> io::Result<()>
+        ensures bytes { Keeps (W.contents self.old.inner) (W.contents self.new.inner) }
+        ensures failed { self.new.failed ≡ (self.old.failed || is_err result) }
+        ensures faulty { self.new.faulty
+            ≡ (self.old.faulty || (is_err result && not (has_closed result))) }
+        ensures closed { self.new.closed ≡ (self.old.closed || has_closed result) }
+        ensures flushed { self.new.flushed ≡ is_ok result }
+    {
+        let answer = self.inner.flush();
+        self.note(answer.is_err(), has_closed(&answer), answer.is_ok());
+        answer
+    }
+}
