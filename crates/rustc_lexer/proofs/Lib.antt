@@ -2,6 +2,7 @@ pub mod AdvanceLemmas
 pub mod BitLemmas
 pub mod BlockCommentDepth
 pub mod BlockCommentLoop
+pub mod BlockLemmas
 pub mod BoundLemmas
 pub mod BridgeLemmas
 pub mod BulkLemmas

@@ -1,15 +1,17 @@
-//! A grammar, met one token at a time.
+//! A grammar, met one token at a time or many at once.
 ghost use Rattle.std.specs.Prelude.{◌≡◌, ◌+◌, ◌<◌, List, ℕ, length};
 ghost use Rattle.rustc_lexer.specs.declared.edition.Edition.TheVariants.{E2024};
 ghost use Rattle.rustc_lexer.specs.declared.token.Token.{Token};
+ghost use Rattle.rustc_lexer.specs.Bulk.{IsFilled};
 ghost use Rattle.rustc_lexer.specs.Classes.{Fits};
-ghost use Rattle.rustc_lexer.specs.Tokens.{tokens_by, tokens_of};
+ghost use Rattle.rustc_lexer.specs.Tokens.{bound, tokens_by, tokens_of};
 ghost use Rattle.rustc_lexer.specs.means.Edition.{first_token_in};
 ghost use Rattle.rustc_lexer.specs.LanguageIn.{year};
 ghost use Rattle.rustc_lexer.specs.LanguageText.{part};
 ghost use Rattle.rustc_lexer.specs.means.Lexeme.{first_token};
 ghost use Rattle.rustc_lexer.specs.Locality.{IsGrammar};
 
+use crate::bulk;
 use crate::edition::{Edition, token_in};
 use crate::entry::tally::Tally;
 use crate::token::Token;
@@ -40,6 +42,30 @@ pub trait Stepper: Drop {
         ensures count { count self.new ≡ count self.old + 1 }
         ensures grammar { grammar self.new ≡ grammar self.old }
         ensures number { number self.new ≡ number self.old };
+
+    /// The first tokens of the text, written into the room: as many as there are, or as it has room for. Answers their
+    /// number, and how many bytes they have. Each is a step.
+    ///
+    /// One step after another gives them here. A stepper that finds many tokens at once has a body of its own.
+    fn fill(&mut self, text: &str, room: &mut [Token]) -> (usize, usize)
+        requires fits { Fits text.now }
+        ensures filled { IsFilled (λ token. token) (tokens_by (grammar self.old) text.now)
+            room.old room.new result.0 }
+        ensures bytes { result.1 ≡ bound (tokens_by (grammar self.old) text.now) result.0 }
+        ensures count { count self.new ≡ count self.old + result.0 }
+        ensures grammar { grammar self.new ≡ grammar self.old }
+        ensures number { number self.new ≡ number self.old }
+    {
+        let mut written = 0;
+        let mut at = 0;
+        'places: while written < room.len() && at < text.len() {
+            let token = self.step(&text[at..]);
+            room[written] = token;
+            written += 1;
+            at += token.len as usize;
+        }
+        (written, at)
+    }
 }
 
 /// The steps of the lexer in an edition, where no frontmatter may stand.
@@ -97,5 +123,11 @@ impl Stepper for Steps {
     fn step(&mut self, rest: &str) -> Token {
         self.tally.tick();
         token_in(rest, self.edition)
+    }
+
+    fn fill(&mut self, text: &str, room: &mut [Token]) -> (usize, usize) {
+        let (count, bytes) = bulk::fill(text, self.edition, room);
+        self.tally.tick_by(count);
+        (count, bytes)
     }
 }

@@ -29,4 +29,13 @@ impl Tally {
     pub(crate) fn tick(&mut self)
         ensures { self.new.count ≡ self.old.count + 1 }
     {}
+
+    /// Counts so many more.
+    pub(crate) fn tick_by(&mut self, more: usize)
+        ensures { self.new.count ≡ self.old.count + more }
+    {
+        for _ in 0..more {
+            self.tick();
+        }
+    }
 }

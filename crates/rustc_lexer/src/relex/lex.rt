@@ -7,11 +7,11 @@ ghost use Rattle.rustc_lexer.specs.means.Landmarks.{AreBounds};
 use crate::entry::stepper::Stepper;
 use crate::relex::front::Bound;
 use crate::relex::landmarks::Landmarks;
-use crate::token::Token;
+use crate::token::{Token, TokenKind};
 use std::alloc::{AllocError, Global};
 
-/// How many tokens stand between two landmarks.
-const SPACING: usize = 1024;
+/// How many tokens are lexed at once, and stand between two landmarks.
+const BLOCK: usize = 256;
 
 /// All tokens of a text, and landmarks among them.
 pub(crate) fn lex_all<S: Stepper>(
@@ -29,15 +29,17 @@ pub(crate) fn lex_all<S: Stepper>(
 {
     let mut tokens = Vec::new(alloc);
     let mut landmarks = Landmarks::new();
+    let mut room = [Token {
+        kind: TokenKind::Eof,
+        len: 0,
+    }; BLOCK];
     let mut place = 0;
-    while place < text.len() {
+    'left: while place < text.len() {
         let number = tokens.len();
-        if number % SPACING == 0 {
-            landmarks.remember(Bound { number, place }, text.len());
-        }
-        let token = stepper.step(&text[place..]);
-        tokens.push(token)?;
-        place += token.len as usize;
+        landmarks.remember(Bound { number, place }, text.len());
+        let (count, bytes) = stepper.fill(&text[place..], &mut room);
+        tokens.extend_from_slice(&room[..count])?;
+        place += bytes;
     }
     Ok((tokens, landmarks))
 }

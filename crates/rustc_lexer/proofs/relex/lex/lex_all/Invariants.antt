@@ -4,12 +4,12 @@ use Rattle.rustc_lexer.specs.means.Landmarks.{AreBounds}
 use Rattle.rustc_lexer.proofs.ProgressLemmas.{IsLexedTo}
 use Rattle.rustc_lexer.proofs.relex.lex.lex_all.Given as goal
 
-abbrev pub invariant-loop-place : goal.invariant-loop-place
-invariant-loop-place g l = IsLexedTo (g.S.Stepper.grammar l.fn.stepper) l.text l.tokens.items l.place
+abbrev pub invariant-left : goal.invariant-left
+invariant-left g l = IsLexedTo (g.S.Stepper.grammar l.fn.stepper) l.text l.tokens.items l.place
     × (g.S.Stepper.grammar l.stepper ≡ g.S.Stepper.grammar l.fn.stepper)
     × (g.S.Stepper.number l.stepper ≡ g.S.Stepper.number l.fn.stepper)
     × (g.S.Stepper.count l.stepper ≡ g.S.Stepper.count l.fn.stepper + length l.tokens.items)
     × AreBounds (tokens_by (g.S.Stepper.grammar l.fn.stepper) l.text) l.landmarks
 
-abbrev pub decreases-loop-place : goal.decreases-loop-place
-decreases-loop-place g l = length l.text - l.place
+abbrev pub decreases-left : goal.decreases-left
+decreases-left g l = length l.text - l.place

@@ -1,0 +1,87 @@
+-- A text that is lexed block by block: each is a room that is filled with the next tokens.
+use Rattle.std.proofs.Common.{◌≡◌, ℕ, ◌+◌, ◌<◌, ◌≤◌, List, ◌++◌, length, take, drop, min, inl, inr, sym, ap, subst, ◌∙◌, arith, length-drop, length-append, length-take-le, take_at}
+use Rattle.std.proofs.lemmas.Bool.{cases_lt}
+use Rattle.std.proofs.lemmas.List.{map-id}
+use Rattle.std.proofs.Math.Nat.{min-eq_left, min-eq_right, min-le_right}
+use Rattle.std.proofs.Math.Seq.{take-add}
+use Rattle.rustc_lexer.specs.declared.token.Token.{Token}
+use Rattle.rustc_lexer.specs.Bulk.{IsFilled}
+use Rattle.rustc_lexer.specs.Locality.{IsText, IsGrammar}
+use Rattle.rustc_lexer.specs.Tokens.{bound, tokens_by}
+use Rattle.rustc_lexer.proofs.BoundLemmas.{bound_mono, rises}
+use Rattle.rustc_lexer.proofs.CutLemmas.{IsCutAt, at_bound, tokens-cons}
+use Rattle.rustc_lexer.proofs.FrontLemmas.{bound-shift}
+use Rattle.rustc_lexer.proofs.ProgressLemmas.{IsLexedTo, IsPlace, lexed_place}
+
+-- what stands at the front of a room that was filled with tokens as they are
+pub record IsFront (tokens : List Token) (filled : List Token) (count : ℕ) : Type 0 where
+  pub few : count ≤ length tokens
+  pub within : count ≤ length filled
+  pub front : take count filled ≡ take count tokens
+
+pub filled_front : (tokens room filled : List Token) (count : ℕ) → IsFilled (λ (t : Token). t) tokens room filled count → IsFront tokens filled count
+filled_front tokens room filled count is =
+    let few : count ≤ length tokens = omega (arith, is.as_many, min-le_right (length room) (length tokens)) in
+    let short : length (take count tokens) ≡ count = length-take-le count tokens few in
+    let whole : filled ≡ take count tokens ++ drop count room = is.tokens ∙ ap (λ ts. ts ++ drop count room) (map-id (take count tokens)) in
+    let long = ap length whole in
+    record {
+      few = few;
+      within = omega (arith, long, short, length-append (take count tokens) (drop count room));
+      front = ap (take count) whole ∙ take_at (take count tokens) (drop count room) count short;
+    }
+
+module _ {first : List ℕ → Token} (law : IsGrammar first) where
+  -- a room that is not empty is filled with some bytes of a text that is not empty
+  pub some_bytes : (text : List ℕ) → IsText text → 0 < length text → (room count : ℕ) → 0 < room → count ≡ min room (length (tokens_by first text)) → 0 < bound (tokens_by first text) count
+  some_bytes text is some room count places e =
+      let tokens : List Token = tokens_by first text in
+      let many : 0 < length tokens = let n = ap length (tokens-cons law text is some) in omega arith in
+      let one : 1 ≤ count = elim (cases_lt room (length tokens)) [
+        | inl less ↦ let l : room ≤ length tokens = omega arith in omega (arith, e, min-eq_left l)
+        | inr more ↦ omega (arith, e, min-eq_right more)
+      ] in
+      omega (arith, rises law text is 0 many, bound_mono tokens 1 count one)
+
+  -- the tokens of a block stand behind those that were lexed before it
+  pub lexed_block : (text left : List ℕ) (items block : List Token) (place count bytes : ℕ) → IsText text → IsLexedTo first text items place → left ≡ drop place text → count ≤ length (tokens_by first left)
+      → block ≡ take count (tokens_by first left) → bytes ≡ bound (tokens_by first left) count → IsLexedTo first text (items ++ block) (place + bytes)
+  lexed_block text left items block place count bytes is at here few block_is bytes_is =
+      let all : List Token = tokens_by first text in
+      let n : ℕ = length items in
+      let cut : IsCutAt first text all n = at_bound law n text is in
+      let rest : tokens_by first left ≡ drop n all = ap (tokens_by first) (here ∙ ap (λ p. drop p text) at.place_is) ∙ sym cut.rest in
+      let fewer : count ≤ length (drop n all) = let e = ap length rest in omega arith in
+      let tail : block ≡ take count (drop n all) = block_is ∙ ap (take count) rest in
+      let long : length (items ++ block) ≡ n + count = omega (arith, length-append items block, ap length tail, length-take-le count (drop n all) fewer) in
+      record {
+        number = omega (arith, long, fewer, at.number, length-drop n all);
+        items_are = ap (λ ts. ts ++ block) at.items_are ∙ (ap (λ ts. take n all ++ ts) tail ∙ (sym (take-add n count all) ∙ ap (λ k. take k all) (sym long)));
+        place_is = ap (λ p. p + bytes) at.place_is ∙ (ap (λ b. bound all n + b) (bytes_is ∙ ap (λ ts. bound ts count) rest) ∙ (sym (bound-shift all n count) ∙ ap (bound all) (sym long)));
+      }
+
+-- one block more
+pub record IsBlock (first : List ℕ → Token) (text : List ℕ) (items filled : List Token) (place count bytes : ℕ) : Type 0 where
+  pub more : IsLexedTo first text (items ++ take count filled) (place + bytes)
+  pub number : length (take count filled) ≡ count
+  pub few : place + bytes ≤ length text
+  pub some : 0 < bytes
+
+-- a stepper whose grammar is the one that it had at first fills the room with the tokens of what is left
+pub block_more : {first now : List ℕ → Token} (law : IsGrammar first) (text left : List ℕ) (items room filled : List Token) (place count bytes : ℕ) → now ≡ first → IsText text → IsLexedTo first text items place → place < length text → left ≡ drop place text → 0 < length room
+    → IsFilled (λ (t : Token). t) (tokens_by now left) room filled count → bytes ≡ bound (tokens_by now left) count → IsBlock first text items filled place count bytes
+block_more {first} {now} law text left items room filled place count bytes same is at more here places fills long =
+    let tokens : List Token = tokens_by first left in
+    let full : IsFilled (λ (t : Token). t) tokens room filled count = subst (λ (f : List ℕ → Token). IsFilled (λ (t : Token). t) (tokens_by f left) room filled count) same fills in
+    let bytes_is : bytes ≡ bound tokens count = long ∙ ap (λ (f : List ℕ → Token). bound (tokens_by f left) count) same in
+    let front : IsFront tokens filled count = filled_front tokens room filled count full in
+    let spot : IsPlace text place = lexed_place law text items place is at in
+    let left_is : IsText left = subst IsText (sym here) spot.past in
+    let some_left : 0 < length left = omega (arith, ap length here, length-drop place text) in
+    let next = lexed_block law text left items (take count filled) place count bytes is at here front.few front.front bytes_is in
+    record {
+      more = next;
+      number = length-take-le count filled front.within;
+      few = (lexed_place law text _ _ is next).inside;
+      some = subst (λ n. 0 < n) (sym bytes_is) (some_bytes law left left_is some_left (length room) count places full.as_many);
+    }

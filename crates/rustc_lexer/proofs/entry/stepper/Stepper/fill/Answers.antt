@@ -1,0 +1,35 @@
+use Rattle.std.proofs.Common.{◌≡◌, ◌+◌, ◌<◌, List, ℕ, length, drop, ap, ◌∙◌, arith}
+use Rattle.rustc_lexer.specs.declared.token.Token.{Token}
+use Rattle.rustc_lexer.specs.Locality.{IsText}
+use Rattle.rustc_lexer.specs.Tokens.{tokens_by}
+use Rattle.rustc_lexer.proofs.BulkLemmas.{all_written, one_written, stands, next_token, next_place, over}
+use Rattle.rustc_lexer.proofs.ProgressLemmas.{stepped}
+use Rattle.rustc_lexer.proofs.entry.stepper.Stepper.fill.Goals as goal
+
+pub range_from-requires : goal.range_from-requires
+range_from-requires g c = λ some. (stands (g.Self.Stepper.law c.args.self.now) c.args.text.now record { utf8 = c.utf8.text; fits = c.requires.fits } c.places.written c.places.at c.places.invariant.place).boundary
+
+pub places-preserved : goal.places-preserved
+places-preserved g c =
+    let law = g.Self.Stepper.law c.args.self.now in
+    let first : List ℕ → Token = g.Self.Stepper.grammar c.args.self.now in
+    let text : List ℕ = c.args.text.now in
+    let is : IsText text = record { utf8 = c.utf8.text; fits = c.requires.fits } in
+    let inv = c.places.invariant in
+    let more : c.places.at < length text = omega arith in
+    let room : c.places.written < length c.places.room = omega arith in
+    let token : c.step-token.result ≡ first (drop c.places.at text) = stepped text c.places.at c.step-token.ensures.token inv.grammar c.range_from.ensures.value in
+    record {
+      written = one_written (λ (t : Token). t) (tokens_by first text) _ c.args.room.now c.places.room c.places.written (first (drop c.places.at text)) inv.written
+          (next_token law text is c.places.written c.places.at inv.place more) room c.step-token.result token;
+      place = ap (λ (t : Token). c.places.at + t.len) token ∙ next_place law text is c.places.written c.places.at inv.place more;
+      count = omega (arith, c.step-token.ensures.count, inv.count);
+      grammar = c.step-token.ensures.grammar ∙ inv.grammar;
+      number = c.step-token.ensures.number ∙ inv.number;
+    }
+
+pub returns-else-at-text-clause-filled : goal.returns-else-at-text-clause-filled
+returns-else-at-text-clause-filled g c =
+    let text : List ℕ = c.args.text.now in
+    all_written (λ (t : Token). t) (tokens_by (g.Self.Stepper.grammar c.args.self.now) text) c.args.room.now c.places.room c.places.written c.places.invariant.written
+    (over (g.Self.Stepper.law c.args.self.now) text record { utf8 = c.utf8.text; fits = c.requires.fits } c.places.written c.places.at c.places.invariant.place (omega arith))
