@@ -1,5 +1,5 @@
 -- A text in order has the tokens of the text, but for the white space, and stays.
-use Rattle.std.proofs.Common.{◌≡◌, ℕ, suc, ◌≤◌, ◌&&◌, inl, inr, not, Bool, true, false, true≢false, if◌then◌else◌, List, [], ◌∷◌, ◌++◌, length, length-append, take, drop, codes, refl, sym, ap, ◌∙◌, subst, arith}
+use Rattle.std.proofs.Common.{◌≡◌, ℕ, suc, ◌+◌, ◌≤◌, ◌&&◌, inl, inr, not, Bool, true, false, true≢false, if◌then◌else◌, List, [], ◌∷◌, ◌++◌, length, length-append, take, drop, codes, append_assoc, refl, sym, ap, ◌∙◌, subst, arith}
 use lib.Utf8.{scalar, scalars}
 use Rattle.std.proofs.Math.Seq.{take-append_seam, drop-append_seam}
 use Rattle.std.proofs.lemmas.Bool.{and_parts, cases_Bool, not-true}
@@ -9,7 +9,7 @@ use Rattle.std.specs.Str.{encode_utf8_all}
 use Rattle.rustc_lexer.specs.declared.edition.Edition.TheVariants.{E2024}
 use Rattle.rustc_lexer.specs.declared.token.Token.{Token}
 use Rattle.rustc_lexer.specs.declared.token.TokenKind.{TokenKind}
-use Rattle.rustc_lexer.specs.declared.token.TokenKind.TheVariants.{Whitespace}
+use Rattle.rustc_lexer.specs.declared.token.TokenKind.TheVariants.{Whitespace, Eof}
 use Rattle.rustc_lexer.specs.Classes.{is_whitespace}
 use Rattle.rustc_lexer.specs.means.Frontmatter.{dashes, ends_line, opens}
 use Rattle.rustc_lexer.specs.FrontmatterGrammar.{OpensNone}
@@ -23,8 +23,8 @@ use Rattle.rustc_lexer.specs.laws.LanguageRuns.{among, chooses-space, run_len-he
 use Rattle.rustc_lexer.specs.laws.Reach.{run_len-out}
 use Rattle.rustc_lexer.specs.means.Scan.{begins}
 use Rattle.rustc_lexer.proofs.LanguageInLemmas.{on_page, of_page}
-use Rattle.tidy.specs.Order.{in_order, is_space, space_in_order, part_in_order, code_in_order, parts}
-use Rattle.tidy.proofs.NearLemmas.{Near, ends, space, near-append, near-begins, near-empty, near-space, Stays, token-near}
+use Rattle.tidy.specs.Order.{in_order, is_space, is_open, space_in_order, closing, part_in_order, code_in_order, parts, end_parts, closed_parts}
+use Rattle.tidy.proofs.NearLemmas.{Near, ends, space, near-append, closes, near-begins, near-refl, near-space, EndsToo, is_solid_kind, token-near}
 use Rattle.tidy.proofs.OrderLemmas.{HasFirst, order-all, order-first, order-near, order-ends, order-again, order-bytes, order-size}
 
 -- ---- a token and what follows it
@@ -48,6 +48,15 @@ pub none-left : {mode : Mode} {cs : List ℕ} {tokens : List Token} → AreToken
 none-left (nothing) e = refl
 none-left (something p free rest) e = absurd (omega (arith, e))
 none-left (frontmatter_first body is_opening is_end rest) e = absurd (omega (arith, e))
+
+-- whether no tokens are left
+abbrev pub is_last : List Token → Bool
+is_last [] = true
+is_last (t ∷ ts) = false
+
+none-last : (tokens : List Token) → is_last tokens ≡ true → length tokens ≡ 0
+none-last [] e = refl
+none-last (t ∷ ts) e = absurd (true≢false (sym e))
 
 -- ---- where a frontmatter opens
 
@@ -95,10 +104,11 @@ pub record Tidies (order : Order) (mode : Mode) (cs : List ℕ) (tokens : List T
   pub are : AreTokens mode out outs
   pub near : Near cs out
   pub is : order (encode_utf8_all cs) tokens ≡ encode_utf8_all out
-  pub same : parts (encode_utf8_all out) outs ≡ parts (encode_utf8_all cs) tokens
+  pub too : EndsToo cs out
+  pub same : closed_parts (parts (encode_utf8_all out) outs) ≡ closed_parts (parts (encode_utf8_all cs) tokens)
   pub again : order (encode_utf8_all out) outs ≡ encode_utf8_all out
-  pub count : length tokens ≡ length outs
-  pub size : bytes out ≤ bytes cs
+  pub last : is_last tokens ≡ is_last outs
+  pub size : bytes out ≤ bytes cs + 1
   pub good : scalars cs ≡ true → scalars out ≡ true
 
 -- white space in its place: what it becomes
@@ -108,7 +118,7 @@ pub record Spaces (u : List ℕ) (tokens : List Token) (s t : List ℕ) : Type 0
   pub all : AreAll is_whitespace (first ∷ rest)
   pub near : Near (u ++ s) (first ∷ rest ++ t)
   pub is : space_in_order (encode_utf8_all u) tokens ≡ encode_utf8_all (first ∷ rest)
-  pub again : (outs : List Token) → length tokens ≡ length outs → space_in_order (encode_utf8_all (first ∷ rest)) outs ≡ encode_utf8_all (first ∷ rest)
+  pub again : (outs : List Token) → is_last tokens ≡ is_last outs → space_in_order (encode_utf8_all (first ∷ rest)) outs ≡ encode_utf8_all (first ∷ rest)
   pub closed : opens (u ++ s) ≡ false → opens (first ∷ rest ++ t) ≡ false
   pub size : bytes (first ∷ rest) ≤ bytes u
 
@@ -116,25 +126,25 @@ newline-one : encode_utf8_all (10 ∷ []) ≡ codes "\n"
 unfolding encode_utf8
 newline-one = refl
 
-newline-again : (outs : List Token) → 0 ≡ length outs → space_in_order (encode_utf8_all (10 ∷ [])) outs ≡ encode_utf8_all (10 ∷ [])
+newline-again : (outs : List Token) → true ≡ is_last outs → space_in_order (encode_utf8_all (10 ∷ [])) outs ≡ encode_utf8_all (10 ∷ [])
 newline-again [] e = sym newline-one
-newline-again (t ∷ ts) e = absurd (omega (arith, e))
+newline-again (t ∷ ts) e = absurd (true≢false e)
 
 newline-size : (c : ℕ) (w : List ℕ) → bytes (10 ∷ []) ≤ bytes (c ∷ w)
 newline-size c w = let le = length-le-encodes (c ∷ w) in let one = ap length newline-one in omega arith
 
-pub spaces : (c : ℕ) (w : List ℕ) (tokens : List Token) {s t : List ℕ} → AreAll is_whitespace (c ∷ w) → NextIsNot is_whitespace s → Near s t → (length tokens ≡ 0 → s ≡ []) → Spaces (c ∷ w) tokens s t
-spaces c w [] {s} {t} all stop near none = record {
+pub spaces : (c : ℕ) (w : List ℕ) (tokens : List Token) {s t : List ℕ} → AreAll is_whitespace (c ∷ w) → NextIsNot is_whitespace s → Near s t → EndsToo s t → (length tokens ≡ 0 → s ≡ []) → Spaces (c ∷ w) tokens s t
+spaces c w [] {s} {t} all stop near too none = record {
   first = 10;
   rest = [];
   all = refl;
-  near = space (and_parts (is_whitespace c) _ all).0 refl (λ e. (refl, λ f. ap (begins (codes "'")) (near-empty near (none refl))));
+  near = space (and_parts (is_whitespace c) _ all).0 refl (λ e. (refl, λ f. ap (begins (codes "'")) (too (none refl))));
   is = sym newline-one;
   again = newline-again;
-  closed = λ e. ap (λ (xs : List ℕ). opens (10 ∷ xs)) (near-empty near (none refl));
+  closed = λ e. ap (λ (xs : List ℕ). opens (10 ∷ xs)) (too (none refl));
   size = newline-size c w;
 }
-spaces c w (token ∷ tokens) {s} {t} all stop near none = by_first (order-first c w)
+spaces c w (token ∷ tokens) {s} {t} all stop near too none = by_first (order-first c w)
   where
     u : List ℕ
     u = c ∷ w
@@ -155,46 +165,138 @@ spaces c w (token ∷ tokens) {s} {t} all stop near none = by_first (order-first
         all_space = subst (AreAll is_whitespace) has.whole (order-all u all)
 
         stop_t : NextIsNot is_whitespace t
-        stop_t = sym (near-space near) ∙ stop
+        stop_t = sym (near-space near too) ∙ stop
 
-        twice : (outs : List Token) → suc (length tokens) ≡ length outs → space_in_order (encode_utf8_all (has.first ∷ has.rest)) outs ≡ encode_utf8_all (has.first ∷ has.rest)
-        twice [] e = absurd (omega (arith, e))
+        twice : (outs : List Token) → false ≡ is_last outs → space_in_order (encode_utf8_all (has.first ∷ has.rest)) outs ≡ encode_utf8_all (has.first ∷ has.rest)
+        twice [] e = absurd (true≢false (sym e))
         twice (o ∷ os) e = order-bytes (has.first ∷ has.rest) all_space ∙ ap encode_utf8_all (ap in_order (sym has.whole) ∙ (order-again u ∙ has.whole))
+
+-- behind white space nothing comes
+space-ends : (ps : List (TokenKind × List ℕ)) → end_parts Whitespace ps ≡ []
+space-ends [] = refl
+space-ends (p ∷ ps) = refl
+
+space-closed : (ps : List (TokenKind × List ℕ)) → closed_parts ((Whitespace, []) ∷ ps) ≡ (Whitespace, []) ∷ closed_parts ps
+space-closed ps = ap (λ (es : List (TokenKind × List ℕ)). let p : TokenKind × List ℕ = (Whitespace, []) in p ∷ (es ++ closed_parts ps)) (space-ends ps)
 
 -- a token of white space more
 -- how an order treats a token, and by which it goes on
 abbrev pub Puts : Order → Order → TokenKind → List ℕ → Type 0
-Puts order more kind u = (left : List ℕ) (ts : List Token) → order (encode_utf8_all (u ++ left)) (record { kind = kind; len = bytes u } ∷ ts) ≡ (if is_space kind then space_in_order (encode_utf8_all u) ts else encode_utf8_all u) ++ more (encode_utf8_all left) ts
+Puts order more kind u = (left : List ℕ) (ts : List Token) → order (encode_utf8_all (u ++ left)) (record { kind = kind; len = bytes u } ∷ ts) ≡ part_in_order kind (encode_utf8_all u) ts ++ more (encode_utf8_all left) ts
 
 pub space-step : (order left : Order) (mode : Mode) (c : ℕ) (w next : List ℕ) (tokens : List Token) → mode_edition mode ≡ E2024 → ((u : List ℕ) → Puts order left Whitespace u) → AreAll is_whitespace (c ∷ w) → NextIsNot is_whitespace next → (mode ≡ document → OpensNone (c ∷ w ++ next)) → (length tokens ≡ 0 → next ≡ [])
     → Tidies left (mode_after mode Whitespace) next tokens → Tidies order mode (c ∷ w ++ next) (record { kind = Whitespace; len = bytes (c ∷ w) } ∷ tokens)
 space-step order left mode c w next tokens newest puts all stop free none more =
-    let sp = spaces c w tokens all stop more.near none in
+    let sp = spaces c w tokens all stop more.near more.too none in
     record {
       out = sp.first ∷ sp.rest ++ more.out;
       outs = record { kind = Whitespace; len = bytes (sp.first ∷ sp.rest) } ∷ more.outs;
-      are = something (of_page newest (the.whitespace sp.all (sym (near-space more.near) ∙ stop))) (λ y. opens-none (sp.first ∷ sp.rest ++ more.out) (sp.closed (none-opens (c ∷ w ++ next) (free y)))) more.are;
+      are = something (of_page newest (the.whitespace sp.all (sym (near-space more.near more.too) ∙ stop))) (λ y. opens-none (sp.first ∷ sp.rest ++ more.out) (sp.closed (none-opens (c ∷ w ++ next) (free y)))) more.are;
       near = sp.near;
+      too = λ e. absurd (let n : suc (length (w ++ next)) ≡ 0 = ap length e in omega arith);
       is = puts (c ∷ w) next tokens ∙ (ap (λ (xs : List ℕ). xs ++ left (encode_utf8_all next) tokens) sp.is ∙ (ap (λ (xs : List ℕ). encode_utf8_all (sp.first ∷ sp.rest) ++ xs) more.is ∙ sym (encodes-append (sp.first ∷ sp.rest) more.out)));
-      same = parts-cons (sp.first ∷ sp.rest) more.out Whitespace more.outs ∙ (ap (λ (ps : List (TokenKind × List ℕ)). let p : TokenKind × List ℕ = (Whitespace, []) in p ∷ ps) more.same ∙ sym (parts-cons (c ∷ w) next Whitespace tokens));
-      again = puts (sp.first ∷ sp.rest) more.out more.outs ∙ (ap (λ (xs : List ℕ). xs ++ left (encode_utf8_all more.out) more.outs) (sp.again more.outs more.count) ∙ (ap (λ (xs : List ℕ). encode_utf8_all (sp.first ∷ sp.rest) ++ xs) more.again ∙ sym (encodes-append (sp.first ∷ sp.rest) more.out)));
-      count = ap suc more.count;
+      same = ap closed_parts (parts-cons (sp.first ∷ sp.rest) more.out Whitespace more.outs)
+          ∙ (space-closed (parts (encode_utf8_all more.out) more.outs) ∙ (ap (λ (ps : List (TokenKind × List ℕ)). let p : TokenKind × List ℕ = (Whitespace, []) in p ∷ ps) more.same
+          ∙ (sym (space-closed (parts (encode_utf8_all next) tokens)) ∙ sym (ap closed_parts (parts-cons (c ∷ w) next Whitespace tokens)))));
+      again = puts (sp.first ∷ sp.rest) more.out more.outs ∙ (ap (λ (xs : List ℕ). xs ++ left (encode_utf8_all more.out) more.outs) (sp.again more.outs more.last) ∙ (ap (λ (xs : List ℕ). encode_utf8_all (sp.first ∷ sp.rest) ++ xs) more.again ∙ sym (encodes-append (sp.first ∷ sp.rest) more.out)));
+      last = refl;
       size = let a = sp.size in let b = more.size in let e = ap length (encodes-append (sp.first ∷ sp.rest) more.out) in let f = ap length (encodes-append (c ∷ w) next) in let g = length-append (encode_utf8_all (sp.first ∷ sp.rest)) (encode_utf8_all more.out) in let h = length-append (encode_utf8_all (c ∷ w)) (encode_utf8_all next) in omega arith;
       good = λ e. scalars-join (sp.first ∷ sp.rest) more.out (space-scalars (sp.first ∷ sp.rest) sp.all) (more.good (scalars-parts (c ∷ w) next e).1);
     }
 
+-- ---- behind another token
+
+-- what comes behind a token of a kind: what follows it, in order, or a newline where nothing does
+pub record Behind (kind : TokenKind) (mode : Mode) (next : List ℕ) (tokens : List Token) : Type 0 where
+  pub out : List ℕ
+  pub outs : List Token
+  pub are : AreTokens mode out outs
+  pub near : Near next out
+  pub too : is_open kind ≡ true → EndsToo next out
+  pub is : closing kind tokens ++ code_in_order (encode_utf8_all next) tokens ≡ encode_utf8_all out
+  pub same : end_parts kind (parts (encode_utf8_all out) outs) ++ closed_parts (parts (encode_utf8_all out) outs) ≡ end_parts kind (parts (encode_utf8_all next) tokens) ++ closed_parts (parts (encode_utf8_all next) tokens)
+  pub again : closing kind outs ++ code_in_order (encode_utf8_all out) outs ≡ encode_utf8_all out
+  pub size : bytes out ≤ bytes next + 1
+  pub good : scalars next ≡ true → scalars out ≡ true
+
+newline-token : Token
+newline-token = record { kind = Whitespace; len = bytes (10 ∷ []) }
+
+newline-are : (mode : Mode) → mode_edition mode ≡ E2024 → AreTokens mode (10 ∷ []) (newline-token ∷ [])
+unfolding newline-token
+newline-are mode newest = something {w = []} {next = []} (of_page newest (the.whitespace refl refl)) (λ y. opens-none (10 ∷ []) refl) nothing
+
+newline-parts : closed_parts (parts (encode_utf8_all (10 ∷ [])) (newline-token ∷ [])) ≡ (Whitespace, []) ∷ []
+unfolding newline-token
+newline-parts = refl
+
+newline-code : code_in_order (encode_utf8_all (10 ∷ [])) (newline-token ∷ []) ≡ encode_utf8_all (10 ∷ [])
+unfolding newline-token
+newline-code = sym newline-one
+
+-- before a token nothing closes
+open-before : (kind : TokenKind) (outs : List Token) → false ≡ is_last outs → closing kind outs ≡ []
+open-before kind [] e = absurd (true≢false (sym e))
+open-before kind (o ∷ os) e = refl
+
+parts-before : (kind : TokenKind) (text : List ℕ) (outs : List Token) → false ≡ is_last outs → end_parts kind (parts text outs) ≡ []
+parts-before kind text [] e = absurd (true≢false (sym e))
+parts-before kind text (o ∷ os) e = refl
+
+pub behind : (kind : TokenKind) (mode : Mode) (next : List ℕ) (tokens : List Token) → is_space kind ≡ false → mode_edition mode ≡ E2024 → (length tokens ≡ 0 → next ≡ []) → Tidies code_in_order mode next tokens → Behind kind mode next tokens
+behind kind mode next (t ∷ ts) solid newest none more = record {
+  out = more.out;
+  outs = more.outs;
+  are = more.are;
+  near = more.near;
+  too = λ o. more.too;
+  is = more.is;
+  same = ap (λ (es : List (TokenKind × List ℕ)). es ++ closed_parts (parts (encode_utf8_all more.out) more.outs)) (parts-before kind (encode_utf8_all more.out) more.outs more.last) ∙ more.same;
+  again = ap (λ (es : List ℕ). es ++ code_in_order (encode_utf8_all more.out) more.outs) (open-before kind more.outs more.last) ∙ more.again;
+  size = more.size;
+  good = more.good;
+}
+behind kind mode next [] solid newest none more = subst (λ (cs : List ℕ). Behind kind mode cs []) (sym (none refl)) (by_kind (is_open kind) refl)
+  where
+    by_kind : (b : Bool) → is_open kind ≡ b → Behind kind mode [] []
+    by_kind true e = record {
+      out = [];
+      outs = [];
+      are = nothing;
+      near = ends;
+      too = λ o f. refl;
+      is = rw e refl;
+      same = refl;
+      again = rw e refl;
+      size = omega arith;
+      good = λ g. refl;
+    }
+    by_kind false e = record {
+      out = 10 ∷ [];
+      outs = newline-token ∷ [];
+      are = newline-are mode newest;
+      near = closes;
+      too = λ o. absurd (true≢false (sym o ∙ e));
+      is = rw e (sym newline-one);
+      same = rw (solid, e) newline-parts;
+      again = newline-code;
+      size = let n = ap length newline-one in omega arith;
+      good = λ g. refl;
+    }
+
 -- another token more
-pub solid-step : (order left : Order) (mode : Mode) (kind : TokenKind) (c : ℕ) (w next : List ℕ) (tokens : List Token) → mode_edition mode ≡ E2024 → Puts order left kind (c ∷ w) → IsTokenBefore next kind (c ∷ w) → (mode ≡ document → OpensNone (c ∷ w ++ next))
-    → (more : Tidies left (mode_after mode kind) next tokens) → Stays more.out kind (c ∷ w) → Tidies order mode (c ∷ w ++ next) (record { kind = kind; len = bytes (c ∷ w) } ∷ tokens)
-solid-step order left mode kind c w next tokens newest puts p free more stays = record {
+pub solid-step : (order : Order) (mode : Mode) (kind : TokenKind) (c : ℕ) (w next : List ℕ) (tokens : List Token) → mode_edition mode ≡ E2024 → Puts order code_in_order kind (c ∷ w) → is_space kind ≡ false → IsTokenBefore next kind (c ∷ w) → (mode ≡ document → OpensNone (c ∷ w ++ next))
+    → (more : Behind kind (mode_after mode kind) next tokens) → IsTokenBefore more.out kind (c ∷ w) → Tidies order mode (c ∷ w ++ next) (record { kind = kind; len = bytes (c ∷ w) } ∷ tokens)
+solid-step order mode kind c w next tokens newest puts solid p free more stays = record {
   out = c ∷ w ++ more.out;
   outs = record { kind = kind; len = bytes (c ∷ w) } ∷ more.outs;
-  are = something (of_page newest stays.token) (λ y. opens-none (c ∷ w ++ more.out) (opens-solid c (w ++ more.out) first ∙ (ap (λ (b : Bool). b && true) (sym (near-begins (dashes 3) refl near)) ∙ (sym (opens-solid c (w ++ next) first) ∙ none-opens (c ∷ w ++ next) (free y))))) more.are;
+  are = something (of_page newest stays) (λ y. opens-none (c ∷ w ++ more.out) (opens-solid c (w ++ more.out) first ∙ (ap (λ (b : Bool). b && true) (sym (near-begins (dashes 3) refl near)) ∙ (sym (opens-solid c (w ++ next) first) ∙ none-opens (c ∷ w ++ next) (free y))))) more.are;
   near = near;
   is = own next tokens ∙ (ap (λ (xs : List ℕ). encode_utf8_all (c ∷ w) ++ xs) more.is ∙ sym (encodes-append (c ∷ w) more.out));
-  same = parts-cons (c ∷ w) more.out kind more.outs ∙ (ap (λ (ps : List (TokenKind × List ℕ)). let q : TokenKind × List ℕ = (kind, if is_space kind then [] else encode_utf8_all (c ∷ w)) in q ∷ ps) more.same ∙ sym (parts-cons (c ∷ w) next kind tokens));
+  too = λ e. absurd (let n : suc (length (w ++ next)) ≡ 0 = ap length e in omega arith);
+  same = ap closed_parts (parts-cons (c ∷ w) more.out kind more.outs) ∙ (ap (λ (ps : List (TokenKind × List ℕ)). let q : TokenKind × List ℕ = (kind, if is_space kind then [] else encode_utf8_all (c ∷ w)) in q ∷ ps) more.same ∙ sym (ap closed_parts (parts-cons (c ∷ w) next kind tokens)));
   again = own more.out more.outs ∙ (ap (λ (xs : List ℕ). encode_utf8_all (c ∷ w) ++ xs) more.again ∙ sym (encodes-append (c ∷ w) more.out));
-  count = ap suc more.count;
+  last = refl;
   size = let b = more.size in let e = ap length (encodes-append (c ∷ w) more.out) in let f = ap length (encodes-append (c ∷ w) next) in let g = length-append (encode_utf8_all (c ∷ w)) (encode_utf8_all more.out) in let h = length-append (encode_utf8_all (c ∷ w)) (encode_utf8_all next) in omega arith;
   good = λ e. let both = scalars-parts (c ∷ w) next e in scalars-join (c ∷ w) more.out both.0 (more.good both.1);
 }
@@ -202,18 +304,35 @@ solid-step order left mode kind c w next tokens newest puts p free more stays = 
     near : Near (c ∷ w ++ next) (c ∷ w ++ more.out)
     near = near-append (c ∷ w) more.near
 
-    solid : is_space kind ≡ false
-    solid = not-true (is_space kind) (and_parts (not (is_space kind)) _ (stays.is_solid (omega arith))).0
-
     first : is_whitespace c ≡ false
     first = no-space p solid
 
-    own : (rest : List ℕ) (ts : List Token) → order (encode_utf8_all (c ∷ w ++ rest)) (record { kind = kind; len = bytes (c ∷ w) } ∷ ts) ≡ encode_utf8_all (c ∷ w) ++ left (encode_utf8_all rest) ts
-    own rest ts = puts rest ts ∙ ap (λ (b : Bool). (if b then space_in_order (encode_utf8_all (c ∷ w)) ts else encode_utf8_all (c ∷ w)) ++ left (encode_utf8_all rest) ts) solid
+    own : (rest : List ℕ) (ts : List Token) → order (encode_utf8_all (c ∷ w ++ rest)) (record { kind = kind; len = bytes (c ∷ w) } ∷ ts) ≡ encode_utf8_all (c ∷ w) ++ (closing kind ts ++ code_in_order (encode_utf8_all rest) ts)
+    own rest ts = puts rest ts ∙ (ap (λ (b : Bool). (if b then space_in_order (encode_utf8_all (c ∷ w)) ts else encode_utf8_all (c ∷ w) ++ closing kind ts) ++ code_in_order (encode_utf8_all rest) ts) solid
+        ∙ append_assoc (encode_utf8_all (c ∷ w)) (closing kind ts) (code_in_order (encode_utf8_all rest) ts))
+
+pub solid-token : (order : Order) (mode : Mode) (kind : TokenKind) (c : ℕ) (w next : List ℕ) (tokens : List Token) → mode_edition mode ≡ E2024 → Puts order code_in_order kind (c ∷ w) → is_space kind ≡ false → IsTokenBefore next kind (c ∷ w) → (mode ≡ document → OpensNone (c ∷ w ++ next))
+    → Behind kind (mode_after mode kind) next tokens → Tidies order mode (c ∷ w ++ next) (record { kind = kind; len = bytes (c ∷ w) } ∷ tokens)
+solid-token order mode kind c w next tokens newest puts solid p free more = elim (token-near more.near more.too p) [
+  | inl run ↦ absurd (true≢false (sym (ap is_space run.kind_is) ∙ solid))
+  | inr stays ↦ solid-step order mode kind c w next tokens newest puts solid p free more (stays.token (omega arith))
+]
+
+pub solid-kind : (kind : TokenKind) → is_solid_kind kind ≡ true → is_space kind ≡ false
+solid-kind kind e = not-true (is_space kind) (and_parts (not (is_space kind)) _ e).0
+
+pub after-newest : (mode : Mode) (kind : TokenKind) → mode_edition mode ≡ E2024 → mode_edition (mode_after mode kind) ≡ E2024
+after-newest document kind e = newest kind
+  where
+    newest : (kind : TokenKind) → mode_edition (mode_after document kind) ≡ E2024
+    newest Whitespace = refl
+    newest Eof = refl
+    newest kind = refl
+after-newest (part edition) kind e = e
 
 -- in a part
 pub code-tidies : {mode : Mode} {cs : List ℕ} {tokens : List Token} → mode ≡ part E2024 → AreTokens mode cs tokens → Tidies code_in_order mode cs tokens
-code-tidies is_part (nothing) = record { out = []; outs = []; are = nothing; near = ends; is = refl; same = refl; again = refl; count = refl; size = omega arith; good = λ e. e }
+code-tidies is_part (nothing) = record { out = []; outs = []; are = nothing; near = ends; is = refl; too = λ e. refl; same = refl; again = refl; last = refl; size = omega arith; good = λ e. e }
 code-tidies is_part (frontmatter_first body is_opening is_end rest) = absurd (cc)
 code-tidies is_part (something {mode} {kind} {c} {w} {next} {tokens} is free rest) = by_token (code-tidies (ap (λ (m : Mode). mode_after m kind) is_part) rest)
   where
@@ -224,8 +343,9 @@ code-tidies is_part (something {mode} {kind} {c} {w} {next} {tokens} is free res
     p = on_page newest is
 
     by_token : Tidies code_in_order (mode_after mode kind) next tokens → Tidies code_in_order mode (c ∷ w ++ next) (record { kind = kind; len = bytes (c ∷ w) } ∷ tokens)
-    by_token more = elim (token-near more.near p) [
+    by_token more = elim (token-near (near-refl next) (λ o e. e) p) [
       | inl run ↦ subst (λ (k : TokenKind). Tidies code_in_order mode (c ∷ w ++ next) (record { kind = k; len = bytes (c ∷ w) } ∷ tokens)) (sym run.kind_is) (space-step code_in_order code_in_order mode c w next tokens newest (λ u left ts. code-cons u left Whitespace ts) run.all run.stop free (none-left rest)
           (subst (λ (k : TokenKind). Tidies code_in_order (mode_after mode k) next tokens) run.kind_is more))
-      | inr stays ↦ solid-step code_in_order code_in_order mode kind c w next tokens newest (λ left ts. code-cons (c ∷ w) left kind ts) p free more stays
+      | inr here ↦ (let solid = solid-kind kind (here.is_solid (omega arith)) in
+          solid-token code_in_order mode kind c w next tokens newest (λ left ts. code-cons (c ∷ w) left kind ts) solid p free (behind kind (mode_after mode kind) next tokens solid (after-newest mode kind newest) (none-left rest) more))
     ]

@@ -1,5 +1,5 @@
 -- The first token of a source, and what follows it in order.
-use Rattle.std.proofs.Common.{◌≡◌, ℕ, ◌-◌, ◌<◌, ◌≤◌, ◌^◌, ◌==◌, Bool, true, false, true≢false, if◌then◌else◌, List, [], ◌∷◌, ◌++◌, length, take, drop, codes, refl, sym, ap, ◌∙◌, subst, arith, append_assoc, length-append, length-drop, length-take-le}
+use Rattle.std.proofs.Common.{◌≡◌, ℕ, ◌+◌, ◌-◌, ◌<◌, ◌≤◌, ◌^◌, ◌==◌, Bool, true, false, true≢false, if◌then◌else◌, List, [], ◌∷◌, ◌++◌, length, take, drop, codes, refl, sym, ap, ◌∙◌, subst, arith, append_assoc, length-append, length-drop, length-take-le}
 use Rattle.rustc_lexer.specs.declared.edition.Edition.TheVariants.{E2024}
 use Rattle.rustc_lexer.specs.declared.token.Token.{Token}
 use Rattle.rustc_lexer.specs.declared.token.TokenKind.{TokenKind}
@@ -10,8 +10,8 @@ use Rattle.rustc_lexer.specs.means.Taking.{token_at}
 use Rattle.rustc_lexer.specs.Locality.{IsText}
 use Rattle.rustc_lexer.specs.Tokens.{tokens_of, tokens_left, TakesToken}
 use Rattle.rustc_lexer.proofs.TokensLemmas.{CutsOff, token_at-cuts, tokens-cons, tokens-nil}
-use Rattle.tidy.specs.Order.{in_order, is_front, is_space, begins_with, if_kept, space_in_order, code_in_order, front_in_order, source_in_order, source_tidied}
-use Rattle.tidy.proofs.LoopLemmas.{space-last, end-is}
+use Rattle.tidy.specs.Order.{in_order, is_front, is_space, begins_with, if_kept, space_in_order, closing, code_in_order, front_in_order, source_in_order, source_tidied}
+use Rattle.tidy.proofs.LoopLemmas.{put, put-is, end-is}
 use Rattle.tidy.proofs.SourceLemmas.{code-size}
 
 abbrev first_or : Token → List Token → Token
@@ -65,14 +65,14 @@ module _ (text : List ℕ) (front : Token) (first : First text front) (at : is_f
   made-is line own rest made e f g h =
       h ∙ (ap (λ (xs : List ℕ). xs ++ code_in_order rest (tokens_of (part E2024) rest)) (e ∙ whole-take front.len text own f) ∙ ap (λ (xs : List ℕ). take front.len text ++ code_in_order xs (tokens_of (part E2024) xs)) g)
 
-  pub made-fits : (line own rest made : List ℕ) → IsText text → line ≡ own → own ≡ take (front.len - 0) text → rest ≡ drop front.len text → made ≡ line ++ code_in_order rest (tokens_of (part E2024) rest) → length made < 2 ^ 32
-  made-fits line own rest made is e f g h =
+  pub made-fits : (line own rest made : List ℕ) → length text + 1 < 2 ^ 32 → line ≡ own → own ≡ take (front.len - 0) text → rest ≡ drop front.len text → made ≡ line ++ code_in_order rest (tokens_of (part E2024) rest) → length made < 2 ^ 32
+  made-fits line own rest made room e f g h =
       let size = code-size (drop front.len text) first.left in
       let long = ap length (made-is line own rest made e f g h) in
       let both = length-append (take front.len text) (code_in_order (drop front.len text) (tokens_of (part E2024) (drop front.len text))) in
       let a = length-take-le front.len text first.inside in
       let b = length-drop front.len text in
-      let c = is.fits in
+      let c = room in
       let d = first.inside in
       omega arith
 
@@ -82,7 +82,7 @@ module _ (text : List ℕ) (front : Token) (first : First text front) (at : is_f
 
 -- with white space first, or none
 pub space-first : (text : List ℕ) (token : Token) (before mid own rest : List ℕ) → First text token → is_space token.kind ≡ true → own ≡ take (token.len - 0) text → rest ≡ drop token.len text
-    → mid ≡ before ++ (if is_space token.kind then (if token.len == length text then codes "\n" else in_order own) else own) → mid ++ front_in_order rest (tokens_of document rest) ≡ before ++ source_tidied text
+    → mid ≡ before ++ put token.kind (token.len == length text) own → mid ++ front_in_order rest (tokens_of document rest) ≡ before ++ source_tidied text
 space-first text token before mid own rest first at is cut made =
     ap (λ (xs : List ℕ). xs ++ front_in_order rest (tokens_of document rest)) (made ∙ ap (λ (xs : List ℕ). before ++ xs) written)
     ∙ (append_assoc before (space_in_order (take token.len text) (tokens_of document rest)) (front_in_order rest (tokens_of document rest))
@@ -94,11 +94,11 @@ space-first text token before mid own rest first at is cut made =
         ∙ (ap (λ (b : Bool). let ts : List Token = tokens_of (mode_after document token.kind) (drop token.len text) in if b then space_in_order (take token.len text) ts ++ front_in_order (drop token.len text) ts else front_in_order text (token ∷ ts)) at
         ∙ ap (λ (a : Mode). let ts : List Token = tokens_of a (drop token.len text) in space_in_order (take token.len text) ts ++ front_in_order (drop token.len text) ts) (space-yes token.kind at))
 
-    written : (if is_space token.kind then (if token.len == length text then codes "\n" else in_order own) else own) ≡ space_in_order (take token.len text) (tokens_of document rest)
+    written : put token.kind (token.len == length text) own ≡ space_in_order (take token.len text) (tokens_of document rest)
     written =
-        ap (λ (b : Bool). if b then (if token.len == length text then codes "\n" else in_order own) else own) at
-        ∙ (ap (λ (xs : List ℕ). if token.len == length text then codes "\n" else in_order xs) (whole-take token.len text own is)
-        ∙ (ap (λ (b : Bool). if b then codes "\n" else in_order (take token.len text)) (end-is text rest token.len first.inside (sym cut)) ∙ sym (space-last document rest (take token.len text))))
+        ap (put token.kind (token.len == length text)) (whole-take token.len text own is)
+        ∙ (ap (λ (b : Bool). put token.kind b (take token.len text)) (end-is text rest token.len first.inside (sym cut))
+        ∙ (put-is document rest token.kind (take token.len text) ∙ ap (λ (b : Bool). if b then space_in_order (take token.len text) (tokens_of document rest) else take token.len text ++ closing token.kind (tokens_of document rest)) at))
 
 pub none-first : (text : List ℕ) (token : Token) → First text token → is_space token.kind ≡ false → front_in_order text (tokens_of document text) ≡ source_tidied text
 none-first text token first at = ap (front_in_order text) first.tokens ∙ sym (ap (source_in_order text) first.tokens

@@ -1,5 +1,5 @@
 -- Texts that differ in their white space alone begin with the same tokens.
-use Rattle.std.proofs.Common.{◌≡◌, ℕ, zero, suc, ◌+◌, ◌<◌, ◌≤◌, ◌==◌, ◌&&◌, ◌||◌, ◌⊎◌, inl, inr, not, Bool, true, false, true≢false, List, [], ◌∷◌, ◌++◌, length, length-append, take, drop, codes, refl, sym, ap, ◌∙◌, subst, arith}
+use Rattle.std.proofs.Common.{◌≡◌, ℕ, zero, suc, ◌+◌, ◌<◌, ◌≤◌, ◌==◌, ◌&&◌, ◌||◌, ◌⊎◌, inl, inr, not, Bool, true, false, true≢false, List, [], ◌∷◌, ◌++◌, length, length-append, take, drop, codes, refl, sym, ap, ◌∙◌, subst, arith, is_none}
 use Rattle.std.proofs.Math.Seq.{take-append_seam, drop-append_seam}
 use Rattle.std.proofs.lemmas.Bool.{and_parts, cases_Bool, eqb-true, not-true}
 use Rattle.std.specs.Char.{is_ascii_digit, is_ascii_hexdigit}
@@ -21,11 +21,13 @@ use Rattle.rustc_lexer.specs.NumberGrammar as num
 use Rattle.rustc_lexer.specs.NumberGrammar.{or_underscore, is_exponent_letter, is_sign, is_no_fraction, AreDigits, IsWhole, IsExponent, IsTailBefore, IsNumberBefore, NumberStands, IsLongestNumber}
 use Rattle.rustc_lexer.specs.means.Scan.{begins, next_is}
 use Rattle.rustc_lexer.specs.Symbols.{symbols, kind_among, symbol_kind}
-use Rattle.tidy.specs.Order.{is_space, is_front}
+use Rattle.tidy.specs.Order.{is_space, is_front, is_open_literal, is_open}
 
--- two texts up to the first white space at which they differ: a newline stays one, and a quote comes no nearer to it
+-- two texts up to the first white space at which they differ: a newline stays one, and a quote comes no nearer to it; or a
+-- newline closes the other one
 pub data Near : List ℕ → List ℕ → Type 0 where
   ends : Near [] []
+  closes : Near [] (10 ∷ [])
   space : {c d : ℕ} {s t : List ℕ} → is_whitespace c ≡ true → is_whitespace d ≡ true → ((c == 10) ≡ true → ((d == 10) ≡ true) × (begins (codes "'") s ≡ false → begins (codes "'") t ≡ false)) → Near (c ∷ s) (d ∷ t)
   same : {c : ℕ} {s t : List ℕ} → Near s t → Near (c ∷ s) (c ∷ t)
 
@@ -37,10 +39,13 @@ pub near-append : (w : List ℕ) {s t : List ℕ} → Near s t → Near (w ++ s)
 near-append [] near = near
 near-append (c ∷ w) near = same (near-append w near)
 
-pub near-empty : {s t : List ℕ} → Near s t → s ≡ [] → t ≡ []
-near-empty ends e = refl
-near-empty (space {c} {d} {s} {t} a b k) e = absurd (let n : suc (length s) ≡ 0 = ap length e in omega arith)
-near-empty (same {c} {s} {t} near) e = absurd (let n : suc (length s) ≡ 0 = ap length e in omega arith)
+-- the other text ends where the one does
+abbrev pub EndsToo : List ℕ → List ℕ → Type 0
+EndsToo s t = s ≡ [] → t ≡ []
+
+pub ends-append : (w : List ℕ) {s t : List ℕ} → EndsToo s t → EndsToo (w ++ s) (w ++ t)
+ends-append [] too e = too e
+ends-append (c ∷ w) {s} too e = absurd (let n : suc (length (w ++ s)) ≡ 0 = ap length e in omega arith)
 
 -- ---- classes
 
@@ -72,13 +77,15 @@ by_list p all c e = none-among p (0x9 ∷ 0xA ∷ 0xB ∷ 0xC ∷ 0xD ∷ 0x20 �
 
 pub near-next : (p : ℕ → Bool) → IsSolid p → {s t : List ℕ} → Near s t → next_is p s ≡ next_is p t
 near-next p solid ends = refl
+near-next p solid closes = sym (solid 10 refl)
 near-next p solid (space {c} {d} a b k) = solid c a ∙ sym (solid d b)
 near-next p solid (same near) = refl
 
-pub near-space : {s t : List ℕ} → Near s t → next_is is_whitespace s ≡ next_is is_whitespace t
-near-space ends = refl
-near-space (space {c} {d} a b k) = a ∙ sym b
-near-space (same near) = refl
+pub near-space : {s t : List ℕ} → Near s t → EndsToo s t → next_is is_whitespace s ≡ next_is is_whitespace t
+near-space ends too = refl
+near-space closes too = absurd (let n = ap length (too refl) in omega arith)
+near-space (space {c} {d} a b k) too = a ∙ sym b
+near-space (same near) too = refl
 
 -- nothing in these characters is white space
 abbrev pub is_plain : ℕ → Bool
@@ -95,6 +102,7 @@ pub near-then : (p : ℕ → Bool) → IsSolid p → (front : List ℕ) → AreA
     → (begins front s && next_is p (drop (length front) s)) ≡ (begins front t && next_is p (drop (length front) t))
 near-then p solid [] all near = near-next p solid near
 near-then p solid (f ∷ front) all ends = refl
+near-then p solid (f ∷ front) all closes = rw (plain-other f 10 (and_parts (is_plain f) _ all).0 refl) refl
 near-then p solid (f ∷ front) all (space {c} {d} a b k) =
     let plain = (and_parts (is_plain f) _ all).0 in
     rw (plain-other f c plain a, plain-other f d plain b) refl
@@ -106,6 +114,7 @@ near-then p solid (f ∷ front) all (same {c} near) = elim (cases_Bool (c == f))
 pub near-begins : (front : List ℕ) → AreAll is_plain front → {s t : List ℕ} → Near s t → begins front s ≡ begins front t
 near-begins [] all near = refl
 near-begins (f ∷ front) all ends = refl
+near-begins (f ∷ front) all closes = rw (plain-other f 10 (and_parts (is_plain f) _ all).0 refl) refl
 near-begins (f ∷ front) all (space {c} {d} a b k) =
     let plain = (and_parts (is_plain f) _ all).0 in
     rw (plain-other f c plain a, plain-other f d plain b) refl
@@ -123,6 +132,7 @@ near-opening {s} {t} near =
 
 near-inline : {s t : List ℕ} → Near s t → NextIsNot is_inline s → NextIsNot is_inline t
 near-inline ends stop = refl
+near-inline closes stop = refl
 near-inline (space {c} {d} a b k) stop = elim (cases_Bool (c == 10)) [
   | inl e ↦ rw (k e).0 refl
   | inr e ↦ absurd (true≢false (sym (ap not e) ∙ stop))
@@ -131,11 +141,13 @@ near-inline (same near) stop = stop
 
 near-newline : {s t : List ℕ} → Near s t → begins (codes "\n") s ≡ true → begins (codes "\n") t ≡ true
 near-newline ends e = e
+near-newline closes e = refl
 near-newline (space {c} {d} a b k) e = rw (k (and_parts (c == 10) true e).0).0 refl
 near-newline (same near) e = e
 
 near-lone : {s t : List ℕ} → Near s t → begins (codes "\n") s ≡ true → begins (codes "\n'") s ≡ false → begins (codes "\n'") t ≡ false
 near-lone ends e f = f
+near-lone closes e f = refl
 near-lone (space {c} {d} {s} {t} a b k) e f =
     let at = (and_parts (c == 10) true e).0 in
     let kept = k at in
@@ -211,6 +223,7 @@ record SameFront (m : ℕ) (s t : List ℕ) : Type 0 where
 same-front : (m : ℕ) {s t : List ℕ} → Near s t → m ≤ length t → AreAll is_plain (take m t) → SameFront m s t
 same-front zero near le all = record { inside = omega arith; front = refl; left = near }
 same-front (suc m) ends le all = absurd (omega arith)
+same-front (suc m) closes le all = absurd (true≢false (sym all))
 same-front (suc m) (space {c} {d} {s} {t} a b k) le all = absurd (true≢false (sym b ∙ not-true (is_whitespace d) (and_parts (is_plain d) _ all).0))
 same-front (suc m) (same {c} {s} {t} near) le all =
     let more = same-front m near (omega arith) (and_parts (is_plain c) _ all).1 in
@@ -240,39 +253,39 @@ near-number {kind} w {s} {t} near is = record {
 
 -- ---- tokens
 
-double-near : {s t : List ℕ} → Near s t → {b : Bool} {w : List ℕ} → IsDoubleQuoted s b w → IsDoubleQuoted t b w
-double-near near (lit.closed q) = lit.closed q
-double-near near (lit.unclosed none q) = lit.unclosed (near-empty near none) q
-double-near near (lit.unclosed_escape none q) = lit.unclosed_escape (near-empty near none) q
+double-near : {s t : List ℕ} → Near s t → {b : Bool} {w : List ℕ} → (not b ≡ true → EndsToo s t) → IsDoubleQuoted s b w → IsDoubleQuoted t b w
+double-near near too (lit.closed q) = lit.closed q
+double-near near too (lit.unclosed none q) = lit.unclosed (too refl none) q
+double-near near too (lit.unclosed_escape none q) = lit.unclosed_escape (too refl none) q
 
-single-near : {s t : List ℕ} → Near s t → {b : Bool} {w : List ℕ} → IsSingleQuoted s b w → IsSingleQuoted t b w
-single-near near (lit.one e) = lit.one e
-single-near near (lit.closed {w} q e) = lit.closed q (sym (near-begins (codes "''") refl (near-append w near)) ∙ e)
-single-near near (lit.closed_line q) = lit.closed_line q
-single-near {s} {t} near (lit.at_slash {w} q e f) = lit.at_slash q (sym (begins-next 47 t) ∙ (sym (near-begins (codes "/") refl near) ∙ (begins-next 47 s ∙ e))) (sym (near-begins (codes "/'") refl (near-append w near)) ∙ f)
-single-near {s} {t} near (lit.at_newline q e f) = let line = begins-next 10 s ∙ e in lit.at_newline q (sym (begins-next 10 t) ∙ near-newline near line) (near-lone near line f)
-single-near near (lit.unclosed none q) = lit.unclosed (near-empty near none) q
-single-near near (lit.unclosed_escape none q) = lit.unclosed_escape (near-empty near none) q
+single-near : {s t : List ℕ} → Near s t → {b : Bool} {w : List ℕ} → (not b ≡ true → EndsToo s t) → IsSingleQuoted s b w → IsSingleQuoted t b w
+single-near near too (lit.one e) = lit.one e
+single-near near too (lit.closed {w} q e) = lit.closed q (sym (near-begins (codes "''") refl (near-append w near)) ∙ e)
+single-near near too (lit.closed_line q) = lit.closed_line q
+single-near {s} {t} near too (lit.at_slash {w} q e f) = lit.at_slash q (sym (begins-next 47 t) ∙ (sym (near-begins (codes "/") refl near) ∙ (begins-next 47 s ∙ e))) (sym (near-begins (codes "/'") refl (near-append w near)) ∙ f)
+single-near {s} {t} near too (lit.at_newline q e f) = let line = begins-next 10 s ∙ e in lit.at_newline q (sym (begins-next 10 t) ∙ near-newline near line) (near-lone near line f)
+single-near near too (lit.unclosed none q) = lit.unclosed (too refl none) q
+single-near near too (lit.unclosed_escape none q) = lit.unclosed_escape (too refl none) q
 
-raw-near : {s t : List ℕ} → Near s t → {n : _} {w : List ℕ} → IsRaw s n w → IsRaw t n w
-raw-near near (lit.closed n w le q) = lit.closed n w le q
-raw-near near (lit.too_many n w le q) = lit.too_many n w le q
-raw-near near (lit.unclosed n w none q) = lit.unclosed n w (near-empty near none) q
-raw-near near (lit.no_quote n c e) = lit.no_quote n c e
-raw-near near (lit.no_more n none) = lit.no_more n (near-empty near none)
+raw-near : {s t : List ℕ} → {n : _} {w : List ℕ} → (is_none n ≡ true → EndsToo s t) → IsRaw s n w → IsRaw t n w
+raw-near too (lit.closed n w le q) = lit.closed n w le q
+raw-near too (lit.too_many n w le q) = lit.too_many n w le q
+raw-near too (lit.unclosed n w none q) = lit.unclosed n w (too refl none) q
+raw-near too (lit.no_quote n c e) = lit.no_quote n c e
+raw-near too (lit.no_more n none) = lit.no_more n (too refl none)
 
-literal-near : {s t : List ℕ} → Near s t → {kind : LiteralKind} {b : Bool} {w : List ℕ} → IsLiteralBefore s kind b w → IsLiteralBefore t kind b w
-literal-near near (lit.number {kind} {w} is) = lit.number (near-number w near is)
-literal-near near (lit.str q) = lit.str (double-near near q)
-literal-near near (lit.byte_str q) = lit.byte_str (double-near near q)
-literal-near near (lit.c_str q) = lit.c_str (double-near near q)
-literal-near near (lit.byte_char q) = lit.byte_char (single-near near q)
-literal-near near (lit.char_of_one e) = lit.char_of_one e
-literal-near near (lit.char q stop) = lit.char (single-near near q) stop
-literal-near near (lit.char_of_name w e all) = lit.char_of_name w e all
-literal-near near (lit.raw_str q free) = lit.raw_str (raw-near near q) free
-literal-near near (lit.raw_byte_str q) = lit.raw_byte_str (raw-near near q)
-literal-near near (lit.raw_c_str q) = lit.raw_c_str (raw-near near q)
+literal-near : {s t : List ℕ} → Near s t → {kind : LiteralKind} {b : Bool} {w : List ℕ} → (is_open_literal kind ≡ true → EndsToo s t) → IsLiteralBefore s kind b w → IsLiteralBefore t kind b w
+literal-near near too (lit.number {kind} {w} is) = lit.number (near-number w near is)
+literal-near near too (lit.str q) = lit.str (double-near near too q)
+literal-near near too (lit.byte_str q) = lit.byte_str (double-near near too q)
+literal-near near too (lit.c_str q) = lit.c_str (double-near near too q)
+literal-near near too (lit.byte_char q) = lit.byte_char (single-near near too q)
+literal-near near too (lit.char_of_one e) = lit.char_of_one e
+literal-near near too (lit.char q stop) = lit.char (single-near near too q) stop
+literal-near near too (lit.char_of_name w e all) = lit.char_of_name w e all
+literal-near near too (lit.raw_str q free) = lit.raw_str (raw-near too q) free
+literal-near near too (lit.raw_byte_str q) = lit.raw_byte_str (raw-near too q)
+literal-near near too (lit.raw_c_str q) = lit.raw_c_str (raw-near too q)
 
 suffix-near : {s t : List ℕ} → Near s t → {w : List ℕ} → IsSuffixBefore s w → IsSuffixBefore t w
 suffix-near near (lit.none stop) = lit.none (sym (near-next is_id_start start-solid near) ∙ stop)
@@ -305,31 +318,31 @@ pub record IsSpaceRun (next : List ℕ) (kind : TokenKind) (w : List ℕ) : Type
 
 pub record Stays (next : List ℕ) (kind : TokenKind) (w : List ℕ) : Type 0 where
   pub is_solid : 0 < length w → is_solid_kind kind ≡ true
-  pub token : IsTokenBefore next kind w
+  pub token : 0 < length w → IsTokenBefore next kind w
 
-pub token-near : {s t : List ℕ} → Near s t → {kind : TokenKind} {w : List ℕ} → IsTokenBefore s kind w → IsSpaceRun s kind w ⊎ Stays t kind w
-token-near near (the.end none) = inr record { is_solid = λ some. absurd (omega arith); token = the.end (near-empty near none) }
-token-near near (the.whitespace all stop) = inl record { kind_is = refl; all = all; stop = stop }
-token-near near (the.line_comment all stop is) = inr record { is_solid = λ some. refl; token = the.line_comment all (near-inline near stop) is }
-token-near near (the.block_comment p is) = inr record { is_solid = λ some. refl; token = the.block_comment p is }
-token-near near (the.open_comment none never is) = inr record { is_solid = λ some. refl; token = the.open_comment (near-empty near none) never is }
-token-near near (the.ident is stop none) = inr record { is_solid = λ some. refl; token = the.ident is (sym (near-next is_word_continue word-solid near) ∙ stop) (sym (near-next ends_prefix (by_list ends_prefix refl) near) ∙ none) }
-token-near near (the.unknown_prefix {w} is goes free) = inr record { is_solid = λ some. refl; token = the.unknown_prefix is (sym (near-next ends_prefix (by_list ends_prefix refl) near) ∙ goes) (sym (near-opening (near-append w near)) ∙ free) }
-token-near near (the.invalid_ident start all wrong stop) = inr record { is_solid = λ some. refl; token = the.invalid_ident start all wrong (sym (near-next is_word_continue word-solid near) ∙ stop) }
-token-near near (the.raw_ident is stop) = inr record { is_solid = λ some. refl; token = the.raw_ident is (sym (near-next is_id_continue continue-solid near) ∙ stop) }
-token-near near (the.forced_keyword is stop) = inr record { is_solid = λ some. refl; token = the.forced_keyword is (sym (near-next is_id_continue continue-solid near) ∙ stop) }
-token-near near (the.lifetime start all stop quote hash) = inr record {
+pub token-near : {s t : List ℕ} → Near s t → {kind : TokenKind} {w : List ℕ} → (is_open kind ≡ true → EndsToo s t) → IsTokenBefore s kind w → IsSpaceRun s kind w ⊎ Stays t kind w
+token-near near too (the.end none) = inr record { is_solid = λ some. absurd (omega arith); token = λ some. absurd (omega arith) }
+token-near near too (the.whitespace all stop) = inl record { kind_is = refl; all = all; stop = stop }
+token-near near too (the.line_comment all stop is) = inr record { is_solid = λ some. refl; token = λ some. the.line_comment all (near-inline near stop) is }
+token-near near too (the.block_comment p is) = inr record { is_solid = λ some. refl; token = λ some. the.block_comment p is }
+token-near near too (the.open_comment none never is) = inr record { is_solid = λ some. refl; token = λ some. the.open_comment (too refl none) never is }
+token-near near too (the.ident is stop none) = inr record { is_solid = λ some. refl; token = λ some. the.ident is (sym (near-next is_word_continue word-solid near) ∙ stop) (sym (near-next ends_prefix (by_list ends_prefix refl) near) ∙ none) }
+token-near near too (the.unknown_prefix {w} is goes free) = inr record { is_solid = λ some. refl; token = λ some. the.unknown_prefix is (sym (near-next ends_prefix (by_list ends_prefix refl) near) ∙ goes) (sym (near-opening (near-append w near)) ∙ free) }
+token-near near too (the.invalid_ident start all wrong stop) = inr record { is_solid = λ some. refl; token = λ some. the.invalid_ident start all wrong (sym (near-next is_word_continue word-solid near) ∙ stop) }
+token-near near too (the.raw_ident is stop) = inr record { is_solid = λ some. refl; token = λ some. the.raw_ident is (sym (near-next is_id_continue continue-solid near) ∙ stop) }
+token-near near too (the.forced_keyword is stop) = inr record { is_solid = λ some. refl; token = λ some. the.forced_keyword is (sym (near-next is_id_continue continue-solid near) ∙ stop) }
+token-near near too (the.lifetime start all stop quote hash) = inr record {
   is_solid = λ some. refl;
-  token = the.lifetime start all (sym (near-next is_word_continue word-solid near) ∙ stop) (sym (near-next (is_among (codes "'")) (by_list (is_among (codes "'")) refl) near) ∙ quote) (λ goes. hash (near-next (is_among (codes "#")) (by_list (is_among (codes "#")) refl) near ∙ goes));
+  token = λ some. the.lifetime start all (sym (near-next is_word_continue word-solid near) ∙ stop) (sym (near-next (is_among (codes "'")) (by_list (is_among (codes "'")) refl) near) ∙ quote) (λ goes. hash (near-next (is_among (codes "#")) (by_list (is_among (codes "#")) refl) near ∙ goes));
 }
-token-near near (the.unknown_prefix_lifetime {c} {w} start all hash free) = inr record {
+token-near near too (the.unknown_prefix_lifetime {c} {w} start all hash free) = inr record {
   is_solid = λ some. refl;
-  token = the.unknown_prefix_lifetime start all (sym (near-next (is_among (codes "#")) (by_list (is_among (codes "#")) refl) near) ∙ hash) (sym (near-then is_id_start start-solid (codes "r#") refl (near-append (c ∷ w) near)) ∙ free);
+  token = λ some. the.unknown_prefix_lifetime start all (sym (near-next (is_among (codes "#")) (by_list (is_among (codes "#")) refl) near) ∙ hash) (sym (near-then is_id_start start-solid (codes "r#") refl (near-append (c ∷ w) near)) ∙ free);
 }
-token-near near (the.raw_lifetime is stop) = inr record { is_solid = λ some. refl; token = the.raw_lifetime is (sym (near-next is_id_continue continue-solid near) ∙ stop) }
-token-near near (the.literal is) = inr record { is_solid = λ some. refl; token = the.literal (literal-near near is) }
-token-near near (the.literal_with {kind} {w} {suffix} is suffix_is) = inr record { is_solid = λ some. refl; token = the.literal_with (literal-near (near-append suffix near) is) (suffix-near near suffix_is) }
-token-near near (the.slash stop) = inr record { is_solid = λ some. refl; token = the.slash (sym (near-next (is_among (codes "/*")) (by_list (is_among (codes "/*")) refl) near) ∙ stop) }
-token-near near (the.pound stop) = inr record { is_solid = λ some. refl; token = the.pound (sym (near-next (is_among (codes "\"#")) (by_list (is_among (codes "\"#")) refl) near) ∙ stop) }
-token-near near (the.guarded_prefix is) = inr record { is_solid = λ some. refl; token = the.guarded_prefix is }
-token-near near (the.symbol {c} is) = inr record { is_solid = λ some. symbol-solid c; token = the.symbol is }
+token-near near too (the.raw_lifetime is stop) = inr record { is_solid = λ some. refl; token = λ some. the.raw_lifetime is (sym (near-next is_id_continue continue-solid near) ∙ stop) }
+token-near near too (the.literal is) = inr record { is_solid = λ some. refl; token = λ some. the.literal (literal-near near too is) }
+token-near near too (the.literal_with {kind} {w} {suffix} is suffix_is) = inr record { is_solid = λ some. refl; token = λ some. the.literal_with (literal-near (near-append suffix near) (λ o. ends-append suffix (too o)) is) (suffix-near near suffix_is) }
+token-near near too (the.slash stop) = inr record { is_solid = λ some. refl; token = λ some. the.slash (sym (near-next (is_among (codes "/*")) (by_list (is_among (codes "/*")) refl) near) ∙ stop) }
+token-near near too (the.pound stop) = inr record { is_solid = λ some. refl; token = λ some. the.pound (sym (near-next (is_among (codes "\"#")) (by_list (is_among (codes "\"#")) refl) near) ∙ stop) }
+token-near near too (the.guarded_prefix is) = inr record { is_solid = λ some. refl; token = λ some. the.guarded_prefix is }
+token-near near too (the.symbol {c} is) = inr record { is_solid = λ some. symbol-solid c; token = λ some. the.symbol is }

@@ -1,5 +1,5 @@
 -- Where a text has no shebang line and no frontmatter, it is put in order: nothing stops that.
-use Rattle.std.proofs.Common.{◌≡◌, ℕ, ◌+◌, ◌==◌, ◌&&◌, Bool, true, false, true≢false, if◌then◌else◌, List, [], ◌∷◌, ◌++◌, length, take, drop, codes, refl, sym, ap, ◌∙◌, subst, arith, length-drop, IsCharBoundary, inl, inr, Some, None}
+use Rattle.std.proofs.Common.{◌≡◌, ℕ, ◌+◌, ◌<◌, ◌^◌, ◌==◌, ◌&&◌, ◌||◌, Bool, true, false, true≢false, if◌then◌else◌, List, [], ◌∷◌, ◌++◌, length, take, drop, codes, refl, sym, ap, ◌∙◌, subst, arith, length-drop, IsCharBoundary, inl, inr, Some, None}
 use Rattle.std.proofs.lemmas.Bool.{and_parts, cases_Bool, eqb-true, not-true, false_from_ne_true}
 use Rattle.std.proofs.lemmas.Str.{chars-append, encodes-chars, IsUtf8-drop, IsCharBoundary-from_take}
 use Rattle.std.specs.Char.{encode_utf8}
@@ -22,7 +22,7 @@ use Rattle.rustc_lexer.specs.Locality.{IsText}
 use Rattle.rustc_lexer.specs.Tokens.{tokens_of}
 use Rattle.rustc_lexer.proofs.LanguageInLemmas.{of_page}
 use Rattle.rustc_lexer.proofs.LanguageTextLemmas.{language}
-use Rattle.tidy.specs.Order.{is_space, is_front, is_no_front, space_in_order, if_kept, code_in_order, front_in_order, source_in_order, source_tidied, source_parts, parts}
+use Rattle.tidy.specs.Order.{is_space, is_open, end_parts, closed_parts, is_front, is_no_front, space_in_order, if_kept, code_in_order, front_in_order, source_in_order, source_tidied, source_parts, parts}
 use Rattle.tidy.proofs.NearLemmas.{near-begins}
 use Rattle.tidy.proofs.SourceLemmas.{SourceLaw, source-law}
 
@@ -111,13 +111,29 @@ unfolding kinds attribute_of
 attribute-kinds [] = refl
 attribute-kinds (t ∷ ts) = ap (λ (b : Bool). if is_passed t.kind then b else is_open_bracket t.kind) (attribute-kinds ts)
 
-same-attribute : (text other : List ℕ) → IsText text → IsText other → begins (codes "#!") text ≡ true → begins (codes "#!") other ≡ true → source_parts other ≡ source_parts text
-    → is_attribute (tokens_of (part E2024) (drop 2 other)) ≡ is_attribute (tokens_of (part E2024) (drop 2 text))
+-- white space at the end is passed
+attribute-ends : (kind : TokenKind) (ps : List (TokenKind × List ℕ)) → attribute_of (kinds_of (end_parts kind ps ++ closed_parts ps)) ≡ attribute_of (kinds_of ps)
+unfolding kinds_of attribute_of
+attribute-ends kind [] = elim (cases_Bool (is_space kind || is_open kind)) [ inl e ↦ rw e refl | inr e ↦ rw e refl ]
+attribute-ends kind (p ∷ ps) = ap (λ (b : Bool). if is_passed p.0 then b else is_open_bracket p.0) (attribute-ends p.0 ps)
+
+closed-attribute : (ps : List (TokenKind × List ℕ)) → attribute_of (drop 2 (kinds_of (closed_parts ps))) ≡ attribute_of (drop 2 (kinds_of ps))
+unfolding kinds_of
+closed-attribute [] = refl
+closed-attribute (p ∷ []) = elim (cases_Bool (is_space p.0 || is_open p.0)) [ inl e ↦ rw e refl | inr e ↦ rw e refl ]
+closed-attribute (p ∷ q ∷ ps) = attribute-ends q.0 ps
+
+marked-attribute : (text : List ℕ) → IsText text → begins (codes "#!") text ≡ true → is_attribute (tokens_of (part E2024) (drop 2 text)) ≡ attribute_of (drop 2 (kinds_of (closed_parts (source_parts text))))
 unfolding kinds
+marked-attribute text is e =
+    attribute-kinds (tokens_of (part E2024) (drop 2 text))
+    ∙ (ap (λ (ks : List TokenKind). attribute_of (drop 2 ks)) (sym (ap kinds (mark-tokens text is e)) ∙ sym (parts-kinds text (tokens_of document text)))
+    ∙ sym (closed-attribute (source_parts text)))
+
+same-attribute : (text other : List ℕ) → IsText text → IsText other → begins (codes "#!") text ≡ true → begins (codes "#!") other ≡ true → closed_parts (source_parts other) ≡ closed_parts (source_parts text)
+    → is_attribute (tokens_of (part E2024) (drop 2 other)) ≡ is_attribute (tokens_of (part E2024) (drop 2 text))
 same-attribute text other is other_is e f same =
-    attribute-kinds (tokens_of (part E2024) (drop 2 other))
-    ∙ (ap (λ (ks : List TokenKind). attribute_of (drop 2 ks)) (sym (ap kinds (mark-tokens other other_is f)) ∙ (sym (parts-kinds other (tokens_of document other)) ∙ (ap kinds_of same ∙ (parts-kinds text (tokens_of document text) ∙ ap kinds (mark-tokens text is e)))))
-    ∙ sym (attribute-kinds (tokens_of (part E2024) (drop 2 text))))
+    marked-attribute other other_is f ∙ (ap (λ (ps : List (TokenKind × List ℕ)). attribute_of (drop 2 (kinds_of ps))) same ∙ sym (marked-attribute text is e))
 
 -- ---- no shebang line comes
 
@@ -136,14 +152,14 @@ if_none false n e = absurd (cc e)
 no_line : (tail : List ℕ) → shebang_past tail ≡ None → is_attribute (tokens_of (part E2024) tail) ≡ true
 no_line tail e = if_none (is_attribute (tokens_of (part E2024) tail)) (2 + line_len tail) e
 
-pub stays-none : (text : List ℕ) → IsText text → shebang text ≡ None → shebang (source_tidied text) ≡ None
-stays-none text is none = elim (cases_Bool (begins (codes "#!") text)) [
+pub stays-none : (text : List ℕ) → IsText text → length text + 1 < 2 ^ 32 → shebang text ≡ None → shebang (source_tidied text) ≡ None
+stays-none text is room none = elim (cases_Bool (begins (codes "#!") text)) [
   | inl e ↦ (let f = same ∙ e in past-there (source_tidied text) f ∙ (let t = same-attribute text (source_tidied text) is law.is_text e f law.same ∙ no_line (drop 2 text) (sym (past-there text e) ∙ none) in rw t refl))
   | inr e ↦ none-there (source_tidied text) (same ∙ e)
 ]
   where
     law : SourceLaw text
-    law = source-law text is
+    law = source-law text is room
 
     same : begins (codes "#!") (source_tidied text) ≡ begins (codes "#!") text
     same = sym (mark-told (source_tidied text) law.is_text) ∙ (sym (near-begins (codes "#!") refl law.near) ∙ mark-told text is)

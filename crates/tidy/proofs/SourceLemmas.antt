@@ -22,9 +22,9 @@ use Rattle.rustc_lexer.specs.Tokens.{tokens_of}
 use Rattle.rustc_lexer.proofs.LanguageInLemmas.{on_page}
 use Rattle.rustc_lexer.proofs.LanguageTextLemmas.{language}
 use Rattle.rustc_lexer.proofs.TokensLemmas.{tokens-nil, tokens-cons}
-use Rattle.tidy.specs.Order.{is_space, is_front, is_bool, is_same_front, begins_with, if_kept, space_in_order, code_in_order, front_in_order, source_in_order, source_tidied, source_parts, parts}
-use Rattle.tidy.proofs.NearLemmas.{Near, ends, near-append, near-refl, IsSpaceRun, is_end, is_solid_kind, token-near}
-use Rattle.tidy.proofs.CodeLemmas.{Tidies, Puts, none-left, scalars-parts, scalars-join, space-step, solid-step, code-cons, parts-cons, code-tidies}
+use Rattle.tidy.specs.Order.{is_space, is_front, is_bool, is_same_front, begins_with, if_kept, space_in_order, code_in_order, front_in_order, source_in_order, source_tidied, source_parts, parts, closed_parts}
+use Rattle.tidy.proofs.NearLemmas.{Near, ends, near-append, near-refl, ends-append, IsSpaceRun, is_end, is_solid_kind, token-near}
+use Rattle.tidy.proofs.CodeLemmas.{Tidies, Puts, none-left, scalars-parts, scalars-join, space-step, behind, solid-token, after-newest, code-cons, parts-cons, code-tidies}
 
 -- ---- what is a frontmatter
 
@@ -76,7 +76,7 @@ text-of : (cs : List ℕ) → scalars cs ≡ true → bytes cs < 2 ^ 32 → IsTe
 text-of cs good fits = record { utf8 = (cs, (good, refl)); fits = fits }
 
 -- past this frontmatter
-frontmatter-step : (u next : List ℕ) (space infostring : Bool) (len : ℕ) (tokens : List Token) → scalars (u ++ next) ≡ true → bytes (u ++ next) < 2 ^ 32
+frontmatter-step : (u next : List ℕ) (space infostring : Bool) (len : ℕ) (tokens : List Token) → scalars (u ++ next) ≡ true → bytes (u ++ next) + 1 < 2 ^ 32
     → AreTokens document (u ++ next) (record { kind = Frontmatter space infostring; len = len } ∷ tokens) → len ≡ bytes u
     → Tidies code_in_order (part E2024) next tokens → Tidies front_in_order document (u ++ next) (record { kind = Frontmatter space infostring; len = len } ∷ tokens)
 frontmatter-step u next space infostring len tokens good fits are len_is more = by_check (begins_with front (tokens_of document (encode_utf8_all out))) refl
@@ -93,7 +93,7 @@ frontmatter-step u next space infostring len tokens good fits are len_is more = 
     out-good : scalars out ≡ true
     out-good = scalars-join u more.out (scalars-parts u next good).0 more-good
 
-    sizes : (bytes more.out < 2 ^ 32) × (bytes out ≤ bytes (u ++ next))
+    sizes : (bytes more.out < 2 ^ 32) × (bytes out ≤ bytes (u ++ next) + 1)
     sizes = let b = more.size in let e = bytes-append u more.out in let f = bytes-append u next in let g = fits in (omega arith, omega arith)
 
     puts : front_in_order (encode_utf8_all (u ++ next)) (front ∷ tokens) ≡ if_kept front (encode_utf8_all (u ++ next)) (encode_utf8_all out)
@@ -108,7 +108,8 @@ frontmatter-step u next space infostring len tokens good fits are len_is more = 
       is = stays;
       same = refl;
       again = stays;
-      count = refl;
+      too = λ e. e;
+      last = refl;
       size = omega arith;
       good = λ g. g;
     }
@@ -121,14 +122,21 @@ frontmatter-step u next space infostring len tokens good fits are len_is more = 
       are = subst (λ (cs : List ℕ). AreTokens document cs (front ∷ more.outs)) (chars-encodes out out-good) ((language (encode_utf8_all out) document out_text (front ∷ more.outs)).1 (sym tokens_are));
       near = near-append u more.near;
       is = puts ∙ ap (λ (b : Bool). if b then encode_utf8_all out else encode_utf8_all (u ++ next)) e;
-      same = front-parts u more.out front more.outs len_is ∙ (ap (λ (ps : List (TokenKind × List ℕ)). let q : TokenKind × List ℕ = (front.kind, encode_utf8_all u) in q ∷ ps) more.same ∙ sym (front-parts u next front tokens len_is));
+      same = ap closed_parts (front-parts u more.out front more.outs len_is) ∙ (front-closed (parts (encode_utf8_all more.out) more.outs)
+          ∙ (ap (λ (ps : List (TokenKind × List ℕ)). let q : TokenKind × List ℕ = (front.kind, encode_utf8_all u) in q ∷ ps) more.same
+          ∙ (sym (front-closed (parts (encode_utf8_all next) tokens)) ∙ sym (ap closed_parts (front-parts u next front tokens len_is)))));
       again = front-puts u more.out front more.outs refl len_is ∙ (ap (if_kept front (encode_utf8_all out)) (ap (λ (xs : List ℕ). encode_utf8_all u ++ xs) more.again ∙ sym (encodes-append u more.out))
           ∙ ap (λ (b : Bool). if b then encode_utf8_all out else encode_utf8_all out) e);
-      count = ap suc more.count;
+      too = ends-append u more.too;
+      last = refl;
       size = sizes.1;
       good = λ g. out-good;
     }
       where
+        front-closed : (ps : List (TokenKind × List ℕ)) → closed_parts ((front.kind, encode_utf8_all u) ∷ ps) ≡ (front.kind, encode_utf8_all u) ∷ closed_parts ps
+        front-closed [] = refl
+        front-closed (p ∷ ps) = refl
+
         out_text : IsText (encode_utf8_all out)
         out_text = text-of out out-good (let a = sizes.1 in let f = fits in omega arith)
 
@@ -142,12 +150,12 @@ frontmatter-step u next space infostring len tokens good fits are len_is more = 
         tokens_are = first-front (encode_utf8_all out) front out_text e ∙ (ap (λ (xs : List ℕ). front ∷ tokens_of (part E2024) xs) left ∙ ap (λ (ts : List Token). front ∷ ts) (sym rest_are))
 
 -- with a frontmatter of the language first
-opened-tidies : {n : ℕ} {front next : List ℕ} {tokens : List Token} (body : List ℕ) → scalars (front ++ (body ++ next)) ≡ true → bytes (front ++ (body ++ next)) < 2 ^ 32
+opened-tidies : {n : ℕ} {front next : List ℕ} {tokens : List Token} (body : List ℕ) → scalars (front ++ (body ++ next)) ≡ true → bytes (front ++ (body ++ next)) + 1 < 2 ^ 32
     → IsOpeningBefore (body ++ next) n front → EndsAt n (encode_utf8_all (body ++ next)) (bytes body) → AreTokens (part E2024) next tokens
     → Tidies front_in_order document (front ++ (body ++ next)) (record { kind = Frontmatter (next_is is_whitespace front) (not (next_is (is_among (codes "\n")) (body ++ next))); len = bytes front + bytes body } ∷ tokens)
 opened-tidies {n} {front} {next} {tokens} body good fits is_opening is_end rest =
     subst (λ (cs : List ℕ). Tidies front_in_order document cs (token ∷ tokens)) whole
-    (frontmatter-step (front ++ body) next token_space token_infostring (bytes front + bytes body) tokens (ap scalars whole ∙ good) (subst (λ (cs : List ℕ). bytes cs < 2 ^ 32) (sym whole) fits)
+    (frontmatter-step (front ++ body) next token_space token_infostring (bytes front + bytes body) tokens (ap scalars whole ∙ good) (subst (λ (cs : List ℕ). bytes cs + 1 < 2 ^ 32) (sym whole) fits)
     (subst (λ (cs : List ℕ). AreTokens document cs (token ∷ tokens)) (sym whole) (frontmatter_first body is_opening is_end rest)) (sym (bytes-append front body)) (code-tidies refl rest))
   where
     token_space : Bool
@@ -188,7 +196,7 @@ solid-no kind e =
 
 -- the kind of a token that is no run of white space
 kind-solid : {next : List ℕ} {kind : TokenKind} {c : ℕ} {w : List ℕ} → is_whitespace c ≡ false → IsTokenBefore next kind (c ∷ w) → is_solid_kind kind ≡ true
-kind-solid {next} {kind} {c} {w} other p = elim (token-near (near-refl next) p) [
+kind-solid {next} {kind} {c} {w} other p = elim (token-near (near-refl next) (λ o e. e) p) [
   | inl run ↦ absurd (true≢false (sym (and_parts (is_whitespace c) _ run.all).0 ∙ other))
   | inr stays ↦ stays.is_solid (omega arith)
 ]
@@ -201,13 +209,11 @@ solid-front kind c w next tokens solid p free rest = by_token (code-tidies (past
     known = solid-no kind solid
 
     by_token : Tidies code_in_order (mode_after document kind) next tokens → Tidies front_in_order document (c ∷ w ++ next) (record { kind = kind; len = bytes (c ∷ w) } ∷ tokens)
-    by_token more = elim (token-near more.near p) [
-      | inl run ↦ absurd (true≢false (sym (ap is_space run.kind_is) ∙ known.0))
-      | inr stays ↦ solid-step front_in_order code_in_order document kind c w next tokens refl (solid-puts (c ∷ w) kind known.1) p free more stays
-    ]
+    by_token more = solid-token front_in_order document kind c w next tokens refl (solid-puts (c ∷ w) kind known.1) known.0 p free
+        (behind kind (mode_after document kind) next tokens known.0 (after-newest document kind refl) (none-left rest) more)
 
-front-tidies : {mode : Mode} {cs : List ℕ} {tokens : List Token} → mode ≡ document → scalars cs ≡ true → bytes cs < 2 ^ 32 → NextIsNot is_whitespace cs → AreTokens mode cs tokens → Tidies front_in_order document cs tokens
-front-tidies yes_is good fits stop (nothing) = record { out = []; outs = []; are = nothing; near = ends; is = refl; same = refl; again = refl; count = refl; size = omega arith; good = λ e. e }
+front-tidies : {mode : Mode} {cs : List ℕ} {tokens : List Token} → mode ≡ document → scalars cs ≡ true → bytes cs + 1 < 2 ^ 32 → NextIsNot is_whitespace cs → AreTokens mode cs tokens → Tidies front_in_order document cs tokens
+front-tidies yes_is good fits stop (nothing) = record { out = []; outs = []; are = nothing; near = ends; is = refl; too = λ e. refl; same = refl; again = refl; last = refl; size = omega arith; good = λ e. e }
 front-tidies yes_is good fits stop (frontmatter_first body is_opening is_end rest) = opened-tidies body good fits is_opening is_end rest
 front-tidies yes_is good fits stop (something {mode} {kind} {c} {w} {next} {tokens} is free rest) =
     let p : IsTokenBefore next kind (c ∷ w) = on_page (ap mode_edition yes_is) is in
@@ -226,6 +232,11 @@ begins_space : List (TokenKind × List ℕ) → Bool
 begins_space [] = false
 begins_space (p ∷ ps) = is_space p.0
 
+closed-begins : (ps : List (TokenKind × List ℕ)) → begins_space (closed_parts ps) ≡ begins_space ps
+unfolding begins_space
+closed-begins [] = refl
+closed-begins (p ∷ ps) = refl
+
 front-source : (text : List ℕ) (tokens : List Token) → begins_space (parts text tokens) ≡ false → source_in_order text tokens ≡ front_in_order text tokens
 unfolding begins_space
 front-source text [] e = refl
@@ -240,18 +251,19 @@ as-source cs t ts solid tidy = record {
   near = tidy.near;
   is = front-source (encode_utf8_all cs) (t ∷ ts) solid ∙ tidy.is;
   same = tidy.same;
-  again = front-source (encode_utf8_all tidy.out) tidy.outs (ap begins_space tidy.same ∙ solid) ∙ tidy.again;
-  count = tidy.count;
+  again = front-source (encode_utf8_all tidy.out) tidy.outs (sym (closed-begins (parts (encode_utf8_all tidy.out) tidy.outs)) ∙ (ap begins_space tidy.same ∙ (closed-begins (parts (encode_utf8_all cs) (t ∷ ts)) ∙ solid))) ∙ tidy.again;
+  too = tidy.too;
+  last = tidy.last;
   size = tidy.size;
   good = tidy.good;
 }
 
-source-tidies : {mode : Mode} {cs : List ℕ} {tokens : List Token} → mode ≡ document → scalars cs ≡ true → bytes cs < 2 ^ 32 → AreTokens mode cs tokens → Tidies source_in_order document cs tokens
-source-tidies yes_is good fits (nothing) = record { out = []; outs = []; are = nothing; near = ends; is = refl; same = refl; again = refl; count = refl; size = omega arith; good = λ e. e }
+source-tidies : {mode : Mode} {cs : List ℕ} {tokens : List Token} → mode ≡ document → scalars cs ≡ true → bytes cs + 1 < 2 ^ 32 → AreTokens mode cs tokens → Tidies source_in_order document cs tokens
+source-tidies yes_is good fits (nothing) = record { out = []; outs = []; are = nothing; near = ends; is = refl; too = λ e. refl; same = refl; again = refl; last = refl; size = omega arith; good = λ e. e }
 source-tidies yes_is good fits (frontmatter_first {n} {opening = front} {next} {tokens} body is_opening is_end rest) =
     as-source (front ++ (body ++ next)) (record { kind = Frontmatter (next_is is_whitespace front) (not (next_is (is_among (codes "\n")) (body ++ next))); len = bytes front + bytes body }) tokens refl
     (opened-tidies body good fits is_opening is_end rest)
-source-tidies yes_is good fits (something {mode} {kind} {c} {w} {next} {tokens} is free rest) = elim (token-near (near-refl next) p) [
+source-tidies yes_is good fits (something {mode} {kind} {c} {w} {next} {tokens} is free rest) = elim (token-near (near-refl next) (λ o e. e) p) [
   | inl run ↦ spaced run
   | inr stays ↦ (let solid = stays.is_solid (omega arith) in as-source (c ∷ w ++ next) (record { kind = kind; len = bytes (c ∷ w) }) tokens (solid-no kind solid).0
       (solid-front kind c w next tokens solid p (λ y. free yes_is) (subst (λ (a : Mode). AreTokens (mode_after a kind) next tokens) yes_is rest)))
@@ -260,7 +272,7 @@ source-tidies yes_is good fits (something {mode} {kind} {c} {w} {next} {tokens} 
     p : IsTokenBefore next kind (c ∷ w)
     p = on_page (ap mode_edition yes_is) is
 
-    next-fits : bytes next < 2 ^ 32
+    next-fits : bytes next + 1 < 2 ^ 32
     next-fits = let e = ap length (encodes-append (c ∷ w) next) in let f = length-append (encode_utf8_all (c ∷ w)) (encode_utf8_all next) in omega arith
 
     spaced : IsSpaceRun next kind (c ∷ w) → Tidies source_in_order document (c ∷ w ++ next) (record { kind = kind; len = bytes (c ∷ w) } ∷ tokens)
@@ -270,7 +282,7 @@ source-tidies yes_is good fits (something {mode} {kind} {c} {w} {next} {tokens} 
 
 -- ---- texts
 
-pub code-size : (text : List ℕ) → IsText text → length (code_in_order text (tokens_of (part E2024) text)) ≤ length text
+pub code-size : (text : List ℕ) → IsText text → length (code_in_order text (tokens_of (part E2024) text)) ≤ length text + 1
 code-size text is =
     let tidy = code-tidies refl ((language text (part E2024) is (tokens_of (part E2024) text)).1 refl) in
     let whole : encode_utf8_all (chars text) ≡ text = encodes-chars text is.utf8 in
@@ -281,24 +293,24 @@ code-size text is =
     omega arith
 
 pub record SourceLaw (text : List ℕ) : Type 0 where
-  pub same : source_parts (source_tidied text) ≡ source_parts text
+  pub same : closed_parts (source_parts (source_tidied text)) ≡ closed_parts (source_parts text)
   pub again : source_tidied (source_tidied text) ≡ source_tidied text
-  pub size : length (source_tidied text) ≤ length text
+  pub size : length (source_tidied text) ≤ length text + 1
   pub is_text : IsText (source_tidied text)
   pub near : Near (chars text) (chars (source_tidied text))
 
-pub source-law : (text : List ℕ) → IsText text → SourceLaw text
-source-law text is = by_tidied (source-tidies refl (scalars-chars text is.utf8) fits ((language text document is (tokens_of document text)).1 refl))
+pub source-law : (text : List ℕ) → IsText text → length text + 1 < 2 ^ 32 → SourceLaw text
+source-law text is room = by_tidied (source-tidies refl (scalars-chars text is.utf8) fits ((language text document is (tokens_of document text)).1 refl))
   where
     whole : encode_utf8_all (chars text) ≡ text
     whole = encodes-chars text is.utf8
 
-    fits : bytes (chars text) < 2 ^ 32
-    fits = let e = ap length whole in let f = is.fits in omega arith
+    fits : bytes (chars text) + 1 < 2 ^ 32
+    fits = let e = ap length whole in let f = room in omega arith
 
     by_tidied : Tidies source_in_order document (chars text) (tokens_of document text) → SourceLaw text
     by_tidied tidy = record {
-      same = subst (λ (out : List ℕ). source_parts out ≡ source_parts text) (sym made) (ap (parts (encode_utf8_all tidy.out)) (sym tokens_are) ∙ (tidy.same ∙ ap (λ (xs : List ℕ). parts xs (tokens_of document text)) whole));
+      same = subst (λ (out : List ℕ). closed_parts (source_parts out) ≡ closed_parts (source_parts text)) (sym made) (ap (λ (ts : List Token). closed_parts (parts (encode_utf8_all tidy.out) ts)) (sym tokens_are) ∙ (tidy.same ∙ ap (λ (xs : List ℕ). closed_parts (parts xs (tokens_of document text))) whole));
       again = subst (λ (out : List ℕ). source_tidied out ≡ out) (sym made) (ap (source_in_order (encode_utf8_all tidy.out)) (sym tokens_are) ∙ tidy.again);
       size = let a = tidy.size in let b = ap length made in let c = ap length whole in omega arith;
       is_text = subst IsText (sym made) text_is;

@@ -1,10 +1,12 @@
 -- A text in order: what its white space becomes. All else stays.
-use Rattle.std.specs.Prelude.{◌≡◌, ℕ, ◌-◌, ◌<◌, ◌≤◌, get_or, ◌==◌, ◌&&◌, ◌||◌, not, Bool, true, false, if◌then◌else◌, List, [], ◌∷◌, ◌++◌, length, take, drop, codes, Option, Some, None}
+use Rattle.std.specs.Prelude.{◌≡◌, ℕ, ◌+◌, ◌-◌, ◌<◌, ◌≤◌, ◌^◌, get_or, ◌==◌, ◌&&◌, ◌||◌, not, Bool, true, false, if◌then◌else◌, List, [], ◌∷◌, ◌++◌, length, take, drop, codes, Option, Some, None, is_none}
 use Rattle.std.specs.List.{list_all}
 use Rattle.std.specs.Str.{byte}
 use Rattle.rustc_lexer.specs.declared.token.Token.{Token}
 use Rattle.rustc_lexer.specs.declared.token.TokenKind.{TokenKind}
-use Rattle.rustc_lexer.specs.declared.token.TokenKind.TheVariants.{Whitespace, Frontmatter}
+use Rattle.rustc_lexer.specs.declared.token.LiteralKind.{LiteralKind}
+use Rattle.rustc_lexer.specs.declared.token.LiteralKind.TheVariants.{Char, Byte, Str, ByteStr, CStr, RawStr, RawByteStr, RawCStr}
+use Rattle.rustc_lexer.specs.declared.token.TokenKind.TheVariants.{BlockComment, Whitespace, Frontmatter, Literal}
 use Rattle.rustc_lexer.specs.Classes.{is_among}
 use Rattle.rustc_lexer.specs.LanguageText.{document}
 use Rattle.rustc_lexer.specs.means.Scan.{begins}
@@ -44,9 +46,32 @@ abbrev pub space_in_order : List ℕ → List Token → List ℕ
 space_in_order space [] = codes "\n"
 space_in_order space (token ∷ left) = in_order space
 
+-- whether a newline behind the token would become a part of it: nothing closes it, or it is a frontmatter
+abbrev pub is_open_literal : LiteralKind → Bool
+is_open_literal (Char terminated) = not terminated
+is_open_literal (Byte terminated) = not terminated
+is_open_literal (Str terminated) = not terminated
+is_open_literal (ByteStr terminated) = not terminated
+is_open_literal (CStr terminated) = not terminated
+is_open_literal (RawStr n_hashes) = is_none n_hashes
+is_open_literal (RawByteStr n_hashes) = is_none n_hashes
+is_open_literal (RawCStr n_hashes) = is_none n_hashes
+is_open_literal kind = false
+
+abbrev pub is_open : TokenKind → Bool
+is_open (BlockComment doc_style terminated) = not terminated
+is_open (Literal kind suffix_start) = is_open_literal kind
+is_open (Frontmatter has_invalid_preceding_whitespace invalid_infostring) = true
+is_open kind = false
+
+-- what comes behind a token, before the tokens that are left: behind the last one a newline
+abbrev pub closing : TokenKind → List Token → List ℕ
+closing kind [] = if is_open kind then [] else codes "\n"
+closing kind (token ∷ left) = []
+
 -- a part of the text that is a token, before the tokens that are left
 abbrev pub part_in_order : TokenKind → List ℕ → List Token → List ℕ
-part_in_order kind part left = if is_space kind then space_in_order part left else part
+part_in_order kind part left = if is_space kind then space_in_order part left else part ++ closing kind left
 
 -- a text by its tokens
 abbrev pub code_in_order : List ℕ → List Token → List ℕ
@@ -116,9 +141,17 @@ is_same_len None (Some n) = false
 is_same_len (Some m) None = false
 is_same_len (Some m) (Some n) = m == n
 
--- a whole text in order; one whose shebang line would be another then stays as it is
-abbrev pub tidied : List ℕ → List ℕ
-tidied text = if is_same_len (shebang (document_in_order text)) (shebang text) then document_in_order text else text
+-- a text of so many bytes has no room for a newline more
+abbrev pub is_full : List ℕ → Bool
+is_full text = length text == 2 ^ 32 - 1
+
+-- a text stays as it is where it is full, and where its shebang line would be another
+abbrev pub may_change : List ℕ → Bool
+may_change text = not (is_full text) && is_same_len (shebang (document_in_order text)) (shebang text)
+
+-- a whole text in order
+unfoldable pub tidied : List ℕ → List ℕ
+tidied text = if may_change text then document_in_order text else text
 
 -- what is to stay: the shebang line, and of what follows it the tokens, white space as no more than that it is there
 pub record Solid : Type 0 where
@@ -131,13 +164,27 @@ source_parts text = parts text (tokens_of document text)
 abbrev pub solid : List ℕ → Solid
 solid text = record { line = take (line_end text) text; parts = source_parts (drop (line_end text) text) }
 
+-- white space behind the last token, where a newline may stand there
+abbrev pub end_parts : TokenKind → List (TokenKind × List ℕ) → List (TokenKind × List ℕ)
+end_parts kind [] = if is_space kind || is_open kind then [] else (Whitespace, []) ∷ []
+end_parts kind (p ∷ ps) = []
+
+abbrev pub closed_parts : List (TokenKind × List ℕ) → List (TokenKind × List ℕ)
+closed_parts [] = []
+closed_parts (p ∷ ps) = p ∷ (end_parts p.0 ps ++ closed_parts ps)
+
+abbrev pub closed : Solid → Solid
+closed s = record { line = s.line; parts = closed_parts s.parts }
+
 abbrev pub is_no_front : Token → Bool
 is_no_front token = not (is_front token.kind)
 
--- what is put in order has the shebang line and the tokens of the text, stays as it is, and is no longer; and only with a
--- shebang line or a frontmatter may the text stay as it is where its white space is not in order
+-- what is put in order has the shebang line and the tokens of the text, but for a newline at its end, stays as it is, and has
+-- at most that newline more; and only a text that is full or has a shebang line or a frontmatter may stay as it is where it
+-- is not in order
 pub record IsSound (text : List ℕ) : Type 0 where
-  pub solid_same : solid (tidied text) ≡ solid text
+  pub solid_same : closed (solid (tidied text)) ≡ closed (solid text)
   pub again : tidied (tidied text) ≡ tidied text
-  pub shorter : length (tidied text) ≤ length text
-  pub in_order : shebang text ≡ None → list_all is_no_front (tokens_of document text) ≡ true → tidied text ≡ code_in_order text (tokens_of document text)
+  pub shorter : length (tidied text) ≤ length text + 1
+  pub in_order : is_full text ≡ false → shebang text ≡ None → list_all is_no_front (tokens_of document text) ≡ true
+      → tidied text ≡ code_in_order text (tokens_of document text)

@@ -1,5 +1,5 @@
 //! A whole text in order.
-ghost use Rattle.std.specs.Prelude.{◌≡◌, ◌≤◌, IfOk, length, string_bytes};
+ghost use Rattle.std.specs.Prelude.{◌≡◌, ◌+◌, ◌<◌, ◌≤◌, ◌^◌, IfOk, length, string_bytes};
 ghost use Rattle.std.specs.Str.{IsCharBoundary};
 ghost use Rattle.rustc_lexer.specs.Classes.{Fits};
 ghost use Rattle.tidy.specs.Order as spec;
@@ -8,13 +8,17 @@ use crate::source::push_source;
 use rustc_lexer::strip_shebang;
 use std::alloc::{AllocError, Global};
 
-/// A text with its white space in order. Its shebang line and all tokens but white space stay, with their texts,
-/// and a text in order stays as it is.
+/// A text with its white space in order, closed by a newline. Its shebang line and all tokens but white space stay,
+/// with their texts, and a text in order stays as it is.
+#[tactic(auto, using(crate::proofs::DocumentLemmas::room), unfolding(crate::specs::Order::tidied))]
 pub fn tidied(alloc: Global, text: &str) -> Result<String, AllocError>
     requires fits { Fits text.now }
     ensures text { IfOk result (λ out. string_bytes out ≡ spec.tidied text.now) }
     ensures law { spec.IsSound text.now }
 {
+    if is_full(text) {
+        return String::from_str(alloc, text);
+    }
     let made = ordered(alloc, text)?;
     if is_same_len(strip_shebang(made.as_str()), strip_shebang(text)) {
         Ok(made)
@@ -23,9 +27,16 @@ pub fn tidied(alloc: Global, text: &str) -> Result<String, AllocError>
     }
 }
 
+/// Whether the text has no room for a newline more.
+fn is_full(text: &str) -> bool
+    ensures { result ≡ spec.is_full text.now }
+{
+    text.len() == u32::MAX as usize
+}
+
 /// The shebang line, and what follows it in order.
 fn ordered(alloc: Global, text: &str) -> Result<String, AllocError>
-    requires fits { Fits text.now }
+    requires room { length text.now + 1 < 2 ^ 32 }
     ensures text { IfOk result (λ out. string_bytes out ≡ spec.document_in_order text.now) }
     ensures inside { spec.line_end text.now ≤ length text.now }
     ensures boundary { IsCharBoundary text.now (spec.line_end text.now) }

@@ -1,5 +1,5 @@
 //! White space and tokens in order.
-ghost use Rattle.std.specs.Prelude.{◌≡◌, ◌<◌, ◌≤◌, ◌-◌, ◌++◌, OnOk, drop, length, false, true, string_bytes, if◌then◌else◌, codes};
+ghost use Rattle.std.specs.Prelude.{◌≡◌, ◌<◌, ◌≤◌, ◌-◌, ◌++◌, [], OnOk, drop, length, false, true, string_bytes, if◌then◌else◌, codes};
 ghost use Rattle.rustc_lexer.specs.Classes.{Fits};
 ghost use Rattle.rustc_lexer.specs.LanguageText.{mode_of};
 ghost use Rattle.rustc_lexer.specs.Spans.{AreAll};
@@ -7,7 +7,7 @@ ghost use Rattle.rustc_lexer.specs.Tokens.{tokens_of};
 ghost use Rattle.tidy.specs.Order as spec;
 
 use memchr::memchr;
-use rustc_lexer::{FrontmatterAllowed, TokenKind, tokenize};
+use rustc_lexer::{FrontmatterAllowed, LiteralKind, TokenKind, tokenize};
 use std::alloc::AllocError;
 
 /// Appends the tokens of a text, with the white space in order.
@@ -38,15 +38,49 @@ pub fn push_part(
 ) -> Result<(), AllocError>
     ensures { OnOk result (string_bytes output.new
         ≡ string_bytes output.old ++ (if spec.is_space kind
-        then (if is_last then codes "\n" else spec.in_order part.now) else part.now)) }
+        then (if is_last then codes "\n" else spec.in_order part.now)
+        else part.now ++ (if is_last then (if spec.is_open kind then [] else codes "\n") else []))) }
 {
     if !is_space(kind) {
-        return output.push_str(part);
+        output.push_str(part)?;
+        if is_last && !is_open(kind) {
+            output.push_str("\n")?;
+        }
+        return Ok(());
     }
     if is_last {
         return output.push_str("\n");
     }
     push_in_order(part, output)
+}
+
+/// Whether a newline behind the token would become a part of it: nothing closes it, or it is a frontmatter.
+fn is_open(kind: TokenKind) -> bool
+    ensures { result ≡ spec.is_open kind }
+{
+    match kind {
+        TokenKind::BlockComment { terminated, .. } => !terminated,
+        TokenKind::Literal { kind, .. } => is_open_literal(kind),
+        TokenKind::Frontmatter { .. } => true,
+        _ => false,
+    }
+}
+
+/// Whether nothing closes the literal.
+fn is_open_literal(kind: LiteralKind) -> bool
+    ensures { result ≡ spec.is_open_literal kind }
+{
+    match kind {
+        LiteralKind::Char { terminated }
+        | LiteralKind::Byte { terminated }
+        | LiteralKind::Str { terminated }
+        | LiteralKind::ByteStr { terminated }
+        | LiteralKind::CStr { terminated } => !terminated,
+        LiteralKind::RawStr { n_hashes }
+        | LiteralKind::RawByteStr { n_hashes }
+        | LiteralKind::RawCStr { n_hashes } => n_hashes.is_none(),
+        _ => false,
+    }
 }
 
 /// Whether the token is white space.

@@ -1,5 +1,5 @@
 //! A source in order, with a frontmatter in front or without.
-ghost use Rattle.std.specs.Prelude.{◌≡◌, ◌++◌, OnOk, string_bytes};
+ghost use Rattle.std.specs.Prelude.{◌≡◌, ◌+◌, ◌<◌, ◌^◌, ◌++◌, OnOk, length, string_bytes};
 ghost use Rattle.rustc_lexer.specs.Classes.{Fits};
 ghost use Rattle.rustc_lexer.specs.LanguageText.{document};
 ghost use Rattle.rustc_lexer.specs.Tokens.{tokens_of};
@@ -11,7 +11,7 @@ use std::alloc::{AllocError, Global};
 
 /// Appends a source in order.
 pub fn push_source(alloc: Global, text: &str, output: &mut String) -> Result<(), AllocError>
-    requires fits { Fits text.now }
+    requires room { length text.now + 1 < 2 ^ 32 }
     ensures { OnOk result (string_bytes output.new
         ≡ string_bytes output.old ++ spec.source_tidied text.now) }
 {
@@ -30,7 +30,7 @@ pub fn push_source(alloc: Global, text: &str, output: &mut String) -> Result<(),
 /// Appends a source in order that begins with no white space. Past a frontmatter it is put in order
 /// only if the frontmatter stays as it is: what ends one that is not closed may stand behind it.
 fn push_front(alloc: Global, text: &str, output: &mut String) -> Result<(), AllocError>
-    requires fits { Fits text.now }
+    requires room { length text.now + 1 < 2 ^ 32 }
     ensures { OnOk result (string_bytes output.new
         ≡ string_bytes output.old
         ++ spec.front_in_order text.now (tokens_of document text.now)) }

@@ -20,26 +20,32 @@ fn is_tidied(alloc: Global, text: &str, want: &str) -> bool {
 fn texts(rt: HostRuntime) {
     let rows = [
         ("", ""),
-        ("fn", "fn"),
+        ("fn", "fn\n"),
         (" \t\n \n\n", "\n"),
         ("fn  ", "fn\n"),
         ("a \t\r\n\r\n\n\n    b\t c \n", "a\n\n    b\t c\n"),
-        ("a \r \n\r\r\nb", "a\n\nb"),
-        ("// a  \r\nb", "// a  \r\nb"),
+        ("a \r \n\r\r\nb", "a\n\nb\n"),
+        ("// a  \r\nb", "// a  \r\nb\n"),
+        ("a\r\n/* b\r\n", "a\n/* b\r\n"),
         ("/* \n\n\n\n */ \n", "/* \n\n\n\n */\n"),
-        ("\"a  \n\n\n\n\" \n;", "\"a  \n\n\n\n\"\n;"),
+        ("\"a  \r\n\n\n\n\" \n;", "\"a  \r\n\n\n\n\"\n;\n"),
         ("\"a  \n\n\n\n", "\"a  \n\n\n\n"),
         ("r#\"  \n\"#  \n", "r#\"  \n\"#\n"),
-        ("r#  \n\n\n\na", "r# \n\na"),
-        ("'a \n\n\n\nb", "'a\n\nb"),
-        ("b'x  \n\n \n\ny", "b'x  \n\ny"),
+        ("r#  \n\n\n\na", "r# \n\na\n"),
+        ("'a \n\n\n\nb", "'a\n\nb\n"),
+        ("b'x  \n\n \n\ny", "b'x  \n\ny\n"),
         ("b'\n \n'", "b'\n\n'"),
-        ("a\u{85} \n\u{2028}\n\n\n\nb", "a\u{85}\n\u{2028}\n\nb"),
-        (" \n\n\n---\na  \n--- \n\n\n\nb", "\n\n---\na  \n--- \n\nb"),
+        ("a\u{85} \n\u{2028}\n\n\n\nb", "a\u{85}\n\u{2028}\n\nb\n"),
+        (
+            " \n\n\n---\na  \n--- \n\n\n\nb",
+            "\n\n---\na  \n--- \n\nb\n",
+        ),
+        ("---\n---", "---\n---"),
         ("---\na\nuse \n\n\n\nb", "---\na\nuse \n\n\n\nb"),
         ("#!/bin/sh \r\n\r\n\n\nfn \n", "#!/bin/sh \n\nfn\n"),
         ("#!x\r\r\nfn \n", "#!x\r\r\nfn \n"),
-        ("#![a] \n\n\n\nfn", "#![a]\n\nfn"),
+        ("#![a] \n\n\n\nfn", "#![a]\n\nfn\n"),
+        ("\r", "\n"),
     ];
     for (text, want) in rows {
         assert!(rt; is_tidied(rt.alloc(), text, want), "at {text:?}");
@@ -99,7 +105,7 @@ fn diffs(rt: HostRuntime) {
             b"a \n\"b \r\n\"\r\n \n\n\nc",
             Some(
                 "--- a/stdin\t\n+++ b/stdin\t\n@@ -1,7 +1,5 @@\n-a \n+a\n \"b \r\n-\"\r\n+\"\n\
-- \n+\n-\n-\n c\n\\ No newline at end of file\n",
+- \n+\n-\n-\n-c\n\\ No newline at end of file\n+c\n",
             ),
         ),
         (
