@@ -114,11 +114,10 @@ unfolding items_from
 nothing at total = refl
 
 -- with nothing waiting, an iterator takes the first of what is told, and keeps the rest
-pub takes_first : (at : ℕ → List ℕ → Front) (total : ℕ) (waiting first second : Option Item) (rest left : List ℕ) → None ≡ waiting
+pub takes_first : (at : ℕ → List ℕ → Front) (total : ℕ) (waiting first second : Option Item) (rest left : List ℕ) → false ≡ is_some waiting
     → items_from at total rest ≡ (option_to_list first ++ option_to_list second) ++ items_from at total left → (first ≡ None → (second ≡ None) × (left ≡ []))
     → TakesFirst (option_to_list waiting ++ items_from at total rest) first (option_to_list second ++ items_from at total left)
-takes_first at total waiting first second rest left none told all =
-    subst (λ (w : Option Item). TakesFirst (option_to_list w ++ items_from at total rest) first (option_to_list second ++ items_from at total left)) none (by_first first second told all)
+takes_first at total None first second rest left none told all = by_first first second told all
   where
     by_first : (first second : Option Item) → items_from at total rest ≡ (option_to_list first ++ option_to_list second) ++ items_from at total left → (first ≡ None → (second ≡ None) × (left ≡ []))
         → TakesFirst (items_from at total rest) first (option_to_list second ++ items_from at total left)
@@ -127,3 +126,4 @@ takes_first at total waiting first second rest left none told all =
         let ends : option_to_list second ++ items_from at total left ≡ [] =
         ap (λ (o : Option Item). option_to_list o ++ items_from at total left) (all refl).0 ∙ (ap (items_from at total) (all refl).1 ∙ nothing at total) in
         (told ∙ ends, ends)
+takes_first at total (Some item) first second rest left none told all = absurd (true≢false (sym none))

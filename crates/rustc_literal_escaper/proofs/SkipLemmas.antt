@@ -3,7 +3,7 @@ use Rattle.std.proofs.Common.{◌≡◌, ℕ, zero, suc, ◌+◌, ◌-◌, ◌<�
 use Rattle.std.specs.Char.{encode_utf8}
 use Rattle.std.specs.List.{list_all, slice_index}
 use Rattle.std.specs.Str.{chars, encode_utf8_all, IsUtf8}
-use Rattle.std.specs.Option.{option_to_list}
+use Rattle.std.specs.Option.{is_some, option_to_list}
 use Rattle.std.proofs.lemmas.Bool.{cases_Bool, ne_eqb, eqb-true}
 use Rattle.std.proofs.lemmas.List.{append-nil, get_or-append-add, get_or_append_left, length-take, take-append-drop}
 use Rattle.std.proofs.lemmas.Str.{chars-append, chars-nil, encode_ascii, encodes-chars, IsCharBoundary-before_ascii, IsUtf8-take}
@@ -12,7 +12,7 @@ use Rattle.rustc_literal_escaper.specs.declared.element.Element.{Element}
 use Rattle.rustc_literal_escaper.specs.declared.element.Element.TheVariants.{Plain}
 use Rattle.rustc_literal_escaper.specs.declared.error.EscapeError.{EscapeError}
 use Rattle.rustc_literal_escaper.specs.declared.mode.Mode.{Mode}
-use Rattle.rustc_literal_escaper.specs.Elements.{Front, Item, front_by, item_at, items_from, one, place, StartsWithOne, TakesFirst}
+use Rattle.rustc_literal_escaper.specs.Elements.{Front, Item, front_by, item_at, items_from, one, place, StartsWithOne}
 use Rattle.rustc_literal_escaper.specs.Errors.{error_of, errors_in, put}
 use Rattle.rustc_literal_escaper.specs.Plain.{is_plain, PassesPlain}
 use Rattle.rustc_literal_escaper.proofs.ItemLemmas.{front_by-shorter, items-cons}
@@ -176,6 +176,12 @@ first-item raw total rest left e is ends starts = by_front (chars rest) refl sta
         here : place total (c ∷ s) ≡ total - length rest
         here = ap (place total) same ∙ ap (λ (n : ℕ). total - n) (ap length (encodes-chars rest is))
 
--- with nothing waiting, an iterator takes it
-pub takes_one : (waiting : Option Item) (s t : List Item) (item : Item) → None ≡ waiting → s ≡ item ∷ t → TakesFirst (option_to_list waiting ++ s) (Some item) t
-takes_one waiting s t item none e = subst (λ (w : Option Item). option_to_list w ++ s ≡ item ∷ t) none e
+-- with nothing waiting, the first item is that of the rest
+pub behind : (waiting : Option Item) (s t : List Item) (item : Item) → false ≡ is_some waiting → s ≡ item ∷ t → option_to_list waiting ++ s ≡ item ∷ (option_to_list waiting ++ t)
+behind None s t item none e = e
+behind (Some waits) s t item none e = absurd (true≢false (sym none))
+
+-- a plain character is an item
+pub first-plain : (raw : Bool) (total : ℕ) (rest left : List ℕ) (c : ℕ) → IsUtf8 rest → IsUtf8 left → chars rest ≡ c ∷ chars left → is_plain raw c ≡ true
+    → items_from (front_by raw) total (chars rest) ≡ (record { start = total - length rest; end = total - length left }, Plain c) ∷ items_from (front_by raw) total (chars left)
+first-plain raw total rest left c is ends e plain = first-item raw total rest left (Plain c) is ends (subst (λ (s : List ℕ). StartsWithOne raw s (Plain c) (chars left)) (sym e) (front_by-plain raw c (chars left) plain))

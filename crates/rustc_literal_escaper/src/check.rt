@@ -1,13 +1,12 @@
 //! What is wrong in a literal, and nothing else.
-ghost use Rattle.std.specs.Prelude.{◌≡◌, length};
+ghost use Rattle.std.specs.Prelude.{◌≡◌, false, length};
 ghost use Rattle.std.specs.List.{FoldsTo};
 ghost use Rattle.std.specs.Option.{option_to_list};
 ghost use Rattle.std.specs.Str.{chars};
-ghost use Rattle.rustc_literal_escaper.specs.Elements.{items_of};
 ghost use Rattle.rustc_literal_escaper.specs.Errors as spec;
 
 use crate::element::Element;
-use crate::elements::Elements;
+use crate::elements::{Elements, elements_of};
 use crate::error::EscapeError;
 use crate::mode::Mode;
 use crate::scan::split_first;
@@ -27,36 +26,23 @@ pub fn check_for_errors<F: FnMut(Range<usize>, EscapeError)>(
     ensures calls { (last : F) × FoldsTo (λ f error g. F.step f error.0 error.1 tt g)
         error_callback (spec.errors_of mode src.now) last }
 {
-    if is_single(mode) {
-        check_single(src, mode, error_callback)
-    } else {
-        check_elements(elements_of(src, mode), mode, error_callback)
+    match mode {
+        Mode::Char | Mode::Byte => check_single(src, mode, error_callback),
+        Mode::Str => check_string(src, mode, error_callback),
+        Mode::ByteStr => check_string(src, mode, error_callback),
+        Mode::CStr => check_string(src, mode, error_callback),
+        Mode::RawStr => check_string(src, mode, error_callback),
+        Mode::RawByteStr => check_string(src, mode, error_callback),
+        Mode::RawCStr => check_string(src, mode, error_callback),
     }
 }
 
-/// Whether such a literal stands between single quotes.
-fn is_single(mode: Mode) -> bool
-    ensures { result ≡ spec.is_single mode }
-{
-    matches!(mode, Mode::Char | Mode::Byte)
-}
-
 /// Whether nothing is an escape in such a literal.
+#[inline(always)]
 fn is_raw(mode: Mode) -> bool
     ensures { result ≡ spec.is_raw mode }
 {
     matches!(mode, Mode::RawStr | Mode::RawByteStr | Mode::RawCStr)
-}
-
-/// The elements of a literal between double quotes.
-fn elements_of(src: &str, mode: Mode) -> Elements<'_>
-    ensures { result ≡ items_of (spec.is_raw mode) src.now }
-{
-    if is_raw(mode) {
-        Elements::new_raw(src)
-    } else {
-        Elements::new(src)
-    }
 }
 
 /// Tells what is wrong between single quotes.
@@ -84,7 +70,21 @@ fn single_error(src: &str, mode: Mode) -> Option<(Range<usize>, EscapeError)>
     Some((0..src.len() - more.len(), EscapeError::MoreThanOneChar))
 }
 
+/// Tells what is wrong between double quotes.
+///
+/// It is inlined into each arm of its caller, so that the mode is known there.
+#[inline(always)]
+fn check_string<F: FnMut(Range<usize>, EscapeError)>(src: &str, mode: Mode, callback: F)
+    requires callable { F.IsAlwaysCallable callback }
+    requires double { false ≡ spec.is_single mode }
+    ensures calls { (last : F) × FoldsTo (λ f error g. F.step f error.0 error.1 tt g)
+        callback (spec.errors_of mode src.now) last }
+{
+    check_elements(elements_of(src, is_raw(mode)), mode, callback);
+}
+
 /// Tells what is wrong with the elements.
+#[inline(always)]
 fn check_elements<F: FnMut(Range<usize>, EscapeError)>(
     mut elements: Elements<'_>,
     mode: Mode,
@@ -94,16 +94,26 @@ fn check_elements<F: FnMut(Range<usize>, EscapeError)>(
     ensures calls { (last : F) × FoldsTo (λ f error g. F.step f error.0 error.1 tt g)
         callback (spec.errors_in mode elements.entry) last }
 {
-    'items: while let Some((range, element)) = elements.next() {
-        let Some(error) = error_of(mode, element) else {
-            elements.skip_plain(element, mode);
+    'items: loop {
+        if let Some((range, c)) = elements.next_plain() {
+            if let Some(error) = error_of(mode, Element::Plain(c)) {
+                callback(range, error);
+            } else {
+                elements.skip_plain(mode);
+            }
             continue;
+        }
+        let Some((range, element)) = elements.next() else {
+            break;
         };
-        callback(range, error);
+        if let Some(error) = error_of(mode, element) {
+            callback(range, error);
+        }
     }
 }
 
 /// What is wrong with the element, in a literal of this kind.
+#[inline(always)]
 fn error_of(mode: Mode, element: Element) -> Option<EscapeError>
     ensures { result ≡ spec.error_of mode element }
 {

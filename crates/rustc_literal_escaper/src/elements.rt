@@ -1,5 +1,5 @@
 //! The elements of what stands between double quotes.
-ghost use Rattle.std.specs.Prelude.{◌≡◌, ◌≤◌, ℕ, None, true, false, length};
+ghost use Rattle.std.specs.Prelude.{◌≡◌, ◌≤◌, ◌∷◌, ℕ, None, true, false, length, MatchOption};
 ghost use Rattle.std.specs.Iterator.{at_most};
 ghost use Rattle.rustc_literal_escaper.specs.Elements.{items_of, TakesFirst};
 ghost use Rattle.rustc_literal_escaper.specs.Errors.{error_of, errors_in};
@@ -10,7 +10,7 @@ ghost use Rattle.rustc_literal_escaper.specs.Rebuilt.{IsRebuilt};
 use crate::element::Element;
 use crate::mode::Mode;
 use crate::scan::past_plain;
-use crate::steps::{Told, advance, first_item};
+use crate::steps::{Told, advance, first_item, first_plain};
 use std::iter::Iterator;
 use std::marker::Model;
 use std::ops::Range;
@@ -39,6 +39,18 @@ impl<'a> Model for Elements<'a> {
         ++ items_from (front_by e.raw) e.total (chars e.rest.now) };
 
     ghost invariant = { λ e. length e.rest.now ≤ e.total };
+}
+
+/// The elements of a raw string or another.
+#[inline(always)]
+pub(crate) fn elements_of(src: &str, raw: bool) -> Elements<'_>
+    ensures { result ≡ items_of raw src.now }
+{
+    if raw {
+        Elements::new_raw(src)
+    } else {
+        Elements::new(src)
+    }
 }
 
 impl<'a> Elements<'a> {
@@ -72,17 +84,28 @@ impl<'a> Elements<'a> {
         }
     }
 
-    /// Passes over the plain characters in front, where nothing is wrong with any of them in this mode.
+    /// The next element, where it is a plain character.
     ///
-    /// It does so past an element that is plain, for then more of them are likely.
+    /// A loop over these alone is fast. Where it is `None`, another element may come.
     #[inline(always)]
-    pub(crate) fn skip_plain(&mut self, past: Element, mode: Mode)
+    pub(crate) fn next_plain(&mut self) -> Option<(Range<usize>, char)>
+        ensures { MatchOption result (self.new ≡ self.old)
+            (λ r. self.old ≡ (r.0, Element.Plain r.1) ∷ self.new) }
+    {
+        if self.waiting.is_some() {
+            return None;
+        }
+        let (item, left) = first_plain(self.rest, self.total, self.raw)?;
+        self.rest = left;
+        Some(item)
+    }
+
+    /// Passes over the plain characters in front, where nothing is wrong with any of them in this mode.
+    #[inline(always)]
+    pub(crate) fn skip_plain(&mut self, mode: Mode)
         ensures same { errors_in mode self.new ≡ errors_in mode self.old }
         ensures fewer { length self.new ≤ length self.old }
     {
-        let Element::Plain(_) = past else {
-            return;
-        };
         if takes_all(mode) {
             self.rest = past_plain(self.rest, self.raw);
         }
@@ -90,6 +113,7 @@ impl<'a> Elements<'a> {
 }
 
 /// Whether no plain character is wrong in such a literal.
+#[inline(always)]
 fn takes_all(mode: Mode) -> bool
     ensures { result ≡ true → (c : ℕ) → error_of mode (Element.Plain c) ≡ None }
 {
@@ -106,8 +130,8 @@ impl<'a> Iterator for Elements<'a> {
     /// The next element, or `None` past the last one, from then on.
     #[inline(always)]
     fn next(&mut self) -> Option<(Range<usize>, Element)> {
-        if let Some(item) = self.waiting.take() {
-            return Some(item);
+        if self.waiting.is_some() {
+            return self.waiting.take();
         }
         if let Some((item, left)) = first_item(self.rest, self.total, self.raw) {
             self.rest = left;

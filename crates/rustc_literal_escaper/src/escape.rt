@@ -12,6 +12,7 @@ use crate::scan::split_first;
 const MOST_DIGITS: usize = 6;
 
 /// The escape at the front of what follows a backslash, and what is left past it.
+#[inline(always)]
 pub(crate) fn escape(rest: &str) -> (Element, &str)
     ensures shorter { length result.1.now ≤ length rest.now }
     ensures text { IsUtf8 result.1.now }
@@ -28,6 +29,7 @@ pub(crate) fn escape(rest: &str) -> (Element, &str)
 }
 
 /// The byte that a backslash and this character stand for.
+#[inline(always)]
 fn short(c: char) -> Element
     ensures { result ≡ spec.short c }
 {
@@ -42,6 +44,7 @@ fn short(c: char) -> Element
 }
 
 /// The byte of two digits. `rest` follows the `x`.
+#[inline(always)]
 fn hex(rest: &str) -> (Element, &str)
     ensures shorter { length result.1.now ≤ length rest.now }
     ensures text { IsUtf8 result.1.now }

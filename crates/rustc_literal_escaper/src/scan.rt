@@ -30,7 +30,7 @@ pub(crate) fn past_plain(rest: &str, raw: bool) -> &str
     }
 }
 
-/// The same of a raw string.
+/// What is left of a raw string past its plain characters in front: from the first carriage return on.
 fn past_plain_raw(rest: &str) -> &str
     ensures passes { PassesPlain true (chars rest.now) (chars result.now) }
     ensures text { IsUtf8 result.now }
@@ -42,7 +42,7 @@ fn past_plain_raw(rest: &str) -> &str
     }
 }
 
-/// The same of a string that may have escapes.
+/// What is left past them of a string that may have escapes: from the first character that is not plain on.
 fn past_plain_escaped(rest: &str) -> &str
     ensures passes { PassesPlain false (chars rest.now) (chars result.now) }
     ensures text { IsUtf8 result.now }

@@ -4,6 +4,7 @@ ghost use Rattle.std.specs.List.{list_any};
 ghost use Rattle.std.specs.Option.{option_to_list};
 ghost use Rattle.std.specs.Str.{chars, IsUtf8};
 ghost use Rattle.rustc_literal_escaper.specs.Elements as spec;
+ghost use Rattle.rustc_literal_escaper.specs.Plain as plain;
 ghost use Rattle.rustc_literal_escaper.specs.Runs.{front_run, past_run};
 ghost use Rattle.rustc_literal_escaper.specs.Told.{told_by};
 
@@ -84,6 +85,39 @@ pub(crate) fn first_item(
     Some(((range, element), left))
 }
 
+/// The item at the front, where it is a plain character, and what is left past it, as [`first_item`] has them.
+#[inline(always)]
+pub(crate) fn first_plain(
+    rest: &str,
+    total: usize,
+    raw: bool,
+) -> Option<((Range<usize>, char), &str)>
+    requires fits { length rest.now ≤ total }
+    ensures { IfSome result (λ r.
+        (spec.items_from (spec.front_by raw) total (chars rest.now)
+        ≡ (r.0.0, Element.Plain r.0.1) ∷ spec.items_from (spec.front_by raw) total (chars r.1.now))
+        × (length r.1.now ≤ length rest.now) × IsUtf8 r.1.now) }
+{
+    let (c, tail) = split_first(rest)?;
+    if !is_plain(c, raw) {
+        return None;
+    }
+    let range = total - rest.len()..total - tail.len();
+    Some(((range, c), tail))
+}
+
+/// Whether a character is plain, in a raw string or another.
+#[inline(always)]
+fn is_plain(c: char, raw: bool) -> bool
+    ensures { result ≡ plain.is_plain raw c }
+{
+    if raw {
+        c != '\r'
+    } else {
+        c != '\\' && c != '"' && c != '\r'
+    }
+}
+
 /// The element at the front, and what is left past it, as [`first_item`] has them.
 #[inline(always)]
 #[tactic(auto, unfolding(crate::specs::Elements::front, crate::specs::Elements::raw_front))]
@@ -106,6 +140,7 @@ fn first_element(rest: &str, raw: bool) -> Option<(Element, &str)>
 }
 
 /// What a character of a raw string is.
+#[inline(always)]
 fn raw_element(c: char) -> Element
     ensures { result ≡ spec.raw_element c }
 {
@@ -153,6 +188,7 @@ fn one(element: Element, left: &str, start: usize, total: usize) -> Told<'_>
 }
 
 /// What a character that is not escaped is between double quotes.
+#[inline(always)]
 fn unescaped(c: char) -> Element
     ensures { result ≡ spec.unescaped c }
 {
@@ -164,6 +200,7 @@ fn unescaped(c: char) -> Element
 }
 
 /// What follows a newline, if the text begins with one.
+#[inline(always)]
 fn strip_newline(text: &str) -> Option<&str>
     ensures { MatchOption result (IsTrue (not (spec.begins_line (chars text.now))))
         (λ r. (chars text.now ≡ 10 ∷ chars r.now) × (length r.now < length text.now)) }

@@ -1,10 +1,11 @@
 //! Strings of every kind, by a callback.
-ghost use Rattle.std.specs.Prelude.{true, false};
+ghost use Rattle.std.specs.Prelude.{◌≡◌, true, false};
 ghost use Rattle.std.specs.List.{FoldsTo};
 ghost use Rattle.rustc_literal_escaper.specs.Elements.{items_of};
 ghost use Rattle.rustc_literal_escaper.specs.Meaning.{byte_of, char_of, raw_unit_of, unit_of};
 
-use crate::elements::Elements;
+use crate::element::Element;
+use crate::elements::{Elements, elements_of};
 use crate::error::EscapeError;
 use crate::unit::{MixedUnit, NonZeroChar};
 use std::ops::Range;
@@ -16,32 +17,23 @@ use std::ops::Range;
 ///
 /// A backslash at the end of a line stands for nothing, and no call tells of it. Two calls may warn of the
 /// white space past it: their places begin at the backslash.
-pub fn unescape_str<F: FnMut(Range<usize>, Result<char, EscapeError>)>(src: &str, mut callback: F)
+pub fn unescape_str<F: FnMut(Range<usize>, Result<char, EscapeError>)>(src: &str, callback: F)
     requires callable { F.IsAlwaysCallable callback }
     ensures calls { (last : F) × FoldsTo (λ f item g. F.step f item.0 (char_of item.1) tt g)
         callback (items_of false src.now) last }
 {
-    let mut elements = Elements::new(src);
-    'items: while let Some((range, element)) = elements.next() {
-        callback(range, element.to_char());
-    }
+    each_unit::<AsChar, F>(src, false, callback);
 }
 
 /// Calls `callback` with each byte that a byte string stands for, or what is wrong, and its place.
 ///
 /// It is as [`unescape_str`] is.
-pub fn unescape_byte_str<F: FnMut(Range<usize>, Result<u8, EscapeError>)>(
-    src: &str,
-    mut callback: F,
-)
+pub fn unescape_byte_str<F: FnMut(Range<usize>, Result<u8, EscapeError>)>(src: &str, callback: F)
     requires callable { F.IsAlwaysCallable callback }
     ensures calls { (last : F) × FoldsTo (λ f item g. F.step f item.0 (byte_of item.1) tt g)
         callback (items_of false src.now) last }
 {
-    let mut elements = Elements::new(src);
-    'items: while let Some((range, element)) = elements.next() {
-        callback(range, element.to_byte());
-    }
+    each_unit::<AsByte, F>(src, false, callback);
 }
 
 /// Calls `callback` with each unit that a C string stands for, or what is wrong, and its place.
@@ -49,47 +41,35 @@ pub fn unescape_byte_str<F: FnMut(Range<usize>, Result<u8, EscapeError>)>(
 /// It is as [`unescape_str`] is.
 pub fn unescape_c_str<F: FnMut(Range<usize>, Result<MixedUnit, EscapeError>)>(
     src: &str,
-    mut callback: F,
+    callback: F,
 )
     requires callable { F.IsAlwaysCallable callback }
     ensures calls { (last : F) × FoldsTo (λ f item g. F.step f item.0 (unit_of item.1) tt g)
         callback (items_of false src.now) last }
 {
-    let mut elements = Elements::new(src);
-    'items: while let Some((range, element)) = elements.next() {
-        callback(range, element.to_mixed_unit());
-    }
+    each_unit::<AsMixedUnit, F>(src, false, callback);
 }
 
 /// Calls `callback` with each character of a raw string, or what is wrong, and its place.
 ///
 /// Nothing is an escape there, and only a carriage return is wrong.
-pub fn check_raw_str<F: FnMut(Range<usize>, Result<char, EscapeError>)>(src: &str, mut callback: F)
+pub fn check_raw_str<F: FnMut(Range<usize>, Result<char, EscapeError>)>(src: &str, callback: F)
     requires callable { F.IsAlwaysCallable callback }
     ensures calls { (last : F) × FoldsTo (λ f item g. F.step f item.0 (char_of item.1) tt g)
         callback (items_of true src.now) last }
 {
-    let mut elements = Elements::new_raw(src);
-    'items: while let Some((range, element)) = elements.next() {
-        callback(range, element.to_char());
-    }
+    each_unit::<AsChar, F>(src, true, callback);
 }
 
 /// Calls `callback` with each byte of a raw byte string, or what is wrong, and its place.
 ///
 /// A carriage return is wrong, and a character that is not in ASCII.
-pub fn check_raw_byte_str<F: FnMut(Range<usize>, Result<u8, EscapeError>)>(
-    src: &str,
-    mut callback: F,
-)
+pub fn check_raw_byte_str<F: FnMut(Range<usize>, Result<u8, EscapeError>)>(src: &str, callback: F)
     requires callable { F.IsAlwaysCallable callback }
     ensures calls { (last : F) × FoldsTo (λ f item g. F.step f item.0 (byte_of item.1) tt g)
         callback (items_of true src.now) last }
 {
-    let mut elements = Elements::new_raw(src);
-    'items: while let Some((range, element)) = elements.next() {
-        callback(range, element.to_byte());
-    }
+    each_unit::<AsByte, F>(src, true, callback);
 }
 
 /// Calls `callback` with each character of a raw C string, or what is wrong, and its place.
@@ -97,14 +77,128 @@ pub fn check_raw_byte_str<F: FnMut(Range<usize>, Result<u8, EscapeError>)>(
 /// A carriage return is wrong, and U+0000.
 pub fn check_raw_c_str<F: FnMut(Range<usize>, Result<NonZeroChar, EscapeError>)>(
     src: &str,
-    mut callback: F,
+    callback: F,
 )
     requires callable { F.IsAlwaysCallable callback }
     ensures calls { (last : F) × FoldsTo (λ f item g. F.step f item.0 (raw_unit_of item.1) tt g)
         callback (items_of true src.now) last }
 {
-    let mut elements = Elements::new_raw(src);
-    'items: while let Some((range, element)) = elements.next() {
-        callback(range, element.to_raw_unit());
+    each_unit::<AsRawUnit, F>(src, true, callback);
+}
+
+/// What the elements of one kind of string stand for.
+trait Meaning {
+    ghost use Rattle.std.specs.Prelude.{Result};
+    ghost use Rattle.rustc_literal_escaper.specs.declared.element.Element.{Element};
+    ghost use Rattle.rustc_literal_escaper.specs.declared.error.EscapeError.{EscapeError};
+
+    type Meant;
+
+    ghost meaning: { Element → Result Self.Meant EscapeError };
+
+    /// What an element stands for.
+    fn of(element: Element) -> Result<Self::Meant, EscapeError>
+        ensures { result ≡ meaning element };
+}
+
+/// Strings and raw strings.
+struct AsChar;
+
+impl Meaning for AsChar {
+    ghost use Rattle.rustc_literal_escaper.specs.Meaning.{char_of};
+
+    type Meant = char;
+
+    ghost meaning = { char_of };
+
+    #[inline(always)]
+    fn of(element: Element) -> Result<char, EscapeError> {
+        element.to_char()
+    }
+}
+
+/// Byte strings and raw ones.
+struct AsByte;
+
+impl Meaning for AsByte {
+    ghost use Rattle.rustc_literal_escaper.specs.Meaning.{byte_of};
+
+    type Meant = u8;
+
+    ghost meaning = { byte_of };
+
+    #[inline(always)]
+    fn of(element: Element) -> Result<u8, EscapeError> {
+        element.to_byte()
+    }
+}
+
+/// C strings.
+struct AsMixedUnit;
+
+impl Meaning for AsMixedUnit {
+    ghost use Rattle.rustc_literal_escaper.specs.Meaning.{unit_of};
+
+    type Meant = MixedUnit;
+
+    ghost meaning = { unit_of };
+
+    #[inline(always)]
+    fn of(element: Element) -> Result<MixedUnit, EscapeError> {
+        element.to_mixed_unit()
+    }
+}
+
+/// Raw C strings.
+struct AsRawUnit;
+
+impl Meaning for AsRawUnit {
+    ghost use Rattle.rustc_literal_escaper.specs.Meaning.{raw_unit_of};
+
+    type Meant = NonZeroChar;
+
+    ghost meaning = { raw_unit_of };
+
+    #[inline(always)]
+    fn of(element: Element) -> Result<NonZeroChar, EscapeError> {
+        element.to_raw_unit()
+    }
+}
+
+/// Calls `callback` with what each element of a text stands for, and its place.
+#[inline(always)]
+fn each_unit<M: Meaning, F: FnMut(Range<usize>, Result<M::Meant, EscapeError>)>(
+    src: &str,
+    raw: bool,
+    callback: F,
+)
+    requires callable { F.IsAlwaysCallable callback }
+    ensures calls { (last : F) × FoldsTo (λ f item g. F.step f item.0 (M.meaning item.1) tt g)
+        callback (items_of raw src.now) last }
+{
+    each_unit_in::<M, F>(elements_of(src, raw), callback);
+}
+
+/// Calls `callback` with what each of the elements stands for, and its place.
+///
+/// Plain characters have a call of their own, which the compiler makes short.
+#[inline(always)]
+fn each_unit_in<M: Meaning, F: FnMut(Range<usize>, Result<M::Meant, EscapeError>)>(
+    mut elements: Elements<'_>,
+    mut callback: F,
+)
+    requires callable { F.IsAlwaysCallable callback }
+    ensures calls { (last : F) × FoldsTo (λ f item g. F.step f item.0 (M.meaning item.1) tt g)
+        callback elements.entry last }
+{
+    'items: loop {
+        if let Some((range, c)) = elements.next_plain() {
+            callback(range, M::of(Element::Plain(c)));
+            continue;
+        }
+        let Some((range, element)) = elements.next() else {
+            break;
+        };
+        callback(range, M::of(element));
     }
 }

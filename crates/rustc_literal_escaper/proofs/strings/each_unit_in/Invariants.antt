@@ -1,0 +1,12 @@
+use Rattle.std.proofs.Common.{length}
+use Rattle.std.specs.List.{FoldsTo}
+use Rattle.rustc_literal_escaper.proofs.strings.each_unit_in.Given as goal
+
+-- the calls that are still to come end where all of them do
+abbrev pub invariant-items : goal.invariant-items
+invariant-items g l =
+    goal.F-IsAlwaysCallable g l.callback
+    × ((last : _) → FoldsTo (λ f item h. goal.F-step g f item.0 (g.M.Meaning.meaning item.1) tt h) l.callback l.elements last → FoldsTo (λ f item h. goal.F-step g f item.0 (g.M.Meaning.meaning item.1) tt h) l.initial.callback l.initial.elements last)
+
+abbrev pub decreases-items : goal.decreases-items
+decreases-items g l = length l.elements
