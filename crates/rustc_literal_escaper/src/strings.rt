@@ -53,12 +53,15 @@ pub fn unescape_c_str<F: FnMut(Range<usize>, Result<MixedUnit, EscapeError>)>(
 /// Calls `callback` with each character of a raw string, or what is wrong, and its place.
 ///
 /// Nothing is an escape there, and only a carriage return is wrong.
-pub fn check_raw_str<F: FnMut(Range<usize>, Result<char, EscapeError>)>(src: &str, callback: F)
+pub fn check_raw_str<F: FnMut(Range<usize>, Result<char, EscapeError>)>(src: &str, mut callback: F)
     requires callable { F.IsAlwaysCallable callback }
     ensures calls { (last : F) × FoldsTo (λ f item g. F.step f item.0 (char_of item.1) tt g)
         callback (items_of true src.now) last }
 {
-    each_unit::<AsChar, F>(src, true, callback);
+    let mut elements = Elements::new_raw(src);
+    'items: while let Some((range, element)) = elements.next() {
+        callback(range, element.to_char());
+    }
 }
 
 /// Calls `callback` with each byte of a raw byte string, or what is wrong, and its place.
@@ -101,7 +104,7 @@ trait Meaning {
         ensures { result ≡ meaning element };
 }
 
-/// Strings and raw strings.
+/// What strings stand for: characters.
 struct AsChar;
 
 impl Meaning for AsChar {
@@ -117,7 +120,7 @@ impl Meaning for AsChar {
     }
 }
 
-/// Byte strings and raw ones.
+/// What byte strings and raw ones stand for: bytes.
 struct AsByte;
 
 impl Meaning for AsByte {
@@ -133,7 +136,7 @@ impl Meaning for AsByte {
     }
 }
 
-/// C strings.
+/// What C strings stand for: characters and bytes.
 struct AsMixedUnit;
 
 impl Meaning for AsMixedUnit {
@@ -149,7 +152,7 @@ impl Meaning for AsMixedUnit {
     }
 }
 
-/// Raw C strings.
+/// What raw C strings stand for: characters that are not U+0000.
 struct AsRawUnit;
 
 impl Meaning for AsRawUnit {
