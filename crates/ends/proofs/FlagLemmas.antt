@@ -3,7 +3,7 @@ use Rattle.std.proofs.Common.{◌≡◌, ◌≢◌, ◌==◌, ◌||◌, ◌&&◌
 use Rattle.std.proofs.lemmas.Bool.{ne_eqb}
 use Rattle.ends.specs.declared.writing.WriteStop.{WriteStop}
 use Rattle.ends.specs.declared.writing.WriteStop.TheVariants.{Failed, ClosedPipe}
-use Rattle.ends.specs.Writing.{is_fault, is_pipe_closed}
+use Rattle.ends.specs.Writing.{is_fault}
 
 -- a flag that is raised by the second of two calls alone
 pub raised_after : (old mid new more : Bool) → mid ≡ (old || false) → new ≡ (mid || more) → new ≡ (old || more)

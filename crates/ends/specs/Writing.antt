@@ -1,5 +1,5 @@
 -- Why writing stops.
-use Rattle.std.specs.Prelude.{Bool, true, false, Result, Ok, Err}
+use Rattle.std.specs.Prelude.{Bool, true, false, Result, Err}
 use Rattle.ends.specs.declared.writing.WriteStop.{WriteStop}
 use Rattle.ends.specs.declared.writing.WriteStop.TheVariants.{Failed, ClosedPipe}
 

@@ -1,5 +1,5 @@
 -- The options that words write, by the first of them.
-use Rattle.std.proofs.Common.{◌≡◌, ℕ, ◌-◌, ◌≤◌, Bool, true, false, List, [], ◌∷◌, length, take, drop, map, get_or, string_bytes, refl, sym, ap, ◌∙◌, arith, take_all, length-drop, subst, Option, Some, None, Global, String}
+use Rattle.std.proofs.Common.{◌≡◌, ℕ, ◌-◌, ◌≤◌, Bool, true, false, List, [], ◌∷◌, length, take, drop, map, get_or, string_bytes, sym, ap, ◌∙◌, arith, take_all, length-drop, subst, Option, Some, Global, String}
 use Rattle.std.specs.Prelude.{codes}
 use Rattle.std.specs.Option.{option_and_then}
 use Rattle.std.specs.Str.{bytes_eq}

@@ -1,5 +1,5 @@
 -- The first line of a token.
-use Rattle.std.proofs.Common.{◌≡◌, ℕ, zero, suc, ◌<◌, ◌≤◌, ◌==◌, ◌||◌, Bool, true, false, true≢false, List, [], ◌∷◌, length, get_or, refl, sym, ap, subst, arith, inl, inr, Option, Some, None, IsCharBoundary, slice_index}
+use Rattle.std.proofs.Common.{◌≡◌, ℕ, zero, suc, ◌<◌, ◌==◌, ◌||◌, Bool, true, false, true≢false, List, [], ◌∷◌, length, get_or, refl, sym, ap, arith, inl, inr, Some, None, IsCharBoundary, slice_index}
 use Rattle.std.proofs.lemmas.Bool.{cases_Bool, eqb-true}
 use Rattle.memchr.specs.Find.{IsFirstByte}
 use Rattle.highlight.specs.Part.{ends_line, first_line}

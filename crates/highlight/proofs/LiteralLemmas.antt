@@ -1,5 +1,5 @@
 -- What a literal says between its marks, and the calls that write it.
-use Rattle.std.proofs.Common.{◌≡◌, ℕ, ◌+◌, ◌-◌, ◌<◌, ◌≤◌, if◌then◌else◌, nat_lt, Bool, true, false, List, [], ◌∷◌, ◌++◌, length, get_or, take, drop, refl, sym, ap, subst, ◌∙◌, arith, inl, inr, take-append-drop, length-drop, append-nil, IsCharBoundary, Option, Some, None}
+use Rattle.std.proofs.Common.{◌≡◌, ℕ, ◌+◌, ◌-◌, ◌<◌, ◌≤◌, if◌then◌else◌, nat_lt, Bool, true, false, List, [], ◌∷◌, ◌++◌, length, get_or, take, drop, refl, sym, ap, subst, ◌∙◌, arith, inl, inr, take-append-drop, length-drop, append-nil, IsCharBoundary, Option, Some}
 use Rattle.std.specs.Fmt.{WritesInCalls}
 use Rattle.std.proofs.lemmas.Bool.{cases_lt, ltb-true, lt-ltb}
 use Rattle.std.proofs.lemmas.List.{drop-drop, get_or-take, length-take-le}
@@ -16,7 +16,7 @@ use Rattle.highlight.specs.declared.literal.Look.TheVariants.{Escape, Wrong}
 use Rattle.highlight.specs.declared.style.Style.{Style}
 use Rattle.highlight.specs.declared.style.Style.TheVariants.{Html}
 use Rattle.highlight.specs.Literal.{Stretch, WritesOn, between, literal_parts, look_of, look_parts, parts_from, single_error, single_look, single_stretches, skipped, stretch, stretches_from, stretches_of, string_stretches}
-use Rattle.highlight.specs.Part.{Part, class_parts, with_marks, without_marks}
+use Rattle.highlight.specs.Part.{class_parts, with_marks, without_marks}
 use Rattle.highlight.proofs.PartLemmas.{Shows, shows_both, shows_class, shows_fault, without_class, without_fault, without_marks-append, writes_parts}
 
 without_look : (style : Style) (look : Look) (text : List ℕ) → without_marks (look_parts style look text) ≡ text

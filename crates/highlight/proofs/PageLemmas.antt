@@ -1,5 +1,5 @@
 -- What a marked text says, and the calls that write it.
-use Rattle.std.proofs.Common.{◌≡◌, ℕ, ◌+◌, List, [], ◌∷◌, ◌++◌, length, take, drop, refl, sym, ap, subst, ◌∙◌, arith, take-add, take_all, Option, Some, None, length-drop, take-append-drop, IsCharBoundary, IsUtf8, Result, OnOk, ◌-◌}
+use Rattle.std.proofs.Common.{◌≡◌, ℕ, List, [], ◌∷◌, ◌++◌, length, take, drop, refl, sym, ap, subst, ◌∙◌, arith, take-add, take_all, Option, Some, None, length-drop, take-append-drop, IsCharBoundary, IsUtf8, Result, OnOk, ◌-◌}
 use Rattle.std.specs.Prelude.{IfSome}
 use Rattle.std.specs.Fmt.{WritesInCalls}
 use Rattle.std.proofs.lemmas.Str.{IsUtf8-drop}

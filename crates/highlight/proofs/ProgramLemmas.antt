@@ -1,5 +1,5 @@
 -- A run of the job that words ask for.
-use Rattle.std.proofs.Common.{◌≡◌, ℕ, Bool, List, Option, Some, None, Result, Ok, Err, sym, subst}
+use Rattle.std.proofs.Common.{◌≡◌, ℕ, Bool, List, Option, Some, Result, Ok, Err, subst}
 use Rattle.highlight.specs.declared.job.Job.{Job}
 use Rattle.highlight.specs.declared.stop.Stop.{Stop}
 use Rattle.highlight.specs.declared.stop.Stop.TheVariants.{Arguments, NotUtf8, TooLong, Memory, Read, Write, ClosedPipe}

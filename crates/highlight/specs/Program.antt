@@ -1,5 +1,5 @@
 -- What the program comes to, by its arguments and the bytes that it reads.
-use Rattle.std.specs.Prelude.{ℕ, ◌≡◌, ◌==◌, Bool, true, false, ◌&&◌, List, [], Option, Some, None, Result, Ok, Err, IfSome, length, string_bytes}
+use Rattle.std.specs.Prelude.{ℕ, ◌≡◌, ◌==◌, Bool, true, false, ◌&&◌, List, Option, Some, None, Result, Ok, Err, IfSome, length, string_bytes}
 use Rattle.std.specs.Option.{option_map}
 use Rattle.std.specs.Global.{Global}
 use Rattle.std.specs.declared.env.VarError.{VarError}

@@ -1,4 +1,4 @@
-use Rattle.std.proofs.Common.{◌≤◌, arith}
+use Rattle.std.proofs.Common.{arith}
 use Rattle.highlight.proofs.LiteralLemmas.{writes_stretch}
 use Rattle.highlight.proofs.literal.write_stretch.Goals as goal
 
