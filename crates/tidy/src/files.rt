@@ -29,14 +29,19 @@ pub struct Outcome {
 /// Puts in order the files at these paths, and the sources in the folders.
 ///
 /// A file that can't be read or written, or is no text, is a fault; it stays as it was, and the rest is done.
-/// `id` is a number that no other running program has.
-pub fn tidy_paths<R: Files + AllocGlobal + Clone + Drop>(
+/// `id` is a number that no other running program has. `tell` is called after each file: how many are done, of how many.
+pub fn tidy_paths<R: Files + AllocGlobal + Clone + Drop, F: FnMut(usize, usize)>(
     rt: &R,
     id: u32,
     task: Task,
     paths: &[&str],
-) -> Result<Outcome, AllocError> {
+    mut tell: F,
+) -> Result<Outcome, AllocError>
+    requires callable { F.IsAlwaysCallable tell }
+{
     let found = find(rt, paths)?;
+    let total = found.files.len();
+    let mut done: usize = 0;
     let mut outcome = Outcome {
         read: 0,
         changed: Vec::new(rt.alloc()),
@@ -46,6 +51,8 @@ pub fn tidy_paths<R: Files + AllocGlobal + Clone + Drop>(
     for path in found.files {
         let came = tidy_file(rt, id, task, path.as_str(), &mut outcome.diff);
         outcome.take(path, came)?;
+        done = done.saturating_add(1);
+        tell(done, total);
     }
     Ok(outcome)
 }

@@ -18,6 +18,7 @@ use clap::error::ErrorKind;
 use files::tidy_paths;
 use job::{Job, Task, read_job};
 use run::{check, run, show, write_out};
+use std::io::IsTerminal;
 use std::process::ExitCode;
 use std::{env, process};
 use stop::{Stop, status};
@@ -45,10 +46,31 @@ fn tidy_shown(rt: &HostRuntime) -> Result<(), Stop> {
     }
 }
 
+/// How many files are done from one line of progress to the next.
+const STEP: usize = 256;
+
+/// Shows how many files are done, now and then where there are many. The line is gone at the end.
+fn show_progress(rt: &HostRuntime, done: usize, total: usize) {
+    if total < STEP {
+        return;
+    }
+    if done == total {
+        let _ = eprint!(rt; "\r\u{1b}[K");
+    } else if done % STEP == 0 {
+        let _ = eprint!(rt; "\r{done} of {total} files");
+    }
+}
+
 /// Puts files in order, or names those that are not. What was passed over, and a line on all, goes to standard error.
 fn tidy_files(rt: &HostRuntime, job: &Job<'_>) -> Result<(), Stop> {
     let id = process::id(rt.process());
-    let Ok(outcome) = tidy_paths(rt, id, job.task, job.paths.as_slice()) else {
+    let is_terminal = rt.stderr().is_terminal();
+    let tell = |done: usize, total: usize| {
+        if is_terminal {
+            show_progress(rt, done, total);
+        }
+    };
+    let Ok(outcome) = tidy_paths(rt, id, job.task, job.paths.as_slice(), tell) else {
         return Err(Stop::Memory);
     };
     // Where a line can't be written to standard error there is nobody to tell.
