@@ -1,4 +1,5 @@
 //! The tokens of a text in each edition, and edits of a text that is kept in one.
+use crate::rows::{ROOM, assert_filled};
 use crate::steppers::Counting;
 use crate::tables::kinds::{BAD_LIFETIME, LIFETIME, OPEN_STR, STR};
 use crate::tables::row::literal;
@@ -114,6 +115,8 @@ fn assert_tokens_in(rt: &impl Abort, text: &str, edition: Edition, tokens: &[(To
     assert_eq!(rt; left.as_str(), "", "in {text:?}, {edition:?}");
     assert_eq!(rt; left.next(), None, "in {text:?}, {edition:?}");
     assert_eq!(rt; left.next(), None, "in {text:?}, {edition:?}");
+    assert_filled(rt, text, tokenize_in(text, edition), [ROOM, ROOM], tokens);
+    assert_filled(rt, text, tokenize_in(text, edition), [1, 3], tokens);
 }
 
 /// A text in an edition, an edit of it, its counts, and the tokens that it leaves.

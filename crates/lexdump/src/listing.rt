@@ -1,13 +1,13 @@
 //! The listing of tokens: a line for each, with its start, its length, its kind and the fields of that.
-ghost use Rattle.std.specs.Prelude.{◌≡◌, ◌++◌, Ok, codes, false, is_err, IfErr, IfOk};
-ghost use Rattle.lexdump.specs.Listing.{base_text, bool_text, fields_text, hashes_text, line_text, listing, literal_text, place_text, shebang_line, style_text};
+ghost use Rattle.std.specs.Prelude.{◌≡◌, ◌+◌, ◌^◌, ◌<◌, ◌++◌, Ok, codes, false, is_err, length, IfErr, IfOk};
+ghost use Rattle.lexdump.specs.Listing.{base_text, bool_text, fields_text, hashes_text, line_text, listing, listing_from, literal_text, place_text, shebang_line, style_text};
 ghost use Rattle.lexdump.specs.Pushed.{Pushes};
 ghost use Rattle.lexdump.specs.Rest.{field_text, fields_shown, IsRest};
 ghost use Rattle.lexdump.specs.Outcome.{edited_from, listed, IsRefused};
 ghost use Rattle.rustc_lexer.specs.Classes.{Fits};
 ghost use Rattle.rustc_lexer.specs.LanguageText.{mode_of, part};
 ghost use Rattle.rustc_lexer.specs.means.Shebang.{shebang};
-ghost use Rattle.rustc_lexer.specs.Tokens.{tokens_of};
+ghost use Rattle.rustc_lexer.specs.Tokens.{bound, tokens_of};
 
 use crate::fault::Fault;
 use crate::output::Block;
@@ -19,6 +19,17 @@ use rustc_lexer::{
 };
 use std::alloc::Global;
 use std::io::Write;
+
+/// How many tokens are read at once.
+const ROOM: usize = 256;
+
+/// A room in which no token was written yet.
+fn new_room() -> [Token; ROOM] {
+    [Token {
+        kind: TokenKind::Eof,
+        len: 0,
+    }; ROOM]
+}
 
 /// Lists the tokens of a text, which has at most `u32::MAX` bytes.
 pub fn list_tokens<W: Write>(
@@ -33,10 +44,12 @@ pub fn list_tokens<W: Write>(
     ensures pushed { Pushes (W.contents output.old.inner) (W.contents output.new.inner)
         lines.old lines.new (listing (tokens_of (mode_of frontmatter_allowed) text.now)) result }
 {
-    let mut start = 0;
-    for token in tokenize(text, frontmatter_allowed) {
-        push_line(lines, output, start, token)?;
-        start += token.len;
+    let mut room = new_room();
+    let mut tokens = tokenize(text, frontmatter_allowed);
+    'left: while !tokens.as_str().is_empty() {
+        let start = text.len() - tokens.as_str().len();
+        let count = tokens.fill(&mut room);
+        push_lines(lines, output, start as u32, &room[..count])?;
     }
     Ok(())
 }
@@ -54,9 +67,32 @@ pub fn list_tokens_in<W: Write>(
     ensures pushed { Pushes (W.contents output.old.inner) (W.contents output.new.inner)
         lines.old lines.new (listing (tokens_of (part edition) text.now)) result }
 {
-    let mut place = 0;
-    for token in tokenize_in(text, edition) {
-        push_line(lines, output, place, token)?;
+    let mut room = new_room();
+    let mut tokens = tokenize_in(text, edition);
+    'left: while !tokens.as_str().is_empty() {
+        let start = text.len() - tokens.as_str().len();
+        let count = tokens.fill(&mut room);
+        push_lines(lines, output, start as u32, &room[..count])?;
+    }
+    Ok(())
+}
+
+/// Adds the lines of tokens, of which the first begins at the byte `start`.
+fn push_lines<W: Write>(
+    lines: &mut Block,
+    output: &mut Watched<W>,
+    start: u32,
+    tokens: &[Token],
+) -> Result<(), Fault>
+    requires fits { start + bound tokens.now (length tokens.now) < 2 ^ 32 }
+    requires writes { output.old.failed ≡ false }
+    ensures failed { output.new.failed ≡ is_err result }
+    ensures pushed { Pushes (W.contents output.old.inner) (W.contents output.new.inner)
+        lines.old lines.new (listing_from start tokens.now) result }
+{
+    let mut place = start;
+    for token in tokens {
+        push_line(lines, output, place, *token)?;
         place += token.len;
     }
     Ok(())

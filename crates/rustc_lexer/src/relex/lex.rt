@@ -11,7 +11,7 @@ use crate::token::{Token, TokenKind};
 use std::alloc::{AllocError, Global};
 
 /// How many tokens are lexed at once, and stand between two landmarks.
-const BLOCK: usize = 256;
+const BLOCK: usize = 128;
 
 /// All tokens of a text, and landmarks among them.
 pub(crate) fn lex_all<S: Stepper>(

@@ -1,21 +1,34 @@
-use Rattle.std.proofs.Common.{ap, ◌∙◌}
+use Rattle.std.proofs.Common.{◌≡◌, ◌-◌, List, ℕ, length, sym, ap, ◌∙◌, rules}
 use Rattle.std.proofs.lemmas.Result.{err_from_is_err_and}
 use Rattle.rustc_lexer.specs.State.{State}
 use Rattle.rustc_lexer.specs.Tokens.{tokens_left}
-use Rattle.lexdump.proofs.ListingLemmas.{list_start, list_step, list_front, list_end}
+use Rattle.rustc_lexer.proofs.BlockLemmas.{filled_front}
+use Rattle.lexdump.proofs.ListingLemmas.{none_left, rooms_start, rooms_fit, rooms_step, rooms_front, rooms_end}
 use Rattle.lexdump.proofs.listing.list_tokens_in.Goals as goal
 
-pub loop-token-init : goal.loop-token-init
-loop-token-init g c =
-    (c.requires.writes, list_start _ _ _ _ _ (ap (λ (s : State). tokens_left s) c.into_iter-token-iterator.ensures.into_iter_gives ∙ c.tokenize_in-token-items.ensures.tokens) c.tokenize_in-token-items.ensures.partitions.whole)
+pub left-init : goal.left-init
+left-init g c = (c.requires.writes, rooms_start _ _ _ _ _ _ c.tokenize_in-tokens.ensures.tokens (ap (λ (s : State). s.rest) c.tokenize_in-tokens.ensures.state) c.tokenize_in-tokens.ensures.partitions.whole)
 
-pub loop-token-preserved : goal.loop-token-preserved
-loop-token-preserved g c = (c.in_ok-push_line.ensures.failed, list_step _ _ _ _ _ _ _ _ _ _ c.in-Some.token c.loop-token.invariant.1 c.in-Some.ensures.steps.first _ c.in_ok-push_line.ensures.pushed)
+pub push_lines-requires-clause-fits : goal.push_lines-requires-clause-fits
+push_lines-requires-clause-fits g c =
+    let front = filled_front (tokens_left c.left.tokens) c.left.room c.fill-count.new.room c.fill-count.result c.fill-count.ensures.filled in
+    let start : length c.args.text.now - length c.as_str-in-left.result.now ≡ length c.args.text.now - length c.left.tokens.rest = ap (λ (xs : List ℕ). length c.args.text.now - length xs) c.as_str-in-left.ensures.rest in
+    rooms_fit _ _ _ _ _ _ _ _ _ _ _ c.left.invariant.1 start front.few front.front c.requires.fits
 
-pub returns-in_err-push_line-clause-pushed : goal.returns-in_err-push_line-clause-pushed
-returns-in_err-push_line-clause-pushed g c =
+pub left-preserved : goal.left-preserved
+left-preserved g c =
+    let front = filled_front (tokens_left c.left.tokens) c.left.room c.fill-count.new.room c.fill-count.result c.fill-count.ensures.filled in
+    let start : length c.args.text.now - length c.as_str-in-left.result.now ≡ length c.args.text.now - length c.left.tokens.rest = ap (λ (xs : List ℕ). length c.args.text.now - length xs) c.as_str-in-left.ensures.rest in
+    (c.in_ok-push_lines.ensures.failed, rooms_step _ _ _ _ _ _ _ _ _ _ _ c.left.invariant.1 start front.few front.front _ _ _ _ c.fill-count.ensures.left c.fill-count.ensures.rest c.in_ok-push_lines.ensures.pushed)
+
+pub returns-in_err-push_lines-clause-pushed : goal.returns-in_err-push_lines-clause-pushed
+returns-in_err-push_lines-clause-pushed g c =
     let p = err_from_is_err_and c.from_residual.result c.from_residual.ensures.1 in
-    rw (p.1, p.2) (c.in_err-push_line.ensures.pushed.0, list_front _ _ _ _ _ _ _ _ _ _ c.in-Some.token c.loop-token.invariant.1 c.in-Some.ensures.steps.first c.in_err-push_line.ensures.pushed.1)
+    let front = filled_front (tokens_left c.left.tokens) c.left.room c.fill-count.new.room c.fill-count.result c.fill-count.ensures.filled in
+    let start : length c.args.text.now - length c.as_str-in-left.result.now ≡ length c.args.text.now - length c.left.tokens.rest = ap (λ (xs : List ℕ). length c.args.text.now - length xs) c.as_str-in-left.ensures.rest in
+    rw (p.1, p.2) (c.in_err-push_lines.ensures.pushed.0, rooms_front _ _ _ _ _ _ _ _ _ _ _ c.left.invariant.1 start front.few front.front _ c.in_err-push_lines.ensures.pushed.1)
 
 pub returns-clause-pushed : goal.returns-clause-pushed
-returns-clause-pushed g c = list_end _ _ _ _ _ _ _ _ c.loop-token.invariant.1 c.in-None.ensures.steps.0
+returns-clause-pushed g c =
+    let none : length c.as_str.result.now ≡ 0 = search rules in
+    rooms_end _ _ _ _ _ _ _ _ c.left.invariant.1 (none_left c.left.tokens (ap length (sym c.as_str.ensures.rest) ∙ none))

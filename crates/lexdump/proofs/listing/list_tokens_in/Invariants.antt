@@ -1,13 +1,13 @@
 use Rattle.std.proofs.Common.{◌≡◌, false, length}
 use Rattle.rustc_lexer.specs.LanguageText.{part}
 use Rattle.rustc_lexer.specs.Tokens.{tokens_of, tokens_left}
-use Rattle.lexdump.proofs.ListingLemmas.{Lists}
+use Rattle.lexdump.proofs.ListingLemmas.{ListsRooms}
 use Rattle.lexdump.proofs.listing.list_tokens_in.Given as goal
 
-abbrev pub invariant-loop-token : goal.invariant-loop-token
-invariant-loop-token g l =
+abbrev pub invariant-left : goal.invariant-left
+invariant-left g l =
     (l.output.failed ≡ false)
-    × Lists (g.W.Write.contents l.fn.output.inner) (g.W.Write.contents l.output.inner) (tokens_of (part l.fn.edition) l.text) (tokens_left l.token-iterator) l.fn.lines l.lines l.place (length l.text)
+    × ListsRooms (g.W.Write.contents l.fn.output.inner) (g.W.Write.contents l.output.inner) (tokens_of (part l.fn.edition) l.text) (tokens_left l.tokens) l.fn.lines l.lines l.text l.tokens.rest
 
-abbrev pub decreases-loop-token : goal.decreases-loop-token
-decreases-loop-token g l = length l.token-iterator.rest
+abbrev pub decreases-left : goal.decreases-left
+decreases-left g l = length l.tokens.rest
