@@ -23,8 +23,9 @@ use Rattle.rustc_lexer.specs.laws.LanguageRuns.{among, chooses-space, run_len-he
 use Rattle.rustc_lexer.specs.laws.Reach.{run_len-out}
 use Rattle.rustc_lexer.specs.means.Scan.{begins}
 use Rattle.rustc_lexer.proofs.LanguageInLemmas.{on_page, of_page}
-use Rattle.tidy.specs.Order.{in_order, is_space, is_open, space_in_order, closing, part_in_order, code_in_order, parts, end_parts, closed_parts}
-use Rattle.tidy.proofs.NearLemmas.{Near, ends, space, near-append, closes, near-begins, near-refl, near-space, EndsToo, is_solid_kind, token-near}
+use Rattle.tidy.specs.Order.{in_order, is_space, is_open, space_in_order, text_in_order, closing, part_in_order, code_in_order, parts, end_parts, parts_in_order}
+use Rattle.tidy.proofs.NearLemmas.{Near, ends, space, closes, near-begins, near-refl, near-space, near-none, EndsToo, is_solid_kind, token-near}
+use Rattle.tidy.proofs.TurnedLemmas.{Turned, turned}
 use Rattle.tidy.proofs.OrderLemmas.{HasFirst, order-all, order-first, order-near, order-ends, order-again, order-bytes, order-size}
 
 -- ---- a token and what follows it
@@ -48,6 +49,12 @@ pub none-left : {mode : Mode} {cs : List ℕ} {tokens : List Token} → AreToken
 none-left (nothing) e = refl
 none-left (something p free rest) e = absurd (omega (arith, e))
 none-left (frontmatter_first body is_opening is_end rest) e = absurd (omega (arith, e))
+
+-- and it has none
+pub part-none : {mode : Mode} {cs : List ℕ} {tokens : List Token} → mode ≡ part E2024 → AreTokens mode cs tokens → cs ≡ [] → length tokens ≡ 0
+part-none is_part (nothing) e = refl
+part-none is_part (something {c} {w} {next} p free rest) e = absurd (let n : suc (length (w ++ next)) ≡ 0 = ap length e in omega arith)
+part-none is_part (frontmatter_first body is_opening is_end rest) e = absurd (cc)
 
 -- whether no tokens are left
 abbrev pub is_last : List Token → Bool
@@ -105,7 +112,7 @@ pub record Tidies (order : Order) (mode : Mode) (cs : List ℕ) (tokens : List T
   pub near : Near cs out
   pub is : order (encode_utf8_all cs) tokens ≡ encode_utf8_all out
   pub too : EndsToo cs out
-  pub same : closed_parts (parts (encode_utf8_all out) outs) ≡ closed_parts (parts (encode_utf8_all cs) tokens)
+  pub same : parts_in_order (parts (encode_utf8_all out) outs) ≡ parts_in_order (parts (encode_utf8_all cs) tokens)
   pub again : order (encode_utf8_all out) outs ≡ encode_utf8_all out
   pub last : is_last tokens ≡ is_last outs
   pub size : bytes out ≤ bytes cs + 1
@@ -176,8 +183,8 @@ space-ends : (ps : List (TokenKind × List ℕ)) → end_parts Whitespace ps ≡
 space-ends [] = refl
 space-ends (p ∷ ps) = refl
 
-space-closed : (ps : List (TokenKind × List ℕ)) → closed_parts ((Whitespace, []) ∷ ps) ≡ (Whitespace, []) ∷ closed_parts ps
-space-closed ps = ap (λ (es : List (TokenKind × List ℕ)). let p : TokenKind × List ℕ = (Whitespace, []) in p ∷ (es ++ closed_parts ps)) (space-ends ps)
+space-closed : (ps : List (TokenKind × List ℕ)) → parts_in_order ((Whitespace, []) ∷ ps) ≡ (Whitespace, []) ∷ parts_in_order ps
+space-closed ps = ap (λ (es : List (TokenKind × List ℕ)). let p : TokenKind × List ℕ = (Whitespace, []) in p ∷ (es ++ parts_in_order ps)) (space-ends ps)
 
 -- a token of white space more
 -- how an order treats a token, and by which it goes on
@@ -195,9 +202,9 @@ space-step order left mode c w next tokens newest puts all stop free none more =
       near = sp.near;
       too = λ e. absurd (let n : suc (length (w ++ next)) ≡ 0 = ap length e in omega arith);
       is = puts (c ∷ w) next tokens ∙ (ap (λ (xs : List ℕ). xs ++ left (encode_utf8_all next) tokens) sp.is ∙ (ap (λ (xs : List ℕ). encode_utf8_all (sp.first ∷ sp.rest) ++ xs) more.is ∙ sym (encodes-append (sp.first ∷ sp.rest) more.out)));
-      same = ap closed_parts (parts-cons (sp.first ∷ sp.rest) more.out Whitespace more.outs)
+      same = ap parts_in_order (parts-cons (sp.first ∷ sp.rest) more.out Whitespace more.outs)
           ∙ (space-closed (parts (encode_utf8_all more.out) more.outs) ∙ (ap (λ (ps : List (TokenKind × List ℕ)). let p : TokenKind × List ℕ = (Whitespace, []) in p ∷ ps) more.same
-          ∙ (sym (space-closed (parts (encode_utf8_all next) tokens)) ∙ sym (ap closed_parts (parts-cons (c ∷ w) next Whitespace tokens)))));
+          ∙ (sym (space-closed (parts (encode_utf8_all next) tokens)) ∙ sym (ap parts_in_order (parts-cons (c ∷ w) next Whitespace tokens)))));
       again = puts (sp.first ∷ sp.rest) more.out more.outs ∙ (ap (λ (xs : List ℕ). xs ++ left (encode_utf8_all more.out) more.outs) (sp.again more.outs more.last) ∙ (ap (λ (xs : List ℕ). encode_utf8_all (sp.first ∷ sp.rest) ++ xs) more.again ∙ sym (encodes-append (sp.first ∷ sp.rest) more.out)));
       last = refl;
       size = let a = sp.size in let b = more.size in let e = ap length (encodes-append (sp.first ∷ sp.rest) more.out) in let f = ap length (encodes-append (c ∷ w) next) in let g = length-append (encode_utf8_all (sp.first ∷ sp.rest)) (encode_utf8_all more.out) in let h = length-append (encode_utf8_all (c ∷ w)) (encode_utf8_all next) in omega arith;
@@ -213,8 +220,9 @@ pub record Behind (kind : TokenKind) (mode : Mode) (next : List ℕ) (tokens : L
   pub are : AreTokens mode out outs
   pub near : Near next out
   pub too : is_open kind ≡ true → EndsToo next out
+  pub shut : is_open kind ≡ false → length out ≡ 0 → ⊥
   pub is : closing kind tokens ++ code_in_order (encode_utf8_all next) tokens ≡ encode_utf8_all out
-  pub same : end_parts kind (parts (encode_utf8_all out) outs) ++ closed_parts (parts (encode_utf8_all out) outs) ≡ end_parts kind (parts (encode_utf8_all next) tokens) ++ closed_parts (parts (encode_utf8_all next) tokens)
+  pub same : end_parts kind (parts (encode_utf8_all out) outs) ++ parts_in_order (parts (encode_utf8_all out) outs) ≡ end_parts kind (parts (encode_utf8_all next) tokens) ++ parts_in_order (parts (encode_utf8_all next) tokens)
   pub again : closing kind outs ++ code_in_order (encode_utf8_all out) outs ≡ encode_utf8_all out
   pub size : bytes out ≤ bytes next + 1
   pub good : scalars next ≡ true → scalars out ≡ true
@@ -226,7 +234,7 @@ newline-are : (mode : Mode) → mode_edition mode ≡ E2024 → AreTokens mode (
 unfolding newline-token
 newline-are mode newest = something {w = []} {next = []} (of_page newest (the.whitespace refl refl)) (λ y. opens-none (10 ∷ []) refl) nothing
 
-newline-parts : closed_parts (parts (encode_utf8_all (10 ∷ [])) (newline-token ∷ [])) ≡ (Whitespace, []) ∷ []
+newline-parts : parts_in_order (parts (encode_utf8_all (10 ∷ [])) (newline-token ∷ [])) ≡ (Whitespace, []) ∷ []
 unfolding newline-token
 newline-parts = refl
 
@@ -243,20 +251,21 @@ parts-before : (kind : TokenKind) (text : List ℕ) (outs : List Token) → fals
 parts-before kind text [] e = absurd (true≢false (sym e))
 parts-before kind text (o ∷ os) e = refl
 
-pub behind : (kind : TokenKind) (mode : Mode) (next : List ℕ) (tokens : List Token) → is_space kind ≡ false → mode_edition mode ≡ E2024 → (length tokens ≡ 0 → next ≡ []) → Tidies code_in_order mode next tokens → Behind kind mode next tokens
-behind kind mode next (t ∷ ts) solid newest none more = record {
+pub behind : (kind : TokenKind) (mode : Mode) (next : List ℕ) (tokens : List Token) → is_space kind ≡ false → mode_edition mode ≡ E2024 → (length tokens ≡ 0 → next ≡ []) → (next ≡ [] → length tokens ≡ 0) → Tidies code_in_order mode next tokens → Behind kind mode next tokens
+behind kind mode next (t ∷ ts) solid newest none some more = record {
   out = more.out;
   outs = more.outs;
   are = more.are;
   near = more.near;
   too = λ o. more.too;
+  shut = λ o e. omega (arith, some (near-none more.near e));
   is = more.is;
-  same = ap (λ (es : List (TokenKind × List ℕ)). es ++ closed_parts (parts (encode_utf8_all more.out) more.outs)) (parts-before kind (encode_utf8_all more.out) more.outs more.last) ∙ more.same;
+  same = ap (λ (es : List (TokenKind × List ℕ)). es ++ parts_in_order (parts (encode_utf8_all more.out) more.outs)) (parts-before kind (encode_utf8_all more.out) more.outs more.last) ∙ more.same;
   again = ap (λ (es : List ℕ). es ++ code_in_order (encode_utf8_all more.out) more.outs) (open-before kind more.outs more.last) ∙ more.again;
   size = more.size;
   good = more.good;
 }
-behind kind mode next [] solid newest none more = subst (λ (cs : List ℕ). Behind kind mode cs []) (sym (none refl)) (by_kind (is_open kind) refl)
+behind kind mode next [] solid newest none some more = subst (λ (cs : List ℕ). Behind kind mode cs []) (sym (none refl)) (by_kind (is_open kind) refl)
   where
     by_kind : (b : Bool) → is_open kind ≡ b → Behind kind mode [] []
     by_kind true e = record {
@@ -265,6 +274,7 @@ behind kind mode next [] solid newest none more = subst (λ (cs : List ℕ). Beh
       are = nothing;
       near = ends;
       too = λ o f. refl;
+      shut = λ o f. true≢false (sym e ∙ o);
       is = rw e refl;
       same = refl;
       again = rw e refl;
@@ -277,6 +287,7 @@ behind kind mode next [] solid newest none more = subst (λ (cs : List ℕ). Beh
       are = newline-are mode newest;
       near = closes;
       too = λ o. absurd (true≢false (sym o ∙ e));
+      shut = λ o f. omega (arith, f);
       is = rw e (sym newline-one);
       same = rw (solid, e) newline-parts;
       again = newline-code;
@@ -285,37 +296,45 @@ behind kind mode next [] solid newest none more = subst (λ (cs : List ℕ). Beh
     }
 
 -- another token more
-pub solid-step : (order : Order) (mode : Mode) (kind : TokenKind) (c : ℕ) (w next : List ℕ) (tokens : List Token) → mode_edition mode ≡ E2024 → Puts order code_in_order kind (c ∷ w) → is_space kind ≡ false → IsTokenBefore next kind (c ∷ w) → (mode ≡ document → OpensNone (c ∷ w ++ next))
-    → (more : Behind kind (mode_after mode kind) next tokens) → IsTokenBefore more.out kind (c ∷ w) → Tidies order mode (c ∷ w ++ next) (record { kind = kind; len = bytes (c ∷ w) } ∷ tokens)
-solid-step order mode kind c w next tokens newest puts solid p free more stays = record {
-  out = c ∷ w ++ more.out;
-  outs = record { kind = kind; len = bytes (c ∷ w) } ∷ more.outs;
-  are = something (of_page newest stays) (λ y. opens-none (c ∷ w ++ more.out) (opens-solid c (w ++ more.out) first ∙ (ap (λ (b : Bool). b && true) (sym (near-begins (dashes 3) refl near)) ∙ (sym (opens-solid c (w ++ next) first) ∙ none-opens (c ∷ w ++ next) (free y))))) more.are;
-  near = near;
-  is = own next tokens ∙ (ap (λ (xs : List ℕ). encode_utf8_all (c ∷ w) ++ xs) more.is ∙ sym (encodes-append (c ∷ w) more.out));
+pub solid-step : (order : Order) (mode : Mode) (kind : TokenKind) (c : ℕ) (w next : List ℕ) (tokens : List Token) → mode_edition mode ≡ E2024 → ((u : List ℕ) → Puts order code_in_order kind u) → is_space kind ≡ false → IsTokenBefore next kind (c ∷ w) → (mode ≡ document → OpensNone (c ∷ w ++ next))
+    → (more : Behind kind (mode_after mode kind) next tokens) → Turned kind c w next more.out → Tidies order mode (c ∷ w ++ next) (record { kind = kind; len = bytes (c ∷ w) } ∷ tokens)
+solid-step order mode kind c w next tokens newest puts solid p free more turned = record {
+  out = c ∷ v ++ more.out;
+  outs = record { kind = kind; len = bytes (c ∷ v) } ∷ more.outs;
+  are = something (of_page newest turned.token) (λ y. opens-none (c ∷ v ++ more.out) (opens-solid c (v ++ more.out) first ∙ (ap (λ (b : Bool). b && true) (sym (near-begins (dashes 3) refl turned.near)) ∙ (sym (opens-solid c (w ++ next) first) ∙ none-opens (c ∷ w ++ next) (free y))))) more.are;
+  near = turned.near;
+  is = own w turned.is next tokens ∙ (ap (λ (xs : List ℕ). encode_utf8_all (c ∷ v) ++ xs) more.is ∙ sym (encodes-append (c ∷ v) more.out));
   too = λ e. absurd (let n : suc (length (w ++ next)) ≡ 0 = ap length e in omega arith);
-  same = ap closed_parts (parts-cons (c ∷ w) more.out kind more.outs) ∙ (ap (λ (ps : List (TokenKind × List ℕ)). let q : TokenKind × List ℕ = (kind, if is_space kind then [] else encode_utf8_all (c ∷ w)) in q ∷ ps) more.same ∙ sym (ap closed_parts (parts-cons (c ∷ w) next kind tokens)));
-  again = own more.out more.outs ∙ (ap (λ (xs : List ℕ). encode_utf8_all (c ∷ w) ++ xs) more.again ∙ sym (encodes-append (c ∷ w) more.out));
+  same = ap parts_in_order (parts-cons (c ∷ v) more.out kind more.outs)
+      ∙ (front (encode_utf8_all (c ∷ v)) turned.again (parts (encode_utf8_all more.out) more.outs) ∙ (ap (λ (ps : List (TokenKind × List ℕ)). let q : TokenKind × List ℕ = (kind, encode_utf8_all (c ∷ v)) in q ∷ ps) more.same
+      ∙ (sym (front (encode_utf8_all (c ∷ w)) turned.is (parts (encode_utf8_all next) tokens)) ∙ sym (ap parts_in_order (parts-cons (c ∷ w) next kind tokens)))));
+  again = own v turned.again more.out more.outs ∙ (ap (λ (xs : List ℕ). encode_utf8_all (c ∷ v) ++ xs) more.again ∙ sym (encodes-append (c ∷ v) more.out));
   last = refl;
-  size = let b = more.size in let e = ap length (encodes-append (c ∷ w) more.out) in let f = ap length (encodes-append (c ∷ w) next) in let g = length-append (encode_utf8_all (c ∷ w)) (encode_utf8_all more.out) in let h = length-append (encode_utf8_all (c ∷ w)) (encode_utf8_all next) in omega arith;
-  good = λ e. let both = scalars-parts (c ∷ w) next e in scalars-join (c ∷ w) more.out both.0 (more.good both.1);
+  size = let a = turned.size in let b = more.size in let e = ap length (encodes-append (c ∷ v) more.out) in let f = ap length (encodes-append (c ∷ w) next) in let g = length-append (encode_utf8_all (c ∷ v)) (encode_utf8_all more.out) in let h = length-append (encode_utf8_all (c ∷ w)) (encode_utf8_all next) in omega arith;
+  good = λ e. let both = scalars-parts (c ∷ w) next e in scalars-join (c ∷ v) more.out (turned.good both.0) (more.good both.1);
 }
   where
-    near : Near (c ∷ w ++ next) (c ∷ w ++ more.out)
-    near = near-append (c ∷ w) more.near
+    v : List ℕ
+    v = turned.rest
 
     first : is_whitespace c ≡ false
     first = no-space p solid
 
-    own : (rest : List ℕ) (ts : List Token) → order (encode_utf8_all (c ∷ w ++ rest)) (record { kind = kind; len = bytes (c ∷ w) } ∷ ts) ≡ encode_utf8_all (c ∷ w) ++ (closing kind ts ++ code_in_order (encode_utf8_all rest) ts)
-    own rest ts = puts rest ts ∙ (ap (λ (b : Bool). (if b then space_in_order (encode_utf8_all (c ∷ w)) ts else encode_utf8_all (c ∷ w) ++ closing kind ts) ++ code_in_order (encode_utf8_all rest) ts) solid
-        ∙ append_assoc (encode_utf8_all (c ∷ w)) (closing kind ts) (code_in_order (encode_utf8_all rest) ts))
+    own : (u : List ℕ) → text_in_order kind (encode_utf8_all (c ∷ u)) ≡ encode_utf8_all (c ∷ v) → (rest : List ℕ) (ts : List Token)
+        → order (encode_utf8_all (c ∷ u ++ rest)) (record { kind = kind; len = bytes (c ∷ u) } ∷ ts) ≡ encode_utf8_all (c ∷ v) ++ (closing kind ts ++ code_in_order (encode_utf8_all rest) ts)
+    own u e rest ts = puts (c ∷ u) rest ts ∙ (ap (λ (b : Bool). (if b then space_in_order (encode_utf8_all (c ∷ u)) ts else text_in_order kind (encode_utf8_all (c ∷ u)) ++ closing kind ts) ++ code_in_order (encode_utf8_all rest) ts) solid
+        ∙ (ap (λ (xs : List ℕ). (xs ++ closing kind ts) ++ code_in_order (encode_utf8_all rest) ts) e ∙ append_assoc (encode_utf8_all (c ∷ v)) (closing kind ts) (code_in_order (encode_utf8_all rest) ts)))
 
-pub solid-token : (order : Order) (mode : Mode) (kind : TokenKind) (c : ℕ) (w next : List ℕ) (tokens : List Token) → mode_edition mode ≡ E2024 → Puts order code_in_order kind (c ∷ w) → is_space kind ≡ false → IsTokenBefore next kind (c ∷ w) → (mode ≡ document → OpensNone (c ∷ w ++ next))
+    front : (text : List ℕ) → text_in_order kind text ≡ encode_utf8_all (c ∷ v) → (ps : List (TokenKind × List ℕ))
+        → parts_in_order ((kind, if is_space kind then [] else text) ∷ ps) ≡ (kind, encode_utf8_all (c ∷ v)) ∷ (end_parts kind ps ++ parts_in_order ps)
+    front text e ps = ap (λ (b : Bool). let q : TokenKind × List ℕ = (kind, text_in_order kind (if b then [] else text)) in q ∷ (end_parts kind ps ++ parts_in_order ps)) solid
+        ∙ ap (λ (xs : List ℕ). let q : TokenKind × List ℕ = (kind, xs) in q ∷ (end_parts kind ps ++ parts_in_order ps)) e
+
+pub solid-token : (order : Order) (mode : Mode) (kind : TokenKind) (c : ℕ) (w next : List ℕ) (tokens : List Token) → mode_edition mode ≡ E2024 → ((u : List ℕ) → Puts order code_in_order kind u) → is_space kind ≡ false → IsTokenBefore next kind (c ∷ w) → (mode ≡ document → OpensNone (c ∷ w ++ next))
     → Behind kind (mode_after mode kind) next tokens → Tidies order mode (c ∷ w ++ next) (record { kind = kind; len = bytes (c ∷ w) } ∷ tokens)
 solid-token order mode kind c w next tokens newest puts solid p free more = elim (token-near more.near more.too p) [
   | inl run ↦ absurd (true≢false (sym (ap is_space run.kind_is) ∙ solid))
-  | inr stays ↦ solid-step order mode kind c w next tokens newest puts solid p free more (stays.token (omega arith))
+  | inr stays ↦ solid-step order mode kind c w next tokens newest puts solid p free more (turned more.near more.shut (stays.token (omega arith)))
 ]
 
 pub solid-kind : (kind : TokenKind) → is_solid_kind kind ≡ true → is_space kind ≡ false
@@ -347,5 +366,5 @@ code-tidies is_part (something {mode} {kind} {c} {w} {next} {tokens} is free res
       | inl run ↦ subst (λ (k : TokenKind). Tidies code_in_order mode (c ∷ w ++ next) (record { kind = k; len = bytes (c ∷ w) } ∷ tokens)) (sym run.kind_is) (space-step code_in_order code_in_order mode c w next tokens newest (λ u left ts. code-cons u left Whitespace ts) run.all run.stop free (none-left rest)
           (subst (λ (k : TokenKind). Tidies code_in_order (mode_after mode k) next tokens) run.kind_is more))
       | inr here ↦ (let solid = solid-kind kind (here.is_solid (omega arith)) in
-          solid-token code_in_order mode kind c w next tokens newest (λ left ts. code-cons (c ∷ w) left kind ts) solid p free (behind kind (mode_after mode kind) next tokens solid (after-newest mode kind newest) (none-left rest) more))
+          solid-token code_in_order mode kind c w next tokens newest (λ u left ts. code-cons u left kind ts) solid p free (behind kind (mode_after mode kind) next tokens solid (after-newest mode kind newest) (none-left rest) (part-none (ap (λ (m : Mode). mode_after m kind) is_part) rest) more))
     ]

@@ -9,7 +9,7 @@ use Rattle.rustc_lexer.specs.means.Shebang.{shebang}
 use Rattle.rustc_lexer.specs.Locality.{IsText}
 use Rattle.rustc_lexer.specs.LanguageText.{document}
 use Rattle.rustc_lexer.specs.Tokens.{tokens_of}
-use Rattle.tidy.specs.Order.{is_no_front, code_in_order, end_of, line_end, source_tidied, source_parts, document_in_order, is_same_len, is_full, may_change, tidied, Solid, solid, closed_parts, closed, IsSound}
+use Rattle.tidy.specs.Order.{is_no_front, code_in_order, end_of, line_end, source_tidied, source_parts, document_in_order, is_same_len, is_full, may_change, tidied, Solid, solid, parts_in_order, solid_in_order, IsSound}
 use Rattle.tidy.proofs.ShebangLemmas.{stays-none, source-code}
 use Rattle.tidy.proofs.SourceLemmas.{SourceLaw, source-law}
 
@@ -33,7 +33,7 @@ full-stays text e = ap (λ (b : Bool). if not b && is_same_len (shebang (documen
 
 pub full-law : (text : List ℕ) → is_full text ≡ true → IsSound text
 full-law text e = record {
-  solid_same = ap (λ (xs : List ℕ). closed (solid xs)) (full-stays text e);
+  solid_same = ap (λ (xs : List ℕ). solid_in_order (solid xs)) (full-stays text e);
   again = ap tidied (full-stays text e);
   shorter = let f = ap length (full-stays text e) in omega arith;
   in_order = λ f. absurd (true≢false (sym e ∙ f));
@@ -88,7 +88,7 @@ document-law text is inside boundary = elim (cases_Bool (is_full text)) [
         by_check : (b : Bool) → is_same_len (shebang made) (shebang text) ≡ b → DocumentLaw text
         by_check false e = record {
           sound = record {
-            solid_same = ap (λ (xs : List ℕ). closed (solid xs)) (choose false e);
+            solid_same = ap (λ (xs : List ℕ). solid_in_order (solid xs)) (choose false e);
             again = ap tidied (choose false e);
             shorter = let f = ap length (choose false e) in omega arith;
             in_order = plain;
@@ -97,7 +97,7 @@ document-law text is inside boundary = elim (cases_Bool (is_full text)) [
         }
         by_check true e = record {
           sound = record {
-            solid_same = ap (λ (xs : List ℕ). closed (solid xs)) (choose true e) ∙ kept;
+            solid_same = ap (λ (xs : List ℕ). solid_in_order (solid xs)) (choose true e) ∙ kept;
             again = ap tidied (choose true e) ∙ (stays ∙ sym (choose true e));
             shorter = let f = ap length (choose true e) in let s = small in omega arith;
             in_order = plain;
@@ -108,11 +108,11 @@ document-law text is inside boundary = elim (cases_Bool (is_full text)) [
             same : line_end made ≡ n
             same = ap end_of (same-len (shebang made) (shebang text) e)
 
-            kept : closed (solid made) ≡ closed (solid text)
+            kept : solid_in_order (solid made) ≡ solid_in_order (solid text)
             kept =
-                ap (λ (k : ℕ). let s : Solid = record { line = take k made; parts = closed_parts (source_parts (drop k made)) } in s) same
-                ∙ (ap (λ (xs : List ℕ). let s : Solid = record { line = xs; parts = closed_parts (source_parts (drop n made)) } in s) front
-                ∙ ap (λ ps. let s : Solid = record { line = take n text; parts = ps } in s) (ap (λ (xs : List ℕ). closed_parts (source_parts xs)) back ∙ law.same))
+                ap (λ (k : ℕ). let s : Solid = record { line = take k made; parts = parts_in_order (source_parts (drop k made)) } in s) same
+                ∙ (ap (λ (xs : List ℕ). let s : Solid = record { line = xs; parts = parts_in_order (source_parts (drop n made)) } in s) front
+                ∙ ap (λ ps. let s : Solid = record { line = take n text; parts = ps } in s) (ap (λ (xs : List ℕ). parts_in_order (source_parts xs)) back ∙ law.same))
 
             once : document_in_order made ≡ made
             once =

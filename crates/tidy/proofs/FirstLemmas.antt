@@ -10,7 +10,7 @@ use Rattle.rustc_lexer.specs.means.Taking.{token_at}
 use Rattle.rustc_lexer.specs.Locality.{IsText}
 use Rattle.rustc_lexer.specs.Tokens.{tokens_of, tokens_left, TakesToken}
 use Rattle.rustc_lexer.proofs.TokensLemmas.{CutsOff, token_at-cuts, tokens-cons, tokens-nil}
-use Rattle.tidy.specs.Order.{is_front, is_space, begins_with, if_kept, space_in_order, closing, code_in_order, front_in_order, source_in_order, source_tidied}
+use Rattle.tidy.specs.Order.{is_front, is_space, begins_with, if_kept, space_in_order, text_in_order, closing, code_in_order, front_in_order, source_in_order, source_tidied}
 use Rattle.tidy.proofs.LoopLemmas.{put, put-is, end-is}
 use Rattle.tidy.proofs.SourceLemmas.{code-size}
 
@@ -98,7 +98,7 @@ space-first text token before mid own rest first at is cut made =
     written =
         ap (put token.kind (token.len == length text)) (whole-take token.len text own is)
         ∙ (ap (λ (b : Bool). put token.kind b (take token.len text)) (end-is text rest token.len first.inside (sym cut))
-        ∙ (put-is document rest token.kind (take token.len text) ∙ ap (λ (b : Bool). if b then space_in_order (take token.len text) (tokens_of document rest) else take token.len text ++ closing token.kind (tokens_of document rest)) at))
+        ∙ (put-is document rest token.kind (take token.len text) ∙ ap (λ (b : Bool). if b then space_in_order (take token.len text) (tokens_of document rest) else text_in_order token.kind (take token.len text) ++ closing token.kind (tokens_of document rest)) at))
 
 pub none-first : (text : List ℕ) (token : Token) → First text token → is_space token.kind ≡ false → front_in_order text (tokens_of document text) ≡ source_tidied text
 none-first text token first at = ap (front_in_order text) first.tokens ∙ sym (ap (source_in_order text) first.tokens

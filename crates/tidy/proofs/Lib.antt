@@ -1,6 +1,9 @@
 pub mod SourceLemmas
 pub mod NearLemmas
 pub mod OrderLemmas
+pub mod UnixLemmas
+pub mod TurnedLemmas
+pub mod ReturnLemmas
 pub mod CodeLemmas
 pub mod LineLemmas
 pub mod CallLemmas

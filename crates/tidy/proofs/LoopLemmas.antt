@@ -8,7 +8,7 @@ use Rattle.rustc_lexer.specs.Tokens.{tokens_of, tokens_left, TakesToken}
 use Rattle.rustc_lexer.proofs.PlaceLemmas.{stands_past}
 use Rattle.rustc_lexer.proofs.TokensLemmas.{tokens-nil, tokens-some}
 use Rattle.rustc_lexer.specs.declared.token.TokenKind.{TokenKind}
-use Rattle.tidy.specs.Order.{in_order, is_space, is_open, space_in_order, closing, part_in_order, code_in_order}
+use Rattle.tidy.specs.Order.{in_order, is_space, is_open, space_in_order, text_in_order, closing, part_in_order, code_in_order}
 
 -- white space is the last token where no text is left
 pub space-last : (mode : Mode) (rest space : List ℕ) → space_in_order space (tokens_of mode rest) ≡ (if length rest == 0 then codes "\n" else in_order space)
@@ -32,12 +32,12 @@ close-last mode (c ∷ rest) kind = ap (closing kind) (tokens-some mode c rest).
 
 -- what is put for a token, which may be the last one
 abbrev pub put : TokenKind → Bool → List ℕ → List ℕ
-put kind last part = if is_space kind then (if last then codes "\n" else in_order part) else part ++ (if last then (if is_open kind then [] else codes "\n") else [])
+put kind last part = if is_space kind then (if last then codes "\n" else in_order part) else text_in_order kind part ++ (if last then (if is_open kind then [] else codes "\n") else [])
 
 pub put-is : (mode : Mode) (rest : List ℕ) (kind : TokenKind) (part : List ℕ) → put kind (length rest == 0) part ≡ part_in_order kind part (tokens_of mode rest)
 put-is mode rest kind part =
-    ap (λ (xs : List ℕ). if is_space kind then xs else part ++ (if length rest == 0 then (if is_open kind then [] else codes "\n") else [])) (sym (space-last mode rest part))
-    ∙ ap (λ (xs : List ℕ). if is_space kind then space_in_order part (tokens_of mode rest) else part ++ xs) (sym (close-last mode rest kind))
+    ap (λ (xs : List ℕ). if is_space kind then xs else text_in_order kind part ++ (if length rest == 0 then (if is_open kind then [] else codes "\n") else [])) (sym (space-last mode rest part))
+    ∙ ap (λ (xs : List ℕ). if is_space kind then space_in_order part (tokens_of mode rest) else text_in_order kind part ++ xs) (sym (close-last mode rest kind))
 
 pub code-step : (text : List ℕ) (place : ℕ) (s t : State) (token : Token) (before now part whole : List ℕ) → StandsAt text place s → TakesToken s token t → part ≡ take token.len s.rest
     → now ≡ before ++ put token.kind (place + token.len == length text) part → before ++ code_in_order s.rest (tokens_left s) ≡ whole

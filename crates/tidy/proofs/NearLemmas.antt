@@ -39,6 +39,12 @@ pub near-append : (w : List ℕ) {s t : List ℕ} → Near s t → Near (w ++ s)
 near-append [] near = near
 near-append (c ∷ w) near = same (near-append w near)
 
+pub near-none : {s t : List ℕ} → Near s t → length t ≡ 0 → s ≡ []
+near-none ends e = refl
+near-none closes e = refl
+near-none (space {s} {t} a b k) e = absurd (omega (arith, e))
+near-none (same {s} {t} near) e = absurd (omega (arith, e))
+
 -- the other text ends where the one does
 abbrev pub EndsToo : List ℕ → List ℕ → Type 0
 EndsToo s t = s ≡ [] → t ≡ []

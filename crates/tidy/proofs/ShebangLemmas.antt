@@ -22,7 +22,7 @@ use Rattle.rustc_lexer.specs.Locality.{IsText}
 use Rattle.rustc_lexer.specs.Tokens.{tokens_of}
 use Rattle.rustc_lexer.proofs.LanguageInLemmas.{of_page}
 use Rattle.rustc_lexer.proofs.LanguageTextLemmas.{language}
-use Rattle.tidy.specs.Order.{is_space, is_open, end_parts, closed_parts, is_front, is_no_front, space_in_order, if_kept, code_in_order, front_in_order, source_in_order, source_tidied, source_parts, parts}
+use Rattle.tidy.specs.Order.{is_space, is_open, end_parts, parts_in_order, is_front, is_no_front, space_in_order, if_kept, code_in_order, front_in_order, source_in_order, source_tidied, source_parts, parts}
 use Rattle.tidy.proofs.NearLemmas.{near-begins}
 use Rattle.tidy.proofs.SourceLemmas.{SourceLaw, source-law}
 
@@ -112,25 +112,25 @@ attribute-kinds [] = refl
 attribute-kinds (t ∷ ts) = ap (λ (b : Bool). if is_passed t.kind then b else is_open_bracket t.kind) (attribute-kinds ts)
 
 -- white space at the end is passed
-attribute-ends : (kind : TokenKind) (ps : List (TokenKind × List ℕ)) → attribute_of (kinds_of (end_parts kind ps ++ closed_parts ps)) ≡ attribute_of (kinds_of ps)
+attribute-ends : (kind : TokenKind) (ps : List (TokenKind × List ℕ)) → attribute_of (kinds_of (end_parts kind ps ++ parts_in_order ps)) ≡ attribute_of (kinds_of ps)
 unfolding kinds_of attribute_of
 attribute-ends kind [] = elim (cases_Bool (is_space kind || is_open kind)) [ inl e ↦ rw e refl | inr e ↦ rw e refl ]
 attribute-ends kind (p ∷ ps) = ap (λ (b : Bool). if is_passed p.0 then b else is_open_bracket p.0) (attribute-ends p.0 ps)
 
-closed-attribute : (ps : List (TokenKind × List ℕ)) → attribute_of (drop 2 (kinds_of (closed_parts ps))) ≡ attribute_of (drop 2 (kinds_of ps))
+closed-attribute : (ps : List (TokenKind × List ℕ)) → attribute_of (drop 2 (kinds_of (parts_in_order ps))) ≡ attribute_of (drop 2 (kinds_of ps))
 unfolding kinds_of
 closed-attribute [] = refl
 closed-attribute (p ∷ []) = elim (cases_Bool (is_space p.0 || is_open p.0)) [ inl e ↦ rw e refl | inr e ↦ rw e refl ]
 closed-attribute (p ∷ q ∷ ps) = attribute-ends q.0 ps
 
-marked-attribute : (text : List ℕ) → IsText text → begins (codes "#!") text ≡ true → is_attribute (tokens_of (part E2024) (drop 2 text)) ≡ attribute_of (drop 2 (kinds_of (closed_parts (source_parts text))))
+marked-attribute : (text : List ℕ) → IsText text → begins (codes "#!") text ≡ true → is_attribute (tokens_of (part E2024) (drop 2 text)) ≡ attribute_of (drop 2 (kinds_of (parts_in_order (source_parts text))))
 unfolding kinds
 marked-attribute text is e =
     attribute-kinds (tokens_of (part E2024) (drop 2 text))
     ∙ (ap (λ (ks : List TokenKind). attribute_of (drop 2 ks)) (sym (ap kinds (mark-tokens text is e)) ∙ sym (parts-kinds text (tokens_of document text)))
     ∙ sym (closed-attribute (source_parts text)))
 
-same-attribute : (text other : List ℕ) → IsText text → IsText other → begins (codes "#!") text ≡ true → begins (codes "#!") other ≡ true → closed_parts (source_parts other) ≡ closed_parts (source_parts text)
+same-attribute : (text other : List ℕ) → IsText text → IsText other → begins (codes "#!") text ≡ true → begins (codes "#!") other ≡ true → parts_in_order (source_parts other) ≡ parts_in_order (source_parts text)
     → is_attribute (tokens_of (part E2024) (drop 2 other)) ≡ is_attribute (tokens_of (part E2024) (drop 2 text))
 same-attribute text other is other_is e f same =
     marked-attribute other other_is f ∙ (ap (λ (ps : List (TokenKind × List ℕ)). attribute_of (drop 2 (kinds_of ps))) same ∙ sym (marked-attribute text is e))

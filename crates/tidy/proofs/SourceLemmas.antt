@@ -22,9 +22,9 @@ use Rattle.rustc_lexer.specs.Tokens.{tokens_of}
 use Rattle.rustc_lexer.proofs.LanguageInLemmas.{on_page}
 use Rattle.rustc_lexer.proofs.LanguageTextLemmas.{language}
 use Rattle.rustc_lexer.proofs.TokensLemmas.{tokens-nil, tokens-cons}
-use Rattle.tidy.specs.Order.{is_space, is_front, is_bool, is_same_front, begins_with, if_kept, space_in_order, code_in_order, front_in_order, source_in_order, source_tidied, source_parts, parts, closed_parts}
+use Rattle.tidy.specs.Order.{is_space, is_front, is_bool, is_same_front, begins_with, if_kept, space_in_order, code_in_order, front_in_order, source_in_order, source_tidied, source_parts, parts, parts_in_order}
 use Rattle.tidy.proofs.NearLemmas.{Near, ends, near-append, near-refl, ends-append, IsSpaceRun, is_end, is_solid_kind, token-near}
-use Rattle.tidy.proofs.CodeLemmas.{Tidies, Puts, none-left, scalars-parts, scalars-join, space-step, behind, solid-token, after-newest, code-cons, parts-cons, code-tidies}
+use Rattle.tidy.proofs.CodeLemmas.{Tidies, Puts, none-left, part-none, scalars-parts, scalars-join, space-step, behind, solid-token, after-newest, code-cons, parts-cons, code-tidies}
 
 -- ---- what is a frontmatter
 
@@ -122,9 +122,9 @@ frontmatter-step u next space infostring len tokens good fits are len_is more = 
       are = subst (λ (cs : List ℕ). AreTokens document cs (front ∷ more.outs)) (chars-encodes out out-good) ((language (encode_utf8_all out) document out_text (front ∷ more.outs)).1 (sym tokens_are));
       near = near-append u more.near;
       is = puts ∙ ap (λ (b : Bool). if b then encode_utf8_all out else encode_utf8_all (u ++ next)) e;
-      same = ap closed_parts (front-parts u more.out front more.outs len_is) ∙ (front-closed (parts (encode_utf8_all more.out) more.outs)
+      same = ap parts_in_order (front-parts u more.out front more.outs len_is) ∙ (front-closed (parts (encode_utf8_all more.out) more.outs)
           ∙ (ap (λ (ps : List (TokenKind × List ℕ)). let q : TokenKind × List ℕ = (front.kind, encode_utf8_all u) in q ∷ ps) more.same
-          ∙ (sym (front-closed (parts (encode_utf8_all next) tokens)) ∙ sym (ap closed_parts (front-parts u next front tokens len_is)))));
+          ∙ (sym (front-closed (parts (encode_utf8_all next) tokens)) ∙ sym (ap parts_in_order (front-parts u next front tokens len_is)))));
       again = front-puts u more.out front more.outs refl len_is ∙ (ap (if_kept front (encode_utf8_all out)) (ap (λ (xs : List ℕ). encode_utf8_all u ++ xs) more.again ∙ sym (encodes-append u more.out))
           ∙ ap (λ (b : Bool). if b then encode_utf8_all out else encode_utf8_all out) e);
       too = ends-append u more.too;
@@ -133,7 +133,7 @@ frontmatter-step u next space infostring len tokens good fits are len_is more = 
       good = λ g. out-good;
     }
       where
-        front-closed : (ps : List (TokenKind × List ℕ)) → closed_parts ((front.kind, encode_utf8_all u) ∷ ps) ≡ (front.kind, encode_utf8_all u) ∷ closed_parts ps
+        front-closed : (ps : List (TokenKind × List ℕ)) → parts_in_order ((front.kind, encode_utf8_all u) ∷ ps) ≡ (front.kind, encode_utf8_all u) ∷ parts_in_order ps
         front-closed [] = refl
         front-closed (p ∷ ps) = refl
 
@@ -209,8 +209,8 @@ solid-front kind c w next tokens solid p free rest = by_token (code-tidies (past
     known = solid-no kind solid
 
     by_token : Tidies code_in_order (mode_after document kind) next tokens → Tidies front_in_order document (c ∷ w ++ next) (record { kind = kind; len = bytes (c ∷ w) } ∷ tokens)
-    by_token more = solid-token front_in_order document kind c w next tokens refl (solid-puts (c ∷ w) kind known.1) known.0 p free
-        (behind kind (mode_after document kind) next tokens known.0 (after-newest document kind refl) (none-left rest) more)
+    by_token more = solid-token front_in_order document kind c w next tokens refl (λ u. solid-puts u kind known.1) known.0 p free
+        (behind kind (mode_after document kind) next tokens known.0 (after-newest document kind refl) (none-left rest) (part-none (past-solid kind known.0 known.2) rest) more)
 
 front-tidies : {mode : Mode} {cs : List ℕ} {tokens : List Token} → mode ≡ document → scalars cs ≡ true → bytes cs + 1 < 2 ^ 32 → NextIsNot is_whitespace cs → AreTokens mode cs tokens → Tidies front_in_order document cs tokens
 front-tidies yes_is good fits stop (nothing) = record { out = []; outs = []; are = nothing; near = ends; is = refl; too = λ e. refl; same = refl; again = refl; last = refl; size = omega arith; good = λ e. e }
@@ -232,7 +232,7 @@ begins_space : List (TokenKind × List ℕ) → Bool
 begins_space [] = false
 begins_space (p ∷ ps) = is_space p.0
 
-closed-begins : (ps : List (TokenKind × List ℕ)) → begins_space (closed_parts ps) ≡ begins_space ps
+closed-begins : (ps : List (TokenKind × List ℕ)) → begins_space (parts_in_order ps) ≡ begins_space ps
 unfolding begins_space
 closed-begins [] = refl
 closed-begins (p ∷ ps) = refl
@@ -293,7 +293,7 @@ code-size text is =
     omega arith
 
 pub record SourceLaw (text : List ℕ) : Type 0 where
-  pub same : closed_parts (source_parts (source_tidied text)) ≡ closed_parts (source_parts text)
+  pub same : parts_in_order (source_parts (source_tidied text)) ≡ parts_in_order (source_parts text)
   pub again : source_tidied (source_tidied text) ≡ source_tidied text
   pub size : length (source_tidied text) ≤ length text + 1
   pub is_text : IsText (source_tidied text)
@@ -310,7 +310,7 @@ source-law text is room = by_tidied (source-tidies refl (scalars-chars text is.u
 
     by_tidied : Tidies source_in_order document (chars text) (tokens_of document text) → SourceLaw text
     by_tidied tidy = record {
-      same = subst (λ (out : List ℕ). closed_parts (source_parts out) ≡ closed_parts (source_parts text)) (sym made) (ap (λ (ts : List Token). closed_parts (parts (encode_utf8_all tidy.out) ts)) (sym tokens_are) ∙ (tidy.same ∙ ap (λ (xs : List ℕ). closed_parts (parts xs (tokens_of document text))) whole));
+      same = subst (λ (out : List ℕ). parts_in_order (source_parts out) ≡ parts_in_order (source_parts text)) (sym made) (ap (λ (ts : List Token). parts_in_order (parts (encode_utf8_all tidy.out) ts)) (sym tokens_are) ∙ (tidy.same ∙ ap (λ (xs : List ℕ). parts_in_order (parts xs (tokens_of document text))) whole));
       again = subst (λ (out : List ℕ). source_tidied out ≡ out) (sym made) (ap (source_in_order (encode_utf8_all tidy.out)) (sym tokens_are) ∙ tidy.again);
       size = let a = tidy.size in let b = ap length made in let c = ap length whole in omega arith;
       is_text = subst IsText (sym made) text_is;

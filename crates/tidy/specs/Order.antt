@@ -1,12 +1,12 @@
 -- A text in order: what its white space becomes. All else stays.
-use Rattle.std.specs.Prelude.{◌≡◌, ℕ, ◌+◌, ◌-◌, ◌<◌, ◌≤◌, ◌^◌, get_or, ◌==◌, ◌&&◌, ◌||◌, not, Bool, true, false, if◌then◌else◌, List, [], ◌∷◌, ◌++◌, length, take, drop, codes, Option, Some, None, is_none}
+use Rattle.std.specs.Prelude.{◌≡◌, ◌≢◌, ℕ, ◌+◌, ◌-◌, ◌<◌, ◌≤◌, ◌^◌, get_or, ◌==◌, ◌&&◌, ◌||◌, not, Bool, true, false, if◌then◌else◌, List, [], ◌∷◌, ◌++◌, length, take, drop, codes, Option, Some, None, is_none}
 use Rattle.std.specs.List.{list_all}
 use Rattle.std.specs.Str.{byte}
 use Rattle.rustc_lexer.specs.declared.token.Token.{Token}
 use Rattle.rustc_lexer.specs.declared.token.TokenKind.{TokenKind}
 use Rattle.rustc_lexer.specs.declared.token.LiteralKind.{LiteralKind}
 use Rattle.rustc_lexer.specs.declared.token.LiteralKind.TheVariants.{Char, Byte, Str, ByteStr, CStr, RawStr, RawByteStr, RawCStr}
-use Rattle.rustc_lexer.specs.declared.token.TokenKind.TheVariants.{BlockComment, Whitespace, Frontmatter, Literal}
+use Rattle.rustc_lexer.specs.declared.token.TokenKind.TheVariants.{LineComment, BlockComment, Whitespace, Frontmatter, Literal}
 use Rattle.rustc_lexer.specs.Classes.{is_among}
 use Rattle.rustc_lexer.specs.LanguageText.{document}
 use Rattle.rustc_lexer.specs.means.Scan.{begins}
@@ -46,6 +46,44 @@ abbrev pub space_in_order : List ℕ → List Token → List ℕ
 space_in_order space [] = codes "\n"
 space_in_order space (token ∷ left) = in_order space
 
+-- ---- the tokens that are no white space
+
+-- whether only carriage returns stand before the end of a line; `last` says whether the end of the text is one
+abbrev pub is_line_end : Bool → List ℕ → Bool
+is_line_end last [] = last
+is_line_end last (c ∷ cs) = c == byte "\n" || c == byte "\r" && is_line_end last cs
+
+-- a text with unix line ends: no carriage return stands before the end of a line
+abbrev pub unix_lines : Bool → List ℕ → List ℕ
+unix_lines last [] = []
+unix_lines last (c ∷ cs) = if c == byte "\r" && is_line_end last cs then unix_lines last cs else c ∷ unix_lines last cs
+
+-- no carriage return stands right before a newline, nor at the end where that is the end of a line
+pub record IsUnix (last : Bool) (text : List ℕ) : Type 0 where
+  pub no_return : (before after : List ℕ) → text ≡ before ++ (codes "\r\n" ++ after) → ⊥
+  pub no_last : last ≡ true → (before : List ℕ) → text ≡ before ++ codes "\r" → ⊥
+
+-- carriage returns stand from `end` up to a place, and right before `end` is none
+pub record IsLineEnd (text : List ℕ) (place end : ℕ) : Type 0 where
+  pub inside : end ≤ place
+  pub returns : (k : ℕ) → end ≤ k → k < place → get_or text k 0 ≡ 13
+  pub solid : 0 < end → get_or text (end - 1) 0 ≢ 13
+
+abbrev pub is_line_comment : TokenKind → Bool
+is_line_comment (LineComment doc_style) = true
+is_line_comment kind = false
+
+-- one that is closed
+abbrev pub is_block_comment : TokenKind → Bool
+is_block_comment (BlockComment doc_style terminated) = terminated
+is_block_comment kind = false
+
+-- the text of a token in order: a comment has unix line ends, and a line comment ends a line
+abbrev pub text_in_order : TokenKind → List ℕ → List ℕ
+text_in_order kind text =
+    if is_line_comment kind then unix_lines true text
+    else (if is_block_comment kind then unix_lines false text else text)
+
 -- whether a newline behind the token would become a part of it: nothing closes it, or it is a frontmatter
 abbrev pub is_open_literal : LiteralKind → Bool
 is_open_literal (Char terminated) = not terminated
@@ -71,7 +109,7 @@ closing kind (token ∷ left) = []
 
 -- a part of the text that is a token, before the tokens that are left
 abbrev pub part_in_order : TokenKind → List ℕ → List Token → List ℕ
-part_in_order kind part left = if is_space kind then space_in_order part left else part ++ closing kind left
+part_in_order kind part left = if is_space kind then space_in_order part left else text_in_order kind part ++ closing kind left
 
 -- a text by its tokens
 abbrev pub code_in_order : List ℕ → List Token → List ℕ
@@ -164,26 +202,26 @@ source_parts text = parts text (tokens_of document text)
 abbrev pub solid : List ℕ → Solid
 solid text = record { line = take (line_end text) text; parts = source_parts (drop (line_end text) text) }
 
--- white space behind the last token, where a newline may stand there
+-- what stays, with the texts of the tokens in order, and white space behind the last one where a newline comes there
 abbrev pub end_parts : TokenKind → List (TokenKind × List ℕ) → List (TokenKind × List ℕ)
 end_parts kind [] = if is_space kind || is_open kind then [] else (Whitespace, []) ∷ []
 end_parts kind (p ∷ ps) = []
 
-abbrev pub closed_parts : List (TokenKind × List ℕ) → List (TokenKind × List ℕ)
-closed_parts [] = []
-closed_parts (p ∷ ps) = p ∷ (end_parts p.0 ps ++ closed_parts ps)
+abbrev pub parts_in_order : List (TokenKind × List ℕ) → List (TokenKind × List ℕ)
+parts_in_order [] = []
+parts_in_order (p ∷ ps) = (p.0, text_in_order p.0 p.1) ∷ (end_parts p.0 ps ++ parts_in_order ps)
 
-abbrev pub closed : Solid → Solid
-closed s = record { line = s.line; parts = closed_parts s.parts }
+abbrev pub solid_in_order : Solid → Solid
+solid_in_order s = record { line = s.line; parts = parts_in_order s.parts }
 
 abbrev pub is_no_front : Token → Bool
 is_no_front token = not (is_front token.kind)
 
--- what is put in order has the shebang line and the tokens of the text, but for a newline at its end, stays as it is, and has
--- at most that newline more; and only a text that is full or has a shebang line or a frontmatter may stay as it is where it
--- is not in order
+-- what is put in order has the shebang line and the tokens of the text, but for the line ends of comments and a newline at
+-- its end, stays as it is, and has at most one byte more; and only a text that is full or has a shebang line or a
+-- frontmatter may stay as it is where it is not in order
 pub record IsSound (text : List ℕ) : Type 0 where
-  pub solid_same : closed (solid (tidied text)) ≡ closed (solid text)
+  pub solid_same : solid_in_order (solid (tidied text)) ≡ solid_in_order (solid text)
   pub again : tidied (tidied text) ≡ tidied text
   pub shorter : length (tidied text) ≤ length text + 1
   pub in_order : is_full text ≡ false → shebang text ≡ None → list_all is_no_front (tokens_of document text) ≡ true

@@ -45,7 +45,7 @@ fn command<'a>(alloc: Global) -> Result<Command<'a>, AllocError> {
         .about("Puts the white space between the tokens of Rust sources in order.")
         .after_help(
             "Spaces, tabs and carriage returns before a newline go, of newlines in a row two stay, \
-and the text ends in one newline. Nothing else is changed.",
+and the text ends in one newline. In comments carriage returns alone go. Nothing else is changed.",
         )
         .arg(check)?
         .arg(diff)?

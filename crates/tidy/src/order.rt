@@ -39,10 +39,10 @@ pub fn push_part(
     ensures { OnOk result (string_bytes output.new
         ≡ string_bytes output.old ++ (if spec.is_space kind
         then (if is_last then codes "\n" else spec.in_order part.now)
-        else part.now ++ (if is_last then (if spec.is_open kind then [] else codes "\n") else []))) }
+        else spec.text_in_order kind part.now ++ (if is_last then (if spec.is_open kind then [] else codes "\n") else []))) }
 {
     if !is_space(kind) {
-        output.push_str(part)?;
+        push_text(kind, part, output)?;
         if is_last && !is_open(kind) {
             output.push_str("\n")?;
         }
@@ -52,6 +52,73 @@ pub fn push_part(
         return output.push_str("\n");
     }
     push_in_order(part, output)
+}
+
+/// Appends the text of a token that is no white space; a comment gets unix line ends.
+fn push_text(kind: TokenKind, text: &str, output: &mut String) -> Result<(), AllocError>
+    ensures { OnOk result (string_bytes output.new
+        ≡ string_bytes output.old ++ spec.text_in_order kind text.now) }
+{
+    if is_line_comment(kind) {
+        return push_unix(text, true, output);
+    }
+    if is_block_comment(kind) {
+        return push_unix(text, false, output);
+    }
+    output.push_str(text)
+}
+
+/// Whether the token is a line comment.
+fn is_line_comment(kind: TokenKind) -> bool
+    ensures { result ≡ spec.is_line_comment kind }
+{
+    matches!(kind, TokenKind::LineComment { .. })
+}
+
+/// Whether the token is a block comment that is closed.
+fn is_block_comment(kind: TokenKind) -> bool
+    ensures { result ≡ spec.is_block_comment kind }
+{
+    matches!(
+        kind,
+        TokenKind::BlockComment {
+            terminated: true,
+            ..
+        }
+    )
+}
+
+/// Appends a text with no carriage return before the end of a line; `is_line` says whether its end is one.
+#[tactic(auto, using(crate::proofs::UnixLemmas::unix_lines_are))]
+fn push_unix(text: &str, is_line: bool, output: &mut String) -> Result<(), AllocError>
+    ensures unix { spec.IsUnix is_line (spec.unix_lines is_line text.now) }
+    ensures written { OnOk result (string_bytes output.new
+        ≡ string_bytes output.old ++ spec.unix_lines is_line text.now) }
+{
+    let mut rest = text;
+    while let Some(at) = memchr(b'\n', rest.as_bytes()) {
+        let end = line_end(rest.as_bytes(), at);
+        output.push_str(&rest[..end])?;
+        output.push('\n')?;
+        rest = &rest[at + 1..];
+    }
+    if !is_line {
+        return output.push_str(rest);
+    }
+    let end = line_end(rest.as_bytes(), rest.len());
+    output.push_str(&rest[..end])
+}
+
+/// Where the carriage returns right before a place begin.
+fn line_end(bytes: &[u8], place: usize) -> usize
+    requires inside { place ≤ length bytes.now }
+    ensures { spec.IsLineEnd bytes.now place result }
+{
+    let mut end = place;
+    'returns: while end > 0 && bytes[end - 1] == b'\r' {
+        end -= 1;
+    }
+    end
 }
 
 /// Whether a newline behind the token would become a part of it: nothing closes it, or it is a frontmatter.
