@@ -26,7 +26,7 @@
 --
 -- Beyond the Reference: what is unclosed, empty or has an emoji is a token too, for a compiler's
 -- messages. What is proved of this page, and what is not, stands in LanguageHolds.antt.
-use Rattle.std.specs.Prelude.{◌≡◌, ◌+◌, ℕ, ◌||◌, not, Bool, true, false}
+use Rattle.std.specs.Prelude.{◌≡◌, ℕ, ◌||◌, not, Bool, true, false}
 use Rattle.std.specs.Prelude.{List, [], ◌∷◌, ◌++◌, take, drop, codes, Option, Some, None}
 use Rattle.std.specs.Char.{is_ascii_digit}
 use Rattle.std.specs.List.{list_all, list_any}

@@ -3,7 +3,7 @@
 -- what stands in the place of what an edition has not. C strings and `k#` are read alike in all
 -- editions, though Rust has C strings since 2021 only (docs/EDITIONS.md, "What is left to a
 -- compiler"). `w` and `next` are as in Language.antt.
-use Rattle.std.specs.Prelude.{◌≡◌, ◌<◌, ◌≤◌, ℕ, if◌then◌else◌, true, false, List, [], ◌∷◌, codes}
+use Rattle.std.specs.Prelude.{◌≡◌, ◌<◌, ◌≤◌, ℕ, if◌then◌else◌, true, false, List, ◌∷◌, codes}
 use Rattle.std.specs.Prelude.{Option, Some, None}
 use Rattle.std.specs.Str.{byte, bytes_eq}
 use Rattle.rustc_lexer.specs.declared.edition.Edition.{Edition}

@@ -1,12 +1,12 @@
 -- The items of what is left of a text, step by step.
-use Rattle.std.proofs.Common.{◌≡◌, ℕ, zero, suc, ◌-◌, ◌≤◌, ◌<◌, ◌==◌, Bool, true, false, if◌then◌else◌, List, [], ◌∷◌, ◌++◌, length, map, Option, Some, None, refl, sym, ap, subst, ◌∙◌, arith}
+use Rattle.std.proofs.Common.{◌≡◌, ℕ, zero, suc, ◌-◌, ◌≤◌, ◌==◌, Bool, true, false, if◌then◌else◌, List, [], ◌∷◌, ◌++◌, length, map, Option, Some, None, refl, sym, ap, ◌∙◌, arith}
 use Rattle.std.specs.Option.{is_some, option_to_list}
 use Rattle.std.specs.Str.{byte, chars, IsUtf8}
 use Rattle.std.proofs.lemmas.Bool.{true≢false}
 use Rattle.std.proofs.lemmas.Str.{encodes-chars}
 use Rattle.rustc_literal_escaper.specs.declared.element.Element.{Element}
 use Rattle.rustc_literal_escaper.specs.Elements.{Front, Item, front, front_by, raw_front, is_newline, item_at, items_from, items_in, line_end, one, past_backslash, TakesFirst, place, unescaped, is_passed_over}
-use Rattle.rustc_literal_escaper.specs.Escape.{braced, closed, closed_at_run, escape, hex, is_digit_or_underscore, is_hex, short, unicode}
+use Rattle.rustc_literal_escaper.specs.Escape.{braced, closed, closed_at_run, escape, hex, is_digit_or_underscore, is_hex, unicode}
 use Rattle.rustc_literal_escaper.specs.Runs.{front_run, past_run}
 
 -- ---- each step takes a character at least

@@ -1,18 +1,17 @@
 -- What is left of a text is its end, so the places of its items lie between characters.
-use Rattle.std.proofs.Common.{◌≡◌, ℕ, zero, suc, ◌+◌, ◌-◌, ◌≤◌, ◌<◌, ◌==◌, ◌&&◌, Bool, true, false, if◌then◌else◌, List, [], ◌∷◌, ◌++◌, length, length-append, append_assoc, map, refl, sym, ap, subst, ◌∙◌, arith, All}
+use Rattle.std.proofs.Common.{◌≡◌, ℕ, zero, suc, ◌+◌, ◌≤◌, ◌<◌, ◌==◌, Bool, true, false, List, [], ◌∷◌, ◌++◌, length, length-append, append_assoc, map, refl, sym, ap, subst, ◌∙◌, arith, All}
 use Rattle.std.specs.Prelude.{IsCharBoundary}
-use Rattle.std.specs.Char.{encode_utf8, is_whitespace, len_utf8}
+use Rattle.std.specs.Char.{encode_utf8, is_whitespace}
 use Rattle.std.specs.List.{list_any, slice_index_or}
 use Rattle.std.specs.Str.{all_scalars, byte, chars, encode_utf8_all, IsUtf8}
 use Rattle.std.proofs.lemmas.Bool.{and_parts}
-use Rattle.std.proofs.lemmas.List.{append-nil}
 use Rattle.std.proofs.lemmas.List.Elements.{All-append, All-cons, All-map, All-nil}
 use Rattle.std.proofs.lemmas.Str.{encodes-append, encodes-chars, scalars-chars, length-encode, len_utf8_bounds, IsCharBoundary-at_seam}
 use Rattle.rustc_literal_escaper.specs.declared.element.Element.{Element}
 use Rattle.rustc_literal_escaper.specs.declared.element.Element.TheVariants.{Fault}
 use Rattle.rustc_literal_escaper.specs.declared.error.EscapeError.TheVariants.{MultipleSkippedLinesWarning, UnskippedWhitespaceWarning}
-use Rattle.rustc_literal_escaper.specs.Elements.{Front, Item, front, front_by, is_newline, is_passed_over, item_at, items_from, items_in, items_of, line_end, more_lines, more_space, one, past_backslash, place, raw_element, raw_front, unescaped}
-use Rattle.rustc_literal_escaper.specs.Escape.{braced, closed, closed_at_run, escape, hex, is_digit_or_underscore, is_hex, short, unicode}
+use Rattle.rustc_literal_escaper.specs.Elements.{Front, front, front_by, is_newline, is_passed_over, item_at, items_from, items_in, items_of, line_end, more_lines, more_space, one, past_backslash, place, raw_element, raw_front, unescaped}
+use Rattle.rustc_literal_escaper.specs.Escape.{braced, closed, closed_at_run, escape, hex, is_digit_or_underscore, is_hex, unicode}
 use Rattle.rustc_literal_escaper.specs.Places.{ArePlaced, IsPlaced}
 use Rattle.rustc_literal_escaper.specs.Runs.{front_run, past_run}
 use Rattle.rustc_literal_escaper.proofs.ItemLemmas.{either}

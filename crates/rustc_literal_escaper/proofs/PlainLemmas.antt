@@ -4,7 +4,7 @@ use Rattle.std.specs.List.{list_all}
 use Rattle.std.specs.Str.{byte, chars}
 use Rattle.std.proofs.lemmas.Bool.{and_parts, not-true}
 use Rattle.rustc_literal_escaper.specs.declared.element.Element.TheVariants.{Plain}
-use Rattle.rustc_literal_escaper.specs.Elements.{Front, Item, front, front_by, item_at, items_from, one, place, raw_front}
+use Rattle.rustc_literal_escaper.specs.Elements.{Front, front, front_by, item_at, items_from, one, place, raw_front}
 use Rattle.rustc_literal_escaper.specs.Plain.{elements_in, is_plain, StandsForItself}
 use Rattle.rustc_literal_escaper.proofs.ItemLemmas.{front_by-shorter, items-cons, nothing}
 

@@ -1,22 +1,22 @@
 -- The text, put together again from the places of its items.
-use Rattle.std.proofs.Common.{◌≡◌, ℕ, zero, suc, ◌+◌, ◌-◌, ◌≤◌, ◌<◌, ◌==◌, ◌&&◌, Bool, true, false, not, if◌then◌else◌, List, [], ◌∷◌, ◌++◌, length, length-append, append_assoc, map, filter, nat_lt, refl, sym, ap, subst, ◌∙◌, arith}
+use Rattle.std.proofs.Common.{◌≡◌, ℕ, zero, suc, ◌+◌, ◌≤◌, ◌==◌, ◌&&◌, Bool, true, false, if◌then◌else◌, List, [], ◌∷◌, ◌++◌, length, length-append, append_assoc, map, filter, refl, sym, ap, subst, ◌∙◌, arith}
 use Rattle.std.specs.Char.{encode_utf8, is_ascii, is_whitespace}
-use Rattle.std.specs.List.{AllByRecursion, list_all, list_any}
-use Rattle.std.specs.Str.{byte, chars, encode_utf8_all, IsAscii, IsUtf8}
+use Rattle.std.specs.List.{list_all, list_any}
+use Rattle.std.specs.Str.{byte, chars, encode_utf8_all, IsUtf8}
 use Rattle.std.specs.declared.ops.Range.{Range}
 use Rattle.std.proofs.lemmas.Bool.{eqb-true}
 use Rattle.std.proofs.lemmas.Bool.Decides.{nat_tests}
 use Rattle.std.proofs.lemmas.List.Elements.{filter-append}
 use Rattle.std.proofs.lemmas.Str.{encode_ascii, encodes-append, encodes-chars, encodes-IsAscii}
 use Rattle.rustc_literal_escaper.specs.declared.element.Element.{Element}
-use Rattle.rustc_literal_escaper.specs.declared.element.Element.TheVariants.{Byte, Fault, Plain, Unicode}
-use Rattle.rustc_literal_escaper.specs.declared.error.EscapeError.TheVariants.{BareCarriageReturn, BareCarriageReturnInRawString, EmptyUnicodeEscape, EscapeOnlyChar, InvalidCharInHexEscape, InvalidCharInUnicodeEscape, InvalidEscape, LeadingUnderscoreUnicodeEscape, MultipleSkippedLinesWarning, NoBraceInUnicodeEscape, OverlongUnicodeEscape, TooShortHexEscape, UnskippedWhitespaceWarning}
-use Rattle.rustc_literal_escaper.specs.Elements.{Front, Item, front, front_by, is_newline, is_passed_over, item_at, items_from, items_in, items_of, line_end, more_lines, more_space, one, past_backslash, place, raw_element, raw_front, unescaped}
+use Rattle.rustc_literal_escaper.specs.declared.element.Element.TheVariants.{Fault, Plain, Unicode}
+use Rattle.rustc_literal_escaper.specs.declared.error.EscapeError.TheVariants.{BareCarriageReturn, BareCarriageReturnInRawString, EscapeOnlyChar, InvalidCharInHexEscape, InvalidCharInUnicodeEscape, MultipleSkippedLinesWarning, OverlongUnicodeEscape, TooShortHexEscape, UnskippedWhitespaceWarning}
+use Rattle.rustc_literal_escaper.specs.Elements.{Front, Item, front, front_by, is_newline, is_passed_over, item_at, items_from, items_in, items_of, line_end, more_space, one, past_backslash, place, raw_element, raw_front, unescaped}
 use Rattle.rustc_literal_escaper.specs.Escape.{braced, closed, closed_at_run, escape, hex, hex_value, is_digit_or_underscore, is_hex, number, short, unicode}
-use Rattle.rustc_literal_escaper.specs.Rebuilt.{AreLineEnds, IsMadeOf, IsNext, IsRebuilt, is_unit, is_warning, line_ends, places_of}
+use Rattle.rustc_literal_escaper.specs.Rebuilt.{AreLineEnds, IsMadeOf, IsRebuilt, is_unit, is_warning, places_of}
 use Rattle.rustc_literal_escaper.specs.Runs.{front_run, past_run}
 use Rattle.rustc_literal_escaper.proofs.ItemLemmas.{either}
-use Rattle.rustc_literal_escaper.proofs.PlacedLemmas.{Ends, all, escape-ends, past, past_run-ends, through}
+use Rattle.rustc_literal_escaper.proofs.PlacedLemmas.{Ends, all, escape-ends, past, past_run-ends}
 use Rattle.rustc_literal_escaper.proofs.RoundTripLemmas.{pick}
 use Rattle.rustc_literal_escaper.proofs.WrittenLemmas.{is-ascii}
 

@@ -1,5 +1,5 @@
 -- Escaping and then unescaping.
-use Rattle.std.proofs.Common.{◌≡◌, ℕ, ◌+◌, ◌*◌, ◌/◌, ◌%◌, ◌<◌, ◌≤◌, ◌==◌, ◌&&◌, ◌||◌, Bool, true, false, true≢false, cond, if◌then◌else◌, List, [], ◌∷◌, ◌++◌, length, map, fold, filter, Result, Ok, Err, nat_lt, nat_le, refl, sym, ap, subst, ◌∙◌, inl, inr, arith}
+use Rattle.std.proofs.Common.{◌≡◌, ℕ, ◌+◌, ◌*◌, ◌/◌, ◌%◌, ◌<◌, ◌==◌, ◌&&◌, ◌||◌, Bool, true, false, true≢false, cond, if◌then◌else◌, List, [], ◌∷◌, ◌++◌, length, map, fold, filter, Result, Ok, Err, nat_lt, nat_le, refl, sym, ap, subst, ◌∙◌, inl, inr, arith}
 use Rattle.std.specs.Char.{digit_char, digit_value, IsScalar}
 use Rattle.std.specs.Char.Escape.{escape_ascii, escape_default, escape_or, escape_unicode, hex_digit_at}
 use Rattle.std.specs.List.{list_all}

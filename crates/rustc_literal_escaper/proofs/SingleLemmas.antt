@@ -1,11 +1,11 @@
 -- A character or a byte between single quotes: the first element, and whether more follows.
-use Rattle.std.proofs.Common.{◌≡◌, ℕ, List, [], ◌∷◌, Result, Ok, Err, refl, sym, ap, ◌∙◌, length, subst, rules, arith}
+use Rattle.std.proofs.Common.{◌≡◌, ℕ, List, [], ◌∷◌, Result, Ok, Err, refl, sym, ap, ◌∙◌, length, arith}
 use Rattle.std.specs.Str.{chars, IsUtf8, encode_utf8_all}
 use Rattle.std.proofs.lemmas.Str.{encodes-chars, chars-nil}
 use Rattle.rustc_literal_escaper.specs.declared.element.Element.{Element}
 use Rattle.rustc_literal_escaper.specs.declared.error.EscapeError.{EscapeError}
 use Rattle.rustc_literal_escaper.specs.declared.error.EscapeError.TheVariants.{MoreThanOneChar}
-use Rattle.rustc_literal_escaper.specs.Single.{alone, literal, single, StartsWithSingle}
+use Rattle.rustc_literal_escaper.specs.Single.{alone, literal, StartsWithSingle}
 
 module _ {U : Type 0} (meaning : Element → Result U EscapeError) where
   -- what the literal stands for, by its first element

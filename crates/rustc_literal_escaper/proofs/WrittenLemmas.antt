@@ -1,8 +1,8 @@
 -- What is written of characters and bytes, read between double quotes.
-use Rattle.std.proofs.Common.{◌≡◌, ℕ, suc, ◌+◌, ◌/◌, ◌%◌, ◌<◌, ◌≤◌, take, length-append, ◌==◌, ◌&&◌, Bool, true, false, List, [], ◌∷◌, ◌++◌, length, append_assoc, map, Result, Ok, Err, nat_lt, cond, ◌||◌, true≢false, refl, sym, ap, subst, ◌∙◌, arith}
+use Rattle.std.proofs.Common.{◌≡◌, ℕ, suc, ◌+◌, ◌/◌, ◌%◌, ◌<◌, take, length-append, ◌==◌, ◌&&◌, Bool, true, false, List, [], ◌∷◌, ◌++◌, length, append_assoc, map, Result, Ok, Err, nat_lt, ◌||◌, true≢false, refl, sym, ap, subst, ◌∙◌, arith}
 use Rattle.std.specs.Prelude.{OnErr}
 use Rattle.std.specs.Char.{digit_char, encode_utf8, is_ascii, IsScalar}
-use Rattle.std.specs.Char.Escape.{escape_ascii, escape_default, escape_or, escape_unicode, hex_digit_at}
+use Rattle.std.specs.Char.Escape.{escape_ascii, escape_default, escape_unicode, hex_digit_at}
 use Rattle.std.specs.List.{AllByRecursion, flat_map, list_all, list_any, slice_index}
 use Rattle.std.specs.Str.{all_scalars, chars, IsAscii, IsUtf8}
 use Rattle.std.specs.String.Boundary.{IsSplitPoint}
@@ -16,15 +16,14 @@ use Rattle.std.proofs.lemmas.Str.Ascii.{IsAscii-from_all}
 use Rattle.rustc_literal_escaper.specs.declared.element.Element.{Element}
 use Rattle.rustc_literal_escaper.specs.declared.element.Element.TheVariants.{Byte, Plain, Unicode}
 use Rattle.rustc_literal_escaper.specs.declared.error.EscapeError.{EscapeError}
-use Rattle.rustc_literal_escaper.specs.Elements.{Front, Item, front, item_at, items_from, items_of, one, place}
+use Rattle.rustc_literal_escaper.specs.Elements.{Front, Item, front, item_at, items_from, one, place}
 use Rattle.rustc_literal_escaper.specs.Escape.{braced}
 use Rattle.rustc_literal_escaper.specs.Meaning.{byte_of, char_of, unit_of}
-use Rattle.rustc_literal_escaper.specs.Plain.{is_plain}
 use Rattle.rustc_literal_escaper.specs.Units.{unit_of_byte}
 use Rattle.rustc_literal_escaper.specs.Written.{Grows, StandsFor, written_bytes, written_text}
 use Rattle.rustc_literal_escaper.proofs.ItemLemmas.{front-shorter, items-cons, nothing}
 use Rattle.rustc_literal_escaper.proofs.PlainLemmas.{front-plain}
-use Rattle.rustc_literal_escaper.proofs.RoundTripLemmas.{braces, by_eq, byte-read, pick, plain-back, scalar-is, unicode-by, value_past, word, word-read}
+use Rattle.rustc_literal_escaper.proofs.RoundTripLemmas.{by_eq, byte-read, pick, plain-back, scalar-is, unicode-by, word, word-read}
 
 -- ---- all of it is ASCII
 

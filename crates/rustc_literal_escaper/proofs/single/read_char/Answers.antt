@@ -1,5 +1,4 @@
-use Rattle.std.proofs.Common.{sym, ◌∙◌, rules}
-use Rattle.std.proofs.lemmas.Bool.{eqb-true, eqb-false}
+use Rattle.std.proofs.Common.{rules}
 use Rattle.rustc_literal_escaper.specs.Meaning.{char_of}
 use Rattle.rustc_literal_escaper.proofs.SingleLemmas.{literal-one, literal-more, chars-none, chars-some}
 use Rattle.rustc_literal_escaper.proofs.single.read_char.Goals as goal

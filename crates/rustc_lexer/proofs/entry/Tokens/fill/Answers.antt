@@ -2,7 +2,7 @@ use Rattle.std.proofs.Common.{length, drop, sym, ap, subst, ◌∙◌}
 use Rattle.rustc_lexer.specs.State.{State}
 use Rattle.rustc_lexer.specs.Locality.{IsText}
 use Rattle.rustc_lexer.specs.Tokens.{tokens_left}
-use Rattle.rustc_lexer.proofs.BulkLemmas.{Fills, fills, shorter_left}
+use Rattle.rustc_lexer.proofs.BulkLemmas.{fills, shorter_left}
 use Rattle.rustc_lexer.proofs.StateLemmas.{state}
 use Rattle.rustc_lexer.proofs.TokensLemmas.{partitions}
 use Rattle.rustc_lexer.proofs.entry.Tokens.fill.Goals as goal

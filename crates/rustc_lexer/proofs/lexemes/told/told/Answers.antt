@@ -1,7 +1,6 @@
-use Rattle.std.proofs.Common.{◌≡◌, ◌≢◌, ◌<◌, ◌∷◌, ℕ, List, length, drop, ◌∙◌, refl, sym, ap, subst, arith, get_or}
+use Rattle.std.proofs.Common.{◌≡◌, ◌<◌, ℕ, List, length, drop, ◌∙◌, refl, sym, ap, subst, arith, get_or}
 use Rattle.std.proofs.Math.Seq.{drop-cons}
 use lib.Count.{count_trailing_zeros}
-use Rattle.rustc_lexer.specs.declared.token.TokenKind.TheVariants.{Eof}
 use Rattle.rustc_lexer.specs.Bulk.{has_fields}
 use Rattle.rustc_lexer.specs.means.Ends.{told}
 use Rattle.rustc_lexer.proofs.EndsLemmas.{token_told, told_bare, told_same}

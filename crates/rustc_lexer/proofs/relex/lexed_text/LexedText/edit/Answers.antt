@@ -1,4 +1,4 @@
-use Rattle.std.proofs.Common.{◌≡◌, sym, ap, ◌∙◌, subst, string_bytes}
+use Rattle.std.proofs.Common.{sym, ap, ◌∙◌, subst, string_bytes}
 use Rattle.rustc_lexer.specs.Tokens.{tokens_by}
 use Rattle.rustc_lexer.specs.LanguageHolds.{HoldsTheOnlyTokensBy}
 use Rattle.rustc_lexer.proofs.LanguageTextLemmas.{held-by}
