@@ -1,5 +1,5 @@
 //! Tests of marks, words, runs over readers and writers that fail, and of the program.
-mod ends;
+mod failing_ends;
 mod jobs;
 mod marks;
 mod program;

@@ -1,6 +1,6 @@
 //! Tests of `read_job`, of `run` over readers and writers that fail, and of the statuses.
 mod edits;
-mod ends;
+mod failing_ends;
 mod faults;
 mod hostile;
 mod jobs;

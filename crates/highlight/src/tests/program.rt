@@ -1,6 +1,6 @@
 //! The whole program over ends in memory.
 use crate::program::{Start, program};
-use crate::tests::ends::{Turn, reader, writer};
+use crate::tests::failing_ends::{Turn, reader, writer};
 use crate::tests::words_of;
 use ends::Watched;
 use std::env::VarError;

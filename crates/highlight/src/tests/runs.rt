@@ -2,8 +2,8 @@
 use crate::run::run;
 use crate::stop::Stop;
 use crate::style::Style;
-use crate::tests::ends::Turn::{Fails, Moves};
-use crate::tests::ends::{Turn, reader, writer};
+use crate::tests::failing_ends::Turn::{Fails, Moves};
+use crate::tests::failing_ends::{Turn, reader, writer};
 use ends::Watched;
 use std::io::{ErrorKind, Read, Write};
 use std::test::Fail;

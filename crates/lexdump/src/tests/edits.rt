@@ -1,7 +1,7 @@
 //! Whole runs that edit a text and list what it then is.
 use crate::fault::{Fault, status};
 use crate::job::read_job;
-use crate::tests::ends::{Came, Failure, dump};
+use crate::tests::failing_ends::{Came, Failure, dump};
 use crate::tests::words_of;
 use std::test::Fail;
 

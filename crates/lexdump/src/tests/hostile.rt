@@ -1,6 +1,6 @@
 //! Texts that make a careless program slow, deep or wrong, a byte a read and a byte a write.
 use crate::job::read_job;
-use crate::tests::ends::{Failure, dump};
+use crate::tests::failing_ends::{Failure, dump};
 use crate::tests::words_of;
 use std::test::Fail;
 

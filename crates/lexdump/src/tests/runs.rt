@@ -2,7 +2,7 @@
 use crate::fault::{Fault, status};
 use crate::job::Job;
 use crate::run::run;
-use crate::tests::ends::{Failure, dump};
+use crate::tests::failing_ends::{Failure, dump};
 use ends::Watched;
 use rustc_lexer::Edition;
 use std::test::Fail;
