@@ -8,7 +8,7 @@ use core::iter::FusedIterator;
 /// The tokens of a text, in order.
 ///
 /// The first is taken by itself, so that a caller who needs no other pays for no other. The next 8 come together, and
-/// then 256 at a time. Of a text of less than 128 bytes the first 8 come together.
+/// then 256 at a time.
 ///
 /// ```
 /// use ra_ap_rustc_lexer::{tokenize, FrontmatterAllowed, TokenKind};
@@ -47,9 +47,6 @@ pub fn tokenize(
 
 /// How many tokens come in the first batch.
 const FIRST_BATCH: usize = 8;
-
-/// A text of fewer bytes begins with that batch.
-const SHORT: usize = 128;
 
 /// A text, the place behind the tokens that were fetched, and those of them that were not given out.
 struct Tokens<'a> {
@@ -92,7 +89,7 @@ impl Iterator for Tokens<'_> {
         if let Some(token) = self.batch.next() {
             return Some(token);
         }
-        if self.place.at == 0 && self.text.len() >= SHORT {
+        if self.place.at == 0 {
             return self.first();
         }
         if self.fetch() {
