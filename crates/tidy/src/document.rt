@@ -8,8 +8,8 @@ use crate::source::push_source;
 use rustc_lexer::strip_shebang;
 use std::alloc::{AllocError, Global};
 
-/// A text with its white space in order, closed by a newline. Its shebang line and all tokens but white space stay,
-/// with their texts, and a text in order stays as it is.
+/// A text with its white space and the line ends of its comments in order, closed by a newline. Its shebang line and
+/// all tokens but white space stay, with their texts but for those line ends, and a text in order stays as it is.
 #[tactic(auto, using(crate::proofs::DocumentLemmas::room), unfolding(crate::specs::Order::tidied))]
 pub fn tidied(alloc: Global, text: &str) -> Result<String, AllocError>
     requires fits { Fits text.now }
