@@ -2,7 +2,7 @@
 use Rattle.std.proofs.Common.{◌≡◌, ℕ, zero, suc, ◌+◌, ◌<◌, Bool, true, false, List, [], ◌∷◌, length, take, refl, ap, arith, subst, Result, Ok, Err}
 use Rattle.std.specs.Prelude.{IfSome, slice_get}
 use Rattle.std.specs.Str.{IsCharBoundary}
-use Rattle.std.proofs.lemmas.Bool.{and_parts, and_from, leb-true, le-leb, lt-ltb}
+use Rattle.std.proofs.lemmas.Bool.{and_parts, and_from, leb-true, le-leb, lt-ltb, ltb-true}
 use Rattle.std.proofs.lemmas.Bool.Decides.{nat_tests}
 use Rattle.rustc_lexer.specs.declared.edition.Edition.{Edition}
 use Rattle.rustc_lexer.specs.declared.relex.edit.Edit.{Edit as TextEdit}
@@ -13,7 +13,7 @@ use Rattle.rustc_lexer.specs.Edits.{IsInside, IsShort}
 use Rattle.lexdump.specs.declared.fault.Fault.{Fault}
 use Rattle.lexdump.specs.declared.fault.Fault.TheVariants.{EditRange, EditTooLong}
 use Rattle.lexdump.specs.Fault.{stop_fault}
-use Rattle.lexdump.specs.Outcome.{is_boundary, is_inside, is_short, edited_from, listed, IsRefused}
+use Rattle.lexdump.specs.Outcome.{is_boundary, is_inside, is_short, edited_from, listed, IsRefused, IsRuleOfEdits}
 
 boundary-true : (text : List ℕ) (i : ℕ) → is_boundary text i ≡ true → IsCharBoundary text i
 boundary-true text i e = grind (arith, nat_tests)
@@ -51,6 +51,12 @@ true-short text e h = lt-ltb _ _ h
 
 false-short : (text : List ℕ) (e : TextEdit) → (IsShort text e.start e.stop e.insert.now → ⊥) → is_short text e ≡ false
 false-short text e long = grind (arith, nat_tests)
+
+short-true : (text : List ℕ) (e : TextEdit) → is_short text e ≡ true → IsShort text e.start e.stop e.insert.now
+short-true text e h = ltb-true _ _ h
+
+pub same_rule : IsRuleOfEdits
+same_rule text e = ((inside-true text e, true-inside text e), (short-true text e, true-short text e))
 
 pub edited-all : (at : ℕ) (text : List ℕ) (es : List TextEdit) → AreEdits text es → edited_from at text es ≡ Ok (apply_list text es)
 edited-all at text [] are = refl

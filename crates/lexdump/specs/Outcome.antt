@@ -1,11 +1,12 @@
 -- What a run comes to, by the bytes that it reads.
-use Rattle.std.specs.Prelude.{ℕ, ◌+◌, ◌-◌, ◌^◌, ◌≡◌, Bool, ◌&&◌, ◌||◌, nat_le, nat_lt, not, if◌then◌else◌, List, [], ◌∷◌, length, slice_index, Option, Result, Ok, Err, IfOk}
+use Rattle.std.specs.Prelude.{ℕ, ◌+◌, ◌-◌, ◌^◌, ◌≡◌, ◌↔◌, Bool, true, ◌&&◌, ◌||◌, nat_le, nat_lt, not, if◌then◌else◌, List, [], ◌∷◌, length, slice_index, Option, Result, Ok, Err, IfOk}
 use Rattle.std.specs.Str.{is_utf8}
 use Rattle.std.specs.Io.KnownBytes.{Keeps, Appends}
 use Rattle.ends.specs.Known.{AppendsFront}
 use Rattle.rustc_lexer.specs.declared.edition.Edition.{Edition}
 use Rattle.rustc_lexer.specs.declared.relex.edit.Edit.{Edit as TextEdit}
 use Rattle.rustc_lexer.specs.EditLists.{applied}
+use Rattle.rustc_lexer.specs.Edits.{IsInside, IsShort}
 use Rattle.rustc_lexer.specs.means.Shebang.{shebang}
 use Rattle.rustc_lexer.specs.LanguageText.{document, part}
 use Rattle.rustc_lexer.specs.Tokens.{tokens_of}
@@ -26,6 +27,10 @@ is_inside text e = nat_le e.start e.stop && (nat_le e.stop (length text) && (is_
 -- whether what the edit makes has at most 4294967295 bytes
 abbrev pub is_short : List ℕ → TextEdit → Bool
 is_short text e = nat_lt (length text + length e.insert.now) (2 ^ 32 + (e.stop - e.start))
+
+-- these tests of an edit are the rule of `rustc_lexer`
+abbrev pub IsRuleOfEdits : Type 0
+IsRuleOfEdits = (text : List ℕ) (e : TextEdit) → (is_inside text e ≡ true ↔ IsInside text e.start e.stop) × (is_short text e ≡ true ↔ IsShort text e.start e.stop e.insert.now)
 
 -- the text after the edits, or why the first bad one is refused, each judged on the text that the edits before it
 -- leave; the first has the number `at`

@@ -3,7 +3,7 @@ ghost use Rattle.std.specs.Prelude.{◌≡◌, ◌≢◌, ◌↔◌, false, true
 ghost use Rattle.std.specs.Io.KnownBytes.{Keeps};
 ghost use Rattle.rustc_lexer.specs.Classes.{Fits};
 ghost use Rattle.rustc_lexer.specs.LanguageHolds.{IsDetermined};
-ghost use Rattle.lexdump.specs.Outcome.{outcome, printed, IsAnswer, Writes};
+ghost use Rattle.lexdump.specs.Outcome.{outcome, printed, IsAnswer, IsRuleOfEdits, Writes};
 ghost use Rattle.lexdump.specs.Pushed.{Prints};
 
 use crate::fault::Fault;
@@ -20,7 +20,7 @@ use std::io::{Read, Write};
 /// The lines go out in blocks. Nothing that may be refused comes after the first byte: after every fault but
 /// `Fault::Write` the output is as it was.
 /// At `Ok` the last thing asked of the output was a flush, and it was not refused.
-#[tactic(auto, using(rustc_lexer::proofs::LanguageTextLemmas::determined))]
+#[tactic(auto, using(rustc_lexer::proofs::LanguageTextLemmas::determined, crate::proofs::EditedLemmas::same_rule))]
 pub fn run<R: Read, W: Write>(
     alloc: Global,
     job: &Job<'_>,
@@ -40,6 +40,7 @@ pub fn run<R: Read, W: Write>(
     ensures written { IfSome (R.remaining input.old.inner) (λ bytes.
         Writes (W.contents output.old.inner) (W.contents output.new.inner) result
         (outcome job.now bytes)) }
+    ensures edits { IsRuleOfEdits }
     ensures language { IsDetermined }
 {
     let bytes = read_all(alloc, input)?;

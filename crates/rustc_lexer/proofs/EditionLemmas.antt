@@ -1,11 +1,12 @@
 -- What an edition has in place of some tokens.
-use Rattle.std.proofs.Common.{◌≡◌, ◌<◌, ℕ, Bool, true, false, List, length, refl, IsCharBoundary}
+use Rattle.std.proofs.Common.{◌≡◌, ◌<◌, ℕ, nat_le, Bool, true, false, List, length, refl, IsCharBoundary}
 use Rattle.std.proofs.lemmas.Str.{IsCharBoundary-from_take}
 use Rattle.rustc_lexer.specs.declared.edition.Edition.{Edition}
-use Rattle.rustc_lexer.specs.declared.edition.Edition.TheVariants.{E2015, E2018, E2021, E2024}
 use Rattle.rustc_lexer.specs.declared.token.Token.{Token}
 use Rattle.rustc_lexer.specs.declared.token.TokenKind.{TokenKind}
 use Rattle.rustc_lexer.specs.declared.token.TokenKind.TheVariants.{UnknownPrefix, UnknownPrefixLifetime, RawLifetime, GuardedStrPrefix, Literal, Eof}
+use Rattle.rustc_lexer.specs.LanguageIn.{year}
+use Rattle.rustc_lexer.specs.laws.Choice.{by_test}
 use Rattle.rustc_lexer.specs.laws.Edition.{edition_grammar}
 use Rattle.rustc_lexer.specs.means.Edition.{token, before_2024, before_2021, changed, first_token_in}
 use Rattle.rustc_lexer.specs.Locality.{IsText}
@@ -30,10 +31,9 @@ module _ (P : Token → Type 0) (silent : (kind : TokenKind) (len : ℕ) → is_
   in_2018 cs kind len p = p
 
   pub changed-either : (edition : Edition) (cs : List ℕ) (t : Token) → P t → P (changed edition cs t)
-  changed-either E2024 cs t p = p
-  changed-either E2021 cs t p = in_2021 t.kind t.len p
-  changed-either E2018 cs t p = in_2018 cs t.kind t.len p
-  changed-either E2015 cs t p = in_2018 cs t.kind t.len p
+  changed-either edition cs t p =
+      by_test P (nat_le 2024 (year edition)) _ _ (λ e. p) (λ e.
+      by_test P (nat_le 2021 (year edition)) _ _ (λ f. in_2021 t.kind t.len p) (λ f. in_2018 cs t.kind t.len p))
 
 -- the token of an edition at the front of a text may be cut off
 pub boundary-of : (edition : Edition) (text : List ℕ) (token : Token) → IsText text → 0 < length text → token ≡ first_token_in edition text → IsCharBoundary text token.len

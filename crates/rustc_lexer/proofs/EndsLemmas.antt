@@ -1,5 +1,5 @@
 -- The ends of runs, what is known past them, and the tokens that are told by them.
-use Rattle.std.proofs.Common.{◌≡◌, ◌≢◌, ℕ, zero, suc, ◌+◌, ◌^◌, ◌<◌, ◌≤◌, Bool, true, false, true≢false, not, ◌&&◌, ◌||◌, List, ◌∷◌, length, map, drop, get_or, refl, sym, ap, ap₂, subst, ◌∙◌, arith, length-drop, ◌⊎◌, inl, inr}
+use Rattle.std.proofs.Common.{◌≡◌, ◌≢◌, ℕ, zero, suc, ◌+◌, ◌^◌, ◌<◌, ◌≤◌, nat_le, Bool, true, false, true≢false, not, ◌&&◌, ◌||◌, List, ◌∷◌, length, map, drop, get_or, refl, sym, ap, ap₂, subst, ◌∙◌, arith, length-drop, ◌⊎◌, inl, inr}
 use Rattle.std.specs.List.{prefix_len}
 use Rattle.std.specs.Str.{IsUtf8}
 use Rattle.std.proofs.Math.Seq.{drop-cons}
@@ -11,13 +11,13 @@ use Rattle.std.proofs.lemmas.Simd.{length-chunk, get_or-chunk}
 use lib.Lanes.{chunk, mask_l}
 use Rattle.unicode_ident.proofs.Computing.{unicode_ident}
 use Rattle.rustc_lexer.specs.declared.edition.Edition.{Edition}
-use Rattle.rustc_lexer.specs.declared.edition.Edition.TheVariants.{E2015, E2018, E2021, E2024}
 use Rattle.rustc_lexer.specs.declared.lexemes.told.TheConstants.{TOLD}
 use Rattle.rustc_lexer.specs.declared.lexemes.family.Family.{Family}
 use Rattle.rustc_lexer.specs.declared.lexemes.family.Family.TheVariants.{Slash, Space, Word, Number, Quote, Str, Emoji, Hash, Symbol}
 use Rattle.rustc_lexer.specs.declared.token.TokenKind.{TokenKind}
 use Rattle.rustc_lexer.specs.declared.token.TokenKind.TheVariants.{Ident, Whitespace, GuardedStrPrefix, RawLifetime, UnknownPrefix, UnknownPrefixLifetime, Eof}
 use Rattle.rustc_lexer.specs.Bulk.{has_fields}
+use Rattle.rustc_lexer.specs.LanguageIn.{year}
 use Rattle.rustc_lexer.specs.means.Edition.{before_2024, before_2021, changed}
 use Rattle.rustc_lexer.specs.declared.token.Token.{Token}
 use Rattle.rustc_lexer.specs.means.Ends.{bit, goes_on, is_end, IsEnds, told, told_in, StaysWithin}
@@ -26,6 +26,7 @@ use Rattle.rustc_lexer.specs.Emoji.{is_emoji}
 use Rattle.rustc_lexer.specs.means.Lexeme.{family_of, symbol_kind}
 use Rattle.rustc_lexer.specs.means.Quick.{is_space_lead, turns_word, IsFirstToken}
 use Rattle.rustc_lexer.specs.means.Scan.{next_is}
+use Rattle.rustc_lexer.specs.laws.Choice.{by_test}
 use Rattle.rustc_lexer.proofs.BitLemmas.{bit-mask_l, bit-zero, within}
 use Rattle.rustc_lexer.proofs.QuickLemmas.{word_first, space_first, symbol_first}
 
@@ -263,10 +264,9 @@ older_2018 cs UnknownPrefixLifetime len old = absurd (true≢false old)
 older_2018 cs kind len old = refl
 
 older : (edition : Edition) (cs : List ℕ) (t : Token) → is_newer t.kind ≡ false → changed edition cs t ≡ t
-older E2024 cs t old = refl
-older E2021 cs t old = older_2021 t.kind t.len old
-older E2018 cs t old = older_2018 cs t.kind t.len old
-older E2015 cs t old = older_2018 cs t.kind t.len old
+older edition cs t old =
+    by_test (λ u. u ≡ t) (nat_le 2024 (year edition)) _ _ (λ e. refl) (λ e.
+    by_test (λ u. u ≡ t) (nat_le 2021 (year edition)) _ _ (λ f. older_2021 t.kind t.len old) (λ f. older_2018 cs t.kind t.len old))
 
 pub told_same : (b : ℕ) → told b ≢ Eof → (edition : Edition) (cs : List ℕ) (kind : TokenKind) (len : ℕ) → kind ≡ told b → changed edition cs record { kind = kind; len = len } ≡ record { kind = kind; len = len }
 told_same b some edition cs kind len e = older edition cs record { kind = kind; len = len } (ap is_newer e ∙ told_older b some)

@@ -6,13 +6,13 @@ use Rattle.std.proofs.lemmas.Bool.{and_parts, leb-true, leb-false}
 use Rattle.std.specs.List.{list_all}
 use Rattle.std.specs.Str.{chars}
 use Rattle.rustc_lexer.specs.declared.edition.Edition.{Edition}
-use Rattle.rustc_lexer.specs.declared.edition.Edition.TheVariants.{E2015, E2018, E2021, E2024}
+use Rattle.rustc_lexer.specs.declared.edition.Edition.TheVariants.{E2024}
 use Rattle.rustc_lexer.specs.declared.token.Token.{Token}
 use Rattle.rustc_lexer.specs.declared.token.TokenKind.{TokenKind}
 use Rattle.rustc_lexer.specs.declared.token.TokenKind.TheVariants.{Ident, UnknownPrefix, UnknownPrefixLifetime, RawLifetime, Lifetime, GuardedStrPrefix, Pound}
 use Rattle.rustc_lexer.specs.Classes.{is_among, is_id_start, is_id_continue, is_ident}
 use Rattle.rustc_lexer.specs.LanguageIn.{year, kept_since, IsTokenIn, kept, pound, ident, lifetime, lifetime_r}
-use Rattle.rustc_lexer.specs.means.Edition.{token, has_marked_name, before_2021, changed, first_token_in}
+use Rattle.rustc_lexer.specs.means.Edition.{token, has_marked_name, before_2024, before_2021, changed, first_token_in}
 use Rattle.rustc_lexer.specs.Language as the
 use Rattle.rustc_lexer.specs.Spans.{is_word_continue, is_word_start, begins_ident_after, AreAll, NextIs, NextIsNot, bytes}
 use Rattle.rustc_lexer.specs.Language.{is_bad_name, IsTokenBefore}
@@ -21,6 +21,7 @@ use Rattle.rustc_lexer.specs.means.Lexeme.{past_first, lexeme, first_token, symb
 use Rattle.rustc_lexer.specs.means.Scan.{bytes_of, next_is, run_len}
 use Rattle.rustc_lexer.specs.Locality.{IsText}
 use Rattle.rustc_lexer.specs.laws.Choice.{by_test}
+use Rattle.rustc_lexer.specs.laws.Edition.{oldest}
 use Rattle.rustc_lexer.specs.laws.Language.{lexeme-sound}
 use Rattle.rustc_lexer.specs.laws.LanguageRuns.{mark-stops, run_len-here}
 use Rattle.rustc_lexer.specs.laws.LanguageWords.{marked-sound}
@@ -28,38 +29,31 @@ use Rattle.rustc_lexer.proofs.LanguageLemmas.{empty-text, first-is}
 
 -- ---- what an edition keeps
 
-oldest : (edition : Edition) → 2015 ≤ year edition
-oldest E2015 = omega arith
-oldest E2018 = omega arith
-oldest E2021 = omega arith
-oldest E2024 = omega arith
+kept_2021 : (kind : TokenKind) (len : ℕ) → kept_since kind < 2024 → before_2024 kind len ≡ token kind len
+kept_2021 GuardedStrPrefix len lt = absurd (omega (arith, lt))
+kept_2021 kind len lt = refl
+
+kept_2018 : (cs : List ℕ) (kind : TokenKind) (len : ℕ) → kept_since kind < 2021 → before_2021 cs kind len ≡ token kind len
+kept_2018 cs GuardedStrPrefix len lt = absurd (omega (arith, lt))
+kept_2018 cs RawLifetime len lt = absurd (omega (arith, lt))
+kept_2018 cs UnknownPrefix len lt = absurd (omega (arith, lt))
+kept_2018 cs UnknownPrefixLifetime len lt = absurd (omega (arith, lt))
+kept_2018 cs kind len lt = refl
 
 keeps : (edition : Edition) (cs : List ℕ) (kind : TokenKind) (len : ℕ) → kept_since kind ≤ year edition → changed edition cs (token kind len) ≡ token kind len
-keeps E2024 cs kind len le = refl
-keeps E2021 cs GuardedStrPrefix len le = absurd (omega (arith, le))
-keeps E2021 cs kind len le = refl
-keeps E2018 cs GuardedStrPrefix len le = absurd (omega (arith, le))
-keeps E2018 cs RawLifetime len le = absurd (omega (arith, le))
-keeps E2018 cs UnknownPrefix len le = absurd (omega (arith, le))
-keeps E2018 cs UnknownPrefixLifetime len le = absurd (omega (arith, le))
-keeps E2018 cs kind len le = refl
-keeps E2015 cs GuardedStrPrefix len le = absurd (omega (arith, le))
-keeps E2015 cs RawLifetime len le = absurd (omega (arith, le))
-keeps E2015 cs UnknownPrefix len le = absurd (omega (arith, le))
-keeps E2015 cs UnknownPrefixLifetime len le = absurd (omega (arith, le))
-keeps E2015 cs kind len le = refl
+keeps edition cs kind len le =
+    by_test (λ t. t ≡ token kind len) (nat_le 2024 (year edition)) _ _ (λ e. refl) (λ e.
+    by_test (λ t. t ≡ token kind len) (nat_le 2021 (year edition)) _ _ (λ f. kept_2021 kind len (let lt = leb-false 2024 (year edition) e in omega (arith, le))) (λ f. kept_2018 cs kind len (let lt = leb-false 2021 (year edition) f in omega (arith, le))))
 
 guarded-cut : (edition : Edition) (cs : List ℕ) (len : ℕ) → year edition < 2024 → changed edition cs (token GuardedStrPrefix len) ≡ token Pound 1
-guarded-cut E2024 cs len lt = absurd (omega (arith, lt))
-guarded-cut E2021 cs len lt = refl
-guarded-cut E2018 cs len lt = refl
-guarded-cut E2015 cs len lt = refl
+guarded-cut edition cs len lt =
+    by_test (λ t. t ≡ token Pound 1) (nat_le 2024 (year edition)) _ _ (λ e. absurd (let le = leb-true 2024 (year edition) e in omega (arith, lt))) (λ e.
+    by_test (λ t. t ≡ token Pound 1) (nat_le 2021 (year edition)) _ _ (λ f. refl) (λ f. refl))
 
 before : (edition : Edition) (cs : List ℕ) (t : Token) → year edition < 2021 → changed edition cs t ≡ before_2021 cs t.kind t.len
-before E2024 cs t lt = absurd (omega (arith, lt))
-before E2021 cs t lt = absurd (omega (arith, lt))
-before E2018 cs t lt = refl
-before E2015 cs t lt = refl
+before edition cs t lt =
+    by_test (λ u. u ≡ before_2021 cs t.kind t.len) (nat_le 2024 (year edition)) _ _ (λ e. absurd (let le = leb-true 2024 (year edition) e in omega (arith, lt))) (λ e.
+    by_test (λ u. u ≡ before_2021 cs t.kind t.len) (nat_le 2021 (year edition)) _ _ (λ f. absurd (let le = leb-true 2021 (year edition) f in omega (arith, lt))) (λ f. refl))
 
 -- ---- the tokens that an edition may not keep, as they stand on the page
 

@@ -3,7 +3,7 @@
 -- what stands in the place of what an edition has not. C strings and `k#` are read alike in all
 -- editions, though Rust has C strings since 2021 only (docs/EDITIONS.md, "What is left to a
 -- compiler"). `w` and `next` are as in Language.antt.
-use Rattle.std.specs.Prelude.{◌≡◌, ◌<◌, ◌≤◌, ℕ, if◌then◌else◌, true, false, List, ◌∷◌, codes}
+use Rattle.std.specs.Prelude.{◌≡◌, ◌<◌, ◌≤◌, ℕ, nat_eq, if◌then◌else◌, true, false, List, ◌∷◌, codes}
 use Rattle.std.specs.Prelude.{Option, Some, None}
 use Rattle.std.specs.Str.{byte, bytes_eq}
 use Rattle.rustc_lexer.specs.declared.edition.Edition.{Edition}
@@ -21,6 +21,15 @@ year E2015 = 2015
 year E2018 = 2018
 year E2021 = 2021
 year E2024 = 2024
+
+-- the edition of a year
+abbrev pub edition_of_year : ℕ → Option Edition
+edition_of_year year =
+    if nat_eq year 2015 then Some E2015
+    else (if nat_eq year 2018 then Some E2018
+    else (if nat_eq year 2021 then Some E2021
+    else (if nat_eq year 2024 then Some E2024
+    else None)))
 
 -- the edition that a word names, by its year
 abbrev pub edition_of : List ℕ → Option Edition

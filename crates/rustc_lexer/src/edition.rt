@@ -7,7 +7,7 @@ ghost use Rattle.std.specs.Str.{chars};
 ghost use Rattle.rustc_lexer.specs.declared.edition.Edition.TheVariants.{E2015, E2018, E2024};
 ghost use Rattle.rustc_lexer.specs.declared.token.FrontmatterAllowed.TheVariants.{No};
 ghost use Rattle.rustc_lexer.specs.Classes.{Fits, is_id_continue};
-ghost use Rattle.rustc_lexer.specs.LanguageIn.{edition_of, year};
+ghost use Rattle.rustc_lexer.specs.LanguageIn.{edition_of, edition_of_year, year};
 ghost use Rattle.rustc_lexer.specs.means.Edition as spec;
 ghost use Rattle.rustc_lexer.specs.means.Ident.{is_word};
 ghost use Rattle.rustc_lexer.specs.LanguageHolds.{AreTheOnlyTokens, NewestIsPage};
@@ -77,7 +77,24 @@ impl FromStr for Edition {
     }
 }
 
-/// A word names no edition.
+/// The edition of a year, such as `2021`.
+impl TryFrom<u16> for Edition {
+    type Error = UnknownEdition;
+
+    ghost try_from_gives = { λ year read. result_ok read ≡ edition_of_year year };
+
+    fn try_from(year: u16) -> Result<Edition, UnknownEdition> {
+        match year {
+            2015 => Ok(Edition::E2015),
+            2018 => Ok(Edition::E2018),
+            2021 => Ok(Edition::E2021),
+            2024 => Ok(Edition::E2024),
+            _ => Err(UnknownEdition),
+        }
+    }
+}
+
+/// A word or a number names no edition.
 #[derive(Clone, Copy, Debug, PartialEq, Eq)]
 pub struct UnknownEdition;
 

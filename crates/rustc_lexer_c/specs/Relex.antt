@@ -2,12 +2,12 @@
 use Rattle.std.specs.Prelude.{ℕ, ◌≡◌, ◌≢◌, ◌+◌, ◌-◌, ◌≤◌, ◌<◌, ◌^◌, if◌then◌else◌, nat_eq, List, ◌++◌, length, map, take, drop, Option, Some, None}
 use Rattle.std.specs.Str.{IsUtf8}
 use Rattle.rustc_lexer.specs.declared.edition.Edition.{Edition}
-use Rattle.rustc_lexer.specs.declared.edition.Edition.TheVariants.{E2015, E2018, E2021, E2024}
 use Rattle.rustc_lexer.specs.declared.relex.front.Bound.{Bound}
 use Rattle.rustc_lexer.specs.declared.relex.relexing.Change.{Change}
 use Rattle.rustc_lexer.specs.declared.relex.relexing.Relexing.{Relexing}
 use Rattle.rustc_lexer.specs.declared.token.Token.{Token}
 use Rattle.rustc_lexer.specs.Tokens.{tokens_by}
+use Rattle.rustc_lexer.specs.LanguageIn.{edition_of_year}
 use Rattle.rustc_lexer.specs.means.Edition.{first_token_in}
 use Rattle.rustc_lexer.specs.Edits.{relexed_of}
 use Rattle.rustc_lexer.specs.Relexing.{IsBound, IsChange, IsMadeOf, MayGoOn, Stands, is_over}
@@ -16,15 +16,6 @@ use Rattle.rustc_lexer_c.specs.declared.relex.CEdit.{CEdit}
 use Rattle.rustc_lexer_c.specs.declared.relex.CRelexing.{CRelexing}
 use Rattle.rustc_lexer_c.specs.declared.token.CToken.{CToken}
 use Rattle.rustc_lexer_c.specs.Numbers.{token_numbers}
-
--- the edition of a year
-abbrev pub edition_of : ℕ → Option Edition
-edition_of year =
-    if nat_eq year 2024 then Some E2024
-    else if nat_eq year 2021 then Some E2021
-    else if nat_eq year 2018 then Some E2018
-    else if nat_eq year 2015 then Some E2015
-    else None
 
 abbrev pub change_of : CEdit → Change
 change_of c = record { start = c.start; old_stop = c.old_stop; new_stop = c.new_stop }
@@ -91,11 +82,11 @@ pub record IsNotRelexed (c c' : CRelexing) (room room' : List CToken) (count : �
 
 -- the status of a call that relexes
 pub record IsRelexStatus (bytes : List ℕ) (edit : CEdit) (year count : ℕ) (c : CRelexing) (status : ℕ) : Type 0 where
-  pub ok : IsText bytes → (edition : Edition) → edition_of year ≡ Some edition → IsChange bytes (change_of edit) → MayRelex bytes count c → status ≡ 0
+  pub ok : IsText bytes → (edition : Edition) → edition_of_year year ≡ Some edition → IsChange bytes (change_of edit) → MayRelex bytes count c → status ≡ 0
   pub not_utf8 : length bytes < 2 ^ 32 → ¬ (IsUtf8 bytes) → status ≡ 1
   pub too_long : 2 ^ 32 ≤ length bytes → status ≡ 2
-  pub bad_edition : IsText bytes → edition_of year ≡ None → status ≡ 5
-  pub bad_edit : IsText bytes → (edition : Edition) → edition_of year ≡ Some edition → ¬ (IsChange bytes (change_of edit) × MayRelex bytes count c) → status ≡ 6
+  pub bad_edition : IsText bytes → edition_of_year year ≡ None → status ≡ 5
+  pub bad_edit : IsText bytes → (edition : Edition) → edition_of_year year ≡ Some edition → ¬ (IsChange bytes (change_of edit) × MayRelex bytes count c) → status ≡ 6
 
 -- how far it was relexed, as numbers
 abbrev pub numbers_of : List ℕ → ℕ → Relexing → CRelexing

@@ -4,6 +4,7 @@ ghost use Rattle.std.specs.Str.{IsUtf8};
 ghost use Rattle.rustc_lexer.specs.declared.edition.Edition.{Edition};
 ghost use Rattle.rustc_lexer.specs.declared.token.Token.{Token};
 ghost use Rattle.rustc_lexer.specs.Classes.{Fits};
+ghost use Rattle.rustc_lexer.specs.LanguageIn.{edition_of_year};
 ghost use Rattle.rustc_lexer.specs.means.Edition.{first_token_in};
 ghost use Rattle.rustc_lexer.specs.LanguageHolds.{IsDetermined};
 ghost use Rattle.rustc_lexer.specs.LanguageText.{part};
@@ -73,7 +74,7 @@ pub extern "C" fn rustc_lexer_relex(
     count: &mut usize,
 ) -> u32
     ensures status { spec.IsRelexStatus text.now edit.now edition (length old.now) relexing.old result }
-    ensures batch { result ≡ 0 → (year : Edition) → spec.edition_of edition ≡ Some year
+    ensures batch { result ≡ 0 → (year : Edition) → edition_of_year edition ≡ Some year
         → spec.IsRelexBatch year text.now old.now edit.now relexing.old
         room.old relexing.new room.new count.new }
     ensures refused { result ≢ 0
@@ -103,7 +104,7 @@ pub extern "C" fn rustc_lexer_relex_unchecked(
 ) -> u32
     requires utf8 { IsUtf8 text.now }
     ensures status { spec.IsRelexStatus text.now edit.now edition (length old.now) relexing.old result }
-    ensures batch { result ≡ 0 → (year : Edition) → spec.edition_of edition ≡ Some year
+    ensures batch { result ≡ 0 → (year : Edition) → edition_of_year edition ≡ Some year
         → spec.IsRelexBatch year text.now old.now edit.now relexing.old
         room.old relexing.new room.new count.new }
     ensures refused { result ≢ 0
@@ -130,7 +131,7 @@ fn relex(
 ) -> u32
     requires fits { Fits text.now }
     ensures status { spec.IsRelexStatus text.now edit.now edition (length old.now) relexing.old result }
-    ensures batch { result ≡ 0 → (year : Edition) → spec.edition_of edition ≡ Some year
+    ensures batch { result ≡ 0 → (year : Edition) → edition_of_year edition ≡ Some year
         → spec.IsRelexBatch year text.now old.now edit.now relexing.old
         room.old relexing.new room.new count.new }
     ensures refused { result ≢ 0
@@ -154,15 +155,9 @@ fn relex(
 
 /// The edition of a year.
 fn edition_of(year: u32) -> Option<Edition>
-    ensures { result ≡ spec.edition_of year }
+    ensures { result ≡ edition_of_year year }
 {
-    match year {
-        2024 => Some(Edition::E2024),
-        2021 => Some(Edition::E2021),
-        2018 => Some(Edition::E2018),
-        2015 => Some(Edition::E2015),
-        _ => None,
-    }
+    Edition::try_from(u16::try_from(year).ok()?).ok()
 }
 
 /// What the edit changed.

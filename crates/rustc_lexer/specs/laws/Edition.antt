@@ -1,5 +1,5 @@
 -- How far the tokens of an edition look, and that a year names one edition.
-use Rattle.std.proofs.Common.{◌≡◌, ℕ, suc, ◌+◌, ◌==◌, ◌&&◌, not, Bool, true, false, true≢false, if◌then◌else◌, List, [], ◌∷◌, take, drop, codes, refl, sym, ap, ◌∙◌, arith, rules, Option, Some, None}
+use Rattle.std.proofs.Common.{◌≡◌, ℕ, suc, ◌+◌, ◌≤◌, ◌==◌, nat_le, ◌&&◌, not, Bool, true, false, true≢false, if◌then◌else◌, List, [], ◌∷◌, take, drop, codes, refl, sym, ap, ◌∙◌, arith, rules, Option, Some, None}
 use lib.Utf8.{encode}
 use Rattle.std.proofs.lemmas.Bool.{and_parts, eqb-true}
 use Rattle.std.specs.Char.{is_ascii_digit}
@@ -15,7 +15,7 @@ use Rattle.rustc_lexer.specs.declared.token.TokenKind.TheVariants.{Ident, Unknow
 use Rattle.rustc_lexer.specs.means.BlockComment.{block_comment, block_comment_to, comment_end}
 use Rattle.rustc_lexer.specs.Classes.{is_id_continue}
 use Rattle.rustc_lexer.specs.means.Comment.{line_comment, slash}
-use Rattle.rustc_lexer.specs.LanguageIn.{year}
+use Rattle.rustc_lexer.specs.LanguageIn.{year, edition_of_year}
 use Rattle.rustc_lexer.specs.means.Edition.{token, before_2024, before_2021, first_token_in}
 use Rattle.rustc_lexer.specs.means.Hash.{is_guarded_mark, hash}
 use Rattle.rustc_lexer.specs.means.Ident.{is_word, is_prefix_mark, ident_or_unknown_prefix, marks_ident}
@@ -36,23 +36,28 @@ use Rattle.rustc_lexer.specs.laws.TokenBy.{token_by_local}
 
 -- ---- a year names one edition
 
+year_told : (edition : Edition) → edition_of_year (year edition) ≡ Some edition
+year_told E2015 = refl
+year_told E2018 = refl
+year_told E2021 = refl
+year_told E2024 = refl
+
 pub same_edition : (a b : Edition) → year a ≡ year b → a ≡ b
-same_edition E2015 E2015 e = refl
-same_edition E2018 E2018 e = refl
-same_edition E2021 E2021 e = refl
-same_edition E2024 E2024 e = refl
-same_edition E2015 E2018 e = absurd (omega (arith, e))
-same_edition E2015 E2021 e = absurd (omega (arith, e))
-same_edition E2015 E2024 e = absurd (omega (arith, e))
-same_edition E2018 E2015 e = absurd (omega (arith, e))
-same_edition E2018 E2021 e = absurd (omega (arith, e))
-same_edition E2018 E2024 e = absurd (omega (arith, e))
-same_edition E2021 E2015 e = absurd (omega (arith, e))
-same_edition E2021 E2018 e = absurd (omega (arith, e))
-same_edition E2021 E2024 e = absurd (omega (arith, e))
-same_edition E2024 E2015 e = absurd (omega (arith, e))
-same_edition E2024 E2018 e = absurd (omega (arith, e))
-same_edition E2024 E2021 e = absurd (omega (arith, e))
+same_edition a b e = by_some (sym (year_told a) ∙ (ap edition_of_year e ∙ year_told b))
+  where
+    by_some : Some a ≡ Some b → a ≡ b
+    by_some f = ap (λ (o : Option Edition). match_some o) f
+      where
+        match_some : Option Edition → Edition
+        match_some None = a
+        match_some (Some x) = x
+
+-- no edition is older
+pub oldest : (edition : Edition) → 2015 ≤ year edition
+oldest E2015 = omega arith
+oldest E2018 = omega arith
+oldest E2021 = omega arith
+oldest E2024 = omega arith
 
 -- ---- kinds that an edition keeps, or changes by no more than the kind
 
@@ -317,7 +322,12 @@ grammar_2018 = changed_grammar before_2021 (changed_first before_2021 plain_kind
 -- ---- the law of one token, in each edition: two characters past its end are enough, also where it is cut
 
 pub edition_grammar : (edition : Edition) → IsGrammar (first_token_in edition)
-edition_grammar E2024 = first_token_grammar
-edition_grammar E2021 = grammar_2021
-edition_grammar E2018 = grammar_2018
-edition_grammar E2015 = grammar_2018
+edition_grammar edition = by_newest (nat_le 2024 (year edition)) refl
+  where
+    by_reserved : (b : Bool) → nat_le 2024 (year edition) ≡ false → nat_le 2021 (year edition) ≡ b → IsGrammar (first_token_in edition)
+    by_reserved true old e = same_grammar _ (first_token_in E2021) (λ text. rw (old, e) refl) grammar_2021
+    by_reserved false old e = same_grammar _ (first_token_in E2018) (λ text. rw (old, e) refl) grammar_2018
+
+    by_newest : (b : Bool) → nat_le 2024 (year edition) ≡ b → IsGrammar (first_token_in edition)
+    by_newest true e = same_grammar _ first_token (λ text. rw e refl) first_token_grammar
+    by_newest false e = by_reserved (nat_le 2021 (year edition)) e refl

@@ -1,11 +1,11 @@
 -- Means, by how it is read: what an edition has in place of the token at the front of a text.
-use Rattle.std.specs.Prelude.{ℕ, Bool, false, List, [], ◌∷◌, take}
+use Rattle.std.specs.Prelude.{ℕ, nat_le, if◌then◌else◌, Bool, false, List, [], ◌∷◌, take}
 use Rattle.std.specs.Str.{chars}
 use Rattle.rustc_lexer.specs.declared.edition.Edition.{Edition}
-use Rattle.rustc_lexer.specs.declared.edition.Edition.TheVariants.{E2021, E2024}
 use Rattle.rustc_lexer.specs.declared.token.Token.{Token}
 use Rattle.rustc_lexer.specs.declared.token.TokenKind.{TokenKind}
 use Rattle.rustc_lexer.specs.declared.token.TokenKind.TheVariants.{Ident, UnknownPrefix, UnknownPrefixLifetime, RawLifetime, Lifetime, GuardedStrPrefix, Pound}
+use Rattle.rustc_lexer.specs.LanguageIn.{year}
 use Rattle.rustc_lexer.specs.means.Ident.{is_word}
 use Rattle.rustc_lexer.specs.means.Lexeme.{first_token}
 use Rattle.rustc_lexer.specs.means.Lifetime.{is_marked}
@@ -33,11 +33,15 @@ before_2021 cs UnknownPrefix len = token Ident len
 before_2021 cs UnknownPrefixLifetime len = token (Lifetime (has_marked_name cs)) len
 before_2021 cs kind len = before_2024 kind len
 
--- the token at the front of these characters, changed to what an edition has in its place
+-- the token at the front of these characters, changed to what the edition of a year has in its place
+abbrev pub changed_in : ℕ → List ℕ → Token → Token
+changed_in year cs t =
+    if nat_le 2024 year then t
+    else (if nat_le 2021 year then before_2024 t.kind t.len
+    else before_2021 cs t.kind t.len)
+
 abbrev pub changed : Edition → List ℕ → Token → Token
-changed E2024 cs t = t
-changed E2021 cs t = before_2024 t.kind t.len
-changed edition cs t = before_2021 cs t.kind t.len
+changed edition cs t = changed_in (year edition) cs t
 
 -- the token at the front of a text, in an edition
 abbrev pub first_token_in : Edition → List ℕ → Token

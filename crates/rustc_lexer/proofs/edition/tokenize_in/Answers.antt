@@ -11,7 +11,7 @@ pub returns-clause-partitions : goal.returns-clause-partitions
 returns-clause-partitions c = partitions _ (part c.args.edition) record { utf8 = c.utf8.text; fits = c.requires.fits }
 
 pub returns-clause-restarts : goal.returns-clause-restarts
-returns-clause-restarts c = restarts _ _ record { utf8 = c.utf8.text; fits = c.requires.fits }
+returns-clause-restarts c = restarts c.args.edition _ record { utf8 = c.utf8.text; fits = c.requires.fits }
 
 pub returns-clause-suffixes : goal.returns-clause-suffixes
 returns-clause-suffixes c = suffixes _ (part c.args.edition) record { utf8 = c.utf8.text; fits = c.requires.fits }

@@ -1,6 +1,7 @@
 use Rattle.std.proofs.Common.{◌≡◌, ◌<◌, ℕ, List, length, drop, ◌∙◌, refl, sym, ap, subst, arith, get_or}
 use Rattle.std.proofs.Math.Seq.{drop-cons}
 use lib.Count.{count_trailing_zeros}
+use Rattle.std.specs.Str.{chars}
 use Rattle.rustc_lexer.specs.Bulk.{has_fields}
 use Rattle.rustc_lexer.specs.means.Ends.{told}
 use Rattle.rustc_lexer.proofs.EndsLemmas.{token_told, told_bare, told_same}
@@ -32,4 +33,4 @@ pub returns-clause-bare : goal.returns-clause-bare
 returns-clause-bare c = ap has_fields (kind_is c) ∙ told_bare (get_or c.args.text.now 0 0) (λ e. c.if-is_eof.ensures refl (kind_is c ∙ e))
 
 pub returns-clause-same : goal.returns-clause-same
-returns-clause-same c = λ edition. told_same (get_or c.args.text.now 0 0) (λ e. c.if-is_eof.ensures refl (kind_is c ∙ e)) edition _ _ _ (kind_is c)
+returns-clause-same c = λ edition. told_same (get_or c.args.text.now 0 0) (λ e. c.if-is_eof.ensures refl (kind_is c ∙ e)) edition (chars c.args.text.now) _ _ (kind_is c)
