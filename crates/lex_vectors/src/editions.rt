@@ -286,10 +286,14 @@ fn a_year_names_its_edition(rt: HostRuntime) {
     for (index, (word, edition, year)) in named.into_iter().enumerate() {
         assert_eq!(rt; word.parse::<Edition>(), Ok(edition));
         assert_eq!(rt; edition.year(), year);
+        assert_eq!(rt; Edition::try_from(year), Ok(edition));
         assert_eq!(rt; Edition::ALL.get(index).copied(), Some(edition));
     }
     for word in ["", "2016", "02015", "2024 ", "E2024"] {
         assert_eq!(rt; word.parse::<Edition>(), Err(UnknownEdition), "{word}");
+    }
+    for year in [0u16, 15, 2016, 65535] {
+        assert_eq!(rt; Edition::try_from(year), Err(UnknownEdition), "{year}");
     }
     assert_eq!(rt; Edition::ALL.len(), named.len());
 }
