@@ -4,8 +4,10 @@ pub mod PlaceLemmas
 pub mod ItemLemmas
 pub mod ErrorLemmas
 pub mod PlainLemmas
+pub mod LaneLemmas
 pub mod SkipLemmas
 pub mod PlacedLemmas
 pub mod RoundTripLemmas
 pub mod WrittenLemmas
+pub mod SimpleLemmas
 pub mod RebuiltLemmas
