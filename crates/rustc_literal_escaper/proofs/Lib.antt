@@ -1,4 +1,5 @@
 pub mod DigitLemmas
+pub mod ShortLemmas
 pub mod SingleLemmas
 pub mod PlaceLemmas
 pub mod ItemLemmas

@@ -9,4 +9,4 @@ returns c =
     let v = c.args.v in
     let long = c.fits-v.0 in
     masked _ (is_mark false) v _ (omega arith) c.fits-v.1
-    (joined bit_or _ _ v (joined bit_or _ _ v (joined bit_or _ _ v (joined least _ _ v (splat_is v 32 127 long) (zip2_splat {Y = ℕ} _ v 32 1 long)) (zip2_splat {Y = ℕ} _ v 32 13 long)) (zip2_splat {Y = ℕ} _ v 32 92 long)) (zip2_splat {Y = ℕ} _ v 32 34 long)) refl
+    (joined bit_or _ _ v (joined bit_or _ _ v (joined bit_or _ _ v (joined least _ _ v (splat_is v 32 _ long) (zip2_splat {Y = ℕ} _ v 32 _ long)) (zip2_splat {Y = ℕ} _ v 32 _ long)) (zip2_splat {Y = ℕ} _ v 32 _ long)) (zip2_splat {Y = ℕ} _ v 32 _ long)) refl
