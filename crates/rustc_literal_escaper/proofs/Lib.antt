@@ -1,11 +1,14 @@
 pub mod DigitLemmas
+pub mod ShortLemmas
 pub mod SingleLemmas
 pub mod PlaceLemmas
 pub mod ItemLemmas
 pub mod ErrorLemmas
 pub mod PlainLemmas
+pub mod LaneLemmas
 pub mod SkipLemmas
 pub mod PlacedLemmas
 pub mod RoundTripLemmas
 pub mod WrittenLemmas
+pub mod SimpleLemmas
 pub mod RebuiltLemmas

@@ -4,7 +4,7 @@ use Rattle.std.specs.Char.{encode_utf8}
 use Rattle.std.specs.List.{list_all, slice_index}
 use Rattle.std.specs.Str.{chars, encode_utf8_all, IsUtf8}
 use Rattle.std.specs.Option.{is_some, option_to_list}
-use Rattle.std.proofs.lemmas.Bool.{eqb-true}
+use Rattle.std.proofs.lemmas.Bool.{and_parts, eqb-true}
 use Rattle.std.proofs.lemmas.List.{append-nil, get_or-append-add, get_or_append_left, length-take, take-append-drop}
 use Rattle.std.proofs.lemmas.Str.{chars-append, chars-nil, encode_ascii, encodes-chars, IsCharBoundary-before_ascii, IsUtf8-take}
 use Rattle.memchr.specs.Find.{is_byte, is_byte3, IsFirstByte}
@@ -14,7 +14,7 @@ use Rattle.rustc_literal_escaper.specs.declared.error.EscapeError.{EscapeError}
 use Rattle.rustc_literal_escaper.specs.declared.mode.Mode.{Mode}
 use Rattle.rustc_literal_escaper.specs.Elements.{Front, Item, front_by, item_at, items_from, place, StartsWithOne}
 use Rattle.rustc_literal_escaper.specs.Errors.{error_of, errors_in, put}
-use Rattle.rustc_literal_escaper.specs.Plain.{is_plain, PassesPlain}
+use Rattle.rustc_literal_escaper.specs.Plain.{is_plain, Passes}
 use Rattle.rustc_literal_escaper.proofs.ItemLemmas.{front_by-shorter, items-cons}
 use Rattle.rustc_literal_escaper.proofs.PlaceLemmas.{item-is}
 use Rattle.rustc_literal_escaper.proofs.PlainLemmas.{front_by-plain}
@@ -24,32 +24,22 @@ pub items-plain : (raw : Bool) (total c : ℕ) (s : List ℕ) → is_plain raw c
 items-plain raw total c s e = items-cons (front_by raw) (front_by-shorter raw) total c s ∙ ap (λ (f : Front). map (item_at total (place total (c ∷ s))) f.told ++ items_from (front_by raw) total f.left) (front_by-plain raw c s e)
 
 -- where nothing is wrong with them, the errors are those of what is left
-module _ (mode : Mode) (fine : (c : ℕ) → error_of mode (Plain c) ≡ None) (raw : Bool) (total : ℕ) where
-  errors-past : (passed left : List ℕ) → list_all (is_plain raw) passed ≡ true → errors_in mode (items_from (front_by raw) total left) ≡ errors_in mode (items_from (front_by raw) total (passed ++ left))
+module _ (mode : Mode) (raw : Bool) (class : ℕ → Bool) (fine : (c : ℕ) → class c ≡ true → (is_plain raw c ≡ true) × (error_of mode (Plain c) ≡ None)) (total : ℕ) where
+  errors-past : (passed left : List ℕ) → list_all class passed ≡ true → errors_in mode (items_from (front_by raw) total left) ≡ errors_in mode (items_from (front_by raw) total (passed ++ left))
   errors-past [] left e = refl
   errors-past (c ∷ cs) left e =
-      let p = parts (is_plain raw c) (list_all (is_plain raw) cs) e in
+      let p = and_parts (class c) (list_all class cs) e in
       errors-past cs left p.1
-      ∙ (ap (λ (o : Option EscapeError). put (item_at total (place total (c ∷ (cs ++ left))) (Plain c, cs ++ left)).0 o (errors_in mode (items_from (front_by raw) total (cs ++ left)))) (sym (fine c))
-      ∙ ap (errors_in mode) (sym (items-plain raw total c (cs ++ left) p.0)))
-    where
-      parts : (a b : Bool) → a && b ≡ true → (a ≡ true) × (b ≡ true)
-      parts true true e = (refl, refl)
-      parts true false e = (refl, e)
-      parts false b e = absurd (true≢false (sym e))
+      ∙ (ap (λ (o : Option EscapeError). put (item_at total (place total (c ∷ (cs ++ left))) (Plain c, cs ++ left)).0 o (errors_in mode (items_from (front_by raw) total (cs ++ left)))) (sym (fine c p.0).1)
+      ∙ ap (errors_in mode) (sym (items-plain raw total c (cs ++ left) (fine c p.0).0)))
 
-  fewer-past : (passed left : List ℕ) → list_all (is_plain raw) passed ≡ true → length (items_from (front_by raw) total left) ≤ length (items_from (front_by raw) total (passed ++ left))
+  fewer-past : (passed left : List ℕ) → list_all class passed ≡ true → length (items_from (front_by raw) total left) ≤ length (items_from (front_by raw) total (passed ++ left))
   fewer-past [] left e = omega arith
   fewer-past (c ∷ cs) left e =
-      let p = and_both (is_plain raw c) (list_all (is_plain raw) cs) e in
+      let p = and_parts (class c) (list_all class cs) e in
       let more = fewer-past cs left p.1 in
-      let here : length (items_from (front_by raw) total (c ∷ (cs ++ left))) ≡ suc (length (items_from (front_by raw) total (cs ++ left))) = ap length (items-plain raw total c (cs ++ left) p.0) in
+      let here : length (items_from (front_by raw) total (c ∷ (cs ++ left))) ≡ suc (length (items_from (front_by raw) total (cs ++ left))) = ap length (items-plain raw total c (cs ++ left) (fine c p.0).0) in
       omega arith
-    where
-      and_both : (a b : Bool) → a && b ≡ true → (a ≡ true) × (b ≡ true)
-      and_both true true e = (refl, refl)
-      and_both true false e = (refl, e)
-      and_both false b e = absurd (true≢false (sym e))
 
   -- behind what waits
   errors-behind : (waiting : Option Item) (xs ys : List Item) → errors_in mode xs ≡ errors_in mode ys → errors_in mode (option_to_list waiting ++ xs) ≡ errors_in mode (option_to_list waiting ++ ys)
@@ -60,11 +50,11 @@ module _ (mode : Mode) (fine : (c : ℕ) → error_of mode (Plain c) ≡ None) (
   fewer-behind None xs ys l = l
   fewer-behind (Some item) xs ys l = omega arith
 
-  pub errors-skip : (waiting : Option Item) (s left : List ℕ) → PassesPlain raw s left → errors_in mode (option_to_list waiting ++ items_from (front_by raw) total left) ≡ errors_in mode (option_to_list waiting ++ items_from (front_by raw) total s)
-  errors-skip waiting s left p = errors-behind waiting (items_from (front_by raw) total left) (items_from (front_by raw) total s) (errors-past p.passed left p.plain ∙ ap (λ (xs : List ℕ). errors_in mode (items_from (front_by raw) total xs)) (sym p.whole))
+  pub errors-skip : (waiting : Option Item) (s left : List ℕ) → Passes class s left → errors_in mode (option_to_list waiting ++ items_from (front_by raw) total left) ≡ errors_in mode (option_to_list waiting ++ items_from (front_by raw) total s)
+  errors-skip waiting s left p = errors-behind waiting (items_from (front_by raw) total left) (items_from (front_by raw) total s) (errors-past p.passed left p.all ∙ ap (λ (xs : List ℕ). errors_in mode (items_from (front_by raw) total xs)) (sym p.whole))
 
-  pub fewer-skip : (waiting : Option Item) (s left : List ℕ) → PassesPlain raw s left → length (option_to_list waiting ++ items_from (front_by raw) total left) ≤ length (option_to_list waiting ++ items_from (front_by raw) total s)
-  fewer-skip waiting s left p = fewer-behind waiting (items_from (front_by raw) total left) (items_from (front_by raw) total s) (subst (λ (xs : List ℕ). length (items_from (front_by raw) total left) ≤ length (items_from (front_by raw) total xs)) (sym p.whole) (fewer-past p.passed left p.plain))
+  pub fewer-skip : (waiting : Option Item) (s left : List ℕ) → Passes class s left → length (option_to_list waiting ++ items_from (front_by raw) total left) ≤ length (option_to_list waiting ++ items_from (front_by raw) total s)
+  fewer-skip waiting s left p = fewer-behind waiting (items_from (front_by raw) total left) (items_from (front_by raw) total s) (subst (λ (xs : List ℕ). length (items_from (front_by raw) total left) ≤ length (items_from (front_by raw) total xs)) (sym p.whole) (fewer-past p.passed left p.all))
 
 -- ---- a search of bytes finds the first character that is not plain
 
@@ -139,23 +129,23 @@ none_of_three c = by_tests (c == 92) (c == 34) (c == 13)
     by_tests false true z = refl
     by_tests false false z = refl
 
-passes : (raw : Bool) (test : ℕ → Bool) → ((c : ℕ) → not (test c) ≡ is_plain raw c) → (s left : List ℕ) → (cs : List ℕ) × (list_all (λ c. not (test c)) cs ≡ true) × (s ≡ cs ++ left) → PassesPlain raw s left
+passes : (raw : Bool) (test : ℕ → Bool) → ((c : ℕ) → not (test c) ≡ is_plain raw c) → (s left : List ℕ) → (cs : List ℕ) × (list_all (λ c. not (test c)) cs ≡ true) × (s ≡ cs ++ left) → Passes (is_plain raw) s left
 passes raw test same s left found = record {
   passed = found.0;
-  plain = sym (list_all-same (λ c. not (test c)) (is_plain raw) same found.0) ∙ found.1;
+  all = sym (list_all-same (λ c. not (test c)) (is_plain raw) same found.0) ∙ found.1;
   whole = found.2;
 }
 
-pub raw_found : (bs : List ℕ) (at : ℕ) → IsUtf8 bs → IsFirstByte (is_byte 13) bs (Some at) → PassesPlain true (chars bs) (chars (drop at bs))
+pub raw_found : (bs : List ℕ) (at : ℕ) → IsUtf8 bs → IsFirstByte (is_byte 13) bs (Some at) → Passes (is_plain true) (chars bs) (chars (drop at bs))
 raw_found bs at is found = passes true (is_byte 13) (λ c. refl) (chars bs) (chars (drop at bs)) (past-found (is_byte 13) byte_small bs at is found)
 
-pub raw_none : (bs : List ℕ) → IsUtf8 bs → IsFirstByte (is_byte 13) bs None → PassesPlain true (chars bs) (chars [])
+pub raw_none : (bs : List ℕ) → IsUtf8 bs → IsFirstByte (is_byte 13) bs None → Passes (is_plain true) (chars bs) (chars [])
 raw_none bs is none = passes true (is_byte 13) (λ c. refl) (chars bs) (chars []) (past-none (is_byte 13) byte_small bs is none)
 
-pub escaped_found : (bs : List ℕ) (at : ℕ) → IsUtf8 bs → IsFirstByte (is_byte3 92 34 13) bs (Some at) → PassesPlain false (chars bs) (chars (drop at bs))
+pub escaped_found : (bs : List ℕ) (at : ℕ) → IsUtf8 bs → IsFirstByte (is_byte3 92 34 13) bs (Some at) → Passes (is_plain false) (chars bs) (chars (drop at bs))
 escaped_found bs at is found = passes false (is_byte3 92 34 13) none_of_three (chars bs) (chars (drop at bs)) (past-found (is_byte3 92 34 13) byte3_small bs at is found)
 
-pub escaped_none : (bs : List ℕ) → IsUtf8 bs → IsFirstByte (is_byte3 92 34 13) bs None → PassesPlain false (chars bs) (chars [])
+pub escaped_none : (bs : List ℕ) → IsUtf8 bs → IsFirstByte (is_byte3 92 34 13) bs None → Passes (is_plain false) (chars bs) (chars [])
 escaped_none bs is none = passes false (is_byte3 92 34 13) none_of_three (chars bs) (chars []) (past-none (is_byte3 92 34 13) byte3_small bs is none)
 
 -- an element that stands alone at the front is the first item
@@ -185,3 +175,7 @@ behind (Some waits) s t item none e = absurd (true≢false (sym none))
 pub first-plain : (raw : Bool) (total : ℕ) (rest left : List ℕ) (c : ℕ) → IsUtf8 rest → IsUtf8 left → chars rest ≡ c ∷ chars left → is_plain raw c ≡ true
     → items_from (front_by raw) total (chars rest) ≡ (record { start = total - length rest; end = total - length left }, Plain c) ∷ items_from (front_by raw) total (chars left)
 first-plain raw total rest left c is ends e plain = first-item raw total rest left (Plain c) is ends (subst (λ (s : List ℕ). StartsWithOne raw s (Plain c) (chars left)) (sym e) (front_by-plain raw c (chars left) plain))
+
+-- nothing is wrong with a plain character, where no plain one is wrong
+pub plain-fine : (mode : Mode) (raw : Bool) → ((c : ℕ) → error_of mode (Plain c) ≡ None) → (c : ℕ) → is_plain raw c ≡ true → (is_plain raw c ≡ true) × (error_of mode (Plain c) ≡ None)
+plain-fine mode raw fine c e = (e, fine c)

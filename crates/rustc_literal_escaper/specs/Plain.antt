@@ -1,5 +1,5 @@
 -- Texts in which nothing is escaped and nothing is wrong.
-use Rattle.std.specs.Prelude.{◌≡◌, ℕ, ◌==◌, ◌&&◌, not, Bool, true, false, List, ◌++◌, map}
+use Rattle.std.specs.Prelude.{◌≡◌, ℕ, ◌==◌, ◌&&◌, nat_lt, not, Bool, true, false, List, ◌++◌, map}
 use Rattle.std.specs.List.{list_all}
 use Rattle.std.specs.Str.{byte, chars}
 use Rattle.rustc_literal_escaper.specs.declared.element.Element.{Element}
@@ -18,8 +18,15 @@ elements_in items = map (λ item. item.1) items
 abbrev pub StandsForItself : Bool → List ℕ → Type 0
 StandsForItself raw text = list_all (is_plain raw) (chars text) ≡ true → elements_in (items_of raw text) ≡ map Plain (chars text)
 
--- plain characters are in front of what is left
-pub record PassesPlain (raw : Bool) (s left : List ℕ) : Type 0 where
+-- a plain character of ASCII that is not U+0000: nothing is wrong with it in any kind of string
+abbrev pub is_simple : Bool → ℕ → Bool
+is_simple raw c = nat_lt c 128 && (not (c == 0) && is_plain raw c)
+
+abbrev pub is_mark : Bool → ℕ → Bool
+is_mark raw c = not (is_simple raw c)
+
+-- characters of one class are in front of what is left
+pub record Passes (class : ℕ → Bool) (s left : List ℕ) : Type 0 where
   pub passed : List ℕ
-  pub plain : list_all (is_plain raw) passed ≡ true
+  pub all : list_all class passed ≡ true
   pub whole : s ≡ passed ++ left

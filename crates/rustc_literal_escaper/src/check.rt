@@ -95,6 +95,7 @@ fn check_elements<F: FnMut(Range<usize>, EscapeError)>(
         callback (spec.errors_in mode elements.entry) last }
 {
     'items: loop {
+        elements.skip_simple();
         if let Some((range, c)) = elements.next_plain() {
             if let Some(error) = error_of(mode, Element::Plain(c)) {
                 callback(range, error);

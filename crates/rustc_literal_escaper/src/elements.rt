@@ -10,6 +10,7 @@ ghost use Rattle.rustc_literal_escaper.specs.Rebuilt.{IsRebuilt};
 use crate::element::Element;
 use crate::mode::Mode;
 use crate::scan::past_plain;
+use crate::simple::past_simple;
 use crate::steps::{Told, advance, first_item, first_plain};
 use std::iter::Iterator;
 use std::marker::Model;
@@ -98,6 +99,15 @@ impl<'a> Elements<'a> {
         let (item, left) = first_plain(self.rest, self.total, self.raw)?;
         self.rest = left;
         Some(item)
+    }
+
+    /// Passes over the simple characters in front. Nothing is wrong with any of them in any kind of string.
+    #[inline(always)]
+    pub(crate) fn skip_simple(&mut self)
+        ensures same { (mode : Mode) → errors_in mode self.new ≡ errors_in mode self.old }
+        ensures fewer { length self.new ≤ length self.old }
+    {
+        self.rest = past_simple(self.rest, self.raw);
     }
 
     /// Passes over the plain characters in front, where nothing is wrong with any of them in this mode.

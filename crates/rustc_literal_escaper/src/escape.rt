@@ -5,6 +5,7 @@ ghost use Rattle.rustc_literal_escaper.specs.Escape as spec;
 ghost use Rattle.rustc_literal_escaper.specs.Escape.{closed_at_run};
 
 use crate::element::Element;
+use crate::element::Element::{Byte, Fault};
 use crate::error::EscapeError;
 use crate::scan::split_first;
 
@@ -28,19 +29,149 @@ pub(crate) fn escape(rest: &str) -> (Element, &str)
     }
 }
 
+/// What a backslash and a character stand for that begin no escape.
+const NONE: Element = Fault(EscapeError::InvalidEscape);
+
+/// What a backslash and each character of ASCII stand for, but for `x` and `u`. A look in a table costs less than a
+/// choice: which escape comes next is hard to foresee.
+static SHORT: [Element; 128] = [
+    NONE,
+    NONE,
+    NONE,
+    NONE,
+    NONE,
+    NONE,
+    NONE,
+    NONE,
+    NONE,
+    NONE,
+    NONE,
+    NONE,
+    NONE,
+    NONE,
+    NONE,
+    NONE,
+    NONE,
+    NONE,
+    NONE,
+    NONE,
+    NONE,
+    NONE,
+    NONE,
+    NONE,
+    NONE,
+    NONE,
+    NONE,
+    NONE,
+    NONE,
+    NONE,
+    NONE,
+    NONE,
+    NONE,
+    NONE,
+    Byte(b'"'), // "
+    NONE,
+    NONE,
+    NONE,
+    NONE,
+    Byte(b'\''), // '
+    NONE,
+    NONE,
+    NONE,
+    NONE,
+    NONE,
+    NONE,
+    NONE,
+    NONE,
+    Byte(0), // 0
+    NONE,
+    NONE,
+    NONE,
+    NONE,
+    NONE,
+    NONE,
+    NONE,
+    NONE,
+    NONE,
+    NONE,
+    NONE,
+    NONE,
+    NONE,
+    NONE,
+    NONE,
+    NONE,
+    NONE,
+    NONE,
+    NONE,
+    NONE,
+    NONE,
+    NONE,
+    NONE,
+    NONE,
+    NONE,
+    NONE,
+    NONE,
+    NONE,
+    NONE,
+    NONE,
+    NONE,
+    NONE,
+    NONE,
+    NONE,
+    NONE,
+    NONE,
+    NONE,
+    NONE,
+    NONE,
+    NONE,
+    NONE,
+    NONE,
+    NONE,
+    Byte(b'\\'), // \
+    NONE,
+    NONE,
+    NONE,
+    NONE,
+    NONE,
+    NONE,
+    NONE,
+    NONE,
+    NONE,
+    NONE,
+    NONE,
+    NONE,
+    NONE,
+    NONE,
+    NONE,
+    NONE,
+    NONE,
+    Byte(b'\n'), // n
+    NONE,
+    NONE,
+    NONE,
+    Byte(b'\r'), // r
+    NONE,
+    Byte(b'\t'), // t
+    NONE,
+    NONE,
+    NONE,
+    NONE,
+    NONE,
+    NONE,
+    NONE,
+    NONE,
+    NONE,
+    NONE,
+    NONE,
+];
+
 /// The byte that a backslash and this character stand for.
 #[inline(always)]
 fn short(c: char) -> Element
     ensures { result ≡ spec.short c }
 {
-    match c {
-        '0' => Element::Byte(0),
-        't' => Element::Byte(b'\t'),
-        'n' => Element::Byte(b'\n'),
-        'r' => Element::Byte(b'\r'),
-        '"' | '\'' | '\\' => Element::Byte(c as u8),
-        _ => Element::Fault(EscapeError::InvalidEscape),
-    }
+    let code = c as usize;
+    if code < 128 { SHORT[code] } else { NONE }
 }
 
 /// The byte of two digits. `rest` follows the `x`.

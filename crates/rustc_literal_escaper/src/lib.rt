@@ -12,6 +12,7 @@ mod error;
 mod escape;
 mod mode;
 mod scan;
+mod simple;
 mod single;
 mod steps;
 mod strings;

@@ -1,7 +1,7 @@
 //! Characters at the front of a text.
 ghost use Rattle.std.specs.Prelude.{◌≡◌, ◌<◌, ◌≤◌, true, false, ◌∷◌, [], length, MatchOption};
 ghost use Rattle.std.specs.Str.{chars, IsUtf8};
-ghost use Rattle.rustc_literal_escaper.specs.Plain.{PassesPlain};
+ghost use Rattle.rustc_literal_escaper.specs.Plain.{is_plain, Passes};
 
 use memchr::{memchr, memchr3};
 
@@ -19,7 +19,7 @@ pub(crate) fn split_first(rest: &str) -> Option<(char, &str)>
 
 /// What is left past the plain characters in front.
 pub(crate) fn past_plain(rest: &str, raw: bool) -> &str
-    ensures passes { PassesPlain raw (chars rest.now) (chars result.now) }
+    ensures passes { Passes (is_plain raw) (chars rest.now) (chars result.now) }
     ensures text { IsUtf8 result.now }
     ensures shorter { length result.now ≤ length rest.now }
 {
@@ -32,7 +32,7 @@ pub(crate) fn past_plain(rest: &str, raw: bool) -> &str
 
 /// What is left of a raw string past its plain characters in front: from the first carriage return on.
 fn past_plain_raw(rest: &str) -> &str
-    ensures passes { PassesPlain true (chars rest.now) (chars result.now) }
+    ensures passes { Passes (is_plain true) (chars rest.now) (chars result.now) }
     ensures text { IsUtf8 result.now }
     ensures shorter { length result.now ≤ length rest.now }
 {
@@ -44,7 +44,7 @@ fn past_plain_raw(rest: &str) -> &str
 
 /// What is left past them of a string that may have escapes: from the first character that is not plain on.
 fn past_plain_escaped(rest: &str) -> &str
-    ensures passes { PassesPlain false (chars rest.now) (chars result.now) }
+    ensures passes { Passes (is_plain false) (chars rest.now) (chars result.now) }
     ensures text { IsUtf8 result.now }
     ensures shorter { length result.now ≤ length rest.now }
 {

@@ -1,0 +1,59 @@
+-- Simple characters, passed over.
+use Rattle.std.proofs.Common.{◌≡◌, ℕ, ◌≤◌, ◌==◌, ◌&&◌, nat_lt, not, Bool, true, List, [], ◌∷◌, ◌++◌, length, take, drop, None, refl, sym, ap, ap₂, ◌∙◌}
+use Rattle.std.specs.Char.{is_ascii}
+use Rattle.std.specs.List.{list_all, prefix_len}
+use Rattle.std.specs.Str.{chars, IsAscii, IsCharBoundary, IsUtf8}
+use Rattle.std.proofs.lemmas.Bool.{and_parts, not-true}
+use Rattle.std.proofs.lemmas.List.{take-append-drop}
+use Rattle.std.proofs.lemmas.Str.{chars-append, chars-IsAscii, IsCharBoundary-from_take, IsUtf8-from_ascii}
+use Rattle.rustc_literal_escaper.specs.declared.element.Element.TheVariants.{Plain}
+use Rattle.rustc_literal_escaper.specs.declared.mode.Mode.{Mode}
+use Rattle.rustc_literal_escaper.specs.declared.mode.Mode.TheVariants.{Char, Byte, Str, RawStr, ByteStr, RawByteStr, CStr, RawCStr}
+use Rattle.rustc_literal_escaper.specs.Errors.{error_of}
+use Rattle.rustc_literal_escaper.specs.Plain.{is_plain, is_simple, Passes}
+use Rattle.rustc_literal_escaper.proofs.LaneLemmas.{run_front}
+use Rattle.rustc_literal_escaper.proofs.WrittenLemmas.{is-ascii}
+
+-- nothing is wrong with a simple character
+pub simple-fine : (mode : Mode) (raw : Bool) (c : ℕ) → is_simple raw c ≡ true → (is_plain raw c ≡ true) × (error_of mode (Plain c) ≡ None)
+simple-fine mode raw c e = (q.1, by_mode mode)
+  where
+    p : (nat_lt c 128 ≡ true) × ((not (c == 0) && is_plain raw c) ≡ true)
+    p = and_parts (nat_lt c 128) (not (c == 0) && is_plain raw c) e
+
+    q : (not (c == 0) ≡ true) × (is_plain raw c ≡ true)
+    q = and_parts (not (c == 0)) (is_plain raw c) p.1
+
+    by_mode : (mode : Mode) → error_of mode (Plain c) ≡ None
+    by_mode Char = refl
+    by_mode Str = refl
+    by_mode RawStr = refl
+    by_mode Byte = rw p.0 refl
+    by_mode ByteStr = rw p.0 refl
+    by_mode RawByteStr = rw p.0 refl
+    by_mode CStr = rw (not-true (c == 0) q.0) refl
+    by_mode RawCStr = rw (not-true (c == 0) q.0) refl
+
+-- simple characters are bytes, and what follows them begins with a character
+simple-all-ascii : (raw : Bool) (bs : List ℕ) → list_all (is_simple raw) bs ≡ true → list_all is_ascii bs ≡ true
+simple-all-ascii raw [] e = refl
+simple-all-ascii raw (b ∷ bs) e =
+    let p = and_parts (is_simple raw b) (list_all (is_simple raw) bs) e in
+    ap₂ (λ x y. x && y) (and_parts (nat_lt b 128) (not (b == 0) && is_plain raw b) p.0).0 (simple-all-ascii raw bs p.1)
+
+simple-ascii : (raw : Bool) (bs : List ℕ) → list_all (is_simple raw) bs ≡ true → IsAscii bs
+simple-ascii raw bs e = is-ascii bs (simple-all-ascii raw bs e)
+
+chars-simple : (raw : Bool) (run left : List ℕ) → list_all (is_simple raw) run ≡ true → chars (run ++ left) ≡ run ++ chars left
+chars-simple raw run left e =
+    let ascii = simple-ascii raw run e in
+    chars-append run left (IsUtf8-from_ascii run ascii) ∙ ap (λ (xs : List ℕ). xs ++ chars left) (chars-IsAscii run ascii)
+
+pub passes-simple : (raw : Bool) (bs : List ℕ) (n : ℕ) → n ≤ prefix_len (is_simple raw) bs → Passes (is_simple raw) (chars bs) (chars (drop n bs))
+passes-simple raw bs n run =
+    let all = run_front (is_simple raw) bs n run in
+    record { passed = take n bs; all = all; whole = ap chars (sym (take-append-drop n bs)) ∙ chars-simple raw (take n bs) (drop n bs) all }
+
+-- so a text may be cut there
+pub cut-simple : (raw : Bool) (bs : List ℕ) (n : ℕ) → IsUtf8 bs → n ≤ length bs → n ≤ prefix_len (is_simple raw) bs → IsCharBoundary bs n
+cut-simple raw bs n is within run = IsCharBoundary-from_take bs n is within (IsUtf8-from_ascii (take n bs) (simple-ascii raw (take n bs) (run_front (is_simple raw) bs n run)))

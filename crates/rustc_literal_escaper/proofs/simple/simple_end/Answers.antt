@@ -1,0 +1,15 @@
+use Rattle.std.proofs.Common.{sym, ap, ◌∙◌, arith}
+use lib.Count.{count_trailing_zeros}
+use Rattle.rustc_literal_escaper.specs.Plain.{is_simple}
+use Rattle.rustc_literal_escaper.proofs.LaneLemmas.{run_bound, run_stops}
+use Rattle.rustc_literal_escaper.proofs.simple.simple_end.Goals as goal
+
+pub returns-clause-simple : goal.returns-clause-simple
+returns-clause-simple c =
+    let run = run_stops (is_simple c.args.raw) c.args.bytes.now 0 32 (omega arith) (omega arith) (omega (arith, c.marks-found.ensures)) ∙ ap (count_trailing_zeros 64) (sym c.marks-found.ensures) in
+    omega (arith, run)
+
+pub returns-clause-bound : goal.returns-clause-bound
+returns-clause-bound c =
+    let run = run_stops (is_simple c.args.raw) c.args.bytes.now 0 32 (omega arith) (omega arith) (omega (arith, c.marks-found.ensures)) ∙ ap (count_trailing_zeros 64) (sym c.marks-found.ensures) in
+    omega (arith, run, run_bound (is_simple c.args.raw) c.args.bytes.now 0 (omega arith))

@@ -1,0 +1,83 @@
+//! Simple characters at the front of a text, which are wrong in no kind of string: 32 bytes at a time.
+ghost use Rattle.std.specs.Prelude.{◌≡◌, ◌≤◌, true, false, length, map};
+ghost use Rattle.std.specs.List.{prefix_len};
+ghost use Rattle.std.specs.Simd.Lanes.{mask_l};
+ghost use Rattle.std.specs.Str.{chars, IsUtf8};
+ghost use Rattle.rustc_literal_escaper.specs.Plain as spec;
+
+use std::simd::prelude::*;
+
+/// What is left past simple characters in front.
+#[inline(always)]
+pub(crate) fn past_simple(rest: &str, raw: bool) -> &str
+    ensures passes { spec.Passes (spec.is_simple raw) (chars rest.now) (chars result.now) }
+    ensures text { IsUtf8 result.now }
+    ensures shorter { length result.now ≤ length rest.now }
+{
+    let end = simple_end(rest.as_bytes(), raw);
+    &rest[end..]
+}
+
+/// A number of simple bytes at the front. It is 0 where fewer than 32 bytes are left.
+///
+/// Mostly one look at 32 bytes tells where they end: that is not foreseen, and so no branch goes by it.
+#[inline(always)]
+fn simple_end(bytes: &[u8], raw: bool) -> usize
+    ensures simple { result ≤ prefix_len (spec.is_simple raw) bytes.now }
+    ensures bound { result ≤ length bytes.now }
+{
+    if bytes.len() < 32 || bytes[0] >= 128 {
+        return 0;
+    }
+    let found = marks(u8x32::from_slice(bytes), raw);
+    if found == 0 {
+        return simple_end_by_lanes(bytes, raw);
+    }
+    found.trailing_zeros() as usize
+}
+
+/// A number of simple bytes at the front, 32 bytes after another.
+#[inline(never)]
+fn simple_end_by_lanes(bytes: &[u8], raw: bool) -> usize
+    ensures simple { result ≤ prefix_len (spec.is_simple raw) bytes.now }
+    ensures bound { result ≤ length bytes.now }
+{
+    let mut end = 0;
+    'lanes: while bytes.len() - end >= 32 {
+        let found = marks(u8x32::from_slice(&bytes[end..]), raw);
+        if found != 0 {
+            return end + found.trailing_zeros() as usize;
+        }
+        end += 32;
+    }
+    end
+}
+
+/// Bit k is set where lane k is not simple.
+#[inline(always)]
+fn marks(v: u8x32, raw: bool) -> u64
+    ensures { result ≡ mask_l (map (spec.is_mark raw) v) }
+{
+    if raw { raw_marks(v) } else { escaped_marks(v) }
+}
+
+/// The same in a raw string: U+0000, a carriage return and what is not in ASCII.
+#[inline(always)]
+fn raw_marks(v: u8x32) -> u64
+    ensures { result ≡ mask_l (map (spec.is_mark true) v) }
+{
+    let from_1 = v - u8x32::splat(1);
+    (from_1.simd_ge(u8x32::splat(127)) | v.simd_eq(u8x32::splat(b'\r'))).to_bitmask()
+}
+
+/// The same in a string that may have escapes: these, a backslash and a double quote.
+#[inline(always)]
+fn escaped_marks(v: u8x32) -> u64
+    ensures { result ≡ mask_l (map (spec.is_mark false) v) }
+{
+    let from_1 = v - u8x32::splat(1);
+    (from_1.simd_ge(u8x32::splat(127))
+        | v.simd_eq(u8x32::splat(b'\r'))
+        | v.simd_eq(u8x32::splat(b'\\'))
+        | v.simd_eq(u8x32::splat(b'"'))).to_bitmask()
+}
