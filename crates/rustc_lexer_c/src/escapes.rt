@@ -1,16 +1,17 @@
 //! What a literal stands for, and what is wrong in it.
-ghost use Rattle.std.specs.Prelude.{◌≡◌, ◌≢◌, ◌∷◌, [], None, map};
+ghost use Rattle.std.specs.Prelude.{◌≡◌, ◌≢◌, None};
+ghost use Rattle.std.specs.Option.{option_to_list};
 ghost use Rattle.std.specs.Result.{result_err};
 ghost use Rattle.std.specs.Str.{IsUtf8};
 ghost use Rattle.rustc_lexer.specs.Locality.{IsText};
-ghost use Rattle.rustc_literal_escaper.specs.Elements.{items_of};
+ghost use Rattle.rustc_literal_escaper.specs.Elements.{items_of, TakesFirst};
 ghost use Rattle.rustc_literal_escaper.specs.Errors as errors;
 ghost use Rattle.rustc_literal_escaper.specs.Meaning.{unit_of};
 ghost use Rattle.rustc_lexer_c.specs.Escapes as spec;
 
 use crate::status::{Refusal, text_of, utf8_text_of};
 use rustc_literal_escaper::{
-    Element, Elements, EscapeError, Mode, NonZeroChar, unescape_byte, unescape_char,
+    Element, Elements, EscapeError, Mode, NonZeroChar, single_error, unescape_byte, unescape_char,
 };
 use std::ops::Range;
 
@@ -45,7 +46,7 @@ pub extern "C" fn rustc_lexer_unescape(
     ensures refused { result ≢ 0 → spec.AreNone room.old room.new count.new }
 {
     match text_of(text) {
-        Ok(text) => unescape(text, mode, passed, room, count),
+        Ok(text) => write(Asked::Units, text, mode, passed, room, count),
         Err(refusal) => {
             *count = 0;
             refusal.number()
@@ -69,7 +70,7 @@ pub extern "C" fn rustc_lexer_unescape_unchecked(
     ensures refused { result ≢ 0 → spec.AreNone room.old room.new count.new }
 {
     match utf8_text_of(text) {
-        Ok(text) => unescape(text, mode, passed, room, count),
+        Ok(text) => write(Asked::Units, text, mode, passed, room, count),
         Err(refusal) => {
             *count = 0;
             refusal.number()
@@ -77,12 +78,78 @@ pub extern "C" fn rustc_lexer_unescape_unchecked(
     }
 }
 
-/// Writes units of a text.
-fn unescape(text: &str, mode: u32, passed: usize, room: &mut [CUnit], count: &mut usize) -> u32
+/// Writes what is wrong in a literal, of which `text` stands between the quotes, as `rustc_lexer_unescape` writes its
+/// units. What is not wrong is passed over.
+///
+/// Between single quotes one thing is wrong at most, and its place reaches from 0 past the character that shows it.
+#[unsafe(no_mangle)]
+pub extern "C" fn rustc_lexer_literal_errors(
+    text: &[u8],
+    mode: u32,
+    passed: usize,
+    room: &mut [CUnit],
+    count: &mut usize,
+) -> u32
+    ensures status { spec.IsModeStatus text.now (spec.mode_of mode) result }
+    ensures errors { result ≡ 0
+        → spec.AreWrittenErrors (spec.mode_of mode) text.now passed room.old room.new count.new }
+    ensures refused { result ≢ 0 → spec.AreNone room.old room.new count.new }
+{
+    match text_of(text) {
+        Ok(text) => write(Asked::Errors, text, mode, passed, room, count),
+        Err(refusal) => {
+            *count = 0;
+            refusal.number()
+        }
+    }
+}
+
+/// Writes what is wrong in a text that `rustc_lexer_check` found to be UTF-8, which is not tested again.
+#[unsafe(no_mangle)]
+pub extern "C" fn rustc_lexer_literal_errors_unchecked(
+    text: &[u8],
+    mode: u32,
+    passed: usize,
+    room: &mut [CUnit],
+    count: &mut usize,
+) -> u32
+    requires utf8 { IsUtf8 text.now }
+    ensures status { spec.IsModeStatus text.now (spec.mode_of mode) result }
+    ensures errors { result ≡ 0
+        → spec.AreWrittenErrors (spec.mode_of mode) text.now passed room.old room.new count.new }
+    ensures refused { result ≢ 0 → spec.AreNone room.old room.new count.new }
+{
+    match utf8_text_of(text) {
+        Ok(text) => write(Asked::Errors, text, mode, passed, room, count),
+        Err(refusal) => {
+            *count = 0;
+            refusal.number()
+        }
+    }
+}
+
+/// What a call asks of a literal.
+#[derive(Clone, Copy)]
+pub(crate) enum Asked {
+    /// All that it stands for, and what is wrong.
+    Units,
+    /// What is wrong, and nothing else.
+    Errors,
+}
+
+/// Writes what is asked of a text.
+fn write(
+    asked: Asked,
+    text: &str,
+    mode: u32,
+    passed: usize,
+    room: &mut [CUnit],
+    count: &mut usize,
+) -> u32
     requires text { IsText text.now }
     ensures status { spec.IsModeStatus text.now (spec.mode_of mode) result }
-    ensures units { result ≡ 0
-        → spec.AreWritten (spec.mode_of mode) text.now passed room.old room.new count.new }
+    ensures written { result ≡ 0
+        → spec.AreTold asked (spec.mode_of mode) text.now passed room.old room.new count.new }
     ensures refused { result ≢ 0 → spec.AreNone room.old room.new count.new }
 {
     match mode_of(mode) {
@@ -91,7 +158,7 @@ fn unescape(text: &str, mode: u32, passed: usize, room: &mut [CUnit], count: &mu
             Refusal::BadMode.number()
         }
         Some(mode) => {
-            *count = fill(text, mode, passed, room);
+            *count = fill(asked, text, mode, passed, room);
             0
         }
     }
@@ -114,14 +181,14 @@ fn mode_of(number: u32) -> Option<Mode>
     }
 }
 
-/// Writes units in a mode, and answers their number.
-fn fill(text: &str, mode: Mode, passed: usize, room: &mut [CUnit]) -> usize
-    ensures { spec.IsUnits (spec.units_of mode text.now) passed room.old room.new result }
+/// Writes what is asked in a mode, and answers how many units that are.
+fn fill(asked: Asked, text: &str, mode: Mode, passed: usize, room: &mut [CUnit]) -> usize
+    ensures { spec.IsUnits (spec.told_of asked mode text.now) passed room.old room.new result }
 {
     if is_single(mode) {
-        fill_one(single_unit(text, mode), passed, room)
+        fill_one(single_told(asked, text, mode), passed, room)
     } else {
-        fill_all(elements_of(text, mode), mode, passed, room)
+        fill_all(asked, elements_of(text, mode), mode, passed, room)
     }
 }
 
@@ -132,18 +199,31 @@ fn is_single(mode: Mode) -> bool
     matches!(mode, Mode::Char | Mode::Byte)
 }
 
-/// Writes the one unit, if it is not passed over, and there is room.
-fn fill_one(unit: CUnit, passed: usize, room: &mut [CUnit]) -> usize
-    ensures { spec.IsUnits (unit ∷ []) passed room.old room.new result }
+/// Writes the one unit, if there is one, it is not passed over, and there is room.
+fn fill_one(unit: Option<CUnit>, passed: usize, room: &mut [CUnit]) -> usize
+    ensures { spec.IsUnits (option_to_list unit) passed room.old room.new result }
 {
-    if passed > 0 {
+    let Some(unit) = unit else {
         return 0;
-    }
-    if room.is_empty() {
+    };
+    if passed > 0 || room.is_empty() {
         return 0;
     }
     room[0] = unit;
     1
+}
+
+/// What is asked of the text between single quotes, one unit at most.
+fn single_told(asked: Asked, text: &str, mode: Mode) -> Option<CUnit>
+    ensures { option_to_list result ≡ spec.single_told asked mode text.now }
+{
+    match asked {
+        Asked::Units => Some(single_unit(text, mode)),
+        Asked::Errors => {
+            let (place, error) = single_error(text, mode)?;
+            Some(wrong_unit(place, error))
+        }
+    }
 }
 
 /// The unit between single quotes.
@@ -166,27 +246,50 @@ fn elements_of(text: &str, mode: Mode) -> Elements<'_>
     }
 }
 
-/// Writes the units of elements.
-fn fill_all(mut elements: Elements<'_>, mode: Mode, passed: usize, room: &mut [CUnit]) -> usize
-    ensures { spec.IsUnits (map (spec.item_unit mode) elements.entry) passed
-        room.old room.new result }
+/// Writes what is asked of elements.
+fn fill_all(
+    asked: Asked,
+    mut elements: Elements<'_>,
+    mode: Mode,
+    passed: usize,
+    room: &mut [CUnit],
+) -> usize
+    ensures { spec.IsUnits (spec.told_in asked mode elements.entry) passed room.old room.new result }
 {
     let mut over = 0;
     'passed: while over < passed {
-        if elements.next().is_none() {
+        if next_unit(asked, &mut elements, mode).is_none() {
             return 0;
         }
         over += 1;
     }
     let mut count = 0;
     'room: while count < room.len() {
-        let Some((place, element)) = elements.next() else {
+        let Some(unit) = next_unit(asked, &mut elements, mode) else {
             break;
         };
-        room[count] = item_unit(mode, place, element);
+        room[count] = unit;
         count += 1;
     }
     count
+}
+
+/// The next unit of what is asked of elements.
+#[inline(always)]
+fn next_unit(asked: Asked, elements: &mut Elements<'_>, mode: Mode) -> Option<CUnit>
+    ensures { TakesFirst (spec.told_in asked mode elements.old) result
+        (spec.told_in asked mode elements.new) }
+{
+    match asked {
+        Asked::Units => {
+            let (place, element) = elements.next()?;
+            Some(item_unit(mode, place, element))
+        }
+        Asked::Errors => {
+            let (place, error) = elements.next_fault(mode)?;
+            Some(wrong_unit(place, error))
+        }
+    }
 }
 
 /// What an element stands for between double quotes, as numbers.

@@ -5,7 +5,6 @@ ghost use Rattle.std.specs.Option.{option_to_list};
 ghost use Rattle.std.specs.Str.{chars};
 ghost use Rattle.rustc_literal_escaper.specs.Errors as spec;
 
-use crate::element::Element;
 use crate::elements::{Elements, elements_of};
 use crate::error::EscapeError;
 use crate::mode::Mode;
@@ -37,9 +36,17 @@ pub fn check_for_errors<F: FnMut(Range<usize>, EscapeError)>(
     }
 }
 
+/// Whether such a literal stands between single quotes.
+#[inline(always)]
+pub(crate) fn is_single(mode: Mode) -> bool
+    ensures { result ≡ spec.is_single mode }
+{
+    matches!(mode, Mode::Char | Mode::Byte)
+}
+
 /// Whether nothing is an escape in such a literal.
 #[inline(always)]
-fn is_raw(mode: Mode) -> bool
+pub(crate) fn is_raw(mode: Mode) -> bool
     ensures { result ≡ spec.is_raw mode }
 {
     matches!(mode, Mode::RawStr | Mode::RawByteStr | Mode::RawCStr)
@@ -56,14 +63,16 @@ fn check_single<F: FnMut(Range<usize>, EscapeError)>(src: &str, mode: Mode, mut 
     }
 }
 
-/// What is wrong between single quotes, and its place.
-fn single_error(src: &str, mode: Mode) -> Option<(Range<usize>, EscapeError)>
+/// What is wrong between single quotes, and its place in bytes, if anything is.
+///
+/// `src` is what stands between the quotes. The place reaches from 0 past the character that shows what is wrong.
+pub(crate) fn single_error(src: &str, mode: Mode) -> Option<(Range<usize>, EscapeError)>
     ensures { result ≡ spec.single_error (length src.now) mode (chars src.now) }
 {
     let Some((element, left)) = single(src) else {
         return Some((0..0, EscapeError::ZeroChars));
     };
-    if let Some(error) = error_of(mode, element) {
+    if let Some(error) = element.error_in(mode) {
         return Some((0..src.len() - left.len(), error));
     }
     let (_, more) = split_first(left)?;
@@ -94,34 +103,7 @@ fn check_elements<F: FnMut(Range<usize>, EscapeError)>(
     ensures calls { (last : F) × FoldsTo (λ f error g. F.step f error.0 error.1 tt g)
         callback (spec.errors_in mode elements.entry) last }
 {
-    'items: loop {
-        elements.skip_simple();
-        if let Some((range, c)) = elements.next_plain() {
-            if let Some(error) = error_of(mode, Element::Plain(c)) {
-                callback(range, error);
-            } else {
-                elements.skip_plain(mode);
-            }
-            continue;
-        }
-        let Some((range, element)) = elements.next() else {
-            break;
-        };
-        if let Some(error) = error_of(mode, element) {
-            callback(range, error);
-        }
-    }
-}
-
-/// What is wrong with the element, in a literal of this kind.
-#[inline(always)]
-fn error_of(mode: Mode, element: Element) -> Option<EscapeError>
-    ensures { result ≡ spec.error_of mode element }
-{
-    match mode {
-        Mode::Char | Mode::Str | Mode::RawStr => element.to_char().err(),
-        Mode::Byte | Mode::ByteStr | Mode::RawByteStr => element.to_byte().err(),
-        Mode::CStr => element.to_mixed_unit().err(),
-        Mode::RawCStr => element.to_raw_unit().err(),
+    'items: while let Some((range, error)) = elements.next_fault(mode) {
+        callback(range, error);
     }
 }

@@ -1,8 +1,10 @@
 //! What is written at one place of a literal.
 ghost use Rattle.std.specs.Prelude.{◌≡◌};
+ghost use Rattle.rustc_literal_escaper.specs.Errors.{error_of};
 ghost use Rattle.rustc_literal_escaper.specs.Meaning.{char_of, byte_of, unit_of, raw_unit_of, scalar_of};
 
 use crate::error::EscapeError;
+use crate::mode::Mode;
 use crate::unit::{MixedUnit, NonZeroChar};
 
 /// What is written at one place of a literal, before the literal's kind says what it stands for.
@@ -64,6 +66,19 @@ impl Element {
         ensures { result ≡ raw_unit_of self }
     {
         NonZeroChar::new(self.to_char()?).ok_or(EscapeError::NulInCStr)
+    }
+
+    /// What is wrong with it in a literal of this kind.
+    #[inline(always)]
+    pub fn error_in(self, mode: Mode) -> Option<EscapeError>
+        ensures { result ≡ error_of mode self }
+    {
+        match mode {
+            Mode::Char | Mode::Str | Mode::RawStr => self.to_char().err(),
+            Mode::Byte | Mode::ByteStr | Mode::RawByteStr => self.to_byte().err(),
+            Mode::CStr => self.to_mixed_unit().err(),
+            Mode::RawCStr => self.to_raw_unit().err(),
+        }
     }
 }
 

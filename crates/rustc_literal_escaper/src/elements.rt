@@ -8,6 +8,7 @@ ghost use Rattle.rustc_literal_escaper.specs.Plain.{StandsForItself};
 ghost use Rattle.rustc_literal_escaper.specs.Rebuilt.{IsRebuilt};
 
 use crate::element::Element;
+use crate::error::EscapeError;
 use crate::mode::Mode;
 use crate::scan::past_plain;
 use crate::simple::past_simple;
@@ -82,6 +83,29 @@ impl<'a> Elements<'a> {
             total: src.len(),
             raw: true,
             waiting: None,
+        }
+    }
+
+    /// The next thing that is wrong in a literal of this kind, and its place; the elements before it are passed over.
+    ///
+    /// It is `None` where nothing is wrong any more. Warnings come too.
+    #[inline(always)]
+    pub(crate) fn next_fault(&mut self, mode: Mode) -> Option<(Range<usize>, EscapeError)>
+        ensures { TakesFirst (errors_in mode self.old) result (errors_in mode self.new) }
+    {
+        'elements: loop {
+            self.skip_simple();
+            if let Some((range, c)) = self.next_plain() {
+                if let Some(error) = Element::Plain(c).error_in(mode) {
+                    return Some((range, error));
+                }
+                self.skip_plain(mode);
+                continue;
+            }
+            let (range, element) = self.next()?;
+            if let Some(error) = element.error_in(mode) {
+                return Some((range, error));
+            }
         }
     }
 

@@ -10,6 +10,7 @@ mod element;
 mod elements;
 mod error;
 mod escape;
+mod faults;
 mod mode;
 mod scan;
 mod simple;
@@ -23,6 +24,7 @@ pub use check::check_for_errors;
 pub use element::Element;
 pub use elements::Elements;
 pub use error::EscapeError;
+pub use faults::Faults;
 pub use mode::Mode;
 pub use single::{unescape_byte, unescape_char};
 pub use strings::{

@@ -10,4 +10,4 @@ invariant-items g l =
     × ((last : _) → FoldsTo (λ f error h. goal.F-step g f error.0 error.1 tt h) l.callback (errors_in l.mode l.elements) last → FoldsTo (λ f error h. goal.F-step g f error.0 error.1 tt h) l.initial.callback (errors_in l.mode l.initial.elements) last)
 
 abbrev pub decreases-items : goal.decreases-items
-decreases-items g l = length l.elements
+decreases-items g l = length (errors_in l.mode l.elements)

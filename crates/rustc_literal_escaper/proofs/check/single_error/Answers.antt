@@ -6,8 +6,8 @@ use Rattle.rustc_literal_escaper.proofs.check.single_error.Goals as goal
 pub returns-in_default : goal.returns-in_default
 returns-in_default c = sym (ap (single_error (length c.args.src.now) c.args.mode) c.in_default.ensures)
 
-pub returns-in-Some-error_of : goal.returns-in-Some-error_of
-returns-in-Some-error_of c = single_error-some _ _ _ _ _ _ c.in-Some.ensures.0 c.in-Some.ensures.1 c.in-Some-error_of.ensures
+pub returns-in-Some-error_in : goal.returns-in-Some-error_in
+returns-in-Some-error_in c = single_error-some _ _ _ _ _ _ c.in-Some.ensures.0 c.in-Some.ensures.1 c.in-Some-error_in.ensures
 
 pub returns : goal.returns
-returns c = single_error-more _ _ _ _ _ _ _ c.in-Some.ensures.0 c.in_default-error_of.ensures c.in_ok-more.ensures.0 c.in_ok-more.ensures.2
+returns c = single_error-more _ _ _ _ _ _ _ c.in-Some.ensures.0 c.in_default-error_in.ensures c.in_ok-more.ensures.0 c.in_ok-more.ensures.2

@@ -1,0 +1,17 @@
+use Rattle.std.proofs.Common.{◌≡◌, ◌++◌, Bool, true, false, true≢false, if◌then◌else◌, List, [], refl, ap, ◌∙◌}
+use Rattle.std.proofs.lemmas.List.{append-nil}
+use Rattle.std.specs.Option.{option_to_list}
+use Rattle.std.specs.Str.{chars}
+use Rattle.rustc_literal_escaper.specs.Elements.{Item, items_from}
+use Rattle.rustc_literal_escaper.specs.Errors.{errors_in, is_single, Error}
+use Rattle.rustc_literal_escaper.proofs.faults.Faults.new.Goals as goal
+
+chosen : (b : Bool) → true ≡ b → (alone more : List Error) → alone ≡ (if b then alone else more)
+chosen true e alone more = refl
+chosen false e alone more = absurd (true≢false e)
+
+pub returns-then-is_single : goal.returns-then-is_single
+unfolding items_from chars
+returns-then-is_single c =
+    ap (λ (items : List Item). option_to_list c.single_error.result ++ errors_in c.args.mode items) c.new.ensures.items
+    ∙ (append-nil (option_to_list c.single_error.result) ∙ (ap option_to_list c.single_error.ensures ∙ chosen (is_single c.args.mode) (c.if-is_single.ensures) _ _))

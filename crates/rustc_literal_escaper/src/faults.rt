@@ -1,0 +1,77 @@
+//! What is wrong in a literal, one thing after another.
+ghost use Rattle.std.specs.Prelude.{◌≡◌, ◌++◌, length};
+ghost use Rattle.std.specs.Iterator.{at_most};
+ghost use Rattle.rustc_literal_escaper.specs.Elements.{TakesFirst};
+ghost use Rattle.rustc_literal_escaper.specs.Errors as spec;
+
+use crate::check::{is_raw, is_single, single_error};
+use crate::elements::{Elements, elements_of};
+use crate::error::EscapeError;
+use crate::mode::Mode;
+use std::iter::Iterator;
+use std::marker::Model;
+use std::ops::Range;
+
+/// An iterator over all that is wrong in a literal, warnings too, each with its place in bytes.
+///
+/// It gives what [`check_for_errors`](crate::check_for_errors) calls its callback with, in that order:
+///
+/// ```ignore
+/// for (place, error) in Faults::new(r"a\q", Mode::Str) {
+///     mark(place, error);
+/// }
+/// ```
+#[derive(Drop)]
+pub struct Faults<'a> {
+    /// What is wrong between single quotes, until it is given out.
+    alone: Option<(Range<usize>, EscapeError)>,
+    elements: Elements<'a>,
+    mode: Mode,
+}
+
+impl<'a> Model for Faults<'a> {
+    ghost use Rattle.std.specs.Prelude.{List, ◌++◌};
+    ghost use Rattle.std.specs.Option.{option_to_list};
+    ghost use Rattle.rustc_literal_escaper.specs.Errors.{errors_in, Error};
+
+    ghost Value = { List Error };
+
+    ghost view = { λ f. option_to_list f.alone ++ errors_in f.mode f.elements };
+}
+
+impl<'a> Faults<'a> {
+    /// What is wrong in a literal of this kind, of which `src` stands between the quotes.
+    pub fn new(src: &'a str, mode: Mode) -> Faults<'a>
+        ensures { result ≡ spec.errors_of mode src.now }
+    {
+        if is_single(mode) {
+            return Faults {
+                alone: single_error(src, mode),
+                elements: Elements::new(""),
+                mode,
+            };
+        }
+        Faults {
+            alone: None,
+            elements: elements_of(src, is_raw(mode)),
+            mode,
+        }
+    }
+}
+
+impl<'a> Iterator for Faults<'a> {
+    type Item = (Range<usize>, EscapeError);
+
+    ghost next_gives = { TakesFirst };
+
+    ghost remaining = { λ s. at_most (length s) };
+
+    /// The next thing that is wrong, or `None` past the last one, from then on.
+    #[inline]
+    fn next(&mut self) -> Option<(Range<usize>, EscapeError)> {
+        if self.alone.is_some() {
+            return self.alone.take();
+        }
+        self.elements.next_fault(self.mode)
+    }
+}
