@@ -1,9 +1,11 @@
 -- One more unit of a literal.
-use Rattle.std.proofs.Common.{◌≡◌, ℕ, zero, suc, ◌+◌, ◌<◌, ◌≤◌, List, [], ◌∷◌, ◌++◌, length, map, take, drop, min, sym, ap, ◌∙◌, arith, slice_set, Option, Some, None}
+use Rattle.std.proofs.Common.{◌≡◌, ℕ, zero, suc, false, true≢false, refl, ◌+◌, ◌<◌, ◌≤◌, List, [], ◌∷◌, ◌++◌, length, map, take, drop, min, sym, ap, ◌∙◌, arith, slice_set, Option, Some, None}
 use Rattle.std.proofs.lemmas.List.{drop-drop, drop-map, drop-set-lt, length-drop, length-map, map-append, take-append-drop, take-map, take_more_set}
+use Rattle.std.specs.Option.{is_some}
 use Rattle.rustc_literal_escaper.specs.Elements.{TakesFirst}
 use Rattle.rustc_lexer_c.specs.declared.escapes.CUnit.{CUnit}
 use Rattle.rustc_lexer_c.specs.Escapes.{IsUnits}
+use Rattle.rustc_lexer_c.proofs.BatchLemmas.{count_second}
 
 -- what is left past one more, if there is one
 pub passed_step : {X : Type 0} (all at past : List X) (over : ℕ) (next : Option X) → at ≡ drop over all → TakesFirst at next past → past ≡ drop (over + 1) all
@@ -17,19 +19,15 @@ take_next (y ∷ xs) zero x ys e = cc
 take_next (y ∷ xs) (suc count) x ys e = ap (λ l. y ∷ l) (take_next xs count x ys e)
 
 -- a list that is written into a room, one more at a time
-module _ {X Y : Type 0} (f : X → Y) (all left : List X) (count : ℕ) (x : X) (next : drop count all ≡ x ∷ left) where
+module _ {X : Type 0} (all left : List X) (count : ℕ) (x : X) (next : drop count all ≡ x ∷ left) where
   pub few_step : count + 1 ≤ length all
   few_step = let n = length-drop count all in let m = ap (λ (xs : List X). length xs) next in omega arith
 
   -- the room past one more
-  pub front_step : (room : List Y) (y : Y) → y ≡ f x → count < length room → take count room ≡ map f (take count all) → take (count + 1) (slice_set room count y) ≡ map f (take (count + 1) all)
-  front_step room y is fits front =
+  pub front_step : (room : List X) → count < length room → take count room ≡ take count all → take (count + 1) (slice_set room count x) ≡ take (count + 1) all
+  front_step room fits front =
       let more : suc count ≡ count + 1 = omega arith in
-      take_more_set room count y fits
-      ∙ (ap (λ l. l ++ y ∷ []) front
-      ∙ (ap (λ z. map f (take count all) ++ z ∷ []) is
-      ∙ (sym (map-append f (take count all) (x ∷ []))
-      ∙ ap (map f) (sym (take_next all count x left next) ∙ ap (λ n. take n all) more))))
+      take_more_set room count x fits ∙ (ap (λ l. l ++ x ∷ []) front ∙ (sym (take_next all count x left next) ∙ ap (λ n. take n all) more))
 
 pub back_step : {Y : Type 0} (room old : List Y) (count : ℕ) (y : Y) → drop count room ≡ drop count old → drop (count + 1) (slice_set room count y) ≡ drop (count + 1) old
 back_step room old count y back =
@@ -41,10 +39,16 @@ pub all_taken : {X : Type 0} (all : List X) (count : ℕ) → drop count all ≡
 all_taken {X} all count none = let n = length-drop count all in let m = ap (λ (xs : List X). length xs) none in omega arith
 
 -- what the room holds at the end
-pub units_done : {X : Type 0} (f : X → CUnit) (all : List X) (passed : ℕ) (room old : List CUnit) (count : ℕ) → take count room ≡ map f (take count (drop passed all)) → drop count room ≡ drop count old
-    → count ≡ min (length old) (length (drop passed all)) → IsUnits (map f all) passed old room count
-units_done f all passed room old count front back is = record {
-  as_many = is ∙ ap (min (length old)) (sym (ap length (drop-map f passed all) ∙ length-map (drop passed all) f));
-  written = sym (take-append-drop count room)
-      ∙ (ap (λ l. l ++ drop count room) (front ∙ (sym (take-map f count (drop passed all)) ∙ ap (take count) (sym (drop-map f passed all)))) ∙ ap (λ l. take count (drop passed (map f all)) ++ l) back);
+pub units_done : (all : List CUnit) (passed : ℕ) (room old : List CUnit) (count : ℕ) → take count room ≡ take count (drop passed all) → drop count room ≡ drop count old → count ≡ min (length old) (length (drop passed all)) → IsUnits all passed old room count
+units_done all passed room old count front back is = record {
+  as_many = is;
+  written = sym (take-append-drop count room) ∙ (ap (λ l. l ++ drop count room) front ∙ ap (λ l. take count (drop passed all) ++ l) back);
 }
+
+-- past all of them nothing is written
+pub none_left : (all at past : List CUnit) (over passed : ℕ) (room : List CUnit) (next : Option CUnit) → at ≡ drop over all → over ≤ passed → is_some next ≡ false → TakesFirst at next past → IsUnits all passed room room 0
+none_left all at past over passed room (Some unit) is low none taken = absurd (true≢false none)
+none_left all at past over passed room None is low none taken =
+    let few = all_taken all over (sym is ∙ taken.0) in
+    let left = length-drop passed all in
+    units_done all passed room room 0 refl refl (count_second 0 (length room) (length (drop passed all)) (omega arith) (omega arith))

@@ -1,6 +1,5 @@
 -- What a literal stands for, as it crosses to C: its units in order, each as numbers with its place.
 use Rattle.std.specs.Prelude.{ℕ, ◌≡◌, ◌<◌, ◌≤◌, ◌^◌, Bool, true, false, if◌then◌else◌, List, [], ◌∷◌, ◌++◌, length, map, take, drop, min, nat_eq, Option, Some, None, Result, Ok, Err}
-use Rattle.std.specs.Option.{option_to_list}
 use Rattle.std.specs.Str.{IsUtf8, chars}
 use Rattle.std.specs.declared.ops.Range.{Range}
 use Rattle.rustc_lexer.specs.Locality.{IsText}
@@ -11,11 +10,9 @@ use Rattle.rustc_literal_escaper.specs.declared.mode.Mode.TheVariants.{Char, Byt
 use Rattle.rustc_literal_escaper.specs.declared.unit.MixedUnit.{MixedUnit}
 use Rattle.rustc_literal_escaper.specs.declared.unit.MixedUnit.TheVariants.{Char as CharUnit, HighByte}
 use Rattle.rustc_literal_escaper.specs.Elements.{Item, items_of}
-use Rattle.rustc_literal_escaper.specs.Errors.{is_raw, is_single, single_error, errors_in, errors_of, Error}
+use Rattle.rustc_literal_escaper.specs.Errors.{is_raw, is_single, errors_of, Error}
 use Rattle.rustc_literal_escaper.specs.Meaning.{byte_of, char_of, raw_unit_of, unit_of}
 use Rattle.rustc_literal_escaper.specs.Single.{byte_literal, char_literal}
-use Rattle.rustc_lexer_c.specs.declared.escapes.Asked.{Asked}
-use Rattle.rustc_lexer_c.specs.declared.escapes.Asked.TheVariants.{Units, Errors}
 use Rattle.rustc_lexer_c.specs.declared.escapes.CUnit.{CUnit}
 
 -- the mode of a number, which is that of the literal's kind in a token
@@ -110,19 +107,6 @@ units_of mode text = if is_single mode then single_unit mode text ∷ [] else ma
 abbrev pub wrong_units : List Error → List CUnit
 wrong_units errors = map (λ (e : Error). wrong_unit e.0 e.1) errors
 
--- what is asked of what stands between single quotes, and of elements
-abbrev pub single_told : Asked → Mode → List ℕ → List CUnit
-single_told Units mode text = single_unit mode text ∷ []
-single_told Errors mode text = wrong_units (option_to_list (single_error (length text) mode (chars text)))
-
-abbrev pub told_in : Asked → Mode → List Item → List CUnit
-told_in Units mode items = map (item_unit mode) items
-told_in Errors mode items = wrong_units (errors_in mode items)
-
--- what is asked of what stands between a literal's quotes
-abbrev pub told_of : Asked → Mode → List ℕ → List CUnit
-told_of asked mode text = if is_single mode then single_told asked mode text else told_in asked mode (items_of (is_raw mode) text)
-
 -- a batch of them: past the first ones as many as there is room for, at the front of the room, whose rest stays
 pub record IsUnits (units : List CUnit) (passed : ℕ) (room filled : List CUnit) (count : ℕ) : Type 0 where
   pub as_many : count ≡ min (length room) (length (drop passed units))
@@ -136,10 +120,6 @@ AreWritten (Some mode) text passed room filled count = IsUnits (units_of mode te
 abbrev pub AreWrittenErrors : Option Mode → List ℕ → ℕ → List CUnit → List CUnit → ℕ → Type 0
 AreWrittenErrors None text passed room filled count = ⊥
 AreWrittenErrors (Some mode) text passed room filled count = IsUnits (wrong_units (errors_of mode text)) passed room filled count
-
-abbrev pub AreTold : Asked → Option Mode → List ℕ → ℕ → List CUnit → List CUnit → ℕ → Type 0
-AreTold asked None text passed room filled count = ⊥
-AreTold asked (Some mode) text passed room filled count = IsUnits (told_of asked mode text) passed room filled count
 
 -- nothing is written
 abbrev pub AreNone : List CUnit → List CUnit → ℕ → Type 0

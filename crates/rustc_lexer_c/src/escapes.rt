@@ -1,6 +1,5 @@
 //! What a literal stands for, and what is wrong in it.
-ghost use Rattle.std.specs.Prelude.{◌≡◌, ◌≢◌, None};
-ghost use Rattle.std.specs.Option.{option_to_list};
+ghost use Rattle.std.specs.Prelude.{◌≡◌, ◌≢◌, List, [], ◌∷◌, None, map};
 ghost use Rattle.std.specs.Result.{result_err};
 ghost use Rattle.std.specs.Str.{IsUtf8};
 ghost use Rattle.rustc_lexer.specs.Locality.{IsText};
@@ -11,7 +10,7 @@ ghost use Rattle.rustc_lexer_c.specs.Escapes as spec;
 
 use crate::status::{Refusal, text_of, utf8_text_of};
 use rustc_literal_escaper::{
-    Element, Elements, EscapeError, Mode, NonZeroChar, single_error, unescape_byte, unescape_char,
+    Element, Elements, EscapeError, Faults, Mode, NonZeroChar, unescape_byte, unescape_char,
 };
 use std::ops::Range;
 
@@ -46,7 +45,7 @@ pub extern "C" fn rustc_lexer_unescape(
     ensures refused { result ≢ 0 → spec.AreNone room.old room.new count.new }
 {
     match text_of(text) {
-        Ok(text) => write(Asked::Units, text, mode, passed, room, count),
+        Ok(text) => unescape(text, mode, passed, room, count),
         Err(refusal) => {
             *count = 0;
             refusal.number()
@@ -70,7 +69,7 @@ pub extern "C" fn rustc_lexer_unescape_unchecked(
     ensures refused { result ≢ 0 → spec.AreNone room.old room.new count.new }
 {
     match utf8_text_of(text) {
-        Ok(text) => write(Asked::Units, text, mode, passed, room, count),
+        Ok(text) => unescape(text, mode, passed, room, count),
         Err(refusal) => {
             *count = 0;
             refusal.number()
@@ -96,7 +95,7 @@ pub extern "C" fn rustc_lexer_literal_errors(
     ensures refused { result ≢ 0 → spec.AreNone room.old room.new count.new }
 {
     match text_of(text) {
-        Ok(text) => write(Asked::Errors, text, mode, passed, room, count),
+        Ok(text) => errors(text, mode, passed, room, count),
         Err(refusal) => {
             *count = 0;
             refusal.number()
@@ -120,7 +119,7 @@ pub extern "C" fn rustc_lexer_literal_errors_unchecked(
     ensures refused { result ≢ 0 → spec.AreNone room.old room.new count.new }
 {
     match utf8_text_of(text) {
-        Ok(text) => write(Asked::Errors, text, mode, passed, room, count),
+        Ok(text) => errors(text, mode, passed, room, count),
         Err(refusal) => {
             *count = 0;
             refusal.number()
@@ -128,28 +127,12 @@ pub extern "C" fn rustc_lexer_literal_errors_unchecked(
     }
 }
 
-/// What a call asks of a literal.
-#[derive(Clone, Copy)]
-pub(crate) enum Asked {
-    /// All that it stands for, and what is wrong.
-    Units,
-    /// What is wrong, and nothing else.
-    Errors,
-}
-
-/// Writes what is asked of a text.
-fn write(
-    asked: Asked,
-    text: &str,
-    mode: u32,
-    passed: usize,
-    room: &mut [CUnit],
-    count: &mut usize,
-) -> u32
+/// Writes units of a text.
+fn unescape(text: &str, mode: u32, passed: usize, room: &mut [CUnit], count: &mut usize) -> u32
     requires text { IsText text.now }
     ensures status { spec.IsModeStatus text.now (spec.mode_of mode) result }
-    ensures written { result ≡ 0
-        → spec.AreTold asked (spec.mode_of mode) text.now passed room.old room.new count.new }
+    ensures units { result ≡ 0
+        → spec.AreWritten (spec.mode_of mode) text.now passed room.old room.new count.new }
     ensures refused { result ≢ 0 → spec.AreNone room.old room.new count.new }
 {
     match mode_of(mode) {
@@ -158,7 +141,27 @@ fn write(
             Refusal::BadMode.number()
         }
         Some(mode) => {
-            *count = fill(asked, text, mode, passed, room);
+            *count = fill(text, mode, passed, room);
+            0
+        }
+    }
+}
+
+/// Writes what is wrong in a text.
+fn errors(text: &str, mode: u32, passed: usize, room: &mut [CUnit], count: &mut usize) -> u32
+    requires text { IsText text.now }
+    ensures status { spec.IsModeStatus text.now (spec.mode_of mode) result }
+    ensures errors { result ≡ 0
+        → spec.AreWrittenErrors (spec.mode_of mode) text.now passed room.old room.new count.new }
+    ensures refused { result ≢ 0 → spec.AreNone room.old room.new count.new }
+{
+    match mode_of(mode) {
+        None => {
+            *count = 0;
+            Refusal::BadMode.number()
+        }
+        Some(mode) => {
+            *count = fill_all(Faults::new(text, mode), passed, room);
             0
         }
     }
@@ -181,14 +184,15 @@ fn mode_of(number: u32) -> Option<Mode>
     }
 }
 
-/// Writes what is asked in a mode, and answers how many units that are.
-fn fill(asked: Asked, text: &str, mode: Mode, passed: usize, room: &mut [CUnit]) -> usize
-    ensures { spec.IsUnits (spec.told_of asked mode text.now) passed room.old room.new result }
+/// Writes units in a mode, and answers their number.
+fn fill(text: &str, mode: Mode, passed: usize, room: &mut [CUnit]) -> usize
+    ensures { spec.IsUnits (spec.units_of mode text.now) passed room.old room.new result }
 {
     if is_single(mode) {
-        fill_one(single_told(asked, text, mode), passed, room)
+        fill_one(single_unit(text, mode), passed, room)
     } else {
-        fill_all(asked, elements_of(text, mode), mode, passed, room)
+        let elements = elements_of(text, mode);
+        fill_all(Meanings { elements, mode }, passed, room)
     }
 }
 
@@ -199,31 +203,18 @@ fn is_single(mode: Mode) -> bool
     matches!(mode, Mode::Char | Mode::Byte)
 }
 
-/// Writes the one unit, if there is one, it is not passed over, and there is room.
-fn fill_one(unit: Option<CUnit>, passed: usize, room: &mut [CUnit]) -> usize
-    ensures { spec.IsUnits (option_to_list unit) passed room.old room.new result }
+/// Writes the one unit, if it is not passed over, and there is room.
+fn fill_one(unit: CUnit, passed: usize, room: &mut [CUnit]) -> usize
+    ensures { spec.IsUnits (unit ∷ []) passed room.old room.new result }
 {
-    let Some(unit) = unit else {
+    if passed > 0 {
         return 0;
-    };
-    if passed > 0 || room.is_empty() {
+    }
+    if room.is_empty() {
         return 0;
     }
     room[0] = unit;
     1
-}
-
-/// What is asked of the text between single quotes, one unit at most.
-fn single_told(asked: Asked, text: &str, mode: Mode) -> Option<CUnit>
-    ensures { option_to_list result ≡ spec.single_told asked mode text.now }
-{
-    match asked {
-        Asked::Units => Some(single_unit(text, mode)),
-        Asked::Errors => {
-            let (place, error) = single_error(text, mode)?;
-            Some(wrong_unit(place, error))
-        }
-    }
 }
 
 /// The unit between single quotes.
@@ -246,50 +237,67 @@ fn elements_of(text: &str, mode: Mode) -> Elements<'_>
     }
 }
 
-/// Writes what is asked of elements.
-fn fill_all(
-    asked: Asked,
-    mut elements: Elements<'_>,
+/// Units that come one after another.
+trait Units: Drop {
+    ghost use Rattle.rustc_lexer_c.specs.declared.escapes.CUnit.{CUnit};
+
+    /// Those that are still to come.
+    ghost units: { Self → List CUnit };
+
+    /// The next one, or `None` past the last.
+    fn next_unit(&mut self) -> Option<CUnit>
+        ensures { TakesFirst (units self.old) result (units self.new) };
+}
+
+/// What elements stand for in a mode.
+#[derive(Drop)]
+struct Meanings<'a> {
+    elements: Elements<'a>,
     mode: Mode,
-    passed: usize,
-    room: &mut [CUnit],
-) -> usize
-    ensures { spec.IsUnits (spec.told_in asked mode elements.entry) passed room.old room.new result }
+}
+
+impl<'a> Units for Meanings<'a> {
+    ghost units = { λ meanings. map (spec.item_unit meanings.mode) meanings.elements };
+
+    #[inline(always)]
+    fn next_unit(&mut self) -> Option<CUnit> {
+        let (place, element) = self.elements.next()?;
+        Some(item_unit(self.mode, place, element))
+    }
+}
+
+/// What is wrong, and nothing else.
+impl<'a> Units for Faults<'a> {
+    ghost units = { λ faults. spec.wrong_units faults };
+
+    #[inline(always)]
+    fn next_unit(&mut self) -> Option<CUnit> {
+        let (place, error) = self.next()?;
+        Some(wrong_unit(place, error))
+    }
+}
+
+/// Writes units, past the first ones.
+#[inline(always)]
+fn fill_all<U: Units>(mut units: U, passed: usize, room: &mut [CUnit]) -> usize
+    ensures { spec.IsUnits (U.units units) passed room.old room.new result }
 {
     let mut over = 0;
     'passed: while over < passed {
-        if next_unit(asked, &mut elements, mode).is_none() {
+        if units.next_unit().is_none() {
             return 0;
         }
         over += 1;
     }
     let mut count = 0;
     'room: while count < room.len() {
-        let Some(unit) = next_unit(asked, &mut elements, mode) else {
+        let Some(unit) = units.next_unit() else {
             break;
         };
         room[count] = unit;
         count += 1;
     }
     count
-}
-
-/// The next unit of what is asked of elements.
-#[inline(always)]
-fn next_unit(asked: Asked, elements: &mut Elements<'_>, mode: Mode) -> Option<CUnit>
-    ensures { TakesFirst (spec.told_in asked mode elements.old) result
-        (spec.told_in asked mode elements.new) }
-{
-    match asked {
-        Asked::Units => {
-            let (place, element) = elements.next()?;
-            Some(item_unit(mode, place, element))
-        }
-        Asked::Errors => {
-            let (place, error) = elements.next_fault(mode)?;
-            Some(wrong_unit(place, error))
-        }
-    }
 }
 
 /// What an element stands for between double quotes, as numbers.

@@ -125,13 +125,18 @@ impl<'a> Elements<'a> {
         Some(item)
     }
 
-    /// Passes over the simple characters in front. Nothing is wrong with any of them in any kind of string.
+    /// Passes over simple characters in front. Nothing is wrong with any of them in any kind of string.
+    ///
+    /// Where a character that is not in ASCII stands next, it does not look for them.
     #[inline(always)]
     pub(crate) fn skip_simple(&mut self)
         ensures same { (mode : Mode) → errors_in mode self.new ≡ errors_in mode self.old }
         ensures fewer { length self.new ≤ length self.old }
     {
-        self.rest = past_simple(self.rest, self.raw);
+        match self.rest.as_bytes().first() {
+            Some(byte) if byte.is_ascii() => self.rest = past_simple(self.rest, self.raw),
+            _ => {}
+        }
     }
 
     /// Passes over the plain characters in front, where nothing is wrong with any of them in this mode.

@@ -9,12 +9,12 @@ use Rattle.rustc_literal_escaper.proofs.SimpleLemmas.{simple-fine}
 use Rattle.rustc_literal_escaper.proofs.SkipLemmas.{errors-skip, fewer-skip}
 use Rattle.rustc_literal_escaper.proofs.elements.Elements.skip_simple.Goals as goal
 
-pub returns-clause-same : goal.returns-clause-same
-returns-clause-same c = λ mode.
+pub returns-in-Some-clause-same : goal.returns-in-Some-clause-same
+returns-in-Some-clause-same c = λ mode.
     errors-skip mode c.self.inside.raw (is_simple c.self.inside.raw) (simple-fine mode c.self.inside.raw) c.self.inside.total c.self.inside.waiting (chars c.self.inside.rest.now) (chars c.past_simple-self-inside.result.now) c.past_simple-self-inside.ensures.passes
     ∙ ap (errors_in mode) c.self.view_is
 
-pub returns-clause-fewer : goal.returns-clause-fewer
-returns-clause-fewer c =
+pub returns-in-Some-clause-fewer : goal.returns-in-Some-clause-fewer
+returns-in-Some-clause-fewer c =
     subst (λ (is : List Item). length (option_to_list c.self.inside.waiting ++ items_from (front_by c.self.inside.raw) c.self.inside.total (chars c.past_simple-self-inside.result.now)) ≤ length is) c.self.view_is
     (fewer-skip Str c.self.inside.raw (is_simple c.self.inside.raw) (simple-fine Str c.self.inside.raw) c.self.inside.total c.self.inside.waiting (chars c.self.inside.rest.now) (chars c.past_simple-self-inside.result.now) c.past_simple-self-inside.ensures.passes)
