@@ -54,6 +54,7 @@ pub mod RunLemmas
 pub mod ScanLemmas
 pub mod SettledLemmas
 pub mod ShebangLemmas
+pub mod ShortCharLemmas
 pub mod SpaceLemmas
 pub mod StateLemmas
 pub mod SymbolLemmas
