@@ -37,6 +37,7 @@ pub mod LifetimeLemmas
 pub mod LiteralLemmas
 pub mod MeetingLemmas
 pub mod NumberLemmas
+pub mod OpeningLemmas
 pub mod PartLemmas
 pub mod PastLemmas
 pub mod PieceLemmas

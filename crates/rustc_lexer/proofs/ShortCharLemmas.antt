@@ -14,7 +14,7 @@ use Rattle.rustc_lexer.proofs.BridgeLemmas.{chars-ascii, IsUtf8-ascii}
 use Rattle.rustc_lexer.proofs.PastLemmas.{past-one, past-two}
 use Rattle.rustc_lexer.proofs.QuotedLoop.{Seeking, seek-start, seek-on, seek-closed, single-lone, single-free}
 
-past-ascii : (b : ℕ) (bs : List ℕ) → IsUtf8 (b ∷ bs) → b < 128 → bs ≡ past 1 (b ∷ bs)
+pub past-ascii : (b : ℕ) (bs : List ℕ) → IsUtf8 (b ∷ bs) → b < 128 → bs ≡ past 1 (b ∷ bs)
 past-ascii b bs is small = sym (past-one (b ∷ bs) bs b is (ap (λ (xs : List ℕ). xs ++ bs) (sym (encode_ascii b small))))
 
 backslash-no_name : is_name_start 92 ≡ false
