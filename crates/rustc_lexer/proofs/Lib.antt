@@ -62,3 +62,4 @@ pub mod SymbolLemmas
 pub mod TallyWalk
 pub mod TextLemmas
 pub mod TokensLemmas
+pub mod WideLemmas

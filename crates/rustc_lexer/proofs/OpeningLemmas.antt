@@ -1,18 +1,17 @@
 -- The opening of a raw string with no hash or one.
-use Rattle.std.proofs.Common.{◌≡◌, ℕ, zero, suc, ◌+◌, ◌-◌, ◌≤◌, ◌<◌, ◌==◌, Bool, true, false, true≢false, if◌then◌else◌, List, [], ◌∷◌, length, drop, refl, sym, ap, ◌∙◌, arith, subst, slice_index, Result}
+use Rattle.std.proofs.Common.{◌≡◌, ℕ, zero, suc, ◌+◌, ◌-◌, ◌≤◌, ◌==◌, Bool, true, false, true≢false, if◌then◌else◌, List, [], ◌∷◌, length, drop, refl, sym, ap, ◌∙◌, arith, subst, slice_index, Result}
 use Rattle.std.specs.Int.{from_bool}
 use Rattle.std.specs.Str.{chars, IsUtf8, IsCharBoundary}
 use Rattle.std.proofs.lemmas.Bool.{eqb-true}
 use Rattle.std.proofs.lemmas.Str.{IsCharBoundary-from_drop}
 use Rattle.unicode_ident.proofs.IdentLemmas.{is_xid_start-ascii}
 use Rattle.rustc_lexer.specs.declared.token.RawStrError.{RawStrError}
-use Rattle.rustc_lexer.specs.Classes.{is_id_start}
 use Rattle.rustc_lexer.specs.means.Ident.{marks_ident}
 use Rattle.rustc_lexer.specs.means.Lexeme.{is_raw_mark}
 use Rattle.rustc_lexer.specs.means.Raw.{is_quote, is_hash, hash_run, raw_read, raw_text}
 use Rattle.rustc_lexer.specs.means.Scan.{next_is, past, scanned}
 use Rattle.rustc_lexer.proofs.BridgeLemmas.{chars-ascii, IsUtf8-ascii}
-use Rattle.rustc_lexer.proofs.PastLemmas.{past-zero, past-past, past-two, chars-past, IsUtf8-past, length-past}
+use Rattle.rustc_lexer.proofs.PastLemmas.{past-past, past-two, chars-past, IsUtf8-past}
 use Rattle.rustc_lexer.proofs.RawLemmas.{hash_len}
 use Rattle.rustc_lexer.proofs.RawReadLemmas.{past_opening}
 use Rattle.rustc_lexer.proofs.ShortCharLemmas.{past-ascii, byte_le}

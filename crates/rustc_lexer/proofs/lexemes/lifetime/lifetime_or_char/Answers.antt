@@ -1,4 +1,4 @@
-use Rattle.std.proofs.Common.{sym, arith, true, refl}
+use Rattle.std.proofs.Common.{sym, arith, refl}
 use Rattle.rustc_lexer.specs.declared.token.LiteralKind.TheVariants.{Char}
 use Rattle.rustc_lexer.specs.means.Quoted.{char_body, single_quoted_string}
 use Rattle.rustc_lexer.specs.laws.Lifetime.{lifetime_or_char_local, char_at, raw_lifetime_at, long_char_at}

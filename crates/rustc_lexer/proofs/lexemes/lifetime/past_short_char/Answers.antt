@@ -1,4 +1,4 @@
-use Rattle.std.proofs.Common.{◌+◌, ◌==◌, slice_index, length, sym, ap, arith, length-drop}
+use Rattle.std.proofs.Common.{◌+◌, ◌==◌, slice_index, length, ap, arith, length-drop}
 use Rattle.rustc_lexer.proofs.ShortCharLemmas.{short_char, short_cut, byte_le}
 use Rattle.rustc_lexer.proofs.lexemes.lifetime.past_short_char.Goals as goal
 
