@@ -37,6 +37,7 @@ pub mod LifetimeLemmas
 pub mod LiteralLemmas
 pub mod MeetingLemmas
 pub mod NumberLemmas
+pub mod OpeningLemmas
 pub mod PartLemmas
 pub mod PastLemmas
 pub mod PieceLemmas
@@ -54,9 +55,11 @@ pub mod RunLemmas
 pub mod ScanLemmas
 pub mod SettledLemmas
 pub mod ShebangLemmas
+pub mod ShortCharLemmas
 pub mod SpaceLemmas
 pub mod StateLemmas
 pub mod SymbolLemmas
 pub mod TallyWalk
 pub mod TextLemmas
 pub mod TokensLemmas
+pub mod WideLemmas

@@ -10,7 +10,7 @@ use Rattle.rustc_lexer.specs.declared.token.TokenKind.TheVariants.{Literal, Life
 use Rattle.rustc_lexer.specs.Classes.{is_id_continue}
 use Rattle.rustc_lexer.specs.Emoji.{is_emoji}
 use Rattle.rustc_lexer.specs.means.Ident.{is_word, marks_ident}
-use Rattle.rustc_lexer.specs.means.Lifetime.{past_name, plain_lifetime, lifetime, is_character, lifetime_or_char}
+use Rattle.rustc_lexer.specs.means.Lifetime.{past_name, plain_lifetime, lifetime, is_character, is_character_at, lifetime_or_char}
 use Rattle.rustc_lexer.specs.laws.Lifetime.{name_of, quoted_name, raw, unquoted_name}
 use Rattle.rustc_lexer.specs.means.Literal.{literal}
 use Rattle.rustc_lexer.specs.means.Quoted.{char_body}
@@ -125,3 +125,13 @@ module _ (c : ℕ) (rest part end : List ℕ) (is : IsUtf8 rest) (first : part �
       let utf8 : IsUtf8 end = rw end-is (IsUtf8-past whole rest is) in
       ap (λ (k : TokenKind). (k, end)) (e ∙ ap (λ b. if begins (codes "#") (chars end) && not (is_ascii_digit c) then UnknownPrefixLifetime else Lifetime (is_ascii_digit c || is_emoji c || b)) (same ∙ emoji-is))
       ∙ (past-unquoted_name c name end utf8 t ∙ sym plain_lifetime-is)
+
+-- by its bytes, a character that a quote closes right away
+pub at_char : (text : List ℕ) (r : TokenKind × List ℕ) → is_character_at (chars text) ≡ true → r ≡ scanned (literal char_body) text → r ≡ scanned lifetime_or_char text
+at_char text r t e =
+    let whole : lifetime_or_char (chars text) ≡ literal char_body (chars text) = by_text (chars text) t in
+    e ∙ ap (λ (p : TokenKind × ℕ). (p.0, past p.1 text)) (sym whole)
+  where
+    by_text : (s : List ℕ) → is_character_at s ≡ true → lifetime_or_char s ≡ literal char_body s
+    by_text [] t = refl
+    by_text (c ∷ s) t = rw t refl

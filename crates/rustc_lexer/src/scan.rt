@@ -1,5 +1,5 @@
 //! Peeks at what is left of a text, and runs of a class at its front.
-ghost use Rattle.std.specs.Prelude.{◌≡◌, ◌<◌, ◌≤◌, ℕ, ◌∷◌, [], length, Bool, not, true, false, MatchOption, slice_index};
+ghost use Rattle.std.specs.Prelude.{◌≡◌, ◌<◌, ◌≤◌, ℕ, ◌∷◌, [], length, Bool, not, ◌&&◌, nat_le, nat_lt, true, false, MatchOption, slice_index};
 ghost use Rattle.std.specs.Char.{is_ascii_digit, is_ascii_hexdigit};
 ghost use Rattle.std.specs.Str.{chars};
 ghost use Rattle.memchr.specs.Find.{is_byte, is_byte2};
@@ -129,19 +129,54 @@ fn eat_continue_wide(rest: &str) -> &str
 {
     let mut left = rest;
     'wide: while begins_wide(left) {
+        let next = eat_continue_in(eat_continue_in(left, 0xC0, 0xE0), 0xE0, 0xF0);
+        if begins_wide(next) {
+            let Some((c, tail)) = split_first(next) else {
+                return next;
+            };
+            if !unicode_ident::is_xid_continue(c) {
+                return next;
+            }
+            left = &tail[short_run_end::<Continue>(tail.as_bytes())..];
+        } else {
+            left = &next[short_run_end::<Continue>(next.as_bytes())..];
+        }
+    }
+    left
+}
+
+/// What follows the characters at the front that an identifier may go on with and whose first bytes are in the range.
+///
+/// Where that tells how many bytes a character has, reading it needs no choice.
+#[inline(always)]
+fn eat_continue_in(rest: &str, low: u8, high: u8) -> &str
+    ensures shorter { length result.now ≤ length rest.now }
+    ensures same { length result.now ≡ length rest.now → result.now ≡ rest.now }
+    ensures run { past (run_len Classes.is_id_continue (chars result.now)) result.now
+        ≡ past (run_len Classes.is_id_continue (chars rest.now)) rest.now }
+{
+    let mut left = rest;
+    'within: while begins_within(left, low, high) {
         let Some((c, tail)) = split_first(left) else {
             return left;
         };
         if !unicode_ident::is_xid_continue(c) {
             return left;
         }
-        if begins_wide(tail) {
-            left = tail;
-        } else {
-            left = &tail[short_run_end::<Continue>(tail.as_bytes())..];
-        }
+        left = tail;
     }
     left
+}
+
+/// Whether the next byte is in the range.
+#[inline(always)]
+fn begins_within(rest: &str, low: u8, high: u8) -> bool
+    ensures { result ≡ Scan.next_is (λ b. nat_le low b && nat_lt b high) rest.now }
+{
+    match rest.as_bytes().first() {
+        Some(byte) => *byte >= low && *byte < high,
+        None => false,
+    }
 }
 
 /// What follows the white space at the front.

@@ -1,5 +1,5 @@
 //! What begins with a single quote: characters and lifetimes.
-ghost use Rattle.std.specs.Prelude.{◌≡◌, ◌+◌, ◌<◌, ◌^◌, ◌∷◌, ◌&&◌, ◌||◌, not, if◌then◌else◌, ℕ, List, true, false, length, drop, codes};
+ghost use Rattle.std.specs.Prelude.{◌≡◌, ◌+◌, ◌≤◌, ◌<◌, ◌^◌, ◌∷◌, ◌&&◌, ◌||◌, not, if◌then◌else◌, ℕ, List, true, false, length, drop, codes, IfSome};
 ghost use Rattle.std.specs.Char.{is_ascii_digit, len_utf8};
 ghost use Rattle.std.specs.Str.{chars};
 ghost use Rattle.rustc_lexer.specs.declared.token.TokenKind.{TokenKind};
@@ -14,6 +14,7 @@ ghost use Rattle.rustc_lexer.specs.means.Scan.{IsLocal, IsLocalAt, begins, run_l
 use crate::classes::emoji::is_emoji;
 use crate::classes::is_id_start;
 use crate::lexemes::ident::{eat_marked, is_word};
+use crate::lexemes::literal::{eat_literal_suffix, literal};
 use crate::lexemes::quoted::{QuotedPrefix, quoted_literal};
 use crate::scan::{eat_continue, eat_while, split_first, strip};
 use crate::token::{LiteralKind, TokenKind};
@@ -34,6 +35,10 @@ pub(crate) fn lifetime_or_char(tail: &str) -> (TokenKind, &str)
         → is_raw c s ≡ false → begins (codes "'") (drop (run_len is_word s) s) ≡ true
         → IsLocalAt TokenKind 0 spec.lifetime_or_char (c ∷ s) }
 {
+    if let Some(left) = past_short_char(tail) {
+        let kind = LiteralKind::Char { terminated: true };
+        return (literal(kind, tail, left), eat_literal_suffix(left));
+    }
     let Some((first, rest)) = split_first(tail) else {
         return quoted_literal(QuotedPrefix::Single, tail);
     };
@@ -41,6 +46,27 @@ pub(crate) fn lifetime_or_char(tail: &str) -> (TokenKind, &str)
         quoted_literal(QuotedPrefix::Single, tail)
     } else {
         lifetime(first, rest)
+    }
+}
+
+/// What follows the closing quote, where that stands right behind a character of ASCII, or behind a backslash and one.
+///
+/// Which of the two it is costs no branch: it is hard to foresee.
+#[inline(always)]
+fn past_short_char(tail: &str) -> Option<&str>
+    ensures { IfSome result (λ left. (is_character_at (chars tail.now) ≡ true)
+        × ((true, left.now) ≡ scanned single_quoted_string tail.now)
+        × (length left.now ≤ length tail.now)) }
+{
+    let bytes = tail.as_bytes();
+    if bytes.len() < 3 {
+        return None;
+    }
+    let place = 1 + usize::from(bytes[0] == b'\\');
+    if bytes[place - 1] < 128 && bytes[place] == b'\'' {
+        Some(&tail[place + 1..])
+    } else {
+        None
     }
 }
 

@@ -1,12 +1,12 @@
 //! Raw strings.
-ghost use Rattle.std.specs.Prelude.{◌≡◌, ℕ, suc, ◌+◌, ◌<◌, ◌^◌, [], ◌∷◌, length, drop, Result, MatchOption};
+ghost use Rattle.std.specs.Prelude.{◌≡◌, ℕ, suc, ◌+◌, ◌≤◌, ◌<◌, ◌^◌, [], ◌∷◌, true, length, drop, Result, IfSome, MatchOption};
 ghost use Rattle.std.specs.Str.{byte, chars};
 ghost use Rattle.rustc_lexer.specs.declared.lexemes.raw.RawPrefix.{RawPrefix};
 ghost use Rattle.rustc_lexer.specs.declared.token.RawStrError.{RawStrError};
 ghost use Rattle.rustc_lexer.specs.declared.token.TokenKind.{TokenKind};
 ghost use Rattle.rustc_lexer.specs.means.Raw as spec;
 ghost use Rattle.rustc_lexer.specs.means.Raw.{EndsItself, RefusedEndsItself};
-ghost use Rattle.rustc_lexer.specs.means.Scan.{IsLocal, past, run_len, scanned};
+ghost use Rattle.rustc_lexer.specs.means.Scan.{IsLocal, next_is, past, run_len, scanned};
 
 use crate::lexemes::literal::eat_literal_suffix;
 use crate::scan::{eat_until, eat_while, split_first, strip};
@@ -86,6 +86,9 @@ pub(crate) fn raw_double_quoted_string(
     ensures lookahead { IsLocal (Result ℕ RawStrError) 1 (spec.raw_read prefix_len) }
     ensures ended { EndsItself prefix_len }
 {
+    if let Some((n_hashes, text)) = short_opening(rest) {
+        return raw_text(text, n_hashes, prefix_len + n_hashes + 1);
+    }
     let from_starter = eat_while(rest, |c| c == '#');
     let n_hashes = (rest.len() - from_starter.len()) as u32;
     let Some((starter, text)) = split_first(from_starter) else {
@@ -98,6 +101,30 @@ pub(crate) fn raw_double_quoted_string(
         return (Err(RawStrError::InvalidStarter { bad_char: starter }), text);
     }
     raw_text(text, n_hashes, prefix_len + n_hashes + 1)
+}
+
+/// How many hashes stand before the opening quote, where that is none or one, and what follows the quote.
+///
+/// Which of the two it is costs no branch: it is hard to foresee.
+#[inline(always)]
+pub(crate) fn short_opening(rest: &str) -> Option<(u32, &str)>
+    ensures { IfSome result (λ opening. (opening.0 ≤ 1)
+        × (opening.0 ≡ spec.hash_run (chars rest.now))
+        × (next_is spec.is_quote (drop opening.0 (chars rest.now)) ≡ true)
+        × (opening.1.now ≡ past (suc opening.0) rest.now)
+        × (suc opening.0 + length opening.1.now ≡ length rest.now)) }
+{
+    let bytes = rest.as_bytes();
+    if bytes.len() < 2 {
+        return None;
+    }
+    let n_hashes = u32::from(bytes[0] == b'#');
+    let place = n_hashes as usize;
+    if bytes[place] == b'"' {
+        Some((n_hashes, &rest[place + 1..]))
+    } else {
+        None
+    }
 }
 
 /// How the raw string goes on past its opening quote, before which `n_hashes` hashes stand; and what it leaves of

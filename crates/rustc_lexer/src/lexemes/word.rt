@@ -6,7 +6,7 @@ ghost use Rattle.rustc_lexer.specs.means.Scan.{scanned};
 
 use crate::lexemes::ident::{eat_marked, ident_or_unknown_prefix};
 use crate::lexemes::quoted::{QuotedPrefix, quoted_literal};
-use crate::lexemes::raw::{RawPrefix, raw_literal};
+use crate::lexemes::raw::{RawPrefix, raw_literal, short_opening};
 use crate::scan::{next_is, strip};
 use crate::token::TokenKind;
 
@@ -31,6 +31,9 @@ fn letter_r(tail: &str) -> (TokenKind, &str)
     requires fits { length tail.now + 1 < 2 ^ 32 }
     ensures { (result.0, result.1.now) ≡ scanned spec.letter_r tail.now }
 {
+    if let Some(_) = short_opening(tail) {
+        return raw_literal(RawPrefix::R, tail);
+    }
     if let Some(rest) = eat_marked(tail) {
         return (TokenKind::RawIdent, rest);
     }
