@@ -476,6 +476,25 @@ static int check_units(unescape_call *unescape) {
     return 0;
 }
 
+static int check_errors(unescape_call *errors) {
+    static const uint8_t text[] = "a\\q\\xff\\\n\n b";
+    struct rustc_lexer_unit units[16];
+    size_t len = sizeof text - 1, count = 99;
+    CHECK(errors(text, len, RUSTC_LEXER_STR, 0, units, 16, &count) == RUSTC_LEXER_OK && count == 3);
+    CHECK(is_unit(units[0], 1, 3, RUSTC_LEXER_UNIT_ERROR, RUSTC_LEXER_INVALID_ESCAPE));
+    CHECK(is_unit(units[1], 3, 7, RUSTC_LEXER_UNIT_ERROR, RUSTC_LEXER_OUT_OF_RANGE_HEX_ESCAPE));
+    CHECK(is_unit(units[2], 7, 11, RUSTC_LEXER_UNIT_WARNING, RUSTC_LEXER_MULTIPLE_SKIPPED_LINES_WARNING));
+    CHECK(errors(text, len, RUSTC_LEXER_C_STR, 1, units, 16, &count) == RUSTC_LEXER_OK && count == 1);
+    CHECK(is_unit(units[0], 7, 11, RUSTC_LEXER_UNIT_WARNING, RUSTC_LEXER_MULTIPLE_SKIPPED_LINES_WARNING));
+    CHECK(errors(text, len, RUSTC_LEXER_RAW_STR, 0, units, 16, &count) == RUSTC_LEXER_OK && count == 0);
+    CHECK(errors(text, len, RUSTC_LEXER_CHAR, 0, units, 16, &count) == RUSTC_LEXER_OK && count == 1);
+    CHECK(is_unit(units[0], 0, 2, RUSTC_LEXER_UNIT_ERROR, RUSTC_LEXER_MORE_THAN_ONE_CHAR));
+    CHECK(errors(text, 1, RUSTC_LEXER_BYTE, 0, units, 1, &count) == RUSTC_LEXER_OK && count == 0);
+    CHECK(errors(NULL, 0, RUSTC_LEXER_BYTE, 0, NULL, 0, &count) == RUSTC_LEXER_OK && count == 0);
+    CHECK(errors(text, len, 11, 0, units, 16, &count) == RUSTC_LEXER_BAD_MODE && count == 0);
+    return 0;
+}
+
 int main(void) {
     batch_call *const calls[] = {rustc_lexer_tokens, rustc_lexer_tokens_unchecked};
     CHECK(sizeof(struct rustc_lexer_token) == 12 && sizeof(struct rustc_lexer_relexing) == 7 * sizeof(size_t));
@@ -486,6 +505,10 @@ int main(void) {
     unescape_call *const unescapes[] = {rustc_lexer_unescape, rustc_lexer_unescape_unchecked};
     for (int i = 0; i < 2; i++)
         if (check_units(unescapes[i]))
+            return 1;
+    unescape_call *const literal_errors[] = {rustc_lexer_literal_errors, rustc_lexer_literal_errors_unchecked};
+    for (int i = 0; i < 2; i++)
+        if (check_errors(literal_errors[i]))
             return 1;
     relex_call *const relexes[] = {rustc_lexer_relex, rustc_lexer_relex_unchecked};
     for (int i = 0; i < 2; i++)

@@ -390,6 +390,15 @@ uint32_t rustc_lexer_unescape(const uint8_t *text, size_t len, uint32_t mode, si
 uint32_t rustc_lexer_unescape_unchecked(const uint8_t *text, size_t len, uint32_t mode, size_t passed,
                                         struct rustc_lexer_unit *room, size_t room_len, size_t *count);
 
+/* Writes what is wrong in a literal, errors and warnings in order, and nothing else: as many as there is room for, past
+ * the first `passed`. It takes what rustc_lexer_unescape takes, and searches past what is not wrong, so it is much
+ * faster. Between single quotes one thing is wrong at most, and its place reaches from 0 past the character that shows
+ * it. */
+uint32_t rustc_lexer_literal_errors(const uint8_t *text, size_t len, uint32_t mode, size_t passed,
+                                    struct rustc_lexer_unit *room, size_t room_len, size_t *count);
+uint32_t rustc_lexer_literal_errors_unchecked(const uint8_t *text, size_t len, uint32_t mode, size_t passed,
+                                              struct rustc_lexer_unit *room, size_t room_len, size_t *count);
+
 /* Writes 1 where the text is an identifier, else 0. */
 uint32_t rustc_lexer_is_ident(const uint8_t *text, size_t len, uint32_t *is);
 

@@ -164,6 +164,15 @@ unsafe extern "C" {
         room_len: usize,
         count: *mut usize,
     ) -> u32;
+    fn rustc_lexer_literal_errors_unchecked(
+        text: *const u8,
+        len: usize,
+        mode: u32,
+        passed: usize,
+        room: *mut Unit,
+        room_len: usize,
+        count: *mut usize,
+    ) -> u32;
     fn rustc_lexer_starts_raw_unchecked(text: *const u8, len: usize, prefix_len: u32) -> bool;
     fn rustc_lexer_is_ident_unchecked(text: *const u8, len: usize) -> bool;
     fn rustc_lexer_is_whitespace(code: u32) -> bool;
@@ -369,21 +378,49 @@ pub fn guarded_str(text: &str) -> CGuardedStr {
     string
 }
 
-/// Writes units of what stands between a literal's quotes into the room, past the first ones, and answers them.
+/// What a call of the library writes of a literal into a room.
+type Told = unsafe extern "C" fn(
+    text: *const u8,
+    len: usize,
+    mode: u32,
+    passed: usize,
+    room: *mut Unit,
+    room_len: usize,
+    count: *mut usize,
+) -> u32;
+
+/// Writes the first units of what stands between a literal's quotes into the room, and answers them.
 pub fn units<'room>(
     text: &str,
     mode: u32,
-    passed: usize,
+    room: &'room mut [MaybeUninit<Unit>],
+) -> &'room [Unit] {
+    told(rustc_lexer_unescape_unchecked, text, mode, room)
+}
+
+/// Writes the first things that are wrong in a literal into the room, and answers them.
+pub fn literal_errors<'room>(
+    text: &str,
+    mode: u32,
+    room: &'room mut [MaybeUninit<Unit>],
+) -> &'room [Unit] {
+    told(rustc_lexer_literal_errors_unchecked, text, mode, room)
+}
+
+fn told<'room>(
+    call: Told,
+    text: &str,
+    mode: u32,
     room: &'room mut [MaybeUninit<Unit>],
 ) -> &'room [Unit] {
     let mut count = 0;
     // SAFETY: all pointers are those of one slice or one reference, with its length; the text is UTF-8.
     let status = unsafe {
-        rustc_lexer_unescape_unchecked(
+        call(
             text.as_ptr(),
             text.len(),
             mode,
-            passed,
+            0,
             room.as_mut_ptr().cast(),
             room.len(),
             &mut count,

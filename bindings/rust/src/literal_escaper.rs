@@ -17,12 +17,11 @@
 //! assert_eq!(faults, [(3..5, EscapeError::InvalidEscape)]);
 //! ```
 //!
-//! The units are those that the library's call `rustc_lexer_unescape_unchecked` writes, which is proved. A literal of
-//! more than 64 units takes memory for the others, a unit for each byte at most. Each call panics where the text has
-//! more than `u32::MAX` bytes.
+//! The units are those that the library's call `rustc_lexer_unescape_unchecked` writes, and the errors those of
+//! `rustc_lexer_literal_errors_unchecked`, which are proved. No call takes memory. Each panics where the text has more
+//! than `u32::MAX` bytes.
 
 use crate::border::{self, Unit};
-use alloc::vec::Vec;
 use core::mem::MaybeUninit;
 use core::num::NonZero;
 use core::ops::Range;
@@ -220,40 +219,66 @@ impl TryFrom<u8> for MixedUnit {
     }
 }
 
-/// How many units cross before memory is taken for the others.
-const FEW: usize = 64;
+/// How many units cross at once.
+const ROOM: usize = 128;
 
-/// Calls `each` with all units of the text, in order.
-fn for_each(src: &str, mode: Mode, mut each: impl FnMut(Unit)) {
+/// What the library writes of a text, in a mode, into a room.
+type Read = for<'room> fn(&str, u32, &'room mut [MaybeUninit<Unit>]) -> &'room [Unit];
+
+/// Calls `each` with all units that are read of the text, in order.
+///
+/// A text with more than cross at once is read on where the last of them ends, as a text of its own.
+fn for_each(read: Read, src: &str, mode: Mode, mut each: impl FnMut(Unit)) {
     let src = border::fitting(src);
-    let mut few = [const { MaybeUninit::uninit() }; FEW];
-    let units = border::units(src, mode.number(), 0, &mut few);
-    units.iter().copied().for_each(&mut each);
-    let mut passed = units.len();
-    if passed < FEW {
-        return;
-    }
-    let mut many = Vec::new();
-    many.resize_with(src.len() - passed + 1, MaybeUninit::uninit);
+    let mut room = [const { MaybeUninit::uninit() }; ROOM];
+    let mut at = 0;
     loop {
-        let units = border::units(src, mode.number(), passed, &mut many);
-        if units.is_empty() {
-            return;
+        let units = read(&src[at..], mode.number(), &mut room);
+        let (units, end) = match units.last() {
+            Some(last) if units.len() == ROOM => before_the_rest(units, last),
+            _ => (units, None),
+        };
+        units.iter().for_each(|unit| each(unit.behind(at)));
+        match end {
+            Some(end) => at += end,
+            None => return,
         }
-        units.iter().copied().for_each(&mut each);
-        passed += units.len();
     }
+}
+
+/// Those of the units behind which a text can be read on, and from where on.
+///
+/// Two warnings may tell of one place, and begin there. So where a warning is last, that place is read again.
+fn before_the_rest<'room>(units: &'room [Unit], last: &Unit) -> (&'room [Unit], Option<usize>) {
+    if !last.is_warning() {
+        return (units, Some(last.end));
+    }
+    let others = units.iter().take_while(|unit| unit.start < last.start);
+    (&units[..others.count()], Some(last.start))
 }
 
 /// The first unit of the text, if it has one.
 fn first(src: &str, mode: Mode) -> Option<Unit> {
     let mut one = [MaybeUninit::uninit()];
-    border::units(border::fitting(src), mode.number(), 0, &mut one)
+    border::units(border::fitting(src), mode.number(), &mut one)
         .first()
         .copied()
 }
 
 impl Unit {
+    /// The unit, of which the place was counted from `at` on.
+    fn behind(self, at: usize) -> Unit {
+        Unit {
+            start: self.start + at,
+            end: self.end + at,
+            ..self
+        }
+    }
+
+    fn is_warning(self) -> bool {
+        self.kind == 4
+    }
+
     /// The number of the character or byte, or what is wrong.
     fn value(self) -> Result<u32, EscapeError> {
         match self.kind {
@@ -311,7 +336,7 @@ pub fn unescape_byte(src: &str) -> Result<u8, EscapeError> {
 /// stands for nothing, and no call tells of it. Two calls may warn of the white space past it: their places begin at
 /// the backslash.
 pub fn unescape_str(src: &str, mut callback: impl FnMut(Range<usize>, Result<char, EscapeError>)) {
-    for_each(src, Mode::Str, |unit| {
+    for_each(border::units, src, Mode::Str, |unit| {
         callback(unit.range(), unit.character())
     });
 }
@@ -321,7 +346,7 @@ pub fn unescape_byte_str(
     src: &str,
     mut callback: impl FnMut(Range<usize>, Result<u8, EscapeError>),
 ) {
-    for_each(src, Mode::ByteStr, |unit| {
+    for_each(border::units, src, Mode::ByteStr, |unit| {
         callback(unit.range(), unit.byte())
     });
 }
@@ -331,12 +356,12 @@ pub fn unescape_c_str(
     src: &str,
     mut callback: impl FnMut(Range<usize>, Result<MixedUnit, EscapeError>),
 ) {
-    for_each(src, Mode::CStr, |unit| callback(unit.range(), unit.mixed()));
+    for_each(border::units, src, Mode::CStr, |unit| callback(unit.range(), unit.mixed()));
 }
 
 /// Calls `callback` with each character of a raw string, or what is wrong, and its place.
 pub fn check_raw_str(src: &str, mut callback: impl FnMut(Range<usize>, Result<char, EscapeError>)) {
-    for_each(src, Mode::RawStr, |unit| {
+    for_each(border::units, src, Mode::RawStr, |unit| {
         callback(unit.range(), unit.character())
     });
 }
@@ -346,7 +371,7 @@ pub fn check_raw_byte_str(
     src: &str,
     mut callback: impl FnMut(Range<usize>, Result<u8, EscapeError>),
 ) {
-    for_each(src, Mode::RawByteStr, |unit| {
+    for_each(border::units, src, Mode::RawByteStr, |unit| {
         callback(unit.range(), unit.byte())
     });
 }
@@ -356,7 +381,7 @@ pub fn check_raw_c_str(
     src: &str,
     mut callback: impl FnMut(Range<usize>, Result<NonZero<char>, EscapeError>),
 ) {
-    for_each(src, Mode::RawCStr, |unit| {
+    for_each(border::units, src, Mode::RawCStr, |unit| {
         callback(unit.range(), unit.some_character())
     });
 }
@@ -378,34 +403,7 @@ pub fn check_for_errors(
     mode: Mode,
     mut error_callback: impl FnMut(Range<usize>, EscapeError),
 ) {
-    for_each(src, mode, |unit| {
-        if let Err(error) = unit.value() {
-            let range = if mode.in_double_quotes() {
-                unit.range()
-            } else {
-                0..single_end(src, error)
-            };
-            error_callback(range, error);
-        }
+    for_each(border::literal_errors, src, mode, |unit| {
+        error_callback(unit.range(), EscapeError::of(unit.value));
     });
-}
-
-/// The end of what is wrong between single quotes. The library's place there is all of the text.
-fn single_end(src: &str, error: EscapeError) -> usize {
-    let mut chars = src.chars();
-    let Some(begin) = chars.next() else {
-        return 0;
-    };
-    // An escape is written alike between single quotes and double ones, but for a line end.
-    let one = match begin {
-        '\\' if !chars.as_str().starts_with('\n') => {
-            first(src, Mode::Str).map_or(0, |unit| unit.end)
-        }
-        '\\' => 2,
-        _ => begin.len_utf8(),
-    };
-    match error {
-        EscapeError::MoreThanOneChar => one + src[one..].chars().next().map_or(0, char::len_utf8),
-        _ => one,
-    }
 }

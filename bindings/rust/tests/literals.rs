@@ -159,12 +159,28 @@ fn strings() {
 /// Literals with as many units as cross at once, one less and more.
 #[test]
 fn long_strings() {
-    for count in [63, 64, 65, 1000] {
+    for count in [127, 128, 129, 1000] {
         let text = r"\n".repeat(count);
         let want: Units<char> = (0..count)
             .map(|at| (2 * at..2 * at + 2, Ok('\n')))
             .collect();
         assert_eq!(units!(unescape_str, &text), want);
+    }
+}
+
+/// Two warnings of one place, wherever among those that cross at once they stand: they are parted nowhere.
+#[test]
+fn warnings_of_long_strings() {
+    for before in 120..140 {
+        let text = "a".repeat(before) + "\\\n\n\u{a0}" + &"b".repeat(200);
+        let mut want: Units<char> = (0..before).map(|at| (at..at + 1, Ok('a'))).collect();
+        want.push((before..before + 3, Err(MultipleSkippedLinesWarning)));
+        want.push((before..before + 5, Err(UnskippedWhitespaceWarning)));
+        want.push((before + 3..before + 5, Ok('\u{a0}')));
+        want.extend((before + 5..before + 205).map(|at| (at..at + 1, Ok('b'))));
+        assert_eq!(units!(unescape_str, &text), want, "behind {before}");
+        let warned = text.repeat(150);
+        assert_eq!(errors(&warned, Mode::Str).len(), 300, "behind {before}");
     }
 }
 

@@ -1,6 +1,6 @@
 -- One more unit of a literal.
-use Rattle.std.proofs.Common.{◌≡◌, ℕ, zero, suc, false, true≢false, refl, ◌+◌, ◌<◌, ◌≤◌, List, [], ◌∷◌, ◌++◌, length, map, take, drop, min, sym, ap, ◌∙◌, arith, slice_set, Option, Some, None}
-use Rattle.std.proofs.lemmas.List.{drop-drop, drop-map, drop-set-lt, length-drop, length-map, map-append, take-append-drop, take-map, take_more_set}
+use Rattle.std.proofs.Common.{◌≡◌, ℕ, zero, suc, false, true≢false, refl, ◌+◌, ◌<◌, ◌≤◌, List, [], ◌∷◌, ◌++◌, length, take, drop, min, sym, ap, ◌∙◌, arith, slice_set, Option, Some, None}
+use Rattle.std.proofs.lemmas.List.{drop-drop, drop-set-lt, length-drop, take-append-drop, take_more_set}
 use Rattle.std.specs.Option.{is_some}
 use Rattle.rustc_literal_escaper.specs.Elements.{TakesFirst}
 use Rattle.rustc_lexer_c.specs.declared.escapes.CUnit.{CUnit}

@@ -1,6 +1,5 @@
 -- The numbers of tokens that have no fields.
-use Rattle.std.proofs.Common.{◌≡◌, ℕ, true, false, true≢false, refl}
-use Rattle.rustc_lexer.specs.declared.token.Token.{Token}
+use Rattle.std.proofs.Common.{◌≡◌, ℕ, false, true≢false, refl}
 use Rattle.rustc_lexer.specs.declared.token.TokenKind.{TokenKind}
 use Rattle.rustc_lexer.specs.declared.token.TokenKind.TheVariants.{LineComment, BlockComment, Frontmatter, Literal, Lifetime}
 use Rattle.rustc_lexer.specs.Bulk.{has_fields}

@@ -72,6 +72,17 @@ impl<'a> Iterator for Faults<'a> {
         if self.alone.is_some() {
             return self.alone.take();
         }
-        self.elements.next_fault(self.mode)
+        // The mode is known in each arm, which makes its loop short.
+        let elements = &mut self.elements;
+        match self.mode {
+            Mode::Char => elements.next_fault(Mode::Char),
+            Mode::Byte => elements.next_fault(Mode::Byte),
+            Mode::Str => elements.next_fault(Mode::Str),
+            Mode::ByteStr => elements.next_fault(Mode::ByteStr),
+            Mode::CStr => elements.next_fault(Mode::CStr),
+            Mode::RawStr => elements.next_fault(Mode::RawStr),
+            Mode::RawByteStr => elements.next_fault(Mode::RawByteStr),
+            Mode::RawCStr => elements.next_fault(Mode::RawCStr),
+        }
     }
 }

@@ -5,7 +5,7 @@ use Rattle.rustc_lexer.specs.Locality.{IsText}
 use Rattle.rustc_lexer.specs.State.{State}
 use Rattle.rustc_lexer.proofs.StateLemmas.{state}
 use Rattle.rustc_lexer_c.specs.Batch.{state_at}
-use Rattle.rustc_lexer_c.proofs.FillLemmas.{batch_is, fits_left}
+use Rattle.rustc_lexer_c.proofs.FillLemmas.{batch_is}
 use Rattle.rustc_lexer_c.proofs.batch.fill.Goals as goal
 
 begun : (rest cut : List ℕ) (allowed given : FrontmatterAllowed) (s : State) → s ≡ record { pending = 0; rest = rest; mode = mode_of allowed } → rest ≡ cut → allowed ≡ given

@@ -1,4 +1,4 @@
-use Rattle.std.proofs.Common.{◌≡◌, ◌+◌, ◌<◌, ◌≤◌, length, drop, sym, ◌∙◌, arith, Some}
+use Rattle.std.proofs.Common.{length, drop, sym, ◌∙◌, arith, Some}
 use Rattle.std.proofs.lemmas.List.{length-set}
 use Rattle.rustc_lexer_c.proofs.BatchLemmas.{count_first, count_second}
 use Rattle.rustc_lexer_c.proofs.EscapeLemmas.{all_taken, back_step, few_step, front_step, none_left, passed_step, units_done}
