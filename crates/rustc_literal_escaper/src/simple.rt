@@ -20,7 +20,8 @@ pub(crate) fn past_simple(rest: &str, raw: bool) -> &str
 
 /// A number of simple bytes at the front. It is 0 where fewer than 32 bytes are left.
 ///
-/// Mostly one look at 32 bytes tells where they end: that is not foreseen, and so no branch goes by it.
+/// In a string with escapes mostly one look at 32 bytes tells where they end: that is not foreseen, and so no branch goes
+/// by it. Two looks that share a comparison are not made in one function: the compiler would take its lanes apart.
 #[inline(always)]
 fn simple_end(bytes: &[u8], raw: bool) -> usize
     ensures simple { result ≤ prefix_len (spec.is_simple raw) bytes.now }
@@ -29,9 +30,12 @@ fn simple_end(bytes: &[u8], raw: bool) -> usize
     if bytes.len() < 32 || bytes[0] >= 128 {
         return 0;
     }
-    let found = marks(u8x32::from_slice(bytes), raw);
+    if raw {
+        return simple_end_by_lanes(bytes, true);
+    }
+    let found = escaped_marks(u8x32::from_slice(bytes));
     if found == 0 {
-        return simple_end_by_lanes(bytes, raw);
+        return simple_end_by_lanes(bytes, false);
     }
     found.trailing_zeros() as usize
 }

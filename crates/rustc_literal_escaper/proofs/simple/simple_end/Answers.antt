@@ -1,4 +1,4 @@
-use Rattle.std.proofs.Common.{sym, ap, ◌∙◌, arith}
+use Rattle.std.proofs.Common.{false, sym, ap, ◌∙◌, arith}
 use lib.Count.{count_trailing_zeros}
 use Rattle.rustc_literal_escaper.specs.Plain.{is_simple}
 use Rattle.rustc_literal_escaper.proofs.LaneLemmas.{run_bound, run_stops}
@@ -6,10 +6,10 @@ use Rattle.rustc_literal_escaper.proofs.simple.simple_end.Goals as goal
 
 pub returns-clause-simple : goal.returns-clause-simple
 returns-clause-simple c =
-    let run = run_stops (is_simple c.args.raw) c.args.bytes.now 0 32 (omega arith) (omega arith) (omega (arith, c.marks-found.ensures)) ∙ ap (count_trailing_zeros 64) (sym c.marks-found.ensures) in
-    omega (arith, run)
+    let run = run_stops (is_simple false) c.args.bytes.now 0 32 (omega arith) (omega arith) (omega (arith, c.escaped_marks-found.ensures)) ∙ ap (count_trailing_zeros 64) (sym c.escaped_marks-found.ensures) in
+    rw (c.if-raw.false) (omega (arith, run))
 
 pub returns-clause-bound : goal.returns-clause-bound
 returns-clause-bound c =
-    let run = run_stops (is_simple c.args.raw) c.args.bytes.now 0 32 (omega arith) (omega arith) (omega (arith, c.marks-found.ensures)) ∙ ap (count_trailing_zeros 64) (sym c.marks-found.ensures) in
-    omega (arith, run, run_bound (is_simple c.args.raw) c.args.bytes.now 0 (omega arith))
+    let run = run_stops (is_simple false) c.args.bytes.now 0 32 (omega arith) (omega arith) (omega (arith, c.escaped_marks-found.ensures)) ∙ ap (count_trailing_zeros 64) (sym c.escaped_marks-found.ensures) in
+    omega (arith, run, run_bound (is_simple false) c.args.bytes.now 0 (omega arith))
