@@ -34,8 +34,8 @@ returns g c =
     let few = inv.few in
     units_done (g.U.Units.units c.args.units) c.args.passed c.room.room c.args.room.now c.room.count inv.front inv.back
     (elim c.room-test.branch [
-      else-room-test w ↦ (let full = w.room-test in count_first c.room.count (length c.args.room.now) (length all) (omega arith) few)
-    | then-room-test+in_default w ↦ (let none = all_taken all c.room.count (sym inv.left ∙ w.in_default.ensures.0) in count_second c.room.count (length c.args.room.now) (length all) (omega arith) (omega arith))
+      | else-room-test w ↦ (let full = w.room-test in count_first c.room.count (length c.args.room.now) (length all) (omega arith) few)
+      | then-room-test+in_default w ↦ (let none = all_taken all c.room.count (sym inv.left ∙ w.in_default.ensures.0) in count_second c.room.count (length c.args.room.now) (length all) (omega arith) (omega arith))
     ])
 
 pub returns-then-is_none : goal.returns-then-is_none
