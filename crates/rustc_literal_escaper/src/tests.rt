@@ -318,7 +318,10 @@ fn errors_alone(rt: HostRuntime) -> Result<(), Fail> {
 fn errors_one_after_another(rt: HostRuntime) {
     let mut faults = Faults::new("a\\qb\\u{110000}", Mode::Str);
     assert_eq!(rt; faults.next(), Some((1..3, EscapeError::InvalidEscape)));
-    assert_eq!(rt; faults.next(), Some((4..14, EscapeError::OutOfRangeUnicodeEscape)));
+    assert_eq!(rt;
+        faults.next(),
+        Some((4..14, EscapeError::OutOfRangeUnicodeEscape))
+    );
     assert_eq!(rt; faults.next(), None);
     assert_eq!(rt; faults.next(), None);
     let mut faults = Faults::new("spam", Mode::Char);
