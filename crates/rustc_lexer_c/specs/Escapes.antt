@@ -14,6 +14,8 @@ use Rattle.rustc_literal_escaper.specs.Errors.{is_raw, is_single, errors_of, Err
 use Rattle.rustc_literal_escaper.specs.Meaning.{byte_of, char_of, raw_unit_of, unit_of}
 use Rattle.rustc_literal_escaper.specs.Single.{byte_literal, char_literal}
 use Rattle.rustc_lexer_c.specs.declared.escapes.CUnit.{CUnit}
+use Rattle.rustc_lexer_c.specs.declared.escapes.Listing.{Listing}
+use Rattle.rustc_lexer_c.specs.declared.escapes.Listing.TheVariants.{Units, Errors}
 
 -- the mode of a number, which is that of the literal's kind in a token
 abbrev pub mode_of : ℕ → Option Mode
@@ -112,14 +114,18 @@ pub record IsUnits (units : List CUnit) (passed : ℕ) (room filled : List CUnit
   pub as_many : count ≡ min (length room) (length (drop passed units))
   pub written : filled ≡ take count (drop passed units) ++ drop count room
 
--- the batch of a text, where the number has a mode
-abbrev pub AreWritten : Option Mode → List ℕ → ℕ → List CUnit → List CUnit → ℕ → Type 0
-AreWritten None text passed room filled count = ⊥
-AreWritten (Some mode) text passed room filled count = IsUnits (units_of mode text) passed room filled count
+abbrev pub wrong_units_of : Mode → List ℕ → List CUnit
+wrong_units_of mode text = wrong_units (errors_of mode text)
 
-abbrev pub AreWrittenErrors : Option Mode → List ℕ → ℕ → List CUnit → List CUnit → ℕ → Type 0
-AreWrittenErrors None text passed room filled count = ⊥
-AreWrittenErrors (Some mode) text passed room filled count = IsUnits (wrong_units (errors_of mode text)) passed room filled count
+-- what is listed of a text
+abbrev pub listed : Listing → Mode → List ℕ → List CUnit
+listed Units mode text = units_of mode text
+listed Errors mode text = wrong_units_of mode text
+
+-- a batch of what is listed of a text, where the number has a mode
+abbrev pub AreWritten : (Mode → List ℕ → List CUnit) → Option Mode → List ℕ → ℕ → List CUnit → List CUnit → ℕ → Type 0
+AreWritten list None text passed room filled count = ⊥
+AreWritten list (Some mode) text passed room filled count = IsUnits (list mode text) passed room filled count
 
 -- nothing is written
 abbrev pub AreNone : List CUnit → List CUnit → ℕ → Type 0

@@ -7,8 +7,9 @@ ghost use Rattle.rustc_literal_escaper.specs.Elements.{items_of, TakesFirst};
 ghost use Rattle.rustc_literal_escaper.specs.Errors as errors;
 ghost use Rattle.rustc_literal_escaper.specs.Meaning.{unit_of};
 ghost use Rattle.rustc_lexer_c.specs.Escapes as spec;
+ghost use Rattle.rustc_lexer_c.specs.Status.{refusal_number};
 
-use crate::status::{Refusal, text_of, utf8_text_of};
+use crate::status::{OK, Refusal, text_of, utf8_text_of};
 use rustc_literal_escaper::{
     Element, Elements, EscapeError, Faults, Mode, NonZeroChar, unescape_byte, unescape_char,
 };
@@ -41,15 +42,12 @@ pub extern "C" fn rustc_lexer_unescape(
 ) -> u32
     ensures status { spec.IsModeStatus text.now (spec.mode_of mode) result }
     ensures units { result ≡ 0
-        → spec.AreWritten (spec.mode_of mode) text.now passed room.old room.new count.new }
+        → spec.AreWritten spec.units_of (spec.mode_of mode) text.now passed room.old room.new count.new }
     ensures refused { result ≢ 0 → spec.AreNone room.old room.new count.new }
 {
     match text_of(text) {
-        Ok(text) => unescape(text, mode, passed, room, count),
-        Err(refusal) => {
-            *count = 0;
-            refusal.number()
-        }
+        Ok(text) => write(text, Listing::Units, mode, passed, room, count),
+        Err(refusal) => refuse(refusal, count),
     }
 }
 
@@ -65,15 +63,12 @@ pub extern "C" fn rustc_lexer_unescape_unchecked(
     requires utf8 { IsUtf8 text.now }
     ensures status { spec.IsModeStatus text.now (spec.mode_of mode) result }
     ensures units { result ≡ 0
-        → spec.AreWritten (spec.mode_of mode) text.now passed room.old room.new count.new }
+        → spec.AreWritten spec.units_of (spec.mode_of mode) text.now passed room.old room.new count.new }
     ensures refused { result ≢ 0 → spec.AreNone room.old room.new count.new }
 {
     match utf8_text_of(text) {
-        Ok(text) => unescape(text, mode, passed, room, count),
-        Err(refusal) => {
-            *count = 0;
-            refusal.number()
-        }
+        Ok(text) => write(text, Listing::Units, mode, passed, room, count),
+        Err(refusal) => refuse(refusal, count),
     }
 }
 
@@ -91,15 +86,12 @@ pub extern "C" fn rustc_lexer_literal_errors(
 ) -> u32
     ensures status { spec.IsModeStatus text.now (spec.mode_of mode) result }
     ensures errors { result ≡ 0
-        → spec.AreWrittenErrors (spec.mode_of mode) text.now passed room.old room.new count.new }
+        → spec.AreWritten spec.wrong_units_of (spec.mode_of mode) text.now passed room.old room.new count.new }
     ensures refused { result ≢ 0 → spec.AreNone room.old room.new count.new }
 {
     match text_of(text) {
-        Ok(text) => errors(text, mode, passed, room, count),
-        Err(refusal) => {
-            *count = 0;
-            refusal.number()
-        }
+        Ok(text) => write(text, Listing::Errors, mode, passed, room, count),
+        Err(refusal) => refuse(refusal, count),
     }
 }
 
@@ -115,56 +107,55 @@ pub extern "C" fn rustc_lexer_literal_errors_unchecked(
     requires utf8 { IsUtf8 text.now }
     ensures status { spec.IsModeStatus text.now (spec.mode_of mode) result }
     ensures errors { result ≡ 0
-        → spec.AreWrittenErrors (spec.mode_of mode) text.now passed room.old room.new count.new }
+        → spec.AreWritten spec.wrong_units_of (spec.mode_of mode) text.now passed room.old room.new count.new }
     ensures refused { result ≢ 0 → spec.AreNone room.old room.new count.new }
 {
     match utf8_text_of(text) {
-        Ok(text) => errors(text, mode, passed, room, count),
-        Err(refusal) => {
-            *count = 0;
-            refusal.number()
+        Ok(text) => write(text, Listing::Errors, mode, passed, room, count),
+        Err(refusal) => refuse(refusal, count),
+    }
+}
+
+/// What is listed of a literal.
+#[derive(Clone, Copy)]
+enum Listing {
+    /// What it stands for, and what is wrong in it.
+    Units,
+    /// What is wrong in it.
+    Errors,
+}
+
+/// Writes what is listed of a text.
+fn write(
+    text: &str,
+    listing: Listing,
+    mode: u32,
+    passed: usize,
+    room: &mut [CUnit],
+    count: &mut usize,
+) -> u32
+    requires text { IsText text.now }
+    ensures status { spec.IsModeStatus text.now (spec.mode_of mode) result }
+    ensures listed { result ≡ 0
+        → spec.AreWritten (spec.listed listing) (spec.mode_of mode) text.now passed room.old room.new count.new }
+    ensures refused { result ≢ 0 → spec.AreNone room.old room.new count.new }
+{
+    match mode_of(mode) {
+        None => refuse(Refusal::BadMode, count),
+        Some(mode) => {
+            *count = fill(text, listing, mode, passed, room);
+            OK
         }
     }
 }
 
-/// Writes units of a text.
-fn unescape(text: &str, mode: u32, passed: usize, room: &mut [CUnit], count: &mut usize) -> u32
-    requires text { IsText text.now }
-    ensures status { spec.IsModeStatus text.now (spec.mode_of mode) result }
-    ensures units { result ≡ 0
-        → spec.AreWritten (spec.mode_of mode) text.now passed room.old room.new count.new }
-    ensures refused { result ≢ 0 → spec.AreNone room.old room.new count.new }
+/// Writes nothing, and answers the status.
+fn refuse(refusal: Refusal, count: &mut usize) -> u32
+    ensures status { result ≡ refusal_number refusal }
+    ensures count { count.new ≡ 0 }
 {
-    match mode_of(mode) {
-        None => {
-            *count = 0;
-            Refusal::BadMode.number()
-        }
-        Some(mode) => {
-            *count = fill(text, mode, passed, room);
-            0
-        }
-    }
-}
-
-/// Writes what is wrong in a text.
-fn errors(text: &str, mode: u32, passed: usize, room: &mut [CUnit], count: &mut usize) -> u32
-    requires text { IsText text.now }
-    ensures status { spec.IsModeStatus text.now (spec.mode_of mode) result }
-    ensures errors { result ≡ 0
-        → spec.AreWrittenErrors (spec.mode_of mode) text.now passed room.old room.new count.new }
-    ensures refused { result ≢ 0 → spec.AreNone room.old room.new count.new }
-{
-    match mode_of(mode) {
-        None => {
-            *count = 0;
-            Refusal::BadMode.number()
-        }
-        Some(mode) => {
-            *count = fill_all(Faults::new(text, mode), passed, room);
-            0
-        }
-    }
+    *count = 0;
+    refusal.number()
 }
 
 /// The mode of a number.
@@ -184,8 +175,18 @@ fn mode_of(number: u32) -> Option<Mode>
     }
 }
 
+/// Writes what is listed of a literal, and answers how many there are.
+fn fill(text: &str, listing: Listing, mode: Mode, passed: usize, room: &mut [CUnit]) -> usize
+    ensures { spec.IsUnits (spec.listed listing mode text.now) passed room.old room.new result }
+{
+    match listing {
+        Listing::Units => fill_units(text, mode, passed, room),
+        Listing::Errors => fill_all(Faults::new(text, mode), passed, room),
+    }
+}
+
 /// Writes units in a mode, and answers their number.
-fn fill(text: &str, mode: Mode, passed: usize, room: &mut [CUnit]) -> usize
+fn fill_units(text: &str, mode: Mode, passed: usize, room: &mut [CUnit]) -> usize
     ensures { spec.IsUnits (spec.units_of mode text.now) passed room.old room.new result }
 {
     if is_single(mode) {
