@@ -187,6 +187,9 @@ impl<'a> Iterator for EditionTokens<'a> {
 }
 
 /// The token at the front of a text, in an edition.
+///
+/// It is one call of `Cursor::advance_token`, since that is what a step of [`Steps`](crate::Steps) counts. Once it is
+/// inlined, nothing of the cursor is left.
 #[inline(always)]
 pub(crate) fn token_in(rest: &str, edition: Edition) -> Token
     requires not_empty { 0 < length rest.now }
