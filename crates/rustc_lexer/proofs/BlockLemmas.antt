@@ -1,14 +1,15 @@
 -- A text that is lexed block by block: each is a room that is filled with the next tokens.
-use Rattle.std.proofs.Common.{◌≡◌, ℕ, ◌+◌, ◌<◌, ◌≤◌, List, ◌++◌, length, take, drop, min, inl, inr, sym, ap, subst, ◌∙◌, arith, length-drop, length-append, length-take-le, take_at}
+use Rattle.std.proofs.Common.{◌≡◌, ℕ, ◌+◌, ◌-◌, ◌<◌, ◌≤◌, List, ◌++◌, length, map, take, drop, min, inl, inr, sym, ap, subst, ◌∙◌, arith, length-drop, length-append, length-take-le, take_at}
 use Rattle.std.proofs.lemmas.Bool.{cases_lt}
 use Rattle.std.proofs.lemmas.List.{map-id}
 use Rattle.std.proofs.Math.Nat.{min-eq_left, min-eq_right, min-le_right}
 use Rattle.std.proofs.Math.Seq.{take-add}
 use Rattle.rustc_lexer.specs.declared.token.Token.{Token}
-use Rattle.rustc_lexer.specs.Bulk.{IsFilled}
+use Rattle.rustc_lexer.specs.Bulk.{IsFilled, IsFilledTo}
 use Rattle.rustc_lexer.specs.Locality.{IsText, IsGrammar}
 use Rattle.rustc_lexer.specs.Tokens.{bound, tokens_by}
 use Rattle.rustc_lexer.proofs.BoundLemmas.{bound_mono, rises}
+use Rattle.rustc_lexer.proofs.BulkLemmas.{filled_all}
 use Rattle.rustc_lexer.proofs.CutLemmas.{IsCutAt, at_bound, tokens-cons}
 use Rattle.rustc_lexer.proofs.FrontLemmas.{bound-shift}
 use Rattle.rustc_lexer.proofs.ProgressLemmas.{IsLexedTo, IsPlace, lexed_place}
@@ -19,17 +20,22 @@ pub record IsFront (tokens : List Token) (filled : List Token) (count : ℕ) : T
   pub within : count ≤ length filled
   pub front : take count filled ≡ take count tokens
 
-pub filled_front : (tokens room filled : List Token) (count : ℕ) → IsFilled (λ (t : Token). t) tokens room filled count → IsFront tokens filled count
-filled_front tokens room filled count is =
-    let few : count ≤ length tokens = omega (arith, is.as_many, min-le_right (length room) (length tokens)) in
+front_of : (tokens room filled : List Token) (count : ℕ) → count ≤ length tokens → filled ≡ map (λ (t : Token). t) (take count tokens) ++ drop count room → IsFront tokens filled count
+front_of tokens room filled count few is =
     let short : length (take count tokens) ≡ count = length-take-le count tokens few in
-    let whole : filled ≡ take count tokens ++ drop count room = is.tokens ∙ ap (λ ts. ts ++ drop count room) (map-id (take count tokens)) in
+    let whole : filled ≡ take count tokens ++ drop count room = is ∙ ap (λ ts. ts ++ drop count room) (map-id (take count tokens)) in
     let long = ap length whole in
     record {
       few = few;
       within = omega (arith, long, short, length-append (take count tokens) (drop count room));
       front = ap (take count) whole ∙ take_at (take count tokens) (drop count room) count short;
     }
+
+pub filled_front : (tokens room filled : List Token) (count : ℕ) → IsFilled (λ (t : Token). t) tokens room filled count → IsFront tokens filled count
+filled_front tokens room filled count is = front_of tokens room filled count (omega (arith, is.as_many, min-le_right (length room) (length tokens))) is.tokens
+
+pub filled_to_front : (end : ℕ) (tokens room filled : List Token) (count : ℕ) → IsFilledTo (λ (t : Token). t) end tokens room filled count → IsFront tokens filled count
+filled_to_front end tokens room filled count is = front_of tokens room filled count is.few is.tokens
 
 module _ {first : List ℕ → Token} (law : IsGrammar first) where
   -- a room that is not empty is filled with some bytes of a text that is not empty
@@ -69,14 +75,16 @@ pub record IsBlock (first : List ℕ → Token) (text : List ℕ) (items filled 
 
 -- a stepper whose grammar is the one that it had at first fills the room with the tokens of what is left
 pub block_more : {first now : List ℕ → Token} (law : IsGrammar first) (text left : List ℕ) (items room filled : List Token) (place count bytes : ℕ) → now ≡ first → IsText text → IsLexedTo first text items place → place < length text → left ≡ drop place text → 0 < length room
-    → IsFilled (λ (t : Token). t) (tokens_by now left) room filled count → bytes ≡ bound (tokens_by now left) count → IsBlock first text items filled place count bytes
-block_more {first} {now} law text left items room filled place count bytes same is at more here places fills long =
+    → (end : ℕ) → end ≡ length text - place → IsFilledTo (λ (t : Token). t) end (tokens_by now left) room filled count → bytes ≡ bound (tokens_by now left) count → IsBlock first text items filled place count bytes
+block_more {first} {now} law text left items room filled place count bytes same is at more here places end whole fills long =
     let tokens : List Token = tokens_by first left in
-    let full : IsFilled (λ (t : Token). t) tokens room filled count = subst (λ (f : List ℕ → Token). IsFilled (λ (t : Token). t) (tokens_by f left) room filled count) same fills in
-    let bytes_is : bytes ≡ bound tokens count = long ∙ ap (λ (f : List ℕ → Token). bound (tokens_by f left) count) same in
-    let front : IsFront tokens filled count = filled_front tokens room filled count full in
     let spot : IsPlace text place = lexed_place law text items place is at in
     let left_is : IsText left = subst IsText (sym here) spot.past in
+    let all : end ≡ length left = omega (arith, whole, ap length here, length-drop place text) in
+    let full : IsFilled (λ (t : Token). t) tokens room filled count =
+    filled_all law (λ (t : Token). t) left left_is end all room filled count (subst (λ (f : List ℕ → Token). IsFilledTo (λ (t : Token). t) end (tokens_by f left) room filled count) same fills) in
+    let bytes_is : bytes ≡ bound tokens count = long ∙ ap (λ (f : List ℕ → Token). bound (tokens_by f left) count) same in
+    let front : IsFront tokens filled count = filled_front tokens room filled count full in
     let some_left : 0 < length left = omega (arith, ap length here, length-drop place text) in
     let next = lexed_block law text left items (take count filled) place count bytes is at here front.few front.front bytes_is in
     record {

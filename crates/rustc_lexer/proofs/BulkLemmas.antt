@@ -8,7 +8,7 @@ use Rattle.std.proofs.Math.Nat.{min-eq_left, min-eq_right, min-le_right}
 use Rattle.rustc_lexer.specs.declared.token.Token.{Token}
 use Rattle.rustc_lexer.specs.declared.edition.Edition.{Edition}
 use Rattle.rustc_lexer.specs.declared.edition.Edition.TheVariants.{E2024}
-use Rattle.rustc_lexer.specs.Bulk.{IsFilled, state_past}
+use Rattle.rustc_lexer.specs.Bulk.{IsFilled, IsFilledTo, state_past}
 use Rattle.rustc_lexer.specs.Tokens.{bound, tokens_by, tokens_of, tokens_left, Partitions, TakesToken}
 use Rattle.rustc_lexer.specs.State.{State}
 use Rattle.rustc_lexer.specs.Locality.{IsText, IsGrammar}
@@ -60,6 +60,22 @@ full_written written tokens room filled count is full = record {
   tokens = sym (take-append-drop count filled) ∙ (ap (λ l. l ++ drop count filled) is.front ∙ ap (λ l. map written (take count tokens) ++ l) is.back);
 }
 
+-- the tokens that begin before a place are written, and no other is left to be, or no room
+pub begun_more : (tokens : List Token) (count at end : ℕ) → at ≡ bound tokens count → at < end → ((k : ℕ) → k < count → bound tokens k < end) → (k : ℕ) → k < count + 1 → bound tokens k < end
+begun_more tokens count at end place more begun k less = elim (cases_lt k count) [
+  | inl below ↦ begun k below
+  | inr same ↦ let e : k ≡ count = omega arith in omega (arith, place, ap (bound tokens) e)
+]
+
+pub written_to : {X : Type 0} (written : Token → X) (end : ℕ) (tokens : List Token) (room filled : List X) (count at : ℕ) → IsWritten written tokens room filled count → at ≡ bound tokens count → ((k : ℕ) → k < count → bound tokens k < end) → (count < length filled → end ≤ at) → IsFilledTo written end tokens room filled count
+written_to written end tokens room filled count at is place begun done = record {
+  few = is.few;
+  within = is.within;
+  tokens = sym (take-append-drop count filled) ∙ (ap (λ l. l ++ drop count filled) is.front ∙ ap (λ l. map written (take count tokens) ++ l) is.back);
+  begun = begun;
+  all = λ more. let e = done (omega (arith, is.long)) in omega (arith, place);
+}
+
 -- ---- where the tokens end in the text
 
 module _ {first : List ℕ → Token} (law : IsGrammar first) (text : List ℕ) (is : IsText text) (count at : ℕ) (place : at ≡ bound (tokens_by first text) count) where
@@ -90,6 +106,24 @@ module _ {first : List ℕ → Token} (law : IsGrammar first) (text : List ℕ) 
       let gone : drop count (tokens_by first text) ≡ [] = cut.rest ∙ (ap (tokens_by first) none ∙ tokens-nil first) in
       let no : length (drop count (tokens_by first text)) ≡ 0 = ap length gone in
       omega (arith, length-drop count (tokens_by first text))
+
+-- those that begin before the end of the text are all
+pub filled_all : {first : List ℕ → Token} (law : IsGrammar first) {X : Type 0} (written : Token → X) (text : List ℕ) → IsText text → (end : ℕ) → end ≡ length text → (room filled : List X) (count : ℕ) → IsFilledTo written end (tokens_by first text) room filled count → IsFilled written (tokens_by first text) room filled count
+filled_all {first} law written text is end whole room filled count to = record {
+  as_many = elim (cases_lt count (length room)) [
+    | inl more ↦
+        let far = to.all more in
+        let n : length (tokens_by first text) ≤ count = over law text is count _ refl (omega (arith, whole)) in
+        let e : count ≡ length (tokens_by first text) = omega (arith, to.few) in
+        let m : length (tokens_by first text) ≤ length room = omega (arith, to.within) in
+        e ∙ sym (min-eq_right m)
+    | inr full ↦
+        let e : count ≡ length room = omega (arith, to.within) in
+        let m : length room ≤ length (tokens_by first text) = omega (arith, to.few) in
+        e ∙ sym (min-eq_left m)
+  ];
+  tokens = to.tokens;
+}
 
 -- ---- the state past some tokens, where no frontmatter is allowed
 

@@ -49,6 +49,7 @@ pub mod QuotedLoop
 pub mod RawLemmas
 pub mod RawReadLemmas
 pub mod ReadyLemmas
+pub mod RelexBlockLemmas
 pub mod RelexingLemmas
 pub mod RenewedLemmas
 pub mod RunLemmas

@@ -1,7 +1,7 @@
 //! Many tokens at once, written into a room.
-ghost use Rattle.std.specs.Prelude.{◌≡◌, ◌<◌, IsCharBoundary, false, length};
+ghost use Rattle.std.specs.Prelude.{◌≡◌, ◌<◌, ◌≤◌, IsCharBoundary, false, length};
 ghost use Rattle.rustc_lexer.specs.declared.token.Token.{Token};
-ghost use Rattle.rustc_lexer.specs.Bulk.{has_fields, IsFilled};
+ghost use Rattle.rustc_lexer.specs.Bulk.{has_fields, IsFilledTo};
 ghost use Rattle.rustc_lexer.specs.Classes.{Fits};
 ghost use Rattle.rustc_lexer.specs.Tokens.{bound, tokens_of};
 ghost use Rattle.rustc_lexer.specs.means.Edition.{first_token_in};
@@ -42,22 +42,29 @@ impl Record for Token {
     }
 }
 
-/// Writes the first tokens of a text into the room, in an edition: as many as there are, or as it has room for. Their
-/// number, and how many bytes they have.
+/// Writes the first tokens of a text into the room, in an edition: those that begin before `end`, or as many as it has
+/// room for. Their number, and how many bytes they have.
 ///
 /// The ends of runs are found 64 bytes at a time. Where these tell a token, its kind is a look in a table and its length
 /// a count of zeros, with no branch on either.
 #[inline(always)]
-pub(crate) fn fill<R: Record>(text: &str, edition: Edition, room: &mut [R]) -> (usize, usize)
+pub(crate) fn fill<R: Record>(
+    text: &str,
+    end: usize,
+    edition: Edition,
+    room: &mut [R],
+) -> (usize, usize)
     requires fits { Fits text.now }
-    ensures filled { IsFilled R.written (tokens_of (part edition) text.now) room.old room.new result.0 }
+    requires inside { end ≤ length text.now }
+    ensures filled { IsFilledTo R.written end (tokens_of (part edition) text.now)
+        room.old room.new result.0 }
     ensures bytes { result.1 ≡ bound (tokens_of (part edition) text.now) result.0 }
     ensures boundary { IsCharBoundary text.now result.1 }
 {
     let mut count = 0;
     let mut at = 0;
     let mut ends = 0;
-    'tokens: while count < room.len() && at < text.len() {
+    'tokens: while count < room.len() && at < end {
         let rest = &text[at..];
         ends = ends_for(rest, ends);
         let len = put(rest, edition, ends, &mut room[count]);

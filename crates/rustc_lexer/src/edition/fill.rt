@@ -21,7 +21,7 @@ impl<'a> EditionTokens<'a> {
             → length self.new.rest < length self.old.rest }
     {
         let rest = self.as_str();
-        let (count, bytes) = bulk::fill(rest, self.edition, room);
+        let (count, bytes) = bulk::fill(rest, rest.len(), self.edition, room);
         self.rest = &rest[bytes..];
         count
     }

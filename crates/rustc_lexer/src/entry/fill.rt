@@ -38,7 +38,7 @@ impl<'a> Tokens<'a> {
     {
         let rest = self.as_str();
         if self.cursor.allows_none() && rest.len() >= BLOCK {
-            let (count, bytes) = bulk::fill(rest, Edition::E2024, room);
+            let (count, bytes) = bulk::fill(rest, rest.len(), Edition::E2024, room);
             self.cursor.skip(bytes);
             return count;
         }

@@ -1,8 +1,8 @@
 //! A grammar, met one token at a time or many at once.
-ghost use Rattle.std.specs.Prelude.{◌≡◌, ◌+◌, ◌<◌, List, ℕ, length};
+ghost use Rattle.std.specs.Prelude.{◌≡◌, ◌+◌, ◌<◌, ◌≤◌, List, ℕ, length};
 ghost use Rattle.rustc_lexer.specs.declared.edition.Edition.TheVariants.{E2024};
 ghost use Rattle.rustc_lexer.specs.declared.token.Token.{Token};
-ghost use Rattle.rustc_lexer.specs.Bulk.{IsFilled};
+ghost use Rattle.rustc_lexer.specs.Bulk.{IsFilledTo};
 ghost use Rattle.rustc_lexer.specs.Classes.{Fits};
 ghost use Rattle.rustc_lexer.specs.Tokens.{bound, tokens_by, tokens_of};
 ghost use Rattle.rustc_lexer.specs.means.Edition.{first_token_in};
@@ -43,13 +43,14 @@ pub trait Stepper: Drop {
         ensures grammar { grammar self.new ≡ grammar self.old }
         ensures number { number self.new ≡ number self.old };
 
-    /// The first tokens of the text, written into the room: as many as there are, or as it has room for. Answers their
-    /// number, and how many bytes they have. Each is a step.
+    /// The first tokens of the text, written into the room: those that begin before `end`, or as many as it has room for.
+    /// Answers their number, and how many bytes they have. Each is a step.
     ///
     /// One step after another gives them here. A stepper that finds many tokens at once has a body of its own.
-    fn fill(&mut self, text: &str, room: &mut [Token]) -> (usize, usize)
+    fn fill(&mut self, text: &str, end: usize, room: &mut [Token]) -> (usize, usize)
         requires fits { Fits text.now }
-        ensures filled { IsFilled (λ token. token) (tokens_by (grammar self.old) text.now)
+        requires inside { end ≤ length text.now }
+        ensures filled { IsFilledTo (λ token. token) end (tokens_by (grammar self.old) text.now)
             room.old room.new result.0 }
         ensures bytes { result.1 ≡ bound (tokens_by (grammar self.old) text.now) result.0 }
         ensures count { count self.new ≡ count self.old + result.0 }
@@ -58,7 +59,7 @@ pub trait Stepper: Drop {
     {
         let mut written = 0;
         let mut at = 0;
-        'places: while written < room.len() && at < text.len() {
+        'places: while written < room.len() && at < end {
             let token = self.step(&text[at..]);
             room[written] = token;
             written += 1;
@@ -125,8 +126,8 @@ impl Stepper for Steps {
         token_in(rest, self.edition)
     }
 
-    fn fill(&mut self, text: &str, room: &mut [Token]) -> (usize, usize) {
-        let (count, bytes) = bulk::fill(text, self.edition, room);
+    fn fill(&mut self, text: &str, end: usize, room: &mut [Token]) -> (usize, usize) {
+        let (count, bytes) = bulk::fill(text, end, self.edition, room);
         self.tally.tick_by(count);
         (count, bytes)
     }

@@ -1,5 +1,5 @@
 //! One edit: the text that it makes, and the tokens that it lexes for it.
-ghost use Rattle.std.specs.Prelude.{◌≡◌, ◌+◌, ◌-◌, ◌^◌, ◌<◌, ◌≤◌, IfOk, IfErr, OnOk, OnErr, List, ℕ, length, map};
+ghost use Rattle.std.specs.Prelude.{◌≡◌, ◌+◌, ◌-◌, ◌^◌, ◌<◌, ◌≤◌, ◌++◌, IfOk, IfErr, OnOk, OnErr, List, ℕ, drop, length, map};
 ghost use Rattle.std.specs.List.{All};
 ghost use Rattle.std.specs.Str.{IsUtf8};
 ghost use Rattle.std.specs.String.{string_bytes, string_capacity, string_len};
@@ -8,7 +8,7 @@ ghost use Rattle.rustc_lexer.specs.Classes.{Fits};
 ghost use Rattle.rustc_lexer.specs.Tokens.{tokens_by};
 ghost use Rattle.rustc_lexer.specs.Edits.{IsEdit, IsInside, apply, relexed_of};
 ghost use Rattle.rustc_lexer.specs.means.Landmarks.{AreBounds, IsMovable, IsReplaced, end_of};
-ghost use Rattle.rustc_lexer.specs.Relexing.{IsBound, IsChange, IsMadeOf, MayGoOn, known};
+ghost use Rattle.rustc_lexer.specs.Relexing.{IsBound, IsChange, IsMadeOf, MayGoOn, Stands, known};
 ghost use Rattle.rustc_lexer.specs.means.Relexing.{IsLexed, IsRenewed};
 ghost use Rattle.rustc_lexer.specs.Locality.{IsText};
 
@@ -16,9 +16,13 @@ use crate::entry::stepper::Stepper;
 use crate::relex::front::Bound;
 use crate::relex::landmarks::Landmarks;
 use crate::relex::relexing::{Change, Relexed, Relexing};
+use crate::relex::lex::new_room;
 use crate::relex::replace::replace;
 use crate::token::Token;
 use std::alloc::{AllocError, Global};
+
+/// What is put in is lexed many tokens at once where it has so many bytes. It does not pay for fewer.
+const LONG: usize = 256;
 
 /// One edit, its insertion borrowed.
 #[derive(Clone, Copy, Debug, PartialEq, Eq)]
@@ -79,10 +83,52 @@ fn relex<S: Stepper>(
 {
     let mut tokens = Vec::new(alloc);
     let mut at = Relexing::begin(text, old, change, near);
+    relex_inserted(stepper, old, text, change, &mut at, &mut tokens)?;
     while let Some(token) = at.next(stepper, text, old, change) {
         tokens.push(token)?;
     }
     Ok((tokens, at))
+}
+
+/// Lexes the tokens that begin before the end of what was put in, many at once, where that is long.
+fn relex_inserted<S: Stepper>(
+    stepper: &mut S,
+    old: &[Token],
+    text: &str,
+    change: Change,
+    at: &mut Relexing,
+    tokens: &mut Vec<Token>,
+) -> Result<(), AllocError>
+    requires fits { Fits text.now }
+    requires change { IsChange text.now change }
+    requires may_go_on { MayGoOn text.now (length old.now) at.old }
+    ensures grammar { S.grammar stepper.new ≡ S.grammar stepper.old }
+    ensures number { S.number stepper.new ≡ S.number stepper.old }
+    ensures may_go_on { MayGoOn text.now (length old.now) at.new }
+    ensures front { at.new.front ≡ at.old.front }
+    ensures count { S.count stepper.new + at.old.lexed ≡ S.count stepper.old + at.new.lexed }
+    ensures rose { S.count stepper.old ≤ S.count stepper.new }
+    ensures lexed { OnOk result
+        (length tokens.new.items + at.old.lexed ≡ length tokens.old.items + at.new.lexed) }
+    ensures stands { (before insert : List ℕ)
+        → IsMadeOf (S.grammar stepper.old) before (map (λ (t : Token). t.len) old.now)
+        change insert text.now
+        → Stands (S.grammar stepper.old) before change text.now at.old
+        → Stands (S.grammar stepper.old) before change text.now at.new
+        × ((all : List Token)
+        → all ≡ tokens.old.items ++ drop (known at.old) (tokens_by (S.grammar stepper.old) text.now)
+        → OnOk result (all
+        ≡ tokens.new.items ++ drop (known at.new) (tokens_by (S.grammar stepper.old) text.now))) }
+{
+    if change.new_stop - change.start < LONG {
+        return Ok(());
+    }
+    let mut room = new_room();
+    'inserted: while at.at < change.new_stop {
+        let count = at.fill(stepper, text, old, change, &mut room);
+        tokens.extend_from_slice(&room[..count])?;
+    }
+    Ok(())
 }
 
 /// Puts the tokens of the changed text in place of the old ones, and answers where lexing met these. Where memory

@@ -13,6 +13,16 @@ use std::alloc::{AllocError, Global};
 /// How many tokens are lexed at once, and stand between two landmarks.
 const BLOCK: usize = 128;
 
+/// A room in which no token was written yet.
+pub(crate) fn new_room() -> [Token; BLOCK]
+    ensures { length result ≡ 128 }
+{
+    [Token {
+        kind: TokenKind::Eof,
+        len: 0,
+    }; BLOCK]
+}
+
 /// All tokens of a text, and landmarks among them.
 pub(crate) fn lex_all<S: Stepper>(
     alloc: Global,
@@ -29,15 +39,12 @@ pub(crate) fn lex_all<S: Stepper>(
 {
     let mut tokens = Vec::new(alloc);
     let mut landmarks = Landmarks::new();
-    let mut room = [Token {
-        kind: TokenKind::Eof,
-        len: 0,
-    }; BLOCK];
+    let mut room = new_room();
     let mut place = 0;
     'left: while place < text.len() {
         let number = tokens.len();
         landmarks.remember(Bound { number, place }, text.len());
-        let (count, bytes) = stepper.fill(&text[place..], &mut room);
+        let (count, bytes) = stepper.fill(&text[place..], text.len() - place, &mut room);
         tokens.extend_from_slice(&room[..count])?;
         place += bytes;
     }

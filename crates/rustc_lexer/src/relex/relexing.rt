@@ -1,11 +1,11 @@
 //! Lexing again what an edit changed, on lists that the caller holds.
-ghost use Rattle.std.specs.Prelude.{◌≡◌, ◌-◌, ◌≤◌, ◌↔◌, IsTrue, List, length, map, ℕ, true};
+ghost use Rattle.std.specs.Prelude.{◌≡◌, ◌+◌, ◌-◌, ◌<◌, ◌≤◌, ◌++◌, ◌↔◌, IsTrue, List, drop, length, map, take, ℕ, true};
 ghost use Rattle.rustc_lexer.specs.declared.relex.relexing.Change.{Change};
 ghost use Rattle.rustc_lexer.specs.declared.token.Token.{Token};
 ghost use Rattle.rustc_lexer.specs.Edits.{relexed_of};
 ghost use Rattle.rustc_lexer.specs.Classes.{Fits};
 ghost use Rattle.rustc_lexer.specs.Tokens.{tokens_by};
-ghost use Rattle.rustc_lexer.specs.Relexing.{IsBound};
+ghost use Rattle.rustc_lexer.specs.Relexing.{IsBound, known};
 ghost use Rattle.rustc_lexer.specs.Relexing as spec;
 ghost use Rattle.rustc_lexer.specs.means.Relexing.{damage_of};
 ghost use Rattle.rustc_lexer.specs.Locality.{IsGrammar};
@@ -166,6 +166,49 @@ impl Relexing {
             met: to.met,
         };
         Some(token)
+    }
+
+    /// Writes the next tokens into the room: those that begin before the end of what was put in, or as many as it has
+    /// room for. Answers their number. None of them can meet the old tokens before the last one ends.
+    pub(crate) fn fill<S: Stepper, T: Measured>(
+        &mut self,
+        stepper: &mut S,
+        text: &str,
+        old: &[T],
+        change: Change,
+        room: &mut [Token],
+    ) -> usize
+        requires fits { Fits text.now }
+        requires change { spec.IsChange text.now change }
+        requires may_go_on { spec.MayGoOn text.now (length old.now) self.old }
+        requires before { self.old.at < change.new_stop }
+        requires places { 0 < length room.old }
+        ensures may_go_on { spec.MayGoOn text.now (length old.now) self.new }
+        ensures grammar { S.grammar stepper.new ≡ S.grammar stepper.old }
+        ensures number { S.number stepper.new ≡ S.number stepper.old }
+        ensures count { S.count stepper.new ≡ S.count stepper.old + result }
+        ensures lexed { self.new.lexed ≡ self.old.lexed + result }
+        ensures front { self.new.front ≡ self.old.front }
+        ensures progress { self.old.at < self.new.at }
+        ensures room { (result ≤ length room.new) × (length room.new ≡ length room.old) }
+        ensures stands { (before insert : List ℕ)
+            → spec.IsMadeOf (S.grammar stepper.old) before (map T.bytes old.now) change insert text.now
+            → spec.Stands (S.grammar stepper.old) before change text.now self.old
+            → spec.Stands (S.grammar stepper.old) before change text.now self.new
+            × (drop (known self.old) (tokens_by (S.grammar stepper.old) text.now)
+            ≡ take result room.new ++ drop (known self.new) (tokens_by (S.grammar stepper.old) text.now)) }
+    {
+        let (count, bytes) = stepper.fill(&text[self.at..], change.new_stop - self.at, room);
+        let at = self.at + bytes;
+        let to = follow(old, self.back, at, change.damage());
+        *self = Relexing {
+            front: self.front,
+            lexed: self.lexed + count,
+            back: to.at,
+            at,
+            met: to.met,
+        };
+        count
     }
 
     /// The counts of the edit, once the old tokens are met, of which there are `old_count`.

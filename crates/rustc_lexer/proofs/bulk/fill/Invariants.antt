@@ -1,4 +1,4 @@
-use Rattle.std.proofs.Common.{◌≡◌, ◌-◌, length, drop}
+use Rattle.std.proofs.Common.{◌≡◌, ◌-◌, ◌<◌, ℕ, length, drop}
 use Rattle.rustc_lexer.specs.Tokens.{bound, tokens_of}
 use Rattle.rustc_lexer.specs.LanguageText.{part}
 use Rattle.rustc_lexer.specs.means.Ends.{IsEnds}
@@ -8,6 +8,7 @@ use Rattle.rustc_lexer.proofs.bulk.fill.Given as goal
 abbrev pub invariant-tokens : goal.invariant-tokens
 invariant-tokens g l = record {
   written : IsWritten g.R.Record.written (tokens_of (part l.edition) l.text) l.fn.room l.room l.count;
+  begun : (k : ℕ) → k < l.count → bound (tokens_of (part l.edition) l.text) k < l.end;
   place : l.at ≡ bound (tokens_of (part l.edition) l.text) l.count;
   ends : IsEnds (drop l.at l.text) l.ends;
 }

@@ -1,4 +1,5 @@
 use Rattle.std.proofs.Common.{◌≡◌, ◌+◌, ◌∷◌, [], ◌++◌, List, ℕ, length, map, drop, refl, sym, ap, ◌∙◌, subst, arith, append_assoc, length-append}
+use Rattle.rustc_lexer.specs.declared.relex.front.Bound.{Bound}
 use Rattle.rustc_lexer.specs.declared.token.Token.{Token}
 use Rattle.rustc_lexer.specs.Tokens.{tokens_by}
 use Rattle.rustc_lexer.specs.Relexing.{IsMadeOf, Stands, known}
@@ -8,17 +9,32 @@ use Rattle.rustc_lexer.proofs.relex.edit.relex.Goals as goal
 
 pub loop-token-init : goal.loop-token-init
 loop-token-init g c =
-    let none = c.new-tokens.ensures.items in (
-      c.begin-at.ensures.may_go_on,
-      refl,
-      refl,
-      rw none (omega arith),
-      rw none c.begin-at.ensures.none,
+    let none = c.new-tokens.ensures.items in
+    let zero_lexed = c.begin-at.ensures.none in
+    let ins = c.in_ok-relex_inserted.ensures in
+    let empty : length c.new-tokens.result.items ≡ 0 = ap length none in (
+      ins.may_go_on,
+      ins.grammar,
+      ins.number,
+      omega (arith, ins.count, ins.lexed, zero_lexed, empty),
+      omega (arith, ins.lexed, zero_lexed, empty),
       λ before insert is near.
           let first = g.S.Stepper.grammar c.args.stepper.now in
+          let new = tokens_by first c.args.text.now in
           let stands = c.begin-at.ensures.stands first before insert (g.S.Stepper.law c.args.stepper.now) is near in
-          (stands, all_lexed (tokens_by first c.args.text.now) c.begin-at.result c.new-tokens.result.items none c.begin-at.ensures.none),
+          let so = ins.stands before insert is stands in
+          (so.0, ap (λ (b : Bound). drop b.number new) ins.front ∙ so.1 _ (all_lexed new c.begin-at.result c.new-tokens.result.items none zero_lexed)),
     )
+
+pub returns-in_err-relex_inserted-clause-few : goal.returns-in_err-relex_inserted-clause-few
+returns-in_err-relex_inserted-clause-few g c =
+    let first = g.S.Stepper.grammar c.args.stepper.now in
+    let at = c.relex_inserted.new.at in
+    let ins = c.in_err-relex_inserted.ensures in
+    IfErr-always c.from_residual.result (λ before insert is near.
+    let stands = c.begin-at.ensures.stands first before insert (g.S.Stepper.law c.args.stepper.now) is near in
+    let so = ins.stands before insert is stands in
+    omega (arith, ins.count, c.begin-at.ensures.none, few_lexed (g.S.Stepper.law c.args.stepper.now) before _ insert _ c.args.change is at so.0))
 
 pub loop-token-smaller : goal.loop-token-smaller
 loop-token-smaller g c =
@@ -58,7 +74,7 @@ returns-in_err-push-clause-few g c =
     let past = c.next.new.self in
     let step = c.in-Some.ensures.step in
     let lexed = step.0.lexed in
-    IfErr-always c.from_residual.result (λ before insert is near.
+    IfErr-always c.from_residual-in_err-push.result (λ before insert is near.
     let so = c.loop-token.invariant.5 before insert is near in
     let next = subst (λ (f : List ℕ → Token). IsMadeOf f before (map (λ (t : Token). t.len) c.args.old.now) c.args.change insert c.args.text.now → Stands f before c.args.change c.args.text.now at → Stands f before c.args.change c.args.text.now past × (drop (known at) (tokens_by f c.args.text.now) ≡ c.in-Some.token ∷ drop (known past) (tokens_by f c.args.text.now))) c.loop-token.invariant.1 (c.in-Some.ensures.stands before insert) is so.0 in
     omega (arith, step.1, lexed, c.loop-token.invariant.3, c.loop-token.invariant.4, few_lexed (g.S.Stepper.law c.args.stepper.now) before _ insert _ c.args.change is past next.0))

@@ -28,7 +28,7 @@ overflow_add-place g c =
     let is : IsText c.args.text.now = record { utf8 = c.utf8.text; fits = c.requires.fits } in
     let some_room : 0 < length c.left.room = omega arith in
     let next = block_more (g.S.Stepper.law c.args.stepper.now) c.args.text.now c.range_from.result.now c.left.tokens.items c.left.room c.fill-count.new.room c.left.place c.fill-count.result.0 c.fill-count.result.1
-    c.left.invariant.1 is c.left.invariant.0 (omega arith) c.range_from.ensures.value some_room c.fill-count.ensures.filled c.fill-count.ensures.bytes in
+    c.left.invariant.1 is c.left.invariant.0 (omega arith) c.range_from.ensures.value some_room _ (omega arith) c.fill-count.ensures.filled c.fill-count.ensures.bytes in
     let few = next.few in
     omega arith
 
@@ -37,7 +37,7 @@ left-smaller g c =
     let is : IsText c.args.text.now = record { utf8 = c.utf8.text; fits = c.requires.fits } in
     let some_room : 0 < length c.left.room = omega arith in
     let next = block_more (g.S.Stepper.law c.args.stepper.now) c.args.text.now c.range_from.result.now c.left.tokens.items c.left.room c.fill-count.new.room c.left.place c.fill-count.result.0 c.fill-count.result.1
-    c.left.invariant.1 is c.left.invariant.0 (omega arith) c.range_from.ensures.value some_room c.fill-count.ensures.filled c.fill-count.ensures.bytes in
+    c.left.invariant.1 is c.left.invariant.0 (omega arith) c.range_from.ensures.value some_room _ (omega arith) c.fill-count.ensures.filled c.fill-count.ensures.bytes in
     let few = next.few in
     let some = next.some in
     omega arith
@@ -47,7 +47,7 @@ left-preserved g c =
     let is : IsText c.args.text.now = record { utf8 = c.utf8.text; fits = c.requires.fits } in
     let some_room : 0 < length c.left.room = omega arith in
     let next = block_more (g.S.Stepper.law c.args.stepper.now) c.args.text.now c.range_from.result.now c.left.tokens.items c.left.room c.fill-count.new.room c.left.place c.fill-count.result.0 c.fill-count.result.1
-    c.left.invariant.1 is c.left.invariant.0 (omega arith) c.range_from.ensures.value some_room c.fill-count.ensures.filled c.fill-count.ensures.bytes in
+    c.left.invariant.1 is c.left.invariant.0 (omega arith) c.range_from.ensures.value some_room _ (omega arith) c.fill-count.ensures.filled c.fill-count.ensures.bytes in
     let number : c.len-number.result ≡ length c.left.tokens.items = search rules in (
       rw c.in_ok-extend_from_slice.ensures.items next.more,
       c.fill-count.ensures.grammar ∙ c.left.invariant.1,

@@ -2,7 +2,7 @@ use Rattle.std.proofs.Common.{◌≡◌, ◌+◌, ◌<◌, List, ℕ, length, dr
 use Rattle.rustc_lexer.specs.declared.token.Token.{Token}
 use Rattle.rustc_lexer.specs.Locality.{IsText}
 use Rattle.rustc_lexer.specs.Tokens.{tokens_by}
-use Rattle.rustc_lexer.proofs.BulkLemmas.{all_written, one_written, stands, next_token, next_place, over}
+use Rattle.rustc_lexer.proofs.BulkLemmas.{begun_more, one_written, stands, next_token, next_place, written_to}
 use Rattle.rustc_lexer.proofs.ProgressLemmas.{stepped}
 use Rattle.rustc_lexer.proofs.entry.stepper.Stepper.fill.Goals as goal
 
@@ -22,14 +22,15 @@ places-preserved g c =
     record {
       written = one_written (λ (t : Token). t) (tokens_by first text) _ c.args.room.now c.places.room c.places.written (first (drop c.places.at text)) inv.written
           (next_token law text is c.places.written c.places.at inv.place more) room c.step-token.result token;
+      begun = begun_more (tokens_by first text) c.places.written c.places.at c.args.end inv.place (omega arith) inv.begun;
       place = ap (λ (t : Token). c.places.at + t.len) token ∙ next_place law text is c.places.written c.places.at inv.place more;
       count = omega (arith, c.step-token.ensures.count, inv.count);
       grammar = c.step-token.ensures.grammar ∙ inv.grammar;
       number = c.step-token.ensures.number ∙ inv.number;
     }
 
-pub returns-else-at-text-clause-filled : goal.returns-else-at-text-clause-filled
-returns-else-at-text-clause-filled g c =
-    let text : List ℕ = c.args.text.now in
-    all_written (λ (t : Token). t) (tokens_by (g.Self.Stepper.grammar c.args.self.now) text) c.args.room.now c.places.room c.places.written c.places.invariant.written
-    (over (g.Self.Stepper.law c.args.self.now) text record { utf8 = c.utf8.text; fits = c.requires.fits } c.places.written c.places.at c.places.invariant.place (omega arith))
+pub returns-else-at-end-clause-filled : goal.returns-else-at-end-clause-filled
+returns-else-at-end-clause-filled g c = written_to (λ (t : Token). t) c.args.end (tokens_by (g.Self.Stepper.grammar c.args.self.now) c.args.text.now) c.args.room.now c.places.room c.places.written c.places.at c.places.invariant.written c.places.invariant.place c.places.invariant.begun (λ _. omega arith)
+
+pub returns-after-places-clause-filled : goal.returns-after-places-clause-filled
+returns-after-places-clause-filled g c = written_to (λ (t : Token). t) c.args.end (tokens_by (g.Self.Stepper.grammar c.args.self.now) c.args.text.now) c.args.room.now c.places.room c.places.written c.places.at c.places.invariant.written c.places.invariant.place c.places.invariant.begun (λ more. omega arith)

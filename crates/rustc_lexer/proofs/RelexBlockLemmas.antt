@@ -1,0 +1,151 @@
+-- Relexing over many tokens at once, each of which begins before the end of what an edit put in.
+use Rattle.std.proofs.Common.{◌≡◌, ℕ, zero, suc, ◌+◌, ◌-◌, ◌<◌, ◌≤◌, Bool, true, false, ◌&&◌, leb, true≢false, List, ◌++◌, length, map, take, drop, inl, inr, refl, sym, ap, ◌∙◌, subst, arith, drop-drop, length-drop, IsUtf8, IsCharBoundary}
+use Rattle.std.proofs.lemmas.Bool.{cases_lt, leb-true}
+use Rattle.std.proofs.lemmas.List.{take-append-drop}
+use Rattle.std.proofs.lemmas.Str.{IsCharBoundary-from_drop, IsUtf8-drop}
+use Rattle.rustc_lexer.specs.declared.relex.front.Bound.{Bound}
+use Rattle.rustc_lexer.specs.declared.relex.front.Meeting.{Meeting}
+use Rattle.rustc_lexer.specs.declared.relex.relexing.Change.{Change}
+use Rattle.rustc_lexer.specs.declared.relex.relexing.Relexing.{Relexing}
+use Rattle.rustc_lexer.specs.declared.token.Token.{Token}
+use Rattle.rustc_lexer.specs.Bulk.{IsFilledTo}
+use Rattle.rustc_lexer.specs.Edits.{is_bound, meets_at}
+use Rattle.rustc_lexer.specs.Locality.{IsText, IsGrammar}
+use Rattle.rustc_lexer.specs.Relexing.{IsFollowed, IsMadeOf, Stands, added_by, known, removed_by}
+use Rattle.rustc_lexer.specs.Tokens.{bound, tokens_by}
+use Rattle.rustc_lexer.proofs.BlockLemmas.{filled_to_front}
+use Rattle.rustc_lexer.proofs.BoundLemmas.{number_le_bound, rises}
+use Rattle.rustc_lexer.proofs.BulkLemmas.{next_place, over, stands as place_stands}
+use Rattle.rustc_lexer.proofs.CutLemmas.{IsCutAt, at_bound}
+use Rattle.rustc_lexer.proofs.ProgressLemmas.{IsPlace}
+use Rattle.rustc_lexer.proofs.RelexingLemmas.{below_later, made_text, stands_inside, stands_next}
+
+-- a place before that end meets nothing
+early : (old : List Token) (past added removed place : ℕ) → place < past → false ≡ meets_at old past added removed place
+early old past added removed place less = by_test (leb past place) refl
+  where
+    by_test : (b : Bool) → leb past place ≡ b → false ≡ b && is_bound old (place - added + removed)
+    by_test false e = refl
+    by_test true e = absurd (let far = leb-true past place e in omega arith)
+
+module _ {first : List ℕ → Token} (law : IsGrammar first) (before lengths insert text : List ℕ) (change : Change) (is : IsMadeOf first before lengths change insert text) (at : Relexing) (stands : Stands first before change text at) (less : at.at < change.new_stop) where
+  abbrev here : List ℕ
+  here = drop at.at text
+
+  abbrev block : List Token
+  block = tokens_by first here
+
+  -- past n of the tokens that are left
+  abbrev past_some : ℕ → Relexing
+  past_some n = record { front = at.front; lexed = at.lexed + n; back = at.back; at = at.at + bound block n; met = false }
+
+  no_meeting : at.met ≡ false
+  no_meeting = by_test at.met refl
+    where
+      by_test : (b : Bool) → at.met ≡ b → b ≡ false
+      by_test false e = refl
+      by_test true e = absurd (let far = stands.followed.past_edit e in omega arith)
+
+  made_here : IsText text
+  made_here = made_text law before lengths insert text change is
+
+  inside_here : at.at < length text
+  inside_here = stands_inside law before lengths insert text change is at stands no_meeting
+
+  spot : IsPlace text at.at
+  spot = place_stands law text made_here (known at) at.at stands.place
+
+  here_text : IsText here
+  here_text = spot.past
+
+  left_is : drop (known at) (tokens_by first text) ≡ block
+  left_is =
+      let cut : IsCutAt first text (tokens_by first text) (known at) = at_bound law (known at) text made_here in
+      cut.rest ∙ ap (λ p. tokens_by first (drop p text)) (sym stands.place)
+
+  step_len : (n : ℕ) → n < length block → (bound block n < length here) × (bound block (n + 1) ≡ bound block n + (first (drop (bound block n) here)).len)
+  step_len n few =
+      let more : bound block n < length here = elim (cases_lt (bound block n) (length here)) [
+        | inl near ↦ near
+        | inr far ↦ absurd (let o = over law here here_text n _ refl far in omega arith)
+      ] in
+      (more, sym (next_place law here here_text n (bound block n) refl more))
+
+  followed_early : (place : ℕ) → at.at ≤ place → place < change.new_stop → IsFollowed (tokens_by first before) change.new_stop (added_by change) (removed_by change) place at.back false
+  followed_early place le early_place = record {
+    bound_is = stands.followed.bound_is;
+    below = below_later law before lengths insert text change is at stands place le;
+    met_is = early (tokens_by first before) change.new_stop (added_by change) (removed_by change) place early_place;
+    past_edit = λ e. absurd (true≢false (sym e));
+    same_place = λ e. absurd (true≢false (sym e));
+  }
+
+  step_to : (n : ℕ) → n < length block → (on : Relexing) → on ≡ past_some n → Stands first before change text on → (to : Meeting) → (place : ℕ) → place ≡ at.at + bound block (n + 1) → IsFollowed (tokens_by first before) change.new_stop (added_by change) (removed_by change) place to.at to.met
+      → Stands first before change text (record { front = at.front; lexed = at.lexed + (n + 1); back = to.at; at = place; met = to.met })
+  step_to n few on e so to place at_place followed =
+      let len = (step_len n few).1 in
+      let token : Token = first (drop (on.at) text) in
+      let same : drop on.at text ≡ drop (bound block n) here = ap (λ (r : Relexing). drop r.at text) e ∙ (ap (λ k. drop k text) (omega arith) ∙ sym (drop-drop (bound block n) at.at text)) in
+      let far : on.at + token.len ≡ place = omega (arith, ap (λ (r : Relexing). r.at) e, ap (λ (xs : List ℕ). (first xs).len) same, len, at_place) in
+      let out : on.met ≡ false = ap (λ (r : Relexing). r.met) e in
+      let next = stands_next law before lengths insert text change is on so token to out refl (subst (λ p. IsFollowed (tokens_by first before) change.new_stop (added_by change) (removed_by change) p to.at to.met) (sym far) followed) in
+      let lexed : on.lexed + 1 ≡ at.lexed + (n + 1) = omega (arith, ap (λ (r : Relexing). r.lexed) e) in
+      let front : on.front ≡ at.front = ap (λ (r : Relexing). r.front) e in
+      let Now : Bound → ℕ → ℕ → Type 0 = λ f l p. Stands first before change text (record { front = f; lexed = l; back = to.at; at = p; met = to.met }) in
+      subst (λ (f : Bound). Now f (at.lexed + (n + 1)) place) front (subst (λ l. Now on.front l place) lexed (subst (λ p. Now on.front (on.lexed + 1) p) far next))
+
+  stands_some : (n : ℕ) → n < length block → ((k : ℕ) → k < n + 1 → at.at + bound block k < change.new_stop) → Stands first before change text (past_some n)
+  stands_some zero few begun =
+      let none : at.lexed ≡ at.lexed + 0 = omega arith in
+      let place : at.at ≡ at.at + 0 = omega arith in
+      let Now : ℕ → ℕ → Bool → Type 0 = λ l p m. Stands first before change text (record { front = at.front; lexed = l; back = at.back; at = p; met = m }) in
+      let so : Now at.lexed at.at at.met = stands in
+      subst (λ l. Now l (at.at + 0) false) none (subst (λ p. Now at.lexed p false) place (subst (Now at.lexed at.at) no_meeting so))
+  stands_some (suc n) few begun =
+      let ih : Stands first before change text (past_some n) = stands_some n (omega arith) (λ k l. begun k (omega arith)) in
+      let one : suc n ≡ n + 1 = omega arith in
+      let low : at.at + bound block (n + 1) < change.new_stop = begun (n + 1) (omega arith) in
+      let next = step_to n (omega arith) (past_some n) refl ih (record { at = at.back; met = false }) (at.at + bound block (n + 1)) refl (followed_early _ (omega arith) low) in
+      subst (λ k. Stands first before change text (past_some k)) (sym one) next
+
+  -- where the room holds so many of them, relexing stands past the last
+  pub stands_filled : (room filled : List Token) (count bytes : ℕ) (to : Meeting) → IsFilledTo (λ (t : Token). t) (change.new_stop - at.at) block room filled count → bytes ≡ bound block count → 0 < count → IsFollowed (tokens_by first before) change.new_stop (added_by change) (removed_by change) (at.at + bytes) to.at to.met
+      → Stands first before change text (record { front = at.front; lexed = at.lexed + count; back = to.at; at = at.at + bytes; met = to.met }) × (drop (known at) (tokens_by first text) ≡ take count filled ++ drop (at.front.number + (at.lexed + count)) (tokens_by first text))
+  stands_filled room filled zero bytes to is_filled bytes_is some followed = absurd (omega arith)
+  stands_filled room filled (suc n) bytes to is_filled bytes_is some followed =
+      let few : suc n ≤ length block = is_filled.few in
+      let one : n + 1 ≡ suc n = omega arith in
+      let so : Stands first before change text (past_some n) = stands_some n (omega arith) (λ k l. let b = is_filled.begun k (omega arith) in omega arith) in
+      let place : at.at + bytes ≡ at.at + bound block (n + 1) = omega (arith, bytes_is, ap (bound block) one) in
+      let now = step_to n (omega arith) (past_some n) refl so to (at.at + bytes) place followed in
+      let front : take (suc n) filled ≡ take (suc n) block = (filled_to_front (change.new_stop - at.at) block room filled (suc n) is_filled).front in
+      let split : block ≡ take (suc n) block ++ drop (suc n) block = sym (take-append-drop (suc n) block) in
+      let number : known at + suc n ≡ at.front.number + (at.lexed + suc n) = omega arith in
+      let later : drop (suc n) block ≡ drop (at.front.number + (at.lexed + suc n)) (tokens_by first text) = ap (drop (suc n)) (sym left_is) ∙ (drop-drop (suc n) (known at) (tokens_by first text) ∙ ap (λ k. drop k (tokens_by first text)) number) in (
+        subst (λ l. Stands first before change text (record { front = at.front; lexed = at.lexed + l; back = to.at; at = at.at + bytes; met = to.met })) one now,
+        left_is ∙ (split ∙ (ap (λ ts. ts ++ drop (suc n) block) (sym front) ∙ ap (λ ts. take (suc n) filled ++ ts) later)),
+      )
+
+-- what a room takes at a place of the text: some bytes, at least one for each token, up to a place between characters
+pub record IsStretch (text : List ℕ) (at count bytes : ℕ) : Type 0 where
+  pub inside : at + bytes ≤ length text
+  pub boundary : IsCharBoundary text (at + bytes)
+  pub some : 0 < count
+  pub long : count ≤ bytes
+
+pub stretch : {first : List ℕ → Token} (law : IsGrammar first) (text left : List ℕ) (at end : ℕ) → IsText text → IsCharBoundary text at → left ≡ drop at text → (room filled : List Token) (count bytes : ℕ) → IsFilledTo (λ (t : Token). t) end (tokens_by first left) room filled count → bytes ≡ bound (tokens_by first left) count → 0 < length room → 0 < end → IsStretch text at count bytes
+stretch {first} law text left at end is cut left_is room filled count bytes is_filled bytes_is places more =
+    let left_text : IsText left = rw left_is record { utf8 = IsUtf8-drop text at is.utf8 cut; fits = (let f = is.fits in omega (arith, length-drop at text)) } in
+    let spot : IsPlace left bytes = place_stands law left left_text count bytes bytes_is in
+    let inside : at + bytes ≤ length text = omega (arith, spot.inside, ap length left_is, length-drop at text, cut.0) in
+    let back : IsUtf8 (drop (at + bytes) text) = subst IsUtf8 (ap (drop bytes) left_is ∙ drop-drop bytes at text) spot.past.utf8 in
+    let some : 0 < count = elim (cases_lt 0 count) [
+      | inl one ↦ one
+      | inr none ↦ absurd (let e : count ≡ 0 = omega arith in let far = is_filled.all (omega arith) in omega (arith, far, ap (bound (tokens_by first left)) e))
+    ] in
+    record {
+      inside = inside;
+      boundary = IsCharBoundary-from_drop text (at + bytes) inside back;
+      some = some;
+      long = omega (arith, bytes_is, number_le_bound (tokens_by first left) count is_filled.few (rises law left left_text));
+    }

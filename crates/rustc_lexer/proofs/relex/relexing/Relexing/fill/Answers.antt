@@ -1,0 +1,82 @@
+use Rattle.std.proofs.Common.{◌≡◌, ◌+◌, ◌-◌, ◌<◌, List, ℕ, length, ap, subst, ◌∙◌, arith}
+use Rattle.rustc_lexer.specs.declared.relex.front.Damage.{Damage}
+use Rattle.rustc_lexer.specs.declared.token.Token.{Token}
+use Rattle.rustc_lexer.specs.Bulk.{IsFilledTo}
+use Rattle.rustc_lexer.specs.Tokens.{bound, tokens_by}
+use Rattle.rustc_lexer.specs.Relexing.{IsFollowed}
+use Rattle.rustc_lexer.specs.Locality.{IsText}
+use Rattle.rustc_lexer.proofs.RelexBlockLemmas.{IsStretch, stretch, stands_filled}
+use Rattle.rustc_lexer.proofs.RelexingLemmas.{below_later}
+use Rattle.rustc_lexer.proofs.relex.relexing.Relexing.fill.Goals as goal
+
+pub overflow_add-at : goal.overflow_add-at
+overflow_add-at g c =
+    let first : List ℕ → Token = g.S.Stepper.grammar c.args.stepper.now in
+    let law = g.S.Stepper.law c.args.stepper.now in
+    let at = c.args.self.now in
+    let is : IsText c.args.text.now = record { utf8 = c.utf8.text; fits = c.requires.fits } in
+    let more : 0 < c.args.change.new_stop - at.at = omega arith in
+    let s : IsStretch c.args.text.now at.at c.fill-count.result.0 c.fill-count.result.1 = stretch law c.args.text.now c.range_from.result.now at.at (c.args.change.new_stop - at.at) is c.requires.may_go_on.boundary c.range_from.ensures.value c.args.room.now c.fill-count.new.room c.fill-count.result.0 c.fill-count.result.1 c.fill-count.ensures.filled c.fill-count.ensures.bytes c.requires.places more in
+    let inside = s.inside in
+    let fits = is.fits in
+    omega arith
+
+pub follow-to-requires-clause-place_fits : goal.follow-to-requires-clause-place_fits
+follow-to-requires-clause-place_fits g c =
+    let first : List ℕ → Token = g.S.Stepper.grammar c.args.stepper.now in
+    let law = g.S.Stepper.law c.args.stepper.now in
+    let at = c.args.self.now in
+    let is : IsText c.args.text.now = record { utf8 = c.utf8.text; fits = c.requires.fits } in
+    let more : 0 < c.args.change.new_stop - at.at = omega arith in
+    let s : IsStretch c.args.text.now at.at c.fill-count.result.0 c.fill-count.result.1 = stretch law c.args.text.now c.range_from.result.now at.at (c.args.change.new_stop - at.at) is c.requires.may_go_on.boundary c.range_from.ensures.value c.args.room.now c.fill-count.new.room c.fill-count.result.0 c.fill-count.result.1 c.fill-count.ensures.filled c.fill-count.ensures.bytes c.requires.places more in
+    let inside = s.inside in
+    let fits = is.fits in
+    let old = c.requires.change.old_short in
+    let removed = ap (λ (d : Damage). d.removed) c.damage.ensures in
+    omega arith
+
+pub returns-clause-may_go_on : goal.returns-clause-may_go_on
+returns-clause-may_go_on g c =
+    let first : List ℕ → Token = g.S.Stepper.grammar c.args.stepper.now in
+    let law = g.S.Stepper.law c.args.stepper.now in
+    let at = c.args.self.now in
+    let is : IsText c.args.text.now = record { utf8 = c.utf8.text; fits = c.requires.fits } in
+    let more : 0 < c.args.change.new_stop - at.at = omega arith in
+    let s : IsStretch c.args.text.now at.at c.fill-count.result.0 c.fill-count.result.1 = stretch law c.args.text.now c.range_from.result.now at.at (c.args.change.new_stop - at.at) is c.requires.may_go_on.boundary c.range_from.ensures.value c.args.room.now c.fill-count.new.room c.fill-count.result.0 c.fill-count.result.1 c.fill-count.ensures.filled c.fill-count.ensures.bytes c.requires.places more in
+    record {
+      boundary = s.boundary;
+      number = c.follow-to.ensures.number;
+      apart = (let apart = c.requires.may_go_on.apart in let ahead = c.follow-to.ensures.ahead in omega arith);
+      small = c.follow-to.ensures.small;
+      few = (let long = s.long in let few = c.requires.may_go_on.few in omega arith);
+    }
+
+pub returns-clause-progress : goal.returns-clause-progress
+returns-clause-progress g c =
+    let first : List ℕ → Token = g.S.Stepper.grammar c.args.stepper.now in
+    let law = g.S.Stepper.law c.args.stepper.now in
+    let at = c.args.self.now in
+    let is : IsText c.args.text.now = record { utf8 = c.utf8.text; fits = c.requires.fits } in
+    let more : 0 < c.args.change.new_stop - at.at = omega arith in
+    let s : IsStretch c.args.text.now at.at c.fill-count.result.0 c.fill-count.result.1 = stretch law c.args.text.now c.range_from.result.now at.at (c.args.change.new_stop - at.at) is c.requires.may_go_on.boundary c.range_from.ensures.value c.args.room.now c.fill-count.new.room c.fill-count.result.0 c.fill-count.result.1 c.fill-count.ensures.filled c.fill-count.ensures.bytes c.requires.places more in
+    let some = s.some in
+    let long = s.long in
+    omega arith
+
+pub returns-clause-stands : goal.returns-clause-stands
+returns-clause-stands g c = λ before insert is_made stands.
+    let first : List ℕ → Token = g.S.Stepper.grammar c.args.stepper.now in
+    let law = g.S.Stepper.law c.args.stepper.now in
+    let at = c.args.self.now in
+    let is : IsText c.args.text.now = record { utf8 = c.utf8.text; fits = c.requires.fits } in
+    let more : 0 < c.args.change.new_stop - at.at = omega arith in
+    let s : IsStretch c.args.text.now at.at c.fill-count.result.0 c.fill-count.result.1 = stretch law c.args.text.now c.range_from.result.now at.at (c.args.change.new_stop - at.at) is c.requires.may_go_on.boundary c.range_from.ensures.value c.args.room.now c.fill-count.new.room c.fill-count.result.0 c.fill-count.result.1 c.fill-count.ensures.filled c.fill-count.ensures.bytes c.requires.places more in
+    let bytes = c.fill-count.result.1 in
+    let later = below_later law before _ insert _ c.args.change is_made at stands (at.at + bytes) (omega arith) in
+    let to = c.follow-to.ensures.followed (tokens_by first before) is_made.lengths_are stands.followed.bound_is (rw c.damage.ensures later) in
+    let Followed : Damage → Type 0 = λ d. IsFollowed (tokens_by first before) d.past d.added d.removed (at.at + bytes) c.follow-to.result.at c.follow-to.result.met in
+    let followed = subst Followed c.damage.ensures to in
+    let left = c.range_from.ensures.value in
+    let filled = subst (λ (xs : List ℕ). IsFilledTo (λ (t : Token). t) (c.args.change.new_stop - at.at) (tokens_by first xs) c.args.room.now c.fill-count.new.room c.fill-count.result.0) left c.fill-count.ensures.filled in
+    let bytes_is = c.fill-count.ensures.bytes ∙ ap (λ (xs : List ℕ). bound (tokens_by first xs) c.fill-count.result.0) left in
+    stands_filled law before _ insert _ c.args.change is_made at stands c.requires.before c.args.room.now c.fill-count.new.room c.fill-count.result.0 bytes c.follow-to.result filled bytes_is s.some followed
