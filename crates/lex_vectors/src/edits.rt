@@ -113,6 +113,54 @@ fn assert_tokens(rt: &impl Abort, name: &str, tokens: &[Token], wanted: &[(Token
     }
 }
 
+/// 602 tokens: a word and a space before the place, 300 letters and 300 spaces. Then the old tokens begin again.
+#[test]
+fn much_is_put_in(rt: HostRuntime) -> Result<(), AllocError> {
+    let alloc = rt.alloc();
+    let insert = "x ".repeat(alloc, 300)?;
+    let mut lexed = LexedText::with(alloc, "ab cd ef", Counting::new())?;
+    let before = lexed.stepper().calls;
+    assert!(rt; lexed.accepts(3, 3, insert.as_str()));
+    let counts = lexed.edit(3, 3, insert.as_str())?;
+    let wanted = Relexed {
+        kept_front: 0,
+        lexed: 602,
+        kept_back: 3,
+    };
+    assert_eq!(rt; counts, wanted);
+    assert_eq!(rt; lexed.stepper().calls.saturating_sub(before), 602);
+    let (front, rest) = lexed.tokens().split_at(2);
+    assert_tokens(&rt, "the front", front, &[WORD, SPACE]);
+    let (middle, back) = rest.split_at(600);
+    for pair in middle.chunks(2) {
+        assert_tokens(&rt, "the middle", pair, &[LETTER, SPACE]);
+    }
+    assert_tokens(&rt, "the back", back, &[WORD, SPACE, WORD]);
+    Ok(())
+}
+
+/// The comment that is put in has no end, so nothing of the old tokens is met.
+#[test]
+fn a_long_comment_is_put_in(rt: HostRuntime) -> Result<(), AllocError> {
+    let alloc = rt.alloc();
+    let insert = "/*a ".repeat(alloc, 300)?;
+    let mut lexed = LexedText::new(alloc, "ab cd ef")?;
+    assert!(rt; lexed.accepts(3, 3, insert.as_str()));
+    let counts = lexed.edit(3, 3, insert.as_str())?;
+    let wanted = Relexed {
+        kept_front: 0,
+        lexed: 3,
+        kept_back: 0,
+    };
+    assert_eq!(rt; counts, wanted);
+    let open = TokenKind::BlockComment {
+        doc_style: None,
+        terminated: false,
+    };
+    assert_tokens(&rt, "an open comment", lexed.tokens(), &[WORD, SPACE, (open, 1205)]);
+    Ok(())
+}
+
 #[test]
 fn one_character_a_token(rt: HostRuntime) -> Result<(), AllocError> {
     let mut lexed = LexedText::with(rt.alloc(), "ab cd", Characters::new())?;
