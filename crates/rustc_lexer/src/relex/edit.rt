@@ -83,14 +83,19 @@ fn relex<S: Stepper>(
 {
     let mut tokens = Vec::new(alloc);
     let mut at = Relexing::begin(text, old, change, near);
-    relex_inserted(stepper, old, text, change, &mut at, &mut tokens)?;
+    if change.new_stop - change.start >= LONG {
+        relex_inserted(stepper, old, text, change, &mut at, &mut tokens)?;
+    }
     while let Some(token) = at.next(stepper, text, old, change) {
         tokens.push(token)?;
     }
     Ok((tokens, at))
 }
 
-/// Lexes the tokens that begin before the end of what was put in, many at once, where that is long.
+/// Lexes the tokens that begin before the end of what was put in, many at once.
+///
+/// It is not inlined, so that an edit that puts in little has no room to make.
+#[inline(never)]
 fn relex_inserted<S: Stepper>(
     stepper: &mut S,
     old: &[Token],
@@ -120,9 +125,6 @@ fn relex_inserted<S: Stepper>(
         → OnOk result (all
         ≡ tokens.new.items ++ drop (known at.new) (tokens_by (S.grammar stepper.old) text.now))) }
 {
-    if change.new_stop - change.start < LONG {
-        return Ok(());
-    }
     let mut room = new_room();
     'inserted: while at.at < change.new_stop {
         let count = at.fill(stepper, text, old, change, &mut room);

@@ -6,25 +6,41 @@ use Rattle.rustc_lexer.specs.Relexing.{IsMadeOf, Stands, known}
 use Rattle.rustc_lexer.proofs.EditLemmas.{IfErr-always}
 use Rattle.rustc_lexer.proofs.RelexingLemmas.{few_lexed, all_lexed}
 use Rattle.rustc_lexer.proofs.relex.edit.relex.Goals as goal
+use Rattle.rustc_lexer.proofs.relex.edit.relex.Goals.{then-change-ge-LONG+in_ok-relex_inserted, else-change-ge-LONG}
 
 pub loop-token-init : goal.loop-token-init
 loop-token-init g c =
     let none = c.new-tokens.ensures.items in
     let zero_lexed = c.begin-at.ensures.none in
-    let ins = c.in_ok-relex_inserted.ensures in
-    let empty : length c.new-tokens.result.items ≡ 0 = ap length none in (
-      ins.may_go_on,
-      ins.grammar,
-      ins.number,
-      omega (arith, ins.count, ins.lexed, zero_lexed, empty),
-      omega (arith, ins.lexed, zero_lexed, empty),
-      λ before insert is near.
-          let first = g.S.Stepper.grammar c.args.stepper.now in
-          let new = tokens_by first c.args.text.now in
-          let stands = c.begin-at.ensures.stands first before insert (g.S.Stepper.law c.args.stepper.now) is near in
-          let so = ins.stands before insert is stands in
-          (so.0, ap (λ (b : Bound). drop b.number new) ins.front ∙ so.1 _ (all_lexed new c.begin-at.result c.new-tokens.result.items none zero_lexed)),
-    )
+    let empty : length c.new-tokens.result.items ≡ 0 = ap length none in
+    elim c.if-change-ge-LONG.branch [
+      | then-change-ge-LONG+in_ok-relex_inserted w ↦
+          let ins = w.in_ok-relex_inserted.ensures in
+          rw (w.at-is, w.tokens-is, w.stepper-is) (
+            ins.may_go_on,
+            ins.grammar,
+            ins.number,
+            omega (arith, ins.count, ins.lexed, zero_lexed, empty),
+            omega (arith, ins.lexed, zero_lexed, empty),
+            λ before insert is near.
+                let first = g.S.Stepper.grammar c.args.stepper.now in
+                let new = tokens_by first c.args.text.now in
+                let stands = c.begin-at.ensures.stands first before insert (g.S.Stepper.law c.args.stepper.now) is near in
+                let so = ins.stands before insert is stands in
+                (so.0, ap (λ (b : Bound). drop b.number new) ins.front ∙ so.1 _ (all_lexed new c.begin-at.result c.new-tokens.result.items none zero_lexed)),
+          )
+      | else-change-ge-LONG w ↦ rw (w.at-is, w.tokens-is, w.stepper-is) (
+          c.begin-at.ensures.may_go_on,
+          refl,
+          refl,
+          omega (arith, empty),
+          omega (arith, zero_lexed, empty),
+          λ before insert is near.
+              let first = g.S.Stepper.grammar c.args.stepper.now in
+              let stands = c.begin-at.ensures.stands first before insert (g.S.Stepper.law c.args.stepper.now) is near in
+              (stands, all_lexed (tokens_by first c.args.text.now) c.begin-at.result c.new-tokens.result.items none zero_lexed),
+        )
+    ]
 
 pub returns-in_err-relex_inserted-clause-few : goal.returns-in_err-relex_inserted-clause-few
 returns-in_err-relex_inserted-clause-few g c =
