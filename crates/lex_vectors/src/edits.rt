@@ -157,7 +157,12 @@ fn a_long_comment_is_put_in(rt: HostRuntime) -> Result<(), AllocError> {
         doc_style: None,
         terminated: false,
     };
-    assert_tokens(&rt, "an open comment", lexed.tokens(), &[WORD, SPACE, (open, 1205)]);
+    assert_tokens(
+        &rt,
+        "an open comment",
+        lexed.tokens(),
+        &[WORD, SPACE, (open, 1205)],
+    );
     Ok(())
 }
 

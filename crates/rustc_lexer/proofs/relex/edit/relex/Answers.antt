@@ -30,16 +30,16 @@ loop-token-init g c =
                 (so.0, ap (λ (b : Bound). drop b.number new) ins.front ∙ so.1 _ (all_lexed new c.begin-at.result c.new-tokens.result.items none zero_lexed)),
           )
       | else-change-ge-LONG w ↦ rw (w.at-is, w.tokens-is, w.stepper-is) (
-          c.begin-at.ensures.may_go_on,
-          refl,
-          refl,
-          omega (arith, empty),
-          omega (arith, zero_lexed, empty),
-          λ before insert is near.
-              let first = g.S.Stepper.grammar c.args.stepper.now in
-              let stands = c.begin-at.ensures.stands first before insert (g.S.Stepper.law c.args.stepper.now) is near in
-              (stands, all_lexed (tokens_by first c.args.text.now) c.begin-at.result c.new-tokens.result.items none zero_lexed),
-        )
+        c.begin-at.ensures.may_go_on,
+        refl,
+        refl,
+        omega (arith, empty),
+        omega (arith, zero_lexed, empty),
+        λ before insert is near.
+            let first = g.S.Stepper.grammar c.args.stepper.now in
+            let stands = c.begin-at.ensures.stands first before insert (g.S.Stepper.law c.args.stepper.now) is near in
+            (stands, all_lexed (tokens_by first c.args.text.now) c.begin-at.result c.new-tokens.result.items none zero_lexed),
+      )
     ]
 
 pub returns-in_err-relex_inserted-clause-few : goal.returns-in_err-relex_inserted-clause-few

@@ -15,8 +15,7 @@ overflow_add-at g c =
     let law = g.S.Stepper.law c.args.stepper.now in
     let at = c.args.self.now in
     let is : IsText c.args.text.now = record { utf8 = c.utf8.text; fits = c.requires.fits } in
-    let more : 0 < c.args.change.new_stop - at.at = omega arith in
-    let s : IsStretch c.args.text.now at.at c.fill-count.result.0 c.fill-count.result.1 = stretch law c.args.text.now c.range_from.result.now at.at (c.args.change.new_stop - at.at) is c.requires.may_go_on.boundary c.range_from.ensures.value c.args.room.now c.fill-count.new.room c.fill-count.result.0 c.fill-count.result.1 c.fill-count.ensures.filled c.fill-count.ensures.bytes c.requires.places more in
+    let s : IsStretch c.args.text.now at.at c.fill-count.result.0 c.fill-count.result.1 = stretch law c.args.text.now c.range_from.result.now at.at _ is c.requires.may_go_on.boundary c.range_from.ensures.value c.args.room.now c.fill-count.new.room c.fill-count.result.0 c.fill-count.result.1 c.fill-count.ensures.filled c.fill-count.ensures.bytes c.requires.places (omega arith) in
     let inside = s.inside in
     let fits = is.fits in
     omega arith
@@ -27,8 +26,7 @@ follow-to-requires-clause-place_fits g c =
     let law = g.S.Stepper.law c.args.stepper.now in
     let at = c.args.self.now in
     let is : IsText c.args.text.now = record { utf8 = c.utf8.text; fits = c.requires.fits } in
-    let more : 0 < c.args.change.new_stop - at.at = omega arith in
-    let s : IsStretch c.args.text.now at.at c.fill-count.result.0 c.fill-count.result.1 = stretch law c.args.text.now c.range_from.result.now at.at (c.args.change.new_stop - at.at) is c.requires.may_go_on.boundary c.range_from.ensures.value c.args.room.now c.fill-count.new.room c.fill-count.result.0 c.fill-count.result.1 c.fill-count.ensures.filled c.fill-count.ensures.bytes c.requires.places more in
+    let s : IsStretch c.args.text.now at.at c.fill-count.result.0 c.fill-count.result.1 = stretch law c.args.text.now c.range_from.result.now at.at _ is c.requires.may_go_on.boundary c.range_from.ensures.value c.args.room.now c.fill-count.new.room c.fill-count.result.0 c.fill-count.result.1 c.fill-count.ensures.filled c.fill-count.ensures.bytes c.requires.places (omega arith) in
     let inside = s.inside in
     let fits = is.fits in
     let old = c.requires.change.old_short in
@@ -41,8 +39,7 @@ returns-clause-may_go_on g c =
     let law = g.S.Stepper.law c.args.stepper.now in
     let at = c.args.self.now in
     let is : IsText c.args.text.now = record { utf8 = c.utf8.text; fits = c.requires.fits } in
-    let more : 0 < c.args.change.new_stop - at.at = omega arith in
-    let s : IsStretch c.args.text.now at.at c.fill-count.result.0 c.fill-count.result.1 = stretch law c.args.text.now c.range_from.result.now at.at (c.args.change.new_stop - at.at) is c.requires.may_go_on.boundary c.range_from.ensures.value c.args.room.now c.fill-count.new.room c.fill-count.result.0 c.fill-count.result.1 c.fill-count.ensures.filled c.fill-count.ensures.bytes c.requires.places more in
+    let s : IsStretch c.args.text.now at.at c.fill-count.result.0 c.fill-count.result.1 = stretch law c.args.text.now c.range_from.result.now at.at _ is c.requires.may_go_on.boundary c.range_from.ensures.value c.args.room.now c.fill-count.new.room c.fill-count.result.0 c.fill-count.result.1 c.fill-count.ensures.filled c.fill-count.ensures.bytes c.requires.places (omega arith) in
     record {
       boundary = s.boundary;
       number = c.follow-to.ensures.number;
@@ -57,8 +54,7 @@ returns-clause-progress g c =
     let law = g.S.Stepper.law c.args.stepper.now in
     let at = c.args.self.now in
     let is : IsText c.args.text.now = record { utf8 = c.utf8.text; fits = c.requires.fits } in
-    let more : 0 < c.args.change.new_stop - at.at = omega arith in
-    let s : IsStretch c.args.text.now at.at c.fill-count.result.0 c.fill-count.result.1 = stretch law c.args.text.now c.range_from.result.now at.at (c.args.change.new_stop - at.at) is c.requires.may_go_on.boundary c.range_from.ensures.value c.args.room.now c.fill-count.new.room c.fill-count.result.0 c.fill-count.result.1 c.fill-count.ensures.filled c.fill-count.ensures.bytes c.requires.places more in
+    let s : IsStretch c.args.text.now at.at c.fill-count.result.0 c.fill-count.result.1 = stretch law c.args.text.now c.range_from.result.now at.at _ is c.requires.may_go_on.boundary c.range_from.ensures.value c.args.room.now c.fill-count.new.room c.fill-count.result.0 c.fill-count.result.1 c.fill-count.ensures.filled c.fill-count.ensures.bytes c.requires.places (omega arith) in
     let some = s.some in
     let long = s.long in
     omega arith
@@ -69,8 +65,7 @@ returns-clause-stands g c = λ before insert is_made stands.
     let law = g.S.Stepper.law c.args.stepper.now in
     let at = c.args.self.now in
     let is : IsText c.args.text.now = record { utf8 = c.utf8.text; fits = c.requires.fits } in
-    let more : 0 < c.args.change.new_stop - at.at = omega arith in
-    let s : IsStretch c.args.text.now at.at c.fill-count.result.0 c.fill-count.result.1 = stretch law c.args.text.now c.range_from.result.now at.at (c.args.change.new_stop - at.at) is c.requires.may_go_on.boundary c.range_from.ensures.value c.args.room.now c.fill-count.new.room c.fill-count.result.0 c.fill-count.result.1 c.fill-count.ensures.filled c.fill-count.ensures.bytes c.requires.places more in
+    let s : IsStretch c.args.text.now at.at c.fill-count.result.0 c.fill-count.result.1 = stretch law c.args.text.now c.range_from.result.now at.at _ is c.requires.may_go_on.boundary c.range_from.ensures.value c.args.room.now c.fill-count.new.room c.fill-count.result.0 c.fill-count.result.1 c.fill-count.ensures.filled c.fill-count.ensures.bytes c.requires.places (omega arith) in
     let bytes = c.fill-count.result.1 in
     let later = below_later law before _ insert _ c.args.change is_made at stands (at.at + bytes) (omega arith) in
     let to = c.follow-to.ensures.followed (tokens_by first before) is_made.lengths_are stands.followed.bound_is (rw c.damage.ensures later) in
