@@ -1,13 +1,14 @@
 -- One bit of a word, through each operation on it.
-use Rattle.std.proofs.Common.{◌≡◌, ℕ, zero, suc, ◌+◌, ◌-◌, ◌*◌, ◌/◌, ◌%◌, ◌^◌, ◌<◌, ◌≤◌, min, max, Bool, true, false, true≢false, not, ◌&&◌, ◌||◌, ◌==◌, List, get_or, cond, refl, sym, ap, ap₂, ◌∙◌, subst, arith, w64, bit_and, bit_or, inl, inr}
+use Rattle.std.proofs.Common.{◌≡◌, ℕ, zero, suc, ◌+◌, ◌-◌, ◌*◌, ◌/◌, ◌%◌, ◌^◌, ◌<◌, ◌≤◌, min, max, Bool, true, false, true≢false, not, ◌&&◌, ◌||◌, ◌==◌, List, length, map, get_or, cond, refl, sym, ap, ap₂, ◌∙◌, subst, arith, w64, bit_and, bit_or, inl, inr}
 use Rattle.std.specs.Int.{bit_at}
 use Rattle.std.proofs.lemmas.Bool.{agree_below_at, and_right, cases_lt}
 use Rattle.std.proofs.lemmas.Nat.{and_le_l, and_le_r, or_lt, shl-shr, shr-shr, shr_le}
 use Rattle.std.proofs.lemmas.Nat.Bits.{bit_at_and, bit_at_or, bit_at_not, bit_at-lt, bit_at-zero, bit_at_above, bit_at-trailing_zeros}
-use Rattle.std.proofs.lemmas.Simd.{bit_mask_l}
+use Rattle.std.proofs.lemmas.List.{get_or-map}
+use Rattle.std.proofs.lemmas.Simd.{bit_mask_l, length-chunk, get_or-chunk}
 use lib.Count.{count_trailing_zeros}
 use lib.Pow.{field, mod-mod-pow}
-use lib.Lanes.{mask_l}
+use lib.Lanes.{chunk, mask_l}
 use Rattle.rustc_lexer.specs.means.Ends.{bit}
 
 bit_cases : (P : ℕ → Type 0) → P 0 → P 1 → (x : ℕ) → x < 2 → P x
@@ -56,7 +57,7 @@ bit-mask_l ms i = ap (λ x. x == 1) (bit_mask_l ms i) ∙ back (get_or ms i fals
     back true = refl
     back false = refl
 
-bit-above : (x i : ℕ) → x < 2 ^ 64 → 64 ≤ i → bit x i ≡ false
+pub bit-above : (x i : ℕ) → x < 2 ^ 64 → 64 ≤ i → bit x i ≡ false
 unfolding bit
 bit-above x i small far = ap (λ n. n == 1) (bit_at_above x 64 i small far)
 
@@ -67,6 +68,13 @@ within x i small set = elim (cases_lt i 64) [ inl near ↦ near | inr far ↦ ab
 pub bit-zero : (i : ℕ) → bit 0 i ≡ false
 unfolding bit
 bit-zero i = ap (λ n. n == 1) (bit_at-zero i)
+
+-- the mask of a test of the first 64 bytes
+pub bit-at_byte : (p : ℕ → Bool) (text : List ℕ) (mask k : ℕ) → 64 ≤ length text → mask ≡ mask_l (map p (chunk 0 64 text)) → k < 64 → bit mask k ≡ p (get_or text k 0)
+bit-at_byte p text mask k long e l =
+    let lanes = length-chunk 0 64 text long in
+    ap (λ x. bit x k) e ∙ (bit-mask_l (map p (chunk 0 64 text)) k ∙ (get_or-map p (chunk 0 64 text) k 0 false (omega (arith, lanes))
+    ∙ ap p (get_or-chunk 0 64 text k 0 l ∙ ap (λ i. get_or text i 0) (let z : 0 + k ≡ k = omega arith in z))))
 
 -- ---- all bits but the lowest
 
@@ -107,6 +115,20 @@ module _ (w s : ℕ) (fits : w < 2 ^ 64) (fits_too : s < 2 ^ 64) where
     where
       both : (x : ℕ) → bit (bit_and (x * 2 % 2 ^ 64) x) (suc k) ≡ (bit x k && bit x (suc k))
       both x = bit-and (x * 2 % 2 ^ 64) x (suc k) ∙ ap (λ t. t && bit x (suc k)) (bit-shl_one k x h)
+
+-- ---- bits that another follows, or all of them
+
+ones : (k : ℕ) → k < 64 → bit (2 ^ 64 - 1) k ≡ true
+unfolding bit
+ones k l = agree_below_at (λ j. bit (2 ^ 64 - 1) j) (λ _. true) 64 k refl l
+
+pub followed-at : (q h n : ℕ) → n ≤ 1 → (k : ℕ) → k < 64 → bit (bit_and q (bit_or (h / 2) ((n + 18446744073709551615) % 18446744073709551616))) k ≡ (bit q k && (bit h (suc k) || (n == 0)))
+followed-at q h n few k l = bit-and q _ k ∙ ap (λ t. bit q k && t) (bit-or (h / 2) _ k ∙ ap₂ (λ a b. a || b) (bit-shr h 1 k ∙ ap (bit h) (let e : 1 + k ≡ suc k = omega arith in e)) (any n few))
+  where
+    any : (n : ℕ) → n ≤ 1 → bit ((n + 18446744073709551615) % 18446744073709551616) k ≡ (n == 0)
+    any zero le = ones k l
+    any (suc zero) le = bit-zero k
+    any (suc (suc n)) le = absurd (omega arith)
 
 -- ---- bits past a place, of a word of 64 bits
 

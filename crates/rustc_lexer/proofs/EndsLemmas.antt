@@ -4,10 +4,9 @@ use Rattle.std.specs.List.{prefix_len}
 use Rattle.std.specs.Str.{IsUtf8}
 use Rattle.std.proofs.Math.Seq.{drop-cons}
 use Rattle.std.proofs.lemmas.Bool.{agree_below_at, and_from, and_parts, and_cases, or_parts, or_cases, cases_lt, not-true, not-false, le-ltb, lt-ltb}
-use Rattle.std.proofs.lemmas.List.{get_or-map, get_or-drop}
+use Rattle.std.proofs.lemmas.List.{get_or-drop}
 use Rattle.std.proofs.lemmas.List.FromFn.{get_or-map-range_with_len}
 use Rattle.std.proofs.lemmas.List.Sums.{prefix_len_is}
-use Rattle.std.proofs.lemmas.Simd.{length-chunk, get_or-chunk}
 use lib.Lanes.{chunk, mask_l}
 use Rattle.unicode_ident.proofs.Computing.{unicode_ident}
 use Rattle.rustc_lexer.specs.declared.edition.Edition.{Edition}
@@ -27,27 +26,21 @@ use Rattle.rustc_lexer.specs.means.Lexeme.{family_of, symbol_kind}
 use Rattle.rustc_lexer.specs.means.Quick.{is_space_lead, turns_word, IsFirstToken}
 use Rattle.rustc_lexer.specs.means.Scan.{next_is}
 use Rattle.rustc_lexer.specs.laws.Choice.{by_test}
-use Rattle.rustc_lexer.proofs.BitLemmas.{bit-mask_l, bit-zero, within}
+use Rattle.rustc_lexer.proofs.BitLemmas.{bit-at_byte, bit-zero, within}
 use Rattle.rustc_lexer.proofs.QuickLemmas.{word_first, space_first, symbol_first}
 
 pub no_ends : (text : List ℕ) → IsEnds text 0
 no_ends text j set = absurd (true≢false (sym set ∙ bit-zero j))
 
-at_lane : (p : ℕ → Bool) (v : List ℕ) (k m : ℕ) → length v ≡ 64 → m ≡ mask_l (map p v) → k < 64 → bit m k ≡ p (get_or v k 0)
-at_lane p v k m long e l = ap (λ x. bit x k) e ∙ (bit-mask_l (map p v) k ∙ get_or-map p v k 0 false (omega (arith, long)))
-
 -- the ends of runs of the first 64 bytes
 module _ (text : List ℕ) (m words spaces : ℕ) (long : 64 ≤ length text) (small : m < 2 ^ 64) (of_words : words ≡ mask_l (map is_continue_byte (chunk 0 64 text))) (of_spaces : spaces ≡ mask_l (map is_space_byte (chunk 0 64 text)))
     (first : bit m 0 ≡ false) (later : (k : ℕ) → suc k < 64 → bit m (suc k) ≡ not ((bit words k && bit words (suc k)) || (bit spaces k && bit spaces (suc k)))) where
-  at_byte : (p : ℕ → Bool) (mask k : ℕ) → mask ≡ mask_l (map p (chunk 0 64 text)) → k < 64 → bit mask k ≡ p (get_or text k 0)
-  at_byte p mask k e l = at_lane p (chunk 0 64 text) k mask (length-chunk 0 64 text long) e l ∙ ap p (get_or-chunk 0 64 text k 0 l ∙ ap (λ i. get_or text i 0) (let z : 0 + k ≡ k = omega arith in z))
-
   is_at : (k : ℕ) → k < 64 → bit m k ≡ is_end text k
   is_at zero l = first
   is_at (suc k) l = later k l ∙ ap not (ap₂ (λ a b. a || b) (both is_continue_byte words of_words) (both is_space_byte spaces of_spaces))
     where
       both : (p : ℕ → Bool) (mask : ℕ) → mask ≡ mask_l (map p (chunk 0 64 text)) → (bit mask k && bit mask (suc k)) ≡ (p (get_or text k 0) && p (get_or text (suc k) 0))
-      both p mask e = ap₂ (λ a b. a && b) (at_byte p mask k e (omega arith)) (at_byte p mask (suc k) e l)
+      both p mask e = ap₂ (λ a b. a && b) (bit-at_byte p text mask k long e (omega arith)) (bit-at_byte p text mask (suc k) long e l)
 
   pub are_ends : IsEnds text m
   are_ends j set =

@@ -8,6 +8,7 @@ pub mod BridgeLemmas
 pub mod BulkLemmas
 pub mod CharSteps
 pub mod ClassLemmas
+pub mod CloseLemmas
 pub mod CutLemmas
 pub mod EditLemmas
 pub mod EditListLemmas

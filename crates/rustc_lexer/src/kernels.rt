@@ -1,11 +1,12 @@
 //! How far runs of bytes go and where a byte stands, 32 bytes at a time.
 ghost use Rattle.memchr.specs.Find.{IsFirstByte, is_byte, is_byte2};
-ghost use Rattle.std.specs.Prelude.{◌≡◌, ◌≤◌, ◌<◌, ◌&&◌, ◌||◌, ℕ, suc, Bool, false, drop, length, map, not};
+ghost use Rattle.std.specs.Prelude.{◌≡◌, ◌≤◌, ◌<◌, ◌&&◌, ◌||◌, ◌==◌, ℕ, suc, Bool, true, false, drop, length, map, not};
 ghost use Rattle.std.specs.List.{prefix_len};
 ghost use Rattle.std.specs.Simd.Lanes.{mask_l};
 ghost use Rattle.rustc_lexer.specs.means.ByteRuns.{is_continue_byte, is_space_byte, is_decimal_byte, is_hexadecimal_byte, outside};
 ghost use Rattle.rustc_lexer.specs.means.Ends.{bit, IsEnds};
 ghost use Rattle.rustc_lexer.specs.means.Quick.{is_space_lead, turns_word};
+ghost use Rattle.rustc_lexer.specs.means.Raw.{closes};
 ghost use Rattle.rustc_lexer.specs.means.Scan;
 
 use memchr::{memchr, memchr2};
@@ -224,6 +225,36 @@ pub(crate) fn find(stop: u8, bytes: &[u8]) -> Option<usize>
         }
     }
     memchr(stop, bytes)
+}
+
+/// The place of the first quote that so many hashes follow, none or one, within the next 64 bytes. From 64 up it tells
+/// nothing.
+///
+/// Which of the two it is costs no branch: it is hard to foresee.
+#[inline(always)]
+pub(crate) fn find_close(n_hashes: u32, bytes: &[u8]) -> usize
+    requires few { n_hashes ≤ 1 }
+    ensures here { result < 64 → closes n_hashes (drop result bytes.now) ≡ true }
+    ensures before { result < 64
+        → (k : ℕ) → k < result → closes n_hashes (drop k bytes.now) ≡ false }
+{
+    if bytes.len() < 64 {
+        return 64;
+    }
+    let v = u8x64::from_slice(bytes);
+    let quotes = v.simd_eq(u8x64::splat(b'"')).to_bitmask();
+    let hashes = v.simd_eq(u8x64::splat(b'#')).to_bitmask();
+    followed(quotes, hashes, n_hashes).trailing_zeros() as usize
+}
+
+/// Bit k is set where a quote stands at k and so many hashes follow it, none or one.
+#[inline(always)]
+fn followed(quotes: u64, hashes: u64, n_hashes: u32) -> u64
+    requires few { n_hashes ≤ 1 }
+    ensures { (k : ℕ) → k < 64
+        → bit result k ≡ (bit quotes k && (bit hashes (suc k) || (n_hashes == 0))) }
+{
+    quotes & ((hashes >> 1) | u64::from(n_hashes).wrapping_sub(1))
 }
 
 /// The first place of either byte. Where such bytes stand together it is the first one, and else it mostly is within

@@ -1,5 +1,5 @@
 //! Raw strings.
-ghost use Rattle.std.specs.Prelude.{◌≡◌, ℕ, suc, ◌+◌, ◌≤◌, ◌<◌, ◌^◌, [], ◌∷◌, true, length, drop, Result, IfSome, MatchOption};
+ghost use Rattle.std.specs.Prelude.{◌≡◌, ℕ, suc, ◌+◌, ◌≤◌, ◌<◌, ◌^◌, [], ◌∷◌, true, length, drop, Result, Ok, IfSome, MatchOption};
 ghost use Rattle.std.specs.Str.{byte, chars};
 ghost use Rattle.rustc_lexer.specs.declared.lexemes.raw.RawPrefix.{RawPrefix};
 ghost use Rattle.rustc_lexer.specs.declared.token.RawStrError.{RawStrError};
@@ -8,6 +8,7 @@ ghost use Rattle.rustc_lexer.specs.means.Raw as spec;
 ghost use Rattle.rustc_lexer.specs.means.Raw.{EndsItself, RefusedEndsItself};
 ghost use Rattle.rustc_lexer.specs.means.Scan.{IsLocal, next_is, past, run_len, scanned};
 
+use crate::kernels::find_close;
 use crate::lexemes::literal::eat_literal_suffix;
 use crate::scan::{eat_until, eat_while, split_first, strip};
 use crate::token::{LiteralKind, RawStrError, TokenKind};
@@ -87,6 +88,9 @@ pub(crate) fn raw_double_quoted_string(
     ensures ended { EndsItself prefix_len }
 {
     if let Some((n_hashes, text)) = short_opening(rest) {
+        if let Some(left) = past_close(text, n_hashes) {
+            return (Ok(n_hashes as u8), left);
+        }
         return raw_text(text, n_hashes, prefix_len + n_hashes + 1);
     }
     let from_starter = eat_while(rest, |c| c == '#');
@@ -122,6 +126,22 @@ pub(crate) fn short_opening(rest: &str) -> Option<(u32, &str)>
     let place = n_hashes as usize;
     if bytes[place] == b'"' {
         Some((n_hashes, &rest[place + 1..]))
+    } else {
+        None
+    }
+}
+
+/// What the raw string leaves of `text`, where it closes within 64 bytes. Before its opening quote stand `n_hashes`
+/// hashes, none or one.
+#[inline(always)]
+fn past_close(text: &str, n_hashes: u32) -> Option<&str>
+    requires few { n_hashes ≤ 1 }
+    ensures { IfSome result (λ left. (before : ℕ)
+        → (Ok n_hashes, left.now) ≡ scanned (spec.raw_text n_hashes before) text.now) }
+{
+    let place = find_close(n_hashes, text.as_bytes());
+    if place < 64 {
+        Some(&text[place + 1 + n_hashes as usize..])
     } else {
         None
     }
