@@ -149,7 +149,7 @@ fn past_close(text: &str, n_hashes: u32) -> Option<&str>
 
 /// How the raw string goes on past its opening quote, before which `n_hashes` hashes stand; and what it leaves of
 /// `text`. An offset counts `before` bytes for what stands before `text`.
-#[inline(always)]
+#[inline(never)]
 fn raw_text(text: &str, n_hashes: u32, before: u32) -> (Result<u8, RawStrError>, &str)
     requires fits { before + length text.now < 2 ^ 32 }
     ensures { (result.0, result.1.now) ≡ scanned (spec.raw_text n_hashes before) text.now }
