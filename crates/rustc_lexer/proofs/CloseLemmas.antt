@@ -101,7 +101,7 @@ module _ (text : List ℕ) (n quotes hashes found : ℕ) (few : n ≤ 1) (long :
   unfolding count_trailing_zeros
   some l = elim (cases_lt 0 found) [
     | inl more ↦ more
-    | inr none ↦ let zero_is : found ≡ 0 = omega arith in absurd (let full : count_trailing_zeros 64 found ≡ 64 = rw zero_is refl in omega arith)
+    | inr none ↦ let zero_is : found ≡ 0 = omega arith in absurd (let full : count_trailing_zeros 64 found ≡ 64 = rw zero_is (refl {a = 64}) in omega arith)
   ]
 
   pub closes_there : count_trailing_zeros 64 found < 64 → closes n (drop (count_trailing_zeros 64 found) text) ≡ true
