@@ -42,6 +42,7 @@ mod landmarks;
 mod layout;
 mod lexed_text;
 pub mod literal_escaper;
+mod plain;
 mod token;
 mod tokens;
 

@@ -18,10 +18,11 @@
 //! ```
 //!
 //! The units are those that the library's call `rustc_lexer_unescape_unchecked` writes, and the errors those of
-//! `rustc_lexer_literal_errors_unchecked`, which are proved. No call takes memory. Each panics where the text has more
-//! than `u32::MAX` bytes.
+//! `rustc_lexer_literal_errors_unchecked`, which are proved. Characters that stand for themselves are handed on without
+//! that call, which is tested. No call takes memory. Each panics where the text has more than `u32::MAX` bytes.
 
 use crate::border::{self, Unit};
+use crate::plain::{hand_on, Kind};
 use core::mem::MaybeUninit;
 use core::num::NonZero;
 use core::ops::Range;
@@ -219,26 +220,45 @@ impl TryFrom<u8> for MixedUnit {
     }
 }
 
-/// How many units cross at once.
+/// How many units cross at once, at most.
 const ROOM: usize = 128;
 
-/// What the library writes of a text, in a mode, into a room.
-type Read = for<'room> fn(&str, u32, &'room mut [MaybeUninit<Unit>]) -> &'room [Unit];
+/// How many cross at once where few are looked for: two warnings of one place and one more.
+const FEW: usize = 3;
 
-/// Calls `each` with all units that are read of the text, in order.
+/// A run of characters with at least so many bytes is long: few units are looked for behind it.
+const LONG: usize = 8;
+
+/// Calls `callback` with all units of a string of one kind, in order.
 ///
-/// A text with more than cross at once is read on where the last of them ends, as a text of its own.
-fn for_each(read: Read, src: &str, mode: Mode, mut each: impl FnMut(Unit)) {
+/// Runs of characters that stand for themselves do not cross. Where these are short, more and more units are read at
+/// once. Behind the last of them the text is read on, as a text of its own.
+#[inline(always)]
+fn each_unit<K: Kind>(
+    src: &str,
+    mut callback: impl FnMut(Range<usize>, Result<K::Meant, EscapeError>),
+) {
     let src = border::fitting(src);
     let mut room = [const { MaybeUninit::uninit() }; ROOM];
+    let mut most = FEW;
     let mut at = 0;
     loop {
-        let units = read(&src[at..], mode.number(), &mut room);
-        let (units, end) = match units.last() {
-            Some(last) if units.len() == ROOM => before_the_rest(units, last),
-            _ => (units, None),
+        let plain_end = hand_on::<K>(src, at, &mut callback);
+        if plain_end == src.len() {
+            return;
+        }
+        most = if plain_end - at < LONG {
+            ROOM.min(2 * most)
+        } else {
+            FEW
         };
-        units.iter().for_each(|unit| each(unit.behind(at)));
+        at = plain_end;
+        let units = border::units(&src[at..], K::MODE.number(), &mut room[..most]);
+        let (units, end) = before_the_rest(units, most);
+        units.iter().for_each(|unit| {
+            let unit = unit.behind(at);
+            callback(unit.range(), K::crossed(unit));
+        });
         match end {
             Some(end) => at += end,
             None => return,
@@ -246,15 +266,35 @@ fn for_each(read: Read, src: &str, mode: Mode, mut each: impl FnMut(Unit)) {
     }
 }
 
-/// Those of the units behind which a text can be read on, and from where on.
+/// Calls `each` with all that is wrong in a literal, in order. It is read in parts too.
+fn each_error(src: &str, mode: Mode, mut each: impl FnMut(Unit)) {
+    let src = border::fitting(src);
+    let mut room = [const { MaybeUninit::uninit() }; ROOM];
+    let mut at = 0;
+    loop {
+        let errors = border::literal_errors(&src[at..], mode.number(), &mut room);
+        let (errors, end) = before_the_rest(errors, ROOM);
+        errors.iter().for_each(|error| each(error.behind(at)));
+        match end {
+            Some(end) => at += end,
+            None => return,
+        }
+    }
+}
+
+/// Those of the units behind which a text can be read on, and from where on, if the room of `most` is full.
 ///
 /// Two warnings may tell of one place, and begin there. So where a warning is last, that place is read again.
-fn before_the_rest<'room>(units: &'room [Unit], last: &Unit) -> (&'room [Unit], Option<usize>) {
-    if !last.is_warning() {
-        return (units, Some(last.end));
+#[inline]
+fn before_the_rest(units: &[Unit], most: usize) -> (&[Unit], Option<usize>) {
+    match units.last() {
+        Some(last) if units.len() == most && last.is_warning() => {
+            let others = units.iter().take_while(|unit| unit.start < last.start);
+            (&units[..others.count()], Some(last.start))
+        }
+        Some(last) if units.len() == most => (units, Some(last.end)),
+        _ => (units, None),
     }
-    let others = units.iter().take_while(|unit| unit.start < last.start);
-    (&units[..others.count()], Some(last.start))
 }
 
 /// The first unit of the text, if it has one.
@@ -313,6 +353,169 @@ impl Unit {
     }
 }
 
+/// The characters of a string.
+struct Chars;
+
+impl Kind for Chars {
+    const MODE: Mode = Mode::Str;
+
+    const RAW: bool = false;
+
+    type Meant = char;
+
+    #[inline(always)]
+    fn simple(byte: u8) -> Option<char> {
+        Some(char::from(byte))
+    }
+
+    #[inline(always)]
+    fn plain(c: char) -> Option<char> {
+        is_unescaped(c).then_some(c)
+    }
+
+    #[inline(always)]
+    fn crossed(unit: Unit) -> Result<char, EscapeError> {
+        unit.character()
+    }
+}
+
+/// The bytes of a byte string.
+struct Bytes;
+
+impl Kind for Bytes {
+    const MODE: Mode = Mode::ByteStr;
+
+    const RAW: bool = false;
+
+    type Meant = u8;
+
+    #[inline(always)]
+    fn simple(byte: u8) -> Option<u8> {
+        Some(byte)
+    }
+
+    #[inline(always)]
+    fn plain(c: char) -> Option<u8> {
+        (is_unescaped(c) && c.is_ascii()).then_some(c as u8)
+    }
+
+    #[inline(always)]
+    fn crossed(unit: Unit) -> Result<u8, EscapeError> {
+        unit.byte()
+    }
+}
+
+/// The units of a C string.
+struct MixedUnits;
+
+impl Kind for MixedUnits {
+    const MODE: Mode = Mode::CStr;
+
+    const RAW: bool = false;
+
+    type Meant = MixedUnit;
+
+    #[inline(always)]
+    fn simple(byte: u8) -> Option<MixedUnit> {
+        NonZero::new(char::from(byte)).map(MixedUnit::Char)
+    }
+
+    #[inline(always)]
+    fn plain(c: char) -> Option<MixedUnit> {
+        let c = NonZero::new(c).filter(|_| is_unescaped(c))?;
+        Some(MixedUnit::Char(c))
+    }
+
+    #[inline(always)]
+    fn crossed(unit: Unit) -> Result<MixedUnit, EscapeError> {
+        unit.mixed()
+    }
+}
+
+/// The characters of a raw string.
+struct RawChars;
+
+impl Kind for RawChars {
+    const MODE: Mode = Mode::RawStr;
+
+    const RAW: bool = true;
+
+    type Meant = char;
+
+    #[inline(always)]
+    fn simple(byte: u8) -> Option<char> {
+        Some(char::from(byte))
+    }
+
+    #[inline(always)]
+    fn plain(c: char) -> Option<char> {
+        (c != '\r').then_some(c)
+    }
+
+    #[inline(always)]
+    fn crossed(unit: Unit) -> Result<char, EscapeError> {
+        unit.character()
+    }
+}
+
+/// The bytes of a raw byte string.
+struct RawBytes;
+
+impl Kind for RawBytes {
+    const MODE: Mode = Mode::RawByteStr;
+
+    const RAW: bool = true;
+
+    type Meant = u8;
+
+    #[inline(always)]
+    fn simple(byte: u8) -> Option<u8> {
+        Some(byte)
+    }
+
+    #[inline(always)]
+    fn plain(c: char) -> Option<u8> {
+        (c != '\r' && c.is_ascii()).then_some(c as u8)
+    }
+
+    #[inline(always)]
+    fn crossed(unit: Unit) -> Result<u8, EscapeError> {
+        unit.byte()
+    }
+}
+
+/// The characters of a raw C string, in which none is U+0000.
+struct SomeChars;
+
+impl Kind for SomeChars {
+    const MODE: Mode = Mode::RawCStr;
+
+    const RAW: bool = true;
+
+    type Meant = NonZero<char>;
+
+    #[inline(always)]
+    fn simple(byte: u8) -> Option<NonZero<char>> {
+        NonZero::new(char::from(byte))
+    }
+
+    #[inline(always)]
+    fn plain(c: char) -> Option<NonZero<char>> {
+        NonZero::new(c).filter(|_| c != '\r')
+    }
+
+    #[inline(always)]
+    fn crossed(unit: Unit) -> Result<NonZero<char>, EscapeError> {
+        unit.some_character()
+    }
+}
+
+/// Whether a character stands for itself in a string, where it is one of that kind of string.
+#[inline(always)]
+fn is_unescaped(c: char) -> bool {
+    !matches!(c, '\\' | '"' | '\r')
+}
+
 /// The character that a character literal stands for, of which `src` is what stands between the quotes.
 ///
 /// ```
@@ -335,55 +538,39 @@ pub fn unescape_byte(src: &str) -> Result<u8, EscapeError> {
 /// `src` is what stands between the quotes. The calls are in the order of the text. A backslash at the end of a line
 /// stands for nothing, and no call tells of it. Two calls may warn of the white space past it: their places begin at
 /// the backslash.
-pub fn unescape_str(src: &str, mut callback: impl FnMut(Range<usize>, Result<char, EscapeError>)) {
-    for_each(border::units, src, Mode::Str, |unit| {
-        callback(unit.range(), unit.character())
-    });
+pub fn unescape_str(src: &str, callback: impl FnMut(Range<usize>, Result<char, EscapeError>)) {
+    each_unit::<Chars>(src, callback);
 }
 
 /// Calls `callback` with each byte that a byte string stands for, or what is wrong, and its place.
-pub fn unescape_byte_str(
-    src: &str,
-    mut callback: impl FnMut(Range<usize>, Result<u8, EscapeError>),
-) {
-    for_each(border::units, src, Mode::ByteStr, |unit| {
-        callback(unit.range(), unit.byte())
-    });
+pub fn unescape_byte_str(src: &str, callback: impl FnMut(Range<usize>, Result<u8, EscapeError>)) {
+    each_unit::<Bytes>(src, callback);
 }
 
 /// Calls `callback` with each unit that a C string stands for, or what is wrong, and its place.
 pub fn unescape_c_str(
     src: &str,
-    mut callback: impl FnMut(Range<usize>, Result<MixedUnit, EscapeError>),
+    callback: impl FnMut(Range<usize>, Result<MixedUnit, EscapeError>),
 ) {
-    for_each(border::units, src, Mode::CStr, |unit| callback(unit.range(), unit.mixed()));
+    each_unit::<MixedUnits>(src, callback);
 }
 
 /// Calls `callback` with each character of a raw string, or what is wrong, and its place.
-pub fn check_raw_str(src: &str, mut callback: impl FnMut(Range<usize>, Result<char, EscapeError>)) {
-    for_each(border::units, src, Mode::RawStr, |unit| {
-        callback(unit.range(), unit.character())
-    });
+pub fn check_raw_str(src: &str, callback: impl FnMut(Range<usize>, Result<char, EscapeError>)) {
+    each_unit::<RawChars>(src, callback);
 }
 
 /// Calls `callback` with each byte of a raw byte string, or what is wrong, and its place.
-pub fn check_raw_byte_str(
-    src: &str,
-    mut callback: impl FnMut(Range<usize>, Result<u8, EscapeError>),
-) {
-    for_each(border::units, src, Mode::RawByteStr, |unit| {
-        callback(unit.range(), unit.byte())
-    });
+pub fn check_raw_byte_str(src: &str, callback: impl FnMut(Range<usize>, Result<u8, EscapeError>)) {
+    each_unit::<RawBytes>(src, callback);
 }
 
 /// Calls `callback` with each character of a raw C string, or what is wrong, and its place.
 pub fn check_raw_c_str(
     src: &str,
-    mut callback: impl FnMut(Range<usize>, Result<NonZero<char>, EscapeError>),
+    callback: impl FnMut(Range<usize>, Result<NonZero<char>, EscapeError>),
 ) {
-    for_each(border::units, src, Mode::RawCStr, |unit| {
-        callback(unit.range(), unit.some_character())
-    });
+    each_unit::<SomeChars>(src, callback);
 }
 
 /// Calls `error_callback` with all that is wrong in a literal, warnings too, and its place in bytes.
@@ -403,7 +590,7 @@ pub fn check_for_errors(
     mode: Mode,
     mut error_callback: impl FnMut(Range<usize>, EscapeError),
 ) {
-    for_each(border::literal_errors, src, mode, |unit| {
+    each_error(src, mode, |unit| {
         error_callback(unit.range(), EscapeError::of(unit.value));
     });
 }

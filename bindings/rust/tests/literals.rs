@@ -168,6 +168,58 @@ fn long_strings() {
     }
 }
 
+/// What is no simple character, wherever among simple ones it stands: these are handed on without the library.
+#[test]
+fn plain_text_around() {
+    for before in 0..20 {
+        let text = |x: &str| "a".repeat(before) + x + &"b".repeat(20);
+        let around = |x: &str, unit: Result<char, EscapeError>| {
+            let end = before + x.len();
+            let mut units: Units<char> = (0..before).map(|at| (at..at + 1, Ok('a'))).collect();
+            units.push((before..end, unit));
+            units.extend((end..end + 20).map(|at| (at..at + 1, Ok('b'))));
+            units
+        };
+        for (x, in_string, in_raw_string) in [
+            ("\"", Err(EscapeOnlyChar), Ok('"')),
+            (
+                "\r",
+                Err(BareCarriageReturn),
+                Err(BareCarriageReturnInRawString),
+            ),
+            ("\0", Ok('\0'), Ok('\0')),
+            ("\x7f", Ok('\x7f'), Ok('\x7f')),
+            ("\u{80}", Ok('\u{80}'), Ok('\u{80}')),
+            ("●", Ok('●'), Ok('●')),
+        ] {
+            assert_eq!(
+                units!(unescape_str, &text(x)),
+                around(x, in_string),
+                "behind {before}"
+            );
+            assert_eq!(
+                units!(check_raw_str, &text(x)),
+                around(x, in_raw_string),
+                "behind {before}"
+            );
+        }
+        for x in [r"\n", r"\x0a", r"\u{a}"] {
+            assert_eq!(
+                units!(unescape_str, &text(x)),
+                around(x, Ok('\n')),
+                "behind {before}"
+            );
+        }
+        let wrong = |units: Units<u8>| units.iter().position(|unit| unit.1.is_err());
+        assert_eq!(wrong(units!(unescape_byte_str, &text("é"))), Some(before));
+        assert_eq!(wrong(units!(check_raw_byte_str, &text("é"))), Some(before));
+        let nul = units!(unescape_c_str, &text("\0"));
+        assert_eq!(nul[before], (before..before + 1, Err(NulInCStr)));
+        let nul = units!(check_raw_c_str, &text("\0"));
+        assert_eq!(nul[before], (before..before + 1, Err(NulInCStr)));
+    }
+}
+
 /// Two warnings of one place, wherever among those that cross at once they stand: they are parted nowhere.
 #[test]
 fn warnings_of_long_strings() {
