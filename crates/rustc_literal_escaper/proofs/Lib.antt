@@ -12,3 +12,4 @@ pub mod RoundTripLemmas
 pub mod WrittenLemmas
 pub mod SimpleLemmas
 pub mod RebuiltLemmas
+pub mod RunLemmas

@@ -44,7 +44,7 @@ simple-all-ascii raw (b ∷ bs) e =
 simple-ascii : (raw : Bool) (bs : List ℕ) → list_all (is_simple raw) bs ≡ true → IsAscii bs
 simple-ascii raw bs e = is-ascii bs (simple-all-ascii raw bs e)
 
-chars-simple : (raw : Bool) (run left : List ℕ) → list_all (is_simple raw) run ≡ true → chars (run ++ left) ≡ run ++ chars left
+pub chars-simple : (raw : Bool) (run left : List ℕ) → list_all (is_simple raw) run ≡ true → chars (run ++ left) ≡ run ++ chars left
 chars-simple raw run left e =
     let ascii = simple-ascii raw run e in
     chars-append run left (IsUtf8-from_ascii run ascii) ∙ ap (λ (xs : List ℕ). xs ++ chars left) (chars-IsAscii run ascii)

@@ -1,5 +1,5 @@
 -- Texts in which nothing is escaped and nothing is wrong.
-use Rattle.std.specs.Prelude.{◌≡◌, ℕ, ◌==◌, ◌&&◌, nat_lt, not, Bool, true, false, List, ◌++◌, map}
+use Rattle.std.specs.Prelude.{◌≡◌, ℕ, ◌-◌, ◌==◌, ◌&&◌, nat_lt, not, Bool, true, false, List, [], ◌∷◌, ◌++◌, length, map}
 use Rattle.std.specs.List.{list_all}
 use Rattle.std.specs.Str.{byte, chars}
 use Rattle.rustc_literal_escaper.specs.declared.element.Element.{Element}
@@ -24,6 +24,11 @@ is_simple raw c = nat_lt c 128 && (not (c == 0) && is_plain raw c)
 
 abbrev pub is_mark : Bool → ℕ → Bool
 is_mark raw c = not (is_simple raw c)
+
+-- plain characters of ASCII, one byte each, with their places; the last ends at `end`
+abbrev pub plain_items : ℕ → List ℕ → List Item
+plain_items end [] = []
+plain_items end (b ∷ bs) = (record { start = end - length (b ∷ bs); end = end - length bs }, Plain b) ∷ plain_items end bs
 
 -- characters of one class are in front of what is left
 pub record Passes (class : ℕ → Bool) (s left : List ℕ) : Type 0 where

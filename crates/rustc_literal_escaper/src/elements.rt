@@ -1,17 +1,17 @@
 //! The elements of what stands between double quotes.
-ghost use Rattle.std.specs.Prelude.{◌≡◌, ◌≤◌, ◌∷◌, ℕ, None, true, false, length, MatchOption};
+ghost use Rattle.std.specs.Prelude.{◌≡◌, ◌≤◌, ◌∷◌, ◌++◌, ℕ, None, true, false, length, MatchOption};
 ghost use Rattle.std.specs.Iterator.{at_most};
 ghost use Rattle.rustc_literal_escaper.specs.Elements.{items_of, TakesFirst};
 ghost use Rattle.rustc_literal_escaper.specs.Errors.{error_of, errors_in};
 ghost use Rattle.rustc_literal_escaper.specs.Places.{ArePlaced};
-ghost use Rattle.rustc_literal_escaper.specs.Plain.{StandsForItself};
+ghost use Rattle.rustc_literal_escaper.specs.Plain.{plain_items, StandsForItself};
 ghost use Rattle.rustc_literal_escaper.specs.Rebuilt.{IsRebuilt};
 
 use crate::element::Element;
 use crate::error::EscapeError;
 use crate::mode::Mode;
 use crate::scan::past_plain;
-use crate::simple::past_simple;
+use crate::simple::{past_simple, split_simple};
 use crate::steps::{Told, advance, first_item, first_plain};
 use std::iter::Iterator;
 use std::marker::Model;
@@ -102,6 +102,12 @@ impl<'a> Elements<'a> {
                 self.skip_plain(mode);
                 continue;
             }
+            if let Some((range, element)) = self.next_alone() {
+                if let Some(error) = element.error_in(mode) {
+                    return Some((range, error));
+                }
+                continue;
+            }
             let (range, element) = self.next()?;
             if let Some(error) = element.error_in(mode) {
                 return Some((range, error));
@@ -123,6 +129,37 @@ impl<'a> Elements<'a> {
         let (item, left) = first_plain(self.rest, self.total, self.raw)?;
         self.rest = left;
         Some(item)
+    }
+
+    /// The next element, where it is told alone: not a warning of a line end that is skipped.
+    ///
+    /// It is `None` where such a line end stands next, and past the last element.
+    #[inline(always)]
+    pub(crate) fn next_alone(&mut self) -> Option<(Range<usize>, Element)>
+        ensures { MatchOption result (self.new ≡ self.old) (λ r. self.old ≡ r ∷ self.new) }
+    {
+        if self.waiting.is_some() {
+            return None;
+        }
+        let (item, left) = first_item(self.rest, self.total, self.raw)?;
+        self.rest = left;
+        Some(item)
+    }
+
+    /// The simple bytes that stand next, and the place past them. Each is a character of its own.
+    ///
+    /// There are none where an escape stands next, or a character that is not in ASCII.
+    #[inline(always)]
+    pub(crate) fn next_simple(&mut self) -> (&'a [u8], usize)
+        ensures items { self.old ≡ plain_items result.1 result.0.now ++ self.new }
+        ensures within { length result.0.now ≤ result.1 }
+    {
+        if self.waiting.is_some() {
+            return (&[], 0);
+        }
+        let (run, left) = split_simple(self.rest, self.raw);
+        self.rest = left;
+        (run, self.total - left.len())
     }
 
     /// Passes over simple characters in front. Nothing is wrong with any of them in any kind of string.

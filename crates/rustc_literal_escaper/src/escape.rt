@@ -1,5 +1,6 @@
 //! What follows a backslash.
-ghost use Rattle.std.specs.Prelude.{◌≡◌, ◌≤◌, ◌<◌, ◌^◌, ◌+◌, ◌*◌, min, nat_le, nat_lt, if◌then◌else◌, length};
+ghost use Rattle.std.specs.Prelude.{◌≡◌, ◌≤◌, ◌<◌, ◌^◌, ◌+◌, ◌*◌, min, nat_le, nat_lt, if◌then◌else◌, length, MatchOption};
+ghost use Rattle.std.specs.Char.{digit_value};
 ghost use Rattle.std.specs.Str.{chars, IsUtf8};
 ghost use Rattle.rustc_literal_escaper.specs.Escape as spec;
 ghost use Rattle.rustc_literal_escaper.specs.Escape.{closed_at_run};
@@ -174,6 +175,39 @@ fn short(c: char) -> Element
     if code < 128 { SHORT[code] } else { NONE }
 }
 
+/// The value of each character of ASCII that is a hexadecimal digit, and 16 for each other. Whether the next one is a
+/// digit or a letter is hard to foresee, too.
+static DIGITS: [u8; 128] = [
+    16, 16, 16, 16, 16, 16, 16, 16, 16, 16, 16, 16, 16, 16, 16, 16, 16, 16, 16, 16, 16, 16, 16, 16,
+    16, 16, 16, 16, 16, 16, 16, 16, 16, 16, 16, 16, 16, 16, 16, 16, 16, 16, 16, 16, 16, 16, 16, 16,
+    0, 1, 2, 3, 4, 5, 6, 7, 8, 9, 16, 16, 16, 16, 16, 16, 16, 10, 11, 12, 13, 14, 15, 16, 16, 16,
+    16, 16, 16, 16, 16, 16, 16, 16, 16, 16, 16, 16, 16, 16, 16, 16, 16, 16, 16, 16, 16, 16, 16, 10,
+    11, 12, 13, 14, 15, 16, 16, 16, 16, 16, 16, 16, 16, 16, 16, 16, 16, 16, 16, 16, 16, 16, 16, 16,
+    16, 16, 16, 16, 16, 16,
+];
+
+/// The value of a hexadecimal digit.
+#[inline(always)]
+fn hex_digit(c: char) -> Option<u32>
+    ensures { MatchOption result (digit_value c < 16 → ⊥) (λ v. (digit_value c < 16) × (v ≡ digit_value c)) }
+{
+    let digit = digit_or_16(c);
+    if digit < 16 {
+        Some(u32::from(digit))
+    } else {
+        None
+    }
+}
+
+/// The value of a hexadecimal digit, and 16 for any other character.
+#[inline(always)]
+fn digit_or_16(c: char) -> u8
+    ensures { result ≡ min (digit_value c) 16 }
+{
+    let code = c as usize;
+    if code < 128 { DIGITS[code] } else { 16 }
+}
+
 /// The byte of two digits. `rest` follows the `x`.
 #[inline(always)]
 fn hex(rest: &str) -> (Element, &str)
@@ -184,13 +218,13 @@ fn hex(rest: &str) -> (Element, &str)
     let Some((high, tail)) = split_first(rest) else {
         return (Element::Fault(EscapeError::TooShortHexEscape), rest);
     };
-    let Some(high) = high.to_digit(16) else {
+    let Some(high) = hex_digit(high) else {
         return (Element::Fault(EscapeError::InvalidCharInHexEscape), tail);
     };
     let Some((low, left)) = split_first(tail) else {
         return (Element::Fault(EscapeError::TooShortHexEscape), tail);
     };
-    let Some(low) = low.to_digit(16) else {
+    let Some(low) = hex_digit(low) else {
         return (Element::Fault(EscapeError::InvalidCharInHexEscape), left);
     };
     (Element::Byte((high * 16 + low) as u8), left)
@@ -227,7 +261,7 @@ fn braced(body: &str) -> (Element, &str)
             tail,
         ),
         '}' => (Element::Fault(EscapeError::EmptyUnicodeEscape), tail),
-        _ if first.is_digit(16) => digits(body),
+        _ if hex_digit(first).is_some() => digits(body),
         _ => (
             Element::Fault(EscapeError::InvalidCharInUnicodeEscape),
             tail,
@@ -252,7 +286,7 @@ fn digits(body: &str) -> (Element, &str)
         if c == '}' {
             return (number(value, count), rest);
         }
-        let Some(digit) = c.to_digit(16) else {
+        let Some(digit) = hex_digit(c) else {
             return (
                 Element::Fault(EscapeError::InvalidCharInUnicodeEscape),
                 rest,

@@ -1,6 +1,6 @@
 //! Simple characters at the front of a text, which are wrong in no kind of string: 32 bytes at a time.
-ghost use Rattle.std.specs.Prelude.{◌≡◌, ◌≤◌, true, false, length, map};
-ghost use Rattle.std.specs.List.{prefix_len};
+ghost use Rattle.std.specs.Prelude.{◌≡◌, ◌≤◌, ◌+◌, ◌++◌, true, false, length, map};
+ghost use Rattle.std.specs.List.{list_all, prefix_len};
 ghost use Rattle.std.specs.Simd.Lanes.{mask_l};
 ghost use Rattle.std.specs.Str.{chars, IsUtf8};
 ghost use Rattle.rustc_literal_escaper.specs.Plain as spec;
@@ -18,6 +18,18 @@ pub(crate) fn past_simple(rest: &str, raw: bool) -> &str
     &rest[end..]
 }
 
+/// Simple bytes at the front, and what is left past them.
+#[inline(always)]
+pub(crate) fn split_simple(rest: &str, raw: bool) -> (&[u8], &str)
+    ensures simple { list_all (spec.is_simple raw) result.0.now ≡ true }
+    ensures whole { rest.now ≡ result.0.now ++ result.1.now }
+    ensures text { IsUtf8 result.1.now }
+    ensures sizes { length rest.now ≡ length result.0.now + length result.1.now }
+{
+    let end = simple_end(rest.as_bytes(), raw);
+    (&rest.as_bytes()[..end], &rest[end..])
+}
+
 /// A number of simple bytes at the front. It is 0 where fewer than 32 bytes are left.
 ///
 /// In a string with escapes mostly one look at 32 bytes tells where they end: that is not foreseen, and so no branch goes
@@ -32,6 +44,9 @@ fn simple_end(bytes: &[u8], raw: bool) -> usize
     }
     if raw {
         return simple_end_by_lanes(bytes, true);
+    }
+    if bytes[0] == b'\\' {
+        return 0;
     }
     let found = escaped_marks(u8x32::from_slice(bytes));
     if found == 0 {

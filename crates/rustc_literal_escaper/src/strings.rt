@@ -1,8 +1,9 @@
 //! Strings of every kind, by a callback.
-ghost use Rattle.std.specs.Prelude.{◌≡◌, true, false};
+ghost use Rattle.std.specs.Prelude.{◌≡◌, ◌≤◌, true, false, length};
 ghost use Rattle.std.specs.List.{FoldsTo};
 ghost use Rattle.rustc_literal_escaper.specs.Elements.{items_of};
 ghost use Rattle.rustc_literal_escaper.specs.Meaning.{byte_of, char_of, raw_unit_of, unit_of};
+ghost use Rattle.rustc_literal_escaper.specs.Plain.{plain_items};
 
 use crate::element::Element;
 use crate::elements::{Elements, elements_of};
@@ -53,15 +54,12 @@ pub fn unescape_c_str<F: FnMut(Range<usize>, Result<MixedUnit, EscapeError>)>(
 /// Calls `callback` with each character of a raw string, or what is wrong, and its place.
 ///
 /// Nothing is an escape there, and only a carriage return is wrong.
-pub fn check_raw_str<F: FnMut(Range<usize>, Result<char, EscapeError>)>(src: &str, mut callback: F)
+pub fn check_raw_str<F: FnMut(Range<usize>, Result<char, EscapeError>)>(src: &str, callback: F)
     requires callable { F.IsAlwaysCallable callback }
     ensures calls { (last : F) × FoldsTo (λ f item g. F.step f item.0 (char_of item.1) tt g)
         callback (items_of true src.now) last }
 {
-    let mut elements = Elements::new_raw(src);
-    'items: while let Some((range, element)) = elements.next() {
-        callback(range, element.to_char());
-    }
+    each_unit::<AsChar, F>(src, true, callback);
 }
 
 /// Calls `callback` with each byte of a raw byte string, or what is wrong, and its place.
@@ -184,7 +182,8 @@ fn each_unit<M: Meaning, F: FnMut(Range<usize>, Result<M::Meant, EscapeError>)>(
 
 /// Calls `callback` with what each of the elements stands for, and its place.
 ///
-/// Plain characters have a call of their own, which the compiler makes short.
+/// Plain characters have a call of their own, which the compiler makes short. Behind one of them a run of simple ones
+/// is looked for, and these have a loop of their own.
 #[inline(always)]
 fn each_unit_in<M: Meaning, F: FnMut(Range<usize>, Result<M::Meant, EscapeError>)>(
     mut elements: Elements<'_>,
@@ -197,6 +196,12 @@ fn each_unit_in<M: Meaning, F: FnMut(Range<usize>, Result<M::Meant, EscapeError>
     'items: loop {
         if let Some((range, c)) = elements.next_plain() {
             callback(range, M::of(Element::Plain(c)));
+            let (run, end) = elements.next_simple();
+            callback = each_simple::<M, F>(run, end, callback);
+            continue;
+        }
+        if let Some((range, element)) = elements.next_alone() {
+            callback(range, M::of(element));
             continue;
         }
         let Some((range, element)) = elements.next() else {
@@ -204,4 +209,27 @@ fn each_unit_in<M: Meaning, F: FnMut(Range<usize>, Result<M::Meant, EscapeError>
         };
         callback(range, M::of(element));
     }
+}
+
+/// Calls `callback` with what each of the bytes stands for, a character of its own, and its place. The last ends at
+/// `end`.
+#[inline(always)]
+fn each_simple<M: Meaning, F: FnMut(Range<usize>, Result<M::Meant, EscapeError>)>(
+    run: &[u8],
+    end: usize,
+    mut callback: F,
+) -> F
+    requires callable { F.IsAlwaysCallable callback }
+    requires within { length run.now ≤ end }
+    ensures callable { F.IsAlwaysCallable result }
+    ensures calls { FoldsTo (λ f item g. F.step f item.0 (M.meaning item.1) tt g)
+        callback (plain_items end run.now) result }
+{
+    let mut left = run;
+    'run: while let Some((byte, tail)) = left.split_first() {
+        let range = end - left.len()..end - tail.len();
+        callback(range, M::of(Element::Plain(*byte as char)));
+        left = tail;
+    }
+    callback
 }

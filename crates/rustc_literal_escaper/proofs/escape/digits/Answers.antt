@@ -23,15 +23,15 @@ returns-then-c-eq125-clause-read c =
     ap (λ (e : Element). (e, chars c.in-Some.tail.now)) c.number.ensures
     ∙ (step _ _ _ _ _ _ _ c.digits.invariant.1 c.in-Some.ensures.0 (left_at-brace _ _ _ _ c.if-c-eq125.true) ∙ left_at-start (chars c.args.body.now))
 
-pub returns-in_default-to_digit-clause-read : goal.returns-in_default-to_digit-clause-read
-returns-in_default-to_digit-clause-read c =
-    step _ _ _ _ _ _ _ c.digits.invariant.1 c.in-Some.ensures.0 (left_at-other _ _ _ _ c.if-c-eq95.false c.if-c-eq125.false (hex-no c.in-Some.c c.in_default-to_digit.ensures.value)) ∙ left_at-start (chars c.args.body.now)
+pub returns-in_default-hex_digit-clause-read : goal.returns-in_default-hex_digit-clause-read
+returns-in_default-hex_digit-clause-read c =
+    step _ _ _ _ _ _ _ c.digits.invariant.1 c.in-Some.ensures.0 (left_at-other _ _ _ _ c.if-c-eq95.false c.if-c-eq125.false (hex-no c.in-Some.c c.in_default-hex_digit.ensures)) ∙ left_at-start (chars c.args.body.now)
 
 pub digits-preserved : goal.digits-preserved
 digits-preserved c = (
   c.in-Some.ensures.2,
-  ap (λ (v : ℕ). left_at v (c.digits.count + 1) (chars c.in-Some.tail.now)) (c.with_digit-value.ensures.value ∙ ap (with_digit c.digits.value c.digits.count) c.in-Some-to_digit.ensures.value.1)
-      ∙ step _ _ _ _ _ _ _ c.digits.invariant.1 c.in-Some.ensures.0 (left_at-digit _ _ _ _ (hex-yes c.in-Some.c c.in-Some-to_digit.ensures.value.0)),
+  ap (λ (v : ℕ). left_at v (c.digits.count + 1) (chars c.in-Some.tail.now)) (c.with_digit-value.ensures.value ∙ ap (with_digit c.digits.value c.digits.count) c.in-Some-hex_digit.ensures.1)
+      ∙ step _ _ _ _ _ _ _ c.digits.invariant.1 c.in-Some.ensures.0 (left_at-digit _ _ _ _ (hex-yes c.in-Some.c c.in-Some-hex_digit.ensures.0)),
   (let l = c.in-Some.ensures.1 in omega (arith, c.digits.invariant.2)),
   c.with_digit-value.ensures.fits,
 )
