@@ -1,5 +1,5 @@
 //! What a literal stands for, and what is wrong in it.
-ghost use Rattle.std.specs.Prelude.{◌≡◌, ◌≢◌, List, [], ◌∷◌, None, map};
+ghost use Rattle.std.specs.Prelude.{◌≡◌, ◌≢◌, false, List, [], ◌∷◌, None, map};
 ghost use Rattle.std.specs.Result.{result_err};
 ghost use Rattle.std.specs.Str.{IsUtf8};
 ghost use Rattle.rustc_lexer.specs.Locality.{IsText};
@@ -189,19 +189,27 @@ fn fill(text: &str, listing: Listing, mode: Mode, passed: usize, room: &mut [CUn
 fn fill_units(text: &str, mode: Mode, passed: usize, room: &mut [CUnit]) -> usize
     ensures { spec.IsUnits (spec.units_of mode text.now) passed room.old room.new result }
 {
-    if is_single(mode) {
-        fill_one(single_unit(text, mode), passed, room)
-    } else {
-        let elements = elements_of(text, mode);
-        fill_all(Meanings { elements, mode }, passed, room)
+    match mode {
+        Mode::Char | Mode::Byte => fill_one(single_unit(text, mode), passed, room),
+        Mode::Str => fill_string(text, Mode::Str, passed, room),
+        Mode::ByteStr => fill_string(text, Mode::ByteStr, passed, room),
+        Mode::CStr => fill_string(text, Mode::CStr, passed, room),
+        Mode::RawStr => fill_string(text, Mode::RawStr, passed, room),
+        Mode::RawByteStr => fill_string(text, Mode::RawByteStr, passed, room),
+        Mode::RawCStr => fill_string(text, Mode::RawCStr, passed, room),
     }
 }
 
-/// Whether such a literal stands between single quotes.
-fn is_single(mode: Mode) -> bool
-    ensures { result ≡ errors.is_single mode }
+/// Writes units of what stands between double quotes.
+///
+/// It is inlined into each arm of its caller, so that the mode is known there.
+#[inline(always)]
+fn fill_string(text: &str, mode: Mode, passed: usize, room: &mut [CUnit]) -> usize
+    requires double { false ≡ errors.is_single mode }
+    ensures { spec.IsUnits (spec.units_of mode text.now) passed room.old room.new result }
 {
-    matches!(mode, Mode::Char | Mode::Byte)
+    let elements = elements_of(text, mode);
+    fill_all(Meanings { elements, mode }, passed, room)
 }
 
 /// Writes the one unit, if it is not passed over, and there is room.
@@ -229,6 +237,7 @@ fn single_unit(text: &str, mode: Mode) -> CUnit
 }
 
 /// The elements between double quotes.
+#[inline(always)]
 fn elements_of(text: &str, mode: Mode) -> Elements<'_>
     ensures { result ≡ items_of (errors.is_raw mode) text.now }
 {
@@ -302,6 +311,7 @@ fn fill_all<U: Units>(mut units: U, passed: usize, room: &mut [CUnit]) -> usize
 }
 
 /// What an element stands for between double quotes, as numbers.
+#[inline(always)]
 fn item_unit(mode: Mode, place: Range<usize>, element: Element) -> CUnit
     ensures { result ≡ spec.item_unit mode (place, element) }
 {

@@ -108,7 +108,7 @@ impl<'a> Elements<'a> {
                 }
                 continue;
             }
-            let (range, element) = self.next()?;
+            let (range, element) = self.next_by_steps()?;
             if let Some(error) = element.error_in(mode) {
                 return Some((range, error));
             }
@@ -146,6 +146,26 @@ impl<'a> Elements<'a> {
         Some(item)
     }
 
+    /// The next element, whatever it is, or `None` past the last one.
+    ///
+    /// It is asked where [`Elements::next_alone`] is `None`, and has the large locals, which that one goes without.
+    #[inline(always)]
+    pub(crate) fn next_by_steps(&mut self) -> Option<(Range<usize>, Element)>
+        ensures { TakesFirst self.old result self.new }
+    {
+        if self.waiting.is_some() {
+            return self.waiting.take();
+        }
+        let Told {
+            first,
+            second,
+            left,
+        } = advance(self.rest, self.total, self.raw);
+        self.rest = left;
+        self.waiting = second;
+        first
+    }
+
     /// The simple bytes that stand next, and the place past them. Each is a character of its own.
     ///
     /// There are none where an escape stands next, or a character that is not in ASCII.
@@ -157,9 +177,14 @@ impl<'a> Elements<'a> {
         if self.waiting.is_some() {
             return (&[], 0);
         }
-        let (run, left) = split_simple(self.rest, self.raw);
-        self.rest = left;
-        (run, self.total - left.len())
+        match self.rest.as_bytes().first() {
+            Some(byte) if byte.is_ascii() => {
+                let (run, left) = split_simple(self.rest, self.raw);
+                self.rest = left;
+                (run, self.total - left.len())
+            }
+            _ => (&[], 0),
+        }
     }
 
     /// Passes over simple characters in front. Nothing is wrong with any of them in any kind of string.
@@ -206,20 +231,9 @@ impl<'a> Iterator for Elements<'a> {
     /// The next element, or `None` past the last one, from then on.
     #[inline(always)]
     fn next(&mut self) -> Option<(Range<usize>, Element)> {
-        if self.waiting.is_some() {
-            return self.waiting.take();
-        }
-        if let Some((item, left)) = first_item(self.rest, self.total, self.raw) {
-            self.rest = left;
+        if let Some(item) = self.next_alone() {
             return Some(item);
         }
-        let Told {
-            first,
-            second,
-            left,
-        } = advance(self.rest, self.total, self.raw);
-        self.rest = left;
-        self.waiting = second;
-        first
+        self.next_by_steps()
     }
 }

@@ -204,7 +204,7 @@ fn each_unit_in<M: Meaning, F: FnMut(Range<usize>, Result<M::Meant, EscapeError>
             callback(range, M::of(element));
             continue;
         }
-        let Some((range, element)) = elements.next() else {
+        let Some((range, element)) = elements.next_by_steps() else {
             break;
         };
         callback(range, M::of(element));

@@ -4,13 +4,10 @@ use Rattle.std.specs.Str.{chars}
 use Rattle.rustc_literal_escaper.specs.Elements.{Item, front_by, items_from, TakesFirst}
 use Rattle.rustc_literal_escaper.proofs.ItemLemmas.{takes_first}
 use Rattle.rustc_literal_escaper.proofs.SkipLemmas.{behind}
-use Rattle.rustc_literal_escaper.proofs.elements.ElementsIterator.next.Goals as goal
+use Rattle.rustc_literal_escaper.proofs.elements.Elements.next_by_steps.Goals as goal
 
-pub returns-in-Some-clause-steps : goal.returns-in-Some-clause-steps
-returns-in-Some-clause-steps c = sym c.self.view_is ∙ behind _ _ _ _ c.if-is_some.ensures c.in-Some.ensures.0
-
-pub returns-clause-steps : goal.returns-clause-steps
-returns-clause-steps c =
+pub returns : goal.returns
+returns c =
     subst (λ (s : List Item). TakesFirst s c.advance-first.result.first (option_to_list c.advance-first.result.second ++ items_from (front_by c.self.inside.raw) c.self.inside.total (chars c.advance-first.result.left.now)))
     c.self.view_is
     (takes_first (front_by c.self.inside.raw) c.self.inside.total _ _ _ _ _ c.if-is_some.ensures c.advance-first.ensures.told c.advance-first.ensures.all)
