@@ -91,11 +91,12 @@ pub(crate) fn raw_double_quoted_string(
         if let Some(left) = past_close(text, n_hashes) {
             return (Ok(n_hashes as u8), left);
         }
+        return raw_text(text, n_hashes, prefix_len + n_hashes + 1);
     }
     any_raw_string(rest, prefix_len)
 }
 
-/// What [`raw_double_quoted_string`] answers, whatever the opening and the end are.
+/// What [`raw_double_quoted_string`] answers, whatever the opening is.
 #[inline(never)]
 fn any_raw_string(rest: &str, prefix_len: u32) -> (Result<u8, RawStrError>, &str)
     requires fits { prefix_len + length rest.now < 2 ^ 32 }
@@ -157,7 +158,7 @@ fn past_close(text: &str, n_hashes: u32) -> Option<&str>
 
 /// How the raw string goes on past its opening quote, before which `n_hashes` hashes stand; and what it leaves of
 /// `text`. An offset counts `before` bytes for what stands before `text`.
-#[inline(always)]
+#[inline(never)]
 fn raw_text(text: &str, n_hashes: u32, before: u32) -> (Result<u8, RawStrError>, &str)
     requires fits { before + length text.now < 2 ^ 32 }
     ensures { (result.0, result.1.now) ≡ scanned (spec.raw_text n_hashes before) text.now }

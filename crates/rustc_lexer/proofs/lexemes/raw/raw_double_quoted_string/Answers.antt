@@ -8,3 +8,6 @@ returns-in-Some-past_close c = record { read = opened c.args.prefix_len _ _ _ _ 
 
 pub returns : goal.returns
 returns c = record { read = c.any_raw_string.ensures; lookahead = raw_read_local c.args.prefix_len; ended = raw_read_within c.args.prefix_len }
+
+pub returns-in-Some : goal.returns-in-Some
+returns-in-Some c = record { read = opened c.args.prefix_len _ _ _ _ _ c.utf8.rest c.in-Some.ensures.1 c.in-Some.ensures.2 c.in-Some.ensures.3 c.in-Some.ensures.4 c.raw_text.ensures; lookahead = raw_read_local c.args.prefix_len; ended = raw_read_within c.args.prefix_len }
