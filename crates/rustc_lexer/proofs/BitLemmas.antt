@@ -1,15 +1,15 @@
 -- One bit of a word, through each operation on it.
 use Rattle.std.proofs.Common.{◌≡◌, ℕ, zero, suc, ◌+◌, ◌-◌, ◌*◌, ◌/◌, ◌%◌, ◌^◌, ◌<◌, ◌≤◌, min, max, Bool, true, false, true≢false, not, ◌&&◌, ◌||◌, ◌==◌, List, length, map, get_or, cond, refl, sym, ap, ap₂, ◌∙◌, subst, arith, w64, bit_and, bit_or, inl, inr}
 use Rattle.std.specs.Int.{bit_at}
-use Rattle.std.proofs.lemmas.Bool.{agree_below_at, and_right, cases_lt}
+use Rattle.std.proofs.lemmas.Bool.{agree_below_at, and_left, and_right, cases_lt, eqb-true}
 use Rattle.std.proofs.lemmas.Nat.{and_le_l, and_le_r, or_lt, shl-shr, shr-shr, shr_le}
-use Rattle.std.proofs.lemmas.Nat.Bits.{bit_at_and, bit_at_or, bit_at_not, bit_at-lt, bit_at-zero, bit_at_above, bit_at-trailing_zeros}
+use Rattle.std.proofs.lemmas.Nat.Bits.{bit_at_and, bit_at_or, bit_at_not, bit_at_lowest, bit_at-lt, bit_at-suc, bit_at-zero, bit_at_above, bit_at-trailing_zeros}
 use Rattle.std.proofs.lemmas.List.{get_or-map}
 use Rattle.std.proofs.lemmas.Simd.{bit_mask_l, length-chunk, get_or-chunk}
 use lib.Count.{count_trailing_zeros}
 use lib.Pow.{field, mod-mod-pow}
 use lib.Lanes.{chunk, mask_l}
-use Rattle.rustc_lexer.specs.means.Ends.{bit}
+use Rattle.rustc_lexer.specs.means.Ends.{bit, IsLowest}
 
 bit_cases : (P : ℕ → Type 0) → P 0 → P 1 → (x : ℕ) → x < 2 → P x
 bit_cases P p q zero h = p
@@ -78,7 +78,7 @@ bit-at_byte p text mask k long e l =
 
 -- ---- all bits but the lowest
 
-abbrev high : ℕ
+abbrev pub high : ℕ
 high = 2 ^ 64 - 2
 
 high-low : bit high 0 ≡ false
@@ -152,3 +152,48 @@ module _ (x : ℕ) (some : 0 < x) (small : x < 2 ^ 64) where
   pub below-lowest : (k : ℕ) → k < count_trailing_zeros 64 x → bit x k ≡ false
   unfolding bit
   below-lowest k l = ap (λ n. n == 1) ((bit_at-trailing_zeros w64 x some small).2 k l)
+
+-- ---- all bits that are set but the lowest
+
+at_pred : (low x : ℕ) → 0 < x → bit_at x low ≡ 1 → ((k : ℕ) → k < low → bit_at x k ≡ 0) → bit_at (x - 1) low ≡ 0
+at_pred zero x some set least = omega (arith, bit_at_lowest x, bit_at_lowest (x - 1), set)
+at_pred (suc low) x some set least =
+    let even : x % 2 ≡ 0 = sym (bit_at_lowest x) ∙ least 0 (omega arith) in
+    let half : (x - 1) / 2 ≡ x / 2 - 1 = omega (arith, even, some) in
+    bit_at-suc (x - 1) low ∙ (ap (λ y. bit_at y low) half ∙ at_pred low (x / 2) (omega (arith, even, some)) (sym (bit_at-suc x low) ∙ set) (λ k l. sym (bit_at-suc x k) ∙ least (suc k) (omega arith)))
+
+above_pred : (low k x : ℕ) → 0 < x → bit_at x low ≡ 1 → ((k : ℕ) → k < low → bit_at x k ≡ 0) → low < k → bit_at (x - 1) k ≡ bit_at x k
+above_pred low zero x some set least above = absurd (omega arith)
+above_pred zero (suc k) x some set least above =
+    let odd : x % 2 ≡ 1 = sym (bit_at_lowest x) ∙ set in
+    let half : (x - 1) / 2 ≡ x / 2 = omega (arith, odd) in
+    bit_at-suc (x - 1) k ∙ (ap (λ y. bit_at y k) half ∙ sym (bit_at-suc x k))
+above_pred (suc low) (suc k) x some set least above =
+    let even : x % 2 ≡ 0 = sym (bit_at_lowest x) ∙ least 0 (omega arith) in
+    let half : (x - 1) / 2 ≡ x / 2 - 1 = omega (arith, even, some) in
+    bit_at-suc (x - 1) k ∙ (ap (λ y. bit_at y k) half
+    ∙ (above_pred low k (x / 2) (omega (arith, even, some)) (sym (bit_at-suc x low) ∙ set) (λ j l. sym (bit_at-suc x j) ∙ least (suc j) (omega arith)) (omega arith) ∙ sym (bit_at-suc x k)))
+
+module _ (x low : ℕ) (some : 0 < x) (lowest : IsLowest x low) where
+  set_at : bit_at x low ≡ 1
+  unfolding bit
+  set_at = eqb-true (bit_at x low) 1 lowest.set
+
+  least_at : (k : ℕ) → k < low → bit_at x k ≡ 0
+  unfolding bit
+  least_at k l = bit_cases (λ y. (y == 1) ≡ false → y ≡ 0) (λ _. refl) (λ e. absurd (true≢false e)) (bit_at x k) (bit_at-lt x k) (lowest.least k l)
+
+  pub past_lowest-gone : (k : ℕ) → k ≤ low → bit (bit_and x (x - 1)) k ≡ false
+  unfolding bit
+  past_lowest-gone k le = bit-and x (x - 1) k ∙ elim (cases_lt k low) [
+    | inl before ↦ and_left (bit x k) _ (lowest.least k before)
+    | inr here ↦ let e : low ≡ k = omega arith in and_right (bit x k) _ (ap (λ n. n == 1) (subst (λ n. bit_at (x - 1) n ≡ 0) e (at_pred low x some set_at least_at)))
+  ]
+
+  pub past_lowest-others : (k : ℕ) → low < k → bit (bit_and x (x - 1)) k ≡ bit x k
+  unfolding bit
+  past_lowest-others k l = bit-and x (x - 1) k ∙ (ap (λ b. bit x k && b) (ap (λ n. n == 1) (above_pred low k x some set_at least_at l)) ∙ twice (bit x k))
+    where
+      twice : (b : Bool) → (b && b) ≡ b
+      twice true = refl
+      twice false = refl

@@ -1,5 +1,5 @@
 -- The ends of runs, what is known past them, and the tokens that are told by them.
-use Rattle.std.proofs.Common.{◌≡◌, ◌≢◌, ℕ, zero, suc, ◌+◌, ◌^◌, ◌<◌, ◌≤◌, nat_le, Bool, true, false, true≢false, not, ◌&&◌, ◌||◌, List, ◌∷◌, length, map, drop, get_or, refl, sym, ap, ap₂, subst, ◌∙◌, arith, length-drop, ◌⊎◌, inl, inr}
+use Rattle.std.proofs.Common.{◌≡◌, ◌≢◌, ℕ, zero, suc, ◌+◌, ◌-◌, ◌/◌, ◌^◌, bit_and, ◌<◌, ◌≤◌, nat_le, Bool, true, false, true≢false, not, ◌&&◌, ◌||◌, List, ◌∷◌, length, map, drop, get_or, refl, sym, ap, ap₂, subst, ◌∙◌, arith, length-drop, ◌⊎◌, inl, inr}
 use Rattle.std.specs.List.{prefix_len}
 use Rattle.std.specs.Str.{IsUtf8}
 use Rattle.std.proofs.Math.Seq.{drop-cons}
@@ -19,14 +19,14 @@ use Rattle.rustc_lexer.specs.Bulk.{has_fields}
 use Rattle.rustc_lexer.specs.LanguageIn.{year}
 use Rattle.rustc_lexer.specs.means.Edition.{before_2024, before_2021, changed}
 use Rattle.rustc_lexer.specs.declared.token.Token.{Token}
-use Rattle.rustc_lexer.specs.means.Ends.{bit, goes_on, is_end, IsEnds, told, told_in, StaysWithin}
+use Rattle.rustc_lexer.specs.means.Ends.{bit, goes_on, is_end, AreEndsPast, IsEnds, IsLowest, told, told_in, StaysWithin}
 use Rattle.rustc_lexer.specs.means.ByteRuns.{is_continue_byte, is_space_byte}
 use Rattle.rustc_lexer.specs.Emoji.{is_emoji}
 use Rattle.rustc_lexer.specs.means.Lexeme.{family_of, symbol_kind}
 use Rattle.rustc_lexer.specs.means.Quick.{is_space_lead, turns_word, IsFirstToken}
 use Rattle.rustc_lexer.specs.means.Scan.{next_is}
 use Rattle.rustc_lexer.specs.laws.Choice.{by_test}
-use Rattle.rustc_lexer.proofs.BitLemmas.{bit-at_byte, bit-zero, within}
+use Rattle.rustc_lexer.proofs.BitLemmas.{bit-at_byte, bit-zero, past-first, past-later, within}
 use Rattle.rustc_lexer.proofs.QuickLemmas.{word_first, space_first, symbol_first}
 
 pub no_ends : (text : List ℕ) → IsEnds text 0
@@ -54,16 +54,26 @@ end_past n text k =
     let e : n + suc k ≡ suc (n + k) = omega arith in
     ap₂ (λ a b. not (goes_on a b)) (get_or-drop n text k 0) (get_or-drop n text (suc k) 0 ∙ ap (λ i. get_or text i 0) e) ∙ ap (is_end text) (sym e)
 
-pub ends_past : (text : List ℕ) (m n late : ℕ) → IsEnds text m → bit late 0 ≡ false → ((k : ℕ) → bit late (suc k) ≡ bit m (n + suc k)) → IsEnds (drop n text) late
-ends_past text m n late ends first later zero set = absurd (true≢false (sym set ∙ first))
-ends_past text m n late ends first later (suc j) set =
-    let there = ends (n + suc j) (sym (later j) ∙ set) in
-    let room = there.0 in
+pub ends_past : (text : List ℕ) (m from n late : ℕ) → from ≤ n → AreEndsPast text from m → bit late 0 ≡ false → ((k : ℕ) → bit late (suc k) ≡ bit m (n + suc k)) → IsEnds (drop n text) late
+ends_past text m from n late near are first later zero set = absurd (true≢false (sym set ∙ first))
+ends_past text m from n late near are first later (suc j) set =
+    let there = are (n + suc j) (sym (later j) ∙ set) in
+    let room = there.1 in
     (omega (arith, length-drop n text), at)
   where
     at : (k : ℕ) → k ≤ suc j → bit late k ≡ is_end (drop n text) k
     at zero le = first
-    at (suc k) le = later k ∙ ((ends (n + suc j) (sym (later j) ∙ set)).1 (n + suc k) (omega arith) ∙ sym (end_past n text k))
+    at (suc k) le = later k ∙ ((are (n + suc j) (sym (later j) ∙ set)).2 (n + suc k) (omega (arith, near)) (omega arith) ∙ sym (end_past n text k))
+
+pub past_none : (text : List ℕ) (m : ℕ) → IsEnds text m → AreEndsPast text 0 m
+past_none text m are zero set = absurd (true≢false (sym set ∙ (are zero set).1 zero (omega arith)))
+past_none text m are (suc j) set = (omega arith, (are (suc j) set).0, λ k some le. (are (suc j) set).1 k le)
+
+pub past_end : (text : List ℕ) (m from low less : ℕ) → AreEndsPast text from m → IsLowest m low → ((k : ℕ) → k ≤ low → bit less k ≡ false) → ((k : ℕ) → low < k → bit less k ≡ bit m k) → AreEndsPast text low less
+past_end text m from low less are lowest gone others j set = elim (cases_lt low j) [
+  | inl past ↦ let there = are j (sym (others j past) ∙ set) in let first = (are low lowest.set).0 in (past, there.1, λ k some le. others k some ∙ there.2 k (omega (arith, first, some)) le)
+  | inr before ↦ absurd (true≢false (sym set ∙ gone j (omega arith)))
+]
 
 -- ---- where a run ends
 
@@ -226,6 +236,54 @@ module _ (text : List ℕ) (is : IsUtf8 text) (b : ℕ) (rest : List ℕ) (e : t
 
   pub token_told : (kind : TokenKind) → kind ≡ told b → StaysWithin kind next → IsFirstToken text record { kind = kind; len = end }
   token_told kind f stays = subst (λ (k : TokenKind). IsFirstToken text record { kind = k; len = end }) (sym f) (at_end (subst (λ (k : TokenKind). StaysWithin k next) f stays) end refl)
+
+-- ---- a byte that tells a token turns none before it
+
+abbrev is_eof : TokenKind → Bool
+is_eof Eof = true
+is_eof kind = false
+
+no_eof : (kind : TokenKind) → kind ≢ Eof → is_eof kind ≡ false
+no_eof Eof some = absurd (some refl)
+no_eof kind some = refl
+
+turns_eof : (b : ℕ) → told b ≢ Eof → (is_eof (told b) || not (turns_word b)) ≡ true
+unfolding is_emoji unicode_ident
+turns_eof b some = agree_below_at (λ x. is_eof (told x) || not (turns_word x)) (λ _. true) 128 b refl (tells b some).small
+
+pub told_stays : (kind : TokenKind) (next : ℕ) → told next ≢ Eof → StaysWithin kind next
+told_stays kind next some = record {
+  word = λ _. not-true _ (sym (ap (λ b. b || not (turns_word next)) (no_eof (told next) some)) ∙ turns_eof next some);
+  space = λ _. agree_below_at (λ x. is_space_lead x) (λ _. false) 128 next refl (tells next some).small;
+}
+
+-- the same behind a place, up to which no end is told
+module _ (text : List ℕ) (from ends end first next : ℕ) (utf8 : IsUtf8 (drop from text)) (are : AreEndsPast text from ends) (small : ends < 2 ^ 64) (low : IsLowest ends end) (of_first : first ≡ get_or text from 0) (some : told first ≢ Eof)
+    (of_next : next ≡ get_or text end 0) (stays : StaysWithin (told first) next) where
+  abbrev late : ℕ
+  late = bit_and (ends / 2 ^ from) high
+
+  begins : drop from text ≡ first ∷ drop 1 (drop from text)
+  begins =
+      let after = (are end low.set).0 in
+      let inside = (are end low.set).1 in
+      drop-cons (drop from text) 0 0 (omega (arith, length-drop from text, after, inside)) ∙ ap (λ (b : ℕ). b ∷ drop 1 (drop from text)) (get_or-drop from text 0 0 ∙ (ap (λ i. get_or text i 0) (let z : from + 0 ≡ from = omega arith in z) ∙ sym of_first))
+
+  by_len : (n : ℕ) → from + suc n ≡ end → IsFirstToken (drop from text) record { kind = told first; len = suc n }
+  by_len n e =
+      let later = past-later ends from small in
+      token_told (drop from text) utf8 first (drop 1 (drop from text)) begins some late (suc n) next (ends_past text ends from from late (omega arith) are (past-first ends from) later)
+      (later n ∙ (ap (bit ends) e ∙ low.set)) least (of_next ∙ (ap (λ i. get_or text i 0) (sym e) ∙ sym (get_or-drop from text (suc n) 0))) (told first) refl stays
+    where
+      least : (k : ℕ) → k < suc n → bit late k ≡ false
+      least zero l = past-first ends from
+      least (suc k) l = past-later ends from small k ∙ low.least (from + suc k) (omega arith)
+
+  pub told_behind : IsFirstToken (drop from text) record { kind = told first; len = end - from }
+  told_behind = let after = (are end low.set).0 in
+      let e : from + suc (end - from - 1) ≡ end = omega (arith, after) in
+      let n : suc (end - from - 1) ≡ end - from = omega (arith, after) in
+      subst (λ k. IsFirstToken (drop from text) record { kind = told first; len = k }) n (by_len (end - from - 1) e)
 
 -- ---- what is told has no fields, and each edition has it
 

@@ -9,7 +9,7 @@ ghost use Rattle.rustc_lexer.specs.LanguageText.{part};
 ghost use Rattle.rustc_lexer.specs.means.Ends.{IsEnds};
 
 use crate::edition::{Edition, token_in};
-use crate::lexemes::told::{ends_for, ends_left, told};
+use crate::lexemes::told::{ends_for, ends_left, is_told, past_lowest, told_by, turns};
 use crate::token::{Token, TokenKind};
 
 /// What tokens are written as, where many are written at once.
@@ -66,33 +66,34 @@ pub(crate) fn fill<R: Record>(
     let mut ends = 0;
     'tokens: while count < room.len() && at < end {
         let rest = &text[at..];
-        ends = ends_for(rest, ends);
-        let len = put(rest, edition, ends, &mut room[count]);
-        ends = ends_left(ends, len);
-        at += len as usize;
-        count += 1;
+        let bytes = rest.as_bytes();
+        let mut first = bytes[0];
+        let mut tells = is_told(first);
+        if tells {
+            ends = ends_for(rest, ends);
+        }
+        let mut from = 0;
+        'told: while tells && ends != 0 && count < room.len() {
+            let end = ends.trailing_zeros();
+            let next = bytes[end as usize];
+            tells = is_told(next);
+            if !tells && turns(first, next) {
+                break;
+            }
+            room[count] = R::bare(told_by(first), end - from);
+            count += 1;
+            from = end;
+            first = next;
+            ends = past_lowest(ends);
+        }
+        if from == 0 {
+            let token = token_in(rest, edition);
+            room[count] = R::of(token);
+            count += 1;
+            from = token.len;
+        }
+        at += from as usize;
+        ends = ends_left(ends, from);
     }
     (count, at)
-}
-
-/// Writes the token at the front of the text into its place, and answers its length in bytes.
-#[inline(always)]
-fn put<R: Record>(rest: &str, edition: Edition, ends: u64, place: &mut R) -> u32
-    requires not_empty { 0 < length rest.now }
-    requires fits { Fits rest.now }
-    requires ends { IsEnds rest.now ends }
-    ensures record { place.new ≡ R.written (first_token_in edition rest.now) }
-    ensures len { result ≡ (first_token_in edition rest.now).len }
-{
-    match told(rest, ends) {
-        Some(token) => {
-            *place = R::bare(token.kind, token.len);
-            token.len
-        }
-        None => {
-            let token = token_in(rest, edition);
-            *place = R::of(token);
-            token.len
-        }
-    }
 }

@@ -25,6 +25,14 @@ is_end text (suc k) = not (goes_on (slice_index text k) (slice_index text (suc k
 abbrev pub IsEnds : List ℕ → ℕ → Type 0
 IsEnds text m = (j : ℕ) → bit m j ≡ true → (j < length text) × ((k : ℕ) → k ≤ j → bit m k ≡ is_end text k)
 
+-- the bits tell the ends of runs past a place, up to the highest that is set, and none is set before
+abbrev pub AreEndsPast : List ℕ → ℕ → ℕ → Type 0
+AreEndsPast text from m = (j : ℕ) → bit m j ≡ true → (from < j) × (j < length text) × ((k : ℕ) → from < k → k ≤ j → bit m k ≡ is_end text k)
+
+pub record IsLowest (m low : ℕ) : Type 0 where
+  pub set : bit m low ≡ true
+  pub least : (k : ℕ) → k < low → bit m k ≡ false
+
 -- the kind of a token that the first character, of ASCII, and its run tell; Eof where they tell none
 abbrev pub told_in : Family → ℕ → TokenKind
 told_in Word c = Ident

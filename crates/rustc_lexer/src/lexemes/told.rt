@@ -1,20 +1,16 @@
 //! The commonest tokens, told by their first byte and the ends of runs.
-ghost use Rattle.std.specs.Prelude.{◌≡◌, ◌≢◌, ◌<◌, ◌+◌, suc, ℕ, List, false, drop, IfSome, IsFalse};
-ghost use Rattle.std.specs.Str.{chars};
-ghost use Rattle.rustc_lexer.specs.declared.edition.Edition.{Edition};
-ghost use Rattle.rustc_lexer.specs.Bulk.{has_fields};
-ghost use Rattle.rustc_lexer.specs.means.Edition.{changed};
+ghost use Rattle.std.specs.Prelude.{◌≡◌, ◌≢◌, ◌≤◌, ◌<◌, ◌+◌, suc, ℕ, List, false, drop, IsTrue, IsFalse};
 ghost use Rattle.rustc_lexer.specs.means.Ends as spec;
-ghost use Rattle.rustc_lexer.specs.means.Ends.{bit, IsEnds, StaysWithin};
-ghost use Rattle.rustc_lexer.specs.means.Quick.{turns_word, IsFirstToken};
+ghost use Rattle.rustc_lexer.specs.means.Ends.{bit, AreEndsPast, IsEnds, IsLowest, StaysWithin};
+ghost use Rattle.rustc_lexer.specs.means.Quick.{turns_word};
 
 use crate::kernels::ends_of_runs;
+use crate::token::TokenKind;
 use crate::token::TokenKind::{
     And, At, Bang, Caret, CloseBrace, CloseBracket, CloseParen, Colon, Comma, Dollar, Dot, Eof, Eq,
     Gt, Ident, Lt, Minus, OpenBrace, OpenBracket, OpenParen, Or, Percent, Plus, Question, Semi,
     Star, Tilde, Unknown, Whitespace,
 };
-use crate::token::{Token, TokenKind};
 
 /// What the first byte of a text says of its token, where its run and the byte past that tell all of it: else
 /// `Eof`. A look in a table costs less than a choice: which byte comes next is hard to foresee.
@@ -277,49 +273,50 @@ static TOLD: [TokenKind; 256] = [
     Eof,
 ];
 
-/// The ends of runs that are known, or else those of the first 64 bytes, where the first byte makes use of them.
+/// Whether a token that begins with the byte may be told by the ends of runs.
+#[inline(always)]
+pub(crate) fn is_told(first: u8) -> bool
+    ensures { IsTrue result → spec.told first ≢ TokenKind.Eof }
+{
+    !matches!(told_by(first), TokenKind::Eof)
+}
+
+/// What the byte says of the token that begins with it.
+#[inline(always)]
+pub(crate) fn told_by(first: u8) -> TokenKind
+    ensures { result ≡ spec.told first }
+{
+    TOLD[first as usize]
+}
+
+/// The ends of runs that are known, or else those of the first 64 bytes.
 #[inline(always)]
 pub(crate) fn ends_for(text: &str, ends: u64) -> u64
     requires { IsEnds text.now ends }
     ensures { IsEnds text.now result }
 {
-    let bytes = text.as_bytes();
-    if ends != 0 || bytes.is_empty() || is_eof(told_by(bytes[0])) {
+    if ends != 0 {
         ends
     } else {
-        ends_of_runs(bytes)
+        ends_of_runs(text.as_bytes())
     }
 }
 
-/// The token at the front of the text, where its first byte and the ends of runs tell it. It has no fields, and each
-/// edition has it.
+/// The ends of runs past the lowest.
 #[inline(always)]
-pub(crate) fn told(text: &str, ends: u64) -> Option<Token>
-    requires ends { IsEnds text.now ends }
-    ensures token { IfSome result (λ token. IsFirstToken text.now token) }
-    ensures bare { IfSome result (λ token. has_fields token.kind ≡ false) }
-    ensures same { IfSome result (λ token. (edition : Edition)
-        → changed edition (chars text.now) token ≡ token) }
+pub(crate) fn past_lowest(ends: u64) -> u64
+    requires { ends ≢ 0 }
+    ensures gone { (low k : ℕ) → IsLowest ends low → k ≤ low → bit result k ≡ false }
+    ensures others { (low k : ℕ) → IsLowest ends low → low < k → bit result k ≡ bit ends k }
 {
-    let bytes = text.as_bytes();
-    if bytes.is_empty() || ends == 0 {
-        return None;
-    }
-    let kind = told_by(bytes[0]);
-    if is_eof(kind) {
-        return None;
-    }
-    let end = ends.trailing_zeros();
-    if turns(kind, bytes[end as usize]) {
-        return None;
-    }
-    Some(Token { kind, len: end })
+    ends & (ends - 1)
 }
 
 /// The ends of runs that are known past so many bytes.
 #[inline(always)]
 pub(crate) fn ends_left(ends: u64, len: u32) -> u64
-    ensures { (text : List ℕ) → IsEnds text ends → IsEnds (drop len text) result }
+    ensures { (text : List ℕ) (from : ℕ) → from ≤ len → AreEndsPast text from ends
+        → IsEnds (drop len text) result }
 {
     if len < 64 { ends_past(ends, len) } else { 0 }
 }
@@ -334,29 +331,14 @@ fn ends_past(ends: u64, len: u32) -> u64
     (ends >> len) & !1
 }
 
-/// What the byte says of the token that begins with it.
+/// Whether the token that begins with the byte `first`, and whose run the byte `next` follows, may be another or go
+/// on.
 #[inline(always)]
-fn told_by(first: u8) -> TokenKind
-    ensures { result ≡ spec.told first }
-{
-    TOLD[first as usize]
-}
-
-/// Whether the kind is the end of the text.
-#[inline(always)]
-fn is_eof(kind: TokenKind) -> bool
-    ensures { IsFalse result → kind ≢ TokenKind.Eof }
-{
-    matches!(kind, TokenKind::Eof)
-}
-
-/// Whether a token of this kind, whose run the byte follows, may be another or go on.
-#[inline(always)]
-fn turns(kind: TokenKind, next: u8) -> bool
-    ensures { IsFalse result → StaysWithin kind next }
+pub(crate) fn turns(first: u8, next: u8) -> bool
+    ensures { IsFalse result → StaysWithin (spec.told first) next }
 {
     is_mark(next)
-        && match kind {
+        && match told_by(first) {
             TokenKind::Ident => true,
             TokenKind::Whitespace => next == 0xC2 || next == 0xE2,
             _ => false,

@@ -1,36 +1,85 @@
-use Rattle.std.proofs.Common.{◌≡◌, ◌+◌, ◌<◌, ℕ, List, length, drop, refl, ap, subst, ◌∙◌, arith, drop-drop}
-use Rattle.rustc_lexer.specs.means.Edition.{first_token_in}
-use Rattle.rustc_lexer.specs.Tokens.{tokens_of}
+use Rattle.std.proofs.Common.{◌≡◌, ◌≢◌, ◌+◌, ◌-◌, ◌^◌, ◌<◌, ◌≤◌, ℕ, List, length, drop, get_or, slice_set, refl, sym, ap, subst, ◌∙◌, arith, drop-drop, length-drop}
+use Rattle.std.specs.Str.{chars, IsUtf8}
+use lib.Count.{count_trailing_zeros}
+use Rattle.rustc_lexer.specs.declared.token.Token.{Token}
+use Rattle.rustc_lexer.specs.declared.token.TokenKind.{TokenKind}
+use Rattle.rustc_lexer.specs.declared.token.TokenKind.TheVariants.{Eof}
+use Rattle.rustc_lexer.specs.means.Edition.{changed, first_token_in}
+use Rattle.rustc_lexer.specs.Bulk.{has_fields}
+use Rattle.rustc_lexer.specs.Tokens.{bound, tokens_of}
 use Rattle.rustc_lexer.specs.LanguageText.{part}
-use Rattle.rustc_lexer.specs.means.Ends.{IsEnds}
+use Rattle.rustc_lexer.specs.means.Ends.{told, AreEndsPast, IsEnds, IsLowest, StaysWithin}
 use Rattle.rustc_lexer.specs.Locality.{IsText}
 use Rattle.rustc_lexer.specs.laws.Edition.{edition_grammar}
-use Rattle.rustc_lexer.proofs.BulkLemmas.{begun_more, none_written, one_written, stands, next_token, next_place, next_some, written_to}
-use Rattle.rustc_lexer.proofs.EndsLemmas.{no_ends}
+use Rattle.rustc_lexer.proofs.BitLemmas.{lowest, below-lowest}
+use Rattle.rustc_lexer.proofs.BulkLemmas.{IsWritten, none_written, one_written, all_written, stands, next_token, next_place, next_some, over}
+use Rattle.rustc_lexer.proofs.EndsLemmas.{no_ends, past_end, told_bare, told_behind, told_same, told_stays}
 use Rattle.rustc_lexer.proofs.bulk.fill.Goals as goal
+use Rattle.rustc_lexer.proofs.bulk.fill.Goals.{else-not-tells-via-then-not-tells+else-turns, else-not-tells-via-else-not-tells, then-from-eq0, else-from-eq0}
 
 pub tokens-init : goal.tokens-init
-tokens-init g c = record { written = none_written _ _ _; begun = λ k less. absurd (omega arith); place = refl; ends = no_ends _ }
+tokens-init g c = record { written = none_written _ _ _; place = refl; ends = no_ends _; small = omega arith }
 
 pub range_from-rest-requires : goal.range_from-rest-requires
 range_from-rest-requires g c = λ some. (stands (edition_grammar c.args.edition) c.args.text.now record { utf8 = c.utf8.text; fits = c.requires.fits } c.tokens.count c.tokens.at c.tokens.invariant.place).boundary
 
-pub tokens-preserved : goal.tokens-preserved
-tokens-preserved g c =
+least : (ends : ℕ) → 0 < ends → ends < 2 ^ 64 → IsLowest ends (count_trailing_zeros 64 ends)
+least ends some small = record { set = lowest ends some small; least = below-lowest ends some small }
+
+pub bounds-bytes-end : goal.bounds-bytes-end
+bounds-bytes-end g c =
+    let low = least c.told.ends (omega (arith, c.if-ends-ne0.true)) c.told.invariant.small in
+    subst (λ (xs : List ℕ). count_trailing_zeros 64 c.told.ends < length xs) (sym (c.as_bytes-bytes.ensures.value ∙ c.range_from-rest.ensures.value)) (c.told.invariant.ends _ low.set).1
+
+pub overflow_sub-end : goal.overflow_sub-end
+overflow_sub-end g c =
+    let low = least c.told.ends (omega (arith, c.if-ends-ne0.true)) c.told.invariant.small in
+    let after = (c.told.invariant.ends _ low.set).0 in
+    omega (arith, after)
+
+pub bare-requires : goal.bare-requires
+bare-requires g c = ap has_fields c.told_by.ensures ∙ told_bare c.told.first (c.told.invariant.tells c.told-test.true)
+
+pub told-preserved : goal.told-preserved
+told-preserved g c =
     let text : List ℕ = c.args.text.now in
+    let at : ℕ = c.tokens.at in
+    let from : ℕ = c.told.from in
+    let first : ℕ = c.told.first in
+    let end : ℕ = count_trailing_zeros 64 c.told.ends in
     let is : IsText text = record { utf8 = c.utf8.text; fits = c.requires.fits } in
     let law = edition_grammar c.args.edition in
-    let inv = c.tokens.invariant in
-    let more : c.tokens.at < length text = omega arith in
-    let room : c.tokens.count < length c.tokens.room = omega arith in
-    let rest : c.range_from-rest.result.now ≡ drop c.tokens.at text = c.range_from-rest.ensures.value in
-    let known : IsEnds (drop c.tokens.at text) c.ends_for-ends.result = subst (λ (xs : List ℕ). IsEnds xs c.ends_for-ends.result) rest c.ends_for-ends.ensures in
+    let inv = c.told.invariant in
+    let low = least c.told.ends (omega (arith, c.if-ends-ne0.true)) inv.small in
+    let after = (inv.ends end low.set).0 in
+    let inside = (inv.ends end low.set).1 in
+    let joined : drop from (drop at text) ≡ drop (at + from) text = drop-drop from at text in
+    let utf8 : IsUtf8 (drop from (drop at text)) = subst IsUtf8 (sym joined) (stands law text is c.told.count (at + from) inv.place).past.utf8 in
+    let bytes : c.as_bytes-bytes.result.now ≡ drop at text = c.as_bytes-bytes.ensures.value ∙ c.range_from-rest.ensures.value in
+    let some : told first ≢ Eof = inv.tells c.told-test.true in
+    let stays : StaysWithin (told first) (get_or c.as_bytes-bytes.result.now end 0) = elim c.else-not-tells.branch [
+      | else-not-tells-via-then-not-tells+else-turns w ↦ w.turns.ensures w.if-turns.false
+      | else-not-tells-via-else-not-tells w ↦ told_stays (told first) _ (c.is_told-tells-in-told.ensures w.if-not-tells.false)
+    ] in
+    let next = ap (λ (xs : List ℕ). get_or xs end 0) bytes in
+    let token = told_behind (drop at text) from c.told.ends end first _ utf8 inv.ends inv.small low inv.first some next stays in
+    let one : Token = record { kind = told first; len = end - from } in
+    let here : first_token_in c.args.edition (drop from (drop at text)) ≡ one = ap (λ (t : Token). changed c.args.edition (chars (drop from (drop at text))) t) (sym token.token) ∙ told_same first some c.args.edition (chars (drop from (drop at text))) (told first) (end - from) refl in
+    let there : first_token_in c.args.edition (drop (at + from) text) ≡ one = ap (λ (xs : List ℕ). first_token_in c.args.edition xs) (sym joined) ∙ here in
+    let more : at + from < length text = inv.inside in
+    let long : (first_token_in c.args.edition (drop (at + from) text)).len ≡ end - from = ap (λ (t : Token). t.len) there in
+    let same : at + end ≡ at + from + (first_token_in c.args.edition (drop (at + from) text)).len = omega (arith, after, long) in
     record {
-      written = one_written g.R.Record.written (tokens_of (part c.args.edition) text) _ c.args.room.now c.tokens.room c.tokens.count (first_token_in c.args.edition (drop c.tokens.at text)) inv.written
-          (next_token law text is c.tokens.count c.tokens.at inv.place more) room _ (c.put-len.ensures.record ∙ ap (λ (xs : List ℕ). g.R.Record.written (first_token_in c.args.edition xs)) rest);
-      begun = begun_more (tokens_of (part c.args.edition) text) c.tokens.count c.tokens.at c.args.end inv.place (omega arith) inv.begun;
-      place = ap (λ n. c.tokens.at + n) (c.put-len.ensures.len ∙ ap (λ (xs : List ℕ). (first_token_in c.args.edition xs).len) rest) ∙ next_place law text is c.tokens.count c.tokens.at inv.place more;
-      ends = subst (λ (xs : List ℕ). IsEnds xs c.ends_left-ends.result) (drop-drop c.put-len.result c.tokens.at text) (c.ends_left-ends.ensures (drop c.tokens.at text) known);
+      written = one_written g.R.Record.written (tokens_of (part c.args.edition) text) _ c.args.room.now c.told.room c.told.count (first_token_in c.args.edition (drop (at + from) text)) inv.written
+          (next_token law text is c.told.count (at + from) inv.place more) (omega arith) _
+          (c.bare.ensures ∙ ap g.R.Record.written (ap (λ (k : TokenKind). record { kind = k; len = end - from }) c.told_by.ensures ∙ sym there));
+      place = same ∙ next_place law text is c.told.count (at + from) inv.place more;
+      ends = past_end (drop at text) c.told.ends from end c.past_lowest-ends.result inv.ends low (λ k le. c.past_lowest-ends.ensures.gone end k low le) (λ k l. c.past_lowest-ends.ensures.others end k low l);
+      small = omega arith;
+      inside = omega (arith, inside, length-drop at text);
+      first = next;
+      tells = λ e. c.is_told-tells-in-told.ensures e;
+      some = λ e. absurd (omega (arith, after, e));
     }
 
 pub tokens-smaller : goal.tokens-smaller
@@ -39,19 +88,55 @@ tokens-smaller g c =
     let is : IsText text = record { utf8 = c.utf8.text; fits = c.requires.fits } in
     let law = edition_grammar c.args.edition in
     let more : c.tokens.at < length text = omega arith in
-    let rest : c.range_from-rest.result.now ≡ drop c.tokens.at text = c.range_from-rest.ensures.value in
-    let len : c.put-len.result ≡ (first_token_in c.args.edition (drop c.tokens.at text)).len = c.put-len.ensures.len ∙ ap (λ (xs : List ℕ). (first_token_in c.args.edition xs).len) rest in
-    let some = next_some law text is c.tokens.count c.tokens.at c.tokens.invariant.place more in
-    omega arith
+    let some : 0 < c.if-from-eq0.from = elim c.if-from-eq0.branch [
+      | then-from-eq0 w ↦
+          let place : c.tokens.at ≡ bound (tokens_of (part c.args.edition) text) c.tokens.count = c.tokens.invariant.place in
+          let n = next_some law text is c.tokens.count c.tokens.at place more in
+          let len = ap (λ (t : Token). t.len) w.token_in-token.ensures.token ∙ ap (λ (xs : List ℕ). (first_token_in c.args.edition xs).len) c.range_from-rest.ensures.value in
+          omega (arith, w.from-is, len, n)
+      | else-from-eq0 w ↦ omega (arith, w.if-from-eq0.false, w.from-is)
+    ] in
+    omega (arith, some, more)
 
-pub returns-else-at-end-clause-filled : goal.returns-else-at-end-clause-filled
-returns-else-at-end-clause-filled g c = written_to g.R.Record.written c.args.end (tokens_of (part c.args.edition) c.args.text.now) c.args.room.now c.tokens.room c.tokens.count c.tokens.at c.tokens.invariant.written c.tokens.invariant.place c.tokens.invariant.begun (λ _. omega arith)
+pub tokens-preserved : goal.tokens-preserved
+tokens-preserved g c =
+    let text : List ℕ = c.args.text.now in
+    let at : ℕ = c.tokens.at in
+    let is : IsText text = record { utf8 = c.utf8.text; fits = c.requires.fits } in
+    let law = edition_grammar c.args.edition in
+    let inv = c.told.invariant in
+    let tokens : List Token = tokens_of (part c.args.edition) text in
+    let left : (n : ℕ) → n ≤ c.if-from-eq0.from → AreEndsPast (drop at text) n c.told.ends → IsEnds (drop (at + c.if-from-eq0.from) text) c.ends_left-ends.result =
+    λ n near are. subst (λ (xs : List ℕ). IsEnds xs c.ends_left-ends.result) (drop-drop c.if-from-eq0.from at text) (c.ends_left-ends.ensures (drop at text) n near are) in
+    elim c.if-from-eq0.branch [
+      | then-from-eq0 w ↦
+          let none : c.told.from ≡ 0 = w.if-from-eq0.true in
+          let place : at ≡ bound tokens c.told.count = let e : at ≡ at + c.told.from = omega (arith, none) in e ∙ inv.place in
+          let more : at < length text = omega arith in
+          let token = w.token_in-token.ensures.token ∙ ap (λ (xs : List ℕ). first_token_in c.args.edition xs) c.range_from-rest.ensures.value in
+          let written = one_written g.R.Record.written tokens _ c.args.room.now c.told.room c.told.count (first_token_in c.args.edition (drop at text)) inv.written
+          (next_token law text is c.told.count at place more) (inv.some none) _ (w.of.ensures ∙ ap g.R.Record.written token) in
+          record {
+            written = subst (λ r. IsWritten g.R.Record.written tokens c.args.room.now r c.if-from-eq0.count) (sym w.room-is) (subst (λ n. IsWritten g.R.Record.written tokens c.args.room.now (slice_set c.told.room c.told.count w.of.result) n) (sym w.count-is) written);
+            place = ap (λ n. at + n) (w.from-is ∙ ap (λ (t : Token). t.len) token) ∙ (next_place law text is c.told.count at place more ∙ ap (bound tokens) (sym w.count-is));
+            ends = left c.told.from (omega (arith, none)) inv.ends;
+            small = omega arith;
+          }
+      | else-from-eq0 w ↦ record {
+        written = subst (λ r. IsWritten g.R.Record.written tokens c.args.room.now r c.if-from-eq0.count) (sym w.room-is) (subst (λ n. IsWritten g.R.Record.written tokens c.args.room.now c.told.room n) (sym w.count-is) inv.written);
+        place = ap (λ n. at + n) w.from-is ∙ (inv.place ∙ ap (bound tokens) (sym w.count-is));
+        ends = left c.told.from (omega (arith, w.from-is)) inv.ends;
+        small = omega arith;
+      }
+    ]
 
-pub returns-after-tokens-clause-filled : goal.returns-after-tokens-clause-filled
-returns-after-tokens-clause-filled g c = written_to g.R.Record.written c.args.end (tokens_of (part c.args.edition) c.args.text.now) c.args.room.now c.tokens.room c.tokens.count c.tokens.at c.tokens.invariant.written c.tokens.invariant.place c.tokens.invariant.begun (λ more. omega arith)
+pub returns-else-at-text-clause-filled : goal.returns-else-at-text-clause-filled
+returns-else-at-text-clause-filled g c =
+    let text : List ℕ = c.args.text.now in
+    all_written g.R.Record.written (tokens_of (part c.args.edition) text) c.args.room.now c.tokens.room c.tokens.count c.tokens.invariant.written (over (edition_grammar c.args.edition) text record { utf8 = c.utf8.text; fits = c.requires.fits } c.tokens.count c.tokens.at c.tokens.invariant.place (omega arith))
 
-pub returns-else-at-end-clause-boundary : goal.returns-else-at-end-clause-boundary
-returns-else-at-end-clause-boundary g c = (stands (edition_grammar c.args.edition) c.args.text.now record { utf8 = c.utf8.text; fits = c.requires.fits } c.tokens.count c.tokens.at c.tokens.invariant.place).boundary
+pub returns-else-at-text-clause-boundary : goal.returns-else-at-text-clause-boundary
+returns-else-at-text-clause-boundary g c = (stands (edition_grammar c.args.edition) c.args.text.now record { utf8 = c.utf8.text; fits = c.requires.fits } c.tokens.count c.tokens.at c.tokens.invariant.place).boundary
 
 pub returns-after-tokens-clause-boundary : goal.returns-after-tokens-clause-boundary
 returns-after-tokens-clause-boundary g c = (stands (edition_grammar c.args.edition) c.args.text.now record { utf8 = c.utf8.text; fits = c.requires.fits } c.tokens.count c.tokens.at c.tokens.invariant.place).boundary
