@@ -9,7 +9,7 @@ ghost use Rattle.rustc_lexer.specs.LanguageText.{part};
 ghost use Rattle.rustc_lexer.specs.means.Ends.{IsEnds};
 
 use crate::edition::{Edition, token_in};
-use crate::lexemes::told::{ends_for, ends_left, is_told, past_lowest, told_by, turns};
+use crate::lexemes::told::{ends_for, ends_left, is_told, past_lowest, told, turns};
 use crate::token::{Token, TokenKind};
 
 /// What tokens are written as, where many are written at once.
@@ -80,7 +80,8 @@ pub(crate) fn fill<R: Record>(
             if !tells && turns(first, next) {
                 break;
             }
-            room[count] = R::bare(told_by(first), end - from);
+            let token = told(first, end - from);
+            room[count] = R::bare(token.kind, token.len);
             count += 1;
             from = end;
             first = next;

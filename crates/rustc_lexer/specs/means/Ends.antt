@@ -1,6 +1,7 @@
 -- Means, by how it is read: where runs of bytes end, as the bits of a number, and the tokens that these tell.
-use Rattle.std.specs.Prelude.{ℕ, zero, suc, Bool, true, false, not, ◌&&◌, ◌||◌, ◌==◌, ◌≡◌, ◌<◌, ◌≤◌, nat_lt, List, length, slice_index, if◌then◌else◌}
+use Rattle.std.specs.Prelude.{ℕ, zero, suc, Bool, true, false, not, ◌&&◌, ◌||◌, ◌==◌, ◌≡◌, ◌<◌, ◌≤◌, ◌^◌, nat_lt, List, length, drop, slice_index, if◌then◌else◌}
 use Rattle.std.specs.Int.{bit_at}
+use Rattle.std.specs.Str.{IsUtf8}
 use Rattle.rustc_lexer.specs.declared.lexemes.family.Family.{Family}
 use Rattle.rustc_lexer.specs.declared.lexemes.family.Family.TheVariants.{Space, Symbol, Word}
 use Rattle.rustc_lexer.specs.declared.token.TokenKind.{TokenKind}
@@ -47,3 +48,11 @@ told b = if nat_lt b 128 then told_in (family_of b) b else Eof
 pub record StaysWithin (kind : TokenKind) (next : ℕ) : Type 0 where
   pub word : kind ≡ Ident → turns_word next ≡ false
   pub space : kind ≡ Whitespace → is_space_lead next ≡ false
+
+-- from this place on the first byte and the lowest end past it tell a token, if they tell any
+pub record TellsAt (text : List ℕ) (from ends end : ℕ) : Type 0 where
+  pub utf8 : IsUtf8 (drop from text)
+  pub known : AreEndsPast text from ends
+  pub small : ends < 2 ^ 64
+  pub lowest : IsLowest ends end
+  pub stays : StaysWithin (told (slice_index text from)) (slice_index text end)

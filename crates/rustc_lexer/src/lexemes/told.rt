@@ -1,16 +1,19 @@
 //! The commonest tokens, told by their first byte and the ends of runs.
-ghost use Rattle.std.specs.Prelude.{◌≡◌, ◌≢◌, ◌≤◌, ◌<◌, ◌+◌, suc, ℕ, List, false, drop, IsTrue, IsFalse};
+ghost use Rattle.std.specs.Prelude.{◌≡◌, ◌≢◌, ◌≤◌, ◌<◌, ◌+◌, ◌-◌, suc, ℕ, List, false, drop, slice_index, IsTrue, IsFalse};
+ghost use Rattle.rustc_lexer.specs.declared.edition.Edition.{Edition};
+ghost use Rattle.rustc_lexer.specs.Bulk.{has_fields};
+ghost use Rattle.rustc_lexer.specs.means.Edition.{changed};
 ghost use Rattle.rustc_lexer.specs.means.Ends as spec;
-ghost use Rattle.rustc_lexer.specs.means.Ends.{bit, AreEndsPast, IsEnds, IsLowest, StaysWithin};
-ghost use Rattle.rustc_lexer.specs.means.Quick.{turns_word};
+ghost use Rattle.rustc_lexer.specs.means.Ends.{bit, AreEndsPast, IsEnds, IsLowest, StaysWithin, TellsAt};
+ghost use Rattle.rustc_lexer.specs.means.Quick.{turns_word, IsFirstToken};
 
 use crate::kernels::ends_of_runs;
-use crate::token::TokenKind;
 use crate::token::TokenKind::{
     And, At, Bang, Caret, CloseBrace, CloseBracket, CloseParen, Colon, Comma, Dollar, Dot, Eof, Eq,
     Gt, Ident, Lt, Minus, OpenBrace, OpenBracket, OpenParen, Or, Percent, Plus, Question, Semi,
     Star, Tilde, Unknown, Whitespace,
 };
+use crate::token::{Token, TokenKind};
 
 /// What the first byte of a text says of its token, where its run and the byte past that tell all of it: else
 /// `Eof`. A look in a table costs less than a choice: which byte comes next is hard to foresee.
@@ -283,7 +286,7 @@ pub(crate) fn is_told(first: u8) -> bool
 
 /// What the byte says of the token that begins with it.
 #[inline(always)]
-pub(crate) fn told_by(first: u8) -> TokenKind
+fn told_by(first: u8) -> TokenKind
     ensures { result ≡ spec.told first }
 {
     TOLD[first as usize]
@@ -329,6 +332,23 @@ fn ends_past(ends: u64, len: u32) -> u64
     ensures later { (k : ℕ) → bit result (suc k) ≡ bit ends (len + suc k) }
 {
     (ends >> len) & !1
+}
+
+/// The token that begins with the byte, where the ends of runs tell it, and so how many bytes it has. It has no fields,
+/// and each edition has it.
+#[inline(always)]
+pub(crate) fn told(first: u8, len: u32) -> Token
+    requires { spec.told first ≢ TokenKind.Eof }
+    ensures token { (text : List ℕ) (from ends end : ℕ) → TellsAt text from ends end
+        → first ≡ slice_index text from → len ≡ end - from → IsFirstToken (drop from text) result }
+    ensures bare { has_fields result.kind ≡ false }
+    ensures same { (edition : Edition) (cs : List ℕ) → changed edition cs result ≡ result }
+    ensures len { result.len ≡ len }
+{
+    Token {
+        kind: told_by(first),
+        len,
+    }
 }
 
 /// Whether the token that begins with the byte `first`, and whose run the byte `next` follows, may be another or go

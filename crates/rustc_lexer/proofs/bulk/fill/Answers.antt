@@ -37,8 +37,8 @@ overflow_sub-end g c =
     let after = (c.told.invariant.ends _ low.set).0 in
     omega (arith, after)
 
-pub bare-requires : goal.bare-requires
-bare-requires g c = ap has_fields c.told_by.ensures ∙ told_bare c.told.first (c.told.invariant.tells c.told-test.true)
+pub told-token-requires : goal.told-token-requires
+told-token-requires g c = c.told.invariant.tells c.told-test.true
 
 pub told-preserved : goal.told-preserved
 told-preserved g c =
@@ -61,18 +61,19 @@ told-preserved g c =
       | else-not-tells-via-then-not-tells+else-turns w ↦ w.turns.ensures w.if-turns.false
       | else-not-tells-via-else-not-tells w ↦ told_stays (told first) _ (c.is_told-tells-in-told.ensures w.if-not-tells.false)
     ] in
-    let next = ap (λ (xs : List ℕ). get_or xs end 0) bytes in
-    let token = told_behind (drop at text) from c.told.ends end first _ utf8 inv.ends inv.small low inv.first some next stays in
-    let one : Token = record { kind = told first; len = end - from } in
-    let here : first_token_in c.args.edition (drop from (drop at text)) ≡ one = ap (λ (t : Token). changed c.args.edition (chars (drop from (drop at text))) t) (sym token.token) ∙ told_same first some c.args.edition (chars (drop from (drop at text))) (told first) (end - from) refl in
+    let next : get_or c.as_bytes-bytes.result.now end 0 ≡ get_or (drop at text) end 0 = ap (λ (xs : List ℕ). get_or xs end 0) bytes in
+    let stays_at : StaysWithin (told (get_or (drop at text) from 0)) (get_or (drop at text) end 0) = subst (λ b. StaysWithin (told (get_or (drop at text) from 0)) b) next (subst (λ b. StaysWithin (told b) (get_or c.as_bytes-bytes.result.now end 0)) inv.first stays) in
+    let token = c.told-token.ensures.token (drop at text) from c.told.ends end record { utf8 = utf8; known = inv.ends; small = inv.small; lowest = low; stays = stays_at } inv.first refl in
+    let one : Token = c.told-token.result in
+    let here : first_token_in c.args.edition (drop from (drop at text)) ≡ one = ap (λ (t : Token). changed c.args.edition (chars (drop from (drop at text))) t) (sym token.token) ∙ c.told-token.ensures.same c.args.edition (chars (drop from (drop at text))) in
     let there : first_token_in c.args.edition (drop (at + from) text) ≡ one = ap (λ (xs : List ℕ). first_token_in c.args.edition xs) (sym joined) ∙ here in
     let more : at + from < length text = inv.inside in
-    let long : (first_token_in c.args.edition (drop (at + from) text)).len ≡ end - from = ap (λ (t : Token). t.len) there in
+    let long : (first_token_in c.args.edition (drop (at + from) text)).len ≡ end - from = ap (λ (t : Token). t.len) there ∙ c.told-token.ensures.len in
     let same : at + end ≡ at + from + (first_token_in c.args.edition (drop (at + from) text)).len = omega (arith, after, long) in
     record {
       written = one_written g.R.Record.written (tokens_of (part c.args.edition) text) _ c.args.room.now c.told.room c.told.count (first_token_in c.args.edition (drop (at + from) text)) inv.written
           (next_token law text is c.told.count (at + from) inv.place more) (omega arith) _
-          (c.bare.ensures ∙ ap g.R.Record.written (ap (λ (k : TokenKind). record { kind = k; len = end - from }) c.told_by.ensures ∙ sym there));
+          (c.bare.ensures ∙ ap g.R.Record.written (sym there));
       place = same ∙ next_place law text is c.told.count (at + from) inv.place more;
       ends = past_end (drop at text) c.told.ends from end c.past_lowest-ends.result inv.ends low (λ k le. c.past_lowest-ends.ensures.gone end k low le) (λ k l. c.past_lowest-ends.ensures.others end k low l);
       small = omega arith;
