@@ -2,10 +2,8 @@ use Rattle.std.proofs.Common.{◌≡◌, ◌≢◌, ◌+◌, ◌-◌, ◌^◌, �
 use Rattle.std.specs.Str.{chars, IsUtf8}
 use lib.Count.{count_trailing_zeros}
 use Rattle.rustc_lexer.specs.declared.token.Token.{Token}
-use Rattle.rustc_lexer.specs.declared.token.TokenKind.{TokenKind}
 use Rattle.rustc_lexer.specs.declared.token.TokenKind.TheVariants.{Eof}
 use Rattle.rustc_lexer.specs.means.Edition.{changed, first_token_in}
-use Rattle.rustc_lexer.specs.Bulk.{has_fields}
 use Rattle.rustc_lexer.specs.Tokens.{bound, tokens_of}
 use Rattle.rustc_lexer.specs.LanguageText.{part}
 use Rattle.rustc_lexer.specs.means.Ends.{told, AreEndsPast, IsEnds, IsLowest, StaysWithin}
@@ -13,7 +11,7 @@ use Rattle.rustc_lexer.specs.Locality.{IsText}
 use Rattle.rustc_lexer.specs.laws.Edition.{edition_grammar}
 use Rattle.rustc_lexer.proofs.BitLemmas.{lowest, below-lowest}
 use Rattle.rustc_lexer.proofs.BulkLemmas.{IsWritten, none_written, one_written, all_written, stands, next_token, next_place, next_some, over}
-use Rattle.rustc_lexer.proofs.EndsLemmas.{no_ends, past_end, told_bare, told_behind, told_same, told_stays}
+use Rattle.rustc_lexer.proofs.EndsLemmas.{no_ends, past_end, told_stays}
 use Rattle.rustc_lexer.proofs.bulk.fill.Goals as goal
 use Rattle.rustc_lexer.proofs.bulk.fill.Goals.{else-not-tells-via-then-not-tells+else-turns, else-not-tells-via-else-not-tells, then-from-eq0, else-from-eq0}
 
