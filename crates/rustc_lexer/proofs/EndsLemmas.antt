@@ -26,8 +26,26 @@ use Rattle.rustc_lexer.specs.means.Lexeme.{family_of, symbol_kind}
 use Rattle.rustc_lexer.specs.means.Quick.{is_space_lead, turns_word, IsFirstToken}
 use Rattle.rustc_lexer.specs.means.Scan.{next_is}
 use Rattle.rustc_lexer.specs.laws.Choice.{by_test}
-use Rattle.rustc_lexer.proofs.BitLemmas.{bit-at_byte, bit-zero, past-first, past-later, within}
+use Rattle.rustc_lexer.proofs.BitLemmas.{below-high, below-low, bit-at_byte, bit-zero, high, past-first, past-later, within}
 use Rattle.rustc_lexer.proofs.QuickLemmas.{word_first, space_first, symbol_first}
+
+-- none is set at the front
+pub all_past : (text : List ℕ) (ends : ℕ) → IsEnds text ends → AreEndsPast text 0 ends
+all_past text ends are zero set = absurd (true≢false (sym set ∙ (are zero set).1 zero (omega arith)))
+all_past text ends are (suc j) set = (omega arith, (are (suc j) set).0, λ k more le. (are (suc j) set).1 k le)
+
+-- only those before a place are kept
+pub before_place : (ends place k : ℕ) → bit (bit_and ends (2 ^ place - 1)) k ≡ true → k < place
+before_place ends place k set = elim (cases_lt k place) [
+  | inl near ↦ near
+  | inr far ↦ absurd (true≢false (sym set ∙ below-high ends place k far))
+]
+
+pub ends_before : (text : List ℕ) (ends place : ℕ) → IsEnds text ends → IsEnds text (bit_and ends (2 ^ place - 1))
+ends_before text ends place are j set =
+    let low = before_place ends place j set in
+    let was = are j (sym (below-low ends place j low) ∙ set) in
+    (was.0, λ k le. below-low ends place k (omega arith) ∙ was.1 k le)
 
 pub no_ends : (text : List ℕ) → IsEnds text 0
 no_ends text j set = absurd (true≢false (sym set ∙ bit-zero j))

@@ -9,7 +9,7 @@ ghost use Rattle.rustc_lexer.specs.LanguageText.{part};
 ghost use Rattle.rustc_lexer.specs.means.Ends.{IsEnds};
 
 use crate::edition::{Edition, token_in};
-use crate::lexemes::told::{ends_for, ends_left, is_told, past_lowest, told, turns};
+use crate::lexemes::told::{ends_before, ends_for, ends_left, is_told, past_lowest, told, turns};
 use crate::token::{Token, TokenKind};
 
 /// What tokens are written as, where many are written at once.
@@ -42,7 +42,7 @@ impl Record for Token {
     }
 }
 
-/// Writes the first tokens of a text into the room, in an edition: those that begin before `end`, or as many as it has
+/// Writes the first tokens of a text into the room, in an edition: those that begin before `stop`, or as many as it has
 /// room for. Their number, and how many bytes they have.
 ///
 /// The ends of runs are found 64 bytes at a time. Where these tell a token, its kind is a look in a table and its length
@@ -50,13 +50,13 @@ impl Record for Token {
 #[inline(always)]
 pub(crate) fn fill<R: Record>(
     text: &str,
-    end: usize,
+    stop: usize,
     edition: Edition,
     room: &mut [R],
 ) -> (usize, usize)
     requires fits { Fits text.now }
-    requires inside { end ≤ length text.now }
-    ensures filled { IsFilledTo R.written end (tokens_of (part edition) text.now)
+    requires inside { stop ≤ length text.now }
+    ensures filled { IsFilledTo R.written stop (tokens_of (part edition) text.now)
         room.old room.new result.0 }
     ensures bytes { result.1 ≡ bound (tokens_of (part edition) text.now) result.0 }
     ensures boundary { IsCharBoundary text.now result.1 }
@@ -64,13 +64,13 @@ pub(crate) fn fill<R: Record>(
     let mut count = 0;
     let mut at = 0;
     let mut ends = 0;
-    'tokens: while count < room.len() && at < end {
+    'tokens: while count < room.len() && at < stop {
         let rest = &text[at..];
         let bytes = rest.as_bytes();
         let mut first = bytes[0];
         let mut tells = is_told(first);
         if tells {
-            ends = ends_for(rest, ends);
+            ends = ends_before(ends_for(rest, ends), stop - at);
         }
         let mut from = 0;
         'told: while tells && ends != 0 && count < room.len() {

@@ -1,5 +1,5 @@
 //! The commonest tokens, told by their first byte and the ends of runs.
-ghost use Rattle.std.specs.Prelude.{◌≡◌, ◌≢◌, ◌≤◌, ◌<◌, ◌+◌, ◌-◌, suc, ℕ, List, false, drop, slice_index, IsTrue, IsFalse};
+ghost use Rattle.std.specs.Prelude.{◌≡◌, ◌≢◌, ◌≤◌, ◌<◌, ◌+◌, ◌-◌, suc, ℕ, List, false, drop, slice_index, true, IsTrue, IsFalse};
 ghost use Rattle.rustc_lexer.specs.declared.edition.Edition.{Edition};
 ghost use Rattle.rustc_lexer.specs.Bulk.{has_fields};
 ghost use Rattle.rustc_lexer.specs.means.Edition.{changed};
@@ -302,6 +302,19 @@ pub(crate) fn ends_for(text: &str, ends: u64) -> u64
         ends
     } else {
         ends_of_runs(text.as_bytes())
+    }
+}
+
+/// The ends of runs that are known before a place.
+#[inline(always)]
+pub(crate) fn ends_before(ends: u64, place: usize) -> u64
+    ensures known { (text : List ℕ) → IsEnds text ends → IsEnds text result }
+    ensures before { (k : ℕ) → bit result k ≡ true → k < place }
+{
+    if place < 64 {
+        ends & ((1 << place) - 1)
+    } else {
+        ends
     }
 }
 

@@ -1,5 +1,6 @@
-use Rattle.std.proofs.Common.{◌≡◌, ◌≢◌, ◌+◌, ◌-◌, ◌^◌, ◌<◌, ◌≤◌, ℕ, List, length, drop, get_or, slice_set, refl, sym, ap, subst, ◌∙◌, arith, drop-drop, length-drop}
+use Rattle.std.proofs.Common.{◌≡◌, ◌≢◌, ◌+◌, ◌-◌, ◌^◌, ◌<◌, ◌≤◌, ℕ, List, length, drop, get_or, slice_set, refl, sym, ap, subst, ◌∙◌, arith, drop-drop, true≢false, inl, inr}
 use Rattle.std.specs.Str.{chars, IsUtf8}
+use Rattle.std.proofs.lemmas.Bool.{cases_lt}
 use lib.Count.{count_trailing_zeros}
 use Rattle.rustc_lexer.specs.declared.token.Token.{Token}
 use Rattle.rustc_lexer.specs.declared.token.TokenKind.TheVariants.{Eof}
@@ -10,19 +11,57 @@ use Rattle.rustc_lexer.specs.means.Ends.{told, AreEndsPast, IsEnds, IsLowest, St
 use Rattle.rustc_lexer.specs.Locality.{IsText}
 use Rattle.rustc_lexer.specs.laws.Edition.{edition_grammar}
 use Rattle.rustc_lexer.proofs.BitLemmas.{lowest, below-lowest}
-use Rattle.rustc_lexer.proofs.BulkLemmas.{IsWritten, none_written, one_written, all_written, stands, next_token, next_place, next_some, over}
-use Rattle.rustc_lexer.proofs.EndsLemmas.{no_ends, past_end, told_stays}
+use Rattle.rustc_lexer.proofs.BulkLemmas.{IsWritten, begun_more, none_written, one_written, stands, next_token, next_place, next_some, written_to}
+use Rattle.rustc_lexer.proofs.EndsLemmas.{all_past, no_ends, past_end, told_stays}
 use Rattle.rustc_lexer.proofs.bulk.fill.Goals as goal
-use Rattle.rustc_lexer.proofs.bulk.fill.Goals.{else-not-tells-via-then-not-tells+else-turns, else-not-tells-via-else-not-tells, then-from-eq0, else-from-eq0}
+use Rattle.rustc_lexer.proofs.bulk.fill.Goals.{then-tells, else-tells, else-not-tells-via-then-not-tells+else-turns, else-not-tells-via-else-not-tells, then-from-eq0, else-from-eq0}
 
 pub tokens-init : goal.tokens-init
-tokens-init g c = record { written = none_written _ _ _; place = refl; ends = no_ends _; small = omega arith }
+tokens-init g c = record { written = none_written _ _ _; begun = λ k less. absurd (omega arith); place = refl; ends = no_ends _; small = omega arith }
 
 pub range_from-rest-requires : goal.range_from-rest-requires
 range_from-rest-requires g c = λ some. (stands (edition_grammar c.args.edition) c.args.text.now record { utf8 = c.utf8.text; fits = c.requires.fits } c.tokens.count c.tokens.at c.tokens.invariant.place).boundary
 
 least : (ends : ℕ) → 0 < ends → ends < 2 ^ 64 → IsLowest ends (count_trailing_zeros 64 ends)
 least ends some small = record { set = lowest ends some small; least = below-lowest ends some small }
+
+pub told-init : goal.told-init
+told-init g c =
+    let text : List ℕ = c.args.text.now in
+    let at : ℕ = c.tokens.at in
+    let inv = c.tokens.invariant in
+    let rest : c.range_from-rest.result.now ≡ drop at text = c.range_from-rest.ensures.value in
+    let here : at + 0 ≡ at = omega arith in
+    let first : get_or c.as_bytes-bytes.result.now 0 0 ≡ get_or (drop at text) 0 0 = ap (λ (xs : List ℕ). get_or xs 0 0) (c.as_bytes-bytes.ensures.value ∙ rest) in
+    elim c.if-tells.branch [
+      | then-tells w ↦
+          let known = w.ends_before-ends.ensures.known (drop at text) (subst (λ (xs : List ℕ). IsEnds xs w.ends_for.result) rest w.ends_for.ensures) in
+          rw w.ends-is record {
+            written = inv.written;
+            begun = inv.begun;
+            place = here ∙ inv.place;
+            ends = all_past (drop at text) w.ends_before-ends.result known;
+            small = omega arith;
+            before = λ _ k set. let low = w.ends_before-ends.ensures.before k set in omega arith;
+            inside = omega arith;
+            first = first;
+            tells = λ e. c.is_told-tells.ensures e;
+            some = λ _. omega arith;
+          }
+      | else-tells w ↦
+          rw w.ends-is record {
+            written = inv.written;
+            begun = inv.begun;
+            place = here ∙ inv.place;
+            ends = all_past (drop at text) c.tokens.ends inv.ends;
+            small = inv.small;
+            before = λ e k set. absurd (true≢false (sym e ∙ w.if-tells.false));
+            inside = omega arith;
+            first = first;
+            tells = λ e. c.is_told-tells.ensures e;
+            some = λ _. omega arith;
+          }
+    ]
 
 pub bounds-bytes-end : goal.bounds-bytes-end
 bounds-bytes-end g c =
@@ -65,17 +104,23 @@ told-preserved g c =
     let one : Token = c.told-token.result in
     let here : first_token_in c.args.edition (drop from (drop at text)) ≡ one = ap (λ (t : Token). changed c.args.edition (chars (drop from (drop at text))) t) (sym token.token) ∙ c.told-token.ensures.same c.args.edition (chars (drop from (drop at text))) in
     let there : first_token_in c.args.edition (drop (at + from) text) ≡ one = ap (λ (xs : List ℕ). first_token_in c.args.edition xs) (sym joined) ∙ here in
-    let more : at + from < length text = inv.inside in
+    let more : at + from < length text = omega (arith, inv.inside) in
+    let before = inv.before c.told-test.true in
     let long : (first_token_in c.args.edition (drop (at + from) text)).len ≡ end - from = ap (λ (t : Token). t.len) there ∙ c.told-token.ensures.len in
     let same : at + end ≡ at + from + (first_token_in c.args.edition (drop (at + from) text)).len = omega (arith, after, long) in
     record {
       written = one_written g.R.Record.written (tokens_of (part c.args.edition) text) _ c.args.room.now c.told.room c.told.count (first_token_in c.args.edition (drop (at + from) text)) inv.written
           (next_token law text is c.told.count (at + from) inv.place more) (omega arith) _
           (c.bare.ensures ∙ ap g.R.Record.written (sym there));
+      begun = begun_more (tokens_of (part c.args.edition) text) c.told.count (at + from) c.args.stop inv.place inv.inside inv.begun;
       place = same ∙ next_place law text is c.told.count (at + from) inv.place more;
       ends = past_end (drop at text) c.told.ends from end c.past_lowest-ends.result inv.ends low (λ k le. c.past_lowest-ends.ensures.gone end k low le) (λ k l. c.past_lowest-ends.ensures.others end k low l);
       small = omega arith;
-      inside = omega (arith, inside, length-drop at text);
+      before = λ _ k set. before k (elim (cases_lt end k) [
+        | inl later ↦ sym (c.past_lowest-ends.ensures.others end k low later) ∙ set
+        | inr sooner ↦ absurd (true≢false (sym set ∙ c.past_lowest-ends.ensures.gone end k low (omega arith)))
+      ]);
+      inside = before end low.set;
       first = next;
       tells = λ e. c.is_told-tells-in-told.ensures e;
       some = λ e. absurd (omega (arith, after, e));
@@ -117,25 +162,28 @@ tokens-preserved g c =
           (next_token law text is c.told.count at place more) (inv.some none) _ (w.of.ensures ∙ ap g.R.Record.written token) in
           record {
             written = subst (λ r. IsWritten g.R.Record.written tokens c.args.room.now r c.if-from-eq0.count) (sym w.room-is) (subst (λ n. IsWritten g.R.Record.written tokens c.args.room.now (slice_set c.told.room c.told.count w.of.result) n) (sym w.count-is) written);
+            begun = subst (λ n. (k : ℕ) → k < n → bound tokens k < c.args.stop) (sym w.count-is) (begun_more tokens c.told.count at c.args.stop place (omega arith) inv.begun);
             place = ap (λ n. at + n) (w.from-is ∙ ap (λ (t : Token). t.len) token) ∙ (next_place law text is c.told.count at place more ∙ ap (bound tokens) (sym w.count-is));
             ends = left c.told.from (omega (arith, none)) inv.ends;
             small = omega arith;
           }
       | else-from-eq0 w ↦ record {
         written = subst (λ r. IsWritten g.R.Record.written tokens c.args.room.now r c.if-from-eq0.count) (sym w.room-is) (subst (λ n. IsWritten g.R.Record.written tokens c.args.room.now c.told.room n) (sym w.count-is) inv.written);
+        begun = subst (λ n. (k : ℕ) → k < n → bound tokens k < c.args.stop) (sym w.count-is) inv.begun;
         place = ap (λ n. at + n) w.from-is ∙ (inv.place ∙ ap (bound tokens) (sym w.count-is));
         ends = left c.told.from (omega (arith, w.from-is)) inv.ends;
         small = omega arith;
       }
     ]
 
-pub returns-else-at-text-clause-filled : goal.returns-else-at-text-clause-filled
-returns-else-at-text-clause-filled g c =
-    let text : List ℕ = c.args.text.now in
-    all_written g.R.Record.written (tokens_of (part c.args.edition) text) c.args.room.now c.tokens.room c.tokens.count c.tokens.invariant.written (over (edition_grammar c.args.edition) text record { utf8 = c.utf8.text; fits = c.requires.fits } c.tokens.count c.tokens.at c.tokens.invariant.place (omega arith))
+pub returns-else-at-stop-clause-filled : goal.returns-else-at-stop-clause-filled
+returns-else-at-stop-clause-filled g c = written_to g.R.Record.written c.args.stop (tokens_of (part c.args.edition) c.args.text.now) c.args.room.now c.tokens.room c.tokens.count c.tokens.at c.tokens.invariant.written c.tokens.invariant.place c.tokens.invariant.begun (λ _. omega arith)
 
-pub returns-else-at-text-clause-boundary : goal.returns-else-at-text-clause-boundary
-returns-else-at-text-clause-boundary g c = (stands (edition_grammar c.args.edition) c.args.text.now record { utf8 = c.utf8.text; fits = c.requires.fits } c.tokens.count c.tokens.at c.tokens.invariant.place).boundary
+pub returns-after-tokens-clause-filled : goal.returns-after-tokens-clause-filled
+returns-after-tokens-clause-filled g c = written_to g.R.Record.written c.args.stop (tokens_of (part c.args.edition) c.args.text.now) c.args.room.now c.tokens.room c.tokens.count c.tokens.at c.tokens.invariant.written c.tokens.invariant.place c.tokens.invariant.begun (λ more. omega arith)
+
+pub returns-else-at-stop-clause-boundary : goal.returns-else-at-stop-clause-boundary
+returns-else-at-stop-clause-boundary g c = (stands (edition_grammar c.args.edition) c.args.text.now record { utf8 = c.utf8.text; fits = c.requires.fits } c.tokens.count c.tokens.at c.tokens.invariant.place).boundary
 
 pub returns-after-tokens-clause-boundary : goal.returns-after-tokens-clause-boundary
 returns-after-tokens-clause-boundary g c = (stands (edition_grammar c.args.edition) c.args.text.now record { utf8 = c.utf8.text; fits = c.requires.fits } c.tokens.count c.tokens.at c.tokens.invariant.place).boundary

@@ -1,14 +1,15 @@
-use Rattle.std.proofs.Common.{◌≡◌, ◌≢◌, ◌+◌, ◌-◌, ◌^◌, ◌<◌, true, length, drop, get_or}
+use Rattle.std.proofs.Common.{◌≡◌, ◌≢◌, ◌+◌, ◌-◌, ◌^◌, ◌<◌, ℕ, true, length, drop, get_or}
 use Rattle.rustc_lexer.specs.declared.token.TokenKind.TheVariants.{Eof}
 use Rattle.rustc_lexer.specs.Tokens.{bound, tokens_of}
 use Rattle.rustc_lexer.specs.LanguageText.{part}
-use Rattle.rustc_lexer.specs.means.Ends.{told, AreEndsPast, IsEnds}
+use Rattle.rustc_lexer.specs.means.Ends.{told, bit, AreEndsPast, IsEnds}
 use Rattle.rustc_lexer.proofs.BulkLemmas.{IsWritten}
 use Rattle.rustc_lexer.proofs.bulk.fill.Given as goal
 
 abbrev pub invariant-tokens : goal.invariant-tokens
 invariant-tokens g l = record {
   written : IsWritten g.R.Record.written (tokens_of (part l.edition) l.text) l.fn.room l.room l.count;
+  begun : (k : ℕ) → k < l.count → bound (tokens_of (part l.edition) l.text) k < l.stop;
   place : l.at ≡ bound (tokens_of (part l.edition) l.text) l.count;
   ends : IsEnds (drop l.at l.text) l.ends;
   small : l.ends < 2 ^ 64;
@@ -20,10 +21,12 @@ decreases-tokens g l = length l.text - l.at
 abbrev pub invariant-told : goal.invariant-told
 invariant-told g l = record {
   written : IsWritten g.R.Record.written (tokens_of (part l.edition) l.text) l.fn.room l.room l.count;
+  begun : (k : ℕ) → k < l.count → bound (tokens_of (part l.edition) l.text) k < l.stop;
   place : l.at + l.from ≡ bound (tokens_of (part l.edition) l.text) l.count;
   ends : AreEndsPast (drop l.at l.text) l.from l.ends;
   small : l.ends < 2 ^ 64;
-  inside : l.at + l.from < length l.text;
+  before : l.tells ≡ true → (k : ℕ) → bit l.ends k ≡ true → l.at + k < l.stop;
+  inside : l.at + l.from < l.stop;
   first : l.first ≡ get_or (drop l.at l.text) l.from 0;
   tells : l.tells ≡ true → told l.first ≢ Eof;
   some : l.from ≡ 0 → l.count < length l.room;
