@@ -10,7 +10,7 @@ use Rattle.rustc_literal_escaper.specs.declared.element.Element.TheVariants.{Pla
 use Rattle.rustc_literal_escaper.specs.declared.mode.Mode.{Mode}
 use Rattle.rustc_literal_escaper.specs.declared.mode.Mode.TheVariants.{Char, Byte, Str, RawStr, ByteStr, RawByteStr, CStr, RawCStr}
 use Rattle.rustc_literal_escaper.specs.Errors.{error_of}
-use Rattle.rustc_literal_escaper.specs.Plain.{is_plain, is_simple, Passes}
+use Rattle.rustc_literal_escaper.specs.Plain.{is_fine, is_plain, is_simple, Passes}
 use Rattle.rustc_literal_escaper.proofs.LaneLemmas.{run_front}
 use Rattle.rustc_literal_escaper.proofs.WrittenLemmas.{is-ascii}
 
@@ -33,6 +33,19 @@ simple-fine mode raw c e = (q.1, by_mode mode)
     by_mode RawByteStr = rw p.0 refl
     by_mode CStr = rw (not-true (c == 0) q.0) refl
     by_mode RawCStr = rw (not-true (c == 0) q.0) refl
+
+-- a simple character is a byte that stands for itself in each kind of string
+simple-is-fine : (raw : Bool) (c : ℕ) → is_simple raw c ≡ true → is_fine c ≡ true
+simple-is-fine raw c e =
+    let p = and_parts (nat_lt c 128) (not (c == 0) && is_plain raw c) e in
+    let q = and_parts (not (c == 0)) (is_plain raw c) p.1 in
+    ap₂ (λ x y. x && y) p.0 q.0
+
+pub simple-all-fine : (raw : Bool) (bs : List ℕ) → list_all (is_simple raw) bs ≡ true → list_all is_fine bs ≡ true
+simple-all-fine raw [] e = refl
+simple-all-fine raw (b ∷ bs) e =
+    let p = and_parts (is_simple raw b) (list_all (is_simple raw) bs) e in
+    ap₂ (λ x y. x && y) (simple-is-fine raw b p.0) (simple-all-fine raw bs p.1)
 
 -- simple characters are bytes, and what follows them begins with a character
 simple-all-ascii : (raw : Bool) (bs : List ℕ) → list_all (is_simple raw) bs ≡ true → list_all is_ascii bs ≡ true

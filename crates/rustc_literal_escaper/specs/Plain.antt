@@ -18,6 +18,10 @@ elements_in items = map (λ item. item.1) items
 abbrev pub StandsForItself : Bool → List ℕ → Type 0
 StandsForItself raw text = list_all (is_plain raw) (chars text) ≡ true → elements_in (items_of raw text) ≡ map Plain (chars text)
 
+-- a byte of ASCII that is not 0: where it is not escaped, it stands for itself in each kind of string
+abbrev pub is_fine : ℕ → Bool
+is_fine c = nat_lt c 128 && not (c == 0)
+
 -- a plain character of ASCII that is not U+0000: nothing is wrong with it in any kind of string
 abbrev pub is_simple : Bool → ℕ → Bool
 is_simple raw c = nat_lt c 128 && (not (c == 0) && is_plain raw c)

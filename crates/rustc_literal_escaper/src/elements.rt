@@ -1,10 +1,11 @@
 //! The elements of what stands between double quotes.
 ghost use Rattle.std.specs.Prelude.{◌≡◌, ◌≤◌, ◌∷◌, ◌++◌, ℕ, None, true, false, length, MatchOption};
 ghost use Rattle.std.specs.Iterator.{at_most};
+ghost use Rattle.std.specs.List.{list_all};
 ghost use Rattle.rustc_literal_escaper.specs.Elements.{items_of, TakesFirst};
 ghost use Rattle.rustc_literal_escaper.specs.Errors.{error_of, errors_in};
 ghost use Rattle.rustc_literal_escaper.specs.Places.{ArePlaced};
-ghost use Rattle.rustc_literal_escaper.specs.Plain.{plain_items, StandsForItself};
+ghost use Rattle.rustc_literal_escaper.specs.Plain.{is_fine, plain_items, StandsForItself};
 ghost use Rattle.rustc_literal_escaper.specs.Rebuilt.{IsRebuilt};
 
 use crate::element::Element;
@@ -172,6 +173,7 @@ impl<'a> Elements<'a> {
     #[inline(always)]
     pub(crate) fn next_simple(&mut self) -> (&'a [u8], usize)
         ensures items { self.old ≡ plain_items result.1 result.0.now ++ self.new }
+        ensures fine { list_all is_fine result.0.now ≡ true }
         ensures within { length result.0.now ≤ result.1 }
     {
         if self.waiting.is_some() {

@@ -1,9 +1,9 @@
 //! Strings of every kind, by a callback.
 ghost use Rattle.std.specs.Prelude.{◌≡◌, ◌≤◌, true, false, length};
-ghost use Rattle.std.specs.List.{FoldsTo};
+ghost use Rattle.std.specs.List.{FoldsTo, list_all};
 ghost use Rattle.rustc_literal_escaper.specs.Elements.{items_of};
 ghost use Rattle.rustc_literal_escaper.specs.Meaning.{byte_of, char_of, raw_unit_of, unit_of};
-ghost use Rattle.rustc_literal_escaper.specs.Plain.{plain_items};
+ghost use Rattle.rustc_literal_escaper.specs.Plain.{is_fine, plain_items};
 
 use crate::element::Element;
 use crate::elements::{Elements, elements_of};
@@ -89,9 +89,11 @@ pub fn check_raw_c_str<F: FnMut(Range<usize>, Result<NonZeroChar, EscapeError>)>
 
 /// What the elements of one kind of string stand for.
 trait Meaning {
-    ghost use Rattle.std.specs.Prelude.{Result};
+    ghost use Rattle.std.specs.Prelude.{◌≡◌, true, Result};
     ghost use Rattle.rustc_literal_escaper.specs.declared.element.Element.{Element};
+    ghost use Rattle.rustc_literal_escaper.specs.declared.element.Element.TheVariants.{Plain};
     ghost use Rattle.rustc_literal_escaper.specs.declared.error.EscapeError.{EscapeError};
+    ghost use Rattle.rustc_literal_escaper.specs.Plain.{is_fine};
 
     type Meant;
 
@@ -100,6 +102,15 @@ trait Meaning {
     /// What an element stands for.
     fn of(element: Element) -> Result<Self::Meant, EscapeError>
         ensures { result ≡ meaning element };
+
+    /// What a byte of ASCII that is not 0 stands for, where it is not escaped.
+    #[inline(always)]
+    fn of_fine(byte: u8) -> Result<Self::Meant, EscapeError>
+        requires fine { is_fine byte ≡ true }
+        ensures { result ≡ meaning (Plain byte) }
+    {
+        Self::of(Element::Plain(byte as char))
+    }
 }
 
 /// What strings stand for: characters.
@@ -131,6 +142,11 @@ impl Meaning for AsByte {
     #[inline(always)]
     fn of(element: Element) -> Result<u8, EscapeError> {
         element.to_byte()
+    }
+
+    #[inline(always)]
+    fn of_fine(byte: u8) -> Result<u8, EscapeError> {
+        Ok(byte)
     }
 }
 
@@ -182,7 +198,7 @@ fn each_unit<M: Meaning, F: FnMut(Range<usize>, Result<M::Meant, EscapeError>)>(
 
 /// Calls `callback` with what each of the elements stands for, and its place.
 ///
-/// Plain characters have a call of their own, which the compiler makes short. Behind one of them a run of simple ones
+/// Plain characters have a call of their own, which the compiler makes short. Behind one of ASCII a run of simple ones
 /// is looked for, and these have a loop of their own.
 #[inline(always)]
 fn each_unit_in<M: Meaning, F: FnMut(Range<usize>, Result<M::Meant, EscapeError>)>(
@@ -196,6 +212,9 @@ fn each_unit_in<M: Meaning, F: FnMut(Range<usize>, Result<M::Meant, EscapeError>
     'items: loop {
         if let Some((range, c)) = elements.next_plain() {
             callback(range, M::of(Element::Plain(c)));
+            if !c.is_ascii() {
+                continue;
+            }
             let (run, end) = elements.next_simple();
             callback = each_simple::<M, F>(run, end, callback);
             continue;
@@ -220,6 +239,7 @@ fn each_simple<M: Meaning, F: FnMut(Range<usize>, Result<M::Meant, EscapeError>)
     mut callback: F,
 ) -> F
     requires callable { F.IsAlwaysCallable callback }
+    requires fine { list_all is_fine run.now ≡ true }
     requires within { length run.now ≤ end }
     ensures callable { F.IsAlwaysCallable result }
     ensures calls { FoldsTo (λ f item g. F.step f item.0 (M.meaning item.1) tt g)
@@ -228,7 +248,7 @@ fn each_simple<M: Meaning, F: FnMut(Range<usize>, Result<M::Meant, EscapeError>)
     let mut left = run;
     'run: while let Some((byte, tail)) = left.split_first() {
         let range = end - left.len()..end - tail.len();
-        callback(range, M::of(Element::Plain(*byte as char)));
+        callback(range, M::of_fine(*byte));
         left = tail;
     }
     callback

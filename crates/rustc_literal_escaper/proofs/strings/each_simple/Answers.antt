@@ -9,4 +9,4 @@ empty (b ∷ bs) e = absurd (omega arith)
 
 pub returns-clause-calls : goal.returns-clause-calls
 returns-clause-calls g c =
-    c.run.invariant.2 c.run.callback (subst (λ (bytes : List ℕ). FoldsTo (λ f item h. goal.F-step g f item.0 (g.M.Meaning.meaning item.1) tt h) c.run.callback (plain_items c.args.end bytes) c.run.callback) (sym (empty c.run.left.now c.in_default.ensures.cases)) refl)
+    c.run.invariant.3 c.run.callback (subst (λ (bytes : List ℕ). FoldsTo (λ f item h. goal.F-step g f item.0 (g.M.Meaning.meaning item.1) tt h) c.run.callback (plain_items c.args.end bytes) c.run.callback) (sym (empty c.run.left.now c.in_default.ensures.cases)) refl)

@@ -1,9 +1,8 @@
-use Rattle.std.proofs.Common.{◌++◌, List, subst, sym, ◌∙◌}
+use Rattle.std.proofs.Common.{◌++◌, List, subst}
 use Rattle.std.specs.Option.{option_to_list}
 use Rattle.std.specs.Str.{chars}
 use Rattle.rustc_literal_escaper.specs.Elements.{Item, front_by, items_from, TakesFirst}
 use Rattle.rustc_literal_escaper.proofs.ItemLemmas.{takes_first}
-use Rattle.rustc_literal_escaper.proofs.SkipLemmas.{behind}
 use Rattle.rustc_literal_escaper.proofs.elements.Elements.next_by_steps.Goals as goal
 
 pub returns : goal.returns
