@@ -364,8 +364,8 @@ impl Kind for Chars {
     type Meant = char;
 
     #[inline(always)]
-    fn simple(byte: u8) -> Option<char> {
-        Some(char::from(byte))
+    fn simple(byte: u8) -> char {
+        char::from(byte)
     }
 
     #[inline(always)]
@@ -390,8 +390,8 @@ impl Kind for Bytes {
     type Meant = u8;
 
     #[inline(always)]
-    fn simple(byte: u8) -> Option<u8> {
-        Some(byte)
+    fn simple(byte: u8) -> u8 {
+        byte
     }
 
     #[inline(always)]
@@ -416,8 +416,8 @@ impl Kind for MixedUnits {
     type Meant = MixedUnit;
 
     #[inline(always)]
-    fn simple(byte: u8) -> Option<MixedUnit> {
-        NonZero::new(char::from(byte)).map(MixedUnit::Char)
+    fn simple(byte: u8) -> MixedUnit {
+        MixedUnit::Char(SomeChars::simple(byte))
     }
 
     #[inline(always)]
@@ -443,8 +443,8 @@ impl Kind for RawChars {
     type Meant = char;
 
     #[inline(always)]
-    fn simple(byte: u8) -> Option<char> {
-        Some(char::from(byte))
+    fn simple(byte: u8) -> char {
+        char::from(byte)
     }
 
     #[inline(always)]
@@ -469,8 +469,8 @@ impl Kind for RawBytes {
     type Meant = u8;
 
     #[inline(always)]
-    fn simple(byte: u8) -> Option<u8> {
-        Some(byte)
+    fn simple(byte: u8) -> u8 {
+        byte
     }
 
     #[inline(always)]
@@ -495,8 +495,8 @@ impl Kind for SomeChars {
     type Meant = NonZero<char>;
 
     #[inline(always)]
-    fn simple(byte: u8) -> Option<NonZero<char>> {
-        NonZero::new(char::from(byte))
+    fn simple(byte: u8) -> NonZero<char> {
+        NonZero::new(char::from(byte)).expect("a simple byte is not NUL")
     }
 
     #[inline(always)]

@@ -18,7 +18,7 @@ pub trait Kind {
 
     /// What a simple byte stands for: one of ASCII that is neither NUL nor `\r`, and where something is an escape
     /// neither `"` nor `\`.
-    fn simple(byte: u8) -> Option<Self::Meant>;
+    fn simple(byte: u8) -> Self::Meant;
 
     /// What a character stands for that is not escaped, or `None` where the library is to be asked.
     fn plain(c: char) -> Option<Self::Meant>;
@@ -86,9 +86,7 @@ fn each_simple<K: Kind>(
     callback: &mut impl FnMut(Range<usize>, Result<K::Meant, EscapeError>),
 ) {
     for (place, &byte) in (at..).zip(bytes) {
-        if let Some(unit) = K::simple(byte) {
-            callback(place..place + 1, Ok(unit));
-        }
+        callback(place..place + 1, Ok(K::simple(byte)));
     }
 }
 

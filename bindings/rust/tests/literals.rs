@@ -223,16 +223,25 @@ fn plain_text_around() {
 /// Two warnings of one place, wherever among those that cross at once they stand: they are parted nowhere.
 #[test]
 fn warnings_of_long_strings() {
-    for before in 120..140 {
-        let text = "a".repeat(before) + "\\\n\n\u{a0}" + &"b".repeat(200);
-        let mut want: Units<char> = (0..before).map(|at| (at..at + 1, Ok('a'))).collect();
-        want.push((before..before + 3, Err(MultipleSkippedLinesWarning)));
-        want.push((before..before + 5, Err(UnskippedWhitespaceWarning)));
-        want.push((before + 3..before + 5, Ok('\u{a0}')));
-        want.extend((before + 5..before + 205).map(|at| (at..at + 1, Ok('b'))));
+    for before in 0..100 {
+        let at = 2 * before;
+        let text = r"\n".repeat(before) + "\\\n\n\u{a0}" + &"b".repeat(200);
+        let mut want: Units<char> = (0..before)
+            .map(|n| (2 * n..2 * n + 2, Ok('\n')))
+            .collect();
+        want.push((at..at + 3, Err(MultipleSkippedLinesWarning)));
+        want.push((at..at + 5, Err(UnskippedWhitespaceWarning)));
+        want.push((at + 3..at + 5, Ok('\u{a0}')));
+        want.extend((at + 5..at + 205).map(|at| (at..at + 1, Ok('b'))));
         assert_eq!(units!(unescape_str, &text), want, "behind {before}");
-        let warned = text.repeat(150);
-        assert_eq!(errors(&warned, Mode::Str).len(), 300, "behind {before}");
+    }
+    for before in 0..2 {
+        let text = r"\q".repeat(before) + &"\\\n\n\u{a0}".repeat(150);
+        assert_eq!(
+            errors(&text, Mode::Str).len(),
+            before + 300,
+            "behind {before}"
+        );
     }
 }
 

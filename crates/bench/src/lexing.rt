@@ -19,15 +19,26 @@ impl TokenSum {
     }
 
     /// One token more. The order of the tokens counts.
+    ///
+    /// What it says is weighed by its place. A chain of products would take longer than the lexer does.
     #[inline(always)]
     pub(crate) fn and(self, token: Token) -> TokenSum {
+        self.and_number(number_of(token.kind), token.len)
+    }
+
+    /// One token more, of which the fields do not count.
+    #[inline(always)]
+    fn and_kind(self, token: Token) -> TokenSum {
+        self.and_number(with_fields(token.kind.number(), 0), token.len)
+    }
+
+    #[inline(always)]
+    fn and_number(self, number: u64, len: u32) -> TokenSum {
+        let said = number.wrapping_add((len as u64) << 32);
+        let place = self.count.wrapping_mul(2).wrapping_add(1);
         TokenSum {
             count: self.count.wrapping_add(1),
-            sum: self
-                .sum
-                .wrapping_mul(31)
-                .wrapping_add(number_of(token.kind))
-                .wrapping_add((token.len as u64) << 32),
+            sum: self.sum.wrapping_add(said.wrapping_mul(place)),
         }
     }
 }
@@ -83,6 +94,60 @@ pub(crate) fn time_filling(rt: &HostRuntime, text: &str, times: u32) -> Result<(
     println!(rt; "least time {least} ns")?;
     println!(rt; "least time with no look at the tokens {least_alone} ns")?;
     Ok(())
+}
+
+/// Lexes the text so many times, reads kinds and lengths alone, and prints what was found and two least times: that of
+/// one token after another, and that of many at once.
+pub(crate) fn time_kinds(rt: &HostRuntime, text: &str, times: u32) -> Result<()>
+    requires { Fits text.now }
+{
+    let mut tokens = TokenSum::new();
+    let mut least = u128::MAX;
+    let mut least_filled = u128::MAX;
+    for _ in 0..times {
+        let start = Instant::now(rt)?;
+        tokens = sum_kinds(text);
+        least = least.min(start.elapsed(rt)?.as_nanos());
+        let start = Instant::now(rt)?;
+        let filled = sum_filled_kinds(text);
+        least_filled = least_filled.min(start.elapsed(rt)?.as_nanos());
+        if filled.sum != tokens.sum {
+            bail!("two ways to read kinds give different sums");
+        }
+    }
+    println!(rt; "tokens {}, sum {}", tokens.count, tokens.sum)?;
+    println!(rt; "least time {least} ns")?;
+    println!(rt; "least time of many at once {least_filled} ns")?;
+    Ok(())
+}
+
+/// Lexes the text once, and reads kinds and lengths alone.
+#[inline(never)]
+fn sum_kinds(text: &str) -> TokenSum
+    requires { Fits text.now }
+{
+    let mut sum = TokenSum::new();
+    for token in tokenize(text, FrontmatterAllowed::No) {
+        sum = sum.and_kind(token);
+    }
+    sum
+}
+
+/// Lexes the text once, many tokens at a time, and reads kinds and lengths alone.
+#[inline(never)]
+fn sum_filled_kinds(text: &str) -> TokenSum
+    requires { Fits text.now }
+{
+    let mut sum = TokenSum::new();
+    let mut room = new_room();
+    let mut tokens = tokenize(text, FrontmatterAllowed::No);
+    'left: while !tokens.as_str().is_empty() {
+        let count = tokens.fill(&mut room);
+        for token in room.iter().take(count) {
+            sum = sum.and_kind(*token);
+        }
+    }
+    sum
 }
 
 /// How many tokens are written at once.

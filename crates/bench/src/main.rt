@@ -1,16 +1,17 @@
 //! Measures the lexer on a text from standard input: how long it takes to lex it, or to edit it.
 //!
-//! `bench lex TIMES` lexes the text so many times, and `bench bulk TIMES` lexes it many tokens at once. `bench edit PLACE
-//! TIMES` keeps it with its tokens and types and deletes so many letters, where PLACE is `middle`, `end` or `jumping`.
-//! `bench paste TIMES` puts the text into its own middle. `bench work PLACE TIMES` edits as `edit` does and counts: the steps that the stepper was asked for, the bytes of the tokens that
-//! it gave, and the tokens that moved. `bench check` does a little of each and asks no clock, so that what it prints is
-//! the same each time.
+//! `bench lex TIMES` lexes the text so many times, and `bench bulk TIMES` lexes it many tokens at once. `bench kinds TIMES`
+//! does both, and reads kinds and lengths alone. `bench edit PLACE TIMES` keeps the text with its tokens and types and
+//! deletes so many letters, where PLACE is `middle`, `end` or `jumping`. `bench paste TIMES` puts the text into its own
+//! middle. `bench work PLACE TIMES` edits as `edit` does and counts: the steps that the stepper was asked for, the bytes of
+//! the tokens that it gave, and the tokens that moved. `bench check` does a little of each and asks no clock, so that what
+//! it prints is the same each time.
 #![tactic(auto)]
 
 ghost use Rattle.rustc_lexer.specs.Classes.{Fits};
 
 use crate::edits::{Place, edit_letters, time_edits, time_pastes};
-use crate::lexing::{sum_filled, sum_tokens, time_filling, time_lexing};
+use crate::lexing::{sum_filled, sum_tokens, time_filling, time_kinds, time_lexing};
 use crate::work::print_work;
 use anyhow::{Context, Result, bail};
 use rustc_lexer::{LexedText, fits};
@@ -27,6 +28,7 @@ enum Task {
     Check,
     Lex { times: u32 },
     Bulk { times: u32 },
+    Kinds { times: u32 },
     Edit { place: Place, times: u32 },
     Paste { times: u32 },
     Work { place: Place, times: u32 },
@@ -45,6 +47,7 @@ fn main(rt: HostRuntime) -> Result<()> {
         Task::Check => check(&rt, text),
         Task::Lex { times } => time_lexing(&rt, text, times),
         Task::Bulk { times } => time_filling(&rt, text, times),
+        Task::Kinds { times } => time_kinds(&rt, text, times),
         Task::Edit { place, times } => time_edits(&rt, text, place, times),
         Task::Paste { times } => time_pastes(&rt, text, times),
         Task::Work { place, times } => print_work(&rt, text, place, times),
@@ -57,7 +60,7 @@ fn read_task(rt: &HostRuntime) -> Result<Task> {
     let _program = words.next();
     let command = words
         .next()
-        .context("give check, lex, bulk, edit, paste or work")?;
+        .context("give check, lex, bulk, kinds, edit, paste or work")?;
     match command.as_str() {
         "check" => Ok(Task::Check),
         "lex" => {
@@ -67,6 +70,10 @@ fn read_task(rt: &HostRuntime) -> Result<Task> {
         "bulk" => {
             let times = read_times(words.next())?;
             Ok(Task::Bulk { times })
+        }
+        "kinds" => {
+            let times = read_times(words.next())?;
+            Ok(Task::Kinds { times })
         }
         "edit" => {
             let place = read_place(words.next())?;
@@ -82,7 +89,7 @@ fn read_task(rt: &HostRuntime) -> Result<Task> {
             let times = read_times(words.next())?;
             Ok(Task::Work { place, times })
         }
-        _ => bail!("give check, lex, bulk, edit, paste or work"),
+        _ => bail!("give check, lex, bulk, kinds, edit, paste or work"),
     }
 }
 
