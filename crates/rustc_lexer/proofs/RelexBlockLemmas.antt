@@ -75,20 +75,21 @@ module _ {first : List ℕ → Token} (law : IsGrammar first) (before lengths in
   followed_early place le early_place = record {
     bound_is = stands.followed.bound_is;
     below = below_later law before lengths insert text change is at stands place le;
+    reached = λ far. absurd (omega arith);
     met_is = early (tokens_by first before) change.new_stop (added_by change) (removed_by change) place early_place;
     past_edit = λ e. absurd (true≢false (sym e));
     same_place = λ e. absurd (true≢false (sym e));
   }
 
-  step_to : (n : ℕ) → n < length block → (on : Relexing) → on ≡ past_some n → Stands first before change text on → (to : Meeting) → (place : ℕ) → place ≡ at.at + bound block (n + 1) → IsFollowed (tokens_by first before) change.new_stop (added_by change) (removed_by change) place to.at to.met
+  step_to : (n : ℕ) → n < length block → (on : Relexing) → on ≡ past_some n → Stands first before change text on → (to : Meeting) → (place : ℕ) → place ≡ at.at + bound block (n + 1) → IsFollowed (tokens_by first before) change.new_stop (added_by change) (removed_by change) place to.at to.met → (place < change.new_stop → to.at ≡ at.back)
       → Stands first before change text (record { front = at.front; lexed = at.lexed + (n + 1); back = to.at; at = place; met = to.met })
-  step_to n few on e so to place at_place followed =
+  step_to n few on e so to place at_place followed stays =
       let len = (step_len n few).1 in
       let token : Token = first (drop (on.at) text) in
       let same : drop on.at text ≡ drop (bound block n) here = ap (λ (r : Relexing). drop r.at text) e ∙ (ap (λ k. drop k text) (omega arith) ∙ sym (drop-drop (bound block n) at.at text)) in
       let far : on.at + token.len ≡ place = omega (arith, ap (λ (r : Relexing). r.at) e, ap (λ (xs : List ℕ). (first xs).len) same, len, at_place) in
       let out : on.met ≡ false = ap (λ (r : Relexing). r.met) e in
-      let next = stands_next law before lengths insert text change is on so token to out refl (subst (λ p. IsFollowed (tokens_by first before) change.new_stop (added_by change) (removed_by change) p to.at to.met) (sym far) followed) in
+      let next = stands_next law before lengths insert text change is on so token to out refl (subst (λ p. IsFollowed (tokens_by first before) change.new_stop (added_by change) (removed_by change) p to.at to.met) (sym far) followed) (λ less. stays (omega arith) ∙ sym (ap (λ (r : Relexing). r.back) e)) in
       let lexed : on.lexed + 1 ≡ at.lexed + (n + 1) = omega (arith, ap (λ (r : Relexing). r.lexed) e) in
       let front : on.front ≡ at.front = ap (λ (r : Relexing). r.front) e in
       let Now : Bound → ℕ → ℕ → Type 0 = λ f l p. Stands first before change text (record { front = f; lexed = l; back = to.at; at = p; met = to.met }) in
@@ -105,19 +106,19 @@ module _ {first : List ℕ → Token} (law : IsGrammar first) (before lengths in
       let ih : Stands first before change text (past_some n) = stands_some n (omega arith) (λ k l. begun k (omega arith)) in
       let one : suc n ≡ n + 1 = omega arith in
       let low : at.at + bound block (n + 1) < change.new_stop = begun (n + 1) (omega arith) in
-      let next = step_to n (omega arith) (past_some n) refl ih (record { at = at.back; met = false }) (at.at + bound block (n + 1)) refl (followed_early _ (omega arith) low) in
+      let next = step_to n (omega arith) (past_some n) refl ih (record { at = at.back; met = false }) (at.at + bound block (n + 1)) refl (followed_early _ (omega arith) low) (λ _. refl) in
       subst (λ k. Stands first before change text (past_some k)) (sym one) next
 
   -- where the room holds so many of them, relexing stands past the last
-  pub stands_filled : (room filled : List Token) (count bytes : ℕ) (to : Meeting) → IsFilledTo (λ (t : Token). t) (change.new_stop - at.at) block room filled count → bytes ≡ bound block count → 0 < count → IsFollowed (tokens_by first before) change.new_stop (added_by change) (removed_by change) (at.at + bytes) to.at to.met
+  pub stands_filled : (room filled : List Token) (count bytes : ℕ) (to : Meeting) → IsFilledTo (λ (t : Token). t) (change.new_stop - at.at) block room filled count → bytes ≡ bound block count → 0 < count → IsFollowed (tokens_by first before) change.new_stop (added_by change) (removed_by change) (at.at + bytes) to.at to.met → (at.at + bytes < change.new_stop → to.at ≡ at.back)
       → Stands first before change text (record { front = at.front; lexed = at.lexed + count; back = to.at; at = at.at + bytes; met = to.met }) × (drop (known at) (tokens_by first text) ≡ take count filled ++ drop (at.front.number + (at.lexed + count)) (tokens_by first text))
-  stands_filled room filled zero bytes to is_filled bytes_is some followed = absurd (omega arith)
-  stands_filled room filled (suc n) bytes to is_filled bytes_is some followed =
+  stands_filled room filled zero bytes to is_filled bytes_is some followed stays = absurd (omega arith)
+  stands_filled room filled (suc n) bytes to is_filled bytes_is some followed stays =
       let few : suc n ≤ length block = is_filled.few in
       let one : n + 1 ≡ suc n = omega arith in
       let so : Stands first before change text (past_some n) = stands_some n (omega arith) (λ k l. let b = is_filled.begun k (omega arith) in omega arith) in
       let place : at.at + bytes ≡ at.at + bound block (n + 1) = omega (arith, bytes_is, ap (bound block) one) in
-      let now = step_to n (omega arith) (past_some n) refl so to (at.at + bytes) place followed in
+      let now = step_to n (omega arith) (past_some n) refl so to (at.at + bytes) place followed stays in
       let front : take (suc n) filled ≡ take (suc n) block = (filled_to_front (change.new_stop - at.at) block room filled (suc n) is_filled).front in
       let split : block ≡ take (suc n) block ++ drop (suc n) block = sym (take-append-drop (suc n) block) in
       let number : known at + suc n ≡ at.front.number + (at.lexed + suc n) = omega arith in

@@ -113,8 +113,8 @@ module _ {first : List ℕ → Token} (law : IsGrammar first) (before lengths in
       let m = le-max_left damage.past kept.place in
       omega arith
 
-  pub stands_first : (kept : Bound) (to : Meeting) → kept.number ≡ kept_front before old change.start → IsBound old kept → (0 < kept.number → has_two before kept.place change.start ≡ true) → IsFollowed old damage.past damage.added damage.removed kept.place to.at to.met → Stands first before change text record { front = kept; lexed = 0; back = to.at; at = kept.place; met = to.met }
-  stands_first kept to number at two followed =
+  pub stands_first : (kept : Bound) (to : Meeting) → kept.number ≡ kept_front before old change.start → IsBound old kept → (0 < kept.number → has_two before kept.place change.start ≡ true) → IsFollowed old damage.past damage.added damage.removed kept.place to.at to.met → (kept.place < change.new_stop → to.at ≡ kept) → Stands first before change text record { front = kept; lexed = 0; back = to.at; at = kept.place; met = to.met }
+  stands_first kept to number at two followed stays =
       let r = ready kept at two in
       let none : kept.number + 0 ≡ kept.number = omega arith in
       record {
@@ -125,6 +125,7 @@ module _ {first : List ℕ → Token} (law : IsGrammar first) (before lengths in
         place = at.1 ∙ (bound-same kept.number old new r.kept_same ∙ ap (bound new) (sym none));
         not_past = omega (arith, meet_ge old new damage.past damage.added damage.removed kept.number);
         followed = followed;
+        not_begun = stays;
       }
 
   module _ (at : Relexing) (stands : Stands first before change text at) where
@@ -229,7 +230,7 @@ module _ {first : List ℕ → Token} (law : IsGrammar first) (before lengths in
         subst (λ (ts : List Token). IsMet first old text (change.start + length insert) (length insert) (change.old_stop - change.start) at.front.number ts at.back.number) split (met_by hit)
 
     -- one token more
-    module _ (token : Token) (to_next : Meeting) (out : at.met ≡ false) (token_is : token ≡ first (drop at.at text)) (followed : IsFollowed old damage.past damage.added damage.removed (at.at + token.len) to_next.at to_next.met) where
+    module _ (token : Token) (to_next : Meeting) (out : at.met ≡ false) (token_is : token ≡ first (drop at.at text)) (followed : IsFollowed old damage.past damage.added damage.removed (at.at + token.len) to_next.at to_next.met) (stays : at.at + token.len < change.new_stop → to_next.at ≡ at.back) where
       abbrev pub past_token : Relexing
       past_token = record { front = at.front; lexed = at.lexed + 1; back = to_next.at; at = at.at + token.len; met = to_next.met }
 
@@ -246,6 +247,7 @@ module _ {first : List ℕ → Token} (law : IsGrammar first) (before lengths in
             place = len ∙ (more.place_is ∙ ap (bound new) count);
             not_past = omega (arith, long, going_least first old text damage.past damage.added damage.removed at.front.number law made_text items at.at at.back.number at.back.place at.met going out (stands_inside out));
             followed = followed;
+            not_begun = λ early. stays early ∙ stands.not_begun (omega arith);
           }
 
       pub gives_next : drop (known at) new ≡ token ∷ drop (known past_token) new

@@ -1,5 +1,5 @@
 -- Lexing again what an edit changed, where only the lengths of the old tokens are at hand.
-use Rattle.std.specs.Prelude.{ℕ, ◌≡◌, ◌+◌, ◌-◌, ◌<◌, ◌≤◌, ◌^◌, ◌++◌, true, List, length, map, take, drop, max, IsCharBoundary, Option, Some, None, ◌∷◌, Bool, ◌||◌, nat_eq}
+use Rattle.std.specs.Prelude.{ℕ, ◌≡◌, ◌+◌, ◌-◌, ◌<◌, ◌≤◌, ◌^◌, ◌++◌, true, false, List, length, map, take, drop, max, IsCharBoundary, Option, Some, None, ◌∷◌, Bool, ◌||◌, nat_eq}
 use Rattle.std.specs.Str.{IsUtf8}
 use Rattle.rustc_lexer.specs.declared.token.Token.{Token}
 use Rattle.rustc_lexer.specs.declared.relex.front.Bound.{Bound}
@@ -18,10 +18,12 @@ abbrev pub HasLengths : List Token → List ℕ → Type 0
 HasLengths tokens lengths = lengths ≡ map (λ (t : Token). t.len) tokens
 
 -- a place of the new text was followed to a bound of the old tokens, before which none was met; and whether it meets it.
--- The edit ends at `past` in the new text, where `added` bytes stand for `removed`
+-- The edit ends at `past` in the new text, where `added` bytes stand for `removed`. From there on the bound is the first
+-- that is not before the place, moved back, or the last one
 pub record IsFollowed (old : List Token) (past added removed place : ℕ) (back : Bound) (met : Bool) : Type 0 where
   pub bound_is : IsBound old back
   pub below : (k : ℕ) → k < back.number → bound old k + added < max past place + removed
+  pub reached : past ≤ place → back.number < length old → place - added + removed ≤ back.place
   pub met_is : met ≡ meets_at old past added removed place
   pub past_edit : met ≡ true → past ≤ place
   pub same_place : met ≡ true → back.place ≡ place - added + removed
@@ -33,7 +35,8 @@ added_by change = change.new_stop - change.start
 abbrev pub removed_by : Change → ℕ
 removed_by change = change.old_stop - change.start
 
--- the change is one that may have made the text: what it put in is inside, between characters
+-- the change is one that may have made the text: its places are in order, the old one is below 2 ^ 32, and what it put in
+-- lies inside the text, between characters
 pub record IsChange (text : List ℕ) (change : Change) : Type 0 where
   pub start_le_old : change.start ≤ change.old_stop
   pub old_short : change.old_stop < 2 ^ 32
@@ -62,7 +65,8 @@ pub record MayGoOn (text : List ℕ) (count : ℕ) (at : Relexing) : Type 0 wher
 abbrev pub known : Relexing → ℕ
 known at = at.front.number + at.lexed
 
--- relexing stands at a bound of the new tokens, past the kept front and not past the meeting
+-- relexing stands at a bound of the new tokens, past the kept front and not past the meeting. Before the end of the edit
+-- no old token behind the kept front was followed
 pub record Stands (first : List ℕ → Token) (old : List ℕ) (change : Change) (text : List ℕ) (at : Relexing) : Type 0 where
   pub front_number : at.front.number ≡ kept_front old (tokens_by first old) change.start
   pub front_bound : IsBound (tokens_by first old) at.front
@@ -71,15 +75,18 @@ pub record Stands (first : List ℕ → Token) (old : List ℕ) (change : Change
   pub place : at.at ≡ bound (tokens_by first text) (known at)
   pub not_past : known at ≤ meet (tokens_by first old) (tokens_by first text) change.new_stop (added_by change) (removed_by change) at.front.number
   pub followed : IsFollowed (tokens_by first old) change.new_stop (added_by change) (removed_by change) at.at at.back at.met
+  pub not_begun : at.at < change.new_stop → at.back ≡ at.front
 
--- past the token at the place where relexing stands
-pub record IsStepTo (first : List ℕ → Token) (text : List ℕ) (at : Relexing) (token : Token) (at' : Relexing) : Type 0 where
+-- past the token at the place where relexing stands. Before the edit's end, at `past`, no old token is followed
+pub record IsStepTo (first : List ℕ → Token) (text : List ℕ) (past : ℕ) (at : Relexing) (token : Token) (at' : Relexing) : Type 0 where
   pub token_is : token ≡ first (drop at.at text)
   pub inside : at.at < length text
   pub not_empty : 0 < token.len
   pub front : at'.front ≡ at.front
   pub lexed : at'.lexed ≡ at.lexed + 1
   pub place : at'.at ≡ at.at + token.len
+  pub same_back : at'.at < past → at'.back ≡ at.back
+  pub not_met : at'.at < past → at'.met ≡ false
 
 -- the old tokens are met, or no text is left
 abbrev pub is_over : List ℕ → Relexing → Bool
@@ -87,9 +94,9 @@ is_over text at = at.met || nat_eq at.at (length text)
 
 -- what a call of `next` does: nothing, where relexing is over, or else one step of the stepper, whose token is the first of
 -- the text that is left there
-abbrev pub TakesStep : (List ℕ → Token) → List ℕ → ℕ → Relexing → Option Token → ℕ → Relexing → Type 0
-TakesStep first text count at None count' at' = (at' ≡ at) × (count' ≡ count) × (is_over text at ≡ true)
-TakesStep first text count at (Some token) count' at' = IsStepTo first text at token at' × (count' ≡ count + 1)
+abbrev pub TakesStep : (List ℕ → Token) → List ℕ → ℕ → ℕ → Relexing → Option Token → ℕ → Relexing → Type 0
+TakesStep first text past count at None count' at' = (at' ≡ at) × (count' ≡ count) × (is_over text at ≡ true)
+TakesStep first text past count at (Some token) count' at' = IsStepTo first text past at token at' × (count' ≡ count + 1)
 
 -- what it gives is the next of the tokens, and nothing only where the old ones are met
 abbrev pub GivesNext : List Token → Relexing → Option Token → Relexing → Type 0

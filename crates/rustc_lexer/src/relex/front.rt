@@ -181,6 +181,8 @@ pub(crate) fn follow<T: Measured>(
     ensures number { result.at.number ≤ length tokens.now }
     ensures ahead { from.number ≤ result.at.number }
     ensures small { result.at.place < 2 ^ 40 }
+    ensures stays { place < damage.past → result.at ≡ from }
+    ensures early { place < damage.past → result.met ≡ false }
     ensures followed { (ts : List Token) → HasLengths ts (map T.bytes tokens.now) → IsBound ts from
         → ((k : ℕ) → k < from.number
         → bound ts k + damage.added < max damage.past place + damage.removed)

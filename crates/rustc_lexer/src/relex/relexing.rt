@@ -27,7 +27,8 @@ pub struct Change {
 }
 
 impl Change {
-    /// Whether the change may have made the text.
+    /// Whether the change may have made the text: its places are in order, what it put in lies inside the text, between
+    /// characters, and its old place is below 2^32. Whether the old text had these places is not looked at.
     pub fn may_make(&self, text: &str) -> bool
         ensures { IsTrue result ↔ spec.IsChange text.now self.now }
     {
@@ -144,7 +145,7 @@ impl Relexing {
         ensures may_go_on { spec.MayGoOn text.now (length old.now) self.new }
         ensures grammar { S.grammar stepper.new ≡ S.grammar stepper.old }
         ensures number { S.number stepper.new ≡ S.number stepper.old }
-        ensures step { spec.TakesStep (S.grammar stepper.old) text.now
+        ensures step { spec.TakesStep (S.grammar stepper.old) text.now change.new_stop
             (S.count stepper.old) self.old result (S.count stepper.new) self.new }
         ensures stands { (before insert : List ℕ)
             → spec.IsMadeOf (S.grammar stepper.old) before (map T.bytes old.now) change insert text.now

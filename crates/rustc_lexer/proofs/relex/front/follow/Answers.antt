@@ -15,6 +15,7 @@ returns-clause-followed g c = λ ts are from before.
     record {
       bound_is = has.0;
       below = λ k less. let b = has.1 k less in omega arith;
+      reached = λ _ few. has.2 (omega (arith, many));
       met_is = ap (λ n. eqb n target) has.0.1 ∙ (sym (is_bound-decide ts at.number target has.0.0 has.1 reached) ∙
           ap (λ b. b && is_bound ts target) (sym (le-leb c.args.damage.past c.args.place (omega arith))));
       past_edit = λ _. omega arith;

@@ -10,4 +10,4 @@ returns-clause-stands g c = λ first before insert law is near.
     let k = c.kept_front-front.ensures.front before (tokens_by first before) (made_front law before _ insert _ c.args.change is) near in
     let to = c.follow-to.ensures.followed (tokens_by first before) is.lengths_are k.1 (rw c.damage.ensures (front_below law before _ insert _ c.args.change is c.kept_front-front.result k.1 k.2)) in
     let Followed : Damage → Type 0 = λ d. IsFollowed (tokens_by first before) d.past d.added d.removed c.kept_front-front.result.place c.follow-to.result.at c.follow-to.result.met in
-    stands_first law before _ insert _ c.args.change is c.kept_front-front.result c.follow-to.result k.0 k.1 k.2 (subst Followed c.damage.ensures to)
+    stands_first law before _ insert _ c.args.change is c.kept_front-front.result c.follow-to.result k.0 k.1 k.2 (subst Followed c.damage.ensures to) (λ early. c.follow-to.ensures.stays (rw c.damage.ensures early))

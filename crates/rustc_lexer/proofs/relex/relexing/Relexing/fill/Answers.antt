@@ -74,4 +74,4 @@ returns-clause-stands g c = λ before insert is_made stands.
     let left = c.range_from.ensures.value in
     let filled = subst (λ (xs : List ℕ). IsFilledTo (λ (t : Token). t) (c.args.change.new_stop - at.at) (tokens_by first xs) c.args.room.now c.fill-count.new.room c.fill-count.result.0) left c.fill-count.ensures.filled in
     let bytes_is = c.fill-count.ensures.bytes ∙ ap (λ (xs : List ℕ). bound (tokens_by first xs) c.fill-count.result.0) left in
-    stands_filled law before _ insert _ c.args.change is_made at stands c.requires.before c.args.room.now c.fill-count.new.room c.fill-count.result.0 bytes c.follow-to.result filled bytes_is s.some followed
+    stands_filled law before _ insert _ c.args.change is_made at stands c.requires.before c.args.room.now c.fill-count.new.room c.fill-count.result.0 bytes c.follow-to.result filled bytes_is s.some followed (λ early. c.follow-to.ensures.stays (rw c.damage.ensures early))

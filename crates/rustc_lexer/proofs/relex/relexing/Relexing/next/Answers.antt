@@ -1,4 +1,4 @@
-use Rattle.std.proofs.Common.{ap, sym, subst, ◌∙◌, arith, ◌+◌, length, length-drop}
+use Rattle.std.proofs.Common.{◌≡◌, ◌<◌, ap, sym, subst, ◌∙◌, arith, ◌+◌, ◌<◌, ◌≡◌, length, length-drop}
 use Rattle.rustc_lexer.specs.declared.relex.front.Damage.{Damage}
 use Rattle.rustc_lexer.specs.Tokens.{tokens_by}
 use Rattle.rustc_lexer.specs.Relexing.{IsFollowed}
@@ -43,7 +43,8 @@ returns-clause-stands g c = λ before insert is stands.
     let later = below_later law before _ insert _ c.args.change is at stands (at.at + c.step-token.result.len) (omega arith) in
     let to = c.follow-to.ensures.followed (tokens_by (g.S.Stepper.grammar c.args.stepper.now) before) is.lengths_are stands.followed.bound_is (rw c.damage.ensures later) in
     let Followed : Damage → Type 0 = λ d. IsFollowed (tokens_by (g.S.Stepper.grammar c.args.stepper.now) before) d.past d.added d.removed (at.at + c.step-token.result.len) c.follow-to.result.at c.follow-to.result.met in
-    let followed = subst Followed c.damage.ensures to in (
-      stands_next law before _ insert _ c.args.change is at stands c.step-token.result c.follow-to.result out token followed,
-      gives_next law before _ insert _ c.args.change is at stands c.step-token.result c.follow-to.result out token followed,
+    let followed = subst Followed c.damage.ensures to in
+    let stays : at.at + c.step-token.result.len < c.args.change.new_stop → c.follow-to.result.at ≡ at.back = λ early. c.follow-to.ensures.stays (rw c.damage.ensures early) in (
+      stands_next law before _ insert _ c.args.change is at stands c.step-token.result c.follow-to.result out token followed stays,
+      gives_next law before _ insert _ c.args.change is at stands c.step-token.result c.follow-to.result out token followed stays,
     )
