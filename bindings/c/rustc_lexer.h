@@ -9,7 +9,8 @@
  *   - each pointer that is not const points to memory that the caller may write to, that is aligned for its type
  *     and that nothing else uses during the call: `room` to `room_len` tokens or units, the others to one value. What
  *     is there before the call does not matter, but for `place` and `relexing`;
- *   - `old_len` tokens can be read at `old`, and one value at `edit`, and nothing writes to them during the call.
+ *   - `old_len` tokens can be read at `old`, and one value at `edit`. Both pointers are aligned for their types, and
+ *     nothing writes to what they point to during the call;
  *   - what the calls with `_unchecked` say of their texts.
  * All else is tested. Each call answers a status; with one that is not 0 it has written zeros, or nothing where that
  * is said.
@@ -217,11 +218,12 @@ struct rustc_lexer_edit {
 /* How far an edited text is lexed again. All zeros is a good beginning. */
 struct rustc_lexer_relexing {
     size_t kept_front;  /* how many old tokens stay at the front; at stage 0, see rustc_lexer_relex */
-    size_t front_place; /* where they end */
+    size_t front_place; /* where they end, in bytes from the start of the text */
     size_t lexed;       /* how many tokens all calls together have written */
     size_t kept_back;   /* at stage 2: how many old tokens stay at the back */
-    size_t back_place;  /* at stage 2: where those begin in the old text */
-    size_t at;          /* where what was written ends in the present text; at stage 2 those at the back begin there */
+    size_t back_place;  /* at stage 2: where those begin, in bytes from the start of the old text */
+    size_t at;          /* where what was written ends, in bytes from the start of the present text; at stage 2 those at
+                           the back begin there */
     size_t stage;       /* 0: to begin; 1: there are more tokens to write; 2: there are none */
 };
 
@@ -292,24 +294,25 @@ uint32_t rustc_lexer_check(const uint8_t *text, size_t len);
 
 /* Writes the tokens from a place on, as many as there is room for, and their number into `count`. The place moves
  * behind them, and the next call goes on there. The tokens of all calls together are those that one call with room
- * enough gives. `count` is less than `room_len` only at the end of the text. With another status than 0 the place
- * and the room stay as they were, and `count` is 0.
+ * enough gives. `count` is less than `room_len` only at the end of the text. With `room_len` 0 no step is made:
+ * `count` is 0, and `at` stays. With another status than 0 the place and the room stay as they were, and `count` is 0.
  *
  * Each call tests the whole text. To lex a long text in many batches, call rustc_lexer_check once and then
  * rustc_lexer_tokens_unchecked. */
 uint32_t rustc_lexer_tokens(const uint8_t *text, size_t len, struct rustc_lexer_place *place,
                             struct rustc_lexer_token *room, size_t room_len, size_t *count);
 
-/* Does what rustc_lexer_tokens does. The caller promises that the text is UTF-8: rustc_lexer_check has answered 0 for
- * it, and it was not changed since. On another text this may do anything. The length and the place are tested.
+/* Does what rustc_lexer_tokens does. The caller promises that the text is UTF-8, and this is not tested: on another
+ * text the call may do anything. rustc_lexer_check tests it. The length and the place are tested here too.
  *
- * Each other call with `_unchecked` does what the one without does, and asks for this promise. It costs what it reads,
- * whatever the length of the text. */
+ * Each other call with `_unchecked` does what the one without does. It asks for the same promise, and does not test it.
+ * It costs what it reads, whatever the length of the text. */
 uint32_t rustc_lexer_tokens_unchecked(const uint8_t *text, size_t len, struct rustc_lexer_place *place,
                                       struct rustc_lexer_token *room, size_t room_len, size_t *count);
 
 /* The first token of a text, for a caller who needs no other. All its bytes are 0 where the text is empty or has more
- * than 4294967295 bytes. `frontmatter_allowed` is as in a place. The caller promises that the text is UTF-8. */
+ * than 4294967295 bytes. `frontmatter_allowed` is as in a place. The caller promises that the text is UTF-8, which is
+ * not tested. */
 struct rustc_lexer_token rustc_lexer_first_token_unchecked(const uint8_t *text, size_t len,
                                                            uint32_t frontmatter_allowed);
 
@@ -320,7 +323,8 @@ struct rustc_lexer_token rustc_lexer_first_token_unchecked(const uint8_t *text, 
  *
  * Set `stage` to 0 before the first call for an edit. While it is 1 the room was too small: take the tokens from it
  * and call again, with nothing else changed, as often as it takes. It is 2 when all are written. `count` is how many
- * this call wrote; it is `room_len` at stage 1.
+ * this call wrote; it is `room_len` at stage 1. With `room_len` 0 no step is made, so such calls alone need not come to
+ * stage 2.
  *
  * At stage 0 the search for the kept front begins at token `kept_front`, which begins at `front_place`. Any bound of
  * the old tokens will do, and a near one makes the call fast: 0 and 0, or what the call for the edit before has left
@@ -345,19 +349,20 @@ uint32_t rustc_lexer_relex(const uint8_t *text, size_t len, const struct rustc_l
                            struct rustc_lexer_relexing *relexing, struct rustc_lexer_token *room, size_t room_len,
                            size_t *count);
 
-/* A text that was UTF-8 is so after an edit between characters, where what is put in is. */
+/* Does what rustc_lexer_relex does. The caller promises that the text is UTF-8, which is not tested. A text that was
+ * UTF-8 is so after an edit between characters, where what is put in is. */
 uint32_t rustc_lexer_relex_unchecked(const uint8_t *text, size_t len, const struct rustc_lexer_token *old,
                                      size_t old_len, const struct rustc_lexer_edit *edit, uint32_t edition,
                                      struct rustc_lexer_relexing *relexing, struct rustc_lexer_token *room,
                                      size_t room_len, size_t *count);
 
-/* Writes the length of the shebang line at the front of the text, without the end of the line, or 0 where there is
- * none. A shebang line has at least 2 bytes. */
+/* Writes the length in bytes of the shebang line at the front of the text, without the end of the line, or 0 where
+ * there is none. A shebang line has at least 2 bytes. */
 uint32_t rustc_lexer_strip_shebang(const uint8_t *text, size_t len, size_t *line_len);
 uint32_t rustc_lexer_strip_shebang_unchecked(const uint8_t *text, size_t len, size_t *line_len);
 
-/* Writes the end of the last token that at least two characters follow, or 0, with no frontmatter allowed. However
- * the text goes on, its tokens up to there stay. */
+/* Writes the end of the last token that at least two characters follow, in bytes from the start of the text, or 0, with
+ * no frontmatter allowed. However the text goes on, its tokens up to there stay. */
 uint32_t rustc_lexer_settled(const uint8_t *text, size_t len, size_t *end);
 
 /* Checks the raw string that the text begins with, and writes why it is refused. `prefix_len` is the number of
@@ -367,7 +372,11 @@ uint32_t rustc_lexer_validate_raw_str(const uint8_t *text, size_t len, uint32_t 
 uint32_t rustc_lexer_validate_raw_str_unchecked(const uint8_t *text, size_t len, uint32_t prefix_len,
                                                 struct rustc_lexer_raw_str_error *error);
 
-/* Whether the status of rustc_lexer_validate_raw_str is not RUSTC_LEXER_NOT_RAW for the text, of any length. */
+/* Whether character number `prefix_len` of the text, counted from 1, is an r. The text may have any length. The caller
+ * promises that it is UTF-8, which is not tested.
+ *
+ * For a text of at most 4294967295 bytes this is false exactly where rustc_lexer_validate_raw_str has the status
+ * RUSTC_LEXER_NOT_RAW. For a longer one that has the status RUSTC_LEXER_TOO_LONG, whatever this call answers. */
 bool rustc_lexer_starts_raw_unchecked(const uint8_t *text, size_t len, uint32_t prefix_len);
 
 /* Writes the guarded string that the text begins with: hashes, a string, as many hashes at most, a suffix. */
@@ -377,7 +386,7 @@ uint32_t rustc_lexer_guarded_str_unchecked(const uint8_t *text, size_t len,
 
 /* Writes what a literal stands for: the units of the text that stands between its quotes, in order, as many as there
  * is room for, and their number into `count`. The first `passed` units are passed over. `mode` is the kind of the
- * literal, from RUSTC_LEXER_CHAR to RUSTC_LEXER_RAW_C_STR, as its token has it in `first`.
+ * literal, from RUSTC_LEXER_CHAR to RUSTC_LEXER_RAW_C_STR, as its token has it in `literal_kind`.
  *
  * Between double quotes the places follow each other. A backslash at a line's end has no unit, with the white space
  * that it skips. But each of the two warnings may tell of it, at a place that begins at the backslash. Between single
@@ -391,9 +400,9 @@ uint32_t rustc_lexer_unescape_unchecked(const uint8_t *text, size_t len, uint32_
                                         struct rustc_lexer_unit *room, size_t room_len, size_t *count);
 
 /* Writes what is wrong in a literal, errors and warnings in order, and nothing else: as many as there is room for, past
- * the first `passed`. It takes what rustc_lexer_unescape takes, and searches past what is not wrong, so it is much
- * faster. Between single quotes one thing is wrong at most, and its place reaches from 0 past the character that shows
- * it. */
+ * the first `passed`, and their number into `count`. It takes what rustc_lexer_unescape takes, and searches past what
+ * is not wrong, so it is much faster. Between single quotes one thing is wrong at most, and its place reaches from 0
+ * past the character that shows it. With another status than 0 the room stays as it was, and `count` is 0. */
 uint32_t rustc_lexer_literal_errors(const uint8_t *text, size_t len, uint32_t mode, size_t passed,
                                     struct rustc_lexer_unit *room, size_t room_len, size_t *count);
 uint32_t rustc_lexer_literal_errors_unchecked(const uint8_t *text, size_t len, uint32_t mode, size_t passed,
@@ -402,7 +411,8 @@ uint32_t rustc_lexer_literal_errors_unchecked(const uint8_t *text, size_t len, u
 /* Writes 1 where the text is an identifier, else 0. */
 uint32_t rustc_lexer_is_ident(const uint8_t *text, size_t len, uint32_t *is);
 
-/* Whether the text is an identifier, of any length. */
+/* Whether the text is an identifier. It may have any length. The caller promises that it is UTF-8, which is not
+ * tested. */
 bool rustc_lexer_is_ident_unchecked(const uint8_t *text, size_t len);
 
 /* Classes of characters. False of a number that is no character. */
