@@ -206,6 +206,7 @@ fills written s t text is e pending none room filled count bytes filling at afte
 
 pub record FillsIn {X : Type 0} (written : Token → X) (s t : State) (room filled : List X) (count : ℕ) : Type 0 where
   pub holds : IsFilled written (tokens_left s) room filled count
+  pub state_is : t ≡ state s.pending (drop (bound (tokens_left s) count) s.rest) s.mode
   pub left : tokens_left t ≡ drop count (tokens_left s)
   pub rest : t.rest ≡ drop (bound (tokens_left s) count) s.rest
   pub progress : 0 < length room → 0 < length s.rest → length t.rest < length s.rest
@@ -218,6 +219,7 @@ fills_in written edition text left is room filled count bytes filling at cut =
     let rest : left ≡ drop (bound all count) text = cut ∙ ap (λ n. drop n text) at in
     record {
       holds = filling;
+      state_is = ap (λ xs. state 0 xs (part edition)) rest;
       left = ap (tokens_of (part edition)) rest ∙ restarts edition text is count few;
       rest = rest;
       progress = λ places some. shorter_left text left all (partitions text (part edition) is) (length room) count filling.as_many rest places some;

@@ -13,6 +13,12 @@ impl<'a> EditionTokens<'a> {
     /// They are the tokens that so many calls of `next` give, and take less time. `Tokens::fill` has an example.
     pub fn fill<R: Record>(&mut self, room: &mut [R]) -> usize
         ensures filled { IsFilled R.written (tokens_left self.old) room.old room.new result }
+        ensures state { self.new
+            ≡ record {
+              pending = self.old.pending;
+              rest = drop (bound (tokens_left self.old) result) self.old.rest;
+              mode = self.old.mode;
+            } }
         ensures left { tokens_left self.new ≡ drop result (tokens_left self.old) }
         ensures rest { self.new.rest
             ≡ drop (bound (tokens_left self.old) result) self.old.rest }
