@@ -68,7 +68,9 @@ impl<'a> Iterator for Pieces<'a> {
 impl<S: Stepper> LexedText<S> {
     /// The pieces of the text, one for each token, in order.
     pub fn pieces(&self) -> Pieces<'_>
-        ensures { pieces_left result ≡ pieces_of self.now.text self.now.tokens }
+        ensures state { result
+            ≡ record { text = self.now.text; start = 0; tokens = self.now.tokens } }
+        ensures pieces { pieces_left result ≡ pieces_of self.now.text self.now.tokens }
     {
         Pieces {
             text: self.text(),
