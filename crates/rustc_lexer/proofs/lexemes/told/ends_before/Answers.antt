@@ -1,4 +1,4 @@
-use Rattle.std.proofs.Common.{◌≡◌, ◌-◌, ◌^◌, ℕ, bit_and, true, sym, subst, arith}
+use Rattle.std.proofs.Common.{◌≡◌, ◌-◌, bit_and, true, sym, subst, arith}
 use Rattle.std.proofs.lemmas.Nat.{one_shl}
 use Rattle.rustc_lexer.specs.means.Ends.{bit, IsEnds}
 use Rattle.rustc_lexer.proofs.BitLemmas.{within}

@@ -1,5 +1,4 @@
-use Rattle.std.proofs.Common.{◌≡◌, ◌+◌, ◌<◌, ◌++◌, List, ℕ, length, map, drop, take, sym, ap, ◌∙◌, subst, arith, append_assoc, length-append, length-take-le}
-use Rattle.rustc_lexer.specs.declared.relex.relexing.Relexing.{Relexing}
+use Rattle.std.proofs.Common.{◌≡◌, ◌+◌, ◌++◌, List, ℕ, length, map, drop, take, sym, ap, ◌∙◌, subst, arith, append_assoc, length-append, length-take-le}
 use Rattle.rustc_lexer.specs.declared.token.Token.{Token}
 use Rattle.rustc_lexer.specs.Tokens.{tokens_by}
 use Rattle.rustc_lexer.specs.Relexing.{IsMadeOf, Stands, known}
