@@ -113,7 +113,10 @@ fn raw_str(text: &str, prefix_len: u32, error: &mut CRawStrError) -> u32
     OK
 }
 
-/// Whether `rustc_lexer_validate_raw_str` takes the text, which is UTF-8, with the prefix: its status is then not 4.
+/// Whether character number `prefix_len` of the text, counted from 1, is an `r`. The text is UTF-8, of any length.
+///
+/// Of a text of at most `u32::MAX` bytes this is false exactly where `rustc_lexer_validate_raw_str` answers 4. Of a
+/// longer one that answers 2, whatever this is.
 #[unsafe(no_mangle)]
 pub extern "C" fn rustc_lexer_starts_raw_unchecked(text: &[u8], prefix_len: u32) -> bool
     requires utf8 { IsUtf8 text.now }
