@@ -17,7 +17,7 @@ use Rattle.rustc_lexer_c.specs.declared.relex.CEdit.{CEdit}
 use Rattle.rustc_lexer_c.specs.declared.relex.CRelexing.{CRelexing}
 use Rattle.rustc_lexer_c.specs.declared.token.CToken.{CToken}
 use Rattle.rustc_lexer_c.specs.Numbers.{token_numbers}
-use Rattle.rustc_lexer_c.specs.Relex.{IsPassed, IsRelexBatch, change_of, lexed_before, numbers_of, relexing_of, written}
+use Rattle.rustc_lexer_c.specs.Relex.{IsPassed, IsRelexBatch, change_of, front_of, lexed_before, numbers_of, relexing_of, written}
 
 edition_or : Option Edition → Edition
 edition_or (Some edition) = edition
@@ -91,14 +91,16 @@ module _ (edition : Edition) (text : List ℕ) (old : List CToken) (change : CEd
       by_test false e = ap (λ m. m || eqb at.at (length text)) e ∙ over_met (edition_grammar edition) before lens insert text (change_of change) is at stands e
 
   pub batch_is : count ≤ length room → drop count filled ≡ drop count room → at.lexed ≡ begin.lexed + count → at.front ≡ begin.front → MayGoOn text (length old) at → (is_over text at ≡ false → count ≡ length room) → begin.lexed ≡ lexed_before c
+      → (c.stage ≢ 0 → begin.front ≡ front_of c)
       → ((first : List ℕ → Token) (before insert : List ℕ) → IsGrammar first → IsMadeOf first before lens (change_of change) insert text → IsPassed first before (change_of change) text (length old) c → Stands first before (change_of change) text begin)
       → ((before insert : List ℕ) → IsMadeOf first before lens (change_of change) insert text → Stands first before (change_of change) text begin → Stands first before (change_of change) text at × (filled ≡ map token_numbers (take count (drop (known begin) (tokens_of (part edition) text))) ++ drop count room))
       → IsRelexBatch edition text old change c room (numbers_of text (length old) at) filled count
-  batch_is within rest lexed front may goes_on before_lexed begun tokens = record {
+  batch_is within rest lexed front may goes_on before_lexed begun_front begun tokens = record {
     within = within;
     rest = rest;
     lexed = omega arith;
     goes_on = λ not. let on = stage_goes_on (is_over text at) not in (on.0, goes_on on.1);
+    front = λ later. front ∙ begun_front later;
     may_relex = λ _.
         let few = may.number in
         let back : length old - (length old - at.back.number) ≡ at.back.number = omega arith in (

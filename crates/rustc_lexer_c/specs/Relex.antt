@@ -70,6 +70,7 @@ pub record IsRelexBatch (edition : Edition) (text : List ℕ) (old : List CToken
   pub rest : drop count filled ≡ drop count room
   pub lexed : c'.lexed ≡ lexed_before c + count
   pub goes_on : c'.stage ≢ 2 → (c'.stage ≡ 1) × (count ≡ length room)
+  pub front : c.stage ≢ 0 → front_of c' ≡ front_of c
   pub may_relex : MayRelex text (length old) c'
   pub relexed : (before insert : List ℕ) → IsMadeOf (first_token_in edition) before (map (λ (t : CToken). t.len) old) (change_of edit) insert text → IsPassed (first_token_in edition) before (change_of edit) text (length old) c
       → IsRelexed (first_token_in edition) before edit insert text old c room c' filled count

@@ -178,6 +178,7 @@ fn standing(text: &str, old: &[CToken], change: Change, relexing: &CRelexing) ->
     ensures none { result ≡ None ↔ ¬ (spec.MayRelex text.now (length old.now) relexing.now) }
     ensures some { IfSome result (λ at. MayGoOn text.now (length old.now) at
         × (at.lexed ≡ spec.lexed_before relexing.now)
+        × (relexing.now.stage ≢ 0 → at.front ≡ spec.front_of relexing.now)
         × ((first : List ℕ → Token) (before insert : List ℕ) → IsGrammar first
         → IsMadeOf first before (map (λ (t : CToken). t.len) old.now) change insert text.now
         → spec.IsPassed first before change text.now (length old.now) relexing.now
