@@ -62,8 +62,11 @@ impl Edition {
 
 // `ALL` has each of the four, oldest first.
 const _: () = prove!(Edition::ALL[0] as u8 == Edition::E2015 as u8);
+
 const _: () = prove!(Edition::ALL[1] as u8 == Edition::E2018 as u8);
+
 const _: () = prove!(Edition::ALL[2] as u8 == Edition::E2021 as u8);
+
 const _: () = prove!(Edition::ALL[3] as u8 == Edition::E2024 as u8);
 
 /// Reads the year that names an edition, such as `2021`.

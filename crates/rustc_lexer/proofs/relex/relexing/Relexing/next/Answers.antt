@@ -1,4 +1,4 @@
-use Rattle.std.proofs.Common.{◌≡◌, ◌<◌, ap, sym, subst, ◌∙◌, arith, ◌+◌, ◌<◌, ◌≡◌, length, length-drop}
+use Rattle.std.proofs.Common.{ap, sym, subst, ◌≡◌, ◌∙◌, arith, ◌+◌, ◌<◌, length, length-drop}
 use Rattle.rustc_lexer.specs.declared.relex.front.Damage.{Damage}
 use Rattle.rustc_lexer.specs.Tokens.{tokens_by}
 use Rattle.rustc_lexer.specs.Relexing.{IsFollowed}
