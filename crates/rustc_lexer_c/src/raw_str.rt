@@ -3,6 +3,7 @@ ghost use Rattle.std.specs.Prelude.{◌≡◌, ◌≢◌, ◌↔◌, IsTrue, Non
 ghost use Rattle.std.specs.Str.{IsUtf8};
 ghost use Rattle.rustc_lexer.specs.Classes.{Fits};
 ghost use Rattle.rustc_lexer.specs.declared.edition.Edition.TheVariants.{E2024};
+ghost use Rattle.rustc_lexer.specs.LanguageHolds.{IsTheRawAnswer};
 ghost use Rattle.rustc_lexer.specs.LanguageText.{part};
 ghost use Rattle.rustc_lexer.specs.means.Guarded.{guarded};
 ghost use Rattle.rustc_lexer.specs.means.Raw.{StartsRaw, raw_check};
@@ -65,6 +66,7 @@ pub extern "C" fn rustc_lexer_validate_raw_str(
 ) -> u32
     ensures status { IsRawStatus text.now prefix_len result }
     ensures error { result ≡ 0 → error.new ≡ spec.answer_numbers (raw_check text.now prefix_len) }
+    ensures language { result ≡ 0 → IsTheRawAnswer text.now prefix_len (raw_check text.now prefix_len) }
     ensures refused { result ≢ 0 → error.new ≡ spec.no_error }
 {
     match text_of(text) {
@@ -87,6 +89,7 @@ pub extern "C" fn rustc_lexer_validate_raw_str_unchecked(
     requires utf8 { IsUtf8 text.now }
     ensures status { IsRawStatus text.now prefix_len result }
     ensures error { result ≡ 0 → error.new ≡ spec.answer_numbers (raw_check text.now prefix_len) }
+    ensures language { result ≡ 0 → IsTheRawAnswer text.now prefix_len (raw_check text.now prefix_len) }
     ensures refused { result ≢ 0 → error.new ≡ spec.no_error }
 {
     match utf8_text_of(text) {
@@ -103,6 +106,7 @@ fn raw_str(text: &str, prefix_len: u32, error: &mut CRawStrError) -> u32
     requires fits { Fits text.now }
     ensures status { IsRawStatus text.now prefix_len result }
     ensures error { result ≡ 0 → error.new ≡ spec.answer_numbers (raw_check text.now prefix_len) }
+    ensures language { result ≡ 0 → IsTheRawAnswer text.now prefix_len (raw_check text.now prefix_len) }
     ensures refused { result ≢ 0 → error.new ≡ spec.no_error }
 {
     if !starts_raw(text, prefix_len) {
