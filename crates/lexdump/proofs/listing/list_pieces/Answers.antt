@@ -5,7 +5,7 @@ use Rattle.lexdump.proofs.PieceLemmas.{pieces_start, pieces_step, pieces_front, 
 use Rattle.lexdump.proofs.listing.list_pieces.Goals as goal
 
 pub loop-piece-init : goal.loop-piece-init
-loop-piece-init g c = (c.requires.writes, pieces_start _ _ _ _ _ (ap (λ (s : Left). pieces_left s) c.into_iter-piece-iterator.ensures.into_iter_gives ∙ c.pieces-piece-items.ensures))
+loop-piece-init g c = (c.requires.writes, pieces_start _ _ _ _ _ (ap (λ (s : Left). pieces_left s) c.into_iter-piece-iterator.ensures.into_iter_gives ∙ c.pieces-piece-items.ensures.pieces))
 
 pub loop-piece-preserved : goal.loop-piece-preserved
 loop-piece-preserved g c = (c.in_ok-push_line.ensures.failed, pieces_step _ _ _ _ _ _ _ _ (placed c.in-Some.piece) c.loop-piece.invariant.1 c.in-Some.ensures.steps.first _ c.in_ok-push_line.ensures.pushed)
