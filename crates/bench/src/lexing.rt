@@ -138,16 +138,7 @@ fn sum_kinds(text: &str) -> TokenSum
 fn sum_filled_kinds(text: &str) -> TokenSum
     requires { Fits text.now }
 {
-    let mut sum = TokenSum::new();
-    let mut room = new_room();
-    let mut tokens = tokenize(text, FrontmatterAllowed::No);
-    'left: while !tokens.as_str().is_empty() {
-        let count = tokens.fill(&mut room);
-        for token in room.iter().take(count) {
-            sum = sum.and_kind(*token);
-        }
-    }
-    sum
+    sum_blocks(text, false)
 }
 
 /// How many tokens are written at once.
@@ -166,13 +157,25 @@ fn new_room() -> [Token; ROOM] {
 pub(crate) fn sum_filled(text: &str) -> TokenSum
     requires { Fits text.now }
 {
+    sum_blocks(text, true)
+}
+
+/// Lexes the text once, many tokens at a time. The fields of a token count where it is asked for.
+#[inline(always)]
+fn sum_blocks(text: &str, reads_fields: bool) -> TokenSum
+    requires { Fits text.now }
+{
     let mut sum = TokenSum::new();
     let mut room = new_room();
     let mut tokens = tokenize(text, FrontmatterAllowed::No);
     'left: while !tokens.as_str().is_empty() {
         let count = tokens.fill(&mut room);
         for token in room.iter().take(count) {
-            sum = sum.and(*token);
+            sum = if reads_fields {
+                sum.and(*token)
+            } else {
+                sum.and_kind(*token)
+            };
         }
     }
     sum

@@ -1,5 +1,5 @@
 use Rattle.std.proofs.Common.{length}
-use Rattle.bench.proofs.lexing.sum_filled.Given as goal
+use Rattle.bench.proofs.lexing.sum_blocks.Given as goal
 
 abbrev pub decreases-left : goal.decreases-left
 decreases-left l = length l.tokens.rest
