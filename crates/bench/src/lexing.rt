@@ -196,6 +196,7 @@ fn count_filled(text: &str) -> u64
 }
 
 /// A number for each kind with its fields.
+#[inline(always)]
 fn number_of(kind: TokenKind) -> u64 {
     let fields = match kind {
         TokenKind::LineComment { doc_style } => style_number(doc_style),
