@@ -164,6 +164,11 @@ impl Meaning for AsMixedUnit {
     fn of(element: Element) -> Result<MixedUnit, EscapeError> {
         element.to_mixed_unit()
     }
+
+    #[inline(always)]
+    fn of_fine(byte: u8) -> Result<MixedUnit, EscapeError> {
+        Ok(MixedUnit::Char(NonZeroChar::of_nonzero(byte as char)))
+    }
 }
 
 /// What raw C strings stand for: characters that are not U+0000.
@@ -179,6 +184,11 @@ impl Meaning for AsRawUnit {
     #[inline(always)]
     fn of(element: Element) -> Result<NonZeroChar, EscapeError> {
         element.to_raw_unit()
+    }
+
+    #[inline(always)]
+    fn of_fine(byte: u8) -> Result<NonZeroChar, EscapeError> {
+        Ok(NonZeroChar::of_nonzero(byte as char))
     }
 }
 

@@ -42,6 +42,15 @@ impl NonZeroChar {
     {
         self.value
     }
+
+    /// A character that is known not to be U+0000.
+    #[inline(always)]
+    pub(crate) fn of_nonzero(value: char) -> NonZeroChar
+        requires nonzero { 0 < value }
+        ensures { result ≡ value }
+    {
+        NonZeroChar { value }
+    }
 }
 
 /// A byte that is not 0.
@@ -111,9 +120,7 @@ impl From<NonZeroU8> for MixedUnit {
 
     fn from(byte: NonZeroU8) -> MixedUnit {
         if byte.get() < 128 {
-            MixedUnit::Char(NonZeroChar {
-                value: byte.get() as char,
-            })
+            MixedUnit::Char(NonZeroChar::of_nonzero(byte.get() as char))
         } else {
             MixedUnit::HighByte(byte)
         }
