@@ -20,7 +20,8 @@ pub record IsFront (tokens : List Token) (filled : List Token) (count : ℕ) : T
   pub within : count ≤ length filled
   pub front : take count filled ≡ take count tokens
 
-front_of : (tokens room filled : List Token) (count : ℕ) → count ≤ length tokens → filled ≡ map (λ (t : Token). t) (take count tokens) ++ drop count room → IsFront tokens filled count
+-- the front of a room that holds so many tokens, as they are
+pub front_of : (tokens room filled : List Token) (count : ℕ) → count ≤ length tokens → filled ≡ map (λ (t : Token). t) (take count tokens) ++ drop count room → IsFront tokens filled count
 front_of tokens room filled count few is =
     let short : length (take count tokens) ≡ count = length-take-le count tokens few in
     let whole : filled ≡ take count tokens ++ drop count room = is ∙ ap (λ ts. ts ++ drop count room) (map-id (take count tokens)) in
@@ -33,9 +34,6 @@ front_of tokens room filled count few is =
 
 pub filled_front : (tokens room filled : List Token) (count : ℕ) → IsFilled (λ (t : Token). t) tokens room filled count → IsFront tokens filled count
 filled_front tokens room filled count is = front_of tokens room filled count (omega (arith, is.as_many, min-le_right (length room) (length tokens))) is.tokens
-
-pub filled_to_front : (end : ℕ) (tokens room filled : List Token) (count : ℕ) → IsFilledTo (λ (t : Token). t) end tokens room filled count → IsFront tokens filled count
-filled_to_front end tokens room filled count is = front_of tokens room filled count is.few is.tokens
 
 module _ {first : List ℕ → Token} (law : IsGrammar first) where
   -- a room that is not empty is filled with some bytes of a text that is not empty

@@ -1,7 +1,7 @@
 -- A room that is filled from the front with the tokens of a text.
-use Rattle.std.proofs.Common.{All, ◌≡◌, ℕ, zero, suc, ◌+◌, ◌<◌, ◌≤◌, List, [], ◌∷◌, ◌++◌, length, map, take, drop, min, false, ◌==◌, inl, inr, refl, sym, ap, subst, ◌∙◌, arith, slice_set, length-drop}
+use Rattle.std.proofs.Common.{All, ◌≡◌, ℕ, zero, suc, ◌+◌, ◌<◌, ◌≤◌, List, [], ◌∷◌, ◌++◌, length, map, take, drop, min, false, ◌==◌, inl, inr, refl, sym, ap, subst, ◌∙◌, arith, slice_set, length-append, length-drop, length-take-le}
 use Rattle.std.proofs.lemmas.Bool.{cases_lt, ne_eqb}
-use Rattle.std.proofs.lemmas.List.{take-append-drop, take_more_set, drop-set-lt, drop-drop, drop_all, length-set, map-append}
+use Rattle.std.proofs.lemmas.List.{take-append-drop, take_at, take_more_set, drop-set-lt, drop-drop, drop_all, drop_at, length-map, length-set, map-append}
 use Rattle.std.proofs.lemmas.List.Elements.{All-head, All-tail}
 use Rattle.std.proofs.lemmas.Str.{IsCharBoundary-from_drop}
 use Rattle.std.proofs.Math.Nat.{min-eq_left, min-eq_right, min-le_right}
@@ -47,17 +47,31 @@ module _ {X : Type 0} (written : Token → X) (tokens left : List Token) (room f
         long = length-set filled count x ∙ is.long;
       }
 
+pub whole_room : {X : Type 0} (written : Token → X) (tokens : List Token) (room filled : List X) (count : ℕ) → IsWritten written tokens room filled count → filled ≡ map written (take count tokens) ++ drop count room
+whole_room written tokens room filled count is = sym (take-append-drop count filled) ∙ (ap (λ l. l ++ drop count filled) is.front ∙ ap (λ l. map written (take count tokens) ++ l) is.back)
+
+pub is_written : {X : Type 0} (written : Token → X) (tokens : List Token) (room filled : List X) (count : ℕ) → count ≤ length tokens → count ≤ length room → filled ≡ map written (take count tokens) ++ drop count room → IsWritten written tokens room filled count
+is_written written tokens room filled count few within is =
+    let n : length (map written (take count tokens)) ≡ count = length-map (take count tokens) written ∙ length-take-le count tokens few in
+    record {
+      front = ap (take count) is ∙ take_at (map written (take count tokens)) (drop count room) count n;
+      back = ap (drop count) is ∙ drop_at (map written (take count tokens)) (drop count room) count n;
+      few = few;
+      within = within;
+      long = omega (arith, ap length is, length-append (map written (take count tokens)) (drop count room), n, length-drop count room);
+    }
+
 -- either no token is left, or no room
 pub all_written : {X : Type 0} (written : Token → X) (tokens : List Token) (room filled : List X) (count : ℕ) → IsWritten written tokens room filled count → length tokens ≤ count → IsFilled written tokens room filled count
 all_written written tokens room filled count is all = record {
   as_many = let n : length tokens ≤ length room = omega (arith, is.within) in let e : count ≡ length tokens = omega (arith, is.few) in e ∙ sym (min-eq_right n);
-  tokens = sym (take-append-drop count filled) ∙ (ap (λ l. l ++ drop count filled) is.front ∙ ap (λ l. map written (take count tokens) ++ l) is.back);
+  tokens = whole_room written tokens room filled count is;
 }
 
 pub full_written : {X : Type 0} (written : Token → X) (tokens : List Token) (room filled : List X) (count : ℕ) → IsWritten written tokens room filled count → length filled ≤ count → IsFilled written tokens room filled count
 full_written written tokens room filled count is full = record {
   as_many = let n : length room ≤ length tokens = omega (arith, is.few, is.long) in let e : count ≡ length room = omega (arith, is.within, is.long) in e ∙ sym (min-eq_left n);
-  tokens = sym (take-append-drop count filled) ∙ (ap (λ l. l ++ drop count filled) is.front ∙ ap (λ l. map written (take count tokens) ++ l) is.back);
+  tokens = whole_room written tokens room filled count is;
 }
 
 -- the tokens that begin before a place are written, and no other is left to be, or no room
@@ -71,7 +85,7 @@ pub written_to : {X : Type 0} (written : Token → X) (end : ℕ) (tokens : List
 written_to written end tokens room filled count at is place begun done = record {
   few = is.few;
   within = is.within;
-  tokens = sym (take-append-drop count filled) ∙ (ap (λ l. l ++ drop count filled) is.front ∙ ap (λ l. map written (take count tokens) ++ l) is.back);
+  tokens = whole_room written tokens room filled count is;
   begun = begun;
   all = λ more. let e = done (omega (arith, is.long)) in omega (arith, place);
 }

@@ -1,7 +1,6 @@
 -- Relexing over many tokens at once, each of which begins before the end of what an edit put in.
-use Rattle.std.proofs.Common.{◌≡◌, ℕ, zero, suc, ◌+◌, ◌-◌, ◌<◌, ◌≤◌, Bool, true, false, ◌&&◌, leb, true≢false, List, ◌++◌, length, take, drop, inl, inr, refl, sym, ap, ◌∙◌, subst, arith, drop-drop, length-drop, IsUtf8, IsCharBoundary}
+use Rattle.std.proofs.Common.{◌≡◌, ℕ, zero, suc, ◌+◌, ◌-◌, ◌<◌, ◌≤◌, Bool, true, false, ◌&&◌, leb, true≢false, List, ◌∷◌, length, drop, inl, inr, refl, sym, ap, ◌∙◌, subst, arith, drop-drop, length-drop, IsUtf8, IsCharBoundary}
 use Rattle.std.proofs.lemmas.Bool.{cases_lt, leb-true}
-use Rattle.std.proofs.lemmas.List.{take-append-drop}
 use Rattle.std.proofs.lemmas.Str.{IsCharBoundary-from_drop, IsUtf8-drop}
 use Rattle.rustc_lexer.specs.declared.relex.front.Bound.{Bound}
 use Rattle.rustc_lexer.specs.declared.relex.front.Meeting.{Meeting}
@@ -11,11 +10,10 @@ use Rattle.rustc_lexer.specs.declared.token.Token.{Token}
 use Rattle.rustc_lexer.specs.Bulk.{IsFilledTo}
 use Rattle.rustc_lexer.specs.Edits.{is_bound, meets_at}
 use Rattle.rustc_lexer.specs.Locality.{IsText, IsGrammar}
-use Rattle.rustc_lexer.specs.Relexing.{IsFollowed, IsMadeOf, Stands, added_by, known, removed_by}
+use Rattle.rustc_lexer.specs.Relexing.{IsFollowed, IsMadeOf, IsStepTo, Stands, TakesSteps, added_by, known, removed_by}
 use Rattle.rustc_lexer.specs.Tokens.{bound, tokens_by}
-use Rattle.rustc_lexer.proofs.BlockLemmas.{filled_to_front}
 use Rattle.rustc_lexer.proofs.BoundLemmas.{number_le_bound, rises}
-use Rattle.rustc_lexer.proofs.BulkLemmas.{next_place, over, stands as place_stands}
+use Rattle.rustc_lexer.proofs.BulkLemmas.{next_place, next_token, over, stands as place_stands}
 use Rattle.rustc_lexer.proofs.CutLemmas.{IsCutAt, at_bound}
 use Rattle.rustc_lexer.proofs.ProgressLemmas.{IsPlace}
 use Rattle.rustc_lexer.proofs.RelexingLemmas.{below_later, made_text, stands_inside, stands_next}
@@ -27,6 +25,12 @@ early old past added removed place less = by_test (leb past place) refl
     by_test : (b : Bool) → leb past place ≡ b → false ≡ b && is_bound old (place - added + removed)
     by_test false e = refl
     by_test true e = absurd (let far = leb-true past place e in omega arith)
+
+-- the tokens that are still to come are those of the text that is left
+pub left_at : {first : List ℕ → Token} (law : IsGrammar first) (before lengths insert text : List ℕ) (change : Change) (is : IsMadeOf first before lengths change insert text) (at : Relexing) (stands : Stands first before change text at) → tokens_by first (drop at.at text) ≡ drop (known at) (tokens_by first text)
+left_at {first} law before lengths insert text change is at stands =
+    let cut : IsCutAt first text (tokens_by first text) (known at) = at_bound law (known at) text (made_text law before lengths insert text change is) in
+    sym (cut.rest ∙ ap (λ p. tokens_by first (drop p text)) (sym stands.place))
 
 module _ {first : List ℕ → Token} (law : IsGrammar first) (before lengths insert text : List ℕ) (change : Change) (is : IsMadeOf first before lengths change insert text) (at : Relexing) (stands : Stands first before change text at) (less : at.at < change.new_stop) where
   abbrev here : List ℕ
@@ -57,11 +61,6 @@ module _ {first : List ℕ → Token} (law : IsGrammar first) (before lengths in
 
   here_text : IsText here
   here_text = spot.past
-
-  left_is : drop (known at) (tokens_by first text) ≡ block
-  left_is =
-      let cut : IsCutAt first text (tokens_by first text) (known at) = at_bound law (known at) text made_here in
-      cut.rest ∙ ap (λ p. tokens_by first (drop p text)) (sym stands.place)
 
   step_len : (n : ℕ) → n < length block → (bound block n < length here) × (bound block (n + 1) ≡ bound block n + (first (drop (bound block n) here)).len)
   step_len n few =
@@ -109,22 +108,18 @@ module _ {first : List ℕ → Token} (law : IsGrammar first) (before lengths in
       let next = step_to n (omega arith) (past_some n) refl ih (record { at = at.back; met = false }) (at.at + bound block (n + 1)) refl (followed_early _ (omega arith) low) (λ _. refl) in
       subst (λ k. Stands first before change text (past_some k)) (sym one) next
 
-  -- where the room holds so many of them, relexing stands past the last
-  pub stands_filled : (room filled : List Token) (count bytes : ℕ) (to : Meeting) → IsFilledTo (λ (t : Token). t) (change.new_stop - at.at) block room filled count → bytes ≡ bound block count → 0 < count → IsFollowed (tokens_by first before) change.new_stop (added_by change) (removed_by change) (at.at + bytes) to.at to.met → (at.at + bytes < change.new_stop → to.at ≡ at.back)
-      → Stands first before change text (record { front = at.front; lexed = at.lexed + count; back = to.at; at = at.at + bytes; met = to.met }) × (drop (known at) (tokens_by first text) ≡ take count filled ++ drop (at.front.number + (at.lexed + count)) (tokens_by first text))
-  stands_filled room filled zero bytes to is_filled bytes_is some followed stays = absurd (omega arith)
-  stands_filled room filled (suc n) bytes to is_filled bytes_is some followed stays =
+  -- where a room takes so many of them, relexing stands past the last
+  pub stands_filled : {X : Type 0} (written : Token → X) (room filled : List X) (count bytes : ℕ) (to : Meeting) → IsFilledTo written (change.new_stop - at.at) block room filled count → bytes ≡ bound block count → 0 < count → IsFollowed (tokens_by first before) change.new_stop (added_by change) (removed_by change) (at.at + bytes) to.at to.met → (at.at + bytes < change.new_stop → to.at ≡ at.back)
+      → Stands first before change text (record { front = at.front; lexed = at.lexed + count; back = to.at; at = at.at + bytes; met = to.met }) × (block ≡ drop (known at) (tokens_by first text))
+  stands_filled written room filled zero bytes to is_filled bytes_is some followed stays = absurd (omega arith)
+  stands_filled written room filled (suc n) bytes to is_filled bytes_is some followed stays =
       let few : suc n ≤ length block = is_filled.few in
       let one : n + 1 ≡ suc n = omega arith in
       let so : Stands first before change text (past_some n) = stands_some n (omega arith) (λ k l. let b = is_filled.begun k (omega arith) in omega arith) in
       let place : at.at + bytes ≡ at.at + bound block (n + 1) = omega (arith, bytes_is, ap (bound block) one) in
-      let now = step_to n (omega arith) (past_some n) refl so to (at.at + bytes) place followed stays in
-      let front : take (suc n) filled ≡ take (suc n) block = (filled_to_front (change.new_stop - at.at) block room filled (suc n) is_filled).front in
-      let split : block ≡ take (suc n) block ++ drop (suc n) block = sym (take-append-drop (suc n) block) in
-      let number : known at + suc n ≡ at.front.number + (at.lexed + suc n) = omega arith in
-      let later : drop (suc n) block ≡ drop (at.front.number + (at.lexed + suc n)) (tokens_by first text) = ap (drop (suc n)) (sym left_is) ∙ (drop-drop (suc n) (known at) (tokens_by first text) ∙ ap (λ k. drop k (tokens_by first text)) number) in (
+      let now = step_to n (omega arith) (past_some n) refl so to (at.at + bytes) place followed stays in (
         subst (λ l. Stands first before change text (record { front = at.front; lexed = at.lexed + l; back = to.at; at = at.at + bytes; met = to.met })) one now,
-        left_is ∙ (split ∙ (ap (λ ts. ts ++ drop (suc n) block) (sym front) ∙ ap (λ ts. take (suc n) filled ++ ts) later)),
+        left_at law before lengths insert text change is at stands,
       )
 
 -- what a room takes at a place of the text: some bytes, at least one for each token, up to a place between characters
@@ -134,8 +129,8 @@ pub record IsStretch (text : List ℕ) (at count bytes : ℕ) : Type 0 where
   pub some : 0 < count
   pub long : count ≤ bytes
 
-pub stretch : {first : List ℕ → Token} (law : IsGrammar first) (text left : List ℕ) (at end : ℕ) → IsText text → IsCharBoundary text at → left ≡ drop at text → (room filled : List Token) (count bytes : ℕ) → IsFilledTo (λ (t : Token). t) end (tokens_by first left) room filled count → bytes ≡ bound (tokens_by first left) count → 0 < length room → 0 < end → IsStretch text at count bytes
-stretch {first} law text left at end is cut left_is room filled count bytes is_filled bytes_is places more =
+pub stretch : {first : List ℕ → Token} (law : IsGrammar first) (text left : List ℕ) (at end : ℕ) → IsText text → IsCharBoundary text at → left ≡ drop at text → {X : Type 0} (written : Token → X) (room filled : List X) (count bytes : ℕ) → IsFilledTo written end (tokens_by first left) room filled count → bytes ≡ bound (tokens_by first left) count → 0 < length room → 0 < end → IsStretch text at count bytes
+stretch {first} law text left at end is cut left_is written room filled count bytes is_filled bytes_is places more =
     let left_text : IsText left = rw left_is record { utf8 = IsUtf8-drop text at is.utf8 cut; fits = (let f = is.fits in omega (arith, length-drop at text)) } in
     let spot : IsPlace left bytes = place_stands law left left_text count bytes bytes_is in
     let inside : at + bytes ≤ length text = omega (arith, spot.inside, ap length left_is, length-drop at text, cut.0) in
@@ -150,3 +145,50 @@ stretch {first} law text left at end is cut left_is room filled count bytes is_f
       some = some;
       long = omega (arith, bytes_is, number_le_bound (tokens_by first left) count is_filled.few (rises law left left_text));
     }
+
+-- no step
+pub no_step : (first : List ℕ → Token) (text : List ℕ) (past : ℕ) (at : Relexing) → TakesSteps first text past at 0 at
+no_step first text past at = record {
+  inside = omega arith;
+  none = λ _. refl;
+  front = refl;
+  lexed = omega arith;
+  place = omega arith;
+  same_back = λ _. refl;
+  not_met = λ some _. absurd (omega arith);
+}
+
+-- one step more
+module _ {first : List ℕ → Token} (law : IsGrammar first) (text : List ℕ) (is : IsText text) (past : ℕ) (begin at : Relexing) (boundary : IsCharBoundary text begin.at) (count : ℕ) (steps : TakesSteps first text past begin count at) (token : Token) (at' : Relexing) (step : IsStepTo first text past at token at') where
+  abbrev rest : List ℕ
+  rest = drop begin.at text
+
+  abbrev left : List Token
+  left = tokens_by first rest
+
+  rest_is : IsText rest
+  rest_is = record { utf8 = IsUtf8-drop text begin.at is.utf8 boundary; fits = let f = is.fits in omega (arith, length-drop begin.at text) }
+
+  more : bound left count < length rest
+  more = let inside = step.inside in let b = boundary.0 in omega (arith, steps.place, length-drop begin.at text)
+
+  token_is : first (drop (bound left count) rest) ≡ token
+  token_is = sym (step.token_is ∙ ap first (ap (λ n. drop n text) steps.place ∙ sym (drop-drop (bound left count) begin.at text)))
+
+  pub next_left : drop count left ≡ token ∷ tokens_by first (drop token.len (drop (bound left count) rest))
+  next_left = subst (λ (t : Token). drop count left ≡ t ∷ tokens_by first (drop t.len (drop (bound left count) rest))) token_is (next_token law rest rest_is count (bound left count) refl more)
+
+  pub step_more : TakesSteps first text past begin (count + 1) at'
+  step_more =
+      let lexed = step.lexed in
+      let before = steps.lexed in
+      let some = step.not_empty in
+      record {
+        inside = omega (arith, ap length next_left, length-drop count left);
+        none = λ e. absurd (omega arith);
+        front = step.front ∙ steps.front;
+        lexed = omega arith;
+        place = omega (arith, step.place, steps.place, next_place law rest rest_is count (bound left count) refl more, ap (λ (t : Token). t.len) token_is);
+        same_back = λ less. step.same_back less ∙ steps.same_back (let place = step.place in omega arith);
+        not_met = λ _ less. step.not_met less;
+      }

@@ -96,7 +96,18 @@ is_over text at = at.met || nat_eq at.at (length text)
 -- the text that is left there
 abbrev pub TakesStep : (List ℕ → Token) → List ℕ → ℕ → ℕ → Relexing → Option Token → ℕ → Relexing → Type 0
 TakesStep first text past count at None count' at' = (at' ≡ at) × (count' ≡ count) × (is_over text at ≡ true)
-TakesStep first text past count at (Some token) count' at' = IsStepTo first text past at token at' × (count' ≡ count + 1)
+TakesStep first text past count at (Some token) count' at' = IsStepTo first text past at token at' × (count' ≡ count + 1) × (is_over text at ≡ false)
+
+-- what so many calls of `next` do, none of which finds relexing over: the tokens are the first ones of the text that is left
+-- there. Before the edit's end, at `past`, no old token is followed
+pub record TakesSteps (first : List ℕ → Token) (text : List ℕ) (past : ℕ) (at : Relexing) (count : ℕ) (at' : Relexing) : Type 0 where
+  pub inside : count ≤ length (tokens_by first (drop at.at text))
+  pub none : count ≡ 0 → at' ≡ at
+  pub front : at'.front ≡ at.front
+  pub lexed : at'.lexed ≡ at.lexed + count
+  pub place : at'.at ≡ at.at + bound (tokens_by first (drop at.at text)) count
+  pub same_back : at'.at < past → at'.back ≡ at.back
+  pub not_met : 0 < count → at'.at < past → at'.met ≡ false
 
 -- what it gives is the next of the tokens, and nothing only where the old ones are met
 abbrev pub GivesNext : List Token → Relexing → Option Token → Relexing → Type 0

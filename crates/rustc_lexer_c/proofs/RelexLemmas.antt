@@ -1,6 +1,7 @@
 -- How far a text is relexed, as numbers and back.
-use Rattle.std.proofs.Common.{◌≡◌, ◌≢◌, ℕ, ◌+◌, ◌-◌, ◌≤◌, Bool, true, false, ◌||◌, if◌then◌else◌, eqb, List, ◌++◌, length, map, take, drop, refl, sym, ap, ◌∙◌, subst, arith, Option, Some, None, take-add}
-use Rattle.std.proofs.lemmas.List.{length-map, length-drop, length-take-le, take_at, drop-drop, map-append, take-map, drop-map}
+use Rattle.std.proofs.Common.{◌≡◌, ◌≢◌, ℕ, ◌+◌, ◌-◌, ◌≤◌, Bool, true, false, ◌||◌, if◌then◌else◌, eqb, List, ◌++◌, length, map, take, drop, true≢false, inl, inr, refl, sym, ap, ◌∙◌, subst, arith, Option, Some, None, take-add}
+use Rattle.std.proofs.lemmas.Bool.{cases_lt}
+use Rattle.std.proofs.lemmas.List.{length-map, length-drop, length-take-le, take_at, drop_at, drop-drop, map-append, take-map, drop-map}
 use Rattle.rustc_lexer.specs.declared.edition.Edition.{Edition}
 use Rattle.rustc_lexer.specs.declared.edition.Edition.TheVariants.{E2024}
 use Rattle.rustc_lexer.specs.declared.relex.relexing.Relexed.{Relexed}
@@ -9,7 +10,7 @@ use Rattle.rustc_lexer.specs.declared.token.Token.{Token}
 use Rattle.rustc_lexer.specs.Tokens.{tokens_by, tokens_of}
 use Rattle.rustc_lexer.specs.means.Edition.{first_token_in}
 use Rattle.rustc_lexer.specs.LanguageText.{part}
-use Rattle.rustc_lexer.specs.Relexing.{IsMadeOf, IsWhole, MayGoOn, Stands, is_over, known}
+use Rattle.rustc_lexer.specs.Relexing.{IsMadeOf, IsWhole, MayGoOn, Stands, TakesSteps, is_over, known}
 use Rattle.rustc_lexer.specs.Locality.{IsGrammar}
 use Rattle.rustc_lexer.specs.laws.Edition.{edition_grammar}
 use Rattle.rustc_lexer.proofs.RelexingLemmas.{over_met, few_lexed, counts_met}
@@ -90,17 +91,26 @@ module _ (edition : Edition) (text : List ℕ) (old : List CToken) (change : CEd
       by_test true e = ap (λ m. m || eqb at.at (length text)) e ∙ sym e
       by_test false e = ap (λ m. m || eqb at.at (length text)) e ∙ over_met (edition_grammar edition) before lens insert text (change_of change) is at stands e
 
-  pub batch_is : count ≤ length room → drop count filled ≡ drop count room → at.lexed ≡ begin.lexed + count → at.front ≡ begin.front → MayGoOn text (length old) at → (is_over text at ≡ false → count ≡ length room) → begin.lexed ≡ lexed_before c
+  pub batch_is : count ≤ length room → TakesSteps first text (change_of change).new_stop begin count at → filled ≡ map token_numbers (take count (tokens_by first (drop begin.at text))) ++ drop count room → MayGoOn text (length old) at → (count < length room → is_over text at ≡ true) → begin.lexed ≡ lexed_before c
       → (c.stage ≢ 0 → begin.front ≡ front_of c)
       → ((first : List ℕ → Token) (before insert : List ℕ) → IsGrammar first → IsMadeOf first before lens (change_of change) insert text → IsPassed first before (change_of change) text (length old) c → Stands first before (change_of change) text begin)
-      → ((before insert : List ℕ) → IsMadeOf first before lens (change_of change) insert text → Stands first before (change_of change) text begin → Stands first before (change_of change) text at × (filled ≡ map token_numbers (take count (drop (known begin) (tokens_of (part edition) text))) ++ drop count room))
+      → ((before insert : List ℕ) → IsMadeOf first before lens (change_of change) insert text → Stands first before (change_of change) text begin → Stands first before (change_of change) text at × (tokens_by first (drop begin.at text) ≡ drop (known begin) (tokens_by first text)))
       → IsRelexBatch edition text old change c room (numbers_of text (length old) at) filled count
-  batch_is within rest lexed front may goes_on before_lexed begun_front begun tokens = record {
+  batch_is within steps tokens may over_of before_lexed begun_front begun stands = record {
     within = within;
-    rest = rest;
-    lexed = omega arith;
-    goes_on = λ not. let on = stage_goes_on (is_over text at) not in (on.0, goes_on on.1);
-    front = λ later. front ∙ begun_front later;
+    rest =
+        let long : length (map token_numbers (take count (tokens_by first (drop begin.at text)))) ≡ count = length-map (take count (tokens_by first (drop begin.at text))) token_numbers ∙ length-take-le count (tokens_by first (drop begin.at text)) steps.inside in
+        ap (drop count) tokens ∙ drop_at (map token_numbers (take count (tokens_by first (drop begin.at text)))) (drop count room) count long;
+    lexed = steps.lexed ∙ ap (λ n. n + count) before_lexed;
+    goes_on = λ not.
+        let on = stage_goes_on (is_over text at) not in (
+          on.0,
+          elim (cases_lt count (length room)) [
+            | inl less ↦ absurd (true≢false (sym (over_of less) ∙ on.1))
+            | inr full ↦ omega arith
+          ],
+        );
+    front = λ later. steps.front ∙ begun_front later;
     may_relex = λ _.
         let few = may.number in
         let back : length old - (length old - at.back.number) ≡ at.back.number = omega arith in (
@@ -115,13 +125,15 @@ module _ (edition : Edition) (text : List ℕ) (old : List CToken) (change : CEd
         );
     relexed = λ before insert is passed.
         let law = edition_grammar edition in
-        let so = tokens before insert is (begun first before insert law is passed) in
+        let so = stands before insert is (begun first before insert law is passed) in
+        let lexed = steps.lexed in
         let over = over_is before insert is so.0 in
         let same = relex_back text (length old) at may.number over in
-        let number = ap (λ b. b.number) front in
+        let number = ap (λ b. b.number) steps.front in
         let at_begin : known begin ≡ at.front.number + lexed_before c = omega arith in
         let many : length lens ≡ length old = length-map old (λ (t : CToken). t.len) in
-        let filled_is = so.1 ∙ ap (λ n. map token_numbers (take count (drop n (tokens_of (part edition) text))) ++ drop count room) at_begin in
+        let left : tokens_by first (drop begin.at text) ≡ drop (at.front.number + lexed_before c) (tokens_of (part edition) text) = so.1 ∙ ap (λ n. drop n (tokens_of (part edition) text)) at_begin in
+        let filled_is = tokens ∙ ap (λ (ts : List Token). map token_numbers (take count ts) ++ drop count room) left in
         let back : length old - (length old - at.back.number) ≡ at.back.number = (let few = may.number in omega arith) in
         record {
           passed = record {

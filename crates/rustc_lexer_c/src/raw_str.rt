@@ -3,7 +3,7 @@ ghost use Rattle.std.specs.Prelude.{◌≡◌, ◌≢◌, ◌↔◌, IsTrue, Non
 ghost use Rattle.std.specs.Str.{IsUtf8};
 ghost use Rattle.rustc_lexer.specs.Classes.{Fits};
 ghost use Rattle.rustc_lexer.specs.declared.edition.Edition.TheVariants.{E2024};
-ghost use Rattle.rustc_lexer.specs.LanguageHolds.{IsTheRawAnswer};
+ghost use Rattle.rustc_lexer.specs.LanguageHolds.{IsTheRawAnswer, TakesTheGuarded};
 ghost use Rattle.rustc_lexer.specs.LanguageText.{part};
 ghost use Rattle.rustc_lexer.specs.means.Guarded.{guarded};
 ghost use Rattle.rustc_lexer.specs.means.Raw.{StartsRaw, raw_check};
@@ -138,6 +138,9 @@ pub extern "C" fn rustc_lexer_guarded_str(text: &[u8], string: &mut CGuardedStr)
     ensures string { result ≡ 0 →
         string.new ≡ spec.guarded_numbers
         (guarded record { pending = 0; rest = text.now; mode = part E2024 }).0 }
+    ensures language { result ≡ 0 → TakesTheGuarded record { pending = 0; rest = text.now; mode = part E2024 }
+        (guarded record { pending = 0; rest = text.now; mode = part E2024 }).0
+        (guarded record { pending = 0; rest = text.now; mode = part E2024 }).1 }
     ensures refused { result ≢ 0 → string.new ≡ spec.guarded_numbers None }
 {
     match text_of(text) {
@@ -161,6 +164,9 @@ pub extern "C" fn rustc_lexer_guarded_str_unchecked(text: &[u8], string: &mut CG
     ensures string { result ≡ 0 →
         string.new ≡ spec.guarded_numbers
         (guarded record { pending = 0; rest = text.now; mode = part E2024 }).0 }
+    ensures language { result ≡ 0 → TakesTheGuarded record { pending = 0; rest = text.now; mode = part E2024 }
+        (guarded record { pending = 0; rest = text.now; mode = part E2024 }).0
+        (guarded record { pending = 0; rest = text.now; mode = part E2024 }).1 }
     ensures refused { result ≢ 0 → string.new ≡ spec.guarded_numbers None }
 {
     match utf8_text_of(text) {
@@ -178,8 +184,11 @@ pub extern "C" fn rustc_lexer_guarded_str_unchecked(text: &[u8], string: &mut CG
 /// The guarded string that a text begins with, as numbers.
 fn guarded_str(text: &str) -> CGuardedStr
     requires fits { Fits text.now }
-    ensures { result ≡ spec.guarded_numbers
+    ensures string { result ≡ spec.guarded_numbers
         (guarded record { pending = 0; rest = text.now; mode = part E2024 }).0 }
+    ensures language { TakesTheGuarded record { pending = 0; rest = text.now; mode = part E2024 }
+        (guarded record { pending = 0; rest = text.now; mode = part E2024 }).0
+        (guarded record { pending = 0; rest = text.now; mode = part E2024 }).1 }
 {
     let mut cursor = Cursor::new(text, FrontmatterAllowed::No);
     guarded_numbers(cursor.guarded_double_quoted_string())

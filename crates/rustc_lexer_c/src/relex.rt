@@ -1,21 +1,17 @@
 //! Relexing: the tokens of a text that was edited, by its old tokens.
-ghost use Rattle.std.specs.Prelude.{◌≡◌, ◌≢◌, ◌+◌, ◌≤◌, ◌↔◌, ◌++◌, List, ℕ, Some, None, IfSome, false, length, map, take, drop};
+ghost use Rattle.std.specs.Prelude.{◌≡◌, ◌≢◌, ◌↔◌, List, ℕ, Some, None, IfSome, length, map};
 ghost use Rattle.std.specs.Str.{IsUtf8};
 ghost use Rattle.rustc_lexer.specs.declared.edition.Edition.{Edition};
 ghost use Rattle.rustc_lexer.specs.declared.token.Token.{Token};
 ghost use Rattle.rustc_lexer.specs.Classes.{Fits};
 ghost use Rattle.rustc_lexer.specs.LanguageIn.{edition_of_year};
-ghost use Rattle.rustc_lexer.specs.means.Edition.{first_token_in};
 ghost use Rattle.rustc_lexer.specs.LanguageHolds.{IsDetermined};
-ghost use Rattle.rustc_lexer.specs.LanguageText.{part};
-ghost use Rattle.rustc_lexer.specs.Relexing.{IsChange, IsMadeOf, MayGoOn, Stands, is_over, known};
+ghost use Rattle.rustc_lexer.specs.Relexing.{IsChange, IsMadeOf, MayGoOn, Stands};
 ghost use Rattle.rustc_lexer.specs.Locality.{IsGrammar};
-ghost use Rattle.rustc_lexer.specs.Tokens.{tokens_of};
-ghost use Rattle.rustc_lexer_c.specs.Numbers as numbers;
 ghost use Rattle.rustc_lexer_c.specs.Relex as spec;
 
 use crate::status::{OK, Refusal, text_of, utf8_text_of};
-use crate::token::{CToken, token_numbers};
+use crate::token::CToken;
 use rustc_lexer::{Bound, Change, Edition, Measured, Relexing, Steps};
 
 /// An edit that was made, by its places in bytes: what stood from `start` up to `old_stop` was taken out, and what now
@@ -148,7 +144,7 @@ fn relex(
     let Some(mut at) = standing(text, old, change, relexing) else {
         return Refusal::BadEdit.number();
     };
-    *count = fill(text, old, change, edition, &mut at, room);
+    *count = at.fill(&mut Steps::new_in(edition), text, old, change, room);
     *relexing = relexing_numbers(&at, text, old.len());
     OK
 }
@@ -209,45 +205,6 @@ fn standing(text: &str, old: &[CToken], change: Change, relexing: &CRelexing) ->
     } else {
         None
     }
-}
-
-/// Writes tokens as long as there is room, and answers their number.
-fn fill(
-    text: &str,
-    old: &[CToken],
-    change: Change,
-    edition: Edition,
-    at: &mut Relexing,
-    room: &mut [CToken],
-) -> usize
-    requires fits { Fits text.now }
-    requires change { IsChange text.now change }
-    requires may_go_on { MayGoOn text.now (length old.now) at.old }
-    ensures within { result ≤ length room.old }
-    ensures rest { drop result room.new ≡ drop result room.old }
-    ensures lexed { at.new.lexed ≡ at.old.lexed + result }
-    ensures front { at.new.front ≡ at.old.front }
-    ensures may_go_on { MayGoOn text.now (length old.now) at.new }
-    ensures goes_on { is_over text.now at.new ≡ false → result ≡ length room.old }
-    ensures tokens { (before insert : List ℕ)
-        → IsMadeOf (first_token_in edition) before (map (λ (t : CToken). t.len) old.now)
-        change insert text.now
-        → Stands (first_token_in edition) before change text.now at.old
-        → Stands (first_token_in edition) before change text.now at.new
-        × (room.new ≡ map numbers.token_numbers
-        (take result (drop (known at.old) (tokens_of (part edition) text.now)))
-        ++ drop result room.old) }
-{
-    let mut steps = Steps::new_in(edition);
-    let mut count = 0;
-    while count < room.len() {
-        let Some(token) = at.next(&mut steps, text, old, change) else {
-            break;
-        };
-        room[count] = token_numbers(token);
-        count += 1;
-    }
-    count
 }
 
 /// How far it is relexed, as numbers.

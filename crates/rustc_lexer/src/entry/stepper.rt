@@ -11,7 +11,7 @@ ghost use Rattle.rustc_lexer.specs.LanguageText.{part};
 ghost use Rattle.rustc_lexer.specs.means.Lexeme.{first_token};
 ghost use Rattle.rustc_lexer.specs.Locality.{IsGrammar};
 
-use crate::bulk;
+use crate::bulk::{self, Record};
 use crate::edition::{Edition, token_in};
 use crate::entry::tally::Tally;
 use crate::token::Token;
@@ -47,10 +47,10 @@ pub trait Stepper: Drop {
     /// Answers their number, and how many bytes they have. Each is a step.
     ///
     /// One step after another gives them here. A stepper that finds many tokens at once has a body of its own.
-    fn fill(&mut self, text: &str, end: usize, room: &mut [Token]) -> (usize, usize)
+    fn fill<R: Record>(&mut self, text: &str, end: usize, room: &mut [R]) -> (usize, usize)
         requires fits { Fits text.now }
         requires inside { end ≤ length text.now }
-        ensures filled { IsFilledTo (λ token. token) end (tokens_by (grammar self.old) text.now)
+        ensures filled { IsFilledTo R.written end (tokens_by (grammar self.old) text.now)
             room.old room.new result.0 }
         ensures bytes { result.1 ≡ bound (tokens_by (grammar self.old) text.now) result.0 }
         ensures count { count self.new ≡ count self.old + result.0 }
@@ -61,7 +61,7 @@ pub trait Stepper: Drop {
         let mut at = 0;
         'places: while written < room.len() && at < end {
             let token = self.step(&text[at..]);
-            room[written] = token;
+            room[written] = R::of(token);
             written += 1;
             at += token.len as usize;
         }
@@ -126,7 +126,7 @@ impl Stepper for Steps {
         token_in(rest, self.edition)
     }
 
-    fn fill(&mut self, text: &str, end: usize, room: &mut [Token]) -> (usize, usize) {
+    fn fill<R: Record>(&mut self, text: &str, end: usize, room: &mut [R]) -> (usize, usize) {
         let (count, bytes) = bulk::fill(text, end, self.edition, room);
         self.tally.tick_by(count);
         (count, bytes)

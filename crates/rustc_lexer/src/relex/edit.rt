@@ -16,13 +16,10 @@ use crate::entry::stepper::Stepper;
 use crate::relex::front::Bound;
 use crate::relex::landmarks::Landmarks;
 use crate::relex::lex::new_room;
-use crate::relex::relexing::{Change, Relexed, Relexing};
+use crate::relex::relexing::{Change, LONG, Relexed, Relexing};
 use crate::relex::replace::replace;
 use crate::token::Token;
 use std::alloc::{AllocError, Global};
-
-/// What is put in is lexed many tokens at once where it has so many bytes. It does not pay for fewer.
-const LONG: usize = 256;
 
 /// One edit, its insertion borrowed.
 #[derive(Clone, Copy, Debug, PartialEq, Eq)]
@@ -127,7 +124,7 @@ fn relex_inserted<S: Stepper>(
 {
     let mut room = new_room();
     'inserted: while at.at < change.new_stop {
-        let count = at.fill(stepper, text, old, change, &mut room);
+        let count = at.fill_inserted(stepper, text, old, change, &mut room);
         tokens.extend_from_slice(&room[..count])?;
     }
     Ok(())

@@ -1,5 +1,5 @@
 //! Lexing again what an edit changed, on lists that the caller holds.
-ghost use Rattle.std.specs.Prelude.{◌≡◌, ◌+◌, ◌-◌, ◌<◌, ◌≤◌, ◌++◌, ◌↔◌, IsTrue, List, drop, length, map, take, ℕ, true};
+ghost use Rattle.std.specs.Prelude.{◌≡◌, ◌+◌, ◌-◌, ◌<◌, ◌≤◌, ◌++◌, ◌↔◌, IsTrue, List, drop, false, length, map, take, ℕ, true};
 ghost use Rattle.rustc_lexer.specs.declared.relex.relexing.Change.{Change};
 ghost use Rattle.rustc_lexer.specs.declared.token.Token.{Token};
 ghost use Rattle.rustc_lexer.specs.Edits.{relexed_of};
@@ -10,12 +10,16 @@ ghost use Rattle.rustc_lexer.specs.Relexing as spec;
 ghost use Rattle.rustc_lexer.specs.means.Relexing.{damage_of};
 ghost use Rattle.rustc_lexer.specs.Locality.{IsGrammar};
 
+use crate::bulk::Record;
 use crate::entry::stepper::Stepper;
 use crate::relex::front::{Bound, Damage, Measured, follow, kept_front};
 use crate::token::Token;
 
 /// A place that no bound of a list that is passed in good faith has.
 const MOST: usize = 1 << 40;
+
+/// What is put in is lexed many tokens at once where it has so many bytes. It does not pay for fewer.
+pub(crate) const LONG: usize = 256;
 
 /// An edit that was made, by its places in bytes: what stood from `start` up to `old_stop` was taken out, and what
 /// now stands from `start` up to `new_stop` was put in.
@@ -169,15 +173,64 @@ impl Relexing {
         Some(token)
     }
 
-    /// Writes the next tokens into the room: those that begin before the end of what was put in, or as many as it has
-    /// room for. Answers their number. None of them can meet the old tokens before the last one ends.
-    pub(crate) fn fill<S: Stepper, T: Measured>(
+    /// Writes the next tokens into the room, as many as there is room for, or up to where the old tokens are met. Answers
+    /// their number, which is less than the length of the room only where `is_over` is true.
+    ///
+    /// They are the tokens that so many calls of `next` give. A long part that the change put in is lexed many tokens at
+    /// once.
+    pub fn fill<S: Stepper, T: Measured, R: Record>(
         &mut self,
         stepper: &mut S,
         text: &str,
         old: &[T],
         change: Change,
-        room: &mut [Token],
+        room: &mut [R],
+    ) -> usize
+        requires fits { Fits text.now }
+        requires change { spec.IsChange text.now change }
+        requires may_go_on { spec.MayGoOn text.now (length old.now) self.old }
+        ensures may_go_on { spec.MayGoOn text.now (length old.now) self.new }
+        ensures grammar { S.grammar stepper.new ≡ S.grammar stepper.old }
+        ensures number { S.number stepper.new ≡ S.number stepper.old }
+        ensures count { S.count stepper.new ≡ S.count stepper.old + result }
+        ensures steps { spec.TakesSteps (S.grammar stepper.old) text.now change.new_stop
+            self.old result self.new }
+        ensures tokens { room.new
+            ≡ map R.written (take result (tokens_by (S.grammar stepper.old) (drop self.old.at text.now)))
+            ++ drop result room.old }
+        ensures room { result ≤ length room.old }
+        ensures begins { 0 < result → spec.is_over text.now self.old ≡ false }
+        ensures over { result < length room.old → spec.is_over text.now self.new ≡ true }
+        ensures stands { (before insert : List ℕ)
+            → spec.IsMadeOf (S.grammar stepper.old) before (map T.bytes old.now) change insert text.now
+            → spec.Stands (S.grammar stepper.old) before change text.now self.old
+            → spec.Stands (S.grammar stepper.old) before change text.now self.new
+            × (tokens_by (S.grammar stepper.old) (drop self.old.at text.now)
+            ≡ drop (known self.old) (tokens_by (S.grammar stepper.old) text.now)) }
+    {
+        let mut count = 0;
+        if self.at + LONG <= change.new_stop && !self.is_over(text) && !room.is_empty() {
+            count = self.fill_inserted(stepper, text, old, change, room);
+        }
+        'places: while count < room.len() {
+            let Some(token) = self.next(stepper, text, old, change) else {
+                break;
+            };
+            room[count] = R::of(token);
+            count += 1;
+        }
+        count
+    }
+
+    /// Writes the next tokens into the room: those that begin before the end of what was put in, or as many as it has
+    /// room for. Answers their number. None of them can meet the old tokens before the last one ends.
+    pub(crate) fn fill_inserted<S: Stepper, T: Measured, R: Record>(
+        &mut self,
+        stepper: &mut S,
+        text: &str,
+        old: &[T],
+        change: Change,
+        room: &mut [R],
     ) -> usize
         requires fits { Fits text.now }
         requires change { spec.IsChange text.now change }
@@ -188,16 +241,19 @@ impl Relexing {
         ensures grammar { S.grammar stepper.new ≡ S.grammar stepper.old }
         ensures number { S.number stepper.new ≡ S.number stepper.old }
         ensures count { S.count stepper.new ≡ S.count stepper.old + result }
-        ensures lexed { self.new.lexed ≡ self.old.lexed + result }
-        ensures front { self.new.front ≡ self.old.front }
+        ensures steps { spec.TakesSteps (S.grammar stepper.old) text.now change.new_stop
+            self.old result self.new }
+        ensures tokens { room.new
+            ≡ map R.written (take result (tokens_by (S.grammar stepper.old) (drop self.old.at text.now)))
+            ++ drop result room.old }
         ensures progress { self.old.at < self.new.at }
-        ensures room { (result ≤ length room.new) × (length room.new ≡ length room.old) }
+        ensures room { (result ≤ length room.old) × (length room.new ≡ length room.old) }
         ensures stands { (before insert : List ℕ)
             → spec.IsMadeOf (S.grammar stepper.old) before (map T.bytes old.now) change insert text.now
             → spec.Stands (S.grammar stepper.old) before change text.now self.old
             → spec.Stands (S.grammar stepper.old) before change text.now self.new
-            × (drop (known self.old) (tokens_by (S.grammar stepper.old) text.now)
-            ≡ take result room.new ++ drop (known self.new) (tokens_by (S.grammar stepper.old) text.now)) }
+            × (tokens_by (S.grammar stepper.old) (drop self.old.at text.now)
+            ≡ drop (known self.old) (tokens_by (S.grammar stepper.old) text.now)) }
     {
         let (count, bytes) = stepper.fill(&text[self.at..], change.new_stop - self.at, room);
         let at = self.at + bytes;

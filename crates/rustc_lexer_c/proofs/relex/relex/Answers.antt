@@ -1,4 +1,10 @@
-use Rattle.std.proofs.Common.{sym}
+use Rattle.std.proofs.Common.{◌≡◌, List, ℕ, ◌++◌, length, map, take, drop, sym, subst}
+use Rattle.rustc_lexer.specs.declared.relex.relexing.Change.{Change}
+use Rattle.rustc_lexer.specs.declared.token.Token.{Token}
+use Rattle.rustc_lexer.specs.Relexing.{IsMadeOf, Stands, TakesSteps, known}
+use Rattle.rustc_lexer.specs.Tokens.{tokens_by}
+use Rattle.rustc_lexer_c.specs.declared.token.CToken.{CToken}
+use Rattle.rustc_lexer_c.specs.Numbers.{token_numbers}
 use Rattle.rustc_lexer_c.proofs.RelexLemmas.{edition_same, batch_is}
 use Rattle.rustc_lexer_c.proofs.relex.relex.Goals as goal
 
@@ -7,7 +13,14 @@ returns-clause-batch c = λ ok year is.
     let f = c.fill.ensures in
     let same = edition_same c.in-Some.edition year _ _ c.in-Some.is c.edition_of.ensures is in
     let some = c.in-Some-standing.ensures.some in
+    let begin = c.in-Some-standing.at in
     let change = c.change_of-change.ensures in
-    let batch = batch_is c.in-Some.edition c.args.text.now c.args.old.now c.args.edit.now c.args.relexing.now c.args.room.now c.fill.new.room c.fill.result c.in-Some-standing.at c.fill.new.at
-    f.within f.rest f.lexed f.front f.may_go_on f.goes_on some.1 some.2 (rw (sym change) some.3) (rw (sym change) f.tokens) in
+    let text : List ℕ = c.args.text.now in
+    let lens : List ℕ = map (λ (t : CToken). t.len) c.args.old.now in
+    let Fills : (List ℕ → Token) → Type 0 = λ first. TakesSteps first text c.change_of-change.result.new_stop begin c.fill.result c.fill.new.self
+    × (c.fill.new.room ≡ map token_numbers (take c.fill.result (tokens_by first (drop begin.at text))) ++ drop c.fill.result c.args.room.now)
+    × ((before insert : List ℕ) → IsMadeOf first before lens c.change_of-change.result insert text → Stands first before c.change_of-change.result text begin → Stands first before c.change_of-change.result text c.fill.new.self × (tokens_by first (drop begin.at text) ≡ drop (known begin) (tokens_by first text))) in
+    let now = subst Fills c.new_in.ensures.grammar (f.steps, f.tokens, f.stands) in
+    let batch = batch_is c.in-Some.edition text c.args.old.now c.args.edit.now c.args.relexing.now c.args.room.now c.fill.new.room c.fill.result begin c.fill.new.self
+    f.room (rw (sym change) now.0) now.1 f.may_go_on f.over some.1 some.2 (rw (sym change) some.3) (rw (sym change) now.2) in
     rw (sym same, c.relexing_numbers.ensures) batch

@@ -1,12 +1,11 @@
 use Rattle.std.proofs.Common.{◌≡◌, ◌+◌, ◌-◌, ◌<◌, ℕ, length}
-use Rattle.rustc_lexer.specs.declared.token.Token.{Token}
 use Rattle.rustc_lexer.specs.Tokens.{bound, tokens_by}
 use Rattle.rustc_lexer.proofs.BulkLemmas.{IsWritten}
 use Rattle.rustc_lexer.proofs.entry.stepper.Stepper.fill.Given as goal
 
 abbrev pub invariant-places : goal.invariant-places
 invariant-places g l = record {
-  written : IsWritten (λ (token : Token). token) (tokens_by (g.Self.Stepper.grammar l.fn.self) l.text) l.fn.room l.room l.written;
+  written : IsWritten g.R.Record.written (tokens_by (g.Self.Stepper.grammar l.fn.self) l.text) l.fn.room l.room l.written;
   begun : (k : ℕ) → k < l.written → bound (tokens_by (g.Self.Stepper.grammar l.fn.self) l.text) k < l.end;
   place : l.at ≡ bound (tokens_by (g.Self.Stepper.grammar l.fn.self) l.text) l.written;
   count : g.Self.Stepper.count l.self ≡ g.Self.Stepper.count l.fn.self + l.written;

@@ -1,77 +1,77 @@
-use Rattle.std.proofs.Common.{◌+◌, ◌-◌, List, ℕ, ap, subst, ◌∙◌, arith}
-use Rattle.rustc_lexer.specs.declared.relex.front.Damage.{Damage}
+use Rattle.std.proofs.Common.{◌≡◌, List, ℕ, drop, map, inl, inr, refl, sym, ap, subst, ◌∙◌, arith}
+use Rattle.std.proofs.lemmas.Bool.{cases_lt}
 use Rattle.rustc_lexer.specs.declared.token.Token.{Token}
-use Rattle.rustc_lexer.specs.Bulk.{IsFilledTo}
-use Rattle.rustc_lexer.specs.Tokens.{bound, tokens_by}
-use Rattle.rustc_lexer.specs.Relexing.{IsFollowed}
 use Rattle.rustc_lexer.specs.Locality.{IsText}
-use Rattle.rustc_lexer.proofs.RelexBlockLemmas.{IsStretch, stretch, stands_filled}
-use Rattle.rustc_lexer.proofs.RelexingLemmas.{below_later}
+use Rattle.rustc_lexer.specs.Relexing.{IsMadeOf, IsStepTo, Stands, is_over}
+use Rattle.rustc_lexer.specs.Tokens.{tokens_by}
+use Rattle.rustc_lexer.proofs.BulkLemmas.{is_written, none_written, one_written}
+use Rattle.rustc_lexer.proofs.RelexBlockLemmas.{left_at, next_left, no_step, step_more}
 use Rattle.rustc_lexer.proofs.relex.relexing.Relexing.fill.Goals as goal
+use Rattle.rustc_lexer.proofs.relex.relexing.Relexing.fill.Goals.{then-self-change+then-not-is_over+then-not-is_empty, else-self-change}
 
-pub overflow_add-at : goal.overflow_add-at
-overflow_add-at g c =
-    let first : List ℕ → Token = g.S.Stepper.grammar c.args.stepper.now in
-    let law = g.S.Stepper.law c.args.stepper.now in
-    let at = c.args.self.now in
-    let is : IsText c.args.text.now = record { utf8 = c.utf8.text; fits = c.requires.fits } in
-    let s : IsStretch c.args.text.now at.at c.fill-count.result.0 c.fill-count.result.1 = stretch law c.args.text.now c.range_from.result.now at.at _ is c.requires.may_go_on.boundary c.range_from.ensures.value c.args.room.now c.fill-count.new.room c.fill-count.result.0 c.fill-count.result.1 c.fill-count.ensures.filled c.fill-count.ensures.bytes c.requires.places (omega arith) in
-    let inside = s.inside in
-    let fits = is.fits in
-    omega arith
+pub places-init : goal.places-init
+places-init g c = elim c.if-self-change.branch [
+  | then-self-change+then-not-is_over+then-not-is_empty w ↦
+      let fill = w.fill_inserted-count.ensures in
+      rw (w.self-is, w.stepper-is, w.room-is, w.count-is) record {
+        may_go_on = fill.may_go_on;
+        grammar = fill.grammar;
+        number = fill.number;
+        count = fill.count;
+        steps = fill.steps;
+        written = is_written g.R.Record.written _ c.args.room.now w.fill_inserted-count.new.room w.fill_inserted-count.result fill.steps.inside (omega (arith, fill.room.0, fill.room.1)) fill.tokens;
+        begins = λ _. sym w.is_over.ensures.over ∙ w.if-not-is_over.true;
+        stands = λ before insert made begun. (fill.stands before insert made begun).0;
+      }
+  | else-self-change w ↦
+      rw (w.self-is, w.stepper-is, w.room-is, w.count-is) record {
+        may_go_on = c.requires.may_go_on;
+        grammar = refl;
+        number = refl;
+        count = omega arith;
+        steps = no_step (g.S.Stepper.grammar c.args.stepper.now) c.args.text.now c.args.change.new_stop c.args.self.now;
+        written = none_written g.R.Record.written _ c.args.room.now;
+        begins = λ some. absurd (omega arith);
+        stands = λ before insert made begun. begun;
+      }
+]
 
-pub follow-to-requires-clause-place_fits : goal.follow-to-requires-clause-place_fits
-follow-to-requires-clause-place_fits g c =
-    let first : List ℕ → Token = g.S.Stepper.grammar c.args.stepper.now in
+pub places-preserved : goal.places-preserved
+places-preserved g c =
     let law = g.S.Stepper.law c.args.stepper.now in
-    let at = c.args.self.now in
-    let is : IsText c.args.text.now = record { utf8 = c.utf8.text; fits = c.requires.fits } in
-    let s : IsStretch c.args.text.now at.at c.fill-count.result.0 c.fill-count.result.1 = stretch law c.args.text.now c.range_from.result.now at.at _ is c.requires.may_go_on.boundary c.range_from.ensures.value c.args.room.now c.fill-count.new.room c.fill-count.result.0 c.fill-count.result.1 c.fill-count.ensures.filled c.fill-count.ensures.bytes c.requires.places (omega arith) in
-    let inside = s.inside in
-    let fits = is.fits in
-    let old = c.requires.change.old_short in
-    let removed = ap (λ (d : Damage). d.removed) c.damage.ensures in
-    omega arith
-
-pub returns-clause-may_go_on : goal.returns-clause-may_go_on
-returns-clause-may_go_on g c =
     let first : List ℕ → Token = g.S.Stepper.grammar c.args.stepper.now in
-    let law = g.S.Stepper.law c.args.stepper.now in
-    let at = c.args.self.now in
-    let is : IsText c.args.text.now = record { utf8 = c.utf8.text; fits = c.requires.fits } in
-    let s : IsStretch c.args.text.now at.at c.fill-count.result.0 c.fill-count.result.1 = stretch law c.args.text.now c.range_from.result.now at.at _ is c.requires.may_go_on.boundary c.range_from.ensures.value c.args.room.now c.fill-count.new.room c.fill-count.result.0 c.fill-count.result.1 c.fill-count.ensures.filled c.fill-count.ensures.bytes c.requires.places (omega arith) in
+    let text : List ℕ = c.args.text.now in
+    let is : IsText text = record { utf8 = c.utf8.text; fits = c.requires.fits } in
+    let inv = c.places.invariant in
+    let begin = c.args.self.now in
+    let at = c.places.self in
+    let past = c.next.new.self in
+    let token = c.in-Some.token in
+    let step : IsStepTo first text c.args.change.new_stop at token past = subst (λ (f : List ℕ → Token). IsStepTo f text c.args.change.new_stop at token past) inv.grammar c.in-Some.ensures.step.0 in
+    let boundary = c.requires.may_go_on.boundary in
     record {
-      boundary = s.boundary;
-      number = c.follow-to.ensures.number;
-      apart = (let apart = c.requires.may_go_on.apart in let ahead = c.follow-to.ensures.ahead in omega arith);
-      small = c.follow-to.ensures.small;
-      few = (let long = s.long in let few = c.requires.may_go_on.few in omega arith);
+      may_go_on = c.in-Some.ensures.may_go_on;
+      grammar = c.in-Some.ensures.grammar ∙ inv.grammar;
+      number = c.in-Some.ensures.number ∙ inv.number;
+      count = omega (arith, c.in-Some.ensures.step.1, inv.count);
+      steps = step_more law text is c.args.change.new_stop begin at boundary c.places.count inv.steps token past step;
+      written = one_written g.R.Record.written (tokens_by first (drop begin.at text)) _ c.args.room.now c.places.room c.places.count token inv.written
+          (next_left law text is c.args.change.new_stop begin at boundary c.places.count inv.steps token past step) c.places-test.true c.of.result c.of.ensures;
+      begins = λ _. elim (cases_lt 0 c.places.count) [
+        | inl some ↦ inv.begins some
+        | inr none ↦ (let e : c.places.count ≡ 0 = omega arith in ap (is_over text) (sym (inv.steps.none e)) ∙ c.in-Some.ensures.step.2)
+      ];
+      stands = λ before insert made begun.
+          let Next : (List ℕ → Token) → Type 0 = λ f. IsMadeOf f before (map g.T.Measured.bytes c.args.old.now) c.args.change insert text → Stands f before c.args.change text at → Stands f before c.args.change text past in
+          subst Next inv.grammar (λ m s. (c.in-Some.ensures.stands before insert m s).0) made (inv.stands before insert made begun);
     }
 
-pub returns-clause-progress : goal.returns-clause-progress
-returns-clause-progress g c =
-    let first : List ℕ → Token = g.S.Stepper.grammar c.args.stepper.now in
-    let law = g.S.Stepper.law c.args.stepper.now in
-    let at = c.args.self.now in
-    let is : IsText c.args.text.now = record { utf8 = c.utf8.text; fits = c.requires.fits } in
-    let s : IsStretch c.args.text.now at.at c.fill-count.result.0 c.fill-count.result.1 = stretch law c.args.text.now c.range_from.result.now at.at _ is c.requires.may_go_on.boundary c.range_from.ensures.value c.args.room.now c.fill-count.new.room c.fill-count.result.0 c.fill-count.result.1 c.fill-count.ensures.filled c.fill-count.ensures.bytes c.requires.places (omega arith) in
-    let some = s.some in
-    let long = s.long in
-    omega arith
+pub returns-after-places-clause-stands : goal.returns-after-places-clause-stands
+returns-after-places-clause-stands g c = λ before insert made begun.
+    (c.places.invariant.stands before insert made begun, left_at (g.S.Stepper.law c.args.stepper.now) before _ insert c.args.text.now c.args.change made c.args.self.now begun)
 
-pub returns-clause-stands : goal.returns-clause-stands
-returns-clause-stands g c = λ before insert is_made stands.
-    let first : List ℕ → Token = g.S.Stepper.grammar c.args.stepper.now in
-    let law = g.S.Stepper.law c.args.stepper.now in
-    let at = c.args.self.now in
-    let is : IsText c.args.text.now = record { utf8 = c.utf8.text; fits = c.requires.fits } in
-    let s : IsStretch c.args.text.now at.at c.fill-count.result.0 c.fill-count.result.1 = stretch law c.args.text.now c.range_from.result.now at.at _ is c.requires.may_go_on.boundary c.range_from.ensures.value c.args.room.now c.fill-count.new.room c.fill-count.result.0 c.fill-count.result.1 c.fill-count.ensures.filled c.fill-count.ensures.bytes c.requires.places (omega arith) in
-    let bytes = c.fill-count.result.1 in
-    let later = below_later law before _ insert _ c.args.change is_made at stands (at.at + bytes) (omega arith) in
-    let to = c.follow-to.ensures.followed (tokens_by first before) is_made.lengths_are stands.followed.bound_is (rw c.damage.ensures later) in
-    let Followed : Damage → Type 0 = λ d. IsFollowed (tokens_by first before) d.past d.added d.removed (at.at + bytes) c.follow-to.result.at c.follow-to.result.met in
-    let followed = subst Followed c.damage.ensures to in
-    let left = c.range_from.ensures.value in
-    let filled = subst (λ (xs : List ℕ). IsFilledTo (λ (t : Token). t) (c.args.change.new_stop - at.at) (tokens_by first xs) c.args.room.now c.fill-count.new.room c.fill-count.result.0) left c.fill-count.ensures.filled in
-    let bytes_is = c.fill-count.ensures.bytes ∙ ap (λ (xs : List ℕ). bound (tokens_by first xs) c.fill-count.result.0) left in
-    stands_filled law before _ insert _ c.args.change is_made at stands c.requires.before c.args.room.now c.fill-count.new.room c.fill-count.result.0 bytes c.follow-to.result filled bytes_is s.some followed (λ early. c.follow-to.ensures.stays (rw c.damage.ensures early))
+pub returns-in_default-clause-stands : goal.returns-in_default-clause-stands
+returns-in_default-clause-stands g c = λ before insert made begun. (
+    subst (λ at. Stands (g.S.Stepper.grammar c.args.stepper.now) before c.args.change c.args.text.now at) (sym c.in_default.ensures.step.0) (c.places.invariant.stands before insert made begun),
+    left_at (g.S.Stepper.law c.args.stepper.now) before _ insert c.args.text.now c.args.change made c.args.self.now begun,
+  )
