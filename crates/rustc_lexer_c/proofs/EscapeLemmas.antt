@@ -1,10 +1,18 @@
 -- One more unit of a literal.
-use Rattle.std.proofs.Common.{◌≡◌, ℕ, zero, suc, false, true≢false, refl, ◌+◌, ◌<◌, ◌≤◌, List, [], ◌∷◌, ◌++◌, length, take, drop, min, sym, ap, ◌∙◌, arith, slice_set, Option, Some, None}
-use Rattle.std.proofs.lemmas.List.{drop-drop, drop-set-lt, length-drop, take-append-drop, take_more_set}
-use Rattle.std.specs.Option.{is_some}
-use Rattle.rustc_literal_escaper.specs.Elements.{TakesFirst}
+use Rattle.std.proofs.Common.{◌≡◌, ℕ, zero, suc, false, true≢false, refl, ◌+◌, ◌<◌, ◌≤◌, List, [], ◌∷◌, ◌++◌, length, map, take, drop, min, max, sym, ap, ◌∙◌, arith, slice_set, Option, Some, None}
+use Rattle.std.proofs.lemmas.List.{drop-drop, drop-set-lt, length-drop, length-map, take-append-drop, take_more_set}
+use Rattle.std.proofs.Math.Nat.{le-max_left, le-max_right, min-le_right}
+use Rattle.std.specs.Option.{is_some, option_to_list}
+use Rattle.std.specs.Str.{IsUtf8, chars}
+use Rattle.rustc_literal_escaper.specs.declared.mode.Mode.{Mode}
+use Rattle.rustc_literal_escaper.specs.Elements.{TakesFirst, items_of}
+use Rattle.rustc_literal_escaper.specs.Errors.{Error, errors_in, errors_of, is_raw, is_single, single_error}
+use Rattle.rustc_literal_escaper.proofs.FewLemmas.{alone-few, errors-few, items-few}
+use Rattle.rustc_literal_escaper.proofs.ItemLemmas.{either}
 use Rattle.rustc_lexer_c.specs.declared.escapes.CUnit.{CUnit}
-use Rattle.rustc_lexer_c.specs.Escapes.{IsUnits}
+use Rattle.rustc_lexer_c.specs.declared.escapes.Listing.{Listing}
+use Rattle.rustc_lexer_c.specs.declared.escapes.Listing.TheVariants.{Units, Errors}
+use Rattle.rustc_lexer_c.specs.Escapes.{IsUnits, item_unit, listed, single_unit, wrong_unit}
 use Rattle.rustc_lexer_c.proofs.BatchLemmas.{count_second}
 
 -- what is left past one more, if there is one
@@ -52,3 +60,19 @@ none_left all at past over passed room None is low none taken =
     let few = all_taken all over (sym is ∙ taken.0) in
     let left = length-drop passed all in
     units_done all passed room room 0 refl refl (count_second 0 (length room) (length (drop passed all)) (omega arith) (omega arith))
+
+-- there are no more of them than bytes, or one
+listed_few : (listing : Listing) (mode : Mode) (text : List ℕ) → IsUtf8 text → length (listed listing mode text) ≤ max 1 (length text)
+listed_few Units mode text is = either (λ (us : List CUnit). length us ≤ max 1 (length text)) (is_single mode) (single_unit mode text ∷ []) (map (item_unit mode) (items_of (is_raw mode) text))
+    (le-max_left 1 (length text))
+    (omega (arith, length-map (items_of (is_raw mode) text) (item_unit mode), items-few (is_raw mode) text is, le-max_right 1 (length text)))
+listed_few Errors mode text is =
+    let few : length (errors_of mode text) ≤ max 1 (length text) = either (λ (es : List Error). length es ≤ max 1 (length text)) (is_single mode) (option_to_list (single_error (length text) mode (chars text))) (errors_in mode (items_of (is_raw mode) text))
+        (omega (arith, alone-few (single_error (length text) mode (chars text)), le-max_left 1 (length text)))
+        (omega (arith, errors-few mode (items_of (is_raw mode) text), items-few (is_raw mode) text is, le-max_right 1 (length text))) in
+    omega (arith, few, length-map (errors_of mode text) (λ (e : Error). wrong_unit e.0 e.1))
+
+pub count_few : (listing : Listing) (mode : Mode) (text : List ℕ) → IsUtf8 text → (passed : ℕ) (room filled : List CUnit) (count : ℕ) → IsUnits (listed listing mode text) passed room filled count → count ≤ max 1 (length text)
+count_few listing mode text is passed room filled count units =
+    let all : List CUnit = listed listing mode text in
+    omega (arith, units.as_many, min-le_right (length room) (length (drop passed all)), length-drop passed all, listed_few listing mode text is)

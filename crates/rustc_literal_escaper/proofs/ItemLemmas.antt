@@ -15,7 +15,7 @@ pub either : {A : Type 0} (P : A → Type 0) (b : Bool) (x y : A) → P x → P 
 either P true x y p q = p
 either P false x y p q = q
 
-past_run-shorter : (p : ℕ → Bool) (s : List ℕ) → length (past_run p s) ≤ length s
+pub past_run-shorter : (p : ℕ → Bool) (s : List ℕ) → length (past_run p s) ≤ length s
 past_run-shorter p [] = omega arith
 past_run-shorter p (c ∷ s) = let all : length (past_run p s) ≤ length s = past_run-shorter p s in either (λ (xs : List ℕ). length xs ≤ length (c ∷ s)) (p c) (past_run p s) (c ∷ s) (omega arith) (omega arith)
 
@@ -43,7 +43,7 @@ unicode-shorter : (s : List ℕ) → IsWithin s (unicode s)
 unicode-shorter [] = omega arith
 unicode-shorter (c ∷ s) = let a : length (braced s).1 ≤ length s = braced-shorter s in either (IsWithin (c ∷ s)) (c == byte "{") (braced s) _ (omega arith) (omega arith)
 
-escape-shorter : (s : List ℕ) → IsWithin s (escape s)
+pub escape-shorter : (s : List ℕ) → IsWithin s (escape s)
 escape-shorter [] = omega arith
 escape-shorter (c ∷ s) =
     let a : length (hex s).1 ≤ length s = hex-shorter s in

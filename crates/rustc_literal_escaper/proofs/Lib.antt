@@ -13,3 +13,4 @@ pub mod WrittenLemmas
 pub mod SimpleLemmas
 pub mod RebuiltLemmas
 pub mod RunLemmas
+pub mod FewLemmas
