@@ -74,15 +74,14 @@ fn a_token_of_each_field(rt: HostRuntime) {
     assert_eq!(rt; (front.first, front.second, front.third), (1, 1, 0));
 }
 
-/// The edit of `docs/RELEXING.md`, by rooms of so many tokens.
-fn relexed(rt: &impl Abort, room_len: usize) -> CRelexing {
-    let all = batch(rt, b"let ab = cd + ef;", 0, 12);
-    let old = &all[..12];
-    let edit = CEdit {
-        start: 12,
-        old_stop: 13,
-        new_stop: 17,
-    };
+/// Relexes in the edition of 2024, by rooms of so many tokens, and answers how far it came.
+fn relexed(
+    rt: &impl Abort,
+    text: &[u8],
+    old: &[CToken],
+    edit: CEdit,
+    room_len: usize,
+) -> CRelexing {
     let mut relexing = CRelexing {
         kept_front: 0,
         front_place: 0,
@@ -93,32 +92,48 @@ fn relexed(rt: &impl Abort, room_len: usize) -> CRelexing {
         stage: 0,
     };
     for _ in 0..8 {
-        let mut room = [NO_TOKEN; 32];
+        let mut room = [NO_TOKEN; 400];
         let mut count = 0;
-        assert!(rt; room_len <= 32);
-        let text = b"let ab = cd - 1 - ef;";
-        assert_eq!(rt;
-            rustc_lexer_relex(
-                text,
-                old,
-                &edit,
-                2024,
-                &mut relexing,
-                &mut room[..room_len],
-                &mut count,
-            ),
-            0
-        );
+        assert!(rt; room_len <= 400);
+        let place = &mut room[..room_len];
+        let status = rustc_lexer_relex(text, old, &edit, 2024, &mut relexing, place, &mut count);
+        assert_eq!(rt; status, 0);
     }
     relexing
 }
 
+/// The edit of `docs/RELEXING.md`.
 #[test]
 fn an_edit(rt: HostRuntime) {
+    let all = batch(&rt, b"let ab = cd + ef;", 0, 12);
+    let old = &all[..12];
+    let edit = CEdit {
+        start: 12,
+        old_stop: 13,
+        new_stop: 17,
+    };
     for room_len in 1..9 {
-        let end = relexed(&rt, room_len);
+        let end = relexed(&rt, b"let ab = cd - 1 - ef;", old, edit, room_len);
         assert_eq!(&rt; (end.kept_front, end.lexed, end.kept_back), (6, 7, 3));
         assert_eq!(&rt; (end.front_place, end.back_place, end.at), (9, 13, 17));
+        assert_eq!(&rt; end.stage, 2);
+    }
+}
+
+/// 300 symbols are put in between two: what stands less than two characters before them is lexed again.
+#[test]
+fn a_long_edit(rt: HostRuntime) {
+    let all = batch(&rt, b";;", 0, 2);
+    let old = &all[..2];
+    let edit = CEdit {
+        start: 1,
+        old_stop: 1,
+        new_stop: 301,
+    };
+    for room_len in [40, 64, 300, 301, 400] {
+        let end = relexed(&rt, &[b';'; 302], old, edit, room_len);
+        assert_eq!(&rt; (end.kept_front, end.lexed, end.kept_back), (0, 301, 1));
+        assert_eq!(&rt; (end.front_place, end.back_place, end.at), (0, 1, 301));
         assert_eq!(&rt; end.stage, 2);
     }
 }

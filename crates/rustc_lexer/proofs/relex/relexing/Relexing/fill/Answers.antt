@@ -56,7 +56,7 @@ places-preserved g c =
       count = omega (arith, c.in-Some.ensures.step.1, inv.count);
       steps = step_more law text is c.args.change.new_stop begin at boundary c.places.count inv.steps token past step;
       written = one_written g.R.Record.written (tokens_by first (drop begin.at text)) _ c.args.room.now c.places.room c.places.count token inv.written
-          (next_left law text is c.args.change.new_stop begin at boundary c.places.count inv.steps token past step) c.places-test.true c.of.result c.of.ensures;
+          (next_left law text is c.args.change.new_stop begin at boundary c.places.count inv.steps token past step) (let less = c.places-test.true in omega arith) c.of.result c.of.ensures;
       begins = λ _. elim (cases_lt 0 c.places.count) [
         | inl some ↦ inv.begins some
         | inr none ↦ (let e : c.places.count ≡ 0 = omega arith in ap (is_over text) (sym (inv.steps.none e)) ∙ c.in-Some.ensures.step.2)
