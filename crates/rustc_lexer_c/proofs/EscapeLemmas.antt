@@ -68,8 +68,8 @@ listed_few Units mode text is = either (λ (us : List CUnit). length us ≤ max 
     (omega (arith, length-map (items_of (is_raw mode) text) (item_unit mode), items-few (is_raw mode) text is, le-max_right 1 (length text)))
 listed_few Errors mode text is =
     let few : length (errors_of mode text) ≤ max 1 (length text) = either (λ (es : List Error). length es ≤ max 1 (length text)) (is_single mode) (option_to_list (single_error (length text) mode (chars text))) (errors_in mode (items_of (is_raw mode) text))
-        (omega (arith, alone-few (single_error (length text) mode (chars text)), le-max_left 1 (length text)))
-        (omega (arith, errors-few mode (items_of (is_raw mode) text), items-few (is_raw mode) text is, le-max_right 1 (length text))) in
+    (omega (arith, alone-few (single_error (length text) mode (chars text)), le-max_left 1 (length text)))
+    (omega (arith, errors-few mode (items_of (is_raw mode) text), items-few (is_raw mode) text is, le-max_right 1 (length text))) in
     omega (arith, few, length-map (errors_of mode text) (λ (e : Error). wrong_unit e.0 e.1))
 
 pub count_few : (listing : Listing) (mode : Mode) (text : List ℕ) → IsUtf8 text → (passed : ℕ) (room filled : List CUnit) (count : ℕ) → IsUnits (listed listing mode text) passed room filled count → count ≤ max 1 (length text)

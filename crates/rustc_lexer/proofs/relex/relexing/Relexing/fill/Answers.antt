@@ -72,6 +72,6 @@ returns-after-places-clause-stands g c = λ before insert made begun.
 
 pub returns-in_default-clause-stands : goal.returns-in_default-clause-stands
 returns-in_default-clause-stands g c = λ before insert made begun. (
-    subst (λ at. Stands (g.S.Stepper.grammar c.args.stepper.now) before c.args.change c.args.text.now at) (sym c.in_default.ensures.step.0) (c.places.invariant.stands before insert made begun),
-    left_at (g.S.Stepper.law c.args.stepper.now) before _ insert c.args.text.now c.args.change made c.args.self.now begun,
-  )
+  subst (λ at. Stands (g.S.Stepper.grammar c.args.stepper.now) before c.args.change c.args.text.now at) (sym c.in_default.ensures.step.0) (c.places.invariant.stands before insert made begun),
+  left_at (g.S.Stepper.law c.args.stepper.now) before _ insert c.args.text.now c.args.change made c.args.self.now begun,
+)
