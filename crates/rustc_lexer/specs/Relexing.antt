@@ -109,6 +109,12 @@ pub record TakesSteps (first : List ℕ → Token) (text : List ℕ) (past : ℕ
   pub same_back : at'.at < past → at'.back ≡ at.back
   pub not_met : 0 < count → at'.at < past → at'.met ≡ false
 
+-- of each old text of which the old tokens have the lengths, and of which the change made this one: relexing that stands
+-- there before stands there after, and the text that was left has the tokens that were still to come
+abbrev pub GoesOn : (List ℕ → Token) → List ℕ → List ℕ → Change → Relexing → Relexing → Type 0
+GoesOn first lengths text change at at' = (before insert : List ℕ) → IsMadeOf first before lengths change insert text → Stands first before change text at
+    → Stands first before change text at' × (tokens_by first (drop at.at text) ≡ drop (known at) (tokens_by first text))
+
 -- what it gives is the next of the tokens, and nothing only where the old ones are met
 abbrev pub GivesNext : List Token → Relexing → Option Token → Relexing → Type 0
 GivesNext tokens at None at' = at'.met ≡ true

@@ -201,12 +201,8 @@ impl Relexing {
         ensures room { result ≤ length room.old }
         ensures begins { 0 < result → spec.is_over text.now self.old ≡ false }
         ensures over { result < length room.old → spec.is_over text.now self.new ≡ true }
-        ensures stands { (before insert : List ℕ)
-            → spec.IsMadeOf (S.grammar stepper.old) before (map T.bytes old.now) change insert text.now
-            → spec.Stands (S.grammar stepper.old) before change text.now self.old
-            → spec.Stands (S.grammar stepper.old) before change text.now self.new
-            × (tokens_by (S.grammar stepper.old) (drop self.old.at text.now)
-            ≡ drop (known self.old) (tokens_by (S.grammar stepper.old) text.now)) }
+        ensures stands { spec.GoesOn (S.grammar stepper.old) (map T.bytes old.now) text.now change
+            self.old self.new }
     {
         let mut count = 0;
         if self.at + LONG <= change.new_stop && !self.is_over(text) && !room.is_empty() {
@@ -241,19 +237,15 @@ impl Relexing {
         ensures grammar { S.grammar stepper.new ≡ S.grammar stepper.old }
         ensures number { S.number stepper.new ≡ S.number stepper.old }
         ensures count { S.count stepper.new ≡ S.count stepper.old + result }
+        ensures progress { self.old.at < self.new.at }
+        ensures room { (result ≤ length room.old) × (length room.new ≡ length room.old) }
         ensures steps { spec.TakesSteps (S.grammar stepper.old) text.now change.new_stop
             self.old result self.new }
         ensures tokens { room.new
             ≡ map R.written (take result (tokens_by (S.grammar stepper.old) (drop self.old.at text.now)))
             ++ drop result room.old }
-        ensures progress { self.old.at < self.new.at }
-        ensures room { (result ≤ length room.old) × (length room.new ≡ length room.old) }
-        ensures stands { (before insert : List ℕ)
-            → spec.IsMadeOf (S.grammar stepper.old) before (map T.bytes old.now) change insert text.now
-            → spec.Stands (S.grammar stepper.old) before change text.now self.old
-            → spec.Stands (S.grammar stepper.old) before change text.now self.new
-            × (tokens_by (S.grammar stepper.old) (drop self.old.at text.now)
-            ≡ drop (known self.old) (tokens_by (S.grammar stepper.old) text.now)) }
+        ensures stands { spec.GoesOn (S.grammar stepper.old) (map T.bytes old.now) text.now change
+            self.old self.new }
     {
         let (count, bytes) = stepper.fill(&text[self.at..], change.new_stop - self.at, room);
         let at = self.at + bytes;
