@@ -170,7 +170,7 @@ fn sum_blocks(text: &str, reads_fields: bool) -> TokenSum
     let mut tokens = tokenize(text, FrontmatterAllowed::No);
     'left: while !tokens.as_str().is_empty() {
         let count = tokens.fill(&mut room);
-        for token in room.iter().take(count) {
+        for token in &room[..count] {
             sum = if reads_fields {
                 sum.and(*token)
             } else {
