@@ -32,6 +32,8 @@ mod quotes;
 #[cfg(test)]
 mod raw_strings;
 #[cfg(test)]
+mod relexing;
+#[cfg(test)]
 mod rows;
 #[cfg(test)]
 mod shebang;

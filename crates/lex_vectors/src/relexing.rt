@@ -1,0 +1,52 @@
+//! One edit on a list of tokens that the caller holds.
+use rustc_lexer::TokenKind::{Eof, Ident, Whitespace};
+use rustc_lexer::{Bound, Change, Relexed, Relexing, Steps, Token};
+
+const WORD: Token = Token {
+    kind: Ident,
+    len: 2,
+};
+
+const LETTER: Token = Token {
+    kind: Ident,
+    len: 1,
+};
+
+const SPACE: Token = Token {
+    kind: Whitespace,
+    len: 1,
+};
+
+/// `ab cd ef` is changed to `ab x y ef`. Its new tokens come by rooms of two, and by single steps.
+#[test]
+fn a_list_of_the_caller(rt: HostRuntime) {
+    let old = [WORD, SPACE, WORD, SPACE, WORD];
+    let text = "ab x y ef";
+    let change = Change {
+        start: 3,
+        old_stop: 5,
+        new_stop: 6,
+    };
+    assert!(rt; change.may_make(text));
+    let front = Bound {
+        number: 0,
+        place: 0,
+    };
+    let mut steps = Steps::new();
+    let mut room = [Token { kind: Eof, len: 0 }; 2];
+    let mut relexing = Relexing::begin(text, &old, change, front);
+    assert_eq!(rt; relexing.fill(&mut steps, text, &old, change, &mut room), 2);
+    assert_eq!(rt; room, [WORD, SPACE]);
+    assert_eq!(rt; relexing.next(&mut steps, text, &old, change), Some(LETTER));
+    assert_eq!(rt; relexing.fill(&mut steps, text, &old, change, &mut room), 2);
+    assert_eq!(rt; room, [SPACE, LETTER]);
+    assert!(rt; relexing.is_over(text));
+    assert_eq!(rt; relexing.fill(&mut steps, text, &old, change, &mut room), 0);
+    assert_eq!(rt; relexing.next(&mut steps, text, &old, change), None);
+    let wanted = Relexed {
+        kept_front: 0,
+        lexed: 5,
+        kept_back: 2,
+    };
+    assert_eq!(rt; relexing.counts(old.len()), wanted);
+}
