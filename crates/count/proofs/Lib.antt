@@ -1,1 +1,4 @@
+pub mod JsonLemmas
 pub mod LineLemmas
+pub mod OutcomeLemmas
+pub mod TableLemmas

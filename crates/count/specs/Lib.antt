@@ -1,4 +1,7 @@
 pub mod Counter
+pub mod Json
 pub mod Lines
+pub mod Outcome
 pub mod Report
 pub mod Stop
+pub mod Table

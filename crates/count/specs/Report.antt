@@ -1,6 +1,8 @@
 -- Sums of the numbers of files.
-use Rattle.std.specs.Prelude.{ℕ, ◌+◌, ◌-◌, ◌^◌, min}
+use Rattle.std.specs.Prelude.{ℕ, ◌+◌, ◌-◌, ◌^◌, min, List, fold}
 use Rattle.count.specs.declared.lines.LineCounts.{LineCounts}
+use Rattle.count.specs.declared.report.FileCounts.{FileCounts}
+use Rattle.count.specs.Lines.{lines_counted}
 
 abbrev pub no_counts : LineCounts
 no_counts = record { code = 0; doc = 0; comment = 0; blank = 0; code_and_doc = 0; code_and_comment = 0; doc_and_comment = 0 }
@@ -19,3 +21,11 @@ sums a b = record {
   code_and_comment = sum_of a.code_and_comment b.code_and_comment;
   doc_and_comment = sum_of a.doc_and_comment b.doc_and_comment;
 }
+
+-- the sums of the numbers of files
+abbrev pub total_of : List FileCounts → LineCounts
+total_of files = fold (λ total file. sums total file.counts) no_counts files
+
+-- all lines, or the greatest number of 64 bits where they are more
+abbrev pub all_lines : LineCounts → ℕ
+all_lines counts = min (lines_counted counts) (2 ^ 64 - 1)

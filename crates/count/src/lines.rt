@@ -5,7 +5,7 @@ ghost use Rattle.std.specs.Str.Lines.{lines};
 ghost use Rattle.rustc_lexer.specs.Classes.{Fits};
 ghost use Rattle.count.specs.Counter as counter;
 ghost use Rattle.count.specs.Lines as spec;
-ghost use Rattle.count.specs.Report.{sums};
+ghost use Rattle.count.specs.Report.{all_lines, sums};
 
 use rustc_lexer::{FrontmatterAllowed, TokenKind, strip_shebang, tokenize};
 
@@ -134,7 +134,8 @@ impl LineCounts {
 
     /// All lines. Past 2^64 the number stays at the greatest one.
     pub fn lines(&self) -> u64
-        ensures { spec.lines_counted self.now < 2 ^ 64 → result ≡ spec.lines_counted self.now }
+        ensures all { result ≡ all_lines self.now }
+        ensures exact { spec.lines_counted self.now < 2 ^ 64 → result ≡ spec.lines_counted self.now }
     {
         self.code
             .saturating_add(self.doc)

@@ -1,14 +1,17 @@
 //! A whole run: from files, folders or standard input to a report.
-ghost use Rattle.std.specs.Prelude.{◌≡◌, ◌^◌, ◌≤◌, IfOk, IfSome, IsErrOf, OnOk, length};
+ghost use Rattle.std.specs.Prelude.{◌≡◌, ◌^◌, ◌≤◌, [], ◌++◌, All, IfErr, IfOk, IfSome, IsErrOf, OnOk, codes, length, map};
 ghost use Rattle.std.specs.Io.KnownBytes.{Appends};
 ghost use Rattle.std.specs.Str.{IsUtf8};
 ghost use Rattle.std.specs.Str.Lines.{lines};
 ghost use Rattle.count.specs.Lines.{line_counts, lines_counted};
+ghost use Rattle.count.specs.Outcome.{Sources, passed_over, source, IsOfOne, IsOfSource};
+ghost use Rattle.count.specs.Outcome as spec;
+ghost use Rattle.count.specs.Report.{no_counts, sums, total_of};
 
 use crate::lines::{LineCounts, count_lines};
 use crate::report::Report;
 use crate::stop::Stop;
-use sources::{Fault, PathFault, Reason, find, read_source, read_text, text_of};
+use sources::{Fault, Found, PathFault, Reason, find, read_source, read_text, text_of};
 use std::alloc::{AllocError, Global};
 use std::io::{ErrorKind, Read, Write};
 use std::rt::Files;
@@ -38,7 +41,14 @@ pub fn count_input<R: Read>(alloc: Global, input: &mut R) -> Result<LineCounts, 
 }
 
 /// Counts the lines of standard input, as of a file with the name `-`.
-pub fn count_stdin<R: Read>(alloc: Global, input: &mut R) -> Result<Outcome, AllocError> {
+pub fn count_stdin<R: Read>(alloc: Global, input: &mut R) -> Result<Outcome, AllocError>
+    ensures one { IfOk result (λ outcome.
+        IsOfOne (codes "-") outcome.report.files.items outcome.faults.items) }
+    ensures counts { IfOk result (λ outcome. IfSome (R.remaining input.old)
+        (λ bytes. All (λ file. file.counts ≡ line_counts bytes) outcome.report.files.items)) }
+    ensures total { IfOk result
+        (λ outcome. outcome.report.total ≡ total_of outcome.report.files.items) }
+{
     let mut outcome = Outcome::new(alloc);
     let counted = count_input(alloc, input);
     outcome.take(String::from_str(alloc, "-")?, counted)?;
@@ -49,8 +59,22 @@ pub fn count_stdin<R: Read>(alloc: Global, input: &mut R) -> Result<Outcome, All
 pub fn count_paths<R: Files + AllocGlobal + Clone + Drop>(
     rt: &R,
     paths: &[&str],
-) -> Result<Outcome, AllocError> {
-    let found = find(rt, paths)?;
+) -> Result<Outcome, AllocError>
+    ensures total { IfOk result
+        (λ outcome. outcome.report.total ≡ total_of outcome.report.files.items) }
+{
+    count_found(rt, find(rt, paths)?)
+}
+
+/// Counts the lines of the files that were found: each is counted or passed over, in order.
+fn count_found<R: Files + AllocGlobal>(rt: &R, found: Found) -> Result<Outcome, AllocError>
+    ensures sources { IfOk result (λ outcome. (sources : Sources)
+        × (map (λ came. came.0) sources ≡ found.files.items)
+        × (outcome.report.files.items ≡ spec.counted sources)
+        × (outcome.faults.items ≡ found.faults.items ++ passed_over sources)) }
+    ensures total { IfOk result
+        (λ outcome. outcome.report.total ≡ total_of outcome.report.files.items) }
+{
     let mut outcome = Outcome {
         report: Report::new(rt.alloc()),
         faults: found.faults,
@@ -79,7 +103,12 @@ pub struct Outcome {
 }
 
 impl Outcome {
-    fn new(alloc: Global) -> Outcome {
+    /// Of no source.
+    fn new(alloc: Global) -> Outcome
+        ensures files { result.report.files.items ≡ [] }
+        ensures total { result.report.total ≡ no_counts }
+        ensures faults { result.faults.items ≡ [] }
+    {
         Outcome {
             report: Report::new(alloc),
             faults: Vec::new(alloc),
@@ -87,7 +116,17 @@ impl Outcome {
     }
 
     /// Takes what came of one source.
-    fn take(&mut self, path: String, counted: Result<LineCounts, Fault>) -> Result<(), AllocError> {
+    fn take(&mut self, path: String, counted: Result<LineCounts, Fault>) -> Result<(), AllocError>
+        ensures memory { OnOk result (IsOfSource counted) }
+        ensures files { OnOk result (self.new.report.files.items
+            ≡ self.old.report.files.items ++ spec.counted (source path counted)) }
+        ensures faults { OnOk result
+            (self.new.faults.items ≡ self.old.faults.items ++ passed_over (source path counted)) }
+        ensures total { OnOk result
+            (IfOk counted (λ counts. self.new.report.total ≡ sums self.old.report.total counts)) }
+        ensures kept { OnOk result
+            (IfErr counted (λ _. self.new.report.total ≡ self.old.report.total)) }
+    {
         match counted {
             Ok(counts) => self.report.add(path, counts),
             Err(Fault::Source(reason)) => {
