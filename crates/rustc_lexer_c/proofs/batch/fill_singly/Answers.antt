@@ -7,7 +7,9 @@ use Rattle.rustc_lexer.specs.Tokens.{tokens_of, tokens_left}
 use Rattle.rustc_lexer.proofs.PlaceLemmas.{stands_past}
 use Rattle.rustc_lexer.proofs.StateLemmas.{state}
 use Rattle.rustc_lexer_c.specs.Batch.{allowed_of, mode_number, state_at}
-use Rattle.rustc_lexer_c.proofs.BatchLemmas.{allowed_back, count_first, count_second, number_of-mode, state_step, left_step, few_step, front_step, back_step, room_filled, all_taken}
+use Rattle.rustc_lexer_c.specs.Numbers.{token_numbers}
+use Rattle.rustc_lexer_c.proofs.BatchLemmas.{allowed_back, number_of-mode, state_step}
+use Rattle.rustc_lexer_c.proofs.RoomLemmas.{all_taken, back_step, count_first, count_second, few_step, front_step, left_step, room_filled}
 use Rattle.rustc_lexer_c.proofs.batch.fill_singly.Goals as goal
 use Rattle.rustc_lexer_c.proofs.batch.fill_singly.Goals.{else-loop-count-test, then-loop-count-test+in_default}
 
@@ -55,7 +57,7 @@ loop-count-preserved c =
       few = few_step all (tokens_left past) c.loop-count.count token next;
       within = let same = length-set c.loop-count.room c.loop-count.count c.token_numbers.result in omega arith;
       front = ap (λ t. take (c.loop-count.count + 1) (slice_set c.loop-count.room c.loop-count.count t)) c.token_numbers.ensures
-          ∙ front_step all (tokens_left past) c.loop-count.count token next c.loop-count.room room inv.front;
+          ∙ front_step all (tokens_left past) c.loop-count.count token next token_numbers c.loop-count.room room inv.front;
       back = back_step c.loop-count.room c.args.room.now c.loop-count.count c.token_numbers.result inv.back;
     }
 
@@ -76,7 +78,7 @@ returns c =
         | then-loop-count-test+in_default w ↦ let none = all_taken all c.loop-count.count (sym inv.left ∙ w.in_default.ensures.steps.0) in
             count_second c.loop-count.count (length c.args.room.now) (length all) (omega arith) (omega arith)
       ];
-      tokens = room_filled c.loop-count.room c.args.room.now all c.loop-count.count inv.front inv.back;
+      tokens = room_filled c.loop-count.room c.args.room.now _ c.loop-count.count inv.front inv.back;
       boundary = inv.place.0;
       rest = inv.place.1 ∙ ap (λ (s : State). s.rest) inv.past;
       allowed = c.allowed_number.ensures ∙ (number_of-mode c.loop-count.allowed ∙ ap mode_number (inv.mode ∙ ap (λ (s : State). s.mode) inv.past));

@@ -1,0 +1,40 @@
+-- A list that is written into a room, one more at a time.
+use Rattle.std.proofs.Common.{◌≡◌, ℕ, ◌+◌, ◌<◌, ◌≤◌, List, [], ◌∷◌, ◌++◌, length, map, take, drop, min, sym, ap, ◌∙◌, arith, slice_set, take-add}
+use Rattle.std.proofs.lemmas.List.{drop-drop, drop-set-lt, length-drop, map-append, take-append-drop, take_more_set}
+use Rattle.std.proofs.Math.Nat.{min-eq_left, min-eq_right}
+
+module _ {X : Type 0} (all left : List X) (count : ℕ) (x : X) (next : drop count all ≡ x ∷ left) where
+  -- what is left past one more
+  pub left_step : left ≡ drop (count + 1) all
+  left_step = ap (drop 1) (sym next) ∙ drop-drop 1 count all
+
+  pub few_step : count + 1 ≤ length all
+  few_step = let n = length-drop count all in let m = ap (λ (xs : List X). length xs) next in omega arith
+
+  -- the room past one more
+  pub front_step : {Y : Type 0} (f : X → Y) (room : List Y) → count < length room → take count room ≡ map f (take count all) → take (count + 1) (slice_set room count (f x)) ≡ map f (take (count + 1) all)
+  front_step f room fits front =
+      take_more_set room count (f x) fits
+      ∙ (ap (λ l. l ++ f x ∷ []) front
+      ∙ (sym (map-append f (take count all) (x ∷ []))
+      ∙ ap (map f) (sym (take-add count 1 all ∙ ap (λ l. take count all ++ take 1 l) next))))
+
+pub back_step : {Y : Type 0} (room old : List Y) (count : ℕ) (y : Y) → drop count room ≡ drop count old → drop (count + 1) (slice_set room count y) ≡ drop (count + 1) old
+back_step room old count y back =
+    let low : count < count + 1 = omega arith in
+    drop-set-lt (count + 1) room count y low ∙ (sym (drop-drop 1 count room) ∙ (ap (drop 1) back ∙ drop-drop 1 count old))
+
+-- what the room holds at the end
+pub room_filled : {Y : Type 0} (room old front : List Y) (count : ℕ) → take count room ≡ front → drop count room ≡ drop count old → room ≡ front ++ drop count old
+room_filled room old front count is back = sym (take-append-drop count room) ∙ (ap (λ l. l ++ drop count room) is ∙ ap (λ l. front ++ l) back)
+
+-- past all of a list none is left
+pub all_taken : {X : Type 0} (all : List X) (count : ℕ) → drop count all ≡ [] → length all ≤ count
+all_taken {X} all count none = let n = length-drop count all in let m = ap (λ (xs : List X). length xs) none in omega arith
+
+-- the lesser of two counts that it is not above
+pub count_first : (count a b : ℕ) → count ≡ a → count ≤ b → count ≡ min a b
+count_first count a b same few = let low : a ≤ b = omega arith in same ∙ sym (min-eq_left low)
+
+pub count_second : (count a b : ℕ) → count ≤ a → count ≡ b → count ≡ min a b
+count_second count a b few same = let low : b ≤ a = omega arith in same ∙ sym (min-eq_right low)
