@@ -8,6 +8,7 @@ use Rattle.rustc_lexer.specs.declared.relex.relexing.Change.{Change}
 use Rattle.rustc_lexer.specs.declared.relex.relexing.Relexing.{Relexing}
 use Rattle.rustc_lexer.specs.declared.token.Token.{Token}
 use Rattle.rustc_lexer.specs.Bulk.{IsFilledTo}
+use Rattle.rustc_lexer.specs.Classes.{Fits}
 use Rattle.rustc_lexer.specs.Edits.{is_bound, meets_at}
 use Rattle.rustc_lexer.specs.Locality.{IsText, IsGrammar}
 use Rattle.rustc_lexer.specs.Relexing.{IsFollowed, IsMadeOf, IsStepTo, Stands, TakesSteps, added_by, known, removed_by}
@@ -129,9 +130,9 @@ pub record IsStretch (text : List ℕ) (at count bytes : ℕ) : Type 0 where
   pub some : 0 < count
   pub long : count ≤ bytes
 
-pub stretch : {first : List ℕ → Token} (law : IsGrammar first) (text left : List ℕ) (at end : ℕ) → IsText text → IsCharBoundary text at → left ≡ drop at text → {X : Type 0} (written : Token → X) (room filled : List X) (count bytes : ℕ) → IsFilledTo written end (tokens_by first left) room filled count → bytes ≡ bound (tokens_by first left) count → 0 < length room → 0 < end → IsStretch text at count bytes
-stretch {first} law text left at end is cut left_is written room filled count bytes is_filled bytes_is places more =
-    let left_text : IsText left = rw left_is record { utf8 = IsUtf8-drop text at is.utf8 cut; fits = (let f = is.fits in omega (arith, length-drop at text)) } in
+pub stretch : {first : List ℕ → Token} (law : IsGrammar first) {text left : List ℕ} {at end : ℕ} → IsUtf8 text → Fits text → IsCharBoundary text at → left ≡ drop at text → {X : Type 0} {written : Token → X} {room filled : List X} {count bytes : ℕ} → IsFilledTo written (end - at) (tokens_by first left) room filled count → bytes ≡ bound (tokens_by first left) count → 0 < length room → at < end → IsStretch text at count bytes
+stretch {first} law {text} {left} {at} {end} utf8 fits cut left_is {X} {written} {room} {filled} {count} {bytes} is_filled bytes_is places more =
+    let left_text : IsText left = rw left_is record { utf8 = IsUtf8-drop text at utf8 cut; fits = omega (arith, fits, length-drop at text) } in
     let spot : IsPlace left bytes = place_stands law left left_text count bytes bytes_is in
     let inside : at + bytes ≤ length text = omega (arith, spot.inside, ap length left_is, length-drop at text, cut.0) in
     let back : IsUtf8 (drop (at + bytes) text) = subst IsUtf8 (ap (drop bytes) left_is ∙ drop-drop bytes at text) spot.past.utf8 in

@@ -4,85 +4,48 @@ use Rattle.rustc_lexer.specs.declared.token.Token.{Token}
 use Rattle.rustc_lexer.specs.Bulk.{IsFilledTo}
 use Rattle.rustc_lexer.specs.Tokens.{bound, tokens_by}
 use Rattle.rustc_lexer.specs.Relexing.{IsFollowed}
-use Rattle.rustc_lexer.specs.Locality.{IsText}
-use Rattle.rustc_lexer.proofs.RelexBlockLemmas.{IsStretch, stretch, stands_filled}
+use Rattle.rustc_lexer.proofs.RelexBlockLemmas.{stretch, stands_filled}
 use Rattle.rustc_lexer.proofs.RelexingLemmas.{below_later}
 use Rattle.rustc_lexer.proofs.relex.relexing.Relexing.fill_inserted.Goals as goal
 
 pub overflow_add-at : goal.overflow_add-at
 overflow_add-at g c =
-    let first : List ℕ → Token = g.S.Stepper.grammar c.args.stepper.now in
-    let law = g.S.Stepper.law c.args.stepper.now in
-    let at = c.args.self.now in
-    let is : IsText c.args.text.now = record { utf8 = c.utf8.text; fits = c.requires.fits } in
-    let s : IsStretch c.args.text.now at.at c.fill-count.result.0 c.fill-count.result.1 = stretch law c.args.text.now c.range_from.result.now at.at _ is c.requires.may_go_on.boundary c.range_from.ensures.value g.R.Record.written c.args.room.now c.fill-count.new.room c.fill-count.result.0 c.fill-count.result.1 c.fill-count.ensures.filled c.fill-count.ensures.bytes c.requires.places (omega arith) in
-    let inside = s.inside in
-    let fits = is.fits in
-    omega arith
+    let s = stretch (g.S.Stepper.law c.args.stepper.now) c.utf8.text c.requires.fits c.requires.may_go_on.boundary c.range_from.ensures.value c.fill-count.ensures.filled c.fill-count.ensures.bytes c.requires.places c.requires.before in
+    omega (arith, s.inside, c.requires.fits)
 
 pub overflow_add-self : goal.overflow_add-self
 overflow_add-self g c =
-    let first : List ℕ → Token = g.S.Stepper.grammar c.args.stepper.now in
-    let law = g.S.Stepper.law c.args.stepper.now in
-    let at = c.args.self.now in
-    let is : IsText c.args.text.now = record { utf8 = c.utf8.text; fits = c.requires.fits } in
-    let s : IsStretch c.args.text.now at.at c.fill-count.result.0 c.fill-count.result.1 = stretch law c.args.text.now c.range_from.result.now at.at _ is c.requires.may_go_on.boundary c.range_from.ensures.value g.R.Record.written c.args.room.now c.fill-count.new.room c.fill-count.result.0 c.fill-count.result.1 c.fill-count.ensures.filled c.fill-count.ensures.bytes c.requires.places (omega arith) in
-    let inside = s.inside in
-    let long = s.long in
-    let few = c.requires.may_go_on.few in
-    let fits = is.fits in
-    omega arith
+    let s = stretch (g.S.Stepper.law c.args.stepper.now) c.utf8.text c.requires.fits c.requires.may_go_on.boundary c.range_from.ensures.value c.fill-count.ensures.filled c.fill-count.ensures.bytes c.requires.places c.requires.before in
+    omega (arith, s.inside, s.long, c.requires.may_go_on.few, c.requires.fits)
 
 pub follow-to-requires-clause-place_fits : goal.follow-to-requires-clause-place_fits
 follow-to-requires-clause-place_fits g c =
-    let first : List ℕ → Token = g.S.Stepper.grammar c.args.stepper.now in
-    let law = g.S.Stepper.law c.args.stepper.now in
-    let at = c.args.self.now in
-    let is : IsText c.args.text.now = record { utf8 = c.utf8.text; fits = c.requires.fits } in
-    let s : IsStretch c.args.text.now at.at c.fill-count.result.0 c.fill-count.result.1 = stretch law c.args.text.now c.range_from.result.now at.at _ is c.requires.may_go_on.boundary c.range_from.ensures.value g.R.Record.written c.args.room.now c.fill-count.new.room c.fill-count.result.0 c.fill-count.result.1 c.fill-count.ensures.filled c.fill-count.ensures.bytes c.requires.places (omega arith) in
-    let inside = s.inside in
-    let fits = is.fits in
-    let old = c.requires.change.old_short in
-    let removed = ap (λ (d : Damage). d.removed) c.damage.ensures in
-    omega arith
+    let s = stretch (g.S.Stepper.law c.args.stepper.now) c.utf8.text c.requires.fits c.requires.may_go_on.boundary c.range_from.ensures.value c.fill-count.ensures.filled c.fill-count.ensures.bytes c.requires.places c.requires.before in
+    omega (arith, s.inside, c.requires.fits, c.requires.change.old_short, ap (λ (d : Damage). d.removed) c.damage.ensures)
 
 pub returns-clause-may_go_on : goal.returns-clause-may_go_on
 returns-clause-may_go_on g c =
-    let first : List ℕ → Token = g.S.Stepper.grammar c.args.stepper.now in
-    let law = g.S.Stepper.law c.args.stepper.now in
-    let at = c.args.self.now in
-    let is : IsText c.args.text.now = record { utf8 = c.utf8.text; fits = c.requires.fits } in
-    let s : IsStretch c.args.text.now at.at c.fill-count.result.0 c.fill-count.result.1 = stretch law c.args.text.now c.range_from.result.now at.at _ is c.requires.may_go_on.boundary c.range_from.ensures.value g.R.Record.written c.args.room.now c.fill-count.new.room c.fill-count.result.0 c.fill-count.result.1 c.fill-count.ensures.filled c.fill-count.ensures.bytes c.requires.places (omega arith) in
+    let s = stretch (g.S.Stepper.law c.args.stepper.now) c.utf8.text c.requires.fits c.requires.may_go_on.boundary c.range_from.ensures.value c.fill-count.ensures.filled c.fill-count.ensures.bytes c.requires.places c.requires.before in
     record {
       boundary = s.boundary;
       number = c.follow-to.ensures.number;
-      apart = (let apart = c.requires.may_go_on.apart in let ahead = c.follow-to.ensures.ahead in omega arith);
+      apart = omega (arith, c.requires.may_go_on.apart, c.follow-to.ensures.ahead);
       small = c.follow-to.ensures.small;
-      few = (let long = s.long in let few = c.requires.may_go_on.few in omega arith);
+      few = omega (arith, s.long, c.requires.may_go_on.few);
     }
 
 pub returns-clause-progress : goal.returns-clause-progress
 returns-clause-progress g c =
-    let first : List ℕ → Token = g.S.Stepper.grammar c.args.stepper.now in
-    let law = g.S.Stepper.law c.args.stepper.now in
-    let at = c.args.self.now in
-    let is : IsText c.args.text.now = record { utf8 = c.utf8.text; fits = c.requires.fits } in
-    let s : IsStretch c.args.text.now at.at c.fill-count.result.0 c.fill-count.result.1 = stretch law c.args.text.now c.range_from.result.now at.at _ is c.requires.may_go_on.boundary c.range_from.ensures.value g.R.Record.written c.args.room.now c.fill-count.new.room c.fill-count.result.0 c.fill-count.result.1 c.fill-count.ensures.filled c.fill-count.ensures.bytes c.requires.places (omega arith) in
-    let some = s.some in
-    let long = s.long in
-    omega arith
+    let s = stretch (g.S.Stepper.law c.args.stepper.now) c.utf8.text c.requires.fits c.requires.may_go_on.boundary c.range_from.ensures.value c.fill-count.ensures.filled c.fill-count.ensures.bytes c.requires.places c.requires.before in
+    omega (arith, s.some, s.long)
 
 pub returns-clause-steps : goal.returns-clause-steps
 returns-clause-steps g c =
-    let first : List ℕ → Token = g.S.Stepper.grammar c.args.stepper.now in
-    let law = g.S.Stepper.law c.args.stepper.now in
-    let at = c.args.self.now in
-    let is : IsText c.args.text.now = record { utf8 = c.utf8.text; fits = c.requires.fits } in
-    let s : IsStretch c.args.text.now at.at c.fill-count.result.0 c.fill-count.result.1 = stretch law c.args.text.now c.range_from.result.now at.at _ is c.requires.may_go_on.boundary c.range_from.ensures.value g.R.Record.written c.args.room.now c.fill-count.new.room c.fill-count.result.0 c.fill-count.result.1 c.fill-count.ensures.filled c.fill-count.ensures.bytes c.requires.places (omega arith) in
-    let left = ap (tokens_by first) c.range_from.ensures.value in
+    let s = stretch (g.S.Stepper.law c.args.stepper.now) c.utf8.text c.requires.fits c.requires.may_go_on.boundary c.range_from.ensures.value c.fill-count.ensures.filled c.fill-count.ensures.bytes c.requires.places c.requires.before in
+    let left = ap (tokens_by (g.S.Stepper.grammar c.args.stepper.now)) c.range_from.ensures.value in
     record {
       inside = omega (arith, c.fill-count.ensures.filled.few, ap length left);
-      none = λ e. absurd (let some = s.some in omega arith);
+      none = λ e. absurd (omega (arith, s.some));
       front = refl;
       lexed = refl;
       place = omega (arith, c.fill-count.ensures.bytes, ap (λ ts. bound ts c.fill-count.result.0) left);
@@ -100,8 +63,7 @@ returns-clause-stands g c = λ before insert is_made stands.
     let first : List ℕ → Token = g.S.Stepper.grammar c.args.stepper.now in
     let law = g.S.Stepper.law c.args.stepper.now in
     let at = c.args.self.now in
-    let is : IsText c.args.text.now = record { utf8 = c.utf8.text; fits = c.requires.fits } in
-    let s : IsStretch c.args.text.now at.at c.fill-count.result.0 c.fill-count.result.1 = stretch law c.args.text.now c.range_from.result.now at.at _ is c.requires.may_go_on.boundary c.range_from.ensures.value g.R.Record.written c.args.room.now c.fill-count.new.room c.fill-count.result.0 c.fill-count.result.1 c.fill-count.ensures.filled c.fill-count.ensures.bytes c.requires.places (omega arith) in
+    let s = stretch law c.utf8.text c.requires.fits c.requires.may_go_on.boundary c.range_from.ensures.value c.fill-count.ensures.filled c.fill-count.ensures.bytes c.requires.places c.requires.before in
     let bytes = c.fill-count.result.1 in
     let later = below_later law before _ insert _ c.args.change is_made at stands (at.at + bytes) (omega arith) in
     let to = c.follow-to.ensures.followed (tokens_by first before) is_made.lengths_are stands.followed.bound_is (rw c.damage.ensures later) in
