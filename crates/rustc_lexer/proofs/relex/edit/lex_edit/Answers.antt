@@ -1,124 +1,95 @@
-use Rattle.std.proofs.Common.{◌≡◌, ◌+◌, List, ℕ, length, map, slice_range, string_bytes, sym, ap, ◌∙◌, arith}
+use Rattle.std.proofs.Common.{◌≡◌, ◌+◌, List, ℕ, length, map, slice_range, string_bytes, sym, ap, ◌∙◌, arith, IsUtf8}
+use Rattle.std.specs.List.{Contains}
 use Rattle.std.proofs.lemmas.List.{length-map}
 use Rattle.std.proofs.lemmas.List.Elements.{All-contains}
+use Rattle.rustc_lexer.specs.declared.relex.front.Bound.{Bound}
+use Rattle.rustc_lexer.specs.declared.relex.landmarks.Landmarks.{Landmarks}
 use Rattle.rustc_lexer.specs.declared.relex.relexing.Relexed.{Relexed}
 use Rattle.rustc_lexer.specs.declared.token.Token.{Token}
 use Rattle.rustc_lexer.specs.Tokens.{tokens_by}
-use Rattle.rustc_lexer.specs.Edits.{IsInside, apply}
-use Rattle.rustc_lexer.specs.Relexing.{IsBound}
+use Rattle.rustc_lexer.specs.Edits.{IsEdit, IsInside, apply}
+use Rattle.rustc_lexer.specs.Relexing.{IsBound, IsMadeOf}
 use Rattle.rustc_lexer.specs.Locality.{IsText}
+use Rattle.rustc_lexer.specs.means.Landmarks.{AreBounds}
 use Rattle.rustc_lexer.proofs.EditLemmas.{put_back}
 use Rattle.rustc_lexer.proofs.RelexingLemmas.{made_for, made_change, made_text}
 use Rattle.rustc_lexer.proofs.RenewedLemmas.{renewed_are, renewed_bounds}
 use Rattle.rustc_lexer.proofs.relex.edit.lex_edit.Goals as goal
 
+-- the edit made the text
+made_of : {first : List ℕ → Token} {text insert put reserved made : List ℕ} {start stop : ℕ} {tokens : List Token} → IsText text → IsUtf8 insert → IsEdit text start stop insert → tokens ≡ tokens_by first text → made ≡ put → put ≡ apply reserved start stop insert → reserved ≡ text
+    → IsMadeOf first text (map (λ (t : Token). t.len) tokens) (record { start = start; old_stop = stop; new_stop = start + length insert }) insert made
+made_of {first} {text} {insert} {put} {reserved} {made} {start} {stop} {tokens} is its edit e as_str put_in reserve =
+    made_for text is start stop insert its edit tokens made e (as_str ∙ (put_in ∙ ap (λ (bytes : List ℕ). apply bytes start stop insert) reserve))
+
+-- the nearest landmark is a bound of its tokens
+near_bound : {tokens all : List Token} {near : Bound} (landmarks : Landmarks) → tokens ≡ all → AreBounds tokens landmarks → Contains landmarks.bounds near → IsBound all near
+near_bound {tokens} {all} {near} landmarks e are is = rw (sym e) (All-contains (IsBound tokens) landmarks.bounds near are is)
+
+-- what was taken out is put back
+put_back_from : {text insert read removed reserved put now : List ℕ} {start stop : ℕ} → IsText text → IsUtf8 insert → IsEdit text start stop insert → removed ≡ slice_range read start stop → read ≡ text → reserved ≡ text → put ≡ apply reserved start stop insert → now ≡ apply put start (start + length insert) removed → now ≡ text
+put_back_from {text} {insert} {read} {removed} {reserved} {put} {now} {start} {stop} is its edit removed_is read_is reserve put_in again =
+    let stop' : ℕ = start + length insert in
+    let made : put ≡ apply text start stop insert = put_in ∙ ap (λ (bytes : List ℕ). apply bytes start stop insert) reserve in
+    let taken : removed ≡ slice_range text start stop = removed_is ∙ ap (λ (bytes : List ℕ). slice_range bytes start stop) read_is in
+    again ∙ (ap (λ (bytes : List ℕ). apply bytes start stop' removed) made ∙ (ap (apply (apply text start stop insert) start stop') taken ∙ put_back text start stop insert is its edit))
+
 pub renew-requires-clause-fits : goal.renew-requires-clause-fits
 renew-requires-clause-fits g c =
-    let first = g.S.Stepper.grammar c.args.stepper.now in
-    let law = g.S.Stepper.law c.args.stepper.now in
-    let old : List ℕ = string_bytes c.args.text.now in
-    let e = c.args.edit in
-    let made_is : c.as_str-made.result.now ≡ apply old e.start e.stop e.insert.now = c.as_str-made.ensures.value ∙ (c.put_in_place.ensures.text ∙ ap (λ (bytes : List ℕ). apply bytes e.start e.stop e.insert.now) c.reserve.ensures.bytes) in
-    let made = made_for old c.requires.text e.start e.stop e.insert.now c.requires.insert c.requires.edit c.args.tokens.now.items c.as_str-made.result.now c.requires.from_scratch made_is in
-    (made_text law _ _ _ _ _ made).fits
+    let made = made_of c.requires.text c.requires.insert c.requires.edit c.requires.from_scratch c.as_str-made.ensures.value c.put_in_place.ensures.text c.reserve.ensures.bytes in
+    (made_text (g.S.Stepper.law c.args.stepper.now) _ _ _ _ _ made).fits
 
 pub renew-requires-clause-change : goal.renew-requires-clause-change
 renew-requires-clause-change g c =
-    let first = g.S.Stepper.grammar c.args.stepper.now in
-    let law = g.S.Stepper.law c.args.stepper.now in
-    let old : List ℕ = string_bytes c.args.text.now in
-    let e = c.args.edit in
-    let made_is : c.as_str-made.result.now ≡ apply old e.start e.stop e.insert.now = c.as_str-made.ensures.value ∙ (c.put_in_place.ensures.text ∙ ap (λ (bytes : List ℕ). apply bytes e.start e.stop e.insert.now) c.reserve.ensures.bytes) in
-    let made = made_for old c.requires.text e.start e.stop e.insert.now c.requires.insert c.requires.edit c.args.tokens.now.items c.as_str-made.result.now c.requires.from_scratch made_is in
-    made_change law _ _ _ _ _ made
+    let made = made_of c.requires.text c.requires.insert c.requires.edit c.requires.from_scratch c.as_str-made.ensures.value c.put_in_place.ensures.text c.reserve.ensures.bytes in
+    made_change (g.S.Stepper.law c.args.stepper.now) _ _ _ _ _ made
 
 pub past_edit-requires-clause-movable : goal.past_edit-requires-clause-movable
 past_edit-requires-clause-movable g c =
-    let first = g.S.Stepper.grammar c.args.stepper.now in
-    let law = g.S.Stepper.law c.args.stepper.now in
-    let old : List ℕ = string_bytes c.args.text.now in
-    let e = c.args.edit in
-    let made_is : c.as_str-made.result.now ≡ apply old e.start e.stop e.insert.now = c.as_str-made.ensures.value ∙ (c.put_in_place.ensures.text ∙ ap (λ (bytes : List ℕ). apply bytes e.start e.stop e.insert.now) c.reserve.ensures.bytes) in
-    let made = made_for old c.requires.text e.start e.stop e.insert.now c.requires.insert c.requires.edit c.args.tokens.now.items c.as_str-made.result.now c.requires.from_scratch made_is in
-    let near = All-contains (IsBound (tokens_by first old)) c.args.landmarks.now.bounds _ (rw (sym c.requires.from_scratch) c.requires.landmarks) c.nearest-near.ensures in
-    let renewed = c.in-Ok.ensures.renewed old e.insert.now made near in
-    let bounds = renewed_bounds law old c.requires.text e.start e.stop e.insert.now c.requires.insert c.requires.edit c.args.tokens.now.items c.renew.new.tokens.items c.as_str-made.result.now c.requires.from_scratch made_is c.in-Ok.at renewed.0 c.args.landmarks.now c.requires.landmarks in
-    bounds.0
+    let made = made_of c.requires.text c.requires.insert c.requires.edit c.requires.from_scratch c.as_str-made.ensures.value c.put_in_place.ensures.text c.reserve.ensures.bytes in
+    let renewed = c.in-Ok.ensures.renewed _ _ made (near_bound c.args.landmarks.now c.requires.from_scratch c.requires.landmarks c.nearest-near.ensures) in
+    (renewed_bounds (g.S.Stepper.law c.args.stepper.now) c.requires.from_scratch made renewed.0 c.args.landmarks.now c.requires.landmarks).0
 
 pub returns-in-Ok-clause-is_text : goal.returns-in-Ok-clause-is_text
 returns-in-Ok-clause-is_text g c =
-    let first = g.S.Stepper.grammar c.args.stepper.now in
-    let law = g.S.Stepper.law c.args.stepper.now in
-    let old : List ℕ = string_bytes c.args.text.now in
-    let e = c.args.edit in
-    let made_is : c.as_str-made.result.now ≡ apply old e.start e.stop e.insert.now = c.as_str-made.ensures.value ∙ (c.put_in_place.ensures.text ∙ ap (λ (bytes : List ℕ). apply bytes e.start e.stop e.insert.now) c.reserve.ensures.bytes) in
-    let made = made_for old c.requires.text e.start e.stop e.insert.now c.requires.insert c.requires.edit c.args.tokens.now.items c.as_str-made.result.now c.requires.from_scratch made_is in
-    let is : IsText c.as_str-made.result.now = made_text law _ _ _ _ _ made in
+    let made = made_of c.requires.text c.requires.insert c.requires.edit c.requires.from_scratch c.as_str-made.ensures.value c.put_in_place.ensures.text c.reserve.ensures.bytes in
+    let is : IsText c.as_str-made.result.now = made_text (g.S.Stepper.law c.args.stepper.now) _ _ _ _ _ made in
     rw (sym c.as_str-made.ensures.value) is
 
 pub returns-in-Ok-clause-from_scratch : goal.returns-in-Ok-clause-from_scratch
 returns-in-Ok-clause-from_scratch g c =
-    let first = g.S.Stepper.grammar c.args.stepper.now in
-    let law = g.S.Stepper.law c.args.stepper.now in
-    let old : List ℕ = string_bytes c.args.text.now in
-    let e = c.args.edit in
-    let made_is : c.as_str-made.result.now ≡ apply old e.start e.stop e.insert.now = c.as_str-made.ensures.value ∙ (c.put_in_place.ensures.text ∙ ap (λ (bytes : List ℕ). apply bytes e.start e.stop e.insert.now) c.reserve.ensures.bytes) in
-    let made = made_for old c.requires.text e.start e.stop e.insert.now c.requires.insert c.requires.edit c.args.tokens.now.items c.as_str-made.result.now c.requires.from_scratch made_is in
-    let near = All-contains (IsBound (tokens_by first old)) c.args.landmarks.now.bounds _ (rw (sym c.requires.from_scratch) c.requires.landmarks) c.nearest-near.ensures in
-    let renewed = c.in-Ok.ensures.renewed old e.insert.now made near in
-    renewed_are law old c.requires.text e.start e.stop e.insert.now c.requires.insert c.requires.edit c.args.tokens.now.items c.renew.new.tokens.items c.as_str-made.result.now c.requires.from_scratch made_is c.in-Ok.at renewed.0
-    ∙ ap (tokens_by first) c.as_str-made.ensures.value
+    let made = made_of c.requires.text c.requires.insert c.requires.edit c.requires.from_scratch c.as_str-made.ensures.value c.put_in_place.ensures.text c.reserve.ensures.bytes in
+    let renewed = c.in-Ok.ensures.renewed _ _ made (near_bound c.args.landmarks.now c.requires.from_scratch c.requires.landmarks c.nearest-near.ensures) in
+    renewed_are (g.S.Stepper.law c.args.stepper.now) c.requires.from_scratch made renewed.0
+    ∙ ap (tokens_by (g.S.Stepper.grammar c.args.stepper.now)) c.as_str-made.ensures.value
 
 pub returns-in-Ok-clause-landmarks : goal.returns-in-Ok-clause-landmarks
 returns-in-Ok-clause-landmarks g c =
-    let first = g.S.Stepper.grammar c.args.stepper.now in
-    let law = g.S.Stepper.law c.args.stepper.now in
-    let old : List ℕ = string_bytes c.args.text.now in
-    let e = c.args.edit in
-    let made_is : c.as_str-made.result.now ≡ apply old e.start e.stop e.insert.now = c.as_str-made.ensures.value ∙ (c.put_in_place.ensures.text ∙ ap (λ (bytes : List ℕ). apply bytes e.start e.stop e.insert.now) c.reserve.ensures.bytes) in
-    let made = made_for old c.requires.text e.start e.stop e.insert.now c.requires.insert c.requires.edit c.args.tokens.now.items c.as_str-made.result.now c.requires.from_scratch made_is in
-    let near = All-contains (IsBound (tokens_by first old)) c.args.landmarks.now.bounds _ (rw (sym c.requires.from_scratch) c.requires.landmarks) c.nearest-near.ensures in
-    let renewed = c.in-Ok.ensures.renewed old e.insert.now made near in
-    let bounds = renewed_bounds law old c.requires.text e.start e.stop e.insert.now c.requires.insert c.requires.edit c.args.tokens.now.items c.renew.new.tokens.items c.as_str-made.result.now c.requires.from_scratch made_is c.in-Ok.at renewed.0 c.args.landmarks.now c.requires.landmarks in
-    c.past_edit.ensures c.args.tokens.now.items c.renew.new.tokens.items bounds.1 c.requires.landmarks
+    let made = made_of c.requires.text c.requires.insert c.requires.edit c.requires.from_scratch c.as_str-made.ensures.value c.put_in_place.ensures.text c.reserve.ensures.bytes in
+    let renewed = c.in-Ok.ensures.renewed _ _ made (near_bound c.args.landmarks.now c.requires.from_scratch c.requires.landmarks c.nearest-near.ensures) in
+    c.past_edit.ensures _ _ (renewed_bounds (g.S.Stepper.law c.args.stepper.now) c.requires.from_scratch made renewed.0 c.args.landmarks.now c.requires.landmarks).1 c.requires.landmarks
 
 pub returns-in-Ok-clause-relexed : goal.returns-in-Ok-clause-relexed
 returns-in-Ok-clause-relexed g c =
-    let first = g.S.Stepper.grammar c.args.stepper.now in
-    let law = g.S.Stepper.law c.args.stepper.now in
-    let old : List ℕ = string_bytes c.args.text.now in
-    let e = c.args.edit in
-    let made_is : c.as_str-made.result.now ≡ apply old e.start e.stop e.insert.now = c.as_str-made.ensures.value ∙ (c.put_in_place.ensures.text ∙ ap (λ (bytes : List ℕ). apply bytes e.start e.stop e.insert.now) c.reserve.ensures.bytes) in
-    let made = made_for old c.requires.text e.start e.stop e.insert.now c.requires.insert c.requires.edit c.args.tokens.now.items c.as_str-made.result.now c.requires.from_scratch made_is in
-    let near = All-contains (IsBound (tokens_by first old)) c.args.landmarks.now.bounds _ (rw (sym c.requires.from_scratch) c.requires.landmarks) c.nearest-near.ensures in
-    let renewed = c.in-Ok.ensures.renewed old e.insert.now made near in
+    let made = made_of c.requires.text c.requires.insert c.requires.edit c.requires.from_scratch c.as_str-made.ensures.value c.put_in_place.ensures.text c.reserve.ensures.bytes in
+    let renewed = c.in-Ok.ensures.renewed _ _ made (near_bound c.args.landmarks.now c.requires.from_scratch c.requires.landmarks c.nearest-near.ensures) in
     let l = renewed.0.lexed_is in
     let many : length (map (λ (t : Token). t.len) c.args.tokens.now.items) ≡ length c.as_slice-count.result.now = omega (arith, length-map c.args.tokens.now.items (λ (t : Token). t.len), ap length c.as_slice-count.ensures.value) in
-    let exact = c.counts.ensures.exact first old _ e.insert.now c.as_str-made.result.now _ law made many l.stands l.met in
+    let exact = c.counts.ensures.exact _ _ _ _ _ _ (g.S.Stepper.law c.args.stepper.now) made many l.stands l.met in
     exact.0
 
 pub returns-in-Ok-clause-count : goal.returns-in-Ok-clause-count
 returns-in-Ok-clause-count g c =
-    let first = g.S.Stepper.grammar c.args.stepper.now in
-    let law = g.S.Stepper.law c.args.stepper.now in
-    let old : List ℕ = string_bytes c.args.text.now in
-    let e = c.args.edit in
-    let made_is : c.as_str-made.result.now ≡ apply old e.start e.stop e.insert.now = c.as_str-made.ensures.value ∙ (c.put_in_place.ensures.text ∙ ap (λ (bytes : List ℕ). apply bytes e.start e.stop e.insert.now) c.reserve.ensures.bytes) in
-    let made = made_for old c.requires.text e.start e.stop e.insert.now c.requires.insert c.requires.edit c.args.tokens.now.items c.as_str-made.result.now c.requires.from_scratch made_is in
-    let near = All-contains (IsBound (tokens_by first old)) c.args.landmarks.now.bounds _ (rw (sym c.requires.from_scratch) c.requires.landmarks) c.nearest-near.ensures in
-    let renewed = c.in-Ok.ensures.renewed old e.insert.now made near in
+    let made = made_of c.requires.text c.requires.insert c.requires.edit c.requires.from_scratch c.as_str-made.ensures.value c.put_in_place.ensures.text c.reserve.ensures.bytes in
+    let renewed = c.in-Ok.ensures.renewed _ _ made (near_bound c.args.landmarks.now c.requires.from_scratch c.requires.landmarks c.nearest-near.ensures) in
     let counts = ap (λ (r : Relexed). r.lexed) c.counts.ensures.counts in
     omega (arith, counts, renewed.1)
 
 pub put_in_place-requires-in-Err-clause-inside : goal.put_in_place-requires-in-Err-clause-inside
 put_in_place-requires-in-Err-clause-inside g c =
-    let first = g.S.Stepper.grammar c.args.stepper.now in
-    let law = g.S.Stepper.law c.args.stepper.now in
-    let old : List ℕ = string_bytes c.args.text.now in
+    let made = made_of c.requires.text c.requires.insert c.requires.edit c.requires.from_scratch c.as_str-made.ensures.value c.put_in_place.ensures.text c.reserve.ensures.bytes in
     let e = c.args.edit in
-    let made_is : c.as_str-made.result.now ≡ apply old e.start e.stop e.insert.now = c.as_str-made.ensures.value ∙ (c.put_in_place.ensures.text ∙ ap (λ (bytes : List ℕ). apply bytes e.start e.stop e.insert.now) c.reserve.ensures.bytes) in
-    let made = made_for old c.requires.text e.start e.stop e.insert.now c.requires.insert c.requires.edit c.args.tokens.now.items c.as_str-made.result.now c.requires.from_scratch made_is in
-    let change = made_change law _ _ _ _ _ made in
+    let change = made_change (g.S.Stepper.law c.args.stepper.now) _ _ _ _ _ made in
     let inside : IsInside c.as_str-made.result.now e.start (e.start + length e.insert.now) = record {
       start_le_stop = change.start_le_new;
       stop_inside = change.new_boundary.0;
@@ -135,48 +106,20 @@ put_in_place-requires-in-Err-clause-room g c =
 
 pub returns-clause-same_text : goal.returns-clause-same_text
 returns-clause-same_text g c =
-    let e = c.args.edit in
-    let old : List ℕ = string_bytes c.args.text.now in
-    let made : string_bytes c.put_in_place.new.text ≡ apply old e.start e.stop e.insert.now = c.put_in_place.ensures.text ∙ ap (λ (bytes : List ℕ). apply bytes e.start e.stop e.insert.now) c.reserve.ensures.bytes in
-    let removed : c.as_str.result.now ≡ slice_range old e.start e.stop = c.as_str.ensures.value ∙ (c.in_ok-removed.ensures.ok ∙ (c.range.ensures.value ∙ ap (λ (bytes : List ℕ). slice_range bytes e.start e.stop) c.deref.ensures)) in
-    let same : string_bytes c.put_in_place-in-Err.new.text ≡ old =
-    c.put_in_place-in-Err.ensures.text
-    ∙ (ap (λ (bytes : List ℕ). apply bytes e.start (e.start + length e.insert.now) c.as_str.result.now) made
-    ∙ (ap (apply (apply old e.start e.stop e.insert.now) e.start (e.start + length e.insert.now)) removed ∙ put_back old e.start e.stop e.insert.now c.requires.text c.requires.insert c.requires.edit)) in
-    same
+    put_back_from c.requires.text c.requires.insert c.requires.edit (c.as_str.ensures.value ∙ (c.in_ok-removed.ensures.ok ∙ c.range.ensures.value)) c.deref.ensures c.reserve.ensures.bytes c.put_in_place.ensures.text c.put_in_place-in-Err.ensures.text
 
 pub returns-clause-is_text : goal.returns-clause-is_text
 returns-clause-is_text g c =
-    let e = c.args.edit in
-    let old : List ℕ = string_bytes c.args.text.now in
-    let made : string_bytes c.put_in_place.new.text ≡ apply old e.start e.stop e.insert.now = c.put_in_place.ensures.text ∙ ap (λ (bytes : List ℕ). apply bytes e.start e.stop e.insert.now) c.reserve.ensures.bytes in
-    let removed : c.as_str.result.now ≡ slice_range old e.start e.stop = c.as_str.ensures.value ∙ (c.in_ok-removed.ensures.ok ∙ (c.range.ensures.value ∙ ap (λ (bytes : List ℕ). slice_range bytes e.start e.stop) c.deref.ensures)) in
-    let same : string_bytes c.put_in_place-in-Err.new.text ≡ old =
-    c.put_in_place-in-Err.ensures.text
-    ∙ (ap (λ (bytes : List ℕ). apply bytes e.start (e.start + length e.insert.now) c.as_str.result.now) made
-    ∙ (ap (apply (apply old e.start e.stop e.insert.now) e.start (e.start + length e.insert.now)) removed ∙ put_back old e.start e.stop e.insert.now c.requires.text c.requires.insert c.requires.edit)) in
-    let is : IsText old = c.requires.text in
+    let same : string_bytes c.put_in_place-in-Err.new.text ≡ string_bytes c.args.text.now = put_back_from c.requires.text c.requires.insert c.requires.edit (c.as_str.ensures.value ∙ (c.in_ok-removed.ensures.ok ∙ c.range.ensures.value)) c.deref.ensures c.reserve.ensures.bytes c.put_in_place.ensures.text c.put_in_place-in-Err.ensures.text in
+    let is : IsText (string_bytes c.args.text.now) = c.requires.text in
     rw same is
 
 pub returns-clause-from_scratch : goal.returns-clause-from_scratch
 returns-clause-from_scratch g c =
-    let e = c.args.edit in
-    let old : List ℕ = string_bytes c.args.text.now in
-    let made : string_bytes c.put_in_place.new.text ≡ apply old e.start e.stop e.insert.now = c.put_in_place.ensures.text ∙ ap (λ (bytes : List ℕ). apply bytes e.start e.stop e.insert.now) c.reserve.ensures.bytes in
-    let removed : c.as_str.result.now ≡ slice_range old e.start e.stop = c.as_str.ensures.value ∙ (c.in_ok-removed.ensures.ok ∙ (c.range.ensures.value ∙ ap (λ (bytes : List ℕ). slice_range bytes e.start e.stop) c.deref.ensures)) in
-    let same : string_bytes c.put_in_place-in-Err.new.text ≡ old =
-    c.put_in_place-in-Err.ensures.text
-    ∙ (ap (λ (bytes : List ℕ). apply bytes e.start (e.start + length e.insert.now) c.as_str.result.now) made
-    ∙ (ap (apply (apply old e.start e.stop e.insert.now) e.start (e.start + length e.insert.now)) removed ∙ put_back old e.start e.stop e.insert.now c.requires.text c.requires.insert c.requires.edit)) in
+    let same : string_bytes c.put_in_place-in-Err.new.text ≡ string_bytes c.args.text.now = put_back_from c.requires.text c.requires.insert c.requires.edit (c.as_str.ensures.value ∙ (c.in_ok-removed.ensures.ok ∙ c.range.ensures.value)) c.deref.ensures c.reserve.ensures.bytes c.put_in_place.ensures.text c.put_in_place-in-Err.ensures.text in
     c.in-Err.ensures.same ∙ (c.requires.from_scratch ∙ ap (tokens_by (g.S.Stepper.grammar c.args.stepper.now)) (sym same))
 
 pub returns-clause-few : goal.returns-clause-few
 returns-clause-few g c =
-    let first = g.S.Stepper.grammar c.args.stepper.now in
-    let law = g.S.Stepper.law c.args.stepper.now in
-    let old : List ℕ = string_bytes c.args.text.now in
-    let e = c.args.edit in
-    let made_is : c.as_str-made.result.now ≡ apply old e.start e.stop e.insert.now = c.as_str-made.ensures.value ∙ (c.put_in_place.ensures.text ∙ ap (λ (bytes : List ℕ). apply bytes e.start e.stop e.insert.now) c.reserve.ensures.bytes) in
-    let made = made_for old c.requires.text e.start e.stop e.insert.now c.requires.insert c.requires.edit c.args.tokens.now.items c.as_str-made.result.now c.requires.from_scratch made_is in
-    let near = All-contains (IsBound (tokens_by first old)) c.args.landmarks.now.bounds _ (rw (sym c.requires.from_scratch) c.requires.landmarks) c.nearest-near.ensures in
-    c.in-Err.ensures.few old e.insert.now made near
+    let made = made_of c.requires.text c.requires.insert c.requires.edit c.requires.from_scratch c.as_str-made.ensures.value c.put_in_place.ensures.text c.reserve.ensures.bytes in
+    c.in-Err.ensures.few _ _ made (near_bound c.args.landmarks.now c.requires.from_scratch c.requires.landmarks c.nearest-near.ensures)
