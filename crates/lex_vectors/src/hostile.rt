@@ -1,6 +1,7 @@
 //! Long texts of the kind that make a careless lexer slow or deep.
-use crate::rows::assert_tokens;
+use crate::rows::{are, assert_tokens};
 use crate::steppers::Counting;
+use crate::tables::edits::{edit, relexed};
 use crate::tables::hostile::{COMMENTS, Long, QUOTES, RAW_STRINGS, WORDS};
 use crate::tables::kinds::{BAD_RAW_STR, BLOCK, CHAR, OPEN_CHAR, STR};
 use crate::tables::row::literal;
@@ -8,7 +9,9 @@ use crate::texts::repeated;
 use rustc_lexer::TokenKind::{
     Ident, InvalidIdent, OpenBrace, OpenParen, Pound, Slash, Unknown, UnknownPrefix, Whitespace,
 };
-use rustc_lexer::{Edit, FrontmatterAllowed, LexedText, Relexed, Token, TokenKind, fits, tokenize};
+use rustc_lexer::{
+    Edit, FrontmatterAllowed, LexedText, Relexed, Token, TokenKind, Tokens, fits, tokenize,
+};
 use std::alloc::{AllocError, Global};
 use std::process::Abort;
 use std::test::Fail;
@@ -60,55 +63,48 @@ static UNITS: &[(&str, &[(TokenKind, u32)])] = &[
     ("\0", &[(Unknown, 1)]),
 ];
 
+/// Whether these tokens come so many times, and no others.
+fn repeats(left: Tokens<'_>, tokens: &[(TokenKind, u32)], times: usize) -> bool {
+    let mut left = left;
+    for _ in 0..times {
+        for (kind, len) in tokens {
+            let want = Token {
+                kind: *kind,
+                len: *len,
+            };
+            if left.next() != Some(want) {
+                return false;
+            }
+        }
+    }
+    left.next().is_none()
+}
+
 #[test]
 fn many_tokens(rt: HostRuntime) -> Result<(), Fail> {
     for (unit, tokens) in UNITS {
         let text = repeated(rt.alloc(), &[(*unit, 10_000)])?;
         assert!(rt; fits(text.as_str()));
-        let mut left = tokenize(text.as_str(), FrontmatterAllowed::No);
-        for _ in 0..10_000 {
-            for (kind, len) in *tokens {
-                let want = Token {
-                    kind: *kind,
-                    len: *len,
-                };
-                assert_eq!(rt; left.next(), Some(want), "in {unit:?}");
-            }
-        }
-        assert_eq!(rt; left.next(), None, "in {unit:?}");
+        let left = tokenize(text.as_str(), FrontmatterAllowed::No);
+        assert!(rt; repeats(left, tokens, 10_000), "in {unit:?}");
     }
     Ok(())
 }
 
-/// Makes the edit, and asserts its counts, how often the stepper was called, and the number of tokens.
-fn assert_edit(
-    rt: &impl Abort,
+/// Makes the edit. Answers whether it has these counts, calls the stepper as often as it says, and leaves so many tokens.
+fn counts_so(
     lexed: &mut LexedText<Counting>,
     edit: Edit<'_>,
-    counts: (usize, usize, usize),
+    counts: Relexed,
     tokens: usize,
-) -> Result<(), AllocError> {
+) -> Result<bool, AllocError> {
     let before = lexed.stepper().calls;
-    assert!(rt; lexed.accepts(edit.start, edit.stop, edit.insert));
-    let (kept_front, number, kept_back) = counts;
-    let wanted = Relexed {
-        kept_front,
-        lexed: number,
-        kept_back,
-    };
-    assert_eq!(rt; lexed.edit(edit.start, edit.stop, edit.insert)?, wanted);
-    assert_eq!(rt; lexed.stepper().calls.saturating_sub(before), number as u64);
-    assert_eq!(rt; lexed.tokens().len(), tokens);
-    Ok(())
-}
-
-/// An edit.
-fn edit(start: usize, stop: usize, insert: &str) -> Edit<'_> {
-    Edit {
-        start,
-        stop,
-        insert,
+    if !lexed.accepts(edit.start, edit.stop, edit.insert) {
+        return Ok(false);
     }
+    let found = lexed.edit(edit.start, edit.stop, edit.insert)?;
+    let calls = lexed.stepper().calls.saturating_sub(before);
+    Ok(found == counts && calls == counts.lexed as u64 && lexed.tokens().len() == tokens)
 }
 
 #[test]
@@ -116,8 +112,9 @@ fn an_opening_in_front_of_many_tokens(rt: HostRuntime) -> Result<(), AllocError>
     let text = repeated(rt.alloc(), &[("x ", 50_000)])?;
     assert!(rt; fits(text.as_str()));
     let mut lexed = LexedText::with(rt.alloc(), text.as_str(), Counting::new())?;
-    assert_edit(&rt, &mut lexed, edit(0, 0, "/*"), (0, 1, 0), 1)?;
-    assert_edit(&rt, &mut lexed, edit(0, 2, ""), (0, 100_000, 0), 100_000)?;
+    assert!(rt; counts_so(&mut lexed, edit(0, 0, "/*"), relexed(0, 1, 0), 1)?);
+    let all = relexed(0, 100_000, 0);
+    assert!(rt; counts_so(&mut lexed, edit(0, 2, ""), all, 100_000)?);
     assert_eq!(rt; lexed.text(), text.as_str());
     Ok(())
 }
@@ -126,12 +123,14 @@ fn an_opening_in_front_of_many_tokens(rt: HostRuntime) -> Result<(), AllocError>
 fn marks_behind_many_tokens(rt: HostRuntime) -> Result<(), AllocError> {
     let text = repeated(rt.alloc(), &[("x ", 50_000)])?;
     assert!(rt; fits(text.as_str()));
-    let closing = edit(100_000, 100_000, "*/");
-    let mut lexed = LexedText::with(rt.alloc(), text.as_str(), Counting::new())?;
-    assert_edit(&rt, &mut lexed, closing, (99_998, 4, 0), 100_002)?;
-    let opening = edit(100_000, 100_000, "/*");
-    let mut lexed = LexedText::with(rt.alloc(), text.as_str(), Counting::new())?;
-    assert_edit(&rt, &mut lexed, opening, (99_998, 3, 0), 100_001)?;
+    for (mark, counts, tokens) in [
+        ("*/", relexed(99_998, 4, 0), 100_002),
+        ("/*", relexed(99_998, 3, 0), 100_001),
+    ] {
+        let mut lexed = LexedText::with(rt.alloc(), text.as_str(), Counting::new())?;
+        let marked = edit(100_000, 100_000, mark);
+        assert!(rt; counts_so(&mut lexed, marked, counts, tokens)?, "{mark}");
+    }
     Ok(())
 }
 
@@ -140,11 +139,7 @@ fn an_emoji_less(rt: HostRuntime) -> Result<(), AllocError> {
     let text = repeated(rt.alloc(), &[("😀", 1_000)])?;
     assert!(rt; fits(text.as_str()));
     let mut lexed = LexedText::with(rt.alloc(), text.as_str(), Counting::new())?;
-    assert_edit(&rt, &mut lexed, edit(0, 4, ""), (0, 1, 0), 1)?;
-    let wanted = Token {
-        kind: InvalidIdent,
-        len: 3_996,
-    };
-    assert_eq!(rt; lexed.tokens().first().copied(), Some(wanted));
+    assert!(rt; counts_so(&mut lexed, edit(0, 4, ""), relexed(0, 1, 0), 1)?);
+    assert!(rt; are(lexed.tokens(), &[(InvalidIdent, 3_996)]));
     Ok(())
 }

@@ -9,23 +9,25 @@ fn numbers_of_bases(rt: HostRuntime) {
     assert_eq!(rt; Base::Hexadecimal as u8, 16);
 }
 
-/// Asserts that of two values in a row the one that stands first is the smaller, and that each equals itself.
-macro_rules! assert_ascending {
-    ($rt:expr, $values:expr) => {
-        for (left_place, left) in $values.iter().enumerate() {
-            for (right_place, right) in $values.iter().enumerate() {
-                assert_eq!($rt; left < right, left_place < right_place, "{left_place}, {right_place}");
-                assert_eq!($rt; left.cmp(right), left_place.cmp(&right_place), "{left_place}, {right_place}");
-                assert_eq!($rt; left == right, left_place == right_place, "{left_place}, {right_place}");
+/// Whether of two values in a row the one that stands first is the smaller, and each equals itself.
+fn ascend<T: Ord>(values: &[T]) -> bool {
+    for (left_place, left) in values.iter().enumerate() {
+        for (right_place, right) in values.iter().enumerate() {
+            let is_so = (left < right) == (left_place < right_place)
+                && left.cmp(right) == left_place.cmp(&right_place)
+                && (left == right) == (left_place == right_place);
+            if !is_so {
+                return false;
             }
         }
-    };
+    }
+    true
 }
 
 #[test]
 fn order_of_bases(rt: HostRuntime) {
     let bases = [Base::Binary, Base::Octal, Base::Decimal, Base::Hexadecimal];
-    assert_ascending!(rt, bases);
+    assert!(rt; ascend(&bases));
 }
 
 #[test]
@@ -72,7 +74,7 @@ fn order_of_literals(rt: HostRuntime) {
             n_hashes: no_hashes,
         },
     ];
-    assert_ascending!(rt, kinds);
+    assert!(rt; ascend(&kinds));
 }
 
 /// A guarded string with these fields.
@@ -92,7 +94,7 @@ fn order_of_guarded_strings(rt: HostRuntime) {
         guarded(1, true, 9),
         guarded(2, false, 3),
     ];
-    assert_ascending!(rt, strings);
+    assert!(rt; ascend(&strings));
 }
 
 /// A refusal for want of an end, with these fields.
@@ -116,7 +118,7 @@ fn order_of_refusals(rt: HostRuntime) {
         RawStrError::TooManyDelimiters { found: 0 },
         RawStrError::TooManyDelimiters { found: 256 },
     ];
-    assert_ascending!(rt, refusals);
+    assert!(rt; ascend(&refusals));
 }
 
 #[test]

@@ -1,8 +1,12 @@
-//! The tokens of the rows, by each way to ask for them.
+//! Whether a text gives the tokens of its row, by each way to ask for them. What is told of a row is a `bool`, and one
+//! assertion names the row that does not hold: a check of many assertions takes the prover long.
 ghost use Rattle.std.specs.Prelude.{◌≤◌, length};
 
 use crate::tables::row::Row;
-use rustc_lexer::{EditionTokens, FrontmatterAllowed, Token, TokenKind, Tokens, fits, tokenize};
+use rustc_lexer::{
+    Edition, EditionTokens, FrontmatterAllowed, Token, TokenKind, Tokens, fits, tokenize,
+    tokenize_in,
+};
 use std::process::Abort;
 
 /// Asserts that each text gives its tokens and no others.
@@ -20,68 +24,109 @@ pub fn assert_tokens(
     allowed: FrontmatterAllowed,
     tokens: &[(TokenKind, u32)],
 ) {
-    assert!(rt; fits(text));
-    let mut left = tokenize(text, allowed);
-    for (kind, len) in tokens {
-        let want = Token {
-            kind: *kind,
-            len: *len,
-        };
-        assert_eq!(rt; left.next(), Some(want), "in {name:?}");
+    let holds = fits(text)
+        && gives(tokenize(text, allowed), tokens)
+        && fills(tokenize(text, allowed), [ROOM, ROOM], tokens)
+        && fills(tokenize(text, allowed), [1, 3], tokens);
+    assert!(rt; holds, "in {name:?}");
+}
+
+/// Whether the text gives these tokens in the edition, and no others.
+pub fn is_lexed_in(text: &str, edition: Edition, tokens: &[(TokenKind, u32)]) -> bool {
+    fits(text)
+        && gives(tokenize_in(text, edition), tokens)
+        && fills(tokenize_in(text, edition), [ROOM, ROOM], tokens)
+        && fills(tokenize_in(text, edition), [1, 3], tokens)
+}
+
+/// Whether these are the tokens, by kind and length.
+pub fn are(tokens: &[Token], wanted: &[(TokenKind, u32)]) -> bool {
+    for (token, (kind, len)) in tokens.iter().zip(wanted) {
+        if token.kind != *kind || token.len != *len {
+            return false;
+        }
     }
-    assert_eq!(rt; left.next(), None, "in {name:?}");
-    assert_eq!(rt; left.next(), None, "in {name:?}");
-    assert_filled(rt, name, tokenize(text, allowed), [ROOM, ROOM], tokens);
-    assert_filled(rt, name, tokenize(text, allowed), [1, 3], tokens);
+    tokens.len() == wanted.len()
 }
 
 /// How many tokens the longest room has, which is longer than each row.
-pub const ROOM: usize = 64;
+const ROOM: usize = 64;
 
-/// Tokens that are written into a room.
-pub trait Fill: Drop {
+/// Tokens that come one by one, or many at once into a room.
+trait Source: Drop {
+    /// The next token.
+    fn next_token(&mut self) -> Option<Token>;
+
+    /// The text that is left.
+    fn left(&self) -> &str;
+
     /// Writes the next tokens into the room, and answers their number.
     fn fill_room(&mut self, room: &mut [Token]) -> usize
         ensures { result ≤ length room.old };
 }
 
-impl<'a> Fill for Tokens<'a> {
+impl<'a> Source for Tokens<'a> {
+    fn next_token(&mut self) -> Option<Token> {
+        self.next()
+    }
+
+    fn left(&self) -> &str {
+        self.as_str()
+    }
+
     fn fill_room(&mut self, room: &mut [Token]) -> usize {
         self.fill(room)
     }
 }
 
-impl<'a> Fill for EditionTokens<'a> {
+impl<'a> Source for EditionTokens<'a> {
+    fn next_token(&mut self) -> Option<Token> {
+        self.next()
+    }
+
+    fn left(&self) -> &str {
+        self.as_str()
+    }
+
     fn fill_room(&mut self, room: &mut [Token]) -> usize {
         self.fill(room)
     }
 }
 
-/// Asserts that these tokens and no others are written into a room of the one length and of the other in turns.
-pub fn assert_filled<F: Fill>(
-    rt: &impl Abort,
-    name: &str,
-    left: F,
-    lengths: [usize; 2],
-    tokens: &[(TokenKind, u32)],
-) {
-    let mut left = left;
+/// Whether these tokens come one by one, and no others, and nothing is left then.
+fn gives<S: Source>(source: S, wanted: &[(TokenKind, u32)]) -> bool {
+    let mut source = source;
+    for (kind, len) in wanted {
+        let token = Token {
+            kind: *kind,
+            len: *len,
+        };
+        if source.next_token() != Some(token) {
+            return false;
+        }
+    }
+    source.left().is_empty() && source.next_token().is_none() && source.next_token().is_none()
+}
+
+/// Whether these tokens and no others are written into a room of the one length and of the other in turns.
+fn fills<S: Source>(source: S, lengths: [usize; 2], wanted: &[(TokenKind, u32)]) -> bool {
+    let mut source = source;
     let mut room = [Token {
         kind: TokenKind::Eof,
         len: 0,
     }; ROOM];
-    let mut wanted = tokens;
-    for turn in 0..=tokens.len() {
+    let mut left = wanted;
+    for turn in 0..=wanted.len() {
         let length = lengths[turn % 2].min(ROOM);
-        let count = left.fill_room(&mut room[..length]);
-        assert_eq!(rt; count, length.min(wanted.len()), "in {name:?}");
-        assert!(rt; count <= wanted.len());
-        let (now, later) = wanted.split_at(count);
-        for (token, (kind, len)) in room.iter().zip(now.iter()) {
-            assert_eq!(rt; token.kind, *kind, "in {name:?}");
-            assert_eq!(rt; token.len, *len, "in {name:?}");
+        let count = source.fill_room(&mut room[..length]);
+        if count != length.min(left.len()) {
+            return false;
         }
-        wanted = later;
+        let (now, later) = left.split_at(count);
+        if !are(&room[..count], now) {
+            return false;
+        }
+        left = later;
     }
-    assert!(rt; wanted.is_empty(), "in {name:?}");
+    left.is_empty()
 }
