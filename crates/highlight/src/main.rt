@@ -1,23 +1,8 @@
 //! Writes a Rust source in colours, for a terminal or as a page.
 #![tactic(auto)]
 
-mod class;
-mod escape;
-mod fault;
-mod job;
-mod literal;
-mod page;
-mod part;
-mod program;
-mod report;
-mod run;
-mod stop;
-mod style;
-#[cfg(test)]
-mod tests;
-
 use ends::Watched;
-use program::{Start, program};
+use highlight_run::program::{Start, program};
 use std::env;
 use std::io::IsTerminal;
 use std::process::ExitCode;

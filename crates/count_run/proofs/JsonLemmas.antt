@@ -1,0 +1,73 @@
+-- The tokens of a report, and its JSON text.
+use Rattle.std.proofs.Common.{◌≡◌, ℕ, ◌≤◌, List, [], ◌∷◌, ◌++◌, Bool, true, false, ap, ◌∙◌, sym, refl, codes, decimal, Some, option_and_then, append_assoc, append-nil, arith}
+use Rattle.std.proofs.Math.Nat.{max-le}
+use Rattle.json.specs.Json.{Json, document, if_last, value, max_depth}
+use Rattle.json.specs.Lex.{tokens}
+use Rattle.json.specs.Print.{print}
+use Rattle.json.specs.Token.{Token, begin_object, end_object, key, number}
+use Rattle.json.specs.Tree.{json_tokens, members_tokens, depth, items_depth}
+use Rattle.json.proofs.Printed.Trees.{value-json_tokens}
+use Rattle.count_run.specs.declared.report.FileCounts.{FileCounts}
+use Rattle.count_run.specs.declared.report.Report.{Report}
+use Rattle.count_run.specs.Json.{file_object, file_objects, files_member, listed_tokens, numbers, report_object, total_member}
+
+-- a token, and those after it
+pub token-first : (a b c rest : List Token) (x y : Token) → b ≡ a ++ x ∷ [] → x ≡ y → c ≡ b ++ rest → c ≡ a ++ y ∷ rest
+token-first a b c rest x y one same more =
+    more ∙ (ap (λ (ts : List Token). ts ++ rest) one ∙ (append_assoc a (x ∷ []) rest ∙ ap (λ (t : Token). a ++ t ∷ rest) same))
+
+-- a member with a number, and the tokens after it
+pub number-first : (a b c rest : List Token) (name : List ℕ) (m n : ℕ) → b ≡ a ++ key name ∷ number (decimal m) ∷ [] → m ≡ n → c ≡ b ++ rest
+    → c ≡ a ++ key name ∷ number (decimal n) ∷ rest
+number-first a b c rest name m n one same more =
+    more ∙ (ap (λ (ts : List Token). ts ++ rest) one ∙ (append_assoc a (key name ∷ number (decimal m) ∷ []) rest ∙ ap (λ (k : ℕ). a ++ key name ∷ number (decimal k) ∷ rest) same))
+
+-- the tokens of a report, part by part
+pub report-tokens : (by_file : Bool) (report : Report) (a b c d e f g : List Token)
+    → b ≡ a ++ begin_object ∷ [] → c ≡ b ++ listed_tokens by_file report.files.items
+    → d ≡ c ++ key (codes "total") ∷ [] → e ≡ d ++ begin_object ∷ [] → f ≡ e ++ members_tokens (numbers report.total)
+    → g ≡ f ++ end_object ∷ [] → g ≡ a ++ json_tokens (report_object by_file report)
+unfolding report_object
+report-tokens by_file report a b c d e f g first listed total inner counted last =
+    let rest : List Token = members_tokens (numbers report.total) ++ end_object ∷ [] in
+    let end : g ≡ e ++ rest = last ∙ (ap (λ ts. ts ++ end_object ∷ []) counted ∙ append_assoc e (members_tokens (numbers report.total)) (end_object ∷ [])) in
+    let sums : g ≡ c ++ key (codes "total") ∷ begin_object ∷ rest = token-first _ _ _ _ _ _ total refl (token-first _ _ _ _ _ _ inner refl end) in
+    let whole : g ≡ b ++ (listed_tokens by_file report.files.items ++ key (codes "total") ∷ begin_object ∷ rest)
+    = sums ∙ (ap (λ ts. ts ++ key (codes "total") ∷ begin_object ∷ rest) listed ∙ append_assoc b (listed_tokens by_file report.files.items) (key (codes "total") ∷ begin_object ∷ rest)) in
+    token-first _ _ _ _ _ _ first refl (whole ∙ ap (λ ts. b ++ ts) (members by_file report.files.items))
+  where
+    members : (by : Bool) (files : List FileCounts) → listed_tokens by files ++ members_tokens (total_member report.total) ≡ members_tokens (files_member by files (total_member report.total))
+    members true files = refl
+    members false files = refl
+
+-- it nests four deep at most
+file-depth : (file : FileCounts) → depth (file_object file) ≤ 1
+unfolding file_object numbers
+file-depth file = omega arith
+
+files-depth : (files : List FileCounts) → items_depth (file_objects files) ≤ 1
+files-depth [] = omega arith
+files-depth (file ∷ files) = max-le (file-depth file) (files-depth files)
+
+report-depth : (by_file : Bool) (report : Report) → depth (report_object by_file report) ≤ max_depth
+unfolding report_object numbers
+report-depth true report = let d = files-depth report.files.items in omega arith
+report-depth false report = omega arith
+
+-- a text of these tokens is the report
+pub report-reads_back : (by_file : Bool) (report : Report) (old ts : List Token) → old ≡ [] → ts ≡ old ++ json_tokens (report_object by_file report) → tokens (print ts) ≡ ts
+    → document (print (json_tokens (report_object by_file report))) ≡ Some (report_object by_file report)
+report-reads_back by_file report old ts none written back =
+    let j : Json = report_object by_file report in
+    let same : ts ≡ json_tokens j = written ∙ ap (λ (us : List Token). us ++ json_tokens j) none in
+    ap (option_and_then (λ p. if_last p.0 p.1))
+    (ap (value max_depth) (ap (λ (us : List Token). tokens (print us)) (sym same) ∙ (back ∙ (same ∙ sym (append-nil (json_tokens j)))))
+    ∙ value-json_tokens j max_depth [] (report-depth by_file report))
+
+-- the text of a report: what the writer held, and a newline
+pub report-text : (by_file : Bool) (report : Report) (old ts : List Token) (start held before text : List ℕ) → old ≡ [] → ts ≡ old ++ json_tokens (report_object by_file report)
+    → start ≡ [] → before ≡ start → held ≡ before ++ print ts → text ≡ held ++ 10 ∷ []
+    → text ≡ print (json_tokens (report_object by_file report)) ++ 10 ∷ []
+report-text by_file report old ts start held before text none written empty same is more =
+    let j : Json = report_object by_file report in
+    more ∙ ap (λ xs. xs ++ 10 ∷ []) (is ∙ (ap (λ xs. xs ++ print ts) (same ∙ empty) ∙ ap (λ (us : List Token). print us) (written ∙ ap (λ (us : List Token). us ++ json_tokens j) none)))

@@ -1,0 +1,13 @@
+use Rattle.std.proofs.Common.{◌≡◌, ◌≤◌, ◌+◌, ◌*◌}
+use Rattle.rustc_lexer.specs.State.{StandsAt}
+use Rattle.rustc_lexer.specs.Tokens.{tokens_left}
+use Rattle.count_run.specs.Counter.{after_bytes, begun}
+use Rattle.count_run.specs.Lines.{token_marks, source_marks}
+use Rattle.count_run.proofs.lines.Counter.take_source.Given as goal
+
+abbrev pub invariant-loop-token : goal.invariant-loop-token
+invariant-loop-token l = record {
+  place : StandsAt l.text l.start l.token-iterator;
+  few : begun l.self ≤ begun l.initial.self + 7 * l.start;
+  left : after_bytes l.self (token_marks l.token-iterator.rest (tokens_left l.token-iterator)) ≡ after_bytes l.initial.self (source_marks l.text);
+}

@@ -1,0 +1,15 @@
+//! What the program `count` does: it counts the lines of Rust sources by what stands on them.
+#![tactic(auto)]
+
+mod job;
+mod lines;
+pub mod program;
+mod report;
+mod run;
+mod stop;
+
+pub use job::{Job, Layout, read_job};
+pub use lines::LineCounts;
+pub use report::{FileCounts, Report, write_report};
+pub use run::{count_input, count_source, write_out};
+pub use stop::{Stop, status};

@@ -1,0 +1,40 @@
+-- What the program comes to, by its arguments and the bytes that it reads.
+use Rattle.std.specs.Prelude.{ℕ, ◌≡◌, ◌==◌, Bool, true, false, ◌&&◌, List, Option, Some, None, Result, Ok, Err, IfSome, length, string_bytes}
+use Rattle.std.specs.Option.{option_map}
+use Rattle.std.specs.Global.{Global}
+use Rattle.std.specs.declared.env.VarError.{VarError}
+use Rattle.std.specs.declared.env.VarError.TheVariants.{NotPresent, NotUnicode, OutOfMemory}
+use Rattle.std.specs.declared.string.String.{String}
+use Rattle.highlight_run.specs.declared.job.Job.{Job}
+use Rattle.highlight_run.specs.declared.job.Job.TheVariants.{Show, Help}
+use Rattle.highlight_run.specs.declared.program.TheConstants.{HELP}
+use Rattle.highlight_run.specs.declared.stop.Stop.{Stop}
+use Rattle.highlight_run.specs.declared.stop.Stop.TheVariants.{Arguments, Memory}
+use Rattle.highlight_run.specs.Job.{job_of}
+use Rattle.highlight_run.specs.Outcome.{outcome, Ends}
+
+-- no value, or an empty one
+abbrev pub is_unset : Result (String Global) VarError → Option Bool
+is_unset (Ok value) = Some (length (string_bytes value) == 0)
+is_unset (Err NotPresent) = Some true
+is_unset (Err NotUnicode) = Some false
+is_unset (Err OutOfMemory) = None
+
+-- whether colours are written where the words do not say: to a terminal, and where `NO_COLOR` has no value or an empty
+-- one; none where memory for the value was refused
+abbrev pub colours_of : Result (String Global) VarError → Bool → Option Bool
+colours_of no_color is_terminal = option_map (λ unset. unset && is_terminal) (is_unset no_color)
+
+-- what a job comes to, or why there is none
+abbrev pub Does : Option Job → Option (List ℕ) → Option (List ℕ) → Option (List ℕ) → Result (Unit {0}) Stop → Type 0
+Does None known old new result = result ≡ Err Arguments
+Does (Some Help) known old new result = Ends old new result (Ok HELP.now)
+Does (Some (Show style edition)) known old new result = IfSome known (λ bytes. Ends old new result (outcome style edition bytes))
+
+-- a run by words, or by none where they could not be had: it is that of the job which the words ask for, unless
+-- memory was refused; without words, or where it is not known whether colours are written, memory was refused
+abbrev pub Ran : Option (List (List ℕ)) → Option Bool → Option (List ℕ) → Option (List ℕ) → Option (List ℕ) → Result (Unit {0}) Stop → Type 0
+Ran words colours known old new (Err Memory) = Unit {0}
+Ran None colours known old new result = ⊥
+Ran (Some words) None known old new result = ⊥
+Ran (Some words) (Some colours) known old new result = Does (job_of words colours) known old new result

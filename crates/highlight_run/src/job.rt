@@ -1,0 +1,158 @@
+//! What a run is to do.
+ghost use Rattle.std.specs.Prelude.{◌≡◌, map, string_bytes};
+ghost use Rattle.highlight_run.specs.Job.{in_edition, is_help, job_of, options_of, page, style_of, when_of, with_colours};
+
+use crate::style::Style;
+use rustc_lexer::Edition;
+use std::str::FromStr;
+
+/// What a run is to do.
+#[derive(Clone, Copy, Debug, PartialEq, Eq)]
+pub enum Job {
+    /// Write the text of standard input in a style, by the tokens of an edition. Where none is
+    /// named they are those of the newest one, and a frontmatter may stand in front.
+    Show {
+        style: Style,
+        edition: Option<Edition>,
+    },
+    /// Say what the program takes.
+    Help,
+}
+
+/// When colours are written.
+#[derive(Clone, Copy)]
+enum When {
+    /// Where the output is a terminal that takes them.
+    Auto,
+    Always,
+    Never,
+}
+
+/// What the options ask for; `None` for one that is not given.
+#[derive(Clone, Copy)]
+struct Options {
+    html: bool,
+    edition: Option<Edition>,
+    color: Option<When>,
+}
+
+/// What no option asks for.
+const NO_OPTIONS: Options = Options {
+    html: false,
+    edition: None,
+    color: None,
+};
+
+/// The job that the words after the program's name ask for, or `None` where they ask for none. `colours` says
+/// whether the output is a terminal that takes colours.
+pub fn read_job(words: &[String], colours: bool) -> Option<Job>
+    ensures { result ≡ job_of (map string_bytes words.now) colours }
+{
+    if is_help(words) {
+        return Some(Job::Help);
+    }
+    let options = read_options(NO_OPTIONS, words)?;
+    Some(Job::Show {
+        style: style_of(options, colours),
+        edition: options.edition,
+    })
+}
+
+/// Whether the words are `--help` alone.
+fn is_help(words: &[String]) -> bool
+    ensures { result ≡ is_help (map string_bytes words.now) }
+{
+    match words {
+        [word] => word.as_str() == "--help",
+        _ => false,
+    }
+}
+
+/// The options and those that the words write, in any order and each at most once: so it calls itself four times at most.
+fn read_options(options: Options, words: &[String]) -> Option<Options>
+    ensures { result ≡ options_of options (map string_bytes words.now) }
+{
+    match words {
+        [] => Some(options),
+        [word, after @ ..] if word.as_str() == "--html" => read_options(page(options)?, after),
+        [word, year, after @ ..] if word.as_str() == "--edition" => {
+            let edition = Edition::from_str(year.as_str()).ok()?;
+            read_options(in_edition(options, edition)?, after)
+        }
+        [word, when, after @ ..] if word.as_str() == "--color" => {
+            let when = read_when(when.as_str())?;
+            read_options(with_colours(options, when)?, after)
+        }
+        _ => None,
+    }
+}
+
+/// The options with `--html`, unless they have it.
+fn page(options: Options) -> Option<Options>
+    ensures { result ≡ page options }
+{
+    if options.html {
+        return None;
+    }
+    Some(Options {
+        html: true,
+        ..options
+    })
+}
+
+/// The options with an edition, unless they have one.
+fn in_edition(options: Options, edition: Edition) -> Option<Options>
+    ensures { result ≡ in_edition options edition }
+{
+    match options.edition {
+        Some(_) => None,
+        None => Some(Options {
+            edition: Some(edition),
+            ..options
+        }),
+    }
+}
+
+/// The options with `--color`, unless they have it.
+fn with_colours(options: Options, when: When) -> Option<Options>
+    ensures { result ≡ with_colours options when }
+{
+    match options.color {
+        Some(_) => None,
+        None => Some(Options {
+            color: Some(when),
+            ..options
+        }),
+    }
+}
+
+/// The style that the options ask for.
+fn style_of(options: Options, colours: bool) -> Style
+    ensures { result ≡ style_of options colours }
+{
+    if options.html {
+        return Style::Html;
+    }
+    let coloured = match options.color {
+        None | Some(When::Auto) => colours,
+        Some(When::Always) => true,
+        Some(When::Never) => false,
+    };
+    if coloured {
+        Style::Colours
+    } else {
+        Style::NoColours
+    }
+}
+
+/// When colours are written, by the word after `--color`.
+fn read_when(word: &str) -> Option<When>
+    ensures { result ≡ when_of word.now }
+{
+    match word {
+        "auto" => Some(When::Auto),
+        "always" => Some(When::Always),
+        "never" => Some(When::Never),
+        _ => None,
+    }
+}

@@ -1,0 +1,32 @@
+//! What is told of a run that stopped, and its status.
+ghost use Rattle.std.specs.Prelude.{◌≡◌, false};
+ghost use Rattle.std.specs.Io.KnownBytes.{Appends};
+ghost use Rattle.ends.specs.Known.{AppendsFront};
+ghost use Rattle.highlight_run.specs.Stop.{exit_status, told};
+
+use crate::run::put;
+use crate::stop::{Stop, line, status};
+use ends::Watched;
+use std::io::Write;
+
+/// Writes the line of the stop, if any, flushes, and answers the status of the program.
+///
+/// What goes out is all of the line where the writer does not fail, else a beginning of it. The status is the same.
+pub fn report<E: Write>(outcome: &Result<(), Stop>, errors: &mut Watched<E>) -> u8
+    requires sound { errors.old.faulty ≡ false }
+    requires open { errors.old.closed ≡ false }
+    ensures status { result ≡ exit_status outcome.now }
+    ensures line { errors.new.faulty ≡ false → errors.new.closed ≡ false
+        → Appends (E.contents errors.old.inner) (E.contents errors.new.inner) (told outcome.now) }
+    ensures front { AppendsFront (E.contents errors.old.inner) (E.contents errors.new.inner)
+        (told outcome.now) }
+{
+    match outcome {
+        Ok(()) => 0,
+        Err(stop) => {
+            // Where this line can't be written there is nobody to tell.
+            let _ = put(errors, line(stop).as_bytes());
+            status(stop)
+        }
+    }
+}

@@ -1,0 +1,119 @@
+-- The words of a job.
+use Rattle.std.proofs.Common.{◌≡◌, ◌↔◌, true≢false, ℕ, ◌<◌, ◌≤◌, ◌^◌, ◌&&◌, ◌≢◌, Bool, true, false, List, [], ◌∷◌, ◌++◌, length, get_or, append_assoc, rules, refl, sym, ap, ◌∙◌, arith, Option, Some, None, Result, Ok, Err}
+use Rattle.std.specs.Bool.{IsTrue}
+use Rattle.std.specs.Prelude.{nat_le, is_some, unwrap_or, IsSome}
+use Rattle.std.specs.Option.{option_map, option_zip}
+use Rattle.std.specs.Result.{result_ok, OkIff}
+use Rattle.std.specs.Str.{all_ascii_digits}
+use Rattle.std.specs.Str.Parse.{ParsesUnsigned}
+use Rattle.std.proofs.lemmas.Bool.{and_parts, and_from, leb-true, le-leb}
+use Rattle.std.proofs.lemmas.Str.Parse.{IsNumeralModel, numerals_by_fold, tells_all_ascii_digits, parse_plain}
+use Rattle.rustc_lexer.specs.declared.edition.Edition.{Edition}
+use Rattle.lexdump_run.specs.Job.{edit, edit_job, AsksEdits, Replacement, number_after, number_of, place_of, replacement_of, replacements_of, first_replacement}
+
+numbers : IsNumeralModel (λ ds. all_ascii_digits ds ≡ true) number_of
+numbers = numerals_by_fold _ tells_all_ascii_digits number_after (search rules)
+
+-- `parse` reads the places that have no sign and at most ten digits
+pub place-parse : {E : Type 0} (word : List ℕ) (r : Result ℕ E) → length word ≤ 10 → get_or word 0 0 ≢ 43 → ParsesUnsigned 32 10 word r → place_of word ≡ result_ok r
+unfolding place_of
+place-parse {E} word r short unsigned parses = by_result r (parse_plain numbers 32 word r parses unsigned)
+  where
+    is_place : Bool
+    is_place = all_ascii_digits word && (nat_le 1 (length word) && (nat_le (length word) 10 && nat_le (number_of word) 4294967295))
+
+    by_test : (b : Bool) → is_place ≡ b → ¬ ((all_ascii_digits word ≡ true) × (0 < length word) × (number_of word < 2 ^ 32)) → is_place ≡ false
+    by_test false e none = e
+    by_test true e none =
+        let p : (all_ascii_digits word ≡ true) × ((nat_le 1 (length word) && (nat_le (length word) 10 && nat_le (number_of word) 4294967295)) ≡ true) = and_parts _ _ e in
+        let q : (nat_le 1 (length word) ≡ true) × ((nat_le (length word) 10 && nat_le (number_of word) 4294967295) ≡ true) = and_parts _ _ p.1 in
+        let s : (nat_le (length word) 10 ≡ true) × (nat_le (number_of word) 4294967295 ≡ true) = and_parts _ _ q.1 in
+        let one : 1 ≤ length word = leb-true 1 (length word) q.0 in
+        let most : number_of word ≤ 4294967295 = leb-true (number_of word) 4294967295 s.1 in
+        absurd (none (p.0, omega arith, omega arith))
+
+    by_result : (x : Result ℕ E) → OkIff x ((all_ascii_digits word ≡ true) × (0 < length word) × (number_of word < 2 ^ 32)) (number_of word) → place_of word ≡ result_ok x
+    by_result (Ok n) h =
+        let e : is_place ≡ true = and_from _ _ h.0.0 (and_from _ _ (le-leb 1 (length word) (omega arith)) (and_from _ _ (le-leb (length word) 10 short) (le-leb (number_of word) 4294967295 (omega arith)))) in
+        rw (e, h.1) refl
+    by_result (Err error) h = rw (by_test is_place refl h) refl
+
+-- the first three words write the edit, and these words are after them
+abbrev pub FirstIs : List (List ℕ) → Replacement → List (List ℕ) → Type 0
+FirstIs words e after = let p : Option (Replacement × List (List ℕ)) = Some (e, after) in p ≡ first_replacement words
+
+-- what follows from the edit of the first three words
+module _ (e : Replacement) (words after : List (List ℕ)) where
+  abbrev Pair : Type 0
+  Pair = Replacement × List (List ℕ)
+
+  abbrev SplitsTo : Option Replacement → Type 0
+  SplitsTo o = let p : Option Pair = Some (e, after) in p ≡ option_map (λ (edit : Replacement). let q : Pair = (edit, words) in q) o
+
+  splits-after : (o : Option Replacement) → SplitsTo o → after ≡ words
+  splits-after None h = cc
+  splits-after (Some x) h = ap (λ (p : Option Pair). (unwrap_or p (e, after)).1) h
+
+  splits-zip : (o : Option Replacement) (r : Option (List Replacement)) → SplitsTo o → option_map (λ (edits : Replacement × List Replacement). edits.0 ∷ edits.1) (option_zip o r) ≡ option_map (λ edits. e ∷ edits) r
+  splits-zip None r h = cc
+  splits-zip (Some x) None h = refl
+  splits-zip (Some x) (Some es) h = ap (λ (y : Replacement). let r : Option (List Replacement) = Some (y ∷ es) in r) (sym (ap (λ (p : Option Pair). (unwrap_or p (e, after)).0) h))
+
+-- where three words write an edit, it is the first of the edits
+pub replacements-first : (e : Replacement) (words after : List (List ℕ)) → FirstIs words e after → replacements_of words ≡ option_map (λ edits. e ∷ edits) (replacements_of after)
+replacements-first e [] after h = cc
+replacements-first e (start ∷ []) after h = cc
+replacements-first e (start ∷ stop ∷ []) after h = cc
+replacements-first e (start ∷ stop ∷ insert ∷ words) after h =
+    splits-zip e words after (replacement_of start stop insert) (replacements_of words) h
+    ∙ ap (λ (ws : List (List ℕ)). option_map (λ edits. e ∷ edits) (replacements_of ws)) (sym (splits-after e words after (replacement_of start stop insert) h))
+
+pub length-after : (e : Replacement) (words after : List (List ℕ)) → FirstIs words e after → length after < length words
+length-after e [] after h = cc
+length-after e (start ∷ []) after h = cc
+length-after e (start ∷ stop ∷ []) after h = cc
+length-after e (start ∷ stop ∷ insert ∷ words) after h = let same = ap length (splits-after e words after (replacement_of start stop insert) h) in omega arith
+
+-- the words are edits if those after the first edit are
+pub some-after : (e : Replacement) (words after : List (List ℕ)) → FirstIs words e after → is_some (replacements_of words) ≡ is_some (replacements_of after)
+some-after e words after h = ap is_some (replacements-first e words after h) ∙ some-map (replacements_of after)
+  where
+    some-map : (r : Option (List Replacement)) → is_some (option_map (λ edits. e ∷ edits) r) ≡ is_some r
+    some-map None = refl
+    some-map (Some es) = refl
+
+-- the edits of all words are those that were read, and then those of the rest
+abbrev pub ReadBefore : List (List ℕ) → List Replacement → List (List ℕ) → Type 0
+ReadBefore words edits rest = replacements_of words ≡ option_map (λ more. edits ++ more) (replacements_of rest)
+
+pub read_none : (words : List (List ℕ)) → ReadBefore words [] words
+read_none words = by_edits (replacements_of words)
+  where
+    by_edits : (r : Option (List Replacement)) → r ≡ option_map (λ more. [] ++ more) r
+    by_edits None = refl
+    by_edits (Some es) = refl
+
+pub read_more : (words rest after : List (List ℕ)) (edits : List Replacement) (e : Replacement) → ReadBefore words edits rest → FirstIs rest e after → ReadBefore words (edits ++ e ∷ []) after
+read_more words rest after edits e read first = read ∙ (ap (option_map (λ more. edits ++ more)) (replacements-first e rest after first) ∙ by_edits (replacements_of after))
+  where
+    by_edits : (r : Option (List Replacement)) → option_map (λ more. edits ++ more) (option_map (λ more. e ∷ more) r) ≡ option_map (λ more. (edits ++ e ∷ []) ++ more) r
+    by_edits None = refl
+    by_edits (Some es) = ap (λ (xs : List Replacement). let r : Option (List Replacement) = Some xs in r) (sym (append_assoc edits (e ∷ []) es))
+
+-- words that are no edits ask for no job after `edit`
+pub no_edits : (edition : Edition) (words : List (List ℕ)) (n : ℕ) (are : Bool) → length words ≡ n → (IsTrue are ↔ ((0 < n) × IsSome (replacements_of words))) → are ≡ false → edit_job edition words ≡ None
+no_edits edition [] n are e is shut = refl
+no_edits edition (start ∷ words) n are e is shut = by_edits (replacements_of (start ∷ words)) refl
+  where
+    by_edits : (r : Option (List Replacement)) → replacements_of (start ∷ words) ≡ r → option_map (edit edition) r ≡ None
+    by_edits None f = refl
+    by_edits (Some es) f = let is_so : are ≡ true = is.1 (omega (arith, e), ap is_some f) in absurd (true≢false (sym is_so ∙ shut))
+
+-- and words that are edits ask for them
+pub asks_edits : (edition : Edition) (words : List (List ℕ)) (n : ℕ) (are : Bool) → length words ≡ n → (IsTrue are ↔ ((0 < n) × IsSome (replacements_of words))) → are ≡ true → AsksEdits (edit_job edition words)
+asks_edits edition [] n are e is so = let p = is.0 so in absurd (omega (arith, e, p.0))
+asks_edits edition (start ∷ words) n are e is so = by_edits (replacements_of (start ∷ words)) (is.0 so).1
+  where
+    by_edits : (r : Option (List Replacement)) → is_some r ≡ true → AsksEdits (option_map (edit edition) r)
+    by_edits None f = absurd (true≢false (sym f))
+    by_edits (Some es) f = tt

@@ -1,0 +1,34 @@
+-- The start and the length of a token, written from the last byte to the first.
+use Rattle.std.proofs.Common.{◌≡◌, ℕ, suc, ◌+◌, ◌-◌, ◌<◌, ◌≤◌, ◌^◌, List, [], ◌∷◌, ◌++◌, length, take, drop, get_or, sym, ap, ◌∙◌, arith, replicate, append_assoc, take_all, length-drop}
+use Rattle.std.specs.Fmt.{decimal}
+use Rattle.std.proofs.Math.Seq.{drop-cons}
+use Rattle.std.proofs.lemmas.Fmt.{length-decimal-le}
+use Rattle.std.proofs.lemmas.List.{get_or-take, get_or-replicate}
+use Rattle.rustc_lexer.specs.declared.token.Token.{Token}
+use Rattle.lexdump_run.specs.Listing.{fields_text, kind_name, line_text, place_text}
+
+pub short : (n : ℕ) → n < 2 ^ 32 → length (decimal n) ≤ 10
+short n small = length-decimal-le 10 n (omega arith) (omega arith) (omega arith)
+
+-- what was written from `from` on is the place, where the length stands from `at` on, and a space before and after it
+pub place-written : (start len at from : ℕ) (spaces one two : List ℕ) → spaces ≡ replicate 22 32 → length one ≡ 22 → 1 ≤ at → at + length (decimal len) ≡ 21 → drop at one ≡ decimal len ++ drop 21 spaces → take at one ≡ take at spaces
+    → length two ≡ 22 → drop from two ≡ decimal start ++ drop (at - 1) one → take (22 - from) (drop from two) ≡ place_text start len
+place-written start len at from spaces one two blank size after_space end len_at before size_two start_at = take_all (22 - from) (drop from two) (omega (arith, length-drop from two)) ∙ start_at ∙ ap (λ xs. decimal start ++ xs) (space ∙ ap (λ xs. 32 ∷ xs) (len_at ∙ ap (λ xs. decimal len ++ xs) (ap (drop 21) blank)))
+  where
+    at_is : suc (at - 1) ≡ at
+    at_is = omega arith
+
+    blank_at : get_or one (at - 1) 0 ≡ 32
+    blank_at = sym (get_or-take at one (at - 1) 0 (omega arith)) ∙ (ap (λ xs. get_or xs (at - 1) 0) before ∙ (get_or-take at spaces (at - 1) 0 (omega arith) ∙ (ap (λ xs. get_or xs (at - 1) 0) blank ∙ get_or-replicate 22 (at - 1) 32 0 (omega arith))))
+
+    space : drop (at - 1) one ≡ 32 ∷ drop at one
+    space = drop-cons one (at - 1) 0 (omega arith) ∙ (ap (λ (x : ℕ). x ∷ drop (suc (at - 1)) one) blank_at ∙ ap (λ (n : ℕ). 32 ∷ drop n one) at_is)
+
+pub same-place : (a b c d : ℕ) → a ≡ b → c ≡ d → place_text a c ≡ place_text b d
+same-place a b c d e f = ap (λ (n : ℕ). place_text n c) e ∙ ap (place_text b) f
+
+-- the place of a token and the rest of its line
+pub line-is : (start : ℕ) (token : Token) (rest : List ℕ) → rest ≡ kind_name token.kind ++ (fields_text token.kind ++ 10 ∷ []) → place_text start token.len ++ rest ≡ line_text start token
+unfolding line_text
+line-is start token rest e =
+    append_assoc (decimal start) (32 ∷ (decimal token.len ++ 32 ∷ [])) rest ∙ ap (λ xs. decimal start ++ 32 ∷ xs) (append_assoc (decimal token.len) (32 ∷ []) rest ∙ ap (λ xs. decimal token.len ++ 32 ∷ xs) e)

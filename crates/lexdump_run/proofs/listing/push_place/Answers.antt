@@ -1,0 +1,27 @@
+use Rattle.std.proofs.Common.{◌≡◌, ◌≤◌, ◌+◌, length, ◌∙◌, refl, arith}
+use Rattle.std.specs.Fmt.{decimal}
+use Rattle.lexdump_run.proofs.PlaceLemmas.{short, place-written, same-place}
+use Rattle.lexdump_run.proofs.PushLemmas.{pushes_same}
+use Rattle.lexdump_run.proofs.listing.push_place.Goals as goal
+
+pub write_digits-len_at-requires : goal.write_digits-len_at-requires
+write_digits-len_at-requires g c = let few : length (decimal c.from.result) ≤ 10 = short c.from.result (rw c.from.ensures c.ranges.len.fits) in (omega arith, omega arith)
+
+pub overflow_sub-len_at : goal.overflow_sub-len_at
+overflow_sub-len_at g c = omega (arith, short c.from.result (rw c.from.ensures c.ranges.len.fits), c.write_digits-len_at.ensures.start)
+
+pub write_digits-start_at-requires : goal.write_digits-start_at-requires
+write_digits-start_at-requires g c =
+    let few : length (decimal c.from.result) ≤ 10 = short c.from.result (rw c.from.ensures c.ranges.len.fits) in
+    let short : length (decimal c.from-2.result) ≤ 10 = short c.from-2.result (rw c.from-2.ensures c.ranges.start.fits) in
+    let at = c.write_digits-len_at.ensures.start in
+    (omega arith, omega arith)
+
+pub returns-clause-pushed : goal.returns-clause-pushed
+returns-clause-pushed g c =
+    let one : length c.write_digits-len_at.new.buf ≡ 22 = omega arith in
+    let two : length c.write_digits-start_at.new.buf ≡ 22 = omega arith in
+    let few : length (decimal c.from.result) ≤ 10 = short c.from.result (rw c.from.ensures c.ranges.len.fits) in
+    let at : c.write_digits-len_at.result + length (decimal c.from.result) ≡ 21 = c.write_digits-len_at.ensures.start in
+    let is = place-written c.from-2.result c.from.result _ _ _ _ _ refl one (omega arith) at c.write_digits-len_at.ensures.written c.write_digits-len_at.ensures.before two c.write_digits-start_at.ensures.written in
+    pushes_same _ _ _ _ _ _ _ (is ∙ same-place _ _ _ _ c.from-2.ensures c.from.ensures) c.push_bytes.ensures.pushed

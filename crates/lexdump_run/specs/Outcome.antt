@@ -1,0 +1,77 @@
+-- What a run comes to, by the bytes that it reads.
+use Rattle.std.specs.Prelude.{ℕ, ◌+◌, ◌-◌, ◌^◌, ◌≡◌, ◌↔◌, Bool, true, ◌&&◌, ◌||◌, nat_le, nat_lt, not, if◌then◌else◌, List, [], ◌∷◌, length, slice_index, Option, Result, Ok, Err, IfOk}
+use Rattle.std.specs.Str.{is_utf8}
+use Rattle.std.specs.Io.KnownBytes.{Keeps, Appends}
+use Rattle.ends.specs.Known.{AppendsFront}
+use Rattle.rustc_lexer.specs.declared.edition.Edition.{Edition}
+use Rattle.rustc_lexer.specs.declared.relex.edit.Edit.{Edit as TextEdit}
+use Rattle.rustc_lexer.specs.EditLists.{applied}
+use Rattle.rustc_lexer.specs.Edits.{IsInside, IsShort}
+use Rattle.rustc_lexer.specs.means.Shebang.{shebang}
+use Rattle.rustc_lexer.specs.LanguageText.{document, part}
+use Rattle.rustc_lexer.specs.Tokens.{tokens_of}
+use Rattle.lexdump_run.specs.declared.fault.Fault.{Fault}
+use Rattle.lexdump_run.specs.declared.fault.Fault.TheVariants.{NotUtf8, TooLong, EditRange, EditTooLong, Memory, Read, Write}
+use Rattle.lexdump_run.specs.declared.job.Job.{Job}
+use Rattle.lexdump_run.specs.declared.job.Job.TheVariants.{Plain, Front, Shebang, Edit}
+use Rattle.lexdump_run.specs.Listing.{listing, shebang_line}
+
+-- whether a character of the text begins at the place, or the text ends there
+abbrev pub is_boundary : List ℕ → ℕ → Bool
+is_boundary text place = nat_le place (length text) && (nat_le (length text) place || (nat_lt (slice_index text place) 128 || nat_le 192 (slice_index text place)))
+
+-- whether the range of the edit is inside the text, between characters
+abbrev pub is_inside : List ℕ → TextEdit → Bool
+is_inside text e = nat_le e.start e.stop && (nat_le e.stop (length text) && (is_boundary text e.start && is_boundary text e.stop))
+
+-- whether what the edit makes has at most 4294967295 bytes
+abbrev pub is_short : List ℕ → TextEdit → Bool
+is_short text e = nat_lt (length text + length e.insert.now) (2 ^ 32 + (e.stop - e.start))
+
+-- these tests of an edit are the rule of `rustc_lexer`
+abbrev pub IsRuleOfEdits : Type 0
+IsRuleOfEdits = (text : List ℕ) (e : TextEdit) → (is_inside text e ≡ true ↔ IsInside text e.start e.stop) × (is_short text e ≡ true ↔ IsShort text e.start e.stop e.insert.now)
+
+-- the text after the edits, or why the first bad one is refused, each judged on the text that the edits before it
+-- leave; the first has the number `at`
+abbrev pub edited_from : ℕ → List ℕ → List TextEdit → Result (List ℕ) Fault
+edited_from at text [] = Ok text
+edited_from at text (e ∷ es) =
+    if not (is_inside text e) then Err (EditRange at) else (if not (is_short text e) then Err (EditTooLong at) else edited_from (at + 1) (applied text e) es)
+
+-- the listing of a text in an edition
+abbrev pub listed : Edition → Result (List ℕ) Fault → Result (List ℕ) Fault
+listed edition (Ok text) = Ok (listing (tokens_of (part edition) text))
+listed edition (Err fault) = Err fault
+
+-- what is printed of a text, or why nothing is
+abbrev pub printed : Job → List ℕ → Result (List ℕ) Fault
+printed (Plain edition) text = listed edition (Ok text)
+printed Front text = Ok (listing (tokens_of document text))
+printed Shebang text = Ok (shebang_line (shebang text))
+printed (Edit edition edits) text = listed edition (edited_from 0 text edits.items)
+
+-- why there is nothing to print: an edit is bad, or memory was refused
+abbrev pub IsRefused : Fault → Result (List ℕ) Fault → Type 0
+IsRefused Memory printed = Unit {0}
+IsRefused (EditRange at) printed = printed ≡ Err (EditRange at)
+IsRefused (EditTooLong at) printed = printed ≡ Err (EditTooLong at)
+IsRefused fault printed = ⊥
+
+-- the text that is printed, or why nothing is: the input is too long, it is no text, or an edit is bad
+unfoldable pub outcome : Job → List ℕ → Result (List ℕ) Fault
+outcome job bytes = if nat_le (2 ^ 32) (length bytes) then Err TooLong else (if not (is_utf8 bytes) then Err NotUtf8 else printed job bytes)
+
+-- an answer is that of the outcome, unless an end failed or memory was refused
+abbrev pub IsAnswer : Result (Unit {0}) Fault → Result (List ℕ) Fault → Type 0
+IsAnswer (Ok done) outcome = (text : List ℕ) × (outcome ≡ Ok text)
+IsAnswer (Err Read) outcome = Unit {0}
+IsAnswer (Err Write) outcome = (text : List ℕ) × (outcome ≡ Ok text)
+IsAnswer (Err Memory) outcome = Unit {0}
+IsAnswer (Err fault) outcome = outcome ≡ Err fault
+
+-- what goes out: on Ok all of the text, after a failed write a beginning of it, after any other fault nothing
+abbrev pub Writes : Option (List ℕ) → Option (List ℕ) → Result (Unit {0}) Fault → Result (List ℕ) Fault → Type 0
+Writes old new (Ok done) outcome = IfOk outcome (λ text. Appends old new text)
+Writes old new (Err Write) outcome = IfOk outcome (λ text. AppendsFront old new text)
+Writes old new (Err fault) outcome = Keeps old new

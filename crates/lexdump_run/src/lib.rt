@@ -1,0 +1,13 @@
+//! What the program `lexdump` does, over any ends: it prints the tokens of a Rust source, one a line.
+#![tactic(auto)]
+
+mod fault;
+mod job;
+mod listing;
+mod output;
+pub mod program;
+pub mod report;
+pub mod run;
+
+pub use fault::{Fault, status};
+pub use job::{Job, read_job};

@@ -1,0 +1,165 @@
+//! What goes out: bytes are held until there is a block of them, and then written at once.
+ghost use Rattle.std.specs.Prelude.{◌≡◌, ◌+◌, ◌≤◌, ◌++◌, [], false, true, is_err, length, IfErr, IfOk, OnErr, OnOk};
+ghost use Rattle.std.specs.Fmt.{decimal};
+ghost use Rattle.std.specs.Io.KnownBytes.{Appends};
+ghost use Rattle.ends.specs.Known.{AppendsFront};
+ghost use Rattle.lexdump_run.specs.Pushed.{Pushes};
+
+use crate::fault::Fault;
+use ends::Watched;
+use itoa::Buffer;
+use std::io::Write;
+use std::marker::Model;
+
+/// The most bytes that a block holds.
+const BLOCK: usize = 65536;
+
+/// Bytes that are still to be written, at most a block of them. They lie in place, so no memory is asked for.
+#[derive(Drop)]
+pub struct Block {
+    bytes: [u8; BLOCK],
+    len: usize,
+}
+
+impl Model for Block {
+    ghost use Rattle.std.specs.Prelude.{ℕ, List, take, ◌≤◌};
+
+    ghost Value = { List ℕ };
+
+    ghost view = { λ b. take b.len b.bytes };
+
+    ghost invariant = { λ b. b.len ≤ 65536 };
+}
+
+impl Block {
+    /// A block that holds nothing.
+    pub fn new() -> Block
+        ensures { result ≡ [] }
+    {
+        Block {
+            bytes: [0; BLOCK],
+            len: 0,
+        }
+    }
+
+    /// Adds a text. Where the block has no room for it, what it holds is written first.
+    #[inline]
+    pub fn push<W: Write>(&mut self, output: &mut Watched<W>, text: &str) -> Result<(), Fault>
+        requires writes { output.old.failed ≡ false }
+        ensures failed { output.new.failed ≡ is_err result }
+        ensures pushed { Pushes (W.contents output.old.inner) (W.contents output.new.inner)
+            self.old self.new text.now result }
+    {
+        self.push_bytes(output, text.as_bytes())
+    }
+
+    /// Adds a number, in decimal.
+    pub fn push_number<W: Write>(
+        &mut self,
+        output: &mut Watched<W>,
+        number: usize,
+    ) -> Result<(), Fault>
+        requires writes { output.old.failed ≡ false }
+        ensures failed { output.new.failed ≡ is_err result }
+        ensures pushed { Pushes (W.contents output.old.inner) (W.contents output.new.inner)
+            self.old self.new (decimal number) result }
+    {
+        self.push(output, Buffer::new().format(number))
+    }
+
+    /// Adds bytes.
+    #[inline]
+    pub fn push_bytes<W: Write>(
+        &mut self,
+        output: &mut Watched<W>,
+        bytes: &[u8],
+    ) -> Result<(), Fault>
+        requires writes { output.old.failed ≡ false }
+        ensures failed { output.new.failed ≡ is_err result }
+        ensures pushed { Pushes (W.contents output.old.inner) (W.contents output.new.inner)
+            self.old self.new bytes.now result }
+    {
+        if bytes.len() > BLOCK - self.len {
+            return self.push_past(output, bytes);
+        }
+        self.hold(bytes);
+        Ok(())
+    }
+
+    /// Writes what is held, and adds the bytes. More than a block of them is written at once.
+    #[inline(never)]
+    fn push_past<W: Write>(&mut self, output: &mut Watched<W>, bytes: &[u8]) -> Result<(), Fault>
+        requires writes { output.old.failed ≡ false }
+        ensures failed { output.new.failed ≡ is_err result }
+        ensures pushed { Pushes (W.contents output.old.inner) (W.contents output.new.inner)
+            self.old self.new bytes.now result }
+    {
+        self.write_out(output)?;
+        if bytes.len() > BLOCK {
+            return write_bytes(output, bytes);
+        }
+        self.hold(bytes);
+        Ok(())
+    }
+
+    /// Adds bytes for which there is room.
+    #[inline(always)]
+    fn hold(&mut self, bytes: &[u8])
+        requires { length self.old + length bytes.now ≤ 65536 }
+        ensures { self.new ≡ self.old ++ bytes.now }
+    {
+        let end = self.len + bytes.len();
+        self.bytes[self.len..end].copy_from_slice(bytes);
+        self.len = end;
+    }
+
+    /// Writes what is held.
+    fn write_out<W: Write>(&mut self, output: &mut Watched<W>) -> Result<(), Fault>
+        requires writes { output.old.failed ≡ false }
+        ensures failed { output.new.failed ≡ is_err result }
+        ensures only { IfErr result (λ fault. fault ≡ Fault.Write) }
+        ensures ok { OnOk result
+            (Appends (W.contents output.old.inner) (W.contents output.new.inner) self.old) }
+        ensures empty { OnOk result (self.new ≡ []) }
+        ensures err { OnErr result
+            (AppendsFront (W.contents output.old.inner) (W.contents output.new.inner) self.old) }
+    {
+        write_bytes(output, &self.bytes[..self.len])?;
+        self.len = 0;
+        Ok(())
+    }
+
+    /// Writes what is held, and flushes.
+    pub fn finish<W: Write>(&mut self, output: &mut Watched<W>) -> Result<(), Fault>
+        requires writes { output.old.failed ≡ false }
+        ensures failed { output.new.failed ≡ is_err result }
+        ensures flushed { IfOk result (λ _. output.new.flushed ≡ true) }
+        ensures only { IfErr result (λ fault. fault ≡ Fault.Write) }
+        ensures ok { OnOk result
+            (Appends (W.contents output.old.inner) (W.contents output.new.inner) self.old) }
+        ensures err { OnErr result
+            (AppendsFront (W.contents output.old.inner) (W.contents output.new.inner) self.old) }
+    {
+        self.write_out(output)?;
+        if output.flush().is_err() {
+            return Err(Fault::Write);
+        }
+        Ok(())
+    }
+}
+
+/// Writes all of the bytes.
+pub fn write_bytes<W: Write>(output: &mut Watched<W>, bytes: &[u8]) -> Result<(), Fault>
+    requires writes { output.old.failed ≡ false }
+    ensures failed { output.new.failed ≡ is_err result }
+    ensures only { IfErr result (λ fault. fault ≡ Fault.Write) }
+    ensures ok { OnOk result
+        (Appends (W.contents output.old.inner) (W.contents output.new.inner) bytes.now) }
+    ensures err { OnErr result
+        (AppendsFront (W.contents output.old.inner) (W.contents output.new.inner) bytes.now) }
+{
+    match ends::write_bytes(output, bytes) {
+        Ok(()) => Ok(()),
+        Err(_) => Err(Fault::Write),
+    }
+}

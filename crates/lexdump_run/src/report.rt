@@ -1,0 +1,85 @@
+//! What is told of a run that stopped, and its status.
+ghost use Rattle.std.specs.Prelude.{◌≡◌, ◌++◌, ◌↔◌, false, IsErrOf, IsTrue, IfErr, OnErr, OnOk};
+ghost use Rattle.std.specs.Io.KnownBytes.{Appends};
+ghost use Rattle.lexdump_run.specs.Fault.{fault_line, number_text};
+ghost use Rattle.ends.specs.Known.{AppendsFront};
+ghost use Rattle.lexdump_run.specs.Program.{exit_status, told};
+
+use crate::fault::{Fault, status};
+use crate::output::write_bytes;
+use ends::Watched;
+use itoa::Buffer;
+use std::io::Write;
+
+/// Writes the line of the fault that the run stopped with, if any, and answers the status of the program.
+///
+/// What goes out is all of the line where the writer does not fail, else a beginning of it. The status is the same.
+pub fn report<E: Write>(outcome: &Result<(), Fault>, errors: &mut Watched<E>) -> u8
+    requires { errors.old.failed ≡ false }
+    ensures status { result ≡ exit_status outcome.now }
+    ensures line { errors.new.failed ≡ false
+        → Appends (E.contents errors.old.inner) (E.contents errors.new.inner) (told outcome.now) }
+    ensures front { AppendsFront (E.contents errors.old.inner) (E.contents errors.new.inner)
+        (told outcome.now) }
+{
+    match outcome {
+        Ok(()) => 0,
+        Err(fault) => {
+            // Where this line can't be written there is nobody to tell.
+            let _ = tell(fault, errors);
+            status(fault)
+        }
+    }
+}
+
+/// Writes the line of the fault.
+fn tell<E: Write>(fault: &Fault, errors: &mut Watched<E>) -> Result<(), Fault>
+    requires { errors.old.failed ≡ false }
+    ensures failed { IsErrOf result Fault.Write ↔ IsTrue errors.new.failed }
+    ensures only { IfErr result (λ fault. fault ≡ Fault.Write) }
+    ensures ok { OnOk result
+        (Appends (E.contents errors.old.inner) (E.contents errors.new.inner)
+        (fault_line fault.now)) }
+    ensures err { OnErr result
+        (AppendsFront (E.contents errors.old.inner) (E.contents errors.new.inner)
+        (fault_line fault.now)) }
+{
+    let (before, number, after) = line_parts(fault);
+    write_bytes(errors, before.as_bytes())?;
+    write_number(errors, number)?;
+    write_bytes(errors, after.as_bytes())
+}
+
+/// Writes the number, if there is one.
+fn write_number<E: Write>(errors: &mut Watched<E>, number: Option<usize>) -> Result<(), Fault>
+    requires { errors.old.failed ≡ false }
+    ensures failed { IsErrOf result Fault.Write ↔ IsTrue errors.new.failed }
+    ensures only { IfErr result (λ fault. fault ≡ Fault.Write) }
+    ensures ok { OnOk result
+        (Appends (E.contents errors.old.inner) (E.contents errors.new.inner) (number_text number)) }
+    ensures err { OnErr result
+        (AppendsFront (E.contents errors.old.inner) (E.contents errors.new.inner)
+        (number_text number)) }
+{
+    match number {
+        Some(number) => write_bytes(errors, Buffer::new().format(number).as_bytes()),
+        None => Ok(()),
+    }
+}
+
+/// The line of the fault: what stands before the number of the edit that it names, that number, and what follows.
+#[tactic(auto, unfolding(crate::specs::Fault::fault_text))]
+fn line_parts(fault: &Fault) -> (&'static str, Option<usize>, &'static str)
+    ensures { result.0.now ++ (number_text result.1 ++ result.2.now) ≡ fault_line fault.now }
+{
+    match fault {
+        Fault::Arguments => ("lexdump: bad arguments\n", None, ""),
+        Fault::NotUtf8 => ("lexdump: input is not UTF-8\n", None, ""),
+        Fault::TooLong => ("lexdump: input too long\n", None, ""),
+        Fault::EditRange { at } => ("lexdump: edit ", Some(*at), ": bad range\n"),
+        Fault::EditTooLong { at } => ("lexdump: edit ", Some(*at), ": text too long\n"),
+        Fault::Memory => ("lexdump: no memory\n", None, ""),
+        Fault::Read => ("lexdump: read failed\n", None, ""),
+        Fault::Write => ("lexdump: write failed\n", None, ""),
+    }
+}

@@ -1,0 +1,79 @@
+//! A whole run: from the bytes of a reader to the lines of a writer.
+ghost use Rattle.std.specs.Prelude.{◌≡◌, ◌≢◌, ◌↔◌, false, true, IsTrue, IsErrOf, IfErr, IfOk, IfSome};
+ghost use Rattle.std.specs.Io.KnownBytes.{Keeps};
+ghost use Rattle.rustc_lexer.specs.Classes.{Fits};
+ghost use Rattle.rustc_lexer.specs.LanguageHolds.{IsDetermined};
+ghost use Rattle.lexdump_run.specs.Outcome.{outcome, printed, IsAnswer, IsRuleOfEdits, Writes};
+ghost use Rattle.lexdump_run.specs.Pushed.{Prints};
+
+use crate::fault::Fault;
+use crate::job::Job;
+use crate::listing::{edited, list_pieces, list_tokens, list_tokens_in, tell_shebang};
+use crate::output::Block;
+use ends::{Watched, read_all};
+use rustc_lexer::FrontmatterAllowed;
+use std::alloc::Global;
+use std::io::{Read, Write};
+
+/// Reads all of the input, and then writes what the job prints of it.
+///
+/// The lines go out in blocks. Nothing that may be refused comes after the first byte: after every fault but
+/// `Fault::Write` the output is as it was.
+/// At `Ok` the last thing asked of the output was a flush, and it was not refused.
+#[tactic(auto, using(rustc_lexer::proofs::LanguageTextLemmas::determined, crate::proofs::EditedLemmas::same_rule))]
+pub fn run<R: Read, W: Write>(
+    alloc: Global,
+    job: &Job<'_>,
+    input: &mut Watched<R>,
+    output: &mut Watched<W>,
+) -> Result<(), Fault>
+    requires reads { input.old.failed ≡ false }
+    requires writes { output.old.failed ≡ false }
+    ensures read { IsErrOf result Fault.Read ↔ IsTrue input.new.failed }
+    ensures write { IsErrOf result Fault.Write ↔ IsTrue output.new.failed }
+    ensures flushed { IfOk result (λ _. output.new.flushed ≡ true) }
+    ensures silent { IfErr result
+        (λ fault. fault ≢ Fault.Write
+        → Keeps (W.contents output.old.inner) (W.contents output.new.inner)) }
+    ensures outcome { IfSome (R.remaining input.old.inner)
+        (λ bytes. IsAnswer result (outcome job.now bytes)) }
+    ensures written { IfSome (R.remaining input.old.inner) (λ bytes.
+        Writes (W.contents output.old.inner) (W.contents output.new.inner) result
+        (outcome job.now bytes)) }
+    ensures edits { IsRuleOfEdits }
+    ensures language { IsDetermined }
+{
+    let bytes = read_all(alloc, input)?;
+    let text = match std::str::from_utf8(bytes.as_slice()) {
+        Ok(text) => text,
+        Err(_) => return Err(Fault::NotUtf8),
+    };
+    let mut lines = Block::new();
+    print(alloc, job, text, &mut lines, output)?;
+    lines.finish(output)
+}
+
+/// Prints what the job prints of the text.
+fn print<W: Write>(
+    alloc: Global,
+    job: &Job<'_>,
+    text: &str,
+    lines: &mut Block,
+    output: &mut Watched<W>,
+) -> Result<(), Fault>
+    requires fits { Fits text.now }
+    requires writes { output.old.failed ≡ false }
+    ensures failed { IsErrOf result Fault.Write ↔ IsTrue output.new.failed }
+    ensures prints { Prints (W.contents output.old.inner) (W.contents output.new.inner)
+        lines.old lines.new result (printed job.now text.now) }
+{
+    match job {
+        Job::Plain { edition } => list_tokens_in(lines, output, text, *edition),
+        Job::Front => list_tokens(lines, output, text, FrontmatterAllowed::Yes),
+        Job::Shebang => tell_shebang(lines, output, text),
+        Job::Edit { edition, edits } => {
+            let lexed = edited(alloc, text, *edition, edits.as_slice())?;
+            list_pieces(lines, output, &lexed)
+        }
+    }
+}

@@ -1,0 +1,165 @@
+//! Tests of `count`: numbers that were counted by hand, words, reports, and ends that fail.
+use crate::failing_ends::{Script, Turn, WHOLE};
+use crate::words::words_of;
+use count_run::{
+    Layout, LineCounts, Report, Stop, count_input, count_source, read_job, status, write_out,
+    write_report,
+};
+use sources::{Fault, Reason};
+use std::alloc::{AllocError, Global};
+use std::io::ErrorKind;
+use std::test::Fail;
+
+/// Numbers in the order of a table, without the sum.
+fn counts(numbers: [u64; 7]) -> LineCounts {
+    let [
+        code,
+        doc,
+        comment,
+        blank,
+        code_and_doc,
+        code_and_comment,
+        doc_and_comment,
+    ] = numbers;
+    LineCounts {
+        code,
+        doc,
+        comment,
+        blank,
+        code_and_doc,
+        code_and_comment,
+        doc_and_comment,
+    }
+}
+
+#[test]
+fn texts(rt: HostRuntime) {
+    let rows = [
+        ("", [0, 0, 0, 0, 0, 0, 0]),
+        ("\n", [0, 0, 0, 1, 0, 0, 0]),
+        (" \t", [0, 0, 0, 1, 0, 0, 0]),
+        ("a\r\n\r\nb", [2, 0, 0, 1, 0, 0, 0]),
+        (
+            "// a\n/// b\n//! c\n/* d */\n/** e */\n",
+            [0, 3, 2, 0, 0, 0, 0],
+        ),
+        ("a // b\nc /// d\n/* e */ f\n", [3, 0, 0, 0, 1, 2, 0]),
+        ("/* a */ /// b\n", [0, 1, 0, 0, 0, 0, 1]),
+        ("a /** b */ // c\n", [1, 0, 0, 0, 1, 1, 1]),
+        ("x = \"// no\n\n/* no */\";\n", [3, 0, 0, 0, 0, 0, 0]),
+        ("r#\"\n//\"\n\n\"# // yes", [4, 0, 0, 0, 0, 1, 0]),
+        ("/* a /* b */\nc */ d\n", [1, 0, 1, 0, 0, 1, 0]),
+        ("/* a\n\n*/\n\nb\n", [1, 0, 3, 1, 0, 0, 0]),
+        ("/** a\n\n*/\n", [0, 3, 0, 0, 0, 0, 0]),
+        ("/* a\n\n", [0, 0, 2, 0, 0, 0, 0]),
+        ("#!/bin/sh // a\n// b\n", [1, 0, 1, 0, 0, 0, 0]),
+        ("#![a] // b\n", [1, 0, 0, 0, 0, 1, 0]),
+        ("#!/bin/sh\n---\n// a\n\n---\n\nfn\n", [6, 0, 0, 1, 0, 0, 0]),
+        ("'/' // a\n'\\'' /* b */\n", [2, 0, 0, 0, 0, 2, 0]),
+    ];
+    for (text, want) in rows {
+        assert_eq!(rt;
+            count_source(text.as_bytes()),
+            Ok(counts(want)),
+            "at {text:?}"
+        );
+    }
+    assert_eq!(rt; count_source(b"a\xff".as_slice()), Err(Reason::NotUtf8));
+}
+
+/// Whether the words ask for this layout of the numbers of these paths.
+fn asks_for(
+    alloc: Global,
+    texts: &[&str],
+    layout: Layout,
+    paths: &[&str],
+) -> Result<bool, AllocError> {
+    let words = words_of(alloc, texts)?;
+    Ok(read_job(alloc, words.as_slice()).is_ok_and(|job| job.layout == layout
+        && job.paths.as_slice() == paths))
+}
+
+#[test]
+fn words(rt: HostRuntime) -> Result<(), Fail> {
+    let all = ["count", "--files", "src", "a b.rs", "--json"];
+    let layout = Layout {
+        by_file: true,
+        json: true,
+    };
+    assert!(rt; asks_for(rt.alloc(), &all, layout, &["src", "a b.rs"])?);
+    let layout = Layout {
+        by_file: false,
+        json: false,
+    };
+    assert!(rt; asks_for(rt.alloc(), &["count"], layout, &[])?);
+    let wrong = words_of(rt.alloc(), &["count", "--no"])?;
+    assert!(rt; read_job(rt.alloc(), wrong.as_slice()).is_err());
+    Ok(())
+}
+
+#[test]
+fn reports(rt: HostRuntime) -> Result<(), Fail> {
+    let alloc = rt.alloc();
+    let mut report = Report::new(alloc);
+    report.add(
+        String::from_str(alloc, "a.rs")?,
+        counts([1, 2, 3, 4, 5, 6, 7]),
+    )?;
+    report.add(
+        String::from_str(alloc, "b\".rs")?,
+        counts([10, 0, 0, 0, 0, 0, 0]),
+    )?;
+    let layout = Layout {
+        by_file: true,
+        json: false,
+    };
+    let table = write_report(alloc, layout, &report)?;
+    assert_eq!(rt;
+        table.as_slice(),
+        b"      code       doc   comment     blank     lines  code+doc code+comment doc+comment
+         1         2         3         4        10         5            6           7  a.rs
+        10         0         0         0        10         0            0           0  b\".rs
+        11         2         3         4        20         5            6           7  total
+"
+            .as_slice()
+    );
+    let layout = Layout {
+        by_file: false,
+        json: true,
+    };
+    let text = write_report(alloc, layout, &report)?;
+    assert_eq!(rt;
+        text.as_slice(),
+        b"{\"total\":{\"code\":11,\"doc\":2,\"comment\":3,\"blank\":4,\
+          \"lines\":20,\"code_and_doc\":5,\
+          \"code_and_comment\":6,\"doc_and_comment\":7}}\n"
+            .as_slice()
+    );
+    Ok(())
+}
+
+#[test]
+fn ends_that_fail(rt: HostRuntime) {
+    let script = Script {
+        reads: &[Turn::Moves(1), Turn::Fails(ErrorKind::Other)],
+        ..WHOLE
+    };
+    let fault = Fault::Source(Reason::System(ErrorKind::Other));
+    assert_eq!(rt;
+        count_input(rt.alloc(), &mut script.reader(b"aa")),
+        Err(fault)
+    );
+    let rows = [
+        (ErrorKind::BrokenPipe, Stop::ClosedPipe, 0),
+        (ErrorKind::Other, Stop::Write, 7),
+    ];
+    for (kind, stop, ends) in rows {
+        let script = Script {
+            writes: &[Turn::Fails(kind)],
+            ..WHOLE
+        };
+        let mut output = script.writer(rt.alloc());
+        assert_eq!(rt; write_out(&mut output, b"a".as_slice()), Err(stop));
+        assert!(rt; output.into_inner().taken.is_empty() && status(&stop) == ends);
+    }
+}

@@ -1,0 +1,5 @@
+//! Tests of `highlight`.
+mod jobs;
+mod marks;
+mod program;
+mod runs;

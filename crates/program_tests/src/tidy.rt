@@ -1,0 +1,160 @@
+//! Tests of `tidy`: texts in order, words, whole runs, and ends that fail.
+use crate::failing_ends::{Script, Turn, WHOLE};
+use crate::words::words_of;
+use rustc_lexer::fits;
+use sources::{Fault, Reason};
+use std::alloc::{AllocError, Global};
+use std::io::ErrorKind;
+use std::test::Fail;
+use tidy_run::run::{check, run, show};
+use tidy_run::{Stop, Task, changed, read_job, status, tidied};
+
+/// Whether this is the text in order.
+fn is_tidied(alloc: Global, text: &str, want: &str) -> bool {
+    fits(text) && tidied(alloc, text).is_ok_and(|made| made.as_str() == want)
+}
+
+#[test]
+fn texts(rt: HostRuntime) {
+    let rows = [
+        ("", ""),
+        ("fn", "fn\n"),
+        (" \t\n \n\n", "\n"),
+        ("fn  ", "fn\n"),
+        ("a \t\r\n\r\n\n\n    b\t c \n", "a\n\n    b\t c\n"),
+        ("a \r \n\r\r\nb", "a\n\nb\n"),
+        ("// a  \r\nb", "// a  \nb\n"),
+        ("/// a\r\r\n// b\r", "/// a\n// b\n"),
+        ("/* a \r\n b\r\r\n c\rd\r*/", "/* a \n b\n c\rd\r*/\n"),
+        ("// a\r\n/* b\r\n", "// a\n/* b\r\n"),
+        ("/* \n\n\n\n */ \n", "/* \n\n\n\n */\n"),
+        ("\"a  \r\n\n\n\n\" \n;", "\"a  \r\n\n\n\n\"\n;\n"),
+        ("\"a  \n\n\n\n", "\"a  \n\n\n\n"),
+        ("r#\"  \n\"#  \n", "r#\"  \n\"#\n"),
+        ("r#  \n\n\n\na", "r# \n\na\n"),
+        ("'a \n\n\n\nb", "'a\n\nb\n"),
+        ("b'x  \n\n \n\ny", "b'x  \n\ny\n"),
+        ("b'\n \n'", "b'\n\n'"),
+        ("a\u{85} \n\u{2028}\n\n\n\nb", "a\u{85}\n\u{2028}\n\nb\n"),
+        (
+            " \n\n\n---\na  \n--- \n\n\n\nb",
+            "\n\n---\na  \n--- \n\nb\n",
+        ),
+        ("---\n---", "---\n---"),
+        ("---\na\nuse \n\n\n\nb", "---\na\nuse \n\n\n\nb"),
+        ("#!/bin/sh \r\n\r\n\n\nfn \n", "#!/bin/sh \n\nfn\n"),
+        ("#!x\r\r\nfn \n", "#!x\r\r\nfn \n"),
+        ("#![a] \n\n\n\nfn", "#![a]\n\nfn\n"),
+        ("\r", "\n"),
+    ];
+    for (text, want) in rows {
+        assert!(rt; is_tidied(rt.alloc(), text, want), "at {text:?}");
+    }
+}
+
+/// Whether the words ask for this task on these paths.
+fn asks_for(alloc: Global, texts: &[&str], task: Task, paths: &[&str]) -> Result<bool, AllocError> {
+    let words = words_of(alloc, texts)?;
+    Ok(read_job(alloc, words.as_slice()).is_ok_and(|job| job.task == task
+        && job.paths.as_slice() == paths))
+}
+
+#[test]
+fn words(rt: HostRuntime) -> Result<(), Fail> {
+    let rows: [(&[&str], Task, &[&str]); 3] = [
+        (
+            &["tidy", "src", "--check", "a b.rs"],
+            Task::Check,
+            &["src", "a b.rs"],
+        ),
+        (&["tidy", "--check", "--diff"], Task::Diff, &[]),
+        (&["tidy"], Task::Write, &[]),
+    ];
+    for (row, (texts, task, paths)) in rows.iter().enumerate() {
+        assert!(rt; asks_for(rt.alloc(), texts, *task, paths)?, "row {row}");
+    }
+    let wrong = words_of(rt.alloc(), &["tidy", "--no"])?;
+    assert!(rt; read_job(rt.alloc(), wrong.as_slice()).is_err());
+    Ok(())
+}
+
+#[test]
+fn runs(rt: HostRuntime) {
+    let mut input: &[u8] = b"fn \n";
+    let mut output = Vec::new(rt.alloc());
+    assert_eq!(rt; run(rt.alloc(), &mut input, &mut output), Ok(()));
+    assert_eq!(rt; output.as_slice(), b"fn\n".as_slice());
+    let rows: [(&[u8], Result<(), Stop>); 3] = [
+        (b"fn\n", Ok(())),
+        (b"fn \n", Err(Stop::Untidy)),
+        (b"fn\xff", Err(Stop::NotUtf8)),
+    ];
+    for (bytes, want) in rows {
+        let mut input = bytes;
+        assert_eq!(rt; check(rt.alloc(), &mut input), want);
+    }
+    assert_eq!(rt; status(&Stop::Untidy), 1);
+}
+
+#[test]
+fn diffs(rt: HostRuntime) {
+    let rows: [(&[u8], Option<&str>); 3] = [
+        (b"fn\n", None),
+        (
+            b"a \n\"b \r\n\"\r\n \n\n\nc",
+            Some(
+                "--- a/stdin\t\n+++ b/stdin\t\n@@ -1,7 +1,5 @@\n-a \n+a\n \"b \r\n-\"\r\n+\"\n\
+- \n+\n-\n-\n-c\n\\ No newline at end of file\n+c\n",
+            ),
+        ),
+        (
+            b"1\n2\n3\n4 \n5\n6\n7\n8\n9\n10\n11\n12 ",
+            Some(
+                "--- a/stdin\t\n+++ b/stdin\t\n@@ -1,7 +1,7 @@\n 1\n 2\n 3\n-4 \n+4\n 5\n 6\n 7\n\
+@@ -9,4 +9,4 @@\n 9\n 10\n 11\n-12 \n\\ No newline at end of file\n+12\n",
+            ),
+        ),
+    ];
+    for (text, want) in rows {
+        let mut input = text;
+        let shown = show(rt.alloc(), &mut input);
+        assert!(rt;
+            shown.is_ok_and(|diff| match (diff, want) {
+                (None, None) => true,
+                (Some(diff), Some(want)) => diff.as_str() == want,
+                _ => false,
+            })
+        );
+    }
+    let mut wrong: &[u8] = b"fn\xff \n";
+    assert!(rt; show(rt.alloc(), &mut wrong).is_err_and(|stop| stop == Stop::NotUtf8));
+}
+
+#[test]
+fn files(rt: HostRuntime) -> Result<(), Fail> {
+    let alloc = rt.alloc();
+    assert!(rt; changed(alloc, b"fn\n".as_slice())?.is_none());
+    let text = changed(alloc, b"fn \n".as_slice())?.ok_or("a text")?;
+    assert_eq!(rt; text.as_str(), "fn\n");
+    let fault = Fault::Source(Reason::NotUtf8);
+    assert!(rt; changed(alloc, b"fn\xff \n".as_slice()).is_err_and(|e| e == fault));
+    Ok(())
+}
+
+#[test]
+fn writers_that_fail(rt: HostRuntime) {
+    let rows = [
+        (ErrorKind::BrokenPipe, Stop::ClosedPipe, 0),
+        (ErrorKind::Other, Stop::Write, 7),
+    ];
+    for (kind, stop, ends) in rows {
+        let script = Script {
+            writes: &[Turn::Fails(kind)],
+            ..WHOLE
+        };
+        let mut input: &[u8] = b"fn";
+        let mut output = script.writer(rt.alloc());
+        assert_eq!(rt; run(rt.alloc(), &mut input, &mut output), Err(stop));
+        assert!(rt; output.into_inner().taken.is_empty() && status(&stop) == ends);
+    }
+}

@@ -1,0 +1,222 @@
+-- White space in order, line by line.
+use Rattle.std.proofs.Common.{◌≡◌, ◌≢◌, ℕ, zero, suc, ◌+◌, ◌-◌, ◌<◌, ◌≤◌, ◌==◌, ◌&&◌, ◌||◌, inl, inr, Bool, true, false, true≢false, if◌then◌else◌, List, [], ◌∷◌, ◌++◌, length, get_or, take, drop, codes, refl, sym, ap, ◌∙◌, subst, arith, drop-drop, length-drop, append_assoc, Some, None}
+use Rattle.std.proofs.lemmas.Bool.{and_parts, cases_Bool, eqb-true, ne_eqb}
+use Rattle.std.proofs.lemmas.List.{get_or-drop}
+use Rattle.std.proofs.lemmas.Str.{lead_after_ascii}
+use Rattle.std.specs.Char.{encode_utf8}
+use Rattle.std.specs.Str.{IsUtf8}
+use Rattle.memchr.specs.Find.{IsFirstByte, is_byte}
+use Rattle.rustc_lexer.specs.means.Scan.{begins}
+use Rattle.tidy_run.specs.Order.{is_blank, is_dropped_before, in_order, IsSolidEnd}
+use Rattle.tidy_run.proofs.OrderLemmas.{judge, two-one, dropped-two}
+
+-- so many newlines
+abbrev pub lines : ℕ → List ℕ
+lines zero = []
+lines (suc n) = 10 ∷ lines n
+
+-- what is left to write, where so many newlines were written last
+abbrev pub tail : ℕ → List ℕ → List ℕ
+tail k s = drop k (in_order (lines k ++ s))
+
+-- ---- one character before what is in order
+
+put-same : (u x y : List ℕ) → in_order x ≡ in_order y → in_order (u ++ x) ≡ in_order (u ++ y)
+put-same [] x y e = e
+put-same (c ∷ u) x y e = ap (λ (r : List ℕ). if is_dropped_before r c then r else c ∷ r) (put-same u x y e)
+
+tail-same : (k : ℕ) (x y : List ℕ) → in_order x ≡ in_order y → tail k x ≡ tail k y
+tail-same k x y e = ap (drop k) (put-same (lines k) x y e)
+
+-- before what begins with no newline, a character stays, but for a blank before a newline
+stays-before : (c : ℕ) (r : List ℕ) → begins (codes "\n") r ≡ false → is_dropped_before r c ≡ false
+stays-before c r e = rw (e, two r e) (none (is_blank c) (c == 10))
+  where
+    two : (r : List ℕ) → begins (codes "\n") r ≡ false → begins (codes "\n\n") r ≡ false
+    two [] e = refl
+    two (d ∷ r) e = elim (cases_Bool (d == 10)) [ inl f ↦ absurd (true≢false (sym (rw f refl) ∙ e)) | inr f ↦ rw f refl ]
+
+    none : (a b : Bool) → (a && false || b && false) ≡ false
+    none true true = refl
+    none true false = refl
+    none false true = refl
+    none false false = refl
+
+-- what is neither stays before anything
+stays-solid : (c : ℕ) (r : List ℕ) → is_blank c ≡ false → (c == 10) ≡ false → is_dropped_before r c ≡ false
+stays-solid c r e f = rw (e, f) refl
+
+kept : (c : ℕ) (cs : List ℕ) → is_dropped_before (in_order cs) c ≡ false → in_order (c ∷ cs) ≡ c ∷ in_order cs
+kept c cs e = rw e refl
+
+newline-first : (s : List ℕ) → begins (codes "\n") (in_order (10 ∷ s)) ≡ true
+newline-first s = elim (judge 10 s) [
+  | inl d ↦ ap (begins (codes "\n")) d.1 ∙ two-one (in_order s) (dropped-two 10 (in_order s) d.0 refl)
+  | inr k ↦ ap (begins (codes "\n")) k.1
+]
+
+newlines-first : (s : List ℕ) → begins (codes "\n\n") (in_order (10 ∷ 10 ∷ s)) ≡ true
+newlines-first s = elim (judge 10 (10 ∷ s)) [
+  | inl d ↦ ap (begins (codes "\n\n")) d.1 ∙ dropped-two 10 (in_order (10 ∷ s)) d.0 refl
+  | inr k ↦ ap (begins (codes "\n\n")) k.1 ∙ newline-first s
+]
+
+first-is : (r : List ℕ) → begins (codes "\n") r ≡ true → r ≡ 10 ∷ drop 1 r
+first-is [] e = absurd (true≢false (sym e))
+first-is (c ∷ r) e = ap (λ (d : ℕ). d ∷ r) (eqb-true c 10 (and_parts (c == 10) _ e).0)
+
+second-is : (r : List ℕ) → begins (codes "\n\n") r ≡ true → drop 1 r ≡ 10 ∷ drop 2 r
+second-is [] e = absurd (true≢false (sym e))
+second-is (c ∷ r) e = first-is r (and_parts (c == 10) _ e).1
+
+-- ---- a newline
+
+pub one-newline : (k : ℕ) (s : List ℕ) → k < 2 → tail k (10 ∷ s) ≡ 10 ∷ tail (suc k) s
+one-newline zero s lt = first-is (in_order (10 ∷ s)) (newline-first s)
+one-newline (suc zero) s lt = second-is (in_order (10 ∷ 10 ∷ s)) (newlines-first s)
+one-newline (suc (suc k)) s lt = absurd (omega arith)
+
+pub third-drops : (s : List ℕ) → tail 2 (10 ∷ s) ≡ tail 2 s
+third-drops s = elim (judge 10 (10 ∷ 10 ∷ s)) [
+  | inl d ↦ ap (drop 2) d.1
+  | inr k ↦ absurd (true≢false (sym (newlines-first s) ∙ bad (in_order (10 ∷ 10 ∷ s)) k.0))
+]
+  where
+    bad : (r : List ℕ) → is_dropped_before r 10 ≡ false → begins (codes "\n\n") r ≡ false
+    bad r e = e
+
+-- ---- blanks, and what is before them
+
+blanks-drop : (at : ℕ) (s : List ℕ) → at < length s → ((k : ℕ) → k < at → is_blank (get_or s k 0) ≡ true) → get_or s at 0 ≡ 10 → in_order s ≡ in_order (10 ∷ drop (suc at) s)
+blanks-drop at [] lt blanks here = absurd (omega arith)
+blanks-drop zero (c ∷ s) lt blanks here = ap (λ (d : ℕ). in_order (d ∷ s)) here
+blanks-drop (suc at) (c ∷ s) lt blanks here =
+    let more = blanks-drop at s (omega arith) (λ k l. blanks (suc k) (omega arith)) here in
+    ap (λ (r : List ℕ). if is_dropped_before r c then r else c ∷ r) more ∙ rw (blanks 0 (omega arith), newline-first (drop (suc at) s)) refl
+
+no_newline-first : (s : List ℕ) → 0 < length s → get_or s 0 0 ≢ 10 → begins (codes "\n") s ≡ false
+no_newline-first [] some other = absurd (omega arith)
+no_newline-first (c ∷ s) some other = rw (ne_eqb c 10 other) refl
+
+-- what holds no newline, and ends with no blank, stays
+solid-stays : (end : ℕ) (s : List ℕ) → end < length s → ((k : ℕ) → k ≤ end → get_or s k 0 ≢ 10) → is_blank (get_or s end 0) ≡ false → in_order s ≡ take (suc end) s ++ in_order (drop (suc end) s)
+solid-stays end [] lt none solid = absurd (omega arith)
+solid-stays zero (c ∷ s) lt none solid = kept c s (stays-solid c (in_order s) solid (ne_eqb c 10 (none 0 (omega arith))))
+solid-stays (suc end) (c ∷ []) lt none solid = absurd (omega arith)
+solid-stays (suc end) (c ∷ d ∷ s) lt none solid =
+    let more = solid-stays end (d ∷ s) (omega arith) (λ k le. none (suc k) (omega arith)) solid in
+    let first : begins (codes "\n") (in_order (d ∷ s)) ≡ false = ap (begins (codes "\n")) more ∙ rw (ne_eqb d 10 (none 1 (omega arith))) refl in
+    kept c (d ∷ s) (stays-before c (in_order (d ∷ s)) first) ∙ ap (λ (xs : List ℕ). c ∷ xs) more
+
+-- newlines stay before what begins with none
+tail-solid : (k : ℕ) (s : List ℕ) → k ≤ 2 → begins (codes "\n") (in_order s) ≡ false → tail k s ≡ in_order s
+tail-solid zero s le e = refl
+tail-solid (suc zero) s le e = ap (drop 1) (kept 10 s (stays-before 10 (in_order s) e))
+tail-solid (suc (suc zero)) s le e =
+    let one = kept 10 s (stays-before 10 (in_order s) e) in
+    ap (drop 2) (kept 10 (10 ∷ s) (ap (λ (r : List ℕ). is_dropped_before r 10) one ∙ e) ∙ ap (λ (xs : List ℕ). 10 ∷ xs) one)
+tail-solid (suc (suc (suc k))) s le e = absurd (omega arith)
+
+-- a text with no newline stays
+plain-stays : (s : List ℕ) → ((k : ℕ) → k < length s → get_or s k 0 ≢ 10) → in_order s ≡ s
+plain-stays [] none = refl
+plain-stays (c ∷ []) none = kept c [] (stays-before c [] refl)
+plain-stays (c ∷ d ∷ s) none =
+    let more = plain-stays (d ∷ s) (λ k l. none (suc k) (omega arith)) in
+    kept c (d ∷ s) (stays-before c (in_order (d ∷ s)) (ap (begins (codes "\n")) more ∙ rw (ne_eqb d 10 (none 1 (omega arith))) refl)) ∙ ap (λ (xs : List ℕ). c ∷ xs) more
+
+-- ---- where newlines are
+
+-- the first newline of a text
+pub record Newline (s : List ℕ) (at : ℕ) : Type 0 where
+  pub inside : at < length s
+  pub here : get_or s at 0 ≡ 10
+  pub none : (k : ℕ) → k < at → get_or s k 0 ≢ 10
+
+pub newline-at : (s : List ℕ) (at : ℕ) → IsFirstByte (is_byte 10) s (Some at) → Newline s at
+newline-at s at found = record {
+  inside = found.0.high;
+  here = eqb-true (get_or s at 0) 10 found.1;
+  none = λ k lt e. found.0.before k (omega arith) lt (ap (λ (b : ℕ). b == 10) e);
+}
+
+pub no_newline : (s : List ℕ) → IsFirstByte (is_byte 10) s None → (k : ℕ) → k < length s → get_or s k 0 ≢ 10
+no_newline s none k lt e = none k (omega arith) lt (ap (λ (b : ℕ). b == 10) e)
+
+-- the text may be cut past it
+pub may_cut_past : (s : List ℕ) (at : ℕ) → IsUtf8 s → Newline s at → (at + 1 ≤ length s) × (at + 1 < length s → 128 ≤ get_or s (at + 1) 0 → 192 ≤ get_or s (at + 1) 0)
+may_cut_past s at utf8 line = (let i = line.inside in omega arith, λ low wide. lead_after_ascii s at utf8 (let e = line.here in omega arith) low wide)
+
+-- ---- steps of a loop over the lines
+
+pub rest-plain : (k : ℕ) (s : List ℕ) → k ≤ 2 → ((i : ℕ) → i < length s → get_or s i 0 ≢ 10) → tail k s ≡ s
+rest-plain k s le none = tail-solid k s le (ap (begins (codes "\n")) (plain-stays s none) ∙ first s none) ∙ plain-stays s none
+  where
+    first : (s : List ℕ) → ((i : ℕ) → i < length s → get_or s i 0 ≢ 10) → begins (codes "\n") s ≡ false
+    first [] none = refl
+    first (c ∷ s) none = no_newline-first (c ∷ s) (omega arith) (none 0 (omega arith))
+
+module _ (s : List ℕ) (at end : ℕ) (inside : at < length s) (here : get_or s at 0 ≡ 10) (none : (k : ℕ) → k < at → get_or s k 0 ≢ 10) (solid : IsSolidEnd s at end) where
+  blanks-from : in_order (drop end s) ≡ in_order (10 ∷ drop (suc at) s)
+  blanks-from =
+      let le = solid.inside in
+      let there : end + (at - end) ≡ at = omega arith in
+      blanks-drop (at - end) (drop end s) (let e = length-drop end s in omega arith) (λ k l. ap is_blank (get_or-drop end s k 0) ∙ solid.blanks (end + k) (omega arith) (omega arith)) (get_or-drop end s (at - end) 0 ∙ (ap (λ (j : ℕ). get_or s j 0) there ∙ here))
+      ∙ ap (λ (xs : List ℕ). in_order (10 ∷ xs)) (drop-drop (suc (at - end)) end s ∙ ap (λ (j : ℕ). drop j s) (let e : end + suc (at - end) ≡ suc at = omega arith in e))
+
+  -- a line that is not blank
+  pub line-step : (k : ℕ) → k ≤ 2 → 0 < end → tail k s ≡ take end s ++ (10 ∷ tail 1 (drop (suc at) s))
+  line-step k le some = by_end end refl
+    where
+      by_end : (e : ℕ) → e ≡ end → tail k s ≡ take end s ++ (10 ∷ tail 1 (drop (suc at) s))
+      by_end zero e = absurd (omega arith)
+      by_end (suc m) e =
+          let i = solid.inside in
+          let last : end - 1 ≡ m = omega arith in
+          let whole : in_order s ≡ take end s ++ in_order (drop end s) =
+          subst (λ (j : ℕ). in_order s ≡ take j s ++ in_order (drop j s)) e (solid-stays m s (omega arith) (λ j l. none j (omega arith)) (ap (λ (j : ℕ). is_blank (get_or s j 0)) (sym last) ∙ solid.solid some)) in
+          tail-solid k s le (ap (begins (codes "\n")) whole ∙ front) ∙ (whole ∙ ap (λ (xs : List ℕ). take end s ++ xs) (blanks-from ∙ one-newline 0 (drop (suc at) s) (omega arith)))
+        where
+          front : begins (codes "\n") (take end s ++ in_order (drop end s)) ≡ false
+          front = ap (λ (j : ℕ). begins (codes "\n") (take j s ++ in_order (drop end s))) (sym e) ∙ at_front s (none 0 (let i = solid.inside in omega arith)) inside
+            where
+              at_front : (xs : List ℕ) → get_or xs 0 0 ≢ 10 → at < length xs → begins (codes "\n") (take (suc m) xs ++ in_order (drop end s)) ≡ false
+              at_front [] other lt = absurd (omega arith)
+              at_front (c ∷ xs) other lt = rw (ne_eqb c 10 other) refl
+
+  -- a blank line
+  pub blank-is : (k : ℕ) → end ≡ 0 → tail k s ≡ tail k (10 ∷ drop (suc at) s)
+  blank-is k none_solid = tail-same k s (10 ∷ drop (suc at) s) (sym (ap (λ (j : ℕ). in_order (drop j s)) none_solid) ∙ blanks-from)
+
+-- ---- what is written at a line
+
+pub encoded : encode_utf8 10 ≡ 10 ∷ []
+unfolding encode_utf8
+encoded = refl
+
+-- a line with more than blanks is written first
+pub line-written : (s now before : List ℕ) (at end k : ℕ) → Newline s at → IsSolidEnd s at end → k ≤ 2 → 0 < end → now ≡ before ++ take (end - 0) s → now ++ tail 0 (10 ∷ drop (at + 1) s) ≡ before ++ tail k s
+line-written s now before at end k line solid le some e =
+    let all : end - 0 ≡ end = omega arith in
+    let past : at + 1 ≡ suc at = omega arith in
+    ap (λ (xs : List ℕ). xs ++ tail 0 (10 ∷ drop (at + 1) s)) e
+    ∙ (append_assoc before (take (end - 0) s) (tail 0 (10 ∷ drop (at + 1) s))
+    ∙ ap (λ (xs : List ℕ). before ++ xs) (ap (λ (j : ℕ). take j s ++ tail 0 (10 ∷ drop (at + 1) s)) all ∙ (ap (λ (j : ℕ). take end s ++ tail 0 (10 ∷ drop j s)) past
+    ∙ (ap (λ (xs : List ℕ). take end s ++ xs) (one-newline 0 (drop (suc at) s) (omega arith)) ∙ sym (line-step s at end line.inside line.here line.none solid k le some)))))
+
+pub line-blank : (s before : List ℕ) (at end k : ℕ) → Newline s at → IsSolidEnd s at end → end ≤ 0 → before ++ tail k (10 ∷ drop (at + 1) s) ≡ before ++ tail k s
+line-blank s before at end k line solid none =
+    let past : at + 1 ≡ suc at = omega arith in
+    ap (λ (xs : List ℕ). before ++ xs) (ap (λ (j : ℕ). tail k (10 ∷ drop j s)) past ∙ sym (blank-is s at end line.inside line.here line.none solid k (omega arith)))
+
+-- and before the newline, or none
+pub newline-written : (s now before : List ℕ) (k : ℕ) → k < 2 → now ≡ before ++ encode_utf8 10 → now ++ tail (k + 1) s ≡ before ++ tail k (10 ∷ s)
+newline-written s now before k lt e =
+    let more : k + 1 ≡ suc k = omega arith in
+    ap (λ (xs : List ℕ). xs ++ tail (k + 1) s) (e ∙ ap (λ (xs : List ℕ). before ++ xs) encoded)
+    ∙ (append_assoc before (10 ∷ []) (tail (k + 1) s) ∙ ap (λ (xs : List ℕ). before ++ xs) (ap (λ (j : ℕ). 10 ∷ tail j s) more ∙ sym (one-newline k s lt)))
+
+pub newline-dropped : (s before : List ℕ) (k : ℕ) → k ≤ 2 → 2 ≤ k → before ++ tail k s ≡ before ++ tail k (10 ∷ s)
+newline-dropped s before k le ge =
+    let two : k ≡ 2 = omega arith in
+    ap (λ (xs : List ℕ). before ++ xs) (ap (λ (j : ℕ). tail j s) two ∙ (sym (third-drops s) ∙ ap (λ (j : ℕ). tail j (10 ∷ s)) (sym two)))

@@ -1,0 +1,204 @@
+-- White space in order: that it is white space still, that it is near what it was, and that it stays.
+use Rattle.std.proofs.Common.{◌≡◌, ℕ, ◌≤◌, ◌==◌, ◌&&◌, ◌⊎◌, inl, inr, Bool, true, false, true≢false, if◌then◌else◌, List, [], ◌∷◌, ◌++◌, length, drop, length-append, codes, refl, sym, ap, ◌∙◌, subst, arith}
+use Rattle.std.proofs.lemmas.Bool.{and_parts, cases_Bool, eqb-true, or_cases}
+use Rattle.std.specs.Char.{encode_utf8}
+use Rattle.std.specs.Str.{encode_utf8_all}
+use Rattle.rustc_lexer.specs.Classes.{is_among, is_whitespace}
+use Rattle.rustc_lexer.specs.means.Frontmatter.{ends_line}
+use Rattle.rustc_lexer.specs.Spans.{AreAll, bytes}
+use Rattle.rustc_lexer.specs.means.Scan.{begins}
+use Rattle.tidy_run.specs.Order.{is_blank, is_dropped_before, in_order, IsInOrder}
+use Rattle.tidy_run.proofs.NearLemmas.{Near, space, near-begins, plain-other}
+
+-- ---- what is judged
+
+pub judge : (c : ℕ) (cs : List ℕ) → ((is_dropped_before (in_order cs) c ≡ true) × (in_order (c ∷ cs) ≡ in_order cs)) ⊎ ((is_dropped_before (in_order cs) c ≡ false) × (in_order (c ∷ cs) ≡ c ∷ in_order cs))
+judge c cs = elim (cases_Bool (is_dropped_before (in_order cs) c)) [ inl e ↦ inl (e, rw e refl) | inr e ↦ inr (e, rw e refl) ]
+
+pub two-one : (s : List ℕ) → begins (codes "\n\n") s ≡ true → begins (codes "\n") s ≡ true
+two-one [] e = e
+two-one (c ∷ s) e = rw (and_parts (c == 10) _ e).0 refl
+
+dropped-newline : (c : ℕ) (s : List ℕ) → is_dropped_before s c ≡ true → begins (codes "\n") s ≡ true
+dropped-newline c s e = elim (or_cases (is_blank c && begins (codes "\n") s) _ e) [
+  | inl f ↦ (and_parts (is_blank c) _ f).1
+  | inr f ↦ two-one s (and_parts (c == 10) _ f).1
+]
+
+pub dropped-two : (c : ℕ) (s : List ℕ) → is_dropped_before s c ≡ true → (c == 10) ≡ true → begins (codes "\n\n") s ≡ true
+dropped-two c s e at = elim (or_cases (is_blank c && begins (codes "\n") s) _ e) [
+  | inl f ↦ absurd (true≢false (sym (and_parts (is_blank c) _ f).0 ∙ ap is_blank (eqb-true c 10 at)))
+  | inr f ↦ (and_parts (c == 10) _ f).1
+]
+
+-- ---- white space
+
+pub order-all : (w : List ℕ) → AreAll is_whitespace w → AreAll is_whitespace (in_order w)
+order-all [] all = refl
+order-all (c ∷ cs) all =
+    let parts = and_parts (is_whitespace c) _ all in
+    elim (judge c cs) [
+      | inl d ↦ rw d.1 (order-all cs parts.1)
+      | inr k ↦ rw k.1 (rw parts.0 (order-all cs parts.1))
+    ]
+
+pub record HasFirst (w : List ℕ) : Type 0 where
+  pub first : ℕ
+  pub rest : List ℕ
+  pub whole : w ≡ first ∷ rest
+
+has-first : (w : List ℕ) → begins (codes "\n") w ≡ true → HasFirst w
+has-first [] e = absurd (true≢false (sym e))
+has-first (c ∷ w) e = record { first = c; rest = w; whole = refl }
+
+pub order-first : (c : ℕ) (cs : List ℕ) → HasFirst (in_order (c ∷ cs))
+order-first c cs = elim (judge c cs) [
+  | inl d ↦ (let has = has-first (in_order cs) (dropped-newline c (in_order cs) d.0) in record { first = has.first; rest = has.rest; whole = d.1 ∙ has.whole })
+  | inr k ↦ record { first = c; rest = in_order cs; whole = k.1 }
+]
+
+-- ---- near
+
+quote-after : (cs : List ℕ) → AreAll is_whitespace cs → {s t : List ℕ} → Near s t → begins (codes "'") (cs ++ s) ≡ false → begins (codes "'") (in_order cs ++ t) ≡ false
+quote-after [] all near f = sym (near-begins (codes "'") refl near) ∙ f
+quote-after (c ∷ cs) all {s} {t} near f =
+    let has = order-first c cs in
+    let all_space : AreAll is_whitespace (has.first ∷ has.rest) = subst (AreAll is_whitespace) has.whole (order-all (c ∷ cs) all) in
+    ap (λ (xs : List ℕ). begins (codes "'") (xs ++ t)) has.whole ∙ rw (plain-other 39 has.first refl (and_parts (is_whitespace has.first) _ all_space).0) refl
+
+after-drop : (c : ℕ) (x r t : List ℕ) → is_whitespace c ≡ true → begins (codes "\n") r ≡ true → ((c == 10) ≡ true → begins (codes "\n\n") r ≡ true) → Near (c ∷ x) (r ++ t)
+after-drop c x [] t blank e two = absurd (true≢false (sym e))
+after-drop c x (d ∷ []) t blank e two =
+    let at = (and_parts (d == 10) _ e).0 in
+    space blank (ap is_whitespace (eqb-true d 10 at)) (λ f. absurd (true≢false (sym (and_parts (d == 10) _ (two f)).1)))
+after-drop c x (d ∷ f ∷ v) t blank e two =
+    let at = (and_parts (d == 10) _ e).0 in
+    space {t = f ∷ v ++ t} blank (ap is_whitespace (eqb-true d 10 at)) (λ g. (at, λ q. rw (plain-other 39 f refl (ap is_whitespace (eqb-true f 10 (and_parts (f == 10) _ (and_parts (d == 10) _ (two g)).1).0))) refl))
+
+pub order-near : (c : ℕ) (cs : List ℕ) → AreAll is_whitespace (c ∷ cs) → {s t : List ℕ} → Near s t → Near (c ∷ cs ++ s) (in_order (c ∷ cs) ++ t)
+order-near c cs all {s} {t} near =
+    let parts = and_parts (is_whitespace c) _ all in
+    elim (judge c cs) [
+      | inl d ↦ subst (λ (xs : List ℕ). Near (c ∷ cs ++ s) (xs ++ t)) (sym d.1) (after-drop c (cs ++ s) (in_order cs) t parts.0 (dropped-newline c (in_order cs) d.0) (dropped-two c (in_order cs) d.0))
+      | inr k ↦ subst (λ (xs : List ℕ). Near (c ∷ cs ++ s) (xs ++ t)) (sym k.1) (space parts.0 parts.0 (λ e. (e, quote-after cs parts.1 near)))
+    ]
+
+-- ---- the end of the line
+
+ends-more : (c : ℕ) (w : List ℕ) → HasFirst w → ends_line (c ∷ w) ≡ ends_line w
+ends-more c w has = ap (λ (xs : List ℕ). ends_line (c ∷ xs)) has.whole ∙ sym (ap ends_line has.whole)
+
+pub order-ends : (w : List ℕ) → ends_line (in_order w) ≡ ends_line w
+order-ends [] = refl
+order-ends (c ∷ []) = elim (judge c []) [
+  | inl d ↦ absurd (true≢false (sym (dropped-newline c [] d.0)))
+  | inr k ↦ ap ends_line k.1
+]
+order-ends (c ∷ d ∷ s) = elim (judge c (d ∷ s)) [
+  | inl e ↦ ap ends_line e.1 ∙ order-ends (d ∷ s)
+  | inr k ↦ ap ends_line k.1 ∙ (ends-more c (in_order (d ∷ s)) (order-first d s) ∙ order-ends (d ∷ s))
+]
+
+-- ---- once is enough
+
+kept-again : (c : ℕ) (cs : List ℕ) → in_order (in_order cs) ≡ in_order cs → is_dropped_before (in_order cs) c ≡ false → in_order (c ∷ in_order cs) ≡ c ∷ in_order cs
+kept-again c cs again e = rw again (rw e refl)
+
+pub order-again : (w : List ℕ) → in_order (in_order w) ≡ in_order w
+order-again [] = refl
+order-again (c ∷ cs) = elim (judge c cs) [
+  | inl d ↦ ap in_order d.1 ∙ (order-again cs ∙ sym d.1)
+  | inr k ↦ ap in_order k.1 ∙ (kept-again c cs (order-again cs) k.0 ∙ sym k.1)
+]
+
+-- ---- bytes
+
+abbrev AllOf : (ℕ → Type 0) → List ℕ → Type 0
+AllOf P [] = Unit {0}
+AllOf P (d ∷ ds) = P d × AllOf P ds
+
+one_of : (P : ℕ → Type 0) (ds : List ℕ) → AllOf P ds → (c : ℕ) → is_among ds c ≡ true → P c
+one_of P [] all c e = absurd (true≢false (sym e))
+one_of P (d ∷ ds) all c e = elim (or_cases (c == d) (is_among ds c) e) [ inl f ↦ subst P (sym (eqb-true c d f)) all.0 | inr f ↦ one_of P ds all.1 c f ]
+
+newline-bytes : (x : List ℕ) → AreAll is_whitespace x → begins (codes "\n") (encode_utf8_all x) ≡ begins (codes "\n") x
+unfolding encode_utf8
+newline-bytes [] all = refl
+newline-bytes (c ∷ x) all = one_of (λ d. begins (codes "\n") (encode_utf8_all (d ∷ x)) ≡ begins (codes "\n") (d ∷ x)) (0x9 ∷ 0xA ∷ 0xB ∷ 0xC ∷ 0xD ∷ 0x20 ∷ 0x85 ∷ 0x200E ∷ 0x200F ∷ 0x2028 ∷ 0x2029 ∷ [])
+    (refl, (refl, (refl, (refl, (refl, (refl, (refl, (refl, (refl, (refl, (refl, tt))))))))))) c (and_parts (is_whitespace c) _ all).0
+
+newlines-bytes : (x : List ℕ) → AreAll is_whitespace x → begins (codes "\n\n") (encode_utf8_all x) ≡ begins (codes "\n\n") x
+unfolding encode_utf8
+newlines-bytes [] all = refl
+newlines-bytes (c ∷ x) all =
+    let parts = and_parts (is_whitespace c) _ all in
+    one_of (λ d. begins (codes "\n\n") (encode_utf8_all (d ∷ x)) ≡ begins (codes "\n\n") (d ∷ x)) (0x9 ∷ 0xA ∷ 0xB ∷ 0xC ∷ 0xD ∷ 0x20 ∷ 0x85 ∷ 0x200E ∷ 0x200F ∷ 0x2028 ∷ 0x2029 ∷ [])
+    (refl, (newline-bytes x parts.1, (refl, (refl, (refl, (refl, (refl, (refl, (refl, (refl, (refl, tt))))))))))) c parts.0
+
+dropped-bytes : (c : ℕ) (x : List ℕ) → AreAll is_whitespace x → is_dropped_before (encode_utf8_all x) c ≡ is_dropped_before x c
+dropped-bytes c x all = rw (newline-bytes x all, newlines-bytes x all) refl
+
+-- one character more
+abbrev Adds : List ℕ → ℕ → Type 0
+Adds w c = in_order (encode_utf8 c ++ encode_utf8_all w) ≡ encode_utf8_all (in_order (c ∷ w))
+
+ascii-adds : (w : List ℕ) → AreAll is_whitespace w → in_order (encode_utf8_all w) ≡ encode_utf8_all (in_order w) → (c : ℕ) → encode_utf8 c ≡ c ∷ [] → Adds w c
+ascii-adds w all e c one =
+    ap (λ (xs : List ℕ). in_order (xs ++ encode_utf8_all w)) one
+    ∙ (ap (λ (xs : List ℕ). if is_dropped_before xs c then xs else c ∷ xs) e
+    ∙ (ap (λ (b : Bool). if b then encode_utf8_all (in_order w) else c ∷ encode_utf8_all (in_order w)) (dropped-bytes c (in_order w) (order-all w all))
+    ∙ elim (judge c w) [
+      | inl d ↦ rw d.0 refl
+      | inr k ↦ rw k.0 (sym (ap (λ (xs : List ℕ). xs ++ encode_utf8_all (in_order w)) one))
+    ]))
+
+pub order-bytes : (w : List ℕ) → AreAll is_whitespace w → in_order (encode_utf8_all w) ≡ encode_utf8_all (in_order w)
+unfolding encode_utf8
+order-bytes [] all = refl
+order-bytes (c ∷ w) all =
+    let parts = and_parts (is_whitespace c) _ all in
+    let e = order-bytes w parts.1 in
+    one_of (Adds w) (0x9 ∷ 0xA ∷ 0xB ∷ 0xC ∷ 0xD ∷ 0x20 ∷ 0x85 ∷ 0x200E ∷ 0x200F ∷ 0x2028 ∷ 0x2029 ∷ [])
+    (ascii-adds w parts.1 e 0x9 refl, (ascii-adds w parts.1 e 0xA refl, (ascii-adds w parts.1 e 0xB refl, (ascii-adds w parts.1 e 0xC refl, (ascii-adds w parts.1 e 0xD refl, (ascii-adds w parts.1 e 0x20 refl, (ap (λ xs. 0xC2 ∷ 0x85 ∷ xs) e, (ap (λ xs. 0xE2 ∷ 0x80 ∷ 0x8E ∷ xs) e, (ap (λ xs. 0xE2 ∷ 0x80 ∷ 0x8F ∷ xs) e, (ap (λ xs. 0xE2 ∷ 0x80 ∷ 0xA8 ∷ xs) e, (ap (λ xs. 0xE2 ∷ 0x80 ∷ 0xA9 ∷ xs) e, tt))))))))))) c parts.0
+
+-- ---- sizes
+
+pub order-size : (w : List ℕ) → bytes (in_order w) ≤ bytes w
+order-size [] = omega arith
+order-size (c ∷ w) = elim (judge c w) [
+  | inl d ↦ (let le = order-size w in let e : bytes (in_order (c ∷ w)) ≡ bytes (in_order w) = ap bytes d.1 in let n = length-append (encode_utf8 c) (encode_utf8_all w) in omega arith)
+  | inr k ↦ (let le = order-size w in let e : bytes (in_order (c ∷ w)) ≡ bytes (c ∷ in_order w) = ap bytes k.1 in let n = length-append (encode_utf8 c) (encode_utf8_all w) in let m = length-append (encode_utf8 c) (encode_utf8_all (in_order w)) in omega arith)
+]
+
+-- ---- in the words of the subject
+
+order-short : (w : List ℕ) → length (in_order w) ≤ length w
+order-short [] = omega arith
+order-short (c ∷ w) = elim (judge c w) [
+  | inl d ↦ (let le = order-short w in let e = ap length d.1 in omega arith)
+  | inr k ↦ (let le = order-short w in let e = ap length k.1 in omega arith)
+]
+
+-- what is in order, is so past any front
+record Stays (c : ℕ) (w : List ℕ) : Type 0 where
+  kept : is_dropped_before w c ≡ false
+  rest : in_order w ≡ w
+
+stays-past : (c : ℕ) (w : List ℕ) → in_order (c ∷ w) ≡ c ∷ w → Stays c w
+stays-past c w e = elim (judge c w) [
+  | inl d ↦ absurd (let le = order-short w in let f = ap length (sym d.1 ∙ e) in omega arith)
+  | inr k ↦ (let rest = ap (drop 1) (sym k.1 ∙ e) in record { kept = sym (ap (λ (r : List ℕ). is_dropped_before r c) rest) ∙ k.0; rest = rest })
+]
+
+stays-at : (u w : List ℕ) → in_order (u ++ w) ≡ u ++ w → in_order w ≡ w
+stays-at [] w e = e
+stays-at (c ∷ u) w e = stays-at u w (stays-past c (u ++ w) e).rest
+
+pub in_order_is : (w : List ℕ) → IsInOrder (in_order w)
+in_order_is w = record {
+  no_blank = λ u v c blank e. true≢false (sym (rw blank refl) ∙ (stays-past c (10 ∷ v) (at u (c ∷ 10 ∷ v) e)).kept);
+  no_third = λ u v e. true≢false ((stays-past 10 (10 ∷ 10 ∷ v) (at u (10 ∷ 10 ∷ 10 ∷ v) e)).kept);
+}
+  where
+    at : (u v : List ℕ) → in_order w ≡ u ++ v → in_order v ≡ v
+    at u v e = stays-at u v (sym (ap in_order e) ∙ (order-again w ∙ e))

@@ -1,0 +1,122 @@
+-- A token in order is a token of its kind still: a comment with unix line ends, and each other one as it is.
+use Rattle.std.proofs.Common.{◌≡◌, ℕ, ◌≤◌, ◌==◌, ◌⊎◌, inl, inr, not, Bool, true, false, true≢false, List, [], ◌∷◌, ◌++◌, length, get_or, drop, codes, refl, sym, ap, ◌∙◌, subst, arith, Option}
+use lib.Utf8.{scalars}
+use Rattle.std.proofs.lemmas.Bool.{cases_Bool, and_parts, not-true}
+use Rattle.std.specs.List.{list_all}
+use Rattle.std.specs.Str.{encode_utf8_all}
+use Rattle.rustc_lexer.specs.declared.token.DocStyle.{DocStyle}
+use Rattle.rustc_lexer.specs.declared.token.TokenKind.{TokenKind}
+use Rattle.rustc_lexer.specs.declared.token.TokenKind.TheVariants.{LineComment, BlockComment}
+use Rattle.rustc_lexer.specs.Language as the
+use Rattle.rustc_lexer.specs.Language.{IsTokenBefore, IsLineStyle, IsBlockStyle, IsCommentRest}
+use Rattle.rustc_lexer.specs.Spans.{AreAll, NextIsNot, is_inline, bytes}
+use Rattle.rustc_lexer.specs.means.Scan.{begins}
+use Rattle.rustc_lexer.specs.Symbols.{symbols, kind_among, symbol_kind}
+use Rattle.tidy_run.specs.Order.{unix_lines, text_in_order, is_open}
+use Rattle.tidy_run.proofs.NearLemmas.{Near, near-append}
+use Rattle.tidy_run.proofs.UnixLemmas.{unix-again, unix-all, unix-style, unix-rest, unix-near, unix-size, unix-scalars, unix-bytes}
+
+-- what a token becomes, before what comes behind it
+pub record Turned (kind : TokenKind) (c : ℕ) (w s t : List ℕ) : Type 0 where
+  pub rest : List ℕ
+  pub token : IsTokenBefore t kind (c ∷ rest)
+  pub near : Near (c ∷ w ++ s) (c ∷ rest ++ t)
+  pub is : text_in_order kind (encode_utf8_all (c ∷ w)) ≡ encode_utf8_all (c ∷ rest)
+  pub again : text_in_order kind (encode_utf8_all (c ∷ rest)) ≡ encode_utf8_all (c ∷ rest)
+  pub size : bytes (c ∷ rest) ≤ bytes (c ∷ w)
+  pub good : scalars (c ∷ w) ≡ true → scalars (c ∷ rest) ≡ true
+
+-- a comment that is closed
+data IsComment (next : List ℕ) : TokenKind → List ℕ → Type 0 where
+  line : {style : Option DocStyle} {w : List ℕ} → AreAll is_inline w → NextIsNot is_inline next → IsLineStyle style w → IsComment next (LineComment style) (47 ∷ 47 ∷ w)
+  block : {style : Option DocStyle} {w : List ℕ} → IsCommentRest w → IsBlockStyle style w → IsComment next (BlockComment style true) (47 ∷ 42 ∷ w)
+
+is_comment : TokenKind → Bool
+is_comment (LineComment style) = true
+is_comment (BlockComment style terminated) = true
+is_comment kind = false
+
+no_comment : (kind : TokenKind) → is_comment kind ≡ false → (text : List ℕ) → text_in_order kind text ≡ text
+unfolding is_comment
+no_comment (LineComment style) e text = absurd (true≢false e)
+no_comment (BlockComment style terminated) e text = absurd (true≢false e)
+no_comment kind e text = refl
+
+symbol-none : (c : ℕ) → is_comment (symbol_kind c) ≡ false
+unfolding is_comment
+symbol-none c = by_table symbols refl
+  where
+    by_table : (ss : List (ℕ × TokenKind)) → list_all (λ s. not (is_comment s.1)) ss ≡ true → is_comment (kind_among ss c) ≡ false
+    by_table [] all = refl
+    by_table (s ∷ ss) all =
+        let parts = and_parts (not (is_comment s.1)) _ all in
+        elim (cases_Bool (c == s.0)) [ inl e ↦ rw e (not-true (is_comment s.1) parts.0) | inr e ↦ rw e (by_table ss parts.1) ]
+
+comment-or : {t : List ℕ} {kind : TokenKind} {w : List ℕ} → IsTokenBefore t kind w → IsComment t kind w ⊎ ((text : List ℕ) → text_in_order kind text ≡ text)
+comment-or (the.end none) = inr (λ text. refl)
+comment-or (the.whitespace all stop) = inr (λ text. refl)
+comment-or (the.line_comment all stop is) = inl (line all stop is)
+comment-or (the.block_comment p is) = inl (block p is)
+comment-or (the.open_comment none never is) = inr (λ text. refl)
+comment-or (the.ident is stop none) = inr (λ text. refl)
+comment-or (the.unknown_prefix is goes free) = inr (λ text. refl)
+comment-or (the.invalid_ident start all wrong stop) = inr (λ text. refl)
+comment-or (the.raw_ident is stop) = inr (λ text. refl)
+comment-or (the.forced_keyword is stop) = inr (λ text. refl)
+comment-or (the.lifetime start all stop quote hash) = inr (λ text. refl)
+comment-or (the.unknown_prefix_lifetime start all hash free) = inr (λ text. refl)
+comment-or (the.raw_lifetime is stop) = inr (λ text. refl)
+comment-or (the.literal is) = inr (λ text. refl)
+comment-or (the.literal_with is suffix_is) = inr (λ text. refl)
+comment-or (the.slash stop) = inr (λ text. refl)
+comment-or (the.pound stop) = inr (λ text. refl)
+comment-or (the.guarded_prefix is) = inr (λ text. refl)
+comment-or (the.symbol {c} is) = inr (no_comment (symbol_kind c) (symbol-none c))
+
+-- what ends a line comment is a newline
+newline-after : (t : List ℕ) → NextIsNot is_inline t → (length t ≡ 0 → ⊥) → begins (codes "\n") t ≡ true
+newline-after [] stop some = absurd (some refl)
+newline-after (d ∷ t) stop some = elim (cases_Bool (d == 10)) [ inl e ↦ rw e refl | inr e ↦ absurd (true≢false (sym (ap not e) ∙ stop)) ]
+
+unix-turned : (last : Bool) (w : List ℕ) → unix_lines last (encode_utf8_all (unix_lines last w)) ≡ encode_utf8_all (unix_lines last w)
+unix-turned last w = (unix-bytes last (unix_lines last w)).lines ∙ ap encode_utf8_all (unix-again last w)
+
+comment-turned : {s t : List ℕ} → Near s t → {kind : TokenKind} {u : List ℕ} → (is_open kind ≡ false → length t ≡ 0 → ⊥) → IsComment t kind u → (c : ℕ) (w : List ℕ) → u ≡ c ∷ w → Turned kind c w s t
+comment-turned {s} {t} near shut (line {style} {w} all stop is) c v e = subst (λ (xs : List ℕ). Turned (LineComment style) (get_or xs 0 0) (drop 1 xs) s t) e made
+  where
+    made : Turned (LineComment style) 47 (47 ∷ w) s t
+    made = record {
+      rest = 47 ∷ unix_lines true w;
+      token = the.line_comment (unix-all is_inline true w all) stop (unix-style 47 (codes "/") refl refl refl refl refl true is);
+      near = unix-near true (47 ∷ 47 ∷ w) near (λ _. newline-after t stop (shut refl));
+      is = (unix-bytes true (47 ∷ 47 ∷ w)).lines;
+      again = unix-turned true (47 ∷ 47 ∷ w);
+      size = unix-size true (47 ∷ 47 ∷ w);
+      good = unix-scalars true (47 ∷ 47 ∷ w);
+    }
+comment-turned {s} {t} near shut (block {style} {w} p is) c v e = subst (λ (xs : List ℕ). Turned (BlockComment style true) (get_or xs 0 0) (drop 1 xs) s t) e made
+  where
+    made : Turned (BlockComment style true) 47 (42 ∷ w) s t
+    made = record {
+      rest = 42 ∷ unix_lines false w;
+      token = the.block_comment (unix-rest p) (unix-style 42 (codes "*/") refl refl refl refl refl false is);
+      near = unix-near false (47 ∷ 42 ∷ w) near (λ e. absurd (true≢false (sym e)));
+      is = (unix-bytes false (47 ∷ 42 ∷ w)).lines;
+      again = unix-turned false (47 ∷ 42 ∷ w);
+      size = unix-size false (47 ∷ 42 ∷ w);
+      good = unix-scalars false (47 ∷ 42 ∷ w);
+    }
+
+pub turned : {s t : List ℕ} → Near s t → {kind : TokenKind} {c : ℕ} {w : List ℕ} → (is_open kind ≡ false → length t ≡ 0 → ⊥) → IsTokenBefore t kind (c ∷ w) → Turned kind c w s t
+turned near {kind} {c} {w} shut p = elim (comment-or p) [
+  | inl comment ↦ comment-turned near shut comment c w refl
+  | inr plain ↦ record {
+    rest = w;
+    token = p;
+    near = near-append (c ∷ w) near;
+    is = plain (encode_utf8_all (c ∷ w));
+    again = plain (encode_utf8_all (c ∷ w));
+    size = omega arith;
+    good = λ g. g;
+  }
+]

@@ -1,0 +1,105 @@
+-- The diff of two texts: what is to be read from it, and how it is printed.
+use Rattle.std.specs.Prelude.{◌≡◌, ℕ, ◌+◌, ◌-◌, ◌<◌, ◌==◌, Bool, true, false, if◌then◌else◌, List, [], ◌∷◌, ◌++◌, length, codes, decimal, slice_index}
+use Rattle.std.specs.List.{All}
+use Rattle.std.specs.Str.{byte}
+use Rattle.tidy_run.specs.declared.diff.Line.{Line}
+use Rattle.tidy_run.specs.declared.diff.Mark.{Mark}
+use Rattle.tidy_run.specs.declared.diff.Mark.TheVariants.{Same, Old, New}
+
+-- the lines of a text, each with the newline at its end; the last one may have none
+abbrev pub onto_first : ℕ → List (List ℕ) → List (List ℕ)
+onto_first c [] = (c ∷ []) ∷ []
+onto_first c (line ∷ lines) = (c ∷ line) ∷ lines
+
+abbrev pub lines_of : List ℕ → List (List ℕ)
+lines_of [] = []
+lines_of (c ∷ cs) = if c == byte "\n" then (c ∷ []) ∷ lines_of cs else onto_first c (lines_of cs)
+
+-- the lines of the old text are those with the marks ` ` and `-`, those of the new one have ` ` and `+`
+abbrev pub is_old : Mark → Bool
+is_old Same = true
+is_old Old = true
+is_old New = false
+
+abbrev pub is_new : Mark → Bool
+is_new Same = true
+is_new Old = false
+is_new New = true
+
+abbrev pub is_same : Mark → Bool
+is_same Same = true
+is_same Old = false
+is_same New = false
+
+abbrev pub old_lines : List Line → List (List ℕ)
+old_lines [] = []
+old_lines (line ∷ lines) = if is_old line.mark then line.text.now ∷ old_lines lines else old_lines lines
+
+abbrev pub new_lines : List Line → List (List ℕ)
+new_lines [] = []
+new_lines (line ∷ lines) = if is_new line.mark then line.text.now ∷ new_lines lines else new_lines lines
+
+abbrev pub AreSame : List Line → Type 0
+AreSame lines = All (λ (line : Line). is_same line.mark ≡ true) lines
+
+-- ---- how lines are printed
+
+abbrev pub mark_text : Mark → List ℕ
+mark_text Same = codes " "
+mark_text Old = codes "-"
+mark_text New = codes "+"
+
+abbrev pub ends_in_newline : List ℕ → Bool
+ends_in_newline text = slice_index text (length text - 1) == byte "\n"
+
+-- of a line with no newline that is said
+abbrev pub line_text : Line → List ℕ
+line_text line =
+    mark_text line.mark ++ (line.text.now ++ (if ends_in_newline line.text.now then [] else codes "\n\\ No newline at end of file\n"))
+
+abbrev pub lines_text : List Line → List ℕ
+lines_text [] = []
+lines_text (line ∷ lines) = line_text line ++ lines_text lines
+
+-- the number of the first line, counted from 1, and how many there are; of none, the number of the line before
+abbrev pub first_number : ℕ → ℕ → ℕ
+first_number before count = if count == 0 then before else before + 1
+
+-- where the lines begin in each text, and how many there are
+abbrev pub head_text : ℕ → ℕ → ℕ → ℕ → List ℕ
+head_text old olds new news =
+    codes "@@ -" ++ (decimal (first_number old olds) ++ (codes "," ++ (decimal olds
+    ++ (codes " +" ++ (decimal (first_number new news) ++ (codes "," ++ (decimal news ++ codes " @@\n")))))))
+
+-- lines with their head, where so many lines of each text are before them
+abbrev pub hunk_text : ℕ → ℕ → List Line → List ℕ
+hunk_text old new shown = head_text old (length (old_lines shown)) new (length (new_lines shown)) ++ lines_text shown
+
+-- what is printed of these lines, where so many of each text are before them: of lines that are the same some are left out
+pub data AreHunks : ℕ → ℕ → List Line → List ℕ → Type 0 where
+  no_more : {old new : ℕ} {lines : List Line} → AreSame lines → AreHunks old new lines []
+  hunk : {old new : ℕ} {left : List Line} {text : List ℕ} (skipped shown : List Line)
+      → AreSame skipped
+      → 0 < length shown
+      → AreHunks (old + length skipped + length (old_lines shown)) (new + length skipped + length (new_lines shown)) left text
+      → AreHunks old new (skipped ++ (shown ++ left)) (hunk_text (old + length skipped) (new + length skipped) shown ++ text)
+
+-- hunks of these lines are appended
+pub record PrintsHunks (before : List ℕ) (old new : ℕ) (lines : List Line) (after : List ℕ) : Type 0 where
+  pub hunks : List ℕ
+  pub are : AreHunks old new lines hunks
+  pub is : after ≡ before ++ hunks
+
+-- the name of the file, twice; up to the tab it may have blanks
+abbrev pub names_text : List ℕ → List ℕ
+names_text name = codes "--- a/" ++ (name ++ (codes "\t\n+++ b/" ++ (name ++ codes "\t\n")))
+
+-- a diff of two texts, of which the file has the name: taking the lines with ` ` and `-`, and those that are left out,
+-- gives the lines of the old text, and with ` ` and `+` those of the new one
+pub record IsDiff (name old new text : List ℕ) : Type 0 where
+  pub lines : List Line
+  pub hunks : List ℕ
+  pub olds : old_lines lines ≡ lines_of old
+  pub news : new_lines lines ≡ lines_of new
+  pub are : AreHunks 0 0 lines hunks
+  pub is : text ≡ names_text name ++ hunks
