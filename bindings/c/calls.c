@@ -1,6 +1,6 @@
-/* Calls of the library at its edges: texts that are not UTF-8, empty texts, null, room for no token and for one, a batch
- * that ends before a frontmatter, bad places; the bytes of records; units of literals; and a text under edits,
- * compared with lexing it anew. Exits with 1 at the first check that fails, and says which. */
+/* Calls of the library at its edges: texts that are not UTF-8, empty texts, null, room for no token and for one, a
+ * batch that ends before a frontmatter, bad places; the numbers of kinds and the bytes of records; units of literals;
+ * and texts under edits, compared with lexing them anew. Exits with 1 at the first check that fails, and says which. */
 #include <stdio.h>
 #include <string.h>
 
@@ -233,6 +233,56 @@ static int check_others(void) {
     return 0;
 }
 
+/* More places than a text here has tokens. */
+#define PLACES 400
+
+static struct rustc_lexer_token whole[PLACES];
+
+/* Whether the text has so many tokens, which one call writes into `whole`. */
+static bool is_lexed(batch_call *tokens, const char *text, size_t len, uint32_t frontmatter_allowed, size_t wanted) {
+    struct rustc_lexer_place place = {0, frontmatter_allowed};
+    size_t count = 99;
+    memset(whole, 0xAA, sizeof whole);
+    return tokens((const uint8_t *)text, len, &place, whole, PLACES, &count) == RUSTC_LEXER_OK && count == wanted &&
+           place.at == len;
+}
+
+/* Symbols have the numbers from 15 to 41. */
+static int check_symbols(batch_call *tokens) {
+    CHECK(is_lexed(tokens, ";,.(){}[]@#~?:$=!<>-&|+*/^%", 27, 0, 27));
+    for (size_t i = 0; i < 27; i++)
+        CHECK(whole[i].kind == 15 + i && whole[i].len == 1);
+    return 0;
+}
+
+/* Literals have the numbers from 1 to 10. */
+static int check_literals(batch_call *tokens) {
+    static const char text[] = "1 2.5 'a' b'a' \"a\" b\"a\" c\"a\" r\"a\" br\"a\" cr\"a\"";
+    uint8_t number = 0;
+    CHECK(is_lexed(tokens, text, sizeof text - 1, 0, 19));
+    for (size_t i = 0; i < 19; i++)
+        if (whole[i].kind == 13)
+            CHECK(whole[i].literal_kind == ++number);
+    CHECK(number == 10);
+    return 0;
+}
+
+/* Whether the bytes behind the kind of a token of `whole` are these. */
+static bool has_fields(size_t number, const uint8_t fields[3]) {
+    return memcmp((const unsigned char *)&whole[number] + 1, fields, 3) == 0;
+}
+
+/* Tokens with fields among others that have none. */
+static int check_fields(batch_call *tokens) {
+    static const uint8_t fields[][3] = {{0, 1, 0}, {1, 16, 1}, {0, 0, 0}, {2, 10, 1},
+                                        {0, 0, 0}, {8, 1, 0},  {1, 0, 0}, {0, 0, 0}};
+    CHECK(is_lexed(tokens, "/**/0x 1e r\"\"'1 ", 16, 0, 8));
+    for (size_t i = 0; i < 8; i++)
+        CHECK(has_fields(i, fields[i]));
+    CHECK(is_lexed(tokens, " ---", 4, 1, 1) && has_fields(0, (const uint8_t[]){1, 1, 0}));
+    return 0;
+}
+
 typedef uint32_t relex_call(const uint8_t *, size_t, const struct rustc_lexer_token *, size_t,
                             const struct rustc_lexer_edit *, uint32_t, struct rustc_lexer_relexing *,
                             struct rustc_lexer_token *, size_t, size_t *);
@@ -304,12 +354,42 @@ static int check_edits(relex_call *relex) {
         CHECK(is_from_scratch(&held) && held.count == 16);
         CHECK(held.relexing.kept_front == 6 && held.relexing.lexed == 7 && held.relexing.kept_back == 3);
         CHECK(held.relexing.front_place == 9 && held.relexing.back_place == 13 && held.relexing.at == 17);
+        CHECK(held.relexing.stage == 2);
         CHECK(edit_held(relex, &held, 0, 0, "/*", 2024, room_len) == RUSTC_LEXER_OK);
         CHECK(is_from_scratch(&held) && held.count == 1 && held.relexing.kept_back == 0);
         CHECK(edit_held(relex, &held, 1, 2, "", 2024, room_len) == RUSTC_LEXER_OK);
         CHECK(is_from_scratch(&held) && held.count == 17);
         CHECK(edit_held(relex, &held, 1, 1, "\xc3\xa9", 2024, room_len) == RUSTC_LEXER_OK && is_from_scratch(&held));
         CHECK(edit_held(relex, &held, 0, held.len, "", 2024, room_len) == RUSTC_LEXER_OK && held.count == 0);
+    }
+    return 0;
+}
+
+/* 300 symbols are put in between two, by rooms of so many tokens. What stands less than two characters before them is
+ * lexed again. A call past the last token writes none. */
+static int check_long_edit(relex_call *relex) {
+    static const size_t lens[] = {40, 64, 300, 301, 400};
+    static const struct rustc_lexer_edit edit = {1, 1, 301};
+    static struct rustc_lexer_token old[2], lexed[PLACES], part[PLACES];
+    char text[302];
+    memset(text, ';', sizeof text);
+    CHECK(is_lexed(rustc_lexer_tokens, text, 2, 0, 2));
+    memcpy(old, whole, sizeof old);
+    CHECK(is_lexed(rustc_lexer_tokens, text, sizeof text, 0, 302));
+    for (size_t i = 0; i < sizeof lens / sizeof lens[0]; i++) {
+        struct rustc_lexer_relexing relexing = {0};
+        size_t written = 0, count;
+        for (int calls = 0; calls < 8; calls++) {
+            CHECK(relex((const uint8_t *)text, sizeof text, old, 2, &edit, 2024, &relexing, part, lens[i], &count) ==
+                  RUSTC_LEXER_OK);
+            CHECK(count <= lens[i] && written + count <= 301);
+            memcpy(lexed + written, part, count * sizeof part[0]);
+            written += count;
+        }
+        CHECK(written == 301 && memcmp(lexed, whole, written * sizeof whole[0]) == 0);
+        CHECK(memcmp(&old[1], &whole[301], sizeof old[1]) == 0);
+        CHECK(relexing.kept_front == 0 && relexing.lexed == 301 && relexing.kept_back == 1);
+        CHECK(relexing.front_place == 0 && relexing.back_place == 1 && relexing.at == 301 && relexing.stage == 2);
     }
     return 0;
 }
@@ -500,7 +580,8 @@ int main(void) {
     CHECK(sizeof(struct rustc_lexer_token) == 12 && sizeof(struct rustc_lexer_relexing) == 7 * sizeof(size_t));
     CHECK(sizeof(struct rustc_lexer_unit) == 2 * sizeof(size_t) + 8);
     for (int i = 0; i < 2; i++)
-        if (check_empty_text(calls[i]) || check_room(calls[i]) || check_frontmatter(calls[i]) || check_places(calls[i]))
+        if (check_empty_text(calls[i]) || check_room(calls[i]) || check_frontmatter(calls[i]) ||
+            check_places(calls[i]) || check_symbols(calls[i]) || check_literals(calls[i]) || check_fields(calls[i]))
             return 1;
     unescape_call *const unescapes[] = {rustc_lexer_unescape, rustc_lexer_unescape_unchecked};
     for (int i = 0; i < 2; i++)
@@ -512,7 +593,8 @@ int main(void) {
             return 1;
     relex_call *const relexes[] = {rustc_lexer_relex, rustc_lexer_relex_unchecked};
     for (int i = 0; i < 2; i++)
-        if (check_edits(relexes[i]) || check_editions(relexes[i]) || check_bad_edits(relexes[i]))
+        if (check_edits(relexes[i]) || check_long_edit(relexes[i]) || check_editions(relexes[i]) ||
+            check_bad_edits(relexes[i]))
             return 1;
     for (uint32_t edition = 2015; edition <= 2024; edition += 3)
         if (check_random_edits(relexes[edition % 2], edition))

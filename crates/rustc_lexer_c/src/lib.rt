@@ -14,6 +14,4 @@ pub mod places;
 pub mod raw_str;
 pub mod relex;
 pub mod status;
-#[cfg(test)]
-mod tests;
 pub mod token;
