@@ -3,8 +3,6 @@
 #![tactic(auto)]
 
 mod reading;
-#[cfg(test)]
-mod tests;
 mod watched;
 mod words;
 mod writing;

@@ -10,5 +10,3 @@ pub mod repaint;
 pub mod slices;
 pub mod spans;
 pub mod split;
-#[cfg(test)]
-mod tests;

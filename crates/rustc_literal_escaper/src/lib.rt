@@ -33,6 +33,3 @@ pub use strings::{
 };
 pub use unit::{MixedUnit, NonZeroChar, NonZeroU8};
 pub use written::{EscapeCStrError, escape_byte_str, escape_c_str, escape_str};
-
-#[cfg(test)]
-mod tests;

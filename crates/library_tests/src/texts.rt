@@ -1,6 +1,5 @@
 //! What is taken for a text.
-use crate::fault::Reason;
-use crate::text::text_of;
+use sources::{Reason, text_of};
 
 #[test]
 fn texts(rt: HostRuntime) {

@@ -1,0 +1,11 @@
+//! Tests of the libraries from outside. They stand here since a crate with tests is proved twice.
+#![tactic(auto)]
+
+#[cfg(test)]
+mod callers;
+#[cfg(test)]
+mod literals;
+#[cfg(test)]
+mod program_ends;
+#[cfg(test)]
+mod texts;
