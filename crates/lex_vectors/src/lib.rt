@@ -8,6 +8,8 @@ mod editions;
 #[cfg(test)]
 mod edits;
 #[cfg(test)]
+mod emoji;
+#[cfg(test)]
 mod first_path;
 #[cfg(test)]
 mod frontmatter;
@@ -35,6 +37,8 @@ mod raw_strings;
 mod relexing;
 #[cfg(test)]
 mod rows;
+#[cfg(test)]
+mod runs;
 #[cfg(test)]
 mod shebang;
 pub mod steppers;

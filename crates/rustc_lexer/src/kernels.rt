@@ -12,9 +12,6 @@ ghost use Rattle.rustc_lexer.specs.means.Scan;
 use memchr::{memchr, memchr2};
 use std::simd::prelude::*;
 
-#[cfg(test)]
-mod tests;
-
 /// A class of bytes in ASCII.
 pub(crate) trait ByteClass {
     ghost passes: { ℕ → Bool };

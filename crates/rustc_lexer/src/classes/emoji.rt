@@ -4,9 +4,6 @@ ghost use Rattle.rustc_lexer.specs.Emoji;
 
 use std::cmp::Ordering;
 
-#[cfg(test)]
-mod tests;
-
 /// The first and the last character of each range, in rising order.
 static RANGES: [(char, char); 148] = [
     ('\u{a9}', '\u{a9}'),

@@ -1,7 +1,13 @@
-use super::is_emoji;
+//! The ends of the ranges of emoji are emoji, and their neighbours are not.
+//!
+//! A lifetime that begins with an emoji says so by a field, whatever else the character is. One that begins with a
+//! digit has that field too, and a digit begins a number: so no token shows that a digit is no emoji.
+use crate::tables::kinds::BAD_LIFETIME;
+use rustc_lexer::{FrontmatterAllowed, TokenKind, fits, is_id_start, tokenize};
+use std::alloc::{AllocError, Global};
 
-// each range with both its ends
-const TABLE: [(u32, u32); 148] = [
+/// Each range with both its ends.
+static RANGES: [(u32, u32); 148] = [
     (0xA9, 0xA9),
     (0xAE, 0xAE),
     (0x203C, 0x203C),
@@ -152,23 +158,63 @@ const TABLE: [(u32, u32); 148] = [
     (0x1FAF0, 0x1FAF8),
 ];
 
-#[test]
-fn each_range_is_in_and_its_neighbours_are_not(rt: HostRuntime) {
-    for (low, high) in TABLE {
-        assert_eq!(rt; in_class(low), Some(true), "at {low}");
-        assert_eq!(rt; in_class(high), Some(true), "at {high}");
-        assert_eq!(rt; in_class(low.wrapping_sub(1)), Some(false), "before {low}");
-        assert_eq!(rt; in_class(high.wrapping_add(1)), Some(false), "past {high}");
+/// The kind of the first token of a text with this front and this character behind it.
+fn kind_of(alloc: Global, front: &str, c: char) -> Result<Option<TokenKind>, AllocError> {
+    let mut text = String::from_str(alloc, front)?;
+    text.push(c)?;
+    if !fits(text.as_str()) {
+        return Ok(None);
+    }
+    match tokenize(text.as_str(), FrontmatterAllowed::No).next() {
+        Some(token) => Ok(Some(token.kind)),
+        None => Ok(None),
     }
 }
 
-#[test]
-fn what_is_in_ascii_is_not(rt: HostRuntime) {
-    for c in ['\0', '#', '*', '0', '9', 'a', '\u{7f}'] {
-        assert!(rt; !is_emoji(c));
-    }
+/// Whether the tokens of the character are those of an emoji, or else those of none.
+fn is_shown(alloc: Global, code: u32, emoji: bool) -> Result<bool, AllocError> {
+    let Some(c) = char::from_u32(code) else {
+        return Ok(false);
+    };
+    let begins_lifetime = kind_of(alloc, "'", c)? == Some(BAD_LIFETIME);
+    let begins_word = kind_of(alloc, "", c)? == Some(TokenKind::InvalidIdent);
+    Ok(begins_lifetime == emoji && begins_word == (emoji && !is_id_start(c)))
 }
 
-fn in_class(code: u32) -> Option<bool> {
-    char::from_u32(code).map(is_emoji)
+/// The first range whose ends or neighbours are shown as what they are not.
+fn wrong_range(alloc: Global) -> Result<Option<(u32, u32)>, AllocError> {
+    for (low, high) in RANGES {
+        let inside = is_shown(alloc, low, true)? && is_shown(alloc, high, true)?;
+        let before = is_shown(alloc, low.wrapping_sub(1), false)?;
+        let past = is_shown(alloc, high.wrapping_add(1), false)?;
+        if !(inside && before && past) {
+            return Ok(Some((low, high)));
+        }
+    }
+    Ok(None)
+}
+
+#[test]
+fn ends_of_ranges(rt: HostRuntime) {
+    assert_eq!(rt; wrong_range(rt.alloc()), Ok(None));
+}
+
+/// The first of some characters of ASCII that is shown as an emoji.
+fn wrong_ascii(alloc: Global) -> Result<Option<char>, AllocError> {
+    for c in ['\0', '#', '*', 'a', '\u{7f}'] {
+        if !is_shown(alloc, u32::from(c), false)? {
+            return Ok(Some(c));
+        }
+    }
+    for digit in ['0', '9'] {
+        if kind_of(alloc, "", digit)? == Some(TokenKind::InvalidIdent) {
+            return Ok(Some(digit));
+        }
+    }
+    Ok(None)
+}
+
+#[test]
+fn ascii(rt: HostRuntime) {
+    assert_eq!(rt; wrong_ascii(rt.alloc()), Ok(None));
 }
