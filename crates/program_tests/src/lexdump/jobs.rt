@@ -17,17 +17,24 @@ enum Wanted<'a> {
 
 use Wanted::{Edits, Front, Nothing, Plain, Shebang};
 
+/// Whether this is what was wanted of the words.
+fn is_wanted(job: &Result<Job<'_>, Fault>, wanted: Wanted<'_>) -> bool {
+    match job {
+        Ok(Job::Plain { edition }) => matches!(wanted, Plain(want) if want == *edition),
+        Ok(Job::Front) => matches!(wanted, Front),
+        Ok(Job::Shebang) => matches!(wanted, Shebang),
+        Ok(Job::Edit { edition, edits }) => match wanted {
+            Edits(want, list) => want == *edition && edits.as_slice() == list,
+            _ => false,
+        },
+        Err(fault) => matches!(wanted, Nothing) && *fault == Fault::Arguments,
+    }
+}
+
 /// Whether the words ask for this.
 fn asks_for(alloc: Global, texts: &[&str], wanted: Wanted<'_>) -> Result<bool, AllocError> {
     let words = words_of(alloc, texts)?;
-    Ok(match (read_job(alloc, words.as_slice()), wanted) {
-        (Ok(Job::Plain { edition }), Plain(want)) => edition == want,
-        (Ok(Job::Front), Front) | (Ok(Job::Shebang), Shebang) => true,
-        (Ok(Job::Edit { edition, edits }), Edits(want, list)) => edition == want
-            && edits.as_slice() == list,
-        (Err(fault), Nothing) => fault == Fault::Arguments,
-        _ => false,
-    })
+    Ok(is_wanted(&read_job(alloc, words.as_slice()), wanted))
 }
 
 #[test]
