@@ -1,0 +1,61 @@
+-- What is written of a source: its tokens in order, each by its fate.
+use Rattle.std.specs.Prelude.{ℕ, List, [], ◌∷◌, ◌++◌, take, drop, codes}
+use Rattle.rustc_lexer.specs.declared.token.Token.{Token}
+use Rattle.erase_run.specs.declared.fate.Fate.{Fate}
+use Rattle.erase_run.specs.declared.fate.Fate.TheVariants.{Keep, Delete, Replace, Lead}
+use Rattle.erase_run.specs.declared.fate.Line.{Line}
+use Rattle.erase_run.specs.declared.fate.Word.{Word}
+use Rattle.erase_run.specs.declared.fate.TheConstants.{HEAD}
+
+-- the words that may stand in the place of others
+abbrev pub word_text : Word → List ℕ
+word_text Word.Core = codes "core"
+word_text Word.Support = codes "crate::support"
+word_text Word.Simd = codes "crate::support::simd"
+word_text Word.RattleStd = codes "rattle_std"
+word_text Word.DebugAssert = codes "debug_assert"
+word_text Word.DebugAssertEq = codes "debug_assert_eq"
+word_text Word.DebugAssertNe = codes "debug_assert_ne"
+word_text Word.Start = codes "{ let rt = rattle_std::rt::start();"
+
+-- the lines that may be put in
+abbrev pub line_text : Line → List ℕ
+line_text Line.Head = HEAD.now
+line_text Line.String = codes "\nuse crate::support::{String};\n"
+line_text Line.Vec = codes "\nuse crate::support::{Vec};\n"
+line_text Line.StringAndVec = codes "\nuse crate::support::{String, Vec};\n"
+line_text Line.ProgramAllocGlobal = codes "\nuse rattle_std::prelude::AllocGlobal;\n"
+line_text Line.ProgramHostRuntime = codes "\nuse rattle_std::prelude::HostRuntime;\n"
+line_text Line.ProgramString = codes "\nuse rattle_std::prelude::String;\n"
+line_text Line.ProgramVec = codes "\nuse rattle_std::prelude::Vec;\n"
+line_text Line.ProgramEprint = codes "\nuse rattle_std::prelude::eprint;\n"
+line_text Line.ProgramEprintln = codes "\nuse rattle_std::prelude::eprintln;\n"
+line_text Line.ProgramFormat = codes "\nuse rattle_std::prelude::format;\n"
+line_text Line.ProgramPrint = codes "\nuse rattle_std::prelude::print;\n"
+line_text Line.ProgramPrintln = codes "\nuse rattle_std::prelude::println;\n"
+
+abbrev pub lines_text : List Line → List ℕ
+lines_text [] = []
+lines_text (line ∷ lines) = line_text line ++ lines_text lines
+
+-- what is written for a token that has this text
+abbrev pub piece : List Line → Fate → List ℕ → List ℕ
+piece lines Keep text = text
+piece lines (Delete rule) text = []
+piece lines (Replace word) text = word_text word
+piece lines Lead text = lines_text lines ++ text
+
+-- a token with no fate is kept
+abbrev pub first_fate : List Fate → Fate
+first_fate [] = Keep
+first_fate (fate ∷ fates) = fate
+
+abbrev pub later_fates : List Fate → List Fate
+later_fates [] = []
+later_fates (fate ∷ fates) = fates
+
+-- the tokens of a text in order, each by its fate
+abbrev pub written : List Line → List ℕ → List Token → List Fate → List ℕ
+written lines text [] fates = []
+written lines text (token ∷ tokens) fates =
+    piece lines (first_fate fates) (take token.len text) ++ written lines (drop token.len text) tokens (later_fates fates)

@@ -1,0 +1,70 @@
+//! Attributes.
+
+use crate::fate::Rule;
+use crate::rules::cut;
+use crate::source::{Source, past};
+use crate::stop::{Reason, Stop};
+use std::alloc::Global;
+
+/// The attributes that mean in Rust what they mean in Rattle.
+const SAME: [&str; 5] = ["inline", "cold", "must_use", "allow", "non_exhaustive"];
+
+/// An attribute: those for the prover and what only tests have are deleted, and `Drop` in a derive.
+pub fn attribute(alloc: Global, source: &mut Source<'_>, n: usize) -> Result<usize, Stop> {
+    let open = if source.word(past(n, 1)) == "!" {
+        past(n, 2)
+    } else {
+        past(n, 1)
+    };
+    let end = source.past_group(alloc, open)?;
+    match source.word(past(open, 1)) {
+        "tactic" | "cycle" => cut(source, Rule::Tactic, n, end),
+        "cfg" => tests(alloc, source, n, end),
+        "derive" => derive(source, n, end),
+        name => {
+            if !SAME.contains(&name) {
+                return Err(source.refused(n, Reason::Attribute));
+            }
+            Ok(end)
+        }
+    }
+}
+
+/// `#[cfg(test)]`, with the item that has it.
+fn tests(alloc: Global, source: &mut Source<'_>, n: usize, end: usize) -> Result<usize, Stop> {
+    if !source.stands(n, &["#", "[", "cfg", "(", "test", ")", "]"]) {
+        return Err(source.refused(n, Reason::Attribute));
+    }
+    let Some(close) = source.find(end, &[";", "{"]) else {
+        return Err(source.refused(n, Reason::Item));
+    };
+    let end = if source.word(close) == ";" {
+        past(close, 1)
+    } else {
+        source.past_group(alloc, close)?
+    };
+    source.delete_item(Rule::Tests, n, end)?;
+    Ok(end)
+}
+
+/// `#[derive(..)]`, of which `Drop` goes with a comma, and all of it where it has nothing else.
+fn derive(source: &mut Source<'_>, n: usize, end: usize) -> Result<usize, Stop> {
+    for at in n..end {
+        if source.word(at) == "Drop" {
+            drop_derive(source, n, at, end)?;
+        }
+    }
+    Ok(end)
+}
+
+/// Deletes `Drop`, which is word `at` of the derive.
+fn drop_derive(source: &mut Source<'_>, n: usize, at: usize, end: usize) -> Result<(), Stop> {
+    if source.word(past(at, 1)) == "," {
+        source.delete(Rule::Derive, at, past(at, 2))?;
+    } else if source.word_before(at) == "," {
+        source.delete(Rule::Derive, at.saturating_sub(1), past(at, 1))?;
+    } else {
+        source.delete(Rule::Derive, n, end)?;
+    }
+    Ok(())
+}

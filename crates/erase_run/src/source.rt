@@ -1,0 +1,299 @@
+//! A source as tokens, and what becomes of each.
+ghost use Rattle.rustc_lexer.specs.Classes.{Fits};
+
+use crate::fate::{Fate, Rule, Word};
+use crate::stop::{Reason, Stop};
+use rustc_lexer::{DocStyle, FrontmatterAllowed, TokenKind, tokenize};
+use std::alloc::{AllocError, Global};
+
+/// What a source is a part of.
+#[derive(Clone, Copy, Debug, PartialEq, Eq)]
+pub enum Target {
+    /// The root of a library.
+    Root,
+    /// A module of a library.
+    Module,
+    /// Any file of a program, or of a library that only programs use: it stands on `rattle_std`.
+    Program,
+}
+
+/// A token with its text.
+#[derive(Clone, Copy)]
+pub struct Piece<'a> {
+    pub kind: TokenKind,
+    pub text: &'a str,
+}
+
+impl<'a> Piece<'a> {
+    /// Whether it is a doc comment of the item that follows it.
+    pub fn is_doc_of_item(&self) -> bool {
+        matches!(
+            self.kind,
+            TokenKind::LineComment {
+                doc_style: Some(DocStyle::Outer)
+            } | TokenKind::BlockComment {
+                doc_style: Some(DocStyle::Outer),
+                ..
+            }
+        )
+    }
+
+    /// Whether it is white space.
+    pub fn is_space(&self) -> bool {
+        matches!(self.kind, TokenKind::Whitespace)
+    }
+
+    /// Whether it is neither white space nor a comment.
+    pub fn is_word(&self) -> bool {
+        !matches!(
+            self.kind,
+            TokenKind::Whitespace | TokenKind::LineComment { .. } | TokenKind::BlockComment { .. }
+        )
+    }
+}
+
+/// The tokens of a source. Words are those that are neither white space nor comments: rules number them, and past the
+/// last one stands the empty text.
+#[derive(Drop)]
+pub struct Source<'a> {
+    pub target: Target,
+    pub pieces: Vec<Piece<'a>>,
+    /// The places in `pieces` of the words.
+    words: Vec<usize>,
+    pub fates: Vec<Fate>,
+    /// The rule of each deletion and of each replacement, as often as it was used.
+    pub used: Vec<Rule>,
+}
+
+/// The place that is `count` behind this one.
+pub fn past(n: usize, count: usize) -> usize {
+    n.saturating_add(count)
+}
+
+impl<'a> Source<'a> {
+    /// The tokens of a text, all of them kept.
+    pub fn new(alloc: Global, text: &'a str, target: Target) -> Result<Source<'a>, AllocError>
+        requires fits { Fits text.now }
+    {
+        let mut source = Source {
+            target,
+            pieces: Vec::new(alloc),
+            words: Vec::new(alloc),
+            fates: Vec::new(alloc),
+            used: Vec::new(alloc),
+        };
+        let mut start = 0;
+        for token in tokenize(text, FrontmatterAllowed::No) {
+            let end = start + token.len as usize;
+            source.take(token.kind, &text[start..end])?;
+            start = end;
+        }
+        Ok(source)
+    }
+
+    /// Takes the next token.
+    fn take(&mut self, kind: TokenKind, text: &'a str) -> Result<(), AllocError> {
+        let piece = Piece { kind, text };
+        if piece.is_word() {
+            self.words.push(self.pieces.len())?;
+        }
+        self.pieces.push(piece)?;
+        self.fates.push(Fate::Keep)?;
+        Ok(())
+    }
+
+    /// How many words there are.
+    pub fn len(&self) -> usize {
+        self.words.len()
+    }
+
+    /// The place of word `n` among all tokens.
+    pub fn place(&self, n: usize) -> usize {
+        match self.words.get(n) {
+            Some(place) => *place,
+            None => self.pieces.len(),
+        }
+    }
+
+    /// Word `n`, with its kind.
+    pub fn piece(&self, n: usize) -> Option<Piece<'a>> {
+        self.pieces.get(self.place(n)).copied()
+    }
+
+    /// The text of word `n`.
+    pub fn word(&self, n: usize) -> &'a str {
+        match self.piece(n) {
+            Some(piece) => piece.text,
+            None => "",
+        }
+    }
+
+    /// The text of the word before word `n`.
+    pub fn word_before(&self, n: usize) -> &'a str {
+        match n.checked_sub(1) {
+            Some(before) => self.word(before),
+            None => "",
+        }
+    }
+
+    /// Whether these words stand at `n`.
+    pub fn stands(&self, n: usize, words: &[&str]) -> bool {
+        for (i, word) in words.iter().enumerate() {
+            if self.word(past(n, i)) != *word {
+                return false;
+            }
+        }
+        true
+    }
+
+    /// The first word at `n` or behind it that is one of these.
+    pub fn find(&self, n: usize, words: &[&str]) -> Option<usize> {
+        for at in n..self.len() {
+            if (&*words).contains(&self.word(at)) {
+                return Some(at);
+            }
+        }
+        None
+    }
+
+    /// Whether word `n` stays as it is.
+    pub fn is_kept(&self, n: usize) -> bool {
+        self.fate_at(self.place(n)) == Fate::Keep
+    }
+
+    /// What becomes of the token at a place.
+    pub fn fate_at(&self, place: usize) -> Fate {
+        match self.fates.get(place) {
+            Some(fate) => *fate,
+            None => Fate::Keep,
+        }
+    }
+
+    /// Gives the token at a place a fate.
+    pub fn set(&mut self, place: usize, fate: Fate) {
+        if let Some(slot) = self.fates.get_mut(place) {
+            *slot = fate;
+        }
+    }
+
+    /// Gives the tokens from a place up to another a fate.
+    pub fn set_all(&mut self, from: usize, to: usize, fate: Fate) {
+        for place in from..to {
+            self.set(place, fate);
+        }
+    }
+
+    /// Deletes the words from `from` up to `to`, with what stands between them.
+    pub fn delete(&mut self, rule: Rule, from: usize, to: usize) -> Result<(), AllocError> {
+        self.used.push(rule)?;
+        self.delete_words(rule, from, to);
+        Ok(())
+    }
+
+    /// The same, as a part of another deletion.
+    pub fn delete_words(&mut self, rule: Rule, from: usize, to: usize) {
+        let Some(last) = to.checked_sub(1) else {
+            return;
+        };
+        self.set_all(
+            self.place(from),
+            past(self.place(last), 1),
+            Fate::Delete(rule),
+        );
+    }
+
+    /// Puts a word in the place of word `n`.
+    pub fn replace(&mut self, rule: Rule, n: usize, word: Word) -> Result<(), AllocError> {
+        self.used.push(rule)?;
+        self.set(self.place(n), Fate::Replace(word));
+        Ok(())
+    }
+
+    /// Deletes the words with the documents and attributes of the item that begins at `from`.
+    pub fn delete_item(&mut self, rule: Rule, from: usize, to: usize) -> Result<(), AllocError> {
+        self.delete(rule, from, to)?;
+        let mut front = self.place(from);
+        for place in (0..front).rev() {
+            if front <= place {
+                continue;
+            }
+            match self.item_front(place) {
+                None => break,
+                Some(start) => front = start,
+            }
+            if !self.pieces.get(place).is_some_and(|piece| piece.is_space()) {
+                self.set_all(front, past(place, 1), Fate::Delete(rule));
+            }
+        }
+        Ok(())
+    }
+
+    /// Where that which ends with the token at a place begins, if it is white space, a document or an attribute.
+    fn item_front(&self, place: usize) -> Option<usize> {
+        let piece = self.pieces.get(place)?;
+        if piece.is_space() || piece.is_doc_of_item() {
+            return Some(place);
+        }
+        if piece.text != "]" {
+            return None;
+        }
+        for start in (0..place).rev() {
+            if self.pieces.get(start)?.text == "#" {
+                return Some(start);
+            }
+        }
+        None
+    }
+
+    /// The word behind the group that opens at `n`.
+    pub fn past_group(&self, alloc: Global, n: usize) -> Result<usize, Stop> {
+        let mut open = Vec::new(alloc);
+        for at in n..self.len() {
+            let word = self.word(at);
+            if let Some(close) = close_of(word) {
+                open.push(close).map_err(AllocError::from)?;
+            } else if is_close(word) && open.pop() != Some(word) {
+                return Err(self.refused(at, Reason::Bracket));
+            }
+            if open.is_empty() {
+                return Ok(past(at, 1));
+            }
+        }
+        Err(self.refused(n, Reason::Bracket))
+    }
+
+    /// The refusal of word `n`, with its line.
+    pub fn refused(&self, n: usize, reason: Reason) -> Stop {
+        let mut line: usize = 1;
+        for piece in self.pieces.iter().take(self.place(n)) {
+            line = line.saturating_add(newlines(piece.text));
+        }
+        Stop::Refused { line, reason }
+    }
+}
+
+/// What closes the group that the word opens.
+fn close_of(word: &str) -> Option<&'static str> {
+    match word {
+        "(" => Some(")"),
+        "[" => Some("]"),
+        "{" => Some("}"),
+        _ => None,
+    }
+}
+
+/// Whether the word closes a group.
+fn is_close(word: &str) -> bool {
+    word == ")" || word == "]" || word == "}"
+}
+
+/// How many newlines a text has.
+pub fn newlines(text: &str) -> usize {
+    let mut count: usize = 0;
+    for byte in text.as_bytes() {
+        if *byte == b'\n' {
+            count = count.saturating_add(1);
+        }
+    }
+    count
+}
