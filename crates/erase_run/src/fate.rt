@@ -136,8 +136,8 @@ pub fn line_text(line: Line) -> &'static str
 }
 
 impl Rule {
-    /// All rules.
-    pub const ALL: [Rule; 18] = [
+    /// All rules whose uses are counted: all but that for emptied lines.
+    pub const COUNTED: [Rule; 17] = [
         Rule::Use,
         Rule::Field,
         Rule::Member,
@@ -155,7 +155,6 @@ impl Rule {
         Rule::Path,
         Rule::Prove,
         Rule::Handle,
-        Rule::Blank,
     ];
 
     /// The rule as it is told.

@@ -88,8 +88,8 @@ fn first_word(source: &Source<'_>) -> usize {
     source.pieces.len()
 }
 
-/// Deletes the end of each line that held nothing but what is deleted: of the white space before and behind it the one
-/// with fewer lines.
+/// Deletes the end of each line that held nothing but what is deleted. Of the white space before and behind it the one
+/// with fewer lines goes, and the one before where they are alike.
 pub fn close_lines(source: &mut Source<'_>) {
     let mut open: Option<usize> = None;
     for place in 0..source.pieces.len() {

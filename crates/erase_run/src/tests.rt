@@ -9,7 +9,7 @@ use std::test::Fail;
 
 /// A module, and what is made of it.
 const MADE: [(&str, &str); 12] = [
-    ("fn f()\n    ensures { result }\n{}\n", "fn f()\n    {}\n"),
+    ("fn f()\n    ensures { result }\n{}\n", "fn f()\n{}\n"),
     ("fn f() requires* a { (b) } {}", "fn f()  {}"),
     ("ghost use A.{b};\nuse std::fmt;\n", "\nuse core::fmt;\n"),
     (
