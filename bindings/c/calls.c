@@ -430,6 +430,13 @@ static int check_bad_edits(relex_call *relex) {
                                           {0, 0, 4, 0, 0, 3, 1}, {3, 0, 0, 3, 0, 0, 1}, {0, 0, 0, 0, SIZE_MAX, 0, 1}};
     for (size_t i = 0; i < sizeof none / sizeof none[0]; i++)
         CHECK(relex(text, 5, old, 5, &good, 2024, &none[i], room, ROOM, &count) == RUSTC_LEXER_BAD_EDIT && count == 0);
+    /* a stage past 2 counts as 1 */
+    static const size_t stages[] = {1, 3, 4, SIZE_MAX};
+    for (size_t i = 0; i < sizeof stages / sizeof stages[0]; i++) {
+        struct rustc_lexer_relexing begun = {0, 0, 0, 0, 0, 0, stages[i]};
+        CHECK(relex(text, 5, NULL, 0, &good, 2024, &begun, room, ROOM, &count) == RUSTC_LEXER_OK);
+        CHECK(count == 3 && begun.lexed == 3 && begun.at == 5 && begun.stage == 2);
+    }
     for (size_t i = 0; i < 7 * 7 * 7 * 7; i++) {
         size_t number = i;
         for (size_t k = 0; k < 4; k++, number /= 7)

@@ -16,6 +16,8 @@
  * is said.
  *
  * The numbers here are fixed. A new kind of token gets a new number.
+ *
+ * This is C11, which first had the unions without a name that a token has, and it is C++ too.
  */
 #ifndef RUSTC_LEXER_H
 #define RUSTC_LEXER_H
@@ -341,7 +343,10 @@ struct rustc_lexer_token rustc_lexer_first_token_unchecked(const uint8_t *text, 
  *
  * With another status than 0 the room and `relexing` stay as they were, and `count` is 0. RUSTC_LEXER_BAD_EDIT says
  * that `start` is past one of the others, that `start` or `new_stop` is past the end of the text or inside a
- * character, or that the numbers of a later stage are none that a call has left.
+ * character, or that at a later stage relexing cannot go on from the numbers: `at` is past the end of the text or
+ * inside a character, `lexed` is more than `at`, `kept_front` and `kept_back` together are more than `old_len`, or
+ * `back_place` is 2 to the power of 63 or more. What a call has left for this text is never refused. A stage past 2
+ * counts as 1.
  *
  * Each call tests the whole text. */
 uint32_t rustc_lexer_relex(const uint8_t *text, size_t len, const struct rustc_lexer_token *old, size_t old_len,
@@ -421,10 +426,11 @@ bool rustc_lexer_is_horizontal_whitespace(uint32_t code);
 bool rustc_lexer_is_id_start(uint32_t code);
 bool rustc_lexer_is_id_continue(uint32_t code);
 
-/* The number of this interface. It rises with each change that a program which was built with the header before would
- * not survive. The call answers it, and its name has the number too. Each object file that GCC 11, Clang 13 or a later
- * one builds with this header asks for that name, so the program does not link with a library of another number. */
-#define RUSTC_LEXER_ABI 1
+/* The number of this interface, and the first version that has it. It rises with each change that a program which was
+ * built with the header before would not survive. The call answers it, and its name has the number too. Each object
+ * file that GCC 11, Clang 13 or a later one builds with this header asks for that name, so the program does not link
+ * with a library of another number. CMake takes this version for one that is asked for from the first one on. */
+#define RUSTC_LEXER_ABI 1 /* since version 0.183.0 */
 uint32_t rustc_lexer_abi_1(void);
 #ifdef __has_attribute
 #if __has_attribute(used) && __has_attribute(retain)

@@ -1,38 +1,32 @@
 -- What is shown of a text after an edit.
-use Rattle.std.proofs.Common.{◌≡◌, ℕ, zero, suc, ◌+◌, ◌-◌, ◌<◌, ◌≤◌, Bool, true, false, cond, List, [], ◌∷◌, ◌++◌, length, map, take, drop, refl, sym, ap, subst, ◌∙◌, arith, drop-drop, take-take, take-append-drop, length-take, length-take-le, leb, leb-true, le-leb, ◌&&◌, IsUtf8, IsCharBoundary, Option, Some, None, Result, Ok, Err, IfOk, OnOk}
+use Rattle.std.proofs.Common.{◌≡◌, ℕ, zero, suc, ◌+◌, ◌-◌, ◌<◌, ◌≤◌, Bool, true, false, cond, List, [], ◌∷◌, ◌++◌, length, map, take, drop, refl, sym, ap, subst, ◌∙◌, arith, drop-drop, take-take, take-append-drop, length-take, length-take-le, leb, leb-true, le-leb, ◌&&◌, IsUtf8, IsCharBoundary, Result, Ok, Err, IfOk, OnOk}
 use Rattle.std.proofs.lemmas.Bool.{and_parts}
 use Rattle.std.proofs.lemmas.List.{drop-take}
 use Rattle.std.specs.Fmt.{WritesInCalls}
 use Rattle.rustc_lexer.specs.declared.relex.relexing.Relexed.{Relexed}
-use Rattle.rustc_lexer.specs.declared.relex.pieces.Piece.{Piece}
 use Rattle.rustc_lexer.specs.declared.token.Token.{Token}
 use Rattle.rustc_lexer.specs.Tokens.{bound, tokens_by}
 use Rattle.rustc_lexer.specs.Edits.{IsEdit, apply, ends_past, is_bound, kept_front, kept_front_from, least_from, meet, meets_at, relexed_of}
 use Rattle.rustc_lexer.specs.Locality.{has_two, IsGrammar, IsText}
-use Rattle.rustc_lexer.specs.Pieces.{Left, Placed, YieldsPiece, pieces_from, pieces_left, pieces_of}
+use Rattle.rustc_lexer.specs.Pieces.{Placed, pieces_from, pieces_of}
 use Rattle.rustc_lexer.proofs.BoundLemmas.{bound-last, ends_past-at, is_bound-elim, is_bound-intro, least_from_ge, rises}
 use Rattle.rustc_lexer.proofs.EditLemmas.{IsEdited, edited, front-none, has_two-before, bound-take, kept_same, met_rest, same_rest, start_inside}
+use Rattle.rustc_lexer.proofs.PieceLemmas.{drop-pieces, take-pieces}
 use Rattle.rustc_lexer.proofs.ReadyLemmas.{cuts}
 use Rattle.examples.specs.Highlight.{close_mark, open_mark, with_marks}
 use Rattle.examples.specs.Repaint.{changed, marked, moved, shown_after}
 use Rattle.examples.proofs.HighlightLemmas.{writes_then}
 
--- ---- the loops that paint
-
--- past one piece that is not painted
-pub passed : (s t : Left) (piece : Option Piece) (all : List Placed) (n : ℕ) → pieces_left s ≡ drop n all → YieldsPiece s piece t → pieces_left t ≡ drop (n + 1) all
-passed s t None all n at step = ap pieces_left step.1 ∙ (step.0 ∙ sym (sym (drop-drop 1 n all) ∙ ap (drop 1) (sym at ∙ step.0)))
-passed s t (Some piece) all n at step = sym (sym (drop-drop 1 n all) ∙ ap (drop 1) (sym at ∙ step.first))
+-- ---- the loop that paints
 
 module _ {W : Type 0} (took : W → List ℕ → W → Type 0) where
   -- one piece more between its marks
-  pub paints_piece : (w0 w1 w2 w3 w : W) (n m : ℕ) (left others : List Placed) (piece : Placed) (before after : List ℕ)
-      → left ≡ piece ∷ others → m + 1 ≡ n → before ≡ open_mark piece.token.kind → after ≡ close_mark piece.token.kind
+  pub paints_piece : (w0 w1 w2 w3 w : W) (left others : List Placed) (piece : Placed) (before after : List ℕ)
+      → left ≡ piece ∷ others → before ≡ open_mark piece.token.kind → after ≡ close_mark piece.token.kind
       → took w0 before w1 → took w1 piece.text w2 → took w2 after w3
-      → WritesInCalls took w3 (with_marks (marked (take m others))) w → WritesInCalls took w0 (with_marks (marked (take n left))) w
-  paints_piece w0 w1 w2 w3 w n m left others piece before after first less opens closes a b c d =
-      let count : n ≡ suc m = omega arith in
-      subst (λ (ps : List Placed). WritesInCalls took w0 (with_marks (marked ps)) w) (sym (ap (λ k. take k left) count ∙ ap (take (suc m)) first)) (
+      → WritesInCalls took w3 (with_marks (marked others)) w → WritesInCalls took w0 (with_marks (marked left)) w
+  paints_piece w0 w1 w2 w3 w left others piece before after first opens closes a b c d =
+      subst (λ (ps : List Placed). WritesInCalls took w0 (with_marks (marked ps)) w) (sym first) (
       writes_then took w0 w1 w _ _ (subst (λ (bs : List ℕ). took w0 bs w1) opens a) (
       writes_then took w1 w2 w _ _ b (
       writes_then took w2 w3 w _ _ (subst (λ (bs : List ℕ). took w2 bs w3) closes c) d)))
@@ -76,16 +70,6 @@ least-passes test (suc n) k pass = let same : k + suc n ≡ suc k + n = omega ar
     by_test ih false e = ih
 
 -- ---- the pieces of two texts
-
-drop-pieces : (text : List ℕ) (start k : ℕ) (ts : List Token) → drop k (pieces_from text start ts) ≡ pieces_from text (start + bound ts k) (drop k ts)
-drop-pieces text start zero ts = let e : start ≡ start + 0 = omega arith in ap (λ p. pieces_from text p ts) e
-drop-pieces text start (suc k) [] = refl
-drop-pieces text start (suc k) (t ∷ ts) = let e : start + t.len + bound ts k ≡ start + (t.len + bound ts k) = omega arith in drop-pieces text (start + t.len) k ts ∙ ap (λ p. pieces_from text p (drop k ts)) e
-
-take-pieces : (text : List ℕ) (start k : ℕ) (ts : List Token) → take k (pieces_from text start ts) ≡ pieces_from text start (take k ts)
-take-pieces text start zero ts = refl
-take-pieces text start (suc k) [] = refl
-take-pieces text start (suc k) (t ∷ ts) = ap (λ ps. record { start = start; token = t; text = take t.len (drop start text) } ∷ ps) (take-pieces text (start + t.len) k ts)
 
 length-pieces : (text : List ℕ) (start : ℕ) (ts : List Token) → length (pieces_from text start ts) ≡ length ts
 length-pieces text start [] = refl

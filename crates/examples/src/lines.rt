@@ -1,6 +1,7 @@
 //! A counter of lines.
 ghost use Rattle.std.specs.Prelude.{◌≡◌, ◌+◌, ◌^◌, ◌<◌, ◌≤◌, length, map};
 ghost use Rattle.rustc_lexer.specs.Classes.{Fits};
+ghost use Rattle.rustc_lexer.specs.declared.edition.Edition.TheVariants.{E2024};
 ghost use Rattle.rustc_lexer.specs.LanguageText.{document};
 ghost use Rattle.rustc_lexer.specs.Tokens.{tokens_of};
 ghost use Rattle.examples.specs.Counter.{after_byte, after_bytes, begun, finished, greater, kind_counted, start, total};
@@ -34,7 +35,7 @@ enum LineKind {
 /// last newline is a line if it is not empty.
 pub fn count_lines(text: &str) -> LineCounts
     requires fits { Fits text.now }
-    ensures { result ≡ line_counts text.now (tokens_of document text.now) }
+    ensures { result ≡ line_counts text.now (tokens_of (document E2024) text.now) }
 {
     let mut counter = Counter::new();
     let mut start = 0;

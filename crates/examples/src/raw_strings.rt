@@ -2,6 +2,7 @@
 ghost use Rattle.std.specs.Prelude.{◌≡◌, IfOk};
 ghost use Rattle.rustc_lexer.specs.Classes.{Fits};
 ghost use Rattle.rustc_lexer.specs.Pieces.{pieces_of};
+ghost use Rattle.rustc_lexer.specs.declared.edition.Edition.TheVariants.{E2024};
 ghost use Rattle.rustc_lexer.specs.LanguageText.{document};
 ghost use Rattle.rustc_lexer.specs.Tokens.{tokens_of, HasText};
 ghost use Rattle.examples.specs.RawStrings.{faults_of, raw_fault, raw_prefix_len};
@@ -25,7 +26,7 @@ pub fn raw_faults(alloc: Global, text: &str) -> Result<Vec<RawFault>, AllocError
     requires fits { Fits text.now }
     ensures { IfOk result
         (λ faults. faults.items
-        ≡ faults_of (pieces_of text.now (tokens_of document text.now))) }
+        ≡ faults_of (pieces_of text.now (tokens_of (document E2024) text.now))) }
 {
     let mut faults = Vec::new(alloc);
     let mut start = 0;

@@ -1,5 +1,5 @@
 //! A text that is shown with its tokens marked, and painted anew where an edit changed them.
-ghost use Rattle.std.specs.Prelude.{◌≡◌, ◌-◌, OnOk, OnErr, IfOk, length};
+ghost use Rattle.std.specs.Prelude.{◌≡◌, ◌+◌, ◌-◌, OnOk, OnErr, IfOk, length};
 ghost use Rattle.std.specs.Fmt.{WritesInCalls};
 ghost use Rattle.rustc_lexer.specs.Edits.{IsEdit, apply};
 ghost use Rattle.rustc_lexer.specs.Pieces.{pieces_of};
@@ -25,6 +25,8 @@ pub fn edit_shown<S: Stepper>(
     ensures same_text { OnErr result (lexed.new.text ≡ lexed.old.text) }
     ensures same_tokens { OnErr result (lexed.new.tokens ≡ lexed.old.tokens) }
     ensures grammar { S.grammar lexed.new.stepper ≡ S.grammar lexed.old.stepper }
+    ensures all { IfOk result (λ relexed.
+        relexed.kept_front + relexed.lexed + relexed.kept_back ≡ length lexed.new.tokens) }
     ensures enough { IfOk result (λ relexed.
         let new = pieces_of lexed.new.text lexed.new.tokens in
         new ≡ shown_after relexed (length insert.now) (stop - start)
@@ -41,15 +43,13 @@ pub fn repaint<S: Stepper, W: fmt::Write>(
     relexed: Relexed,
     output: &mut W,
 ) -> fmt::Result
+    requires all { relexed.kept_front + relexed.lexed + relexed.kept_back ≡ length lexed.now.tokens }
     ensures { OnOk result (WritesInCalls W.write_str_gives output.old
         (with_marks (marked (changed relexed (pieces_of lexed.now.text lexed.now.tokens))))
         output.new) }
 {
-    let mut pieces = lexed.pieces();
-    for _ in 0..relexed.kept_front {
-        pieces.next();
-    }
-    for piece in pieces.take(relexed.lexed) {
+    let back = lexed.tokens().len() - relexed.kept_back;
+    for piece in lexed.pieces_of(relexed.kept_front, back) {
         output.write_str(opening(piece.token.kind))?;
         output.write_str(piece.text)?;
         output.write_str(closing(piece.token.kind))?;

@@ -2,6 +2,7 @@
 ghost use Rattle.std.specs.Prelude.{◌≡◌, ◌+◌, ◌<◌, ◌^◌, IfOk, length, map};
 ghost use Rattle.rustc_lexer.specs.Classes.{Fits};
 ghost use Rattle.rustc_lexer.specs.Pieces.{pieces_of};
+ghost use Rattle.rustc_lexer.specs.declared.edition.Edition.TheVariants.{E2024};
 ghost use Rattle.rustc_lexer.specs.LanguageText.{document};
 ghost use Rattle.rustc_lexer.specs.Tokens.{tokens_of};
 ghost use Rattle.examples.specs.Spans.{spanned, spans_of};
@@ -48,7 +49,7 @@ pub fn spans<'a>(alloc: Global, text: &'a str) -> Result<Vec<Span<'a>>, AllocErr
     requires fits { Fits text.now }
     ensures { IfOk result
         (λ spans. map spanned spans.items
-        ≡ spans_of (pieces_of text.now (tokens_of document text.now))) }
+        ≡ spans_of (pieces_of text.now (tokens_of (document E2024) text.now))) }
 {
     let mut spans = Vec::new(alloc);
     let mut start = 0;

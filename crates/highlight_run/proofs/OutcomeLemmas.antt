@@ -21,11 +21,11 @@ use Rattle.highlight_run.specs.Stop.{read_stop}
 below : (a b : ℕ) → b < a → nat_le a b ≡ false
 below a b h = elim (leb_tells a b) [ inl p ↦ absurd (omega arith) | inr p ↦ p.0 ]
 
-outcome-long : (style : Style) (edition : Option Edition) (bytes : List ℕ) → 2 ^ 32 ≤ length bytes → outcome style edition bytes ≡ Err TooLong
+outcome-long : (style : Style) (edition : Edition) (bytes : List ℕ) → 2 ^ 32 ≤ length bytes → outcome style edition bytes ≡ Err TooLong
 unfolding outcome
 outcome-long style edition bytes long = let e : nat_le (2 ^ 32) (length bytes) ≡ true = le-leb (2 ^ 32) (length bytes) long in rw e refl
 
-outcome-no_text : (style : Style) (edition : Option Edition) (bytes : List ℕ) → length bytes < 2 ^ 32 → ¬ (IsUtf8 bytes) → outcome style edition bytes ≡ Err NotUtf8
+outcome-no_text : (style : Style) (edition : Edition) (bytes : List ℕ) → length bytes < 2 ^ 32 → ¬ (IsUtf8 bytes) → outcome style edition bytes ≡ Err NotUtf8
 unfolding outcome
 outcome-no_text style edition bytes fits none = by_test (is_utf8 bytes) refl
   where
@@ -33,7 +33,7 @@ outcome-no_text style edition bytes fits none = by_test (is_utf8 bytes) refl
     by_test true e = absurd (none (IsUtf8-from_is_utf8 bytes e))
     by_test false e = let f : nat_le (2 ^ 32) (length bytes) ≡ false = below (2 ^ 32) (length bytes) fits in rw (f, e) refl
 
-outcome-text : (style : Style) (edition : Option Edition) (bytes : List ℕ) → length bytes < 2 ^ 32 → IsUtf8 bytes → outcome style edition bytes ≡ Ok (printed style edition bytes)
+outcome-text : (style : Style) (edition : Edition) (bytes : List ℕ) → length bytes < 2 ^ 32 → IsUtf8 bytes → outcome style edition bytes ≡ Ok (printed style edition bytes)
 unfolding outcome
 outcome-text style edition bytes fits is =
     let e : is_utf8 bytes ≡ true = is_utf8-from_IsUtf8 bytes is in
@@ -41,7 +41,7 @@ outcome-text style edition bytes fits is =
     rw (f, e) refl
 
 -- reading stopped
-pub ends_unread : (style : Style) (edition : Option Edition) (known old new : Option (List ℕ)) (stop : ReadStop) → EndsReading known (Err stop) → Keeps old new
+pub ends_unread : (style : Style) (edition : Edition) (known old new : Option (List ℕ)) (stop : ReadStop) → EndsReading known (Err stop) → Keeps old new
     → IfSome known (λ bytes. Ends old new (Err (read_stop stop)) (outcome style edition bytes))
 ends_unread style edition None old new stop ends kept = tt
 ends_unread style edition (Some bytes) old new TooLongRead ends kept = (outcome-long style edition bytes ends, kept)
@@ -54,14 +54,14 @@ keeps_same None = tt
 keeps_same (Some xs) = refl
 
 -- what was read is no text
-pub ends_no_text : (style : Style) (edition : Option Edition) (known old new : Option (List ℕ)) (read : Vec ℕ Global) → EndsReading known (Ok read) → length read.items < 2 ^ 32 → ¬ (IsUtf8 read.items) → Keeps old new
+pub ends_no_text : (style : Style) (edition : Edition) (known old new : Option (List ℕ)) (read : Vec ℕ Global) → EndsReading known (Ok read) → length read.items < 2 ^ 32 → ¬ (IsUtf8 read.items) → Keeps old new
     → IfSome known (λ bytes. Ends old new (Err NotUtf8) (outcome style edition bytes))
 ends_no_text style edition None old new read ends fits none kept = tt
 ends_no_text style edition (Some bytes) old new read ends fits none kept =
     subst (λ (xs : List ℕ). Ends old new (Err NotUtf8) (outcome style edition xs)) ends (outcome-no_text style edition read.items fits none, kept)
 
 -- memory was refused
-pub ends_refused : (style : Style) (edition : Option Edition) (known old new : Option (List ℕ)) → Keeps old new → IfSome known (λ bytes. Ends old new (Err Memory) (outcome style edition bytes))
+pub ends_refused : (style : Style) (edition : Edition) (known old new : Option (List ℕ)) → Keeps old new → IfSome known (λ bytes. Ends old new (Err Memory) (outcome style edition bytes))
 ends_refused style edition None old new kept = tt
 ends_refused style edition (Some bytes) old new kept = kept
 
@@ -77,7 +77,7 @@ ends_writing old new made (Err TooLong) only ok err = absurd only
 ends_writing old new made (Err Memory) only ok err = absurd only
 ends_writing old new made (Err Read) only ok err = absurd only
 
-pub ends_written : (style : Style) (edition : Option Edition) (known old new : Option (List ℕ)) (read : Vec ℕ Global) (text made : List ℕ) (result : Result (Unit {0}) Stop)
+pub ends_written : (style : Style) (edition : Edition) (known old new : Option (List ℕ)) (read : Vec ℕ Global) (text made : List ℕ) (result : Result (Unit {0}) Stop)
     → EndsReading known (Ok read) → length text < 2 ^ 32 → IsUtf8 text → text ≡ read.items → made ≡ printed style edition text
     → IfErr result IsWriteStop → OnOk result (Appends old new made) → OnErr result (AppendsFront old new made) → IfSome known (λ bytes. Ends old new result (outcome style edition bytes))
 ends_written style edition None old new read text made result ends fits is same prints only ok err = tt

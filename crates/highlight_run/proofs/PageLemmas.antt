@@ -8,8 +8,8 @@ use Rattle.rustc_lexer.specs.declared.token.Token.{Token}
 use Rattle.rustc_lexer.specs.Classes.{Fits}
 use Rattle.rustc_lexer.specs.means.Shebang.{shebang}
 use Rattle.rustc_lexer.specs.Locality.{IsText}
-use Rattle.rustc_lexer.specs.LanguageText.{document, part}
-use Rattle.rustc_lexer.specs.Tokens.{bound, Partitions}
+use Rattle.rustc_lexer.specs.LanguageText.{document}
+use Rattle.rustc_lexer.specs.Tokens.{bound, tokens_of, Partitions}
 use Rattle.rustc_lexer.proofs.TokensLemmas.{partitions}
 use Rattle.rustc_literal_escaper.specs.declared.mode.Mode.{Mode}
 use Rattle.highlight_run.specs.declared.class.Class.{Class}
@@ -21,7 +21,7 @@ use Rattle.highlight_run.specs.Class.{class_of}
 use Rattle.highlight_run.specs.Escape.{unescaped, untagged}
 use Rattle.highlight_run.specs.Fault.{fault_of}
 use Rattle.highlight_run.specs.Literal.{mode_of}
-use Rattle.highlight_run.specs.Page.{line_parts, marked, marked_tokens, parts, parts_by, past_line, sound_parts, text_parts, token_parts, tokens_for}
+use Rattle.highlight_run.specs.Page.{line_parts, marked, marked_tokens, parts, parts_by, past_line, sound_parts, text_parts, token_parts}
 use Rattle.highlight_run.specs.Part.{Part, class_parts, with_marks, without_marks}
 use Rattle.highlight_run.proofs.CallLemmas.{no_calls, on_ok_then}
 use Rattle.highlight_run.proofs.EscapeLemmas.{unescaped_escaped}
@@ -48,33 +48,28 @@ without_marks-parts style text (token ∷ tokens) =
 without_marks_whole : (style : Style) (text : List ℕ) (tokens : List Token) → Partitions text tokens → without_marks (parts style text tokens) ≡ text
 without_marks_whole style text tokens cut = without_marks-parts style text tokens ∙ take_all (bound tokens (length tokens)) text (let w = cut.whole in omega arith)
 
--- the tokens of a text cut it
-partitions_for : (edition : Option Edition) (text : List ℕ) → IsText text → Partitions text (tokens_for edition text)
-partitions_for None text is = partitions text document is
-partitions_for (Some edition) text is = partitions text (part edition) is
-
--- those of what follows a shebang line cut that
-cut_past : (edition : Option Edition) (text : List ℕ) (line : Option ℕ) → IfSome line (λ len. IsCharBoundary text len) → IsText text → Partitions (past_line line text) (tokens_for edition (past_line line text))
-cut_past edition text None bounded is = partitions_for edition text is
+-- the tokens of what follows a shebang line cut that
+cut_past : (edition : Edition) (text : List ℕ) (line : Option ℕ) → IfSome line (λ len. IsCharBoundary text len) → IsText text → Partitions (past_line line text) (tokens_of (document edition) (past_line line text))
+cut_past edition text None bounded is = partitions text (document edition) is
 cut_past edition text (Some len) bounded is =
     let shorter = length-drop len text in
-    partitions_for edition (drop len text) record { utf8 = IsUtf8-drop text len is.utf8 bounded; fits = let few = is.fits in omega arith }
+    partitions (drop len text) (document edition) record { utf8 = IsUtf8-drop text len is.utf8 bounded; fits = let few = is.fits in omega arith }
 
 -- the parts of a text with this shebang line
-abbrev parts_with : Style → Option Edition → List ℕ → Option ℕ → List Part
-parts_with style edition text line = line_parts style line text ++ parts style (past_line line text) (tokens_for edition (past_line line text))
+abbrev parts_with : Style → Edition → List ℕ → Option ℕ → List Part
+parts_with style edition text line = line_parts style line text ++ parts style (past_line line text) (tokens_of (document edition) (past_line line text))
 
 -- without the marks, a text is as it was
-pub text_is : (style : Style) (edition : Option Edition) (text : List ℕ) (line : Option ℕ) → line ≡ shebang text → IfSome line (λ len. IsCharBoundary text len) → IsUtf8 text → Fits text
+pub text_is : (style : Style) (edition : Edition) (text : List ℕ) (line : Option ℕ) → line ≡ shebang text → IfSome line (λ len. IsCharBoundary text len) → IsUtf8 text → Fits text
     → without_marks (text_parts style edition text) ≡ text
 text_is style edition text line is bounded utf8 fits =
     subst (λ (l : Option ℕ). without_marks (parts_with style edition text l) ≡ text) is (by line (cut_past edition text line bounded record { utf8 = utf8; fits = fits }))
   where
-    by : (l : Option ℕ) → Partitions (past_line l text) (tokens_for edition (past_line l text)) → without_marks (parts_with style edition text l) ≡ text
+    by : (l : Option ℕ) → Partitions (past_line l text) (tokens_of (document edition) (past_line l text)) → without_marks (parts_with style edition text l) ≡ text
     by None cut = without_marks_whole style text _ cut
     by (Some len) cut =
         without_marks-append (class_parts style Comment (take len text)) _
-        ∙ (ap (λ xs. xs ++ without_marks (parts style (drop len text) (tokens_for edition (drop len text)))) (without_class style Comment (take len text))
+        ∙ (ap (λ xs. xs ++ without_marks (parts style (drop len text) (tokens_of (document edition) (drop len text)))) (without_class style Comment (take len text))
         ∙ (ap (λ xs. take len text ++ xs) (without_marks_whole style (drop len text) _ cut) ∙ take-append-drop len text))
 
 -- ---- no mark of a page shows anything
@@ -97,11 +92,11 @@ shows_line : (text : List ℕ) (line : Option ℕ) → Shows (line_parts Html li
 shows_line text None = λ rest. refl
 shows_line text (Some len) = shows_class Comment (take len text)
 
-pub page_is : (edition : Option Edition) (text : List ℕ) (line : Option ℕ) → line ≡ shebang text → IfSome line (λ len. IsCharBoundary text len) → IsUtf8 text → Fits text
+pub page_is : (edition : Edition) (text : List ℕ) (line : Option ℕ) → line ≡ shebang text → IfSome line (λ len. IsCharBoundary text len) → IsUtf8 text → Fits text
     → unescaped (untagged (marked Html edition text)) ≡ text
 page_is edition text line is bounded utf8 fits =
     let past : List ℕ = past_line (shebang text) text in
-    ap unescaped (untagged_parts (text_parts Html edition text) (shows_both (line_parts Html (shebang text) text) (parts Html past (tokens_for edition past)) (shows_line text (shebang text)) (shows_tokens past (tokens_for edition past))))
+    ap unescaped (untagged_parts (text_parts Html edition text) (shows_both (line_parts Html (shebang text) text) (parts Html past (tokens_of (document edition) past)) (shows_line text (shebang text)) (shows_tokens past (tokens_of (document edition) past))))
     ∙ (unescaped_escaped (without_marks (text_parts Html edition text)) ∙ text_is Html edition text line is bounded utf8 fits)
 
 -- ---- the calls that write the tokens
@@ -122,11 +117,11 @@ module _ {W : Type 0} (took : W → List ℕ → W → Type 0) where
   writes_nothing style w text left none = subst (λ (ts : List Token). WritesInCalls took w (marked_tokens style text ts) w) (sym none) (no_calls took w)
 
   -- a shebang line, and then the tokens of what follows it
-  pub writes_past : {T E : Type 0} (style : Style) (edition : Option Edition) (w v u : W) (text line rest : List ℕ) (len : ℕ) (r : Result T E) → Some len ≡ shebang text → line ≡ take (len - 0) text
-      → rest ≡ drop len text → WritesInCalls took w (with_marks style (class_parts style Comment line)) v → OnOk r (WritesInCalls took v (marked_tokens style rest (tokens_for edition rest)) u)
+  pub writes_past : {T E : Type 0} (style : Style) (edition : Edition) (w v u : W) (text line rest : List ℕ) (len : ℕ) (r : Result T E) → Some len ≡ shebang text → line ≡ take (len - 0) text
+      → rest ≡ drop len text → WritesInCalls took w (with_marks style (class_parts style Comment line)) v → OnOk r (WritesInCalls took v (marked_tokens style rest (tokens_of (document edition) rest)) u)
       → OnOk r (WritesInCalls took w (marked style edition text) u)
   writes_past style edition w v u text line rest len r some is past first more = on_ok_then r more (λ wrote.
       subst (λ (l : Option ℕ). WritesInCalls took w (with_marks style (parts_with style edition text l)) u) some (
-      writes_parts took style (class_parts style Comment (take len text)) (parts style (drop len text) (tokens_for edition (drop len text))) w v u
+      writes_parts took style (class_parts style Comment (take len text)) (parts style (drop len text) (tokens_of (document edition) (drop len text))) w v u
       (let all : len - 0 ≡ len = omega arith in subst (λ (xs : List ℕ). WritesInCalls took w (with_marks style (class_parts style Comment xs)) v) (is ∙ ap (λ (k : ℕ). take k text) all) first)
-      (subst (λ (xs : List ℕ). WritesInCalls took v (marked_tokens style xs (tokens_for edition xs)) u) past wrote)))
+      (subst (λ (xs : List ℕ). WritesInCalls took v (marked_tokens style xs (tokens_of (document edition) xs)) u) past wrote)))

@@ -1,8 +1,9 @@
 -- What the words after the program's name ask for.
-use Rattle.std.specs.Prelude.{ℕ, Bool, true, false, if◌then◌else◌, List, [], ◌∷◌, codes, Option, Some, None}
+use Rattle.std.specs.Prelude.{ℕ, Bool, true, false, if◌then◌else◌, List, [], ◌∷◌, codes, Option, Some, None, unwrap_or}
 use Rattle.std.specs.Option.{option_and_then, option_map}
 use Rattle.std.specs.Str.{bytes_eq}
 use Rattle.rustc_lexer.specs.declared.edition.Edition.{Edition}
+use Rattle.rustc_lexer.specs.declared.edition.Edition.TheVariants.{E2024}
 use Rattle.rustc_lexer.specs.LanguageIn.{edition_of}
 use Rattle.highlight_run.specs.declared.job.Job.{Job}
 use Rattle.highlight_run.specs.declared.job.Job.TheVariants.{Show, Help}
@@ -58,9 +59,9 @@ coloured (Some Never) colours = false
 abbrev pub style_of : Options → Bool → Style
 style_of options colours = if options.html then Html else (if coloured options.color colours then Colours else NoColours)
 
--- to show a text by options
+-- to show a text by options: where no edition is named it is the newest one
 abbrev pub show : Bool → Options → Job
-show colours options = Show (style_of options colours) options.edition
+show colours options = Show (style_of options colours) (unwrap_or options.edition E2024)
 
 abbrev pub is_help : List (List ℕ) → Bool
 is_help (word ∷ []) = bytes_eq word (codes "--help")

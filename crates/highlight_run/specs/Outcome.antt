@@ -10,7 +10,7 @@ use Rattle.highlight_run.specs.declared.style.Style.{Style}
 use Rattle.highlight_run.specs.Page.{printed}
 
 -- all that is written of the bytes, or why nothing is: they are too many, or no text
-unfoldable pub outcome : Style → Option Edition → List ℕ → Result (List ℕ) Stop
+unfoldable pub outcome : Style → Edition → List ℕ → Result (List ℕ) Stop
 outcome style edition bytes = if nat_le (2 ^ 32) (length bytes) then Err TooLong else (if not (is_utf8 bytes) then Err NotUtf8 else Ok (printed style edition bytes))
 
 -- how a run ends that comes to this outcome, and what goes out: at Ok all of the text; where the writer failed or nobody

@@ -4,7 +4,7 @@ use Rattle.rustc_lexer.specs.declared.edition.Edition.{Edition}
 use Rattle.rustc_lexer.specs.declared.token.Token.{Token}
 use Rattle.rustc_lexer.specs.declared.token.TokenKind.{TokenKind}
 use Rattle.rustc_lexer.specs.means.Shebang.{shebang}
-use Rattle.rustc_lexer.specs.LanguageText.{document, part}
+use Rattle.rustc_lexer.specs.LanguageText.{document}
 use Rattle.rustc_lexer.specs.Tokens.{tokens_of}
 use Rattle.highlight_run.specs.declared.class.Class.{Class}
 use Rattle.highlight_run.specs.declared.class.Class.TheVariants.{Comment}
@@ -46,21 +46,16 @@ abbrev pub past_line : Option ℕ → List ℕ → List ℕ
 past_line None text = text
 past_line (Some len) text = drop len text
 
--- the tokens of a text: those of a part in an edition, or, where none is named, those of a document
-abbrev pub tokens_for : Option Edition → List ℕ → List Token
-tokens_for None text = tokens_of document text
-tokens_for (Some edition) text = tokens_of (part edition) text
-
--- a whole text: its shebang line, and the tokens of what follows
-abbrev pub text_parts : Style → Option Edition → List ℕ → List Part
-text_parts style edition text = line_parts style (shebang text) text ++ parts style (past_line (shebang text) text) (tokens_for edition (past_line (shebang text) text))
+-- a whole text: its shebang line, and the tokens of what follows, which is a document in an edition
+abbrev pub text_parts : Style → Edition → List ℕ → List Part
+text_parts style edition text = line_parts style (shebang text) text ++ parts style (past_line (shebang text) text) (tokens_of (document edition) (past_line (shebang text) text))
 
 -- each token of a text between its marks, as it is written
 abbrev pub marked_tokens : Style → List ℕ → List Token → List ℕ
 marked_tokens style text tokens = with_marks style (parts style text tokens)
 
 -- the same of a whole text
-abbrev pub marked : Style → Option Edition → List ℕ → List ℕ
+abbrev pub marked : Style → Edition → List ℕ → List ℕ
 marked style edition text = with_marks style (text_parts style edition text)
 
 -- what stands before the text: in a page its head, in a terminal nothing
@@ -74,5 +69,5 @@ foot Html = FOOT.now
 foot style = []
 
 -- all that is written of a text
-abbrev pub printed : Style → Option Edition → List ℕ → List ℕ
+abbrev pub printed : Style → Edition → List ℕ → List ℕ
 printed style edition text = head style ++ (marked style edition text ++ foot style)

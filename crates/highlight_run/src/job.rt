@@ -9,12 +9,8 @@ use std::str::FromStr;
 /// What a run is to do.
 #[derive(Clone, Copy, Debug, PartialEq, Eq)]
 pub enum Job {
-    /// Write the text of standard input in a style, by the tokens of an edition. Where none is
-    /// named they are those of the newest one, and a frontmatter may stand in front.
-    Show {
-        style: Style,
-        edition: Option<Edition>,
-    },
+    /// Write the text of standard input in a style, by the tokens of an edition. A frontmatter may stand in front.
+    Show { style: Style, edition: Edition },
     /// Say what the program takes.
     Help,
 }
@@ -43,8 +39,8 @@ const NO_OPTIONS: Options = Options {
     color: None,
 };
 
-/// The job that the words after the program's name ask for, or `None` where they ask for none. `colours` says
-/// whether the output is a terminal that takes colours.
+/// The job that the words after the program's name ask for, or `None` where they ask for none. Where they name no
+/// edition it is the newest one. `colours` says whether the output is a terminal that takes colours.
 pub fn read_job(words: &[String], colours: bool) -> Option<Job>
     ensures { result ≡ job_of (map string_bytes words.now) colours }
 {
@@ -54,7 +50,7 @@ pub fn read_job(words: &[String], colours: bool) -> Option<Job>
     let options = read_options(NO_OPTIONS, words)?;
     Some(Job::Show {
         style: style_of(options, colours),
-        edition: options.edition,
+        edition: options.edition.unwrap_or(Edition::E2024),
     })
 }
 

@@ -2,10 +2,10 @@
 ghost use Rattle.std.specs.Prelude.{◌≡◌, OnOk};
 ghost use Rattle.std.specs.Fmt.{WritesInCalls};
 ghost use Rattle.rustc_lexer.specs.Classes.{Fits};
-ghost use Rattle.rustc_lexer.specs.LanguageText.{document, part};
+ghost use Rattle.rustc_lexer.specs.LanguageText.{document};
 ghost use Rattle.rustc_lexer.specs.Tokens.{tokens_of};
 ghost use Rattle.highlight_run.specs.Escape.{unescaped, untagged};
-ghost use Rattle.highlight_run.specs.Page.{foot, head, marked, marked_tokens, printed, text_parts, token_parts, tokens_for};
+ghost use Rattle.highlight_run.specs.Page.{foot, head, marked, marked_tokens, printed, text_parts, token_parts};
 ghost use Rattle.highlight_run.specs.Part.{with_marks, without_marks};
 
 use crate::class::{Class, class_of};
@@ -13,7 +13,7 @@ use crate::fault::fault_of;
 use crate::literal::{mode_of, write_literal};
 use crate::part::{write_in_class, write_with_fault};
 use crate::style::Style;
-use rustc_lexer::{Edition, FrontmatterAllowed, TokenKind, strip_shebang, tokenize, tokenize_in};
+use rustc_lexer::{Edition, FrontmatterAllowed, TokenKind, strip_shebang, tokenize_as};
 use std::fmt;
 
 /// What stands in a page before the text. A page drops the newline past `<pre>`.
@@ -62,7 +62,7 @@ const FOOT: &str = "</pre>
 /// Writes a whole text between marks, as a page where the style is that of pages.
 pub fn write_text<W: fmt::Write>(
     style: Style,
-    edition: Option<Edition>,
+    edition: Edition,
     text: &str,
     output: &mut W,
 ) -> fmt::Result
@@ -104,7 +104,7 @@ fn foot(style: Style) -> &'static str
 #[tactic(auto, using(crate::proofs::PageLemmas::text_is, crate::proofs::PageLemmas::page_is, crate::proofs::PageLemmas::writes_past))]
 pub fn write_marked<W: fmt::Write>(
     style: Style,
-    edition: Option<Edition>,
+    edition: Edition,
     text: &str,
     output: &mut W,
 ) -> fmt::Result
@@ -115,47 +115,14 @@ pub fn write_marked<W: fmt::Write>(
     ensures page { unescaped (untagged (marked Style.Html edition text.now)) ≡ text.now }
 {
     let Some(end) = strip_shebang(text) else {
-        return write_code(style, edition, text, output);
+        return write_tokens(style, edition, text, output);
     };
     write_in_class(style, Class::Comment, &text[..end], output)?;
-    write_code(style, edition, &text[end..], output)
+    write_tokens(style, edition, &text[end..], output)
 }
 
-/// Writes the tokens of a text, each between its marks: those of an edition, or, where none is
-/// named, those of the newest one, with a frontmatter allowed.
-fn write_code<W: fmt::Write>(
-    style: Style,
-    edition: Option<Edition>,
-    text: &str,
-    output: &mut W,
-) -> fmt::Result
-    requires fits { Fits text.now }
-    ensures { OnOk result (WritesInCalls W.write_str_gives output.old
-        (marked_tokens style text.now (tokens_for edition text.now)) output.new) }
-{
-    match edition {
-        None => write_tokens(style, text, output),
-        Some(edition) => write_tokens_in(style, edition, text, output),
-    }
-}
-
-/// Writes the tokens of a text that a frontmatter may stand in front of.
-fn write_tokens<W: fmt::Write>(style: Style, text: &str, output: &mut W) -> fmt::Result
-    requires fits { Fits text.now }
-    ensures { OnOk result (WritesInCalls W.write_str_gives output.old
-        (marked_tokens style text.now (tokens_of document text.now)) output.new) }
-{
-    let mut start = 0;
-    for token in tokenize(text, FrontmatterAllowed::Yes) {
-        let end = start + token.len as usize;
-        write_token(style, token.kind, &text[start..end], output)?;
-        start = end;
-    }
-    Ok(())
-}
-
-/// Writes the tokens of a text in an edition.
-fn write_tokens_in<W: fmt::Write>(
+/// Writes the tokens of a text in an edition, each between its marks. A frontmatter may stand in front.
+fn write_tokens<W: fmt::Write>(
     style: Style,
     edition: Edition,
     text: &str,
@@ -163,10 +130,10 @@ fn write_tokens_in<W: fmt::Write>(
 ) -> fmt::Result
     requires fits { Fits text.now }
     ensures { OnOk result (WritesInCalls W.write_str_gives output.old
-        (marked_tokens style text.now (tokens_of (part edition) text.now)) output.new) }
+        (marked_tokens style text.now (tokens_of (document edition) text.now)) output.new) }
 {
     let mut start = 0;
-    for token in tokenize_in(text, edition) {
+    for token in tokenize_as(text, FrontmatterAllowed::Yes, edition) {
         let end = start + token.len as usize;
         write_token(style, token.kind, &text[start..end], output)?;
         start = end;

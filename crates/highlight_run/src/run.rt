@@ -22,7 +22,7 @@ use std::io::{Read, Write};
 pub fn run<R: Read, W: Write>(
     alloc: Global,
     style: Style,
-    edition: Option<Edition>,
+    edition: Edition,
     input: &mut Watched<R>,
     output: &mut Watched<W>,
 ) -> Result<(), Stop>
@@ -52,12 +52,7 @@ pub fn run<R: Read, W: Write>(
 }
 
 /// All that is written of the text.
-fn print(
-    alloc: Global,
-    style: Style,
-    edition: Option<Edition>,
-    text: &str,
-) -> Result<String, fmt::Error>
+fn print(alloc: Global, style: Style, edition: Edition, text: &str) -> Result<String, fmt::Error>
     requires { Fits text.now }
     ensures { IfOk result (λ made. string_bytes made ≡ printed style edition text.now) }
 {

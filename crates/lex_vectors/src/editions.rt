@@ -1,5 +1,6 @@
 //! The tokens of a text in each edition, and what names an edition.
-use crate::rows::{are, is_lexed_in};
+use crate::rows::{are, is_document_in, is_lexed_in};
+use crate::tables::frontmatter::FRONT;
 use crate::tables::kinds::{BAD_LIFETIME, LIFETIME, OPEN_STR, STR};
 use crate::tables::row::literal;
 use rustc_lexer::TokenKind::{
@@ -86,17 +87,77 @@ static ROWS: &[Row] = &[
     },
 ];
 
+/// The same of texts that a frontmatter stands in front of.
+static DOCUMENTS: &[Row] = &[
+    Row {
+        text: "---\n---\n'r#a #\"x\"",
+        of_2024: &[
+            (FRONT, 7),
+            SPACE,
+            (RawLifetime, 4),
+            SPACE,
+            (GuardedStrPrefix, 2),
+            (UnknownPrefix, 1),
+            literal!(OPEN_STR, 1),
+        ],
+        of_2021: &[
+            (FRONT, 7),
+            SPACE,
+            (RawLifetime, 4),
+            SPACE,
+            HASH,
+            literal!(STR, 3),
+        ],
+        older: &[
+            (FRONT, 7),
+            SPACE,
+            (LIFETIME, 2),
+            HASH,
+            LETTER,
+            SPACE,
+            HASH,
+            literal!(STR, 3),
+        ],
+    },
+    Row {
+        text: "\n---\n---\nk#",
+        of_2024: &[SPACE, (FRONT, 7), SPACE, (UnknownPrefix, 1), HASH],
+        of_2021: &[SPACE, (FRONT, 7), SPACE, (UnknownPrefix, 1), HASH],
+        older: &[SPACE, (FRONT, 7), SPACE, LETTER, HASH],
+    },
+];
+
+impl Row {
+    /// Each edition with the tokens of the text in it.
+    fn tokens(self) -> [(Edition, &'static [(TokenKind, u32)]); 4] {
+        [
+            (Edition::E2024, self.of_2024),
+            (Edition::E2021, self.of_2021),
+            (Edition::E2018, self.older),
+            (Edition::E2015, self.older),
+        ]
+    }
+}
+
 #[test]
 fn tokens_in_each_edition(rt: HostRuntime) {
     for row in ROWS {
-        for (edition, tokens) in [
-            (Edition::E2024, row.of_2024),
-            (Edition::E2021, row.of_2021),
-            (Edition::E2018, row.older),
-            (Edition::E2015, row.older),
-        ] {
+        for (edition, tokens) in row.tokens() {
             assert!(rt;
                 is_lexed_in(row.text, edition, tokens),
+                "in {:?}, {edition:?}",
+                row.text
+            );
+        }
+    }
+}
+
+#[test]
+fn documents_in_each_edition(rt: HostRuntime) {
+    for row in ROWS.iter().chain(DOCUMENTS) {
+        for (edition, tokens) in row.tokens() {
+            assert!(rt;
+                is_document_in(row.text, edition, tokens),
                 "in {:?}, {edition:?}",
                 row.text
             );

@@ -1,11 +1,8 @@
 //! Whether a text gives the tokens of its row, by each way to ask for them. What is told of a row is a `bool`, and one
 //! assertion names the row that does not hold: a check of many assertions takes the prover long.
-ghost use Rattle.std.specs.Prelude.{◌≤◌, length};
-
 use crate::tables::row::Row;
 use rustc_lexer::{
-    Edition, EditionTokens, FrontmatterAllowed, Token, TokenKind, Tokens, fits, tokenize,
-    tokenize_in,
+    Edition, FrontmatterAllowed, Token, TokenKind, Tokens, fits, tokenize, tokenize_as, tokenize_in,
 };
 use std::process::Abort;
 
@@ -39,6 +36,15 @@ pub fn is_lexed_in(text: &str, edition: Edition, tokens: &[(TokenKind, u32)]) ->
         && fills(tokenize_in(text, edition), [1, 3], tokens)
 }
 
+/// Whether the document gives these tokens in the edition, and no others.
+pub fn is_document_in(text: &str, edition: Edition, tokens: &[(TokenKind, u32)]) -> bool {
+    let allowed = FrontmatterAllowed::Yes;
+    fits(text)
+        && gives(tokenize_as(text, allowed, edition), tokens)
+        && fills(tokenize_as(text, allowed, edition), [ROOM, ROOM], tokens)
+        && fills(tokenize_as(text, allowed, edition), [1, 3], tokens)
+}
+
 /// Whether these are the tokens, by kind and length.
 pub fn are(tokens: &[Token], wanted: &[(TokenKind, u32)]) -> bool {
     for (token, (kind, len)) in tokens.iter().zip(wanted) {
@@ -52,65 +58,24 @@ pub fn are(tokens: &[Token], wanted: &[(TokenKind, u32)]) -> bool {
 /// How many tokens the longest room has, which is longer than each row.
 const ROOM: usize = 64;
 
-/// Tokens that come one by one, or many at once into a room.
-trait Source: Drop {
-    /// The next token.
-    fn next_token(&mut self) -> Option<Token>;
-
-    /// The text that is left.
-    fn left(&self) -> &str;
-
-    /// Writes the next tokens into the room, and answers their number.
-    fn fill_room(&mut self, room: &mut [Token]) -> usize
-        ensures { result ≤ length room.old };
-}
-
-impl<'a> Source for Tokens<'a> {
-    fn next_token(&mut self) -> Option<Token> {
-        self.next()
-    }
-
-    fn left(&self) -> &str {
-        self.as_str()
-    }
-
-    fn fill_room(&mut self, room: &mut [Token]) -> usize {
-        self.fill(room)
-    }
-}
-
-impl<'a> Source for EditionTokens<'a> {
-    fn next_token(&mut self) -> Option<Token> {
-        self.next()
-    }
-
-    fn left(&self) -> &str {
-        self.as_str()
-    }
-
-    fn fill_room(&mut self, room: &mut [Token]) -> usize {
-        self.fill(room)
-    }
-}
-
 /// Whether these tokens come one by one, and no others, and nothing is left then.
-fn gives<S: Source>(source: S, wanted: &[(TokenKind, u32)]) -> bool {
-    let mut source = source;
+fn gives(tokens: Tokens<'_>, wanted: &[(TokenKind, u32)]) -> bool {
+    let mut tokens = tokens;
     for (kind, len) in wanted {
         let token = Token {
             kind: *kind,
             len: *len,
         };
-        if source.next_token() != Some(token) {
+        if tokens.next() != Some(token) {
             return false;
         }
     }
-    source.left().is_empty() && source.next_token().is_none() && source.next_token().is_none()
+    tokens.as_str().is_empty() && tokens.next().is_none() && tokens.next().is_none()
 }
 
 /// Whether these tokens and no others are written into a room of the one length and of the other in turns.
-fn fills<S: Source>(source: S, lengths: [usize; 2], wanted: &[(TokenKind, u32)]) -> bool {
-    let mut source = source;
+fn fills(tokens: Tokens<'_>, lengths: [usize; 2], wanted: &[(TokenKind, u32)]) -> bool {
+    let mut tokens = tokens;
     let mut room = [Token {
         kind: TokenKind::Eof,
         len: 0,
@@ -118,7 +83,7 @@ fn fills<S: Source>(source: S, lengths: [usize; 2], wanted: &[(TokenKind, u32)])
     let mut left = wanted;
     for turn in 0..=wanted.len() {
         let length = lengths[turn % 2].min(ROOM);
-        let count = source.fill_room(&mut room[..length]);
+        let count = tokens.fill(&mut room[..length]);
         if count != length.min(left.len()) {
             return false;
         }

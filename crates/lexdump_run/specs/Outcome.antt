@@ -47,7 +47,7 @@ listed edition (Err fault) = Err fault
 -- what is printed of a text, or why nothing is
 abbrev pub printed : Job → List ℕ → Result (List ℕ) Fault
 printed (Plain edition) text = listed edition (Ok text)
-printed Front text = Ok (listing (tokens_of document text))
+printed (Front edition) text = Ok (listing (tokens_of (document edition) text))
 printed Shebang text = Ok (shebang_line (shebang text))
 printed (Edit edition edits) text = listed edition (edited_from 0 text edits.items)
 

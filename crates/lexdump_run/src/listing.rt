@@ -5,7 +5,7 @@ ghost use Rattle.lexdump_run.specs.Pushed.{Pushes};
 ghost use Rattle.lexdump_run.specs.Rest.{field_text, fields_shown, IsRest};
 ghost use Rattle.lexdump_run.specs.Outcome.{edited_from, listed, IsRefused};
 ghost use Rattle.rustc_lexer.specs.Classes.{Fits};
-ghost use Rattle.rustc_lexer.specs.LanguageText.{mode_of, part};
+ghost use Rattle.rustc_lexer.specs.LanguageText.{mode_in};
 ghost use Rattle.rustc_lexer.specs.means.Shebang.{shebang};
 ghost use Rattle.rustc_lexer.specs.Tokens.{bound, tokens_of};
 
@@ -15,7 +15,7 @@ use ends::Watched;
 use itoa::write_digits;
 use rustc_lexer::{
     Base, DocStyle, Edit, Edition, FrontmatterAllowed, LexedText, LiteralKind, Stepper, Steps,
-    Token, TokenKind, strip_shebang, tokenize, tokenize_in,
+    Token, TokenKind, strip_shebang, tokenize_as,
 };
 use std::alloc::Global;
 use std::io::Write;
@@ -31,44 +31,22 @@ fn new_room() -> [Token; ROOM] {
     }; ROOM]
 }
 
-/// Lists the tokens of a text, which has at most `u32::MAX` bytes.
+/// Lists the tokens of a text, which has at most `u32::MAX` bytes, in an edition.
 pub fn list_tokens<W: Write>(
     lines: &mut Block,
     output: &mut Watched<W>,
     text: &str,
     frontmatter_allowed: FrontmatterAllowed,
-) -> Result<(), Fault>
-    requires fits { Fits text.now }
-    requires writes { output.old.failed ≡ false }
-    ensures failed { output.new.failed ≡ is_err result }
-    ensures pushed { Pushes (W.contents output.old.inner) (W.contents output.new.inner)
-        lines.old lines.new (listing (tokens_of (mode_of frontmatter_allowed) text.now)) result }
-{
-    let mut room = new_room();
-    let mut tokens = tokenize(text, frontmatter_allowed);
-    'left: while !tokens.as_str().is_empty() {
-        let start = text.len() - tokens.as_str().len();
-        let count = tokens.fill(&mut room);
-        push_lines(lines, output, start as u32, &room[..count])?;
-    }
-    Ok(())
-}
-
-/// Lists the tokens of a text in an edition.
-pub fn list_tokens_in<W: Write>(
-    lines: &mut Block,
-    output: &mut Watched<W>,
-    text: &str,
     edition: Edition,
 ) -> Result<(), Fault>
     requires fits { Fits text.now }
     requires writes { output.old.failed ≡ false }
     ensures failed { output.new.failed ≡ is_err result }
     ensures pushed { Pushes (W.contents output.old.inner) (W.contents output.new.inner)
-        lines.old lines.new (listing (tokens_of (part edition) text.now)) result }
+        lines.old lines.new (listing (tokens_of (mode_in frontmatter_allowed edition) text.now)) result }
 {
     let mut room = new_room();
-    let mut tokens = tokenize_in(text, edition);
+    let mut tokens = tokenize_as(text, frontmatter_allowed, edition);
     'left: while !tokens.as_str().is_empty() {
         let start = text.len() - tokens.as_str().len();
         let count = tokens.fill(&mut room);

@@ -8,7 +8,7 @@ ghost use Rattle.lexdump_run.specs.Pushed.{Prints};
 
 use crate::fault::Fault;
 use crate::job::Job;
-use crate::listing::{edited, list_pieces, list_tokens, list_tokens_in, tell_shebang};
+use crate::listing::{edited, list_pieces, list_tokens, tell_shebang};
 use crate::output::Block;
 use ends::{Watched, read_all};
 use rustc_lexer::FrontmatterAllowed;
@@ -68,8 +68,12 @@ fn print<W: Write>(
         lines.old lines.new result (printed job.now text.now) }
 {
     match job {
-        Job::Plain { edition } => list_tokens_in(lines, output, text, *edition),
-        Job::Front => list_tokens(lines, output, text, FrontmatterAllowed::Yes),
+        Job::Plain { edition } => {
+            list_tokens(lines, output, text, FrontmatterAllowed::No, *edition)
+        }
+        Job::Front { edition } => {
+            list_tokens(lines, output, text, FrontmatterAllowed::Yes, *edition)
+        }
         Job::Shebang => tell_shebang(lines, output, text),
         Job::Edit { edition, edits } => {
             let lexed = edited(alloc, text, *edition, edits.as_slice())?;

@@ -7,18 +7,19 @@ use Rattle.std.proofs.lemmas.Str.{IsCharBoundary-from_drop}
 use Rattle.std.proofs.Math.Nat.{min-eq_left, min-eq_right, min-le_right}
 use Rattle.rustc_lexer.specs.declared.token.Token.{Token}
 use Rattle.rustc_lexer.specs.declared.edition.Edition.{Edition}
-use Rattle.rustc_lexer.specs.declared.edition.Edition.TheVariants.{E2024}
+use Rattle.rustc_lexer.specs.declared.token.FrontmatterAllowed.{FrontmatterAllowed}
+use Rattle.rustc_lexer.specs.declared.token.FrontmatterAllowed.TheVariants.{Yes, No}
 use Rattle.rustc_lexer.specs.Bulk.{IsFilled, IsFilledTo, state_past}
 use Rattle.rustc_lexer.specs.Tokens.{bound, tokens_by, tokens_of, tokens_left, Partitions, TakesToken}
 use Rattle.rustc_lexer.specs.State.{State}
 use Rattle.rustc_lexer.specs.Locality.{IsText, IsGrammar}
-use Rattle.rustc_lexer.specs.LanguageText.{Mode, part}
-use Rattle.rustc_lexer.specs.means.Lexeme.{first_token}
-use Rattle.rustc_lexer.specs.means.Taking.{advance}
-use Rattle.rustc_lexer.specs.laws.Lookahead.{first_token_grammar}
+use Rattle.rustc_lexer.specs.LanguageText.{Mode, document, part, mode_after, mode_edition, mode_in}
+use Rattle.rustc_lexer.specs.means.Edition.{first_token_in}
+use Rattle.rustc_lexer.specs.means.Taking.{token_at, advance_by, advance}
+use Rattle.rustc_lexer.specs.laws.Edition.{edition_grammar}
 use Rattle.rustc_lexer.proofs.CutLemmas.{IsCutAt, at_bound, tokens-cons, tokens-nil}
 use Rattle.rustc_lexer.proofs.ProgressLemmas.{IsNext, IsPlace, next-from_drop}
-use Rattle.rustc_lexer.proofs.StateLemmas.{state, past_token, advance-some}
+use Rattle.rustc_lexer.proofs.StateLemmas.{state, past_token, edition-after, advance-some}
 use Rattle.rustc_lexer.proofs.TokensLemmas.{partitions, restarts}
 
 -- the first `count` tokens are written, and the rest of the room is as it was
@@ -141,30 +142,67 @@ filled_all {first} law written text is end whole room filled count to = record {
 
 -- ---- the state past some tokens, where no frontmatter is allowed
 
-pub plain_state : (s : State) (text : List ℕ) → s.pending ≡ 0 → s.rest ≡ text → s.mode ≡ part E2024 → s ≡ state 0 text (part E2024)
-plain_state s text p r a = ap (λ n. state n s.rest s.mode) p ∙ (ap (λ xs. state 0 xs s.mode) r ∙ ap (state 0 text) a)
+pub plain_state : (edition : Edition) (s : State) (text : List ℕ) → s.pending ≡ 0 → s.rest ≡ text → s.mode ≡ part edition → s ≡ state 0 text (part edition)
+plain_state edition s text p r a = ap (λ n. state n s.rest s.mode) p ∙ (ap (λ xs. state 0 xs s.mode) r ∙ ap (state 0 text) a)
 
-pub state_past-no : (text : List ℕ) → IsText text → (s : State) → s ≡ state 0 text (part E2024) → (count : ℕ) → count ≤ length (tokens_of (part E2024) text) → state_past count s ≡ state 0 (drop (bound (tokens_of (part E2024) text) count) text) (part E2024)
-state_past-no text is s e zero few = e
-state_past-no text is s e (suc count) few =
-    let all : List Token = tokens_of (part E2024) text in
-    let by : all ≡ tokens_by first_token text = refl in
+pub state_past-no : (edition : Edition) (text : List ℕ) → IsText text → (s : State) → s ≡ state 0 text (part edition) → (count : ℕ) → count ≤ length (tokens_of (part edition) text) → state_past count s ≡ state 0 (drop (bound (tokens_of (part edition) text) count) text) (part edition)
+state_past-no edition text is s e zero few = e
+state_past-no edition text is s e (suc count) few =
+    let first : List ℕ → Token = first_token_in edition in
+    let all : List Token = tokens_of (part edition) text in
     let at : ℕ = bound all count in
-    let place : at ≡ bound (tokens_by first_token text) count = ap (λ ts. bound ts count) by in
     let rest : List ℕ = drop at text in
-    let more : at < length text = some_left text is count at place (let n : length all ≡ length (tokens_by first_token text) = ap length by in omega arith) in
+    let more : at < length text = some_left text is count at refl (omega arith) in
     let some : (length rest == 0) ≡ false = ne_eqb (length rest) 0 (λ none. omega (arith, length-drop at text)) in
-    let ih : state_past count s ≡ state 0 rest (part E2024) = state_past-no text is s e count (omega arith) in
-    let taken : (advance (state 0 rest (part E2024))).1 ≡ past_token rest (part E2024) (first_token rest) = ap (λ (r : Token × State). r.1) (advance-some 0 rest (part E2024) (state 0 rest (part E2024)) refl some) in
+    let ih : state_past count s ≡ state 0 rest (part edition) = state_past-no edition text is s e count (omega arith) in
+    let taken : (advance (state 0 rest (part edition))).1 ≡ past_token rest (part edition) (first rest) = ap (λ (r : Token × State). r.1) (advance-some 0 rest (part edition) (state 0 rest (part edition)) refl some) in
     let one : count + 1 ≡ suc count = omega arith in
-    let far : at + (first_token rest).len ≡ bound all (suc count) = next_place first_token_grammar text is count at place more ∙ (ap (bound (tokens_by first_token text)) one ∙ ap (λ ts. bound ts (suc count)) (sym by)) in
-    ap (λ (x : State). (advance x).1) ih ∙ (taken ∙ ap (λ xs. state 0 xs (part E2024)) (drop-drop (first_token rest).len at text ∙ ap (λ n. drop n text) far))
+    let far : at + (first rest).len ≡ bound all (suc count) = next_place (edition_grammar edition) text is count at refl more ∙ ap (bound all) one in
+    ap (λ (x : State). (advance x).1) ih ∙ (taken ∙ ap (λ xs. state 0 xs (part edition)) (drop-drop (first rest).len at text ∙ ap (λ n. drop n text) far))
   where
-    some_left : (text : List ℕ) → IsText text → (count at : ℕ) → at ≡ bound (tokens_by first_token text) count → count < length (tokens_by first_token text) → at < length text
+    some_left : (text : List ℕ) → IsText text → (count at : ℕ) → at ≡ bound (tokens_by (first_token_in edition) text) count → count < length (tokens_by (first_token_in edition) text) → at < length text
     some_left text is count at place few = elim (cases_lt at (length text)) [
       | inl near ↦ near
-      | inr far ↦ absurd (let o = over first_token_grammar text is count at place far in omega arith)
+      | inr far ↦ absurd (let o = over (edition_grammar edition) text is count at place far in omega arith)
     ]
+
+-- the edition stays, and past a part a part is left
+edition-advanced : (rest : List ℕ) (s : State) → mode_edition (advance_by rest s).1.mode ≡ mode_edition s.mode
+edition-advanced [] s = refl
+edition-advanced (b ∷ bs) s = edition-after s.mode (token_at s.mode s.rest).kind
+
+pub edition-stays : (count : ℕ) (s : State) → mode_edition (state_past count s).mode ≡ mode_edition s.mode
+unfolding advance
+edition-stays zero s = refl
+edition-stays (suc count) s = edition-advanced (state_past count s).rest (state_past count s) ∙ edition-stays count s
+
+abbrev IsInPart : Edition → State → Type 0
+IsInPart edition s = (s.pending ≡ 0) × (s.mode ≡ part edition)
+
+part-advanced : (edition : Edition) (rest : List ℕ) (s : State) → IsInPart edition s → IsInPart edition (advance_by rest s).1
+part-advanced edition [] s is = is
+part-advanced edition (b ∷ bs) s is = (refl, ap (λ (m : Mode). mode_after m (token_at s.mode s.rest).kind) is.1)
+
+part-stays : (edition : Edition) (count : ℕ) (s : State) → IsInPart edition s → IsInPart edition (state_past count s)
+unfolding advance
+part-stays edition zero s is = is
+part-stays edition (suc count) s is = part-advanced edition (state_past count s).rest (state_past count s) (part-stays edition count s is)
+
+pub part-left : (s t : State) (count : ℕ) (rest : List ℕ) → s.pending ≡ 0 → t ≡ state_past count s → t.rest ≡ rest → s.mode ≡ part (mode_edition s.mode) → t ≡ state s.pending rest s.mode
+part-left s t count rest none past cut is =
+    let there = part-stays (mode_edition s.mode) count s (none, is) in
+    ap (λ n. state n t.rest t.mode) (ap (λ (x : State). x.pending) past ∙ (there.0 ∙ sym none))
+    ∙ (ap (λ xs. state s.pending xs t.mode) cut ∙ ap (state s.pending rest) (ap (λ (x : State). x.mode) past ∙ (there.1 ∙ sym is)))
+
+-- how an iterator reads is told by the flag and the edition that it holds
+pub mode-held : (allowed : FrontmatterAllowed) (edition : Edition) (mode : Mode) → mode_in allowed edition ≡ mode → mode ≡ mode_in allowed (mode_edition mode)
+mode-held Yes edition mode e = sym e ∙ ap document (ap mode_edition e)
+mode-held No edition mode e = sym e ∙ ap part (ap mode_edition e)
+
+-- and a part is one of the edition that it holds
+pub edition-held : (allowed : FrontmatterAllowed) (edition : Edition) (mode : Mode) → mode_in allowed edition ≡ mode → mode ≡ part (mode_edition mode) → mode ≡ part edition
+edition-held Yes edition mode e is = is ∙ ap (λ (m : Mode). part (mode_edition m)) (sym e)
+edition-held No edition mode e is = sym e
 
 -- each token has a byte at least
 pub count_bound : (tokens : List Token) → All (λ t. 0 < t.len) tokens → (count : ℕ) → count ≤ length tokens → count ≤ bound tokens count
@@ -200,43 +238,22 @@ pub record Fills {X : Type 0} (written : Token → X) (s t : State) (room filled
   pub rest : t.rest ≡ drop (bound (tokens_left s) count) s.rest
   pub progress : 0 < length room → 0 < length s.rest → length t.rest < length s.rest
 
-pub fills : {X : Type 0} (written : Token → X) (s t : State) (text : List ℕ) → IsText text → text ≡ s.rest → s.pending ≡ 0 → s.mode ≡ part E2024 → (room filled : List X) (count bytes : ℕ)
-    → IsFilled written (tokens_of (part E2024) text) room filled count → bytes ≡ bound (tokens_of (part E2024) text) count → t ≡ state 0 (drop bytes s.rest) s.mode → Fills written s t room filled count
-fills written s t text is e pending none room filled count bytes filling at after =
-    let all : tokens_of (part E2024) text ≡ tokens_left s = ap (tokens_of (part E2024)) e ∙ ap (λ (a : Mode). tokens_of a s.rest) (sym none) in
+pub fills : {X : Type 0} (written : Token → X) (edition : Edition) (s t : State) (text : List ℕ) → IsText text → text ≡ s.rest → s.pending ≡ 0 → s.mode ≡ part edition → (room filled : List X) (count bytes : ℕ)
+    → IsFilled written (tokens_of (part edition) text) room filled count → bytes ≡ bound (tokens_of (part edition) text) count → t ≡ state 0 (drop bytes s.rest) s.mode → Fills written s t room filled count
+fills written edition s t text is e pending none room filled count bytes filling at after =
+    let all : tokens_of (part edition) text ≡ tokens_left s = ap (tokens_of (part edition)) e ∙ ap (λ (a : Mode). tokens_of a s.rest) (sym none) in
     let whole : IsText s.rest = subst IsText e is in
     let here : IsFilled written (tokens_left s) room filled count = subst (λ (ts : List Token). IsFilled written ts room filled count) all filling in
-    let no : tokens_left s ≡ tokens_of (part E2024) s.rest = ap (λ (a : Mode). tokens_of a s.rest) none in
-    let few : count ≤ length (tokens_of (part E2024) s.rest) = omega (arith, here.as_many, min-le_right (length room) (length (tokens_left s)), ap length no) in
-    let end : bytes ≡ bound (tokens_of (part E2024) s.rest) count = at ∙ ap (λ (ts : List Token). bound ts count) (all ∙ no) in
-    let past : t ≡ state 0 (drop (bound (tokens_of (part E2024) s.rest) count) s.rest) (part E2024) = after ∙ (ap (λ n. state 0 (drop n s.rest) s.mode) end ∙ ap (λ (a : Mode). state 0 (drop (bound (tokens_of (part E2024) s.rest) count) s.rest) a) none) in
+    let no : tokens_left s ≡ tokens_of (part edition) s.rest = ap (λ (a : Mode). tokens_of a s.rest) none in
+    let few : count ≤ length (tokens_of (part edition) s.rest) = omega (arith, here.as_many, min-le_right (length room) (length (tokens_left s)), ap length no) in
+    let end : bytes ≡ bound (tokens_of (part edition) s.rest) count = at ∙ ap (λ (ts : List Token). bound ts count) (all ∙ no) in
+    let past : t ≡ state 0 (drop (bound (tokens_of (part edition) s.rest) count) s.rest) (part edition) = after ∙ (ap (λ n. state 0 (drop n s.rest) s.mode) end ∙ ap (λ (a : Mode). state 0 (drop (bound (tokens_of (part edition) s.rest) count) s.rest) a) none) in
     record {
       holds = here;
-      state_is = past ∙ sym (state_past-no s.rest whole s (plain_state s s.rest pending refl none) count few);
-      left = ap (λ (x : State). tokens_left x) past ∙ (restarts E2024 s.rest whole count few ∙ sym (ap (drop count) no));
+      state_is = past ∙ sym (state_past-no edition s.rest whole s (plain_state edition s s.rest pending refl none) count few);
+      left = ap (λ (x : State). tokens_left x) past ∙ (restarts edition s.rest whole count few ∙ sym (ap (drop count) no));
       rest = ap (λ (x : State). x.rest) past ∙ ap (λ (ts : List Token). drop (bound ts count) s.rest) (sym no);
-      progress = λ places some. shorter_left s.rest t.rest (tokens_of (part E2024) s.rest) (partitions s.rest (part E2024) whole) (length room) count (here.as_many ∙ ap (λ (ts : List Token). min (length room) (length ts)) no) (ap (λ (x : State). x.rest) past) places some;
-    }
-
-pub record FillsIn {X : Type 0} (written : Token → X) (s t : State) (room filled : List X) (count : ℕ) : Type 0 where
-  pub holds : IsFilled written (tokens_left s) room filled count
-  pub state_is : t ≡ state s.pending (drop (bound (tokens_left s) count) s.rest) s.mode
-  pub left : tokens_left t ≡ drop count (tokens_left s)
-  pub rest : t.rest ≡ drop (bound (tokens_left s) count) s.rest
-  pub progress : 0 < length room → 0 < length s.rest → length t.rest < length s.rest
-
-pub fills_in : {X : Type 0} (written : Token → X) (edition : Edition) (text left : List ℕ) → IsText text → (room filled : List X) (count bytes : ℕ)
-    → IsFilled written (tokens_of (part edition) text) room filled count → bytes ≡ bound (tokens_of (part edition) text) count → left ≡ drop bytes text → FillsIn written (state 0 text (part edition)) (state 0 left (part edition)) room filled count
-fills_in written edition text left is room filled count bytes filling at cut =
-    let all : List Token = tokens_of (part edition) text in
-    let few : count ≤ length all = omega (arith, filling.as_many, min-le_right (length room) (length all)) in
-    let rest : left ≡ drop (bound all count) text = cut ∙ ap (λ n. drop n text) at in
-    record {
-      holds = filling;
-      state_is = ap (λ xs. state 0 xs (part edition)) rest;
-      left = ap (tokens_of (part edition)) rest ∙ restarts edition text is count few;
-      rest = rest;
-      progress = λ places some. shorter_left text left all (partitions text (part edition) is) (length room) count filling.as_many rest places some;
+      progress = λ places some. shorter_left s.rest t.rest (tokens_of (part edition) s.rest) (partitions s.rest (part edition) whole) (length room) count (here.as_many ∙ ap (λ (ts : List Token). min (length room) (length ts)) no) (ap (λ (x : State). x.rest) past) places some;
     }
 
 -- ---- one token after another

@@ -2,6 +2,9 @@
 use Rattle.std.proofs.Common.{◌≡◌, ◌<◌, ℕ, nat_le, Bool, true, false, List, length, refl, IsCharBoundary}
 use Rattle.std.proofs.lemmas.Str.{IsCharBoundary-from_take}
 use Rattle.rustc_lexer.specs.declared.edition.Edition.{Edition}
+use Rattle.rustc_lexer.specs.declared.edition.Edition.TheVariants.{E2015, E2018, E2021, E2024}
+use Rattle.rustc_lexer.specs.declared.token.FrontmatterAllowed.{FrontmatterAllowed}
+use Rattle.rustc_lexer.specs.declared.token.FrontmatterAllowed.TheVariants.{Yes, No}
 use Rattle.rustc_lexer.specs.declared.token.Token.{Token}
 use Rattle.rustc_lexer.specs.declared.token.TokenKind.{TokenKind}
 use Rattle.rustc_lexer.specs.declared.token.TokenKind.TheVariants.{UnknownPrefix, UnknownPrefixLifetime, RawLifetime, GuardedStrPrefix, Literal, Eof}
@@ -9,7 +12,11 @@ use Rattle.rustc_lexer.specs.LanguageIn.{year}
 use Rattle.rustc_lexer.specs.laws.Choice.{by_test}
 use Rattle.rustc_lexer.specs.laws.Edition.{edition_grammar}
 use Rattle.rustc_lexer.specs.means.Edition.{token, before_2024, before_2021, changed, first_token_in}
+use Rattle.rustc_lexer.specs.LanguageText.{document, mode_in, mode_of}
 use Rattle.rustc_lexer.specs.Locality.{IsText}
+use Rattle.rustc_lexer.specs.means.Frontmatter.{frontmatter, opens}
+use Rattle.rustc_lexer.specs.means.Taking.{token_at}
+use Rattle.std.specs.Str.{chars}
 
 -- kinds that say nothing of the text of their token
 abbrev pub is_silent : TokenKind → Bool
@@ -40,3 +47,19 @@ pub boundary-of : (edition : Edition) (text : List ℕ) (token : Token) → IsTe
 boundary-of edition text token is some e =
     let law = edition_grammar edition in
     rw e (IsCharBoundary-from_take text _ is.utf8 (law.inside text is some) (law.front text is some))
+
+front-same : (edition : Edition) (text : List ℕ) → changed edition (chars text) (frontmatter text) ≡ frontmatter text
+unfolding frontmatter
+front-same E2015 text = refl
+front-same E2018 text = refl
+front-same E2021 text = refl
+front-same E2024 text = refl
+
+-- a frontmatter is the same in each edition, and what else a text begins with is changed
+pub changed-at : (allowed : FrontmatterAllowed) (edition : Edition) (text : List ℕ) → changed edition (chars text) (token_at (mode_of allowed) text) ≡ token_at (mode_in allowed edition) text
+changed-at No edition text = refl
+changed-at Yes edition text = by_opening (opens (chars text)) refl
+  where
+    by_opening : (b : Bool) → opens (chars text) ≡ b → changed edition (chars text) (token_at (document E2024) text) ≡ token_at (document edition) text
+    by_opening true e = rw e (front-same edition text)
+    by_opening false e = rw e refl

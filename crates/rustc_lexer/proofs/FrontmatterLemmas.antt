@@ -8,7 +8,6 @@ use Rattle.std.proofs.lemmas.List.{get_or-drop}
 use Rattle.std.proofs.lemmas.List.Elements.{All-nil, All-cons, All-head, All-tail}
 use Rattle.std.proofs.lemmas.Str.{encode_ascii, byte_from_char, inside_one, length-encode, len_utf8_bounds, length-le-encodes, IsCharBoundary-end, IsCharBoundary-before_ascii, IsCharBoundary-from_rest}
 use Rattle.rustc_lexer.specs.declared.edition.Edition.{Edition}
-use Rattle.rustc_lexer.specs.declared.edition.Edition.TheVariants.{E2024}
 use Rattle.rustc_lexer.specs.declared.token.Token.{Token}
 use Rattle.rustc_lexer.specs.declared.token.TokenKind.TheVariants.{Frontmatter}
 use Rattle.rustc_lexer.specs.Classes.{is_whitespace, is_id_start}
@@ -341,8 +340,8 @@ frontmatter-text text = tt
 -- what holds of the frontmatter, where one opens, and of the token of each edition holds of the token
 pub token_at-either : (P : Token → Type 0) (mode : Mode) (text : List ℕ) → ((edition : Edition) → P (first_token_in edition text)) → (opens (chars text) ≡ true → P (frontmatter text)) → P (token_at mode text)
 token_at-either P (part edition) text lexeme opened = lexeme edition
-token_at-either P document text lexeme opened = by_opening (opens (chars text)) refl
+token_at-either P (document edition) text lexeme opened = by_opening (opens (chars text)) refl
   where
-    by_opening : (b : Bool) → opens (chars text) ≡ b → P (token_at document text)
+    by_opening : (b : Bool) → opens (chars text) ≡ b → P (token_at (document edition) text)
     by_opening true e = rw e (opened e)
-    by_opening false e = rw e (lexeme E2024)
+    by_opening false e = rw e (lexeme edition)

@@ -19,7 +19,7 @@ use Rattle.rustc_lexer.specs.laws.LanguageLiterals.{bytes-append}
 use Rattle.rustc_lexer.specs.FrontmatterGrammar.{fence, IsOpeningBefore, opening, EndsAt}
 use Rattle.rustc_lexer.specs.Language.{BeginsWith}
 use Rattle.rustc_lexer.specs.LanguageIn.{IsTokenIn}
-use Rattle.rustc_lexer.specs.LanguageText.{Mode, document, part, mode_edition, mode_after, AreTokens, nothing, something, frontmatter_first}
+use Rattle.rustc_lexer.specs.LanguageText.{Mode, IsDocument, document, part, mode_edition, mode_after, AreTokens, nothing, something, frontmatter_first}
 use Rattle.rustc_lexer.specs.LanguageHolds.{AreTheOnlyTokens, HoldsTheOnlyTokens, HoldsTheOnlyTokensBy, IsDetermined, TakesTokenOf, TakesFirst}
 use Rattle.rustc_lexer.specs.Spans.{bytes}
 use Rattle.rustc_lexer.specs.means.Lexeme.{first_token}
@@ -35,16 +35,16 @@ use Rattle.rustc_lexer.proofs.TokensLemmas.{token_at-cuts, by_tokens, tokens-nil
 
 -- ---- a list that the language allows is the list of the tokens
 
-at-first : (mode : Mode) (text : List ℕ) → (mode ≡ document → opens (chars text) ≡ false) → token_at mode text ≡ first_token_in (mode_edition mode) text
+at-first : (mode : Mode) (text : List ℕ) → (IsDocument mode → opens (chars text) ≡ false) → token_at mode text ≡ first_token_in (mode_edition mode) text
 at-first (part edition) text free = refl
-at-first document text free = rw (free refl) refl
+at-first (document edition) text free = rw (free refl) refl
 
-at-frontmatter : (text : List ℕ) → opens (chars text) ≡ true → token_at document text ≡ frontmatter text
-at-frontmatter text e = rw e refl
+at-frontmatter : (edition : Edition) (text : List ℕ) → opens (chars text) ≡ true → token_at (document edition) text ≡ frontmatter text
+at-frontmatter edition text e = rw e refl
 
-after-frontmatter : (text : List ℕ) → mode_after document (frontmatter text).kind ≡ part E2024
+after-frontmatter : (edition : Edition) (text : List ℕ) → mode_after (document edition) (frontmatter text).kind ≡ part edition
 unfolding frontmatter
-after-frontmatter text = refl
+after-frontmatter edition text = refl
 
 opening-some : {next w : List ℕ} {n : ℕ} → IsOpeningBefore next n w → 1 ≤ length w
 opening-some (opening n space label spaces no_line many is stop) = omega (arith, length-append space (fence n ++ label), length-append (fence n) label, fence-length n)
@@ -97,13 +97,13 @@ tokens-read (nothing {mode}) text is e = ap (λ u. tokens_of mode u) (empty-text
 tokens-read (something {mode} {kind} {c} {w} {next} {tokens} p free rest) text is e =
     step mode text (c ∷ w) next (token kind (bytes (c ∷ w))) tokens is (omega arith) e (at-first mode text (λ y. ap opens e ∙ none-opens (c ∷ w ++ next) (free y)) ∙ token-read-in p text e) refl
     (λ u text_u f. tokens-read rest u text_u f)
-tokens-read (frontmatter_first {n} {opening = front} {next} {tokens} body is_opening is_end rest) text is e =
+tokens-read (frontmatter_first {edition} {n} {opening = front} {next} {tokens} body is_opening is_end rest) text is e =
     let len : bytes body ≡ closing_end n (encode_utf8_all (body ++ next)) = sym (ends-read (opening-dashes is_opening) is_end) in
     let r = opening-read is_opening in
     let token : Token = record { kind = Frontmatter (next_is is_whitespace front) (not (next_is (is_among (codes "\n")) (body ++ next))); len = bytes front + bytes body } in
     let whole : chars text ≡ (front ++ body) ++ next = e ∙ sym (append_assoc front body next) in
     let same : frontmatter text ≡ token = frontmatter-is text n front (body ++ next) is e is_opening ∙ ap (λ (k : ℕ). let t : Token = record { kind = Frontmatter (next_is is_whitespace front) (not (next_is (is_among (codes "\n")) (body ++ next))); len = bytes front + k } in t) (sym len) in
-    step document text (front ++ body) next token tokens is (omega (arith, opening-some is_opening, length-append front body)) whole (at-frontmatter text (ap opens e ∙ r.opens_here) ∙ same) (sym (bytes-append front body))
+    step (document edition) text (front ++ body) next token tokens is (omega (arith, opening-some is_opening, length-append front body)) whole (at-frontmatter edition text (ap opens e ∙ r.opens_here) ∙ same) (sym (bytes-append front body))
     (λ u text_u f. tokens-read rest u text_u f)
 
 -- ---- and the tokens are such a list
@@ -113,25 +113,25 @@ abbrev Puts : Mode → List ℕ → Token → Type 0
 Puts mode text t = AreTokens (mode_after mode t.kind) (chars (drop t.len text)) (tokens_of (mode_after mode t.kind) (drop t.len text)) → AreTokens mode (chars text) (t ∷ tokens_of (mode_after mode t.kind) (drop t.len text))
 
 -- a token of the characters, and the tokens of what follows it
-put : (mode : Mode) (text : List ℕ) (kind : TokenKind) (c : ℕ) (w next : List ℕ) → IsText text → c ∷ w ++ next ≡ chars text → IsTokenIn (mode_edition mode) next kind (c ∷ w) → (mode ≡ document → opens (chars text) ≡ false) → Puts mode text (token kind (bytes (c ∷ w)))
+put : (mode : Mode) (text : List ℕ) (kind : TokenKind) (c : ℕ) (w next : List ℕ) → IsText text → c ∷ w ++ next ≡ chars text → IsTokenIn (mode_edition mode) next kind (c ∷ w) → (IsDocument mode → opens (chars text) ≡ false) → Puts mode text (token kind (bytes (c ∷ w)))
 put mode text kind c w next is whole p free rest =
     let parts = split text (c ∷ w) next is (sym whole) in
     let tokens : List Token = tokens_of (mode_after mode kind) (drop (bytes (c ∷ w)) text) in
     let rest_are : AreTokens (mode_after mode kind) next tokens = subst (λ (cs : List ℕ). AreTokens (mode_after mode kind) cs tokens) (ap chars parts.left ∙ parts.again) rest in
     subst (λ (cs : List ℕ). AreTokens mode cs (token kind (bytes (c ∷ w)) ∷ tokens)) whole (something p (λ y. opens-none (c ∷ w ++ next) (ap opens whole ∙ free y)) rest_are)
 
-lexeme-first : (mode : Mode) (text : List ℕ) → IsText text → 0 < length text → (mode ≡ document → opens (chars text) ≡ false) → Puts mode text (token_at mode text)
+lexeme-first : (mode : Mode) (text : List ℕ) → IsText text → 0 < length text → (IsDocument mode → opens (chars text) ≡ false) → Puts mode text (token_at mode text)
 lexeme-first mode text is some free =
     let f = first-front (mode_edition mode) text (chars text) is some refl in
     subst (Puts mode text) (sym (at-first mode text free ∙ f.same)) (put mode text f.kind f.c f.w f.next is f.whole f.is free)
 
-frontmatter-first : (text : List ℕ) → IsText text → 0 < length text → opens (chars text) ≡ true → Puts document text (frontmatter text)
-frontmatter-first text is some opened_here rest_are = put (opened (chars text) opened_here)
+frontmatter-first : (edition : Edition) (text : List ℕ) → IsText text → 0 < length text → opens (chars text) ≡ true → Puts (document edition) text (frontmatter text)
+frontmatter-first edition text is some opened_here rest_are = put (opened (chars text) opened_here)
   where
     tokens : List Token
-    tokens = tokens_of (mode_after document (frontmatter text).kind) (drop (frontmatter text).len text)
+    tokens = tokens_of (mode_after (document edition) (frontmatter text).kind) (drop (frontmatter text).len text)
 
-    put : Opened (chars text) → AreTokens document (chars text) (frontmatter text ∷ tokens)
+    put : Opened (chars text) → AreTokens (document edition) (chars text) (frontmatter text ∷ tokens)
     put o =
         let n : ℕ = o.count in
         let parts = split text o.front o.rest is (sym o.whole) in
@@ -149,17 +149,17 @@ frontmatter-first text is some opened_here rest_are = put (opened (chars text) o
         let same : frontmatter text ≡ record { kind = Frontmatter (next_is is_whitespace o.front) (not (next_is (is_among (codes "\n")) (body ++ next))); len = bytes o.front + bytes body } =
         frontmatter-is text n o.front (body ++ next) is (sym whole) is_opening ∙ ap (λ (k : ℕ). let t : Token = record { kind = Frontmatter (next_is is_whitespace o.front) (not (next_is (is_among (codes "\n")) (body ++ next))); len = bytes o.front + k } in t) (sym len) in
         let cut : drop (frontmatter text).len text ≡ drop m left = ap (λ (t : Token). drop t.len text) same ∙ (ap (λ (k : ℕ). drop (bytes o.front + k) text) size ∙ (sym (drop-drop m (bytes o.front) text) ∙ ap (drop m) parts.left)) in
-        let rest_is : AreTokens (part E2024) next tokens = subst (λ (cs : List ℕ). AreTokens (part E2024) cs tokens) (ap chars cut) (subst (λ (mode : Mode). AreTokens mode (chars (drop (frontmatter text).len text)) tokens) (after-frontmatter text) rest_are) in
-        subst (λ (cs : List ℕ). AreTokens document cs (frontmatter text ∷ tokens)) whole
-        (subst (λ (t : Token). AreTokens document (o.front ++ (body ++ next)) (t ∷ tokens)) (sym same) (frontmatter_first body is_opening (subst (EndsAt n (encode_utf8_all (body ++ next))) (sym len) (ends-are n (encode_utf8_all (body ++ next)) (opening-dashes is_opening))) rest_is))
+        let rest_is : AreTokens (part edition) next tokens = subst (λ (cs : List ℕ). AreTokens (part edition) cs tokens) (ap chars cut) (subst (λ (mode : Mode). AreTokens mode (chars (drop (frontmatter text).len text)) tokens) (after-frontmatter edition text) rest_are) in
+        subst (λ (cs : List ℕ). AreTokens (document edition) cs (frontmatter text ∷ tokens)) whole
+        (subst (λ (t : Token). AreTokens (document edition) (o.front ++ (body ++ next)) (t ∷ tokens)) (sym same) (frontmatter_first body is_opening (subst (EndsAt n (encode_utf8_all (body ++ next))) (sym len) (ends-are n (encode_utf8_all (body ++ next)) (opening-dashes is_opening))) rest_is))
 
 puts : (mode : Mode) (text : List ℕ) → IsText text → 0 < length text → Puts mode text (token_at mode text)
 puts (part edition) text is some = lexeme-first (part edition) text is some (λ y. absurd (cc))
-puts document text is some = by_opening (opens (chars text)) refl
+puts (document edition) text is some = by_opening (opens (chars text)) refl
   where
-    by_opening : (b : Bool) → opens (chars text) ≡ b → Puts document text (token_at document text)
-    by_opening true e = subst (Puts document text) (sym (at-frontmatter text e)) (frontmatter-first text is some e)
-    by_opening false e = lexeme-first document text is some (λ y. e)
+    by_opening : (b : Bool) → opens (chars text) ≡ b → Puts (document edition) text (token_at (document edition) text)
+    by_opening true e = subst (Puts (document edition) text) (sym (at-frontmatter edition text e)) (frontmatter-first edition text is some e)
+    by_opening false e = lexeme-first (document edition) text is some (λ y. e)
 
 abbrev AreOf : List ℕ → Mode → Type 0
 AreOf text mode = AreTokens mode (chars text) (tokens_of mode text)

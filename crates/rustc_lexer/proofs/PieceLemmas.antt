@@ -1,10 +1,14 @@
 -- The pieces of a text, one by one.
-use Rattle.std.proofs.Common.{◌≡◌, ℕ, suc, ◌+◌, List, ◌∷◌, sym, subst, arith, IsCharBoundary}
+use Rattle.std.proofs.Common.{◌≡◌, ℕ, zero, suc, ◌+◌, ◌-◌, ◌^◌, ◌<◌, ◌≤◌, List, [], ◌∷◌, get_or, length, take, drop, slice_range, refl, sym, ap, ◌∙◌, subst, arith, length-take, length-take-le, length-drop, take-take, IsCharBoundary}
 use Rattle.rustc_lexer.specs.declared.token.Token.{Token}
 use Rattle.rustc_lexer.specs.Tokens.{bound, tokens_by}
 use Rattle.rustc_lexer.specs.means.Pieces.{AreBoundariesFrom}
+use Rattle.rustc_lexer.specs.Pieces.{pieces_from, pieces_of}
 use Rattle.rustc_lexer.specs.Locality.{IsText, IsGrammar}
-use Rattle.rustc_lexer.proofs.ReadyLemmas.{cuts}
+use Rattle.rustc_lexer.proofs.BoundLemmas.{bound_mono}
+use Rattle.rustc_lexer.proofs.EditLemmas.{bound-same, bound-take}
+use Rattle.rustc_lexer.proofs.FrontLemmas.{bound-next, bound-shift}
+use Rattle.rustc_lexer.proofs.ReadyLemmas.{bounds_fit, cuts}
 
 -- past the first token
 pub cuts_tail : (text : List ℕ) (start : ℕ) (all : List Token) (token : Token) (tokens : List Token) → all ≡ token ∷ tokens → AreBoundariesFrom text start all → AreBoundariesFrom text (start + token.len) tokens
@@ -27,3 +31,62 @@ pub cuts_whole : {first : List ℕ → Token} (law : IsGrammar first) (text : Li
 cuts_whole {first} law text tokens is e k few =
     let here : AreBoundariesFrom text 0 (tokens_by first text) = λ k few. (let same : bound (tokens_by first text) k ≡ 0 + bound (tokens_by first text) k = omega arith in subst (IsCharBoundary text) same (cuts law text is k few)) in
     subst (AreBoundariesFrom text 0) (sym e) here k few
+
+-- ---- the pieces of some of the tokens
+
+-- the bounds of some of the tokens are bounds of all
+pub cuts_part : (text : List ℕ) (tokens : List Token) (from n : ℕ) → from ≤ length tokens → AreBoundariesFrom text 0 tokens → AreBoundariesFrom text (bound tokens from) (take n (drop from tokens))
+cuts_part text tokens from n few are k less =
+    let within : k ≤ n = omega (arith, length-take n (drop from tokens)) in
+    let inside : from + k ≤ length tokens = omega (arith, length-take n (drop from tokens), length-drop from tokens) in
+    let short : bound (take n (drop from tokens)) k ≡ bound (drop from tokens) k = bound-same k (take n (drop from tokens)) (drop from tokens) (take-take k n (drop from tokens) within) in
+    let same : 0 + bound tokens (from + k) ≡ bound tokens from + bound (take n (drop from tokens)) k = omega (arith, bound-shift tokens from k, short) in
+    subst (IsCharBoundary text) same (are (from + k) inside)
+
+pub drop-pieces : (text : List ℕ) (start k : ℕ) (ts : List Token) → drop k (pieces_from text start ts) ≡ pieces_from text (start + bound ts k) (drop k ts)
+drop-pieces text start zero ts = let e : start ≡ start + 0 = omega arith in ap (λ p. pieces_from text p ts) e
+drop-pieces text start (suc k) [] = refl
+drop-pieces text start (suc k) (t ∷ ts) = let e : start + t.len + bound ts k ≡ start + (t.len + bound ts k) = omega arith in drop-pieces text (start + t.len) k ts ∙ ap (λ p. pieces_from text p (drop k ts)) e
+
+pub take-pieces : (text : List ℕ) (start k : ℕ) (ts : List Token) → take k (pieces_from text start ts) ≡ pieces_from text start (take k ts)
+take-pieces text start zero ts = refl
+take-pieces text start (suc k) [] = refl
+take-pieces text start (suc k) (t ∷ ts) = ap (λ ps. record { start = start; token = t; text = take t.len (drop start text) } ∷ ps) (take-pieces text (start + t.len) k ts)
+
+pub pieces-part : (text : List ℕ) (tokens : List Token) (from n : ℕ) → pieces_from text (bound tokens from) (take n (drop from tokens)) ≡ take n (drop from (pieces_of text tokens))
+pieces-part text tokens from n =
+    let zero_is : 0 + bound tokens from ≡ bound tokens from = omega arith in
+    sym (ap (take n) (drop-pieces text 0 from tokens ∙ ap (λ p. pieces_from text p (drop from tokens)) zero_is) ∙ take-pieces text (bound tokens from) n (drop from tokens))
+
+-- ---- where a token begins, from a bound before it on
+
+-- one token more
+pub end_more : (tokens : List Token) (i start end : ℕ) (d : Token) → i < length tokens → end ≡ start + bound tokens i → end + (get_or tokens i d).len ≡ start + bound tokens (i + 1)
+end_more tokens i start end d few at = omega (arith, bound-next tokens i d few, at)
+
+pub end_fits : (tokens : List Token) (i start end : ℕ) (d : Token) → i < length tokens → end ≡ start + bound tokens i → start + bound tokens (length tokens) < 2 ^ 32 → end + (get_or tokens i d).len < 2 ^ 32
+end_fits tokens i start end d few at fits = omega (arith, bound-next tokens i d few, bound_mono tokens (i + 1) (length tokens) (omega arith), at, fits)
+
+bound-over : (tokens : List Token) (k : ℕ) → length tokens ≤ k → bound tokens k ≡ bound tokens (length tokens)
+bound-over [] zero over = refl
+bound-over [] (suc k) over = refl
+bound-over (t ∷ ts) zero over = absurd (omega arith)
+bound-over (t ∷ ts) (suc k) over = ap (λ n. t.len + n) (bound-over ts k (omega arith))
+
+pub end_last : (tokens : List Token) (i start end : ℕ) → length tokens ≤ i → end ≡ start + bound tokens i → end ≡ start + bound tokens (length tokens)
+end_last tokens i start end over at = at ∙ ap (λ n. start + n) (bound-over tokens i over)
+
+-- the place of a bound, and the tokens from there up to another
+pub bound-part : (tokens items : List Token) (from to place : ℕ) → from ≤ to → to ≤ length tokens → items ≡ slice_range tokens from to → place ≡ bound tokens from → place + bound items (length items) ≡ bound tokens to
+bound-part tokens items from to place le inside is at =
+    let all : from + (to - from) ≡ to = omega arith in
+    let enough : to - from ≤ length (drop from tokens) = omega (arith, length-drop from tokens) in
+    let long : length items ≡ to - from = ap length is ∙ length-take-le (to - from) (drop from tokens) enough in
+    let same : bound items (length items) ≡ bound (drop from tokens) (to - from) = ap (bound items) long ∙ (ap (λ (ts : List Token). bound ts (to - from)) is ∙ bound-take (to - from) (drop from tokens)) in
+    omega (arith, at, same, bound-shift tokens from (to - from), ap (bound tokens) all)
+
+-- the bounds of a text that fits
+pub bound_short : {first : List ℕ → Token} (law : IsGrammar first) (text : List ℕ) (tokens : List Token) (k : ℕ) → IsText text → tokens ≡ tokens_by first text → k ≤ length tokens → bound tokens k < 2 ^ 32
+bound_short {first} law text tokens k is e few =
+    let few' : k ≤ length (tokens_by first text) = subst (λ (ts : List Token). k ≤ length ts) e few in
+    subst (λ (ts : List Token). bound ts k < 2 ^ 32) (sym e) (bounds_fit law text is k few')

@@ -1,5 +1,5 @@
 -- What stands once the tokens of a changed text are put in place of the old ones.
-use Rattle.std.proofs.Common.{◌≡◌, ℕ, ◌+◌, ◌-◌, List, ◌++◌, length, map, take, sym, ap, ◌∙◌}
+use Rattle.std.proofs.Common.{◌≡◌, ℕ, ◌+◌, ◌-◌, List, ◌++◌, length, map, take, drop, sym, ap, ◌∙◌, arith, length-append, length-drop, length-take-le}
 use Rattle.std.specs.List.{All}
 use Rattle.rustc_lexer.specs.declared.relex.landmarks.Landmarks.{Landmarks}
 use Rattle.rustc_lexer.specs.declared.relex.relexing.Relexing.{Relexing}
@@ -25,6 +25,13 @@ module _ {first : List ℕ → Token} (law : IsGrammar first) {text insert made 
   -- they are the tokens of the changed text
   pub renewed_are : now ≡ tokens_by first made
   renewed_are = renewed.now_is ∙ (put_together law text is.is_text start stop insert is.inserted is.edit tokens made renewed.lexed at.back.number at.front.number e is.made is_met ∙ ap (tokens_by first) (sym is.made))
+
+  -- the kept front, what was lexed and the kept back are as many
+  pub renewed_all : at.front.number + at.lexed + (length tokens - at.back.number) ≡ length now
+  renewed_all =
+      let l = renewed.lexed_is in
+      let front : IsBound tokens at.front = rw e l.stands.front_bound in
+      omega (arith, ap length renewed.now_is, length-append (take at.front.number tokens) (renewed.lexed ++ drop at.back.number tokens), length-append renewed.lexed (drop at.back.number tokens), length-take-le at.front.number tokens front.0, length-drop at.back.number tokens, l.lexed)
 
   -- the landmarks can be moved, and stay landmarks
   pub renewed_bounds : (landmarks : Landmarks) → AreBounds tokens landmarks → All (IsMovable at.back (end_of at)) landmarks.bounds × IsReplaced tokens now at.front at.back (end_of at)

@@ -3,8 +3,8 @@ use Rattle.std.proofs.Common.{◌≡◌, ℕ, ◌==◌, true, false, true≢fals
 use Rattle.std.proofs.lemmas.Bool.{eqb-true, ne_eqb}
 use Rattle.rustc_lexer.specs.declared.token.Token.{Token}
 use Rattle.rustc_lexer.specs.declared.token.TokenKind.{TokenKind}
-use Rattle.rustc_lexer.specs.declared.token.TokenKind.TheVariants.{Eof, Literal}
-use Rattle.rustc_lexer.specs.LanguageText.{Mode, mode_after}
+use Rattle.rustc_lexer.specs.declared.token.TokenKind.TheVariants.{Eof, Literal, Whitespace}
+use Rattle.rustc_lexer.specs.LanguageText.{Mode, document, part, mode_after, mode_edition}
 use Rattle.rustc_lexer.specs.State.{State, kind_past, token_past}
 use Rattle.rustc_lexer.specs.means.Taking.{token_at, advance_by, advance}
 
@@ -16,6 +16,13 @@ past_token rest mode token = state 0 (drop token.len rest) (mode_after mode toke
 
 pub past_token-is : (rest cut : List ℕ) (mode next : Mode) (token : Token) → cut ≡ drop token.len rest → next ≡ mode_after mode token.kind → state 0 cut next ≡ past_token rest mode token
 past_token-is rest cut mode next token e f = ap (λ xs. state 0 xs next) e ∙ ap (λ (m : Mode). state 0 (drop token.len rest) m) f
+
+-- a token leaves the edition as it is
+pub edition-after : (mode : Mode) (kind : TokenKind) → mode_edition (mode_after mode kind) ≡ mode_edition mode
+edition-after (part edition) kind = refl
+edition-after (document edition) Whitespace = refl
+edition-after (document edition) Eof = refl
+edition-after (document edition) kind = refl
 
 module _ (pending : ℕ) (rest : List ℕ) (mode : Mode) (s : State) (e : state pending rest mode ≡ s) where
   pub advance-end : (length rest == 0) ≡ true → advance s ≡ (record { kind = Eof; len = 0 }, s)

@@ -14,10 +14,10 @@ use Rattle.rustc_lexer.specs.laws.Edition.{edition_grammar}
 use Rattle.rustc_lexer.specs.means.Edition.{first_token_in}
 use Rattle.rustc_lexer.specs.means.Frontmatter.{frontmatter}
 use Rattle.rustc_lexer.specs.State.{State, token_past}
-use Rattle.rustc_lexer.specs.means.Taking.{token_at, advance}
+use Rattle.rustc_lexer.specs.means.Taking.{token_at}
 use Rattle.rustc_lexer.proofs.CutLemmas.{at_bound, tokens-nil as part-nil, tokens-cons as part-cons}
 use Rattle.rustc_lexer.proofs.FrontmatterLemmas.{frontmatter-cut, token_at-either}
-use Rattle.rustc_lexer.proofs.StateLemmas.{state, past_token, advance-some, token_past-zero}
+use Rattle.rustc_lexer.proofs.StateLemmas.{state, past_token, past_token-is, edition-after, advance-some, token_past-zero}
 use Rattle.rustc_lexer.specs.Locality.{IsText}
 
 -- the token at the front of a text leaves a shorter text, and is one itself
@@ -53,45 +53,45 @@ shorter text token cuts = let n = cuts.not_empty in let i = cuts.inside in omega
 -- any count that is large enough gives the same tokens
 cut-enough : (mode : Mode) (m n : ℕ) (text : List ℕ) → IsText text → length text ≤ m → length text ≤ n → cut mode m text ≡ cut mode n text
 cut-enough (part edition) m n text is a b = refl
-cut-enough document zero zero [] is a b = refl
-cut-enough document zero (suc n) [] is a b = refl
-cut-enough document (suc m) zero [] is a b = refl
-cut-enough document (suc m) (suc n) [] is a b = refl
-cut-enough document zero n (c ∷ cs) is a b = absurd (omega arith)
-cut-enough document (suc m) zero (c ∷ cs) is a b = absurd (omega arith)
-cut-enough document (suc m) (suc n) (c ∷ cs) is a b =
-    let token : Token = token_at document (c ∷ cs) in
-    let cuts : CutsOff (c ∷ cs) token = token_at-cuts document (c ∷ cs) is (omega arith) in
+cut-enough (document edition) zero zero [] is a b = refl
+cut-enough (document edition) zero (suc n) [] is a b = refl
+cut-enough (document edition) (suc m) zero [] is a b = refl
+cut-enough (document edition) (suc m) (suc n) [] is a b = refl
+cut-enough (document edition) zero n (c ∷ cs) is a b = absurd (omega arith)
+cut-enough (document edition) (suc m) zero (c ∷ cs) is a b = absurd (omega arith)
+cut-enough (document edition) (suc m) (suc n) (c ∷ cs) is a b =
+    let token : Token = token_at (document edition) (c ∷ cs) in
+    let cuts : CutsOff (c ∷ cs) token = token_at-cuts (document edition) (c ∷ cs) is (omega arith) in
     let less : length (drop token.len (c ∷ cs)) < suc (length cs) = shorter (c ∷ cs) token cuts in
-    ap (λ ts. token ∷ ts) (cut-enough (mode_after document token.kind) m n (drop token.len (c ∷ cs)) cuts.left (omega arith) (omega arith))
+    ap (λ ts. token ∷ ts) (cut-enough (mode_after (document edition) token.kind) m n (drop token.len (c ∷ cs)) cuts.left (omega arith) (omega arith))
 
 cut-all : (mode : Mode) (n : ℕ) (text : List ℕ) → IsText text → length text ≤ n → cut mode n text ≡ tokens_of mode text
 unfolding tokens_of_document
 cut-all (part edition) n text is le = refl
-cut-all document n text is le = cut-enough document n (length text) text is le (omega arith)
+cut-all (document edition) n text is le = cut-enough (document edition) n (length text) text is le (omega arith)
 
 pub tokens-nil : (mode : Mode) → tokens_of mode [] ≡ []
 unfolding tokens_of_document
 tokens-nil (part edition) = part-nil (first_token_in edition)
-tokens-nil document = refl
+tokens-nil (document edition) = refl
 
 -- the tokens of a text: its first one, and those of what is left
 pub tokens-cons : (mode : Mode) (text : List ℕ) → IsText text → 0 < length text
     → tokens_of mode text ≡ token_at mode text ∷ tokens_of (mode_after mode (token_at mode text).kind) (drop (token_at mode text).len text)
 unfolding tokens_of_document
 tokens-cons (part edition) text is some = part-cons (edition_grammar edition) text is some
-tokens-cons document [] is some = absurd (omega arith)
-tokens-cons document (c ∷ cs) is some =
-    let token : Token = token_at document (c ∷ cs) in
-    let cuts : CutsOff (c ∷ cs) token = token_at-cuts document (c ∷ cs) is some in
+tokens-cons (document edition) [] is some = absurd (omega arith)
+tokens-cons (document edition) (c ∷ cs) is some =
+    let token : Token = token_at (document edition) (c ∷ cs) in
+    let cuts : CutsOff (c ∷ cs) token = token_at-cuts (document edition) (c ∷ cs) is some in
     let less : length (drop token.len (c ∷ cs)) < suc (length cs) = shorter (c ∷ cs) token cuts in
-    ap (λ ts. token ∷ ts) (cut-all (mode_after document token.kind) (length cs) (drop token.len (c ∷ cs)) cuts.left (omega arith))
+    ap (λ ts. token ∷ ts) (cut-all (mode_after (document edition) token.kind) (length cs) (drop token.len (c ∷ cs)) cuts.left (omega arith))
 
 -- where a byte is left a token is, whatever the bytes are
 pub tokens-some : (mode : Mode) (b : ℕ) (bs : List ℕ) → (token : Token) × (tokens : List Token) × (tokens_of mode (b ∷ bs) ≡ token ∷ tokens)
 unfolding tokens_of_document tokens_by
 tokens-some (part edition) b bs = (_, _, refl)
-tokens-some document b bs = (_, _, refl)
+tokens-some (document edition) b bs = (_, _, refl)
 
 -- what holds of a text whose first tokens were cut off holds of the text
 module _ (P : List ℕ → Mode → Type 0) (at_end : (mode : Mode) → P [] mode)
@@ -181,37 +181,26 @@ takes_first s t token none is some e f =
         boundary = IsCharBoundary-from_take s.rest first.len is.utf8 cuts.inside cuts.front;
         rest = refl;
         mode = refl;
+        edition = edition-after s.mode first.kind;
       };
       pending = refl;
       shorter = shorter s.rest first cuts;
     }
 
--- the same by what `advance` says, where the state is seen as the fields of a value, and its text as a slice
-module _ (inside s : State) (text : List ℕ) (view : inside ≡ s) (rest : text ≡ s.rest) where
-  pub takes : (t : State) (token : Token) → IsUtf8 text → length text < 2 ^ 32 → inside.pending ≡ 0 → (length text == 0) ≡ false → token ≡ (advance inside).0 → t ≡ (advance inside).1 → TakesFirst s t token
-  takes t token is fits none some e f =
-      let here : text ≡ inside.rest = rest ∙ ap (λ (x : State). x.rest) (sym view) in
-      let its_some : (length inside.rest == 0) ≡ false = ap (λ (xs : List ℕ). length xs == 0) (sym here) ∙ some in
-      let first : Token = token_at inside.mode inside.rest in
-      let whole = advance-some inside.pending inside.rest inside.mode inside refl its_some in
-      let token_is : token ≡ first = e ∙ (ap (λ (r : Token × State). r.0) whole ∙ (ap (λ n. token_past n first) none ∙ token_past-zero first)) in
-      let state_is : t ≡ past_token inside.rest inside.mode token = f ∙ (ap (λ (r : Token × State). r.1) whole ∙ ap (past_token inside.rest inside.mode) (sym token_is)) in
-      subst (λ (x : State). TakesFirst x t token) view (takes_first inside t token none (subst IsText here record { utf8 = is; fits = fits }) its_some token_is state_is)
+-- where the text that is left is empty no token is
+pub none_left : (s : State) (text : List ℕ) → text ≡ s.rest → (length text == 0) ≡ true → tokens_left s ≡ []
+none_left s text rest none = ap (λ xs. tokens_of s.mode xs) (sym rest ∙ empty text none) ∙ tokens-nil s.mode
+  where
+    empty : (xs : List ℕ) → (length xs == 0) ≡ true → xs ≡ []
+    empty [] h = refl
+    empty (x ∷ xs) h = absurd (let n = eqb-true (length (x ∷ xs)) 0 h in omega arith)
 
-  pub none_left : (length text == 0) ≡ true → tokens_left s ≡ []
-  none_left none = ap (λ xs. tokens_of s.mode xs) (sym rest ∙ empty text none) ∙ tokens-nil s.mode
-    where
-      empty : (xs : List ℕ) → (length xs == 0) ≡ true → xs ≡ []
-      empty [] h = refl
-      empty (x ∷ xs) h = absurd (let n = eqb-true (length (x ∷ xs)) 0 h in omega arith)
-
--- the same of a part, whose token is told by its edition
-pub takes_part : (edition : Edition) (inside text : List ℕ) (s : State) → state 0 inside (part edition) ≡ s → text ≡ s.rest → (left : List ℕ) (token : Token) → IsUtf8 text → length text < 2 ^ 32 → (length text == 0) ≡ false
-    → token ≡ first_token_in edition text → left ≡ drop token.len text → TakesFirst s (state 0 left (part edition)) token
-takes_part edition inside text s view rest left token is fits some e f =
-    let here : state 0 text (part edition) ≡ s = ap (λ xs. state 0 xs (part edition)) (rest ∙ ap (λ (x : State). x.rest) (sym view)) ∙ view in
-    let past : state 0 left (part edition) ≡ past_token text (part edition) token = ap (λ xs. state 0 xs (part edition)) f in
-    subst (λ (x : State). TakesFirst x (state 0 left (part edition)) token) here (takes_first (state 0 text (part edition)) (state 0 left (part edition)) token refl record { utf8 = is; fits = fits } some e past)
+-- the same where the text and how it is read are the iterator's own
+pub takes_own : (mode next : Mode) (inside text : List ℕ) (s : State) → state 0 inside mode ≡ s → text ≡ s.rest → (left : List ℕ) (token : Token) → IsUtf8 text → length text < 2 ^ 32 → (length text == 0) ≡ false
+    → token ≡ token_at mode text → left ≡ drop token.len text → next ≡ mode_after mode token.kind → TakesFirst s (state 0 left next) token
+takes_own mode next inside text s view rest left token is fits some e f g =
+    let here : state 0 text mode ≡ s = ap (λ xs. state 0 xs mode) (rest ∙ ap (λ (x : State). x.rest) (sym view)) ∙ view in
+    subst (λ (x : State). TakesFirst x (state 0 left next) token) here (takes_first (state 0 text mode) (state 0 left next) token refl record { utf8 = is; fits = fits } some e (past_token-is text left mode next token f g))
 
 -- an iterator that took a token is nearer its end
 pub goes : (s t : State) (token : Token) → TakesFirst s t token → MakesProgress (λ (x : State). ⊤) (λ s. at_most (length s.rest)) s (Some token) t

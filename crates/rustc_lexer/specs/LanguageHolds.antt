@@ -25,7 +25,7 @@ use Rattle.rustc_lexer.specs.FrontmatterGrammar.{OpensNone}
 use Rattle.rustc_lexer.specs.Language.{BeginsWith, IsTokenBefore}
 use Rattle.rustc_lexer.specs.LanguageCalls.{IsGuardedBefore, IsRawAnswer, IsShebang}
 use Rattle.rustc_lexer.specs.LanguageIn.{IsTokenIn}
-use Rattle.rustc_lexer.specs.LanguageText.{Mode, document, part, AreTokens}
+use Rattle.rustc_lexer.specs.LanguageText.{Mode, IsDocument, part, AreTokens}
 use Rattle.rustc_lexer.specs.LiteralGrammar.{hashes}
 use Rattle.rustc_lexer.specs.NumberGrammar.{IsLongestNumber}
 use Rattle.rustc_lexer.specs.Spans.{Chars, Utf8, bytes, NextNotIn}
@@ -72,7 +72,7 @@ AreLongest =
 abbrev pub TakesTokenOf : State → Token → Type 0
 TakesTokenOf s token =
     s.pending ≡ 0
-    → (s.mode ≡ document → OpensNone (chars s.rest))
+    → (IsDocument s.mode → OpensNone (chars s.rest))
     → BeginsWith s.rest token
 
 -- in each state of a cursor that has text left: what it takes is the first of the tokens that the

@@ -33,12 +33,12 @@ abbrev pub is_long_char : Chars → Bool
 is_long_char w =
     next_is is_name_start (drop 1 w) && not (next_is (is_among (codes "'")) (drop 2 w))
 
--- a number: a dot, and what is no fraction; `'` and `b'` that no quote closes: a slash or a
--- newline, and what comes next; a long name between quotes: nothing. Else a suffix or the end of
--- the text
+-- an integer: a dot, and what is no fraction; `'` and `b'` that no quote closes: a slash or a
+-- newline, and what comes next; a long name between quotes: nothing. Else a suffix, a digit, a
+-- sign or the end of the text
 abbrev pub literal_reach : LiteralKind → Chars → ℕ
 literal_reach (Int base empty_int) w = 2
-literal_reach (Float base empty_exponent) w = 2
+literal_reach (Float base empty_exponent) w = 1
 literal_reach (Char false) w = 2
 literal_reach (Byte false) w = 2
 literal_reach (Char true) w = if is_long_char w then 0 else 1
@@ -98,7 +98,8 @@ pub record Needs (kind : TokenKind) (w : Chars) : Type 0 where
   pub alike : take (reach kind w - 1) other ≡ take (reach kind w - 1) next
   pub fails : IsTokenBefore other kind w → ⊥
 
--- so it is with a token of each kind that looks at something
+-- so it is with one text of each kind that looks at something, or with one for each of its numbers.
+-- Of the other texts of a kind this says nothing: `1u8` and `0x` look at one character
 pub record NoneLooksLess : Type 0 where
   pub end : Needs Eof []
   pub whitespace : Needs Whitespace (codes " ")
@@ -114,7 +115,9 @@ pub record NoneLooksLess : Type 0 where
   pub prefix_lifetime : Needs UnknownPrefixLifetime (codes "'a")
   pub prefix_lifetime_r : Needs UnknownPrefixLifetime (codes "'r")
   pub raw_lifetime : Needs RawLifetime (codes "'r#a")
-  pub number : Needs (Literal (Int Decimal false) 1) (codes "1")
+  pub integer : Needs (Literal (Int Decimal false) 1) (codes "1")
+  pub float : Needs (Literal (Float Decimal false) 3) (codes "1.5")
+  pub exponent : Needs (Literal (Float Decimal true) 2) (codes "1e")
   pub character : Needs (Literal (Char true) 3) (codes "'a'")
   pub two_quotes : Needs (Literal (Char true) 2) (codes "''")
   pub stopped_character : Needs (Literal (Char false) 1) (codes "'")

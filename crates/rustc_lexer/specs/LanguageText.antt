@@ -16,28 +16,35 @@ use Rattle.rustc_lexer.specs.Spans.{Chars, next_is, bytes}
 
 -- ---- how a text is read
 
--- as a document, where a frontmatter may stand in front; or as a part of one, in an edition
+-- in an edition, as a document, where a frontmatter may stand in front; or as a part of one
 pub data Mode : Type 0 where
-  document : Mode
+  document : Edition → Mode
   part : Edition → Mode
 
--- by the flag of a call
-abbrev pub mode_of : FrontmatterAllowed → Mode
-mode_of Yes = document
-mode_of No = part E2024
+-- by the flag of a call and an edition
+abbrev pub mode_in : FrontmatterAllowed → Edition → Mode
+mode_in Yes edition = document edition
+mode_in No edition = part edition
 
--- the edition whose tokens stand in the text: a document is of the newest one
+-- where a call names no edition it is the newest one
+abbrev pub mode_of : FrontmatterAllowed → Mode
+mode_of allowed = mode_in allowed E2024
+
+-- the edition whose tokens stand in the text
 abbrev pub mode_edition : Mode → Edition
-mode_edition document = E2024
+mode_edition (document edition) = edition
 mode_edition (part edition) = edition
+
+abbrev pub IsDocument : Mode → Type 0
+IsDocument mode = mode ≡ document (mode_edition mode)
 
 -- how the text past a token is read: white space in front of a document, or its end, leave one, and
 -- every other token leaves a part
 abbrev pub mode_after : Mode → TokenKind → Mode
 mode_after (part edition) kind = part edition
-mode_after document Whitespace = document
-mode_after document Eof = document
-mode_after document kind = part E2024
+mode_after (document edition) Whitespace = document edition
+mode_after (document edition) Eof = document edition
+mode_after (document edition) kind = part edition
 
 -- ---- its tokens
 
@@ -55,11 +62,11 @@ pub data AreTokens : Mode → Chars → List Token → Type 0 where
   nothing : {mode : Mode} → AreTokens mode [] []
   something : {mode : Mode} {kind : TokenKind} {c : ℕ} {w next : Chars} {tokens : List Token}
       → IsTokenIn (mode_edition mode) next kind (c ∷ w)
-      → (mode ≡ document → OpensNone (c ∷ w ++ next))
+      → (IsDocument mode → OpensNone (c ∷ w ++ next))
       → AreTokens (mode_after mode kind) next tokens
       → AreTokens mode (c ∷ w ++ next) (record { kind = kind; len = bytes (c ∷ w) } ∷ tokens)
-  frontmatter_first : {n : ℕ} {opening next : Chars} {tokens : List Token} (body : Chars)
+  frontmatter_first : {edition : Edition} {n : ℕ} {opening next : Chars} {tokens : List Token} (body : Chars)
       → IsOpeningBefore (body ++ next) n opening
       → EndsAt n (encode_utf8_all (body ++ next)) (bytes body)
-      → AreTokens (part E2024) next tokens
-      → AreTokens document (opening ++ (body ++ next)) (frontmatter_token opening body next ∷ tokens)
+      → AreTokens (part edition) next tokens
+      → AreTokens (document edition) (opening ++ (body ++ next)) (frontmatter_token opening body next ∷ tokens)

@@ -58,7 +58,7 @@ pub record MayGoOn (text : List ℕ) (count : ℕ) (at : Relexing) : Type 0 wher
   pub boundary : IsCharBoundary text at.at
   pub number : at.back.number ≤ count
   pub apart : at.front.number ≤ at.back.number
-  pub small : at.back.place < 2 ^ 40
+  pub small : at.back.place < 2 ^ 63
   pub few : at.lexed ≤ at.at
 
 -- how many of the new tokens are known: those of the front, and those that were lexed

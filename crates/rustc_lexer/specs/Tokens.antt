@@ -1,6 +1,6 @@
 -- The tokens of a text as it is read, their bounds, and what the calls that take them do.
 use Rattle.std.specs.Prelude.{ℕ, zero, suc, ◌≡◌, ◌↔◌, ◌+◌, ◌-◌, ◌<◌, ◌≤◌, List, [], ◌∷◌, length, take, drop, All, IsCharBoundary, Option, IsSome, Some, None, Ok}
-use Rattle.rustc_lexer.specs.LanguageText.{Mode, document, part, mode_after}
+use Rattle.rustc_lexer.specs.LanguageText.{Mode, document, part, mode_edition, mode_after}
 use Rattle.rustc_lexer.specs.State.{State}
 use Rattle.rustc_lexer.specs.declared.edition.Edition.{Edition}
 use Rattle.rustc_lexer.specs.declared.token.LiteralKind.TheVariants.{RawStr, RawByteStr, RawCStr}
@@ -39,20 +39,20 @@ AreBoundaries text tokens = (k : ℕ) → k ≤ length tokens → IsCharBoundary
 -- the tokens of a text, of which `count` at most are read as those of a document: each says how what follows it is read
 abbrev pub cut : Mode → ℕ → List ℕ → List Token
 cut (part edition) count text = tokens_by (first_token_in edition) text
-cut document zero text = []
-cut document (suc count) [] = []
-cut document (suc count) (b ∷ bs) =
-    let token : Token = token_at document (b ∷ bs) in
-    token ∷ cut (mode_after document token.kind) count (drop token.len (b ∷ bs))
+cut (document edition) zero text = []
+cut (document edition) (suc count) [] = []
+cut (document edition) (suc count) (b ∷ bs) =
+    let token : Token = token_at (document edition) (b ∷ bs) in
+    token ∷ cut (mode_after (document edition) token.kind) count (drop token.len (b ∷ bs))
 
 -- the tokens of a document, which has no more of them than bytes
-unfoldable pub tokens_of_document : List ℕ → List Token
-tokens_of_document text = cut document (length text) text
+unfoldable pub tokens_of_document : Edition → List ℕ → List Token
+tokens_of_document edition text = cut (document edition) (length text) text
 
 -- the tokens of a text
 abbrev pub tokens_of : Mode → List ℕ → List Token
 tokens_of (part edition) text = tokens_by (first_token_in edition) text
-tokens_of document text = tokens_of_document text
+tokens_of (document edition) text = tokens_of_document edition text
 
 -- the tokens that a cursor with nothing pending, or an iterator, will come to
 abbrev pub tokens_left : State → List Token
@@ -71,7 +71,7 @@ RestartsAtBounds edition text =
     (k : ℕ) → k ≤ length tokens → tokens_of (part edition) (drop (bound tokens k) text) ≡ drop k tokens
 
 -- with nothing pending, the token is the first of those that are left, and the state after it is as `advance` says: the
--- token is not empty, ends between characters, and is taken off the text
+-- token is not empty, ends between characters, and is taken off the text, and the edition stays
 pub record TakesToken (s : State) (token : Token) (t : State) : Type 0 where
   pub first : tokens_left s ≡ token ∷ tokens_left t
   pub advances : advance s ≡ (token, t)
@@ -80,6 +80,7 @@ pub record TakesToken (s : State) (token : Token) (t : State) : Type 0 where
   pub boundary : IsCharBoundary s.rest token.len
   pub rest : t.rest ≡ drop token.len s.rest
   pub mode : t.mode ≡ mode_after s.mode token.kind
+  pub edition : mode_edition t.mode ≡ mode_edition s.mode
 
 -- what a call of `next` does: where no token is left it gives none and changes nothing; else it takes one
 abbrev pub YieldsToken : State → Option Token → State → Type 0

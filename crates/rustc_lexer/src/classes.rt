@@ -6,7 +6,8 @@ ghost use Rattle.unicode_ident.specs.Ident.{is_xid_start};
 
 pub(crate) mod emoji;
 
-/// The version of Unicode that this crate names as its own. No answer rests on it.
+/// The version of Unicode of the tables that tell which characters begin or continue an identifier. The table of
+/// emoji is that of Unicode 15. No answer rests on this constant.
 pub const UNICODE_VERSION: (u8, u8, u8) = (18, 0, 0);
 
 /// Whether the character is white space in Rust: one of the eleven of `Pattern_White_Space`. No version of

@@ -1,10 +1,11 @@
 //! A cursor over a text, which takes it token by token.
-ghost use Rattle.std.specs.Prelude.{◌≡◌, ◌≢◌, ◌+◌, ◌^◌, ◌<◌, drop, length, slice_index, IsTrue};
-ghost use Rattle.std.specs.Str.{chars, IsCharBoundary};
+ghost use Rattle.std.specs.Prelude.{◌≡◌, ◌≢◌, ◌+◌, ◌^◌, ◌<◌, slice_index};
+ghost use Rattle.std.specs.Str.{chars};
+ghost use Rattle.rustc_lexer.specs.declared.edition.Edition.{Edition};
 ghost use Rattle.rustc_lexer.specs.declared.edition.Edition.TheVariants.{E2024};
 ghost use Rattle.rustc_lexer.specs.Classes.{Fits};
 ghost use Rattle.rustc_lexer.specs.LanguageHolds.{TakesFirst, TakesTokenOf};
-ghost use Rattle.rustc_lexer.specs.LanguageText.{mode_after, mode_edition, mode_of, part};
+ghost use Rattle.rustc_lexer.specs.LanguageText.{mode_after, mode_edition, mode_in, mode_of};
 ghost use Rattle.rustc_lexer.specs.means.Taking.{advance};
 ghost use Rattle.rustc_lexer.specs.State.{token_past, HasSuffixWithin};
 ghost use Rattle.rustc_lexer.specs.Tokens.{StaysAtEnd, TakesPending};
@@ -133,36 +134,13 @@ impl<'a> Cursor<'a> {
         self.frontmatter_allowed = next_allowed(self.frontmatter_allowed, token.kind);
         with_pending(token, pending)
     }
-
-    /// Whether no frontmatter is allowed.
-    #[inline(always)]
-    pub(crate) fn allows_none(&self) -> bool
-        ensures { IsTrue result → self.now.mode ≡ part E2024 }
-    {
-        matches!(self.frontmatter_allowed, FrontmatterAllowed::No)
-    }
-
-    /// Takes so many bytes, after which nothing is pending.
-    #[inline(always)]
-    pub(crate) fn skip(&mut self, len: usize)
-        requires { IsCharBoundary self.old.rest len }
-        ensures { self.new
-            ≡ record {
-              pending = 0;
-              rest = drop len self.old.rest;
-              mode = self.old.mode;
-            } }
-    {
-        let end = self.index + len;
-        self.index = end;
-        self.start = end;
-    }
 }
 
 /// Whether a frontmatter may stand after a token of this kind.
 #[inline(always)]
-fn next_allowed(allowed: FrontmatterAllowed, kind: TokenKind) -> FrontmatterAllowed
-    ensures { mode_of result ≡ mode_after (mode_of allowed) kind }
+pub(crate) fn next_allowed(allowed: FrontmatterAllowed, kind: TokenKind) -> FrontmatterAllowed
+    ensures { (edition : Edition)
+        → mode_in result edition ≡ mode_after (mode_in allowed edition) kind }
 {
     match kind {
         TokenKind::Whitespace | TokenKind::Eof => allowed,

@@ -1,33 +1,24 @@
-//! The tokens of a text in an edition of Rust.
-ghost use Rattle.std.specs.Prelude.{◌≡◌, ◌<◌, not, codes, length, take, All, IsCharBoundary, Some};
-ghost use Rattle.std.specs.Iterator.{at_most};
+//! The editions of Rust, and what each has in place of a token of the newest one.
+ghost use Rattle.std.specs.Prelude.{◌≡◌, ◌<◌, not, codes, length, take, IsCharBoundary, Some};
 ghost use Rattle.std.specs.List.{list_all};
 ghost use Rattle.std.specs.Result.{result_ok};
 ghost use Rattle.std.specs.Str.{chars};
-ghost use Rattle.rustc_lexer.specs.declared.edition.Edition.TheVariants.{E2015, E2018, E2024};
-ghost use Rattle.rustc_lexer.specs.declared.token.FrontmatterAllowed.TheVariants.{No};
 ghost use Rattle.rustc_lexer.specs.Classes.{Fits, is_id_continue};
 ghost use Rattle.rustc_lexer.specs.LanguageIn.{edition_of, edition_of_year, year};
 ghost use Rattle.rustc_lexer.specs.means.Edition as spec;
 ghost use Rattle.rustc_lexer.specs.means.Ident.{is_word};
-ghost use Rattle.rustc_lexer.specs.LanguageHolds.{AreTheOnlyTokens, NewestIsPage};
-ghost use Rattle.rustc_lexer.specs.LanguageText.{mode_edition, mode_of, part};
+ghost use Rattle.rustc_lexer.specs.LanguageText.{mode_in};
 ghost use Rattle.rustc_lexer.specs.means.Scan.{run_len};
-ghost use Rattle.rustc_lexer.specs.Locality.{AreLocal};
-ghost use Rattle.rustc_lexer.specs.State.{HasSuffixWithin};
-ghost use Rattle.rustc_lexer.specs.Tokens.{HaveTexts, tokens_of, tokens_left, Partitions, RestartsAtBounds, YieldsToken};
+ghost use Rattle.rustc_lexer.specs.means.Taking as state;
 
 use crate::classes::emoji::is_emoji;
 use crate::cursor::Cursor;
+use crate::frontmatter::token_at;
 use crate::scan::{eat_continue, next_is, split_first};
 use crate::token::{FrontmatterAllowed, Token, TokenKind};
 use std::error::Error;
 use std::fmt;
-use std::iter::Iterator;
-use std::marker::Model;
 use std::str::FromStr;
-
-mod fill;
 
 /// An edition of Rust, in the order of their years.
 #[derive(Clone, Copy, Debug, PartialEq, Eq, PartialOrd, Ord)]
@@ -117,82 +108,29 @@ impl fmt::Display for UnknownEdition {
 
 impl Error for UnknownEdition {}
 
-/// The tokens of a text in an edition, in order. The text has at most `u32::MAX` bytes, and no frontmatter.
-///
-/// The lengths of the tokens sum to that of the text, each token ends between two characters, and the text from
-/// the end of any token on has the rest of the tokens. With `Edition::E2024` they are those of
-/// [`tokenize`](crate::tokenize) with `FrontmatterAllowed::No`.
-///
-/// Which tokens another edition has in place of these is a table in `docs/EDITIONS.md`. A plain loop goes over
-/// them as over those of `tokenize`.
-pub fn tokenize_in<'a>(text: &'a str, edition: Edition) -> EditionTokens<'a>
-    requires fits { Fits text.now }
-    ensures state { result ≡ record { pending = 0; rest = text.now; mode = part edition } }
-    ensures tokens { tokens_left result ≡ tokens_of (part edition) text.now }
-    ensures partitions { Partitions text.now (tokens_of (part edition) text.now) }
-    ensures restarts { RestartsAtBounds edition text.now }
-    ensures suffixes { All HasSuffixWithin (tokens_of (part edition) text.now) }
-    ensures texts { HaveTexts text.now (tokens_of (part edition) text.now) }
-    ensures local { AreLocal (tokens_of (part edition)) }
-    ensures newest { tokens_of (part E2024) text.now ≡ tokens_of (mode_of No) text.now }
-    ensures language { AreTheOnlyTokens (part edition) text.now }
-    ensures page { NewestIsPage }
-    ensures oldest { tokens_of (part E2015) text.now ≡ tokens_of (part E2018) text.now }
+/// The token at the front of a text that is not empty, in an edition, where a frontmatter may stand or may not.
+#[inline(always)]
+pub(crate) fn token_as(rest: &str, allowed: FrontmatterAllowed, edition: Edition) -> Token
+    requires not_empty { 0 < length rest.now }
+    requires fits { Fits rest.now }
+    ensures token { result ≡ state.token_at (mode_in allowed edition) rest.now }
+    ensures boundary { IsCharBoundary rest.now result.len }
 {
-    EditionTokens {
-        edition,
-        rest: text,
+    match edition {
+        Edition::E2024 => token_at(rest, allowed),
+        _ => older_token(rest, allowed, edition),
     }
 }
 
-/// An iterator over the tokens of a text in an edition, made by [`tokenize_in`].
-#[derive(Drop)]
-pub struct EditionTokens<'a> {
-    edition: Edition,
-    rest: &'a str,
-}
-
-impl<'a> Model for EditionTokens<'a> {
-    ghost use Rattle.rustc_lexer.specs.Classes.{Fits};
-    ghost use Rattle.rustc_lexer.specs.LanguageText.{part};
-    ghost use Rattle.rustc_lexer.specs.State.{State};
-
-    ghost Value = { State };
-
-    ghost view = { λ t. record { pending = 0; rest = t.rest.now; mode = part t.edition } };
-
-    ghost invariant = { λ t. Fits t.rest.now };
-}
-
-impl<'a> EditionTokens<'a> {
-    /// The text whose tokens were not given out yet.
-    pub fn as_str(&self) -> &'a str
-        ensures rest { result.now ≡ self.now.rest }
-        ensures mode { self.now.mode ≡ part (mode_edition self.now.mode) }
-        ensures pending { self.now.pending ≡ 0 }
-        ensures fits { Fits result.now }
-    {
-        self.rest
-    }
-}
-
-impl<'a> Iterator for EditionTokens<'a> {
-    type Item = Token;
-
-    ghost next_gives = { YieldsToken };
-
-    ghost remaining = { λ s. at_most (length s.rest) };
-
-    /// The next token, or `None` past the last one, from then on.
-    fn next(&mut self) -> Option<Token> {
-        let rest = self.as_str();
-        if rest.is_empty() {
-            return None;
-        }
-        let token = token_in(rest, self.edition);
-        self.rest = &rest[token.len as usize..];
-        Some(token)
-    }
+/// The same of any edition. It is not inlined, so that the way of the newest edition stays short.
+#[inline(never)]
+fn older_token(rest: &str, allowed: FrontmatterAllowed, edition: Edition) -> Token
+    requires not_empty { 0 < length rest.now }
+    requires fits { Fits rest.now }
+    ensures token { result ≡ state.token_at (mode_in allowed edition) rest.now }
+    ensures boundary { IsCharBoundary rest.now result.len }
+{
+    changed(token_at(rest, allowed), rest, edition)
 }
 
 /// The token at the front of a text, in an edition.

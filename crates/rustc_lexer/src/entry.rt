@@ -1,15 +1,18 @@
 //! The tokens of a text.
 ghost use Rattle.std.specs.Prelude.{◌≡◌, ◌<◌, length, All};
 ghost use Rattle.std.specs.Iterator.{at_most};
-ghost use Rattle.rustc_lexer.specs.declared.edition.Edition.TheVariants.{E2024};
+ghost use Rattle.rustc_lexer.specs.declared.edition.Edition.TheVariants.{E2015, E2018, E2024};
+ghost use Rattle.rustc_lexer.specs.declared.token.FrontmatterAllowed.TheVariants.{No};
 ghost use Rattle.rustc_lexer.specs.Classes.{Fits};
 ghost use Rattle.rustc_lexer.specs.LanguageHolds.{AreTheOnlyTokens, EachBeginsWithOne, NewestIsPage};
 ghost use Rattle.rustc_lexer.specs.LanguageReach.{LooksNoFurther, NoneLooksLess, RefusedStands};
-ghost use Rattle.rustc_lexer.specs.LanguageText.{mode_edition, mode_of};
+ghost use Rattle.rustc_lexer.specs.LanguageText.{mode_edition, mode_in, mode_of, part};
+ghost use Rattle.rustc_lexer.specs.Locality.{AreLocal};
 ghost use Rattle.rustc_lexer.specs.State.{HasSuffixWithin};
 ghost use Rattle.rustc_lexer.specs.Tokens.{HaveTexts, tokens_of, tokens_left, Partitions, RestartsAtBounds, YieldsToken};
 
-use crate::cursor::Cursor;
+use crate::cursor::next_allowed;
+use crate::edition::{Edition, token_as};
 use crate::token::{FrontmatterAllowed, Token};
 use std::iter::Iterator;
 use std::marker::Model;
@@ -52,26 +55,88 @@ pub fn tokenize<'a>(input: &'a str, frontmatter_allowed: FrontmatterAllowed) -> 
     ensures one_token { EachBeginsWithOne }
     ensures reach { LooksNoFurther × RefusedStands × NoneLooksLess }
 {
+    tokenize_as(input, frontmatter_allowed, Edition::E2024)
+}
+
+/// The tokens of a text in an edition, in order. The text has at most `u32::MAX` bytes, and no frontmatter.
+///
+/// The lengths of the tokens sum to that of the text, each token ends between two characters, and the text from
+/// the end of any token on has the rest of the tokens. With `Edition::E2024` they are those of
+/// [`tokenize`] with `FrontmatterAllowed::No`.
+///
+/// Which tokens another edition has in place of these is a table in `docs/EDITIONS.md`. A plain loop goes over
+/// them as over those of `tokenize`.
+pub fn tokenize_in<'a>(text: &'a str, edition: Edition) -> EditionTokens<'a>
+    requires fits { Fits text.now }
+    ensures state { result ≡ record { pending = 0; rest = text.now; mode = part edition } }
+    ensures tokens { tokens_left result ≡ tokens_of (part edition) text.now }
+    ensures partitions { Partitions text.now (tokens_of (part edition) text.now) }
+    ensures restarts { RestartsAtBounds edition text.now }
+    ensures suffixes { All HasSuffixWithin (tokens_of (part edition) text.now) }
+    ensures texts { HaveTexts text.now (tokens_of (part edition) text.now) }
+    ensures local { AreLocal (tokens_of (part edition)) }
+    ensures newest { tokens_of (part E2024) text.now ≡ tokens_of (mode_of No) text.now }
+    ensures language { AreTheOnlyTokens (part edition) text.now }
+    ensures page { NewestIsPage }
+    ensures oldest { tokens_of (part E2015) text.now ≡ tokens_of (part E2018) text.now }
+{
+    tokenize_as(text, FrontmatterAllowed::No, edition)
+}
+
+/// The tokens of a text in an edition, in order, where a frontmatter may stand in front or may not. The text has at
+/// most `u32::MAX` bytes.
+///
+/// So it reads a whole document of an older edition: past the frontmatter, which is the same in all editions, stand the
+/// tokens of that edition. [`tokenize`] is this call with the newest edition, and [`tokenize_in`] is this call with
+/// `FrontmatterAllowed::No`.
+pub fn tokenize_as<'a>(
+    text: &'a str,
+    frontmatter_allowed: FrontmatterAllowed,
+    edition: Edition,
+) -> Tokens<'a>
+    requires fits { Fits text.now }
+    ensures state { result
+        ≡ record { pending = 0; rest = text.now; mode = mode_in frontmatter_allowed edition } }
+    ensures tokens { tokens_left result ≡ tokens_of (mode_in frontmatter_allowed edition) text.now }
+    ensures partitions { Partitions text.now (tokens_of (mode_in frontmatter_allowed edition) text.now) }
+    ensures restarts { RestartsAtBounds edition text.now }
+    ensures suffixes { All HasSuffixWithin (tokens_of (mode_in frontmatter_allowed edition) text.now) }
+    ensures texts { HaveTexts text.now (tokens_of (mode_in frontmatter_allowed edition) text.now) }
+    ensures language { AreTheOnlyTokens (mode_in frontmatter_allowed edition) text.now }
+    ensures page { NewestIsPage }
+{
     Tokens {
-        cursor: Cursor::new(input, frontmatter_allowed),
+        rest: text,
+        frontmatter_allowed,
+        edition,
     }
 }
 
-/// An iterator over the tokens of a text, made by [`tokenize`].
+/// An iterator over the tokens of a text, made by [`tokenize`], [`tokenize_in`] and [`tokenize_as`].
 #[derive(Drop)]
 pub struct Tokens<'a> {
-    cursor: Cursor<'a>,
+    rest: &'a str,
+    frontmatter_allowed: FrontmatterAllowed,
+    edition: Edition,
 }
 
+/// Another name of [`Tokens`], for what [`tokenize_in`] makes.
+pub type EditionTokens<'a> = Tokens<'a>;
+
 impl<'a> Model for Tokens<'a> {
-    ghost use Rattle.std.specs.Prelude.{◌≡◌};
+    ghost use Rattle.rustc_lexer.specs.Classes.{Fits};
+    ghost use Rattle.rustc_lexer.specs.LanguageText.{mode_in};
     ghost use Rattle.rustc_lexer.specs.State.{State};
 
     ghost Value = { State };
 
-    ghost view = { λ t. t.cursor };
+    ghost view = { λ t. record {
+      pending = 0;
+      rest = t.rest.now;
+      mode = mode_in t.frontmatter_allowed t.edition;
+    } };
 
-    ghost invariant = { λ t. t.cursor.pending ≡ 0 };
+    ghost invariant = { λ t. Fits t.rest.now };
 }
 
 impl<'a> Tokens<'a> {
@@ -79,10 +144,18 @@ impl<'a> Tokens<'a> {
     #[inline(always)]
     pub fn as_str(&self) -> &'a str
         ensures rest { result.now ≡ self.now.rest }
-        ensures newest { mode_edition self.now.mode ≡ E2024 }
+        ensures pending { self.now.pending ≡ 0 }
         ensures fits { Fits result.now }
     {
-        self.cursor.as_str()
+        self.rest
+    }
+
+    /// Whether a frontmatter may stand in front of that text. By both a caller that stops can go on later.
+    #[inline(always)]
+    pub fn frontmatter_allowed(&self) -> FrontmatterAllowed
+        ensures { self.now.mode ≡ mode_in result (mode_edition self.now.mode) }
+    {
+        self.frontmatter_allowed
     }
 }
 
@@ -96,9 +169,13 @@ impl<'a> Iterator for Tokens<'a> {
     /// The next token, or `None` past the last one, from then on.
     #[inline(always)]
     fn next(&mut self) -> Option<Token> {
-        if self.as_str().is_empty() {
+        let rest = self.as_str();
+        if rest.is_empty() {
             return None;
         }
-        Some(self.cursor.advance_token())
+        let token = token_as(rest, self.frontmatter_allowed, self.edition);
+        self.rest = &rest[token.len as usize..];
+        self.frontmatter_allowed = next_allowed(self.frontmatter_allowed, token.kind);
+        Some(token)
     }
 }

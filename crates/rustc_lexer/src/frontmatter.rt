@@ -1,6 +1,7 @@
 //! Frontmatter: what may stand in front of the first token, between two fences of dashes.
 ghost use Rattle.std.specs.Prelude.{◌≡◌, ◌+◌, ◌-◌, ◌≤◌, ◌<◌, ◌==◌, ◌&&◌, true, false, length, nat_lt, slice_index, drop, MatchOption, IfSome, ◌∷◌};
 ghost use Rattle.std.specs.Str.{chars, IsCharBoundary};
+ghost use Rattle.rustc_lexer.specs.declared.edition.Edition.TheVariants.{E2024};
 ghost use Rattle.rustc_lexer.specs.Classes.{Fits};
 ghost use Rattle.rustc_lexer.specs.LanguageText.{document, mode_of};
 ghost use Rattle.rustc_lexer.specs.means.Frontmatter as spec;
@@ -36,7 +37,7 @@ pub(crate) fn token_at(text: &str, allowed: FrontmatterAllowed) -> Token
 #[inline(never)]
 fn frontmatter_or_lexeme(text: &str) -> Token
     requires fits { Fits text.now }
-    ensures token { result ≡ state.token_at document text.now }
+    ensures token { result ≡ state.token_at (document E2024) text.now }
     ensures inside { result.len ≤ length text.now }
     ensures boundary { IsCharBoundary text.now result.len }
     ensures suffix { HasSuffixWithin result }

@@ -24,8 +24,8 @@ pub use classes::{
     UNICODE_VERSION, fits, is_horizontal_whitespace, is_id_continue, is_id_start, is_whitespace,
 };
 pub use cursor::Cursor;
-pub use edition::{Edition, EditionTokens, UnknownEdition, tokenize_in};
-pub use entry::{Stepper, Steps, Tokens, tokenize};
+pub use edition::{Edition, UnknownEdition};
+pub use entry::{EditionTokens, Stepper, Steps, Tokens, tokenize, tokenize_as, tokenize_in};
 pub use lexemes::ident::is_ident;
 pub use raw_check::{starts_raw, validate_raw_str};
 pub use relex::{

@@ -1,7 +1,7 @@
 -- One more unit of a literal.
 use Rattle.std.proofs.Common.{◌≡◌, ℕ, false, true≢false, refl, ◌+◌, ◌≤◌, List, [], ◌∷◌, length, map, take, drop, min, max, sym, ap, ◌∙◌, arith, Option, Some, None}
 use Rattle.std.proofs.lemmas.List.{drop-drop, length-drop, length-map}
-use Rattle.std.proofs.Math.Nat.{le-max_left, le-max_right, min-le_right}
+use Rattle.std.proofs.Math.Nat.{le-max_left, le-max_right}
 use Rattle.std.specs.Option.{is_some, option_to_list}
 use Rattle.std.specs.Str.{IsUtf8, chars}
 use Rattle.rustc_literal_escaper.specs.declared.mode.Mode.{Mode}
@@ -36,7 +36,7 @@ none_left all at past over passed room None is low none taken =
     units_done all passed room room 0 refl refl (count_second 0 (length room) (length (drop passed all)) (omega arith) (omega arith))
 
 -- there are no more of them than bytes, or one
-listed_few : (listing : Listing) (mode : Mode) (text : List ℕ) → IsUtf8 text → length (listed listing mode text) ≤ max 1 (length text)
+pub listed_few : (listing : Listing) (mode : Mode) (text : List ℕ) → IsUtf8 text → length (listed listing mode text) ≤ max 1 (length text)
 listed_few Units mode text is = either (λ (us : List CUnit). length us ≤ max 1 (length text)) (is_single mode) (single_unit mode text ∷ []) (map (item_unit mode) (items_of (is_raw mode) text))
     (le-max_left 1 (length text))
     (omega (arith, length-map (items_of (is_raw mode) text) (item_unit mode), items-few (is_raw mode) text is, le-max_right 1 (length text)))
@@ -45,8 +45,3 @@ listed_few Errors mode text is =
     (omega (arith, alone-few (single_error (length text) mode (chars text)), le-max_left 1 (length text)))
     (omega (arith, errors-few mode (items_of (is_raw mode) text), items-few (is_raw mode) text is, le-max_right 1 (length text))) in
     omega (arith, few, length-map (errors_of mode text) (λ (e : Error). wrong_unit e.0 e.1))
-
-pub count_few : (listing : Listing) (mode : Mode) (text : List ℕ) → IsUtf8 text → (passed : ℕ) (room filled : List CUnit) (count : ℕ) → IsUnits (listed listing mode text) passed room filled count → count ≤ max 1 (length text)
-count_few listing mode text is passed room filled count units =
-    let all : List CUnit = listed listing mode text in
-    omega (arith, units.as_many, min-le_right (length room) (length (drop passed all)), length-drop passed all, listed_few listing mode text is)

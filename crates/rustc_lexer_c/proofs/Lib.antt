@@ -1,6 +1,5 @@
 pub mod BatchLemmas
 pub mod EscapeLemmas
-pub mod FillLemmas
 pub mod RelexLemmas
 pub mod RoomLemmas
 pub mod TokenLemmas

@@ -23,7 +23,7 @@ allowed_number Yes = 1
 
 -- whether what is left may begin with a frontmatter: 1 in front of a document, 0 in a part
 abbrev pub mode_number : Mode → ℕ
-mode_number document = 1
+mode_number (document edition) = 1
 mode_number (part edition) = 0
 
 -- zeros, which are the numbers of no token

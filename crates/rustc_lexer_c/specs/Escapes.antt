@@ -1,5 +1,5 @@
 -- What a literal stands for, as it crosses to C: its units in order, each as numbers with its place.
-use Rattle.std.specs.Prelude.{ℕ, ◌≡◌, ◌<◌, ◌≤◌, ◌^◌, if◌then◌else◌, List, [], ◌∷◌, ◌++◌, length, map, take, drop, min, nat_eq, Option, Some, None, Result, Ok, Err}
+use Rattle.std.specs.Prelude.{ℕ, ◌≡◌, ◌<◌, ◌≤◌, ◌^◌, if◌then◌else◌, List, [], ◌∷◌, ◌++◌, length, map, take, drop, max, min, nat_eq, Option, Some, None, Result, Ok, Err}
 use Rattle.std.specs.Str.{IsUtf8, chars}
 use Rattle.std.specs.declared.ops.Range.{Range}
 use Rattle.rustc_lexer.specs.Locality.{IsText}
@@ -126,6 +126,11 @@ listed Errors mode text = wrong_units_of mode text
 abbrev pub AreWritten : (Mode → List ℕ → List CUnit) → Option Mode → List ℕ → ℕ → List CUnit → List CUnit → ℕ → Type 0
 AreWritten list None text passed room filled count = ⊥
 AreWritten list (Some mode) text passed room filled count = IsUnits (list mode text) passed room filled count
+
+-- there are no more of them than the text has bytes, or one: so much room is enough
+abbrev pub AreFew : (Mode → List ℕ → List CUnit) → Option Mode → List ℕ → Type 0
+AreFew list None text = ⊥
+AreFew list (Some mode) text = length (list mode text) ≤ max 1 (length text)
 
 -- nothing is written
 abbrev pub AreNone : List CUnit → List CUnit → ℕ → Type 0

@@ -3,14 +3,14 @@ ghost use Rattle.std.specs.Prelude.{◌≡◌, ◌≢◌, length};
 ghost use Rattle.std.specs.Str.{IsUtf8, IsCharBoundary};
 ghost use Rattle.rustc_lexer.specs.Classes.{Fits};
 ghost use Rattle.rustc_lexer.specs.LanguageHolds.{IsDetermined};
-ghost use Rattle.rustc_lexer.specs.LanguageText.{mode_after, mode_of};
+ghost use Rattle.rustc_lexer.specs.LanguageText.{mode_of};
 ghost use Rattle.rustc_lexer.specs.Tokens.{tokens_of};
 ghost use Rattle.rustc_lexer_c.specs.Batch as spec;
 ghost use Rattle.rustc_lexer_c.specs.Status.{IsPlaceStatus};
 
 use crate::status::{Refusal, text_of, utf8_text_of};
 use crate::token::{CToken, token_numbers};
-use rustc_lexer::{FrontmatterAllowed, TokenKind, tokenize};
+use rustc_lexer::{FrontmatterAllowed, tokenize};
 
 /// A place in a text, from which tokens are taken.
 #[repr(C)]
@@ -134,54 +134,23 @@ fn batch(text: &str, place: &mut CPlace, room: &mut [CToken], count: &mut usize)
         *count = 0;
         return Refusal::BadPlace.number();
     }
-    *count = match allowed_of(place.frontmatter_allowed) {
-        FrontmatterAllowed::No => fill(text, place, room),
-        FrontmatterAllowed::Yes => fill_singly(text, place, room),
-    };
+    *count = fill(text, place, room);
     0
 }
 
-/// Writes the batch at a place between characters where no frontmatter is allowed, and answers its number of tokens.
+/// Writes the batch at a place between characters, and answers its number of tokens.
 fn fill(text: &str, place: &mut CPlace, room: &mut [CToken]) -> usize
     requires fits { Fits text.now }
     requires boundary { IsCharBoundary text.now place.old.at }
-    requires none { spec.allowed_of place.old.frontmatter_allowed ≡ FrontmatterAllowed.No }
     ensures { spec.IsBatch text.now (spec.state_at text.now place.old)
         room.old place.new room.new result }
 {
-    let mut tokens = tokenize(&text[place.at as usize..], FrontmatterAllowed::No);
+    let allowed = allowed_of(place.frontmatter_allowed);
+    let mut tokens = tokenize(&text[place.at as usize..], allowed);
     let count = tokens.fill(room);
     *place = CPlace {
         at: (text.len() - tokens.as_str().len()) as u32,
-        frontmatter_allowed: 0,
-    };
-    count
-}
-
-/// Writes the batch where a frontmatter is allowed, one token after another.
-fn fill_singly(text: &str, place: &mut CPlace, room: &mut [CToken]) -> usize
-    requires fits { Fits text.now }
-    requires boundary { IsCharBoundary text.now place.old.at }
-    requires begun { spec.allowed_of place.old.frontmatter_allowed ≡ FrontmatterAllowed.Yes }
-    ensures { spec.IsBatch text.now (spec.state_at text.now place.old)
-        room.old place.new room.new result }
-{
-    let mut at = place.at as usize;
-    let mut allowed = FrontmatterAllowed::Yes;
-    let mut tokens = tokenize(&text[at..], allowed);
-    let mut count = 0;
-    while count < room.len() {
-        let Some(token) = tokens.next() else {
-            break;
-        };
-        room[count] = token_numbers(token);
-        count += 1;
-        at += token.len as usize;
-        allowed = allowed_past(allowed, token.kind);
-    }
-    *place = CPlace {
-        at: at as u32,
-        frontmatter_allowed: allowed_number(allowed),
+        frontmatter_allowed: allowed_number(tokens.frontmatter_allowed()),
     };
     count
 }
@@ -204,15 +173,5 @@ fn allowed_number(allowed: FrontmatterAllowed) -> u32
     match allowed {
         FrontmatterAllowed::No => 0,
         FrontmatterAllowed::Yes => 1,
-    }
-}
-
-/// Whether a frontmatter is allowed past a token of the kind.
-fn allowed_past(allowed: FrontmatterAllowed, kind: TokenKind) -> FrontmatterAllowed
-    ensures { mode_of result ≡ mode_after (mode_of allowed) kind }
-{
-    match kind {
-        TokenKind::Whitespace | TokenKind::Eof => allowed,
-        _ => FrontmatterAllowed::No,
     }
 }

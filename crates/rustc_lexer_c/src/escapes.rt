@@ -1,5 +1,5 @@
 //! What a literal stands for, and what is wrong in it.
-ghost use Rattle.std.specs.Prelude.{◌≡◌, ◌≢◌, ◌≤◌, false, List, [], ◌∷◌, None, length, map, max};
+ghost use Rattle.std.specs.Prelude.{◌≡◌, ◌≢◌, false, List, [], ◌∷◌, None, map};
 ghost use Rattle.std.specs.Result.{result_err};
 ghost use Rattle.std.specs.Str.{IsUtf8};
 ghost use Rattle.rustc_lexer.specs.Locality.{IsText};
@@ -43,7 +43,7 @@ pub extern "C" fn rustc_lexer_unescape(
     ensures status { spec.IsModeStatus text.now (spec.mode_of mode) result }
     ensures units { result ≡ 0
         → spec.AreWritten spec.units_of (spec.mode_of mode) text.now passed room.old room.new count.new }
-    ensures bound { count.new ≤ max 1 (length text.now) }
+    ensures bound { result ≡ 0 → spec.AreFew spec.units_of (spec.mode_of mode) text.now }
     ensures refused { result ≢ 0 → spec.AreNone room.old room.new count.new }
 {
     match text_of(text) {
@@ -65,7 +65,7 @@ pub extern "C" fn rustc_lexer_unescape_unchecked(
     ensures status { spec.IsModeStatus text.now (spec.mode_of mode) result }
     ensures units { result ≡ 0
         → spec.AreWritten spec.units_of (spec.mode_of mode) text.now passed room.old room.new count.new }
-    ensures bound { count.new ≤ max 1 (length text.now) }
+    ensures bound { result ≡ 0 → spec.AreFew spec.units_of (spec.mode_of mode) text.now }
     ensures refused { result ≢ 0 → spec.AreNone room.old room.new count.new }
 {
     match utf8_text_of(text) {
@@ -89,7 +89,7 @@ pub extern "C" fn rustc_lexer_literal_errors(
     ensures status { spec.IsModeStatus text.now (spec.mode_of mode) result }
     ensures errors { result ≡ 0
         → spec.AreWritten spec.wrong_units_of (spec.mode_of mode) text.now passed room.old room.new count.new }
-    ensures bound { count.new ≤ max 1 (length text.now) }
+    ensures bound { result ≡ 0 → spec.AreFew spec.wrong_units_of (spec.mode_of mode) text.now }
     ensures refused { result ≢ 0 → spec.AreNone room.old room.new count.new }
 {
     match text_of(text) {
@@ -111,7 +111,7 @@ pub extern "C" fn rustc_lexer_literal_errors_unchecked(
     ensures status { spec.IsModeStatus text.now (spec.mode_of mode) result }
     ensures errors { result ≡ 0
         → spec.AreWritten spec.wrong_units_of (spec.mode_of mode) text.now passed room.old room.new count.new }
-    ensures bound { count.new ≤ max 1 (length text.now) }
+    ensures bound { result ≡ 0 → spec.AreFew spec.wrong_units_of (spec.mode_of mode) text.now }
     ensures refused { result ≢ 0 → spec.AreNone room.old room.new count.new }
 {
     match utf8_text_of(text) {
@@ -142,7 +142,7 @@ fn write(
     ensures status { spec.IsModeStatus text.now (spec.mode_of mode) result }
     ensures listed { result ≡ 0
         → spec.AreWritten (spec.listed listing) (spec.mode_of mode) text.now passed room.old room.new count.new }
-    ensures bound { count.new ≤ max 1 (length text.now) }
+    ensures bound { result ≡ 0 → spec.AreFew (spec.listed listing) (spec.mode_of mode) text.now }
     ensures refused { result ≢ 0 → spec.AreNone room.old room.new count.new }
 {
     match mode_of(mode) {

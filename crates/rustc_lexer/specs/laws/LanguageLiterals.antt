@@ -253,11 +253,11 @@ number-sound c digit s = literal-sound (c ∷ []) 1 kind true m s (bytes-letter 
     len = let at = number_kind_local c s in omega (arith, length-take-le m s at.inside)
 
 -- its first digit
-record HasDigit (w : List ℕ) : Type 0 where
-  first : ℕ
-  rest : List ℕ
-  whole : w ≡ first ∷ rest
-  digit : is_ascii_digit first ≡ true
+pub record HasDigit (w : List ℕ) : Type 0 where
+  pub first : ℕ
+  pub rest : List ℕ
+  pub whole : w ≡ first ∷ rest
+  pub digit : is_ascii_digit first ≡ true
 
 whole-digit : {base : Base} {empty : Bool} {w : List ℕ} → IsWhole base empty w → HasDigit w
 whole-digit (plain {d} {ds} digit are) = record { first = d; rest = ds; whole = refl; digit = digit }
@@ -283,9 +283,12 @@ first-reads next kind c v digit is =
     read : number_kind c (v ++ next) ≡ (kind, length v)
     read = pair _ _ _ _ (sym whole.0) (omega (arith, whole.1))
 
+pub longest-digit : (next : List ℕ) (kind : LiteralKind) (w : List ℕ) → IsLongestNumber kind (length w) (w ++ next) → HasDigit w
+longest-digit next kind w is = subst HasDigit (take-append_seam w next) (number-digit is.stands.is_number)
+
 pub number-reads : (next : List ℕ) (kind : LiteralKind) (w : List ℕ) → IsLongestNumber kind (length w) (w ++ next) → ReadsLiteral next kind true w
 number-reads next kind w is =
-    let d : HasDigit w = subst HasDigit (take-append_seam w next) (number-digit is.stands.is_number) in
+    let d = longest-digit next kind w is in
     subst (ReadsLiteral next kind true) (sym d.whole) (first-reads next kind d.first d.rest d.digit (subst (λ (u : List ℕ). IsLongestNumber kind (length u) (u ++ next)) d.whole is))
 
 -- ---- all but characters

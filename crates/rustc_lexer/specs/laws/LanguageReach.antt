@@ -4,6 +4,7 @@ use lib.Utf8.{encode}
 use Rattle.std.proofs.Math.Seq.{take-append_seam, drop-append_seam}
 use Rattle.std.proofs.lemmas.Bool.{and_parts, or_parts, or_from, eqb-true, not-true}
 use Rattle.std.proofs.lemmas.List.{append-nil}
+use Rattle.std.specs.Char.{is_ascii_digit}
 use Rattle.std.specs.List.{list_all, list_any}
 use Rattle.std.specs.Option.{is_some}
 use Rattle.rustc_lexer.specs.Classes.{is_id_start, is_id_continue, is_ident}
@@ -21,18 +22,20 @@ use Rattle.rustc_lexer.specs.Language.{ends_prefix, known_prefixes, begins_prefi
 use Rattle.rustc_lexer.specs.LanguageReach.{is_only, is_long_char, literal_reach, reach, is_refused, LooksNoFurther, RefusedStands, Needs, NoneLooksLess}
 use Rattle.rustc_lexer.specs.means.Lexeme.{past_first, lexeme}
 use Rattle.rustc_lexer.specs.Emoji.{is_emoji, emoji_ranges}
-use Rattle.rustc_lexer.specs.means.Number.{number_kind, fraction}
+use Rattle.rustc_lexer.specs.means.Number.{number_kind, fraction, number as number_past}
 use Rattle.rustc_lexer.specs.NumberGrammar as number
 use Rattle.rustc_lexer.specs.NumberGrammar.{IsExponent, IsTailBefore, IsNumberBefore}
-use Rattle.rustc_lexer.specs.means.Scan.{begins, next_is}
+use Rattle.rustc_lexer.specs.means.Scan.{IsLocalAt, begins, next_is}
 use Rattle.rustc_lexer.specs.Spans.{AreAll, NextIs, NextIsNot, is_word_continue, is_name_start, begins_ident_after}
 use Rattle.rustc_lexer.specs.laws.Language.{language, token-read}
 use Rattle.rustc_lexer.specs.Symbols.{symbols, kind_among}
 use Rattle.rustc_lexer.specs.laws.Choice.{by_test}
-use Rattle.rustc_lexer.specs.laws.LanguageRuns.{either-way, word-no_mark}
+use Rattle.rustc_lexer.specs.laws.LanguageLiterals.{HasDigit, longest-digit}
+use Rattle.rustc_lexer.specs.laws.LanguageRuns.{chooses-number, either-way, word-no_mark}
 use Rattle.rustc_lexer.specs.laws.LanguageWords.{continue-word}
 use Rattle.rustc_lexer.specs.laws.Lookahead.{lexeme_local}
-use Rattle.rustc_lexer.specs.laws.Reach.{told_same, next_is-told}
+use Rattle.rustc_lexer.specs.laws.Number.{is_float, number_float}
+use Rattle.rustc_lexer.specs.laws.Reach.{first_at, told_same, next_is-told}
 
 -- ---- one character, and the end
 
@@ -53,39 +56,81 @@ past : (w s u : List ℕ) → take 1 u ≡ take 1 s → take 1 (w ++ u) ≡ take
 past [] s u e = e
 past (c ∷ w) s u e = refl
 
--- ---- two characters are enough for each
+-- ---- two characters are enough for each, and one for a float
 
-seam : (w s : List ℕ) → take (length w + 2) (w ++ s) ≡ w ++ take 2 s
-seam w s = take-add (length w) 2 (w ++ s) ∙ (ap (λ (x : List ℕ). x ++ take 2 (drop (length w) (w ++ s))) (take-append_seam w s) ∙ ap (λ (x : List ℕ). w ++ take 2 x) (drop-append_seam w s))
+seam : (k : ℕ) (w s : List ℕ) → take (length w + k) (w ++ s) ≡ w ++ take k s
+seam k w s = take-add (length w) k (w ++ s) ∙ (ap (λ (x : List ℕ). x ++ take k (drop (length w) (w ++ s))) (take-append_seam w s) ∙ ap (λ (x : List ℕ). w ++ take k x) (drop-append_seam w s))
+
+by_local : (k : ℕ) (next other w : List ℕ) (kind : TokenKind) → IsTokenBefore next kind w → IsLocalAt TokenKind k lexeme (w ++ next) → take k other ≡ take k next → IsTokenBefore other kind w
+by_local k next other w kind p is e =
+    let read : lexeme (w ++ next) ≡ (kind, length w) = token-read p in
+    let agree : take (length w + k) (w ++ other) ≡ take (length w + k) (w ++ next) = seam k w other ∙ (ap (λ (x : List ℕ). w ++ x) e ∙ sym (seam k w next)) in
+    let far : take ((lexeme (w ++ next)).1 + k) (w ++ other) ≡ take ((lexeme (w ++ next)).1 + k) (w ++ next) =
+    subst (λ (m : ℕ). take (m + k) (w ++ other) ≡ take (m + k) (w ++ next)) (sym (ap (λ (r : TokenKind × ℕ). r.1) read)) agree in
+    (language other w kind).1 (is.local (w ++ other) far ∙ read)
 
 by_two : (next other w : List ℕ) (kind : TokenKind) → IsTokenBefore next kind w → take 2 other ≡ take 2 next → IsTokenBefore other kind w
-by_two next other w kind p e =
-    let read : lexeme (w ++ next) ≡ (kind, length w) = token-read p in
-    let agree : take (length w + 2) (w ++ other) ≡ take (length w + 2) (w ++ next) = seam w other ∙ (ap (λ (x : List ℕ). w ++ x) e ∙ sym (seam w next)) in
-    let far : take ((lexeme (w ++ next)).1 + 2) (w ++ other) ≡ take ((lexeme (w ++ next)).1 + 2) (w ++ next) =
-    subst (λ (m : ℕ). take (m + 2) (w ++ other) ≡ take (m + 2) (w ++ next)) (sym (ap (λ (r : TokenKind × ℕ). r.1) read)) agree in
-    (language other w kind).1 ((lexeme_local (w ++ next)).local (w ++ other) far ∙ read)
+by_two next other w kind p e = by_local 2 next other w kind p (lexeme_local (w ++ next)) e
+
+abbrev is_float_token : TokenKind → Bool
+is_float_token (Literal kind suffix_start) = is_float kind
+is_float_token kind = false
+
+float-at : (c : ℕ) (v next : List ℕ) (kind : LiteralKind) (n : ℕ) → is_ascii_digit c ≡ true → is_float kind ≡ true → lexeme (c ∷ v ++ next) ≡ (Literal kind n, suc (length v)) → IsLocalAt TokenKind 1 lexeme (c ∷ v ++ next)
+float-at c v next kind n digit float read =
+    let chosen : past_first c ≡ number_past c = chooses-number c digit in
+    let first : (past_first c (v ++ next)).0 ≡ Literal kind n = ap (λ (r : TokenKind × ℕ). r.0) read in
+    let is : is_float (number_kind c (v ++ next)).0 ≡ true = ap (λ (f : List ℕ → TokenKind × ℕ). is_float_token (f (v ++ next)).0) (sym chosen) ∙ (ap is_float_token first ∙ float) in
+    first_at 1 past_first lexeme c (v ++ next) (λ c s. refl) (subst (λ (f : List ℕ → TokenKind × ℕ). IsLocalAt TokenKind 1 f (v ++ next)) (sym chosen) (number_float c (v ++ next) is))
+
+by_float : (next other w : List ℕ) (kind : LiteralKind) (n : ℕ) → IsTokenBefore next (Literal kind n) w → is_float kind ≡ true → HasDigit w → take 1 other ≡ take 1 next → IsTokenBefore other (Literal kind n) w
+by_float next other w kind n p float d e =
+    let read = subst (λ (x : List ℕ). lexeme (x ++ next) ≡ (Literal kind n, length x)) d.whole (token-read p) in
+    by_local 1 next other w (Literal kind n) p (subst (λ (x : List ℕ). IsLocalAt TokenKind 1 lexeme (x ++ next)) (sym d.whole) (float-at d.first d.rest next kind n d.digit float read)) e
 
 -- ---- literals
 
 -- how far a number looks; and it is no raw string
+abbrev number_reach : Bool → ℕ
+number_reach float = if float then 1 else 2
+
 abbrev IsNumberKind : LiteralKind → List ℕ → Type 0
-IsNumberKind kind v = (literal_reach kind v ≡ 2) × (is_refused kind ≡ false)
+IsNumberKind kind v = (literal_reach kind v ≡ number_reach (is_float kind)) × (is_refused kind ≡ false)
 
-exponent-two : {base : Base} {kind : LiteralKind} {w : List ℕ} → IsExponent base kind w → (v : List ℕ) → IsNumberKind kind v
-exponent-two (number.signed e g ds) v = (refl, refl)
-exponent-two (number.unsigned e ds) v = (refl, refl)
+exponent-kind : {base : Base} {kind : LiteralKind} {w : List ℕ} → IsExponent base kind w → (v : List ℕ) → IsNumberKind kind v
+exponent-kind (number.signed e g ds) v = (refl, refl)
+exponent-kind (number.unsigned e ds) v = (refl, refl)
 
-tail-two : {next : List ℕ} {base : Base} {kind : LiteralKind} {w : List ℕ} → IsTailBefore next base kind w → (v : List ℕ) → IsNumberKind kind v
-tail-two number.nothing v = (refl, refl)
-tail-two (number.dot e) v = (refl, refl)
-tail-two (number.of_fraction d ds) v = (refl, refl)
-tail-two (number.of_exponent e is) v = exponent-two is v
-tail-two (number.of_both ds d all is) v = exponent-two is v
+tail-kind : {next : List ℕ} {base : Base} {kind : LiteralKind} {w : List ℕ} → IsTailBefore next base kind w → (v : List ℕ) → IsNumberKind kind v
+tail-kind number.nothing v = (refl, refl)
+tail-kind (number.dot e) v = (refl, refl)
+tail-kind (number.of_fraction d ds) v = (refl, refl)
+tail-kind (number.of_exponent e is) v = exponent-kind is v
+tail-kind (number.of_both ds d all is) v = exponent-kind is v
 
-number-two : {next : List ℕ} {kind : LiteralKind} {w : List ℕ} → IsNumberBefore next kind w → (v : List ℕ) → IsNumberKind kind v
-number-two (number.of_prefix is) v = (refl, refl)
-number-two (number.of_parts is tail) v = tail-two tail v
+number-kind : {next : List ℕ} {kind : LiteralKind} {w : List ℕ} → IsNumberBefore next kind w → (v : List ℕ) → IsNumberKind kind v
+number-kind (number.of_prefix is) v = (refl, refl)
+number-kind (number.of_parts is tail) v = tail-kind tail v
+
+number-looks : (float : Bool) → 0 < number_reach float
+number-looks true = omega arith
+number-looks false = omega arith
+
+float-digit : {next : List ℕ} {kind : LiteralKind} {takes : Bool} {w : List ℕ} → IsLiteralBefore next kind takes w → is_float kind ≡ true → HasDigit w
+float-digit {next} (lit.number {kind} {w} is) e = longest-digit next kind w is
+float-digit (lit.str q) e = absurd (true≢false (sym e))
+float-digit (lit.byte_str q) e = absurd (true≢false (sym e))
+float-digit (lit.c_str q) e = absurd (true≢false (sym e))
+float-digit (lit.byte_char q) e = absurd (true≢false (sym e))
+float-digit (lit.char_of_one out) e = absurd (true≢false (sym e))
+float-digit (lit.char q stop) e = absurd (true≢false (sym e))
+float-digit (lit.char_of_name w start all) e = absurd (true≢false (sym e))
+float-digit (lit.raw_str q free) e = absurd (true≢false (sym e))
+float-digit (lit.raw_byte_str q) e = absurd (true≢false (sym e))
+float-digit (lit.raw_c_str q) e = absurd (true≢false (sym e))
+
+digit-append : {w : List ℕ} → HasDigit w → (suffix : List ℕ) → HasDigit (w ++ suffix)
+digit-append d suffix = record { first = d.first; rest = d.rest ++ suffix; whole = ap (λ (x : List ℕ). x ++ suffix) d.whole; digit = d.digit }
 
 double-alike : {next : List ℕ} {t : Bool} {w : List ℕ} → IsDoubleQuoted next t w → (other : List ℕ) → take 1 other ≡ take 1 next → IsDoubleQuoted other t w
 double-alike {next} (lit.closed q) other e = lit.closed q
@@ -126,18 +171,18 @@ byte-closed : (t : Bool) (v : List ℕ) → literal_reach (Byte t) v ≡ 1 → t
 byte-closed true v e = refl
 byte-closed false v e = absurd (omega (arith, e))
 
-literal-alike : {next : List ℕ} {kind : LiteralKind} {takes : Bool} {w : List ℕ} → IsLiteralBefore next kind takes w → (v : List ℕ) → literal_reach kind v ≡ 1 → (other : List ℕ) → take 1 other ≡ take 1 next → IsLiteralBefore other kind takes w
-literal-alike {next} (lit.number {kind} {w} is) v one other e = absurd (let two = (number-two is.stands.is_number v).0 in omega (arith, one, two))
-literal-alike {next} (lit.str q) v one other e = lit.str (double-alike q other e)
-literal-alike {next} (lit.byte_str q) v one other e = lit.byte_str (double-alike q other e)
-literal-alike {next} (lit.c_str q) v one other e = lit.c_str (double-alike q other e)
-literal-alike {next} (lit.byte_char {t} q) v one other e = lit.byte_char (single-alike q (byte-closed t v one) other e)
-literal-alike {next} (lit.char_of_one out) v one other e = lit.char_of_one out
-literal-alike {next} (lit.char {t} q stop) v one other e = lit.char (single-alike q (char-closed t v one) other e) stop
-literal-alike {next} (lit.char_of_name w start all) v one other e = lit.char_of_name w start all
-literal-alike {next} (lit.raw_str q free) v one other e = lit.raw_str (raw-alike q other e) free
-literal-alike {next} (lit.raw_byte_str q) v one other e = lit.raw_byte_str (raw-alike q other e)
-literal-alike {next} (lit.raw_c_str q) v one other e = lit.raw_c_str (raw-alike q other e)
+literal-alike : {next : List ℕ} {kind : LiteralKind} {takes : Bool} {w : List ℕ} → IsLiteralBefore next kind takes w → is_float kind ≡ false → (v : List ℕ) → literal_reach kind v ≡ 1 → (other : List ℕ) → take 1 other ≡ take 1 next → IsLiteralBefore other kind takes w
+literal-alike {next} (lit.number {kind} {w} is) whole v one other e = absurd (let two : literal_reach kind v ≡ 2 = (number-kind is.stands.is_number v).0 ∙ ap number_reach whole in omega (arith, one, two))
+literal-alike {next} (lit.str q) whole v one other e = lit.str (double-alike q other e)
+literal-alike {next} (lit.byte_str q) whole v one other e = lit.byte_str (double-alike q other e)
+literal-alike {next} (lit.c_str q) whole v one other e = lit.c_str (double-alike q other e)
+literal-alike {next} (lit.byte_char {t} q) whole v one other e = lit.byte_char (single-alike q (byte-closed t v one) other e)
+literal-alike {next} (lit.char_of_one out) whole v one other e = lit.char_of_one out
+literal-alike {next} (lit.char {t} q stop) whole v one other e = lit.char (single-alike q (char-closed t v one) other e) stop
+literal-alike {next} (lit.char_of_name w start all) whole v one other e = lit.char_of_name w start all
+literal-alike {next} (lit.raw_str q free) whole v one other e = lit.raw_str (raw-alike q other e) free
+literal-alike {next} (lit.raw_byte_str q) whole v one other e = lit.raw_byte_str (raw-alike q other e)
+literal-alike {next} (lit.raw_c_str q) whole v one other e = lit.raw_c_str (raw-alike q other e)
 
 suffix-alike : {next w : List ℕ} → IsSuffixBefore next w → (other : List ℕ) → take 1 other ≡ take 1 next → IsSuffixBefore other w
 suffix-alike {next} (lit.none stop) other e = lit.none (stops _ next other e stop)
@@ -169,7 +214,7 @@ and-false false = refl
 
 -- what looks at nothing
 literal-none : {next : List ℕ} {kind : LiteralKind} {takes : Bool} {w : List ℕ} → IsLiteralBefore next kind takes w → (s : List ℕ) → literal_reach kind (w ++ s) ≡ 0 → (takes ≡ false) × ((other : List ℕ) → IsLiteralBefore other kind takes w)
-literal-none (lit.number {kind} {w} is) s e = absurd (let two = (number-two is.stands.is_number (w ++ s)).0 in omega (arith, two, e))
+literal-none (lit.number {kind} {w} is) s e = absurd (let reach = (number-kind is.stands.is_number (w ++ s)).0 in omega (arith, reach, number-looks (is_float kind), e))
 literal-none (lit.str q) s e = absurd (omega (arith, e))
 literal-none (lit.byte_str q) s e = absurd (omega (arith, e))
 literal-none (lit.c_str q) s e = absurd (omega (arith, e))
@@ -196,17 +241,17 @@ abbrev long_reach : Bool → ℕ
 long_reach b = if b then 0 else 1
 
 -- by how far the literal looks
-by_reach : {A : Type 0} (kind : LiteralKind) (w : List ℕ) → (literal_reach kind w ≡ 0 → A) → (literal_reach kind w ≡ 1 → A) → (literal_reach kind w ≡ 2 → A) → A
-by_reach (Int base empty) w none one two = two refl
-by_reach (Float base empty) w none one two = two refl
-by_reach (Char false) w none one two = two refl
-by_reach (Byte false) w none one two = two refl
-by_reach {A} (Char true) w none one two = by_long (is_long_char w) none one
+by_reach : {A : Type 0} (kind : LiteralKind) (w : List ℕ) → (literal_reach kind w ≡ 0 → A) → (is_float kind ≡ true → literal_reach kind w ≡ 1 → A) → (is_float kind ≡ false → literal_reach kind w ≡ 1 → A) → (literal_reach kind w ≡ 2 → A) → A
+by_reach (Int base empty) w none float one two = two refl
+by_reach (Float base empty) w none float one two = float refl refl
+by_reach (Char false) w none float one two = two refl
+by_reach (Byte false) w none float one two = two refl
+by_reach {A} (Char true) w none float one two = by_long (is_long_char w) none (one refl)
   where
     by_long : (b : Bool) → (long_reach b ≡ 0 → A) → (long_reach b ≡ 1 → A) → A
     by_long true none one = none refl
     by_long false none one = one refl
-by_reach kind w none one two = one refl
+by_reach kind w none float one two = one refl refl
 
 -- ---- prefixes
 
@@ -283,11 +328,13 @@ token-alike {next} (the.unknown_prefix_lifetime {c} {w} start all hash free) oth
 token-alike {next} (the.raw_lifetime is stop) other e = the.raw_lifetime is (stops _ next other e stop)
 token-alike {next} (the.literal {kind} {w} is) other e = by_reach kind w
     (λ none. the.literal (literal-end is none other))
-    (λ one. the.literal (literal-alike is w one other (subst (λ (k : ℕ). take k other ≡ take k next) one e)))
+    (λ float one. by_float next other w kind _ (the.literal is) float (float-digit is float) (subst (λ (k : ℕ). take k other ≡ take k next) one e))
+    (λ whole one. the.literal (literal-alike is whole w one other (subst (λ (k : ℕ). take k other ≡ take k next) one e)))
     (λ two. by_two next other w _ (the.literal is) (subst (λ (k : ℕ). take k other ≡ take k next) two e))
 token-alike {next} (the.literal_with {kind} {w} {suffix} is suffix_is) other e = by_reach kind (w ++ suffix)
     (λ none. absurd (true≢false (literal-none is suffix none).0))
-    (λ one. let near = subst (λ (k : ℕ). take k other ≡ take k next) one e in the.literal_with (literal-alike is (w ++ suffix) one (suffix ++ other) (past suffix next other near)) (suffix-alike suffix_is other near))
+    (λ float one. by_float next other (w ++ suffix) kind _ (the.literal_with is suffix_is) float (digit-append (float-digit is float) suffix) (subst (λ (k : ℕ). take k other ≡ take k next) one e))
+    (λ whole one. let near = subst (λ (k : ℕ). take k other ≡ take k next) one e in the.literal_with (literal-alike is whole (w ++ suffix) one (suffix ++ other) (past suffix next other near)) (suffix-alike suffix_is other near))
     (λ two. by_two next other (w ++ suffix) _ (the.literal_with is suffix_is) (subst (λ (k : ℕ). take k other ≡ take k next) two e))
 token-alike {next} (the.slash stop) other e = the.slash (stops _ next other e stop)
 token-alike {next} (the.pound stop) other e = the.pound (stops _ next other e stop)
@@ -316,7 +363,7 @@ none-cr None e = refl
 none-cr (Some n) e = absurd (true≢false (sym e))
 
 literal-takes : {next : List ℕ} {kind : LiteralKind} {takes : Bool} {w : List ℕ} → IsLiteralBefore next kind takes w → is_refused kind ≡ true → takes ≡ false
-literal-takes (lit.number is) e = absurd (either-way _ e (number-two is.stands.is_number []).1)
+literal-takes (lit.number is) e = absurd (either-way _ e (number-kind is.stands.is_number []).1)
 literal-takes (lit.str q) e = absurd (true≢false (sym e))
 literal-takes (lit.byte_str q) e = absurd (true≢false (sym e))
 literal-takes (lit.c_str q) e = absurd (true≢false (sym e))
@@ -329,7 +376,7 @@ literal-takes (lit.raw_byte_str {n} q) e = ap is_some (none-br n e)
 literal-takes (lit.raw_c_str {n} q) e = ap is_some (none-cr n e)
 
 literal-stands : {c : ℕ} {next : List ℕ} {kind : LiteralKind} {takes : Bool} {w : List ℕ} → IsLiteralBefore (c ∷ next) kind takes w → is_refused kind ≡ true → (other : List ℕ) → IsLiteralBefore other kind takes w
-literal-stands (lit.number is) e other = absurd (either-way _ e (number-two is.stands.is_number []).1)
+literal-stands (lit.number is) e other = absurd (either-way _ e (number-kind is.stands.is_number []).1)
 literal-stands (lit.str q) e other = absurd (true≢false (sym e))
 literal-stands (lit.byte_str q) e other = absurd (true≢false (sym e))
 literal-stands (lit.c_str q) e other = absurd (true≢false (sym e))
@@ -408,7 +455,9 @@ none_looks_less = record {
   prefix_lifetime = needs UnknownPrefixLifetime (codes "'a") (codes "#") (codes "b") 3 (omega arith) refl refl refl (omega arith);
   prefix_lifetime_r = needs UnknownPrefixLifetime (codes "'r") (codes "#1") (codes "#a") 4 (omega arith) refl refl refl (omega arith);
   raw_lifetime = needs RawLifetime (codes "'r#a") (codes " ") (codes "b") 5 (omega arith) refl refl refl (omega arith);
-  number = needs (Literal (Int Decimal false) 1) (codes "1") (codes "..") (codes ".5") 3 (omega arith) refl refl refl (omega arith);
+  integer = needs (Literal (Int Decimal false) 1) (codes "1") (codes "..") (codes ".5") 3 (omega arith) refl refl refl (omega arith);
+  float = needs (Literal (Float Decimal false) 3) (codes "1.5") (codes " ") (codes "5") 4 (omega arith) refl refl refl (omega arith);
+  exponent = needs (Literal (Float Decimal true) 2) (codes "1e") (codes " ") (codes "+") 3 (omega arith) refl refl refl (omega arith);
   character = needs (Literal (Char true) 3) (codes "'a'") (codes " ") (codes "b") 4 (omega arith) refl refl refl (omega arith);
   two_quotes = needs (Literal (Char true) 2) (codes "''") (codes " ") (codes "'") 3 (omega arith) refl refl refl (omega arith);
   stopped_character = needs (Literal (Char false) 1) (codes "'") (codes "\nx") (codes "\n'") 3 (omega arith) refl refl refl (omega arith);

@@ -1,5 +1,5 @@
--- A number looks two characters past its end.
-use Rattle.std.proofs.Common.{◌≡◌, ℕ, ◌≤◌, ◌==◌, Bool, true, false, true≢false, if◌then◌else◌, List, [], ◌∷◌, length, drop, refl, sym, arith, codes}
+-- A number looks two characters past its end, and a float one.
+use Rattle.std.proofs.Common.{◌≡◌, ℕ, ◌+◌, ◌≤◌, ◌==◌, Bool, true, false, true≢false, if◌then◌else◌, List, [], ◌∷◌, length, drop, refl, sym, ◌∙◌, arith, codes}
 use Rattle.std.specs.Char.{is_ascii_digit, is_ascii_hexdigit}
 use Rattle.std.specs.List.{list_any}
 use Rattle.std.specs.Str.{byte}
@@ -8,9 +8,9 @@ use Rattle.rustc_lexer.specs.declared.token.Base.TheVariants.{Binary, Octal, Hex
 use Rattle.rustc_lexer.specs.declared.token.LiteralKind.{LiteralKind}
 use Rattle.rustc_lexer.specs.declared.token.LiteralKind.TheVariants.{Int, Float}
 use Rattle.rustc_lexer.specs.declared.token.TokenKind.{TokenKind}
-use Rattle.rustc_lexer.specs.laws.Literal.{literal_local}
+use Rattle.rustc_lexer.specs.laws.Literal.{literal_at, literal_local}
 use Rattle.rustc_lexer.specs.means.Number.{or_underscore, digits, Front, prefixed, decimal, front_past_zero, front, float, is_exponent_letter, is_sign, past_sign, float_exponent, optional_exponent, fraction_digits, fraction, begins_fraction, past_digits, tail, number_kind, with_suffix, number_body, number}
-use Rattle.rustc_lexer.specs.laws.Reach.{IsToldBy, next_is-told, wider, read_as_at, and_then_local, after_at, either_at, begins_local, next_is_local, gives_local, run_as_local, run_local}
+use Rattle.rustc_lexer.specs.laws.Reach.{IsToldBy, next_is-told, wider, read_as_at, and_then_at, and_then_local, after_at, yes_at, no_at, either_at, begins_local, next_is_local, gives_local, run_as_local, run_local}
 use Rattle.rustc_lexer.specs.means.Scan.{IsLocalAt, IsLocal, after, gives, next_is, read_as, run}
 
 pub digits_local : (is_digit : ℕ → Bool) → IsLocal Bool 1 (digits is_digit)
@@ -74,3 +74,38 @@ number_kind_local first = and_then_local 2 (front first) tail (λ s. wider 1 2 (
 
 pub number_local : (first : ℕ) → IsLocal TokenKind 2 (number first)
 number_local first = literal_local 2 (number_body first) (omega arith) (λ s. read_as_at 2 with_suffix (number_kind first) s (number_kind_local first s))
+
+-- ---- floats
+
+abbrev pub is_float : LiteralKind → Bool
+is_float (Float base empty_exponent) = true
+is_float kind = false
+
+past_digits_float : (base : Base) (s : List ℕ) → is_float (past_digits base s).0 ≡ true → IsLocalAt LiteralKind 1 (past_digits base) s
+past_digits_float base s float = by_fraction (begins_fraction s) refl
+  where
+    exponent : List ℕ → LiteralKind × ℕ
+    exponent s = if next_is is_exponent_letter s then after 1 (float_exponent base) s else gives (Int base false) s
+
+    by_letter : begins_fraction s ≡ false → (b : Bool) → next_is is_exponent_letter s ≡ b → 2 ≤ (exponent s).1 + 1
+    by_letter none true t = rw t (omega arith)
+    by_letter none false t = absurd (true≢false (sym float ∙ rw (none, t) refl))
+
+    by_fraction : (b : Bool) → begins_fraction s ≡ b → IsLocalAt LiteralKind 1 (past_digits base) s
+    by_fraction true t = yes_at 2 1 begins_fraction (after 1 (fraction base)) exponent begins_fraction-told s t (omega arith) (after_at 1 1 (fraction base) s (begins_fraction-length s t) (fraction_local base (drop 1 s)))
+    by_fraction false t = no_at 2 1 begins_fraction (after 1 (fraction base)) exponent begins_fraction-told s t (by_letter t (next_is is_exponent_letter s) refl)
+        (next_is_local 1 is_exponent_letter (float_exponent base) (gives (Int base false)) (omega arith) (float_exponent_local base) (gives_local 1 (Int base false)) s)
+
+tail_float : (front : Front) (s : List ℕ) → is_float (tail front s).0 ≡ true → IsLocalAt LiteralKind 1 (tail front) s
+tail_float front s = by_empty front.empty
+  where
+    by_empty : (b : Bool) → is_float (if b then gives (Int front.base true) s else past_digits front.base s).0 ≡ true → IsLocalAt LiteralKind 1 (λ s. if b then gives (Int front.base true) s else past_digits front.base s) s
+    by_empty true float = absurd (true≢false (sym float))
+    by_empty false float = past_digits_float front.base s float
+
+number_kind_float : (first : ℕ) (s : List ℕ) → is_float (number_kind first s).0 ≡ true → IsLocalAt LiteralKind 1 (number_kind first) s
+unfolding number_kind
+number_kind_float first s float = and_then_at 1 1 (front first) tail s (front_local first s) (tail_float (front first s).0 (drop (front first s).1 s) float) (omega arith)
+
+pub number_float : (first : ℕ) (s : List ℕ) → is_float (number_kind first s).0 ≡ true → IsLocalAt TokenKind 1 (number first) s
+number_float first s float = literal_at 1 1 (number_body first) s (λ t. omega arith) (read_as_at 1 with_suffix (number_kind first) s (number_kind_float first s float))

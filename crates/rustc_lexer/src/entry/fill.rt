@@ -1,11 +1,14 @@
 //! The tokens of a text, many at once.
-ghost use Rattle.std.specs.Prelude.{◌≡◌, ◌<◌, drop, length};
-ghost use Rattle.rustc_lexer.specs.Bulk.{IsFilled, state_past};
-ghost use Rattle.rustc_lexer.specs.Tokens.{bound, tokens_left};
+ghost use Rattle.std.specs.Prelude.{◌≡◌, ◌<◌, drop, length, IsCharBoundary, IsTrue};
+ghost use Rattle.rustc_lexer.specs.Bulk.{IsFilled, IsFilledTo, state_past};
+ghost use Rattle.rustc_lexer.specs.Classes.{Fits};
+ghost use Rattle.rustc_lexer.specs.LanguageText.{mode_edition, part};
+ghost use Rattle.rustc_lexer.specs.Tokens.{bound, tokens_left, tokens_of};
 
 use crate::bulk::{self, Record};
 use crate::edition::Edition;
 use crate::entry::Tokens;
+use crate::token::FrontmatterAllowed;
 use std::iter::Iterator;
 
 /// The ends of runs are found for so many bytes at once. It does not pay for fewer.
@@ -33,16 +36,31 @@ impl<'a> Tokens<'a> {
         ensures state { self.new ≡ state_past result self.old }
         ensures left { tokens_left self.new ≡ drop result (tokens_left self.old) }
         ensures rest { self.new.rest ≡ drop (bound (tokens_left self.old) result) self.old.rest }
+        ensures edition { mode_edition self.new.mode ≡ mode_edition self.old.mode }
+        ensures part { self.old.mode ≡ part (mode_edition self.old.mode) → self.new
+            ≡ record {
+              pending = self.old.pending;
+              rest = drop (bound (tokens_left self.old) result) self.old.rest;
+              mode = self.old.mode;
+            } }
         ensures progress { 0 < length room.old → 0 < length self.old.rest
             → length self.new.rest < length self.old.rest }
     {
         let rest = self.as_str();
-        if self.cursor.allows_none() && rest.len() >= BLOCK {
-            let (count, bytes) = bulk::fill(rest, rest.len(), Edition::E2024, room);
-            self.cursor.skip(bytes);
+        if self.is_part() && rest.len() >= BLOCK {
+            let (count, bytes) = fill_part(rest, self.edition, room);
+            self.rest = &rest[bytes..];
             return count;
         }
         self.fill_singly(room)
+    }
+
+    /// Whether no frontmatter may stand in what is left.
+    #[inline(always)]
+    fn is_part(&self) -> bool
+        ensures { IsTrue result → self.now.mode ≡ part (mode_edition self.now.mode) }
+    {
+        matches!(self.frontmatter_allowed, FrontmatterAllowed::No)
     }
 
     /// Writes the next tokens into the room, as `fill` does, one after another.
@@ -61,5 +79,22 @@ impl<'a> Tokens<'a> {
             count += 1;
         }
         count
+    }
+}
+
+/// Writes the first tokens of a text into the room, in an edition.
+///
+/// The newest edition has a body of its own, in which no token asks for the edition.
+#[inline(always)]
+fn fill_part<R: Record>(text: &str, edition: Edition, room: &mut [R]) -> (usize, usize)
+    requires fits { Fits text.now }
+    ensures filled { IsFilledTo R.written (length text.now) (tokens_of (part edition) text.now)
+        room.old room.new result.0 }
+    ensures bytes { result.1 ≡ bound (tokens_of (part edition) text.now) result.0 }
+    ensures boundary { IsCharBoundary text.now result.1 }
+{
+    match edition {
+        Edition::E2024 => bulk::fill(text, text.len(), Edition::E2024, room),
+        _ => bulk::fill(text, text.len(), edition, room),
     }
 }

@@ -200,6 +200,8 @@ pub(crate) fn lex_edit<S: Stepper>(
         (λ r. r
         ≡ relexed_of (S.grammar stepper.old) (string_bytes text.old)
         edit.entry.start edit.entry.stop edit.entry.insert.now) }
+    ensures all { IfOk result
+        (λ r. r.kept_front + r.lexed + r.kept_back ≡ length tokens.new.items) }
     ensures count { IfOk result (λ r. S.count stepper.new ≡ S.count stepper.old + r.lexed) }
     ensures rose { S.count stepper.old ≤ S.count stepper.new }
     ensures few { OnErr result

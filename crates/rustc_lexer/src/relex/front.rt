@@ -40,7 +40,7 @@ pub struct Bound {
 }
 
 /// The first bound, which each list has.
-const FIRST: Bound = Bound {
+pub(crate) const FIRST: Bound = Bound {
     number: 0,
     place: 0,
 };
@@ -131,11 +131,11 @@ pub(crate) fn kept_front<T: Measured>(text: &str, tokens: &[T], start: usize, ne
 /// The first bound from `from` on that is at or past `target`, or the last one.
 fn next_bound<T: Measured>(tokens: &[T], from: Bound, target: usize) -> Bound
     requires number { from.number ≤ length tokens.now }
-    requires small { from.place < 2 ^ 40 }
+    requires small { from.place < 2 ^ 63 }
     requires target_small { target < 2 ^ 34 }
     ensures number { result.number ≤ length tokens.now }
     ensures ahead { from.number ≤ result.number }
-    ensures small { result.place < 2 ^ 40 }
+    ensures small { result.place < 2 ^ 63 }
     ensures bound { (ts : List Token) → HasLengths ts (map T.bytes tokens.now) → IsBound ts from
         → ((k : ℕ) → k < from.number → bound ts k < target)
         → IsBound ts result
@@ -175,12 +175,12 @@ pub(crate) fn follow<T: Measured>(
     damage: Damage,
 ) -> Meeting
     requires number { from.number ≤ length tokens.now }
-    requires small { from.place < 2 ^ 40 }
+    requires small { from.place < 2 ^ 63 }
     requires added_le { damage.added ≤ damage.past }
     requires place_fits { place + damage.removed < 2 ^ 34 }
     ensures number { result.at.number ≤ length tokens.now }
     ensures ahead { from.number ≤ result.at.number }
-    ensures small { result.at.place < 2 ^ 40 }
+    ensures small { result.at.place < 2 ^ 63 }
     ensures stays { place < damage.past → result.at ≡ from }
     ensures early { place < damage.past → result.met ≡ false }
     ensures followed { (ts : List Token) → HasLengths ts (map T.bytes tokens.now) → IsBound ts from

@@ -1,11 +1,11 @@
 //! Bounds that are remembered, so that a search begins near where it ends.
-ghost use Rattle.std.specs.Prelude.{List};
+ghost use Rattle.std.specs.Prelude.{◌≤◌, List};
 ghost use Rattle.std.specs.List.{All, Contains};
 ghost use Rattle.rustc_lexer.specs.declared.token.Token.{Token};
 ghost use Rattle.rustc_lexer.specs.means.Landmarks.{AreBounds, IsMovable, IsReplaced};
 ghost use Rattle.rustc_lexer.specs.Relexing.{IsBound};
 
-use crate::relex::front::Bound;
+use crate::relex::front::{Bound, FIRST};
 
 /// How many bounds are remembered.
 const COUNT: usize = 64;
@@ -21,12 +21,8 @@ impl Landmarks {
     pub(crate) fn new() -> Landmarks
         ensures { (tokens : List Token) → AreBounds tokens result }
     {
-        let first = Bound {
-            number: 0,
-            place: 0,
-        };
         Landmarks {
-            bounds: [first; COUNT],
+            bounds: [FIRST; COUNT],
         }
     }
 
@@ -51,6 +47,22 @@ impl Landmarks {
             }
         }
         nearest
+    }
+
+    /// The last one that at most `number` tokens stand before, or the first bound of the list.
+    pub(crate) fn before_number(&self, number: usize) -> Bound
+        ensures number { result.number ≤ number }
+        ensures bound { (tokens : List Token) → AreBounds tokens self.now → IsBound tokens result }
+        ensures last { All (λ bound. bound.number ≤ number → bound.number ≤ result.number)
+            self.now.bounds }
+    {
+        let mut last = FIRST;
+        for bound in &self.bounds {
+            if last.number < bound.number && bound.number <= number {
+                last = *bound;
+            }
+        }
+        last
     }
 
     /// Where they are after an edit that keeps the tokens up to `kept`, and those from `met` on, which is then

@@ -1,8 +1,8 @@
 //! A text that is kept with its tokens.
-ghost use Rattle.std.specs.Prelude.{◌≡◌, ◌+◌, ◌≤◌, ◌↔◌, IfOk, IfErr, OnOk, OnErr, IsTrue, length};
+ghost use Rattle.std.specs.Prelude.{◌≡◌, ◌+◌, ◌^◌, ◌<◌, ◌≤◌, ◌↔◌, IfOk, IfErr, OnOk, OnErr, IsTrue, length};
 ghost use Rattle.rustc_lexer.specs.declared.edition.Edition.TheVariants.{E2024};
 ghost use Rattle.rustc_lexer.specs.Classes.{Fits};
-ghost use Rattle.rustc_lexer.specs.Tokens.{tokens_by, tokens_of};
+ghost use Rattle.rustc_lexer.specs.Tokens.{bound, tokens_by, tokens_of};
 ghost use Rattle.rustc_lexer.specs.Edits.{IsEdit, IsInside, apply, relexed_of};
 ghost use Rattle.rustc_lexer.specs.LanguageHolds.{HoldsTheOnlyTokensBy};
 ghost use Rattle.rustc_lexer.specs.LanguageText.{part};
@@ -99,6 +99,17 @@ impl<S: Stepper> LexedText<S> {
         &self.stepper
     }
 
+    /// Where the bound with the number is, in bytes from the start of the text. The search begins at the last bound up to
+    /// it that is remembered.
+    pub(crate) fn place_of(&self, number: usize) -> u32
+        requires inside { number ≤ length self.now.tokens }
+        ensures { result ≡ bound self.now.tokens number }
+    {
+        let near = self.landmarks.before_number(number);
+        let start = near.place as u32;
+        end_from(start, &self.tokens.as_slice()[near.number..number])
+    }
+
     /// Whether there are no more tokens than bytes. It is so, since the tokens are those of the text and none is empty.
     pub(crate) fn is_consistent(&self) -> bool
         ensures always { IsTrue result }
@@ -138,6 +149,8 @@ impl<S: Stepper> LexedText<S> {
             self.new.tokens }
         ensures relexed { IfOk result
             (λ r. r ≡ relexed_of (S.grammar self.old.stepper) self.old.text start stop insert.now) }
+        ensures all { IfOk result
+            (λ r. r.kept_front + r.lexed + r.kept_back ≡ length self.new.tokens) }
         ensures count { IfOk result
             (λ r. S.count self.new.stepper ≡ S.count self.old.stepper + r.lexed) }
         ensures grammar { S.grammar self.new.stepper ≡ S.grammar self.old.stepper }
@@ -163,6 +176,18 @@ impl<S: Stepper> LexedText<S> {
             },
         )
     }
+}
+
+/// Where the last of the tokens ends, the first of which begins at `start`.
+fn end_from(start: u32, tokens: &[Token]) -> u32
+    requires { start + bound tokens.now (length tokens.now) < 2 ^ 32 }
+    ensures { result ≡ start + bound tokens.now (length tokens.now) }
+{
+    let mut end = start;
+    for token in tokens {
+        end += token.len;
+    }
+    end
 }
 
 impl LexedText<Steps> {

@@ -1,12 +1,14 @@
 //! The pieces of a text that is kept with its tokens.
-ghost use Rattle.std.specs.Prelude.{◌≡◌, length};
-ghost use Rattle.std.specs.Iterator.{at_most};
+ghost use Rattle.std.specs.Prelude.{◌≡◌, ◌-◌, ◌≤◌, IfSome, Some, drop, length, take};
+ghost use Rattle.std.specs.Iterator.{UpTo, at_most};
+ghost use Rattle.std.specs.Iterator.SizeHint.{IsWithinCount};
 ghost use Rattle.rustc_lexer.specs.Pieces.{pieces_left, pieces_of, YieldsPiece};
+ghost use Rattle.rustc_lexer.specs.Tokens.{bound};
 
 use crate::entry::stepper::Stepper;
 use crate::relex::lexed_text::LexedText;
 use crate::token::Token;
-use std::iter::Iterator;
+use std::iter::{ExactSizeIterator, Iterator};
 use std::marker::Model;
 
 /// A token, where it stands in its text, and its part of the text.
@@ -20,7 +22,7 @@ pub struct Piece<'a> {
     pub text: &'a str,
 }
 
-/// An iterator over the pieces of a text, made by [`LexedText::pieces`].
+/// An iterator over the pieces of a text, made by [`LexedText::pieces`] or [`LexedText::pieces_of`].
 ///
 /// A piece begins where the one before it ended, and its text is the slice of the text there.
 #[derive(Drop)]
@@ -63,6 +65,23 @@ impl<'a> Iterator for Pieces<'a> {
         self.tokens = tokens;
         Some(piece)
     }
+
+    /// How many pieces are left, twice.
+    fn size_hint(&self) -> (usize, Option<usize>)
+        ensures lower { IsWithinCount result.0 (at_most (length self.now.tokens)) }
+        ensures upper { IfSome result.1 (UpTo (at_most (length self.now.tokens))) }
+        ensures exact { result ≡ (length self.now.tokens, Some (length self.now.tokens)) }
+    {
+        let left = self.tokens.len();
+        (left, Some(left))
+    }
+}
+
+impl<'a> ExactSizeIterator for Pieces<'a> {
+    /// How many pieces are left.
+    fn len(&self) -> usize {
+        self.tokens.len()
+    }
 }
 
 impl<S: Stepper> LexedText<S> {
@@ -76,6 +95,27 @@ impl<S: Stepper> LexedText<S> {
             text: self.text(),
             start: 0,
             tokens: self.tokens(),
+        }
+    }
+
+    /// The pieces of the tokens from number `from` up to number `to`, such as those that an edit lexed. Few of the tokens
+    /// before them are read.
+    pub fn pieces_of(&self, from: usize, to: usize) -> Pieces<'_>
+        requires from_le_to { from ≤ to }
+        requires to_inside { to ≤ length self.now.tokens }
+        ensures state { result
+            ≡ record {
+              text = self.now.text;
+              start = bound self.now.tokens from;
+              tokens = take (to - from) (drop from self.now.tokens);
+            } }
+        ensures pieces { pieces_left result
+            ≡ take (to - from) (drop from (pieces_of self.now.text self.now.tokens)) }
+    {
+        Pieces {
+            text: self.text(),
+            start: self.place_of(from),
+            tokens: &self.tokens()[from..to],
         }
     }
 }

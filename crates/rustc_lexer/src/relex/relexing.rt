@@ -15,8 +15,8 @@ use crate::entry::stepper::Stepper;
 use crate::relex::front::{Bound, Damage, Measured, follow, kept_front};
 use crate::token::Token;
 
-/// A place that no bound of a list that is passed in good faith has.
-const MOST: usize = 1 << 40;
+/// The greatest place that a bound may have. No text is longer, also where a `usize` has 32 bits.
+const MOST: usize = usize::MAX / 2;
 
 /// What is put in is lexed many tokens at once where it has so many bytes. It does not pay for fewer.
 pub(crate) const LONG: usize = 256;
@@ -119,7 +119,7 @@ impl Relexing {
         text.is_char_boundary(self.at)
             && self.back.number <= old_count
             && self.front.number <= self.back.number
-            && self.back.place < MOST
+            && self.back.place <= MOST
             && self.lexed <= self.at
     }
 

@@ -1,4 +1,5 @@
 use Rattle.std.proofs.Common.{arith}
+use Rattle.rustc_lexer.specs.declared.edition.Edition.TheVariants.{E2024}
 use Rattle.rustc_lexer.specs.LanguageText.{document}
 use Rattle.rustc_lexer.specs.Tokens.{tokens_of, tokens_left}
 use Rattle.rustc_lexer.proofs.PlaceLemmas.{piece_is, stands_past}
@@ -21,4 +22,4 @@ loop-token-preserved c =
 pub returns : goal.returns
 returns c =
     let at = c.loop-token.token-iterator in
-    bytes_end c.loop-token.counter c.args.text.now at.rest (tokens_of document c.args.text.now) (tokens_left at) c.finish.result c.loop-token.invariant.left c.in-None.ensures.steps.0 c.finish.ensures
+    bytes_end c.loop-token.counter c.args.text.now at.rest (tokens_of (document E2024) c.args.text.now) (tokens_left at) c.finish.result c.loop-token.invariant.left c.in-None.ensures.steps.0 c.finish.ensures

@@ -1,17 +1,19 @@
-use Rattle.std.proofs.Common.{refl}
-use Rattle.std.specs.Iterator.Adapters.{take_count, take_source}
-use Rattle.rustc_lexer.specs.Pieces.{pieces_left, pieces_of, placed}
-use Rattle.examples.proofs.RepaintLemmas.{passed, paints_piece}
+use Rattle.std.proofs.Common.{◌≡◌, ◌-◌, List, take, drop, length, refl, ap, ◌∙◌, subst, arith}
+use Rattle.std.specs.Fmt.{WritesInCalls}
+use Rattle.rustc_lexer.specs.Pieces.{Left, Placed, pieces_left, pieces_of, placed}
+use Rattle.examples.specs.Highlight.{with_marks}
+use Rattle.examples.specs.Repaint.{marked}
+use Rattle.examples.proofs.RepaintLemmas.{paints_piece}
 use Rattle.examples.proofs.repaint.repaint.Goals as goal
 
-pub loop-preserved : goal.loop-preserved
-loop-preserved g c = passed c.loop.pieces c.next.new.self c.next.result (pieces_of c.args.lexed.now.text c.args.lexed.now.tokens) c.loop.counter c.loop.invariant c.next.ensures.steps
+pub loop-piece-init : goal.loop-piece-init
+loop-piece-init g c =
+    let relexed = c.args.relexed in
+    let all : List Placed = pieces_of c.args.lexed.now.text c.args.lexed.now.tokens in
+    let many : length c.tokens.result.now - relexed.kept_back - relexed.kept_front ≡ relexed.lexed = omega (arith, c.requires.all, ap length c.tokens.ensures.tokens) in
+    let left = ap (λ (s : Left). pieces_left s) c.into_iter-piece-iterator.ensures.into_iter_gives ∙ (c.pieces_of-piece-items.ensures.pieces ∙ ap (λ n. take n (drop relexed.kept_front all)) many) in
+    λ w more. subst (λ (ps : List Placed). WritesInCalls g.W.Write.write_str_gives c.args.output.now (with_marks (marked ps)) w) left more
 
 pub loop-piece-preserved : goal.loop-piece-preserved
-loop-piece-preserved g c =
-    let at = c.loop-piece.piece-iterator in
-    let past = c.next-in-loop-piece.new.self in
-    let step = c.in-Some.ensures.steps in
-    λ w more. c.loop-piece.invariant w (paints_piece g.W.Write.write_str_gives c.loop-piece.output c.write_str.new.self c.write_str-in-loop-piece.new.self c.write_str-in-loop-piece-2.new.self w (take_count at) (take_count past)
-    (pieces_left (take_source at)) (pieces_left (take_source past)) (placed c.in-Some.piece) c.opening.result.now c.closing.result.now
-    step.0.first step.1 c.opening.ensures c.closing.ensures (c.in_ok-write_str.ensures.ok refl) (c.in_ok-write_str-2.ensures.ok refl) (c.in_ok-write_str-3.ensures.ok refl) more)
+loop-piece-preserved g c = λ w more. c.loop-piece.invariant w (paints_piece g.W.Write.write_str_gives _ _ _ _ w _ _ (placed c.in-Some.piece) _ _ c.in-Some.ensures.steps.first
+    c.opening.ensures c.closing.ensures (c.in_ok-write_str.ensures.ok refl) (c.in_ok-write_str-2.ensures.ok refl) (c.in_ok-write_str-3.ensures.ok refl) more)

@@ -9,5 +9,5 @@ abbrev pub invariant-loop-token : goal.invariant-loop-token
 invariant-loop-token g l = record {
   place : StandsAt l.text l.start l.token-iterator;
   left : (w : _) → WritesInCalls g.W.Write.write_str_gives l.output (marked_tokens l.style l.token-iterator.rest (tokens_left l.token-iterator)) w
-      → WritesInCalls g.W.Write.write_str_gives l.initial.output (marked_tokens l.style l.text (tokens_of document l.text)) w;
+      → WritesInCalls g.W.Write.write_str_gives l.initial.output (marked_tokens l.style l.text (tokens_of (document l.fn.edition) l.text)) w;
 }

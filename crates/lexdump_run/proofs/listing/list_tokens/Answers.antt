@@ -7,7 +7,7 @@ use Rattle.lexdump_run.proofs.ListingLemmas.{none_left, rooms_start, rooms_fit, 
 use Rattle.lexdump_run.proofs.listing.list_tokens.Goals as goal
 
 pub left-init : goal.left-init
-left-init g c = (c.requires.writes, rooms_start _ _ _ _ _ _ c.tokenize-tokens.ensures.tokens (ap (λ (s : State). s.rest) c.tokenize-tokens.ensures.state) c.tokenize-tokens.ensures.partitions.whole)
+left-init g c = (c.requires.writes, rooms_start _ _ _ _ _ _ c.tokenize_as-tokens.ensures.tokens (ap (λ (s : State). s.rest) c.tokenize_as-tokens.ensures.state) c.tokenize_as-tokens.ensures.partitions.whole)
 
 pub push_lines-requires-clause-fits : goal.push_lines-requires-clause-fits
 push_lines-requires-clause-fits g c =

@@ -1,11 +1,11 @@
-use Rattle.std.proofs.Common.{◌≡◌, ◌-◌, ℕ, List, length, refl, sym, ap, ◌∙◌}
+use Rattle.std.proofs.Common.{◌≡◌, ◌-◌, ℕ, List, length, ap, ◌∙◌}
 use Rattle.rustc_lexer.specs.declared.token.FrontmatterAllowed.{FrontmatterAllowed}
 use Rattle.rustc_lexer.specs.LanguageText.{mode_of}
 use Rattle.rustc_lexer.specs.Locality.{IsText}
 use Rattle.rustc_lexer.specs.State.{State}
 use Rattle.rustc_lexer.proofs.StateLemmas.{state}
 use Rattle.rustc_lexer_c.specs.Batch.{state_at}
-use Rattle.rustc_lexer_c.proofs.FillLemmas.{batch_is}
+use Rattle.rustc_lexer_c.proofs.BatchLemmas.{batch_is}
 use Rattle.rustc_lexer_c.proofs.batch.fill.Goals as goal
 
 begun : (rest cut : List ℕ) (allowed given : FrontmatterAllowed) (s : State) → s ≡ record { pending = 0; rest = rest; mode = mode_of allowed } → rest ≡ cut → allowed ≡ given
@@ -16,6 +16,7 @@ pub returns : goal.returns
 returns c =
     let text : List ℕ = c.args.text.now in
     let is : IsText text = record { utf8 = c.utf8.text; fits = c.requires.fits } in
-    let from : c.tokenize-tokens.result ≡ state_at text c.args.place.now = begun _ _ _ _ c.tokenize-tokens.result c.tokenize-tokens.ensures.state c.range_from.ensures.value (sym c.requires.none) in
-    batch_is text is c.args.place.now c.requires.boundary c.requires.none c.tokenize-tokens.result c.fill-count.new.self c.args.room.now c.fill-count.new.room c.fill-count.result from c.fill-count.ensures.filled c.fill-count.ensures.rest _
-    (ap (λ (xs : List ℕ). length text - length xs) c.as_str.ensures.rest) refl
+    let from : c.tokenize-tokens.result ≡ state_at text c.args.place.now = begun _ _ _ _ c.tokenize-tokens.result c.tokenize-tokens.ensures.state c.range_from.ensures.value c.allowed_of-allowed.ensures in
+    batch_is text is c.args.place.now c.requires.boundary c.tokenize-tokens.result c.fill-count.new.self c.args.room.now c.fill-count.new.room c.fill-count.result from
+    c.fill-count.ensures.filled c.fill-count.ensures.state c.fill-count.ensures.left c.fill-count.ensures.rest c.fill-count.ensures.edition _ c.frontmatter_allowed.result
+    (ap (λ (xs : List ℕ). length text - length xs) c.as_str.ensures.rest) c.frontmatter_allowed.ensures c.allowed_number.ensures

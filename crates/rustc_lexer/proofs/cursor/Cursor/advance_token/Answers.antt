@@ -1,5 +1,6 @@
 use Rattle.std.proofs.Common.{◌≡◌, ◌+◌, ◌-◌, ◌==◌, List, ℕ, length, drop, drop-drop, refl, sym, ap, subst, ◌∙◌, arith}
 use Rattle.rustc_lexer.specs.declared.token.Token.{Token}
+use Rattle.rustc_lexer.specs.declared.edition.Edition.TheVariants.{E2024}
 use Rattle.rustc_lexer.specs.LanguageText.{mode_of}
 use Rattle.rustc_lexer.specs.State.{State, token_past}
 use Rattle.rustc_lexer.specs.means.Taking.{token_at}
@@ -34,7 +35,7 @@ returns c =
     ∙ (ap (λ (t : Token). token_past (c.self.inside.index - c.self.inside.start) t) (c.token_at-token.ensures.token ∙ ap (token_at (mode_of c.self.inside.frontmatter_allowed)) is)
     ∙ sym (ap (λ (r : Token × State). r.0) some)) in
     let state = ap (λ p. state p (drop (i + n) c.self.inside.text.now) (mode_of c.next_allowed-self-inside.result)) none
-    ∙ (past_token-is (drop i c.self.inside.text.now) _ (mode_of c.self.inside.frontmatter_allowed) _ c.token_at-token.result (sym (drop-drop n i c.self.inside.text.now)) c.next_allowed-self-inside.ensures
+    ∙ (past_token-is (drop i c.self.inside.text.now) _ (mode_of c.self.inside.frontmatter_allowed) _ c.token_at-token.result (sym (drop-drop n i c.self.inside.text.now)) (c.next_allowed-self-inside.ensures E2024)
     ∙ (ap (λ (t : Token). past_token (drop i c.self.inside.text.now) (mode_of c.self.inside.frontmatter_allowed) t) (c.token_at-token.ensures.token ∙ ap (token_at (mode_of c.self.inside.frontmatter_allowed)) is)
     ∙ sym (ap (λ (r : Token × State). r.1) some))) in
     let text : IsText c.args.self.now.rest = subst IsText c.as_str-rest.ensures.rest record { utf8 = c.as_str-rest.utf8; fits = c.as_str-rest.ensures.fits } in

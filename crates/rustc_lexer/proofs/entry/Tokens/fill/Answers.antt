@@ -1,23 +1,45 @@
-use Rattle.std.proofs.Common.{length, drop, refl, sym, ap, subst, ◌∙◌}
+use Rattle.std.proofs.Common.{◌≡◌, length, drop, refl, ap, subst, ◌∙◌}
+use Rattle.rustc_lexer.specs.LanguageText.{Mode, mode_edition, mode_in}
 use Rattle.rustc_lexer.specs.State.{State}
 use Rattle.rustc_lexer.specs.Locality.{IsText}
 use Rattle.rustc_lexer.specs.Tokens.{tokens_left}
-use Rattle.rustc_lexer.specs.laws.Lookahead.{first_token_grammar}
-use Rattle.rustc_lexer.proofs.BulkLemmas.{filled_all, fills, shorter_left}
+use Rattle.rustc_lexer.specs.laws.Edition.{edition_grammar}
+use Rattle.rustc_lexer.proofs.BulkLemmas.{edition-held, edition-stays, part-left, filled_all, fills, shorter_left}
 use Rattle.rustc_lexer.proofs.StateLemmas.{state}
 use Rattle.rustc_lexer.proofs.TokensLemmas.{partitions}
 use Rattle.rustc_lexer.proofs.entry.Tokens.fill.Goals as goal
 
 pub returns-then-rest-ge-BLOCK : goal.returns-then-rest-ge-BLOCK
 returns-then-rest-ge-BLOCK g c =
-    let all = fills g.R.Record.written c.args.self.now c.skip.new.self c.as_str-rest.result.now record { utf8 = c.as_str-rest.utf8; fits = c.as_str-rest.ensures.fits } c.as_str-rest.ensures.rest
-    (sym (ap (λ (x : State). x.pending) c.self.view_is) ∙ c.self.invariant)
-    (sym (ap (λ (x : State). x.mode) c.self.view_is) ∙ c.allows_none.ensures c.if-allows_none.true)
-    c.args.room.now c.fill-count.new.room c.fill-count.result.0 c.fill-count.result.1
-    (filled_all first_token_grammar g.R.Record.written c.as_str-rest.result.now record { utf8 = c.as_str-rest.utf8; fits = c.as_str-rest.ensures.fits } _ refl c.args.room.now c.fill-count.new.room c.fill-count.result.0 c.fill-count.ensures.filled)
-    c.fill-count.ensures.bytes
-    (c.skip.ensures ∙ ap (λ (x : State). state 0 (drop c.fill-count.result.1 x.rest) x.mode) c.self.view_is) in
-    record { filled = all.holds; state = all.state_is; left = all.left; rest = all.rest; progress = all.progress }
+    let s : State = c.args.self.now in
+    let edition = c.self.inside.edition in
+    let mode : Mode = mode_in c.self.inside.frontmatter_allowed edition in
+    let text = c.as_str-rest.result.now in
+    let left = c.range_from-self-inside.result.now in
+    let bytes = c.fill_part-count.result.1 in
+    let is : IsText text = record { utf8 = c.as_str-rest.utf8; fits = c.as_str-rest.ensures.fits } in
+    let same : mode ≡ s.mode = ap (λ (x : State). x.mode) c.self.view_is in
+    let all = fills g.R.Record.written edition s (state 0 left mode) text is c.as_str-rest.ensures.rest c.as_str-rest.ensures.pending
+    (edition-held c.self.inside.frontmatter_allowed edition s.mode same (c.is_part.ensures c.if-is_part.true))
+    c.args.room.now c.fill_part-count.new.room c.fill_part-count.result.0 bytes
+    (filled_all (edition_grammar edition) g.R.Record.written text is _ refl c.args.room.now c.fill_part-count.new.room c.fill_part-count.result.0 c.fill_part-count.ensures.filled)
+    c.fill_part-count.ensures.bytes
+    (ap (λ xs. state 0 xs mode) (c.range_from-self-inside.ensures.value ∙ ap (drop bytes) c.as_str-rest.ensures.rest) ∙ ap (state 0 (drop bytes s.rest)) same) in
+    record {
+      filled = all.holds;
+      state = all.state_is;
+      left = all.left;
+      rest = all.rest;
+      edition = ap (λ (x : State). mode_edition x.mode) all.state_is ∙ edition-stays c.fill_part-count.result.0 s;
+      part = part-left s (state 0 left mode) c.fill_part-count.result.0 _ c.as_str-rest.ensures.pending all.state_is all.rest;
+      progress = all.progress;
+    }
+
+pub returns-clause-edition : goal.returns-clause-edition
+returns-clause-edition g c = ap (λ (x : State). mode_edition x.mode) c.fill_singly.ensures.state ∙ edition-stays c.fill_singly.result c.args.self.now
+
+pub returns-clause-part : goal.returns-clause-part
+returns-clause-part g c = part-left c.args.self.now c.fill_singly.new.self c.fill_singly.result _ c.as_str-rest.ensures.pending c.fill_singly.ensures.state c.fill_singly.ensures.rest
 
 pub returns-clause-progress : goal.returns-clause-progress
 returns-clause-progress g c =

@@ -13,7 +13,7 @@ use Rattle.rustc_lexer.specs.Locality.{IsText}
 use Rattle.rustc_lexer.specs.means.Landmarks.{AreBounds}
 use Rattle.rustc_lexer.proofs.EditLemmas.{put_back}
 use Rattle.rustc_lexer.proofs.RelexingLemmas.{made_for, made_change, made_text}
-use Rattle.rustc_lexer.proofs.RenewedLemmas.{renewed_are, renewed_bounds}
+use Rattle.rustc_lexer.proofs.RenewedLemmas.{renewed_all, renewed_are, renewed_bounds}
 use Rattle.rustc_lexer.proofs.relex.edit.lex_edit.Goals as goal
 
 -- the edit made the text
@@ -77,6 +77,20 @@ returns-in-Ok-clause-relexed g c =
     let many : length (map (λ (t : Token). t.len) c.args.tokens.now.items) ≡ length c.as_slice-count.result.now = omega (arith, length-map c.args.tokens.now.items (λ (t : Token). t.len), ap length c.as_slice-count.ensures.value) in
     let exact = c.counts.ensures.exact _ _ _ _ _ _ (g.S.Stepper.law c.args.stepper.now) made many l.stands l.met in
     exact.0
+
+pub returns-in-Ok-clause-all : goal.returns-in-Ok-clause-all
+returns-in-Ok-clause-all g c =
+    let made = made_of c.requires.text c.requires.insert c.requires.edit c.requires.from_scratch c.as_str-made.ensures.value c.put_in_place.ensures.text c.reserve.ensures.bytes in
+    let renewed = c.in-Ok.ensures.renewed _ _ made (near_bound c.args.landmarks.now c.requires.from_scratch c.requires.landmarks c.nearest-near.ensures) in
+    let counts = c.counts.ensures.counts in
+    omega (
+      arith,
+      renewed_all (g.S.Stepper.law c.args.stepper.now) c.requires.from_scratch made renewed.0,
+      ap length c.as_slice-count.ensures.value,
+      ap (λ (r : Relexed). r.kept_front) counts,
+      ap (λ (r : Relexed). r.lexed) counts,
+      ap (λ (r : Relexed). r.kept_back) counts,
+    )
 
 pub returns-in-Ok-clause-count : goal.returns-in-Ok-clause-count
 returns-in-Ok-clause-count g c =

@@ -1,0 +1,11 @@
+use Rattle.std.proofs.Common.{◌<◌, ◌≤◌, ℕ, List, get_or}
+use Rattle.rustc_lexer.specs.declared.relex.front.Bound.{Bound}
+use Rattle.rustc_lexer.specs.declared.token.Token.{Token}
+use Rattle.rustc_lexer.specs.means.Landmarks.{AreBounds}
+use Rattle.rustc_lexer.specs.Relexing.{IsBound}
+use Rattle.rustc_lexer.proofs.relex.landmarks.Landmarks.before_number.Given as goal
+
+abbrev pub invariant-loop-bound : goal.invariant-loop-bound
+invariant-loop-bound l = (l.last.number ≤ l.number)
+    × ((tokens : List Token) → AreBounds tokens l.self → IsBound tokens l.last)
+    × ((k : ℕ) (d : Bound) → k < l.bound-index → (get_or l.self.bounds k d).number ≤ l.number → (get_or l.self.bounds k d).number ≤ l.last.number)

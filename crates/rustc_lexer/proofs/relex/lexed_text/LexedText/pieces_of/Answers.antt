@@ -1,0 +1,21 @@
+use Rattle.std.proofs.Common.{◌≡◌, ◌-◌, ◌≤◌, List, length, slice_range, sym, ap, ◌∙◌, arith}
+use Rattle.rustc_lexer.specs.declared.token.Token.{Token}
+use Rattle.rustc_lexer.specs.Tokens.{bound, tokens_by}
+use Rattle.rustc_lexer.specs.means.Pieces.{AreBoundariesFrom}
+use Rattle.rustc_lexer.proofs.PieceLemmas.{cuts_part, cuts_whole, pieces-part}
+use Rattle.rustc_lexer.proofs.relex.lexed_text.LexedText.pieces_of.Goals as goal
+
+pub invariant_of-result : goal.invariant_of-result
+invariant_of-result g c =
+    let first = g.S.Stepper.grammar c.args.self.now.stepper in
+    let text = c.text.result.now in
+    let tokens : List Token = c.tokens.result.now in
+    let whole = cuts_whole (g.S.Stepper.law c.args.self.now.stepper) text tokens record { utf8 = c.text.utf8; fits = c.text.ensures.fits } (c.tokens.ensures.from_scratch ∙ ap (tokens_by first) (sym c.text.ensures.text)) in
+    let few : c.args.from ≤ length tokens = omega (arith, c.requires.from_le_to, c.requires.to_inside, ap length c.tokens.ensures.tokens) in
+    let start : c.place_of.result ≡ bound tokens c.args.from = c.place_of.ensures ∙ ap (λ (ts : List Token). bound ts c.args.from) (sym c.tokens.ensures.tokens) in
+    let cut : AreBoundariesFrom text c.place_of.result (slice_range tokens c.args.from c.args.to) = rw start (cuts_part text tokens c.args.from (c.args.to - c.args.from) few whole) in
+    (c.text.ensures.fits, cut)
+
+pub returns-clause-pieces : goal.returns-clause-pieces
+returns-clause-pieces g c =
+    rw (c.text.ensures.text, c.place_of.ensures, c.tokens.ensures.tokens) (pieces-part c.args.self.now.text c.args.self.now.tokens c.args.from (c.args.to - c.args.from))
