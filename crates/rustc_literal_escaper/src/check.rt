@@ -19,20 +19,33 @@ use std::ops::Range;
 pub fn check_for_errors<F: FnMut(Range<usize>, EscapeError)>(
     src: &str,
     mode: Mode,
-    error_callback: F,
+    mut error_callback: F,
 )
     requires callable { F.IsAlwaysCallable error_callback }
     ensures calls { (last : F) × FoldsTo (λ f error g. F.step f error.0 error.1 tt g)
         error_callback (spec.errors_of mode src.now) last }
 {
+    each_error(src, mode, &mut error_callback);
+}
+
+/// Calls `callback` with each error, and for nothing else.
+///
+/// That is said of the closure as it is left here. One that is passed by value is let go at the end of its call, and no
+/// clause can speak of it there.
+#[inline(always)]
+fn each_error<F: FnMut(Range<usize>, EscapeError)>(src: &str, mode: Mode, callback: &mut F)
+    requires callable { F.IsAlwaysCallable callback.old }
+    ensures calls { FoldsTo (λ f error g. F.step f error.0 error.1 tt g)
+        callback.old (spec.errors_of mode src.now) callback.new }
+{
     match mode {
-        Mode::Char | Mode::Byte => check_single(src, mode, error_callback),
-        Mode::Str => check_string(src, mode, error_callback),
-        Mode::ByteStr => check_string(src, mode, error_callback),
-        Mode::CStr => check_string(src, mode, error_callback),
-        Mode::RawStr => check_string(src, mode, error_callback),
-        Mode::RawByteStr => check_string(src, mode, error_callback),
-        Mode::RawCStr => check_string(src, mode, error_callback),
+        Mode::Char | Mode::Byte => check_single(src, mode, callback),
+        Mode::Str => check_string(src, mode, callback),
+        Mode::ByteStr => check_string(src, mode, callback),
+        Mode::CStr => check_string(src, mode, callback),
+        Mode::RawStr => check_string(src, mode, callback),
+        Mode::RawByteStr => check_string(src, mode, callback),
+        Mode::RawCStr => check_string(src, mode, callback),
     }
 }
 
@@ -53,10 +66,11 @@ pub(crate) fn is_raw(mode: Mode) -> bool
 }
 
 /// Tells what is wrong between single quotes.
-fn check_single<F: FnMut(Range<usize>, EscapeError)>(src: &str, mode: Mode, mut callback: F)
-    requires callable { F.IsAlwaysCallable callback }
-    ensures calls { (last : F) × FoldsTo (λ f error g. F.step f error.0 error.1 tt g)
-        callback (option_to_list (spec.single_error (length src.now) mode (chars src.now))) last }
+#[inline(always)]
+fn check_single<F: FnMut(Range<usize>, EscapeError)>(src: &str, mode: Mode, callback: &mut F)
+    requires callable { F.IsAlwaysCallable callback.old }
+    ensures calls { FoldsTo (λ f error g. F.step f error.0 error.1 tt g)
+        callback.old (option_to_list (spec.single_error (length src.now) mode (chars src.now))) callback.new }
 {
     if let Some((range, error)) = single_error(src, mode) {
         callback(range, error);
@@ -83,11 +97,11 @@ pub(crate) fn single_error(src: &str, mode: Mode) -> Option<(Range<usize>, Escap
 ///
 /// It is inlined into each arm of its caller, so that the mode is known there.
 #[inline(always)]
-fn check_string<F: FnMut(Range<usize>, EscapeError)>(src: &str, mode: Mode, callback: F)
-    requires callable { F.IsAlwaysCallable callback }
+fn check_string<F: FnMut(Range<usize>, EscapeError)>(src: &str, mode: Mode, callback: &mut F)
+    requires callable { F.IsAlwaysCallable callback.old }
     requires double { false ≡ spec.is_single mode }
-    ensures calls { (last : F) × FoldsTo (λ f error g. F.step f error.0 error.1 tt g)
-        callback (spec.errors_of mode src.now) last }
+    ensures calls { FoldsTo (λ f error g. F.step f error.0 error.1 tt g)
+        callback.old (spec.errors_of mode src.now) callback.new }
 {
     check_elements(elements_of(src, is_raw(mode)), mode, callback);
 }
@@ -97,11 +111,11 @@ fn check_string<F: FnMut(Range<usize>, EscapeError)>(src: &str, mode: Mode, call
 fn check_elements<F: FnMut(Range<usize>, EscapeError)>(
     mut elements: Elements<'_>,
     mode: Mode,
-    mut callback: F,
+    callback: &mut F,
 )
-    requires callable { F.IsAlwaysCallable callback }
-    ensures calls { (last : F) × FoldsTo (λ f error g. F.step f error.0 error.1 tt g)
-        callback (spec.errors_in mode elements.entry) last }
+    requires callable { F.IsAlwaysCallable callback.old }
+    ensures calls { FoldsTo (λ f error g. F.step f error.0 error.1 tt g)
+        callback.old (spec.errors_in mode elements.entry) callback.new }
 {
     'items: while let Some((range, error)) = elements.next_fault(mode) {
         callback(range, error);

@@ -18,23 +18,26 @@ use std::ops::Range;
 ///
 /// A backslash at the end of a line stands for nothing, and no call tells of it. Two calls may warn of the
 /// white space past it: their places begin at the backslash.
-pub fn unescape_str<F: FnMut(Range<usize>, Result<char, EscapeError>)>(src: &str, callback: F)
+pub fn unescape_str<F: FnMut(Range<usize>, Result<char, EscapeError>)>(src: &str, mut callback: F)
     requires callable { F.IsAlwaysCallable callback }
     ensures calls { (last : F) × FoldsTo (λ f item g. F.step f item.0 (char_of item.1) tt g)
         callback (items_of false src.now) last }
 {
-    each_unit::<AsChar, F>(src, false, callback);
+    each_unit::<AsChar, F>(src, false, &mut callback);
 }
 
 /// Calls `callback` with each byte that a byte string stands for, or what is wrong, and its place.
 ///
 /// It is as [`unescape_str`] is.
-pub fn unescape_byte_str<F: FnMut(Range<usize>, Result<u8, EscapeError>)>(src: &str, callback: F)
+pub fn unescape_byte_str<F: FnMut(Range<usize>, Result<u8, EscapeError>)>(
+    src: &str,
+    mut callback: F,
+)
     requires callable { F.IsAlwaysCallable callback }
     ensures calls { (last : F) × FoldsTo (λ f item g. F.step f item.0 (byte_of item.1) tt g)
         callback (items_of false src.now) last }
 {
-    each_unit::<AsByte, F>(src, false, callback);
+    each_unit::<AsByte, F>(src, false, &mut callback);
 }
 
 /// Calls `callback` with each unit that a C string stands for, or what is wrong, and its place.
@@ -42,35 +45,38 @@ pub fn unescape_byte_str<F: FnMut(Range<usize>, Result<u8, EscapeError>)>(src: &
 /// It is as [`unescape_str`] is.
 pub fn unescape_c_str<F: FnMut(Range<usize>, Result<MixedUnit, EscapeError>)>(
     src: &str,
-    callback: F,
+    mut callback: F,
 )
     requires callable { F.IsAlwaysCallable callback }
     ensures calls { (last : F) × FoldsTo (λ f item g. F.step f item.0 (unit_of item.1) tt g)
         callback (items_of false src.now) last }
 {
-    each_unit::<AsMixedUnit, F>(src, false, callback);
+    each_unit::<AsMixedUnit, F>(src, false, &mut callback);
 }
 
 /// Calls `callback` with each character of a raw string, or what is wrong, and its place.
 ///
 /// Nothing is an escape there, and only a carriage return is wrong.
-pub fn check_raw_str<F: FnMut(Range<usize>, Result<char, EscapeError>)>(src: &str, callback: F)
+pub fn check_raw_str<F: FnMut(Range<usize>, Result<char, EscapeError>)>(src: &str, mut callback: F)
     requires callable { F.IsAlwaysCallable callback }
     ensures calls { (last : F) × FoldsTo (λ f item g. F.step f item.0 (char_of item.1) tt g)
         callback (items_of true src.now) last }
 {
-    each_unit::<AsChar, F>(src, true, callback);
+    each_unit::<AsChar, F>(src, true, &mut callback);
 }
 
 /// Calls `callback` with each byte of a raw byte string, or what is wrong, and its place.
 ///
 /// A carriage return is wrong, and a character that is not in ASCII.
-pub fn check_raw_byte_str<F: FnMut(Range<usize>, Result<u8, EscapeError>)>(src: &str, callback: F)
+pub fn check_raw_byte_str<F: FnMut(Range<usize>, Result<u8, EscapeError>)>(
+    src: &str,
+    mut callback: F,
+)
     requires callable { F.IsAlwaysCallable callback }
     ensures calls { (last : F) × FoldsTo (λ f item g. F.step f item.0 (byte_of item.1) tt g)
         callback (items_of true src.now) last }
 {
-    each_unit::<AsByte, F>(src, true, callback);
+    each_unit::<AsByte, F>(src, true, &mut callback);
 }
 
 /// Calls `callback` with each character of a raw C string, or what is wrong, and its place.
@@ -78,13 +84,13 @@ pub fn check_raw_byte_str<F: FnMut(Range<usize>, Result<u8, EscapeError>)>(src: 
 /// A carriage return is wrong, and U+0000.
 pub fn check_raw_c_str<F: FnMut(Range<usize>, Result<NonZeroChar, EscapeError>)>(
     src: &str,
-    callback: F,
+    mut callback: F,
 )
     requires callable { F.IsAlwaysCallable callback }
     ensures calls { (last : F) × FoldsTo (λ f item g. F.step f item.0 (raw_unit_of item.1) tt g)
         callback (items_of true src.now) last }
 {
-    each_unit::<AsRawUnit, F>(src, true, callback);
+    each_unit::<AsRawUnit, F>(src, true, &mut callback);
 }
 
 /// What the elements of one kind of string stand for.
@@ -192,16 +198,19 @@ impl Meaning for AsRawUnit {
     }
 }
 
-/// Calls `callback` with what each element of a text stands for, and its place.
+/// Calls `callback` with what each element of a text stands for, and its place, and for nothing else.
+///
+/// That is said of the closure as it is left here. One that is passed by value is let go at the end of its call, and no
+/// clause can speak of it there.
 #[inline(always)]
 fn each_unit<M: Meaning, F: FnMut(Range<usize>, Result<M::Meant, EscapeError>)>(
     src: &str,
     raw: bool,
-    callback: F,
+    callback: &mut F,
 )
-    requires callable { F.IsAlwaysCallable callback }
-    ensures calls { (last : F) × FoldsTo (λ f item g. F.step f item.0 (M.meaning item.1) tt g)
-        callback (items_of raw src.now) last }
+    requires callable { F.IsAlwaysCallable callback.old }
+    ensures calls { FoldsTo (λ f item g. F.step f item.0 (M.meaning item.1) tt g)
+        callback.old (items_of raw src.now) callback.new }
 {
     each_unit_in::<M, F>(elements_of(src, raw), callback);
 }
@@ -213,11 +222,11 @@ fn each_unit<M: Meaning, F: FnMut(Range<usize>, Result<M::Meant, EscapeError>)>(
 #[inline(always)]
 fn each_unit_in<M: Meaning, F: FnMut(Range<usize>, Result<M::Meant, EscapeError>)>(
     mut elements: Elements<'_>,
-    mut callback: F,
+    callback: &mut F,
 )
-    requires callable { F.IsAlwaysCallable callback }
-    ensures calls { (last : F) × FoldsTo (λ f item g. F.step f item.0 (M.meaning item.1) tt g)
-        callback elements.entry last }
+    requires callable { F.IsAlwaysCallable callback.old }
+    ensures calls { FoldsTo (λ f item g. F.step f item.0 (M.meaning item.1) tt g)
+        callback.old elements.entry callback.new }
 {
     'items: loop {
         if let Some((range, c)) = elements.next_plain() {
@@ -226,7 +235,7 @@ fn each_unit_in<M: Meaning, F: FnMut(Range<usize>, Result<M::Meant, EscapeError>
                 continue;
             }
             let (run, end) = elements.next_simple();
-            callback = each_simple::<M, F>(run, end, callback);
+            each_simple::<M, F>(run, end, callback);
             continue;
         }
         if let Some((range, element)) = elements.next_alone() {
@@ -246,14 +255,14 @@ fn each_unit_in<M: Meaning, F: FnMut(Range<usize>, Result<M::Meant, EscapeError>
 fn each_simple<M: Meaning, F: FnMut(Range<usize>, Result<M::Meant, EscapeError>)>(
     run: &[u8],
     end: usize,
-    mut callback: F,
-) -> F
-    requires callable { F.IsAlwaysCallable callback }
+    callback: &mut F,
+)
+    requires callable { F.IsAlwaysCallable callback.old }
     requires fine { list_all is_fine run.now ≡ true }
     requires within { length run.now ≤ end }
-    ensures callable { F.IsAlwaysCallable result }
+    ensures callable { F.IsAlwaysCallable callback.new }
     ensures calls { FoldsTo (λ f item g. F.step f item.0 (M.meaning item.1) tt g)
-        callback (plain_items end run.now) result }
+        callback.old (plain_items end run.now) callback.new }
 {
     let mut left = run;
     'run: while let Some((byte, tail)) = left.split_first() {
@@ -261,5 +270,4 @@ fn each_simple<M: Meaning, F: FnMut(Range<usize>, Result<M::Meant, EscapeError>)
         callback(range, M::of_fine(*byte));
         left = tail;
     }
-    callback
 }

@@ -7,10 +7,7 @@ use Rattle.rustc_literal_escaper.proofs.check.check_string.Goals as goal
 
 pub returns : goal.returns
 returns g c = record {
-  calls = (
-    c.check_elements.ensures.calls.0,
-    subst (λ (es : List Error). FoldsTo (λ f error h. goal.F-step g f error.0 error.1 tt h) c.args.callback es c.check_elements.ensures.calls.0)
-        (errors_of-strings c.args.mode c.args.src.now c.elements_of.result c.requires.double (c.elements_of.ensures ∙ ap (λ (raw : Bool). items_of raw c.args.src.now) c.is_raw.ensures))
-        c.check_elements.ensures.calls.1,
-  );
+  calls = subst (λ (es : List Error). FoldsTo (λ f error h. goal.F-step g f error.0 error.1 tt h) c.args.callback.now es c.check_elements.new.callback)
+      (errors_of-strings c.args.mode c.args.src.now c.elements_of.result c.requires.double (c.elements_of.ensures ∙ ap (λ (raw : Bool). items_of raw c.args.src.now) c.is_raw.ensures))
+      c.check_elements.ensures.calls;
 }

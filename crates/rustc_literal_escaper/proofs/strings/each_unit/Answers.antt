@@ -5,8 +5,5 @@ use Rattle.rustc_literal_escaper.proofs.strings.each_unit.Goals as goal
 
 pub returns : goal.returns
 returns g c = record {
-  calls = (
-    c.each_unit_in.ensures.calls.0,
-    subst (λ (is : List Item). FoldsTo (λ f item h. goal.F-step g f item.0 (g.M.Meaning.meaning item.1) tt h) c.args.callback is c.each_unit_in.ensures.calls.0) c.elements_of.ensures c.each_unit_in.ensures.calls.1,
-  );
+  calls = subst (λ (is : List Item). FoldsTo (λ f item h. goal.F-step g f item.0 (g.M.Meaning.meaning item.1) tt h) c.args.callback.now is c.each_unit_in.new.callback) c.elements_of.ensures c.each_unit_in.ensures.calls;
 }
