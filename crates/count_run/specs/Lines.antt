@@ -8,6 +8,7 @@ use Rattle.rustc_lexer.specs.declared.token.Token.{Token}
 use Rattle.rustc_lexer.specs.declared.token.TokenKind.{TokenKind}
 use Rattle.rustc_lexer.specs.declared.token.TokenKind.TheVariants.{LineComment, BlockComment, Whitespace}
 use Rattle.rustc_lexer.specs.means.Shebang.{shebang}
+use Rattle.rustc_lexer.specs.declared.edition.Edition.TheVariants.{E2024}
 use Rattle.rustc_lexer.specs.LanguageText.{document}
 use Rattle.rustc_lexer.specs.Tokens.{tokens_of}
 use Rattle.count_run.specs.declared.lines.Class.{Class}
@@ -41,7 +42,7 @@ token_marks text [] = []
 token_marks text (token ∷ tokens) = map (mark (class_of token.kind)) (take token.len text) ++ token_marks (drop token.len text) tokens
 
 abbrev pub source_marks : List ℕ → List Mark
-source_marks text = token_marks text (tokens_of document text)
+source_marks text = token_marks text (tokens_of (document E2024) text)
 
 -- a document may begin with a shebang line, which is code, and else is a source
 abbrev pub shebang_len : List ℕ → ℕ

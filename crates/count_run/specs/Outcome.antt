@@ -1,12 +1,15 @@
 -- What a run counted, and what it passed over.
-use Rattle.std.specs.Prelude.{ℕ, ◌≡◌, List, [], ◌∷◌, string_bytes, Result, Ok, Err, String}
+use Rattle.std.specs.Prelude.{ℕ, ◌≡◌, ◌↔◌, Bool, false, List, [], ◌∷◌, string_bytes, Option, Result, Ok, Err, IfSome, IsTrue, String, Vec}
 use Rattle.std.specs.Global.{Global}
 use Rattle.sources.specs.declared.fault.Fault.{Fault}
 use Rattle.sources.specs.declared.fault.Fault.TheVariants.{Memory, Source}
 use Rattle.sources.specs.declared.fault.PathFault.{PathFault}
 use Rattle.sources.specs.declared.fault.Reason.{Reason}
+use Rattle.sources.specs.declared.fault.Reason.TheVariants.{Read}
+use Rattle.sources.specs.Reasons.{IsInputFault, IsNoText, IsText}
 use Rattle.count_run.specs.declared.lines.LineCounts.{LineCounts}
 use Rattle.count_run.specs.declared.report.FileCounts.{FileCounts}
+use Rattle.count_run.specs.Lines.{line_counts}
 
 -- what came of each source: its path, and its numbers or why it was passed over
 abbrev pub Sources : Type 0
@@ -36,8 +39,15 @@ IsOfSource (Ok counts) = Unit {0}
 IsOfSource (Err (Source reason)) = Unit {0}
 IsOfSource (Err Memory) = ⊥
 
--- one source, of this name: it is counted, or it is passed over
-abbrev pub IsOfOne : List ℕ → List FileCounts → List PathFault → Type 0
-IsOfOne name (file ∷ []) [] = string_bytes file.path ≡ name
-IsOfOne name [] (fault ∷ []) = string_bytes fault.path ≡ name
-IsOfOne name files faults = ⊥
+-- what comes of a file that was read, or could not be: its numbers, or why its bytes are no text
+abbrev pub IsCountOf : Result (Vec ℕ Global) Fault → Result LineCounts Fault → Type 0
+IsCountOf (Err fault) came = came ≡ Err fault
+IsCountOf (Ok bytes) (Ok counts) = IsText bytes.items × (counts ≡ line_counts bytes.items)
+IsCountOf (Ok bytes) (Err (Source reason)) = IsNoText bytes.items reason
+IsCountOf (Ok bytes) (Err Memory) = ⊥
+
+-- one source, of this name, which is an input: it is counted, or it is passed over, because its reader failed or it is no text
+abbrev pub IsOfInput : List ℕ → Option (List ℕ) → Bool → List FileCounts → List PathFault → Type 0
+IsOfInput name known failed (file ∷ []) [] = (string_bytes file.path ≡ name) × (failed ≡ false) × IfSome known (λ bytes. IsText bytes × (file.counts ≡ line_counts bytes))
+IsOfInput name known failed [] (fault ∷ []) = (string_bytes fault.path ≡ name) × IsInputFault known (Source fault.reason) × ((fault.reason ≡ Read) ↔ IsTrue failed)
+IsOfInput name known failed files faults = ⊥

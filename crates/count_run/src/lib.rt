@@ -11,5 +11,5 @@ mod stop;
 pub use job::{Job, Layout, read_job};
 pub use lines::LineCounts;
 pub use report::{FileCounts, Report, write_report};
-pub use run::{count_input, count_source, write_out};
+pub use run::{Outcome, count_input, count_source, count_stdin, put_report};
 pub use stop::{Stop, status};

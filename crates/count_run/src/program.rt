@@ -1,16 +1,14 @@
 //! The whole program, over the ends of a process.
 use crate::job::{Job, read_job};
-use crate::report::write_report;
-use crate::run::{count_paths, count_stdin, write_out};
+use crate::run::{count_paths, count_stdin, put_report};
 use crate::stop::{Stop, status};
-use clap::Error;
-use clap::error::ErrorKind;
-use std::env;
+use ends::Watched;
+use sources::{explain, read_words};
 
 /// Does the job, and writes to standard output, and to standard error what was passed over.
 fn count(rt: &HostRuntime, job: &Job<'_>) -> Result<(), Stop> {
     let counted = if job.paths.is_empty() {
-        count_stdin(rt.alloc(), &mut rt.stdin())
+        count_stdin(rt.alloc(), &mut Watched::new(rt.stdin()))
     } else {
         count_paths(rt, job.paths.as_slice())
     };
@@ -21,50 +19,35 @@ fn count(rt: &HostRuntime, job: &Job<'_>) -> Result<(), Stop> {
         // Where this line can't be written there is nobody to tell.
         let _ = eprintln!(rt; "count: {fault}");
     }
-    let Ok(text) = write_report(rt.alloc(), job.layout, &outcome.report) else {
-        return Err(Stop::Memory);
-    };
-    write_out(&mut rt.stdout(), text.as_slice())?;
-    if outcome.faults.is_empty() {
-        Ok(())
-    } else {
-        Err(Stop::Passed)
-    }
+    put_report(
+        rt.alloc(),
+        job.layout,
+        &outcome,
+        &mut Watched::new(rt.stdout()),
+    )
 }
 
-/// Says that a request for memory was refused: the status.
-fn no_memory(rt: &HostRuntime) -> u8 {
-    let _ = eprintln!(rt; "count: {}", Stop::Memory);
-    status(&Stop::Memory)
-}
-
-/// Says why the words ask for no job, or what they ask to be told: the status.
-fn explain(rt: &HostRuntime, error: &Error) -> u8 {
-    if error.kind() == ErrorKind::OutOfMemory {
-        return no_memory(rt);
-    }
-    // Where this text can't be written there is nobody to tell.
-    let _ = error.print(rt);
-    if error.use_stderr() { 2 } else { 0 }
-}
-
-/// Reads the words of the command line, and does what they ask for: the status.
-pub fn program(rt: &HostRuntime) -> u8 {
-    let Ok(args) = env::args(rt) else {
-        return no_memory(rt);
-    };
-    let Ok(words) = args.collect::<Vec<String>>(rt.alloc()) else {
-        return no_memory(rt);
-    };
-    let stop = match read_job(rt.alloc(), words.as_slice()) {
-        Ok(job) => match count(rt, &job) {
-            Ok(()) => return 0,
-            Err(stop) => stop,
-        },
-        Err(error) => return explain(rt, &error),
-    };
+/// Says why the program stops, unless that was said or nobody would hear it: the status.
+fn tell(rt: &HostRuntime, stop: Stop) -> u8 {
     if stop != Stop::ClosedPipe && stop != Stop::Passed {
         let _ = eprintln!(rt; "count: {stop}");
     }
     status(&stop)
+}
+
+/// Reads the words of the command line, and does what they ask for: the status.
+pub fn program(rt: &HostRuntime) -> u8 {
+    let Some(words) = read_words(rt) else {
+        return tell(rt, Stop::Memory);
+    };
+    match read_job(rt.alloc(), words.as_slice()) {
+        Ok(job) => match count(rt, &job) {
+            Ok(()) => 0,
+            Err(stop) => tell(rt, stop),
+        },
+        Err(error) => match explain(rt, &error) {
+            Some(status) => status,
+            None => tell(rt, Stop::Memory),
+        },
+    }
 }

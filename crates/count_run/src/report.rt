@@ -5,6 +5,7 @@ ghost use Rattle.json.specs.Print.{print};
 ghost use Rattle.json.specs.Token as token;
 ghost use Rattle.json.specs.Tree.{items_tokens, json_tokens, members_tokens};
 ghost use Rattle.count_run.specs.Json.{file_object, file_objects, listed_tokens, numbers, report_object};
+ghost use Rattle.count_run.specs.Printed.{printed};
 ghost use Rattle.count_run.specs.Report as spec;
 ghost use Rattle.count_run.specs.Table.{at_right, row, rows, table};
 ghost use Rattle.count_run.specs.Table as table_spec;
@@ -53,7 +54,9 @@ impl Report {
 }
 
 /// The text of a report: a table, or a JSON text and a newline.
+#[tactic(auto, unfolding(crate::specs::Printed::printed))]
 pub fn write_report(alloc: Global, layout: Layout, report: &Report) -> Result<Vec<u8>, AllocError>
+    ensures printed { IfOk result (λ text. text.items ≡ printed layout report.now) }
     ensures table { layout.json ≡ false
         → IfOk result (λ text. text.items ≡ table layout.by_file report.now) }
     ensures json { layout.json ≡ true

@@ -1,39 +1,52 @@
 //! A whole run: from files, folders or standard input to a report.
-ghost use Rattle.std.specs.Prelude.{◌≡◌, ◌^◌, ◌≤◌, [], ◌++◌, All, IfErr, IfOk, IfSome, IsErrOf, OnOk, codes, length, map};
-ghost use Rattle.std.specs.Io.KnownBytes.{Appends};
+ghost use Rattle.std.specs.Prelude.{◌≡◌, ◌≢◌, ◌<◌, ◌^◌, ◌≤◌, ◌↔◌, [], ◌++◌, false, true, IfErr, IfOk, IfSome, IsErrOf, IsTrue, OnOk, codes, length, map};
+ghost use Rattle.std.specs.Io.KnownBytes.{Appends, Keeps};
 ghost use Rattle.std.specs.Str.{IsUtf8};
 ghost use Rattle.std.specs.Str.Lines.{lines};
+ghost use Rattle.ends.specs.Known.{AppendsFront};
+ghost use Rattle.sources.specs.Reasons.{IsInputFault, IsNoText, IsText};
 ghost use Rattle.count_run.specs.Lines.{line_counts, lines_counted};
-ghost use Rattle.count_run.specs.Outcome.{Sources, passed_over, source, IsOfOne, IsOfSource};
+ghost use Rattle.count_run.specs.Outcome.{Sources, passed_over, source, IsCountOf, IsOfInput, IsOfSource};
 ghost use Rattle.count_run.specs.Outcome as spec;
+ghost use Rattle.count_run.specs.Printed.{printed};
 ghost use Rattle.count_run.specs.Report.{no_counts, sums, total_of};
+ghost use Rattle.count_run.specs.Stop.{IsDone, IsWriteStop};
 
+use crate::job::Layout;
 use crate::lines::{LineCounts, count_lines};
-use crate::report::Report;
+use crate::report::{Report, write_report};
 use crate::stop::Stop;
-use sources::{Fault, Found, PathFault, Reason, find, read_source, read_text, text_of};
+use ends::{Watched, WriteStop, write_all};
+use sources::{Fault, Found, PathFault, Reason, find, read_input, read_source, text_of};
 use std::alloc::{AllocError, Global};
-use std::io::{ErrorKind, Read, Write};
+use std::io::{Read, Write};
 use std::rt::Files;
 
 /// Counts the lines of a source.
 pub fn count_source(bytes: &[u8]) -> Result<LineCounts, Reason>
     ensures counts { IfOk result (λ counts. counts ≡ line_counts bytes.now) }
     ensures once { IfOk result (λ counts. lines_counted counts ≡ length (lines bytes.now)) }
-    ensures text { IsErrOf result Reason.NotUtf8 → ¬ (IsUtf8 bytes.now) }
-    ensures long { IsErrOf result Reason.TooLong → 2 ^ 32 ≤ length bytes.now }
+    ensures is_text { IfOk result (λ _. IsText bytes.now) }
+    ensures not_utf8 { IsErrOf result Reason.NotUtf8
+        ↔ ((length bytes.now < 2 ^ 32) × ¬ (IsUtf8 bytes.now)) }
+    ensures long { IsErrOf result Reason.TooLong ↔ (2 ^ 32 ≤ length bytes.now) }
+    ensures no_text { IfErr result (IsNoText bytes.now) }
 {
     Ok(count_lines(text_of(bytes)?))
 }
 
 /// Counts the lines of all of the input.
-pub fn count_input<R: Read>(alloc: Global, input: &mut R) -> Result<LineCounts, Fault>
-    ensures counts { IfOk result (λ counts. IfSome (R.remaining input.old)
+pub fn count_input<R: Read>(alloc: Global, input: &mut Watched<R>) -> Result<LineCounts, Fault>
+    requires reads { input.old.failed ≡ false }
+    ensures counts { IfOk result (λ counts. IfSome (R.remaining input.old.inner)
         (λ bytes. counts ≡ line_counts bytes)) }
-    ensures once { IfOk result (λ counts. IfSome (R.remaining input.old)
+    ensures once { IfOk result (λ counts. IfSome (R.remaining input.old.inner)
         (λ bytes. lines_counted counts ≡ length (lines bytes))) }
+    ensures is_text { IfOk result (λ _. IfSome (R.remaining input.old.inner) IsText) }
+    ensures fault { IfErr result (IsInputFault (R.remaining input.old.inner)) }
+    ensures read { IsErrOf result (Fault.Source Reason.Read) ↔ IsTrue input.new.failed }
 {
-    let bytes = read_text(alloc, input)?;
+    let bytes = read_input(alloc, input)?;
     match count_source(bytes.as_slice()) {
         Ok(counts) => Ok(counts),
         Err(reason) => Err(Fault::Source(reason)),
@@ -41,11 +54,11 @@ pub fn count_input<R: Read>(alloc: Global, input: &mut R) -> Result<LineCounts, 
 }
 
 /// Counts the lines of standard input, as of a file with the name `-`.
-pub fn count_stdin<R: Read>(alloc: Global, input: &mut R) -> Result<Outcome, AllocError>
+pub fn count_stdin<R: Read>(alloc: Global, input: &mut Watched<R>) -> Result<Outcome, AllocError>
+    requires reads { input.old.failed ≡ false }
     ensures one { IfOk result (λ outcome.
-        IsOfOne (codes "-") outcome.report.files.items outcome.faults.items) }
-    ensures counts { IfOk result (λ outcome. IfSome (R.remaining input.old)
-        (λ bytes. All (λ file. file.counts ≡ line_counts bytes) outcome.report.files.items)) }
+        IsOfInput (codes "-") (R.remaining input.old.inner) input.new.failed
+        outcome.report.files.items outcome.faults.items) }
     ensures total { IfOk result
         (λ outcome. outcome.report.total ≡ total_of outcome.report.files.items) }
 {
@@ -80,18 +93,22 @@ fn count_found<R: Files + AllocGlobal>(rt: &R, found: Found) -> Result<Outcome, 
         faults: found.faults,
     };
     for path in found.files {
-        let counted = count_file(rt, path.as_str());
+        let counted = count_read(read_source(rt, path.as_str()));
         outcome.take(path, counted)?;
     }
     Ok(outcome)
 }
 
-/// Counts the lines of a file.
-fn count_file<R: Files + AllocGlobal>(rt: &R, path: &str) -> Result<LineCounts, Fault> {
-    let bytes = read_source(rt, path)?;
-    match count_source(bytes.as_slice()) {
-        Ok(counts) => Ok(counts),
-        Err(reason) => Err(Fault::Source(reason)),
+/// Counts the lines of what was read of a file.
+fn count_read(read: Result<Vec<u8>, Fault>) -> Result<LineCounts, Fault>
+    ensures { IsCountOf read result }
+{
+    match read {
+        Ok(bytes) => match count_source(bytes.as_slice()) {
+            Ok(counts) => Ok(counts),
+            Err(reason) => Err(Fault::Source(reason)),
+        },
+        Err(fault) => Err(fault),
     }
 }
 
@@ -138,24 +155,34 @@ impl Outcome {
     }
 }
 
-/// Writes all of the bytes, and flushes.
-pub fn write_out<W: Write>(output: &mut W, bytes: &[u8]) -> Result<(), Stop>
-    ensures { OnOk result (Appends (W.contents output.old) (W.contents output.new) bytes.now) }
+/// Writes the report of an outcome, and flushes. What was passed over is a stop, with all else written.
+pub fn put_report<W: Write>(
+    alloc: Global,
+    layout: Layout,
+    outcome: &Outcome,
+    output: &mut Watched<W>,
+) -> Result<(), Stop>
+    requires writes { output.old.faulty ≡ false }
+    requires open { output.old.closed ≡ false }
+    ensures write { IsErrOf result Stop.Write ↔ IsTrue output.new.faulty }
+    ensures closed { IsErrOf result Stop.ClosedPipe ↔ IsTrue output.new.closed }
+    ensures all { OnOk result (outcome.now.faults.items ≡ []) }
+    ensures passed { IsErrOf result Stop.Passed → outcome.now.faults.items ≢ [] }
+    ensures flushed { IsDone result → output.new.flushed ≡ true }
+    ensures written { IsDone result → Appends (W.contents output.old.inner)
+        (W.contents output.new.inner) (printed layout outcome.now.report) }
+    ensures begun { IsWriteStop result → AppendsFront (W.contents output.old.inner)
+        (W.contents output.new.inner) (printed layout outcome.now.report) }
+    ensures silent { IsErrOf result Stop.Memory
+        → Keeps (W.contents output.old.inner) (W.contents output.new.inner) }
 {
-    if let Err(error) = output.write_all(bytes) {
-        return Err(write_stop(error.kind()));
-    }
-    if let Err(error) = output.flush() {
-        return Err(write_stop(error.kind()));
-    }
-    Ok(())
-}
-
-/// Why a run stops where the writer fails.
-fn write_stop(kind: ErrorKind) -> Stop {
-    if kind == ErrorKind::BrokenPipe {
-        Stop::ClosedPipe
-    } else {
-        Stop::Write
+    let Ok(text) = write_report(alloc, layout, &outcome.report) else {
+        return Err(Stop::Memory);
+    };
+    match write_all(output, text.as_slice()) {
+        Ok(()) if outcome.faults.is_empty() => Ok(()),
+        Ok(()) => Err(Stop::Passed),
+        Err(WriteStop::Failed) => Err(Stop::Write),
+        Err(WriteStop::ClosedPipe) => Err(Stop::ClosedPipe),
     }
 }

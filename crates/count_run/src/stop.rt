@@ -1,6 +1,6 @@
 //! Why a run stops.
-ghost use Rattle.std.specs.Prelude.{◌≡◌};
-ghost use Rattle.count_run.specs.Stop.{status_of};
+ghost use Rattle.std.specs.Prelude.{◌≡◌, Some};
+ghost use Rattle.count_run.specs.Stop.{status_of, stop_text};
 
 use std::fmt;
 
@@ -11,7 +11,7 @@ pub enum Stop {
     Passed,
     /// A request for memory was refused.
     Memory,
-    /// The writer failed.
+    /// The writer failed, or took nothing of what it was given.
     Write,
     /// Nobody reads the output any more.
     ClosedPipe,
@@ -30,6 +30,8 @@ pub fn status(stop: &Stop) -> u8
 }
 
 impl fmt::Display for Stop {
+    ghost output = { λ stop. Some (stop_text stop) };
+
     fn fmt<W: fmt::Write>(&self, f: &mut fmt::Formatter<W>) -> fmt::Result {
         f.write_str(match self {
             Stop::Passed => "not everything is counted",

@@ -2,8 +2,8 @@
 use crate::failing_ends::{Script, Turn, WHOLE};
 use crate::words::words_of;
 use count_run::{
-    Layout, LineCounts, Report, Stop, count_input, count_source, read_job, status, write_out,
-    write_report,
+    Layout, LineCounts, Report, Stop, count_input, count_source, count_stdin, put_report, read_job,
+    status, write_report,
 };
 use sources::{Fault, Reason};
 use std::alloc::{AllocError, Global};
@@ -138,28 +138,89 @@ fn reports(rt: HostRuntime) -> Result<(), Fail> {
     Ok(())
 }
 
+/// A table of the sums alone.
+const TABLE: Layout = Layout {
+    by_file: false,
+    json: false,
+};
+
+/// The table of `a // b` and a newline.
+const ONE_LINE: &[u8] =
+    b"      code       doc   comment     blank     lines  code+doc code+comment doc+comment
+         1         0         0         0         1         0            1           0  total
+";
+
+/// The table of no file.
+const NO_LINE: &[u8] =
+    b"      code       doc   comment     blank     lines  code+doc code+comment doc+comment
+         0         0         0         0         0         0            0           0  total
+";
+
 #[test]
-fn ends_that_fail(rt: HostRuntime) {
+fn standard_input(rt: HostRuntime) -> Result<(), Fail> {
+    let rows: [(&[u8], Result<(), Stop>, &[u8]); 3] = [
+        (b"a // b\n", Ok(()), ONE_LINE),
+        (b"", Ok(()), NO_LINE),
+        (b"a\xff", Err(Stop::Passed), NO_LINE),
+    ];
+    for (bytes, answer, want) in rows {
+        let outcome = count_stdin(rt.alloc(), &mut WHOLE.reader(bytes))?;
+        let mut output = WHOLE.writer(rt.alloc());
+        assert_eq!(rt;
+            put_report(rt.alloc(), TABLE, &outcome, &mut output),
+            answer
+        );
+        let output = output.into_inner();
+        assert_eq!(rt; output.taken.as_slice(), want);
+        assert_eq!(rt; output.flushes, 1);
+    }
+    Ok(())
+}
+
+#[test]
+fn a_reader_that_fails(rt: HostRuntime) -> Result<(), Fail> {
     let script = Script {
         reads: &[Turn::Moves(1), Turn::Fails(ErrorKind::Other)],
         ..WHOLE
     };
-    let fault = Fault::Source(Reason::System(ErrorKind::Other));
-    assert_eq!(rt;
-        count_input(rt.alloc(), &mut script.reader(b"aa")),
-        Err(fault)
-    );
+    let counted = count_input(rt.alloc(), &mut script.reader(b"aa"));
+    assert_eq!(rt; counted, Err(Fault::Source(Reason::Read)));
+    let outcome = count_stdin(rt.alloc(), &mut script.reader(b"aa"))?;
+    assert!(rt; outcome.report.files.is_empty() && outcome.faults.len() == 1);
+    assert_eq!(rt; outcome.faults[0].path.as_str(), "-");
+    assert_eq!(rt; outcome.faults[0].reason, Reason::Read);
+    Ok(())
+}
+
+#[test]
+fn writers_that_fail(rt: HostRuntime) -> Result<(), Fail> {
     let rows = [
         (ErrorKind::BrokenPipe, Stop::ClosedPipe, 0),
         (ErrorKind::Other, Stop::Write, 7),
     ];
+    let outcome = count_stdin(rt.alloc(), &mut WHOLE.reader(b"a // b\n"))?;
     for (kind, stop, ends) in rows {
-        let script = Script {
-            writes: &[Turn::Fails(kind)],
+        let write_fails = Script {
+            writes: &[Turn::Moves(7), Turn::Fails(kind)],
             ..WHOLE
         };
-        let mut output = script.writer(rt.alloc());
-        assert_eq!(rt; write_out(&mut output, b"a".as_slice()), Err(stop));
-        assert!(rt; output.into_inner().taken.is_empty() && status(&stop) == ends);
+        let mut output = write_fails.writer(rt.alloc());
+        assert_eq!(rt;
+            put_report(rt.alloc(), TABLE, &outcome, &mut output),
+            Err(stop)
+        );
+        assert_eq!(rt; output.into_inner().taken.as_slice(), &ONE_LINE[..7]);
+        let flush_fails = Script {
+            flush: Some(kind),
+            ..WHOLE
+        };
+        let mut output = flush_fails.writer(rt.alloc());
+        assert_eq!(rt;
+            put_report(rt.alloc(), TABLE, &outcome, &mut output),
+            Err(stop)
+        );
+        assert_eq!(rt; output.into_inner().taken.as_slice(), ONE_LINE);
+        assert_eq!(rt; status(&stop), ends);
     }
+    Ok(())
 }

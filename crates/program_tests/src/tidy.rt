@@ -80,26 +80,52 @@ fn words(rt: HostRuntime) -> Result<(), Fail> {
 
 #[test]
 fn runs(rt: HostRuntime) {
-    let mut input: &[u8] = b"fn \n";
-    let mut output = Vec::new(rt.alloc());
-    assert_eq!(rt; run(rt.alloc(), &mut input, &mut output), Ok(()));
-    assert_eq!(rt; output.as_slice(), b"fn\n".as_slice());
-    let rows: [(&[u8], Result<(), Stop>); 3] = [
+    let mut output = WHOLE.writer(rt.alloc());
+    let came = run(rt.alloc(), &mut WHOLE.reader(b"fn \n"), &mut output);
+    assert_eq!(rt; came, Ok(()));
+    let output = output.into_inner();
+    assert_eq!(rt; output.taken.as_slice(), b"fn\n".as_slice());
+    assert_eq!(rt; output.flushes, 1);
+    let rows: [(&[u8], Result<(), Stop>); 4] = [
+        (b"", Ok(())),
         (b"fn\n", Ok(())),
         (b"fn \n", Err(Stop::Untidy)),
         (b"fn\xff", Err(Stop::NotUtf8)),
     ];
     for (bytes, want) in rows {
-        let mut input = bytes;
-        assert_eq!(rt; check(rt.alloc(), &mut input), want);
+        assert_eq!(rt; check(rt.alloc(), &mut WHOLE.reader(bytes)), want);
     }
     assert_eq!(rt; status(&Stop::Untidy), 1);
 }
 
 #[test]
+fn readers_that_fail(rt: HostRuntime) {
+    let script = Script {
+        reads: &[Turn::Moves(3), Turn::Fails(ErrorKind::Other)],
+        ..WHOLE
+    };
+    let mut output = WHOLE.writer(rt.alloc());
+    let came = run(rt.alloc(), &mut script.reader(b"fn \n"), &mut output);
+    assert_eq!(rt; came, Err(Stop::Read));
+    assert_eq!(rt; output.into_inner().calls, 0);
+    assert_eq!(rt;
+        check(rt.alloc(), &mut script.reader(b"fn \n")),
+        Err(Stop::Read)
+    );
+    let shown = show(rt.alloc(), &mut script.reader(b"fn \n"));
+    assert!(rt; shown.is_err_and(|stop| stop == Stop::Read));
+}
+
+#[test]
 fn diffs(rt: HostRuntime) {
-    let rows: [(&[u8], Option<&str>); 3] = [
+    let rows: [(&[u8], Option<&str>); 4] = [
         (b"fn\n", None),
+        (
+            b"1 \n2\n3\n4\n5\n6\n7\n8 \n",
+            Some(
+                "--- a/stdin\t\n+++ b/stdin\t\n@@ -1,8 +1,8 @@\n-1 \n+1\n 2\n 3\n 4\n 5\n 6\n 7\n-8 \n+8\n",
+            ),
+        ),
         (
             b"a \n\"b \r\n\"\r\n \n\n\nc",
             Some(
@@ -116,8 +142,7 @@ fn diffs(rt: HostRuntime) {
         ),
     ];
     for (text, want) in rows {
-        let mut input = text;
-        let shown = show(rt.alloc(), &mut input);
+        let shown = show(rt.alloc(), &mut WHOLE.reader(text));
         assert!(rt;
             shown.is_ok_and(|diff| match (diff, want) {
                 (None, None) => true,
@@ -126,8 +151,8 @@ fn diffs(rt: HostRuntime) {
             })
         );
     }
-    let mut wrong: &[u8] = b"fn\xff \n";
-    assert!(rt; show(rt.alloc(), &mut wrong).is_err_and(|stop| stop == Stop::NotUtf8));
+    let shown = show(rt.alloc(), &mut WHOLE.reader(b"fn\xff \n"));
+    assert!(rt; shown.is_err_and(|stop| stop == Stop::NotUtf8));
 }
 
 #[test]
@@ -148,13 +173,26 @@ fn writers_that_fail(rt: HostRuntime) {
         (ErrorKind::Other, Stop::Write, 7),
     ];
     for (kind, stop, ends) in rows {
-        let script = Script {
-            writes: &[Turn::Fails(kind)],
+        let write_fails = Script {
+            writes: &[Turn::Moves(1), Turn::Fails(kind)],
             ..WHOLE
         };
-        let mut input: &[u8] = b"fn";
-        let mut output = script.writer(rt.alloc());
-        assert_eq!(rt; run(rt.alloc(), &mut input, &mut output), Err(stop));
-        assert!(rt; output.into_inner().taken.is_empty() && status(&stop) == ends);
+        let mut output = write_fails.writer(rt.alloc());
+        assert_eq!(rt;
+            run(rt.alloc(), &mut WHOLE.reader(b"fn"), &mut output),
+            Err(stop)
+        );
+        assert_eq!(rt; output.into_inner().taken.as_slice(), b"f".as_slice());
+        let flush_fails = Script {
+            flush: Some(kind),
+            ..WHOLE
+        };
+        let mut output = flush_fails.writer(rt.alloc());
+        assert_eq!(rt;
+            run(rt.alloc(), &mut WHOLE.reader(b"fn"), &mut output),
+            Err(stop)
+        );
+        assert_eq!(rt; output.into_inner().taken.as_slice(), b"fn\n".as_slice());
+        assert_eq!(rt; status(&stop), ends);
     }
 }

@@ -1,10 +1,63 @@
--- Why bytes are no source.
+-- Why bytes are no source, and what is said of one that is passed over.
+use Rattle.std.specs.Prelude.{ℕ, ◌^◌, ◌<◌, ◌≤◌, ◌++◌, List, Option, Some, None, IfSome, codes, length, string_bytes}
+use Rattle.std.specs.Option.{option_map}
+use Rattle.std.specs.Str.{IsUtf8}
+use Rattle.std.specs.declared.io.ErrorKind.{ErrorKind}
+use Rattle.std.specs.declared.io.ErrorKind.TheVariants.{OutOfMemory}
+use Rattle.sources.specs.declared.fault.Fault.{Fault}
+use Rattle.sources.specs.declared.fault.Fault.TheVariants.{Memory, Source}
+use Rattle.sources.specs.declared.fault.PathFault.{PathFault}
 use Rattle.sources.specs.declared.fault.Reason.{Reason}
-use Rattle.sources.specs.declared.fault.Reason.TheVariants.{NotUtf8, TooLong, Changed, NoFile, System}
+use Rattle.sources.specs.declared.fault.Reason.TheVariants.{NotUtf8, TooLong, Changed, NoFile, Read, System}
 
-abbrev pub IsTextReason : Reason → Type 0
-IsTextReason NotUtf8 = Unit {0}
-IsTextReason TooLong = Unit {0}
-IsTextReason Changed = ⊥
-IsTextReason NoFile = ⊥
-IsTextReason (System kind) = ⊥
+-- bytes that are a text whose lengths are numbers of 32 bits
+abbrev pub IsText : List ℕ → Type 0
+IsText bytes = IsUtf8 bytes × (length bytes < 2 ^ 32)
+
+-- why bytes are no text
+abbrev pub IsNoText : List ℕ → Reason → Type 0
+IsNoText bytes NotUtf8 = (length bytes < 2 ^ 32) × ¬ (IsUtf8 bytes)
+IsNoText bytes TooLong = 2 ^ 32 ≤ length bytes
+IsNoText bytes Changed = ⊥
+IsNoText bytes NoFile = ⊥
+IsNoText bytes Read = ⊥
+IsNoText bytes (System kind) = ⊥
+
+-- why no text is had of an input, by its bytes where they are known: those of another may be lost to a failed reader or to
+-- refused memory
+abbrev pub IsInputFault : Option (List ℕ) → Fault → Type 0
+IsInputFault known Memory = Unit {0}
+IsInputFault known (Source NotUtf8) = IfSome known (λ bytes. IsNoText bytes NotUtf8)
+IsInputFault known (Source TooLong) = IfSome known (λ bytes. IsNoText bytes TooLong)
+IsInputFault known (Source Read) = Unit {0}
+IsInputFault known (Source Changed) = ⊥
+IsInputFault known (Source NoFile) = ⊥
+IsInputFault known (Source (System kind)) = ⊥
+
+-- why a source is passed over where the system refuses it
+abbrev pub system_fault : ErrorKind → Fault
+system_fault OutOfMemory = Memory
+system_fault kind = Source (System kind)
+
+abbrev pub IsSystemFault : Fault → Type 0
+IsSystemFault Memory = Unit {0}
+IsSystemFault (Source (System kind)) = Unit {0}
+IsSystemFault fault = ⊥
+
+-- bytes that are no text, or refused memory
+abbrev pub IsTextFault : List ℕ → Fault → Type 0
+IsTextFault bytes Memory = Unit {0}
+IsTextFault bytes (Source reason) = IsNoText bytes reason
+
+-- what is said of a reason; of an error of the system that is for the system to say
+abbrev pub reason_text : Reason → Option (List ℕ)
+reason_text NotUtf8 = Some (codes "not UTF-8")
+reason_text TooLong = Some (codes "too long")
+reason_text Changed = Some (codes "changed while it was read")
+reason_text NoFile = Some (codes "not a file")
+reason_text Read = Some (codes "read failed")
+reason_text (System kind) = None
+
+-- what is said of a path that was passed over: its name and the reason
+abbrev pub fault_text : PathFault → Option (List ℕ)
+fault_text fault = option_map (λ text. string_bytes fault.path ++ (codes ": " ++ text)) (reason_text fault.reason)

@@ -1,4 +1,8 @@
 //! Why a path is passed over.
+ghost use Rattle.std.specs.Prelude.{◌≡◌};
+ghost use Rattle.std.specs.IoError.{error_kind};
+ghost use Rattle.sources.specs.Reasons.{fault_text, reason_text, system_fault};
+
 use std::io::ErrorKind;
 use std::{fmt, io};
 
@@ -13,17 +17,22 @@ pub enum Reason {
     Changed,
     /// The path names no file, but such as a device.
     NoFile,
+    /// The reader failed.
+    Read,
     /// The system refused, with this kind of error.
     System(ErrorKind),
 }
 
 impl fmt::Display for Reason {
+    ghost output = { reason_text };
+
     fn fmt<W: fmt::Write>(&self, f: &mut fmt::Formatter<W>) -> fmt::Result {
         match self {
             Reason::NotUtf8 => f.write_str("not UTF-8"),
             Reason::TooLong => f.write_str("too long"),
             Reason::Changed => f.write_str("changed while it was read"),
             Reason::NoFile => f.write_str("not a file"),
+            Reason::Read => f.write_str("read failed"),
             Reason::System(kind) => write!(f, "{kind}"),
         }
     }
@@ -39,6 +48,8 @@ pub enum Fault {
 }
 
 impl From<io::Error> for Fault {
+    ghost from_gives = { λ error fault. fault ≡ system_fault (error_kind error) };
+
     fn from(error: io::Error) -> Fault {
         match error.kind() {
             ErrorKind::OutOfMemory => Fault::Memory,
@@ -55,6 +66,8 @@ pub struct PathFault {
 }
 
 impl fmt::Display for PathFault {
+    ghost output = { fault_text };
+
     fn fmt<W: fmt::Write>(&self, f: &mut fmt::Formatter<W>) -> fmt::Result {
         write!(f, "{}: {}", self.path, self.reason)
     }

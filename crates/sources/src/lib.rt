@@ -1,10 +1,13 @@
-//! The Rust sources among files and folders: their paths, and their texts.
+//! What the programs over Rust sources share: the sources among files and folders, their texts, and the words of the
+//! command line.
 #![tactic(auto)]
 
 mod fault;
 mod text;
 mod walk;
+mod words;
 
 pub use fault::{Fault, PathFault, Reason};
-pub use text::{read_source, read_text, text_of};
+pub use text::{read_input, read_source, text_of};
 pub use walk::{Found, find};
+pub use words::{explain, read_words};

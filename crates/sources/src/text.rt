@@ -1,11 +1,11 @@
 //! The text of a source.
-ghost use Rattle.std.specs.Prelude.{◌≡◌, ◌≤◌, ◌^◌, IfErr, IfOk, IfSome, IsErrOf, length};
+ghost use Rattle.std.specs.Prelude.{◌≡◌, ◌<◌, ◌≤◌, ◌^◌, ◌↔◌, false, IfErr, IfOk, IfSome, IsErrOf, IsTrue, length};
 ghost use Rattle.std.specs.Str.{IsUtf8};
 ghost use Rattle.rustc_lexer.specs.Classes.{Fits};
-ghost use Rattle.sources.specs.Reasons.{IsTextReason};
+ghost use Rattle.sources.specs.Reasons.{IsInputFault, IsNoText, IsSystemFault, IsText};
 
 use crate::fault::{Fault, Reason};
-use rustc_lexer::fits;
+use ends::{ReadStop, Watched, read_all};
 use std::alloc::Global;
 use std::fs::File;
 use std::io::Read;
@@ -15,32 +15,58 @@ use std::rt::Files;
 pub fn text_of(bytes: &[u8]) -> Result<&str, Reason>
     ensures text { IfOk result (λ text. text.now ≡ bytes.now) }
     ensures fits { IfOk result (λ text. Fits text.now) }
-    ensures other { IsErrOf result Reason.NotUtf8 → ¬ (IsUtf8 bytes.now) }
-    ensures long { IsErrOf result Reason.TooLong → 2 ^ 32 ≤ length bytes.now }
-    ensures only { IfErr result IsTextReason }
+    ensures is_text { IfOk result (λ _. IsText bytes.now) }
+    ensures long { IsErrOf result Reason.TooLong ↔ (2 ^ 32 ≤ length bytes.now) }
+    ensures other { IsErrOf result Reason.NotUtf8
+        ↔ ((length bytes.now < 2 ^ 32) × ¬ (IsUtf8 bytes.now)) }
+    ensures no_text { IfErr result (IsNoText bytes.now) }
 {
-    let Ok(text) = std::str::from_utf8(bytes) else {
-        return Err(Reason::NotUtf8);
-    };
-    if fits(text) {
-        Ok(text)
-    } else {
-        Err(Reason::TooLong)
+    if bytes.len() > u32::MAX as usize {
+        return Err(Reason::TooLong);
+    }
+    match std::str::from_utf8(bytes) {
+        Ok(text) => Ok(text),
+        Err(_) => Err(Reason::NotUtf8),
     }
 }
 
-/// All bytes of a reader.
-pub fn read_text<R: Read>(alloc: Global, input: &mut R) -> Result<Vec<u8>, Fault>
+/// All bytes of an input, of which there are at most `u32::MAX`.
+#[tactic(auto, using(crate::proofs::ReadingLemmas::read_known, crate::proofs::ReadingLemmas::long_known))]
+pub fn read_input<R: Read>(alloc: Global, input: &mut Watched<R>) -> Result<Vec<u8>, Fault>
+    requires reads { input.old.failed ≡ false }
     ensures bytes { IfOk result (λ all.
-        IfSome (R.remaining input.old) (λ bytes. all.items ≡ bytes)) }
+        IfSome (R.remaining input.old.inner) (λ bytes. all.items ≡ bytes)) }
+    ensures fits { IfOk result (λ all. length all.items < 2 ^ 32) }
+    ensures fault { IfErr result (IsInputFault (R.remaining input.old.inner)) }
+    ensures read { IsErrOf result (Fault.Source Reason.Read) ↔ IsTrue input.new.failed }
 {
-    let mut bytes = Vec::new(alloc);
-    input.read_to_end(&mut bytes)?;
-    Ok(bytes)
+    match read_all(alloc, input) {
+        Ok(bytes) => Ok(bytes),
+        Err(ReadStop::TooLong) => Err(Fault::Source(Reason::TooLong)),
+        Err(ReadStop::Memory) => Err(Fault::Memory),
+        Err(ReadStop::Failed) => Err(Fault::Source(Reason::Read)),
+    }
 }
 
 /// All bytes of a file.
-pub fn read_source<R: Files + AllocGlobal>(rt: &R, path: &str) -> Result<Vec<u8>, Fault> {
-    let mut file = File::open(rt, path)?;
-    read_text(rt.alloc(), &mut file)
+pub fn read_source<R: Files + AllocGlobal>(rt: &R, path: &str) -> Result<Vec<u8>, Fault>
+    ensures { IfErr result IsSystemFault }
+{
+    match File::open(rt, path) {
+        Ok(mut file) => read_file(rt.alloc(), &mut file),
+        Err(error) => Err(Fault::from(error)),
+    }
+}
+
+/// All bytes of an open file.
+fn read_file<R: Read>(alloc: Global, file: &mut R) -> Result<Vec<u8>, Fault>
+    ensures bytes { IfOk result (λ all.
+        IfSome (R.remaining file.old) (λ bytes. all.items ≡ bytes)) }
+    ensures only { IfErr result IsSystemFault }
+{
+    let mut bytes = Vec::new(alloc);
+    match file.read_to_end(&mut bytes) {
+        Ok(_) => Ok(bytes),
+        Err(error) => Err(Fault::from(error)),
+    }
 }

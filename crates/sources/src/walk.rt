@@ -1,8 +1,13 @@
 //! The files that a walk of folders finds.
+ghost use Rattle.std.specs.Prelude.{◌≡◌, ◌↔◌, [], IsTrue, OnOk};
+ghost use Rattle.std.specs.Fs.{IsDir, IsFile};
+ghost use Rattle.sources.specs.Found.{TakesFault};
+ghost use Rattle.sources.specs.Names.{is_hidden, is_source_name, IsFolderName};
+
 use crate::fault::{PathFault, Reason};
 use std::alloc::{AllocError, Global};
 use std::fs;
-use std::fs::DirEntry;
+use std::fs::{DirEntry, FileType};
 use std::io::ErrorKind;
 use std::path::AsPath;
 use std::rt::Files;
@@ -16,7 +21,10 @@ pub struct Found {
 }
 
 impl Found {
-    fn new(alloc: Global) -> Found {
+    fn new(alloc: Global) -> Found
+        ensures files { result.files.items ≡ [] }
+        ensures faults { result.faults.items ≡ [] }
+    {
         Found {
             files: Vec::new(alloc),
             faults: Vec::new(alloc),
@@ -24,7 +32,11 @@ impl Found {
     }
 
     /// Notes that the system refused a path. Where it has no memory, nothing more is done.
-    fn refuse(&mut self, alloc: Global, path: &str, kind: ErrorKind) -> Result<(), AllocError> {
+    fn refuse(&mut self, alloc: Global, path: &str, kind: ErrorKind) -> Result<(), AllocError>
+        ensures files { self.new.files ≡ self.old.files }
+        ensures faults { OnOk result
+            (TakesFault self.old.faults.items self.new.faults.items path.now (Reason.System kind)) }
+    {
         if kind == ErrorKind::OutOfMemory {
             return Err(AllocError);
         }
@@ -107,26 +119,58 @@ fn take<R: Files>(
     }
     let path = entry.path();
     match entry.file_type() {
-        Ok(what) if what.is_dir() && is_folder_name(name) => {
-            folders.push(String::from_str(alloc, path.path_text())?)?;
-        }
-        Ok(what) if what.is_file() && is_source_name(name) => {
-            found
+        Ok(what) => match choice_of(name, &what) {
+            Choice::Folder => folders.push(String::from_str(alloc, path.path_text())?)?,
+            Choice::Source => found
                 .files
-                .push(String::from_str(alloc, path.path_text())?)?;
-        }
-        Ok(_) => {}
+                .push(String::from_str(alloc, path.path_text())?)?,
+            Choice::Neither => {}
+        },
         Err(error) => found.refuse(alloc, path.path_text(), error.kind())?,
     }
     Ok(())
 }
 
+/// What an entry of a folder is taken for.
+#[derive(Clone, Copy, Debug, PartialEq, Eq)]
+enum Choice {
+    Folder,
+    Source,
+    Neither,
+}
+
+/// What an entry with this name and of this type is taken for.
+fn choice_of(name: &str, what: &FileType) -> Choice
+    ensures folder { (result ≡ Choice.Folder) ↔ (IsDir what.now × IsFolderName name.now) }
+    ensures source { result ≡ Choice.Source → IsFile what.now × IsTrue (is_source_name name.now) }
+    ensures neither { result ≡ Choice.Neither → ¬ (IsFile what.now × IsTrue (is_source_name name.now)) }
+{
+    if what.is_dir() && is_folder_name(name) {
+        Choice::Folder
+    } else if what.is_file() && is_source_name(name) {
+        Choice::Source
+    } else {
+        Choice::Neither
+    }
+}
+
 /// Whether a file with this name is taken for a Rust source.
-fn is_source_name(name: &str) -> bool {
-    !name.starts_with('.') && name.ends_with(".rs")
+fn is_source_name(name: &str) -> bool
+    ensures { result ≡ is_source_name name.now }
+{
+    !is_hidden(name) && name.as_bytes().ends_with(b".rs".as_slice())
 }
 
 /// Whether a folder with this name is walked.
-fn is_folder_name(name: &str) -> bool {
-    !name.starts_with('.') && name != "target"
+fn is_folder_name(name: &str) -> bool
+    ensures { IsTrue result ↔ IsFolderName name.now }
+{
+    !is_hidden(name) && name != "target"
+}
+
+/// Whether the name begins with a dot.
+fn is_hidden(name: &str) -> bool
+    ensures { result ≡ is_hidden name.now }
+{
+    name.as_bytes().starts_with(b".".as_slice())
 }

@@ -9,13 +9,13 @@ use Rattle.std.specs.Str.{encode_utf8_all}
 use Rattle.rustc_lexer.specs.declared.edition.Edition.TheVariants.{E2024}
 use Rattle.rustc_lexer.specs.declared.token.Token.{Token}
 use Rattle.rustc_lexer.specs.declared.token.TokenKind.{TokenKind}
-use Rattle.rustc_lexer.specs.declared.token.TokenKind.TheVariants.{Whitespace, Eof}
+use Rattle.rustc_lexer.specs.declared.token.TokenKind.TheVariants.{Whitespace}
 use Rattle.rustc_lexer.specs.Classes.{is_whitespace}
 use Rattle.rustc_lexer.specs.means.Frontmatter.{dashes, ends_line, opens}
 use Rattle.rustc_lexer.specs.FrontmatterGrammar.{OpensNone}
 use Rattle.rustc_lexer.specs.Language as the
 use Rattle.rustc_lexer.specs.Language.{IsTokenBefore}
-use Rattle.rustc_lexer.specs.LanguageText.{Mode, document, part, mode_edition, mode_after, AreTokens, nothing, something, frontmatter_first}
+use Rattle.rustc_lexer.specs.LanguageText.{Mode, IsDocument, part, mode_edition, mode_after, AreTokens, nothing, something, frontmatter_first}
 use Rattle.rustc_lexer.specs.Spans.{AreAll, NextIsNot, bytes}
 use Rattle.rustc_lexer.specs.laws.Language.{token-read}
 use Rattle.rustc_lexer.specs.laws.LanguageFrontmatter.{opens-none, none-opens}
@@ -23,6 +23,7 @@ use Rattle.rustc_lexer.specs.laws.LanguageRuns.{among, chooses-space, run_len-he
 use Rattle.rustc_lexer.specs.laws.Reach.{run_len-out}
 use Rattle.rustc_lexer.specs.means.Scan.{begins}
 use Rattle.rustc_lexer.proofs.LanguageInLemmas.{on_page, of_page}
+use Rattle.rustc_lexer.proofs.StateLemmas.{edition-after}
 use Rattle.tidy_run.specs.Order.{in_order, is_space, is_open, space_in_order, text_in_order, closing, part_in_order, code_in_order, parts, end_parts, parts_in_order}
 use Rattle.tidy_run.proofs.NearLemmas.{Near, ends, space, closes, near-begins, near-refl, near-space, near-none, EndsToo, is_solid_kind, token-near}
 use Rattle.tidy_run.proofs.TurnedLemmas.{Turned, turned}
@@ -191,7 +192,7 @@ space-closed ps = ap (λ (es : List (TokenKind × List ℕ)). let p : TokenKind 
 abbrev pub Puts : Order → Order → TokenKind → List ℕ → Type 0
 Puts order more kind u = (left : List ℕ) (ts : List Token) → order (encode_utf8_all (u ++ left)) (record { kind = kind; len = bytes u } ∷ ts) ≡ part_in_order kind (encode_utf8_all u) ts ++ more (encode_utf8_all left) ts
 
-pub space-step : (order left : Order) (mode : Mode) (c : ℕ) (w next : List ℕ) (tokens : List Token) → mode_edition mode ≡ E2024 → ((u : List ℕ) → Puts order left Whitespace u) → AreAll is_whitespace (c ∷ w) → NextIsNot is_whitespace next → (mode ≡ document → OpensNone (c ∷ w ++ next)) → (length tokens ≡ 0 → next ≡ [])
+pub space-step : (order left : Order) (mode : Mode) (c : ℕ) (w next : List ℕ) (tokens : List Token) → mode_edition mode ≡ E2024 → ((u : List ℕ) → Puts order left Whitespace u) → AreAll is_whitespace (c ∷ w) → NextIsNot is_whitespace next → (IsDocument mode → OpensNone (c ∷ w ++ next)) → (length tokens ≡ 0 → next ≡ [])
     → Tidies left (mode_after mode Whitespace) next tokens → Tidies order mode (c ∷ w ++ next) (record { kind = Whitespace; len = bytes (c ∷ w) } ∷ tokens)
 space-step order left mode c w next tokens newest puts all stop free none more =
     let sp = spaces c w tokens all stop more.near more.too none in
@@ -296,7 +297,7 @@ behind kind mode next [] solid newest none some more = subst (λ (cs : List ℕ)
     }
 
 -- another token more
-pub solid-step : (order : Order) (mode : Mode) (kind : TokenKind) (c : ℕ) (w next : List ℕ) (tokens : List Token) → mode_edition mode ≡ E2024 → ((u : List ℕ) → Puts order code_in_order kind u) → is_space kind ≡ false → IsTokenBefore next kind (c ∷ w) → (mode ≡ document → OpensNone (c ∷ w ++ next))
+pub solid-step : (order : Order) (mode : Mode) (kind : TokenKind) (c : ℕ) (w next : List ℕ) (tokens : List Token) → mode_edition mode ≡ E2024 → ((u : List ℕ) → Puts order code_in_order kind u) → is_space kind ≡ false → IsTokenBefore next kind (c ∷ w) → (IsDocument mode → OpensNone (c ∷ w ++ next))
     → (more : Behind kind (mode_after mode kind) next tokens) → Turned kind c w next more.out → Tidies order mode (c ∷ w ++ next) (record { kind = kind; len = bytes (c ∷ w) } ∷ tokens)
 solid-step order mode kind c w next tokens newest puts solid p free more turned = record {
   out = c ∷ v ++ more.out;
@@ -330,7 +331,7 @@ solid-step order mode kind c w next tokens newest puts solid p free more turned 
     front text e ps = ap (λ (b : Bool). let q : TokenKind × List ℕ = (kind, text_in_order kind (if b then [] else text)) in q ∷ (end_parts kind ps ++ parts_in_order ps)) solid
         ∙ ap (λ (xs : List ℕ). let q : TokenKind × List ℕ = (kind, xs) in q ∷ (end_parts kind ps ++ parts_in_order ps)) e
 
-pub solid-token : (order : Order) (mode : Mode) (kind : TokenKind) (c : ℕ) (w next : List ℕ) (tokens : List Token) → mode_edition mode ≡ E2024 → ((u : List ℕ) → Puts order code_in_order kind u) → is_space kind ≡ false → IsTokenBefore next kind (c ∷ w) → (mode ≡ document → OpensNone (c ∷ w ++ next))
+pub solid-token : (order : Order) (mode : Mode) (kind : TokenKind) (c : ℕ) (w next : List ℕ) (tokens : List Token) → mode_edition mode ≡ E2024 → ((u : List ℕ) → Puts order code_in_order kind u) → is_space kind ≡ false → IsTokenBefore next kind (c ∷ w) → (IsDocument mode → OpensNone (c ∷ w ++ next))
     → Behind kind (mode_after mode kind) next tokens → Tidies order mode (c ∷ w ++ next) (record { kind = kind; len = bytes (c ∷ w) } ∷ tokens)
 solid-token order mode kind c w next tokens newest puts solid p free more = elim (token-near more.near more.too p) [
   | inl run ↦ absurd (true≢false (sym (ap is_space run.kind_is) ∙ solid))
@@ -341,13 +342,7 @@ pub solid-kind : (kind : TokenKind) → is_solid_kind kind ≡ true → is_space
 solid-kind kind e = not-true (is_space kind) (and_parts (not (is_space kind)) _ e).0
 
 pub after-newest : (mode : Mode) (kind : TokenKind) → mode_edition mode ≡ E2024 → mode_edition (mode_after mode kind) ≡ E2024
-after-newest document kind e = newest kind
-  where
-    newest : (kind : TokenKind) → mode_edition (mode_after document kind) ≡ E2024
-    newest Whitespace = refl
-    newest Eof = refl
-    newest kind = refl
-after-newest (part edition) kind e = e
+after-newest mode kind e = edition-after mode kind ∙ e
 
 -- in a part
 pub code-tidies : {mode : Mode} {cs : List ℕ} {tokens : List Token} → mode ≡ part E2024 → AreTokens mode cs tokens → Tidies code_in_order mode cs tokens

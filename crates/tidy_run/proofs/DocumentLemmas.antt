@@ -7,6 +7,7 @@ use Rattle.std.specs.List.{list_all}
 use Rattle.std.specs.Str.{IsCharBoundary}
 use Rattle.rustc_lexer.specs.means.Shebang.{shebang}
 use Rattle.rustc_lexer.specs.Locality.{IsText}
+use Rattle.rustc_lexer.specs.declared.edition.Edition.TheVariants.{E2024}
 use Rattle.rustc_lexer.specs.LanguageText.{document}
 use Rattle.rustc_lexer.specs.Tokens.{tokens_of}
 use Rattle.tidy_run.specs.Order.{is_no_front, code_in_order, end_of, line_end, source_tidied, source_parts, document_in_order, is_same_len, is_full, may_change, tidied, Solid, solid, parts_in_order, solid_in_order, IsSound}
@@ -79,11 +80,11 @@ document-law text is inside boundary = elim (cases_Bool (is_full text)) [
         choose : (b : Bool) → is_same_len (shebang made) (shebang text) ≡ b → tidied text ≡ (if b then made else text)
         choose b e = ap (λ (x : Bool). if not x && is_same_len (shebang made) (shebang text) then made else text) not_full ∙ ap (λ (x : Bool). if x then made else text) e
 
-        plain : is_full text ≡ false → shebang text ≡ None → list_all is_no_front (tokens_of document text) ≡ true → tidied text ≡ code_in_order text (tokens_of document text)
+        plain : is_full text ≡ false → shebang text ≡ None → list_all is_no_front (tokens_of (document E2024) text) ≡ true → tidied text ≡ code_in_order text (tokens_of (document E2024) text)
         plain _ none all =
             let whole : made ≡ source_tidied text = ap (λ (k : ℕ). take k text ++ source_tidied (drop k text)) (ap end_of none) in
             choose true (ap (λ (l : Option ℕ). is_same_len (shebang made) l) none ∙ ap (λ (l : Option ℕ). is_same_len l None) (ap shebang whole ∙ stays-none text is text_room none))
-            ∙ (whole ∙ source-code text (tokens_of document text) all)
+            ∙ (whole ∙ source-code text (tokens_of (document E2024) text) all)
 
         by_check : (b : Bool) → is_same_len (shebang made) (shebang text) ≡ b → DocumentLaw text
         by_check false e = record {

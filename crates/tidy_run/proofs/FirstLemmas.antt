@@ -20,32 +20,32 @@ first_or t (u ∷ us) = u
 
 -- the tokens of a source by its first one
 pub record First (text : List ℕ) (token : Token) : Type 0 where
-  pub tokens : tokens_of document text ≡ token ∷ tokens_of (mode_after document token.kind) (drop token.len text)
+  pub tokens : tokens_of (document E2024) text ≡ token ∷ tokens_of (mode_after (document E2024) token.kind) (drop token.len text)
   pub inside : token.len ≤ length text
   pub left : IsText (drop token.len text)
 
-pub first-is : (text : List ℕ) (s t : State) (token : Token) → IsText text → tokens_left s ≡ tokens_of document text → TakesToken s token t → First text token
-first-is [] s t token is e step = absurd (omega (arith, ap length (sym step.first ∙ (e ∙ tokens-nil document))))
+pub first-is : (text : List ℕ) (s t : State) (token : Token) → IsText text → tokens_left s ≡ tokens_of (document E2024) text → TakesToken s token t → First text token
+first-is [] s t token is e step = absurd (omega (arith, ap length (sym step.first ∙ (e ∙ tokens-nil (document E2024)))))
 first-is (c ∷ cs) s t token is e step = record {
-  tokens = subst (λ (u : Token). tokens_of document (c ∷ cs) ≡ u ∷ tokens_of (mode_after document u.kind) (drop u.len (c ∷ cs))) same cons;
+  tokens = subst (λ (u : Token). tokens_of (document E2024) (c ∷ cs) ≡ u ∷ tokens_of (mode_after (document E2024) u.kind) (drop u.len (c ∷ cs))) same cons;
   inside = subst (λ (u : Token). u.len ≤ length (c ∷ cs)) same cuts.inside;
   left = subst (λ (u : Token). IsText (drop u.len (c ∷ cs))) same cuts.left;
 }
   where
-    cuts : CutsOff (c ∷ cs) (token_at document (c ∷ cs))
-    cuts = token_at-cuts document (c ∷ cs) is (omega arith)
+    cuts : CutsOff (c ∷ cs) (token_at (document E2024) (c ∷ cs))
+    cuts = token_at-cuts (document E2024) (c ∷ cs) is (omega arith)
 
-    cons : tokens_of document (c ∷ cs) ≡ token_at document (c ∷ cs) ∷ tokens_of (mode_after document (token_at document (c ∷ cs)).kind) (drop (token_at document (c ∷ cs)).len (c ∷ cs))
-    cons = tokens-cons document (c ∷ cs) is (omega arith)
+    cons : tokens_of (document E2024) (c ∷ cs) ≡ token_at (document E2024) (c ∷ cs) ∷ tokens_of (mode_after (document E2024) (token_at (document E2024) (c ∷ cs)).kind) (drop (token_at (document E2024) (c ∷ cs)).len (c ∷ cs))
+    cons = tokens-cons (document E2024) (c ∷ cs) is (omega arith)
 
-    same : token_at document (c ∷ cs) ≡ token
+    same : token_at (document E2024) (c ∷ cs) ≡ token
     same = ap (first_or token) (sym cons ∙ (sym e ∙ step.first))
 
-front-no : (kind : TokenKind) → is_front kind ≡ true → mode_after document kind ≡ part E2024
+front-no : (kind : TokenKind) → is_front kind ≡ true → mode_after (document E2024) kind ≡ part E2024
 front-no (Frontmatter a b) e = refl
 front-no kind e = absurd (true≢false (sym e))
 
-space-yes : (kind : TokenKind) → is_space kind ≡ true → mode_after document kind ≡ document
+space-yes : (kind : TokenKind) → is_space kind ≡ true → mode_after (document E2024) kind ≡ document E2024
 space-yes Whitespace e = refl
 space-yes kind e = absurd (true≢false (sym e))
 
@@ -54,10 +54,10 @@ whole-take n text own e = e ∙ (let all : n - 0 ≡ n = omega arith in ap (λ (
 
 -- with a frontmatter first
 module _ (text : List ℕ) (front : Token) (first : First text front) (at : is_front front.kind ≡ true) where
-  front-order : front_in_order text (tokens_of document text) ≡ if_kept front text (take front.len text ++ code_in_order (drop front.len text) (tokens_of (part E2024) (drop front.len text)))
+  front-order : front_in_order text (tokens_of (document E2024) text) ≡ if_kept front text (take front.len text ++ code_in_order (drop front.len text) (tokens_of (part E2024) (drop front.len text)))
   front-order =
       ap (front_in_order text) first.tokens
-      ∙ (ap (λ (b : Bool). let ts : List Token = tokens_of (mode_after document front.kind) (drop front.len text) in if b then if_kept front text (take front.len text ++ code_in_order (drop front.len text) ts) else code_in_order text (front ∷ ts)) at
+      ∙ (ap (λ (b : Bool). let ts : List Token = tokens_of (mode_after (document E2024) front.kind) (drop front.len text) in if b then if_kept front text (take front.len text ++ code_in_order (drop front.len text) ts) else code_in_order text (front ∷ ts)) at
       ∙ ap (λ (a : Mode). if_kept front text (take front.len text ++ code_in_order (drop front.len text) (tokens_of a (drop front.len text)))) (front-no front.kind at))
 
   made-is : (line own rest made : List ℕ) → line ≡ own → own ≡ take (front.len - 0) text → rest ≡ drop front.len text → made ≡ line ++ code_in_order rest (tokens_of (part E2024) rest)
@@ -77,36 +77,36 @@ module _ (text : List ℕ) (front : Token) (first : First text front) (at : is_f
       omega arith
 
   pub front-made : (b : Bool) (line own rest made : List ℕ) → line ≡ own → own ≡ take (front.len - 0) text → rest ≡ drop front.len text → made ≡ line ++ code_in_order rest (tokens_of (part E2024) rest)
-      → b ≡ begins_with front (tokens_of document made) → (if b then made else text) ≡ front_in_order text (tokens_of document text)
+      → b ≡ begins_with front (tokens_of (document E2024) made) → (if b then made else text) ≡ front_in_order text (tokens_of (document E2024) text)
   front-made b line own rest made e f g h test = ap (λ (x : Bool). if x then made else text) test ∙ (ap (if_kept front text) (made-is line own rest made e f g h) ∙ sym front-order)
 
 -- with white space first, or none
 pub space-first : (text : List ℕ) (token : Token) (before mid own rest : List ℕ) → First text token → is_space token.kind ≡ true → own ≡ take (token.len - 0) text → rest ≡ drop token.len text
-    → mid ≡ before ++ put token.kind (token.len == length text) own → mid ++ front_in_order rest (tokens_of document rest) ≡ before ++ source_tidied text
+    → mid ≡ before ++ put token.kind (token.len == length text) own → mid ++ front_in_order rest (tokens_of (document E2024) rest) ≡ before ++ source_tidied text
 space-first text token before mid own rest first at is cut made =
-    ap (λ (xs : List ℕ). xs ++ front_in_order rest (tokens_of document rest)) (made ∙ ap (λ (xs : List ℕ). before ++ xs) written)
-    ∙ (append_assoc before (space_in_order (take token.len text) (tokens_of document rest)) (front_in_order rest (tokens_of document rest))
-    ∙ ap (λ (xs : List ℕ). before ++ xs) (ap (λ (xs : List ℕ). space_in_order (take token.len text) (tokens_of document xs) ++ front_in_order xs (tokens_of document xs)) cut ∙ sym order))
+    ap (λ (xs : List ℕ). xs ++ front_in_order rest (tokens_of (document E2024) rest)) (made ∙ ap (λ (xs : List ℕ). before ++ xs) written)
+    ∙ (append_assoc before (space_in_order (take token.len text) (tokens_of (document E2024) rest)) (front_in_order rest (tokens_of (document E2024) rest))
+    ∙ ap (λ (xs : List ℕ). before ++ xs) (ap (λ (xs : List ℕ). space_in_order (take token.len text) (tokens_of (document E2024) xs) ++ front_in_order xs (tokens_of (document E2024) xs)) cut ∙ sym order))
   where
-    order : source_tidied text ≡ space_in_order (take token.len text) (tokens_of document (drop token.len text)) ++ front_in_order (drop token.len text) (tokens_of document (drop token.len text))
+    order : source_tidied text ≡ space_in_order (take token.len text) (tokens_of (document E2024) (drop token.len text)) ++ front_in_order (drop token.len text) (tokens_of (document E2024) (drop token.len text))
     order =
         ap (source_in_order text) first.tokens
-        ∙ (ap (λ (b : Bool). let ts : List Token = tokens_of (mode_after document token.kind) (drop token.len text) in if b then space_in_order (take token.len text) ts ++ front_in_order (drop token.len text) ts else front_in_order text (token ∷ ts)) at
+        ∙ (ap (λ (b : Bool). let ts : List Token = tokens_of (mode_after (document E2024) token.kind) (drop token.len text) in if b then space_in_order (take token.len text) ts ++ front_in_order (drop token.len text) ts else front_in_order text (token ∷ ts)) at
         ∙ ap (λ (a : Mode). let ts : List Token = tokens_of a (drop token.len text) in space_in_order (take token.len text) ts ++ front_in_order (drop token.len text) ts) (space-yes token.kind at))
 
-    written : put token.kind (token.len == length text) own ≡ space_in_order (take token.len text) (tokens_of document rest)
+    written : put token.kind (token.len == length text) own ≡ space_in_order (take token.len text) (tokens_of (document E2024) rest)
     written =
         ap (put token.kind (token.len == length text)) (whole-take token.len text own is)
         ∙ (ap (λ (b : Bool). put token.kind b (take token.len text)) (end-is text rest token.len first.inside (sym cut))
-        ∙ (put-is document rest token.kind (take token.len text) ∙ ap (λ (b : Bool). if b then space_in_order (take token.len text) (tokens_of document rest) else text_in_order token.kind (take token.len text) ++ closing token.kind (tokens_of document rest)) at))
+        ∙ (put-is (document E2024) rest token.kind (take token.len text) ∙ ap (λ (b : Bool). if b then space_in_order (take token.len text) (tokens_of (document E2024) rest) else text_in_order token.kind (take token.len text) ++ closing token.kind (tokens_of (document E2024) rest)) at))
 
-pub none-first : (text : List ℕ) (token : Token) → First text token → is_space token.kind ≡ false → front_in_order text (tokens_of document text) ≡ source_tidied text
+pub none-first : (text : List ℕ) (token : Token) → First text token → is_space token.kind ≡ false → front_in_order text (tokens_of (document E2024) text) ≡ source_tidied text
 none-first text token first at = ap (front_in_order text) first.tokens ∙ sym (ap (source_in_order text) first.tokens
-    ∙ ap (λ (b : Bool). let ts : List Token = tokens_of (mode_after document token.kind) (drop token.len text) in if b then space_in_order (take token.len text) ts ++ front_in_order (drop token.len text) ts else front_in_order text (token ∷ ts)) at)
+    ∙ ap (λ (b : Bool). let ts : List Token = tokens_of (mode_after (document E2024) token.kind) (drop token.len text) in if b then space_in_order (take token.len text) ts ++ front_in_order (drop token.len text) ts else front_in_order text (token ∷ ts)) at)
 
-pub code-first : (text : List ℕ) (token : Token) → First text token → is_front token.kind ≡ false → code_in_order text (tokens_of document text) ≡ front_in_order text (tokens_of document text)
+pub code-first : (text : List ℕ) (token : Token) → First text token → is_front token.kind ≡ false → code_in_order text (tokens_of (document E2024) text) ≡ front_in_order text (tokens_of (document E2024) text)
 code-first text token first at = ap (code_in_order text) first.tokens ∙ sym (ap (front_in_order text) first.tokens
-    ∙ ap (λ (b : Bool). let ts : List Token = tokens_of (mode_after document token.kind) (drop token.len text) in if b then if_kept token text (take token.len text ++ code_in_order (drop token.len text) ts) else code_in_order text (token ∷ ts)) at)
+    ∙ ap (λ (b : Bool). let ts : List Token = tokens_of (mode_after (document E2024) token.kind) (drop token.len text) in if b then if_kept token text (take token.len text ++ code_in_order (drop token.len text) ts) else code_in_order text (token ∷ ts)) at)
 
-pub empty-source : (text : List ℕ) → tokens_of document text ≡ [] → (source_tidied text ≡ []) × (front_in_order text (tokens_of document text) ≡ [])
+pub empty-source : (text : List ℕ) → tokens_of (document E2024) text ≡ [] → (source_tidied text ≡ []) × (front_in_order text (tokens_of (document E2024) text) ≡ [])
 empty-source text e = (ap (source_in_order text) e, ap (front_in_order text) e)

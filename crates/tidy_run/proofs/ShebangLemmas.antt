@@ -79,12 +79,12 @@ unfolding unicode_ident is_emoji emoji_ranges
 bang-alone = refl
 
 mark-tokens : (text : List ℕ) → IsText text → begins (codes "#!") text ≡ true
-    → tokens_of document text ≡ record { kind = Pound; len = bytes (35 ∷ []) } ∷ record { kind = Bang; len = bytes (33 ∷ []) } ∷ tokens_of (part E2024) (drop 2 text)
+    → tokens_of (document E2024) text ≡ record { kind = Pound; len = bytes (35 ∷ []) } ∷ record { kind = Bang; len = bytes (33 ∷ []) } ∷ tokens_of (part E2024) (drop 2 text)
 mark-tokens text is e =
     let m = marked text is e in
     let rest : AreTokens (part E2024) (chars (drop 2 text)) (tokens_of (part E2024) (drop 2 text)) = (language (drop 2 text) (part E2024) m.rest_is (tokens_of (part E2024) (drop 2 text))).1 refl in
-    sym ((language text document is (record { kind = Pound; len = bytes (35 ∷ []) } ∷ record { kind = Bang; len = bytes (33 ∷ []) } ∷ tokens_of (part E2024) (drop 2 text))).0
-    (subst (λ (cs : List ℕ). AreTokens document cs (record { kind = Pound; len = bytes (35 ∷ []) } ∷ record { kind = Bang; len = bytes (33 ∷ []) } ∷ tokens_of (part E2024) (drop 2 text))) (sym m.chars_are)
+    sym ((language text (document E2024) is (record { kind = Pound; len = bytes (35 ∷ []) } ∷ record { kind = Bang; len = bytes (33 ∷ []) } ∷ tokens_of (part E2024) (drop 2 text))).0
+    (subst (λ (cs : List ℕ). AreTokens (document E2024) cs (record { kind = Pound; len = bytes (35 ∷ []) } ∷ record { kind = Bang; len = bytes (33 ∷ []) } ∷ tokens_of (part E2024) (drop 2 text))) (sym m.chars_are)
     (something {w = []} {next = 33 ∷ chars (drop 2 text)} (of_page refl (the.pound refl)) (λ y. opens-none (35 ∷ 33 ∷ chars (drop 2 text)) refl) (something {w = []} {next = chars (drop 2 text)} (of_page refl (the.symbol {c = 33} bang-alone)) (λ y. absurd (cc)) rest))))
 
 -- ---- kinds
@@ -127,7 +127,7 @@ marked-attribute : (text : List ℕ) → IsText text → begins (codes "#!") tex
 unfolding kinds
 marked-attribute text is e =
     attribute-kinds (tokens_of (part E2024) (drop 2 text))
-    ∙ (ap (λ (ks : List TokenKind). attribute_of (drop 2 ks)) (sym (ap kinds (mark-tokens text is e)) ∙ sym (parts-kinds text (tokens_of document text)))
+    ∙ (ap (λ (ks : List TokenKind). attribute_of (drop 2 ks)) (sym (ap kinds (mark-tokens text is e)) ∙ sym (parts-kinds text (tokens_of (document E2024) text)))
     ∙ sym (closed-attribute (source_parts text)))
 
 same-attribute : (text other : List ℕ) → IsText text → IsText other → begins (codes "#!") text ≡ true → begins (codes "#!") other ≡ true → parts_in_order (source_parts other) ≡ parts_in_order (source_parts text)

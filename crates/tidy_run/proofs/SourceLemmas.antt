@@ -5,6 +5,7 @@ use Rattle.std.proofs.Math.Seq.{take-append_seam, drop-append_seam}
 use Rattle.std.proofs.lemmas.Bool.{and_parts, eqb-true, not-true}
 use Rattle.std.proofs.lemmas.Str.{chars-encodes, encodes-append, encodes-chars, scalars-chars}
 use Rattle.std.specs.Str.{chars, encode_utf8_all}
+use Rattle.rustc_lexer.specs.declared.edition.Edition.{Edition}
 use Rattle.rustc_lexer.specs.declared.edition.Edition.TheVariants.{E2024}
 use Rattle.rustc_lexer.specs.declared.token.Token.{Token}
 use Rattle.rustc_lexer.specs.declared.token.TokenKind.{TokenKind}
@@ -12,7 +13,7 @@ use Rattle.rustc_lexer.specs.declared.token.TokenKind.TheVariants.{Whitespace, F
 use Rattle.rustc_lexer.specs.Classes.{is_among, is_whitespace}
 use Rattle.rustc_lexer.specs.FrontmatterGrammar.{IsOpeningBefore, OpensNone, EndsAt}
 use Rattle.rustc_lexer.specs.Language.{IsTokenBefore}
-use Rattle.rustc_lexer.specs.LanguageText.{Mode, document, part, mode_edition, mode_after, AreTokens, nothing, something, frontmatter_first}
+use Rattle.rustc_lexer.specs.LanguageText.{Mode, IsDocument, document, part, mode_edition, mode_after, AreTokens, nothing, something, frontmatter_first}
 use Rattle.rustc_lexer.specs.Spans.{NextIsNot, bytes}
 use Rattle.rustc_lexer.specs.laws.LanguageLiterals.{bytes-append}
 use Rattle.rustc_lexer.specs.means.Scan.{next_is}
@@ -39,21 +40,21 @@ same-front (Frontmatter a b) (Frontmatter c d) e =
 same-front kind other e = absurd (true≢false (sym e))
 
 -- the tokens of a text that begins with a frontmatter as this one
-first-front : (text : List ℕ) (front : Token) → IsText text → begins_with front (tokens_of document text) ≡ true → tokens_of document text ≡ front ∷ tokens_of (mode_after document front.kind) (drop front.len text)
-first-front [] front is e = absurd (true≢false (sym e ∙ ap (begins_with front) (tokens-nil document)))
-first-front (c ∷ cs) front is e = cons ∙ ap (λ (t : Token). t ∷ tokens_of (mode_after document t.kind) (drop t.len text)) same
+first-front : (text : List ℕ) (front : Token) → IsText text → begins_with front (tokens_of (document E2024) text) ≡ true → tokens_of (document E2024) text ≡ front ∷ tokens_of (mode_after (document E2024) front.kind) (drop front.len text)
+first-front [] front is e = absurd (true≢false (sym e ∙ ap (begins_with front) (tokens-nil (document E2024))))
+first-front (c ∷ cs) front is e = cons ∙ ap (λ (t : Token). t ∷ tokens_of (mode_after (document E2024) t.kind) (drop t.len text)) same
   where
     text : List ℕ
     text = c ∷ cs
 
-    cons : tokens_of document text ≡ token_at document text ∷ tokens_of (mode_after document (token_at document text).kind) (drop (token_at document text).len text)
-    cons = tokens-cons document text is (omega arith)
+    cons : tokens_of (document E2024) text ≡ token_at (document E2024) text ∷ tokens_of (mode_after (document E2024) (token_at (document E2024) text).kind) (drop (token_at (document E2024) text).len text)
+    cons = tokens-cons (document E2024) text is (omega arith)
 
-    same : token_at document text ≡ front
+    same : token_at (document E2024) text ≡ front
     same =
-        let both = and_parts (is_same_front front.kind (token_at document text).kind) _ (sym (ap (begins_with front) cons) ∙ e) in
-        ap (λ (k : TokenKind). let t : Token = record { kind = k; len = (token_at document text).len } in t) (same-front front.kind (token_at document text).kind both.0)
-        ∙ ap (λ (n : ℕ). let t : Token = record { kind = front.kind; len = n } in t) (eqb-true (token_at document text).len front.len both.1)
+        let both = and_parts (is_same_front front.kind (token_at (document E2024) text).kind) _ (sym (ap (begins_with front) cons) ∙ e) in
+        ap (λ (k : TokenKind). let t : Token = record { kind = k; len = (token_at (document E2024) text).len } in t) (same-front front.kind (token_at (document E2024) text).kind both.0)
+        ∙ ap (λ (n : ℕ). let t : Token = record { kind = front.kind; len = n } in t) (eqb-true (token_at (document E2024) text).len front.len both.1)
 
 -- ---- with a frontmatter first
 
@@ -77,9 +78,9 @@ text-of cs good fits = record { utf8 = (cs, (good, refl)); fits = fits }
 
 -- past this frontmatter
 frontmatter-step : (u next : List ℕ) (space infostring : Bool) (len : ℕ) (tokens : List Token) → scalars (u ++ next) ≡ true → bytes (u ++ next) + 1 < 2 ^ 32
-    → AreTokens document (u ++ next) (record { kind = Frontmatter space infostring; len = len } ∷ tokens) → len ≡ bytes u
-    → Tidies code_in_order (part E2024) next tokens → Tidies front_in_order document (u ++ next) (record { kind = Frontmatter space infostring; len = len } ∷ tokens)
-frontmatter-step u next space infostring len tokens good fits are len_is more = by_check (begins_with front (tokens_of document (encode_utf8_all out))) refl
+    → AreTokens (document E2024) (u ++ next) (record { kind = Frontmatter space infostring; len = len } ∷ tokens) → len ≡ bytes u
+    → Tidies code_in_order (part E2024) next tokens → Tidies front_in_order (document E2024) (u ++ next) (record { kind = Frontmatter space infostring; len = len } ∷ tokens)
+frontmatter-step u next space infostring len tokens good fits are len_is more = by_check (begins_with front (tokens_of (document E2024) (encode_utf8_all out))) refl
   where
     front : Token
     front = record { kind = Frontmatter space infostring; len = len }
@@ -99,7 +100,7 @@ frontmatter-step u next space infostring len tokens good fits are len_is more = 
     puts : front_in_order (encode_utf8_all (u ++ next)) (front ∷ tokens) ≡ if_kept front (encode_utf8_all (u ++ next)) (encode_utf8_all out)
     puts = front-puts u next front tokens refl len_is ∙ ap (if_kept front (encode_utf8_all (u ++ next))) (ap (λ (xs : List ℕ). encode_utf8_all u ++ xs) more.is ∙ sym (encodes-append u more.out))
 
-    by_check : (b : Bool) → begins_with front (tokens_of document (encode_utf8_all out)) ≡ b → Tidies front_in_order document (u ++ next) (front ∷ tokens)
+    by_check : (b : Bool) → begins_with front (tokens_of (document E2024) (encode_utf8_all out)) ≡ b → Tidies front_in_order (document E2024) (u ++ next) (front ∷ tokens)
     by_check false e = record {
       out = u ++ next;
       outs = front ∷ tokens;
@@ -119,7 +120,7 @@ frontmatter-step u next space infostring len tokens good fits are len_is more = 
     by_check true e = record {
       out = out;
       outs = front ∷ more.outs;
-      are = subst (λ (cs : List ℕ). AreTokens document cs (front ∷ more.outs)) (chars-encodes out out-good) ((language (encode_utf8_all out) document out_text (front ∷ more.outs)).1 (sym tokens_are));
+      are = subst (λ (cs : List ℕ). AreTokens (document E2024) cs (front ∷ more.outs)) (chars-encodes out out-good) ((language (encode_utf8_all out) (document E2024) out_text (front ∷ more.outs)).1 (sym tokens_are));
       near = near-append u more.near;
       is = puts ∙ ap (λ (b : Bool). if b then encode_utf8_all out else encode_utf8_all (u ++ next)) e;
       same = ap parts_in_order (front-parts u more.out front more.outs len_is) ∙ (front-closed (parts (encode_utf8_all more.out) more.outs)
@@ -146,17 +147,17 @@ frontmatter-step u next space infostring len tokens good fits are len_is more = 
         rest_are : more.outs ≡ tokens_of (part E2024) (encode_utf8_all more.out)
         rest_are = (language (encode_utf8_all more.out) (part E2024) (text-of more.out more-good sizes.0) more.outs).0 (subst (λ (cs : List ℕ). AreTokens (part E2024) cs more.outs) (sym (chars-encodes more.out more-good)) more.are)
 
-        tokens_are : tokens_of document (encode_utf8_all out) ≡ front ∷ more.outs
+        tokens_are : tokens_of (document E2024) (encode_utf8_all out) ≡ front ∷ more.outs
         tokens_are = first-front (encode_utf8_all out) front out_text e ∙ (ap (λ (xs : List ℕ). front ∷ tokens_of (part E2024) xs) left ∙ ap (λ (ts : List Token). front ∷ ts) (sym rest_are))
 
 -- with a frontmatter of the language first
 opened-tidies : {n : ℕ} {front next : List ℕ} {tokens : List Token} (body : List ℕ) → scalars (front ++ (body ++ next)) ≡ true → bytes (front ++ (body ++ next)) + 1 < 2 ^ 32
     → IsOpeningBefore (body ++ next) n front → EndsAt n (encode_utf8_all (body ++ next)) (bytes body) → AreTokens (part E2024) next tokens
-    → Tidies front_in_order document (front ++ (body ++ next)) (record { kind = Frontmatter (next_is is_whitespace front) (not (next_is (is_among (codes "\n")) (body ++ next))); len = bytes front + bytes body } ∷ tokens)
+    → Tidies front_in_order (document E2024) (front ++ (body ++ next)) (record { kind = Frontmatter (next_is is_whitespace front) (not (next_is (is_among (codes "\n")) (body ++ next))); len = bytes front + bytes body } ∷ tokens)
 opened-tidies {n} {front} {next} {tokens} body good fits is_opening is_end rest =
-    subst (λ (cs : List ℕ). Tidies front_in_order document cs (token ∷ tokens)) whole
+    subst (λ (cs : List ℕ). Tidies front_in_order (document E2024) cs (token ∷ tokens)) whole
     (frontmatter-step (front ++ body) next token_space token_infostring (bytes front + bytes body) tokens (ap scalars whole ∙ good) (subst (λ (cs : List ℕ). bytes cs + 1 < 2 ^ 32) (sym whole) fits)
-    (subst (λ (cs : List ℕ). AreTokens document cs (token ∷ tokens)) (sym whole) (frontmatter_first body is_opening is_end rest)) (sym (bytes-append front body)) (code-tidies refl rest))
+    (subst (λ (cs : List ℕ). AreTokens (document E2024) cs (token ∷ tokens)) (sym whole) (frontmatter_first body is_opening is_end rest)) (sym (bytes-append front body)) (code-tidies refl rest))
   where
     token_space : Bool
     token_space = next_is is_whitespace front
@@ -183,7 +184,7 @@ solid-puts u kind no_front left ts = ap (λ (b : Bool). if b then if_kept t text
     text = encode_utf8_all (u ++ left)
 
 -- past what is no white space a document goes on as a part
-past-solid : (kind : TokenKind) → is_space kind ≡ false → is_end kind ≡ false → mode_after document kind ≡ part E2024
+past-solid : (kind : TokenKind) → is_space kind ≡ false → is_end kind ≡ false → mode_after (document E2024) kind ≡ part E2024
 past-solid Whitespace e f = absurd (true≢false e)
 past-solid Eof e f = absurd (true≢false f)
 past-solid kind e f = refl
@@ -201,23 +202,31 @@ kind-solid {next} {kind} {c} {w} other p = elim (token-near (near-refl next) (λ
   | inr stays ↦ stays.is_solid (omega arith)
 ]
 
-solid-front : (kind : TokenKind) (c : ℕ) (w next : List ℕ) (tokens : List Token) → is_solid_kind kind ≡ true → IsTokenBefore next kind (c ∷ w) → (document ≡ document → OpensNone (c ∷ w ++ next))
-    → AreTokens (mode_after document kind) next tokens → Tidies front_in_order document (c ∷ w ++ next) (record { kind = kind; len = bytes (c ∷ w) } ∷ tokens)
+-- past the frontmatter of a document of the newest edition stand the tokens of that edition
+in-newest : {edition : Edition} {next : List ℕ} {tokens : List Token} → document edition ≡ document E2024 → AreTokens (part edition) next tokens → AreTokens (part E2024) next tokens
+in-newest {edition} {next} {tokens} yes_is rest = subst (λ (m : Mode). AreTokens (part (mode_edition m)) next tokens) yes_is rest
+
+-- a document of the newest edition is a document
+is_document : {mode : Mode} → mode ≡ document E2024 → IsDocument mode
+is_document yes_is = yes_is ∙ ap document (sym (ap mode_edition yes_is))
+
+solid-front : (kind : TokenKind) (c : ℕ) (w next : List ℕ) (tokens : List Token) → is_solid_kind kind ≡ true → IsTokenBefore next kind (c ∷ w) → (IsDocument (document E2024) → OpensNone (c ∷ w ++ next))
+    → AreTokens (mode_after (document E2024) kind) next tokens → Tidies front_in_order (document E2024) (c ∷ w ++ next) (record { kind = kind; len = bytes (c ∷ w) } ∷ tokens)
 solid-front kind c w next tokens solid p free rest = by_token (code-tidies (past-solid kind known.0 known.2) rest)
   where
     known : (is_space kind ≡ false) × (is_front kind ≡ false) × (is_end kind ≡ false)
     known = solid-no kind solid
 
-    by_token : Tidies code_in_order (mode_after document kind) next tokens → Tidies front_in_order document (c ∷ w ++ next) (record { kind = kind; len = bytes (c ∷ w) } ∷ tokens)
-    by_token more = solid-token front_in_order document kind c w next tokens refl (λ u. solid-puts u kind known.1) known.0 p free
-        (behind kind (mode_after document kind) next tokens known.0 (after-newest document kind refl) (none-left rest) (part-none (past-solid kind known.0 known.2) rest) more)
+    by_token : Tidies code_in_order (mode_after (document E2024) kind) next tokens → Tidies front_in_order (document E2024) (c ∷ w ++ next) (record { kind = kind; len = bytes (c ∷ w) } ∷ tokens)
+    by_token more = solid-token front_in_order (document E2024) kind c w next tokens refl (λ u. solid-puts u kind known.1) known.0 p free
+        (behind kind (mode_after (document E2024) kind) next tokens known.0 (after-newest (document E2024) kind refl) (none-left rest) (part-none (past-solid kind known.0 known.2) rest) more)
 
-front-tidies : {mode : Mode} {cs : List ℕ} {tokens : List Token} → mode ≡ document → scalars cs ≡ true → bytes cs + 1 < 2 ^ 32 → NextIsNot is_whitespace cs → AreTokens mode cs tokens → Tidies front_in_order document cs tokens
+front-tidies : {mode : Mode} {cs : List ℕ} {tokens : List Token} → mode ≡ document E2024 → scalars cs ≡ true → bytes cs + 1 < 2 ^ 32 → NextIsNot is_whitespace cs → AreTokens mode cs tokens → Tidies front_in_order (document E2024) cs tokens
 front-tidies yes_is good fits stop (nothing) = record { out = []; outs = []; are = nothing; near = ends; is = refl; too = λ e. refl; same = refl; again = refl; last = refl; size = omega arith; good = λ e. e }
-front-tidies yes_is good fits stop (frontmatter_first body is_opening is_end rest) = opened-tidies body good fits is_opening is_end rest
+front-tidies yes_is good fits stop (frontmatter_first {edition} body is_opening is_end rest) = opened-tidies body good fits is_opening is_end (in-newest {edition = edition} yes_is rest)
 front-tidies yes_is good fits stop (something {mode} {kind} {c} {w} {next} {tokens} is free rest) =
     let p : IsTokenBefore next kind (c ∷ w) = on_page (ap mode_edition yes_is) is in
-    solid-front kind c w next tokens (kind-solid stop p) p (λ y. free yes_is) (subst (λ (a : Mode). AreTokens (mode_after a kind) next tokens) yes_is rest)
+    solid-front kind c w next tokens (kind-solid stop p) p (λ y. free (is_document yes_is)) (subst (λ (a : Mode). AreTokens (mode_after a kind) next tokens) yes_is rest)
 
 -- ---- with white space first, or none
 
@@ -242,7 +251,7 @@ unfolding begins_space
 front-source text [] e = refl
 front-source text (t ∷ ts) e = ap (λ (b : Bool). if b then space_in_order (take t.len text) ts ++ front_in_order (drop t.len text) ts else front_in_order text (t ∷ ts)) e
 
-as-source : (cs : List ℕ) (t : Token) (ts : List Token) → is_space t.kind ≡ false → Tidies front_in_order document cs (t ∷ ts) → Tidies source_in_order document cs (t ∷ ts)
+as-source : (cs : List ℕ) (t : Token) (ts : List Token) → is_space t.kind ≡ false → Tidies front_in_order (document E2024) cs (t ∷ ts) → Tidies source_in_order (document E2024) cs (t ∷ ts)
 unfolding begins_space
 as-source cs t ts solid tidy = record {
   out = tidy.out;
@@ -258,15 +267,15 @@ as-source cs t ts solid tidy = record {
   good = tidy.good;
 }
 
-source-tidies : {mode : Mode} {cs : List ℕ} {tokens : List Token} → mode ≡ document → scalars cs ≡ true → bytes cs + 1 < 2 ^ 32 → AreTokens mode cs tokens → Tidies source_in_order document cs tokens
+source-tidies : {mode : Mode} {cs : List ℕ} {tokens : List Token} → mode ≡ document E2024 → scalars cs ≡ true → bytes cs + 1 < 2 ^ 32 → AreTokens mode cs tokens → Tidies source_in_order (document E2024) cs tokens
 source-tidies yes_is good fits (nothing) = record { out = []; outs = []; are = nothing; near = ends; is = refl; too = λ e. refl; same = refl; again = refl; last = refl; size = omega arith; good = λ e. e }
-source-tidies yes_is good fits (frontmatter_first {n} {opening = front} {next} {tokens} body is_opening is_end rest) =
+source-tidies yes_is good fits (frontmatter_first {edition} {n} {opening = front} {next} {tokens} body is_opening is_end rest) =
     as-source (front ++ (body ++ next)) (record { kind = Frontmatter (next_is is_whitespace front) (not (next_is (is_among (codes "\n")) (body ++ next))); len = bytes front + bytes body }) tokens refl
-    (opened-tidies body good fits is_opening is_end rest)
+    (opened-tidies body good fits is_opening is_end (in-newest {edition = edition} yes_is rest))
 source-tidies yes_is good fits (something {mode} {kind} {c} {w} {next} {tokens} is free rest) = elim (token-near (near-refl next) (λ o e. e) p) [
   | inl run ↦ spaced run
   | inr stays ↦ (let solid = stays.is_solid (omega arith) in as-source (c ∷ w ++ next) (record { kind = kind; len = bytes (c ∷ w) }) tokens (solid-no kind solid).0
-      (solid-front kind c w next tokens solid p (λ y. free yes_is) (subst (λ (a : Mode). AreTokens (mode_after a kind) next tokens) yes_is rest)))
+      (solid-front kind c w next tokens solid p (λ y. free (is_document yes_is)) (subst (λ (a : Mode). AreTokens (mode_after a kind) next tokens) yes_is rest)))
 ]
   where
     p : IsTokenBefore next kind (c ∷ w)
@@ -275,10 +284,10 @@ source-tidies yes_is good fits (something {mode} {kind} {c} {w} {next} {tokens} 
     next-fits : bytes next + 1 < 2 ^ 32
     next-fits = let e = ap length (encodes-append (c ∷ w) next) in let f = length-append (encode_utf8_all (c ∷ w)) (encode_utf8_all next) in omega arith
 
-    spaced : IsSpaceRun next kind (c ∷ w) → Tidies source_in_order document (c ∷ w ++ next) (record { kind = kind; len = bytes (c ∷ w) } ∷ tokens)
-    spaced run = subst (λ (k : TokenKind). Tidies source_in_order document (c ∷ w ++ next) (record { kind = k; len = bytes (c ∷ w) } ∷ tokens)) (sym run.kind_is)
-        (space-step source_in_order front_in_order document c w next tokens refl source-puts run.all run.stop (λ y. free yes_is) (none-left rest)
-        (front-tidies (ap (λ (a : Mode). mode_after a kind) yes_is ∙ ap (mode_after document) run.kind_is) (scalars-parts (c ∷ w) next good).1 next-fits run.stop rest))
+    spaced : IsSpaceRun next kind (c ∷ w) → Tidies source_in_order (document E2024) (c ∷ w ++ next) (record { kind = kind; len = bytes (c ∷ w) } ∷ tokens)
+    spaced run = subst (λ (k : TokenKind). Tidies source_in_order (document E2024) (c ∷ w ++ next) (record { kind = k; len = bytes (c ∷ w) } ∷ tokens)) (sym run.kind_is)
+        (space-step source_in_order front_in_order (document E2024) c w next tokens refl source-puts run.all run.stop (λ y. free (is_document yes_is)) (none-left rest)
+        (front-tidies (ap (λ (a : Mode). mode_after a kind) yes_is ∙ ap (mode_after (document E2024)) run.kind_is) (scalars-parts (c ∷ w) next good).1 next-fits run.stop rest))
 
 -- ---- texts
 
@@ -300,7 +309,7 @@ pub record SourceLaw (text : List ℕ) : Type 0 where
   pub near : Near (chars text) (chars (source_tidied text))
 
 pub source-law : (text : List ℕ) → IsText text → length text + 1 < 2 ^ 32 → SourceLaw text
-source-law text is room = by_tidied (source-tidies refl (scalars-chars text is.utf8) fits ((language text document is (tokens_of document text)).1 refl))
+source-law text is room = by_tidied (source-tidies refl (scalars-chars text is.utf8) fits ((language text (document E2024) is (tokens_of (document E2024) text)).1 refl))
   where
     whole : encode_utf8_all (chars text) ≡ text
     whole = encodes-chars text is.utf8
@@ -308,9 +317,9 @@ source-law text is room = by_tidied (source-tidies refl (scalars-chars text is.u
     fits : bytes (chars text) + 1 < 2 ^ 32
     fits = let e = ap length whole in let f = room in omega arith
 
-    by_tidied : Tidies source_in_order document (chars text) (tokens_of document text) → SourceLaw text
+    by_tidied : Tidies source_in_order (document E2024) (chars text) (tokens_of (document E2024) text) → SourceLaw text
     by_tidied tidy = record {
-      same = subst (λ (out : List ℕ). parts_in_order (source_parts out) ≡ parts_in_order (source_parts text)) (sym made) (ap (λ (ts : List Token). parts_in_order (parts (encode_utf8_all tidy.out) ts)) (sym tokens_are) ∙ (tidy.same ∙ ap (λ (xs : List ℕ). parts_in_order (parts xs (tokens_of document text))) whole));
+      same = subst (λ (out : List ℕ). parts_in_order (source_parts out) ≡ parts_in_order (source_parts text)) (sym made) (ap (λ (ts : List Token). parts_in_order (parts (encode_utf8_all tidy.out) ts)) (sym tokens_are) ∙ (tidy.same ∙ ap (λ (xs : List ℕ). parts_in_order (parts xs (tokens_of (document E2024) text))) whole));
       again = subst (λ (out : List ℕ). source_tidied out ≡ out) (sym made) (ap (source_in_order (encode_utf8_all tidy.out)) (sym tokens_are) ∙ tidy.again);
       size = let a = tidy.size in let b = ap length made in let c = ap length whole in omega arith;
       is_text = subst IsText (sym made) text_is;
@@ -318,7 +327,7 @@ source-law text is room = by_tidied (source-tidies refl (scalars-chars text is.u
     }
       where
         made : source_tidied text ≡ encode_utf8_all tidy.out
-        made = ap (λ (xs : List ℕ). source_in_order xs (tokens_of document text)) (sym whole) ∙ tidy.is
+        made = ap (λ (xs : List ℕ). source_in_order xs (tokens_of (document E2024) text)) (sym whole) ∙ tidy.is
 
         out-good : scalars tidy.out ≡ true
         out-good = tidy.good (scalars-chars text is.utf8)
@@ -326,5 +335,5 @@ source-law text is room = by_tidied (source-tidies refl (scalars-chars text is.u
         text_is : IsText (encode_utf8_all tidy.out)
         text_is = text-of tidy.out out-good (let a = tidy.size in let f = fits in omega arith)
 
-        tokens_are : tidy.outs ≡ tokens_of document (encode_utf8_all tidy.out)
-        tokens_are = (language (encode_utf8_all tidy.out) document text_is tidy.outs).0 (subst (λ (cs : List ℕ). AreTokens document cs tidy.outs) (sym (chars-encodes tidy.out out-good)) tidy.are)
+        tokens_are : tidy.outs ≡ tokens_of (document E2024) (encode_utf8_all tidy.out)
+        tokens_are = (language (encode_utf8_all tidy.out) (document E2024) text_is tidy.outs).0 (subst (λ (cs : List ℕ). AreTokens (document E2024) cs tidy.outs) (sym (chars-encodes tidy.out out-good)) tidy.are)

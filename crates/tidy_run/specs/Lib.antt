@@ -1,3 +1,4 @@
 pub mod Diff
+pub mod Files
 pub mod Order
 pub mod Stop

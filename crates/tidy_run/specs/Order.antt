@@ -8,6 +8,7 @@ use Rattle.rustc_lexer.specs.declared.token.LiteralKind.{LiteralKind}
 use Rattle.rustc_lexer.specs.declared.token.LiteralKind.TheVariants.{Char, Byte, Str, ByteStr, CStr, RawStr, RawByteStr, RawCStr}
 use Rattle.rustc_lexer.specs.declared.token.TokenKind.TheVariants.{LineComment, BlockComment, Whitespace, Frontmatter, Literal}
 use Rattle.rustc_lexer.specs.Classes.{is_among}
+use Rattle.rustc_lexer.specs.declared.edition.Edition.TheVariants.{E2024}
 use Rattle.rustc_lexer.specs.LanguageText.{document}
 use Rattle.rustc_lexer.specs.means.Scan.{begins}
 use Rattle.rustc_lexer.specs.means.Shebang.{shebang}
@@ -144,7 +145,7 @@ begins_with front (token ∷ tokens) = is_same_front front.kind token.kind && to
 -- where a frontmatter is first, what follows it is put in order only if the frontmatter stays one, and as long: what ends one
 -- that is not closed may be white space behind it
 abbrev pub if_kept : Token → List ℕ → List ℕ → List ℕ
-if_kept front text out = if begins_with front (tokens_of document out) then out else text
+if_kept front text out = if begins_with front (tokens_of (document E2024) out) then out else text
 
 abbrev pub front_in_order : List ℕ → List Token → List ℕ
 front_in_order text [] = []
@@ -160,7 +161,7 @@ source_in_order text (token ∷ tokens) =
     else front_in_order text (token ∷ tokens)
 
 abbrev pub source_tidied : List ℕ → List ℕ
-source_tidied text = source_in_order text (tokens_of document text)
+source_tidied text = source_in_order text (tokens_of (document E2024) text)
 
 -- a shebang line stays, and what follows it is a source
 abbrev pub end_of : Option ℕ → ℕ
@@ -197,7 +198,7 @@ pub record Solid : Type 0 where
   pub parts : List (TokenKind × List ℕ)
 
 abbrev pub source_parts : List ℕ → List (TokenKind × List ℕ)
-source_parts text = parts text (tokens_of document text)
+source_parts text = parts text (tokens_of (document E2024) text)
 
 abbrev pub solid : List ℕ → Solid
 solid text = record { line = take (line_end text) text; parts = source_parts (drop (line_end text) text) }
@@ -224,5 +225,5 @@ pub record IsSound (text : List ℕ) : Type 0 where
   pub solid_same : solid_in_order (solid (tidied text)) ≡ solid_in_order (solid text)
   pub again : tidied (tidied text) ≡ tidied text
   pub shorter : length (tidied text) ≤ length text + 1
-  pub in_order : is_full text ≡ false → shebang text ≡ None → list_all is_no_front (tokens_of document text) ≡ true
-      → tidied text ≡ code_in_order text (tokens_of document text)
+  pub in_order : is_full text ≡ false → shebang text ≡ None → list_all is_no_front (tokens_of (document E2024) text) ≡ true
+      → tidied text ≡ code_in_order text (tokens_of (document E2024) text)

@@ -1,5 +1,7 @@
 -- Why a run stops: its status, and its line on standard error.
-use Rattle.std.specs.Prelude.{ℕ, List, codes}
+use Rattle.std.specs.Prelude.{ℕ, List, Option, IfSome, codes}
+use Rattle.sources.specs.declared.fault.Reason.TheVariants.{NotUtf8 as NotUtf8Reason, TooLong as TooLongReason}
+use Rattle.sources.specs.Reasons.{IsNoText}
 use Rattle.tidy_run.specs.declared.stop.Stop.{Stop}
 use Rattle.tidy_run.specs.declared.stop.Stop.TheVariants.{Untidy, Passed, NotUtf8, TooLong, Memory, Read, Write, ClosedPipe}
 
@@ -28,3 +30,15 @@ abbrev pub IsWriteStop : Stop → Type 0
 IsWriteStop Write = Unit {0}
 IsWriteStop ClosedPipe = Unit {0}
 IsWriteStop stop = ⊥
+
+-- why no text is had of an input, by its bytes where they are known: those of another may be lost to a failed reader or to
+-- refused memory
+abbrev pub IsInputStop : Option (List ℕ) → Stop → Type 0
+IsInputStop known NotUtf8 = IfSome known (λ bytes. IsNoText bytes NotUtf8Reason)
+IsInputStop known TooLong = IfSome known (λ bytes. IsNoText bytes TooLongReason)
+IsInputStop known Memory = Unit {0}
+IsInputStop known Read = Unit {0}
+IsInputStop known Untidy = ⊥
+IsInputStop known Passed = ⊥
+IsInputStop known Write = ⊥
+IsInputStop known ClosedPipe = ⊥

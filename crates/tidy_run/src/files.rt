@@ -1,9 +1,14 @@
 //! Files that are put in order where they lie.
-ghost use Rattle.std.specs.Prelude.{◌≡◌, ◌≢◌, IfOk, IfSome, None, Ok, OnOk, string_bytes};
+ghost use Rattle.std.specs.Prelude.{◌≡◌, ◌≢◌, ◌<◌, ◌≤◌, ◌^◌, ◌↔◌, [], ◌++◌, IfErr, IfOk, IfSome, IsErrOf, None, Ok, OnOk, codes, length, string_bytes};
+ghost use Rattle.std.specs.Str.{IsUtf8};
+ghost use Rattle.sources.specs.Reasons.{IsText, IsTextFault};
 ghost use Rattle.tidy_run.specs.Diff.{IsDiff};
+ghost use Rattle.tidy_run.specs.Files.{fault_of, raised, shown_of, IsNoRefusal, IsStep};
+ghost use Rattle.tidy_run.specs.Files as spec;
 ghost use Rattle.tidy_run.specs.Order.{IsSound, tidied};
 
 use crate::job::Task;
+use crate::stop::Stop;
 use crate::{document, hunks};
 use sources::{Fault, PathFault, Reason, find, read_source, text_of};
 use std::alloc::{AllocError, Global};
@@ -18,10 +23,10 @@ use std::{fs, io};
 pub struct Outcome {
     /// How many were read.
     pub read: usize,
-    /// Those that are written anew, or would be, in order.
-    pub changed: Vec<String>,
-    /// What would change, as a diff, where that was asked.
-    pub diff: String,
+    /// How many are written anew, or would be.
+    pub changed: usize,
+    /// What is written of them, in order: their names, or what would change as a diff, where that was asked.
+    pub shown: String,
     /// Those that were passed over. They are as they were.
     pub faults: Vec<PathFault>,
 }
@@ -44,12 +49,12 @@ pub fn tidy_paths<R: Files + AllocGlobal + Clone + Drop, F: FnMut(usize, usize)>
     let mut done: usize = 0;
     let mut outcome = Outcome {
         read: 0,
-        changed: Vec::new(rt.alloc()),
-        diff: String::new(rt.alloc()),
+        changed: 0,
+        shown: String::new(rt.alloc()),
         faults: found.faults,
     };
     for path in found.files {
-        let came = tidy_file(rt, id, task, path.as_str(), &mut outcome.diff);
+        let came = tidy_file(rt, id, task, path.as_str());
         outcome.take(path, came)?;
         done = done.saturating_add(1);
         tell(done, total);
@@ -57,16 +62,42 @@ pub fn tidy_paths<R: Files + AllocGlobal + Clone + Drop, F: FnMut(usize, usize)>
     Ok(outcome)
 }
 
+/// What is done with a file that was read.
+#[derive(Debug, Drop)]
+pub enum Step {
+    /// It is in order, and stays.
+    Stays,
+    /// This text takes its place.
+    Replaced(String),
+    /// It stays, and this is written of it.
+    Shown(String),
+}
+
 impl Outcome {
-    /// Takes what came of one file: whether it changes.
-    fn take(&mut self, path: String, came: Result<bool, Fault>) -> Result<(), AllocError> {
+    /// Takes what came of one file.
+    fn take(&mut self, path: String, came: Result<Step, Fault>) -> Result<(), AllocError>
+        ensures memory { OnOk result (IsNoRefusal came) }
+        ensures read { OnOk result (self.new.read ≡ raised self.old.read (spec.is_read came)) }
+        ensures changed { OnOk result (self.new.changed ≡ raised self.old.changed (spec.is_changed came)) }
+        ensures shown { OnOk result
+            (string_bytes self.new.shown ≡ string_bytes self.old.shown ++ shown_of came) }
+        ensures faults { OnOk result
+            (self.new.faults.items ≡ self.old.faults.items ++ fault_of path came) }
+    {
         match came {
-            Ok(changes) => {
+            Ok(Step::Stays) => {
                 self.read = self.read.saturating_add(1);
-                if changes {
-                    self.changed.push(path)?;
-                }
                 Ok(())
+            }
+            Ok(Step::Replaced(_)) => {
+                self.read = self.read.saturating_add(1);
+                self.changed = self.changed.saturating_add(1);
+                Ok(())
+            }
+            Ok(Step::Shown(text)) => {
+                self.read = self.read.saturating_add(1);
+                self.changed = self.changed.saturating_add(1);
+                self.shown.push_str(text.as_str())
             }
             Err(Fault::Source(reason)) => {
                 self.faults.push(PathFault { path, reason })?;
@@ -77,43 +108,92 @@ impl Outcome {
     }
 }
 
-/// Puts one file in order, or appends the diff, and says whether it changes.
+/// How a run over files ends.
+pub fn ending(task: Task, outcome: &Outcome) -> Result<(), Stop>
+    ensures passed { IsErrOf result Stop.Passed ↔ (outcome.now.faults.items ≢ []) }
+    ensures untidy { IsErrOf result Stop.Untidy ↔ ((outcome.now.faults.items ≡ [])
+        × (task ≢ Task.Write) × (outcome.now.changed ≢ 0)) }
+    ensures only { IfErr result (λ stop. stop ≢ Stop.Passed → stop ≡ Stop.Untidy) }
+{
+    if !outcome.faults.is_empty() {
+        Err(Stop::Passed)
+    } else if task != Task::Write && outcome.changed > 0 {
+        Err(Stop::Untidy)
+    } else {
+        Ok(())
+    }
+}
+
+/// Puts one file in order, if that is the task, and says what is done with it.
 fn tidy_file<R: Files + AllocGlobal + Clone + Drop>(
     rt: &R,
     id: u32,
     task: Task,
     path: &str,
-    diff: &mut String,
-) -> Result<bool, Fault> {
+) -> Result<Step, Fault> {
     let before = fs::metadata(rt, path)?;
     if !before.is_file() {
         return Err(Fault::Source(Reason::NoFile));
     }
     let bytes = read_source(rt, path)?;
-    let Some(text) = changed(rt.alloc(), bytes.as_slice())? else {
-        return Ok(false);
+    let step = step_of(rt.alloc(), task, path, bytes.as_slice())?;
+    if let Step::Replaced(text) = &step {
+        replace(rt, id, path, &before, text.as_str())?;
+    }
+    Ok(step)
+}
+
+/// What the task does with a file that has these bytes.
+pub fn step_of(alloc: Global, task: Task, path: &str, bytes: &[u8]) -> Result<Step, Fault>
+    ensures step { IfOk result (IsStep task path.now bytes.now) }
+    ensures only { IfErr result (IsTextFault bytes.now) }
+    ensures long { IsErrOf result (Fault.Source Reason.TooLong) ↔ (2 ^ 32 ≤ length bytes.now) }
+    ensures not_utf8 { IsErrOf result (Fault.Source Reason.NotUtf8)
+        ↔ ((length bytes.now < 2 ^ 32) × ¬ (IsUtf8 bytes.now)) }
+{
+    let Some(made) = changed(alloc, bytes)? else {
+        return Ok(Step::Stays);
     };
     match task {
-        Task::Write => replace(rt, id, path, &before, text.as_str())?,
-        Task::Diff => {
-            let shown = file_diff(rt.alloc(), path, bytes.as_slice(), text.as_str())?;
-            if diff.push_str(shown.as_str()).is_err() {
-                return Err(Fault::Memory);
-            }
-        }
-        Task::Check => {}
+        Task::Write => Ok(Step::Replaced(made)),
+        Task::Check => match name_line(alloc, path) {
+            Ok(line) => Ok(Step::Shown(line)),
+            Err(_) => Err(Fault::Memory),
+        },
+        Task::Diff => Ok(Step::Shown(file_diff(alloc, path, bytes, made.as_str())?)),
     }
-    Ok(true)
+}
+
+/// The line of a file that would change.
+fn name_line(alloc: Global, path: &str) -> Result<String, AllocError>
+    ensures { IfOk result (λ line. string_bytes line ≡ path.now ++ codes "\n") }
+{
+    let mut line = String::from_str(alloc, path)?;
+    line.push_str("\n")?;
+    Ok(line)
+}
+
+/// The text of a file that has these bytes.
+fn source_text(bytes: &[u8]) -> Result<&str, Fault>
+    ensures text { IfOk result (λ text. text.now ≡ bytes.now) }
+    ensures is_text { OnOk result (IsText bytes.now) }
+    ensures long { IsErrOf result (Fault.Source Reason.TooLong) ↔ (2 ^ 32 ≤ length bytes.now) }
+    ensures not_utf8 { IsErrOf result (Fault.Source Reason.NotUtf8)
+        ↔ ((length bytes.now < 2 ^ 32) × ¬ (IsUtf8 bytes.now)) }
+    ensures only { IfErr result (λ fault. IsTextFault bytes.now fault × (fault ≢ Fault.Memory)) }
+{
+    match text_of(bytes) {
+        Ok(text) => Ok(text),
+        Err(reason) => Err(Fault::Source(reason)),
+    }
 }
 
 /// The diff of a file that has these bytes and is to have that text.
 fn file_diff(alloc: Global, path: &str, bytes: &[u8], made: &str) -> Result<String, Fault>
-    ensures { IfOk result (λ diff. IsDiff path.now bytes.now made.now (string_bytes diff)) }
+    ensures diff { IfOk result (λ diff. IsDiff path.now bytes.now made.now (string_bytes diff)) }
+    ensures only { IfErr result (IsTextFault bytes.now) }
 {
-    let text = match text_of(bytes) {
-        Ok(text) => text,
-        Err(reason) => return Err(Fault::Source(reason)),
-    };
+    let text = source_text(bytes)?;
     let Ok(diff) = hunks::diff(alloc, path, text, made) else {
         return Err(Fault::Memory);
     };
@@ -126,11 +206,12 @@ pub fn changed(alloc: Global, bytes: &[u8]) -> Result<Option<String>, Fault>
     ensures text { IfOk result (λ made. IfSome made (λ text. string_bytes text ≡ tidied bytes.now)) }
     ensures other { IfOk result (λ made. IfSome made (λ _. tidied bytes.now ≢ bytes.now)) }
     ensures sound { OnOk result (IsSound bytes.now) }
+    ensures long { IsErrOf result (Fault.Source Reason.TooLong) ↔ (2 ^ 32 ≤ length bytes.now) }
+    ensures not_utf8 { IsErrOf result (Fault.Source Reason.NotUtf8)
+        ↔ ((length bytes.now < 2 ^ 32) × ¬ (IsUtf8 bytes.now)) }
+    ensures only { IfErr result (IsTextFault bytes.now) }
 {
-    let text = match text_of(bytes) {
-        Ok(text) => text,
-        Err(reason) => return Err(Fault::Source(reason)),
-    };
+    let text = source_text(bytes)?;
     let Ok(made) = document::tidied(alloc, text) else {
         return Err(Fault::Memory);
     };

@@ -1,33 +1,29 @@
 //! The whole program, over the ends of a process.
-use crate::files::tidy_paths;
+use crate::files::{ending, tidy_paths};
 use crate::job::{Job, Task, read_job};
-use crate::run::{check, run, show, write_out};
+use crate::run::{check, put, run, show};
 use crate::stop::{Stop, status};
-use clap::Error;
-use clap::error::ErrorKind;
+use ends::Watched;
+use sources::{explain, read_words};
 use std::io::IsTerminal;
-use std::{env, process};
+use std::process;
 
 /// Does the job.
 fn tidy(rt: &HostRuntime, job: &Job<'_>) -> Result<(), Stop> {
     if !job.paths.is_empty() {
         return tidy_files(rt, job);
     }
+    let mut input = Watched::new(rt.stdin());
     match job.task {
-        Task::Write => run(rt.alloc(), &mut rt.stdin(), &mut rt.stdout()),
-        Task::Check => check(rt.alloc(), &mut rt.stdin()),
-        Task::Diff => tidy_shown(rt),
-    }
-}
-
-/// Shows what would change in standard input.
-fn tidy_shown(rt: &HostRuntime) -> Result<(), Stop> {
-    match show(rt.alloc(), &mut rt.stdin())? {
-        None => Ok(()),
-        Some(diff) => {
-            write_out(&mut rt.stdout(), diff.as_str())?;
-            Err(Stop::Untidy)
-        }
+        Task::Write => run(rt.alloc(), &mut input, &mut Watched::new(rt.stdout())),
+        Task::Check => check(rt.alloc(), &mut input),
+        Task::Diff => match show(rt.alloc(), &mut input)? {
+            None => Ok(()),
+            Some(diff) => {
+                put(&mut Watched::new(rt.stdout()), diff.as_str())?;
+                Err(Stop::Untidy)
+            }
+        },
     }
 }
 
@@ -62,65 +58,41 @@ fn tidy_files(rt: &HostRuntime, job: &Job<'_>) -> Result<(), Stop> {
     for fault in &outcome.faults {
         let _ = eprintln!(rt; "tidy: {fault}");
     }
-    let changed = outcome.changed.len();
+    put(&mut Watched::new(rt.stdout()), outcome.shown.as_str())?;
+    let changed = outcome.changed;
     let read = outcome.read;
-    if job.task == Task::Check {
-        for path in &outcome.changed {
-            write_out(&mut rt.stdout(), path.as_str())?;
-            write_out(&mut rt.stdout(), "\n")?;
-        }
-    }
-    write_out(&mut rt.stdout(), outcome.diff.as_str())?;
     if job.task == Task::Write {
         let _ = eprintln!(rt; "tidy: {changed} of {read} files changed");
     } else {
         let _ = eprintln!(rt; "tidy: {changed} of {read} files would change");
     }
-    if !outcome.faults.is_empty() {
-        return Err(Stop::Passed);
-    }
-    if job.task != Task::Write && changed > 0 {
-        return Err(Stop::Untidy);
-    }
-    Ok(())
+    ending(job.task, &outcome)
 }
 
-/// Says that a request for memory was refused: the status.
-fn no_memory(rt: &HostRuntime) -> u8 {
-    let _ = eprintln!(rt; "tidy: {}", Stop::Memory);
-    status(&Stop::Memory)
-}
-
-/// Says why the words ask for no job, or what they ask to be told: the status.
-fn explain(rt: &HostRuntime, error: &Error) -> u8 {
-    if error.kind() == ErrorKind::OutOfMemory {
-        return no_memory(rt);
-    }
-    // Where this text can't be written there is nobody to tell.
-    let _ = error.print(rt);
-    if error.use_stderr() { 2 } else { 0 }
-}
-
-/// Reads the words of the command line, and does what they ask for: the status.
-pub fn program(rt: &HostRuntime) -> u8 {
-    let Ok(args) = env::args(rt) else {
-        return no_memory(rt);
-    };
-    let Ok(words) = args.collect::<Vec<String>>(rt.alloc()) else {
-        return no_memory(rt);
-    };
-    let (stop, is_told) = match read_job(rt.alloc(), words.as_slice()) {
-        Ok(job) => match tidy(rt, &job) {
-            Ok(()) => return 0,
-            Err(stop) => (
-                stop,
-                stop == Stop::Untidy && (job.task == Task::Diff || !job.paths.is_empty()),
-            ),
-        },
-        Err(error) => return explain(rt, &error),
-    };
+/// Says why the program stops, unless that was said or nobody would hear it: the status.
+fn tell(rt: &HostRuntime, stop: Stop, is_told: bool) -> u8 {
     if !is_told && stop != Stop::ClosedPipe && stop != Stop::Passed {
         let _ = eprintln!(rt; "tidy: {stop}");
     }
     status(&stop)
+}
+
+/// Reads the words of the command line, and does what they ask for: the status.
+pub fn program(rt: &HostRuntime) -> u8 {
+    let Some(words) = read_words(rt) else {
+        return tell(rt, Stop::Memory, false);
+    };
+    match read_job(rt.alloc(), words.as_slice()) {
+        Ok(job) => match tidy(rt, &job) {
+            Ok(()) => 0,
+            Err(stop) => {
+                let is_shown = job.task == Task::Diff || !job.paths.is_empty();
+                tell(rt, stop, stop == Stop::Untidy && is_shown)
+            }
+        },
+        Err(error) => match explain(rt, &error) {
+            Some(status) => status,
+            None => tell(rt, Stop::Memory, false),
+        },
+    }
 }

@@ -1,65 +1,71 @@
 //! A whole run: from the bytes of a reader to those of a writer.
-ghost use Rattle.std.specs.Prelude.{◌≡◌, ◌≢◌, ◌≤◌, ◌^◌, IfErr, IfOk, IfSome, IsErrOf, None, Ok, OnOk, codes, length, string_bytes};
+ghost use Rattle.std.specs.Prelude.{◌≡◌, ◌≢◌, ◌↔◌, false, true, IfErr, IfOk, IfSome, IsErrOf, IsTrue, None, Ok, OnErr, OnOk, codes, string_bytes};
 ghost use Rattle.std.specs.Io.KnownBytes.{Appends, Keeps};
-ghost use Rattle.std.specs.Str.{IsUtf8};
+ghost use Rattle.ends.specs.Known.{AppendsFront};
+ghost use Rattle.rustc_lexer.specs.Classes.{Fits};
+ghost use Rattle.sources.specs.Reasons.{IsText};
 ghost use Rattle.tidy_run.specs.Diff.{IsDiff};
 ghost use Rattle.tidy_run.specs.Order.{tidied, IsSound};
-ghost use Rattle.tidy_run.specs.Stop.{IsWriteStop};
+ghost use Rattle.tidy_run.specs.Stop.{IsInputStop, IsWriteStop};
 
 use crate::stop::Stop;
 use crate::{document, hunks};
-use rustc_lexer::fits;
+use ends::{ReadStop, Watched, WriteStop, read_all, write_all};
 use std::alloc::Global;
-use std::io::{ErrorKind, Read, Write};
+use std::io::{Read, Write};
 
 /// Reads all of the input, and then writes it in order.
-pub fn run<R: Read, W: Write>(alloc: Global, input: &mut R, output: &mut W) -> Result<(), Stop>
-    ensures written { OnOk result (IfSome (R.remaining input.old) (λ bytes.
-        Appends (W.contents output.old) (W.contents output.new) (tidied bytes))) }
-    ensures sound { OnOk result (IfSome (R.remaining input.old) (λ bytes. IsSound bytes)) }
-    ensures text { IsErrOf result Stop.NotUtf8
-        → IfSome (R.remaining input.old) (λ bytes. ¬ (IsUtf8 bytes)) }
-    ensures long { IsErrOf result Stop.TooLong
-        → IfSome (R.remaining input.old) (λ bytes. 2 ^ 32 ≤ length bytes) }
+///
+/// Nothing is written before all of it is made: unless the output failed or was closed it is as it was.
+/// At `Ok` the last thing asked of the output was a flush, and it was not refused.
+pub fn run<R: Read, W: Write>(
+    alloc: Global,
+    input: &mut Watched<R>,
+    output: &mut Watched<W>,
+) -> Result<(), Stop>
+    requires reads { input.old.failed ≡ false }
+    requires writes { output.old.faulty ≡ false }
+    requires open { output.old.closed ≡ false }
+    ensures read { IsErrOf result Stop.Read ↔ IsTrue input.new.failed }
+    ensures write { IsErrOf result Stop.Write ↔ IsTrue output.new.faulty }
+    ensures closed { IsErrOf result Stop.ClosedPipe ↔ IsTrue output.new.closed }
+    ensures flushed { IfOk result (λ _. output.new.flushed ≡ true) }
     ensures silent { IfErr result
         (λ stop. stop ≢ Stop.Write → stop ≢ Stop.ClosedPipe
-        → Keeps (W.contents output.old) (W.contents output.new)) }
+        → Keeps (W.contents output.old.inner) (W.contents output.new.inner)) }
+    ensures stop { IfErr result
+        (λ stop. stop ≢ Stop.Write → stop ≢ Stop.ClosedPipe
+        → IsInputStop (R.remaining input.old.inner) stop) }
+    ensures written { OnOk result (IfSome (R.remaining input.old.inner) (λ bytes.
+        Appends (W.contents output.old.inner) (W.contents output.new.inner) (tidied bytes))) }
+    ensures begun { IfErr result (λ stop. IsWriteStop stop → IfSome (R.remaining input.old.inner) (λ bytes.
+        AppendsFront (W.contents output.old.inner) (W.contents output.new.inner) (tidied bytes))) }
+    ensures text { OnOk result (IfSome (R.remaining input.old.inner) IsText) }
+    ensures sound { OnOk result (IfSome (R.remaining input.old.inner) (λ bytes. IsSound bytes)) }
 {
-    let bytes = read_all(alloc, input)?;
-    let Ok(text) = std::str::from_utf8(bytes.as_slice()) else {
-        return Err(Stop::NotUtf8);
-    };
-    if !fits(text) {
-        return Err(Stop::TooLong);
-    }
-    let Ok(made) = document::tidied(alloc, text) else {
+    let text = read_text(alloc, input)?;
+    let Ok(made) = document::tidied(alloc, text.as_str()) else {
         return Err(Stop::Memory);
     };
-    write_out(output, made.as_str())
+    put(output, made.as_str())
 }
 
 /// Reads all of the input, and says whether it is in order.
-pub fn check<R: Read>(alloc: Global, input: &mut R) -> Result<(), Stop>
-    ensures in_order { OnOk result
-        (IfSome (R.remaining input.old) (λ bytes. tidied bytes ≡ bytes)) }
-    ensures untidy { IsErrOf result Stop.Untidy
-        → IfSome (R.remaining input.old) (λ bytes. tidied bytes ≢ bytes) }
-    ensures text { IsErrOf result Stop.NotUtf8
-        → IfSome (R.remaining input.old) (λ bytes. ¬ (IsUtf8 bytes)) }
-    ensures long { IsErrOf result Stop.TooLong
-        → IfSome (R.remaining input.old) (λ bytes. 2 ^ 32 ≤ length bytes) }
+pub fn check<R: Read>(alloc: Global, input: &mut Watched<R>) -> Result<(), Stop>
+    requires reads { input.old.failed ≡ false }
+    ensures read { IsErrOf result Stop.Read ↔ IsTrue input.new.failed }
+    ensures in_order { OnOk result (IfSome (R.remaining input.old.inner)
+        (λ bytes. IsText bytes × (tidied bytes ≡ bytes))) }
+    ensures untidy { IsErrOf result Stop.Untidy → IfSome (R.remaining input.old.inner)
+        (λ bytes. IsText bytes × (tidied bytes ≢ bytes)) }
+    ensures stop { IfErr result (λ stop. stop ≢ Stop.Untidy
+        → IsInputStop (R.remaining input.old.inner) stop) }
 {
-    let bytes = read_all(alloc, input)?;
-    let Ok(text) = std::str::from_utf8(bytes.as_slice()) else {
-        return Err(Stop::NotUtf8);
-    };
-    if !fits(text) {
-        return Err(Stop::TooLong);
-    }
-    let Ok(made) = document::tidied(alloc, text) else {
+    let text = read_text(alloc, input)?;
+    let Ok(made) = document::tidied(alloc, text.as_str()) else {
         return Err(Stop::Memory);
     };
-    if made.as_str() == text {
+    if made.as_str() == text.as_str() {
         Ok(())
     } else {
         Err(Stop::Untidy)
@@ -67,73 +73,68 @@ pub fn check<R: Read>(alloc: Global, input: &mut R) -> Result<(), Stop>
 }
 
 /// Reads all of the input, and answers what would change, as a diff; `None` where it is in order.
-pub fn show<R: Read>(alloc: Global, input: &mut R) -> Result<Option<String>, Stop>
-    ensures in_order { result ≡ Ok None
-        → IfSome (R.remaining input.old) (λ bytes. tidied bytes ≡ bytes) }
-    ensures shown { IfOk result (λ shown. IfSome shown (λ diff. IfSome (R.remaining input.old) (λ bytes.
-        IsDiff (codes "stdin") bytes (tidied bytes) (string_bytes diff)))) }
-    ensures text { IsErrOf result Stop.NotUtf8
-        → IfSome (R.remaining input.old) (λ bytes. ¬ (IsUtf8 bytes)) }
-    ensures long { IsErrOf result Stop.TooLong
-        → IfSome (R.remaining input.old) (λ bytes. 2 ^ 32 ≤ length bytes) }
+pub fn show<R: Read>(alloc: Global, input: &mut Watched<R>) -> Result<Option<String>, Stop>
+    requires reads { input.old.failed ≡ false }
+    ensures read { IsErrOf result Stop.Read ↔ IsTrue input.new.failed }
+    ensures in_order { result ≡ Ok None → IfSome (R.remaining input.old.inner)
+        (λ bytes. IsText bytes × (tidied bytes ≡ bytes)) }
+    ensures untidy { IfOk result (λ shown. IfSome shown (λ _. IfSome (R.remaining input.old.inner)
+        (λ bytes. IsText bytes × (tidied bytes ≢ bytes)))) }
+    ensures shown { IfOk result (λ shown. IfSome shown (λ diff. IfSome (R.remaining input.old.inner)
+        (λ bytes. IsDiff (codes "stdin") bytes (tidied bytes) (string_bytes diff)))) }
+    ensures stop { IfErr result (IsInputStop (R.remaining input.old.inner)) }
 {
-    let bytes = read_all(alloc, input)?;
-    let Ok(text) = std::str::from_utf8(bytes.as_slice()) else {
-        return Err(Stop::NotUtf8);
-    };
-    if !fits(text) {
-        return Err(Stop::TooLong);
-    }
-    let Ok(made) = document::tidied(alloc, text) else {
+    let text = read_text(alloc, input)?;
+    let Ok(made) = document::tidied(alloc, text.as_str()) else {
         return Err(Stop::Memory);
     };
-    if text == made.as_str() {
+    if text.as_str() == made.as_str() {
         return Ok(None);
     }
-    let Ok(diff) = hunks::diff(alloc, "stdin", text, made.as_str()) else {
+    let Ok(diff) = hunks::diff(alloc, "stdin", text.as_str(), made.as_str()) else {
         return Err(Stop::Memory);
     };
     Ok(Some(diff))
 }
 
-/// All of the input.
-fn read_all<R: Read>(alloc: Global, input: &mut R) -> Result<Vec<u8>, Stop>
-    ensures bytes { IfOk result (λ all.
-        IfSome (R.remaining input.old) (λ bytes. all.items ≡ bytes)) }
-    ensures only { IfErr result
-        (λ stop. (stop ≢ Stop.NotUtf8) × (stop ≢ Stop.TooLong) × (stop ≢ Stop.Untidy)) }
+/// Reads all of the input, which is to be a text.
+#[tactic(auto, using(sources::proofs::ReadingLemmas::read_known, sources::proofs::ReadingLemmas::long_known))]
+fn read_text<R: Read>(alloc: Global, input: &mut Watched<R>) -> Result<String, Stop>
+    requires reads { input.old.failed ≡ false }
+    ensures read { IsErrOf result Stop.Read ↔ IsTrue input.new.failed }
+    ensures bytes { IfOk result (λ text.
+        IfSome (R.remaining input.old.inner) (λ bytes. string_bytes text ≡ bytes)) }
+    ensures fits { IfOk result (λ text. Fits (string_bytes text)) }
+    ensures stop { IfErr result (IsInputStop (R.remaining input.old.inner)) }
 {
-    let mut bytes = Vec::new(alloc);
-    if let Err(error) = input.read_to_end(&mut bytes) {
-        return Err(match error.kind() {
-            ErrorKind::OutOfMemory => Stop::Memory,
-            _ => Stop::Read,
-        });
+    let bytes = match read_all(alloc, input) {
+        Ok(bytes) => bytes,
+        Err(ReadStop::TooLong) => return Err(Stop::TooLong),
+        Err(ReadStop::Memory) => return Err(Stop::Memory),
+        Err(ReadStop::Failed) => return Err(Stop::Read),
+    };
+    match String::from_utf8(bytes) {
+        Ok(text) => Ok(text),
+        Err(_) => Err(Stop::NotUtf8),
     }
-    Ok(bytes)
 }
 
 /// Writes all of the text, and flushes.
-pub(crate) fn write_out<W: Write>(output: &mut W, text: &str) -> Result<(), Stop>
-    ensures ok { OnOk result (Appends (W.contents output.old) (W.contents output.new) text.now) }
-    ensures only { IfErr result (λ stop. IsWriteStop stop) }
+pub(crate) fn put<W: Write>(output: &mut Watched<W>, text: &str) -> Result<(), Stop>
+    requires writes { output.old.faulty ≡ false }
+    requires open { output.old.closed ≡ false }
+    ensures failed { IsErrOf result Stop.Write ↔ IsTrue output.new.faulty }
+    ensures closed { IsErrOf result Stop.ClosedPipe ↔ IsTrue output.new.closed }
+    ensures flushed { IfOk result (λ _. output.new.flushed ≡ true) }
+    ensures only { IfErr result IsWriteStop }
+    ensures ok { OnOk result
+        (Appends (W.contents output.old.inner) (W.contents output.new.inner) text.now) }
+    ensures err { OnErr result
+        (AppendsFront (W.contents output.old.inner) (W.contents output.new.inner) text.now) }
 {
-    if let Err(error) = output.write_all(text.as_bytes()) {
-        return Err(write_stop(error.kind()));
-    }
-    if let Err(error) = output.flush() {
-        return Err(write_stop(error.kind()));
-    }
-    Ok(())
-}
-
-/// Why a run stops where the writer fails.
-fn write_stop(kind: ErrorKind) -> Stop
-    ensures { IsWriteStop result }
-{
-    if kind == ErrorKind::BrokenPipe {
-        Stop::ClosedPipe
-    } else {
-        Stop::Write
+    match write_all(output, text.as_bytes()) {
+        Ok(()) => Ok(()),
+        Err(WriteStop::Failed) => Err(Stop::Write),
+        Err(WriteStop::ClosedPipe) => Err(Stop::ClosedPipe),
     }
 }

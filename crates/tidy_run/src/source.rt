@@ -1,6 +1,7 @@
 //! A source in order, with a frontmatter in front or without.
 ghost use Rattle.std.specs.Prelude.{◌≡◌, ◌+◌, ◌<◌, ◌^◌, ◌++◌, OnOk, length, string_bytes};
 ghost use Rattle.rustc_lexer.specs.Classes.{Fits};
+ghost use Rattle.rustc_lexer.specs.declared.edition.Edition.TheVariants.{E2024};
 ghost use Rattle.rustc_lexer.specs.LanguageText.{document};
 ghost use Rattle.rustc_lexer.specs.Tokens.{tokens_of};
 ghost use Rattle.tidy_run.specs.Order as spec;
@@ -33,7 +34,7 @@ fn push_front(alloc: Global, text: &str, output: &mut String) -> Result<(), Allo
     requires room { length text.now + 1 < 2 ^ 32 }
     ensures { OnOk result (string_bytes output.new
         ≡ string_bytes output.old
-        ++ spec.front_in_order text.now (tokens_of document text.now)) }
+        ++ spec.front_in_order text.now (tokens_of (document E2024) text.now)) }
 {
     let mut tokens = tokenize(text, FrontmatterAllowed::Yes);
     let Some(first) = tokens.next() else {
@@ -55,7 +56,7 @@ fn push_front(alloc: Global, text: &str, output: &mut String) -> Result<(), Allo
 /// Whether the first token of a text is a frontmatter with the faults and the length of this one.
 fn begins_with(front: Token, text: &str) -> bool
     requires fits { Fits text.now }
-    ensures { result ≡ spec.begins_with front (tokens_of document text.now) }
+    ensures { result ≡ spec.begins_with front (tokens_of (document E2024) text.now) }
 {
     let Some(first) = tokenize(text, FrontmatterAllowed::Yes).next() else {
         return false;

@@ -19,7 +19,7 @@ pub enum Stop {
     Memory,
     /// The reader failed.
     Read,
-    /// The writer failed.
+    /// The writer failed, or took nothing of what it was given.
     Write,
     /// Nobody reads the output any more.
     ClosedPipe,

@@ -5,6 +5,9 @@ use rustc_lexer::Edition;
 use std::alloc::{AllocError, Global};
 use std::test::Fail;
 
+/// The edition where the words name none.
+const NEWEST: Edition = Edition::E2024;
+
 /// Whether the words ask for this.
 fn asks_for(
     alloc: Global,
@@ -17,16 +20,16 @@ fn asks_for(
 }
 
 /// To show a text in a style and an edition.
-fn shown(style: Style, edition: Option<Edition>) -> Option<Job> {
+fn shown(style: Style, edition: Edition) -> Option<Job> {
     Some(Job::Show { style, edition })
 }
 
 #[test]
 fn words(rt: HostRuntime) -> Result<(), Fail> {
     let rows: [(&[&str], bool, Option<Job>); 9] = [
-        (&[], true, shown(Style::Colours, None)),
-        (&[], false, shown(Style::NoColours, None)),
-        (&["--html"], false, shown(Style::Html, None)),
+        (&[], true, shown(Style::Colours, NEWEST)),
+        (&[], false, shown(Style::NoColours, NEWEST)),
+        (&["--html"], false, shown(Style::Html, NEWEST)),
         (&["--help"], true, Some(Job::Help)),
         (&["html"], true, None),
         (&[""], true, None),
@@ -52,12 +55,12 @@ fn colours_by_word(rt: HostRuntime) -> Result<(), Fail> {
     ];
     for (when, colours, style) in rows {
         let cases: [(&[&str], Option<Job>); 3] = [
-            (&["--color", when], shown(style, None)),
+            (&["--color", when], shown(style, NEWEST)),
             (
                 &["--edition", "2018", "--color", when],
-                shown(style, Some(Edition::E2018)),
+                shown(style, Edition::E2018),
             ),
-            (&["--color", when, "--html"], shown(Style::Html, None)),
+            (&["--color", when, "--html"], shown(Style::Html, NEWEST)),
         ];
         for (words, want) in cases {
             assert!(rt; asks_for(rt.alloc(), words, colours, want)?, "at {words:?}");
@@ -82,7 +85,7 @@ fn years(rt: HostRuntime) -> Result<(), Fail> {
             (&["--html", "--edition", year], false, Style::Html),
         ];
         for (words, colours, style) in cases {
-            let want = shown(style, Some(edition));
+            let want = shown(style, edition);
             assert!(rt; asks_for(rt.alloc(), words, colours, want)?, "at {words:?}");
         }
     }
@@ -92,7 +95,7 @@ fn years(rt: HostRuntime) -> Result<(), Fail> {
 #[test]
 fn options_together(rt: HostRuntime) -> Result<(), Fail> {
     let all = ["--html", "--color", "never", "--edition", "2015"];
-    let want = shown(Style::Html, Some(Edition::E2015));
+    let want = shown(Style::Html, Edition::E2015);
     assert!(rt; asks_for(rt.alloc(), &all, true, want)?);
     let bad: [&[&str]; 15] = [
         &["--color"],

@@ -6,17 +6,11 @@ use std::test::Fail;
 
 /// Whether this is what is written of the text.
 fn is_written(alloc: Global, style: Style, text: &str, want: &str) -> bool {
-    is_written_in(alloc, style, None, text, want)
+    is_written_in(alloc, style, Edition::E2024, text, want)
 }
 
 /// Whether this is what is written of the text by the tokens of an edition.
-fn is_written_in(
-    alloc: Global,
-    style: Style,
-    edition: Option<Edition>,
-    text: &str,
-    want: &str,
-) -> bool {
+fn is_written_in(alloc: Global, style: Style, edition: Edition, text: &str, want: &str) -> bool {
     let mut written = String::new(alloc);
     fits(text)
         && write_marked(style, edition, text, &mut written).is_ok()
@@ -229,17 +223,16 @@ fn editions(rt: HostRuntime) {
         "#\" [<- these marks are reserved for strings to come]a [<- no literal has this prefix]\" [<- nothing closes this string]";
     let prefix = "z [<- no literal has this prefix]\"a\"";
     let rows = [
-        (None, "#\"a\"", guarded),
-        (Some(Edition::E2024), "#\"a\"", guarded),
-        (Some(Edition::E2021), "#\"a\"", "#\"a\""),
-        (Some(Edition::E2018), "#\"a\"", "#\"a\""),
-        (Some(Edition::E2015), "#\"a\"", "#\"a\""),
-        (Some(Edition::E2024), "z\"a\"", prefix),
-        (Some(Edition::E2021), "z\"a\"", prefix),
-        (Some(Edition::E2018), "z\"a\"", "z\"a\""),
-        (Some(Edition::E2015), "z\"a\"", "z\"a\""),
+        (Edition::E2024, "#\"a\"", guarded),
+        (Edition::E2021, "#\"a\"", "#\"a\""),
+        (Edition::E2018, "#\"a\"", "#\"a\""),
+        (Edition::E2015, "#\"a\"", "#\"a\""),
+        (Edition::E2024, "z\"a\"", prefix),
+        (Edition::E2021, "z\"a\"", prefix),
+        (Edition::E2018, "z\"a\"", "z\"a\""),
+        (Edition::E2015, "z\"a\"", "z\"a\""),
         (
-            Some(Edition::E2021),
+            Edition::E2021,
             "#\"\\q\"",
             "#\"\\q [<- no escape is written like this]\"",
         ),
@@ -251,11 +244,16 @@ fn editions(rt: HostRuntime) {
         );
     }
     let rows = [
-        (None, "---\n---", "\x1b[36m---\n---\x1b[0m"),
-        (Some(Edition::E2024), "---\n---", "---\n---"),
-        (Some(Edition::E2018), "#\"a\"", "#\x1b[32m\"a\"\x1b[0m"),
+        (Edition::E2024, "---\n---", "\x1b[36m---\n---\x1b[0m"),
         (
-            Some(Edition::E2018),
+            Edition::E2021,
+            "---\n---\n#\"a\"",
+            "\x1b[36m---\n---\x1b[0m\n#\x1b[32m\"a\"\x1b[0m",
+        ),
+        (Edition::E2015, "\n---\n---", "\n\x1b[36m---\n---\x1b[0m"),
+        (Edition::E2018, "#\"a\"", "#\x1b[32m\"a\"\x1b[0m"),
+        (
+            Edition::E2018,
             "#!/bin/sh\nz'a'",
             "\x1b[90m#!/bin/sh\x1b[0m\nz\x1b[32m'a'\x1b[0m",
         ),

@@ -3,6 +3,7 @@ use crate::failing_ends::Turn::{Fails, Moves};
 use crate::failing_ends::{Script, Turn, WHOLE};
 use highlight_run::run::run;
 use highlight_run::{Stop, Style};
+use rustc_lexer::Edition;
 use std::alloc::AllocError;
 use std::io::ErrorKind;
 use std::test::Fail;
@@ -35,7 +36,7 @@ impl Came {
 fn show(rt: &HostRuntime, style: Style, bytes: &[u8], script: Script<'_>) -> Came {
     let mut input = script.reader(bytes);
     let mut output = script.writer(rt.alloc());
-    let answer = run(rt.alloc(), style, None, &mut input, &mut output);
+    let answer = run(rt.alloc(), style, Edition::E2024, &mut input, &mut output);
     let output = output.into_inner();
     Came {
         answer,

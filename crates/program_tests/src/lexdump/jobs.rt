@@ -9,7 +9,7 @@ use std::test::Fail;
 #[derive(Clone, Copy)]
 enum Wanted<'a> {
     Plain(Edition),
-    Front,
+    Front(Edition),
     Shebang,
     Edits(Edition, &'a [Edit<'a>]),
     Nothing,
@@ -21,7 +21,7 @@ use Wanted::{Edits, Front, Nothing, Plain, Shebang};
 fn is_wanted(job: &Result<Job<'_>, Fault>, wanted: Wanted<'_>) -> bool {
     match job {
         Ok(Job::Plain { edition }) => matches!(wanted, Plain(want) if want == *edition),
-        Ok(Job::Front) => matches!(wanted, Front),
+        Ok(Job::Front { edition }) => matches!(wanted, Front(want) if want == *edition),
         Ok(Job::Shebang) => matches!(wanted, Shebang),
         Ok(Job::Edit { edition, edits }) => match wanted {
             Edits(want, list) => want == *edition && edits.as_slice() == list,
@@ -41,7 +41,7 @@ fn asks_for(alloc: Global, texts: &[&str], wanted: Wanted<'_>) -> Result<bool, A
 fn few_words(rt: HostRuntime) -> Result<(), Fail> {
     let rows: [(&[&str], Wanted<'_>); 3] = [
         (&[], Plain(Edition::E2024)),
-        (&["front"], Front),
+        (&["front"], Front(Edition::E2024)),
         (&["shebang"], Shebang),
     ];
     for (row, (texts, wanted)) in rows.iter().enumerate() {
@@ -64,8 +64,9 @@ fn editions(rt: HostRuntime) -> Result<(), Fail> {
         ("2024", Edition::E2024),
     ];
     for (year, edition) in rows {
-        let cases: [(&[&str], Wanted<'_>); 2] = [
+        let cases: [(&[&str], Wanted<'_>); 3] = [
             (&["--edition", year], Plain(edition)),
+            (&["--edition", year, "front"], Front(edition)),
             (
                 &["--edition", year, "edit", "6", "6", "x"],
                 Edits(edition, &edits),
@@ -177,7 +178,7 @@ fn one_to_ten_digits(rt: HostRuntime) -> Result<(), Fail> {
 
 #[test]
 fn no_job(rt: HostRuntime) -> Result<(), Fail> {
-    let rows: [&[&str]; 36] = [
+    let rows: [&[&str]; 37] = [
         &[""],
         &["x"],
         &["front", "front"],
@@ -208,7 +209,8 @@ fn no_job(rt: HostRuntime) -> Result<(), Fail> {
         &["edit", "0", "0", "", "0", "+", ""],
         &["--edition"],
         &["--edition", "2016"],
-        &["--edition", "2018", "front"],
+        &["--edition", "2018", "front", "front"],
+        &["front", "--edition", "2018"],
         &["--edition", "2018", "shebang"],
         &["edit", "0", "0", "x", "--edition", "2018"],
         &["--edition", "2018", "--edition", "2018"],

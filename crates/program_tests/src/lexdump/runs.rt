@@ -2,6 +2,7 @@
 use crate::failing_ends::{BYTES, Script, Turn, WHOLE};
 use crate::lexdump::{FAILS, PLAIN, dump, stops_at_each_write};
 use lexdump_run::{Fault, Job, status};
+use rustc_lexer::Edition;
 use std::alloc::AllocError;
 use std::io::ErrorKind;
 use std::test::Fail;
@@ -57,11 +58,26 @@ fn no_text(rt: HostRuntime) {
 fn fronts(rt: HostRuntime) {
     let front =
         b"0 8 Frontmatter has_invalid_preceding_whitespace=false invalid_infostring=false\n8 1 Whitespace\n9 3 Ident\n12 1 Whitespace\n13 1 Ident\n";
-    let rows: [(Job<'_>, &[u8], &[u8]); 4] = [
+    let older =
+        b"0 7 Frontmatter has_invalid_preceding_whitespace=false invalid_infostring=false\n7 1 Whitespace\n8 1 Pound\n9 3 Literal kind=Str terminated=true suffix_start=3\n";
+    let rows: [(Job<'_>, &[u8], &[u8]); 5] = [
         (Job::Shebang, b"#!/bin/sh\nfn", b"9\n"),
         (Job::Shebang, b"fn", b"none\n"),
         (Job::Shebang, b"#![no_std]\n", b"none\n"),
-        (Job::Front, b"---\n//!d\nuse a", front),
+        (
+            Job::Front {
+                edition: Edition::E2024,
+            },
+            b"---\n//!d\nuse a",
+            front,
+        ),
+        (
+            Job::Front {
+                edition: Edition::E2021,
+            },
+            b"---\n---\n#\"a\"",
+            older,
+        ),
     ];
     for (job, text, want) in &rows {
         assert!(rt; dump(&rt, job, text, BYTES).is(Ok(()), want));

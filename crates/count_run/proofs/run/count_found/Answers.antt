@@ -4,4 +4,4 @@ use Rattle.count_run.proofs.run.count_found.Goals as goal
 pub loop-path-preserved : goal.loop-path-preserved
 loop-path-preserved g c =
     let took = c.in_ok-take.ensures in
-    counted-step _ _ _ _ _ _ _ c.count_file-counted.result c.loop-path.invariant c.in-Some.ensures.steps.0 took.memory took.files took.faults took.total took.kept
+    counted-step _ _ _ _ _ _ _ c.count_read-counted.result c.loop-path.invariant c.in-Some.ensures.steps.0 took.memory took.files took.faults took.total took.kept

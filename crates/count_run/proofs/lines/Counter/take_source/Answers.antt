@@ -1,4 +1,5 @@
 use Rattle.std.proofs.Common.{arith}
+use Rattle.rustc_lexer.specs.declared.edition.Edition.TheVariants.{E2024}
 use Rattle.rustc_lexer.specs.LanguageText.{document}
 use Rattle.rustc_lexer.specs.Tokens.{tokens_of, tokens_left}
 use Rattle.rustc_lexer.proofs.PlaceLemmas.{piece_is, stands_past}
@@ -19,4 +20,4 @@ loop-token-preserved c =
     }
 
 pub returns-clause-whole : goal.returns-clause-whole
-returns-clause-whole c = bytes-token_marks (tokens_of document c.args.text.now) c.args.text.now c.tokenize-token-items.ensures.partitions.whole
+returns-clause-whole c = bytes-token_marks (tokens_of (document E2024) c.args.text.now) c.args.text.now c.tokenize-token-items.ensures.partitions.whole
