@@ -10,15 +10,14 @@ pub struct Job {
     pub tells_rules: bool,
 }
 
-/// Reads the words after the program's name: `--root` or `--program`, and `--rules`.
+/// Reads the words after the program's name: `--program` and `--rules`.
 pub fn read_job(words: &[String]) -> Option<Job> {
     let mut job = Job {
-        target: Target::Module,
+        target: Target::Library,
         tells_rules: false,
     };
     for word in words {
         match word.as_str() {
-            "--root" => job.target = Target::Root,
             "--program" => job.target = Target::Program,
             "--rules" => job.tells_rules = true,
             _ => return None,

@@ -1,10 +1,15 @@
 //! A whole run: from the bytes of a reader to those of a writer.
-ghost use Rattle.std.specs.Prelude.{◌≡◌, false};
+ghost use Rattle.std.specs.Prelude.{◌≡◌, ◌≢◌, ◌↔◌, false, true, IfErr, IfOk, IfSome, IsErrOf, IsTrue, OnErr, OnOk, string_bytes};
+ghost use Rattle.std.specs.Io.KnownBytes.{Appends, Keeps};
+ghost use Rattle.rustc_lexer.specs.Classes.{Fits};
+ghost use Rattle.ends.specs.Known.{AppendsFront};
+ghost use Rattle.erase.specs.Fault.{read_fault, status_of, stop_fault};
+ghost use Rattle.erase.specs.Outcome.{Ends, IsPrinted, IsRefusal};
+ghost use Rattle.erase.specs.declared.run.Fault.TheVariants.{Memory};
 
 use crate::job::Job;
-use ends::{ReadStop, Watched, WriteStop, read_all, write_all};
+use ends::{ReadStop, Watched, read_all, write_all};
 use erase_run::{Erased, Reason, Rule, Stop, erase};
-use rustc_lexer::fits;
 use std::alloc::{AllocError, Global};
 use std::fmt;
 use std::io::{Read, Write};
@@ -30,7 +35,9 @@ pub enum Fault {
 
 impl Fault {
     /// The status with which the program ends.
-    pub fn status(self) -> u8 {
+    pub fn status(self) -> u8
+        ensures { result ≡ status_of self }
+    {
         match self {
             Fault::Refused { .. } => 1,
             Fault::Arguments => 2,
@@ -60,12 +67,16 @@ impl fmt::Display for Fault {
 }
 
 impl From<AllocError> for Fault {
+    ghost from_gives = { λ _ fault. fault ≡ Memory };
+
     fn from(_error: AllocError) -> Fault {
         Fault::Memory
     }
 }
 
 impl From<Stop> for Fault {
+    ghost from_gives = { λ stop fault. fault ≡ stop_fault stop };
+
     fn from(stop: Stop) -> Fault {
         match stop {
             Stop::Memory => Fault::Memory,
@@ -75,6 +86,8 @@ impl From<Stop> for Fault {
 }
 
 impl From<ReadStop> for Fault {
+    ghost from_gives = { λ stop fault. fault ≡ read_fault stop };
+
     fn from(stop: ReadStop) -> Fault {
         match stop {
             ReadStop::TooLong => Fault::TooLong,
@@ -84,13 +97,10 @@ impl From<ReadStop> for Fault {
     }
 }
 
-impl From<WriteStop> for Fault {
-    fn from(_stop: WriteStop) -> Fault {
-        Fault::Write
-    }
-}
-
 /// Reads all of the input, and then writes its plain Rust, or how often each rule was used.
+///
+/// Nothing is written before all of it is made: unless the output failed it is as it was.
+/// At `Ok` the last thing asked of the output was a flush, and it was not refused.
 pub fn run<R: Read, W: Write>(
     alloc: Global,
     job: Job,
@@ -98,28 +108,41 @@ pub fn run<R: Read, W: Write>(
     output: &mut Watched<W>,
 ) -> Result<(), Fault>
     requires reads { input.old.failed ≡ false }
+    requires writes { output.old.failed ≡ false }
+    ensures read { IsErrOf result Fault.Read ↔ IsTrue input.new.failed }
+    ensures write { IsErrOf result Fault.Write ↔ IsTrue output.new.failed }
+    ensures flushed { IfOk result (λ _. output.new.flushed ≡ true) }
+    ensures silent { IfErr result
+        (λ fault. fault ≢ Fault.Write
+        → Keeps (W.contents output.old.inner) (W.contents output.new.inner)) }
+    ensures ends { IfSome (R.remaining input.old.inner) (λ bytes.
+        Ends job bytes (W.contents output.old.inner) (W.contents output.new.inner) result) }
 {
     let bytes = read_all(alloc, input)?;
-    let Ok(text) = std::str::from_utf8(bytes.as_slice()) else {
-        return Err(Fault::NotUtf8);
+    let text = match std::str::from_utf8(bytes.as_slice()) {
+        Ok(text) => text,
+        Err(_) => return Err(Fault::NotUtf8),
     };
-    if !fits(text) {
-        return Err(Fault::TooLong);
-    }
-    let made = erase(alloc, text, job.target)?;
-    if job.tells_rules {
-        write_rules(alloc, &made, output)
-    } else {
-        Ok(write_all(output, made.text.as_str().as_bytes())?)
-    }
+    let made = print(alloc, job, text)?;
+    put(output, made.as_str().as_bytes())
 }
 
-/// Writes how often each rule was used, a rule a line.
-fn write_rules<W: Write>(
-    alloc: Global,
-    made: &Erased,
-    output: &mut Watched<W>,
-) -> Result<(), Fault> {
+/// What is printed of a source.
+#[tactic(auto, using(crate::proofs::OutcomeLemmas::prints_erased, crate::proofs::OutcomeLemmas::prints_rules, crate::proofs::OutcomeLemmas::stop_is_refusal))]
+fn print(alloc: Global, job: Job, text: &str) -> Result<String, Fault>
+    requires fits { Fits text.now }
+    ensures printed { IfOk result (λ made. IsPrinted job.tells_rules text.now (string_bytes made)) }
+    ensures refused { IfErr result IsRefusal }
+{
+    let made = erase(alloc, text, job.target)?;
+    if job.tells_rules {
+        return Ok(tell_rules(alloc, &made)?);
+    }
+    Ok(made.text)
+}
+
+/// How often each rule was used, a rule a line.
+fn tell_rules(alloc: Global, made: &Erased) -> Result<String, AllocError> {
     let mut told = String::new(alloc);
     for rule in &Rule::COUNTED {
         let count = made.used.iter().filter(|used| **used == *rule).count();
@@ -127,5 +150,22 @@ fn write_rules<W: Write>(
         let line = format!(in alloc; "{count:>6}  {name}\n")?;
         told.push_str(line.as_str())?;
     }
-    Ok(write_all(output, told.as_str().as_bytes())?)
+    Ok(told)
+}
+
+/// Writes all of the text, and flushes.
+fn put<W: Write>(output: &mut Watched<W>, text: &[u8]) -> Result<(), Fault>
+    requires writes { output.old.failed ≡ false }
+    ensures failed { IsErrOf result Fault.Write ↔ IsTrue output.new.failed }
+    ensures flushed { IfOk result (λ _. output.new.flushed ≡ true) }
+    ensures only { IfErr result (λ fault. fault ≡ Fault.Write) }
+    ensures ok { OnOk result
+        (Appends (W.contents output.old.inner) (W.contents output.new.inner) text.now) }
+    ensures err { OnErr result
+        (AppendsFront (W.contents output.old.inner) (W.contents output.new.inner) text.now) }
+{
+    match write_all(output, text) {
+        Ok(()) => Ok(()),
+        Err(_) => Err(Fault::Write),
+    }
 }

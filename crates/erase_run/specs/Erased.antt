@@ -5,14 +5,16 @@ use Rattle.erase_run.specs.declared.fate.Fate.{Fate}
 use Rattle.erase_run.specs.declared.fate.Fate.TheVariants.{Keep, Delete, Replace, Lead}
 use Rattle.erase_run.specs.declared.fate.Line.{Line}
 use Rattle.erase_run.specs.declared.fate.Word.{Word}
-use Rattle.erase_run.specs.declared.fate.TheConstants.{HEAD}
 
 -- the words that may stand in the place of others
 abbrev pub word_text : Word → List ℕ
 word_text Word.Core = codes "core"
+word_text Word.Crate = codes "crate::erased"
 word_text Word.Support = codes "crate::support"
 word_text Word.Simd = codes "crate::support::simd"
 word_text Word.RattleStd = codes "rattle_std"
+word_text Word.Lexer = codes "rustc_lexer::erased"
+word_text Word.Escaper = codes "rustc_literal_escaper::erased"
 word_text Word.DebugAssert = codes "debug_assert"
 word_text Word.DebugAssertEq = codes "debug_assert_eq"
 word_text Word.DebugAssertNe = codes "debug_assert_ne"
@@ -20,7 +22,6 @@ word_text Word.Start = codes "{ let rt = rattle_std::rt::start();"
 
 -- the lines that may be put in
 abbrev pub line_text : Line → List ℕ
-line_text Line.Head = HEAD.now
 line_text Line.String = codes "\nuse crate::support::{String};\n"
 line_text Line.Vec = codes "\nuse crate::support::{Vec};\n"
 line_text Line.StringAndVec = codes "\nuse crate::support::{String, Vec};\n"
@@ -45,17 +46,7 @@ piece lines (Delete rule) text = []
 piece lines (Replace word) text = word_text word
 piece lines Lead text = lines_text lines ++ text
 
--- a token with no fate is kept
-abbrev pub first_fate : List Fate → Fate
-first_fate [] = Keep
-first_fate (fate ∷ fates) = fate
-
-abbrev pub later_fates : List Fate → List Fate
-later_fates [] = []
-later_fates (fate ∷ fates) = fates
-
 -- the tokens of a text in order, each by its fate
 abbrev pub written : List Line → List ℕ → List Token → List Fate → List ℕ
-written lines text [] fates = []
-written lines text (token ∷ tokens) fates =
-    piece lines (first_fate fates) (take token.len text) ++ written lines (drop token.len text) tokens (later_fates fates)
+written lines text (token ∷ tokens) (fate ∷ fates) = piece lines fate (take token.len text) ++ written lines (drop token.len text) tokens fates
+written lines text tokens fates = []

@@ -60,9 +60,9 @@ fn derive(source: &mut Source<'_>, n: usize, end: usize) -> Result<usize, Stop> 
 /// Deletes `Drop`, which is word `at` of the derive.
 fn drop_derive(source: &mut Source<'_>, n: usize, at: usize, end: usize) -> Result<(), Stop> {
     if source.word(past(at, 1)) == "," {
-        source.delete(Rule::Derive, at, past(at, 2))?;
+        source.delete_each(Rule::Derive, at, past(at, 2))?;
     } else if source.word_before(at) == "," {
-        source.delete(Rule::Derive, at.saturating_sub(1), past(at, 1))?;
+        source.delete_each(Rule::Derive, at.saturating_sub(1), past(at, 1))?;
     } else {
         source.delete(Rule::Derive, n, end)?;
     }

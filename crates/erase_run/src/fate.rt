@@ -19,9 +19,12 @@ pub enum Fate {
 #[derive(Clone, Copy, Debug, PartialEq, Eq)]
 pub enum Word {
     Core,
+    Crate,
     Support,
     Simd,
     RattleStd,
+    Lexer,
+    Escaper,
     DebugAssert,
     DebugAssertEq,
     DebugAssertNe,
@@ -31,8 +34,6 @@ pub enum Word {
 /// The lines that are put in.
 #[derive(Clone, Copy, Debug, PartialEq, Eq)]
 pub enum Line {
-    /// The head of the root of a library.
-    Head,
     /// The imports of what Rattle's prelude has, and that of `core` has not.
     String,
     Vec,
@@ -55,6 +56,8 @@ pub enum Rule {
     Use,
     Field,
     Member,
+    Doc,
+    Attribute,
     Requires,
     Ensures,
     Final,
@@ -62,8 +65,9 @@ pub enum Rule {
     Tests,
     Derive,
     Bound,
-    Model,
+    ModelImpl,
     ModelImport,
+    ModelName,
     Writer,
     Label,
     Path,
@@ -71,19 +75,6 @@ pub enum Rule {
     Handle,
     Blank,
 }
-
-/// What stands at the front of the root of a library.
-const HEAD: &str = "
-#![no_std]
-
-extern crate alloc;
-
-#[doc(hidden)]
-#[allow(dead_code)]
-pub mod support;
-
-pub use support::{AllocError, Global, String};
-";
 
 /// What a file of a program imports by a line each, where it names it.
 pub const PROGRAM_LINES: [(&str, Line); 9] = [
@@ -104,9 +95,12 @@ pub fn word_text(word: Word) -> &'static str
 {
     match word {
         Word::Core => "core",
+        Word::Crate => "crate::erased",
         Word::Support => "crate::support",
         Word::Simd => "crate::support::simd",
         Word::RattleStd => "rattle_std",
+        Word::Lexer => "rustc_lexer::erased",
+        Word::Escaper => "rustc_literal_escaper::erased",
         Word::DebugAssert => "debug_assert",
         Word::DebugAssertEq => "debug_assert_eq",
         Word::DebugAssertNe => "debug_assert_ne",
@@ -119,7 +113,6 @@ pub fn line_text(line: Line) -> &'static str
     ensures { result.now ≡ spec.line_text line }
 {
     match line {
-        Line::Head => HEAD,
         Line::String => "\nuse crate::support::{String};\n",
         Line::Vec => "\nuse crate::support::{Vec};\n",
         Line::StringAndVec => "\nuse crate::support::{String, Vec};\n",
@@ -137,10 +130,12 @@ pub fn line_text(line: Line) -> &'static str
 
 impl Rule {
     /// All rules whose uses are counted: all but that for emptied lines.
-    pub const COUNTED: [Rule; 17] = [
+    pub const COUNTED: [Rule; 20] = [
         Rule::Use,
         Rule::Field,
         Rule::Member,
+        Rule::Doc,
+        Rule::Attribute,
         Rule::Requires,
         Rule::Ensures,
         Rule::Final,
@@ -148,8 +143,9 @@ impl Rule {
         Rule::Tests,
         Rule::Derive,
         Rule::Bound,
-        Rule::Model,
+        Rule::ModelImpl,
         Rule::ModelImport,
+        Rule::ModelName,
         Rule::Writer,
         Rule::Label,
         Rule::Path,
@@ -163,6 +159,8 @@ impl Rule {
             Rule::Use => "ghost use",
             Rule::Field => "ghost field",
             Rule::Member => "ghost member",
+            Rule::Doc => "a doc of a ghost",
+            Rule::Attribute => "an attribute of a ghost",
             Rule::Requires => "requires",
             Rule::Ensures => "ensures",
             Rule::Final => "final",
@@ -170,8 +168,9 @@ impl Rule {
             Rule::Tests => "what only tests have",
             Rule::Derive => "derive(Drop)",
             Rule::Bound => "a bound Drop",
-            Rule::Model => "impl Model",
+            Rule::ModelImpl => "impl Model",
             Rule::ModelImport => "an import of Model",
+            Rule::ModelName => "Model among other imports",
             Rule::Writer => "the writer of fmt",
             Rule::Label => "a label that only proofs name",
             Rule::Path => "a renamed path",

@@ -28,9 +28,6 @@ fn lines_of(alloc: Global, source: &Source<'_>) -> Result<Vec<Line>, AllocError>
         }
         return Ok(lines);
     }
-    if source.target == Target::Root {
-        lines.push(Line::Head)?;
-    }
     match (is_named(source, "String"), is_named(source, "Vec")) {
         (true, true) => lines.push(Line::StringAndVec)?,
         (true, false) => lines.push(Line::String)?,

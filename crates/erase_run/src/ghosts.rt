@@ -76,7 +76,7 @@ pub fn model(alloc: Global, source: &mut Source<'_>, n: usize) -> Result<usize, 
         return Ok(past(n, 1));
     }
     let end = source.past_group(alloc, open)?;
-    source.delete_item(Rule::Model, n, end)?;
+    source.delete_item(Rule::ModelImpl, n, end)?;
     Ok(end)
 }
 

@@ -13,6 +13,7 @@ mod refusals;
 mod rules;
 mod source;
 mod stop;
+mod stretch;
 #[cfg(test)]
 mod tests;
 mod write;

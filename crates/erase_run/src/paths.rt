@@ -19,7 +19,7 @@ pub fn import(source: &mut Source<'_>, n: usize) -> Result<usize, Stop> {
     };
     for at in n..end {
         if source.stands(at, &["Model", ","]) {
-            source.delete(Rule::ModelImport, at, past(at, 2))?;
+            source.delete_each(Rule::ModelName, at, past(at, 2))?;
         } else {
             rename(source, at)?;
         }
@@ -29,7 +29,7 @@ pub fn import(source: &mut Source<'_>, n: usize) -> Result<usize, Stop> {
 
 /// Renames the path or the macro that stands at `n`, and answers the word behind what was renamed.
 pub fn rename(source: &mut Source<'_>, n: usize) -> Result<usize, Stop> {
-    if source.stands(n, &["std", ":", ":"]) {
+    if begins_path(source, n) {
         return path(source, n);
     }
     if source.word(past(n, 1)) != "!" {
@@ -45,11 +45,26 @@ pub fn rename(source: &mut Source<'_>, n: usize) -> Result<usize, Stop> {
     Ok(past(n, 1))
 }
 
-/// Renames a path of `std`.
+/// Whether a path of more than one name begins at `n`.
+fn begins_path(source: &Source<'_>, n: usize) -> bool {
+    let is_inside = source.word_before(n) == ":" && source.word_before(n.saturating_sub(1)) == ":";
+    source.stands(past(n, 1), &[":", ":"]) && !is_inside
+}
+
+/// Renames the first name of a path.
 fn path(source: &mut Source<'_>, n: usize) -> Result<usize, Stop> {
-    if source.target == Target::Program {
-        return put(source, n, 1, Word::RattleStd);
+    match (source.target, source.word(n)) {
+        (Target::Library, "crate") => put(source, n, 1, Word::Crate),
+        (Target::Library, "std") => of_std(source, n),
+        (Target::Program, "std") => put(source, n, 1, Word::RattleStd),
+        (Target::Program, "rustc_lexer") => put(source, n, 1, Word::Lexer),
+        (Target::Program, "rustc_literal_escaper") => put(source, n, 1, Word::Escaper),
+        _ => Ok(past(n, 1)),
     }
+}
+
+/// Renames a path of `std` in a library.
+fn of_std(source: &mut Source<'_>, n: usize) -> Result<usize, Stop> {
     if source.stands(past(n, 3), &["simd", ":", ":", "prelude"]) {
         return put(source, n, 7, Word::Simd);
     }

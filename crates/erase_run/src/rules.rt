@@ -65,11 +65,10 @@ fn bound(source: &mut Source<'_>, n: usize) -> Result<usize, Stop> {
     if source.word(past(n, 1)) != "Drop" {
         return rename(source, n);
     }
-    if source.word(n) == ":" && source.word(past(n, 2)) == "+" {
-        cut(source, Rule::Bound, past(n, 1), past(n, 3))
-    } else {
-        cut(source, Rule::Bound, n, past(n, 2))
-    }
+    let is_first = source.word(n) == ":" && source.word(past(n, 2)) == "+";
+    let from = past(n, usize::from(is_first));
+    source.delete_each(Rule::Bound, from, past(from, 2))?;
+    Ok(past(from, 2))
 }
 
 /// Any other word: `final`, the type of a formatter, a label, or a path.

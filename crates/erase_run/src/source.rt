@@ -1,4 +1,6 @@
 //! A source as tokens, and what becomes of each.
+ghost use Rattle.std.specs.Prelude.{◌≡◌};
+ghost use Rattle.erase_run.specs.Fates.{is_doc, is_space};
 ghost use Rattle.rustc_lexer.specs.Classes.{Fits};
 
 use crate::fate::{Fate, Rule, Word};
@@ -9,10 +11,8 @@ use std::alloc::{AllocError, Global};
 /// What a source is a part of.
 #[derive(Clone, Copy, Debug, PartialEq, Eq)]
 pub enum Target {
-    /// The root of a library.
-    Root,
-    /// A module of a library.
-    Module,
+    /// A file of a library. It stands in the module `erased` of its crate, beside `support`.
+    Library,
     /// Any file of a program, or of a library that only programs use: it stands on `rattle_std`.
     Program,
 }
@@ -26,7 +26,9 @@ pub struct Piece<'a> {
 
 impl<'a> Piece<'a> {
     /// Whether it is a doc comment of the item that follows it.
-    pub fn is_doc_of_item(&self) -> bool {
+    pub fn is_doc_of_item(&self) -> bool
+        ensures { result ≡ is_doc self.now.kind }
+    {
         matches!(
             self.kind,
             TokenKind::LineComment {
@@ -39,7 +41,9 @@ impl<'a> Piece<'a> {
     }
 
     /// Whether it is white space.
-    pub fn is_space(&self) -> bool {
+    pub fn is_space(&self) -> bool
+        ensures { result ≡ is_space self.now.kind }
+    {
         matches!(self.kind, TokenKind::Whitespace)
     }
 
@@ -202,6 +206,15 @@ impl<'a> Source<'a> {
         );
     }
 
+    /// Deletes each of the words from `from` up to `to`, and keeps what stands between them.
+    pub fn delete_each(&mut self, rule: Rule, from: usize, to: usize) -> Result<(), AllocError> {
+        self.used.push(rule)?;
+        for n in from..to {
+            self.set(self.place(n), Fate::Delete(rule));
+        }
+        Ok(())
+    }
+
     /// Puts a word in the place of word `n`.
     pub fn replace(&mut self, rule: Rule, n: usize, word: Word) -> Result<(), AllocError> {
         self.used.push(rule)?;
@@ -221,8 +234,10 @@ impl<'a> Source<'a> {
                 None => break,
                 Some(start) => front = start,
             }
-            if !self.pieces.get(place).is_some_and(|piece| piece.is_space()) {
-                self.set_all(front, past(place, 1), Fate::Delete(rule));
+            match self.pieces.get(place) {
+                Some(piece) if piece.is_space() => {}
+                Some(piece) if piece.is_doc_of_item() => self.set(place, Fate::Delete(Rule::Doc)),
+                _ => self.set_all(front, past(place, 1), Fate::Delete(Rule::Attribute)),
             }
         }
         Ok(())

@@ -38,6 +38,8 @@ pub enum Reason {
     Word,
     /// A token that is none of Rust.
     Token,
+    /// A fate that a token may not have: a fault of the rules.
+    Fate,
     /// Lines are to be put in, and there is no place for them.
     Front,
 }
@@ -55,6 +57,7 @@ impl Reason {
             Reason::Macro => "a macro that is not known",
             Reason::Word => "a word that is not known",
             Reason::Token => "a token that is none of Rust",
+            Reason::Fate => "a rule that does not fit",
             Reason::Front => "no place for an import",
         }
     }

@@ -8,7 +8,7 @@ use std::alloc::Global;
 use std::test::Fail;
 
 /// A module, and what is made of it.
-const MADE: [(&str, &str); 12] = [
+const MADE: [(&str, &str); 14] = [
     ("fn f()\n    ensures { result }\n{}\n", "fn f()\n{}\n"),
     ("fn f() requires* a { (b) } {}", "fn f()  {}"),
     ("ghost use A.{b};\nuse std::fmt;\n", "\nuse core::fmt;\n"),
@@ -22,11 +22,11 @@ const MADE: [(&str, &str); 12] = [
     ),
     (
         "#[derive(Clone, Drop)]\n#[tactic(auto)]\nstruct S;\n",
-        "#[derive(Clone)]\nstruct S;\n",
+        "#[derive(Clone )]\nstruct S;\n",
     ),
     (
         "impl<T> Model for S<T> {\n    ghost m = { 1 };\n}\nfn f<T: Drop + A>() {}\n",
-        "\nfn f<T:  A>() {}\n",
+        "\nfn f<T:   A>() {}\n",
     ),
     ("#[cfg(test)]\nmod tests;\nmod a;\n", "\nmod a;\n"),
     (
@@ -42,13 +42,21 @@ const MADE: [(&str, &str); 12] = [
         "//! a\nuse crate::support::{Vec};\n\n\nuse crate::support::{Global};\nstruct S(Vec<u8>);\n",
     ),
     (
+        "use crate::a::{b};\npub(crate) fn f(c: crate::D) -> (crate::E, a::crate) {}",
+        "use crate::erased::a::{b};\npub(crate) fn f(c: crate::erased::D) -> (crate::erased::E, a::crate) {}",
+    ),
+    (
+        "use rustc_lexer::a;\nuse std::str;",
+        "use rustc_lexer::a;\nuse core::str;",
+    ),
+    (
         "// ghost\nfn f() -> &str { \"ghost\" }",
         "// ghost\nfn f() -> &str { \"ghost\" }",
     ),
 ];
 
 /// A module that is refused, on which line, and why.
-const REFUSED: [(&str, usize, Reason); 14] = [
+const REFUSED: [(&str, usize, Reason); 15] = [
     ("#[repr(C)]\nstruct S;", 1, Reason::Attribute),
     ("\nfn f() { a.clone() }", 2, Reason::Word),
     ("fn f() { unsafe {} }", 1, Reason::Word),
@@ -66,6 +74,7 @@ const REFUSED: [(&str, usize, Reason); 14] = [
     ("fn f() ensures { a", 1, Reason::Bracket),
     ("ghost use a", 1, Reason::Item),
     ("use std::collections::BTreeMap;", 1, Reason::Path),
+    ("use a::std::fmt;", 1, Reason::Word),
     ("fn f() { ◌ }", 1, Reason::Token),
 ];
 
@@ -80,7 +89,7 @@ fn made(alloc: Global, text: &str, target: Target) -> Result<String, Stop> {
 #[test]
 fn sources_are_erased(rt: HostRuntime) -> Result<(), Fail> {
     for (text, wanted) in &MADE {
-        match made(rt.alloc(), text, Target::Module) {
+        match made(rt.alloc(), text, Target::Library) {
             Ok(erased) => assert_eq!(rt; erased.as_str(), *wanted),
             Err(stop) => assert!(rt; false, "{text}: {stop:?}"),
         }
@@ -95,7 +104,7 @@ fn what_is_not_known_is_refused(rt: HostRuntime) -> Result<(), Fail> {
             line: *line,
             reason: *reason,
         };
-        match made(rt.alloc(), text, Target::Module) {
+        match made(rt.alloc(), text, Target::Library) {
             Ok(erased) => assert!(rt; false, "{text}: {erased}"),
             Err(stop) => assert_eq!(rt; stop, refused, "{text}"),
         }
@@ -103,23 +112,29 @@ fn what_is_not_known_is_refused(rt: HostRuntime) -> Result<(), Fail> {
     Ok(())
 }
 
-#[test]
-fn a_root_has_a_head(rt: HostRuntime) -> Result<(), Fail> {
-    match made(rt.alloc(), "//! a\nmod b;\n", Target::Root) {
-        Ok(erased) => assert!(rt; erased.as_str().starts_with("//! a\n#![no_std]\n")),
-        Err(stop) => assert!(rt; false, "{stop:?}"),
-    }
-    Ok(())
-}
+/// A file of a program, and what is made of it.
+const PROGRAMS: [(&str, &str); 3] = [
+    (
+        "use std::io;\nfn main(rt: HostRuntime) -> io::Result<()> { print!(rt; \"\") }",
+        "\nuse rattle_std::prelude::print;\nuse rattle_std::io;\nfn main() -> io::Result<()> { let rt = rattle_std::rt::start(); print!(rt; \"\") }",
+    ),
+    (
+        "use crate::a::{rustc_lexer::B};\nuse rustc_lexer::{C, d::E};",
+        "use crate::a::{rustc_lexer::erased::B};\nuse rustc_lexer::erased::{C, d::E};",
+    ),
+    (
+        "fn f(a: rustc_literal_escaper::B) -> Option<rustc_lexer::C> { d::rustc_lexer::E(rustc_lexer) }",
+        "fn f(a: rustc_literal_escaper::erased::B) -> Option<rustc_lexer::erased::C> { d::rustc_lexer::E(rustc_lexer) }",
+    ),
+];
 
 #[test]
-fn a_program_stands_on_its_own_std(rt: HostRuntime) -> Result<(), Fail> {
-    let text = "use std::io;\nfn main(rt: HostRuntime) -> io::Result<()> { print!(rt; \"\") }";
-    let wanted =
-        "\nuse rattle_std::prelude::print;\nuse rattle_std::io;\nfn main() -> io::Result<()> { let rt = rattle_std::rt::start(); print!(rt; \"\") }";
-    match made(rt.alloc(), text, Target::Program) {
-        Ok(erased) => assert_eq!(rt; erased.as_str(), wanted),
-        Err(stop) => assert!(rt; false, "{stop:?}"),
+fn programs_stand_on_made_libraries(rt: HostRuntime) -> Result<(), Fail> {
+    for (text, wanted) in &PROGRAMS {
+        match made(rt.alloc(), text, Target::Program) {
+            Ok(erased) => assert_eq!(rt; erased.as_str(), *wanted),
+            Err(stop) => assert!(rt; false, "{text}: {stop:?}"),
+        }
     }
     Ok(())
 }

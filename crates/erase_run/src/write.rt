@@ -5,12 +5,14 @@ ghost use Rattle.rustc_lexer.specs.LanguageText.{mode_of};
 ghost use Rattle.rustc_lexer.specs.Tokens.{tokens_of};
 ghost use Rattle.rustc_lexer.specs.declared.token.FrontmatterAllowed.TheVariants.{No};
 ghost use Rattle.erase_run.specs.Erased as spec;
+ghost use Rattle.erase_run.specs.Fates.{AreFates};
 
 use crate::fate::{Fate, Line, Rule, line_text, word_text};
 use crate::front::{close_lines, lead};
 use crate::rules::apply;
-use crate::source::{Source, Target};
-use crate::stop::Stop;
+use crate::source::{Piece, Source, Target, newlines};
+use crate::stop::{Reason, Stop};
+use crate::stretch::{Stretch, is_closed, step};
 use rustc_lexer::{FrontmatterAllowed, tokenize};
 use std::alloc::{AllocError, Global};
 
@@ -30,6 +32,8 @@ pub struct Erased {
 /// The plain Rust of a source: its tokens in order, each as its fate says.
 pub fn erase(alloc: Global, text: &str, target: Target) -> Result<Erased, Stop>
     requires fits { Fits text.now }
+    ensures fates { IfOk result (λ made. AreFates (Some Stretch.Closed)
+        text.now (tokens_of (mode_of No) text.now) made.fates.items) }
     ensures written { IfOk result (λ made. string_bytes made.text
         ≡ spec.written made.lines.items text.now (tokens_of (mode_of No) text.now) made.fates.items) }
 {
@@ -47,41 +51,48 @@ pub fn erase(alloc: Global, text: &str, target: Target) -> Result<Erased, Stop>
     })
 }
 
-/// The tokens of a text in order, each by its fate.
-fn written(alloc: Global, lines: &[Line], text: &str, fates: &[Fate]) -> Result<String, AllocError>
+/// The tokens of a text in order, each by its fate, if each has one that it may have.
+fn written(alloc: Global, lines: &[Line], text: &str, fates: &[Fate]) -> Result<String, Stop>
     requires fits { Fits text.now }
-    ensures { IfOk result (λ made. string_bytes made
+    ensures fates { IfOk result
+        (λ _. AreFates (Some Stretch.Closed) text.now (tokens_of (mode_of No) text.now) fates.now) }
+    ensures written { IfOk result (λ made. string_bytes made
         ≡ spec.written lines.now text.now (tokens_of (mode_of No) text.now) fates.now) }
 {
     let mut made = String::new(alloc);
     let mut start = 0;
     let mut left = fates;
+    let mut stretch = Stretch::Closed;
     for token in tokenize(text, FrontmatterAllowed::No) {
         let end = start + token.len as usize;
-        push_piece(lines, first_fate(left), &text[start..end], &mut made)?;
-        left = later_fates(left);
+        let part = &text[start..end];
+        let Some((fate, later)) = left.split_first() else {
+            return Err(unfit(&text[..start]));
+        };
+        let piece = Piece {
+            kind: token.kind,
+            text: part,
+        };
+        let Some(next) = step(stretch, *fate, piece) else {
+            return Err(unfit(&text[..start]));
+        };
+        push_piece(lines, *fate, part, &mut made)?;
+        stretch = next;
+        left = later;
         start = end;
     }
-    Ok(made)
-}
-
-/// The first fate; where none is left the token is kept.
-fn first_fate(fates: &[Fate]) -> Fate
-    ensures { result ≡ spec.first_fate fates.now }
-{
-    match fates.first() {
-        Some(fate) => *fate,
-        None => Fate::Keep,
+    if left.is_empty() && is_closed(stretch) {
+        Ok(made)
+    } else {
+        Err(unfit(text))
     }
 }
 
-/// The fates behind the first.
-fn later_fates<'f>(fates: &'f [Fate]) -> &'f [Fate]
-    ensures { result.now ≡ spec.later_fates fates.now }
-{
-    match fates.split_first() {
-        Some((_, later)) => later,
-        None => fates,
+/// The refusal of a fate behind this part of the text: a fault of the rules.
+fn unfit(before: &str) -> Stop {
+    Stop::Refused {
+        line: newlines(before).saturating_add(1),
+        reason: Reason::Fate,
     }
 }
 

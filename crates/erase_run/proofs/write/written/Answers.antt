@@ -1,6 +1,5 @@
-use Rattle.std.proofs.Common.{string_bytes}
 use Rattle.rustc_lexer.proofs.PlaceLemmas.{piece_is, stands_past}
-use Rattle.erase_run.proofs.WriteLemmas.{written-step}
+use Rattle.erase_run.proofs.WriteLemmas.{written-step, fates-step}
 use Rattle.erase_run.proofs.write.written.Goals as goal
 
 pub loop-token-preserved : goal.loop-token-preserved
@@ -12,8 +11,13 @@ loop-token-preserved c =
     let token = c.in-Some.token in
     let step = c.in-Some.ensures.steps in
     let place = c.loop-token.invariant.place in
+    let fate = c.in-Some-split_first.fate.now in
+    let later = c.in-Some-split_first.later.now in
+    let part = c.range-part.result.now in
+    let is = piece_is text at.rest part start token.len c.range-part.ensures.value place.1 in
+    let split = c.in-Some-split_first.ensures.cases.0 in
     record {
       place = stands_past text start at past token place step;
-      left = written-step c.args.lines.now at past token c.loop-token.left.now c.later_fates-left.result.now c.first_fate.result _ _ c.range.result.now _ step
-          (piece_is text at.rest c.range.result.now start token.len c.range.ensures.value place.1) c.first_fate.ensures c.later_fates-left.ensures c.in_ok-push_piece.ensures c.loop-token.invariant.left;
+      fates = λ more. c.loop-token.invariant.fates (fates-step at past token c.loop-token.left.now later fate c.loop-token.stretch c.in-Some-step.next part step is split c.in-Some-step.ensures more);
+      left = written-step c.args.lines.now at past token c.loop-token.left.now later fate _ _ part _ step is split c.in_ok-push_piece.ensures c.loop-token.invariant.left;
     }
