@@ -50,4 +50,4 @@ macro_rules! answers_of {
 }
 
 answers_of!(original, original_escaper);
-answers_of!(proved, proved::literal_escaper);
+answers_of!(proved, proved_escaper);

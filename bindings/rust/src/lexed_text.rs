@@ -1,20 +1,11 @@
 //! A text that is kept with its tokens under edits.
 
-use crate::border::{self, Edit, Relexing};
-use crate::edition::Edition;
-use crate::landmarks::{Bound, Landmarks};
-use crate::token::Token;
-use alloc::string::String;
-use alloc::vec::Vec;
+use crate::erased::{self, Edit, EditStop};
+use crate::support::{AllocError, Global};
+use crate::{Edition, Pieces, Relexed, Stepper, Steps, Token, fitting};
+use core::fmt;
 use core::iter::FusedIterator;
 use core::ops::Range;
-use core::slice;
-
-/// How many tokens cross in one call where a whole text is lexed.
-const SPACING: usize = 1024;
-
-/// For how many tokens there is room in the first call of an edit.
-const ROOM: usize = 64;
 
 /// A text and its tokens, which are always those of lexing the text from its beginning.
 ///
@@ -28,53 +19,13 @@ const ROOM: usize = 64;
 /// assert_eq!(lexed.text(), "let ab = cd - 1 - ef;");
 /// assert_eq!((relexed.kept_front, relexed.lexed, relexed.kept_back), (6, 7, 3));
 /// ```
-#[derive(Clone, Debug)]
-pub struct LexedText {
-    text: String,
-    /// The tokens of the text in the edition. Nothing but a call of `relex` makes any.
-    tokens: Vec<Token>,
-    edition: Edition,
-    /// Bounds of the tokens, where the search of an edit may begin.
-    landmarks: Landmarks,
-    /// What an edit lexes, before it is put among the tokens; empty between edits.
-    room: Vec<Token>,
-}
-
-/// The counts of one edit. The tokens behind it are the first `kept_front` of those before it, then `lexed` new ones,
-/// and then the last `kept_back` of those before it.
 ///
-/// ```
-/// use ra_ap_rustc_lexer::{LexedText, Relexed};
-///
-/// let mut lexed = LexedText::new("a + b + c + d");
-/// let counts = Relexed { kept_front: 6, lexed: 3, kept_back: 4 };
-/// assert_eq!(lexed.edit(8..8, "x"), counts);
-/// ```
-#[derive(Clone, Copy, Debug, PartialEq, Eq)]
-pub struct Relexed {
-    /// How many tokens at the front stay as they are.
-    pub kept_front: usize,
-    /// How many tokens were lexed.
-    pub lexed: usize,
-    /// How many tokens at the back stay as they are.
-    pub kept_back: usize,
-}
+/// Each call that takes memory has a twin, such as [`try_edit`](LexedText::try_edit), which answers where memory is
+/// refused.
+pub struct LexedText<S: Stepper = Steps>(erased::LexedText<S>);
 
-impl Relexed {
-    /// The numbers of the tokens that were lexed, among those behind the edit.
-    ///
-    /// ```
-    /// use ra_ap_rustc_lexer::LexedText;
-    ///
-    /// let mut lexed = LexedText::new("a + b + c + d");
-    /// let relexed = lexed.edit(8..8, "x");
-    /// let written: u32 = lexed.tokens()[relexed.range()].iter().map(|token| token.len).sum();
-    /// assert_eq!(written, 4);
-    /// ```
-    pub fn range(&self) -> Range<usize> {
-        self.kept_front..self.kept_front + self.lexed
-    }
-}
+/// What is said where memory is refused.
+const REFUSED: &str = "memory was refused";
 
 impl LexedText {
     /// The text with its tokens, those of [`tokenize`](crate::tokenize) with `FrontmatterAllowed::No`.
@@ -87,8 +38,8 @@ impl LexedText {
     ///
     /// # Panics
     ///
-    /// Where the text has more than `u32::MAX` bytes.
-    pub fn new(text: impl Into<String>) -> LexedText {
+    /// Where the text has more than `u32::MAX` bytes, or memory is refused.
+    pub fn new(text: impl AsRef<str>) -> LexedText {
         LexedText::new_in(text, Edition::E2024)
     }
 
@@ -102,44 +53,22 @@ impl LexedText {
     ///
     /// # Panics
     ///
+    /// Where the text has more than `u32::MAX` bytes, or memory is refused.
+    pub fn new_in(text: impl AsRef<str>, edition: Edition) -> LexedText {
+        LexedText::try_new_in(text, edition).expect(REFUSED)
+    }
+
+    /// The text with its tokens in an edition, or that memory was refused.
+    ///
+    /// # Panics
+    ///
     /// Where the text has more than `u32::MAX` bytes.
-    pub fn new_in(text: impl Into<String>, edition: Edition) -> LexedText {
-        let mut lexed = LexedText {
-            text: text.into(),
-            tokens: Vec::new(),
-            edition,
-            landmarks: Landmarks::new(),
-            room: Vec::new(),
-        };
-        border::fitting(&lexed.text);
-        lexed.lex_all();
-        lexed
+    pub fn try_new_in(text: impl AsRef<str>, edition: Edition) -> Result<LexedText, AllocError> {
+        let text = fitting(text.as_ref());
+        Ok(LexedText(erased::LexedText::new_in(Global, text, edition)?))
     }
 
-    /// The text.
-    ///
-    /// ```
-    /// use ra_ap_rustc_lexer::LexedText;
-    ///
-    /// assert_eq!(LexedText::new("let x;").text(), "let x;");
-    /// ```
-    pub fn text(&self) -> &str {
-        &self.text
-    }
-
-    /// Its tokens, in order. The slice costs nothing: they are kept as the library writes them.
-    ///
-    /// ```
-    /// use ra_ap_rustc_lexer::{LexedText, TokenKind};
-    ///
-    /// let lexed = LexedText::new("a + b");
-    /// assert_eq!(lexed.tokens()[2].kind, TokenKind::Plus);
-    /// ```
-    pub fn tokens(&self) -> &[Token] {
-        &self.tokens
-    }
-
-    /// The edition that the tokens are of.
+    /// The edition that the tokens are of. Edits keep it.
     ///
     /// ```
     /// use ra_ap_rustc_lexer::{Edition, LexedText};
@@ -147,7 +76,7 @@ impl LexedText {
     /// assert_eq!(LexedText::new("").edition(), Edition::E2024);
     /// ```
     pub fn edition(&self) -> Edition {
-        self.edition
+        self.0.edition()
     }
 
     /// Lexes the text again, in another edition.
@@ -159,9 +88,64 @@ impl LexedText {
     /// lexed.set_edition(Edition::E2015);
     /// assert_eq!(lexed.tokens().len(), 3);
     /// ```
+    ///
+    /// # Panics
+    ///
+    /// Where memory is refused. Nothing changes then.
     pub fn set_edition(&mut self, edition: Edition) {
-        self.edition = edition;
-        self.lex_all();
+        self.try_set_edition(edition).expect(REFUSED);
+    }
+
+    /// Lexes the text again, in another edition. Where memory is refused nothing changes.
+    pub fn try_set_edition(&mut self, edition: Edition) -> Result<(), AllocError> {
+        self.0.set_edition(edition)
+    }
+}
+
+impl<S: Stepper> LexedText<S> {
+    /// The text with its tokens by a stepper of the caller's, or that memory was refused.
+    ///
+    /// ```
+    /// use ra_ap_rustc_lexer::{LexedText, Steps};
+    ///
+    /// let lexed = LexedText::try_with("let x;", Steps::new()).unwrap();
+    /// assert_eq!(lexed.tokens().len(), 4);
+    /// ```
+    ///
+    /// # Panics
+    ///
+    /// Where the text has more than `u32::MAX` bytes.
+    pub fn try_with(text: impl AsRef<str>, stepper: S) -> Result<LexedText<S>, AllocError> {
+        let text = fitting(text.as_ref());
+        Ok(LexedText(erased::LexedText::with(Global, text, stepper)?))
+    }
+
+    /// The stepper that the tokens came from.
+    pub fn stepper(&self) -> &S {
+        self.0.stepper()
+    }
+
+    /// The text.
+    ///
+    /// ```
+    /// use ra_ap_rustc_lexer::LexedText;
+    ///
+    /// assert_eq!(LexedText::new("let x;").text(), "let x;");
+    /// ```
+    pub fn text(&self) -> &str {
+        self.0.text()
+    }
+
+    /// Its tokens, in order.
+    ///
+    /// ```
+    /// use ra_ap_rustc_lexer::{LexedText, TokenKind};
+    ///
+    /// let lexed = LexedText::new("a + b");
+    /// assert_eq!(lexed.tokens()[2].kind, TokenKind::Plus);
+    /// ```
+    pub fn tokens(&self) -> &[Token] {
+        self.0.tokens()
     }
 
     /// The tokens with their places and their parts of the text, in order.
@@ -173,11 +157,7 @@ impl LexedText {
     /// assert_eq!(lexed.pieces().nth(2).map(|piece| (piece.start, piece.text)), Some((2, "+")));
     /// ```
     pub fn pieces(&self) -> Pieces<'_> {
-        Pieces {
-            text: &self.text,
-            start: 0,
-            tokens: self.tokens.iter(),
-        }
+        self.0.pieces()
     }
 
     /// The pieces of some tokens, by their numbers: after an edit those of `relexed.range()` are to be painted anew.
@@ -195,13 +175,11 @@ impl LexedText {
     ///
     /// Where there are no such tokens.
     pub fn pieces_of(&self, numbers: Range<usize>) -> Pieces<'_> {
-        let tokens = &self.tokens[numbers.clone()];
-        let near = self.landmarks.before_number(numbers.start);
-        Pieces {
-            text: &self.text,
-            start: near.place + bytes_of(&self.tokens[near.number..numbers.start]),
-            tokens: tokens.iter(),
-        }
+        assert!(
+            numbers.start <= numbers.end && numbers.end <= self.tokens().len(),
+            "the tokens {numbers:?} are not there"
+        );
+        self.0.pieces_of(numbers.start, numbers.end)
     }
 
     /// Whether the range is inside the text, between characters, and the edit makes a text of at most `u32::MAX` bytes.
@@ -213,10 +191,7 @@ impl LexedText {
     /// assert!(lexed.accepts(0..2, "e") && !lexed.accepts(1..2, "e"));
     /// ```
     pub fn accepts(&self, range: Range<usize>, insert: &str) -> bool {
-        range.start <= range.end
-            && self.text.is_char_boundary(range.start)
-            && self.text.is_char_boundary(range.end)
-            && self.text.len() - range.len() + insert.len() <= u32::MAX as usize
+        self.0.accepts(range.start, range.end, insert)
     }
 
     /// Puts `insert` in place of the range of bytes.
@@ -231,153 +206,62 @@ impl LexedText {
     ///
     /// # Panics
     ///
-    /// Where the edit is not accepted. Text and tokens are then as they were.
+    /// Where the edit is not accepted, or memory is refused. Text and tokens are then as they were.
     pub fn edit(&mut self, range: Range<usize>, insert: &str) -> Relexed {
+        self.try_edit(range, insert).expect(REFUSED)
+    }
+
+    /// Puts `insert` in place of the range of bytes. Where memory is refused, text and tokens are as they were.
+    ///
+    /// # Panics
+    ///
+    /// Where the edit is not accepted. Text and tokens are then as they were.
+    pub fn try_edit(&mut self, range: Range<usize>, insert: &str) -> Result<Relexed, AllocError> {
         assert!(
             self.accepts(range.clone(), insert),
             "the edit of {range:?} has to be inside the text, between characters, and to make a text that fits"
         );
-        self.text.replace_range(range.clone(), insert);
-        // All places are in texts that fit.
-        let edit = Edit {
-            start: range.start as u32,
-            old_stop: range.end as u32,
-            new_stop: (range.start + insert.len()) as u32,
-        };
-        let near = self.landmarks.nearest_place(range.start);
-        let mut relexing = Relexing::begin(near.number, near.place);
-        while !relexing.is_done() {
-            self.more_tokens(&edit, &mut relexing);
-        }
-        self.put_lexed(&relexing)
+        self.0.edit(range.start, range.end, insert)
     }
 
-    /// Lexes tokens behind those that are in the room: as many as are there, or `ROOM`.
-    fn more_tokens(&mut self, edit: &Edit, relexing: &mut Relexing) {
-        let most = self.room.len().max(ROOM);
-        let (text, old) = (&self.text, &self.tokens);
-        border::relex(
-            text,
-            old,
-            edit,
-            self.edition,
-            relexing,
-            &mut self.room,
-            most,
-        );
-    }
-
-    /// Puts what was lexed between the tokens that are kept.
-    fn put_lexed(&mut self, relexing: &Relexing) -> Relexed {
-        let kept = Bound {
-            number: relexing.kept_front,
-            place: relexing.front_place,
-        };
-        let met = Bound {
-            number: self.tokens.len() - relexing.kept_back,
-            place: relexing.back_place,
-        };
-        let now = Bound {
-            number: kept.number + self.room.len(),
-            place: relexing.at,
-        };
-        self.tokens
-            .splice(kept.number..met.number, self.room.drain(..));
-        self.landmarks.move_over(kept, met, now);
-        self.landmarks.remember(kept, self.text.len());
-        Relexed {
-            kept_front: relexing.kept_front,
-            lexed: relexing.lexed,
-            kept_back: relexing.kept_back,
-        }
-    }
-
-    /// Lexes the whole text, in place of all tokens.
-    fn lex_all(&mut self) {
-        self.tokens.clear();
-        self.landmarks = Landmarks::new();
-        let edit = Edit::whole(&self.text);
-        let mut relexing = Relexing::default();
-        while !relexing.is_done() {
-            let number = self.tokens.len();
-            let place = relexing.at;
-            self.landmarks
-                .remember(Bound { number, place }, self.text.len());
-            let text = &self.text;
-            let tokens = &mut self.tokens;
-            border::relex(
-                text,
-                &[],
-                &edit,
-                self.edition,
-                &mut relexing,
-                tokens,
-                SPACING,
-            );
-        }
+    /// Makes the edits in order, as far as the first that is refused.
+    ///
+    /// ```
+    /// use ra_ap_rustc_lexer::{Edit, EditStop, LexedText};
+    ///
+    /// let mut lexed = LexedText::new("a");
+    /// let edits = [Edit { start: 1, stop: 1, insert: "+b" }, Edit { start: 9, stop: 9, insert: "" }];
+    /// assert_eq!(lexed.edit_all(&edits), Err(EditStop::Range { at: 1 }));
+    /// assert_eq!(lexed.text(), "a+b");
+    /// ```
+    pub fn edit_all(&mut self, edits: &[Edit<'_>]) -> Result<(), EditStop> {
+        self.0.edit_all(edits)
     }
 }
 
-/// How many bytes the tokens have.
-fn bytes_of(tokens: &[Token]) -> usize {
-    tokens.iter().map(|token| token.len as usize).sum()
-}
-
-/// A token, where it stands in its text, and its part of the text.
-///
-/// ```
-/// use ra_ap_rustc_lexer::{LexedText, Piece, TokenKind};
-///
-/// let lexed = LexedText::new("fn f");
-/// let names = lexed.pieces().filter(|piece: &Piece<'_>| piece.token.kind == TokenKind::Ident);
-/// assert!(names.map(|piece| piece.text).eq(["fn", "f"]));
-/// ```
-#[derive(Clone, Copy, Debug, PartialEq, Eq)]
-pub struct Piece<'a> {
-    /// Where the token begins, in bytes from the start of the text.
-    pub start: usize,
-    /// The token.
-    pub token: Token,
-    /// The token's text.
-    pub text: &'a str,
-}
-
-/// The iterator of [`LexedText::pieces`] and [`LexedText::pieces_of`].
-///
-/// ```
-/// use ra_ap_rustc_lexer::{LexedText, Pieces};
-///
-/// let lexed = LexedText::new("a b");
-/// let pieces: Pieces<'_> = lexed.pieces();
-/// assert_eq!(pieces.len(), 3);
-/// ```
-#[derive(Clone, Debug)]
-pub struct Pieces<'a> {
-    text: &'a str,
-    start: usize,
-    tokens: slice::Iter<'a, Token>,
-}
-
-impl<'a> Iterator for Pieces<'a> {
-    type Item = Piece<'a>;
-
-    #[inline]
-    fn next(&mut self) -> Option<Piece<'a>> {
-        let token = *self.tokens.next()?;
-        let start = self.start;
-        self.start += token.len as usize;
-        Some(Piece {
-            start,
-            token,
-            text: &self.text[start..self.start],
-        })
-    }
-
-    fn size_hint(&self) -> (usize, Option<usize>) {
-        self.tokens.size_hint()
+impl<S: Stepper> fmt::Debug for LexedText<S> {
+    fn fmt(&self, f: &mut fmt::Formatter<'_>) -> fmt::Result {
+        f.debug_struct("LexedText")
+            .field("text", &self.text())
+            .field("tokens", &self.tokens())
+            .finish_non_exhaustive()
     }
 }
 
-impl ExactSizeIterator for Pieces<'_> {}
+impl Relexed {
+    /// The numbers of the tokens that were lexed, among those behind the edit.
+    ///
+    /// ```
+    /// use ra_ap_rustc_lexer::LexedText;
+    ///
+    /// let mut lexed = LexedText::new("a + b + c + d");
+    /// let relexed = lexed.edit(8..8, "x");
+    /// let written: u32 = lexed.tokens()[relexed.range()].iter().map(|token| token.len).sum();
+    /// assert_eq!(written, 4);
+    /// ```
+    pub fn range(&self) -> Range<usize> {
+        self.kept_front..self.kept_front + self.lexed
+    }
+}
 
 impl FusedIterator for Pieces<'_> {}

@@ -1,7 +1,7 @@
-//! A lexer for Rust source, behind the names, types and signatures of the compiler's own `rustc_lexer`.
+//! A lexer for Rust source, with the names, types and signatures of the compiler's own `rustc_lexer`.
 //!
-//! The lexing is done by the static library `rustc_lexer_c`, which is proved. The tokens that it writes are those of
-//! this crate, byte for byte. README.md says what differs from the original.
+//! A text goes in, tokens come out. A token is a [`TokenKind`] and a length in bytes. The lexer refuses no text: a
+//! fault, such as a comment that nothing closes, is told by the token.
 //!
 //! ```
 //! use ra_ap_rustc_lexer::{tokenize, FrontmatterAllowed, TokenKind};
@@ -10,17 +10,24 @@
 //! assert!(kinds.eq([TokenKind::Ident, TokenKind::Plus, TokenKind::Ident]));
 //! ```
 //!
-//! Beside what the original has: [`LexedText`], a text that is kept with its tokens under edits, [`tokenize_in`] for
-//! editions, [`settled`] for a text that is still being written, [`fits`] and [`starts_raw`] for what would panic,
-//! [`TokenKind::name`], and [`literal_escaper`], what literals stand for.
+//! | You want | Take |
+//! |---|---|
+//! | the tokens of a text | [`tokenize`] |
+//! | those of an older edition | [`tokenize_in`], [`tokenize_as`] |
+//! | many tokens at once, which is faster | [`Tokens::fill`] |
+//! | to take tokens one by one, and look ahead | [`Cursor`] |
+//! | a text that is edited, always with its tokens | [`LexedText`] |
+//! | the same over lists of your own | [`Relexing`] |
+//! | a text that is still coming | [`settled`] |
+//! | to test what would panic | [`fits`], [`starts_raw`] |
 //!
-//! # What an edit rests on
+//! # What is proved
 //!
-//! The contract of `rustc_lexer_relex` says of one call: if the old tokens are those of a text, in an edition, and the
-//! edit makes the present text of it, then the tokens that the call keeps and those that it writes are the tokens of
-//! the present text. `LexedText` begins with such a call for no text and no tokens, of which the premise holds; each
-//! edit that it makes is one more such call, on what the one before has left; and nothing else writes to its text or
-//! its tokens. So at all times its tokens are those of its text, in its edition.
+//! The modules below `erased` are made from a source in Rattle, which is Rust with contracts, by deleting the
+//! contracts. Of that source it is proved, for every text, that these are the only tokens which a grammar of the
+//! language allows. The rest of this crate is written by hand: it tests what those contracts ask of a caller, and
+//! gives plain Rust's forms to what takes memory. The repository's `docs/ERASED.md` says what is claimed and what is
+//! trusted.
 //!
 //! # A program that keeps the tokens of a file
 //!
@@ -31,29 +38,47 @@
 #![no_std]
 #![deny(missing_docs)]
 #![deny(unsafe_op_in_unsafe_fn)]
+#![cfg_attr(feature = "portable", forbid(unsafe_code))]
 
+#[cfg(feature = "alloc")]
 extern crate alloc;
+#[cfg(test)]
+extern crate std;
 
-mod border;
-mod classes;
 mod cursor;
-mod edition;
-mod landmarks;
-mod layout;
+// Contracts alone use some imports and variables of the source, and Clippy would write some of it otherwise.
+#[allow(missing_docs, unused_imports, unused_variables, dead_code)]
+#[allow(clippy::collapsible_if, clippy::redundant_pattern_matching)]
+#[allow(clippy::len_without_is_empty, clippy::new_without_default)]
+#[doc(hidden)]
+pub mod erased;
+#[cfg(feature = "alloc")]
 mod lexed_text;
-pub mod literal_escaper;
-mod plain;
-mod token;
+#[allow(missing_docs)]
+#[doc(hidden)]
+pub mod support;
 mod tokens;
 
-pub use classes::{
-    is_horizontal_whitespace, is_id_continue, is_id_start, is_ident, is_whitespace, UNICODE_VERSION,
+pub use cursor::Cursor;
+pub use erased::{
+    Base, Bound, Change, DocStyle, Edition, FrontmatterAllowed, GuardedStr, LiteralKind, Measured,
+    RawStrError, Record, Relexed, Relexing, Stepper, Steps, Token, TokenKind, UNICODE_VERSION,
+    UnknownEdition, fits, is_horizontal_whitespace, is_id_continue, is_id_start, is_ident,
+    is_whitespace, starts_raw,
 };
-pub use cursor::{Cursor, FrontmatterAllowed};
-pub use edition::{tokenize_in, Edition, EditionTokens};
-pub use lexed_text::{LexedText, Piece, Pieces, Relexed};
-pub use token::{Base, DocStyle, GuardedStr, LiteralKind, RawStrError, Token, TokenKind};
-pub use tokens::tokenize;
+#[cfg(feature = "alloc")]
+pub use erased::{Edit, EditStop, Piece, Pieces};
+#[cfg(feature = "alloc")]
+pub use lexed_text::LexedText;
+pub use support::AllocError;
+pub use tokens::{EditionTokens, Tokens, tokenize, tokenize_as, tokenize_in};
+
+/// The text, which has to fit.
+#[inline(always)]
+fn fitting(text: &str) -> &str {
+    assert!(fits(text), "the text has more than u32::MAX bytes");
+    text
+}
 
 /// The length of the shebang line at the front of a text, without the end of the line, if one stands there.
 ///
@@ -68,10 +93,7 @@ pub use tokens::tokenize;
 ///
 /// Where the text has more than `u32::MAX` bytes.
 pub fn strip_shebang(input: &str) -> Option<usize> {
-    match border::shebang_len(border::fitting(input)) {
-        0 => None,
-        len => Some(len),
-    }
+    erased::strip_shebang(fitting(input))
 }
 
 /// Whether the raw string that the text begins with is a good one, or why not. `prefix_len` is the length of its
@@ -89,32 +111,9 @@ pub fn strip_shebang(input: &str) -> Option<usize> {
 ///
 /// Where the text has more than `u32::MAX` bytes, or where [`starts_raw`] is false.
 pub fn validate_raw_str(input: &str, prefix_len: u32) -> Result<(), RawStrError> {
-    let error = border::raw_str_error(border::fitting(input), prefix_len)
-        .expect("a raw string begins the text");
-    token::raw_str_result(&error)
-}
-
-/// Whether character number `prefix_len` of the text, counted from 1, is an `r`: what [`validate_raw_str`] asks for.
-///
-/// ```
-/// use ra_ap_rustc_lexer::starts_raw;
-///
-/// assert!(starts_raw("br\"a\"", 2));
-/// assert!(!starts_raw("b\"a\"", 1));
-/// ```
-pub fn starts_raw(input: &str, prefix_len: u32) -> bool {
-    border::starts_raw(input, prefix_len)
-}
-
-/// Whether the text can be lexed: it has at most `u32::MAX` bytes.
-///
-/// ```
-/// use ra_ap_rustc_lexer::fits;
-///
-/// assert!(fits("fn main() {}"));
-/// ```
-pub fn fits(input: &str) -> bool {
-    u32::try_from(input.len()).is_ok()
+    let text = fitting(input);
+    assert!(starts_raw(text, prefix_len), "a raw string begins the text");
+    erased::validate_raw_str(text, prefix_len)
 }
 
 /// The end of the last token that at least two characters follow, or 0, read with `FrontmatterAllowed::No`. However
@@ -130,5 +129,5 @@ pub fn fits(input: &str) -> bool {
 ///
 /// Where the text has more than `u32::MAX` bytes.
 pub fn settled(input: &str) -> usize {
-    border::settled(border::fitting(input))
+    erased::settled(fitting(input))
 }

@@ -1,14 +1,11 @@
-//! The tokens of a text, as an iterator that fetches them by batches.
+//! The tokens of a text, as an iterator.
 
-use crate::border::{self, Batch, Place, BATCH};
-use crate::cursor::FrontmatterAllowed;
-use crate::token::{Token, TokenKind};
+use crate::{Edition, FrontmatterAllowed, Record, Token, erased, fitting};
 use core::iter::FusedIterator;
 
 /// The tokens of a text, in order.
 ///
-/// The first is taken by itself, so that a caller who needs no other pays for no other. The next 8 come together, and
-/// then 256 at a time.
+/// The lengths of the tokens sum to that of the text, and each token ends between two characters.
 ///
 /// ```
 /// use ra_ap_rustc_lexer::{tokenize, FrontmatterAllowed, TokenKind};
@@ -30,94 +27,125 @@ use core::iter::FusedIterator;
 ///
 /// Where the text has more than `u32::MAX` bytes.
 #[inline]
-pub fn tokenize(
-    input: &str,
-    frontmatter_allowed: FrontmatterAllowed,
-) -> impl Iterator<Item = Token> + '_ {
-    Tokens {
-        text: border::fitting(input),
-        place: Place {
-            at: 0,
-            frontmatter_allowed: frontmatter_allowed.number(),
-        },
-        batch: Batch::new(),
-        size: FIRST_BATCH,
-    }
+pub fn tokenize(input: &str, frontmatter_allowed: FrontmatterAllowed) -> Tokens<'_> {
+    tokenize_as(input, frontmatter_allowed, Edition::E2024)
 }
 
-/// How many tokens come in the first batch.
-const FIRST_BATCH: usize = 8;
+/// The tokens of a text, made by [`tokenize`], [`tokenize_in`] and [`tokenize_as`].
+pub struct Tokens<'a>(erased::Tokens<'a>);
 
-/// A text, the place behind the tokens that were fetched, and those of them that were not given out.
-struct Tokens<'a> {
-    text: &'a str,
-    place: Place,
-    batch: Batch,
-    /// How many tokens the next batch has.
-    size: usize,
-}
-
-impl Tokens<'_> {
-    /// The first token, by a call of its own.
+impl<'a> Tokens<'a> {
+    /// The text whose tokens were not given out yet.
+    ///
+    /// ```
+    /// use ra_ap_rustc_lexer::{tokenize, FrontmatterAllowed};
+    ///
+    /// let mut tokens = tokenize("let x", FrontmatterAllowed::No);
+    /// tokens.next();
+    /// assert_eq!(tokens.as_str(), " x");
+    /// ```
     #[inline]
-    fn first(&mut self) -> Option<Token> {
-        let token = border::first_token(self.text, self.place.frontmatter_allowed)?;
-        self.place.at = token.len;
-        if !matches!(token.kind, TokenKind::Whitespace) {
-            self.place.frontmatter_allowed = 0;
-        }
-        Some(token)
+    pub fn as_str(&self) -> &'a str {
+        self.0.as_str()
     }
 
-    /// The next batch. Whether there is any.
-    #[inline(never)]
-    fn fetch(&mut self) -> bool {
-        if self.place.at as usize == self.text.len() {
-            return false;
-        }
-        let size = self.size;
-        self.size = BATCH;
-        self.batch.fetch(self.text, &mut self.place, size)
+    /// Whether a frontmatter may stand in front of that text.
+    #[inline]
+    pub fn frontmatter_allowed(&self) -> FrontmatterAllowed {
+        self.0.frontmatter_allowed()
+    }
+
+    /// Writes the next tokens into the room, as many as are left, or as there is room for. Answers their number, which
+    /// is less than the length of the room only where no token is left.
+    ///
+    /// They are the tokens that so many calls of `next` give, and take less time.
+    ///
+    /// ```
+    /// use ra_ap_rustc_lexer::{tokenize, FrontmatterAllowed, Token, TokenKind};
+    ///
+    /// let mut room = [Token { kind: TokenKind::Eof, len: 0 }; 256];
+    /// let mut tokens = tokenize("let x = 1;", FrontmatterAllowed::No);
+    /// let mut spaces = 0;
+    /// while !tokens.as_str().is_empty() {
+    ///     let count = tokens.fill(&mut room);
+    ///     for token in &room[..count] {
+    ///         spaces += usize::from(token.kind == TokenKind::Whitespace);
+    ///     }
+    /// }
+    /// assert_eq!(spaces, 3);
+    /// ```
+    #[inline]
+    pub fn fill<R: Record>(&mut self, room: &mut [R]) -> usize {
+        self.0.fill(room)
     }
 }
 
 impl Iterator for Tokens<'_> {
     type Item = Token;
 
-    #[inline]
+    #[inline(always)]
     fn next(&mut self) -> Option<Token> {
-        if let Some(token) = self.batch.next() {
-            return Some(token);
-        }
-        if self.place.at == 0 {
-            return self.first();
-        }
-        if self.fetch() {
-            self.batch.next()
-        } else {
-            None
-        }
+        self.0.next()
     }
 
     #[inline]
     fn size_hint(&self) -> (usize, Option<usize>) {
-        let fetched = self.batch.left().len();
-        let bytes = self.text.len() - self.place.at as usize;
-        (fetched + usize::from(bytes > 0), Some(fetched + bytes))
-    }
-
-    #[inline]
-    fn fold<B, F: FnMut(B, Token) -> B>(mut self, init: B, mut f: F) -> B {
-        let mut folded = init;
-        loop {
-            for token in self.batch.left() {
-                folded = f(folded, *token);
-            }
-            if !self.fetch() {
-                return folded;
-            }
-        }
+        count_of(self.as_str())
     }
 }
 
 impl FusedIterator for Tokens<'_> {}
+
+/// The tokens of a text in an edition, in order. No frontmatter is allowed: with `Edition::E2024` they are those of
+/// [`tokenize`] with `FrontmatterAllowed::No`.
+///
+/// ```
+/// use ra_ap_rustc_lexer::{tokenize_in, Edition, TokenKind};
+///
+/// let first = |edition| tokenize_in("##", edition).next().map(|token| token.kind);
+/// assert_eq!(first(Edition::E2021), Some(TokenKind::Pound));
+/// assert_eq!(first(Edition::E2024), Some(TokenKind::GuardedStrPrefix));
+/// ```
+///
+/// # Panics
+///
+/// Where the text has more than `u32::MAX` bytes.
+#[inline]
+pub fn tokenize_in(text: &str, edition: Edition) -> EditionTokens<'_> {
+    tokenize_as(text, FrontmatterAllowed::No, edition)
+}
+
+/// Another name of [`Tokens`], for what [`tokenize_in`] makes.
+pub type EditionTokens<'a> = Tokens<'a>;
+
+/// The tokens of a text in an edition, in order, where a frontmatter may stand in front or may not. So it reads a whole
+/// document of an older edition.
+///
+/// ```
+/// use ra_ap_rustc_lexer::{tokenize_as, Edition, FrontmatterAllowed};
+///
+/// let script = "---\nedition = 2018\n---\n##";
+/// let lens = tokenize_as(script, FrontmatterAllowed::Yes, Edition::E2018).map(|token| token.len);
+/// assert!(lens.eq([22, 1, 1, 1]));
+/// ```
+///
+/// # Panics
+///
+/// Where the text has more than `u32::MAX` bytes.
+#[inline]
+pub fn tokenize_as(
+    text: &str,
+    frontmatter_allowed: FrontmatterAllowed,
+    edition: Edition,
+) -> Tokens<'_> {
+    Tokens(erased::tokenize_as(
+        fitting(text),
+        frontmatter_allowed,
+        edition,
+    ))
+}
+
+/// How many tokens a text has, at least and at most: no token is empty.
+fn count_of(text: &str) -> (usize, Option<usize>) {
+    (usize::from(!text.is_empty()), Some(text.len()))
+}

@@ -1,9 +1,9 @@
 //! The calls of the binding: what no row of tokens looks at.
 
 use ra_ap_rustc_lexer::{
-    is_horizontal_whitespace, is_id_continue, is_id_start, is_ident, is_whitespace, strip_shebang,
-    tokenize, tokenize_in, validate_raw_str, Base, Cursor, DocStyle, Edition, FrontmatterAllowed,
-    GuardedStr, LiteralKind, RawStrError, Token, TokenKind, UNICODE_VERSION,
+    Base, Cursor, DocStyle, Edition, FrontmatterAllowed, GuardedStr, LiteralKind, RawStrError,
+    Token, TokenKind, UNICODE_VERSION, is_horizontal_whitespace, is_id_continue, is_id_start,
+    is_ident, is_whitespace, strip_shebang, tokenize, tokenize_in, validate_raw_str,
 };
 
 fn guarded(n_hashes: u32, terminated: bool, token_len: u32) -> Option<GuardedStr> {

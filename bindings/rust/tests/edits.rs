@@ -1,8 +1,8 @@
 //! A text that is kept with its tokens, against lexing it from scratch and against what an edit is to keep.
 
 use ra_ap_rustc_lexer::{
-    fits, settled, starts_raw, tokenize, tokenize_in, Edition, FrontmatterAllowed, LexedText,
-    Token, TokenKind,
+    Edition, FrontmatterAllowed, LexedText, Token, TokenKind, fits, settled, starts_raw, tokenize,
+    tokenize_in,
 };
 use std::ops::Range;
 
@@ -139,7 +139,7 @@ fn check(lexed: &LexedText, context: &str) {
         let end = start + token.len as usize;
         assert_eq!(
             (piece.start, piece.token, piece.text),
-            (start, *token, &lexed.text()[start..end])
+            (start as u32, *token, &lexed.text()[start..end])
         );
         start = end;
     }
@@ -187,12 +187,15 @@ fn random_edits_of_short_texts() {
     }
 }
 
+/// Ten thousand edits of one text in each edition, or as many as the variable EDITS says.
 #[test]
-fn ten_thousand_edits_of_one_text_in_each_edition() {
+fn many_edits_of_one_text_in_each_edition() {
+    let asked = std::env::var("EDITS").map(|count| count.parse());
+    let count = asked.map_or(10_000, |count| count.expect("EDITS is a number"));
     for edition in EDITIONS {
         let mut random = Random(u64::from(edition.year()));
         let mut lexed = LexedText::new_in(random.text(200), edition);
-        for _ in 0..10_000 {
+        for _ in 0..count {
             let range = random.range(lexed.text());
             let most = if lexed.text().len() < 400 { 20 } else { 2 };
             let insert = random.text(most);

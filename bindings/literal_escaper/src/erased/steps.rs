@@ -1,0 +1,197 @@
+//! The steps over what stands between double quotes.
+
+use crate::erased::element::Element;
+use crate::erased::error::EscapeError;
+use crate::erased::escape::escape;
+use crate::erased::scan::split_first;
+use core::ops::Range;
+
+/// What is told at a place, at most two items, and what is left past it.
+pub(crate) struct Told<'a> {
+    pub(crate) first: Option<(Range<usize>, Element)>,
+    pub(crate) second: Option<(Range<usize>, Element)>,
+    pub(crate) left: &'a str,
+}
+
+/// The first items of what is left of a text of `total` bytes. None is told where none comes any more.
+pub(crate) fn advance(rest: &str, total: usize, raw: bool) -> Told<'_> {
+    let mut left = rest;
+    while let Some((c, tail)) = split_first(left) {
+        let told = step_by(raw, c, tail, total - left.len(), total);
+        if told.first.is_some() {
+            return told;
+        }
+        left = told.left;
+    }
+    Told {
+        first: None,
+        second: None,
+        left,
+    }
+}
+
+/// What is told at the character `c` of a raw string or another, as [`step`] does.
+fn step_by(raw: bool, c: char, tail: &str, start: usize, total: usize) -> Told<'_> {
+    if raw {
+        one(raw_element(c), tail, start, total)
+    } else {
+        step(c, tail, start, total)
+    }
+}
+
+/// The item at the front of what is left of a text of `total` bytes, and what is left past it.
+///
+/// It is `None` at the end of the text, and where something else than one element is told: at a line end that is
+/// skipped.
+#[inline(always)]
+pub(crate) fn first_item(
+    rest: &str,
+    total: usize,
+    raw: bool,
+) -> Option<((Range<usize>, Element), &str)> {
+    let (element, left) = first_element(rest, raw)?;
+    let range = total - rest.len()..total - left.len();
+    Some(((range, element), left))
+}
+
+/// The item at the front, where it is a plain character, and what is left past it, as [`first_item`] has them.
+#[inline(always)]
+pub(crate) fn first_plain(
+    rest: &str,
+    total: usize,
+    raw: bool,
+) -> Option<((Range<usize>, char), &str)> {
+    let (c, tail) = split_first(rest)?;
+    if !is_plain(c, raw) {
+        return None;
+    }
+    let range = total - rest.len()..total - tail.len();
+    Some(((range, c), tail))
+}
+
+/// Whether a character is plain, in a raw string or another.
+#[inline(always)]
+fn is_plain(c: char, raw: bool) -> bool {
+    if raw {
+        c != '\r'
+    } else {
+        c != '\\' && c != '"' && c != '\r'
+    }
+}
+
+/// The element at the front, and what is left past it, as [`first_item`] has them.
+#[inline(always)]
+fn first_element(rest: &str, raw: bool) -> Option<(Element, &str)> {
+    let (c, tail) = split_first(rest)?;
+    if raw {
+        return Some((raw_element(c), tail));
+    }
+    if c != '\\' {
+        return Some((unescaped(c), tail));
+    }
+    if strip_newline(tail).is_some() {
+        return None;
+    }
+    let (element, left) = escape(tail);
+    Some((element, left))
+}
+
+/// What a character of a raw string is.
+#[inline(always)]
+fn raw_element(c: char) -> Element {
+    if c == '\r' {
+        Element::Fault(EscapeError::BareCarriageReturnInRawString)
+    } else {
+        Element::Plain(c)
+    }
+}
+
+/// What is told at the character `c`, which begins at the place `start`, before `tail`.
+fn step(c: char, tail: &str, start: usize, total: usize) -> Told<'_> {
+    if c != '\\' {
+        return one(unescaped(c), tail, start, total);
+    }
+    if let Some(line) = strip_newline(tail) {
+        return line_end(line, start, total);
+    }
+    let (element, left) = escape(tail);
+    one(element, left, start, total)
+}
+
+/// One item, of the element from the place `start` up to what is left past it.
+fn one(element: Element, left: &str, start: usize, total: usize) -> Told<'_> {
+    Told {
+        first: Some((start..total - left.len(), element)),
+        second: None,
+        left,
+    }
+}
+
+/// What a character that is not escaped is between double quotes.
+#[inline(always)]
+fn unescaped(c: char) -> Element {
+    match c {
+        '"' => Element::Fault(EscapeError::EscapeOnlyChar),
+        '\r' => Element::Fault(EscapeError::BareCarriageReturn),
+        _ => Element::Plain(c),
+    }
+}
+
+/// What follows a newline, if the text begins with one.
+#[inline(always)]
+fn strip_newline(text: &str) -> Option<&str> {
+    let (c, tail) = split_first(text)?;
+    if c == '\n' { Some(tail) } else { None }
+}
+
+/// The warnings past a backslash and a newline, which begin at the place `start`.
+fn line_end(line: &str, start: usize, total: usize) -> Told<'_> {
+    let (more_lines, left) = pass_over(line);
+    let more_space = more_space(left, start, total);
+    if more_lines {
+        let lines = (
+            start..total - left.len(),
+            Element::Fault(EscapeError::MultipleSkippedLinesWarning),
+        );
+        Told {
+            first: Some(lines),
+            second: more_space,
+            left,
+        }
+    } else {
+        Told {
+            first: more_space,
+            second: None,
+            left,
+        }
+    }
+}
+
+/// Whether a newline is among the white space that is passed over, and what is left past that.
+fn pass_over(line: &str) -> (bool, &str) {
+    let mut newline = false;
+    let mut left = line;
+    while let Some((c, tail)) = split_first(left) {
+        if !is_passed_over(c) {
+            return (newline, left);
+        }
+        newline = newline | (c == '\n');
+        left = tail;
+    }
+    (newline, left)
+}
+
+/// Whether this is white space that a backslash at a line's end passes over.
+fn is_passed_over(c: char) -> bool {
+    matches!(c, '\n' | '\r' | '\t' | ' ')
+}
+
+/// The warning where white space stands next.
+fn more_space(left: &str, start: usize, total: usize) -> Option<(Range<usize>, Element)> {
+    let (c, tail) = split_first(left)?;
+    if !c.is_whitespace() {
+        return None;
+    }
+    let warning = Element::Fault(EscapeError::UnskippedWhitespaceWarning);
+    Some((start..total - tail.len(), warning))
+}

@@ -1,0 +1,204 @@
+//! Strings of every kind, by a callback.
+
+use crate::erased::element::Element;
+use crate::erased::elements::{Elements, elements_of};
+use crate::erased::error::EscapeError;
+use crate::erased::unit::{MixedUnit, NonZeroChar};
+use core::ops::Range;
+
+/// Calls `callback` with each character that a string stands for, or what is wrong, and its place in bytes.
+///
+/// `src` is what stands between the quotes. The calls are in the order of the text. A place reaches from the
+/// first byte to the one past the last, and both are between characters.
+///
+/// A backslash at the end of a line stands for nothing, and no call tells of it. Two calls may warn of the
+/// white space past it: their places begin at the backslash.
+pub fn unescape_str<F: FnMut(Range<usize>, Result<char, EscapeError>)>(src: &str, mut callback: F) {
+    each_unit::<AsChar, F>(src, false, &mut callback);
+}
+
+/// Calls `callback` with each byte that a byte string stands for, or what is wrong, and its place.
+///
+/// It is as [`unescape_str`] is.
+pub fn unescape_byte_str<F: FnMut(Range<usize>, Result<u8, EscapeError>)>(
+    src: &str,
+    mut callback: F,
+) {
+    each_unit::<AsByte, F>(src, false, &mut callback);
+}
+
+/// Calls `callback` with each unit that a C string stands for, or what is wrong, and its place.
+///
+/// It is as [`unescape_str`] is.
+pub fn unescape_c_str<F: FnMut(Range<usize>, Result<MixedUnit, EscapeError>)>(
+    src: &str,
+    mut callback: F,
+) {
+    each_unit::<AsMixedUnit, F>(src, false, &mut callback);
+}
+
+/// Calls `callback` with each character of a raw string, or what is wrong, and its place.
+///
+/// Nothing is an escape there, and only a carriage return is wrong.
+pub fn check_raw_str<F: FnMut(Range<usize>, Result<char, EscapeError>)>(
+    src: &str,
+    mut callback: F,
+) {
+    each_unit::<AsChar, F>(src, true, &mut callback);
+}
+
+/// Calls `callback` with each byte of a raw byte string, or what is wrong, and its place.
+///
+/// A carriage return is wrong, and a character that is not in ASCII.
+pub fn check_raw_byte_str<F: FnMut(Range<usize>, Result<u8, EscapeError>)>(
+    src: &str,
+    mut callback: F,
+) {
+    each_unit::<AsByte, F>(src, true, &mut callback);
+}
+
+/// Calls `callback` with each character of a raw C string, or what is wrong, and its place.
+///
+/// A carriage return is wrong, and U+0000.
+pub fn check_raw_c_str<F: FnMut(Range<usize>, Result<NonZeroChar, EscapeError>)>(
+    src: &str,
+    mut callback: F,
+) {
+    each_unit::<AsRawUnit, F>(src, true, &mut callback);
+}
+
+/// What the elements of one kind of string stand for.
+trait Meaning {
+    type Meant;
+
+    /// What an element stands for.
+    fn of(element: Element) -> Result<Self::Meant, EscapeError>;
+
+    /// What a byte of ASCII that is not 0 stands for, where it is not escaped.
+    #[inline(always)]
+    fn of_fine(byte: u8) -> Result<Self::Meant, EscapeError> {
+        Self::of(Element::Plain(byte as char))
+    }
+}
+
+/// What strings stand for: characters.
+struct AsChar;
+
+impl Meaning for AsChar {
+    type Meant = char;
+
+    #[inline(always)]
+    fn of(element: Element) -> Result<char, EscapeError> {
+        element.to_char()
+    }
+}
+
+/// What byte strings and raw ones stand for: bytes.
+struct AsByte;
+
+impl Meaning for AsByte {
+    type Meant = u8;
+
+    #[inline(always)]
+    fn of(element: Element) -> Result<u8, EscapeError> {
+        element.to_byte()
+    }
+
+    #[inline(always)]
+    fn of_fine(byte: u8) -> Result<u8, EscapeError> {
+        Ok(byte)
+    }
+}
+
+/// What C strings stand for: characters and bytes.
+struct AsMixedUnit;
+
+impl Meaning for AsMixedUnit {
+    type Meant = MixedUnit;
+
+    #[inline(always)]
+    fn of(element: Element) -> Result<MixedUnit, EscapeError> {
+        element.to_mixed_unit()
+    }
+
+    #[inline(always)]
+    fn of_fine(byte: u8) -> Result<MixedUnit, EscapeError> {
+        Ok(MixedUnit::Char(NonZeroChar::of_nonzero(byte as char)))
+    }
+}
+
+/// What raw C strings stand for: characters that are not U+0000.
+struct AsRawUnit;
+
+impl Meaning for AsRawUnit {
+    type Meant = NonZeroChar;
+
+    #[inline(always)]
+    fn of(element: Element) -> Result<NonZeroChar, EscapeError> {
+        element.to_raw_unit()
+    }
+
+    #[inline(always)]
+    fn of_fine(byte: u8) -> Result<NonZeroChar, EscapeError> {
+        Ok(NonZeroChar::of_nonzero(byte as char))
+    }
+}
+
+/// Calls `callback` with what each element of a text stands for, and its place, and for nothing else.
+///
+/// That is said of the closure as it is left here. One that is passed by value is let go at the end of its call, and no
+/// clause can speak of it there.
+#[inline(always)]
+fn each_unit<M: Meaning, F: FnMut(Range<usize>, Result<M::Meant, EscapeError>)>(
+    src: &str,
+    raw: bool,
+    callback: &mut F,
+) {
+    each_unit_in::<M, F>(elements_of(src, raw), callback);
+}
+
+/// Calls `callback` with what each of the elements stands for, and its place.
+///
+/// Plain characters have a call of their own, which the compiler makes short. Behind one of ASCII a run of simple ones
+/// is looked for, and these have a loop of their own.
+#[inline(always)]
+fn each_unit_in<M: Meaning, F: FnMut(Range<usize>, Result<M::Meant, EscapeError>)>(
+    mut elements: Elements<'_>,
+    callback: &mut F,
+) {
+    loop {
+        if let Some((range, c)) = elements.next_plain() {
+            callback(range, M::of(Element::Plain(c)));
+            if !c.is_ascii() {
+                continue;
+            }
+            let (run, end) = elements.next_simple();
+            each_simple::<M, F>(run, end, callback);
+            continue;
+        }
+        if let Some((range, element)) = elements.next_alone() {
+            callback(range, M::of(element));
+            continue;
+        }
+        let Some((range, element)) = elements.next_by_steps() else {
+            break;
+        };
+        callback(range, M::of(element));
+    }
+}
+
+/// Calls `callback` with what each of the bytes stands for, a character of its own, and its place. The last ends at
+/// `end`.
+#[inline(always)]
+fn each_simple<M: Meaning, F: FnMut(Range<usize>, Result<M::Meant, EscapeError>)>(
+    run: &[u8],
+    end: usize,
+    callback: &mut F,
+) {
+    let mut left = run;
+    while let Some((byte, tail)) = left.split_first() {
+        let range = end - left.len()..end - tail.len();
+        callback(range, M::of_fine(*byte));
+        left = tail;
+    }
+}

@@ -1,0 +1,206 @@
+//! 32 and 64 bytes at once, with the names of `std::simd`, on stable Rust: over SSE2, NEON, the vectors of WebAssembly,
+//! and elsewhere, or by the feature `portable`, eight bytes in a word. The contracts are those of `std::simd` in Rattle.
+
+#[cfg_attr(
+    all(
+        target_arch = "x86_64",
+        target_feature = "sse2",
+        not(feature = "portable")
+    ),
+    path = "simd/sse2.rs"
+)]
+#[cfg_attr(
+    all(
+        target_arch = "aarch64",
+        target_feature = "neon",
+        not(feature = "portable")
+    ),
+    path = "simd/neon.rs"
+)]
+#[cfg_attr(
+    all(
+        target_arch = "wasm32",
+        target_feature = "simd128",
+        not(feature = "portable")
+    ),
+    path = "simd/wasm.rs"
+)]
+#[cfg_attr(
+    any(
+        feature = "portable",
+        not(any(
+            all(target_arch = "x86_64", target_feature = "sse2"),
+            all(target_arch = "aarch64", target_feature = "neon"),
+            all(target_arch = "wasm32", target_feature = "simd128"),
+        ))
+    ),
+    path = "simd/words.rs"
+)]
+mod lanes;
+
+use core::ops::{BitAnd, BitOr, Sub};
+use lanes::{COUNT, Lanes};
+
+/// Bytes side by side.
+#[derive(Clone, Copy)]
+pub struct Bytes<const N: usize>([Lanes; N]);
+
+/// What a comparison of bytes side by side answers.
+#[derive(Clone, Copy)]
+pub struct Mask<const N: usize>([Lanes; N]);
+
+#[allow(non_camel_case_types)]
+pub type u8x32 = Bytes<{ 32 / COUNT }>;
+#[allow(non_camel_case_types)]
+pub type u8x64 = Bytes<{ 64 / COUNT }>;
+
+#[inline(always)]
+fn both<const N: usize>(
+    a: [Lanes; N],
+    b: [Lanes; N],
+    f: impl Fn(Lanes, Lanes) -> Lanes,
+) -> [Lanes; N] {
+    core::array::from_fn(|n| f(a[n], b[n]))
+}
+
+impl<const N: usize> Bytes<N> {
+    #[inline(always)]
+    pub fn splat(byte: u8) -> Bytes<N> {
+        Bytes([lanes::splat(byte); N])
+    }
+
+    /// The first bytes of the slice, which has as many at least.
+    #[inline(always)]
+    pub fn from_slice(bytes: &[u8]) -> Bytes<N> {
+        let bytes = &bytes[..N * COUNT];
+        Bytes(core::array::from_fn(|n| {
+            lanes::load(
+                bytes[n * COUNT..]
+                    .first_chunk()
+                    .expect("COUNT bytes are left"),
+            )
+        }))
+    }
+
+    #[inline(always)]
+    pub fn simd_eq(self, other: Bytes<N>) -> Mask<N> {
+        Mask(both(self.0, other.0, lanes::eq))
+    }
+
+    #[inline(always)]
+    pub fn simd_ne(self, other: Bytes<N>) -> Mask<N> {
+        Mask(both(self.0, other.0, |a, b| lanes::not(lanes::eq(a, b))))
+    }
+
+    #[inline(always)]
+    pub fn simd_ge(self, other: Bytes<N>) -> Mask<N> {
+        Mask(both(self.0, other.0, lanes::ge))
+    }
+
+    #[inline(always)]
+    pub fn simd_lt(self, other: Bytes<N>) -> Mask<N> {
+        Mask(both(self.0, other.0, |a, b| lanes::not(lanes::ge(a, b))))
+    }
+}
+
+impl<const N: usize> BitOr for Bytes<N> {
+    type Output = Bytes<N>;
+
+    #[inline(always)]
+    fn bitor(self, other: Bytes<N>) -> Bytes<N> {
+        Bytes(both(self.0, other.0, lanes::or))
+    }
+}
+
+/// It wraps, as in `std::simd`.
+impl<const N: usize> Sub for Bytes<N> {
+    type Output = Bytes<N>;
+
+    #[inline(always)]
+    fn sub(self, other: Bytes<N>) -> Bytes<N> {
+        Bytes(both(self.0, other.0, lanes::sub))
+    }
+}
+
+impl<const N: usize> Mask<N> {
+    /// Bit k is set where lane k is.
+    #[inline(always)]
+    pub fn to_bitmask(self) -> u64 {
+        lanes::bits(&self.0)
+    }
+}
+
+impl<const N: usize> BitOr for Mask<N> {
+    type Output = Mask<N>;
+
+    #[inline(always)]
+    fn bitor(self, other: Mask<N>) -> Mask<N> {
+        Mask(both(self.0, other.0, lanes::or))
+    }
+}
+
+impl<const N: usize> BitAnd for Mask<N> {
+    type Output = Mask<N>;
+
+    #[inline(always)]
+    fn bitand(self, other: Mask<N>) -> Mask<N> {
+        Mask(both(self.0, other.0, lanes::and))
+    }
+}
+
+#[cfg(test)]
+mod tests {
+    use super::{Bytes, COUNT, Mask, u8x32, u8x64};
+
+    /// Bit k is whether the test holds of the two bytes in lane k.
+    fn bits(a: &[u8], b: &[u8], test: impl Fn(u8, u8) -> bool) -> u64 {
+        let pairs = a.iter().zip(b).enumerate();
+        pairs.fold(0, |bits, (k, (a, b))| bits | u64::from(test(*a, *b)) << k)
+    }
+
+    /// Each pair of bytes, in each lane in turn, against the same said of one byte.
+    fn all_pairs<const N: usize>() {
+        let len = N * COUNT;
+        for apart in 0..=255u8 {
+            for from in (0..256).step_by(len) {
+                let a: std::vec::Vec<u8> = (from..from + len).map(|n| n as u8).collect();
+                let b: std::vec::Vec<u8> = a.iter().map(|n| n.wrapping_add(apart)).collect();
+                let (x, y) = (Bytes::<N>::from_slice(&a), Bytes::<N>::from_slice(&b));
+                assert_eq!(x.simd_eq(y).to_bitmask(), bits(&a, &b, |a, b| a == b));
+                assert_eq!(x.simd_ne(y).to_bitmask(), bits(&a, &b, |a, b| a != b));
+                assert_eq!(x.simd_ge(y).to_bitmask(), bits(&a, &b, |a, b| a >= b));
+                assert_eq!(x.simd_lt(y).to_bitmask(), bits(&a, &b, |a, b| a < b));
+                let seven = Bytes::splat(7);
+                let (less, joined) = ((x - y).simd_ge(seven), (x | y).simd_eq(seven));
+                assert_eq!(
+                    less.to_bitmask(),
+                    bits(&a, &b, |a, b| a.wrapping_sub(b) >= 7)
+                );
+                assert_eq!(joined.to_bitmask(), bits(&a, &b, |a, b| a | b == 7));
+                let (one, other): (Mask<N>, Mask<N>) = (x.simd_ge(y), x.simd_ge(seven));
+                let (any, both) = ((one | other).to_bitmask(), (one & other).to_bitmask());
+                assert_eq!(any, bits(&a, &b, |a, b| a >= b || a >= 7));
+                assert_eq!(both, bits(&a, &b, |a, b| a >= b && a >= 7));
+            }
+        }
+    }
+
+    #[test]
+    fn lanes_are_bytes() {
+        all_pairs::<{ 32 / COUNT }>();
+        all_pairs::<{ 64 / COUNT }>();
+        let bytes: [u8; 64] = core::array::from_fn(|n| n as u8);
+        assert_eq!(
+            u8x32::from_slice(&bytes)
+                .simd_lt(u8x32::splat(3))
+                .to_bitmask(),
+            7
+        );
+        assert_eq!(
+            u8x64::from_slice(&bytes)
+                .simd_lt(u8x64::splat(3))
+                .to_bitmask(),
+            7
+        );
+    }
+}

@@ -1,0 +1,63 @@
+//! 16 bytes at once, by NEON of aarch64.
+
+use core::arch::aarch64::*;
+
+pub type Lanes = uint8x16_t;
+pub const COUNT: usize = 16;
+
+/// What bit of its byte a lane gives.
+const WEIGHTS: [u8; 16] = [1, 2, 4, 8, 16, 32, 64, 128, 1, 2, 4, 8, 16, 32, 64, 128];
+
+// SAFETY: each intrinsic is safe where the target has NEON, and this module is built for no other.
+#[inline(always)]
+pub fn splat(byte: u8) -> Lanes {
+    unsafe { vdupq_n_u8(byte) }
+}
+
+#[inline(always)]
+pub fn load(bytes: &[u8; COUNT]) -> Lanes {
+    unsafe { vld1q_u8(bytes.as_ptr()) }
+}
+
+#[inline(always)]
+pub fn sub(a: Lanes, b: Lanes) -> Lanes {
+    unsafe { vsubq_u8(a, b) }
+}
+
+#[inline(always)]
+pub fn or(a: Lanes, b: Lanes) -> Lanes {
+    unsafe { vorrq_u8(a, b) }
+}
+
+#[inline(always)]
+pub fn and(a: Lanes, b: Lanes) -> Lanes {
+    unsafe { vandq_u8(a, b) }
+}
+
+#[inline(always)]
+pub fn not(a: Lanes) -> Lanes {
+    unsafe { vmvnq_u8(a) }
+}
+
+#[inline(always)]
+pub fn eq(a: Lanes, b: Lanes) -> Lanes {
+    unsafe { vceqq_u8(a, b) }
+}
+
+#[inline(always)]
+pub fn ge(a: Lanes, b: Lanes) -> Lanes {
+    unsafe { vcgeq_u8(a, b) }
+}
+
+#[inline(always)]
+pub fn bits(masks: &[Lanes]) -> u64 {
+    let weights = load(&WEIGHTS);
+    let weighed = |n: usize| masks.get(n).map_or(splat(0), |mask| and(*mask, weights));
+    unsafe {
+        let sums = vpaddq_u8(
+            vpaddq_u8(weighed(0), weighed(1)),
+            vpaddq_u8(weighed(2), weighed(3)),
+        );
+        vgetq_lane_u64::<0>(vreinterpretq_u64_u8(vpaddq_u8(sums, sums)))
+    }
+}

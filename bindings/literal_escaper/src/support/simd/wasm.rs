@@ -1,0 +1,56 @@
+//! 16 bytes at once, by the vectors of WebAssembly.
+
+use core::arch::wasm32::*;
+
+pub type Lanes = v128;
+pub const COUNT: usize = 16;
+
+#[inline(always)]
+pub fn splat(byte: u8) -> Lanes {
+    u8x16_splat(byte)
+}
+
+#[inline(always)]
+pub fn load(bytes: &[u8; COUNT]) -> Lanes {
+    // It asks for no alignment.
+    unsafe { v128_load(bytes.as_ptr().cast()) }
+}
+
+#[inline(always)]
+pub fn sub(a: Lanes, b: Lanes) -> Lanes {
+    u8x16_sub(a, b)
+}
+
+#[inline(always)]
+pub fn or(a: Lanes, b: Lanes) -> Lanes {
+    v128_or(a, b)
+}
+
+#[inline(always)]
+pub fn and(a: Lanes, b: Lanes) -> Lanes {
+    v128_and(a, b)
+}
+
+#[inline(always)]
+pub fn not(a: Lanes) -> Lanes {
+    v128_not(a)
+}
+
+#[inline(always)]
+pub fn eq(a: Lanes, b: Lanes) -> Lanes {
+    u8x16_eq(a, b)
+}
+
+#[inline(always)]
+pub fn ge(a: Lanes, b: Lanes) -> Lanes {
+    u8x16_ge(a, b)
+}
+
+#[inline(always)]
+pub fn bits(masks: &[Lanes]) -> u64 {
+    let mut bits = 0;
+    for (n, mask) in masks.iter().enumerate() {
+        bits |= u64::from(u8x16_bitmask(*mask)) << (COUNT * n);
+    }
+    bits
+}

@@ -1,0 +1,82 @@
+//! The units of C strings, by `NonZero` of the standard library. The proved source has types of its own for it.
+
+use crate::EscapeError;
+use crate::erased::{self, NonZeroChar};
+use core::num::NonZero;
+use core::ops::Range;
+
+/// A unit of a C string, whose text may have characters and bytes that are in none.
+#[derive(Clone, Copy, Debug, PartialEq, Eq)]
+pub enum MixedUnit {
+    /// A character, written as it is, by `\u{..}`, or by an escape for a byte below 128. It stands for its bytes in
+    /// UTF-8.
+    Char(NonZero<char>),
+    /// A byte from 128 on, written as `\x80` to `\xff`. It stands for itself.
+    HighByte(NonZero<u8>),
+}
+
+#[inline(always)]
+fn nonzero(c: NonZeroChar) -> NonZero<char> {
+    NonZero::new(c.get()).expect("it is not U+0000")
+}
+
+#[inline(always)]
+fn mixed(unit: erased::MixedUnit) -> MixedUnit {
+    match unit {
+        erased::MixedUnit::Char(c) => MixedUnit::Char(nonzero(c)),
+        erased::MixedUnit::HighByte(byte) => {
+            MixedUnit::HighByte(NonZero::new(byte.get()).expect("it is not 0"))
+        }
+    }
+}
+
+/// Calls `callback` with each unit that a C string stands for, or what is wrong, and its place in bytes.
+///
+/// It is as [`unescape_str`](crate::unescape_str) is.
+#[inline]
+pub fn unescape_c_str(
+    src: &str,
+    mut callback: impl FnMut(Range<usize>, Result<MixedUnit, EscapeError>),
+) {
+    erased::unescape_c_str(src, |range, unit| callback(range, unit.map(mixed)));
+}
+
+/// Calls `callback` with each character of a raw C string, or what is wrong, and its place in bytes.
+///
+/// A carriage return is wrong, and U+0000.
+#[inline]
+pub fn check_raw_c_str(
+    src: &str,
+    mut callback: impl FnMut(Range<usize>, Result<NonZero<char>, EscapeError>),
+) {
+    erased::check_raw_c_str(src, |range, c| callback(range, c.map(nonzero)));
+}
+
+impl From<NonZero<char>> for MixedUnit {
+    fn from(c: NonZero<char>) -> MixedUnit {
+        MixedUnit::Char(c)
+    }
+}
+
+impl From<NonZero<u8>> for MixedUnit {
+    fn from(byte: NonZero<u8>) -> MixedUnit {
+        let unit = erased::MixedUnit::try_from(byte.get());
+        mixed(unit.expect("the byte is not 0"))
+    }
+}
+
+impl TryFrom<char> for MixedUnit {
+    type Error = EscapeError;
+
+    fn try_from(c: char) -> Result<MixedUnit, EscapeError> {
+        erased::MixedUnit::try_from(c).map(mixed)
+    }
+}
+
+impl TryFrom<u8> for MixedUnit {
+    type Error = EscapeError;
+
+    fn try_from(byte: u8) -> Result<MixedUnit, EscapeError> {
+        erased::MixedUnit::try_from(byte).map(mixed)
+    }
+}

@@ -1,0 +1,258 @@
+//! What literals stand for, through the binding: the rows of the Reference and of the original's tests.
+
+use core::num::NonZero;
+use rustc_literal_escaper::EscapeError::*;
+use rustc_literal_escaper::{
+    EscapeError, MixedUnit, Mode, check_for_errors, check_raw_byte_str, check_raw_c_str,
+    check_raw_str, unescape_byte, unescape_byte_str, unescape_c_str, unescape_char, unescape_str,
+};
+use std::ops::Range;
+
+type Units<T> = Vec<(Range<usize>, Result<T, EscapeError>)>;
+
+macro_rules! units {
+    ($call:ident, $text:expr) => {{
+        let mut units = Vec::new();
+        $call($text, |range, unit| units.push((range, unit)));
+        units
+    }};
+}
+
+fn errors(text: &str, mode: Mode) -> Vec<(Range<usize>, EscapeError)> {
+    let mut errors = Vec::new();
+    check_for_errors(text, mode, |range, error| errors.push((range, error)));
+    errors
+}
+
+#[test]
+fn characters() {
+    for (text, end, want) in [
+        ("", 0, ZeroChars),
+        ("\\", 1, LoneSlash),
+        ("\n", 1, EscapeOnlyChar),
+        ("\t", 1, EscapeOnlyChar),
+        ("'", 1, EscapeOnlyChar),
+        ("\r", 1, BareCarriageReturn),
+        ("spam", 2, MoreThanOneChar),
+        ("é●", 5, MoreThanOneChar),
+        (r"\x0ff", 5, MoreThanOneChar),
+        (r"\u{0}x", 6, MoreThanOneChar),
+        ("\\\n", 2, InvalidEscape),
+        (r"\v", 2, InvalidEscape),
+        (r"\●a", 4, InvalidEscape),
+        ("\\\r", 2, InvalidEscape),
+        (r"\xf", 3, TooShortHexEscape),
+        (r"\xx", 3, InvalidCharInHexEscape),
+        (r"\x80", 4, OutOfRangeHexEscape),
+        (r"\u", 2, NoBraceInUnicodeEscape),
+        (r"\u{0x}", 5, InvalidCharInUnicodeEscape),
+        (r"\u{0", 4, UnclosedUnicodeEscape),
+        (r"\u{}", 4, EmptyUnicodeEscape),
+        (r"\u{_0}", 4, LeadingUnderscoreUnicodeEscape),
+        (r"\u{0000000}", 11, OverlongUnicodeEscape),
+        (r"\u{110000}", 10, OutOfRangeUnicodeEscape),
+        (r"\u{D800}", 8, LoneSurrogateUnicodeEscape),
+    ] {
+        assert_eq!(unescape_char(text), Err(want), "in {text:?}");
+        assert_eq!(errors(text, Mode::Char), [(0..end, want)], "in {text:?}");
+    }
+    for (text, want) in [
+        ("a", 'a'),
+        ("ы", 'ы'),
+        ("\"", '"'),
+        (r"\n", '\n'),
+        (r"\'", '\''),
+        (r"\0", '\0'),
+        (r"\x7f", '\x7f'),
+        (r"\u{1F63b}", '😻'),
+        (r"\u{1_F_6__3_b__}", '😻'),
+    ] {
+        assert_eq!(unescape_char(text), Ok(want), "in {text:?}");
+        assert_eq!(errors(text, Mode::Char), [], "in {text:?}");
+    }
+}
+
+#[test]
+fn bytes() {
+    for (text, want) in [
+        ("a", Ok(b'a')),
+        (r"\xFF", Ok(255)),
+        ("é", Err(NonAsciiCharInByte)),
+        (r"\u{41}", Err(UnicodeEscapeInByte)),
+        (r"\u{}", Err(EmptyUnicodeEscape)),
+        ("ab", Err(MoreThanOneChar)),
+    ] {
+        assert_eq!(unescape_byte(text), want, "in {text:?}");
+    }
+    assert_eq!(
+        errors("é", Mode::Byte),
+        [(0..2, EscapeError::NonAsciiCharInByte)]
+    );
+}
+
+#[test]
+fn strings() {
+    let none: Units<char> = Vec::new();
+    assert_eq!(units!(unescape_str, ""), none);
+    assert_eq!(
+        units!(unescape_str, "a\\t\\\n  b\"\r"),
+        [
+            (0..1, Ok('a')),
+            (1..3, Ok('\t')),
+            (7..8, Ok('b')),
+            (8..9, Err(EscapeOnlyChar)),
+            (9..10, Err(BareCarriageReturn)),
+        ]
+    );
+    assert_eq!(
+        units!(unescape_str, "\\\n\n\u{a0}"),
+        [
+            (0..3, Err(MultipleSkippedLinesWarning)),
+            (0..5, Err(UnskippedWhitespaceWarning)),
+            (3..5, Ok('\u{a0}')),
+        ]
+    );
+    assert_eq!(
+        units!(unescape_byte_str, r"\xffé\u{41}"),
+        [
+            (0..4, Ok(255)),
+            (4..6, Err(NonAsciiCharInByte)),
+            (6..12, Err(UnicodeEscapeInByte)),
+        ]
+    );
+    let char = |c| Ok(MixedUnit::Char(NonZero::new(c).unwrap()));
+    assert_eq!(
+        units!(unescape_c_str, r"é\xff\x41\0"),
+        [
+            (0..2, char('é')),
+            (2..6, Ok(MixedUnit::HighByte(NonZero::new(255).unwrap()))),
+            (6..10, char('A')),
+            (10..12, Err(NulInCStr)),
+        ]
+    );
+    assert_eq!(
+        units!(check_raw_str, "\\n\r"),
+        [
+            (0..1, Ok('\\')),
+            (1..2, Ok('n')),
+            (2..3, Err(BareCarriageReturnInRawString)),
+        ]
+    );
+    assert_eq!(
+        units!(check_raw_byte_str, "aé"),
+        [(0..1, Ok(b'a')), (1..3, Err(NonAsciiCharInByte))]
+    );
+    assert_eq!(
+        units!(check_raw_c_str, "é\0"),
+        [
+            (0..2, Ok(NonZero::new('é').unwrap())),
+            (2..3, Err(NulInCStr)),
+        ]
+    );
+    assert_eq!(errors(r"a\0", Mode::CStr), [(1..3, NulInCStr)]);
+    assert_eq!(
+        errors("a\r", Mode::RawStr),
+        [(1..2, BareCarriageReturnInRawString)]
+    );
+}
+
+/// Literals with as many units as cross at once, one less and more.
+#[test]
+fn long_strings() {
+    for count in [127, 128, 129, 1000] {
+        let text = r"\n".repeat(count);
+        let want: Units<char> = (0..count)
+            .map(|at| (2 * at..2 * at + 2, Ok('\n')))
+            .collect();
+        assert_eq!(units!(unescape_str, &text), want);
+    }
+}
+
+/// What is no simple character, wherever among simple ones it stands: these are handed on without the library.
+#[test]
+fn plain_text_around() {
+    for before in 0..20 {
+        let text = |x: &str| "a".repeat(before) + x + &"b".repeat(20);
+        let around = |x: &str, unit: Result<char, EscapeError>| {
+            let end = before + x.len();
+            let mut units: Units<char> = (0..before).map(|at| (at..at + 1, Ok('a'))).collect();
+            units.push((before..end, unit));
+            units.extend((end..end + 20).map(|at| (at..at + 1, Ok('b'))));
+            units
+        };
+        for (x, in_string, in_raw_string) in [
+            ("\"", Err(EscapeOnlyChar), Ok('"')),
+            (
+                "\r",
+                Err(BareCarriageReturn),
+                Err(BareCarriageReturnInRawString),
+            ),
+            ("\0", Ok('\0'), Ok('\0')),
+            ("\x7f", Ok('\x7f'), Ok('\x7f')),
+            ("\u{80}", Ok('\u{80}'), Ok('\u{80}')),
+            ("●", Ok('●'), Ok('●')),
+        ] {
+            assert_eq!(
+                units!(unescape_str, &text(x)),
+                around(x, in_string),
+                "behind {before}"
+            );
+            assert_eq!(
+                units!(check_raw_str, &text(x)),
+                around(x, in_raw_string),
+                "behind {before}"
+            );
+        }
+        for x in [r"\n", r"\x0a", r"\u{a}"] {
+            assert_eq!(
+                units!(unescape_str, &text(x)),
+                around(x, Ok('\n')),
+                "behind {before}"
+            );
+        }
+        let wrong = |units: Units<u8>| units.iter().position(|unit| unit.1.is_err());
+        assert_eq!(wrong(units!(unescape_byte_str, &text("é"))), Some(before));
+        assert_eq!(wrong(units!(check_raw_byte_str, &text("é"))), Some(before));
+        let nul = units!(unescape_c_str, &text("\0"));
+        assert_eq!(nul[before], (before..before + 1, Err(NulInCStr)));
+        let nul = units!(check_raw_c_str, &text("\0"));
+        assert_eq!(nul[before], (before..before + 1, Err(NulInCStr)));
+    }
+}
+
+/// Two warnings of one place, wherever among those that cross at once they stand: they are parted nowhere.
+#[test]
+fn warnings_of_long_strings() {
+    for before in 0..100 {
+        let at = 2 * before;
+        let text = r"\n".repeat(before) + "\\\n\n\u{a0}" + &"b".repeat(200);
+        let mut want: Units<char> = (0..before).map(|n| (2 * n..2 * n + 2, Ok('\n'))).collect();
+        want.push((at..at + 3, Err(MultipleSkippedLinesWarning)));
+        want.push((at..at + 5, Err(UnskippedWhitespaceWarning)));
+        want.push((at + 3..at + 5, Ok('\u{a0}')));
+        want.extend((at + 5..at + 205).map(|at| (at..at + 1, Ok('b'))));
+        assert_eq!(units!(unescape_str, &text), want, "behind {before}");
+    }
+    for before in 0..2 {
+        let text = r"\q".repeat(before) + &"\\\n\n\u{a0}".repeat(150);
+        assert_eq!(
+            errors(&text, Mode::Str).len(),
+            before + 300,
+            "behind {before}"
+        );
+    }
+}
+
+#[test]
+fn modes_and_units() {
+    assert!(!Mode::Byte.in_double_quotes() && Mode::RawCStr.in_double_quotes());
+    assert_eq!(Mode::RawByteStr.prefix_noraw(), "b");
+    assert!(!UnskippedWhitespaceWarning.is_fatal() && NulInCStr.is_fatal());
+    assert_eq!(MixedUnit::try_from('\0'), Err(NulInCStr));
+    assert_eq!(MixedUnit::try_from(0u8), Err(NulInCStr));
+    assert_eq!(MixedUnit::try_from(b'a'), MixedUnit::try_from('a'));
+    assert_eq!(
+        MixedUnit::try_from(128u8),
+        Ok(MixedUnit::HighByte(NonZero::new(128).unwrap()))
+    );
+}

@@ -1,0 +1,12 @@
+//! The ends of a program: readers and writers that tell how they failed, what is read and written over them, and the
+//! words of the command line.
+
+mod reading;
+mod watched;
+mod words;
+mod writing;
+
+pub use reading::{ReadStop, read_all};
+pub use watched::{Watched, is_closed};
+pub use words::past_name;
+pub use writing::{WriteStop, write_all, write_bytes};

@@ -1,0 +1,40 @@
+//! All that a reader gives.
+use rattle_std::prelude::Vec;
+
+use crate::watched::Watched;
+use rattle_std::alloc::Global;
+use rattle_std::io::Read;
+
+/// Why reading stops before the end of the input.
+#[derive(Clone, Copy, Debug, PartialEq, Eq)]
+pub enum ReadStop {
+    /// The input has more than `u32::MAX` bytes.
+    TooLong,
+    /// A request for memory was refused.
+    Memory,
+    /// The reader failed.
+    Failed,
+}
+
+/// How many bytes a read asks for.
+const PIECE: usize = 65536;
+
+/// All bytes up to the end of the input, of which there are at most `u32::MAX`.
+pub fn read_all<R: Read>(alloc: Global, input: &mut Watched<R>) -> Result<Vec<u8>, ReadStop> {
+    let mut bytes = Vec::new(alloc);
+    let mut piece = [0u8; PIECE];
+    loop {
+        let Ok(count) = input.read(&mut piece) else {
+            return Err(ReadStop::Failed);
+        };
+        if count == 0 {
+            return Ok(bytes);
+        }
+        if count > u32::MAX as usize - bytes.len() {
+            return Err(ReadStop::TooLong);
+        }
+        if bytes.extend_from_slice(&piece[..count]).is_err() {
+            return Err(ReadStop::Memory);
+        }
+    }
+}

@@ -1,0 +1,17 @@
+//! The words of the command line.
+use rattle_std::prelude::String;
+
+use rattle_std::prelude::Vec;
+
+use rattle_std::alloc::{AllocError, Global};
+use rattle_std::env::Args;
+
+/// The words after the first, which is the program's name.
+pub fn past_name(alloc: Global, mut args: Args) -> Result<Vec<String>, AllocError> {
+    let _ = args.next();
+    let mut words = Vec::new(alloc);
+    while let Some(word) = args.next() {
+        words.push(word)?;
+    }
+    Ok(words)
+}

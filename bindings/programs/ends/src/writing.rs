@@ -1,0 +1,47 @@
+//! Bytes that are written, all of them or a beginning.
+
+use crate::watched::{Watched, is_closed};
+use rattle_std::io::{Error, Write};
+
+/// Why writing stops.
+#[derive(Clone, Copy, Debug, PartialEq, Eq)]
+pub enum WriteStop {
+    /// The writer failed, or took nothing of what it was given.
+    Failed,
+    /// Nobody reads what is written any more.
+    ClosedPipe,
+}
+
+/// Writes all of the bytes, and flushes.
+pub fn write_all<W: Write>(output: &mut Watched<W>, bytes: &[u8]) -> Result<(), WriteStop> {
+    write_bytes(output, bytes)?;
+    match output.flush() {
+        Ok(()) => Ok(()),
+        Err(error) => Err(write_stop(&error)),
+    }
+}
+
+/// Writes all of the bytes.
+pub fn write_bytes<W: Write>(output: &mut Watched<W>, bytes: &[u8]) -> Result<(), WriteStop> {
+    let mut rest = bytes;
+    while !rest.is_empty() {
+        let count = match output.write(rest) {
+            Ok(count) => count,
+            Err(error) => return Err(write_stop(&error)),
+        };
+        if count == 0 {
+            return Err(WriteStop::Failed);
+        }
+        rest = &rest[count..];
+    }
+    Ok(())
+}
+
+/// Why writing stops where the writer answers an error.
+fn write_stop(error: &Error) -> WriteStop {
+    if is_closed(error) {
+        WriteStop::ClosedPipe
+    } else {
+        WriteStop::Failed
+    }
+}

@@ -1,0 +1,84 @@
+//! The whole program, over any ends.
+use rattle_std::prelude::String;
+
+use crate::job::{Job, read_job};
+use crate::report::report;
+use crate::run::{put, run};
+use crate::stop::Stop;
+use ends::{Watched, past_name};
+use rattle_std::alloc::Global;
+use rattle_std::env::{Args, VarError};
+use rattle_std::io::{Read, Write};
+
+/// What the program takes.
+const HELP: &str = "highlight < FILE           writes a Rust source in the colours of a terminal
+highlight --html < FILE    writes it as a page
+highlight --help           writes these lines
+With --edition YEAR the source is read as Rust of 2015, 2018, 2021 or 2024.
+With --color always there are colours, with --color never there are none, and with --color auto there are colours
+where the output is a terminal and NO_COLOR is not set, or empty. That is so too where --color is not given.
+Options stand in any order, each once. A page has its own colours, whatever --color says.
+A token with a fault is underlined in its first line, with a sentence behind it that says what is wrong.
+";
+
+/// What a process is started with.
+pub struct Start {
+    /// The arguments, which begin with the program's name; `None` where they could not be had.
+    pub args: Option<Args>,
+    /// The value of `NO_COLOR`.
+    pub no_color: Result<String, VarError>,
+    /// Whether the output is a terminal.
+    pub is_terminal: bool,
+}
+
+/// The whole program: reads its arguments and its input, writes to its output, tells what stopped it, and answers its
+/// status.
+pub fn program<R: Read, W: Write, E: Write>(
+    alloc: Global,
+    start: Start,
+    input: &mut Watched<R>,
+    output: &mut Watched<W>,
+    errors: &mut Watched<E>,
+) -> u8 {
+    let outcome = show(alloc, start, input, output);
+    report(&outcome, errors)
+}
+
+/// Reads the arguments, and then does what they ask for.
+fn show<R: Read, W: Write>(
+    alloc: Global,
+    start: Start,
+    input: &mut Watched<R>,
+    output: &mut Watched<W>,
+) -> Result<(), Stop> {
+    let Start {
+        args,
+        no_color,
+        is_terminal,
+    } = start;
+    let Some(args) = args else {
+        return Err(Stop::Memory);
+    };
+    let Ok(words) = past_name(alloc, args) else {
+        return Err(Stop::Memory);
+    };
+    let Some(colours) = wants_colours(&no_color, is_terminal) else {
+        return Err(Stop::Memory);
+    };
+    match read_job(words.as_slice(), colours) {
+        Some(Job::Show { style, edition }) => run(alloc, style, edition, input, output),
+        Some(Job::Help) => put(output, HELP.as_bytes()),
+        None => Err(Stop::Arguments),
+    }
+}
+
+/// Whether colours are written where the words do not say, by the value of `NO_COLOR`; `None` where memory for that
+/// value was refused.
+fn wants_colours(no_color: &Result<String, VarError>, is_terminal: bool) -> Option<bool> {
+    match no_color {
+        Ok(value) => Some(value.as_str().is_empty() && is_terminal),
+        Err(VarError::NotPresent) => Some(is_terminal),
+        Err(VarError::NotUnicode) => Some(false),
+        Err(VarError::OutOfMemory) => None,
+    }
+}

@@ -1,0 +1,20 @@
+//! What is told of a run that stopped, and its status.
+
+use crate::run::put;
+use crate::stop::{Stop, line, status};
+use ends::Watched;
+use rattle_std::io::Write;
+
+/// Writes the line of the stop, if any, flushes, and answers the status of the program.
+///
+/// What goes out is all of the line where the writer does not fail, else a beginning of it. The status is the same.
+pub fn report<E: Write>(outcome: &Result<(), Stop>, errors: &mut Watched<E>) -> u8 {
+    match outcome {
+        Ok(()) => 0,
+        Err(stop) => {
+            // Where this line can't be written there is nobody to tell.
+            let _ = put(errors, line(stop).as_bytes());
+            status(stop)
+        }
+    }
+}

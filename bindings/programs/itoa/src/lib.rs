@@ -1,0 +1,79 @@
+//! What `lexdump` takes of Rattle's `itoa`. Written by hand, and trusted: each item is to do what the contract of its
+//! namesake says.
+
+#![forbid(unsafe_code)]
+
+/// The digits of 0 to 99, two each.
+const PAIRS: [[u8; 2]; 100] = {
+    let mut pairs = [[b'0'; 2]; 100];
+    let mut n = 0;
+    while n < 100 {
+        pairs[n] = [b'0' + n as u8 / 10, b'0' + n as u8 % 10];
+        n += 1;
+    }
+    pairs
+};
+
+/// Writes the digits of a number, in decimal and without leading zeros, so that they end before the place `end`, and
+/// answers where they start. All else stays as it was. They have to fit.
+#[inline]
+pub fn write_digits(n: u64, buf: &mut [u8], end: usize) -> usize {
+    let (mut left, mut at) = (n, end);
+    while left >= 100 {
+        at -= 2;
+        buf[at..at + 2].copy_from_slice(&PAIRS[(left % 100) as usize]);
+        left /= 100;
+    }
+    if left >= 10 {
+        at -= 2;
+        buf[at..at + 2].copy_from_slice(&PAIRS[left as usize]);
+    } else {
+        at -= 1;
+        buf[at] = b'0' + left as u8;
+    }
+    at
+}
+
+/// The most digits of a `u64`.
+const ROOM: usize = 20;
+
+/// Room for the digits of a number.
+pub struct Buffer([u8; ROOM]);
+
+impl Buffer {
+    /// Room in which nothing was written yet.
+    #[allow(clippy::new_without_default)]
+    pub fn new() -> Buffer {
+        Buffer([0; ROOM])
+    }
+
+    /// The number in decimal, without leading zeros.
+    pub fn format(&mut self, n: usize) -> &str {
+        let start = write_digits(n as u64, &mut self.0, ROOM);
+        str::from_utf8(&self.0[start..]).expect("digits are text")
+    }
+}
+
+#[cfg(test)]
+mod tests {
+    use super::*;
+
+    #[test]
+    fn digits_are_those_that_rust_writes() {
+        let powers = (0..20).map(|power| 10u64.pow(power));
+        let near = powers.flat_map(|n| [n - 1, n, n + 1, n.saturating_mul(9)]);
+        for n in near.chain(0..20_000).chain([u64::MAX, u64::from(u32::MAX)]) {
+            let wanted = n.to_string();
+            assert_eq!(Buffer::new().format(n as usize), wanted);
+            let mut buf = [b'x'; 22];
+            let start = write_digits(n, &mut buf, 21);
+            assert_eq!(buf[start..21], *wanted.as_bytes());
+            assert!(
+                buf[..start]
+                    .iter()
+                    .chain(&buf[21..])
+                    .all(|byte| *byte == b'x')
+            );
+        }
+    }
+}

@@ -1,0 +1,110 @@
+//! What a run is to do.
+use rattle_std::prelude::String;
+
+use rattle_std::prelude::Vec;
+
+use crate::fault::Fault;
+use rattle_std::alloc::{AllocError, Global};
+use rattle_std::str::FromStr;
+use rustc_lexer::erased::{Edit, Edition};
+
+/// What a run is to do with its input.
+pub enum Job<'a> {
+    /// List the tokens of the text in an edition.
+    Plain { edition: Edition },
+    /// List them, where a frontmatter may stand in front.
+    Front { edition: Edition },
+    /// Tell the length of the shebang line.
+    Shebang,
+    /// List the tokens of the text after the edits, in an edition.
+    Edit {
+        edition: Edition,
+        edits: Vec<Edit<'a>>,
+    },
+}
+
+/// Reads the words after the program's name. It asks for memory only for edits, and only once all words are
+/// known to be good.
+pub fn read_job<'a>(alloc: Global, words: &'a [String]) -> Result<Job<'a>, Fault> {
+    match words {
+        [command] if command.as_str() == "shebang" => Ok(Job::Shebang),
+        [option, year, rest @ ..] if option.as_str() == "--edition" => {
+            let Ok(edition) = Edition::from_str(year.as_str()) else {
+                return Err(Fault::Arguments);
+            };
+            read_job_in(alloc, rest, edition)
+        }
+        _ => read_job_in(alloc, words, Edition::E2024),
+    }
+}
+
+/// Reads the words of a job that lists the tokens of an edition.
+fn read_job_in<'a>(alloc: Global, words: &'a [String], edition: Edition) -> Result<Job<'a>, Fault> {
+    match words {
+        [] => Ok(Job::Plain { edition }),
+        [command] if command.as_str() == "front" => Ok(Job::Front { edition }),
+        [command, edits @ ..] if command.as_str() == "edit" => read_edit_job(alloc, edits, edition),
+        _ => Err(Fault::Arguments),
+    }
+}
+
+/// Reads the words after `edit`.
+fn read_edit_job<'a>(
+    alloc: Global,
+    words: &'a [String],
+    edition: Edition,
+) -> Result<Job<'a>, Fault> {
+    if !are_edits(words) {
+        return Err(Fault::Arguments);
+    }
+    Ok(Job::Edit {
+        edition,
+        edits: read_edits(alloc, words)?,
+    })
+}
+
+/// Whether the words are one edit or more, three words each.
+fn are_edits(words: &[String]) -> bool {
+    let mut rest = words;
+    while let Some((_, after)) = first_edit(rest) {
+        rest = after;
+    }
+    rest.is_empty() && !words.is_empty()
+}
+
+/// The edits that the words write.
+fn read_edits<'a>(alloc: Global, words: &'a [String]) -> Result<Vec<Edit<'a>>, AllocError> {
+    let mut edits = Vec::new(alloc);
+    let mut rest = words;
+    while let Some((edit, after)) = first_edit(rest) {
+        edits.push(edit)?;
+        rest = after;
+    }
+    Ok(edits)
+}
+
+/// The edit that the first three words write, and the words after them.
+fn first_edit<'a>(words: &'a [String]) -> Option<(Edit<'a>, &'a [String])> {
+    let [start, stop, insert, rest @ ..] = words else {
+        return None;
+    };
+    let edit = Edit {
+        start: read_place(start.as_str())?,
+        stop: read_place(stop.as_str())?,
+        insert: insert.as_str(),
+    };
+    Some((edit, rest))
+}
+
+/// The most digits that a place is written by.
+const MOST_DIGITS: usize = 10;
+
+/// The place that a word writes.
+fn read_place(word: &str) -> Option<usize> {
+    // A sign is no digit, though `parse` takes a plus.
+    if word.len() > MOST_DIGITS || word.starts_with('+') {
+        return None;
+    }
+    let place: u32 = word.parse().ok()?;
+    Some(place as usize)
+}

@@ -1,0 +1,12 @@
+//! What the program `lexdump` does, over any ends: it prints the tokens of a Rust source, one a line.
+
+mod fault;
+mod job;
+mod listing;
+mod output;
+pub mod program;
+pub mod report;
+pub mod run;
+
+pub use fault::{Fault, status};
+pub use job::{Job, read_job};

@@ -1,0 +1,364 @@
+//! The listing of tokens: a line for each, with its start, its length, its kind and the fields of that.
+
+use crate::fault::Fault;
+use crate::output::Block;
+use ends::Watched;
+use itoa::write_digits;
+use rattle_std::alloc::Global;
+use rattle_std::io::Write;
+use rustc_lexer::erased::{
+    Base, DocStyle, Edit, Edition, FrontmatterAllowed, LexedText, LiteralKind, Stepper, Steps,
+    Token, TokenKind, strip_shebang, tokenize_as,
+};
+
+/// How many tokens are read at once.
+const ROOM: usize = 256;
+
+/// A room in which no token was written yet.
+fn new_room() -> [Token; ROOM] {
+    [Token {
+        kind: TokenKind::Eof,
+        len: 0,
+    }; ROOM]
+}
+
+/// Lists the tokens of a text, which has at most `u32::MAX` bytes, in an edition.
+pub fn list_tokens<W: Write>(
+    lines: &mut Block,
+    output: &mut Watched<W>,
+    text: &str,
+    frontmatter_allowed: FrontmatterAllowed,
+    edition: Edition,
+) -> Result<(), Fault> {
+    let mut room = new_room();
+    let mut tokens = tokenize_as(text, frontmatter_allowed, edition);
+    while !tokens.as_str().is_empty() {
+        let start = text.len() - tokens.as_str().len();
+        let count = tokens.fill(&mut room);
+        push_lines(lines, output, start as u32, &room[..count])?;
+    }
+    Ok(())
+}
+
+/// Adds the lines of tokens, of which the first begins at the byte `start`.
+fn push_lines<W: Write>(
+    lines: &mut Block,
+    output: &mut Watched<W>,
+    start: u32,
+    tokens: &[Token],
+) -> Result<(), Fault> {
+    let mut place = start;
+    for token in tokens {
+        push_line(lines, output, place, *token)?;
+        place += token.len;
+    }
+    Ok(())
+}
+
+/// Tells the length of the shebang line of a text.
+pub fn tell_shebang<W: Write>(
+    lines: &mut Block,
+    output: &mut Watched<W>,
+    text: &str,
+) -> Result<(), Fault> {
+    match strip_shebang(text) {
+        Some(length) => {
+            lines.push_number(output, length)?;
+            lines.push(output, "\n")
+        }
+        None => lines.push(output, "none\n"),
+    }
+}
+
+/// The text after the edits, with its tokens in an edition.
+pub fn edited(
+    alloc: Global,
+    text: &str,
+    edition: Edition,
+    edits: &[Edit<'_>],
+) -> Result<LexedText<Steps>, Fault> {
+    let mut lexed = LexedText::new_in(alloc, text, edition)?;
+    lexed.edit_all(edits)?;
+    Ok(lexed)
+}
+
+/// Lists the tokens of a text that is kept with them.
+pub fn list_pieces<W: Write, S: Stepper>(
+    lines: &mut Block,
+    output: &mut Watched<W>,
+    lexed: &LexedText<S>,
+) -> Result<(), Fault> {
+    for piece in lexed.pieces() {
+        push_line(lines, output, piece.start, piece.token)?;
+    }
+    Ok(())
+}
+
+/// Adds the line of a token that begins at the byte `start`.
+fn push_line<W: Write>(
+    lines: &mut Block,
+    output: &mut Watched<W>,
+    start: u32,
+    token: Token,
+) -> Result<(), Fault> {
+    push_place(lines, output, start, token.len)?;
+    match rest_of_line(token.kind) {
+        Rest::Line(line) => lines.push(output, line),
+        Rest::Name(name) => {
+            lines.push(output, name)?;
+            push_fields(lines, output, token.kind)
+        }
+    }
+}
+
+/// The most bytes of a start, a length and the space after each.
+const PLACE: usize = 22;
+
+/// Adds the start and the length of a token, and a space after each.
+fn push_place<W: Write>(
+    lines: &mut Block,
+    output: &mut Watched<W>,
+    start: u32,
+    len: u32,
+) -> Result<(), Fault> {
+    // Written from the last byte to the first.
+    let mut place = [b' '; PLACE];
+    let len_at = write_digits(u64::from(len), &mut place, PLACE - 1);
+    let start_at = write_digits(u64::from(start), &mut place, len_at - 1);
+    lines.push_bytes(output, &place[start_at..])
+}
+
+/// What stands in a line after the token's length.
+#[derive(Clone, Copy)]
+enum Rest {
+    /// The name of a kind that has no fields, and the end of the line.
+    Line(&'static str),
+    /// The name of a kind that has fields.
+    Name(&'static str),
+}
+
+/// What stands in the line of a kind after the token's length.
+fn rest_of_line(kind: TokenKind) -> Rest {
+    match kind {
+        TokenKind::LineComment { .. } => Rest::Name("LineComment"),
+        TokenKind::BlockComment { .. } => Rest::Name("BlockComment"),
+        TokenKind::Frontmatter { .. } => Rest::Name("Frontmatter"),
+        TokenKind::Literal { .. } => Rest::Name("Literal"),
+        TokenKind::Lifetime { .. } => Rest::Name("Lifetime"),
+        TokenKind::Whitespace => Rest::Line("Whitespace\n"),
+        TokenKind::Ident => Rest::Line("Ident\n"),
+        TokenKind::InvalidIdent => Rest::Line("InvalidIdent\n"),
+        TokenKind::RawIdent => Rest::Line("RawIdent\n"),
+        TokenKind::ForcedKeywordIdent => Rest::Line("ForcedKeywordIdent\n"),
+        TokenKind::UnknownPrefix => Rest::Line("UnknownPrefix\n"),
+        TokenKind::UnknownPrefixLifetime => Rest::Line("UnknownPrefixLifetime\n"),
+        TokenKind::RawLifetime => Rest::Line("RawLifetime\n"),
+        TokenKind::GuardedStrPrefix => Rest::Line("GuardedStrPrefix\n"),
+        TokenKind::Semi => Rest::Line("Semi\n"),
+        TokenKind::Comma => Rest::Line("Comma\n"),
+        TokenKind::Dot => Rest::Line("Dot\n"),
+        TokenKind::OpenParen => Rest::Line("OpenParen\n"),
+        TokenKind::CloseParen => Rest::Line("CloseParen\n"),
+        TokenKind::OpenBrace => Rest::Line("OpenBrace\n"),
+        TokenKind::CloseBrace => Rest::Line("CloseBrace\n"),
+        TokenKind::OpenBracket => Rest::Line("OpenBracket\n"),
+        TokenKind::CloseBracket => Rest::Line("CloseBracket\n"),
+        TokenKind::At => Rest::Line("At\n"),
+        TokenKind::Pound => Rest::Line("Pound\n"),
+        TokenKind::Tilde => Rest::Line("Tilde\n"),
+        TokenKind::Question => Rest::Line("Question\n"),
+        TokenKind::Colon => Rest::Line("Colon\n"),
+        TokenKind::Dollar => Rest::Line("Dollar\n"),
+        TokenKind::Eq => Rest::Line("Eq\n"),
+        TokenKind::Bang => Rest::Line("Bang\n"),
+        TokenKind::Lt => Rest::Line("Lt\n"),
+        TokenKind::Gt => Rest::Line("Gt\n"),
+        TokenKind::Minus => Rest::Line("Minus\n"),
+        TokenKind::And => Rest::Line("And\n"),
+        TokenKind::Or => Rest::Line("Or\n"),
+        TokenKind::Plus => Rest::Line("Plus\n"),
+        TokenKind::Star => Rest::Line("Star\n"),
+        TokenKind::Slash => Rest::Line("Slash\n"),
+        TokenKind::Caret => Rest::Line("Caret\n"),
+        TokenKind::Percent => Rest::Line("Percent\n"),
+        TokenKind::Unknown => Rest::Line("Unknown\n"),
+        TokenKind::Eof => Rest::Line("Eof\n"),
+    }
+}
+
+/// A field: what stands before its value, and the value.
+#[derive(Clone, Copy)]
+struct Field {
+    label: &'static str,
+    value: Value,
+}
+
+/// The value of a field.
+#[derive(Clone, Copy)]
+enum Value {
+    Text(&'static str),
+    Number(u32),
+}
+
+/// A place where no field stands.
+const NONE: Field = Field {
+    label: "",
+    value: Value::Text(""),
+};
+
+/// Adds the fields of a kind, each after a space, and the end of the line.
+fn push_fields<W: Write>(
+    lines: &mut Block,
+    output: &mut Watched<W>,
+    kind: TokenKind,
+) -> Result<(), Fault> {
+    let (first, second, third) = fields(kind);
+    push_field(lines, output, first)?;
+    push_field(lines, output, second)?;
+    push_field(lines, output, third)?;
+    lines.push(output, "\n")
+}
+
+/// Adds a field.
+fn push_field<W: Write>(
+    lines: &mut Block,
+    output: &mut Watched<W>,
+    field: Field,
+) -> Result<(), Fault> {
+    lines.push(output, field.label)?;
+    match field.value {
+        Value::Text(text) => lines.push(output, text),
+        Value::Number(number) => lines.push_number(output, number as usize),
+    }
+}
+
+/// The fields of a kind, of which there are at most three.
+fn fields(kind: TokenKind) -> (Field, Field, Field) {
+    match kind {
+        TokenKind::LineComment { doc_style } => {
+            (text_field(" doc_style=", style_name(doc_style)), NONE, NONE)
+        }
+        TokenKind::BlockComment {
+            doc_style,
+            terminated,
+        } => (
+            text_field(" doc_style=", style_name(doc_style)),
+            text_field(" terminated=", bool_name(terminated)),
+            NONE,
+        ),
+        TokenKind::Frontmatter {
+            has_invalid_preceding_whitespace,
+            invalid_infostring,
+        } => (
+            text_field(
+                " has_invalid_preceding_whitespace=",
+                bool_name(has_invalid_preceding_whitespace),
+            ),
+            text_field(" invalid_infostring=", bool_name(invalid_infostring)),
+            NONE,
+        ),
+        TokenKind::Literal { kind, suffix_start } => {
+            let (first, second) = literal_fields(kind);
+            let suffix_start = Field {
+                label: " suffix_start=",
+                value: Value::Number(suffix_start),
+            };
+            (first, second, suffix_start)
+        }
+        TokenKind::Lifetime { starts_with_number } => (
+            text_field(" starts_with_number=", bool_name(starts_with_number)),
+            NONE,
+            NONE,
+        ),
+        _ => (NONE, NONE, NONE),
+    }
+}
+
+/// The field that tells the kind of a literal, and its own fields, of which there are at most two.
+fn literal_fields(kind: LiteralKind) -> (Field, Field) {
+    match kind {
+        LiteralKind::Int { base, empty_int } => (
+            text_field(" kind=Int base=", base_name(base)),
+            text_field(" empty_int=", bool_name(empty_int)),
+        ),
+        LiteralKind::Float {
+            base,
+            empty_exponent,
+        } => (
+            text_field(" kind=Float base=", base_name(base)),
+            text_field(" empty_exponent=", bool_name(empty_exponent)),
+        ),
+        LiteralKind::Char { terminated } => (
+            text_field(" kind=Char terminated=", bool_name(terminated)),
+            NONE,
+        ),
+        LiteralKind::Byte { terminated } => (
+            text_field(" kind=Byte terminated=", bool_name(terminated)),
+            NONE,
+        ),
+        LiteralKind::Str { terminated } => (
+            text_field(" kind=Str terminated=", bool_name(terminated)),
+            NONE,
+        ),
+        LiteralKind::ByteStr { terminated } => (
+            text_field(" kind=ByteStr terminated=", bool_name(terminated)),
+            NONE,
+        ),
+        LiteralKind::CStr { terminated } => (
+            text_field(" kind=CStr terminated=", bool_name(terminated)),
+            NONE,
+        ),
+        LiteralKind::RawStr { n_hashes } => {
+            (hashes_field(" kind=RawStr n_hashes=", n_hashes), NONE)
+        }
+        LiteralKind::RawByteStr { n_hashes } => {
+            (hashes_field(" kind=RawByteStr n_hashes=", n_hashes), NONE)
+        }
+        LiteralKind::RawCStr { n_hashes } => {
+            (hashes_field(" kind=RawCStr n_hashes=", n_hashes), NONE)
+        }
+    }
+}
+
+/// A field whose value is a text.
+fn text_field(label: &'static str, text: &'static str) -> Field {
+    Field {
+        label,
+        value: Value::Text(text),
+    }
+}
+
+/// A field with the number of hashes of a raw string, or `none`.
+fn hashes_field(label: &'static str, n_hashes: Option<u8>) -> Field {
+    match n_hashes {
+        None => text_field(label, "none"),
+        Some(n) => Field {
+            label,
+            value: Value::Number(u32::from(n)),
+        },
+    }
+}
+
+/// The style of a doc comment, or `none`.
+fn style_name(style: Option<DocStyle>) -> &'static str {
+    match style {
+        None => "none",
+        Some(DocStyle::Outer) => "outer",
+        Some(DocStyle::Inner) => "inner",
+    }
+}
+
+/// `true` or `false`.
+fn bool_name(value: bool) -> &'static str {
+    if value { "true" } else { "false" }
+}
+
+/// The base of a number, in decimal.
+fn base_name(base: Base) -> &'static str {
+    match base {
+        Base::Binary => "2",
+        Base::Octal => "8",
+        Base::Decimal => "10",
+        Base::Hexadecimal => "16",
+    }
+}

@@ -1,0 +1,54 @@
+//! A whole run: from the bytes of a reader to the lines of a writer.
+
+use crate::fault::Fault;
+use crate::job::Job;
+use crate::listing::{edited, list_pieces, list_tokens, tell_shebang};
+use crate::output::Block;
+use ends::{Watched, read_all};
+use rattle_std::alloc::Global;
+use rattle_std::io::{Read, Write};
+use rustc_lexer::erased::FrontmatterAllowed;
+
+/// Reads all of the input, and then writes what the job prints of it.
+///
+/// The lines go out in blocks. Nothing that may be refused comes after the first byte: after every fault but
+/// `Fault::Write` the output is as it was.
+/// At `Ok` the last thing asked of the output was a flush, and it was not refused.
+pub fn run<R: Read, W: Write>(
+    alloc: Global,
+    job: &Job<'_>,
+    input: &mut Watched<R>,
+    output: &mut Watched<W>,
+) -> Result<(), Fault> {
+    let bytes = read_all(alloc, input)?;
+    let text = match rattle_std::str::from_utf8(bytes.as_slice()) {
+        Ok(text) => text,
+        Err(_) => return Err(Fault::NotUtf8),
+    };
+    let mut lines = Block::new();
+    print(alloc, job, text, &mut lines, output)?;
+    lines.finish(output)
+}
+
+/// Prints what the job prints of the text.
+fn print<W: Write>(
+    alloc: Global,
+    job: &Job<'_>,
+    text: &str,
+    lines: &mut Block,
+    output: &mut Watched<W>,
+) -> Result<(), Fault> {
+    match job {
+        Job::Plain { edition } => {
+            list_tokens(lines, output, text, FrontmatterAllowed::No, *edition)
+        }
+        Job::Front { edition } => {
+            list_tokens(lines, output, text, FrontmatterAllowed::Yes, *edition)
+        }
+        Job::Shebang => tell_shebang(lines, output, text),
+        Job::Edit { edition, edits } => {
+            let lexed = edited(alloc, text, *edition, edits.as_slice())?;
+            list_pieces(lines, output, &lexed)
+        }
+    }
+}

@@ -1,0 +1,14 @@
+//! Prints the tokens of standard input, a line for each: where it begins, its length in bytes, and its kind.
+//! `cargo run --example tokens < FILE`
+use ra_ap_rustc_lexer::{FrontmatterAllowed, tokenize};
+use std::io;
+
+fn main() -> io::Result<()> {
+    let text = io::read_to_string(io::stdin())?;
+    let mut start = 0;
+    for token in tokenize(&text, FrontmatterAllowed::Yes) {
+        println!("{start} {} {:?}", token.len, token.kind);
+        start += token.len as usize;
+    }
+    Ok(())
+}

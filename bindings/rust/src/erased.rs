@@ -1,0 +1,36 @@
+//! A lexer for Rust source: a text goes in, tokens come out.
+//!
+//! A token is a kind and a length in bytes. The lexer refuses no text: a fault, as a comment that
+//! nothing closes, is told by a field of its token or by the token's kind. Lexing takes no memory: only
+//! a [`LexedText`], which keeps a text with its tokens and takes edits, does.
+
+mod bulk;
+mod classes;
+mod cursor;
+mod edition;
+mod entry;
+mod frontmatter;
+mod kernels;
+mod lexemes;
+mod raw_check;
+mod relex;
+mod scan;
+mod shebang;
+mod token;
+
+pub use bulk::Record;
+pub use classes::{
+    UNICODE_VERSION, fits, is_horizontal_whitespace, is_id_continue, is_id_start, is_whitespace,
+};
+pub use cursor::Cursor;
+pub use edition::{Edition, UnknownEdition};
+pub use entry::{EditionTokens, Stepper, Steps, Tokens, tokenize, tokenize_as, tokenize_in};
+pub use lexemes::ident::is_ident;
+pub use raw_check::{starts_raw, validate_raw_str};
+pub use relex::{
+    Bound, Change, Edit, EditStop, LexedText, Measured, Piece, Pieces, Relexed, Relexing, settled,
+};
+pub use shebang::strip_shebang;
+pub use token::{
+    Base, DocStyle, FrontmatterAllowed, GuardedStr, LiteralKind, RawStrError, Token, TokenKind,
+};

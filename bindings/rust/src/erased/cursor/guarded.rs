@@ -1,0 +1,65 @@
+//! Guarded strings.
+
+use crate::erased::cursor::Cursor;
+use crate::erased::lexemes::literal::eat_literal_suffix;
+use crate::erased::lexemes::quoted::double_quoted_string;
+use crate::erased::scan::{eat_while, strip};
+use crate::erased::token::GuardedStr;
+
+impl<'a> Cursor<'a> {
+    /// Takes a guarded string: hashes, a string, then as many hashes at most, and a suffix. Its length counts the
+    /// bytes that were pending; then none are. One that no quote closes takes the rest of the text.
+    ///
+    /// Where no quote follows the hashes, the answer is `None`. The hashes are taken all the same, and are
+    /// pending: they are part of the next token.
+    ///
+    /// ```ignore
+    /// let mut cursor = Cursor::new("##\"a\"#", FrontmatterAllowed::No);
+    /// let string = cursor.guarded_double_quoted_string(); // 2 hashes, terminated, of length 6
+    /// ```
+    pub fn guarded_double_quoted_string(&mut self) -> Option<GuardedStr> {
+        let rest = self.as_str();
+        let n_hashes = count_hashes(rest);
+        let Some((terminated, len)) = string_past(rest, n_hashes) else {
+            self.index += n_hashes;
+            return None;
+        };
+        let end = self.index + len;
+        let token_len = (end - self.start) as u32;
+        self.index = end;
+        self.start = end;
+        Some(GuardedStr {
+            n_hashes: n_hashes as u32,
+            terminated,
+            token_len,
+        })
+    }
+}
+
+/// How many hashes stand at the front of the text.
+fn count_hashes(rest: &str) -> usize {
+    rest.len() - eat_while(rest, |c| c == '#').len()
+}
+
+/// Whether a quote closes the string that follows the hashes, and the length of the string with the hashes; `None`
+/// where no string follows them.
+fn string_past(rest: &str, n_hashes: usize) -> Option<(bool, usize)> {
+    let body = strip(&rest[n_hashes..], '"')?;
+    let (terminated, left) = guarded_body(body, n_hashes);
+    Some((terminated, rest.len() - left.len()))
+}
+
+/// Whether a quote closes the string, and what the token leaves. `body` is what follows the opening quote.
+fn guarded_body(body: &str, n_hashes: usize) -> (bool, &str) {
+    let (terminated, left) = double_quoted_string(body);
+    if terminated {
+        (true, eat_literal_suffix(eat_hashes(left, n_hashes)))
+    } else {
+        (false, left)
+    }
+}
+
+/// What `most` hashes at most leave of the text.
+fn eat_hashes(rest: &str, most: usize) -> &str {
+    &rest[count_hashes(rest).min(most)..]
+}

@@ -1,0 +1,175 @@
+//! The editions of Rust, and what each has in place of a token of the newest one.
+
+use crate::erased::classes::emoji::is_emoji;
+use crate::erased::cursor::Cursor;
+use crate::erased::frontmatter::token_at;
+use crate::erased::scan::{eat_continue, next_is, split_first};
+use crate::erased::token::{FrontmatterAllowed, Token, TokenKind};
+use core::error::Error;
+use core::fmt;
+use core::str::FromStr;
+
+/// An edition of Rust, in the order of their years.
+#[derive(Clone, Copy, Debug, PartialEq, Eq, PartialOrd, Ord)]
+pub enum Edition {
+    E2015,
+    E2018,
+    E2021,
+    E2024,
+}
+
+impl Edition {
+    /// All editions, in the order of their years.
+    pub const ALL: [Edition; 4] = [
+        Edition::E2015,
+        Edition::E2018,
+        Edition::E2021,
+        Edition::E2024,
+    ];
+
+    /// The year that names the edition.
+    pub fn year(self) -> u16 {
+        match self {
+            Edition::E2015 => 2015,
+            Edition::E2018 => 2018,
+            Edition::E2021 => 2021,
+            Edition::E2024 => 2024,
+        }
+    }
+}
+
+// `ALL` has each of the four, oldest first.
+const _: () = debug_assert!(Edition::ALL[0] as u8 == Edition::E2015 as u8);
+
+const _: () = debug_assert!(Edition::ALL[1] as u8 == Edition::E2018 as u8);
+
+const _: () = debug_assert!(Edition::ALL[2] as u8 == Edition::E2021 as u8);
+
+const _: () = debug_assert!(Edition::ALL[3] as u8 == Edition::E2024 as u8);
+
+/// Reads the year that names an edition, such as `2021`.
+impl FromStr for Edition {
+    type Err = UnknownEdition;
+
+    fn from_str(word: &str) -> Result<Edition, UnknownEdition> {
+        match word {
+            "2015" => Ok(Edition::E2015),
+            "2018" => Ok(Edition::E2018),
+            "2021" => Ok(Edition::E2021),
+            "2024" => Ok(Edition::E2024),
+            _ => Err(UnknownEdition),
+        }
+    }
+}
+
+/// The edition of a year, such as `2021`.
+impl TryFrom<u16> for Edition {
+    type Error = UnknownEdition;
+
+    fn try_from(year: u16) -> Result<Edition, UnknownEdition> {
+        match year {
+            2015 => Ok(Edition::E2015),
+            2018 => Ok(Edition::E2018),
+            2021 => Ok(Edition::E2021),
+            2024 => Ok(Edition::E2024),
+            _ => Err(UnknownEdition),
+        }
+    }
+}
+
+/// A word or a number names no edition.
+#[derive(Clone, Copy, Debug, PartialEq, Eq)]
+pub struct UnknownEdition;
+
+impl fmt::Display for UnknownEdition {
+    fn fmt(&self, f: &mut fmt::Formatter) -> fmt::Result {
+        f.write_str("no edition of Rust has this year")
+    }
+}
+
+impl Error for UnknownEdition {}
+
+/// The token at the front of a text that is not empty, in an edition, where a frontmatter may stand or may not.
+#[inline(always)]
+pub(crate) fn token_as(rest: &str, allowed: FrontmatterAllowed, edition: Edition) -> Token {
+    match edition {
+        Edition::E2024 => token_at(rest, allowed),
+        _ => older_token(rest, allowed, edition),
+    }
+}
+
+/// The same of any edition. It is not inlined, so that the way of the newest edition stays short.
+#[inline(never)]
+fn older_token(rest: &str, allowed: FrontmatterAllowed, edition: Edition) -> Token {
+    changed(token_at(rest, allowed), rest, edition)
+}
+
+/// The token at the front of a text, in an edition.
+///
+/// It is one call of `Cursor::advance_token`, since that is what a step of [`Steps`](crate::Steps) counts. Once it is
+/// inlined, nothing of the cursor is left.
+#[inline(always)]
+pub(crate) fn token_in(rest: &str, edition: Edition) -> Token {
+    let token = Cursor::new(rest, FrontmatterAllowed::No).advance_token();
+    changed(token, rest, edition)
+}
+
+/// What the edition has in place of the token at the front of the text.
+#[inline(always)]
+fn changed(token: Token, text: &str, edition: Edition) -> Token {
+    match edition {
+        Edition::E2024 => token,
+        Edition::E2021 => before_2024(token),
+        Edition::E2018 | Edition::E2015 => before_2021(token, text),
+    }
+}
+
+/// What an edition before 2024 has in place of the token.
+fn before_2024(token: Token) -> Token {
+    match token.kind {
+        TokenKind::GuardedStrPrefix => Token {
+            kind: TokenKind::Pound,
+            len: 1,
+        },
+        _ => token,
+    }
+}
+
+/// What an edition before 2021 has in place of the token at the front of the text.
+fn before_2021(token: Token, text: &str) -> Token {
+    match token.kind {
+        TokenKind::RawLifetime => Token {
+            kind: TokenKind::Lifetime {
+                starts_with_number: false,
+            },
+            len: 2,
+        },
+        TokenKind::UnknownPrefix => Token {
+            kind: TokenKind::Ident,
+            len: token.len,
+        },
+        TokenKind::UnknownPrefixLifetime => Token {
+            kind: TokenKind::Lifetime {
+                starts_with_number: has_marked_name(text),
+            },
+            len: token.len,
+        },
+        _ => before_2024(token),
+    }
+}
+
+/// Whether the name after the quote that the text begins with is one that no lifetime of Rust has.
+fn has_marked_name(text: &str) -> bool {
+    let Some((_, name)) = split_first(text) else {
+        return false;
+    };
+    let Some((first, rest)) = split_first(name) else {
+        return false;
+    };
+    first.is_ascii_digit() || is_emoji(first) || holds_emoji(rest)
+}
+
+/// Whether an emoji that no identifier goes on with stands in the name that goes on here.
+fn holds_emoji(rest: &str) -> bool {
+    next_is(eat_continue(rest), is_emoji)
+}

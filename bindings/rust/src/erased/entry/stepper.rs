@@ -1,0 +1,71 @@
+//! A grammar, met one token at a time or many at once.
+
+use crate::erased::bulk::{self, Record};
+use crate::erased::edition::{Edition, token_in};
+use crate::erased::entry::tally::Tally;
+use crate::erased::token::Token;
+
+/// A grammar, which tells the first token of each text.
+///
+/// Contracts see three things of a stepper: its grammar, a number that names the grammar, and how many steps
+/// were taken. Each implementation proves that a first token is not empty, ends between two characters, and
+/// depends on no more than itself and the two characters after it.
+pub trait Stepper {
+    /// The first token of the text.
+    fn step(&mut self, rest: &str) -> Token;
+
+    /// The first tokens of the text, written into the room: those that begin before `end`, or as many as it has room for.
+    /// Answers their number, and how many bytes they have. Each is a step.
+    ///
+    /// One step after another gives them here. A stepper that finds many tokens at once has a body of its own.
+    fn fill<R: Record>(&mut self, text: &str, end: usize, room: &mut [R]) -> (usize, usize) {
+        let mut written = 0;
+        let mut at = 0;
+        while written < room.len() && at < end {
+            let token = self.step(&text[at..]);
+            room[written] = R::of(token);
+            written += 1;
+            at += token.len as usize;
+        }
+        (written, at)
+    }
+}
+
+/// The steps of the lexer in an edition, where no frontmatter may stand.
+pub struct Steps {
+    edition: Edition,
+    tally: Tally,
+}
+
+impl Steps {
+    /// No step taken, in the edition of 2024.
+    pub fn new() -> Steps {
+        Steps::new_in(Edition::E2024)
+    }
+
+    /// No step taken, in an edition.
+    pub fn new_in(edition: Edition) -> Steps {
+        Steps {
+            edition,
+            tally: Tally::new(),
+        }
+    }
+
+    /// The edition of its tokens.
+    pub(crate) fn edition(&self) -> Edition {
+        self.edition
+    }
+}
+
+impl Stepper for Steps {
+    fn step(&mut self, rest: &str) -> Token {
+        self.tally.tick();
+        token_in(rest, self.edition)
+    }
+
+    fn fill<R: Record>(&mut self, text: &str, end: usize, room: &mut [R]) -> (usize, usize) {
+        let (count, bytes) = bulk::fill(text, end, self.edition, room);
+        self.tally.tick_by(count);
+        (count, bytes)
+    }
+}

@@ -1,0 +1,165 @@
+//! Frontmatter: what may stand in front of the first token, between two fences of dashes.
+
+use crate::erased::classes::{
+    is_horizontal_whitespace, is_id_continue, is_id_start, is_whitespace,
+};
+use crate::erased::lexemes::lexeme;
+use crate::erased::scan::{eat_while, eat_whitespace, next_is, split_first};
+use crate::erased::token::{FrontmatterAllowed, Token, TokenKind};
+use memchr::{memchr, memmem};
+
+/// A fence has at least so many dashes.
+const MIN_DASHES: usize = 3;
+
+/// The token at the front of a text. At the end of the text it is `Eof`, of length 0.
+#[inline(always)]
+pub(crate) fn token_at(text: &str, allowed: FrontmatterAllowed) -> Token {
+    match allowed {
+        FrontmatterAllowed::No => lexeme(text),
+        FrontmatterAllowed::Yes => frontmatter_or_lexeme(text),
+    }
+}
+
+/// The token at the front of a text where a frontmatter is allowed.
+#[inline(never)]
+fn frontmatter_or_lexeme(text: &str) -> Token {
+    match frontmatter(text) {
+        Some(token) => token,
+        None => lexeme(text),
+    }
+}
+
+/// The frontmatter at the front of the text, if one opens there.
+///
+/// White space before its dashes is part of it, unless a newline is the last character of that.
+fn frontmatter(text: &str) -> Option<Token> {
+    let fence = eat_whitespace(text);
+    let label = eat_while(fence, |c| c == '-');
+    let n_dashes = fence.len() - label.len();
+    if n_dashes < MIN_DASHES || follows_newline(text.as_bytes(), text.len() - fence.len()) {
+        return None;
+    }
+    let rest = eat_label(label);
+    let end = closing_end(rest.as_bytes(), n_dashes);
+    Some(Token {
+        kind: TokenKind::Frontmatter {
+            has_invalid_preceding_whitespace: next_is(text, is_whitespace),
+            invalid_infostring: !next_is(rest, |c| c == '\n'),
+        },
+        len: (text.len() - rest.len() + end) as u32,
+    })
+}
+
+/// What is left past the rest of the opening fence's line: blanks, an infostring, and blanks. `rest` is what
+/// follows the dashes.
+fn eat_label(rest: &str) -> &str {
+    let infostring = eat_while(rest, is_horizontal_whitespace);
+    eat_while(eat_infostring(infostring), is_horizontal_whitespace)
+}
+
+/// What an infostring leaves of the text, if one stands here.
+fn eat_infostring(rest: &str) -> &str {
+    let Some((first, tail)) = split_first(rest) else {
+        return rest;
+    };
+    if !is_id_start(first) {
+        return rest;
+    }
+    eat_while(tail, is_infostring)
+}
+
+/// What an infostring goes on with.
+fn is_infostring(c: char) -> bool {
+    is_id_continue(c) || c == '-' || c == '.'
+}
+
+/// Where the frontmatter ends in `rest`, which follows an opening of `n_dashes` dashes.
+fn closing_end(rest: &[u8], n_dashes: usize) -> usize {
+    match find_fence(rest, n_dashes) {
+        Some(place) => line_end(rest, place + 1),
+        None => recovery(rest),
+    }
+}
+
+/// Where a frontmatter ends that no line of so many dashes closes: at the best guess of where Rust begins.
+fn recovery(rest: &[u8]) -> usize {
+    if let Some(place) = find(rest, b"\n---") {
+        return line_end(rest, place + 1);
+    }
+    if let Some(place) = find(rest, b"\nuse ") {
+        return place;
+    }
+    if let Some(place) = find(rest, b"\n//!") {
+        return place;
+    }
+    if let Some(place) = find(rest, b"\n#![") {
+        return place;
+    }
+    match find_lone_dashes(rest) {
+        Some(place) => line_end(rest, place),
+        None => rest.len(),
+    }
+}
+
+/// The place of the first newline that at least `n_dashes` dashes follow.
+fn find_fence(rest: &[u8], n_dashes: usize) -> Option<usize> {
+    let mut from = 0;
+    while let Some(step) = memchr(b'\n', &rest[from..]) {
+        let line = from + step + 1;
+        let end = dashes_end(rest, line);
+        if end - line >= n_dashes {
+            return Some(from + step);
+        }
+        from = end;
+    }
+    None
+}
+
+/// Where the dashes from a place on end.
+fn dashes_end(rest: &[u8], from: usize) -> usize {
+    let mut end = from;
+    while end < rest.len() && rest[end] == b'-' {
+        end += 1;
+    }
+    end
+}
+
+/// The first place of three dashes with only blanks before them: on their line, and past the dashes before.
+fn find_lone_dashes(rest: &[u8]) -> Option<usize> {
+    let mut end = 0;
+    while let Some(step) = find(&rest[end..], b"---") {
+        let place = end + step;
+        if stands_alone(rest, end, place) {
+            return Some(place);
+        }
+        end = place + 3;
+    }
+    None
+}
+
+/// Whether only blanks stand before a place: on its line, and past `end`.
+fn stands_alone(rest: &[u8], end: usize, place: usize) -> bool {
+    let mut start = place;
+    while start > end && is_horizontal_whitespace(rest[start - 1] as char) {
+        start -= 1;
+    }
+    start == end || follows_newline(rest, start)
+}
+
+/// Whether a newline stands right before a place.
+fn follows_newline(bytes: &[u8], place: usize) -> bool {
+    place > 0 && bytes[place - 1] == b'\n'
+}
+
+/// The first newline at or past a place, or the end.
+fn line_end(rest: &[u8], place: usize) -> usize {
+    match memchr(b'\n', &rest[place..]) {
+        Some(step) => place + step,
+        None => rest.len(),
+    }
+}
+
+/// The first place where the pattern stands.
+fn find(rest: &[u8], pattern: &[u8]) -> Option<usize> {
+    memmem::find(rest, pattern)
+}

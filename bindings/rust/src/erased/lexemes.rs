@@ -1,0 +1,76 @@
+//! The token at the front of a text: a choice by its first character, and a function for each family.
+
+use crate::erased::lexemes::comment::slash;
+use crate::erased::lexemes::family::{Family, family_of};
+use crate::erased::lexemes::hash::hash;
+use crate::erased::lexemes::ident::invalid_ident;
+use crate::erased::lexemes::lifetime::lifetime_or_char;
+use crate::erased::lexemes::number::number;
+use crate::erased::lexemes::quick::quick_token;
+use crate::erased::lexemes::quoted::{QuotedPrefix, quoted_literal};
+use crate::erased::lexemes::symbol::symbol_kind;
+use crate::erased::lexemes::word::word;
+use crate::erased::scan::{eat_whitespace, split_first};
+use crate::erased::token::{Token, TokenKind};
+
+mod block_comment;
+mod comment;
+mod family;
+mod hash;
+pub(crate) mod ident;
+mod lifetime;
+pub(crate) mod literal;
+mod number;
+pub(crate) mod quick;
+pub(crate) mod quoted;
+pub(crate) mod raw;
+mod symbol;
+pub(crate) mod told;
+mod word;
+
+/// The token at the front of a text. At the end of the text it is `Eof`, of length 0.
+///
+/// The commonest tokens are told by their bytes. Where these tell one, it is the one that the first character
+/// chooses: both ways promise the same.
+///
+/// No token looks further than two characters past its end: so it is of characters, and of texts, at whose bounds
+/// tokens end.
+#[inline(always)]
+pub(crate) fn lexeme(text: &str) -> Token {
+    match quick_token(text) {
+        Some(token) => token,
+        None => choose_token(text),
+    }
+}
+
+/// The token at the front of a text, as its first character chooses.
+#[inline(never)]
+fn choose_token(text: &str) -> Token {
+    let Some((first, tail)) = split_first(text) else {
+        return Token {
+            kind: TokenKind::Eof,
+            len: 0,
+        };
+    };
+    let (kind, rest) = past_first(first, tail);
+    Token {
+        kind,
+        len: (text.len() - rest.len()) as u32,
+    }
+}
+
+/// The kind of the token that begins with `first`, and what the token leaves of what follows that.
+#[inline(always)]
+fn past_first(first: char, tail: &str) -> (TokenKind, &str) {
+    match family_of(first) {
+        Family::Slash => slash(tail),
+        Family::Space => (TokenKind::Whitespace, eat_whitespace(tail)),
+        Family::Word => word(first, tail),
+        Family::Number => number(first, tail),
+        Family::Quote => lifetime_or_char(tail),
+        Family::Str => quoted_literal(QuotedPrefix::Double, tail),
+        Family::Emoji => invalid_ident(tail),
+        Family::Hash => hash(tail),
+        Family::Symbol => (symbol_kind(first), tail),
+    }
+}

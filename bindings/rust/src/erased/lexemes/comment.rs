@@ -1,0 +1,41 @@
+//! Comments.
+
+use crate::erased::lexemes::block_comment::block_comment;
+use crate::erased::scan::{eat_until, first, second, strip};
+use crate::erased::token::{DocStyle, TokenKind};
+
+/// What begins with a slash. `rest` is what follows that.
+#[inline(always)]
+pub(crate) fn slash(rest: &str) -> (TokenKind, &str) {
+    if let Some(body) = strip(rest, '/') {
+        line_comment(body)
+    } else if let Some(body) = strip(rest, '*') {
+        block_comment(body)
+    } else {
+        (TokenKind::Slash, rest)
+    }
+}
+
+/// A line comment. `body` is what follows its `//`.
+#[inline(always)]
+fn line_comment(body: &str) -> (TokenKind, &str) {
+    let doc_style = line_doc_style(body);
+    let rest = eat_until(body, b'\n');
+    (TokenKind::LineComment { doc_style }, rest)
+}
+
+/// The style of the line comment with this body.
+#[inline(always)]
+fn line_doc_style(body: &str) -> Option<DocStyle> {
+    match first(body) {
+        '!' => Some(DocStyle::Inner),
+        '/' => {
+            if second(body) == '/' {
+                None
+            } else {
+                Some(DocStyle::Outer)
+            }
+        }
+        _ => None,
+    }
+}

@@ -1,0 +1,93 @@
+//! What begins with a single quote: characters and lifetimes.
+
+use crate::erased::classes::emoji::is_emoji;
+use crate::erased::classes::is_id_start;
+use crate::erased::lexemes::ident::{eat_marked, is_word};
+use crate::erased::lexemes::literal::{eat_literal_suffix, literal};
+use crate::erased::lexemes::quoted::{QuotedPrefix, quoted_literal};
+use crate::erased::scan::{eat_continue, eat_while, split_first, strip};
+use crate::erased::token::{LiteralKind, TokenKind};
+
+/// What begins with a single quote. `tail` is what follows that.
+///
+/// It looks at two characters past its end, and at fewer where it is said.
+#[inline(always)]
+pub(crate) fn lifetime_or_char(tail: &str) -> (TokenKind, &str) {
+    if let Some(left) = past_short_char(tail) {
+        let kind = LiteralKind::Char { terminated: true };
+        return (literal(kind, tail, left), eat_literal_suffix(left));
+    }
+    let Some((first, rest)) = split_first(tail) else {
+        return quoted_literal(QuotedPrefix::Single, tail);
+    };
+    if is_character(first, rest) {
+        quoted_literal(QuotedPrefix::Single, tail)
+    } else {
+        lifetime(first, rest)
+    }
+}
+
+/// What follows the closing quote, where that stands right behind a character of ASCII, or behind a backslash and one.
+///
+/// Which of the two it is costs no branch: it is hard to foresee.
+#[inline(always)]
+fn past_short_char(tail: &str) -> Option<&str> {
+    let bytes = tail.as_bytes();
+    if bytes.len() < 3 {
+        return None;
+    }
+    let place = 1 + usize::from(bytes[0] == b'\\');
+    if bytes[place - 1] < 128 && bytes[place] == b'\'' {
+        Some(&tail[place + 1..])
+    } else {
+        None
+    }
+}
+
+/// Whether a quote, `first` and `rest` begin a character, and no lifetime.
+fn is_character(first: char, rest: &str) -> bool {
+    strip(rest, '\'').is_some() || !is_name_start(first)
+}
+
+/// Whether the name of a lifetime may begin with the character; a digit and an emoji are let through.
+fn is_name_start(c: char) -> bool {
+    is_id_start(c) || c.is_ascii_digit() || is_emoji(c)
+}
+
+/// What a name is, and what it leaves. It begins with `first`, and `rest` is what follows that.
+#[inline(always)]
+fn lifetime(first: char, rest: &str) -> (TokenKind, &str) {
+    if first == 'r' {
+        if let Some(left) = eat_marked(rest) {
+            return (TokenKind::RawLifetime, left);
+        }
+    }
+    plain_lifetime(first, rest)
+}
+
+/// What a name is where no raw lifetime stands. A quote that follows the name makes a character of it.
+#[inline(always)]
+fn plain_lifetime(first: char, rest: &str) -> (TokenKind, &str) {
+    let past_plain = eat_continue(rest);
+    let past_name = eat_while(past_plain, is_word);
+    if let Some(left) = strip(past_name, '\'') {
+        let name_len = first.len_utf8() + (rest.len() - past_name.len());
+        let kind = LiteralKind::Char { terminated: true };
+        let suffix_start = 2 + name_len as u32;
+        return (TokenKind::Literal { kind, suffix_start }, left);
+    }
+    let holds_emoji = past_name.len() < past_plain.len();
+    (lifetime_kind(first, holds_emoji, past_name), past_name)
+}
+
+/// What a name is that no quote follows. It begins with `first`, and `rest` is what follows it.
+#[inline(always)]
+fn lifetime_kind(first: char, holds_emoji: bool, rest: &str) -> TokenKind {
+    if strip(rest, '#').is_some() && !first.is_ascii_digit() {
+        TokenKind::UnknownPrefixLifetime
+    } else {
+        TokenKind::Lifetime {
+            starts_with_number: first.is_ascii_digit() || is_emoji(first) || holds_emoji,
+        }
+    }
+}

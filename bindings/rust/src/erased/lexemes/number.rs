@@ -1,0 +1,170 @@
+//! Numbers.
+
+use crate::erased::classes::is_id_start;
+use crate::erased::lexemes::literal::{eat_literal_suffix, literal};
+use crate::erased::scan::{eat_decimal, eat_hexadecimal, eat_while, first, split_first};
+use crate::erased::token::{Base, LiteralKind, TokenKind};
+
+/// A number with its suffix. `first_digit` is its first character, and `tail` what follows that.
+///
+/// Its text, up to the suffix, is the longest at the front that the grammar of numbers has. There a
+/// dot that no digit follows is part of a number only where neither a dot nor a name is next.
+///
+/// Rust Reference, [Number literals](https://doc.rust-lang.org/reference/tokens.html#number-literals).
+#[inline(always)]
+pub(crate) fn number(first_digit: char, tail: &str) -> (TokenKind, &str) {
+    let (kind, rest) = number_kind(first_digit, tail);
+    (literal(kind, tail, rest), eat_literal_suffix(rest))
+}
+
+/// What the number is, and the text from its suffix on.
+#[inline(always)]
+fn number_kind(first_digit: char, tail: &str) -> (LiteralKind, &str) {
+    let (base, empty_int, rest) = front(first_digit, tail);
+    if empty_int {
+        return (LiteralKind::Int { base, empty_int }, rest);
+    }
+    past_digits(base, rest)
+}
+
+/// The base, whether it has a prefix with no digit after it, and what follows the digits up to a point or an
+/// exponent.
+#[inline(always)]
+fn front(first_digit: char, tail: &str) -> (Base, bool, &str) {
+    if first_digit == '0' {
+        front_past_zero(tail)
+    } else {
+        (Base::Decimal, false, eat_decimal(tail))
+    }
+}
+
+/// The base of a number whose first digit is 0, whether its prefix has no digit after it, and what follows the digits.
+#[inline(always)]
+fn front_past_zero(tail: &str) -> (Base, bool, &str) {
+    let Some((letter, digits)) = split_first(tail) else {
+        return (Base::Decimal, false, tail);
+    };
+    if letter == 'b' {
+        let (has_digit, rest) = eat_decimal_digits(digits);
+        (Base::Binary, !has_digit, rest)
+    } else if letter == 'o' {
+        let (has_digit, rest) = eat_decimal_digits(digits);
+        (Base::Octal, !has_digit, rest)
+    } else if letter == 'x' {
+        let (has_digit, rest) = eat_hexadecimal_digits(digits);
+        (Base::Hexadecimal, !has_digit, rest)
+    } else {
+        (Base::Decimal, false, eat_decimal(tail))
+    }
+}
+
+/// What a number of this base is, by what follows its front: a fraction, an exponent or neither.
+#[inline(always)]
+fn past_digits(base: Base, rest: &str) -> (LiteralKind, &str) {
+    let int = LiteralKind::Int {
+        base,
+        empty_int: false,
+    };
+    let Some((mark, tail)) = split_first(rest) else {
+        return (int, rest);
+    };
+    if mark == '.' {
+        if is_no_fraction(first(tail)) {
+            (int, rest)
+        } else {
+            fraction(base, tail)
+        }
+    } else if is_exponent_letter(mark) {
+        eat_float_exponent(base, tail)
+    } else {
+        (int, rest)
+    }
+}
+
+/// Whether a dot before this character is no part of a number, as in `1..2` and `1.max(2)`.
+fn is_no_fraction(c: char) -> bool {
+    c == '.' || is_id_start(c)
+}
+
+/// The float whose fraction this is. `rest` is what follows its dot.
+#[inline(always)]
+fn fraction(base: Base, rest: &str) -> (LiteralKind, &str) {
+    if first(rest).is_ascii_digit() {
+        optional_exponent(base, eat_decimal(rest))
+    } else {
+        (full_float(base), rest)
+    }
+}
+
+/// The float with the exponent that stands here, if one does.
+#[inline(always)]
+fn optional_exponent(base: Base, rest: &str) -> (LiteralKind, &str) {
+    let Some((letter, tail)) = split_first(rest) else {
+        return (full_float(base), rest);
+    };
+    if is_exponent_letter(letter) {
+        eat_float_exponent(base, tail)
+    } else {
+        (full_float(base), rest)
+    }
+}
+
+/// A float whose exponent, if it has one, has digits.
+#[inline(always)]
+fn full_float(base: Base) -> LiteralKind {
+    LiteralKind::Float {
+        base,
+        empty_exponent: false,
+    }
+}
+
+fn is_exponent_letter(c: char) -> bool {
+    c == 'e' || c == 'E'
+}
+
+/// The float with this exponent. `rest` is what follows the letter of it.
+#[inline(always)]
+fn eat_float_exponent(base: Base, rest: &str) -> (LiteralKind, &str) {
+    let Some((sign, tail)) = split_first(rest) else {
+        return past_sign(base, rest);
+    };
+    if is_sign(sign) {
+        past_sign(base, tail)
+    } else {
+        past_sign(base, rest)
+    }
+}
+
+fn is_sign(c: char) -> bool {
+    c == '+' || c == '-'
+}
+
+/// The float whose exponent has these digits.
+#[inline(always)]
+fn past_sign(base: Base, rest: &str) -> (LiteralKind, &str) {
+    let (has_digit, rest) = eat_decimal_digits(rest);
+    let empty_exponent = !has_digit;
+    let float = LiteralKind::Float {
+        base,
+        empty_exponent,
+    };
+    (float, rest)
+}
+
+/// Whether a digit stands in the run of digits and underscores at the front, and what follows that run.
+fn eat_decimal_digits(rest: &str) -> (bool, &str) {
+    let digits = eat_while(rest, is_underscore);
+    let has_digit = first(digits).is_ascii_digit();
+    (has_digit, eat_decimal(digits))
+}
+
+/// Whether a digit stands in the run of hexadecimal digits and underscores at the front, and what follows that run.
+fn eat_hexadecimal_digits(rest: &str) -> (bool, &str) {
+    let digits = eat_while(rest, is_underscore);
+    let has_digit = first(digits).is_ascii_hexdigit();
+    (has_digit, eat_hexadecimal(digits))
+}
+
+fn is_underscore(c: char) -> bool {
+    c == '_'
+}

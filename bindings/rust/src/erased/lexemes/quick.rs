@@ -1,0 +1,60 @@
+//! The commonest tokens, told by their bytes: identifiers, white space, hashes and symbols.
+
+use crate::erased::kernels::{Continue, Space, ends_space, ends_word, run_end, short_run_end};
+use crate::erased::lexemes::family::{Family, family_of_byte};
+use crate::erased::lexemes::symbol::symbol_kind;
+use crate::erased::token::{Token, TokenKind};
+
+/// The token at the front of the text, where the bytes of one run and the byte after it tell what it is.
+#[inline(always)]
+pub(crate) fn quick_token(text: &str) -> Option<Token> {
+    let (first, rest) = text.as_bytes().split_first()?;
+    match family_of_byte(*first)? {
+        Family::Word => {
+            let end = run_end::<Continue>(rest);
+            if ends_word(rest, end) {
+                Some(Token {
+                    kind: TokenKind::Ident,
+                    len: (1 + end) as u32,
+                })
+            } else {
+                None
+            }
+        }
+        Family::Space => {
+            let end = short_run_end::<Space>(rest);
+            if ends_space(rest, end) {
+                Some(Token {
+                    kind: TokenKind::Whitespace,
+                    len: (1 + end) as u32,
+                })
+            } else {
+                None
+            }
+        }
+        Family::Hash => {
+            if begins_guarded(rest) {
+                Some(Token {
+                    kind: TokenKind::GuardedStrPrefix,
+                    len: 2,
+                })
+            } else {
+                Some(Token {
+                    kind: TokenKind::Pound,
+                    len: 1,
+                })
+            }
+        }
+        Family::Symbol => Some(Token {
+            kind: symbol_kind(*first as char),
+            len: 1,
+        }),
+        _ => None,
+    }
+}
+
+/// Whether a quote or a hash stands in front.
+#[inline(always)]
+fn begins_guarded(bytes: &[u8]) -> bool {
+    !bytes.is_empty() && matches!(bytes[0], b'"' | b'#')
+}

@@ -1,0 +1,167 @@
+//! Raw strings.
+
+use crate::erased::kernels::find_close;
+use crate::erased::lexemes::literal::eat_literal_suffix;
+use crate::erased::scan::{eat_until, eat_while, split_first, strip};
+use crate::erased::token::{LiteralKind, RawStrError, TokenKind};
+
+/// What a raw string begins with, as a token.
+#[derive(Clone, Copy)]
+pub(crate) enum RawPrefix {
+    /// `r`
+    R,
+    /// `br`
+    Br,
+    /// `cr`
+    Cr,
+}
+
+/// The token of a raw string. `rest` is what follows its prefix.
+///
+/// It looks at one character past its end, for its suffix or the end of the text. What is refused looks at none,
+/// unless the text ends where it does.
+#[inline(always)]
+pub(crate) fn raw_literal(prefix: RawPrefix, rest: &str) -> (TokenKind, &str) {
+    let (read, left) = raw_double_quoted_string(rest, 0);
+    let suffix_start = prefix_len(prefix) + (rest.len() - left.len()) as u32;
+    match read {
+        Ok(n_hashes) => {
+            let kind = literal_kind(prefix, Some(n_hashes));
+            (
+                TokenKind::Literal { kind, suffix_start },
+                eat_literal_suffix(left),
+            )
+        }
+        Err(_) => {
+            let kind = literal_kind(prefix, None);
+            (TokenKind::Literal { kind, suffix_start }, left)
+        }
+    }
+}
+
+/// The length of the prefix in bytes.
+#[inline(always)]
+fn prefix_len(prefix: RawPrefix) -> u32 {
+    match prefix {
+        RawPrefix::R => 1,
+        RawPrefix::Br | RawPrefix::Cr => 2,
+    }
+}
+
+/// The kind of the raw string with this prefix.
+#[inline(always)]
+fn literal_kind(prefix: RawPrefix, n_hashes: Option<u8>) -> LiteralKind {
+    match prefix {
+        RawPrefix::R => LiteralKind::RawStr { n_hashes },
+        RawPrefix::Br => LiteralKind::RawByteStr { n_hashes },
+        RawPrefix::Cr => LiteralKind::RawCStr { n_hashes },
+    }
+}
+
+/// The number of hashes on each side of a raw string, or why it is refused; and what it leaves of `rest`,
+/// which follows its prefix. An offset is in bytes, and counts `prefix_len` for the prefix.
+#[inline(always)]
+pub(crate) fn raw_double_quoted_string(
+    rest: &str,
+    prefix_len: u32,
+) -> (Result<u8, RawStrError>, &str) {
+    if let Some((n_hashes, text)) = short_opening(rest) {
+        if let Some(left) = past_close(text, n_hashes) {
+            return (Ok(n_hashes as u8), left);
+        }
+        return raw_text(text, n_hashes, prefix_len + n_hashes + 1);
+    }
+    any_raw_string(rest, prefix_len)
+}
+
+/// What [`raw_double_quoted_string`] answers, whatever the opening is.
+#[inline(never)]
+fn any_raw_string(rest: &str, prefix_len: u32) -> (Result<u8, RawStrError>, &str) {
+    let from_starter = eat_while(rest, |c| c == '#');
+    let n_hashes = (rest.len() - from_starter.len()) as u32;
+    let Some((starter, text)) = split_first(from_starter) else {
+        return (
+            Err(RawStrError::InvalidStarter { bad_char: '\0' }),
+            from_starter,
+        );
+    };
+    if starter != '"' {
+        return (Err(RawStrError::InvalidStarter { bad_char: starter }), text);
+    }
+    raw_text(text, n_hashes, prefix_len + n_hashes + 1)
+}
+
+/// How many hashes stand before the opening quote, where that is none or one, and what follows the quote.
+///
+/// Which of the two it is costs no branch: it is hard to foresee.
+#[inline(always)]
+pub(crate) fn short_opening(rest: &str) -> Option<(u32, &str)> {
+    let bytes = rest.as_bytes();
+    if bytes.len() < 2 {
+        return None;
+    }
+    let n_hashes = u32::from(bytes[0] == b'#');
+    let place = n_hashes as usize;
+    if bytes[place] == b'"' {
+        Some((n_hashes, &rest[place + 1..]))
+    } else {
+        None
+    }
+}
+
+/// What the raw string leaves of `text`, where it closes within 64 bytes. Before its opening quote stand `n_hashes`
+/// hashes, none or one.
+#[inline(always)]
+fn past_close(text: &str, n_hashes: u32) -> Option<&str> {
+    let place = find_close(n_hashes, text.as_bytes());
+    if place < 64 {
+        Some(&text[place + 1 + n_hashes as usize..])
+    } else {
+        None
+    }
+}
+
+/// How the raw string goes on past its opening quote, before which `n_hashes` hashes stand; and what it leaves of
+/// `text`. An offset counts `before` bytes for what stands before `text`.
+#[inline(never)]
+fn raw_text(text: &str, n_hashes: u32, before: u32) -> (Result<u8, RawStrError>, &str) {
+    let mut found = 0;
+    let mut possible_terminator_offset = None;
+    let mut rest = text;
+    while let Some(tail) = past_quote(rest) {
+        let past_hashes = eat_while(tail, |c| c == '#');
+        let hashes = (tail.len() - past_hashes.len()) as u32;
+        if hashes >= n_hashes {
+            return (hash_count(n_hashes), &tail[n_hashes as usize..]);
+        }
+        if hashes > found {
+            found = hashes;
+            possible_terminator_offset = Some(before + (text.len() - tail.len()) as u32);
+        }
+        rest = past_hashes;
+    }
+    let error = RawStrError::NoTerminator {
+        expected: n_hashes,
+        found,
+        possible_terminator_offset,
+    };
+    (Err(error), "")
+}
+
+/// What follows the first quote of the text. A quote that stands right here needs no search.
+#[inline(always)]
+fn past_quote(rest: &str) -> Option<&str> {
+    if let Some(tail) = strip(rest, '"') {
+        return Some(tail);
+    }
+    strip(eat_until(rest, b'"'), '"')
+}
+
+/// The number of hashes, or that there are too many.
+fn hash_count(n_hashes: u32) -> Result<u8, RawStrError> {
+    if n_hashes <= 255 {
+        Ok(n_hashes as u8)
+    } else {
+        Err(RawStrError::TooManyDelimiters { found: n_hashes })
+    }
+}

@@ -1,0 +1,84 @@
+//! What begins with a letter: identifiers, and the literals that a letter marks.
+
+use crate::erased::lexemes::ident::{eat_marked, ident_or_unknown_prefix};
+use crate::erased::lexemes::quoted::{QuotedPrefix, quoted_literal};
+use crate::erased::lexemes::raw::{RawPrefix, raw_literal, short_opening};
+use crate::erased::scan::{next_is, strip};
+use crate::erased::token::TokenKind;
+
+/// What begins with `first`. `tail` is what follows that.
+#[inline(always)]
+pub(crate) fn word(first: char, tail: &str) -> (TokenKind, &str) {
+    match first {
+        'r' => letter_r(tail),
+        'k' => letter_k(tail),
+        'b' => letter_b(tail),
+        'c' => letter_c(tail),
+        _ => ident_or_unknown_prefix(tail),
+    }
+}
+
+/// What begins with an `r`: a raw identifier, a raw string, or an identifier.
+#[inline(always)]
+fn letter_r(tail: &str) -> (TokenKind, &str) {
+    if let Some(_) = short_opening(tail) {
+        return raw_literal(RawPrefix::R, tail);
+    }
+    if let Some(rest) = eat_marked(tail) {
+        return (TokenKind::RawIdent, rest);
+    }
+    if next_is(tail, is_raw_mark) {
+        raw_literal(RawPrefix::R, tail)
+    } else {
+        ident_or_unknown_prefix(tail)
+    }
+}
+
+/// Whether a raw string goes on with the character after its prefix.
+fn is_raw_mark(c: char) -> bool {
+    matches!(c, '#' | '"')
+}
+
+/// What begins with a `k`: a forced keyword, or an identifier.
+#[inline(always)]
+fn letter_k(tail: &str) -> (TokenKind, &str) {
+    match eat_marked(tail) {
+        Some(rest) => (TokenKind::ForcedKeywordIdent, rest),
+        None => ident_or_unknown_prefix(tail),
+    }
+}
+
+/// What begins with a `b`: a byte, a byte string, or an identifier.
+#[inline(always)]
+fn letter_b(tail: &str) -> (TokenKind, &str) {
+    if strip(tail, '\'').is_some() {
+        quoted_literal(QuotedPrefix::BSingle, tail)
+    } else if strip(tail, '"').is_some() {
+        quoted_literal(QuotedPrefix::BDouble, tail)
+    } else {
+        raw_or_ident(RawPrefix::Br, tail)
+    }
+}
+
+/// What begins with a `c`: a C string, or an identifier.
+#[inline(always)]
+fn letter_c(tail: &str) -> (TokenKind, &str) {
+    if strip(tail, '"').is_some() {
+        quoted_literal(QuotedPrefix::CDouble, tail)
+    } else {
+        raw_or_ident(RawPrefix::Cr, tail)
+    }
+}
+
+/// A raw string whose prefix of two letters ends with the `r` that `tail` begins with, or an identifier.
+#[inline(always)]
+fn raw_or_ident(prefix: RawPrefix, tail: &str) -> (TokenKind, &str) {
+    let Some(rest) = strip(tail, 'r') else {
+        return ident_or_unknown_prefix(tail);
+    };
+    if next_is(rest, is_raw_mark) {
+        raw_literal(prefix, rest)
+    } else {
+        ident_or_unknown_prefix(tail)
+    }
+}

@@ -1,0 +1,19 @@
+//! A text that is kept with its tokens, and its edits.
+mod edit;
+mod edit_list;
+mod front;
+mod landmarks;
+mod lex;
+mod lexed_text;
+mod pieces;
+mod relexing;
+mod replace;
+mod settle;
+
+pub use edit::Edit;
+pub use edit_list::EditStop;
+pub use front::{Bound, Measured};
+pub use lexed_text::LexedText;
+pub use pieces::{Piece, Pieces};
+pub use relexing::{Change, Relexed, Relexing};
+pub use settle::settled;

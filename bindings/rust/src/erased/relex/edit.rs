@@ -1,0 +1,134 @@
+//! One edit: the text that it makes, and the tokens that it lexes for it.
+use crate::support::{String, Vec};
+
+use crate::erased::entry::stepper::Stepper;
+use crate::erased::relex::front::Bound;
+use crate::erased::relex::landmarks::Landmarks;
+use crate::erased::relex::lex::new_room;
+use crate::erased::relex::relexing::{Change, LONG, Relexed, Relexing};
+use crate::erased::relex::replace::replace;
+use crate::erased::token::Token;
+use crate::support::{AllocError, Global};
+
+/// One edit, its insertion borrowed.
+#[derive(Clone, Copy, Debug, PartialEq, Eq)]
+pub struct Edit<'a> {
+    /// Where the bytes begin that are taken out.
+    pub start: usize,
+    /// Where they end.
+    pub stop: usize,
+    /// What is put in their place.
+    pub insert: &'a str,
+}
+
+/// Puts `insert` in place of the bytes from `start` up to `stop`, where the text has room for it beside them.
+fn put_in_place(text: &mut String, start: usize, stop: usize, insert: &str) {
+    match text.replace_range(start..stop, insert) {
+        Ok(()) | Err(_) => {}
+    }
+}
+
+/// Lexes the new text from the kept front on, until it meets the old tokens, and answers the tokens between with
+/// the place of the meeting.
+fn relex<S: Stepper>(
+    alloc: Global,
+    stepper: &mut S,
+    old: &[Token],
+    near: Bound,
+    text: &str,
+    change: Change,
+) -> Result<(Vec<Token>, Relexing), AllocError> {
+    let mut tokens = Vec::new(alloc);
+    let mut at = Relexing::begin(text, old, change, near);
+    if change.new_stop - change.start >= LONG {
+        relex_inserted(stepper, old, text, change, &mut at, &mut tokens)?;
+    }
+    while let Some(token) = at.next(stepper, text, old, change) {
+        tokens.push(token)?;
+    }
+    Ok((tokens, at))
+}
+
+/// Lexes the tokens that begin before the end of what was put in, many at once.
+///
+/// It is not inlined, so that an edit that puts in little has no room to make.
+#[inline(never)]
+fn relex_inserted<S: Stepper>(
+    stepper: &mut S,
+    old: &[Token],
+    text: &str,
+    change: Change,
+    at: &mut Relexing,
+    tokens: &mut Vec<Token>,
+) -> Result<(), AllocError> {
+    let mut room = new_room();
+    while at.at < change.new_stop {
+        let count = at.fill_inserted(stepper, text, old, change, &mut room);
+        tokens.extend_from_slice(&room[..count])?;
+    }
+    Ok(())
+}
+
+/// Puts the tokens of the changed text in place of the old ones, and answers where lexing met these. Where memory
+/// is refused the tokens stay as they are. The search for what stays begins at `near`.
+fn renew<S: Stepper>(
+    alloc: Global,
+    stepper: &mut S,
+    tokens: &mut Vec<Token>,
+    near: Bound,
+    text: &str,
+    change: Change,
+) -> Result<Relexing, AllocError> {
+    let (lexed, at) = relex(alloc, stepper, tokens.as_slice(), near, text, change)?;
+    replace(tokens, at.front.number, at.back.number, lexed.as_slice())?;
+    Ok(at)
+}
+
+/// Makes text and tokens those of the edited text. Where memory is refused both stay as they are. The search for
+/// what stays begins at the nearest of the landmarks.
+pub(crate) fn lex_edit<S: Stepper>(
+    alloc: Global,
+    stepper: &mut S,
+    text: &mut String,
+    tokens: &mut Vec<Token>,
+    landmarks: &mut Landmarks,
+    edit: Edit<'_>,
+) -> Result<Relexed, AllocError> {
+    let Edit {
+        start,
+        stop,
+        insert,
+    } = edit;
+    let removed = String::from_str(alloc, &text[start..stop])?;
+    text.reserve(insert.len())?;
+    put_in_place(text, start, stop, insert);
+    let change = Change {
+        start,
+        old_stop: stop,
+        new_stop: start + insert.len(),
+    };
+    let count = tokens.as_slice().len();
+    let near = landmarks.nearest(start);
+    let made = text.as_str();
+    match renew(alloc, stepper, tokens, near, made, change) {
+        Ok(at) => {
+            *landmarks = past_edit(landmarks, at, made.len());
+            Ok(at.counts(count))
+        }
+        Err(refused) => {
+            put_in_place(text, start, change.new_stop, removed.as_str());
+            Err(refused)
+        }
+    }
+}
+
+/// Where the landmarks are after an edit that was relexed so far, in a text of `len` bytes; its kept front is one.
+fn past_edit(landmarks: &Landmarks, at: Relexing, len: usize) -> Landmarks {
+    let now = Bound {
+        number: at.front.number + at.lexed,
+        place: at.at,
+    };
+    let mut landmarks = landmarks.after(at.front, at.back, now);
+    landmarks.remember(at.front, len);
+    landmarks
+}

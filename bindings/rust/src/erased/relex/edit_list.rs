@@ -1,0 +1,54 @@
+//! Edits in a row.
+
+use crate::erased::entry::stepper::Stepper;
+use crate::erased::relex::edit::Edit;
+use crate::erased::relex::lexed_text::LexedText;
+use core::error::Error;
+use core::fmt;
+
+/// Why a list of edits stopped, and at which of them, counted from 0. The edits before it stand.
+#[derive(Clone, Copy, Debug, PartialEq, Eq)]
+pub enum EditStop {
+    /// The range is not inside the text as it then was, or cuts a character.
+    Range { at: usize },
+
+    /// The text would have had more than `u32::MAX` bytes.
+    TooLong { at: usize },
+
+    /// Memory was refused.
+    Memory { at: usize },
+}
+
+impl fmt::Display for EditStop {
+    fn fmt(&self, f: &mut fmt::Formatter) -> fmt::Result {
+        match self {
+            EditStop::Range { at } => write!(f, "edit {at}: bad range"),
+            EditStop::TooLong { at } => write!(f, "edit {at}: text too long"),
+            EditStop::Memory { at } => write!(f, "edit {at}: no memory"),
+        }
+    }
+}
+
+impl Error for EditStop {}
+
+impl<S: Stepper> LexedText<S> {
+    /// Makes the edits in order, as far as the first that is refused.
+    pub fn edit_all(&mut self, edits: &[Edit<'_>]) -> Result<(), EditStop> {
+        // So the tokens are those of the text, also where there is no edit.
+        debug_assert!(self.is_consistent());
+        for (at, edit) in edits.iter().enumerate() {
+            if !self.accepts(edit.start, edit.stop, edit.insert) {
+                return Err(if self.contains_range(edit.start, edit.stop) {
+                    EditStop::TooLong { at }
+                } else {
+                    EditStop::Range { at }
+                });
+            }
+            match self.edit(edit.start, edit.stop, edit.insert) {
+                Ok(_) => {}
+                Err(_) => return Err(EditStop::Memory { at }),
+            }
+        }
+        Ok(())
+    }
+}

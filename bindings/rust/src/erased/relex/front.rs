@@ -1,0 +1,142 @@
+//! What an edit keeps of the old tokens.
+//!
+//! Only the lengths of the old tokens are read. Each function here may be called with any lengths; what it finds is
+//! said of lengths that are those of a text's tokens.
+
+use crate::erased::token::Token;
+
+/// What has a length in bytes, as a token.
+pub trait Measured {
+    /// The length in bytes.
+    fn len(&self) -> u32;
+}
+
+impl Measured for Token {
+    fn len(&self) -> u32 {
+        self.len
+    }
+}
+
+/// A bound of a list of tokens: its number and its place.
+#[derive(Clone, Copy, Debug, PartialEq, Eq)]
+pub struct Bound {
+    /// How many tokens stand before it.
+    pub number: usize,
+    /// Where it is, in bytes from the start of the text.
+    pub place: usize,
+}
+
+/// The first bound, which each list has.
+pub(crate) const FIRST: Bound = Bound {
+    number: 0,
+    place: 0,
+};
+
+/// Whether at least two characters stand between the places.
+pub(crate) fn two_stand(text: &str, from: usize, to: usize) -> bool {
+    if from >= to {
+        return false;
+    }
+    if to - from >= 8 {
+        return true;
+    }
+    let mut chars = text[from..to].chars();
+    match chars.next() {
+        Some(_) => chars.next().is_some(),
+        None => false,
+    }
+}
+
+/// Whether `from` is between characters, and at least two of them stand from there up to `to`.
+fn stand_before(text: &str, from: usize, to: usize) -> bool {
+    text.is_char_boundary(from) && two_stand(text, from, to)
+}
+
+/// The last bound up to `from` that is at least two characters before `start`, or the first one.
+fn walk_back<T: Measured>(text: &str, tokens: &[T], start: usize, from: Bound) -> Bound {
+    if from.number > tokens.len() {
+        return FIRST;
+    }
+    let mut at = from;
+    while at.number > 0 {
+        if stand_before(text, at.place, start) {
+            return at;
+        }
+        let number = at.number - 1;
+        at = Bound {
+            number,
+            place: at.place.saturating_sub(tokens[number].len() as usize),
+        };
+    }
+    FIRST
+}
+
+/// How many of the tokens end at least two characters before `start`. The search begins at `near`, which may be
+/// any bound.
+pub(crate) fn kept_front<T: Measured>(
+    text: &str,
+    tokens: &[T],
+    start: usize,
+    near: Bound,
+) -> Bound {
+    let mut at = walk_back(text, tokens, start, near);
+    while at.number < tokens.len() {
+        let next = Bound {
+            number: at.number + 1,
+            place: at.place + tokens[at.number].len() as usize,
+        };
+        if !stand_before(text, next.place, start) {
+            break;
+        }
+        at = next;
+    }
+    at
+}
+
+/// The first bound from `from` on that is at or past `target`, or the last one.
+fn next_bound<T: Measured>(tokens: &[T], from: Bound, target: usize) -> Bound {
+    let mut at = from;
+    while at.number < tokens.len() && at.place < target {
+        at = Bound {
+            number: at.number + 1,
+            place: at.place + tokens[at.number].len() as usize,
+        };
+    }
+    at
+}
+
+/// A place in the old tokens, and whether the new tokens meet it.
+#[derive(Clone, Copy)]
+pub(crate) struct Meeting {
+    pub at: Bound,
+    pub met: bool,
+}
+
+/// What an edit did to the text: it ends at `past` in the new one, where `added` bytes stand for `removed`.
+#[derive(Clone, Copy)]
+pub(crate) struct Damage {
+    pub past: usize,
+    pub added: usize,
+    pub removed: usize,
+}
+
+/// Whether the bound of the new tokens at `place` is past the edit and, moved back, a bound of the old tokens.
+pub(crate) fn follow<T: Measured>(
+    tokens: &[T],
+    from: Bound,
+    place: usize,
+    damage: Damage,
+) -> Meeting {
+    if place < damage.past {
+        return Meeting {
+            at: from,
+            met: false,
+        };
+    }
+    let target = place - damage.added + damage.removed;
+    let at = next_bound(tokens, from, target);
+    Meeting {
+        at,
+        met: at.place == target,
+    }
+}

@@ -1,0 +1,74 @@
+//! Bounds that are remembered, so that a search begins near where it ends.
+
+use crate::erased::relex::front::{Bound, FIRST};
+
+/// How many bounds are remembered.
+const COUNT: usize = 64;
+
+/// Some bounds of a list of tokens, one for each of `COUNT` equal shares of its text.
+#[derive(Clone, Copy)]
+pub(crate) struct Landmarks {
+    bounds: [Bound; COUNT],
+}
+
+impl Landmarks {
+    /// The first bound alone, which each list has.
+    pub(crate) fn new() -> Landmarks {
+        Landmarks {
+            bounds: [FIRST; COUNT],
+        }
+    }
+
+    /// Remembers the bound, in place of the one in the same share of a text of `len` bytes.
+    pub(crate) fn remember(&mut self, bound: Bound, len: usize) {
+        let share = len / COUNT + 1;
+        let index = (bound.place / share).min(COUNT - 1);
+        self.bounds[index] = bound;
+    }
+
+    /// The one that is nearest to `place`.
+    pub(crate) fn nearest(&self, place: usize) -> Bound {
+        let mut nearest = self.bounds[0];
+        for bound in &self.bounds {
+            if bound.place.abs_diff(place) < nearest.place.abs_diff(place) {
+                nearest = *bound;
+            }
+        }
+        nearest
+    }
+
+    /// The last one that at most `number` tokens stand before, or the first bound of the list.
+    pub(crate) fn before_number(&self, number: usize) -> Bound {
+        let mut last = FIRST;
+        for bound in &self.bounds {
+            if last.number < bound.number && bound.number <= number {
+                last = *bound;
+            }
+        }
+        last
+    }
+
+    /// Where they are after an edit that keeps the tokens up to `kept`, and those from `met` on, which is then
+    /// `now`. One that stood between is `kept`.
+    pub(crate) fn after(&self, kept: Bound, met: Bound, now: Bound) -> Landmarks {
+        let mut bounds = [kept; COUNT];
+        for (i, bound) in self.bounds.iter().enumerate() {
+            bounds[i] = move_bound(*bound, kept, met, now);
+        }
+        Landmarks { bounds }
+    }
+}
+
+/// Where the bound is after an edit that keeps the tokens up to `kept`, and those from `met` on, which is then `now`.
+fn move_bound(bound: Bound, kept: Bound, met: Bound, now: Bound) -> Bound {
+    if bound.number <= kept.number {
+        bound
+    } else if bound.number >= met.number {
+        Bound {
+            number: bound.number - met.number + now.number,
+            place: bound.place - met.place + now.place,
+        }
+    } else {
+        kept
+    }
+}

@@ -1,0 +1,78 @@
+//! The pieces of a text that is kept with its tokens.
+
+use crate::erased::entry::stepper::Stepper;
+use crate::erased::relex::lexed_text::LexedText;
+use crate::erased::token::Token;
+use core::iter::{ExactSizeIterator, Iterator};
+
+/// A token, where it stands in its text, and its part of the text.
+#[derive(Clone, Copy, Debug, PartialEq, Eq)]
+pub struct Piece<'a> {
+    /// Where the token begins, in bytes from the start of the text.
+    pub start: u32,
+    /// The token.
+    pub token: Token,
+    /// The token's text.
+    pub text: &'a str,
+}
+
+/// An iterator over the pieces of a text, made by [`LexedText::pieces`] or [`LexedText::pieces_of`].
+///
+/// A piece begins where the one before it ended, and its text is the slice of the text there.
+pub struct Pieces<'a> {
+    text: &'a str,
+    start: u32,
+    tokens: &'a [Token],
+}
+
+impl<'a> Iterator for Pieces<'a> {
+    type Item = Piece<'a>;
+
+    /// The next piece, or `None` past the last one, from then on.
+    fn next(&mut self) -> Option<Piece<'a>> {
+        let (token, tokens) = self.tokens.split_first()?;
+        let end = self.start + token.len;
+        let piece = Piece {
+            start: self.start,
+            token: *token,
+            text: &self.text[self.start as usize..end as usize],
+        };
+        self.start = end;
+        self.tokens = tokens;
+        Some(piece)
+    }
+
+    /// How many pieces are left, twice.
+    fn size_hint(&self) -> (usize, Option<usize>) {
+        let left = self.tokens.len();
+        (left, Some(left))
+    }
+}
+
+impl<'a> ExactSizeIterator for Pieces<'a> {
+    /// How many pieces are left.
+    fn len(&self) -> usize {
+        self.tokens.len()
+    }
+}
+
+impl<S: Stepper> LexedText<S> {
+    /// The pieces of the text, one for each token, in order.
+    pub fn pieces(&self) -> Pieces<'_> {
+        Pieces {
+            text: self.text(),
+            start: 0,
+            tokens: self.tokens(),
+        }
+    }
+
+    /// The pieces of the tokens from number `from` up to number `to`, such as those that an edit lexed. Few of the tokens
+    /// before them are read.
+    pub fn pieces_of(&self, from: usize, to: usize) -> Pieces<'_> {
+        Pieces {
+            text: self.text(),
+            start: self.place_of(from),
+            tokens: &self.tokens()[from..to],
+        }
+    }
+}

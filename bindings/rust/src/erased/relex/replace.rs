@@ -1,0 +1,37 @@
+//! The middle of a list of tokens, replaced in place.
+use crate::support::Vec;
+
+use crate::erased::token::{Token, TokenKind};
+use crate::support::AllocError;
+
+/// Puts the tokens in place of those from `from` up to `to`. It asks for memory once at most, where the list has no
+/// room, and before it changes anything.
+pub(crate) fn replace(
+    list: &mut Vec<Token>,
+    from: usize,
+    to: usize,
+    with: &[Token],
+) -> Result<(), AllocError> {
+    if with.len() == to - from {
+        put(list.as_mut_slice(), from, with);
+        return Ok(());
+    }
+    let old_len = list.len();
+    let new_len = old_len - (to - from) + with.len();
+    if new_len > old_len {
+        let filler = Token {
+            kind: TokenKind::Eof,
+            len: 0,
+        };
+        list.resize(new_len, filler)?;
+    }
+    list.copy_within(to..old_len, from + with.len());
+    list.truncate(new_len);
+    put(list.as_mut_slice(), from, with);
+    Ok(())
+}
+
+/// Writes the tokens over those from `from` on.
+fn put(all: &mut [Token], from: usize, with: &[Token]) {
+    all[from..from + with.len()].copy_from_slice(with);
+}

@@ -1,0 +1,191 @@
+//! Peeks at what is left of a text, and runs of a class at its front.
+
+use crate::erased::classes::is_whitespace;
+use crate::erased::kernels::{
+    Continue, Decimal, Hexadecimal, Space, ends_space, find, find_either, run_end, short_run_end,
+};
+
+/// The first character, or U+0000 where the text ends.
+pub(crate) fn first(rest: &str) -> char {
+    rest.chars().next().unwrap_or('\0')
+}
+
+/// The second character, or U+0000 where the text has no more than one.
+pub(crate) fn second(rest: &str) -> char {
+    match split_first(rest) {
+        Some((_, tail)) => first(tail),
+        None => '\0',
+    }
+}
+
+/// The third character, or U+0000 where the text has no more than two.
+pub(crate) fn third(rest: &str) -> char {
+    match split_first(rest) {
+        Some((_, tail)) => second(tail),
+        None => '\0',
+    }
+}
+
+/// The first character and what follows it.
+#[inline(always)]
+pub(crate) fn split_first(rest: &str) -> Option<(char, &str)> {
+    let mut chars = rest.chars();
+    let first = chars.next()?;
+    Some((first, chars.as_str()))
+}
+
+/// Whether a character stands next that passes the test. None does at the end of the text.
+#[inline(always)]
+pub(crate) fn next_is<F: Fn(char) -> bool>(rest: &str, test: F) -> bool {
+    match split_first(rest) {
+        Some((c, _)) => test(c),
+        None => false,
+    }
+}
+
+/// What follows the character `c`, if the text begins with it.
+#[inline(always)]
+pub(crate) fn strip(rest: &str, c: char) -> Option<&str> {
+    let (first, tail) = split_first(rest)?;
+    if first == c { Some(tail) } else { None }
+}
+
+/// What follows the characters at the front that pass the test.
+pub(crate) fn eat_while<F: Fn(char) -> bool>(rest: &str, test: F) -> &str {
+    let mut end = 0;
+    for c in rest.chars() {
+        if !test(c) {
+            break;
+        }
+        end += c.len_utf8();
+    }
+    &rest[end..]
+}
+
+/// Whether a character that is not in ASCII stands next.
+#[inline(always)]
+pub(crate) fn begins_wide(rest: &str) -> bool {
+    match rest.as_bytes().first() {
+        Some(byte) => *byte >= 128,
+        None => false,
+    }
+}
+
+/// What follows the characters at the front that an identifier may go on with.
+#[inline]
+pub(crate) fn eat_continue(rest: &str) -> &str {
+    let left = &rest[short_run_end::<Continue>(rest.as_bytes())..];
+    if begins_wide(left) {
+        eat_continue_wide(left)
+    } else {
+        left
+    }
+}
+
+/// What follows the characters at the front that an identifier may go on with, where no such byte of ASCII stands
+/// next.
+#[inline(never)]
+fn eat_continue_wide(rest: &str) -> &str {
+    let mut left = rest;
+    while begins_wide(left) {
+        let next = eat_continue_in(eat_continue_in(left, 0xC0, 0xE0), 0xE0, 0xF0);
+        if begins_wide(next) {
+            let Some((c, tail)) = split_first(next) else {
+                return next;
+            };
+            if !unicode_ident::is_xid_continue(c) {
+                return next;
+            }
+            left = &tail[short_run_end::<Continue>(tail.as_bytes())..];
+        } else {
+            left = &next[short_run_end::<Continue>(next.as_bytes())..];
+        }
+    }
+    left
+}
+
+/// What follows the characters at the front that an identifier may go on with and whose first bytes are in the range.
+///
+/// Where that tells how many bytes a character has, reading it needs no choice.
+#[inline(always)]
+fn eat_continue_in(rest: &str, low: u8, high: u8) -> &str {
+    let mut left = rest;
+    while begins_within(left, low, high) {
+        let Some((c, tail)) = split_first(left) else {
+            return left;
+        };
+        if !unicode_ident::is_xid_continue(c) {
+            return left;
+        }
+        left = tail;
+    }
+    left
+}
+
+/// Whether the next byte is in the range.
+#[inline(always)]
+fn begins_within(rest: &str, low: u8, high: u8) -> bool {
+    match rest.as_bytes().first() {
+        Some(byte) => *byte >= low && *byte < high,
+        None => false,
+    }
+}
+
+/// What follows the white space at the front.
+#[inline]
+pub(crate) fn eat_whitespace(rest: &str) -> &str {
+    let left = &rest[run_end::<Space>(rest.as_bytes())..];
+    if ends_space(left.as_bytes(), 0) {
+        left
+    } else {
+        eat_while(left, is_whitespace)
+    }
+}
+
+/// What follows the characters up to the first `stop`, a byte of ASCII, or the end.
+#[inline(always)]
+pub(crate) fn eat_until(rest: &str, stop: u8) -> &str {
+    match find(stop, rest.as_bytes()) {
+        Some(place) => &rest[place..],
+        None => "",
+    }
+}
+
+/// What follows the characters up to the first of two bytes of ASCII, or the end.
+#[inline(always)]
+pub(crate) fn eat_until_either(rest: &str, one: u8, two: u8) -> &str {
+    match find_either(one, two, rest.as_bytes()) {
+        Some(place) => &rest[place..],
+        None => "",
+    }
+}
+
+/// What follows the digits and underscores at the front.
+#[inline]
+pub(crate) fn eat_decimal(rest: &str) -> &str {
+    let left = &rest[run_end::<Decimal>(rest.as_bytes())..];
+    if begins_wide(left) {
+        eat_while(left, is_digit_or_underscore)
+    } else {
+        left
+    }
+}
+
+/// What follows the hexadecimal digits and underscores at the front.
+#[inline]
+pub(crate) fn eat_hexadecimal(rest: &str) -> &str {
+    let left = &rest[run_end::<Hexadecimal>(rest.as_bytes())..];
+    if begins_wide(left) {
+        eat_while(left, is_hex_digit_or_underscore)
+    } else {
+        left
+    }
+}
+
+fn is_digit_or_underscore(c: char) -> bool {
+    c.is_ascii_digit() || c == '_'
+}
+
+fn is_hex_digit_or_underscore(c: char) -> bool {
+    c.is_ascii_hexdigit() || c == '_'
+}

@@ -1,0 +1,102 @@
+//! Lists and texts where there is no allocator: each request for memory is refused, so they stay empty.
+
+use super::{AllocError, Global};
+use core::marker::PhantomData;
+use core::ops::{Deref, DerefMut, Range};
+
+/// A list with no items.
+#[derive(Clone, Debug, PartialEq, Eq)]
+pub struct Vec<T>(PhantomData<T>);
+
+impl<T> Vec<T> {
+    pub fn new(_: Global) -> Vec<T> {
+        Vec(PhantomData)
+    }
+
+    pub fn as_slice(&self) -> &[T] {
+        &[]
+    }
+
+    pub fn as_mut_slice(&mut self) -> &mut [T] {
+        &mut []
+    }
+
+    pub fn push(&mut self, _: T) -> Result<(), AllocError> {
+        Err(AllocError)
+    }
+
+    pub fn truncate(&mut self, _: usize) {}
+
+    pub fn extend_from_slice(&mut self, more: &[T]) -> Result<(), AllocError> {
+        refused_but_for(more.len())
+    }
+
+    pub fn resize(&mut self, len: usize, _: T) -> Result<(), AllocError> {
+        refused_but_for(len)
+    }
+}
+
+/// Nothing needs no memory.
+fn refused_but_for(len: usize) -> Result<(), AllocError> {
+    if len == 0 { Ok(()) } else { Err(AllocError) }
+}
+
+impl<T> Deref for Vec<T> {
+    type Target = [T];
+
+    fn deref(&self) -> &[T] {
+        &[]
+    }
+}
+
+impl<T> DerefMut for Vec<T> {
+    fn deref_mut(&mut self) -> &mut [T] {
+        &mut []
+    }
+}
+
+/// The empty text.
+#[derive(Clone, Debug, PartialEq, Eq)]
+pub struct String(());
+
+impl String {
+    pub fn new(_: Global) -> String {
+        String(())
+    }
+
+    pub fn from_str(_: Global, text: &str) -> Result<String, AllocError> {
+        refused_but_for(text.len()).map(|()| String(()))
+    }
+
+    pub fn as_str(&self) -> &str {
+        ""
+    }
+
+    pub fn push(&mut self, _: char) -> Result<(), AllocError> {
+        Err(AllocError)
+    }
+
+    pub fn truncate(&mut self, _: usize) {}
+
+    pub fn reserve(&mut self, more: usize) -> Result<(), AllocError> {
+        refused_but_for(more)
+    }
+
+    pub fn replace_range(&mut self, _: Range<usize>, with: &str) -> Result<(), AllocError> {
+        refused_but_for(with.len())
+    }
+}
+
+impl core::fmt::Write for String {
+    fn write_str(&mut self, text: &str) -> core::fmt::Result {
+        refused_but_for(text.len()).map_err(|_| core::fmt::Error)
+    }
+}
+
+impl Deref for String {
+    type Target = str;
+
+    fn deref(&self) -> &str {
+        ""
+    }
+}

@@ -1,0 +1,56 @@
+//! 16 bytes at once, by SSE2 of x86-64.
+
+use core::arch::x86_64::*;
+
+pub type Lanes = __m128i;
+pub const COUNT: usize = 16;
+
+// SAFETY: each intrinsic is safe where the target has SSE2, and this module is built for no other.
+#[inline(always)]
+pub fn splat(byte: u8) -> Lanes {
+    unsafe { _mm_set1_epi8(byte as i8) }
+}
+
+#[inline(always)]
+pub fn load(bytes: &[u8; COUNT]) -> Lanes {
+    unsafe { _mm_loadu_si128(bytes.as_ptr().cast()) }
+}
+
+#[inline(always)]
+pub fn sub(a: Lanes, b: Lanes) -> Lanes {
+    unsafe { _mm_sub_epi8(a, b) }
+}
+
+#[inline(always)]
+pub fn or(a: Lanes, b: Lanes) -> Lanes {
+    unsafe { _mm_or_si128(a, b) }
+}
+
+#[inline(always)]
+pub fn and(a: Lanes, b: Lanes) -> Lanes {
+    unsafe { _mm_and_si128(a, b) }
+}
+
+#[inline(always)]
+pub fn not(a: Lanes) -> Lanes {
+    unsafe { _mm_xor_si128(a, _mm_set1_epi8(-1)) }
+}
+
+#[inline(always)]
+pub fn eq(a: Lanes, b: Lanes) -> Lanes {
+    unsafe { _mm_cmpeq_epi8(a, b) }
+}
+
+#[inline(always)]
+pub fn ge(a: Lanes, b: Lanes) -> Lanes {
+    unsafe { _mm_cmpeq_epi8(_mm_max_epu8(a, b), a) }
+}
+
+#[inline(always)]
+pub fn bits(masks: &[Lanes]) -> u64 {
+    let mut bits = 0;
+    for (n, mask) in masks.iter().enumerate() {
+        bits |= u64::from(unsafe { _mm_movemask_epi8(*mask) } as u32) << (COUNT * n);
+    }
+    bits
+}
