@@ -166,6 +166,14 @@ fn files(rt: HostRuntime) -> Result<(), Fail> {
     Ok(())
 }
 
+/// The answer of a run over these bytes whose ends do as the script says, and what the writer took.
+fn written(rt: &HostRuntime, bytes: &[u8], script: Script<'_>) -> (Result<(), Stop>, Vec<u8>) {
+    let mut input = script.reader(bytes);
+    let mut output = script.writer(rt.alloc());
+    let answer = run(rt.alloc(), &mut input, &mut output);
+    (answer, output.into_inner().taken)
+}
+
 #[test]
 fn writers_that_fail(rt: HostRuntime) {
     let rows = [
@@ -177,22 +185,16 @@ fn writers_that_fail(rt: HostRuntime) {
             writes: &[Turn::Moves(1), Turn::Fails(kind)],
             ..WHOLE
         };
-        let mut output = write_fails.writer(rt.alloc());
-        assert_eq!(rt;
-            run(rt.alloc(), &mut WHOLE.reader(b"fn"), &mut output),
-            Err(stop)
-        );
-        assert_eq!(rt; output.into_inner().taken.as_slice(), b"f".as_slice());
+        let (answer, taken) = written(&rt, b"fn", write_fails);
+        assert_eq!(rt; answer, Err(stop));
+        assert_eq!(rt; taken.as_slice(), b"f".as_slice());
         let flush_fails = Script {
             flush: Some(kind),
             ..WHOLE
         };
-        let mut output = flush_fails.writer(rt.alloc());
-        assert_eq!(rt;
-            run(rt.alloc(), &mut WHOLE.reader(b"fn"), &mut output),
-            Err(stop)
-        );
-        assert_eq!(rt; output.into_inner().taken.as_slice(), b"fn\n".as_slice());
+        let (answer, taken) = written(&rt, b"fn", flush_fails);
+        assert_eq!(rt; answer, Err(stop));
+        assert_eq!(rt; taken.as_slice(), b"fn\n".as_slice());
         assert_eq!(rt; status(&stop), ends);
     }
 }
