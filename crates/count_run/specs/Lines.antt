@@ -7,7 +7,7 @@ use Rattle.std.specs.List.{count_by, list_any}
 use Rattle.rustc_lexer.specs.declared.token.Token.{Token}
 use Rattle.rustc_lexer.specs.declared.token.TokenKind.{TokenKind}
 use Rattle.rustc_lexer.specs.declared.token.TokenKind.TheVariants.{LineComment, BlockComment, Whitespace}
-use Rattle.rustc_lexer.specs.means.Shebang.{shebang}
+use Rattle.rustc_lexer.specs.Answers.{shebang}
 use Rattle.rustc_lexer.specs.declared.edition.Edition.TheVariants.{E2024}
 use Rattle.rustc_lexer.specs.LanguageText.{document}
 use Rattle.rustc_lexer.specs.Tokens.{tokens_of}

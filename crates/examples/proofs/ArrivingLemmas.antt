@@ -13,7 +13,7 @@ use Rattle.rustc_lexer.specs.laws.Lookahead.{first_token_grammar}
 use Rattle.rustc_lexer.specs.LanguageText.{part}
 use Rattle.rustc_lexer.specs.Locality.{IsSettled, StaysUpTo, IsText}
 use Rattle.rustc_lexer.proofs.BoundLemmas.{bound_mono, rises}
-use Rattle.rustc_lexer.proofs.CutLemmas.{IsCutAt, at_bound}
+use Rattle.rustc_lexer.specs.laws.Cuts.{IsCutAt, at_bound}
 use Rattle.rustc_lexer.proofs.EditLemmas.{bound-same}
 use Rattle.examples.specs.Arriving.{GivesFirst, GivesSure, IsFirstUpTo}
 use Rattle.examples.specs.Joined.{joined}

@@ -5,7 +5,7 @@ use Rattle.rustc_lexer.specs.declared.token.RawStrError.{RawStrError}
 use Rattle.rustc_lexer.specs.declared.token.TokenKind.{TokenKind}
 use Rattle.rustc_lexer.specs.declared.token.TokenKind.TheVariants.{Literal}
 use Rattle.rustc_lexer.specs.Pieces.{Placed}
-use Rattle.rustc_lexer.specs.means.Raw.{raw_check}
+use Rattle.rustc_lexer.specs.Answers.{raw_check}
 use Rattle.examples.specs.declared.raw_strings.RawFault.{RawFault}
 
 -- how many characters stand before the hashes of a raw string

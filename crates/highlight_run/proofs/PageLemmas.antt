@@ -6,11 +6,11 @@ use Rattle.std.proofs.lemmas.Str.{IsUtf8-drop}
 use Rattle.rustc_lexer.specs.declared.edition.Edition.{Edition}
 use Rattle.rustc_lexer.specs.declared.token.Token.{Token}
 use Rattle.rustc_lexer.specs.Classes.{Fits}
-use Rattle.rustc_lexer.specs.means.Shebang.{shebang}
+use Rattle.rustc_lexer.specs.Answers.{shebang}
 use Rattle.rustc_lexer.specs.Locality.{IsText}
 use Rattle.rustc_lexer.specs.LanguageText.{document}
 use Rattle.rustc_lexer.specs.Tokens.{bound, tokens_of, Partitions}
-use Rattle.rustc_lexer.proofs.TokensLemmas.{partitions}
+use Rattle.rustc_lexer.specs.laws.Tokens.{partitions}
 use Rattle.rustc_literal_escaper.specs.declared.mode.Mode.{Mode}
 use Rattle.highlight_run.specs.declared.class.Class.{Class}
 use Rattle.highlight_run.specs.declared.class.Class.TheVariants.{Comment}

@@ -7,8 +7,9 @@ use Rattle.rustc_lexer.specs.declared.token.RawStrError.{RawStrError}
 use Rattle.rustc_lexer.specs.declared.token.RawStrError.TheVariants.{InvalidStarter, NoTerminator, TooManyDelimiters}
 use Rattle.rustc_lexer.specs.declared.token.TokenKind.{TokenKind}
 use Rattle.rustc_lexer.specs.declared.token.TokenKind.TheVariants.{BlockComment, Frontmatter, InvalidIdent, UnknownPrefix as UnknownPrefixToken, UnknownPrefixLifetime, GuardedStrPrefix, Literal, Lifetime, Unknown}
-use Rattle.rustc_lexer.specs.means.Raw.{is_r, raw_check}
-use Rattle.rustc_lexer.specs.means.Scan.{next_is}
+use Rattle.rustc_lexer.specs.LanguageCalls.{is_r}
+use Rattle.rustc_lexer.specs.Answers.{raw_check}
+use Rattle.rustc_lexer.specs.Spans.{next_is}
 use Rattle.highlight_run.specs.declared.fault.Fault.{Fault}
 use Rattle.highlight_run.specs.declared.fault.Fault.TheVariants.{OpenComment, FrontmatterSpace, FrontmatterInfostring, InvalidName, UnknownPrefix, UnknownLifetimePrefix, GuardedString, InvalidLifetime, UnknownCharacter, EmptyNumber, EmptyExponent, OpenCharacter, OpenByte, OpenString, RawStarter, OpenRawString, FewHashes, ManyHashes, InLiteral}
 use Rattle.rustc_literal_escaper.specs.declared.error.EscapeError.{EscapeError}

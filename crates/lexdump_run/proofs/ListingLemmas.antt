@@ -7,7 +7,7 @@ use Rattle.rustc_lexer.specs.Tokens.{bound, tokens_left, tokens_of}
 use Rattle.rustc_lexer.proofs.BoundLemmas.{bound_mono}
 use Rattle.rustc_lexer.proofs.EditLemmas.{bound-same}
 use Rattle.rustc_lexer.proofs.FrontLemmas.{bound-shift}
-use Rattle.rustc_lexer.proofs.TokensLemmas.{tokens-nil}
+use Rattle.rustc_lexer.specs.laws.Tokens.{tokens-nil}
 use Rattle.lexdump_run.specs.Listing.{line_text, listing_from, listing}
 use Rattle.ends.specs.Known.{AppendsFront, Went}
 use Rattle.lexdump_run.proofs.PushLemmas.{went_none, went_pushed, front_pushed}

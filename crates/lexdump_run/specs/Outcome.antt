@@ -7,7 +7,7 @@ use Rattle.rustc_lexer.specs.declared.edition.Edition.{Edition}
 use Rattle.rustc_lexer.specs.declared.relex.edit.Edit.{Edit as TextEdit}
 use Rattle.rustc_lexer.specs.EditLists.{applied}
 use Rattle.rustc_lexer.specs.Edits.{IsInside, IsShort}
-use Rattle.rustc_lexer.specs.means.Shebang.{shebang}
+use Rattle.rustc_lexer.specs.Answers.{shebang}
 use Rattle.rustc_lexer.specs.LanguageText.{document, part}
 use Rattle.rustc_lexer.specs.Tokens.{tokens_of}
 use Rattle.lexdump_run.specs.declared.fault.Fault.{Fault}

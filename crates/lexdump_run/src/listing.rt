@@ -6,7 +6,7 @@ ghost use Rattle.lexdump_run.specs.Rest.{field_text, fields_shown, IsRest};
 ghost use Rattle.lexdump_run.specs.Outcome.{edited_from, listed, IsRefused};
 ghost use Rattle.rustc_lexer.specs.Classes.{Fits};
 ghost use Rattle.rustc_lexer.specs.LanguageText.{mode_in};
-ghost use Rattle.rustc_lexer.specs.means.Shebang.{shebang};
+ghost use Rattle.rustc_lexer.specs.Answers.{shebang};
 ghost use Rattle.rustc_lexer.specs.Tokens.{bound, tokens_of};
 
 use crate::fault::Fault;

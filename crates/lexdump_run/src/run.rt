@@ -2,7 +2,7 @@
 ghost use Rattle.std.specs.Prelude.{◌≡◌, ◌≢◌, ◌↔◌, false, true, IsTrue, IsErrOf, IfErr, IfOk, IfSome};
 ghost use Rattle.std.specs.Io.KnownBytes.{Keeps};
 ghost use Rattle.rustc_lexer.specs.Classes.{Fits};
-ghost use Rattle.rustc_lexer.specs.LanguageHolds.{IsDetermined};
+ghost use Rattle.rustc_lexer.specs.Tokens.{IsDetermined};
 ghost use Rattle.lexdump_run.specs.Outcome.{outcome, printed, IsAnswer, IsRuleOfEdits, Writes};
 ghost use Rattle.lexdump_run.specs.Pushed.{Prints};
 

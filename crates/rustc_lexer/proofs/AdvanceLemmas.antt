@@ -9,9 +9,9 @@ use Rattle.rustc_lexer.specs.State.{State, kind_past, token_past}
 use Rattle.rustc_lexer.specs.means.Taking.{token_at, advance}
 use Rattle.rustc_lexer.specs.Locality.{IsText}
 use Rattle.rustc_lexer.specs.Tokens.{tokens_of, tokens_left, StaysAtEnd, TakesPending}
-use Rattle.rustc_lexer.proofs.StateLemmas.{past_token, advance-some, token_past-zero}
+use Rattle.rustc_lexer.specs.laws.State.{past_token, advance-some, token_past-zero}
 use Rattle.rustc_lexer.proofs.TextLemmas.{token_at-not_end}
-use Rattle.rustc_lexer.proofs.TokensLemmas.{CutsOff, token_at-cuts, tokens-nil, tokens-cons}
+use Rattle.rustc_lexer.specs.laws.Tokens.{CutsOff, token_at-cuts, tokens-nil, tokens-cons}
 
 -- pending bytes make no end of a token that is none
 kind_past-end : (pending : ℕ) (kind : TokenKind) → kind_past pending kind ≡ Eof → kind ≡ Eof

@@ -5,7 +5,7 @@ use Rattle.rustc_lexer.specs.means.Least.{more}
 use Rattle.rustc_lexer.specs.means.BlockComment.{at_closing, at_opening, followed_by, end_within, comment_end}
 use Rattle.rustc_lexer.specs.laws.BlockGrammar.{mark}
 use Rattle.rustc_lexer.specs.means.Scan.{begins}
-use Rattle.rustc_lexer.proofs.ScanLemmas.{more-more}
+use Rattle.rustc_lexer.specs.laws.Scan.{more-more}
 
 -- how many characters are taken until the machine is done
 abbrev pub until : {S : Type 0} → (S → Bool) → (S → ℕ → S) → List ℕ → S → Option ℕ

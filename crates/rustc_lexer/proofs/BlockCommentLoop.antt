@@ -9,7 +9,7 @@ use Rattle.rustc_lexer.specs.means.Least.{more}
 use Rattle.rustc_lexer.specs.means.BlockComment.{block_doc_style, comment_end, block_comment, block_comment_to}
 use Rattle.rustc_lexer.specs.means.Scan.{begins, or_all, or_all_at, past, run_len, scanned}
 use Rattle.rustc_lexer.proofs.BlockCommentDepth.{until, until-done, until-go, until-none, is_done, next_depth, ends, comment_end-ends}
-use Rattle.rustc_lexer.proofs.PastLemmas.{past-zero, past-past, chars-past, IsUtf8-cut}
+use Rattle.rustc_lexer.specs.laws.Past.{past-zero, past-past, chars-past, IsUtf8-cut}
 use Rattle.rustc_lexer.proofs.QuotedLoop.{run_fails}
 use Rattle.memchr.specs.Find.{is_byte2}
 

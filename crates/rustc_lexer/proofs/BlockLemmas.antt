@@ -10,7 +10,7 @@ use Rattle.rustc_lexer.specs.Locality.{IsText, IsGrammar}
 use Rattle.rustc_lexer.specs.Tokens.{bound, tokens_by}
 use Rattle.rustc_lexer.proofs.BoundLemmas.{bound_mono, rises}
 use Rattle.rustc_lexer.proofs.BulkLemmas.{filled_all}
-use Rattle.rustc_lexer.proofs.CutLemmas.{IsCutAt, at_bound, tokens-cons}
+use Rattle.rustc_lexer.specs.laws.Cuts.{IsCutAt, at_bound, tokens-cons}
 use Rattle.rustc_lexer.proofs.FrontLemmas.{bound-shift}
 use Rattle.rustc_lexer.proofs.ProgressLemmas.{IsLexedTo, IsPlace, lexed_place}
 

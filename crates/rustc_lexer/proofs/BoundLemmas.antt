@@ -7,7 +7,7 @@ use Rattle.rustc_lexer.specs.declared.token.Token.{Token}
 use Rattle.rustc_lexer.specs.Locality.{IsText, IsGrammar}
 use Rattle.rustc_lexer.specs.Tokens.{bound, tokens_by}
 use Rattle.rustc_lexer.specs.Edits.{is_bound, ends_past, least_from}
-use Rattle.rustc_lexer.proofs.CutLemmas.{IsCutAt, at_bound, tokens-cons, tokens-nil}
+use Rattle.rustc_lexer.specs.laws.Cuts.{IsCutAt, at_bound, tokens-cons, tokens-nil}
 use Rattle.rustc_lexer.proofs.ProgressLemmas.{IsNext, next-from_drop}
 
 or-true : (a : Bool) → (a || true) ≡ true

@@ -17,10 +17,11 @@ use Rattle.rustc_lexer.specs.LanguageText.{Mode, document, part, mode_after, mod
 use Rattle.rustc_lexer.specs.means.Edition.{first_token_in}
 use Rattle.rustc_lexer.specs.means.Taking.{token_at, advance_by, advance}
 use Rattle.rustc_lexer.specs.laws.Edition.{edition_grammar}
-use Rattle.rustc_lexer.proofs.CutLemmas.{IsCutAt, at_bound, tokens-cons, tokens-nil}
+use Rattle.rustc_lexer.specs.laws.Cuts.{IsCutAt, at_bound, tokens-cons, tokens-nil}
 use Rattle.rustc_lexer.proofs.ProgressLemmas.{IsNext, IsPlace, next-from_drop}
-use Rattle.rustc_lexer.proofs.StateLemmas.{state, past_token, edition-after, advance-some}
-use Rattle.rustc_lexer.proofs.TokensLemmas.{partitions, restarts}
+use Rattle.rustc_lexer.specs.laws.State.{state, past_token, edition-after, advance-some}
+use Rattle.rustc_lexer.specs.laws.Tokens.{partitions}
+use Rattle.rustc_lexer.proofs.TokensLemmas.{restarts}
 
 -- the first `count` tokens are written, and the rest of the room is as it was
 pub record IsWritten {X : Type 0} (written : Token → X) (tokens : List Token) (room filled : List X) (count : ℕ) : Type 0 where

@@ -16,9 +16,10 @@ use Rattle.rustc_lexer.specs.means.Least.{one_more}
 use Rattle.rustc_lexer.specs.means.Raw.{is_hash, is_quote, hash_run, closes, close, hash_count, raw_closed, raw_text}
 use Rattle.rustc_lexer.specs.means.Scan.{bytes_of, past, scanned}
 use Rattle.rustc_lexer.proofs.BitLemmas.{bit-at_byte, bit-above, lowest, below-lowest}
-use Rattle.rustc_lexer.proofs.CharSteps.{bytes_of-suc}
-use Rattle.rustc_lexer.proofs.PastLemmas.{past-past, past-drop, length-past, chars-past, IsUtf8-past}
-use Rattle.rustc_lexer.proofs.RawLemmas.{place-here, place-on, hash_bytes}
+use Rattle.rustc_lexer.specs.laws.CharSteps.{bytes_of-suc}
+use Rattle.rustc_lexer.specs.laws.Past.{past-past, past-drop, length-past, chars-past, IsUtf8-past}
+use Rattle.rustc_lexer.specs.laws.Least.{place-here, place-on}
+use Rattle.rustc_lexer.proofs.RawLemmas.{hash_bytes}
 
 -- ---- what the bits tell
 

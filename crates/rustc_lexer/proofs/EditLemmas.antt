@@ -8,7 +8,7 @@ use Rattle.rustc_lexer.specs.declared.token.Token.{Token}
 use Rattle.rustc_lexer.specs.Locality.{look, IsText, AgreePast, IsGrammar, has_two}
 use Rattle.rustc_lexer.specs.Tokens.{bound, tokens_by}
 use Rattle.rustc_lexer.specs.Edits.{apply, IsEdit, kept_front_from}
-use Rattle.rustc_lexer.proofs.CutLemmas.{IsCutAt, at_bound, tokens_local}
+use Rattle.rustc_lexer.specs.laws.Cuts.{IsCutAt, at_bound, tokens_local}
 
 -- what holds anyway holds of an error
 pub IfErr-always : {T E : Type 0} {P : Type 0} (r : Result T E) → P → IfErr r (λ _. P)

@@ -14,7 +14,7 @@ use Rattle.rustc_lexer.specs.Classes.{is_id_start, is_whitespace}
 use Rattle.rustc_lexer.specs.Emoji.{is_emoji}
 use Rattle.rustc_lexer.specs.means.Lexeme.{family_of, past_first, read_by}
 use Rattle.rustc_lexer.specs.means.Scan.{scanned}
-use Rattle.rustc_lexer.proofs.ScanLemmas.{scanned-same}
+use Rattle.rustc_lexer.specs.laws.Scan.{scanned-same}
 use Rattle.rustc_lexer.proofs.SpaceLemmas.{each}
 
 -- what the family of the first character reads

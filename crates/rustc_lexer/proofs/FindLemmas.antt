@@ -14,7 +14,7 @@ use Rattle.rustc_lexer.specs.means.ByteRuns.{outside}
 use Rattle.rustc_lexer.specs.means.Scan.{past, run_len}
 use Rattle.rustc_lexer.proofs.BridgeLemmas.{past_run, past_run-in, past_run-out}
 use Rattle.rustc_lexer.proofs.KernelLemmas.{run_stops, run_short}
-use Rattle.rustc_lexer.proofs.PastLemmas.{IsUtf8-past}
+use Rattle.rustc_lexer.specs.laws.Past.{IsUtf8-past}
 use lib.Lanes.{chunk, mask_l, top}
 use lib.Count.{count_trailing_zeros}
 

@@ -10,9 +10,9 @@ use Rattle.rustc_lexer.specs.means.Raw.{hash_run, is_quote}
 use Rattle.rustc_lexer.specs.means.Scan.{begins, bytes_of, next_is, past, scanned}
 use Rattle.rustc_lexer.specs.LanguageText.{Mode}
 use Rattle.rustc_lexer.specs.State.{State}
-use Rattle.rustc_lexer.proofs.PastLemmas.{past-past, past-drop, chars-past, IsUtf8-past, length-past}
+use Rattle.rustc_lexer.specs.laws.Past.{past-past, past-drop, chars-past, IsUtf8-past, length-past}
 use Rattle.rustc_lexer.proofs.RawLemmas.{hash_bytes}
-use Rattle.rustc_lexer.proofs.StateLemmas.{state}
+use Rattle.rustc_lexer.specs.laws.State.{state}
 
 -- some of the hashes at the front
 module _ (rest : List ℕ) (is : IsUtf8 rest) (n : ℕ) (few : n ≤ hash_run (chars rest)) where

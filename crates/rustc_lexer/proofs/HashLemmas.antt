@@ -11,9 +11,9 @@ use Rattle.rustc_lexer.specs.means.Quick.{IsFirstToken}
 use Rattle.rustc_lexer.specs.means.Scan.{after, gives, next_is, past, scanned}
 use Rattle.rustc_lexer.proofs.BridgeLemmas.{chars-ascii}
 use Rattle.rustc_lexer.proofs.FamilyLemmas.{by_family}
-use Rattle.rustc_lexer.proofs.PastLemmas.{past-one}
+use Rattle.rustc_lexer.specs.laws.Past.{past-one}
 use Rattle.rustc_lexer.proofs.QuickLemmas.{first}
-use Rattle.rustc_lexer.proofs.ScanLemmas.{scanned-gives, scanned-no, scanned-yes}
+use Rattle.rustc_lexer.specs.laws.Scan.{scanned-gives, scanned-no, scanned-yes}
 
 mark-small : (c : ℕ) → is_guarded_mark c ≡ true → c < 128
 mark-small c e = elim (or_cases (c == 34) _ e) [

@@ -1,4 +1,4 @@
--- The tokens of a text are those that the language allows, and no other list of tokens is.
+-- Tokens that are held, or that a cursor takes, are those that the language allows.
 use Rattle.std.proofs.Common.{◌≡◌, ℕ, ◌+◌, ◌<◌, ◌≤◌, ◌==◌, ◌||◌, not, codes, append_assoc, drop-drop, Bool, true, false, List, [], ◌∷◌, ◌++◌, length, take, drop, refl, sym, ap, ◌∙◌, subst, arith, length-append, length-take-le, take-append-drop, Result, Ok, Err, IfOk}
 use Rattle.std.proofs.Math.Seq.{take-append_seam, drop-append_seam}
 use Rattle.std.proofs.lemmas.Bool.{ne_eqb}
@@ -20,156 +20,20 @@ use Rattle.rustc_lexer.specs.FrontmatterGrammar.{fence, IsOpeningBefore, opening
 use Rattle.rustc_lexer.specs.Language.{BeginsWith}
 use Rattle.rustc_lexer.specs.LanguageIn.{IsTokenIn}
 use Rattle.rustc_lexer.specs.LanguageText.{Mode, IsDocument, document, part, mode_edition, mode_after, AreTokens, nothing, something, frontmatter_first}
-use Rattle.rustc_lexer.specs.LanguageHolds.{AreTheOnlyTokens, HoldsTheOnlyTokens, HoldsTheOnlyTokensBy, IsDetermined, TakesTokenOf, TakesFirst}
+use Rattle.rustc_lexer.specs.Tokens.{AreTheOnlyTokens, HoldsTheOnlyTokensBy, IsDetermined, TakesFirst}
+use Rattle.rustc_lexer.specs.LanguageHolds.{HoldsTheOnlyTokens, TakesTokenOf}
 use Rattle.rustc_lexer.specs.Spans.{bytes}
 use Rattle.rustc_lexer.specs.means.Lexeme.{first_token}
 use Rattle.rustc_lexer.specs.means.Scan.{bytes_of, next_is, past}
 use Rattle.rustc_lexer.specs.State.{State}
 use Rattle.rustc_lexer.specs.means.Taking.{token_at, advance}
 use Rattle.rustc_lexer.specs.Locality.{IsText}
-use Rattle.rustc_lexer.proofs.FrontmatterLemmas.{closing_end-boundary, closing_end-inside}
-use Rattle.rustc_lexer.proofs.LanguageInLemmas.{token-read-in, first-front}
-use Rattle.rustc_lexer.proofs.LanguageLemmas.{empty-text, split, first_token-of, first_token-empty}
-use Rattle.rustc_lexer.proofs.StateLemmas.{state, past_token, advance-end, advance-some, first-advanced}
-use Rattle.rustc_lexer.proofs.TokensLemmas.{token_at-cuts, by_tokens, tokens-nil, tokens-cons}
-
--- ---- a list that the language allows is the list of the tokens
-
-at-first : (mode : Mode) (text : List ℕ) → (IsDocument mode → opens (chars text) ≡ false) → token_at mode text ≡ first_token_in (mode_edition mode) text
-at-first (part edition) text free = refl
-at-first (document edition) text free = rw (free refl) refl
-
-at-frontmatter : (edition : Edition) (text : List ℕ) → opens (chars text) ≡ true → token_at (document edition) text ≡ frontmatter text
-at-frontmatter edition text e = rw e refl
-
-after-frontmatter : (edition : Edition) (text : List ℕ) → mode_after (document edition) (frontmatter text).kind ≡ part edition
-unfolding frontmatter
-after-frontmatter edition text = refl
-
-opening-some : {next w : List ℕ} {n : ℕ} → IsOpeningBefore next n w → 1 ≤ length w
-opening-some (opening n space label spaces no_line many is stop) = omega (arith, length-append space (fence n ++ label), length-append (fence n) label, fence-length n)
-
-newline-same : (s : List ℕ) → next_is is_newline s ≡ next_is (is_among (codes "\n")) s
-newline-same [] = refl
-newline-same (c ∷ s) = by_bool (c == 10)
-  where
-    by_bool : (b : Bool) → b ≡ (b || false)
-    by_bool true = refl
-    by_bool false = refl
-
--- the frontmatter of a text that begins with an opening
-frontmatter-is : (text : List ℕ) (n : ℕ) (front rest : List ℕ) → IsText text → chars text ≡ front ++ rest → IsOpeningBefore rest n front
-    → frontmatter text ≡ record { kind = Frontmatter (next_is is_whitespace front) (not (next_is (is_among (codes "\n")) rest)); len = bytes front + closing_end n (encode_utf8_all rest) }
-unfolding frontmatter past_opening past
-frontmatter-is text n front rest is e is_opening =
-    let r = opening-read is_opening in
-    let parts = split text front rest is e in
-    let len : opening_len (chars text) ≡ length front = ap opening_len e ∙ r.len in
-    let past_is : past_opening text ≡ encode_utf8_all rest = ap (λ (k : ℕ). encode_utf8_all (drop k (chars text))) len ∙ ap encode_utf8_all (ap (drop (length front)) e ∙ drop-append_seam front rest) in
-    let size : bytes_of (opening_len (chars text)) (chars text) ≡ bytes front = ap (λ (k : ℕ). bytes_of k (chars text)) len ∙ ap bytes (ap (take (length front)) e ∙ take-append_seam front rest) in
-    let count : fence_len (chars text) ≡ n = ap fence_len e ∙ r.dashes in
-    let space : next_is is_whitespace (chars text) ≡ next_is is_whitespace front = ap (next_is is_whitespace) e ∙ r.space in
-    let line : next_is is_newline (chars (past_opening text)) ≡ next_is (is_among (codes "\n")) rest = ap (next_is is_newline) (ap chars past_is ∙ parts.again) ∙ newline-same rest in
-    let closes : closing_end (fence_len (chars text)) (past_opening text) ≡ closing_end n (encode_utf8_all rest) = ap (λ (k : ℕ). closing_end k (past_opening text)) count ∙ ap (closing_end n) past_is in
-    ap (λ (b : Bool). let t : Token = record { kind = Frontmatter b (not (next_is is_newline (chars (past_opening text)))); len = bytes_of (opening_len (chars text)) (chars text) + closing_end (fence_len (chars text)) (past_opening text) } in t) space
-    ∙ (ap (λ (b : Bool). let t : Token = record { kind = Frontmatter (next_is is_whitespace front) (not b); len = bytes_of (opening_len (chars text)) (chars text) + closing_end (fence_len (chars text)) (past_opening text) } in t) line
-    ∙ (ap (λ (k : ℕ). let t : Token = record { kind = Frontmatter (next_is is_whitespace front) (not (next_is (is_among (codes "\n")) rest)); len = k + closing_end (fence_len (chars text)) (past_opening text) } in t) size
-    ∙ ap (λ (k : ℕ). let t : Token = record { kind = Frontmatter (next_is is_whitespace front) (not (next_is (is_among (codes "\n")) rest)); len = bytes front + k } in t) closes))
-
--- three dashes or more open it
-opening-dashes : {next w : List ℕ} {n : ℕ} → IsOpeningBefore next n w → 3 ≤ n
-opening-dashes (opening n space label white last three is stop) = three
-
--- one token more
-step : (mode : Mode) (text w next : List ℕ) (token : Token) (tokens : List Token) → IsText text → 0 < length w → chars text ≡ w ++ next → token_at mode text ≡ token → token.len ≡ bytes w
-    → ((u : List ℕ) → IsText u → chars u ≡ next → tokens_of (mode_after mode token.kind) u ≡ tokens) → tokens_of mode text ≡ token ∷ tokens
-step mode text w next token tokens is lt e f len rest =
-    let parts = split text w next is e in
-    let cuts = token_at-cuts mode text is (parts.some lt) in
-    let left : drop (token_at mode text).len text ≡ encode_utf8_all next = ap (λ (t : Token). drop t.len text) f ∙ (ap (λ (n : ℕ). drop n text) len ∙ parts.left) in
-    let text_left : IsText (encode_utf8_all next) = subst IsText left cuts.left in
-    tokens-cons mode text is (parts.some lt)
-    ∙ (ap (λ (t : Token). t ∷ tokens_of (mode_after mode t.kind) (drop (token_at mode text).len text)) f
-    ∙ (ap (λ (u : List ℕ). token ∷ tokens_of (mode_after mode token.kind) u) left ∙ ap (λ (ts : List Token). token ∷ ts) (rest (encode_utf8_all next) text_left parts.again)))
-
-tokens-read : {mode : Mode} {cs : List ℕ} {tokens : List Token} → AreTokens mode cs tokens → (text : List ℕ) → IsText text → chars text ≡ cs → tokens_of mode text ≡ tokens
-tokens-read (nothing {mode}) text is e = ap (λ u. tokens_of mode u) (empty-text text is e) ∙ tokens-nil mode
-tokens-read (something {mode} {kind} {c} {w} {next} {tokens} p free rest) text is e =
-    step mode text (c ∷ w) next (token kind (bytes (c ∷ w))) tokens is (omega arith) e (at-first mode text (λ y. ap opens e ∙ none-opens (c ∷ w ++ next) (free y)) ∙ token-read-in p text e) refl
-    (λ u text_u f. tokens-read rest u text_u f)
-tokens-read (frontmatter_first {edition} {n} {opening = front} {next} {tokens} body is_opening is_end rest) text is e =
-    let len : bytes body ≡ closing_end n (encode_utf8_all (body ++ next)) = sym (ends-read (opening-dashes is_opening) is_end) in
-    let r = opening-read is_opening in
-    let token : Token = record { kind = Frontmatter (next_is is_whitespace front) (not (next_is (is_among (codes "\n")) (body ++ next))); len = bytes front + bytes body } in
-    let whole : chars text ≡ (front ++ body) ++ next = e ∙ sym (append_assoc front body next) in
-    let same : frontmatter text ≡ token = frontmatter-is text n front (body ++ next) is e is_opening ∙ ap (λ (k : ℕ). let t : Token = record { kind = Frontmatter (next_is is_whitespace front) (not (next_is (is_among (codes "\n")) (body ++ next))); len = bytes front + k } in t) (sym len) in
-    step (document edition) text (front ++ body) next token tokens is (omega (arith, opening-some is_opening, length-append front body)) whole (at-frontmatter edition text (ap opens e ∙ r.opens_here) ∙ same) (sym (bytes-append front body))
-    (λ u text_u f. tokens-read rest u text_u f)
-
--- ---- and the tokens are such a list
-
--- what is left to show of a first token
-abbrev Puts : Mode → List ℕ → Token → Type 0
-Puts mode text t = AreTokens (mode_after mode t.kind) (chars (drop t.len text)) (tokens_of (mode_after mode t.kind) (drop t.len text)) → AreTokens mode (chars text) (t ∷ tokens_of (mode_after mode t.kind) (drop t.len text))
-
--- a token of the characters, and the tokens of what follows it
-put : (mode : Mode) (text : List ℕ) (kind : TokenKind) (c : ℕ) (w next : List ℕ) → IsText text → c ∷ w ++ next ≡ chars text → IsTokenIn (mode_edition mode) next kind (c ∷ w) → (IsDocument mode → opens (chars text) ≡ false) → Puts mode text (token kind (bytes (c ∷ w)))
-put mode text kind c w next is whole p free rest =
-    let parts = split text (c ∷ w) next is (sym whole) in
-    let tokens : List Token = tokens_of (mode_after mode kind) (drop (bytes (c ∷ w)) text) in
-    let rest_are : AreTokens (mode_after mode kind) next tokens = subst (λ (cs : List ℕ). AreTokens (mode_after mode kind) cs tokens) (ap chars parts.left ∙ parts.again) rest in
-    subst (λ (cs : List ℕ). AreTokens mode cs (token kind (bytes (c ∷ w)) ∷ tokens)) whole (something p (λ y. opens-none (c ∷ w ++ next) (ap opens whole ∙ free y)) rest_are)
-
-lexeme-first : (mode : Mode) (text : List ℕ) → IsText text → 0 < length text → (IsDocument mode → opens (chars text) ≡ false) → Puts mode text (token_at mode text)
-lexeme-first mode text is some free =
-    let f = first-front (mode_edition mode) text (chars text) is some refl in
-    subst (Puts mode text) (sym (at-first mode text free ∙ f.same)) (put mode text f.kind f.c f.w f.next is f.whole f.is free)
-
-frontmatter-first : (edition : Edition) (text : List ℕ) → IsText text → 0 < length text → opens (chars text) ≡ true → Puts (document edition) text (frontmatter text)
-frontmatter-first edition text is some opened_here rest_are = put (opened (chars text) opened_here)
-  where
-    tokens : List Token
-    tokens = tokens_of (mode_after (document edition) (frontmatter text).kind) (drop (frontmatter text).len text)
-
-    put : Opened (chars text) → AreTokens (document edition) (chars text) (frontmatter text ∷ tokens)
-    put o =
-        let n : ℕ = o.count in
-        let parts = split text o.front o.rest is (sym o.whole) in
-        let left : List ℕ = encode_utf8_all o.rest in
-        let left_utf8 : IsUtf8 left = subst IsUtf8 parts.left (IsUtf8-drop text (bytes o.front) is.utf8 (IsCharBoundary-from_take text (bytes o.front) is.utf8 parts.inside (subst IsUtf8 (sym parts.front) parts.front_utf8))) in
-        let m : ℕ = closing_end n left in
-        let body : List ℕ = chars (take m left) in
-        let next : List ℕ = chars (drop m left) in
-        let utf8 : IsUtf8 (take m left) = IsUtf8-take left m left_utf8 (closing_end-boundary n left) in
-        let body_is : body ++ next ≡ o.rest = sym (chars-append (take m left) (drop m left) utf8) ∙ (ap chars (take-append-drop m left) ∙ parts.again) in
-        let size : bytes body ≡ m = ap length (encodes-chars (take m left) utf8) ∙ length-take-le m left (closing_end-inside n left) in
-        let is_opening : IsOpeningBefore (body ++ next) n o.front = subst (λ (u : List ℕ). IsOpeningBefore u n o.front) (sym body_is) o.is in
-        let len : bytes body ≡ closing_end n (encode_utf8_all (body ++ next)) = size ∙ ap (λ (u : List ℕ). closing_end n (encode_utf8_all u)) (sym body_is) in
-        let whole : o.front ++ (body ++ next) ≡ chars text = ap (λ (u : List ℕ). o.front ++ u) body_is ∙ o.whole in
-        let same : frontmatter text ≡ record { kind = Frontmatter (next_is is_whitespace o.front) (not (next_is (is_among (codes "\n")) (body ++ next))); len = bytes o.front + bytes body } =
-        frontmatter-is text n o.front (body ++ next) is (sym whole) is_opening ∙ ap (λ (k : ℕ). let t : Token = record { kind = Frontmatter (next_is is_whitespace o.front) (not (next_is (is_among (codes "\n")) (body ++ next))); len = bytes o.front + k } in t) (sym len) in
-        let cut : drop (frontmatter text).len text ≡ drop m left = ap (λ (t : Token). drop t.len text) same ∙ (ap (λ (k : ℕ). drop (bytes o.front + k) text) size ∙ (sym (drop-drop m (bytes o.front) text) ∙ ap (drop m) parts.left)) in
-        let rest_is : AreTokens (part edition) next tokens = subst (λ (cs : List ℕ). AreTokens (part edition) cs tokens) (ap chars cut) (subst (λ (mode : Mode). AreTokens mode (chars (drop (frontmatter text).len text)) tokens) (after-frontmatter edition text) rest_are) in
-        subst (λ (cs : List ℕ). AreTokens (document edition) cs (frontmatter text ∷ tokens)) whole
-        (subst (λ (t : Token). AreTokens (document edition) (o.front ++ (body ++ next)) (t ∷ tokens)) (sym same) (frontmatter_first body is_opening (subst (EndsAt n (encode_utf8_all (body ++ next))) (sym len) (ends-are n (encode_utf8_all (body ++ next)) (opening-dashes is_opening))) rest_is))
-
-puts : (mode : Mode) (text : List ℕ) → IsText text → 0 < length text → Puts mode text (token_at mode text)
-puts (part edition) text is some = lexeme-first (part edition) text is some (λ y. absurd (cc))
-puts (document edition) text is some = by_opening (opens (chars text)) refl
-  where
-    by_opening : (b : Bool) → opens (chars text) ≡ b → Puts (document edition) text (token_at (document edition) text)
-    by_opening true e = subst (Puts (document edition) text) (sym (at-frontmatter edition text e)) (frontmatter-first edition text is some e)
-    by_opening false e = lexeme-first (document edition) text is some (λ y. e)
-
-abbrev AreOf : List ℕ → Mode → Type 0
-AreOf text mode = AreTokens mode (chars text) (tokens_of mode text)
-
-tokens-are : (text : List ℕ) (mode : Mode) → IsText text → AreOf text mode
-tokens-are = by_tokens AreOf (λ mode. rw (tokens-nil mode) (subst (λ (cs : List ℕ). AreTokens mode cs []) (sym chars-nil) nothing)) (λ text mode is some rest. rw (tokens-cons mode text is some) (puts mode text is some rest))
-
--- these and no others
-pub language : (text : List ℕ) (mode : Mode) → IsText text → AreTheOnlyTokens mode text
-language text mode is tokens = (λ are. sym (tokens-read are text is refl), λ e. subst (AreTokens mode (chars text)) (sym e) (tokens-are text mode is))
+use Rattle.rustc_lexer.specs.laws.Frontmatter.{closing_end-boundary, closing_end-inside}
+use Rattle.rustc_lexer.specs.laws.LanguageIn.{token-read-in, first-front}
+use Rattle.rustc_lexer.specs.laws.LanguageFront.{empty-text, split, first_token-of, first_token-empty}
+use Rattle.rustc_lexer.specs.laws.State.{state, past_token, advance-end, advance-some, first-advanced}
+use Rattle.rustc_lexer.specs.laws.LanguageTokens.{language, tokens-are, at-first}
+use Rattle.rustc_lexer.specs.laws.Tokens.{token_at-cuts, by_tokens, tokens-nil, tokens-cons}
 
 -- tokens that are held
 pub held-in : (edition : Edition) (text : List ℕ) → IsText text → (held : List Token) → held ≡ tokens_of (part edition) text → HoldsTheOnlyTokens (part edition) text held

@@ -9,7 +9,7 @@ use Rattle.rustc_lexer.specs.means.Lexeme.{past_first, lexeme, first_token}
 use Rattle.rustc_lexer.specs.means.Quick.{IsFirstToken}
 use Rattle.rustc_lexer.specs.means.Scan.{bytes_of, past, scanned}
 use Rattle.rustc_lexer.specs.State.{HasSuffixWithin}
-use Rattle.rustc_lexer.proofs.PastLemmas.{past-past, past-drop, IsUtf8-past, length-past}
+use Rattle.rustc_lexer.specs.laws.Past.{past-past, past-drop, IsUtf8-past, length-past}
 use Rattle.rustc_lexer.proofs.TextLemmas.{first_token-suffix}
 
 -- the token, once what follows the first character is known

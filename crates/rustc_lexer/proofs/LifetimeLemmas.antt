@@ -16,9 +16,9 @@ use Rattle.rustc_lexer.specs.means.Literal.{literal}
 use Rattle.rustc_lexer.specs.means.Quoted.{char_body}
 use Rattle.rustc_lexer.specs.laws.Reach.{run_len_le}
 use Rattle.rustc_lexer.specs.means.Scan.{begins, bytes_of, past, run_len, scanned}
-use Rattle.rustc_lexer.proofs.PastLemmas.{past-zero, past-past, chars-past, length-past, IsUtf8-past}
+use Rattle.rustc_lexer.specs.laws.Past.{past-zero, past-past, chars-past, length-past, IsUtf8-past}
 use Rattle.rustc_lexer.proofs.IdentLemmas.{has_emoji, word_runs, word_all, word_more}
-use Rattle.rustc_lexer.proofs.ScanLemmas.{scanned-and_then, scanned-no, scanned-yes}
+use Rattle.rustc_lexer.specs.laws.Scan.{scanned-and_then, scanned-no, scanned-yes}
 
 -- past the first character of a text
 module _ (text tail : List ℕ) (c : ℕ) (is : IsUtf8 text) (reads : chars text ≡ c ∷ chars tail) (cut : tail ≡ past 1 text) where

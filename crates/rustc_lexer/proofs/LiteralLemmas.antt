@@ -8,8 +8,8 @@ use Rattle.rustc_lexer.specs.declared.token.TokenKind.TheVariants.{Literal}
 use Rattle.rustc_lexer.specs.means.Literal.{Body, suffix_len, suffixed, literal_past}
 use Rattle.rustc_lexer.specs.means.Scan.{bytes_of, past, scanned}
 use Rattle.rustc_lexer.specs.State.{suffix_start_of}
-use Rattle.rustc_lexer.proofs.CharSteps.{bytes_of-suc}
-use Rattle.rustc_lexer.proofs.PastLemmas.{past-zero, past-past, chars-past, IsUtf8-past, length-past}
+use Rattle.rustc_lexer.specs.laws.CharSteps.{bytes_of-suc}
+use Rattle.rustc_lexer.specs.laws.Past.{past-zero, past-past, chars-past, IsUtf8-past, length-past}
 
 -- more characters take more bytes
 pub bytes-add : (n m : ℕ) (s : List ℕ) → bytes_of (n + m) s ≡ bytes_of n s + bytes_of m (drop n s)

@@ -10,8 +10,8 @@ use Rattle.rustc_lexer.specs.declared.token.LiteralKind.{LiteralKind}
 use Rattle.rustc_lexer.specs.declared.token.LiteralKind.TheVariants.{Int}
 use Rattle.rustc_lexer.specs.means.Number.{is_underscore, or_underscore, digits, Front, front_of, binary, octal, hexadecimal, decimal, front_past_zero, is_exponent_letter, float_exponent, fraction, is_no_fraction, begins_fraction, past_digits, front, tail, number_kind}
 use Rattle.rustc_lexer.specs.means.Scan.{after, begins, gives, next_is, past, run_len, scanned}
-use Rattle.rustc_lexer.proofs.PastLemmas.{IsUtf8-past, chars-past, past-past}
-use Rattle.rustc_lexer.proofs.ScanLemmas.{scanned-and_then, next_is-cons, next_is-nil, scanned-after, scanned-gives, scanned-same, scanned-yes, scanned-no}
+use Rattle.rustc_lexer.specs.laws.Past.{IsUtf8-past, chars-past, past-past}
+use Rattle.rustc_lexer.specs.laws.Scan.{scanned-and_then, next_is-cons, next_is-nil, scanned-after, scanned-gives, scanned-same, scanned-yes, scanned-no}
 
 -- whether the next character is in a class that U+0000 is not in, which the code sees at the end
 pub next_is-first : (p : ℕ → Bool) (s : List ℕ) → p 0 ≡ false → next_is p s ≡ p (get_or s 0 0)

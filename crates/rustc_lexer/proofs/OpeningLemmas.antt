@@ -11,7 +11,7 @@ use Rattle.rustc_lexer.specs.means.Lexeme.{is_raw_mark}
 use Rattle.rustc_lexer.specs.means.Raw.{is_quote, is_hash, hash_run, raw_read, raw_text}
 use Rattle.rustc_lexer.specs.means.Scan.{next_is, past, scanned}
 use Rattle.rustc_lexer.proofs.BridgeLemmas.{chars-ascii, IsUtf8-ascii}
-use Rattle.rustc_lexer.proofs.PastLemmas.{past-past, past-two, chars-past, IsUtf8-past}
+use Rattle.rustc_lexer.specs.laws.Past.{past-past, past-two, chars-past, IsUtf8-past}
 use Rattle.rustc_lexer.proofs.RawLemmas.{hash_len}
 use Rattle.rustc_lexer.proofs.RawReadLemmas.{past_opening}
 use Rattle.rustc_lexer.proofs.ShortCharLemmas.{past-ascii, byte_le}

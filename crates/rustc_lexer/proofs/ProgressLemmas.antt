@@ -5,7 +5,7 @@ use Rattle.std.proofs.lemmas.Str.{IsCharBoundary-from_drop}
 use Rattle.rustc_lexer.specs.declared.token.Token.{Token}
 use Rattle.rustc_lexer.specs.Locality.{IsText, IsGrammar}
 use Rattle.rustc_lexer.specs.Tokens.{bound, tokens_by}
-use Rattle.rustc_lexer.proofs.CutLemmas.{IsCutAt, at_bound, tokens-cons, tokens-nil}
+use Rattle.rustc_lexer.specs.laws.Cuts.{IsCutAt, at_bound, tokens-cons, tokens-nil}
 
 -- the list's item number n, where x comes after the first n
 pub record IsNext (ts : List Token) (n : ℕ) (x : Token) : Type 0 where

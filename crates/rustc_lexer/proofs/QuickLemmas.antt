@@ -21,8 +21,8 @@ use Rattle.rustc_lexer.proofs.BridgeLemmas.{chars-ascii, IsUtf8-ascii, skips, st
 use Rattle.rustc_lexer.proofs.IdentLemmas.{ident_or_unknown_prefix-valid}
 use Rattle.rustc_lexer.proofs.LexemeLemmas.{made}
 use Rattle.rustc_lexer.proofs.PartLemmas.{continue_part}
-use Rattle.rustc_lexer.proofs.PastLemmas.{past-one, chars-past}
-use Rattle.rustc_lexer.proofs.ScanLemmas.{scanned-gives, scanned-same}
+use Rattle.rustc_lexer.specs.laws.Past.{past-one, chars-past}
+use Rattle.rustc_lexer.specs.laws.Scan.{scanned-gives, scanned-same}
 use Rattle.rustc_lexer.proofs.SpaceLemmas.{space_stops_here}
 use Rattle.rustc_lexer.specs.declared.lexemes.family.Family.TheVariants.{Space, Symbol, Word}
 use Rattle.rustc_lexer.proofs.FamilyLemmas.{by_family}

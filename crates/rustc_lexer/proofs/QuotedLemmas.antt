@@ -5,7 +5,7 @@ use Rattle.rustc_lexer.specs.declared.token.LiteralKind.{LiteralKind}
 use Rattle.rustc_lexer.specs.means.Literal.{Body}
 use Rattle.rustc_lexer.specs.means.Quoted.{quoted_body}
 use Rattle.rustc_lexer.specs.means.Scan.{after, past, scanned}
-use Rattle.rustc_lexer.proofs.ScanLemmas.{scanned-after}
+use Rattle.rustc_lexer.specs.laws.Scan.{scanned-after}
 
 -- the body from what is read between the quotes
 pub body-read : (kind : Bool → LiteralKind) (scan : List ℕ → Bool × ℕ) (text rest : List ℕ) (closed : Bool) → (closed, rest) ≡ scanned scan text → (record { kind = kind closed; takes_suffix = closed }, rest) ≡ scanned (quoted_body kind scan) text

@@ -6,8 +6,8 @@ use Rattle.rustc_lexer.specs.means.Scan.{begins, past, run_len, scanned}
 use Rattle.rustc_lexer.specs.means.Least.{one_more}
 use Rattle.rustc_lexer.specs.means.Quoted.{is_backslash, stopped, quoted, at_single_stop, is_lone, single_quoted_string}
 use Rattle.rustc_lexer.specs.laws.Seek.{seek, free_place-seek}
-use Rattle.rustc_lexer.proofs.ScanLemmas.{run_len-stop}
-use Rattle.rustc_lexer.proofs.PastLemmas.{past-zero, past-past, past-two, chars-past, IsUtf8-past}
+use Rattle.rustc_lexer.specs.laws.Scan.{run_len-stop}
+use Rattle.rustc_lexer.specs.laws.Past.{past-zero, past-past, past-two, chars-past, IsUtf8-past}
 
 -- what follows the run of a class begins with no character of it
 pub run_fails : (p : ℕ → Bool) (text left s : List ℕ) (c : ℕ) → IsUtf8 text → left ≡ past (run_len p (chars text)) text → chars left ≡ c ∷ s → p c ≡ false

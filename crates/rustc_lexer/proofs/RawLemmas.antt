@@ -7,27 +7,12 @@ use Rattle.std.proofs.lemmas.Str.{encode_ascii, IsCharBoundary-from_drop}
 use Rattle.rustc_lexer.specs.declared.token.RawStrError.{RawStrError}
 use Rattle.rustc_lexer.specs.declared.token.RawStrError.TheVariants.{NoTerminator}
 use Rattle.rustc_lexer.specs.means.Least.{one_more, more}
+use Rattle.rustc_lexer.specs.laws.Least.{place-here, place-on, more-zero, one_more-more}
 use Rattle.rustc_lexer.specs.means.Raw.{least_place, is_hash, is_quote, is_no_quote, hash_run, closes, close, quote_hashes, most_hashes, quote_with, quote_if, best_quote, quote_end, hash_count, raw_closed, raw_text}
 use Rattle.rustc_lexer.specs.means.Scan.{begins, bytes_of, past, run_len, scanned}
-use Rattle.rustc_lexer.proofs.CharSteps.{bytes_of-suc}
-use Rattle.rustc_lexer.proofs.ScanLemmas.{run_len-stop, more-more}
-use Rattle.rustc_lexer.proofs.PastLemmas.{past-zero, past-past, past-drop, chars-past, IsUtf8-past, length-past}
-
--- the place where a test passes
-module _ (test : List ℕ → Bool) where
-  pub place-here : (c : ℕ) (s : List ℕ) → test (c ∷ s) ≡ true → least_place test (c ∷ s) ≡ Some 0
-  place-here c s e = rw e refl
-
-  pub place-on : (c : ℕ) (s : List ℕ) → test (c ∷ s) ≡ false → least_place test (c ∷ s) ≡ one_more (least_place test s)
-  place-on c s e = rw e refl
-
-pub more-zero : (o : Option ℕ) → o ≡ more 0 o
-more-zero None = refl
-more-zero (Some n) = ap Some (omega arith)
-
-pub one_more-more : (k : ℕ) (o : Option ℕ) → one_more (more k o) ≡ more (suc k) o
-one_more-more k None = refl
-one_more-more k (Some n) = ap Some (omega arith)
+use Rattle.rustc_lexer.specs.laws.CharSteps.{bytes_of-suc}
+use Rattle.rustc_lexer.specs.laws.Scan.{run_len-stop, more-more}
+use Rattle.rustc_lexer.specs.laws.Past.{past-zero, past-past, past-drop, chars-past, IsUtf8-past, length-past}
 
 -- past k characters, a quote, and h characters
 more-quote : (k h : ℕ) (o : Option ℕ) → more k (one_more (more h o)) ≡ more (suc k + h) o

@@ -11,9 +11,9 @@ use Rattle.rustc_lexer.specs.declared.token.TokenKind.TheVariants.{Literal}
 use Rattle.rustc_lexer.specs.means.Literal.{suffix_len}
 use Rattle.rustc_lexer.specs.means.Raw.{is_quote, hash_run, raw_text, past_starter, raw_starter, raw_read, raw_body, accepted, is_accepted, prefix_kind, prefix_len, raw_literal, checked, raw_check, is_r, StartsRaw}
 use Rattle.rustc_lexer.specs.means.Scan.{bytes_of, gives, next_is, past, scanned}
-use Rattle.rustc_lexer.proofs.PastLemmas.{past-zero, past-past, chars-past, IsUtf8-past, length-past}
+use Rattle.rustc_lexer.specs.laws.Past.{past-zero, past-past, chars-past, IsUtf8-past, length-past}
 use Rattle.rustc_lexer.proofs.RawLemmas.{hash_len}
-use Rattle.rustc_lexer.proofs.ScanLemmas.{scanned-after, scanned-gives, scanned-shorter, scanned-read_as}
+use Rattle.rustc_lexer.specs.laws.Scan.{scanned-after, scanned-gives, scanned-shorter, scanned-read_as}
 use Rattle.rustc_lexer.proofs.LiteralLemmas.{with-suffix, no-suffix}
 
 abbrev Left : Type 0

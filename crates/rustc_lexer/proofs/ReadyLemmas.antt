@@ -6,7 +6,7 @@ use Rattle.rustc_lexer.specs.declared.token.Token.{Token}
 use Rattle.rustc_lexer.specs.Locality.{IsText, IsGrammar, has_two}
 use Rattle.rustc_lexer.specs.Tokens.{AreBoundaries, bound, tokens_by}
 use Rattle.rustc_lexer.specs.Edits.{apply, IsEdit, kept_front, ends_past, meet, relexed_of}
-use Rattle.rustc_lexer.proofs.CutLemmas.{at_bound}
+use Rattle.rustc_lexer.specs.laws.Cuts.{at_bound}
 use Rattle.rustc_lexer.proofs.BoundLemmas.{bound_mono, rises, ends_past-at}
 use Rattle.rustc_lexer.proofs.EditLemmas.{IsEdited, edited, kept_same, met_whole, has_two-before}
 use Rattle.rustc_lexer.proofs.MeetingLemmas.{IsMet}

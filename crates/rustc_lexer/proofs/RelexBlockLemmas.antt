@@ -15,7 +15,7 @@ use Rattle.rustc_lexer.specs.Relexing.{IsFollowed, IsMadeOf, IsStepTo, Stands, T
 use Rattle.rustc_lexer.specs.Tokens.{bound, tokens_by}
 use Rattle.rustc_lexer.proofs.BoundLemmas.{number_le_bound, rises}
 use Rattle.rustc_lexer.proofs.BulkLemmas.{next_place, next_token, over, stands as place_stands}
-use Rattle.rustc_lexer.proofs.CutLemmas.{IsCutAt, at_bound}
+use Rattle.rustc_lexer.specs.laws.Cuts.{IsCutAt, at_bound}
 use Rattle.rustc_lexer.proofs.ProgressLemmas.{IsPlace}
 use Rattle.rustc_lexer.proofs.RelexingLemmas.{below_later, made_text, stands_inside, stands_next}
 

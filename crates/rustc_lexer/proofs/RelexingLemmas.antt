@@ -16,7 +16,7 @@ use Rattle.rustc_lexer.specs.Relexing.{IsBound, IsChange, IsFollowed, IsMadeOf, 
 use Rattle.rustc_lexer.specs.means.Relexing.{IsFront, damage_of}
 use Rattle.rustc_lexer.specs.Locality.{has_two, IsText, IsGrammar}
 use Rattle.rustc_lexer.proofs.BoundLemmas.{least_from_ge, bound-last}
-use Rattle.rustc_lexer.proofs.CutLemmas.{IsCutAt, at_bound, tokens-cons}
+use Rattle.rustc_lexer.specs.laws.Cuts.{IsCutAt, at_bound, tokens-cons}
 use Rattle.rustc_lexer.proofs.EditLemmas.{IsEdited, edited, bound-same, start_inside}
 use Rattle.rustc_lexer.proofs.MeetingLemmas.{IsGoing, IsMet, going_inside, going_least, going_met, test}
 use Rattle.rustc_lexer.proofs.ProgressLemmas.{IsLexedTo, lexed_more}

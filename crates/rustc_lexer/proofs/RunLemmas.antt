@@ -4,8 +4,8 @@ use Rattle.std.specs.Char.{encode_utf8, len_utf8}
 use Rattle.std.specs.Str.{chars, IsUtf8}
 use Rattle.std.proofs.lemmas.Str.{chars-nil}
 use Rattle.rustc_lexer.specs.means.Scan.{bytes_of, past, run_len}
-use Rattle.rustc_lexer.proofs.PastLemmas.{past-drop}
-use Rattle.rustc_lexer.proofs.CharSteps.{Stands, step, bytes_of-suc}
+use Rattle.rustc_lexer.specs.laws.Past.{past-drop}
+use Rattle.rustc_lexer.specs.laws.CharSteps.{Stands, step, bytes_of-suc}
 
 -- how many bytes the run of a class at the front of a text takes
 abbrev pub run_bytes : (ℕ → Bool) → List ℕ → ℕ

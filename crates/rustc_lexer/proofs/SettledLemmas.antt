@@ -6,7 +6,7 @@ use Rattle.rustc_lexer.specs.declared.token.Token.{Token}
 use Rattle.rustc_lexer.specs.Tokens.{bound, tokens_by}
 use Rattle.rustc_lexer.specs.Locality.{has_two, AreLocal, IsSettled, StaysUpTo, IsText, IsGrammar, AgreePast}
 use Rattle.rustc_lexer.proofs.BoundLemmas.{bound_mono, rises}
-use Rattle.rustc_lexer.proofs.CutLemmas.{at_bound, tokens_local}
+use Rattle.rustc_lexer.specs.laws.Cuts.{at_bound, tokens_local}
 use Rattle.rustc_lexer.proofs.EditLemmas.{has_two-agree, has_two-mono}
 use Rattle.rustc_lexer.proofs.ProgressLemmas.{IsLexedTo, lexed_more}
 

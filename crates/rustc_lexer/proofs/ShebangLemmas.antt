@@ -9,14 +9,7 @@ use Rattle.rustc_lexer.specs.means.Scan.{begins}
 use Rattle.rustc_lexer.specs.means.Shebang.{is_attribute, before_newline, line_len, shebang_past, shebang}
 use Rattle.rustc_lexer.specs.LanguageText.{part}
 use Rattle.rustc_lexer.specs.Tokens.{tokens_of}
-
--- what begins with `#!`
-pub front-is : (s : List ℕ) → begins (codes "#!") s ≡ true → s ≡ 35 ∷ 33 ∷ drop 2 s
-front-is [] e = absurd (true≢false (sym e))
-front-is (c ∷ []) e = absurd (true≢false (sym (and_parts (c == 35) false e).1))
-front-is (c ∷ d ∷ s) e =
-    let parts = and_parts (c == 35) ((d == 33) && true) e in
-    ap (λ (x : ℕ). x ∷ d ∷ s) (eqb-true c 35 parts.0) ∙ ap (λ (x : ℕ). 35 ∷ x ∷ s) (eqb-true d 33 (and_parts (d == 33) true parts.1).0)
+use Rattle.rustc_lexer.specs.laws.LanguageShebang.{front-is}
 
 pub no_shebang : (s : List ℕ) → ((rest : List ℕ) → s ≢ 35 ∷ 33 ∷ rest) → None ≡ shebang s
 unfolding shebang

@@ -10,7 +10,7 @@ use Rattle.rustc_lexer.specs.means.Lifetime.{is_name_start, is_character_at}
 use Rattle.rustc_lexer.specs.means.Quoted.{at_single_stop, is_lone, single_quoted_string}
 use Rattle.rustc_lexer.specs.means.Scan.{begins, past, scanned}
 use Rattle.rustc_lexer.proofs.BridgeLemmas.{chars-ascii, IsUtf8-ascii}
-use Rattle.rustc_lexer.proofs.PastLemmas.{past-one, past-two}
+use Rattle.rustc_lexer.specs.laws.Past.{past-one, past-two}
 use Rattle.rustc_lexer.proofs.QuotedLoop.{Seeking, seek-start, seek-on, seek-closed, single-lone, single-free}
 
 pub past-ascii : (b : ℕ) (bs : List ℕ) → IsUtf8 (b ∷ bs) → b < 128 → bs ≡ past 1 (b ∷ bs)

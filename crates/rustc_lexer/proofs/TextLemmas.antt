@@ -34,14 +34,20 @@ use Rattle.rustc_lexer.specs.State.{suffix_start_of, HasSuffixWithin}
 use Rattle.rustc_lexer.specs.Locality.{IsText}
 use Rattle.rustc_lexer.specs.laws.TokenBy.{scalars-take}
 use Rattle.rustc_lexer.specs.Tokens.{tokens_of, HasRawText, HasText, HaveTexts}
-use Rattle.rustc_lexer.proofs.CharSteps.{bytes_of-suc}
+use Rattle.rustc_lexer.specs.laws.CharSteps.{bytes_of-suc}
 use Rattle.rustc_lexer.proofs.EditionLemmas.{is_silent, changed-either}
-use Rattle.rustc_lexer.proofs.FrontmatterLemmas.{frontmatter-text, frontmatter-suffix, token_at-either}
-use Rattle.rustc_lexer.proofs.PastLemmas.{split_past}
+use Rattle.rustc_lexer.specs.laws.Frontmatter.{frontmatter-suffix, token_at-either}
+use Rattle.rustc_lexer.specs.laws.Past.{split_past}
 use Rattle.rustc_lexer.proofs.LiteralLemmas.{bytes-add, suffix_within, suffix-first}
-use Rattle.rustc_lexer.proofs.TokensLemmas.{token_at-cuts, by_tokens, tokens-nil, tokens-cons}
+use Rattle.rustc_lexer.specs.laws.Tokens.{token_at-cuts, by_tokens, tokens-nil, tokens-cons}
+use Rattle.rustc_lexer.specs.means.Frontmatter.{frontmatter}
 use Rattle.rustc_lexer.specs.means.Hash.{is_guarded_mark, hash}
 use Rattle.rustc_lexer.specs.means.Taking.{token_at}
+
+-- a frontmatter says nothing of its text
+frontmatter-text : (text : List ℕ) → HasText (frontmatter text).kind (take (frontmatter text).len text)
+unfolding frontmatter
+frontmatter-text text = tt
 
 -- of what is read past the first character `c`: the suffix begins within the token, and its text is as the kind says
 record Tells (c : ℕ) (s : List ℕ) (read : TokenKind × ℕ) : Type 0 where

@@ -1,4 +1,4 @@
--- The tokens of a whole text: one by one, and past a bound.
+-- Taking the tokens of a whole text, one by one.
 use Rattle.std.proofs.Common.{◌≡◌, ℕ, zero, suc, ◌<◌, ◌≤◌, ◌==◌, true, false, true≢false, subst, List, [], ◌∷◌, length, take, drop, refl, sym, ap, ◌∙◌, arith, length-drop, take-add, All, ◌^◌, Some, rules}
 use Rattle.std.specs.Prelude.{⊤}
 use Rattle.std.specs.Iterator.{at_most, MakesProgress}
@@ -8,148 +8,18 @@ use Rattle.std.proofs.lemmas.Str.{IsUtf8-append, IsUtf8-drop, IsUtf8-nil, IsUtf8
 use Rattle.std.proofs.lemmas.List.Elements.{All-nil, All-cons}
 use Rattle.rustc_lexer.specs.declared.edition.Edition.{Edition}
 use Rattle.rustc_lexer.specs.declared.token.Token.{Token}
-use Rattle.rustc_lexer.specs.Tokens.{tokens_by, cut, tokens_of_document, tokens_of, tokens_left, bound, Partitions, RestartsAtBounds, TakesToken}
+use Rattle.rustc_lexer.specs.Tokens.{tokens_of, tokens_left, RestartsAtBounds, TakesToken}
+use Rattle.rustc_lexer.specs.laws.Tokens.{CutsOff, token_at-cuts, tokens-cons, tokens-nil, shorter}
 use Rattle.rustc_lexer.specs.LanguageText.{Mode, document, part, mode_after}
 use Rattle.rustc_lexer.specs.laws.Edition.{edition_grammar}
 use Rattle.rustc_lexer.specs.means.Edition.{first_token_in}
 use Rattle.rustc_lexer.specs.means.Frontmatter.{frontmatter}
 use Rattle.rustc_lexer.specs.State.{State, token_past}
 use Rattle.rustc_lexer.specs.means.Taking.{token_at}
-use Rattle.rustc_lexer.proofs.CutLemmas.{at_bound, tokens-nil as part-nil, tokens-cons as part-cons}
-use Rattle.rustc_lexer.proofs.FrontmatterLemmas.{frontmatter-cut, token_at-either}
-use Rattle.rustc_lexer.proofs.StateLemmas.{state, past_token, past_token-is, edition-after, advance-some, token_past-zero}
+use Rattle.rustc_lexer.specs.laws.Cuts.{at_bound, tokens-nil as part-nil, tokens-cons as part-cons}
+use Rattle.rustc_lexer.specs.laws.Frontmatter.{frontmatter-cut, token_at-either}
+use Rattle.rustc_lexer.specs.laws.State.{state, past_token, past_token-is, edition-after, advance-some, token_past-zero}
 use Rattle.rustc_lexer.specs.Locality.{IsText}
-
--- the token at the front of a text leaves a shorter text, and is one itself
-pub record CutsOff (text : List ℕ) (token : Token) : Type 0 where
-  pub not_empty : 0 < token.len
-  pub inside : token.len ≤ length text
-  pub front : IsUtf8 (take token.len text)
-  pub left : IsText (drop token.len text)
-
-pub token_at-cuts : (mode : Mode) (text : List ℕ) → IsText text → 0 < length text → CutsOff text (token_at mode text)
-token_at-cuts mode text is some = token_at-either (λ (t : Token). CutsOff text t) mode text
-    (λ edition.
-    let law = edition_grammar edition in
-    record {
-      not_empty = law.not_empty text is some;
-      inside = law.inside text is some;
-      front = law.front text is some;
-      left = record { utf8 = law.back text is some; fits = let f = is.fits in omega (arith, length-drop (first_token_in edition text).len text) };
-    })
-    (λ opened.
-    let cut = frontmatter-cut text is.utf8 opened in
-    let n : ℕ = (frontmatter text).len in
-    record {
-      not_empty = cut.not_empty;
-      inside = cut.inside;
-      front = IsUtf8-take text n is.utf8 cut.boundary;
-      left = record { utf8 = IsUtf8-drop text n is.utf8 cut.boundary; fits = let f = is.fits in omega (arith, length-drop n text) };
-    })
-
-shorter : (text : List ℕ) (token : Token) → CutsOff text token → length (drop token.len text) < length text
-shorter text token cuts = let n = cuts.not_empty in let i = cuts.inside in omega (arith, length-drop token.len text)
-
--- any count that is large enough gives the same tokens
-cut-enough : (mode : Mode) (m n : ℕ) (text : List ℕ) → IsText text → length text ≤ m → length text ≤ n → cut mode m text ≡ cut mode n text
-cut-enough (part edition) m n text is a b = refl
-cut-enough (document edition) zero zero [] is a b = refl
-cut-enough (document edition) zero (suc n) [] is a b = refl
-cut-enough (document edition) (suc m) zero [] is a b = refl
-cut-enough (document edition) (suc m) (suc n) [] is a b = refl
-cut-enough (document edition) zero n (c ∷ cs) is a b = absurd (omega arith)
-cut-enough (document edition) (suc m) zero (c ∷ cs) is a b = absurd (omega arith)
-cut-enough (document edition) (suc m) (suc n) (c ∷ cs) is a b =
-    let token : Token = token_at (document edition) (c ∷ cs) in
-    let cuts : CutsOff (c ∷ cs) token = token_at-cuts (document edition) (c ∷ cs) is (omega arith) in
-    let less : length (drop token.len (c ∷ cs)) < suc (length cs) = shorter (c ∷ cs) token cuts in
-    ap (λ ts. token ∷ ts) (cut-enough (mode_after (document edition) token.kind) m n (drop token.len (c ∷ cs)) cuts.left (omega arith) (omega arith))
-
-cut-all : (mode : Mode) (n : ℕ) (text : List ℕ) → IsText text → length text ≤ n → cut mode n text ≡ tokens_of mode text
-unfolding tokens_of_document
-cut-all (part edition) n text is le = refl
-cut-all (document edition) n text is le = cut-enough (document edition) n (length text) text is le (omega arith)
-
-pub tokens-nil : (mode : Mode) → tokens_of mode [] ≡ []
-unfolding tokens_of_document
-tokens-nil (part edition) = part-nil (first_token_in edition)
-tokens-nil (document edition) = refl
-
--- the tokens of a text: its first one, and those of what is left
-pub tokens-cons : (mode : Mode) (text : List ℕ) → IsText text → 0 < length text
-    → tokens_of mode text ≡ token_at mode text ∷ tokens_of (mode_after mode (token_at mode text).kind) (drop (token_at mode text).len text)
-unfolding tokens_of_document
-tokens-cons (part edition) text is some = part-cons (edition_grammar edition) text is some
-tokens-cons (document edition) [] is some = absurd (omega arith)
-tokens-cons (document edition) (c ∷ cs) is some =
-    let token : Token = token_at (document edition) (c ∷ cs) in
-    let cuts : CutsOff (c ∷ cs) token = token_at-cuts (document edition) (c ∷ cs) is some in
-    let less : length (drop token.len (c ∷ cs)) < suc (length cs) = shorter (c ∷ cs) token cuts in
-    ap (λ ts. token ∷ ts) (cut-all (mode_after (document edition) token.kind) (length cs) (drop token.len (c ∷ cs)) cuts.left (omega arith))
-
--- where a byte is left a token is, whatever the bytes are
-pub tokens-some : (mode : Mode) (b : ℕ) (bs : List ℕ) → (token : Token) × (tokens : List Token) × (tokens_of mode (b ∷ bs) ≡ token ∷ tokens)
-unfolding tokens_of_document tokens_by
-tokens-some (part edition) b bs = (_, _, refl)
-tokens-some (document edition) b bs = (_, _, refl)
-
--- what holds of a text whose first tokens were cut off holds of the text
-module _ (P : List ℕ → Mode → Type 0) (at_end : (mode : Mode) → P [] mode)
-    (step : (text : List ℕ) (mode : Mode) → IsText text → 0 < length text → P (drop (token_at mode text).len text) (mode_after mode (token_at mode text).kind) → P text mode) where
-  by_count : (n : ℕ) (text : List ℕ) (mode : Mode) → IsText text → length text ≤ n → P text mode
-  by_count n [] mode is le = at_end mode
-  by_count zero (c ∷ cs) mode is le = absurd (omega arith)
-  by_count (suc n) (c ∷ cs) mode is le =
-      let token : Token = token_at mode (c ∷ cs) in
-      let cuts : CutsOff (c ∷ cs) token = token_at-cuts mode (c ∷ cs) is (omega arith) in
-      let less : length (drop token.len (c ∷ cs)) < suc (length cs) = shorter (c ∷ cs) token cuts in
-      step (c ∷ cs) mode is (omega arith) (by_count n (drop token.len (c ∷ cs)) (mode_after mode token.kind) cuts.left (omega arith))
-
-  pub by_tokens : (text : List ℕ) (mode : Mode) → IsText text → P text mode
-  by_tokens text mode is = by_count (length text) text mode is (omega arith)
-
--- each bound is inside the text, past a front of whole characters
-pub record IsBound (text : List ℕ) (tokens : List Token) (k : ℕ) : Type 0 where
-  pub inside : bound tokens k ≤ length text
-  pub front : IsUtf8 (take (bound tokens k) text)
-
-abbrev AreBounds : List ℕ → Mode → Type 0
-AreBounds text mode = (k : ℕ) → IsBound text (tokens_of mode text) k
-
-pub bounds : (text : List ℕ) (mode : Mode) → IsText text → AreBounds text mode
-bounds = by_tokens AreBounds (λ mode k. rw (tokens-nil mode) (at_end k)) (λ text mode is some rest k. rw (tokens-cons mode text is some) (step text mode is some rest k))
-  where
-    at_end : (k : ℕ) → IsBound [] [] k
-    at_end zero = record { inside = omega arith; front = IsUtf8-nil }
-    at_end (suc k) = record { inside = omega arith; front = IsUtf8-nil }
-
-    step : (text : List ℕ) (mode : Mode) → IsText text → 0 < length text → AreBounds (drop (token_at mode text).len text) (mode_after mode (token_at mode text).kind)
-        → (k : ℕ) → IsBound text (token_at mode text ∷ tokens_of (mode_after mode (token_at mode text).kind) (drop (token_at mode text).len text)) k
-    step text mode is some rest zero = record { inside = omega arith; front = IsUtf8-nil }
-    step text mode is some rest (suc k) =
-        let token : Token = token_at mode text in
-        let cuts : CutsOff text token = token_at-cuts mode text is some in
-        let there = rest k in
-        record {
-          inside = let i = there.inside in let j = cuts.inside in omega (arith, length-drop token.len text);
-          front = rw (take-add token.len (bound (tokens_of (mode_after mode token.kind) (drop token.len text)) k) text) (IsUtf8-append _ _ cuts.front there.front);
-        }
-
-abbrev Covered : List ℕ → Mode → Type 0
-Covered text mode = (All (λ t. 0 < t.len) (tokens_of mode text)) × (bound (tokens_of mode text) (length (tokens_of mode text)) ≡ length text)
-
-covered : (text : List ℕ) (mode : Mode) → IsText text → Covered text mode
-covered = by_tokens Covered (λ mode. rw (tokens-nil mode) (All-nil (λ t. 0 < t.len), refl)) (λ text mode is some rest. rw (tokens-cons mode text is some) (
-  All-cons (λ t. 0 < t.len) _ _ (token_at-cuts mode text is some).not_empty rest.0,
-  (let i = (token_at-cuts mode text is some).inside in let w = rest.1 in omega (arith, length-drop (token_at mode text).len text)),
-))
-
-pub partitions : (text : List ℕ) (mode : Mode) → IsText text → Partitions text (tokens_of mode text)
-partitions text mode is = record {
-  not_empty = (covered text mode is).0;
-  boundaries = λ k le. let b = bounds text mode is k in IsCharBoundary-from_take text _ is.utf8 b.inside b.front;
-  whole = (covered text mode is).1;
-}
 
 pub restarts : (edition : Edition) (text : List ℕ) → IsText text → RestartsAtBounds edition text
 restarts edition text is k few = sym (at_bound (edition_grammar edition) k text is).rest
@@ -176,7 +46,6 @@ takes_first s t token none is some e f =
       takes = record {
         first = tokens-cons s.mode s.rest is some_left;
         advances = whole ∙ ap (λ (k : Token). let r : Token × State = (k, past_token s.rest s.mode first) in r) first_is;
-        is = refl;
         not_empty = cuts.not_empty;
         boundary = IsCharBoundary-from_take s.rest first.len is.utf8 cuts.inside cuts.front;
         rest = refl;

@@ -5,7 +5,7 @@ use Rattle.rustc_lexer.specs.declared.token.TokenKind.{TokenKind}
 use Rattle.rustc_lexer.specs.declared.token.TokenKind.TheVariants.{LineComment, BlockComment, Frontmatter, Literal, Lifetime}
 use Rattle.rustc_lexer.specs.State.{State}
 use Rattle.rustc_lexer.specs.Tokens.{bound}
-use Rattle.rustc_lexer.specs.means.Taking.{advance}
+use Rattle.rustc_lexer.specs.Answers.{advance}
 
 -- whether tokens of the kind differ in more than their length
 abbrev pub has_fields : TokenKind → Bool

@@ -9,31 +9,24 @@
 -- Trusted, and not proved: that the rules of the page are those of Rust; that `is_xid_start` and
 -- `is_xid_continue` are what Unicode has; the tables of emoji, of white space and of symbols;
 -- `chars` and `encode_utf8_all` of std; and the tools that check the proofs.
-use Rattle.std.specs.Prelude.{◌≡◌, ◌+◌, ◌↔◌, ℕ, Bool, true, List, ◌∷◌, ◌++◌, length, drop, codes}
+use Rattle.std.specs.Prelude.{◌≡◌, ◌+◌, ◌↔◌, ℕ, Bool, List, [], ◌∷◌, ◌++◌, drop, codes}
 use Rattle.std.specs.Prelude.{Option, Some, None, Result}
-use Rattle.std.specs.Char.{is_ascii_digit}
 use Rattle.std.specs.Str.{chars}
 use Rattle.rustc_lexer.specs.declared.edition.Edition.{Edition}
 use Rattle.rustc_lexer.specs.declared.edition.Edition.TheVariants.{E2024}
 use Rattle.rustc_lexer.specs.declared.token.GuardedStr.{GuardedStr}
-use Rattle.rustc_lexer.specs.declared.token.LiteralKind.{LiteralKind}
 use Rattle.rustc_lexer.specs.declared.token.RawStrError.{RawStrError}
 use Rattle.rustc_lexer.specs.declared.token.Token.{Token}
 use Rattle.rustc_lexer.specs.declared.token.TokenKind.{TokenKind}
-use Rattle.rustc_lexer.specs.means.Edition.{first_token_in}
+use Rattle.rustc_lexer.specs.declared.token.TokenKind.TheVariants.{Eof}
 use Rattle.rustc_lexer.specs.FrontmatterGrammar.{OpensNone}
 use Rattle.rustc_lexer.specs.Language.{BeginsWith, IsTokenBefore}
 use Rattle.rustc_lexer.specs.LanguageCalls.{IsGuardedBefore, IsRawAnswer, IsShebang}
 use Rattle.rustc_lexer.specs.LanguageIn.{IsTokenIn}
-use Rattle.rustc_lexer.specs.LanguageText.{Mode, IsDocument, part, AreTokens}
+use Rattle.rustc_lexer.specs.LanguageText.{Mode, IsDocument, part, mode_after, AreTokens}
 use Rattle.rustc_lexer.specs.LiteralGrammar.{hashes}
-use Rattle.rustc_lexer.specs.NumberGrammar.{IsLongestNumber}
 use Rattle.rustc_lexer.specs.Spans.{Chars, Utf8, bytes, NextNotIn}
 use Rattle.rustc_lexer.specs.State.{State, token_past}
-use Rattle.rustc_lexer.specs.Locality.{IsText}
-use Rattle.rustc_lexer.specs.Tokens.{tokens_of, tokens_left}
-use Rattle.rustc_lexer.specs.means.Lexeme.{lexeme}
-use Rattle.rustc_lexer.specs.means.Number.{number_kind}
 
 -- ---- tokens
 
@@ -53,20 +46,6 @@ pub record BeginsWithOne (s : Chars) : Type 0 where
 abbrev pub EachBeginsWithOne : Type 0
 EachBeginsWithOne = (s : Chars) → BeginsWithOne s
 
--- what is read at the front of a text is the token that the language has there, the only one
-abbrev pub IsLanguage : Type 0
-IsLanguage =
-    (next w : Chars) (kind : TokenKind)
-    → IsTokenBefore next kind w ↔ (lexeme (w ++ next) ≡ (kind, length w))
-
--- the number that is read, up to its suffix, is the longest at the front of the text, the only one
-abbrev pub AreLongest : Type 0
-AreLongest =
-    (c : ℕ) (s : Chars) (kind : LiteralKind) (n : ℕ)
-    → is_ascii_digit c ≡ true
-    → IsLongestNumber kind n (c ∷ s)
-    ↔ ((kind ≡ (number_kind c s).0) × (n ≡ 1 + (number_kind c s).1))
-
 -- a token that is taken with no bytes pending, and where no frontmatter opens a document, is of the
 -- page. Of other states this says nothing
 abbrev pub TakesTokenOf : State → Token → Type 0
@@ -75,36 +54,27 @@ TakesTokenOf s token =
     → (IsDocument s.mode → OpensNone (chars s.rest))
     → BeginsWith s.rest token
 
--- in each state of a cursor that has text left: what it takes is the first of the tokens that the
--- language allows there, a frontmatter where one opens, with the bytes that were pending before it;
--- the others are left
-pub record TakesFirst (s : State) (token : Token) (t : State) : Type 0 where
-  pub taken : Token
-  pub with_pending : token ≡ token_past s.pending taken
-  pub first : AreTokens s.mode (chars s.rest) (taken ∷ tokens_left t)
-
 -- ---- texts
+
+-- the token is the first one of the text, read as a part in an edition
+abbrev pub IsFirst : Edition → Utf8 → Token → Type 0
+IsFirst edition text token = (tokens : List Token) × AreTokens (part edition) (chars text) (token ∷ tokens)
+
+-- what a cursor takes: at the end a token of length 0, which changes nothing; else the first of the
+-- tokens that the language allows there, with the bytes that were pending before it
+pub data TakesNext (s : State) : Token × State → Type 0 where
+  nothing_left : s.rest ≡ [] → TakesNext s (record { kind = Eof; len = 0 }, s)
+  first_left : {token : Token} {tokens : List Token}
+      → AreTokens s.mode (chars s.rest) (token ∷ tokens)
+      → TakesNext s (
+        token_past s.pending token,
+        record { pending = 0; rest = drop token.len s.rest; mode = mode_after s.mode token.kind },
+      )
 
 -- these tokens of a text are the only ones that the language allows for it as it is read
 abbrev pub HoldsTheOnlyTokens : Mode → Utf8 → List Token → Type 0
 HoldsTheOnlyTokens mode text held =
     (tokens : List Token) → AreTokens mode (chars text) tokens ↔ (tokens ≡ held)
-
--- so are those that the lexer gives
-abbrev pub AreTheOnlyTokens : Mode → Utf8 → Type 0
-AreTheOnlyTokens mode text = HoldsTheOnlyTokens mode text (tokens_of mode text)
-
--- and those that come from a grammar, where that is the one of an edition
-abbrev pub HoldsTheOnlyTokensBy : (Utf8 → Token) → Utf8 → List Token → Type 0
-HoldsTheOnlyTokensBy grammar text held =
-    (edition : Edition)
-    → grammar ≡ first_token_in edition
-    → HoldsTheOnlyTokens (part edition) text held
-
--- so for every text that fits the language allows one list of tokens, as a document and as a part
--- in each edition
-abbrev pub IsDetermined : Type 0
-IsDetermined = (text : Utf8) (mode : Mode) → IsText text → AreTheOnlyTokens mode text
 
 -- the newest edition, of which documents are, has the tokens of the page
 abbrev pub NewestIsPage : Type 0

@@ -1,5 +1,7 @@
+pub mod Answers
 pub mod Bulk
 pub mod Classes
+pub mod Cuts
 pub mod EditLists
 pub mod Edits
 pub mod Emoji
@@ -20,6 +22,7 @@ pub mod Relexing
 pub mod Spans
 pub mod State
 pub mod Symbols
+pub mod TheOnly
 pub mod Tokens
 pub mod laws
 pub mod means

@@ -2,7 +2,7 @@
 use Rattle.std.specs.Prelude.{ℕ, ◌≡◌, ◌-◌, ◌<◌, ◌≤◌, ◌^◌, Bool, true, nat_le, List, ◌++◌, length, take, drop}
 use Rattle.std.specs.Str.{chars, IsUtf8}
 use Rattle.rustc_lexer.specs.declared.token.Token.{Token}
-use Rattle.rustc_lexer.specs.Tokens.{bound}
+use Rattle.rustc_lexer.specs.Cuts.{bound}
 
 -- the first characters of a text, two at most
 abbrev pub look : List ℕ → List ℕ

@@ -1,68 +1,40 @@
--- The tokens of a text as it is read, their bounds, and what the calls that take them do.
-use Rattle.std.specs.Prelude.{ℕ, zero, suc, ◌≡◌, ◌↔◌, ◌+◌, ◌-◌, ◌<◌, ◌≤◌, List, [], ◌∷◌, length, take, drop, All, IsCharBoundary, Option, IsSome, Some, None, Ok}
-use Rattle.rustc_lexer.specs.LanguageText.{Mode, document, part, mode_edition, mode_after}
-use Rattle.rustc_lexer.specs.State.{State}
+-- The tokens of a text, and what the calls that take them do.
+use Rattle.std.specs.Prelude.{ℕ, ◌≡◌, ◌↔◌, ◌-◌, ◌<◌, ◌≤◌, List, [], ◌∷◌, length, take, drop, IsCharBoundary, Option, IsSome, Some, None, Ok}
+use Rattle.std.specs.Str.{chars}
+use Rattle.rustc_lexer.specs.Answers.{advance, first_in, raw_check}
+pub use Rattle.rustc_lexer.specs.Answers.{tokens_of}
+pub use Rattle.rustc_lexer.specs.Cuts.{cut_by, tokens_by, bound, AreBoundaries, Partitions}
+use Rattle.rustc_lexer.specs.LanguageCalls.{StartsRaw}
+use Rattle.rustc_lexer.specs.LanguageHolds.{HoldsTheOnlyTokens}
+use Rattle.rustc_lexer.specs.LanguageText.{Mode, AreTokens, part, mode_edition, mode_after}
+use Rattle.rustc_lexer.specs.Locality.{IsText}
+use Rattle.rustc_lexer.specs.Spans.{Utf8}
+use Rattle.rustc_lexer.specs.State.{State, token_past}
 use Rattle.rustc_lexer.specs.declared.edition.Edition.{Edition}
 use Rattle.rustc_lexer.specs.declared.token.LiteralKind.TheVariants.{RawStr, RawByteStr, RawCStr}
 use Rattle.rustc_lexer.specs.declared.token.LiteralKind.{LiteralKind}
 use Rattle.rustc_lexer.specs.declared.token.Token.{Token}
 use Rattle.rustc_lexer.specs.declared.token.TokenKind.TheVariants.{Literal, Eof}
 use Rattle.rustc_lexer.specs.declared.token.TokenKind.{TokenKind}
-use Rattle.rustc_lexer.specs.means.Edition.{first_token_in}
-use Rattle.rustc_lexer.specs.means.Raw.{StartsRaw, raw_check}
-use Rattle.rustc_lexer.specs.means.Taking.{token_at, advance}
 
--- ---- by a grammar, which tells the first token of each text
+-- the language allows these tokens of a text, and no others
+abbrev pub AreTheOnlyTokens : Mode → Utf8 → Type 0
+AreTheOnlyTokens mode text = HoldsTheOnlyTokens mode text (tokens_of mode text)
 
--- the first `count` tokens of a text
-abbrev pub cut_by : (List ℕ → Token) → ℕ → List ℕ → List Token
-cut_by first zero text = []
-cut_by first (suc count) [] = []
-cut_by first (suc count) (b ∷ bs) = first (b ∷ bs) ∷ cut_by first count (drop (first (b ∷ bs)).len (b ∷ bs))
+-- so it is for every text that fits, as a document and as a part in each edition
+abbrev pub IsDetermined : Type 0
+IsDetermined = (text : Utf8) (mode : Mode) → IsText text → AreTheOnlyTokens mode text
 
--- the tokens of a text, which has no more of them than bytes
-unfoldable pub tokens_by : (List ℕ → Token) → List ℕ → List Token
-tokens_by first text = cut_by first (length text) text
-
--- bound number k: 0, or the end of the token before it
-abbrev pub bound : List Token → ℕ → ℕ
-bound tokens zero = 0
-bound [] (suc k) = 0
-bound (t ∷ ts) (suc k) = t.len + bound ts k
-
--- each bound of the tokens is inside the text, between characters
-abbrev pub AreBoundaries : List ℕ → List Token → Type 0
-AreBoundaries text tokens = (k : ℕ) → k ≤ length tokens → IsCharBoundary text (bound tokens k)
-
--- ---- as a text is read
-
--- the tokens of a text, of which `count` at most are read as those of a document: each says how what follows it is read
-abbrev pub cut : Mode → ℕ → List ℕ → List Token
-cut (part edition) count text = tokens_by (first_token_in edition) text
-cut (document edition) zero text = []
-cut (document edition) (suc count) [] = []
-cut (document edition) (suc count) (b ∷ bs) =
-    let token : Token = token_at (document edition) (b ∷ bs) in
-    token ∷ cut (mode_after (document edition) token.kind) count (drop token.len (b ∷ bs))
-
--- the tokens of a document, which has no more of them than bytes
-unfoldable pub tokens_of_document : Edition → List ℕ → List Token
-tokens_of_document edition text = cut (document edition) (length text) text
-
--- the tokens of a text
-abbrev pub tokens_of : Mode → List ℕ → List Token
-tokens_of (part edition) text = tokens_by (first_token_in edition) text
-tokens_of (document edition) text = tokens_of_document edition text
+-- so it is with tokens that come from a grammar, where that is the one of an edition
+abbrev pub HoldsTheOnlyTokensBy : (Utf8 → Token) → Utf8 → List Token → Type 0
+HoldsTheOnlyTokensBy grammar text held =
+    (edition : Edition)
+    → grammar ≡ first_in edition
+    → HoldsTheOnlyTokens (part edition) text held
 
 -- the tokens that a cursor with nothing pending, or an iterator, will come to
 abbrev pub tokens_left : State → List Token
 tokens_left s = tokens_of s.mode s.rest
-
--- the tokens cut the text: none is empty, each ends between characters, and together they are as long as the text
-pub record Partitions (text : List ℕ) (tokens : List Token) : Type 0 where
-  pub not_empty : All (λ t. 0 < t.len) tokens
-  pub boundaries : AreBoundaries text tokens
-  pub whole : bound tokens (length tokens) ≡ length text
 
 -- a part past any of its bounds has the rest of the tokens
 abbrev pub RestartsAtBounds : Edition → List ℕ → Type 0
@@ -75,7 +47,6 @@ RestartsAtBounds edition text =
 pub record TakesToken (s : State) (token : Token) (t : State) : Type 0 where
   pub first : tokens_left s ≡ token ∷ tokens_left t
   pub advances : advance s ≡ (token, t)
-  pub is : token ≡ token_at s.mode s.rest
   pub not_empty : 0 < token.len
   pub boundary : IsCharBoundary s.rest token.len
   pub rest : t.rest ≡ drop token.len s.rest
@@ -86,6 +57,13 @@ pub record TakesToken (s : State) (token : Token) (t : State) : Type 0 where
 abbrev pub YieldsToken : State → Option Token → State → Type 0
 YieldsToken s None t = (tokens_left s ≡ []) × (t ≡ s)
 YieldsToken s (Some token) t = TakesToken s token t
+
+-- in each state of a cursor that has text left: what it takes is the first of the tokens that the language allows there, a
+-- frontmatter where one opens, with the bytes that were pending before it; the others are left
+pub record TakesFirst (s : State) (token : Token) (t : State) : Type 0 where
+  pub taken : Token
+  pub with_pending : token ≡ token_past s.pending taken
+  pub first : AreTokens s.mode (chars s.rest) (taken ∷ tokens_left t)
 
 -- the token is more than the bytes that were pending: the rest of it is taken off the text, and ends between characters
 pub record TakesPending (s : State) (token : Token) (t : State) : Type 0 where

@@ -23,3 +23,4 @@ pub mod Relexing
 pub mod Scan
 pub mod Shebang
 pub mod Taking
+pub mod Tokens

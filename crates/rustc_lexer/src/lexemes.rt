@@ -2,7 +2,7 @@
 ghost use Rattle.std.specs.Prelude.{◌≡◌, ◌+◌, ◌<◌, ◌^◌, length};
 ghost use Rattle.rustc_lexer.specs.declared.token.TokenKind.{TokenKind};
 ghost use Rattle.rustc_lexer.specs.Classes.{Fits};
-ghost use Rattle.rustc_lexer.specs.LanguageHolds.{IsLanguage};
+ghost use Rattle.rustc_lexer.specs.laws.Language.{IsLanguage};
 ghost use Rattle.rustc_lexer.specs.means.Lexeme as spec;
 ghost use Rattle.rustc_lexer.specs.means.Quick.{IsFirstToken};
 ghost use Rattle.rustc_lexer.specs.means.Scan.{IsLocal, scanned};

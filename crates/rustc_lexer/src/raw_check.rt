@@ -1,8 +1,9 @@
 //! The check of a raw string.
 ghost use Rattle.std.specs.Prelude.{◌≡◌, ◌<◌, ◌↔◌, length, IsTrue};
+ghost use Rattle.rustc_lexer.specs.Answers.{raw_check};
 ghost use Rattle.rustc_lexer.specs.Classes.{Fits};
+ghost use Rattle.rustc_lexer.specs.LanguageCalls.{StartsRaw};
 ghost use Rattle.rustc_lexer.specs.LanguageHolds.{IsTheRawAnswer};
-ghost use Rattle.rustc_lexer.specs.means.Raw as spec;
 ghost use Rattle.rustc_lexer.specs.means.Scan.{past};
 
 use crate::lexemes::raw::raw_double_quoted_string;
@@ -14,7 +15,7 @@ use crate::token::RawStrError;
 ///
 /// What [`validate_raw_str`] requires of its text.
 pub fn starts_raw(input: &str, prefix_len: u32) -> bool
-    ensures { IsTrue result ↔ spec.StartsRaw input.now prefix_len }
+    ensures { IsTrue result ↔ StartsRaw input.now prefix_len }
 {
     if prefix_len == 0 {
         return false;
@@ -35,8 +36,8 @@ pub fn starts_raw(input: &str, prefix_len: u32) -> bool
 /// ```
 pub fn validate_raw_str(input: &str, prefix_len: u32) -> Result<(), RawStrError>
     requires fits { Fits input.now }
-    requires raw { spec.StartsRaw input.now prefix_len }
-    ensures check { result ≡ spec.raw_check input.now prefix_len }
+    requires raw { StartsRaw input.now prefix_len }
+    ensures check { result ≡ raw_check input.now prefix_len }
     ensures language { IsTheRawAnswer input.now prefix_len result }
 {
     let (read, _) = raw_double_quoted_string(past_chars(input, prefix_len), prefix_len);

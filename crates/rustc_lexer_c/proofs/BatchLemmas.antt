@@ -11,7 +11,7 @@ use Rattle.rustc_lexer.specs.LanguageText.{Mode, mode_edition, mode_in, mode_of}
 use Rattle.rustc_lexer.specs.Locality.{IsText}
 use Rattle.rustc_lexer.specs.State.{State}
 use Rattle.rustc_lexer.specs.Tokens.{bound, tokens_of, tokens_left}
-use Rattle.rustc_lexer.proofs.TokensLemmas.{partitions}
+use Rattle.rustc_lexer.specs.laws.Tokens.{partitions}
 use Rattle.rustc_lexer_c.specs.declared.batch.CPlace.{CPlace}
 use Rattle.rustc_lexer_c.specs.declared.token.CToken.{CToken}
 use Rattle.rustc_lexer_c.specs.Batch.{IsBatch, allowed_of, allowed_number, mode_number, state_at, state_past}

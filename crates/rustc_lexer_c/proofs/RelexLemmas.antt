@@ -8,7 +8,7 @@ use Rattle.rustc_lexer.specs.declared.relex.relexing.Relexed.{Relexed}
 use Rattle.rustc_lexer.specs.declared.relex.relexing.Relexing.{Relexing}
 use Rattle.rustc_lexer.specs.declared.token.Token.{Token}
 use Rattle.rustc_lexer.specs.Tokens.{tokens_by, tokens_of}
-use Rattle.rustc_lexer.specs.means.Edition.{first_token_in}
+use Rattle.rustc_lexer.specs.Answers.{first_in}
 use Rattle.rustc_lexer.specs.LanguageText.{part}
 use Rattle.rustc_lexer.specs.Relexing.{IsMadeOf, IsWhole, MayGoOn, Stands, TakesSteps, is_over, known}
 use Rattle.rustc_lexer.specs.Locality.{IsGrammar}
@@ -82,7 +82,7 @@ module _ (edition : Edition) (text : List ℕ) (old : List CToken) (change : CEd
   lens = map (λ (t : CToken). t.len) old
 
   abbrev pub first : List ℕ → Token
-  first = first_token_in edition
+  first = first_in edition
 
   pub over_is : (before insert : List ℕ) → IsMadeOf first before lens (change_of change) insert text → Stands first before (change_of change) text at → is_over text at ≡ at.met
   over_is before insert is stands = by_test at.met refl

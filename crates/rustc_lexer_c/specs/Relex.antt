@@ -8,7 +8,7 @@ use Rattle.rustc_lexer.specs.declared.relex.relexing.Relexing.{Relexing}
 use Rattle.rustc_lexer.specs.declared.token.Token.{Token}
 use Rattle.rustc_lexer.specs.Tokens.{tokens_by}
 use Rattle.rustc_lexer.specs.LanguageIn.{edition_of_year}
-use Rattle.rustc_lexer.specs.means.Edition.{first_token_in}
+use Rattle.rustc_lexer.specs.Answers.{first_in}
 use Rattle.rustc_lexer.specs.Edits.{relexed_of}
 use Rattle.rustc_lexer.specs.Relexing.{IsBound, IsChange, IsMadeOf, MayGoOn, Stands, is_over}
 use Rattle.rustc_lexer.specs.Locality.{IsText}
@@ -72,8 +72,8 @@ pub record IsRelexBatch (edition : Edition) (text : List ℕ) (old : List CToken
   pub goes_on : c'.stage ≢ 2 → (c'.stage ≡ 1) × (count ≡ length room)
   pub front : c.stage ≢ 0 → front_of c' ≡ front_of c
   pub may_relex : MayRelex text (length old) c'
-  pub relexed : (before insert : List ℕ) → IsMadeOf (first_token_in edition) before (map (λ (t : CToken). t.len) old) (change_of edit) insert text → IsPassed (first_token_in edition) before (change_of edit) text (length old) c
-      → IsRelexed (first_token_in edition) before edit insert text old c room c' filled count
+  pub relexed : (before insert : List ℕ) → IsMadeOf (first_in edition) before (map (λ (t : CToken). t.len) old) (change_of edit) insert text → IsPassed (first_in edition) before (change_of edit) text (length old) c
+      → IsRelexed (first_in edition) before edit insert text old c room c' filled count
 
 -- nothing is written
 pub record IsNotRelexed (c c' : CRelexing) (room room' : List CToken) (count : ℕ) : Type 0 where

@@ -1,7 +1,7 @@
 -- The statuses of calls from C: 0 where the call was done.
 use Rattle.std.specs.Prelude.{ℕ, ◌≡◌, ◌<◌, ◌≤◌, ◌^◌, List, length}
 use Rattle.std.specs.Str.{IsUtf8, IsCharBoundary}
-use Rattle.rustc_lexer.specs.means.Raw.{StartsRaw}
+use Rattle.rustc_lexer.specs.LanguageCalls.{StartsRaw}
 use Rattle.rustc_lexer.specs.Locality.{IsText}
 use Rattle.rustc_lexer_c.specs.declared.status.Refusal.{Refusal}
 use Rattle.rustc_lexer_c.specs.declared.status.Refusal.TheVariants.{NotUtf8, TooLong, BadPlace, NotRaw, BadEdition, BadEdit, BadMode}

@@ -2,7 +2,7 @@
 ghost use Rattle.std.specs.Prelude.{◌≡◌, ◌≢◌, length};
 ghost use Rattle.std.specs.Str.{IsUtf8, IsCharBoundary};
 ghost use Rattle.rustc_lexer.specs.Classes.{Fits};
-ghost use Rattle.rustc_lexer.specs.LanguageHolds.{IsDetermined};
+ghost use Rattle.rustc_lexer.specs.Tokens.{IsDetermined};
 ghost use Rattle.rustc_lexer.specs.LanguageText.{mode_of};
 ghost use Rattle.rustc_lexer.specs.Tokens.{tokens_of};
 ghost use Rattle.rustc_lexer_c.specs.Batch as spec;

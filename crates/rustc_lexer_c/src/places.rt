@@ -6,7 +6,7 @@ ghost use Rattle.rustc_lexer.specs.declared.edition.Edition.TheVariants.{E2024};
 ghost use Rattle.rustc_lexer.specs.LanguageHolds.{IsTheShebang};
 ghost use Rattle.rustc_lexer.specs.LanguageText.{part};
 ghost use Rattle.rustc_lexer.specs.Locality.{IsSettled, StaysUpTo};
-ghost use Rattle.rustc_lexer.specs.means.Shebang.{shebang};
+ghost use Rattle.rustc_lexer.specs.Answers.{shebang};
 ghost use Rattle.rustc_lexer.specs.Tokens.{tokens_of};
 ghost use Rattle.rustc_lexer_c.specs.Numbers.{some_or_zero};
 ghost use Rattle.rustc_lexer_c.specs.Status.{IsTextStatus};

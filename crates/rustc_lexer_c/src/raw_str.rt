@@ -5,8 +5,9 @@ ghost use Rattle.rustc_lexer.specs.Classes.{Fits};
 ghost use Rattle.rustc_lexer.specs.declared.edition.Edition.TheVariants.{E2024};
 ghost use Rattle.rustc_lexer.specs.LanguageHolds.{IsTheRawAnswer, TakesTheGuarded};
 ghost use Rattle.rustc_lexer.specs.LanguageText.{part};
-ghost use Rattle.rustc_lexer.specs.means.Guarded.{guarded};
-ghost use Rattle.rustc_lexer.specs.means.Raw.{StartsRaw, raw_check};
+ghost use Rattle.rustc_lexer.specs.Answers.{guarded};
+ghost use Rattle.rustc_lexer.specs.LanguageCalls.{StartsRaw};
+ghost use Rattle.rustc_lexer.specs.Answers.{raw_check};
 ghost use Rattle.rustc_lexer_c.specs.RawStr as spec;
 ghost use Rattle.rustc_lexer_c.specs.Status.{IsRawStatus, IsTextStatus};
 

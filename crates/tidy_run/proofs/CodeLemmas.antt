@@ -21,9 +21,9 @@ use Rattle.rustc_lexer.specs.laws.Language.{token-read}
 use Rattle.rustc_lexer.specs.laws.LanguageFrontmatter.{opens-none, none-opens}
 use Rattle.rustc_lexer.specs.laws.LanguageRuns.{among, chooses-space, run_len-here}
 use Rattle.rustc_lexer.specs.laws.Reach.{run_len-out}
-use Rattle.rustc_lexer.specs.means.Scan.{begins}
-use Rattle.rustc_lexer.proofs.LanguageInLemmas.{on_page, of_page}
-use Rattle.rustc_lexer.proofs.StateLemmas.{edition-after}
+use Rattle.rustc_lexer.specs.Spans.{begins}
+use Rattle.rustc_lexer.specs.laws.LanguageIn.{on_page, of_page}
+use Rattle.rustc_lexer.specs.laws.State.{edition-after}
 use Rattle.tidy_run.specs.Order.{in_order, is_space, is_open, space_in_order, text_in_order, closing, part_in_order, code_in_order, parts, end_parts, parts_in_order}
 use Rattle.tidy_run.proofs.NearLemmas.{Near, ends, space, closes, near-begins, near-refl, near-space, near-none, EndsToo, is_solid_kind, token-near}
 use Rattle.tidy_run.proofs.TurnedLemmas.{Turned, turned}

@@ -9,7 +9,7 @@ use Rattle.rustc_lexer.specs.State.{State}
 use Rattle.rustc_lexer.specs.means.Taking.{token_at}
 use Rattle.rustc_lexer.specs.Locality.{IsText}
 use Rattle.rustc_lexer.specs.Tokens.{tokens_of, tokens_left, TakesToken}
-use Rattle.rustc_lexer.proofs.TokensLemmas.{CutsOff, token_at-cuts, tokens-cons, tokens-nil}
+use Rattle.rustc_lexer.specs.laws.Tokens.{CutsOff, token_at-cuts, tokens-cons, tokens-nil}
 use Rattle.tidy_run.specs.Order.{is_front, is_space, begins_with, if_kept, space_in_order, text_in_order, closing, code_in_order, front_in_order, source_in_order, source_tidied}
 use Rattle.tidy_run.proofs.LoopLemmas.{put, put-is, end-is}
 use Rattle.tidy_run.proofs.SourceLemmas.{code-size}

@@ -6,7 +6,7 @@ use Rattle.rustc_lexer.specs.LanguageText.{Mode}
 use Rattle.rustc_lexer.specs.State.{State, StandsAt}
 use Rattle.rustc_lexer.specs.Tokens.{tokens_of, tokens_left, TakesToken}
 use Rattle.rustc_lexer.proofs.PlaceLemmas.{stands_past}
-use Rattle.rustc_lexer.proofs.TokensLemmas.{tokens-nil, tokens-some}
+use Rattle.rustc_lexer.specs.laws.Tokens.{tokens-nil, tokens-some}
 use Rattle.rustc_lexer.specs.declared.token.TokenKind.{TokenKind}
 use Rattle.tidy_run.specs.Order.{in_order, is_space, is_open, space_in_order, text_in_order, closing, part_in_order, code_in_order}
 

@@ -19,7 +19,7 @@ use Rattle.rustc_lexer.specs.Spans.{AreAll, NextIsNot, is_inline}
 use Rattle.rustc_lexer.specs.laws.LanguageRuns.{none-among, begins-next}
 use Rattle.rustc_lexer.specs.NumberGrammar as num
 use Rattle.rustc_lexer.specs.NumberGrammar.{or_underscore, is_exponent_letter, is_sign, is_no_fraction, AreDigits, IsWhole, IsExponent, IsTailBefore, IsNumberBefore, NumberStands, IsLongestNumber}
-use Rattle.rustc_lexer.specs.means.Scan.{begins, next_is}
+use Rattle.rustc_lexer.specs.Spans.{begins, next_is}
 use Rattle.rustc_lexer.specs.Symbols.{symbols, kind_among, symbol_kind}
 use Rattle.tidy_run.specs.Order.{is_space, is_front, is_open_literal, is_open}
 

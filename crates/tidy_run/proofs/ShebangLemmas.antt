@@ -16,12 +16,13 @@ use Rattle.rustc_lexer.specs.Language.{has_rule}
 use Rattle.rustc_lexer.specs.LanguageText.{document, part, AreTokens, something}
 use Rattle.rustc_lexer.specs.Spans.{bytes}
 use Rattle.rustc_lexer.specs.laws.LanguageFrontmatter.{opens-none}
-use Rattle.rustc_lexer.specs.means.Scan.{begins}
-use Rattle.rustc_lexer.specs.means.Shebang.{is_passed, is_open_bracket, is_attribute, line_len, shebang_past, shebang}
+use Rattle.rustc_lexer.specs.Spans.{begins}
+use Rattle.rustc_lexer.specs.means.Shebang.{is_passed, is_open_bracket, is_attribute, line_len, shebang_past}
+use Rattle.rustc_lexer.specs.Answers.{shebang}
 use Rattle.rustc_lexer.specs.Locality.{IsText}
 use Rattle.rustc_lexer.specs.Tokens.{tokens_of}
-use Rattle.rustc_lexer.proofs.LanguageInLemmas.{of_page}
-use Rattle.rustc_lexer.proofs.LanguageTextLemmas.{language}
+use Rattle.rustc_lexer.specs.laws.LanguageIn.{of_page}
+use Rattle.rustc_lexer.specs.laws.LanguageTokens.{language}
 use Rattle.tidy_run.specs.Order.{is_space, is_open, end_parts, parts_in_order, is_front, is_no_front, space_in_order, if_kept, code_in_order, front_in_order, source_in_order, source_tidied, source_parts, parts}
 use Rattle.tidy_run.proofs.NearLemmas.{near-begins}
 use Rattle.tidy_run.proofs.SourceLemmas.{SourceLaw, source-law}

@@ -16,13 +16,13 @@ use Rattle.rustc_lexer.specs.Language.{IsTokenBefore}
 use Rattle.rustc_lexer.specs.LanguageText.{Mode, IsDocument, document, part, mode_edition, mode_after, AreTokens, nothing, something, frontmatter_first}
 use Rattle.rustc_lexer.specs.Spans.{NextIsNot, bytes}
 use Rattle.rustc_lexer.specs.laws.LanguageLiterals.{bytes-append}
-use Rattle.rustc_lexer.specs.means.Scan.{next_is}
+use Rattle.rustc_lexer.specs.Spans.{next_is}
 use Rattle.rustc_lexer.specs.means.Taking.{token_at}
 use Rattle.rustc_lexer.specs.Locality.{IsText}
 use Rattle.rustc_lexer.specs.Tokens.{tokens_of}
-use Rattle.rustc_lexer.proofs.LanguageInLemmas.{on_page}
-use Rattle.rustc_lexer.proofs.LanguageTextLemmas.{language}
-use Rattle.rustc_lexer.proofs.TokensLemmas.{tokens-nil, tokens-cons}
+use Rattle.rustc_lexer.specs.laws.LanguageIn.{on_page}
+use Rattle.rustc_lexer.specs.laws.LanguageTokens.{language}
+use Rattle.rustc_lexer.specs.laws.Tokens.{tokens-nil, tokens-cons}
 use Rattle.tidy_run.specs.Order.{is_space, is_front, is_bool, is_same_front, begins_with, if_kept, space_in_order, code_in_order, front_in_order, source_in_order, source_tidied, source_parts, parts, parts_in_order}
 use Rattle.tidy_run.proofs.NearLemmas.{Near, ends, near-append, near-refl, ends-append, IsSpaceRun, is_end, is_solid_kind, token-near}
 use Rattle.tidy_run.proofs.CodeLemmas.{Tidies, Puts, none-left, part-none, scalars-parts, scalars-join, space-step, behind, solid-token, after-newest, code-cons, parts-cons, code-tidies}

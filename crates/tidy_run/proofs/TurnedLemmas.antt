@@ -10,7 +10,7 @@ use Rattle.rustc_lexer.specs.declared.token.TokenKind.TheVariants.{LineComment, 
 use Rattle.rustc_lexer.specs.Language as the
 use Rattle.rustc_lexer.specs.Language.{IsTokenBefore, IsLineStyle, IsBlockStyle, IsCommentRest}
 use Rattle.rustc_lexer.specs.Spans.{AreAll, NextIsNot, is_inline, bytes}
-use Rattle.rustc_lexer.specs.means.Scan.{begins}
+use Rattle.rustc_lexer.specs.Spans.{begins}
 use Rattle.rustc_lexer.specs.Symbols.{symbols, kind_among, symbol_kind}
 use Rattle.tidy_run.specs.Order.{unix_lines, text_in_order, is_open}
 use Rattle.tidy_run.proofs.NearLemmas.{Near, near-append}

@@ -11,7 +11,7 @@ use Rattle.rustc_lexer.specs.Classes.{is_among, is_whitespace}
 use Rattle.rustc_lexer.specs.Language as the
 use Rattle.rustc_lexer.specs.Language.{IsStyle, IsCommentRest}
 use Rattle.rustc_lexer.specs.Spans.{bytes}
-use Rattle.rustc_lexer.specs.means.Scan.{begins, next_is}
+use Rattle.rustc_lexer.specs.Spans.{begins, next_is}
 use Rattle.tidy_run.specs.Order.{is_line_end, unix_lines, IsUnix}
 use Rattle.tidy_run.proofs.NearLemmas.{Near, space, same}
 

@@ -10,8 +10,8 @@ use Rattle.rustc_lexer.specs.declared.token.TokenKind.TheVariants.{LineComment, 
 use Rattle.rustc_lexer.specs.Classes.{is_among}
 use Rattle.rustc_lexer.specs.declared.edition.Edition.TheVariants.{E2024}
 use Rattle.rustc_lexer.specs.LanguageText.{document}
-use Rattle.rustc_lexer.specs.means.Scan.{begins}
-use Rattle.rustc_lexer.specs.means.Shebang.{shebang}
+use Rattle.rustc_lexer.specs.Spans.{begins}
+use Rattle.rustc_lexer.specs.Answers.{shebang}
 use Rattle.rustc_lexer.specs.Tokens.{tokens_of}
 
 -- tab, carriage return and space

@@ -1,5 +1,5 @@
 -- What is read at the front of a text is a token of the language, and a token of the language is what is read.
-use Rattle.std.proofs.Common.{◌≡◌, ℕ, ◌==◌, Bool, true, false, true≢false, List, [], ◌∷◌, ◌++◌, length, take, drop, codes, refl, sym, ap, ◌∙◌, subst, take-append-drop}
+use Rattle.std.proofs.Common.{◌≡◌, ◌↔◌, ℕ, ◌==◌, Bool, true, false, true≢false, List, [], ◌∷◌, ◌++◌, length, take, drop, codes, refl, sym, ap, ◌∙◌, subst, take-append-drop}
 use Rattle.std.proofs.Math.Seq.{take-append_seam, drop-append_seam}
 use Rattle.std.proofs.lemmas.Bool.{and_parts, eqb-true, or_parts}
 use Rattle.unicode_ident.proofs.Computing.{unicode_ident}
@@ -19,7 +19,7 @@ use Rattle.rustc_lexer.specs.Language as the
 use Rattle.rustc_lexer.specs.LiteralGrammar as lit
 use Rattle.rustc_lexer.specs.Language.{begins_prefixed, IsTokenBefore}
 use Rattle.rustc_lexer.specs.LiteralGrammar.{IsLiteralBefore}
-use Rattle.rustc_lexer.specs.LanguageHolds.{EachBeginsWithOne, IsLanguage}
+use Rattle.rustc_lexer.specs.LanguageHolds.{EachBeginsWithOne}
 use Rattle.rustc_lexer.specs.Spans.{NextIs, NextIsNot}
 use Rattle.rustc_lexer.specs.means.Lexeme.{is_raw_mark, raw_or_ident, begins_raw, raw_past_or_ident, letter_r, letter_k, letter_b, letter_c, letters, word, lexeme}
 use Rattle.rustc_lexer.specs.means.Literal.{literal}
@@ -155,6 +155,12 @@ token-read {next} (the.guarded_prefix {c} is) = guarded-read c next is
 token-read {next} (the.symbol {c} is) = symbol-read c next is
 
 -- ---- both
+
+-- what is read at the front of a text is the token that the language has there, the only one
+abbrev pub IsLanguage : Type 0
+IsLanguage =
+    (next w : List ℕ) (kind : TokenKind)
+    → IsTokenBefore next kind w ↔ (lexeme (w ++ next) ≡ (kind, length w))
 
 pub language : IsLanguage
 language next w kind = (token-read, read-token)

@@ -8,7 +8,7 @@ use Rattle.rustc_lexer.specs.declared.token.TokenKind.TheVariants.{LineComment, 
 use Rattle.rustc_lexer.specs.LanguageText.{part}
 use Rattle.rustc_lexer.specs.means.Comment.{is_no_newline}
 use Rattle.rustc_lexer.specs.means.Scan.{begins}
-use Rattle.rustc_lexer.specs.Tokens.{tokens_of}
+use Rattle.rustc_lexer.specs.means.Tokens.{tokens_of}
 
 -- white space, and comments that are no docs
 abbrev pub is_passed : TokenKind → Bool

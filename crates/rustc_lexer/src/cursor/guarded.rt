@@ -1,6 +1,7 @@
 //! Guarded strings.
 ghost use Rattle.std.specs.Prelude.{◌≡◌, ◌≤◌, IfSome, min, length};
 ghost use Rattle.std.specs.Str.{chars, IsCharBoundary};
+ghost use Rattle.rustc_lexer.specs.Answers.{guarded};
 ghost use Rattle.rustc_lexer.specs.means.Guarded as spec;
 ghost use Rattle.rustc_lexer.specs.LanguageHolds.{TakesTheGuarded};
 ghost use Rattle.rustc_lexer.specs.means.Raw.{hash_run};
@@ -24,8 +25,8 @@ impl<'a> Cursor<'a> {
     /// let string = cursor.guarded_double_quoted_string(); // 2 hashes, terminated, of length 6
     /// ```
     pub fn guarded_double_quoted_string(&mut self) -> Option<GuardedStr>
-        ensures answer { result ≡ (spec.guarded self.old).0 }
-        ensures state { self.new ≡ (spec.guarded self.old).1 }
+        ensures answer { result ≡ (guarded self.old).0 }
+        ensures state { self.new ≡ (guarded self.old).1 }
         ensures language { TakesTheGuarded self.old result self.new }
     {
         let rest = self.as_str();

@@ -5,10 +5,9 @@ ghost use Rattle.rustc_lexer.specs.declared.token.Token.{Token};
 ghost use Rattle.rustc_lexer.specs.Bulk.{IsFilledTo};
 ghost use Rattle.rustc_lexer.specs.Classes.{Fits};
 ghost use Rattle.rustc_lexer.specs.Tokens.{bound, tokens_by, tokens_of};
-ghost use Rattle.rustc_lexer.specs.means.Edition.{first_token_in};
+ghost use Rattle.rustc_lexer.specs.Answers.{first_in};
 ghost use Rattle.rustc_lexer.specs.LanguageIn.{year};
 ghost use Rattle.rustc_lexer.specs.LanguageText.{part};
-ghost use Rattle.rustc_lexer.specs.means.Lexeme.{first_token};
 ghost use Rattle.rustc_lexer.specs.Locality.{IsGrammar};
 
 use crate::bulk::{self, Record};
@@ -81,7 +80,7 @@ impl Steps {
     pub fn new() -> Steps
         ensures count { ⟦<Steps as Stepper>⟧.count result ≡ 0 }
         ensures number { ⟦<Steps as Stepper>⟧.number result ≡ 2024 }
-        ensures grammar { ⟦<Steps as Stepper>⟧.grammar result ≡ first_token }
+        ensures grammar { ⟦<Steps as Stepper>⟧.grammar result ≡ first_in E2024 }
         ensures tokens { (text : List ℕ)
             → tokens_by (⟦<Steps as Stepper>⟧.grammar result) text ≡ tokens_of (part E2024) text }
     {
@@ -92,7 +91,7 @@ impl Steps {
     pub fn new_in(edition: Edition) -> Steps
         ensures count { ⟦<Steps as Stepper>⟧.count result ≡ 0 }
         ensures number { ⟦<Steps as Stepper>⟧.number result ≡ year edition }
-        ensures grammar { ⟦<Steps as Stepper>⟧.grammar result ≡ first_token_in edition }
+        ensures grammar { ⟦<Steps as Stepper>⟧.grammar result ≡ first_in edition }
     {
         Steps {
             edition,
@@ -109,11 +108,11 @@ impl Steps {
 }
 
 impl Stepper for Steps {
-    ghost use Rattle.rustc_lexer.specs.means.Edition.{first_token_in};
+    ghost use Rattle.rustc_lexer.specs.Answers.{first_in};
     ghost use Rattle.rustc_lexer.specs.LanguageIn.{year};
     ghost use Rattle.rustc_lexer.specs.laws.Edition.{edition_grammar};
 
-    ghost grammar = { λ s. first_token_in s.edition };
+    ghost grammar = { λ s. first_in s.edition };
 
     ghost number = { λ s. year s.edition };
 

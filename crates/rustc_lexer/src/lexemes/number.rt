@@ -3,7 +3,7 @@ ghost use Rattle.std.specs.Prelude.{◌≡◌, ◌+◌, ◌<◌, ◌^◌, false,
 ghost use Rattle.std.specs.Char.{is_ascii_digit, is_ascii_hexdigit};
 ghost use Rattle.rustc_lexer.specs.declared.token.LiteralKind.TheVariants.{Float};
 ghost use Rattle.rustc_lexer.specs.means.Number as spec;
-ghost use Rattle.rustc_lexer.specs.LanguageHolds.{AreLongest};
+ghost use Rattle.rustc_lexer.specs.laws.NumberLongest.{AreLongest};
 ghost use Rattle.rustc_lexer.specs.means.Scan.{IsLocal, scanned};
 ghost use Rattle.rustc_lexer.specs.declared.token.TokenKind.{TokenKind};
 

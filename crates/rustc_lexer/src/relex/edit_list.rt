@@ -3,7 +3,7 @@ ghost use Rattle.std.specs.Prelude.{◌≡◌, ◌+◌, IfErr, OnOk, Some, take}
 ghost use Rattle.rustc_lexer.specs.Tokens.{tokens_by};
 ghost use Rattle.rustc_lexer.specs.EditLists.{apply_list, AreEdits, lexed_list, stop_at, IsStop, IsCounted};
 ghost use Rattle.rustc_lexer.specs.ErrorTexts.{stop_text};
-ghost use Rattle.rustc_lexer.specs.LanguageHolds.{HoldsTheOnlyTokensBy};
+ghost use Rattle.rustc_lexer.specs.Tokens.{HoldsTheOnlyTokensBy};
 
 use crate::entry::stepper::Stepper;
 use crate::relex::edit::Edit;

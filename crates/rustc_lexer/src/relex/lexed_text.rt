@@ -4,9 +4,9 @@ ghost use Rattle.rustc_lexer.specs.declared.edition.Edition.TheVariants.{E2024};
 ghost use Rattle.rustc_lexer.specs.Classes.{Fits};
 ghost use Rattle.rustc_lexer.specs.Tokens.{bound, tokens_by, tokens_of};
 ghost use Rattle.rustc_lexer.specs.Edits.{IsEdit, IsInside, apply, relexed_of};
-ghost use Rattle.rustc_lexer.specs.LanguageHolds.{HoldsTheOnlyTokensBy};
+ghost use Rattle.rustc_lexer.specs.Tokens.{HoldsTheOnlyTokensBy};
 ghost use Rattle.rustc_lexer.specs.LanguageText.{part};
-ghost use Rattle.rustc_lexer.specs.means.Lexeme.{first_token};
+ghost use Rattle.rustc_lexer.specs.Answers.{first_in};
 
 use crate::edition::Edition;
 use crate::entry::stepper::{Stepper, Steps};
@@ -196,7 +196,7 @@ impl LexedText<Steps> {
         requires fits { Fits text.now }
         ensures text { IfOk result (λ l. l.text ≡ text.now) }
         ensures from_scratch { IfOk result (λ l. l.tokens ≡ tokens_of (part E2024) text.now) }
-        ensures grammar { IfOk result (λ l. ⟦<Steps as Stepper>⟧.grammar l.stepper ≡ first_token) }
+        ensures grammar { IfOk result (λ l. ⟦<Steps as Stepper>⟧.grammar l.stepper ≡ first_in E2024) }
         ensures number { IfOk result (λ l. ⟦<Steps as Stepper>⟧.number l.stepper ≡ 2024) }
         ensures count { IfOk result (λ l. ⟦<Steps as Stepper>⟧.count l.stepper ≡ length l.tokens) }
     {

@@ -5,7 +5,7 @@ use Rattle.rustc_lexer.specs.LanguageText.{mode_in}
 use Rattle.rustc_lexer.specs.means.Edition.{changed}
 use Rattle.rustc_lexer.specs.means.Taking.{token_at}
 use Rattle.rustc_lexer.proofs.EditionLemmas.{changed-at}
-use Rattle.rustc_lexer.proofs.TokensLemmas.{token_at-cuts}
+use Rattle.rustc_lexer.specs.laws.Tokens.{token_at-cuts}
 use Rattle.rustc_lexer.proofs.edition.older_token.Goals as goal
 
 token_is : (c : goal.After-changed) → c.changed.result ≡ token_at (mode_in c.args.allowed c.args.edition) c.args.rest.now

@@ -8,7 +8,7 @@ use Rattle.rustc_lexer.specs.means.Lexeme.{first_token}
 use Rattle.rustc_lexer.specs.State.{State}
 use Rattle.rustc_lexer.specs.means.Taking.{advance}
 use Rattle.rustc_lexer.proofs.EditionLemmas.{boundary-of}
-use Rattle.rustc_lexer.proofs.StateLemmas.{first-advanced, state}
+use Rattle.rustc_lexer.specs.laws.State.{first-advanced, state}
 use Rattle.rustc_lexer.proofs.edition.token_in.Goals as goal
 
 -- the token that is changed is the first one of the text

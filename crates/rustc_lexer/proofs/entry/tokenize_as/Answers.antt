@@ -1,8 +1,9 @@
 use Rattle.rustc_lexer.specs.LanguageText.{mode_in}
-use Rattle.rustc_lexer.proofs.LanguageInLemmas.{page}
-use Rattle.rustc_lexer.proofs.LanguageTextLemmas.{language}
+use Rattle.rustc_lexer.specs.laws.LanguageIn.{page}
+use Rattle.rustc_lexer.specs.laws.LanguageTokens.{language}
 use Rattle.rustc_lexer.proofs.TextLemmas.{suffixes, texts}
-use Rattle.rustc_lexer.proofs.TokensLemmas.{partitions, restarts}
+use Rattle.rustc_lexer.specs.laws.Tokens.{partitions}
+use Rattle.rustc_lexer.proofs.TokensLemmas.{restarts}
 use Rattle.rustc_lexer.proofs.entry.tokenize_as.Goals as goal
 
 pub returns-clause-partitions : goal.returns-clause-partitions

@@ -1,5 +1,5 @@
 use Rattle.std.proofs.Common.{◌∙◌}
-use Rattle.rustc_lexer.proofs.FrontmatterLemmas.{closing_end-full, closing_end-none}
+use Rattle.rustc_lexer.specs.laws.Frontmatter.{closing_end-full, closing_end-none}
 use Rattle.rustc_lexer.proofs.frontmatter.closing_end.Goals as goal
 
 pub returns-in-Some-clause-end : goal.returns-in-Some-clause-end

@@ -1,8 +1,8 @@
 use Rattle.std.proofs.Common.{sym, ◌∙◌}
 use Rattle.rustc_lexer.specs.Classes.{is_id_start}
 use Rattle.rustc_lexer.specs.means.Frontmatter.{is_infostring}
-use Rattle.rustc_lexer.proofs.FrontmatterLemmas.{infostring-yes, infostring-no}
-use Rattle.rustc_lexer.proofs.ScanLemmas.{next_is-cons, next_is-nil}
+use Rattle.rustc_lexer.specs.laws.Frontmatter.{infostring-yes, infostring-no}
+use Rattle.rustc_lexer.specs.laws.Scan.{next_is-cons, next_is-nil}
 use Rattle.rustc_lexer.proofs.frontmatter.eat_infostring.Goals as goal
 
 pub returns-in_default-clause-past : goal.returns-in_default-clause-past

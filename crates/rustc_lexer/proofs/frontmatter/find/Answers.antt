@@ -1,4 +1,4 @@
-use Rattle.rustc_lexer.proofs.FenceLemmas.{found-first}
+use Rattle.rustc_lexer.specs.laws.Fences.{found-first}
 use Rattle.rustc_lexer.proofs.frontmatter.find.Goals as goal
 
 pub returns-clause-place : goal.returns-clause-place

@@ -1,4 +1,4 @@
-use Rattle.rustc_lexer.proofs.FenceLemmas.{slice_from, look_start, look_end, look_found, look_on}
+use Rattle.rustc_lexer.specs.laws.Fences.{slice_from, look_start, look_end, look_found, look_on}
 use Rattle.rustc_lexer.proofs.frontmatter.find_fence.Goals as goal
 
 pub lines-init : goal.lines-init

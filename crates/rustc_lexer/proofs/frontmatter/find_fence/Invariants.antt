@@ -1,5 +1,5 @@
 use Rattle.std.proofs.Common.{◌-◌, length}
-use Rattle.rustc_lexer.proofs.FenceLemmas.{IsLooking}
+use Rattle.rustc_lexer.specs.laws.Fences.{IsLooking}
 use Rattle.rustc_lexer.proofs.frontmatter.find_fence.Given as goal
 
 abbrev pub invariant-lines : goal.invariant-lines

@@ -1,5 +1,5 @@
 use Rattle.std.proofs.Common.{sym, ◌∙◌, arith}
-use Rattle.rustc_lexer.proofs.FenceLemmas.{slice_from, walk_start, walk_end, walk_found, walk_on}
+use Rattle.rustc_lexer.specs.laws.Fences.{slice_from, walk_start, walk_end, walk_found, walk_on}
 use Rattle.rustc_lexer.proofs.frontmatter.find_lone_dashes.Goals as goal
 
 pub places-init : goal.places-init

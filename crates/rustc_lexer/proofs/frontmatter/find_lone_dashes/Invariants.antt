@@ -1,5 +1,5 @@
 use Rattle.std.proofs.Common.{◌-◌, length}
-use Rattle.rustc_lexer.proofs.FenceLemmas.{IsWalking}
+use Rattle.rustc_lexer.specs.laws.Fences.{IsWalking}
 use Rattle.rustc_lexer.proofs.frontmatter.find_lone_dashes.Given as goal
 
 abbrev pub invariant-places : goal.invariant-places

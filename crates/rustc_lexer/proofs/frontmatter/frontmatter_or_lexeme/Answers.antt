@@ -1,7 +1,7 @@
 use Rattle.std.proofs.Common.{sym, subst}
 use Rattle.rustc_lexer.specs.declared.token.Token.{Token}
 use Rattle.rustc_lexer.specs.State.{HasSuffixWithin}
-use Rattle.rustc_lexer.proofs.FrontmatterLemmas.{IsCutOff, frontmatter-cut, frontmatter-suffix}
+use Rattle.rustc_lexer.specs.laws.Frontmatter.{IsCutOff, frontmatter-cut, frontmatter-suffix}
 use Rattle.rustc_lexer.proofs.frontmatter.frontmatter_or_lexeme.Goals as goal
 
 cut : (c : goal.In-Some) → IsCutOff c.args.text.now c.in-Some.token

@@ -1,4 +1,4 @@
-use Rattle.rustc_lexer.proofs.FenceLemmas.{slice_from, line_end-some, line_end-none}
+use Rattle.rustc_lexer.specs.laws.Fences.{slice_from, line_end-some, line_end-none}
 use Rattle.rustc_lexer.proofs.frontmatter.line_end.Goals as goal
 
 pub returns-in-Some-clause-end : goal.returns-in-Some-clause-end

@@ -1,6 +1,6 @@
 use Rattle.std.proofs.Common.{◌≡◌, ◌+◌, ℕ, suc, Some, None, refl, ap, ◌∙◌, arith}
 use Rattle.rustc_lexer.specs.means.Frontmatter.{line_end}
-use Rattle.rustc_lexer.proofs.FrontmatterLemmas.{recovery-is}
+use Rattle.rustc_lexer.specs.laws.Frontmatter.{recovery-is}
 use Rattle.rustc_lexer.proofs.frontmatter.recovery.Goals as goal
 
 pub returns-in-Some-clause-end : goal.returns-in-Some-clause-end

@@ -1,6 +1,6 @@
 use Rattle.std.proofs.Common.{◌∙◌, sym, arith}
 use Rattle.std.proofs.lemmas.Bool.{eq-eqb}
-use Rattle.rustc_lexer.proofs.FenceLemmas.{alone_past_end, alone_or_not}
+use Rattle.rustc_lexer.specs.laws.Fences.{alone_past_end, alone_or_not}
 use Rattle.rustc_lexer.proofs.frontmatter.stands_alone.Goals as goal
 use Rattle.rustc_lexer.proofs.frontmatter.stands_alone.Goals.{then-blanks-test+else-is_horizontal_whitespace, else-blanks-test}
 

@@ -2,7 +2,7 @@ use Rattle.std.proofs.Common.{sym, ap, ◌∙◌}
 use Rattle.rustc_lexer.specs.declared.lexemes.family.Family.TheVariants.{Slash, Space, Word, Number, Quote, Str, Emoji, Hash, Symbol}
 use Rattle.rustc_lexer.specs.declared.token.TokenKind.TheVariants.{Whitespace}
 use Rattle.rustc_lexer.proofs.FamilyLemmas.{by_family}
-use Rattle.rustc_lexer.proofs.ScanLemmas.{scanned-gives}
+use Rattle.rustc_lexer.specs.laws.Scan.{scanned-gives}
 use Rattle.rustc_lexer.proofs.lexemes.past_first.Goals as goal
 
 pub returns-in-Slash : goal.returns-in-Slash

@@ -1,7 +1,7 @@
 use Rattle.std.proofs.Common.{◌≡◌, ℕ, ◌+◌, List, sym, ap, ◌∙◌, subst, arith}
 use Rattle.std.specs.Str.{IsUtf8}
 use Rattle.rustc_lexer.specs.means.Scan.{past}
-use Rattle.rustc_lexer.proofs.PastLemmas.{past-zero, past-past, IsUtf8-past}
+use Rattle.rustc_lexer.specs.laws.Past.{past-zero, past-past, IsUtf8-past}
 use Rattle.rustc_lexer.proofs.RawReadLemmas.{past-end}
 use Rattle.rustc_lexer.proofs.raw_check.past_chars.Goals as goal
 

@@ -1,6 +1,6 @@
 use Rattle.std.proofs.Common.{sym, ap, ◌∙◌, arith}
 use Rattle.rustc_lexer.specs.means.Raw.{checked}
-use Rattle.rustc_lexer.proofs.LanguageRefusals.{raw-answer}
+use Rattle.rustc_lexer.specs.laws.LanguageRefusals.{raw-answer}
 use Rattle.rustc_lexer.proofs.RawReadLemmas.{check_is, prefix_fits}
 use Rattle.rustc_lexer.proofs.raw_check.validate_raw_str.Goals as goal
 

@@ -1,6 +1,6 @@
 use Rattle.std.proofs.Common.{sym}
 use Rattle.rustc_lexer.specs.Classes.{is_id_continue}
-use Rattle.rustc_lexer.proofs.PastLemmas.{IsUtf8-cut}
+use Rattle.rustc_lexer.specs.laws.Past.{IsUtf8-cut}
 use Rattle.rustc_lexer.proofs.WideLemmas.{within_start, within_on, within_run}
 use Rattle.rustc_lexer.proofs.scan.eat_continue_in.Goals as goal
 

@@ -3,7 +3,7 @@ use Rattle.rustc_lexer.specs.means.ByteRuns.{is_continue_byte}
 use Rattle.rustc_lexer.specs.Classes.{is_id_continue}
 use Rattle.rustc_lexer.proofs.BridgeLemmas.{may_cut, skip_char, wide_stops, ends_out, ends_none, ends_narrow}
 use Rattle.rustc_lexer.proofs.PartLemmas.{continue_part}
-use Rattle.rustc_lexer.proofs.PastLemmas.{IsUtf8-cut}
+use Rattle.rustc_lexer.specs.laws.Past.{IsUtf8-cut}
 use Rattle.rustc_lexer.proofs.WideLemmas.{past_both, past_narrow}
 use Rattle.rustc_lexer.proofs.scan.eat_continue_wide.Goals as goal
 

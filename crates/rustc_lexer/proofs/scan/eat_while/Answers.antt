@@ -1,5 +1,5 @@
 use Rattle.std.proofs.Common.{sym, ◌∙◌}
-use Rattle.rustc_lexer.proofs.CharSteps.{step, cut_here}
+use Rattle.rustc_lexer.specs.laws.CharSteps.{step, cut_here}
 use Rattle.rustc_lexer.proofs.RunLemmas.{run_step, run_stop, run_end, run_cut}
 use Rattle.rustc_lexer.proofs.scan.eat_while.Goals as goal
 use Rattle.rustc_lexer.proofs.scan.eat_while.Goals.{in-None, in-Some+then-not-test}

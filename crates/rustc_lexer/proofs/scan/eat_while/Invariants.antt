@@ -1,5 +1,5 @@
 use Rattle.std.proofs.Common.{ℕ, Bool, ◌≡◌}
-use Rattle.rustc_lexer.proofs.CharSteps.{Stands}
+use Rattle.rustc_lexer.specs.laws.CharSteps.{Stands}
 use Rattle.rustc_lexer.proofs.RunLemmas.{Runs}
 use Rattle.rustc_lexer.proofs.scan.eat_while.Given as goal
 

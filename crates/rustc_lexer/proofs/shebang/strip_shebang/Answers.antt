@@ -1,5 +1,5 @@
 use Rattle.std.proofs.Common.{sym}
-use Rattle.rustc_lexer.proofs.LanguageShebang.{shebang-answer}
+use Rattle.rustc_lexer.specs.laws.LanguageShebang.{shebang-answer}
 use Rattle.rustc_lexer.proofs.ShebangLemmas.{no_shebang, attribute_here, line_here}
 use Rattle.rustc_lexer.proofs.shebang.strip_shebang.Goals as goal
 

@@ -2,7 +2,7 @@
 ghost use Rattle.std.specs.Prelude.{◌≡◌, IfOk, OnErr, OnOk, length};
 ghost use Rattle.rustc_lexer.specs.declared.edition.Edition.{Edition};
 ghost use Rattle.rustc_lexer.specs.Classes.{Fits};
-ghost use Rattle.rustc_lexer.specs.means.Edition.{first_token_in};
+ghost use Rattle.rustc_lexer.specs.Answers.{first_in};
 ghost use Rattle.rustc_lexer.specs.LanguageIn.{year};
 ghost use Rattle.rustc_lexer.specs.LanguageHolds.{HoldsTheOnlyTokens};
 ghost use Rattle.rustc_lexer.specs.LanguageText.{part};
@@ -25,7 +25,7 @@ impl LexedText<Steps> {
         ensures text { IfOk result (λ l. l.text ≡ text.now) }
         ensures from_scratch { IfOk result (λ l. l.tokens ≡ tokens_of (part edition) text.now) }
         ensures grammar { IfOk result
-            (λ l. ⟦<Steps as Stepper>⟧.grammar l.stepper ≡ first_token_in edition) }
+            (λ l. ⟦<Steps as Stepper>⟧.grammar l.stepper ≡ first_in edition) }
         ensures language { IfOk result (λ l. HoldsTheOnlyTokens (part edition) text.now l.tokens) }
         ensures number { IfOk result (λ l. ⟦<Steps as Stepper>⟧.number l.stepper ≡ year edition) }
         ensures count { IfOk result (λ l. ⟦<Steps as Stepper>⟧.count l.stepper ≡ length l.tokens) }
@@ -38,7 +38,7 @@ impl LexedText<Steps> {
         ensures number { ⟦<Steps as Stepper>⟧.number self.now.stepper ≡ year result }
         ensures only { (edition : Edition)
             → ⟦<Steps as Stepper>⟧.number self.now.stepper ≡ year edition → result ≡ edition }
-        ensures grammar { ⟦<Steps as Stepper>⟧.grammar self.now.stepper ≡ first_token_in result }
+        ensures grammar { ⟦<Steps as Stepper>⟧.grammar self.now.stepper ≡ first_in result }
         ensures from_scratch { self.now.tokens ≡ tokens_of (part result) self.now.text }
         ensures language { HoldsTheOnlyTokens (part result) self.now.text self.now.tokens }
     {
@@ -52,7 +52,7 @@ impl LexedText<Steps> {
         ensures language { OnOk result
             (HoldsTheOnlyTokens (part edition) self.new.text self.new.tokens) }
         ensures grammar { OnOk result
-            (⟦<Steps as Stepper>⟧.grammar self.new.stepper ≡ first_token_in edition) }
+            (⟦<Steps as Stepper>⟧.grammar self.new.stepper ≡ first_in edition) }
         ensures number { OnOk result (⟦<Steps as Stepper>⟧.number self.new.stepper ≡ year edition) }
         ensures count { OnOk result
             (⟦<Steps as Stepper>⟧.count self.new.stepper ≡ length self.new.tokens) }

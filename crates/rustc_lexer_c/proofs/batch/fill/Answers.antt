@@ -3,7 +3,7 @@ use Rattle.rustc_lexer.specs.declared.token.FrontmatterAllowed.{FrontmatterAllow
 use Rattle.rustc_lexer.specs.LanguageText.{mode_of}
 use Rattle.rustc_lexer.specs.Locality.{IsText}
 use Rattle.rustc_lexer.specs.State.{State}
-use Rattle.rustc_lexer.proofs.StateLemmas.{state}
+use Rattle.rustc_lexer.specs.laws.State.{state}
 use Rattle.rustc_lexer_c.specs.Batch.{state_at}
 use Rattle.rustc_lexer_c.proofs.BatchLemmas.{batch_is}
 use Rattle.rustc_lexer_c.proofs.batch.fill.Goals as goal

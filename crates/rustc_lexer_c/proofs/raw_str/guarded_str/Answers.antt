@@ -1,5 +1,5 @@
 use Rattle.std.proofs.Common.{refl}
-use Rattle.rustc_lexer.proofs.LanguageGuarded.{guarded-answer}
+use Rattle.rustc_lexer.specs.laws.LanguageGuarded.{guarded-answer}
 use Rattle.rustc_lexer_c.proofs.raw_str.guarded_str.Goals as goal
 
 pub returns-clause-language : goal.returns-clause-language

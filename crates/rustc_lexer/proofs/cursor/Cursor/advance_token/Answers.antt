@@ -8,7 +8,7 @@ use Rattle.rustc_lexer.specs.Locality.{IsText}
 use Rattle.rustc_lexer.proofs.AdvanceLemmas.{not_end, takes_pending, stays_at_end, something}
 use Rattle.rustc_lexer.specs.LanguageHolds.{TakesTokenOf}
 use Rattle.rustc_lexer.proofs.LanguageTextLemmas.{advance-language, takes-first}
-use Rattle.rustc_lexer.proofs.StateLemmas.{state, past_token, past_token-is, advance-end, advance-some}
+use Rattle.rustc_lexer.specs.laws.State.{state, past_token, past_token-is, advance-end, advance-some}
 use Rattle.rustc_lexer.proofs.cursor.Cursor.advance_token.Goals as goal
 
 pub returns-then-is_empty : goal.returns-then-is_empty

@@ -5,8 +5,8 @@ use Rattle.rustc_lexer.specs.Locality.{IsText}
 use Rattle.rustc_lexer.specs.Tokens.{tokens_left}
 use Rattle.rustc_lexer.specs.laws.Edition.{edition_grammar}
 use Rattle.rustc_lexer.proofs.BulkLemmas.{edition-held, edition-stays, part-left, filled_all, fills, shorter_left}
-use Rattle.rustc_lexer.proofs.StateLemmas.{state}
-use Rattle.rustc_lexer.proofs.TokensLemmas.{partitions}
+use Rattle.rustc_lexer.specs.laws.State.{state}
+use Rattle.rustc_lexer.specs.laws.Tokens.{partitions}
 use Rattle.rustc_lexer.proofs.entry.Tokens.fill.Goals as goal
 
 pub returns-then-rest-ge-BLOCK : goal.returns-then-rest-ge-BLOCK

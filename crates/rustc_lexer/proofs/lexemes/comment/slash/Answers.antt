@@ -4,7 +4,7 @@ use Rattle.rustc_lexer.specs.declared.token.TokenKind.TheVariants.{Slash}
 use Rattle.rustc_lexer.specs.means.BlockComment.{block_comment}
 use Rattle.rustc_lexer.specs.means.Comment.{line_comment}
 use Rattle.rustc_lexer.specs.means.Scan.{after, begins, gives}
-use Rattle.rustc_lexer.proofs.ScanLemmas.{scanned-after, scanned-gives, scanned-yes, scanned-no}
+use Rattle.rustc_lexer.specs.laws.Scan.{scanned-after, scanned-gives, scanned-yes, scanned-no}
 use Rattle.rustc_lexer.proofs.lexemes.comment.slash.Goals as goal
 
 -- what is left to choose where no line comment stands

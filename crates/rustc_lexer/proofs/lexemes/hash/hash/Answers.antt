@@ -2,7 +2,7 @@ use Rattle.std.proofs.Common.{sym, ◌∙◌}
 use Rattle.rustc_lexer.specs.means.Hash.{is_guarded_mark}
 use Rattle.rustc_lexer.specs.laws.Hash.{hash_local, prefix_local}
 use Rattle.rustc_lexer.proofs.HashLemmas.{prefix_read, pound_read}
-use Rattle.rustc_lexer.proofs.ScanLemmas.{next_is-cons, next_is-nil}
+use Rattle.rustc_lexer.specs.laws.Scan.{next_is-cons, next_is-nil}
 use Rattle.rustc_lexer.proofs.lexemes.hash.hash.Goals as goal
 
 pub returns-in_default : goal.returns-in_default

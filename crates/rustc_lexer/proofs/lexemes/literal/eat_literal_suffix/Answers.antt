@@ -1,6 +1,6 @@
 use Rattle.std.proofs.Common.{sym, ◌∙◌}
 use Rattle.rustc_lexer.specs.Classes.{is_id_start}
-use Rattle.rustc_lexer.proofs.ScanLemmas.{next_is-cons, next_is-nil, suffix-yes, suffix-no}
+use Rattle.rustc_lexer.specs.laws.Scan.{next_is-cons, next_is-nil, suffix-yes, suffix-no}
 use Rattle.rustc_lexer.proofs.lexemes.literal.eat_literal_suffix.Goals as goal
 
 pub returns-in_default-clause-past : goal.returns-in_default-clause-past

@@ -3,7 +3,7 @@ use Rattle.std.specs.Char.{is_ascii_digit, is_ascii_hexdigit}
 use Rattle.rustc_lexer.specs.declared.token.Base.TheVariants.{Binary, Octal, Hexadecimal}
 use Rattle.rustc_lexer.specs.means.Number.{digits, prefixed}
 use Rattle.rustc_lexer.proofs.NumberLemmas.{front_past_zero-end, pick-binary, pick-octal, pick-hexadecimal}
-use Rattle.rustc_lexer.proofs.ScanLemmas.{scanned-read_as}
+use Rattle.rustc_lexer.specs.laws.Scan.{scanned-read_as}
 use Rattle.rustc_lexer.proofs.lexemes.number.front_past_zero.Goals as goal
 
 pub returns-in_default : goal.returns-in_default

@@ -3,7 +3,7 @@ use Rattle.rustc_lexer.specs.means.Number.{with_suffix, number_kind, number_body
 use Rattle.rustc_lexer.specs.laws.Number.{number_local}
 use Rattle.rustc_lexer.specs.laws.NumberLongest.{numbers-longest}
 use Rattle.rustc_lexer.proofs.LiteralLemmas.{with-suffix}
-use Rattle.rustc_lexer.proofs.ScanLemmas.{scanned-shorter, scanned-read_as}
+use Rattle.rustc_lexer.specs.laws.Scan.{scanned-shorter, scanned-read_as}
 use Rattle.rustc_lexer.proofs.lexemes.number.number.Goals as goal
 
 pub literal-requires-clause-inside : goal.literal-requires-clause-inside

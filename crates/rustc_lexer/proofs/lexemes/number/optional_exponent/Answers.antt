@@ -3,7 +3,7 @@ use Rattle.rustc_lexer.specs.declared.token.LiteralKind.TheVariants.{Float}
 use Rattle.rustc_lexer.specs.means.Number.{is_exponent_letter, float_exponent}
 use Rattle.rustc_lexer.specs.means.Scan.{gives}
 use Rattle.rustc_lexer.proofs.NumberLemmas.{next-in, next-out, next-end}
-use Rattle.rustc_lexer.proofs.ScanLemmas.{scanned-gives}
+use Rattle.rustc_lexer.specs.laws.Scan.{scanned-gives}
 use Rattle.rustc_lexer.proofs.lexemes.number.optional_exponent.Goals as goal
 
 pub returns-in_default : goal.returns-in_default

@@ -1,4 +1,4 @@
-use Rattle.rustc_lexer.proofs.PastLemmas.{past_end}
+use Rattle.rustc_lexer.specs.laws.Past.{past_end}
 use Rattle.rustc_lexer.proofs.lexemes.quoted.past_first.Goals as goal
 
 pub returns-in-None-clause-past : goal.returns-in-None-clause-past

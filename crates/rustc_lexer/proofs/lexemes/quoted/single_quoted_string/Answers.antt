@@ -2,7 +2,7 @@ use Rattle.std.proofs.Common.{sym, ◌∙◌}
 use Rattle.std.specs.Str.{chars}
 use Rattle.rustc_lexer.specs.means.Quoted.{at_single_stop, single_quoted_string}
 use Rattle.rustc_lexer.specs.laws.Quoted.{single_quoted_string_local, single_quoted_string_closed}
-use Rattle.rustc_lexer.proofs.ScanLemmas.{scanned-shorter}
+use Rattle.rustc_lexer.specs.laws.Scan.{scanned-shorter}
 use Rattle.rustc_lexer.proofs.QuotedLoop.{seek-start, seek-on, seek-closed, seek-open, seek-end, when-escaped, when-plain, to-plain, to-next, is-it, is-other, single-closed, single-lone, single-free}
 use Rattle.rustc_lexer.proofs.lexemes.quoted.single_quoted_string.Goals as goal
 

@@ -3,7 +3,7 @@ use denote.Bor.{Bor}
 use Rattle.std.specs.Str.{chars}
 use Rattle.rustc_lexer.specs.means.Raw.{is_no_quote}
 use Rattle.rustc_lexer.specs.means.Scan.{past, run_len}
-use Rattle.rustc_lexer.proofs.PastLemmas.{past-zero}
+use Rattle.rustc_lexer.specs.laws.Past.{past-zero}
 use Rattle.rustc_lexer.proofs.RawLemmas.{past_quote-is, no_run-before}
 use Rattle.rustc_lexer.proofs.lexemes.raw.past_quote.Goals as goal
 

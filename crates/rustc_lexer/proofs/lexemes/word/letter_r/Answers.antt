@@ -8,7 +8,7 @@ use Rattle.rustc_lexer.specs.means.Lexeme.{is_raw_mark, raw_or_ident}
 use Rattle.rustc_lexer.specs.means.Raw.{raw_literal}
 use Rattle.rustc_lexer.specs.means.Scan.{after, next_is, run}
 use Rattle.rustc_lexer.proofs.OpeningLemmas.{opens_raw}
-use Rattle.rustc_lexer.proofs.ScanLemmas.{scanned-yes, scanned-no}
+use Rattle.rustc_lexer.specs.laws.Scan.{scanned-yes, scanned-no}
 use Rattle.rustc_lexer.proofs.lexemes.word.letter_r.Goals as goal
 
 pub returns-in-Some : goal.returns-in-Some

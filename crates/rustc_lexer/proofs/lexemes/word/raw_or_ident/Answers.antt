@@ -4,8 +4,8 @@ use Rattle.rustc_lexer.specs.means.Ident.{ident_or_unknown_prefix}
 use Rattle.rustc_lexer.specs.means.Lexeme.{is_raw_mark, begins_raw}
 use Rattle.rustc_lexer.specs.means.Raw.{raw_literal}
 use Rattle.rustc_lexer.specs.means.Scan.{after, begins, next_is, past}
-use Rattle.rustc_lexer.proofs.PastLemmas.{chars-past}
-use Rattle.rustc_lexer.proofs.ScanLemmas.{scanned-after, scanned-yes, scanned-no}
+use Rattle.rustc_lexer.specs.laws.Past.{chars-past}
+use Rattle.rustc_lexer.specs.laws.Scan.{scanned-after, scanned-yes, scanned-no}
 use Rattle.rustc_lexer.proofs.lexemes.word.raw_or_ident.Goals as goal
 
 -- past the `r`, a mark makes a raw string

@@ -1,6 +1,6 @@
 use Rattle.std.proofs.Common.{◌≡◌, ◌≤◌, length, arith, rules, le-leb, subst, string_bytes}
 use Rattle.rustc_lexer.proofs.BoundLemmas.{tokens_le_bytes}
-use Rattle.rustc_lexer.specs.LanguageHolds.{HoldsTheOnlyTokensBy}
+use Rattle.rustc_lexer.specs.Tokens.{HoldsTheOnlyTokensBy}
 use Rattle.rustc_lexer.proofs.LanguageTextLemmas.{held-by}
 use Rattle.rustc_lexer.proofs.relex.lexed_text.LexedText.is_consistent.Goals as goal
 

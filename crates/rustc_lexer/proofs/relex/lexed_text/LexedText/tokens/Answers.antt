@@ -1,5 +1,5 @@
 use Rattle.std.proofs.Common.{sym, ap, ◌∙◌, subst, string_bytes}
-use Rattle.rustc_lexer.specs.LanguageHolds.{HoldsTheOnlyTokensBy}
+use Rattle.rustc_lexer.specs.Tokens.{HoldsTheOnlyTokensBy}
 use Rattle.rustc_lexer.proofs.LanguageTextLemmas.{held-by}
 use Rattle.rustc_lexer.proofs.relex.lexed_text.LexedText.tokens.Goals as goal
 

@@ -25,7 +25,7 @@ use Rattle.rustc_lexer.specs.laws.Edition.{oldest}
 use Rattle.rustc_lexer.specs.laws.Language.{lexeme-sound}
 use Rattle.rustc_lexer.specs.laws.LanguageRuns.{mark-stops, run_len-here}
 use Rattle.rustc_lexer.specs.laws.LanguageWords.{marked-sound}
-use Rattle.rustc_lexer.proofs.LanguageLemmas.{empty-text, first-is}
+use Rattle.rustc_lexer.specs.laws.LanguageFront.{empty-text, first-is}
 
 -- ---- what an edition keeps
 

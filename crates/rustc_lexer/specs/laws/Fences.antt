@@ -12,8 +12,8 @@ use Rattle.rustc_lexer.specs.means.Frontmatter.{dashes, first, first_alone, is_d
 use Rattle.rustc_lexer.specs.means.Least.{least, more, one_more}
 use Rattle.rustc_lexer.specs.means.Raw.{least_place}
 use Rattle.rustc_lexer.specs.means.Scan.{begins, run_len}
-use Rattle.rustc_lexer.proofs.RawLemmas.{more-zero, one_more-more, place-here, place-on}
-use Rattle.rustc_lexer.proofs.ScanLemmas.{more-more}
+use Rattle.rustc_lexer.specs.laws.Least.{more-zero, one_more-more, place-here, place-on}
+use Rattle.rustc_lexer.specs.laws.Scan.{more-more}
 
 -- a slice from a place on
 pub slice_from : (place : ℕ) (s : List ℕ) → take (length s - place) (drop place s) ≡ drop place s

@@ -5,7 +5,7 @@ use Rattle.rustc_lexer.specs.means.Scan.{after, and_then, gives, next_is, past, 
 use Rattle.rustc_lexer.specs.Classes.{is_id_start, is_id_continue}
 use Rattle.rustc_lexer.specs.means.Least.{more}
 use Rattle.rustc_lexer.specs.means.Literal.{suffix_len}
-use Rattle.rustc_lexer.proofs.PastLemmas.{past-zero, past-past, chars-past, length-past}
+use Rattle.rustc_lexer.specs.laws.Past.{past-zero, past-past, chars-past, length-past}
 
 module _ {A : Type 0} where
   pub scanned-gives : (a : A) (text : List ℕ) → IsUtf8 text → scanned (gives a) text ≡ (a, text)

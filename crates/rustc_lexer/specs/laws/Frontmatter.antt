@@ -16,15 +16,14 @@ use Rattle.rustc_lexer.specs.means.Comment.{is_no_newline}
 use Rattle.rustc_lexer.specs.means.Edition.{first_token_in}
 use Rattle.rustc_lexer.specs.means.Frontmatter.{closing_end, dashes, ends_line, fence_len, first, first_alone, first_some, frontmatter, full_fence, infostring_len, inner_attribute, inner_doc, is_dash, is_infostring, is_newline, label_len, line_end, lone_dashes, newline, opening_len, opens, past_newline, past_opening, past_place, places, places_from, recoveries, recovery, short_fence, spaces_len, stands_alone, then_len, use_item}
 use Rattle.rustc_lexer.specs.means.Least.{one_more}
-use Rattle.rustc_lexer.proofs.RawLemmas.{place-here, place-on}
+use Rattle.rustc_lexer.specs.laws.Least.{place-here, place-on}
 use Rattle.rustc_lexer.specs.laws.Reach.{run_len_le}
 use Rattle.rustc_lexer.specs.means.Scan.{begins, bytes_of, next_is, past, run_len}
 use Rattle.rustc_lexer.specs.State.{HasSuffixWithin}
 use Rattle.rustc_lexer.specs.means.Taking.{token_at}
-use Rattle.rustc_lexer.specs.Tokens.{HasText}
-use Rattle.rustc_lexer.proofs.CharSteps.{bytes_of-suc}
-use Rattle.rustc_lexer.proofs.FenceLemmas.{begins-enough, begins-few}
-use Rattle.rustc_lexer.proofs.PastLemmas.{past-zero, split_past, past-past, past-drop, chars-past, IsUtf8-past, length-past}
+use Rattle.rustc_lexer.specs.laws.CharSteps.{bytes_of-suc}
+use Rattle.rustc_lexer.specs.laws.Fences.{begins-enough, begins-few}
+use Rattle.rustc_lexer.specs.laws.Past.{past-zero, split_past, past-past, past-drop, chars-past, IsUtf8-past, length-past}
 
 -- past one length, and then another
 pub past-then : (f g : List ℕ → ℕ) (text mid left : List ℕ) → IsUtf8 text → mid ≡ past (f (chars text)) text → left ≡ past (g (chars mid)) mid → left ≡ past (then_len f g (chars text)) text
@@ -332,10 +331,6 @@ frontmatter-cut text is e =
 pub frontmatter-suffix : (text : List ℕ) → HasSuffixWithin (frontmatter text)
 unfolding frontmatter
 frontmatter-suffix text = omega arith
-
-pub frontmatter-text : (text : List ℕ) → HasText (frontmatter text).kind (take (frontmatter text).len text)
-unfolding frontmatter
-frontmatter-text text = tt
 
 -- what holds of the frontmatter, where one opens, and of the token of each edition holds of the token
 pub token_at-either : (P : Token → Type 0) (mode : Mode) (text : List ℕ) → ((edition : Edition) → P (first_token_in edition text)) → (opens (chars text) ≡ true → P (frontmatter text)) → P (token_at mode text)

@@ -11,7 +11,7 @@ use Rattle.rustc_lexer.specs.declared.token.Token.{Token}
 use Rattle.rustc_lexer.specs.declared.token.TokenKind.{TokenKind}
 use Rattle.rustc_lexer.specs.declared.token.TokenKind.TheVariants.{LineComment, BlockComment, Whitespace, OpenBracket}
 use Rattle.rustc_lexer.specs.means.Comment.{is_no_newline}
-use Rattle.rustc_lexer.specs.Tokens.{tokens_by}
+use Rattle.rustc_lexer.specs.Cuts.{tokens_by}
 use Rattle.rustc_lexer.specs.Emoji.{is_emoji, emoji_ranges}
 use Rattle.rustc_lexer.specs.Language as page
 use Rattle.rustc_lexer.specs.Language.{has_rule, IsTokenBefore}
@@ -26,9 +26,16 @@ use Rattle.rustc_lexer.specs.Locality.{IsText}
 use Rattle.rustc_lexer.specs.laws.Choice.{by_test}
 use Rattle.rustc_lexer.specs.laws.Language.{lexeme-sound}
 use Rattle.rustc_lexer.specs.laws.Lookahead.{first_token_grammar}
-use Rattle.rustc_lexer.proofs.CutLemmas.{past_first as text_past, shorter, tokens-nil, tokens-cons}
-use Rattle.rustc_lexer.proofs.LanguageLemmas.{empty-text, split, first-is}
-use Rattle.rustc_lexer.proofs.ShebangLemmas.{front-is}
+use Rattle.rustc_lexer.specs.laws.Cuts.{past_first as text_past, shorter, tokens-nil, tokens-cons}
+use Rattle.rustc_lexer.specs.laws.LanguageFront.{empty-text, split, first-is}
+
+-- what begins with `#!`
+pub front-is : (s : List ℕ) → begins (codes "#!") s ≡ true → s ≡ 35 ∷ 33 ∷ drop 2 s
+front-is [] e = absurd (true≢false (sym e))
+front-is (c ∷ []) e = absurd (true≢false (sym (and_parts (c == 35) false e).1))
+front-is (c ∷ d ∷ s) e =
+    let parts = and_parts (c == 35) ((d == 33) && true) e in
+    ap (λ (x : ℕ). x ∷ d ∷ s) (eqb-true c 35 parts.0) ∙ ap (λ (x : ℕ). 35 ∷ x ∷ s) (eqb-true d 33 (and_parts (d == 33) true parts.1).0)
 
 -- ---- an attribute
 

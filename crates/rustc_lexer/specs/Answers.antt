@@ -1,0 +1,55 @@
+-- What the page of the language answers: the names that contracts have for tokens and for the answers of calls.
+--
+-- Each is what the page allows, and the page allows nothing else: so says the type of what it is
+-- taken from. That type is all that one has to read. How an answer is found, and the proof that it
+-- is the only one, stand in laws/TheAnswers.antt.
+use Rattle.std.specs.Prelude.{ℕ, ◌<◌, List, length, drop, Option, Result}
+use Rattle.std.specs.Str.{chars}
+use Rattle.rustc_lexer.specs.declared.edition.Edition.{Edition}
+use Rattle.rustc_lexer.specs.declared.token.GuardedStr.{GuardedStr}
+use Rattle.rustc_lexer.specs.declared.token.RawStrError.{RawStrError}
+use Rattle.rustc_lexer.specs.declared.token.Token.{Token}
+use Rattle.rustc_lexer.specs.LanguageCalls.{IsRawAnswer, IsShebang}
+use Rattle.rustc_lexer.specs.LanguageHolds.{IsFirst, TakesGuarded, TakesNext}
+use Rattle.rustc_lexer.specs.LanguageText.{Mode, AreTokens}
+use Rattle.rustc_lexer.specs.Locality.{IsText}
+use Rattle.rustc_lexer.specs.Spans.{Utf8}
+use Rattle.rustc_lexer.specs.State.{State}
+use Rattle.rustc_lexer.specs.TheOnly.{TheOnly}
+use Rattle.rustc_lexer.specs.laws.TheAnswers.{the_tokens, the_first, the_next, the_guarded, the_raw, the_shebang}
+
+-- the tokens of a text
+abbrev pub tokens_of : Mode → Utf8 → List Token
+tokens_of mode text =
+    let the : TheOnly (IsText text) (AreTokens mode (chars text)) = the_tokens mode text in
+    the.answer
+
+-- the first of them, of a part in an edition
+abbrev pub first_in : Edition → Utf8 → Token
+first_in edition text =
+    let the : TheOnly (IsText text × (0 < length text)) (IsFirst edition text) = the_first edition text in
+    the.answer
+
+-- what a cursor takes, and its state after that
+abbrev pub advance : State → Token × State
+advance s =
+    let the : TheOnly (IsText s.rest) (TakesNext s) = the_next s in
+    the.answer
+
+-- the guarded string that it takes instead, if one stands there, and its state after that
+abbrev pub guarded : State → Option GuardedStr × State
+guarded s =
+    let the : TheOnly (Unit {0}) (TakesGuarded s) = the_guarded s in
+    the.answer
+
+-- whether the raw string behind a prefix is a good one, or why not
+abbrev pub raw_check : Utf8 → ℕ → Result Unit RawStrError
+raw_check text prefix =
+    let the : TheOnly (Unit {0}) (IsRawAnswer prefix (drop prefix (chars text))) = the_raw text prefix in
+    the.answer
+
+-- the length of the shebang line of a text, if it has one
+abbrev pub shebang : Utf8 → Option ℕ
+shebang text =
+    let the : TheOnly (IsText text) (IsShebang text) = the_shebang text in
+    the.answer

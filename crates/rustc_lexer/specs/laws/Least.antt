@@ -1,0 +1,20 @@
+-- The least place at which a test passes.
+use Rattle.std.proofs.Common.{◌≡◌, ℕ, zero, suc, Bool, true, false, List, [], ◌∷◌, Option, Some, None, refl, ap, arith}
+use Rattle.rustc_lexer.specs.means.Least.{one_more, more}
+use Rattle.rustc_lexer.specs.means.Raw.{least_place}
+
+-- the place where a test passes
+module _ (test : List ℕ → Bool) where
+  pub place-here : (c : ℕ) (s : List ℕ) → test (c ∷ s) ≡ true → least_place test (c ∷ s) ≡ Some 0
+  place-here c s e = rw e refl
+
+  pub place-on : (c : ℕ) (s : List ℕ) → test (c ∷ s) ≡ false → least_place test (c ∷ s) ≡ one_more (least_place test s)
+  place-on c s e = rw e refl
+
+pub more-zero : (o : Option ℕ) → o ≡ more 0 o
+more-zero None = refl
+more-zero (Some n) = ap Some (omega arith)
+
+pub one_more-more : (k : ℕ) (o : Option ℕ) → one_more (more k o) ≡ more (suc k) o
+one_more-more k None = refl
+one_more-more k (Some n) = ap Some (omega arith)

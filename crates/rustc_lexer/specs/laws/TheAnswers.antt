@@ -1,0 +1,127 @@
+-- How each answer of the page is found, and that it is the only one.
+use Rattle.std.proofs.Common.{◌≡◌, ℕ, zero, suc, ◌<◌, ◌==◌, Bool, true, false, true≢false, List, [], ◌∷◌, length, take, drop, refl, sym, ap, ◌∙◌, subst, arith, Option, Result}
+use Rattle.std.proofs.lemmas.Bool.{eqb-true}
+use Rattle.std.specs.Str.{chars}
+use Rattle.rustc_lexer.specs.declared.edition.Edition.{Edition}
+use Rattle.rustc_lexer.specs.declared.token.GuardedStr.{GuardedStr}
+use Rattle.rustc_lexer.specs.declared.token.RawStrError.{RawStrError}
+use Rattle.rustc_lexer.specs.declared.token.Token.{Token}
+use Rattle.rustc_lexer.specs.declared.token.TokenKind.TheVariants.{Eof}
+use Rattle.rustc_lexer.specs.LanguageCalls.{IsRawAnswer, IsShebang}
+use Rattle.rustc_lexer.specs.LanguageHolds.{IsFirst, TakesGuarded, TakesNext, nothing_left, first_left}
+use Rattle.rustc_lexer.specs.LanguageText.{Mode, part, mode_after, AreTokens}
+use Rattle.rustc_lexer.specs.Locality.{IsText}
+use Rattle.rustc_lexer.specs.State.{State, token_past}
+use Rattle.rustc_lexer.specs.TheOnly.{TheOnly}
+use Rattle.rustc_lexer.specs.laws.LanguageGuarded.{guarded-answer}
+use Rattle.rustc_lexer.specs.laws.LanguageRefusals.{raw-answer}
+use Rattle.rustc_lexer.specs.laws.LanguageShebang.{shebang-answer}
+use Rattle.rustc_lexer.specs.laws.LanguageTokens.{language, tokens-are, tokens-read}
+use Rattle.rustc_lexer.specs.laws.State.{state, past_token, advance-end, advance-some}
+use Rattle.rustc_lexer.specs.laws.Tokens.{tokens-cons, tokens-nil}
+use Rattle.rustc_lexer.specs.means.Edition.{first_token_in}
+use Rattle.rustc_lexer.specs.means.Guarded as means_guarded
+use Rattle.rustc_lexer.specs.means.Raw as means_raw
+use Rattle.rustc_lexer.specs.means.Shebang as means_shebang
+use Rattle.rustc_lexer.specs.means.Taking as means_taking
+use Rattle.rustc_lexer.specs.means.Taking.{token_at}
+use Rattle.rustc_lexer.specs.means.Tokens as means_tokens
+
+abbrev pub the_tokens : (mode : Mode) (text : List ℕ) → TheOnly (IsText text) (AreTokens mode (chars text))
+the_tokens mode text = record { answer = means_tokens.tokens_of mode text; only = language text mode }
+
+-- ---- the first token
+
+abbrev first_of : Token → List Token → Token
+first_of none [] = none
+first_of none (token ∷ tokens) = token
+
+module _ (mode : Mode) (text : List ℕ) (is : IsText text) (some : 0 < length text) where
+  -- where the language allows a list of tokens, it begins with the one that is read
+  pub first-read : (token : Token) (tokens : List Token) → AreTokens mode (chars text) (token ∷ tokens) → token ≡ token_at mode text
+  first-read token tokens are = ap (first_of token) (sym (tokens-read are text is refl) ∙ tokens-cons mode text is some)
+
+  -- and it allows one that does
+  pub first-are : AreTokens mode (chars text) (token_at mode text ∷ means_tokens.tokens_of (mode_after mode (token_at mode text).kind) (drop (token_at mode text).len text))
+  first-are = subst (AreTokens mode (chars text)) (tokens-cons mode text is some) (tokens-are text mode is)
+
+abbrev pub the_first : (edition : Edition) (text : List ℕ) → TheOnly (IsText text × (0 < length text)) (IsFirst edition text)
+the_first edition text = record {
+  answer = first_token_in edition text;
+  only = λ is other. (
+    λ first. first-read (part edition) text is.0 is.1 other first.0 first.1,
+    λ e. subst (IsFirst edition text) (sym e) (_, first-are (part edition) text is.0 is.1),
+  );
+}
+
+-- ---- what a cursor takes
+
+module _ (s : State) (is : IsText s.rest) where
+  nonempty : (length s.rest == 0) ≡ false → 0 < length s.rest
+  nonempty some = by_count (length s.rest) some
+    where
+      by_count : (n : ℕ) → (n == 0) ≡ false → 0 < n
+      by_count zero e = absurd (true≢false e)
+      by_count (suc n) e = omega arith
+
+  empty : (length s.rest == 0) ≡ true → s.rest ≡ []
+  empty none = by_text s.rest none
+    where
+      by_text : (text : List ℕ) → (length text == 0) ≡ true → text ≡ []
+      by_text [] e = refl
+      by_text (b ∷ bs) e = absurd (let n = eqb-true (length (b ∷ bs)) 0 e in omega arith)
+
+  at_end : (length s.rest == 0) ≡ true → means_taking.advance s ≡ (record { kind = Eof; len = 0 }, s)
+  at_end none = advance-end s.pending s.rest s.mode s refl none
+
+  at_token : (length s.rest == 0) ≡ false → means_taking.advance s ≡ (token_past s.pending (token_at s.mode s.rest), past_token s.rest s.mode (token_at s.mode s.rest))
+  at_token some = advance-some s.pending s.rest s.mode s refl some
+
+  no_token : (token : Token) (tokens : List Token) → (length s.rest == 0) ≡ true → AreTokens s.mode (chars s.rest) (token ∷ tokens) → ⊥
+  no_token token tokens none are = absurd_cons (sym (ap (means_tokens.tokens_of s.mode) (empty none) ∙ tokens-nil s.mode) ∙ tokens-read are s.rest is refl)
+    where
+      absurd_cons : [] ≡ token ∷ tokens → ⊥
+      absurd_cons e = let n = ap length e in omega (arith, n)
+
+  pub next-read : (other : Token × State) → TakesNext s other → other ≡ means_taking.advance s
+  next-read _ (nothing_left e) = sym (at_end (ap (λ (text : List ℕ). length text == 0) e))
+  next-read _ (first_left {token} {tokens} are) = by_end (length s.rest == 0) refl
+    where
+      by_end : (b : Bool) → (length s.rest == 0) ≡ b → (token_past s.pending token, past_token s.rest s.mode token) ≡ means_taking.advance s
+      by_end true e = absurd (no_token token tokens e are)
+      by_end false e =
+          let same : token ≡ token_at s.mode s.rest = first-read s.mode s.rest is (nonempty e) token tokens are in
+          ap (λ (t : Token). let r : Token × State = (token_past s.pending t, past_token s.rest s.mode t) in r) same ∙ sym (at_token e)
+
+  pub next-is : TakesNext s (means_taking.advance s)
+  next-is = by_end (length s.rest == 0) refl
+    where
+      by_end : (b : Bool) → (length s.rest == 0) ≡ b → TakesNext s (means_taking.advance s)
+      by_end true e = subst (TakesNext s) (sym (at_end e)) (nothing_left (empty e))
+      by_end false e = subst (TakesNext s) (sym (at_token e)) (first_left (first-are s.mode s.rest is (nonempty e)))
+
+abbrev pub the_next : (s : State) → TheOnly (IsText s.rest) (TakesNext s)
+the_next s = record {
+  answer = means_taking.advance s;
+  only = λ is other. (next-read s is other, λ e. subst (TakesNext s) (sym e) (next-is s is));
+}
+
+-- ---- the calls beside the tokens
+
+abbrev pub the_guarded : (s : State) → TheOnly (Unit {0}) (TakesGuarded s)
+the_guarded s = record {
+  answer = means_guarded.guarded s;
+  only = λ always. guarded-answer s (means_guarded.guarded s).1 (means_guarded.guarded s).0 refl refl;
+}
+
+abbrev pub the_raw : (text : List ℕ) (prefix : ℕ) → TheOnly (Unit {0}) (IsRawAnswer prefix (drop prefix (chars text)))
+the_raw text prefix = record {
+  answer = means_raw.raw_check text prefix;
+  only = λ always. raw-answer text prefix (means_raw.raw_check text prefix) refl;
+}
+
+abbrev pub the_shebang : (text : List ℕ) → TheOnly (IsText text) (IsShebang text)
+the_shebang text = record {
+  answer = means_shebang.shebang text;
+  only = λ is. shebang-answer text (means_shebang.shebang text) is refl;
+}

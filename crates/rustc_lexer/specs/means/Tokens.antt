@@ -1,0 +1,26 @@
+-- Means, by how they are read: the tokens of a text.
+use Rattle.std.specs.Prelude.{ℕ, zero, suc, List, [], ◌∷◌, length, drop}
+use Rattle.rustc_lexer.specs.declared.edition.Edition.{Edition}
+use Rattle.rustc_lexer.specs.declared.token.Token.{Token}
+use Rattle.rustc_lexer.specs.Cuts.{tokens_by}
+use Rattle.rustc_lexer.specs.LanguageText.{Mode, document, part, mode_after}
+use Rattle.rustc_lexer.specs.means.Edition.{first_token_in}
+use Rattle.rustc_lexer.specs.means.Taking.{token_at}
+
+-- the tokens of a text, of which `count` at most are read as those of a document: each says how what follows it is read
+abbrev pub cut : Mode → ℕ → List ℕ → List Token
+cut (part edition) count text = tokens_by (first_token_in edition) text
+cut (document edition) zero text = []
+cut (document edition) (suc count) [] = []
+cut (document edition) (suc count) (b ∷ bs) =
+    let token : Token = token_at (document edition) (b ∷ bs) in
+    token ∷ cut (mode_after (document edition) token.kind) count (drop token.len (b ∷ bs))
+
+-- the tokens of a document, which has no more of them than bytes
+unfoldable pub tokens_of_document : Edition → List ℕ → List Token
+tokens_of_document edition text = cut (document edition) (length text) text
+
+-- the tokens of a text
+abbrev pub tokens_of : Mode → List ℕ → List Token
+tokens_of (part edition) text = tokens_by (first_token_in edition) text
+tokens_of (document edition) text = tokens_of_document edition text
