@@ -1,10 +1,3 @@
-pub mod CallLemmas
-pub mod EscapeLemmas
 pub mod JobLemmas
-pub mod LineLemmas
-pub mod LiteralLemmas
 pub mod OutcomeLemmas
-pub mod PageLemmas
-pub mod PartLemmas
-pub mod PlaceLemmas
 pub mod ProgramLemmas

@@ -13,7 +13,7 @@ use Rattle.ends.specs.Reading.{EndsReading}
 use Rattle.rustc_lexer.specs.declared.edition.Edition.{Edition}
 use Rattle.highlight_run.specs.declared.stop.Stop.{Stop}
 use Rattle.highlight_run.specs.declared.stop.Stop.TheVariants.{Arguments, NotUtf8, TooLong, Memory, Read, Write, ClosedPipe}
-use Rattle.highlight_run.specs.declared.style.Style.{Style}
+use Rattle.marks.specs.declared.style.Style.{Style}
 use Rattle.highlight_run.specs.Outcome.{outcome, Ends, IsWriteStop}
 use Rattle.highlight_run.specs.Page.{printed}
 use Rattle.highlight_run.specs.Stop.{read_stop}

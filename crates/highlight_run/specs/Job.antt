@@ -10,8 +10,8 @@ use Rattle.highlight_run.specs.declared.job.Job.TheVariants.{Show, Help}
 use Rattle.highlight_run.specs.declared.job.Options.{Options}
 use Rattle.highlight_run.specs.declared.job.When.{When}
 use Rattle.highlight_run.specs.declared.job.When.TheVariants.{Auto, Always, Never}
-use Rattle.highlight_run.specs.declared.style.Style.{Style}
-use Rattle.highlight_run.specs.declared.style.Style.TheVariants.{Html, Colours, NoColours}
+use Rattle.marks.specs.declared.style.Style.{Style}
+use Rattle.marks.specs.declared.style.Style.TheVariants.{Html, Colours, NoColours}
 
 -- when colours are written
 abbrev pub when_of : List ℕ → Option When

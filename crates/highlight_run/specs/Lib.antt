@@ -1,11 +1,5 @@
-pub mod Class
-pub mod Escape
-pub mod Fault
 pub mod Job
-pub mod Literal
-pub mod Mark
 pub mod Outcome
 pub mod Page
-pub mod Part
 pub mod Program
 pub mod Stop

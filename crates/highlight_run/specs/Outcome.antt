@@ -6,7 +6,7 @@ use Rattle.ends.specs.Known.{AppendsFront}
 use Rattle.rustc_lexer.specs.declared.edition.Edition.{Edition}
 use Rattle.highlight_run.specs.declared.stop.Stop.{Stop}
 use Rattle.highlight_run.specs.declared.stop.Stop.TheVariants.{NotUtf8, TooLong, Memory, Read, Write, ClosedPipe}
-use Rattle.highlight_run.specs.declared.style.Style.{Style}
+use Rattle.marks.specs.declared.style.Style.{Style}
 use Rattle.highlight_run.specs.Page.{printed}
 
 -- all that is written of the bytes, or why nothing is: they are too many, or no text

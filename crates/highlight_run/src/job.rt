@@ -2,7 +2,7 @@
 ghost use Rattle.std.specs.Prelude.{◌≡◌, map, string_bytes};
 ghost use Rattle.highlight_run.specs.Job.{in_edition, is_help, job_of, options_of, page, style_of, when_of, with_colours};
 
-use crate::style::Style;
+use marks::Style;
 use rustc_lexer::Edition;
 use std::str::FromStr;
 

@@ -1,19 +1,11 @@
-//! A text with its shebang line and its tokens marked, for a terminal or as a page.
+//! The page around a marked text.
 ghost use Rattle.std.specs.Prelude.{◌≡◌, OnOk};
 ghost use Rattle.std.specs.Fmt.{WritesInCalls};
 ghost use Rattle.rustc_lexer.specs.Classes.{Fits};
-ghost use Rattle.rustc_lexer.specs.LanguageText.{document};
-ghost use Rattle.rustc_lexer.specs.Tokens.{tokens_of};
-ghost use Rattle.highlight_run.specs.Escape.{unescaped, untagged};
-ghost use Rattle.highlight_run.specs.Page.{foot, head, marked, marked_tokens, printed, text_parts, token_parts};
-ghost use Rattle.highlight_run.specs.Part.{with_marks, without_marks};
+ghost use Rattle.highlight_run.specs.Page.{foot, head, printed};
 
-use crate::class::{Class, class_of};
-use crate::fault::fault_of;
-use crate::literal::{mode_of, write_literal};
-use crate::part::{write_in_class, write_with_fault};
-use crate::style::Style;
-use rustc_lexer::{Edition, FrontmatterAllowed, TokenKind, strip_shebang, tokenize_as};
+use marks::{Style, write_marked};
+use rustc_lexer::Edition;
 use std::fmt;
 
 /// What stands in a page before the text. A page drops the newline past `<pre>`.
@@ -92,73 +84,5 @@ fn foot(style: Style) -> &'static str
     match style {
         Style::Html => FOOT,
         Style::Colours | Style::NoColours => "",
-    }
-}
-
-/// Writes a whole text: its shebang line, where it has one, between the marks of a comment, and the
-/// tokens of what follows between theirs. The marks are colours by the class of each token, and a
-/// sentence at each that has a fault.
-///
-/// Without the marks it is the text. In a page the text is what stands outside of the tags, with
-/// its entities undone.
-#[tactic(auto, using(crate::proofs::PageLemmas::text_is, crate::proofs::PageLemmas::page_is, crate::proofs::PageLemmas::writes_past))]
-pub fn write_marked<W: fmt::Write>(
-    style: Style,
-    edition: Edition,
-    text: &str,
-    output: &mut W,
-) -> fmt::Result
-    requires fits { Fits text.now }
-    ensures written { OnOk result (WritesInCalls W.write_str_gives output.old
-        (marked style edition text.now) output.new) }
-    ensures text { without_marks (text_parts style edition text.now) ≡ text.now }
-    ensures page { unescaped (untagged (marked Style.Html edition text.now)) ≡ text.now }
-{
-    let Some(end) = strip_shebang(text) else {
-        return write_tokens(style, edition, text, output);
-    };
-    write_in_class(style, Class::Comment, &text[..end], output)?;
-    write_tokens(style, edition, &text[end..], output)
-}
-
-/// Writes the tokens of a text in an edition, each between its marks. A frontmatter may stand in front.
-fn write_tokens<W: fmt::Write>(
-    style: Style,
-    edition: Edition,
-    text: &str,
-    output: &mut W,
-) -> fmt::Result
-    requires fits { Fits text.now }
-    ensures { OnOk result (WritesInCalls W.write_str_gives output.old
-        (marked_tokens style text.now (tokens_of (document edition) text.now)) output.new) }
-{
-    let mut start = 0;
-    for token in tokenize_as(text, FrontmatterAllowed::Yes, edition) {
-        let end = start + token.len as usize;
-        write_token(style, token.kind, &text[start..end], output)?;
-        start = end;
-    }
-    Ok(())
-}
-
-/// Writes a token between its marks. Where it has a fault, its first line stands between the marks of that too. A literal
-/// without one has marks around its escapes, and around what is wrong in it.
-fn write_token<W: fmt::Write>(
-    style: Style,
-    kind: TokenKind,
-    text: &str,
-    output: &mut W,
-) -> fmt::Result
-    requires fits { Fits text.now }
-    ensures { OnOk result (WritesInCalls W.write_str_gives output.old
-        (with_marks style (token_parts style kind text.now)) output.new) }
-{
-    let class = class_of(kind, text);
-    if let Some(fault) = fault_of(kind, text) {
-        return write_with_fault(style, fault, class, text, output);
-    }
-    match mode_of(kind) {
-        None => write_in_class(style, class, text, output),
-        Some(mode) => write_literal(style, mode, text, output),
     }
 }

@@ -8,8 +8,8 @@ ghost use Rattle.ends.specs.Known.{AppendsFront};
 
 use crate::page::write_text;
 use crate::stop::Stop;
-use crate::style::Style;
 use ends::{Watched, WriteStop, read_all, write_all};
+use marks::Style;
 use rustc_lexer::Edition;
 use std::alloc::Global;
 use std::fmt;

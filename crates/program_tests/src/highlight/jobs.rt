@@ -1,6 +1,7 @@
 //! Words and the jobs that they ask for.
 use crate::words::words_of;
-use highlight_run::{Job, Style, read_job};
+use highlight_run::{Job, read_job};
+use marks::Style;
 use rustc_lexer::Edition;
 use std::alloc::{AllocError, Global};
 use std::test::Fail;

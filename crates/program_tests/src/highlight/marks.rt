@@ -1,5 +1,5 @@
 //! Marks, the sentence of each fault, shebang lines, editions.
-use highlight_run::{Style, write_marked};
+use marks::{Style, write_marked};
 use rustc_lexer::{Edition, fits};
 use std::alloc::Global;
 use std::test::Fail;

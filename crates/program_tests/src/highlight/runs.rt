@@ -1,8 +1,9 @@
 //! Runs over readers and writers that fail, and over texts of every size.
 use crate::failing_ends::Turn::{Fails, Moves};
 use crate::failing_ends::{Script, Turn, WHOLE};
+use highlight_run::Stop;
 use highlight_run::run::run;
-use highlight_run::{Stop, Style};
+use marks::Style;
 use rustc_lexer::Edition;
 use std::alloc::AllocError;
 use std::io::ErrorKind;

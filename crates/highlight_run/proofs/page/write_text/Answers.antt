@@ -1,5 +1,5 @@
 use Rattle.std.proofs.Common.{List, ℕ, refl, subst}
-use Rattle.highlight_run.proofs.CallLemmas.{on_ok, one_call, writes_both}
+use Rattle.marks.proofs.CallLemmas.{on_ok, one_call, writes_both}
 use Rattle.highlight_run.proofs.page.write_text.Goals as goal
 
 pub returns : goal.returns

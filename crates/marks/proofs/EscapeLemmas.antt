@@ -1,0 +1,96 @@
+-- A text with entities: that they are undone, that it holds no tag, and how it is written.
+use Rattle.std.proofs.Common.{◌≡◌, ℕ, zero, suc, ◌+◌, ◌<◌, ◌≤◌, ◌==◌, ◌||◌, if◌then◌else◌, Bool, true, false, true≢false, List, [], ◌∷◌, ◌++◌, length, take, drop, get_or, refl, sym, ap, subst, ◌∙◌, arith, inl, inr, append_assoc, Some, None}
+use Rattle.std.specs.Prelude.{codes}
+use Rattle.std.specs.Str.{IsUtf8}
+use Rattle.std.proofs.lemmas.Str.{lead_after_ascii}
+use Rattle.std.specs.Fmt.{WritesInCalls}
+use Rattle.std.proofs.lemmas.Bool.{cases_Bool, eqb-true}
+use Rattle.memchr.specs.Find.{IsFirstByte}
+use Rattle.marks.specs.Escape.{entity, escaped, escaped_byte, is_special, unescaped_past, untagged_from}
+use Rattle.marks.proofs.CallLemmas.{one_call, writes_both}
+
+-- a byte as the three tests choose it
+abbrev by_tests : Bool → Bool → Bool → ℕ → List ℕ
+by_tests x y z b = if x || y || z then (if x then codes "&amp;" else (if y then codes "&lt;" else codes "&gt;")) else b ∷ []
+
+unescaped_byte : (b : ℕ) (rest : List ℕ) → unescaped_past 0 (escaped_byte b ++ rest) ≡ b ∷ unescaped_past 0 rest
+unescaped_byte b rest = by (b == 38) (b == 60) (b == 62) refl refl refl
+  where
+    by : (x y z : Bool) → (b == 38) ≡ x → (b == 60) ≡ y → (b == 62) ≡ z → unescaped_past 0 (by_tests x y z b ++ rest) ≡ b ∷ unescaped_past 0 rest
+    by true y z e f g = ap (λ (c : ℕ). c ∷ unescaped_past 0 rest) (sym (eqb-true b 38 e))
+    by false true z e f g = ap (λ (c : ℕ). c ∷ unescaped_past 0 rest) (sym (eqb-true b 60 f))
+    by false false true e f g = ap (λ (c : ℕ). c ∷ unescaped_past 0 rest) (sym (eqb-true b 62 g))
+    by false false false e f g = rw e refl
+
+pub unescaped_escaped : (text : List ℕ) → unescaped_past 0 (escaped text) ≡ text
+unescaped_escaped [] = refl
+unescaped_escaped (b ∷ bs) = unescaped_byte b (escaped bs) ∙ ap (λ xs. b ∷ xs) (unescaped_escaped bs)
+
+untagged_byte : (b : ℕ) (rest : List ℕ) → untagged_from false (escaped_byte b ++ rest) ≡ escaped_byte b ++ untagged_from false rest
+untagged_byte b rest = by (b == 38) (b == 60) (b == 62) refl
+  where
+    by : (x y z : Bool) → (b == 60) ≡ y → untagged_from false (by_tests x y z b ++ rest) ≡ by_tests x y z b ++ untagged_from false rest
+    by true y z f = refl
+    by false true z f = refl
+    by false false true f = refl
+    by false false false f = rw f refl
+
+-- no tag begins in a text with entities
+pub untagged_escaped : (text rest : List ℕ) → untagged_from false (escaped text ++ rest) ≡ escaped text ++ untagged_from false rest
+untagged_escaped [] rest = refl
+untagged_escaped (b ∷ bs) rest =
+    ap (untagged_from false) (append_assoc (escaped_byte b) (escaped bs) rest)
+    ∙ (untagged_byte b (escaped bs ++ rest)
+    ∙ (ap (λ xs. escaped_byte b ++ xs) (untagged_escaped bs rest) ∙ sym (append_assoc (escaped_byte b) (escaped bs) (untagged_from false rest))))
+
+pub escaped_append : (xs ys : List ℕ) → escaped (xs ++ ys) ≡ escaped xs ++ escaped ys
+escaped_append [] ys = refl
+escaped_append (b ∷ bs) ys = ap (λ zs. escaped_byte b ++ zs) (escaped_append bs ys) ∙ sym (append_assoc (escaped_byte b) (escaped bs) (escaped ys))
+
+none_special : (bs : List ℕ) → ((k : ℕ) → k < length bs → is_special (get_or bs k 0) ≡ true → ⊥) → escaped bs ≡ bs
+none_special [] none = refl
+none_special (b ∷ bs) none = elim (cases_Bool (is_special b)) [
+  | inl set ↦ absurd (none 0 (omega arith) set)
+  | inr clear ↦ rw clear (ap (λ xs. b ∷ xs) (none_special bs (λ k low set. none (suc k) (omega arith) set)))
+]
+
+first_special : (bs : List ℕ) (n : ℕ) → n < length bs → ((k : ℕ) → k < n → is_special (get_or bs k 0) ≡ true → ⊥) → is_special (get_or bs n 0) ≡ true
+    → escaped bs ≡ take n bs ++ (entity (get_or bs n 0) ++ escaped (drop (suc n) bs))
+first_special [] n low none here = absurd (omega arith)
+first_special (b ∷ bs) zero low none here = rw here refl
+first_special (b ∷ bs) (suc n) low none here = elim (cases_Bool (is_special b)) [
+  | inl set ↦ absurd (none 0 (omega arith) set)
+  | inr clear ↦ rw clear (ap (λ xs. b ∷ xs) (first_special bs n (omega arith) (λ k less set. none (suc k) (omega arith) set) here))
+]
+
+special_small : (b : ℕ) → is_special b ≡ true → b < 128
+special_small b set = by (b == 38) (b == 60) (b == 62) refl refl refl set
+  where
+    by : (x y z : Bool) → (b == 38) ≡ x → (b == 60) ≡ y → (b == 62) ≡ z → (x || y || z) ≡ true → b < 128
+    by true y z e f g s = let is = eqb-true b 38 e in omega arith
+    by false true z e f g s = let is = eqb-true b 60 f in omega arith
+    by false false true e f g s = let is = eqb-true b 62 g in omega arith
+    by false false false e f g s = absurd (true≢false (sym s))
+
+-- the text may be cut past a special byte
+pub may_cut_past : (bs : List ℕ) (n : ℕ) → IsUtf8 bs → IsFirstByte is_special bs (Some n) → (n + 1 ≤ length bs) × (n + 1 < length bs → 128 ≤ get_or bs (n + 1) 0 → 192 ≤ get_or bs (n + 1) 0)
+may_cut_past bs n utf8 found = (let i = found.0.high in omega arith, λ low wide. lead_after_ascii bs n utf8 (special_small _ found.1) low wide)
+
+module _ {W : Type 0} (took : W → List ℕ → W → Type 0) where
+  -- the calls that write a text up to its first special byte, and the entity of that, and then those that write the rest
+  pub writes_special : (w0 w1 w2 w : W) (bs front name rest : List ℕ) (n : ℕ) → IsFirstByte is_special bs (Some n) → front ≡ take n bs → name ≡ entity (get_or bs n 0) → rest ≡ drop (n + 1) bs
+      → took w0 front w1 → took w1 name w2 → WritesInCalls took w2 (escaped rest) w → WritesInCalls took w0 (escaped bs) w
+  writes_special w0 w1 w2 w bs front name rest n found own is past a b more =
+      let one_more : n + 1 ≡ suc n = omega arith in
+      let after : rest ≡ drop (suc n) bs = past ∙ ap (λ (k : ℕ). drop k bs) one_more in
+      let whole : escaped bs ≡ front ++ (name ++ escaped rest) =
+      first_special bs n (let i = found.0.high in omega arith) (λ k less set. found.0.before k (omega arith) less set) found.1
+      ∙ (ap (λ xs. xs ++ (entity (get_or bs n 0) ++ escaped (drop (suc n) bs))) (sym own)
+      ∙ (ap (λ xs. front ++ (xs ++ escaped (drop (suc n) bs))) (sym is) ∙ ap (λ xs. front ++ (name ++ escaped xs)) (sym after))) in
+      subst (λ (xs : List ℕ). WritesInCalls took w0 xs w) (sym whole)
+      (writes_both took w0 w1 w _ _ (one_call took w0 w1 front a) (writes_both took w1 w2 w _ _ (one_call took w1 w2 name b) more))
+
+  -- a text with no special byte is written as it is
+  pub writes_plain : (w v : W) (bs : List ℕ) → IsFirstByte is_special bs None → took w bs v → WritesInCalls took w (escaped bs) v
+  writes_plain w v bs none call =
+      subst (λ (xs : List ℕ). WritesInCalls took w xs v) (sym (none_special bs (λ k low set. none k (omega arith) low set))) (one_call took w v bs call)

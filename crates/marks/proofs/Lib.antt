@@ -1,0 +1,7 @@
+pub mod CallLemmas
+pub mod EscapeLemmas
+pub mod LineLemmas
+pub mod LiteralLemmas
+pub mod MarkedLemmas
+pub mod PartLemmas
+pub mod PlaceLemmas

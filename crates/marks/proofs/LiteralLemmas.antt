@@ -1,0 +1,187 @@
+-- What a literal says between its marks, and the calls that write it.
+use Rattle.std.proofs.Common.{◌≡◌, ℕ, ◌+◌, ◌-◌, ◌<◌, ◌≤◌, if◌then◌else◌, nat_lt, Bool, true, false, List, [], ◌∷◌, ◌++◌, length, get_or, take, drop, refl, sym, ap, subst, ◌∙◌, arith, inl, inr, take-append-drop, length-drop, append-nil, IsCharBoundary, Option, Some}
+use Rattle.std.specs.Fmt.{WritesInCalls}
+use Rattle.std.proofs.lemmas.Bool.{cases_lt, ltb-true, lt-ltb}
+use Rattle.std.proofs.lemmas.List.{drop-drop, get_or-take, length-take-le}
+use Rattle.std.proofs.lemmas.List.Elements.{All-head, All-tail}
+use Rattle.std.proofs.lemmas.Str.{IsCharBoundary-from_rest}
+use Rattle.rustc_literal_escaper.specs.Elements.{Item, items_of}
+use Rattle.rustc_literal_escaper.specs.Errors.{is_raw}
+use Rattle.rustc_literal_escaper.specs.Places.{ArePlaced, IsPlaced}
+use Rattle.rustc_literal_escaper.specs.declared.mode.Mode.{Mode}
+use Rattle.marks.specs.declared.class.Class.TheVariants.{Text, Escape as EscapeClass}
+use Rattle.marks.specs.declared.fault.Fault.TheVariants.{InLiteral}
+use Rattle.marks.specs.declared.literal.Look.{Look}
+use Rattle.marks.specs.declared.literal.Look.TheVariants.{Escape, Wrong}
+use Rattle.marks.specs.declared.style.Style.{Style}
+use Rattle.marks.specs.declared.style.Style.TheVariants.{Html}
+use Rattle.marks.specs.Literal.{Stretch, WritesOn, between, literal_parts, look_of, look_parts, parts_from, single_error, single_look, single_stretches, skipped, stretch, stretches_from, stretches_of, string_stretches}
+use Rattle.marks.specs.Part.{class_parts, with_marks, without_marks}
+use Rattle.marks.proofs.PartLemmas.{Shows, shows_both, shows_class, shows_fault, without_class, without_fault, without_marks-append, writes_parts}
+
+without_look : (style : Style) (look : Look) (text : List ℕ) → without_marks (look_parts style look text) ≡ text
+without_look style Escape text = without_class style EscapeClass text
+without_look style (Wrong error) text = without_fault style (InLiteral error) Text text
+
+without_from : (style : Style) (at : ℕ) (left : List ℕ) (ss : List Stretch) → without_marks (parts_from style at left ss) ≡ left
+without_from style at left [] = without_class style Text left
+without_from style at left (s ∷ ss) =
+    let plain : List ℕ = take (s.start - at) left in
+    let past : List ℕ = drop (s.start - at) left in
+    let own : List ℕ = take (s.end - s.start) past in
+    let rest : List ℕ = drop (s.end - s.start) past in
+    without_marks-append (class_parts style Text plain) (look_parts style s.look own ++ parts_from style s.end rest ss)
+    ∙ (ap (λ xs. xs ++ without_marks (look_parts style s.look own ++ parts_from style s.end rest ss)) (without_class style Text plain)
+    ∙ (ap (λ xs. plain ++ xs) (without_marks-append (look_parts style s.look own) (parts_from style s.end rest ss)
+    ∙ (ap (λ xs. xs ++ without_marks (parts_from style s.end rest ss)) (without_look style s.look own)
+    ∙ (ap (λ xs. own ++ xs) (without_from style s.end rest ss) ∙ take-append-drop (s.end - s.start) past)))
+    ∙ take-append-drop (s.start - at) left))
+
+-- without the marks, a literal is as it was, whatever its stretches are
+pub without_literal : (style : Style) (mode : Mode) (text : List ℕ) → without_marks (literal_parts style mode text) ≡ text
+without_literal style mode text = without_from style 0 text (stretches_of mode text)
+
+shows_look : (look : Look) (text : List ℕ) → Shows (look_parts Html look text)
+shows_look Escape text = shows_class EscapeClass text
+shows_look (Wrong error) text = shows_fault (InLiteral error) Text text
+
+shows_from : (at : ℕ) (left : List ℕ) (ss : List Stretch) → Shows (parts_from Html at left ss)
+shows_from at left [] = shows_class Text left
+shows_from at left (s ∷ ss) =
+    let plain : List ℕ = take (s.start - at) left in
+    let past : List ℕ = drop (s.start - at) left in
+    let own : List ℕ = take (s.end - s.start) past in
+    let rest : List ℕ = drop (s.end - s.start) past in
+    shows_both (class_parts Html Text plain) (look_parts Html s.look own ++ parts_from Html s.end rest ss) (shows_class Text plain)
+    (shows_both (look_parts Html s.look own) (parts_from Html s.end rest ss) (shows_look s.look own) (shows_from s.end rest ss))
+
+pub shows_literal : (mode : Mode) (text : List ℕ) → Shows (literal_parts Html mode text)
+shows_literal mode text = shows_from 0 text (stretches_of mode text)
+
+-- ---- the places
+
+-- a place between characters of what stands between the quotes is one of the literal
+pub boundary_in : (text : List ℕ) (begin close k : ℕ) → begin ≤ close → IsCharBoundary text begin → IsCharBoundary text close → IsCharBoundary (between begin close text) k → (begin + k ≤ close) × IsCharBoundary text (begin + k)
+boundary_in text begin close k order at_begin at_close at_k =
+    let low : begin ≤ length text = at_begin.0 in
+    let high : close ≤ length text = at_close.0 in
+    let many : length (drop begin text) ≡ length text - begin = length-drop begin text in
+    let all : length (between begin close text) ≡ close - begin = length-take-le (close - begin) (drop begin text) (omega arith) in
+    let within : k ≤ length (between begin close text) = at_k.0 in (
+      omega arith,
+      elim (cases_lt k (close - begin)) [
+        | inl less ↦ IsCharBoundary-from_rest text begin k low (
+          omega arith,
+          λ inside wide.
+              let same : get_or (between begin close text) k 0 ≡ get_or (drop begin text) k 0 = get_or-take (close - begin) (drop begin text) k 0 less in
+              let lead : 192 ≤ get_or (between begin close text) k 0 = at_k.1 (omega arith) (omega arith) in omega arith,
+        )
+        | inr past ↦ let is : close ≡ begin + k = omega arith in subst (IsCharBoundary text) is at_close
+      ],
+    )
+
+-- the first of some items, and the others
+pub record Placed (text : List ℕ) (close start end : ℕ) : Type 0 where
+  pub low : start < end
+  pub high : end ≤ close
+  pub at_start : IsCharBoundary text start
+  pub at_end : IsCharBoundary text end
+
+pub placed_first : (text : List ℕ) (begin close : ℕ) (items rest : List Item) (item : Item) → begin ≤ close → IsCharBoundary text begin → IsCharBoundary text close → ArePlaced (between begin close text) items → items ≡ item ∷ rest
+    → Placed text close (begin + item.0.start) (begin + item.0.end) × ArePlaced (between begin close text) rest
+placed_first text begin close items rest item order at_begin at_close are is =
+    let all : ArePlaced (between begin close text) (item ∷ rest) = subst (ArePlaced (between begin close text)) is are in
+    let one : IsPlaced (between begin close text) item = All-head (IsPlaced (between begin close text)) item rest all in
+    let some : item.0.start < item.0.end = one.not_empty in
+    let start = boundary_in text begin close item.0.start order at_begin at_close one.start in
+    let end = boundary_in text begin close item.0.end order at_begin at_close one.end in
+    (record { low = omega arith; high = end.0; at_start = start.1; at_end = end.1 }, All-tail (IsPlaced (between begin close text)) item rest all)
+
+pub placed_all : (text inside : List ℕ) (begin close : ℕ) (raw : Bool) (items : List Item) → items ≡ items_of raw inside → inside ≡ between begin close text → ArePlaced inside (items_of raw inside) → ArePlaced (between begin close text) items
+placed_all text inside begin close raw items are is places =
+    subst (λ (xs : List ℕ). ArePlaced xs items) is (subst (ArePlaced inside) (sym are) places)
+
+-- ---- the stretches of some items, by the first of them
+
+module _ (mode : Mode) (begin at close : ℕ) where
+  abbrev first_by : Item → List Item → Bool → List Stretch
+  first_by item rest told =
+      if told then stretches_from mode begin at close rest
+      else skipped at (begin + item.0.start) ++ (stretch (begin + item.0.start) (begin + item.0.end) (look_of mode item.1) ++ stretches_from mode begin (begin + item.0.end) close rest)
+
+  pub told_already : (items rest : List Item) (item : Item) → items ≡ item ∷ rest → begin + item.0.start < at → stretches_from mode begin at close items ≡ stretches_from mode begin at close rest
+  told_already items rest item is less = ap (stretches_from mode begin at close) is ∙ ap (first_by item rest) (lt-ltb (begin + item.0.start) at less)
+
+  not_less : (m n : ℕ) → n ≤ m → nat_lt m n ≡ false
+  not_less m n high = by (nat_lt m n) refl
+    where
+      by : (b : Bool) → nat_lt m n ≡ b → b ≡ false
+      by false e = refl
+      by true e = let less : m < n = ltb-true m n e in absurd (omega arith)
+
+  pub told_now : (items rest : List Item) (item : Item) → items ≡ item ∷ rest → at ≤ begin + item.0.start
+      → stretches_from mode begin at close items
+      ≡ skipped at (begin + item.0.start) ++ (stretch (begin + item.0.start) (begin + item.0.end) (look_of mode item.1) ++ stretches_from mode begin (begin + item.0.end) close rest)
+  told_now items rest item is high = ap (stretches_from mode begin at close) is ∙ ap (first_by item rest) (not_less (begin + item.0.start) at high)
+
+-- ---- the calls
+
+module _ {W : Type 0} (took : W → List ℕ → W → Type 0) where
+  -- a stretch, and the plain text before it
+  pub writes_stretch : (style : Style) (look : Look) (some : Option Look) (text plain own : List ℕ) (shown start end : ℕ) (w0 w1 w2 : W) → some ≡ Some look → shown ≤ start → start ≤ end
+      → plain ≡ take (start - shown) (drop shown text) → own ≡ take (end - start) (drop start text)
+      → WritesInCalls took w0 (with_marks style (class_parts style Text plain)) w1 → WritesInCalls took w1 (with_marks style (look_parts style look own)) w2
+      → WritesOn took style text w0 shown (stretch start end some) w2 end
+  writes_stretch style look some text plain own shown start end w0 w1 w2 is low high is_plain is_own a b = λ more last rest.
+      let past : drop (start - shown) (drop shown text) ≡ drop start text = let same : shown + (start - shown) ≡ start = omega arith in drop-drop (start - shown) shown text ∙ ap (λ (n : ℕ). drop n text) same in
+      let behind : drop (end - start) (drop start text) ≡ drop end text = let same : start + (end - start) ≡ end = omega arith in drop-drop (end - start) start text ∙ ap (λ (n : ℕ). drop n text) same in
+      subst (λ (o : Option Look). WritesInCalls took w0 (with_marks style (parts_from style shown (drop shown text) (stretch start end o ++ more))) last) (sym is)
+      (writes_parts took style (class_parts style Text (take (start - shown) (drop shown text))) _ w0 w1 last
+      (subst (λ (xs : List ℕ). WritesInCalls took w0 (with_marks style (class_parts style Text xs)) w1) is_plain a)
+      (subst (λ (xs : List ℕ). WritesInCalls took w1 (with_marks style (look_parts style look (take (end - start) xs) ++ parts_from style end (drop (end - start) xs) more)) last) (sym past)
+      (writes_parts took style (look_parts style look (take (end - start) (drop start text))) (parts_from style end (drop (end - start) (drop start text)) more) w1 w2 last
+      (subst (λ (xs : List ℕ). WritesInCalls took w1 (with_marks style (look_parts style look xs)) w2) is_own b)
+      (subst (λ (xs : List ℕ). WritesInCalls took w2 (with_marks style (parts_from style end xs more)) last) (sym behind) rest))))
+
+  -- what is left of a literal from the place `shown` on
+  abbrev pub WritesLeft : Style → List ℕ → W → ℕ → List Stretch → W → Type 0
+  WritesLeft style text w shown ss last = WritesInCalls took w (with_marks style (parts_from style shown (drop shown text) ss)) last
+
+  -- some stretches, and then no more
+  pub writes_last : (style : Style) (text rest : List ℕ) (shown to : ℕ) (ss : List Stretch) (w v u : W) → WritesOn took style text w shown ss v to → rest ≡ drop to text → WritesInCalls took v (with_marks style (class_parts style Text rest)) u
+      → WritesLeft style text w shown ss u
+  writes_last style text rest shown to ss w v u on is wrote =
+      subst (λ (all : List Stretch). WritesLeft style text w shown all u) (append-nil ss) (on [] u (subst (λ (xs : List ℕ). WritesInCalls took v (with_marks style (class_parts style Text xs)) u) is wrote))
+
+  -- what stands between single quotes
+  pub writes_single : (style : Style) (mode : Mode) (text inside rest : List ℕ) (begin close to : ℕ) (look : Option Look) (w v u : W) → look ≡ single_look (single_error mode inside) inside → inside ≡ between begin close text → rest ≡ drop to text
+      → WritesOn took style text w 0 (stretch begin close look) v to → WritesInCalls took v (with_marks style (class_parts style Text rest)) u
+      → WritesInCalls took w (with_marks style (parts_from style 0 text (single_stretches mode begin close text))) u
+  writes_single style mode text inside rest begin close to look w v u looks is past on wrote =
+      subst (λ (o : Option Look). WritesLeft style text w 0 (stretch begin close o) u) (looks ∙ ap (λ (xs : List ℕ). single_look (single_error mode xs) xs) is)
+      (writes_last style text rest 0 to (stretch begin close look) w v u on past wrote)
+
+  -- an element that is told already
+  pub writes_told : (style : Style) (mode : Mode) (text : List ℕ) (begin at close shown : ℕ) (items rest : List Item) (item : Item) (w last : W) → items ≡ item ∷ rest → begin + item.0.start < at
+      → WritesLeft style text w shown (stretches_from mode begin at close rest) last → WritesLeft style text w shown (stretches_from mode begin at close items) last
+  writes_told style mode text begin at close shown items rest item w last is less more =
+      subst (λ (all : List Stretch). WritesLeft style text w shown all last) (sym (told_already mode begin at close items rest item is less)) more
+
+  -- an element, and what stands before it
+  pub writes_item : (style : Style) (mode : Mode) (text : List ℕ) (begin at close shown to next : ℕ) (items rest : List Item) (item : Item) (look : Option Look) (w v u last : W) → items ≡ item ∷ rest → at ≤ begin + item.0.start → look ≡ look_of mode item.1
+      → WritesOn took style text w shown (skipped at (begin + item.0.start)) v to → WritesOn took style text v to (stretch (begin + item.0.start) (begin + item.0.end) look) u next
+      → WritesLeft style text u next (stretches_from mode begin (begin + item.0.end) close rest) last → WritesLeft style text w shown (stretches_from mode begin at close items) last
+  writes_item style mode text begin at close shown to next items rest item look w v u last is high looks a b more =
+      subst (λ (all : List Stretch). WritesLeft style text w shown all last) (sym (told_now mode begin at close items rest item is high)) (a _ last
+      (subst (λ (o : Option Look). WritesLeft style text v to (stretch (begin + item.0.start) (begin + item.0.end) o ++ stretches_from mode begin (begin + item.0.end) close rest) last) looks (b _ last more)))
+
+  -- all elements, and then none
+  pub writes_all : (style : Style) (mode : Mode) (text inside : List ℕ) (begin close : ℕ) (items : List Item) (w last : W) → items ≡ items_of (is_raw mode) inside → inside ≡ between begin close text
+      → WritesLeft style text w 0 (stretches_from mode begin begin close items) last → WritesInCalls took w (with_marks style (parts_from style 0 text (string_stretches mode begin close text))) last
+  writes_all style mode text inside begin close items w last are is wrote =
+      subst (λ (all : List Item). WritesLeft style text w 0 (stretches_from mode begin begin close all) last) (are ∙ ap (items_of (is_raw mode)) is) wrote
+
+  pub writes_end : (style : Style) (mode : Mode) (text rest : List ℕ) (begin at close shown to : ℕ) (items : List Item) (w v u : W) → items ≡ [] → rest ≡ drop to text → WritesOn took style text w shown (skipped at close) v to
+      → WritesInCalls took v (with_marks style (class_parts style Text rest)) u → WritesLeft style text w shown (stretches_from mode begin at close items) u
+  writes_end style mode text rest begin at close shown to items w v u none past on wrote =
+      subst (λ (all : List Item). WritesLeft style text w shown (stretches_from mode begin at close all) u) (sym none) (writes_last style text rest shown to (skipped at close) w v u on past wrote)

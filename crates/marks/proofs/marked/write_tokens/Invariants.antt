@@ -1,0 +1,13 @@
+use Rattle.std.specs.Fmt.{WritesInCalls}
+use Rattle.rustc_lexer.specs.LanguageText.{document}
+use Rattle.rustc_lexer.specs.State.{StandsAt}
+use Rattle.rustc_lexer.specs.Tokens.{tokens_of, tokens_left}
+use Rattle.marks.specs.Marked.{marked_tokens}
+use Rattle.marks.proofs.marked.write_tokens.Given as goal
+
+abbrev pub invariant-loop-token : goal.invariant-loop-token
+invariant-loop-token g l = record {
+  place : StandsAt l.text l.start l.token-iterator;
+  left : (w : _) → WritesInCalls g.W.Write.write_str_gives l.output (marked_tokens l.style l.token-iterator.rest (tokens_left l.token-iterator)) w
+      → WritesInCalls g.W.Write.write_str_gives l.initial.output (marked_tokens l.style l.text (tokens_of (document l.fn.edition) l.text)) w;
+}

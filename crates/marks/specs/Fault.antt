@@ -1,0 +1,106 @@
+-- What is wrong with a token, and the sentence that says so.
+use Rattle.std.specs.Prelude.{ℕ, ◌-◌, true, false, ◌&&◌, nat_lt, if◌then◌else◌, List, ◌++◌, codes, decimal, drop, Option, Some, None, Result, Ok, Err}
+use Rattle.std.specs.Str.{chars}
+use Rattle.rustc_lexer.specs.declared.token.LiteralKind.{LiteralKind}
+use Rattle.rustc_lexer.specs.declared.token.LiteralKind.TheVariants.{Int, Float, Char, Byte, Str, ByteStr, CStr, RawStr, RawByteStr, RawCStr}
+use Rattle.rustc_lexer.specs.declared.token.RawStrError.{RawStrError}
+use Rattle.rustc_lexer.specs.declared.token.RawStrError.TheVariants.{InvalidStarter, NoTerminator, TooManyDelimiters}
+use Rattle.rustc_lexer.specs.declared.token.TokenKind.{TokenKind}
+use Rattle.rustc_lexer.specs.declared.token.TokenKind.TheVariants.{BlockComment, Frontmatter, InvalidIdent, UnknownPrefix as UnknownPrefixToken, UnknownPrefixLifetime, GuardedStrPrefix, Literal, Lifetime, Unknown}
+use Rattle.rustc_lexer.specs.LanguageCalls.{is_r}
+use Rattle.rustc_lexer.specs.Answers.{raw_check}
+use Rattle.rustc_lexer.specs.Spans.{next_is}
+use Rattle.marks.specs.declared.fault.Fault.{Fault}
+use Rattle.marks.specs.declared.fault.Fault.TheVariants.{OpenComment, FrontmatterSpace, FrontmatterInfostring, InvalidName, UnknownPrefix, UnknownLifetimePrefix, GuardedString, InvalidLifetime, UnknownCharacter, EmptyNumber, EmptyExponent, OpenCharacter, OpenByte, OpenString, RawStarter, OpenRawString, FewHashes, ManyHashes, InLiteral}
+use Rattle.rustc_literal_escaper.specs.declared.error.EscapeError.{EscapeError}
+use Rattle.rustc_literal_escaper.specs.declared.error.EscapeError.TheVariants.{ZeroChars, MoreThanOneChar, LoneSlash, InvalidEscape, BareCarriageReturn, BareCarriageReturnInRawString, EscapeOnlyChar, TooShortHexEscape, InvalidCharInHexEscape, OutOfRangeHexEscape, NoBraceInUnicodeEscape, InvalidCharInUnicodeEscape, EmptyUnicodeEscape, UnclosedUnicodeEscape, LeadingUnderscoreUnicodeEscape, OverlongUnicodeEscape, LoneSurrogateUnicodeEscape, OutOfRangeUnicodeEscape, UnicodeEscapeInByte, NonAsciiCharInByte, NulInCStr, UnskippedWhitespaceWarning, MultipleSkippedLinesWarning}
+
+-- what the reason of a raw string's refusal is to a reader
+abbrev pub refusal : RawStrError → Fault
+refusal (InvalidStarter bad_char) = RawStarter
+refusal (NoTerminator expected found None) = OpenRawString expected
+refusal (NoTerminator expected found (Some end)) = FewHashes expected found end
+refusal (TooManyDelimiters found) = ManyHashes found
+
+abbrev pub refused : Result (Unit {0}) RawStrError → Option Fault
+refused (Ok done) = None
+refused (Err error) = Some (refusal error)
+
+-- why a raw string is refused, whose prefix has so many characters
+abbrev pub raw_fault : List ℕ → ℕ → Option Fault
+raw_fault text prefix_len = if nat_lt 0 prefix_len && next_is is_r (drop (prefix_len - 1) (chars text)) then refused (raw_check text prefix_len) else None
+
+abbrev pub literal_fault : LiteralKind → List ℕ → Option Fault
+literal_fault (Int base true) text = Some EmptyNumber
+literal_fault (Float base true) text = Some EmptyExponent
+literal_fault (Char false) text = Some OpenCharacter
+literal_fault (Byte false) text = Some OpenByte
+literal_fault (Str false) text = Some OpenString
+literal_fault (ByteStr false) text = Some OpenString
+literal_fault (CStr false) text = Some OpenString
+literal_fault (RawStr None) text = raw_fault text 1
+literal_fault (RawByteStr None) text = raw_fault text 2
+literal_fault (RawCStr None) text = raw_fault text 2
+literal_fault kind text = None
+
+-- what is wrong with a token; of two things the first
+abbrev pub fault_of : TokenKind → List ℕ → Option Fault
+fault_of (BlockComment doc_style false) text = Some OpenComment
+fault_of (Frontmatter true invalid_infostring) text = Some FrontmatterSpace
+fault_of (Frontmatter false true) text = Some FrontmatterInfostring
+fault_of InvalidIdent text = Some InvalidName
+fault_of UnknownPrefixToken text = Some UnknownPrefix
+fault_of UnknownPrefixLifetime text = Some UnknownLifetimePrefix
+fault_of GuardedStrPrefix text = Some GuardedString
+fault_of (Lifetime true) text = Some InvalidLifetime
+fault_of Unknown text = Some UnknownCharacter
+fault_of (Literal kind suffix_start) text = literal_fault kind text
+fault_of kind text = None
+
+-- what is wrong between the quotes of a literal
+abbrev pub error_sentence : EscapeError → List ℕ
+error_sentence ZeroChars = codes "nothing stands between these quotes"
+error_sentence MoreThanOneChar = codes "more than one character stands between these quotes"
+error_sentence LoneSlash = codes "nothing follows this backslash"
+error_sentence InvalidEscape = codes "no escape is written like this"
+error_sentence BareCarriageReturn = codes "a carriage return is written as an escape"
+error_sentence BareCarriageReturnInRawString = codes "a raw string has no carriage return"
+error_sentence EscapeOnlyChar = codes "this character is written as an escape here"
+error_sentence TooShortHexEscape = codes "this escape has two hexadecimal digits"
+error_sentence InvalidCharInHexEscape = codes "this escape has hexadecimal digits alone"
+error_sentence OutOfRangeHexEscape = codes "this escape goes up to 7f here"
+error_sentence NoBraceInUnicodeEscape = codes "this escape has braces around its digits"
+error_sentence InvalidCharInUnicodeEscape = codes "between these braces stand hexadecimal digits and underscores alone"
+error_sentence EmptyUnicodeEscape = codes "no digit stands between these braces"
+error_sentence UnclosedUnicodeEscape = codes "no brace closes this escape"
+error_sentence LeadingUnderscoreUnicodeEscape = codes "no underscore stands before the first digit"
+error_sentence OverlongUnicodeEscape = codes "this escape has six digits at most"
+error_sentence LoneSurrogateUnicodeEscape = codes "this is the number of a surrogate, which is no character"
+error_sentence OutOfRangeUnicodeEscape = codes "no character has so great a number"
+error_sentence UnicodeEscapeInByte = codes "no byte is written like this"
+error_sentence NonAsciiCharInByte = codes "this character is not in ASCII, and so is no byte"
+error_sentence NulInCStr = codes "no NUL stands in a C string"
+error_sentence UnskippedWhitespaceWarning = codes "the white space behind this line end is not all skipped"
+error_sentence MultipleSkippedLinesWarning = codes "more than one line end is skipped here"
+
+unfoldable pub sentence : Fault → List ℕ
+sentence OpenComment = codes "nothing closes this comment"
+sentence FrontmatterSpace = codes "white space stands before this frontmatter"
+sentence FrontmatterInfostring = codes "the first line of this frontmatter holds more than a name"
+sentence InvalidName = codes "this name holds an emoji"
+sentence UnknownPrefix = codes "no literal has this prefix"
+sentence UnknownLifetimePrefix = codes "no lifetime has this prefix"
+sentence GuardedString = codes "these marks are reserved for strings to come"
+sentence InvalidLifetime = codes "this lifetime begins with a digit or holds an emoji"
+sentence UnknownCharacter = codes "no token begins with this character"
+sentence EmptyNumber = codes "this number has no digits"
+sentence EmptyExponent = codes "the exponent has no digits"
+sentence OpenCharacter = codes "nothing closes this character"
+sentence OpenByte = codes "nothing closes this byte"
+sentence OpenString = codes "nothing closes this string"
+sentence RawStarter = codes "a raw string begins with hashes and a quote"
+sentence (OpenRawString expected) = codes "nothing closes this raw string: a quote and " ++ (decimal expected ++ codes " # would")
+sentence (FewHashes expected found end) =
+    codes "a quote and " ++ (decimal expected ++ (codes " # would close this raw string; at byte " ++ (decimal end ++ (codes " it has " ++ decimal found))))
+sentence (ManyHashes found) = codes "a raw string has at most 255 hashes on each side, and this one " ++ decimal found
+sentence (InLiteral error) = error_sentence error

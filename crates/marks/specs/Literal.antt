@@ -1,0 +1,145 @@
+-- The stretches of a literal: its escapes, and what is wrong in it. All else in it is plain.
+use Rattle.std.specs.Prelude.{ℕ, suc, ◌+◌, ◌-◌, ◌==◌, nat_lt, Bool, true, false, if◌then◌else◌, List, [], ◌∷◌, ◌++◌, take, drop, Option, Some, None}
+use Rattle.std.specs.Fmt.{WritesInCalls}
+use Rattle.std.specs.List.{list_any}
+use Rattle.std.specs.Result.{result_err}
+use Rattle.std.specs.Str.{byte, chars}
+use Rattle.rustc_lexer.specs.declared.token.LiteralKind.{LiteralKind}
+use Rattle.rustc_lexer.specs.declared.token.LiteralKind.TheVariants.{Char as CharToken, Byte as ByteToken, Str as StrToken, ByteStr as ByteStrToken, CStr as CStrToken, RawStr as RawStrToken, RawByteStr as RawByteStrToken, RawCStr as RawCStrToken}
+use Rattle.rustc_lexer.specs.declared.token.TokenKind.{TokenKind}
+use Rattle.rustc_lexer.specs.declared.token.TokenKind.TheVariants.{Literal}
+use Rattle.rustc_literal_escaper.specs.declared.element.Element.{Element}
+use Rattle.rustc_literal_escaper.specs.declared.element.Element.TheVariants.{Plain}
+use Rattle.rustc_literal_escaper.specs.declared.error.EscapeError.{EscapeError}
+use Rattle.rustc_literal_escaper.specs.declared.mode.Mode.{Mode}
+use Rattle.rustc_literal_escaper.specs.declared.mode.Mode.TheVariants.{Char, Byte, Str, RawStr, ByteStr, RawByteStr, CStr, RawCStr}
+use Rattle.rustc_literal_escaper.specs.Elements.{Item, items_of}
+use Rattle.rustc_literal_escaper.specs.Errors.{error_of, is_raw, is_single}
+use Rattle.rustc_literal_escaper.specs.Single.{byte_literal, char_literal}
+use Rattle.marks.specs.declared.class.Class.TheVariants.{Text, Escape as EscapeClass}
+use Rattle.marks.specs.declared.fault.Fault.TheVariants.{InLiteral}
+use Rattle.marks.specs.declared.literal.Look.{Look}
+use Rattle.marks.specs.declared.literal.Look.TheVariants.{Escape, Wrong}
+use Rattle.marks.specs.declared.style.Style.{Style}
+use Rattle.marks.specs.Part.{Part, class_parts, fault_parts, with_marks}
+
+-- the mode of a literal that is closed; a number has none
+abbrev pub literal_mode : LiteralKind → Option Mode
+literal_mode (CharToken true) = Some Char
+literal_mode (ByteToken true) = Some Byte
+literal_mode (StrToken true) = Some Str
+literal_mode (ByteStrToken true) = Some ByteStr
+literal_mode (CStrToken true) = Some CStr
+literal_mode (RawStrToken (Some n_hashes)) = Some RawStr
+literal_mode (RawByteStrToken (Some n_hashes)) = Some RawByteStr
+literal_mode (RawCStrToken (Some n_hashes)) = Some RawCStr
+literal_mode kind = None
+
+abbrev pub mode_of : TokenKind → Option Mode
+mode_of (Literal kind suffix_start) = literal_mode kind
+mode_of kind = None
+
+-- ---- what stands between the quotes
+
+abbrev pub quote_of : Mode → ℕ
+quote_of mode = if is_single mode then byte "'" else byte "\""
+
+-- the place of the first byte of this value, or behind all bytes
+abbrev pub first_place : ℕ → List ℕ → ℕ
+first_place b [] = 0
+first_place b (x ∷ xs) = if x == b then 0 else suc (first_place b xs)
+
+-- the place of the last one, or 0
+abbrev pub last_place : ℕ → List ℕ → ℕ
+last_place b [] = 0
+last_place b (x ∷ xs) = if list_any (λ y. y == b) xs then suc (last_place b xs) else 0
+
+-- the text from one place up to another
+abbrev pub between : ℕ → ℕ → List ℕ → List ℕ
+between start end text = take (end - start) (drop start text)
+
+-- ---- the stretches, each with its places in the literal
+
+pub record Stretch : Type 0 where
+  pub start : ℕ
+  pub end : ℕ
+  pub look : Look
+
+abbrev pub stretch : ℕ → ℕ → Option Look → List Stretch
+stretch start end None = []
+stretch start end (Some look) = record { start = start; end = end; look = look } ∷ []
+
+-- a plain character has no look, unless it is wrong there
+abbrev pub look_by : Option EscapeError → Element → Option Look
+look_by (Some error) element = Some (Wrong error)
+look_by None (Plain c) = None
+look_by None element = Some Escape
+
+abbrev pub look_of : Mode → Element → Option Look
+look_of mode element = look_by (error_of mode element) element
+
+-- between two elements stands only a backslash at a line's end, and what it passes over
+abbrev pub skipped : ℕ → ℕ → List Stretch
+skipped at start = if nat_lt at start then stretch at start (Some Escape) else []
+
+-- those of the elements of what begins at the place `begin` of the literal, from the place `at` up to `close`; an element that
+-- begins before `at` is told already: of two warnings at one place that is the second
+abbrev pub stretches_from : Mode → ℕ → ℕ → ℕ → List Item → List Stretch
+stretches_from mode begin at close [] = skipped at close
+stretches_from mode begin at close (item ∷ items) =
+    if nat_lt (begin + item.0.start) at then stretches_from mode begin at close items
+    else skipped at (begin + item.0.start) ++ (stretch (begin + item.0.start) (begin + item.0.end) (look_of mode item.1) ++ stretches_from mode begin (begin + item.0.end) close items)
+
+-- between double quotes
+abbrev pub string_stretches : Mode → ℕ → ℕ → List ℕ → List Stretch
+string_stretches mode begin close text = stretches_from mode begin begin close (items_of (is_raw mode) (between begin close text))
+
+-- between single quotes all is one stretch: what is wrong, or an escape, or plain
+abbrev pub single_error : Mode → List ℕ → Option EscapeError
+single_error Byte inside = result_err (byte_literal (chars inside))
+single_error mode inside = result_err (char_literal (chars inside))
+
+abbrev pub begins_escape : List ℕ → Bool
+begins_escape [] = false
+begins_escape (b ∷ bs) = b == byte "\\"
+
+abbrev pub single_look : Option EscapeError → List ℕ → Option Look
+single_look (Some error) inside = Some (Wrong error)
+single_look None inside = if begins_escape inside then Some Escape else None
+
+abbrev pub single_stretches : Mode → ℕ → ℕ → List ℕ → List Stretch
+single_stretches mode begin close text = stretch begin close (single_look (single_error mode (between begin close text)) (between begin close text))
+
+abbrev pub stretches_in : Mode → ℕ → ℕ → List ℕ → List Stretch
+stretches_in mode begin close text = if is_single mode then single_stretches mode begin close text else string_stretches mode begin close text
+
+-- those of a literal: between its first quote and its last
+abbrev pub stretches_at : Mode → ℕ → ℕ → List ℕ → List Stretch
+stretches_at mode first last text = if nat_lt first last then stretches_in mode (first + 1) last text else []
+
+abbrev pub stretches_of : Mode → List ℕ → List Stretch
+stretches_of mode text = stretches_at mode (first_place (quote_of mode) text) (last_place (quote_of mode) text) text
+
+-- ---- the parts
+
+abbrev pub look_parts : Style → Look → List ℕ → List Part
+look_parts style Escape text = class_parts style EscapeClass text
+look_parts style (Wrong error) text = fault_parts style (InLiteral error) Text text
+
+-- what is left of a literal from the place `at` on: its stretches, and the plain text before, between and behind them
+abbrev pub parts_from : Style → ℕ → List ℕ → List Stretch → List Part
+parts_from style at left [] = class_parts style Text left
+parts_from style at left (s ∷ ss) =
+    class_parts style Text (take (s.start - at) left)
+    ++ (look_parts style s.look (take (s.end - s.start) (drop (s.start - at) left)) ++ parts_from style s.end (drop (s.end - s.start) (drop (s.start - at) left)) ss)
+
+-- a literal that is closed
+abbrev pub literal_parts : Style → Mode → List ℕ → List Part
+literal_parts style mode text = parts_from style 0 text (stretches_of mode text)
+
+-- a writer that has taken a literal up to one place takes stretches, and it is then taken up to another place: whatever
+-- stretches come behind, writing them too writes all
+abbrev pub WritesOn : {W : Type 0} → (W → List ℕ → W → Type 0) → Style → List ℕ → W → ℕ → List Stretch → W → ℕ → Type 0
+WritesOn {W} took style text old shown stretches new to =
+    (more : List Stretch) (last : W) → WritesInCalls took new (with_marks style (parts_from style to (drop to text) more)) last
+    → WritesInCalls took old (with_marks style (parts_from style shown (drop shown text) (stretches ++ more))) last

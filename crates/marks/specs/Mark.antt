@@ -1,0 +1,55 @@
+-- The marks around a token.
+use Rattle.std.specs.Prelude.{ℕ, List, [], ◌∷◌, ◌++◌, codes}
+use Rattle.marks.specs.declared.class.Class.{Class}
+use Rattle.marks.specs.declared.class.Class.TheVariants.{Plain, Comment, Doc, Keyword, TypeName, Text, Escape, Number, Lifetime}
+use Rattle.marks.specs.declared.fault.Fault.{Fault}
+use Rattle.marks.specs.declared.style.Style.{Style}
+use Rattle.marks.specs.declared.style.Style.TheVariants.{Html, Colours, NoColours}
+use Rattle.marks.specs.Fault.{sentence}
+
+-- an escape sequence, by what stands between its bracket and its last letter
+abbrev pub sgr : List ℕ → List ℕ
+sgr attributes = 27 ∷ codes "[" ++ (attributes ++ codes "m")
+
+-- the name of a class in a page; white space, symbols and other names have none
+abbrev pub class_open : Style → Class → List ℕ
+class_open style Plain = []
+class_open Html Comment = codes "<span class=\"comment\">"
+class_open Html Doc = codes "<span class=\"doc\">"
+class_open Html Keyword = codes "<span class=\"keyword\">"
+class_open Html TypeName = codes "<span class=\"type\">"
+class_open Html Text = codes "<span class=\"text\">"
+class_open Html Escape = codes "<span class=\"escape\">"
+class_open Html Number = codes "<span class=\"number\">"
+class_open Html Lifetime = codes "<span class=\"lifetime\">"
+class_open Colours Comment = sgr (codes "90")
+class_open Colours Doc = sgr (codes "36")
+class_open Colours Keyword = sgr (codes "35")
+class_open Colours TypeName = sgr (codes "1;34")
+class_open Colours Text = sgr (codes "32")
+class_open Colours Escape = sgr (codes "96")
+class_open Colours Number = sgr (codes "36")
+class_open Colours Lifetime = sgr (codes "33")
+class_open NoColours class = []
+
+abbrev pub class_close : Style → Class → List ℕ
+class_close style Plain = []
+class_close Html class = codes "</span>"
+class_close Colours class = sgr (codes "0")
+class_close NoColours class = []
+
+-- before the first line of a token with a fault: in a page with the sentence that says what is wrong
+abbrev pub fault_open : Style → Fault → List ℕ
+fault_open Html fault = codes "<mark title=\"" ++ (sentence fault ++ codes "\">")
+fault_open Colours fault = sgr (codes "4;31")
+fault_open NoColours fault = []
+
+-- that sentence between brackets, so that no code runs into it
+abbrev pub bracketed : Fault → List ℕ
+bracketed fault = codes " [<- " ++ (sentence fault ++ codes "]")
+
+-- past that line: in a terminal with the sentence
+abbrev pub fault_close : Style → Fault → List ℕ
+fault_close Html fault = codes "</mark>"
+fault_close Colours fault = sgr (codes "0;31") ++ (bracketed fault ++ sgr (codes "0"))
+fault_close NoColours fault = bracketed fault

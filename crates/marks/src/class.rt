@@ -1,0 +1,82 @@
+//! What a token is to a reader, which decides its colour.
+ghost use Rattle.std.specs.Prelude.{◌≡◌};
+ghost use Rattle.marks.specs.Class.{class_of, is_type_name, word_class};
+
+use rustc_lexer::{LiteralKind, TokenKind};
+
+/// What a token is to a reader.
+#[derive(Clone, Copy, Debug, PartialEq, Eq)]
+pub enum Class {
+    /// White space, a symbol, or a name of no other class.
+    Plain,
+    /// A comment that documents nothing.
+    Comment,
+    /// A doc comment, or a frontmatter.
+    Doc,
+    /// A keyword, such as `while`. One list stands for all editions: `async`, `await` and `dyn` are
+    /// keywords in 2015 too, and `try` and `gen` in none.
+    Keyword,
+    /// A name that begins with a capital letter of ASCII.
+    TypeName,
+    /// A string, a character or a byte.
+    Text,
+    /// An escape in one of these.
+    Escape,
+    /// A number.
+    Number,
+    /// A lifetime or a label.
+    Lifetime,
+}
+
+/// The class of a token, by its kind and its text.
+pub fn class_of(kind: TokenKind, text: &str) -> Class
+    ensures { result ≡ class_of kind text.now }
+{
+    match kind {
+        TokenKind::LineComment { doc_style: None }
+        | TokenKind::BlockComment {
+            doc_style: None,
+            ..
+        } => Class::Comment,
+        TokenKind::LineComment { .. }
+        | TokenKind::BlockComment { .. }
+        | TokenKind::Frontmatter { .. } => Class::Doc,
+        TokenKind::Ident => word_class(text),
+        TokenKind::Literal { kind, .. } => match kind {
+            LiteralKind::Int { .. } | LiteralKind::Float { .. } => Class::Number,
+            _ => Class::Text,
+        },
+        TokenKind::Lifetime { .. } | TokenKind::RawLifetime | TokenKind::UnknownPrefixLifetime =>
+            Class::Lifetime,
+        _ => Class::Plain,
+    }
+}
+
+/// The class of an identifier or a keyword.
+fn word_class(word: &str) -> Class
+    ensures { result ≡ word_class word.now }
+{
+    if KEYWORDS.contains(&word) {
+        Class::Keyword
+    } else if is_type_name(word) {
+        Class::TypeName
+    } else {
+        Class::Plain
+    }
+}
+
+/// Whether a name begins with a capital letter of ASCII, as the names of types do.
+fn is_type_name(word: &str) -> bool
+    ensures { result ≡ is_type_name word.now }
+{
+    word.as_bytes().first().is_some_and(u8::is_ascii_uppercase)
+}
+
+/// Words that are keywords wherever they stand. A word that is one in some places and a name in others, such as
+/// `union`, is not among them: its token alone does not tell.
+const KEYWORDS: [&str; 38] = [
+    "as", "async", "await", "break", "const", "continue", "crate", "dyn", "else", "enum", "extern",
+    "false", "fn", "for", "if", "impl", "in", "let", "loop", "match", "mod", "move", "mut", "pub",
+    "ref", "return", "self", "Self", "static", "struct", "super", "trait", "true", "type",
+    "unsafe", "use", "where", "while",
+];

@@ -1,0 +1,217 @@
+//! What is wrong with a token.
+ghost use Rattle.std.specs.Prelude.{◌≡◌, Some};
+ghost use Rattle.rustc_lexer.specs.Classes.{Fits};
+ghost use Rattle.marks.specs.Fault.{error_sentence, fault_of, literal_fault, raw_fault, sentence};
+
+use rustc_lexer::{LiteralKind, RawStrError, TokenKind, starts_raw, validate_raw_str};
+use rustc_literal_escaper::EscapeError;
+use std::fmt;
+
+/// What is wrong with a token. Its `Display` is a sentence that says so.
+#[derive(Clone, Copy, Debug, PartialEq, Eq)]
+pub enum Fault {
+    /// Nothing closes a block comment.
+    OpenComment,
+    /// White space stands before the dashes of a frontmatter.
+    FrontmatterSpace,
+    /// The first line of a frontmatter has more than it may.
+    FrontmatterInfostring,
+    /// A name holds an emoji.
+    InvalidName,
+    /// A name stands right before a quote or a hash.
+    UnknownPrefix,
+    /// A lifetime stands right before a hash.
+    UnknownLifetimePrefix,
+    /// `#"` or `##`, which are reserved.
+    GuardedString,
+    /// A lifetime begins with a digit, or holds an emoji.
+    InvalidLifetime,
+    /// No token begins with the character.
+    UnknownCharacter,
+    /// No digit follows the prefix of a number's base.
+    EmptyNumber,
+    /// No digit follows the letter of an exponent.
+    EmptyExponent,
+    /// Nothing closes a character.
+    OpenCharacter,
+    /// Nothing closes a byte.
+    OpenByte,
+    /// Nothing closes a string.
+    OpenString,
+    /// Neither a hash nor a quote stands where a raw string should begin.
+    RawStarter,
+    /// Nothing closes a raw string, and no quote in it has a hash behind it.
+    OpenRawString { expected: u32 },
+    /// Nothing closes a raw string; the quote that ends at byte `end` of it has too few hashes behind it.
+    FewHashes { expected: u32, found: u32, end: u32 },
+    /// A raw string has more than 255 hashes on each side.
+    ManyHashes { found: u32 },
+    /// Something between the quotes of a literal.
+    InLiteral(EscapeError),
+}
+
+/// What is wrong with a token, by its kind and its text; `None` where nothing is.
+pub fn fault_of(kind: TokenKind, text: &str) -> Option<Fault>
+    requires fits { Fits text.now }
+    ensures { result ≡ fault_of kind text.now }
+{
+    match kind {
+        TokenKind::BlockComment {
+            terminated: false,
+            ..
+        } => Some(Fault::OpenComment),
+        TokenKind::Frontmatter {
+            has_invalid_preceding_whitespace: true,
+            ..
+        } => Some(Fault::FrontmatterSpace),
+        TokenKind::Frontmatter {
+            invalid_infostring: true,
+            ..
+        } => Some(Fault::FrontmatterInfostring),
+        TokenKind::InvalidIdent => Some(Fault::InvalidName),
+        TokenKind::UnknownPrefix => Some(Fault::UnknownPrefix),
+        TokenKind::UnknownPrefixLifetime => Some(Fault::UnknownLifetimePrefix),
+        TokenKind::GuardedStrPrefix => Some(Fault::GuardedString),
+        TokenKind::Lifetime {
+            starts_with_number: true,
+        } => Some(Fault::InvalidLifetime),
+        TokenKind::Unknown => Some(Fault::UnknownCharacter),
+        TokenKind::Literal { kind, .. } => literal_fault(kind, text),
+        _ => None,
+    }
+}
+
+/// What is wrong with a literal.
+fn literal_fault(kind: LiteralKind, text: &str) -> Option<Fault>
+    requires fits { Fits text.now }
+    ensures { result ≡ literal_fault kind text.now }
+{
+    match kind {
+        LiteralKind::Int {
+            empty_int: true,
+            ..
+        } => Some(Fault::EmptyNumber),
+        LiteralKind::Float {
+            empty_exponent: true,
+            ..
+        } => Some(Fault::EmptyExponent),
+        LiteralKind::Char { terminated: false } => Some(Fault::OpenCharacter),
+        LiteralKind::Byte { terminated: false } => Some(Fault::OpenByte),
+        LiteralKind::Str { terminated: false }
+        | LiteralKind::ByteStr { terminated: false }
+        | LiteralKind::CStr { terminated: false } => Some(Fault::OpenString),
+        LiteralKind::RawStr { n_hashes: None } => raw_fault(text, 1),
+        LiteralKind::RawByteStr { n_hashes: None } | LiteralKind::RawCStr { n_hashes: None } => {
+            raw_fault(text, 2)
+        }
+        _ => None,
+    }
+}
+
+/// Why a raw string is refused, whose prefix has so many characters.
+fn raw_fault(text: &str, prefix_len: u32) -> Option<Fault>
+    requires fits { Fits text.now }
+    ensures { result ≡ raw_fault text.now prefix_len }
+{
+    if !starts_raw(text, prefix_len) {
+        return None;
+    }
+    match validate_raw_str(text, prefix_len) {
+        Ok(()) => None,
+        Err(RawStrError::InvalidStarter { .. }) => Some(Fault::RawStarter),
+        Err(
+            RawStrError::NoTerminator {
+                expected,
+                found,
+                possible_terminator_offset: Some(end),
+            },
+        ) => Some(Fault::FewHashes {
+            expected,
+            found,
+            end,
+        }),
+        Err(RawStrError::NoTerminator { expected, .. }) => Some(Fault::OpenRawString { expected }),
+        Err(RawStrError::TooManyDelimiters { found }) => Some(Fault::ManyHashes { found }),
+    }
+}
+
+/// What is wrong between the quotes of a literal, as a sentence.
+fn error_sentence(error: EscapeError) -> &'static str
+    ensures { result.now ≡ error_sentence error }
+{
+    match error {
+        EscapeError::ZeroChars => "nothing stands between these quotes",
+        EscapeError::MoreThanOneChar => "more than one character stands between these quotes",
+        EscapeError::LoneSlash => "nothing follows this backslash",
+        EscapeError::InvalidEscape => "no escape is written like this",
+        EscapeError::BareCarriageReturn => "a carriage return is written as an escape",
+        EscapeError::BareCarriageReturnInRawString => "a raw string has no carriage return",
+        EscapeError::EscapeOnlyChar => "this character is written as an escape here",
+        EscapeError::TooShortHexEscape => "this escape has two hexadecimal digits",
+        EscapeError::InvalidCharInHexEscape => "this escape has hexadecimal digits alone",
+        EscapeError::OutOfRangeHexEscape => "this escape goes up to 7f here",
+        EscapeError::NoBraceInUnicodeEscape => "this escape has braces around its digits",
+        EscapeError::InvalidCharInUnicodeEscape =>
+            "between these braces stand hexadecimal digits and underscores alone",
+        EscapeError::EmptyUnicodeEscape => "no digit stands between these braces",
+        EscapeError::UnclosedUnicodeEscape => "no brace closes this escape",
+        EscapeError::LeadingUnderscoreUnicodeEscape =>
+            "no underscore stands before the first digit",
+        EscapeError::OverlongUnicodeEscape => "this escape has six digits at most",
+        EscapeError::LoneSurrogateUnicodeEscape =>
+            "this is the number of a surrogate, which is no character",
+        EscapeError::OutOfRangeUnicodeEscape => "no character has so great a number",
+        EscapeError::UnicodeEscapeInByte => "no byte is written like this",
+        EscapeError::NonAsciiCharInByte => "this character is not in ASCII, and so is no byte",
+        EscapeError::NulInCStr => "no NUL stands in a C string",
+        EscapeError::UnskippedWhitespaceWarning =>
+            "the white space behind this line end is not all skipped",
+        EscapeError::MultipleSkippedLinesWarning => "more than one line end is skipped here",
+    }
+}
+
+impl fmt::Display for Fault {
+    ghost output = { λ fault. Some (sentence fault) };
+
+    #[tactic(auto, unfolding(crate::specs::Fault::sentence))]
+    fn fmt<W: fmt::Write>(&self, f: &mut fmt::Formatter<W>) -> fmt::Result {
+        match self {
+            Fault::OpenComment => f.write_str("nothing closes this comment"),
+            Fault::FrontmatterSpace => f.write_str("white space stands before this frontmatter"),
+            Fault::FrontmatterInfostring => {
+                f.write_str("the first line of this frontmatter holds more than a name")
+            }
+            Fault::InvalidName => f.write_str("this name holds an emoji"),
+            Fault::UnknownPrefix => f.write_str("no literal has this prefix"),
+            Fault::UnknownLifetimePrefix => f.write_str("no lifetime has this prefix"),
+            Fault::GuardedString => f.write_str("these marks are reserved for strings to come"),
+            Fault::InvalidLifetime => f.write_str(
+                "this lifetime begins with a digit or holds an emoji",
+            ),
+            Fault::UnknownCharacter => f.write_str("no token begins with this character"),
+            Fault::EmptyNumber => f.write_str("this number has no digits"),
+            Fault::EmptyExponent => f.write_str("the exponent has no digits"),
+            Fault::OpenCharacter => f.write_str("nothing closes this character"),
+            Fault::OpenByte => f.write_str("nothing closes this byte"),
+            Fault::OpenString => f.write_str("nothing closes this string"),
+            Fault::RawStarter => f.write_str("a raw string begins with hashes and a quote"),
+            Fault::OpenRawString { expected } => write!(
+                f,
+                "nothing closes this raw string: a quote and {expected} # would"
+            ),
+            Fault::FewHashes {
+                expected,
+                found,
+                end,
+            } => write!(
+                f,
+                "a quote and {expected} # would close this raw string; at byte {end} it has {found}"
+            ),
+            Fault::ManyHashes { found } => write!(
+                f,
+                "a raw string has at most 255 hashes on each side, and this one {found}"
+            ),
+            Fault::InLiteral(error) => f.write_str(error_sentence(*error)),
+        }
+    }
+}

@@ -1,0 +1,301 @@
+//! Literals: the escapes in them, and what is wrong.
+ghost use Rattle.std.specs.Prelude.{◌≡◌, ◌+◌, ◌≤◌, ◌<◌, length, MatchResult, OnOk};
+ghost use Rattle.std.specs.Fmt.{WritesInCalls};
+ghost use Rattle.std.specs.Str.{IsCharBoundary};
+ghost use Rattle.rustc_lexer.specs.Classes.{Fits};
+ghost use Rattle.rustc_literal_escaper.specs.Elements.{items_of};
+ghost use Rattle.rustc_literal_escaper.specs.Errors.{error_of, is_raw, is_single};
+ghost use Rattle.rustc_literal_escaper.specs.Places.{ArePlaced};
+ghost use Rattle.marks.specs.Literal as spec;
+ghost use Rattle.marks.specs.Part.{with_marks};
+
+use crate::class::Class;
+use crate::fault::Fault;
+use crate::part::{write_in_class, write_with_fault};
+use crate::style::Style;
+use memchr::{memchr, memrchr};
+use rustc_lexer::{LiteralKind, TokenKind};
+use rustc_literal_escaper::{Element, Elements, EscapeError, Mode, unescape_byte, unescape_char};
+use std::fmt;
+
+/// How a stretch of a literal looks that is not plain.
+#[derive(Clone, Copy, Debug, PartialEq, Eq)]
+pub enum Look {
+    /// An escape.
+    Escape,
+    /// Something that is wrong.
+    Wrong(EscapeError),
+}
+
+/// The kind of a literal that is closed; `None` for a number and for what is no literal.
+pub fn mode_of(kind: TokenKind) -> Option<Mode>
+    ensures { result ≡ spec.mode_of kind }
+{
+    let TokenKind::Literal { kind, .. } = kind else {
+        return None;
+    };
+    match kind {
+        LiteralKind::Char { terminated: true } => Some(Mode::Char),
+        LiteralKind::Byte { terminated: true } => Some(Mode::Byte),
+        LiteralKind::Str { terminated: true } => Some(Mode::Str),
+        LiteralKind::ByteStr { terminated: true } => Some(Mode::ByteStr),
+        LiteralKind::CStr { terminated: true } => Some(Mode::CStr),
+        LiteralKind::RawStr { n_hashes: Some(_) } => Some(Mode::RawStr),
+        LiteralKind::RawByteStr { n_hashes: Some(_) } => Some(Mode::RawByteStr),
+        LiteralKind::RawCStr { n_hashes: Some(_) } => Some(Mode::RawCStr),
+        _ => None,
+    }
+}
+
+/// Writes a literal that is closed: its escapes in their class, its faults between their marks, and the rest as text.
+pub fn write_literal<W: fmt::Write>(
+    style: Style,
+    mode: Mode,
+    text: &str,
+    output: &mut W,
+) -> fmt::Result
+    requires fits { Fits text.now }
+    ensures { OnOk result (WritesInCalls W.write_str_gives output.old
+        (with_marks style (spec.literal_parts style mode text.now)) output.new) }
+{
+    let quote = quote_of(mode);
+    let first = first_place(quote, text);
+    let last = last_place(quote, text);
+    if first >= last {
+        write_in_class(style, Class::Text, text, output)
+    } else if is_single(mode) {
+        write_single(style, mode, text, first + 1, last, output)
+    } else {
+        write_string(style, mode, text, first + 1, last, output)
+    }
+}
+
+/// Whether such a literal stands between single quotes.
+fn is_single(mode: Mode) -> bool
+    ensures { result ≡ is_single mode }
+{
+    matches!(mode, Mode::Char | Mode::Byte)
+}
+
+/// The quote of such a literal.
+fn quote_of(mode: Mode) -> u8
+    ensures value { result ≡ spec.quote_of mode }
+    ensures ascii { result < 128 }
+{
+    if is_single(mode) { b'\'' } else { b'"' }
+}
+
+/// The place of the first byte of this value, or the length of the text.
+fn first_place(byte: u8, text: &str) -> usize
+    requires ascii { byte < 128 }
+    ensures value { result ≡ spec.first_place byte text.now }
+    ensures past { result < length text.now → IsCharBoundary text.now (result + 1) }
+{
+    match memchr(byte, text.as_bytes()) {
+        Some(place) => place,
+        None => text.len(),
+    }
+}
+
+/// The place of the last byte of this value, or 0.
+fn last_place(byte: u8, text: &str) -> usize
+    requires ascii { byte < 128 }
+    ensures value { result ≡ spec.last_place byte text.now }
+    ensures place { IsCharBoundary text.now result }
+{
+    match memrchr(byte, text.as_bytes()) {
+        Some(place) => place,
+        None => 0,
+    }
+}
+
+/// Writes a literal between single quotes, of which the inside goes from the place `begin` to `close`.
+fn write_single<W: fmt::Write>(
+    style: Style,
+    mode: Mode,
+    text: &str,
+    begin: usize,
+    close: usize,
+    output: &mut W,
+) -> fmt::Result
+    requires begin { IsCharBoundary text.now begin }
+    requires close { IsCharBoundary text.now close }
+    requires order { begin ≤ close }
+    ensures { OnOk result (WritesInCalls W.write_str_gives output.old
+        (with_marks style (spec.parts_from style 0 text.now
+        (spec.single_stretches mode begin close text.now))) output.new) }
+{
+    let look = single_look(mode, &text[begin..close]);
+    let shown = write_stretch(style, look, text, 0, begin, close, output)?;
+    write_in_class(style, Class::Text, &text[shown..], output)
+}
+
+/// How the inside of a literal between single quotes looks.
+fn single_look(mode: Mode, inside: &str) -> Option<Look>
+    ensures { result ≡ spec.single_look (spec.single_error mode inside.now) inside.now }
+{
+    match single_error(mode, inside) {
+        Some(error) => Some(Look::Wrong(error)),
+        None if begins_escape(inside) => Some(Look::Escape),
+        None => None,
+    }
+}
+
+/// What is wrong between single quotes.
+fn single_error(mode: Mode, inside: &str) -> Option<EscapeError>
+    ensures { result ≡ spec.single_error mode inside.now }
+{
+    match mode {
+        Mode::Byte => unescape_byte(inside).err(),
+        _ => unescape_char(inside).err(),
+    }
+}
+
+/// Whether a text begins with a backslash.
+fn begins_escape(inside: &str) -> bool
+    ensures { result ≡ spec.begins_escape inside.now }
+{
+    match inside.as_bytes().first() {
+        Some(byte) => *byte == b'\\',
+        None => false,
+    }
+}
+
+/// Writes a literal between double quotes, of which the inside goes from the place `begin` to `close`.
+fn write_string<W: fmt::Write>(
+    style: Style,
+    mode: Mode,
+    text: &str,
+    begin: usize,
+    close: usize,
+    output: &mut W,
+) -> fmt::Result
+    requires fits { Fits text.now }
+    requires begin { IsCharBoundary text.now begin }
+    requires close { IsCharBoundary text.now close }
+    requires order { begin ≤ close }
+    ensures { OnOk result (WritesInCalls W.write_str_gives output.old
+        (with_marks style (spec.parts_from style 0 text.now
+        (spec.string_stretches mode begin close text.now))) output.new) }
+{
+    let mut shown = 0;
+    let mut at = begin;
+    for (range, element) in elements_of(mode, &text[begin..close]) {
+        let start = begin + range.start;
+        if start < at {
+            continue;
+        }
+        let end = begin + range.end;
+        shown = write_skipped(style, text, shown, at, start, output)?;
+        shown = write_stretch(
+            style,
+            look_of(mode, element),
+            text,
+            shown,
+            start,
+            end,
+            output,
+        )?;
+        at = end;
+    }
+    shown = write_skipped(style, text, shown, at, close, output)?;
+    write_in_class(style, Class::Text, &text[shown..], output)
+}
+
+/// Writes what stands between two elements: nothing, or a line end that is passed over.
+fn write_skipped<W: fmt::Write>(
+    style: Style,
+    text: &str,
+    shown: usize,
+    at: usize,
+    start: usize,
+    output: &mut W,
+) -> Result<usize, fmt::Error>
+    requires shown { IsCharBoundary text.now shown }
+    requires at { IsCharBoundary text.now at }
+    requires start { IsCharBoundary text.now start }
+    requires order { (shown ≤ at) × (at ≤ start) }
+    ensures { MatchResult result
+        (λ to. (IsCharBoundary text.now to × (to ≤ start)) × spec.WritesOn W.write_str_gives style text.now
+        output.old shown (spec.skipped at start) output.new to) (λ error. Unit {0}) }
+{
+    if at < start {
+        write_stretch(style, Some(Look::Escape), text, shown, at, start, output)
+    } else {
+        Ok(shown)
+    }
+}
+
+/// Writes a stretch that is not plain, and before it the plain text that is not written yet. Answers up to where all is
+/// written.
+fn write_stretch<W: fmt::Write>(
+    style: Style,
+    look: Option<Look>,
+    text: &str,
+    shown: usize,
+    start: usize,
+    end: usize,
+    output: &mut W,
+) -> Result<usize, fmt::Error>
+    requires shown { IsCharBoundary text.now shown }
+    requires start { IsCharBoundary text.now start }
+    requires end { IsCharBoundary text.now end }
+    requires order { (shown ≤ start) × (start ≤ end) }
+    ensures { MatchResult result
+        (λ to. (IsCharBoundary text.now to × (to ≤ end)) × spec.WritesOn W.write_str_gives style text.now
+        output.old shown (spec.stretch start end look) output.new to) (λ error. Unit {0}) }
+{
+    let Some(look) = look else {
+        return Ok(shown);
+    };
+    write_in_class(style, Class::Text, &text[shown..start], output)?;
+    write_look(style, look, &text[start..end], output)?;
+    Ok(end)
+}
+
+/// Writes a stretch between its marks.
+fn write_look<W: fmt::Write>(style: Style, look: Look, text: &str, output: &mut W) -> fmt::Result
+    ensures { OnOk result (WritesInCalls W.write_str_gives output.old
+        (with_marks style (spec.look_parts style look text.now)) output.new) }
+{
+    match look {
+        Look::Escape => write_in_class(style, Class::Escape, text, output),
+        Look::Wrong(error) => {
+            write_with_fault(style, Fault::InLiteral(error), Class::Text, text, output)
+        }
+    }
+}
+
+/// The elements of a literal between double quotes.
+fn elements_of(mode: Mode, inside: &str) -> Elements<'_>
+    ensures items { result ≡ items_of (is_raw mode) inside.now }
+    ensures places { ArePlaced inside.now (items_of (is_raw mode) inside.now) }
+{
+    match mode {
+        Mode::RawStr | Mode::RawByteStr | Mode::RawCStr => Elements::new_raw(inside),
+        _ => Elements::new(inside),
+    }
+}
+
+/// How an element looks; `None` where it is plain.
+fn look_of(mode: Mode, element: Element) -> Option<Look>
+    ensures { result ≡ spec.look_of mode element }
+{
+    match (error_of(mode, element), element) {
+        (Some(error), _) => Some(Look::Wrong(error)),
+        (None, Element::Plain(_)) => None,
+        (None, _) => Some(Look::Escape),
+    }
+}
+
+/// What is wrong with an element, in a literal of this kind.
+fn error_of(mode: Mode, element: Element) -> Option<EscapeError>
+    ensures { result ≡ error_of mode element }
+{
+    match mode {
+        Mode::Char | Mode::Str | Mode::RawStr => element.to_char().err(),
+        Mode::Byte | Mode::ByteStr | Mode::RawByteStr => element.to_byte().err(),
+        Mode::CStr => element.to_mixed_unit().err(),
+        Mode::RawCStr => element.to_raw_unit().err(),
+    }
+}

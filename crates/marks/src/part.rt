@@ -1,0 +1,72 @@
+//! A part of a text between the marks of its class and of its fault.
+ghost use Rattle.std.specs.Prelude.{◌≡◌, OnOk};
+ghost use Rattle.std.specs.Fmt.{WritesInCalls};
+ghost use Rattle.std.specs.Str.{IsCharBoundary};
+ghost use Rattle.marks.specs.Part.{class_parts, fault_parts, first_line, shown, with_marks};
+
+use crate::class::Class;
+use crate::escape::write_escaped;
+use crate::fault::Fault;
+use crate::style::{Style, class_close, class_open, close_fault, open_fault};
+use memchr::memchr2;
+use std::fmt;
+
+/// Writes a part with a fault: its first line between the marks of the fault, and all of it between those of its class.
+pub fn write_with_fault<W: fmt::Write>(
+    style: Style,
+    fault: Fault,
+    class: Class,
+    text: &str,
+    output: &mut W,
+) -> fmt::Result
+    ensures { OnOk result (WritesInCalls W.write_str_gives output.old
+        (with_marks style (fault_parts style fault class text.now)) output.new) }
+{
+    let end = first_line(text);
+    open_fault(style, fault, output)?;
+    write_in_class(style, class, &text[..end], output)?;
+    close_fault(style, fault, output)?;
+    write_in_class(style, class, &text[end..], output)
+}
+
+/// How many bytes stand before the first newline or carriage return.
+fn first_line(text: &str) -> usize
+    ensures value { result ≡ first_line text.now }
+    ensures bounded { IsCharBoundary text.now result }
+{
+    match memchr2(b'\n', b'\r', text.as_bytes()) {
+        Some(at) => at,
+        None => text.len(),
+    }
+}
+
+/// Writes a part of the text between the marks of its class, and nothing where it is empty.
+pub fn write_in_class<W: fmt::Write>(
+    style: Style,
+    class: Class,
+    text: &str,
+    output: &mut W,
+) -> fmt::Result
+    ensures { OnOk result (WritesInCalls W.write_str_gives output.old
+        (with_marks style (class_parts style class text.now)) output.new) }
+{
+    if text.is_empty() {
+        return Ok(());
+    }
+    output.write_str(class_open(style, class))?;
+    write_shown(style, text, output)?;
+    output.write_str(class_close(style, class))
+}
+
+/// Writes a part of the text: in a page with entities, in a terminal as it is.
+#[tactic(auto, using(crate::proofs::CallLemmas::tried_call))]
+fn write_shown<W: fmt::Write>(style: Style, text: &str, output: &mut W) -> fmt::Result
+    ensures { OnOk result
+        (WritesInCalls W.write_str_gives output.old (shown style text.now) output.new) }
+{
+    match style {
+        Style::Html => write_escaped(text, output),
+        Style::Colours => output.write_str(text),
+        Style::NoColours => output.write_str(text),
+    }
+}

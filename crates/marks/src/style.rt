@@ -1,0 +1,87 @@
+//! The marks around a token: tags of a page, or escape sequences of a terminal.
+ghost use Rattle.std.specs.Prelude.{◌≡◌, OnOk};
+ghost use Rattle.std.specs.Fmt.{WritesInCalls};
+ghost use Rattle.marks.specs.Mark.{class_close, class_open, fault_close, fault_open};
+
+use crate::class::Class;
+use crate::fault::Fault;
+use std::fmt;
+
+/// How a text is marked.
+#[derive(Clone, Copy, Debug, PartialEq, Eq)]
+pub enum Style {
+    /// By tags, in a page.
+    Html,
+    /// By escape sequences, in the colours of a terminal.
+    Colours,
+    /// By the sentences of faults alone.
+    NoColours,
+}
+
+/// The mark before a token of a class.
+pub fn class_open(style: Style, class: Class) -> &'static str
+    ensures { result.now ≡ class_open style class }
+{
+    match style {
+        Style::Html => match class {
+            Class::Plain => "",
+            Class::Comment => "<span class=\"comment\">",
+            Class::Doc => "<span class=\"doc\">",
+            Class::Keyword => "<span class=\"keyword\">",
+            Class::TypeName => "<span class=\"type\">",
+            Class::Text => "<span class=\"text\">",
+            Class::Escape => "<span class=\"escape\">",
+            Class::Number => "<span class=\"number\">",
+            Class::Lifetime => "<span class=\"lifetime\">",
+        },
+        Style::Colours => match class {
+            Class::Plain => "",
+            Class::Comment => "\x1b[90m",
+            Class::Doc => "\x1b[36m",
+            Class::Keyword => "\x1b[35m",
+            Class::TypeName => "\x1b[1;34m",
+            Class::Text => "\x1b[32m",
+            Class::Escape => "\x1b[96m",
+            Class::Number => "\x1b[36m",
+            Class::Lifetime => "\x1b[33m",
+        },
+        Style::NoColours => "",
+    }
+}
+
+/// The mark past a token of a class.
+pub fn class_close(style: Style, class: Class) -> &'static str
+    ensures { result.now ≡ class_close style class }
+{
+    match (style, class) {
+        (_, Class::Plain) | (Style::NoColours, _) => "",
+        (Style::Html, _) => "</span>",
+        (Style::Colours, _) => "\x1b[0m",
+    }
+}
+
+/// Writes the mark before the first line of a token with a fault: in a page a tag with the sentence.
+#[tactic(auto, using(crate::proofs::CallLemmas::tried_call))]
+pub fn open_fault<W: fmt::Write>(style: Style, fault: Fault, output: &mut W) -> fmt::Result
+    ensures { OnOk result
+        (WritesInCalls W.write_str_gives output.old (fault_open style fault) output.new) }
+{
+    match style {
+        Style::Html => write!(output, "<mark title=\"{fault}\">"),
+        Style::Colours => output.write_str("\x1b[4;31m"),
+        Style::NoColours => Ok(()),
+    }
+}
+
+/// Writes the mark past the first line of a token with a fault: in a terminal with the sentence.
+#[tactic(auto, using(crate::proofs::CallLemmas::tried_call))]
+pub fn close_fault<W: fmt::Write>(style: Style, fault: Fault, output: &mut W) -> fmt::Result
+    ensures { OnOk result
+        (WritesInCalls W.write_str_gives output.old (fault_close style fault) output.new) }
+{
+    match style {
+        Style::Html => output.write_str("</mark>"),
+        Style::Colours => write!(output, "\x1b[0;31m [<- {fault}]\x1b[0m"),
+        Style::NoColours => write!(output, " [<- {fault}]"),
+    }
+}
