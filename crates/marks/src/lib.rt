@@ -9,5 +9,5 @@ mod marked;
 mod part;
 mod style;
 
-pub use marked::write_marked;
+pub use marked::{write_first_tokens, write_marked};
 pub use style::Style;

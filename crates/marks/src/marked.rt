@@ -1,8 +1,8 @@
 //! A text with its shebang line and its tokens marked, for a terminal or as the inside of a page.
-ghost use Rattle.std.specs.Prelude.{◌≡◌, OnOk};
+ghost use Rattle.std.specs.Prelude.{◌≡◌, OnOk, take};
 ghost use Rattle.std.specs.Fmt.{WritesInCalls};
 ghost use Rattle.rustc_lexer.specs.Classes.{Fits};
-ghost use Rattle.rustc_lexer.specs.LanguageText.{document};
+ghost use Rattle.rustc_lexer.specs.LanguageText.{document, part};
 ghost use Rattle.rustc_lexer.specs.Tokens.{tokens_of};
 ghost use Rattle.marks.specs.Escape.{unescaped, untagged};
 ghost use Rattle.marks.specs.Marked.{marked, marked_tokens, text_parts, token_parts};
@@ -13,7 +13,9 @@ use crate::fault::fault_of;
 use crate::literal::{mode_of, write_literal};
 use crate::part::{write_in_class, write_with_fault};
 use crate::style::Style;
-use rustc_lexer::{Edition, FrontmatterAllowed, TokenKind, strip_shebang, tokenize_as};
+use rustc_lexer::{
+    Edition, FrontmatterAllowed, TokenKind, strip_shebang, tokenize_as, tokenize_in,
+};
 use std::fmt;
 
 /// Writes a whole text: its shebang line, where it has one, between the marks of a comment, and the
@@ -58,6 +60,36 @@ fn write_tokens<W: fmt::Write>(
         let end = start + token.len as usize;
         write_token(style, token.kind, &text[start..end], output)?;
         start = end;
+    }
+    Ok(())
+}
+
+/// Writes the first `count` tokens of a text in an edition, each between its marks, or all where it has fewer. No
+/// frontmatter stands in front, and a shebang line is read as tokens: the text is a part of a document.
+///
+/// So what is seen of a long text is written without the rest.
+pub fn write_first_tokens<W: fmt::Write>(
+    style: Style,
+    edition: Edition,
+    count: usize,
+    text: &str,
+    output: &mut W,
+) -> fmt::Result
+    requires fits { Fits text.now }
+    ensures { OnOk result (WritesInCalls W.write_str_gives output.old
+        (marked_tokens style text.now (take count (tokens_of (part edition) text.now))) output.new) }
+{
+    let mut tokens = tokenize_in(text, edition);
+    let mut start = 0;
+    let mut left = count;
+    while left > 0 {
+        let Some(token) = tokens.next() else {
+            break;
+        };
+        let end = start + token.len as usize;
+        write_token(style, token.kind, &text[start..end], output)?;
+        start = end;
+        left -= 1;
     }
     Ok(())
 }
