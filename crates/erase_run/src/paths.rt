@@ -57,8 +57,8 @@ fn path(source: &mut Source<'_>, n: usize) -> Result<usize, Stop> {
         (Target::Library, "crate") => put(source, n, 1, Word::Crate),
         (Target::Library, "std") => of_std(source, n),
         (Target::Program, "std") => put(source, n, 1, Word::RattleStd),
-        (Target::Program, "rustc_lexer") => put(source, n, 1, Word::Lexer),
-        (Target::Program, "rustc_literal_escaper") => put(source, n, 1, Word::Escaper),
+        (_, "rustc_lexer") => put(source, n, 1, Word::Lexer),
+        (_, "rustc_literal_escaper") => put(source, n, 1, Word::Escaper),
         _ => Ok(past(n, 1)),
     }
 }

@@ -47,7 +47,7 @@ const MADE: [(&str, &str); 14] = [
     ),
     (
         "use rustc_lexer::a;\nuse std::str;",
-        "use rustc_lexer::a;\nuse core::str;",
+        "use rustc_lexer::erased::a;\nuse core::str;",
     ),
     (
         "// ghost\nfn f() -> &str { \"ghost\" }",

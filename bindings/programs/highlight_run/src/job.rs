@@ -1,7 +1,7 @@
 //! What a run is to do.
 use rattle_std::prelude::String;
 
-use crate::style::Style;
+use marks::Style;
 use rattle_std::str::FromStr;
 use rustc_lexer::erased::Edition;
 

@@ -3,8 +3,8 @@ use rattle_std::prelude::String;
 
 use crate::page::write_text;
 use crate::stop::Stop;
-use crate::style::Style;
 use ends::{Watched, WriteStop, read_all, write_all};
+use marks::Style;
 use rattle_std::alloc::Global;
 use rattle_std::fmt;
 use rattle_std::io::{Read, Write};

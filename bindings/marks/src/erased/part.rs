@@ -1,11 +1,11 @@
 //! A part of a text between the marks of its class and of its fault.
 
-use crate::class::Class;
-use crate::escape::write_escaped;
-use crate::fault::Fault;
-use crate::style::{Style, class_close, class_open, close_fault, open_fault};
+use crate::erased::class::Class;
+use crate::erased::escape::write_escaped;
+use crate::erased::fault::Fault;
+use crate::erased::style::{Style, class_close, class_open, close_fault, open_fault};
+use core::fmt;
 use memchr::memchr2;
-use rattle_std::fmt;
 
 /// Writes a part with a fault: its first line between the marks of the fault, and all of it between those of its class.
 pub fn write_with_fault<W: fmt::Write>(

@@ -1,8 +1,8 @@
 //! The marks around a token: tags of a page, or escape sequences of a terminal.
 
-use crate::class::Class;
-use crate::fault::Fault;
-use rattle_std::fmt;
+use crate::erased::class::Class;
+use crate::erased::fault::Fault;
+use core::fmt;
 
 /// How a text is marked.
 #[derive(Clone, Copy, Debug, PartialEq, Eq)]

@@ -1,11 +1,11 @@
 //! Literals: the escapes in them, and what is wrong.
 
-use crate::class::Class;
-use crate::fault::Fault;
-use crate::part::{write_in_class, write_with_fault};
-use crate::style::Style;
+use crate::erased::class::Class;
+use crate::erased::fault::Fault;
+use crate::erased::part::{write_in_class, write_with_fault};
+use crate::erased::style::Style;
+use core::fmt;
 use memchr::{memchr, memrchr};
-use rattle_std::fmt;
 use rustc_lexer::erased::{LiteralKind, TokenKind};
 use rustc_literal_escaper::erased::{
     Element, Elements, EscapeError, Mode, unescape_byte, unescape_char,

@@ -1,6 +1,6 @@
 //! What is wrong with a token.
 
-use rattle_std::fmt;
+use core::fmt;
 use rustc_lexer::erased::{LiteralKind, RawStrError, TokenKind, starts_raw, validate_raw_str};
 use rustc_literal_escaper::erased::EscapeError;
 

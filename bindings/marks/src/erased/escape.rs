@@ -1,7 +1,7 @@
 //! A text as a page shows it: with entities for the bytes that a page would read as its own.
 
+use core::fmt;
 use memchr::memchr3;
-use rattle_std::fmt;
 
 /// Writes a text with entities for `&`, `<` and `>`.
 pub fn write_escaped<W: fmt::Write>(text: &str, output: &mut W) -> fmt::Result {

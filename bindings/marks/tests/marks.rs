@@ -1,0 +1,89 @@
+//! The calls by hand: what they write, in each style and edition, and an output that fails.
+
+use core::fmt;
+use marks::{Edition, Style, write_first_tokens, write_marked};
+
+/// What is written of the first tokens of a text.
+fn first(style: Style, edition: Edition, count: usize, text: &str) -> String {
+    let mut written = String::new();
+    write_first_tokens(style, edition, count, text, &mut written).unwrap();
+    written
+}
+
+/// What is written of a whole text.
+fn whole(style: Style, edition: Edition, text: &str) -> String {
+    let mut written = String::new();
+    write_marked(style, edition, text, &mut written).unwrap();
+    written
+}
+
+#[test]
+fn each_style_has_its_marks() {
+    let text = "let \u{b7}";
+    let page = "<span class=\"keyword\">let</span> <mark title=\"no token begins with this character\">\u{b7}</mark>";
+    let colours = "\x1b[35mlet\x1b[0m \x1b[4;31m\u{b7}\x1b[0;31m [<- no token begins with this character]\x1b[0m";
+    let plain = "let \u{b7} [<- no token begins with this character]";
+    for (style, wanted) in [
+        (Style::Html, page),
+        (Style::Colours, colours),
+        (Style::NoColours, plain),
+    ] {
+        assert_eq!(whole(style, Edition::E2024, text), wanted);
+        assert_eq!(first(style, Edition::E2024, 3, text), wanted);
+    }
+}
+
+#[test]
+fn a_part_has_no_shebang_line() {
+    let text = "#!/a\nb";
+    assert_eq!(
+        whole(Style::Html, Edition::E2024, text),
+        "<span class=\"comment\">#!/a</span>\nb"
+    );
+    assert_eq!(first(Style::Html, Edition::E2024, 9, text), text);
+}
+
+#[test]
+fn so_many_tokens_are_written() {
+    let wanted = ["", "a", "a+", "a+1", "a+1", "a+1"];
+    for (count, wanted) in wanted.iter().enumerate() {
+        assert_eq!(
+            first(Style::NoColours, Edition::E2024, count, "a+1"),
+            *wanted
+        );
+    }
+    assert_eq!(
+        first(Style::NoColours, Edition::E2024, usize::MAX, "a+1"),
+        "a+1"
+    );
+}
+
+#[test]
+fn an_edition_has_its_tokens() {
+    let lifetime =
+        "<mark title=\"no lifetime has this prefix\"><span class=\"lifetime\">'a</span></mark>#b";
+    assert_eq!(first(Style::Html, Edition::E2021, 3, "'a#b"), lifetime);
+    let older = "<span class=\"lifetime\">'a</span>#b";
+    assert_eq!(first(Style::Html, Edition::E2018, 3, "'a#b"), older);
+}
+
+/// An output that takes so many calls.
+struct Few(usize);
+
+impl fmt::Write for Few {
+    fn write_str(&mut self, _: &str) -> fmt::Result {
+        self.0 = self.0.checked_sub(1).ok_or(fmt::Error)?;
+        Ok(())
+    }
+}
+
+#[test]
+fn an_error_is_one_of_the_output() {
+    let takes = |calls, count| {
+        write_first_tokens(Style::Html, Edition::E2024, count, "a+1", &mut Few(calls)).is_ok()
+    };
+    assert!(takes(0, 0));
+    assert!(!takes(0, 1));
+    assert!(takes(3, 1));
+    assert!(!takes(3, 2));
+}
