@@ -2,8 +2,10 @@
 #![tactic(auto)]
 
 use count_run::program::program;
+use std::env;
 use std::process::ExitCode;
 
 fn main(rt: HostRuntime) -> ExitCode {
-    ExitCode::from(program(&rt))
+    let args = env::args(&rt).ok();
+    ExitCode::from(program(&rt, args))
 }

@@ -1,4 +1,5 @@
 pub mod Counter
+pub mod Job
 pub mod Json
 pub mod Lines
 pub mod Outcome

@@ -1,6 +1,10 @@
 //! What a run is to do.
-use clap::{Arg, ArgAction, Command, Error};
-use std::alloc::{AllocError, Global};
+ghost use Rattle.std.specs.Prelude.{◌≡◌, IfErr, IfOk, Some, map, string_bytes};
+ghost use Rattle.count_run.specs.Job.{command_of, job_of, IsJobStop};
+
+use crate::stop::Stop;
+use sources::{Words, are_known, has, take_apart};
+use std::alloc::Global;
 
 /// How the numbers are written.
 #[derive(Clone, Copy, Debug, PartialEq, Eq)]
@@ -13,45 +17,36 @@ pub struct Layout {
 
 /// What a run is to do.
 #[derive(Debug, Drop)]
-pub struct Job<'a> {
-    pub layout: Layout,
-    /// The files and folders. None: standard input.
-    pub paths: Vec<&'a str>,
+pub enum Job<'a> {
+    /// Count the lines, and write the numbers.
+    Count {
+        layout: Layout,
+        /// The files and folders. None: standard input.
+        paths: Vec<&'a str>,
+    },
+    /// Say what the program takes.
+    Help,
 }
 
-/// The words that the program takes.
-fn command<'a>(alloc: Global) -> Result<Command<'a>, AllocError> {
-    let by_file = Arg::new(alloc, "files")
-        .long("files")
-        .action(ArgAction::SetTrue)
-        .help("write the numbers of each file, too");
-    let json = Arg::new(alloc, "json")
-        .long("json")
-        .action(ArgAction::SetTrue)
-        .help("write JSON");
-    let paths = Arg::new(alloc, "paths")
-        .value_name("PATH")
-        .num_args(0..)
-        .help("files, and folders whose .rs files are counted; none: standard input");
-    Command::new(alloc, "count")
-        .about("Counts the lines of Rust sources by what stands on them.")
-        .arg(by_file)?
-        .arg(json)?
-        .arg(paths)
-}
+/// The options, but for `--help`.
+const OPTIONS: [&str; 2] = ["--files", "--json"];
 
-/// Reads the words of a command line, the first of which is the name of the program.
-pub fn read_job<'a>(alloc: Global, words: &'a [String]) -> Result<Job<'a>, Error> {
-    let matches = command(alloc)?.try_get_matches_from(words)?;
-    let mut paths = Vec::new(alloc);
-    if let Some(given) = matches.get_strs("paths") {
-        paths.extend_from_slice(given)?;
+/// The job that the words after the program's name ask for. `Stop::Arguments` says that they ask for none, and
+/// `Stop::Memory` that memory was refused; there is no other stop.
+pub fn read_job<'a>(alloc: Global, words: &'a [String]) -> Result<Job<'a>, Stop>
+    ensures job { IfOk result (λ job. job_of (map string_bytes words.now) ≡ Some (command_of job)) }
+    ensures stop { IfErr result (λ stop. IsJobStop stop (job_of (map string_bytes words.now))) }
+{
+    let Words { options, paths } = take_apart(alloc, words)?;
+    if has(options.as_slice(), "--help") {
+        return Ok(Job::Help);
     }
-    Ok(Job {
-        layout: Layout {
-            by_file: matches.get_flag("files"),
-            json: matches.get_flag("json"),
-        },
-        paths,
-    })
+    if !are_known(options.as_slice(), &OPTIONS) {
+        return Err(Stop::Arguments);
+    }
+    let layout = Layout {
+        by_file: has(options.as_slice(), "--files"),
+        json: has(options.as_slice(), "--json"),
+    };
+    Ok(Job::Count { layout, paths })
 }

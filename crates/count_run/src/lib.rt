@@ -12,4 +12,4 @@ pub use job::{Job, Layout, read_job};
 pub use lines::LineCounts;
 pub use report::{FileCounts, Report, write_report};
 pub use run::{Outcome, count_input, count_source, count_stdin, put_report};
-pub use stop::{Stop, status};
+pub use stop::{Stop, line, status};

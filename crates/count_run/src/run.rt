@@ -16,7 +16,7 @@ use crate::job::Layout;
 use crate::lines::{LineCounts, count_lines};
 use crate::report::{Report, write_report};
 use crate::stop::Stop;
-use ends::{Watched, WriteStop, write_all};
+use ends::{Watched, write_all};
 use sources::{Fault, Found, PathFault, Reason, find, read_input, read_source, text_of};
 use std::alloc::{AllocError, Global};
 use std::io::{Read, Write};
@@ -176,13 +176,11 @@ pub fn put_report<W: Write>(
     ensures silent { IsErrOf result Stop.Memory
         → Keeps (W.contents output.old.inner) (W.contents output.new.inner) }
 {
-    let Ok(text) = write_report(alloc, layout, &outcome.report) else {
-        return Err(Stop::Memory);
-    };
-    match write_all(output, text.as_slice()) {
-        Ok(()) if outcome.faults.is_empty() => Ok(()),
-        Ok(()) => Err(Stop::Passed),
-        Err(WriteStop::Failed) => Err(Stop::Write),
-        Err(WriteStop::ClosedPipe) => Err(Stop::ClosedPipe),
+    let text = write_report(alloc, layout, &outcome.report)?;
+    write_all(output, text.as_slice())?;
+    if outcome.faults.is_empty() {
+        Ok(())
+    } else {
+        Err(Stop::Passed)
     }
 }

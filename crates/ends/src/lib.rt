@@ -10,4 +10,4 @@ mod writing;
 pub use reading::{ReadStop, read_all};
 pub use watched::{Watched, is_closed};
 pub use words::past_name;
-pub use writing::{WriteStop, write_all, write_bytes};
+pub use writing::{WriteStop, tell, write_all, write_bytes};

@@ -1,5 +1,5 @@
 //! Bytes that are written, all of them or a beginning.
-ghost use Rattle.std.specs.Prelude.{◌≡◌, ◌||◌, true, if◌then◌else◌, is_err, IfOk, OnErr, OnOk};
+ghost use Rattle.std.specs.Prelude.{◌≡◌, ◌||◌, false, true, if◌then◌else◌, is_err, IfOk, OnErr, OnOk};
 ghost use Rattle.std.specs.Io.KnownBytes.{Appends};
 ghost use Rattle.ends.specs.Known.{AppendsFront};
 ghost use Rattle.ends.specs.Watch.{is_closed};
@@ -57,6 +57,17 @@ pub fn write_bytes<W: Write>(output: &mut Watched<W>, bytes: &[u8]) -> Result<()
         rest = &rest[count..];
     }
     Ok(())
+}
+
+/// Writes what is told of a run, and flushes. Where it can't be written there is nobody to tell.
+///
+/// What goes out is all of the line where the writer does not fail, else a beginning of it.
+pub fn tell<E: Write>(errors: &mut Watched<E>, line: &str)
+    ensures line { errors.new.faulty ≡ false → errors.new.closed ≡ false
+        → Appends (E.contents errors.old.inner) (E.contents errors.new.inner) line.now }
+    ensures front { AppendsFront (E.contents errors.old.inner) (E.contents errors.new.inner) line.now }
+{
+    let _ = write_all(errors, line.as_bytes());
 }
 
 /// Why writing stops where the writer answers an error.

@@ -4,9 +4,8 @@ ghost use Rattle.std.specs.Io.KnownBytes.{Appends};
 ghost use Rattle.ends.specs.Known.{AppendsFront};
 ghost use Rattle.highlight_run.specs.Stop.{exit_status, told};
 
-use crate::run::put;
 use crate::stop::{Stop, line, status};
-use ends::Watched;
+use ends::{Watched, tell};
 use std::io::Write;
 
 /// Writes the line of the stop, if any, flushes, and answers the status of the program.
@@ -24,8 +23,7 @@ pub fn report<E: Write>(outcome: &Result<(), Stop>, errors: &mut Watched<E>) -> 
     match outcome {
         Ok(()) => 0,
         Err(stop) => {
-            // Where this line can't be written there is nobody to tell.
-            let _ = put(errors, line(stop).as_bytes());
+            tell(errors, line(stop));
             status(stop)
         }
     }

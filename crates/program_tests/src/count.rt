@@ -2,8 +2,8 @@
 use crate::failing_ends::{Script, Turn, WHOLE};
 use crate::words::words_of;
 use count_run::{
-    Layout, LineCounts, Report, Stop, count_input, count_source, count_stdin, put_report, read_job,
-    status, write_report,
+    Job, Layout, LineCounts, Report, Stop, count_input, count_source, count_stdin, put_report,
+    read_job, status, write_report,
 };
 use sources::{Fault, Reason};
 use std::alloc::{AllocError, Global};
@@ -67,33 +67,65 @@ fn texts(rt: HostRuntime) {
     assert_eq!(rt; count_source(b"a\xff".as_slice()), Err(Reason::NotUtf8));
 }
 
-/// Whether the words ask for this layout of the numbers of these paths.
-fn asks_for(
-    alloc: Global,
-    texts: &[&str],
-    layout: Layout,
-    paths: &[&str],
-) -> Result<bool, AllocError> {
+/// What words ask for: the numbers of files, JSON, and the paths.
+type Asked<'a> = (bool, bool, &'a [&'a str]);
+
+/// Whether this is what the words ask for; `None` stands for bad words.
+fn ask_for(alloc: Global, texts: &[&str], want: Option<Asked<'_>>) -> Result<bool, AllocError> {
     let words = words_of(alloc, texts)?;
-    Ok(read_job(alloc, words.as_slice()).is_ok_and(|job| job.layout == layout
-        && job.paths.as_slice() == paths))
+    Ok(match (read_job(alloc, words.as_slice()), want) {
+        (Ok(Job::Count { layout, paths }), Some((by_file, json, want))) => {
+            layout == Layout { by_file, json } && paths.as_slice() == want
+        }
+        (Err(stop), None) => stop == Stop::Arguments,
+        _ => false,
+    })
 }
 
 #[test]
 fn words(rt: HostRuntime) -> Result<(), Fail> {
-    let all = ["count", "--files", "src", "a b.rs", "--json"];
-    let layout = Layout {
-        by_file: true,
-        json: true,
-    };
-    assert!(rt; asks_for(rt.alloc(), &all, layout, &["src", "a b.rs"])?);
-    let layout = Layout {
-        by_file: false,
-        json: false,
-    };
-    assert!(rt; asks_for(rt.alloc(), &["count"], layout, &[])?);
-    let wrong = words_of(rt.alloc(), &["count", "--no"])?;
-    assert!(rt; read_job(rt.alloc(), wrong.as_slice()).is_err());
+    let rows: [(&[&str], Option<Asked<'_>>); 18] = [
+        (&[], Some((false, false, &[]))),
+        (
+            &["--files", "src", "a b.rs", "--json"],
+            Some((true, true, &["src", "a b.rs"])),
+        ),
+        (&["--json"], Some((false, true, &[]))),
+        (&["-", ""], Some((false, false, &["-", ""]))),
+        (
+            &["--files", "--", "--json", "--", "-x"],
+            Some((true, false, &["--json", "--", "-x"])),
+        ),
+        (&["a", "--"], Some((false, false, &["a"]))),
+        (&["--", "--help"], Some((false, false, &["--help"]))),
+        (
+            &["a-", "b--files"],
+            Some((false, false, &["a-", "b--files"])),
+        ),
+        (&["--no"], None),
+        (&["-j"], None),
+        (&["-h"], None),
+        (&["---"], None),
+        (&["--files=a"], None),
+        (&["--file"], None),
+        (&["--json", "--json"], None),
+        (&["--files", "src", "--files"], None),
+        (&["--json", "--no", "--", "a"], None),
+        (&["--check"], None),
+    ];
+    for (row, (texts, want)) in rows.iter().enumerate() {
+        assert!(rt; ask_for(rt.alloc(), texts, *want)?, "row {row}");
+    }
+    let rows: [&[&str]; 3] = [
+        &["--help"],
+        &["--json", "--help", "src"],
+        &["--no", "--help"],
+    ];
+    for (row, texts) in rows.iter().enumerate() {
+        let words = words_of(rt.alloc(), texts)?;
+        let job = read_job(rt.alloc(), words.as_slice());
+        assert!(rt; matches!(job, Ok(Job::Help)), "help, row {row}");
+    }
     Ok(())
 }
 

@@ -7,7 +7,7 @@ use std::alloc::{AllocError, Global};
 use std::io::ErrorKind;
 use std::test::Fail;
 use tidy_run::run::{check, run, show};
-use tidy_run::{Stop, Task, changed, read_job, status, tidied};
+use tidy_run::{Job, Stop, Task, changed, read_job, status, tidied};
 
 /// Whether this is the text in order.
 fn is_tidied(alloc: Global, text: &str, want: &str) -> bool {
@@ -52,29 +52,54 @@ fn texts(rt: HostRuntime) {
     }
 }
 
-/// Whether the words ask for this task on these paths.
-fn asks_for(alloc: Global, texts: &[&str], task: Task, paths: &[&str]) -> Result<bool, AllocError> {
+/// Whether the words ask for this task on these paths; `None` stands for bad words.
+fn ask_for(
+    alloc: Global,
+    texts: &[&str],
+    want: Option<(Task, &[&str])>,
+) -> Result<bool, AllocError> {
     let words = words_of(alloc, texts)?;
-    Ok(read_job(alloc, words.as_slice()).is_ok_and(|job| job.task == task
-        && job.paths.as_slice() == paths))
+    Ok(match (read_job(alloc, words.as_slice()), want) {
+        (Ok(Job::Tidy { task, paths }), Some((wanted, want))) => {
+            task == wanted && paths.as_slice() == want
+        }
+        (Err(stop), None) => stop == Stop::Arguments,
+        _ => false,
+    })
 }
 
 #[test]
 fn words(rt: HostRuntime) -> Result<(), Fail> {
-    let rows: [(&[&str], Task, &[&str]); 3] = [
+    let rows: [(&[&str], Option<(Task, &[&str])>); 14] = [
+        (&[], Some((Task::Write, &[]))),
         (
-            &["tidy", "src", "--check", "a b.rs"],
-            Task::Check,
-            &["src", "a b.rs"],
+            &["src", "--check", "a b.rs"],
+            Some((Task::Check, &["src", "a b.rs"])),
         ),
-        (&["tidy", "--check", "--diff"], Task::Diff, &[]),
-        (&["tidy"], Task::Write, &[]),
+        (&["--check", "--diff"], Some((Task::Diff, &[]))),
+        (&["--diff", "-", "--check"], Some((Task::Diff, &["-"]))),
+        (&["--diff"], Some((Task::Diff, &[]))),
+        (
+            &["--check", "--", "--diff", "--"],
+            Some((Task::Check, &["--diff", "--"])),
+        ),
+        (&["--"], Some((Task::Write, &[]))),
+        (&["--no"], None),
+        (&["-c"], None),
+        (&["--check=src"], None),
+        (&["--check", "--check"], None),
+        (&["--diff", "a", "--diff"], None),
+        (&["src", "--json"], None),
+        (&["--che"], None),
     ];
-    for (row, (texts, task, paths)) in rows.iter().enumerate() {
-        assert!(rt; asks_for(rt.alloc(), texts, *task, paths)?, "row {row}");
+    for (row, (texts, want)) in rows.iter().enumerate() {
+        assert!(rt; ask_for(rt.alloc(), texts, *want)?, "row {row}");
     }
-    let wrong = words_of(rt.alloc(), &["tidy", "--no"])?;
-    assert!(rt; read_job(rt.alloc(), wrong.as_slice()).is_err());
+    for texts in [["--help", "src"], ["src", "--help"], ["--no", "--help"]] {
+        let words = words_of(rt.alloc(), &texts)?;
+        let job = read_job(rt.alloc(), words.as_slice());
+        assert!(rt; matches!(job, Ok(Job::Help)), "at {texts:?}");
+    }
     Ok(())
 }
 

@@ -1,5 +1,5 @@
-//! What the programs over Rust sources share: the sources among files and folders, their texts, and the words of the
-//! command line.
+//! What the programs over Rust sources share: the sources among files and folders, their texts, and the options and
+//! paths among the words of the command line.
 #![tactic(auto)]
 
 mod fault;
@@ -10,4 +10,4 @@ mod words;
 pub use fault::{Fault, PathFault, Reason};
 pub use text::{read_input, read_source, text_of};
 pub use walk::{Found, find};
-pub use words::{explain, read_words};
+pub use words::{Words, are_known, has, take_apart};

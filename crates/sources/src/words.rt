@@ -1,20 +1,68 @@
-//! The words of the command line, and what is told where they ask for no job.
-use clap::Error;
-use clap::error::ErrorKind;
-use std::env;
+//! The words of a command line: options, and the paths among them.
+ghost use Rattle.std.specs.Prelude.{◌≡◌, IfOk, map, string_bytes};
+ghost use Rattle.sources.specs.Words.{are_known, has, is_option, options_of, paths_of};
 
-/// The words, the first of which is the program's name; `None` where they could not be had.
-pub fn read_words(rt: &HostRuntime) -> Option<Vec<String>> {
-    let args = env::args(rt).ok()?;
-    args.collect::<Vec<String>>(rt.alloc()).ok()
+use std::alloc::{AllocError, Global};
+
+/// The words of a command line, apart.
+#[derive(Debug, Drop)]
+pub struct Words<'a> {
+    /// In order.
+    pub options: Vec<&'a str>,
+    /// In order.
+    pub paths: Vec<&'a str>,
 }
 
-/// Tells why the words ask for no job, or what they ask to be told: the status; `None` where memory was refused.
-pub fn explain(rt: &HostRuntime, error: &Error) -> Option<u8> {
-    if error.kind() == ErrorKind::OutOfMemory {
-        return None;
+/// Takes the words after the program's name apart. What begins with a minus is an option, but for `-` alone; all
+/// else is a path. `--` ends the options, and is neither. The one error is that a request for memory was refused.
+pub fn take_apart<'a>(alloc: Global, words: &'a [String]) -> Result<Words<'a>, AllocError>
+    ensures options { IfOk result
+        (λ apart. map (λ s. s.now) apart.options.items ≡ options_of (map string_bytes words.now)) }
+    ensures paths { IfOk result
+        (λ apart. map (λ s. s.now) apart.paths.items ≡ paths_of (map string_bytes words.now)) }
+{
+    let mut options = Vec::new(alloc);
+    let mut paths = Vec::new(alloc);
+    let mut is_over = false;
+    for word in words {
+        let word = word.as_str();
+        if is_over {
+            paths.push(word)?;
+        } else if word == "--" {
+            is_over = true;
+        } else if is_option(word) {
+            options.push(word)?;
+        } else {
+            paths.push(word)?;
+        }
     }
-    // Where this text can't be written there is nobody to tell.
-    let _ = error.print(rt);
-    Some(if error.use_stderr() { 2 } else { 0 })
+    Ok(Words { options, paths })
+}
+
+/// Whether the word is an option, where options are not over.
+fn is_option(word: &str) -> bool
+    ensures { result ≡ is_option word.now }
+{
+    word != "-" && word.starts_with('-')
+}
+
+/// Whether an option of this name is among these.
+pub fn has(options: &[&str], name: &str) -> bool
+    ensures { result ≡ has (map (λ s. s.now) options.now) name.now }
+{
+    options.contains(&name)
+}
+
+/// Whether each of the options is a known one, and none stands twice.
+pub fn are_known(options: &[&str], known: &[&str]) -> bool
+    ensures { result ≡ are_known (map (λ s. s.now) options.now) (map (λ s. s.now) known.now) }
+{
+    let mut rest = options;
+    while let [option, after @ ..] = rest {
+        if !has(known, option) || has(after, option) {
+            return false;
+        }
+        rest = after;
+    }
+    true
 }

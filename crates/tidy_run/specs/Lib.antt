@@ -1,4 +1,5 @@
 pub mod Diff
 pub mod Files
+pub mod Job
 pub mod Order
 pub mod Stop

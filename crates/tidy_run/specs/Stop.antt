@@ -1,13 +1,14 @@
 -- Why a run stops: its status, and its line on standard error.
-use Rattle.std.specs.Prelude.{ℕ, List, Option, IfSome, codes}
+use Rattle.std.specs.Prelude.{ℕ, List, [], ◌∷◌, ◌++◌, Option, IfSome, codes}
 use Rattle.sources.specs.declared.fault.Reason.TheVariants.{NotUtf8 as NotUtf8Reason, TooLong as TooLongReason}
 use Rattle.sources.specs.Reasons.{IsNoText}
 use Rattle.tidy_run.specs.declared.stop.Stop.{Stop}
-use Rattle.tidy_run.specs.declared.stop.Stop.TheVariants.{Untidy, Passed, NotUtf8, TooLong, Memory, Read, Write, ClosedPipe}
+use Rattle.tidy_run.specs.declared.stop.Stop.TheVariants.{Arguments, Untidy, Passed, NotUtf8, TooLong, Memory, Read, Write, ClosedPipe}
 
 abbrev pub status_of : Stop → ℕ
 status_of ClosedPipe = 0
 status_of Untidy = 1
+status_of Arguments = 2
 status_of NotUtf8 = 3
 status_of Passed = 3
 status_of TooLong = 4
@@ -15,15 +16,21 @@ status_of Memory = 6
 status_of Read = 7
 status_of Write = 7
 
-abbrev pub stop_text : Stop → List ℕ
-stop_text Untidy = codes "not in order"
-stop_text Passed = codes "not everything is in order"
-stop_text NotUtf8 = codes "input is not UTF-8"
-stop_text TooLong = codes "input too long"
-stop_text Memory = codes "no memory"
-stop_text Read = codes "read failed"
-stop_text Write = codes "write failed"
-stop_text ClosedPipe = codes "nobody reads the output"
+-- the line that is told under the program's name
+abbrev pub told_by_name : List ℕ → List ℕ
+told_by_name text = codes "tidy: " ++ (text ++ 10 ∷ [])
+
+-- the line that tells of a stop; what is not in order and what was passed over is told already, and a closed pipe has none
+abbrev pub stop_line : Stop → List ℕ
+stop_line Arguments = told_by_name (codes "unknown words; --help tells what it takes")
+stop_line NotUtf8 = told_by_name (codes "input is not UTF-8")
+stop_line TooLong = told_by_name (codes "input too long")
+stop_line Memory = told_by_name (codes "no memory")
+stop_line Read = told_by_name (codes "read failed")
+stop_line Write = told_by_name (codes "write failed")
+stop_line Untidy = []
+stop_line Passed = []
+stop_line ClosedPipe = []
 
 -- what a failed write stops with
 abbrev pub IsWriteStop : Stop → Type 0
@@ -38,6 +45,7 @@ IsInputStop known NotUtf8 = IfSome known (λ bytes. IsNoText bytes NotUtf8Reason
 IsInputStop known TooLong = IfSome known (λ bytes. IsNoText bytes TooLongReason)
 IsInputStop known Memory = Unit {0}
 IsInputStop known Read = Unit {0}
+IsInputStop known Arguments = ⊥
 IsInputStop known Untidy = ⊥
 IsInputStop known Passed = ⊥
 IsInputStop known Write = ⊥

@@ -12,11 +12,11 @@ use crate::stop::Stop;
 use crate::{document, hunks};
 use sources::{Fault, PathFault, Reason, find, read_source, text_of};
 use std::alloc::{AllocError, Global};
+use std::fs;
 use std::fs::{File, Metadata, OpenFile};
 use std::io::Write;
 use std::path::{AsPath, Path};
 use std::rt::Files;
-use std::{fs, io};
 
 /// What came of files.
 #[derive(Debug, Drop)]

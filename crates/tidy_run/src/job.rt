@@ -1,6 +1,10 @@
 //! What a run is to do.
-use clap::{Arg, ArgAction, Command, Error};
-use std::alloc::{AllocError, Global};
+ghost use Rattle.std.specs.Prelude.{◌≡◌, IfErr, IfOk, Some, map, string_bytes};
+ghost use Rattle.tidy_run.specs.Job.{command_of, job_of, task_of, IsJobStop};
+
+use crate::stop::Stop;
+use sources::{Words, are_known, has, take_apart};
+use std::alloc::Global;
 
 /// What is to be done with a source that is not in order.
 #[derive(Clone, Copy, Debug, PartialEq, Eq)]
@@ -15,56 +19,48 @@ pub enum Task {
 
 /// What a run is to do.
 #[derive(Debug, Drop)]
-pub struct Job<'a> {
-    pub task: Task,
-    /// The files and folders. None: standard input.
-    pub paths: Vec<&'a str>,
+pub enum Job<'a> {
+    /// Put sources in order, or say which are not.
+    Tidy {
+        task: Task,
+        /// The files and folders. None: standard input.
+        paths: Vec<&'a str>,
+    },
+    /// Say what the program takes.
+    Help,
 }
 
-/// The words that the program takes.
-fn command<'a>(alloc: Global) -> Result<Command<'a>, AllocError> {
-    let check = Arg::new(alloc, "check")
-        .long("check")
-        .action(ArgAction::SetTrue)
-        .help(
-            "write nothing but the names of files that would change; status 1 where there are any",
-        );
-    let diff = Arg::new(alloc, "diff")
-        .long("diff")
-        .action(ArgAction::SetTrue)
-        .help(
-            "write nothing but what would change, as a unified diff; status 1 where there is any",
-        );
-    let paths = Arg::new(alloc, "paths")
-        .value_name("PATH")
-        .num_args(0..)
-        .help(
-            "files, and folders whose .rs files are put in order; none: standard input to output",
-        );
-    Command::new(alloc, "tidy")
-        .about("Puts the white space between the tokens of Rust sources in order.")
-        .after_help(
-            "Spaces, tabs and carriage returns before a newline go, of newlines in a row two stay, \
-and the text ends in one newline. In comments carriage returns alone go. Nothing else is changed.",
-        )
-        .arg(check)?
-        .arg(diff)?
-        .arg(paths)
-}
+/// The options, but for `--help`.
+const OPTIONS: [&str; 2] = ["--check", "--diff"];
 
-/// Reads the words of a command line, the first of which is the name of the program.
-pub fn read_job<'a>(alloc: Global, words: &'a [String]) -> Result<Job<'a>, Error> {
-    let matches = command(alloc)?.try_get_matches_from(words)?;
-    let mut paths = Vec::new(alloc);
-    if let Some(given) = matches.get_strs("paths") {
-        paths.extend_from_slice(given)?;
+/// The job that the words after the program's name ask for. `Stop::Arguments` says that they ask for none, and
+/// `Stop::Memory` that memory was refused; there is no other stop.
+pub fn read_job<'a>(alloc: Global, words: &'a [String]) -> Result<Job<'a>, Stop>
+    ensures job { IfOk result (λ job. job_of (map string_bytes words.now) ≡ Some (command_of job)) }
+    ensures stop { IfErr result (λ stop. IsJobStop stop (job_of (map string_bytes words.now))) }
+{
+    let Words { options, paths } = take_apart(alloc, words)?;
+    if has(options.as_slice(), "--help") {
+        return Ok(Job::Help);
     }
-    let task = if matches.get_flag("diff") {
+    if !are_known(options.as_slice(), &OPTIONS) {
+        return Err(Stop::Arguments);
+    }
+    Ok(Job::Tidy {
+        task: task_of(options.as_slice()),
+        paths,
+    })
+}
+
+/// The task that the options ask for.
+fn task_of(options: &[&str]) -> Task
+    ensures { result ≡ task_of (map (λ s. s.now) options.now) }
+{
+    if has(options, "--diff") {
         Task::Diff
-    } else if matches.get_flag("check") {
+    } else if has(options, "--check") {
         Task::Check
     } else {
         Task::Write
-    };
-    Ok(Job { task, paths })
+    }
 }

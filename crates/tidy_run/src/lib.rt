@@ -15,4 +15,4 @@ mod stop;
 pub use document::tidied;
 pub use files::changed;
 pub use job::{Job, Task, read_job};
-pub use stop::{Stop, status};
+pub use stop::{Stop, line, status};

@@ -2,25 +2,66 @@
 use crate::files::{ending, tidy_paths};
 use crate::job::{Job, Task, read_job};
 use crate::run::{check, put, run, show};
-use crate::stop::{Stop, status};
-use ends::Watched;
-use sources::{explain, read_words};
+use crate::stop::{Stop, line, status};
+use ends::{Watched, past_name, tell};
+use std::env::Args;
 use std::io::IsTerminal;
 use std::process;
 
-/// Does the job.
-fn tidy(rt: &HostRuntime, job: &Job<'_>) -> Result<(), Stop> {
-    if !job.paths.is_empty() {
-        return tidy_files(rt, job);
+/// What the program takes.
+const HELP: &str =
+    "tidy < FILE        writes a Rust source with the white space between its tokens in order
+tidy PATH ..       puts files in order where they lie, and the .rs files in folders
+tidy --help        writes these lines
+With --check no file is written: those that would change are named, and where there are any the status is 1.
+With --diff no file is written: what would change is shown as a unified diff, and where there is any the status is 1.
+Options stand in any order, each once. Behind -- each word is a path.
+Spaces, tabs and carriage returns before a newline go, of newlines in a row two stay, and the text ends in one newline.
+In comments carriage returns alone go. Nothing else is changed.
+";
+
+/// The whole program: does what its arguments ask for, which begin with its name, tells what stopped it, and answers
+/// its status. `None` says that the arguments could not be had.
+pub fn program(rt: &HostRuntime, args: Option<Args>) -> u8 {
+    match tidy(rt, args) {
+        Ok(()) => 0,
+        Err(stop) => {
+            tell(&mut Watched::new(rt.stderr()), line(&stop));
+            status(&stop)
+        }
     }
+}
+
+/// Does what the arguments ask for.
+fn tidy(rt: &HostRuntime, args: Option<Args>) -> Result<(), Stop> {
+    let Some(args) = args else {
+        return Err(Stop::Memory);
+    };
+    let words = past_name(rt.alloc(), args)?;
+    match read_job(rt.alloc(), words.as_slice())? {
+        Job::Tidy { task, paths } if paths.is_empty() => tidy_input(rt, task),
+        Job::Tidy { task, paths } => tidy_files(rt, task, paths.as_slice()),
+        Job::Help => put(&mut Watched::new(rt.stdout()), HELP),
+    }
+}
+
+/// Does the task with standard input. That it is not in order is said on standard error, or shown by the diff.
+fn tidy_input(rt: &HostRuntime, task: Task) -> Result<(), Stop> {
     let mut input = Watched::new(rt.stdin());
-    match job.task {
-        Task::Write => run(rt.alloc(), &mut input, &mut Watched::new(rt.stdout())),
-        Task::Check => check(rt.alloc(), &mut input),
+    let mut output = Watched::new(rt.stdout());
+    match task {
+        Task::Write => run(rt.alloc(), &mut input, &mut output),
+        Task::Check => {
+            let checked = check(rt.alloc(), &mut input);
+            if checked == Err(Stop::Untidy) {
+                tell(&mut Watched::new(rt.stderr()), "tidy: not in order\n");
+            }
+            checked
+        }
         Task::Diff => match show(rt.alloc(), &mut input)? {
             None => Ok(()),
             Some(diff) => {
-                put(&mut Watched::new(rt.stdout()), diff.as_str())?;
+                put(&mut output, diff.as_str())?;
                 Err(Stop::Untidy)
             }
         },
@@ -43,17 +84,15 @@ fn show_progress(rt: &HostRuntime, done: usize, total: usize) {
 }
 
 /// Puts files in order, or names those that are not. What was passed over, and a line on all, goes to standard error.
-fn tidy_files(rt: &HostRuntime, job: &Job<'_>) -> Result<(), Stop> {
+fn tidy_files(rt: &HostRuntime, task: Task, paths: &[&str]) -> Result<(), Stop> {
     let id = process::id(rt.process());
     let is_terminal = rt.stderr().is_terminal();
-    let tell = |done: usize, total: usize| {
+    let progress = |done: usize, total: usize| {
         if is_terminal {
             show_progress(rt, done, total);
         }
     };
-    let Ok(outcome) = tidy_paths(rt, id, job.task, job.paths.as_slice(), tell) else {
-        return Err(Stop::Memory);
-    };
+    let outcome = tidy_paths(rt, id, task, paths, progress)?;
     // Where a line can't be written to standard error there is nobody to tell.
     for fault in &outcome.faults {
         let _ = eprintln!(rt; "tidy: {fault}");
@@ -61,38 +100,10 @@ fn tidy_files(rt: &HostRuntime, job: &Job<'_>) -> Result<(), Stop> {
     put(&mut Watched::new(rt.stdout()), outcome.shown.as_str())?;
     let changed = outcome.changed;
     let read = outcome.read;
-    if job.task == Task::Write {
+    if task == Task::Write {
         let _ = eprintln!(rt; "tidy: {changed} of {read} files changed");
     } else {
         let _ = eprintln!(rt; "tidy: {changed} of {read} files would change");
     }
-    ending(job.task, &outcome)
-}
-
-/// Says why the program stops, unless that was said or nobody would hear it: the status.
-fn tell(rt: &HostRuntime, stop: Stop, is_told: bool) -> u8 {
-    if !is_told && stop != Stop::ClosedPipe && stop != Stop::Passed {
-        let _ = eprintln!(rt; "tidy: {stop}");
-    }
-    status(&stop)
-}
-
-/// Reads the words of the command line, and does what they ask for: the status.
-pub fn program(rt: &HostRuntime) -> u8 {
-    let Some(words) = read_words(rt) else {
-        return tell(rt, Stop::Memory, false);
-    };
-    match read_job(rt.alloc(), words.as_slice()) {
-        Ok(job) => match tidy(rt, &job) {
-            Ok(()) => 0,
-            Err(stop) => {
-                let is_shown = job.task == Task::Diff || !job.paths.is_empty();
-                tell(rt, stop, stop == Stop::Untidy && is_shown)
-            }
-        },
-        Err(error) => match explain(rt, &error) {
-            Some(status) => status,
-            None => tell(rt, Stop::Memory, false),
-        },
-    }
+    ending(task, &outcome)
 }

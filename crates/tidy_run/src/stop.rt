@@ -1,13 +1,16 @@
 //! Why a run stops.
-ghost use Rattle.std.specs.Prelude.{◌≡◌, Some};
-ghost use Rattle.tidy_run.specs.Stop.{status_of, stop_text};
+ghost use Rattle.std.specs.Prelude.{◌≡◌};
+ghost use Rattle.tidy_run.specs.Stop.{status_of, stop_line};
+ghost use Rattle.tidy_run.specs.declared.stop.Stop.TheVariants.{Memory};
 
-use std::fmt;
+use std::alloc::AllocError;
 
 /// Why a run stops.
 #[derive(Clone, Copy, Debug, PartialEq, Eq)]
 pub enum Stop {
-    /// The input is not in order, where that was asked.
+    /// The words after the program's name are none that it knows.
+    Arguments,
+    /// Something is not in order, where that was asked. It is told or shown already.
     Untidy,
     /// Some file was passed over. It is named already, and all else is done.
     Passed,
@@ -32,6 +35,7 @@ pub fn status(stop: &Stop) -> u8
     match stop {
         Stop::ClosedPipe => 0,
         Stop::Untidy => 1,
+        Stop::Arguments => 2,
         Stop::NotUtf8 | Stop::Passed => 3,
         Stop::TooLong => 4,
         Stop::Memory => 6,
@@ -39,19 +43,26 @@ pub fn status(stop: &Stop) -> u8
     }
 }
 
-impl fmt::Display for Stop {
-    ghost output = { λ stop. Some (stop_text stop) };
+/// The line that tells of it on standard error. What is not in order and what was passed over is told already, and a
+/// closed pipe is met in silence.
+pub fn line(stop: &Stop) -> &'static str
+    ensures { result.now ≡ stop_line stop.now }
+{
+    match stop {
+        Stop::Arguments => "tidy: unknown words; --help tells what it takes\n",
+        Stop::NotUtf8 => "tidy: input is not UTF-8\n",
+        Stop::TooLong => "tidy: input too long\n",
+        Stop::Memory => "tidy: no memory\n",
+        Stop::Read => "tidy: read failed\n",
+        Stop::Write => "tidy: write failed\n",
+        Stop::Untidy | Stop::Passed | Stop::ClosedPipe => "",
+    }
+}
 
-    fn fmt<W: fmt::Write>(&self, f: &mut fmt::Formatter<W>) -> fmt::Result {
-        f.write_str(match self {
-            Stop::Untidy => "not in order",
-            Stop::Passed => "not everything is in order",
-            Stop::NotUtf8 => "input is not UTF-8",
-            Stop::TooLong => "input too long",
-            Stop::Memory => "no memory",
-            Stop::Read => "read failed",
-            Stop::Write => "write failed",
-            Stop::ClosedPipe => "nobody reads the output",
-        })
+impl From<AllocError> for Stop {
+    ghost from_gives = { λ _ stop. stop ≡ Memory };
+
+    fn from(_error: AllocError) -> Stop {
+        Stop::Memory
     }
 }

@@ -37,6 +37,13 @@ pub fn write_bytes<W: Write>(output: &mut Watched<W>, bytes: &[u8]) -> Result<()
     Ok(())
 }
 
+/// Writes what is told of a run, and flushes. Where it can't be written there is nobody to tell.
+///
+/// What goes out is all of the line where the writer does not fail, else a beginning of it.
+pub fn tell<E: Write>(errors: &mut Watched<E>, line: &str) {
+    let _ = write_all(errors, line.as_bytes());
+}
+
 /// Why writing stops where the writer answers an error.
 fn write_stop(error: &Error) -> WriteStop {
     if is_closed(error) {

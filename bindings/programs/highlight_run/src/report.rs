@@ -1,8 +1,7 @@
 //! What is told of a run that stopped, and its status.
 
-use crate::run::put;
 use crate::stop::{Stop, line, status};
-use ends::Watched;
+use ends::{Watched, tell};
 use rattle_std::io::Write;
 
 /// Writes the line of the stop, if any, flushes, and answers the status of the program.
@@ -12,8 +11,7 @@ pub fn report<E: Write>(outcome: &Result<(), Stop>, errors: &mut Watched<E>) -> 
     match outcome {
         Ok(()) => 0,
         Err(stop) => {
-            // Where this line can't be written there is nobody to tell.
-            let _ = put(errors, line(stop).as_bytes());
+            tell(errors, line(stop));
             status(stop)
         }
     }
