@@ -2,6 +2,7 @@
    front of the C library, by tests/refused_memory and tests/program. At the end it writes how many requests there were into the file REFUSE_COUNT. */
 #define _GNU_SOURCE
 #include <dlfcn.h>
+#include <errno.h>
 #include <stdio.h>
 #include <stdlib.h>
 #include <string.h>
@@ -11,8 +12,12 @@ static unsigned long requests;
 static int refused(void)
 {
     const char *number = getenv("REFUSE");
+    int is_due;
     requests++;
-    return number && (strcmp(number, "all") == 0 || strtoul(number, NULL, 10) == requests);
+    is_due = number && (strcmp(number, "all") == 0 || strtoul(number, NULL, 10) == requests);
+    if (is_due)
+        errno = ENOMEM;
+    return is_due;
 }
 
 void *malloc(size_t size)

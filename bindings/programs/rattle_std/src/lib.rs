@@ -2,12 +2,16 @@
 //! contract of its namesake says, and its line here says what that is.
 //!
 //! Lists and texts are those of `ra-ap-rustc_lexer`, and answer where memory is refused. Rust's own calls do not: where
-//! memory is refused to one of them the process is aborted. They are all at the start, before any input is read:
-//! [`env::args`], [`env::var`], and the standard streams, where Rust makes buffers that nothing here uses.
+//! memory is refused to one of them the process is aborted. These are at the start, before any input is read: [`env::args`],
+//! [`env::var`], and the standard streams, where Rust makes buffers that nothing here uses. Those of [`fs`] may be at any
+//! time.
 
 #![deny(missing_docs, unsafe_code)]
 
 pub mod env;
+pub mod fs;
+pub mod io;
+pub mod path;
 pub mod rt;
 
 /// As in Rust.
@@ -22,30 +26,53 @@ pub mod alloc {
     pub struct AllocFailed<T>(pub T);
 }
 
-/// Readers and writers.
-pub mod io {
-    /// A read answers a number of bytes, at most those that there is room for, and they are the next ones; 0 is the end.
-    pub use std::io::Read;
-    /// A write answers how many bytes it took, of the front of those that it was given; an error took none.
-    pub use std::io::Write;
-    /// `ErrorKind::BrokenPipe` says that nobody reads what is written.
-    pub use std::io::{Error, ErrorKind, Result};
-
-    /// What may be a terminal.
-    pub trait IsTerminal {
-        /// Whether it is one. What is closed is none.
-        fn is_terminal(&self) -> bool;
-    }
-}
-
 /// The process.
 pub mod process {
     /// The status with which the process ends.
     pub use std::process::ExitCode;
+
+    /// The number of the process, which no other running one has.
+    pub fn id(_: crate::rt::Process) -> u32 {
+        std::process::id()
+    }
 }
 
 /// What each file of a source in Rattle names without an import.
 pub mod prelude {
     /// A list and a text. The contracts say what their items and bytes are after each call.
     pub use rustc_lexer::support::{String, Vec};
+
+    /// What `main` is handed, and what of it gives memory.
+    pub use crate::rt::{AllocGlobal, HostRuntime};
+
+    /// The texts are those that Rust's macros of the same names write.
+    pub use crate::{eprint, eprintln, format};
+}
+
+/// Writes to standard error. The answer tells whether it was written.
+#[macro_export]
+macro_rules! eprint {
+    ($rt:expr; $($words:tt)*) => {
+        $crate::rt::say(&mut $rt.stderr(), format_args!($($words)*))
+    };
+}
+
+/// Writes a line to standard error. The answer tells whether it was written.
+#[macro_export]
+macro_rules! eprintln {
+    ($rt:expr; $($words:tt)*) => {
+        $crate::rt::say(&mut $rt.stderr(), format_args!("{}\n", format_args!($($words)*)))
+    };
+}
+
+/// A text in new memory, or that it was refused.
+#[macro_export]
+macro_rules! format {
+    (in $alloc:expr; $($words:tt)*) => {{
+        let mut text = $crate::prelude::String::new($alloc);
+        match $crate::fmt::Write::write_fmt(&mut text, format_args!($($words)*)) {
+            Ok(()) => Ok(text),
+            Err(_) => Err($crate::alloc::AllocError),
+        }
+    }};
 }

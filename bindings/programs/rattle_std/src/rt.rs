@@ -10,6 +10,7 @@
 
 use crate::alloc::Global;
 use crate::io::{Error, IsTerminal, Read, Result, Write};
+use std::fmt::{Arguments, Write as _};
 use std::fs::File;
 use std::io::ErrorKind;
 use std::sync::OnceLock;
@@ -57,7 +58,28 @@ extern "C" fn at_start() {
 static AT_START: extern "C" fn() = at_start;
 
 /// What a program may use.
+#[derive(Clone)]
 pub struct HostRuntime(());
+
+/// What gives memory.
+pub trait AllocGlobal {
+    /// The allocator.
+    fn alloc(&self) -> Global;
+}
+
+impl AllocGlobal for HostRuntime {
+    fn alloc(&self) -> Global {
+        Global
+    }
+}
+
+/// What reaches files.
+pub trait Files {}
+
+impl Files for HostRuntime {}
+
+/// The process.
+pub struct Process(());
 
 /// The handle that `main` is passed in Rattle.
 pub fn start() -> HostRuntime {
@@ -68,6 +90,11 @@ impl HostRuntime {
     /// The allocator.
     pub fn alloc(&self) -> Global {
         Global
+    }
+
+    /// The process.
+    pub fn process(&self) -> Process {
+        Process(())
     }
 
     /// Standard input.
@@ -98,13 +125,13 @@ impl Stream {
 
 impl Read for Stream {
     fn read(&mut self, buf: &mut [u8]) -> Result<usize> {
-        self.file()?.read(buf)
+        std::io::Read::read(&mut self.file()?, buf)
     }
 }
 
 impl Write for Stream {
     fn write(&mut self, buf: &[u8]) -> Result<usize> {
-        self.file()?.write(buf)
+        std::io::Write::write(&mut self.file()?, buf)
     }
 
     fn flush(&mut self) -> Result<()> {
@@ -117,5 +144,24 @@ impl IsTerminal for Stream {
         self.0
             .as_ref()
             .is_some_and(std::io::IsTerminal::is_terminal)
+    }
+}
+
+/// Writes a text in pieces, up to the first that can't be written.
+#[doc(hidden)]
+pub fn say(stream: &mut Stream, words: Arguments<'_>) -> Result<()> {
+    Pieces(stream)
+        .write_fmt(words)
+        .map_err(|_| Error::from(ErrorKind::Other))
+}
+
+/// A stream that takes the pieces of a text.
+struct Pieces<'a>(&'a mut Stream);
+
+impl std::fmt::Write for Pieces<'_> {
+    fn write_str(&mut self, piece: &str) -> std::fmt::Result {
+        self.0
+            .write_all(piece.as_bytes())
+            .map_err(|_| std::fmt::Error)
     }
 }

@@ -42,6 +42,49 @@ impl<T> Vec<T> {
     }
 }
 
+/// What only programs take.
+impl<T> Vec<T> {
+    /// Takes the last item; `None` where there is none.
+    pub fn pop(&mut self) -> Option<T> {
+        self.0.pop()
+    }
+
+    /// Of equal items in a row keeps the first.
+    pub fn dedup(&mut self)
+    where
+        T: PartialEq,
+    {
+        self.0.dedup();
+    }
+}
+
+impl Vec<String> {
+    /// Puts the texts in the order of their bytes. In place: Rust's stable sort ends the program where memory is refused,
+    /// and equal texts are one as good as the other.
+    pub fn sort(&mut self) -> Result<(), AllocError> {
+        self.0.sort_unstable();
+        Ok(())
+    }
+}
+
+impl<T> IntoIterator for Vec<T> {
+    type Item = T;
+    type IntoIter = alloc::vec::IntoIter<T>;
+
+    fn into_iter(self) -> alloc::vec::IntoIter<T> {
+        self.0.into_iter()
+    }
+}
+
+impl<'a, T> IntoIterator for &'a Vec<T> {
+    type Item = &'a T;
+    type IntoIter = core::slice::Iter<'a, T>;
+
+    fn into_iter(self) -> core::slice::Iter<'a, T> {
+        self.0.iter()
+    }
+}
+
 impl<T: Copy> Vec<T> {
     /// Appends the items of a slice.
     pub fn extend_from_slice(&mut self, more: &[T]) -> Result<(), AllocError> {
@@ -73,7 +116,7 @@ impl<T> DerefMut for Vec<T> {
 }
 
 /// A text. The contracts are those of `std::string::String` in Rattle: what its bytes are after each call.
-#[derive(Clone, Debug, PartialEq, Eq)]
+#[derive(Clone, Debug, PartialEq, Eq, PartialOrd, Ord)]
 pub struct String(alloc::string::String);
 
 impl String {
@@ -119,14 +162,44 @@ impl String {
     }
 }
 
+/// What only programs take.
+impl String {
+    /// The text of these bytes, or an error where they are none.
+    pub fn from_utf8(bytes: Vec<u8>) -> Result<String, core::str::Utf8Error> {
+        match alloc::string::String::from_utf8(bytes.0) {
+            Ok(text) => Ok(String(text)),
+            Err(error) => Err(error.utf8_error()),
+        }
+    }
+
+    /// Its bytes.
+    pub fn into_bytes(self) -> Vec<u8> {
+        Vec(self.0.into_bytes())
+    }
+
+    /// Appends a text.
+    pub fn push_str(&mut self, text: &str) -> Result<(), AllocError> {
+        self.0.try_reserve(text.len())?;
+        self.0.push_str(text);
+        Ok(())
+    }
+
+    /// Appends what `write!` is given. In Rattle the error of that is the writer's.
+    pub fn write_fmt(&mut self, words: core::fmt::Arguments<'_>) -> Result<(), AllocError> {
+        core::fmt::Write::write_fmt(self, words).map_err(|_| AllocError)
+    }
+}
+
+impl core::fmt::Display for String {
+    fn fmt(&self, f: &mut core::fmt::Formatter<'_>) -> core::fmt::Result {
+        core::fmt::Display::fmt(&self.0, f)
+    }
+}
+
 /// What is written is appended. Where memory is refused nothing is, and that is an error.
 impl core::fmt::Write for String {
     fn write_str(&mut self, text: &str) -> core::fmt::Result {
-        self.0
-            .try_reserve(text.len())
-            .map_err(|_| core::fmt::Error)?;
-        self.0.push_str(text);
-        Ok(())
+        self.push_str(text).map_err(|_| core::fmt::Error)
     }
 }
 

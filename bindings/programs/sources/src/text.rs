@@ -1,0 +1,49 @@
+//! The text of a source.
+use rattle_std::prelude::AllocGlobal;
+
+use rattle_std::prelude::Vec;
+
+use crate::fault::{Fault, Reason};
+use ends::{ReadStop, Watched, read_all};
+use rattle_std::alloc::Global;
+use rattle_std::fs::File;
+use rattle_std::io::Read;
+use rattle_std::rt::Files;
+
+/// The text that these bytes are, of at most `u32::MAX` of them.
+pub fn text_of(bytes: &[u8]) -> Result<&str, Reason> {
+    if bytes.len() > u32::MAX as usize {
+        return Err(Reason::TooLong);
+    }
+    match rattle_std::str::from_utf8(bytes) {
+        Ok(text) => Ok(text),
+        Err(_) => Err(Reason::NotUtf8),
+    }
+}
+
+/// All bytes of an input, of which there are at most `u32::MAX`.
+pub fn read_input<R: Read>(alloc: Global, input: &mut Watched<R>) -> Result<Vec<u8>, Fault> {
+    match read_all(alloc, input) {
+        Ok(bytes) => Ok(bytes),
+        Err(ReadStop::TooLong) => Err(Fault::Source(Reason::TooLong)),
+        Err(ReadStop::Memory) => Err(Fault::Memory),
+        Err(ReadStop::Failed) => Err(Fault::Source(Reason::Read)),
+    }
+}
+
+/// All bytes of a file.
+pub fn read_source<R: Files + AllocGlobal>(rt: &R, path: &str) -> Result<Vec<u8>, Fault> {
+    match File::open(rt, path) {
+        Ok(mut file) => read_file(rt.alloc(), &mut file),
+        Err(error) => Err(Fault::from(error)),
+    }
+}
+
+/// All bytes of an open file.
+fn read_file<R: Read>(alloc: Global, file: &mut R) -> Result<Vec<u8>, Fault> {
+    let mut bytes = Vec::new(alloc);
+    match file.read_to_end(&mut bytes) {
+        Ok(_) => Ok(bytes),
+        Err(error) => Err(Fault::from(error)),
+    }
+}

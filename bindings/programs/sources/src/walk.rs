@@ -1,0 +1,157 @@
+//! The files that a walk of folders finds.
+use rattle_std::prelude::AllocGlobal;
+
+use rattle_std::prelude::String;
+
+use rattle_std::prelude::Vec;
+
+use crate::fault::{PathFault, Reason};
+use rattle_std::alloc::{AllocError, Global};
+use rattle_std::fs;
+use rattle_std::fs::{DirEntry, FileType};
+use rattle_std::io::ErrorKind;
+use rattle_std::path::AsPath;
+use rattle_std::rt::Files;
+
+/// The files that were found, and the paths that could not be read.
+#[derive(Debug)]
+pub struct Found {
+    /// In order, and each once.
+    pub files: Vec<String>,
+    pub faults: Vec<PathFault>,
+}
+
+impl Found {
+    fn new(alloc: Global) -> Found {
+        Found {
+            files: Vec::new(alloc),
+            faults: Vec::new(alloc),
+        }
+    }
+
+    /// Notes that the system refused a path. Where it has no memory, nothing more is done.
+    fn refuse(&mut self, alloc: Global, path: &str, kind: ErrorKind) -> Result<(), AllocError> {
+        if kind == ErrorKind::OutOfMemory {
+            return Err(AllocError);
+        }
+        self.faults.push(PathFault {
+            path: String::from_str(alloc, path)?,
+            reason: Reason::System(kind),
+        })?;
+        Ok(())
+    }
+}
+
+/// The files at these paths: a file itself, whatever its name, and of a folder the Rust sources in it and below it.
+///
+/// A walk passes over hidden names and folders with the name `target`, and follows no symbolic link. A path that
+/// can't be read is a fault, and the rest is found. The one error is that a request for memory was refused.
+pub fn find<R: Files + AllocGlobal + Clone>(rt: &R, paths: &[&str]) -> Result<Found, AllocError> {
+    let mut found = Found::new(rt.alloc());
+    for path in paths {
+        match fs::metadata(rt, *path) {
+            Ok(what) if what.is_dir() => walk_folder(rt, path, &mut found)?,
+            Ok(_) => found.files.push(String::from_str(rt.alloc(), path)?)?,
+            Err(error) => found.refuse(rt.alloc(), path, error.kind())?,
+        }
+    }
+    found.files.sort()?;
+    found.files.dedup();
+    Ok(found)
+}
+
+/// Finds the sources in a folder and below it.
+fn walk_folder<R: Files + AllocGlobal + Clone>(
+    rt: &R,
+    folder: &str,
+    found: &mut Found,
+) -> Result<(), AllocError> {
+    let mut folders = Vec::new(rt.alloc());
+    folders.push(String::from_str(rt.alloc(), folder)?)?;
+    for _ in 0..u64::MAX {
+        let Some(folder) = folders.pop() else {
+            break;
+        };
+        list(rt, folder.as_str(), &mut folders, found)?;
+    }
+    Ok(())
+}
+
+/// Finds the sources in a folder, and the folders in it that are to be walked.
+fn list<R: Files + AllocGlobal + Clone>(
+    rt: &R,
+    folder: &str,
+    folders: &mut Vec<String>,
+    found: &mut Found,
+) -> Result<(), AllocError> {
+    let entries = match fs::read_dir(rt, folder) {
+        Ok(entries) => entries,
+        Err(error) => return found.refuse(rt.alloc(), folder, error.kind()),
+    };
+    for entry in entries {
+        match entry {
+            Ok(entry) => take(rt.alloc(), &entry, folders, found)?,
+            Err(error) => found.refuse(rt.alloc(), folder, error.kind())?,
+        }
+    }
+    Ok(())
+}
+
+/// Takes one entry of a folder: to the sources, to the folders that are to be walked, or to neither.
+fn take<R: Files>(
+    alloc: Global,
+    entry: &DirEntry<R, Global>,
+    folders: &mut Vec<String>,
+    found: &mut Found,
+) -> Result<(), AllocError> {
+    let name = entry.file_name();
+    if !is_source_name(name) && !is_folder_name(name) {
+        return Ok(());
+    }
+    let path = entry.path();
+    match entry.file_type() {
+        Ok(what) => match choice_of(name, &what) {
+            Choice::Folder => folders.push(String::from_str(alloc, path.path_text())?)?,
+            Choice::Source => found
+                .files
+                .push(String::from_str(alloc, path.path_text())?)?,
+            Choice::Neither => {}
+        },
+        Err(error) => found.refuse(alloc, path.path_text(), error.kind())?,
+    }
+    Ok(())
+}
+
+/// What an entry of a folder is taken for.
+#[derive(Clone, Copy, Debug, PartialEq, Eq)]
+enum Choice {
+    Folder,
+    Source,
+    Neither,
+}
+
+/// What an entry with this name and of this type is taken for.
+fn choice_of(name: &str, what: &FileType) -> Choice {
+    if what.is_dir() && is_folder_name(name) {
+        Choice::Folder
+    } else if what.is_file() && is_source_name(name) {
+        Choice::Source
+    } else {
+        Choice::Neither
+    }
+}
+
+/// Whether a file with this name is taken for a Rust source.
+fn is_source_name(name: &str) -> bool {
+    !is_hidden(name) && name.as_bytes().ends_with(b".rs".as_slice())
+}
+
+/// Whether a folder with this name is walked.
+fn is_folder_name(name: &str) -> bool {
+    !is_hidden(name) && name != "target"
+}
+
+/// Whether the name begins with a dot.
+fn is_hidden(name: &str) -> bool {
+    name.as_bytes().starts_with(b".".as_slice())
+}

@@ -1,0 +1,156 @@
+//! White space and tokens in order.
+use rattle_std::prelude::String;
+
+use memchr::memchr;
+use rattle_std::alloc::AllocError;
+use rustc_lexer::erased::{FrontmatterAllowed, LiteralKind, TokenKind, tokenize};
+
+/// Appends the tokens of a text, with the white space in order.
+pub fn push_code(
+    text: &str,
+    allowed: FrontmatterAllowed,
+    output: &mut String,
+) -> Result<(), AllocError> {
+    let mut start = 0;
+    for token in tokenize(text, allowed) {
+        let end = start + token.len as usize;
+        push_part(token.kind, &text[start..end], end == text.len(), output)?;
+        start = end;
+    }
+    Ok(())
+}
+
+/// Appends a token, or, where it is white space, that in order.
+pub fn push_part(
+    kind: TokenKind,
+    part: &str,
+    is_last: bool,
+    output: &mut String,
+) -> Result<(), AllocError> {
+    if !is_space(kind) {
+        push_text(kind, part, output)?;
+        if is_last && !is_open(kind) {
+            output.push_str("\n")?;
+        }
+        return Ok(());
+    }
+    if is_last {
+        return output.push_str("\n");
+    }
+    push_in_order(part, output)
+}
+
+/// Appends the text of a token that is no white space; a comment gets unix line ends.
+fn push_text(kind: TokenKind, text: &str, output: &mut String) -> Result<(), AllocError> {
+    if is_line_comment(kind) {
+        return push_unix(text, true, output);
+    }
+    if is_block_comment(kind) {
+        return push_unix(text, false, output);
+    }
+    output.push_str(text)
+}
+
+/// Whether the token is a line comment.
+fn is_line_comment(kind: TokenKind) -> bool {
+    matches!(kind, TokenKind::LineComment { .. })
+}
+
+/// Whether the token is a block comment that is closed.
+fn is_block_comment(kind: TokenKind) -> bool {
+    matches!(
+        kind,
+        TokenKind::BlockComment {
+            terminated: true,
+            ..
+        }
+    )
+}
+
+/// Appends a text with no carriage return before the end of a line; `is_line` says whether its end is one.
+fn push_unix(text: &str, is_line: bool, output: &mut String) -> Result<(), AllocError> {
+    let mut rest = text;
+    while let Some(at) = memchr(b'\n', rest.as_bytes()) {
+        let end = line_end(rest.as_bytes(), at);
+        output.push_str(&rest[..end])?;
+        output.push('\n')?;
+        rest = &rest[at + 1..];
+    }
+    if !is_line {
+        return output.push_str(rest);
+    }
+    let end = line_end(rest.as_bytes(), rest.len());
+    output.push_str(&rest[..end])
+}
+
+/// Where the carriage returns right before a place begin.
+fn line_end(bytes: &[u8], place: usize) -> usize {
+    let mut end = place;
+    while end > 0 && bytes[end - 1] == b'\r' {
+        end -= 1;
+    }
+    end
+}
+
+/// Whether a newline behind the token would become a part of it: nothing closes it, or it is a frontmatter.
+fn is_open(kind: TokenKind) -> bool {
+    match kind {
+        TokenKind::BlockComment { terminated, .. } => !terminated,
+        TokenKind::Literal { kind, .. } => is_open_literal(kind),
+        TokenKind::Frontmatter { .. } => true,
+        _ => false,
+    }
+}
+
+/// Whether nothing closes the literal.
+fn is_open_literal(kind: LiteralKind) -> bool {
+    match kind {
+        LiteralKind::Char { terminated }
+        | LiteralKind::Byte { terminated }
+        | LiteralKind::Str { terminated }
+        | LiteralKind::ByteStr { terminated }
+        | LiteralKind::CStr { terminated } => !terminated,
+        LiteralKind::RawStr { n_hashes }
+        | LiteralKind::RawByteStr { n_hashes }
+        | LiteralKind::RawCStr { n_hashes } => n_hashes.is_none(),
+        _ => false,
+    }
+}
+
+/// Whether the token is white space.
+pub fn is_space(kind: TokenKind) -> bool {
+    matches!(kind, TokenKind::Whitespace)
+}
+
+/// Appends white space in order: no blank before a newline, and no three newlines in a row.
+fn push_in_order(space: &str, output: &mut String) -> Result<(), AllocError> {
+    let mut rest = space;
+    let mut newlines: usize = 0;
+    while let Some(at) = memchr(b'\n', rest.as_bytes()) {
+        let end = solid_end(rest.as_bytes(), at);
+        if 0 < end {
+            output.push_str(&rest[..end])?;
+            newlines = 0;
+        }
+        if newlines < 2 {
+            output.push('\n')?;
+            newlines += 1;
+        }
+        rest = &rest[at + 1..];
+    }
+    output.push_str(rest)
+}
+
+/// Where the blanks right before a place begin.
+fn solid_end(bytes: &[u8], place: usize) -> usize {
+    let mut end = place;
+    while end > 0 && is_blank(bytes[end - 1]) {
+        end -= 1;
+    }
+    end
+}
+
+/// Space, tab and carriage return.
+pub fn is_blank(byte: u8) -> bool {
+    matches!(byte, b' ' | b'\t' | b'\r')
+}

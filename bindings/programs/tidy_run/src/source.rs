@@ -1,0 +1,71 @@
+//! A source in order, with a frontmatter in front or without.
+use rattle_std::prelude::String;
+
+use crate::order::{is_space, push_code, push_part};
+use rattle_std::alloc::{AllocError, Global};
+use rustc_lexer::erased::{FrontmatterAllowed, Token, TokenKind, tokenize};
+
+/// Appends a source in order.
+pub fn push_source(alloc: Global, text: &str, output: &mut String) -> Result<(), AllocError> {
+    let mut tokens = tokenize(text, FrontmatterAllowed::Yes);
+    let Some(first) = tokens.next() else {
+        return Ok(());
+    };
+    if !is_space(first.kind) {
+        return push_front(alloc, text, output);
+    }
+    let end = first.len as usize;
+    push_part(first.kind, &text[..end], end == text.len(), output)?;
+    push_front(alloc, &text[end..], output)
+}
+
+/// Appends a source in order that begins with no white space. Past a frontmatter it is put in order
+/// only if the frontmatter stays as it is: what ends one that is not closed may stand behind it.
+fn push_front(alloc: Global, text: &str, output: &mut String) -> Result<(), AllocError> {
+    let mut tokens = tokenize(text, FrontmatterAllowed::Yes);
+    let Some(first) = tokens.next() else {
+        return Ok(());
+    };
+    if !is_front(first.kind) {
+        return push_code(text, FrontmatterAllowed::Yes, output);
+    }
+    let end = first.len as usize;
+    let mut made = String::from_str(alloc, &text[..end])?;
+    push_code(&text[end..], FrontmatterAllowed::No, &mut made)?;
+    if begins_with(first, made.as_str()) {
+        output.push_str(made.as_str())
+    } else {
+        output.push_str(text)
+    }
+}
+
+/// Whether the first token of a text is a frontmatter with the faults and the length of this one.
+fn begins_with(front: Token, text: &str) -> bool {
+    let Some(first) = tokenize(text, FrontmatterAllowed::Yes).next() else {
+        return false;
+    };
+    is_same_front(front.kind, first.kind) && first.len == front.len
+}
+
+/// Whether the token is a frontmatter.
+fn is_front(kind: TokenKind) -> bool {
+    matches!(kind, TokenKind::Frontmatter { .. })
+}
+
+/// Whether both are frontmatters with the same faults.
+fn is_same_front(kind: TokenKind, other: TokenKind) -> bool {
+    let TokenKind::Frontmatter {
+        has_invalid_preceding_whitespace,
+        invalid_infostring,
+    } = kind
+    else {
+        return false;
+    };
+    matches!(
+        other,
+        TokenKind::Frontmatter {
+            has_invalid_preceding_whitespace: other_space,
+            invalid_infostring: other_infostring,
+        } if has_invalid_preceding_whitespace == other_space && invalid_infostring == other_infostring
+    )
+}

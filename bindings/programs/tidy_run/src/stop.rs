@@ -1,0 +1,59 @@
+//! Why a run stops.
+
+use rattle_std::alloc::AllocError;
+
+/// Why a run stops.
+#[derive(Clone, Copy, Debug, PartialEq, Eq)]
+pub enum Stop {
+    /// The words after the program's name are none that it knows.
+    Arguments,
+    /// Something is not in order, where that was asked. It is told or shown already.
+    Untidy,
+    /// Some file was passed over. It is named already, and all else is done.
+    Passed,
+    /// The input is not UTF-8.
+    NotUtf8,
+    /// The input has more than `u32::MAX` bytes.
+    TooLong,
+    /// A request for memory was refused.
+    Memory,
+    /// The reader failed.
+    Read,
+    /// The writer failed, or took nothing of what it was given.
+    Write,
+    /// Nobody reads the output any more.
+    ClosedPipe,
+}
+
+/// The status with which the program ends. A closed pipe is no failure.
+pub fn status(stop: &Stop) -> u8 {
+    match stop {
+        Stop::ClosedPipe => 0,
+        Stop::Untidy => 1,
+        Stop::Arguments => 2,
+        Stop::NotUtf8 | Stop::Passed => 3,
+        Stop::TooLong => 4,
+        Stop::Memory => 6,
+        Stop::Read | Stop::Write => 7,
+    }
+}
+
+/// The line that tells of it on standard error. What is not in order and what was passed over is told already, and a
+/// closed pipe is met in silence.
+pub fn line(stop: &Stop) -> &'static str {
+    match stop {
+        Stop::Arguments => "tidy: unknown words; --help tells what it takes\n",
+        Stop::NotUtf8 => "tidy: input is not UTF-8\n",
+        Stop::TooLong => "tidy: input too long\n",
+        Stop::Memory => "tidy: no memory\n",
+        Stop::Read => "tidy: read failed\n",
+        Stop::Write => "tidy: write failed\n",
+        Stop::Untidy | Stop::Passed | Stop::ClosedPipe => "",
+    }
+}
+
+impl From<AllocError> for Stop {
+    fn from(_error: AllocError) -> Stop {
+        Stop::Memory
+    }
+}
