@@ -41,6 +41,12 @@ fn copy(stream: &impl std::os::windows::io::AsHandle) -> Option<File> {
     stream.as_handle().try_clone_to_owned().ok().map(File::from)
 }
 
+/// Elsewhere, such as in a browser, no stream is open.
+#[cfg(not(any(unix, windows)))]
+fn copy<S>(_: &S) -> Option<File> {
+    None
+}
+
 /// Makes the copies.
 #[cfg(unix)]
 extern "C" fn at_start() {
