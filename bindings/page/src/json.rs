@@ -1,0 +1,43 @@
+//! Texts and lists in JSON.
+
+/// Appends a text as JSON writes it.
+pub fn push_text(out: &mut String, text: &str) {
+    out.push('"');
+    for c in text.chars() {
+        match c {
+            '"' | '\\' => out.extend(['\\', c]),
+            '\0'..='\x1f' | '\u{2028}' | '\u{2029}' => {
+                out.push_str(&format!("\\u{:04x}", c as u32))
+            }
+            _ => out.push(c),
+        }
+    }
+    out.push('"');
+}
+
+/// Appends a list, whose items `push` appends.
+pub fn push_list<T>(
+    out: &mut String,
+    items: impl IntoIterator<Item = T>,
+    mut push: impl FnMut(&mut String, T),
+) {
+    out.push('[');
+    for (number, item) in items.into_iter().enumerate() {
+        if number > 0 {
+            out.push(',');
+        }
+        push(out, item);
+    }
+    out.push(']');
+}
+
+/// Appends the name of a field of an object.
+pub fn push_name(out: &mut String, name: &str) {
+    out.push(if out.ends_with('{') || out.is_empty() {
+        ' '
+    } else {
+        ','
+    });
+    push_text(out, name);
+    out.push(':');
+}
