@@ -18,7 +18,7 @@ use Rattle.rustc_lexer.specs.Spans.{bytes}
 use Rattle.rustc_lexer.specs.laws.LanguageFrontmatter.{opens-none}
 use Rattle.rustc_lexer.specs.Spans.{begins}
 use Rattle.rustc_lexer.specs.means.Shebang.{is_passed, is_open_bracket, is_attribute, line_len, shebang_past}
-use Rattle.rustc_lexer.specs.Answers.{shebang}
+use Rattle.rustc_lexer.specs.means.Shebang.{shebang}
 use Rattle.rustc_lexer.specs.Locality.{IsText}
 use Rattle.rustc_lexer.specs.Tokens.{tokens_of}
 use Rattle.rustc_lexer.specs.laws.LanguageIn.{of_page}
