@@ -1,6 +1,7 @@
 /* Calls of the library at its edges: texts that are not UTF-8, empty texts, null, room for no token and for one, a
  * batch that ends before a frontmatter, bad places; the numbers of kinds and the bytes of records; units of literals;
- * and texts under edits, compared with lexing them anew. Exits with 1 at the first check that fails, and says which. */
+ * marked tokens; and texts under edits, compared with lexing them anew. Exits with 1 at the first check that fails, and
+ * says which. */
 #include <stdio.h>
 #include <string.h>
 
@@ -582,6 +583,64 @@ static int check_errors(unescape_call *errors) {
     return 0;
 }
 
+/* What is marked of a text, with so much room. Behind what is written the room keeps its marks. */
+static bool is_marked_as(const char *text, uint32_t style, uint32_t edition, size_t count, const char *wanted) {
+    uint8_t bytes[200];
+    size_t written = 99, len = strlen(wanted);
+    memset(bytes, 0xAA, sizeof bytes);
+    if (rustc_lexer_marks((const uint8_t *)text, strlen(text), style, edition, count, bytes, len, &written) !=
+        RUSTC_LEXER_OK)
+        return false;
+    return written == len && memcmp(bytes, wanted, len) == 0 && bytes[len] == 0xAA;
+}
+
+static int check_marks(void) {
+    static const uint8_t text[] = "a<";
+    uint8_t bytes[8];
+    size_t written = 99;
+    /* a keyword, white space and a number; a symbol that a page reads; a prefix that 2021 has and 2018 has not */
+    CHECK(is_marked_as("as 1", RUSTC_LEXER_STYLE_HTML, 2024, 9,
+                       "<span class=\"keyword\">as</span> <span class=\"number\">1</span>"));
+    CHECK(is_marked_as("as 1", RUSTC_LEXER_STYLE_COLOURS, 2024, 1, "\033[35mas\033[0m"));
+    CHECK(is_marked_as("as 1", RUSTC_LEXER_STYLE_NO_COLOURS, 2024, 2, "as "));
+    CHECK(is_marked_as("a<&b", RUSTC_LEXER_STYLE_HTML, 2015, SIZE_MAX, "a&lt;&amp;b"));
+    CHECK(is_marked_as("a\"\"", RUSTC_LEXER_STYLE_NO_COLOURS, 2021, 1, "a [<- no literal has this prefix]"));
+    CHECK(is_marked_as("a\"\"", RUSTC_LEXER_STYLE_HTML, 2018, 9, "a<span class=\"text\">\"\"</span>"));
+    CHECK(is_marked_as("a", RUSTC_LEXER_STYLE_HTML, 2024, 0, ""));
+    CHECK(is_marked_as("", RUSTC_LEXER_STYLE_HTML, 2024, 1, ""));
+
+    memset(bytes, 0xAA, sizeof bytes);
+    CHECK(rustc_lexer_marks(text, 2, 1, 2024, 9, bytes, 5, &written) == RUSTC_LEXER_OK && written == 5);
+    CHECK(memcmp(bytes, "a&lt;\xaa\xaa\xaa", 8) == 0);
+    /* a byte too small: nothing is written past the room */
+    memset(bytes, 0xAA, sizeof bytes);
+    CHECK(rustc_lexer_marks(text, 2, 1, 2024, 9, bytes, 4, &written) == RUSTC_LEXER_SMALL_ROOM && written == 0);
+    CHECK(memcmp(bytes + 4, "\xaa\xaa\xaa\xaa", 4) == 0);
+    written = 99;
+    CHECK(rustc_lexer_marks(text, 2, 1, 2024, 9, NULL, 0, &written) == RUSTC_LEXER_SMALL_ROOM && written == 0);
+    CHECK(rustc_lexer_marks(NULL, 0, 1, 2024, 9, NULL, 0, &written) == RUSTC_LEXER_OK && written == 0);
+
+    /* what is refused, in its order; the room stays as it was */
+    static const struct {
+        const char *text;
+        uint32_t style, edition, status;
+    } refused[] = {
+        {"\xff", 0, 0, RUSTC_LEXER_NOT_UTF8},
+        {"a", 0, 2022, RUSTC_LEXER_BAD_EDITION},
+        {"a", 1, 2024 + 65536, RUSTC_LEXER_BAD_EDITION},
+        {"a", 0, 2024, RUSTC_LEXER_BAD_STYLE},
+        {"a", 4, 2024, RUSTC_LEXER_BAD_STYLE},
+    };
+    for (size_t i = 0; i < sizeof refused / sizeof refused[0]; i++) {
+        written = 99;
+        memset(bytes, 0xAA, sizeof bytes);
+        CHECK(rustc_lexer_marks((const uint8_t *)refused[i].text, 1, refused[i].style, refused[i].edition, 1, bytes, 8,
+                                &written) == refused[i].status);
+        CHECK(written == 0 && memcmp(bytes, "\xaa\xaa\xaa\xaa\xaa\xaa\xaa\xaa", 8) == 0);
+    }
+    return 0;
+}
+
 int main(void) {
     batch_call *const calls[] = {rustc_lexer_tokens, rustc_lexer_tokens_unchecked};
     CHECK(sizeof(struct rustc_lexer_token) == 12 && sizeof(struct rustc_lexer_relexing) == 7 * sizeof(size_t));
@@ -606,5 +665,5 @@ int main(void) {
     for (uint32_t edition = 2015; edition <= 2024; edition += 3)
         if (check_random_edits(relexes[edition % 2], edition))
             return 1;
-    return check_bad_texts() || check_null() || check_records() || check_others();
+    return check_bad_texts() || check_null() || check_records() || check_others() || check_marks();
 }

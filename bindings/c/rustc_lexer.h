@@ -7,7 +7,7 @@
  *   - no pointer is null, but one whose length is 0 may be;
  *   - `len` bytes can be read at `text`, and nothing writes to them during the call;
  *   - each pointer that is not const points to memory that the caller may write to, that is aligned for its type
- *     and that nothing else uses during the call: `room` to `room_len` tokens or units, the others to one value. What
+ *     and that nothing else uses during the call: `room` to `room_len` tokens, units or bytes, the others to one value. What
  *     is there before the call does not matter, but for `place` and `relexing`;
  *   - `old_len` tokens can be read at `old`, and one value at `edit`. Both pointers are aligned for their types, and
  *     nothing writes to what they point to during the call;
@@ -30,7 +30,7 @@
 extern "C" {
 #endif
 
-/* Statuses. They are judged in the order 2, 1, and then 3 or 4 or 7, or 5 and 6. */
+/* Statuses. They are judged in the order 2, 1, and then 3 or 4 or 7, or 5 and 6, or 5, 8 and 9. */
 enum {
     RUSTC_LEXER_OK = 0,
     RUSTC_LEXER_NOT_UTF8 = 1,  /* the text is not UTF-8 */
@@ -39,7 +39,9 @@ enum {
     RUSTC_LEXER_NOT_RAW = 4,   /* character number prefix_len of the text, counted from 1, is no r */
     RUSTC_LEXER_BAD_EDITION = 5, /* the edition is none of 2015, 2018, 2021 and 2024 */
     RUSTC_LEXER_BAD_EDIT = 6,  /* the edit cannot have made the text, or relexing cannot go on from the numbers */
-    RUSTC_LEXER_BAD_MODE = 7   /* the mode is none of the kinds of literals from RUSTC_LEXER_CHAR on */
+    RUSTC_LEXER_BAD_MODE = 7,  /* the mode is none of the kinds of literals from RUSTC_LEXER_CHAR on */
+    RUSTC_LEXER_BAD_STYLE = 8, /* the style is none of RUSTC_LEXER_STYLE_.. */
+    RUSTC_LEXER_SMALL_ROOM = 9 /* there is more to write than room */
 };
 
 /* Kinds of tokens. No token that is written has the kind 0 or 43. */
@@ -291,6 +293,13 @@ struct rustc_lexer_unit {
     uint32_t value; /* the character, the byte, or the number of what is wrong */
 };
 
+/* Styles of marks. */
+enum {
+    RUSTC_LEXER_STYLE_HTML = 1,      /* by the tags of a page, and entities for what a page would read as its own */
+    RUSTC_LEXER_STYLE_COLOURS = 2,   /* by escape sequences, in the colours of a terminal */
+    RUSTC_LEXER_STYLE_NO_COLOURS = 3 /* by the sentences of faults alone */
+};
+
 /* RUSTC_LEXER_OK for a text that is UTF-8 and short enough, else the status that the other calls have for it. */
 uint32_t rustc_lexer_check(const uint8_t *text, size_t len);
 
@@ -412,6 +421,19 @@ uint32_t rustc_lexer_literal_errors(const uint8_t *text, size_t len, uint32_t mo
                                     struct rustc_lexer_unit *room, size_t room_len, size_t *count);
 uint32_t rustc_lexer_literal_errors_unchecked(const uint8_t *text, size_t len, uint32_t mode, size_t passed,
                                               struct rustc_lexer_unit *room, size_t room_len, size_t *count);
+
+/* Writes the first `count` tokens of the text, or all where it has fewer, each between its marks, into the room, and the
+ * number of bytes into `written`. The marks tell the class of a token and a sentence of what is wrong with it; in a
+ * literal they tell its escapes. The text is read as a part of a document in an edition, such as 2024, with no frontmatter
+ * and no shebang line. What is written is UTF-8, with no zero behind it. Behind it the room stays as it was.
+ *
+ * A token depends on nothing before it and on two characters past its end at most. So the caller may pass what is seen of
+ * a text from the start of a token on, with two characters more.
+ *
+ * With RUSTC_LEXER_SMALL_ROOM any bytes may stand in the room, and the call is to be made again with more. With any other
+ * status than 0 the room stays as it was. With each of these `written` is 0. */
+uint32_t rustc_lexer_marks(const uint8_t *text, size_t len, uint32_t style, uint32_t edition, size_t count,
+                           uint8_t *room, size_t room_len, size_t *written);
 
 /* Writes 1 where the text is an identifier, else 0. */
 uint32_t rustc_lexer_is_ident(const uint8_t *text, size_t len, uint32_t *is);

@@ -1,6 +1,8 @@
 pub mod Batch
 pub mod Escapes
+pub mod Marks
 pub mod Numbers
 pub mod RawStr
 pub mod Relex
+pub mod Room
 pub mod Status

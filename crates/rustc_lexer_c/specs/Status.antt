@@ -4,7 +4,7 @@ use Rattle.std.specs.Str.{IsUtf8, IsCharBoundary}
 use Rattle.rustc_lexer.specs.LanguageCalls.{StartsRaw}
 use Rattle.rustc_lexer.specs.Locality.{IsText}
 use Rattle.rustc_lexer_c.specs.declared.status.Refusal.{Refusal}
-use Rattle.rustc_lexer_c.specs.declared.status.Refusal.TheVariants.{NotUtf8, TooLong, BadPlace, NotRaw, BadEdition, BadEdit, BadMode}
+use Rattle.rustc_lexer_c.specs.declared.status.Refusal.TheVariants.{NotUtf8, TooLong, BadPlace, NotRaw, BadEdition, BadEdit, BadMode, BadStyle, SmallRoom}
 
 abbrev pub refusal_number : Refusal → ℕ
 refusal_number NotUtf8 = 1
@@ -14,6 +14,8 @@ refusal_number NotRaw = 4
 refusal_number BadEdition = 5
 refusal_number BadEdit = 6
 refusal_number BadMode = 7
+refusal_number BadStyle = 8
+refusal_number SmallRoom = 9
 
 -- why bytes are no text that can be lexed; their length is looked at first
 abbrev pub IsNoText : List ℕ → Refusal → Type 0

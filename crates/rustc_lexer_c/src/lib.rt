@@ -1,5 +1,5 @@
-//! The lexer for C, and for whatever can call C: a static library over `rustc_lexer`
-//! and `rustc_literal_escaper`.
+//! The lexer for C, and for whatever can call C: a static library over `rustc_lexer`,
+//! `rustc_literal_escaper` and `marks`.
 //!
 //! A text comes as a pointer and a length, tokens go into the caller's room, and nothing takes memory. Nothing
 //! checks what C passes, so each call tests its text and answers a status; only the calls with `_unchecked` ask
@@ -10,8 +10,10 @@ pub mod abi;
 pub mod batch;
 pub mod classes;
 pub mod escapes;
+pub mod marked;
 pub mod places;
 pub mod raw_str;
 pub mod relex;
+mod room;
 pub mod status;
 pub mod token;

@@ -150,7 +150,7 @@ fn relex(
 }
 
 /// The edition of a year.
-fn edition_of(year: u32) -> Option<Edition>
+pub(crate) fn edition_of(year: u32) -> Option<Edition>
     ensures { result ≡ edition_of_year year }
 {
     Edition::try_from(u16::try_from(year).ok()?).ok()

@@ -7,7 +7,7 @@ ghost use Rattle.rustc_lexer_c.specs.Status as spec;
 /// The status of a call that was done.
 pub(crate) const OK: u32 = 0;
 
-/// Why a call is refused. It then changes nothing.
+/// Why a call is refused. It then changes nothing, but where that is said.
 #[derive(Clone, Copy)]
 pub(crate) enum Refusal {
     /// The bytes are not UTF-8.
@@ -24,6 +24,10 @@ pub(crate) enum Refusal {
     BadEdit,
     /// No literal has the mode.
     BadMode,
+    /// No style has the number.
+    BadStyle,
+    /// There is more to write than room. What the room has then is not promised.
+    SmallRoom,
 }
 
 impl Refusal {
@@ -39,6 +43,8 @@ impl Refusal {
             Refusal::BadEdition => 5,
             Refusal::BadEdit => 6,
             Refusal::BadMode => 7,
+            Refusal::BadStyle => 8,
+            Refusal::SmallRoom => 9,
         }
     }
 }

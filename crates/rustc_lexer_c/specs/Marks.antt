@@ -1,0 +1,30 @@
+-- Marked tokens from C: the styles by their numbers, and the status of the call.
+use Rattle.std.specs.Prelude.{ℕ, ◌≡◌, ◌≤◌, ◌<◌, ◌^◌, ◌⊎◌, nat_eq, if◌then◌else◌, List, length, take, drop, Option, Some, None}
+use Rattle.std.specs.Str.{IsUtf8}
+use Rattle.rustc_lexer.specs.declared.edition.Edition.{Edition}
+use Rattle.rustc_lexer.specs.LanguageIn.{edition_of_year}
+use Rattle.rustc_lexer.specs.Locality.{IsText}
+use Rattle.marks.specs.declared.style.Style.{Style}
+use Rattle.marks.specs.declared.style.Style.TheVariants.{Html, Colours, NoColours}
+
+-- the style of a number. The numbers are fixed: a new style gets a new one
+abbrev pub style_of : ℕ → Option Style
+style_of number =
+    if nat_eq number 1 then Some Html
+    else if nat_eq number 2 then Some Colours
+    else if nat_eq number 3 then Some NoColours
+    else None
+
+-- the bytes stand at the front of the room, and behind them it is as before
+pub record IsFront (bytes room filled : List ℕ) (written : ℕ) : Type 0 where
+  pub within : written ≤ length filled
+  pub front : take written filled ≡ bytes
+  pub rest : drop written filled ≡ drop written room
+
+-- the status of a call that takes a text, a style and a year, and has room of which nothing is said
+pub record IsMarksStatus (bytes : List ℕ) (style year : ℕ) (status : ℕ) : Type 0 where
+  pub ok : IsText bytes → (edition : Edition) → edition_of_year year ≡ Some edition → (kind : Style) → style_of style ≡ Some kind → (status ≡ 0) ⊎ (status ≡ 9)
+  pub not_utf8 : length bytes < 2 ^ 32 → ¬ (IsUtf8 bytes) → status ≡ 1
+  pub too_long : 2 ^ 32 ≤ length bytes → status ≡ 2
+  pub bad_edition : IsText bytes → edition_of_year year ≡ None → status ≡ 5
+  pub bad_style : IsText bytes → (edition : Edition) → edition_of_year year ≡ Some edition → style_of style ≡ None → status ≡ 8

@@ -1,0 +1,81 @@
+//! The tokens of a text between marks.
+ghost use Rattle.std.specs.Prelude.{◌≡◌, ◌≢◌, ◌≤◌, Some, true, length, take, drop};
+ghost use Rattle.rustc_lexer.specs.declared.edition.Edition.{Edition};
+ghost use Rattle.rustc_lexer.specs.Classes.{Fits};
+ghost use Rattle.rustc_lexer.specs.LanguageIn.{edition_of_year};
+ghost use Rattle.rustc_lexer.specs.LanguageText.{part};
+ghost use Rattle.rustc_lexer.specs.Tokens.{tokens_of};
+ghost use Rattle.marks.specs.declared.style.Style.{Style};
+ghost use Rattle.marks.specs.Marked.{marked_tokens};
+ghost use Rattle.rustc_lexer_c.specs.Marks as spec;
+
+use crate::relex::edition_of;
+use crate::room::Room;
+use crate::status::{OK, Refusal, text_of};
+use marks::{Style, write_first_tokens};
+use rustc_lexer::Edition;
+
+/// Writes the first `count` tokens of a text in an edition, each between the marks of a style, at the front of the room,
+/// or all where it has fewer, and the number of bytes into `written`.
+///
+/// Where the room is too small, `written` is 0, and what the room has is not promised.
+#[unsafe(no_mangle)]
+pub extern "C" fn rustc_lexer_marks(
+    text: &[u8],
+    style: u32,
+    edition: u32,
+    count: usize,
+    room: &mut [u8],
+    written: &mut usize,
+) -> u32
+    ensures status { spec.IsMarksStatus text.now style edition result }
+    ensures marks { result ≡ 0 → (kind : Style) → spec.style_of style ≡ Some kind
+        → (year : Edition) → edition_of_year edition ≡ Some year
+        → spec.IsFront (marked_tokens kind text.now (take count (tokens_of (part year) text.now)))
+        room.old room.new written.new }
+    ensures refused { result ≢ 0 → written.new ≡ 0 }
+    ensures same { result ≢ 0 → result ≢ 9 → room.new ≡ room.old }
+{
+    *written = 0;
+    let text = match text_of(text) {
+        Ok(text) => text,
+        Err(refusal) => return refusal.number(),
+    };
+    let Some(edition) = edition_of(edition) else {
+        return Refusal::BadEdition.number();
+    };
+    let Some(style) = style_of(style) else {
+        return Refusal::BadStyle.number();
+    };
+    let mut output = Room::new(room);
+    if !fill(style, edition, count, text, &mut output) {
+        return Refusal::SmallRoom.number();
+    }
+    *written = output.len;
+    OK
+}
+
+/// The style of a number.
+fn style_of(number: u32) -> Option<Style>
+    ensures { result ≡ spec.style_of number }
+{
+    match number {
+        1 => Some(Style::Html),
+        2 => Some(Style::Colours),
+        3 => Some(Style::NoColours),
+        _ => None,
+    }
+}
+
+/// Writes marked tokens into room of which nothing is written, and answers whether there was enough.
+fn fill(style: Style, edition: Edition, count: usize, text: &str, output: &mut Room<'_>) -> bool
+    requires fits { Fits text.now }
+    requires none { output.old.len ≡ 0 }
+    ensures same_reference { result ≡ true
+        → output.new.bytes.ghost_name ≡ output.old.bytes.ghost_name }
+    ensures front { result ≡ true
+        → spec.IsFront (marked_tokens style text.now (take count (tokens_of (part edition) text.now)))
+        output.old.bytes.now output.new.bytes.now output.new.len }
+{
+    write_first_tokens(style, edition, count, text, output).is_ok()
+}

@@ -1,0 +1,38 @@
+//! Room of a caller's, which is written from its front on.
+ghost use Rattle.std.specs.Prelude.{◌≡◌};
+ghost use Rattle.rustc_lexer_c.specs.Room.{Appends};
+
+use std::fmt;
+
+/// Room of a caller's, of which the first `len` bytes are written.
+#[derive(Drop)]
+pub(crate) struct Room<'a> {
+    pub(crate) bytes: &'a mut [u8],
+    pub(crate) len: usize,
+}
+
+impl<'a> Room<'a> {
+    /// Room of which nothing is written.
+    pub(crate) fn new(bytes: &'a mut [u8]) -> Room<'a>
+        ensures same_reference { result.bytes.ghost_name ≡ bytes.entry.ghost_name }
+        ensures value { result.bytes.now ≡ bytes.old }
+        ensures none { result.len ≡ 0 }
+    {
+        Room { bytes, len: 0 }
+    }
+}
+
+impl<'a> fmt::Write for Room<'a> {
+    ghost write_str_gives = { Appends };
+
+    fn write_str(&mut self, s: &str) -> fmt::Result {
+        let bytes = s.as_bytes();
+        if self.len > self.bytes.len() || bytes.len() > self.bytes.len() - self.len {
+            return Err(fmt::Error);
+        }
+        let end = self.len + bytes.len();
+        self.bytes[self.len..end].copy_from_slice(bytes);
+        self.len = end;
+        Ok(())
+    }
+}
