@@ -1,6 +1,6 @@
 //! What a token is to a reader, which decides its colour.
 
-use rustc_lexer::{LiteralKind, TokenKind};
+use rustc_lexer::erased::{LiteralKind, TokenKind};
 
 /// What a token is to a reader.
 #[derive(Clone, Copy, Debug, PartialEq, Eq)]

@@ -1,8 +1,8 @@
 //! What is wrong with a token.
 
 use core::fmt;
-use rustc_lexer::{LiteralKind, RawStrError, TokenKind, starts_raw, validate_raw_str};
-use rustc_literal_escaper::EscapeError;
+use rustc_lexer::erased::{LiteralKind, RawStrError, TokenKind, starts_raw, validate_raw_str};
+use rustc_literal_escaper::erased::EscapeError;
 
 /// What is wrong with a token. Its `Display` is a sentence that says so.
 #[derive(Clone, Copy, Debug, PartialEq, Eq)]

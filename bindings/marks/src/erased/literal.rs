@@ -6,8 +6,10 @@ use crate::erased::part::{write_in_class, write_with_fault};
 use crate::erased::style::Style;
 use core::fmt;
 use memchr::{memchr, memrchr};
-use rustc_lexer::{LiteralKind, TokenKind};
-use rustc_literal_escaper::{Element, Elements, EscapeError, Mode, unescape_byte, unescape_char};
+use rustc_lexer::erased::{LiteralKind, TokenKind};
+use rustc_literal_escaper::erased::{
+    Element, Elements, EscapeError, Mode, unescape_byte, unescape_char,
+};
 
 /// How a stretch of a literal looks that is not plain.
 #[derive(Clone, Copy, Debug, PartialEq, Eq)]

@@ -6,7 +6,7 @@ use crate::erased::literal::{mode_of, write_literal};
 use crate::erased::part::{write_in_class, write_with_fault};
 use crate::erased::style::Style;
 use core::fmt;
-use rustc_lexer::{
+use rustc_lexer::erased::{
     Edition, FrontmatterAllowed, TokenKind, strip_shebang, tokenize_as, tokenize_in,
 };
 
