@@ -44,6 +44,7 @@ pub mod RelexBlockLemmas
 pub mod RelexingLemmas
 pub mod RenewedLemmas
 pub mod RunLemmas
+pub mod SearchLemmas
 pub mod SettledLemmas
 pub mod ShebangLemmas
 pub mod ShortCharLemmas

@@ -13,7 +13,7 @@ use crate::classes::{is_horizontal_whitespace, is_id_continue, is_id_start, is_w
 use crate::lexemes::lexeme;
 use crate::scan::{eat_while, eat_whitespace, next_is, split_first};
 use crate::token::{FrontmatterAllowed, Token, TokenKind};
-use memchr::{memchr, memmem};
+use memchr::memchr;
 
 /// A fence has at least so many dashes.
 const MIN_DASHES: usize = 3;
@@ -120,16 +120,16 @@ fn recovery(rest: &[u8]) -> usize
     ensures end { result ≡ spec.recovery rest.now }
     ensures inside { result ≤ length rest.now }
 {
-    if let Some(place) = find(rest, b"\n---") {
+    if let Some(place) = find(rest, b"\n---", 1) {
         return line_end(rest, place + 1);
     }
-    if let Some(place) = find(rest, b"\nuse ") {
+    if let Some(place) = find(rest, b"\nuse ", 0) {
         return place;
     }
-    if let Some(place) = find(rest, b"\n//!") {
+    if let Some(place) = find(rest, b"\n//!", 3) {
         return place;
     }
-    if let Some(place) = find(rest, b"\n#![") {
+    if let Some(place) = find(rest, b"\n#![", 2) {
         return place;
     }
     match find_lone_dashes(rest) {
@@ -174,7 +174,7 @@ fn find_lone_dashes(rest: &[u8]) -> Option<usize>
     ensures inside { IfSome result (λ place. place < length rest.now) }
 {
     let mut end = 0;
-    'places: while let Some(step) = find(&rest[end..], b"---") {
+    'places: while let Some(step) = find(&rest[end..], b"---", 0) {
         let place = end + step;
         if stands_alone(rest, end, place) {
             return Some(place);
@@ -217,11 +217,23 @@ fn line_end(rest: &[u8], place: usize) -> usize
     }
 }
 
-/// The first place where the pattern stands.
-fn find(rest: &[u8], pattern: &[u8]) -> Option<usize>
-    requires { 0 < length pattern.now }
+/// The first place where the pattern stands. Its byte `rare`, one that texts have few of, is looked for: no searcher has
+/// to be made, which would reach the heap.
+fn find(rest: &[u8], pattern: &[u8], rare: usize) -> Option<usize>
+    requires { rare < length pattern.now }
     ensures place { result ≡ spec.first pattern.now rest.now }
     ensures inside { IfSome result (λ place. place + length pattern.now ≤ length rest.now) }
 {
-    memmem::find(rest, pattern)
+    if rest.len() < pattern.len() {
+        return None;
+    }
+    let mut from = rare;
+    'places: while let Some(step) = memchr(pattern[rare], &rest[from..]) {
+        let place = from + step - rare;
+        if rest[place..].starts_with(pattern) {
+            return Some(place);
+        }
+        from += step + 1;
+    }
+    None
 }

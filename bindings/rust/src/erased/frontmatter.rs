@@ -6,7 +6,7 @@ use crate::erased::classes::{
 use crate::erased::lexemes::lexeme;
 use crate::erased::scan::{eat_while, eat_whitespace, next_is, split_first};
 use crate::erased::token::{FrontmatterAllowed, Token, TokenKind};
-use memchr::{memchr, memmem};
+use memchr::memchr;
 
 /// A fence has at least so many dashes.
 const MIN_DASHES: usize = 3;
@@ -83,16 +83,16 @@ fn closing_end(rest: &[u8], n_dashes: usize) -> usize {
 
 /// Where a frontmatter ends that no line of so many dashes closes: at the best guess of where Rust begins.
 fn recovery(rest: &[u8]) -> usize {
-    if let Some(place) = find(rest, b"\n---") {
+    if let Some(place) = find(rest, b"\n---", 1) {
         return line_end(rest, place + 1);
     }
-    if let Some(place) = find(rest, b"\nuse ") {
+    if let Some(place) = find(rest, b"\nuse ", 0) {
         return place;
     }
-    if let Some(place) = find(rest, b"\n//!") {
+    if let Some(place) = find(rest, b"\n//!", 3) {
         return place;
     }
-    if let Some(place) = find(rest, b"\n#![") {
+    if let Some(place) = find(rest, b"\n#![", 2) {
         return place;
     }
     match find_lone_dashes(rest) {
@@ -127,7 +127,7 @@ fn dashes_end(rest: &[u8], from: usize) -> usize {
 /// The first place of three dashes with only blanks before them: on their line, and past the dashes before.
 fn find_lone_dashes(rest: &[u8]) -> Option<usize> {
     let mut end = 0;
-    while let Some(step) = find(&rest[end..], b"---") {
+    while let Some(step) = find(&rest[end..], b"---", 0) {
         let place = end + step;
         if stands_alone(rest, end, place) {
             return Some(place);
@@ -159,7 +159,19 @@ fn line_end(rest: &[u8], place: usize) -> usize {
     }
 }
 
-/// The first place where the pattern stands.
-fn find(rest: &[u8], pattern: &[u8]) -> Option<usize> {
-    memmem::find(rest, pattern)
+/// The first place where the pattern stands. Its byte `rare`, one that texts have few of, is looked for: no searcher has
+/// to be made, which would reach the heap.
+fn find(rest: &[u8], pattern: &[u8], rare: usize) -> Option<usize> {
+    if rest.len() < pattern.len() {
+        return None;
+    }
+    let mut from = rare;
+    while let Some(step) = memchr(pattern[rare], &rest[from..]) {
+        let place = from + step - rare;
+        if rest[place..].starts_with(pattern) {
+            return Some(place);
+        }
+        from += step + 1;
+    }
+    None
 }

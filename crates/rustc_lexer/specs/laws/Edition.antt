@@ -28,7 +28,6 @@ use Rattle.rustc_lexer.specs.Locality.{IsGrammar, AgreePast}
 use Rattle.rustc_lexer.specs.laws.Choice.{by_test, EachArm, by_arm, at_char}
 use Rattle.rustc_lexer.specs.laws.Family.{EachFamily, each_family}
 use Rattle.rustc_lexer.specs.laws.Lifetime.{unquoted_name, quoted_name, name_of, name_local, quoted_name_at, is_raw_told, raw, is_character_told}
-
 use Rattle.rustc_lexer.specs.laws.Lookahead.{first_token_grammar, families_local, LooksAtTwo}
 use Rattle.rustc_lexer.specs.laws.Quoted.{char_local}
 use Rattle.rustc_lexer.specs.laws.Reach.{begins-told, either_at, first_local, gives_local, read_as_at, wider, and_then_local}

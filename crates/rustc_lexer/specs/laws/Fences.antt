@@ -63,13 +63,13 @@ reads-begins (c ∷ cs) (d ∷ s) r =
     rw (head, reads-begins cs s rest) refl
 
 module _ (hay pattern : List ℕ) (some : 0 < length pattern) where
-  occurs-begins : (k : ℕ) → OccursAt hay pattern k → begins pattern (drop k hay) ≡ true
+  pub occurs-begins : (k : ℕ) → OccursAt hay pattern k → begins pattern (drop k hay) ≡ true
   occurs-begins k at = reads-begins pattern (drop k hay) record {
     long = let f = at.fits in omega (arith, length-drop k hay);
     same = λ j l. get_or-drop k hay j 0 ∙ at.reads j l;
   }
 
-  begins-occurs : (k : ℕ) → begins pattern (drop k hay) ≡ true → OccursAt hay pattern k
+  pub begins-occurs : (k : ℕ) → begins pattern (drop k hay) ≡ true → OccursAt hay pattern k
   begins-occurs k e =
       let r = begins-reads pattern (drop k hay) e in
       record { fits = let l = r.long in omega (arith, length-drop k hay); reads = λ j l. sym (get_or-drop k hay j 0) ∙ r.same j l }

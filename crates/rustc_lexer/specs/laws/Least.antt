@@ -1,5 +1,5 @@
 -- The least place at which a test passes.
-use Rattle.std.proofs.Common.{◌≡◌, ℕ, zero, suc, Bool, true, false, List, [], ◌∷◌, Option, Some, None, refl, ap, arith}
+use Rattle.std.proofs.Common.{◌≡◌, ℕ, suc, Bool, true, false, List, ◌∷◌, Option, Some, None, refl, ap, arith}
 use Rattle.rustc_lexer.specs.means.Least.{one_more, more}
 use Rattle.rustc_lexer.specs.means.Raw.{least_place}
 

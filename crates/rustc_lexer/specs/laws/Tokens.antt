@@ -149,4 +149,3 @@ partitions text mode is = record {
   boundaries = λ k le. let b = bounds text mode is k in IsCharBoundary-from_take text _ is.utf8 b.inside b.front;
   whole = (covered text mode is).1;
 }
-

@@ -1,0 +1,87 @@
+-- A pattern, looked for at the places of one of its bytes.
+use Rattle.std.proofs.Common.{◌≡◌, ℕ, ◌+◌, ◌-◌, ◌<◌, ◌≤◌, ◌==◌, Bool, true, false, true≢false, inl, inr, List, [], ◌∷◌, ◌++◌, length, drop, get_or, refl, sym, ap, ◌∙◌, subst, arith, Some, None, length-drop}
+use Rattle.std.proofs.lemmas.Bool.{and_parts, cases_lt, eq-eqb, eqb-true}
+use Rattle.std.proofs.lemmas.Bool.Decides.{Decides-eqb}
+use Rattle.std.proofs.lemmas.List.{get_or-drop}
+use Rattle.std.proofs.lemmas.Slice.Eq.{starts_is}
+use Rattle.std.specs.List.{starts_with}
+use Rattle.memchr.specs.Find.{IsFirstByte, OccursAt, is_byte}
+use Rattle.rustc_lexer.specs.means.Frontmatter.{first}
+use Rattle.rustc_lexer.specs.means.Scan.{begins}
+use Rattle.rustc_lexer.specs.laws.Fences.{begins-occurs, found-first, occurs-begins}
+
+begins-front : (pattern rest : List ℕ) → begins pattern (pattern ++ rest) ≡ true
+begins-front [] rest = refl
+begins-front (c ∷ cs) rest = rw (eq-eqb c c refl, begins-front cs rest) refl
+
+begins-whole : (pattern text : List ℕ) → begins pattern text ≡ true → text ≡ pattern ++ drop (length pattern) text
+begins-whole [] text e = refl
+begins-whole (c ∷ cs) [] e = absurd (true≢false (sym e))
+begins-whole (c ∷ cs) (d ∷ text) e =
+    let parts = and_parts (d == c) (begins cs text) e in
+    ap (λ x. x ∷ text) (eqb-true d c parts.0) ∙ ap (λ xs. c ∷ xs) (begins-whole cs text parts.1)
+
+-- that byte was looked for below `from`, and the pattern stands nowhere around such a place
+pub record IsPast (pattern rest : List ℕ) (rare from : ℕ) : Type 0 where
+  pub low : rare ≤ from
+  pub inside : from ≤ length rest
+  pub none : (k : ℕ) → k + rare < from → OccursAt rest pattern k → ⊥
+
+pub past_none : (pattern rest : List ℕ) (rare : ℕ) → rare < length pattern → length pattern ≤ length rest → IsPast pattern rest rare rare
+past_none pattern rest rare within enough = record { low = omega arith; inside = omega arith; none = λ k l occurs. absurd (omega arith) }
+
+-- a text that is shorter has no place for it
+pub too_short : (pattern rest : List ℕ) (rare : ℕ) → rare < length pattern → length rest < length pattern → None ≡ first pattern rest
+too_short pattern rest rare within short = found-first rest pattern (omega arith) None (λ k low high occurs. let f = occurs.fits in omega arith)
+
+module _ (pattern rest cut : List ℕ) (rare from : ℕ) (within : rare < length pattern) (at : IsPast pattern rest rare from) (e : cut ≡ drop from rest) where
+  some : 0 < length pattern
+  some = omega arith
+
+  -- the byte stands where it does
+  reads : (k : ℕ) → from ≤ k + rare → OccursAt rest pattern k → get_or cut (k + rare - from) 0 ≡ get_or pattern rare 0
+  reads k le occurs =
+      ap (λ xs. get_or xs (k + rare - from) 0) e ∙ (get_or-drop from rest (k + rare - from) 0
+      ∙ (ap (λ i. get_or rest i 0) (let same : from + (k + rare - from) ≡ k + rare = omega arith in same) ∙ occurs.reads rare within))
+
+  long : length cut ≡ length rest - from
+  long = ap length e ∙ length-drop from rest
+
+  pub past_end : IsFirstByte (is_byte (get_or pattern rare 0)) cut None → None ≡ first pattern rest
+  past_end none = found-first rest pattern some None (λ k low high occurs. elim (cases_lt (k + rare) from) [
+    | inl less ↦ at.none k less occurs
+    | inr more ↦ none (k + rare - from) (omega arith) (let f = occurs.fits in omega (arith, long)) (eq-eqb _ _ (reads k more occurs))
+  ])
+
+  -- the byte stands `step` bytes on
+  module _ (step : ℕ) (here : IsFirstByte (is_byte (get_or pattern rare 0)) cut (Some step)) where
+    before : (k : ℕ) → k + rare < from + step → OccursAt rest pattern k → ⊥
+    before k l occurs = elim (cases_lt (k + rare) from) [
+      | inl less ↦ at.none k less occurs
+      | inr more ↦ here.0.before (k + rare - from) (omega arith) (omega arith) (eq-eqb _ _ (reads k more occurs))
+    ]
+
+    inside : from + step < length rest
+    inside = let h = here.0.high in let i = at.inside in omega (arith, long)
+
+    module _ (tail : List ℕ) (left : tail ≡ drop (from + step - rare) rest) (answer : Bool) (is : answer ≡ starts_with (λ x y. x == y) tail pattern) where
+      pub past_found : answer ≡ true → Some (from + step - rare) ≡ first pattern rest
+      past_found so =
+          let whole = (starts_is Decides-eqb tail pattern answer is).0 so in
+          let occurs = begins-occurs rest pattern some (from + step - rare) (ap (begins pattern) (sym left ∙ whole) ∙ begins-front pattern _) in
+          let low = at.low in
+          found-first rest pattern some (Some (from + step - rare)) (record { low = omega arith; high = let i = inside in omega arith; before = λ k zero_le l. before k (omega arith) }, occurs)
+
+      pub past_on : answer ≡ false → IsPast pattern rest rare (from + (step + 1))
+      past_on fails = record {
+        low = let l = at.low in omega arith;
+        inside = let i = inside in omega arith;
+        none = λ k l occurs. elim (cases_lt (k + rare) (from + step)) [
+          | inl less ↦ before k less occurs
+          | inr more ↦
+              let same : k ≡ from + step - rare = omega arith in
+              let here_too = subst (OccursAt rest pattern) same occurs in
+              let whole = begins-whole pattern tail (ap (begins pattern) left ∙ occurs-begins rest pattern some (from + step - rare) here_too) in
+              absurd (true≢false (sym ((starts_is Decides-eqb tail pattern answer is).1 _ whole) ∙ fails))
+        ];
+      }
