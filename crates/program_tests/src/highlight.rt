@@ -1,5 +1,5 @@
 //! Tests of `highlight`.
 mod jobs;
-mod marks;
 mod program;
 mod runs;
+mod written;
