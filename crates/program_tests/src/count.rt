@@ -70,16 +70,24 @@ fn texts(rt: HostRuntime) {
 /// What words ask for: the numbers of files, JSON, and the paths.
 type Asked<'a> = (bool, bool, &'a [&'a str]);
 
-/// Whether this is what the words ask for; `None` stands for bad words.
+/// Whether this is the job that is wanted; `None` stands for bad words.
+fn is_wanted(job: &Result<Job<'_>, Stop>, want: Option<Asked<'_>>) -> bool {
+    match job {
+        Ok(Job::Count { layout, paths }) => match want {
+            Some((by_file, json, list)) => {
+                *layout == Layout { by_file, json } && paths.as_slice() == list
+            }
+            None => false,
+        },
+        Ok(Job::Help) => false,
+        Err(stop) => want.is_none() && *stop == Stop::Arguments,
+    }
+}
+
+/// Whether this is what the words ask for.
 fn ask_for(alloc: Global, texts: &[&str], want: Option<Asked<'_>>) -> Result<bool, AllocError> {
     let words = words_of(alloc, texts)?;
-    Ok(match (read_job(alloc, words.as_slice()), want) {
-        (Ok(Job::Count { layout, paths }), Some((by_file, json, want))) => {
-            layout == Layout { by_file, json } && paths.as_slice() == want
-        }
-        (Err(stop), None) => stop == Stop::Arguments,
-        _ => false,
-    })
+    Ok(is_wanted(&read_job(alloc, words.as_slice()), want))
 }
 
 #[test]

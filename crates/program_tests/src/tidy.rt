@@ -52,25 +52,30 @@ fn texts(rt: HostRuntime) {
     }
 }
 
-/// Whether the words ask for this task on these paths; `None` stands for bad words.
-fn ask_for(
-    alloc: Global,
-    texts: &[&str],
-    want: Option<(Task, &[&str])>,
-) -> Result<bool, AllocError> {
+/// A task, and the paths that it is for.
+type Asked<'a> = (Task, &'a [&'a str]);
+
+/// Whether this is the job that is wanted; `None` stands for bad words.
+fn is_wanted(job: &Result<Job<'_>, Stop>, want: Option<Asked<'_>>) -> bool {
+    match job {
+        Ok(Job::Tidy { task, paths }) => match want {
+            Some((wanted, list)) => *task == wanted && paths.as_slice() == list,
+            None => false,
+        },
+        Ok(Job::Help) => false,
+        Err(stop) => want.is_none() && *stop == Stop::Arguments,
+    }
+}
+
+/// Whether this is what the words ask for.
+fn ask_for(alloc: Global, texts: &[&str], want: Option<Asked<'_>>) -> Result<bool, AllocError> {
     let words = words_of(alloc, texts)?;
-    Ok(match (read_job(alloc, words.as_slice()), want) {
-        (Ok(Job::Tidy { task, paths }), Some((wanted, want))) => {
-            task == wanted && paths.as_slice() == want
-        }
-        (Err(stop), None) => stop == Stop::Arguments,
-        _ => false,
-    })
+    Ok(is_wanted(&read_job(alloc, words.as_slice()), want))
 }
 
 #[test]
 fn words(rt: HostRuntime) -> Result<(), Fail> {
-    let rows: [(&[&str], Option<(Task, &[&str])>); 14] = [
+    let rows: [(&[&str], Option<Asked<'_>>); 14] = [
         (&[], Some((Task::Write, &[]))),
         (
             &["src", "--check", "a b.rs"],
