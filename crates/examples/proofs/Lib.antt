@@ -1,6 +1,5 @@
 pub mod ArrivingLemmas
 pub mod HighlightLemmas
-pub mod LineLemmas
 pub mod RawStringLemmas
 pub mod RepaintLemmas
 pub mod SpanLemmas

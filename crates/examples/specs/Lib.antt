@@ -1,9 +1,7 @@
 pub mod Arriving
 pub mod Comments
-pub mod Counter
 pub mod Highlight
 pub mod Joined
-pub mod Lines
 pub mod RawStrings
 pub mod Repaint
 pub mod Slices

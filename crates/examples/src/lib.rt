@@ -4,7 +4,6 @@
 pub mod arriving;
 pub mod comments;
 pub mod highlight;
-pub mod lines;
 pub mod raw_strings;
 pub mod repaint;
 pub mod slices;

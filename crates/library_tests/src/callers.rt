@@ -2,7 +2,6 @@
 use examples::arriving::{Arriving, lex_pieces};
 use examples::comments::skip_comments;
 use examples::highlight::highlight;
-use examples::lines::{LineCounts, count_lines};
 use examples::raw_strings::{RawFault, raw_faults};
 use examples::repaint::{edit_shown, repaint};
 use examples::slices::find_word;
@@ -10,44 +9,6 @@ use examples::spans::{Span, spans};
 use examples::split::split_in;
 use rustc_lexer::{Edition, LexedText, LiteralKind, RawStrError, Relexed, Token, TokenKind, fits};
 use std::alloc::{AllocError, Global};
-
-const ALL_KINDS: &str =
-    "//! A crate.\n\n// A note.\n/// Doubles.\nfn f() { /* x */ }\n    \n/* one\n\n   two */\nlet s = \"a\n\nb\"; // c";
-
-/// Texts with their lines of code, of doc comments, of comments, and the blank ones.
-static LINES: &[(&str, [u32; 4])] = &[
-    ("", [0, 0, 0, 0]),
-    ("\n", [0, 0, 0, 1]),
-    ("\r\n\t", [0, 0, 0, 2]),
-    ("x", [1, 0, 0, 0]),
-    ("x\n", [1, 0, 0, 0]),
-    ("/** d */ x", [1, 0, 0, 0]),
-    ("/** d */ // n", [0, 1, 0, 0]),
-    ("// é", [0, 0, 1, 0]),
-    (ALL_KINDS, [3, 2, 3, 4]),
-];
-
-/// The first text whose lines are counted otherwise.
-fn wrong_count() -> Option<&'static str> {
-    for row in LINES {
-        let (text, [code, doc, comment, blank]) = *row;
-        let wanted = LineCounts {
-            code,
-            doc,
-            comment,
-            blank,
-        };
-        if !fits(text) || count_lines(text) != wanted {
-            return Some(text);
-        }
-    }
-    None
-}
-
-#[test]
-fn lines(rt: HostRuntime) {
-    assert_eq!(rt; wrong_count(), None);
-}
 
 static MARKS: &[(&str, &str)] = &[
     ("", ""),

@@ -56,6 +56,10 @@ fn texts(rt: HostRuntime) {
         ("#![a] // b\n", [1, 0, 0, 0, 0, 1, 0]),
         ("#!/bin/sh\n---\n// a\n\n---\n\nfn\n", [6, 0, 0, 1, 0, 0, 0]),
         ("'/' // a\n'\\'' /* b */\n", [2, 0, 0, 0, 0, 2, 0]),
+        (
+            "//! A crate.\n\n// A note.\n/// Doubles.\nfn f() { /* x */ }\n    \n/* one\n\n   two */\nlet s = \"a\n\nb\"; // c",
+            [4, 2, 4, 2, 0, 2, 0],
+        ),
     ];
     for (text, want) in rows {
         assert_eq!(rt;
