@@ -1,11 +1,12 @@
 //! Lexes texts by the original and by the proved lexer, in one process, and compares all that they answer. Prints
 //! counts, and each of the first differences. Ends with status 1 where there is one.
 //!
-//!     against [--texts N] [--seed N] PATH..
+//!     against [--texts N] [--seed N] [--every N] PATH..
 //!
 //! Compared are each character, each file of a PATH (of a folder those that end in `.rs`, at any depth), and N random
 //! texts (200,000, if not given), of which half are parts of the files with something put in. Then come each character
-//! and N random texts as what stands between the quotes of a literal.
+//! and N random texts as what stands between the quotes of a literal. With `--every N` one of N characters is in texts,
+//! and the classes of all are compared.
 
 mod answers;
 mod literals;
@@ -26,6 +27,7 @@ const SHOWN: usize = 20;
 struct Asked {
     texts: u64,
     seed: u64,
+    every: u64,
     paths: Vec<PathBuf>,
 }
 
@@ -33,6 +35,7 @@ fn asked() -> Result<Asked, String> {
     let mut asked = Asked {
         texts: 200_000,
         seed: 1,
+        every: 1,
         paths: Vec::new(),
     };
     let mut words = env::args_os().skip(1);
@@ -40,6 +43,7 @@ fn asked() -> Result<Asked, String> {
         let number = match word.to_str() {
             Some("--texts") => &mut asked.texts,
             Some("--seed") => &mut asked.seed,
+            Some("--every") => &mut asked.every,
             _ => {
                 asked.paths.push(PathBuf::from(word));
                 continue;
@@ -124,15 +128,18 @@ impl Counts {
     }
 }
 
-/// Compares each character: its classes, and the tokens of texts with it. Answers those of which the classes differ,
-/// which is a difference but for two reasons: other versions of Unicode, and that the proved lexer has a table of emoji
-/// of its own.
-fn characters(pair: &mut Pair, counts: &mut Counts) -> HashSet<char> {
+/// Compares each character: its classes, and for one of so many the tokens of texts with it. Answers those of which the
+/// classes differ, which is a difference but for two reasons: other versions of Unicode, and that the proved lexer has
+/// a table of emoji of its own.
+fn characters(pair: &mut Pair, counts: &mut Counts, every: usize) -> HashSet<char> {
     let versions = [original::UNICODE_VERSION, proved::UNICODE_VERSION];
     let (mut unsettled, mut emoji) = (HashSet::new(), 0);
-    for c in '\0'..=char::MAX {
+    for (number, c) in ('\0'..=char::MAX).enumerate() {
         let [original, proved] = answers::classes(c);
         if original == proved {
+            if number % every > 0 {
+                continue;
+            }
             for text in [
                 format!("{c}"),
                 format!("a{c}b"),
@@ -175,9 +182,10 @@ fn main() -> ExitCode {
             return ExitCode::from(2);
         }
     };
+    let every = asked.every.max(1) as usize;
     let mut pair = Pair::default();
     let mut of_characters = Counts::default();
-    let unsettled = characters(&mut pair, &mut of_characters);
+    let unsettled = characters(&mut pair, &mut of_characters, every);
     of_characters.print("characters");
 
     let all = files.len();
@@ -198,7 +206,7 @@ fn main() -> ExitCode {
     of_texts.print("random texts");
 
     let mut of_literals = Counts::default();
-    for c in '\0'..=char::MAX {
+    for c in ('\0'..=char::MAX).step_by(every) {
         for text in [format!("{c}"), format!("\\{c}"), format!("\\\n{c}")] {
             of_literals.compare_literals(&mut pair, "character in a literal", &text);
         }
