@@ -1,9 +1,6 @@
 -- What a list of edits leaves of a text, and which of them is refused.
 use Rattle.std.proofs.Common.{◌≡◌, ℕ, zero, suc, ◌+◌, ◌<◌, Bool, true, false, List, [], ◌∷◌, length, take, refl, ap, arith, subst, Result, Ok, Err}
 use Rattle.std.specs.Prelude.{IfSome, slice_get}
-use Rattle.std.specs.Str.{IsCharBoundary}
-use Rattle.std.proofs.lemmas.Bool.{and_parts, and_from, leb-true, le-leb, lt-ltb, ltb-true}
-use Rattle.std.proofs.lemmas.Bool.Decides.{nat_tests}
 use Rattle.rustc_lexer.specs.declared.edition.Edition.{Edition}
 use Rattle.rustc_lexer.specs.declared.relex.edit.Edit.{Edit as TextEdit}
 use Rattle.rustc_lexer.specs.declared.relex.edit_list.EditStop.{EditStop}
@@ -13,50 +10,29 @@ use Rattle.rustc_lexer.specs.Edits.{IsInside, IsShort}
 use Rattle.lexdump_run.specs.declared.fault.Fault.{Fault}
 use Rattle.lexdump_run.specs.declared.fault.Fault.TheVariants.{EditRange, EditTooLong}
 use Rattle.lexdump_run.specs.Fault.{stop_fault}
-use Rattle.lexdump_run.specs.Outcome.{is_boundary, is_inside, is_short, edited_from, listed, IsRefused, IsRuleOfEdits}
-
-boundary-true : (text : List ℕ) (i : ℕ) → is_boundary text i ≡ true → IsCharBoundary text i
-boundary-true text i e = grind (arith, nat_tests)
-
-true-boundary : (text : List ℕ) (i : ℕ) → IsCharBoundary text i → is_boundary text i ≡ true
-true-boundary text i b = grind (arith, nat_tests)
-
-inside-true : (text : List ℕ) (e : TextEdit) → is_inside text e ≡ true → IsInside text e.start e.stop
-inside-true text e h =
-    let p = and_parts _ _ h in
-    let q = and_parts _ _ p.1 in
-    let r = and_parts _ _ q.1 in
-    record {
-      start_le_stop = leb-true e.start e.stop p.0;
-      stop_inside = leb-true e.stop (length text) q.0;
-      start_boundary = boundary-true text e.start r.0;
-      stop_boundary = boundary-true text e.stop r.1;
-    }
+use Rattle.lexdump_run.specs.Outcome.{is_inside, is_short, edited_from, listed, IsRefused}
+use Rattle.lexdump_run.specs.Test.{Test}
+use Rattle.lexdump_run.specs.laws.TheTests.{the_inside, the_short}
 
 true-inside : (text : List ℕ) (e : TextEdit) → IsInside text e.start e.stop → is_inside text e ≡ true
-true-inside text e h =
-    and_from _ _ (le-leb e.start e.stop h.start_le_stop)
-    (and_from _ _ (le-leb e.stop (length text) h.stop_inside)
-    (and_from _ _ (true-boundary text e.start h.start_boundary) (true-boundary text e.stop h.stop_boundary)))
-
-false-inside : (text : List ℕ) (e : TextEdit) → (IsInside text e.start e.stop → ⊥) → is_inside text e ≡ false
-false-inside text e out = by_test (is_inside text e) refl
-  where
-    by_test : (b : Bool) → is_inside text e ≡ b → is_inside text e ≡ false
-    by_test true h = absurd (out (inside-true text e h))
-    by_test false h = h
+true-inside text e h = (the_inside text e).right.1 h
 
 true-short : (text : List ℕ) (e : TextEdit) → IsShort text e.start e.stop e.insert.now → is_short text e ≡ true
-true-short text e h = lt-ltb _ _ h
+true-short text e h = (the_short text e).right.1 h
+
+-- a test of what does not hold says false
+fails : {Holds : Type 0} (test : Test Holds) → (Holds → ⊥) → test.says ≡ false
+fails test out = by_test test.says refl
+  where
+    by_test : (b : Bool) → test.says ≡ b → test.says ≡ false
+    by_test true h = absurd (out (test.right.0 h))
+    by_test false h = h
+
+false-inside : (text : List ℕ) (e : TextEdit) → (IsInside text e.start e.stop → ⊥) → is_inside text e ≡ false
+false-inside text e out = fails (the_inside text e) out
 
 false-short : (text : List ℕ) (e : TextEdit) → (IsShort text e.start e.stop e.insert.now → ⊥) → is_short text e ≡ false
-false-short text e long = grind (arith, nat_tests)
-
-short-true : (text : List ℕ) (e : TextEdit) → is_short text e ≡ true → IsShort text e.start e.stop e.insert.now
-short-true text e h = ltb-true _ _ h
-
-pub same_rule : IsRuleOfEdits
-same_rule text e = ((inside-true text e, true-inside text e), (short-true text e, true-short text e))
+false-short text e long = fails (the_short text e) long
 
 pub edited-all : (at : ℕ) (text : List ℕ) (es : List TextEdit) → AreEdits text es → edited_from at text es ≡ Ok (apply_list text es)
 edited-all at text [] are = refl

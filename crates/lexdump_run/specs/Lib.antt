@@ -5,3 +5,5 @@ pub mod Outcome
 pub mod Program
 pub mod Pushed
 pub mod Rest
+pub mod Test
+pub mod laws

@@ -1,5 +1,5 @@
 -- What a run comes to, by the bytes that it reads.
-use Rattle.std.specs.Prelude.{ℕ, ◌+◌, ◌-◌, ◌^◌, ◌≡◌, ◌↔◌, Bool, true, ◌&&◌, ◌||◌, nat_le, nat_lt, not, if◌then◌else◌, List, [], ◌∷◌, length, slice_index, Option, Result, Ok, Err, IfOk}
+use Rattle.std.specs.Prelude.{ℕ, ◌+◌, ◌^◌, ◌≡◌, Bool, nat_le, not, if◌then◌else◌, List, [], ◌∷◌, length, Option, Result, Ok, Err, IfOk}
 use Rattle.std.specs.Str.{is_utf8}
 use Rattle.std.specs.Io.KnownBytes.{Keeps, Appends}
 use Rattle.ends.specs.Known.{AppendsFront}
@@ -15,22 +15,16 @@ use Rattle.lexdump_run.specs.declared.fault.Fault.TheVariants.{NotUtf8, TooLong,
 use Rattle.lexdump_run.specs.declared.job.Job.{Job}
 use Rattle.lexdump_run.specs.declared.job.Job.TheVariants.{Plain, Front, Shebang, Edit}
 use Rattle.lexdump_run.specs.Listing.{listing, shebang_line}
+use Rattle.lexdump_run.specs.Test.{Test}
+use Rattle.lexdump_run.specs.laws.TheTests.{the_inside, the_short}
 
--- whether a character of the text begins at the place, or the text ends there
-abbrev pub is_boundary : List ℕ → ℕ → Bool
-is_boundary text place = nat_le place (length text) && (nat_le (length text) place || (nat_lt (slice_index text place) 128 || nat_le 192 (slice_index text place)))
-
--- whether the range of the edit is inside the text, between characters
+-- whether the range of the edit is inside the text, between characters, by the rule of `rustc_lexer`
 abbrev pub is_inside : List ℕ → TextEdit → Bool
-is_inside text e = nat_le e.start e.stop && (nat_le e.stop (length text) && (is_boundary text e.start && is_boundary text e.stop))
+is_inside text e = let the : Test (IsInside text e.start e.stop) = the_inside text e in the.says
 
--- whether what the edit makes has at most 4294967295 bytes
+-- whether what the edit makes has at most 4294967295 bytes, by its rule
 abbrev pub is_short : List ℕ → TextEdit → Bool
-is_short text e = nat_lt (length text + length e.insert.now) (2 ^ 32 + (e.stop - e.start))
-
--- these tests of an edit are the rule of `rustc_lexer`
-abbrev pub IsRuleOfEdits : Type 0
-IsRuleOfEdits = (text : List ℕ) (e : TextEdit) → (is_inside text e ≡ true ↔ IsInside text e.start e.stop) × (is_short text e ≡ true ↔ IsShort text e.start e.stop e.insert.now)
+is_short text e = let the : Test (IsShort text e.start e.stop e.insert.now) = the_short text e in the.says
 
 -- the text after the edits, or why the first bad one is refused, each judged on the text that the edits before it
 -- leave; the first has the number `at`

@@ -2,8 +2,7 @@
 ghost use Rattle.std.specs.Prelude.{◌≡◌, ◌≢◌, ◌↔◌, false, true, IsTrue, IsErrOf, IfErr, IfOk, IfSome};
 ghost use Rattle.std.specs.Io.KnownBytes.{Keeps};
 ghost use Rattle.rustc_lexer.specs.Classes.{Fits};
-ghost use Rattle.rustc_lexer.specs.Tokens.{IsDetermined};
-ghost use Rattle.lexdump_run.specs.Outcome.{outcome, printed, IsAnswer, IsRuleOfEdits, Writes};
+ghost use Rattle.lexdump_run.specs.Outcome.{outcome, printed, IsAnswer, Writes};
 ghost use Rattle.lexdump_run.specs.Pushed.{Prints};
 
 use crate::fault::Fault;
@@ -20,7 +19,6 @@ use std::io::{Read, Write};
 /// The lines go out in blocks. Nothing that may be refused comes after the first byte: after every fault but
 /// `Fault::Write` the output is as it was.
 /// At `Ok` the last thing asked of the output was a flush, and it was not refused.
-#[tactic(auto, using(rustc_lexer::proofs::LanguageTextLemmas::determined, crate::proofs::EditedLemmas::same_rule))]
 pub fn run<R: Read, W: Write>(
     alloc: Global,
     job: &Job<'_>,
@@ -40,8 +38,6 @@ pub fn run<R: Read, W: Write>(
     ensures written { IfSome (R.remaining input.old.inner) (λ bytes.
         Writes (W.contents output.old.inner) (W.contents output.new.inner) result
         (outcome job.now bytes)) }
-    ensures edits { IsRuleOfEdits }
-    ensures language { IsDetermined }
 {
     let bytes = read_all(alloc, input)?;
     let text = match std::str::from_utf8(bytes.as_slice()) {

@@ -16,18 +16,19 @@ use Rattle.rustc_lexer.specs.Locality.{IsText}
 use Rattle.rustc_lexer.specs.Spans.{Utf8}
 use Rattle.rustc_lexer.specs.State.{State}
 use Rattle.rustc_lexer.specs.TheOnly.{TheOnly}
-use Rattle.rustc_lexer.specs.laws.TheAnswers.{the_tokens, the_first, the_next, the_guarded, the_raw, the_shebang}
+use Rattle.rustc_lexer.specs.laws.TheAnswers.{the_next, the_guarded, the_raw, the_shebang}
+use Rattle.rustc_lexer.specs.laws.TheLaws.{the_laws}
 
 -- the tokens of a text
 abbrev pub tokens_of : Mode → Utf8 → List Token
 tokens_of mode text =
-    let the : TheOnly (IsText text) (AreTokens mode (chars text)) = the_tokens mode text in
+    let the : TheOnly (IsText text) (AreTokens mode (chars text)) = the_laws.tokens mode text in
     the.answer
 
 -- the first of them, of a part in an edition
 abbrev pub first_in : Edition → Utf8 → Token
 first_in edition text =
-    let the : TheOnly (IsText text × (0 < length text)) (IsFirst edition text) = the_first edition text in
+    let the : TheOnly (IsText text × (0 < length text)) (IsFirst edition text) = the_laws.first edition text in
     the.answer
 
 -- what a cursor takes, and its state after that

@@ -2,12 +2,11 @@
 -- kind may have, and before what. One rule for each form, and nothing of how a text is read.
 --
 -- Notation. `w` is the text of a token and `next` all that follows it. Both are characters (type
--- `Chars`), and at the end of the text `next` is []. In bytes are the `text` of `BeginsWith` (type
--- `Utf8`), each `len`, and where a suffix begins. A NUL is a character like others. `P → ⊥` denies
--- P. No rule denies what it defines, so each relation is the least one that its rules make. Fields
--- stand in the order of src/token.rt: LineComment doc_style, BlockComment doc_style terminated,
--- Lifetime starts_with_number, Literal kind suffix_start, Frontmatter
--- has_invalid_preceding_whitespace invalid_infostring.
+-- `Chars`), and at the end of the text `next` is []. In bytes is where a suffix begins. A NUL is a
+-- character like others. `P → ⊥` denies P. No rule denies what it defines, so each relation is the
+-- least one that its rules make. Fields stand in the order of src/token.rt: LineComment doc_style,
+-- BlockComment doc_style terminated, Lifetime starts_with_number, Literal kind suffix_start,
+-- Frontmatter has_invalid_preceding_whitespace invalid_infostring.
 --
 --   form         rules                                   in the Rust Reference
 --   white space  whitespace                              WHITESPACE
@@ -25,16 +24,15 @@
 --   whole texts  LanguageText; FrontmatterGrammar        RFC 3503
 --
 -- Beyond the Reference: what is unclosed, empty or has an emoji is a token too, for a compiler's
--- messages. What is proved of this page, and what is not, stands in LanguageHolds.antt.
+-- messages. What is proved of this page stands in LanguageLaws.antt.
 use Rattle.std.specs.Prelude.{◌≡◌, ℕ, ◌||◌, not, Bool, true, false}
-use Rattle.std.specs.Prelude.{List, [], ◌∷◌, ◌++◌, take, drop, codes, Option, Some, None}
+use Rattle.std.specs.Prelude.{List, [], ◌∷◌, ◌++◌, take, codes, Option, Some, None}
 use Rattle.std.specs.Char.{is_ascii_digit}
 use Rattle.std.specs.List.{list_all, list_any}
-use Rattle.std.specs.Str.{byte, chars}
+use Rattle.std.specs.Str.{byte}
 use Rattle.rustc_lexer.specs.declared.token.DocStyle.{DocStyle}
 use Rattle.rustc_lexer.specs.declared.token.DocStyle.TheVariants.{Outer, Inner}
 use Rattle.rustc_lexer.specs.declared.token.LiteralKind.{LiteralKind}
-use Rattle.rustc_lexer.specs.declared.token.Token.{Token}
 use Rattle.rustc_lexer.specs.declared.token.TokenKind.{TokenKind}
 use Rattle.rustc_lexer.specs.declared.token.TokenKind.TheVariants.{Whitespace, Eof}
 use Rattle.rustc_lexer.specs.declared.token.TokenKind.TheVariants.{LineComment, BlockComment, Ident}
@@ -46,7 +44,7 @@ use Rattle.rustc_lexer.specs.declared.token.TokenKind.TheVariants.{GuardedStrPre
 use Rattle.rustc_lexer.specs.Classes.{is_among, is_whitespace, is_id_continue, is_ident}
 use Rattle.rustc_lexer.specs.Emoji.{is_emoji}
 use Rattle.rustc_lexer.specs.LiteralGrammar.{IsLiteralBefore, IsSuffixBefore}
-use Rattle.rustc_lexer.specs.Spans.{Chars, Utf8, begins, AreAll, NextIs, NextIsNot, NextIn}
+use Rattle.rustc_lexer.specs.Spans.{Chars, begins, AreAll, NextIs, NextIsNot, NextIn}
 use Rattle.rustc_lexer.specs.Spans.{NextNotIn, bytes, is_inline, is_word_start, is_word_continue}
 use Rattle.rustc_lexer.specs.Spans.{is_name_start, begins_ident_after}
 use Rattle.rustc_lexer.specs.Symbols.{symbol_kind}
@@ -198,10 +196,3 @@ pub data IsTokenBefore (next : Chars) : TokenKind → Chars → Type 0 where
       → IsTokenBefore next GuardedStrPrefix (byte "#" ∷ c ∷ [])
   -- `+`, `;`; and what is no symbol is Unknown, such as `\`
   symbol : {c : ℕ} → has_rule c ≡ false → IsTokenBefore next (symbol_kind c) (c ∷ [])
-
--- ---- in bytes
-
--- the token at the front of the text is of the language, where the rest of the text follows it
-abbrev pub BeginsWith : Utf8 → Token → Type 0
-BeginsWith text token =
-    IsTokenBefore (chars (drop token.len text)) token.kind (chars (take token.len text))

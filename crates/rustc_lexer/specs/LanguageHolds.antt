@@ -1,36 +1,28 @@
--- What is proved of the language: that the calls answer what it says, and that it allows nothing
--- else.
---
--- Each text begins with exactly one token of Language.antt (`EachBeginsWithOne`, clause
--- `one_token` of `tokenize`), and has exactly one list of tokens (`AreTheOnlyTokens`, its clause
--- `language`): those that the lexer gives. So all relations of the page can be decided. The other
--- statements are clauses of the calls of which they speak.
+-- What the laws of the page speak of (LanguageLaws.antt): its tokens, and what calls take of a text by it.
 --
 -- Trusted, and not proved: that the rules of the page are those of Rust; that `is_xid_start` and
 -- `is_xid_continue` are what Unicode has; the tables of emoji, of white space and of symbols;
 -- `chars` and `encode_utf8_all` of std; and the tools that check the proofs.
 use Rattle.std.specs.Prelude.{◌≡◌, ◌+◌, ◌↔◌, ℕ, Bool, List, [], ◌∷◌, ◌++◌, drop, codes}
-use Rattle.std.specs.Prelude.{Option, Some, None, Result}
+use Rattle.std.specs.Prelude.{Option, Some, None}
 use Rattle.std.specs.Str.{chars}
 use Rattle.rustc_lexer.specs.declared.edition.Edition.{Edition}
 use Rattle.rustc_lexer.specs.declared.edition.Edition.TheVariants.{E2024}
 use Rattle.rustc_lexer.specs.declared.token.GuardedStr.{GuardedStr}
-use Rattle.rustc_lexer.specs.declared.token.RawStrError.{RawStrError}
 use Rattle.rustc_lexer.specs.declared.token.Token.{Token}
 use Rattle.rustc_lexer.specs.declared.token.TokenKind.{TokenKind}
 use Rattle.rustc_lexer.specs.declared.token.TokenKind.TheVariants.{Eof}
-use Rattle.rustc_lexer.specs.FrontmatterGrammar.{OpensNone}
-use Rattle.rustc_lexer.specs.Language.{BeginsWith, IsTokenBefore}
-use Rattle.rustc_lexer.specs.LanguageCalls.{IsGuardedBefore, IsRawAnswer, IsShebang}
+use Rattle.rustc_lexer.specs.Language.{IsTokenBefore}
+use Rattle.rustc_lexer.specs.LanguageCalls.{IsGuardedBefore}
 use Rattle.rustc_lexer.specs.LanguageIn.{IsTokenIn}
-use Rattle.rustc_lexer.specs.LanguageText.{Mode, IsDocument, part, mode_after, AreTokens}
+use Rattle.rustc_lexer.specs.LanguageText.{part, mode_after, AreTokens}
 use Rattle.rustc_lexer.specs.LiteralGrammar.{hashes}
 use Rattle.rustc_lexer.specs.Spans.{Chars, Utf8, bytes, NextNotIn}
 use Rattle.rustc_lexer.specs.State.{State, token_past}
 
 -- ---- tokens
 
--- the text begins with exactly one token of the language
+-- the characters begin with exactly one token of the language
 pub record BeginsWithOne (s : Chars) : Type 0 where
   pub kind : TokenKind
   pub w : Chars
@@ -41,18 +33,6 @@ pub record BeginsWithOne (s : Chars) : Type 0 where
       → s ≡ v ++ after
       → IsTokenBefore after other v
       → (other ≡ kind) × (v ≡ w)
-
--- each text does
-abbrev pub EachBeginsWithOne : Type 0
-EachBeginsWithOne = (s : Chars) → BeginsWithOne s
-
--- a token that is taken with no bytes pending, and where no frontmatter opens a document, is of the
--- page. Of other states this says nothing
-abbrev pub TakesTokenOf : State → Token → Type 0
-TakesTokenOf s token =
-    s.pending ≡ 0
-    → (IsDocument s.mode → OpensNone (chars s.rest))
-    → BeginsWith s.rest token
 
 -- ---- texts
 
@@ -71,23 +51,12 @@ pub data TakesNext (s : State) : Token × State → Type 0 where
         record { pending = 0; rest = drop token.len s.rest; mode = mode_after s.mode token.kind },
       )
 
--- these tokens of a text are the only ones that the language allows for it as it is read
-abbrev pub HoldsTheOnlyTokens : Mode → Utf8 → List Token → Type 0
-HoldsTheOnlyTokens mode text held =
-    (tokens : List Token) → AreTokens mode (chars text) tokens ↔ (tokens ≡ held)
-
 -- the newest edition, of which documents are, has the tokens of the page
 abbrev pub NewestIsPage : Type 0
 NewestIsPage =
     (next w : Chars) (kind : TokenKind) → IsTokenIn E2024 next kind w ↔ IsTokenBefore next kind w
 
 -- ---- the calls beside the tokens
-
--- the answer is that of the text, and no other is
-abbrev pub IsTheRawAnswer : Utf8 → ℕ → Result Unit RawStrError → Type 0
-IsTheRawAnswer text p answer =
-    (other : Result Unit RawStrError)
-    → IsRawAnswer p (drop p (chars text)) other ↔ (other ≡ answer)
 
 -- what is taken of the text of a cursor: a guarded string, with what is pending; or hashes that
 -- begin none, which are pending then
@@ -103,12 +72,3 @@ pub data TakesGuarded (s : State) : Option GuardedStr × State → Type 0 where
       → chars s.rest ≡ hashes n ++ next
       → NextNotIn (codes "\"#") next
       → TakesGuarded s (None, record s { pending = s.pending + n; rest = drop n s.rest })
-
--- so does the call, and nothing else is so
-abbrev pub TakesTheGuarded : State → Option GuardedStr → State → Type 0
-TakesTheGuarded s answer t =
-    (other : Option GuardedStr × State) → TakesGuarded s other ↔ (other ≡ (answer, t))
-
--- the answer is that of the text, and no other is
-abbrev pub IsTheShebang : Utf8 → Option ℕ → Type 0
-IsTheShebang text answer = (other : Option ℕ) → IsShebang text other ↔ (other ≡ answer)

@@ -12,6 +12,7 @@ pub mod Language
 pub mod LanguageCalls
 pub mod LanguageHolds
 pub mod LanguageIn
+pub mod LanguageLaws
 pub mod LanguageReach
 pub mod LanguageText
 pub mod LiteralGrammar

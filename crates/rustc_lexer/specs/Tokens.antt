@@ -1,14 +1,11 @@
 -- The tokens of a text, and what the calls that take them do.
 use Rattle.std.specs.Prelude.{ℕ, ◌≡◌, ◌↔◌, ◌-◌, ◌<◌, ◌≤◌, List, [], ◌∷◌, length, take, drop, IsCharBoundary, Option, IsSome, Some, None, Ok}
 use Rattle.std.specs.Str.{chars}
-use Rattle.rustc_lexer.specs.Answers.{advance, first_in, raw_check}
+use Rattle.rustc_lexer.specs.Answers.{advance, raw_check}
 pub use Rattle.rustc_lexer.specs.Answers.{tokens_of}
 pub use Rattle.rustc_lexer.specs.Cuts.{cut_by, tokens_by, bound, AreBoundaries, Partitions}
 use Rattle.rustc_lexer.specs.LanguageCalls.{StartsRaw}
-use Rattle.rustc_lexer.specs.LanguageHolds.{HoldsTheOnlyTokens}
-use Rattle.rustc_lexer.specs.LanguageText.{Mode, AreTokens, part, mode_edition, mode_after}
-use Rattle.rustc_lexer.specs.Locality.{IsText}
-use Rattle.rustc_lexer.specs.Spans.{Utf8}
+use Rattle.rustc_lexer.specs.LanguageText.{AreTokens, part, mode_edition, mode_after}
 use Rattle.rustc_lexer.specs.State.{State, token_past}
 use Rattle.rustc_lexer.specs.declared.edition.Edition.{Edition}
 use Rattle.rustc_lexer.specs.declared.token.LiteralKind.TheVariants.{RawStr, RawByteStr, RawCStr}
@@ -16,21 +13,6 @@ use Rattle.rustc_lexer.specs.declared.token.LiteralKind.{LiteralKind}
 use Rattle.rustc_lexer.specs.declared.token.Token.{Token}
 use Rattle.rustc_lexer.specs.declared.token.TokenKind.TheVariants.{Literal, Eof}
 use Rattle.rustc_lexer.specs.declared.token.TokenKind.{TokenKind}
-
--- the language allows these tokens of a text, and no others
-abbrev pub AreTheOnlyTokens : Mode → Utf8 → Type 0
-AreTheOnlyTokens mode text = HoldsTheOnlyTokens mode text (tokens_of mode text)
-
--- so it is for every text that fits, as a document and as a part in each edition
-abbrev pub IsDetermined : Type 0
-IsDetermined = (text : Utf8) (mode : Mode) → IsText text → AreTheOnlyTokens mode text
-
--- so it is with tokens that come from a grammar, where that is the one of an edition
-abbrev pub HoldsTheOnlyTokensBy : (Utf8 → Token) → Utf8 → List Token → Type 0
-HoldsTheOnlyTokensBy grammar text held =
-    (edition : Edition)
-    → grammar ≡ first_in edition
-    → HoldsTheOnlyTokens (part edition) text held
 
 -- the tokens that a cursor with nothing pending, or an iterator, will come to
 abbrev pub tokens_left : State → List Token

@@ -42,6 +42,7 @@ pub mod Seek
 pub mod State
 pub mod Texts
 pub mod TheAnswers
+pub mod TheLaws
 pub mod TokenBy
 pub mod Tokens
 pub mod Within

@@ -5,7 +5,6 @@ ghost use Rattle.rustc_lexer.specs.declared.edition.Edition.{Edition};
 ghost use Rattle.rustc_lexer.specs.declared.edition.Edition.TheVariants.{E2024};
 ghost use Rattle.rustc_lexer.specs.Classes.{Fits};
 ghost use Rattle.rustc_lexer.specs.Tokens.{TakesFirst};
-ghost use Rattle.rustc_lexer.specs.LanguageHolds.{TakesTokenOf};
 ghost use Rattle.rustc_lexer.specs.LanguageText.{mode_after, mode_edition, mode_in, mode_of};
 ghost use Rattle.rustc_lexer.specs.Answers.{advance};
 ghost use Rattle.rustc_lexer.specs.State.{token_past, HasSuffixWithin};
@@ -117,7 +116,6 @@ impl<'a> Cursor<'a> {
         ensures state { self.new ≡ (advance self.old).1 }
         ensures end { result.kind ≡ TokenKind.Eof → StaysAtEnd self.old result self.new }
         ensures past { result.kind ≢ TokenKind.Eof → TakesPending self.old result self.new }
-        ensures language { TakesTokenOf self.old result }
         ensures pending { result.kind ≢ TokenKind.Eof → TakesFirst self.old result self.new }
     {
         let rest = self.as_str();

@@ -4,9 +4,6 @@ ghost use Rattle.std.specs.Iterator.{at_most};
 ghost use Rattle.rustc_lexer.specs.declared.edition.Edition.TheVariants.{E2015, E2018, E2024};
 ghost use Rattle.rustc_lexer.specs.declared.token.FrontmatterAllowed.TheVariants.{No};
 ghost use Rattle.rustc_lexer.specs.Classes.{Fits};
-ghost use Rattle.rustc_lexer.specs.Tokens.{AreTheOnlyTokens};
-ghost use Rattle.rustc_lexer.specs.LanguageHolds.{EachBeginsWithOne, NewestIsPage};
-ghost use Rattle.rustc_lexer.specs.LanguageReach.{LooksNoFurther, NoneLooksLess, RefusedStands};
 ghost use Rattle.rustc_lexer.specs.LanguageText.{mode_edition, mode_in, mode_of, part};
 ghost use Rattle.rustc_lexer.specs.Locality.{AreLocal};
 ghost use Rattle.rustc_lexer.specs.State.{HasSuffixWithin};
@@ -51,10 +48,6 @@ pub fn tokenize<'a>(input: &'a str, frontmatter_allowed: FrontmatterAllowed) -> 
     ensures restarts { RestartsAtBounds E2024 input.now }
     ensures suffixes { All HasSuffixWithin (tokens_of (mode_of frontmatter_allowed) input.now) }
     ensures texts { HaveTexts input.now (tokens_of (mode_of frontmatter_allowed) input.now) }
-    ensures language { AreTheOnlyTokens (mode_of frontmatter_allowed) input.now }
-    ensures page { NewestIsPage }
-    ensures one_token { EachBeginsWithOne }
-    ensures reach { LooksNoFurther × RefusedStands × NoneLooksLess }
 {
     tokenize_as(input, frontmatter_allowed, Edition::E2024)
 }
@@ -77,8 +70,6 @@ pub fn tokenize_in<'a>(text: &'a str, edition: Edition) -> EditionTokens<'a>
     ensures texts { HaveTexts text.now (tokens_of (part edition) text.now) }
     ensures local { AreLocal (tokens_of (part edition)) }
     ensures newest { tokens_of (part E2024) text.now ≡ tokens_of (mode_of No) text.now }
-    ensures language { AreTheOnlyTokens (part edition) text.now }
-    ensures page { NewestIsPage }
     ensures oldest { tokens_of (part E2015) text.now ≡ tokens_of (part E2018) text.now }
 {
     tokenize_as(text, FrontmatterAllowed::No, edition)
@@ -103,8 +94,6 @@ pub fn tokenize_as<'a>(
     ensures restarts { RestartsAtBounds edition text.now }
     ensures suffixes { All HasSuffixWithin (tokens_of (mode_in frontmatter_allowed edition) text.now) }
     ensures texts { HaveTexts text.now (tokens_of (mode_in frontmatter_allowed edition) text.now) }
-    ensures language { AreTheOnlyTokens (mode_in frontmatter_allowed edition) text.now }
-    ensures page { NewestIsPage }
 {
     Tokens {
         rest: text,

@@ -3,7 +3,6 @@ ghost use Rattle.std.specs.Prelude.{◌≡◌, ◌<◌, ◌↔◌, length, IsTru
 ghost use Rattle.rustc_lexer.specs.Answers.{raw_check};
 ghost use Rattle.rustc_lexer.specs.Classes.{Fits};
 ghost use Rattle.rustc_lexer.specs.LanguageCalls.{StartsRaw};
-ghost use Rattle.rustc_lexer.specs.LanguageHolds.{IsTheRawAnswer};
 ghost use Rattle.rustc_lexer.specs.means.Scan.{past};
 
 use crate::lexemes::raw::raw_double_quoted_string;
@@ -38,7 +37,6 @@ pub fn validate_raw_str(input: &str, prefix_len: u32) -> Result<(), RawStrError>
     requires fits { Fits input.now }
     requires raw { StartsRaw input.now prefix_len }
     ensures check { result ≡ raw_check input.now prefix_len }
-    ensures language { IsTheRawAnswer input.now prefix_len result }
 {
     let (read, _) = raw_double_quoted_string(past_chars(input, prefix_len), prefix_len);
     match read {

@@ -4,7 +4,6 @@ ghost use Rattle.std.specs.Str.{IsCharBoundary};
 ghost use Rattle.rustc_lexer.specs.declared.edition.Edition.TheVariants.{E2024};
 ghost use Rattle.rustc_lexer.specs.Answers.{shebang};
 ghost use Rattle.rustc_lexer.specs.Classes.{Fits};
-ghost use Rattle.rustc_lexer.specs.LanguageHolds.{IsTheShebang};
 ghost use Rattle.rustc_lexer.specs.LanguageText.{part};
 ghost use Rattle.rustc_lexer.specs.Spans.{begins};
 ghost use Rattle.rustc_lexer.specs.means.Shebang as spec;
@@ -26,7 +25,6 @@ use crate::token::{FrontmatterAllowed, TokenKind};
 pub fn strip_shebang(input: &str) -> Option<usize>
     requires fits { Fits input.now }
     ensures line { result ≡ shebang input.now }
-    ensures language { IsTheShebang input.now result }
     ensures range { IfSome result (λ end. (2 ≤ end) × (end ≤ length input.now)) }
     ensures boundary { IfSome result (λ end. IsCharBoundary input.now end) }
     ensures front { begins (codes "#!") input.now ≡ false → IsNone result }

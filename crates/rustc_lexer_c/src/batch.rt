@@ -2,7 +2,6 @@
 ghost use Rattle.std.specs.Prelude.{◌≡◌, ◌≢◌, length};
 ghost use Rattle.std.specs.Str.{IsUtf8, IsCharBoundary};
 ghost use Rattle.rustc_lexer.specs.Classes.{Fits};
-ghost use Rattle.rustc_lexer.specs.Tokens.{IsDetermined};
 ghost use Rattle.rustc_lexer.specs.LanguageText.{mode_of};
 ghost use Rattle.rustc_lexer.specs.Tokens.{tokens_of};
 ghost use Rattle.rustc_lexer_c.specs.Batch as spec;
@@ -27,7 +26,6 @@ pub struct CPlace {
 ///
 /// Each call tests the whole text. `rustc_lexer_tokens_unchecked` does not.
 #[unsafe(no_mangle)]
-#[tactic(auto, using(rustc_lexer::proofs::LanguageTextLemmas::determined))]
 pub extern "C" fn rustc_lexer_tokens(
     text: &[u8],
     place: &mut CPlace,
@@ -40,7 +38,6 @@ pub extern "C" fn rustc_lexer_tokens(
         room.old place.new room.new count.new }
     ensures refused { result ≢ 0
         → spec.IsUntouched place.old place.new room.old room.new count.new }
-    ensures language { IsDetermined }
 {
     match text_of(text) {
         Ok(text) => batch(text, place, room, count),

@@ -3,7 +3,6 @@ ghost use Rattle.std.specs.Prelude.{◌≡◌, ◌≢◌};
 ghost use Rattle.std.specs.Str.{IsUtf8};
 ghost use Rattle.rustc_lexer.specs.Classes.{Fits};
 ghost use Rattle.rustc_lexer.specs.declared.edition.Edition.TheVariants.{E2024};
-ghost use Rattle.rustc_lexer.specs.LanguageHolds.{IsTheShebang};
 ghost use Rattle.rustc_lexer.specs.LanguageText.{part};
 ghost use Rattle.rustc_lexer.specs.Locality.{IsSettled, StaysUpTo};
 ghost use Rattle.rustc_lexer.specs.Answers.{shebang};
@@ -19,7 +18,6 @@ use rustc_lexer::{settled, strip_shebang};
 pub extern "C" fn rustc_lexer_strip_shebang(text: &[u8], line_len: &mut usize) -> u32
     ensures status { IsTextStatus text.now result }
     ensures line { result ≡ 0 → line_len.new ≡ some_or_zero (shebang text.now) }
-    ensures language { result ≡ 0 → IsTheShebang text.now (shebang text.now) }
     ensures refused { result ≢ 0 → line_len.new ≡ 0 }
 {
     match text_of(text) {
@@ -40,7 +38,6 @@ pub extern "C" fn rustc_lexer_strip_shebang_unchecked(text: &[u8], line_len: &mu
     requires utf8 { IsUtf8 text.now }
     ensures status { IsTextStatus text.now result }
     ensures line { result ≡ 0 → line_len.new ≡ some_or_zero (shebang text.now) }
-    ensures language { result ≡ 0 → IsTheShebang text.now (shebang text.now) }
     ensures refused { result ≢ 0 → line_len.new ≡ 0 }
 {
     match utf8_text_of(text) {
@@ -80,7 +77,6 @@ pub extern "C" fn rustc_lexer_settled(text: &[u8], end: &mut usize) -> u32
 fn shebang_len(text: &str) -> usize
     requires fits { Fits text.now }
     ensures line { result ≡ some_or_zero (shebang text.now) }
-    ensures language { IsTheShebang text.now (shebang text.now) }
 {
     strip_shebang(text).unwrap_or(0)
 }

@@ -3,7 +3,6 @@ ghost use Rattle.std.specs.Prelude.{◌≡◌, ◌≢◌, ◌↔◌, IsTrue, Non
 ghost use Rattle.std.specs.Str.{IsUtf8};
 ghost use Rattle.rustc_lexer.specs.Classes.{Fits};
 ghost use Rattle.rustc_lexer.specs.declared.edition.Edition.TheVariants.{E2024};
-ghost use Rattle.rustc_lexer.specs.LanguageHolds.{IsTheRawAnswer, TakesTheGuarded};
 ghost use Rattle.rustc_lexer.specs.LanguageText.{part};
 ghost use Rattle.rustc_lexer.specs.Answers.{guarded};
 ghost use Rattle.rustc_lexer.specs.LanguageCalls.{StartsRaw};
@@ -67,7 +66,6 @@ pub extern "C" fn rustc_lexer_validate_raw_str(
 ) -> u32
     ensures status { IsRawStatus text.now prefix_len result }
     ensures error { result ≡ 0 → error.new ≡ spec.answer_numbers (raw_check text.now prefix_len) }
-    ensures language { result ≡ 0 → IsTheRawAnswer text.now prefix_len (raw_check text.now prefix_len) }
     ensures refused { result ≢ 0 → error.new ≡ spec.no_error }
 {
     match text_of(text) {
@@ -90,7 +88,6 @@ pub extern "C" fn rustc_lexer_validate_raw_str_unchecked(
     requires utf8 { IsUtf8 text.now }
     ensures status { IsRawStatus text.now prefix_len result }
     ensures error { result ≡ 0 → error.new ≡ spec.answer_numbers (raw_check text.now prefix_len) }
-    ensures language { result ≡ 0 → IsTheRawAnswer text.now prefix_len (raw_check text.now prefix_len) }
     ensures refused { result ≢ 0 → error.new ≡ spec.no_error }
 {
     match utf8_text_of(text) {
@@ -107,7 +104,6 @@ fn raw_str(text: &str, prefix_len: u32, error: &mut CRawStrError) -> u32
     requires fits { Fits text.now }
     ensures status { IsRawStatus text.now prefix_len result }
     ensures error { result ≡ 0 → error.new ≡ spec.answer_numbers (raw_check text.now prefix_len) }
-    ensures language { result ≡ 0 → IsTheRawAnswer text.now prefix_len (raw_check text.now prefix_len) }
     ensures refused { result ≢ 0 → error.new ≡ spec.no_error }
 {
     if !starts_raw(text, prefix_len) {
@@ -139,9 +135,6 @@ pub extern "C" fn rustc_lexer_guarded_str(text: &[u8], string: &mut CGuardedStr)
     ensures string { result ≡ 0 →
         string.new ≡ spec.guarded_numbers
         (guarded record { pending = 0; rest = text.now; mode = part E2024 }).0 }
-    ensures language { result ≡ 0 → TakesTheGuarded record { pending = 0; rest = text.now; mode = part E2024 }
-        (guarded record { pending = 0; rest = text.now; mode = part E2024 }).0
-        (guarded record { pending = 0; rest = text.now; mode = part E2024 }).1 }
     ensures refused { result ≢ 0 → string.new ≡ spec.guarded_numbers None }
 {
     match text_of(text) {
@@ -165,9 +158,6 @@ pub extern "C" fn rustc_lexer_guarded_str_unchecked(text: &[u8], string: &mut CG
     ensures string { result ≡ 0 →
         string.new ≡ spec.guarded_numbers
         (guarded record { pending = 0; rest = text.now; mode = part E2024 }).0 }
-    ensures language { result ≡ 0 → TakesTheGuarded record { pending = 0; rest = text.now; mode = part E2024 }
-        (guarded record { pending = 0; rest = text.now; mode = part E2024 }).0
-        (guarded record { pending = 0; rest = text.now; mode = part E2024 }).1 }
     ensures refused { result ≢ 0 → string.new ≡ spec.guarded_numbers None }
 {
     match utf8_text_of(text) {
@@ -187,9 +177,6 @@ fn guarded_str(text: &str) -> CGuardedStr
     requires fits { Fits text.now }
     ensures string { result ≡ spec.guarded_numbers
         (guarded record { pending = 0; rest = text.now; mode = part E2024 }).0 }
-    ensures language { TakesTheGuarded record { pending = 0; rest = text.now; mode = part E2024 }
-        (guarded record { pending = 0; rest = text.now; mode = part E2024 }).0
-        (guarded record { pending = 0; rest = text.now; mode = part E2024 }).1 }
 {
     let mut cursor = Cursor::new(text, FrontmatterAllowed::No);
     guarded_numbers(cursor.guarded_double_quoted_string())

@@ -5,7 +5,6 @@ ghost use Rattle.rustc_lexer.specs.declared.edition.Edition.{Edition};
 ghost use Rattle.rustc_lexer.specs.declared.token.Token.{Token};
 ghost use Rattle.rustc_lexer.specs.Classes.{Fits};
 ghost use Rattle.rustc_lexer.specs.LanguageIn.{edition_of_year};
-ghost use Rattle.rustc_lexer.specs.Tokens.{IsDetermined};
 ghost use Rattle.rustc_lexer.specs.Relexing.{IsChange, IsMadeOf, MayGoOn, Stands};
 ghost use Rattle.rustc_lexer.specs.Locality.{IsGrammar};
 ghost use Rattle.rustc_lexer_c.specs.Relex as spec;
@@ -59,7 +58,6 @@ impl Measured for CToken {
 /// `old` has the tokens of the text before the edit, of which only the lengths are read. Any others may be passed too,
 /// and then the answer means nothing.
 #[unsafe(no_mangle)]
-#[tactic(auto, using(rustc_lexer::proofs::LanguageTextLemmas::determined))]
 pub extern "C" fn rustc_lexer_relex(
     text: &[u8],
     old: &[CToken],
@@ -75,7 +73,6 @@ pub extern "C" fn rustc_lexer_relex(
         room.old relexing.new room.new count.new }
     ensures refused { result ≢ 0
         → spec.IsNotRelexed relexing.old relexing.new room.old room.new count.new }
-    ensures language { IsDetermined }
 {
     match text_of(text) {
         Ok(text) => relex(text, old, edit, edition, relexing, room, count),

@@ -19,7 +19,7 @@ use Rattle.rustc_lexer.specs.Language as the
 use Rattle.rustc_lexer.specs.LiteralGrammar as lit
 use Rattle.rustc_lexer.specs.Language.{begins_prefixed, IsTokenBefore}
 use Rattle.rustc_lexer.specs.LiteralGrammar.{IsLiteralBefore}
-use Rattle.rustc_lexer.specs.LanguageHolds.{EachBeginsWithOne}
+use Rattle.rustc_lexer.specs.LanguageHolds.{BeginsWithOne}
 use Rattle.rustc_lexer.specs.Spans.{NextIs, NextIsNot}
 use Rattle.rustc_lexer.specs.means.Lexeme.{is_raw_mark, raw_or_ident, begins_raw, raw_past_or_ident, letter_r, letter_k, letter_b, letter_c, letters, word, lexeme}
 use Rattle.rustc_lexer.specs.means.Literal.{literal}
@@ -172,7 +172,7 @@ language next w kind = (token-read, read-token)
         (subst (λ (r : TokenKind × ℕ). IsTokenBefore (drop r.1 (w ++ next)) r.0 (take r.1 (w ++ next))) e (lexeme-sound (w ++ next))))
 
 -- and each text begins with one
-pub begins-one : EachBeginsWithOne
+pub begins-one : (s : List ℕ) → BeginsWithOne s
 begins-one s = record {
   kind = (lexeme s).0;
   w = take (lexeme s).1 s;

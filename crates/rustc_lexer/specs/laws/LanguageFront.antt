@@ -1,5 +1,5 @@
 -- Texts and their characters, and the token of the page at the front of a text.
-use Rattle.std.proofs.Common.{◌≡◌, ℕ, ◌<◌, ◌≤◌, List, [], ◌∷◌, ◌++◌, length, take, drop, refl, sym, ap, ◌∙◌, subst, arith, take_at, drop_at, length-append, take-append-drop}
+use Rattle.std.proofs.Common.{◌≡◌, ℕ, ◌<◌, ◌≤◌, List, [], ◌∷◌, ◌++◌, length, take, drop, refl, sym, ap, ◌∙◌, arith, take_at, drop_at, length-append}
 use lib.Utf8.{scalars}
 use Rattle.std.proofs.Math.Seq.{take-append_seam, drop-append_seam}
 use Rattle.std.proofs.lemmas.Str.{chars-nil, chars-encodes, encodes-append, encodes-chars, length-le-encodes, scalars-chars}
@@ -7,9 +7,9 @@ use Rattle.std.specs.Str.{chars, encode_utf8_all, IsUtf8}
 use Rattle.rustc_lexer.specs.declared.token.Token.{Token}
 use Rattle.rustc_lexer.specs.declared.token.TokenKind.{TokenKind}
 use Rattle.rustc_lexer.specs.declared.token.TokenKind.TheVariants.{Eof}
-use Rattle.rustc_lexer.specs.laws.Language.{lexeme-sound, token-read}
+use Rattle.rustc_lexer.specs.laws.Language.{token-read}
 use Rattle.rustc_lexer.specs.laws.TokenBy.{scalars-take, scalars-drop}
-use Rattle.rustc_lexer.specs.Language.{IsTokenBefore, BeginsWith}
+use Rattle.rustc_lexer.specs.Language.{IsTokenBefore}
 use Rattle.rustc_lexer.specs.Spans.{bytes}
 use Rattle.rustc_lexer.specs.means.Lexeme.{lexeme, first_token}
 use Rattle.rustc_lexer.specs.means.Scan.{bytes_of}
@@ -51,16 +51,6 @@ first-is {next} {kind} {c} {w} p text e =
     ap (λ (cs : List ℕ). let t : Token = record { kind = (lexeme cs).0; len = bytes_of (lexeme cs).1 cs } in t) e
     ∙ (ap (λ (r : TokenKind × ℕ). let t : Token = record { kind = r.0; len = bytes_of r.1 (c ∷ w ++ next) } in t) (token-read p)
     ∙ ap (λ (u : List ℕ). let t : Token = record { kind = kind; len = bytes (c ∷ u) } in t) (take-append_seam w next))
-
-pub first_token-of : (text : List ℕ) → IsText text → BeginsWith text (first_token text)
-unfolding first_token
-first_token-of text is =
-    let n : ℕ = (lexeme (chars text)).1 in
-    let w : List ℕ = take n (chars text) in
-    let next : List ℕ = drop n (chars text) in
-    let parts = split text w next is (sym (take-append-drop n (chars text))) in
-    subst (λ (u : List ℕ). IsTokenBefore u (lexeme (chars text)).0 (chars (take (bytes w) text))) (sym (ap chars parts.left ∙ parts.again))
-    (subst (λ (v : List ℕ). IsTokenBefore next (lexeme (chars text)).0 v) (sym (ap chars parts.front ∙ parts.again_front)) (lexeme-sound (chars text)))
 
 pub first_token-empty : first_token [] ≡ record { kind = Eof; len = 0 }
 unfolding first_token

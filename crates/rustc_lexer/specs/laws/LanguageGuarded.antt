@@ -1,5 +1,5 @@
 -- What is taken as a guarded string is what the language says, and nothing else is.
-use Rattle.std.proofs.Common.{◌≡◌, ℕ, zero, suc, ◌+◌, ◌<◌, ◌≤◌, ◌==◌, ◌||◌, min, inl, inr, Bool, true, false, true≢false, if◌then◌else◌, List, [], ◌∷◌, ◌++◌, length, take, drop, codes, refl, sym, ap, ◌∙◌, subst, arith, append_assoc, length-append, take-append-drop, Option, Some, None}
+use Rattle.std.proofs.Common.{◌≡◌, ◌↔◌, ℕ, zero, suc, ◌+◌, ◌<◌, ◌≤◌, ◌==◌, ◌||◌, min, inl, inr, Bool, true, false, true≢false, if◌then◌else◌, List, [], ◌∷◌, ◌++◌, length, take, drop, codes, refl, sym, ap, ◌∙◌, subst, arith, append_assoc, length-append, take-append-drop, Option, Some, None}
 use Rattle.std.proofs.Math.Nat.{min-le_left, min-le_right, min-eq_left, min-eq_right}
 use Rattle.std.proofs.Math.Seq.{take-append_seam, drop-append_seam}
 use Rattle.std.proofs.lemmas.Bool.{cases_lt, eqb-true, or_from}
@@ -12,7 +12,7 @@ use Rattle.rustc_lexer.specs.LiteralGrammar.{hashes, IsDoubleQuoted, IsSuffixBef
 use Rattle.rustc_lexer.specs.LanguageCalls as the
 use Rattle.rustc_lexer.specs.LanguageCalls.{IsGuardedBefore}
 use Rattle.rustc_lexer.specs.LanguageHolds as holds
-use Rattle.rustc_lexer.specs.LanguageHolds.{TakesGuarded, TakesTheGuarded}
+use Rattle.rustc_lexer.specs.LanguageHolds.{TakesGuarded}
 use Rattle.rustc_lexer.specs.means.Literal.{suffix_len}
 use Rattle.rustc_lexer.specs.means.Quoted.{double_quoted_string}
 use Rattle.rustc_lexer.specs.means.Raw.{is_hash, is_quote, hash_run}
@@ -166,7 +166,7 @@ taken s = let g = guarded (chars s.rest) in by_left g.count g.left (sym g.whole)
         by_quote false f = record { answer = _; is = holds.none n (c ∷ u) e (or_from (c == 34) _ f (or_from (c == 35) false stop refl)) }
 
 -- this and nothing else
-pub guarded-answer : (s t : State) (answer : Option GuardedStr) → answer ≡ (spec.guarded s).0 → t ≡ (spec.guarded s).1 → TakesTheGuarded s answer t
+pub guarded-answer : (s t : State) (answer : Option GuardedStr) → answer ≡ (spec.guarded s).0 → t ≡ (spec.guarded s).1 → (other : Option GuardedStr × State) → TakesGuarded s other ↔ (other ≡ (answer, t))
 guarded-answer s t answer e f other = (
   λ is. takes-read is ∙ whole,
   λ g. let h = taken s in subst (TakesGuarded s) (takes-read h.is ∙ sym (g ∙ sym whole)) h.is,

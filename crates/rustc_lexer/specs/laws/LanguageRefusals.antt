@@ -1,5 +1,5 @@
 -- Why a raw string is refused is what the language says, and nothing else is.
-use Rattle.std.proofs.Common.{◌≡◌, ℕ, zero, suc, ◌+◌, ◌<◌, ◌≤◌, ◌==◌, nat_le, Bool, true, false, if◌then◌else◌, List, [], ◌∷◌, ◌++◌, length, take, drop, refl, sym, ap, ◌∙◌, subst, arith, append_assoc, length-append, Option, Some, None, Result, Ok, Err}
+use Rattle.std.proofs.Common.{◌≡◌, ◌↔◌, ℕ, zero, suc, ◌+◌, ◌<◌, ◌≤◌, ◌==◌, nat_le, Bool, true, false, if◌then◌else◌, List, [], ◌∷◌, ◌++◌, length, take, drop, refl, sym, ap, ◌∙◌, subst, arith, append_assoc, length-append, Option, Some, None, Result, Ok, Err}
 use Rattle.std.proofs.Math.Nat.{le-max_left, le-max_right, max-le}
 use Rattle.std.proofs.Math.Seq.{take-append_seam, drop-append_seam}
 use Rattle.std.proofs.lemmas.Bool.{eqb-true, or_parts, or_from, leb-true, leb-false, le-leb, lt-leb, false_from_ne_true, eq-eqb}
@@ -10,7 +10,6 @@ use Rattle.rustc_lexer.specs.declared.token.RawStrError.TheVariants.{InvalidStar
 use Rattle.rustc_lexer.specs.LiteralGrammar.{hashes, NoQuoteWith}
 use Rattle.rustc_lexer.specs.LanguageCalls as the
 use Rattle.rustc_lexer.specs.LanguageCalls.{IsLikelyEnd, IsRawAnswer}
-use Rattle.rustc_lexer.specs.LanguageHolds.{IsTheRawAnswer}
 use Rattle.rustc_lexer.specs.means.Least.{one_more}
 use Rattle.rustc_lexer.specs.means.Raw.{is_hash, hash_run, close, most_hashes, quote_hashes, quote_with, best_quote, quote_if, quote_end, hash_count, raw_closed, raw_starter, raw_read, checked, raw_check}
 use Rattle.rustc_lexer.specs.means.Scan.{bytes_of}
@@ -185,7 +184,7 @@ has-answer p s = let g = guarded s in subst (HasAnswer p) g.whole (by_left g.cou
         by_quote false e = record { answer = Err (InvalidStarter c); is = the.no_quote n c u (or_from (c == 34) _ e (or_from (c == 35) false stop refl)) }
 
 -- this one and no other
-pub raw-answer : (text : List ℕ) (p : ℕ) (result : Result Unit RawStrError) → result ≡ raw_check text p → IsTheRawAnswer text p result
+pub raw-answer : (text : List ℕ) (p : ℕ) (result : Result Unit RawStrError) → result ≡ raw_check text p → (other : Result Unit RawStrError) → IsRawAnswer p (drop p (chars text)) other ↔ (other ≡ result)
 unfolding raw_check
 raw-answer text p result e other = (
   λ is. answer-read is ∙ sym e,

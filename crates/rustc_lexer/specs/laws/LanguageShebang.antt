@@ -1,5 +1,5 @@
 -- What is taken for a shebang line is what the language says, and nothing else is.
-use Rattle.std.proofs.Common.{◌≡◌, ℕ, zero, suc, ◌+◌, ◌-◌, ◌<◌, ◌≤◌, ◌==◌, ◌&&◌, ◌||◌, not, Bool, true, false, true≢false, if◌then◌else◌, List, [], ◌∷◌, ◌++◌, length, get_or, take, drop, codes, refl, sym, ap, ◌∙◌, subst, arith, take-append-drop, length-append, Option, Some, None}
+use Rattle.std.proofs.Common.{◌≡◌, ◌↔◌, ℕ, zero, suc, ◌+◌, ◌-◌, ◌<◌, ◌≤◌, ◌==◌, ◌&&◌, ◌||◌, not, Bool, true, false, true≢false, if◌then◌else◌, List, [], ◌∷◌, ◌++◌, length, get_or, take, drop, codes, refl, sym, ap, ◌∙◌, subst, arith, take-append-drop, length-append, Option, Some, None}
 use lib.Utf8.{encode}
 use Rattle.std.proofs.lemmas.Bool.{and_parts, eqb-true}
 use Rattle.std.proofs.lemmas.List.{append-nil}
@@ -17,7 +17,6 @@ use Rattle.rustc_lexer.specs.Language as page
 use Rattle.rustc_lexer.specs.Language.{has_rule, IsTokenBefore}
 use Rattle.rustc_lexer.specs.LanguageCalls as the
 use Rattle.rustc_lexer.specs.LanguageCalls.{IsAttributeRest, IsLineBefore, IsShebang}
-use Rattle.rustc_lexer.specs.LanguageHolds.{IsTheShebang}
 use Rattle.rustc_lexer.specs.means.Lexeme.{past_first, first_token, symbols, kind_among}
 use Rattle.rustc_lexer.specs.means.Scan.{begins}
 use Rattle.rustc_lexer.specs.means.Shebang.{is_passed, is_open_bracket, is_attribute, before_newline, line_len, shebang_past, shebang}
@@ -284,7 +283,7 @@ has-shebang text is = by_mark (begins (codes "#!") text) refl
     by_mark false e = record { answer = None; is = the.no_start e }
 
 -- this one and no other
-pub shebang-answer : (text : List ℕ) (answer : Option ℕ) → IsText text → answer ≡ shebang text → IsTheShebang text answer
+pub shebang-answer : (text : List ℕ) (answer : Option ℕ) → IsText text → answer ≡ shebang text → (other : Option ℕ) → IsShebang text other ↔ (other ≡ answer)
 shebang-answer text answer is e other = (
   λ s. answer-read is s ∙ sym e,
   λ f. let h = has-shebang text is in subst (IsShebang text) (answer-read is h.is ∙ sym (f ∙ e)) h.is,

@@ -1,14 +1,12 @@
 -- The tokens of a text are those that the language allows, and no other list of tokens is.
-use Rattle.std.proofs.Common.{◌≡◌, ℕ, ◌+◌, ◌<◌, ◌≤◌, ◌==◌, ◌||◌, not, codes, append_assoc, drop-drop, Bool, true, false, List, [], ◌∷◌, ◌++◌, length, take, drop, refl, sym, ap, ◌∙◌, subst, arith, length-append, length-take-le, take-append-drop, Result, Ok, Err, IfOk}
+use Rattle.std.proofs.Common.{◌≡◌, ◌↔◌, ℕ, ◌+◌, ◌<◌, ◌≤◌, ◌==◌, ◌||◌, not, codes, append_assoc, drop-drop, Bool, true, false, List, [], ◌∷◌, ◌++◌, length, take, drop, refl, sym, ap, ◌∙◌, subst, arith, length-append, length-take-le, take-append-drop}
 use Rattle.std.proofs.Math.Seq.{take-append_seam, drop-append_seam}
-use Rattle.std.proofs.lemmas.Bool.{ne_eqb}
 use Rattle.std.proofs.lemmas.Str.{chars-append, chars-nil, IsUtf8-take, IsUtf8-drop, IsCharBoundary-from_take, encodes-chars}
 use Rattle.std.specs.Str.{chars, encode_utf8_all, IsUtf8}
 use Rattle.rustc_lexer.specs.declared.edition.Edition.{Edition}
-use Rattle.rustc_lexer.specs.declared.edition.Edition.TheVariants.{E2024}
 use Rattle.rustc_lexer.specs.declared.token.Token.{Token}
 use Rattle.rustc_lexer.specs.declared.token.TokenKind.{TokenKind}
-use Rattle.rustc_lexer.specs.declared.token.TokenKind.TheVariants.{Frontmatter, Eof}
+use Rattle.rustc_lexer.specs.declared.token.TokenKind.TheVariants.{Frontmatter}
 use Rattle.rustc_lexer.specs.Classes.{is_among, is_whitespace}
 use Rattle.rustc_lexer.specs.means.Tokens.{tokens_of}
 use Rattle.rustc_lexer.specs.means.Edition.{token, first_token_in}
@@ -17,20 +15,15 @@ use Rattle.rustc_lexer.specs.laws.LanguageClosing.{ends-read, ends-are}
 use Rattle.rustc_lexer.specs.laws.LanguageFrontmatter.{fence-length, opening-read, Opened, opened, opens-none, none-opens}
 use Rattle.rustc_lexer.specs.laws.LanguageLiterals.{bytes-append}
 use Rattle.rustc_lexer.specs.FrontmatterGrammar.{fence, IsOpeningBefore, opening, EndsAt}
-use Rattle.rustc_lexer.specs.Language.{BeginsWith}
 use Rattle.rustc_lexer.specs.LanguageIn.{IsTokenIn}
 use Rattle.rustc_lexer.specs.LanguageText.{Mode, IsDocument, document, part, mode_edition, mode_after, AreTokens, nothing, something, frontmatter_first}
-use Rattle.rustc_lexer.specs.LanguageHolds.{HoldsTheOnlyTokens}
 use Rattle.rustc_lexer.specs.Spans.{bytes}
-use Rattle.rustc_lexer.specs.means.Lexeme.{first_token}
 use Rattle.rustc_lexer.specs.means.Scan.{bytes_of, next_is, past}
-use Rattle.rustc_lexer.specs.State.{State}
-use Rattle.rustc_lexer.specs.means.Taking.{token_at, advance}
+use Rattle.rustc_lexer.specs.means.Taking.{token_at}
 use Rattle.rustc_lexer.specs.Locality.{IsText}
 use Rattle.rustc_lexer.specs.laws.Frontmatter.{closing_end-boundary, closing_end-inside}
 use Rattle.rustc_lexer.specs.laws.LanguageIn.{token-read-in, first-front}
-use Rattle.rustc_lexer.specs.laws.LanguageFront.{empty-text, split, first_token-of, first_token-empty}
-use Rattle.rustc_lexer.specs.laws.State.{state, past_token, advance-end, advance-some, first-advanced}
+use Rattle.rustc_lexer.specs.laws.LanguageFront.{empty-text, split}
 use Rattle.rustc_lexer.specs.laws.Tokens.{token_at-cuts, by_tokens, tokens-nil, tokens-cons}
 
 -- ---- a list that the language allows is the list of the tokens
@@ -168,5 +161,5 @@ pub tokens-are : (text : List ℕ) (mode : Mode) → IsText text → AreOf text 
 tokens-are = by_tokens AreOf (λ mode. rw (tokens-nil mode) (subst (λ (cs : List ℕ). AreTokens mode cs []) (sym chars-nil) nothing)) (λ text mode is some rest. rw (tokens-cons mode text is some) (puts mode text is some rest))
 
 -- these and no others
-pub language : (text : List ℕ) (mode : Mode) → IsText text → HoldsTheOnlyTokens mode text (tokens_of mode text)
+pub language : (text : List ℕ) (mode : Mode) → IsText text → (tokens : List Token) → AreTokens mode (chars text) tokens ↔ (tokens ≡ tokens_of mode text)
 language text mode is tokens = (λ are. sym (tokens-read are text is refl), λ e. subst (AreTokens mode (chars text)) (sym e) (tokens-are text mode is))

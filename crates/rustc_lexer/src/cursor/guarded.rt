@@ -3,7 +3,6 @@ ghost use Rattle.std.specs.Prelude.{◌≡◌, ◌≤◌, IfSome, min, length};
 ghost use Rattle.std.specs.Str.{chars, IsCharBoundary};
 ghost use Rattle.rustc_lexer.specs.Answers.{guarded};
 ghost use Rattle.rustc_lexer.specs.means.Guarded as spec;
-ghost use Rattle.rustc_lexer.specs.LanguageHolds.{TakesTheGuarded};
 ghost use Rattle.rustc_lexer.specs.means.Raw.{hash_run};
 ghost use Rattle.rustc_lexer.specs.means.Scan.{past, scanned};
 
@@ -27,7 +26,6 @@ impl<'a> Cursor<'a> {
     pub fn guarded_double_quoted_string(&mut self) -> Option<GuardedStr>
         ensures answer { result ≡ (guarded self.old).0 }
         ensures state { self.new ≡ (guarded self.old).1 }
-        ensures language { TakesTheGuarded self.old result self.new }
     {
         let rest = self.as_str();
         let n_hashes = count_hashes(rest);

@@ -3,7 +3,6 @@ ghost use Rattle.std.specs.Prelude.{◌≡◌, ◌+◌, IfErr, OnOk, Some, take}
 ghost use Rattle.rustc_lexer.specs.Tokens.{tokens_by};
 ghost use Rattle.rustc_lexer.specs.EditLists.{apply_list, AreEdits, lexed_list, stop_at, IsStop, IsCounted};
 ghost use Rattle.rustc_lexer.specs.ErrorTexts.{stop_text};
-ghost use Rattle.rustc_lexer.specs.Tokens.{HoldsTheOnlyTokensBy};
 
 use crate::entry::stepper::Stepper;
 use crate::relex::edit::Edit;
@@ -45,8 +44,6 @@ impl<S: Stepper> LexedText<S> {
         ensures text { OnOk result (self.new.text ≡ apply_list self.old.text edits.now) }
         ensures from_scratch { self.new.tokens
             ≡ tokens_by (S.grammar self.old.stepper) self.new.text }
-        ensures language { HoldsTheOnlyTokensBy (S.grammar self.old.stepper) self.new.text
-            self.new.tokens }
         ensures grammar { S.grammar self.new.stepper ≡ S.grammar self.old.stepper }
         ensures number { S.number self.new.stepper ≡ S.number self.old.stepper }
         ensures count { OnOk result

@@ -4,7 +4,6 @@ ghost use Rattle.rustc_lexer.specs.declared.edition.Edition.TheVariants.{E2024};
 ghost use Rattle.rustc_lexer.specs.Classes.{Fits};
 ghost use Rattle.rustc_lexer.specs.Tokens.{bound, tokens_by, tokens_of};
 ghost use Rattle.rustc_lexer.specs.Edits.{IsEdit, IsInside, apply, relexed_of};
-ghost use Rattle.rustc_lexer.specs.Tokens.{HoldsTheOnlyTokensBy};
 ghost use Rattle.rustc_lexer.specs.LanguageText.{part};
 ghost use Rattle.rustc_lexer.specs.Answers.{first_in};
 
@@ -87,7 +86,6 @@ impl<S: Stepper> LexedText<S> {
     pub fn tokens(&self) -> &[Token]
         ensures tokens { result.now ≡ self.now.tokens }
         ensures from_scratch { result.now ≡ tokens_by (S.grammar self.now.stepper) self.now.text }
-        ensures language { HoldsTheOnlyTokensBy (S.grammar self.now.stepper) self.now.text result.now }
     {
         self.tokens.as_slice()
     }
@@ -115,8 +113,6 @@ impl<S: Stepper> LexedText<S> {
         ensures always { IsTrue result }
         ensures from_scratch { self.now.tokens
             ≡ tokens_by (S.grammar self.now.stepper) self.now.text }
-        ensures language { HoldsTheOnlyTokensBy (S.grammar self.now.stepper) self.now.text
-            self.now.tokens }
     {
         self.tokens.len() <= self.text.len()
     }
@@ -145,8 +141,6 @@ impl<S: Stepper> LexedText<S> {
         ensures text { OnOk result (self.new.text ≡ apply self.old.text start stop insert.now) }
         ensures from_scratch { self.new.tokens
             ≡ tokens_by (S.grammar self.old.stepper) self.new.text }
-        ensures language { HoldsTheOnlyTokensBy (S.grammar self.old.stepper) self.new.text
-            self.new.tokens }
         ensures relexed { IfOk result
             (λ r. r ≡ relexed_of (S.grammar self.old.stepper) self.old.text start stop insert.now) }
         ensures all { IfOk result

@@ -1,6 +1,4 @@
 use Rattle.rustc_lexer.specs.LanguageText.{mode_in}
-use Rattle.rustc_lexer.specs.laws.LanguageIn.{page}
-use Rattle.rustc_lexer.specs.laws.LanguageTokens.{language}
 use Rattle.rustc_lexer.proofs.TextLemmas.{suffixes, texts}
 use Rattle.rustc_lexer.specs.laws.Tokens.{partitions}
 use Rattle.rustc_lexer.proofs.TokensLemmas.{restarts}
@@ -17,9 +15,3 @@ returns-clause-suffixes c = suffixes _ (mode_in c.args.frontmatter_allowed c.arg
 
 pub returns-clause-texts : goal.returns-clause-texts
 returns-clause-texts c = texts _ (mode_in c.args.frontmatter_allowed c.args.edition) record { utf8 = c.utf8.text; fits = c.requires.fits }
-
-pub returns-clause-language : goal.returns-clause-language
-returns-clause-language c = language _ (mode_in c.args.frontmatter_allowed c.args.edition) record { utf8 = c.utf8.text; fits = c.requires.fits }
-
-pub returns-clause-page : goal.returns-clause-page
-returns-clause-page c = page

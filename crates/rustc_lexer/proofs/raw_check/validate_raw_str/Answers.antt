@@ -1,6 +1,5 @@
 use Rattle.std.proofs.Common.{sym, ap, ◌∙◌, arith}
 use Rattle.rustc_lexer.specs.means.Raw.{checked}
-use Rattle.rustc_lexer.specs.laws.LanguageRefusals.{raw-answer}
 use Rattle.rustc_lexer.proofs.RawReadLemmas.{check_is, prefix_fits}
 use Rattle.rustc_lexer.proofs.raw_check.validate_raw_str.Goals as goal
 
@@ -8,7 +7,7 @@ pub raw_double_quoted_string-read-requires : goal.raw_double_quoted_string-read-
 raw_double_quoted_string-read-requires c = record { fits = let fits = prefix_fits _ _ _ c.utf8.input c.past_chars.ensures c.requires.raw in omega arith }
 
 pub returns-in-Ok : goal.returns-in-Ok
-returns-in-Ok c = let e = ap checked (sym c.in-Ok.is) ∙ check_is _ _ _ c.utf8.input c.past_chars.ensures _ _ c.raw_double_quoted_string-read.ensures.read in record { check = e; language = raw-answer _ _ _ e }
+returns-in-Ok c = record { check = ap checked (sym c.in-Ok.is) ∙ check_is _ _ _ c.utf8.input c.past_chars.ensures _ _ c.raw_double_quoted_string-read.ensures.read }
 
 pub returns-in-Err : goal.returns-in-Err
-returns-in-Err c = let e = ap checked (sym c.in-Err.is) ∙ check_is _ _ _ c.utf8.input c.past_chars.ensures _ _ c.raw_double_quoted_string-read.ensures.read in record { check = e; language = raw-answer _ _ _ e }
+returns-in-Err c = record { check = ap checked (sym c.in-Err.is) ∙ check_is _ _ _ c.utf8.input c.past_chars.ensures _ _ c.raw_double_quoted_string-read.ensures.read }

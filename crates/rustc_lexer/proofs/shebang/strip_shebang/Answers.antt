@@ -1,5 +1,4 @@
 use Rattle.std.proofs.Common.{sym}
-use Rattle.rustc_lexer.specs.laws.LanguageShebang.{shebang-answer}
 use Rattle.rustc_lexer.proofs.ShebangLemmas.{no_shebang, attribute_here, line_here}
 use Rattle.rustc_lexer.proofs.shebang.strip_shebang.Goals as goal
 
@@ -15,16 +14,3 @@ pub returns-clause-line : goal.returns-clause-line
 returns-clause-line c =
     let at = c.in_ok-tail.ensures.cases in
     line_here c.args.input.now _ at.0 at.1.0 at.1.1 at.2 _ (sym c.if-is_attribute.ensures) c.line_len.ensures.line
-
-pub returns-in_err-tail-clause-language : goal.returns-in_err-tail-clause-language
-returns-in_err-tail-clause-language c = rw c.from_residual.ensures (shebang-answer c.args.input.now _ record { utf8 = c.utf8.input; fits = c.requires.fits } (no_shebang c.args.input.now c.in_err-tail.ensures.cases))
-
-pub returns-then-is_attribute-clause-language : goal.returns-then-is_attribute-clause-language
-returns-then-is_attribute-clause-language c =
-    let at = c.in_ok-tail.ensures.cases in
-    shebang-answer c.args.input.now _ record { utf8 = c.utf8.input; fits = c.requires.fits } (attribute_here c.args.input.now _ at.0 at.1.0 at.1.1 at.2 (sym c.if-is_attribute.ensures))
-
-pub returns-clause-language : goal.returns-clause-language
-returns-clause-language c =
-    let at = c.in_ok-tail.ensures.cases in
-    shebang-answer c.args.input.now _ record { utf8 = c.utf8.input; fits = c.requires.fits } (line_here c.args.input.now _ at.0 at.1.0 at.1.1 at.2 _ (sym c.if-is_attribute.ensures) c.line_len.ensures.line)

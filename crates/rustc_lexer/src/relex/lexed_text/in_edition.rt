@@ -4,7 +4,6 @@ ghost use Rattle.rustc_lexer.specs.declared.edition.Edition.{Edition};
 ghost use Rattle.rustc_lexer.specs.Classes.{Fits};
 ghost use Rattle.rustc_lexer.specs.Answers.{first_in};
 ghost use Rattle.rustc_lexer.specs.LanguageIn.{year};
-ghost use Rattle.rustc_lexer.specs.LanguageHolds.{HoldsTheOnlyTokens};
 ghost use Rattle.rustc_lexer.specs.LanguageText.{part};
 ghost use Rattle.rustc_lexer.specs.Tokens.{tokens_of};
 
@@ -26,7 +25,6 @@ impl LexedText<Steps> {
         ensures from_scratch { IfOk result (λ l. l.tokens ≡ tokens_of (part edition) text.now) }
         ensures grammar { IfOk result
             (λ l. ⟦<Steps as Stepper>⟧.grammar l.stepper ≡ first_in edition) }
-        ensures language { IfOk result (λ l. HoldsTheOnlyTokens (part edition) text.now l.tokens) }
         ensures number { IfOk result (λ l. ⟦<Steps as Stepper>⟧.number l.stepper ≡ year edition) }
         ensures count { IfOk result (λ l. ⟦<Steps as Stepper>⟧.count l.stepper ≡ length l.tokens) }
     {
@@ -40,7 +38,6 @@ impl LexedText<Steps> {
             → ⟦<Steps as Stepper>⟧.number self.now.stepper ≡ year edition → result ≡ edition }
         ensures grammar { ⟦<Steps as Stepper>⟧.grammar self.now.stepper ≡ first_in result }
         ensures from_scratch { self.now.tokens ≡ tokens_of (part result) self.now.text }
-        ensures language { HoldsTheOnlyTokens (part result) self.now.text self.now.tokens }
     {
         self.stepper.edition()
     }
@@ -49,8 +46,6 @@ impl LexedText<Steps> {
     pub fn set_edition(&mut self, edition: Edition) -> Result<(), AllocError>
         ensures text { self.new.text ≡ self.old.text }
         ensures from_scratch { OnOk result (self.new.tokens ≡ tokens_of (part edition) self.new.text) }
-        ensures language { OnOk result
-            (HoldsTheOnlyTokens (part edition) self.new.text self.new.tokens) }
         ensures grammar { OnOk result
             (⟦<Steps as Stepper>⟧.grammar self.new.stepper ≡ first_in edition) }
         ensures number { OnOk result (⟦<Steps as Stepper>⟧.number self.new.stepper ≡ year edition) }

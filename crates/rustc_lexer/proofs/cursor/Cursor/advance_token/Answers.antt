@@ -6,8 +6,7 @@ use Rattle.rustc_lexer.specs.State.{State, token_past}
 use Rattle.rustc_lexer.specs.means.Taking.{token_at}
 use Rattle.rustc_lexer.specs.Locality.{IsText}
 use Rattle.rustc_lexer.proofs.AdvanceLemmas.{not_end, takes_pending, stays_at_end, something}
-use Rattle.rustc_lexer.specs.LanguageHolds.{TakesTokenOf}
-use Rattle.rustc_lexer.proofs.LanguageTextLemmas.{advance-language, takes-first}
+use Rattle.rustc_lexer.proofs.LanguageTextLemmas.{takes-first}
 use Rattle.rustc_lexer.specs.laws.State.{state, past_token, past_token-is, advance-end, advance-some}
 use Rattle.rustc_lexer.proofs.cursor.Cursor.advance_token.Goals as goal
 
@@ -20,7 +19,6 @@ returns-then-is_empty c =
       state = sym (ap (λ (r : Token × State). r.1) none);
       end = λ e. stays_at_end _ _ _ c.as_str-rest.ensures.rest (sym c.if-is_empty.ensures) refl;
       past = λ other. absurd (other refl);
-      language = subst (TakesTokenOf c.args.self.now) (ap (λ (r : Token × State). r.0) none) (advance-language c.args.self.now c.as_str-rest.ensures.newest (subst IsText c.as_str-rest.ensures.rest record { utf8 = c.as_str-rest.utf8; fits = c.as_str-rest.ensures.fits }));
       pending = λ other. absurd (other refl);
     }
 
@@ -45,6 +43,5 @@ returns c =
       state = state;
       end = λ e. absurd (not_end c.args.self.now _ _ text left token state e);
       past = λ other. takes_pending c.args.self.now _ _ text left token state;
-      language = subst (TakesTokenOf c.args.self.now) (sym token) (advance-language c.args.self.now c.as_str-rest.ensures.newest text);
       pending = λ other. takes-first c.args.self.now _ _ text left token state;
     }

@@ -2,7 +2,6 @@ use Rattle.std.proofs.Common.{Option, ap, sym}
 use Rattle.rustc_lexer.specs.declared.token.GuardedStr.{GuardedStr}
 use Rattle.rustc_lexer.specs.State.{State}
 use Rattle.rustc_lexer.proofs.GuardedLemmas.{none_here, some_here}
-use Rattle.rustc_lexer.specs.laws.LanguageGuarded.{guarded-answer}
 use Rattle.rustc_lexer.proofs.cursor.Cursor.guarded_double_quoted_string.Goals as goal
 
 pub returns-in_default-clause-answer : goal.returns-in_default-clause-answer
@@ -20,13 +19,3 @@ returns-clause-answer c =
 pub returns-clause-state : goal.returns-clause-state
 returns-clause-state c =
     sym (ap (λ (r : Option GuardedStr × State). r.1) (some_here _ _ _ _ _ _ c.self.view_is c.as_str-rest.ensures.rest c.self.invariant.0 _ c.count_hashes-n_hashes.ensures.count _ _ c.in-Some.ensures.read))
-
-pub returns-in_default-clause-language : goal.returns-in_default-clause-language
-returns-in_default-clause-language c =
-    let e = none_here _ _ _ _ _ _ c.self.view_is c.as_str-rest.ensures.rest c.self.invariant.0 _ c.count_hashes-n_hashes.ensures.count c.in_default.ensures.read in
-    guarded-answer _ _ _ (sym (ap (λ (r : Option GuardedStr × State). r.0) e)) (sym (ap (λ (r : Option GuardedStr × State). r.1) e))
-
-pub returns-clause-language : goal.returns-clause-language
-returns-clause-language c =
-    let e = some_here _ _ _ _ _ _ c.self.view_is c.as_str-rest.ensures.rest c.self.invariant.0 _ c.count_hashes-n_hashes.ensures.count _ _ c.in-Some.ensures.read in
-    guarded-answer _ _ _ (sym (ap (λ (r : Option GuardedStr × State). r.0) e)) (sym (ap (λ (r : Option GuardedStr × State). r.1) e))

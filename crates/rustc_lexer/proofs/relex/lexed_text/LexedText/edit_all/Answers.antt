@@ -15,7 +15,6 @@ loop-at-preserved g c =
       c.in-Ok.ensures.grammar ∙ c.loop-at.invariant.3,
       c.in-Ok.ensures.number ∙ c.loop-at.invariant.4,
       omega (arith, c.in-Ok.ensures.count, c.loop-at.invariant.5, lexed, more),
-      λ edition e. c.in-Ok.ensures.language edition (c.loop-at.invariant.3 ∙ e),
     )
 
 pub returns-in-Err-clause-stop_count : goal.returns-in-Err-clause-stop_count

@@ -1,7 +1,5 @@
-use Rattle.std.proofs.Common.{◌≡◌, ◌≤◌, length, arith, rules, le-leb, subst, string_bytes}
+use Rattle.std.proofs.Common.{◌≡◌, ◌≤◌, length, arith, rules, le-leb, string_bytes}
 use Rattle.rustc_lexer.proofs.BoundLemmas.{tokens_le_bytes}
-use Rattle.rustc_lexer.specs.Tokens.{HoldsTheOnlyTokensBy}
-use Rattle.rustc_lexer.proofs.LanguageTextLemmas.{held-by}
 use Rattle.rustc_lexer.proofs.relex.lexed_text.LexedText.is_consistent.Goals as goal
 
 pub returns-clause-always : goal.returns-clause-always
@@ -11,6 +9,3 @@ returns-clause-always g c =
     let tokens : c.len.result ≡ length c.self.inside.tokens.items = search rules in
     let bytes : c.len-2.result ≡ length (string_bytes c.self.inside.text) = search rules in
     le-leb _ _ (omega (arith, few, tokens, bytes))
-
-pub returns-clause-language : goal.returns-clause-language
-returns-clause-language g c = subst (λ h. HoldsTheOnlyTokensBy (g.S.Stepper.grammar h.stepper) h.text h.tokens) c.self.view_is (held-by (g.S.Stepper.grammar c.self.inside.stepper) (string_bytes c.self.inside.text) c.self.invariant.0 c.self.inside.tokens.items c.self.invariant.1)
