@@ -70,12 +70,6 @@ all_written written tokens room filled count is all = record {
   tokens = whole_room written tokens room filled count is;
 }
 
-pub full_written : {X : Type 0} (written : Token → X) (tokens : List Token) (room filled : List X) (count : ℕ) → IsWritten written tokens room filled count → length filled ≤ count → IsFilled written tokens room filled count
-full_written written tokens room filled count is full = record {
-  as_many = let n : length room ≤ length tokens = omega (arith, is.few, is.long) in let e : count ≡ length room = omega (arith, is.within, is.long) in e ∙ sym (min-eq_left n);
-  tokens = whole_room written tokens room filled count is;
-}
-
 -- the tokens that begin before a place are written, and no other is left to be, or no room
 pub begun_more : (tokens : List Token) (count at end : ℕ) → at ≡ bound tokens count → at < end → ((k : ℕ) → k < count → bound tokens k < end) → (k : ℕ) → k < count + 1 → bound tokens k < end
 begun_more tokens count at end place more begun k less = elim (cases_lt k count) [

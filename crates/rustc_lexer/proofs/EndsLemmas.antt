@@ -1,5 +1,5 @@
 -- The ends of runs, what is known past them, and the tokens that are told by them.
-use Rattle.std.proofs.Common.{◌≡◌, ◌≢◌, ℕ, zero, suc, ◌+◌, ◌-◌, ◌/◌, ◌^◌, bit_and, ◌<◌, ◌≤◌, nat_le, Bool, true, false, true≢false, not, ◌&&◌, ◌||◌, List, ◌∷◌, length, map, drop, get_or, refl, sym, ap, ap₂, subst, ◌∙◌, arith, length-drop, ◌⊎◌, inl, inr}
+use Rattle.std.proofs.Common.{◌≡◌, ◌≢◌, ℕ, zero, suc, ◌+◌, ◌-◌, ◌/◌, ◌^◌, bit_and, ◌<◌, ◌≤◌, nat_le, Bool, true, false, true≢false, not, ◌&&◌, List, ◌∷◌, length, map, drop, get_or, refl, sym, ap, ap₂, subst, ◌∙◌, arith, length-drop, ◌⊎◌, inl, inr}
 use Rattle.std.specs.List.{prefix_len}
 use Rattle.std.specs.Str.{IsUtf8}
 use Rattle.std.proofs.Math.Seq.{drop-cons}
@@ -82,10 +82,6 @@ ends_past text m from n late near are first later (suc j) set =
     at : (k : ℕ) → k ≤ suc j → bit late k ≡ is_end (drop n text) k
     at zero le = first
     at (suc k) le = later k ∙ ((are (n + suc j) (sym (later j) ∙ set)).2 (n + suc k) (omega (arith, near)) (omega arith) ∙ sym (end_past n text k))
-
-pub past_none : (text : List ℕ) (m : ℕ) → IsEnds text m → AreEndsPast text 0 m
-past_none text m are zero set = absurd (true≢false (sym set ∙ (are zero set).1 zero (omega arith)))
-past_none text m are (suc j) set = (omega arith, (are (suc j) set).0, λ k some le. (are (suc j) set).1 k le)
 
 pub past_end : (text : List ℕ) (m from low less : ℕ) → AreEndsPast text from m → IsLowest m low → ((k : ℕ) → k ≤ low → bit less k ≡ false) → ((k : ℕ) → low < k → bit less k ≡ bit m k) → AreEndsPast text low less
 past_end text m from low less are lowest gone others j set = elim (cases_lt low j) [

@@ -121,9 +121,6 @@ back tokens n place d is some few =
     let next : IsNext tokens (n - 1) (get_or tokens (n - 1) d) = next-from_drop tokens (n - 1) _ _ (drop-cons tokens (n - 1) d (omega arith)) in
     sym next.end ∙ (ap (bound tokens) one ∙ sym is)
 
-pub back_inside : (tokens : List Token) (n place : ℕ) (d : Token) → place ≡ bound tokens n → 0 < n → n ≤ length tokens → (get_or tokens (n - 1) d).len ≤ place
-back_inside tokens n place d is some few = omega (arith, back tokens n place d is some few)
-
 pub back_place : (tokens : List Token) (n place : ℕ) (d : Token) → place ≡ bound tokens n → 0 < n → n ≤ length tokens → (n - 1 ≤ length tokens) × (place - (get_or tokens (n - 1) d).len ≡ bound tokens (n - 1))
 back_place tokens n place d is some few = (omega arith, omega (arith, back tokens n place d is some few))
 

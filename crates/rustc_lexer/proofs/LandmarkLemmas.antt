@@ -77,8 +77,3 @@ module _ {first : List ℕ → Token} (law : IsGrammar first) (text : List ℕ) 
         front = ap (take kept.number) made ∙ take_at front (lexed ++ drop met.number old) kept.number short;
         back = ap (drop (kept.number + size)) split ∙ drop_at (front ++ lexed) (drop met.number old) (kept.number + size) long;
       } in (movable_for old list kept met _ landmarks e whole replaced are, replaced)
-
--- the list that `replace` leaves, by the lists that its arguments are
-pub list_for : (old items slice lexed list : List Token) (kept met : ℕ) → old ≡ items → slice ≡ lexed → list ≡ take kept items ++ (slice ++ drop met items) → list ≡ take kept old ++ (lexed ++ drop met old)
-list_for old items slice lexed list kept met e f made =
-    made ∙ (ap (λ ts. take kept items ++ (ts ++ drop met items)) f ∙ ap (λ ts. take kept ts ++ (lexed ++ drop met ts)) (sym e))

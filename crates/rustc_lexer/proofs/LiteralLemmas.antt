@@ -22,12 +22,6 @@ module _ (p : ℕ) (body : Body × ℕ) (s : List ℕ) where
   pub suffix_within : suffix_start_of (literal_past p body s).0 ≤ p + bytes_of (literal_past p body s).1 s
   suffix_within = omega (arith, bytes-add body.1 (suffixed body.0.takes_suffix (drop body.1 s)) s)
 
-  -- at its end, where none is taken
-  pub suffix_none : body.0.takes_suffix ≡ false → suffix_start_of (literal_past p body s).0 ≡ p + bytes_of (literal_past p body s).1 s
-  suffix_none e =
-      let all : body.1 ≡ (literal_past p body s).1 = sym (ap (λ (b : Bool). body.1 + suffixed b (drop body.1 s)) e ∙ omega arith) in
-      ap (λ (n : ℕ). p + bytes_of n s) all
-
 -- within the whole token
 pub suffix-first : (kind : TokenKind) (n c : ℕ) (s : List ℕ) → suffix_start_of kind ≤ 1 + bytes_of n s → suffix_start_of kind ≤ bytes_of (suc n) (c ∷ s)
 suffix-first kind n c s le = omega (arith, bytes_of-suc n c s, length-encode c, len_utf8_bounds c)

@@ -17,7 +17,7 @@ use Rattle.rustc_lexer.proofs.BoundLemmas.{number_le_bound, rises}
 use Rattle.rustc_lexer.proofs.BulkLemmas.{next_place, next_token, over, stands as place_stands}
 use Rattle.rustc_lexer.specs.laws.Cuts.{IsCutAt, at_bound}
 use Rattle.rustc_lexer.proofs.ProgressLemmas.{IsPlace}
-use Rattle.rustc_lexer.proofs.RelexingLemmas.{below_later, made_text, stands_inside, stands_next}
+use Rattle.rustc_lexer.proofs.RelexingLemmas.{below_later, made_text, stands_next}
 
 -- a place before that end meets nothing
 early : (old : List Token) (past added removed place : ℕ) → place < past → false ≡ meets_at old past added removed place
@@ -53,9 +53,6 @@ module _ {first : List ℕ → Token} (law : IsGrammar first) (before lengths in
 
   made_here : IsText text
   made_here = made_text law before lengths insert text change is
-
-  inside_here : at.at < length text
-  inside_here = stands_inside law before lengths insert text change is at stands no_meeting
 
   spot : IsPlace text at.at
   spot = place_stands law text made_here (known at) at.at stands.place

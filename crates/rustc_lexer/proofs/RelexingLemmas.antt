@@ -1,5 +1,5 @@
 -- Relexing by the lengths of the old tokens: where it stands, from its beginning to the meeting.
-use Rattle.std.proofs.Common.{◌≡◌, ℕ, zero, suc, ◌+◌, ◌-◌, ◌<◌, ◌≤◌, Bool, true, false, cond, ◌||◌, eqb, eqb-true, eq-eqb, true≢false, List, [], ◌∷◌, ◌++◌, length, map, take, drop, refl, sym, ap, ◌∙◌, subst, arith, length-drop, length-append, IsUtf8, take-add, take_at, drop-drop, length-take-le, append_assoc, eq-or-lt_of_le, inl, inr, IsCharBoundary, max}
+use Rattle.std.proofs.Common.{◌≡◌, ℕ, zero, suc, ◌+◌, ◌-◌, ◌<◌, ◌≤◌, Bool, true, false, cond, eqb, eqb-true, eq-eqb, true≢false, List, [], ◌∷◌, ◌++◌, length, map, take, drop, refl, sym, ap, ◌∙◌, subst, arith, length-drop, length-append, IsUtf8, take-add, take_at, drop-drop, length-take-le, append_assoc, eq-or-lt_of_le, inl, inr, IsCharBoundary, max}
 use Rattle.std.proofs.lemmas.List.{length-map}
 use Rattle.std.proofs.Math.Nat.{le-max_left, le-max_right, max-le}
 use Rattle.std.proofs.lemmas.Str.{IsUtf8-append, IsUtf8-drop, IsCharBoundary-at_seam, IsCharBoundary-from_drop}
@@ -169,13 +169,6 @@ module _ {first : List ℕ → Token} (law : IsGrammar first) (before lengths in
         let past : damage.past ≤ length text = omega arith in
         let ends : bound old (length old) + damage.added ≡ length text + damage.removed = omega (arith, bound-last law before is.is_text) in
         going_inside first old text damage.past damage.added damage.removed at.front.number law made_text items at.at at.back.number at.back.place at.met going added past ends out
-
-    pub stands_end : length text ≤ at.at → at.met ≡ true
-    stands_end ends = by_test at.met refl
-      where
-        by_test : (b : Bool) → at.met ≡ b → b ≡ true
-        by_test true e = refl
-        by_test false e = absurd (let more = stands_inside e in omega arith)
 
     -- at the end of the text they are met
     pub over_met : at.met ≡ false → eqb at.at (length text) ≡ at.met

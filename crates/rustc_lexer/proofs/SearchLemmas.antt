@@ -27,9 +27,6 @@ pub record IsPast (pattern rest : List ℕ) (rare from : ℕ) : Type 0 where
   pub inside : from ≤ length rest
   pub none : (k : ℕ) → k + rare < from → OccursAt rest pattern k → ⊥
 
-pub past_none : (pattern rest : List ℕ) (rare : ℕ) → rare < length pattern → length pattern ≤ length rest → IsPast pattern rest rare rare
-past_none pattern rest rare within enough = record { low = omega arith; inside = omega arith; none = λ k l occurs. absurd (omega arith) }
-
 -- a text that is shorter has no place for it
 pub too_short : (pattern rest : List ℕ) (rare : ℕ) → rare < length pattern → length rest < length pattern → None ≡ first pattern rest
 too_short pattern rest rare within short = found-first rest pattern (omega arith) None (λ k low high occurs. let f = occurs.fits in omega arith)

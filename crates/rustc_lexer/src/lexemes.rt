@@ -1,12 +1,9 @@
 //! The token at the front of a text: a choice by its first character, and a function for each family.
 ghost use Rattle.std.specs.Prelude.{◌≡◌, ◌+◌, ◌<◌, ◌^◌, length};
-ghost use Rattle.rustc_lexer.specs.declared.token.TokenKind.{TokenKind};
 ghost use Rattle.rustc_lexer.specs.Classes.{Fits};
-ghost use Rattle.rustc_lexer.specs.laws.Language.{IsLanguage};
 ghost use Rattle.rustc_lexer.specs.means.Lexeme as spec;
 ghost use Rattle.rustc_lexer.specs.means.Quick.{IsFirstToken};
-ghost use Rattle.rustc_lexer.specs.means.Scan.{IsLocal, scanned};
-ghost use Rattle.rustc_lexer.specs.Locality.{IsGrammar};
+ghost use Rattle.rustc_lexer.specs.means.Scan.{scanned};
 
 use crate::lexemes::comment::slash;
 use crate::lexemes::family::{Family, family_of};
@@ -40,16 +37,10 @@ mod word;
 ///
 /// The commonest tokens are told by their bytes. Where these tell one, it is the one that the first character
 /// chooses: both ways promise the same.
-///
-/// No token looks further than two characters past its end: so it is of characters, and of texts, at whose bounds
-/// tokens end.
 #[inline(always)]
 pub(crate) fn lexeme(text: &str) -> Token
     requires fits { Fits text.now }
-    ensures token { IsFirstToken text.now result }
-    ensures lookahead { IsLocal TokenKind 2 spec.lexeme }
-    ensures grammar { IsGrammar spec.first_token }
-    ensures language { IsLanguage }
+    ensures { IsFirstToken text.now result }
 {
     match quick_token(text) {
         Some(token) => token,

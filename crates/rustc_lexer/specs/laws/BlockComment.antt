@@ -3,7 +3,7 @@ use Rattle.std.proofs.Common.{◌≡◌, ℕ, suc, ◌+◌, ◌≤◌, true, fal
 use Rattle.rustc_lexer.specs.declared.token.DocStyle.{DocStyle}
 use Rattle.rustc_lexer.specs.declared.token.TokenKind.{TokenKind}
 use Rattle.rustc_lexer.specs.declared.token.TokenKind.TheVariants.{BlockComment}
-use Rattle.rustc_lexer.specs.means.BlockComment.{at_closing, at_opening, comment_end, block_doc_style, block_comment_to, block_comment, IsClosedAlone}
+use Rattle.rustc_lexer.specs.means.BlockComment.{at_closing, at_opening, comment_end, block_doc_style, block_comment_to, block_comment}
 use Rattle.rustc_lexer.specs.means.BlockGrammar.{Closes, at_mark, nested, past_one}
 use Rattle.rustc_lexer.specs.laws.BlockGrammar.{comment_end-found, comment_end-allowed}
 use Rattle.rustc_lexer.specs.laws.Reach.{IsToldBy, cut, cut_past, HasFirst, cut_first, told_same, wider, all_at, found_at, found-inside, found-same}
@@ -98,11 +98,3 @@ block_comment_local s = by_end (comment_end s) refl
     by_end : (o : Option ℕ) → comment_end s ≡ o → IsLocalAt TokenKind 1 block_comment s
     by_end None e = all_at 1 block_comment s (omega arith) (ap (λ (o : Option ℕ). (block_comment_to o s).1) e)
     by_end (Some n) e = wider 0 1 (omega arith) (closed_at s n e)
-
--- a closed comment is read alike whatever follows it
-pub closed_alone : IsClosedAlone
-closed_alone s style is = by_end (comment_end s) refl is
-  where
-    by_end : (o : Option ℕ) → comment_end s ≡ o → (block_comment_to o s).0 ≡ BlockComment style true → IsLocalAt TokenKind 0 block_comment s
-    by_end None e is = absurd (cc)
-    by_end (Some n) e is = closed_at s n e

@@ -1,5 +1,5 @@
 -- One character further in a text.
-use Rattle.std.proofs.Common.{◌≡◌, ℕ, suc, ◌+◌, List, ◌∷◌, ◌++◌, length, take, drop, refl, sym, ap, ◌∙◌, arith, length-append}
+use Rattle.std.proofs.Common.{◌≡◌, ℕ, suc, ◌+◌, List, ◌∷◌, ◌++◌, length, take, drop, sym, ap, ◌∙◌, arith, length-append}
 use Rattle.std.specs.Char.{encode_utf8, len_utf8}
 use Rattle.std.specs.Str.{chars, encode_utf8_all, IsUtf8, IsCharBoundary}
 use Rattle.std.proofs.lemmas.Str.{chars_past_char, IsUtf8-past_char, length-encode, drop_past_char, IsCharBoundary-from_drop}
@@ -15,9 +15,6 @@ pub record Step (text left next : List ℕ) (c w end : ℕ) : Type 0 where
   pub reads : chars left ≡ c ∷ chars next
   pub width : length (encode_utf8 c) ≡ w
   pub stands : Stands text next (end + w)
-
-pub start : (text : List ℕ) → IsUtf8 text → Stands text text 0
-start text is = record { utf8 = is; len = omega arith; place = refl }
 
 pub step : (text left next : List ℕ) (c w end : ℕ) → Stands text left end → left ≡ encode_utf8 c ++ next → w ≡ len_utf8 c → Step text left next c w end
 step text left next c w end at e is = record {

@@ -5,7 +5,7 @@ use Rattle.rustc_lexer.specs.declared.token.TokenKind.{TokenKind}
 use Rattle.rustc_lexer.specs.declared.token.TokenKind.TheVariants.{Ident, InvalidIdent, UnknownPrefix}
 use Rattle.rustc_lexer.specs.Classes.{is_id_continue}
 use Rattle.rustc_lexer.specs.means.Ident.{is_word, is_prefix_mark, ident_kind, ident_or_unknown_prefix, invalid_ident, marks_ident, marked}
-use Rattle.rustc_lexer.specs.laws.Reach.{IsToldBy, next_is-told, wider, after_at, yes_at, either_at, run_as_local, run_local}
+use Rattle.rustc_lexer.specs.laws.Reach.{IsToldBy, next_is-told, wider, after_at, either_at, run_as_local, run_local}
 use Rattle.rustc_lexer.specs.means.Scan.{IsLocalAt, IsLocal, after, run}
 
 -- an identifier looks at the character after it
@@ -36,6 +36,3 @@ past_mark_at kind s e = after_at 1 2 (run kind is_id_continue) s (marks_ident-le
 
 pub marked_local : (kind : TokenKind) (other : List ℕ → TokenKind × ℕ) → IsLocal TokenKind 2 other → IsLocal TokenKind 2 (marked kind other)
 marked_local kind other is s = either_at 2 2 marks_ident (after 2 (run kind is_id_continue)) other marks_ident-told s (omega arith) (λ e. wider 1 2 (omega arith) (past_mark_at kind s e)) (λ e. is s)
-
-pub marked_at : (kind : TokenKind) (other : List ℕ → TokenKind × ℕ) (s : List ℕ) → marks_ident s ≡ true → IsLocalAt TokenKind 1 (marked kind other) s
-marked_at kind other s e = yes_at 2 1 marks_ident (after 2 (run kind is_id_continue)) other marks_ident-told s e (omega arith) (past_mark_at kind s e)

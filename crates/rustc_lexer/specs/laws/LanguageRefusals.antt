@@ -19,10 +19,6 @@ use Rattle.rustc_lexer.specs.laws.LanguageRaw.{guard-length, guard-hashes, at_le
 
 -- ---- the most hashes behind a quote
 
--- the hashes behind a quote, and none behind another character
-at-quote : (w : List ℕ) → quote_hashes (34 ∷ w) ≡ hash_run w
-at-quote w = refl
-
 at-other : (c : ℕ) (w : List ℕ) → (c == 34) ≡ false → quote_hashes (c ∷ w) ≡ 0
 at-other c w e = rw e refl
 

@@ -1,5 +1,5 @@
 -- What the language says of runs, and which family the first character of a text chooses.
-use Rattle.std.proofs.Common.{◌≡◌, ℕ, suc, ◌+◌, ◌≤◌, ◌<◌, ◌==◌, ◌&&◌, ◌||◌, inl, inr, nat_le, not, Bool, true, false, true≢false, if◌then◌else◌, List, [], ◌∷◌, ◌++◌, length, take, drop, codes, refl, sym, ap, ◌∙◌, subst, arith, take_all}
+use Rattle.std.proofs.Common.{◌≡◌, ℕ, suc, ◌+◌, ◌≤◌, ◌<◌, ◌==◌, ◌&&◌, inl, inr, nat_le, not, Bool, true, false, true≢false, if◌then◌else◌, List, [], ◌∷◌, ◌++◌, length, take, drop, codes, refl, sym, ap, ◌∙◌, subst, arith, take_all}
 use Rattle.std.proofs.Math.Seq.{take-append_seam, drop-append_seam}
 use Rattle.std.proofs.lemmas.Bool.{agree_below_at, and_parts, eqb-true, leb-true, ne_eqb, or_cases, or_parts, or_left, or_right, not-true, false_from_ne_true}
 use Rattle.std.specs.Char.{is_ascii_digit}
@@ -55,9 +55,6 @@ either-way b t f = absurd (true≢false (sym t ∙ f))
 
 -- ---- classes that do not meet
 
-spaces : List ℕ
-spaces = 0x9 ∷ 0xA ∷ 0xB ∷ 0xC ∷ 0xD ∷ 0x20 ∷ 0x85 ∷ 0x200E ∷ 0x200F ∷ 0x2028 ∷ 0x2029 ∷ []
-
 space-no_word_start : (c : ℕ) → is_whitespace c ≡ true → is_word_start c ≡ false
 unfolding unicode_ident is_emoji emoji_ranges
 space-no_word_start c e = none-among is_word_start (0x9 ∷ 0xA ∷ 0xB ∷ 0xC ∷ 0xD ∷ 0x20 ∷ 0x85 ∷ 0x200E ∷ 0x200F ∷ 0x2028 ∷ 0x2029 ∷ []) refl c e
@@ -91,9 +88,6 @@ pub start-word_start : (c : ℕ) → is_id_start c ≡ true → is_word_start c 
 start-word_start c e = or_left (is_id_start c) (is_emoji c) e
 
 -- ---- families
-
-slash-no_space : is_whitespace 47 ≡ false
-slash-no_space = refl
 
 slash-no_start : is_word_start 47 ≡ false
 unfolding unicode_ident is_emoji emoji_ranges

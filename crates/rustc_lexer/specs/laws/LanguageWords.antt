@@ -184,10 +184,6 @@ pub record HasStart (w : List ℕ) : Type 0 where
   pub start : is_id_start first ≡ true
   pub all : AreAll is_id_continue rest
 
-pub ident-start : (w : List ℕ) → is_ident w ≡ true → HasStart w
-ident-start [] e = absurd (true≢false (sym e))
-ident-start (c ∷ w) e = let parts = and_parts (is_id_start c) (list_all is_id_continue w) e in record { first = c; rest = w; whole = refl; start = parts.0; all = parts.1 }
-
 pub continue-word : (w : List ℕ) → AreAll is_id_continue w → AreAll is_word_continue w
 continue-word [] all = refl
 continue-word (c ∷ w) all = let parts = and_parts (is_id_continue c) (list_all is_id_continue w) all in rw parts.0 (continue-word w parts.1)

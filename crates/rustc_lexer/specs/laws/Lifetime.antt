@@ -1,5 +1,5 @@
 -- How far a character or a lifetime looks past its end.
-use Rattle.std.proofs.Common.{◌≡◌, ℕ, zero, suc, ◌+◌, ◌≤◌, ◌<◌, ◌==◌, ◌&&◌, ◌||◌, not, Bool, true, false, true≢false, if◌then◌else◌, List, [], ◌∷◌, length, take, drop, codes, refl, sym, ap, ◌∙◌, arith}
+use Rattle.std.proofs.Common.{◌≡◌, ℕ, suc, ◌+◌, ◌==◌, ◌&&◌, not, Bool, true, false, if◌then◌else◌, List, [], ◌∷◌, length, codes, refl, ap, arith}
 use Rattle.std.proofs.lemmas.Bool.{and_parts}
 use Rattle.std.specs.Char.{is_ascii_digit}
 use Rattle.std.specs.Str.{byte, encode_utf8_all}
@@ -9,12 +9,12 @@ use Rattle.rustc_lexer.specs.declared.token.TokenKind.TheVariants.{Literal, Life
 use Rattle.rustc_lexer.specs.Classes.{is_id_continue}
 use Rattle.rustc_lexer.specs.means.Ident.{is_word, marks_ident}
 use Rattle.rustc_lexer.specs.laws.Ident.{marks_ident-told, past_mark_at}
-use Rattle.rustc_lexer.specs.means.Lifetime.{is_name_start, is_marked, past_name, plain_lifetime, lifetime, is_character, is_character_at, is_raw, lifetime_or_char}
+use Rattle.rustc_lexer.specs.means.Lifetime.{is_name_start, is_marked, past_name, plain_lifetime, lifetime, is_character_at, is_raw, lifetime_or_char}
 use Rattle.rustc_lexer.specs.means.Literal.{literal}
-use Rattle.rustc_lexer.specs.means.Quoted.{char_body, single_quoted_string}
-use Rattle.rustc_lexer.specs.laws.Quoted.{char_local, char_closed, single_closed}
-use Rattle.rustc_lexer.specs.laws.Reach.{IsToldBy, begins-told, begins-length, told_same, wider, same_at, and_then_at, and_then_local, yes_at, no_at, either_at, first_at, first_local, run_as_local}
-use Rattle.rustc_lexer.specs.means.Scan.{IsLocalAt, IsLocal, after, begins, gives, run, run_as, run_len}
+use Rattle.rustc_lexer.specs.means.Quoted.{char_body}
+use Rattle.rustc_lexer.specs.laws.Quoted.{char_local}
+use Rattle.rustc_lexer.specs.laws.Reach.{IsToldBy, begins-told, begins-length, told_same, wider, same_at, and_then_local, either_at, first_local, run_as_local}
+use Rattle.rustc_lexer.specs.means.Scan.{IsLocalAt, IsLocal, after, begins, gives, run, run_as}
 
 -- what a name is that no quote follows, and one that a quote follows
 abbrev pub unquoted_name : ℕ → List ℕ → List ℕ → TokenKind × ℕ
@@ -46,15 +46,6 @@ name_local = run_as_local (λ name rest. name) is_word (λ front s. refl)
 
 pub plain_lifetime_local : (c : ℕ) → IsLocal TokenKind 1 (plain_lifetime c)
 plain_lifetime_local c = and_then_local 1 name_of (past_name c) name_local (past_name_local c)
-
--- a name that a quote follows depends on nothing past that
-plain_lifetime_quoted : (c : ℕ) (s : List ℕ) → begins (codes "'") (drop (run_len is_word s) s) ≡ true → IsLocalAt TokenKind 0 (plain_lifetime c) s
-plain_lifetime_quoted c s t =
-    let name : List ℕ = take (run_len is_word s) s in
-    let left : List ℕ = drop (run_len is_word s) s in
-    let one : (past_name c name left).1 ≡ 1 = rw t refl in
-    and_then_at 1 0 name_of (past_name c) s (name_local s)
-    (yes_at 1 0 (begins (codes "'")) (quoted_name c name) (unquoted_name c name) (begins-told (codes "'")) left t (omega arith) (quoted_name_at c name left t)) (omega arith)
 
 pub is_raw_told : (c : ℕ) → IsToldBy 2 (is_raw c)
 is_raw_told c s = ap (λ b. c == byte "r" && b) (marks_ident-told s)
@@ -88,35 +79,3 @@ is_chosen (c ∷ s) = refl
 pub lifetime_or_char_local : IsLocal TokenKind 2 lifetime_or_char
 lifetime_or_char_local s = same_at 2 lifetime_or_char chosen s is_chosen
     (either_at 2 2 is_character_at (literal char_body) of_name is_character_told s (omega arith) (λ t. char_local s) (λ t. first_local 2 (Lifetime false) lifetime of_name (omega arith) refl (λ c s. refl) lifetime_local s))
-
--- a closed character depends on one character past its end
-pub char_at : (s : List ℕ) → is_character_at s ≡ true → (single_quoted_string s).0 ≡ true → IsLocalAt TokenKind 1 lifetime_or_char s
-char_at s t closed =
-    let some = (single_closed s closed).some in
-    same_at 1 lifetime_or_char chosen s is_chosen (yes_at 2 1 is_character_at (literal char_body) of_name is_character_told s t (omega arith) (char_closed s closed))
-
--- a name looks as far as what follows its first character, which tells that it is one with the next
-name_at : (k c : ℕ) (s : List ℕ) → is_character c s ≡ false → 1 ≤ (lifetime c s).1 + k → IsLocalAt TokenKind k (lifetime c) s → IsLocalAt TokenKind k lifetime_or_char (c ∷ s)
-name_at k c s t takes is = same_at k lifetime_or_char chosen (c ∷ s) is_chosen
-    (no_at 2 k is_character_at (literal char_body) of_name is_character_told (c ∷ s) t (omega arith) (first_at k lifetime of_name c s (λ c s. refl) is))
-
--- a raw lifetime depends on one character past its end
-pub raw_lifetime_at : (c : ℕ) (s : List ℕ) → is_character c s ≡ false → is_raw c s ≡ true → IsLocalAt TokenKind 1 lifetime_or_char (c ∷ s)
-raw_lifetime_at c s t r = name_at 1 c s t (omega arith) (yes_at 2 1 (is_raw c) raw (plain_lifetime c) (is_raw_told c) s r (omega arith) (raw_at c s r))
-
--- a name that a quote makes a character depends on nothing past that
-pub long_char_at : (c : ℕ) (s : List ℕ) → is_character c s ≡ false → is_raw c s ≡ false → begins (codes "'") (drop (run_len is_word s) s) ≡ true → IsLocalAt TokenKind 0 lifetime_or_char (c ∷ s)
-long_char_at c s t r q =
-    let n : ℕ = run_len is_word s in
-    let some : 0 < n = by_run n refl in
-    let taken : (plain_lifetime c s).1 ≡ n + 1 = rw q refl in
-    let chosen_is : lifetime c s ≡ plain_lifetime c s = rw r refl in
-    name_at 0 c s t (rw chosen_is (omega arith)) (no_at 2 0 (is_raw c) raw (plain_lifetime c) (is_raw_told c) s r (omega arith) (plain_lifetime_quoted c s q))
-  where
-    no_quote : (a b : Bool) → a || b ≡ false → a ≡ false
-    no_quote true b e = absurd (true≢false e)
-    no_quote false b e = refl
-
-    by_run : (n : ℕ) → run_len is_word s ≡ n → 0 < n
-    by_run zero e = absurd (true≢false (sym (rw e at q) ∙ no_quote (begins (codes "'") s) (not (is_name_start c)) t))
-    by_run (suc n) e = omega arith

@@ -1,5 +1,5 @@
 -- The number that is read is the longest that stands at the front of its text.
-use Rattle.std.proofs.Common.{◌≡◌, ◌↔◌, ℕ, suc, nat_le, ◌+◌, ◌≤◌, ◌<◌, ◌==◌, ◌&&◌, ◌||◌, inl, inr, not, Bool, true, false, true≢false, List, [], ◌∷◌, ◌++◌, length, take, drop, refl, sym, ap, ◌∙◌, subst, arith, codes, append_assoc, length-append, take-append-drop, length-take-le}
+use Rattle.std.proofs.Common.{◌≡◌, ℕ, suc, nat_le, ◌+◌, ◌≤◌, ◌<◌, ◌==◌, ◌&&◌, inl, inr, not, Bool, true, false, true≢false, List, [], ◌∷◌, ◌++◌, length, take, drop, refl, sym, ap, ◌∙◌, subst, arith, codes, append_assoc, length-append, take-append-drop, length-take-le}
 use Rattle.std.proofs.lemmas.Bool.{agree_below_at, and_parts, eqb-true, leb-true, ne_eqb, or_cases, or_right}
 use Rattle.std.specs.Char.{is_ascii_digit}
 use Rattle.std.specs.List.{list_all, list_any}
@@ -276,17 +276,3 @@ longest-is {kind} {n} first s digit is =
     let short = is.longest (number_kind first s).0 (1 + (number_kind first s).1) the_read.stands in
     let len : n ≡ 1 + (number_kind first s).1 = omega (arith, long, short) in
     (only-read first s kind n is.stands len, len)
-
--- the number that is read, up to its suffix, is the longest at the front of the text, the only one
-abbrev pub AreLongest : Type 0
-AreLongest =
-    (c : ℕ) (s : List ℕ) (kind : LiteralKind) (n : ℕ)
-    → is_ascii_digit c ≡ true
-    → IsLongestNumber kind n (c ∷ s)
-    ↔ ((kind ≡ (number_kind c s).0) × (n ≡ 1 + (number_kind c s).1))
-
-pub numbers-longest : AreLongest
-numbers-longest first s kind n digit = (
-  longest-is first s digit,
-  λ e. subst (λ (k : LiteralKind). IsLongestNumber k n (first ∷ s)) (sym e.0) (subst (λ (m : ℕ). IsLongestNumber (number_kind first s).0 m (first ∷ s)) (sym e.1) (longest-read first s digit)),
-)

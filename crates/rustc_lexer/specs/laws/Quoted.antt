@@ -1,16 +1,14 @@
 -- How far quoted text looks past its end.
 use Rattle.std.proofs.Common.{◌≡◌, ℕ, suc, ◌+◌, ◌≤◌, ◌<◌, ◌&&◌, not, Bool, true, false, true≢false, if◌then◌else◌, List, [], ◌∷◌, length, take, drop, reverse, codes, refl, sym, ap, ◌∙◌, arith, length-drop, Option, Some, None}
 use Rattle.std.specs.Str.{byte}
-use Rattle.rustc_lexer.specs.declared.lexemes.quoted.QuotedPrefix.{QuotedPrefix}
-use Rattle.rustc_lexer.specs.declared.lexemes.quoted.QuotedPrefix.TheVariants.{Single, BSingle, Double, BDouble, CDouble}
 use Rattle.rustc_lexer.specs.declared.token.LiteralKind.{LiteralKind}
-use Rattle.rustc_lexer.specs.declared.token.LiteralKind.TheVariants.{Char, Byte, Str, ByteStr, CStr}
+use Rattle.rustc_lexer.specs.declared.token.LiteralKind.TheVariants.{Char, Str}
 use Rattle.rustc_lexer.specs.declared.token.TokenKind.{TokenKind}
 use Rattle.rustc_lexer.specs.means.Literal.{Body, literal}
-use Rattle.rustc_lexer.specs.laws.Literal.{literal_at, literal_local}
-use Rattle.rustc_lexer.specs.means.Quoted.{is_backslash, is_odd, is_escaped, free_place, stopped, quoted, at_double_quote, double_quoted_string, at_single_stop, is_lone, single_quoted_string, quoted_body, str_body, byte_str_body, c_str_body, char_body, byte_body, quoted_string, quoted_literal, quoted_least, quoted_reach}
-use Rattle.rustc_lexer.specs.laws.Reach.{IsToldBy, cut, cut_past, told_same, begins-told, begins-length, all_at, read_as_at, after_at, yes_at, no_at, either_at, wider, found-inside, found-same, least_found}
-use Rattle.rustc_lexer.specs.means.Scan.{IsLocalAt, IsLocal, IsFound, after, begins, run_len}
+use Rattle.rustc_lexer.specs.laws.Literal.{literal_local}
+use Rattle.rustc_lexer.specs.means.Quoted.{is_backslash, is_odd, is_escaped, free_place, stopped, quoted, at_double_quote, double_quoted_string, at_single_stop, is_lone, single_quoted_string, quoted_body, str_body, char_body}
+use Rattle.rustc_lexer.specs.laws.Reach.{IsToldBy, cut, cut_past, told_same, begins-told, begins-length, all_at, read_as_at, either_at, wider, found-inside, found-same, least_found}
+use Rattle.rustc_lexer.specs.means.Scan.{IsLocalAt, IsLocal, IsFound, begins, run_len}
 
 module _ (k : ℕ) (some : 0 < k) (test : List ℕ → Bool) (told : IsToldBy k test) where
   -- the place of a stop depends on what stands before it and on what tells it
@@ -60,27 +58,9 @@ module _ (k : ℕ) (some : 0 < k) (test : List ℕ → Bool) (told : IsToldBy k 
       pub closes : begins (quote ∷ []) (drop place s) ≡ true
       pub takes : (quoted quote test s).1 ≡ suc place
 
-    pub is_closed : (s : List ℕ) → (quoted quote test s).0 ≡ true → IsClosed s
-    is_closed s t = by_place (free_place test s) refl
-      where
-        by_place : (o : Option ℕ) → free_place test s ≡ o → IsClosed s
-        by_place None e = absurd (true≢false (sym t ∙ ap (λ (r : Bool × ℕ). r.0) (place_is s None e)))
-        by_place (Some n) e = by_quote (begins (quote ∷ []) (drop n s)) refl
-          where
-            by_quote : (q : Bool) → begins (quote ∷ []) (drop n s) ≡ q → IsClosed s
-            by_quote true f = record { place = n; found = e; closes = f; takes = ap (λ (r : Bool × ℕ). r.1) (at_place s n true e f) }
-            by_quote false f = absurd (true≢false (sym t ∙ ap (λ (r : Bool × ℕ). r.0) (at_place s n false e f)))
-
-    -- so it looks one character less far
-    pub closed_at : (j : ℕ) → k ≡ suc j → (s : List ℕ) → (quoted quote test s).0 ≡ true → IsLocalAt Bool j (quoted quote test) s
-    closed_at j same s t = let c = is_closed s t in stopped_at j s c.place true c.found c.closes (omega (arith, c.takes))
-
 -- double quotes
 pub double_quoted_string_local : IsLocal Bool 1 double_quoted_string
 double_quoted_string_local = quoted_local 1 (omega arith) at_double_quote (begins-told (codes "\"")) (byte "\"")
-
-pub double_quoted_string_closed : (s : List ℕ) → (double_quoted_string s).0 ≡ true → IsLocalAt Bool 0 double_quoted_string s
-double_quoted_string_closed = closed_at 1 (omega arith) at_double_quote (begins-told (codes "\"")) (byte "\"") 0 refl
 
 -- single quotes
 single_told : IsToldBy 2 at_single_stop
@@ -114,23 +94,6 @@ pub record ClosesSingle (s : List ℕ) : Type 0 where
   pub some : 0 < (single_quoted_string s).1
   pub at : IsLocalAt Bool 1 single_quoted_string s
 
-pub single_closed : (s : List ℕ) → (single_quoted_string s).0 ≡ true → ClosesSingle s
-single_closed s closed = by_test (is_lone s) refl
-  where
-    by_test : (b : Bool) → is_lone s ≡ b → ClosesSingle s
-    by_test true t = record { some = rw t (omega arith); at = yes_at 2 1 is_lone (λ s. (true, 2)) past_single lone_told s t (omega arith) (wider 0 1 (omega arith) (lone_at s t)) }
-    by_test false t =
-        let is_past : single_quoted_string s ≡ past_single s = rw t refl in
-        let shut : (past_single s).0 ≡ true = sym (ap (λ (r : Bool × ℕ). r.0) is_past) ∙ closed in
-        let c = is_closed 2 (omega arith) at_single_stop single_told (byte "'") s shut in
-        record {
-          some = omega (arith, ap (λ (r : Bool × ℕ). r.1) is_past, c.takes);
-          at = no_at 2 1 is_lone (λ s. (true, 2)) past_single lone_told s t (omega (arith, c.takes)) (closed_at 2 (omega arith) at_single_stop single_told (byte "'") 1 refl s shut);
-        }
-
-pub single_quoted_string_closed : (s : List ℕ) → (single_quoted_string s).0 ≡ true → IsLocalAt Bool 1 single_quoted_string s
-single_quoted_string_closed s closed = (single_closed s closed).at
-
 -- literals, of which the closed ones take a suffix
 quoted_body_at : (k : ℕ) (kind : Bool → LiteralKind) (scan : List ℕ → Bool × ℕ) (s : List ℕ) → IsLocalAt Bool k scan s → IsLocalAt Body k (quoted_body kind scan) s
 quoted_body_at k kind scan s is = read_as_at k (λ closed. record { kind = kind closed; takes_suffix = closed }) scan s is
@@ -141,45 +104,8 @@ str_body_local kind s = quoted_body_at 1 kind double_quoted_string s (double_quo
 pub char_body_local : (kind : Bool → LiteralKind) → IsLocal Body 2 (quoted_body kind single_quoted_string)
 char_body_local kind s = quoted_body_at 2 kind single_quoted_string s (single_quoted_string_local s)
 
-char_body_closed : (kind : Bool → LiteralKind) (s : List ℕ) → (single_quoted_string s).0 ≡ true → IsLocalAt Body 1 (quoted_body kind single_quoted_string) s
-char_body_closed kind s t = quoted_body_at 1 kind single_quoted_string s (single_quoted_string_closed s t)
-
 pub str_local : IsLocal TokenKind 1 (literal str_body)
 str_local = literal_local 1 str_body (omega arith) (str_body_local Str)
 
 pub char_local : IsLocal TokenKind 2 (literal char_body)
 char_local = literal_local 2 char_body (omega arith) (char_body_local Char)
-
-pub char_closed : (s : List ℕ) → (single_quoted_string s).0 ≡ true → IsLocalAt TokenKind 1 (literal char_body) s
-char_closed s t = literal_at 1 1 char_body s (λ e. omega arith) (char_body_closed Char s t)
-
--- the literal whose quote a letter stands before
-lettered_at : (k : ℕ) (body : List ℕ → Body × ℕ) (s : List ℕ) → 0 < k → 1 ≤ length s → IsLocalAt Body k body (drop 1 s) → IsLocalAt TokenKind k (literal (after 1 body)) s
-lettered_at k body s some one is = literal_at 1 k (after 1 body) s (λ e. some) (after_at k 1 body s one is)
-
-pub byte_str_at : (s : List ℕ) → 1 ≤ length s → IsLocalAt TokenKind 1 (literal (after 1 byte_str_body)) s
-byte_str_at s one = lettered_at 1 byte_str_body s (omega arith) one (str_body_local ByteStr (drop 1 s))
-
-pub c_str_at : (s : List ℕ) → 1 ≤ length s → IsLocalAt TokenKind 1 (literal (after 1 c_str_body)) s
-c_str_at s one = lettered_at 1 c_str_body s (omega arith) one (str_body_local CStr (drop 1 s))
-
-pub byte_at : (s : List ℕ) → 1 ≤ length s → IsLocalAt TokenKind 2 (literal (after 1 byte_body)) s
-byte_at s one = lettered_at 2 byte_body s (omega arith) one (char_body_local Byte (drop 1 s))
-
-pub byte_closed : (s : List ℕ) → 1 ≤ length s → (single_quoted_string (drop 1 s)).0 ≡ true → IsLocalAt TokenKind 1 (literal (after 1 byte_body)) s
-byte_closed s one t = lettered_at 1 byte_body s (omega arith) one (char_body_closed Byte (drop 1 s) t)
-
--- any literal in quotes
-pub quoted_literal_at : (prefix : QuotedPrefix) (s : List ℕ) → quoted_least prefix ≤ length s → IsLocalAt TokenKind (quoted_reach prefix) (quoted_literal prefix) s
-quoted_literal_at Single s le = char_local s
-quoted_literal_at BSingle s le = byte_at s le
-quoted_literal_at Double s le = str_local s
-quoted_literal_at BDouble s le = byte_str_at s le
-quoted_literal_at CDouble s le = c_str_at s le
-
-pub quoted_literal_closed : (prefix : QuotedPrefix) (s : List ℕ) → quoted_least prefix ≤ length s → (quoted_string prefix s).0 ≡ true → IsLocalAt TokenKind 1 (quoted_literal prefix) s
-quoted_literal_closed Single s le t = char_closed s t
-quoted_literal_closed BSingle s le t = byte_closed s le t
-quoted_literal_closed Double s le t = str_local s
-quoted_literal_closed BDouble s le t = byte_str_at s le
-quoted_literal_closed CDouble s le t = c_str_at s le

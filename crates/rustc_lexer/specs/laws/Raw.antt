@@ -1,5 +1,5 @@
 -- How far a raw string looks past its end, and what its own text is read as.
-use Rattle.std.proofs.Common.{◌≡◌, ◌↔◌, ℕ, zero, suc, ◌+◌, ◌≤◌, ◌<◌, ◌&&◌, ◌⊎◌, inl, inr, min, nat_le, Bool, true, false, true≢false, if◌then◌else◌, List, [], ◌∷◌, ◌++◌, length, take, drop, refl, sym, ap, ◌∙◌, subst, arith, length-drop, take-take, take_all, drop_at, IsNone, IsSome, Option, Some, None, Result, Ok, Err}
+use Rattle.std.proofs.Common.{◌≡◌, ◌↔◌, ℕ, zero, suc, ◌+◌, ◌≤◌, ◌<◌, ◌&&◌, ◌⊎◌, inl, inr, min, nat_le, Bool, true, false, true≢false, if◌then◌else◌, List, [], ◌∷◌, ◌++◌, length, take, drop, refl, sym, ap, ◌∙◌, subst, arith, length-drop, take-take, take_all, drop_at, IsSome, Option, Some, None, Result, Ok, Err}
 use Rattle.std.proofs.lemmas.Bool.{leb-true, leb-false, le-leb, lt-leb, and_parts}
 use Rattle.std.specs.Str.{chars}
 use Rattle.rustc_lexer.specs.declared.lexemes.raw.RawPrefix.{RawPrefix}
@@ -9,7 +9,7 @@ use Rattle.rustc_lexer.specs.declared.token.RawStrError.TheVariants.{InvalidStar
 use Rattle.rustc_lexer.specs.declared.token.TokenKind.{TokenKind}
 use Rattle.rustc_lexer.specs.means.Literal.{Body}
 use Rattle.rustc_lexer.specs.laws.Literal.{literal_at}
-use Rattle.rustc_lexer.specs.means.Raw.{is_hash, is_quote, hash_run, closes, close, raw_closed, raw_text, past_starter, raw_starter, raw_read, accepted, is_accepted, raw_body, prefix_kind, prefix_len, raw_literal, checked, raw_check, HasEnd, EndsItself, RefusedEndsItself}
+use Rattle.rustc_lexer.specs.means.Raw.{is_hash, is_quote, hash_run, closes, close, raw_closed, raw_text, past_starter, raw_starter, raw_read, accepted, is_accepted, raw_body, prefix_kind, prefix_len, raw_literal, checked, raw_check, HasEnd, EndsItself}
 use Rattle.rustc_lexer.specs.laws.Reach.{IsToldBy, cut, cut_past, told_same, wider, all_at, read_as_at, and_then_at, first_at, gives_local, run_len_le, run_len_same, found-same, least-some, least_found}
 use Rattle.rustc_lexer.specs.means.Scan.{IsLocalAt, IsLocal, IsFound, gives, run_len}
 
@@ -158,15 +158,6 @@ raw_body_local kind s = body_at 1 kind s (raw_read_local 0 s)
 
 pub raw_literal_local : (prefix : RawPrefix) → IsLocal TokenKind 1 (raw_literal prefix)
 raw_literal_local prefix s = literal_at (prefix_len prefix) 1 (raw_body (prefix_kind prefix)) s (λ e. omega arith) (raw_body_local (prefix_kind prefix) s)
-
-pub refused-takes_none : (r : Result ℕ RawStrError) → IsNone (accepted r) → is_accepted r ≡ false
-refused-takes_none (Ok n) none = none
-refused-takes_none (Err e) none = refl
-
-pub raw_literal_within : (prefix : RawPrefix) → RefusedEndsItself prefix
-raw_literal_within prefix s none end = literal_at (prefix_len prefix) 0 (raw_body (prefix_kind prefix)) s
-    (λ e. absurd (true≢false (sym e ∙ refused-takes_none (raw_read 0 s).0 none)))
-    (body_at 0 (prefix_kind prefix) s (raw_read_within 0 s end))
 
 -- alone, the text of a token is read as the token was, with its suffix or without
 pub raw_literal_own : (prefix : RawPrefix) (p : ℕ) (s : List ℕ) → accepted (raw_read p (take (raw_literal prefix s).1 s)).0 ≡ accepted (raw_read 0 s).0

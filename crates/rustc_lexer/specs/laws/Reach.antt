@@ -218,9 +218,6 @@ run_local a p = run_as_local (λ front rest. a) p (λ front s. refl)
 -- ---- ends
 
 module _ (end : List ℕ → Option ℕ) where
-  abbrev up_to : List ℕ → Option ℕ × ℕ
-  up_to u = (end u, (or_all end u).1)
-
   abbrev up_to_at : Option ℕ → List ℕ → Option ℕ × ℕ
   up_to_at o u = (o, (or_all_at o u).1)
 

@@ -10,10 +10,6 @@ use Rattle.rustc_lexer.specs.means.Scan.{then_by, and_then, next_is, run_as, run
 abbrev pub Within : {A : Type 0} → Type 0 → A × ℕ → A → ℕ → Type 0
 Within reason r a n = (reason × (n < r.1)) ⊎ (r ≡ (a, n))
 
--- another answer
-pub within-as : {A B : Type 0} {R : Type 0} (f : A → B) (r : A × ℕ) (a : A) (n : ℕ) → Within R r a n → Within R (f r.0, r.1) (f a) n
-within-as {A} {B} f r a n w = elim w [ inl h ↦ inl h | inr e ↦ inr (ap (λ (r : A × ℕ). let q : B × ℕ = (f r.0, r.1) in q) e) ]
-
 -- past one character
 pub within-suc : {A : Type 0} {R : Type 0} (r : A × ℕ) (a : A) (n : ℕ) → Within R r a n → Within R (r.0, suc r.1) a (suc n)
 within-suc {A} r a n w = elim w [ inl h ↦ inl (h.0, omega (arith, h.1)) | inr e ↦ inr (ap (λ (r : A × ℕ). let q : A × ℕ = (r.0, suc r.1) in q) e) ]

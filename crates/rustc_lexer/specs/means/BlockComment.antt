@@ -1,11 +1,11 @@
 -- Means, by how it is read: block comments, from what follows the opening mark.
-use Rattle.std.specs.Prelude.{◌≡◌, ℕ, zero, suc, ◌&&◌, not, Bool, true, false, if◌then◌else◌, List, [], ◌∷◌, length, drop, codes, Option, Some, None}
+use Rattle.std.specs.Prelude.{ℕ, zero, suc, ◌&&◌, not, Bool, true, false, if◌then◌else◌, List, [], ◌∷◌, length, drop, codes, Option, Some, None}
 use Rattle.rustc_lexer.specs.declared.token.DocStyle.{DocStyle}
 use Rattle.rustc_lexer.specs.declared.token.DocStyle.TheVariants.{Outer, Inner}
 use Rattle.rustc_lexer.specs.declared.token.TokenKind.{TokenKind}
 use Rattle.rustc_lexer.specs.declared.token.TokenKind.TheVariants.{BlockComment}
 use Rattle.rustc_lexer.specs.means.Least.{more}
-use Rattle.rustc_lexer.specs.means.Scan.{IsLocalAt, begins}
+use Rattle.rustc_lexer.specs.means.Scan.{begins}
 
 -- whether a mark stands here that closes a comment, or one that opens another
 abbrev pub at_closing : List ℕ → Bool
@@ -53,7 +53,3 @@ block_comment_to (Some n) s = (BlockComment (block_doc_style s) true, n)
 -- what follows `/*`
 abbrev pub block_comment : List ℕ → TokenKind × ℕ
 block_comment s = block_comment_to (comment_end s) s
-
--- a closed comment is read alike whatever follows it
-abbrev pub IsClosedAlone : Type 0
-IsClosedAlone = (s : List ℕ) (style : Option DocStyle) → (block_comment s).0 ≡ BlockComment style true → IsLocalAt TokenKind 0 block_comment s

@@ -1,5 +1,5 @@
 -- Means, by how it is read: quoted text: what follows an opening quote.
-use Rattle.std.specs.Prelude.{ℕ, zero, suc, ◌==◌, ◌&&◌, ◌||◌, not, Bool, true, false, if◌then◌else◌, List, [], ◌∷◌, length, take, drop, reverse, codes, Option, Some, None}
+use Rattle.std.specs.Prelude.{ℕ, zero, suc, ◌==◌, ◌&&◌, not, Bool, true, false, if◌then◌else◌, List, [], ◌∷◌, length, take, drop, reverse, codes, Option, Some, None}
 use Rattle.std.specs.Str.{byte}
 use Rattle.rustc_lexer.specs.declared.lexemes.quoted.QuotedPrefix.{QuotedPrefix}
 use Rattle.rustc_lexer.specs.declared.lexemes.quoted.QuotedPrefix.TheVariants.{Single, BSingle, Double, BDouble, CDouble}
@@ -89,19 +89,3 @@ quoted_kind CDouble terminated = CStr terminated
 
 abbrev pub quoted_literal : QuotedPrefix → List ℕ → TokenKind × ℕ
 quoted_literal prefix s = literal (quoted_body (quoted_kind prefix) (quoted_string prefix)) s
-
--- how many characters of its prefix stand behind the first one
-abbrev pub quoted_least : QuotedPrefix → ℕ
-quoted_least Single = 0
-quoted_least BSingle = 1
-quoted_least Double = 0
-quoted_least BDouble = 1
-quoted_least CDouble = 1
-
--- how far it looks past its end
-abbrev pub quoted_reach : QuotedPrefix → ℕ
-quoted_reach Single = 2
-quoted_reach BSingle = 2
-quoted_reach Double = 1
-quoted_reach BDouble = 1
-quoted_reach CDouble = 1

@@ -1,5 +1,5 @@
 -- Means, by how it is read: raw strings, and the check of one.
-use Rattle.std.specs.Prelude.{ℕ, zero, suc, ◌+◌, ◌<◌, ◌==◌, nat_le, max, Bool, true, false, ◌&&◌, not, if◌then◌else◌, List, [], ◌∷◌, length, drop, Option, Some, None, IsNone, Result, Ok, Err}
+use Rattle.std.specs.Prelude.{ℕ, zero, suc, ◌+◌, ◌<◌, ◌==◌, nat_le, max, Bool, true, false, ◌&&◌, not, if◌then◌else◌, List, [], ◌∷◌, length, drop, Option, Some, None, Result, Ok, Err}
 use Rattle.std.specs.Str.{byte, chars}
 use Rattle.rustc_lexer.specs.declared.lexemes.raw.RawPrefix.{RawPrefix}
 use Rattle.rustc_lexer.specs.declared.lexemes.raw.RawPrefix.TheVariants.{R, Br, Cr}
@@ -142,7 +142,3 @@ HasEnd v (Err (NoTerminator n m end)) = ⊥
 -- what has an end of its own depends on nothing past it
 abbrev pub EndsItself : ℕ → Type 0
 EndsItself prefix = (s : List ℕ) → HasEnd (drop (hash_run s) s) (raw_read prefix s).0 → IsLocalAt (Result ℕ RawStrError) 0 (raw_read prefix) s
-
--- a refused raw string with an end of its own depends on nothing past it
-abbrev pub RefusedEndsItself : RawPrefix → Type 0
-RefusedEndsItself prefix = (s : List ℕ) → IsNone (accepted (raw_read 0 s).0) → HasEnd (drop (hash_run s) s) (raw_read 0 s).0 → IsLocalAt TokenKind 0 (raw_literal prefix) s

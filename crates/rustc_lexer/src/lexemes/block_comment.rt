@@ -1,25 +1,16 @@
 //! Block comments, which nest.
-ghost use Rattle.std.specs.Prelude.{◌≡◌, ◌↔◌, ℕ, List};
+ghost use Rattle.std.specs.Prelude.{◌≡◌};
 ghost use Rattle.std.specs.Str.{chars};
-ghost use Rattle.rustc_lexer.specs.declared.token.TokenKind.{TokenKind};
 ghost use Rattle.rustc_lexer.specs.means.BlockComment as spec;
-ghost use Rattle.rustc_lexer.specs.means.BlockComment.{IsClosedAlone};
-ghost use Rattle.rustc_lexer.specs.means.BlockGrammar.{Closes, IsEnd};
-ghost use Rattle.rustc_lexer.specs.means.Scan.{IsFound, IsLocal, or_all, scanned};
+ghost use Rattle.rustc_lexer.specs.means.Scan.{or_all, scanned};
 
 use crate::scan::{eat_until_either, first, second, split_first, strip};
 use crate::token::{DocStyle, TokenKind};
 
 /// A block comment. `body` is what follows its `/*`.
-///
-/// What closes it is what the grammar of nesting allows. A closed comment looks at nothing past its end.
 #[inline(always)]
 pub(crate) fn block_comment(body: &str) -> (TokenKind, &str)
-    ensures read { (result.0, result.1.now) ≡ scanned spec.block_comment body.now }
-    ensures lookahead { IsLocal TokenKind 1 spec.block_comment }
-    ensures closed { IsClosedAlone }
-    ensures end { IsFound 0 spec.comment_end }
-    ensures grammar { (s : List ℕ) (n : ℕ) → Closes s n ↔ IsEnd s n }
+    ensures { (result.0, result.1.now) ≡ scanned spec.block_comment body.now }
 {
     let doc_style = block_doc_style(body);
     let (terminated, rest) = past_comment(body);

@@ -1,10 +1,9 @@
 //! Identifiers, with what may stand before and after them.
-ghost use Rattle.std.specs.Prelude.{◌≡◌, ◌+◌, ℕ, List, true, false, MatchOption, drop};
+ghost use Rattle.std.specs.Prelude.{◌≡◌, ◌+◌, true, false, MatchOption, drop};
 ghost use Rattle.std.specs.Str.{chars};
-ghost use Rattle.rustc_lexer.specs.declared.token.TokenKind.{TokenKind};
 ghost use Rattle.rustc_lexer.specs.Classes;
 ghost use Rattle.rustc_lexer.specs.means.Ident as spec;
-ghost use Rattle.rustc_lexer.specs.means.Scan.{IsLocal, IsLocalAt, past, run_len, scanned};
+ghost use Rattle.rustc_lexer.specs.means.Scan.{past, run_len, scanned};
 
 use crate::classes::emoji::is_emoji;
 use crate::classes::{is_id_continue, is_id_start};
@@ -16,8 +15,7 @@ use crate::token::TokenKind;
 /// first character.
 #[inline(always)]
 pub(crate) fn ident_or_unknown_prefix(tail: &str) -> (TokenKind, &str)
-    ensures read { (result.0, result.1.now) ≡ scanned spec.ident_or_unknown_prefix tail.now }
-    ensures lookahead { IsLocal TokenKind 1 spec.ident_or_unknown_prefix }
+    ensures { (result.0, result.1.now) ≡ scanned spec.ident_or_unknown_prefix tail.now }
 {
     let rest = eat_continue(tail);
     if ends_word(rest.as_bytes(), 0) {
@@ -35,8 +33,7 @@ pub(crate) fn ident_or_unknown_prefix(tail: &str) -> (TokenKind, &str)
 
 /// What would be an identifier but for an emoji. `tail` is what follows that.
 pub(crate) fn invalid_ident(tail: &str) -> (TokenKind, &str)
-    ensures read { (result.0, result.1.now) ≡ scanned spec.invalid_ident tail.now }
-    ensures lookahead { IsLocal TokenKind 1 spec.invalid_ident }
+    ensures { (result.0, result.1.now) ≡ scanned spec.invalid_ident tail.now }
 {
     (TokenKind::InvalidIdent, eat_while(tail, is_word))
 }
@@ -44,13 +41,10 @@ pub(crate) fn invalid_ident(tail: &str) -> (TokenKind, &str)
 /// What a hash and an identifier leave, if these stand here.
 #[inline(always)]
 pub(crate) fn eat_marked(tail: &str) -> Option<&str>
-    ensures read { MatchOption result (spec.marks_ident (chars tail.now) ≡ false)
+    ensures { MatchOption result (spec.marks_ident (chars tail.now) ≡ false)
         (λ rest. (spec.marks_ident (chars tail.now) ≡ true)
         × (rest.now ≡ past (2 + run_len Classes.is_id_continue (drop 2 (chars tail.now)))
         tail.now)) }
-    ensures lookahead { (kind : TokenKind) (other : List ℕ → TokenKind × ℕ) (s : List ℕ)
-        → spec.marks_ident s ≡ true
-        → IsLocalAt TokenKind 1 (spec.marked kind other) s }
 {
     let (first, word) = split_first(strip(tail, '#')?)?;
     if !is_id_start(first) {

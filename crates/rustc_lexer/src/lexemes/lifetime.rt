@@ -1,15 +1,13 @@
 //! What begins with a single quote: characters and lifetimes.
-ghost use Rattle.std.specs.Prelude.{◌≡◌, ◌+◌, ◌≤◌, ◌<◌, ◌^◌, ◌∷◌, ◌&&◌, ◌||◌, not, if◌then◌else◌, ℕ, List, true, false, length, drop, codes, IfSome};
+ghost use Rattle.std.specs.Prelude.{◌≡◌, ◌+◌, ◌≤◌, ◌<◌, ◌^◌, ◌&&◌, not, if◌then◌else◌, true, length, codes, IfSome};
 ghost use Rattle.std.specs.Char.{is_ascii_digit, len_utf8};
 ghost use Rattle.std.specs.Str.{chars};
-ghost use Rattle.rustc_lexer.specs.declared.token.TokenKind.{TokenKind};
 ghost use Rattle.rustc_lexer.specs.declared.token.TokenKind.TheVariants.{Lifetime, UnknownPrefixLifetime};
 ghost use Rattle.rustc_lexer.specs.Emoji.{is_emoji};
-ghost use Rattle.rustc_lexer.specs.means.Ident.{is_word};
 ghost use Rattle.rustc_lexer.specs.means.Lifetime as spec;
-ghost use Rattle.rustc_lexer.specs.means.Lifetime.{is_character_at, is_raw};
+ghost use Rattle.rustc_lexer.specs.means.Lifetime.{is_character_at};
 ghost use Rattle.rustc_lexer.specs.means.Quoted.{single_quoted_string};
-ghost use Rattle.rustc_lexer.specs.means.Scan.{IsLocal, IsLocalAt, begins, run_len, scanned};
+ghost use Rattle.rustc_lexer.specs.means.Scan.{begins, scanned};
 
 use crate::classes::emoji::is_emoji;
 use crate::classes::is_id_start;
@@ -20,20 +18,10 @@ use crate::scan::{eat_continue, eat_while, split_first, strip};
 use crate::token::{LiteralKind, TokenKind};
 
 /// What begins with a single quote. `tail` is what follows that.
-///
-/// It looks at two characters past its end, and at fewer where it is said.
 #[inline(always)]
 pub(crate) fn lifetime_or_char(tail: &str) -> (TokenKind, &str)
     requires fits { length tail.now + 1 < 2 ^ 32 }
-    ensures read { (result.0, result.1.now) ≡ scanned spec.lifetime_or_char tail.now }
-    ensures lookahead { IsLocal TokenKind 2 spec.lifetime_or_char }
-    ensures character { (s : List ℕ) → is_character_at s ≡ true → (single_quoted_string s).0 ≡ true
-        → IsLocalAt TokenKind 1 spec.lifetime_or_char s }
-    ensures raw { (c : ℕ) (s : List ℕ) → spec.is_character c s ≡ false → is_raw c s ≡ true
-        → IsLocalAt TokenKind 1 spec.lifetime_or_char (c ∷ s) }
-    ensures long_character { (c : ℕ) (s : List ℕ) → spec.is_character c s ≡ false
-        → is_raw c s ≡ false → begins (codes "'") (drop (run_len is_word s) s) ≡ true
-        → IsLocalAt TokenKind 0 spec.lifetime_or_char (c ∷ s) }
+    ensures { (result.0, result.1.now) ≡ scanned spec.lifetime_or_char tail.now }
 {
     if let Some(left) = past_short_char(tail) {
         let kind = LiteralKind::Char { terminated: true };
@@ -102,8 +90,7 @@ fn lifetime(first: char, rest: &str) -> (TokenKind, &str)
 #[inline(always)]
 fn plain_lifetime(first: char, rest: &str) -> (TokenKind, &str)
     requires fits { len_utf8 first + length rest.now + 1 < 2 ^ 32 }
-    ensures read { (result.0, result.1.now) ≡ scanned (spec.plain_lifetime first) rest.now }
-    ensures lookahead { IsLocal TokenKind 1 (spec.plain_lifetime first) }
+    ensures { (result.0, result.1.now) ≡ scanned (spec.plain_lifetime first) rest.now }
 {
     let past_plain = eat_continue(rest);
     let past_name = eat_while(past_plain, is_word);

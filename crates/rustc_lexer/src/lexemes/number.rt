@@ -3,9 +3,7 @@ ghost use Rattle.std.specs.Prelude.{◌≡◌, ◌+◌, ◌<◌, ◌^◌, false,
 ghost use Rattle.std.specs.Char.{is_ascii_digit, is_ascii_hexdigit};
 ghost use Rattle.rustc_lexer.specs.declared.token.LiteralKind.TheVariants.{Float};
 ghost use Rattle.rustc_lexer.specs.means.Number as spec;
-ghost use Rattle.rustc_lexer.specs.laws.NumberLongest.{AreLongest};
-ghost use Rattle.rustc_lexer.specs.means.Scan.{IsLocal, scanned};
-ghost use Rattle.rustc_lexer.specs.declared.token.TokenKind.{TokenKind};
+ghost use Rattle.rustc_lexer.specs.means.Scan.{scanned};
 
 use crate::classes::is_id_start;
 use crate::lexemes::literal::{eat_literal_suffix, literal};
@@ -21,9 +19,7 @@ use crate::token::{Base, LiteralKind, TokenKind};
 #[inline(always)]
 pub(crate) fn number(first_digit: char, tail: &str) -> (TokenKind, &str)
     requires fits { length tail.now + 1 < 2 ^ 32 }
-    ensures read { (result.0, result.1.now) ≡ scanned (spec.number first_digit) tail.now }
-    ensures lookahead { IsLocal TokenKind 2 (spec.number first_digit) }
-    ensures grammar { AreLongest }
+    ensures { (result.0, result.1.now) ≡ scanned (spec.number first_digit) tail.now }
 {
     let (kind, rest) = number_kind(first_digit, tail);
     (literal(kind, tail, rest), eat_literal_suffix(rest))

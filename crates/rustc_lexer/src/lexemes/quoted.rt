@@ -1,9 +1,8 @@
 //! Quoted text: strings and characters.
-ghost use Rattle.std.specs.Prelude.{◌≡◌, ◌+◌, ◌≤◌, ◌<◌, ◌^◌, ◌∷◌, ℕ, List, Bool, true, false, length, MatchOption};
+ghost use Rattle.std.specs.Prelude.{◌≡◌, ◌+◌, ◌≤◌, ◌<◌, ◌^◌, ◌∷◌, true, false, length, MatchOption};
 ghost use Rattle.std.specs.Str.{chars};
-ghost use Rattle.rustc_lexer.specs.declared.token.TokenKind.{TokenKind};
 ghost use Rattle.rustc_lexer.specs.means.Quoted as spec;
-ghost use Rattle.rustc_lexer.specs.means.Scan.{IsLocal, IsLocalAt, past, scanned};
+ghost use Rattle.rustc_lexer.specs.means.Scan.{past, scanned};
 
 use crate::lexemes::literal::{eat_literal_suffix, literal};
 use crate::scan::{eat_until_either, split_first, strip};
@@ -14,9 +13,6 @@ use crate::token::{LiteralKind, TokenKind};
 pub(crate) fn double_quoted_string(body: &str) -> (bool, &str)
     ensures shorter { length result.1.now ≤ length body.now }
     ensures read { (result.0, result.1.now) ≡ scanned spec.double_quoted_string body.now }
-    ensures lookahead { IsLocal Bool 1 spec.double_quoted_string }
-    ensures closed { (s : List ℕ) → (spec.double_quoted_string s).0 ≡ true
-        → IsLocalAt Bool 0 spec.double_quoted_string s }
 {
     let mut rest = body;
     'quoted: loop {
@@ -39,9 +35,6 @@ pub(crate) fn double_quoted_string(body: &str) -> (bool, &str)
 pub(crate) fn single_quoted_string(body: &str) -> (bool, &str)
     ensures shorter { length result.1.now ≤ length body.now }
     ensures read { (result.0, result.1.now) ≡ scanned spec.single_quoted_string body.now }
-    ensures lookahead { IsLocal Bool 2 spec.single_quoted_string }
-    ensures closed { (s : List ℕ) → (spec.single_quoted_string s).0 ≡ true
-        → IsLocalAt Bool 1 spec.single_quoted_string s }
 {
     if let Some(rest) = strip_lone(body) {
         return (true, rest);
@@ -99,18 +92,10 @@ pub(crate) enum QuotedPrefix {
 }
 
 /// A literal in quotes, and what it leaves. `tail` is what follows the first character of its prefix.
-///
-/// It looks at one character past its end, for its suffix or the end of the text. In single quotes that nothing
-/// closes it looks at two.
 #[inline(always)]
 pub(crate) fn quoted_literal(prefix: QuotedPrefix, tail: &str) -> (TokenKind, &str)
     requires fits { length tail.now + 1 < 2 ^ 32 }
-    ensures read { (result.0, result.1.now) ≡ scanned (spec.quoted_literal prefix) tail.now }
-    ensures lookahead { (s : List ℕ) → spec.quoted_least prefix ≤ length s
-        → IsLocalAt TokenKind (spec.quoted_reach prefix) (spec.quoted_literal prefix) s }
-    ensures closed { (s : List ℕ) → spec.quoted_least prefix ≤ length s
-        → (spec.quoted_string prefix s).0 ≡ true
-        → IsLocalAt TokenKind 1 (spec.quoted_literal prefix) s }
+    ensures { (result.0, result.1.now) ≡ scanned (spec.quoted_literal prefix) tail.now }
 {
     let (terminated, rest) = quoted_string(prefix, tail);
     let kind = literal_kind(prefix, terminated);

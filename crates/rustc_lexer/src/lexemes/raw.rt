@@ -1,12 +1,9 @@
 //! Raw strings.
-ghost use Rattle.std.specs.Prelude.{◌≡◌, ℕ, suc, ◌+◌, ◌≤◌, ◌<◌, ◌^◌, [], ◌∷◌, true, length, drop, Result, Ok, IfSome, MatchOption};
+ghost use Rattle.std.specs.Prelude.{◌≡◌, ℕ, suc, ◌+◌, ◌≤◌, ◌<◌, ◌^◌, [], ◌∷◌, true, length, drop, Ok, IfSome, MatchOption};
 ghost use Rattle.std.specs.Str.{byte, chars};
 ghost use Rattle.rustc_lexer.specs.declared.lexemes.raw.RawPrefix.{RawPrefix};
-ghost use Rattle.rustc_lexer.specs.declared.token.RawStrError.{RawStrError};
-ghost use Rattle.rustc_lexer.specs.declared.token.TokenKind.{TokenKind};
 ghost use Rattle.rustc_lexer.specs.means.Raw as spec;
-ghost use Rattle.rustc_lexer.specs.means.Raw.{EndsItself, RefusedEndsItself};
-ghost use Rattle.rustc_lexer.specs.means.Scan.{IsLocal, next_is, past, run_len, scanned};
+ghost use Rattle.rustc_lexer.specs.means.Scan.{next_is, past, run_len, scanned};
 
 use crate::kernels::find_close;
 use crate::lexemes::literal::eat_literal_suffix;
@@ -25,15 +22,10 @@ pub(crate) enum RawPrefix {
 }
 
 /// The token of a raw string. `rest` is what follows its prefix.
-///
-/// It looks at one character past its end, for its suffix or the end of the text. What is refused looks at none,
-/// unless the text ends where it does.
 #[inline(always)]
 pub(crate) fn raw_literal(prefix: RawPrefix, rest: &str) -> (TokenKind, &str)
     requires fits { spec.prefix_len prefix + length rest.now < 2 ^ 32 }
-    ensures read { (result.0, result.1.now) ≡ scanned (spec.raw_literal prefix) rest.now }
-    ensures lookahead { IsLocal TokenKind 1 (spec.raw_literal prefix) }
-    ensures refused { RefusedEndsItself prefix }
+    ensures { (result.0, result.1.now) ≡ scanned (spec.raw_literal prefix) rest.now }
 {
     let (read, left) = raw_double_quoted_string(rest, 0);
     let suffix_start = prefix_len(prefix) + (rest.len() - left.len()) as u32;
@@ -83,9 +75,7 @@ pub(crate) fn raw_double_quoted_string(
     prefix_len: u32,
 ) -> (Result<u8, RawStrError>, &str)
     requires fits { prefix_len + length rest.now < 2 ^ 32 }
-    ensures read { (result.0, result.1.now) ≡ scanned (spec.raw_read prefix_len) rest.now }
-    ensures lookahead { IsLocal (Result ℕ RawStrError) 1 (spec.raw_read prefix_len) }
-    ensures ended { EndsItself prefix_len }
+    ensures { (result.0, result.1.now) ≡ scanned (spec.raw_read prefix_len) rest.now }
 {
     if let Some((n_hashes, text)) = short_opening(rest) {
         if let Some(left) = past_close(text, n_hashes) {

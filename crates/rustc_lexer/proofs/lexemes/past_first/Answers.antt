@@ -15,19 +15,19 @@ pub returns-in-Word : goal.returns-in-Word
 returns-in-Word c = by_family Word _ _ _ c.word.ensures (sym c.in-Word.is ∙ c.family_of.ensures)
 
 pub returns-in-Number : goal.returns-in-Number
-returns-in-Number c = by_family Number _ _ _ c.number.ensures.read (sym c.in-Number.is ∙ c.family_of.ensures)
+returns-in-Number c = by_family Number _ _ _ c.number.ensures (sym c.in-Number.is ∙ c.family_of.ensures)
 
 pub returns-in-Quote : goal.returns-in-Quote
-returns-in-Quote c = by_family Quote _ _ _ c.lifetime_or_char.ensures.read (sym c.in-Quote.is ∙ c.family_of.ensures)
+returns-in-Quote c = by_family Quote _ _ _ c.lifetime_or_char.ensures (sym c.in-Quote.is ∙ c.family_of.ensures)
 
 pub returns-in-Str : goal.returns-in-Str
-returns-in-Str c = by_family Str _ _ _ c.quoted_literal.ensures.read (sym c.in-Str.is ∙ c.family_of.ensures)
+returns-in-Str c = by_family Str _ _ _ c.quoted_literal.ensures (sym c.in-Str.is ∙ c.family_of.ensures)
 
 pub returns-in-Emoji : goal.returns-in-Emoji
-returns-in-Emoji c = by_family Emoji _ _ _ c.invalid_ident.ensures.read (sym c.in-Emoji.is ∙ c.family_of.ensures)
+returns-in-Emoji c = by_family Emoji _ _ _ c.invalid_ident.ensures (sym c.in-Emoji.is ∙ c.family_of.ensures)
 
 pub returns-in-Hash : goal.returns-in-Hash
-returns-in-Hash c = by_family Hash _ _ _ c.hash.ensures.read (sym c.in-Hash.is ∙ c.family_of.ensures)
+returns-in-Hash c = by_family Hash _ _ _ c.hash.ensures (sym c.in-Hash.is ∙ c.family_of.ensures)
 
 pub returns-in-Symbol : goal.returns-in-Symbol
 returns-in-Symbol c = by_family Symbol _ _ _ (ap (λ k. (k, c.args.tail.now)) c.symbol_kind.ensures ∙ sym (scanned-gives _ _ c.utf8.tail)) (sym c.in-Symbol.is ∙ c.family_of.ensures)

@@ -7,7 +7,7 @@ pub raw_double_quoted_string-read-requires : goal.raw_double_quoted_string-read-
 raw_double_quoted_string-read-requires c = record { fits = let fits = prefix_fits _ _ _ c.utf8.input c.past_chars.ensures c.requires.raw in omega arith }
 
 pub returns-in-Ok : goal.returns-in-Ok
-returns-in-Ok c = record { check = ap checked (sym c.in-Ok.is) ∙ check_is _ _ _ c.utf8.input c.past_chars.ensures _ _ c.raw_double_quoted_string-read.ensures.read }
+returns-in-Ok c = record { check = ap checked (sym c.in-Ok.is) ∙ check_is _ _ _ c.utf8.input c.past_chars.ensures _ _ c.raw_double_quoted_string-read.ensures }
 
 pub returns-in-Err : goal.returns-in-Err
-returns-in-Err c = record { check = ap checked (sym c.in-Err.is) ∙ check_is _ _ _ c.utf8.input c.past_chars.ensures _ _ c.raw_double_quoted_string-read.ensures.read }
+returns-in-Err c = record { check = ap checked (sym c.in-Err.is) ∙ check_is _ _ _ c.utf8.input c.past_chars.ensures _ _ c.raw_double_quoted_string-read.ensures }

@@ -16,7 +16,7 @@ returns-in-Some c = c.line_comment.ensures ∙ sym (scanned-yes (begins (codes "
 
 pub returns-in-Some-strip : goal.returns-in-Some-strip
 returns-in-Some-strip c =
-    c.block_comment.ensures.read
+    c.block_comment.ensures
     ∙ sym (scanned-no (begins (codes "/")) (after 1 line_comment) other _ c.in_default.ensures
     ∙ (scanned-yes (begins (codes "*")) (after 1 block_comment) (gives Slash) _ c.in-Some-strip.ensures.0 ∙ scanned-after 1 block_comment _ _ c.utf8.rest c.in-Some-strip.ensures.1))
 

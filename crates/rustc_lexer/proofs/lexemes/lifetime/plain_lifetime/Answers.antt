@@ -1,23 +1,16 @@
 use Rattle.std.proofs.Common.{refl}
 use Rattle.rustc_lexer.specs.means.Ident.{is_word}
-use Rattle.rustc_lexer.specs.laws.Lifetime.{plain_lifetime_local}
 use Rattle.rustc_lexer.proofs.LifetimeLemmas.{plain_lifetime-quoted, plain_lifetime-unquoted_name}
 use Rattle.rustc_lexer.proofs.lexemes.lifetime.plain_lifetime.Goals as goal
 
-pub returns-in-Some-clause-read : goal.returns-in-Some-clause-read
-returns-in-Some-clause-read c =
+pub returns-in-Some : goal.returns-in-Some
+returns-in-Some c =
     let first = c.eat_continue-past_plain.ensures.past in
     let second = c.eat_while-past_name.ensures.past is_word (λ d b e. e) in
     plain_lifetime-quoted _ _ _ _ c.utf8.rest first second _ _ c.in-Some.ensures.0 c.in-Some.ensures.1 c.len_utf8.ensures.value
 
-pub returns-clause-read : goal.returns-clause-read
-returns-clause-read c =
+pub returns : goal.returns
+returns c =
     let first = c.eat_continue-past_plain.ensures.past in
     let second = c.eat_while-past_name.ensures.past is_word (λ d b e. e) in
     plain_lifetime-unquoted_name _ _ _ _ c.utf8.rest first second _ _ c.in_default.ensures refl c.lifetime_kind.ensures
-
-pub returns-in-Some-clause-lookahead : goal.returns-in-Some-clause-lookahead
-returns-in-Some-clause-lookahead c = plain_lifetime_local c.args.first
-
-pub returns-clause-lookahead : goal.returns-clause-lookahead
-returns-clause-lookahead c = plain_lifetime_local c.args.first

@@ -4,7 +4,6 @@ use Rattle.std.proofs.lemmas.Bool.{or_parts, or_cases, not-true, not-false, ne_e
 use Rattle.memchr.specs.Find.{is_byte2}
 use Rattle.rustc_lexer.specs.means.Quoted.{at_double_quote, double_quoted_string, is_backslash}
 use Rattle.rustc_lexer.specs.means.Scan.{past, run_len}
-use Rattle.rustc_lexer.specs.laws.Quoted.{double_quoted_string_local, double_quoted_string_closed}
 use Rattle.rustc_lexer.specs.laws.Scan.{scanned-shorter}
 use Rattle.rustc_lexer.proofs.QuotedLoop.{Seeking, seek-start, seek-on, seek-run, seek-closed, seek-end, run_fails, is-it, is-other}
 use Rattle.rustc_lexer.proofs.lexemes.quoted.double_quoted_string.Goals as goal
@@ -31,13 +30,13 @@ quoted-init c = (c.utf8.body, seek-start 34 at_double_quote _ c.utf8.body)
 pub returns-in_default : goal.returns-in_default
 returns-in_default c =
     let read = seek-end 34 at_double_quote _ _ _ (at_stop _ _ _ c.quoted.invariant.1 c.eat_until_either-stop.ensures.past) c.in_default.ensures in
-    record { shorter = scanned-shorter double_quoted_string _ _ _ c.utf8.body read; read = read; lookahead = double_quoted_string_local; closed = double_quoted_string_closed }
+    record { shorter = scanned-shorter double_quoted_string _ _ _ c.utf8.body read; read = read }
 
 pub returns-then-c-eq34 : goal.returns-then-c-eq34
 returns-then-c-eq34 c =
     let quote = is-it 34 _ (chars c.in-Some.tail.now) c.if-c-eq34.true in
     let read = seek-closed 34 at_double_quote _ _ _ false _ (at_stop _ _ _ c.quoted.invariant.1 c.eat_until_either-stop.ensures.past) c.in-Some.ensures.0 c.in-Some.ensures.1 quote quote in
-    record { shorter = scanned-shorter double_quoted_string _ _ _ c.utf8.body read; read = read; lookahead = double_quoted_string_local; closed = double_quoted_string_closed }
+    record { shorter = scanned-shorter double_quoted_string _ _ _ c.utf8.body read; read = read }
 
 escaped : (body rest stop tail : List ℕ) (d : ℕ) → Seeking 34 at_double_quote body rest false → stop ≡ past (run_len plain (chars rest)) rest → chars stop ≡ d ∷ chars tail → tail ≡ past 1 stop → (d ≡ 34 → ⊥) → Seeking 34 at_double_quote body tail true
 escaped body rest stop tail d at e reads cut ne =
@@ -47,7 +46,7 @@ escaped body rest stop tail d at e reads cut ne =
 pub returns-in_default-split_first : goal.returns-in_default-split_first
 returns-in_default-split_first c =
     let read = seek-end 34 at_double_quote _ _ _ (escaped _ _ _ _ _ c.quoted.invariant.1 c.eat_until_either-stop.ensures.past c.in-Some.ensures.0 c.in-Some.ensures.1 c.if-c-eq34.false) c.in_default-split_first.ensures in
-    record { shorter = scanned-shorter double_quoted_string _ _ _ c.utf8.body read; read = read; lookahead = double_quoted_string_local; closed = double_quoted_string_closed }
+    record { shorter = scanned-shorter double_quoted_string _ _ _ c.utf8.body read; read = read }
 
 pub quoted-preserved : goal.quoted-preserved
 quoted-preserved c =

@@ -1,7 +1,6 @@
 use Rattle.std.proofs.Common.{sym, ◌∙◌}
 use Rattle.std.specs.Str.{chars}
 use Rattle.rustc_lexer.specs.means.Quoted.{at_single_stop, single_quoted_string}
-use Rattle.rustc_lexer.specs.laws.Quoted.{single_quoted_string_local, single_quoted_string_closed}
 use Rattle.rustc_lexer.specs.laws.Scan.{scanned-shorter}
 use Rattle.rustc_lexer.proofs.QuotedLoop.{seek-start, seek-on, seek-closed, seek-open, seek-end, when-escaped, when-plain, to-plain, to-next, is-it, is-other, single-closed, single-lone, single-free}
 use Rattle.rustc_lexer.proofs.lexemes.quoted.single_quoted_string.Goals as goal
@@ -12,19 +11,19 @@ loop-c-init c = (c.utf8.body, seek-start 39 at_single_stop _ c.utf8.body)
 pub returns-in-Some : goal.returns-in-Some
 returns-in-Some c =
     let read = single-lone _ _ c.in-Some.ensures.0 c.in-Some.ensures.1 in
-    record { shorter = scanned-shorter single_quoted_string _ _ _ c.utf8.body read; read = read; lookahead = single_quoted_string_local; closed = single_quoted_string_closed }
+    record { shorter = scanned-shorter single_quoted_string _ _ _ c.utf8.body read; read = read }
 
 pub returns-then-c-eq39 : goal.returns-then-c-eq39
 returns-then-c-eq39 c =
     let stop = seek-closed 39 at_single_stop _ _ _ _ _ c.loop-c.invariant.1 c.in-Some-split_first.ensures.0 c.in-Some-split_first.ensures.1 (when-plain _ _ _ c.if-escaped.false (single-closed _ (chars c.in-Some-split_first.tail.now) c.if-c-eq39.true)) (is-it 39 _ (chars c.in-Some-split_first.tail.now) c.if-c-eq39.true) in
     let read = stop ∙ single-free _ c.in_default.ensures in
-    record { shorter = scanned-shorter single_quoted_string _ _ _ c.utf8.body read; read = read; lookahead = single_quoted_string_local; closed = single_quoted_string_closed }
+    record { shorter = scanned-shorter single_quoted_string _ _ _ c.utf8.body read; read = read }
 
 pub returns-then-stops_open : goal.returns-then-stops_open
 returns-then-stops_open c =
     let stop = seek-open 39 at_single_stop _ _ _ _ _ c.loop-c.invariant.1 c.in-Some-split_first.ensures.0 c.in-Some-split_first.ensures.1 (when-plain _ _ _ c.if-escaped.false (sym c.if-stops_open.ensures)) (is-other 39 _ (chars c.in-Some-split_first.tail.now) c.if-c-eq39.false) in
     let read = stop ∙ single-free _ c.in_default.ensures in
-    record { shorter = scanned-shorter single_quoted_string _ _ _ c.utf8.body read; read = read; lookahead = single_quoted_string_local; closed = single_quoted_string_closed }
+    record { shorter = scanned-shorter single_quoted_string _ _ _ c.utf8.body read; read = read }
 
 pub loop-c-preserved-then-escaped : goal.loop-c-preserved-then-escaped
 loop-c-preserved-then-escaped c =
@@ -40,4 +39,4 @@ pub returns : goal.returns
 returns c =
     let stop = seek-end 39 at_single_stop _ _ _ c.loop-c.invariant.1 c.in_default-split_first.ensures in
     let read = stop ∙ single-free _ c.in_default.ensures in
-    record { shorter = scanned-shorter single_quoted_string _ _ _ c.utf8.body read; read = read; lookahead = single_quoted_string_local; closed = single_quoted_string_closed }
+    record { shorter = scanned-shorter single_quoted_string _ _ _ c.utf8.body read; read = read }

@@ -1,13 +1,12 @@
 use Rattle.std.proofs.Common.{◌+◌}
-use Rattle.rustc_lexer.specs.laws.Raw.{raw_read_local, raw_read_within}
 use Rattle.rustc_lexer.proofs.OpeningLemmas.{opened}
 use Rattle.rustc_lexer.proofs.lexemes.raw.raw_double_quoted_string.Goals as goal
 
 pub returns-in-Some-past_close : goal.returns-in-Some-past_close
-returns-in-Some-past_close c = record { read = opened c.args.prefix_len _ _ _ _ _ c.utf8.rest c.in-Some.ensures.1 c.in-Some.ensures.2 c.in-Some.ensures.3 c.in-Some.ensures.4 (c.in-Some-past_close.ensures (c.args.prefix_len + c.in-Some.n_hashes + 1)); lookahead = raw_read_local c.args.prefix_len; ended = raw_read_within c.args.prefix_len }
+returns-in-Some-past_close c = opened c.args.prefix_len _ _ _ _ _ c.utf8.rest c.in-Some.ensures.1 c.in-Some.ensures.2 c.in-Some.ensures.3 c.in-Some.ensures.4 (c.in-Some-past_close.ensures (c.args.prefix_len + c.in-Some.n_hashes + 1))
 
 pub returns : goal.returns
-returns c = record { read = c.any_raw_string.ensures; lookahead = raw_read_local c.args.prefix_len; ended = raw_read_within c.args.prefix_len }
+returns c = c.any_raw_string.ensures
 
 pub returns-in-Some : goal.returns-in-Some
-returns-in-Some c = record { read = opened c.args.prefix_len _ _ _ _ _ c.utf8.rest c.in-Some.ensures.1 c.in-Some.ensures.2 c.in-Some.ensures.3 c.in-Some.ensures.4 c.raw_text.ensures; lookahead = raw_read_local c.args.prefix_len; ended = raw_read_within c.args.prefix_len }
+returns-in-Some c = opened c.args.prefix_len _ _ _ _ _ c.utf8.rest c.in-Some.ensures.1 c.in-Some.ensures.2 c.in-Some.ensures.3 c.in-Some.ensures.4 c.raw_text.ensures

@@ -14,6 +14,6 @@ use Rattle.rustc_lexer.proofs.lexemes.word.letter_r.Goals as goal
 pub returns-in-Some : goal.returns-in-Some
 returns-in-Some c =
     let raw = opens_raw _ (chars c.args.tail.now) c.in-Some.ensures.0 c.in-Some.ensures.1 c.in-Some.ensures.2 in
-    c.raw_literal.ensures.read
+    c.raw_literal.ensures
     ∙ (sym (scanned-yes (next_is is_raw_mark) (raw_literal R) ident_or_unknown_prefix _ raw.0)
     ∙ sym (scanned-no marks_ident (after 2 (run RawIdent is_id_continue)) raw_or_ident _ raw.1))

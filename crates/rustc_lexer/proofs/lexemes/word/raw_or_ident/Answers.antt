@@ -15,9 +15,9 @@ raw-is tail rest b is r e f = ap (λ (x : Bool). x && next_is is_raw_mark (drop 
 pub returns-then-next_is : goal.returns-then-next_is
 returns-then-next_is c =
     let marked : begins_raw (chars c.args.tail.now) ≡ true = raw-is _ _ true c.utf8.tail c.in-Some.ensures.0 c.in-Some.ensures.1 (c.if-next_is.ensures is_raw_mark (λ d b e. e)) in
-    c.raw_literal.ensures.read ∙ sym (scanned-yes begins_raw (after 1 (raw_literal c.args.prefix)) ident_or_unknown_prefix _ marked ∙ scanned-after 1 (raw_literal c.args.prefix) _ _ c.utf8.tail c.in-Some.ensures.1)
+    c.raw_literal.ensures ∙ sym (scanned-yes begins_raw (after 1 (raw_literal c.args.prefix)) ident_or_unknown_prefix _ marked ∙ scanned-after 1 (raw_literal c.args.prefix) _ _ c.utf8.tail c.in-Some.ensures.1)
 
 pub returns-else-next_is : goal.returns-else-next_is
 returns-else-next_is c =
     let other : begins_raw (chars c.args.tail.now) ≡ false = raw-is _ _ false c.utf8.tail c.in-Some.ensures.0 c.in-Some.ensures.1 (c.if-next_is.ensures is_raw_mark (λ d b e. e)) in
-    c.ident_or_unknown_prefix-else-next_is.ensures.read ∙ sym (scanned-no begins_raw (after 1 (raw_literal c.args.prefix)) ident_or_unknown_prefix _ other)
+    c.ident_or_unknown_prefix-else-next_is.ensures ∙ sym (scanned-no begins_raw (after 1 (raw_literal c.args.prefix)) ident_or_unknown_prefix _ other)
