@@ -133,6 +133,10 @@ pub told_table : (b : ℕ) (none : TokenKind) → b < 256 → get_or TOLD b none
 unfolding is_emoji unicode_ident
 told_table b none small = get_or-map-range_with_len told 0 256 b b none small (omega arith)
 
+-- a symbol is told by itself
+pub told_symbol : (b : ℕ) → b < 128 → family_of b ≡ Symbol → told b ≡ symbol_kind b
+told_symbol b small symbol = rw (lt-ltb b 128 small, symbol) refl
+
 is_word_family : Family → Bool
 is_word_family Word = true
 is_word_family other = false

@@ -13,7 +13,7 @@ use crate::lexemes::lifetime::lifetime_or_char;
 use crate::lexemes::number::number;
 use crate::lexemes::quick::quick_token;
 use crate::lexemes::quoted::{QuotedPrefix, quoted_literal};
-use crate::lexemes::symbol::symbol_kind;
+use crate::lexemes::told::symbol_kind;
 use crate::lexemes::word::word;
 use crate::scan::{eat_whitespace, split_first};
 use crate::token::{Token, TokenKind};
@@ -29,7 +29,6 @@ mod number;
 pub(crate) mod quick;
 pub(crate) mod quoted;
 pub(crate) mod raw;
-mod symbol;
 pub(crate) mod told;
 mod word;
 
