@@ -183,11 +183,14 @@ fn each_way_to_take_tokens_gives_the_same() {
             assert!(*least <= left && left <= *most && (*least > 0) == (left > 0));
         }
         let all: Vec<Token> = by_next.iter().map(|row| row.0).collect();
-        for taken in [0, 1, 5, 9, 20, all.len()] {
+        for taken in [0, 1, 2, 5, 9, 20, all.len()] {
             let mut tokens = tokenize(text, FrontmatterAllowed::No);
             let mut folded: Vec<Token> = tokens.by_ref().take(taken).collect();
             tokens.for_each(|token| folded.push(token));
             assert_eq!(folded, all);
+            let mut tokens = tokenize(text, FrontmatterAllowed::No);
+            assert!(tokens.by_ref().take(taken).eq(all.iter().copied().take(taken)));
+            assert_eq!(tokens.count(), all.len().saturating_sub(taken));
         }
         assert!(tokenize_in(text, Edition::E2024).eq(all.iter().copied()));
     }
