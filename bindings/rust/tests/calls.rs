@@ -189,7 +189,12 @@ fn each_way_to_take_tokens_gives_the_same() {
             tokens.for_each(|token| folded.push(token));
             assert_eq!(folded, all);
             let mut tokens = tokenize(text, FrontmatterAllowed::No);
-            assert!(tokens.by_ref().take(taken).eq(all.iter().copied().take(taken)));
+            assert!(
+                tokens
+                    .by_ref()
+                    .take(taken)
+                    .eq(all.iter().copied().take(taken))
+            );
             assert_eq!(tokens.count(), all.len().saturating_sub(taken));
         }
         assert!(tokenize_in(text, Edition::E2024).eq(all.iter().copied()));
