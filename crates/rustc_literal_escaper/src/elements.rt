@@ -1,18 +1,17 @@
 //! The elements of what stands between double quotes.
-ghost use Rattle.std.specs.Prelude.{◌≡◌, ◌≤◌, ◌∷◌, ◌++◌, ℕ, None, true, false, length, MatchOption};
+ghost use Rattle.std.specs.Prelude.{◌≡◌, ◌≤◌, ◌∷◌, ℕ, None, true, false, length, MatchOption};
 ghost use Rattle.std.specs.Iterator.{at_most};
-ghost use Rattle.std.specs.List.{list_all};
 ghost use Rattle.rustc_literal_escaper.specs.Elements.{items_of, TakesFirst};
 ghost use Rattle.rustc_literal_escaper.specs.Errors.{error_of, errors_in};
 ghost use Rattle.rustc_literal_escaper.specs.Places.{ArePlaced};
-ghost use Rattle.rustc_literal_escaper.specs.Plain.{is_fine, plain_items, StandsForItself};
+ghost use Rattle.rustc_literal_escaper.specs.Plain.{StandsForItself};
 ghost use Rattle.rustc_literal_escaper.specs.Rebuilt.{IsRebuilt};
 
 use crate::element::Element;
 use crate::error::EscapeError;
 use crate::mode::Mode;
 use crate::scan::past_plain;
-use crate::simple::{past_simple, split_simple};
+use crate::simple::past_simple;
 use crate::steps::{Told, advance, first_item, first_plain};
 use std::iter::Iterator;
 use std::marker::Model;
@@ -94,6 +93,11 @@ impl<'a> Elements<'a> {
     pub(crate) fn next_fault(&mut self, mode: Mode) -> Option<(Range<usize>, EscapeError)>
         ensures { TakesFirst (errors_in mode self.old) result (errors_in mode self.new) }
     {
+        if let Some((range, element)) = self.next_waiting() {
+            if let Some(error) = element.error_in(mode) {
+                return Some((range, error));
+            }
+        }
         'elements: loop {
             self.skip_simple();
             if let Some((range, c)) = self.next_plain() {
@@ -113,6 +117,11 @@ impl<'a> Elements<'a> {
             if let Some(error) = element.error_in(mode) {
                 return Some((range, error));
             }
+            if let Some((range, element)) = self.next_waiting() {
+                if let Some(error) = element.error_in(mode) {
+                    return Some((range, error));
+                }
+            }
         }
     }
 
@@ -130,6 +139,16 @@ impl<'a> Elements<'a> {
         let (item, left) = first_plain(self.rest, self.total, self.raw)?;
         self.rest = left;
         Some(item)
+    }
+
+    /// What waits before the elements of the rest, if anything does.
+    ///
+    /// A loop that asks for it behind each line end knows that nothing waits elsewhere.
+    #[inline(always)]
+    pub(crate) fn next_waiting(&mut self) -> Option<(Range<usize>, Element)>
+        ensures { MatchOption result (self.new ≡ self.old) (λ r. self.old ≡ r ∷ self.new) }
+    {
+        self.waiting.take()
     }
 
     /// The next element, where it is told alone: not a warning of a line end that is skipped.
@@ -165,28 +184,6 @@ impl<'a> Elements<'a> {
         self.rest = left;
         self.waiting = second;
         first
-    }
-
-    /// The simple bytes that stand next, and the place past them. Each is a character of its own.
-    ///
-    /// There are none where an escape stands next, or a character that is not in ASCII.
-    #[inline(always)]
-    pub(crate) fn next_simple(&mut self) -> (&'a [u8], usize)
-        ensures items { self.old ≡ plain_items result.1 result.0.now ++ self.new }
-        ensures fine { list_all is_fine result.0.now ≡ true }
-        ensures within { length result.0.now ≤ result.1 }
-    {
-        if self.waiting.is_some() {
-            return (&[], 0);
-        }
-        match self.rest.as_bytes().first() {
-            Some(byte) if byte.is_ascii() => {
-                let (run, left) = split_simple(self.rest, self.raw);
-                self.rest = left;
-                (run, self.total - left.len())
-            }
-            _ => (&[], 0),
-        }
     }
 
     /// Passes over simple characters in front. Nothing is wrong with any of them in any kind of string.

@@ -30,6 +30,42 @@ pub(crate) fn split_simple(rest: &str, raw: bool) -> (&[u8], &str)
     (&rest.as_bytes()[..end], &rest[end..])
 }
 
+/// A run of fewer simple bytes is short: no look pays for it.
+const SHORT_RUN: usize = 8;
+
+/// Behind a short run so many plain characters are told alone before the next look.
+const WAIT: usize = 16;
+
+/// The simple bytes that are looked for behind the plain character `c`, and what is left past them.
+///
+/// There are none behind a character that is not in ASCII, and for a while behind a short run: short ones seldom come
+/// alone. `wait` counts that while.
+#[inline(always)]
+pub(crate) fn run_behind<'a>(
+    c: char,
+    tail: &'a str,
+    raw: bool,
+    wait: &mut usize,
+) -> (&'a [u8], &'a str)
+    ensures simple { list_all (spec.is_simple raw) result.0.now ≡ true }
+    ensures whole { tail.now ≡ result.0.now ++ result.1.now }
+    ensures text { IsUtf8 result.1.now }
+    ensures sizes { length tail.now ≡ length result.0.now + length result.1.now }
+{
+    if !c.is_ascii() {
+        return (&[], tail);
+    }
+    if *wait > 0 {
+        *wait -= 1;
+        return (&[], tail);
+    }
+    let (run, left) = split_simple(tail, raw);
+    if run.len() < SHORT_RUN {
+        *wait = WAIT;
+    }
+    (run, left)
+}
+
 /// A number of simple bytes at the front. It is 0 where fewer than 32 bytes are left.
 ///
 /// In a string with escapes mostly one look at 32 bytes tells where they end: that is not foreseen, and so no branch goes

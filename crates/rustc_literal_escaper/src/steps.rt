@@ -47,8 +47,9 @@ pub(crate) fn advance(rest: &str, total: usize, raw: bool) -> Told<'_>
 }
 
 /// What is told at the character `c` of a raw string or another, as [`step`] does.
+#[inline(always)]
 #[tactic(auto, unfolding(crate::specs::Elements::raw_front))]
-fn step_by(raw: bool, c: char, tail: &str, start: usize, total: usize) -> Told<'_>
+pub(crate) fn step_by(raw: bool, c: char, tail: &str, start: usize, total: usize) -> Told<'_>
     requires fits { length tail.now ≤ total }
     ensures told { told_by result
         ≡ map (spec.item_at total start) (spec.front_by raw c (chars tail.now)).told }
@@ -108,7 +109,7 @@ pub(crate) fn first_plain(
 
 /// Whether a character is plain, in a raw string or another.
 #[inline(always)]
-fn is_plain(c: char, raw: bool) -> bool
+pub(crate) fn is_plain(c: char, raw: bool) -> bool
     ensures { result ≡ plain.is_plain raw c }
 {
     if raw {
@@ -152,6 +153,7 @@ fn raw_element(c: char) -> Element
 }
 
 /// What is told at the character `c`, which begins at the place `start`, before `tail`.
+#[inline(always)]
 #[tactic(auto, unfolding(crate::specs::Elements::front))]
 fn step(c: char, tail: &str, start: usize, total: usize) -> Told<'_>
     requires fits { length tail.now ≤ total }
@@ -173,6 +175,7 @@ fn step(c: char, tail: &str, start: usize, total: usize) -> Told<'_>
 }
 
 /// One item, of the element from the place `start` up to what is left past it.
+#[inline(always)]
 fn one(element: Element, left: &str, start: usize, total: usize) -> Told<'_>
     requires fits { length left.now ≤ total }
     ensures told { told_by result
@@ -210,6 +213,7 @@ fn strip_newline(text: &str) -> Option<&str>
 }
 
 /// The warnings past a backslash and a newline, which begin at the place `start`.
+#[inline(always)]
 fn line_end(line: &str, start: usize, total: usize) -> Told<'_>
     requires fits { length line.now ≤ total }
     ensures told { told_by result
@@ -241,6 +245,7 @@ fn line_end(line: &str, start: usize, total: usize) -> Told<'_>
 }
 
 /// Whether a newline is among the white space that is passed over, and what is left past that.
+#[inline(always)]
 fn pass_over(line: &str) -> (bool, &str)
     ensures newline { result.0
         ≡ list_any spec.is_newline (front_run spec.is_passed_over (chars line.now)) }
@@ -261,6 +266,7 @@ fn pass_over(line: &str) -> (bool, &str)
 }
 
 /// Whether this is white space that a backslash at a line's end passes over.
+#[inline(always)]
 fn is_passed_over(c: char) -> bool
     ensures { result ≡ spec.is_passed_over c }
 {
@@ -268,6 +274,7 @@ fn is_passed_over(c: char) -> bool
 }
 
 /// The warning where white space stands next.
+#[inline(always)]
 fn more_space(left: &str, start: usize, total: usize) -> Option<(Range<usize>, Element)>
     requires fits { length left.now ≤ total }
     ensures { option_to_list result

@@ -1,13 +1,17 @@
 //! Strings of every kind, by a callback.
 ghost use Rattle.std.specs.Prelude.{◌≡◌, ◌≤◌, true, false, length};
 ghost use Rattle.std.specs.List.{FoldsTo, list_all};
-ghost use Rattle.rustc_literal_escaper.specs.Elements.{items_of};
+ghost use Rattle.std.specs.Option.{option_to_list};
+ghost use Rattle.std.specs.Str.{chars};
+ghost use Rattle.rustc_literal_escaper.specs.Elements.{front_by, items_from, items_of};
 ghost use Rattle.rustc_literal_escaper.specs.Meaning.{byte_of, char_of, raw_unit_of, unit_of};
 ghost use Rattle.rustc_literal_escaper.specs.Plain.{is_fine, plain_items};
 
 use crate::element::Element;
-use crate::elements::{Elements, elements_of};
 use crate::error::EscapeError;
+use crate::scan::split_first;
+use crate::simple::run_behind;
+use crate::steps::{Told, is_plain, step_by};
 use crate::unit::{MixedUnit, NonZeroChar};
 use std::ops::Range;
 
@@ -212,39 +216,59 @@ fn each_unit<M: Meaning, F: FnMut(Range<usize>, Result<M::Meant, EscapeError>)>(
     ensures calls { FoldsTo (λ f item g. F.step f item.0 (M.meaning item.1) tt g)
         callback.old (items_of raw src.now) callback.new }
 {
-    each_unit_in::<M, F>(elements_of(src, raw), callback);
+    each_unit_in::<M, F>(src, src.len(), raw, callback);
 }
 
-/// Calls `callback` with what each of the elements stands for, and its place.
+/// Calls `callback` with what each element of what is left of a text of `total` bytes stands for, and its place.
 ///
-/// Plain characters have a call of their own, which the compiler makes short. Behind one of ASCII a run of simple ones
-/// is looked for, and these have a loop of their own.
+/// Plain characters have a call of their own, which the compiler makes short. Behind some of ASCII a run of simple ones is
+/// looked for, and these have a loop of their own.
 #[inline(always)]
 fn each_unit_in<M: Meaning, F: FnMut(Range<usize>, Result<M::Meant, EscapeError>)>(
-    mut elements: Elements<'_>,
+    rest: &str,
+    total: usize,
+    raw: bool,
     callback: &mut F,
 )
     requires callable { F.IsAlwaysCallable callback.old }
+    requires fits { length rest.now ≤ total }
     ensures calls { FoldsTo (λ f item g. F.step f item.0 (M.meaning item.1) tt g)
-        callback.old elements.entry callback.new }
+        callback.old (items_from (front_by raw) total (chars rest.now)) callback.new }
 {
-    'items: loop {
-        if let Some((range, c)) = elements.next_plain() {
+    let mut left = rest;
+    let mut wait = 0;
+    'items: while let Some((c, tail)) = split_first(left) {
+        if is_plain(c, raw) {
+            let range = total - left.len()..total - tail.len();
             callback(range, M::of(Element::Plain(c)));
-            if !c.is_ascii() {
-                continue;
-            }
-            let (run, end) = elements.next_simple();
-            each_simple::<M, F>(run, end, callback);
+            let (run, behind) = run_behind(c, tail, raw, &mut wait);
+            each_simple::<M, F>(run, total - behind.len(), callback);
+            left = behind;
             continue;
         }
-        if let Some((range, element)) = elements.next_alone() {
-            callback(range, M::of(element));
-            continue;
-        }
-        let Some((range, element)) = elements.next_by_steps() else {
-            break;
-        };
+        let Told {
+            first,
+            second,
+            left: behind,
+        } = step_by(raw, c, tail, total - left.len(), total);
+        each_told::<M, F>(first, callback);
+        each_told::<M, F>(second, callback);
+        left = behind;
+    }
+}
+
+/// Calls `callback` with what is told, if anything is.
+#[inline(always)]
+fn each_told<M: Meaning, F: FnMut(Range<usize>, Result<M::Meant, EscapeError>)>(
+    told: Option<(Range<usize>, Element)>,
+    callback: &mut F,
+)
+    requires callable { F.IsAlwaysCallable callback.old }
+    ensures callable { F.IsAlwaysCallable callback.new }
+    ensures calls { FoldsTo (λ f item g. F.step f item.0 (M.meaning item.1) tt g)
+        callback.old (option_to_list told) callback.new }
+{
+    if let Some((range, element)) = told {
         callback(range, M::of(element));
     }
 }

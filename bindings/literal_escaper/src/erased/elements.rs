@@ -4,7 +4,7 @@ use crate::erased::element::Element;
 use crate::erased::error::EscapeError;
 use crate::erased::mode::Mode;
 use crate::erased::scan::past_plain;
-use crate::erased::simple::{past_simple, split_simple};
+use crate::erased::simple::past_simple;
 use crate::erased::steps::{Told, advance, first_item, first_plain};
 use core::iter::Iterator;
 use core::ops::Range;
@@ -56,6 +56,11 @@ impl<'a> Elements<'a> {
     /// It is `None` where nothing is wrong any more. Warnings come too.
     #[inline(always)]
     pub(crate) fn next_fault(&mut self, mode: Mode) -> Option<(Range<usize>, EscapeError)> {
+        if let Some((range, element)) = self.next_waiting() {
+            if let Some(error) = element.error_in(mode) {
+                return Some((range, error));
+            }
+        }
         loop {
             self.skip_simple();
             if let Some((range, c)) = self.next_plain() {
@@ -75,6 +80,11 @@ impl<'a> Elements<'a> {
             if let Some(error) = element.error_in(mode) {
                 return Some((range, error));
             }
+            if let Some((range, element)) = self.next_waiting() {
+                if let Some(error) = element.error_in(mode) {
+                    return Some((range, error));
+                }
+            }
         }
     }
 
@@ -89,6 +99,14 @@ impl<'a> Elements<'a> {
         let (item, left) = first_plain(self.rest, self.total, self.raw)?;
         self.rest = left;
         Some(item)
+    }
+
+    /// What waits before the elements of the rest, if anything does.
+    ///
+    /// A loop that asks for it behind each line end knows that nothing waits elsewhere.
+    #[inline(always)]
+    pub(crate) fn next_waiting(&mut self) -> Option<(Range<usize>, Element)> {
+        self.waiting.take()
     }
 
     /// The next element, where it is told alone: not a warning of a line end that is skipped.
@@ -120,24 +138,6 @@ impl<'a> Elements<'a> {
         self.rest = left;
         self.waiting = second;
         first
-    }
-
-    /// The simple bytes that stand next, and the place past them. Each is a character of its own.
-    ///
-    /// There are none where an escape stands next, or a character that is not in ASCII.
-    #[inline(always)]
-    pub(crate) fn next_simple(&mut self) -> (&'a [u8], usize) {
-        if self.waiting.is_some() {
-            return (&[], 0);
-        }
-        match self.rest.as_bytes().first() {
-            Some(byte) if byte.is_ascii() => {
-                let (run, left) = split_simple(self.rest, self.raw);
-                self.rest = left;
-                (run, self.total - left.len())
-            }
-            _ => (&[], 0),
-        }
     }
 
     /// Passes over simple characters in front. Nothing is wrong with any of them in any kind of string.

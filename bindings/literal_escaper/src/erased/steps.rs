@@ -14,6 +14,7 @@ pub(crate) struct Told<'a> {
 }
 
 /// The first items of what is left of a text of `total` bytes. None is told where none comes any more.
+#[inline(always)]
 pub(crate) fn advance(rest: &str, total: usize, raw: bool) -> Told<'_> {
     let mut left = rest;
     while let Some((c, tail)) = split_first(left) {
@@ -31,7 +32,8 @@ pub(crate) fn advance(rest: &str, total: usize, raw: bool) -> Told<'_> {
 }
 
 /// What is told at the character `c` of a raw string or another, as [`step`] does.
-fn step_by(raw: bool, c: char, tail: &str, start: usize, total: usize) -> Told<'_> {
+#[inline(always)]
+pub(crate) fn step_by(raw: bool, c: char, tail: &str, start: usize, total: usize) -> Told<'_> {
     if raw {
         one(raw_element(c), tail, start, total)
     } else {
@@ -71,7 +73,7 @@ pub(crate) fn first_plain(
 
 /// Whether a character is plain, in a raw string or another.
 #[inline(always)]
-fn is_plain(c: char, raw: bool) -> bool {
+pub(crate) fn is_plain(c: char, raw: bool) -> bool {
     if raw {
         c != '\r'
     } else {
@@ -107,6 +109,7 @@ fn raw_element(c: char) -> Element {
 }
 
 /// What is told at the character `c`, which begins at the place `start`, before `tail`.
+#[inline(always)]
 fn step(c: char, tail: &str, start: usize, total: usize) -> Told<'_> {
     if c != '\\' {
         return one(unescaped(c), tail, start, total);
@@ -119,6 +122,7 @@ fn step(c: char, tail: &str, start: usize, total: usize) -> Told<'_> {
 }
 
 /// One item, of the element from the place `start` up to what is left past it.
+#[inline(always)]
 fn one(element: Element, left: &str, start: usize, total: usize) -> Told<'_> {
     Told {
         first: Some((start..total - left.len(), element)),
@@ -145,6 +149,7 @@ fn strip_newline(text: &str) -> Option<&str> {
 }
 
 /// The warnings past a backslash and a newline, which begin at the place `start`.
+#[inline(always)]
 fn line_end(line: &str, start: usize, total: usize) -> Told<'_> {
     let (more_lines, left) = pass_over(line);
     let more_space = more_space(left, start, total);
@@ -168,6 +173,7 @@ fn line_end(line: &str, start: usize, total: usize) -> Told<'_> {
 }
 
 /// Whether a newline is among the white space that is passed over, and what is left past that.
+#[inline(always)]
 fn pass_over(line: &str) -> (bool, &str) {
     let mut newline = false;
     let mut left = line;
@@ -182,11 +188,13 @@ fn pass_over(line: &str) -> (bool, &str) {
 }
 
 /// Whether this is white space that a backslash at a line's end passes over.
+#[inline(always)]
 fn is_passed_over(c: char) -> bool {
     matches!(c, '\n' | '\r' | '\t' | ' ')
 }
 
 /// The warning where white space stands next.
+#[inline(always)]
 fn more_space(left: &str, start: usize, total: usize) -> Option<(Range<usize>, Element)> {
     let (c, tail) = split_first(left)?;
     if !c.is_whitespace() {

@@ -1,8 +1,10 @@
 //! Strings of every kind, by a callback.
 
 use crate::erased::element::Element;
-use crate::erased::elements::{Elements, elements_of};
 use crate::erased::error::EscapeError;
+use crate::erased::scan::split_first;
+use crate::erased::simple::run_behind;
+use crate::erased::steps::{Told, is_plain, step_by};
 use crate::erased::unit::{MixedUnit, NonZeroChar};
 use core::ops::Range;
 
@@ -154,35 +156,49 @@ fn each_unit<M: Meaning, F: FnMut(Range<usize>, Result<M::Meant, EscapeError>)>(
     raw: bool,
     callback: &mut F,
 ) {
-    each_unit_in::<M, F>(elements_of(src, raw), callback);
+    each_unit_in::<M, F>(src, src.len(), raw, callback);
 }
 
-/// Calls `callback` with what each of the elements stands for, and its place.
+/// Calls `callback` with what each element of what is left of a text of `total` bytes stands for, and its place.
 ///
-/// Plain characters have a call of their own, which the compiler makes short. Behind one of ASCII a run of simple ones
-/// is looked for, and these have a loop of their own.
+/// Plain characters have a call of their own, which the compiler makes short. Behind some of ASCII a run of simple ones is
+/// looked for, and these have a loop of their own.
 #[inline(always)]
 fn each_unit_in<M: Meaning, F: FnMut(Range<usize>, Result<M::Meant, EscapeError>)>(
-    mut elements: Elements<'_>,
+    rest: &str,
+    total: usize,
+    raw: bool,
     callback: &mut F,
 ) {
-    loop {
-        if let Some((range, c)) = elements.next_plain() {
+    let mut left = rest;
+    let mut wait = 0;
+    while let Some((c, tail)) = split_first(left) {
+        if is_plain(c, raw) {
+            let range = total - left.len()..total - tail.len();
             callback(range, M::of(Element::Plain(c)));
-            if !c.is_ascii() {
-                continue;
-            }
-            let (run, end) = elements.next_simple();
-            each_simple::<M, F>(run, end, callback);
+            let (run, behind) = run_behind(c, tail, raw, &mut wait);
+            each_simple::<M, F>(run, total - behind.len(), callback);
+            left = behind;
             continue;
         }
-        if let Some((range, element)) = elements.next_alone() {
-            callback(range, M::of(element));
-            continue;
-        }
-        let Some((range, element)) = elements.next_by_steps() else {
-            break;
-        };
+        let Told {
+            first,
+            second,
+            left: behind,
+        } = step_by(raw, c, tail, total - left.len(), total);
+        each_told::<M, F>(first, callback);
+        each_told::<M, F>(second, callback);
+        left = behind;
+    }
+}
+
+/// Calls `callback` with what is told, if anything is.
+#[inline(always)]
+fn each_told<M: Meaning, F: FnMut(Range<usize>, Result<M::Meant, EscapeError>)>(
+    told: Option<(Range<usize>, Element)>,
+    callback: &mut F,
+) {
+    if let Some((range, element)) = told {
         callback(range, M::of(element));
     }
 }

@@ -1,24 +1,50 @@
-use Rattle.std.proofs.Common.{◌≡◌, List, [], refl, sym, subst, ◌∙◌}
+use Rattle.std.proofs.Common.{◌≡◌, ◌≤◌, ◌-◌, ◌++◌, ◌∷◌, List, [], length, refl, sym, subst, ap, ◌∙◌, arith, rules}
 use Rattle.std.specs.List.{FoldsTo}
-use Rattle.rustc_literal_escaper.specs.Elements.{Item}
-use Rattle.rustc_literal_escaper.proofs.RunLemmas.{folds-append}
+use Rattle.std.specs.Str.{chars}
+use Rattle.std.specs.Option.{option_to_list}
+use Rattle.rustc_literal_escaper.specs.Elements.{Item, front_by, items_from}
+use Rattle.rustc_literal_escaper.specs.Plain.{plain_items}
+use Rattle.rustc_literal_escaper.proofs.ItemLemmas.{front_by-shorter, items-step, nothing}
+use Rattle.rustc_literal_escaper.proofs.RunLemmas.{folds-append, run-items}
+use Rattle.rustc_literal_escaper.proofs.SimpleLemmas.{simple-all-fine}
+use Rattle.rustc_literal_escaper.proofs.SkipLemmas.{first-plain}
 use Rattle.rustc_literal_escaper.proofs.strings.each_unit_in.Goals as goal
 
-pub items-preserved-in-Some : goal.items-preserved-in-Some
-items-preserved-in-Some g c = (
+pub each_simple-requires-clause-fine : goal.each_simple-requires-clause-fine
+each_simple-requires-clause-fine g c = simple-all-fine c.args.raw c.run_behind.result.0.now c.run_behind.ensures.simple
+
+pub items-preserved-then-is_plain : goal.items-preserved-then-is_plain
+items-preserved-then-is_plain g c = (
+  c.run_behind.ensures.text,
   c.each_simple.ensures.callable,
-  λ last calls. c.items.invariant.1 last
-      (subst (λ (is : List Item). FoldsTo (λ f item h. goal.F-step g f item.0 (g.M.Meaning.meaning item.1) tt h) c.items.callback is last) (sym c.in-Some.ensures) (
+  (let a = c.run_behind.ensures.sizes in let b = c.in-Some.ensures.1 in let m = c.items.invariant.2 in omega arith),
+  λ last calls. c.items.invariant.3 last
+      (subst (λ (is : List Item). FoldsTo (λ f item h. goal.F-step g f item.0 (g.M.Meaning.meaning item.1) tt h) c.items.callback is last)
+      (sym (first-plain c.args.raw c.args.total c.items.left.now c.in-Some.tail.now c.in-Some.c c.items.invariant.0 c.in-Some.ensures.2 c.in-Some.ensures.0 (search rules))) (
         c.callback.new.self,
-        subst (λ meant. goal.F-step g c.items.callback c.in-Some.range meant tt c.callback.new.self) c.of.ensures c.callback.ensures,
-        subst (λ (is : List Item). FoldsTo (λ f item h. goal.F-step g f item.0 (g.M.Meaning.meaning item.1) tt h) c.callback.new.self is last) (sym c.next_simple-end.ensures.items)
+        subst (λ meant. goal.F-step g c.items.callback (record { start = c.args.total - length c.items.left.now; end = c.args.total - length c.in-Some.tail.now }) meant tt c.callback.new.self) c.of.ensures c.callback.ensures,
+        subst (λ (is : List Item). FoldsTo (λ f item h. goal.F-step g f item.0 (g.M.Meaning.meaning item.1) tt h) c.callback.new.self is last)
+            (sym (run-items c.args.raw c.args.total c.in-Some.tail.now c.run_behind.result.0.now c.run_behind.result.1.now c.run_behind.ensures.simple c.run_behind.ensures.whole c.run_behind.ensures.text))
             (folds-append (λ f item h. goal.F-step g f item.0 (g.M.Meaning.meaning item.1) tt h) c.callback.new.self c.each_simple.new.callback last _ _ c.each_simple.ensures.calls calls),
       )),
 )
 
+pub items-preserved : goal.items-preserved
+items-preserved g c = (
+  c.step_by-first.ensures.text,
+  c.each_told-in-Some.ensures.callable,
+  (let a = c.step_by-first.ensures.shorter in let b = c.in-Some.ensures.1 in let m = c.items.invariant.2 in omega arith),
+  λ last calls. c.items.invariant.3 last
+      (subst (λ (is : List Item). FoldsTo (λ f item h. goal.F-step g f item.0 (g.M.Meaning.meaning item.1) tt h) c.items.callback is last)
+      (sym (items-step (front_by c.args.raw) (front_by-shorter c.args.raw) _ _ _ _ _ _ c.items.invariant.0 c.in-Some.ensures.0 c.step_by-first.ensures.told c.step_by-first.ensures.left))
+      (folds-append (λ f item h. goal.F-step g f item.0 (g.M.Meaning.meaning item.1) tt h) c.items.callback c.each_told-in-Some.new.callback last _ _
+      (folds-append (λ f item h. goal.F-step g f item.0 (g.M.Meaning.meaning item.1) tt h) c.items.callback c.each_told.new.callback c.each_told-in-Some.new.callback _ _ c.each_told.ensures.calls c.each_told-in-Some.ensures.calls)
+      calls)),
+)
+
 pub returns : goal.returns
 returns g c =
-    let none : c.items.elements ≡ [] = sym c.in_default.ensures ∙ (sym c.in_default-next_alone.ensures ∙ c.in_default-next_by_steps.ensures.0) in
+    let none : items_from (front_by c.args.raw) c.args.total (chars c.items.left.now) ≡ [] = ap (items_from (front_by c.args.raw) c.args.total) c.in_default.ensures ∙ nothing (front_by c.args.raw) c.args.total in
     record {
-      calls = c.items.invariant.1 c.items.callback (subst (λ (is : List Item). FoldsTo (λ f item h. goal.F-step g f item.0 (g.M.Meaning.meaning item.1) tt h) c.items.callback is c.items.callback) (sym none) refl);
+      calls = c.items.invariant.3 c.items.callback (subst (λ (is : List Item). FoldsTo (λ f item h. goal.F-step g f item.0 (g.M.Meaning.meaning item.1) tt h) c.items.callback is c.items.callback) (sym none) refl);
     }
