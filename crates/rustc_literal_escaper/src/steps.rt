@@ -23,6 +23,7 @@ pub(crate) struct Told<'a> {
 }
 
 /// The first items of what is left of a text of `total` bytes. None is told where none comes any more.
+#[inline(always)]
 pub(crate) fn advance(rest: &str, total: usize, raw: bool) -> Told<'_>
     requires fits { length rest.now ≤ total }
     ensures told { spec.items_from (spec.front_by raw) total (chars rest.now)

@@ -24,137 +24,33 @@ pub(crate) fn escape(rest: &str) -> (Element, &str) {
 /// What a backslash and a character stand for that begin no escape.
 const NONE: Element = Fault(EscapeError::InvalidEscape);
 
+// The bytes that the others stand for.
+const NUL: Element = Byte(0);
+
+const TAB: Element = Byte(b'\t');
+
+const NEWLINE: Element = Byte(b'\n');
+
+const RETURN: Element = Byte(b'\r');
+
+const DOUBLE: Element = Byte(b'"');
+
+const QUOTE: Element = Byte(b'\'');
+
+const BACKSLASH: Element = Byte(b'\\');
+
 /// What a backslash and each character of ASCII stand for, but for `x` and `u`. A look in a table costs less than a
 /// choice: which escape comes next is hard to foresee.
 static SHORT: [Element; 128] = [
-    NONE,
-    NONE,
-    NONE,
-    NONE,
-    NONE,
-    NONE,
-    NONE,
-    NONE,
-    NONE,
-    NONE,
-    NONE,
-    NONE,
-    NONE,
-    NONE,
-    NONE,
-    NONE,
-    NONE,
-    NONE,
-    NONE,
-    NONE,
-    NONE,
-    NONE,
-    NONE,
-    NONE,
-    NONE,
-    NONE,
-    NONE,
-    NONE,
-    NONE,
-    NONE,
-    NONE,
-    NONE,
-    NONE,
-    NONE,
-    Byte(b'"'), // "
-    NONE,
-    NONE,
-    NONE,
-    NONE,
-    Byte(b'\''), // '
-    NONE,
-    NONE,
-    NONE,
-    NONE,
-    NONE,
-    NONE,
-    NONE,
-    NONE,
-    Byte(0), // 0
-    NONE,
-    NONE,
-    NONE,
-    NONE,
-    NONE,
-    NONE,
-    NONE,
-    NONE,
-    NONE,
-    NONE,
-    NONE,
-    NONE,
-    NONE,
-    NONE,
-    NONE,
-    NONE,
-    NONE,
-    NONE,
-    NONE,
-    NONE,
-    NONE,
-    NONE,
-    NONE,
-    NONE,
-    NONE,
-    NONE,
-    NONE,
-    NONE,
-    NONE,
-    NONE,
-    NONE,
-    NONE,
-    NONE,
-    NONE,
-    NONE,
-    NONE,
-    NONE,
-    NONE,
-    NONE,
-    NONE,
-    NONE,
-    NONE,
-    NONE,
-    Byte(b'\\'), // \
-    NONE,
-    NONE,
-    NONE,
-    NONE,
-    NONE,
-    NONE,
-    NONE,
-    NONE,
-    NONE,
-    NONE,
-    NONE,
-    NONE,
-    NONE,
-    NONE,
-    NONE,
-    NONE,
-    NONE,
-    Byte(b'\n'), // n
-    NONE,
-    NONE,
-    NONE,
-    Byte(b'\r'), // r
-    NONE,
-    Byte(b'\t'), // t
-    NONE,
-    NONE,
-    NONE,
-    NONE,
-    NONE,
-    NONE,
-    NONE,
-    NONE,
-    NONE,
-    NONE,
-    NONE,
+    NONE, NONE, NONE, NONE, NONE, NONE, NONE, NONE, NONE, NONE, NONE, NONE, NONE, NONE, NONE, NONE,
+    NONE, NONE, NONE, NONE, NONE, NONE, NONE, NONE, NONE, NONE, NONE, NONE, NONE, NONE, NONE, NONE,
+    NONE, NONE, DOUBLE, NONE, NONE, NONE, NONE, QUOTE, NONE, NONE, NONE, NONE, NONE, NONE, NONE,
+    NONE, NUL, NONE, NONE, NONE, NONE, NONE, NONE, NONE, NONE, NONE, NONE, NONE, NONE, NONE, NONE,
+    NONE, NONE, NONE, NONE, NONE, NONE, NONE, NONE, NONE, NONE, NONE, NONE, NONE, NONE, NONE, NONE,
+    NONE, NONE, NONE, NONE, NONE, NONE, NONE, NONE, NONE, NONE, NONE, NONE, NONE, BACKSLASH, NONE,
+    NONE, NONE, NONE, NONE, NONE, NONE, NONE, NONE, NONE, NONE, NONE, NONE, NONE, NONE, NONE, NONE,
+    NEWLINE, NONE, NONE, NONE, RETURN, NONE, TAB, NONE, NONE, NONE, NONE, NONE, NONE, NONE, NONE,
+    NONE, NONE, NONE,
 ];
 
 /// The byte that a backslash and this character stand for.

@@ -51,10 +51,12 @@ pub(crate) fn fill<R: Record>(
         if tells {
             ends = ends_before(ends_for(rest, ends), stop - at);
         }
+        // How far in `rest` tokens are told: 0 as long as none is.
         let mut from = 0;
         while tells && ends != 0 && count < room.len() {
             let end = ends.trailing_zeros();
             let next = bytes[end as usize];
+            // A byte that tells a token of its own never turns the one before it.
             tells = is_told(next);
             if !tells && turns(first, next) {
                 break;
@@ -67,6 +69,7 @@ pub(crate) fn fill<R: Record>(
             ends = past_lowest(ends);
         }
         if from == 0 {
+            // The ends of runs told nothing here.
             let token = token_in(rest, edition);
             room[count] = R::of(token);
             count += 1;

@@ -8,7 +8,7 @@ use crate::erased::lexemes::lifetime::lifetime_or_char;
 use crate::erased::lexemes::number::number;
 use crate::erased::lexemes::quick::quick_token;
 use crate::erased::lexemes::quoted::{QuotedPrefix, quoted_literal};
-use crate::erased::lexemes::symbol::symbol_kind;
+use crate::erased::lexemes::told::symbol_kind;
 use crate::erased::lexemes::word::word;
 use crate::erased::scan::{eat_whitespace, split_first};
 use crate::erased::token::{Token, TokenKind};
@@ -24,7 +24,6 @@ mod number;
 pub(crate) mod quick;
 pub(crate) mod quoted;
 pub(crate) mod raw;
-mod symbol;
 pub(crate) mod told;
 mod word;
 
@@ -32,9 +31,6 @@ mod word;
 ///
 /// The commonest tokens are told by their bytes. Where these tell one, it is the one that the first character
 /// chooses: both ways promise the same.
-///
-/// No token looks further than two characters past its end: so it is of characters, and of texts, at whose bounds
-/// tokens end.
 #[inline(always)]
 pub(crate) fn lexeme(text: &str) -> Token {
     match quick_token(text) {

@@ -4,8 +4,6 @@ use crate::erased::scan::{eat_until_either, first, second, split_first, strip};
 use crate::erased::token::{DocStyle, TokenKind};
 
 /// A block comment. `body` is what follows its `/*`.
-///
-/// What closes it is what the grammar of nesting allows. A closed comment looks at nothing past its end.
 #[inline(always)]
 pub(crate) fn block_comment(body: &str) -> (TokenKind, &str) {
     let doc_style = block_doc_style(body);

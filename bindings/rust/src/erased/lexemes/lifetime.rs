@@ -9,8 +9,6 @@ use crate::erased::scan::{eat_continue, eat_while, split_first, strip};
 use crate::erased::token::{LiteralKind, TokenKind};
 
 /// What begins with a single quote. `tail` is what follows that.
-///
-/// It looks at two characters past its end, and at fewer where it is said.
 #[inline(always)]
 pub(crate) fn lifetime_or_char(tail: &str) -> (TokenKind, &str) {
     if let Some(left) = past_short_char(tail) {

@@ -2,7 +2,7 @@
 
 use crate::erased::kernels::{Continue, Space, ends_space, ends_word, run_end, short_run_end};
 use crate::erased::lexemes::family::{Family, family_of_byte};
-use crate::erased::lexemes::symbol::symbol_kind;
+use crate::erased::lexemes::told::symbol_kind;
 use crate::erased::token::{Token, TokenKind};
 
 /// The token at the front of the text, where the bytes of one run and the byte after it tell what it is.

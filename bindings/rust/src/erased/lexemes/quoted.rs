@@ -76,9 +76,6 @@ pub(crate) enum QuotedPrefix {
 }
 
 /// A literal in quotes, and what it leaves. `tail` is what follows the first character of its prefix.
-///
-/// It looks at one character past its end, for its suffix or the end of the text. In single quotes that nothing
-/// closes it looks at two.
 #[inline(always)]
 pub(crate) fn quoted_literal(prefix: QuotedPrefix, tail: &str) -> (TokenKind, &str) {
     let (terminated, rest) = quoted_string(prefix, tail);

@@ -17,9 +17,6 @@ pub(crate) enum RawPrefix {
 }
 
 /// The token of a raw string. `rest` is what follows its prefix.
-///
-/// It looks at one character past its end, for its suffix or the end of the text. What is refused looks at none,
-/// unless the text ends where it does.
 #[inline(always)]
 pub(crate) fn raw_literal(prefix: RawPrefix, rest: &str) -> (TokenKind, &str) {
     let (read, left) = raw_double_quoted_string(rest, 0);
