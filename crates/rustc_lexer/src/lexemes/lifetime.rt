@@ -1,5 +1,5 @@
 //! What begins with a single quote: characters and lifetimes.
-ghost use Rattle.std.specs.Prelude.{◌≡◌, ◌+◌, ◌≤◌, ◌<◌, ◌^◌, ◌&&◌, not, if◌then◌else◌, true, length, codes, IfSome};
+ghost use Rattle.std.specs.Prelude.{◌≡◌, ◌+◌, ◌≤◌, ◌<◌, ◌^◌, ◌&&◌, ◌||◌, not, if◌then◌else◌, true, length, codes, IfSome};
 ghost use Rattle.std.specs.Char.{is_ascii_digit, len_utf8};
 ghost use Rattle.std.specs.Str.{chars};
 ghost use Rattle.rustc_lexer.specs.declared.token.TokenKind.TheVariants.{Lifetime, UnknownPrefixLifetime};
