@@ -8,19 +8,19 @@ use Rattle.rustc_lexer.specs.Edits.{IsInside, IsShort}
 use Rattle.lexdump_run.specs.Test.{Test}
 
 -- whether a character of the text begins at the place, or the text ends there
-abbrev is_boundary : List ℕ → ℕ → Bool
+abbrev pub is_boundary : List ℕ → ℕ → Bool
 is_boundary text place = nat_le place (length text) && (nat_le (length text) place || (nat_lt (slice_index text place) 128 || nat_le 192 (slice_index text place)))
 
-boundary-true : (text : List ℕ) (i : ℕ) → is_boundary text i ≡ true → IsCharBoundary text i
+pub boundary-true : (text : List ℕ) (i : ℕ) → is_boundary text i ≡ true → IsCharBoundary text i
 boundary-true text i e = grind (arith, nat_tests)
 
-true-boundary : (text : List ℕ) (i : ℕ) → IsCharBoundary text i → is_boundary text i ≡ true
+pub true-boundary : (text : List ℕ) (i : ℕ) → IsCharBoundary text i → is_boundary text i ≡ true
 true-boundary text i b = grind (arith, nat_tests)
 
-abbrev inside : List ℕ → TextEdit → Bool
+abbrev pub inside : List ℕ → TextEdit → Bool
 inside text e = nat_le e.start e.stop && (nat_le e.stop (length text) && (is_boundary text e.start && is_boundary text e.stop))
 
-inside-true : (text : List ℕ) (e : TextEdit) → inside text e ≡ true → IsInside text e.start e.stop
+pub inside-true : (text : List ℕ) (e : TextEdit) → inside text e ≡ true → IsInside text e.start e.stop
 inside-true text e h =
     let p = and_parts _ _ h in
     let q = and_parts _ _ p.1 in
@@ -32,7 +32,7 @@ inside-true text e h =
       stop_boundary = boundary-true text e.stop r.1;
     }
 
-true-inside : (text : List ℕ) (e : TextEdit) → IsInside text e.start e.stop → inside text e ≡ true
+pub true-inside : (text : List ℕ) (e : TextEdit) → IsInside text e.start e.stop → inside text e ≡ true
 true-inside text e h =
     and_from _ _ (le-leb e.start e.stop h.start_le_stop)
     (and_from _ _ (le-leb e.stop (length text) h.stop_inside)
