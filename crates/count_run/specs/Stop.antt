@@ -46,3 +46,8 @@ IsWriteStop (Err Arguments) = ⊥
 IsWriteStop (Err Memory) = ⊥
 IsWriteStop (Err Write) = Unit {0}
 IsWriteStop (Err ClosedPipe) = Unit {0}
+
+-- why writing a report stops: the words that the program was given are read before
+abbrev pub IsReportStop : Stop → Type 0
+IsReportStop Arguments = ⊥
+IsReportStop stop = Unit {0}

@@ -10,7 +10,7 @@ ghost use Rattle.count_run.specs.Outcome.{Sources, passed_over, source, IsCountO
 ghost use Rattle.count_run.specs.Outcome as spec;
 ghost use Rattle.count_run.specs.Printed.{printed};
 ghost use Rattle.count_run.specs.Report.{no_counts, sums, total_of};
-ghost use Rattle.count_run.specs.Stop.{IsDone, IsWriteStop};
+ghost use Rattle.count_run.specs.Stop.{IsDone, IsReportStop, IsWriteStop};
 
 use crate::job::Layout;
 use crate::lines::{LineCounts, count_lines};
@@ -164,6 +164,7 @@ pub fn put_report<W: Write>(
 ) -> Result<(), Stop>
     requires writes { output.old.faulty ≡ false }
     requires open { output.old.closed ≡ false }
+    ensures stop { IfErr result IsReportStop }
     ensures write { IsErrOf result Stop.Write ↔ IsTrue output.new.faulty }
     ensures closed { IsErrOf result Stop.ClosedPipe ↔ IsTrue output.new.closed }
     ensures all { OnOk result (outcome.now.faults.items ≡ []) }

@@ -1,16 +1,17 @@
 //! The files that a walk of folders finds.
-ghost use Rattle.std.specs.Prelude.{◌≡◌, ◌↔◌, [], IsTrue, OnOk};
-ghost use Rattle.std.specs.Fs.{IsDir, IsFile};
-ghost use Rattle.sources.specs.Found.{TakesFault};
+ghost use Rattle.std.specs.Prelude.{◌≡◌, ◌≢◌, ◌↔◌, [], IfOk, IsTrue, OnOk};
+ghost use Rattle.std.specs.List.{All};
+ghost use Rattle.std.specs.Fs.{dir_entry_path, IsDir, IsFile};
+ghost use Rattle.sources.specs.Found.{told_of_path, Adds, IsInOrder, IsNoLackOfMemory, IsRefusal, IsSourcePath, IsTold, IsWalked, TakesFault, TakesFile, TakesFolder, TakesPath, TakesRefusal};
 ghost use Rattle.sources.specs.Names.{is_hidden, is_source_name, IsFolderName};
 
 use crate::fault::{PathFault, Reason};
 use std::alloc::{AllocError, Global};
-use std::fs;
-use std::fs::{DirEntry, FileType};
+use std::fs::{DirEntry, FileType, Metadata};
 use std::io::ErrorKind;
 use std::path::AsPath;
 use std::rt::Files;
+use std::{fs, io};
 
 /// The files that were found, and the paths that could not be read.
 #[derive(Debug, Drop)]
@@ -34,6 +35,7 @@ impl Found {
     /// Notes that the system refused a path. Where it has no memory, nothing more is done.
     fn refuse(&mut self, alloc: Global, path: &str, kind: ErrorKind) -> Result<(), AllocError>
         ensures files { self.new.files ≡ self.old.files }
+        ensures memory { OnOk result (kind ≢ ErrorKind.OutOfMemory) }
         ensures faults { OnOk result
             (TakesFault self.old.faults.items self.new.faults.items path.now (Reason.System kind)) }
     {
@@ -46,6 +48,38 @@ impl Found {
         })?;
         Ok(())
     }
+
+    /// Takes a path by what is told of it: to the sources, to the folders that are to be walked, to what the system
+    /// refused, or to none of these.
+    fn take(
+        &mut self,
+        alloc: Global,
+        path: &str,
+        told: Result<Choice, ErrorKind>,
+        folders: &mut Vec<String>,
+    ) -> Result<(), AllocError>
+        ensures files { OnOk result
+            (TakesFile told path.now self.old.files.items self.new.files.items) }
+        ensures folders { OnOk result (TakesFolder told path.now folders.old.items folders.new.items) }
+        ensures faults { OnOk result
+            (TakesRefusal told path.now self.old.faults.items self.new.faults.items) }
+        ensures memory { OnOk result (IsNoLackOfMemory told) }
+    {
+        match told {
+            Ok(Choice::Folder) => push_path(alloc, path, folders),
+            Ok(Choice::Source) => push_path(alloc, path, &mut self.files),
+            Ok(Choice::Neither) => Ok(()),
+            Err(kind) => self.refuse(alloc, path, kind),
+        }
+    }
+}
+
+/// Adds a path.
+fn push_path(alloc: Global, path: &str, paths: &mut Vec<String>) -> Result<(), AllocError>
+    ensures { OnOk result (TakesPath path.now paths.old.items paths.new.items) }
+{
+    paths.push(String::from_str(alloc, path)?)?;
+    Ok(())
 }
 
 /// The files at these paths: a file itself, whatever its name, and of a folder the Rust sources in it and below it.
@@ -55,29 +89,36 @@ impl Found {
 pub fn find<R: Files + AllocGlobal + Clone + Drop>(
     rt: &R,
     paths: &[&str],
-) -> Result<Found, AllocError> {
+) -> Result<Found, AllocError>
+    ensures in_order { IfOk result (λ found. IsInOrder found.files.items) }
+    ensures faults { IfOk result (λ found. All IsRefusal found.faults.items) }
+{
     let mut found = Found::new(rt.alloc());
     for path in paths {
-        match fs::metadata(rt, *path) {
-            Ok(what) if what.is_dir() => walk_folder(rt, path, &mut found)?,
-            Ok(_) => found.files.push(String::from_str(rt.alloc(), path)?)?,
-            Err(error) => found.refuse(rt.alloc(), path, error.kind())?,
-        }
+        let mut folders = Vec::new(rt.alloc());
+        found.take(
+            rt.alloc(),
+            path,
+            told_of_path(fs::metadata(rt, *path)),
+            &mut folders,
+        )?;
+        walk(rt, folders, &mut found)?;
     }
     found.files.sort()?;
     found.files.dedup();
     Ok(found)
 }
 
-/// Finds the sources in a folder and below it.
-fn walk_folder<R: Files + AllocGlobal + Clone + Drop>(
+/// Finds the sources in folders and below them.
+fn walk<R: Files + AllocGlobal + Clone + Drop>(
     rt: &R,
-    folder: &str,
+    mut folders: Vec<String>,
     found: &mut Found,
-) -> Result<(), AllocError> {
-    let mut folders = Vec::new(rt.alloc());
-    folders.push(String::from_str(rt.alloc(), folder)?)?;
-    for _ in 0..u64::MAX {
+) -> Result<(), AllocError>
+    ensures files { OnOk result (Adds IsSourcePath found.old.files.items found.new.files.items) }
+    ensures faults { OnOk result (Adds IsRefusal found.old.faults.items found.new.faults.items) }
+{
+    'folders: for _ in 0..u64::MAX {
         let Some(folder) = folders.pop() else {
             break;
         };
@@ -92,43 +133,54 @@ fn list<R: Files + AllocGlobal + Clone + Drop>(
     folder: &str,
     folders: &mut Vec<String>,
     found: &mut Found,
-) -> Result<(), AllocError> {
+) -> Result<(), AllocError>
+    ensures files { OnOk result (Adds IsSourcePath found.old.files.items found.new.files.items) }
+    ensures faults { OnOk result (Adds IsRefusal found.old.faults.items found.new.faults.items) }
+    ensures folders { OnOk result (Adds IsWalked folders.old.items folders.new.items) }
+{
     let entries = match fs::read_dir(rt, folder) {
         Ok(entries) => entries,
-        Err(error) => return found.refuse(rt.alloc(), folder, error.kind()),
+        Err(error) => return found.take(rt.alloc(), folder, Err(error.kind()), folders),
     };
     for entry in entries {
         match entry {
-            Ok(entry) => take(rt.alloc(), &entry, folders, found)?,
-            Err(error) => found.refuse(rt.alloc(), folder, error.kind())?,
+            Ok(entry) => {
+                found.take(
+                    rt.alloc(),
+                    entry.path().path_text(),
+                    told_of(&entry),
+                    folders,
+                )?;
+            }
+            Err(error) => found.take(rt.alloc(), folder, Err(error.kind()), folders)?,
         }
     }
     Ok(())
 }
 
-/// Takes one entry of a folder: to the sources, to the folders that are to be walked, or to neither.
-fn take<R: Files>(
-    alloc: Global,
-    entry: &DirEntry<R, Global>,
-    folders: &mut Vec<String>,
-    found: &mut Found,
-) -> Result<(), AllocError> {
+/// What an entry of a folder is taken for. Of one that is passed over by its name nothing is asked.
+fn told_of<R: Files>(entry: &DirEntry<R, Global>) -> Result<Choice, ErrorKind>
+    ensures { IsTold (dir_entry_path entry.now) result }
+{
     let name = entry.file_name();
     if !is_source_name(name) && !is_folder_name(name) {
-        return Ok(());
+        return Ok(Choice::Neither);
     }
-    let path = entry.path();
     match entry.file_type() {
-        Ok(what) => match choice_of(name, &what) {
-            Choice::Folder => folders.push(String::from_str(alloc, path.path_text())?)?,
-            Choice::Source => found
-                .files
-                .push(String::from_str(alloc, path.path_text())?)?,
-            Choice::Neither => {}
-        },
-        Err(error) => found.refuse(alloc, path.path_text(), error.kind())?,
+        Ok(what) => Ok(choice_of(name, &what)),
+        Err(error) => Err(error.kind()),
     }
-    Ok(())
+}
+
+/// What a path that was asked for is taken for: a folder is walked, and all else is a source, whatever its name.
+fn told_of_path(what: io::Result<Metadata>) -> Result<Choice, ErrorKind>
+    ensures { result ≡ told_of_path what }
+{
+    match what {
+        Ok(what) if what.is_dir() => Ok(Choice::Folder),
+        Ok(_) => Ok(Choice::Source),
+        Err(error) => Err(error.kind()),
+    }
 }
 
 /// What an entry of a folder is taken for.

@@ -7,11 +7,11 @@ use rattle_std::prelude::Vec;
 
 use crate::fault::{PathFault, Reason};
 use rattle_std::alloc::{AllocError, Global};
-use rattle_std::fs;
-use rattle_std::fs::{DirEntry, FileType};
+use rattle_std::fs::{DirEntry, FileType, Metadata};
 use rattle_std::io::ErrorKind;
 use rattle_std::path::AsPath;
 use rattle_std::rt::Files;
+use rattle_std::{fs, io};
 
 /// The files that were found, and the paths that could not be read.
 #[derive(Debug)]
@@ -40,6 +40,29 @@ impl Found {
         })?;
         Ok(())
     }
+
+    /// Takes a path by what is told of it: to the sources, to the folders that are to be walked, to what the system
+    /// refused, or to none of these.
+    fn take(
+        &mut self,
+        alloc: Global,
+        path: &str,
+        told: Result<Choice, ErrorKind>,
+        folders: &mut Vec<String>,
+    ) -> Result<(), AllocError> {
+        match told {
+            Ok(Choice::Folder) => push_path(alloc, path, folders),
+            Ok(Choice::Source) => push_path(alloc, path, &mut self.files),
+            Ok(Choice::Neither) => Ok(()),
+            Err(kind) => self.refuse(alloc, path, kind),
+        }
+    }
+}
+
+/// Adds a path.
+fn push_path(alloc: Global, path: &str, paths: &mut Vec<String>) -> Result<(), AllocError> {
+    paths.push(String::from_str(alloc, path)?)?;
+    Ok(())
 }
 
 /// The files at these paths: a file itself, whatever its name, and of a folder the Rust sources in it and below it.
@@ -49,25 +72,26 @@ impl Found {
 pub fn find<R: Files + AllocGlobal + Clone>(rt: &R, paths: &[&str]) -> Result<Found, AllocError> {
     let mut found = Found::new(rt.alloc());
     for path in paths {
-        match fs::metadata(rt, *path) {
-            Ok(what) if what.is_dir() => walk_folder(rt, path, &mut found)?,
-            Ok(_) => found.files.push(String::from_str(rt.alloc(), path)?)?,
-            Err(error) => found.refuse(rt.alloc(), path, error.kind())?,
-        }
+        let mut folders = Vec::new(rt.alloc());
+        found.take(
+            rt.alloc(),
+            path,
+            told_of_path(fs::metadata(rt, *path)),
+            &mut folders,
+        )?;
+        walk(rt, folders, &mut found)?;
     }
     found.files.sort()?;
     found.files.dedup();
     Ok(found)
 }
 
-/// Finds the sources in a folder and below it.
-fn walk_folder<R: Files + AllocGlobal + Clone>(
+/// Finds the sources in folders and below them.
+fn walk<R: Files + AllocGlobal + Clone>(
     rt: &R,
-    folder: &str,
+    mut folders: Vec<String>,
     found: &mut Found,
 ) -> Result<(), AllocError> {
-    let mut folders = Vec::new(rt.alloc());
-    folders.push(String::from_str(rt.alloc(), folder)?)?;
     for _ in 0..u64::MAX {
         let Some(folder) = folders.pop() else {
             break;
@@ -86,40 +110,43 @@ fn list<R: Files + AllocGlobal + Clone>(
 ) -> Result<(), AllocError> {
     let entries = match fs::read_dir(rt, folder) {
         Ok(entries) => entries,
-        Err(error) => return found.refuse(rt.alloc(), folder, error.kind()),
+        Err(error) => return found.take(rt.alloc(), folder, Err(error.kind()), folders),
     };
     for entry in entries {
         match entry {
-            Ok(entry) => take(rt.alloc(), &entry, folders, found)?,
-            Err(error) => found.refuse(rt.alloc(), folder, error.kind())?,
+            Ok(entry) => {
+                found.take(
+                    rt.alloc(),
+                    entry.path().path_text(),
+                    told_of(&entry),
+                    folders,
+                )?;
+            }
+            Err(error) => found.take(rt.alloc(), folder, Err(error.kind()), folders)?,
         }
     }
     Ok(())
 }
 
-/// Takes one entry of a folder: to the sources, to the folders that are to be walked, or to neither.
-fn take<R: Files>(
-    alloc: Global,
-    entry: &DirEntry<R, Global>,
-    folders: &mut Vec<String>,
-    found: &mut Found,
-) -> Result<(), AllocError> {
+/// What an entry of a folder is taken for. Of one that is passed over by its name nothing is asked.
+fn told_of<R: Files>(entry: &DirEntry<R, Global>) -> Result<Choice, ErrorKind> {
     let name = entry.file_name();
     if !is_source_name(name) && !is_folder_name(name) {
-        return Ok(());
+        return Ok(Choice::Neither);
     }
-    let path = entry.path();
     match entry.file_type() {
-        Ok(what) => match choice_of(name, &what) {
-            Choice::Folder => folders.push(String::from_str(alloc, path.path_text())?)?,
-            Choice::Source => found
-                .files
-                .push(String::from_str(alloc, path.path_text())?)?,
-            Choice::Neither => {}
-        },
-        Err(error) => found.refuse(alloc, path.path_text(), error.kind())?,
+        Ok(what) => Ok(choice_of(name, &what)),
+        Err(error) => Err(error.kind()),
     }
-    Ok(())
+}
+
+/// What a path that was asked for is taken for: a folder is walked, and all else is a source, whatever its name.
+fn told_of_path(what: io::Result<Metadata>) -> Result<Choice, ErrorKind> {
+    match what {
+        Ok(what) if what.is_dir() => Ok(Choice::Folder),
+        Ok(_) => Ok(Choice::Source),
+        Err(error) => Err(error.kind()),
+    }
 }
 
 /// What an entry of a folder is taken for.
