@@ -1,4 +1,5 @@
--- What is proved of the page of the language, of every text: laws, which speak of no call.
+-- What is proved of the page of the language: laws, which speak of no call. The first three are of texts of
+-- less than 4 GiB (`IsText`), the others of all characters.
 --
 -- Answers.antt takes the tokens of a text, and the first of them, from a value of this type. So each
 -- contract that names these rests on all of the laws. That value, and the proofs, stand in laws/TheLaws.antt.
