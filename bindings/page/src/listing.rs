@@ -5,7 +5,16 @@ use ends::Watched;
 use lexdump_run::{Job, run};
 use ra_ap_rustc_lexer::Edition;
 use ra_ap_rustc_lexer::support::Global;
-use std::io;
+use rattle_std::io;
+
+/// Gives the bytes of a text.
+struct Rest<'a>(&'a [u8]);
+
+impl io::Read for Rest<'_> {
+    fn read(&mut self, room: &mut [u8]) -> io::Result<usize> {
+        std::io::Read::read(&mut self.0, room)
+    }
+}
 
 /// Takes so many lines, and fails past them.
 struct Lines {
@@ -39,7 +48,7 @@ pub fn write(source: &Source, number: usize, count: usize, edition: usize) -> St
         true => Job::Front { edition: year },
         false => Job::Plain { edition: year },
     };
-    let mut input = Watched::new(&source.text().as_bytes()[start..]);
+    let mut input = Watched::new(Rest(&source.text().as_bytes()[start..]));
     let mut output = Watched::new(Lines {
         text: Vec::new(),
         left: count,
