@@ -2,8 +2,9 @@
 
 use crate::json::{push_list, push_name, push_text};
 use crate::seen::piece;
-use crate::source::Source;
+use crate::source::{EDITIONS, Source};
 use ra_ap_rustc_lexer::Token;
+use std::array::from_fn;
 use std::ops::Range;
 
 /// How many places are written.
@@ -26,12 +27,12 @@ impl Walk<'_> {
 /// A stretch of the text whose tokens are not the same in each edition, and the numbers of its tokens in each.
 struct Parting {
     bytes: Range<usize>,
-    numbers: [Range<usize>; 4],
+    numbers: [Range<usize>; EDITIONS],
 }
 
 /// The stretches in order: each ends where a token ends in all editions.
 fn partings(source: &Source) -> Vec<Parting> {
-    let mut walks = [0, 1, 2, 3].map(|edition| Walk {
+    let mut walks = from_fn(|edition| Walk {
         tokens: source.tokens(edition),
         number: 0,
         end: source.begin(),
@@ -48,7 +49,7 @@ fn partings(source: &Source) -> Vec<Parting> {
             least.step();
         }
         if !alike {
-            let numbers = [0, 1, 2, 3].map(|edition| from[edition]..walks[edition].number);
+            let numbers = from_fn(|edition| from[edition]..walks[edition].number);
             found.push(Parting {
                 bytes: start..walks[0].end,
                 numbers,
@@ -59,7 +60,7 @@ fn partings(source: &Source) -> Vec<Parting> {
 }
 
 /// The first walk that is behind another.
-fn behind<'a, 'b>(walks: &'b mut [Walk<'a>; 4]) -> Option<&'b mut Walk<'a>> {
+fn behind<'a, 'b>(walks: &'b mut [Walk<'a>; EDITIONS]) -> Option<&'b mut Walk<'a>> {
     let most = walks.iter().map(|walk| walk.end).max()?;
     walks.iter_mut().find(|walk| walk.end < most)
 }
@@ -69,7 +70,7 @@ pub fn write(source: &Source) -> String {
     let found = partings(source);
     let mut out = "{".to_string();
     push_name(&mut out, "counts");
-    push_list(&mut out, 0..4, |out, edition| {
+    push_list(&mut out, 0..EDITIONS, |out, edition| {
         *out += &source.tokens(edition).len().to_string()
     });
     push_name(&mut out, "parted");
@@ -83,7 +84,7 @@ pub fn write(source: &Source) -> String {
         push_name(out, "text");
         push_text(out, &piece(source, parting.bytes.clone()));
         push_name(out, "editions");
-        push_list(out, 0..4, |out, edition| {
+        push_list(out, 0..EDITIONS, |out, edition| {
             let mut end = parting.bytes.start;
             push_list(out, parting.numbers[edition].clone(), |out, number| {
                 let token = source.tokens(edition)[number];

@@ -1,5 +1,5 @@
 //! What the page calls. A call reads what was put into the room, if it takes a text, and answers the length of its
-//! answer, which lies at `answer()`. Numbers of editions are 0 to 3, for 2015, 2018, 2021 and 2024.
+//! answer, which lies at `answer()`. The number of an edition is its place in `Edition::ALL`.
 
 #![deny(missing_docs)]
 

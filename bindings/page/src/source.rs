@@ -5,19 +5,22 @@ use ra_ap_rustc_lexer::{
     tokenize_as, tokenize_in,
 };
 
+/// How many editions there are.
+pub const EDITIONS: usize = Edition::ALL.len();
+
 /// The text, with its tokens in each edition.
 pub struct Source {
-    texts: [LexedText; 4],
+    texts: [LexedText; EDITIONS],
     document: Option<Document>,
     /// Where each line begins.
     lines: Vec<usize>,
-    last: Option<[Relexed; 4]>,
+    last: Option<[Relexed; EDITIONS]>,
 }
 
 /// A whole document, which has no edits: it is lexed anew.
 struct Document {
     shebang: usize,
-    tokens: [Vec<Token>; 4],
+    tokens: [Vec<Token>; EDITIONS],
 }
 
 impl Source {
