@@ -1,5 +1,5 @@
 -- A hash, by the byte after it.
-use Rattle.std.proofs.Common.{◌≡◌, ℕ, ◌<◌, ◌≤◌, ◌==◌, Bool, true, false, true≢false, List, [], ◌∷◌, ◌++◌, get_or, refl, sym, ap, ◌∙◌, arith, nat_lt, inl, inr}
+use Rattle.std.proofs.Common.{◌≡◌, ◌≢◌, ℕ, ◌<◌, ◌≤◌, ◌==◌, Bool, true, false, true≢false, List, [], ◌∷◌, ◌++◌, length, get_or, refl, sym, ap, ◌∙◌, arith, nat_lt, inl, inr}
 use Rattle.std.specs.Str.{chars, encode_utf8_all, IsUtf8}
 use Rattle.std.proofs.lemmas.Bool.{eqb-true, or_cases, ltb-true, ltb-false}
 use Rattle.std.proofs.lemmas.Str.{chars-nil, encode_ascii, encodes-chars}
@@ -7,7 +7,7 @@ use Rattle.rustc_lexer.specs.declared.token.TokenKind.TheVariants.{GuardedStrPre
 use Rattle.rustc_lexer.specs.declared.lexemes.family.Family.TheVariants.{Hash}
 use Rattle.rustc_lexer.specs.means.Hash.{is_guarded_mark, hash}
 use Rattle.rustc_lexer.specs.means.Lexeme.{family_of, past_first}
-use Rattle.rustc_lexer.specs.means.Quick.{IsFirstToken}
+use Rattle.rustc_lexer.specs.means.Quick.{BeginsWithNoHash, IsFirstToken}
 use Rattle.rustc_lexer.specs.means.Scan.{after, gives, next_is, past, scanned}
 use Rattle.rustc_lexer.proofs.BridgeLemmas.{chars-ascii}
 use Rattle.rustc_lexer.proofs.FamilyLemmas.{by_family}
@@ -45,6 +45,26 @@ mark-byte (d ∷ ds) is = by_size (nat_lt d 128) refl
     by_size : (t : Bool) → nat_lt d 128 ≡ t → next_is is_guarded_mark (chars (d ∷ ds)) ≡ is_guarded_mark d
     by_size true e = ap (next_is is_guarded_mark) (chars-ascii d ds is (ltb-true d 128 e))
     by_size false e = let wide = ltb-false d 128 e in none wide (next_is is_guarded_mark (chars (d ∷ ds))) refl ∙ sym (no_mark wide (is_guarded_mark d) refl)
+
+-- a hash alone chooses the family
+hash-code : (c : ℕ) → family_of c ≡ Hash → c ≡ 35
+hash-code c e = grind arith
+
+-- a text that begins with no hash, by its first byte
+pub no_hash : (text : List ℕ) (b : ℕ) (rest : List ℕ) → IsUtf8 text → text ≡ b ∷ rest → family_of b ≢ Hash → BeginsWithNoHash text
+no_hash text b rest is e other first cs read family =
+    let mark : first ≡ 35 = hash-code first family in
+    let whole : b ∷ rest ≡ first ∷ encode_utf8_all cs =
+    sym e ∙ (sym (encodes-chars text is) ∙ (ap encode_utf8_all read ∙ ap (λ (xs : List ℕ). xs ++ encode_utf8_all cs) (encode_ascii first (omega arith)))) in
+    let same : first ≡ b = cc in
+    other (ap family_of (sym same) ∙ family)
+
+pub no_hash-wide : (text : List ℕ) (b : ℕ) (rest : List ℕ) → IsUtf8 text → text ≡ b ∷ rest → 128 ≤ b → BeginsWithNoHash text
+no_hash-wide text b rest is e wide = no_hash text b rest is e (λ family. let mark = hash-code b family in omega arith)
+
+pub no_hash-empty : (text : List ℕ) → length text ≡ 0 → BeginsWithNoHash text
+no_hash-empty [] e first cs read family = let none : first ∷ cs ≡ [] = sym read ∙ chars-nil in cc
+no_hash-empty (b ∷ bs) e first cs read family = absurd (omega arith)
 
 -- what a hash is read as
 module _ (tail : List ℕ) (is : IsUtf8 tail) where

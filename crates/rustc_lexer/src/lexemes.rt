@@ -1,13 +1,13 @@
 //! The token at the front of a text: a choice by its first character, and a function for each family.
-ghost use Rattle.std.specs.Prelude.{◌≡◌, ◌+◌, ◌<◌, ◌^◌, length};
+ghost use Rattle.std.specs.Prelude.{◌≡◌, ◌≢◌, ◌+◌, ◌<◌, ◌^◌, length};
 ghost use Rattle.rustc_lexer.specs.Classes.{Fits};
+ghost use Rattle.rustc_lexer.specs.declared.lexemes.family.Family.TheVariants.{Hash};
 ghost use Rattle.rustc_lexer.specs.means.Lexeme as spec;
-ghost use Rattle.rustc_lexer.specs.means.Quick.{IsFirstToken};
+ghost use Rattle.rustc_lexer.specs.means.Quick.{BeginsWithNoHash, IsFirstToken};
 ghost use Rattle.rustc_lexer.specs.means.Scan.{scanned};
 
 use crate::lexemes::comment::slash;
 use crate::lexemes::family::{Family, family_of};
-use crate::lexemes::hash::hash;
 use crate::lexemes::ident::invalid_ident;
 use crate::lexemes::lifetime::lifetime_or_char;
 use crate::lexemes::number::number;
@@ -21,7 +21,6 @@ use crate::token::{Token, TokenKind};
 mod block_comment;
 mod comment;
 mod family;
-mod hash;
 pub(crate) mod ident;
 mod lifetime;
 pub(crate) mod literal;
@@ -34,8 +33,8 @@ mod word;
 
 /// The token at the front of a text. At the end of the text it is `Eof`, of length 0.
 ///
-/// The commonest tokens are told by their bytes. Where these tell one, it is the one that the first character
-/// chooses: both ways promise the same.
+/// The commonest tokens are told by their bytes, and so is each that begins with a hash. The first character chooses
+/// the others. Both ways promise the same.
 #[inline(always)]
 pub(crate) fn lexeme(text: &str) -> Token
     requires fits { Fits text.now }
@@ -47,10 +46,11 @@ pub(crate) fn lexeme(text: &str) -> Token
     }
 }
 
-/// The token at the front of a text, as its first character chooses.
+/// The token at the front of a text that begins with no hash, as its first character chooses.
 #[inline(never)]
 fn choose_token(text: &str) -> Token
     requires fits { Fits text.now }
+    requires no_hash { BeginsWithNoHash text.now }
     ensures { IsFirstToken text.now result }
 {
     let Some((first, tail)) = split_first(text) else {
@@ -70,6 +70,7 @@ fn choose_token(text: &str) -> Token
 #[inline(always)]
 fn past_first(first: char, tail: &str) -> (TokenKind, &str)
     requires fits { length tail.now + 1 < 2 ^ 32 }
+    requires no_hash { spec.family_of first ≢ Hash }
     ensures { (result.0, result.1.now) ≡ scanned (spec.past_first first) tail.now }
 {
     match family_of(first) {
@@ -80,7 +81,6 @@ fn past_first(first: char, tail: &str) -> (TokenKind, &str)
         Family::Quote => lifetime_or_char(tail),
         Family::Str => quoted_literal(QuotedPrefix::Double, tail),
         Family::Emoji => invalid_ident(tail),
-        Family::Hash => hash(tail),
-        Family::Symbol => (symbol_kind(first), tail),
+        Family::Hash | Family::Symbol => (symbol_kind(first), tail),
     }
 }

@@ -2,7 +2,6 @@
 
 use crate::erased::lexemes::comment::slash;
 use crate::erased::lexemes::family::{Family, family_of};
-use crate::erased::lexemes::hash::hash;
 use crate::erased::lexemes::ident::invalid_ident;
 use crate::erased::lexemes::lifetime::lifetime_or_char;
 use crate::erased::lexemes::number::number;
@@ -16,7 +15,6 @@ use crate::erased::token::{Token, TokenKind};
 mod block_comment;
 mod comment;
 mod family;
-mod hash;
 pub(crate) mod ident;
 mod lifetime;
 pub(crate) mod literal;
@@ -29,8 +27,8 @@ mod word;
 
 /// The token at the front of a text. At the end of the text it is `Eof`, of length 0.
 ///
-/// The commonest tokens are told by their bytes. Where these tell one, it is the one that the first character
-/// chooses: both ways promise the same.
+/// The commonest tokens are told by their bytes, and so is each that begins with a hash. The first character chooses
+/// the others. Both ways promise the same.
 #[inline(always)]
 pub(crate) fn lexeme(text: &str) -> Token {
     match quick_token(text) {
@@ -39,7 +37,7 @@ pub(crate) fn lexeme(text: &str) -> Token {
     }
 }
 
-/// The token at the front of a text, as its first character chooses.
+/// The token at the front of a text that begins with no hash, as its first character chooses.
 #[inline(never)]
 fn choose_token(text: &str) -> Token {
     let Some((first, tail)) = split_first(text) else {
@@ -66,7 +64,6 @@ fn past_first(first: char, tail: &str) -> (TokenKind, &str) {
         Family::Quote => lifetime_or_char(tail),
         Family::Str => quoted_literal(QuotedPrefix::Double, tail),
         Family::Emoji => invalid_ident(tail),
-        Family::Hash => hash(tail),
-        Family::Symbol => (symbol_kind(first), tail),
+        Family::Hash | Family::Symbol => (symbol_kind(first), tail),
     }
 }

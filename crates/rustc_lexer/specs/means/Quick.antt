@@ -1,10 +1,11 @@
 -- Means, by how it is read: what bytes say of a token.
-use Rattle.std.specs.Prelude.{ℕ, Bool, List, ◌≡◌, ◌≤◌, ◌||◌, ◌==◌, length}
-use Rattle.std.specs.Str.{IsCharBoundary}
+use Rattle.std.specs.Prelude.{ℕ, Bool, List, ◌∷◌, ◌≡◌, ◌≢◌, ◌≤◌, ◌||◌, ◌==◌, length}
+use Rattle.std.specs.Str.{chars, IsCharBoundary}
+use Rattle.rustc_lexer.specs.declared.lexemes.family.Family.TheVariants.{Hash}
 use Rattle.rustc_lexer.specs.declared.token.Token.{Token}
 use Rattle.rustc_lexer.specs.means.ByteRuns.{is_wide}
 use Rattle.rustc_lexer.specs.means.Ident.{is_prefix_mark}
-use Rattle.rustc_lexer.specs.means.Lexeme.{first_token}
+use Rattle.rustc_lexer.specs.means.Lexeme.{family_of, first_token}
 use Rattle.rustc_lexer.specs.State.{HasSuffixWithin}
 
 -- the token is the first of the text, and may be taken off it
@@ -13,6 +14,10 @@ pub record IsFirstToken (text : List ℕ) (t : Token) : Type 0 where
   pub inside : t.len ≤ length text
   pub boundary : IsCharBoundary text t.len
   pub suffix : HasSuffixWithin t
+
+-- no hash stands in front
+abbrev pub BeginsWithNoHash : List ℕ → Type 0
+BeginsWithNoHash text = (first : ℕ) (cs : List ℕ) → chars text ≡ first ∷ cs → family_of first ≢ Hash
 
 -- after one of these bytes a word may be no identifier, or may go on
 abbrev pub turns_word : ℕ → Bool

@@ -1,8 +1,8 @@
 //! The commonest tokens, told by their bytes: identifiers, white space, hashes and symbols.
-ghost use Rattle.std.specs.Prelude.{◌≡◌, IfSome};
+ghost use Rattle.std.specs.Prelude.{◌≡◌, MatchOption};
 ghost use Rattle.rustc_lexer.specs.Classes.{Fits};
 ghost use Rattle.rustc_lexer.specs.means.Hash.{is_guarded_mark};
-ghost use Rattle.rustc_lexer.specs.means.Quick.{IsFirstToken};
+ghost use Rattle.rustc_lexer.specs.means.Quick.{BeginsWithNoHash, IsFirstToken};
 ghost use Rattle.rustc_lexer.specs.means.Scan;
 
 use crate::kernels::{Continue, Space, ends_space, ends_word, run_end, short_run_end};
@@ -10,11 +10,13 @@ use crate::lexemes::family::{Family, family_of_byte};
 use crate::lexemes::told::symbol_kind;
 use crate::token::{Token, TokenKind};
 
-/// The token at the front of the text, where the bytes of one run and the byte after it tell what it is.
+/// The token at the front of the text, where the bytes of one run and the byte after it tell what it is. A hash and
+/// the byte after it always do.
 #[inline(always)]
 pub(crate) fn quick_token(text: &str) -> Option<Token>
     requires fits { Fits text.now }
-    ensures { IfSome result (λ token. IsFirstToken text.now token) }
+    ensures { MatchOption result (BeginsWithNoHash text.now)
+        (λ token. IsFirstToken text.now token) }
 {
     let (first, rest) = text.as_bytes().split_first()?;
     match family_of_byte(*first)? {

@@ -5,7 +5,8 @@ use crate::erased::lexemes::family::{Family, family_of_byte};
 use crate::erased::lexemes::told::symbol_kind;
 use crate::erased::token::{Token, TokenKind};
 
-/// The token at the front of the text, where the bytes of one run and the byte after it tell what it is.
+/// The token at the front of the text, where the bytes of one run and the byte after it tell what it is. A hash and
+/// the byte after it always do.
 #[inline(always)]
 pub(crate) fn quick_token(text: &str) -> Option<Token> {
     let (first, rest) = text.as_bytes().split_first()?;

@@ -1,5 +1,5 @@
-use Rattle.std.proofs.Common.{sym, ap, ◌∙◌}
-use Rattle.rustc_lexer.specs.declared.lexemes.family.Family.TheVariants.{Slash, Space, Word, Number, Quote, Str, Emoji, Hash, Symbol}
+use Rattle.std.proofs.Common.{sym, ap, ◌∙◌, inl, inr}
+use Rattle.rustc_lexer.specs.declared.lexemes.family.Family.TheVariants.{Slash, Space, Word, Number, Quote, Str, Emoji, Symbol}
 use Rattle.rustc_lexer.specs.declared.token.TokenKind.TheVariants.{Whitespace}
 use Rattle.rustc_lexer.proofs.FamilyLemmas.{by_family}
 use Rattle.rustc_lexer.specs.laws.Scan.{scanned-gives}
@@ -26,8 +26,10 @@ returns-in-Str c = by_family Str _ _ _ c.quoted_literal.ensures (sym c.in-Str.is
 pub returns-in-Emoji : goal.returns-in-Emoji
 returns-in-Emoji c = by_family Emoji _ _ _ c.invalid_ident.ensures (sym c.in-Emoji.is ∙ c.family_of.ensures)
 
-pub returns-in-Hash : goal.returns-in-Hash
-returns-in-Hash c = by_family Hash _ _ _ c.hash.ensures (sym c.in-Hash.is ∙ c.family_of.ensures)
+pub symbol_kind-requires : goal.symbol_kind-requires
+symbol_kind-requires c = elim c.in-Hash.is [ inl e ↦ absurd (c.requires.no_hash (sym c.family_of.ensures ∙ e)) | inr e ↦ sym c.family_of.ensures ∙ e ]
 
-pub returns-in-Symbol : goal.returns-in-Symbol
-returns-in-Symbol c = by_family Symbol _ _ _ (ap (λ k. (k, c.args.tail.now)) c.symbol_kind.ensures ∙ sym (scanned-gives _ _ c.utf8.tail)) (sym c.in-Symbol.is ∙ c.family_of.ensures)
+pub returns-in-Hash : goal.returns-in-Hash
+returns-in-Hash c =
+    let read = ap (λ k. (k, c.args.tail.now)) c.symbol_kind.ensures ∙ sym (scanned-gives _ _ c.utf8.tail) in
+    elim c.in-Hash.is [ inl e ↦ absurd (c.requires.no_hash (sym c.family_of.ensures ∙ e)) | inr e ↦ by_family Symbol _ _ _ read (sym e ∙ c.family_of.ensures) ]
