@@ -63,11 +63,3 @@ report-reads_back by_file report old ts none written back =
     ap (option_and_then (λ p. if_last p.0 p.1))
     (ap (value max_depth) (ap (λ (us : List Token). tokens (print us)) (sym same) ∙ (back ∙ (same ∙ sym (append-nil (json_tokens j)))))
     ∙ value-json_tokens j max_depth [] (report-depth by_file report))
-
--- the text of a report: what the writer held, and a newline
-pub report-text : (by_file : Bool) (report : Report) (old ts : List Token) (start held before text : List ℕ) → old ≡ [] → ts ≡ old ++ json_tokens (report_object by_file report)
-    → start ≡ [] → before ≡ start → held ≡ before ++ print ts → text ≡ held ++ 10 ∷ []
-    → text ≡ print (json_tokens (report_object by_file report)) ++ 10 ∷ []
-report-text by_file report old ts start held before text none written empty same is more =
-    let j : Json = report_object by_file report in
-    more ∙ ap (λ xs. xs ++ 10 ∷ []) (is ∙ (ap (λ xs. xs ++ print ts) (same ∙ empty) ∙ ap (λ (us : List Token). print us) (written ∙ ap (λ (us : List Token). us ++ json_tokens j) none)))

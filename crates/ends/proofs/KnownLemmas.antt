@@ -1,6 +1,6 @@
 -- The known bytes of readers and writers, over loops.
-use Rattle.std.proofs.Common.{◌≡◌, ℕ, ◌+◌, ◌-◌, List, [], ◌∷◌, ◌++◌, length, take, drop, refl, sym, ap, ◌∙◌, arith, append_assoc, append-nil, length-append, take-append-drop, take_at, length-drop, take_all, subst, Option, Some, None}
-use Rattle.std.specs.Io.KnownBytes.{Appends, Consumes, Keeps}
+use Rattle.std.proofs.Common.{◌≡◌, ℕ, ◌+◌, ◌-◌, List, [], ◌++◌, length, take, drop, refl, sym, ap, ◌∙◌, arith, append_assoc, append-nil, length-append, take-append-drop, take_at, length-drop, take_all, subst, Option, Some, None}
+use Rattle.std.specs.Io.KnownBytes.{Appends, Keeps}
 use Rattle.std.proofs.Math.Seq.{take-append-add}
 use Rattle.std.proofs.lemmas.List.{take-append-le}
 use Rattle.ends.specs.Known.{AppendsFront, Went}
@@ -21,12 +21,6 @@ appends-kept (Some o) None new xs a b = absurd a
 appends-kept (Some o) (Some m) None xs a b = absurd b
 appends-kept (Some o) (Some m) (Some n) xs a b = b ∙ a
 
-pub consumes-more : (old mid new : Option (List ℕ)) (xs ys : List ℕ) → Consumes old mid xs → Consumes mid new ys → Consumes old new (xs ++ ys)
-consumes-more None mid new xs ys a b = tt
-consumes-more (Some o) None new xs ys a b = absurd a
-consumes-more (Some o) (Some m) None xs ys a b = absurd b
-consumes-more (Some o) (Some m) (Some n) xs ys a b = a ∙ (ap (λ zs. xs ++ zs) b ∙ sym (append_assoc xs ys n))
-
 pub went_more : (old mid new : Option (List ℕ)) (text rest cut : List ℕ) (n : ℕ) → Went old mid text rest → Appends mid new (take n rest) → cut ≡ drop n rest → Went old new text cut
 went_more old mid new text rest cut n w a e = record {
   front = w.front ++ take n rest;
@@ -42,10 +36,6 @@ went_front old new text rest w =
     let n : ℕ = length w.front in
     let front : take n text ≡ w.front = ap (take n) w.whole ∙ take_at w.front rest n refl in
     (n, omega (arith, ap length w.whole, length-append w.front rest), subst (λ (xs : List ℕ). Appends old new xs) (sym front) w.grew)
-
-pub went_all : (old new : Option (List ℕ)) (text rest : List ℕ) → Went old new text rest → length rest ≡ 0 → Appends old new text
-went_all old new text [] w none = subst (λ (xs : List ℕ). Appends old new xs) (sym (w.whole ∙ append-nil w.front)) w.grew
-went_all old new text (b ∷ bs) w none = absurd (omega arith)
 
 -- what is cut off a slice past its first n bytes, as a slice of a slice
 pub cut_past : (n : ℕ) (rest : List ℕ) → take (length rest - n) (drop n rest) ≡ drop n rest

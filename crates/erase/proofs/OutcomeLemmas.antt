@@ -1,6 +1,6 @@
 -- A run ends as the bytes say.
 use Rattle.std.proofs.Common.{◌≡◌, ℕ, ◌<◌, ◌^◌, Bool, true, false, List, length, refl, ◌∙◌, subst, Option, Some, None, Result, Ok, Err, Vec, Global}
-use Rattle.std.specs.Prelude.{IfSome, IfErr, IsErrOf, IsTrue, OnOk, OnErr, ◌↔◌}
+use Rattle.std.specs.Prelude.{IfSome, IfErr, OnOk, OnErr}
 use Rattle.std.specs.Str.{IsUtf8}
 use Rattle.std.specs.Io.KnownBytes.{Appends, Keeps}
 use Rattle.ends.specs.declared.reading.ReadStop.{ReadStop}
@@ -89,16 +89,3 @@ pub prints_erased : (tells : Bool) (lines : List Line) (fates : List Fate) (sour
     → text ≡ written lines source (tokens_of (mode_of No) source) fates → IsPrinted tells source text
 prints_erased true lines fates source text is are made = cc
 prints_erased false lines fates source text is are made = (lines, fates, are, made)
-
--- a stop of reading is none of writing
-pub reads_no_write : (stop : ReadStop) → ¬ (read_fault stop ≡ Write)
-reads_no_write TooLongRead e = cc
-reads_no_write MemoryRead e = cc
-reads_no_write Failed e = cc
-
--- the run stops by a failed read where the reading does
-pub read_tells : (stop : ReadStop) (failed : Bool) → IsErrOf (let r : Result (Vec ℕ Global) ReadStop = Err stop in r) Failed ↔ IsTrue failed
-    → IsErrOf (let r : Result (Unit {0}) Fault = Err (read_fault stop) in r) Read ↔ IsTrue failed
-read_tells TooLongRead failed tells = (λ e. cc, λ t. let e = tells.1 t in cc)
-read_tells MemoryRead failed tells = (λ e. cc, λ t. let e = tells.1 t in cc)
-read_tells Failed failed tells = (λ e. tells.0 refl, λ t. refl)

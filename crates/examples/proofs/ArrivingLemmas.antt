@@ -4,7 +4,7 @@ use Rattle.std.proofs.lemmas.Bool.Decides.{leb_tells}
 use Rattle.std.proofs.Math.Seq.{drop-append_seam}
 use Rattle.std.proofs.lemmas.List.{append-nil, drop-append-le, take_more}
 use Rattle.std.proofs.lemmas.List.Concat.{flat_map-append}
-use Rattle.std.proofs.lemmas.Str.{IsCharBoundary-from_take, IsUtf8-append, IsUtf8-drop, IsUtf8-nil}
+use Rattle.std.proofs.lemmas.Str.{IsCharBoundary-from_take, IsUtf8-append, IsUtf8-drop}
 use Rattle.rustc_lexer.specs.declared.edition.Edition.TheVariants.{E2024}
 use Rattle.rustc_lexer.specs.declared.token.Token.{Token}
 use Rattle.rustc_lexer.specs.Tokens.{bound, tokens_of}
@@ -122,10 +122,6 @@ gives_more taken piece rest past given more at first sure =
           ap (tokens_of (part E2024)) (append_assoc taken piece others) ∙ (at.first (piece ++ others) (subst IsText (append_assoc taken piece others) its)
           ∙ (ap (λ bs. given ++ tokens_of (part E2024) bs) (sym (append_assoc rest piece others)) ∙ (ap (λ ts. given ++ ts) (first others here) ∙ sym (append_assoc given more (tokens_of (part E2024) (past ++ others))))));
     }
-
--- nothing has come
-pub gives_none : HasGiven [] [] []
-gives_none = record { text = IsUtf8-nil; held = IsUtf8-nil; short = omega arith; first = λ more its. refl }
 
 -- nothing more comes
 pub all_given : (whole rest : List ℕ) (given : List Token) → HasGiven whole given rest → length whole < 2 ^ 32 → given ++ tokens_of (part E2024) rest ≡ tokens_of (part E2024) whole

@@ -1,5 +1,5 @@
 -- The loop that checks raw strings.
-use Rattle.std.proofs.Common.{◌≡◌, ℕ, ◌+◌, List, [], ◌∷◌, ◌++◌, take, drop, sym, ap, subst, ◌∙◌, append_assoc, Option, Some, None}
+use Rattle.std.proofs.Common.{◌≡◌, ℕ, ◌+◌, List, [], ◌∷◌, ◌++◌, take, drop, sym, ap, subst, ◌∙◌, append_assoc, Option, Some}
 use Rattle.rustc_lexer.specs.declared.token.Token.{Token}
 use Rattle.rustc_lexer.specs.Pieces.{pieces_from}
 use Rattle.rustc_lexer.specs.Tokens.{HasText, HaveTexts}
@@ -17,10 +17,6 @@ module _ (items : List RawFault) (text : List ℕ) (start : ℕ) (left others : 
   pub fault_found : (more : List RawFault) (fault : RawFault) (piece : List ℕ) → piece ≡ take token.len (drop start text) → raw_fault start token.kind piece ≡ Some fault → more ≡ items ++ fault ∷ [] → more ++ others_faults ≡ all
   fault_found more fault piece own is pushed =
       ap (λ fs. fs ++ others_faults) pushed ∙ (append_assoc items (fault ∷ []) others_faults ∙ (ap (λ fs. items ++ fs) (sym (here (Some fault) piece own is)) ∙ at))
-
-  -- it refuses nothing
-  pub no_fault : (piece : List ℕ) → piece ≡ take token.len (drop start text) → raw_fault start token.kind piece ≡ None → items ++ others_faults ≡ all
-  no_fault piece own is = ap (λ fs. items ++ fs) (sym (here None piece own is)) ∙ at
 
 module _ (rest : List ℕ) (left others : List Token) (token : Token) (have : HaveTexts rest left) (first : left ≡ token ∷ others) where
   abbrev both : HasText token.kind (take token.len rest) × HaveTexts (drop token.len rest) others

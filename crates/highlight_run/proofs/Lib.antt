@@ -1,3 +1,2 @@
 pub mod JobLemmas
 pub mod OutcomeLemmas
-pub mod ProgramLemmas

@@ -1,6 +1,6 @@
 -- A run ends as its outcome says.
 use Rattle.std.proofs.Common.{◌≡◌, ℕ, ◌<◌, ◌≤◌, ◌^◌, nat_le, Bool, true, false, List, length, refl, sym, ap, ◌∙◌, arith, subst, inl, inr, Option, Some, None, Result, Ok, Err, Vec, Global}
-use Rattle.std.specs.Prelude.{IfSome, IfErr, IsErrOf, IsTrue, OnOk, OnErr, ◌↔◌}
+use Rattle.std.specs.Prelude.{IfSome, IfErr, OnOk, OnErr}
 use Rattle.std.specs.Str.{IsUtf8, is_utf8}
 use Rattle.std.specs.Io.KnownBytes.{Appends, Keeps}
 use Rattle.std.proofs.lemmas.Bool.{le-leb}
@@ -60,11 +60,6 @@ ends_no_text style edition None old new read ends fits none kept = tt
 ends_no_text style edition (Some bytes) old new read ends fits none kept =
     subst (λ (xs : List ℕ). Ends old new (Err NotUtf8) (outcome style edition xs)) ends (outcome-no_text style edition read.items fits none, kept)
 
--- memory was refused
-pub ends_refused : (style : Style) (edition : Edition) (known old new : Option (List ℕ)) → Keeps old new → IfSome known (λ bytes. Ends old new (Err Memory) (outcome style edition bytes))
-ends_refused style edition None old new kept = tt
-ends_refused style edition (Some bytes) old new kept = kept
-
 -- all of it was written, or a beginning
 ends_writing : (old new : Option (List ℕ)) (made : List ℕ) (result : Result (Unit {0}) Stop) → IfErr result IsWriteStop → OnOk result (Appends old new made) → OnErr result (AppendsFront old new made)
     → Ends old new result (Ok made)
@@ -84,29 +79,3 @@ ends_written style edition None old new read text made result ends fits is same 
 ends_written style edition (Some bytes) old new read text made result ends fits is same prints only ok err =
     let comes_to : Ok made ≡ outcome style edition bytes = ap (λ (xs : List ℕ). let r : Result (List ℕ) Stop = Ok xs in r) prints ∙ (sym (outcome-text style edition text fits is) ∙ ap (outcome style edition) (same ∙ ends)) in
     subst (λ (o : Result (List ℕ) Stop). Ends old new result o) comes_to (ends_writing old new made result only ok err)
-
--- the lines of help were written, or a beginning
-pub ends_help : (old new : Option (List ℕ)) (help made : List ℕ) (result : Result (Unit {0}) Stop) → made ≡ help → IfErr result IsWriteStop → OnOk result (Appends old new made) → OnErr result (AppendsFront old new made)
-    → Ends old new result (Ok help)
-ends_help old new help made result is only ok err = subst (λ (xs : List ℕ). Ends old new result (Ok xs)) is (ends_writing old new made result only ok err)
-
--- a stop of reading is none of writing
-pub reads_no_write : (stop : ReadStop) → ¬ (read_stop stop ≡ Write)
-reads_no_write TooLongRead e = cc
-reads_no_write MemoryRead e = cc
-reads_no_write Failed e = cc
-
-pub reads_no_closed : (stop : ReadStop) → ¬ (read_stop stop ≡ ClosedPipe)
-reads_no_closed TooLongRead e = cc
-reads_no_closed MemoryRead e = cc
-reads_no_closed Failed e = cc
-
--- the run stops by a failed read where the reading does
-pub read_tells : (stop : ReadStop) (failed : Bool) → IsErrOf (let r : Result (Vec ℕ Global) ReadStop = Err stop in r) Failed ↔ IsTrue failed
-    → IsErrOf (let r : Result (Unit {0}) Stop = Err (read_stop stop) in r) Read ↔ IsTrue failed
-read_tells TooLongRead failed tells = (λ e. cc, λ t. let e = tells.1 t in cc)
-read_tells MemoryRead failed tells = (λ e. cc, λ t. let e = tells.1 t in cc)
-read_tells Failed failed tells = (λ e. tells.0 refl, λ t. refl)
-
-pub writes_no_read : (stop : Stop) → IsWriteStop stop → ¬ (stop ≡ Read)
-writes_no_read stop is e = subst IsWriteStop e is

@@ -86,13 +86,6 @@ some-after e words after h = ap is_some (replacements-first e words after h) ∙
 abbrev pub ReadBefore : List (List ℕ) → List Replacement → List (List ℕ) → Type 0
 ReadBefore words edits rest = replacements_of words ≡ option_map (λ more. edits ++ more) (replacements_of rest)
 
-pub read_none : (words : List (List ℕ)) → ReadBefore words [] words
-read_none words = by_edits (replacements_of words)
-  where
-    by_edits : (r : Option (List Replacement)) → r ≡ option_map (λ more. [] ++ more) r
-    by_edits None = refl
-    by_edits (Some es) = refl
-
 pub read_more : (words rest after : List (List ℕ)) (edits : List Replacement) (e : Replacement) → ReadBefore words edits rest → FirstIs rest e after → ReadBefore words (edits ++ e ∷ []) after
 read_more words rest after edits e read first = read ∙ (ap (option_map (λ more. edits ++ more)) (replacements-first e rest after first) ∙ by_edits (replacements_of after))
   where

@@ -1,6 +1,6 @@
 -- The answer of a run is that of its outcome.
 use Rattle.std.proofs.Common.{◌≡◌, ◌≢◌, ℕ, ◌<◌, ◌≤◌, ◌^◌, nat_le, Bool, true, false, List, [], ◌++◌, length, refl, sym, ap, ◌∙◌, arith, subst, inl, inr, Option, Some, None, Result, Ok, Err, Vec, Global}
-use Rattle.std.specs.Prelude.{IfSome, IfErr, IfOk, IsErrOf, IsTrue, OnOk, OnErr, ◌↔◌}
+use Rattle.std.specs.Prelude.{IfSome, IfErr, IfOk, OnOk, OnErr}
 use Rattle.std.specs.Str.{IsUtf8, is_utf8}
 use Rattle.std.proofs.lemmas.Bool.{le-leb}
 use Rattle.std.proofs.lemmas.Bool.Decides.{leb_tells}
@@ -132,16 +132,3 @@ module _ (old new : Option (List ℕ)) (held left : List ℕ) (printed : Result 
   stop_silent Arguments p other = absurd (other p.2.0)
   stop_silent NotUtf8 p other = absurd (other p.2.0)
   stop_silent TooLong p other = absurd (other p.2.0)
-
--- a fault of reading is none of writing
-pub reads_only : (stop : ReadStop) → ¬ (read_fault stop ≡ Write)
-reads_only TooLongRead e = cc
-reads_only MemoryRead e = cc
-reads_only Failed e = cc
-
--- the run stops by a failed read where the reading does
-pub read_tells : (stop : ReadStop) (failed : Bool) → IsErrOf (let r : Result (Vec ℕ Global) ReadStop = Err stop in r) Failed ↔ IsTrue failed
-    → IsErrOf (let r : Result (Unit {0}) Fault = Err (read_fault stop) in r) Read ↔ IsTrue failed
-read_tells TooLongRead failed tells = (λ e. cc, λ t. let e = tells.1 t in cc)
-read_tells MemoryRead failed tells = (λ e. cc, λ t. let e = tells.1 t in cc)
-read_tells Failed failed tells = (λ e. tells.0 refl, λ t. refl)

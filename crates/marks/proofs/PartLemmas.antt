@@ -207,11 +207,6 @@ module _ {W : Type 0} (took : W → List ℕ → W → Type 0) where
       writes_both took w1 w2 w3 _ _ b (
       writes_both took w2 w3 w3 _ _ (one_call took w2 w3 _ close_call) (no_calls took w3)))
 
-  -- and of no text
-  pub writes_empty : (style : Style) (class : Class) (own : List ℕ) (w : W) → length own ≡ 0 → WritesInCalls took w (with_marks style (class_parts style class own)) w
-  writes_empty style class [] w none = no_calls took w
-  writes_empty style class (x ∷ xs) w none = absurd (omega arith)
-
   -- a token with a fault between its marks
   pub writes_fault : (style : Style) (fault : Fault) (class : Class) (own line rest : List ℕ) (n : ℕ) (w0 w1 w2 w3 w4 : W) → n ≡ first_line own → line ≡ take (n - 0) own → rest ≡ drop n own
       → WritesInCalls took w0 (fault_open style fault) w1 → WritesInCalls took w1 (with_marks style (class_parts style class line)) w2

@@ -8,16 +8,8 @@ use Rattle.rustc_literal_escaper.specs.declared.error.EscapeError.TheVariants.{M
 use Rattle.rustc_literal_escaper.specs.declared.error.EscapeError.{EscapeError}
 use Rattle.rustc_literal_escaper.specs.declared.mode.Mode.{Mode}
 use Rattle.rustc_literal_escaper.specs.Elements.{Item, items_of}
-use Rattle.rustc_literal_escaper.specs.Errors.{alone_error, error_of, errors_in, errors_of, is_raw, is_single, put, single_error}
+use Rattle.rustc_literal_escaper.specs.Errors.{alone_error, error_of, errors_in, errors_of, is_raw, is_single, single_error}
 use Rattle.rustc_literal_escaper.specs.Single.{StartsWithSingle}
-
--- an item with nothing wrong adds none
-pub errors-none : (mode : Mode) (s t : List Item) (i : Item) → s ≡ i ∷ t → None ≡ error_of mode i.1 → errors_in mode t ≡ errors_in mode s
-errors-none mode s t i e none = ap (λ (o : Option EscapeError). put i.0 o (errors_in mode t)) none ∙ sym (ap (errors_in mode) e)
-
--- another adds its own in front
-pub errors-some : (mode : Mode) (s t : List Item) (i : Item) (error : EscapeError) → s ≡ i ∷ t → Some error ≡ error_of mode i.1 → (i.0, error) ∷ errors_in mode t ≡ errors_in mode s
-errors-some mode s t i error e some = ap (λ (o : Option EscapeError). put i.0 o (errors_in mode t)) some ∙ sym (ap (errors_in mode) e)
 
 -- what is wrong between single quotes, by the first element
 single_error-starts : (total : ℕ) (mode : Mode) (s left : List ℕ) (e : Element) → StartsWithSingle s e left → single_error total mode s ≡ alone_error total (error_of mode e) left

@@ -25,9 +25,6 @@ pub pick : {A : Type 0} (P : A → Type 0) (b : Bool) (x y : A) → (b ≡ true 
 pick P true x y p q = p refl
 pick P false x y p q = q refl
 
-abbrev nil : List ℕ
-nil = []
-
 -- ---- digits
 
 hex-digit : (n : ℕ) → n < 16 → is_hex (digit_char n) ≡ true

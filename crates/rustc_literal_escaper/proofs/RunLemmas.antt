@@ -1,8 +1,7 @@
 -- Runs of simple characters: the items of each.
-use Rattle.std.proofs.Common.{◌≡◌, ℕ, ◌+◌, ◌-◌, ◌<◌, ◌==◌, ◌&&◌, nat_lt, not, Bool, true, false, true≢false, List, [], ◌∷◌, ◌++◌, length, length-append, Option, Some, None, refl, sym, ap, ap₂, subst, ◌∙◌, arith}
+use Rattle.std.proofs.Common.{◌≡◌, ℕ, ◌+◌, ◌-◌, ◌<◌, ◌==◌, ◌&&◌, nat_lt, not, Bool, true, List, [], ◌∷◌, ◌++◌, length, length-append, refl, sym, ap, ap₂, subst, ◌∙◌, arith}
 use Rattle.std.specs.Char.{encode_utf8}
 use Rattle.std.specs.List.{list_all, FoldsTo}
-use Rattle.std.specs.Option.{is_some, option_to_list}
 use Rattle.std.specs.Str.{chars, encode_utf8_all, IsUtf8}
 use Rattle.std.proofs.lemmas.Bool.{and_parts}
 use Rattle.std.proofs.lemmas.Bool.Decides.{nat_tests}
@@ -48,11 +47,6 @@ module _ (raw : Bool) (total : ℕ) where
       ∙ (ap (items_from (front_by raw) total) (chars-simple raw run left e)
       ∙ (items-run run (chars left) e
       ∙ ap (λ (n : ℕ). plain_items (total - n) run ++ items_from (front_by raw) total (chars left)) (ap length (encodes-chars left is))))
-
--- with nothing waiting, they are those of the rest
-pub behind-run : (waiting : Option Item) (s run t : List Item) → false ≡ is_some waiting → s ≡ run ++ t → option_to_list waiting ++ s ≡ run ++ (option_to_list waiting ++ t)
-behind-run None s run t none e = e
-behind-run (Some waits) s run t none e = absurd (true≢false (sym none))
 
 -- calls over some items, and then over others
 pub folds-append : {P A : Type 0} (R : P → A → P → Type 0) (p q r : P) (xs ys : List A) → FoldsTo R p xs q → FoldsTo R q ys r → FoldsTo R p (xs ++ ys) r

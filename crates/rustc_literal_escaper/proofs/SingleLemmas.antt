@@ -23,9 +23,6 @@ module _ {U : Type 0} (meaning : Element → Result U EscapeError) where
       by_left [] some = absurd (some refl)
       by_left (c ∷ s) some = refl
 
-  pub literal-fault : (s left : List ℕ) (e : Element) (f : EscapeError) → StartsWithSingle s e left → meaning e ≡ Err f → Err f ≡ literal meaning s
-  literal-fault s left e f h m = sym (literal-starts s left e h ∙ rw m refl)
-
 -- a text is empty exactly where it has no characters
 pub chars-none : (bs : List ℕ) → length bs ≡ 0 → chars bs ≡ []
 chars-none [] e = chars-nil

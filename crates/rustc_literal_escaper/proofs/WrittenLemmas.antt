@@ -1,12 +1,10 @@
 -- What is written of characters and bytes, read between double quotes.
-use Rattle.std.proofs.Common.{◌≡◌, ℕ, suc, ◌+◌, ◌/◌, ◌%◌, ◌<◌, take, length-append, ◌==◌, ◌&&◌, Bool, true, false, List, [], ◌∷◌, ◌++◌, length, append_assoc, map, Result, Ok, Err, nat_lt, ◌||◌, true≢false, refl, sym, ap, subst, ◌∙◌, arith}
+use Rattle.std.proofs.Common.{◌≡◌, ℕ, suc, ◌+◌, ◌/◌, ◌%◌, ◌<◌, ◌==◌, ◌&&◌, Bool, true, false, List, [], ◌∷◌, ◌++◌, length, append_assoc, map, Result, Ok, Err, nat_lt, ◌||◌, true≢false, refl, sym, ap, subst, ◌∙◌, arith}
 use Rattle.std.specs.Prelude.{OnErr}
 use Rattle.std.specs.Char.{digit_char, encode_utf8, is_ascii, IsScalar}
 use Rattle.std.specs.Char.Escape.{escape_ascii, escape_default, escape_unicode, hex_digit_at}
 use Rattle.std.specs.List.{AllByRecursion, flat_map, list_all, list_any, slice_index}
 use Rattle.std.specs.Str.{all_scalars, chars, IsAscii, IsUtf8}
-use Rattle.std.specs.String.Boundary.{IsSplitPoint}
-use Rattle.std.proofs.Math.Seq.{take-append_seam}
 use Rattle.std.proofs.lemmas.List.{append-nil, map-id}
 use Rattle.std.proofs.lemmas.Bool.{and_parts, lt-ltb, ltb-true}
 use Rattle.std.proofs.lemmas.List.Folds.{list_all-append}
@@ -110,9 +108,6 @@ writing-next all old now next rest left x w e push =
     all_left : AllAscii (x ∷ left)
     all_left = (and_parts (list_all is_ascii w.done) (list_all is_ascii (x ∷ left)) (sym (list_all-append is_ascii w.done (x ∷ left)) ∙ (ap (λ (xs : List ℕ). list_all is_ascii (w.done ++ xs)) (sym e) ∙ (ap (list_all is_ascii) (sym w.whole) ∙ w.ascii)))).1
 
-pub writing-end : (all old now left : List ℕ) → Writing all old now left → left ≡ [] → now ≡ old ++ all
-writing-end all old now left w e = w.here ∙ ap (λ xs. old ++ xs) (sym (w.whole ∙ (ap (λ xs. w.done ++ xs) e ∙ append-nil w.done)))
-
 done-ascii : (all old now left : List ℕ) (w : Writing all old now left) → AllAscii w.done
 done-ascii all old now left w = (and_parts (list_all is_ascii w.done) (list_all is_ascii left) (sym (list_all-append is_ascii w.done left) ∙ (ap (list_all is_ascii) (sym w.whole) ∙ w.ascii))).0
 
@@ -130,23 +125,6 @@ writing-breaks all old now new left w g = record {
 pub on_err : {T E : Type 0} (P : Type 0) (r : Result T E) → P → OnErr r P
 on_err P (Ok x) holds = tt
 on_err P (Err e) holds = holds
-
--- what was there before can be cut off again
-pub grown-cut : (old new : List ℕ) → Grows old new → take (length old) new ≡ old
-grown-cut old new g = ap (take (length old)) g.grown ∙ take-append_seam old g.more
-
-pub grown-split : (old new : List ℕ) → Grows old new → IsSplitPoint new (length old)
-grown-split old new g = subst (λ (xs : List ℕ). IsSplitPoint xs (length old)) (sym g.grown) (
-  (let l = length-append old g.more in omega arith),
-  λ some within high. absurd (
-      let b : slice_index g.more 0 < 128 = is-ascii g.more g.ascii 0 in
-      let same : slice_index (old ++ g.more) (length old) ≡ slice_index g.more 0 = at_seam old g.more in
-      omega arith),
-)
-  where
-    at_seam : (xs ys : List ℕ) → slice_index (xs ++ ys) (length xs) ≡ slice_index ys 0
-    at_seam [] ys = refl
-    at_seam (x ∷ xs) ys = at_seam xs ys
 
 -- ---- what is written is one element, whatever follows
 

@@ -62,10 +62,6 @@ abbrev pub is_last : List Token → Bool
 is_last [] = true
 is_last (t ∷ ts) = false
 
-none-last : (tokens : List Token) → is_last tokens ≡ true → length tokens ≡ 0
-none-last [] e = refl
-none-last (t ∷ ts) e = absurd (true≢false (sym e))
-
 -- ---- where a frontmatter opens
 
 opens-space : (u next : List ℕ) → AreAll is_whitespace u → NextIsNot is_whitespace next → opens (u ++ next) ≡ (begins (dashes 3) next && not (ends_line u))

@@ -1,5 +1,5 @@
 -- The first token of a source, and what follows it in order.
-use Rattle.std.proofs.Common.{◌≡◌, ℕ, ◌+◌, ◌-◌, ◌<◌, ◌≤◌, ◌^◌, ◌==◌, Bool, true, false, true≢false, if◌then◌else◌, List, [], ◌∷◌, ◌++◌, length, take, drop, refl, sym, ap, ◌∙◌, subst, arith, append_assoc, length-append, length-drop, length-take-le}
+use Rattle.std.proofs.Common.{◌≡◌, ℕ, ◌+◌, ◌-◌, ◌<◌, ◌≤◌, ◌^◌, ◌==◌, Bool, true, true≢false, if◌then◌else◌, List, [], ◌∷◌, ◌++◌, length, take, drop, refl, sym, ap, ◌∙◌, subst, arith, append_assoc, length-append, length-drop, length-take-le}
 use Rattle.rustc_lexer.specs.declared.edition.Edition.TheVariants.{E2024}
 use Rattle.rustc_lexer.specs.declared.token.Token.{Token}
 use Rattle.rustc_lexer.specs.declared.token.TokenKind.{TokenKind}
@@ -99,14 +99,3 @@ space-first text token before mid own rest first at is cut made =
         ap (put token.kind (token.len == length text)) (whole-take token.len text own is)
         ∙ (ap (λ (b : Bool). put token.kind b (take token.len text)) (end-is text rest token.len first.inside (sym cut))
         ∙ (put-is (document E2024) rest token.kind (take token.len text) ∙ ap (λ (b : Bool). if b then space_in_order (take token.len text) (tokens_of (document E2024) rest) else text_in_order token.kind (take token.len text) ++ closing token.kind (tokens_of (document E2024) rest)) at))
-
-pub none-first : (text : List ℕ) (token : Token) → First text token → is_space token.kind ≡ false → front_in_order text (tokens_of (document E2024) text) ≡ source_tidied text
-none-first text token first at = ap (front_in_order text) first.tokens ∙ sym (ap (source_in_order text) first.tokens
-    ∙ ap (λ (b : Bool). let ts : List Token = tokens_of (mode_after (document E2024) token.kind) (drop token.len text) in if b then space_in_order (take token.len text) ts ++ front_in_order (drop token.len text) ts else front_in_order text (token ∷ ts)) at)
-
-pub code-first : (text : List ℕ) (token : Token) → First text token → is_front token.kind ≡ false → code_in_order text (tokens_of (document E2024) text) ≡ front_in_order text (tokens_of (document E2024) text)
-code-first text token first at = ap (code_in_order text) first.tokens ∙ sym (ap (front_in_order text) first.tokens
-    ∙ ap (λ (b : Bool). let ts : List Token = tokens_of (mode_after (document E2024) token.kind) (drop token.len text) in if b then if_kept token text (take token.len text ++ code_in_order (drop token.len text) ts) else code_in_order text (token ∷ ts)) at)
-
-pub empty-source : (text : List ℕ) → tokens_of (document E2024) text ≡ [] → (source_tidied text ≡ []) × (front_in_order text (tokens_of (document E2024) text) ≡ [])
-empty-source text e = (ap (source_in_order text) e, ap (front_in_order text) e)
