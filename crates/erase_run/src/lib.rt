@@ -14,8 +14,6 @@ mod rules;
 mod source;
 mod stop;
 mod stretch;
-#[cfg(test)]
-mod tests;
 mod write;
 
 pub use fate::{Fate, Line, Rule, Word};

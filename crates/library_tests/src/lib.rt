@@ -4,6 +4,8 @@
 #[cfg(test)]
 mod callers;
 #[cfg(test)]
+mod erased;
+#[cfg(test)]
 mod literals;
 #[cfg(test)]
 mod program_ends;

@@ -1,8 +1,6 @@
 //! What is made of small sources, worked out by hand, and what is refused.
 
-use crate::source::Target;
-use crate::stop::{Reason, Stop};
-use crate::write::erase;
+use erase_run::{Reason, Stop, Target, erase};
 use rustc_lexer::fits;
 use std::alloc::Global;
 use std::test::Fail;
