@@ -1,10 +1,9 @@
 -- A run ends as its outcome says.
-use Rattle.std.proofs.Common.{◌≡◌, ℕ, ◌<◌, ◌≤◌, ◌^◌, nat_le, Bool, true, false, List, length, refl, sym, ap, ◌∙◌, arith, subst, inl, inr, Option, Some, None, Result, Ok, Err, Vec, Global}
+use Rattle.std.proofs.Common.{◌≡◌, ℕ, ◌<◌, ◌≤◌, ◌^◌, nat_le, Bool, true, false, List, length, refl, sym, ap, ◌∙◌, subst, Option, Some, None, Result, Ok, Err, Vec, Global}
 use Rattle.std.specs.Prelude.{IfSome, IfErr, OnOk, OnErr}
 use Rattle.std.specs.Str.{IsUtf8, is_utf8}
 use Rattle.std.specs.Io.KnownBytes.{Appends, Keeps}
-use Rattle.std.proofs.lemmas.Bool.{le-leb}
-use Rattle.std.proofs.lemmas.Bool.Decides.{leb_tells}
+use Rattle.std.proofs.lemmas.Bool.{le-leb, lt-leb}
 use Rattle.std.proofs.lemmas.Str.{IsUtf8-from_is_utf8, is_utf8-from_IsUtf8}
 use Rattle.ends.specs.declared.reading.ReadStop.{ReadStop}
 use Rattle.ends.specs.declared.reading.ReadStop.TheVariants.{TooLong as TooLongRead, Memory as MemoryRead, Failed}
@@ -18,9 +17,6 @@ use Rattle.highlight_run.specs.Outcome.{outcome, Ends, IsWriteStop}
 use Rattle.highlight_run.specs.Page.{printed}
 use Rattle.highlight_run.specs.Stop.{read_stop}
 
-below : (a b : ℕ) → b < a → nat_le a b ≡ false
-below a b h = elim (leb_tells a b) [ inl p ↦ absurd (omega arith) | inr p ↦ p.0 ]
-
 outcome-long : (style : Style) (edition : Edition) (bytes : List ℕ) → 2 ^ 32 ≤ length bytes → outcome style edition bytes ≡ Err TooLong
 unfolding outcome
 outcome-long style edition bytes long = let e : nat_le (2 ^ 32) (length bytes) ≡ true = le-leb (2 ^ 32) (length bytes) long in rw e refl
@@ -31,13 +27,13 @@ outcome-no_text style edition bytes fits none = by_test (is_utf8 bytes) refl
   where
     by_test : (b : Bool) → is_utf8 bytes ≡ b → outcome style edition bytes ≡ Err NotUtf8
     by_test true e = absurd (none (IsUtf8-from_is_utf8 bytes e))
-    by_test false e = let f : nat_le (2 ^ 32) (length bytes) ≡ false = below (2 ^ 32) (length bytes) fits in rw (f, e) refl
+    by_test false e = let f : nat_le (2 ^ 32) (length bytes) ≡ false = lt-leb (2 ^ 32) (length bytes) fits in rw (f, e) refl
 
 outcome-text : (style : Style) (edition : Edition) (bytes : List ℕ) → length bytes < 2 ^ 32 → IsUtf8 bytes → outcome style edition bytes ≡ Ok (printed style edition bytes)
 unfolding outcome
 outcome-text style edition bytes fits is =
     let e : is_utf8 bytes ≡ true = is_utf8-from_IsUtf8 bytes is in
-    let f : nat_le (2 ^ 32) (length bytes) ≡ false = below (2 ^ 32) (length bytes) fits in
+    let f : nat_le (2 ^ 32) (length bytes) ≡ false = lt-leb (2 ^ 32) (length bytes) fits in
     rw (f, e) refl
 
 -- reading stopped

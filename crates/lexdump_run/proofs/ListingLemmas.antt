@@ -1,6 +1,6 @@
 -- The loops that list tokens.
 use Rattle.std.proofs.Common.{◌≡◌, ℕ, zero, suc, ◌+◌, ◌-◌, ◌<◌, ◌≤◌, ◌^◌, List, [], ◌∷◌, ◌++◌, length, take, drop, get_or, refl, ap, sym, ◌∙◌, arith, append-nil, append_assoc, subst, Option, length-drop, length-take-le, take-take}
-use Rattle.std.proofs.lemmas.List.{drop_more}
+use Rattle.std.proofs.lemmas.List.{drop_more, nil_from_length}
 use Rattle.rustc_lexer.specs.declared.token.Token.{Token}
 use Rattle.rustc_lexer.specs.State.{State}
 use Rattle.rustc_lexer.specs.Tokens.{bound, tokens_left, tokens_of}
@@ -74,11 +74,7 @@ module _ (old mid : Option (List ℕ)) (all held : List ℕ) (tokens : List Toke
 
 -- where no text is left, no token is
 pub none_left : (s : State) → length s.rest ≡ 0 → tokens_left s ≡ []
-none_left s e = ap (tokens_of s.mode) (empty s.rest e) ∙ tokens-nil s.mode
-  where
-    empty : (xs : List ℕ) → length xs ≡ 0 → xs ≡ []
-    empty [] e = refl
-    empty (x ∷ xs) e = absurd (let no : suc (length xs) ≡ 0 = e in omega arith)
+none_left s e = ap (tokens_of s.mode) (nil_from_length s.rest e) ∙ tokens-nil s.mode
 
 -- the lines of the tokens that are left are still to come, which begin where the rest of the text does
 pub record ListsRooms (old new : Option (List ℕ)) (tokens left : List Token) (first held text rest : List ℕ) : Type 0 where

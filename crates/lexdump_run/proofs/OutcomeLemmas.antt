@@ -1,9 +1,8 @@
 -- The answer of a run is that of its outcome.
-use Rattle.std.proofs.Common.{◌≡◌, ◌≢◌, ℕ, ◌<◌, ◌≤◌, ◌^◌, nat_le, Bool, true, false, List, [], ◌++◌, length, refl, sym, ap, ◌∙◌, arith, subst, inl, inr, Option, Some, None, Result, Ok, Err, Vec, Global}
+use Rattle.std.proofs.Common.{◌≡◌, ◌≢◌, ℕ, ◌<◌, ◌≤◌, ◌^◌, nat_le, Bool, true, false, List, [], ◌++◌, length, refl, sym, ap, ◌∙◌, subst, Option, Some, None, Result, Ok, Err, Vec, Global}
 use Rattle.std.specs.Prelude.{IfSome, IfErr, IfOk, OnOk, OnErr}
 use Rattle.std.specs.Str.{IsUtf8, is_utf8}
-use Rattle.std.proofs.lemmas.Bool.{le-leb}
-use Rattle.std.proofs.lemmas.Bool.Decides.{leb_tells}
+use Rattle.std.proofs.lemmas.Bool.{le-leb, lt-leb}
 use Rattle.std.specs.Io.KnownBytes.{Appends, Keeps}
 use Rattle.std.proofs.lemmas.Str.{IsUtf8-from_is_utf8, is_utf8-from_IsUtf8}
 use Rattle.ends.specs.declared.reading.ReadStop.{ReadStop}
@@ -17,9 +16,6 @@ use Rattle.lexdump_run.specs.declared.job.Job.{Job}
 use Rattle.lexdump_run.specs.Outcome.{printed, outcome, IsAnswer, Writes}
 use Rattle.lexdump_run.specs.Pushed.{Prints}
 
-below : (a b : ℕ) → b < a → nat_le a b ≡ false
-below a b h = elim (leb_tells a b) [ inl p ↦ absurd (omega arith) | inr p ↦ p.0 ]
-
 outcome-long : (job : Job) (bytes : List ℕ) → 2 ^ 32 ≤ length bytes → outcome job bytes ≡ Err TooLong
 unfolding outcome
 outcome-long job bytes long = let e : nat_le (2 ^ 32) (length bytes) ≡ true = le-leb (2 ^ 32) (length bytes) long in rw e refl
@@ -30,13 +26,13 @@ outcome-no_text job bytes fits none = by_test (is_utf8 bytes) refl
   where
     by_test : (b : Bool) → is_utf8 bytes ≡ b → outcome job bytes ≡ Err NotUtf8
     by_test true e = absurd (none (IsUtf8-from_is_utf8 bytes e))
-    by_test false e = let f : nat_le (2 ^ 32) (length bytes) ≡ false = below (2 ^ 32) (length bytes) fits in rw (f, e) refl
+    by_test false e = let f : nat_le (2 ^ 32) (length bytes) ≡ false = lt-leb (2 ^ 32) (length bytes) fits in rw (f, e) refl
 
 outcome-text : (job : Job) (bytes : List ℕ) → length bytes < 2 ^ 32 → IsUtf8 bytes → outcome job bytes ≡ printed job bytes
 unfolding outcome
 outcome-text job bytes fits is =
     let e : is_utf8 bytes ≡ true = is_utf8-from_IsUtf8 bytes is in
-    let f : nat_le (2 ^ 32) (length bytes) ≡ false = below (2 ^ 32) (length bytes) fits in
+    let f : nat_le (2 ^ 32) (length bytes) ≡ false = lt-leb (2 ^ 32) (length bytes) fits in
     rw (f, e) refl
 
 pub answer_unread : (job : Job) (known : Option (List ℕ)) (stop : ReadStop) → EndsReading known (Err stop) → IfSome known (λ bytes. IsAnswer (Err (read_fault stop)) (outcome job bytes))

@@ -3,6 +3,7 @@ use Rattle.std.proofs.Common.{◌≡◌, ℕ, zero, suc, zero-add, add-zero, ◌
 use Rattle.std.specs.Char.{digit_value}
 use Rattle.std.proofs.lemmas.Bool.{ne_eqb}
 use Rattle.std.proofs.lemmas.Bool.Decides.{nat_tests}
+use Rattle.std.proofs.Math.Bool.{or-true}
 use Rattle.rustc_literal_escaper.specs.declared.element.Element.{Element}
 use Rattle.rustc_literal_escaper.specs.declared.element.Element.TheVariants.{Unicode, Fault}
 use Rattle.rustc_literal_escaper.specs.declared.error.EscapeError.TheVariants.{InvalidCharInUnicodeEscape, UnclosedUnicodeEscape, OverlongUnicodeEscape}
@@ -74,13 +75,9 @@ by_digit p h v n c s a b = rw a (by_run (front_run p s) (past_run p s))
     by_run digits [] = refl
     by_run digits (d ∷ t) = rw b (rw (number_digit v n c (filter h digits)) refl)
 
-any : (b : Bool) → b || true ≡ true
-any true = refl
-any false = refl
-
 pub left_at-digit : (v n c : ℕ) (s : List ℕ) → is_hex c ≡ true → left_at v n (c ∷ s) ≡ left_at (with_digit v n (digit_value c)) (n + 1) s
 unfolding left_at
-left_at-digit v n c s e = by_digit is_digit_or_underscore is_hex v n c s (ap (λ b. (c == 95) || b) e ∙ any (c == 95)) e
+left_at-digit v n c s e = by_digit is_digit_or_underscore is_hex v n c s (ap (λ b. (c == 95) || b) e ∙ or-true (c == 95)) e
 
 by_other : (p h : ℕ → Bool) (v n c : ℕ) (s : List ℕ) → p c ≡ false → (c == 125) ≡ false → left_by p h v n (c ∷ s) ≡ (Fault InvalidCharInUnicodeEscape, s)
 by_other p h v n c s a b = rw a (rw b refl)

@@ -7,6 +7,7 @@ use Rattle.std.proofs.lemmas.Bool.{and_parts, cases_Bool, eqb-true, lt-ltb, ltb-
 use Rattle.std.proofs.lemmas.Bool.Decides.{nat_tests}
 use Rattle.std.proofs.Math.Nat.{div-one}
 use Rattle.std.proofs.lemmas.Str.{digit_value-digit_char}
+use Rattle.std.proofs.Math.Bool.{or-true}
 use Rattle.rustc_literal_escaper.specs.declared.element.Element.{Element}
 use Rattle.rustc_literal_escaper.specs.declared.element.Element.TheVariants.{Byte, Unicode, Fault}
 use Rattle.rustc_literal_escaper.specs.declared.error.EscapeError.{EscapeError}
@@ -34,7 +35,7 @@ hex-digit n l = ap (λ v. nat_lt v 16) (digit_value-digit_char n (omega arith)) 
 abbrev pub word : List ℕ → List ℕ
 word qs = map (λ q. digit_char (q % 16)) qs
 
-last : (q : ℕ) → q % 16 < 16
+pub last : (q : ℕ) → q % 16 < 16
 last q = omega arith
 
 word-hex : (qs : List ℕ) → list_all is_hex (word qs) ≡ true
@@ -55,12 +56,8 @@ filter-all : (p : ℕ → Bool) (ds : List ℕ) → list_all p ds ≡ true → f
 filter-all p [] e = refl
 filter-all p (d ∷ ds) e = let q = and_parts (p d) (list_all p ds) e in rw q.0 (ap (λ xs. d ∷ xs) (filter-all p ds q.1))
 
-any : (b : Bool) → b || true ≡ true
-any true = refl
-any false = refl
-
 in_run : (d : ℕ) → is_hex d ≡ true → is_digit_or_underscore d ≡ true
-in_run d h = ap (λ b. (d == 95) || b) h ∙ any (d == 95)
+in_run d h = ap (λ b. (d == 95) || b) h ∙ or-true (d == 95)
 
 -- before the closing brace and what follows it
 front_run-digits : (ds s : List ℕ) → list_all is_hex ds ≡ true → front_run is_digit_or_underscore (ds ++ 125 ∷ s) ≡ ds

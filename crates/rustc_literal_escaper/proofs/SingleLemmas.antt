@@ -1,7 +1,7 @@
 -- A character or a byte between single quotes: the first element, and whether more follows.
-use Rattle.std.proofs.Common.{◌≡◌, ℕ, List, [], ◌∷◌, Result, Ok, Err, refl, sym, ap, ◌∙◌, length, arith}
+use Rattle.std.proofs.Common.{◌≡◌, ℕ, List, [], ◌∷◌, Result, Ok, Err, refl, sym, ap, ◌∙◌, length}
 use Rattle.std.specs.Str.{chars, IsUtf8, encode_utf8_all}
-use Rattle.std.proofs.lemmas.Str.{encodes-chars, chars-nil}
+use Rattle.std.proofs.lemmas.Str.{encodes-chars}
 use Rattle.rustc_literal_escaper.specs.declared.element.Element.{Element}
 use Rattle.rustc_literal_escaper.specs.declared.error.EscapeError.{EscapeError}
 use Rattle.rustc_literal_escaper.specs.declared.error.EscapeError.TheVariants.{MoreThanOneChar}
@@ -22,11 +22,6 @@ module _ {U : Type 0} (meaning : Element → Result U EscapeError) where
       by_left : (left : List ℕ) → (left ≡ [] → ⊥) → alone (Ok u) left ≡ Err MoreThanOneChar
       by_left [] some = absurd (some refl)
       by_left (c ∷ s) some = refl
-
--- a text is empty exactly where it has no characters
-pub chars-none : (bs : List ℕ) → length bs ≡ 0 → chars bs ≡ []
-chars-none [] e = chars-nil
-chars-none (b ∷ bs) e = absurd (omega arith)
 
 pub chars-some : (bs : List ℕ) → IsUtf8 bs → (length bs ≡ 0 → ⊥) → chars bs ≡ [] → ⊥
 chars-some bs is some e = some (ap length (sym (encodes-chars bs is) ∙ ap encode_utf8_all e))

@@ -4,7 +4,7 @@ use Rattle.std.specs.Char.{encode_utf8}
 use Rattle.std.specs.List.{list_all, slice_index}
 use Rattle.std.specs.Str.{chars, encode_utf8_all, IsUtf8}
 use Rattle.std.specs.Option.{is_some, option_to_list}
-use Rattle.std.proofs.lemmas.Bool.{and_parts, eqb-true}
+use Rattle.std.proofs.lemmas.Bool.{and_parts, eqb-true, false_from_ne_true}
 use Rattle.std.proofs.lemmas.List.{append-nil, get_or-append-add, get_or_append_left, length-take, take-append-drop}
 use Rattle.std.proofs.lemmas.Str.{chars-append, chars-nil, encode_ascii, encodes-chars, IsCharBoundary-before_ascii, IsUtf8-take}
 use Rattle.memchr.specs.Find.{is_byte, is_byte3, IsFirstByte}
@@ -64,14 +64,10 @@ module _ (test : ℕ → Bool) (small : (b : ℕ) → test b ≡ true → b < 12
 
   clear-chars : (cs : List ℕ) → Clear (encode_utf8_all cs) → list_all (λ c. not (test c)) cs ≡ true
   clear-chars [] none = refl
-  clear-chars (c ∷ cs) none = rw (off (test c) first) (clear-chars cs (λ k l set. none (length (encode_utf8 c) + k)
+  clear-chars (c ∷ cs) none = rw (false_from_ne_true (test c) first) (clear-chars cs (λ k l set. none (length (encode_utf8 c) + k)
       (let n = length-append (encode_utf8 c) (encode_utf8_all cs) in omega arith)
       (ap test (get_or-append-add (encode_utf8 c) (encode_utf8_all cs) k 0) ∙ set)))
     where
-      off : (b : Bool) → (b ≡ true → ⊥) → b ≡ false
-      off true h = absurd (h refl)
-      off false h = refl
-
       first : test c ≡ true → ⊥
       first set =
           let alone : encode_utf8 c ≡ c ∷ [] = encode_ascii c (small c set) in

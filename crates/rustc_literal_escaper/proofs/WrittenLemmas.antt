@@ -21,7 +21,7 @@ use Rattle.rustc_literal_escaper.specs.Units.{unit_of_byte}
 use Rattle.rustc_literal_escaper.specs.Written.{Grows, StandsFor, written_bytes, written_text}
 use Rattle.rustc_literal_escaper.proofs.ItemLemmas.{front-shorter, items-cons, nothing}
 use Rattle.rustc_literal_escaper.proofs.PlainLemmas.{front-plain}
-use Rattle.rustc_literal_escaper.proofs.RoundTripLemmas.{by_eq, byte-read, pick, plain-back, scalar-is, unicode-by, word, word-read}
+use Rattle.rustc_literal_escaper.proofs.RoundTripLemmas.{by_eq, byte-read, pick, plain-back, scalar-is, unicode-by, word, word-read, last}
 
 -- ---- all of it is ASCII
 
@@ -30,9 +30,6 @@ AllAscii xs = list_all is_ascii xs ≡ true
 
 digit-ascii : (n : ℕ) → n < 16 → is_ascii (digit_char n) ≡ true
 digit-ascii n l = pick (λ (d : ℕ). is_ascii d ≡ true) (nat_lt n 10) (48 + n) (87 + n) (λ e. lt-ltb (48 + n) 128 (let b = ltb-true n 10 e in omega arith)) (λ e. lt-ltb (87 + n) 128 (omega arith))
-
-last : (q : ℕ) → q % 16 < 16
-last q = omega arith
 
 braces-ascii : (qs : List ℕ) → AllAscii (word qs ++ 125 ∷ [])
 braces-ascii [] = refl

@@ -2,6 +2,7 @@
 use Rattle.std.proofs.Common.{◌≡◌, ◌≢◌, ℕ, zero, suc, ◌+◌, ◌<◌, ◌≤◌, Bool, true, false, if◌then◌else◌, List, [], ◌∷◌, ◌++◌, length, take, drop, get_or, refl, sym, ap, ◌∙◌, subst, arith, append_assoc, ne_eqb, Some, None}
 use Rattle.memchr.specs.Find.{IsFirstByte, is_byte}
 use Rattle.std.specs.Str.{IsUtf8}
+use Rattle.std.proofs.Math.Seq.{drop-length, take-length}
 use Rattle.tidy_run.proofs.LineLemmas.{Newline, newline-at, no_newline, may_cut_past}
 use Rattle.tidy_run.specs.declared.diff.Line.{Line}
 use Rattle.tidy_run.specs.Diff.{onto_first, lines_of, is_old, is_new, old_lines, new_lines}
@@ -40,20 +41,12 @@ cut-first text end at utf8 found is = subst (Cut text) (sym is) record {
     line : Newline text at
     line = newline-at text at found
 
-take-all : (text : List ℕ) → take (length text) text ≡ text
-take-all [] = refl
-take-all (c ∷ cs) = ap (λ (xs : List ℕ). c ∷ xs) (take-all cs)
-
-drop-all : (text : List ℕ) → drop (length text) text ≡ []
-drop-all [] = refl
-drop-all (c ∷ cs) = drop-all cs
-
 pub cut-last : (text : List ℕ) (end : ℕ) → 0 < length text → IsFirstByte (is_byte 10) text None → end ≡ length text → Cut text end
 cut-last text end some none is = subst (Cut text) (sym is) record {
   inside = omega arith;
   boundary = λ lt. absurd (omega arith);
   some = some;
-  line = lines-last text some (no_newline text none) ∙ ap (λ (xs : List ℕ). xs ∷ []) (sym (take-all text)) ∙ ap (λ (xs : List ℕ). take (length text) text ∷ lines_of xs) (sym (drop-all text));
+  line = lines-last text some (no_newline text none) ∙ ap (λ (xs : List ℕ). xs ∷ []) (sym (take-length text)) ∙ ap (λ (xs : List ℕ). take (length text) text ∷ lines_of xs) (sym (drop-length text));
 }
 
 -- ---- one line more

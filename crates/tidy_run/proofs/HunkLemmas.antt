@@ -1,14 +1,10 @@
 -- Hunks that are written one after another.
 use Rattle.std.proofs.Common.{◌≡◌, ℕ, ◌+◌, ◌<◌, Bool, true, false, if◌then◌else◌, List, [], ◌∷◌, ◌++◌, length, take, drop, drop-drop, get_or, codes, refl, sym, ap, ◌∙◌, subst, arith, append_assoc, length-append}
 use Rattle.std.proofs.Math.Seq.{drop-append_seam}
-use Rattle.std.proofs.lemmas.List.{take_more}
+use Rattle.std.proofs.lemmas.List.{take_more, append-nil}
 use Rattle.tidy_run.specs.declared.diff.Line.{Line}
 use Rattle.tidy_run.specs.Diff.{is_old, is_new, old_lines, new_lines, mark_text, ends_in_newline, line_text, lines_text, AreSame, hunk_text, AreHunks, no_more, hunk, PrintsHunks, lines_of, names_text, IsDiff}
 use Rattle.tidy_run.proofs.DiffLemmas.{old-append, new-append}
-
-append-nil : (ls : List ℕ) → ls ++ [] ≡ ls
-append-nil [] = refl
-append-nil (l ∷ ls) = ap (λ (r : List ℕ). l ∷ r) (append-nil ls)
 
 -- of these lines some are left, and what is written needs only their hunks
 pub record Written (before : List ℕ) (lines : List Line) (old new : ℕ) (left : List Line) (now : List ℕ) : Type 0 where

@@ -9,6 +9,7 @@ use Rattle.memchr.specs.Find.{IsFirstByte, is_byte}
 use Rattle.rustc_lexer.specs.Spans.{begins}
 use Rattle.tidy_run.specs.Order.{is_blank, is_dropped_before, in_order, IsSolidEnd}
 use Rattle.tidy_run.proofs.OrderLemmas.{judge, two-one, dropped-two}
+use Rattle.tidy_run.proofs.UnixLemmas.{newline-byte}
 
 -- so many newlines
 abbrev pub lines : ℕ → List ℕ
@@ -190,10 +191,6 @@ module _ (s : List ℕ) (at end : ℕ) (inside : at < length s) (here : get_or s
 
 -- ---- what is written at a line
 
-pub encoded : encode_utf8 10 ≡ 10 ∷ []
-unfolding encode_utf8
-encoded = refl
-
 -- a line with more than blanks is written first
 pub line-written : (s now before : List ℕ) (at end k : ℕ) → Newline s at → IsSolidEnd s at end → k ≤ 2 → 0 < end → now ≡ before ++ take (end - 0) s → now ++ tail 0 (10 ∷ drop (at + 1) s) ≡ before ++ tail k s
 line-written s now before at end k line solid le some e =
@@ -213,7 +210,7 @@ line-blank s before at end k line solid none =
 pub newline-written : (s now before : List ℕ) (k : ℕ) → k < 2 → now ≡ before ++ encode_utf8 10 → now ++ tail (k + 1) s ≡ before ++ tail k (10 ∷ s)
 newline-written s now before k lt e =
     let more : k + 1 ≡ suc k = omega arith in
-    ap (λ (xs : List ℕ). xs ++ tail (k + 1) s) (e ∙ ap (λ (xs : List ℕ). before ++ xs) encoded)
+    ap (λ (xs : List ℕ). xs ++ tail (k + 1) s) (e ∙ ap (λ (xs : List ℕ). before ++ xs) newline-byte)
     ∙ (append_assoc before (10 ∷ []) (tail (k + 1) s) ∙ ap (λ (xs : List ℕ). before ++ xs) (ap (λ (j : ℕ). 10 ∷ tail j s) more ∙ sym (one-newline k s lt)))
 
 pub newline-dropped : (s before : List ℕ) (k : ℕ) → k ≤ 2 → 2 ≤ k → before ++ tail k s ≡ before ++ tail k (10 ∷ s)

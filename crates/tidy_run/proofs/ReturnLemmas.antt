@@ -1,10 +1,12 @@
 -- A text with unix line ends, line by line.
 use Rattle.std.proofs.Common.{◌≡◌, ◌≢◌, ℕ, zero, suc, ◌+◌, ◌-◌, ◌<◌, ◌≤◌, ◌==◌, inl, inr, Bool, true, false, if◌then◌else◌, List, [], ◌∷◌, ◌++◌, length, get_or, take, drop, refl, sym, ap, ◌∙◌, subst, arith, append_assoc, drop-drop, length-drop}
 use Rattle.std.proofs.lemmas.Bool.{cases_Bool, ne_eqb}
-use Rattle.std.proofs.lemmas.List.{get_or-drop}
+use Rattle.std.proofs.lemmas.List.{get_or-drop, append-nil}
 use Rattle.std.specs.Char.{encode_utf8}
+use Rattle.std.proofs.Math.Seq.{drop-length}
 use Rattle.tidy_run.specs.Order.{is_line_end, unix_lines, IsLineEnd}
-use Rattle.tidy_run.proofs.LineLemmas.{Newline, encoded}
+use Rattle.tidy_run.proofs.LineLemmas.{Newline}
+use Rattle.tidy_run.proofs.UnixLemmas.{newline-byte}
 
 -- carriage returns before the end of a line
 record Dropped (last : Bool) (n : ℕ) (s : List ℕ) : Type 0 where
@@ -84,21 +86,13 @@ line-unix last s before mid now own left goal at end line ends own_is mid_is now
     written =
         let all : end - 0 ≡ end = omega arith in
         let past : at + 1 ≡ suc at = omega arith in
-        ap (λ (xs : List ℕ). xs ++ unix_lines last (drop (at + 1) s)) (now_is ∙ (ap (λ (xs : List ℕ). xs ++ encode_utf8 10) (mid_is ∙ ap (λ (xs : List ℕ). before ++ xs) (own_is ∙ ap (λ (j : ℕ). take j s) all)) ∙ ap (λ (xs : List ℕ). (before ++ take end s) ++ xs) encoded))
+        ap (λ (xs : List ℕ). xs ++ unix_lines last (drop (at + 1) s)) (now_is ∙ (ap (λ (xs : List ℕ). xs ++ encode_utf8 10) (mid_is ∙ ap (λ (xs : List ℕ). before ++ xs) (own_is ∙ ap (λ (j : ℕ). take j s) all)) ∙ ap (λ (xs : List ℕ). (before ++ take end s) ++ xs) newline-byte))
         ∙ (append_assoc (before ++ take end s) (10 ∷ []) (unix_lines last (drop (at + 1) s)) ∙ (append_assoc before (take end s) (10 ∷ unix_lines last (drop (at + 1) s))
         ∙ ap (λ (xs : List ℕ). before ++ xs) (ap (λ (j : ℕ). take end s ++ (10 ∷ unix_lines last (drop j s))) past ∙ sym whole)))
 
-drop-all : (s : List ℕ) → drop (length s) s ≡ []
-drop-all [] = refl
-drop-all (c ∷ s) = drop-all s
-
-append-none : (s : List ℕ) → s ++ [] ≡ s
-append-none [] = refl
-append-none (c ∷ s) = ap (λ (xs : List ℕ). c ∷ xs) (append-none s)
-
 -- the last line of a text whose end is the end of a line
 pub last-unix : (s : List ℕ) (end : ℕ) → ((k : ℕ) → k < length s → get_or s k 0 ≢ 10) → IsLineEnd s (length s) end → unix_lines true s ≡ take end s
-last-unix s end none ends = line-lines true s (length s) end (omega arith) none ends (ap (is_line_end true) (drop-all s)) ∙ (ap (λ (xs : List ℕ). take end s ++ unix_lines true xs) (drop-all s) ∙ append-none (take end s))
+last-unix s end none ends = line-lines true s (length s) end (omega arith) none ends (ap (is_line_end true) (drop-length s)) ∙ (ap (λ (xs : List ℕ). take end s ++ unix_lines true xs) (drop-length s) ∙ append-nil (take end s))
 
 -- and of another one
 record Stays (s : List ℕ) : Type 0 where

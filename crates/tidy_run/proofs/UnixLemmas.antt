@@ -199,7 +199,7 @@ text-no_end last (b ∷ bs) x some all =
     let no = and_parts (not (b == 10)) (not (b == 13)) (and_parts (is_text b) (list_all is_text bs) all).0 in
     rw (not-true (b == 10) no.0, not-true (b == 13) no.1) refl
 
-newline-byte : encode_utf8 10 ≡ 10 ∷ []
+pub newline-byte : encode_utf8 10 ≡ 10 ∷ []
 unfolding encode_utf8
 newline-byte = refl
 
