@@ -1,9 +1,10 @@
 -- Items and their places.
-use Rattle.std.proofs.Common.{◌≡◌, ℕ, ◌-◌, ◌||◌, Bool, true, false, List, [], ◌∷◌, length, map, ◌++◌, if◌then◌else◌, refl, sym, ap, ◌∙◌}
+use Rattle.std.proofs.Common.{◌≡◌, ℕ, ◌-◌, ◌<◌, ◌==◌, ◌||◌, Bool, true, false, true≢false, Some, None, List, [], ◌∷◌, length, map, ◌++◌, if◌then◌else◌, refl, sym, ap, ◌∙◌, arith}
 use Rattle.std.specs.Char.{is_whitespace}
-use Rattle.std.specs.List.{list_any}
-use Rattle.std.specs.Str.{chars, IsUtf8}
-use Rattle.std.proofs.lemmas.Str.{encodes-chars}
+use Rattle.std.specs.List.{list_any, slice_get}
+use Rattle.std.specs.Str.{chars, encode_utf8_all, IsUtf8}
+use Rattle.std.proofs.lemmas.Bool.{eqb-true}
+use Rattle.std.proofs.lemmas.Str.{byte_from_char, char_from_byte, chars-nil, encodes-chars}
 use Rattle.rustc_literal_escaper.specs.declared.element.Element.{Element}
 use Rattle.rustc_literal_escaper.specs.declared.element.Element.TheVariants.{Fault}
 use Rattle.rustc_literal_escaper.specs.declared.error.EscapeError.TheVariants.{MultipleSkippedLinesWarning, UnskippedWhitespaceWarning}
@@ -54,19 +55,62 @@ passing-on line left s newline c at e is = record {
   past = at.past ∙ (ap (past_run is_passed_over) e ∙ past_run-yes is_passed_over c s is);
 }
 
-pub passing-stop : (line left s : List ℕ) (newline : Bool) (c : ℕ) → Passing line left newline → left ≡ c ∷ s → is_passed_over c ≡ false → (newline ≡ list_any is_newline (front_run is_passed_over line)) × (left ≡ past_run is_passed_over line)
+-- where none stands next, all of it is seen
+past_run-none : (p : ℕ → Bool) (s : List ℕ) → front_run p s ≡ [] → past_run p s ≡ s
+past_run-none p [] e = refl
+past_run-none p (c ∷ s) e = by_test (p c) refl
+  where
+    by_test : (t : Bool) → p c ≡ t → past_run p (c ∷ s) ≡ c ∷ s
+    by_test true t = absurd (let f : c ∷ front_run p s ≡ [] = sym (front_run-yes p c s t) ∙ e in cc)
+    by_test false t = past_run-no p c s t
+
+pub passing-end : (line left : List ℕ) (newline : Bool) → Passing line left newline → front_run is_passed_over left ≡ [] → (newline ≡ list_any is_newline (front_run is_passed_over line)) × (left ≡ past_run is_passed_over line)
 unfolding newline_ahead
-passing-stop line left s newline c at e is = (
-  or_false newline ∙ sym (at.seen ∙ (ap (λ (xs : List ℕ). newline || list_any is_newline (front_run is_passed_over xs)) e ∙ ap (λ (xs : List ℕ). newline || list_any is_newline xs) (front_run-no is_passed_over c s is))),
-  sym (at.past ∙ (ap (past_run is_passed_over) e ∙ (past_run-no is_passed_over c s is ∙ sym e))),
+passing-end line left newline at none = (
+  or_false newline ∙ sym (at.seen ∙ ap (λ (xs : List ℕ). newline || list_any is_newline xs) none),
+  sym (at.past ∙ past_run-none is_passed_over left none),
 )
 
-pub passing-end : (line left : List ℕ) (newline : Bool) → Passing line left newline → left ≡ [] → (newline ≡ list_any is_newline (front_run is_passed_over line)) × (left ≡ past_run is_passed_over line)
-unfolding newline_ahead
-passing-end line left newline at e = (
-  or_false newline ∙ sym (at.seen ∙ ap (λ (xs : List ℕ). newline || list_any is_newline (front_run is_passed_over xs)) e),
-  sym (at.past ∙ (ap (past_run is_passed_over) e ∙ sym e)),
-)
+-- the first byte tells whether such white space stands next
+
+passed-small : (c : ℕ) → is_passed_over c ≡ true → c < 128
+passed-small c e = by_tests (c == 10) (c == 13) (c == 9) (c == 32) e (eqb-true c 10) (eqb-true c 13) (eqb-true c 9) (eqb-true c 32)
+  where
+    by_tests : (w x y z : Bool) → (w || x || y || z) ≡ true → (w ≡ true → c ≡ 10) → (x ≡ true → c ≡ 13) → (y ≡ true → c ≡ 9) → (z ≡ true → c ≡ 32) → c < 128
+    by_tests true x y z e f g h i = let is = f refl in omega arith
+    by_tests false true y z e f g h i = let is = g refl in omega arith
+    by_tests false false true z e f g h i = let is = h refl in omega arith
+    by_tests false false false true e f g h i = let is = i refl in omega arith
+    by_tests false false false false e f g h i = absurd (true≢false (sym e))
+
+pub no-byte : (bs : List ℕ) → None ≡ slice_get bs 0 → front_run is_passed_over (chars bs) ≡ []
+no-byte [] e = ap (front_run is_passed_over) chars-nil
+no-byte (b ∷ bs) e = absurd (let f : None ≡ Some b = e in cc)
+
+pub byte-not : (bs : List ℕ) (b : ℕ) → IsUtf8 bs → Some b ≡ slice_get bs 0 → is_passed_over b ≡ false → front_run is_passed_over (chars bs) ≡ []
+byte-not [] b is e off = absurd (let f : Some b ≡ None = e in cc)
+byte-not (x ∷ xs) b is e off = by_front (chars (x ∷ xs)) refl
+  where
+    here : x ≡ b
+    here = let f : Some b ≡ Some x = e in cc
+
+    by_front : (s : List ℕ) → chars (x ∷ xs) ≡ s → front_run is_passed_over s ≡ []
+    by_front [] at = refl
+    by_front (c ∷ s) at = by_test (is_passed_over c) refl
+      where
+        by_test : (t : Bool) → is_passed_over c ≡ t → front_run is_passed_over (c ∷ s) ≡ []
+        by_test false t = front_run-no is_passed_over c s t
+        by_test true t =
+            let same : x ≡ c = byte_from_char (x ∷ xs) (encode_utf8_all s) c (sym (encodes-chars (x ∷ xs) is) ∙ ap encode_utf8_all at) (passed-small c t) in
+            absurd (true≢false (sym t ∙ (ap is_passed_over (sym same ∙ here) ∙ off)))
+
+pub byte-yes : (bs s : List ℕ) (b c : ℕ) → IsUtf8 bs → Some b ≡ slice_get bs 0 → is_passed_over b ≡ true → chars bs ≡ c ∷ s → is_passed_over c ≡ true
+byte-yes [] s b c is e on at = absurd (let f : Some b ≡ None = e in cc)
+byte-yes (x ∷ xs) s b c is e on at =
+    let here : x ≡ b = (let f : Some b ≡ Some x = e in cc) in
+    let small : x < 128 = (let l = passed-small b on in omega (arith, here)) in
+    let same : c ≡ x = char_from_byte (x ∷ xs) (encode_utf8_all s) c (sym (encodes-chars (x ∷ xs) is) ∙ ap encode_utf8_all at) small (omega arith) in
+    ap is_passed_over (same ∙ here) ∙ on
 
 -- the warnings past a line's end, where a newline was passed over
 pub line_end-many : (total start : ℕ) (line left : List ℕ) (rest : List Item) → IsUtf8 left → true ≡ list_any is_newline (front_run is_passed_over line) → chars left ≡ past_run is_passed_over line

@@ -12,7 +12,7 @@ use crate::error::EscapeError;
 use crate::mode::Mode;
 use crate::scan::past_plain;
 use crate::simple::past_simple;
-use crate::steps::{Told, advance, first_item, first_plain};
+use crate::steps::{Told, advance, first_byte, first_item, first_plain};
 use std::iter::Iterator;
 use std::marker::Model;
 use std::ops::Range;
@@ -107,8 +107,8 @@ impl<'a> Elements<'a> {
                 self.skip_plain(mode);
                 continue;
             }
-            if let Some((range, element)) = self.next_alone() {
-                if let Some(error) = element.error_in(mode) {
+            if let Some((range, byte)) = self.next_byte() {
+                if let Some(error) = Element::Byte(byte).error_in(mode) {
                     return Some((range, error));
                 }
                 continue;
@@ -137,6 +137,20 @@ impl<'a> Elements<'a> {
             return None;
         }
         let (item, left) = first_plain(self.rest, self.total, self.raw)?;
+        self.rest = left;
+        Some(item)
+    }
+
+    /// The next element, where it is an escape of a byte.
+    #[inline(always)]
+    pub(crate) fn next_byte(&mut self) -> Option<(Range<usize>, u8)>
+        ensures { MatchOption result (self.new ≡ self.old)
+            (λ r. self.old ≡ (r.0, Element.Byte r.1) ∷ self.new) }
+    {
+        if self.waiting.is_some() {
+            return None;
+        }
+        let (item, left) = first_byte(self.rest, self.total, self.raw)?;
         self.rest = left;
         Some(item)
     }

@@ -1,5 +1,5 @@
 //! What follows a backslash.
-ghost use Rattle.std.specs.Prelude.{◌≡◌, ◌≤◌, ◌<◌, ◌^◌, ◌+◌, ◌*◌, min, nat_le, nat_lt, if◌then◌else◌, length, MatchOption};
+ghost use Rattle.std.specs.Prelude.{◌≡◌, ◌≤◌, ◌<◌, ◌^◌, ◌+◌, ◌*◌, min, nat_le, nat_lt, if◌then◌else◌, length, IfSome, MatchOption};
 ghost use Rattle.std.specs.Char.{digit_value};
 ghost use Rattle.std.specs.Str.{chars, IsUtf8};
 ghost use Rattle.rustc_literal_escaper.specs.Escape as spec;
@@ -27,6 +27,26 @@ pub(crate) fn escape(rest: &str) -> (Element, &str)
         'x' => hex(tail),
         'u' => unicode(tail),
         _ => (short(c), tail),
+    }
+}
+
+/// The byte that an escape stands for, where a short one or one of two digits follows a backslash, and what is left past it.
+///
+/// Most escapes are such. Where one of these is told alone, the compiler knows what kind of element it has.
+#[inline(always)]
+pub(crate) fn escaped_byte(rest: &str) -> Option<(u8, &str)>
+    ensures { IfSome result (λ r. ((Element.Byte r.0, chars r.1.now) ≡ spec.escape (chars rest.now))
+        × IsUtf8 r.1.now × (length r.1.now < length rest.now)) }
+{
+    let (c, tail) = split_first(rest)?;
+    let (element, left) = if c == 'x' {
+        hex(tail)
+    } else {
+        (short(c), tail)
+    };
+    match element {
+        Element::Byte(byte) => Some((byte, left)),
+        _ => None,
     }
 }
 

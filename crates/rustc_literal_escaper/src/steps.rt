@@ -1,5 +1,5 @@
 //! The steps over what stands between double quotes.
-ghost use Rattle.std.specs.Prelude.{◌≡◌, ◌≤◌, ◌<◌, ◌++◌, ◌∷◌, [], length, map, not, IfSome, IsSome, IsTrue, MatchOption};
+ghost use Rattle.std.specs.Prelude.{◌≡◌, ◌≤◌, ◌<◌, ◌++◌, ◌∷◌, [], true, length, map, not, IfSome, IsSome, IsTrue, MatchOption};
 ghost use Rattle.std.specs.List.{list_any};
 ghost use Rattle.std.specs.Option.{option_to_list};
 ghost use Rattle.std.specs.Str.{chars, IsUtf8};
@@ -10,7 +10,7 @@ ghost use Rattle.rustc_literal_escaper.specs.Told.{told_by};
 
 use crate::element::Element;
 use crate::error::EscapeError;
-use crate::escape::escape;
+use crate::escape::{escape, escaped_byte};
 use crate::scan::split_first;
 use std::ops::Range;
 
@@ -106,6 +106,37 @@ pub(crate) fn first_plain(
     }
     let range = total - rest.len()..total - tail.len();
     Some(((range, c), tail))
+}
+
+/// The item at the front, where it is an escape of a byte, and what is left past it, as [`first_item`] has them.
+#[inline(always)]
+pub(crate) fn first_byte(rest: &str, total: usize, raw: bool) -> Option<((Range<usize>, u8), &str)>
+    requires fits { length rest.now ≤ total }
+    ensures { IfSome result (λ r.
+        (spec.items_from (spec.front_by raw) total (chars rest.now)
+        ≡ (r.0.0, Element.Byte r.0.1) ∷ spec.items_from (spec.front_by raw) total (chars r.1.now))
+        × (length r.1.now ≤ length rest.now) × IsUtf8 r.1.now) }
+{
+    let (c, tail) = split_first(rest)?;
+    let (byte, left) = byte_at(c, tail, raw)?;
+    let range = total - rest.len()..total - left.len();
+    Some(((range, byte), left))
+}
+
+/// The byte of an escape that begins with the character `c`, before `tail`, and what is left past it.
+///
+/// It is `None` where another element begins there.
+#[inline(always)]
+#[tactic(auto, unfolding(crate::specs::Elements::front))]
+pub(crate) fn byte_at(c: char, tail: &str, raw: bool) -> Option<(u8, &str)>
+    ensures { IfSome result (λ r.
+        (spec.front_by raw c (chars tail.now) ≡ spec.one (Element.Byte r.0, chars r.1.now))
+        × IsUtf8 r.1.now × (length r.1.now < length tail.now)) }
+{
+    if raw || c != '\\' {
+        return None;
+    }
+    escaped_byte(tail)
 }
 
 /// Whether a character is plain, in a raw string or another.
@@ -256,14 +287,29 @@ fn pass_over(line: &str) -> (bool, &str)
 {
     let mut newline = false;
     let mut left = line;
-    'passed: while let Some((c, tail)) = split_first(left) {
-        if !is_passed_over(c) {
-            return (newline, left);
-        }
+    'passed: while let Some((c, tail)) = split_passed(left) {
         newline = newline | (c == '\n');
         left = tail;
     }
     (newline, left)
+}
+
+/// The white space at the front that is passed over, one character, and what follows it.
+///
+/// Its byte tells it: so no character has to be read of more than one.
+#[inline(always)]
+fn split_passed(rest: &str) -> Option<(char, &str)>
+    ensures { MatchOption result (front_run spec.is_passed_over (chars rest.now) ≡ [])
+        (λ r. (chars rest.now ≡ r.0 ∷ chars r.1.now) × (spec.is_passed_over r.0 ≡ true)
+        × (length r.1.now < length rest.now) × IsUtf8 r.1.now) }
+{
+    let Some(byte) = rest.as_bytes().first() else {
+        return None;
+    };
+    if !is_passed_over(*byte as char) {
+        return None;
+    }
+    split_first(rest)
 }
 
 /// Whether this is white space that a backslash at a line's end passes over.

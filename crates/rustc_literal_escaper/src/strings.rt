@@ -11,7 +11,7 @@ use crate::element::Element;
 use crate::error::EscapeError;
 use crate::scan::split_first;
 use crate::simple::run_behind;
-use crate::steps::{Told, is_plain, step_by};
+use crate::steps::{Told, byte_at, is_plain, step_by};
 use crate::unit::{MixedUnit, NonZeroChar};
 use std::ops::Range;
 
@@ -243,6 +243,12 @@ fn each_unit_in<M: Meaning, F: FnMut(Range<usize>, Result<M::Meant, EscapeError>
             callback(range, M::of(Element::Plain(c)));
             let (run, behind) = run_behind(c, tail, raw, &mut wait);
             each_simple::<M, F>(run, total - behind.len(), callback);
+            left = behind;
+            continue;
+        }
+        if let Some((byte, behind)) = byte_at(c, tail, raw) {
+            let range = total - left.len()..total - behind.len();
+            each_told::<M, F>(Some((range, Element::Byte(byte))), callback);
             left = behind;
             continue;
         }

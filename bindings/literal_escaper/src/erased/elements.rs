@@ -5,7 +5,7 @@ use crate::erased::error::EscapeError;
 use crate::erased::mode::Mode;
 use crate::erased::scan::past_plain;
 use crate::erased::simple::past_simple;
-use crate::erased::steps::{Told, advance, first_item, first_plain};
+use crate::erased::steps::{Told, advance, first_byte, first_item, first_plain};
 use core::iter::Iterator;
 use core::ops::Range;
 
@@ -70,8 +70,8 @@ impl<'a> Elements<'a> {
                 self.skip_plain(mode);
                 continue;
             }
-            if let Some((range, element)) = self.next_alone() {
-                if let Some(error) = element.error_in(mode) {
+            if let Some((range, byte)) = self.next_byte() {
+                if let Some(error) = Element::Byte(byte).error_in(mode) {
                     return Some((range, error));
                 }
                 continue;
@@ -97,6 +97,17 @@ impl<'a> Elements<'a> {
             return None;
         }
         let (item, left) = first_plain(self.rest, self.total, self.raw)?;
+        self.rest = left;
+        Some(item)
+    }
+
+    /// The next element, where it is an escape of a byte.
+    #[inline(always)]
+    pub(crate) fn next_byte(&mut self) -> Option<(Range<usize>, u8)> {
+        if self.waiting.is_some() {
+            return None;
+        }
+        let (item, left) = first_byte(self.rest, self.total, self.raw)?;
         self.rest = left;
         Some(item)
     }

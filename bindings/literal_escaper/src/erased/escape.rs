@@ -21,6 +21,23 @@ pub(crate) fn escape(rest: &str) -> (Element, &str) {
     }
 }
 
+/// The byte that an escape stands for, where a short one or one of two digits follows a backslash, and what is left past it.
+///
+/// Most escapes are such. Where one of these is told alone, the compiler knows what kind of element it has.
+#[inline(always)]
+pub(crate) fn escaped_byte(rest: &str) -> Option<(u8, &str)> {
+    let (c, tail) = split_first(rest)?;
+    let (element, left) = if c == 'x' {
+        hex(tail)
+    } else {
+        (short(c), tail)
+    };
+    match element {
+        Element::Byte(byte) => Some((byte, left)),
+        _ => None,
+    }
+}
+
 /// What a backslash and a character stand for that begin no escape.
 const NONE: Element = Fault(EscapeError::InvalidEscape);
 

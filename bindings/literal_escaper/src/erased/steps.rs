@@ -2,7 +2,7 @@
 
 use crate::erased::element::Element;
 use crate::erased::error::EscapeError;
-use crate::erased::escape::escape;
+use crate::erased::escape::{escape, escaped_byte};
 use crate::erased::scan::split_first;
 use core::ops::Range;
 
@@ -69,6 +69,30 @@ pub(crate) fn first_plain(
     }
     let range = total - rest.len()..total - tail.len();
     Some(((range, c), tail))
+}
+
+/// The item at the front, where it is an escape of a byte, and what is left past it, as [`first_item`] has them.
+#[inline(always)]
+pub(crate) fn first_byte(
+    rest: &str,
+    total: usize,
+    raw: bool,
+) -> Option<((Range<usize>, u8), &str)> {
+    let (c, tail) = split_first(rest)?;
+    let (byte, left) = byte_at(c, tail, raw)?;
+    let range = total - rest.len()..total - left.len();
+    Some(((range, byte), left))
+}
+
+/// The byte of an escape that begins with the character `c`, before `tail`, and what is left past it.
+///
+/// It is `None` where another element begins there.
+#[inline(always)]
+pub(crate) fn byte_at(c: char, tail: &str, raw: bool) -> Option<(u8, &str)> {
+    if raw || c != '\\' {
+        return None;
+    }
+    escaped_byte(tail)
 }
 
 /// Whether a character is plain, in a raw string or another.
@@ -177,14 +201,25 @@ fn line_end(line: &str, start: usize, total: usize) -> Told<'_> {
 fn pass_over(line: &str) -> (bool, &str) {
     let mut newline = false;
     let mut left = line;
-    while let Some((c, tail)) = split_first(left) {
-        if !is_passed_over(c) {
-            return (newline, left);
-        }
+    while let Some((c, tail)) = split_passed(left) {
         newline = newline | (c == '\n');
         left = tail;
     }
     (newline, left)
+}
+
+/// The white space at the front that is passed over, one character, and what follows it.
+///
+/// Its byte tells it: so no character has to be read of more than one.
+#[inline(always)]
+fn split_passed(rest: &str) -> Option<(char, &str)> {
+    let Some(byte) = rest.as_bytes().first() else {
+        return None;
+    };
+    if !is_passed_over(*byte as char) {
+        return None;
+    }
+    split_first(rest)
 }
 
 /// Whether this is white space that a backslash at a line's end passes over.

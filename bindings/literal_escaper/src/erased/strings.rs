@@ -4,7 +4,7 @@ use crate::erased::element::Element;
 use crate::erased::error::EscapeError;
 use crate::erased::scan::split_first;
 use crate::erased::simple::run_behind;
-use crate::erased::steps::{Told, is_plain, step_by};
+use crate::erased::steps::{Told, byte_at, is_plain, step_by};
 use crate::erased::unit::{MixedUnit, NonZeroChar};
 use core::ops::Range;
 
@@ -178,6 +178,12 @@ fn each_unit_in<M: Meaning, F: FnMut(Range<usize>, Result<M::Meant, EscapeError>
             callback(range, M::of(Element::Plain(c)));
             let (run, behind) = run_behind(c, tail, raw, &mut wait);
             each_simple::<M, F>(run, total - behind.len(), callback);
+            left = behind;
+            continue;
+        }
+        if let Some((byte, behind)) = byte_at(c, tail, raw) {
+            let range = total - left.len()..total - behind.len();
+            each_told::<M, F>(Some((range, Element::Byte(byte))), callback);
             left = behind;
             continue;
         }

@@ -1,13 +1,12 @@
-use Rattle.std.proofs.Common.{◌≡◌, ◌≤◌, ◌-◌, ◌++◌, ◌∷◌, List, [], length, refl, sym, subst, ap, ◌∙◌, arith, rules}
+use Rattle.std.proofs.Common.{◌≡◌, ◌-◌, ◌∷◌, List, [], length, ℕ, refl, sym, subst, ap, ◌∙◌, arith, rules}
 use Rattle.std.specs.List.{FoldsTo}
 use Rattle.std.specs.Str.{chars}
-use Rattle.std.specs.Option.{option_to_list}
-use Rattle.rustc_literal_escaper.specs.Elements.{Item, front_by, items_from}
-use Rattle.rustc_literal_escaper.specs.Plain.{plain_items}
+use Rattle.rustc_literal_escaper.specs.declared.element.Element.TheVariants.{Byte}
+use Rattle.rustc_literal_escaper.specs.Elements.{Item, front_by, items_from, StartsWithOne}
 use Rattle.rustc_literal_escaper.proofs.ItemLemmas.{front_by-shorter, items-step, nothing}
 use Rattle.rustc_literal_escaper.proofs.RunLemmas.{folds-append, run-items}
 use Rattle.rustc_literal_escaper.proofs.SimpleLemmas.{simple-all-fine}
-use Rattle.rustc_literal_escaper.proofs.SkipLemmas.{first-plain}
+use Rattle.rustc_literal_escaper.proofs.SkipLemmas.{first-item, first-plain}
 use Rattle.rustc_literal_escaper.proofs.strings.each_unit_in.Goals as goal
 
 pub each_simple-requires-clause-fine : goal.each_simple-requires-clause-fine
@@ -29,16 +28,30 @@ items-preserved-then-is_plain g c = (
       )),
 )
 
+pub items-preserved-in-Some-byte_at : goal.items-preserved-in-Some-byte_at
+items-preserved-in-Some-byte_at g c = (
+  c.in-Some-byte_at.ensures.1,
+  c.each_told.ensures.callable,
+  (let a = c.in-Some-byte_at.ensures.2 in let b = c.in-Some.ensures.1 in let m = c.items.invariant.2 in omega arith),
+  λ last calls. c.items.invariant.3 last
+      (subst (λ (is : List Item). FoldsTo (λ f item h. goal.F-step g f item.0 (g.M.Meaning.meaning item.1) tt h) c.items.callback is last)
+      (sym (first-item c.args.raw c.args.total c.items.left.now c.in-Some-byte_at.behind.now (Byte c.in-Some-byte_at.byte) c.items.invariant.0 c.in-Some-byte_at.ensures.1
+      (subst (λ (s : List ℕ). StartsWithOne c.args.raw s (Byte c.in-Some-byte_at.byte) (chars c.in-Some-byte_at.behind.now)) (sym c.in-Some.ensures.0) c.in-Some-byte_at.ensures.0)))
+      (folds-append (λ f item h. goal.F-step g f item.0 (g.M.Meaning.meaning item.1) tt h) c.items.callback c.each_told.new.callback last
+      ((record { start = c.args.total - length c.items.left.now; end = c.args.total - length c.in-Some-byte_at.behind.now }, Byte c.in-Some-byte_at.byte) ∷ [])
+      (items_from (front_by c.args.raw) c.args.total (chars c.in-Some-byte_at.behind.now)) c.each_told.ensures.calls calls)),
+)
+
 pub items-preserved : goal.items-preserved
 items-preserved g c = (
   c.step_by-first.ensures.text,
-  c.each_told-in-Some.ensures.callable,
+  c.each_told-in-Some-2.ensures.callable,
   (let a = c.step_by-first.ensures.shorter in let b = c.in-Some.ensures.1 in let m = c.items.invariant.2 in omega arith),
   λ last calls. c.items.invariant.3 last
       (subst (λ (is : List Item). FoldsTo (λ f item h. goal.F-step g f item.0 (g.M.Meaning.meaning item.1) tt h) c.items.callback is last)
       (sym (items-step (front_by c.args.raw) (front_by-shorter c.args.raw) _ _ _ _ _ _ c.items.invariant.0 c.in-Some.ensures.0 c.step_by-first.ensures.told c.step_by-first.ensures.left))
-      (folds-append (λ f item h. goal.F-step g f item.0 (g.M.Meaning.meaning item.1) tt h) c.items.callback c.each_told-in-Some.new.callback last _ _
-      (folds-append (λ f item h. goal.F-step g f item.0 (g.M.Meaning.meaning item.1) tt h) c.items.callback c.each_told.new.callback c.each_told-in-Some.new.callback _ _ c.each_told.ensures.calls c.each_told-in-Some.ensures.calls)
+      (folds-append (λ f item h. goal.F-step g f item.0 (g.M.Meaning.meaning item.1) tt h) c.items.callback c.each_told-in-Some-2.new.callback last _ _
+      (folds-append (λ f item h. goal.F-step g f item.0 (g.M.Meaning.meaning item.1) tt h) c.items.callback c.each_told-in-Some.new.callback c.each_told-in-Some-2.new.callback _ _ c.each_told-in-Some.ensures.calls c.each_told-in-Some-2.ensures.calls)
       calls)),
 )
 
