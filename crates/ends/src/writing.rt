@@ -61,10 +61,13 @@ pub fn write_bytes<W: Write>(output: &mut Watched<W>, bytes: &[u8]) -> Result<()
 
 /// Writes what is told of a run, and flushes. Where it can't be written there is nobody to tell.
 ///
-/// What goes out is all of the line where the writer does not fail, else a beginning of it.
+/// What goes out is all of the line where the writer does not fail, else a beginning of it. Where it never failed, the
+/// last thing asked of it was a flush that was not refused.
 pub fn tell<E: Write>(errors: &mut Watched<E>, line: &str)
     ensures line { errors.new.faulty ≡ false → errors.new.closed ≡ false
         → Appends (E.contents errors.old.inner) (E.contents errors.new.inner) line.now }
+    ensures flushed { errors.new.faulty ≡ false → errors.new.closed ≡ false
+        → errors.new.flushed ≡ true }
     ensures front { AppendsFront (E.contents errors.old.inner) (E.contents errors.new.inner) line.now }
 {
     let _ = write_all(errors, line.as_bytes());

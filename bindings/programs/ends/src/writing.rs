@@ -39,7 +39,8 @@ pub fn write_bytes<W: Write>(output: &mut Watched<W>, bytes: &[u8]) -> Result<()
 
 /// Writes what is told of a run, and flushes. Where it can't be written there is nobody to tell.
 ///
-/// What goes out is all of the line where the writer does not fail, else a beginning of it.
+/// What goes out is all of the line where the writer does not fail, else a beginning of it. Where it never failed, the
+/// last thing asked of it was a flush that was not refused.
 pub fn tell<E: Write>(errors: &mut Watched<E>, line: &str) {
     let _ = write_all(errors, line.as_bytes());
 }
