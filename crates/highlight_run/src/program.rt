@@ -1,5 +1,5 @@
 //! The whole program, over any ends.
-ghost use Rattle.std.specs.Prelude.{◌≡◌, ◌≢◌, ◌↔◌, false, true, IsErrOf, IsTrue, IfErr, IfOk, Result};
+ghost use Rattle.std.specs.Prelude.{◌≡◌, ◌≢◌, ◌↔◌, false, true, IsErrOf, IsTrue, IfErr, IfOk, OnErr, Result};
 ghost use Rattle.std.specs.Io.KnownBytes.{Appends, Keeps};
 ghost use Rattle.highlight_run.specs.declared.stop.Stop.{Stop as TheStop};
 ghost use Rattle.ends.specs.Known.{AppendsFront};
@@ -65,6 +65,8 @@ pub fn program<R: Read, W: Write, E: Write>(
         × (result ≡ exit_status outcome)
         × (errors.new.faulty ≡ false → errors.new.closed ≡ false
         → Appends (E.contents errors.old.inner) (E.contents errors.new.inner) (told outcome))
+        × (OnErr outcome (errors.new.faulty ≡ false → errors.new.closed ≡ false
+        → errors.new.flushed ≡ true))
         × AppendsFront (E.contents errors.old.inner) (E.contents errors.new.inner) (told outcome) }
 {
     let outcome = show(alloc, start, input, output);

@@ -1,5 +1,5 @@
 //! What is told of a run that stopped, and its status.
-ghost use Rattle.std.specs.Prelude.{◌≡◌, false};
+ghost use Rattle.std.specs.Prelude.{◌≡◌, false, true, OnErr};
 ghost use Rattle.std.specs.Io.KnownBytes.{Appends};
 ghost use Rattle.ends.specs.Known.{AppendsFront};
 ghost use Rattle.highlight_run.specs.Stop.{exit_status, told};
@@ -17,6 +17,8 @@ pub fn report<E: Write>(outcome: &Result<(), Stop>, errors: &mut Watched<E>) -> 
     ensures status { result ≡ exit_status outcome.now }
     ensures line { errors.new.faulty ≡ false → errors.new.closed ≡ false
         → Appends (E.contents errors.old.inner) (E.contents errors.new.inner) (told outcome.now) }
+    ensures flushed { OnErr outcome.now (errors.new.faulty ≡ false → errors.new.closed ≡ false
+        → errors.new.flushed ≡ true) }
     ensures front { AppendsFront (E.contents errors.old.inner) (E.contents errors.new.inner)
         (told outcome.now) }
 {

@@ -129,7 +129,7 @@ impl Block {
         Ok(())
     }
 
-    /// Writes what is held, and flushes.
+    /// Writes what is held, and flushes. Then it holds nothing; where that fails it holds what it held.
     pub fn finish<W: Write>(&mut self, output: &mut Watched<W>) -> Result<(), Fault>
         requires writes { output.old.failed ≡ false }
         ensures failed { output.new.failed ≡ is_err result }
@@ -139,13 +139,30 @@ impl Block {
             (Appends (W.contents output.old.inner) (W.contents output.new.inner) self.old) }
         ensures err { OnErr result
             (AppendsFront (W.contents output.old.inner) (W.contents output.new.inner) self.old) }
+        ensures empty { OnOk result (self.new ≡ []) }
+        ensures kept { OnErr result (self.new ≡ self.old) }
     {
-        self.write_out(output)?;
-        if output.flush().is_err() {
-            return Err(Fault::Write);
-        }
+        write_all(output, &self.bytes[..self.len])?;
+        self.len = 0;
         Ok(())
     }
+}
+
+/// Writes all of the bytes, and flushes.
+pub fn write_all<W: Write>(output: &mut Watched<W>, bytes: &[u8]) -> Result<(), Fault>
+    requires writes { output.old.failed ≡ false }
+    ensures failed { output.new.failed ≡ is_err result }
+    ensures flushed { IfOk result (λ _. output.new.flushed ≡ true) }
+    ensures only { IfErr result (λ fault. fault ≡ Fault.Write) }
+    ensures ok { OnOk result
+        (Appends (W.contents output.old.inner) (W.contents output.new.inner) bytes.now) }
+    ensures err { OnErr result
+        (AppendsFront (W.contents output.old.inner) (W.contents output.new.inner) bytes.now) }
+{
+    if ends::write_all(output, bytes).is_err() {
+        return Err(Fault::Write);
+    }
+    Ok(())
 }
 
 /// Writes all of the bytes.

@@ -1,5 +1,5 @@
 //! The whole program, over any ends.
-ghost use Rattle.std.specs.Prelude.{◌≡◌, ◌≢◌, ◌↔◌, false, true, IsErrOf, IsTrue, IfErr, IfOk, Result};
+ghost use Rattle.std.specs.Prelude.{◌≡◌, ◌≢◌, ◌↔◌, false, true, IsErrOf, IsTrue, IfErr, IfOk, OnErr, Result};
 ghost use Rattle.std.specs.Io.KnownBytes.{Appends, Keeps};
 ghost use Rattle.lexdump_run.specs.declared.fault.Fault.{Fault as TheFault};
 ghost use Rattle.ends.specs.Known.{AppendsFront};
@@ -39,6 +39,7 @@ pub fn program<R: Read, W: Write, E: Write>(
         × (result ≡ exit_status outcome)
         × (errors.new.failed ≡ false
         → Appends (E.contents errors.old.inner) (E.contents errors.new.inner) (told outcome))
+        × (OnErr outcome (errors.new.failed ≡ false → errors.new.flushed ≡ true))
         × AppendsFront (E.contents errors.old.inner) (E.contents errors.new.inner) (told outcome) }
 {
     let outcome = dump(alloc, args, input, output);

@@ -1,17 +1,17 @@
 //! What is told of a run that stopped, and its status.
-ghost use Rattle.std.specs.Prelude.{◌≡◌, ◌++◌, ◌↔◌, false, IsErrOf, IsTrue, IfErr, OnErr, OnOk};
+ghost use Rattle.std.specs.Prelude.{◌≡◌, ◌++◌, ◌↔◌, false, true, IsErrOf, IsTrue, IfErr, IfOk, OnErr, OnOk};
 ghost use Rattle.std.specs.Io.KnownBytes.{Appends};
 ghost use Rattle.lexdump_run.specs.Fault.{fault_line, number_text};
 ghost use Rattle.ends.specs.Known.{AppendsFront};
 ghost use Rattle.lexdump_run.specs.Program.{exit_status, told};
 
 use crate::fault::{Fault, status};
-use crate::output::write_bytes;
+use crate::output::{write_all, write_bytes};
 use ends::Watched;
 use itoa::Buffer;
 use std::io::Write;
 
-/// Writes the line of the fault that the run stopped with, if any, and answers the status of the program.
+/// Writes the line of the fault that the run stopped with, if any, flushes, and answers the status of the program.
 ///
 /// What goes out is all of the line where the writer does not fail, else a beginning of it. The status is the same.
 pub fn report<E: Write>(outcome: &Result<(), Fault>, errors: &mut Watched<E>) -> u8
@@ -19,6 +19,7 @@ pub fn report<E: Write>(outcome: &Result<(), Fault>, errors: &mut Watched<E>) ->
     ensures status { result ≡ exit_status outcome.now }
     ensures line { errors.new.failed ≡ false
         → Appends (E.contents errors.old.inner) (E.contents errors.new.inner) (told outcome.now) }
+    ensures flushed { OnErr outcome.now (errors.new.failed ≡ false → errors.new.flushed ≡ true) }
     ensures front { AppendsFront (E.contents errors.old.inner) (E.contents errors.new.inner)
         (told outcome.now) }
 {
@@ -32,10 +33,11 @@ pub fn report<E: Write>(outcome: &Result<(), Fault>, errors: &mut Watched<E>) ->
     }
 }
 
-/// Writes the line of the fault.
+/// Writes the line of the fault, and flushes.
 fn tell<E: Write>(fault: &Fault, errors: &mut Watched<E>) -> Result<(), Fault>
     requires { errors.old.failed ≡ false }
     ensures failed { IsErrOf result Fault.Write ↔ IsTrue errors.new.failed }
+    ensures flushed { IfOk result (λ _. errors.new.flushed ≡ true) }
     ensures only { IfErr result (λ fault. fault ≡ Fault.Write) }
     ensures ok { OnOk result
         (Appends (E.contents errors.old.inner) (E.contents errors.new.inner)
@@ -47,7 +49,7 @@ fn tell<E: Write>(fault: &Fault, errors: &mut Watched<E>) -> Result<(), Fault>
     let (before, number, after) = line_parts(fault);
     write_bytes(errors, before.as_bytes())?;
     write_number(errors, number)?;
-    write_bytes(errors, after.as_bytes())
+    write_all(errors, after.as_bytes())
 }
 
 /// Writes the number, if there is one.

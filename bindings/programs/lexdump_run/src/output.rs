@@ -78,14 +78,20 @@ impl Block {
         Ok(())
     }
 
-    /// Writes what is held, and flushes.
+    /// Writes what is held, and flushes. Then it holds nothing; where that fails it holds what it held.
     pub fn finish<W: Write>(&mut self, output: &mut Watched<W>) -> Result<(), Fault> {
-        self.write_out(output)?;
-        if output.flush().is_err() {
-            return Err(Fault::Write);
-        }
+        write_all(output, &self.bytes[..self.len])?;
+        self.len = 0;
         Ok(())
     }
+}
+
+/// Writes all of the bytes, and flushes.
+pub fn write_all<W: Write>(output: &mut Watched<W>, bytes: &[u8]) -> Result<(), Fault> {
+    if ends::write_all(output, bytes).is_err() {
+        return Err(Fault::Write);
+    }
+    Ok(())
 }
 
 /// Writes all of the bytes.

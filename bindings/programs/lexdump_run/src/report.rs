@@ -1,12 +1,12 @@
 //! What is told of a run that stopped, and its status.
 
 use crate::fault::{Fault, status};
-use crate::output::write_bytes;
+use crate::output::{write_all, write_bytes};
 use ends::Watched;
 use itoa::Buffer;
 use rattle_std::io::Write;
 
-/// Writes the line of the fault that the run stopped with, if any, and answers the status of the program.
+/// Writes the line of the fault that the run stopped with, if any, flushes, and answers the status of the program.
 ///
 /// What goes out is all of the line where the writer does not fail, else a beginning of it. The status is the same.
 pub fn report<E: Write>(outcome: &Result<(), Fault>, errors: &mut Watched<E>) -> u8 {
@@ -20,12 +20,12 @@ pub fn report<E: Write>(outcome: &Result<(), Fault>, errors: &mut Watched<E>) ->
     }
 }
 
-/// Writes the line of the fault.
+/// Writes the line of the fault, and flushes.
 fn tell<E: Write>(fault: &Fault, errors: &mut Watched<E>) -> Result<(), Fault> {
     let (before, number, after) = line_parts(fault);
     write_bytes(errors, before.as_bytes())?;
     write_number(errors, number)?;
-    write_bytes(errors, after.as_bytes())
+    write_all(errors, after.as_bytes())
 }
 
 /// Writes the number, if there is one.

@@ -17,4 +17,4 @@ returns-in_err-write_number-clause-err g c =
 pub returns-clause-err : goal.returns-clause-err
 returns-clause-err g c =
     on_err_weaker _ (front_last _ _ _ _ c.as_bytes.result.now (number_text c.line_parts-number.result.1) c.as_bytes-2.result.now _ (ap (λ (xs : List ℕ). xs ++ (number_text c.line_parts-number.result.1 ++ c.as_bytes-2.result.now)) c.as_bytes.ensures.value ∙ (ap (λ (xs : List ℕ). c.line_parts-number.result.0.now ++ (number_text c.line_parts-number.result.1 ++ xs)) c.as_bytes-2.ensures.value ∙ c.line_parts-number.ensures)) c.in_ok-write_bytes.ensures.ok c.in_ok-write_number.ensures.ok)
-    c.write_bytes-2.ensures.err
+    c.write_all.ensures.err
