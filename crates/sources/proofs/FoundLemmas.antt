@@ -1,16 +1,18 @@
 -- What a walk of folders comes to, step by step.
-use Rattle.std.proofs.Common.{◌≡◌, ◌≢◌, ℕ, true, List, [], ◌∷◌, ◌++◌, refl, sym, ap, ◌∙◌, subst, String, append_assoc, append-nil, arith, nat_cmp}
+use Rattle.std.proofs.Common.{◌≡◌, ◌≢◌, ℕ, ◌<◌, true, List, [], ◌∷◌, ◌++◌, length, map, get_or, Bor, refl, sym, ap, ◌∙◌, subst, String, append_assoc, append-nil, arith, inl, inr, nat_cmp}
 use Rattle.std.specs.Global.{Global}
 use Rattle.std.specs.Prelude.{string_bytes, string_cmp, string_eq, OnOk, Result, Ok, Err}
 use Rattle.std.specs.Cmp.{unsigned_ties}
 use Rattle.std.specs.Cmp.Lexicographic.{lists_ties}
-use Rattle.std.specs.List.{All}
+use Rattle.std.specs.List.{All, Contains}
 use Rattle.std.specs.List.Retain.{IsFiltered, DiffersFromLast}
-use Rattle.std.specs.List.Sorted.{IsSorted}
+use Rattle.std.specs.List.Sorted.{IsPermutation, IsSorted}
 use Rattle.std.specs.String.{string_cmp_total}
+use Rattle.std.proofs.lemmas.List.{get_or-map, length-map}
 use Rattle.std.proofs.lemmas.List.Elements.{All-append, All-cons}
-use Rattle.std.proofs.lemmas.List.Filters.{dedup_is}
+use Rattle.std.proofs.lemmas.List.Filters.{All-dedup, dedup_is}
 use Rattle.std.proofs.lemmas.List.Kept.{IsStrictlySortedBy-dedup}
+use Rattle.std.proofs.lemmas.List.Sorted.{All-permutation}
 use Rattle.std.specs.declared.alloc.AllocError.{AllocError}
 use Rattle.std.specs.declared.io.ErrorKind.{ErrorKind}
 use Rattle.std.specs.declared.io.ErrorKind.TheVariants.{OutOfMemory}
@@ -19,13 +21,18 @@ use Rattle.sources.specs.declared.fault.Reason.TheVariants.{System}
 use Rattle.sources.specs.declared.walk.Choice.{Choice}
 use Rattle.sources.specs.declared.walk.Choice.TheVariants.{Folder, Source, Neither}
 use Rattle.sources.specs.Names.{is_source_name, IsFolderName}
-use Rattle.sources.specs.Found.{name_of, Adds, IsInOrder, IsNoLackOfMemory, IsRefusal, IsSourcePath, IsTold, IsWalked, TakesFault, TakesFile, TakesFolder, TakesRefusal}
+use Rattle.sources.specs.Found.{name_of, Adds, IsAskedOrSource, IsInOrder, IsNoLackOfMemory, IsRefusal, IsSourcePath, IsTold, IsWalked, TakesFault, TakesFile, TakesFolder, TakesRefusal}
 
 -- what is left of sorted paths without those that stand twice
 pub in_order : (sorted kept : List (String Global)) → IsSorted string_cmp sorted → IsFiltered (DiffersFromLast string_eq) [] sorted kept → IsInOrder kept
 in_order sorted kept rises left =
     subst IsInOrder (sym (dedup_is string_eq sorted kept left))
     (IsStrictlySortedBy-dedup string_cmp_total (λ x y. lists_ties nat_cmp unsigned_ties (string_bytes x) (string_bytes y)) sorted rises)
+
+-- what all paths are, all are that are left of them in order
+pub all_left : (Is : String Global → Type 0) (found sorted kept : List (String Global)) → All Is found → IsPermutation found sorted → IsFiltered (DiffersFromLast string_eq) [] sorted kept → All Is kept
+all_left Is found sorted kept all same left =
+    subst (All Is) (sym (dedup_is string_eq sorted kept left)) (All-dedup string_eq Is sorted (All-permutation Is found sorted same all))
 
 module _ {T : Type 0} (Is : T → Type 0) where
   pub adds_none : (old : List T) → Adds Is old old
@@ -62,3 +69,19 @@ faults-added (Ok choice) path old new other took = subst (Adds IsRefusal old) (s
 pub refusal-added : (answer : Result (Unit {0}) AllocError) (kind : ErrorKind) (path : List ℕ) (old new : List PathFault) → OnOk answer (kind ≢ OutOfMemory) → OnOk answer (TakesFault old new path (System kind)) → OnOk answer (Adds IsRefusal old new)
 refusal-added (Ok done) kind path old new other took = faults-added (Err kind) path old new other took
 refusal-added (Err error) kind path old new other took = tt
+
+-- each of the paths is one that was asked for
+pub asked_at : (paths : List (Bor (List ℕ))) (k : ℕ) (d : Bor (List ℕ)) → k < length paths → Contains (map (λ path. path.now) paths) (get_or paths k d).now
+asked_at paths k d below =
+    let at : get_or (map (λ path. path.now) paths) k (get_or paths k d).now ≡ (get_or paths k d).now = get_or-map (λ path. path.now) paths k d (get_or paths k d).now below in
+    (k, omega (arith, length-map paths (λ path. path.now)), at)
+
+-- a path that was asked for is a file at most, and what a walk adds has the name of a source
+pub asked-added : (asked : List (List ℕ)) (told : Result Choice ErrorKind) (path : List ℕ) (old new : List (String Global)) → Contains asked path → TakesFile told path old new → Adds (IsAskedOrSource asked) old new
+asked-added asked (Ok Source) path old new is took = adds_one (IsAskedOrSource asked) old new took.0 took.1 (inl (subst (Contains asked) (sym took.2) is))
+asked-added asked (Ok Folder) path old new is took = subst (Adds (IsAskedOrSource asked) old) (sym took) (adds_none (IsAskedOrSource asked) old)
+asked-added asked (Ok Neither) path old new is took = subst (Adds (IsAskedOrSource asked) old) (sym took) (adds_none (IsAskedOrSource asked) old)
+asked-added asked (Err kind) path old new is took = subst (Adds (IsAskedOrSource asked) old) (sym took) (adds_none (IsAskedOrSource asked) old)
+
+pub sources-due : (asked : List (List ℕ)) (old new : List (String Global)) → Adds IsSourcePath old new → Adds (IsAskedOrSource asked) old new
+sources-due asked old new added = (added.0, added.1, λ k d below. inr (added.2 k d below))

@@ -1,9 +1,9 @@
 -- What a walk of folders comes to.
-use Rattle.std.specs.Prelude.{ℕ, ◌≡◌, ◌≢◌, List, [], ◌∷◌, ◌++◌, string_bytes, string_cmp, Result, Ok, Err, String, IsTrue, if◌then◌else◌, nat_eq}
+use Rattle.std.specs.Prelude.{ℕ, ◌≡◌, ◌≢◌, ◌⊎◌, List, [], ◌∷◌, ◌++◌, string_bytes, string_cmp, Result, Ok, Err, String, IsTrue, if◌then◌else◌, nat_eq}
 use Rattle.std.specs.Global.{Global}
 use Rattle.std.specs.Fs.{file_type}
 use Rattle.std.specs.IoError.{error_kind}
-use Rattle.std.specs.List.{All}
+use Rattle.std.specs.List.{All, Contains}
 use Rattle.std.specs.List.Sorted.{IsStrictlySortedBy}
 use Rattle.std.specs.Option.{option_map, unwrap_or}
 use Rattle.std.specs.Path.{slash, rsplit_once}
@@ -32,6 +32,10 @@ IsSourcePath path = IsTrue (is_source_name (name_of (string_bytes path)))
 
 abbrev pub IsWalked : String Global → Type 0
 IsWalked path = IsFolderName (name_of (string_bytes path))
+
+-- a path that was asked for, or one that ends with the name of a source
+abbrev pub IsAskedOrSource : List (List ℕ) → String Global → Type 0
+IsAskedOrSource asked path = Contains asked (string_bytes path) ⊎ IsSourcePath path
 
 -- the system refused a path, and not for want of memory
 abbrev pub IsRefusal : PathFault → Type 0

@@ -1,8 +1,8 @@
 //! The files that a walk of folders finds.
-ghost use Rattle.std.specs.Prelude.{◌≡◌, ◌≢◌, ◌↔◌, [], IfOk, IsTrue, OnOk};
+ghost use Rattle.std.specs.Prelude.{◌≡◌, ◌≢◌, ◌↔◌, [], IfOk, IsTrue, OnOk, map};
 ghost use Rattle.std.specs.List.{All};
 ghost use Rattle.std.specs.Fs.{dir_entry_path, IsDir, IsFile};
-ghost use Rattle.sources.specs.Found.{told_of_path, Adds, IsInOrder, IsNoLackOfMemory, IsRefusal, IsSourcePath, IsTold, IsWalked, TakesFault, TakesFile, TakesFolder, TakesPath, TakesRefusal};
+ghost use Rattle.sources.specs.Found.{told_of_path, Adds, IsAskedOrSource, IsInOrder, IsNoLackOfMemory, IsRefusal, IsSourcePath, IsTold, IsWalked, TakesFault, TakesFile, TakesFolder, TakesPath, TakesRefusal};
 ghost use Rattle.sources.specs.Names.{is_hidden, is_source_name, IsFolderName};
 
 use crate::fault::{PathFault, Reason};
@@ -91,6 +91,8 @@ pub fn find<R: Files + AllocGlobal + Clone + Drop>(
     paths: &[&str],
 ) -> Result<Found, AllocError>
     ensures in_order { IfOk result (λ found. IsInOrder found.files.items) }
+    ensures due { IfOk result
+        (λ found. All (IsAskedOrSource (map (λ path. path.now) paths.now)) found.files.items) }
     ensures faults { IfOk result (λ found. All IsRefusal found.faults.items) }
 {
     let mut found = Found::new(rt.alloc());
