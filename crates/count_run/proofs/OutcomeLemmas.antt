@@ -1,14 +1,17 @@
 -- An outcome takes sources one by one.
-use Rattle.std.proofs.Common.{◌≡◌, List, [], ◌∷◌, ◌++◌, map, refl, sym, ap, ◌∙◌, Result, Ok, Err, IfOk, IfErr, String, append_assoc, append-nil, fold}
+use Rattle.std.proofs.Common.{◌≡◌, List, [], ◌∷◌, ◌++◌, map, refl, sym, ap, ◌∙◌, ℕ, Result, Ok, Err, IfOk, IfErr, String, subst, append_assoc, append-nil, fold}
 use Rattle.std.specs.Global.{Global}
+use Rattle.std.specs.List.{All}
 use Rattle.std.proofs.lemmas.List.{map-append}
+use Rattle.std.specs.declared.alloc.AllocError.{AllocError}
+use Rattle.sources.specs.Found.{IsAskedOrSource, IsInOrder, IsRefusal}
 use Rattle.sources.specs.declared.fault.Fault.{Fault}
 use Rattle.sources.specs.declared.fault.Fault.TheVariants.{Memory, Source}
 use Rattle.sources.specs.declared.fault.PathFault.{PathFault}
 use Rattle.count_run.specs.declared.lines.LineCounts.{LineCounts}
 use Rattle.count_run.specs.declared.report.FileCounts.{FileCounts}
 use Rattle.count_run.specs.declared.run.Outcome.{Outcome}
-use Rattle.count_run.specs.Outcome.{Sources, counted, passed_over, source, IsOfSource}
+use Rattle.count_run.specs.Outcome.{Sources, counted, passed_over, source, IsOfSource, IsOutcome}
 use Rattle.count_run.specs.Report.{no_counts, sums, total_of}
 
 -- of these paths, those before the ones that are left were taken
@@ -71,3 +74,19 @@ counted-step paths faults path all left old new came so first is files faulty mo
       ∙ (append_assoc faults (passed_over so.sources) (passed_over (source path came)) ∙ ap (λ xs. faults ++ xs) (sym (passed_over-append so.sources (source path came)))));
   total = total-source old new path came is so.total files more same;
 }
+
+-- what was counted of the files that were found
+pub outcome-found : (asked : List (List ℕ)) (paths : List (String Global)) (faults : List PathFault) (result : Result Outcome AllocError)
+    → IsInOrder paths → All (IsAskedOrSource asked) paths → All IsRefusal faults
+    → IfOk result (λ outcome. (sources : Sources) × (map (λ came. came.0) sources ≡ paths) × (outcome.report.files.items ≡ counted sources) × (outcome.faults.items ≡ faults ++ passed_over sources))
+    → IfOk result (IsOutcome asked)
+outcome-found asked paths faults (Ok outcome) in_order due refused so = record {
+  sources = so.0;
+  faults = faults;
+  in_order = subst IsInOrder (sym so.1) in_order;
+  due = subst (All (IsAskedOrSource asked)) (sym so.1) due;
+  refused = refused;
+  files = so.2;
+  faulty = so.3;
+}
+outcome-found asked paths faults (Err error) in_order due refused so = tt

@@ -4,6 +4,7 @@ pub mod Json
 pub mod Lines
 pub mod Outcome
 pub mod Printed
+pub mod Program
 pub mod Report
 pub mod Stop
 pub mod Table

@@ -1,6 +1,8 @@
 -- What a run counted, and what it passed over.
-use Rattle.std.specs.Prelude.{ℕ, ◌≡◌, ◌↔◌, Bool, false, List, [], ◌∷◌, string_bytes, Option, Result, Ok, Err, IfSome, IsTrue, String, Vec}
+use Rattle.std.specs.Prelude.{ℕ, ◌≡◌, ◌↔◌, Bool, false, List, [], ◌∷◌, ◌++◌, map, string_bytes, Option, Result, Ok, Err, IfSome, IsTrue, String, Vec}
 use Rattle.std.specs.Global.{Global}
+use Rattle.std.specs.List.{All}
+use Rattle.sources.specs.Found.{IsAskedOrSource, IsInOrder, IsRefusal}
 use Rattle.sources.specs.declared.fault.Fault.{Fault}
 use Rattle.sources.specs.declared.fault.Fault.TheVariants.{Memory, Source}
 use Rattle.sources.specs.declared.fault.PathFault.{PathFault}
@@ -9,6 +11,7 @@ use Rattle.sources.specs.declared.fault.Reason.TheVariants.{Read}
 use Rattle.sources.specs.Reasons.{IsInputFault, IsNoText, IsText}
 use Rattle.count_run.specs.declared.lines.LineCounts.{LineCounts}
 use Rattle.count_run.specs.declared.report.FileCounts.{FileCounts}
+use Rattle.count_run.specs.declared.run.Outcome.{Outcome}
 use Rattle.count_run.specs.Lines.{line_counts}
 
 -- what came of each source: its path, and its numbers or why it was passed over
@@ -51,3 +54,14 @@ abbrev pub IsOfInput : List ℕ → Option (List ℕ) → Bool → List FileCoun
 IsOfInput name known failed (file ∷ []) [] = (string_bytes file.path ≡ name) × (failed ≡ false) × IfSome known (λ bytes. IsText bytes × (file.counts ≡ line_counts bytes))
 IsOfInput name known failed [] (fault ∷ []) = (string_bytes fault.path ≡ name) × IsInputFault known (Source fault.reason) × ((fault.reason ≡ Read) ↔ IsTrue failed)
 IsOfInput name known failed files faults = ⊥
+
+-- an outcome is that of sources, which stand in order and once, each of which was asked for or has the name of a source, and of
+-- paths that the system refused
+pub record IsOutcome (asked : List (List ℕ)) (outcome : Outcome) : Type 0 where
+  pub sources : Sources
+  pub faults : List PathFault
+  pub in_order : IsInOrder (map (λ came. came.0) sources)
+  pub due : All (IsAskedOrSource asked) (map (λ came. came.0) sources)
+  pub refused : All IsRefusal faults
+  pub files : outcome.report.files.items ≡ counted sources
+  pub faulty : outcome.faults.items ≡ faults ++ passed_over sources

@@ -1,4 +1,10 @@
 //! The whole program, over the ends of a process.
+ghost use Rattle.std.specs.Prelude.{◌≡◌, IfErr, Result};
+ghost use Rattle.ends.specs.Words.{words_of};
+ghost use Rattle.count_run.specs.declared.stop.Stop.{Stop as TheStop};
+ghost use Rattle.count_run.specs.Program.{exit_status, Ran};
+ghost use Rattle.count_run.specs.Stop.{IsReportStop};
+
 use crate::job::{Job, Layout, read_job};
 use crate::run::{count_paths, count_stdin, put_report};
 use crate::stop::{Stop, line, status};
@@ -15,7 +21,11 @@ Options stand in any order, each once. Behind -- each word is a path.
 
 /// The whole program: does what its arguments ask for, which begin with its name, tells what stopped it, and answers
 /// its status. `None` says that the arguments could not be had.
-pub fn program(rt: &HostRuntime, args: Option<Args>) -> u8 {
+pub fn program(rt: &HostRuntime, args: Option<Args>) -> u8
+    ensures ended { (outcome : Result (Unit {0}) TheStop)
+        × Ran (words_of args) outcome
+        × (result ≡ exit_status outcome) }
+{
     match run(rt, args) {
         Ok(()) => 0,
         Err(stop) => {
@@ -26,7 +36,9 @@ pub fn program(rt: &HostRuntime, args: Option<Args>) -> u8 {
 }
 
 /// Does what the arguments ask for.
-fn run(rt: &HostRuntime, args: Option<Args>) -> Result<(), Stop> {
+fn run(rt: &HostRuntime, args: Option<Args>) -> Result<(), Stop>
+    ensures { Ran (words_of args) result }
+{
     let Some(args) = args else {
         return Err(Stop::Memory);
     };
@@ -42,7 +54,9 @@ fn run(rt: &HostRuntime, args: Option<Args>) -> Result<(), Stop> {
 
 /// Counts the lines of what is at the paths, or else of standard input, and writes to standard output, and to standard
 /// error what was passed over.
-fn count(rt: &HostRuntime, layout: Layout, paths: &[&str]) -> Result<(), Stop> {
+fn count(rt: &HostRuntime, layout: Layout, paths: &[&str]) -> Result<(), Stop>
+    ensures { IfErr result IsReportStop }
+{
     let outcome = if paths.is_empty() {
         count_stdin(rt.alloc(), &mut Watched::new(rt.stdin()))?
     } else {

@@ -1,5 +1,5 @@
 //! The numbers of files, and how they are written.
-ghost use Rattle.std.specs.Prelude.{◌≡◌, [], ◌∷◌, ◌++◌, IfOk, OnOk, Some, codes, decimal, false, string_bytes, true};
+ghost use Rattle.std.specs.Prelude.{◌≡◌, [], ◌∷◌, ◌++◌, IfOk, OnErr, OnOk, Some, codes, decimal, false, string_bytes, true};
 ghost use Rattle.json.specs.Json.{document};
 ghost use Rattle.json.specs.Print.{print};
 ghost use Rattle.json.specs.Token as token;
@@ -41,11 +41,13 @@ impl Report {
         }
     }
 
-    /// Takes the numbers of one file more.
+    /// Takes the numbers of one file more. Where memory for it is refused nothing changes.
     pub fn add(&mut self, path: String, counts: LineCounts) -> Result<(), AllocError>
         ensures files { OnOk result (self.new.files.items
             ≡ self.old.files.items ++ (record { path = path; counts = counts }) ∷ []) }
         ensures total { OnOk result (self.new.total ≡ spec.sums self.old.total counts) }
+        ensures same_files { OnErr result (self.new.files.items ≡ self.old.files.items) }
+        ensures same_total { OnErr result (self.new.total ≡ self.old.total) }
     {
         self.files.push(FileCounts { path, counts })?;
         self.total.add(counts);

@@ -1,12 +1,12 @@
 //! A whole run: from files, folders or standard input to a report.
-ghost use Rattle.std.specs.Prelude.{◌≡◌, ◌≢◌, ◌<◌, ◌^◌, ◌≤◌, ◌↔◌, [], ◌++◌, false, true, IfErr, IfOk, IfSome, IsErrOf, IsTrue, OnOk, codes, length, map};
+ghost use Rattle.std.specs.Prelude.{◌≡◌, ◌≢◌, ◌<◌, ◌^◌, ◌≤◌, ◌↔◌, [], ◌++◌, false, true, IfErr, IfOk, IfSome, IsErrOf, IsTrue, OnErr, OnOk, codes, length, map};
 ghost use Rattle.std.specs.Io.KnownBytes.{Appends, Keeps};
 ghost use Rattle.std.specs.Str.{IsUtf8};
 ghost use Rattle.std.specs.Str.Lines.{lines};
 ghost use Rattle.ends.specs.Known.{AppendsFront};
 ghost use Rattle.sources.specs.Reasons.{IsInputFault, IsNoText, IsText};
 ghost use Rattle.count_run.specs.Lines.{line_counts, lines_counted};
-ghost use Rattle.count_run.specs.Outcome.{Sources, passed_over, source, IsCountOf, IsOfInput, IsOfSource};
+ghost use Rattle.count_run.specs.Outcome.{Sources, passed_over, source, IsCountOf, IsOfInput, IsOfSource, IsOutcome};
 ghost use Rattle.count_run.specs.Outcome as spec;
 ghost use Rattle.count_run.specs.Printed.{printed};
 ghost use Rattle.count_run.specs.Report.{no_counts, sums, total_of};
@@ -73,6 +73,7 @@ pub fn count_paths<R: Files + AllocGlobal + Clone + Drop>(
     rt: &R,
     paths: &[&str],
 ) -> Result<Outcome, AllocError>
+    ensures sources { IfOk result (IsOutcome (map (λ path. path.now) paths.now)) }
     ensures total { IfOk result
         (λ outcome. outcome.report.total ≡ total_of outcome.report.files.items) }
 {
@@ -132,7 +133,7 @@ impl Outcome {
         }
     }
 
-    /// Takes what came of one source.
+    /// Takes what came of one source. Where memory is refused nothing changes.
     fn take(&mut self, path: String, counted: Result<LineCounts, Fault>) -> Result<(), AllocError>
         ensures memory { OnOk result (IsOfSource counted) }
         ensures files { OnOk result (self.new.report.files.items
@@ -143,6 +144,10 @@ impl Outcome {
             (IfOk counted (λ counts. self.new.report.total ≡ sums self.old.report.total counts)) }
         ensures kept { OnOk result
             (IfErr counted (λ _. self.new.report.total ≡ self.old.report.total)) }
+        ensures same_files { OnErr result
+            (self.new.report.files.items ≡ self.old.report.files.items) }
+        ensures same_total { OnErr result (self.new.report.total ≡ self.old.report.total) }
+        ensures same_faults { OnErr result (self.new.faults.items ≡ self.old.faults.items) }
     {
         match counted {
             Ok(counts) => self.report.add(path, counts),

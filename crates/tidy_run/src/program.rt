@@ -1,4 +1,10 @@
 //! The whole program, over the ends of a process.
+ghost use Rattle.std.specs.Prelude.{◌≡◌, ◌≢◌, [], IfErr, Result, map};
+ghost use Rattle.ends.specs.Words.{words_of};
+ghost use Rattle.tidy_run.specs.declared.stop.Stop.{Stop as TheStop};
+ghost use Rattle.tidy_run.specs.Job as spec;
+ghost use Rattle.tidy_run.specs.Program.{exit_status, IsStopOf, Ran};
+
 use crate::files::{ending, tidy_paths};
 use crate::job::{Job, Task, read_job};
 use crate::run::{check, put, run, show};
@@ -22,7 +28,11 @@ In comments carriage returns alone go. Nothing else is changed.
 
 /// The whole program: does what its arguments ask for, which begin with its name, tells what stopped it, and answers
 /// its status. `None` says that the arguments could not be had.
-pub fn program(rt: &HostRuntime, args: Option<Args>) -> u8 {
+pub fn program(rt: &HostRuntime, args: Option<Args>) -> u8
+    ensures ended { (outcome : Result (Unit {0}) TheStop)
+        × Ran (words_of args) outcome
+        × (result ≡ exit_status outcome) }
+{
     match tidy(rt, args) {
         Ok(()) => 0,
         Err(stop) => {
@@ -33,7 +43,9 @@ pub fn program(rt: &HostRuntime, args: Option<Args>) -> u8 {
 }
 
 /// Does what the arguments ask for.
-fn tidy(rt: &HostRuntime, args: Option<Args>) -> Result<(), Stop> {
+fn tidy(rt: &HostRuntime, args: Option<Args>) -> Result<(), Stop>
+    ensures { Ran (words_of args) result }
+{
     let Some(args) = args else {
         return Err(Stop::Memory);
     };
@@ -46,7 +58,9 @@ fn tidy(rt: &HostRuntime, args: Option<Args>) -> Result<(), Stop> {
 }
 
 /// Does the task with standard input. That it is not in order is said on standard error, or shown by the diff.
-fn tidy_input(rt: &HostRuntime, task: Task) -> Result<(), Stop> {
+fn tidy_input(rt: &HostRuntime, task: Task) -> Result<(), Stop>
+    ensures { IfErr result (λ stop. IsStopOf stop (spec.tidy task [])) }
+{
     let mut input = Watched::new(rt.stdin());
     let mut output = Watched::new(rt.stdout());
     match task {
@@ -84,7 +98,10 @@ fn show_progress(rt: &HostRuntime, done: usize, total: usize) {
 }
 
 /// Puts files in order, or names those that are not. What was passed over, and a line on all, goes to standard error.
-fn tidy_files(rt: &HostRuntime, task: Task, paths: &[&str]) -> Result<(), Stop> {
+fn tidy_files(rt: &HostRuntime, task: Task, paths: &[&str]) -> Result<(), Stop>
+    requires { map (λ path. path.now) paths.now ≢ [] }
+    ensures { IfErr result (λ stop. IsStopOf stop (spec.tidy task (map (λ path. path.now) paths.now))) }
+{
     let id = process::id(rt.process());
     let is_terminal = rt.stderr().is_terminal();
     let progress = |done: usize, total: usize| {

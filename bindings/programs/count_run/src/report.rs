@@ -33,7 +33,7 @@ impl Report {
         }
     }
 
-    /// Takes the numbers of one file more.
+    /// Takes the numbers of one file more. Where memory for it is refused nothing changes.
     pub fn add(&mut self, path: String, counts: LineCounts) -> Result<(), AllocError> {
         self.files.push(FileCounts { path, counts })?;
         self.total.add(counts);

@@ -85,7 +85,7 @@ impl Outcome {
         }
     }
 
-    /// Takes what came of one source.
+    /// Takes what came of one source. Where memory is refused nothing changes.
     fn take(&mut self, path: String, counted: Result<LineCounts, Fault>) -> Result<(), AllocError> {
         match counted {
             Ok(counts) => self.report.add(path, counts),
