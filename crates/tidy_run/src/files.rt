@@ -1,7 +1,8 @@
 //! Files that are put in order where they lie.
 ghost use Rattle.std.specs.Prelude.{◌≡◌, ◌≢◌, ◌<◌, ◌≤◌, ◌^◌, ◌↔◌, [], ◌++◌, IfErr, IfOk, IfSome, IsErrOf, None, Ok, OnOk, codes, length, string_bytes};
+ghost use Rattle.std.specs.Io.KnownBytes.{Appends};
 ghost use Rattle.std.specs.Str.{IsUtf8};
-ghost use Rattle.sources.specs.Reasons.{IsText, IsTextFault};
+ghost use Rattle.sources.specs.Reasons.{IsSystemFault, IsText, IsTextFault};
 ghost use Rattle.tidy_run.specs.Diff.{IsDiff};
 ghost use Rattle.tidy_run.specs.Files.{fault_of, raised, shown_of, IsNoRefusal, IsStep};
 ghost use Rattle.tidy_run.specs.Files as spec;
@@ -259,7 +260,10 @@ fn path_beside(alloc: Global, path: Path<'_>, id: u32) -> Result<String, AllocEr
 }
 
 /// Writes the text to a new file, with the permissions of the old one, up to the disk.
-fn fill<F: Write + OpenFile>(file: &mut F, before: &Metadata, text: &[u8]) -> Result<(), Fault> {
+fn fill<F: Write + OpenFile>(file: &mut F, before: &Metadata, text: &[u8]) -> Result<(), Fault>
+    ensures written { OnOk result (Appends (F.contents file.old) (F.contents file.new) text.now) }
+    ensures only { IfErr result IsSystemFault }
+{
     file.set_permissions(before.permissions())?;
     file.write_all(text)?;
     file.flush()?;
