@@ -33,6 +33,7 @@ extern crate std;
 // Contracts alone use some of its imports and variables.
 #[allow(missing_docs, unused_imports, unused_variables, dead_code)]
 #[allow(clippy::assign_op_pattern, clippy::collapsible_if)]
+#[allow(clippy::question_mark)]
 #[doc(hidden)]
 pub mod erased;
 #[allow(missing_docs, dead_code)]
