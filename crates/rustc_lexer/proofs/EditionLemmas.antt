@@ -2,7 +2,7 @@
 use Rattle.std.proofs.Common.{◌≡◌, ◌<◌, ℕ, nat_le, Bool, true, false, List, length, refl, IsCharBoundary}
 use Rattle.std.proofs.lemmas.Str.{IsCharBoundary-from_take}
 use Rattle.rustc_lexer.specs.declared.edition.Edition.{Edition}
-use Rattle.rustc_lexer.specs.declared.edition.Edition.TheVariants.{E2015, E2018, E2021, E2024}
+use Rattle.rustc_lexer.specs.declared.edition.Edition.TheVariants.{E2024}
 use Rattle.rustc_lexer.specs.declared.token.FrontmatterAllowed.{FrontmatterAllowed}
 use Rattle.rustc_lexer.specs.declared.token.FrontmatterAllowed.TheVariants.{Yes, No}
 use Rattle.rustc_lexer.specs.declared.token.Token.{Token}
@@ -50,10 +50,9 @@ boundary-of edition text token is some e =
 
 front-same : (edition : Edition) (text : List ℕ) → changed edition (chars text) (frontmatter text) ≡ frontmatter text
 unfolding frontmatter
-front-same E2015 text = refl
-front-same E2018 text = refl
-front-same E2021 text = refl
-front-same E2024 text = refl
+front-same edition text =
+    by_test (λ u. u ≡ frontmatter text) (nat_le 2024 (year edition)) _ _ (λ e. refl) (λ e.
+    by_test (λ u. u ≡ frontmatter text) (nat_le 2021 (year edition)) _ _ (λ f. refl) (λ f. refl))
 
 -- a frontmatter is the same in each edition, and what else a text begins with is changed
 pub changed-at : (allowed : FrontmatterAllowed) (edition : Edition) (text : List ℕ) → changed edition (chars text) (token_at (mode_of allowed) text) ≡ token_at (mode_in allowed edition) text
