@@ -2,6 +2,7 @@
 use Rattle.std.proofs.Common.{◌≡◌, ◌≢◌, ℕ, ◌+◌, ◌-◌, ◌<◌, ◌==◌, List, [], ◌∷◌, length, true, false, true≢false, refl, sym, ap, ◌∙◌, arith}
 use Rattle.std.proofs.lemmas.Bool.{eqb-true, ne_eqb}
 use Rattle.std.proofs.lemmas.Str.{IsCharBoundary-from_take}
+use Rattle.std.proofs.lemmas.List.{nil_from_length}
 use Rattle.rustc_lexer.specs.declared.token.Token.{Token}
 use Rattle.rustc_lexer.specs.declared.token.TokenKind.{TokenKind}
 use Rattle.rustc_lexer.specs.declared.token.TokenKind.TheVariants.{Eof, Literal}
@@ -43,12 +44,8 @@ module _ (s t : State) (token : Token) (is : IsText s.rest) (some : 0 < length s
 
 pub stays_at_end : (s : State) (token : Token) (text : List ℕ) → text ≡ s.rest → (length text == 0) ≡ true → token.len ≡ 0 → StaysAtEnd s token s
 stays_at_end s token text e none empty =
-    let rest : s.rest ≡ [] = sym e ∙ nothing text none in
+    let rest : s.rest ≡ [] = sym e ∙ nil_from_length text (eqb-true (length text) 0 none) in
     record { none_left = ap (λ xs. tokens_of s.mode xs) rest ∙ tokens-nil s.mode; rest = rest; empty = empty; unchanged = refl }
-  where
-    nothing : (xs : List ℕ) → (length xs == 0) ≡ true → xs ≡ []
-    nothing [] h = refl
-    nothing (x ∷ xs) h = absurd (let n = eqb-true (length (x ∷ xs)) 0 h in omega arith)
 
 pub something : (xs ys : List ℕ) → xs ≡ ys → (length xs == 0) ≡ false → 0 < length ys
 something [] ys e h = absurd (true≢false h)

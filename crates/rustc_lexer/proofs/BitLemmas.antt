@@ -7,6 +7,7 @@ use Rattle.std.proofs.lemmas.Nat.{and_le_l, and_le_r, and_mask, or_lt, shl-shr, 
 use Rattle.std.proofs.lemmas.Nat.Bits.{bit_at_and, bit_at_or, bit_at_not, bit_at_lowest, bit_at-lt, bit_at-suc, bit_at-zero, bit_at_above, bit_at-trailing_zeros}
 use Rattle.std.proofs.lemmas.List.{get_or-map}
 use Rattle.std.proofs.lemmas.Simd.{bit_mask_l, length-chunk, get_or-chunk}
+use Rattle.std.proofs.Math.Bool.{and-true, and_self}
 use lib.Count.{count_trailing_zeros}
 use lib.Pow.{field, mod-mod-pow}
 use lib.Lanes.{chunk, mask_l}
@@ -102,10 +103,6 @@ high-low = refl
 high-high : (k : ℕ) → suc k < 64 → bit high (suc k) ≡ true
 unfolding bit
 high-high k h = agree_below_at (λ j. bit high (suc j)) (λ _. true) 63 k refl (omega arith)
-
-and-true : (b : Bool) → (b && true) ≡ b
-and-true true = refl
-and-true false = refl
 
 pub low-off : (x : ℕ) → bit (bit_and x high) 0 ≡ false
 low-off x = bit-and x high 0 ∙ and_right _ _ high-low
@@ -206,8 +203,4 @@ module _ (x low : ℕ) (some : 0 < x) (lowest : IsLowest x low) where
 
   pub past_lowest-others : (k : ℕ) → low < k → bit (bit_and x (x - 1)) k ≡ bit x k
   unfolding bit
-  past_lowest-others k l = bit-and x (x - 1) k ∙ (ap (λ b. bit x k && b) (ap (λ n. n == 1) (above_pred low k x some set_at least_at l)) ∙ twice (bit x k))
-    where
-      twice : (b : Bool) → (b && b) ≡ b
-      twice true = refl
-      twice false = refl
+  past_lowest-others k l = bit-and x (x - 1) k ∙ (ap (λ b. bit x k && b) (ap (λ n. n == 1) (above_pred low k x some set_at least_at l)) ∙ and_self (bit x k))

@@ -7,6 +7,7 @@ use Rattle.std.proofs.lemmas.Bool.{and_parts, cases_lt, eqb-true, le-leb, leb-tr
 use Rattle.std.proofs.lemmas.List.{length-map}
 use Rattle.std.proofs.lemmas.Simd.{length-chunk, mask_l-lt}
 use Rattle.std.proofs.lemmas.Str.{char_from_byte, encode_ascii, inside_one, encodes-chars, IsCharBoundary-from_drop}
+use Rattle.std.proofs.Math.Bool.{and-true, or-true, or-false, and-false}
 use Rattle.memchr.specs.Find.{is_byte}
 use lib.Count.{count_trailing_zeros}
 use lib.Lanes.{chunk, mask_l}
@@ -22,18 +23,6 @@ use Rattle.rustc_lexer.specs.laws.Least.{place-here, place-on}
 use Rattle.rustc_lexer.proofs.RawLemmas.{hash_bytes}
 
 -- ---- what the bits tell
-
-and-true : (b : Bool) → (b && true) ≡ b
-and-true true = refl
-and-true false = refl
-
-or-true : (b : Bool) → (b || true) ≡ true
-or-true true = refl
-or-true false = refl
-
-or-false : (b : Bool) → (b || false) ≡ b
-or-false true = refl
-or-false false = refl
 
 one_hash : (b : Bool) (n : ℕ) → nat_le 1 (if b then suc n else 0) ≡ b
 one_hash true n = le-leb 1 (suc n) (omega arith)
@@ -74,10 +63,6 @@ module _ (text : List ℕ) (n quotes hashes found : ℕ) (few : n ≤ 1) (long :
   -- a quote that is the last of the 64 bytes
   last_off : n ≡ 1 → (k : ℕ) → k < 64 → 64 ≤ suc k → bit found k ≡ false
   last_off e k l far = at k l ∙ (ap (λ b. bit quotes k && b) (rw e (or-false (bit hashes (suc k))) ∙ bit-above hashes (suc k) hashes_small far) ∙ and-false (bit quotes k))
-    where
-      and-false : (b : Bool) → (b && false) ≡ false
-      and-false true = refl
-      and-false false = refl
 
   set_closes : (k : ℕ) → k < 64 → bit found k ≡ true → closes n (drop k text) ≡ true
   set_closes k l set = by_count n refl

@@ -7,6 +7,7 @@ use Rattle.std.proofs.lemmas.Bool.{agree_below_at, and_from, and_parts, and_case
 use Rattle.std.proofs.lemmas.List.{get_or-drop}
 use Rattle.std.proofs.lemmas.List.FromFn.{get_or-map-range_with_len}
 use Rattle.std.proofs.lemmas.List.Sums.{prefix_len_is}
+use Rattle.std.proofs.Math.Bool.{and_comm, or_comm}
 use lib.Lanes.{chunk, mask_l}
 use Rattle.unicode_ident.proofs.Computing.{unicode_ident}
 use Rattle.rustc_lexer.specs.declared.edition.Edition.{Edition}
@@ -212,18 +213,6 @@ module _ (text : List ℕ) (is : IsUtf8 text) (b : ℕ) (rest : List ℕ) (e : t
       let all : prefix_len is_space_byte text ≡ suc n = run_is is_space_byte is_continue_byte (λ x. and_comm (is_space_byte x) (is_continue_byte x) ∙ apart x) text n run.room (λ k l. swapped (get_or text k 0) (get_or text (suc k) 0) ∙ run.on k l) (swapped (get_or text n 0) (get_or text (suc n) 0) ∙ run.end) (ap is_space_byte front ∙ in_class) in
       space_first text b rest n is e small family (counted is_space_byte in_class all) (ap not (ap (next_is is_space_lead) left ∙ stays))
     where
-      and_comm : (x y : Bool) → (x && y) ≡ (y && x)
-      and_comm true true = refl
-      and_comm true false = refl
-      and_comm false true = refl
-      and_comm false false = refl
-
-      or_comm : (x y : Bool) → (x || y) ≡ (y || x)
-      or_comm true true = refl
-      or_comm true false = refl
-      or_comm false true = refl
-      or_comm false false = refl
-
       swapped : (x y : ℕ) → ((is_space_byte x && is_space_byte y) || (is_continue_byte x && is_continue_byte y)) ≡ goes_on x y
       swapped x y = or_comm (is_space_byte x && is_space_byte y) (is_continue_byte x && is_continue_byte y)
 

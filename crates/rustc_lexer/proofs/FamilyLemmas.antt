@@ -1,9 +1,10 @@
 -- The families that characters choose: by the table in ASCII, and by the classes past it.
-use Rattle.std.proofs.Common.{◌≡◌, ℕ, ◌<◌, ◌≤◌, ◌==◌, ◌&&◌, nat_le, not, Bool, true, false, true≢false, List, [], ◌∷◌, get_or, refl, sym, ap, ◌∙◌, arith}
+use Rattle.std.proofs.Common.{◌≡◌, ℕ, ◌<◌, ◌≤◌, ◌==◌, nat_le, not, Bool, true, false, true≢false, List, [], ◌∷◌, get_or, refl, sym, ap, ◌∙◌, arith}
 use Rattle.std.specs.Char.{is_ascii_digit}
 use Rattle.std.specs.Str.{chars}
 use Rattle.std.proofs.lemmas.Bool.{lt-leb, ne_eqb}
 use Rattle.std.proofs.lemmas.List.FromFn.{get_or-map-range_with_len}
+use Rattle.std.proofs.Math.Bool.{and-false}
 use Rattle.unicode_ident.specs.Ident.{is_xid_start}
 use Rattle.unicode_ident.proofs.Computing.{unicode_ident}
 use Rattle.rustc_lexer.specs.declared.lexemes.family.TheConstants.{FAMILIES}
@@ -12,10 +13,10 @@ use Rattle.rustc_lexer.specs.declared.lexemes.family.Family.TheVariants.{Slash, 
 use Rattle.rustc_lexer.specs.declared.token.TokenKind.{TokenKind}
 use Rattle.rustc_lexer.specs.Classes.{is_id_start, is_whitespace}
 use Rattle.rustc_lexer.specs.Emoji.{is_emoji}
+use Rattle.rustc_lexer.specs.laws.LanguageRuns.{among}
 use Rattle.rustc_lexer.specs.means.Lexeme.{family_of, past_first, read_by}
 use Rattle.rustc_lexer.specs.means.Scan.{scanned}
 use Rattle.rustc_lexer.specs.laws.Scan.{scanned-same}
-use Rattle.rustc_lexer.proofs.SpaceLemmas.{each}
 
 -- what the family of the first character reads
 pub by_family : (f : Family) (c : ℕ) (tail : List ℕ) (read : TokenKind × List ℕ) → read ≡ scanned (read_by f c) tail → f ≡ family_of c → read ≡ scanned (past_first c) tail
@@ -33,7 +34,7 @@ table c small = get_or-map-range_with_len family_of 0 128 c c Slash small (omega
 -- no word begins with white space
 no_start : (d : ℕ) → is_whitespace d ≡ true → not (is_xid_start d) ≡ true
 unfolding unicode_ident
-no_start d e = each (λ x. not (is_xid_start x)) (0x9 ∷ 0xA ∷ 0xB ∷ 0xC ∷ 0xD ∷ 0x20 ∷ 0x85 ∷ 0x200E ∷ 0x200F ∷ 0x2028 ∷ 0x2029 ∷ []) refl d e
+no_start d e = among (λ x. not (is_xid_start x)) (0x9 ∷ 0xA ∷ 0xB ∷ 0xC ∷ 0xD ∷ 0x20 ∷ 0x85 ∷ 0x200E ∷ 0x200F ∷ 0x2028 ∷ 0x2029 ∷ []) refl d e
 
 no_space : (c : ℕ) → is_xid_start c ≡ true → is_whitespace c ≡ false
 no_space c e = by_test (is_whitespace c) refl
@@ -41,10 +42,6 @@ no_space c e = by_test (is_whitespace c) refl
     by_test : (t : Bool) → is_whitespace c ≡ t → is_whitespace c ≡ false
     by_test false f = f
     by_test true f = absurd (true≢false (sym (no_start c f) ∙ ap not e))
-
-never : (b : Bool) → (b && false) ≡ false
-never true = refl
-never false = refl
 
 module _ (c : ℕ) (wide : 128 ≤ c) where
   other : (n : ℕ) → n < 128 → (c == n) ≡ false
@@ -61,7 +58,7 @@ module _ (c : ℕ) (wide : 128 ≤ c) where
 
   module _ (starts : is_xid_start c ≡ false) (space : is_whitespace c ≡ false) where
     no_digit : is_ascii_digit c ≡ false
-    no_digit = rw (lt-leb c 57 (omega arith)) (never (nat_le 48 c))
+    no_digit = rw (lt-leb c 57 (omega arith)) (and-false (nat_le 48 c))
 
     pub wide_emoji : is_emoji c ≡ true → Emoji ≡ family_of c
     wide_emoji e = rw (other 47 (omega arith), space, begins ∙ starts, no_digit, other 39 (omega arith), other 34 (omega arith), e) refl

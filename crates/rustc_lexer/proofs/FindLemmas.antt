@@ -9,6 +9,7 @@ use Rattle.std.proofs.lemmas.List.Sums.{prefix_len_passes, prefix_len_stops}
 use Rattle.std.specs.List.{prefix_len}
 use Rattle.std.proofs.lemmas.List.{get_or-drop}
 use Rattle.std.proofs.lemmas.Str.{byte_from_char, inside_one, encodes-chars, IsCharBoundary-from_drop}
+use Rattle.std.proofs.Math.Bool.{not-not}
 use Rattle.memchr.specs.Find.{IsFirstByte, is_byte, is_byte2}
 use Rattle.rustc_lexer.specs.means.ByteRuns.{outside}
 use Rattle.rustc_lexer.specs.means.Scan.{past, run_len}
@@ -102,10 +103,6 @@ found_nowhere stops small text bytes is read h =
     sym (up_to stops small text (length text) is (subst (λ xs. IsStop stops xs (length xs)) read (no_stop stops bytes h)) ∙ drop_of_length-le text (omega arith))
 
 -- ---- a look at the first n bytes
-
-not-not : (b : Bool) → not (not b) ≡ b
-not-not true = refl
-not-not false = refl
 
 outside-others : (stops : ℕ → Bool) (xs : List ℕ) → map (outside (λ b. not (stops b))) xs ≡ map stops xs
 outside-others stops [] = refl

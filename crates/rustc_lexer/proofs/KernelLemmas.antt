@@ -6,6 +6,7 @@ use Rattle.std.proofs.lemmas.List.Folds.{prefix_len-append}
 use Rattle.std.proofs.lemmas.List.Sums.{prefix_len-le-length}
 use Rattle.std.proofs.lemmas.Bool.{cases_lt, eq-eqb, ne_eqb}
 use Rattle.std.specs.List.{prefix_len}
+use Rattle.std.proofs.Math.Bool.{not-not}
 use Rattle.rustc_lexer.specs.means.ByteRuns.{outside}
 use lib.Lanes.{chunk, mask_l}
 use lib.Count.{count_trailing_zeros}
@@ -16,10 +17,6 @@ run_bound q d i h = omega (arith, prefix_len-le-length q (drop i d), length-drop
 none_fails : (b : Bool) (n l m : ℕ) → n ≤ l → cond b (1 + n) 0 ≡ 1 + l → (n ≡ l → m ≡ 0) → cond (not b) 1 0 + 2 * m ≡ 0
 none_fails true n l m le e ih = let z = ih (omega arith) in omega arith
 none_fails false n l m le e ih = let no : ⊥ = omega arith in absurd no
-
-not-not : (b : Bool) → not (not b) ≡ b
-not-not true = refl
-not-not false = refl
 
 module _ (q : ℕ → Bool) where
   twice : (xs : List ℕ) → prefix_len (λ x. not (outside q x)) xs ≡ prefix_len q xs

@@ -4,6 +4,7 @@ use Rattle.std.specs.Char.{is_ascii_digit, encode_utf8, len_utf8}
 use Rattle.std.specs.List.{list_all}
 use Rattle.std.specs.Str.{chars, encode_utf8_all, IsUtf8}
 use Rattle.std.proofs.lemmas.Str.{length-encode, length-le-encodes}
+use Rattle.std.proofs.Math.Bool.{not-not}
 use Rattle.rustc_lexer.specs.declared.token.LiteralKind.TheVariants.{Char}
 use Rattle.rustc_lexer.specs.declared.token.TokenKind.{TokenKind}
 use Rattle.rustc_lexer.specs.declared.token.TokenKind.TheVariants.{Literal, Lifetime, RawLifetime, UnknownPrefixLifetime}
@@ -101,11 +102,7 @@ module _ (c : ℕ) (rest part end : List ℕ) (is : IsUtf8 rest) (first : part �
   emoji-is =
       let utf8 : IsUtf8 part = rw first (IsUtf8-past plain rest is) in
       shorter-by (run_len is_word (chars part)) part end utf8 (run_len_le is_word (chars part)) second
-      ∙ (ap (λ ds. ltb 0 (run_len is_word ds)) part-chars ∙ (word_more (chars rest) ∙ sym (ap not (word_all (chars rest)) ∙ twice_not (has_emoji (chars rest)))))
-    where
-      twice_not : (b : Bool) → not (not b) ≡ b
-      twice_not true = refl
-      twice_not false = refl
+      ∙ (ap (λ ds. ltb 0 (run_len is_word ds)) part-chars ∙ (word_more (chars rest) ∙ sym (ap not (word_all (chars rest)) ∙ not-not (has_emoji (chars rest)))))
 
   plain_lifetime-is : scanned (plain_lifetime c) rest ≡ scanned (past_name c (take whole (chars rest))) end
   unfolding whole

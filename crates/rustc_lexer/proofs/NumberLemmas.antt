@@ -3,6 +3,7 @@ use Rattle.std.proofs.Common.{◌≡◌, ◌≢◌, ℕ, ◌+◌, ◌==◌, ◌&
 use Rattle.std.specs.List.{list_any}
 use Rattle.std.specs.Str.{chars, IsUtf8}
 use Rattle.std.proofs.lemmas.Bool.{eqb-true, ne_eqb}
+use Rattle.std.proofs.Math.Bool.{and-true}
 use Rattle.unicode_ident.proofs.IdentLemmas.{is_xid_start-ascii}
 use Rattle.rustc_lexer.specs.declared.token.Base.{Base}
 use Rattle.rustc_lexer.specs.declared.token.Base.TheVariants.{Decimal}
@@ -19,11 +20,7 @@ next_is-first p [] e = sym e
 next_is-first p (c ∷ s) e = refl
 
 pub begins-first : (d c : ℕ) (s cs : List ℕ) → cs ≡ c ∷ s → begins (d ∷ []) cs ≡ (c == d)
-begins-first d c s cs e = ap (begins (d ∷ [])) e ∙ by_test (c == d)
-  where
-    by_test : (b : Bool) → (b && true) ≡ b
-    by_test true = refl
-    by_test false = refl
+begins-first d c s cs e = ap (begins (d ∷ [])) e ∙ and-true (c == d)
 
 -- the next character chooses
 module _ {A : Type 0} (scan other : List ℕ → A × ℕ) (text tail : List ℕ) (c : ℕ) (is : IsUtf8 text) (cs : chars text ≡ c ∷ chars tail) (at : tail ≡ past 1 text) where
@@ -69,11 +66,7 @@ is_no_fraction-zero : is_no_fraction 0 ≡ false
 is_no_fraction-zero = is_xid_start-ascii 0 (omega arith)
 
 begins_fraction-first : (c : ℕ) (s cs : List ℕ) → cs ≡ c ∷ s → begins_fraction cs ≡ ((c == 46) && not (next_is is_no_fraction s))
-begins_fraction-first c s cs e = ap begins_fraction e ∙ ap (λ b. b && not (next_is is_no_fraction s)) (by_test (c == 46))
-  where
-    by_test : (b : Bool) → (b && true) ≡ b
-    by_test true = refl
-    by_test false = refl
+begins_fraction-first c s cs e = ap begins_fraction e ∙ ap (λ b. b && not (next_is is_no_fraction s)) (and-true (c == 46))
 
 abbrev no_fraction : Base → List ℕ → LiteralKind × ℕ
 no_fraction base s = if next_is is_exponent_letter s then after 1 (float_exponent base) s else gives (Int base false) s

@@ -5,7 +5,7 @@ use Rattle.std.proofs.lemmas.Bool.{ne_eqb}
 use Rattle.rustc_lexer.specs.means.Scan.{begins, past, run_len, scanned}
 use Rattle.rustc_lexer.specs.means.Least.{one_more}
 use Rattle.rustc_lexer.specs.means.Quoted.{is_backslash, stopped, quoted, at_single_stop, is_lone, single_quoted_string}
-use Rattle.rustc_lexer.specs.laws.Seek.{seek, free_place-seek}
+use Rattle.rustc_lexer.specs.laws.Seek.{seek, free_place-seek, stopped-more}
 use Rattle.rustc_lexer.specs.laws.Scan.{run_len-stop}
 use Rattle.rustc_lexer.specs.laws.Past.{past-zero, past-past, past-two, chars-past, IsUtf8-past}
 
@@ -26,14 +26,6 @@ module _ (quote : ℕ) (test : List ℕ → Bool) where
   pub seek-start : (text : List ℕ) → IsUtf8 text → Seeking text text false
   seek-start text is = record { utf8 = is; same = ap (λ o. leaves o text) (sym (free_place-seek test (chars text))) }
 
-  stopped-more : (o : Option ℕ) (c : ℕ) (cs : List ℕ) → stopped quote (one_more o) (c ∷ cs) ≡ ((stopped quote o cs).0, suc (stopped quote o cs).1)
-  stopped-more None c cs = refl
-  stopped-more (Some n) c cs = by_quote (begins (quote ∷ []) (drop n cs)) refl
-    where
-      by_quote : (b : Bool) → begins (quote ∷ []) (drop n cs) ≡ b → stopped quote (Some (suc n)) (c ∷ cs) ≡ ((stopped quote (Some n) cs).0, suc (stopped quote (Some n) cs).1)
-      by_quote true t = rw t refl
-      by_quote false t = rw t refl
-
   module _ (text rest tail : List ℕ) (escaped : Bool) (c : ℕ) (at : Seeking text rest escaped) (reads : chars rest ≡ c ∷ chars tail) (cut : tail ≡ past 1 rest) where
     tail-is : (n : ℕ) → past (suc n) rest ≡ past n tail
     tail-is n = let one : 1 + n ≡ suc n = omega arith in ap (λ m. past m rest) (sym one) ∙ (sym (past-past n 1 rest at.utf8) ∙ ap (past n) (sym cut))
@@ -51,7 +43,7 @@ module _ (quote : ℕ) (test : List ℕ → Bool) where
     seek-on to t next =
         let opened : seek test (c ∷ chars tail) escaped ≡ one_more (seek test (chars tail) to) = rw (t, next) refl in
         let r : Bool × ℕ = stopped quote (seek test (chars tail) to) (chars tail) in
-        let more : stopped quote (one_more (seek test (chars tail) to)) (c ∷ chars tail) ≡ (r.0, suc r.1) = stopped-more (seek test (chars tail) to) c (chars tail) in
+        let more : stopped quote (one_more (seek test (chars tail) to)) (c ∷ chars tail) ≡ (r.0, suc r.1) = stopped-more quote (seek test (chars tail) to) c (chars tail) in
         record {
           utf8 = tail-utf8;
           same = ap (λ xs. (r.0, xs)) (sym (tail-is r.1)) ∙ (ap (λ (p : Bool × ℕ). (p.0, past p.1 rest)) (sym more) ∙ leaves-is (one_more (seek test (chars tail) to)) opened);

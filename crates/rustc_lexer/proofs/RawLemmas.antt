@@ -1,18 +1,20 @@
 -- The loop over the text of a raw string.
-use Rattle.std.proofs.Common.{◌≡◌, ℕ, zero, suc, ◌+◌, ◌-◌, ◌≤◌, ◌<◌, ◌==◌, ◌&&◌, max, nat_le, not, Bool, true, false, true≢false, if◌then◌else◌, List, [], ◌∷◌, length, drop, refl, sym, ap, ◌∙◌, subst, arith, Option, Some, None, Result, Err, MatchOption}
+use Rattle.std.proofs.Common.{◌≡◌, ℕ, zero, suc, ◌+◌, ◌-◌, ◌≤◌, ◌<◌, ◌==◌, ◌&&◌, max, nat_le, Bool, true, false, true≢false, if◌then◌else◌, List, [], ◌∷◌, length, drop, refl, sym, ap, ◌∙◌, subst, arith, Option, Some, None, Result, Err, MatchOption}
 use Rattle.std.specs.Char.{encode_utf8}
 use Rattle.std.specs.Str.{chars, encode_utf8_all, IsUtf8, IsCharBoundary}
-use Rattle.std.proofs.lemmas.Bool.{eqb-true, eq-eqb, ne_eqb, le-leb, lt-leb, not-false, and_parts}
+use Rattle.std.proofs.lemmas.Bool.{eqb-true, eq-eqb, ne_eqb, le-leb, lt-leb, not-false, and_parts, not-true}
 use Rattle.std.proofs.lemmas.Str.{encode_ascii, IsCharBoundary-from_drop}
+use Rattle.std.proofs.Math.Seq.{drop-length}
 use Rattle.rustc_lexer.specs.declared.token.RawStrError.{RawStrError}
 use Rattle.rustc_lexer.specs.declared.token.RawStrError.TheVariants.{NoTerminator}
 use Rattle.rustc_lexer.specs.means.Least.{one_more, more}
-use Rattle.rustc_lexer.specs.laws.Least.{place-here, place-on, more-zero, one_more-more}
+use Rattle.rustc_lexer.specs.laws.Least.{place-here, place-on, more-zero}
 use Rattle.rustc_lexer.specs.means.Raw.{least_place, is_hash, is_quote, is_no_quote, hash_run, closes, close, quote_hashes, most_hashes, quote_with, quote_if, best_quote, quote_end, hash_count, raw_closed, raw_text}
 use Rattle.rustc_lexer.specs.means.Scan.{begins, bytes_of, past, run_len, scanned}
 use Rattle.rustc_lexer.specs.laws.CharSteps.{bytes_of-suc}
 use Rattle.rustc_lexer.specs.laws.Scan.{run_len-stop, more-more}
 use Rattle.rustc_lexer.specs.laws.Past.{past-zero, past-past, past-drop, chars-past, IsUtf8-past, length-past}
+use Rattle.rustc_lexer.specs.laws.Fences.{skip_run}
 
 -- past k characters, a quote, and h characters
 more-quote : (k h : ℕ) (o : Option ℕ) → more k (one_more (more h o)) ≡ more (suc k + h) o
@@ -22,16 +24,7 @@ more-quote k h (Some n) = ap Some (omega arith)
 -- the characters of a class without quotes are passed over
 module _ (p : ℕ → Bool) (none : (c : ℕ) → p c ≡ true → is_quote c ≡ false) where
   skip-place : (test : List ℕ → Bool) → ((c : ℕ) (s : List ℕ) → is_quote c ≡ false → test (c ∷ s) ≡ false) → (s : List ℕ) → least_place test s ≡ more (run_len p s) (least_place test (drop (run_len p s) s))
-  skip-place test fails [] = refl
-  skip-place test fails (c ∷ s) = by_class (skip-place test fails s) (p c) refl
-    where
-      by_class : least_place test s ≡ more (run_len p s) (least_place test (drop (run_len p s) s)) → (b : Bool) → p c ≡ b
-          → least_place test (c ∷ s) ≡ more (run_len p (c ∷ s)) (least_place test (drop (run_len p (c ∷ s)) (c ∷ s)))
-      by_class ih true e =
-          let n : ℕ = run_len p s in
-          place-on test c s (fails c s (none c e)) ∙ (ap one_more ih
-          ∙ (one_more-more n (least_place test (drop n s)) ∙ ap (λ (b : Bool). let m : ℕ = if b then suc n else 0 in more m (least_place test (drop m (c ∷ s)))) (sym e)))
-      by_class ih false e = more-zero (least_place test (c ∷ s)) ∙ ap (λ (b : Bool). let m : ℕ = if b then suc (run_len p s) else 0 in more m (least_place test (drop m (c ∷ s)))) (sym e)
+  skip-place test fails = skip_run p test (λ c s e. fails c s (none c e))
 
   skip-most : (s : List ℕ) → most_hashes s ≡ most_hashes (drop (run_len p s) s)
   skip-most [] = refl
@@ -49,11 +42,7 @@ hash-no_quote : (c : ℕ) → is_hash c ≡ true → is_quote c ≡ false
 hash-no_quote c e = rw (eqb-true c 35 e) refl
 
 other-no_quote : (c : ℕ) → is_no_quote c ≡ true → is_quote c ≡ false
-other-no_quote c e = by_test (is_quote c) e
-  where
-    by_test : (b : Bool) → not b ≡ true → b ≡ false
-    by_test true e = sym e
-    by_test false e = refl
+other-no_quote c e = not-true (is_quote c) e
 
 -- what follows the first quote, once what follows the characters before it is known
 pub past_quote-is : {B : Type 0} (now : B → List ℕ) (rest mid : List ℕ) (o : Option B) → IsUtf8 rest → mid ≡ past (run_len is_no_quote (chars rest)) rest → length mid ≤ length rest
@@ -241,10 +230,6 @@ module _ (n before : ℕ) (text left tail next : List ℕ) (found : ℕ) (end : 
         ap (λ (r : Result ℕ RawStrError). (r, cut)) e
         ∙ (ap (λ (xs : List ℕ). (hash_count n, xs)) left_is
         ∙ ap (λ (o : Option ℕ). ((raw_closed n before (chars text) o).0, past (raw_closed n before (chars text) o).1 text)) (sym closes_here))
-
-drop-length : (s : List ℕ) → drop (length s) s ≡ []
-drop-length [] = refl
-drop-length (c ∷ s) = drop-length s
 
 past-all : (text : List ℕ) → past (length (chars text)) text ≡ []
 unfolding past

@@ -3,6 +3,7 @@ use Rattle.std.proofs.Common.{◌≡◌, ◌≢◌, ℕ, suc, ◌+◌, ◌-◌, 
 use Rattle.std.specs.Str.{chars, encode_utf8_all, IsUtf8}
 use Rattle.std.proofs.lemmas.Bool.{ne_eqb}
 use Rattle.std.proofs.lemmas.Str.{length-le-encodes}
+use Rattle.std.proofs.lemmas.List.{nil_from_length}
 use Rattle.rustc_lexer.specs.declared.lexemes.raw.RawPrefix.{RawPrefix}
 use Rattle.rustc_lexer.specs.declared.token.LiteralKind.{LiteralKind}
 use Rattle.rustc_lexer.specs.declared.token.RawStrError.{RawStrError}
@@ -123,8 +124,4 @@ unfolding past
 past-end text rest n m is e none le =
     let at_end : drop n (chars text) ≡ [] = sym (ap chars e ∙ chars-past n text is) ∙ none in
     let none_left : length (chars text) ≤ n = omega (arith, ap length at_end, length-drop n (chars text)) in
-    e ∙ (ap encode_utf8_all at_end ∙ sym (ap encode_utf8_all (empty (drop m (chars text)) (omega (arith, length-drop m (chars text))))))
-  where
-    empty : (s : List ℕ) → length s ≡ 0 → s ≡ []
-    empty [] l = refl
-    empty (c ∷ s) l = absurd (omega arith)
+    e ∙ (ap encode_utf8_all at_end ∙ sym (ap encode_utf8_all (nil_from_length (drop m (chars text)) (omega (arith, length-drop m (chars text))))))

@@ -2,6 +2,7 @@
 use Rattle.std.proofs.Common.{◌≡◌, ℕ, zero, suc, ◌+◌, ◌-◌, ◌<◌, ◌≤◌, true, false, true≢false, List, [], ◌∷◌, ◌++◌, length, take, drop, refl, sym, ap, ◌∙◌, arith, take_at, length-append, IsUtf8, IsCharBoundary, inl, inr, subst}
 use Rattle.std.proofs.lemmas.Bool.Decides.{leb_tells}
 use Rattle.std.proofs.lemmas.Str.{IsCharBoundary-from_drop, IsCharBoundary-end, IsUtf8-between}
+use Rattle.std.proofs.Math.Seq.{take-length}
 use Rattle.rustc_lexer.specs.declared.token.Token.{Token}
 use Rattle.rustc_lexer.specs.Tokens.{bound, tokens_by}
 use Rattle.rustc_lexer.specs.Locality.{has_two, AreLocal, IsSettled, StaysUpTo, IsText, IsGrammar, AgreePast}
@@ -74,12 +75,8 @@ module _ {first : List ℕ → Token} (law : IsGrammar first) (text : List ℕ) 
       let at_place : IsCharBoundary text place = subst (IsCharBoundary text) settled.at_bound.2 (boundary settled.at_bound.0).1 in
       let here : has_two text b (length text) ≡ true = has_two-mono text b place (length text) is.utf8 le (boundary (suc k)).1 at_place two in
       let middle : IsUtf8 (take (length text - b) (drop b text)) = IsUtf8-between text b (length text) is.utf8 (boundary (suc k)).0 (boundary (suc k)).1 (IsCharBoundary-end text) in
-      let agree : AgreePast b text (text ++ more) = has_two-agree text (text ++ more) b (length text) middle (take_at text more (length text) refl ∙ sym (take_at_end text)) here in
+      let agree : AgreePast b text (text ++ more) = has_two-agree text (text ++ more) b (length text) middle (take_at text more (length text) refl ∙ sym (take-length text)) here in
       tokens_local law (suc k) text (text ++ more) is its few agree
-    where
-      take_at_end : (xs : List ℕ) → take (length xs) xs ≡ xs
-      take_at_end [] = refl
-      take_at_end (x ∷ xs) = ap (λ ys. x ∷ ys) (take_at_end xs)
 
 pub local : {first : List ℕ → Token} (law : IsGrammar first) → AreLocal (tokens_by first)
 local law text other k is its few agree = tokens_local law k text other is its few agree

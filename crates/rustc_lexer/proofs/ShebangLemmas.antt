@@ -9,7 +9,7 @@ use Rattle.rustc_lexer.specs.means.Scan.{begins}
 use Rattle.rustc_lexer.specs.means.Shebang.{is_attribute, before_newline, line_len, shebang_past, shebang}
 use Rattle.rustc_lexer.specs.LanguageText.{part}
 use Rattle.rustc_lexer.specs.Tokens.{tokens_of}
-use Rattle.rustc_lexer.specs.laws.LanguageShebang.{front-is}
+use Rattle.rustc_lexer.specs.laws.LanguageShebang.{front-is, short}
 
 pub no_shebang : (s : List ℕ) → ((rest : List ℕ) → s ≢ 35 ∷ 33 ∷ rest) → None ≡ shebang s
 unfolding shebang
@@ -54,11 +54,6 @@ module _ (text : List ℕ) where
       whole : before_newline text ≡ length text → length text ≡ line_len text
       whole e = by_test (begins (codes "\r\n") (drop (length text - 1) text)) refl ∙ sym (ap line_to e)
         where
-          short : (s : List ℕ) → length s ≤ 1 → begins (codes "\r\n") s ≡ false
-          short [] le = refl
-          short (c ∷ []) le = elim (c == 13) as (λ (b : Bool). b && false ≡ false) [ true ↦ refl | false ↦ refl ]
-          short (c ∷ d ∷ s) le = absurd (omega arith)
-
           by_test : (b : Bool) → begins (codes "\r\n") (drop (length text - 1) text) ≡ b → length text ≡ line_to (length text)
           by_test true f = absurd (true≢false (sym f ∙ short (drop (length text - 1) text) (omega (arith, length-drop (length text - 1) text))))
           by_test false f = ap (λ (b : Bool). if b then length text - 1 else length text) (sym f)

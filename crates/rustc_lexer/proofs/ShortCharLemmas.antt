@@ -1,9 +1,10 @@
 -- A character that a quote closes right behind one character of ASCII, or behind a backslash and one.
-use Rattle.std.proofs.Common.{◌≡◌, ℕ, ◌+◌, ◌-◌, ◌≤◌, ◌<◌, ◌==◌, ◌||◌, Bool, true, false, List, [], ◌∷◌, ◌++◌, length, drop, codes, refl, sym, ap, ◌∙◌, arith, subst, slice_index}
+use Rattle.std.proofs.Common.{◌≡◌, ℕ, ◌+◌, ◌-◌, ◌≤◌, ◌<◌, ◌==◌, Bool, true, false, List, [], ◌∷◌, ◌++◌, length, drop, codes, refl, sym, ap, ◌∙◌, arith, subst, slice_index}
 use Rattle.std.specs.Int.{from_bool}
 use Rattle.std.specs.Str.{chars, IsUtf8, IsCharBoundary}
 use Rattle.std.proofs.lemmas.Bool.{eqb-true, lt-leb}
 use Rattle.std.proofs.lemmas.Str.{encode_ascii, IsCharBoundary-from_drop}
+use Rattle.std.proofs.Math.Bool.{or-true}
 use Rattle.unicode_ident.proofs.IdentLemmas.{is_xid_start-ascii}
 use Rattle.rustc_lexer.specs.Emoji.{is_emoji}
 use Rattle.rustc_lexer.specs.means.Lifetime.{is_name_start, is_character_at}
@@ -22,10 +23,6 @@ backslash-no_name =
     let no_letter = is_xid_start-ascii 92 (omega arith) in
     let no_emoji : is_emoji 92 ≡ false = rw (lt-leb 128 92 (omega arith)) refl in
     rw (no_letter, no_emoji) refl
-
-or-true : (b : Bool) → (b || true) ≡ true
-or-true true = refl
-or-true false = refl
 
 -- what is left past the quote
 pub record ShortChar (text left : List ℕ) : Type 0 where

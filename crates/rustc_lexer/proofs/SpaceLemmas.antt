@@ -1,29 +1,24 @@
 -- White space outside ASCII, by the first byte of it.
-use Rattle.std.proofs.Common.{◌≡◌, ℕ, ◌||◌, ◌==◌, Bool, true, false, true≢false, List, [], ◌∷◌, drop, get_or, refl, sym, ap, ◌∙◌, arith, inl, inr}
+use Rattle.std.proofs.Common.{◌≡◌, ℕ, ◌||◌, Bool, true, false, true≢false, List, [], ◌∷◌, drop, get_or, refl, sym, ap, ◌∙◌, arith}
 use Rattle.std.specs.Char.{encode_utf8}
-use Rattle.std.specs.List.{list_all, prefix_len}
+use Rattle.std.specs.List.{prefix_len}
 use Rattle.std.specs.Str.{chars, encode_utf8_all, IsUtf8}
-use Rattle.std.proofs.lemmas.Bool.{and_parts, or_cases, eqb-true}
 use Rattle.std.proofs.lemmas.List.{get_or_append_left}
 use Rattle.std.proofs.lemmas.Str.{encodes-chars, length-encode, len_utf8_bounds}
 use Rattle.rustc_lexer.specs.means.ByteRuns.{is_space_byte}
-use Rattle.rustc_lexer.specs.Classes.{is_among, is_whitespace}
+use Rattle.rustc_lexer.specs.Classes.{is_whitespace}
+use Rattle.rustc_lexer.specs.laws.LanguageRuns.{among}
 use Rattle.rustc_lexer.specs.means.Quick.{is_space_lead}
 use Rattle.rustc_lexer.specs.means.Scan.{next_is, past, run_len}
 use Rattle.rustc_lexer.proofs.BridgeLemmas.{Skips, left_there, ends_out, ends_none}
 use Rattle.rustc_lexer.proofs.PartLemmas.{space_part}
-
--- what holds of each in the list
-pub each : (f : ℕ → Bool) (ds : List ℕ) → list_all f ds ≡ true → (c : ℕ) → is_among ds c ≡ true → f c ≡ true
-each f [] all c e = absurd (true≢false (sym e))
-each f (d ∷ ds) all c e = let parts = and_parts (f d) _ all in elim (or_cases (c == d) _ e) [ inl a ↦ ap f (eqb-true c d a) ∙ parts.0 | inr g ↦ each f ds parts.1 c g ]
 
 abbrev leads : ℕ → Bool
 leads b = is_space_byte b || is_space_lead b
 
 lead_of : (c : ℕ) → is_whitespace c ≡ true → leads (get_or (encode_utf8 c) 0 0) ≡ true
 unfolding encode_utf8
-lead_of c e = each (λ d. leads (get_or (encode_utf8 d) 0 0)) (0x9 ∷ 0xA ∷ 0xB ∷ 0xC ∷ 0xD ∷ 0x20 ∷ 0x85 ∷ 0x200E ∷ 0x200F ∷ 0x2028 ∷ 0x2029 ∷ []) refl c e
+lead_of c e = among (λ d. leads (get_or (encode_utf8 d) 0 0)) (0x9 ∷ 0xA ∷ 0xB ∷ 0xC ∷ 0xD ∷ 0x20 ∷ 0x85 ∷ 0x200E ∷ 0x200F ∷ 0x2028 ∷ 0x2029 ∷ []) refl c e
 
 -- white space ends where the next byte begins none
 module _ (text left : List ℕ) (at : Skips is_space_byte is_whitespace text left) where

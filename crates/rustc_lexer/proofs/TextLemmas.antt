@@ -1,5 +1,5 @@
 -- What the kind of a token says of its own text.
-use Rattle.std.proofs.Common.{◌≡◌, ◌↔◌, ℕ, suc, ◌+◌, ◌-◌, ◌≤◌, ◌<◌, ◌==◌, ◌&&◌, not, Bool, true, false, true≢false, eqb-true, length-append, if◌then◌else◌, List, [], ◌∷◌, ◌++◌, length, take, drop, codes, refl, sym, ap, subst, ◌∙◌, arith, take_at, All, Ok, Option, Some, None, IsSome, rules, length-take}
+use Rattle.std.proofs.Common.{◌≡◌, ◌↔◌, ℕ, suc, ◌+◌, ◌-◌, ◌≤◌, ◌<◌, ◌==◌, ◌&&◌, not, Bool, true, false, true≢false, eqb-true, length-append, if◌then◌else◌, List, [], ◌∷◌, ◌++◌, length, take, drop, codes, refl, sym, ap, subst, ◌∙◌, arith, take_at, All, Ok, Option, Some, None, IsSome, length-take}
 use Rattle.std.specs.Char.{encode_utf8, len_utf8, is_ascii_digit}
 use Rattle.std.specs.List.{list_all}
 use Rattle.std.specs.Str.{chars, encode_utf8_all}
@@ -19,9 +19,9 @@ use Rattle.rustc_lexer.specs.Classes.{is_id_continue}
 use Rattle.rustc_lexer.specs.means.Comment.{slash, line_comment}
 use Rattle.rustc_lexer.specs.means.Ident.{is_word, is_prefix_mark, ident_or_unknown_prefix, invalid_ident, marks_ident}
 use Rattle.rustc_lexer.specs.LanguageText.{Mode}
-use Rattle.rustc_lexer.specs.laws.Choice.{by_test, EachArm, by_arm, at_char}
+use Rattle.rustc_lexer.specs.laws.Choice.{by_test, EachArm, by_arm, at_char, by_symbol}
 use Rattle.rustc_lexer.specs.laws.Family.{EachFamily, each_family}
-use Rattle.rustc_lexer.specs.means.Lexeme.{whitespace, letter_r, letter_k, letter_b, letter_c, raw_or_ident, raw_past_or_ident, begins_raw, is_raw_mark, letters, word, symbols, kind_among, symbol_kind, symbol, past_first, lexeme, first_token}
+use Rattle.rustc_lexer.specs.means.Lexeme.{whitespace, letter_r, letter_k, letter_b, letter_c, raw_or_ident, raw_past_or_ident, begins_raw, is_raw_mark, letters, word, symbols, symbol_kind, symbol, past_first, lexeme, first_token}
 use Rattle.rustc_lexer.specs.means.Lifetime.{is_marked, plain_lifetime, is_character, lifetime_or_char, is_raw}
 use Rattle.rustc_lexer.specs.laws.Lifetime.{raw, quoted_name, unquoted_name}
 use Rattle.rustc_lexer.specs.means.Literal.{Body, literal}
@@ -75,16 +75,8 @@ slash-tells c s = by_test (Tells c s) (begins (codes "/") s) (after 1 line_comme
 hash-tells : (c : ℕ) → TellsAll c hash
 hash-tells c s = by_test (Tells c s) (next_is is_guarded_mark s) (after 1 (gives GuardedStrPrefix) s) (gives Pound s) (λ e. silent c s _ _ refl) (λ e. silent c s _ _ refl)
 
-abbrev AreSilent : List (ℕ × TokenKind) → Type 0
-AreSilent [] = Unit {0}
-AreSilent (s ∷ ss) = (is_silent s.1 ≡ true) × AreSilent ss
-
-among-silent : (ss : List (ℕ × TokenKind)) (c : ℕ) → AreSilent ss → is_silent (kind_among ss c) ≡ true
-among-silent [] c h = refl
-among-silent (s ∷ ss) c h = by_test (λ kind. is_silent kind ≡ true) (c == s.0) s.1 (kind_among ss c) (λ e. h.0) (λ e. among-silent ss c h.1)
-
 symbol-tells : (c : ℕ) → TellsAll c (symbol c)
-symbol-tells c s = silent c s (symbol_kind c) 0 (among-silent symbols c (search rules))
+symbol-tells c s = silent c s (symbol_kind c) 0 (by_symbol is_silent symbols c refl refl)
 
 -- ---- identifiers
 

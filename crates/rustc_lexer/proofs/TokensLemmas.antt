@@ -1,11 +1,12 @@
 -- Taking the tokens of a whole text, one by one.
-use Rattle.std.proofs.Common.{◌≡◌, ℕ, zero, suc, ◌<◌, ◌≤◌, ◌==◌, true, false, true≢false, subst, List, [], ◌∷◌, length, take, drop, refl, sym, ap, ◌∙◌, arith, length-drop, take-add, All, ◌^◌, Some, rules}
+use Rattle.std.proofs.Common.{◌≡◌, ℕ, ◌<◌, ◌≤◌, ◌==◌, true, false, subst, List, [], length, take, drop, refl, sym, ap, ◌∙◌, length-drop, take-add, All, ◌^◌, Some, rules, pos_of_ne-zero}
 use Rattle.std.specs.Prelude.{⊤}
 use Rattle.std.specs.Iterator.{at_most, MakesProgress}
 use Rattle.std.specs.Str.{IsUtf8}
-use Rattle.std.proofs.lemmas.Bool.{eqb-true}
+use Rattle.std.proofs.lemmas.Bool.{eqb-true, eqb-false}
 use Rattle.std.proofs.lemmas.Str.{IsUtf8-append, IsUtf8-drop, IsUtf8-nil, IsUtf8-take, IsCharBoundary-from_take}
 use Rattle.std.proofs.lemmas.List.Elements.{All-nil, All-cons}
+use Rattle.std.proofs.lemmas.List.{nil_from_length}
 use Rattle.rustc_lexer.specs.declared.edition.Edition.{Edition}
 use Rattle.rustc_lexer.specs.declared.token.Token.{Token}
 use Rattle.rustc_lexer.specs.Tokens.{tokens_of, tokens_left, RestartsAtBounds, TakesToken}
@@ -24,10 +25,6 @@ use Rattle.rustc_lexer.specs.Locality.{IsText}
 pub restarts : (edition : Edition) (text : List ℕ) → IsText text → RestartsAtBounds edition text
 restarts edition text is k few = sym (at_bound (edition_grammar edition) k text is).rest
 
-nonzero : (n : ℕ) → (n == 0) ≡ false → 0 < n
-nonzero zero h = absurd (true≢false h)
-nonzero (suc n) h = omega arith
-
 -- what taking a token does to the tokens that are left
 pub record TakesFirst (s t : State) (token : Token) : Type 0 where
   pub takes : TakesToken s token t
@@ -37,7 +34,7 @@ pub record TakesFirst (s t : State) (token : Token) : Type 0 where
 pub takes_first : (s t : State) (token : Token) → s.pending ≡ 0 → IsText s.rest → (length s.rest == 0) ≡ false → token ≡ token_at s.mode s.rest → t ≡ past_token s.rest s.mode token → TakesFirst s t token
 takes_first s t token none is some e f =
     let first : Token = token_at s.mode s.rest in
-    let some_left : 0 < length s.rest = nonzero (length s.rest) some in
+    let some_left : 0 < length s.rest = pos_of_ne-zero (eqb-false (length s.rest) 0 some) in
     let whole = advance-some s.pending s.rest s.mode s refl some in
     let first_is : token_past s.pending first ≡ first = ap (λ n. token_past n first) none ∙ token_past-zero first in
     let state_is : t ≡ past_token s.rest s.mode first = f ∙ ap (past_token s.rest s.mode) e in
@@ -58,11 +55,7 @@ takes_first s t token none is some e f =
 
 -- where the text that is left is empty no token is
 pub none_left : (s : State) (text : List ℕ) → text ≡ s.rest → (length text == 0) ≡ true → tokens_left s ≡ []
-none_left s text rest none = ap (λ xs. tokens_of s.mode xs) (sym rest ∙ empty text none) ∙ tokens-nil s.mode
-  where
-    empty : (xs : List ℕ) → (length xs == 0) ≡ true → xs ≡ []
-    empty [] h = refl
-    empty (x ∷ xs) h = absurd (let n = eqb-true (length (x ∷ xs)) 0 h in omega arith)
+none_left s text rest none = ap (λ xs. tokens_of s.mode xs) (sym rest ∙ nil_from_length text (eqb-true (length text) 0 none)) ∙ tokens-nil s.mode
 
 -- the same where the text and how it is read are the iterator's own
 pub takes_own : (mode next : Mode) (inside text : List ℕ) (s : State) → state 0 inside mode ≡ s → text ≡ s.rest → (left : List ℕ) (token : Token) → IsUtf8 text → length text < 2 ^ 32 → (length text == 0) ≡ false

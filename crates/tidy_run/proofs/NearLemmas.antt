@@ -17,10 +17,11 @@ use Rattle.rustc_lexer.specs.Language.{ends_prefix, known_prefixes, begins_prefi
 use Rattle.rustc_lexer.specs.LiteralGrammar.{IsDoubleQuoted, IsSingleQuoted, IsRaw, IsLiteralBefore, IsSuffixBefore}
 use Rattle.rustc_lexer.specs.Spans.{AreAll, NextIsNot, is_inline}
 use Rattle.rustc_lexer.specs.laws.LanguageRuns.{none-among, begins-next}
+use Rattle.rustc_lexer.specs.laws.Choice.{by_symbol}
 use Rattle.rustc_lexer.specs.NumberGrammar as num
 use Rattle.rustc_lexer.specs.NumberGrammar.{or_underscore, is_exponent_letter, is_sign, is_no_fraction, AreDigits, IsWhole, IsExponent, IsTailBefore, IsNumberBefore, NumberStands, IsLongestNumber}
 use Rattle.rustc_lexer.specs.Spans.{begins, next_is}
-use Rattle.rustc_lexer.specs.Symbols.{symbols, kind_among, symbol_kind}
+use Rattle.rustc_lexer.specs.Symbols.{symbols, symbol_kind}
 use Rattle.tidy_run.specs.Order.{is_space, is_front, is_open_literal, is_open}
 
 -- two texts up to the first white space at which they differ: a newline stays one, and a quote comes no nearer to it; or a
@@ -162,17 +163,14 @@ near-lone (same {c} {s} {t} near) e f = ap (λ (b : Bool). c == 10 && b) (sym (n
 
 -- ---- numbers
 
+pub solid-plain : (p : ℕ → Bool) → IsSolid p → (c : ℕ) → p c ≡ true → is_whitespace c ≡ false
+solid-plain p solid c e = elim (cases_Bool (is_whitespace c)) [ inl f ↦ absurd (true≢false (sym e ∙ solid c f)) | inr f ↦ f ]
+
 digits-plain : (ds : List ℕ) → AreDigits is_ascii_digit ds → AreAll is_plain ds
 digits-plain [] all = refl
 digits-plain (d ∷ ds) all =
     let parts = and_parts (or_underscore is_ascii_digit d) _ all in
-    rw (plain-of (or_underscore is_ascii_digit) (by_list (or_underscore is_ascii_digit) refl) d parts.0) (digits-plain ds parts.1)
-  where
-    plain-of : (p : ℕ → Bool) → IsSolid p → (c : ℕ) → p c ≡ true → is_whitespace c ≡ false
-    plain-of p solid c e = elim (cases_Bool (is_whitespace c)) [ inl f ↦ absurd (true≢false (sym e ∙ solid c f)) | inr f ↦ f ]
-
-pub solid-plain : (p : ℕ → Bool) → IsSolid p → (c : ℕ) → p c ≡ true → is_whitespace c ≡ false
-solid-plain p solid c e = elim (cases_Bool (is_whitespace c)) [ inl f ↦ absurd (true≢false (sym e ∙ solid c f)) | inr f ↦ f ]
+    rw (solid-plain (or_underscore is_ascii_digit) (by_list (or_underscore is_ascii_digit) refl) d parts.0) (digits-plain ds parts.1)
 
 hexdigits-plain : (ds : List ℕ) → AreDigits is_ascii_hexdigit ds → AreAll is_plain ds
 hexdigits-plain [] all = refl
@@ -308,13 +306,7 @@ is_solid_kind kind = not (is_space kind) && (not (is_front kind) && not (is_end 
 
 -- each symbol is of such a kind
 symbol-solid : (c : ℕ) → is_solid_kind (symbol_kind c) ≡ true
-symbol-solid c = by_table symbols refl
-  where
-    by_table : (ss : List (ℕ × TokenKind)) → list_all (λ s. is_solid_kind s.1) ss ≡ true → is_solid_kind (kind_among ss c) ≡ true
-    by_table [] all = refl
-    by_table (s ∷ ss) all =
-        let parts = and_parts (is_solid_kind s.1) _ all in
-        elim (cases_Bool (c == s.0)) [ inl e ↦ rw e parts.0 | inr e ↦ rw e (by_table ss parts.1) ]
+symbol-solid c = by_symbol is_solid_kind symbols c refl refl
 
 -- the token is white space up to what follows; or it is none, and is a token before the other text too
 pub record IsSpaceRun (next : List ℕ) (kind : TokenKind) (w : List ℕ) : Type 0 where

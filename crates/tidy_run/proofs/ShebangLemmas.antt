@@ -1,6 +1,6 @@
 -- Where a text has no shebang line and no frontmatter, it is put in order: nothing stops that.
-use Rattle.std.proofs.Common.{◌≡◌, ℕ, ◌+◌, ◌<◌, ◌^◌, ◌==◌, ◌&&◌, ◌||◌, Bool, true, false, true≢false, if◌then◌else◌, List, [], ◌∷◌, ◌++◌, length, take, drop, codes, refl, sym, ap, ◌∙◌, subst, arith, length-drop, IsCharBoundary, inl, inr, Some, None}
-use Rattle.std.proofs.lemmas.Bool.{and_parts, cases_Bool, eqb-true, not-true, false_from_ne_true}
+use Rattle.std.proofs.Common.{◌≡◌, ℕ, ◌+◌, ◌<◌, ◌^◌, ◌||◌, Bool, true, false, true≢false, if◌then◌else◌, List, [], ◌∷◌, ◌++◌, length, take, drop, codes, refl, sym, ap, ◌∙◌, subst, arith, length-drop, IsCharBoundary, inl, inr, Some, None}
+use Rattle.std.proofs.lemmas.Bool.{and_parts, cases_Bool, not-true, false_from_ne_true}
 use Rattle.std.proofs.lemmas.Str.{chars-append, encodes-chars, IsUtf8-drop, IsCharBoundary-from_take}
 use Rattle.std.specs.Char.{encode_utf8}
 use Rattle.std.specs.List.{list_all}
@@ -23,22 +23,12 @@ use Rattle.rustc_lexer.specs.Locality.{IsText}
 use Rattle.rustc_lexer.specs.Tokens.{tokens_of}
 use Rattle.rustc_lexer.specs.laws.LanguageIn.{of_page}
 use Rattle.rustc_lexer.specs.laws.LanguageTokens.{language}
+use Rattle.rustc_lexer.specs.laws.LanguageShebang.{front-is, mark-utf8, no-mark}
 use Rattle.tidy_run.specs.Order.{is_space, is_open, end_parts, parts_in_order, is_front, is_no_front, space_in_order, if_kept, code_in_order, front_in_order, source_in_order, source_tidied, source_parts, parts}
 use Rattle.tidy_run.proofs.NearLemmas.{near-begins}
 use Rattle.tidy_run.proofs.SourceLemmas.{SourceLaw, source-law}
 
 -- ---- a text that begins with `#!`
-
-front-is : (s : List ℕ) → begins (codes "#!") s ≡ true → s ≡ 35 ∷ 33 ∷ drop 2 s
-front-is [] e = absurd (true≢false (sym e))
-front-is (c ∷ []) e = absurd (true≢false (sym (and_parts (c == 35) false e).1))
-front-is (c ∷ d ∷ s) e =
-    let parts = and_parts (c == 35) ((d == 33) && true) e in
-    ap (λ (x : ℕ). x ∷ d ∷ s) (eqb-true c 35 parts.0) ∙ ap (λ (x : ℕ). 35 ∷ x ∷ s) (eqb-true d 33 (and_parts (d == 33) true parts.1).0)
-
-mark-utf8 : IsUtf8 (35 ∷ 33 ∷ [])
-unfolding encode_utf8
-mark-utf8 = (35 ∷ 33 ∷ [], (refl, refl))
 
 mark-chars : chars (35 ∷ 33 ∷ []) ≡ 35 ∷ 33 ∷ []
 unfolding chars
@@ -138,10 +128,6 @@ same-attribute text other is other_is e f same =
 
 -- ---- no shebang line comes
 
-none-there : (text : List ℕ) → begins (codes "#!") text ≡ false → shebang text ≡ None
-unfolding shebang
-none-there text e = rw e refl
-
 past-there : (text : List ℕ) → begins (codes "#!") text ≡ true → shebang text ≡ shebang_past (drop 2 text)
 unfolding shebang
 past-there text e = rw e refl
@@ -156,7 +142,7 @@ no_line tail e = if_none (is_attribute (tokens_of (part E2024) tail)) (2 + line_
 pub stays-none : (text : List ℕ) → IsText text → length text + 1 < 2 ^ 32 → shebang text ≡ None → shebang (source_tidied text) ≡ None
 stays-none text is room none = elim (cases_Bool (begins (codes "#!") text)) [
   | inl e ↦ (let f = same ∙ e in past-there (source_tidied text) f ∙ (let t = same-attribute text (source_tidied text) is law.is_text e f law.same ∙ no_line (drop 2 text) (sym (past-there text e) ∙ none) in rw t refl))
-  | inr e ↦ none-there (source_tidied text) (same ∙ e)
+  | inr e ↦ no-mark (source_tidied text) (same ∙ e)
 ]
   where
     law : SourceLaw text

@@ -1,8 +1,7 @@
 -- A token in order is a token of its kind still: a comment with unix line ends, and each other one as it is.
 use Rattle.std.proofs.Common.{◌≡◌, ℕ, ◌≤◌, ◌==◌, ◌⊎◌, inl, inr, not, Bool, true, false, true≢false, List, [], ◌∷◌, ◌++◌, length, get_or, drop, codes, refl, sym, ap, ◌∙◌, subst, arith, Option}
 use lib.Utf8.{scalars}
-use Rattle.std.proofs.lemmas.Bool.{cases_Bool, and_parts, not-true}
-use Rattle.std.specs.List.{list_all}
+use Rattle.std.proofs.lemmas.Bool.{cases_Bool, not-true}
 use Rattle.std.specs.Str.{encode_utf8_all}
 use Rattle.rustc_lexer.specs.declared.token.DocStyle.{DocStyle}
 use Rattle.rustc_lexer.specs.declared.token.TokenKind.{TokenKind}
@@ -11,7 +10,8 @@ use Rattle.rustc_lexer.specs.Language as the
 use Rattle.rustc_lexer.specs.Language.{IsTokenBefore, IsLineStyle, IsBlockStyle, IsCommentRest}
 use Rattle.rustc_lexer.specs.Spans.{AreAll, NextIsNot, is_inline, bytes}
 use Rattle.rustc_lexer.specs.Spans.{begins}
-use Rattle.rustc_lexer.specs.Symbols.{symbols, kind_among, symbol_kind}
+use Rattle.rustc_lexer.specs.Symbols.{symbols, symbol_kind}
+use Rattle.rustc_lexer.specs.laws.Choice.{by_symbol}
 use Rattle.tidy_run.specs.Order.{unix_lines, text_in_order, is_open}
 use Rattle.tidy_run.proofs.NearLemmas.{Near, near-append}
 use Rattle.tidy_run.proofs.UnixLemmas.{unix-again, unix-all, unix-style, unix-rest, unix-near, unix-size, unix-scalars, unix-bytes}
@@ -44,13 +44,7 @@ no_comment kind e text = refl
 
 symbol-none : (c : ℕ) → is_comment (symbol_kind c) ≡ false
 unfolding is_comment
-symbol-none c = by_table symbols refl
-  where
-    by_table : (ss : List (ℕ × TokenKind)) → list_all (λ s. not (is_comment s.1)) ss ≡ true → is_comment (kind_among ss c) ≡ false
-    by_table [] all = refl
-    by_table (s ∷ ss) all =
-        let parts = and_parts (not (is_comment s.1)) _ all in
-        elim (cases_Bool (c == s.0)) [ inl e ↦ rw e (not-true (is_comment s.1) parts.0) | inr e ↦ rw e (by_table ss parts.1) ]
+symbol-none c = not-true _ (by_symbol (λ kind. not (is_comment kind)) symbols c refl refl)
 
 comment-or : {t : List ℕ} {kind : TokenKind} {w : List ℕ} → IsTokenBefore t kind w → IsComment t kind w ⊎ ((text : List ℕ) → text_in_order kind text ≡ text)
 comment-or (the.end none) = inr (λ text. refl)

@@ -1,5 +1,5 @@
 -- How far the tokens of an edition look, and that a year names one edition.
-use Rattle.std.proofs.Common.{◌≡◌, ℕ, suc, ◌+◌, ◌≤◌, ◌==◌, nat_le, ◌&&◌, not, Bool, true, false, true≢false, if◌then◌else◌, List, [], ◌∷◌, take, drop, codes, refl, sym, ap, ◌∙◌, arith, rules, Option, Some, None}
+use Rattle.std.proofs.Common.{◌≡◌, ℕ, suc, ◌+◌, ◌≤◌, ◌==◌, nat_le, ◌&&◌, not, Bool, true, false, true≢false, if◌then◌else◌, List, [], ◌∷◌, take, drop, codes, refl, sym, ap, ◌∙◌, arith, Option, Some, None}
 use lib.Utf8.{encode}
 use Rattle.std.proofs.lemmas.Bool.{and_parts, eqb-true}
 use Rattle.std.specs.Char.{is_ascii_digit}
@@ -19,13 +19,13 @@ use Rattle.rustc_lexer.specs.LanguageIn.{year, edition_of_year}
 use Rattle.rustc_lexer.specs.means.Edition.{token, before_2024, before_2021, first_token_in}
 use Rattle.rustc_lexer.specs.means.Hash.{is_guarded_mark, hash}
 use Rattle.rustc_lexer.specs.means.Ident.{is_word, is_prefix_mark, ident_or_unknown_prefix, marks_ident}
-use Rattle.rustc_lexer.specs.means.Lexeme.{raw_or_ident, is_raw_mark, begins_raw, raw_past_or_ident, letter_b, letters, word, symbols, kind_among, past_first, lexeme, first_token}
+use Rattle.rustc_lexer.specs.means.Lexeme.{raw_or_ident, is_raw_mark, begins_raw, raw_past_or_ident, letter_b, letters, word, symbols, past_first, lexeme, first_token}
 use Rattle.rustc_lexer.specs.means.Lifetime.{is_marked, plain_lifetime, lifetime, is_character, is_character_at, is_raw, lifetime_or_char}
 use Rattle.rustc_lexer.specs.means.Literal.{literal}
 use Rattle.rustc_lexer.specs.means.Quoted.{byte_str_body, char_body}
 use Rattle.rustc_lexer.specs.means.Scan.{IsLocal, after, and_then, begins, bytes_of, gives, next_is, read_as, run_len, token_by}
 use Rattle.rustc_lexer.specs.Locality.{IsGrammar, AgreePast}
-use Rattle.rustc_lexer.specs.laws.Choice.{by_test, EachArm, by_arm, at_char}
+use Rattle.rustc_lexer.specs.laws.Choice.{by_test, EachArm, by_arm, at_char, by_symbol}
 use Rattle.rustc_lexer.specs.laws.Family.{EachFamily, each_family}
 use Rattle.rustc_lexer.specs.laws.Lifetime.{unquoted_name, quoted_name, name_of, name_local, quoted_name_at, is_raw_told, raw, is_character_told}
 use Rattle.rustc_lexer.specs.laws.Lookahead.{first_token_grammar, families_local, LooksAtTwo}
@@ -121,14 +121,6 @@ letters-plain = (
 word-plain : (c : ℕ) → ArePlain (word c)
 word-plain c = by_arm PlainArm letters (λ c. ident_or_unknown_prefix) c letters-plain (λ none. ident-plain)
 
-abbrev AllPlain : List (ℕ × TokenKind) → Type 0
-AllPlain [] = Unit {0}
-AllPlain (s ∷ ss) = (is_plain s.1 ≡ true) × AllPlain ss
-
-among-plain : (ss : List (ℕ × TokenKind)) (c : ℕ) → AllPlain ss → is_plain (kind_among ss c) ≡ true
-among-plain [] c h = refl
-among-plain (s ∷ ss) c h = by_test (λ kind. is_plain kind ≡ true) (c == s.0) s.1 (kind_among ss c) (λ e. h.0) (λ e. among-plain ss c h.1)
-
 -- ---- a change of tokens that keeps the law
 
 -- the token of the first character `c` and of what is read past it
@@ -190,7 +182,7 @@ module _ (change : List ℕ → TokenKind → ℕ → Token) (read : TokenKind �
     of_str = λ c e. plain_arm c _ (is.of_str c e) (λ s. refl);
     of_emoji = λ c e. plain_arm c _ (is.of_emoji c e) (λ s. refl);
     of_hash = λ c e. at_char (Changed change) 35 hash hash_is c e;
-    of_symbol = λ c. plain_arm c _ (is.of_symbol c) (λ s. among-plain symbols c (search rules));
+    of_symbol = λ c. plain_arm c _ (is.of_symbol c) (λ s. by_symbol is_plain symbols c refl refl);
   }
 
   changed_first : (c : ℕ) → Changed change c (past_first c)

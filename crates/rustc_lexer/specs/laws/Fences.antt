@@ -1,7 +1,7 @@
 -- Searches of a frontmatter's closing.
-use Rattle.std.proofs.Common.{◌≡◌, ℕ, zero, suc, ◌+◌, ◌-◌, ◌<◌, ◌≤◌, ◌==◌, ◌&&◌, max, nat_lt, Bool, true, false, true≢false, if◌then◌else◌, List, [], ◌∷◌, length, take, drop, get_or, refl, sym, ap, ◌∙◌, arith, Option, Some, None, length-drop, length-take, drop-drop, take_all}
+use Rattle.std.proofs.Common.{◌≡◌, ℕ, zero, suc, ◌+◌, ◌-◌, ◌<◌, ◌≤◌, ◌==◌, ◌&&◌, max, nat_lt, Bool, true, false, true≢false, if◌then◌else◌, List, [], ◌∷◌, length, take, drop, get_or, refl, sym, ap, ◌∙◌, arith, Option, Some, None, length-drop, length-take, drop-drop, take_all, inl, inr}
 use Rattle.std.proofs.Math.ListN.{drop_of_length-le}
-use Rattle.std.proofs.lemmas.Bool.{eqb-true, eq-eqb, and_parts, lt-ltb}
+use Rattle.std.proofs.lemmas.Bool.{eqb-true, eq-eqb, and_parts, lt-ltb, cases_lt}
 use Rattle.std.proofs.lemmas.List.{get_or-drop, get_or-take}
 use Rattle.std.proofs.lemmas.List.Folds.{list_all_at}
 use Rattle.std.specs.List.{list_all}
@@ -12,7 +12,7 @@ use Rattle.rustc_lexer.specs.means.Frontmatter.{dashes, first, first_alone, is_d
 use Rattle.rustc_lexer.specs.means.Least.{least, more, one_more}
 use Rattle.rustc_lexer.specs.means.Raw.{least_place}
 use Rattle.rustc_lexer.specs.means.Scan.{begins, run_len}
-use Rattle.rustc_lexer.specs.laws.Least.{more-zero, one_more-more, place-here, place-on}
+use Rattle.rustc_lexer.specs.laws.Least.{more-zero, one_more-more, place-here, place-on, one_more-none}
 use Rattle.rustc_lexer.specs.laws.Scan.{more-more}
 
 -- a slice from a place on
@@ -116,7 +116,7 @@ line_end-some rest cut place step e at = ap (λ n. place + n) (sym (line-some cu
 
 -- places that no match begins at are passed over
 module _ (p : ℕ → Bool) (test : List ℕ → Bool) (fails : (c : ℕ) (s : List ℕ) → p c ≡ true → test (c ∷ s) ≡ false) where
-  skip_run : (s : List ℕ) → least_place test s ≡ more (run_len p s) (least_place test (drop (run_len p s) s))
+  pub skip_run : (s : List ℕ) → least_place test s ≡ more (run_len p s) (least_place test (drop (run_len p s) s))
   skip_run [] = refl
   skip_run (c ∷ s) = by_class (skip_run s) (p c) refl
     where
@@ -146,6 +146,9 @@ begins-few (suc n) (c ∷ s) less = by_test (begins-few n s) (is_dash c) refl le
     by_test : (run_len is_dash s < n → begins (dashes n) s ≡ false) → (b : Bool) → is_dash c ≡ b → (if b then suc (run_len is_dash s) else 0) < suc n → begins (dashes (suc n)) (c ∷ s) ≡ false
     by_test ih true e less = rw (e, ih (omega arith)) refl
     by_test ih false e less = rw e refl
+
+pub begins-dashes : (n : ℕ) (s : List ℕ) → begins (dashes n) s ≡ true → n ≤ run_len is_dash s
+begins-dashes n s e = elim (cases_lt (run_len is_dash s) n) [ inl few ↦ absurd (true≢false (sym e ∙ begins-few n s few)) | inr enough ↦ enough ]
 
 -- the first newline and so many dashes
 abbrev fence_at : ℕ → List ℕ → Option ℕ
@@ -225,13 +228,9 @@ module _ (pattern : List ℕ) where
   places-none place [] e = refl
   places-none place (b ∷ s) e = by_test (λ f. places-none (suc place) s f) (begins pattern (b ∷ s)) refl
     where
-      still : (o : Option ℕ) → one_more o ≡ None → o ≡ None
-      still None f = refl
-      still (Some n) f = absurd (cc)
-
       by_test : (first pattern s ≡ None → places_from pattern 0 (suc place) s ≡ []) → (t : Bool) → begins pattern (b ∷ s) ≡ t → places_from pattern 0 place (b ∷ s) ≡ []
       by_test ih true f = absurd (let at : first pattern (b ∷ s) ≡ Some 0 = place-here (begins pattern) b s f in let no : None ≡ Some 0 = sym e ∙ at in cc)
-      by_test ih false f = rw f (ih (still (first pattern s) (sym (place-on (begins pattern) b s f) ∙ e)))
+      by_test ih false f = rw f (ih (one_more-none (first pattern s) (sym (place-on (begins pattern) b s f) ∙ e)))
 
   -- a place, and those past it
   abbrev next : ℕ → List ℕ → List ℕ

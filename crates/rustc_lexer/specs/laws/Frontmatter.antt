@@ -1,5 +1,5 @@
 -- The opening of a frontmatter, and where the token ends.
-use Rattle.std.proofs.Common.{◌≡◌, ℕ, zero, suc, ◌+◌, ◌-◌, ◌<◌, ◌≤◌, ◌==◌, ◌&&◌, nat_lt, not, Bool, true, false, true≢false, inl, inr, if◌then◌else◌, List, [], ◌∷◌, ◌++◌, codes, length, take, drop, get_or, refl, sym, ap, ◌∙◌, subst, arith, Option, Some, None, All, length-append, length-drop, length-take, append_assoc}
+use Rattle.std.proofs.Common.{◌≡◌, ℕ, zero, suc, ◌+◌, ◌-◌, ◌<◌, ◌≤◌, ◌==◌, ◌&&◌, nat_lt, not, Bool, true, false, inl, inr, if◌then◌else◌, List, [], ◌∷◌, ◌++◌, codes, length, take, drop, get_or, refl, sym, ap, ◌∙◌, subst, arith, Option, Some, None, All, length-append, length-drop, length-take, append_assoc}
 use Rattle.std.specs.Char.{encode_utf8}
 use Rattle.std.specs.Str.{chars, encode_utf8_all, IsUtf8, IsCharBoundary}
 use Rattle.std.proofs.Math.Seq.{drop-append_seam}
@@ -7,6 +7,7 @@ use Rattle.std.proofs.lemmas.Bool.{cases_lt, eqb-true, and_parts, lt-ltb}
 use Rattle.std.proofs.lemmas.List.{get_or-drop}
 use Rattle.std.proofs.lemmas.List.Elements.{All-nil, All-cons, All-head, All-tail}
 use Rattle.std.proofs.lemmas.Str.{encode_ascii, byte_from_char, inside_one, length-encode, len_utf8_bounds, length-le-encodes, IsCharBoundary-end, IsCharBoundary-before_ascii, IsCharBoundary-from_rest}
+use Rattle.std.proofs.Math.Bool.{and-false}
 use Rattle.rustc_lexer.specs.declared.edition.Edition.{Edition}
 use Rattle.rustc_lexer.specs.declared.token.Token.{Token}
 use Rattle.rustc_lexer.specs.declared.token.TokenKind.TheVariants.{Frontmatter}
@@ -22,7 +23,7 @@ use Rattle.rustc_lexer.specs.means.Scan.{begins, bytes_of, next_is, past, run_le
 use Rattle.rustc_lexer.specs.State.{HasSuffixWithin}
 use Rattle.rustc_lexer.specs.means.Taking.{token_at}
 use Rattle.rustc_lexer.specs.laws.CharSteps.{bytes_of-suc}
-use Rattle.rustc_lexer.specs.laws.Fences.{begins-enough, begins-few}
+use Rattle.rustc_lexer.specs.laws.Fences.{begins-enough, begins-few, begins-dashes}
 use Rattle.rustc_lexer.specs.laws.Past.{past-zero, split_past, past-past, past-drop, chars-past, IsUtf8-past, length-past}
 
 -- past one length, and then another
@@ -137,11 +138,7 @@ module _ (text fence label : List ℕ) (is : IsUtf8 text) (fence_is : fence ≡ 
     told_so = told ∙ (ap (λ xs. nat_lt 0 place && is_newline (get_or xs (place - 1) 0)) read ∙ (ap (λ n. nat_lt 0 n && is_newline (get_or text (n - 1) 0)) at ∙ newline_before))
 
     pub opens-line : newline_there ≡ true → opens (chars text) ≡ false
-    opens-line before = ap (λ b. begins (dashes 3) (drop (spaces_len (chars text)) (chars text)) && not b) (sym told_so ∙ before) ∙ none (begins (dashes 3) (drop (spaces_len (chars text)) (chars text)))
-      where
-        none : (b : Bool) → (b && false) ≡ false
-        none true = refl
-        none false = refl
+    opens-line before = ap (λ b. begins (dashes 3) (drop (spaces_len (chars text)) (chars text)) && not b) (sym told_so ∙ before) ∙ and-false (begins (dashes 3) (drop (spaces_len (chars text)) (chars text)))
 
     pub opens-yes : newline_there ≡ false → 3 ≤ length fence - length label → opens (chars text) ≡ true
     opens-yes none enough = rw (begins-enough 3 (drop (spaces_len (chars text)) (chars text)) (omega (arith, dashes_are)), sym told_so ∙ none) refl
@@ -324,9 +321,6 @@ frontmatter-cut text is e =
       inside = let i = ends.inside in omega arith;
       boundary = IsCharBoundary-from_rest text b (closing_end (fence_len s) rest) (omega arith) (subst (λ xs. IsCharBoundary xs (closing_end (fence_len s) rest)) (sym left) (closing-boundary rest (closing_end (fence_len s) rest) ends));
     }
-  where
-    begins-dashes : (n : ℕ) (s : List ℕ) → begins (dashes n) s ≡ true → n ≤ run_len is_dash s
-    begins-dashes n s e = elim (cases_lt (run_len is_dash s) n) [ inl few ↦ absurd (true≢false (sym e ∙ begins-few n s few)) | inr enough ↦ enough ]
 
 pub frontmatter-suffix : (text : List ℕ) → HasSuffixWithin (frontmatter text)
 unfolding frontmatter

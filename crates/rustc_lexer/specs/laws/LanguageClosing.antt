@@ -3,11 +3,13 @@ use Rattle.std.proofs.Common.{◌≡◌, ℕ, zero, suc, ◌+◌, ◌-◌, ◌�
 use Rattle.std.proofs.lemmas.Bool.{and_parts, false_from_ne_true, cases_lt}
 use Rattle.std.proofs.lemmas.List.{drop_all}
 use Rattle.std.specs.List.{list_all}
+use Rattle.std.proofs.Math.Bool.{and-false}
 use Rattle.rustc_lexer.specs.Classes.{is_horizontal_whitespace}
 use Rattle.rustc_lexer.specs.means.Comment.{is_no_newline}
 use Rattle.rustc_lexer.specs.means.Frontmatter.{is_newline, dashes, first, past_newline, past_place, places_from, line_start, stands_alone, first_alone, first_some, closing_end}
 use Rattle.rustc_lexer.specs.laws.LanguageRuns.{run_len-here, run-stops, either-way}
 use Rattle.rustc_lexer.specs.laws.Reach.{begins-length, run_all, run_len_le, least-some, least-is}
+use Rattle.rustc_lexer.specs.laws.Least.{one_more-none}
 use Rattle.rustc_lexer.specs.FrontmatterGrammar as the
 use Rattle.rustc_lexer.specs.FrontmatterGrammar.{fence, IsFirst, IsNowhere, LineOf, line, IsBlankBefore, from_start, from_line, IsLone, NoFence, NoRust, EndsAt}
 use Rattle.rustc_lexer.specs.Spans.{AreAll}
@@ -24,14 +26,10 @@ none-least : (test : ℕ → Bool) (count : ℕ) → least test count ≡ None �
 none-least test zero e i lt = absurd (omega arith)
 none-least test (suc count) e i lt = by_test (test 0) refl (none-least (λ i. test (suc i)) count) i lt
   where
-    no_more : (o : Option ℕ) → one_more o ≡ None → o ≡ None
-    no_more None e = refl
-    no_more (Some m) e = absurd (cc)
-
     by_test : (b : Bool) → test 0 ≡ b → (least (λ i. test (suc i)) count ≡ None → (i : ℕ) → i < count → test (suc i) ≡ false) → (i : ℕ) → i < suc count → test i ≡ false
     by_test true f ih i lt = absurd (let found : Some 0 ≡ None = sym (rw f refl) ∙ e in cc)
     by_test false f ih zero lt = f
-    by_test false f ih (suc i) lt = ih (no_more (least (λ i. test (suc i)) count) (sym (rw f refl) ∙ e)) i (omega arith)
+    by_test false f ih (suc i) lt = ih (one_more-none (least (λ i. test (suc i)) count) (sym (rw f refl) ∙ e)) i (omega arith)
 
 module _ (c : ℕ) (cs : List ℕ) where
   stands-inside : (s : List ℕ) (i : ℕ) → begins (c ∷ cs) (drop i s) ≡ true → i < length s
@@ -243,11 +241,7 @@ closing-is n s f g u d a l ef eg eu ed ea el =
 -- where three dashes begin nothing, no more of them do
 no-more : (n : ℕ) (s : List ℕ) → 3 ≤ n → begins (fence 3) s ≡ false → begins (fence n) s ≡ false
 no-more (suc (suc (suc n))) [] le none = refl
-no-more (suc (suc (suc n))) (a ∷ []) le none = by_first (a == 45)
-  where
-    by_first : (b : Bool) → (b && false) ≡ false
-    by_first true = refl
-    by_first false = refl
+no-more (suc (suc (suc n))) (a ∷ []) le none = and-false (a == 45)
 no-more (suc (suc (suc n))) (a ∷ b ∷ []) le none = by_two (a == 45) (b == 45)
   where
     by_two : (p q : Bool) → (p && (q && false)) ≡ false

@@ -1,6 +1,6 @@
 -- Comments, white space and symbols are in their languages, and what is there is read so.
 use Rattle.std.proofs.Common.{◌≡◌, ℕ, suc, ◌+◌, ◌≤◌, ◌==◌, ◌&&◌, ◌||◌, not, Bool, true, false, true≢false, if◌then◌else◌, List, [], ◌∷◌, ◌++◌, length, take, drop, codes, refl, sym, ap, ◌∙◌, subst, arith, append_assoc, length-append, length-take-le, take-add, take-append-drop, take_all, Option, Some, None}
-use Rattle.std.proofs.Math.Seq.{take-append_seam, drop-append_seam}
+use Rattle.std.proofs.Math.Seq.{take-append_seam, drop-append_seam, drop-length}
 use Rattle.std.proofs.lemmas.Bool.{and_parts, eqb-true, or_parts, or_from}
 use Rattle.std.proofs.lemmas.List.{append-nil}
 use Rattle.rustc_lexer.specs.declared.token.DocStyle.{DocStyle}
@@ -189,10 +189,6 @@ block-style-is (neither {w} stop) = by_first w stop
     by_first : (w : List ℕ) → NextNotIn (42 ∷ 33 ∷ []) w → block_doc_style w ≡ None
     by_first [] stop = refl
     by_first (c ∷ s) stop = let parts = or_parts (c == 42) _ stop in let more = or_parts (c == 33) _ parts.1 in rw (parts.0, more.0) refl
-
-pub drop-length : (s : List ℕ) → drop (length s) s ≡ []
-drop-length [] = refl
-drop-length (c ∷ s) = drop-length s
 
 block-sound : (s : List ℕ) → IsTokenBefore (drop (block_comment s).1 s) (block_comment s).0 (47 ∷ 42 ∷ take (block_comment s).1 s)
 block-sound s = by_end (comment_end s) refl

@@ -2,11 +2,10 @@
 use Rattle.std.proofs.Common.{◌≡◌, ℕ, ◌<◌, ◌≤◌, List, [], ◌∷◌, ◌++◌, length, take, drop, refl, sym, ap, ◌∙◌, arith, take_at, drop_at, length-append}
 use lib.Utf8.{scalars}
 use Rattle.std.proofs.Math.Seq.{take-append_seam, drop-append_seam}
-use Rattle.std.proofs.lemmas.Str.{chars-nil, chars-encodes, encodes-append, encodes-chars, length-le-encodes, scalars-chars}
+use Rattle.std.proofs.lemmas.Str.{chars-encodes, encodes-append, encodes-chars, length-le-encodes, scalars-chars}
 use Rattle.std.specs.Str.{chars, encode_utf8_all, IsUtf8}
 use Rattle.rustc_lexer.specs.declared.token.Token.{Token}
 use Rattle.rustc_lexer.specs.declared.token.TokenKind.{TokenKind}
-use Rattle.rustc_lexer.specs.declared.token.TokenKind.TheVariants.{Eof}
 use Rattle.rustc_lexer.specs.laws.Language.{token-read}
 use Rattle.rustc_lexer.specs.laws.TokenBy.{scalars-take, scalars-drop}
 use Rattle.rustc_lexer.specs.Language.{IsTokenBefore}
@@ -51,7 +50,3 @@ first-is {next} {kind} {c} {w} p text e =
     ap (λ (cs : List ℕ). let t : Token = record { kind = (lexeme cs).0; len = bytes_of (lexeme cs).1 cs } in t) e
     ∙ (ap (λ (r : TokenKind × ℕ). let t : Token = record { kind = r.0; len = bytes_of r.1 (c ∷ w ++ next) } in t) (token-read p)
     ∙ ap (λ (u : List ℕ). let t : Token = record { kind = kind; len = bytes (c ∷ u) } in t) (take-append_seam w next))
-
-pub first_token-empty : first_token [] ≡ record { kind = Eof; len = 0 }
-unfolding first_token
-first_token-empty = ap (λ (cs : List ℕ). let t : Token = record { kind = (lexeme cs).0; len = bytes_of (lexeme cs).1 cs } in t) chars-nil

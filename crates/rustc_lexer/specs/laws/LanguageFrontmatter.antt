@@ -6,7 +6,8 @@ use Rattle.unicode_ident.proofs.Computing.{unicode_ident}
 use Rattle.rustc_lexer.specs.Classes.{is_among, is_whitespace, is_horizontal_whitespace, is_id_start}
 use Rattle.rustc_lexer.specs.means.Frontmatter.{is_dash, dashes, then_len, spaces_len, fence_len, blanks_len, is_infostring, infostring_len, label_len, opening_len, ends_line, opens}
 use Rattle.rustc_lexer.specs.laws.LanguageRuns.{run_len-here, run-stops, either-way, none-among}
-use Rattle.rustc_lexer.specs.laws.Reach.{run_all, run_len-in, run_len-out}
+use Rattle.rustc_lexer.specs.laws.Reach.{run_all, run_len-out}
+use Rattle.rustc_lexer.specs.laws.Fences.{begins-dashes}
 use Rattle.rustc_lexer.specs.FrontmatterGrammar as the
 use Rattle.rustc_lexer.specs.FrontmatterGrammar.{is_info, fence, IsLabelBefore, IsOpeningBefore, OpensNone}
 use Rattle.rustc_lexer.specs.Spans.{AreAll, NextIsNot}
@@ -63,13 +64,6 @@ three-begin zero v le = absurd (omega arith)
 three-begin (suc zero) v le = absurd (omega arith)
 three-begin (suc (suc zero)) v le = absurd (omega arith)
 three-begin (suc (suc (suc n))) v le = refl
-
-begin-run : (n : ℕ) (s : List ℕ) → begins (dashes n) s ≡ true → n ≤ run_len is_dash s
-begin-run zero s e = omega arith
-begin-run (suc n) [] e = absurd (true≢false (sym e))
-begin-run (suc n) (c ∷ s) e =
-    let parts = and_parts (c == 45) (begins (dashes n) s) e in
-    omega (arith, run_len-in is_dash c s parts.0, begin-run n s parts.1)
 
 dash-stops : (s : List ℕ) → NextIsNot (is_among (codes "-")) s → NextIsNot is_dash s
 dash-stops [] e = refl
@@ -209,7 +203,7 @@ opened s e =
       front = space ++ (fence n ++ l.label);
       rest = l.rest;
       whole = append_assoc space (fence n ++ l.label) l.rest ∙ (ap (λ (xs : List ℕ). space ++ xs) (append_assoc (fence n) l.label l.rest ∙ (ap (λ (xs : List ℕ). fence n ++ xs) l.whole ∙ fenced)) ∙ take-append-drop (spaces_len s) s);
-      is = the.opening n space l.label (run_all is_whitespace s) (λ u f. either-way (ends_line space) (ap ends_line f ∙ line-ends u) no_line) (begin-run 3 r parts.0) l.is (stops-dash (l.label ++ l.rest) stop);
+      is = the.opening n space l.label (run_all is_whitespace s) (λ u f. either-way (ends_line space) (ap ends_line f ∙ line-ends u) no_line) (begins-dashes 3 r parts.0) l.is (stops-dash (l.label ++ l.rest) stop);
     }
 
 -- none opens, said in both ways

@@ -4,6 +4,7 @@ use Rattle.std.proofs.Math.Nat.{min-le_left, min-le_right, min-eq_left, min-eq_r
 use Rattle.std.proofs.Math.Seq.{take-append_seam, drop-append_seam}
 use Rattle.std.proofs.lemmas.Bool.{cases_lt, eqb-true, or_from}
 use Rattle.std.specs.Str.{chars}
+use Rattle.std.proofs.Math.Bool.{or-false}
 use Rattle.rustc_lexer.specs.declared.token.GuardedStr.{GuardedStr}
 use Rattle.rustc_lexer.specs.Classes.{is_among}
 use Rattle.rustc_lexer.specs.means.Guarded as spec
@@ -28,11 +29,7 @@ use Rattle.rustc_lexer.specs.laws.LanguageRuns.{run-stops}
 
 same-class : (s : List ℕ) → next_is (is_among (codes "#")) s ≡ next_is is_hash s
 same-class [] = refl
-same-class (c ∷ s) = by_bool (c == 35)
-  where
-    by_bool : (b : Bool) → (b || false) ≡ b
-    by_bool true = refl
-    by_bool false = refl
+same-class (c ∷ s) = or-false (c == 35)
 
 no-hash : (s : List ℕ) → NextIsNot (is_among (codes "\"#")) s → NextIsNot is_hash s
 no-hash [] e = refl

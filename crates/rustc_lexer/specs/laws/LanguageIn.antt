@@ -1,8 +1,8 @@
 -- The token at the front of a text in an edition is the one that its language has there.
-use Rattle.std.proofs.Common.{◌≡◌, ℕ, ◌+◌, ◌<◌, ◌≤◌, ◌==◌, ◌||◌, nat_le, Bool, true, false, true≢false, List, [], ◌∷◌, ◌++◌, length, take, drop, codes, refl, sym, ap, ◌∙◌, subst, arith, rules, take-append-drop}
+use Rattle.std.proofs.Common.{◌≡◌, ℕ, ◌+◌, ◌<◌, ◌≤◌, ◌==◌, nat_le, Bool, true, false, true≢false, List, [], ◌∷◌, ◌++◌, length, take, drop, codes, refl, sym, ap, ◌∙◌, subst, arith, take-append-drop}
 use lib.Utf8.{encode}
 use Rattle.std.proofs.Math.Seq.{take-append_seam}
-use Rattle.std.proofs.lemmas.Bool.{and_parts, leb-true, leb-false}
+use Rattle.std.proofs.lemmas.Bool.{and_parts, leb-true, leb-false, eqb-true}
 use Rattle.std.specs.List.{list_all}
 use Rattle.std.specs.Str.{chars}
 use Rattle.rustc_lexer.specs.declared.edition.Edition.{Edition}
@@ -14,18 +14,19 @@ use Rattle.rustc_lexer.specs.Classes.{is_among, is_id_start, is_id_continue, is_
 use Rattle.rustc_lexer.specs.LanguageIn.{year, kept_since, IsTokenIn, kept, pound, ident, lifetime, lifetime_r}
 use Rattle.rustc_lexer.specs.means.Edition.{token, has_marked_name, before_2024, before_2021, changed, first_token_in}
 use Rattle.rustc_lexer.specs.Language as the
-use Rattle.rustc_lexer.specs.Spans.{is_word_continue, is_word_start, begins_ident_after, AreAll, NextIs, NextIsNot, bytes}
+use Rattle.rustc_lexer.specs.Spans.{is_word_continue, is_word_start, begins_ident_after, AreAll, NextIs, bytes}
 use Rattle.rustc_lexer.specs.Language.{is_bad_name, IsTokenBefore}
 use Rattle.rustc_lexer.specs.LanguageHolds.{NewestIsPage}
-use Rattle.rustc_lexer.specs.means.Lexeme.{past_first, lexeme, first_token, symbols, kind_among, symbol_kind}
+use Rattle.rustc_lexer.specs.means.Lexeme.{past_first, lexeme, first_token, symbols, symbol_kind}
 use Rattle.rustc_lexer.specs.means.Scan.{bytes_of, next_is, run_len}
 use Rattle.rustc_lexer.specs.Locality.{IsText}
-use Rattle.rustc_lexer.specs.laws.Choice.{by_test}
+use Rattle.rustc_lexer.specs.laws.Choice.{by_test, by_symbol}
 use Rattle.rustc_lexer.specs.laws.Edition.{oldest}
 use Rattle.rustc_lexer.specs.laws.Language.{lexeme-sound}
-use Rattle.rustc_lexer.specs.laws.LanguageRuns.{mark-stops, run_len-here}
+use Rattle.rustc_lexer.specs.laws.LanguageRuns.{run_len-here}
 use Rattle.rustc_lexer.specs.laws.LanguageWords.{marked-sound}
 use Rattle.rustc_lexer.specs.laws.LanguageFront.{empty-text, first-is}
+use Rattle.rustc_lexer.specs.laws.LanguageLifetimes.{hash-stops}
 
 -- ---- what an edition keeps
 
@@ -64,16 +65,8 @@ data View (next : List ℕ) : TokenKind → List ℕ → Type 0 where
   prefix : {w : List ℕ} → View next UnknownPrefix w
   other : {kind : TokenKind} {w : List ℕ} → kept_since kind ≡ 2015 → View next kind w
 
-abbrev AllOld : List (ℕ × TokenKind) → Type 0
-AllOld [] = Unit {0}
-AllOld (s ∷ ss) = (kept_since s.1 ≡ 2015) × AllOld ss
-
-among-old : (ss : List (ℕ × TokenKind)) (c : ℕ) → AllOld ss → kept_since (kind_among ss c) ≡ 2015
-among-old [] c h = refl
-among-old (s ∷ ss) c h = by_test (λ kind. kept_since kind ≡ 2015) (c == s.0) s.1 (kind_among ss c) (λ e. h.0) (λ e. among-old ss c h.1)
-
 symbol-old : (c : ℕ) → kept_since (symbol_kind c) ≡ 2015
-symbol-old c = among-old symbols c (search rules)
+symbol-old c = eqb-true _ 2015 (by_symbol (λ kind. kept_since kind == 2015) symbols c refl refl)
 
 view : {next : List ℕ} {kind : TokenKind} {w : List ℕ} → IsTokenBefore next kind w → View next kind w
 view (the.end none) = other refl
@@ -96,18 +89,10 @@ view (the.pound stop) = other refl
 view (the.guarded_prefix is) = cut_hash
 view (the.symbol {c} is) = other (symbol-old c)
 
-hash-mark : (s : List ℕ) → NextIs (is_among (codes "#")) s → NextIsNot is_word_continue s
-hash-mark [] e = refl
-hash-mark (c ∷ s) e = mark-stops (c ∷ s) (by_bool (c == 35) e)
-  where
-    by_bool : (b : Bool) → (b || false) ≡ true → (b || is_among (codes "\"'") c) ≡ true
-    by_bool true e = refl
-    by_bool false e = absurd (true≢false (sym e))
-
 -- whether a name is marked
 name-marked : (c : ℕ) (w next : List ℕ) → AreAll is_word_continue w → NextIs (is_among (codes "#")) next → has_marked_name (39 ∷ c ∷ w ++ next) ≡ is_bad_name (c ∷ w)
 name-marked c w next all hash =
-    ap (λ (n : ℕ). is_bad_name (c ∷ take n (w ++ next))) (run_len-here is_word_continue w next all (hash-mark next hash))
+    ap (λ (n : ℕ). is_bad_name (c ∷ take n (w ++ next))) (run_len-here is_word_continue w next all (hash-stops next hash))
     ∙ ap (λ (v : List ℕ). is_bad_name (c ∷ v)) (take-append_seam w next)
 
 lifetime-marked : {next : List ℕ} {kind : TokenKind} {c : ℕ} {w : List ℕ} → View next kind (39 ∷ c ∷ w) → kind ≡ UnknownPrefixLifetime → has_marked_name (39 ∷ c ∷ w ++ next) ≡ is_bad_name (c ∷ w)

@@ -1,10 +1,11 @@
 -- Characters and lifetimes are in their languages, and what is there is read so.
 use Rattle.std.proofs.Common.{◌≡◌, ℕ, zero, suc, ◌+◌, ◌==◌, ◌&&◌, ◌||◌, not, Bool, true, false, true≢false, if◌then◌else◌, List, [], ◌∷◌, ◌++◌, length, take, drop, codes, refl, sym, ap, ◌∙◌, subst, arith, append_assoc, length-append, take-append-drop, take-add}
 use Rattle.std.proofs.Math.Seq.{take-append_seam, drop-append_seam}
-use Rattle.std.proofs.lemmas.Bool.{and_parts, eqb-true, or_parts, or_left, false_from_ne_true}
+use Rattle.std.proofs.lemmas.Bool.{and_parts, eqb-true, or_parts, or_left, false_from_ne_true, not-false}
 use Rattle.std.specs.Char.{is_ascii_digit}
 use Rattle.std.specs.List.{list_all}
 use Rattle.std.specs.Str.{encode_utf8_all}
+use Rattle.std.proofs.Math.Bool.{or-true}
 use Rattle.unicode_ident.proofs.Computing.{unicode_ident}
 use Rattle.rustc_lexer.specs.declared.token.LiteralKind.TheVariants.{Char}
 use Rattle.rustc_lexer.specs.declared.token.TokenKind.{TokenKind}
@@ -95,7 +96,7 @@ hash-mark c e = or_left (c == 35) _ (hash c e)
     hash : (c : ℕ) → is_among (codes "#") c ≡ true → (c == 35) ≡ true
     hash c e = by_bool (c == 35) e
 
-hash-stops : (next : List ℕ) → NextIs (is_among (codes "#")) next → NextIsNot is_word_continue next
+pub hash-stops : (next : List ℕ) → NextIs (is_among (codes "#")) next → NextIsNot is_word_continue next
 hash-stops [] e = refl
 hash-stops (c ∷ s) e = mark-stops (c ∷ s) (hash-mark c e)
 
@@ -195,11 +196,7 @@ raw-lifetime c s e =
 pub lifetime-sound : (c : ℕ) (s : List ℕ) → is_character c s ≡ false → Sound 39 (c ∷ s) ((lifetime c s).0, suc (lifetime c s).1)
 lifetime-sound c s e =
     let parts = or_parts (begins (codes "'") s) (not (is_name_start c)) e in
-    by_test (IsLifetime c s) (is_raw c s) (raw s) (plain_lifetime c s) (raw-lifetime c s) (name-sound c s (by_not (is_name_start c) parts.1) parts.0)
-  where
-    by_not : (b : Bool) → not b ≡ false → b ≡ true
-    by_not true e = refl
-    by_not false e = absurd (true≢false e)
+    by_test (IsLifetime c s) (is_raw c s) (raw s) (plain_lifetime c s) (raw-lifetime c s) (name-sound c s (not-false (is_name_start c) parts.1) parts.0)
 
 -- ---- characters
 
@@ -238,11 +235,7 @@ quote-sound (c ∷ s) = by_test (Sound 39 (c ∷ s)) (is_character c s) (literal
 -- what begins no name is a character
 quote-char : (s : List ℕ) → NextIsNot is_name_start s → lifetime_or_char s ≡ literal char_body s
 quote-char [] e = refl
-quote-char (c ∷ s) e = rw (e, or_true (begins (codes "'") s)) refl
-  where
-    or_true : (b : Bool) → (b || true) ≡ true
-    or_true true = refl
-    or_true false = refl
+quote-char (c ∷ s) e = rw (e, or-true (begins (codes "'") s)) refl
 
 -- a character that begins none
 at-stops : (d : ℕ) (next : List ℕ) → is_name_start d ≡ false → NextIn (d ∷ []) next → NextIsNot is_name_start next
@@ -253,33 +246,20 @@ empty-or : (w next : List ℕ) → NextIsNot is_name_start w → NextIsNot is_na
 empty-or [] next e f = f
 empty-or (c ∷ w) next e f = e
 
+end-stops : (d : ℕ) (end next : List ℕ) {w : List ℕ} → lit.SingleTo (d ∷ end) w → NextIsNot is_name_start w → NextIsNot is_name_start (w ++ next)
+end-stops d end next ends e = e
+end-stops d end next (plain out q) e = e
+end-stops d end next (escape q) e = e
+
 -- nor does what follows it, if it is empty
 next-stops : {next : List ℕ} {t : Bool} {w : List ℕ} → IsSingleQuoted next t w → NextIsNot is_name_start w → NextIsNot is_name_start (w ++ next)
 next-stops {next} (lit.one out) e = e
-next-stops {next} (lit.closed {w} q none) e = by_end q e
-  where
-    by_end : {w : List ℕ} → lit.SingleTo (39 ∷ []) w → NextIsNot is_name_start w → NextIsNot is_name_start (w ++ next)
-    by_end ends e = e
-    by_end (plain out q) e = e
-    by_end (escape q) e = e
-next-stops {next} (lit.closed_line {w} q) e = by_end q e
-  where
-    by_end : {w : List ℕ} → lit.SingleTo (10 ∷ 39 ∷ []) w → NextIsNot is_name_start w → NextIsNot is_name_start (w ++ next)
-    by_end ends e = e
-    by_end (plain out q) e = e
-    by_end (escape q) e = e
+next-stops {next} (lit.closed {w} q none) e = end-stops 39 [] next q e
+next-stops {next} (lit.closed_line {w} q) e = end-stops 10 (39 ∷ []) next q e
 next-stops {next} (lit.at_slash {w} q at none) e = empty-or w next e (at-stops 47 next backslash-none.1 at)
 next-stops {next} (lit.at_newline {w} q at none) e = empty-or w next e (at-stops 10 next backslash-none.2 at)
-next-stops {next} (lit.unclosed {w} none q) e = subst (λ (xs : List ℕ). NextIsNot is_name_start (w ++ xs)) (sym none) (alone w e)
-  where
-    alone : (w : List ℕ) → NextIsNot is_name_start w → NextIsNot is_name_start (w ++ [])
-    alone [] e = refl
-    alone (c ∷ w) e = e
-next-stops {next} (lit.unclosed_escape {w} none q) e = subst (λ (xs : List ℕ). NextIsNot is_name_start (w ++ xs)) (sym none) (alone w e)
-  where
-    alone : (w : List ℕ) → NextIsNot is_name_start w → NextIsNot is_name_start (w ++ [])
-    alone [] e = refl
-    alone (c ∷ w) e = e
+next-stops {next} (lit.unclosed {w} none q) e = subst (λ (xs : List ℕ). NextIsNot is_name_start (w ++ xs)) (sym none) (empty-or w [] e refl)
+next-stops {next} (lit.unclosed_escape {w} none q) e = subst (λ (xs : List ℕ). NextIsNot is_name_start (w ++ xs)) (sym none) (empty-or w [] e refl)
 
 abbrev char_of : Bool × ℕ → Body × ℕ
 char_of r = (record { kind = Char r.0; takes_suffix = r.0 }, r.1)

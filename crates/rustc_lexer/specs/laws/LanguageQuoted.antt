@@ -1,7 +1,8 @@
 -- Quoted text is in its language, and what is there is read so.
-use Rattle.std.proofs.Common.{◌≡◌, ℕ, zero, suc, ◌+◌, ◌≤◌, ◌==◌, ◌&&◌, ◌||◌, ◌⊎◌, inl, inr, not, Bool, true, false, true≢false, List, [], ◌∷◌, ◌++◌, length, take, drop, codes, refl, sym, ap, ◌∙◌, subst, arith, append_assoc, length-append, Option, Some, None}
+use Rattle.std.proofs.Common.{◌≡◌, ℕ, zero, suc, ◌+◌, ◌≤◌, ◌==◌, ◌&&◌, ◌||◌, ◌⊎◌, inl, inr, not, Bool, true, false, true≢false, List, [], ◌∷◌, ◌++◌, length, take, drop, codes, refl, sym, ap, ◌∙◌, subst, arith, append_assoc, length-append, Some, None}
 use Rattle.std.proofs.lemmas.Bool.{and_parts, eqb-true, or_parts, or_cases}
 use Rattle.std.proofs.lemmas.List.{append-nil}
+use Rattle.std.proofs.Math.Bool.{and-false}
 use Rattle.rustc_lexer.specs.Classes.{is_among}
 use Rattle.rustc_lexer.specs.laws.LanguageRuns.{begins-next, either-way, pair, parted}
 use Rattle.rustc_lexer.specs.LiteralGrammar as lit
@@ -9,7 +10,7 @@ use Rattle.rustc_lexer.specs.LiteralGrammar.{QuotedTo, ends, plain, escape, Sing
 use Rattle.rustc_lexer.specs.means.Least.{one_more}
 use Rattle.rustc_lexer.specs.means.Quoted.{is_backslash, stopped, quoted, at_double_quote, double_quoted_string, at_single_stop, is_lone, single_quoted_string}
 use Rattle.rustc_lexer.specs.means.Scan.{begins}
-use Rattle.rustc_lexer.specs.laws.Seek.{seek, free_place-seek}
+use Rattle.rustc_lexer.specs.laws.Seek.{seek, free_place-seek, stopped-more}
 
 -- ---- one pass
 
@@ -21,24 +22,16 @@ module _ (quote : ℕ) (test : List ℕ → Bool) (special : ℕ → Bool) (at_e
   passed : (s : List ℕ) → quoted quote test s ≡ pass s
   passed s = ap (λ o. stopped quote o s) (free_place-seek test s)
 
-  stopped-more : (o : Option ℕ) (c : ℕ) (s : List ℕ) → stopped quote (one_more o) (c ∷ s) ≡ ((stopped quote o s).0, suc (stopped quote o s).1)
-  stopped-more None c s = refl
-  stopped-more (Some n) c s = by_quote (begins (quote ∷ []) (drop n s)) refl
-    where
-      by_quote : (b : Bool) → begins (quote ∷ []) (drop n s) ≡ b → stopped quote (Some (suc n)) (c ∷ s) ≡ ((stopped quote (Some n) s).0, suc (stopped quote (Some n) s).1)
-      by_quote true t = rw t refl
-      by_quote false t = rw t refl
-
   pass-plain : (c : ℕ) (s : List ℕ) → special c ≡ false → pass (c ∷ s) ≡ ((pass s).0, suc (pass s).1)
   pass-plain c s e =
       let found : seek test (c ∷ s) false ≡ one_more (seek test s false) = rw (goes c s e, straight c e) refl in
-      ap (λ o. stopped quote o (c ∷ s)) found ∙ stopped-more (seek test s false) c s
+      ap (λ o. stopped quote o (c ∷ s)) found ∙ stopped-more quote (seek test s false) c s
 
   pass-escape : (c : ℕ) (s : List ℕ) → pass (92 ∷ c ∷ s) ≡ ((pass s).0, suc (suc (pass s).1))
   pass-escape c s =
       let found : seek test (92 ∷ c ∷ s) false ≡ one_more (one_more (seek test s false)) = rw (slashed (c ∷ s)) refl in
       ap (λ o. stopped quote o (92 ∷ c ∷ s)) found
-      ∙ (stopped-more (one_more (seek test s false)) 92 (c ∷ s) ∙ ap (λ (r : Bool × ℕ). let q : Bool × ℕ = (r.0, suc r.1) in q) (stopped-more (seek test s false) c s))
+      ∙ (stopped-more quote (one_more (seek test s false)) 92 (c ∷ s) ∙ ap (λ (r : Bool × ℕ). let q : Bool × ℕ = (r.0, suc r.1) in q) (stopped-more quote (seek test s false) c s))
 
   pass-slash : pass (92 ∷ []) ≡ (false, 1)
   pass-slash = let found : seek test (92 ∷ []) false ≡ None = rw (slashed []) refl in ap (λ o. stopped quote o (92 ∷ [])) found
@@ -170,10 +163,6 @@ by-lone w next t lone reads = by_test (is_lone (w ++ next)) refl
 -- the character that stands there is no quote
 no-quote : (c : ℕ) → is_single c ≡ false → (c == 39) ≡ false
 no-quote c e = (or_parts (c == 39) _ e).0
-
-and-false : (b : Bool) → (b && false) ≡ false
-and-false true = refl
-and-false false = refl
 
 -- where one character and a quote begin what a quote closes, these are all of it
 second-quote : {w : List ℕ} → SingleTo (39 ∷ []) w → (next : List ℕ) → begins (39 ∷ []) (w ++ next) ≡ true → length w ≡ 1

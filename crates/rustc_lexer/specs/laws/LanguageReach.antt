@@ -7,6 +7,7 @@ use Rattle.std.proofs.lemmas.List.{append-nil}
 use Rattle.std.specs.Char.{is_ascii_digit}
 use Rattle.std.specs.List.{list_all, list_any}
 use Rattle.std.specs.Option.{is_some}
+use Rattle.std.proofs.Math.Bool.{and-false}
 use Rattle.rustc_lexer.specs.Classes.{is_id_start, is_id_continue, is_ident}
 use Rattle.unicode_ident.proofs.Computing.{unicode_ident}
 use Rattle.rustc_lexer.specs.declared.token.Base.{Base}
@@ -28,8 +29,8 @@ use Rattle.rustc_lexer.specs.NumberGrammar.{IsExponent, IsTailBefore, IsNumberBe
 use Rattle.rustc_lexer.specs.means.Scan.{IsLocalAt, begins, next_is}
 use Rattle.rustc_lexer.specs.Spans.{AreAll, NextIs, NextIsNot, is_word_continue, is_name_start, begins_ident_after}
 use Rattle.rustc_lexer.specs.laws.Language.{language, token-read}
-use Rattle.rustc_lexer.specs.Symbols.{symbols, kind_among}
-use Rattle.rustc_lexer.specs.laws.Choice.{by_test}
+use Rattle.rustc_lexer.specs.Symbols.{symbols}
+use Rattle.rustc_lexer.specs.laws.Choice.{by_symbol}
 use Rattle.rustc_lexer.specs.laws.LanguageLiterals.{HasDigit, longest-digit}
 use Rattle.rustc_lexer.specs.laws.LanguageRuns.{chooses-number, either-way, word-no_mark}
 use Rattle.rustc_lexer.specs.laws.LanguageWords.{continue-word}
@@ -207,10 +208,6 @@ closed-first (lit.at_slash q a f) t stop s = absurd (cc t)
 closed-first (lit.at_newline q a f) t stop s = absurd (cc t)
 closed-first (lit.unclosed none q) t stop s = absurd (cc t)
 closed-first (lit.unclosed_escape none q) t stop s = absurd (cc t)
-
-and-false : (b : Bool) → (b && false) ≡ false
-and-false true = refl
-and-false false = refl
 
 -- what looks at nothing
 literal-none : {next : List ℕ} {kind : LiteralKind} {takes : Bool} {w : List ℕ} → IsLiteralBefore next kind takes w → (s : List ℕ) → literal_reach kind (w ++ s) ≡ 0 → (takes ≡ false) × ((other : List ℕ) → IsLiteralBefore other kind takes w)
@@ -392,12 +389,6 @@ abbrev is_refused_token : TokenKind → Bool
 is_refused_token (Literal kind suffix_start) = is_refused kind
 is_refused_token kind = false
 
-among-none : (ss : List (ℕ × TokenKind)) (c : ℕ) → list_all (λ (s : ℕ × TokenKind). not (is_refused_token s.1)) ss ≡ true → is_refused_token (kind_among ss c) ≡ false
-among-none [] c all = refl
-among-none (s ∷ ss) c all =
-    let parts = and_parts (not (is_refused_token s.1)) (list_all (λ (s : ℕ × TokenKind). not (is_refused_token s.1)) ss) all in
-    by_test (λ kind. is_refused_token kind ≡ false) (c == s.0) s.1 (kind_among ss c) (λ e. not-true _ parts.0) (λ e. among-none ss c parts.1)
-
 token-stands : {c : ℕ} {next : List ℕ} {kind : TokenKind} {w : List ℕ} → IsTokenBefore (c ∷ next) kind w → is_refused_token kind ≡ true → (other : List ℕ) → IsTokenBefore other kind w
 token-stands (the.end none) e other = absurd (true≢false (sym e))
 token-stands (the.whitespace all stop) e other = absurd (true≢false (sym e))
@@ -417,7 +408,7 @@ token-stands (the.literal_with is suffix_is) e other = absurd (true≢false (lit
 token-stands (the.slash stop) e other = absurd (true≢false (sym e))
 token-stands (the.pound stop) e other = absurd (true≢false (sym e))
 token-stands (the.guarded_prefix is) e other = absurd (true≢false (sym e))
-token-stands (the.symbol {c} is) e other = absurd (either-way _ e (among-none symbols c refl))
+token-stands (the.symbol {c} is) e other = absurd (either-way _ e (not-true _ (by_symbol (λ kind. not (is_refused_token kind)) symbols c refl refl)))
 
 pub refused_stands : RefusedStands
 refused_stands c n next other w kind refused p = token-stands p refused other

@@ -6,6 +6,8 @@ use Rattle.std.proofs.lemmas.List.{append-nil}
 use Rattle.std.proofs.lemmas.Str.{IsUtf8-drop, IsCharBoundary-from_take}
 use Rattle.std.specs.List.{list_all, prefix_len}
 use Rattle.std.specs.Str.{chars, IsUtf8}
+use Rattle.std.proofs.Math.Seq.{drop-append_seam}
+use Rattle.std.proofs.Math.Bool.{and-false}
 use Rattle.unicode_ident.proofs.Computing.{unicode_ident}
 use Rattle.rustc_lexer.specs.declared.token.Token.{Token}
 use Rattle.rustc_lexer.specs.declared.token.TokenKind.{TokenKind}
@@ -154,13 +156,9 @@ prefix-return [] (c ∷ next) all e =
     ap (λ (x : ℕ). before_newline (x ∷ next)) is ∙ (more (prefix_len is_no_newline next) ∙ ap suc (prefix-here [] next refl parts.1))
 prefix-return (c ∷ w) next all e = let parts = and_parts (is_inline c) (list_all is_inline w) all in rw parts.0 (more (prefix_len is_no_newline (w ++ next)) ∙ ap suc (prefix-return w next parts.1 e))
 
-drop-length : (w next : List ℕ) → drop (length w) (w ++ next) ≡ next
-drop-length [] next = refl
-drop-length (c ∷ w) next = drop-length w next
-
-short : (s : List ℕ) → length s ≤ 1 → begins (codes "\r\n") s ≡ false
+pub short : (s : List ℕ) → length s ≤ 1 → begins (codes "\r\n") s ≡ false
 short [] le = refl
-short (c ∷ []) le = elim (c == 13) as (λ (b : Bool). b && false ≡ false) [ true ↦ refl | false ↦ refl ]
+short (c ∷ []) le = and-false (c == 13)
 short (c ∷ d ∷ s) le = absurd (omega arith)
 
 less : (k : ℕ) → suc k - 1 ≡ k
@@ -184,7 +182,7 @@ line-read : {next w : List ℕ} → IsLineBefore next w → line_len (w ++ next)
 line-read {next} {w} (the.to_newline all e free) =
     ap (line_to (w ++ next)) (prefix-here w next all e) ∙ ap (λ (b : Bool). if b then length w - 1 else length w) (no_return-before w next e free)
 line-read {next} {w} (the.to_return all e) =
-    let past : begins (codes "\r\n") (drop (suc (length w) - 1) (w ++ next)) ≡ true = ap (λ (k : ℕ). begins (codes "\r\n") (drop k (w ++ next))) (less (length w)) ∙ (ap (begins (codes "\r\n")) (drop-length w next) ∙ e) in
+    let past : begins (codes "\r\n") (drop (suc (length w) - 1) (w ++ next)) ≡ true = ap (λ (k : ℕ). begins (codes "\r\n") (drop k (w ++ next))) (less (length w)) ∙ (ap (begins (codes "\r\n")) (drop-append_seam w next) ∙ e) in
     ap (line_to (w ++ next)) (prefix-return w next all e) ∙ (ap (λ (b : Bool). if b then suc (length w) - 1 else suc (length w)) past ∙ less (length w))
 line-read {next} {w} (the.to_end all none) =
     ap (λ (x : List ℕ). line_len (w ++ x)) none ∙ (ap line_len (append-nil w) ∙ (ap (line_to w) (prefix-all w all) ∙ ap (λ (b : Bool). if b then length w - 1 else length w) (at_end w)))
@@ -228,7 +226,7 @@ has-line (c ∷ s) = by_newline (has-line s) (c == 10) refl
 
 -- ---- the answer
 
-mark-utf8 : IsUtf8 (35 ∷ 33 ∷ [])
+pub mark-utf8 : IsUtf8 (35 ∷ 33 ∷ [])
 unfolding encode
 mark-utf8 = (35 ∷ 33 ∷ [], (refl, refl))
 
@@ -242,7 +240,7 @@ past-mark : (text rest : List ℕ) → text ≡ 35 ∷ 33 ∷ rest → shebang t
 unfolding shebang
 past-mark text rest e = ap shebang e
 
-no-mark : (text : List ℕ) → begins (codes "#!") text ≡ false → shebang text ≡ None
+pub no-mark : (text : List ℕ) → begins (codes "#!") text ≡ false → shebang text ≡ None
 unfolding shebang
 no-mark text e = ap (λ (b : Bool). if b then shebang_past (drop 2 text) else None) e
 

@@ -176,14 +176,6 @@ module _ (c : ℕ) (w next : List ℕ) (ws : AreAll is_word_continue w) (stop : 
 
 -- ---- identifiers
 
--- its first character, and that it is one
-pub record HasStart (w : List ℕ) : Type 0 where
-  pub first : ℕ
-  pub rest : List ℕ
-  pub whole : w ≡ first ∷ rest
-  pub start : is_id_start first ≡ true
-  pub all : AreAll is_id_continue rest
-
 pub continue-word : (w : List ℕ) → AreAll is_id_continue w → AreAll is_word_continue w
 continue-word [] all = refl
 continue-word (c ∷ w) all = let parts = and_parts (is_id_continue c) (list_all is_id_continue w) all in rw parts.0 (continue-word w parts.1)

@@ -18,3 +18,7 @@ more-zero (Some n) = ap Some (omega arith)
 pub one_more-more : (k : ℕ) (o : Option ℕ) → one_more (more k o) ≡ more (suc k) o
 one_more-more k None = refl
 one_more-more k (Some n) = ap Some (omega arith)
+
+pub one_more-none : (o : Option ℕ) → one_more o ≡ None → o ≡ None
+one_more-none None e = refl
+one_more-none (Some n) e = absurd (cc)

@@ -1,6 +1,6 @@
 -- The number that is read is the longest that stands at the front of its text.
-use Rattle.std.proofs.Common.{◌≡◌, ℕ, suc, nat_le, ◌+◌, ◌≤◌, ◌<◌, ◌==◌, ◌&&◌, ◌||◌, inl, inr, not, Bool, true, false, true≢false, List, [], ◌∷◌, ◌++◌, length, take, drop, refl, sym, ap, ◌∙◌, subst, arith, codes, append_assoc, length-append, take-append-drop, length-take-le}
-use Rattle.std.proofs.lemmas.Bool.{agree_below_at, and_parts, eqb-true, leb-true, ne_eqb, or_cases, or_right}
+use Rattle.std.proofs.Common.{◌≡◌, ℕ, suc, ◌+◌, ◌<◌, ◌==◌, ◌&&◌, ◌||◌, inl, inr, not, Bool, true, false, true≢false, List, [], ◌∷◌, ◌++◌, length, take, drop, refl, sym, ap, ◌∙◌, subst, arith, codes, append_assoc, length-append, take-append-drop, length-take-le}
+use Rattle.std.proofs.lemmas.Bool.{agree_below_at, and_parts, eqb-true, or_cases, or_right}
 use Rattle.std.specs.Char.{is_ascii_digit}
 use Rattle.std.specs.List.{list_all, list_any}
 use Rattle.std.specs.Str.{byte}
@@ -15,6 +15,7 @@ use Rattle.rustc_lexer.specs.laws.Within.{Within, within-suc, within-one, within
 use Rattle.rustc_lexer.specs.means.Number.{or_underscore, digits, Front, front_of, prefixed, binary, octal, hexadecimal, decimal, front_past_zero, front, float, is_exponent_letter, is_sign, past_sign, float_exponent, optional_exponent, fraction_digits, fraction, is_no_fraction, begins_fraction, past_digits, tail, number_kind}
 use Rattle.rustc_lexer.specs.NumberGrammar.{AreDigits, is_digit_of, IsWhole, plain, with_b, with_o, with_x, IsExponent, signed, unsigned, IsTailBefore, nothing, dot, of_fraction, of_exponent, of_both, IsNumberBefore, of_prefix, of_parts, NumberStands, IsLongestNumber}
 use Rattle.rustc_lexer.specs.means.Scan.{and_then, after, begins, gives, next_is, read_as, run, run_len}
+use Rattle.rustc_lexer.specs.laws.LanguageRuns.{digit-small, other_than}
 
 -- ---- characters
 
@@ -28,16 +29,9 @@ letter-no_digit e t = of_two (λ x. or_underscore is_ascii_digit x ≡ false) 10
 sign-no_digit : (g : ℕ) → is_sign g ≡ true → or_underscore is_ascii_digit g ≡ false
 sign-no_digit g t = of_two (λ x. or_underscore is_ascii_digit x ≡ false) 43 45 g t refl refl
 
-digit-small : (d : ℕ) → is_ascii_digit d ≡ true → d < 128
-digit-small d t = let le : d ≤ 57 = leb-true d 57 (and_parts (nat_le 48 d) (nat_le d 57) t).1 in omega arith
-
 digit-fraction : (d : ℕ) → is_ascii_digit d ≡ true → is_no_fraction d ≡ false
 unfolding unicode_ident
 digit-fraction d t = sym (ap (λ b. b && is_no_fraction d) t) ∙ agree_below_at (λ b. is_ascii_digit b && is_no_fraction b) (λ b. false) 128 d refl (digit-small d t)
-
--- what is in a class is not a character that is not
-other_than : (p : ℕ → Bool) (k d : ℕ) → p k ≡ false → p d ≡ true → (d == k) ≡ false
-other_than p k d out in_class = ne_eqb d k (λ e. true≢false (sym in_class ∙ (ap p e ∙ out)))
 
 -- ---- an exponent
 

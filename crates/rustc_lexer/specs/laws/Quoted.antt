@@ -1,6 +1,7 @@
 -- How far quoted text looks past its end.
 use Rattle.std.proofs.Common.{◌≡◌, ℕ, suc, ◌+◌, ◌≤◌, ◌<◌, ◌&&◌, not, Bool, true, false, true≢false, if◌then◌else◌, List, [], ◌∷◌, length, take, drop, reverse, codes, refl, sym, ap, ◌∙◌, arith, length-drop, Option, Some, None}
 use Rattle.std.specs.Str.{byte}
+use Rattle.std.proofs.Math.Bool.{and-false}
 use Rattle.rustc_lexer.specs.declared.token.LiteralKind.{LiteralKind}
 use Rattle.rustc_lexer.specs.declared.token.LiteralKind.TheVariants.{Char, Str}
 use Rattle.rustc_lexer.specs.declared.token.TokenKind.{TokenKind}
@@ -51,13 +52,6 @@ module _ (k : ℕ) (some : 0 < k) (test : List ℕ → Bool) (told : IsToldBy k 
             by_quote true f = stopped_at k s n true e f (omega (arith, ap (λ (r : Bool × ℕ). r.1) (at_place s n true e f)))
             by_quote false f = stopped_at k s n false e f (omega (arith, ap (λ (r : Bool × ℕ). r.1) (at_place s n false e f)))
 
-    -- a closed text takes its quote
-    pub record IsClosed (s : List ℕ) : Type 0 where
-      pub place : ℕ
-      pub found : free_place test s ≡ Some place
-      pub closes : begins (quote ∷ []) (drop place s) ≡ true
-      pub takes : (quoted quote test s).1 ≡ suc place
-
 -- double quotes
 pub double_quoted_string_local : IsLocal Bool 1 double_quoted_string
 double_quoted_string_local = quoted_local 1 (omega arith) at_double_quote (begins-told (codes "\"")) (byte "\"")
@@ -78,21 +72,12 @@ past_single s = quoted (byte "'") at_single_stop s
 
 lone_at : (s : List ℕ) → is_lone s ≡ true → IsLocalAt Bool 0 (λ s. (true, 2)) s
 lone_at [] t = absurd (true≢false (sym t))
-lone_at (c ∷ []) t = absurd (true≢false (sym t ∙ by_mark (not (begins (codes "\\") (c ∷ [])))))
-  where
-    by_mark : (b : Bool) → (b && false) ≡ false
-    by_mark true = refl
-    by_mark false = refl
+lone_at (c ∷ []) t = absurd (true≢false (sym t ∙ and-false (not (begins (codes "\\") (c ∷ [])))))
 lone_at (c ∷ d ∷ s) t = record { inside = omega arith; local = λ u e. refl }
 
 pub single_quoted_string_local : IsLocal Bool 2 single_quoted_string
 single_quoted_string_local s =
     either_at 2 2 is_lone (λ s. (true, 2)) past_single lone_told s (omega arith) (λ t. wider 0 2 (omega arith) (lone_at s t)) (λ t. quoted_local 2 (omega arith) at_single_stop single_told (byte "'") s)
-
--- a closed one takes its quote, and depends on one character past its end: `''` would go on before one more quote
-pub record ClosesSingle (s : List ℕ) : Type 0 where
-  pub some : 0 < (single_quoted_string s).1
-  pub at : IsLocalAt Bool 1 single_quoted_string s
 
 -- literals, of which the closed ones take a suffix
 quoted_body_at : (k : ℕ) (kind : Bool → LiteralKind) (scan : List ℕ → Bool × ℕ) (s : List ℕ) → IsLocalAt Bool k scan s → IsLocalAt Body k (quoted_body kind scan) s

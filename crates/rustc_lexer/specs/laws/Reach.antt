@@ -2,6 +2,7 @@
 use Rattle.std.proofs.Common.{◌≡◌, ℕ, zero, suc, ◌+◌, ◌≤◌, ◌<◌, ◌==◌, ◌&&◌, Bool, true, false, true≢false, if◌then◌else◌, List, [], ◌∷◌, length, get_or, take, drop, refl, sym, ap, ◌∙◌, subst, arith, length-drop, length-take, take-take, take_all, Option, Some, None}
 use Rattle.std.proofs.lemmas.List.{drop-take}
 use Rattle.std.specs.List.{list_all}
+use Rattle.std.proofs.lemmas.Bool.{and_parts}
 use Rattle.rustc_lexer.specs.laws.Choice.{by_test}
 use Rattle.rustc_lexer.specs.means.Least.{one_more, least}
 use Rattle.rustc_lexer.specs.means.Scan.{IsLocalAt, IsLocal, IsFound, or_all, or_all_at, then_by, and_then, gives, after, read_as, begins, next_is, run_len, run, run_as}
@@ -35,10 +36,6 @@ IsToldBy k f = (s : List ℕ) → f (take k s) ≡ f s
 pub told_same : {B : Type 0} (j k : ℕ) (f : List ℕ → B) (u s : List ℕ) → IsToldBy j f → j ≤ k → take k u ≡ take k s → f u ≡ f s
 told_same j k f u s told le e = sym (told u) ∙ (ap f (cut j k u s le e) ∙ told s)
 
-and_both : (a b : Bool) → a && b ≡ true → (a ≡ true) × (b ≡ true)
-and_both true b e = (refl, e)
-and_both false b e = absurd (true≢false (sym e))
-
 pub next_is-told : (p : ℕ → Bool) → IsToldBy 1 (next_is p)
 next_is-told p [] = refl
 next_is-told p (c ∷ s) = refl
@@ -55,7 +52,7 @@ begins-told (c ∷ cs) (d ∷ s) = ap (λ b. d == c && b) (begins-told cs s)
 pub begins-length : (p s : List ℕ) → begins p s ≡ true → length p ≤ length s
 begins-length [] s e = omega arith
 begins-length (c ∷ cs) [] e = absurd (true≢false (sym e))
-begins-length (c ∷ cs) (d ∷ s) e = omega (arith, begins-length cs s (and_both (d == c) (begins cs s) e).1)
+begins-length (c ∷ cs) (d ∷ s) e = omega (arith, begins-length cs s (and_parts (d == c) (begins cs s) e).1)
 
 -- ---- scanners
 

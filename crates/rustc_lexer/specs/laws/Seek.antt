@@ -1,9 +1,9 @@
 -- The place of a stop in a quoted text is found by one pass.
-use Rattle.std.proofs.Common.{◌≡◌, ℕ, ◌&&◌, not, Bool, true, false, if◌then◌else◌, List, [], ◌∷◌, length, take, drop, refl, ap, ◌∙◌, Option, Some, None}
+use Rattle.std.proofs.Common.{◌≡◌, ℕ, suc, ◌&&◌, not, Bool, true, false, if◌then◌else◌, List, [], ◌∷◌, length, take, drop, refl, ap, ◌∙◌, Option, Some, None}
 use mathlib.Core.List.{reverse_aux}
 use Rattle.rustc_lexer.specs.means.Least.{one_more, least}
-use Rattle.rustc_lexer.specs.means.Quoted.{is_backslash, is_odd, free_place}
-use Rattle.rustc_lexer.specs.means.Scan.{run_len}
+use Rattle.rustc_lexer.specs.means.Quoted.{is_backslash, is_odd, free_place, stopped}
+use Rattle.rustc_lexer.specs.means.Scan.{begins, run_len}
 
 -- one pass finds the place that is sought, which knows whether the next character is escaped
 abbrev pub seek : (List ℕ → Bool) → List ℕ → Bool → Option ℕ
@@ -30,3 +30,12 @@ seek-least test (c ∷ cs) before =
 
 pub free_place-seek : (test : List ℕ → Bool) (s : List ℕ) → free_place test s ≡ seek test s false
 free_place-seek test s = seek-least test s []
+
+-- where the stop is one character later, so is the end
+pub stopped-more : (quote : ℕ) (o : Option ℕ) (c : ℕ) (s : List ℕ) → stopped quote (one_more o) (c ∷ s) ≡ ((stopped quote o s).0, suc (stopped quote o s).1)
+stopped-more quote None c s = refl
+stopped-more quote (Some n) c s = by_quote (begins (quote ∷ []) (drop n s)) refl
+  where
+    by_quote : (b : Bool) → begins (quote ∷ []) (drop n s) ≡ b → stopped quote (Some (suc n)) (c ∷ s) ≡ ((stopped quote (Some n) s).0, suc (stopped quote (Some n) s).1)
+    by_quote true t = rw t refl
+    by_quote false t = rw t refl

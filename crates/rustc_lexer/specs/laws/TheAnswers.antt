@@ -1,7 +1,8 @@
 -- How each answer of the page is found, and that it is the only one.
-use Rattle.std.proofs.Common.{◌≡◌, ℕ, zero, suc, ◌<◌, ◌==◌, Bool, true, false, true≢false, List, [], ◌∷◌, length, take, drop, refl, sym, ap, ◌∙◌, subst, arith, Option, Result}
-use Rattle.std.proofs.lemmas.Bool.{eqb-true}
+use Rattle.std.proofs.Common.{◌≡◌, ℕ, ◌<◌, ◌==◌, Bool, true, false, List, [], ◌∷◌, length, take, drop, refl, sym, ap, ◌∙◌, subst, arith, Option, Result, pos_of_ne-zero}
+use Rattle.std.proofs.lemmas.Bool.{eqb-true, eqb-false}
 use Rattle.std.specs.Str.{chars}
+use Rattle.std.proofs.lemmas.List.{nil_from_length}
 use Rattle.rustc_lexer.specs.declared.edition.Edition.{Edition}
 use Rattle.rustc_lexer.specs.declared.token.GuardedStr.{GuardedStr}
 use Rattle.rustc_lexer.specs.declared.token.RawStrError.{RawStrError}
@@ -58,18 +59,10 @@ the_first edition text = record {
 
 module _ (s : State) (is : IsText s.rest) where
   nonempty : (length s.rest == 0) ≡ false → 0 < length s.rest
-  nonempty some = by_count (length s.rest) some
-    where
-      by_count : (n : ℕ) → (n == 0) ≡ false → 0 < n
-      by_count zero e = absurd (true≢false e)
-      by_count (suc n) e = omega arith
+  nonempty some = pos_of_ne-zero (eqb-false (length s.rest) 0 some)
 
   empty : (length s.rest == 0) ≡ true → s.rest ≡ []
-  empty none = by_text s.rest none
-    where
-      by_text : (text : List ℕ) → (length text == 0) ≡ true → text ≡ []
-      by_text [] e = refl
-      by_text (b ∷ bs) e = absurd (let n = eqb-true (length (b ∷ bs)) 0 e in omega arith)
+  empty none = nil_from_length s.rest (eqb-true (length s.rest) 0 none)
 
   at_end : (length s.rest == 0) ≡ true → means_taking.advance s ≡ (record { kind = Eof; len = 0 }, s)
   at_end none = advance-end s.pending s.rest s.mode s refl none

@@ -1,7 +1,8 @@
 -- A local scanner that reaches two characters gives a grammar.
-use Rattle.std.proofs.Common.{◌≡◌, ℕ, zero, suc, ◌+◌, ◌<◌, ◌≤◌, Bool, true, false, ◌&&◌, true≢false, List, [], ◌∷◌, ◌++◌, length, take, drop, refl, sym, ap, ◌∙◌, arith, length-drop, length-append, take-append-drop, length-take-le, take-add, take_at, drop_at, IsUtf8, chars}
+use Rattle.std.proofs.Common.{◌≡◌, ℕ, zero, suc, ◌+◌, ◌<◌, ◌≤◌, true, List, [], ◌∷◌, ◌++◌, length, take, drop, refl, sym, ap, ◌∙◌, arith, length-drop, length-append, take-append-drop, length-take-le, take-add, take_at, drop_at, IsUtf8, chars}
 use lib.Utf8.{encodes, scalars, scalar}
 use Rattle.std.proofs.lemmas.Str.{chars-append, chars-encodes, encodes-chars, scalars-chars, encodes-append, IsCharBoundary-from_take, IsUtf8-drop, length-le-encodes}
+use Rattle.std.proofs.lemmas.Bool.{and_parts}
 use Rattle.rustc_lexer.specs.declared.token.TokenKind.{TokenKind}
 use Rattle.rustc_lexer.specs.Locality.{IsText, IsGrammar, AgreePast}
 use Rattle.rustc_lexer.specs.laws.Texts.{agree_inside}
@@ -14,19 +15,15 @@ left_text other n is inside front = record {
   fits = let f = is.fits in omega (arith, length-drop n other);
 }
 
-and_both : (a b : Bool) → a && b ≡ true → (a ≡ true) × (b ≡ true)
-and_both true b e = (refl, e)
-and_both false b e = absurd (true≢false (sym e))
-
 pub scalars-take : (n : ℕ) (cs : List ℕ) → scalars cs ≡ true → scalars (take n cs) ≡ true
 scalars-take zero cs is = refl
 scalars-take (suc n) [] is = refl
-scalars-take (suc n) (c ∷ cs) is = let b = and_both (scalar c) (scalars cs) is in rw b.0 (scalars-take n cs b.1)
+scalars-take (suc n) (c ∷ cs) is = let b = and_parts (scalar c) (scalars cs) is in rw b.0 (scalars-take n cs b.1)
 
 pub scalars-drop : (n : ℕ) (cs : List ℕ) → scalars cs ≡ true → scalars (drop n cs) ≡ true
 scalars-drop zero cs is = is
 scalars-drop (suc n) [] is = refl
-scalars-drop (suc n) (c ∷ cs) is = scalars-drop n cs (and_both (scalar c) (scalars cs) is).1
+scalars-drop (suc n) (c ∷ cs) is = scalars-drop n cs (and_parts (scalar c) (scalars cs) is).1
 
 module _ (scan : List ℕ → TokenKind × ℕ) (takes : (c : ℕ) (cs : List ℕ) → 0 < (scan (c ∷ cs)).1) (is : IsLocal TokenKind 2 scan) where
   taken-positive : (cs text : List ℕ) → encodes cs ≡ text → 0 < length text → 0 < (scan cs).1

@@ -1,12 +1,12 @@
 use Rattle.std.proofs.Common.{ℕ, ◌==◌, bit_or, arith}
-use Rattle.std.proofs.lemmas.Simd.{length-chunk, zip2_splat}
+use Rattle.std.proofs.lemmas.Simd.{length-chunk, zip2_splat, zip2_of_maps}
 use Rattle.memchr.specs.Find.{is_byte2}
 use Rattle.rustc_lexer.proofs.FindLemmas.{in_first, either_set}
-use Rattle.rustc_lexer.proofs.LaneLemmas.{joined, masked_at}
+use Rattle.rustc_lexer.proofs.LaneLemmas.{masked_at}
 use Rattle.rustc_lexer.proofs.kernels.find_either.Goals as goal
 
 pub returns-then-found-ne0 : goal.returns-then-found-ne0
 returns-then-found-ne0 c =
     let long = length-chunk 0 32 c.args.bytes.now (omega arith) in
     in_first (is_byte2 c.args.one c.args.two) c.args.bytes.now 32 _ (omega arith) (omega arith)
-    (masked_at _ (is_byte2 c.args.one c.args.two) _ _ (omega arith) (joined bit_or _ _ _ (zip2_splat {Y = ℕ} _ _ 32 c.args.one long) (zip2_splat {Y = ℕ} _ _ 32 c.args.two long)) (λ x. either_set (x == c.args.one) (x == c.args.two))) (omega arith)
+    (masked_at _ (is_byte2 c.args.one c.args.two) _ _ (omega arith) (zip2_of_maps bit_or _ _ _ (zip2_splat {Y = ℕ} _ _ 32 c.args.one long) (zip2_splat {Y = ℕ} _ _ 32 c.args.two long)) (λ x. either_set (x == c.args.one) (x == c.args.two))) (omega arith)

@@ -1,7 +1,7 @@
 use Rattle.std.proofs.Common.{ℕ, bit_and, refl, arith}
-use Rattle.std.proofs.lemmas.Simd.{zip2_splat}
+use Rattle.std.proofs.lemmas.Simd.{zip2_splat, zip2_of_maps, splat_is_map}
 use Rattle.rustc_lexer.specs.means.ByteRuns.{outside, is_continue_byte}
-use Rattle.rustc_lexer.proofs.LaneLemmas.{joined, splat_is, least, masked}
+use Rattle.rustc_lexer.proofs.LaneLemmas.{least, masked}
 use Rattle.rustc_lexer.proofs.kernels.ContinueByteClass.stops.Goals as goal
 
 pub returns : goal.returns
@@ -9,4 +9,4 @@ returns c =
     let v = c.args.v in
     let long = c.fits-v.0 in
     masked _ (outside is_continue_byte) v _ (omega arith) c.fits-v.1
-    (joined bit_and _ _ v (joined bit_and _ _ v (joined least _ _ v (splat_is v 32 26 long) (joined _ _ _ v (zip2_splat {Y = ℕ} _ v 32 32 long) (splat_is v 32 97 long))) (joined least _ _ v (splat_is v 32 10 long) (zip2_splat {Y = ℕ} _ v 32 48 long))) (zip2_splat {Y = ℕ} _ v 32 95 long)) refl
+    (zip2_of_maps bit_and _ _ v (zip2_of_maps bit_and _ _ v (zip2_of_maps least _ _ v (splat_is_map {Y = ℕ} v 32 26 long) (zip2_of_maps _ _ _ v (zip2_splat {Y = ℕ} _ v 32 32 long) (splat_is_map {Y = ℕ} v 32 97 long))) (zip2_of_maps least _ _ v (splat_is_map {Y = ℕ} v 32 10 long) (zip2_splat {Y = ℕ} _ v 32 48 long))) (zip2_splat {Y = ℕ} _ v 32 95 long)) refl
