@@ -6,6 +6,7 @@ pub mod comments;
 pub mod highlight;
 pub mod raw_strings;
 pub mod repaint;
+pub mod same;
 pub mod slices;
 pub mod spans;
 pub mod split;

@@ -37,6 +37,7 @@ pub mod Past
 pub mod Quoted
 pub mod Raw
 pub mod Reach
+pub mod Same
 pub mod Scan
 pub mod Seek
 pub mod State

@@ -1,0 +1,11 @@
+//! Two tokens beside each other.
+ghost use Rattle.std.specs.Prelude.{◌≡◌, ◌↔◌, IsTrue};
+
+use rustc_lexer::Token;
+
+/// Whether two tokens are the same.
+pub fn is_same(one: Token, other: Token) -> bool
+    ensures { IsTrue result ↔ (one ≡ other) }
+{
+    one == other
+}

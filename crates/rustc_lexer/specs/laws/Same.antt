@@ -1,0 +1,100 @@
+-- What `==` of two tokens tells: that they are the same.
+use Rattle.std.proofs.Common.{◌≡◌, ◌↔◌, IsTrue, Bool, true, false, true≢false, refl, sym, ap, ◌∙◌, ◌==◌, List, [], ◌∷◌, Option, Some, None, ◌&&◌, inl, inr}
+use Rattle.std.specs.Cmp.Derive.{of_values}
+use Rattle.std.specs.Option.{option_eq}
+use Rattle.std.proofs.lemmas.Bool.{and_parts, eqb-true}
+use denote.Enum.Bare.{same_true}
+use denote.Enum.Compared.{Each, by}
+use denote.Enum.Declared.{Record, Choice, values_one}
+use denote.Struct.Field.{Field}
+use mathlib.Core.Bool.{beq}
+use Rattle.rustc_lexer.specs.contracts.token.Base as base
+use Rattle.rustc_lexer.specs.contracts.token.DocStyle as doc_style
+use Rattle.rustc_lexer.specs.contracts.token.LiteralKind as literal_kind
+use Rattle.rustc_lexer.specs.contracts.token.LiteralKindPartialEq.TheImpl as literal
+use Rattle.rustc_lexer.specs.contracts.token.TokenEq.TheImpl.Laws as equal
+use Rattle.rustc_lexer.specs.contracts.token.TokenKind as token_kind
+use Rattle.rustc_lexer.specs.contracts.token.TokenKindPartialEq.TheImpl as kind
+use Rattle.rustc_lexer.specs.contracts.token.TokenPartialEq.TheImpl as token
+use Rattle.rustc_lexer.specs.declared.token.Token.{Token}
+
+-- what `==` answers
+abbrev pub is_same : Token → Token → Bool
+is_same a b = token.ghosts.eq a b
+
+-- what the test takes for equal is the same
+record Tells {K : Type 0} (E : K → K → Bool) : Type 0 where
+  tells : (x y : K) → E x y ≡ true → x ≡ y
+
+-- ---- the values of the fields
+
+one : {K : Type 0} {E : K → K → Bool} → Tells E → Tells (λ (x y : K × Unit {0}). E x.0 y.0)
+one t = record { tells = λ x y e i. (t.tells x.0 y.0 e i, tt) }
+
+two : {J K : Type 0} {D : J → J → Bool} {E : K → K → Bool} → Tells D → Tells E → Tells (λ (x y : J × (K × Unit {0})). D x.0 y.0 && E x.1.0 y.1.0)
+two {J} {K} {D} {E} t u = record { tells = λ x y e. let both = and_parts (D x.0 y.0) (E x.1.0 y.1.0) e in λ i. (t.tells x.0 y.0 both.0 i, (u.tells x.1.0 y.1.0 both.1 i, tt)) }
+
+flag-tells : (x y : Bool) → beq x y ≡ true → x ≡ y
+flag-tells true true e = refl
+flag-tells false false e = refl
+flag-tells true false e = absurd (true≢false (sym e))
+flag-tells false true e = absurd (true≢false (sym e))
+
+flag : Tells beq
+flag = record { tells = flag-tells }
+
+number : Tells ◌==◌
+number = record { tells = λ x y e. eqb-true x y e }
+
+option-tells : {K : Type 0} (E : K → K → Bool) → Tells E → (x y : Option K) → option_eq E x y ≡ true → x ≡ y
+option-tells E t None None e = refl
+option-tells E t (Some x) (Some y) e = ap Some (t.tells x y e)
+option-tells E t None (Some y) e = absurd (true≢false (sym e))
+option-tells E t (Some x) None e = absurd (true≢false (sym e))
+
+option : {K : Type 0} {E : K → K → Bool} → Tells E → Tells (option_eq E)
+option {K} {E} t = record { tells = option-tells E t }
+
+-- ---- enums, by the values of the fields of each variant that has some
+
+abbrev AllTell : (Fss : List (List Field)) → Each Bool Fss → Type 0
+AllTell [] es = Unit {0}
+AllTell ([] ∷ Fss) es = AllTell Fss es.1
+AllTell ((F ∷ Fs) ∷ Fss) es = Tells es.0 × AllTell Fss es.1
+
+choices : (Fss : List (List Field)) (es : Each Bool Fss) → AllTell Fss es → (c d : Choice Fss) → by false false Fss es c d ≡ true → c ≡ d
+choices [] es all c d e = absurd c
+choices ([] ∷ Fss) es all (inl x) (inl y) e = refl
+choices ([] ∷ Fss) es all (inr c) (inr d) e = ap inr (choices Fss es.1 all c d e)
+choices ((F ∷ Fs) ∷ Fss) es all (inl x) (inl y) e = ap inl (all.0.tells x y e)
+choices ((F ∷ Fs) ∷ Fss) es all (inr c) (inr d) e = ap inr (choices Fss es.1 all.1 c d e)
+choices (Fs ∷ Fss) es all c d e = absurd (true≢false (sym e))
+
+of_enum : (N : Record) (es : Each Bool N.parts) → AllTell N.parts es → Tells (of_values N false false es)
+of_enum N es all = record { tells = λ a b e. values_one N a b (choices N.parts es all (N.as_values a) (N.as_values b) e) }
+
+-- ---- tokens
+
+literal-tells : Tells literal.ghosts.eq
+literal-tells =
+    let based = two (record { tells = same_true base.the_type tt }) flag in
+    let closed = one flag in
+    let hashes = one (option number) in
+    of_enum literal_kind.enum _ (based, (based, (closed, (closed, (closed, (closed, (closed, (hashes, (hashes, (hashes, tt))))))))))
+
+kind-tells : Tells kind.ghosts.eq
+kind-tells =
+    let style = option (record { tells = same_true doc_style.the_type tt }) in
+    of_enum token_kind.enum _ (one style, (two style flag, (two flag flag, (two literal-tells number, (one flag, tt)))))
+
+pub same_token : (a b : Token) → is_same a b ≡ true → a ≡ b
+same_token a b e =
+    let both = and_parts (kind.ghosts.eq a.kind b.kind) (a.len == b.len) e in
+    λ i. record { kind = kind-tells.tells a.kind b.kind both.0 i; len = eqb-true a.len b.len both.1 i }
+
+token_same : (a b : Token) → a ≡ b → is_same a b ≡ true
+token_same a b e = ap (is_same a) (sym e) ∙ equal.laws-law.refl a
+
+-- of an answer of `==`
+pub told_same : (answer : Bool) (a b : Token) → answer ≡ is_same a b → IsTrue answer ↔ (a ≡ b)
+told_same answer a b told = (λ t. same_token a b (sym told ∙ t), λ e. told ∙ token_same a b e)
