@@ -2,7 +2,7 @@
 use Rattle.std.proofs.Common.{◌≡◌, ℕ, ◌+◌, ◌<◌, ◌≤◌, ◌^◌, ◌&&◌, inl, inr, not, Bool, true, false, true≢false, if◌then◌else◌, List, [], ◌∷◌, ◌++◌, length, length-append, take, drop, codes, append_assoc, refl, sym, ap, ◌∙◌, subst, arith}
 use lib.Utf8.{scalars}
 use Rattle.std.proofs.Math.Seq.{take-append_seam, drop-append_seam}
-use Rattle.std.proofs.lemmas.Bool.{and_parts, eqb-true, not-true}
+use Rattle.std.proofs.lemmas.Bool.{and_parts, not-true}
 use Rattle.std.proofs.lemmas.Str.{chars-encodes, encodes-append, encodes-chars, scalars-chars}
 use Rattle.std.specs.Str.{chars, encode_utf8_all}
 use Rattle.rustc_lexer.specs.declared.edition.Edition.{Edition}
@@ -22,22 +22,13 @@ use Rattle.rustc_lexer.specs.Locality.{IsText}
 use Rattle.rustc_lexer.specs.Tokens.{tokens_of}
 use Rattle.rustc_lexer.specs.laws.LanguageIn.{on_page}
 use Rattle.rustc_lexer.specs.laws.LanguageTokens.{language}
+use Rattle.rustc_lexer.specs.laws.Same.{same_token}
 use Rattle.rustc_lexer.specs.laws.Tokens.{tokens-nil, tokens-cons}
-use Rattle.tidy_run.specs.Order.{is_space, is_front, is_bool, is_same_front, begins_with, if_kept, space_in_order, code_in_order, front_in_order, source_in_order, source_tidied, source_parts, parts, parts_in_order}
+use Rattle.tidy_run.specs.Order.{is_space, is_front, begins_with, if_kept, space_in_order, code_in_order, front_in_order, source_in_order, source_tidied, source_parts, parts, parts_in_order}
 use Rattle.tidy_run.proofs.NearLemmas.{Near, ends, near-append, near-refl, ends-append, IsSpaceRun, is_end, is_solid_kind, token-near}
 use Rattle.tidy_run.proofs.CodeLemmas.{Tidies, Puts, none-left, part-none, scalars-parts, scalars-join, space-step, behind, solid-token, after-newest, code-cons, parts-cons, code-tidies}
 
 -- ---- what is a frontmatter
-
-bool-same : (a b : Bool) → is_bool a b ≡ true → b ≡ a
-bool-same true b e = e
-bool-same false b e = not-true b e
-
-same-front : (kind other : TokenKind) → is_same_front kind other ≡ true → other ≡ kind
-same-front (Frontmatter a b) (Frontmatter c d) e =
-    let parts = and_parts (is_bool a c) _ e in
-    ap (λ (x : Bool). Frontmatter x d) (bool-same a c parts.0) ∙ ap (λ (x : Bool). Frontmatter a x) (bool-same b d parts.1)
-same-front kind other e = absurd (true≢false (sym e))
 
 -- the tokens of a text that begins with a frontmatter as this one
 first-front : (text : List ℕ) (front : Token) → IsText text → begins_with front (tokens_of (document E2024) text) ≡ true → tokens_of (document E2024) text ≡ front ∷ tokens_of (mode_after (document E2024) front.kind) (drop front.len text)
@@ -51,10 +42,7 @@ first-front (c ∷ cs) front is e = cons ∙ ap (λ (t : Token). t ∷ tokens_of
     cons = tokens-cons (document E2024) text is (omega arith)
 
     same : token_at (document E2024) text ≡ front
-    same =
-        let both = and_parts (is_same_front front.kind (token_at (document E2024) text).kind) _ (sym (ap (begins_with front) cons) ∙ e) in
-        ap (λ (k : TokenKind). let t : Token = record { kind = k; len = (token_at (document E2024) text).len } in t) (same-front front.kind (token_at (document E2024) text).kind both.0)
-        ∙ ap (λ (n : ℕ). let t : Token = record { kind = front.kind; len = n } in t) (eqb-true (token_at (document E2024) text).len front.len both.1)
+    same = same_token (token_at (document E2024) text) front (sym (ap (begins_with front) cons) ∙ e)
 
 -- ---- with a frontmatter first
 

@@ -13,6 +13,7 @@ use Rattle.rustc_lexer.specs.LanguageText.{document}
 use Rattle.rustc_lexer.specs.Spans.{begins}
 use Rattle.rustc_lexer.specs.Answers.{shebang}
 use Rattle.rustc_lexer.specs.Tokens.{tokens_of}
+use Rattle.rustc_lexer.specs.laws.Same.{is_same}
 
 -- tab, carriage return and space
 abbrev pub is_blank : ℕ → Bool
@@ -128,19 +129,10 @@ abbrev pub is_front : TokenKind → Bool
 is_front (Frontmatter has_invalid_preceding_whitespace invalid_infostring) = true
 is_front kind = false
 
-abbrev pub is_bool : Bool → Bool → Bool
-is_bool true b = b
-is_bool false b = not b
-
--- whether both are frontmatters with the same faults
-abbrev pub is_same_front : TokenKind → TokenKind → Bool
-is_same_front (Frontmatter space infostring) (Frontmatter other_space other_infostring) = is_bool space other_space && is_bool infostring other_infostring
-is_same_front kind other = false
-
 -- whether a frontmatter is the first of these tokens
 abbrev pub begins_with : Token → List Token → Bool
 begins_with front [] = false
-begins_with front (token ∷ tokens) = is_same_front front.kind token.kind && token.len == front.len
+begins_with front (token ∷ tokens) = is_same token front
 
 -- where a frontmatter is first, what follows it is put in order only if the frontmatter stays one, and as long: what ends one
 -- that is not closed may be white space behind it
