@@ -39,33 +39,15 @@ fn push_front(alloc: Global, text: &str, output: &mut String) -> Result<(), Allo
     }
 }
 
-/// Whether the first token of a text is a frontmatter with the faults and the length of this one.
+/// Whether this is the first token of a text.
 fn begins_with(front: Token, text: &str) -> bool {
     let Some(first) = tokenize(text, FrontmatterAllowed::Yes).next() else {
         return false;
     };
-    is_same_front(front.kind, first.kind) && first.len == front.len
+    first == front
 }
 
 /// Whether the token is a frontmatter.
 fn is_front(kind: TokenKind) -> bool {
     matches!(kind, TokenKind::Frontmatter { .. })
-}
-
-/// Whether both are frontmatters with the same faults.
-fn is_same_front(kind: TokenKind, other: TokenKind) -> bool {
-    let TokenKind::Frontmatter {
-        has_invalid_preceding_whitespace,
-        invalid_infostring,
-    } = kind
-    else {
-        return false;
-    };
-    matches!(
-        other,
-        TokenKind::Frontmatter {
-            has_invalid_preceding_whitespace: other_space,
-            invalid_infostring: other_infostring,
-        } if has_invalid_preceding_whitespace == other_space && invalid_infostring == other_infostring
-    )
 }
