@@ -8,7 +8,7 @@ use crate::stop::{Stop, line, status};
 use ends::{Watched, tell};
 use std::io::Write;
 
-/// Writes the line of the stop, if any, flushes, and answers the status of the program.
+/// Where the run stopped, writes the line of the stop and flushes. Answers the status of the program.
 ///
 /// What goes out is all of the line where the writer does not fail, else a beginning of it. The status is the same.
 pub fn report<E: Write>(outcome: &Result<(), Stop>, errors: &mut Watched<E>) -> u8

@@ -1,4 +1,4 @@
-//! The token at the front of a text: a choice by its first character, and a function for each family.
+//! The token at the front of a text: a choice by its first character, and a function for most families.
 ghost use Rattle.std.specs.Prelude.{◌≡◌, ◌≢◌, ◌+◌, ◌<◌, ◌^◌, length};
 ghost use Rattle.rustc_lexer.specs.Classes.{Fits};
 ghost use Rattle.rustc_lexer.specs.declared.lexemes.family.Family.TheVariants.{Hash};

@@ -296,7 +296,7 @@ fn pass_over(line: &str) -> (bool, &str)
 
 /// The white space at the front that is passed over, one character, and what follows it.
 ///
-/// Its byte tells it: so no character has to be read of more than one.
+/// Its first byte tells it, so no character of several bytes is put together.
 #[inline(always)]
 fn split_passed(rest: &str) -> Option<(char, &str)>
     ensures { MatchOption result (front_run spec.is_passed_over (chars rest.now) ≡ [])

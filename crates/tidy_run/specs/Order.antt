@@ -129,12 +129,12 @@ abbrev pub is_front : TokenKind → Bool
 is_front (Frontmatter has_invalid_preceding_whitespace invalid_infostring) = true
 is_front kind = false
 
--- whether a frontmatter is the first of these tokens
+-- whether this token is the first of these
 abbrev pub begins_with : Token → List Token → Bool
 begins_with front [] = false
 begins_with front (token ∷ tokens) = is_same token front
 
--- where a frontmatter is first, what follows it is put in order only if the frontmatter stays one, and as long: what ends one
+-- where a frontmatter is first, what follows it is put in order only if the frontmatter stays the same token: what ends one
 -- that is not closed may be white space behind it
 abbrev pub if_kept : Token → List ℕ → List ℕ → List ℕ
 if_kept front text out = if begins_with front (tokens_of (document E2024) out) then out else text

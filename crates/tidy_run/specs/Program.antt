@@ -11,8 +11,8 @@ abbrev pub exit_status : Result (Unit {0}) Stop → ℕ
 exit_status (Ok done) = 0
 exit_status (Err stop) = status_of stop
 
--- what may stop a command: standard input alone stops it by what it holds, files alone are passed over, and where all is
--- put in order nothing is out of order; help reads nothing
+-- what may stop a command: standard input alone stops it by what it holds or by a failed read, only where there are paths is
+-- something passed over, and where all is put in order nothing is out of order; help reads nothing
 abbrev pub IsStopOf : Stop → Command → Type 0
 IsStopOf Arguments command = ⊥
 IsStopOf Untidy (tidy task paths) = task ≢ WriteTask

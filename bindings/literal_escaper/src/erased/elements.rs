@@ -135,7 +135,8 @@ impl<'a> Elements<'a> {
 
     /// The next element, whatever it is, or `None` past the last one.
     ///
-    /// It is asked where [`Elements::next_alone`] is `None`, and has the large locals, which that one goes without.
+    /// It has the large locals that [`Elements::next_alone`] and [`Elements::next_byte`] go without, and is asked where one
+    /// of these is `None`.
     #[inline(always)]
     pub(crate) fn next_by_steps(&mut self) -> Option<(Range<usize>, Element)> {
         if self.waiting.is_some() {

@@ -210,7 +210,7 @@ fn pass_over(line: &str) -> (bool, &str) {
 
 /// The white space at the front that is passed over, one character, and what follows it.
 ///
-/// Its byte tells it: so no character has to be read of more than one.
+/// Its first byte tells it, so no character of several bytes is put together.
 #[inline(always)]
 fn split_passed(rest: &str) -> Option<(char, &str)> {
     let Some(byte) = rest.as_bytes().first() else {

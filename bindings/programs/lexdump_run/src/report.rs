@@ -6,7 +6,7 @@ use ends::Watched;
 use itoa::Buffer;
 use rattle_std::io::Write;
 
-/// Writes the line of the fault that the run stopped with, if any, flushes, and answers the status of the program.
+/// Where the run stopped, writes the line of the fault and flushes. Answers the status of the program.
 ///
 /// What goes out is all of the line where the writer does not fail, else a beginning of it. The status is the same.
 pub fn report<E: Write>(outcome: &Result<(), Fault>, errors: &mut Watched<E>) -> u8 {

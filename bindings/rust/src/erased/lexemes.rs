@@ -1,4 +1,4 @@
-//! The token at the front of a text: a choice by its first character, and a function for each family.
+//! The token at the front of a text: a choice by its first character, and a function for most families.
 
 use crate::erased::lexemes::comment::slash;
 use crate::erased::lexemes::family::{Family, family_of};
