@@ -30,7 +30,7 @@ pub fn attribute(alloc: Global, source: &mut Source<'_>, n: usize) -> Result<usi
     }
 }
 
-/// `#[cfg(test)]`, with the item that has it.
+/// The attribute of what only tests have, with the item that has it.
 fn tests(alloc: Global, source: &mut Source<'_>, n: usize, end: usize) -> Result<usize, Stop> {
     if !source.stands(n, &["#", "[", "cfg", "(", "test", ")", "]"]) {
         return Err(source.refused(n, Reason::Attribute));
