@@ -49,4 +49,6 @@ pub use erased::{
 };
 pub use unit::{MixedUnit, check_raw_c_str, unescape_c_str};
 #[cfg(feature = "alloc")]
+pub use support::AllocError;
+#[cfg(feature = "alloc")]
 pub use written::{EscapeCStrError, escape_byte_str, escape_c_str, escape_str};

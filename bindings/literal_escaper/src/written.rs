@@ -6,7 +6,20 @@ use crate::erased;
 use crate::support;
 use crate::support::AllocError;
 use alloc::string::String;
+use core::error::Error;
+use core::fmt;
 use core::mem::take;
+
+impl fmt::Display for EscapeCStrError {
+    fn fmt(&self, f: &mut fmt::Formatter<'_>) -> fmt::Result {
+        f.write_str(match self {
+            EscapeCStrError::Nul => "a C string has no byte that is 0",
+            EscapeCStrError::OutOfMemory => "memory was refused",
+        })
+    }
+}
+
+impl Error for EscapeCStrError {}
 
 /// Lends a text to a call, and takes it back.
 fn lent<T>(out: &mut String, call: impl FnOnce(&mut support::String) -> T) -> T {

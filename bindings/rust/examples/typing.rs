@@ -1,5 +1,5 @@
 //! Keeps the tokens of a file while it is typed into: `cargo run --example typing -- FILE`. Each line of standard input
-//! is typed at the end of the file's first line, and the tokens that changed are shown.
+//! is typed at the end of the file's first line, and the tokens that were lexed again are shown.
 use ra_ap_rustc_lexer::LexedText;
 use std::{env, fs, io};
 

@@ -1,6 +1,7 @@
 //! A cursor over a text.
 
 use crate::{FrontmatterAllowed, GuardedStr, Token, erased, fitting};
+use core::fmt;
 
 /// A place in a text, from which the next token is taken.
 ///
@@ -98,5 +99,12 @@ impl<'a> Cursor<'a> {
     #[inline]
     pub fn guarded_double_quoted_string(&mut self) -> Option<GuardedStr> {
         self.0.guarded_double_quoted_string()
+    }
+}
+
+/// The text that is left.
+impl fmt::Debug for Cursor<'_> {
+    fn fmt(&self, f: &mut fmt::Formatter<'_>) -> fmt::Result {
+        f.debug_tuple("Cursor").field(&self.as_str()).finish()
     }
 }

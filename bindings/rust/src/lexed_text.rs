@@ -248,6 +248,13 @@ impl<S: Stepper> fmt::Debug for LexedText<S> {
     }
 }
 
+/// The empty text.
+impl Default for LexedText {
+    fn default() -> LexedText {
+        LexedText::new("")
+    }
+}
+
 impl Relexed {
     /// The numbers of the tokens that were lexed, among those behind the edit.
     ///
@@ -265,3 +272,12 @@ impl Relexed {
 }
 
 impl FusedIterator for Pieces<'_> {}
+
+/// How many pieces are left.
+impl fmt::Debug for Pieces<'_> {
+    fn fmt(&self, f: &mut fmt::Formatter<'_>) -> fmt::Result {
+        f.debug_struct("Pieces")
+            .field("left", &self.len())
+            .finish_non_exhaustive()
+    }
+}

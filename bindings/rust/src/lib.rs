@@ -25,9 +25,10 @@
 //!
 //! The modules below `erased` are made from a source in Rattle, which is Rust with contracts, by deleting the
 //! contracts. Of that source it is proved, for every text, that these are the only tokens which a grammar of the
-//! language allows. The rest of this crate is written by hand: it tests what those contracts ask of a caller, and
-//! gives plain Rust's forms to what takes memory. The repository's `docs/ERASED.md` says what is claimed and what is
-//! trusted.
+//! language allows. The rest of this crate is written by hand. The calls of the original and those of [`LexedText`] test
+//! what those contracts ask of a caller, and give what takes memory the forms of plain Rust. [`Relexing`] and a
+//! [`Stepper`] test nothing: lists that are not those of the old text give wrong tokens or a panic. The repository's
+//! `docs/ERASED.md` says what is claimed and what is trusted.
 //!
 //! # A program that keeps the tokens of a file
 //!
@@ -58,6 +59,7 @@ mod lexed_text;
 #[doc(hidden)]
 pub mod support;
 mod tokens;
+mod traits;
 
 pub use cursor::Cursor;
 pub use erased::{

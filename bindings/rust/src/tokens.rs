@@ -1,6 +1,7 @@
 //! The tokens of a text, as an iterator.
 
 use crate::{Edition, FrontmatterAllowed, Record, Token, erased, fitting};
+use core::fmt;
 use core::iter::FusedIterator;
 
 /// The tokens of a text, in order.
@@ -95,6 +96,13 @@ impl Iterator for Tokens<'_> {
 }
 
 impl FusedIterator for Tokens<'_> {}
+
+/// The text whose tokens were not given out yet.
+impl fmt::Debug for Tokens<'_> {
+    fn fmt(&self, f: &mut fmt::Formatter<'_>) -> fmt::Result {
+        f.debug_tuple("Tokens").field(&self.as_str()).finish()
+    }
+}
 
 /// The tokens of a text in an edition, in order. No frontmatter is allowed: with `Edition::E2024` they are those of
 /// [`tokenize`] with `FrontmatterAllowed::No`.

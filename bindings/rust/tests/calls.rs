@@ -298,3 +298,16 @@ fn hashes_without_number() {
 fn a_check_of_no_raw_string() {
     let _ = validate_raw_str("b\"a\"", 2);
 }
+
+#[test]
+fn what_is_written_of_values() {
+    assert_eq!(format!("{:?}", FrontmatterAllowed::Yes), "Yes");
+    let cursor = Cursor::new("a b", FrontmatterAllowed::No);
+    assert_eq!(format!("{cursor:?}"), r#"Cursor("a b")"#);
+    let mut tokens = tokenize("a b", FrontmatterAllowed::No);
+    tokens.next();
+    assert_eq!(format!("{tokens:?}"), r#"Tokens(" b")"#);
+    for edition in Edition::ALL {
+        assert_eq!(edition.to_string().parse(), Ok(edition));
+    }
+}

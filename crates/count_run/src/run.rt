@@ -4,13 +4,15 @@ ghost use Rattle.std.specs.Io.KnownBytes.{Appends, Keeps};
 ghost use Rattle.std.specs.Str.{IsUtf8};
 ghost use Rattle.std.specs.Str.Lines.{lines};
 ghost use Rattle.ends.specs.Known.{AppendsFront};
+ghost use Rattle.sources.specs.Outcomes.{Sources, passed_over, source, CameFrom, IsOfSource};
 ghost use Rattle.sources.specs.Reasons.{IsInputFault, IsNoText, IsText};
 ghost use Rattle.count_run.specs.Lines.{line_counts, lines_counted};
-ghost use Rattle.count_run.specs.Outcome.{Sources, passed_over, source, IsCountOf, IsOfInput, IsOfSource, IsOutcome};
+ghost use Rattle.count_run.specs.Outcome.{IsCountOf, IsCounted, IsOfInput, IsOutcome};
 ghost use Rattle.count_run.specs.Outcome as spec;
 ghost use Rattle.count_run.specs.Printed.{printed};
 ghost use Rattle.count_run.specs.Report.{no_counts, sums, total_of};
 ghost use Rattle.count_run.specs.Stop.{IsDone, IsReportStop, IsWriteStop};
+ghost use Rattle.count_run.specs.declared.lines.LineCounts.{LineCounts as TheCounts};
 
 use crate::job::Layout;
 use crate::lines::{LineCounts, count_lines};
@@ -82,10 +84,9 @@ pub fn count_paths<R: Files + AllocGlobal + Clone + Drop>(
 
 /// Counts the lines of the files that were found: each is counted or passed over, in order.
 fn count_found<R: Files + AllocGlobal>(rt: &R, found: Found) -> Result<Outcome, AllocError>
-    ensures sources { IfOk result (λ outcome. (sources : Sources)
-        × (map (λ came. came.0) sources ≡ found.files.items)
-        × (outcome.report.files.items ≡ spec.counted sources)
-        × (outcome.faults.items ≡ found.faults.items ++ passed_over sources)) }
+    ensures sources { IfOk result (λ outcome. (sources : Sources TheCounts)
+        × CameFrom IsCounted found.files.items found.faults.items sources outcome.faults.items
+        × (outcome.report.files.items ≡ spec.counted sources)) }
     ensures total { IfOk result
         (λ outcome. outcome.report.total ≡ total_of outcome.report.files.items) }
 {

@@ -1,4 +1,6 @@
 //! Why nothing is made of a source.
+ghost use Rattle.std.specs.Prelude.{◌≡◌};
+ghost use Rattle.erase_run.specs.declared.stop.Stop.TheVariants.{Memory};
 
 use std::alloc::AllocError;
 
@@ -12,6 +14,8 @@ pub enum Stop {
 }
 
 impl From<AllocError> for Stop {
+    ghost from_gives = { λ _ stop. stop ≡ Memory };
+
     fn from(_error: AllocError) -> Stop {
         Stop::Memory
     }

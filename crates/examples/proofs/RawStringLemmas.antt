@@ -1,7 +1,7 @@
 -- The loop that checks raw strings.
 use Rattle.std.proofs.Common.{◌≡◌, ℕ, ◌+◌, List, [], ◌∷◌, ◌++◌, take, drop, sym, ap, subst, ◌∙◌, append_assoc, Option, Some}
 use Rattle.rustc_lexer.specs.declared.token.Token.{Token}
-use Rattle.rustc_lexer.specs.Pieces.{pieces_from}
+use Rattle.rustc_lexer.specs.Edits.{pieces_from}
 use Rattle.rustc_lexer.specs.Tokens.{HasText, HaveTexts}
 use Rattle.examples.specs.declared.raw_strings.RawFault.{RawFault}
 use Rattle.examples.specs.RawStrings.{faults_of, raw_fault, with_fault}

@@ -6,9 +6,9 @@ use Rattle.std.specs.Fmt.{WritesInCalls}
 use Rattle.rustc_lexer.specs.declared.relex.relexing.Relexed.{Relexed}
 use Rattle.rustc_lexer.specs.declared.token.Token.{Token}
 use Rattle.rustc_lexer.specs.Tokens.{bound, tokens_by}
-use Rattle.rustc_lexer.specs.Edits.{IsEdit, apply, ends_past, is_bound, kept_front, kept_front_from, least_from, meet, meets_at, relexed_of}
-use Rattle.rustc_lexer.specs.Locality.{has_two, IsGrammar, IsText}
-use Rattle.rustc_lexer.specs.Pieces.{Placed, pieces_from, pieces_of}
+use Rattle.rustc_lexer.specs.Edits.{IsEdit, apply, ends_past, is_bound, kept_front, kept_front_from, least_from, meet, meets_at, relexed_of, Placed, pieces_from, pieces_of}
+use Rattle.rustc_lexer.specs.Locality.{has_two, IsGrammar}
+use Rattle.rustc_lexer.specs.Classes.{IsText}
 use Rattle.rustc_lexer.proofs.BoundLemmas.{bound-last, ends_past-at, is_bound-elim, is_bound-intro, least_from_ge, rises}
 use Rattle.rustc_lexer.proofs.EditLemmas.{IsEdited, edited, front-none, has_two-before, bound-take, kept_same, met_rest, same_rest, start_inside}
 use Rattle.rustc_lexer.proofs.PieceLemmas.{drop-pieces, take-pieces}

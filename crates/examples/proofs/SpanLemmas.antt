@@ -2,7 +2,7 @@
 use Rattle.std.proofs.Common.{◌≡◌, ℕ, ◌+◌, Bool, false, if◌then◌else◌, List, [], ◌∷◌, ◌++◌, length, map, take, drop, sym, ap, ◌∙◌, append_assoc}
 use Rattle.std.proofs.lemmas.List.{map-append}
 use Rattle.rustc_lexer.specs.declared.token.Token.{Token}
-use Rattle.rustc_lexer.specs.Pieces.{Placed, pieces_from}
+use Rattle.rustc_lexer.specs.Edits.{Placed, pieces_from}
 use Rattle.examples.specs.declared.spans.Span.{Span}
 use Rattle.examples.specs.Comments.{is_skipped}
 use Rattle.examples.specs.Spans.{Spanned, span_of, spanned, spans_of}

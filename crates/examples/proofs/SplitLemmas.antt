@@ -6,7 +6,7 @@ use Rattle.std.proofs.lemmas.List.Folds.{flat_map-map}
 use Rattle.rustc_lexer.specs.declared.token.Token.{Token}
 use Rattle.rustc_lexer.specs.Tokens.{bound, TakesToken, tokens_left, Partitions}
 use Rattle.rustc_lexer.specs.State.{State}
-use Rattle.rustc_lexer.specs.Pieces.{pieces_from, pieces_of}
+use Rattle.rustc_lexer.specs.Edits.{pieces_from, pieces_of}
 use Rattle.examples.specs.Joined.{joined}
 use Rattle.examples.specs.Split.{texts_of}
 

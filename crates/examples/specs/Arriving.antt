@@ -4,7 +4,8 @@ use Rattle.rustc_lexer.specs.declared.edition.Edition.TheVariants.{E2024}
 use Rattle.rustc_lexer.specs.declared.token.Token.{Token}
 use Rattle.rustc_lexer.specs.Tokens.{bound, tokens_of}
 use Rattle.rustc_lexer.specs.LanguageText.{part}
-use Rattle.rustc_lexer.specs.Locality.{IsSettled, IsText}
+use Rattle.rustc_lexer.specs.Locality.{IsSettled}
+use Rattle.rustc_lexer.specs.Classes.{IsText}
 
 -- however the text goes on, its tokens are those that were given and then those of the rest as it goes on
 abbrev pub GivesFirst : List ℕ → List Token → List ℕ → Type 0

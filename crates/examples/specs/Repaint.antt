@@ -1,7 +1,7 @@
 -- What is shown of a text that is kept with its tokens, and what an edit makes of it.
 use Rattle.std.specs.Prelude.{ℕ, ◌+◌, ◌-◌, List, [], ◌∷◌, ◌++◌, length, map, take, drop}
 use Rattle.rustc_lexer.specs.declared.relex.relexing.Relexed.{Relexed}
-use Rattle.rustc_lexer.specs.Pieces.{Placed}
+use Rattle.rustc_lexer.specs.Edits.{Placed}
 use Rattle.examples.specs.Highlight.{Part, Mark, Text, close_mark, open_mark}
 
 -- each piece between its marks

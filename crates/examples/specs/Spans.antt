@@ -1,7 +1,7 @@
 -- The tokens of a file, as a parser reads them.
 use Rattle.std.specs.Prelude.{ℕ, ◌+◌, if◌then◌else◌, List, [], ◌∷◌}
 use Rattle.rustc_lexer.specs.declared.token.TokenKind.{TokenKind}
-use Rattle.rustc_lexer.specs.Pieces.{Placed}
+use Rattle.rustc_lexer.specs.Edits.{Placed}
 use Rattle.examples.specs.Comments.{is_skipped}
 use Rattle.examples.specs.declared.spans.Span.{Span}
 

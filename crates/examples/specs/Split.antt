@@ -1,6 +1,6 @@
 -- The parts of a text that its tokens are.
 use Rattle.std.specs.Prelude.{ℕ, List, map}
-use Rattle.rustc_lexer.specs.Pieces.{Placed}
+use Rattle.rustc_lexer.specs.Edits.{Placed}
 
 -- what each piece has of the text
 abbrev pub texts_of : List Placed → List (List ℕ)

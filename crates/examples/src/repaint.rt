@@ -1,8 +1,7 @@
 //! A text that is shown with its tokens marked, and painted anew where an edit changed them.
 ghost use Rattle.std.specs.Prelude.{◌≡◌, ◌+◌, ◌-◌, OnOk, OnErr, IfOk, length};
 ghost use Rattle.std.specs.Fmt.{WritesInCalls};
-ghost use Rattle.rustc_lexer.specs.Edits.{IsEdit, apply};
-ghost use Rattle.rustc_lexer.specs.Pieces.{pieces_of};
+ghost use Rattle.rustc_lexer.specs.Edits.{IsEdit, apply, pieces_of};
 ghost use Rattle.examples.specs.Highlight.{with_marks};
 ghost use Rattle.examples.specs.Repaint.{changed, marked, shown_after};
 

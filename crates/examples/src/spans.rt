@@ -1,7 +1,7 @@
 //! The tokens of a file, as a parser reads them.
 ghost use Rattle.std.specs.Prelude.{◌≡◌, ◌+◌, ◌<◌, ◌^◌, IfOk, length, map};
 ghost use Rattle.rustc_lexer.specs.Classes.{Fits};
-ghost use Rattle.rustc_lexer.specs.Pieces.{pieces_of};
+ghost use Rattle.rustc_lexer.specs.Edits.{pieces_of};
 ghost use Rattle.rustc_lexer.specs.declared.edition.Edition.TheVariants.{E2024};
 ghost use Rattle.rustc_lexer.specs.LanguageText.{document};
 ghost use Rattle.rustc_lexer.specs.Tokens.{tokens_of};

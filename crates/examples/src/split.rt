@@ -3,7 +3,7 @@ ghost use Rattle.std.specs.Prelude.{◌≡◌, IfOk, map};
 ghost use Rattle.rustc_lexer.specs.Classes.{Fits};
 ghost use Rattle.rustc_lexer.specs.LanguageText.{part};
 ghost use Rattle.rustc_lexer.specs.Tokens.{tokens_of};
-ghost use Rattle.rustc_lexer.specs.Pieces.{pieces_of};
+ghost use Rattle.rustc_lexer.specs.Edits.{pieces_of};
 ghost use Rattle.examples.specs.Joined.{joined};
 ghost use Rattle.examples.specs.Split.{texts_of};
 

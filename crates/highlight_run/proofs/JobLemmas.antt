@@ -6,7 +6,7 @@ use Rattle.std.specs.Str.{bytes_eq}
 use Rattle.rustc_lexer.specs.declared.edition.Edition.{Edition}
 use Rattle.highlight_run.specs.declared.job.Options.{Options}
 use Rattle.highlight_run.specs.declared.job.When.{When}
-use Rattle.rustc_lexer.specs.LanguageIn.{edition_of}
+use Rattle.rustc_lexer.specs.LanguageText.{edition_of}
 use Rattle.highlight_run.specs.Job.{in_edition, options_of, page, when_of, with_colours}
 
 abbrev Word : Type 0

@@ -5,8 +5,7 @@ use Rattle.rustc_lexer.specs.declared.edition.Edition.{Edition}
 use Rattle.rustc_lexer.specs.declared.relex.edit.Edit.{Edit as TextEdit}
 use Rattle.rustc_lexer.specs.declared.relex.edit_list.EditStop.{EditStop}
 use Rattle.rustc_lexer.specs.declared.relex.edit_list.EditStop.TheVariants.{Range, TooLong, Memory}
-use Rattle.rustc_lexer.specs.EditLists.{applied, apply_list, stop_at, AreEdits, IsStop}
-use Rattle.rustc_lexer.specs.Edits.{IsInside, IsShort}
+use Rattle.rustc_lexer.specs.Edits.{applied, apply_list, stop_at, AreEdits, IsStop, IsInside, IsShort}
 use Rattle.lexdump_run.specs.declared.fault.Fault.{Fault}
 use Rattle.lexdump_run.specs.declared.fault.Fault.TheVariants.{EditRange, EditTooLong}
 use Rattle.lexdump_run.specs.Fault.{stop_fault}

@@ -9,8 +9,9 @@ use Rattle.rustc_lexer.proofs.EditLemmas.{bound-same}
 use Rattle.rustc_lexer.proofs.FrontLemmas.{bound-shift}
 use Rattle.rustc_lexer.specs.laws.Tokens.{tokens-nil}
 use Rattle.lexdump_run.specs.Listing.{line_text, listing_from, listing}
-use Rattle.ends.specs.Known.{AppendsFront, Went}
-use Rattle.lexdump_run.proofs.PushLemmas.{went_none, went_pushed, front_pushed}
+use Rattle.ends.specs.Known.{Went}
+use Rattle.lexdump_run.specs.Pushed.{Stopped}
+use Rattle.lexdump_run.proofs.PushLemmas.{went_none, went_pushed, stopped_pushed}
 
 -- of all that is to go out, what is held and the lines of the tokens that are left are still to come; the next of them
 -- begins at `start`, and the last ends at `size`
@@ -39,8 +40,8 @@ module _ (old mid new : Option (List ℕ)) (all held bytes : List ℕ) (left res
   pub list_step : next + bound rest (length rest) ≡ size → (more : List ℕ) → Went mid new (held ++ bytes) more → Lists old new all more rest next size
   list_step f more w = record { lines = went_pushed old mid new all held bytes (listing_from next rest) more to_come w; place = f }
 
-  pub list_front : AppendsFront mid new (held ++ bytes) → AppendsFront old new all
-  list_front f = front_pushed old mid new all held bytes (listing_from next rest) to_come f
+  pub list_stopped : (more : List ℕ) → Stopped mid new (held ++ bytes) more → Stopped old new all more
+  list_stopped more s = stopped_pushed old mid new all held bytes (listing_from next rest) more to_come s
 
 pub list_end : (old new : Option (List ℕ)) (all held : List ℕ) (left : List Token) (start size : ℕ) → Lists old new all held left start size → left ≡ [] → Went old new all held
 list_end old new all held left start size at e =
@@ -67,8 +68,8 @@ module _ (old mid : Option (List ℕ)) (all held : List ℕ) (tokens : List Toke
   pub line_step : (new : Option (List ℕ)) (more : List ℕ) → Went mid new (held ++ line_text start (get_or tokens i d)) more → Lists old new all more (drop (i + 1) tokens) (start + (get_or tokens i d).len) size
   line_step new more w = list_step old mid new all held (line_text start (get_or tokens i d)) (drop i tokens) (drop (i + 1) tokens) start (start + (get_or tokens i d).len) size at (ap (listing_from start) one) end more w
 
-  pub line_front : (new : Option (List ℕ)) → AppendsFront mid new (held ++ line_text start (get_or tokens i d)) → AppendsFront old new all
-  line_front new f = list_front old mid new all held (line_text start (get_or tokens i d)) (drop i tokens) (drop (i + 1) tokens) start (start + (get_or tokens i d).len) size at (ap (listing_from start) one) f
+  pub line_stopped : (new : Option (List ℕ)) (more : List ℕ) → Stopped mid new (held ++ line_text start (get_or tokens i d)) more → Stopped old new all more
+  line_stopped new more s = list_stopped old mid new all held (line_text start (get_or tokens i d)) (drop i tokens) (drop (i + 1) tokens) start (start + (get_or tokens i d).len) size at (ap (listing_from start) one) more s
 
 -- ---- room by room
 
@@ -112,8 +113,8 @@ module _ (old mid : Option (List ℕ)) (tokens left block : List Token) (first h
         within = omega (arith, long, at.within, length-drop (bound left count) rest);
       }
 
-  pub rooms_front : (new : Option (List ℕ)) → AppendsFront mid new (held ++ listing_from start block) → AppendsFront old new (first ++ listing tokens)
-  rooms_front new f = list_front old mid new (first ++ listing tokens) held (listing_from start block) left (drop count left) start (start + bound left count) (length text) here split f
+  pub rooms_stopped : (new : Option (List ℕ)) (more : List ℕ) → Stopped mid new (held ++ listing_from start block) more → Stopped old new (first ++ listing tokens) more
+  rooms_stopped new more s = list_stopped old mid new (first ++ listing tokens) held (listing_from start block) left (drop count left) start (start + bound left count) (length text) here split more s
 
 pub rooms_end : (old new : Option (List ℕ)) (tokens left : List Token) (first held text rest : List ℕ) → ListsRooms old new tokens left first held text rest → left ≡ [] → Went old new (first ++ listing tokens) held
 rooms_end old new tokens left first held text rest at e = list_end old new (first ++ listing tokens) held left (length text - length rest) (length text) at.lists e

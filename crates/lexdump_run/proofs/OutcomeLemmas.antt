@@ -15,6 +15,7 @@ use Rattle.lexdump_run.specs.declared.fault.Fault.TheVariants.{Arguments, NotUtf
 use Rattle.lexdump_run.specs.declared.job.Job.{Job}
 use Rattle.lexdump_run.specs.Outcome.{printed, outcome, IsAnswer, Writes}
 use Rattle.lexdump_run.specs.Pushed.{Prints}
+use Rattle.lexdump_run.proofs.PushLemmas.{stopped_front}
 
 outcome-long : (job : Job) (bytes : List ℕ) → 2 ^ 32 ≤ length bytes → outcome job bytes ≡ Err TooLong
 unfolding outcome
@@ -103,7 +104,7 @@ module _ (old new : Option (List ℕ)) (held left : List ℕ) (printed : Result 
   stop_writes none Memory p = p
   stop_writes none (EditRange at) p = p.1
   stop_writes none (EditTooLong at) p = p.1
-  stop_writes none Write p = subst (λ (o : Result (List ℕ) Fault). IfOk o (λ text. AppendsFront old new text)) (sym p.1) (subst (λ (xs : List ℕ). AppendsFront old new (xs ++ p.0)) none p.2.1)
+  stop_writes none Write p = subst (λ (o : Result (List ℕ) Fault). IfOk o (λ text. AppendsFront old new text)) (sym p.1) (subst (λ (xs : List ℕ). AppendsFront old new (xs ++ p.0)) none (stopped_front old new (held ++ p.0) left p.2.1))
   stop_writes none Read p = let e = p.2.0 in cc
   stop_writes none Arguments p = let e = p.2.0 in cc
   stop_writes none NotUtf8 p = let e = p.2.0 in cc

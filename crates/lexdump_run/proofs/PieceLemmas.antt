@@ -1,10 +1,11 @@
 -- The loop that lists the pieces of a text.
 use Rattle.std.proofs.Common.{◌≡◌, ℕ, ◌+◌, List, [], ◌∷◌, ◌++◌, refl, sym, ap, ◌∙◌, append-nil, subst, Option}
 use Rattle.rustc_lexer.specs.declared.token.Token.{Token}
-use Rattle.rustc_lexer.specs.Pieces.{Placed, pieces_from, pieces_of}
+use Rattle.rustc_lexer.specs.Edits.{Placed, pieces_from, pieces_of}
 use Rattle.lexdump_run.specs.Listing.{line_text, listing_from, listing}
-use Rattle.ends.specs.Known.{AppendsFront, Went}
-use Rattle.lexdump_run.proofs.PushLemmas.{went_none, went_pushed, front_pushed}
+use Rattle.ends.specs.Known.{Went}
+use Rattle.lexdump_run.specs.Pushed.{Stopped}
+use Rattle.lexdump_run.proofs.PushLemmas.{went_none, went_pushed, stopped_pushed}
 
 -- the lines of the pieces
 abbrev pub lines : List Placed → List ℕ
@@ -30,8 +31,8 @@ module _ (old mid new : Option (List ℕ)) (tokens : List Token) (left rest : Li
   pub pieces_step : (more : List ℕ) → Went mid new (held ++ line_text p.start p.token) more → ListsPieces old new tokens rest first more
   pieces_step more w = went_pushed old mid new (first ++ listing tokens) held (line_text p.start p.token) (lines rest) more to_come w
 
-  pub pieces_front : AppendsFront mid new (held ++ line_text p.start p.token) → AppendsFront old new (first ++ listing tokens)
-  pieces_front f = front_pushed old mid new (first ++ listing tokens) held (line_text p.start p.token) (lines rest) to_come f
+  pub pieces_stopped : (more : List ℕ) → Stopped mid new (held ++ line_text p.start p.token) more → Stopped old new (first ++ listing tokens) more
+  pieces_stopped more s = stopped_pushed old mid new (first ++ listing tokens) held (line_text p.start p.token) (lines rest) more to_come s
 
 pub pieces_end : (old new : Option (List ℕ)) (tokens : List Token) (left : List Placed) (first held : List ℕ) → ListsPieces old new tokens left first held → left ≡ [] → Went old new (first ++ listing tokens) held
 pieces_end old new tokens left first held at e = subst (λ (xs : List ℕ). Went old new (first ++ listing tokens) xs) (ap (λ ps. held ++ lines ps) e ∙ append-nil held) at

@@ -5,8 +5,7 @@ use Rattle.std.specs.Io.KnownBytes.{Keeps, Appends}
 use Rattle.ends.specs.Known.{AppendsFront}
 use Rattle.rustc_lexer.specs.declared.edition.Edition.{Edition}
 use Rattle.rustc_lexer.specs.declared.relex.edit.Edit.{Edit as TextEdit}
-use Rattle.rustc_lexer.specs.EditLists.{applied}
-use Rattle.rustc_lexer.specs.Edits.{IsInside, IsShort}
+use Rattle.rustc_lexer.specs.Edits.{applied, IsInside, IsShort}
 use Rattle.rustc_lexer.specs.Answers.{shebang}
 use Rattle.rustc_lexer.specs.LanguageText.{document, part}
 use Rattle.rustc_lexer.specs.Tokens.{tokens_of}

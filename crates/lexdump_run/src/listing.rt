@@ -187,7 +187,7 @@ enum Rest {
 }
 
 /// What stands in the line of a kind after the token's length.
-#[tactic(auto, unfolding(rustc_lexer::specs::Kinds::kind_entry, crate::specs::Listing::fields_text))]
+#[tactic(auto, unfolding(rustc_lexer::specs::LanguageCalls::kind_entry, crate::specs::Listing::fields_text))]
 fn rest_of_line(kind: TokenKind) -> Rest
     ensures { IsRest kind result }
 {

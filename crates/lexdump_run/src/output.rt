@@ -113,7 +113,7 @@ impl Block {
         self.len = end;
     }
 
-    /// Writes what is held.
+    /// Writes what is held. Then it holds nothing; where that fails it holds what it held.
     fn write_out<W: Write>(&mut self, output: &mut Watched<W>) -> Result<(), Fault>
         requires writes { output.old.failed ≡ false }
         ensures failed { output.new.failed ≡ is_err result }
@@ -123,6 +123,7 @@ impl Block {
         ensures empty { OnOk result (self.new ≡ []) }
         ensures err { OnErr result
             (AppendsFront (W.contents output.old.inner) (W.contents output.new.inner) self.old) }
+        ensures kept { OnErr result (self.new ≡ self.old) }
     {
         write_bytes(output, &self.bytes[..self.len])?;
         self.len = 0;

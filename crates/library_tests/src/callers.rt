@@ -20,21 +20,17 @@ static MARKS: &[(&str, &str)] = &[
     ("\\", "\x1b[31m\\\x1b[0m"),
 ];
 
-/// The first text that is written with other marks, or not written.
-fn wrong_marks(alloc: Global) -> Option<&'static str> {
-    for row in MARKS {
-        let (text, wanted) = *row;
-        let mut written = String::new(alloc);
-        if !fits(text) || highlight(text, &mut written).is_err() || written.as_str() != wanted {
-            return Some(text);
-        }
-    }
-    None
+/// Whether the text is written with these marks.
+fn is_marked(alloc: Global, text: &str, wanted: &str) -> bool {
+    let mut written = String::new(alloc);
+    fits(text) && highlight(text, &mut written).is_ok() && written.as_str() == wanted
 }
 
 #[test]
 fn marks(rt: HostRuntime) {
-    assert_eq!(rt; wrong_marks(rt.alloc()), None);
+    for (text, wanted) in MARKS {
+        assert!(rt; is_marked(rt.alloc(), text, wanted), "at {text:?}");
+    }
 }
 
 /// Texts, words, and where those stand in them.
@@ -64,61 +60,32 @@ fn words(rt: HostRuntime) {
 /// Texts, and what they are past their comments.
 static COMMENTS: &[(&str, &str)] = &[("// a\n/* b */ c // d", "c // d"), ("//! a", ""), ("", "")];
 
-/// The first text that is something else past its comments.
-fn wrong_rest() -> Option<&'static str> {
-    for (text, wanted) in COMMENTS {
-        if !fits(text) || skip_comments(text) != *wanted {
-            return Some(text);
-        }
-    }
-    None
-}
-
 #[test]
 fn comments(rt: HostRuntime) {
-    assert_eq!(rt; wrong_rest(), None);
+    for (text, wanted) in COMMENTS {
+        assert!(rt; fits(text) && skip_comments(text) == *wanted, "at {text:?}");
+    }
 }
-
-/// What a parser reads of the text below.
-static SPANS: &[Span<'static>] = &[
-    Span {
-        kind: TokenKind::Ident,
-        start: 0,
-        stop: 2,
-        text: "fn",
-    },
-    Span {
-        kind: TokenKind::Ident,
-        start: 12,
-        stop: 13,
-        text: "f",
-    },
-    Span {
-        kind: TokenKind::OpenParen,
-        start: 13,
-        stop: 14,
-        text: "(",
-    },
-    Span {
-        kind: TokenKind::Ident,
-        start: 14,
-        stop: 15,
-        text: "x",
-    },
-    Span {
-        kind: TokenKind::CloseParen,
-        start: 15,
-        stop: 16,
-        text: ")",
-    },
-];
 
 #[test]
 fn parts_of_a_parser(rt: HostRuntime) {
     let text = "fn /* é */ f(x) // d";
+    let span = |kind, start, stop, text| Span {
+        kind,
+        start,
+        stop,
+        text,
+    };
+    let wanted = [
+        span(TokenKind::Ident, 0, 2, "fn"),
+        span(TokenKind::Ident, 12, 13, "f"),
+        span(TokenKind::OpenParen, 13, 14, "("),
+        span(TokenKind::Ident, 14, 15, "x"),
+        span(TokenKind::CloseParen, 15, 16, ")"),
+    ];
     assert!(rt; fits(text));
     let found = spans(rt.alloc(), text).expect(&rt, "memory");
-    assert_eq!(rt; found.as_slice(), SPANS);
+    assert_eq!(rt; found.as_slice(), wanted.as_slice());
 }
 
 #[test]
@@ -196,37 +163,41 @@ fn paint_after_an_edit(rt: HostRuntime) {
     assert_eq!(rt; written.as_str(), "cd - \x1b[32m1\x1b[0m -");
 }
 
-/// What the parts of the text below are since 2024, in 2021, and before that.
-static NEWEST: &[&str] = &[
-    "r#c", " ", "k#x", " ", "z", "\"s\"", " ", "'r#a", " ", "#\"", "a", "\"",
+/// Editions, and the parts of the text below in each.
+static PARTS: &[(Edition, &[&str])] = &[
+    (
+        Edition::E2024,
+        &[
+            "r#c", " ", "k#x", " ", "z", "\"s\"", " ", "'r#a", " ", "#\"", "a", "\"",
+        ],
+    ),
+    (
+        Edition::E2021,
+        &[
+            "r#c", " ", "k#x", " ", "z", "\"s\"", " ", "'r#a", " ", "#", "\"a\"",
+        ],
+    ),
+    (
+        Edition::E2018,
+        &[
+            "r#c", " ", "k#x", " ", "z", "\"s\"", " ", "'r", "#", "a", " ", "#", "\"a\"",
+        ],
+    ),
+    (
+        Edition::E2015,
+        &[
+            "r#c", " ", "k#x", " ", "z", "\"s\"", " ", "'r", "#", "a", " ", "#", "\"a\"",
+        ],
+    ),
 ];
-
-static WITHOUT_GUARDS: &[&str] = &[
-    "r#c", " ", "k#x", " ", "z", "\"s\"", " ", "'r#a", " ", "#", "\"a\"",
-];
-
-static WITHOUT_PREFIXES: &[&str] = &[
-    "r#c", " ", "k#x", " ", "z", "\"s\"", " ", "'r", "#", "a", " ", "#", "\"a\"",
-];
-
-/// The first edition in which the text has other parts.
-fn wrong_edition(alloc: Global) -> Result<Option<Edition>, AllocError> {
-    let text = "r#c k#x z\"s\" 'r#a #\"a\"";
-    for (edition, wanted) in [
-        (Edition::E2024, NEWEST),
-        (Edition::E2021, WITHOUT_GUARDS),
-        (Edition::E2018, WITHOUT_PREFIXES),
-        (Edition::E2015, WITHOUT_PREFIXES),
-    ] {
-        if !fits(text) || split_in(alloc, text, edition)?.as_slice() != wanted {
-            return Ok(Some(edition));
-        }
-    }
-    Ok(None)
-}
 
 #[test]
 fn parts_in_each_edition(rt: HostRuntime) -> Result<(), AllocError> {
-    assert_eq!(rt; wrong_edition(rt.alloc())?, None);
+    let text = "r#c k#x z\"s\" 'r#a #\"a\"";
+    assert!(rt; fits(text));
+    for (edition, wanted) in PARTS {
+        let parts = split_in(rt.alloc(), text, *edition)?;
+        assert!(rt; parts.as_slice() == *wanted, "in {edition:?}");
+    }
     Ok(())
 }

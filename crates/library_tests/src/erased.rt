@@ -3,7 +3,6 @@
 use erase_run::{Reason, Stop, Target, erase};
 use rustc_lexer::fits;
 use std::alloc::Global;
-use std::test::Fail;
 
 /// A module, and what is made of it.
 const MADE: [(&str, &str); 14] = [
@@ -53,6 +52,22 @@ const MADE: [(&str, &str); 14] = [
     ),
 ];
 
+/// A file of a program, and what is made of it.
+const PROGRAMS: [(&str, &str); 3] = [
+    (
+        "use std::io;\nfn main(rt: HostRuntime) -> io::Result<()> { print!(rt; \"\") }",
+        "\nuse rattle_std::prelude::print;\nuse rattle_std::io;\nfn main() -> io::Result<()> { let rt = rattle_std::rt::start(); print!(rt; \"\") }",
+    ),
+    (
+        "use crate::a::{rustc_lexer::B};\nuse rustc_lexer::{C, d::E};",
+        "use crate::a::{rustc_lexer::erased::B};\nuse rustc_lexer::erased::{C, d::E};",
+    ),
+    (
+        "fn f(a: rustc_literal_escaper::B) -> Option<rustc_lexer::C> { d::rustc_lexer::E(rustc_lexer) }",
+        "fn f(a: rustc_literal_escaper::erased::B) -> Option<rustc_lexer::erased::C> { d::rustc_lexer::E(rustc_lexer) }",
+    ),
+];
+
 /// A module that is refused, on which line, and why.
 const REFUSED: [(&str, usize, Reason); 15] = [
     ("#[repr(C)]\nstruct S;", 1, Reason::Attribute),
@@ -84,55 +99,35 @@ fn made(alloc: Global, text: &str, target: Target) -> Result<String, Stop> {
     Ok(erase(alloc, text, target)?.text)
 }
 
-#[test]
-fn sources_are_erased(rt: HostRuntime) -> Result<(), Fail> {
-    for (text, wanted) in &MADE {
-        match made(rt.alloc(), text, Target::Library) {
-            Ok(erased) => assert_eq!(rt; erased.as_str(), *wanted),
-            Err(stop) => assert!(rt; false, "{text}: {stop:?}"),
-        }
-    }
-    Ok(())
+/// Whether this is made of a source.
+fn is_made(alloc: Global, text: &str, target: Target, wanted: &str) -> bool {
+    made(alloc, text, target).is_ok_and(|erased| erased.as_str() == wanted)
 }
 
 #[test]
-fn what_is_not_known_is_refused(rt: HostRuntime) -> Result<(), Fail> {
+fn sources_are_erased(rt: HostRuntime) {
+    for (text, wanted) in &MADE {
+        assert!(rt;
+            is_made(rt.alloc(), text, Target::Library, wanted),
+            "{text}"
+        );
+    }
+    for (text, wanted) in &PROGRAMS {
+        assert!(rt;
+            is_made(rt.alloc(), text, Target::Program, wanted),
+            "{text}"
+        );
+    }
+}
+
+#[test]
+fn what_is_not_known_is_refused(rt: HostRuntime) {
     for (text, line, reason) in &REFUSED {
         let refused = Stop::Refused {
             line: *line,
             reason: *reason,
         };
-        match made(rt.alloc(), text, Target::Library) {
-            Ok(erased) => assert!(rt; false, "{text}: {erased}"),
-            Err(stop) => assert_eq!(rt; stop, refused, "{text}"),
-        }
+        let came = made(rt.alloc(), text, Target::Library);
+        assert!(rt; came.is_err_and(|stop| stop == refused), "{text}");
     }
-    Ok(())
-}
-
-/// A file of a program, and what is made of it.
-const PROGRAMS: [(&str, &str); 3] = [
-    (
-        "use std::io;\nfn main(rt: HostRuntime) -> io::Result<()> { print!(rt; \"\") }",
-        "\nuse rattle_std::prelude::print;\nuse rattle_std::io;\nfn main() -> io::Result<()> { let rt = rattle_std::rt::start(); print!(rt; \"\") }",
-    ),
-    (
-        "use crate::a::{rustc_lexer::B};\nuse rustc_lexer::{C, d::E};",
-        "use crate::a::{rustc_lexer::erased::B};\nuse rustc_lexer::erased::{C, d::E};",
-    ),
-    (
-        "fn f(a: rustc_literal_escaper::B) -> Option<rustc_lexer::C> { d::rustc_lexer::E(rustc_lexer) }",
-        "fn f(a: rustc_literal_escaper::erased::B) -> Option<rustc_lexer::erased::C> { d::rustc_lexer::E(rustc_lexer) }",
-    ),
-];
-
-#[test]
-fn programs_stand_on_made_libraries(rt: HostRuntime) -> Result<(), Fail> {
-    for (text, wanted) in &PROGRAMS {
-        match made(rt.alloc(), text, Target::Program) {
-            Ok(erased) => assert_eq!(rt; erased.as_str(), *wanted),
-            Err(stop) => assert!(rt; false, "{text}: {stop:?}"),
-        }
-    }
-    Ok(())
 }

@@ -8,6 +8,4 @@ mod erased;
 #[cfg(test)]
 mod literals;
 #[cfg(test)]
-mod program_ends;
-#[cfg(test)]
 mod texts;

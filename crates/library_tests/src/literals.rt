@@ -1,4 +1,8 @@
 //! What literals stand for, what is wrong in them, and what is written of texts and bytes.
+use EscapeError::{
+    InvalidEscape, LoneSurrogateUnicodeEscape, MoreThanOneChar, NonAsciiCharInByte,
+    OutOfRangeHexEscape, OutOfRangeUnicodeEscape, UnicodeEscapeInByte,
+};
 use rustc_literal_escaper::{
     Elements, EscapeCStrError, EscapeError, Faults, MixedUnit, Mode, check_for_errors,
     check_raw_byte_str, check_raw_c_str, check_raw_str, escape_byte_str, escape_c_str, escape_str,
@@ -45,127 +49,69 @@ static BAD_IN_BOTH: &[(&str, EscapeError)] = &[
     ("\\u{0000000}", EscapeError::OverlongUnicodeEscape),
 ];
 
-/// What characters stand for, and what is wrong in characters alone.
-static CHARACTERS: &[(&str, Result<char, EscapeError>)] = &[
-    ("a", Ok('a')),
-    ("ы", Ok('ы')),
-    ("🦀", Ok('🦀')),
-    ("\\\"", Ok('"')),
-    ("\\n", Ok('\n')),
-    ("\\r", Ok('\r')),
-    ("\\t", Ok('\t')),
-    ("\\\\", Ok('\\')),
-    ("\\'", Ok('\'')),
-    ("\\0", Ok('\0')),
-    ("\\x00", Ok('\0')),
-    ("\\x5a", Ok('Z')),
-    ("\\x5A", Ok('Z')),
-    ("\\x7f", Ok('\x7f')),
-    ("\\u{0}", Ok('\0')),
-    ("\\u{000000}", Ok('\0')),
-    ("\\u{41}", Ok('A')),
-    ("\\u{0041}", Ok('A')),
-    ("\\u{00_41}", Ok('A')),
-    ("\\u{4__1__}", Ok('A')),
-    ("\\u{1F63b}", Ok('😻')),
-    ("\\u{0}x", Err(EscapeError::MoreThanOneChar)),
-    ("\\u{1F63b}}", Err(EscapeError::MoreThanOneChar)),
-    ("\\\r", Err(EscapeError::InvalidEscape)),
-    ("\\xff", Err(EscapeError::OutOfRangeHexEscape)),
-    ("\\xFF", Err(EscapeError::OutOfRangeHexEscape)),
-    ("\\x80", Err(EscapeError::OutOfRangeHexEscape)),
-    ("\\u{FFFFFF}", Err(EscapeError::OutOfRangeUnicodeEscape)),
-    ("\\u{ffffff}", Err(EscapeError::OutOfRangeUnicodeEscape)),
-    ("\\u{110000}", Err(EscapeError::OutOfRangeUnicodeEscape)),
-    ("\\u{DC00}", Err(EscapeError::LoneSurrogateUnicodeEscape)),
-    ("\\u{DDDD}", Err(EscapeError::LoneSurrogateUnicodeEscape)),
-    ("\\u{DFFF}", Err(EscapeError::LoneSurrogateUnicodeEscape)),
-    ("\\u{D800}", Err(EscapeError::LoneSurrogateUnicodeEscape)),
-    ("\\u{DAAA}", Err(EscapeError::LoneSurrogateUnicodeEscape)),
-    ("\\u{DBFF}", Err(EscapeError::LoneSurrogateUnicodeEscape)),
-];
+/// What a text stands for as a character and as a byte, or what is wrong in it.
+type Literal = (
+    &'static str,
+    Result<char, EscapeError>,
+    Result<u8, EscapeError>,
+);
 
-/// What bytes stand for, and what is wrong in bytes alone.
-static BYTES: &[(&str, Result<u8, EscapeError>)] = &[
-    ("a", Ok(b'a')),
-    ("\\\"", Ok(b'"')),
-    ("\\n", Ok(b'\n')),
-    ("\\r", Ok(b'\r')),
-    ("\\t", Ok(b'\t')),
-    ("\\\\", Ok(b'\\')),
-    ("\\'", Ok(b'\'')),
-    ("\\0", Ok(0)),
-    ("\\x00", Ok(0)),
-    ("\\x5a", Ok(90)),
-    ("\\x5A", Ok(90)),
-    ("\\x7f", Ok(127)),
-    ("\\x80", Ok(128)),
-    ("\\xff", Ok(255)),
-    ("\\xFF", Ok(255)),
-    ("ы", Err(EscapeError::NonAsciiCharInByte)),
-    ("🦀", Err(EscapeError::NonAsciiCharInByte)),
-    ("\\u{0}", Err(EscapeError::UnicodeEscapeInByte)),
-    ("\\u{000000}", Err(EscapeError::UnicodeEscapeInByte)),
-    ("\\u{41}", Err(EscapeError::UnicodeEscapeInByte)),
-    ("\\u{0041}", Err(EscapeError::UnicodeEscapeInByte)),
-    ("\\u{00_41}", Err(EscapeError::UnicodeEscapeInByte)),
-    ("\\u{4__1__}", Err(EscapeError::UnicodeEscapeInByte)),
-    ("\\u{1F63b}", Err(EscapeError::UnicodeEscapeInByte)),
-    ("\\u{0}x", Err(EscapeError::UnicodeEscapeInByte)),
-    ("\\u{1F63b}}", Err(EscapeError::UnicodeEscapeInByte)),
-    ("\\u{FFFFFF}", Err(EscapeError::UnicodeEscapeInByte)),
-    ("\\u{ffffff}", Err(EscapeError::UnicodeEscapeInByte)),
-    ("\\u{DC00}", Err(EscapeError::UnicodeEscapeInByte)),
-    ("\\u{DDDD}", Err(EscapeError::UnicodeEscapeInByte)),
-    ("\\u{DFFF}", Err(EscapeError::UnicodeEscapeInByte)),
-    ("\\u{D800}", Err(EscapeError::UnicodeEscapeInByte)),
-    ("\\u{DAAA}", Err(EscapeError::UnicodeEscapeInByte)),
-    ("\\u{DBFF}", Err(EscapeError::UnicodeEscapeInByte)),
-];
+/// Rows `text => the character, the byte;`.
+macro_rules! literals {
+    ($($text:literal => $character:expr, $byte:expr;)*) => {
+        &[$(($text, $character, $byte)),*]
+    };
+}
 
-/// The first text in which something else is wrong than the rows say, as a character or as a byte.
-fn wrong_in_both() -> Option<&'static str> {
+static LITERALS: &[Literal] = literals! {
+    "a" => Ok('a'), Ok(b'a');
+    "ы" => Ok('ы'), Err(NonAsciiCharInByte);
+    "🦀" => Ok('🦀'), Err(NonAsciiCharInByte);
+    "\\\"" => Ok('"'), Ok(b'"');
+    "\\n" => Ok('\n'), Ok(b'\n');
+    "\\r" => Ok('\r'), Ok(b'\r');
+    "\\t" => Ok('\t'), Ok(b'\t');
+    "\\\\" => Ok('\\'), Ok(b'\\');
+    "\\'" => Ok('\''), Ok(b'\'');
+    "\\0" => Ok('\0'), Ok(0);
+    "\\x00" => Ok('\0'), Ok(0);
+    "\\x5a" => Ok('Z'), Ok(90);
+    "\\x5A" => Ok('Z'), Ok(90);
+    "\\x7f" => Ok('\x7f'), Ok(127);
+    "\\u{0}" => Ok('\0'), Err(UnicodeEscapeInByte);
+    "\\u{000000}" => Ok('\0'), Err(UnicodeEscapeInByte);
+    "\\u{41}" => Ok('A'), Err(UnicodeEscapeInByte);
+    "\\u{0041}" => Ok('A'), Err(UnicodeEscapeInByte);
+    "\\u{00_41}" => Ok('A'), Err(UnicodeEscapeInByte);
+    "\\u{4__1__}" => Ok('A'), Err(UnicodeEscapeInByte);
+    "\\u{1F63b}" => Ok('😻'), Err(UnicodeEscapeInByte);
+    "\\u{0}x" => Err(MoreThanOneChar), Err(UnicodeEscapeInByte);
+    "\\u{1F63b}}" => Err(MoreThanOneChar), Err(UnicodeEscapeInByte);
+    "\\\r" => Err(InvalidEscape), Err(InvalidEscape);
+    "\\xff" => Err(OutOfRangeHexEscape), Ok(255);
+    "\\xFF" => Err(OutOfRangeHexEscape), Ok(255);
+    "\\x80" => Err(OutOfRangeHexEscape), Ok(128);
+    "\\u{FFFFFF}" => Err(OutOfRangeUnicodeEscape), Err(UnicodeEscapeInByte);
+    "\\u{ffffff}" => Err(OutOfRangeUnicodeEscape), Err(UnicodeEscapeInByte);
+    "\\u{110000}" => Err(OutOfRangeUnicodeEscape), Err(UnicodeEscapeInByte);
+    "\\u{DC00}" => Err(LoneSurrogateUnicodeEscape), Err(UnicodeEscapeInByte);
+    "\\u{DDDD}" => Err(LoneSurrogateUnicodeEscape), Err(UnicodeEscapeInByte);
+    "\\u{DFFF}" => Err(LoneSurrogateUnicodeEscape), Err(UnicodeEscapeInByte);
+    "\\u{D800}" => Err(LoneSurrogateUnicodeEscape), Err(UnicodeEscapeInByte);
+    "\\u{DAAA}" => Err(LoneSurrogateUnicodeEscape), Err(UnicodeEscapeInByte);
+    "\\u{DBFF}" => Err(LoneSurrogateUnicodeEscape), Err(UnicodeEscapeInByte);
+};
+
+#[test]
+fn characters_and_bytes(rt: HostRuntime) {
     for (text, error) in BAD_IN_BOTH {
-        if unescape_char(text) != Err(*error) || unescape_byte(text) != Err(*error) {
-            return Some(text);
-        }
+        let is_so = unescape_char(text) == Err(*error) && unescape_byte(text) == Err(*error);
+        assert!(rt; is_so, "at {text:?}");
     }
-    None
-}
-
-#[test]
-fn faults_of_both(rt: HostRuntime) {
-    assert_eq!(rt; wrong_in_both(), None);
-}
-
-/// The first text that stands for another character than the rows say.
-fn wrong_character() -> Option<&'static str> {
-    for (text, meaning) in CHARACTERS {
-        if unescape_char(text) != *meaning {
-            return Some(text);
-        }
+    for (text, character, byte) in LITERALS {
+        let is_so = unescape_char(text) == *character && unescape_byte(text) == *byte;
+        assert!(rt; is_so, "at {text:?}");
     }
-    None
-}
-
-#[test]
-fn characters(rt: HostRuntime) {
-    assert_eq!(rt; wrong_character(), None);
-}
-
-/// The first text that stands for another byte than the rows say.
-fn wrong_byte() -> Option<&'static str> {
-    for (text, meaning) in BYTES {
-        if unescape_byte(text) != *meaning {
-            return Some(text);
-        }
-    }
-    None
-}
-
-#[test]
-fn bytes(rt: HostRuntime) {
-    assert_eq!(rt; wrong_byte(), None);
 }
 
 #[test]
@@ -180,11 +126,13 @@ fn modes(rt: HostRuntime) {
 /// A place in a string with what stands there: a character, or what is wrong.
 type Found = (usize, usize, Result<char, EscapeError>);
 
-static STRINGS: &[(&str, &[Found])] = &[
-    ("\\\n", &[]),
-    ("\\\n ", &[]),
+/// Texts, whether each is one of a raw string, and what stands there.
+static STRINGS: &[(&str, bool, &[Found])] = &[
+    ("\\\n", false, &[]),
+    ("\\\n ", false, &[]),
     (
         "\\\n \u{a0} x",
+        false,
         &[
             (0, 5, Err(EscapeError::UnskippedWhitespaceWarning)),
             (3, 5, Ok('\u{a0}')),
@@ -194,16 +142,15 @@ static STRINGS: &[(&str, &[Found])] = &[
     ),
     (
         "\\\n  \n  x",
+        false,
         &[
             (0, 7, Err(EscapeError::MultipleSkippedLinesWarning)),
             (7, 8, Ok('x')),
         ],
     ),
-];
-
-static RAW_STRINGS: &[(&str, &[Found])] = &[
     (
         "\rx",
+        true,
         &[
             (0, 1, Err(EscapeError::BareCarriageReturnInRawString)),
             (1, 2, Ok('x')),
@@ -211,6 +158,7 @@ static RAW_STRINGS: &[(&str, &[Found])] = &[
     ),
     (
         "\r",
+        true,
         &[(0, 1, Err(EscapeError::BareCarriageReturnInRawString))],
     ),
 ];
@@ -226,24 +174,16 @@ fn are(elements: Elements<'_>, wanted: &[Found]) -> bool {
     left.next().is_none()
 }
 
-/// The first string with other elements than the rows say.
-fn wrong_string() -> Option<&'static str> {
-    for (text, wanted) in STRINGS {
-        if !are(Elements::new(text), wanted) {
-            return Some(text);
-        }
-    }
-    for (text, wanted) in RAW_STRINGS {
-        if !are(Elements::new_raw(text), wanted) {
-            return Some(text);
-        }
-    }
-    None
-}
-
 #[test]
 fn elements_of_strings(rt: HostRuntime) {
-    assert_eq!(rt; wrong_string(), None);
+    for (text, raw, wanted) in STRINGS {
+        let is_so = if *raw {
+            are(Elements::new_raw(text), wanted)
+        } else {
+            are(Elements::new(text), wanted)
+        };
+        assert!(rt; is_so, "at {text:?}");
+    }
 }
 
 /// Whether a string of these characters stands for this text, and so does a byte string.
@@ -266,8 +206,8 @@ fn stands_for(src: &str, text: &str) -> bool {
     is_same && chars.next().is_none() && bytes.next().is_none()
 }
 
-/// The first string that stands for another text than the rows say.
-fn wrong_text() -> Option<&'static str> {
+#[test]
+fn texts_of_strings(rt: HostRuntime) {
     for (src, text) in [
         ("foo", "foo"),
         ("", ""),
@@ -275,16 +215,8 @@ fn wrong_text() -> Option<&'static str> {
         ("hello \\\n     world", "hello world"),
         ("thread's", "thread's"),
     ] {
-        if !stands_for(src, text) {
-            return Some(src);
-        }
+        assert!(rt; stands_for(src, text), "at {src:?}");
     }
-    None
-}
-
-#[test]
-fn texts_of_strings(rt: HostRuntime) {
-    assert_eq!(rt; wrong_text(), None);
 }
 
 #[test]
@@ -327,60 +259,56 @@ fn c_strings(rt: HostRuntime) {
     assert_eq!(rt; found.as_slice(), [(0, 1, true), (1, 2, false)].as_slice());
 }
 
-#[test]
-fn errors_alone(rt: HostRuntime) {
-    let mut found = Vec::new(rt.alloc());
-    check_for_errors("a\\qb\\u{110000}", Mode::Str, |range, error| {
+/// Literals, and what is wrong in them, each with its place.
+type Wrong = (&'static str, Mode, &'static [(usize, usize, EscapeError)]);
+
+static WRONG: &[Wrong] = &[
+    (
+        "a\\qb\\u{110000}",
+        Mode::Str,
+        &[(1, 3, InvalidEscape), (4, 14, OutOfRangeUnicodeEscape)],
+    ),
+    ("spam", Mode::Char, &[(0, 2, MoreThanOneChar)]),
+];
+
+/// Whether the calls of a closure, and an iterator that stays at its end, tell these errors and no others.
+fn are_told(alloc: Global, text: &str, mode: Mode, wanted: &[(usize, usize, EscapeError)]) -> bool {
+    let mut found = Vec::new(alloc);
+    check_for_errors(text, mode, |range, error| {
         let _ = found.push((range.start, range.end, error));
     });
-    let expected = [
-        (1, 3, EscapeError::InvalidEscape),
-        (4, 14, EscapeError::OutOfRangeUnicodeEscape),
-    ];
-    assert_eq!(rt; found.as_slice(), expected.as_slice());
-    let mut found = Vec::new(rt.alloc());
-    check_for_errors("spam", Mode::Char, |range, error| {
-        let _ = found.push((range.start, range.end, error));
-    });
-    let expected = [(0, 2, EscapeError::MoreThanOneChar)];
-    assert_eq!(rt; found.as_slice(), expected.as_slice());
+    let mut faults = Faults::new(text, mode);
+    for (start, stop, error) in wanted {
+        if faults.next() != Some((*start..*stop, *error)) {
+            return false;
+        }
+    }
+    found.as_slice() == wanted && faults.next().is_none() && faults.next().is_none()
 }
 
 #[test]
-fn errors_one_after_another(rt: HostRuntime) {
-    let mut faults = Faults::new("a\\qb\\u{110000}", Mode::Str);
-    assert_eq!(rt; faults.next(), Some((1..3, EscapeError::InvalidEscape)));
-    assert_eq!(rt;
-        faults.next(),
-        Some((4..14, EscapeError::OutOfRangeUnicodeEscape))
-    );
-    assert_eq!(rt; faults.next(), None);
-    assert_eq!(rt; faults.next(), None);
-    let mut faults = Faults::new("spam", Mode::Char);
-    assert_eq!(rt; faults.next(), Some((0..2, EscapeError::MoreThanOneChar)));
-    assert_eq!(rt; faults.next(), None);
+fn errors(rt: HostRuntime) {
+    for (text, mode, wanted) in WRONG {
+        assert!(rt; are_told(rt.alloc(), text, *mode, wanted), "at {text:?}");
+    }
 }
 
-/// The first text that is written otherwise behind what stands there.
-fn wrong_written(alloc: Global) -> Option<&'static str> {
+/// Whether this is written of the text, behind what stands there.
+fn is_written(alloc: Global, text: &str, wanted: &str) -> bool {
+    let mut out = String::new(alloc);
+    out.push_str("<").is_ok() && escape_str(text, &mut out).is_ok() && out.as_str() == wanted
+}
+
+#[test]
+fn written_strings(rt: HostRuntime) {
     for (text, wanted) in [
         ("", "<"),
         ("a\"b'\\", "<a\\\"b\\'\\\\"),
         ("\n\r\t", "<\\n\\r\\t"),
         ("\0é😻", "<\\u{0}\\u{e9}\\u{1f63b}"),
     ] {
-        let mut out = String::new(alloc);
-        let is_written = out.push_str("<").is_ok() && escape_str(text, &mut out).is_ok();
-        if !is_written || out.as_str() != wanted {
-            return Some(text);
-        }
+        assert!(rt; is_written(rt.alloc(), text, wanted), "at {text:?}");
     }
-    None
-}
-
-#[test]
-fn written_strings(rt: HostRuntime) {
-    assert_eq!(rt; wrong_written(rt.alloc()), None);
 }
 
 #[test]

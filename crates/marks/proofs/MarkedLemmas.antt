@@ -5,9 +5,8 @@ use Rattle.std.specs.Fmt.{WritesInCalls}
 use Rattle.std.proofs.lemmas.Str.{IsUtf8-drop}
 use Rattle.rustc_lexer.specs.declared.edition.Edition.{Edition}
 use Rattle.rustc_lexer.specs.declared.token.Token.{Token}
-use Rattle.rustc_lexer.specs.Classes.{Fits}
+use Rattle.rustc_lexer.specs.Classes.{Fits, IsText}
 use Rattle.rustc_lexer.specs.Answers.{shebang}
-use Rattle.rustc_lexer.specs.Locality.{IsText}
 use Rattle.rustc_lexer.specs.LanguageText.{document}
 use Rattle.rustc_lexer.specs.Tokens.{bound, tokens_of, Partitions}
 use Rattle.rustc_lexer.specs.laws.Tokens.{partitions}

@@ -9,7 +9,7 @@ use Rattle.rustc_lexer.specs.declared.token.TokenKind.{TokenKind}
 use Rattle.rustc_lexer.specs.declared.token.TokenKind.TheVariants.{BlockComment, Frontmatter, InvalidIdent, UnknownPrefix as UnknownPrefixToken, UnknownPrefixLifetime, GuardedStrPrefix, Literal, Lifetime, Unknown}
 use Rattle.rustc_lexer.specs.LanguageCalls.{is_r}
 use Rattle.rustc_lexer.specs.Answers.{raw_check}
-use Rattle.rustc_lexer.specs.Spans.{next_is}
+use Rattle.rustc_lexer.specs.Classes.{next_is}
 use Rattle.marks.specs.declared.fault.Fault.{Fault}
 use Rattle.marks.specs.declared.fault.Fault.TheVariants.{OpenComment, FrontmatterSpace, FrontmatterInfostring, InvalidName, UnknownPrefix, UnknownLifetimePrefix, GuardedString, InvalidLifetime, UnknownCharacter, EmptyNumber, EmptyExponent, OpenCharacter, OpenByte, OpenString, RawStarter, OpenRawString, FewHashes, ManyHashes, InLiteral}
 use Rattle.rustc_literal_escaper.specs.declared.error.EscapeError.{EscapeError}

@@ -1,50 +1,50 @@
-//! Readers and writers that fail once and would then go on, that give after their end, and that take a part.
+//! Readers and writers that fail at one call and would then go on, that give after their end, and that move a part.
 ghost use Rattle.std.specs.Prelude.{◌≡◌, ◌≤◌, false, IfOk};
 
 use ends::Watched;
-use std::alloc::{AllocError, Global};
+use std::alloc::Global;
 use std::io;
 use std::io::{Error, ErrorKind, Read, Write};
 
-/// What an end does at one call: it fails, or moves so many bytes, if there are as many.
+/// What an end does at one call in place of moving bytes.
 #[derive(Clone, Copy)]
 pub(crate) enum Turn {
     Fails(ErrorKind),
-    Moves(usize),
+    MovesNothing,
 }
 
 /// What the ends of a run do.
 #[derive(Clone, Copy)]
-pub(crate) struct Script<'a> {
-    /// The first turns of the reader.
-    pub(crate) reads: &'a [Turn],
-    /// The first turns of the writer.
-    pub(crate) writes: &'a [Turn],
-    /// How many bytes each call past these turns moves.
+pub(crate) struct Script {
+    /// How many bytes each call moves, if there are as many.
     pub(crate) piece: usize,
+    /// The read, counted from 0, that does something else.
+    pub(crate) read: Option<(usize, Turn)>,
+    /// The write that does something else.
+    pub(crate) write: Option<(usize, Turn)>,
     /// How the first flush fails, if it does.
     pub(crate) flush: Option<ErrorKind>,
 }
 
 /// Nothing fails, and each call moves all that there is.
-pub(crate) const WHOLE: Script<'static> = Script {
-    reads: &[],
-    writes: &[],
+pub(crate) const WHOLE: Script = Script {
     piece: usize::MAX,
+    read: None,
+    write: None,
     flush: None,
 };
 
 /// Nothing fails, and each call moves a byte.
-pub(crate) const BYTES: Script<'static> = Script { piece: 1, ..WHOLE };
+pub(crate) const BYTES: Script = Script { piece: 1, ..WHOLE };
 
-impl<'a> Script<'a> {
+impl Script {
     /// The reader of these bytes.
-    pub(crate) fn reader(self, bytes: &'a [u8]) -> Watched<TurnReader<'a>>
+    pub(crate) fn reader(self, bytes: &[u8]) -> Watched<ScriptReader<'_>>
         ensures failed { result.failed ≡ false }
         ensures faulty { result.faulty ≡ false }
         ensures closed { result.closed ≡ false }
     {
-        Watched::new(TurnReader {
+        Watched::new(ScriptReader {
             bytes,
             script: self,
             calls: 0,
@@ -52,12 +52,12 @@ impl<'a> Script<'a> {
     }
 
     /// The writer, which has taken nothing.
-    pub(crate) fn writer(self, alloc: Global) -> Watched<TurnWriter<'a>>
+    pub(crate) fn writer(self, alloc: Global) -> Watched<ScriptWriter>
         ensures failed { result.failed ≡ false }
         ensures faulty { result.faulty ≡ false }
         ensures closed { result.closed ≡ false }
     {
-        Watched::new(TurnWriter {
+        Watched::new(ScriptWriter {
             taken: Vec::new(alloc),
             script: self,
             calls: 0,
@@ -67,29 +67,30 @@ impl<'a> Script<'a> {
 }
 
 /// How many bytes the call of this number moves, of at most so many.
-fn moved(turns: &[Turn], call: usize, piece: usize, most: usize) -> io::Result<usize>
+fn moved(turn: Option<(usize, Turn)>, call: usize, most: usize) -> io::Result<usize>
     ensures { IfOk result (λ count. count ≤ most) }
 {
-    match turns.get(call).copied().unwrap_or(Turn::Moves(piece)) {
-        Turn::Fails(kind) => Err(Error::from(kind)),
-        Turn::Moves(count) => Ok(count.min(most)),
+    match turn {
+        Some((at, Turn::Fails(kind))) if at == call => Err(Error::from(kind)),
+        Some((at, Turn::MovesNothing)) if at == call => Ok(0),
+        _ => Ok(most),
     }
 }
 
 /// Reads as its script says.
 #[derive(Drop)]
-pub(crate) struct TurnReader<'a> {
+pub(crate) struct ScriptReader<'a> {
     bytes: &'a [u8],
-    script: Script<'a>,
+    script: Script,
     pub(crate) calls: usize,
 }
 
-impl<'a> Read for TurnReader<'a> {
+impl<'a> Read for ScriptReader<'a> {
     fn read(&mut self, buf: &mut [u8]) -> io::Result<usize> {
         let call = self.calls;
         self.calls = call.saturating_add(1);
-        let most = buf.len().min(self.bytes.len());
-        let count = moved(self.script.reads, call, self.script.piece, most)?;
+        let most = buf.len().min(self.bytes.len()).min(self.script.piece);
+        let count = moved(self.script.read, call, most)?;
         let (given, rest) = self.bytes.split_at(count);
         buf[..count].copy_from_slice(given);
         self.bytes = rest;
@@ -99,18 +100,19 @@ impl<'a> Read for TurnReader<'a> {
 
 /// Writes as its script says.
 #[derive(Drop)]
-pub(crate) struct TurnWriter<'a> {
+pub(crate) struct ScriptWriter {
     pub(crate) taken: Vec<u8>,
-    script: Script<'a>,
+    script: Script,
     pub(crate) calls: usize,
     pub(crate) flushes: usize,
 }
 
-impl<'a> Write for TurnWriter<'a> {
+impl Write for ScriptWriter {
     fn write(&mut self, buf: &[u8]) -> io::Result<usize> {
         let call = self.calls;
         self.calls = call.saturating_add(1);
-        let count = moved(self.script.writes, call, self.script.piece, buf.len())?;
+        let most = buf.len().min(self.script.piece);
+        let count = moved(self.script.write, call, most)?;
         self.taken.extend_from_slice(&buf[..count])?;
         Ok(count)
     }
@@ -122,18 +124,4 @@ impl<'a> Write for TurnWriter<'a> {
             _ => Ok(()),
         }
     }
-}
-
-/// Turns that move a byte so many times, and then this one.
-pub(crate) fn after_bytes(
-    alloc: Global,
-    bytes: usize,
-    last: Turn,
-) -> Result<Vec<Turn>, AllocError> {
-    let mut turns = Vec::new(alloc);
-    for _ in 0..bytes {
-        turns.push(Turn::Moves(1))?;
-    }
-    turns.push(last)?;
-    Ok(turns)
 }

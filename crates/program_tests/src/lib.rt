@@ -10,6 +10,12 @@ mod highlight;
 #[cfg(test)]
 mod lexdump;
 #[cfg(test)]
+mod marked;
+#[cfg(test)]
+mod program_ends;
+#[cfg(test)]
+mod runs;
+#[cfg(test)]
 mod tidy;
 #[cfg(test)]
 mod words;

@@ -1,4 +1,5 @@
 //! Rows of calls that take no memory: they answer the same whichever request is refused.
+use FrontmatterAllowed::{No, Yes};
 use rustc_lexer::TokenKind::{Dot, Frontmatter, Ident, Literal, Slash, UnknownPrefix, Whitespace};
 use rustc_lexer::{
     Base, Cursor, FrontmatterAllowed, GuardedStr, LiteralKind, RawStrError, Token, TokenKind, fits,
@@ -13,34 +14,31 @@ type Row = (
     &'static [(TokenKind, u32)],
 );
 
+/// A literal without a suffix: what it is, and its length.
+macro_rules! literal {
+    ($kind:expr, $len:literal) => {
+        (
+            Literal {
+                kind: $kind,
+                suffix_start: $len,
+            },
+            $len,
+        )
+    };
+}
+
+const INT: LiteralKind = LiteralKind::Int {
+    base: Base::Decimal,
+    empty_int: false,
+};
+
 const SPACE: (TokenKind, u32) = (Whitespace, 1);
 
-const ONE: (TokenKind, u32) = (
-    Literal {
-        kind: LiteralKind::Int {
-            base: Base::Decimal,
-            empty_int: false,
-        },
-        suffix_start: 1,
-    },
-    1,
-);
+const ONE: (TokenKind, u32) = literal!(INT, 1);
 
-const OPEN_CHAR: (TokenKind, u32) = (
-    Literal {
-        kind: LiteralKind::Char { terminated: false },
-        suffix_start: 1,
-    },
-    1,
-);
+const OPEN_CHAR: (TokenKind, u32) = literal!(LiteralKind::Char { terminated: false }, 1);
 
-const CHAR: (TokenKind, u32) = (
-    Literal {
-        kind: LiteralKind::Char { terminated: true },
-        suffix_start: 3,
-    },
-    3,
-);
+const CHAR: (TokenKind, u32) = literal!(LiteralKind::Char { terminated: true }, 3);
 
 const BLOCK: TokenKind = TokenKind::BlockComment {
     doc_style: None,
@@ -53,30 +51,22 @@ const FRONT: TokenKind = Frontmatter {
 };
 
 static ROWS: &[Row] = &[
-    (
-        "/* /* */ */'a'",
-        FrontmatterAllowed::No,
-        &[(BLOCK, 11), CHAR],
-    ),
-    (
-        "1..2",
-        FrontmatterAllowed::No,
-        &[ONE, (Dot, 1), (Dot, 1), ONE],
-    ),
+    ("/* /* */ */'a'", No, &[(BLOCK, 11), CHAR]),
+    ("1..2", No, &[ONE, (Dot, 1), (Dot, 1), ONE]),
     (
         "'/x'",
-        FrontmatterAllowed::No,
+        No,
         &[OPEN_CHAR, (Slash, 1), (UnknownPrefix, 1), OPEN_CHAR],
     ),
-    ("'''", FrontmatterAllowed::No, &[CHAR]),
+    ("'''", No, &[CHAR]),
     (
         "---\n//!d\nuse a",
-        FrontmatterAllowed::Yes,
+        Yes,
         &[(FRONT, 8), SPACE, (Ident, 3), SPACE, (Ident, 1)],
     ),
     (
         "---\nq------\nfn x",
-        FrontmatterAllowed::Yes,
+        Yes,
         &[(FRONT, 11), SPACE, (Ident, 2), SPACE, (Ident, 1)],
     ),
 ];
@@ -107,8 +97,7 @@ fn is_refused(text: &str, refusal: RawStrError) -> bool {
 
 /// Whether the text begins with this guarded string.
 fn is_guarded(text: &str, string: GuardedStr) -> bool {
-    fits(text)
-        && Cursor::new(text, FrontmatterAllowed::No).guarded_double_quoted_string() == Some(string)
+    fits(text) && Cursor::new(text, No).guarded_double_quoted_string() == Some(string)
 }
 
 /// Whether the classes of characters and the cursor's own calls answer what they do where there is memory.
@@ -117,7 +106,7 @@ fn calls_hold() -> bool {
     if !fits(text) {
         return false;
     }
-    let mut cursor = Cursor::new(text, FrontmatterAllowed::No);
+    let mut cursor = Cursor::new(text, No);
     let looks = cursor.first() == 'é' && cursor.third() == 'b';
     let word = Token {
         kind: Ident,

@@ -30,109 +30,41 @@ struct EditRow {
     asks: bool,
 }
 
-/// A list of edits, and the texts that it makes, one after another.
-#[derive(Clone, Copy)]
-struct ListRow {
-    text: &'static str,
-    first: Edit<'static>,
-    second: Edit<'static>,
-    after_first: &'static str,
-    after_both: &'static str,
+/// An edit: `start..stop insert`.
+macro_rules! edit {
+    ($start:literal .. $stop:literal $insert:literal) => {
+        Edit {
+            start: $start,
+            stop: $stop,
+            insert: $insert,
+        }
+    };
+}
+
+/// A row: `text, start..stop insert: kept_front, lexed, kept_back; the text that is made`, and whether it asks for memory.
+macro_rules! edited {
+    ($text:literal, $start:literal .. $stop:literal $insert:literal: $front:literal, $lexed:literal, $back:literal; $made:literal, $asks:literal) => {
+        EditRow {
+            text: $text,
+            edit: edit!($start..$stop $insert),
+            made: $made,
+            counts: Relexed {
+                kept_front: $front,
+                lexed: $lexed,
+                kept_back: $back,
+            },
+            asks: $asks,
+        }
+    };
 }
 
 const EDITS: [EditRow; 5] = [
-    EditRow {
-        text: "ab",
-        edit: Edit {
-            start: 2,
-            stop: 2,
-            insert: "c",
-        },
-        made: "abc",
-        counts: Relexed {
-            kept_front: 0,
-            lexed: 1,
-            kept_back: 0,
-        },
-        asks: true,
-    },
-    EditRow {
-        text: "a 😀 é",
-        edit: Edit {
-            start: 2,
-            stop: 6,
-            insert: "zz 1.",
-        },
-        made: "a zz 1. é",
-        counts: Relexed {
-            kept_front: 0,
-            lexed: 5,
-            kept_back: 2,
-        },
-        asks: true,
-    },
-    EditRow {
-        text: "a b c */ d",
-        edit: Edit {
-            start: 2,
-            stop: 2,
-            insert: "/*",
-        },
-        made: "a /*b c */ d",
-        counts: Relexed {
-            kept_front: 0,
-            lexed: 3,
-            kept_back: 2,
-        },
-        asks: true,
-    },
-    EditRow {
-        text: "ab cd",
-        edit: Edit {
-            start: 0,
-            stop: 3,
-            insert: "",
-        },
-        made: "cd",
-        counts: Relexed {
-            kept_front: 0,
-            lexed: 0,
-            kept_back: 1,
-        },
-        asks: true,
-    },
-    EditRow {
-        text: "ab cd",
-        edit: Edit {
-            start: 0,
-            stop: 0,
-            insert: "",
-        },
-        made: "ab cd",
-        counts: Relexed {
-            kept_front: 0,
-            lexed: 0,
-            kept_back: 3,
-        },
-        asks: false,
-    },
+    edited!("ab", 2..2 "c": 0, 1, 0; "abc", true),
+    edited!("a 😀 é", 2..6 "zz 1.": 0, 5, 2; "a zz 1. é", true),
+    edited!("a b c */ d", 2..2 "/*": 0, 3, 2; "a /*b c */ d", true),
+    edited!("ab cd", 0..3 "": 0, 0, 1; "cd", true),
+    edited!("ab cd", 0..0 "": 0, 0, 3; "ab cd", false),
 ];
-
-const LIST: ListRow = ListRow {
-    text: "ab",
-    first: Edit {
-        start: 2,
-        stop: 2,
-        insert: "c",
-    },
-    second: Edit {
-        start: 3,
-        stop: 3,
-        insert: " d",
-    },
-    after_first: "abc",
-    after_both: "abc d",
-};
 
 /// Whether the text is held with its tokens, and its pieces make it up.
 fn is_held<S: Stepper>(lexed: &LexedText<S>, text: &str) -> bool {
@@ -179,17 +111,18 @@ fn edit_holds(alloc: Global, row: &EditRow) -> bool {
 }
 
 /// Whether the edits before the one that is refused memory stand, and no other.
-fn list_holds(alloc: Global, row: &ListRow) -> bool {
-    if !fits(row.text) {
+fn list_holds(alloc: Global) -> bool {
+    let text = "ab";
+    if !fits(text) {
         return false;
     }
-    let Ok(mut lexed) = LexedText::new(alloc, row.text) else {
+    let Ok(mut lexed) = LexedText::new(alloc, text) else {
         return true;
     };
-    match lexed.edit_all(&[row.first, row.second]) {
-        Ok(()) => is_held(&lexed, row.after_both),
-        Err(EditStop::Memory { at: 0 }) => is_held(&lexed, row.text),
-        Err(EditStop::Memory { at: 1 }) => is_held(&lexed, row.after_first),
+    match lexed.edit_all(&[edit!(2..2 "c"), edit!(3..3 " d")]) {
+        Ok(()) => is_held(&lexed, "abc d"),
+        Err(EditStop::Memory { at: 0 }) => is_held(&lexed, text),
+        Err(EditStop::Memory { at: 1 }) => is_held(&lexed, "abc"),
         Err(_) => false,
     }
 }
@@ -203,12 +136,7 @@ fn bad_edit_holds(alloc: Global) -> bool {
     let Ok(mut lexed) = LexedText::new(alloc, text) else {
         return true;
     };
-    let edit = Edit {
-        start: 1,
-        stop: 2,
-        insert: "",
-    };
-    lexed.edit_all(&[edit]) == Err(EditStop::Range { at: 0 }) && is_held(&lexed, text)
+    lexed.edit_all(&[edit!(1..2 "")]) == Err(EditStop::Range { at: 0 }) && is_held(&lexed, text)
 }
 
 /// Whether another edition is taken with its tokens, or nothing changes where it is refused memory.
@@ -284,7 +212,7 @@ fn main(rt: HostRuntime) -> io::Result<()> {
             println!(rt; "edit {number} does not hold")?;
         }
     }
-    if !list_holds(rt.alloc(), &LIST) {
+    if !list_holds(rt.alloc()) {
         println!(rt; "the list of edits does not hold")?;
     }
     if !bad_edit_holds(rt.alloc()) {

@@ -8,7 +8,7 @@ use Rattle.rustc_lexer.specs.declared.token.TokenKind.{TokenKind}
 use Rattle.rustc_lexer.specs.declared.token.TokenKind.TheVariants.{Eof, Literal}
 use Rattle.rustc_lexer.specs.State.{State, kind_past, token_past}
 use Rattle.rustc_lexer.specs.means.Taking.{token_at, advance}
-use Rattle.rustc_lexer.specs.Locality.{IsText}
+use Rattle.rustc_lexer.specs.Classes.{IsText}
 use Rattle.rustc_lexer.specs.Tokens.{tokens_of, tokens_left, StaysAtEnd, TakesPending}
 use Rattle.rustc_lexer.specs.laws.State.{past_token, advance-some, token_past-zero}
 use Rattle.rustc_lexer.proofs.TextLemmas.{token_at-not_end}

@@ -9,10 +9,10 @@ use Rattle.rustc_lexer.specs.declared.token.Token.{Token}
 use Rattle.rustc_lexer.specs.declared.edition.Edition.{Edition}
 use Rattle.rustc_lexer.specs.declared.token.FrontmatterAllowed.{FrontmatterAllowed}
 use Rattle.rustc_lexer.specs.declared.token.FrontmatterAllowed.TheVariants.{Yes, No}
-use Rattle.rustc_lexer.specs.Bulk.{IsFilled, IsFilledTo, state_past}
-use Rattle.rustc_lexer.specs.Tokens.{bound, tokens_by, tokens_of, tokens_left, Partitions, TakesToken}
+use Rattle.rustc_lexer.specs.Tokens.{IsFilled, IsFilledTo, state_past, bound, tokens_by, tokens_of, tokens_left, Partitions, TakesToken}
 use Rattle.rustc_lexer.specs.State.{State}
-use Rattle.rustc_lexer.specs.Locality.{IsText, IsGrammar}
+use Rattle.rustc_lexer.specs.Classes.{IsText}
+use Rattle.rustc_lexer.specs.Locality.{IsGrammar}
 use Rattle.rustc_lexer.specs.LanguageText.{Mode, document, part, mode_after, mode_edition, mode_in}
 use Rattle.rustc_lexer.specs.means.Edition.{first_token_in}
 use Rattle.rustc_lexer.specs.means.Taking.{token_at, advance_by, advance}

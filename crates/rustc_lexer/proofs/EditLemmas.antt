@@ -5,7 +5,8 @@ use Rattle.std.proofs.lemmas.List.{drop-take, take-append-le}
 use Rattle.std.proofs.lemmas.Str.{chars_past_char, chars-nil, IsUtf8-append, IsUtf8-take, IsUtf8-drop, IsUtf8-between, IsCharBoundary-from_drop, chars-append, length-encode, len_utf8_bounds, encodes-chars}
 use Rattle.std.proofs.Math.Utf8.{encodes}
 use Rattle.rustc_lexer.specs.declared.token.Token.{Token}
-use Rattle.rustc_lexer.specs.Locality.{look, IsText, AgreePast, IsGrammar, has_two}
+use Rattle.rustc_lexer.specs.Locality.{look, AgreePast, IsGrammar, has_two}
+use Rattle.rustc_lexer.specs.Classes.{IsText}
 use Rattle.rustc_lexer.specs.Tokens.{bound, tokens_by}
 use Rattle.rustc_lexer.specs.Edits.{apply, IsEdit, kept_front_from}
 use Rattle.rustc_lexer.specs.laws.Cuts.{IsCutAt, at_bound, tokens_local}

@@ -2,8 +2,7 @@
 use Rattle.std.proofs.Common.{◌≡◌, ℕ, zero, suc, ◌+◌, ◌<◌, List, [], ◌∷◌, length, take, get_or, refl, sym, ap, ◌∙◌, arith, subst}
 use Rattle.rustc_lexer.specs.declared.token.Token.{Token}
 use Rattle.rustc_lexer.specs.declared.relex.edit.Edit.{Edit}
-use Rattle.rustc_lexer.specs.Edits.{IsEdit, relexed_of}
-use Rattle.rustc_lexer.specs.EditLists.{applied, apply_list, lexed_list, AreEdits}
+use Rattle.rustc_lexer.specs.Edits.{IsEdit, relexed_of, applied, apply_list, lexed_list, AreEdits}
 
 pub apply-next : (text : List ℕ) (es : List Edit) (n : ℕ) (d : Edit) → n < length es → apply_list text (take (suc n) es) ≡ applied (apply_list text (take n es)) (get_or es n d)
 apply-next text [] n d few = absurd (omega arith)

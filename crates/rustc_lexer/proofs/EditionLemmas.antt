@@ -8,12 +8,11 @@ use Rattle.rustc_lexer.specs.declared.token.FrontmatterAllowed.TheVariants.{Yes,
 use Rattle.rustc_lexer.specs.declared.token.Token.{Token}
 use Rattle.rustc_lexer.specs.declared.token.TokenKind.{TokenKind}
 use Rattle.rustc_lexer.specs.declared.token.TokenKind.TheVariants.{UnknownPrefix, UnknownPrefixLifetime, RawLifetime, GuardedStrPrefix, Literal, Eof}
-use Rattle.rustc_lexer.specs.LanguageIn.{year}
+use Rattle.rustc_lexer.specs.LanguageText.{year, document, mode_in, mode_of}
 use Rattle.rustc_lexer.specs.laws.Choice.{by_test}
 use Rattle.rustc_lexer.specs.laws.Edition.{edition_grammar}
 use Rattle.rustc_lexer.specs.means.Edition.{token, before_2024, before_2021, changed, first_token_in}
-use Rattle.rustc_lexer.specs.LanguageText.{document, mode_in, mode_of}
-use Rattle.rustc_lexer.specs.Locality.{IsText}
+use Rattle.rustc_lexer.specs.Classes.{IsText}
 use Rattle.rustc_lexer.specs.means.Frontmatter.{frontmatter, opens}
 use Rattle.rustc_lexer.specs.means.Taking.{token_at}
 use Rattle.std.specs.Str.{chars}

@@ -7,7 +7,8 @@ use Rattle.std.specs.List.Sorted.{IsBinarySearchResult, IsPartitionPoint, IsSear
 use Rattle.std.specs.Ordering.{ordering_index}
 use Rattle.std.specs.declared.cmp.Ordering.{Ordering}
 use Rattle.std.specs.declared.cmp.Ordering.TheVariants.{Less, Equal, Greater}
-use Rattle.rustc_lexer.specs.Emoji.{Range, is_within, in_ranges, side, emoji_ranges, is_emoji}
+use Rattle.rustc_lexer.specs.Tables.{emoji_ranges, is_emoji}
+use Rattle.rustc_lexer.specs.means.Emoji.{Range, is_within, in_ranges, side}
 
 -- each range has a member, and begins past the end of the one before, the first at n or later
 abbrev rises_from : ℕ → List Range → Bool

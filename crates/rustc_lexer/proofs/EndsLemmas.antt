@@ -16,13 +16,13 @@ use Rattle.rustc_lexer.specs.declared.lexemes.family.Family.{Family}
 use Rattle.rustc_lexer.specs.declared.lexemes.family.Family.TheVariants.{Slash, Space, Word, Number, Quote, Str, Emoji, Hash, Symbol}
 use Rattle.rustc_lexer.specs.declared.token.TokenKind.{TokenKind}
 use Rattle.rustc_lexer.specs.declared.token.TokenKind.TheVariants.{Ident, Whitespace, GuardedStrPrefix, RawLifetime, UnknownPrefix, UnknownPrefixLifetime, Eof}
-use Rattle.rustc_lexer.specs.Bulk.{has_fields}
-use Rattle.rustc_lexer.specs.LanguageIn.{year}
+use Rattle.rustc_lexer.specs.Tokens.{has_fields}
+use Rattle.rustc_lexer.specs.LanguageText.{year}
 use Rattle.rustc_lexer.specs.means.Edition.{before_2024, before_2021, changed}
 use Rattle.rustc_lexer.specs.declared.token.Token.{Token}
 use Rattle.rustc_lexer.specs.means.Ends.{bit, goes_on, is_end, AreEndsPast, IsEnds, IsLowest, told, told_in, StaysWithin}
 use Rattle.rustc_lexer.specs.means.ByteRuns.{is_continue_byte, is_space_byte}
-use Rattle.rustc_lexer.specs.Emoji.{is_emoji}
+use Rattle.rustc_lexer.specs.Tables.{is_emoji}
 use Rattle.rustc_lexer.specs.means.Lexeme.{family_of, symbol_kind}
 use Rattle.rustc_lexer.specs.means.Quick.{is_space_lead, turns_word, IsFirstToken}
 use Rattle.rustc_lexer.specs.means.Scan.{next_is}

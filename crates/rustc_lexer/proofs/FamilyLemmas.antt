@@ -12,7 +12,7 @@ use Rattle.rustc_lexer.specs.declared.lexemes.family.Family.{Family}
 use Rattle.rustc_lexer.specs.declared.lexemes.family.Family.TheVariants.{Slash, Space, Word, Emoji, Symbol}
 use Rattle.rustc_lexer.specs.declared.token.TokenKind.{TokenKind}
 use Rattle.rustc_lexer.specs.Classes.{is_id_start, is_whitespace}
-use Rattle.rustc_lexer.specs.Emoji.{is_emoji}
+use Rattle.rustc_lexer.specs.Tables.{is_emoji}
 use Rattle.rustc_lexer.specs.laws.LanguageRuns.{among}
 use Rattle.rustc_lexer.specs.means.Lexeme.{family_of, past_first, read_by}
 use Rattle.rustc_lexer.specs.means.Scan.{scanned}

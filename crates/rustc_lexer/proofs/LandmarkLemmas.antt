@@ -4,7 +4,8 @@ use Rattle.std.specs.List.{All}
 use Rattle.rustc_lexer.specs.declared.relex.front.Bound.{Bound}
 use Rattle.rustc_lexer.specs.declared.relex.landmarks.Landmarks.{Landmarks}
 use Rattle.rustc_lexer.specs.declared.token.Token.{Token}
-use Rattle.rustc_lexer.specs.Locality.{IsText, IsGrammar}
+use Rattle.rustc_lexer.specs.Classes.{IsText}
+use Rattle.rustc_lexer.specs.Locality.{IsGrammar}
 use Rattle.rustc_lexer.specs.Tokens.{bound, tokens_by}
 use Rattle.rustc_lexer.specs.Edits.{apply, IsEdit}
 use Rattle.rustc_lexer.specs.means.Landmarks.{AreBounds, IsMovable, IsReplaced}

@@ -7,7 +7,7 @@ use Rattle.rustc_lexer.specs.Tokens.{tokens_of, tokens_left, TakesFirst}
 use Rattle.rustc_lexer.specs.LanguageText.{AreTokens}
 use Rattle.rustc_lexer.specs.State.{State}
 use Rattle.rustc_lexer.specs.means.Taking.{token_at, advance}
-use Rattle.rustc_lexer.specs.Locality.{IsText}
+use Rattle.rustc_lexer.specs.Classes.{IsText}
 use Rattle.rustc_lexer.specs.laws.State.{past_token, advance-some}
 use Rattle.rustc_lexer.specs.laws.LanguageTokens.{tokens-are}
 use Rattle.rustc_lexer.specs.laws.Tokens.{tokens-cons}

@@ -1,7 +1,8 @@
 -- Lexing on from the kept front until the new tokens meet the old ones.
 use Rattle.std.proofs.Common.{◌≡◌, ℕ, suc, ◌+◌, ◌-◌, ◌<◌, ◌≤◌, max, Bool, true, false, List, [], ◌∷◌, ◌++◌, length, take, drop, refl, sym, ap, ◌∙◌, arith, leb, le-leb, length-append, eq-or-lt_of_le, inl, inr, true≢false}
 use Rattle.rustc_lexer.specs.declared.token.Token.{Token}
-use Rattle.rustc_lexer.specs.Locality.{IsText, IsGrammar}
+use Rattle.rustc_lexer.specs.Classes.{IsText}
+use Rattle.rustc_lexer.specs.Locality.{IsGrammar}
 use Rattle.rustc_lexer.specs.Tokens.{bound, tokens_by}
 use Rattle.rustc_lexer.specs.Edits.{meets_at, least_from, meet}
 use Rattle.rustc_lexer.proofs.BoundLemmas.{is_bound-intro, least_from_ge, least_from-more, least_from-here}

@@ -3,8 +3,9 @@ use Rattle.std.proofs.Common.{◌≡◌, ℕ, zero, suc, ◌+◌, ◌-◌, ◌^�
 use Rattle.rustc_lexer.specs.declared.token.Token.{Token}
 use Rattle.rustc_lexer.specs.Tokens.{bound, tokens_by}
 use Rattle.rustc_lexer.specs.means.Pieces.{AreBoundariesFrom}
-use Rattle.rustc_lexer.specs.Pieces.{pieces_from, pieces_of}
-use Rattle.rustc_lexer.specs.Locality.{IsText, IsGrammar}
+use Rattle.rustc_lexer.specs.Edits.{pieces_from, pieces_of}
+use Rattle.rustc_lexer.specs.Classes.{IsText}
+use Rattle.rustc_lexer.specs.Locality.{IsGrammar}
 use Rattle.rustc_lexer.proofs.BoundLemmas.{bound_mono}
 use Rattle.rustc_lexer.proofs.EditLemmas.{bound-same, bound-take}
 use Rattle.rustc_lexer.proofs.FrontLemmas.{bound-next, bound-shift}

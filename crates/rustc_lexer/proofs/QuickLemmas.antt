@@ -11,7 +11,7 @@ use Rattle.rustc_lexer.specs.declared.token.TokenKind.{TokenKind}
 use Rattle.rustc_lexer.specs.declared.token.TokenKind.TheVariants.{Ident, UnknownPrefix, Whitespace}
 use Rattle.rustc_lexer.specs.means.ByteRuns.{is_continue_byte, is_space_byte, is_wide}
 use Rattle.rustc_lexer.specs.Classes.{is_id_continue}
-use Rattle.rustc_lexer.specs.Emoji.{is_emoji}
+use Rattle.rustc_lexer.specs.Tables.{is_emoji}
 use Rattle.rustc_lexer.specs.means.Ident.{ident_or_unknown_prefix, is_prefix_mark, marks_ident}
 use Rattle.rustc_lexer.specs.laws.Choice.{by_arm}
 use Rattle.rustc_lexer.specs.means.Lexeme.{family_of, letters, word, symbol_kind, past_first, is_raw_mark, begins_raw}

@@ -14,7 +14,8 @@ use Rattle.rustc_lexer.specs.Tokens.{bound, tokens_by}
 use Rattle.rustc_lexer.specs.Edits.{apply, kept_front, IsEdit, least_from, meet, meets_at, relexed_of}
 use Rattle.rustc_lexer.specs.Relexing.{IsBound, IsChange, IsFollowed, IsMadeOf, Stands, IsWhole, known}
 use Rattle.rustc_lexer.specs.means.Relexing.{IsFront, damage_of}
-use Rattle.rustc_lexer.specs.Locality.{has_two, IsText, IsGrammar}
+use Rattle.rustc_lexer.specs.Locality.{has_two, IsGrammar}
+use Rattle.rustc_lexer.specs.Classes.{IsText}
 use Rattle.rustc_lexer.proofs.BoundLemmas.{least_from_ge, bound-last}
 use Rattle.rustc_lexer.specs.laws.Cuts.{IsCutAt, at_bound, tokens-cons}
 use Rattle.rustc_lexer.proofs.EditLemmas.{IsEdited, edited, bound-same, start_inside}

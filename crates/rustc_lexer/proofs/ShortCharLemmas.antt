@@ -6,7 +6,7 @@ use Rattle.std.proofs.lemmas.Bool.{eqb-true, lt-leb}
 use Rattle.std.proofs.lemmas.Str.{encode_ascii, IsCharBoundary-from_drop}
 use Rattle.std.proofs.Math.Bool.{or-true}
 use Rattle.unicode_ident.proofs.IdentLemmas.{is_xid_start-ascii}
-use Rattle.rustc_lexer.specs.Emoji.{is_emoji}
+use Rattle.rustc_lexer.specs.Tables.{is_emoji}
 use Rattle.rustc_lexer.specs.means.Lifetime.{is_name_start, is_character_at}
 use Rattle.rustc_lexer.specs.means.Quoted.{at_single_stop, is_lone, single_quoted_string}
 use Rattle.rustc_lexer.specs.means.Scan.{begins, past, scanned}

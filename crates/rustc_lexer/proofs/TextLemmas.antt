@@ -15,7 +15,7 @@ use Rattle.rustc_lexer.specs.declared.token.Token.{Token}
 use Rattle.rustc_lexer.specs.declared.token.TokenKind.{TokenKind}
 use Rattle.rustc_lexer.specs.declared.token.TokenKind.TheVariants.{Ident, RawIdent, InvalidIdent, UnknownPrefix, ForcedKeywordIdent, Literal, Lifetime, UnknownPrefixLifetime, Slash, Whitespace, GuardedStrPrefix, Pound, Eof}
 use Rattle.rustc_lexer.specs.means.BlockComment.{block_comment, block_comment_to, comment_end}
-use Rattle.rustc_lexer.specs.Classes.{is_id_continue}
+use Rattle.rustc_lexer.specs.Classes.{is_id_continue, IsText}
 use Rattle.rustc_lexer.specs.means.Comment.{slash, line_comment}
 use Rattle.rustc_lexer.specs.means.Ident.{is_word, is_prefix_mark, ident_or_unknown_prefix, invalid_ident, marks_ident}
 use Rattle.rustc_lexer.specs.LanguageText.{Mode}
@@ -31,7 +31,6 @@ use Rattle.rustc_lexer.specs.means.Raw.{accepted, is_r, prefix_kind, prefix_len,
 use Rattle.rustc_lexer.specs.laws.Raw.{raw_check_own}
 use Rattle.rustc_lexer.specs.means.Scan.{after, begins, bytes_of, gives, next_is, past, run, run_len}
 use Rattle.rustc_lexer.specs.State.{suffix_start_of, HasSuffixWithin}
-use Rattle.rustc_lexer.specs.Locality.{IsText}
 use Rattle.rustc_lexer.specs.laws.TokenBy.{scalars-take}
 use Rattle.rustc_lexer.specs.Tokens.{tokens_of, HasRawText, HasText, HaveTexts}
 use Rattle.rustc_lexer.specs.laws.CharSteps.{bytes_of-suc}

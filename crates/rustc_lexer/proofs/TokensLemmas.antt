@@ -20,7 +20,7 @@ use Rattle.rustc_lexer.specs.means.Taking.{token_at}
 use Rattle.rustc_lexer.specs.laws.Cuts.{at_bound, tokens-nil as part-nil, tokens-cons as part-cons}
 use Rattle.rustc_lexer.specs.laws.Frontmatter.{frontmatter-cut, token_at-either}
 use Rattle.rustc_lexer.specs.laws.State.{state, past_token, past_token-is, edition-after, advance-some, token_past-zero}
-use Rattle.rustc_lexer.specs.Locality.{IsText}
+use Rattle.rustc_lexer.specs.Classes.{IsText}
 
 pub restarts : (edition : Edition) (text : List ℕ) → IsText text → RestartsAtBounds edition text
 restarts edition text is k few = sym (at_bound (edition_grammar edition) k text is).rest

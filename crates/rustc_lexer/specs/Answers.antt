@@ -1,21 +1,17 @@
--- What the page of the language answers: the names that contracts have for tokens and for the answers of calls.
---
--- Each is what the page allows, and the page allows nothing else: so says the type of what it is
--- taken from. That type is all that one has to read. How an answer is found, and the proof that it
--- is the only one, stand in laws/TheAnswers.antt.
+-- What the page of the language answers, under the names that contracts use. Each answer is what
+-- the page allows, and the page allows nothing else: so says the type of what it is taken from.
+-- That type is all that one has to read. How an answer is found, and the proof that it is the only
+-- one, stand in laws/TheAnswers.antt.
 use Rattle.std.specs.Prelude.{ℕ, ◌<◌, List, length, drop, Option, Result}
 use Rattle.std.specs.Str.{chars}
 use Rattle.rustc_lexer.specs.declared.edition.Edition.{Edition}
 use Rattle.rustc_lexer.specs.declared.token.GuardedStr.{GuardedStr}
 use Rattle.rustc_lexer.specs.declared.token.RawStrError.{RawStrError}
 use Rattle.rustc_lexer.specs.declared.token.Token.{Token}
+use Rattle.rustc_lexer.specs.Classes.{IsText, Utf8}
 use Rattle.rustc_lexer.specs.LanguageCalls.{IsRawAnswer, IsShebang}
-use Rattle.rustc_lexer.specs.LanguageHolds.{IsFirst, TakesGuarded, TakesNext}
-use Rattle.rustc_lexer.specs.LanguageText.{Mode, AreTokens}
-use Rattle.rustc_lexer.specs.Locality.{IsText}
-use Rattle.rustc_lexer.specs.Spans.{Utf8}
-use Rattle.rustc_lexer.specs.State.{State}
-use Rattle.rustc_lexer.specs.TheOnly.{TheOnly}
+use Rattle.rustc_lexer.specs.LanguageText.{Mode, AreTokens, TheOnly}
+use Rattle.rustc_lexer.specs.State.{IsFirst, TakesGuarded, TakesNext, State}
 use Rattle.rustc_lexer.specs.laws.TheAnswers.{the_next, the_guarded, the_raw, the_shebang}
 use Rattle.rustc_lexer.specs.laws.TheLaws.{the_laws}
 

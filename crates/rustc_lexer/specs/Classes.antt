@@ -1,9 +1,35 @@
--- Classes of characters, as sets. What begins an identifier and what continues one is told by the
--- crate `unicode_ident`: by the rows of `DerivedCoreProperties.txt` of Unicode 18.0. White space is
--- `Pattern_White_Space`, which no version of Unicode changes.
-use Rattle.std.specs.Prelude.{ℕ, Bool, false, ◌||◌, ◌&&◌, ◌==◌, ◌<◌, ◌^◌, List, [], ◌∷◌, length}
+-- Texts: their characters and bytes, what stands in them, and classes of characters. What begins
+-- an identifier and what continues one is told by the crate `unicode_ident`: by the rows of
+-- `DerivedCoreProperties.txt` of Unicode 18.0. White space is `Pattern_White_Space`, which no
+-- version of Unicode changes.
+use Rattle.std.specs.Prelude.{◌≡◌, ◌==◌, ◌&&◌, ◌||◌, ℕ, not, Bool, true, false, List, [], ◌∷◌, length, drop, ◌<◌, ◌^◌}
+use Rattle.std.specs.Char.{is_ascii_digit}
 use Rattle.std.specs.List.{list_all, list_any}
+use Rattle.std.specs.Str.{byte, encode_utf8_all, IsUtf8}
 use Rattle.unicode_ident.specs.Ident.{is_xid_start, is_xid_continue}
+use Rattle.rustc_lexer.specs.Tables.{is_emoji}
+
+-- a text as its characters; a text as its bytes, in UTF-8
+abbrev pub Chars : Type 0
+Chars = List ℕ
+
+abbrev pub Utf8 : Type 0
+Utf8 = List ℕ
+
+-- how many bytes these characters take
+abbrev pub bytes : Chars → ℕ
+bytes w = length (encode_utf8_all w)
+
+-- a text whose lengths are numbers of 32 bits
+abbrev pub Fits : List ℕ → Type 0
+Fits text = length text < 2 ^ 32
+
+-- a text that can be held
+pub record IsText (text : List ℕ) : Type 0 where
+  pub utf8 : IsUtf8 text
+  pub fits : length text < 2 ^ 32
+
+-- ---- classes
 
 -- whether the character is in the list
 abbrev pub is_among : List ℕ → ℕ → Bool
@@ -32,6 +58,52 @@ abbrev pub is_ident : List ℕ → Bool
 is_ident [] = false
 is_ident (c ∷ cs) = is_id_start c && list_all is_id_continue cs
 
--- a text whose lengths are numbers of 32 bits
-abbrev pub Fits : List ℕ → Type 0
-Fits text = length text < 2 ^ 32
+-- what stands on a line
+abbrev pub is_inline : ℕ → Bool
+is_inline c = not (c == byte "\n")
+
+-- what a word begins with and what it goes on with, right or wrong: an emoji makes it wrong
+abbrev pub is_word_start : ℕ → Bool
+is_word_start c = is_id_start c || is_emoji c
+
+abbrev pub is_word_continue : ℕ → Bool
+is_word_continue c = is_id_continue c || is_emoji c
+
+-- what the name of a lifetime begins with, right or wrong: a digit makes it wrong too
+abbrev pub is_name_start : ℕ → Bool
+is_name_start c = is_id_start c || is_ascii_digit c || is_emoji c
+
+-- ---- what stands in a text, and what follows it
+
+-- whether the text begins with these characters
+abbrev pub begins : Chars → Chars → Bool
+begins [] s = true
+begins (c ∷ cs) [] = false
+begins (c ∷ cs) (d ∷ s) = d == c && begins cs s
+
+-- whether the next character is in the class; the end of the text is in none
+abbrev pub next_is : (ℕ → Bool) → Chars → Bool
+next_is p [] = false
+next_is p (c ∷ s) = p c
+
+-- all characters are in the class
+abbrev pub AreAll : (ℕ → Bool) → Chars → Type 0
+AreAll p w = list_all p w ≡ true
+
+-- the next character is in the class; it is not, or the text ends
+abbrev pub NextIs : (ℕ → Bool) → Chars → Type 0
+NextIs p s = next_is p s ≡ true
+
+abbrev pub NextIsNot : (ℕ → Bool) → Chars → Type 0
+NextIsNot p s = next_is p s ≡ false
+
+-- the next character is one of these; it is none of them, or the text ends
+abbrev pub NextIn : Chars → Chars → Type 0
+NextIn cs s = NextIs (is_among cs) s
+
+abbrev pub NextNotIn : Chars → Chars → Type 0
+NextNotIn cs s = NextIsNot (is_among cs) s
+
+-- whether these characters stand here, and then the start of an identifier
+abbrev pub begins_ident_after : Chars → Chars → Bool
+begins_ident_after prefix s = begins prefix s && next_is is_id_start (drop (length prefix) s)

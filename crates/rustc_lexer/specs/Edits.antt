@@ -1,9 +1,14 @@
--- What an edit makes of a text, and what it keeps of its tokens.
-use Rattle.std.specs.Prelude.{ℕ, zero, suc, ◌+◌, ◌-◌, ◌<◌, ◌≤◌, ◌^◌, ◌&&◌, ◌||◌, Bool, cond, nat_le, nat_eq, List, [], ◌∷◌, ◌++◌, length, take, drop, IsCharBoundary}
-use Rattle.rustc_lexer.specs.declared.token.Token.{Token}
+-- What edits make of a text, what they keep of its tokens, and a text that is kept with its tokens.
+use Rattle.std.specs.Prelude.{ℕ, zero, suc, ◌+◌, ◌-◌, ◌<◌, ◌≤◌, ◌^◌, ◌&&◌, ◌||◌, Bool, cond, nat_le, nat_eq, List, [], ◌∷◌, ◌++◌, length, take, drop, IsCharBoundary, ◌≡◌, slice_get, IfSome, Option, Some, None}
+use Rattle.rustc_lexer.specs.declared.relex.edit.Edit.{Edit}
+use Rattle.rustc_lexer.specs.declared.relex.edit_list.EditStop.{EditStop}
+use Rattle.rustc_lexer.specs.declared.relex.edit_list.EditStop.TheVariants.{Range, TooLong, Memory}
+use Rattle.rustc_lexer.specs.declared.relex.pieces.Piece.{Piece}
 use Rattle.rustc_lexer.specs.declared.relex.relexing.Relexed.{Relexed}
-use Rattle.rustc_lexer.specs.Tokens.{bound, tokens_by}
-use Rattle.rustc_lexer.specs.Locality.{has_two}
+use Rattle.rustc_lexer.specs.declared.token.Token.{Token}
+use Rattle.rustc_lexer.specs.Locality.{bound, has_two, tokens_by}
+
+-- ---- one edit
 
 -- the text with `insert` for its bytes from `start` up to `stop`
 unfoldable pub apply : List ℕ → ℕ → ℕ → List ℕ → List ℕ
@@ -25,7 +30,7 @@ pub record IsEdit (text : List ℕ) (start stop : ℕ) (insert : List ℕ) : Typ
   pub inside : IsInside text start stop
   pub short : IsShort text start stop insert
 
--- how many of the tokens, the first of which begins at `from`, end at least two characters before `to`
+-- how many of the tokens end at least two characters before `to`; the first begins at `from`
 abbrev pub kept_front_from : List ℕ → ℕ → ℕ → List Token → ℕ
 kept_front_from text to from [] = 0
 kept_front_from text to from (t ∷ ts) = cond (has_two text (from + t.len) to) 1 0 + kept_front_from text to (from + t.len) ts
@@ -64,3 +69,97 @@ relexed_of first text start stop insert =
     let k : ℕ = kept_front text old start in
     let j : ℕ = meet old new (start + length insert) (length insert) (stop - start) k in
     record { kept_front = k; lexed = j - k; kept_back = ends_past old (bound new j - length insert + (stop - start)) }
+
+-- ---- lists of edits
+
+abbrev pub applied : List ℕ → Edit → List ℕ
+applied text e = apply text e.start e.stop e.insert.now
+
+-- the text after the edits, in order
+abbrev pub apply_list : List ℕ → List Edit → List ℕ
+apply_list text [] = text
+apply_list text (e ∷ es) = apply_list (applied text e) es
+
+-- each edit is one on the text that the edits before it leave
+abbrev pub AreEdits : List ℕ → List Edit → Type 0
+AreEdits text [] = Unit {0}
+AreEdits text (e ∷ es) = IsEdit text e.start e.stop e.insert.now × AreEdits (applied text e) es
+
+-- how many tokens the edits lex
+abbrev pub lexed_list : (List ℕ → Token) → List ℕ → List Edit → ℕ
+lexed_list first text [] = 0
+lexed_list first text (e ∷ es) = (relexed_of first text e.start e.stop e.insert.now).lexed + lexed_list first (applied text e) es
+
+-- the number of the edit that was refused
+abbrev pub stop_at : EditStop → ℕ
+stop_at (Range at) = at
+stop_at (TooLong at) = at
+stop_at (Memory at) = at
+
+-- why an edit is refused on the present text
+abbrev pub IsRefusedOn : EditStop → List ℕ → Edit → Type 0
+IsRefusedOn (Range at) text e = IsInside text e.start e.stop → ⊥
+IsRefusedOn (TooLong at) text e = IsInside text e.start e.stop × (IsShort text e.start e.stop e.insert.now → ⊥)
+IsRefusedOn (Memory at) text e = IsEdit text e.start e.stop e.insert.now
+
+abbrev pub IsStop : EditStop → List ℕ → List Edit → Type 0
+IsStop s text edits = (stop_at s < length edits) × IfSome (slice_get edits (stop_at s)) (IsRefusedOn s text)
+
+-- the count rose by what the edits before the refused one lex. Where memory was refused it rose by
+-- at most what that edit lexes more
+abbrev pub IsCounted : EditStop → (List ℕ → Token) → List ℕ → List Edit → ℕ → ℕ → Type 0
+IsCounted (Range at) first text edits before after = after ≡ before + lexed_list first text (take at edits)
+IsCounted (TooLong at) first text edits before after = after ≡ before + lexed_list first text (take at edits)
+IsCounted (Memory at) first text edits before after = (before + lexed_list first text (take at edits) ≤ after) × (after ≤ before + lexed_list first text (take (at + 1) edits))
+
+-- ---- a text that is kept with its tokens, and its pieces
+
+-- what a lexed text holds
+pub record Held (S : Type 0) : Type 0 where
+  pub text : List ℕ
+  pub tokens : List Token
+  pub stepper : S
+
+-- where a token stands, the token, and its text
+pub record Placed : Type 0 where
+  pub start : ℕ
+  pub token : Token
+  pub text : List ℕ
+
+abbrev pub placed : Piece → Placed
+placed piece = record { start = piece.start; token = piece.token; text = piece.text.now }
+
+-- what stands at each of the tokens, the first of which begins at `start`
+abbrev pub pieces_from : List ℕ → ℕ → List Token → List Placed
+pieces_from text start [] = []
+pieces_from text start (token ∷ tokens) = record { start = start; token = token; text = take token.len (drop start text) } ∷ pieces_from text (start + token.len) tokens
+
+-- one piece for each token of a text
+abbrev pub pieces_of : List ℕ → List Token → List Placed
+pieces_of text tokens = pieces_from text 0 tokens
+
+-- the text, and the tokens that are left with the place of the first
+pub record Left : Type 0 where
+  pub text : List ℕ
+  pub start : ℕ
+  pub tokens : List Token
+
+abbrev pub pieces_left : Left → List Placed
+pieces_left s = pieces_from s.text s.start s.tokens
+
+-- the piece is the first of those that are left: its text is the slice of the whole text at its
+-- place, which is inside, and what is left begins at its end
+pub record TakesPiece (s : Left) (piece : Piece) (t : Left) : Type 0 where
+  pub first : pieces_left s ≡ placed piece ∷ pieces_left t
+  pub start : piece.start ≡ s.start
+  pub text : piece.text.now ≡ take piece.token.len (drop piece.start s.text)
+  pub len : length piece.text.now ≡ piece.token.len
+  pub inside : piece.start + piece.token.len ≤ length s.text
+  pub fits : length s.text < 2 ^ 32
+  pub past : t.start ≡ piece.start + piece.token.len
+  pub whole : t.text ≡ s.text
+
+-- what `next` does: where no piece is left it gives none and changes nothing; else it takes one
+abbrev pub YieldsPiece : Left → Option Piece → Left → Type 0
+YieldsPiece s None t = (pieces_left s ≡ []) × (t ≡ s)
+YieldsPiece s (Some piece) t = TakesPiece s piece t

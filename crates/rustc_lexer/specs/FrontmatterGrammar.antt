@@ -1,11 +1,7 @@
--- The language of a frontmatter: its opening, and where it ends. `w` and
--- `next` are as in Language.antt.
-use Rattle.std.specs.Prelude.{◌≡◌, ◌+◌, ◌<◌, ◌≤◌, ◌||◌, ℕ, zero, suc, Bool, true, false}
-use Rattle.std.specs.Prelude.{List, [], ◌∷◌, ◌++◌, length, take, drop, codes, Option, Some, None}
+-- The language of a frontmatter: how it opens and ends. `w` and `next` are as in Language.antt.
+use Rattle.std.specs.Prelude.{◌≡◌, ◌+◌, ◌<◌, ◌≤◌, ◌||◌, ℕ, zero, suc, Bool, true, false, List, [], ◌∷◌, ◌++◌, length, take, drop, codes, Option, Some, None}
 use Rattle.std.specs.Str.{byte}
-use Rattle.rustc_lexer.specs.Classes.{is_among, is_whitespace, is_horizontal_whitespace}
-use Rattle.rustc_lexer.specs.Classes.{is_id_start, is_id_continue}
-use Rattle.rustc_lexer.specs.Spans.{Chars, Utf8, begins, AreAll, NextIsNot, NextNotIn, is_inline}
+use Rattle.rustc_lexer.specs.Classes.{is_among, is_whitespace, is_horizontal_whitespace, is_id_start, is_id_continue, Chars, Utf8, begins, AreAll, NextIsNot, NextNotIn, is_inline}
 
 -- ---- its opening, in characters
 
@@ -64,8 +60,7 @@ IsNowhere pattern s start = (j : ℕ) → start ≤ j → begins pattern (drop j
 pub data LineOf : Utf8 → ℕ → Type 0 where
   line : (u v : Utf8) → AreAll is_inline u → NextIsNot is_inline v → LineOf (u ++ v) (length u)
 
--- only spaces and tabs stand before the place i: from `start` on, or from a line's start that is no
--- earlier
+-- only spaces and tabs stand before the place i: from `start` on, or from the start of a later line
 pub data IsBlankBefore (s : Utf8) (start i : ℕ) : Type 0 where
   from_start :
       AreAll is_horizontal_whitespace (drop start (take i s))

@@ -1,5 +1,7 @@
 -- The language of the tokens of Rust, as the compiler's lexer has them: which texts a token of each
 -- kind may have, and before what. One rule for each form, and nothing of how a text is read.
+-- docs/LEXEMES.md has the rules in words, and where the Rust Reference has each form. Beyond the
+-- Reference, what is unclosed, empty or has an emoji is a token too, for a compiler's messages.
 --
 -- Notation. `w` is the text of a token and `next` all that follows it. Both are characters (type
 -- `Chars`), and at the end of the text `next` is []. In bytes is where a suffix begins. A NUL is a
@@ -7,26 +9,7 @@
 -- least one that its rules make. Fields stand in the order of src/token.rt: LineComment doc_style,
 -- BlockComment doc_style terminated, Lifetime starts_with_number, Literal kind suffix_start,
 -- Frontmatter has_invalid_preceding_whitespace invalid_infostring.
---
---   form         rules                                   in the Rust Reference
---   white space  whitespace                              WHITESPACE
---   comments     line_comment, block_comment,            LINE_COMMENT, BLOCK_COMMENT, and their
---                open_comment                            INNER_.. and OUTER_.. docs
---   words        ident, invalid_ident, raw_ident,        IDENTIFIER_OR_KEYWORD, RAW_IDENTIFIER
---                forced_keyword
---   reserved     unknown_prefix, guarded_prefix,         RESERVED_TOKEN_.., RESERVED_POUNDS,
---                unknown_prefix_lifetime                 RESERVED_GUARDED_STRING_LITERAL
---   lifetimes    lifetime, raw_lifetime                  LIFETIME_TOKEN, RAW_LIFETIME
---   literals     literal, literal_with; LiteralGrammar   CHAR_LITERAL .. RAW_C_STRING_LITERAL,
---                                                        SUFFIX
---   numbers      NumberGrammar                           INTEGER_LITERAL, FLOAT_LITERAL
---   symbols      slash, pound, symbol; Symbols           PUNCTUATION
---   whole texts  LanguageText; FrontmatterGrammar        RFC 3503
---
--- Beyond the Reference: what is unclosed, empty or has an emoji is a token too, for a compiler's
--- messages. What is proved of this page stands in LanguageLaws.antt.
-use Rattle.std.specs.Prelude.{◌≡◌, ℕ, ◌||◌, not, Bool, true, false}
-use Rattle.std.specs.Prelude.{List, [], ◌∷◌, ◌++◌, take, codes, Option, Some, None}
+use Rattle.std.specs.Prelude.{◌≡◌, ℕ, ◌||◌, not, Bool, true, false, List, [], ◌∷◌, ◌++◌, take, codes, Option, Some, None}
 use Rattle.std.specs.Char.{is_ascii_digit}
 use Rattle.std.specs.List.{list_all, list_any}
 use Rattle.std.specs.Str.{byte}
@@ -34,20 +17,10 @@ use Rattle.rustc_lexer.specs.declared.token.DocStyle.{DocStyle}
 use Rattle.rustc_lexer.specs.declared.token.DocStyle.TheVariants.{Outer, Inner}
 use Rattle.rustc_lexer.specs.declared.token.LiteralKind.{LiteralKind}
 use Rattle.rustc_lexer.specs.declared.token.TokenKind.{TokenKind}
-use Rattle.rustc_lexer.specs.declared.token.TokenKind.TheVariants.{Whitespace, Eof}
-use Rattle.rustc_lexer.specs.declared.token.TokenKind.TheVariants.{LineComment, BlockComment, Ident}
-use Rattle.rustc_lexer.specs.declared.token.TokenKind.TheVariants.{InvalidIdent, RawIdent}
-use Rattle.rustc_lexer.specs.declared.token.TokenKind.TheVariants.{ForcedKeywordIdent, Lifetime}
-use Rattle.rustc_lexer.specs.declared.token.TokenKind.TheVariants.{UnknownPrefix, RawLifetime}
-use Rattle.rustc_lexer.specs.declared.token.TokenKind.TheVariants.{UnknownPrefixLifetime, Literal}
-use Rattle.rustc_lexer.specs.declared.token.TokenKind.TheVariants.{GuardedStrPrefix, Slash, Pound}
-use Rattle.rustc_lexer.specs.Classes.{is_among, is_whitespace, is_id_continue, is_ident}
-use Rattle.rustc_lexer.specs.Emoji.{is_emoji}
+use Rattle.rustc_lexer.specs.declared.token.TokenKind.TheVariants.{Whitespace, Eof, LineComment, BlockComment, Ident, InvalidIdent, RawIdent, ForcedKeywordIdent, Lifetime, UnknownPrefix, RawLifetime, UnknownPrefixLifetime, Literal, GuardedStrPrefix, Slash, Pound}
+use Rattle.rustc_lexer.specs.Classes.{is_among, is_whitespace, is_id_continue, is_ident, Chars, begins, AreAll, NextIs, NextIsNot, NextIn, NextNotIn, bytes, is_inline, is_word_start, is_word_continue, is_name_start, begins_ident_after}
 use Rattle.rustc_lexer.specs.LiteralGrammar.{IsLiteralBefore, IsSuffixBefore}
-use Rattle.rustc_lexer.specs.Spans.{Chars, begins, AreAll, NextIs, NextIsNot, NextIn}
-use Rattle.rustc_lexer.specs.Spans.{NextNotIn, bytes, is_inline, is_word_start, is_word_continue}
-use Rattle.rustc_lexer.specs.Spans.{is_name_start, begins_ident_after}
-use Rattle.rustc_lexer.specs.Symbols.{symbol_kind}
+use Rattle.rustc_lexer.specs.Tables.{is_emoji, symbol_kind}
 
 -- ---- comments
 
@@ -58,12 +31,6 @@ pub data IsStyle (again : ℕ) (undocs : Chars) : Option DocStyle → Chars → 
   outer : {w : Chars} → NextNotIn undocs w → IsStyle again undocs (Some Outer) (again ∷ w)
   no_outer : {w : Chars} → NextIn undocs w → IsStyle again undocs None (again ∷ w)
   neither : {w : Chars} → NextNotIn (again ∷ codes "!") w → IsStyle again undocs None w
-
-abbrev pub IsLineStyle : Option DocStyle → Chars → Type 0
-IsLineStyle style w = IsStyle (byte "/") (codes "/") style w
-
-abbrev pub IsBlockStyle : Option DocStyle → Chars → Type 0
-IsBlockStyle style w = IsStyle (byte "*") (codes "*/") style w
 
 -- what follows /*, up to and with the */ that closes it: comments inside it, and other characters
 pub data IsCommentRest : Chars → Type 0 where
@@ -119,17 +86,17 @@ pub data IsTokenBefore (next : Chars) : TokenKind → Chars → Type 0 where
   line_comment : {style : Option DocStyle} {w : Chars}
       → AreAll is_inline w
       → NextIsNot is_inline next
-      → IsLineStyle style w
+      → IsStyle (byte "/") (codes "/") style w
       → IsTokenBefore next (LineComment style) (codes "//" ++ w)
   -- `/* a /* b */ c */`; and `/* /* */`, which nothing closes, with all of the text
   block_comment : {style : Option DocStyle} {w : Chars}
       → IsCommentRest w
-      → IsBlockStyle style w
+      → IsStyle (byte "*") (codes "*/") style w
       → IsTokenBefore next (BlockComment style true) (codes "/*" ++ w)
   open_comment : {style : Option DocStyle} {w : Chars}
       → next ≡ []
       → ((n : ℕ) → IsCommentRest (take n w) → ⊥)
-      → IsBlockStyle style w
+      → IsStyle (byte "*") (codes "*/") style w
       → IsTokenBefore next (BlockComment style false) (codes "/*" ++ w)
   -- `value`, `fn`, `_`; not `value` before a quote
   ident : {w : Chars}

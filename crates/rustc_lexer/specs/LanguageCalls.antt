@@ -1,19 +1,18 @@
 -- What the calls beside the tokens answer, in the words of the language. `w` and `next` are as in
 -- Language.antt; texts are characters where nothing else is said, and places are in bytes.
-use Rattle.std.specs.Prelude.{◌≡◌, ◌==◌, ◌+◌, ◌-◌, ◌<◌, ◌≤◌, ℕ, suc, Bool, true, false}
-use Rattle.std.specs.Prelude.{[], ◌∷◌, ◌++◌, length, drop, codes}
-use Rattle.std.specs.Prelude.{Option, Some, None, Result, Ok, Err}
+use Rattle.std.specs.Prelude.{◌≡◌, ◌==◌, ◌+◌, ◌-◌, ◌<◌, ◌≤◌, ℕ, suc, Bool, true, false, [], ◌∷◌, ◌++◌, length, drop, codes, Option, Some, None, Result, Ok, Err, List, decimal}
 use Rattle.std.specs.Str.{byte, chars}
+use Rattle.rustc_lexer.specs.declared.relex.edit_list.EditStop.{EditStop}
+use Rattle.rustc_lexer.specs.declared.relex.edit_list.EditStop.TheVariants.{Range, TooLong, Memory}
+use Rattle.rustc_lexer.specs.declared.token.LiteralKind.{LiteralKind}
+use Rattle.rustc_lexer.specs.declared.token.LiteralKind.TheVariants.{Int, Float, Char, Byte, Str, ByteStr, CStr, RawStr, RawByteStr, RawCStr}
 use Rattle.rustc_lexer.specs.declared.token.RawStrError.{RawStrError}
-use Rattle.rustc_lexer.specs.declared.token.RawStrError.TheVariants.{InvalidStarter, NoTerminator}
-use Rattle.rustc_lexer.specs.declared.token.RawStrError.TheVariants.{TooManyDelimiters}
-use Rattle.rustc_lexer.specs.declared.token.TokenKind.TheVariants.{LineComment, BlockComment}
-use Rattle.rustc_lexer.specs.declared.token.TokenKind.TheVariants.{Whitespace}
-use Rattle.rustc_lexer.specs.Classes.{is_among}
+use Rattle.rustc_lexer.specs.declared.token.RawStrError.TheVariants.{InvalidStarter, NoTerminator, TooManyDelimiters}
+use Rattle.rustc_lexer.specs.declared.token.TokenKind.{TokenKind}
+use Rattle.rustc_lexer.specs.declared.token.TokenKind.TheVariants.{LineComment, BlockComment, Whitespace, Frontmatter, Ident, InvalidIdent, RawIdent, ForcedKeywordIdent, UnknownPrefix, UnknownPrefixLifetime, RawLifetime, GuardedStrPrefix, Literal, Lifetime, Semi, Comma, Dot, OpenParen, CloseParen, OpenBrace, CloseBrace, OpenBracket, CloseBracket, At, Pound, Tilde, Question, Colon, Dollar, Eq, Bang, Lt, Gt, Minus, And, Or, Plus, Star, Slash, Caret, Percent, Unknown, Eof}
+use Rattle.rustc_lexer.specs.Classes.{is_among, Chars, Utf8, begins, next_is, AreAll, NextNotIn, bytes, is_inline}
 use Rattle.rustc_lexer.specs.Language.{IsTokenBefore}
-use Rattle.rustc_lexer.specs.LiteralGrammar.{hashes, NoQuoteWith, IsDoubleQuoted, IsSuffixBefore}
-use Rattle.rustc_lexer.specs.Spans.{Chars, Utf8, begins, next_is, AreAll, NextNotIn, bytes}
-use Rattle.rustc_lexer.specs.Spans.{is_inline}
+use Rattle.rustc_lexer.specs.LiteralGrammar.{hashes, NoQuoteWith, IsRaw, IsDoubleQuoted, IsSuffixBefore}
 
 -- ---- why a raw string is refused
 
@@ -42,10 +41,7 @@ pub data IsLikelyEnd (p : ℕ) (before w : Chars) : (found : ℕ) → (place : O
 -- not
 pub data IsRawAnswer (p : ℕ) : Chars → Result Unit RawStrError → Type 0 where
   -- `##"a"##`, whatever follows
-  good : (n : ℕ) (w next : Chars)
-      → n ≤ 255
-      → NoQuoteWith n w
-      → IsRawAnswer p (hashes n ++ (byte "\"" ∷ w ++ (byte "\"" ∷ hashes n ++ next))) (Ok tt)
+  good : {n : ℕ} {w next : Chars} → IsRaw next (Some n) w → IsRawAnswer p (w ++ next) (Ok tt)
   too_many : (n : ℕ) (w next : Chars)
       → 255 < n
       → NoQuoteWith n w
@@ -122,3 +118,91 @@ pub data IsShebang (text : Utf8) : Option ℕ → Type 0 where
       → IsAttributeRest (chars rest)
       → IsShebang text None
   no_start : begins (codes "#!") text ≡ false → IsShebang text None
+
+-- ---- what is written of an error
+
+-- why a list of edits stopped, and at which of them
+abbrev pub stop_text : EditStop → List ℕ
+stop_text (Range at) = codes "edit " ++ (decimal at ++ codes ": bad range")
+stop_text (TooLong at) = codes "edit " ++ (decimal at ++ codes ": text too long")
+stop_text (Memory at) = codes "edit " ++ (decimal at ++ codes ": no memory")
+
+-- why a raw string is refused
+abbrev pub raw_str_text : RawStrError → List ℕ
+raw_str_text (InvalidStarter bad_char) = codes "no hash or quote opens the raw string"
+raw_str_text (NoTerminator expected found offset) = codes "no quote with " ++ (decimal expected ++ codes " hashes closes the raw string")
+raw_str_text (TooManyDelimiters found) = codes "the raw string has " ++ (decimal found ++ codes " hashes on each side, and 255 are the most")
+
+-- ---- the number and the name of each kind. The name is that of the variant. The number is fixed:
+-- a new kind gets a new one, and none has 0
+
+-- the table of the kinds of tokens
+unfoldable pub kind_entry : TokenKind → ℕ × List ℕ
+kind_entry (LineComment doc_style) = (1, codes "LineComment")
+kind_entry (BlockComment doc_style terminated) = (2, codes "BlockComment")
+kind_entry Whitespace = (3, codes "Whitespace")
+kind_entry (Frontmatter has_invalid_preceding_whitespace invalid_infostring) = (4, codes "Frontmatter")
+kind_entry Ident = (5, codes "Ident")
+kind_entry InvalidIdent = (6, codes "InvalidIdent")
+kind_entry RawIdent = (7, codes "RawIdent")
+kind_entry ForcedKeywordIdent = (8, codes "ForcedKeywordIdent")
+kind_entry UnknownPrefix = (9, codes "UnknownPrefix")
+kind_entry UnknownPrefixLifetime = (10, codes "UnknownPrefixLifetime")
+kind_entry RawLifetime = (11, codes "RawLifetime")
+kind_entry GuardedStrPrefix = (12, codes "GuardedStrPrefix")
+kind_entry (Literal kind suffix_start) = (13, codes "Literal")
+kind_entry (Lifetime starts_with_number) = (14, codes "Lifetime")
+kind_entry Semi = (15, codes "Semi")
+kind_entry Comma = (16, codes "Comma")
+kind_entry Dot = (17, codes "Dot")
+kind_entry OpenParen = (18, codes "OpenParen")
+kind_entry CloseParen = (19, codes "CloseParen")
+kind_entry OpenBrace = (20, codes "OpenBrace")
+kind_entry CloseBrace = (21, codes "CloseBrace")
+kind_entry OpenBracket = (22, codes "OpenBracket")
+kind_entry CloseBracket = (23, codes "CloseBracket")
+kind_entry At = (24, codes "At")
+kind_entry Pound = (25, codes "Pound")
+kind_entry Tilde = (26, codes "Tilde")
+kind_entry Question = (27, codes "Question")
+kind_entry Colon = (28, codes "Colon")
+kind_entry Dollar = (29, codes "Dollar")
+kind_entry Eq = (30, codes "Eq")
+kind_entry Bang = (31, codes "Bang")
+kind_entry Lt = (32, codes "Lt")
+kind_entry Gt = (33, codes "Gt")
+kind_entry Minus = (34, codes "Minus")
+kind_entry And = (35, codes "And")
+kind_entry Or = (36, codes "Or")
+kind_entry Plus = (37, codes "Plus")
+kind_entry Star = (38, codes "Star")
+kind_entry Slash = (39, codes "Slash")
+kind_entry Caret = (40, codes "Caret")
+kind_entry Percent = (41, codes "Percent")
+kind_entry Unknown = (42, codes "Unknown")
+kind_entry Eof = (43, codes "Eof")
+
+-- the table of the kinds of literals
+unfoldable pub literal_entry : LiteralKind → ℕ × List ℕ
+literal_entry (Int base empty_int) = (1, codes "Int")
+literal_entry (Float base empty_exponent) = (2, codes "Float")
+literal_entry (Char terminated) = (3, codes "Char")
+literal_entry (Byte terminated) = (4, codes "Byte")
+literal_entry (Str terminated) = (5, codes "Str")
+literal_entry (ByteStr terminated) = (6, codes "ByteStr")
+literal_entry (CStr terminated) = (7, codes "CStr")
+literal_entry (RawStr n_hashes) = (8, codes "RawStr")
+literal_entry (RawByteStr n_hashes) = (9, codes "RawByteStr")
+literal_entry (RawCStr n_hashes) = (10, codes "RawCStr")
+
+abbrev pub kind_number : TokenKind → ℕ
+kind_number kind = (kind_entry kind).0
+
+abbrev pub kind_name : TokenKind → List ℕ
+kind_name kind = (kind_entry kind).1
+
+abbrev pub literal_number : LiteralKind → ℕ
+literal_number kind = (literal_entry kind).0
+
+abbrev pub literal_name : LiteralKind → List ℕ
+literal_name kind = (literal_entry kind).1

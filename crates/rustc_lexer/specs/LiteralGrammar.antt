@@ -1,20 +1,13 @@
 -- The language of literals: quoted text, raw strings, and which of these and of the numbers may
 -- have a suffix. `w` and `next` are as in Language.antt; all texts here are characters. The field
 -- of RawStr, RawByteStr and RawCStr is n_hashes, that of the other quoted kinds is terminated.
-use Rattle.std.specs.Prelude.{◌≡◌, ◌<◌, ◌≤◌, ℕ, zero, suc, ◌==◌, Bool, true, false}
-use Rattle.std.specs.Prelude.{[], ◌∷◌, ◌++◌, length, codes, Option, Some, None}
+use Rattle.std.specs.Prelude.{◌≡◌, ◌<◌, ◌≤◌, ℕ, zero, suc, ◌==◌, Bool, true, false, [], ◌∷◌, ◌++◌, length, codes, Option, Some, None}
 use Rattle.std.specs.Option.{is_some}
 use Rattle.std.specs.Str.{byte}
 use Rattle.rustc_lexer.specs.declared.token.LiteralKind.{LiteralKind}
-use Rattle.rustc_lexer.specs.declared.token.LiteralKind.TheVariants.{Char, Byte, Str, ByteStr}
-use Rattle.rustc_lexer.specs.declared.token.LiteralKind.TheVariants.{CStr, RawStr, RawByteStr}
-use Rattle.rustc_lexer.specs.declared.token.LiteralKind.TheVariants.{RawCStr}
-use Rattle.rustc_lexer.specs.Classes.{is_among, is_id_start, is_id_continue, is_ident}
+use Rattle.rustc_lexer.specs.declared.token.LiteralKind.TheVariants.{Char, Byte, Str, ByteStr, CStr, RawStr, RawByteStr, RawCStr}
+use Rattle.rustc_lexer.specs.Classes.{is_among, is_id_start, is_id_continue, is_ident, Chars, begins, AreAll, NextIsNot, NextIn, is_word_continue, is_name_start, begins_ident_after}
 use Rattle.rustc_lexer.specs.NumberGrammar.{IsLongestNumber}
-use Rattle.rustc_lexer.specs.Spans.{Chars, begins, AreAll, NextIsNot, NextIn}
-use Rattle.rustc_lexer.specs.Spans.{is_word_continue, is_name_start, begins_ident_after}
-
--- ---- quoted text
 
 -- w, of which `close` is the end: before it stand characters outside the class, and escapes, which
 -- are a backslash with any character

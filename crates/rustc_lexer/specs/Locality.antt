@@ -1,24 +1,50 @@
--- What one token may depend on, and how far the tokens of a text are sure.
-use Rattle.std.specs.Prelude.{ℕ, ◌≡◌, ◌-◌, ◌<◌, ◌≤◌, ◌^◌, Bool, true, nat_le, List, ◌++◌, length, take, drop}
+-- A text cut into tokens, what one token may depend on, and how far the tokens of a text are sure.
+use Rattle.std.specs.Prelude.{ℕ, zero, suc, ◌≡◌, ◌+◌, ◌<◌, ◌≤◌, List, [], ◌∷◌, length, drop, All, IsCharBoundary, ◌-◌, Bool, true, nat_le, ◌++◌, take}
 use Rattle.std.specs.Str.{chars, IsUtf8}
 use Rattle.rustc_lexer.specs.declared.token.Token.{Token}
-use Rattle.rustc_lexer.specs.Cuts.{bound}
+use Rattle.rustc_lexer.specs.Classes.{IsText}
+
+-- ---- cuts and their bounds
+
+-- the first `count` tokens of a text, by a grammar, which tells the first token of each text
+abbrev pub cut_by : (List ℕ → Token) → ℕ → List ℕ → List Token
+cut_by first zero text = []
+cut_by first (suc count) [] = []
+cut_by first (suc count) (b ∷ bs) = first (b ∷ bs) ∷ cut_by first count (drop (first (b ∷ bs)).len (b ∷ bs))
+
+-- the tokens of a text, which has no more of them than bytes
+unfoldable pub tokens_by : (List ℕ → Token) → List ℕ → List Token
+tokens_by first text = cut_by first (length text) text
+
+-- bound number k: 0, or the end of the token before it
+abbrev pub bound : List Token → ℕ → ℕ
+bound tokens zero = 0
+bound [] (suc k) = 0
+bound (t ∷ ts) (suc k) = t.len + bound ts k
+
+-- each bound of the tokens is inside the text, between characters
+abbrev pub AreBoundaries : List ℕ → List Token → Type 0
+AreBoundaries text tokens = (k : ℕ) → k ≤ length tokens → IsCharBoundary text (bound tokens k)
+
+-- the tokens cut the text: none is empty, each ends between characters, the lengths sum to its own
+pub record Partitions (text : List ℕ) (tokens : List Token) : Type 0 where
+  pub not_empty : All (λ t. 0 < t.len) tokens
+  pub boundaries : AreBoundaries text tokens
+  pub whole : bound tokens (length tokens) ≡ length text
+
+-- ---- what one token may depend on
 
 -- the first characters of a text, two at most
 abbrev pub look : List ℕ → List ℕ
 look text = take 2 (chars text)
-
--- a text that can be held
-pub record IsText (text : List ℕ) : Type 0 where
-  pub utf8 : IsUtf8 text
-  pub fits : length text < 2 ^ 32
 
 -- the two texts agree below `place`, and in the two characters past it, or in how they end there
 pub record AgreePast (place : ℕ) (text other : List ℕ) : Type 0 where
   pub below : take place text ≡ take place other
   pub past : look (drop place text) ≡ look (drop place other)
 
--- the law of a grammar: a first token is not empty, ends between characters, and is that of each text that agrees past its end
+-- the law of a grammar: a first token is not empty, ends between characters, and is that of each
+-- text that agrees past its end
 pub record IsGrammar (first : List ℕ → Token) : Type 0 where
   pub not_empty : (text : List ℕ) → IsText text → 0 < length text → 0 < (first text).len
   pub inside : (text : List ℕ) → IsText text → 0 < length text → (first text).len ≤ length text

@@ -1,8 +1,7 @@
 -- The language of numbers: which texts are numbers up to a suffix, before what, and of which kind.
 -- All texts are characters, and `next` is what follows. The fields are those of Int base empty_int
 -- and Float base empty_exponent.
-use Rattle.std.specs.Prelude.{◌≡◌, ℕ, ◌≤◌, ◌==◌, ◌||◌, not, Bool, true, false}
-use Rattle.std.specs.Prelude.{[], ◌∷◌, ◌++◌, length, take, drop}
+use Rattle.std.specs.Prelude.{◌≡◌, ℕ, ◌≤◌, ◌==◌, ◌||◌, not, Bool, true, false, [], ◌∷◌, ◌++◌, length, take, drop}
 use Rattle.std.specs.Char.{is_ascii_digit, is_ascii_hexdigit}
 use Rattle.std.specs.List.{list_all, list_any}
 use Rattle.std.specs.Str.{byte}
@@ -10,10 +9,7 @@ use Rattle.rustc_lexer.specs.declared.token.Base.{Base}
 use Rattle.rustc_lexer.specs.declared.token.Base.TheVariants.{Binary, Octal, Decimal, Hexadecimal}
 use Rattle.rustc_lexer.specs.declared.token.LiteralKind.{LiteralKind}
 use Rattle.rustc_lexer.specs.declared.token.LiteralKind.TheVariants.{Int, Float}
-use Rattle.rustc_lexer.specs.Classes.{is_id_start}
-use Rattle.rustc_lexer.specs.Spans.{Chars, next_is}
-
--- ---- classes
+use Rattle.rustc_lexer.specs.Classes.{is_id_start, Chars, next_is}
 
 -- a class with the underscore; what an exponent begins with, and its signs
 abbrev pub or_underscore : (ℕ → Bool) → ℕ → Bool

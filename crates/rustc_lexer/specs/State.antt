@@ -1,9 +1,15 @@
--- Where a cursor or an iterator is in its text, and what pending bytes make of a token.
-use Rattle.std.specs.Prelude.{ℕ, ◌≡◌, ◌+◌, ◌≤◌, List, drop, IsCharBoundary}
+-- A cursor or an iterator on its way through a text: where it is, and what a call takes.
+use Rattle.std.specs.Prelude.{ℕ, ◌≡◌, ◌+◌, ◌≤◌, List, drop, IsCharBoundary, Bool, [], ◌∷◌, ◌++◌, codes, Option, Some, None}
+use Rattle.std.specs.Str.{chars}
+use Rattle.rustc_lexer.specs.declared.edition.Edition.{Edition}
+use Rattle.rustc_lexer.specs.declared.token.GuardedStr.{GuardedStr}
 use Rattle.rustc_lexer.specs.declared.token.Token.{Token}
 use Rattle.rustc_lexer.specs.declared.token.TokenKind.{TokenKind}
-use Rattle.rustc_lexer.specs.declared.token.TokenKind.TheVariants.{Literal}
-use Rattle.rustc_lexer.specs.LanguageText.{Mode}
+use Rattle.rustc_lexer.specs.declared.token.TokenKind.TheVariants.{Literal, Eof}
+use Rattle.rustc_lexer.specs.Classes.{Chars, Utf8, bytes, NextNotIn}
+use Rattle.rustc_lexer.specs.LanguageCalls.{IsGuardedBefore}
+use Rattle.rustc_lexer.specs.LanguageText.{Mode, part, mode_after, AreTokens}
+use Rattle.rustc_lexer.specs.LiteralGrammar.{hashes}
 
 -- how many bytes were taken since the last token, the text that is left, and how it is read
 pub record State : Type 0 where
@@ -30,3 +36,35 @@ suffix_start_of kind = 0
 
 abbrev pub HasSuffixWithin : Token → Type 0
 HasSuffixWithin token = suffix_start_of token.kind ≤ token.len
+
+-- ---- what calls take
+
+-- the token is the first one of the text, read as a part in an edition
+abbrev pub IsFirst : Edition → Utf8 → Token → Type 0
+IsFirst edition text token = (tokens : List Token) × AreTokens (part edition) (chars text) (token ∷ tokens)
+
+-- what a cursor takes: at the end a token of length 0, which changes nothing; else the first of the
+-- tokens that the language allows there, with the bytes that were pending before it
+pub data TakesNext (s : State) : Token × State → Type 0 where
+  nothing_left : s.rest ≡ [] → TakesNext s (record { kind = Eof; len = 0 }, s)
+  first_left : {token : Token} {tokens : List Token}
+      → AreTokens s.mode (chars s.rest) (token ∷ tokens)
+      → TakesNext s (
+        token_past s.pending token,
+        record { pending = 0; rest = drop token.len s.rest; mode = mode_after s.mode token.kind },
+      )
+
+-- what is taken of the text of a cursor: a guarded string, with what is pending; or hashes that
+-- begin none, which are pending then
+pub data TakesGuarded (s : State) : Option GuardedStr × State → Type 0 where
+  string : {n : ℕ} {terminated : Bool} {w next : Chars}
+      → chars s.rest ≡ w ++ next
+      → IsGuardedBefore next n terminated w
+      → TakesGuarded s (
+        Some record { n_hashes = n; terminated = terminated; token_len = s.pending + bytes w },
+        record s { pending = 0; rest = drop (bytes w) s.rest },
+      )
+  none : (n : ℕ) (next : Chars)
+      → chars s.rest ≡ hashes n ++ next
+      → NextNotIn (codes "\"#") next
+      → TakesGuarded s (None, record s { pending = s.pending + n; rest = drop n s.rest })

@@ -1,18 +1,18 @@
 -- The tokens of a text, and what the calls that take them do.
-use Rattle.std.specs.Prelude.{ℕ, ◌≡◌, ◌↔◌, ◌-◌, ◌<◌, ◌≤◌, List, [], ◌∷◌, length, take, drop, IsCharBoundary, Option, IsSome, Some, None, Ok}
+use Rattle.std.specs.Prelude.{ℕ, ◌≡◌, ◌↔◌, ◌-◌, ◌<◌, ◌≤◌, List, [], ◌∷◌, length, take, drop, IsCharBoundary, Option, IsSome, Some, None, Ok, zero, suc, Bool, true, false, ◌++◌, map, min}
 use Rattle.std.specs.Str.{chars}
+use Rattle.rustc_lexer.specs.declared.edition.Edition.{Edition}
+use Rattle.rustc_lexer.specs.declared.token.LiteralKind.{LiteralKind}
+use Rattle.rustc_lexer.specs.declared.token.LiteralKind.TheVariants.{RawStr, RawByteStr, RawCStr}
+use Rattle.rustc_lexer.specs.declared.token.Token.{Token}
+use Rattle.rustc_lexer.specs.declared.token.TokenKind.{TokenKind}
+use Rattle.rustc_lexer.specs.declared.token.TokenKind.TheVariants.{Literal, Eof, LineComment, BlockComment, Frontmatter, Lifetime}
 use Rattle.rustc_lexer.specs.Answers.{advance, raw_check}
 pub use Rattle.rustc_lexer.specs.Answers.{tokens_of}
-pub use Rattle.rustc_lexer.specs.Cuts.{cut_by, tokens_by, bound, AreBoundaries, Partitions}
 use Rattle.rustc_lexer.specs.LanguageCalls.{StartsRaw}
 use Rattle.rustc_lexer.specs.LanguageText.{AreTokens, part, mode_edition, mode_after}
+pub use Rattle.rustc_lexer.specs.Locality.{cut_by, tokens_by, bound, AreBoundaries, Partitions}
 use Rattle.rustc_lexer.specs.State.{State, token_past}
-use Rattle.rustc_lexer.specs.declared.edition.Edition.{Edition}
-use Rattle.rustc_lexer.specs.declared.token.LiteralKind.TheVariants.{RawStr, RawByteStr, RawCStr}
-use Rattle.rustc_lexer.specs.declared.token.LiteralKind.{LiteralKind}
-use Rattle.rustc_lexer.specs.declared.token.Token.{Token}
-use Rattle.rustc_lexer.specs.declared.token.TokenKind.TheVariants.{Literal, Eof}
-use Rattle.rustc_lexer.specs.declared.token.TokenKind.{TokenKind}
 
 -- the tokens that a cursor with nothing pending, or an iterator, will come to
 abbrev pub tokens_left : State → List Token
@@ -24,8 +24,9 @@ RestartsAtBounds edition text =
     let tokens : List Token = tokens_of (part edition) text in
     (k : ℕ) → k ≤ length tokens → tokens_of (part edition) (drop (bound tokens k) text) ≡ drop k tokens
 
--- with nothing pending, the token is the first of those that are left, and the state after it is as `advance` says: the
--- token is not empty, ends between characters, and is taken off the text, and the edition stays
+-- with nothing pending, the token is the first of those left, and the state after it is as
+-- `advance` says: it is not empty, ends between characters and is taken off the text, and the
+-- edition stays
 pub record TakesToken (s : State) (token : Token) (t : State) : Type 0 where
   pub first : tokens_left s ≡ token ∷ tokens_left t
   pub advances : advance s ≡ (token, t)
@@ -35,19 +36,19 @@ pub record TakesToken (s : State) (token : Token) (t : State) : Type 0 where
   pub mode : t.mode ≡ mode_after s.mode token.kind
   pub edition : mode_edition t.mode ≡ mode_edition s.mode
 
--- what a call of `next` does: where no token is left it gives none and changes nothing; else it takes one
+-- what `next` does: where no token is left it gives none and changes nothing; else it takes one
 abbrev pub YieldsToken : State → Option Token → State → Type 0
 YieldsToken s None t = (tokens_left s ≡ []) × (t ≡ s)
 YieldsToken s (Some token) t = TakesToken s token t
 
--- in each state of a cursor that has text left: what it takes is the first of the tokens that the language allows there, a
+-- a cursor that has text left takes the first of the tokens that the language allows there, a
 -- frontmatter where one opens, with the bytes that were pending before it; the others are left
 pub record TakesFirst (s : State) (token : Token) (t : State) : Type 0 where
   pub taken : Token
   pub with_pending : token ≡ token_past s.pending taken
   pub first : AreTokens s.mode (chars s.rest) (taken ∷ tokens_left t)
 
--- the token is more than the bytes that were pending: the rest of it is taken off the text, and ends between characters
+-- past the pending bytes the token is not empty, ends between characters, and is taken off the text
 pub record TakesPending (s : State) (token : Token) (t : State) : Type 0 where
   pub first : s.pending ≡ 0 → tokens_left s ≡ token ∷ tokens_left t
   pub not_empty : s.pending < token.len
@@ -62,9 +63,9 @@ pub record StaysAtEnd (s : State) (token : Token) (t : State) : Type 0 where
   pub empty : token.len ≡ 0
   pub unchanged : t ≡ s
 
--- ---- what the kind of a token says of its own text, beside the language: that a raw string may be checked by it
+-- ---- what the kind of a token says of its own text, beside the page
 
--- the text may be checked, and the check refuses nothing exactly where the number of hashes is there
+-- the text may be checked, and the check accepts it exactly where the number of hashes is there
 abbrev pub IsChecked : ℕ → List ℕ → Option ℕ → Type 0
 IsChecked prefix text n_hashes = StartsRaw text prefix × ((raw_check text prefix ≡ Ok tt) ↔ IsSome n_hashes)
 
@@ -74,7 +75,7 @@ HasRawText (RawByteStr n_hashes) text = IsChecked 2 text n_hashes
 HasRawText (RawCStr n_hashes) text = IsChecked 2 text n_hashes
 HasRawText kind text = Unit {0}
 
--- the text of a raw string may be checked, and at the end is nothing. Which texts each kind has is what the language says
+-- the text of a raw string may be checked, and `Eof` has none. The page says which texts a kind has
 abbrev pub HasText : TokenKind → List ℕ → Type 0
 HasText (Literal kind suffix_start) text = HasRawText kind text
 HasText Eof text = length text ≡ 0
@@ -84,3 +85,34 @@ HasText kind text = Unit {0}
 abbrev pub HaveTexts : List ℕ → List Token → Type 0
 HaveTexts text [] = Unit {0}
 HaveTexts text (token ∷ tokens) = HasText token.kind (take token.len text) × HaveTexts (drop token.len text) tokens
+
+-- ---- many tokens at once, written into a room
+
+-- whether tokens of the kind differ in more than their length
+abbrev pub has_fields : TokenKind → Bool
+has_fields (LineComment doc_style) = true
+has_fields (BlockComment doc_style terminated) = true
+has_fields (Frontmatter has_invalid_preceding_whitespace invalid_infostring) = true
+has_fields (Literal kind suffix_start) = true
+has_fields (Lifetime starts_with_number) = true
+has_fields kind = false
+
+-- the room holds the first of the tokens at its front, each as it is written: as many as there are,
+-- or as there is room for; the rest of the room stays
+pub record IsFilled {X : Type 0} (written : Token → X) (left : List Token) (room filled : List X) (count : ℕ) : Type 0 where
+  pub as_many : count ≡ min (length room) (length left)
+  pub tokens : filled ≡ map written (take count left) ++ drop count room
+
+-- the same of the tokens that begin before a place: each of those does, and where there is room for
+-- one more, it does not
+pub record IsFilledTo {X : Type 0} (written : Token → X) (end : ℕ) (left : List Token) (room filled : List X) (count : ℕ) : Type 0 where
+  pub few : count ≤ length left
+  pub within : count ≤ length room
+  pub tokens : filled ≡ map written (take count left) ++ drop count room
+  pub begun : (k : ℕ) → k < count → bound left k < end
+  pub all : count < length room → end ≤ bound left count
+
+-- the state past `count` tokens
+abbrev pub state_past : ℕ → State → State
+state_past zero s = s
+state_past (suc count) s = (advance (state_past count s)).1

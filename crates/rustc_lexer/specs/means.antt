@@ -4,6 +4,7 @@ pub mod ByteRuns
 pub mod Choice
 pub mod Comment
 pub mod Edition
+pub mod Emoji
 pub mod Ends
 pub mod Frontmatter
 pub mod Guarded

@@ -4,11 +4,10 @@ ghost use Rattle.std.specs.Str.{chars};
 ghost use Rattle.rustc_lexer.specs.declared.edition.Edition.{Edition};
 ghost use Rattle.rustc_lexer.specs.declared.edition.Edition.TheVariants.{E2024};
 ghost use Rattle.rustc_lexer.specs.Classes.{Fits};
-ghost use Rattle.rustc_lexer.specs.Tokens.{TakesFirst};
+ghost use Rattle.rustc_lexer.specs.Tokens.{TakesFirst, StaysAtEnd, TakesPending};
 ghost use Rattle.rustc_lexer.specs.LanguageText.{mode_after, mode_edition, mode_in, mode_of};
 ghost use Rattle.rustc_lexer.specs.Answers.{advance};
 ghost use Rattle.rustc_lexer.specs.State.{token_past, HasSuffixWithin};
-ghost use Rattle.rustc_lexer.specs.Tokens.{StaysAtEnd, TakesPending};
 
 use crate::frontmatter::token_at;
 use crate::scan;

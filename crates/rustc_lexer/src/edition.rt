@@ -4,10 +4,9 @@ ghost use Rattle.std.specs.List.{list_all};
 ghost use Rattle.std.specs.Result.{result_ok};
 ghost use Rattle.std.specs.Str.{chars};
 ghost use Rattle.rustc_lexer.specs.Classes.{Fits, is_id_continue};
-ghost use Rattle.rustc_lexer.specs.LanguageIn.{edition_of, edition_of_year, year};
+ghost use Rattle.rustc_lexer.specs.LanguageText.{edition_of, edition_of_year, year, mode_in};
 ghost use Rattle.rustc_lexer.specs.means.Edition as spec;
 ghost use Rattle.rustc_lexer.specs.means.Ident.{is_word};
-ghost use Rattle.rustc_lexer.specs.LanguageText.{mode_in};
 ghost use Rattle.rustc_lexer.specs.means.Scan.{run_len};
 ghost use Rattle.rustc_lexer.specs.means.Taking as state;
 
@@ -23,9 +22,13 @@ use std::str::FromStr;
 /// An edition of Rust, in the order of their years.
 #[derive(Clone, Copy, Debug, PartialEq, Eq, PartialOrd, Ord)]
 pub enum Edition {
+    /// Rust 2015.
     E2015,
+    /// Rust 2018, whose tokens are those of 2015.
     E2018,
+    /// Rust 2021.
     E2021,
+    /// Rust 2024, the newest.
     E2024,
 }
 

@@ -12,7 +12,7 @@ use crate::token::RawStrError;
 /// Whether the first `prefix_len` characters of the text may be the prefix of a raw string: `prefix_len` is
 /// at least 1, and character number `prefix_len`, counted from 1, is `r`.
 ///
-/// What [`validate_raw_str`] requires of its text.
+/// What [`validate_raw_str`](crate::validate_raw_str) requires of its text.
 pub fn starts_raw(input: &str, prefix_len: u32) -> bool
     ensures { IsTrue result ↔ StartsRaw input.now prefix_len }
 {

@@ -1,7 +1,6 @@
 //! Tokens: what each is, and how long.
 ghost use Rattle.std.specs.Prelude.{◌≡◌, Some};
-ghost use Rattle.rustc_lexer.specs.ErrorTexts.{raw_str_text};
-ghost use Rattle.rustc_lexer.specs.Kinds.{kind_name, kind_number, literal_name, literal_number};
+ghost use Rattle.rustc_lexer.specs.LanguageCalls.{raw_str_text, kind_name, kind_number, literal_name, literal_number};
 
 use std::error::Error;
 use std::fmt;
@@ -149,7 +148,7 @@ pub enum TokenKind {
 
 impl TokenKind {
     /// The name of the kind, which is that of its variant, such as `Ident`.
-    #[tactic(auto, unfolding(crate::specs::Kinds::kind_entry))]
+    #[tactic(auto, unfolding(crate::specs::LanguageCalls::kind_entry))]
     pub fn name(self) -> &'static str
         ensures { result.now ≡ kind_name self }
     {
@@ -202,7 +201,7 @@ impl TokenKind {
 
     /// The number of the kind, from 1 on. It is fixed: a new kind gets a new number.
     #[inline(always)]
-    #[tactic(auto, unfolding(crate::specs::Kinds::kind_entry))]
+    #[tactic(auto, unfolding(crate::specs::LanguageCalls::kind_entry))]
     pub fn number(self) -> u8
         ensures { result ≡ kind_number self }
     {
@@ -328,7 +327,7 @@ pub enum LiteralKind {
 
 impl LiteralKind {
     /// The name of the kind, which is that of its variant, such as `Int`.
-    #[tactic(auto, unfolding(crate::specs::Kinds::literal_entry))]
+    #[tactic(auto, unfolding(crate::specs::LanguageCalls::literal_entry))]
     pub fn name(self) -> &'static str
         ensures { result.now ≡ literal_name self }
     {
@@ -348,7 +347,7 @@ impl LiteralKind {
 
     /// The number of the kind, from 1 on. It is fixed: a new kind gets a new number.
     #[inline(always)]
-    #[tactic(auto, unfolding(crate::specs::Kinds::literal_entry))]
+    #[tactic(auto, unfolding(crate::specs::LanguageCalls::literal_entry))]
     pub fn number(self) -> u8
         ensures { result ≡ literal_number self }
     {

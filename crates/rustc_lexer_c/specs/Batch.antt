@@ -4,7 +4,7 @@ use Rattle.std.specs.Str.{IsCharBoundary}
 use Rattle.rustc_lexer.specs.declared.token.FrontmatterAllowed.{FrontmatterAllowed}
 use Rattle.rustc_lexer.specs.declared.token.FrontmatterAllowed.TheVariants.{Yes, No}
 use Rattle.rustc_lexer.specs.declared.token.Token.{Token}
-pub use Rattle.rustc_lexer.specs.Bulk.{state_past}
+pub use Rattle.rustc_lexer.specs.Tokens.{state_past}
 use Rattle.rustc_lexer.specs.LanguageText.{Mode, document, part, mode_of}
 use Rattle.rustc_lexer.specs.State.{State}
 use Rattle.rustc_lexer.specs.Tokens.{tokens_left}

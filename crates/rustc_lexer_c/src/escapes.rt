@@ -2,7 +2,7 @@
 ghost use Rattle.std.specs.Prelude.{◌≡◌, ◌≢◌, false, List, [], ◌∷◌, None, map};
 ghost use Rattle.std.specs.Result.{result_err};
 ghost use Rattle.std.specs.Str.{IsUtf8};
-ghost use Rattle.rustc_lexer.specs.Locality.{IsText};
+ghost use Rattle.rustc_lexer.specs.Classes.{IsText};
 ghost use Rattle.rustc_literal_escaper.specs.Elements.{items_of, TakesFirst};
 ghost use Rattle.rustc_literal_escaper.specs.Errors as errors;
 ghost use Rattle.rustc_literal_escaper.specs.Meaning.{unit_of};

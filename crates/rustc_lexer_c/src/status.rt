@@ -1,7 +1,7 @@
 //! The statuses of calls, and the tests that they come from.
 ghost use Rattle.std.specs.Prelude.{◌≡◌, MatchResult};
 ghost use Rattle.std.specs.Str.{IsUtf8};
-ghost use Rattle.rustc_lexer.specs.Locality.{IsText};
+ghost use Rattle.rustc_lexer.specs.Classes.{IsText};
 ghost use Rattle.rustc_lexer_c.specs.Status as spec;
 
 /// The status of a call that was done.

@@ -14,3 +14,4 @@ pub mod SimpleLemmas
 pub mod RebuiltLemmas
 pub mod RunLemmas
 pub mod FewLemmas
+pub mod PartLemmas

@@ -1,14 +1,15 @@
 -- Items and their places.
-use Rattle.std.proofs.Common.{◌≡◌, ℕ, ◌-◌, ◌<◌, ◌==◌, ◌||◌, Bool, true, false, true≢false, Some, None, List, [], ◌∷◌, length, map, ◌++◌, if◌then◌else◌, refl, sym, ap, ◌∙◌, arith}
+use Rattle.std.proofs.Common.{◌≡◌, ℕ, ◌-◌, ◌<◌, ◌==◌, ◌||◌, Bool, true, false, true≢false, Some, None, List, [], ◌∷◌, length, map, ◌++◌, if◌then◌else◌, not, refl, sym, ap, ap₂, subst, ◌∙◌, arith}
 use Rattle.std.specs.Char.{is_whitespace}
 use Rattle.std.specs.List.{list_any, slice_get}
 use Rattle.std.specs.Str.{chars, encode_utf8_all, IsUtf8}
-use Rattle.std.proofs.lemmas.Bool.{eqb-true}
+use Rattle.std.proofs.lemmas.Bool.{eqb-true, false_from_ne_true, ne_eqb}
+use Rattle.std.proofs.lemmas.List.{map-append}
 use Rattle.std.proofs.lemmas.Str.{byte_from_char, char_from_byte, chars-nil, encodes-chars}
 use Rattle.rustc_literal_escaper.specs.declared.element.Element.{Element}
 use Rattle.rustc_literal_escaper.specs.declared.element.Element.TheVariants.{Fault}
 use Rattle.rustc_literal_escaper.specs.declared.error.EscapeError.TheVariants.{MultipleSkippedLinesWarning, UnskippedWhitespaceWarning}
-use Rattle.rustc_literal_escaper.specs.Elements.{Item, is_newline, is_passed_over, item_at, line_end, more_space}
+use Rattle.rustc_literal_escaper.specs.Elements.{Item, begins_line, is_newline, is_passed_over, item_at, line_end, more_space}
 use Rattle.rustc_literal_escaper.specs.Runs.{front_run, past_run}
 
 -- what is left of a text has its own length
@@ -56,7 +57,7 @@ passing-on line left s newline c at e is = record {
 }
 
 -- where none stands next, all of it is seen
-past_run-none : (p : ℕ → Bool) (s : List ℕ) → front_run p s ≡ [] → past_run p s ≡ s
+pub past_run-none : (p : ℕ → Bool) (s : List ℕ) → front_run p s ≡ [] → past_run p s ≡ s
 past_run-none p [] e = refl
 past_run-none p (c ∷ s) e = by_test (p c) refl
   where
@@ -69,6 +70,50 @@ unfolding newline_ahead
 passing-end line left newline at none = (
   or_false newline ∙ sym (at.seen ∙ ap (λ (xs : List ℕ). newline || list_any is_newline xs) none),
   sym (at.past ∙ past_run-none is_passed_over left none),
+)
+
+pub past_run-on : (line left s : List ℕ) (c : ℕ) → past_run is_passed_over line ≡ past_run is_passed_over left → left ≡ c ∷ s → is_passed_over c ≡ true → past_run is_passed_over line ≡ past_run is_passed_over s
+past_run-on line left s c so e is = so ∙ (ap (past_run is_passed_over) e ∙ past_run-yes is_passed_over c s is)
+
+-- where a line begins, or no such white space stands next, the search for a line's end stops
+no-line : (s : List ℕ) → front_run is_passed_over s ≡ [] → begins_line s ≡ false
+no-line [] none = refl
+no-line (c ∷ s) none = false_from_ne_true (is_newline c) (λ yes.
+    let f : 10 ∷ front_run is_passed_over s ≡ [] = subst (λ (d : ℕ). front_run is_passed_over (d ∷ s) ≡ []) (eqb-true c 10 yes) none in cc)
+
+pub not-line : (s : List ℕ) → front_run is_passed_over s ≡ [] → not (begins_line s) ≡ true
+not-line s none = ap not (no-line s none)
+
+pub passing-blank : (line left s : List ℕ) (c : ℕ) → Passing line left false → left ≡ c ∷ s → is_passed_over c ≡ true → (c ≡ 10 → ⊥) → Passing line s false
+passing-blank line left s c at e is off = subst (λ (t : Bool). Passing line s t) (ne_eqb c 10 off) (passing-on line left s false c at e is)
+
+abbrev pub Stopped : List ℕ → List ℕ → Type 0
+Stopped line left = (begins_line left ≡ list_any is_newline (front_run is_passed_over line))
+    × (past_run is_passed_over left ≡ past_run is_passed_over line)
+    × (begins_line left ≡ false → left ≡ past_run is_passed_over line)
+
+pub stopped-line : (line left s : List ℕ) (c : ℕ) → Passing line left false → left ≡ c ∷ s → c ≡ 10 → Stopped line left
+unfolding newline_ahead
+stopped-line line left s c at e ten = (
+  subst (λ (xs : List ℕ). begins_line xs ≡ list_any is_newline (front_run is_passed_over xs)) (sym here) refl ∙ sym at.seen,
+  sym at.past,
+  λ off. absurd (true≢false (sym (ap begins_line here) ∙ off)),
+)
+  where
+    here : left ≡ 10 ∷ s
+    here = e ∙ ap (λ (d : ℕ). d ∷ s) ten
+
+pub stopped-end : (line left : List ℕ) → Passing line left false → front_run is_passed_over left ≡ [] → Stopped line left
+stopped-end line left at none =
+    let ends = passing-end line left false at none in
+    (no-line left none ∙ ends.0, sym at.past, λ off. ends.1)
+
+-- past a newline one was passed over, and what is left is left past all white space
+pub past-line : (line left next past : List ℕ) → Stopped line left → left ≡ 10 ∷ next → past ≡ past_run is_passed_over next
+    → (true ≡ list_any is_newline (front_run is_passed_over line)) × (past ≡ past_run is_passed_over line)
+past-line line left next past at e p = (
+  sym (ap begins_line e) ∙ at.0,
+  p ∙ (sym (ap (past_run is_passed_over) e) ∙ at.1),
 )
 
 -- the first byte tells whether such white space stands next
@@ -133,3 +178,20 @@ more_space-yes total start left tail c is e white =
 
     by_white : (c : ℕ) (s : List ℕ) → is_whitespace c ≡ true → map (item_at total start) (more_space (c ∷ s)) ≡ item_at total start (Fault UnskippedWhitespaceWarning, s) ∷ []
     by_white c s t = by_test (is_whitespace c) s t
+
+-- the warning where a newline was passed over
+pub more_lines-yes : (total start : ℕ) (left : List ℕ) (newline : Bool) → IsUtf8 left → newline ≡ true
+    → (record { start = start; end = total - length left }, Fault MultipleSkippedLinesWarning) ∷ []
+    ≡ map (item_at total start) (if newline then (Fault MultipleSkippedLinesWarning, chars left) ∷ [] else [])
+more_lines-yes total start left newline is e = rw e (ap (λ (i : Item). i ∷ []) (item-is total start (Fault MultipleSkippedLinesWarning) left is))
+
+-- the warnings past a line's end
+pub line_end-told : (total start : ℕ) (line left : List ℕ) (newline : Bool) (lines space : List Item)
+    → newline ≡ list_any is_newline (front_run is_passed_over line) → left ≡ past_run is_passed_over line
+    → lines ≡ map (item_at total start) (if newline then (Fault MultipleSkippedLinesWarning, left) ∷ [] else [])
+    → space ≡ map (item_at total start) (more_space left)
+    → lines ++ space ≡ map (item_at total start) (line_end line).told
+line_end-told total start line left newline lines space n l a b =
+    ap₂ (λ (xs ys : List Item). xs ++ ys) a b
+    ∙ (sym (map-append (item_at total start) (if newline then (Fault MultipleSkippedLinesWarning, left) ∷ [] else []) (more_space left))
+    ∙ ap₂ (λ (t : Bool) (xs : List ℕ). map (item_at total start) ((if t then (Fault MultipleSkippedLinesWarning, xs) ∷ [] else []) ++ more_space xs)) n l)

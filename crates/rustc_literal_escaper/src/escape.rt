@@ -8,7 +8,7 @@ ghost use Rattle.rustc_literal_escaper.specs.Escape.{closed_at_run};
 use crate::element::Element;
 use crate::element::Element::{Byte, Fault};
 use crate::error::EscapeError;
-use crate::scan::split_first;
+use crate::scan::{split_ascii, split_first};
 
 /// A number between braces has no more digits than this.
 const MOST_DIGITS: usize = 6;
@@ -38,16 +38,27 @@ pub(crate) fn escaped_byte(rest: &str) -> Option<(u8, &str)>
     ensures { IfSome result (λ r. ((Element.Byte r.0, chars r.1.now) ≡ spec.escape (chars rest.now))
         × IsUtf8 r.1.now × (length r.1.now < length rest.now)) }
 {
-    let (c, tail) = split_first(rest)?;
-    let (element, left) = if c == 'x' {
-        hex(tail)
-    } else {
-        (short(c), tail)
-    };
-    match element {
-        Element::Byte(byte) => Some((byte, left)),
+    let (c, tail) = split_ascii(rest)?;
+    if c == 'x' {
+        return two_digits(tail);
+    }
+    match short(c) {
+        Element::Byte(byte) => Some((byte, tail)),
         _ => None,
     }
+}
+
+/// The byte of two digits at the front, and what is left past them, as [`hex`] has them.
+#[inline(always)]
+fn two_digits(rest: &str) -> Option<(u8, &str)>
+    ensures { IfSome result (λ r. ((Element.Byte r.0, chars r.1.now) ≡ spec.hex (chars rest.now))
+        × IsUtf8 r.1.now × (length r.1.now < length rest.now)) }
+{
+    let (high, tail) = split_ascii(rest)?;
+    let high = hex_digit(high)?;
+    let (low, left) = split_ascii(tail)?;
+    let low = hex_digit(low)?;
+    Some(((high * 16 + low) as u8, left))
 }
 
 /// What a backslash and a character stand for that begin no escape.

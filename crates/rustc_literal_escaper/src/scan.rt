@@ -1,5 +1,5 @@
 //! Characters at the front of a text.
-ghost use Rattle.std.specs.Prelude.{◌≡◌, ◌<◌, ◌≤◌, true, false, ◌∷◌, [], length, MatchOption};
+ghost use Rattle.std.specs.Prelude.{◌≡◌, ◌<◌, ◌≤◌, true, false, ◌∷◌, [], length, IfSome, MatchOption};
 ghost use Rattle.std.specs.Str.{chars, IsUtf8};
 ghost use Rattle.rustc_literal_escaper.specs.Plain.{is_plain, Passes};
 
@@ -15,6 +15,21 @@ pub(crate) fn split_first(rest: &str) -> Option<(char, &str)>
     let mut chars = rest.chars();
     let first = chars.next()?;
     Some((first, chars.as_str()))
+}
+
+/// The first character and what follows it, where it is in ASCII.
+///
+/// Its first byte tells that, so no character of several bytes is put together.
+#[inline(always)]
+pub(crate) fn split_ascii(rest: &str) -> Option<(char, &str)>
+    ensures { IfSome result (λ r. (chars rest.now ≡ r.0 ∷ chars r.1.now)
+        × (length r.1.now < length rest.now) × IsUtf8 r.1.now) }
+{
+    let byte = rest.as_bytes().first()?;
+    if !byte.is_ascii() {
+        return None;
+    }
+    split_first(rest)
 }
 
 /// What is left past the plain characters in front.

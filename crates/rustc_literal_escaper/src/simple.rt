@@ -33,37 +33,58 @@ pub(crate) fn split_simple(rest: &str, raw: bool) -> (&[u8], &str)
 /// A run of fewer simple bytes is short: no look pays for it.
 const SHORT_RUN: usize = 8;
 
-/// Behind a short run so many plain characters are told alone before the next look.
-const WAIT: usize = 16;
+/// Behind a short run the next look is made no sooner than so many bytes later.
+const WAIT: usize = 24;
 
-/// The simple bytes that are looked for behind the plain character `c`, and what is left past them.
+/// Behind a short run of a raw string so many bytes are told one character after another before the next look.
+const ALONE: usize = 64;
+
+/// The simple bytes that are looked for behind a plain character, and what is left past them.
 ///
-/// There are none behind a character that is not in ASCII, and for a while behind a short run: short ones seldom come
-/// alone. `wait` counts that while.
+/// None are for a while behind a short run: short ones seldom come alone. The next look is due where no more than `look`
+/// bytes are left.
 #[inline(always)]
-pub(crate) fn run_behind<'a>(
-    c: char,
-    tail: &'a str,
-    raw: bool,
-    wait: &mut usize,
-) -> (&'a [u8], &'a str)
-    ensures simple { list_all (spec.is_simple raw) result.0.now ≡ true }
+pub(crate) fn run_behind<'a>(tail: &'a str, look: &mut usize) -> (&'a [u8], &'a str)
+    ensures simple { list_all (spec.is_simple false) result.0.now ≡ true }
     ensures whole { tail.now ≡ result.0.now ++ result.1.now }
     ensures text { IsUtf8 result.1.now }
     ensures sizes { length tail.now ≡ length result.0.now + length result.1.now }
 {
-    if !c.is_ascii() {
+    if tail.len() > *look {
         return (&[], tail);
     }
-    if *wait > 0 {
-        *wait -= 1;
-        return (&[], tail);
-    }
-    let (run, left) = split_simple(tail, raw);
+    let (run, left) = split_simple(tail, false);
     if run.len() < SHORT_RUN {
-        *wait = WAIT;
+        *look = left.len().saturating_sub(WAIT);
     }
     (run, left)
+}
+
+/// The characters that are told one by one behind a run of simple ones, and what is left past them: none behind a long run.
+#[inline(always)]
+pub(crate) fn split_alone<'a>(run: &[u8], text: &'a str) -> (&'a str, &'a str)
+    ensures whole { text.now ≡ result.0.now ++ result.1.now }
+    ensures front { IsUtf8 result.0.now }
+    ensures text { IsUtf8 result.1.now }
+    ensures sizes { length text.now ≡ length result.0.now + length result.1.now }
+{
+    if run.len() < SHORT_RUN {
+        split_part(text)
+    } else {
+        ("", text)
+    }
+}
+
+/// The first characters, of no more than `ALONE` bytes, and what is left past them.
+#[inline(never)]
+fn split_part(text: &str) -> (&str, &str)
+    ensures whole { text.now ≡ result.0.now ++ result.1.now }
+    ensures front { IsUtf8 result.0.now }
+    ensures text { IsUtf8 result.1.now }
+    ensures sizes { length text.now ≡ length result.0.now + length result.1.now }
+{
+    let (part, left) = text.split_at(text.floor_char_boundary(ALONE));
+    (part, left)
 }
 
 /// A number of simple bytes at the front. It is 0 where fewer than 32 bytes are left.

@@ -1,5 +1,5 @@
 //! The steps over what stands between double quotes.
-ghost use Rattle.std.specs.Prelude.{◌≡◌, ◌≤◌, ◌<◌, ◌++◌, ◌∷◌, [], true, length, map, not, IfSome, IsSome, IsTrue, MatchOption};
+ghost use Rattle.std.specs.Prelude.{◌≡◌, ◌≤◌, ◌<◌, ◌++◌, ◌∷◌, [], true, length, map, not, ◌==◌, ◌&&◌, false, if◌then◌else◌, IfSome, IsSome, IsTrue, MatchOption};
 ghost use Rattle.std.specs.List.{list_any};
 ghost use Rattle.std.specs.Option.{option_to_list};
 ghost use Rattle.std.specs.Str.{chars, IsUtf8};
@@ -172,9 +172,41 @@ fn first_element(rest: &str, raw: bool) -> Option<(Element, &str)>
     Some((element, left))
 }
 
+/// What follows a line's end that is skipped, where `c` is the backslash before it, and `tail` follows.
+#[inline(always)]
+#[tactic(auto, unfolding(crate::specs::Elements::front))]
+pub(crate) fn line_at(c: char, tail: &str) -> Option<&str>
+    ensures { MatchOption result (IsTrue (not (c == 92 && spec.begins_line (chars tail.now))))
+        (λ r. (spec.front c (chars tail.now) ≡ spec.line_end (chars r.now))
+        × (length r.now < length tail.now) × IsUtf8 r.now) }
+{
+    if c != '\\' {
+        return None;
+    }
+    strip_newline(tail)
+}
+
+/// The element that begins with `c`, where no line's end that is skipped does, and what is left past it.
+///
+/// Most elements are told before it is asked, so it is kept out of the loops.
+#[inline(never)]
+#[tactic(auto, unfolding(crate::specs::Elements::front))]
+pub(crate) fn lone_element(c: char, tail: &str) -> (Element, &str)
+    requires alone { not (c == 92 && spec.begins_line (chars tail.now)) ≡ true }
+    ensures read { spec.front c (chars tail.now) ≡ spec.one (result.0, chars result.1.now) }
+    ensures shorter { length result.1.now ≤ length tail.now }
+    ensures text { IsUtf8 result.1.now }
+{
+    if c == '\\' {
+        escape(tail)
+    } else {
+        (unescaped(c), tail)
+    }
+}
+
 /// What a character of a raw string is.
 #[inline(always)]
-fn raw_element(c: char) -> Element
+pub(crate) fn raw_element(c: char) -> Element
     ensures { result ≡ spec.raw_element c }
 {
     if c == '\r' {
@@ -238,9 +270,9 @@ fn unescaped(c: char) -> Element
 #[inline(always)]
 fn strip_newline(text: &str) -> Option<&str>
     ensures { MatchOption result (IsTrue (not (spec.begins_line (chars text.now))))
-        (λ r. (chars text.now ≡ 10 ∷ chars r.now) × (length r.now < length text.now)) }
+        (λ r. (chars text.now ≡ 10 ∷ chars r.now) × (length r.now < length text.now) × IsUtf8 r.now) }
 {
-    let (c, tail) = split_first(text)?;
+    let (c, tail) = split_passed(text)?;
     if c == '\n' { Some(tail) } else { None }
 }
 
@@ -278,20 +310,54 @@ fn line_end(line: &str, start: usize, total: usize) -> Told<'_>
 
 /// Whether a newline is among the white space that is passed over, and what is left past that.
 #[inline(always)]
-fn pass_over(line: &str) -> (bool, &str)
+pub(crate) fn pass_over(line: &str) -> (bool, &str)
     ensures newline { result.0
         ≡ list_any spec.is_newline (front_run spec.is_passed_over (chars line.now)) }
     ensures left { chars result.1.now ≡ past_run spec.is_passed_over (chars line.now) }
     ensures shorter { length result.1.now ≤ length line.now }
     ensures text { IsUtf8 result.1.now }
 {
-    let mut newline = false;
+    let left = past_blanks(line);
+    match strip_newline(left) {
+        Some(next) => (true, past_space(next)),
+        None => (false, left),
+    }
+}
+
+/// What is left past the white space that is passed over, up to a newline.
+#[inline(always)]
+fn past_blanks(line: &str) -> &str
+    ensures newline { spec.begins_line (chars result.now)
+        ≡ list_any spec.is_newline (front_run spec.is_passed_over (chars line.now)) }
+    ensures past { past_run spec.is_passed_over (chars result.now)
+        ≡ past_run spec.is_passed_over (chars line.now) }
+    ensures stops { spec.begins_line (chars result.now) ≡ false
+        → chars result.now ≡ past_run spec.is_passed_over (chars line.now) }
+    ensures shorter { length result.now ≤ length line.now }
+    ensures text { IsUtf8 result.now }
+{
     let mut left = line;
-    'passed: while let Some((c, tail)) = split_passed(left) {
-        newline = newline | (c == '\n');
+    'blanks: while let Some((c, tail)) = split_passed(left) {
+        if c == '\n' {
+            return left;
+        }
         left = tail;
     }
-    (newline, left)
+    left
+}
+
+/// What is left past the white space that is passed over, newlines too.
+#[inline(always)]
+fn past_space(rest: &str) -> &str
+    ensures left { chars result.now ≡ past_run spec.is_passed_over (chars rest.now) }
+    ensures shorter { length result.now ≤ length rest.now }
+    ensures text { IsUtf8 result.now }
+{
+    let mut left = rest;
+    'space: while let Some((_, tail)) = split_passed(left) {
+        left = tail;
+    }
+    left
 }
 
 /// The white space at the front that is passed over, one character, and what follows it.
@@ -320,9 +386,28 @@ fn is_passed_over(c: char) -> bool
     matches!(c, '\n' | '\r' | '\t' | ' ')
 }
 
+/// The warning where a newline was among the white space that was passed over.
+#[inline(always)]
+pub(crate) fn more_lines(
+    newline: bool,
+    left: &str,
+    start: usize,
+    total: usize,
+) -> Option<(Range<usize>, Element)>
+    requires fits { length left.now ≤ total }
+    ensures { option_to_list result ≡ map (spec.item_at total start)
+        (if newline then (Element.Fault EscapeError.MultipleSkippedLinesWarning, chars left.now) ∷ [] else []) }
+{
+    if !newline {
+        return None;
+    }
+    let warning = Element::Fault(EscapeError::MultipleSkippedLinesWarning);
+    Some((start..total - left.len(), warning))
+}
+
 /// The warning where white space stands next.
 #[inline(always)]
-fn more_space(left: &str, start: usize, total: usize) -> Option<(Range<usize>, Element)>
+pub(crate) fn more_space(left: &str, start: usize, total: usize) -> Option<(Range<usize>, Element)>
     requires fits { length left.now ≤ total }
     ensures { option_to_list result
         ≡ map (spec.item_at total start) (spec.more_space (chars left.now)) }

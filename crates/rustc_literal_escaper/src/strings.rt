@@ -1,17 +1,19 @@
 //! Strings of every kind, by a callback.
-ghost use Rattle.std.specs.Prelude.{◌≡◌, ◌≤◌, true, false, length};
+ghost use Rattle.std.specs.Prelude.{◌≡◌, ◌≤◌, true, false, length, map};
 ghost use Rattle.std.specs.List.{FoldsTo, list_all};
 ghost use Rattle.std.specs.Option.{option_to_list};
-ghost use Rattle.std.specs.Str.{chars};
-ghost use Rattle.rustc_literal_escaper.specs.Elements.{front_by, items_from, items_of};
+ghost use Rattle.std.specs.Str.{chars, IsUtf8};
+ghost use Rattle.rustc_literal_escaper.specs.Elements.{front_by, item_at, items_from, items_of, line_end};
 ghost use Rattle.rustc_literal_escaper.specs.Meaning.{byte_of, char_of, raw_unit_of, unit_of};
 ghost use Rattle.rustc_literal_escaper.specs.Plain.{is_fine, plain_items};
 
 use crate::element::Element;
 use crate::error::EscapeError;
 use crate::scan::split_first;
-use crate::simple::run_behind;
-use crate::steps::{Told, byte_at, is_plain, step_by};
+use crate::simple::{run_behind, split_alone, split_simple};
+use crate::steps::{
+    byte_at, is_plain, line_at, lone_element, more_lines, more_space, pass_over, raw_element,
+};
 use crate::unit::{MixedUnit, NonZeroChar};
 use std::ops::Range;
 
@@ -216,50 +218,124 @@ fn each_unit<M: Meaning, F: FnMut(Range<usize>, Result<M::Meant, EscapeError>)>(
     ensures calls { FoldsTo (λ f item g. F.step f item.0 (M.meaning item.1) tt g)
         callback.old (items_of raw src.now) callback.new }
 {
-    each_unit_in::<M, F>(src, src.len(), raw, callback);
+    if raw {
+        each_raw_unit_in::<M, F>(src, src.len(), callback);
+    } else {
+        each_unit_in::<M, F>(src, src.len(), callback);
+    }
 }
 
 /// Calls `callback` with what each element of what is left of a text of `total` bytes stands for, and its place.
 ///
-/// Plain characters have a call of their own, which the compiler makes short. Behind some of ASCII a run of simple ones is
-/// looked for, and these have a loop of their own.
+/// Plain characters and escapes of a byte have a call of their own, which the compiler makes short. Behind a plain character
+/// a run of simple ones is looked for, and these have a loop of their own.
 #[inline(always)]
 fn each_unit_in<M: Meaning, F: FnMut(Range<usize>, Result<M::Meant, EscapeError>)>(
     rest: &str,
     total: usize,
-    raw: bool,
     callback: &mut F,
 )
     requires callable { F.IsAlwaysCallable callback.old }
     requires fits { length rest.now ≤ total }
     ensures calls { FoldsTo (λ f item g. F.step f item.0 (M.meaning item.1) tt g)
-        callback.old (items_from (front_by raw) total (chars rest.now)) callback.new }
+        callback.old (items_from (front_by false) total (chars rest.now)) callback.new }
 {
     let mut left = rest;
-    let mut wait = 0;
+    let mut look = total;
     'items: while let Some((c, tail)) = split_first(left) {
-        if is_plain(c, raw) {
-            let range = total - left.len()..total - tail.len();
-            callback(range, M::of(Element::Plain(c)));
-            let (run, behind) = run_behind(c, tail, raw, &mut wait);
+        let start = total - left.len();
+        if is_plain(c, false) {
+            callback(start..total - tail.len(), M::of(Element::Plain(c)));
+            let (run, behind) = run_behind(tail, &mut look);
             each_simple::<M, F>(run, total - behind.len(), callback);
             left = behind;
             continue;
         }
-        if let Some((byte, behind)) = byte_at(c, tail, raw) {
-            let range = total - left.len()..total - behind.len();
+        if let Some((byte, behind)) = byte_at(c, tail, false) {
+            let range = start..total - behind.len();
             each_told::<M, F>(Some((range, Element::Byte(byte))), callback);
             left = behind;
             continue;
         }
-        let Told {
-            first,
-            second,
-            left: behind,
-        } = step_by(raw, c, tail, total - left.len(), total);
-        each_told::<M, F>(first, callback);
-        each_told::<M, F>(second, callback);
+        if let Some(line) = line_at(c, tail) {
+            left = each_warning::<M, F>(line, start, total, callback);
+            continue;
+        }
+        let (element, behind) = lone_element(c, tail);
+        each_told::<M, F>(Some((start..total - behind.len(), element)), callback);
         left = behind;
+    }
+}
+
+/// Calls `callback` with the warnings past a backslash and a newline, which begin at the place `start`. Returns what is left
+/// past the white space.
+#[inline(always)]
+fn each_warning<'a, M: Meaning, F: FnMut(Range<usize>, Result<M::Meant, EscapeError>)>(
+    line: &'a str,
+    start: usize,
+    total: usize,
+    callback: &mut F,
+) -> &'a str
+    requires callable { F.IsAlwaysCallable callback.old }
+    requires fits { length line.now ≤ total }
+    ensures callable { F.IsAlwaysCallable callback.new }
+    ensures calls { FoldsTo (λ f item g. F.step f item.0 (M.meaning item.1) tt g)
+        callback.old (map (item_at total start) (line_end (chars line.now)).told) callback.new }
+    ensures left { chars result.now ≡ (line_end (chars line.now)).left }
+    ensures shorter { length result.now ≤ length line.now }
+    ensures text { IsUtf8 result.now }
+{
+    let (newline, left) = pass_over(line);
+    each_told::<M, F>(more_lines(newline, left, start, total), callback);
+    each_told::<M, F>(more_space(left, start, total), callback);
+    left
+}
+
+/// The same as [`each_unit_in`] for a raw string, of which each element is one character.
+///
+/// Behind a short run of simple ones, characters are told one by one for a while. That loop does nothing else.
+#[inline(always)]
+fn each_raw_unit_in<M: Meaning, F: FnMut(Range<usize>, Result<M::Meant, EscapeError>)>(
+    rest: &str,
+    total: usize,
+    callback: &mut F,
+)
+    requires callable { F.IsAlwaysCallable callback.old }
+    requires fits { length rest.now ≤ total }
+    ensures calls { FoldsTo (λ f item g. F.step f item.0 (M.meaning item.1) tt g)
+        callback.old (items_from (front_by true) total (chars rest.now)) callback.new }
+{
+    let mut left = rest;
+    'items: while let Some((c, tail)) = split_first(left) {
+        let range = total - left.len()..total - tail.len();
+        callback(range, M::of(raw_element(c)));
+        let (run, behind) = split_simple(tail, true);
+        each_simple::<M, F>(run, total - behind.len(), callback);
+        let (alone, past) = split_alone(run, behind);
+        each_raw_char::<M, F>(alone, total - past.len(), callback);
+        left = past;
+    }
+}
+
+/// Calls `callback` with what each character of a part of a raw string stands for, and its place. The last ends at `end`.
+#[inline(always)]
+fn each_raw_char<M: Meaning, F: FnMut(Range<usize>, Result<M::Meant, EscapeError>)>(
+    part: &str,
+    end: usize,
+    callback: &mut F,
+)
+    requires callable { F.IsAlwaysCallable callback.old }
+    requires within { length part.now ≤ end }
+    ensures callable { F.IsAlwaysCallable callback.new }
+    ensures calls { FoldsTo (λ f item g. F.step f item.0 (M.meaning item.1) tt g)
+        callback.old (items_from (front_by true) end (chars part.now)) callback.new }
+{
+    let mut chars = part.chars();
+    let mut start = end - part.len();
+    'chars: while let Some(c) = chars.next() {
+        let past = end - chars.as_str().len();
+        callback(start..past, M::of(raw_element(c)));
+        start = past;
     }
 }
 

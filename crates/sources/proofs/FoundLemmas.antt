@@ -1,5 +1,5 @@
 -- What a walk of folders comes to, step by step.
-use Rattle.std.proofs.Common.{◌≡◌, ◌≢◌, ℕ, ◌<◌, true, List, [], ◌∷◌, ◌++◌, length, map, get_or, Bor, refl, sym, ap, ◌∙◌, subst, String, append_assoc, append-nil, arith, inl, inr, nat_cmp}
+use Rattle.std.proofs.Common.{◌≡◌, ◌≢◌, ℕ, ◌<◌, true, List, [], ◌∷◌, ◌++◌, length, map, get_or, Bor, sym, ap, ◌∙◌, subst, String, append_assoc, append-nil, arith, inl, inr, nat_cmp}
 use Rattle.std.specs.Global.{Global}
 use Rattle.std.specs.Prelude.{string_bytes, string_cmp, string_eq, OnOk, Result, Ok, Err}
 use Rattle.std.specs.Cmp.{unsigned_ties}

@@ -1,3 +1,5 @@
 pub mod FoundLemmas
+pub mod OutcomesLemmas
 pub mod ReadingLemmas
+pub mod ReasonLemmas
 pub mod WordLemmas

@@ -1,4 +1,5 @@
 pub mod Found
 pub mod Names
+pub mod Outcomes
 pub mod Reasons
 pub mod Words

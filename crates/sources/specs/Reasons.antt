@@ -1,5 +1,5 @@
 -- Why bytes are no source, and what is said of one that is passed over.
-use Rattle.std.specs.Prelude.{ℕ, ◌^◌, ◌<◌, ◌≤◌, ◌++◌, List, Option, Some, None, IfSome, codes, length, string_bytes}
+use Rattle.std.specs.Prelude.{ℕ, ◌^◌, ◌<◌, ◌≤◌, ◌≢◌, ◌++◌, List, Option, Some, None, IfSome, codes, length, string_bytes}
 use Rattle.std.specs.Option.{option_map}
 use Rattle.std.specs.Str.{IsUtf8}
 use Rattle.std.specs.declared.io.ErrorKind.{ErrorKind}
@@ -39,10 +39,20 @@ abbrev pub system_fault : ErrorKind → Fault
 system_fault OutOfMemory = Memory
 system_fault kind = Source (System kind)
 
+-- a lack of memory, or an error of the system, which is then none for want of memory
 abbrev pub IsSystemFault : Fault → Type 0
 IsSystemFault Memory = Unit {0}
-IsSystemFault (Source (System kind)) = Unit {0}
+IsSystemFault (Source (System kind)) = kind ≢ OutOfMemory
 IsSystemFault fault = ⊥
+
+-- why a file has no text: its bytes are none, or the system refuses it, and not for want of memory
+abbrev pub IsFileReason : Reason → Type 0
+IsFileReason NotUtf8 = Unit {0}
+IsFileReason TooLong = Unit {0}
+IsFileReason Changed = ⊥
+IsFileReason NoFile = ⊥
+IsFileReason Read = ⊥
+IsFileReason (System kind) = kind ≢ OutOfMemory
 
 -- bytes that are no text, or refused memory
 abbrev pub IsTextFault : List ℕ → Fault → Type 0

@@ -1,13 +1,15 @@
 //! The text of a source.
-ghost use Rattle.std.specs.Prelude.{◌≡◌, ◌<◌, ◌≤◌, ◌^◌, ◌↔◌, false, IfErr, IfOk, IfSome, IsErrOf, IsTrue, length};
+ghost use Rattle.std.specs.Prelude.{◌≡◌, ◌<◌, ◌≤◌, ◌^◌, ◌↔◌, false, Err, IfErr, IfOk, IfSome, IsErrOf, IsTrue, length};
+ghost use Rattle.std.specs.IoError.{error_kind};
 ghost use Rattle.std.specs.Str.{IsUtf8};
 ghost use Rattle.rustc_lexer.specs.Classes.{Fits};
-ghost use Rattle.sources.specs.Reasons.{IsInputFault, IsNoText, IsSystemFault, IsText};
+ghost use Rattle.sources.specs.Reasons.{system_fault, IsInputFault, IsNoText, IsSystemFault, IsText};
 
 use crate::fault::{Fault, Reason};
 use ends::{ReadStop, Watched, read_all};
 use std::alloc::Global;
 use std::fs::File;
+use std::io;
 use std::io::Read;
 use std::rt::Files;
 
@@ -52,21 +54,18 @@ pub fn read_input<R: Read>(alloc: Global, input: &mut Watched<R>) -> Result<Vec<
 pub fn read_source<R: Files + AllocGlobal>(rt: &R, path: &str) -> Result<Vec<u8>, Fault>
     ensures { IfErr result IsSystemFault }
 {
-    match File::open(rt, path) {
-        Ok(mut file) => read_file(rt.alloc(), &mut file),
-        Err(error) => Err(Fault::from(error)),
-    }
+    read_opened(rt.alloc(), File::open(rt, path))
 }
 
-/// All bytes of an open file.
-fn read_file<R: Read>(alloc: Global, file: &mut R) -> Result<Vec<u8>, Fault>
-    ensures bytes { IfOk result (λ all.
-        IfSome (R.remaining file.old) (λ bytes. all.items ≡ bytes)) }
+/// All bytes of a file that was opened, if it could be.
+fn read_opened<R: Read + Drop>(alloc: Global, opened: io::Result<R>) -> Result<Vec<u8>, Fault>
+    ensures refused { IfErr opened (λ error. result ≡ Err (system_fault (error_kind error))) }
+    ensures bytes { IfOk opened (λ file. IfOk result (λ all.
+        IfSome (R.remaining file) (λ bytes. all.items ≡ bytes))) }
     ensures only { IfErr result IsSystemFault }
 {
+    let mut file = opened?;
     let mut bytes = Vec::new(alloc);
-    match file.read_to_end(&mut bytes) {
-        Ok(_) => Ok(bytes),
-        Err(error) => Err(Fault::from(error)),
-    }
+    file.read_to_end(&mut bytes)?;
+    Ok(bytes)
 }

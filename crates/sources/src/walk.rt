@@ -1,5 +1,5 @@
 //! The files that a walk of folders finds.
-ghost use Rattle.std.specs.Prelude.{◌≡◌, ◌≢◌, ◌↔◌, [], IfOk, IsTrue, OnOk, map};
+ghost use Rattle.std.specs.Prelude.{◌≡◌, ◌≢◌, ◌↔◌, [], IfOk, IsTrue, Ok, OnErr, OnOk, map};
 ghost use Rattle.std.specs.List.{All};
 ghost use Rattle.std.specs.Fs.{dir_entry_path, IsDir, IsFile};
 ghost use Rattle.sources.specs.Found.{told_of_path, Adds, IsAskedOrSource, IsInOrder, IsNoLackOfMemory, IsRefusal, IsSourcePath, IsTold, IsWalked, TakesFault, TakesFile, TakesFolder, TakesPath, TakesRefusal};
@@ -38,6 +38,7 @@ impl Found {
         ensures memory { OnOk result (kind ≢ ErrorKind.OutOfMemory) }
         ensures faults { OnOk result
             (TakesFault self.old.faults.items self.new.faults.items path.now (Reason.System kind)) }
+        ensures same { OnErr result (self.new.faults.items ≡ self.old.faults.items) }
     {
         if kind == ErrorKind::OutOfMemory {
             return Err(AllocError);
@@ -50,7 +51,7 @@ impl Found {
     }
 
     /// Takes a path by what is told of it: to the sources, to the folders that are to be walked, to what the system
-    /// refused, or to none of these.
+    /// refused, or to none of these. Where memory is refused nothing changes.
     fn take(
         &mut self,
         alloc: Global,
@@ -64,6 +65,10 @@ impl Found {
         ensures faults { OnOk result
             (TakesRefusal told path.now self.old.faults.items self.new.faults.items) }
         ensures memory { OnOk result (IsNoLackOfMemory told) }
+        ensures asks { OnErr result (told ≢ Ok Choice.Neither) }
+        ensures same_files { OnErr result (self.new.files.items ≡ self.old.files.items) }
+        ensures same_folders { OnErr result (folders.new.items ≡ folders.old.items) }
+        ensures same_faults { OnErr result (self.new.faults.items ≡ self.old.faults.items) }
     {
         match told {
             Ok(Choice::Folder) => push_path(alloc, path, folders),
@@ -76,7 +81,8 @@ impl Found {
 
 /// Adds a path.
 fn push_path(alloc: Global, path: &str, paths: &mut Vec<String>) -> Result<(), AllocError>
-    ensures { OnOk result (TakesPath path.now paths.old.items paths.new.items) }
+    ensures taken { OnOk result (TakesPath path.now paths.old.items paths.new.items) }
+    ensures same { OnErr result (paths.new.items ≡ paths.old.items) }
 {
     paths.push(String::from_str(alloc, path)?)?;
     Ok(())

@@ -10,18 +10,16 @@ use Rattle.rustc_lexer.specs.declared.edition.Edition.TheVariants.{E2024}
 use Rattle.rustc_lexer.specs.declared.token.Token.{Token}
 use Rattle.rustc_lexer.specs.declared.token.TokenKind.{TokenKind}
 use Rattle.rustc_lexer.specs.declared.token.TokenKind.TheVariants.{Whitespace}
-use Rattle.rustc_lexer.specs.Classes.{is_whitespace}
+use Rattle.rustc_lexer.specs.Classes.{is_whitespace, AreAll, NextIsNot, bytes, begins}
 use Rattle.rustc_lexer.specs.means.Frontmatter.{dashes, ends_line, opens}
 use Rattle.rustc_lexer.specs.FrontmatterGrammar.{OpensNone}
 use Rattle.rustc_lexer.specs.Language as the
 use Rattle.rustc_lexer.specs.Language.{IsTokenBefore}
 use Rattle.rustc_lexer.specs.LanguageText.{Mode, IsDocument, part, mode_edition, mode_after, AreTokens, nothing, something, frontmatter_first}
-use Rattle.rustc_lexer.specs.Spans.{AreAll, NextIsNot, bytes}
 use Rattle.rustc_lexer.specs.laws.Language.{token-read}
 use Rattle.rustc_lexer.specs.laws.LanguageFrontmatter.{opens-none, none-opens}
 use Rattle.rustc_lexer.specs.laws.LanguageRuns.{among, chooses-space, run_len-here}
 use Rattle.rustc_lexer.specs.laws.Reach.{run_len-out}
-use Rattle.rustc_lexer.specs.Spans.{begins}
 use Rattle.rustc_lexer.specs.laws.LanguageIn.{on_page, of_page}
 use Rattle.rustc_lexer.specs.laws.State.{edition-after}
 use Rattle.tidy_run.specs.Order.{in_order, is_space, is_open, space_in_order, text_in_order, closing, part_in_order, code_in_order, parts, end_parts, parts_in_order}

@@ -7,7 +7,7 @@ use Rattle.rustc_lexer.specs.declared.token.TokenKind.TheVariants.{Whitespace, F
 use Rattle.rustc_lexer.specs.LanguageText.{Mode, document, part, mode_after}
 use Rattle.rustc_lexer.specs.State.{State}
 use Rattle.rustc_lexer.specs.means.Taking.{token_at}
-use Rattle.rustc_lexer.specs.Locality.{IsText}
+use Rattle.rustc_lexer.specs.Classes.{IsText}
 use Rattle.rustc_lexer.specs.Tokens.{tokens_of, tokens_left, TakesToken}
 use Rattle.rustc_lexer.specs.laws.Tokens.{CutsOff, token_at-cuts, tokens-cons, tokens-nil}
 use Rattle.tidy_run.specs.Order.{is_front, is_space, begins_with, if_kept, space_in_order, text_in_order, closing, code_in_order, front_in_order, source_in_order, source_tidied}

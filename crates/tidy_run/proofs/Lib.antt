@@ -1,6 +1,7 @@
 pub mod SourceLemmas
 pub mod NearLemmas
 pub mod OrderLemmas
+pub mod OutcomeLemmas
 pub mod UnixLemmas
 pub mod TurnedLemmas
 pub mod ReturnLemmas
@@ -13,3 +14,4 @@ pub mod DocumentLemmas
 pub mod ShebangLemmas
 pub mod DiffLemmas
 pub mod HunkLemmas
+pub mod BesideLemmas

@@ -6,7 +6,7 @@ use Rattle.std.proofs.lemmas.Str.{lead_after_ascii}
 use Rattle.std.specs.Char.{encode_utf8}
 use Rattle.std.specs.Str.{IsUtf8}
 use Rattle.memchr.specs.Find.{IsFirstByte, is_byte}
-use Rattle.rustc_lexer.specs.Spans.{begins}
+use Rattle.rustc_lexer.specs.Classes.{begins}
 use Rattle.tidy_run.specs.Order.{is_blank, is_dropped_before, in_order, IsSolidEnd}
 use Rattle.tidy_run.proofs.OrderLemmas.{judge, two-one, dropped-two}
 use Rattle.tidy_run.proofs.UnixLemmas.{newline-byte}

@@ -8,20 +8,16 @@ use Rattle.unicode_ident.proofs.Computing.{unicode_ident}
 use Rattle.rustc_lexer.specs.declared.token.LiteralKind.{LiteralKind}
 use Rattle.rustc_lexer.specs.declared.token.TokenKind.{TokenKind}
 use Rattle.rustc_lexer.specs.declared.token.TokenKind.TheVariants.{Whitespace, Eof}
-use Rattle.rustc_lexer.specs.Classes.{is_among, is_whitespace, is_id_start, is_id_continue}
-use Rattle.rustc_lexer.specs.Emoji.{is_emoji, emoji_ranges}
+use Rattle.rustc_lexer.specs.Classes.{is_among, is_whitespace, is_id_start, is_id_continue, is_word_continue, begins_ident_after, AreAll, NextIsNot, is_inline, begins, next_is}
+use Rattle.rustc_lexer.specs.Tables.{is_emoji, emoji_ranges, symbols, symbol_kind}
 use Rattle.rustc_lexer.specs.Language as the
 use Rattle.rustc_lexer.specs.LiteralGrammar as lit
-use Rattle.rustc_lexer.specs.Spans.{is_word_continue, begins_ident_after}
 use Rattle.rustc_lexer.specs.Language.{ends_prefix, known_prefixes, begins_prefixed, IsTokenBefore}
 use Rattle.rustc_lexer.specs.LiteralGrammar.{IsDoubleQuoted, IsSingleQuoted, IsRaw, IsLiteralBefore, IsSuffixBefore}
-use Rattle.rustc_lexer.specs.Spans.{AreAll, NextIsNot, is_inline}
 use Rattle.rustc_lexer.specs.laws.LanguageRuns.{none-among, begins-next}
 use Rattle.rustc_lexer.specs.laws.Choice.{by_symbol}
 use Rattle.rustc_lexer.specs.NumberGrammar as num
 use Rattle.rustc_lexer.specs.NumberGrammar.{or_underscore, is_exponent_letter, is_sign, is_no_fraction, AreDigits, IsWhole, IsExponent, IsTailBefore, IsNumberBefore, NumberStands, IsLongestNumber}
-use Rattle.rustc_lexer.specs.Spans.{begins, next_is}
-use Rattle.rustc_lexer.specs.Symbols.{symbols, symbol_kind}
 use Rattle.tidy_run.specs.Order.{is_space, is_front, is_open_literal, is_open}
 
 -- two texts up to the first white space at which they differ: a newline stays one, and a quote comes no nearer to it; or a

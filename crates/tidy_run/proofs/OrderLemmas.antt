@@ -3,10 +3,8 @@ use Rattle.std.proofs.Common.{◌≡◌, ℕ, ◌≤◌, ◌==◌, ◌&&◌, ◌
 use Rattle.std.proofs.lemmas.Bool.{and_parts, cases_Bool, eqb-true, or_cases}
 use Rattle.std.specs.Char.{encode_utf8}
 use Rattle.std.specs.Str.{encode_utf8_all}
-use Rattle.rustc_lexer.specs.Classes.{is_among, is_whitespace}
+use Rattle.rustc_lexer.specs.Classes.{is_among, is_whitespace, AreAll, bytes, begins}
 use Rattle.rustc_lexer.specs.means.Frontmatter.{ends_line}
-use Rattle.rustc_lexer.specs.Spans.{AreAll, bytes}
-use Rattle.rustc_lexer.specs.Spans.{begins}
 use Rattle.tidy_run.specs.Order.{is_blank, is_dropped_before, in_order, IsInOrder}
 use Rattle.tidy_run.proofs.NearLemmas.{Near, space, near-begins, plain-other}
 

@@ -10,16 +10,14 @@ use Rattle.rustc_lexer.specs.declared.edition.Edition.TheVariants.{E2024}
 use Rattle.rustc_lexer.specs.declared.token.Token.{Token}
 use Rattle.rustc_lexer.specs.declared.token.TokenKind.{TokenKind}
 use Rattle.rustc_lexer.specs.declared.token.TokenKind.TheVariants.{Pound, Bang}
-use Rattle.rustc_lexer.specs.Emoji.{is_emoji, emoji_ranges}
+use Rattle.rustc_lexer.specs.Tables.{is_emoji, emoji_ranges}
 use Rattle.rustc_lexer.specs.Language as the
 use Rattle.rustc_lexer.specs.Language.{has_rule}
 use Rattle.rustc_lexer.specs.LanguageText.{document, part, AreTokens, something}
-use Rattle.rustc_lexer.specs.Spans.{bytes}
+use Rattle.rustc_lexer.specs.Classes.{bytes, begins, IsText}
 use Rattle.rustc_lexer.specs.laws.LanguageFrontmatter.{opens-none}
-use Rattle.rustc_lexer.specs.Spans.{begins}
 use Rattle.rustc_lexer.specs.means.Shebang.{is_passed, is_open_bracket, is_attribute, line_len, shebang_past}
 use Rattle.rustc_lexer.specs.means.Shebang.{shebang}
-use Rattle.rustc_lexer.specs.Locality.{IsText}
 use Rattle.rustc_lexer.specs.Tokens.{tokens_of}
 use Rattle.rustc_lexer.specs.laws.LanguageIn.{of_page}
 use Rattle.rustc_lexer.specs.laws.LanguageTokens.{language}

@@ -10,15 +10,12 @@ use Rattle.rustc_lexer.specs.declared.edition.Edition.TheVariants.{E2024}
 use Rattle.rustc_lexer.specs.declared.token.Token.{Token}
 use Rattle.rustc_lexer.specs.declared.token.TokenKind.{TokenKind}
 use Rattle.rustc_lexer.specs.declared.token.TokenKind.TheVariants.{Whitespace, Frontmatter, Eof}
-use Rattle.rustc_lexer.specs.Classes.{is_among, is_whitespace}
+use Rattle.rustc_lexer.specs.Classes.{is_among, is_whitespace, NextIsNot, bytes, next_is, IsText}
 use Rattle.rustc_lexer.specs.FrontmatterGrammar.{IsOpeningBefore, OpensNone, EndsAt}
 use Rattle.rustc_lexer.specs.Language.{IsTokenBefore}
 use Rattle.rustc_lexer.specs.LanguageText.{Mode, IsDocument, document, part, mode_edition, mode_after, AreTokens, nothing, something, frontmatter_first}
-use Rattle.rustc_lexer.specs.Spans.{NextIsNot, bytes}
 use Rattle.rustc_lexer.specs.laws.LanguageLiterals.{bytes-append}
-use Rattle.rustc_lexer.specs.Spans.{next_is}
 use Rattle.rustc_lexer.specs.means.Taking.{token_at}
-use Rattle.rustc_lexer.specs.Locality.{IsText}
 use Rattle.rustc_lexer.specs.Tokens.{tokens_of}
 use Rattle.rustc_lexer.specs.laws.LanguageIn.{on_page}
 use Rattle.rustc_lexer.specs.laws.LanguageTokens.{language}

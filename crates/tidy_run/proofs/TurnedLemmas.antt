@@ -7,11 +7,11 @@ use Rattle.rustc_lexer.specs.declared.token.DocStyle.{DocStyle}
 use Rattle.rustc_lexer.specs.declared.token.TokenKind.{TokenKind}
 use Rattle.rustc_lexer.specs.declared.token.TokenKind.TheVariants.{LineComment, BlockComment}
 use Rattle.rustc_lexer.specs.Language as the
-use Rattle.rustc_lexer.specs.Language.{IsTokenBefore, IsLineStyle, IsBlockStyle, IsCommentRest}
-use Rattle.rustc_lexer.specs.Spans.{AreAll, NextIsNot, is_inline, bytes}
-use Rattle.rustc_lexer.specs.Spans.{begins}
-use Rattle.rustc_lexer.specs.Symbols.{symbols, symbol_kind}
+use Rattle.rustc_lexer.specs.Language.{IsTokenBefore, IsCommentRest}
+use Rattle.rustc_lexer.specs.Classes.{AreAll, NextIsNot, is_inline, bytes, begins}
+use Rattle.rustc_lexer.specs.Tables.{symbols, symbol_kind}
 use Rattle.rustc_lexer.specs.laws.Choice.{by_symbol}
+use Rattle.rustc_lexer.specs.laws.LanguageComments.{IsLineStyle, IsBlockStyle}
 use Rattle.tidy_run.specs.Order.{unix_lines, text_in_order, is_open}
 use Rattle.tidy_run.proofs.NearLemmas.{Near, near-append}
 use Rattle.tidy_run.proofs.UnixLemmas.{unix-again, unix-all, unix-style, unix-rest, unix-near, unix-size, unix-scalars, unix-bytes}

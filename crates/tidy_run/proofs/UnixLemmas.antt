@@ -7,11 +7,9 @@ use Rattle.std.specs.Char.{encode_utf8}
 use Rattle.std.specs.List.{list_all}
 use Rattle.std.specs.Str.{encode_utf8_all}
 use Rattle.rustc_lexer.specs.declared.token.DocStyle.{DocStyle}
-use Rattle.rustc_lexer.specs.Classes.{is_among, is_whitespace}
+use Rattle.rustc_lexer.specs.Classes.{is_among, is_whitespace, bytes, begins, next_is}
 use Rattle.rustc_lexer.specs.Language as the
 use Rattle.rustc_lexer.specs.Language.{IsStyle, IsCommentRest}
-use Rattle.rustc_lexer.specs.Spans.{bytes}
-use Rattle.rustc_lexer.specs.Spans.{begins, next_is}
 use Rattle.tidy_run.specs.Order.{is_line_end, unix_lines, IsUnix}
 use Rattle.tidy_run.proofs.NearLemmas.{Near, space, same}
 

@@ -7,10 +7,9 @@ use Rattle.rustc_lexer.specs.declared.token.TokenKind.{TokenKind}
 use Rattle.rustc_lexer.specs.declared.token.LiteralKind.{LiteralKind}
 use Rattle.rustc_lexer.specs.declared.token.LiteralKind.TheVariants.{Char, Byte, Str, ByteStr, CStr, RawStr, RawByteStr, RawCStr}
 use Rattle.rustc_lexer.specs.declared.token.TokenKind.TheVariants.{LineComment, BlockComment, Whitespace, Frontmatter, Literal}
-use Rattle.rustc_lexer.specs.Classes.{is_among}
+use Rattle.rustc_lexer.specs.Classes.{is_among, begins}
 use Rattle.rustc_lexer.specs.declared.edition.Edition.TheVariants.{E2024}
 use Rattle.rustc_lexer.specs.LanguageText.{document}
-use Rattle.rustc_lexer.specs.Spans.{begins}
 use Rattle.rustc_lexer.specs.Answers.{shebang}
 use Rattle.rustc_lexer.specs.Tokens.{tokens_of}
 use Rattle.rustc_lexer.specs.laws.Same.{is_same}

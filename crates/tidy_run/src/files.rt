@@ -1,23 +1,26 @@
 //! Files that are put in order where they lie.
-ghost use Rattle.std.specs.Prelude.{◌≡◌, ◌≢◌, ◌<◌, ◌≤◌, ◌^◌, ◌↔◌, [], ◌++◌, IfErr, IfOk, IfSome, IsErrOf, None, Ok, OnOk, codes, length, string_bytes};
+ghost use Rattle.std.specs.Prelude.{◌≡◌, ◌≢◌, ◌<◌, ◌≤◌, ◌^◌, ◌↔◌, [], ◌++◌, IfErr, IfOk, IfSome, IsErrOf, None, Ok, OnErr, OnOk, codes, length, map, string_bytes};
+ghost use Rattle.std.specs.Fs.{metadata_len};
 ghost use Rattle.std.specs.Io.KnownBytes.{Appends};
+ghost use Rattle.std.specs.Path.{path_bytes};
 ghost use Rattle.std.specs.Str.{IsUtf8};
+ghost use Rattle.sources.specs.Outcomes.{passed_over, source, IsOfSource};
 ghost use Rattle.sources.specs.Reasons.{IsSystemFault, IsText, IsTextFault};
 ghost use Rattle.tidy_run.specs.Diff.{IsDiff};
-ghost use Rattle.tidy_run.specs.Files.{fault_of, raised, shown_of, IsNoRefusal, IsStep};
+ghost use Rattle.tidy_run.specs.Files.{raised, shown_of, AsksMemory, IsOutcome, IsReplaceFault, IsSame, IsStep, IsStepAt, IsTidiedFrom, IsTidyFault};
 ghost use Rattle.tidy_run.specs.Files as spec;
 ghost use Rattle.tidy_run.specs.Order.{IsSound, tidied};
 
 use crate::job::Task;
 use crate::stop::Stop;
 use crate::{document, hunks};
-use sources::{Fault, PathFault, Reason, find, read_source, text_of};
+use sources::{Fault, Found, PathFault, Reason, find, read_source, text_of};
 use std::alloc::{AllocError, Global};
-use std::fs;
 use std::fs::{File, Metadata, OpenFile};
 use std::io::Write;
 use std::path::{AsPath, Path};
 use std::rt::Files;
+use std::{fs, io};
 
 /// What came of files.
 #[derive(Debug, Drop)]
@@ -41,11 +44,26 @@ pub fn tidy_paths<R: Files + AllocGlobal + Clone + Drop, F: FnMut(usize, usize)>
     id: u32,
     task: Task,
     paths: &[&str],
+    tell: F,
+) -> Result<Outcome, AllocError>
+    requires callable { F.IsAlwaysCallable tell }
+    ensures outcome { IfOk result (IsOutcome task (map (λ path. path.now) paths.now)) }
+    ensures fewer { IfOk result (λ outcome. outcome.changed ≤ outcome.read) }
+{
+    tidy_found(rt, id, task, find(rt, paths)?, tell)
+}
+
+/// Puts in order the files that were found.
+fn tidy_found<R: Files + AllocGlobal + Clone + Drop, F: FnMut(usize, usize)>(
+    rt: &R,
+    id: u32,
+    task: Task,
+    found: Found,
     mut tell: F,
 ) -> Result<Outcome, AllocError>
     requires callable { F.IsAlwaysCallable tell }
+    ensures { IfOk result (IsTidiedFrom task found.files.items found.faults.items) }
 {
-    let found = find(rt, paths)?;
     let total = found.files.len();
     let mut done: usize = 0;
     let mut outcome = Outcome {
@@ -75,15 +93,17 @@ pub enum Step {
 }
 
 impl Outcome {
-    /// Takes what came of one file.
+    /// Takes what came of one file. Where memory is refused nothing changes.
     fn take(&mut self, path: String, came: Result<Step, Fault>) -> Result<(), AllocError>
-        ensures memory { OnOk result (IsNoRefusal came) }
+        ensures memory { OnOk result (IsOfSource came) }
+        ensures asks { OnErr result (AsksMemory came) }
         ensures read { OnOk result (self.new.read ≡ raised self.old.read (spec.is_read came)) }
         ensures changed { OnOk result (self.new.changed ≡ raised self.old.changed (spec.is_changed came)) }
         ensures shown { OnOk result
             (string_bytes self.new.shown ≡ string_bytes self.old.shown ++ shown_of came) }
         ensures faults { OnOk result
-            (self.new.faults.items ≡ self.old.faults.items ++ fault_of path came) }
+            (self.new.faults.items ≡ self.old.faults.items ++ passed_over (source path came)) }
+        ensures same { OnErr result (IsSame self.old self.new) }
     {
         match came {
             Ok(Step::Stays) => {
@@ -96,9 +116,10 @@ impl Outcome {
                 Ok(())
             }
             Ok(Step::Shown(text)) => {
+                self.shown.push_str(text.as_str())?;
                 self.read = self.read.saturating_add(1);
                 self.changed = self.changed.saturating_add(1);
-                self.shown.push_str(text.as_str())
+                Ok(())
             }
             Err(Fault::Source(reason)) => {
                 self.faults.push(PathFault { path, reason })?;
@@ -131,11 +152,11 @@ fn tidy_file<R: Files + AllocGlobal + Clone + Drop>(
     id: u32,
     task: Task,
     path: &str,
-) -> Result<Step, Fault> {
-    let before = fs::metadata(rt, path)?;
-    if !before.is_file() {
-        return Err(Fault::Source(Reason::NoFile));
-    }
+) -> Result<Step, Fault>
+    ensures step { IfOk result (IsStepAt task path.now) }
+    ensures fault { IfErr result (IsTidyFault task) }
+{
+    let before = file_of(fs::metadata(rt, path))?;
     let bytes = read_source(rt, path)?;
     let step = step_of(rt.alloc(), task, path, bytes.as_slice())?;
     if let Step::Replaced(text) = &step {
@@ -144,9 +165,22 @@ fn tidy_file<R: Files + AllocGlobal + Clone + Drop>(
     Ok(step)
 }
 
+/// What is known of a file, by what the system says of its path; what is no file is a fault.
+fn file_of(what: io::Result<Metadata>) -> Result<Metadata, Fault>
+    ensures { result ≡ spec.file_of what }
+{
+    let what = what?;
+    if what.is_file() {
+        Ok(what)
+    } else {
+        Err(Fault::Source(Reason::NoFile))
+    }
+}
+
 /// What the task does with a file that has these bytes.
 pub fn step_of(alloc: Global, task: Task, path: &str, bytes: &[u8]) -> Result<Step, Fault>
     ensures step { IfOk result (IsStep task path.now bytes.now) }
+    ensures is_text { OnOk result (IsText bytes.now) }
     ensures only { IfErr result (IsTextFault bytes.now) }
     ensures long { IsErrOf result (Fault.Source Reason.TooLong) ↔ (2 ^ 32 ≤ length bytes.now) }
     ensures not_utf8 { IsErrOf result (Fault.Source Reason.NotUtf8)
@@ -207,6 +241,7 @@ pub fn changed(alloc: Global, bytes: &[u8]) -> Result<Option<String>, Fault>
     ensures text { IfOk result (λ made. IfSome made (λ text. string_bytes text ≡ tidied bytes.now)) }
     ensures other { IfOk result (λ made. IfSome made (λ _. tidied bytes.now ≢ bytes.now)) }
     ensures sound { OnOk result (IsSound bytes.now) }
+    ensures is_text { OnOk result (IsText bytes.now) }
     ensures long { IsErrOf result (Fault.Source Reason.TooLong) ↔ (2 ^ 32 ≤ length bytes.now) }
     ensures not_utf8 { IsErrOf result (Fault.Source Reason.NotUtf8)
         ↔ ((length bytes.now < 2 ^ 32) × ¬ (IsUtf8 bytes.now)) }
@@ -234,7 +269,9 @@ fn replace<R: Files + AllocGlobal + Clone + Drop>(
     path: &str,
     before: &Metadata,
     text: &str,
-) -> Result<(), Fault> {
+) -> Result<(), Fault>
+    ensures { IfErr result IsReplaceFault }
+{
     let target = fs::canonicalize(rt, path)?;
     let Ok(beside) = path_beside(rt.alloc(), target.as_path(), id) else {
         return Err(Fault::Memory);
@@ -252,7 +289,10 @@ fn replace<R: Files + AllocGlobal + Clone + Drop>(
 }
 
 /// The path of a hidden file beside this one.
-fn path_beside(alloc: Global, path: Path<'_>, id: u32) -> Result<String, AllocError> {
+fn path_beside(alloc: Global, path: Path<'_>, id: u32) -> Result<String, AllocError>
+    ensures { IfOk result
+        (λ beside. string_bytes beside ≡ spec.path_beside (path_bytes path.entry) id) }
+{
     match path.path_text().rsplit_once('/') {
         Some((folder, name)) => format!(in alloc; "{folder}/.{name}.tidy-{id}"),
         None => format!(in alloc; ".{}.tidy-{id}", path.path_text()),
@@ -272,11 +312,21 @@ fn fill<F: Write + OpenFile>(file: &mut F, before: &Metadata, text: &[u8]) -> Re
 }
 
 /// Gives the new file the name of the old one, unless that changed.
-fn place<R: Files>(rt: &R, beside: &str, target: Path<'_>, before: &Metadata) -> Result<(), Fault> {
-    let now = fs::metadata(rt, target)?;
+fn place<R: Files>(rt: &R, beside: &str, target: Path<'_>, before: &Metadata) -> Result<(), Fault>
+    ensures { IfErr result IsReplaceFault }
+{
+    check_unchanged(before, &fs::metadata(rt, target)?)?;
+    fs::rename(rt, beside, target)?;
+    Ok(())
+}
+
+/// A fault where a file changed, by what was known of it before and what is known now: its length and its last change.
+fn check_unchanged(before: &Metadata, now: &Metadata) -> Result<(), Fault>
+    ensures len { OnOk result (metadata_len now.now ≡ metadata_len before.now) }
+    ensures only { IfErr result IsReplaceFault }
+{
     if now.len() != before.len() || now.modified()? != before.modified()? {
         return Err(Fault::Source(Reason::Changed));
     }
-    fs::rename(rt, beside, target)?;
     Ok(())
 }

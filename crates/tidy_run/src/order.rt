@@ -1,8 +1,7 @@
 //! White space and tokens in order.
 ghost use Rattle.std.specs.Prelude.{◌≡◌, ◌<◌, ◌≤◌, ◌-◌, ◌++◌, [], OnOk, drop, length, false, true, string_bytes, if◌then◌else◌, codes};
-ghost use Rattle.rustc_lexer.specs.Classes.{Fits};
+ghost use Rattle.rustc_lexer.specs.Classes.{Fits, AreAll};
 ghost use Rattle.rustc_lexer.specs.LanguageText.{mode_of};
-ghost use Rattle.rustc_lexer.specs.Spans.{AreAll};
 ghost use Rattle.rustc_lexer.specs.Tokens.{tokens_of};
 ghost use Rattle.tidy_run.specs.Order as spec;
 

@@ -3,7 +3,7 @@
 use crate::erased::element::Element;
 use crate::erased::element::Element::{Byte, Fault};
 use crate::erased::error::EscapeError;
-use crate::erased::scan::split_first;
+use crate::erased::scan::{split_ascii, split_first};
 
 /// A number between braces has no more digits than this.
 const MOST_DIGITS: usize = 6;
@@ -26,16 +26,24 @@ pub(crate) fn escape(rest: &str) -> (Element, &str) {
 /// Most escapes are such. Where one of these is told alone, the compiler knows what kind of element it has.
 #[inline(always)]
 pub(crate) fn escaped_byte(rest: &str) -> Option<(u8, &str)> {
-    let (c, tail) = split_first(rest)?;
-    let (element, left) = if c == 'x' {
-        hex(tail)
-    } else {
-        (short(c), tail)
-    };
-    match element {
-        Element::Byte(byte) => Some((byte, left)),
+    let (c, tail) = split_ascii(rest)?;
+    if c == 'x' {
+        return two_digits(tail);
+    }
+    match short(c) {
+        Element::Byte(byte) => Some((byte, tail)),
         _ => None,
     }
+}
+
+/// The byte of two digits at the front, and what is left past them, as [`hex`] has them.
+#[inline(always)]
+fn two_digits(rest: &str) -> Option<(u8, &str)> {
+    let (high, tail) = split_ascii(rest)?;
+    let high = hex_digit(high)?;
+    let (low, left) = split_ascii(tail)?;
+    let low = hex_digit(low)?;
+    Some(((high * 16 + low) as u8, left))
 }
 
 /// What a backslash and a character stand for that begin no escape.

@@ -10,6 +10,18 @@ pub(crate) fn split_first(rest: &str) -> Option<(char, &str)> {
     Some((first, chars.as_str()))
 }
 
+/// The first character and what follows it, where it is in ASCII.
+///
+/// Its first byte tells that, so no character of several bytes is put together.
+#[inline(always)]
+pub(crate) fn split_ascii(rest: &str) -> Option<(char, &str)> {
+    let byte = rest.as_bytes().first()?;
+    if !byte.is_ascii() {
+        return None;
+    }
+    split_first(rest)
+}
+
 /// What is left past the plain characters in front.
 pub(crate) fn past_plain(rest: &str, raw: bool) -> &str {
     if raw {

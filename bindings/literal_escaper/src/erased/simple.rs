@@ -19,32 +19,43 @@ pub(crate) fn split_simple(rest: &str, raw: bool) -> (&[u8], &str) {
 /// A run of fewer simple bytes is short: no look pays for it.
 const SHORT_RUN: usize = 8;
 
-/// Behind a short run so many plain characters are told alone before the next look.
-const WAIT: usize = 16;
+/// Behind a short run the next look is made no sooner than so many bytes later.
+const WAIT: usize = 24;
 
-/// The simple bytes that are looked for behind the plain character `c`, and what is left past them.
+/// Behind a short run of a raw string so many bytes are told one character after another before the next look.
+const ALONE: usize = 64;
+
+/// The simple bytes that are looked for behind a plain character, and what is left past them.
 ///
-/// There are none behind a character that is not in ASCII, and for a while behind a short run: short ones seldom come
-/// alone. `wait` counts that while.
+/// None are for a while behind a short run: short ones seldom come alone. The next look is due where no more than `look`
+/// bytes are left.
 #[inline(always)]
-pub(crate) fn run_behind<'a>(
-    c: char,
-    tail: &'a str,
-    raw: bool,
-    wait: &mut usize,
-) -> (&'a [u8], &'a str) {
-    if !c.is_ascii() {
+pub(crate) fn run_behind<'a>(tail: &'a str, look: &mut usize) -> (&'a [u8], &'a str) {
+    if tail.len() > *look {
         return (&[], tail);
     }
-    if *wait > 0 {
-        *wait -= 1;
-        return (&[], tail);
-    }
-    let (run, left) = split_simple(tail, raw);
+    let (run, left) = split_simple(tail, false);
     if run.len() < SHORT_RUN {
-        *wait = WAIT;
+        *look = left.len().saturating_sub(WAIT);
     }
     (run, left)
+}
+
+/// The characters that are told one by one behind a run of simple ones, and what is left past them: none behind a long run.
+#[inline(always)]
+pub(crate) fn split_alone<'a>(run: &[u8], text: &'a str) -> (&'a str, &'a str) {
+    if run.len() < SHORT_RUN {
+        split_part(text)
+    } else {
+        ("", text)
+    }
+}
+
+/// The first characters, of no more than `ALONE` bytes, and what is left past them.
+#[inline(never)]
+fn split_part(text: &str) -> (&str, &str) {
+    let (part, left) = text.split_at(text.floor_char_boundary(ALONE));
+    (part, left)
 }
 
 /// A number of simple bytes at the front. It is 0 where fewer than 32 bytes are left.

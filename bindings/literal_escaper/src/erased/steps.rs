@@ -122,9 +122,30 @@ fn first_element(rest: &str, raw: bool) -> Option<(Element, &str)> {
     Some((element, left))
 }
 
+/// What follows a line's end that is skipped, where `c` is the backslash before it, and `tail` follows.
+#[inline(always)]
+pub(crate) fn line_at(c: char, tail: &str) -> Option<&str> {
+    if c != '\\' {
+        return None;
+    }
+    strip_newline(tail)
+}
+
+/// The element that begins with `c`, where no line's end that is skipped does, and what is left past it.
+///
+/// Most elements are told before it is asked, so it is kept out of the loops.
+#[inline(never)]
+pub(crate) fn lone_element(c: char, tail: &str) -> (Element, &str) {
+    if c == '\\' {
+        escape(tail)
+    } else {
+        (unescaped(c), tail)
+    }
+}
+
 /// What a character of a raw string is.
 #[inline(always)]
-fn raw_element(c: char) -> Element {
+pub(crate) fn raw_element(c: char) -> Element {
     if c == '\r' {
         Element::Fault(EscapeError::BareCarriageReturnInRawString)
     } else {
@@ -168,7 +189,7 @@ fn unescaped(c: char) -> Element {
 /// What follows a newline, if the text begins with one.
 #[inline(always)]
 fn strip_newline(text: &str) -> Option<&str> {
-    let (c, tail) = split_first(text)?;
+    let (c, tail) = split_passed(text)?;
     if c == '\n' { Some(tail) } else { None }
 }
 
@@ -198,14 +219,35 @@ fn line_end(line: &str, start: usize, total: usize) -> Told<'_> {
 
 /// Whether a newline is among the white space that is passed over, and what is left past that.
 #[inline(always)]
-fn pass_over(line: &str) -> (bool, &str) {
-    let mut newline = false;
+pub(crate) fn pass_over(line: &str) -> (bool, &str) {
+    let left = past_blanks(line);
+    match strip_newline(left) {
+        Some(next) => (true, past_space(next)),
+        None => (false, left),
+    }
+}
+
+/// What is left past the white space that is passed over, up to a newline.
+#[inline(always)]
+fn past_blanks(line: &str) -> &str {
     let mut left = line;
     while let Some((c, tail)) = split_passed(left) {
-        newline = newline | (c == '\n');
+        if c == '\n' {
+            return left;
+        }
         left = tail;
     }
-    (newline, left)
+    left
+}
+
+/// What is left past the white space that is passed over, newlines too.
+#[inline(always)]
+fn past_space(rest: &str) -> &str {
+    let mut left = rest;
+    while let Some((_, tail)) = split_passed(left) {
+        left = tail;
+    }
+    left
 }
 
 /// The white space at the front that is passed over, one character, and what follows it.
@@ -228,9 +270,28 @@ fn is_passed_over(c: char) -> bool {
     matches!(c, '\n' | '\r' | '\t' | ' ')
 }
 
+/// The warning where a newline was among the white space that was passed over.
+#[inline(always)]
+pub(crate) fn more_lines(
+    newline: bool,
+    left: &str,
+    start: usize,
+    total: usize,
+) -> Option<(Range<usize>, Element)> {
+    if !newline {
+        return None;
+    }
+    let warning = Element::Fault(EscapeError::MultipleSkippedLinesWarning);
+    Some((start..total - left.len(), warning))
+}
+
 /// The warning where white space stands next.
 #[inline(always)]
-fn more_space(left: &str, start: usize, total: usize) -> Option<(Range<usize>, Element)> {
+pub(crate) fn more_space(
+    left: &str,
+    start: usize,
+    total: usize,
+) -> Option<(Range<usize>, Element)> {
     let (c, tail) = split_first(left)?;
     if !c.is_whitespace() {
         return None;

@@ -3,8 +3,10 @@
 use crate::erased::element::Element;
 use crate::erased::error::EscapeError;
 use crate::erased::scan::split_first;
-use crate::erased::simple::run_behind;
-use crate::erased::steps::{Told, byte_at, is_plain, step_by};
+use crate::erased::simple::{run_behind, split_alone, split_simple};
+use crate::erased::steps::{
+    byte_at, is_plain, line_at, lone_element, more_lines, more_space, pass_over, raw_element,
+};
 use crate::erased::unit::{MixedUnit, NonZeroChar};
 use core::ops::Range;
 
@@ -156,45 +158,99 @@ fn each_unit<M: Meaning, F: FnMut(Range<usize>, Result<M::Meant, EscapeError>)>(
     raw: bool,
     callback: &mut F,
 ) {
-    each_unit_in::<M, F>(src, src.len(), raw, callback);
+    if raw {
+        each_raw_unit_in::<M, F>(src, src.len(), callback);
+    } else {
+        each_unit_in::<M, F>(src, src.len(), callback);
+    }
 }
 
 /// Calls `callback` with what each element of what is left of a text of `total` bytes stands for, and its place.
 ///
-/// Plain characters have a call of their own, which the compiler makes short. Behind some of ASCII a run of simple ones is
-/// looked for, and these have a loop of their own.
+/// Plain characters and escapes of a byte have a call of their own, which the compiler makes short. Behind a plain character
+/// a run of simple ones is looked for, and these have a loop of their own.
 #[inline(always)]
 fn each_unit_in<M: Meaning, F: FnMut(Range<usize>, Result<M::Meant, EscapeError>)>(
     rest: &str,
     total: usize,
-    raw: bool,
     callback: &mut F,
 ) {
     let mut left = rest;
-    let mut wait = 0;
+    let mut look = total;
     while let Some((c, tail)) = split_first(left) {
-        if is_plain(c, raw) {
-            let range = total - left.len()..total - tail.len();
-            callback(range, M::of(Element::Plain(c)));
-            let (run, behind) = run_behind(c, tail, raw, &mut wait);
+        let start = total - left.len();
+        if is_plain(c, false) {
+            callback(start..total - tail.len(), M::of(Element::Plain(c)));
+            let (run, behind) = run_behind(tail, &mut look);
             each_simple::<M, F>(run, total - behind.len(), callback);
             left = behind;
             continue;
         }
-        if let Some((byte, behind)) = byte_at(c, tail, raw) {
-            let range = total - left.len()..total - behind.len();
+        if let Some((byte, behind)) = byte_at(c, tail, false) {
+            let range = start..total - behind.len();
             each_told::<M, F>(Some((range, Element::Byte(byte))), callback);
             left = behind;
             continue;
         }
-        let Told {
-            first,
-            second,
-            left: behind,
-        } = step_by(raw, c, tail, total - left.len(), total);
-        each_told::<M, F>(first, callback);
-        each_told::<M, F>(second, callback);
+        if let Some(line) = line_at(c, tail) {
+            left = each_warning::<M, F>(line, start, total, callback);
+            continue;
+        }
+        let (element, behind) = lone_element(c, tail);
+        each_told::<M, F>(Some((start..total - behind.len(), element)), callback);
         left = behind;
+    }
+}
+
+/// Calls `callback` with the warnings past a backslash and a newline, which begin at the place `start`. Returns what is left
+/// past the white space.
+#[inline(always)]
+fn each_warning<'a, M: Meaning, F: FnMut(Range<usize>, Result<M::Meant, EscapeError>)>(
+    line: &'a str,
+    start: usize,
+    total: usize,
+    callback: &mut F,
+) -> &'a str {
+    let (newline, left) = pass_over(line);
+    each_told::<M, F>(more_lines(newline, left, start, total), callback);
+    each_told::<M, F>(more_space(left, start, total), callback);
+    left
+}
+
+/// The same as [`each_unit_in`] for a raw string, of which each element is one character.
+///
+/// Behind a short run of simple ones, characters are told one by one for a while. That loop does nothing else.
+#[inline(always)]
+fn each_raw_unit_in<M: Meaning, F: FnMut(Range<usize>, Result<M::Meant, EscapeError>)>(
+    rest: &str,
+    total: usize,
+    callback: &mut F,
+) {
+    let mut left = rest;
+    while let Some((c, tail)) = split_first(left) {
+        let range = total - left.len()..total - tail.len();
+        callback(range, M::of(raw_element(c)));
+        let (run, behind) = split_simple(tail, true);
+        each_simple::<M, F>(run, total - behind.len(), callback);
+        let (alone, past) = split_alone(run, behind);
+        each_raw_char::<M, F>(alone, total - past.len(), callback);
+        left = past;
+    }
+}
+
+/// Calls `callback` with what each character of a part of a raw string stands for, and its place. The last ends at `end`.
+#[inline(always)]
+fn each_raw_char<M: Meaning, F: FnMut(Range<usize>, Result<M::Meant, EscapeError>)>(
+    part: &str,
+    end: usize,
+    callback: &mut F,
+) {
+    let mut chars = part.chars();
+    let mut start = end - part.len();
+    while let Some(c) = chars.next() {
+        let past = end - chars.as_str().len();
+        callback(start..past, M::of(raw_element(c)));
+        start = past;
     }
 }
 

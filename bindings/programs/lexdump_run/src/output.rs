@@ -71,7 +71,7 @@ impl Block {
         self.len = end;
     }
 
-    /// Writes what is held.
+    /// Writes what is held. Then it holds nothing; where that fails it holds what it held.
     fn write_out<W: Write>(&mut self, output: &mut Watched<W>) -> Result<(), Fault> {
         write_bytes(output, &self.bytes[..self.len])?;
         self.len = 0;

@@ -7,6 +7,7 @@ use crate::fault::{Fault, Reason};
 use ends::{ReadStop, Watched, read_all};
 use rattle_std::alloc::Global;
 use rattle_std::fs::File;
+use rattle_std::io;
 use rattle_std::io::Read;
 use rattle_std::rt::Files;
 
@@ -33,17 +34,13 @@ pub fn read_input<R: Read>(alloc: Global, input: &mut Watched<R>) -> Result<Vec<
 
 /// All bytes of a file.
 pub fn read_source<R: Files + AllocGlobal>(rt: &R, path: &str) -> Result<Vec<u8>, Fault> {
-    match File::open(rt, path) {
-        Ok(mut file) => read_file(rt.alloc(), &mut file),
-        Err(error) => Err(Fault::from(error)),
-    }
+    read_opened(rt.alloc(), File::open(rt, path))
 }
 
-/// All bytes of an open file.
-fn read_file<R: Read>(alloc: Global, file: &mut R) -> Result<Vec<u8>, Fault> {
+/// All bytes of a file that was opened, if it could be.
+fn read_opened<R: Read>(alloc: Global, opened: io::Result<R>) -> Result<Vec<u8>, Fault> {
+    let mut file = opened?;
     let mut bytes = Vec::new(alloc);
-    match file.read_to_end(&mut bytes) {
-        Ok(_) => Ok(bytes),
-        Err(error) => Err(Fault::from(error)),
-    }
+    file.read_to_end(&mut bytes)?;
+    Ok(bytes)
 }

@@ -42,7 +42,7 @@ impl Found {
     }
 
     /// Takes a path by what is told of it: to the sources, to the folders that are to be walked, to what the system
-    /// refused, or to none of these.
+    /// refused, or to none of these. Where memory is refused nothing changes.
     fn take(
         &mut self,
         alloc: Global,

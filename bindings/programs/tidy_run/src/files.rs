@@ -11,12 +11,12 @@ use crate::job::Task;
 use crate::stop::Stop;
 use crate::{document, hunks};
 use rattle_std::alloc::{AllocError, Global};
-use rattle_std::fs;
 use rattle_std::fs::{File, Metadata, OpenFile};
 use rattle_std::io::Write;
 use rattle_std::path::{AsPath, Path};
 use rattle_std::rt::Files;
-use sources::{Fault, PathFault, Reason, find, read_source, text_of};
+use rattle_std::{fs, io};
+use sources::{Fault, Found, PathFault, Reason, find, read_source, text_of};
 
 /// What came of files.
 #[derive(Debug)]
@@ -40,9 +40,19 @@ pub fn tidy_paths<R: Files + AllocGlobal + Clone, F: FnMut(usize, usize)>(
     id: u32,
     task: Task,
     paths: &[&str],
+    tell: F,
+) -> Result<Outcome, AllocError> {
+    tidy_found(rt, id, task, find(rt, paths)?, tell)
+}
+
+/// Puts in order the files that were found.
+fn tidy_found<R: Files + AllocGlobal + Clone, F: FnMut(usize, usize)>(
+    rt: &R,
+    id: u32,
+    task: Task,
+    found: Found,
     mut tell: F,
 ) -> Result<Outcome, AllocError> {
-    let found = find(rt, paths)?;
     let total = found.files.len();
     let mut done: usize = 0;
     let mut outcome = Outcome {
@@ -72,7 +82,7 @@ pub enum Step {
 }
 
 impl Outcome {
-    /// Takes what came of one file.
+    /// Takes what came of one file. Where memory is refused nothing changes.
     fn take(&mut self, path: String, came: Result<Step, Fault>) -> Result<(), AllocError> {
         match came {
             Ok(Step::Stays) => {
@@ -85,9 +95,10 @@ impl Outcome {
                 Ok(())
             }
             Ok(Step::Shown(text)) => {
+                self.shown.push_str(text.as_str())?;
                 self.read = self.read.saturating_add(1);
                 self.changed = self.changed.saturating_add(1);
-                self.shown.push_str(text.as_str())
+                Ok(())
             }
             Err(Fault::Source(reason)) => {
                 self.faults.push(PathFault { path, reason })?;
@@ -116,16 +127,23 @@ fn tidy_file<R: Files + AllocGlobal + Clone>(
     task: Task,
     path: &str,
 ) -> Result<Step, Fault> {
-    let before = fs::metadata(rt, path)?;
-    if !before.is_file() {
-        return Err(Fault::Source(Reason::NoFile));
-    }
+    let before = file_of(fs::metadata(rt, path))?;
     let bytes = read_source(rt, path)?;
     let step = step_of(rt.alloc(), task, path, bytes.as_slice())?;
     if let Step::Replaced(text) = &step {
         replace(rt, id, path, &before, text.as_str())?;
     }
     Ok(step)
+}
+
+/// What is known of a file, by what the system says of its path; what is no file is a fault.
+fn file_of(what: io::Result<Metadata>) -> Result<Metadata, Fault> {
+    let what = what?;
+    if what.is_file() {
+        Ok(what)
+    } else {
+        Err(Fault::Source(Reason::NoFile))
+    }
 }
 
 /// What the task does with a file that has these bytes.
@@ -227,10 +245,15 @@ fn fill<F: Write + OpenFile>(file: &mut F, before: &Metadata, text: &[u8]) -> Re
 
 /// Gives the new file the name of the old one, unless that changed.
 fn place<R: Files>(rt: &R, beside: &str, target: Path<'_>, before: &Metadata) -> Result<(), Fault> {
-    let now = fs::metadata(rt, target)?;
+    check_unchanged(before, &fs::metadata(rt, target)?)?;
+    fs::rename(rt, beside, target)?;
+    Ok(())
+}
+
+/// A fault where a file changed, by what was known of it before and what is known now: its length and its last change.
+fn check_unchanged(before: &Metadata, now: &Metadata) -> Result<(), Fault> {
     if now.len() != before.len() || now.modified()? != before.modified()? {
         return Err(Fault::Source(Reason::Changed));
     }
-    fs::rename(rt, beside, target)?;
     Ok(())
 }

@@ -12,9 +12,13 @@ use core::str::FromStr;
 /// An edition of Rust, in the order of their years.
 #[derive(Clone, Copy, Debug, PartialEq, Eq, PartialOrd, Ord)]
 pub enum Edition {
+    /// Rust 2015.
     E2015,
+    /// Rust 2018, whose tokens are those of 2015.
     E2018,
+    /// Rust 2021.
     E2021,
+    /// Rust 2024, the newest.
     E2024,
 }
 

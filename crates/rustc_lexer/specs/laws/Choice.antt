@@ -5,7 +5,7 @@ use Rattle.std.specs.List.{list_any, list_all}
 use Rattle.rustc_lexer.specs.declared.token.TokenKind.{TokenKind}
 use Rattle.rustc_lexer.specs.declared.token.TokenKind.TheVariants.{Unknown}
 use Rattle.rustc_lexer.specs.means.Choice.{Arm, chosen}
-use Rattle.rustc_lexer.specs.Symbols.{kind_among}
+use Rattle.rustc_lexer.specs.Tables.{kind_among}
 
 -- a choice by a test
 pub by_test : {A : Type 0} (P : A → Type 0) (b : Bool) (x y : A) → (b ≡ true → P x) → (b ≡ false → P y) → P (if b then x else y)

@@ -15,7 +15,7 @@ use Rattle.rustc_lexer.specs.declared.token.TokenKind.TheVariants.{Ident, Unknow
 use Rattle.rustc_lexer.specs.means.BlockComment.{block_comment, block_comment_to, comment_end}
 use Rattle.rustc_lexer.specs.Classes.{is_id_continue}
 use Rattle.rustc_lexer.specs.means.Comment.{line_comment, slash}
-use Rattle.rustc_lexer.specs.LanguageIn.{year, edition_of_year}
+use Rattle.rustc_lexer.specs.LanguageText.{year, edition_of_year}
 use Rattle.rustc_lexer.specs.means.Edition.{token, before_2024, before_2021, first_token_in}
 use Rattle.rustc_lexer.specs.means.Hash.{is_guarded_mark, hash}
 use Rattle.rustc_lexer.specs.means.Ident.{is_word, is_prefix_mark, ident_or_unknown_prefix, marks_ident}

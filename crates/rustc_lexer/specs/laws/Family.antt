@@ -7,7 +7,7 @@ use Rattle.rustc_lexer.specs.declared.lexemes.family.Family.TheVariants.{Slash, 
 use Rattle.rustc_lexer.specs.declared.token.TokenKind.{TokenKind}
 use Rattle.rustc_lexer.specs.Classes.{is_whitespace, is_id_start}
 use Rattle.rustc_lexer.specs.means.Comment.{slash}
-use Rattle.rustc_lexer.specs.Emoji.{is_emoji}
+use Rattle.rustc_lexer.specs.Tables.{is_emoji}
 use Rattle.rustc_lexer.specs.means.Hash.{hash}
 use Rattle.rustc_lexer.specs.means.Ident.{invalid_ident}
 use Rattle.rustc_lexer.specs.means.Lexeme.{past_first, read_by, symbol, whitespace, word}

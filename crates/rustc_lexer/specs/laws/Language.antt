@@ -7,7 +7,7 @@ use Rattle.rustc_lexer.specs.declared.lexemes.raw.RawPrefix.TheVariants.{R, Br, 
 use Rattle.rustc_lexer.specs.declared.token.LiteralKind.{LiteralKind}
 use Rattle.rustc_lexer.specs.declared.token.TokenKind.{TokenKind}
 use Rattle.rustc_lexer.specs.declared.token.TokenKind.TheVariants.{RawIdent, ForcedKeywordIdent}
-use Rattle.rustc_lexer.specs.Classes.{is_id_start, is_id_continue}
+use Rattle.rustc_lexer.specs.Classes.{is_id_start, is_id_continue, NextIs, NextIsNot}
 use Rattle.rustc_lexer.specs.means.Ident.{ident_or_unknown_prefix, marks_ident}
 use Rattle.rustc_lexer.specs.laws.Choice.{by_test, EachArm, by_arm, at_char, fits_some}
 use Rattle.rustc_lexer.specs.laws.LanguageComments.{space-sound, space-read, hash-sound, pound-read, guarded-read, symbol-sound, symbol-read, slash-sound, slash-read, line-read, block-read, open-read}
@@ -19,8 +19,7 @@ use Rattle.rustc_lexer.specs.Language as the
 use Rattle.rustc_lexer.specs.LiteralGrammar as lit
 use Rattle.rustc_lexer.specs.Language.{begins_prefixed, IsTokenBefore}
 use Rattle.rustc_lexer.specs.LiteralGrammar.{IsLiteralBefore}
-use Rattle.rustc_lexer.specs.LanguageHolds.{BeginsWithOne}
-use Rattle.rustc_lexer.specs.Spans.{NextIs, NextIsNot}
+use Rattle.rustc_lexer.specs.LanguageLaws.{BeginsWithOne}
 use Rattle.rustc_lexer.specs.means.Lexeme.{is_raw_mark, raw_or_ident, begins_raw, raw_past_or_ident, letter_r, letter_k, letter_b, letter_c, letters, word, lexeme}
 use Rattle.rustc_lexer.specs.means.Literal.{literal}
 use Rattle.rustc_lexer.specs.means.Quoted.{byte_body, byte_str_body, c_str_body}

@@ -4,7 +4,7 @@ use Rattle.std.proofs.lemmas.Bool.{and_parts, false_from_ne_true, cases_lt}
 use Rattle.std.proofs.lemmas.List.{drop_all}
 use Rattle.std.specs.List.{list_all}
 use Rattle.std.proofs.Math.Bool.{and-false}
-use Rattle.rustc_lexer.specs.Classes.{is_horizontal_whitespace}
+use Rattle.rustc_lexer.specs.Classes.{is_horizontal_whitespace, AreAll}
 use Rattle.rustc_lexer.specs.means.Comment.{is_no_newline}
 use Rattle.rustc_lexer.specs.means.Frontmatter.{is_newline, dashes, first, past_newline, past_place, places_from, line_start, stands_alone, first_alone, first_some, closing_end}
 use Rattle.rustc_lexer.specs.laws.LanguageRuns.{run_len-here, run-stops, either-way}
@@ -12,7 +12,6 @@ use Rattle.rustc_lexer.specs.laws.Reach.{begins-length, run_all, run_len_le, lea
 use Rattle.rustc_lexer.specs.laws.Least.{one_more-none}
 use Rattle.rustc_lexer.specs.FrontmatterGrammar as the
 use Rattle.rustc_lexer.specs.FrontmatterGrammar.{fence, IsFirst, IsNowhere, LineOf, line, IsBlankBefore, from_start, from_line, IsLone, NoFence, NoRust, EndsAt}
-use Rattle.rustc_lexer.specs.Spans.{AreAll}
 use Rattle.rustc_lexer.specs.means.Least.{one_more, least}
 use Rattle.rustc_lexer.specs.means.Scan.{begins, run_len}
 

@@ -9,7 +9,7 @@ use Rattle.rustc_lexer.specs.declared.token.TokenKind.{TokenKind}
 use Rattle.rustc_lexer.specs.declared.token.TokenKind.TheVariants.{LineComment, BlockComment, Whitespace, GuardedStrPrefix, Pound, Slash}
 use Rattle.rustc_lexer.specs.means.BlockComment.{at_closing, at_opening, block_doc_style, block_comment_to, block_comment, comment_end}
 use Rattle.rustc_lexer.specs.means.BlockGrammar.{Closes as ClosesIn, at_mark, nested as nested_in, past_one}
-use Rattle.rustc_lexer.specs.Classes.{is_among, is_whitespace}
+use Rattle.rustc_lexer.specs.Classes.{is_among, is_whitespace, NextIn, NextNotIn, AreAll, NextIsNot, is_inline}
 use Rattle.rustc_lexer.specs.means.Comment.{line_doc_style, is_no_newline, line_comment, slash}
 use Rattle.rustc_lexer.specs.means.Hash.{is_guarded_mark, hash}
 use Rattle.rustc_lexer.specs.laws.BlockComment.{two_at_least, closes-inside, at_closing_told, at_opening_told, style_told}
@@ -19,8 +19,7 @@ use Rattle.rustc_lexer.specs.laws.LanguageRuns.{run_len-here, run-stops, Sound, 
 use Rattle.rustc_lexer.specs.laws.Lookahead.{line_doc_style-own}
 use Rattle.rustc_lexer.specs.laws.Reach.{run_all}
 use Rattle.rustc_lexer.specs.Language as the
-use Rattle.rustc_lexer.specs.Language.{IsStyle, inner, outer, no_outer, neither, IsLineStyle, IsBlockStyle, IsCommentRest, IsTokenBefore, has_rule}
-use Rattle.rustc_lexer.specs.Spans.{NextIn, NextNotIn, AreAll, NextIsNot, is_inline}
+use Rattle.rustc_lexer.specs.Language.{IsStyle, inner, outer, no_outer, neither, IsCommentRest, IsTokenBefore, has_rule}
 use Rattle.rustc_lexer.specs.means.Lexeme.{whitespace, symbol, symbol_kind}
 use Rattle.rustc_lexer.specs.means.Scan.{after, begins, gives, next_is, run_len}
 
@@ -54,6 +53,9 @@ pub symbol-read : (c : ℕ) (next : List ℕ) → has_rule c ≡ false → Read 
 symbol-read c next e = read-first c (symbol c) next (symbol_kind c) 0 1 (chooses-symbol c e) refl refl
 
 -- ---- line comments
+
+abbrev pub IsLineStyle : Option DocStyle → List ℕ → Type 0
+IsLineStyle style w = IsStyle 47 (codes "/") style w
 
 -- the style that is told is the one of the language
 line-styled : (w : List ℕ) → IsLineStyle (line_doc_style w) w
@@ -140,6 +142,9 @@ closes-text (past_one {c} {m} {u} e f p) =
     let shut : at_closing (c ∷ take m u) ≡ false = sym (told-front 2 at_closing at_closing_told (c ∷ take m u) (drop m u) (omega (arith, two_at_least p, len))) ∙ (ap at_closing whole ∙ e) in
     let shows : at_opening (c ∷ take m u) ≡ false = sym (told-front 2 at_opening at_opening_told (c ∷ take m u) (drop m u) (omega (arith, two_at_least p, len))) ∙ (ap at_opening whole ∙ f) in
     subst (λ (n : ℕ). IsCommentRest (take n (c ∷ u))) (sym one) (the.other shut shows (closes-text p))
+
+abbrev pub IsBlockStyle : Option DocStyle → List ℕ → Type 0
+IsBlockStyle style w = IsStyle 42 (codes "*/") style w
 
 block-styled : (w : List ℕ) → IsBlockStyle (block_doc_style w) w
 block-styled [] = neither refl

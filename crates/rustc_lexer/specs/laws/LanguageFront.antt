@@ -9,10 +9,9 @@ use Rattle.rustc_lexer.specs.declared.token.TokenKind.{TokenKind}
 use Rattle.rustc_lexer.specs.laws.Language.{token-read}
 use Rattle.rustc_lexer.specs.laws.TokenBy.{scalars-take, scalars-drop}
 use Rattle.rustc_lexer.specs.Language.{IsTokenBefore}
-use Rattle.rustc_lexer.specs.Spans.{bytes}
+use Rattle.rustc_lexer.specs.Classes.{bytes, IsText}
 use Rattle.rustc_lexer.specs.means.Lexeme.{lexeme, first_token}
 use Rattle.rustc_lexer.specs.means.Scan.{bytes_of}
-use Rattle.rustc_lexer.specs.Locality.{IsText}
 
 -- ---- texts and characters
 

@@ -3,14 +3,13 @@ use Rattle.std.proofs.Common.{◌≡◌, ℕ, zero, suc, ◌+◌, ◌≤◌, ◌
 use Rattle.std.proofs.Math.Seq.{take-append_seam, drop-append_seam}
 use Rattle.std.proofs.lemmas.Bool.{and_parts, eqb-true, or_parts, not-true, false_from_ne_true}
 use Rattle.unicode_ident.proofs.Computing.{unicode_ident}
-use Rattle.rustc_lexer.specs.Classes.{is_among, is_whitespace, is_horizontal_whitespace, is_id_start}
+use Rattle.rustc_lexer.specs.Classes.{is_among, is_whitespace, is_horizontal_whitespace, is_id_start, AreAll, NextIsNot}
 use Rattle.rustc_lexer.specs.means.Frontmatter.{is_dash, dashes, then_len, spaces_len, fence_len, blanks_len, is_infostring, infostring_len, label_len, opening_len, ends_line, opens}
 use Rattle.rustc_lexer.specs.laws.LanguageRuns.{run_len-here, run-stops, either-way, none-among}
 use Rattle.rustc_lexer.specs.laws.Reach.{run_all, run_len-out}
 use Rattle.rustc_lexer.specs.laws.Fences.{begins-dashes}
 use Rattle.rustc_lexer.specs.FrontmatterGrammar as the
 use Rattle.rustc_lexer.specs.FrontmatterGrammar.{is_info, fence, IsLabelBefore, IsOpeningBefore, OpensNone}
-use Rattle.rustc_lexer.specs.Spans.{AreAll, NextIsNot}
 use Rattle.rustc_lexer.specs.means.Scan.{begins, next_is, run_len}
 
 -- ---- classes

@@ -1,5 +1,5 @@
 -- The token at the front of a text in an edition is the one that its language has there.
-use Rattle.std.proofs.Common.{◌≡◌, ℕ, ◌+◌, ◌<◌, ◌≤◌, ◌==◌, nat_le, Bool, true, false, true≢false, List, [], ◌∷◌, ◌++◌, length, take, drop, codes, refl, sym, ap, ◌∙◌, subst, arith, take-append-drop}
+use Rattle.std.proofs.Common.{◌≡◌, ◌↔◌, ℕ, ◌+◌, ◌<◌, ◌≤◌, ◌==◌, nat_le, Bool, true, false, true≢false, List, [], ◌∷◌, ◌++◌, length, take, drop, codes, refl, sym, ap, ◌∙◌, subst, arith, take-append-drop}
 use lib.Utf8.{encode}
 use Rattle.std.proofs.Math.Seq.{take-append_seam}
 use Rattle.std.proofs.lemmas.Bool.{and_parts, leb-true, leb-false, eqb-true}
@@ -10,16 +10,13 @@ use Rattle.rustc_lexer.specs.declared.edition.Edition.TheVariants.{E2024}
 use Rattle.rustc_lexer.specs.declared.token.Token.{Token}
 use Rattle.rustc_lexer.specs.declared.token.TokenKind.{TokenKind}
 use Rattle.rustc_lexer.specs.declared.token.TokenKind.TheVariants.{Ident, UnknownPrefix, UnknownPrefixLifetime, RawLifetime, Lifetime, GuardedStrPrefix, Pound}
-use Rattle.rustc_lexer.specs.Classes.{is_among, is_id_start, is_id_continue, is_ident}
-use Rattle.rustc_lexer.specs.LanguageIn.{year, kept_since, IsTokenIn, kept, pound, ident, lifetime, lifetime_r}
+use Rattle.rustc_lexer.specs.Classes.{is_among, is_id_start, is_id_continue, is_ident, is_word_continue, is_word_start, begins_ident_after, AreAll, NextIs, bytes, IsText}
+use Rattle.rustc_lexer.specs.LanguageText.{year, kept_since, IsTokenIn, kept, pound, ident, lifetime, lifetime_r}
 use Rattle.rustc_lexer.specs.means.Edition.{token, has_marked_name, before_2024, before_2021, changed, first_token_in}
 use Rattle.rustc_lexer.specs.Language as the
-use Rattle.rustc_lexer.specs.Spans.{is_word_continue, is_word_start, begins_ident_after, AreAll, NextIs, bytes}
 use Rattle.rustc_lexer.specs.Language.{is_bad_name, IsTokenBefore}
-use Rattle.rustc_lexer.specs.LanguageHolds.{NewestIsPage}
 use Rattle.rustc_lexer.specs.means.Lexeme.{past_first, lexeme, first_token, symbols, symbol_kind}
 use Rattle.rustc_lexer.specs.means.Scan.{bytes_of, next_is, run_len}
-use Rattle.rustc_lexer.specs.Locality.{IsText}
 use Rattle.rustc_lexer.specs.laws.Choice.{by_test, by_symbol}
 use Rattle.rustc_lexer.specs.laws.Edition.{oldest}
 use Rattle.rustc_lexer.specs.laws.Language.{lexeme-sound}
@@ -240,5 +237,5 @@ kept_now kind = omega arith
 pub of_page : {edition : Edition} {next : List ℕ} {kind : TokenKind} {w : List ℕ} → edition ≡ E2024 → IsTokenBefore next kind w → IsTokenIn edition next kind w
 of_page {edition} {next} {kind} newest p = kept (subst (λ (x : Edition). kept_since kind ≤ year x) (sym newest) (kept_now kind)) p
 
-pub page : NewestIsPage
+pub page : (next w : List ℕ) (kind : TokenKind) → IsTokenIn E2024 next kind w ↔ IsTokenBefore next kind w
 page next w kind = (on_page refl, of_page refl)

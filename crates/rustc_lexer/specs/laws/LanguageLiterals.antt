@@ -17,7 +17,7 @@ use Rattle.rustc_lexer.specs.declared.token.LiteralKind.TheVariants.{Byte, Str, 
 use Rattle.rustc_lexer.specs.declared.token.RawStrError.{RawStrError}
 use Rattle.rustc_lexer.specs.declared.token.TokenKind.{TokenKind}
 use Rattle.rustc_lexer.specs.declared.token.TokenKind.TheVariants.{Literal}
-use Rattle.rustc_lexer.specs.Classes.{is_id_start, is_id_continue, is_ident}
+use Rattle.rustc_lexer.specs.Classes.{is_id_start, is_id_continue, is_ident, begins_ident_after, NextIs, bytes}
 use Rattle.rustc_lexer.specs.means.Ident.{marks_ident}
 use Rattle.rustc_lexer.specs.laws.Choice.{by_test}
 use Rattle.rustc_lexer.specs.laws.Ident.{marks_ident-told}
@@ -29,10 +29,8 @@ use Rattle.rustc_lexer.specs.laws.NumberLongest.{longest-read, longest-is}
 use Rattle.rustc_lexer.specs.laws.Reach.{run_all}
 use Rattle.rustc_lexer.specs.Language as the
 use Rattle.rustc_lexer.specs.LiteralGrammar as lit
-use Rattle.rustc_lexer.specs.Spans.{begins_ident_after}
 use Rattle.rustc_lexer.specs.LiteralGrammar.{hashes, IsDoubleQuoted, IsSingleQuoted, IsRaw, IsLiteralBefore, IsSuffixBefore}
 use Rattle.rustc_lexer.specs.Language.{IsTokenBefore}
-use Rattle.rustc_lexer.specs.Spans.{NextIs, bytes}
 use Rattle.rustc_lexer.specs.means.Lexeme.{is_raw_mark, word}
 use Rattle.rustc_lexer.specs.means.Literal.{Body, suffix_len, suffixed, literal_past, literal}
 use Rattle.rustc_lexer.specs.means.Number.{with_suffix, number_kind, number_body, number}

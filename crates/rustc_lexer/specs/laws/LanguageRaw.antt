@@ -5,11 +5,10 @@ use Rattle.std.proofs.lemmas.Bool.{and_parts, eqb-true, or_parts, or_from, leb-t
 use Rattle.std.proofs.lemmas.List.{append-nil}
 use Rattle.rustc_lexer.specs.declared.token.RawStrError.{RawStrError}
 use Rattle.rustc_lexer.specs.declared.token.RawStrError.TheVariants.{InvalidStarter}
-use Rattle.rustc_lexer.specs.Classes.{is_among}
+use Rattle.rustc_lexer.specs.Classes.{is_among, NextIs, NextIsNot}
 use Rattle.rustc_lexer.specs.laws.LanguageRuns.{either-way, pair, parted, run-stops}
 use Rattle.rustc_lexer.specs.LiteralGrammar as lit
 use Rattle.rustc_lexer.specs.LiteralGrammar.{hashes, NoQuoteWith, IsRaw}
-use Rattle.rustc_lexer.specs.Spans.{NextIs, NextIsNot}
 use Rattle.rustc_lexer.specs.means.Least.{one_more}
 use Rattle.rustc_lexer.specs.means.Lexeme.{is_raw_mark}
 use Rattle.rustc_lexer.specs.means.Raw.{is_hash, is_quote, hash_run, closes, close, hash_count, raw_closed, raw_text, raw_starter, raw_read, accepted}

@@ -8,7 +8,7 @@ use Rattle.std.specs.Char.{is_ascii_digit}
 use Rattle.std.specs.List.{list_all, list_any}
 use Rattle.std.specs.Option.{is_some}
 use Rattle.std.proofs.Math.Bool.{and-false}
-use Rattle.rustc_lexer.specs.Classes.{is_id_start, is_id_continue, is_ident}
+use Rattle.rustc_lexer.specs.Classes.{is_id_start, is_id_continue, is_ident, AreAll, NextIs, NextIsNot, is_word_continue, is_name_start, begins_ident_after}
 use Rattle.unicode_ident.proofs.Computing.{unicode_ident}
 use Rattle.rustc_lexer.specs.declared.token.Base.{Base}
 use Rattle.rustc_lexer.specs.declared.token.Base.TheVariants.{Decimal}
@@ -20,16 +20,14 @@ use Rattle.rustc_lexer.specs.Language as the
 use Rattle.rustc_lexer.specs.LiteralGrammar as lit
 use Rattle.rustc_lexer.specs.LiteralGrammar.{IsDoubleQuoted, SingleTo, IsSingleQuoted, IsRaw, IsLiteralBefore, IsSuffixBefore}
 use Rattle.rustc_lexer.specs.Language.{ends_prefix, known_prefixes, begins_prefixed, IsTokenBefore}
-use Rattle.rustc_lexer.specs.LanguageReach.{is_only, is_long_char, literal_reach, reach, is_refused, LooksNoFurther, RefusedStands, Needs, NoneLooksLess}
+use Rattle.rustc_lexer.specs.LanguageLaws.{is_only, is_long_char, literal_reach, reach, is_refused, Needs, NoneLooksLess}
 use Rattle.rustc_lexer.specs.means.Lexeme.{past_first, lexeme}
-use Rattle.rustc_lexer.specs.Emoji.{is_emoji, emoji_ranges}
+use Rattle.rustc_lexer.specs.Tables.{is_emoji, emoji_ranges, symbols}
 use Rattle.rustc_lexer.specs.means.Number.{number_kind, fraction, number as number_past}
 use Rattle.rustc_lexer.specs.NumberGrammar as number
 use Rattle.rustc_lexer.specs.NumberGrammar.{IsExponent, IsTailBefore, IsNumberBefore}
 use Rattle.rustc_lexer.specs.means.Scan.{IsLocalAt, begins, next_is}
-use Rattle.rustc_lexer.specs.Spans.{AreAll, NextIs, NextIsNot, is_word_continue, is_name_start, begins_ident_after}
 use Rattle.rustc_lexer.specs.laws.Language.{language, token-read}
-use Rattle.rustc_lexer.specs.Symbols.{symbols}
 use Rattle.rustc_lexer.specs.laws.Choice.{by_symbol}
 use Rattle.rustc_lexer.specs.laws.LanguageLiterals.{HasDigit, longest-digit}
 use Rattle.rustc_lexer.specs.laws.LanguageRuns.{chooses-number, either-way, word-no_mark}
@@ -410,10 +408,10 @@ token-stands (the.pound stop) e other = absurd (true≢false (sym e))
 token-stands (the.guarded_prefix is) e other = absurd (true≢false (sym e))
 token-stands (the.symbol {c} is) e other = absurd (either-way _ e (not-true _ (by_symbol (λ kind. not (is_refused_token kind)) symbols c refl refl)))
 
-pub refused_stands : RefusedStands
+pub refused_stands : (c suffix_start : ℕ) (next other w : List ℕ) (kind : LiteralKind) → is_refused kind ≡ true → IsTokenBefore (c ∷ next) (Literal kind suffix_start) w → IsTokenBefore other (Literal kind suffix_start) w
 refused_stands c n next other w kind refused p = token-stands p refused other
 
-pub looks_no_further : LooksNoFurther
+pub looks_no_further : (next other w : List ℕ) (kind : TokenKind) → IsTokenBefore next kind w → take (reach kind w) other ≡ take (reach kind w) next → IsTokenBefore other kind w
 looks_no_further next other w kind p e = token-alike p other e
 
 -- ---- and no less is enough
@@ -431,41 +429,41 @@ needs kind w next other n some read alike longer lt = record {
 
 pub none_looks_less : NoneLooksLess
 unfolding unicode_ident is_emoji emoji_ranges past_first encode number_kind fraction
-none_looks_less = record {
-  end = needs Eof [] [] (codes " ") 1 (omega arith) refl refl refl (omega arith);
-  whitespace = needs Whitespace (codes " ") (codes "a") (codes " ") 2 (omega arith) refl refl refl (omega arith);
-  line_comment = needs (LineComment None) (codes "//") (codes "\n") (codes "a") 3 (omega arith) refl refl refl (omega arith);
-  open_comment = needs (BlockComment None false) (codes "/*") [] (codes "a") 3 (omega arith) refl refl refl (omega arith);
-  ident = needs Ident (codes "a") (codes " ") (codes "b") 2 (omega arith) refl refl refl (omega arith);
-  invalid_ident = needs InvalidIdent (0x1F600 ∷ []) (codes " ") (codes "b") 2 (omega arith) refl refl refl (omega arith);
-  raw_ident = needs RawIdent (codes "r#a") (codes " ") (codes "b") 4 (omega arith) refl refl refl (omega arith);
-  forced_keyword = needs ForcedKeywordIdent (codes "k#a") (codes " ") (codes "b") 4 (omega arith) refl refl refl (omega arith);
-  prefix = needs UnknownPrefix (codes "a") (codes "#") (codes "b") 2 (omega arith) refl refl refl (omega arith);
-  prefix_k = needs UnknownPrefix (codes "k") (codes "#1") (codes "#a") 3 (omega arith) refl refl refl (omega arith);
-  lifetime = needs (Lifetime false) (codes "'a") (codes " ") (codes "b") 3 (omega arith) refl refl refl (omega arith);
-  prefix_lifetime = needs UnknownPrefixLifetime (codes "'a") (codes "#") (codes "b") 3 (omega arith) refl refl refl (omega arith);
-  prefix_lifetime_r = needs UnknownPrefixLifetime (codes "'r") (codes "#1") (codes "#a") 4 (omega arith) refl refl refl (omega arith);
-  raw_lifetime = needs RawLifetime (codes "'r#a") (codes " ") (codes "b") 5 (omega arith) refl refl refl (omega arith);
-  integer = needs (Literal (Int Decimal false) 1) (codes "1") (codes "..") (codes ".5") 3 (omega arith) refl refl refl (omega arith);
-  float = needs (Literal (Float Decimal false) 3) (codes "1.5") (codes " ") (codes "5") 4 (omega arith) refl refl refl (omega arith);
-  exponent = needs (Literal (Float Decimal true) 2) (codes "1e") (codes " ") (codes "+") 3 (omega arith) refl refl refl (omega arith);
-  character = needs (Literal (Char true) 3) (codes "'a'") (codes " ") (codes "b") 4 (omega arith) refl refl refl (omega arith);
-  two_quotes = needs (Literal (Char true) 2) (codes "''") (codes " ") (codes "'") 3 (omega arith) refl refl refl (omega arith);
-  stopped_character = needs (Literal (Char false) 1) (codes "'") (codes "\nx") (codes "\n'") 3 (omega arith) refl refl refl (omega arith);
-  a_byte = needs (Literal (Byte true) 4) (codes "b'a'") (codes " ") (codes "b") 5 (omega arith) refl refl refl (omega arith);
-  stopped_byte = needs (Literal (Byte false) 2) (codes "b'") (codes "\nx") (codes "\n'") 4 (omega arith) refl refl refl (omega arith);
-  string = needs (Literal (Str true) 2) (codes "\"\"") (codes " ") (codes "b") 3 (omega arith) refl refl refl (omega arith);
-  open_string = needs (Literal (Str false) 1) (codes "\"") [] (codes "b") 2 (omega arith) refl refl refl (omega arith);
-  byte_string = needs (Literal (ByteStr true) 3) (codes "b\"\"") (codes " ") (codes "b") 4 (omega arith) refl refl refl (omega arith);
-  open_byte_string = needs (Literal (ByteStr false) 2) (codes "b\"") [] (codes "b") 3 (omega arith) refl refl refl (omega arith);
-  c_string = needs (Literal (CStr true) 3) (codes "c\"\"") (codes " ") (codes "b") 4 (omega arith) refl refl refl (omega arith);
-  open_c_string = needs (Literal (CStr false) 2) (codes "c\"") [] (codes "b") 3 (omega arith) refl refl refl (omega arith);
-  raw_string = needs (Literal (RawStr (Some 0)) 3) (codes "r\"\"") (codes " ") (codes "b") 4 (omega arith) refl refl refl (omega arith);
-  open_raw_string = needs (Literal (RawStr None) 2) (codes "r\"") [] (codes "b") 3 (omega arith) refl refl refl (omega arith);
-  raw_byte_string = needs (Literal (RawByteStr (Some 0)) 4) (codes "br\"\"") (codes " ") (codes "b") 5 (omega arith) refl refl refl (omega arith);
-  open_raw_byte_string = needs (Literal (RawByteStr None) 3) (codes "br\"") [] (codes "b") 4 (omega arith) refl refl refl (omega arith);
-  raw_c_string = needs (Literal (RawCStr (Some 0)) 4) (codes "cr\"\"") (codes " ") (codes "b") 5 (omega arith) refl refl refl (omega arith);
-  open_raw_c_string = needs (Literal (RawCStr None) 3) (codes "cr\"") [] (codes "b") 4 (omega arith) refl refl refl (omega arith);
-  slash = needs Slash (codes "/") (codes " ") (codes "/") 2 (omega arith) refl refl refl (omega arith);
-  pound = needs Pound (codes "#") (codes " ") (codes "#") 2 (omega arith) refl refl refl (omega arith);
-}
+none_looks_less = (
+  needs Eof [] [] (codes " ") 1 (omega arith) refl refl refl (omega arith),
+  needs Whitespace (codes " ") (codes "a") (codes " ") 2 (omega arith) refl refl refl (omega arith),
+  needs (LineComment None) (codes "//") (codes "\n") (codes "a") 3 (omega arith) refl refl refl (omega arith),
+  needs (BlockComment None false) (codes "/*") [] (codes "a") 3 (omega arith) refl refl refl (omega arith),
+  needs Ident (codes "a") (codes " ") (codes "b") 2 (omega arith) refl refl refl (omega arith),
+  needs InvalidIdent (0x1F600 ∷ []) (codes " ") (codes "b") 2 (omega arith) refl refl refl (omega arith),
+  needs RawIdent (codes "r#a") (codes " ") (codes "b") 4 (omega arith) refl refl refl (omega arith),
+  needs ForcedKeywordIdent (codes "k#a") (codes " ") (codes "b") 4 (omega arith) refl refl refl (omega arith),
+  needs UnknownPrefix (codes "a") (codes "#") (codes "b") 2 (omega arith) refl refl refl (omega arith),
+  needs UnknownPrefix (codes "k") (codes "#1") (codes "#a") 3 (omega arith) refl refl refl (omega arith),
+  needs (Lifetime false) (codes "'a") (codes " ") (codes "b") 3 (omega arith) refl refl refl (omega arith),
+  needs UnknownPrefixLifetime (codes "'a") (codes "#") (codes "b") 3 (omega arith) refl refl refl (omega arith),
+  needs UnknownPrefixLifetime (codes "'r") (codes "#1") (codes "#a") 4 (omega arith) refl refl refl (omega arith),
+  needs RawLifetime (codes "'r#a") (codes " ") (codes "b") 5 (omega arith) refl refl refl (omega arith),
+  needs (Literal (Int Decimal false) 1) (codes "1") (codes "..") (codes ".5") 3 (omega arith) refl refl refl (omega arith),
+  needs (Literal (Float Decimal false) 3) (codes "1.5") (codes " ") (codes "5") 4 (omega arith) refl refl refl (omega arith),
+  needs (Literal (Float Decimal true) 2) (codes "1e") (codes " ") (codes "+") 3 (omega arith) refl refl refl (omega arith),
+  needs (Literal (Char true) 3) (codes "'a'") (codes " ") (codes "b") 4 (omega arith) refl refl refl (omega arith),
+  needs (Literal (Char true) 2) (codes "''") (codes " ") (codes "'") 3 (omega arith) refl refl refl (omega arith),
+  needs (Literal (Char false) 1) (codes "'") (codes "\nx") (codes "\n'") 3 (omega arith) refl refl refl (omega arith),
+  needs (Literal (Byte true) 4) (codes "b'a'") (codes " ") (codes "b") 5 (omega arith) refl refl refl (omega arith),
+  needs (Literal (Byte false) 2) (codes "b'") (codes "\nx") (codes "\n'") 4 (omega arith) refl refl refl (omega arith),
+  needs (Literal (Str true) 2) (codes "\"\"") (codes " ") (codes "b") 3 (omega arith) refl refl refl (omega arith),
+  needs (Literal (Str false) 1) (codes "\"") [] (codes "b") 2 (omega arith) refl refl refl (omega arith),
+  needs (Literal (ByteStr true) 3) (codes "b\"\"") (codes " ") (codes "b") 4 (omega arith) refl refl refl (omega arith),
+  needs (Literal (ByteStr false) 2) (codes "b\"") [] (codes "b") 3 (omega arith) refl refl refl (omega arith),
+  needs (Literal (CStr true) 3) (codes "c\"\"") (codes " ") (codes "b") 4 (omega arith) refl refl refl (omega arith),
+  needs (Literal (CStr false) 2) (codes "c\"") [] (codes "b") 3 (omega arith) refl refl refl (omega arith),
+  needs (Literal (RawStr (Some 0)) 3) (codes "r\"\"") (codes " ") (codes "b") 4 (omega arith) refl refl refl (omega arith),
+  needs (Literal (RawStr None) 2) (codes "r\"") [] (codes "b") 3 (omega arith) refl refl refl (omega arith),
+  needs (Literal (RawByteStr (Some 0)) 4) (codes "br\"\"") (codes " ") (codes "b") 5 (omega arith) refl refl refl (omega arith),
+  needs (Literal (RawByteStr None) 3) (codes "br\"") [] (codes "b") 4 (omega arith) refl refl refl (omega arith),
+  needs (Literal (RawCStr (Some 0)) 4) (codes "cr\"\"") (codes " ") (codes "b") 5 (omega arith) refl refl refl (omega arith),
+  needs (Literal (RawCStr None) 3) (codes "cr\"") [] (codes "b") 4 (omega arith) refl refl refl (omega arith),
+  needs Slash (codes "/") (codes " ") (codes "/") 2 (omega arith) refl refl refl (omega arith),
+  needs Pound (codes "#") (codes " ") (codes "#") 2 (omega arith) refl refl refl (omega arith),
+)

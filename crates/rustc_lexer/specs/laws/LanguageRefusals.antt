@@ -7,15 +7,16 @@ use Rattle.std.proofs.lemmas.List.{append-nil}
 use Rattle.std.specs.Str.{chars}
 use Rattle.rustc_lexer.specs.declared.token.RawStrError.{RawStrError}
 use Rattle.rustc_lexer.specs.declared.token.RawStrError.TheVariants.{InvalidStarter, NoTerminator, TooManyDelimiters}
+use Rattle.rustc_lexer.specs.LiteralGrammar as lit
 use Rattle.rustc_lexer.specs.LiteralGrammar.{hashes, NoQuoteWith}
 use Rattle.rustc_lexer.specs.LanguageCalls as the
 use Rattle.rustc_lexer.specs.LanguageCalls.{IsLikelyEnd, IsRawAnswer}
 use Rattle.rustc_lexer.specs.means.Least.{one_more}
 use Rattle.rustc_lexer.specs.means.Raw.{is_hash, hash_run, close, most_hashes, quote_hashes, quote_with, best_quote, quote_if, quote_end, hash_count, raw_closed, raw_starter, raw_read, checked, raw_check}
 use Rattle.rustc_lexer.specs.means.Scan.{bytes_of}
-use Rattle.rustc_lexer.specs.Spans.{NextIsNot, bytes}
+use Rattle.rustc_lexer.specs.Classes.{NextIsNot, bytes}
 use Rattle.rustc_lexer.specs.laws.LanguageLiterals.{bytes-append, bytes-one}
-use Rattle.rustc_lexer.specs.laws.LanguageRaw.{guard-length, guard-hashes, at_least, split-hashes, before-quote, lacks-rest, lacks-front, close-read, unclosed-read, Closing, found, lost, closing, guarded}
+use Rattle.rustc_lexer.specs.laws.LanguageRaw.{guard-length, guard-hashes, at_least, split-hashes, before-quote, lacks-rest, lacks-front, close-read, unclosed-read, Closing, found, lost, closing, guarded, whole-text}
 
 -- ---- the most hashes behind a quote
 
@@ -141,8 +142,8 @@ many : (n : ℕ) → 255 < n → checked (hash_count n) ≡ Err (TooManyDelimite
 many n lt = rw (lt-leb n 255 lt) refl
 
 answer-read : {p : ℕ} {s : List ℕ} {r : Result Unit RawStrError} → IsRawAnswer p s r → r ≡ checked (raw_read p s).0
-answer-read {p} (the.good n w next le lacks) =
-    sym (past-quote p n (w ++ (34 ∷ hashes n ++ next)) ∙ (ap (λ (o : Option ℕ). checked (raw_closed n (p + suc n) (w ++ (34 ∷ hashes n ++ next)) o).0) (close-read n w next lacks) ∙ few n le))
+answer-read {p} (the.good {next = next} (lit.closed n w le lacks)) =
+    sym (ap (λ (s : List ℕ). checked (raw_read p s).0) (whole-text n w next) ∙ (past-quote p n (w ++ (34 ∷ hashes n ++ next)) ∙ (ap (λ (o : Option ℕ). checked (raw_closed n (p + suc n) (w ++ (34 ∷ hashes n ++ next)) o).0) (close-read n w next lacks) ∙ few n le)))
 answer-read {p} (the.too_many n w next lt lacks) =
     sym (past-quote p n (w ++ (34 ∷ hashes n ++ next)) ∙ (ap (λ (o : Option ℕ). checked (raw_closed n (p + suc n) (w ++ (34 ∷ hashes n ++ next)) o).0) (close-read n w next lacks) ∙ many n lt))
 answer-read {p} (the.unclosed n w {found = m} {place = end} lacks is_best) =
@@ -167,7 +168,7 @@ has-answer p s = let g = guarded s in subst (HasAnswer p) g.whole (by_left g.cou
     closed n u (found w z lacks whole) = subst (λ (x : List ℕ). HasAnswer p (hashes n ++ 34 ∷ x)) whole (by_count (nat_le n 255) refl)
       where
         by_count : (b : Bool) → nat_le n 255 ≡ b → HasAnswer p (hashes n ++ (34 ∷ w ++ (34 ∷ hashes n ++ z)))
-        by_count true e = record { answer = Ok tt; is = the.good n w z (leb-true n 255 e) lacks }
+        by_count true e = record { answer = Ok tt; is = subst (λ (x : List ℕ). IsRawAnswer p x (Ok tt)) (whole-text n w z) (the.good (lit.closed n w (leb-true n 255 e) lacks)) }
         by_count false e = record { answer = Err (TooManyDelimiters n); is = the.too_many n w z (leb-false n 255 e) lacks }
     closed n u (lost lacks) = let b = has-best p (hashes n ++ 34 ∷ []) u in record { answer = Err (NoTerminator n b.count b.end); is = the.unclosed n u lacks b.is }
 

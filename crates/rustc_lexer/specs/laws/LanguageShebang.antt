@@ -13,8 +13,8 @@ use Rattle.rustc_lexer.specs.declared.token.Token.{Token}
 use Rattle.rustc_lexer.specs.declared.token.TokenKind.{TokenKind}
 use Rattle.rustc_lexer.specs.declared.token.TokenKind.TheVariants.{LineComment, BlockComment, Whitespace, OpenBracket}
 use Rattle.rustc_lexer.specs.means.Comment.{is_no_newline}
-use Rattle.rustc_lexer.specs.Cuts.{tokens_by}
-use Rattle.rustc_lexer.specs.Emoji.{is_emoji, emoji_ranges}
+use Rattle.rustc_lexer.specs.Locality.{tokens_by}
+use Rattle.rustc_lexer.specs.Tables.{is_emoji, emoji_ranges}
 use Rattle.rustc_lexer.specs.Language as page
 use Rattle.rustc_lexer.specs.Language.{has_rule, IsTokenBefore}
 use Rattle.rustc_lexer.specs.LanguageCalls as the
@@ -22,8 +22,7 @@ use Rattle.rustc_lexer.specs.LanguageCalls.{IsAttributeRest, IsLineBefore, IsShe
 use Rattle.rustc_lexer.specs.means.Lexeme.{past_first, first_token, symbols, kind_among}
 use Rattle.rustc_lexer.specs.means.Scan.{begins}
 use Rattle.rustc_lexer.specs.means.Shebang.{is_passed, is_open_bracket, is_attribute, before_newline, line_len, shebang_past, shebang}
-use Rattle.rustc_lexer.specs.Spans.{AreAll, is_inline}
-use Rattle.rustc_lexer.specs.Locality.{IsText}
+use Rattle.rustc_lexer.specs.Classes.{AreAll, is_inline, IsText}
 use Rattle.rustc_lexer.specs.laws.Choice.{by_test}
 use Rattle.rustc_lexer.specs.laws.Language.{lexeme-sound}
 use Rattle.rustc_lexer.specs.laws.Lookahead.{first_token_grammar}

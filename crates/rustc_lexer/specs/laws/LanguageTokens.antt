@@ -7,7 +7,7 @@ use Rattle.rustc_lexer.specs.declared.edition.Edition.{Edition}
 use Rattle.rustc_lexer.specs.declared.token.Token.{Token}
 use Rattle.rustc_lexer.specs.declared.token.TokenKind.{TokenKind}
 use Rattle.rustc_lexer.specs.declared.token.TokenKind.TheVariants.{Frontmatter}
-use Rattle.rustc_lexer.specs.Classes.{is_among, is_whitespace}
+use Rattle.rustc_lexer.specs.Classes.{is_among, is_whitespace, bytes, IsText}
 use Rattle.rustc_lexer.specs.means.Tokens.{tokens_of}
 use Rattle.rustc_lexer.specs.means.Edition.{token, first_token_in}
 use Rattle.rustc_lexer.specs.means.Frontmatter.{is_newline, fence_len, opening_len, opens, closing_end, past_opening, frontmatter}
@@ -15,12 +15,9 @@ use Rattle.rustc_lexer.specs.laws.LanguageClosing.{ends-read, ends-are}
 use Rattle.rustc_lexer.specs.laws.LanguageFrontmatter.{fence-length, opening-read, Opened, opened, opens-none, none-opens}
 use Rattle.rustc_lexer.specs.laws.LanguageLiterals.{bytes-append}
 use Rattle.rustc_lexer.specs.FrontmatterGrammar.{fence, IsOpeningBefore, opening, EndsAt}
-use Rattle.rustc_lexer.specs.LanguageIn.{IsTokenIn}
-use Rattle.rustc_lexer.specs.LanguageText.{Mode, IsDocument, document, part, mode_edition, mode_after, AreTokens, nothing, something, frontmatter_first}
-use Rattle.rustc_lexer.specs.Spans.{bytes}
+use Rattle.rustc_lexer.specs.LanguageText.{IsTokenIn, Mode, IsDocument, document, part, mode_edition, mode_after, AreTokens, nothing, something, frontmatter_first}
 use Rattle.rustc_lexer.specs.means.Scan.{bytes_of, next_is, past}
 use Rattle.rustc_lexer.specs.means.Taking.{token_at}
-use Rattle.rustc_lexer.specs.Locality.{IsText}
 use Rattle.rustc_lexer.specs.laws.Frontmatter.{closing_end-boundary, closing_end-inside}
 use Rattle.rustc_lexer.specs.laws.LanguageIn.{token-read-in, first-front}
 use Rattle.rustc_lexer.specs.laws.LanguageFront.{empty-text, split}

@@ -9,11 +9,9 @@ use Rattle.rustc_lexer.specs.declared.token.RawStrError.{RawStrError}
 use Rattle.rustc_lexer.specs.declared.token.Token.{Token}
 use Rattle.rustc_lexer.specs.declared.token.TokenKind.TheVariants.{Eof}
 use Rattle.rustc_lexer.specs.LanguageCalls.{IsRawAnswer, IsShebang}
-use Rattle.rustc_lexer.specs.LanguageHolds.{IsFirst, TakesGuarded, TakesNext, nothing_left, first_left}
-use Rattle.rustc_lexer.specs.LanguageText.{Mode, part, mode_after, AreTokens}
-use Rattle.rustc_lexer.specs.Locality.{IsText}
-use Rattle.rustc_lexer.specs.State.{State, token_past}
-use Rattle.rustc_lexer.specs.TheOnly.{TheOnly}
+use Rattle.rustc_lexer.specs.State.{IsFirst, TakesGuarded, TakesNext, nothing_left, first_left, State, token_past}
+use Rattle.rustc_lexer.specs.LanguageText.{Mode, part, mode_after, AreTokens, TheOnly}
+use Rattle.rustc_lexer.specs.Classes.{IsText}
 use Rattle.rustc_lexer.specs.laws.LanguageGuarded.{guarded-answer}
 use Rattle.rustc_lexer.specs.laws.LanguageRefusals.{raw-answer}
 use Rattle.rustc_lexer.specs.laws.LanguageShebang.{shebang-answer}

@@ -8,7 +8,7 @@ use Rattle.std.proofs.lemmas.Str.{IsUtf8-append, IsUtf8-drop, IsUtf8-nil, IsUtf8
 use Rattle.std.proofs.lemmas.List.Elements.{All-nil, All-cons}
 use Rattle.rustc_lexer.specs.declared.edition.Edition.{Edition}
 use Rattle.rustc_lexer.specs.declared.token.Token.{Token}
-use Rattle.rustc_lexer.specs.Cuts.{tokens_by, bound, Partitions}
+use Rattle.rustc_lexer.specs.Locality.{tokens_by, bound, Partitions}
 use Rattle.rustc_lexer.specs.means.Tokens.{cut, tokens_of_document, tokens_of}
 use Rattle.rustc_lexer.specs.LanguageText.{Mode, document, part, mode_after}
 use Rattle.rustc_lexer.specs.laws.Edition.{edition_grammar}
@@ -17,7 +17,7 @@ use Rattle.rustc_lexer.specs.means.Frontmatter.{frontmatter}
 use Rattle.rustc_lexer.specs.means.Taking.{token_at}
 use Rattle.rustc_lexer.specs.laws.Cuts.{at_bound, tokens-nil as part-nil, tokens-cons as part-cons}
 use Rattle.rustc_lexer.specs.laws.Frontmatter.{frontmatter-cut, token_at-either}
-use Rattle.rustc_lexer.specs.Locality.{IsText}
+use Rattle.rustc_lexer.specs.Classes.{IsText}
 
 -- the token at the front of a text leaves a shorter text, and is one itself
 pub record CutsOff (text : List ℕ) (token : Token) : Type 0 where

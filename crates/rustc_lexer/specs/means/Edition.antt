@@ -5,7 +5,7 @@ use Rattle.rustc_lexer.specs.declared.edition.Edition.{Edition}
 use Rattle.rustc_lexer.specs.declared.token.Token.{Token}
 use Rattle.rustc_lexer.specs.declared.token.TokenKind.{TokenKind}
 use Rattle.rustc_lexer.specs.declared.token.TokenKind.TheVariants.{Ident, UnknownPrefix, UnknownPrefixLifetime, RawLifetime, Lifetime, GuardedStrPrefix, Pound}
-use Rattle.rustc_lexer.specs.LanguageIn.{year}
+use Rattle.rustc_lexer.specs.LanguageText.{year}
 use Rattle.rustc_lexer.specs.means.Ident.{is_word}
 use Rattle.rustc_lexer.specs.means.Lexeme.{first_token}
 use Rattle.rustc_lexer.specs.means.Lifetime.{is_marked}

@@ -13,7 +13,7 @@ use Rattle.rustc_lexer.specs.declared.token.TokenKind.TheVariants.{Whitespace, R
 use Rattle.rustc_lexer.specs.means.Choice.{Arm, arm, chosen}
 use Rattle.rustc_lexer.specs.Classes.{is_among, is_whitespace, is_id_start}
 use Rattle.rustc_lexer.specs.means.Comment.{slash}
-use Rattle.rustc_lexer.specs.Emoji.{is_emoji}
+use Rattle.rustc_lexer.specs.Tables.{is_emoji}
 use Rattle.rustc_lexer.specs.means.Hash.{hash}
 use Rattle.rustc_lexer.specs.means.Ident.{ident_or_unknown_prefix, invalid_ident, marked}
 use Rattle.rustc_lexer.specs.means.Lifetime.{lifetime_or_char}
@@ -21,7 +21,7 @@ use Rattle.rustc_lexer.specs.means.Literal.{literal}
 use Rattle.rustc_lexer.specs.means.Number.{number}
 use Rattle.rustc_lexer.specs.means.Quoted.{byte_body, byte_str_body, c_str_body, str_body}
 use Rattle.rustc_lexer.specs.means.Scan.{after, begins, gives, run, token_by, next_is}
-pub use Rattle.rustc_lexer.specs.Symbols.{symbols, kind_among, symbol_kind}
+pub use Rattle.rustc_lexer.specs.Tables.{symbols, kind_among, symbol_kind}
 
 -- what follows the first character of a white space
 abbrev pub whitespace : List ℕ → TokenKind × ℕ

@@ -7,7 +7,7 @@ use Rattle.rustc_lexer.specs.declared.token.LiteralKind.TheVariants.{Char}
 use Rattle.rustc_lexer.specs.declared.token.TokenKind.{TokenKind}
 use Rattle.rustc_lexer.specs.declared.token.TokenKind.TheVariants.{Literal, Lifetime, RawLifetime, UnknownPrefixLifetime}
 use Rattle.rustc_lexer.specs.Classes.{is_id_start, is_id_continue}
-use Rattle.rustc_lexer.specs.Emoji.{is_emoji}
+use Rattle.rustc_lexer.specs.Tables.{is_emoji}
 use Rattle.rustc_lexer.specs.means.Ident.{is_word, marks_ident}
 use Rattle.rustc_lexer.specs.means.Literal.{literal}
 use Rattle.rustc_lexer.specs.means.Quoted.{char_body}

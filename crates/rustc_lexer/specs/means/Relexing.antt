@@ -5,7 +5,7 @@ use Rattle.rustc_lexer.specs.declared.relex.front.Damage.{Damage}
 use Rattle.rustc_lexer.specs.declared.relex.relexing.Change.{Change}
 use Rattle.rustc_lexer.specs.declared.relex.relexing.Relexing.{Relexing}
 use Rattle.rustc_lexer.specs.declared.token.Token.{Token}
-use Rattle.rustc_lexer.specs.Cuts.{AreBoundaries, tokens_by}
+use Rattle.rustc_lexer.specs.Locality.{AreBoundaries, tokens_by}
 use Rattle.rustc_lexer.specs.Relexing.{HasLengths, Stands, added_by, known, removed_by}
 
 -- the old text, which may be cut at the bounds of the tokens, and the new one are the same up to `start`

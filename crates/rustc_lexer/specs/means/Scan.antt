@@ -3,7 +3,7 @@ use Rattle.std.specs.Prelude.{ℕ, suc, ◌≡◌, ◌+◌, ◌≤◌, Bool, tru
 use Rattle.std.specs.Str.{chars, encode_utf8_all}
 use Rattle.rustc_lexer.specs.declared.token.Token.{Token}
 use Rattle.rustc_lexer.specs.declared.token.TokenKind.{TokenKind}
-pub use Rattle.rustc_lexer.specs.Spans.{begins, next_is}
+pub use Rattle.rustc_lexer.specs.Classes.{begins, next_is}
 
 -- what is read of this text depends on no more than `reach` characters past what is taken: a text that has the same first
 -- characters up to there, or ends with this one before that, is read alike

@@ -1,6 +1,7 @@
 //! The class of emoji.
 ghost use Rattle.std.specs.Prelude.{◌≡◌};
-ghost use Rattle.rustc_lexer.specs.Emoji;
+ghost use Rattle.rustc_lexer.specs.Tables;
+ghost use Rattle.rustc_lexer.specs.means.Emoji as Search;
 
 use std::cmp::Ordering;
 
@@ -158,14 +159,14 @@ static RANGES: [(char, char); 148] = [
 
 /// Whether the character is an emoji, outside ASCII.
 pub(crate) fn is_emoji(c: char) -> bool
-    ensures { result ≡ Emoji.is_emoji c }
+    ensures { result ≡ Tables.is_emoji c }
 {
     !c.is_ascii() && RANGES.binary_search_by(|range| side(range, c)).is_ok()
 }
 
 /// On which side of the character the range lies, or that the character is in it.
 fn side(range: &(char, char), c: char) -> Ordering
-    ensures { result ≡ Emoji.side c range.now }
+    ensures { result ≡ Search.side c range.now }
 {
     let (first, last) = *range;
     if last < c {

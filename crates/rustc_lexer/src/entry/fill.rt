@@ -1,9 +1,8 @@
 //! The tokens of a text, many at once.
 ghost use Rattle.std.specs.Prelude.{◌≡◌, ◌<◌, drop, length, IsCharBoundary, IsTrue};
-ghost use Rattle.rustc_lexer.specs.Bulk.{IsFilled, IsFilledTo, state_past};
+ghost use Rattle.rustc_lexer.specs.Tokens.{IsFilled, IsFilledTo, state_past, bound, tokens_left, tokens_of};
 ghost use Rattle.rustc_lexer.specs.Classes.{Fits};
 ghost use Rattle.rustc_lexer.specs.LanguageText.{mode_edition, part};
-ghost use Rattle.rustc_lexer.specs.Tokens.{bound, tokens_left, tokens_of};
 
 use crate::bulk::{self, Record};
 use crate::edition::Edition;

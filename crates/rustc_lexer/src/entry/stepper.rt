@@ -2,12 +2,10 @@
 ghost use Rattle.std.specs.Prelude.{◌≡◌, ◌+◌, ◌<◌, ◌≤◌, List, ℕ, length};
 ghost use Rattle.rustc_lexer.specs.declared.edition.Edition.TheVariants.{E2024};
 ghost use Rattle.rustc_lexer.specs.declared.token.Token.{Token};
-ghost use Rattle.rustc_lexer.specs.Bulk.{IsFilledTo};
+ghost use Rattle.rustc_lexer.specs.Tokens.{IsFilledTo, bound, tokens_by, tokens_of};
 ghost use Rattle.rustc_lexer.specs.Classes.{Fits};
-ghost use Rattle.rustc_lexer.specs.Tokens.{bound, tokens_by, tokens_of};
 ghost use Rattle.rustc_lexer.specs.Answers.{first_in};
-ghost use Rattle.rustc_lexer.specs.LanguageIn.{year};
-ghost use Rattle.rustc_lexer.specs.LanguageText.{part};
+ghost use Rattle.rustc_lexer.specs.LanguageText.{year, part};
 ghost use Rattle.rustc_lexer.specs.Locality.{IsGrammar};
 
 use crate::bulk::{self, Record};
@@ -17,9 +15,11 @@ use crate::token::Token;
 
 /// A grammar, which tells the first token of each text.
 ///
-/// Contracts see three things of a stepper: its grammar, a number that names the grammar, and how many steps
-/// were taken. Each implementation proves that a first token is not empty, ends between two characters, and
-/// depends on no more than itself and the two characters after it.
+/// A first token is not empty, ends between two characters, and depends on no more than itself and the two characters
+/// after it. A step answers the first token of what it is handed, the same one each time. In Rattle each implementation
+/// proves this; in plain Rust it has to keep it, or the tokens of an edited text are wrong.
+///
+/// Contracts see three things of a stepper: its grammar, a number that names the grammar, and how many steps were taken.
 pub trait Stepper: Drop {
     /// The first token of each text.
     ghost grammar: { Self → List ℕ → Token };
@@ -109,7 +109,7 @@ impl Steps {
 
 impl Stepper for Steps {
     ghost use Rattle.rustc_lexer.specs.Answers.{first_in};
-    ghost use Rattle.rustc_lexer.specs.LanguageIn.{year};
+    ghost use Rattle.rustc_lexer.specs.LanguageText.{year};
     ghost use Rattle.rustc_lexer.specs.laws.Edition.{edition_grammar};
 
     ghost grammar = { λ s. first_in s.edition };

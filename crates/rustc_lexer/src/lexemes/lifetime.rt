@@ -3,7 +3,7 @@ ghost use Rattle.std.specs.Prelude.{◌≡◌, ◌+◌, ◌≤◌, ◌<◌, ◌^
 ghost use Rattle.std.specs.Char.{is_ascii_digit, len_utf8};
 ghost use Rattle.std.specs.Str.{chars};
 ghost use Rattle.rustc_lexer.specs.declared.token.TokenKind.TheVariants.{Lifetime, UnknownPrefixLifetime};
-ghost use Rattle.rustc_lexer.specs.Emoji.{is_emoji};
+ghost use Rattle.rustc_lexer.specs.Tables.{is_emoji};
 ghost use Rattle.rustc_lexer.specs.means.Lifetime as spec;
 ghost use Rattle.rustc_lexer.specs.means.Lifetime.{is_character_at};
 ghost use Rattle.rustc_lexer.specs.means.Quoted.{single_quoted_string};

@@ -1,8 +1,8 @@
 //! Edits in a row.
 ghost use Rattle.std.specs.Prelude.{◌≡◌, ◌+◌, IfErr, OnOk, Some, take};
 ghost use Rattle.rustc_lexer.specs.Tokens.{tokens_by};
-ghost use Rattle.rustc_lexer.specs.EditLists.{apply_list, AreEdits, lexed_list, stop_at, IsStop, IsCounted};
-ghost use Rattle.rustc_lexer.specs.ErrorTexts.{stop_text};
+ghost use Rattle.rustc_lexer.specs.Edits.{apply_list, AreEdits, lexed_list, stop_at, IsStop, IsCounted};
+ghost use Rattle.rustc_lexer.specs.LanguageCalls.{stop_text};
 
 use crate::entry::stepper::Stepper;
 use crate::relex::edit::Edit;

@@ -33,10 +33,10 @@ pub struct LexedText<S: Stepper> {
 impl<S: Stepper> Model for LexedText<S> {
     ghost use Rattle.std.specs.Prelude.{◌≡◌};
     ghost use Rattle.std.specs.String.{string_bytes};
-    ghost use Rattle.rustc_lexer.specs.Pieces.{Held};
+    ghost use Rattle.rustc_lexer.specs.Edits.{Held};
     ghost use Rattle.rustc_lexer.specs.Tokens.{tokens_by};
     ghost use Rattle.rustc_lexer.specs.means.Landmarks.{AreBounds};
-    ghost use Rattle.rustc_lexer.specs.Locality.{IsText};
+    ghost use Rattle.rustc_lexer.specs.Classes.{IsText};
 
     ghost Value = { Held S };
 

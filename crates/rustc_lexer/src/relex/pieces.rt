@@ -2,7 +2,7 @@
 ghost use Rattle.std.specs.Prelude.{◌≡◌, ◌-◌, ◌≤◌, IfSome, Some, drop, length, take};
 ghost use Rattle.std.specs.Iterator.{UpTo, at_most};
 ghost use Rattle.std.specs.Iterator.SizeHint.{IsWithinCount};
-ghost use Rattle.rustc_lexer.specs.Pieces.{pieces_left, pieces_of, YieldsPiece};
+ghost use Rattle.rustc_lexer.specs.Edits.{pieces_left, pieces_of, YieldsPiece};
 ghost use Rattle.rustc_lexer.specs.Tokens.{bound};
 
 use crate::entry::stepper::Stepper;
@@ -22,7 +22,8 @@ pub struct Piece<'a> {
     pub text: &'a str,
 }
 
-/// An iterator over the pieces of a text, made by [`LexedText::pieces`] or [`LexedText::pieces_of`].
+/// An iterator over the pieces of a text, made by [`LexedText::pieces`](crate::LexedText::pieces) or
+/// [`LexedText::pieces_of`](crate::LexedText::pieces_of).
 ///
 /// A piece begins where the one before it ended, and its text is the slice of the text there.
 #[derive(Drop)]
@@ -34,7 +35,7 @@ pub struct Pieces<'a> {
 
 impl<'a> Model for Pieces<'a> {
     ghost use Rattle.std.specs.Prelude.{◌≡◌, ◌<◌, ◌^◌, length};
-    ghost use Rattle.rustc_lexer.specs.Pieces.{Left};
+    ghost use Rattle.rustc_lexer.specs.Edits.{Left};
     ghost use Rattle.rustc_lexer.specs.means.Pieces.{AreBoundariesFrom};
 
     ghost Value = { Left };

@@ -7,9 +7,11 @@ use crate::erased::token::Token;
 
 /// A grammar, which tells the first token of each text.
 ///
-/// Contracts see three things of a stepper: its grammar, a number that names the grammar, and how many steps
-/// were taken. Each implementation proves that a first token is not empty, ends between two characters, and
-/// depends on no more than itself and the two characters after it.
+/// A first token is not empty, ends between two characters, and depends on no more than itself and the two characters
+/// after it. A step answers the first token of what it is handed, the same one each time. In Rattle each implementation
+/// proves this; in plain Rust it has to keep it, or the tokens of an edited text are wrong.
+///
+/// Contracts see three things of a stepper: its grammar, a number that names the grammar, and how many steps were taken.
 pub trait Stepper {
     /// The first token of the text.
     fn step(&mut self, rest: &str) -> Token;

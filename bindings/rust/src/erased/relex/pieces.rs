@@ -16,7 +16,8 @@ pub struct Piece<'a> {
     pub text: &'a str,
 }
 
-/// An iterator over the pieces of a text, made by [`LexedText::pieces`] or [`LexedText::pieces_of`].
+/// An iterator over the pieces of a text, made by [`LexedText::pieces`](crate::LexedText::pieces) or
+/// [`LexedText::pieces_of`](crate::LexedText::pieces_of).
 ///
 /// A piece begins where the one before it ended, and its text is the slice of the text there.
 pub struct Pieces<'a> {

@@ -15,8 +15,11 @@ pub(crate) const LONG: usize = 256;
 /// now stands from `start` up to `new_stop` was put in.
 #[derive(Clone, Copy, Debug, PartialEq, Eq)]
 pub struct Change {
+    /// Where the change begins, in both texts.
     pub start: usize,
+    /// Where what was taken out ended, in the old text.
     pub old_stop: usize,
+    /// Where what was put in ends, in the present text.
     pub new_stop: usize,
 }
 

@@ -2,7 +2,7 @@ use Rattle.std.proofs.Common.{ap, length, arith}
 use Rattle.rustc_lexer.specs.declared.edition.Edition.TheVariants.{E2024}
 use Rattle.rustc_lexer.specs.LanguageText.{part}
 use Rattle.rustc_lexer.specs.Tokens.{tokens_of, tokens_left}
-use Rattle.rustc_lexer.specs.Locality.{IsText}
+use Rattle.rustc_lexer.specs.Classes.{IsText}
 use Rattle.rustc_lexer.proofs.PlaceLemmas.{stands_past}
 use Rattle.examples.proofs.ArrivingLemmas.{taken_more, taken_up_to, rises_now}
 use Rattle.examples.proofs.arriving.first_tokens.Goals as goal

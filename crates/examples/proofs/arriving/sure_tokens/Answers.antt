@@ -1,6 +1,6 @@
 use Rattle.rustc_lexer.specs.declared.edition.Edition.TheVariants.{E2024}
 use Rattle.rustc_lexer.specs.LanguageText.{part}
-use Rattle.rustc_lexer.specs.Locality.{IsText}
+use Rattle.rustc_lexer.specs.Classes.{IsText}
 use Rattle.rustc_lexer.specs.laws.Tokens.{partitions}
 use Rattle.examples.proofs.ArrivingLemmas.{gives_first, settled_boundary}
 use Rattle.examples.proofs.arriving.sure_tokens.Goals as goal

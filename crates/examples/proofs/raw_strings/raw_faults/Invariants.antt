@@ -1,5 +1,5 @@
 use Rattle.std.proofs.Common.{◌≡◌, ◌++◌}
-use Rattle.rustc_lexer.specs.Pieces.{pieces_from, pieces_of}
+use Rattle.rustc_lexer.specs.Edits.{pieces_from, pieces_of}
 use Rattle.rustc_lexer.specs.declared.edition.Edition.TheVariants.{E2024}
 use Rattle.rustc_lexer.specs.LanguageText.{document}
 use Rattle.rustc_lexer.specs.State.{StandsAt}

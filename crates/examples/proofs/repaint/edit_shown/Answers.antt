@@ -1,5 +1,5 @@
 use Rattle.std.proofs.Common.{sym, ap, ◌∙◌, arith, length, subst}
-use Rattle.rustc_lexer.specs.Locality.{IsText}
+use Rattle.rustc_lexer.specs.Classes.{IsText}
 use Rattle.rustc_lexer.proofs.BoundLemmas.{tokens_le_bytes}
 use Rattle.examples.proofs.RepaintLemmas.{enough_for}
 use Rattle.examples.proofs.repaint.edit_shown.Goals as goal

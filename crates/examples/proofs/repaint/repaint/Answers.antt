@@ -1,6 +1,6 @@
 use Rattle.std.proofs.Common.{◌≡◌, ◌-◌, List, take, drop, length, refl, ap, ◌∙◌, subst, arith}
 use Rattle.std.specs.Fmt.{WritesInCalls}
-use Rattle.rustc_lexer.specs.Pieces.{Left, Placed, pieces_left, pieces_of, placed}
+use Rattle.rustc_lexer.specs.Edits.{Left, Placed, pieces_left, pieces_of, placed}
 use Rattle.examples.specs.Highlight.{with_marks}
 use Rattle.examples.specs.Repaint.{marked}
 use Rattle.examples.proofs.RepaintLemmas.{paints_piece}

@@ -2,7 +2,7 @@ use Rattle.std.proofs.Common.{◌≡◌, ◌++◌, length, map}
 use Rattle.rustc_lexer.specs.LanguageText.{part}
 use Rattle.rustc_lexer.specs.State.{StandsAt}
 use Rattle.rustc_lexer.specs.Tokens.{tokens_of, tokens_left}
-use Rattle.rustc_lexer.specs.Pieces.{pieces_from, pieces_of}
+use Rattle.rustc_lexer.specs.Edits.{pieces_from, pieces_of}
 use Rattle.examples.specs.Split.{texts_of}
 use Rattle.examples.proofs.split.split_in.Given as goal
 

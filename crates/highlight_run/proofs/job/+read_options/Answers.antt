@@ -1,7 +1,7 @@
 use Rattle.std.proofs.Common.{◌∙◌, List, ℕ, ap, sym}
 use Rattle.std.specs.Prelude.{codes}
 use Rattle.std.specs.Str.{bytes_eq}
-use Rattle.rustc_lexer.specs.LanguageIn.{edition_of}
+use Rattle.rustc_lexer.specs.LanguageText.{edition_of}
 use Rattle.highlight_run.specs.Job.{when_of}
 use Rattle.highlight_run.proofs.JobLemmas.{page_at, edition_at, colours_at}
 use Rattle.highlight_run.proofs.job.+read_options.Goals as goal

@@ -1,7 +1,7 @@
 use Rattle.std.proofs.Common.{ap, ◌∙◌}
 use Rattle.std.proofs.lemmas.Result.{err_from_is_err_and}
-use Rattle.rustc_lexer.specs.Pieces.{Left, pieces_left, placed}
-use Rattle.lexdump_run.proofs.PieceLemmas.{pieces_start, pieces_step, pieces_front, pieces_end}
+use Rattle.rustc_lexer.specs.Edits.{Left, pieces_left, placed}
+use Rattle.lexdump_run.proofs.PieceLemmas.{pieces_start, pieces_step, pieces_stopped, pieces_end}
 use Rattle.lexdump_run.proofs.listing.list_pieces.Goals as goal
 
 pub loop-piece-init : goal.loop-piece-init
@@ -13,7 +13,7 @@ loop-piece-preserved g c = (c.in_ok-push_line.ensures.failed, pieces_step _ _ _ 
 pub returns-in_err-push_line-clause-pushed : goal.returns-in_err-push_line-clause-pushed
 returns-in_err-push_line-clause-pushed g c =
     let p = err_from_is_err_and c.from_residual.result c.from_residual.ensures.1 in
-    rw (p.1, p.2) (c.in_err-push_line.ensures.pushed.0, pieces_front _ _ _ _ _ _ _ _ (placed c.in-Some.piece) c.loop-piece.invariant.1 c.in-Some.ensures.steps.first c.in_err-push_line.ensures.pushed.1)
+    rw (p.1, p.2) (c.in_err-push_line.ensures.pushed.0, pieces_stopped _ _ _ _ _ _ _ _ (placed c.in-Some.piece) c.loop-piece.invariant.1 c.in-Some.ensures.steps.first _ c.in_err-push_line.ensures.pushed.1)
 
 pub returns-clause-pushed : goal.returns-clause-pushed
 returns-clause-pushed g c = pieces_end _ _ _ _ _ _ c.loop-piece.invariant.1 c.in-None.ensures.steps.0

@@ -1,5 +1,5 @@
 use Rattle.std.proofs.Common.{◌≡◌, false, length}
-use Rattle.rustc_lexer.specs.Pieces.{pieces_left}
+use Rattle.rustc_lexer.specs.Edits.{pieces_left}
 use Rattle.lexdump_run.proofs.PieceLemmas.{ListsPieces}
 use Rattle.lexdump_run.proofs.listing.list_pieces.Given as goal
 

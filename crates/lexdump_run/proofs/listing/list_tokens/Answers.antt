@@ -3,7 +3,7 @@ use Rattle.std.proofs.lemmas.Result.{err_from_is_err_and}
 use Rattle.rustc_lexer.specs.State.{State}
 use Rattle.rustc_lexer.specs.Tokens.{tokens_left}
 use Rattle.rustc_lexer.proofs.BlockLemmas.{filled_front}
-use Rattle.lexdump_run.proofs.ListingLemmas.{none_left, rooms_start, rooms_fit, rooms_step, rooms_front, rooms_end}
+use Rattle.lexdump_run.proofs.ListingLemmas.{none_left, rooms_start, rooms_fit, rooms_step, rooms_stopped, rooms_end}
 use Rattle.lexdump_run.proofs.listing.list_tokens.Goals as goal
 
 pub left-init : goal.left-init
@@ -26,7 +26,7 @@ returns-in_err-push_lines-clause-pushed g c =
     let p = err_from_is_err_and c.from_residual.result c.from_residual.ensures.1 in
     let front = filled_front (tokens_left c.left.tokens) c.left.room c.fill-count.new.room c.fill-count.result c.fill-count.ensures.filled in
     let start : length c.args.text.now - length c.as_str-in-left.result.now ≡ length c.args.text.now - length c.left.tokens.rest = ap (λ (xs : List ℕ). length c.args.text.now - length xs) c.as_str-in-left.ensures.rest in
-    rw (p.1, p.2) (c.in_err-push_lines.ensures.pushed.0, rooms_front _ _ _ _ _ _ _ _ _ _ _ c.left.invariant.1 start front.few front.front _ c.in_err-push_lines.ensures.pushed.1)
+    rw (p.1, p.2) (c.in_err-push_lines.ensures.pushed.0, rooms_stopped _ _ _ _ _ _ _ _ _ _ _ c.left.invariant.1 start front.few front.front _ _ c.in_err-push_lines.ensures.pushed.1)
 
 pub returns-clause-pushed : goal.returns-clause-pushed
 returns-clause-pushed g c =

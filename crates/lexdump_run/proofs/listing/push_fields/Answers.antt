@@ -13,7 +13,7 @@ returns-in_err-push_field-clause-pushed g c =
     let third : List ℕ = field_text c.fields.result.2 in
     let end : List ℕ = 10 ∷ [] in
     let all : List ℕ = fields_text c.args.kind ++ end in
-    rw (p.1, p.2) (pushes_first (g.W.Write.contents c.args.output.now.inner) (g.W.Write.contents c.push_field.new.output.inner) c.args.lines.now [] [] first (second ++ (third ++ end)) all _ (three-fields first second third end (fields_text c.args.kind) c.fields.ensures) c.in_err-push_field.ensures.pushed)
+    rw (p.1, p.2) (pushes_first (g.W.Write.contents c.args.output.now.inner) (g.W.Write.contents c.push_field.new.output.inner) c.args.lines.now c.push_field.new.lines first (second ++ (third ++ end)) all _ (three-fields first second third end (fields_text c.args.kind) c.fields.ensures) c.in_err-push_field.ensures.pushed)
 
 pub returns-in_err-push_field-2-clause-pushed : goal.returns-in_err-push_field-2-clause-pushed
 returns-in_err-push_field-2-clause-pushed g c =
@@ -23,8 +23,8 @@ returns-in_err-push_field-2-clause-pushed g c =
     let third : List ℕ = field_text c.fields.result.2 in
     let end : List ℕ = 10 ∷ [] in
     let all : List ℕ = fields_text c.args.kind ++ end in
-    rw (p.1, p.2) (pushes_both (g.W.Write.contents c.args.output.now.inner) (g.W.Write.contents c.push_field.new.output.inner) (g.W.Write.contents c.push_field-2.new.output.inner) c.args.lines.now c.push_field.new.lines [] first (second ++ (third ++ end)) all (Err c.in_err-push_field-2.field-0.0) (three-fields first second third end (fields_text c.args.kind) c.fields.ensures) c.in_ok-push_field.ensures.pushed
-    (pushes_first (g.W.Write.contents c.push_field.new.output.inner) (g.W.Write.contents c.push_field-2.new.output.inner) c.push_field.new.lines [] [] second (third ++ end) (second ++ (third ++ end)) _ refl c.in_err-push_field-2.ensures.pushed))
+    rw (p.1, p.2) (pushes_both (g.W.Write.contents c.args.output.now.inner) (g.W.Write.contents c.push_field.new.output.inner) (g.W.Write.contents c.push_field-2.new.output.inner) c.args.lines.now c.push_field.new.lines c.push_field-2.new.lines first (second ++ (third ++ end)) all (Err c.in_err-push_field-2.field-0.0) (three-fields first second third end (fields_text c.args.kind) c.fields.ensures) c.in_ok-push_field.ensures.pushed
+    (pushes_first (g.W.Write.contents c.push_field.new.output.inner) (g.W.Write.contents c.push_field-2.new.output.inner) c.push_field.new.lines c.push_field-2.new.lines second (third ++ end) (second ++ (third ++ end)) _ refl c.in_err-push_field-2.ensures.pushed))
 
 pub returns-in_err-push_field-3-clause-pushed : goal.returns-in_err-push_field-3-clause-pushed
 returns-in_err-push_field-3-clause-pushed g c =
@@ -34,9 +34,9 @@ returns-in_err-push_field-3-clause-pushed g c =
     let third : List ℕ = field_text c.fields.result.2 in
     let end : List ℕ = 10 ∷ [] in
     let all : List ℕ = fields_text c.args.kind ++ end in
-    rw (p.1, p.2) (pushes_both (g.W.Write.contents c.args.output.now.inner) (g.W.Write.contents c.push_field.new.output.inner) (g.W.Write.contents c.push_field-3.new.output.inner) c.args.lines.now c.push_field.new.lines [] first (second ++ (third ++ end)) all (Err c.in_err-push_field-3.field-0.0) (three-fields first second third end (fields_text c.args.kind) c.fields.ensures) c.in_ok-push_field.ensures.pushed
-    (pushes_both (g.W.Write.contents c.push_field.new.output.inner) (g.W.Write.contents c.push_field-2.new.output.inner) (g.W.Write.contents c.push_field-3.new.output.inner) c.push_field.new.lines c.push_field-2.new.lines [] second (third ++ end) (second ++ (third ++ end)) (Err c.in_err-push_field-3.field-0.0) refl c.in_ok-push_field-2.ensures.pushed
-    (pushes_first (g.W.Write.contents c.push_field-2.new.output.inner) (g.W.Write.contents c.push_field-3.new.output.inner) c.push_field-2.new.lines [] [] third end (third ++ end) _ refl c.in_err-push_field-3.ensures.pushed)))
+    rw (p.1, p.2) (pushes_both (g.W.Write.contents c.args.output.now.inner) (g.W.Write.contents c.push_field.new.output.inner) (g.W.Write.contents c.push_field-3.new.output.inner) c.args.lines.now c.push_field.new.lines c.push_field-3.new.lines first (second ++ (third ++ end)) all (Err c.in_err-push_field-3.field-0.0) (three-fields first second third end (fields_text c.args.kind) c.fields.ensures) c.in_ok-push_field.ensures.pushed
+    (pushes_both (g.W.Write.contents c.push_field.new.output.inner) (g.W.Write.contents c.push_field-2.new.output.inner) (g.W.Write.contents c.push_field-3.new.output.inner) c.push_field.new.lines c.push_field-2.new.lines c.push_field-3.new.lines second (third ++ end) (second ++ (third ++ end)) (Err c.in_err-push_field-3.field-0.0) refl c.in_ok-push_field-2.ensures.pushed
+    (pushes_first (g.W.Write.contents c.push_field-2.new.output.inner) (g.W.Write.contents c.push_field-3.new.output.inner) c.push_field-2.new.lines c.push_field-3.new.lines third end (third ++ end) _ refl c.in_err-push_field-3.ensures.pushed)))
 
 pub returns-clause-pushed : goal.returns-clause-pushed
 returns-clause-pushed g c =

@@ -9,7 +9,7 @@ pub returns-in_err-push_place-clause-pushed : goal.returns-in_err-push_place-cla
 returns-in_err-push_place-clause-pushed g c =
     let p = err_from_is_err_and c.from_residual.result c.from_residual.ensures.1 in
     let rest : List ℕ = kind_name c.args.token.kind ++ (fields_text c.args.token.kind ++ 10 ∷ []) in
-    rw (p.1, p.2) (pushes_first (g.W.Write.contents c.args.output.now.inner) (g.W.Write.contents c.push_place.new.output.inner) c.args.lines.now [] [] (place_text c.args.start c.args.token.len) rest (line_text c.args.start c.args.token) _ (line-is c.args.start c.args.token rest refl)
+    rw (p.1, p.2) (pushes_first (g.W.Write.contents c.args.output.now.inner) (g.W.Write.contents c.push_place.new.output.inner) c.args.lines.now c.push_place.new.lines (place_text c.args.start c.args.token.len) rest (line_text c.args.start c.args.token) _ (line-is c.args.start c.args.token rest refl)
     c.in_err-push_place.ensures.pushed)
 
 pub returns-in-Line-clause-pushed : goal.returns-in-Line-clause-pushed
@@ -22,9 +22,9 @@ returns-in_err-push-in-Name-clause-pushed g c =
     let p = err_from_is_err_and c.from_residual-in_err-push-in-Name.result c.from_residual-in_err-push-in-Name.ensures.1 in
     let name : List ℕ = c.in-Name.name.now in
     let fields : List ℕ = fields_text c.args.token.kind ++ 10 ∷ [] in
-    rw (p.1, p.2) (pushes_both (g.W.Write.contents c.args.output.now.inner) (g.W.Write.contents c.push_place.new.output.inner) (g.W.Write.contents c.push-in-Name.new.output.inner) c.args.lines.now c.push_place.new.lines [] (place_text c.args.start c.args.token.len) (name ++ fields) (line_text c.args.start c.args.token) (Err c.in_err-push-in-Name.field-0.0)
+    rw (p.1, p.2) (pushes_both (g.W.Write.contents c.args.output.now.inner) (g.W.Write.contents c.push_place.new.output.inner) (g.W.Write.contents c.push-in-Name.new.output.inner) c.args.lines.now c.push_place.new.lines c.push-in-Name.new.self (place_text c.args.start c.args.token.len) (name ++ fields) (line_text c.args.start c.args.token) (Err c.in_err-push-in-Name.field-0.0)
     (line-is c.args.start c.args.token (name ++ fields) (ap (λ xs. xs ++ fields) c.in-Name.ensures)) c.in_ok-push_place.ensures.pushed
-    (pushes_first (g.W.Write.contents c.push_place.new.output.inner) (g.W.Write.contents c.push-in-Name.new.output.inner) c.push_place.new.lines [] [] name fields (name ++ fields) _ refl c.in_err-push-in-Name.ensures.pushed))
+    (pushes_first (g.W.Write.contents c.push_place.new.output.inner) (g.W.Write.contents c.push-in-Name.new.output.inner) c.push_place.new.lines c.push-in-Name.new.self name fields (name ++ fields) _ refl c.in_err-push-in-Name.ensures.pushed))
 
 pub returns-in_ok-push-in-Name-clause-pushed : goal.returns-in_ok-push-in-Name-clause-pushed
 returns-in_ok-push-in-Name-clause-pushed g c =

@@ -8,7 +8,7 @@ use Rattle.rustc_lexer.specs.means.Edition.{changed, first_token_in}
 use Rattle.rustc_lexer.specs.Tokens.{bound, tokens_of}
 use Rattle.rustc_lexer.specs.LanguageText.{part}
 use Rattle.rustc_lexer.specs.means.Ends.{told, AreEndsPast, IsEnds, IsLowest, StaysWithin}
-use Rattle.rustc_lexer.specs.Locality.{IsText}
+use Rattle.rustc_lexer.specs.Classes.{IsText}
 use Rattle.rustc_lexer.specs.laws.Edition.{edition_grammar}
 use Rattle.rustc_lexer.proofs.BitLemmas.{lowest, below-lowest}
 use Rattle.rustc_lexer.proofs.BulkLemmas.{IsWritten, begun_more, none_written, one_written, stands, next_token, next_place, next_some, written_to}

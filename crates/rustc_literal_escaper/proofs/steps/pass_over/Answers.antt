@@ -1,20 +1,9 @@
-use Rattle.std.proofs.Common.{arith}
 use Rattle.std.specs.Str.{chars}
-use Rattle.rustc_literal_escaper.proofs.PlaceLemmas.{passing-start, passing-on, passing-end}
+use Rattle.rustc_literal_escaper.proofs.PlaceLemmas.{past-line}
 use Rattle.rustc_literal_escaper.proofs.steps.pass_over.Goals as goal
 
-pub passed-init : goal.passed-init
-passed-init c = (c.utf8.line, passing-start _, omega arith)
+pub returns-in-Some-clause-newline : goal.returns-in-Some-clause-newline
+returns-in-Some-clause-newline c = (past-line (chars c.args.line.now) (chars c.past_blanks-left.result.now) (chars c.in-Some.next.now) (chars c.past_space.result.now) (c.past_blanks-left.ensures.newline, c.past_blanks-left.ensures.past, c.past_blanks-left.ensures.stops) c.in-Some.ensures.0 c.past_space.ensures.left).0
 
-pub passed-preserved : goal.passed-preserved
-passed-preserved c = (
-  c.in-Some.ensures.3,
-  passing-on _ _ (chars c.in-Some.tail.now) _ c.in-Some.c c.passed.invariant.1 c.in-Some.ensures.0 c.in-Some.ensures.1,
-  let l = c.in-Some.ensures.2 in let m = c.passed.invariant.2 in omega arith,
-)
-
-pub returns-clause-newline : goal.returns-clause-newline
-returns-clause-newline c = (passing-end _ _ _ c.passed.invariant.1 c.in_default.ensures).0
-
-pub returns-clause-left : goal.returns-clause-left
-returns-clause-left c = (passing-end _ _ _ c.passed.invariant.1 c.in_default.ensures).1
+pub returns-in-Some-clause-left : goal.returns-in-Some-clause-left
+returns-in-Some-clause-left c = (past-line (chars c.args.line.now) (chars c.past_blanks-left.result.now) (chars c.in-Some.next.now) (chars c.past_space.result.now) (c.past_blanks-left.ensures.newline, c.past_blanks-left.ensures.past, c.past_blanks-left.ensures.stops) c.in-Some.ensures.0 c.past_space.ensures.left).1

@@ -1,12 +1,9 @@
 use Rattle.std.proofs.Common.{◌≡◌, List, [], ◌∷◌, length, ℕ, sym, subst, refl, arith}
 use Rattle.std.specs.List.{FoldsTo}
+use Rattle.std.proofs.lemmas.List.{nil_from_length}
 use Rattle.rustc_literal_escaper.specs.Plain.{plain_items}
 use Rattle.rustc_literal_escaper.proofs.strings.each_simple.Goals as goal
 
-empty : (bytes : List ℕ) → length bytes ≡ 0 → bytes ≡ []
-empty [] e = refl
-empty (b ∷ bs) e = absurd (omega arith)
-
 pub returns-clause-calls : goal.returns-clause-calls
 returns-clause-calls g c =
-    c.run.invariant.3 c.run.callback (subst (λ (bytes : List ℕ). FoldsTo (λ f item h. goal.F-step g f item.0 (g.M.Meaning.meaning item.1) tt h) c.run.callback (plain_items c.args.end bytes) c.run.callback) (sym (empty c.run.left.now c.in_default.ensures.cases)) refl)
+    c.run.invariant.3 c.run.callback (subst (λ (bytes : List ℕ). FoldsTo (λ f item h. goal.F-step g f item.0 (g.M.Meaning.meaning item.1) tt h) c.run.callback (plain_items c.args.end bytes) c.run.callback) (sym (nil_from_length c.run.left.now c.in_default.ensures.cases)) refl)

@@ -1,4 +1,4 @@
-use Rattle.std.proofs.Common.{◌≤◌, length}
+use Rattle.std.proofs.Common.{◌≤◌, false, length}
 use Rattle.std.specs.List.{FoldsTo}
 use Rattle.std.specs.Str.{chars}
 use denote.Text.{Utf8}
@@ -12,7 +12,7 @@ invariant-items g l =
     shadow (Utf8 l.left)
     × goal.F-IsAlwaysCallable g l.callback
     × (length l.left ≤ l.total)
-    × ((last : _) → FoldsTo (λ f item h. goal.F-step g f item.0 (g.M.Meaning.meaning item.1) tt h) l.callback (items_from (front_by l.raw) l.total (chars l.left)) last → FoldsTo (λ f item h. goal.F-step g f item.0 (g.M.Meaning.meaning item.1) tt h) l.fn.callback (items_from (front_by l.raw) l.total (chars l.fn.rest)) last)
+    × ((last : _) → FoldsTo (λ f item h. goal.F-step g f item.0 (g.M.Meaning.meaning item.1) tt h) l.callback (items_from (front_by false) l.total (chars l.left)) last → FoldsTo (λ f item h. goal.F-step g f item.0 (g.M.Meaning.meaning item.1) tt h) l.fn.callback (items_from (front_by false) l.total (chars l.fn.rest)) last)
 
 abbrev pub decreases-items : goal.decreases-items
 decreases-items g l = length l.left

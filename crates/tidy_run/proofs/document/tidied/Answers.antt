@@ -1,5 +1,5 @@
 use Rattle.std.proofs.Common.{length, ap, sym, ◌∙◌, arith}
-use Rattle.rustc_lexer.specs.Locality.{IsText}
+use Rattle.rustc_lexer.specs.Classes.{IsText}
 use Rattle.tidy_run.proofs.DocumentLemmas.{room, document-law, full-law}
 use Rattle.tidy_run.proofs.document.tidied.Goals as goal
 

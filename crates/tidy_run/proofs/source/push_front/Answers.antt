@@ -2,7 +2,7 @@ use Rattle.std.proofs.Common.{◌≡◌, arith, ◌<◌, ◌^◌, ◌++◌, List
 use Rattle.tidy_run.specs.Order.{is_front, begins_with}
 use Rattle.rustc_lexer.specs.declared.edition.Edition.TheVariants.{E2024}
 use Rattle.rustc_lexer.specs.LanguageText.{document}
-use Rattle.rustc_lexer.specs.Locality.{IsText}
+use Rattle.rustc_lexer.specs.Classes.{IsText}
 use Rattle.rustc_lexer.specs.Tokens.{tokens_of}
 use Rattle.tidy_run.proofs.CallLemmas.{on_ok_is}
 use Rattle.tidy_run.proofs.FirstLemmas.{first-is, made-fits, front-made}

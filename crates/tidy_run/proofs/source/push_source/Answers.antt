@@ -1,5 +1,5 @@
 use Rattle.std.proofs.Common.{◌≡◌, arith, true, string_bytes, sym, ◌∙◌}
-use Rattle.rustc_lexer.specs.Locality.{IsText}
+use Rattle.rustc_lexer.specs.Classes.{IsText}
 use Rattle.tidy_run.specs.Order.{is_space}
 use Rattle.tidy_run.proofs.CallLemmas.{on_ok_then}
 use Rattle.tidy_run.proofs.FirstLemmas.{first-is, space-first}

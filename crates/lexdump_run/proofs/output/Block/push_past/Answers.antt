@@ -1,5 +1,11 @@
-use Rattle.lexdump_run.proofs.PushLemmas.{pushes_past}
+use Rattle.std.proofs.lemmas.Result.{err_from_is_err_and}
+use Rattle.lexdump_run.proofs.PushLemmas.{pushes_held, pushes_past}
 use Rattle.lexdump_run.proofs.output.Block.push_past.Goals as goal
+
+pub returns-in_err-write_out-clause-pushed : goal.returns-in_err-write_out-clause-pushed
+returns-in_err-write_out-clause-pushed g c =
+    let p = err_from_is_err_and c.from_residual.result c.from_residual.ensures.1 in
+    rw (p.1, p.2) (pushes_held _ _ _ _ _ _ c.in_err-write_out.ensures.kept c.in_err-write_out.ensures.only c.in_err-write_out.ensures.err)
 
 pub returns-then-bytes-gt-BLOCK-clause-pushed : goal.returns-then-bytes-gt-BLOCK-clause-pushed
 returns-then-bytes-gt-BLOCK-clause-pushed g c =

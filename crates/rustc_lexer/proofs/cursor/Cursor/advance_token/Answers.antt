@@ -4,7 +4,7 @@ use Rattle.rustc_lexer.specs.declared.edition.Edition.TheVariants.{E2024}
 use Rattle.rustc_lexer.specs.LanguageText.{mode_of}
 use Rattle.rustc_lexer.specs.State.{State, token_past}
 use Rattle.rustc_lexer.specs.means.Taking.{token_at}
-use Rattle.rustc_lexer.specs.Locality.{IsText}
+use Rattle.rustc_lexer.specs.Classes.{IsText}
 use Rattle.rustc_lexer.proofs.AdvanceLemmas.{not_end, takes_pending, stays_at_end, something}
 use Rattle.rustc_lexer.proofs.LanguageTextLemmas.{takes-first}
 use Rattle.rustc_lexer.specs.laws.State.{state, past_token, past_token-is, advance-end, advance-some}

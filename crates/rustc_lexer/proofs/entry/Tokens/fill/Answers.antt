@@ -1,7 +1,7 @@
 use Rattle.std.proofs.Common.{◌≡◌, length, drop, refl, ap, subst, ◌∙◌}
 use Rattle.rustc_lexer.specs.LanguageText.{Mode, mode_edition, mode_in}
 use Rattle.rustc_lexer.specs.State.{State}
-use Rattle.rustc_lexer.specs.Locality.{IsText}
+use Rattle.rustc_lexer.specs.Classes.{IsText}
 use Rattle.rustc_lexer.specs.Tokens.{tokens_left}
 use Rattle.rustc_lexer.specs.laws.Edition.{edition_grammar}
 use Rattle.rustc_lexer.proofs.BulkLemmas.{edition-held, edition-stays, part-left, filled_all, fills, shorter_left}

@@ -1,6 +1,5 @@
 use Rattle.std.proofs.Common.{◌≡◌, ◌-◌, drop, length}
-use Rattle.rustc_lexer.specs.Bulk.{state_past}
-use Rattle.rustc_lexer.specs.Tokens.{bound, tokens_left}
+use Rattle.rustc_lexer.specs.Tokens.{state_past, bound, tokens_left}
 use Rattle.rustc_lexer.proofs.BulkLemmas.{IsWritten}
 use Rattle.rustc_lexer.proofs.entry.Tokens.fill_singly.Given as goal
 

@@ -9,7 +9,7 @@ use Rattle.rustc_lexer.specs.declared.token.Token.{Token}
 use Rattle.rustc_lexer.specs.Tokens.{tokens_by}
 use Rattle.rustc_lexer.specs.Edits.{IsEdit, IsInside, apply}
 use Rattle.rustc_lexer.specs.Relexing.{IsBound, IsMadeOf}
-use Rattle.rustc_lexer.specs.Locality.{IsText}
+use Rattle.rustc_lexer.specs.Classes.{IsText}
 use Rattle.rustc_lexer.specs.means.Landmarks.{AreBounds}
 use Rattle.rustc_lexer.proofs.EditLemmas.{put_back}
 use Rattle.rustc_lexer.proofs.RelexingLemmas.{made_for, made_change, made_text}

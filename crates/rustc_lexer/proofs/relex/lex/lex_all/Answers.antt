@@ -1,6 +1,6 @@
 use Rattle.std.proofs.Common.{◌≡◌, ◌<◌, length, length-append, take, refl, sym, ap, ◌∙◌, arith, rules}
 use Rattle.rustc_lexer.specs.Tokens.{bound, tokens_by}
-use Rattle.rustc_lexer.specs.Locality.{IsText}
+use Rattle.rustc_lexer.specs.Classes.{IsText}
 use Rattle.rustc_lexer.proofs.BlockLemmas.{block_more}
 use Rattle.rustc_lexer.proofs.ProgressLemmas.{lexed_place, lexed_whole}
 use Rattle.rustc_lexer.proofs.relex.lex.lex_all.Goals as goal

@@ -1,5 +1,5 @@
 use Rattle.std.proofs.Common.{sym, ◌∙◌, refl}
-use Rattle.rustc_lexer.specs.Locality.{IsText}
+use Rattle.rustc_lexer.specs.Classes.{IsText}
 use Rattle.rustc_lexer.proofs.ProgressLemmas.{lexed_place, stepped}
 use Rattle.rustc_lexer.proofs.SettledLemmas.{sure_start, sure_next, sure_end, sure_stop, next_boundary}
 use Rattle.rustc_lexer.proofs.relex.settle.settled_by.Goals as goal

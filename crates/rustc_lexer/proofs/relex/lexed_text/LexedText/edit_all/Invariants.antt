@@ -1,6 +1,6 @@
 use Rattle.std.proofs.Common.{◌≡◌, ◌+◌, take}
 use Rattle.rustc_lexer.specs.Tokens.{tokens_by}
-use Rattle.rustc_lexer.specs.EditLists.{apply_list, AreEdits, lexed_list}
+use Rattle.rustc_lexer.specs.Edits.{apply_list, AreEdits, lexed_list}
 use Rattle.rustc_lexer.proofs.relex.lexed_text.LexedText.edit_all.Given as goal
 
 abbrev pub invariant-loop-at : goal.invariant-loop-at

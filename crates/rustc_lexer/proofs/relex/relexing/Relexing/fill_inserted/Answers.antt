@@ -1,8 +1,7 @@
 use Rattle.std.proofs.Common.{◌+◌, ◌-◌, ◌++◌, List, ℕ, length, map, take, drop, refl, ap, subst, ◌∙◌, arith}
 use Rattle.rustc_lexer.specs.declared.relex.front.Damage.{Damage}
 use Rattle.rustc_lexer.specs.declared.token.Token.{Token}
-use Rattle.rustc_lexer.specs.Bulk.{IsFilledTo}
-use Rattle.rustc_lexer.specs.Tokens.{bound, tokens_by}
+use Rattle.rustc_lexer.specs.Tokens.{IsFilledTo, bound, tokens_by}
 use Rattle.rustc_lexer.specs.Relexing.{IsFollowed}
 use Rattle.rustc_lexer.proofs.RelexBlockLemmas.{stretch, stands_filled}
 use Rattle.rustc_lexer.proofs.RelexingLemmas.{below_later}

@@ -2,7 +2,7 @@ use Rattle.std.proofs.Common.{ap, sym, subst, ◌≡◌, ◌∙◌, arith, ◌+�
 use Rattle.rustc_lexer.specs.declared.relex.front.Damage.{Damage}
 use Rattle.rustc_lexer.specs.Tokens.{tokens_by}
 use Rattle.rustc_lexer.specs.Relexing.{IsFollowed}
-use Rattle.rustc_lexer.specs.Locality.{IsText}
+use Rattle.rustc_lexer.specs.Classes.{IsText}
 use Rattle.rustc_lexer.proofs.RelexingLemmas.{stands_next, gives_next, below_later, not_over, step_place}
 use Rattle.rustc_lexer.proofs.relex.relexing.Relexing.next.Goals as goal
 

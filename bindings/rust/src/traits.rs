@@ -1,0 +1,33 @@
+//! Traits of `core` that the proved source does not have.
+
+use crate::{Edition, FrontmatterAllowed, Steps};
+use core::fmt;
+
+impl fmt::Debug for FrontmatterAllowed {
+    fn fmt(&self, f: &mut fmt::Formatter<'_>) -> fmt::Result {
+        f.write_str(match self {
+            FrontmatterAllowed::Yes => "Yes",
+            FrontmatterAllowed::No => "No",
+        })
+    }
+}
+
+/// The year, such as `2021`, which `FromStr` reads.
+impl fmt::Display for Edition {
+    fn fmt(&self, f: &mut fmt::Formatter<'_>) -> fmt::Result {
+        self.year().fmt(f)
+    }
+}
+
+/// The steps of [`Steps::new`].
+impl Default for Steps {
+    fn default() -> Steps {
+        Steps::new()
+    }
+}
+
+impl fmt::Debug for Steps {
+    fn fmt(&self, f: &mut fmt::Formatter<'_>) -> fmt::Result {
+        f.debug_struct("Steps").finish_non_exhaustive()
+    }
+}

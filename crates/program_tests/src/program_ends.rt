@@ -1,0 +1,52 @@
+//! Tests of `ends`: an end hands on each answer and stays known to have failed; the words past a name.
+use crate::failing_ends::{BYTES, Script, Turn, WHOLE};
+use crate::words::words_of;
+use ends::{is_closed, past_name, read_all, write_bytes};
+use std::io::{ErrorKind, Read, Write};
+use std::test::Fail;
+
+#[test]
+fn answers_are_handed_on(rt: HostRuntime) {
+    let script = Script {
+        read: Some((1, Turn::Fails(ErrorKind::Interrupted))),
+        write: Some((1, Turn::Fails(ErrorKind::BrokenPipe))),
+        flush: Some(ErrorKind::Other),
+        ..BYTES
+    };
+    let mut input = script.reader(b"ab");
+    let mut piece = [0u8; 4];
+    assert!(rt; matches!(input.read(&mut piece), Ok(1)) && piece[0] == b'a' && !input.failed());
+    let error = input.read(&mut piece).err();
+    assert!(rt; error.is_some_and(|e| e.kind() == ErrorKind::Interrupted) && input.failed());
+    assert!(rt; matches!(input.read(&mut piece), Ok(1)) && piece[0] == b'b' && input.failed());
+    let mut output = script.writer(rt.alloc());
+    assert!(rt; matches!(output.write(b"xy"), Ok(1)) && !output.failed());
+    assert!(rt; output.write(b"y").is_err_and(|e| is_closed(&e)) && output.failed());
+    assert!(rt; output.flush().is_err_and(|e| e.kind() == ErrorKind::Other));
+    assert!(rt; matches!(output.write(b"z"), Ok(1)) && output.flush().is_ok() && output.failed());
+    assert!(rt; output.into_inner().taken.as_slice() == b"xz".as_slice());
+}
+
+#[test]
+fn all_that_is_read_and_written(rt: HostRuntime) -> Result<(), Fail> {
+    let mut input = BYTES.reader(b"ab");
+    assert!(rt;
+        read_all(rt.alloc(), &mut input)?.as_slice() == b"ab".as_slice() && !input.failed()
+    );
+    let mut output = WHOLE.writer(rt.alloc());
+    assert!(rt; write_bytes(&mut output, b"ab") == Ok(()) && !output.failed());
+    let output = output.into_inner();
+    assert!(rt; output.taken.as_slice() == b"ab".as_slice() && output.flushes == 0);
+    Ok(())
+}
+
+#[test]
+fn words_past_the_name(rt: HostRuntime) -> Result<(), Fail> {
+    let args = words_of(rt.alloc(), "name|one|two")?;
+    let words = past_name(rt.alloc(), args.into_iter())?;
+    assert_eq!(rt; words.len(), 2);
+    assert!(rt; words[0].as_str() == "one" && words[1].as_str() == "two");
+    let none = past_name(rt.alloc(), Vec::new(rt.alloc()).into_iter())?;
+    assert!(rt; none.is_empty());
+    Ok(())
+}

@@ -1,0 +1,19 @@
+-- Means, by how the table of emoji is searched.
+use Rattle.std.specs.Prelude.{ℕ, Bool, ◌&&◌, nat_le, nat_lt, if◌then◌else◌, List}
+use Rattle.std.specs.declared.cmp.Ordering.{Ordering}
+use Rattle.std.specs.declared.cmp.Ordering.TheVariants.{Less, Equal, Greater}
+use Rattle.std.specs.List.{list_any}
+
+-- a range of characters, with both its ends
+abbrev pub Range : Type 0
+Range = ℕ × ℕ
+
+abbrev pub is_within : Range → ℕ → Bool
+is_within r c = nat_le r.0 c && nat_le c r.1
+
+abbrev pub in_ranges : List Range → ℕ → Bool
+in_ranges rs c = list_any (λ r. is_within r c) rs
+
+-- where a range lies, seen from the character: before it, after it, or round it
+abbrev pub side : ℕ → Range → Ordering
+side c r = if nat_lt r.1 c then Less else (if nat_lt c r.0 then Greater else Equal)

@@ -1,0 +1,36 @@
+use Rattle.std.proofs.Common.{◌≡◌, ◌-◌, ◌++◌, ◌∷◌, ℕ, List, [], true, length, length-append, refl, sym, subst, ap, ◌∙◌, arith}
+use Rattle.std.specs.Char.{encode_utf8}
+use Rattle.std.specs.List.{FoldsTo}
+use Rattle.std.specs.Str.{chars}
+use Rattle.std.specs.Str.Iter.{chars_rest}
+use denote.Param.Always.{mut_next}
+use Rattle.std.proofs.lemmas.Str.{chars-nil, chars_past_char, length-encode, len_utf8_bounds, IsUtf8-past_char}
+use Rattle.std.proofs.lemmas.List.{nil_from_length}
+use Rattle.rustc_literal_escaper.specs.Elements.{Item, front_by, items_from, raw_element}
+use Rattle.rustc_literal_escaper.proofs.ItemLemmas.{nothing}
+use Rattle.rustc_literal_escaper.proofs.PartLemmas.{first-raw}
+use Rattle.rustc_literal_escaper.proofs.strings.each_raw_char.Goals as goal
+
+pub chars-preserved : goal.chars-preserved
+chars-preserved g c =
+    let text : chars_rest c.chars.chars ≡ encode_utf8 c.in-Some.c ++ chars_rest c.next.new.self = c.in-Some.ensures.steps.0 in (
+      mut_next g.F.FnMut _ _ _ _ _ c.callback.ensures refl c.chars.invariant.0,
+      IsUtf8-past_char _ _ _ c.chars.invariant.1 text,
+      omega (arith, ap length text, length-append (encode_utf8 c.in-Some.c) (chars_rest c.next.new.self), length-encode c.in-Some.c, len_utf8_bounds c.in-Some.c, c.chars.invariant.2),
+      ap (λ (xs : List ℕ). c.args.end - length xs) c.as_str.ensures,
+      λ last calls. c.chars.invariant.4 last
+          (subst (λ (is : List Item). FoldsTo (λ f item h. goal.F-step g f item.0 (g.M.Meaning.meaning item.1) tt h) c.chars.callback is last)
+          (sym (first-raw c.args.end (chars_rest c.chars.chars) (chars_rest c.next.new.self) c.in-Some.c c.chars.invariant.1 (IsUtf8-past_char _ _ _ c.chars.invariant.1 text) (chars_past_char _ _ _ c.chars.invariant.1 text))) (
+            c.callback.new.self,
+            subst (λ (from : ℕ). goal.F-step g c.chars.callback (record { start = from; end = c.args.end - length (chars_rest c.next.new.self) }) (g.M.Meaning.meaning (raw_element c.in-Some.c)) tt c.callback.new.self) c.chars.invariant.3
+                (subst (λ (xs : List ℕ). goal.F-step g c.chars.callback (record { start = c.chars.start; end = c.args.end - length xs }) (g.M.Meaning.meaning (raw_element c.in-Some.c)) tt c.callback.new.self) c.as_str.ensures
+                (subst (λ meant. goal.F-step g c.chars.callback (record { start = c.chars.start; end = c.args.end - length c.as_str.result.now }) meant tt c.callback.new.self) (c.of.ensures ∙ ap g.M.Meaning.meaning c.raw_element.ensures) c.callback.ensures)),
+            calls,
+          )),
+    )
+
+pub returns-clause-calls : goal.returns-clause-calls
+returns-clause-calls g c =
+    let none : items_from (front_by true) c.args.end (chars (chars_rest c.chars.chars)) ≡ [] =
+    ap (λ (xs : List ℕ). items_from (front_by true) c.args.end (chars xs)) (nil_from_length (chars_rest c.chars.chars) c.in_default.ensures.steps.0.0) ∙ (ap (items_from (front_by true) c.args.end) chars-nil ∙ nothing (front_by true) c.args.end) in
+    c.chars.invariant.4 c.chars.callback (subst (λ (is : List Item). FoldsTo (λ f item h. goal.F-step g f item.0 (g.M.Meaning.meaning item.1) tt h) c.chars.callback is c.chars.callback) (sym none) refl)
