@@ -1,7 +1,8 @@
--- The statuses of the program, and why a run stops where what it uses stops.
-use Rattle.std.specs.Prelude.{ℕ}
+-- The statuses of the program and its words, and why a run stops where what it uses stops.
+use Rattle.std.specs.Prelude.{ℕ, ◌++◌, List, Option, Some, codes, decimal}
 use Rattle.ends.specs.declared.reading.ReadStop.{ReadStop}
 use Rattle.ends.specs.declared.reading.ReadStop.TheVariants.{TooLong as TooLongRead, Memory as MemoryRead, Failed}
+use Rattle.erase_run.specs.Texts.{reason_text}
 use Rattle.erase_run.specs.declared.stop.Stop.{Stop}
 use Rattle.erase_run.specs.declared.stop.Stop.TheVariants.{Memory as MemoryStop, Refused as RefusedStop}
 use Rattle.erase.specs.declared.run.Fault.{Fault}
@@ -24,3 +25,13 @@ read_fault Failed = Read
 abbrev pub stop_fault : Stop → Fault
 stop_fault MemoryStop = Memory
 stop_fault (RefusedStop line reason) = Refused line reason
+
+-- what is said of a fault
+abbrev pub fault_text : Fault → Option (List ℕ)
+fault_text Arguments = Some (codes "bad arguments")
+fault_text (Refused line reason) = Some (codes "line " ++ (decimal line ++ (codes ": " ++ reason_text reason)))
+fault_text NotUtf8 = Some (codes "input is not UTF-8")
+fault_text TooLong = Some (codes "input too long")
+fault_text Memory = Some (codes "no memory")
+fault_text Read = Some (codes "read failed")
+fault_text Write = Some (codes "write failed")

@@ -1,4 +1,6 @@
 //! What a run is to do.
+ghost use Rattle.std.specs.Prelude.{◌≡◌, map, string_bytes};
+ghost use Rattle.erase.specs.Job.{has, is_option, job_of};
 
 use erase_run::Target;
 
@@ -10,18 +12,42 @@ pub struct Job {
     pub tells_rules: bool,
 }
 
-/// Reads the words after the program's name: `--program` and `--rules`.
-pub fn read_job(words: &[String]) -> Option<Job> {
-    let mut job = Job {
-        target: Target::Library,
-        tells_rules: false,
-    };
+/// The job that the words after the program's name ask for: `--program` and `--rules`. `None` where another word is among
+/// them.
+pub fn read_job(words: &[String]) -> Option<Job>
+    ensures { result ≡ job_of (map string_bytes words.now) }
+{
     for word in words {
-        match word.as_str() {
-            "--program" => job.target = Target::Program,
-            "--rules" => job.tells_rules = true,
-            _ => return None,
+        if !is_option(word.as_str()) {
+            return None;
         }
     }
-    Some(job)
+    let target = if has(words, "--program") {
+        Target::Program
+    } else {
+        Target::Library
+    };
+    Some(Job {
+        target,
+        tells_rules: has(words, "--rules"),
+    })
+}
+
+/// Whether the word is one of the two options.
+fn is_option(word: &str) -> bool
+    ensures { result ≡ is_option word.now }
+{
+    word == "--program" || word == "--rules"
+}
+
+/// Whether this word is among them.
+fn has(words: &[String], option: &str) -> bool
+    ensures { result ≡ has (map string_bytes words.now) option.now }
+{
+    for word in words {
+        if word.as_str() == option {
+            return true;
+        }
+    }
+    false
 }

@@ -3,7 +3,7 @@ ghost use Rattle.std.specs.Prelude.{◌≡◌, ◌≢◌, ◌↔◌, false, true
 ghost use Rattle.std.specs.Io.KnownBytes.{Appends, Keeps};
 ghost use Rattle.rustc_lexer.specs.Classes.{Fits};
 ghost use Rattle.ends.specs.Known.{AppendsFront};
-ghost use Rattle.erase.specs.Fault.{read_fault, status_of, stop_fault};
+ghost use Rattle.erase.specs.Fault.{fault_text, read_fault, status_of, stop_fault};
 ghost use Rattle.erase.specs.Outcome.{Ends, IsPrinted, IsRefusal};
 ghost use Rattle.erase.specs.declared.run.Fault.TheVariants.{Memory};
 
@@ -50,6 +50,8 @@ impl Fault {
 }
 
 impl fmt::Display for Fault {
+    ghost output = { fault_text };
+
     fn fmt<W: fmt::Write>(&self, f: &mut fmt::Formatter<W>) -> fmt::Result {
         match self {
             Fault::Arguments => f.write_str("bad arguments"),

@@ -1,2 +1,3 @@
 pub mod Erased
 pub mod Fates
+pub mod Texts

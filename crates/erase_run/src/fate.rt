@@ -1,6 +1,7 @@
 //! What becomes of tokens, and the table of what is put in their place.
 ghost use Rattle.std.specs.Prelude.{◌≡◌};
 ghost use Rattle.erase_run.specs.Erased as spec;
+ghost use Rattle.erase_run.specs.Texts.{rule_text};
 
 /// What becomes of a token.
 #[derive(Clone, Copy, Debug, PartialEq, Eq)]
@@ -154,7 +155,9 @@ impl Rule {
     ];
 
     /// The rule as it is told.
-    pub fn text(self) -> &'static str {
+    pub fn text(self) -> &'static str
+        ensures { result.now ≡ rule_text self }
+    {
         match self {
             Rule::Use => "ghost use",
             Rule::Field => "ghost field",

@@ -1,5 +1,6 @@
 //! Why nothing is made of a source.
 ghost use Rattle.std.specs.Prelude.{◌≡◌};
+ghost use Rattle.erase_run.specs.Texts.{reason_text};
 ghost use Rattle.erase_run.specs.declared.stop.Stop.TheVariants.{Memory};
 
 use std::alloc::AllocError;
@@ -50,7 +51,9 @@ pub enum Reason {
 
 impl Reason {
     /// The reason as a part of a sentence.
-    pub fn text(self) -> &'static str {
+    pub fn text(self) -> &'static str
+        ensures { result.now ≡ reason_text self }
+    {
         match self {
             Reason::Bracket => "a bracket without its other",
             Reason::Clause => "a clause with no braces",
