@@ -9,7 +9,7 @@ use core::ops::Range;
 
 /// A text and its tokens, which are always those of lexing the text from its beginning.
 ///
-/// An edit lexes again what it has to, and keeps every other token as it is.
+/// An edit lexes again the tokens about it, and keeps every other as it is.
 ///
 /// ```
 /// use ra_ap_rustc_lexer::LexedText;
