@@ -1,48 +1,68 @@
 -- Hunks that are written one after another.
-use Rattle.std.proofs.Common.{◌≡◌, ℕ, ◌+◌, ◌<◌, Bool, true, false, if◌then◌else◌, List, [], ◌∷◌, ◌++◌, length, take, drop, drop-drop, get_or, codes, refl, sym, ap, ◌∙◌, subst, arith, append_assoc, length-append}
-use Rattle.std.proofs.Math.Seq.{drop-append_seam}
-use Rattle.std.proofs.lemmas.List.{take_more, append-nil}
+use Rattle.std.proofs.Common.{◌≡◌, ℕ, ◌+◌, ◌-◌, ◌<◌, ◌≤◌, Bool, true, false, if◌then◌else◌, List, [], ◌∷◌, ◌++◌, length, min, take, drop, get_or, codes, refl, sym, ap, ◌∙◌, subst, arith, append_assoc, length-append}
+use Rattle.std.proofs.Math.Seq.{take-add}
+use Rattle.std.proofs.lemmas.List.{take_more, take_min, append-nil}
+use Rattle.std.proofs.lemmas.List.Edits.{length-between}
+use Rattle.std.proofs.lemmas.Slice.{between_is}
+use Rattle.std.specs.List.{between}
 use Rattle.tidy_run.specs.declared.diff.Line.{Line}
-use Rattle.tidy_run.specs.Diff.{is_old, is_new, old_lines, new_lines, mark_text, ends_in_newline, line_text, lines_text, AreSame, hunk_text, AreHunks, no_more, hunk, PrintsHunks, lines_of, names_text, IsDiff}
+use Rattle.tidy_run.specs.Diff.{is_old, is_new, old_lines, new_lines, mark_text, ends_in_newline, line_text, lines_text, AreShown, IsHunk, hunk_text, AreHunks, no_more, hunk, PrintsHunks, lines_of, names_text, IsDiff}
 use Rattle.tidy_run.proofs.DiffLemmas.{old-append, new-append}
 
--- of these lines some are left, and what is written needs only their hunks
-pub record Written (before : List ℕ) (lines : List Line) (old new : ℕ) (left : List Line) (now : List ℕ) : Type 0 where
+-- a part that goes to the end at most
+pub part-within : (lines : List Line) (start from end to : ℕ) → start ≡ from → end ≡ min to (length lines) → between start end lines ≡ between from to lines
+part-within lines start from end to begins ends =
+    ap (λ (n : ℕ). between n end lines) begins
+    ∙ (between_is lines from end ∙ (ap (drop from) (ap (λ (n : ℕ). take n lines) ends ∙ take_min to lines) ∙ sym (between_is lines from to)))
+
+-- up to a place in these lines they are written, and what is written needs only the hunks of the others
+pub record Written (before : List ℕ) (lines : List Line) (at : ℕ) (now : List ℕ) : Type 0 where
   pub hunks : List ℕ
   pub is : now ≡ before ++ hunks
-  pub more : (text : List ℕ) → AreHunks old new left text → AreHunks 0 0 lines (hunks ++ text)
+  pub more : (text : List ℕ) → AreHunks lines at text → AreHunks lines 0 (hunks ++ text)
 
-pub none-written : (before : List ℕ) (lines : List Line) → Written before lines 0 0 lines before
+pub none-written : (before : List ℕ) (lines : List Line) → Written before lines 0 before
 none-written before lines = record { hunks = []; is = sym (append-nil before); more = λ text are. are }
 
-pub hunk-written : {before now : List ℕ} {lines left : List Line} {old new : ℕ} (after : List ℕ) (skipped shown rest : List Line) (olds news : ℕ) {next : List Line} → next ≡ rest → Written before lines old new left now → left ≡ skipped ++ (shown ++ rest) → AreSame skipped → 0 < length shown
-    → after ≡ now ++ hunk_text (old + length skipped) (new + length skipped) shown → olds ≡ old + length skipped + length (old_lines shown) → news ≡ new + length skipped + length (new_lines shown) → Written before lines olds news next after
-hunk-written {before} {now} {lines} {left} {old} {new} after skipped shown rest olds news {next} next_is written cut same some is e f = subst (λ (ls : List Line). Written before lines olds news ls after) (sym next_is) record {
+pub hunk-written : {before now : List ℕ} {lines : List Line} {at : ℕ} (after : List ℕ) (start end olds news : ℕ) → Written before lines at now → IsHunk lines at start end
+    → olds ≡ length (old_lines (take start lines)) → news ≡ length (new_lines (take start lines)) → after ≡ now ++ hunk_text olds news (between start end lines) → Written before lines end after
+hunk-written {before} {now} {lines} {at} after start end olds news written is_hunk olds_is news_is is = record {
   hunks = written.hunks ++ text;
-  is = is ∙ (ap (λ (xs : List ℕ). xs ++ text) written.is ∙ append_assoc before written.hunks text);
-  more = λ further are. subst (AreHunks 0 0 lines) (sym (append_assoc written.hunks text further))
-      (written.more (text ++ further) (subst (λ (ls : List Line). AreHunks old new ls (text ++ further)) (sym cut)
-      (hunk skipped shown same some (subst (λ (k : ℕ). AreHunks k (new + length skipped + length (new_lines shown)) rest further) e (subst (λ (k : ℕ). AreHunks olds k rest further) f are)))));
+  is = is ∙ (ap (λ (xs : List ℕ). xs ++ hunk_text olds news (between start end lines)) written.is ∙ (append_assoc before written.hunks _ ∙ ap (λ (xs : List ℕ). before ++ (written.hunks ++ xs)) same));
+  more = λ further are. subst (AreHunks lines 0) (sym (append_assoc written.hunks text further)) (written.more (text ++ further) (hunk start end is_hunk are));
 }
   where
     text : List ℕ
-    text = hunk_text (old + length skipped) (new + length skipped) shown
+    text = hunk_text (length (old_lines (take start lines))) (length (new_lines (take start lines))) (between start end lines)
 
--- what is left past the lines that are shown
-pub next-left : (lines same shown left : List Line) (at next : ℕ) → drop at lines ≡ same ++ (shown ++ left) → next ≡ at + (length same + length shown) → drop next lines ≡ left
-next-left lines same shown left at next cut e =
-    ap (λ (k : ℕ). drop k lines) e
-    ∙ (sym (drop-drop (length same + length shown) at lines)
-    ∙ (ap (drop (length same + length shown)) cut
-    ∙ (sym (drop-drop (length shown) (length same) (same ++ (shown ++ left)))
-    ∙ (ap (drop (length shown)) (drop-append_seam same (shown ++ left)) ∙ drop-append_seam shown left))))
+    same : hunk_text olds news (between start end lines) ≡ text
+    same = ap (λ (k : ℕ). hunk_text k news (between start end lines)) olds_is ∙ ap (λ (k : ℕ). hunk_text (length (old_lines (take start lines))) k (between start end lines)) news_is
 
-pub all-written : {before now : List ℕ} {lines left : List Line} {old new : ℕ} → Written before lines old new left now → AreSame left → PrintsHunks before 0 0 lines now
-all-written written same = record {
+pub all-written : {before now : List ℕ} {lines : List Line} {at : ℕ} → Written before lines at now → AreShown lines at (length lines) false → PrintsHunks before lines now
+all-written written none = record {
   hunks = written.hunks;
-  are = subst (AreHunks 0 0 _) (append-nil written.hunks) (written.more [] (no_more same));
+  are = subst (AreHunks _ 0) (append-nil written.hunks) (written.more [] (no_more none));
   is = written.is;
 }
+
+-- ---- how many lines of each text are passed
+
+take-further : (lines : List Line) (at end : ℕ) → at ≤ end → take end lines ≡ take at lines ++ between at end lines
+take-further lines at end le = ap (λ (n : ℕ). take n lines) (let e : end ≡ at + (end - at) = omega arith in e) ∙ take-add at (end - at) lines
+
+pub old-further : (lines : List Line) (at end past count sum : ℕ) → at ≤ end → past ≡ length (old_lines (take at lines)) → count ≡ length (old_lines (between at end lines)) → sum ≡ past + count → sum ≡ length (old_lines (take end lines))
+old-further lines at end past count sum le p c e =
+    let whole = ap (λ (xs : List Line). length (old_lines xs)) (take-further lines at end le) ∙ (ap length (old-append (take at lines) (between at end lines)) ∙ length-append (old_lines (take at lines)) (old_lines (between at end lines))) in
+    omega arith
+
+pub new-further : (lines : List Line) (at end past count sum : ℕ) → at ≤ end → past ≡ length (new_lines (take at lines)) → count ≡ length (new_lines (between at end lines)) → sum ≡ past + count → sum ≡ length (new_lines (take end lines))
+new-further lines at end past count sum le p c e =
+    let whole = ap (λ (xs : List Line). length (new_lines xs)) (take-further lines at end le) ∙ (ap length (new-append (take at lines) (between at end lines)) ∙ length-append (new_lines (take at lines)) (new_lines (between at end lines))) in
+    omega arith
+
+-- no more than there are lines
+pub few-further : (lines : List Line) (at end past count sum : ℕ) → at ≤ end → end ≤ length lines → past ≤ at → count ≤ length (between at end lines) → sum ≤ past + count → sum ≤ end
+few-further lines at end past count sum le inside few c s = let l = length-between lines at end inside in omega arith
 
 -- ---- lines one after another
 
@@ -101,7 +121,7 @@ line-unended line before mark one two m e f no_is is =
     said = codes "\n\\ No newline at end of file\n"
 
 -- the whole diff
-pub diff-is : (name old new none mid after : List ℕ) (items lines : List Line) → none ≡ [] → mid ≡ none ++ names_text name → lines ≡ items → old_lines items ≡ lines_of old → new_lines items ≡ lines_of new → PrintsHunks mid 0 0 lines after → IsDiff name old new after
+pub diff-is : (name old new none mid after : List ℕ) (items lines : List Line) → none ≡ [] → mid ≡ none ++ names_text name → lines ≡ items → old_lines items ≡ lines_of old → new_lines items ≡ lines_of new → PrintsHunks mid lines after → IsDiff name old new after
 diff-is name old new none mid after items lines e f same olds news printed = record {
   lines = lines;
   hunks = printed.hunks;

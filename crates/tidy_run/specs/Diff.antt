@@ -1,6 +1,6 @@
 -- The diff of two texts: what is to be read from it, and how it is printed.
-use Rattle.std.specs.Prelude.{◌≡◌, ℕ, ◌+◌, ◌-◌, ◌<◌, ◌==◌, Bool, true, false, if◌then◌else◌, List, [], ◌∷◌, ◌++◌, length, codes, decimal, slice_index}
-use Rattle.std.specs.List.{All}
+use Rattle.std.specs.Prelude.{◌≡◌, ℕ, ◌+◌, ◌-◌, ◌<◌, ◌≤◌, ◌==◌, Bool, true, false, not, if◌then◌else◌, List, [], ◌∷◌, ◌++◌, length, take, codes, decimal, slice_index}
+use Rattle.std.specs.List.{between, list_any}
 use Rattle.std.specs.Str.{byte}
 use Rattle.tidy_run.specs.declared.diff.Line.{Line}
 use Rattle.tidy_run.specs.declared.diff.Mark.{Mark}
@@ -39,8 +39,29 @@ abbrev pub new_lines : List Line → List (List ℕ)
 new_lines [] = []
 new_lines (line ∷ lines) = if is_new line.mark then line.text.now ∷ new_lines lines else new_lines lines
 
-abbrev pub AreSame : List Line → Type 0
-AreSame lines = All (λ (line : Line). is_same line.mark ≡ true) lines
+-- ---- which lines are shown
+
+-- one or more of these lines are not the same in both texts
+abbrev pub some_differ : List Line → Bool
+some_differ lines = list_any (λ (line : Line). not (is_same line.mark)) lines
+
+-- the line at this place differs, or one at most three lines away
+abbrev pub is_shown : List Line → ℕ → Bool
+is_shown lines at = some_differ (between (at - 3) (at + 4) lines)
+
+-- each of the lines from one place up to another is shown; with `false`, none is
+abbrev pub AreShown : List Line → ℕ → ℕ → Bool → Type 0
+AreShown lines start end shown = (at : ℕ) → start ≤ at → at < end → is_shown lines at ≡ shown
+
+-- the next hunk from a place has the lines from its start up to its end: they are shown, and those before them are not,
+-- nor is the one behind them, if there is one
+pub record IsHunk (lines : List Line) (at start end : ℕ) : Type 0 where
+  pub after : at ≤ start
+  pub some : start < end
+  pub inside : end ≤ length lines
+  pub skipped : AreShown lines at start false
+  pub shown : AreShown lines start end true
+  pub behind : end < length lines → is_shown lines end ≡ false
 
 -- ---- how lines are printed
 
@@ -75,19 +96,18 @@ head_text old olds new news =
 abbrev pub hunk_text : ℕ → ℕ → List Line → List ℕ
 hunk_text old new shown = head_text old (length (old_lines shown)) new (length (new_lines shown)) ++ lines_text shown
 
--- what is printed of these lines, where so many of each text are before them: of lines that are the same some are left out
-pub data AreHunks : ℕ → ℕ → List Line → List ℕ → Type 0 where
-  no_more : {old new : ℕ} {lines : List Line} → AreSame lines → AreHunks old new lines []
-  hunk : {old new : ℕ} {left : List Line} {text : List ℕ} (skipped shown : List Line)
-      → AreSame skipped
-      → 0 < length shown
-      → AreHunks (old + length skipped + length (old_lines shown)) (new + length skipped + length (new_lines shown)) left text
-      → AreHunks old new (skipped ++ (shown ++ left)) (hunk_text (old + length skipped) (new + length skipped) shown ++ text)
+-- what is printed of the lines from a place on: each line that is shown, in hunks that do not touch
+pub data AreHunks (lines : List Line) : ℕ → List ℕ → Type 0 where
+  no_more : {at : ℕ} → AreShown lines at (length lines) false → AreHunks lines at []
+  hunk : {at : ℕ} {text : List ℕ} (start end : ℕ)
+      → IsHunk lines at start end
+      → AreHunks lines end text
+      → AreHunks lines at (hunk_text (length (old_lines (take start lines))) (length (new_lines (take start lines))) (between start end lines) ++ text)
 
--- hunks of these lines are appended
-pub record PrintsHunks (before : List ℕ) (old new : ℕ) (lines : List Line) (after : List ℕ) : Type 0 where
+-- the hunks of these lines are appended
+pub record PrintsHunks (before : List ℕ) (lines : List Line) (after : List ℕ) : Type 0 where
   pub hunks : List ℕ
-  pub are : AreHunks old new lines hunks
+  pub are : AreHunks lines 0 hunks
   pub is : after ≡ before ++ hunks
 
 -- the name of the file, twice; up to the tab it may have blanks
@@ -101,5 +121,5 @@ pub record IsDiff (name old new text : List ℕ) : Type 0 where
   pub hunks : List ℕ
   pub olds : old_lines lines ≡ lines_of old
   pub news : new_lines lines ≡ lines_of new
-  pub are : AreHunks 0 0 lines hunks
+  pub are : AreHunks lines 0 hunks
   pub is : text ≡ names_text name ++ hunks

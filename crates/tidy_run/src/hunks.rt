@@ -1,20 +1,19 @@
 //! How the diff of two texts is printed.
-ghost use Rattle.std.specs.Prelude.{◌≡◌, ◌+◌, ◌<◌, ◌≤◌, ◌^◌, ◌++◌, IfOk, IfSome, None, OnOk, length, string_bytes, take};
+ghost use Rattle.std.specs.Prelude.{◌≡◌, ◌+◌, ◌<◌, ◌≤◌, ◌^◌, ◌++◌, IfOk, IfSome, None, OnOk, false, length, not, string_bytes};
 ghost use Rattle.tidy_run.specs.Diff as spec;
 
 use crate::diff::{Line, compare};
 use std::alloc::{AllocError, Global};
 use std::fmt::Write;
 
-/// So many lines that are the same are shown before and after one that is not.
+/// A line that is the same is shown where one that differs stands at most so many lines away.
 const CONTEXT: usize = 3;
 
-/// Lines in front that are the same, the lines that are shown after them, and what is left.
+/// Lines that are shown at once: where they begin, and where they end.
 #[derive(Clone, Copy)]
-struct Part<'b, 'a> {
-    same: &'b [Line<'a>],
-    shown: &'b [Line<'a>],
-    left: &'b [Line<'a>],
+struct Hunk {
+    start: usize,
+    end: usize,
 }
 
 /// How many lines of each text are passed.
@@ -46,70 +45,70 @@ fn push_names(name: &str, output: &mut String) -> Result<(), AllocError>
 
 /// Appends the hunks of lines.
 fn push_hunks(lines: &[Line<'_>], output: &mut String) -> Result<(), AllocError>
-    ensures { OnOk result (spec.PrintsHunks (string_bytes output.old) 0 0 lines.now (string_bytes output.new)) }
+    ensures { OnOk result (spec.PrintsHunks (string_bytes output.old) lines.now (string_bytes output.new)) }
 {
     let mut at = 0;
     let mut place = Place { old: 0, new: 0 };
-    'hunks: while let Some(part) = next_part(lines.split_at(at).1) {
+    'hunks: while let Some(hunk) = next_hunk(lines, at) {
+        let skipped = Place::past(&lines[at..hunk.start]);
         let start = Place {
-            old: place.old + part.same.len(),
-            new: place.new + part.same.len(),
+            old: place.old + skipped.old,
+            new: place.new + skipped.new,
         };
-        place = push_hunk(start, part.shown, output)?;
-        at += part.same.len() + part.shown.len();
+        place = push_hunk(start, &lines[hunk.start..hunk.end], output)?;
+        at = hunk.end;
     }
     Ok(())
 }
 
-/// The lines up to and with those that are shown first; `None` where none differ.
-fn next_part<'b, 'a>(lines: &'b [Line<'a>]) -> Option<Part<'b, 'a>>
-    ensures none { result ≡ None → spec.AreSame lines.now }
-    ensures whole { IfSome result (λ part.
-        lines.now ≡ part.same.now ++ (part.shown.now ++ part.left.now)) }
-    ensures len { IfSome result (λ part. length part.same.now
-        + (length part.shown.now + length part.left.now) ≡ length lines.now) }
-    ensures same { IfSome result (λ part. spec.AreSame part.same.now) }
-    ensures some { IfSome result (λ part. 0 < length part.shown.now) }
+/// The next lines from here on that are shown; `None` where none are.
+fn next_hunk(lines: &[Line<'_>], at: usize) -> Option<Hunk>
+    requires { at ≤ length lines.now }
+    ensures none { result ≡ None → spec.AreShown lines.now at (length lines.now) false }
+    ensures hunk { IfSome result (λ hunk. spec.IsHunk lines.now at hunk.start hunk.end) }
 {
-    let first = count_same(lines);
-    if first == lines.len() {
+    let start = run_end(lines, at, false);
+    if start == lines.len() {
         return None;
     }
-    let (same, rest) = lines.split_at(first.saturating_sub(CONTEXT));
-    let (shown, left) = rest.split_at(shown_len(rest));
-    Some(Part { same, shown, left })
+    let end = run_end(lines, start, true);
+    Some(Hunk { start, end })
 }
 
-/// How many lines are shown at once: up to one that differs, with those near it, and so on.
-fn shown_len(lines: &[Line<'_>]) -> usize
+/// Where the lines from here on that are shown end; with `false`, where those end that are not.
+fn run_end(lines: &[Line<'_>], start: usize, shown: bool) -> usize
+    requires { start ≤ length lines.now }
+    ensures after { start ≤ result }
     ensures inside { result ≤ length lines.now }
-    ensures some { 0 < length lines.now → 0 < result }
+    ensures run { spec.AreShown lines.now start result shown }
+    ensures end { result < length lines.now → spec.is_shown lines.now result ≡ not shown }
 {
-    let mut end = 0;
-    'near: while end < lines.len() {
-        let same = count_same(&lines[end..]);
-        if same == lines.len() - end || same > 2 * CONTEXT {
-            break;
-        }
-        end += same + 1;
+    let mut end = start;
+    'run: while end < lines.len() && is_shown(lines, end) == shown {
+        end += 1;
     }
-    lines.len().min(end.saturating_add(CONTEXT))
+    end
 }
 
-/// How many lines in front are the same in both texts.
-fn count_same(lines: &[Line<'_>]) -> usize
-    ensures inside { result ≤ length lines.now }
-    ensures same { spec.AreSame (take result lines.now) }
+/// Whether a line is shown: it differs, or one near it.
+fn is_shown(lines: &[Line<'_>], at: usize) -> bool
+    requires { at < length lines.now }
+    ensures { result ≡ spec.is_shown lines.now at }
 {
-    let mut count = 0;
-    'same: while count < lines.len() && lines[count].mark.is_same() {
-        count += 1;
-    }
-    count
+    let start = at.saturating_sub(CONTEXT);
+    let end = (at + CONTEXT + 1).min(lines.len());
+    some_differ(&lines[start..end])
+}
+
+/// Whether one or more of these lines are not the same in both texts.
+fn some_differ(lines: &[Line<'_>]) -> bool
+    ensures { result ≡ spec.some_differ lines.now }
+{
+    lines.iter().any(|line| !line.mark.is_same())
 }
 
 impl Place {
-    /// The place past these lines, which are the first ones.
+    /// How many of these lines stand in each text.
     fn past(lines: &[Line<'_>]) -> Place
         ensures old { result.old ≡ length (spec.old_lines lines.now) }
         ensures new { result.new ≡ length (spec.new_lines lines.now) }

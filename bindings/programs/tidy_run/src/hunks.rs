@@ -5,15 +5,14 @@ use crate::diff::{Line, compare};
 use rattle_std::alloc::{AllocError, Global};
 use rattle_std::fmt::Write;
 
-/// So many lines that are the same are shown before and after one that is not.
+/// A line that is the same is shown where one that differs stands at most so many lines away.
 const CONTEXT: usize = 3;
 
-/// Lines in front that are the same, the lines that are shown after them, and what is left.
+/// Lines that are shown at once: where they begin, and where they end.
 #[derive(Clone, Copy)]
-struct Part<'b, 'a> {
-    same: &'b [Line<'a>],
-    shown: &'b [Line<'a>],
-    left: &'b [Line<'a>],
+struct Hunk {
+    start: usize,
+    end: usize,
 }
 
 /// How many lines of each text are passed.
@@ -41,52 +40,51 @@ fn push_names(name: &str, output: &mut String) -> Result<(), AllocError> {
 fn push_hunks(lines: &[Line<'_>], output: &mut String) -> Result<(), AllocError> {
     let mut at = 0;
     let mut place = Place { old: 0, new: 0 };
-    while let Some(part) = next_part(lines.split_at(at).1) {
+    while let Some(hunk) = next_hunk(lines, at) {
+        let skipped = Place::past(&lines[at..hunk.start]);
         let start = Place {
-            old: place.old + part.same.len(),
-            new: place.new + part.same.len(),
+            old: place.old + skipped.old,
+            new: place.new + skipped.new,
         };
-        place = push_hunk(start, part.shown, output)?;
-        at += part.same.len() + part.shown.len();
+        place = push_hunk(start, &lines[hunk.start..hunk.end], output)?;
+        at = hunk.end;
     }
     Ok(())
 }
 
-/// The lines up to and with those that are shown first; `None` where none differ.
-fn next_part<'b, 'a>(lines: &'b [Line<'a>]) -> Option<Part<'b, 'a>> {
-    let first = count_same(lines);
-    if first == lines.len() {
+/// The next lines from here on that are shown; `None` where none are.
+fn next_hunk(lines: &[Line<'_>], at: usize) -> Option<Hunk> {
+    let start = run_end(lines, at, false);
+    if start == lines.len() {
         return None;
     }
-    let (same, rest) = lines.split_at(first.saturating_sub(CONTEXT));
-    let (shown, left) = rest.split_at(shown_len(rest));
-    Some(Part { same, shown, left })
+    let end = run_end(lines, start, true);
+    Some(Hunk { start, end })
 }
 
-/// How many lines are shown at once: up to one that differs, with those near it, and so on.
-fn shown_len(lines: &[Line<'_>]) -> usize {
-    let mut end = 0;
-    while end < lines.len() {
-        let same = count_same(&lines[end..]);
-        if same == lines.len() - end || same > 2 * CONTEXT {
-            break;
-        }
-        end += same + 1;
+/// Where the lines from here on that are shown end; with `false`, where those end that are not.
+fn run_end(lines: &[Line<'_>], start: usize, shown: bool) -> usize {
+    let mut end = start;
+    while end < lines.len() && is_shown(lines, end) == shown {
+        end += 1;
     }
-    lines.len().min(end.saturating_add(CONTEXT))
+    end
 }
 
-/// How many lines in front are the same in both texts.
-fn count_same(lines: &[Line<'_>]) -> usize {
-    let mut count = 0;
-    while count < lines.len() && lines[count].mark.is_same() {
-        count += 1;
-    }
-    count
+/// Whether a line is shown: it differs, or one near it.
+fn is_shown(lines: &[Line<'_>], at: usize) -> bool {
+    let start = at.saturating_sub(CONTEXT);
+    let end = (at + CONTEXT + 1).min(lines.len());
+    some_differ(&lines[start..end])
+}
+
+/// Whether one or more of these lines are not the same in both texts.
+fn some_differ(lines: &[Line<'_>]) -> bool {
+    lines.iter().any(|line| !line.mark.is_same())
 }
 
 impl Place {
-    /// The place past these lines, which are the first ones.
+    /// How many of these lines stand in each text.
     fn past(lines: &[Line<'_>]) -> Place {
         let mut old: usize = 0;
         let mut new: usize = 0;
