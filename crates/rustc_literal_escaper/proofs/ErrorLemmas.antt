@@ -1,15 +1,18 @@
 -- The errors of a list of items, one item at a time.
-use Rattle.std.proofs.Common.{◌≡◌, Bool, false, if◌then◌else◌, ℕ, ◌-◌, length, List, [], ◌∷◌, Option, Some, None, sym, ap, ◌∙◌}
+use Rattle.std.proofs.Common.{◌≡◌, Bool, false, if◌then◌else◌, ℕ, ◌-◌, length, List, [], ◌∷◌, ◌++◌, Option, Some, None, refl, sym, ap, subst, ◌∙◌}
+use Rattle.std.specs.List.{FoldsTo}
 use Rattle.std.specs.Option.{option_to_list}
 use Rattle.std.specs.Str.{chars, IsUtf8}
+use Rattle.std.specs.declared.ops.Range.{Range}
 use Rattle.std.proofs.lemmas.Str.{encodes-chars}
 use Rattle.rustc_literal_escaper.specs.declared.element.Element.{Element}
 use Rattle.rustc_literal_escaper.specs.declared.error.EscapeError.TheVariants.{MoreThanOneChar}
 use Rattle.rustc_literal_escaper.specs.declared.error.EscapeError.{EscapeError}
 use Rattle.rustc_literal_escaper.specs.declared.mode.Mode.{Mode}
 use Rattle.rustc_literal_escaper.specs.Elements.{Item, items_of}
-use Rattle.rustc_literal_escaper.specs.Errors.{alone_error, error_of, errors_in, errors_of, is_raw, is_single, single_error}
+use Rattle.rustc_literal_escaper.specs.Errors.{Error, alone_error, error_of, errors_in, errors_of, is_raw, is_single, put, single_error}
 use Rattle.rustc_literal_escaper.specs.Single.{StartsWithSingle}
+use Rattle.rustc_literal_escaper.proofs.RunLemmas.{folds-append}
 
 -- what is wrong between single quotes, by the first element
 single_error-starts : (total : ℕ) (mode : Mode) (s left : List ℕ) (e : Element) → StartsWithSingle s e left → single_error total mode s ≡ alone_error total (error_of mode e) left
@@ -34,3 +37,15 @@ pub errors_of-strings : (mode : Mode) (text : List ℕ) (items : List Item) → 
 errors_of-strings mode text items double are =
     ap (errors_in mode) are
     ∙ ap (λ (b : Bool). if b then option_to_list (single_error (length text) mode (chars text)) else errors_in mode (items_of (is_raw mode) text)) double
+
+-- the errors of some items and then others
+put-append : (range : Range ℕ) (error : Option EscapeError) (xs ys : List Error) → put range error (xs ++ ys) ≡ put range error xs ++ ys
+put-append range None xs ys = refl
+put-append range (Some error) xs ys = refl
+
+errors-append : (mode : Mode) (xs ys : List Item) → errors_in mode (xs ++ ys) ≡ errors_in mode xs ++ errors_in mode ys
+errors-append mode [] ys = refl
+errors-append mode (x ∷ xs) ys = ap (put x.0 (error_of mode x.1)) (errors-append mode xs ys) ∙ put-append x.0 (error_of mode x.1) (errors_in mode xs) (errors_in mode ys)
+
+pub folds-errors : {P : Type 0} (R : P → Error → P → Type 0) (mode : Mode) (p q r : P) (all told rest : List Item) → all ≡ told ++ rest → FoldsTo R p (errors_in mode told) q → FoldsTo R q (errors_in mode rest) r → FoldsTo R p (errors_in mode all) r
+folds-errors R mode p q r all told rest e f g = subst (λ (es : List Error). FoldsTo R p es r) (sym (ap (errors_in mode) e ∙ errors-append mode told rest)) (folds-append R p q r (errors_in mode told) (errors_in mode rest) f g)

@@ -1,15 +1,20 @@
 //! What is wrong in a literal, and nothing else.
-ghost use Rattle.std.specs.Prelude.{◌≡◌, false, length};
+ghost use Rattle.std.specs.Prelude.{◌≡◌, ◌≤◌, ◌∷◌, [], ℕ, false, length, map};
 ghost use Rattle.std.specs.List.{FoldsTo};
 ghost use Rattle.std.specs.Option.{option_to_list};
-ghost use Rattle.std.specs.Str.{chars};
+ghost use Rattle.std.specs.Str.{chars, IsUtf8};
+ghost use Rattle.rustc_literal_escaper.specs.declared.mode.Mode.{Mode};
+ghost use Rattle.rustc_literal_escaper.specs.Elements.{front_by, item_at, items_from, line_end};
 ghost use Rattle.rustc_literal_escaper.specs.Errors as spec;
 
-use crate::elements::{Elements, elements_of};
+use crate::element::Element;
+use crate::elements::{Elements, takes_all};
 use crate::error::EscapeError;
 use crate::mode::Mode;
-use crate::scan::split_first;
+use crate::scan::{past_plain, split_first};
+use crate::simple::past_simple;
 use crate::single::single;
+use crate::steps::{byte_at, is_plain, line_at, lone_element, more_lines, more_space, pass_over};
 use std::ops::Range;
 
 /// Calls `error_callback` with all that is wrong in a literal, warnings too, and its place in bytes.
@@ -103,7 +108,149 @@ fn check_string<F: FnMut(Range<usize>, EscapeError)>(src: &str, mode: Mode, call
     ensures calls { FoldsTo (λ f error g. F.step f error.0 error.1 tt g)
         callback.old (spec.errors_of mode src.now) callback.new }
 {
-    check_elements(elements_of(src, is_raw(mode)), mode, callback);
+    if is_raw(mode) {
+        check_elements(Elements::new_raw(src), mode, callback);
+    } else {
+        check_escaped(src, src.len(), mode, callback);
+    }
+}
+
+/// Tells what is wrong in what is left of a string of `total` bytes that may have escapes.
+///
+/// It does what [`Elements::next_fault`] does, and keeps no warning for later: the compiler makes it shorter.
+#[inline(always)]
+fn check_escaped<F: FnMut(Range<usize>, EscapeError)>(
+    rest: &str,
+    total: usize,
+    mode: Mode,
+    callback: &mut F,
+)
+    requires callable { F.IsAlwaysCallable callback.old }
+    requires fits { length rest.now ≤ total }
+    ensures calls { FoldsTo (λ f error g. F.step f error.0 error.1 tt g)
+        callback.old (spec.errors_in mode (items_from (front_by false) total (chars rest.now))) callback.new }
+{
+    let mut left = rest;
+    'items: loop {
+        let front = past_simple_front(left);
+        let Some((c, tail)) = split_first(front) else {
+            return;
+        };
+        let start = total - front.len();
+        if is_plain(c, false) {
+            check_element(start..total - tail.len(), Element::Plain(c), mode, callback);
+            left = past_fine(tail, mode);
+            continue;
+        }
+        if let Some((byte, behind)) = byte_at(c, tail, false) {
+            check_element(
+                start..total - behind.len(),
+                Element::Byte(byte),
+                mode,
+                callback,
+            );
+            left = behind;
+            continue;
+        }
+        if let Some(line) = line_at(c, tail) {
+            left = check_warnings(line, start, total, mode, callback);
+            continue;
+        }
+        let (element, behind) = lone_element(c, tail);
+        check_element(start..total - behind.len(), element, mode, callback);
+        left = behind;
+    }
+}
+
+/// Tells the warnings past a backslash and a newline, which begin at the place `start`. Returns what is left past the white
+/// space.
+#[inline(always)]
+fn check_warnings<'a, F: FnMut(Range<usize>, EscapeError)>(
+    line: &'a str,
+    start: usize,
+    total: usize,
+    mode: Mode,
+    callback: &mut F,
+) -> &'a str
+    requires callable { F.IsAlwaysCallable callback.old }
+    requires fits { length line.now ≤ total }
+    ensures callable { F.IsAlwaysCallable callback.new }
+    ensures calls { FoldsTo (λ f error g. F.step f error.0 error.1 tt g)
+        callback.old (spec.errors_in mode (map (item_at total start) (line_end (chars line.now)).told)) callback.new }
+    ensures left { chars result.now ≡ (line_end (chars line.now)).left }
+    ensures shorter { length result.now ≤ length line.now }
+    ensures text { IsUtf8 result.now }
+{
+    let (newline, left) = pass_over(line);
+    check_told(more_lines(newline, left, start, total), mode, callback);
+    check_told(more_space(left, start, total), mode, callback);
+    left
+}
+
+/// Tells what is wrong with what is told, if anything is.
+#[inline(always)]
+fn check_told<F: FnMut(Range<usize>, EscapeError)>(
+    told: Option<(Range<usize>, Element)>,
+    mode: Mode,
+    callback: &mut F,
+)
+    requires callable { F.IsAlwaysCallable callback.old }
+    ensures callable { F.IsAlwaysCallable callback.new }
+    ensures calls { FoldsTo (λ f error g. F.step f error.0 error.1 tt g)
+        callback.old (spec.errors_in mode (option_to_list told)) callback.new }
+{
+    if let Some((range, element)) = told {
+        check_element(range, element, mode, callback);
+    }
+}
+
+/// Tells what is wrong with an element, if anything is.
+#[inline(always)]
+fn check_element<F: FnMut(Range<usize>, EscapeError)>(
+    range: Range<usize>,
+    element: Element,
+    mode: Mode,
+    callback: &mut F,
+)
+    requires callable { F.IsAlwaysCallable callback.old }
+    ensures callable { F.IsAlwaysCallable callback.new }
+    ensures calls { FoldsTo (λ f error g. F.step f error.0 error.1 tt g)
+        callback.old (spec.errors_in mode ((range, element) ∷ [])) callback.new }
+{
+    if let Some(error) = element.error_in(mode) {
+        callback(range, error);
+    }
+}
+
+/// What is left past simple characters in front.
+///
+/// Where a character that is not in ASCII stands next, it does not look for them.
+#[inline(always)]
+fn past_simple_front(rest: &str) -> &str
+    ensures same { (mode : Mode) (total : ℕ) → spec.errors_in mode (items_from (front_by false) total (chars result.now))
+        ≡ spec.errors_in mode (items_from (front_by false) total (chars rest.now)) }
+    ensures text { IsUtf8 result.now }
+    ensures shorter { length result.now ≤ length rest.now }
+{
+    match rest.as_bytes().first() {
+        Some(byte) if byte.is_ascii() => past_simple(rest, false),
+        _ => rest,
+    }
+}
+
+/// What is left past the plain characters in front, where nothing is wrong with any of them in this mode.
+#[inline(always)]
+fn past_fine(rest: &str, mode: Mode) -> &str
+    ensures same { (total : ℕ) → spec.errors_in mode (items_from (front_by false) total (chars result.now))
+        ≡ spec.errors_in mode (items_from (front_by false) total (chars rest.now)) }
+    ensures text { IsUtf8 result.now }
+    ensures shorter { length result.now ≤ length rest.now }
+{
+    if takes_all(mode) {
+        past_plain(rest, false)
+    } else {
+        rest
+    }
 }
 
 /// Tells what is wrong with the elements.

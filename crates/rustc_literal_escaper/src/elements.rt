@@ -229,7 +229,7 @@ impl<'a> Elements<'a> {
 
 /// Whether no plain character is wrong in such a literal.
 #[inline(always)]
-fn takes_all(mode: Mode) -> bool
+pub(crate) fn takes_all(mode: Mode) -> bool
     ensures { result ≡ true → (c : ℕ) → error_of mode (Element.Plain c) ≡ None }
 {
     matches!(mode, Mode::Str | Mode::RawStr)

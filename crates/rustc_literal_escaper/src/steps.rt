@@ -206,7 +206,7 @@ pub(crate) fn lone_element(c: char, tail: &str) -> (Element, &str)
 
 /// What a character of a raw string is.
 #[inline(always)]
-pub(crate) fn raw_element(c: char) -> Element
+fn raw_element(c: char) -> Element
     ensures { result ≡ spec.raw_element c }
 {
     if c == '\r' {

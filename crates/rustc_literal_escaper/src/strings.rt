@@ -11,9 +11,7 @@ use crate::element::Element;
 use crate::error::EscapeError;
 use crate::scan::split_first;
 use crate::simple::{run_behind, split_alone, split_simple};
-use crate::steps::{
-    byte_at, is_plain, line_at, lone_element, more_lines, more_space, pass_over, raw_element,
-};
+use crate::steps::{byte_at, is_plain, line_at, lone_element, more_lines, more_space, pass_over};
 use crate::unit::{MixedUnit, NonZeroChar};
 use std::ops::Range;
 
@@ -105,6 +103,7 @@ trait Meaning {
     ghost use Rattle.rustc_literal_escaper.specs.declared.element.Element.{Element};
     ghost use Rattle.rustc_literal_escaper.specs.declared.element.Element.TheVariants.{Plain};
     ghost use Rattle.rustc_literal_escaper.specs.declared.error.EscapeError.{EscapeError};
+    ghost use Rattle.rustc_literal_escaper.specs.Elements.{raw_element};
     ghost use Rattle.rustc_literal_escaper.specs.Plain.{is_fine};
 
     type Meant;
@@ -122,6 +121,20 @@ trait Meaning {
         ensures { result ≡ meaning (Plain byte) }
     {
         Self::of(Element::Plain(byte as char))
+    }
+
+    /// What a character of a raw string stands for.
+    ///
+    /// Each way knows what kind of element it has, so the compiler makes none and asks for no kind.
+    #[inline(always)]
+    fn of_raw(c: char) -> Result<Self::Meant, EscapeError>
+        ensures { result ≡ meaning (raw_element c) }
+    {
+        if c == '\r' {
+            Self::of(Element::Fault(EscapeError::BareCarriageReturnInRawString))
+        } else {
+            Self::of(Element::Plain(c))
+        }
     }
 }
 
@@ -196,6 +209,14 @@ impl Meaning for AsRawUnit {
     #[inline(always)]
     fn of(element: Element) -> Result<NonZeroChar, EscapeError> {
         element.to_raw_unit()
+    }
+
+    #[inline(always)]
+    fn of_raw(c: char) -> Result<NonZeroChar, EscapeError> {
+        if c == '\r' {
+            return Err(EscapeError::BareCarriageReturnInRawString);
+        }
+        NonZeroChar::new(c).ok_or(EscapeError::NulInCStr)
     }
 
     #[inline(always)]
@@ -308,7 +329,7 @@ fn each_raw_unit_in<M: Meaning, F: FnMut(Range<usize>, Result<M::Meant, EscapeEr
     let mut left = rest;
     'items: while let Some((c, tail)) = split_first(left) {
         let range = total - left.len()..total - tail.len();
-        callback(range, M::of(raw_element(c)));
+        callback(range, M::of_raw(c));
         let (run, behind) = split_simple(tail, true);
         each_simple::<M, F>(run, total - behind.len(), callback);
         let (alone, past) = split_alone(run, behind);
@@ -334,7 +355,7 @@ fn each_raw_char<M: Meaning, F: FnMut(Range<usize>, Result<M::Meant, EscapeError
     let mut start = end - part.len();
     'chars: while let Some(c) = chars.next() {
         let past = end - chars.as_str().len();
-        callback(start..past, M::of(raw_element(c)));
+        callback(start..past, M::of_raw(c));
         start = past;
     }
 }

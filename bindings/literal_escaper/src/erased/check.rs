@@ -1,10 +1,15 @@
 //! What is wrong in a literal, and nothing else.
 
-use crate::erased::elements::{Elements, elements_of};
+use crate::erased::element::Element;
+use crate::erased::elements::{Elements, takes_all};
 use crate::erased::error::EscapeError;
 use crate::erased::mode::Mode;
-use crate::erased::scan::split_first;
+use crate::erased::scan::{past_plain, split_first};
+use crate::erased::simple::past_simple;
 use crate::erased::single::single;
+use crate::erased::steps::{
+    byte_at, is_plain, line_at, lone_element, more_lines, more_space, pass_over,
+};
 use core::ops::Range;
 
 /// Calls `error_callback` with all that is wrong in a literal, warnings too, and its place in bytes.
@@ -75,7 +80,115 @@ pub(crate) fn single_error(src: &str, mode: Mode) -> Option<(Range<usize>, Escap
 /// It is inlined into each arm of its caller, so that the mode is known there.
 #[inline(always)]
 fn check_string<F: FnMut(Range<usize>, EscapeError)>(src: &str, mode: Mode, callback: &mut F) {
-    check_elements(elements_of(src, is_raw(mode)), mode, callback);
+    if is_raw(mode) {
+        check_elements(Elements::new_raw(src), mode, callback);
+    } else {
+        check_escaped(src, src.len(), mode, callback);
+    }
+}
+
+/// Tells what is wrong in what is left of a string of `total` bytes that may have escapes.
+///
+/// It does what [`Elements::next_fault`] does, and keeps no warning for later: the compiler makes it shorter.
+#[inline(always)]
+fn check_escaped<F: FnMut(Range<usize>, EscapeError)>(
+    rest: &str,
+    total: usize,
+    mode: Mode,
+    callback: &mut F,
+) {
+    let mut left = rest;
+    loop {
+        let front = past_simple_front(left);
+        let Some((c, tail)) = split_first(front) else {
+            return;
+        };
+        let start = total - front.len();
+        if is_plain(c, false) {
+            check_element(start..total - tail.len(), Element::Plain(c), mode, callback);
+            left = past_fine(tail, mode);
+            continue;
+        }
+        if let Some((byte, behind)) = byte_at(c, tail, false) {
+            check_element(
+                start..total - behind.len(),
+                Element::Byte(byte),
+                mode,
+                callback,
+            );
+            left = behind;
+            continue;
+        }
+        if let Some(line) = line_at(c, tail) {
+            left = check_warnings(line, start, total, mode, callback);
+            continue;
+        }
+        let (element, behind) = lone_element(c, tail);
+        check_element(start..total - behind.len(), element, mode, callback);
+        left = behind;
+    }
+}
+
+/// Tells the warnings past a backslash and a newline, which begin at the place `start`. Returns what is left past the white
+/// space.
+#[inline(always)]
+fn check_warnings<'a, F: FnMut(Range<usize>, EscapeError)>(
+    line: &'a str,
+    start: usize,
+    total: usize,
+    mode: Mode,
+    callback: &mut F,
+) -> &'a str {
+    let (newline, left) = pass_over(line);
+    check_told(more_lines(newline, left, start, total), mode, callback);
+    check_told(more_space(left, start, total), mode, callback);
+    left
+}
+
+/// Tells what is wrong with what is told, if anything is.
+#[inline(always)]
+fn check_told<F: FnMut(Range<usize>, EscapeError)>(
+    told: Option<(Range<usize>, Element)>,
+    mode: Mode,
+    callback: &mut F,
+) {
+    if let Some((range, element)) = told {
+        check_element(range, element, mode, callback);
+    }
+}
+
+/// Tells what is wrong with an element, if anything is.
+#[inline(always)]
+fn check_element<F: FnMut(Range<usize>, EscapeError)>(
+    range: Range<usize>,
+    element: Element,
+    mode: Mode,
+    callback: &mut F,
+) {
+    if let Some(error) = element.error_in(mode) {
+        callback(range, error);
+    }
+}
+
+/// What is left past simple characters in front.
+///
+/// Where a character that is not in ASCII stands next, it does not look for them.
+#[inline(always)]
+fn past_simple_front(rest: &str) -> &str {
+    match rest.as_bytes().first() {
+        Some(byte) if byte.is_ascii() => past_simple(rest, false),
+        _ => rest,
+    }
+}
+
+/// What is left past the plain characters in front, where nothing is wrong with any of them in this mode.
+#[inline(always)]
+fn past_fine(rest: &str, mode: Mode) -> &str {
+    if takes_all(mode) {
+        past_plain(rest, false)
+    } else {
+        rest
+    }
 }
 
 /// Tells what is wrong with the elements.

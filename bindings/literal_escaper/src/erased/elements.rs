@@ -174,7 +174,7 @@ impl<'a> Elements<'a> {
 
 /// Whether no plain character is wrong in such a literal.
 #[inline(always)]
-fn takes_all(mode: Mode) -> bool {
+pub(crate) fn takes_all(mode: Mode) -> bool {
     matches!(mode, Mode::Str | Mode::RawStr)
 }
 

@@ -23,7 +23,7 @@ const SHORT_RUN: usize = 8;
 const WAIT: usize = 24;
 
 /// Behind a short run of a raw string so many bytes are told one character after another before the next look.
-const ALONE: usize = 64;
+const ALONE: usize = 256;
 
 /// The simple bytes that are looked for behind a plain character, and what is left past them.
 ///

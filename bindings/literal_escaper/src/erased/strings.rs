@@ -5,7 +5,7 @@ use crate::erased::error::EscapeError;
 use crate::erased::scan::split_first;
 use crate::erased::simple::{run_behind, split_alone, split_simple};
 use crate::erased::steps::{
-    byte_at, is_plain, line_at, lone_element, more_lines, more_space, pass_over, raw_element,
+    byte_at, is_plain, line_at, lone_element, more_lines, more_space, pass_over,
 };
 use crate::erased::unit::{MixedUnit, NonZeroChar};
 use core::ops::Range;
@@ -83,6 +83,18 @@ trait Meaning {
     fn of_fine(byte: u8) -> Result<Self::Meant, EscapeError> {
         Self::of(Element::Plain(byte as char))
     }
+
+    /// What a character of a raw string stands for.
+    ///
+    /// Each way knows what kind of element it has, so the compiler makes none and asks for no kind.
+    #[inline(always)]
+    fn of_raw(c: char) -> Result<Self::Meant, EscapeError> {
+        if c == '\r' {
+            Self::of(Element::Fault(EscapeError::BareCarriageReturnInRawString))
+        } else {
+            Self::of(Element::Plain(c))
+        }
+    }
 }
 
 /// What strings stand for: characters.
@@ -140,6 +152,14 @@ impl Meaning for AsRawUnit {
     #[inline(always)]
     fn of(element: Element) -> Result<NonZeroChar, EscapeError> {
         element.to_raw_unit()
+    }
+
+    #[inline(always)]
+    fn of_raw(c: char) -> Result<NonZeroChar, EscapeError> {
+        if c == '\r' {
+            return Err(EscapeError::BareCarriageReturnInRawString);
+        }
+        NonZeroChar::new(c).ok_or(EscapeError::NulInCStr)
     }
 
     #[inline(always)]
@@ -229,7 +249,7 @@ fn each_raw_unit_in<M: Meaning, F: FnMut(Range<usize>, Result<M::Meant, EscapeEr
     let mut left = rest;
     while let Some((c, tail)) = split_first(left) {
         let range = total - left.len()..total - tail.len();
-        callback(range, M::of(raw_element(c)));
+        callback(range, M::of_raw(c));
         let (run, behind) = split_simple(tail, true);
         each_simple::<M, F>(run, total - behind.len(), callback);
         let (alone, past) = split_alone(run, behind);
@@ -249,7 +269,7 @@ fn each_raw_char<M: Meaning, F: FnMut(Range<usize>, Result<M::Meant, EscapeError
     let mut start = end - part.len();
     while let Some(c) = chars.next() {
         let past = end - chars.as_str().len();
-        callback(start..past, M::of(raw_element(c)));
+        callback(start..past, M::of_raw(c));
         start = past;
     }
 }

@@ -1,4 +1,4 @@
-use Rattle.std.proofs.Common.{◌≡◌, ◌-◌, ◌++◌, ◌∷◌, ℕ, List, [], true, length, length-append, refl, sym, subst, ap, ◌∙◌, arith}
+use Rattle.std.proofs.Common.{◌≡◌, ◌-◌, ◌++◌, ℕ, List, [], true, length, length-append, refl, sym, subst, ap, ◌∙◌, arith}
 use Rattle.std.specs.Char.{encode_utf8}
 use Rattle.std.specs.List.{FoldsTo}
 use Rattle.std.specs.Str.{chars}
@@ -24,7 +24,7 @@ chars-preserved g c =
             c.callback.new.self,
             subst (λ (from : ℕ). goal.F-step g c.chars.callback (record { start = from; end = c.args.end - length (chars_rest c.next.new.self) }) (g.M.Meaning.meaning (raw_element c.in-Some.c)) tt c.callback.new.self) c.chars.invariant.3
                 (subst (λ (xs : List ℕ). goal.F-step g c.chars.callback (record { start = c.chars.start; end = c.args.end - length xs }) (g.M.Meaning.meaning (raw_element c.in-Some.c)) tt c.callback.new.self) c.as_str.ensures
-                (subst (λ meant. goal.F-step g c.chars.callback (record { start = c.chars.start; end = c.args.end - length c.as_str.result.now }) meant tt c.callback.new.self) (c.of.ensures ∙ ap g.M.Meaning.meaning c.raw_element.ensures) c.callback.ensures)),
+                (subst (λ meant. goal.F-step g c.chars.callback (record { start = c.chars.start; end = c.args.end - length c.as_str.result.now }) meant tt c.callback.new.self) c.of_raw.ensures c.callback.ensures)),
             calls,
           )),
     )

@@ -20,7 +20,7 @@ items-preserved g c = (
       (subst (λ (is : List Item). FoldsTo (λ f item h. goal.F-step g f item.0 (g.M.Meaning.meaning item.1) tt h) c.items.callback is last)
       (sym (first-raw c.args.total c.items.left.now c.in-Some.tail.now c.in-Some.c c.items.invariant.0 c.in-Some.ensures.2 c.in-Some.ensures.0)) (
         c.callback.new.self,
-        subst (λ meant. goal.F-step g c.items.callback (record { start = c.args.total - length c.items.left.now; end = c.args.total - length c.in-Some.tail.now }) meant tt c.callback.new.self) (c.of.ensures ∙ ap g.M.Meaning.meaning c.raw_element.ensures) c.callback.ensures,
+        subst (λ meant. goal.F-step g c.items.callback (record { start = c.args.total - length c.items.left.now; end = c.args.total - length c.in-Some.tail.now }) meant tt c.callback.new.self) c.of_raw.ensures c.callback.ensures,
         subst (λ (is : List Item). FoldsTo (λ f item h. goal.F-step g f item.0 (g.M.Meaning.meaning item.1) tt h) c.callback.new.self is last)
             (sym (run-items true c.args.total c.in-Some.tail.now c.split_simple.result.0.now c.split_simple.result.1.now c.split_simple.ensures.simple c.split_simple.ensures.whole c.split_simple.ensures.text))
             (folds-append (λ f item h. goal.F-step g f item.0 (g.M.Meaning.meaning item.1) tt h) c.callback.new.self c.each_simple.new.callback last _ _ c.each_simple.ensures.calls
