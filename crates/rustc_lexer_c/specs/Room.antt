@@ -1,5 +1,5 @@
 -- Bytes that are written into room of a caller's, one text behind the other.
-use Rattle.std.specs.Prelude.{ℕ, ◌≡◌, ◌≤◌, List, ◌++◌, length, take, drop}
+use Rattle.std.specs.Prelude.{ℕ, ◌+◌, ◌≡◌, ◌≤◌, List, ◌++◌, length, take, drop}
 use Rattle.rustc_lexer_c.specs.declared.room.Room.{Room}
 
 -- the bytes are written behind those that were written before, into the same room of the caller's. Behind them it is as
@@ -10,3 +10,7 @@ pub record Appends (s : Room) (bytes : List ℕ) (t : Room) : Type 0 where
   pub more : s.len ≤ t.len
   pub written : take t.len t.bytes.now ≡ take s.len s.bytes.now ++ bytes
   pub rest : drop t.len t.bytes.now ≡ drop t.len s.bytes.now
+
+-- there is room for the bytes behind those that were written before
+abbrev pub HasRoom : Room → List ℕ → Type 0
+HasRoom s bytes = s.len + length bytes ≤ length s.bytes.now

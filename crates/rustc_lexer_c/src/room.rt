@@ -1,6 +1,6 @@
 //! Room of a caller's, which is written from its front on.
-ghost use Rattle.std.specs.Prelude.{◌≡◌};
-ghost use Rattle.rustc_lexer_c.specs.Room.{Appends};
+ghost use Rattle.std.specs.Prelude.{◌≡◌, ◌↔◌, IsOk};
+ghost use Rattle.rustc_lexer_c.specs.Room.{Appends, HasRoom};
 
 use std::fmt;
 
@@ -25,7 +25,11 @@ impl<'a> Room<'a> {
 impl<'a> fmt::Write for Room<'a> {
     ghost write_str_gives = { Appends };
 
-    fn write_str(&mut self, s: &str) -> fmt::Result {
+    /// Writes a text behind what is written, unless there is too little room for it.
+    fn write_str(&mut self, s: &str) -> fmt::Result
+        ensures ok { IsOk result → Appends self.old s.now self.new }
+        ensures room { IsOk result ↔ HasRoom self.old s.now }
+    {
         let bytes = s.as_bytes();
         if self.len > self.bytes.len() || bytes.len() > self.bytes.len() - self.len {
             return Err(fmt::Error);
