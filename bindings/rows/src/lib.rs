@@ -1,75 +1,65 @@
 //! The rows of `crates/lex_vectors`, for the tests of the bindings: texts with the tokens that they should give.
 
-use crate::tables::hostile::{self, Long};
-use crate::tables::row::Row;
-use crate::tables::{
-    comments, first_path, frontmatter, guarded, idents, numbers, original, quotes, raw_strings, shebang,
+use crate::tables::all::all;
+use crate::tables::raw_strings::{Check, CHECKS};
+use crate::tables::row::{Part, Way};
+use crate::tables::shebang;
+use rustc_lexer::{
+    tokenize, tokenize_as, tokenize_in, FrontmatterAllowed, RawStrError, TokenKind, Tokens,
 };
-use rustc_lexer::{FrontmatterAllowed, RawStrError, TokenKind};
-use std::slice;
 
 #[allow(dead_code)]
 mod tables;
 
-/// A text, whether a frontmatter may stand in front, and its tokens.
+/// A text, a call that lexes it, and its tokens.
 pub struct Case {
     pub text: String,
-    pub allowed: FrontmatterAllowed,
-    pub tokens: &'static [(TokenKind, u32)],
+    way: Way,
+    pub tokens: Vec<(TokenKind, u32)>,
 }
 
-/// The case of a row.
-fn case(row: &Row) -> Case {
-    Case {
-        text: row.text.to_string(),
-        allowed: row.allowed,
-        tokens: row.tokens,
+impl Case {
+    /// What the call makes of the text.
+    pub fn lex(&self) -> Tokens<'_> {
+        match self.way {
+            Way::Newest(allowed) => tokenize(&self.text, allowed),
+            Way::Part(edition) => tokenize_in(&self.text, edition),
+            Way::Document(edition) => tokenize_as(&self.text, FrontmatterAllowed::Yes, edition),
+        }
+    }
+
+    /// Whether a frontmatter may stand in front, where the call is `tokenize`.
+    pub fn allowed(&self) -> Option<FrontmatterAllowed> {
+        match self.way {
+            Way::Newest(allowed) => Some(allowed),
+            _ => None,
+        }
     }
 }
 
-/// The case of a long text.
-fn long_case(row: &Long) -> Case {
-    let parts = row.parts.iter();
-    Case {
-        text: parts.map(|(part, times)| part.repeat(*times as usize)).collect(),
-        allowed: FrontmatterAllowed::No,
-        tokens: row.tokens,
-    }
+/// The text of the parts.
+fn text_of(parts: &[Part]) -> String {
+    let times = |(part, times, _): &Part| part.repeat(*times as usize);
+    parts.iter().map(times).collect()
 }
 
-/// All texts with their tokens.
+/// The tokens of the parts.
+fn tokens_of(parts: &[Part]) -> Vec<(TokenKind, u32)> {
+    let times = |(_, times, tokens): &Part| tokens.repeat(*times as usize);
+    parts.iter().flat_map(times).collect()
+}
+
+/// All texts with their tokens, by each call.
 pub fn cases() -> Vec<Case> {
-    let tables = [
-        comments::ROWS,
-        &first_path::ROWS,
-        frontmatter::ORIGINAL,
-        frontmatter::STARTS,
-        frontmatter::INFOSTRINGS,
-        frontmatter::CLOSINGS,
-        frontmatter::ORDERS,
-        guarded::PREFIXES,
-        idents::ROWS,
-        numbers::AT_THE_END,
-        numbers::SUFFIXES,
-        numbers::BEFORE_OTHERS,
-        slice::from_ref(&original::PROGRAM),
-        slice::from_ref(&original::COMMENTS),
-        slice::from_ref(&original::LITERALS),
-        original::SHORT,
-        quotes::STRINGS,
-        quotes::CHARACTERS,
-        quotes::BYTES,
-        quotes::LIFETIMES,
-        raw_strings::ROWS,
-    ];
-    let long = [
-        hostile::COMMENTS,
-        hostile::WORDS,
-        hostile::QUOTES,
-        hostile::RAW_STRINGS,
-    ];
-    let rows = tables.into_iter().flatten().map(case);
-    rows.chain(long.into_iter().flatten().map(long_case)).collect()
+    let mut cases = Vec::new();
+    for row in all().into_iter().flat_map(|(_, rows)| rows) {
+        cases.extend(row.ways.iter().map(|way| Case {
+            text: text_of(row.parts),
+            way: *way,
+            tokens: tokens_of(row.parts),
+        }));
+    }
+    cases
 }
 
 /// Texts, and the length of their shebang line.
@@ -78,6 +68,7 @@ pub fn shebangs() -> &'static [(&'static str, Option<usize>)] {
 }
 
 /// Texts, the length of their prefix, and what the check of a raw string answers.
-pub fn checks() -> &'static [(&'static str, u32, Result<(), RawStrError>)] {
-    raw_strings::CHECKS
+pub fn checks() -> Vec<(String, u32, Result<(), RawStrError>)> {
+    let check = |(parts, prefix_len, want): &Check| (text_of(parts), *prefix_len, *want);
+    CHECKS.iter().map(check).collect()
 }

@@ -1,7 +1,13 @@
 //! The tables of rows, which are files of `crates/lex_vectors`.
 
+#[path = "../../../crates/lex_vectors/src/tables/all.rt"]
+pub(crate) mod all;
+
 #[path = "../../../crates/lex_vectors/src/tables/comments.rt"]
 pub(crate) mod comments;
+
+#[path = "../../../crates/lex_vectors/src/tables/editions.rt"]
+pub(crate) mod editions;
 
 #[path = "../../../crates/lex_vectors/src/tables/first_path.rt"]
 pub(crate) mod first_path;

@@ -1,170 +1,151 @@
-//! Edits of a text that is kept with its tokens: one by one, and lists of them.
-use crate::rows::are;
+//! Edits of a text that is kept with its tokens: one by one, and as a list.
+use crate::rows::{Made, are};
 use crate::steppers::{Characters, Counting};
-use crate::tables::edits::{EditRow, LETTER, ROWS, SPACE, WORD, edit, relexed};
-use rustc_lexer::TokenKind::{BlockComment, Ident, Unknown};
-use rustc_lexer::{Edit, EditStop, LexedText, Relexed, Stepper, TokenKind, fits};
+use crate::tables::edits::{CHARACTERS, EditRow, LISTS, LONG, MORE, SOME, Step};
+use rustc_lexer::{Edit, EditStop, LexedText, Stepper, fits};
 use std::alloc::{AllocError, Global};
 
-/// Makes the edit. Answers whether it has these counts, and leaves this text and these tokens.
-pub fn leaves<S: Stepper>(
+/// Makes the edit, where it is accepted. Answers whether it has its counts, or is refused as it should be.
+fn is_made<S: Stepper>(
+    alloc: Global,
     lexed: &mut LexedText<S>,
-    edit: Edit<'_>,
-    counts: Relexed,
-    made: &str,
-    tokens: &[(TokenKind, u32)],
+    step: &Step,
 ) -> Result<bool, AllocError> {
-    if !lexed.accepts(edit.start, edit.stop, edit.insert) {
-        return Ok(false);
+    let made = Made::of(alloc, step.insert)?;
+    let insert = made.text.as_str();
+    if !lexed.accepts(step.start, step.stop, insert) {
+        return Ok(step.counts.is_none());
     }
-    let found = lexed.edit(edit.start, edit.stop, edit.insert)?;
-    Ok(found == counts && lexed.text() == made && are(lexed.tokens(), tokens))
+    Ok(Some(lexed.edit(step.start, step.stop, insert)?) == step.counts)
 }
 
-/// Whether the edit of the row comes to what the row says, by as many calls of the stepper as tokens were lexed.
-fn is_edited(alloc: Global, row: &EditRow) -> Result<bool, AllocError> {
-    if !fits(row.text) {
+/// Whether the text and the tokens are these.
+fn is_left<S: Stepper>(lexed: &LexedText<S>, made: &Made) -> bool {
+    lexed.text() == made.text.as_str() && are(lexed.tokens(), made.tokens.as_slice())
+}
+
+/// Makes the edits one by one. Answers whether each is as the row says, and so is what they leave.
+fn is_edited<S: Stepper>(
+    alloc: Global,
+    lexed: &mut LexedText<S>,
+    row: &EditRow,
+) -> Result<bool, AllocError> {
+    for step in row.steps {
+        if !is_made(alloc, lexed, step)? {
+            return Ok(false);
+        }
+    }
+    Ok(is_left(lexed, &Made::of(alloc, row.made)?))
+}
+
+/// How many tokens the edit lexes.
+fn lexed_by(step: &Step) -> u64 {
+    match step.counts {
+        Some(counts) => counts.lexed as u64,
+        None => 0,
+    }
+}
+
+/// Whether each edit calls the stepper as often as it lexes a token.
+fn is_counted(alloc: Global, text: &str, row: &EditRow) -> Result<bool, AllocError> {
+    if !fits(text) {
         return Ok(false);
     }
-    let mut lexed = LexedText::with(alloc, row.text, Counting::new_in(row.edition))?;
+    let mut lexed = LexedText::with(alloc, text, Counting::new_in(row.edition))?;
+    for step in row.steps {
+        let before = lexed.stepper().calls;
+        let holds = is_made(alloc, &mut lexed, step)?;
+        if !holds || lexed.stepper().calls.saturating_sub(before) != lexed_by(step) {
+            return Ok(false);
+        }
+    }
+    Ok(is_left(&lexed, &Made::of(alloc, row.made)?))
+}
+
+/// Whether a text that is kept in the edition of the row stays in it.
+fn is_kept(alloc: Global, text: &str, row: &EditRow) -> Result<bool, AllocError> {
+    if !fits(text) {
+        return Ok(false);
+    }
+    let mut lexed = LexedText::new_in(alloc, text, row.edition)?;
+    Ok(is_edited(alloc, &mut lexed, row)? && lexed.edition() == row.edition)
+}
+
+/// Where a list of these edits ends, and how many tokens it lexes.
+fn end_of(steps: &[Step]) -> (Result<(), EditStop>, u64) {
+    let mut calls = 0u64;
+    for (at, step) in steps.iter().enumerate() {
+        if step.counts.is_none() {
+            return (Err(EditStop::Range { at }), calls);
+        }
+        calls = calls.saturating_add(lexed_by(step));
+    }
+    (Ok(()), calls)
+}
+
+/// Whether the edits as a list come to the same, and an empty list behind them changes nothing.
+fn is_listed(alloc: Global, text: &str, row: &EditRow) -> Result<bool, AllocError> {
+    if !fits(text) {
+        return Ok(false);
+    }
+    let mut inserts = Vec::new(alloc);
+    for step in row.steps {
+        inserts.push(Made::of(alloc, step.insert)?)?;
+    }
+    let mut edits = Vec::new(alloc);
+    for (step, made) in row.steps.iter().zip(inserts.as_slice()) {
+        edits.push(Edit {
+            start: step.start,
+            stop: step.stop,
+            insert: made.text.as_str(),
+        })?;
+    }
+    let mut lexed = LexedText::with(alloc, text, Counting::new_in(row.edition))?;
+    let made = Made::of(alloc, row.made)?;
+    let (end, calls) = end_of(row.steps);
     let before = lexed.stepper().calls;
-    let holds = leaves(&mut lexed, row.edit, row.counts, row.made, row.tokens)?;
-    let calls = lexed.stepper().calls.saturating_sub(before);
-    Ok(holds && calls == row.counts.lexed as u64)
+    let holds = lexed.edit_all(edits.as_slice()) == end
+        && is_left(&lexed, &made)
+        && lexed.edit_all(&[]) == Ok(())
+        && is_left(&lexed, &made);
+    Ok(holds && lexed.stepper().calls.saturating_sub(before) == calls)
 }
 
-/// The same of a text that is kept in the edition of the row, which stays.
-fn is_edited_in(alloc: Global, row: &EditRow) -> Result<bool, AllocError> {
-    if !fits(row.text) {
-        return Ok(false);
+/// The number of the first row that does not hold.
+fn wrong_row(alloc: Global, rows: &[EditRow]) -> Result<Option<usize>, AllocError> {
+    for (number, row) in rows.iter().enumerate() {
+        let made = Made::of(alloc, row.text)?;
+        let text = made.text.as_str();
+        let holds = is_counted(alloc, text, row)?
+            && is_kept(alloc, text, row)?
+            && is_listed(alloc, text, row)?;
+        if !holds {
+            return Ok(Some(number));
+        }
     }
-    let mut lexed = LexedText::new_in(alloc, row.text, row.edition)?;
-    let holds = leaves(&mut lexed, row.edit, row.counts, row.made, row.tokens)?;
-    Ok(holds && lexed.edition() == row.edition)
+    Ok(None)
 }
 
 #[test]
 fn rows(rt: HostRuntime) -> Result<(), AllocError> {
-    for row in ROWS {
-        let holds = is_edited(rt.alloc(), row)? && is_edited_in(rt.alloc(), row)?;
-        assert!(rt; holds, "in {:?}, {:?}", row.text, row.edition);
+    for (name, rows) in [
+        ("SOME", SOME),
+        ("MORE", MORE),
+        ("LISTS", LISTS),
+        ("LONG", LONG),
+    ] {
+        assert_eq!(rt; wrong_row(rt.alloc(), rows)?, None, "in {name}");
     }
-    Ok(())
-}
-
-/// 602 tokens: a word and a space before the place, 300 letters and 300 spaces. Then the old tokens begin again.
-#[test]
-fn much_is_put_in(rt: HostRuntime) -> Result<(), AllocError> {
-    let insert = "x ".repeat(rt.alloc(), 300)?;
-    let mut made = String::from_str(rt.alloc(), "ab ")?;
-    made.push_str(insert.as_str())?;
-    made.push_str("cd ef")?;
-    let mut tokens = Vec::new(rt.alloc());
-    tokens.extend_from_slice(&[WORD, SPACE])?;
-    for _ in 0..300 {
-        tokens.extend_from_slice(&[LETTER, SPACE])?;
-    }
-    tokens.extend_from_slice(&[WORD, SPACE, WORD])?;
-    let mut lexed = LexedText::with(rt.alloc(), "ab cd ef", Counting::new())?;
-    let before = lexed.stepper().calls;
-    let holds = leaves(
-        &mut lexed,
-        edit(3, 3, insert.as_str()),
-        relexed(0, 602, 3),
-        made.as_str(),
-        tokens.as_slice(),
-    )?;
-    assert!(rt; holds);
-    assert_eq!(rt; lexed.stepper().calls.saturating_sub(before), 602);
-    Ok(())
-}
-
-/// The comment that is put in has no end, so nothing of the old tokens is met.
-#[test]
-fn a_long_comment_is_put_in(rt: HostRuntime) -> Result<(), AllocError> {
-    let insert = "/*a ".repeat(rt.alloc(), 300)?;
-    let mut made = String::from_str(rt.alloc(), "ab ")?;
-    made.push_str(insert.as_str())?;
-    made.push_str("cd ef")?;
-    let open = BlockComment {
-        doc_style: None,
-        terminated: false,
-    };
-    let mut lexed = LexedText::new(rt.alloc(), "ab cd ef")?;
-    let holds = leaves(
-        &mut lexed,
-        edit(3, 3, insert.as_str()),
-        relexed(0, 3, 0),
-        made.as_str(),
-        &[WORD, SPACE, (open, 1205)],
-    )?;
-    assert!(rt; holds);
     Ok(())
 }
 
 #[test]
 fn one_character_a_token(rt: HostRuntime) -> Result<(), AllocError> {
-    let mut lexed = LexedText::with(rt.alloc(), "ab cd", Characters::new())?;
-    let one = (Unknown, 1);
-    let tokens = [one, one, one, (Unknown, 2), one, one];
-    assert!(rt;
-        leaves(
-            &mut lexed,
-            edit(3, 3, "é"),
-            relexed(1, 3, 2),
-            "ab écd",
-            &tokens
-        )?
-    );
-    Ok(())
-}
-
-/// Makes the edits. Answers whether they end so, and leave this text and these tokens.
-fn list_leaves<S: Stepper>(
-    lexed: &mut LexedText<S>,
-    edits: &[Edit<'_>],
-    end: Result<(), EditStop>,
-    made: &str,
-    tokens: &[(TokenKind, u32)],
-) -> bool {
-    lexed.edit_all(edits) == end && lexed.text() == made && are(lexed.tokens(), tokens)
-}
-
-#[test]
-fn lists_of_edits(rt: HostRuntime) -> Result<(), AllocError> {
-    let mut lexed = LexedText::with(rt.alloc(), "ab cd ef", Counting::new())?;
-    let before = lexed.stepper().calls;
-    let edits = [edit(8, 8, "z"), edit(0, 3, "")];
-    let tokens = [WORD, SPACE, (Ident, 3)];
-    assert!(rt; list_leaves(&mut lexed, &edits, Ok(()), "cd efz", &tokens));
-    assert!(rt; list_leaves(&mut lexed, &[], Ok(()), "cd efz", &tokens));
-    assert_eq!(rt; lexed.stepper().calls, before.saturating_add(1));
-    Ok(())
-}
-
-#[test]
-fn later_edits_go_by_the_text_that_earlier_ones_leave(rt: HostRuntime) -> Result<(), AllocError> {
-    let mut lexed = LexedText::new(rt.alloc(), "ab")?;
-    let edits = [edit(2, 2, "c"), edit(3, 3, " d")];
-    let tokens = [(Ident, 3), SPACE, LETTER];
-    assert!(rt; list_leaves(&mut lexed, &edits, Ok(()), "abc d", &tokens));
-    Ok(())
-}
-
-#[test]
-fn a_bad_edit_stops_the_list(rt: HostRuntime) -> Result<(), AllocError> {
-    let mut lexed = LexedText::new(rt.alloc(), "ab cd")?;
-    let edits = [edit(0, 3, ""), edit(1, 9, "")];
-    let stop = Err(EditStop::Range { at: 1 });
-    assert!(rt; list_leaves(&mut lexed, &edits, stop, "cd", &[WORD]));
-    Ok(())
-}
-
-#[test]
-fn no_edit_cuts_a_character(rt: HostRuntime) -> Result<(), AllocError> {
-    let mut lexed = LexedText::new(rt.alloc(), "é")?;
-    assert!(rt; !lexed.accepts(1, 2, ""));
-    let stop = Err(EditStop::Range { at: 0 });
-    assert!(rt; list_leaves(&mut lexed, &[edit(1, 2, "")], stop, "é", &[WORD]));
+    for row in CHARACTERS {
+        let made = Made::of(rt.alloc(), row.text)?;
+        assert!(rt; fits(made.text.as_str()));
+        let mut lexed = LexedText::with(rt.alloc(), made.text.as_str(), Characters::new())?;
+        assert!(rt; is_edited(rt.alloc(), &mut lexed, row)?);
+    }
     Ok(())
 }

@@ -1,24 +1,7 @@
-//! A text that is kept with its tokens: how far they are sure, and its pieces.
-use rustc_lexer::{LexedText, Piece, Stepper, fits, settled};
+//! The pieces of a text that is kept with its tokens.
+use rustc_lexer::{LexedText, Piece, Pieces, Stepper, fits};
 use std::alloc::AllocError;
 use std::iter::{ExactSizeIterator, Iterator};
-
-#[test]
-fn settled_places(rt: HostRuntime) {
-    let rows = [
-        ("ab cd ef", 6),
-        ("a 😀 é", 6),
-        ("k# ", 1),
-        ("k#", 0),
-        ("1. ", 0),
-        ("'a# ", 2),
-        ("", 0),
-    ];
-    for (text, place) in rows {
-        assert!(rt; text.len() < 100);
-        assert_eq!(rt; settled(text), place, "in {text:?}");
-    }
-}
 
 /// Whether there is a piece, which begins there and has this text.
 fn is_piece(piece: Option<Piece<'_>>, start: u32, text: &str) -> bool {
@@ -30,39 +13,37 @@ fn is_piece(piece: Option<Piece<'_>>, start: u32, text: &str) -> bool {
     }
 }
 
+/// Whether these are the starts and the texts of the pieces.
+fn are_pieces(pieces: Pieces<'_>, rows: &[(u32, &str)]) -> bool {
+    let mut pieces = pieces;
+    let (least, most) = pieces.size_hint();
+    if pieces.len() != rows.len() || least != rows.len() || most != Some(rows.len()) {
+        return false;
+    }
+    for (start, text) in rows {
+        if !is_piece(pieces.next(), *start, text) {
+            return false;
+        }
+    }
+    pieces.next().is_none() && pieces.next().is_none()
+}
+
 #[test]
 fn pieces_of_a_text(rt: HostRuntime) -> Result<(), AllocError> {
     let lexed = LexedText::new(rt.alloc(), "a 😀 é")?;
-    let mut pieces = lexed.pieces();
-    for (start, text) in [(0, "a"), (1, " "), (2, "😀"), (6, " "), (7, "é")] {
-        assert!(rt; is_piece(pieces.next(), start, text), "at {start}");
-    }
-    assert!(rt; pieces.next().is_none());
-    assert!(rt; pieces.next().is_none());
+    let all = [(0, "a"), (1, " "), (2, "😀"), (6, " "), (7, "é")];
+    assert!(rt; are_pieces(lexed.pieces(), &all));
     Ok(())
 }
 
-/// Whether the tokens from number `from` up to `to` are there, and these are the starts and the texts of their pieces.
-fn are_pieces<S: Stepper>(
+/// Whether the tokens from number `from` up to `to` are there, and these are their pieces.
+fn has_pieces<S: Stepper>(
     lexed: &LexedText<S>,
     from: usize,
     to: usize,
     rows: &[(u32, &str)],
 ) -> bool {
-    if from > to || to > lexed.tokens().len() {
-        return false;
-    }
-    let mut pieces = lexed.pieces_of(from, to);
-    let (least, most) = pieces.size_hint();
-    if pieces.len() != rows.len() || least != rows.len() || most != Some(rows.len()) {
-        return false;
-    }
-    for row in rows {
-        if !is_piece(pieces.next(), row.0, row.1) {
-            return false;
-        }
-    }
-    pieces.next().is_none()
+    from <= to && to <= lexed.tokens().len() && are_pieces(lexed.pieces_of(from, to), rows)
 }
 
 /// Far in a text of 2000 tokens, four in each 8 bytes, none of them, the last one, and what an edit lexes and moves.
@@ -72,15 +53,15 @@ fn pieces_of_some_tokens(rt: HostRuntime) -> Result<(), AllocError> {
     assert!(rt; fits(text.as_str()));
     let mut lexed = LexedText::new(rt.alloc(), text.as_str())?;
     let far = [(3004, " "), (3005, "12"), (3007, " ")];
-    assert!(rt; are_pieces(&lexed, 1501, 1504, &far));
-    assert!(rt; are_pieces(&lexed, 1501, 1501, &[]));
-    assert!(rt; are_pieces(&lexed, 2000, 2000, &[]));
-    assert!(rt; are_pieces(&lexed, 1999, 2000, &[(3999, " ")]));
+    assert!(rt; has_pieces(&lexed, 1501, 1504, &far));
+    assert!(rt; has_pieces(&lexed, 1501, 1501, &[]));
+    assert!(rt; has_pieces(&lexed, 2000, 2000, &[]));
+    assert!(rt; has_pieces(&lexed, 1999, 2000, &[(3999, " ")]));
     assert!(rt; lexed.accepts(3000, 3004, "x-y"));
     lexed.edit(3000, 3004, "x-y")?;
     let front = [(2997, "12"), (2999, " "), (3000, "x")];
-    assert!(rt; are_pieces(&lexed, 1498, 1501, &front));
-    assert!(rt; are_pieces(&lexed, 1501, 1503, &[(3001, "-"), (3002, "y")]));
-    assert!(rt; are_pieces(&lexed, 1904, 1905, &[(3804, "12")]));
+    assert!(rt; has_pieces(&lexed, 1498, 1501, &front));
+    assert!(rt; has_pieces(&lexed, 1501, 1503, &[(3001, "-"), (3002, "y")]));
+    assert!(rt; has_pieces(&lexed, 1904, 1905, &[(3804, "12")]));
     Ok(())
 }

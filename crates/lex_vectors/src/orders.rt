@@ -1,5 +1,9 @@
 //! The numbers of bases, and the orders and the equality of the types of an answer.
-use rustc_lexer::{Base, GuardedStr, LiteralKind, RawStrError, Token, TokenKind};
+use crate::tables::kinds::{
+    BAD_BYTE_STR, BAD_C_STR, BAD_RAW_STR, BINARY_EMPTY_EXPONENT, CHAR, EMPTY_BINARY, EMPTY_OCTAL,
+    FLOAT, MOST_HASHES, OCTAL, OPEN_BYTE, OPEN_BYTE_STR, OPEN_C_STR, OPEN_CHAR, OPEN_STR, RAW_STR,
+};
+use rustc_lexer::{Base, Edition, GuardedStr, RawStrError, Token, TokenKind};
 
 #[test]
 fn numbers_of_bases(rt: HostRuntime) {
@@ -31,48 +35,36 @@ fn order_of_bases(rt: HostRuntime) {
 }
 
 #[test]
+fn order_of_editions(rt: HostRuntime) {
+    assert!(rt;
+        ascend(&[
+            Edition::E2015,
+            Edition::E2018,
+            Edition::E2021,
+            Edition::E2024
+        ])
+    );
+}
+
+#[test]
 fn order_of_literals(rt: HostRuntime) {
-    let no_hashes = None;
     let kinds = [
-        LiteralKind::Int {
-            base: Base::Binary,
-            empty_int: true,
-        },
-        LiteralKind::Int {
-            base: Base::Octal,
-            empty_int: false,
-        },
-        LiteralKind::Int {
-            base: Base::Octal,
-            empty_int: true,
-        },
-        LiteralKind::Float {
-            base: Base::Binary,
-            empty_exponent: true,
-        },
-        LiteralKind::Float {
-            base: Base::Decimal,
-            empty_exponent: false,
-        },
-        LiteralKind::Char { terminated: false },
-        LiteralKind::Char { terminated: true },
-        LiteralKind::Byte { terminated: false },
-        LiteralKind::Str { terminated: false },
-        LiteralKind::ByteStr { terminated: false },
-        LiteralKind::CStr { terminated: false },
-        LiteralKind::RawStr {
-            n_hashes: no_hashes,
-        },
-        LiteralKind::RawStr { n_hashes: Some(0) },
-        LiteralKind::RawStr {
-            n_hashes: Some(255),
-        },
-        LiteralKind::RawByteStr {
-            n_hashes: no_hashes,
-        },
-        LiteralKind::RawCStr {
-            n_hashes: no_hashes,
-        },
+        EMPTY_BINARY,
+        OCTAL,
+        EMPTY_OCTAL,
+        BINARY_EMPTY_EXPONENT,
+        FLOAT,
+        OPEN_CHAR,
+        CHAR,
+        OPEN_BYTE,
+        OPEN_STR,
+        OPEN_BYTE_STR,
+        OPEN_C_STR,
+        BAD_RAW_STR,
+        RAW_STR,
+        MOST_HASHES,
+        BAD_BYTE_STR,
+        BAD_C_STR,
     ];
     assert!(rt; ascend(&kinds));
 }
@@ -121,21 +113,15 @@ fn order_of_refusals(rt: HostRuntime) {
     assert!(rt; ascend(&refusals));
 }
 
+/// A token with these fields.
+fn token(kind: TokenKind, len: u32) -> Token {
+    Token { kind, len }
+}
+
 #[test]
 fn tokens_of_one_length(rt: HostRuntime) {
-    let ident = Token {
-        kind: TokenKind::Ident,
-        len: 1,
-    };
-    let unknown = Token {
-        kind: TokenKind::Unknown,
-        len: 1,
-    };
-    let longer = Token {
-        kind: TokenKind::Ident,
-        len: 2,
-    };
-    assert!(rt; ident == ident);
-    assert!(rt; !(ident == unknown));
-    assert!(rt; !(ident == longer));
+    let ident = token(TokenKind::Ident, 1);
+    assert!(rt; ident == token(TokenKind::Ident, 1));
+    assert!(rt; !(ident == token(TokenKind::Unknown, 1)));
+    assert!(rt; !(ident == token(TokenKind::Ident, 2)));
 }

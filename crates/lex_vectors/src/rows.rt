@@ -1,48 +1,84 @@
-//! Whether a text gives the tokens of its row, by each way to ask for them. What is told of a row is a `bool`, and one
-//! assertion names the row that does not hold: a check of many assertions takes the prover long.
-use crate::tables::row::Row;
-use rustc_lexer::{
-    Edition, FrontmatterAllowed, Token, TokenKind, Tokens, fits, tokenize, tokenize_as, tokenize_in,
-};
-use std::process::Abort;
+//! Whether each text gives the tokens of its row, by each way to ask for them. One assertion tells the rows that do not
+//! hold: a check of many assertions takes the prover long.
+ghost use Rattle.rustc_lexer.specs.Classes.{Fits};
 
-/// Asserts that each text gives its tokens and no others.
-pub fn assert_rows(rt: &impl Abort, rows: &[Row]) {
-    for row in rows {
-        assert_tokens(rt, row.text, row.text, row.allowed, row.tokens);
+use crate::tables::all::all;
+use crate::tables::row::{Part, Row, Way};
+use rustc_lexer::{
+    FrontmatterAllowed, Token, TokenKind, Tokens, fits, tokenize, tokenize_as, tokenize_in,
+};
+use std::alloc::{AllocError, Global};
+use std::fmt::Write;
+use std::test::Fail;
+
+/// A text, and the tokens that it should give.
+#[derive(Drop)]
+pub struct Made {
+    pub text: String,
+    pub tokens: Vec<(TokenKind, u32)>,
+}
+
+impl Made {
+    /// The text and the tokens of the parts.
+    pub fn of(alloc: Global, parts: &[Part]) -> Result<Made, AllocError> {
+        let mut text = String::new(alloc);
+        let mut tokens = Vec::new(alloc);
+        for (part, times, wanted) in parts {
+            for _ in 0..*times {
+                text.push_str(part)?;
+                tokens.extend_from_slice(wanted)?;
+            }
+        }
+        Ok(Made { text, tokens })
+    }
+
+    /// The number of the first call that does not give these tokens, or gives others beside them.
+    fn fault(&self, ways: &[Way]) -> Option<usize> {
+        let text = self.text.as_str();
+        let wanted = self.tokens.as_slice();
+        for (number, way) in ways.iter().enumerate() {
+            let holds = fits(text)
+                && gives(lex(text, *way), wanted)
+                && fills(lex(text, *way), [ROOM, ROOM], wanted)
+                && fills(lex(text, *way), [1, 3], wanted);
+            if !holds {
+                return Some(number);
+            }
+        }
+        None
     }
 }
 
-/// Asserts that the text, which has this name, gives these tokens and no others.
-pub fn assert_tokens(
-    rt: &impl Abort,
-    name: &str,
-    text: &str,
-    allowed: FrontmatterAllowed,
-    tokens: &[(TokenKind, u32)],
-) {
-    let holds = fits(text)
-        && gives(tokenize(text, allowed), tokens)
-        && fills(tokenize(text, allowed), [ROOM, ROOM], tokens)
-        && fills(tokenize(text, allowed), [1, 3], tokens);
-    assert!(rt; holds, "in {name:?}");
+/// What the call makes of the text.
+fn lex<'a>(text: &'a str, way: Way) -> Tokens<'a>
+    requires { Fits text.now }
+{
+    match way {
+        Way::Newest(allowed) => tokenize(text, allowed),
+        Way::Part(edition) => tokenize_in(text, edition),
+        Way::Document(edition) => tokenize_as(text, FrontmatterAllowed::Yes, edition),
+    }
 }
 
-/// Whether the text gives these tokens in the edition, and no others.
-pub fn is_lexed_in(text: &str, edition: Edition, tokens: &[(TokenKind, u32)]) -> bool {
-    fits(text)
-        && gives(tokenize_in(text, edition), tokens)
-        && fills(tokenize_in(text, edition), [ROOM, ROOM], tokens)
-        && fills(tokenize_in(text, edition), [1, 3], tokens)
+/// Writes down the rows of the table that do not hold.
+fn write_faults(alloc: Global, faults: &mut String, table: (&str, &[Row])) -> Result<(), Fail> {
+    let (name, rows) = table;
+    for row in rows {
+        if let Some(number) = Made::of(alloc, row.parts)?.fault(row.ways) {
+            writeln!(faults, "{name}, by call {number}: {:?}", row.parts)?;
+        }
+    }
+    Ok(())
 }
 
-/// Whether the document gives these tokens in the edition, and no others.
-pub fn is_document_in(text: &str, edition: Edition, tokens: &[(TokenKind, u32)]) -> bool {
-    let allowed = FrontmatterAllowed::Yes;
-    fits(text)
-        && gives(tokenize_as(text, allowed, edition), tokens)
-        && fills(tokenize_as(text, allowed, edition), [ROOM, ROOM], tokens)
-        && fills(tokenize_as(text, allowed, edition), [1, 3], tokens)
+#[test]
+fn rows(rt: HostRuntime) -> Result<(), Fail> {
+    let mut faults = String::new(rt.alloc());
+    for table in all() {
+        write_faults(rt.alloc(), &mut faults, table)?;
+    }
+    assert!(rt; faults.is_empty(), "{faults}");
+    Ok(())
 }
 
 /// Whether these are the tokens, by kind and length.

@@ -1,9 +1,9 @@
 //! Runs of 0 to 100 characters, and searches as far: each text is made so that the place of what stops it is known.
 //!
 //! A byte that begins no character in UTF-8, such as 0x80, stands at no front that a text could show.
-use crate::tables::kinds::{HEXADECIMAL, INT, LINE, OPEN_STR, STR};
+use crate::tables::kinds::{EMPTY_HEXADECIMAL, HEXADECIMAL, INT, LINE, OPEN_STR, STR};
 use rustc_lexer::TokenKind::{Eof, Ident, Literal, Whitespace};
-use rustc_lexer::{Base, FrontmatterAllowed, LiteralKind, Token, TokenKind, fits, tokenize};
+use rustc_lexer::{FrontmatterAllowed, Token, TokenKind, fits, tokenize};
 use std::alloc::{AllocError, Global};
 
 /// How many characters a text has at most beside its front and its stop.
@@ -30,40 +30,22 @@ struct Runs {
     members: &'static str,
     /// The token where the run is empty, and where it is not, but for the place of a suffix.
     kinds: [TokenKind; 2],
-    /// What stops the run, where the end of the text is an empty one, and how far the token then goes.
-    stops: &'static [(&'static str, Reach)],
+    /// How far the token goes, and what then stops the run, where the end of the text is an empty one.
+    stops: &'static [(Reach, &'static [&'static str])],
 }
 
 /// What `kinds` has in place of the place of a suffix.
 const ANYWHERE: u32 = 0;
 
-const DECIMAL_RUN: TokenKind = Literal {
-    kind: INT,
-    suffix_start: ANYWHERE,
-};
-
-const HEXADECIMAL_RUN: TokenKind = Literal {
-    kind: HEXADECIMAL,
-    suffix_start: ANYWHERE,
-};
-
-const NO_HEXADECIMAL: TokenKind = Literal {
-    kind: LiteralKind::Int {
-        base: Base::Hexadecimal,
-        empty_int: true,
-    },
-    suffix_start: ANYWHERE,
-};
-
-const CLOSED: TokenKind = Literal {
-    kind: STR,
-    suffix_start: ANYWHERE,
-};
-
-const OPEN: TokenKind = Literal {
-    kind: OPEN_STR,
-    suffix_start: ANYWHERE,
-};
+/// A literal with a suffix anywhere.
+macro_rules! run {
+    ($kind:expr) => {
+        Literal {
+            kind: $kind,
+            suffix_start: ANYWHERE,
+        }
+    };
+}
 
 static ALL: &[Runs] = &[
     Runs {
@@ -71,21 +53,10 @@ static ALL: &[Runs] = &[
         members: "azAZ09_",
         kinds: [Ident, Ident],
         stops: &[
-            ("", Reach::ToEnd),
-            ("/", Reach::ToStop),
-            (":", Reach::ToStop),
-            ("@", Reach::ToStop),
-            ("[", Reach::ToStop),
-            ("`", Reach::ToStop),
-            ("{", Reach::ToStop),
-            ("\x7f", Reach::ToStop),
-            ("\u{80}", Reach::ToStop),
-            // Its first byte is 0xDF, which is that of `_` with one bit more.
-            ("\u{7f6}", Reach::ToStop),
-            ("\u{10ffff}", Reach::ToStop),
-            ("é", Reach::ToEnd),
-            ("ß", Reach::ToEnd),
-            ("ÿ", Reach::ToEnd),
+            (Reach::ToStop, &["/", ":", "@", "[", "`", "{", "\x7f"]),
+            // The first byte of U+07F6 is 0xDF, which is that of `_` with one bit more.
+            (Reach::ToStop, &["\u{80}", "\u{7f6}", "\u{10ffff}"]),
+            (Reach::ToEnd, &["", "é", "ß", "ÿ"]),
         ],
     },
     Runs {
@@ -93,76 +64,48 @@ static ALL: &[Runs] = &[
         members: " \t\n\x0b\x0c\r",
         kinds: [Whitespace, Whitespace],
         stops: &[
-            ("", Reach::ToEnd),
-            ("\x08", Reach::ToStop),
-            ("\x0e", Reach::ToStop),
-            ("\x1f", Reach::ToStop),
-            ("!", Reach::ToStop),
-            ("\u{85}", Reach::ToEnd),
-            ("\u{a0}", Reach::ToStop),
-            ("é", Reach::ToStop),
+            (Reach::ToStop, &["\x08", "\x0e", "\x1f", "!", "\u{a0}", "é"]),
+            (Reach::ToEnd, &["", "\u{85}"]),
         ],
     },
     Runs {
         front: "1",
         members: "0_9",
-        kinds: [DECIMAL_RUN, DECIMAL_RUN],
+        kinds: [run!(INT), run!(INT)],
         stops: &[
-            ("", Reach::ToEnd),
-            ("/", Reach::ToStop),
-            (":", Reach::ToStop),
-            ("^", Reach::ToStop),
-            ("`", Reach::ToStop),
-            ("a", Reach::Suffix),
-            ("\u{b0}", Reach::ToStop),
-            ("é", Reach::Suffix),
+            (Reach::ToStop, &["/", ":", "^", "`", "\u{b0}"]),
+            (Reach::ToEnd, &[""]),
+            (Reach::Suffix, &["a", "é"]),
         ],
     },
     Runs {
         front: "0x",
         members: "0_9afAF",
-        kinds: [NO_HEXADECIMAL, HEXADECIMAL_RUN],
+        kinds: [run!(EMPTY_HEXADECIMAL), run!(HEXADECIMAL)],
         stops: &[
-            ("", Reach::ToEnd),
-            ("/", Reach::ToStop),
-            (":", Reach::ToStop),
-            ("@", Reach::ToStop),
-            ("G", Reach::Suffix),
-            ("^", Reach::ToStop),
-            ("`", Reach::ToStop),
-            ("g", Reach::Suffix),
-            ("Á", Reach::Suffix),
-            ("á", Reach::Suffix),
-            // Its first byte is 0xE1, which is that of `a` with one bit more.
-            ("\u{1000}", Reach::Suffix),
-            ("é", Reach::Suffix),
+            (Reach::ToStop, &["/", ":", "@", "^", "`"]),
+            (Reach::ToEnd, &[""]),
+            // The first byte of U+1000 is 0xE1, which is that of `a` with one bit more.
+            (Reach::Suffix, &["G", "g", "Á", "á", "\u{1000}", "é"]),
         ],
     },
     Runs {
         front: "//",
         members: "\x0baz'\r#!",
         kinds: [LINE, LINE],
-        stops: &[
-            ("", Reach::ToEnd),
-            ("\n", Reach::ToStop),
-            ("é", Reach::ToEnd),
-        ],
+        stops: &[(Reach::ToStop, &["\n"]), (Reach::ToEnd, &["", "é"])],
     },
     Runs {
         front: "\"",
         members: "\x0baz'\r#!",
-        kinds: [CLOSED, CLOSED],
-        stops: &[("\"", Reach::PastStop)],
+        kinds: [run!(STR), run!(STR)],
+        stops: &[(Reach::PastStop, &["\""])],
     },
     Runs {
         front: "\"",
         members: "\x0baz'\r#!",
-        kinds: [OPEN, OPEN],
-        stops: &[
-            ("", Reach::ToEnd),
-            ("\\\"", Reach::ToEnd),
-            ("é", Reach::ToEnd),
-        ],
+        kinds: [run!(OPEN_STR), run!(OPEN_STR)],
+        stops: &[(Reach::ToEnd, &["", "\\\"", "é"])],
     },
 ];
 
@@ -172,19 +115,47 @@ type Place = (&'static str, &'static str, usize);
 impl Runs {
     /// The first place at which the token is another than the table says.
     fn fault(&self, alloc: Global) -> Result<Option<Place>, AllocError> {
-        let members = self.members.repeat(alloc, MOST)?;
-        let all = members.as_str();
-        for stop in self.stops {
-            let (stop, reach) = *stop;
-            for end in 0..=MOST {
-                let most = if stop.is_empty() { 0 } else { MOST - end };
-                for past in 0..=most {
-                    let (Some(run), Some(tail)) = (all.get(..end), all.get(..past)) else {
-                        return Ok(Some((self.front, stop, end)));
-                    };
-                    if !self.holds(alloc, [run, stop, tail], reach)? {
-                        return Ok(Some((self.front, stop, end)));
-                    }
+        let all = self.members.repeat(alloc, MOST)?;
+        for (reach, stops) in self.stops {
+            if let Some(place) = self.wrong_stop(alloc, all.as_str(), stops, *reach)? {
+                return Ok(Some(place));
+            }
+        }
+        Ok(None)
+    }
+
+    /// The first of these stops at which it is another.
+    fn wrong_stop(
+        &self,
+        alloc: Global,
+        all: &str,
+        stops: &[&'static str],
+        reach: Reach,
+    ) -> Result<Option<Place>, AllocError> {
+        for stop in stops {
+            if let Some(end) = self.wrong_end(alloc, all, stop, reach)? {
+                return Ok(Some((self.front, *stop, end)));
+            }
+        }
+        Ok(None)
+    }
+
+    /// The first length of a run before this stop at which it is another, whatever stands behind the stop.
+    fn wrong_end(
+        &self,
+        alloc: Global,
+        all: &str,
+        stop: &str,
+        reach: Reach,
+    ) -> Result<Option<usize>, AllocError> {
+        for end in 0..=MOST {
+            let most = if stop.is_empty() { 0 } else { MOST - end };
+            for past in 0..=most {
+                let (Some(run), Some(tail)) = (all.get(..end), all.get(..past)) else {
+                    return Ok(Some(end));
+                };
+                if !self.holds(alloc, [run, stop, tail], reach)? {
+                    return Ok(Some(end));
                 }
             }
         }

@@ -1,6 +1,8 @@
 //! The rows, as data. The tests of the bindings read these files too: each names nothing but the lexer's types, and other
 //! tables.
+pub(crate) mod all;
 pub(crate) mod comments;
+pub(crate) mod editions;
 pub(crate) mod edits;
 pub(crate) mod first_path;
 pub(crate) mod frontmatter;

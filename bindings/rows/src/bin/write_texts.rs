@@ -1,5 +1,6 @@
 //! Writes the texts of the rows to files, for the tests of the program in C: to `no` and `yes` in the folder that is
-//! named, by whether a frontmatter may stand in front, and those with a shebang line to look for to `shebang`.
+//! named, by whether a frontmatter may stand in front, and those with a shebang line to look for to `shebang`. Those of
+//! an edition are left out.
 
 use rustc_lexer::FrontmatterAllowed;
 use std::path::Path;
@@ -11,9 +12,10 @@ fn main() -> io::Result<()> {
         fs::create_dir_all(Path::new(&folder).join(name))?;
     }
     for (number, case) in rows::cases().iter().enumerate() {
-        let name = match case.allowed {
-            FrontmatterAllowed::No => "no",
-            FrontmatterAllowed::Yes => "yes",
+        let name = match case.allowed() {
+            Some(FrontmatterAllowed::No) => "no",
+            Some(FrontmatterAllowed::Yes) => "yes",
+            None => continue,
         };
         fs::write(
             Path::new(&folder).join(name).join(number.to_string()),

@@ -1,102 +1,123 @@
 //! Edits of a text that is kept with its tokens, in an edition.
-use crate::tables::kinds::{BLOCK, FLOAT, LIFETIME, OPEN_STR, STR};
-use crate::tables::row::literal;
-use rustc_lexer::TokenKind::{
-    ForcedKeywordIdent, GuardedStrPrefix, Ident, InvalidIdent, Pound, RawLifetime, Whitespace,
+use crate::tables::kinds::{
+    BLOCK, FLOAT, HASH, LETTER, LIFETIME, OPEN_BLOCK, OPEN_STR, SPACE, STR, WORD,
 };
-use rustc_lexer::{Edit, Edition, Relexed, TokenKind};
+use crate::tables::row::{Part, literal, parts};
+use rustc_lexer::TokenKind::{
+    ForcedKeywordIdent, GuardedStrPrefix, Ident, InvalidIdent, RawLifetime, Slash, Star, Unknown,
+};
+use rustc_lexer::{Edition, Relexed, TokenKind};
 
-/// A text, an edit of it, its counts, and the text and the tokens that it leaves.
+/// An edit, and its counts, or none where it is refused.
+#[derive(Clone, Copy)]
+pub struct Step {
+    pub start: usize,
+    pub stop: usize,
+    pub insert: &'static [Part],
+    pub counts: Option<Relexed>,
+}
+
+/// A text, edits of it, and the text and the tokens that they leave.
 #[derive(Clone, Copy)]
 pub struct EditRow {
-    pub text: &'static str,
     pub edition: Edition,
-    pub edit: Edit<'static>,
-    pub counts: Relexed,
-    pub made: &'static str,
-    pub tokens: &'static [(TokenKind, u32)],
+    pub text: &'static [Part],
+    pub steps: &'static [Step],
+    pub made: &'static [Part],
 }
 
-/// An edit.
-pub const fn edit(start: usize, stop: usize, insert: &str) -> Edit<'_> {
-    Edit {
-        start,
-        stop,
-        insert,
-    }
-}
-
-/// The counts of an edit.
-pub const fn relexed(kept_front: usize, lexed: usize, kept_back: usize) -> Relexed {
-    Relexed {
-        kept_front,
-        lexed,
-        kept_back,
-    }
-}
-
-/// A row: `edition, text, start..stop insert: kept_front, lexed, kept_back; the text and the tokens that are left`.
-macro_rules! edited {
-    ($edition:ident, $text:literal, $start:literal .. $stop:literal $insert:literal: $front:literal, $lexed:literal, $back:literal; $made:literal, [$($token:expr),* $(,)?]) => {
-        EditRow {
-            text: $text,
+/// Rows: `edition text (start..stop insert: kept_front, lexed, kept_back).. => text tokens`. An edit with no counts is
+/// refused.
+macro_rules! edits {
+    ($($edition:ident $text:tt $(($start:literal..$stop:literal $insert:tt $(: $counts:tt)?))* => $made:tt $tokens:tt),* $(,)?) => {
+        &[$(EditRow {
             edition: Edition::$edition,
-            edit: Edit {
+            text: parts!($text => []),
+            steps: &[$(Step {
                 start: $start,
                 stop: $stop,
-                insert: $insert,
-            },
-            counts: Relexed {
-                kept_front: $front,
-                lexed: $lexed,
-                kept_back: $back,
-            },
-            made: $made,
-            tokens: &[$($token),*],
-        }
+                insert: parts!($insert => []),
+                counts: counts!($($counts)?),
+            }),*],
+            made: parts!($made => $tokens),
+        }),*]
     };
 }
 
-pub const SPACE: (TokenKind, u32) = (Whitespace, 1);
+macro_rules! counts {
+    () => {
+        None
+    };
+    ([$kept_front:literal, $lexed:literal, $kept_back:literal]) => {
+        Some(Relexed {
+            kept_front: $kept_front,
+            lexed: $lexed,
+            kept_back: $kept_back,
+        })
+    };
+}
 
-pub const LETTER: (TokenKind, u32) = (Ident, 1);
+pub static SOME: &[EditRow] = edits! {
+    E2024 "" (0..0 "": [0, 0, 0]) => "" [],
+    E2024 "ab cd ef" (8..8 "z": [4, 1, 0]) => "ab cd efz" [WORD, SPACE, WORD, SPACE, (Ident, 3)],
+    E2024 "ab cd ef" (3..5 "x y": [0, 5, 2]) => "ab x y ef" [WORD, SPACE, LETTER, SPACE, LETTER, SPACE, WORD],
+    E2024 "k# x" (2..2 "f": [0, 1, 2]) => "k#f x" [(ForcedKeywordIdent, 3), SPACE, LETTER],
+    E2024 "1.x" (2..3 "5": [0, 1, 0]) => "1.5" [literal!(FLOAT, 3)],
+    E2024 "a b c */ d" (2..2 "/*": [0, 3, 2]) => "a /*b c */ d" [LETTER, SPACE, (BLOCK, 8), SPACE, LETTER],
+    E2024 "x \"a\" y" (0..0 "\"": [0, 2, 0]) => "\"x \"a\" y" [literal!(STR, 4, 5), literal!(OPEN_STR, 3)],
+    E2024 "a 😀 é" (9..9 "z": [3, 2, 0]) => "a 😀 éz" [LETTER, SPACE, (InvalidIdent, 4), SPACE, (Ident, 3)],
+    E2024 "ab cd" (0..3 "": [0, 0, 1]) => "cd" [WORD],
+    E2024 "/* a" (4..4 " */": [0, 1, 0]) => "/* a */" [(BLOCK, 7)],
+};
 
-pub const WORD: (TokenKind, u32) = (Ident, 2);
+pub static MORE: &[EditRow] = edits! {
+    E2024 "a 😀 é" (2..6 "zz 1.": [0, 5, 2]) => "a zz 1. é" [
+        LETTER, SPACE, WORD, SPACE, literal!(FLOAT, 2), SPACE, WORD,
+    ],
+    E2024 "ab cd" (0..0 "": [0, 0, 3]) => "ab cd" [WORD, SPACE, WORD],
+    E2024 "# a" (1..1 "\"": [0, 1, 2]) => "#\" a" [(GuardedStrPrefix, 2), SPACE, LETTER],
+    E2024 "'r#foo" (6..6 "x": [0, 1, 0]) => "'r#foox" [(RawLifetime, 7)],
+    E2018 "'r#foo" (6..6 "x": [2, 1, 0]) => "'r#foox" [(LIFETIME, 2), HASH, (Ident, 4)],
+    E2015 "'r#foo" (6..6 "x": [2, 1, 0]) => "'r#foox" [(LIFETIME, 2), HASH, (Ident, 4)],
+    E2024 "#\"a\"" (0..0 "#": [0, 2, 0]) => "##\"a\"" [(GuardedStrPrefix, 2), literal!(STR, 3)],
+    E2021 "#\"a\"" (0..0 "#": [0, 1, 2]) => "##\"a\"" [HASH, HASH, literal!(STR, 3)],
+};
 
-const HASH: (TokenKind, u32) = (Pound, 1);
+/// Lists of edits.
+pub static LISTS: &[EditRow] = edits! {
+    // A later edit goes by the text that the earlier ones leave.
+    E2024 "cd efz" => "cd efz" [WORD, SPACE, (Ident, 3)],
+    E2024 "ab cd ef" (8..8 "z": [4, 1, 0]) (0..3 "": [0, 0, 3]) => "cd efz" [WORD, SPACE, (Ident, 3)],
+    E2024 "ab" (2..2 "c": [0, 1, 0]) (3..3 " d": [0, 3, 0]) => "abc d" [(Ident, 3), SPACE, LETTER],
+    // What is outside the text is refused, and what cuts a character.
+    E2024 "ab cd" (0..3 "": [0, 0, 1]) (1..9 "") => "cd" [WORD],
+    E2024 "é" (1..2 "") => "é" [WORD],
+};
 
-pub static ROWS: &[EditRow] = &[
-    edited!(E2024, "", 0..0 "": 0, 0, 0; "", []),
-    edited!(E2024, "ab cd ef", 8..8 "z": 4, 1, 0; "ab cd efz", [WORD, SPACE, WORD, SPACE, (Ident, 3)]),
-    edited!(
-        E2024, "ab cd ef", 3..5 "x y": 0, 5, 2;
-        "ab x y ef", [WORD, SPACE, LETTER, SPACE, LETTER, SPACE, WORD]
-    ),
-    edited!(E2024, "k# x", 2..2 "f": 0, 1, 2; "k#f x", [(ForcedKeywordIdent, 3), SPACE, LETTER]),
-    edited!(E2024, "1.x", 2..3 "5": 0, 1, 0; "1.5", [literal!(FLOAT, 3)]),
-    edited!(
-        E2024, "a b c */ d", 2..2 "/*": 0, 3, 2;
-        "a /*b c */ d", [LETTER, SPACE, (BLOCK, 8), SPACE, LETTER]
-    ),
-    edited!(
-        E2024, "x \"a\" y", 0..0 "\"": 0, 2, 0;
-        "\"x \"a\" y", [literal!(STR, 4, 5), literal!(OPEN_STR, 3)]
-    ),
-    edited!(
-        E2024, "a 😀 é", 9..9 "z": 3, 2, 0;
-        "a 😀 éz", [LETTER, SPACE, (InvalidIdent, 4), SPACE, (Ident, 3)]
-    ),
-    edited!(E2024, "ab cd", 0..3 "": 0, 0, 1; "cd", [WORD]),
-    edited!(E2024, "/* a", 4..4 " */": 0, 1, 0; "/* a */", [(BLOCK, 7)]),
-    edited!(
-        E2024, "a 😀 é", 2..6 "zz 1.": 0, 5, 2;
-        "a zz 1. é", [LETTER, SPACE, WORD, SPACE, literal!(FLOAT, 2), SPACE, WORD]
-    ),
-    edited!(E2024, "ab cd", 0..0 "": 0, 0, 3; "ab cd", [WORD, SPACE, WORD]),
-    edited!(E2024, "# a", 1..1 "\"": 0, 1, 2; "#\" a", [(GuardedStrPrefix, 2), SPACE, LETTER]),
-    edited!(E2024, "'r#foo", 6..6 "x": 0, 1, 0; "'r#foox", [(RawLifetime, 7)]),
-    edited!(E2018, "'r#foo", 6..6 "x": 2, 1, 0; "'r#foox", [(LIFETIME, 2), HASH, (Ident, 4)]),
-    edited!(E2015, "'r#foo", 6..6 "x": 2, 1, 0; "'r#foox", [(LIFETIME, 2), HASH, (Ident, 4)]),
-    edited!(E2024, "#\"a\"", 0..0 "#": 0, 2, 0; "##\"a\"", [(GuardedStrPrefix, 2), literal!(STR, 3)]),
-    edited!(E2021, "#\"a\"", 0..0 "#": 0, 1, 2; "##\"a\"", [HASH, HASH, literal!(STR, 3)]),
-];
+/// Long texts.
+pub static LONG: &[EditRow] = edits! {
+    // Much is put in: 602 tokens, and then the old ones begin again; and a comment with no end, which meets none of them.
+    E2024 "ab cd ef" (3..3 ["x " * 300]: [0, 602, 3]) => {
+        "ab " => [WORD, SPACE], "x " * 300 => [LETTER, SPACE], "cd ef" => [WORD, SPACE, WORD]
+    } [],
+    E2024 "ab cd ef" (3..3 ["/*a " * 300]: [0, 3, 0]) => ["ab ", "/*a " * 300, "cd ef"] [
+        WORD, SPACE, (OPEN_BLOCK, 1205),
+    ],
+    // An opening in front of many tokens, and away again; marks behind many tokens; an emoji less.
+    E2024 ["x " * 50_000] (0..0 "/*": [0, 1, 0]) => ["/*", "x " * 50_000] [(OPEN_BLOCK, 100_002)],
+    E2024 ["x " * 50_000] (0..0 "/*": [0, 1, 0]) (0..2 "": [0, 100_000, 0]) => {"x " * 50_000 => [LETTER, SPACE]} [],
+    E2024 ["x " * 50_000] (100_000..100_000 "*/": [99_998, 4, 0]) => {
+        "x " * 50_000 => [LETTER, SPACE], "*/" => [(Star, 1), (Slash, 1)]
+    } [],
+    E2024 ["x " * 50_000] (100_000..100_000 "/*": [99_998, 3, 0]) => {
+        "x " * 50_000 => [LETTER, SPACE], "/*" => [(OPEN_BLOCK, 2)]
+    } [],
+    E2024 ["😀" * 1_000] (0..4 "": [0, 1, 0]) => ["😀" * 999] [(InvalidIdent, 3_996)],
+};
+
+const ONE: (TokenKind, u32) = (Unknown, 1);
+
+/// The same where each character is one token.
+pub static CHARACTERS: &[EditRow] = edits! {
+    E2024 "ab cd" (3..3 "é": [1, 3, 2]) => "ab écd" [ONE, ONE, ONE, (Unknown, 2), ONE, ONE],
+};

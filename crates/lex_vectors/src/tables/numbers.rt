@@ -1,153 +1,104 @@
 //! Numbers and their suffixes.
-use crate::tables::kinds::{BINARY, EMPTY_EXPONENT, FLOAT, HEXADECIMAL, INT, OCTAL, STR};
-use crate::tables::row::{Row, literal, row};
+use crate::tables::kinds::{
+    BINARY, BINARY_FLOAT, EMPTY_BINARY, EMPTY_EXPONENT, EMPTY_HEXADECIMAL, EMPTY_OCTAL, FLOAT,
+    HEXADECIMAL, HEXADECIMAL_FLOAT, INT, OCTAL, OCTAL_EMPTY_EXPONENT, STR,
+};
+use crate::tables::row::{PLAIN, Row, literal, rows};
 use rustc_lexer::TokenKind::{
     CloseParen, Dot, Ident, InvalidIdent, Minus, OpenParen, Plus, Unknown, Whitespace,
 };
-use rustc_lexer::{Base, LiteralKind};
-
-const EMPTY_BINARY: LiteralKind = LiteralKind::Int {
-    base: Base::Binary,
-    empty_int: true,
-};
-
-const EMPTY_OCTAL: LiteralKind = LiteralKind::Int {
-    base: Base::Octal,
-    empty_int: true,
-};
-
-const EMPTY_HEXADECIMAL: LiteralKind = LiteralKind::Int {
-    base: Base::Hexadecimal,
-    empty_int: true,
-};
-
-const BINARY_FLOAT: LiteralKind = LiteralKind::Float {
-    base: Base::Binary,
-    empty_exponent: false,
-};
-
-const OCTAL_EMPTY_EXPONENT: LiteralKind = LiteralKind::Float {
-    base: Base::Octal,
-    empty_exponent: true,
-};
-
-const HEXADECIMAL_FLOAT: LiteralKind = LiteralKind::Float {
-    base: Base::Hexadecimal,
-    empty_exponent: false,
-};
 
 /// A number of each form, which the text ends with.
-pub(crate) static AT_THE_END: &[Row] = &[
-    row!("0", [literal!(INT, 1)]),
-    row!("7", [literal!(INT, 1)]),
-    row!("00", [literal!(INT, 2)]),
-    row!("0_", [literal!(INT, 2)]),
-    row!("12", [literal!(INT, 2)]),
-    row!("1_", [literal!(INT, 2)]),
-    row!("1__0", [literal!(INT, 4)]),
-    row!("0b", [literal!(EMPTY_BINARY, 2)]),
-    row!("0b_", [literal!(EMPTY_BINARY, 3)]),
-    row!("0b1", [literal!(BINARY, 3)]),
-    row!("0b12", [literal!(BINARY, 4)]),
-    row!("0o", [literal!(EMPTY_OCTAL, 2)]),
-    row!("0o7", [literal!(OCTAL, 3)]),
-    row!("0o18", [literal!(OCTAL, 4)]),
-    row!("0x", [literal!(EMPTY_HEXADECIMAL, 2)]),
-    row!("0x_", [literal!(EMPTY_HEXADECIMAL, 3)]),
-    row!("0xe", [literal!(HEXADECIMAL, 3)]),
-    row!("0x1_F", [literal!(HEXADECIMAL, 5)]),
-    row!("0.", [literal!(FLOAT, 2)]),
-    row!("1.", [literal!(FLOAT, 2)]),
-    row!("0.0", [literal!(FLOAT, 3)]),
-    row!("1.5_", [literal!(FLOAT, 4)]),
-    row!("0b1.0", [literal!(BINARY_FLOAT, 5)]),
-    row!("0x1.", [literal!(HEXADECIMAL_FLOAT, 4)]),
-    row!("0x1.0", [literal!(HEXADECIMAL_FLOAT, 5)]),
-    row!("0e", [literal!(EMPTY_EXPONENT, 2)]),
-    row!("1E", [literal!(EMPTY_EXPONENT, 2)]),
-    row!("1e_", [literal!(EMPTY_EXPONENT, 3)]),
-    row!("1e+", [literal!(EMPTY_EXPONENT, 3)]),
-    row!("1.5e", [literal!(EMPTY_EXPONENT, 4)]),
-    row!("0o7e", [literal!(OCTAL_EMPTY_EXPONENT, 4)]),
-    row!("0e0", [literal!(FLOAT, 3)]),
-    row!("1e5", [literal!(FLOAT, 3)]),
-    row!("1e-5", [literal!(FLOAT, 4)]),
-    row!("1e+_5", [literal!(FLOAT, 5)]),
-    row!("1.5e_1", [literal!(FLOAT, 6)]),
-    row!("1.5E-3", [literal!(FLOAT, 6)]),
-    row!("0b1e3", [literal!(BINARY_FLOAT, 5)]),
-];
+pub(crate) static AT_THE_END: &[Row] = rows! {
+    PLAIN:
+    "0" => [literal!(INT, 1)],
+    "7" => [literal!(INT, 1)],
+    "00" => [literal!(INT, 2)],
+    "0_" => [literal!(INT, 2)],
+    "12" => [literal!(INT, 2)],
+    "1_" => [literal!(INT, 2)],
+    "1__0" => [literal!(INT, 4)],
+    "0b" => [literal!(EMPTY_BINARY, 2)],
+    "0b_" => [literal!(EMPTY_BINARY, 3)],
+    "0b1" => [literal!(BINARY, 3)],
+    "0b12" => [literal!(BINARY, 4)],
+    "0o" => [literal!(EMPTY_OCTAL, 2)],
+    "0o7" => [literal!(OCTAL, 3)],
+    "0o18" => [literal!(OCTAL, 4)],
+    "0x" => [literal!(EMPTY_HEXADECIMAL, 2)],
+    "0x_" => [literal!(EMPTY_HEXADECIMAL, 3)],
+    "0xe" => [literal!(HEXADECIMAL, 3)],
+    "0x1_F" => [literal!(HEXADECIMAL, 5)],
+    "0." => [literal!(FLOAT, 2)],
+    "1." => [literal!(FLOAT, 2)],
+    "0.0" => [literal!(FLOAT, 3)],
+    "1.5_" => [literal!(FLOAT, 4)],
+    "0b1.0" => [literal!(BINARY_FLOAT, 5)],
+    "0x1." => [literal!(HEXADECIMAL_FLOAT, 4)],
+    "0x1.0" => [literal!(HEXADECIMAL_FLOAT, 5)],
+    "0e" => [literal!(EMPTY_EXPONENT, 2)],
+    "1E" => [literal!(EMPTY_EXPONENT, 2)],
+    "1e_" => [literal!(EMPTY_EXPONENT, 3)],
+    "1e+" => [literal!(EMPTY_EXPONENT, 3)],
+    "1.5e" => [literal!(EMPTY_EXPONENT, 4)],
+    "0o7e" => [literal!(OCTAL_EMPTY_EXPONENT, 4)],
+    "0e0" => [literal!(FLOAT, 3)],
+    "1e5" => [literal!(FLOAT, 3)],
+    "1e-5" => [literal!(FLOAT, 4)],
+    "1e+_5" => [literal!(FLOAT, 5)],
+    "1.5e_1" => [literal!(FLOAT, 6)],
+    "1.5E-3" => [literal!(FLOAT, 6)],
+    "0b1e3" => [literal!(BINARY_FLOAT, 5)],
+};
 
-pub(crate) static SUFFIXES: &[Row] = &[
-    row!("0us", [literal!(INT, 1, 3)]),
-    row!("1f32", [literal!(INT, 1, 4)]),
-    row!("1_u8", [literal!(INT, 2, 4)]),
-    row!("1é", [literal!(INT, 1, 3)]),
-    row!("0B1", [literal!(INT, 1, 3)]),
-    row!("0X1", [literal!(INT, 1, 3)]),
-    row!("0b1u8", [literal!(BINARY, 3, 5)]),
-    row!("0be3", [literal!(EMPTY_BINARY, 2, 4)]),
-    row!("0b_u8", [literal!(EMPTY_BINARY, 3, 5)]),
-    row!("0xFu8", [literal!(HEXADECIMAL, 3, 5)]),
-    row!("0x_g", [literal!(EMPTY_HEXADECIMAL, 3, 4)]),
-    row!("1.5f32", [literal!(FLOAT, 3, 6)]),
-    row!("0x1.8p", [literal!(HEXADECIMAL_FLOAT, 5, 6)]),
-    row!("1e5f64", [literal!(FLOAT, 3, 6)]),
-    row!("1e1e1", [literal!(FLOAT, 3, 5)]),
-    row!("1em", [literal!(EMPTY_EXPONENT, 2, 3)]),
-    row!("1e+f", [literal!(EMPTY_EXPONENT, 3, 4)]),
-    row!("1e_f32", [literal!(EMPTY_EXPONENT, 3, 6)]),
-    row!("1_000.0_1E-3f32", [literal!(FLOAT, 12, 15)]),
-    row!("1u8\"a\"", [literal!(INT, 1, 3), literal!(STR, 3)]),
-    row!("1r\"a\"", [literal!(INT, 1, 2), literal!(STR, 3)]),
-];
+pub(crate) static SUFFIXES: &[Row] = rows! {
+    PLAIN:
+    "0us" => [literal!(INT, 1, 3)],
+    "1f32" => [literal!(INT, 1, 4)],
+    "1_u8" => [literal!(INT, 2, 4)],
+    "1é" => [literal!(INT, 1, 3)],
+    "0B1" => [literal!(INT, 1, 3)],
+    "0X1" => [literal!(INT, 1, 3)],
+    "0b1u8" => [literal!(BINARY, 3, 5)],
+    "0be3" => [literal!(EMPTY_BINARY, 2, 4)],
+    "0b_u8" => [literal!(EMPTY_BINARY, 3, 5)],
+    "0xFu8" => [literal!(HEXADECIMAL, 3, 5)],
+    "0x_g" => [literal!(EMPTY_HEXADECIMAL, 3, 4)],
+    "1.5f32" => [literal!(FLOAT, 3, 6)],
+    "0x1.8p" => [literal!(HEXADECIMAL_FLOAT, 5, 6)],
+    "1e5f64" => [literal!(FLOAT, 3, 6)],
+    "1e1e1" => [literal!(FLOAT, 3, 5)],
+    "1em" => [literal!(EMPTY_EXPONENT, 2, 3)],
+    "1e+f" => [literal!(EMPTY_EXPONENT, 3, 4)],
+    "1e_f32" => [literal!(EMPTY_EXPONENT, 3, 6)],
+    "1_000.0_1E-3f32" => [literal!(FLOAT, 12, 15)],
+    "1u8\"a\"" => [literal!(INT, 1, 3), literal!(STR, 3)],
+    "1r\"a\"" => [literal!(INT, 1, 2), literal!(STR, 3)],
+};
 
-pub(crate) static BEFORE_OTHERS: &[Row] = &[
+pub(crate) static BEFORE_OTHERS: &[Row] = rows! {
+    PLAIN:
     // A dot before a dot or a name is no part of the number.
-    row!(
-        "1..2",
-        [literal!(INT, 1), (Dot, 1), (Dot, 1), literal!(INT, 1)]
-    ),
-    row!(
-        "12.foo()",
-        [
-            literal!(INT, 2),
-            (Dot, 1),
-            (Ident, 3),
-            (OpenParen, 1),
-            (CloseParen, 1),
-        ]
-    ),
-    row!("1.e5", [literal!(INT, 1), (Dot, 1), (Ident, 2)]),
-    row!("1._5", [literal!(INT, 1), (Dot, 1), (Ident, 2)]),
-    row!("1.é", [literal!(INT, 1), (Dot, 1), (Ident, 2)]),
-    row!("0x1.e", [literal!(HEXADECIMAL, 3), (Dot, 1), (Ident, 1)]),
-    row!("1.\u{200d}", [literal!(FLOAT, 2), (Unknown, 3)]),
-    row!("1.😀", [literal!(FLOAT, 2), (InvalidIdent, 4)]),
-    row!(
-        "1. 2",
-        [literal!(FLOAT, 2), (Whitespace, 1), literal!(INT, 1)]
-    ),
+    "1..2" => [literal!(INT, 1), (Dot, 1), (Dot, 1), literal!(INT, 1)],
+    "12.foo()" => [literal!(INT, 2), (Dot, 1), (Ident, 3), (OpenParen, 1), (CloseParen, 1)],
+    "1.e5" => [literal!(INT, 1), (Dot, 1), (Ident, 2)],
+    "1._5" => [literal!(INT, 1), (Dot, 1), (Ident, 2)],
+    "1.é" => [literal!(INT, 1), (Dot, 1), (Ident, 2)],
+    "0x1.e" => [literal!(HEXADECIMAL, 3), (Dot, 1), (Ident, 1)],
+    "1.\u{200d}" => [literal!(FLOAT, 2), (Unknown, 3)],
+    "1.😀" => [literal!(FLOAT, 2), (InvalidIdent, 4)],
+    "1. 2" => [literal!(FLOAT, 2), (Whitespace, 1), literal!(INT, 1)],
     // Nor is one after a fraction, an exponent or a prefix alone.
-    row!("1.2.3", [literal!(FLOAT, 3), (Dot, 1), literal!(INT, 1)]),
-    row!("1e1.0", [literal!(FLOAT, 3), (Dot, 1), literal!(INT, 1)]),
-    row!(
-        "0b.0",
-        [literal!(EMPTY_BINARY, 2), (Dot, 1), literal!(INT, 1)]
-    ),
-    row!("0o_.", [literal!(EMPTY_OCTAL, 3), (Dot, 1)]),
+    "1.2.3" => [literal!(FLOAT, 3), (Dot, 1), literal!(INT, 1)],
+    "1e1.0" => [literal!(FLOAT, 3), (Dot, 1), literal!(INT, 1)],
+    "0b.0" => [literal!(EMPTY_BINARY, 2), (Dot, 1), literal!(INT, 1)],
+    "0o_." => [literal!(EMPTY_OCTAL, 3), (Dot, 1)],
     // Signs, and what no suffix begins with.
-    row!(".5", [(Dot, 1), literal!(INT, 1)]),
-    row!("-1", [(Minus, 1), literal!(INT, 1)]),
-    row!(
-        "0xE+1",
-        [literal!(HEXADECIMAL, 3), (Plus, 1), literal!(INT, 1)]
-    ),
-    row!(
-        "1e++1",
-        [literal!(EMPTY_EXPONENT, 3), (Plus, 1), literal!(INT, 1)]
-    ),
-    row!("1😀", [literal!(INT, 1), (InvalidIdent, 4)]),
-    row!("9\0", [literal!(INT, 1), (Unknown, 1)]),
-    row!("1\u{663}", [literal!(INT, 1), (Unknown, 2)]),
-];
+    ".5" => [(Dot, 1), literal!(INT, 1)],
+    "-1" => [(Minus, 1), literal!(INT, 1)],
+    "0xE+1" => [literal!(HEXADECIMAL, 3), (Plus, 1), literal!(INT, 1)],
+    "1e++1" => [literal!(EMPTY_EXPONENT, 3), (Plus, 1), literal!(INT, 1)],
+    "1😀" => [literal!(INT, 1), (InvalidIdent, 4)],
+    "9\0" => [literal!(INT, 1), (Unknown, 1)],
+    "1\u{663}" => [literal!(INT, 1), (Unknown, 2)],
+};

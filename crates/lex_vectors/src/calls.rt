@@ -1,0 +1,123 @@
+//! What single calls answer, and what a text of one character or one word is.
+use crate::rows::Made;
+use crate::tables::raw_strings::CHECKS;
+use crate::tables::shebang;
+use rustc_lexer::{
+    UNICODE_VERSION, fits, is_horizontal_whitespace, is_id_continue, is_id_start, is_ident,
+    is_whitespace, settled, starts_raw, strip_shebang, validate_raw_str,
+};
+use std::alloc::AllocError;
+
+#[test]
+fn shebang_lines(rt: HostRuntime) {
+    for (text, line) in shebang::ROWS {
+        assert!(rt; fits(text));
+        assert_eq!(rt; strip_shebang(text), *line, "in {text:?}");
+    }
+}
+
+#[test]
+fn checks_of_raw_strings(rt: HostRuntime) -> Result<(), AllocError> {
+    for (parts, prefix_len, want) in CHECKS {
+        let made = Made::of(rt.alloc(), parts)?;
+        let text = made.text.as_str();
+        assert!(rt; fits(text) && starts_raw(text, *prefix_len), "in {text:?}");
+        assert_eq!(rt; validate_raw_str(text, *prefix_len), *want, "in {text:?}");
+    }
+    Ok(())
+}
+
+#[test]
+fn prefixes_of_raw_strings(rt: HostRuntime) {
+    let some = [
+        ("r", 1),
+        ("rr", 1),
+        ("rr", 2),
+        ("br", 2),
+        ("ér", 2),
+        ("r\"", 1),
+    ];
+    for (text, prefix_len) in some {
+        assert!(rt; starts_raw(text, prefix_len), "{prefix_len} in {text:?}");
+    }
+    let none = [
+        ("", 0),
+        ("", 1),
+        ("r", 0),
+        ("r", 2),
+        ("R", 1),
+        ("br", 1),
+        ("br", 3),
+        ("ér", 1),
+        ("ér", 3),
+        ("r", u32::MAX),
+    ];
+    for (text, prefix_len) in none {
+        assert!(rt; !starts_raw(text, prefix_len), "{prefix_len} in {text:?}");
+    }
+}
+
+#[test]
+fn whole_identifiers(rt: HostRuntime) {
+    for text in ["_", "a1", "é", "while", "\u{2139}", "a\u{200d}"] {
+        assert!(rt; is_ident(text), "at {text:?}");
+    }
+    for text in ["", "1a", "a😀", "😀", "a ", " a", "r#a", "\u{200d}a", "a\0"] {
+        assert!(rt; !is_ident(text), "at {text:?}");
+    }
+}
+
+/// Characters, and whether they are white space, of a line, begin an identifier and go on with one.
+static CLASSES: &[(&str, [bool; 4])] = &[
+    ("\t ", [true, true, false, false]),
+    (
+        "\n\u{b}\u{c}\r\u{85}\u{200e}\u{200f}\u{2028}\u{2029}",
+        [true, false, false, false],
+    ),
+    ("_aZé\u{2139}", [false, false, true, true]),
+    (
+        "0\u{200c}\u{200d}\u{30fb}\u{ff65}",
+        [false, false, false, true],
+    ),
+    (
+        "-'😀\0\u{8}\u{e}\u{a0}\u{2027}\u{202a}\u{feff}",
+        [false, false, false, false],
+    ),
+];
+
+#[test]
+fn classes(rt: HostRuntime) {
+    for (text, wanted) in CLASSES {
+        for c in text.chars() {
+            let found = [
+                is_whitespace(c),
+                is_horizontal_whitespace(c),
+                is_id_start(c),
+                is_id_continue(c),
+            ];
+            assert_eq!(rt; found, *wanted, "of {c:?}");
+        }
+    }
+}
+
+#[test]
+fn unicode_version(rt: HostRuntime) {
+    let (major, minor, patch) = UNICODE_VERSION;
+    assert_eq!(rt; [major, minor, patch], [18, 0, 0]);
+}
+
+#[test]
+fn settled_places(rt: HostRuntime) {
+    for (text, place) in [
+        ("ab cd ef", 6),
+        ("a 😀 é", 6),
+        ("k# ", 1),
+        ("k#", 0),
+        ("1. ", 0),
+        ("'a# ", 2),
+        ("", 0),
+    ] {
+        assert!(rt; fits(text));
+        assert_eq!(rt; settled(text), place, "in {text:?}");
+    }
+}
