@@ -48,7 +48,7 @@ pub(crate) fn lexeme(text: &str) -> Token
 
 /// The token at the front of a text that begins with no hash, as its first character chooses.
 #[inline(never)]
-fn choose_token(text: &str) -> Token
+pub(crate) fn choose_token(text: &str) -> Token
     requires fits { Fits text.now }
     requires no_hash { BeginsWithNoHash text.now }
     ensures { IsFirstToken text.now result }

@@ -2,6 +2,8 @@
 
 use crate::erased::cursor::next_allowed;
 use crate::erased::edition::{Edition, token_as};
+use crate::erased::lexemes::choose_token;
+use crate::erased::lexemes::quick::quick_token;
 use crate::erased::token::{FrontmatterAllowed, Token};
 use core::iter::Iterator;
 
@@ -91,11 +93,22 @@ impl<'a> Iterator for Tokens<'a> {
     type Item = Token;
 
     /// The next token, or `None` past the last one, from then on.
+    ///
+    /// Each way gives its token out by itself. So one that its bytes tell is never written to memory and read again.
     #[inline(always)]
     fn next(&mut self) -> Option<Token> {
         let rest = self.as_str();
         if rest.is_empty() {
             return None;
+        }
+        if let (FrontmatterAllowed::No, Edition::E2024) = (self.frontmatter_allowed, self.edition) {
+            if let Some(quick) = quick_token(rest) {
+                self.rest = &rest[quick.len as usize..];
+                return Some(quick);
+            }
+            let chosen = choose_token(rest);
+            self.rest = &rest[chosen.len as usize..];
+            return Some(chosen);
         }
         let token = token_as(rest, self.frontmatter_allowed, self.edition);
         self.rest = &rest[token.len as usize..];

@@ -39,7 +39,7 @@ pub(crate) fn lexeme(text: &str) -> Token {
 
 /// The token at the front of a text that begins with no hash, as its first character chooses.
 #[inline(never)]
-fn choose_token(text: &str) -> Token {
+pub(crate) fn choose_token(text: &str) -> Token {
     let Some((first, tail)) = split_first(text) else {
         return Token {
             kind: TokenKind::Eof,

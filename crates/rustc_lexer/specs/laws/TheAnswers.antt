@@ -1,11 +1,9 @@
 -- How each answer of the page is found, and that it is the only one.
-use Rattle.std.proofs.Common.{◌≡◌, ℕ, ◌<◌, ◌==◌, Bool, true, false, List, [], ◌∷◌, length, take, drop, refl, sym, ap, ◌∙◌, subst, arith, Option, Result, pos_of_ne-zero}
+use Rattle.std.proofs.Common.{◌≡◌, ℕ, ◌<◌, ◌==◌, Bool, true, false, List, [], ◌∷◌, length, drop, refl, sym, ap, ◌∙◌, subst, arith, pos_of_ne-zero}
 use Rattle.std.proofs.lemmas.Bool.{eqb-true, eqb-false}
 use Rattle.std.specs.Str.{chars}
 use Rattle.std.proofs.lemmas.List.{nil_from_length}
 use Rattle.rustc_lexer.specs.declared.edition.Edition.{Edition}
-use Rattle.rustc_lexer.specs.declared.token.GuardedStr.{GuardedStr}
-use Rattle.rustc_lexer.specs.declared.token.RawStrError.{RawStrError}
 use Rattle.rustc_lexer.specs.declared.token.Token.{Token}
 use Rattle.rustc_lexer.specs.declared.token.TokenKind.TheVariants.{Eof}
 use Rattle.rustc_lexer.specs.LanguageCalls.{IsRawAnswer, IsShebang}
@@ -16,7 +14,7 @@ use Rattle.rustc_lexer.specs.laws.LanguageGuarded.{guarded-answer}
 use Rattle.rustc_lexer.specs.laws.LanguageRefusals.{raw-answer}
 use Rattle.rustc_lexer.specs.laws.LanguageShebang.{shebang-answer}
 use Rattle.rustc_lexer.specs.laws.LanguageTokens.{language, tokens-are, tokens-read}
-use Rattle.rustc_lexer.specs.laws.State.{state, past_token, advance-end, advance-some}
+use Rattle.rustc_lexer.specs.laws.State.{past_token, advance-end, advance-some}
 use Rattle.rustc_lexer.specs.laws.Tokens.{tokens-cons, tokens-nil}
 use Rattle.rustc_lexer.specs.means.Edition.{first_token_in}
 use Rattle.rustc_lexer.specs.means.Guarded as means_guarded

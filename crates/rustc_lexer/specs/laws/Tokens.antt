@@ -1,12 +1,8 @@
 -- The tokens of a whole text as they are read: one by one, and their bounds.
-use Rattle.std.proofs.Common.{◌≡◌, ℕ, zero, suc, ◌<◌, ◌≤◌, ◌==◌, true, false, true≢false, subst, List, [], ◌∷◌, length, take, drop, refl, sym, ap, ◌∙◌, arith, length-drop, take-add, All, ◌^◌, Some, rules}
-use Rattle.std.specs.Prelude.{⊤}
-use Rattle.std.specs.Iterator.{at_most, MakesProgress}
+use Rattle.std.proofs.Common.{◌≡◌, ℕ, zero, suc, ◌<◌, ◌≤◌, List, [], ◌∷◌, length, take, drop, refl, ap, arith, length-drop, take-add, All}
 use Rattle.std.specs.Str.{IsUtf8}
-use Rattle.std.proofs.lemmas.Bool.{eqb-true}
 use Rattle.std.proofs.lemmas.Str.{IsUtf8-append, IsUtf8-drop, IsUtf8-nil, IsUtf8-take, IsCharBoundary-from_take}
 use Rattle.std.proofs.lemmas.List.Elements.{All-nil, All-cons}
-use Rattle.rustc_lexer.specs.declared.edition.Edition.{Edition}
 use Rattle.rustc_lexer.specs.declared.token.Token.{Token}
 use Rattle.rustc_lexer.specs.Locality.{tokens_by, bound, Partitions}
 use Rattle.rustc_lexer.specs.means.Tokens.{cut, tokens_of_document, tokens_of}
@@ -15,7 +11,7 @@ use Rattle.rustc_lexer.specs.laws.Edition.{edition_grammar}
 use Rattle.rustc_lexer.specs.means.Edition.{first_token_in}
 use Rattle.rustc_lexer.specs.means.Frontmatter.{frontmatter}
 use Rattle.rustc_lexer.specs.means.Taking.{token_at}
-use Rattle.rustc_lexer.specs.laws.Cuts.{at_bound, tokens-nil as part-nil, tokens-cons as part-cons}
+use Rattle.rustc_lexer.specs.laws.Cuts.{tokens-nil as part-nil, tokens-cons as part-cons}
 use Rattle.rustc_lexer.specs.laws.Frontmatter.{frontmatter-cut, token_at-either}
 use Rattle.rustc_lexer.specs.Classes.{IsText}
 
