@@ -106,9 +106,6 @@ skip_char q p part text left tail c at reads is in_class bytes n next read count
     let here = left_there q p part tail bytes n is read counted next f in
     record { utf8 = here.utf8; run = at.run ∙ (ap (past_run p) reads ∙ (past_run-in p c (chars tail) in_class ∙ here.run)); stops = here.stops }
 
-pub skip_one : (q p : ℕ → Bool) → (text left tail : List ℕ) (c : ℕ) → Skips q p text left → chars left ≡ c ∷ chars tail → IsUtf8 tail → p c ≡ true → next_is q tail ≡ false → Skips q p text tail
-skip_one q p text left tail c at reads is in_class stops = record { utf8 = is; run = at.run ∙ (ap (past_run p) reads ∙ past_run-in p c (chars tail) in_class); stops = stops }
-
 -- no byte of the class stands where a byte outside ASCII does
 pub wide_stops : (q p : ℕ → Bool) → IsPart q p → (xs : List ℕ) → next_is is_wide xs ≡ true → next_is q xs ≡ false
 wide_stops q p part [] e = refl

@@ -221,11 +221,6 @@ unfolding apply
 put_is (Ok _) text insert new start stop len room fits put full = put ∙ append_assoc (take start text) insert (drop stop text)
 put_is (Err _) text insert new start stop len room fits put full = absurd (omega arith)
 
-pub put_len : {E : Type 0} (result : Result Unit E) (len size removed added room : ℕ) → len + added ≤ room
-    → OnOk result (size + removed ≡ len + added) → OnErr result (room < len + added) → size + removed ≡ len + added
-put_len (Ok _) len size removed added room fits put full = put
-put_len (Err _) len size removed added room fits put full = absurd (omega arith)
-
 -- a text is what stands before, inside and behind a range of it
 pub three_parts : (text : List ℕ) (start stop : ℕ) → start ≤ stop → take start text ++ (slice_range text start stop ++ drop stop text) ≡ text
 three_parts text start stop less =

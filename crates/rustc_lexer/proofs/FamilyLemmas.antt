@@ -9,7 +9,7 @@ use Rattle.unicode_ident.specs.Ident.{is_xid_start}
 use Rattle.unicode_ident.proofs.Computing.{unicode_ident}
 use Rattle.rustc_lexer.specs.declared.lexemes.family.TheConstants.{FAMILIES}
 use Rattle.rustc_lexer.specs.declared.lexemes.family.Family.{Family}
-use Rattle.rustc_lexer.specs.declared.lexemes.family.Family.TheVariants.{Slash, Space, Word, Emoji, Symbol}
+use Rattle.rustc_lexer.specs.declared.lexemes.family.Family.TheVariants.{Slash, Word, Emoji, Symbol}
 use Rattle.rustc_lexer.specs.declared.token.TokenKind.{TokenKind}
 use Rattle.rustc_lexer.specs.Classes.{is_id_start, is_whitespace}
 use Rattle.rustc_lexer.specs.Tables.{is_emoji}
@@ -52,9 +52,6 @@ module _ (c : ℕ) (wide : 128 ≤ c) where
 
   pub wide_word : is_xid_start c ≡ true → Word ≡ family_of c
   wide_word e = rw (other 47 (omega arith), no_space c e, begins ∙ e) refl
-
-  pub wide_space : is_whitespace c ≡ true → Space ≡ family_of c
-  wide_space e = rw (other 47 (omega arith), e) refl
 
   module _ (starts : is_xid_start c ≡ false) (space : is_whitespace c ≡ false) where
     no_digit : is_ascii_digit c ≡ false

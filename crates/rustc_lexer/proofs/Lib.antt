@@ -49,7 +49,6 @@ pub mod SettledLemmas
 pub mod ShebangLemmas
 pub mod ShortCharLemmas
 pub mod SpaceLemmas
-pub mod SymbolLemmas
 pub mod TallyWalk
 pub mod TextLemmas
 pub mod TokensLemmas

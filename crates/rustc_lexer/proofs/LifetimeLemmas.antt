@@ -1,5 +1,5 @@
 -- Characters and lifetimes, as the code reads them.
-use Rattle.std.proofs.Common.{◌≡◌, ◌≢◌, ◌⊎◌, inl, inr, ne_eqb, ℕ, zero, suc, ◌+◌, ◌-◌, ◌≤◌, ◌==◌, ◌&&◌, ◌||◌, not, Bool, true, false, ltb, if◌then◌else◌, List, [], ◌∷◌, length, take, drop, codes, refl, sym, ap, ◌∙◌, arith, length-append, length-take-le, lt-ltb, le-ltb}
+use Rattle.std.proofs.Common.{◌≡◌, ℕ, zero, suc, ◌+◌, ◌-◌, ◌≤◌, ◌&&◌, ◌||◌, not, Bool, true, false, ltb, if◌then◌else◌, List, [], ◌∷◌, length, take, drop, codes, refl, sym, ap, ◌∙◌, arith, length-append, length-take-le, lt-ltb, le-ltb}
 use Rattle.std.specs.Char.{is_ascii_digit, encode_utf8, len_utf8}
 use Rattle.std.specs.List.{list_all}
 use Rattle.std.specs.Str.{chars, encode_utf8_all, IsUtf8}
@@ -7,12 +7,12 @@ use Rattle.std.proofs.lemmas.Str.{length-encode, length-le-encodes}
 use Rattle.std.proofs.Math.Bool.{not-not}
 use Rattle.rustc_lexer.specs.declared.token.LiteralKind.TheVariants.{Char}
 use Rattle.rustc_lexer.specs.declared.token.TokenKind.{TokenKind}
-use Rattle.rustc_lexer.specs.declared.token.TokenKind.TheVariants.{Literal, Lifetime, RawLifetime, UnknownPrefixLifetime}
+use Rattle.rustc_lexer.specs.declared.token.TokenKind.TheVariants.{Literal, Lifetime, UnknownPrefixLifetime}
 use Rattle.rustc_lexer.specs.Classes.{is_id_continue}
 use Rattle.rustc_lexer.specs.Tables.{is_emoji}
-use Rattle.rustc_lexer.specs.means.Ident.{is_word, marks_ident}
+use Rattle.rustc_lexer.specs.means.Ident.{is_word}
 use Rattle.rustc_lexer.specs.means.Lifetime.{past_name, plain_lifetime, lifetime, is_character, is_character_at, lifetime_or_char}
-use Rattle.rustc_lexer.specs.laws.Lifetime.{name_of, quoted_name, raw, unquoted_name}
+use Rattle.rustc_lexer.specs.laws.Lifetime.{name_of, quoted_name, unquoted_name}
 use Rattle.rustc_lexer.specs.means.Literal.{literal}
 use Rattle.rustc_lexer.specs.means.Quoted.{char_body}
 use Rattle.rustc_lexer.specs.laws.Reach.{run_len_le}
@@ -36,31 +36,6 @@ module _ (text tail : List ℕ) (c : ℕ) (is : IsUtf8 text) (reads : chars text
       let at_name : lifetime_or_char (c ∷ chars tail) ≡ ((lifetime c (chars tail)).0, suc n) = rw t refl in
       let whole : lifetime_or_char (chars text) ≡ ((lifetime c (chars tail)).0, suc n) = ap lifetime_or_char reads ∙ at_name in
       e ∙ (ap (λ (xs : List ℕ). ((lifetime c (chars tail)).0, xs)) left ∙ ap (λ (p : TokenKind × ℕ). (p.0, past p.1 text)) (sym whole))
-
-  pub pick-char : (r : TokenKind × List ℕ) → is_character c (chars tail) ≡ true → r ≡ scanned (literal char_body) text → r ≡ scanned lifetime_or_char text
-  pick-char r t e =
-      let at_char : lifetime_or_char (c ∷ chars tail) ≡ literal char_body (c ∷ chars tail) = rw t refl in
-      let whole : lifetime_or_char (chars text) ≡ literal char_body (chars text) = ap lifetime_or_char reads ∙ (at_char ∙ ap (literal char_body) (sym reads)) in
-      e ∙ ap (λ (p : TokenKind × ℕ). (p.0, past p.1 text)) (sym whole)
-
-pub pick-end : (text : List ℕ) (r : TokenKind × List ℕ) → chars text ≡ [] → r ≡ scanned (literal char_body) text → r ≡ scanned lifetime_or_char text
-pick-end text r none e =
-    let whole : lifetime_or_char (chars text) ≡ literal char_body (chars text) = ap lifetime_or_char none ∙ ap (literal char_body) (sym none) in
-    e ∙ ap (λ (p : TokenKind × ℕ). (p.0, past p.1 text)) (sym whole)
-
-pub pick-raw : (c : ℕ) (text rest : List ℕ) → c ≡ 114 → marks_ident (chars text) ≡ true → rest ≡ past (2 + run_len is_id_continue (drop 2 (chars text))) text
-    → (RawLifetime, rest) ≡ scanned (lifetime c) text
-pick-raw c text rest e t left =
-    let raw_is : (c == 114 && marks_ident (chars text)) ≡ true = rw e t in
-    ap (λ (xs : List ℕ). (RawLifetime, xs)) left
-    ∙ sym (scanned-yes (λ s. c == 114 && marks_ident s) raw (plain_lifetime c) text raw_is)
-
-pub pick-plain_lifetime : (c : ℕ) (text : List ℕ) (r : TokenKind × List ℕ) → (c ≢ 114) ⊎ (marks_ident (chars text) ≡ false) → r ≡ scanned (plain_lifetime c) text → r ≡ scanned (lifetime c) text
-pick-plain_lifetime c text r out e = e ∙ sym (scanned-no (λ s. c == 114 && marks_ident s) raw (plain_lifetime c) text (not_raw out))
-  where
-    not_raw : (c ≢ 114) ⊎ (marks_ident (chars text) ≡ false) → (c == 114 && marks_ident (chars text)) ≡ false
-    not_raw (inl ne) = rw (ne_eqb c 114 ne) refl
-    not_raw (inr t) = rw t (elim (c == 114) as (λ b. (b && false) ≡ false) [ true ↦ refl | false ↦ refl ])
 
 -- a text is shorter past some characters of it exactly where there are some
 pub shorter-by : (n : ℕ) (text rest : List ℕ) → IsUtf8 text → n ≤ length (chars text) → rest ≡ past n text → ltb (length rest) (length text) ≡ ltb 0 n

@@ -68,15 +68,6 @@ end_more tokens i start end d few at = omega (arith, bound-next tokens i d few, 
 pub end_fits : (tokens : List Token) (i start end : ℕ) (d : Token) → i < length tokens → end ≡ start + bound tokens i → start + bound tokens (length tokens) < 2 ^ 32 → end + (get_or tokens i d).len < 2 ^ 32
 end_fits tokens i start end d few at fits = omega (arith, bound-next tokens i d few, bound_mono tokens (i + 1) (length tokens) (omega arith), at, fits)
 
-bound-over : (tokens : List Token) (k : ℕ) → length tokens ≤ k → bound tokens k ≡ bound tokens (length tokens)
-bound-over [] zero over = refl
-bound-over [] (suc k) over = refl
-bound-over (t ∷ ts) zero over = absurd (omega arith)
-bound-over (t ∷ ts) (suc k) over = ap (λ n. t.len + n) (bound-over ts k (omega arith))
-
-pub end_last : (tokens : List Token) (i start end : ℕ) → length tokens ≤ i → end ≡ start + bound tokens i → end ≡ start + bound tokens (length tokens)
-end_last tokens i start end over at = at ∙ ap (λ n. start + n) (bound-over tokens i over)
-
 -- the place of a bound, and the tokens from there up to another
 pub bound-part : (tokens items : List Token) (from to place : ℕ) → from ≤ to → to ≤ length tokens → items ≡ slice_range tokens from to → place ≡ bound tokens from → place + bound items (length items) ≡ bound tokens to
 bound-part tokens items from to place le inside is at =

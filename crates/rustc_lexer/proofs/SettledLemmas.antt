@@ -19,13 +19,6 @@ pub record IsSureTo (first : List ℕ → Token) (text : List ℕ) (place : ℕ)
   pub two : 0 < place → has_two text place (length text) ≡ true
 
 module _ {first : List ℕ → Token} (law : IsGrammar first) (text : List ℕ) (is : IsText text) where
-  pub sure_start : IsSureTo first text 0
-  sure_start = record {
-    items = [];
-    to = record { number = omega arith; items_are = refl; place_is = refl };
-    two = λ some. absurd (omega arith);
-  }
-
   pub sure_next : (place next : ℕ) (token : Token) → IsSureTo first text place → place < length text → token ≡ first (drop place text) → next ≡ place + token.len → has_two text next (length text) ≡ true → IsSureTo first text next
   sure_next place next token at more token_is next_is two =
       let to : IsLexedTo first text (at.items ++ first (drop place text) ∷ []) (place + (first (drop place text)).len) = lexed_more law text at.items place is at.to more in

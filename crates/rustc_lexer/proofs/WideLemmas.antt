@@ -1,33 +1,19 @@
 -- The characters outside ASCII that an identifier goes on with, by the lengths of their bytes.
-use Rattle.std.proofs.Common.{◌≡◌, ℕ, ◌<◌, ◌≤◌, Bool, true, false, List, [], ◌∷◌, length, drop, refl, sym, ◌∙◌, arith}
+use Rattle.std.proofs.Common.{◌≡◌, ℕ, ◌≤◌, Bool, false, List, length, drop, sym, ◌∙◌}
 use Rattle.std.specs.List.{prefix_len}
 use Rattle.std.specs.Str.{chars, IsUtf8}
 use Rattle.rustc_lexer.specs.means.Scan.{past, next_is, run_len}
-use Rattle.rustc_lexer.proofs.BridgeLemmas.{IsPart, Skips, left_there, skip_one}
+use Rattle.rustc_lexer.proofs.BridgeLemmas.{IsPart, Skips, left_there}
 
 -- no byte
 abbrev pub nothing : ℕ → Bool
 nothing b = false
-
-never : (xs : List ℕ) → next_is nothing xs ≡ false
-never [] = refl
-never (b ∷ bs) = refl
 
 -- what is left of a text is shorter, or all of it, and its run is that of the text
 pub record Within (p : ℕ → Bool) (text left : List ℕ) : Type 0 where
   pub skips : Skips nothing p text left
   pub shorter : length left ≤ length text
   pub same : length left ≡ length text → left ≡ text
-
-pub within_start : (p : ℕ → Bool) (text : List ℕ) → IsUtf8 text → Within p text text
-within_start p text is = record { skips = record { utf8 = is; run = refl; stops = never text }; shorter = omega arith; same = λ e. refl }
-
-pub within_on : (p : ℕ → Bool) (text left tail : List ℕ) (c : ℕ) → Within p text left → chars left ≡ c ∷ chars tail → IsUtf8 tail → p c ≡ true → length tail < length left → Within p text tail
-within_on p text left tail c at reads is in_class less = record {
-  skips = skip_one nothing p text left tail c at.skips reads is in_class (never tail);
-  shorter = omega (arith, at.shorter);
-  same = λ e. absurd (omega (arith, at.shorter));
-}
 
 pub within_run : (p : ℕ → Bool) (text left : List ℕ) → Within p text left → past (run_len p (chars left)) left ≡ past (run_len p (chars text)) text
 unfolding past

@@ -15,7 +15,7 @@ use Rattle.rustc_lexer.specs.declared.token.TokenKind.TheVariants.{Ident, Unknow
 use Rattle.rustc_lexer.specs.means.BlockComment.{block_comment, block_comment_to, comment_end}
 use Rattle.rustc_lexer.specs.Classes.{is_id_continue}
 use Rattle.rustc_lexer.specs.means.Comment.{line_comment, slash}
-use Rattle.rustc_lexer.specs.LanguageText.{year, edition_of_year}
+use Rattle.rustc_lexer.specs.LanguageText.{year}
 use Rattle.rustc_lexer.specs.means.Edition.{token, before_2024, before_2021, first_token_in}
 use Rattle.rustc_lexer.specs.means.Hash.{is_guarded_mark, hash}
 use Rattle.rustc_lexer.specs.means.Ident.{is_word, is_prefix_mark, ident_or_unknown_prefix, marks_ident}
@@ -32,24 +32,6 @@ use Rattle.rustc_lexer.specs.laws.Lookahead.{first_token_grammar, families_local
 use Rattle.rustc_lexer.specs.laws.Quoted.{char_local}
 use Rattle.rustc_lexer.specs.laws.Reach.{begins-told, either_at, first_local, gives_local, read_as_at, wider, and_then_local}
 use Rattle.rustc_lexer.specs.laws.TokenBy.{token_by_local}
-
--- ---- a year names one edition
-
-year_told : (edition : Edition) → edition_of_year (year edition) ≡ Some edition
-year_told E2015 = refl
-year_told E2018 = refl
-year_told E2021 = refl
-year_told E2024 = refl
-
-pub same_edition : (a b : Edition) → year a ≡ year b → a ≡ b
-same_edition a b e = by_some (sym (year_told a) ∙ (ap edition_of_year e ∙ year_told b))
-  where
-    by_some : Some a ≡ Some b → a ≡ b
-    by_some f = ap (λ (o : Option Edition). match_some o) f
-      where
-        match_some : Option Edition → Edition
-        match_some None = a
-        match_some (Some x) = x
 
 -- no edition is older
 pub oldest : (edition : Edition) → 2015 ≤ year edition

@@ -169,9 +169,6 @@ pub record IsLooking (n : ℕ) (rest : List ℕ) (from : ℕ) : Type 0 where
   pub inside : from ≤ length rest
   pub found : fence_at n rest ≡ more from (fence_at n (drop from rest))
 
-pub look_start : (n : ℕ) (rest : List ℕ) → IsLooking n rest 0
-look_start n rest = record { inside = omega arith; found = more-zero (fence_at n rest) }
-
 pub look_end : (n : ℕ) (rest cut : List ℕ) (from : ℕ) → IsLooking n rest from → cut ≡ drop from rest → IsFirstByte (is_byte 10) cut None → None ≡ fence_at n rest
 look_end n rest cut from at e none =
     let k : ℕ = run_len is_no_newline cut in
@@ -273,9 +270,6 @@ places-more place k s e =
 pub record IsWalking (rest : List ℕ) (end : ℕ) : Type 0 where
   pub inside : end ≤ length rest
   pub left : first_alone 0 (places (dashes 3) rest) rest ≡ first_alone end (places_from (dashes 3) 0 end (drop end rest)) rest
-
-pub walk_start : (rest : List ℕ) → IsWalking rest 0
-walk_start rest = record { inside = omega arith; left = refl }
 
 module _ (rest cut : List ℕ) (end : ℕ) (at : IsWalking rest end) (e : cut ≡ drop end rest) where
   pub walk_end : None ≡ first (dashes 3) cut → None ≡ first_alone 0 (places (dashes 3) rest) rest

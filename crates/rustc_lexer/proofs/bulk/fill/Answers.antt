@@ -11,7 +11,7 @@ use Rattle.rustc_lexer.specs.means.Ends.{told, AreEndsPast, IsEnds, IsLowest, St
 use Rattle.rustc_lexer.specs.Classes.{IsText}
 use Rattle.rustc_lexer.specs.laws.Edition.{edition_grammar}
 use Rattle.rustc_lexer.proofs.BitLemmas.{lowest, below-lowest}
-use Rattle.rustc_lexer.proofs.BulkLemmas.{IsWritten, begun_more, none_written, one_written, stands, next_token, next_place, next_some, written_to}
+use Rattle.rustc_lexer.proofs.BulkLemmas.{IsWritten, begun_more, none_written, one_written, stands, next_token, next_place, next_some}
 use Rattle.rustc_lexer.proofs.EndsLemmas.{all_past, no_ends, past_end, told_stays}
 use Rattle.rustc_lexer.proofs.bulk.fill.Goals as goal
 use Rattle.rustc_lexer.proofs.bulk.fill.Goals.{then-tells, else-tells, else-not-tells-via-then-not-tells+else-turns, else-not-tells-via-else-not-tells, then-from-eq0, else-from-eq0}
@@ -73,9 +73,6 @@ overflow_sub-end g c =
     let low = least c.told.ends (omega (arith, c.if-ends-ne0.true)) c.told.invariant.small in
     let after = (c.told.invariant.ends _ low.set).0 in
     omega (arith, after)
-
-pub told-token-requires : goal.told-token-requires
-told-token-requires g c = c.told.invariant.tells c.told-test.true
 
 pub told-preserved : goal.told-preserved
 told-preserved g c =
@@ -175,12 +172,6 @@ tokens-preserved g c =
         small = omega arith;
       }
     ]
-
-pub returns-else-at-stop-clause-filled : goal.returns-else-at-stop-clause-filled
-returns-else-at-stop-clause-filled g c = written_to g.R.Record.written c.args.stop (tokens_of (part c.args.edition) c.args.text.now) c.args.room.now c.tokens.room c.tokens.count c.tokens.at c.tokens.invariant.written c.tokens.invariant.place c.tokens.invariant.begun (λ _. omega arith)
-
-pub returns-after-tokens-clause-filled : goal.returns-after-tokens-clause-filled
-returns-after-tokens-clause-filled g c = written_to g.R.Record.written c.args.stop (tokens_of (part c.args.edition) c.args.text.now) c.args.room.now c.tokens.room c.tokens.count c.tokens.at c.tokens.invariant.written c.tokens.invariant.place c.tokens.invariant.begun (λ more. omega arith)
 
 pub returns-else-at-stop-clause-boundary : goal.returns-else-at-stop-clause-boundary
 returns-else-at-stop-clause-boundary g c = (stands (edition_grammar c.args.edition) c.args.text.now record { utf8 = c.utf8.text; fits = c.requires.fits } c.tokens.count c.tokens.at c.tokens.invariant.place).boundary

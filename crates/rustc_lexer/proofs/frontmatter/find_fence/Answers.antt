@@ -1,8 +1,5 @@
-use Rattle.rustc_lexer.specs.laws.Fences.{slice_from, look_start, look_end, look_found, look_on}
+use Rattle.rustc_lexer.specs.laws.Fences.{slice_from, look_end, look_found, look_on}
 use Rattle.rustc_lexer.proofs.frontmatter.find_fence.Goals as goal
-
-pub lines-init : goal.lines-init
-lines-init c = look_start c.args.n_dashes c.args.rest.now
 
 pub returns-then-end-line-clause-place : goal.returns-then-end-line-clause-place
 returns-then-end-line-clause-place c =

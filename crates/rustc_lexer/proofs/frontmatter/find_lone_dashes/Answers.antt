@@ -1,9 +1,6 @@
 use Rattle.std.proofs.Common.{sym, ◌∙◌, arith}
-use Rattle.rustc_lexer.specs.laws.Fences.{slice_from, walk_start, walk_end, walk_found, walk_on}
+use Rattle.rustc_lexer.specs.laws.Fences.{slice_from, walk_end, walk_found, walk_on}
 use Rattle.rustc_lexer.proofs.frontmatter.find_lone_dashes.Goals as goal
-
-pub places-init : goal.places-init
-places-init c = walk_start c.args.rest.now
 
 pub returns-then-stands_alone-clause-place : goal.returns-then-stands_alone-clause-place
 returns-then-stands_alone-clause-place c =

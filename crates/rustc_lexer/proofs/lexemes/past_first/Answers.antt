@@ -26,9 +26,6 @@ returns-in-Str c = by_family Str _ _ _ c.quoted_literal.ensures (sym c.in-Str.is
 pub returns-in-Emoji : goal.returns-in-Emoji
 returns-in-Emoji c = by_family Emoji _ _ _ c.invalid_ident.ensures (sym c.in-Emoji.is ∙ c.family_of.ensures)
 
-pub symbol_kind-requires : goal.symbol_kind-requires
-symbol_kind-requires c = elim c.in-Hash.is [ inl e ↦ absurd (c.requires.no_hash (sym c.family_of.ensures ∙ e)) | inr e ↦ sym c.family_of.ensures ∙ e ]
-
 pub returns-in-Hash : goal.returns-in-Hash
 returns-in-Hash c =
     let read = ap (λ k. (k, c.args.tail.now)) c.symbol_kind.ensures ∙ sym (scanned-gives _ _ c.utf8.tail) in

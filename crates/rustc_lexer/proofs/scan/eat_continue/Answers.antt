@@ -1,17 +1,12 @@
 use Rattle.std.proofs.Common.{sym}
 use Rattle.rustc_lexer.specs.means.ByteRuns.{is_continue_byte}
 use Rattle.rustc_lexer.specs.Classes.{is_id_continue}
-use Rattle.rustc_lexer.proofs.BridgeLemmas.{may_cut, goes_on, left_there, stops_here}
+use Rattle.rustc_lexer.proofs.BridgeLemmas.{may_cut, goes_on, stops_here}
 use Rattle.rustc_lexer.proofs.PartLemmas.{continue_part}
 use Rattle.rustc_lexer.proofs.scan.eat_continue.Goals as goal
 
 pub range_from-left-requires : goal.range_from-left-requires
 range_from-left-requires c = λ some. may_cut is_continue_byte is_id_continue continue_part _ _ _ c.utf8.rest c.as_bytes.ensures.value c.short_run_end.ensures.value
-
-pub eat_continue_wide-requires : goal.eat_continue_wide-requires
-eat_continue_wide-requires c = record {
-  stops = (left_there is_continue_byte is_id_continue continue_part _ _ _ c.utf8.rest c.as_bytes.ensures.value c.short_run_end.ensures.value _ c.range_from-left.ensures.value).stops;
-}
 
 pub returns-then-begins_wide-clause-past : goal.returns-then-begins_wide-clause-past
 returns-then-begins_wide-clause-past c =

@@ -1,10 +1,7 @@
 use Rattle.std.proofs.Common.{sym, ◌∙◌}
 use Rattle.memchr.specs.Find.{is_byte}
-use Rattle.rustc_lexer.proofs.FindLemmas.{found_at, found_nowhere, up_to, may_cut_there, byte_small}
+use Rattle.rustc_lexer.proofs.FindLemmas.{found_at, found_nowhere, up_to, byte_small}
 use Rattle.rustc_lexer.proofs.scan.eat_until.Goals as goal
-
-pub range_from-requires : goal.range_from-requires
-range_from-requires c = λ some. may_cut_there (is_byte c.args.stop) (λ b. byte_small c.args.stop b c.requires.ascii) _ _ c.utf8.rest (found_at (is_byte c.args.stop) _ _ _ c.as_bytes.ensures.value c.in-Some.ensures)
 
 pub returns-in-Some-clause-past : goal.returns-in-Some-clause-past
 returns-in-Some-clause-past c = c.range_from.ensures.value ∙ sym (up_to (is_byte c.args.stop) (λ b. byte_small c.args.stop b c.requires.ascii) _ _ c.utf8.rest (found_at (is_byte c.args.stop) _ _ _ c.as_bytes.ensures.value c.in-Some.ensures))

@@ -1,19 +1,13 @@
 use Rattle.std.proofs.Common.{sym, arith, refl}
 use Rattle.rustc_lexer.specs.declared.token.LiteralKind.TheVariants.{Char}
 use Rattle.rustc_lexer.specs.means.Quoted.{char_body, single_quoted_string}
-use Rattle.rustc_lexer.proofs.LifetimeLemmas.{first-length, pick-name, pick-char, pick-end, at_char}
+use Rattle.rustc_lexer.proofs.LifetimeLemmas.{first-length, pick-name, at_char}
 use Rattle.rustc_lexer.proofs.LiteralLemmas.{with-suffix}
 use Rattle.rustc_lexer.proofs.QuotedLemmas.{body-read}
 use Rattle.rustc_lexer.proofs.lexemes.lifetime.lifetime_or_char.Goals as goal
 
-pub returns-in_default-split_first : goal.returns-in_default-split_first
-returns-in_default-split_first c = pick-end _ _ c.in_default-split_first.ensures c.quoted_literal.ensures
-
 pub lifetime-requires : goal.lifetime-requires
 lifetime-requires c = omega (arith, first-length _ _ _ c.utf8.tail c.in-Some-split_first.ensures.0 c.in-Some-split_first.ensures.1)
-
-pub returns-then-is_character : goal.returns-then-is_character
-returns-then-is_character c = pick-char _ _ _ c.utf8.tail c.in-Some-split_first.ensures.0 c.in-Some-split_first.ensures.1 _ (sym c.if-is_character.ensures) c.quoted_literal-then-is_character.ensures
 
 pub returns-else-is_character : goal.returns-else-is_character
 returns-else-is_character c = pick-name _ _ _ c.utf8.tail c.in-Some-split_first.ensures.0 c.in-Some-split_first.ensures.1 _ (sym c.if-is_character.ensures) c.lifetime.ensures

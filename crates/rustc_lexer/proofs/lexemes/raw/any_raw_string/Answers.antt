@@ -1,10 +1,7 @@
-use Rattle.std.proofs.Common.{rules, arith}
+use Rattle.std.proofs.Common.{rules}
 use Rattle.rustc_lexer.specs.means.Raw.{is_hash}
 use Rattle.rustc_lexer.proofs.RawReadLemmas.{no_starter, bad_starter, past_opening}
 use Rattle.rustc_lexer.proofs.lexemes.raw.any_raw_string.Goals as goal
-
-pub raw_text-requires : goal.raw_text-requires
-raw_text-requires c = record { fits = omega (arith, c.in-Some.ensures.2) }
 
 pub returns-in_default : goal.returns-in_default
 returns-in_default c = no_starter _ _ _ c.utf8.rest (c.eat_while-from_starter.ensures.past is_hash (λ d b e. search rules)) c.in_default.ensures

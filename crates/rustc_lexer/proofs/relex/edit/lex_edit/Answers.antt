@@ -12,7 +12,7 @@ use Rattle.rustc_lexer.specs.Relexing.{IsBound, IsMadeOf}
 use Rattle.rustc_lexer.specs.Classes.{IsText}
 use Rattle.rustc_lexer.specs.means.Landmarks.{AreBounds}
 use Rattle.rustc_lexer.proofs.EditLemmas.{put_back}
-use Rattle.rustc_lexer.proofs.RelexingLemmas.{made_for, made_change, made_text}
+use Rattle.rustc_lexer.proofs.RelexingLemmas.{made_for, made_change}
 use Rattle.rustc_lexer.proofs.RenewedLemmas.{renewed_all, renewed_are, renewed_bounds}
 use Rattle.rustc_lexer.proofs.relex.edit.lex_edit.Goals as goal
 
@@ -34,11 +34,6 @@ put_back_from {text} {insert} {read} {removed} {reserved} {put} {now} {start} {s
     let taken : removed ≡ slice_range text start stop = removed_is ∙ ap (λ (bytes : List ℕ). slice_range bytes start stop) read_is in
     again ∙ (ap (λ (bytes : List ℕ). apply bytes start stop' removed) made ∙ (ap (apply (apply text start stop insert) start stop') taken ∙ put_back text start stop insert is its edit))
 
-pub renew-requires-clause-fits : goal.renew-requires-clause-fits
-renew-requires-clause-fits g c =
-    let made = made_of c.requires.text c.requires.insert c.requires.edit c.requires.from_scratch c.as_str-made.ensures.value c.put_in_place.ensures.text c.reserve.ensures.bytes in
-    (made_text (g.S.Stepper.law c.args.stepper.now) _ _ _ _ _ made).fits
-
 pub renew-requires-clause-change : goal.renew-requires-clause-change
 renew-requires-clause-change g c =
     let made = made_of c.requires.text c.requires.insert c.requires.edit c.requires.from_scratch c.as_str-made.ensures.value c.put_in_place.ensures.text c.reserve.ensures.bytes in
@@ -49,12 +44,6 @@ past_edit-requires-clause-movable g c =
     let made = made_of c.requires.text c.requires.insert c.requires.edit c.requires.from_scratch c.as_str-made.ensures.value c.put_in_place.ensures.text c.reserve.ensures.bytes in
     let renewed = c.in-Ok.ensures.renewed _ _ made (near_bound c.args.landmarks.now c.requires.from_scratch c.requires.landmarks c.nearest-near.ensures) in
     (renewed_bounds (g.S.Stepper.law c.args.stepper.now) c.requires.from_scratch made renewed.0 c.args.landmarks.now c.requires.landmarks).0
-
-pub returns-in-Ok-clause-is_text : goal.returns-in-Ok-clause-is_text
-returns-in-Ok-clause-is_text g c =
-    let made = made_of c.requires.text c.requires.insert c.requires.edit c.requires.from_scratch c.as_str-made.ensures.value c.put_in_place.ensures.text c.reserve.ensures.bytes in
-    let is : IsText c.as_str-made.result.now = made_text (g.S.Stepper.law c.args.stepper.now) _ _ _ _ _ made in
-    rw (sym c.as_str-made.ensures.value) is
 
 pub returns-in-Ok-clause-from_scratch : goal.returns-in-Ok-clause-from_scratch
 returns-in-Ok-clause-from_scratch g c =
@@ -111,12 +100,6 @@ put_in_place-requires-in-Err-clause-inside g c =
       stop_boundary = change.new_boundary;
     } in
     rw (sym c.as_str-made.ensures.value) inside
-
-pub put_in_place-requires-in-Err-clause-room : goal.put_in_place-requires-in-Err-clause-room
-put_in_place-requires-in-Err-clause-room g c =
-    let removed = ap length (c.as_str.ensures.value ∙ c.in_ok-removed.ensures.ok) in
-    let less = c.requires.edit.inside.start_le_stop in
-    omega (arith, removed, c.range.ensures.len, less, c.put_in_place.ensures.len, c.put_in_place.ensures.capacity, c.in_ok-reserve.ensures.ok)
 
 pub returns-clause-same_text : goal.returns-clause-same_text
 returns-clause-same_text g c =

@@ -1,8 +1,5 @@
-use Rattle.rustc_lexer.proofs.EditLemmas.{put_is, put_len}
+use Rattle.rustc_lexer.proofs.EditLemmas.{put_is}
 use Rattle.rustc_lexer.proofs.relex.edit.put_in_place.Goals as goal
 
 pub returns-clause-text : goal.returns-clause-text
 returns-clause-text c = put_is c.replace_range.result _ _ _ _ _ _ _ c.requires.room c.replace_range.ensures.bytes c.replace_range.ensures.full
-
-pub returns-clause-len : goal.returns-clause-len
-returns-clause-len c = put_len c.replace_range.result _ _ _ _ _ c.requires.room c.replace_range.ensures.len c.replace_range.ensures.full

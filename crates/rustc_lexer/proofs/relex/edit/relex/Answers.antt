@@ -52,14 +52,6 @@ returns-in_err-relex_inserted-clause-few g c =
     let so = ins.stands before insert is stands in
     omega (arith, ins.count, c.begin-at.ensures.none, few_lexed (g.S.Stepper.law c.args.stepper.now) before _ insert _ c.args.change is at so.0))
 
-pub loop-token-smaller : goal.loop-token-smaller
-loop-token-smaller g c =
-    let step = c.in-Some.ensures.step.0 in
-    let inside = step.inside in
-    let some = step.not_empty in
-    let place = step.place in
-    omega arith
-
 pub loop-token-preserved : goal.loop-token-preserved
 loop-token-preserved g c =
     let first = g.S.Stepper.grammar c.args.stepper.now in

@@ -1,5 +1,4 @@
-use Rattle.std.proofs.Common.{arith}
-use Rattle.rustc_lexer.proofs.PieceLemmas.{end_fits, end_more, end_last}
+use Rattle.rustc_lexer.proofs.PieceLemmas.{end_fits, end_more}
 use Rattle.rustc_lexer.proofs.relex.lexed_text.end_from.Goals as goal
 
 pub overflow_add-end : goal.overflow_add-end
@@ -7,6 +6,3 @@ overflow_add-end c = record { fits = end_fits c.args.tokens.now c.loop-token.tok
 
 pub loop-token-preserved : goal.loop-token-preserved
 loop-token-preserved c = end_more c.args.tokens.now c.loop-token.token-index c.args.start c.loop-token.end _ c.loop-token-test.true c.loop-token.invariant
-
-pub returns : goal.returns
-returns c = end_last c.args.tokens.now c.loop-token.token-index c.args.start c.loop-token.end (let over = c.loop-token-test.false in omega arith) c.loop-token.invariant

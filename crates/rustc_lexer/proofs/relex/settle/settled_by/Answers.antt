@@ -1,11 +1,8 @@
 use Rattle.std.proofs.Common.{sym, ◌∙◌, refl}
 use Rattle.rustc_lexer.specs.Classes.{IsText}
 use Rattle.rustc_lexer.proofs.ProgressLemmas.{lexed_place, stepped}
-use Rattle.rustc_lexer.proofs.SettledLemmas.{sure_start, sure_next, sure_end, sure_stop, next_boundary}
+use Rattle.rustc_lexer.proofs.SettledLemmas.{sure_next, sure_end, sure_stop, next_boundary}
 use Rattle.rustc_lexer.proofs.relex.settle.settled_by.Goals as goal
-
-pub loop-place-init : goal.loop-place-init
-loop-place-init g c = (sure_start (g.S.Stepper.law c.args.stepper.now) _ record { utf8 = c.utf8.text; fits = c.requires.fits }, refl)
 
 pub range_from-requires : goal.range_from-requires
 range_from-requires g c =

@@ -1,4 +1,4 @@
-use Rattle.std.proofs.Common.{◌+◌, ◌-◌, ◌++◌, List, ℕ, length, map, take, drop, refl, ap, subst, ◌∙◌, arith}
+use Rattle.std.proofs.Common.{◌+◌, ◌-◌, List, ℕ, ap, subst, ◌∙◌, arith}
 use Rattle.rustc_lexer.specs.declared.relex.front.Damage.{Damage}
 use Rattle.rustc_lexer.specs.declared.token.Token.{Token}
 use Rattle.rustc_lexer.specs.Tokens.{IsFilledTo, bound, tokens_by}
@@ -37,25 +37,6 @@ pub returns-clause-progress : goal.returns-clause-progress
 returns-clause-progress g c =
     let s = stretch (g.S.Stepper.law c.args.stepper.now) c.utf8.text c.requires.fits c.requires.may_go_on.boundary c.range_from.ensures.value c.fill-count.ensures.filled c.fill-count.ensures.bytes c.requires.places c.requires.before in
     omega (arith, s.some, s.long)
-
-pub returns-clause-steps : goal.returns-clause-steps
-returns-clause-steps g c =
-    let s = stretch (g.S.Stepper.law c.args.stepper.now) c.utf8.text c.requires.fits c.requires.may_go_on.boundary c.range_from.ensures.value c.fill-count.ensures.filled c.fill-count.ensures.bytes c.requires.places c.requires.before in
-    let left = ap (tokens_by (g.S.Stepper.grammar c.args.stepper.now)) c.range_from.ensures.value in
-    record {
-      inside = omega (arith, c.fill-count.ensures.filled.few, ap length left);
-      none = λ e. absurd (omega (arith, s.some));
-      front = refl;
-      lexed = refl;
-      place = omega (arith, c.fill-count.ensures.bytes, ap (λ ts. bound ts c.fill-count.result.0) left);
-      same_back = λ less. c.follow-to.ensures.stays (rw c.damage.ensures less);
-      not_met = λ _ less. c.follow-to.ensures.early (rw c.damage.ensures less);
-    }
-
-pub returns-clause-tokens : goal.returns-clause-tokens
-returns-clause-tokens g c =
-    let first : List ℕ → Token = g.S.Stepper.grammar c.args.stepper.now in
-    c.fill-count.ensures.filled.tokens ∙ ap (λ (xs : List ℕ). map g.R.Record.written (take c.fill-count.result.0 (tokens_by first xs)) ++ drop c.fill-count.result.0 c.args.room.now) c.range_from.ensures.value
 
 pub returns-clause-stands : goal.returns-clause-stands
 returns-clause-stands g c = λ before insert is_made stands.
