@@ -1,13 +1,12 @@
 -- What is wrong with a token, and the sentence that says so.
-use Rattle.std.specs.Prelude.{ℕ, ◌-◌, true, false, ◌&&◌, nat_lt, if◌then◌else◌, List, ◌++◌, codes, decimal, drop, Option, Some, None, Result, Ok, Err}
-use Rattle.std.specs.Str.{chars}
+use Rattle.std.specs.Prelude.{ℕ, ◌-◌, ◌==◌, Bool, true, false, ◌&&◌, nat_lt, if◌then◌else◌, List, ◌++◌, codes, decimal, drop, Option, Some, None, Result, Ok, Err}
+use Rattle.std.specs.Str.{byte, chars}
 use Rattle.rustc_lexer.specs.declared.token.LiteralKind.{LiteralKind}
 use Rattle.rustc_lexer.specs.declared.token.LiteralKind.TheVariants.{Int, Float, Char, Byte, Str, ByteStr, CStr, RawStr, RawByteStr, RawCStr}
 use Rattle.rustc_lexer.specs.declared.token.RawStrError.{RawStrError}
 use Rattle.rustc_lexer.specs.declared.token.RawStrError.TheVariants.{InvalidStarter, NoTerminator, TooManyDelimiters}
 use Rattle.rustc_lexer.specs.declared.token.TokenKind.{TokenKind}
 use Rattle.rustc_lexer.specs.declared.token.TokenKind.TheVariants.{BlockComment, Frontmatter, InvalidIdent, UnknownPrefix as UnknownPrefixToken, UnknownPrefixLifetime, GuardedStrPrefix, Literal, Lifetime, Unknown}
-use Rattle.rustc_lexer.specs.LanguageCalls.{is_r}
 use Rattle.rustc_lexer.specs.Answers.{raw_check}
 use Rattle.rustc_lexer.specs.Classes.{next_is}
 use Rattle.marks.specs.declared.fault.Fault.{Fault}
@@ -25,6 +24,9 @@ refusal (TooManyDelimiters found) = ManyHashes found
 abbrev pub refused : Result (Unit {0}) RawStrError → Option Fault
 refused (Ok done) = None
 refused (Err error) = Some (refusal error)
+
+abbrev pub is_r : ℕ → Bool
+is_r c = c == byte "r"
 
 -- why a raw string is refused, whose prefix has so many characters
 abbrev pub raw_fault : List ℕ → ℕ → Option Fault

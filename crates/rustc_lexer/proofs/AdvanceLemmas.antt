@@ -1,5 +1,6 @@
 -- What taking a token off does to the text that is left.
-use Rattle.std.proofs.Common.{◌≡◌, ◌≢◌, ℕ, ◌+◌, ◌-◌, ◌<◌, ◌==◌, List, [], ◌∷◌, length, true, false, true≢false, refl, sym, ap, ◌∙◌, arith}
+use Rattle.std.proofs.Common.{◌≡◌, ◌≢◌, ℕ, ◌+◌, ◌-◌, ◌<◌, ◌==◌, List, [], ◌∷◌, length, true, false, true≢false, refl, sym, ap, ◌∙◌, subst, arith}
+use Rattle.std.specs.Str.{chars}
 use Rattle.std.proofs.lemmas.Bool.{eqb-true, ne_eqb}
 use Rattle.std.proofs.lemmas.Str.{IsCharBoundary-from_take}
 use Rattle.std.proofs.lemmas.List.{nil_from_length}
@@ -9,7 +10,9 @@ use Rattle.rustc_lexer.specs.declared.token.TokenKind.TheVariants.{Eof, Literal}
 use Rattle.rustc_lexer.specs.State.{State, kind_past, token_past}
 use Rattle.rustc_lexer.specs.means.Taking.{token_at, advance}
 use Rattle.rustc_lexer.specs.Classes.{IsText}
-use Rattle.rustc_lexer.specs.Tokens.{tokens_of, tokens_left, StaysAtEnd, TakesPending}
+use Rattle.rustc_lexer.specs.Tokens.{tokens_of, tokens_left, TakesFirst}
+use Rattle.rustc_lexer.specs.LanguageText.{AreTokens}
+use Rattle.rustc_lexer.specs.laws.LanguageTokens.{tokens-are}
 use Rattle.rustc_lexer.specs.laws.State.{past_token, advance-some, token_past-zero}
 use Rattle.rustc_lexer.proofs.TextLemmas.{token_at-not_end}
 use Rattle.rustc_lexer.specs.laws.Tokens.{CutsOff, token_at-cuts, tokens-nil, tokens-cons}
@@ -25,8 +28,8 @@ module _ (s t : State) (token : Token) (is : IsText s.rest) (some : 0 < length s
       ap (λ (r : Token × State). r.0.kind) (sym (advance-some s.pending s.rest s.mode s refl (ne_eqb (length s.rest) 0 (λ none. omega arith))))
       ∙ (ap (λ (k : Token). k.kind) (sym e) ∙ h)))
 
-  pub takes_pending : TakesPending s token t
-  takes_pending =
+  pub takes_first : TakesFirst s token t
+  takes_first =
       let first : Token = token_at s.mode s.rest in
       let whole = advance-some s.pending s.rest s.mode s refl (ne_eqb (length s.rest) 0 (λ none. omega arith)) in
       let token_is : token ≡ token_past s.pending first = e ∙ ap (λ (r : Token × State). r.0) whole in
@@ -35,6 +38,9 @@ module _ (s t : State) (token : Token) (is : IsText s.rest) (some : 0 < length s
       let own : (s.pending + first.len) - s.pending ≡ first.len = omega arith in
       let alone : s.pending ≡ 0 → token_past s.pending first ≡ first = λ none. ap (λ n. token_past n first) none ∙ token_past-zero first in
       rw (token_is, state_is) record {
+        taken = first;
+        with_pending = refl;
+        tokens = subst (AreTokens s.mode (chars s.rest)) (tokens-cons s.mode s.rest is some) (tokens-are s.rest s.mode is);
         first = λ none. tokens-cons s.mode s.rest is some ∙ ap (λ (k : Token). k ∷ tokens_left (past_token s.rest s.mode first)) (sym (alone none));
         not_empty = let n = cuts.not_empty in omega arith;
         boundary = rw own (IsCharBoundary-from_take s.rest first.len is.utf8 cuts.inside cuts.front);
@@ -42,10 +48,10 @@ module _ (s t : State) (token : Token) (is : IsText s.rest) (some : 0 < length s
         pending = refl;
       }
 
-pub stays_at_end : (s : State) (token : Token) (text : List ℕ) → text ≡ s.rest → (length text == 0) ≡ true → token.len ≡ 0 → StaysAtEnd s token s
-stays_at_end s token text e none empty =
+pub stays_at_end : (s : State) (text : List ℕ) (len : ℕ) → text ≡ s.rest → (length text == 0) ≡ true → len ≡ 0 → (tokens_left s ≡ []) × (s.rest ≡ []) × (len ≡ 0) × (s ≡ s)
+stays_at_end s text len e none empty =
     let rest : s.rest ≡ [] = sym e ∙ nil_from_length text (eqb-true (length text) 0 none) in
-    record { none_left = ap (λ xs. tokens_of s.mode xs) rest ∙ tokens-nil s.mode; rest = rest; empty = empty; unchanged = refl }
+    (ap (λ xs. tokens_of s.mode xs) rest ∙ tokens-nil s.mode, rest, empty, refl)
 
 pub something : (xs ys : List ℕ) → xs ≡ ys → (length xs == 0) ≡ false → 0 < length ys
 something [] ys e h = absurd (true≢false h)

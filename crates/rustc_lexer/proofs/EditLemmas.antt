@@ -1,15 +1,15 @@
 -- What an edit keeps: the front by locality, the back by a bound that both texts have.
-use Rattle.std.proofs.Common.{◌≡◌, ℕ, zero, suc, ◌+◌, ◌-◌, ◌*◌, ◌<◌, ◌≤◌, Bool, true, false, List, [], ◌∷◌, ◌++◌, length, take, drop, refl, sym, ap, ◌∙◌, subst, arith, length-drop, length-append, drop-drop, take-take, take-append-drop, take-add, take_at, drop_at, length-take-le, IsUtf8, IsCharBoundary, chars, leb-true, le-leb, leb, is_some, slice_get, encode_utf8, slice_range, append_assoc, Result, Ok, Err, IfErr, OnOk, OnErr}
+use Rattle.std.proofs.Common.{◌≡◌, ℕ, zero, suc, ◌+◌, ◌-◌, ◌*◌, ◌<◌, ◌≤◌, Bool, true, false, List, [], ◌∷◌, ◌++◌, length, take, drop, refl, sym, ap, ◌∙◌, subst, arith, length-drop, length-append, drop-drop, take-take, take-append-drop, take-add, take_at, drop_at, length-take-le, IsUtf8, IsCharBoundary, chars, leb-true, le-leb, leb, is_some, slice_get, encode_utf8, slice_range, append_assoc, Result, Ok, Err, IfErr, OnOk, OnErr, IfOk}
 use Rattle.std.specs.List.{replace_range}
 use Rattle.std.proofs.lemmas.List.{drop-take, take-append-le}
 use Rattle.std.proofs.lemmas.Str.{chars_past_char, chars-nil, IsUtf8-append, IsUtf8-take, IsUtf8-drop, IsUtf8-between, IsCharBoundary-from_drop, chars-append, length-encode, len_utf8_bounds, encodes-chars}
 use Rattle.std.proofs.Math.Utf8.{encodes}
 use Rattle.rustc_lexer.specs.declared.token.Token.{Token}
-use Rattle.rustc_lexer.specs.Locality.{look, AgreePast, IsGrammar, has_two}
+use Rattle.rustc_lexer.specs.Locality.{AgreePast, IsGrammar, has_two}
 use Rattle.rustc_lexer.specs.Classes.{IsText}
 use Rattle.rustc_lexer.specs.Tokens.{bound, tokens_by}
 use Rattle.rustc_lexer.specs.Edits.{apply, IsEdit, kept_front_from}
-use Rattle.rustc_lexer.specs.laws.Cuts.{IsCutAt, at_bound, tokens_local}
+use Rattle.rustc_lexer.specs.laws.Cuts.{IsCutAt, at_bound, tokens_local, look}
 
 -- what holds anyway holds of an error
 pub IfErr-always : {T E : Type 0} {P : Type 0} (r : Result T E) → P → IfErr r (λ _. P)
@@ -236,3 +236,8 @@ put_back text start stop insert is its edit =
     let ed : IsEdited text start stop insert (apply text start stop insert) = edited text start stop insert is its edit in
     ap (λ front. front ++ (slice_range text start stop ++ drop (start + length insert) (apply text start stop insert))) ed.front
     ∙ (ap (λ back. take start text ++ (slice_range text start stop ++ back)) ed.back ∙ three_parts text start stop edit.inside.start_le_stop)
+
+-- where two facts of what is answered give a third
+pub IfOk-two : {X Y : Type 0} (r : Result X Y) (P Q R : X → Type 0) → ((x : X) → P x → Q x → R x) → IfOk r P → IfOk r Q → IfOk r R
+IfOk-two (Ok x) P Q R f p q = f x p q
+IfOk-two (Err e) P Q R f p q = p

@@ -1,8 +1,9 @@
 -- Counting the kept front, token by token.
 use Rattle.std.proofs.Common.{◌≡◌, ℕ, zero, suc, ◌+◌, ◌-◌, ◌<◌, ◌≤◌, true, false, cond, List, [], ◌∷◌, length, get_or, drop, sym, ap, ◌∙◌, subst, arith, IsUtf8, IsCharBoundary, drop-cons, length-drop}
 use Rattle.std.proofs.lemmas.List.{drop_all}
+use Rattle.rustc_lexer.specs.means.Relexing.{AreBoundaries}
 use Rattle.rustc_lexer.specs.declared.token.Token.{Token}
-use Rattle.rustc_lexer.specs.Tokens.{AreBoundaries, bound}
+use Rattle.rustc_lexer.specs.Tokens.{bound}
 use Rattle.rustc_lexer.specs.Edits.{kept_front, kept_front_from}
 use Rattle.rustc_lexer.specs.Locality.{has_two}
 use Rattle.rustc_lexer.proofs.EditLemmas.{front-none, has_two-mono}

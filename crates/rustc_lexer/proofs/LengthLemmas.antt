@@ -3,9 +3,9 @@ use Rattle.std.proofs.Common.{◌≡◌, ℕ, ◌<◌, ◌≤◌, Bool, true, fa
 use Rattle.std.proofs.lemmas.List.{get_or-map, length-map, take-take}
 use Rattle.std.proofs.lemmas.Bool.Decides.{leb_tells}
 use Rattle.std.proofs.lemmas.Str.{IsUtf8-take, IsCharBoundary-from_take}
+use Rattle.rustc_lexer.specs.means.Relexing.{HasLengths}
 use Rattle.rustc_lexer.specs.declared.token.Token.{Token}
 use Rattle.rustc_lexer.specs.declared.token.TokenKind.TheVariants.{Eof}
-use Rattle.rustc_lexer.specs.Relexing.{HasLengths}
 use Rattle.rustc_lexer.specs.Locality.{has_two}
 use Rattle.rustc_lexer.proofs.EditLemmas.{has_two-late, has_two-same}
 

@@ -22,7 +22,6 @@ pub mod IdentLemmas
 pub mod KernelLemmas
 pub mod LandmarkLemmas
 pub mod LaneLemmas
-pub mod LanguageTextLemmas
 pub mod LengthLemmas
 pub mod LexemeLemmas
 pub mod LifetimeLemmas

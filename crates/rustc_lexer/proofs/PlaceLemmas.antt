@@ -2,7 +2,8 @@
 use Rattle.std.proofs.Common.{◌≡◌, ℕ, ◌+◌, ◌-◌, List, take, drop, drop-drop, sym, ap, subst, ◌∙◌, arith, IsCharBoundary}
 use Rattle.std.proofs.lemmas.Str.{IsCharBoundary-from_rest}
 use Rattle.rustc_lexer.specs.declared.token.Token.{Token}
-use Rattle.rustc_lexer.specs.State.{State, StandsAt}
+use Rattle.rustc_lexer.specs.laws.State.{StandsAt}
+use Rattle.rustc_lexer.specs.State.{State}
 use Rattle.rustc_lexer.specs.Tokens.{TakesToken}
 
 -- past a token it stands where the token ends

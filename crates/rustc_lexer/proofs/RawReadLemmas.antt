@@ -99,7 +99,7 @@ module _ (text rest : List ℕ) (p : ℕ) (is : IsUtf8 text) (rest_is : rest ≡
 
   pub prefix_fits : StartsRaw text p → p + length rest ≤ length text
   prefix_fits starts =
-      let long : p ≤ length (chars text) = letter_inside (drop (p - 1) (chars text)) starts.letter (length-drop (p - 1) (chars text)) in
+      let long : p ≤ length (chars text) = letter_inside (drop (p - 1) (chars text)) starts.1 (length-drop (p - 1) (chars text)) in
       let bytes : length (take p (chars text)) ≤ bytes_of p (chars text) = length-le-encodes (take p (chars text)) in
       omega (arith, length-take p (chars text), length-past p text is, ap length rest_is)
     where
@@ -113,7 +113,7 @@ module _ (text rest : List ℕ) (p : ℕ) (is : IsUtf8 text) (rest_is : rest ≡
       let before : q - 1 ≡ p = omega arith in
       let reads : chars rest ≡ drop (q - 1) (chars text) = ap chars rest_is ∙ (chars-past p text is ∙ ap (λ (n : ℕ). drop n (chars text)) (sym before)) in
       let letter : (slice_index (chars rest) 0 == 114) ≡ next_is is_r (drop (q - 1) (chars text)) = by_char (chars rest) ∙ ap (next_is is_r) reads in
-      (λ f. record { some = omega arith; letter = sym letter ∙ f }, λ s. letter ∙ s.letter)
+      (λ f. (omega arith, sym letter ∙ f), λ s. letter ∙ s.1)
     where
       by_char : (s : List ℕ) → (slice_index s 0 == 114) ≡ next_is is_r s
       by_char [] = refl

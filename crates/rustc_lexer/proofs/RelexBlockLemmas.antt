@@ -1,7 +1,8 @@
 -- Relexing over many tokens at once, each of which begins before the end of what an edit put in.
-use Rattle.std.proofs.Common.{◌≡◌, ℕ, zero, suc, ◌+◌, ◌-◌, ◌<◌, ◌≤◌, Bool, true, false, ◌&&◌, leb, true≢false, List, ◌∷◌, length, drop, inl, inr, refl, sym, ap, ◌∙◌, subst, arith, drop-drop, length-drop, IsUtf8, IsCharBoundary}
+use Rattle.std.proofs.Common.{◌≡◌, ℕ, zero, suc, ◌+◌, ◌-◌, ◌<◌, ◌≤◌, Bool, true, false, ◌&&◌, leb, true≢false, List, ◌∷◌, length, drop, inl, inr, Some, refl, sym, ap, ◌∙◌, subst, arith, drop-drop, length-drop, IsUtf8, IsCharBoundary}
 use Rattle.std.proofs.lemmas.Bool.{cases_lt, leb-true}
 use Rattle.std.proofs.lemmas.Str.{IsCharBoundary-from_drop, IsUtf8-drop}
+use Rattle.rustc_lexer.specs.means.Relexing.{added_by, removed_by}
 use Rattle.rustc_lexer.specs.declared.relex.front.Bound.{Bound}
 use Rattle.rustc_lexer.specs.declared.relex.front.Meeting.{Meeting}
 use Rattle.rustc_lexer.specs.declared.relex.relexing.Change.{Change}
@@ -9,9 +10,8 @@ use Rattle.rustc_lexer.specs.declared.relex.relexing.Relexing.{Relexing}
 use Rattle.rustc_lexer.specs.declared.token.Token.{Token}
 use Rattle.rustc_lexer.specs.Tokens.{IsFilledTo, bound, tokens_by}
 use Rattle.rustc_lexer.specs.Classes.{Fits, IsText}
-use Rattle.rustc_lexer.specs.Edits.{is_bound, meets_at}
+use Rattle.rustc_lexer.specs.Edits.{is_bound, meets_at, IsFollowed, IsMadeOf, Stands, TakesSteps, known, TakesStep}
 use Rattle.rustc_lexer.specs.Locality.{IsGrammar}
-use Rattle.rustc_lexer.specs.Relexing.{IsFollowed, IsMadeOf, IsStepTo, Stands, TakesSteps, added_by, known, removed_by}
 use Rattle.rustc_lexer.proofs.BoundLemmas.{number_le_bound, rises}
 use Rattle.rustc_lexer.proofs.BulkLemmas.{next_place, next_token, over, stands as place_stands}
 use Rattle.rustc_lexer.specs.laws.Cuts.{IsCutAt, at_bound}
@@ -155,6 +155,17 @@ no_step first text past at = record {
   not_met = λ some _. absurd (omega arith);
 }
 
+-- past the token where relexing stands. Before the edit's end, at `past`, no old token is followed
+pub record IsStepTo (first : List ℕ → Token) (text : List ℕ) (past : ℕ) (at : Relexing) (token : Token) (at' : Relexing) : Type 0 where
+  pub token_is : token ≡ first (drop at.at text)
+  pub inside : at.at < length text
+  pub not_empty : 0 < token.len
+  pub front : at'.front ≡ at.front
+  pub lexed : at'.lexed ≡ at.lexed + 1
+  pub place : at'.at ≡ at.at + token.len
+  pub same_back : at'.at < past → at'.back ≡ at.back
+  pub not_met : at'.at < past → at'.met ≡ false
+
 -- one step more
 module _ {first : List ℕ → Token} (law : IsGrammar first) (text : List ℕ) (is : IsText text) (past : ℕ) (begin at : Relexing) (boundary : IsCharBoundary text begin.at) (count : ℕ) (steps : TakesSteps first text past begin count at) (token : Token) (at' : Relexing) (step : IsStepTo first text past at token at') where
   abbrev rest : List ℕ
@@ -189,3 +200,29 @@ module _ {first : List ℕ → Token} (law : IsGrammar first) (text : List ℕ) 
         same_back = λ less. step.same_back less ∙ steps.same_back (let place = step.place in omega arith);
         not_met = λ _ less. step.not_met less;
       }
+
+-- so one step is such steps, one in number
+pub one_step : {first : List ℕ → Token} (law : IsGrammar first) (text : List ℕ) → IsText text → (past : ℕ) (at : Relexing) (token : Token) (at' : Relexing) → IsCharBoundary text at.at → IsStepTo first text past at token at' → TakesSteps first text past at 1 at'
+one_step {first} law text is past at token at' boundary step = step_more law text is past at at boundary 0 (no_step first text past at) token at' step
+
+-- and the other way round
+pub step_of : {first : List ℕ → Token} (law : IsGrammar first) (text : List ℕ) → IsText text → (past count : ℕ) (at : Relexing) (token : Token) (count' : ℕ) (at' : Relexing) → IsCharBoundary text at.at → TakesStep first text past count at (Some token) count' at' → IsStepTo first text past at token at'
+step_of {first} law text is past count at token count' at' boundary step =
+    let steps = step.1 in
+    let rest : List ℕ = drop at.at text in
+    let rest_is : IsText rest = record { utf8 = IsUtf8-drop text at.at is.utf8 boundary; fits = let f = is.fits in omega (arith, length-drop at.at text) } in
+    let more : 0 < length rest = elim (cases_lt 0 (length rest)) [
+      | inl some ↦ some
+      | inr none ↦ absurd (let o = over law rest rest_is 0 0 refl none in omega (arith, o, steps.inside))
+    ] in
+    let len : token.len ≡ (first rest).len = ap (λ (t : Token). t.len) step.0 in
+    record {
+      token_is = step.0;
+      inside = omega (arith, more, length-drop at.at text);
+      not_empty = omega (arith, len, law.not_empty rest rest_is more);
+      front = steps.front;
+      lexed = steps.lexed;
+      place = omega (arith, steps.place, next_place law rest rest_is 0 0 refl more, len);
+      same_back = steps.same_back;
+      not_met = steps.not_met (omega arith);
+    }

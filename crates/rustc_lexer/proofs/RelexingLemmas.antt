@@ -11,8 +11,7 @@ use Rattle.rustc_lexer.specs.declared.relex.relexing.Change.{Change}
 use Rattle.rustc_lexer.specs.declared.relex.relexing.Relexing.{Relexing}
 use Rattle.rustc_lexer.specs.declared.token.Token.{Token}
 use Rattle.rustc_lexer.specs.Tokens.{bound, tokens_by}
-use Rattle.rustc_lexer.specs.Edits.{apply, kept_front, IsEdit, least_from, meet, meets_at, relexed_of}
-use Rattle.rustc_lexer.specs.Relexing.{IsBound, IsChange, IsFollowed, IsMadeOf, Stands, IsWhole, known}
+use Rattle.rustc_lexer.specs.Edits.{apply, kept_front, IsEdit, least_from, meet, meets_at, relexed_of, IsBound, IsChange, IsFollowed, IsMadeOf, Stands, IsWhole, known}
 use Rattle.rustc_lexer.specs.means.Relexing.{IsFront, damage_of}
 use Rattle.rustc_lexer.specs.Locality.{has_two, IsGrammar}
 use Rattle.rustc_lexer.specs.Classes.{IsText}

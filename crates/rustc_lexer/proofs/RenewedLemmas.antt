@@ -5,7 +5,7 @@ use Rattle.rustc_lexer.specs.declared.relex.landmarks.Landmarks.{Landmarks}
 use Rattle.rustc_lexer.specs.declared.relex.relexing.Relexing.{Relexing}
 use Rattle.rustc_lexer.specs.declared.token.Token.{Token}
 use Rattle.rustc_lexer.specs.Tokens.{bound, tokens_by}
-use Rattle.rustc_lexer.specs.Relexing.{IsBound, IsMadeOf}
+use Rattle.rustc_lexer.specs.Edits.{IsBound, IsMadeOf}
 use Rattle.rustc_lexer.specs.Locality.{IsGrammar}
 use Rattle.rustc_lexer.specs.means.Landmarks.{AreBounds, IsMovable, IsReplaced, end_of}
 use Rattle.rustc_lexer.specs.means.Relexing.{IsRenewed}

@@ -10,7 +10,7 @@ use Rattle.rustc_lexer.specs.declared.lexemes.raw.RawPrefix.{RawPrefix}
 use Rattle.rustc_lexer.specs.declared.lexemes.raw.RawPrefix.TheVariants.{R, Br, Cr}
 use Rattle.rustc_lexer.specs.declared.token.Base.{Base}
 use Rattle.rustc_lexer.specs.declared.token.LiteralKind.{LiteralKind}
-use Rattle.rustc_lexer.specs.declared.token.LiteralKind.TheVariants.{Int, Float}
+use Rattle.rustc_lexer.specs.declared.token.LiteralKind.TheVariants.{Int, Float, RawStr, RawByteStr, RawCStr}
 use Rattle.rustc_lexer.specs.declared.token.Token.{Token}
 use Rattle.rustc_lexer.specs.declared.token.TokenKind.{TokenKind}
 use Rattle.rustc_lexer.specs.declared.token.TokenKind.TheVariants.{Ident, RawIdent, InvalidIdent, UnknownPrefix, ForcedKeywordIdent, Literal, Lifetime, UnknownPrefixLifetime, Slash, Whitespace, GuardedStrPrefix, Pound, Eof}
@@ -32,7 +32,7 @@ use Rattle.rustc_lexer.specs.laws.Raw.{raw_check_own}
 use Rattle.rustc_lexer.specs.means.Scan.{after, begins, bytes_of, gives, next_is, past, run, run_len}
 use Rattle.rustc_lexer.specs.State.{suffix_start_of, HasSuffixWithin}
 use Rattle.rustc_lexer.specs.laws.TokenBy.{scalars-take}
-use Rattle.rustc_lexer.specs.Tokens.{tokens_of, HasRawText, HasText, HaveTexts}
+use Rattle.rustc_lexer.specs.Tokens.{tokens_of, HasText, HaveTexts}
 use Rattle.rustc_lexer.specs.laws.CharSteps.{bytes_of-suc}
 use Rattle.rustc_lexer.proofs.EditionLemmas.{is_silent, changed-either}
 use Rattle.rustc_lexer.specs.laws.Frontmatter.{frontmatter-suffix, token_at-either}
@@ -92,9 +92,18 @@ ident_or_unknown_prefix-tells c s = by_kind (next_is is_prefix_mark (drop n s)) 
 
 -- ---- literals
 
--- a literal says of its text what a raw string does
+-- a literal says of its text what a raw string does, wherever its suffix begins
+abbrev HasRawText : LiteralKind → List ℕ → Type 0
+HasRawText kind text = HasText (Literal kind 0) text
+
+raw-text : (kind : LiteralKind) (suffix_start : ℕ) (text : List ℕ) → HasRawText kind text → HasText (Literal kind suffix_start) text
+raw-text (RawStr n_hashes) suffix_start text has = has
+raw-text (RawByteStr n_hashes) suffix_start text has = has
+raw-text (RawCStr n_hashes) suffix_start text has = has
+raw-text kind suffix_start text has = tt
+
 literal-tells : (c : ℕ) (s : List ℕ) (body : List ℕ → Body × ℕ) → ((text : List ℕ) → HasRawText (body s).0.kind text) → Tells c s (literal body s)
-literal-tells c s body other = record { within = suffix_within 1 (body s) s; text = λ text e. other text }
+literal-tells c s body other = record { within = suffix_within 1 (body s) s; text = λ text e. raw-text _ _ text (other text) }
 
 -- what a number is
 abbrev IsNumber : LiteralKind → Type 0
@@ -172,9 +181,9 @@ IsTold prefix text n_hashes = (raw_check text prefix ≡ Ok tt) ↔ IsSome n_has
 
 checked-text : (prefix : RawPrefix) (text front s : List ℕ) → length front ≡ prefix_len prefix → next_is is_r (drop (prefix_len prefix - 1) (chars text)) ≡ true
     → chars text ≡ front ++ take (raw_literal prefix s).1 s → HasRawText (prefix_kind prefix (accepted (raw_read 0 s).0)) text
-checked-text R text front s e r f = (record { some = omega arith; letter = r }, subst (λ (p : ℕ). IsTold p text (accepted (raw_read 0 s).0)) e (raw_check_own R text front s f))
-checked-text Br text front s e r f = (record { some = omega arith; letter = r }, subst (λ (p : ℕ). IsTold p text (accepted (raw_read 0 s).0)) e (raw_check_own Br text front s f))
-checked-text Cr text front s e r f = (record { some = omega arith; letter = r }, subst (λ (p : ℕ). IsTold p text (accepted (raw_read 0 s).0)) e (raw_check_own Cr text front s f))
+checked-text R text front s e r f = ((omega arith, r), subst (λ (p : ℕ). IsTold p text (accepted (raw_read 0 s).0)) e (raw_check_own R text front s f))
+checked-text Br text front s e r f = ((omega arith, r), subst (λ (p : ℕ). IsTold p text (accepted (raw_read 0 s).0)) e (raw_check_own Br text front s f))
+checked-text Cr text front s e r f = ((omega arith, r), subst (λ (p : ℕ). IsTold p text (accepted (raw_read 0 s).0)) e (raw_check_own Cr text front s f))
 
 raw-tells : TellsAll 114 (raw_literal R)
 raw-tells s = record {
@@ -190,7 +199,7 @@ raw_past-tells prefix c (d ∷ s) two r = record {
   text = λ text e.
       let all : chars text ≡ c ∷ d ∷ take n s = e ∙ ap (λ (k : ℕ). c ∷ take k (d ∷ s)) next in
       let r : next_is is_r (drop (prefix_len prefix - 1) (chars text)) ≡ true = ap (λ (k : ℕ). next_is is_r (drop (k - 1) (chars text))) two ∙ (ap (λ cs. next_is is_r (drop 1 cs)) all ∙ is_114) in
-      checked-text prefix text (c ∷ d ∷ []) s (sym two) r all;
+      raw-text _ _ text (checked-text prefix text (c ∷ d ∷ []) s (sym two) r all);
 }
   where
     n : ℕ

@@ -9,7 +9,6 @@ pub mod LanguageText
 pub mod LiteralGrammar
 pub mod Locality
 pub mod NumberGrammar
-pub mod Relexing
 pub mod State
 pub mod Tables
 pub mod Tokens

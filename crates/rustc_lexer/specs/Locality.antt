@@ -22,29 +22,21 @@ bound tokens zero = 0
 bound [] (suc k) = 0
 bound (t ∷ ts) (suc k) = t.len + bound ts k
 
--- each bound of the tokens is inside the text, between characters
-abbrev pub AreBoundaries : List ℕ → List Token → Type 0
-AreBoundaries text tokens = (k : ℕ) → k ≤ length tokens → IsCharBoundary text (bound tokens k)
-
 -- the tokens cut the text: none is empty, each ends between characters, the lengths sum to its own
 pub record Partitions (text : List ℕ) (tokens : List Token) : Type 0 where
   pub not_empty : All (λ t. 0 < t.len) tokens
-  pub boundaries : AreBoundaries text tokens
+  pub boundaries : (k : ℕ) → k ≤ length tokens → IsCharBoundary text (bound tokens k)
   pub whole : bound tokens (length tokens) ≡ length text
 
 -- ---- what one token may depend on
 
--- the first characters of a text, two at most
-abbrev pub look : List ℕ → List ℕ
-look text = take 2 (chars text)
-
 -- the two texts agree below `place`, and in the two characters past it, or in how they end there
 pub record AgreePast (place : ℕ) (text other : List ℕ) : Type 0 where
   pub below : take place text ≡ take place other
-  pub past : look (drop place text) ≡ look (drop place other)
+  pub past : take 2 (chars (drop place text)) ≡ take 2 (chars (drop place other))
 
--- the law of a grammar: a first token is not empty, ends between characters, and is that of each
--- text that agrees past its end
+-- the law of a grammar: a first token is not empty, ends between characters, and is that of each text that agrees past
+-- its end
 pub record IsGrammar (first : List ℕ → Token) : Type 0 where
   pub not_empty : (text : List ℕ) → IsText text → 0 < length text → 0 < (first text).len
   pub inside : (text : List ℕ) → IsText text → 0 < length text → (first text).len ≤ length text

@@ -1,5 +1,5 @@
 -- A cursor or an iterator on its way through a text: where it is, and what a call takes.
-use Rattle.std.specs.Prelude.{ℕ, ◌≡◌, ◌+◌, ◌≤◌, List, drop, IsCharBoundary, Bool, [], ◌∷◌, ◌++◌, codes, Option, Some, None}
+use Rattle.std.specs.Prelude.{ℕ, ◌≡◌, ◌+◌, ◌≤◌, List, drop, Bool, [], ◌∷◌, ◌++◌, codes, Option, Some, None}
 use Rattle.std.specs.Str.{chars}
 use Rattle.rustc_lexer.specs.declared.edition.Edition.{Edition}
 use Rattle.rustc_lexer.specs.declared.token.GuardedStr.{GuardedStr}
@@ -25,10 +25,6 @@ kind_past pending kind = kind
 abbrev pub token_past : ℕ → Token → Token
 token_past pending token = record { kind = kind_past pending token.kind; len = pending + token.len }
 
--- the text that is left is what follows `place`, which is between characters
-abbrev pub StandsAt : List ℕ → ℕ → State → Type 0
-StandsAt text place s = IsCharBoundary text place × (drop place text ≡ s.rest)
-
 -- where the suffix of a token begins, or 0
 abbrev pub suffix_start_of : TokenKind → ℕ
 suffix_start_of (Literal kind suffix_start) = suffix_start
@@ -43,28 +39,20 @@ HasSuffixWithin token = suffix_start_of token.kind ≤ token.len
 abbrev pub IsFirst : Edition → Utf8 → Token → Type 0
 IsFirst edition text token = (tokens : List Token) × AreTokens (part edition) (chars text) (token ∷ tokens)
 
--- what a cursor takes: at the end a token of length 0, which changes nothing; else the first of the
--- tokens that the language allows there, with the bytes that were pending before it
+-- what a cursor takes: at the end a token of length 0, which changes nothing; else the first of the tokens that the
+-- language allows there, with the bytes that were pending before it
 pub data TakesNext (s : State) : Token × State → Type 0 where
   nothing_left : s.rest ≡ [] → TakesNext s (record { kind = Eof; len = 0 }, s)
-  first_left : {token : Token} {tokens : List Token}
-      → AreTokens s.mode (chars s.rest) (token ∷ tokens)
-      → TakesNext s (
-        token_past s.pending token,
-        record { pending = 0; rest = drop token.len s.rest; mode = mode_after s.mode token.kind },
-      )
+  first_left : {token : Token} {tokens : List Token} → AreTokens s.mode (chars s.rest) (token ∷ tokens)
+      → TakesNext s (token_past s.pending token, record { pending = 0; rest = drop token.len s.rest; mode = mode_after s.mode token.kind })
 
--- what is taken of the text of a cursor: a guarded string, with what is pending; or hashes that
--- begin none, which are pending then
+-- what is taken of the text of a cursor: a guarded string, with what is pending; or hashes that begin none, which are
+-- pending then
 pub data TakesGuarded (s : State) : Option GuardedStr × State → Type 0 where
-  string : {n : ℕ} {terminated : Bool} {w next : Chars}
-      → chars s.rest ≡ w ++ next
-      → IsGuardedBefore next n terminated w
+  string : {n : ℕ} {terminated : Bool} {w next : Chars} → chars s.rest ≡ w ++ next → IsGuardedBefore next n terminated w
       → TakesGuarded s (
         Some record { n_hashes = n; terminated = terminated; token_len = s.pending + bytes w },
         record s { pending = 0; rest = drop (bytes w) s.rest },
       )
-  none : (n : ℕ) (next : Chars)
-      → chars s.rest ≡ hashes n ++ next
-      → NextNotIn (codes "\"#") next
+  none : (n : ℕ) (next : Chars) → chars s.rest ≡ hashes n ++ next → NextNotIn (codes "\"#") next
       → TakesGuarded s (None, record s { pending = s.pending + n; rest = drop n s.rest })

@@ -2,7 +2,6 @@
 use Rattle.std.specs.Prelude.{ℕ, ◌≡◌, ◌↔◌, ◌-◌, ◌<◌, ◌≤◌, List, [], ◌∷◌, length, take, drop, IsCharBoundary, Option, IsSome, Some, None, Ok, zero, suc, Bool, true, false, ◌++◌, map, min}
 use Rattle.std.specs.Str.{chars}
 use Rattle.rustc_lexer.specs.declared.edition.Edition.{Edition}
-use Rattle.rustc_lexer.specs.declared.token.LiteralKind.{LiteralKind}
 use Rattle.rustc_lexer.specs.declared.token.LiteralKind.TheVariants.{RawStr, RawByteStr, RawCStr}
 use Rattle.rustc_lexer.specs.declared.token.Token.{Token}
 use Rattle.rustc_lexer.specs.declared.token.TokenKind.{TokenKind}
@@ -11,7 +10,7 @@ use Rattle.rustc_lexer.specs.Answers.{advance, raw_check}
 pub use Rattle.rustc_lexer.specs.Answers.{tokens_of}
 use Rattle.rustc_lexer.specs.LanguageCalls.{StartsRaw}
 use Rattle.rustc_lexer.specs.LanguageText.{AreTokens, part, mode_edition, mode_after}
-pub use Rattle.rustc_lexer.specs.Locality.{cut_by, tokens_by, bound, AreBoundaries, Partitions}
+pub use Rattle.rustc_lexer.specs.Locality.{cut_by, tokens_by, bound, Partitions}
 use Rattle.rustc_lexer.specs.State.{State, token_past}
 
 -- the tokens that a cursor with nothing pending, or an iterator, will come to
@@ -24,9 +23,8 @@ RestartsAtBounds edition text =
     let tokens : List Token = tokens_of (part edition) text in
     (k : ℕ) → k ≤ length tokens → tokens_of (part edition) (drop (bound tokens k) text) ≡ drop k tokens
 
--- with nothing pending, the token is the first of those left, and the state after it is as
--- `advance` says: it is not empty, ends between characters and is taken off the text, and the
--- edition stays
+-- with nothing pending, the token is the first of those left, and the state after it is as `advance` says: it is not
+-- empty, ends between characters and is taken off the text, and the edition stays
 pub record TakesToken (s : State) (token : Token) (t : State) : Type 0 where
   pub first : tokens_left s ≡ token ∷ tokens_left t
   pub advances : advance s ≡ (token, t)
@@ -41,27 +39,18 @@ abbrev pub YieldsToken : State → Option Token → State → Type 0
 YieldsToken s None t = (tokens_left s ≡ []) × (t ≡ s)
 YieldsToken s (Some token) t = TakesToken s token t
 
--- a cursor that has text left takes the first of the tokens that the language allows there, a
--- frontmatter where one opens, with the bytes that were pending before it; the others are left
+-- a cursor that has text left takes the first of the tokens that the language allows there, a frontmatter where one
+-- opens, with the bytes that were pending before it; the others are left. Past those bytes it is not empty, ends
+-- between characters, and is taken off the text
 pub record TakesFirst (s : State) (token : Token) (t : State) : Type 0 where
   pub taken : Token
   pub with_pending : token ≡ token_past s.pending taken
-  pub first : AreTokens s.mode (chars s.rest) (taken ∷ tokens_left t)
-
--- past the pending bytes the token is not empty, ends between characters, and is taken off the text
-pub record TakesPending (s : State) (token : Token) (t : State) : Type 0 where
+  pub tokens : AreTokens s.mode (chars s.rest) (taken ∷ tokens_left t)
   pub first : s.pending ≡ 0 → tokens_left s ≡ token ∷ tokens_left t
   pub not_empty : s.pending < token.len
   pub boundary : IsCharBoundary s.rest (token.len - s.pending)
   pub rest : t.rest ≡ drop (token.len - s.pending) s.rest
   pub pending : t.pending ≡ 0
-
--- at the end of the text: the token is empty, and nothing changes
-pub record StaysAtEnd (s : State) (token : Token) (t : State) : Type 0 where
-  pub none_left : tokens_left s ≡ []
-  pub rest : s.rest ≡ []
-  pub empty : token.len ≡ 0
-  pub unchanged : t ≡ s
 
 -- ---- what the kind of a token says of its own text, beside the page
 
@@ -69,15 +58,11 @@ pub record StaysAtEnd (s : State) (token : Token) (t : State) : Type 0 where
 abbrev pub IsChecked : ℕ → List ℕ → Option ℕ → Type 0
 IsChecked prefix text n_hashes = StartsRaw text prefix × ((raw_check text prefix ≡ Ok tt) ↔ IsSome n_hashes)
 
-abbrev pub HasRawText : LiteralKind → List ℕ → Type 0
-HasRawText (RawStr n_hashes) text = IsChecked 1 text n_hashes
-HasRawText (RawByteStr n_hashes) text = IsChecked 2 text n_hashes
-HasRawText (RawCStr n_hashes) text = IsChecked 2 text n_hashes
-HasRawText kind text = Unit {0}
-
 -- the text of a raw string may be checked, and `Eof` has none. The page says which texts a kind has
 abbrev pub HasText : TokenKind → List ℕ → Type 0
-HasText (Literal kind suffix_start) text = HasRawText kind text
+HasText (Literal (RawStr n_hashes) suffix_start) text = IsChecked 1 text n_hashes
+HasText (Literal (RawByteStr n_hashes) suffix_start) text = IsChecked 2 text n_hashes
+HasText (Literal (RawCStr n_hashes) suffix_start) text = IsChecked 2 text n_hashes
 HasText Eof text = length text ≡ 0
 HasText kind text = Unit {0}
 
@@ -97,14 +82,14 @@ has_fields (Literal kind suffix_start) = true
 has_fields (Lifetime starts_with_number) = true
 has_fields kind = false
 
--- the room holds the first of the tokens at its front, each as it is written: as many as there are,
--- or as there is room for; the rest of the room stays
+-- the room holds the first of the tokens at its front, each as it is written: as many as there are, or as there is room
+-- for; the rest of the room stays
 pub record IsFilled {X : Type 0} (written : Token → X) (left : List Token) (room filled : List X) (count : ℕ) : Type 0 where
   pub as_many : count ≡ min (length room) (length left)
   pub tokens : filled ≡ map written (take count left) ++ drop count room
 
--- the same of the tokens that begin before a place: each of those does, and where there is room for
--- one more, it does not
+-- the same of the tokens that begin before a place: each of those does, and where there is room for one more, it does
+-- not
 pub record IsFilledTo {X : Type 0} (written : Token → X) (end : ℕ) (left : List Token) (room filled : List X) (count : ℕ) : Type 0 where
   pub few : count ≤ length left
   pub within : count ≤ length room

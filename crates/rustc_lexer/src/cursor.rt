@@ -1,10 +1,10 @@
 //! A cursor over a text, which takes it token by token.
-ghost use Rattle.std.specs.Prelude.{◌≡◌, ◌≢◌, ◌+◌, ◌^◌, ◌<◌, slice_index};
+ghost use Rattle.std.specs.Prelude.{◌≡◌, [], ◌≢◌, ◌+◌, ◌^◌, ◌<◌, slice_index};
 ghost use Rattle.std.specs.Str.{chars};
 ghost use Rattle.rustc_lexer.specs.declared.edition.Edition.{Edition};
 ghost use Rattle.rustc_lexer.specs.declared.edition.Edition.TheVariants.{E2024};
 ghost use Rattle.rustc_lexer.specs.Classes.{Fits};
-ghost use Rattle.rustc_lexer.specs.Tokens.{TakesFirst, StaysAtEnd, TakesPending};
+ghost use Rattle.rustc_lexer.specs.Tokens.{TakesFirst, tokens_left};
 ghost use Rattle.rustc_lexer.specs.LanguageText.{mode_after, mode_edition, mode_in, mode_of};
 ghost use Rattle.rustc_lexer.specs.Answers.{advance};
 ghost use Rattle.rustc_lexer.specs.State.{token_past, HasSuffixWithin};
@@ -113,9 +113,9 @@ impl<'a> Cursor<'a> {
     pub fn advance_token(&mut self) -> Token
         ensures token { result ≡ (advance self.old).0 }
         ensures state { self.new ≡ (advance self.old).1 }
-        ensures end { result.kind ≡ TokenKind.Eof → StaysAtEnd self.old result self.new }
-        ensures past { result.kind ≢ TokenKind.Eof → TakesPending self.old result self.new }
-        ensures pending { result.kind ≢ TokenKind.Eof → TakesFirst self.old result self.new }
+        ensures end { result.kind ≡ TokenKind.Eof → (tokens_left self.old ≡ [])
+            × (self.old.rest ≡ []) × (result.len ≡ 0) × (self.new ≡ self.old) }
+        ensures past { result.kind ≢ TokenKind.Eof → TakesFirst self.old result self.new }
     {
         let rest = self.as_str();
         if rest.is_empty() {

@@ -9,8 +9,7 @@ use Rattle.rustc_lexer.specs.declared.token.Token.{Token}
 use Rattle.rustc_lexer.specs.Tokens.{tokens_by}
 use Rattle.rustc_lexer.specs.LanguageText.{edition_of_year}
 use Rattle.rustc_lexer.specs.Answers.{first_in}
-use Rattle.rustc_lexer.specs.Edits.{relexed_of}
-use Rattle.rustc_lexer.specs.Relexing.{IsBound, IsChange, IsMadeOf, MayGoOn, Stands, is_over}
+use Rattle.rustc_lexer.specs.Edits.{relexed_of, IsBound, IsChange, IsMadeOf, MayGoOn, Stands, is_over}
 use Rattle.rustc_lexer.specs.Classes.{IsText}
 use Rattle.rustc_lexer_c.specs.declared.relex.CEdit.{CEdit}
 use Rattle.rustc_lexer_c.specs.declared.relex.CRelexing.{CRelexing}

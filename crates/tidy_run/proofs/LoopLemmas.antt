@@ -3,7 +3,8 @@ use Rattle.std.proofs.Common.{◌≡◌, ℕ, suc, ◌+◌, ◌≤◌, ◌==◌,
 use Rattle.std.proofs.lemmas.Bool.{cases_Bool, eqb-true, eq-eqb, ne_eqb}
 use Rattle.rustc_lexer.specs.declared.token.Token.{Token}
 use Rattle.rustc_lexer.specs.LanguageText.{Mode}
-use Rattle.rustc_lexer.specs.State.{State, StandsAt}
+use Rattle.rustc_lexer.specs.laws.State.{StandsAt}
+use Rattle.rustc_lexer.specs.State.{State}
 use Rattle.rustc_lexer.specs.Tokens.{tokens_of, tokens_left, TakesToken}
 use Rattle.rustc_lexer.proofs.PlaceLemmas.{stands_past}
 use Rattle.rustc_lexer.specs.laws.Tokens.{tokens-nil, tokens-some}

@@ -3,10 +3,14 @@ use Rattle.std.proofs.Common.{◌≡◌, ℕ, zero, suc, ◌+◌, ◌<◌, ◌�
 use Rattle.std.proofs.lemmas.List.{drop-take}
 use Rattle.std.proofs.lemmas.Str.{chars-append, IsUtf8-append, IsUtf8-nil}
 use Rattle.rustc_lexer.specs.declared.token.Token.{Token}
-use Rattle.rustc_lexer.specs.Locality.{look, AgreePast, IsGrammar, bound, cut_by, tokens_by}
+use Rattle.rustc_lexer.specs.Locality.{AgreePast, IsGrammar, bound, cut_by, tokens_by}
 use Rattle.rustc_lexer.specs.Classes.{IsText}
 use Rattle.rustc_lexer.specs.laws.Texts.{agree_inside}
 use Rattle.rustc_lexer.specs.laws.TokenBy.{left_text}
+
+-- the first characters of a text, two at most
+abbrev pub look : List ℕ → List ℕ
+look text = take 2 (chars text)
 
 -- what is left of a text past its first token
 pub past_first : {first : List ℕ → Token} (law : IsGrammar first) (text : List ℕ) → IsText text → 0 < length text → IsText (drop (first text).len text)

@@ -19,7 +19,8 @@ use Rattle.rustc_lexer.specs.Language as the
 use Rattle.rustc_lexer.specs.LiteralGrammar as lit
 use Rattle.rustc_lexer.specs.Language.{begins_prefixed, IsTokenBefore}
 use Rattle.rustc_lexer.specs.LiteralGrammar.{IsLiteralBefore}
-use Rattle.rustc_lexer.specs.LanguageLaws.{BeginsWithOne}
+use Rattle.rustc_lexer.specs.LanguageText.{TheOnly}
+use Rattle.rustc_lexer.specs.LanguageLaws.{BeginsWith}
 use Rattle.rustc_lexer.specs.means.Lexeme.{is_raw_mark, raw_or_ident, begins_raw, raw_past_or_ident, letter_r, letter_k, letter_b, letter_c, letters, word, lexeme}
 use Rattle.rustc_lexer.specs.means.Literal.{literal}
 use Rattle.rustc_lexer.specs.means.Quoted.{byte_body, byte_str_body, c_str_body}
@@ -171,16 +172,16 @@ language next w kind = (token-read, read-token)
         (subst (λ (r : TokenKind × ℕ). IsTokenBefore (drop r.1 (w ++ next)) r.0 (take r.1 (w ++ next))) e (lexeme-sound (w ++ next))))
 
 -- and each text begins with one
-pub begins-one : (s : List ℕ) → BeginsWithOne s
+pub begins-one : (s : List ℕ) → TheOnly (Unit {0}) (BeginsWith s)
 begins-one s = record {
-  kind = (lexeme s).0;
-  w = take (lexeme s).1 s;
-  next = drop (lexeme s).1 s;
-  whole = sym (take-append-drop (lexeme s).1 s);
-  is = lexeme-sound s;
-  only = λ other v after e p.
-      let read : lexeme s ≡ (other, length v) = ap lexeme e ∙ token-read p in (
-        sym (ap (λ (r : TokenKind × ℕ). r.0) read),
-        sym (ap (λ (r : TokenKind × ℕ). take r.1 s) read ∙ (ap (take (length v)) e ∙ take-append_seam v after)),
-      );
+  answer = ((lexeme s).0, take (lexeme s).1 s);
+  only = λ always other. (
+    λ begins. (
+        let read : lexeme s ≡ (other.0, length other.1) = ap lexeme begins.1 ∙ token-read begins.2 in
+        let kind = sym (ap (λ (r : TokenKind × ℕ). r.0) read) in
+        let text = sym (ap (λ (r : TokenKind × ℕ). take r.1 s) read ∙ (ap (take (length other.1)) begins.1 ∙ take-append_seam other.1 begins.0)) in
+        λ i. (kind i, text i)
+        ),
+    λ same. subst (BeginsWith s) (sym same) (drop (lexeme s).1 s, sym (take-append-drop (lexeme s).1 s), lexeme-sound s),
+  );
 }

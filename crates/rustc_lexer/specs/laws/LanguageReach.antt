@@ -1,5 +1,5 @@
 -- How far a token of each kind looks can be read off the conditions of the language on what follows.
-use Rattle.std.proofs.Common.{◌≡◌, ℕ, suc, ◌+◌, ◌-◌, ◌<◌, ◌==◌, ◌&&◌, if◌then◌else◌, get_or, not, Bool, true, false, true≢false, List, [], ◌∷◌, ◌++◌, length, take, drop, codes, refl, sym, ap, ◌∙◌, subst, arith, take-add, Option, Some, None}
+use Rattle.std.proofs.Common.{◌≡◌, ℕ, suc, ◌+◌, ◌-◌, ◌<◌, ◌==◌, ◌&&◌, if◌then◌else◌, get_or, not, Bool, true, false, true≢false, List, [], ◌∷◌, ◌++◌, length, take, drop, codes, refl, sym, ap, ◌∙◌, subst, arith, take-add, Option, Some, None, bytes_eq}
 use lib.Utf8.{encode}
 use Rattle.std.proofs.Math.Seq.{take-append_seam, drop-append_seam}
 use Rattle.std.proofs.lemmas.Bool.{and_parts, or_parts, or_from, eqb-true, not-true}
@@ -20,7 +20,7 @@ use Rattle.rustc_lexer.specs.Language as the
 use Rattle.rustc_lexer.specs.LiteralGrammar as lit
 use Rattle.rustc_lexer.specs.LiteralGrammar.{IsDoubleQuoted, SingleTo, IsSingleQuoted, IsRaw, IsLiteralBefore, IsSuffixBefore}
 use Rattle.rustc_lexer.specs.Language.{ends_prefix, known_prefixes, begins_prefixed, IsTokenBefore}
-use Rattle.rustc_lexer.specs.LanguageLaws.{is_only, is_long_char, literal_reach, reach, is_refused, Needs, NoneLooksLess}
+use Rattle.rustc_lexer.specs.LanguageLaws.{is_long_char, literal_reach, reach, is_refused, Needs, NoneLooksLess}
 use Rattle.rustc_lexer.specs.means.Lexeme.{past_first, lexeme}
 use Rattle.rustc_lexer.specs.Tables.{is_emoji, emoji_ranges, symbols}
 use Rattle.rustc_lexer.specs.means.Number.{number_kind, fraction, number as number_past}
@@ -251,8 +251,12 @@ by_reach kind w none float one two = one refl refl
 -- ---- prefixes
 
 -- in a word of two characters or more, or of another one, no hash stands behind this character
-no-hash : (d c : ℕ) (w s : List ℕ) → AreAll is_word_continue w → is_only d (c ∷ w) ≡ false → begins_ident_after (d ∷ 35 ∷ []) (c ∷ w ++ s) ≡ false
-no-hash d c [] s all e = rw e refl
+no-hash : (d c : ℕ) (w s : List ℕ) → AreAll is_word_continue w → bytes_eq (c ∷ w) (d ∷ []) ≡ false → begins_ident_after (d ∷ 35 ∷ []) (c ∷ w ++ s) ≡ false
+no-hash d c [] s all e = by_same (c == d) e
+  where
+    by_same : (b : Bool) → (b && true) ≡ false → ((b && begins (35 ∷ []) s) && next_is is_id_start (drop 2 (c ∷ s))) ≡ false
+    by_same true e = absurd (true≢false e)
+    by_same false e = refl
 no-hash d c (x ∷ w) s all e =
     let none : (x == 35) ≡ false = (or_parts (x == 35) _ (word-no_mark x (and_parts (is_word_continue x) (list_all is_word_continue w) all).0)).0 in
     by_first (c == d) none
@@ -286,7 +290,7 @@ known-told w c u v mark = rw (
   mark-told (codes "cr") w 35 c u v refl mark,
 ) refl
 
-prefixed-alike : (w next other : List ℕ) → is_ident w ≡ true → is_only 107 w ≡ false → NextIs ends_prefix next → take 1 other ≡ take 1 next → begins_prefixed (w ++ next) ≡ false → begins_prefixed (w ++ other) ≡ false
+prefixed-alike : (w next other : List ℕ) → is_ident w ≡ true → bytes_eq w (codes "k") ≡ false → NextIs ends_prefix next → take 1 other ≡ take 1 next → begins_prefixed (w ++ next) ≡ false → begins_prefixed (w ++ other) ≡ false
 prefixed-alike [] next other is only go e free = absurd (true≢false (sym is))
 prefixed-alike (x ∷ w) [] other is only go e free = absurd (true≢false (sym go))
 prefixed-alike (x ∷ w) (c ∷ u) [] is only go e free = absurd (let no : 0 ≡ 1 = ap length e in omega (arith, no))
@@ -310,14 +314,14 @@ token-alike {next} (the.line_comment all stop is) other e = the.line_comment all
 token-alike {next} (the.block_comment p is) other e = the.block_comment p is
 token-alike {next} (the.open_comment none never is) other e = the.open_comment (ends next other e none) never is
 token-alike {next} (the.ident is stop none) other e = the.ident is (stops _ next other e stop) (stops _ next other e none)
-token-alike {next} (the.unknown_prefix {w} is go free) other e = by_only (is_only 107 w) other next e
+token-alike {next} (the.unknown_prefix {w} is go free) other e = by_only (bytes_eq w (codes "k")) other next e
     (λ is_k two. by_two next other w UnknownPrefix (the.unknown_prefix is go free) two)
     (λ no_k one. the.unknown_prefix is (goes _ next other one go) (prefixed-alike w next other is no_k go one free))
 token-alike {next} (the.invalid_ident start all wrong stop) other e = the.invalid_ident start all wrong (stops _ next other e stop)
 token-alike {next} (the.raw_ident is stop) other e = the.raw_ident is (stops _ next other e stop)
 token-alike {next} (the.forced_keyword is stop) other e = the.forced_keyword is (stops _ next other e stop)
 token-alike {next} (the.lifetime start all stop quote hash) other e = the.lifetime start all (stops _ next other e stop) (stops _ next other e quote) (λ go. hash (goes _ other next (sym e) go))
-token-alike {next} (the.unknown_prefix_lifetime {c} {w} start all hash free) other e = by_only (is_only 114 (c ∷ w)) other next e
+token-alike {next} (the.unknown_prefix_lifetime {c} {w} start all hash free) other e = by_only (bytes_eq (c ∷ w) (codes "r")) other next e
     (λ is_r two. by_two next other (39 ∷ c ∷ w) UnknownPrefixLifetime (the.unknown_prefix_lifetime start all hash free) two)
     (λ no_r one. the.unknown_prefix_lifetime start all (goes _ next other one hash) (no-hash 114 c w other all no_r))
 token-alike {next} (the.raw_lifetime is stop) other e = the.raw_lifetime is (stops _ next other e stop)
@@ -388,25 +392,10 @@ is_refused_token (Literal kind suffix_start) = is_refused kind
 is_refused_token kind = false
 
 token-stands : {c : ℕ} {next : List ℕ} {kind : TokenKind} {w : List ℕ} → IsTokenBefore (c ∷ next) kind w → is_refused_token kind ≡ true → (other : List ℕ) → IsTokenBefore other kind w
-token-stands (the.end none) e other = absurd (true≢false (sym e))
-token-stands (the.whitespace all stop) e other = absurd (true≢false (sym e))
-token-stands (the.line_comment all stop is) e other = absurd (true≢false (sym e))
-token-stands (the.block_comment p is) e other = absurd (true≢false (sym e))
-token-stands (the.open_comment none never is) e other = absurd (true≢false (sym e))
-token-stands (the.ident is stop none) e other = absurd (true≢false (sym e))
-token-stands (the.unknown_prefix is go free) e other = absurd (true≢false (sym e))
-token-stands (the.invalid_ident start all wrong stop) e other = absurd (true≢false (sym e))
-token-stands (the.raw_ident is stop) e other = absurd (true≢false (sym e))
-token-stands (the.forced_keyword is stop) e other = absurd (true≢false (sym e))
-token-stands (the.lifetime start all stop quote hash) e other = absurd (true≢false (sym e))
-token-stands (the.unknown_prefix_lifetime start all hash free) e other = absurd (true≢false (sym e))
-token-stands (the.raw_lifetime is stop) e other = absurd (true≢false (sym e))
 token-stands (the.literal is) e other = the.literal (literal-stands is e other)
 token-stands (the.literal_with is suffix_is) e other = absurd (true≢false (literal-takes is e))
-token-stands (the.slash stop) e other = absurd (true≢false (sym e))
-token-stands (the.pound stop) e other = absurd (true≢false (sym e))
-token-stands (the.guarded_prefix is) e other = absurd (true≢false (sym e))
 token-stands (the.symbol {c} is) e other = absurd (either-way _ e (not-true _ (by_symbol (λ kind. not (is_refused_token kind)) symbols c refl refl)))
+token-stands others e other = absurd (true≢false (sym e))
 
 pub refused_stands : (c suffix_start : ℕ) (next other w : List ℕ) (kind : LiteralKind) → is_refused kind ≡ true → IsTokenBefore (c ∷ next) (Literal kind suffix_start) w → IsTokenBefore other (Literal kind suffix_start) w
 refused_stands c n next other w kind refused p = token-stands p refused other

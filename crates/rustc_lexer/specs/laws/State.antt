@@ -1,5 +1,5 @@
 -- The state after a token.
-use Rattle.std.proofs.Common.{◌≡◌, ℕ, ◌==◌, true, false, true≢false, List, [], ◌∷◌, length, drop, refl, sym, ap, ◌∙◌, arith, zero-add, ◌+◌, ◌<◌}
+use Rattle.std.proofs.Common.{◌≡◌, ℕ, ◌==◌, true, false, true≢false, List, [], ◌∷◌, length, drop, refl, sym, ap, ◌∙◌, arith, zero-add, ◌+◌, ◌<◌, IsCharBoundary}
 use Rattle.std.proofs.lemmas.Bool.{eqb-true, ne_eqb}
 use Rattle.rustc_lexer.specs.declared.token.Token.{Token}
 use Rattle.rustc_lexer.specs.declared.token.TokenKind.{TokenKind}
@@ -10,6 +10,10 @@ use Rattle.rustc_lexer.specs.means.Taking.{token_at, advance_by, advance}
 
 abbrev pub state : ℕ → List ℕ → Mode → State
 state pending rest mode = record { pending = pending; rest = rest; mode = mode }
+
+-- the text that is left is what follows `place`, which is between characters
+abbrev pub StandsAt : List ℕ → ℕ → State → Type 0
+StandsAt text place s = IsCharBoundary text place × (drop place text ≡ s.rest)
 
 abbrev pub past_token : List ℕ → Mode → Token → State
 past_token rest mode token = state 0 (drop token.len rest) (mode_after mode token.kind)

@@ -5,7 +5,7 @@ use Rattle.rustc_lexer.specs.declared.relex.front.Bound.{Bound}
 use Rattle.rustc_lexer.specs.declared.relex.landmarks.Landmarks.{Landmarks}
 use Rattle.rustc_lexer.specs.declared.token.Token.{Token}
 use Rattle.rustc_lexer.specs.declared.relex.relexing.Relexing.{Relexing}
-use Rattle.rustc_lexer.specs.Relexing.{IsBound, known}
+use Rattle.rustc_lexer.specs.Edits.{IsBound, known}
 
 -- all of them are bounds of the tokens
 abbrev pub AreBounds : List Token → Landmarks → Type 0

@@ -11,7 +11,7 @@ use Rattle.rustc_lexer.specs.declared.token.TokenKind.{TokenKind}
 use Rattle.rustc_lexer.specs.means.Least.{least}
 use Rattle.rustc_lexer.specs.means.Literal.{Body, literal_past}
 use Rattle.rustc_lexer.specs.means.Scan.{IsLocalAt, after, bytes_of, gives, next_is, run_len}
-pub use Rattle.rustc_lexer.specs.LanguageCalls.{is_r, StartsRaw}
+pub use Rattle.rustc_lexer.specs.LanguageCalls.{StartsRaw}
 
 -- the least place from which the text passes a test
 abbrev pub least_place : (List ℕ → Bool) → List ℕ → Option ℕ
@@ -21,6 +21,9 @@ least_place test s = least (λ place. test (drop place s)) (length s)
 abbrev pub greatest : (ℕ → ℕ) → ℕ → ℕ
 greatest f zero = 0
 greatest f (suc count) = max (f 0) (greatest (λ i. f (suc i)) count)
+
+abbrev pub is_r : ℕ → Bool
+is_r c = c == byte "r"
 
 abbrev pub is_hash : ℕ → Bool
 is_hash c = c == byte "#"

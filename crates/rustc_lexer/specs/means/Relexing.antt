@@ -1,12 +1,27 @@
 -- Means, by how it is read: the parts of relexing.
-use Rattle.std.specs.Prelude.{ℕ, ◌≡◌, ◌++◌, true, List, length, take, drop}
+use Rattle.std.specs.Prelude.{ℕ, ◌-◌, ◌≤◌, map, IsCharBoundary, ◌≡◌, ◌++◌, true, List, length, take, drop}
 use Rattle.std.specs.Str.{IsUtf8}
 use Rattle.rustc_lexer.specs.declared.relex.front.Damage.{Damage}
 use Rattle.rustc_lexer.specs.declared.relex.relexing.Change.{Change}
 use Rattle.rustc_lexer.specs.declared.relex.relexing.Relexing.{Relexing}
 use Rattle.rustc_lexer.specs.declared.token.Token.{Token}
-use Rattle.rustc_lexer.specs.Locality.{AreBoundaries, tokens_by}
-use Rattle.rustc_lexer.specs.Relexing.{HasLengths, Stands, added_by, known, removed_by}
+use Rattle.rustc_lexer.specs.Locality.{bound, tokens_by}
+use Rattle.rustc_lexer.specs.Edits.{Stands, known}
+
+-- each bound of the tokens is inside the text, between characters
+abbrev pub AreBoundaries : List ℕ → List Token → Type 0
+AreBoundaries text tokens = (k : ℕ) → k ≤ length tokens → IsCharBoundary text (bound tokens k)
+
+-- these are the lengths of the tokens
+abbrev pub HasLengths : List Token → List ℕ → Type 0
+HasLengths tokens lengths = lengths ≡ map (λ (t : Token). t.len) tokens
+
+-- how many bytes a change put in, and how many it took out
+abbrev pub added_by : Change → ℕ
+added_by change = change.new_stop - change.start
+
+abbrev pub removed_by : Change → ℕ
+removed_by change = change.old_stop - change.start
 
 -- the old text, which may be cut at the bounds of the tokens, and the new one are the same up to `start`
 pub record IsFront (old : List ℕ) (tokens : List Token) (lengths text : List ℕ) (start : ℕ) : Type 0 where

@@ -6,9 +6,8 @@ ghost use Rattle.std.specs.String.{string_bytes, string_capacity, string_len};
 ghost use Rattle.rustc_lexer.specs.declared.token.Token.{Token};
 ghost use Rattle.rustc_lexer.specs.Classes.{Fits, IsText};
 ghost use Rattle.rustc_lexer.specs.Tokens.{tokens_by};
-ghost use Rattle.rustc_lexer.specs.Edits.{IsEdit, IsInside, apply, relexed_of};
+ghost use Rattle.rustc_lexer.specs.Edits.{IsEdit, IsInside, apply, relexed_of, IsBound, IsChange, IsMadeOf, MayGoOn, Stands, known};
 ghost use Rattle.rustc_lexer.specs.means.Landmarks.{AreBounds, IsMovable, IsReplaced, end_of};
-ghost use Rattle.rustc_lexer.specs.Relexing.{IsBound, IsChange, IsMadeOf, MayGoOn, Stands, known};
 ghost use Rattle.rustc_lexer.specs.means.Relexing.{IsLexed, IsRenewed};
 
 use crate::entry::stepper::Stepper;

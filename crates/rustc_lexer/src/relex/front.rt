@@ -4,11 +4,10 @@
 //! said of lengths that are those of a text's tokens.
 ghost use Rattle.std.specs.Prelude.{◌≡◌, ◌+◌, ◌-◌, ◌*◌, ◌<◌, ◌≤◌, ◌^◌, List, length, map, ℕ, true, false, IsCharBoundary, max};
 ghost use Rattle.rustc_lexer.specs.declared.token.Token.{Token};
-ghost use Rattle.rustc_lexer.specs.Edits.{kept_front};
+ghost use Rattle.rustc_lexer.specs.Edits.{kept_front, IsBound, IsFollowed};
 ghost use Rattle.rustc_lexer.specs.Locality.{has_two};
 ghost use Rattle.rustc_lexer.specs.Tokens.{bound};
-ghost use Rattle.rustc_lexer.specs.Relexing.{IsBound, HasLengths, IsFollowed};
-ghost use Rattle.rustc_lexer.specs.means.Relexing.{IsFront};
+ghost use Rattle.rustc_lexer.specs.means.Relexing.{IsFront, HasLengths};
 
 use crate::token::Token;
 

@@ -3,7 +3,7 @@ ghost use Rattle.std.specs.Prelude.{◌≤◌, List};
 ghost use Rattle.std.specs.List.{All, Contains};
 ghost use Rattle.rustc_lexer.specs.declared.token.Token.{Token};
 ghost use Rattle.rustc_lexer.specs.means.Landmarks.{AreBounds, IsMovable, IsReplaced};
-ghost use Rattle.rustc_lexer.specs.Relexing.{IsBound};
+ghost use Rattle.rustc_lexer.specs.Edits.{IsBound};
 
 use crate::relex::front::{Bound, FIRST};
 

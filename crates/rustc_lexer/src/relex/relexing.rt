@@ -2,11 +2,10 @@
 ghost use Rattle.std.specs.Prelude.{◌≡◌, ◌+◌, ◌-◌, ◌<◌, ◌≤◌, ◌++◌, ◌↔◌, IsTrue, List, drop, false, length, map, take, ℕ, true};
 ghost use Rattle.rustc_lexer.specs.declared.relex.relexing.Change.{Change};
 ghost use Rattle.rustc_lexer.specs.declared.token.Token.{Token};
-ghost use Rattle.rustc_lexer.specs.Edits.{relexed_of};
+ghost use Rattle.rustc_lexer.specs.Edits.{relexed_of, IsBound, known};
 ghost use Rattle.rustc_lexer.specs.Classes.{Fits};
 ghost use Rattle.rustc_lexer.specs.Tokens.{tokens_by};
-ghost use Rattle.rustc_lexer.specs.Relexing.{IsBound, known};
-ghost use Rattle.rustc_lexer.specs.Relexing as spec;
+ghost use Rattle.rustc_lexer.specs.Edits as spec;
 ghost use Rattle.rustc_lexer.specs.means.Relexing.{damage_of};
 ghost use Rattle.rustc_lexer.specs.Locality.{IsGrammar};
 

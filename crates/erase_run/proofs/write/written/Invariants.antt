@@ -1,7 +1,7 @@
 use Rattle.std.proofs.Common.{◌≡◌, ◌++◌, string_bytes, Some}
 use Rattle.rustc_lexer.specs.declared.token.FrontmatterAllowed.TheVariants.{No}
 use Rattle.rustc_lexer.specs.LanguageText.{mode_of}
-use Rattle.rustc_lexer.specs.State.{StandsAt}
+use Rattle.rustc_lexer.specs.laws.State.{StandsAt}
 use Rattle.rustc_lexer.specs.Tokens.{tokens_of, tokens_left}
 use Rattle.erase_run.specs.declared.stretch.Stretch.TheVariants.{Closed}
 use Rattle.erase_run.specs.Erased as spec

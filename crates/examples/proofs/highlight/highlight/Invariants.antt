@@ -1,7 +1,7 @@
 use Rattle.std.specs.Fmt.{WritesInCalls}
 use Rattle.rustc_lexer.specs.declared.edition.Edition.TheVariants.{E2024}
 use Rattle.rustc_lexer.specs.LanguageText.{part}
-use Rattle.rustc_lexer.specs.State.{StandsAt}
+use Rattle.rustc_lexer.specs.laws.State.{StandsAt}
 use Rattle.rustc_lexer.specs.Tokens.{tokens_of, tokens_left}
 use Rattle.examples.specs.Highlight.{parts, with_marks}
 use Rattle.examples.proofs.highlight.highlight.Given as goal

@@ -2,7 +2,7 @@ use Rattle.std.proofs.Common.{◌≡◌, ◌++◌}
 use Rattle.rustc_lexer.specs.Edits.{pieces_from, pieces_of}
 use Rattle.rustc_lexer.specs.declared.edition.Edition.TheVariants.{E2024}
 use Rattle.rustc_lexer.specs.LanguageText.{document}
-use Rattle.rustc_lexer.specs.State.{StandsAt}
+use Rattle.rustc_lexer.specs.laws.State.{StandsAt}
 use Rattle.rustc_lexer.specs.Tokens.{tokens_of, tokens_left, HaveTexts}
 use Rattle.examples.specs.RawStrings.{faults_of}
 use Rattle.examples.proofs.raw_strings.raw_faults.Given as goal

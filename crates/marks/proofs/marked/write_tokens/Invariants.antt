@@ -1,6 +1,6 @@
 use Rattle.std.specs.Fmt.{WritesInCalls}
 use Rattle.rustc_lexer.specs.LanguageText.{document}
-use Rattle.rustc_lexer.specs.State.{StandsAt}
+use Rattle.rustc_lexer.specs.laws.State.{StandsAt}
 use Rattle.rustc_lexer.specs.Tokens.{tokens_of, tokens_left}
 use Rattle.marks.specs.Marked.{marked_tokens}
 use Rattle.marks.proofs.marked.write_tokens.Given as goal

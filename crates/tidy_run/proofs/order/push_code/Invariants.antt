@@ -1,6 +1,6 @@
 use Rattle.std.proofs.Common.{◌≡◌, ◌++◌, string_bytes}
 use Rattle.rustc_lexer.specs.LanguageText.{mode_of}
-use Rattle.rustc_lexer.specs.State.{StandsAt}
+use Rattle.rustc_lexer.specs.laws.State.{StandsAt}
 use Rattle.rustc_lexer.specs.Tokens.{tokens_of, tokens_left}
 use Rattle.tidy_run.specs.Order.{code_in_order}
 use Rattle.tidy_run.proofs.order.push_code.Given as goal

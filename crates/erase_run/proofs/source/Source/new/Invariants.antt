@@ -1,4 +1,4 @@
-use Rattle.rustc_lexer.specs.State.{StandsAt}
+use Rattle.rustc_lexer.specs.laws.State.{StandsAt}
 use Rattle.erase_run.proofs.source.Source.new.Given as goal
 
 abbrev pub invariant-loop-token : goal.invariant-loop-token

@@ -5,8 +5,7 @@ use Rattle.rustc_lexer.specs.LanguageText.{mode_of}
 use Rattle.rustc_lexer.specs.State.{State, token_past}
 use Rattle.rustc_lexer.specs.means.Taking.{token_at}
 use Rattle.rustc_lexer.specs.Classes.{IsText}
-use Rattle.rustc_lexer.proofs.AdvanceLemmas.{not_end, takes_pending, stays_at_end, something}
-use Rattle.rustc_lexer.proofs.LanguageTextLemmas.{takes-first}
+use Rattle.rustc_lexer.proofs.AdvanceLemmas.{not_end, takes_first, stays_at_end, something}
 use Rattle.rustc_lexer.specs.laws.State.{state, past_token, past_token-is, advance-end, advance-some}
 use Rattle.rustc_lexer.proofs.cursor.Cursor.advance_token.Goals as goal
 
@@ -17,9 +16,8 @@ returns-then-is_empty c =
     record {
       token = sym (ap (λ (r : Token × State). r.0) none);
       state = sym (ap (λ (r : Token × State). r.1) none);
-      end = λ e. stays_at_end _ _ _ c.as_str-rest.ensures.rest (sym c.if-is_empty.ensures) refl;
+      end = λ e. stays_at_end _ _ 0 c.as_str-rest.ensures.rest (sym c.if-is_empty.ensures) refl;
       past = λ other. absurd (other refl);
-      pending = λ other. absurd (other refl);
     }
 
 pub returns : goal.returns
@@ -42,6 +40,5 @@ returns c =
       token = token;
       state = state;
       end = λ e. absurd (not_end c.args.self.now _ _ text left token state e);
-      past = λ other. takes_pending c.args.self.now _ _ text left token state;
-      pending = λ other. takes-first c.args.self.now _ _ text left token state;
+      past = λ other. takes_first c.args.self.now _ _ text left token state;
     }

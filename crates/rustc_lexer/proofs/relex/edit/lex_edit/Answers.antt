@@ -7,8 +7,7 @@ use Rattle.rustc_lexer.specs.declared.relex.landmarks.Landmarks.{Landmarks}
 use Rattle.rustc_lexer.specs.declared.relex.relexing.Relexed.{Relexed}
 use Rattle.rustc_lexer.specs.declared.token.Token.{Token}
 use Rattle.rustc_lexer.specs.Tokens.{tokens_by}
-use Rattle.rustc_lexer.specs.Edits.{IsEdit, IsInside, apply}
-use Rattle.rustc_lexer.specs.Relexing.{IsBound, IsMadeOf}
+use Rattle.rustc_lexer.specs.Edits.{IsEdit, IsInside, apply, IsBound, IsMadeOf}
 use Rattle.rustc_lexer.specs.Classes.{IsText}
 use Rattle.rustc_lexer.specs.means.Landmarks.{AreBounds}
 use Rattle.rustc_lexer.proofs.EditLemmas.{put_back}

@@ -2,7 +2,8 @@ use Rattle.std.proofs.Common.{◌≡◌, ◌+◌, ◌∷◌, [], ◌++◌, List,
 use Rattle.rustc_lexer.specs.declared.relex.front.Bound.{Bound}
 use Rattle.rustc_lexer.specs.declared.token.Token.{Token}
 use Rattle.rustc_lexer.specs.Tokens.{tokens_by}
-use Rattle.rustc_lexer.specs.Relexing.{IsMadeOf, Stands, known}
+use Rattle.rustc_lexer.specs.Edits.{IsMadeOf, Stands, known}
+use Rattle.rustc_lexer.proofs.RelexBlockLemmas.{step_of}
 use Rattle.rustc_lexer.proofs.EditLemmas.{IfErr-always}
 use Rattle.rustc_lexer.proofs.RelexingLemmas.{few_lexed, all_lexed}
 use Rattle.rustc_lexer.proofs.relex.edit.relex.Goals as goal
@@ -58,15 +59,15 @@ loop-token-preserved g c =
     let at = c.loop-token.at in
     let past = c.next.new.self in
     let token = c.in-Some.token in
-    let step = c.in-Some.ensures.step in
-    let lexed = step.0.lexed in
-    let front = ap (λ b. b.number) step.0.front in
+    let step = step_of (g.S.Stepper.law c.loop-token.stepper) c.args.text.now record { utf8 = c.utf8.text; fits = c.requires.fits } c.args.change.new_stop _ c.loop-token.at c.in-Some.token _ c.next.new.self c.loop-token.invariant.0.boundary c.in-Some.ensures.step in
+    let lexed = step.lexed in
+    let front = ap (λ b. b.number) step.front in
     let more = c.in_ok-push.ensures.items in
     let count : length c.push.new.self.items ≡ length c.loop-token.tokens.items + 1 = rw more (omega (arith, length-append c.loop-token.tokens.items (token ∷ []))) in (
       c.in-Some.ensures.may_go_on,
       c.in-Some.ensures.grammar ∙ c.loop-token.invariant.1,
       c.in-Some.ensures.number ∙ c.loop-token.invariant.2,
-      omega (arith, step.1, count, c.loop-token.invariant.3),
+      omega (arith, c.in-Some.ensures.step.2, count, c.loop-token.invariant.3),
       omega (arith, lexed, count, c.loop-token.invariant.4),
       λ before insert is near.
           let so = c.loop-token.invariant.5 before insert is near in
@@ -80,9 +81,9 @@ returns-in_err-push-clause-few g c =
     let first = g.S.Stepper.grammar c.args.stepper.now in
     let at = c.loop-token.at in
     let past = c.next.new.self in
-    let step = c.in-Some.ensures.step in
-    let lexed = step.0.lexed in
+    let step = step_of (g.S.Stepper.law c.loop-token.stepper) c.args.text.now record { utf8 = c.utf8.text; fits = c.requires.fits } c.args.change.new_stop _ c.loop-token.at c.in-Some.token _ c.next.new.self c.loop-token.invariant.0.boundary c.in-Some.ensures.step in
+    let lexed = step.lexed in
     IfErr-always c.from_residual-in_err-push.result (λ before insert is near.
     let so = c.loop-token.invariant.5 before insert is near in
     let next = subst (λ (f : List ℕ → Token). IsMadeOf f before (map (λ (t : Token). t.len) c.args.old.now) c.args.change insert c.args.text.now → Stands f before c.args.change c.args.text.now at → Stands f before c.args.change c.args.text.now past × (drop (known at) (tokens_by f c.args.text.now) ≡ c.in-Some.token ∷ drop (known past) (tokens_by f c.args.text.now))) c.loop-token.invariant.1 (c.in-Some.ensures.stands before insert) is so.0 in
-    omega (arith, step.1, lexed, c.loop-token.invariant.3, c.loop-token.invariant.4, few_lexed (g.S.Stepper.law c.args.stepper.now) before _ insert _ c.args.change is past next.0))
+    omega (arith, c.in-Some.ensures.step.2, lexed, c.loop-token.invariant.3, c.loop-token.invariant.4, few_lexed (g.S.Stepper.law c.args.stepper.now) before _ insert _ c.args.change is past next.0))

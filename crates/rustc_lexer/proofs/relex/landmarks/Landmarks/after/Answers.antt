@@ -1,5 +1,5 @@
 use Rattle.std.proofs.lemmas.List.Elements.{All-replicate}
-use Rattle.rustc_lexer.specs.Relexing.{IsBound}
+use Rattle.rustc_lexer.specs.Edits.{IsBound}
 use Rattle.rustc_lexer.proofs.LandmarkLemmas.{kept_stays}
 use Rattle.rustc_lexer.proofs.relex.landmarks.Landmarks.after.Goals as goal
 

@@ -1,6 +1,6 @@
 use Rattle.std.proofs.Common.{refl, arith}
 use Rattle.std.proofs.lemmas.List.Elements.{All-replicate}
-use Rattle.rustc_lexer.specs.Relexing.{IsBound}
+use Rattle.rustc_lexer.specs.Edits.{IsBound}
 use Rattle.rustc_lexer.proofs.relex.landmarks.Landmarks.new.Goals as goal
 
 pub returns : goal.returns

@@ -1,7 +1,7 @@
 use Rattle.std.proofs.Common.{◌≡◌, ◌≤◌, List, length, slice_range, ap, ◌∙◌, subst, arith}
 use Rattle.rustc_lexer.specs.declared.token.Token.{Token}
 use Rattle.rustc_lexer.specs.Tokens.{bound}
-use Rattle.rustc_lexer.specs.Relexing.{IsBound}
+use Rattle.rustc_lexer.specs.Edits.{IsBound}
 use Rattle.rustc_lexer.proofs.PieceLemmas.{bound-part, bound_short}
 use Rattle.rustc_lexer.proofs.relex.lexed_text.LexedText.place_of.Goals as goal
 

@@ -1,7 +1,7 @@
 use Rattle.std.proofs.Common.{subst}
 use Rattle.rustc_lexer.specs.declared.relex.front.Damage.{Damage}
 use Rattle.rustc_lexer.specs.Tokens.{tokens_by}
-use Rattle.rustc_lexer.specs.Relexing.{IsFollowed}
+use Rattle.rustc_lexer.specs.Edits.{IsFollowed}
 use Rattle.rustc_lexer.proofs.RelexingLemmas.{made_front, stands_first, front_below}
 use Rattle.rustc_lexer.proofs.relex.relexing.Relexing.begin.Goals as goal
 

@@ -2,10 +2,10 @@ use Rattle.std.proofs.Common.{◌≡◌, List, ℕ, drop, map, inl, inr, refl, s
 use Rattle.std.proofs.lemmas.Bool.{cases_lt}
 use Rattle.rustc_lexer.specs.declared.token.Token.{Token}
 use Rattle.rustc_lexer.specs.Classes.{IsText}
-use Rattle.rustc_lexer.specs.Relexing.{IsMadeOf, IsStepTo, Stands, is_over}
+use Rattle.rustc_lexer.specs.Edits.{IsMadeOf, Stands, is_over}
 use Rattle.rustc_lexer.specs.Tokens.{tokens_by}
 use Rattle.rustc_lexer.proofs.BulkLemmas.{is_written, none_written, one_written}
-use Rattle.rustc_lexer.proofs.RelexBlockLemmas.{left_at, next_left, no_step, step_more}
+use Rattle.rustc_lexer.proofs.RelexBlockLemmas.{IsStepTo, step_of, left_at, next_left, no_step, step_more}
 use Rattle.rustc_lexer.proofs.relex.relexing.Relexing.fill.Goals as goal
 use Rattle.rustc_lexer.proofs.relex.relexing.Relexing.fill.Goals.{then-self-change+then-not-is_over+then-not-is_empty, else-self-change}
 
@@ -47,19 +47,20 @@ places-preserved g c =
     let at = c.places.self in
     let past = c.next.new.self in
     let token = c.in-Some.token in
-    let step : IsStepTo first text c.args.change.new_stop at token past = subst (λ (f : List ℕ → Token). IsStepTo f text c.args.change.new_stop at token past) inv.grammar c.in-Some.ensures.step.0 in
+    let own = step_of (g.S.Stepper.law c.places.stepper) text is c.args.change.new_stop _ at token _ past inv.may_go_on.boundary c.in-Some.ensures.step in
+    let step : IsStepTo first text c.args.change.new_stop at token past = subst (λ (f : List ℕ → Token). IsStepTo f text c.args.change.new_stop at token past) inv.grammar own in
     let boundary = c.requires.may_go_on.boundary in
     record {
       may_go_on = c.in-Some.ensures.may_go_on;
       grammar = c.in-Some.ensures.grammar ∙ inv.grammar;
       number = c.in-Some.ensures.number ∙ inv.number;
-      count = omega (arith, c.in-Some.ensures.step.1, inv.count);
+      count = omega (arith, c.in-Some.ensures.step.2, inv.count);
       steps = step_more law text is c.args.change.new_stop begin at boundary c.places.count inv.steps token past step;
       written = one_written g.R.Record.written (tokens_by first (drop begin.at text)) _ c.args.room.now c.places.room c.places.count token inv.written
           (next_left law text is c.args.change.new_stop begin at boundary c.places.count inv.steps token past step) (let less = c.places-test.true in omega arith) c.of.result c.of.ensures;
       begins = λ _. elim (cases_lt 0 c.places.count) [
         | inl some ↦ inv.begins some
-        | inr none ↦ (let e : c.places.count ≡ 0 = omega arith in ap (is_over text) (sym (inv.steps.none e)) ∙ c.in-Some.ensures.step.2)
+        | inr none ↦ (let e : c.places.count ≡ 0 = omega arith in ap (is_over text) (sym (inv.steps.none e)) ∙ c.in-Some.ensures.step.3)
       ];
       stands = λ before insert made begun.
           let Next : (List ℕ → Token) → Type 0 = λ f. IsMadeOf f before (map g.T.Measured.bytes c.args.old.now) c.args.change insert text → Stands f before c.args.change text at → Stands f before c.args.change text past in

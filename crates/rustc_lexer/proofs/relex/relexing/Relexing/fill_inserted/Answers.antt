@@ -2,7 +2,7 @@ use Rattle.std.proofs.Common.{◌+◌, ◌-◌, List, ℕ, ap, subst, ◌∙◌,
 use Rattle.rustc_lexer.specs.declared.relex.front.Damage.{Damage}
 use Rattle.rustc_lexer.specs.declared.token.Token.{Token}
 use Rattle.rustc_lexer.specs.Tokens.{IsFilledTo, bound, tokens_by}
-use Rattle.rustc_lexer.specs.Relexing.{IsFollowed}
+use Rattle.rustc_lexer.specs.Edits.{IsFollowed}
 use Rattle.rustc_lexer.proofs.RelexBlockLemmas.{stretch, stands_filled}
 use Rattle.rustc_lexer.proofs.RelexingLemmas.{below_later}
 use Rattle.rustc_lexer.proofs.relex.relexing.Relexing.fill_inserted.Goals as goal

@@ -1,8 +1,9 @@
 use Rattle.std.proofs.Common.{ap, sym, subst, ◌≡◌, ◌∙◌, arith, ◌+◌, ◌<◌, length}
 use Rattle.rustc_lexer.specs.declared.relex.front.Damage.{Damage}
 use Rattle.rustc_lexer.specs.Tokens.{tokens_by}
-use Rattle.rustc_lexer.specs.Relexing.{IsFollowed}
+use Rattle.rustc_lexer.specs.Edits.{IsFollowed}
 use Rattle.rustc_lexer.specs.Classes.{IsText}
+use Rattle.rustc_lexer.proofs.RelexBlockLemmas.{one_step}
 use Rattle.rustc_lexer.proofs.RelexingLemmas.{stands_next, gives_next, below_later, not_over, step_place}
 use Rattle.rustc_lexer.proofs.relex.relexing.Relexing.next.Goals as goal
 
@@ -25,6 +26,29 @@ returns-clause-may_go_on g c =
       small = c.follow-to.ensures.small;
       few = (let some = step.0 in let few = may.few in omega arith);
     }
+
+pub returns-clause-step : goal.returns-clause-step
+returns-clause-step g c =
+    let is : IsText c.args.text.now = record { utf8 = c.utf8.text; fits = c.requires.fits } in
+    let may = c.requires.may_go_on in
+    let law = g.S.Stepper.law c.args.stepper.now in
+    let token = c.step-token.ensures.token ∙ ap (g.S.Stepper.grammar c.args.stepper.now) c.range_from.ensures.value in
+    let more = (not_over c.args.self.now.met c.args.self.now.at (length c.args.text.now) may.boundary.0 (sym c.is_over.ensures.over ∙ c.if-is_over.false)).1 in
+    let step = step_place law c.args.text.now c.args.self.now.at c.step-token.result is may.boundary more token in (
+      token,
+      one_step law c.args.text.now is c.args.change.new_stop c.args.self.now c.step-token.result _ may.boundary record {
+        token_is = token;
+        inside = more;
+        not_empty = step.0;
+        front = refl;
+        lexed = refl;
+        place = refl;
+        same_back = λ less. c.follow-to.ensures.stays (rw c.damage.ensures less);
+        not_met = λ less. c.follow-to.ensures.early (rw c.damage.ensures less);
+      },
+      c.step-token.ensures.count,
+      sym c.is_over.ensures.over ∙ c.if-is_over.false,
+    )
 
 pub returns-clause-stands : goal.returns-clause-stands
 returns-clause-stands g c = λ before insert is stands.
