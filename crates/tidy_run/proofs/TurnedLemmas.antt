@@ -47,25 +47,10 @@ unfolding is_comment
 symbol-none c = not-true _ (by_symbol (λ kind. not (is_comment kind)) symbols c refl refl)
 
 comment-or : {t : List ℕ} {kind : TokenKind} {w : List ℕ} → IsTokenBefore t kind w → IsComment t kind w ⊎ ((text : List ℕ) → text_in_order kind text ≡ text)
-comment-or (the.end none) = inr (λ text. refl)
-comment-or (the.whitespace all stop) = inr (λ text. refl)
 comment-or (the.line_comment all stop is) = inl (line all stop is)
 comment-or (the.block_comment p is) = inl (block p is)
-comment-or (the.open_comment none never is) = inr (λ text. refl)
-comment-or (the.ident is stop none) = inr (λ text. refl)
-comment-or (the.unknown_prefix is goes free) = inr (λ text. refl)
-comment-or (the.invalid_ident start all wrong stop) = inr (λ text. refl)
-comment-or (the.raw_ident is stop) = inr (λ text. refl)
-comment-or (the.forced_keyword is stop) = inr (λ text. refl)
-comment-or (the.lifetime start all stop quote hash) = inr (λ text. refl)
-comment-or (the.unknown_prefix_lifetime start all hash free) = inr (λ text. refl)
-comment-or (the.raw_lifetime is stop) = inr (λ text. refl)
-comment-or (the.literal is) = inr (λ text. refl)
-comment-or (the.literal_with is suffix_is) = inr (λ text. refl)
-comment-or (the.slash stop) = inr (λ text. refl)
-comment-or (the.pound stop) = inr (λ text. refl)
-comment-or (the.guarded_prefix is) = inr (λ text. refl)
 comment-or (the.symbol {c} is) = inr (no_comment (symbol_kind c) (symbol-none c))
+comment-or other = inr (λ text. refl)
 
 -- what ends a line comment is a newline
 newline-after : (t : List ℕ) → NextIsNot is_inline t → (length t ≡ 0 → ⊥) → begins (codes "\n") t ≡ true

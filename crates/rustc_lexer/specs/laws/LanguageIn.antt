@@ -66,25 +66,12 @@ symbol-old : (c : ℕ) → kept_since (symbol_kind c) ≡ 2015
 symbol-old c = eqb-true _ 2015 (by_symbol (λ kind. kept_since kind == 2015) symbols c refl refl)
 
 view : {next : List ℕ} {kind : TokenKind} {w : List ℕ} → IsTokenBefore next kind w → View next kind w
-view (the.end none) = other refl
-view (the.whitespace all stop) = other refl
-view (the.line_comment all stop is) = other refl
-view (the.block_comment p is) = other refl
-view (the.open_comment none never is) = other refl
-view (the.ident is stop none) = other refl
 view (the.unknown_prefix is goes free) = prefix
-view (the.invalid_ident start all wrong stop) = other refl
-view (the.raw_ident is stop) = other refl
-view (the.forced_keyword is stop) = other refl
-view (the.lifetime start all stop quote hash) = other refl
 view (the.unknown_prefix_lifetime start all hash free) = name start all hash
 view (the.raw_lifetime is stop) = cut_raw is
-view (the.literal is) = other refl
-view (the.literal_with is suffix_is) = other refl
-view (the.slash stop) = other refl
-view (the.pound stop) = other refl
 view (the.guarded_prefix is) = cut_hash
 view (the.symbol {c} is) = other (symbol-old c)
+view whole = other refl
 
 -- whether a name is marked
 name-marked : (c : ℕ) (w next : List ℕ) → AreAll is_word_continue w → NextIs (is_among (codes "#")) next → has_marked_name (39 ∷ c ∷ w ++ next) ≡ is_bad_name (c ∷ w)

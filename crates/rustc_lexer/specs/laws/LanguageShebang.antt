@@ -86,25 +86,8 @@ among-bracket (s ∷ ss) c all e =
     by_test (λ kind. is_open_bracket kind ≡ true → c ≡ 91) (c == s.0) s.1 (kind_among ss c) (λ f g. eqb-true c s.0 f ∙ eqb-true s.0 91 (ap (λ (b : Bool). not b || (s.0 == 91)) (sym g) ∙ parts.0)) (λ f. among-bracket ss c parts.1) e
 
 bracket-view : {next : List ℕ} {kind : TokenKind} {w : List ℕ} → IsTokenBefore next kind w → is_open_bracket kind ≡ true → w ≡ 91 ∷ []
-bracket-view (page.end none) e = absurd (true≢false (sym e))
-bracket-view (page.whitespace all stop) e = absurd (true≢false (sym e))
-bracket-view (page.line_comment all stop is) e = absurd (true≢false (sym e))
-bracket-view (page.block_comment p is) e = absurd (true≢false (sym e))
-bracket-view (page.open_comment none never is) e = absurd (true≢false (sym e))
-bracket-view (page.ident is stop none) e = absurd (true≢false (sym e))
-bracket-view (page.unknown_prefix is goes free) e = absurd (true≢false (sym e))
-bracket-view (page.invalid_ident start all wrong stop) e = absurd (true≢false (sym e))
-bracket-view (page.raw_ident is stop) e = absurd (true≢false (sym e))
-bracket-view (page.forced_keyword is stop) e = absurd (true≢false (sym e))
-bracket-view (page.lifetime start all stop quote hash) e = absurd (true≢false (sym e))
-bracket-view (page.unknown_prefix_lifetime start all hash free) e = absurd (true≢false (sym e))
-bracket-view (page.raw_lifetime is stop) e = absurd (true≢false (sym e))
-bracket-view (page.literal is) e = absurd (true≢false (sym e))
-bracket-view (page.literal_with is suffix_is) e = absurd (true≢false (sym e))
-bracket-view (page.slash stop) e = absurd (true≢false (sym e))
-bracket-view (page.pound stop) e = absurd (true≢false (sym e))
-bracket-view (page.guarded_prefix is) e = absurd (true≢false (sym e))
 bracket-view (page.symbol {c} is) e = ap (λ (x : ℕ). x ∷ []) (among-bracket symbols c refl e)
+bracket-view other e = absurd (true≢false (sym e))
 
 -- by what the first token is
 attribute-first : (kind : TokenKind) (c : ℕ) (w next : List ℕ) (tokens : List Token) → IsTokenBefore next kind (c ∷ w) → has_bracket kind tokens ≡ true → (is_attribute tokens ≡ true → IsAttributeRest next) → IsAttributeRest (c ∷ w ++ next)
