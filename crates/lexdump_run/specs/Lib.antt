@@ -1,9 +1,9 @@
 pub mod Fault
+pub mod Fields
 pub mod Job
 pub mod Listing
 pub mod Outcome
 pub mod Program
 pub mod Pushed
-pub mod Rest
 pub mod Test
 pub mod laws

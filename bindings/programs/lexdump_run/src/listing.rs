@@ -102,13 +102,23 @@ fn push_line<W: Write>(
     token: Token,
 ) -> Result<(), Fault> {
     push_place(lines, output, start, token.len)?;
-    match rest_of_line(token.kind) {
-        Rest::Line(line) => lines.push(output, line),
-        Rest::Name(name) => {
-            lines.push(output, name)?;
-            push_fields(lines, output, token.kind)
-        }
+    lines.push(output, token.kind.name())?;
+    if has_fields(token.kind) {
+        return push_fields(lines, output, token.kind);
     }
+    lines.push(output, "\n")
+}
+
+/// Whether the kind has fields, which its line shows.
+fn has_fields(kind: TokenKind) -> bool {
+    matches!(
+        kind,
+        TokenKind::LineComment { .. }
+            | TokenKind::BlockComment { .. }
+            | TokenKind::Frontmatter { .. }
+            | TokenKind::Literal { .. }
+            | TokenKind::Lifetime { .. }
+    )
 }
 
 /// The most bytes of a start, a length and the space after each.
@@ -126,64 +136,6 @@ fn push_place<W: Write>(
     let len_at = write_digits(u64::from(len), &mut place, PLACE - 1);
     let start_at = write_digits(u64::from(start), &mut place, len_at - 1);
     lines.push_bytes(output, &place[start_at..])
-}
-
-/// What stands in a line after the token's length.
-#[derive(Clone, Copy)]
-enum Rest {
-    /// The name of a kind that has no fields, and the end of the line.
-    Line(&'static str),
-    /// The name of a kind that has fields.
-    Name(&'static str),
-}
-
-/// What stands in the line of a kind after the token's length.
-fn rest_of_line(kind: TokenKind) -> Rest {
-    match kind {
-        TokenKind::LineComment { .. } => Rest::Name("LineComment"),
-        TokenKind::BlockComment { .. } => Rest::Name("BlockComment"),
-        TokenKind::Frontmatter { .. } => Rest::Name("Frontmatter"),
-        TokenKind::Literal { .. } => Rest::Name("Literal"),
-        TokenKind::Lifetime { .. } => Rest::Name("Lifetime"),
-        TokenKind::Whitespace => Rest::Line("Whitespace\n"),
-        TokenKind::Ident => Rest::Line("Ident\n"),
-        TokenKind::InvalidIdent => Rest::Line("InvalidIdent\n"),
-        TokenKind::RawIdent => Rest::Line("RawIdent\n"),
-        TokenKind::ForcedKeywordIdent => Rest::Line("ForcedKeywordIdent\n"),
-        TokenKind::UnknownPrefix => Rest::Line("UnknownPrefix\n"),
-        TokenKind::UnknownPrefixLifetime => Rest::Line("UnknownPrefixLifetime\n"),
-        TokenKind::RawLifetime => Rest::Line("RawLifetime\n"),
-        TokenKind::GuardedStrPrefix => Rest::Line("GuardedStrPrefix\n"),
-        TokenKind::Semi => Rest::Line("Semi\n"),
-        TokenKind::Comma => Rest::Line("Comma\n"),
-        TokenKind::Dot => Rest::Line("Dot\n"),
-        TokenKind::OpenParen => Rest::Line("OpenParen\n"),
-        TokenKind::CloseParen => Rest::Line("CloseParen\n"),
-        TokenKind::OpenBrace => Rest::Line("OpenBrace\n"),
-        TokenKind::CloseBrace => Rest::Line("CloseBrace\n"),
-        TokenKind::OpenBracket => Rest::Line("OpenBracket\n"),
-        TokenKind::CloseBracket => Rest::Line("CloseBracket\n"),
-        TokenKind::At => Rest::Line("At\n"),
-        TokenKind::Pound => Rest::Line("Pound\n"),
-        TokenKind::Tilde => Rest::Line("Tilde\n"),
-        TokenKind::Question => Rest::Line("Question\n"),
-        TokenKind::Colon => Rest::Line("Colon\n"),
-        TokenKind::Dollar => Rest::Line("Dollar\n"),
-        TokenKind::Eq => Rest::Line("Eq\n"),
-        TokenKind::Bang => Rest::Line("Bang\n"),
-        TokenKind::Lt => Rest::Line("Lt\n"),
-        TokenKind::Gt => Rest::Line("Gt\n"),
-        TokenKind::Minus => Rest::Line("Minus\n"),
-        TokenKind::And => Rest::Line("And\n"),
-        TokenKind::Or => Rest::Line("Or\n"),
-        TokenKind::Plus => Rest::Line("Plus\n"),
-        TokenKind::Star => Rest::Line("Star\n"),
-        TokenKind::Slash => Rest::Line("Slash\n"),
-        TokenKind::Caret => Rest::Line("Caret\n"),
-        TokenKind::Percent => Rest::Line("Percent\n"),
-        TokenKind::Unknown => Rest::Line("Unknown\n"),
-        TokenKind::Eof => Rest::Line("Eof\n"),
-    }
 }
 
 /// A field: what stands before its value, and the value.

@@ -1,6 +1,6 @@
 use Rattle.std.proofs.Common.{◌++◌, List, ℕ, codes, decimal, append_assoc, sym, ap, ◌∙◌}
 use Rattle.lexdump_run.specs.Listing.{fields_text}
-use Rattle.lexdump_run.specs.Rest.{field_text}
+use Rattle.lexdump_run.specs.Fields.{field_text}
 use Rattle.lexdump_run.proofs.listing.fields.Goals as goal
 
 pub returns-in-Literal : goal.returns-in-Literal

@@ -1,6 +1,6 @@
 use Rattle.std.proofs.Common.{◌++◌, codes, ap, ◌∙◌}
 use Rattle.lexdump_run.specs.Listing.{base_text, literal_text}
-use Rattle.lexdump_run.specs.Rest.{field_text}
+use Rattle.lexdump_run.specs.Fields.{field_text}
 use Rattle.lexdump_run.proofs.listing.literal_fields.Goals as goal
 
 pub returns-in-Float : goal.returns-in-Float

@@ -1,6 +1,6 @@
 use Rattle.std.proofs.Common.{refl}
 use Rattle.std.proofs.lemmas.Result.{err_from_is_err_and}
-use Rattle.lexdump_run.specs.Rest.{field_text, value_text}
+use Rattle.lexdump_run.specs.Fields.{field_text, value_text}
 use Rattle.lexdump_run.proofs.PushLemmas.{pushes_first}
 use Rattle.lexdump_run.proofs.listing.push_field.Goals as goal
 

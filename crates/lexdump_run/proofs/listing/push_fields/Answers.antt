@@ -1,7 +1,7 @@
 use Rattle.std.proofs.Common.{List, ℕ, [], ◌∷◌, ◌++◌, refl, Err}
 use Rattle.std.proofs.lemmas.Result.{err_from_is_err_and}
 use Rattle.lexdump_run.specs.Listing.{fields_text}
-use Rattle.lexdump_run.specs.Rest.{field_text}
+use Rattle.lexdump_run.specs.Fields.{field_text}
 use Rattle.lexdump_run.proofs.PushLemmas.{pushes_both, pushes_first, three-fields}
 use Rattle.lexdump_run.proofs.listing.push_fields.Goals as goal
 
