@@ -53,6 +53,14 @@ returns-in_err-relex_inserted-clause-few g c =
     let so = ins.stands before insert is stands in
     omega (arith, ins.count, c.begin-at.ensures.none, few_lexed (g.S.Stepper.law c.args.stepper.now) before _ insert _ c.args.change is at so.0))
 
+pub loop-token-smaller : goal.loop-token-smaller
+loop-token-smaller g c =
+    let step = step_of (g.S.Stepper.law c.loop-token.stepper) c.args.text.now record { utf8 = c.utf8.text; fits = c.requires.fits } c.args.change.new_stop _ c.loop-token.at c.in-Some.token _ c.next.new.self c.loop-token.invariant.0.boundary c.in-Some.ensures.step in
+    let inside = step.inside in
+    let some = step.not_empty in
+    let place = step.place in
+    omega arith
+
 pub loop-token-preserved : goal.loop-token-preserved
 loop-token-preserved g c =
     let first = g.S.Stepper.grammar c.args.stepper.now in

@@ -1,4 +1,4 @@
-use Rattle.std.proofs.Common.{ap, sym, subst, ◌≡◌, ◌∙◌, arith, ◌+◌, ◌<◌, length}
+use Rattle.std.proofs.Common.{ap, sym, refl, subst, ◌≡◌, ◌∙◌, arith, ◌+◌, ◌<◌, length, length-drop}
 use Rattle.rustc_lexer.specs.declared.relex.front.Damage.{Damage}
 use Rattle.rustc_lexer.specs.Tokens.{tokens_by}
 use Rattle.rustc_lexer.specs.Edits.{IsFollowed}
@@ -6,6 +6,14 @@ use Rattle.rustc_lexer.specs.Classes.{IsText}
 use Rattle.rustc_lexer.proofs.RelexBlockLemmas.{one_step}
 use Rattle.rustc_lexer.proofs.RelexingLemmas.{stands_next, gives_next, below_later, not_over, step_place}
 use Rattle.rustc_lexer.proofs.relex.relexing.Relexing.next.Goals as goal
+
+pub range_from-requires : goal.range_from-requires
+range_from-requires g c = λ some. c.requires.may_go_on.boundary
+
+pub step-token-requires-clause-not_empty : goal.step-token-requires-clause-not_empty
+step-token-requires-clause-not_empty g c =
+    let more = (not_over c.args.self.now.met c.args.self.now.at (length c.args.text.now) c.requires.may_go_on.boundary.0 (sym c.is_over.ensures.over ∙ c.if-is_over.false)).1 in
+    rw c.range_from.ensures.value (omega (arith, length-drop c.args.self.now.at c.args.text.now))
 
 pub returns-then-is_over-clause-stands : goal.returns-then-is_over-clause-stands
 returns-then-is_over-clause-stands g c = λ before insert is stands.
