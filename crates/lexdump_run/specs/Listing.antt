@@ -9,11 +9,7 @@ use Rattle.rustc_lexer.specs.declared.token.LiteralKind.TheVariants.{Int, Float,
 use Rattle.rustc_lexer.specs.declared.token.Token.{Token}
 use Rattle.rustc_lexer.specs.declared.token.TokenKind.{TokenKind}
 use Rattle.rustc_lexer.specs.declared.token.TokenKind.TheVariants.{LineComment, BlockComment, Frontmatter, Literal, Lifetime}
-use Rattle.rustc_lexer.specs.LanguageCalls.{kind_entry}
-
--- the name of a kind
-abbrev pub kind_name : TokenKind → List ℕ
-kind_name kind = (kind_entry kind).1
+pub use Rattle.rustc_lexer.specs.LanguageCalls.{kind_name}
 
 abbrev pub bool_text : Bool → List ℕ
 bool_text true = codes "true"

@@ -154,3 +154,16 @@ literal_entry (CStr terminated) = (7, codes "CStr")
 literal_entry (RawStr n_hashes) = (8, codes "RawStr")
 literal_entry (RawByteStr n_hashes) = (9, codes "RawByteStr")
 literal_entry (RawCStr n_hashes) = (10, codes "RawCStr")
+
+-- a kind has a number for other languages, and a name
+abbrev pub kind_number : TokenKind → ℕ
+kind_number kind = (kind_entry kind).0
+
+abbrev pub kind_name : TokenKind → List ℕ
+kind_name kind = (kind_entry kind).1
+
+abbrev pub literal_number : LiteralKind → ℕ
+literal_number kind = (literal_entry kind).0
+
+abbrev pub literal_name : LiteralKind → List ℕ
+literal_name kind = (literal_entry kind).1

@@ -9,16 +9,9 @@ use Rattle.rustc_lexer.specs.declared.token.LiteralKind.TheVariants.{Int, Float,
 use Rattle.rustc_lexer.specs.declared.token.Token.{Token}
 use Rattle.rustc_lexer.specs.declared.token.TokenKind.{TokenKind}
 use Rattle.rustc_lexer.specs.declared.token.TokenKind.TheVariants.{LineComment, BlockComment, Frontmatter, Literal, Lifetime}
-use Rattle.rustc_lexer.specs.LanguageCalls.{kind_entry, literal_entry}
+pub use Rattle.rustc_lexer.specs.LanguageCalls.{kind_number, literal_number}
 use Rattle.rustc_lexer.specs.State.{suffix_start_of}
 use Rattle.rustc_lexer_c.specs.declared.token.CToken.{CToken}
-
--- the number of a kind
-abbrev pub kind_number : TokenKind → ℕ
-kind_number kind = (kind_entry kind).0
-
-abbrev pub literal_number : LiteralKind → ℕ
-literal_number kind = (literal_entry kind).0
 
 abbrev pub base_number : Base → ℕ
 base_number Binary = 2
