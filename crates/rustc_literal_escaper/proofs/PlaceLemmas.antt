@@ -1,5 +1,5 @@
 -- Items and their places.
-use Rattle.std.proofs.Common.{◌≡◌, ℕ, ◌-◌, ◌<◌, ◌==◌, ◌||◌, Bool, true, false, true≢false, Some, None, List, [], ◌∷◌, length, map, ◌++◌, if◌then◌else◌, not, refl, sym, ap, ap₂, subst, ◌∙◌, arith}
+use Rattle.std.proofs.Common.{◌≡◌, ℕ, ◌-◌, ◌<◌, ◌==◌, ◌||◌, Bool, true, false, true≢false, Some, None, List, [], ◌∷◌, length, map, ◌++◌, if◌then◌else◌, refl, sym, ap, ap₂, subst, ◌∙◌, arith}
 use Rattle.std.specs.Char.{is_whitespace}
 use Rattle.std.specs.List.{list_any, slice_get}
 use Rattle.std.specs.Str.{chars, encode_utf8_all, IsUtf8}
@@ -45,9 +45,6 @@ pub record Passing (line left : List ℕ) (newline : Bool) : Type 0 where
   pub seen : newline_ahead line ≡ newline || newline_ahead left
   pub past : past_run is_passed_over line ≡ past_run is_passed_over left
 
-pub passing-start : (line : List ℕ) → Passing line line false
-passing-start line = record { seen = refl; past = refl }
-
 pub passing-on : (line left s : List ℕ) (newline : Bool) (c : ℕ) → Passing line left newline → left ≡ c ∷ s → is_passed_over c ≡ true → Passing line s (newline || is_newline c)
 unfolding newline_ahead
 passing-on line left s newline c at e is = record {
@@ -72,17 +69,11 @@ passing-end line left newline at none = (
   sym (at.past ∙ past_run-none is_passed_over left none),
 )
 
-pub past_run-on : (line left s : List ℕ) (c : ℕ) → past_run is_passed_over line ≡ past_run is_passed_over left → left ≡ c ∷ s → is_passed_over c ≡ true → past_run is_passed_over line ≡ past_run is_passed_over s
-past_run-on line left s c so e is = so ∙ (ap (past_run is_passed_over) e ∙ past_run-yes is_passed_over c s is)
-
 -- where a line begins, or no such white space stands next, the search for a line's end stops
 no-line : (s : List ℕ) → front_run is_passed_over s ≡ [] → begins_line s ≡ false
 no-line [] none = refl
 no-line (c ∷ s) none = false_from_ne_true (is_newline c) (λ yes.
     let f : 10 ∷ front_run is_passed_over s ≡ [] = subst (λ (d : ℕ). front_run is_passed_over (d ∷ s) ≡ []) (eqb-true c 10 yes) none in cc)
-
-pub not-line : (s : List ℕ) → front_run is_passed_over s ≡ [] → not (begins_line s) ≡ true
-not-line s none = ap not (no-line s none)
 
 pub passing-blank : (line left s : List ℕ) (c : ℕ) → Passing line left false → left ≡ c ∷ s → is_passed_over c ≡ true → (c ≡ 10 → ⊥) → Passing line s false
 passing-blank line left s c at e is off = subst (λ (t : Bool). Passing line s t) (ne_eqb c 10 off) (passing-on line left s false c at e is)
@@ -107,14 +98,6 @@ pub stopped-end : (line left : List ℕ) → Passing line left false → front_r
 stopped-end line left at none =
     let ends = passing-end line left false at none in
     (no-line left none ∙ ends.0, sym at.past, λ off. ends.1)
-
--- past a newline one was passed over, and what is left is left past all white space
-pub past-line : (line left next past : List ℕ) → Stopped line left → left ≡ 10 ∷ next → past ≡ past_run is_passed_over next
-    → (true ≡ list_any is_newline (front_run is_passed_over line)) × (past ≡ past_run is_passed_over line)
-past-line line left next past at e p = (
-  sym (ap begins_line e) ∙ at.0,
-  p ∙ (sym (ap (past_run is_passed_over) e) ∙ at.1),
-)
 
 -- the first byte tells whether such white space stands next
 

@@ -1,7 +1,7 @@
 -- Escaping and then unescaping.
 use Rattle.std.proofs.Common.{◌≡◌, ℕ, ◌+◌, ◌*◌, ◌/◌, ◌%◌, ◌<◌, ◌==◌, ◌&&◌, ◌||◌, Bool, true, false, true≢false, cond, if◌then◌else◌, List, [], ◌∷◌, ◌++◌, length, map, fold, filter, Result, Ok, Err, nat_lt, nat_le, refl, sym, ap, subst, ◌∙◌, inl, inr, arith}
 use Rattle.std.specs.Char.{digit_char, digit_value, IsScalar}
-use Rattle.std.specs.Char.Escape.{escape_ascii, escape_default, escape_or, escape_unicode, hex_digit_at}
+use Rattle.std.specs.Char.Escape.{escape_default, escape_or, escape_unicode, hex_digit_at}
 use Rattle.std.specs.List.{list_all}
 use Rattle.std.proofs.lemmas.Bool.{and_parts, cases_Bool, eqb-true, lt-ltb, ltb-true, ne_eqb}
 use Rattle.std.proofs.lemmas.Bool.Decides.{nat_tests}
@@ -13,10 +13,10 @@ use Rattle.rustc_literal_escaper.specs.declared.element.Element.TheVariants.{Byt
 use Rattle.rustc_literal_escaper.specs.declared.error.EscapeError.{EscapeError}
 use Rattle.rustc_literal_escaper.specs.declared.error.EscapeError.TheVariants.{InvalidCharInHexEscape, LoneSurrogateUnicodeEscape, OutOfRangeUnicodeEscape, OverlongUnicodeEscape}
 use Rattle.rustc_literal_escaper.specs.Escape.{braced, closed, closed_at_run, hex, hex_value, is_digit_or_underscore, is_hex, number}
-use Rattle.rustc_literal_escaper.specs.Meaning.{byte_of, char_of, scalar_of}
-use Rattle.rustc_literal_escaper.specs.RoundTrip.{ByteComesBack, CharComesBack}
+use Rattle.rustc_literal_escaper.specs.Meaning.{char_of, scalar_of}
+use Rattle.rustc_literal_escaper.specs.RoundTrip.{CharComesBack}
 use Rattle.rustc_literal_escaper.specs.Runs.{front_run, past_run}
-use Rattle.rustc_literal_escaper.specs.Single.{alone, byte_literal, char_literal}
+use Rattle.rustc_literal_escaper.specs.Single.{alone, char_literal}
 use Rattle.rustc_literal_escaper.proofs.PlaceLemmas.{front_run-yes, past_run-yes}
 
 pub by_eq : (P : ℕ → Type 0) (c k : ℕ) → P k → ((c == k) ≡ false → P c) → P c
@@ -190,9 +190,6 @@ plain-back P c xs a b d e f g other plain = rw (a, b, d, e, f, g) (pick P (nat_l
 char-plain : (c : ℕ) → (c == 9) ≡ false → (c == 13) ≡ false → (c == 10) ≡ false → (c == 39) ≡ false → (c == 92) ≡ false → char_literal (c ∷ []) ≡ Ok c
 char-plain c a b d e g = rw (g, d, a, e, b) refl
 
-byte-plain : (c : ℕ) → (c == 9) ≡ false → (c == 13) ≡ false → (c == 10) ≡ false → (c == 39) ≡ false → (c == 92) ≡ false → nat_lt c 128 ≡ true → byte_literal (c ∷ []) ≡ Ok c
-byte-plain c a b d e g l = rw (g, d, a, e, b) (rw l refl)
-
 pub char_comes_back : CharComesBack
 char_comes_back c is =
     let P : ℕ → Type 0 = λ n. char_literal (escape_default n) ≡ Ok n in
@@ -216,12 +213,3 @@ byte-read b s l =
   where
     by_test : (p q : Bool) (n : ℕ) → p ≡ true → q ≡ true → ◌≡◌ {A = Element × List ℕ} (if p then ((if q then Byte n else Fault InvalidCharInHexEscape), s) else (Fault InvalidCharInHexEscape, digit_char (b / 1 % 16) ∷ s)) (Byte n, s)
     by_test p q n h k = rw (h, k) refl
-
-byte-hex : (b : ℕ) → b < 256 → byte_literal (92 ∷ 120 ∷ (word (b / 0x10 ∷ b / 1 ∷ []))) ≡ Ok b
-byte-hex b l = ap (λ (r : Element × List ℕ). alone (byte_of r.0) r.1) (byte-read b [] l)
-
-pub byte_comes_back : ByteComesBack
-byte_comes_back b l =
-    let P : ℕ → Type 0 = λ n. byte_literal (escape_ascii n) ≡ Ok n in
-    by_eq P b 9 refl (λ a. by_eq P b 13 refl (λ c. by_eq P b 10 refl (λ d. by_eq P b 39 refl (λ e. by_eq P b 34 refl (λ f. by_eq P b 92 refl (λ g.
-    plain-back (λ xs. byte_literal xs ≡ Ok b) b (92 ∷ 120 ∷ hex_digit_at 0x10 b ∷ hex_digit_at 1 b ∷ []) a c d e f g (byte-hex b l) (λ h. byte-plain b a c d e g (let m = ltb-true b 127 h in lt-ltb b 128 (omega arith)))))))))

@@ -1,10 +1,5 @@
-use Rattle.std.proofs.Common.{length, ap, sym}
-use Rattle.rustc_literal_escaper.specs.Errors.{single_error}
 use Rattle.rustc_literal_escaper.proofs.ErrorLemmas.{single_error-some, single_error-more}
 use Rattle.rustc_literal_escaper.proofs.check.single_error.Goals as goal
-
-pub returns-in_default : goal.returns-in_default
-returns-in_default c = sym (ap (single_error (length c.args.src.now) c.args.mode) c.in_default.ensures)
 
 pub returns-in-Some-error_in : goal.returns-in-Some-error_in
 returns-in-Some-error_in c = single_error-some _ _ _ _ _ _ c.in-Some.ensures.0 c.in-Some.ensures.1 c.in-Some-error_in.ensures

@@ -1,10 +1,7 @@
 use Rattle.std.proofs.Common.{arith}
 use Rattle.std.specs.Str.{chars}
-use Rattle.rustc_literal_escaper.proofs.PlaceLemmas.{passing-blank, passing-start, stopped-end, stopped-line}
+use Rattle.rustc_literal_escaper.proofs.PlaceLemmas.{passing-blank, stopped-end, stopped-line}
 use Rattle.rustc_literal_escaper.proofs.steps.past_blanks.Goals as goal
-
-pub blanks-init : goal.blanks-init
-blanks-init c = (c.utf8.line, passing-start _, omega arith)
 
 pub blanks-preserved : goal.blanks-preserved
 blanks-preserved c = (
@@ -16,17 +13,5 @@ blanks-preserved c = (
 pub returns-then-c-eq10-clause-newline : goal.returns-then-c-eq10-clause-newline
 returns-then-c-eq10-clause-newline c = (stopped-line _ _ _ _ c.blanks.invariant.1 c.in-Some.ensures.0 c.if-c-eq10.true).0
 
-pub returns-then-c-eq10-clause-past : goal.returns-then-c-eq10-clause-past
-returns-then-c-eq10-clause-past c = (stopped-line _ _ _ _ c.blanks.invariant.1 c.in-Some.ensures.0 c.if-c-eq10.true).1
-
-pub returns-then-c-eq10-clause-stops : goal.returns-then-c-eq10-clause-stops
-returns-then-c-eq10-clause-stops c = (stopped-line _ _ _ _ c.blanks.invariant.1 c.in-Some.ensures.0 c.if-c-eq10.true).2
-
 pub returns-clause-newline : goal.returns-clause-newline
 returns-clause-newline c = (stopped-end _ _ c.blanks.invariant.1 c.in_default.ensures).0
-
-pub returns-clause-past : goal.returns-clause-past
-returns-clause-past c = (stopped-end _ _ c.blanks.invariant.1 c.in_default.ensures).1
-
-pub returns-clause-stops : goal.returns-clause-stops
-returns-clause-stops c = (stopped-end _ _ c.blanks.invariant.1 c.in_default.ensures).2

@@ -1,4 +1,4 @@
-use Rattle.std.proofs.Common.{◌≡◌, List, [], ◌∷◌, length, ℕ, sym, subst, refl, arith}
+use Rattle.std.proofs.Common.{List, ℕ, sym, subst, refl}
 use Rattle.std.specs.List.{FoldsTo}
 use Rattle.std.proofs.lemmas.List.{nil_from_length}
 use Rattle.rustc_literal_escaper.specs.Plain.{plain_items}

@@ -1,6 +1,0 @@
-use Rattle.std.proofs.Common.{sym, ◌∙◌}
-use Rattle.rustc_literal_escaper.proofs.SkipLemmas.{behind}
-use Rattle.rustc_literal_escaper.proofs.elements.Elements.next_plain.Goals as goal
-
-pub returns : goal.returns
-returns c = sym c.self.view_is ∙ behind _ _ _ _ c.if-is_some.ensures c.in_ok-item.ensures.0
