@@ -3,14 +3,14 @@ use Rattle.std.proofs.Common.{◌≡◌, ℕ, ◌+◌, ◌-◌, ◌<◌, ◌≤�
 use Rattle.rustc_lexer.specs.declared.edition.Edition.TheVariants.{E2024}
 use Rattle.rustc_lexer.specs.declared.token.Token.{Token}
 use Rattle.rustc_lexer.specs.declared.token.TokenKind.{TokenKind}
-use Rattle.rustc_lexer.specs.declared.token.TokenKind.TheVariants.{Whitespace, Frontmatter}
+use Rattle.rustc_lexer.specs.declared.token.TokenKind.TheVariants.{Whitespace}
 use Rattle.rustc_lexer.specs.LanguageText.{Mode, document, part, mode_after}
 use Rattle.rustc_lexer.specs.State.{State}
 use Rattle.rustc_lexer.specs.means.Taking.{token_at}
 use Rattle.rustc_lexer.specs.Classes.{IsText}
 use Rattle.rustc_lexer.specs.Tokens.{tokens_of, tokens_left, TakesToken}
 use Rattle.rustc_lexer.specs.laws.Tokens.{CutsOff, token_at-cuts, tokens-cons, tokens-nil}
-use Rattle.tidy_run.specs.Order.{is_front, is_space, begins_with, if_kept, space_in_order, text_in_order, closing, code_in_order, front_in_order, source_in_order, source_tidied}
+use Rattle.tidy_run.specs.Order.{is_front, is_space, space_in_order, text_in_order, closing, code_in_order, front_in_order, source_in_order, source_tidied}
 use Rattle.tidy_run.proofs.LoopLemmas.{put, put-is, end-is}
 use Rattle.tidy_run.proofs.SourceLemmas.{code-size}
 
@@ -41,10 +41,6 @@ first-is (c ∷ cs) s t token is e step = record {
     same : token_at (document E2024) (c ∷ cs) ≡ token
     same = ap (first_or token) (sym cons ∙ (sym e ∙ step.first))
 
-front-no : (kind : TokenKind) → is_front kind ≡ true → mode_after (document E2024) kind ≡ part E2024
-front-no (Frontmatter a b) e = refl
-front-no kind e = absurd (true≢false (sym e))
-
 space-yes : (kind : TokenKind) → is_space kind ≡ true → mode_after (document E2024) kind ≡ document E2024
 space-yes Whitespace e = refl
 space-yes kind e = absurd (true≢false (sym e))
@@ -54,12 +50,6 @@ whole-take n text own e = e ∙ (let all : n - 0 ≡ n = omega arith in ap (λ (
 
 -- with a frontmatter first
 module _ (text : List ℕ) (front : Token) (first : First text front) (at : is_front front.kind ≡ true) where
-  front-order : front_in_order text (tokens_of (document E2024) text) ≡ if_kept front text (take front.len text ++ code_in_order (drop front.len text) (tokens_of (part E2024) (drop front.len text)))
-  front-order =
-      ap (front_in_order text) first.tokens
-      ∙ (ap (λ (b : Bool). let ts : List Token = tokens_of (mode_after (document E2024) front.kind) (drop front.len text) in if b then if_kept front text (take front.len text ++ code_in_order (drop front.len text) ts) else code_in_order text (front ∷ ts)) at
-      ∙ ap (λ (a : Mode). if_kept front text (take front.len text ++ code_in_order (drop front.len text) (tokens_of a (drop front.len text)))) (front-no front.kind at))
-
   made-is : (line own rest made : List ℕ) → line ≡ own → own ≡ take (front.len - 0) text → rest ≡ drop front.len text → made ≡ line ++ code_in_order rest (tokens_of (part E2024) rest)
       → made ≡ take front.len text ++ code_in_order (drop front.len text) (tokens_of (part E2024) (drop front.len text))
   made-is line own rest made e f g h =
@@ -75,10 +65,6 @@ module _ (text : List ℕ) (front : Token) (first : First text front) (at : is_f
       let c = room in
       let d = first.inside in
       omega arith
-
-  pub front-made : (b : Bool) (line own rest made : List ℕ) → line ≡ own → own ≡ take (front.len - 0) text → rest ≡ drop front.len text → made ≡ line ++ code_in_order rest (tokens_of (part E2024) rest)
-      → b ≡ begins_with front (tokens_of (document E2024) made) → (if b then made else text) ≡ front_in_order text (tokens_of (document E2024) text)
-  front-made b line own rest made e f g h test = ap (λ (x : Bool). if x then made else text) test ∙ (ap (if_kept front text) (made-is line own rest made e f g h) ∙ sym front-order)
 
 -- with white space first, or none
 pub space-first : (text : List ℕ) (token : Token) (before mid own rest : List ℕ) → First text token → is_space token.kind ≡ true → own ≡ take (token.len - 0) text → rest ≡ drop token.len text

@@ -1,28 +1,18 @@
 -- Hunks that are written one after another.
-use Rattle.std.proofs.Common.{◌≡◌, ℕ, ◌+◌, ◌-◌, ◌<◌, ◌≤◌, Bool, true, false, if◌then◌else◌, List, [], ◌∷◌, ◌++◌, length, min, take, drop, get_or, codes, refl, sym, ap, ◌∙◌, subst, arith, append_assoc, length-append}
+use Rattle.std.proofs.Common.{◌≡◌, ℕ, ◌+◌, ◌-◌, ◌<◌, ◌≤◌, Bool, true, false, if◌then◌else◌, List, [], ◌∷◌, ◌++◌, length, take, get_or, codes, refl, sym, ap, ◌∙◌, subst, arith, append_assoc, length-append}
 use Rattle.std.proofs.Math.Seq.{take-add}
-use Rattle.std.proofs.lemmas.List.{take_more, take_min, append-nil}
+use Rattle.std.proofs.lemmas.List.{take_more, append-nil}
 use Rattle.std.proofs.lemmas.List.Edits.{length-between}
-use Rattle.std.proofs.lemmas.Slice.{between_is}
 use Rattle.std.specs.List.{between}
 use Rattle.tidy_run.specs.declared.diff.Line.{Line}
-use Rattle.tidy_run.specs.Diff.{is_old, is_new, old_lines, new_lines, mark_text, ends_in_newline, line_text, lines_text, AreShown, IsHunk, hunk_text, AreHunks, no_more, hunk, PrintsHunks, lines_of, names_text, IsDiff}
+use Rattle.tidy_run.specs.Diff.{is_old, is_new, old_lines, new_lines, mark_text, ends_in_newline, line_text, lines_text, AreShown, IsHunk, hunk_text, AreHunks, no_more, hunk, PrintsHunks}
 use Rattle.tidy_run.proofs.DiffLemmas.{old-append, new-append}
-
--- a part that goes to the end at most
-pub part-within : (lines : List Line) (start from end to : ℕ) → start ≡ from → end ≡ min to (length lines) → between start end lines ≡ between from to lines
-part-within lines start from end to begins ends =
-    ap (λ (n : ℕ). between n end lines) begins
-    ∙ (between_is lines from end ∙ (ap (drop from) (ap (λ (n : ℕ). take n lines) ends ∙ take_min to lines) ∙ sym (between_is lines from to)))
 
 -- up to a place in these lines they are written, and what is written needs only the hunks of the others
 pub record Written (before : List ℕ) (lines : List Line) (at : ℕ) (now : List ℕ) : Type 0 where
   pub hunks : List ℕ
   pub is : now ≡ before ++ hunks
   pub more : (text : List ℕ) → AreHunks lines at text → AreHunks lines 0 (hunks ++ text)
-
-pub none-written : (before : List ℕ) (lines : List Line) → Written before lines 0 before
-none-written before lines = record { hunks = []; is = sym (append-nil before); more = λ text are. are }
 
 pub hunk-written : {before now : List ℕ} {lines : List Line} {at : ℕ} (after : List ℕ) (start end olds news : ℕ) → Written before lines at now → IsHunk lines at start end
     → olds ≡ length (old_lines (take start lines)) → news ≡ length (new_lines (take start lines)) → after ≡ now ++ hunk_text olds news (between start end lines) → Written before lines end after
@@ -119,14 +109,3 @@ line-unended line before mark one two m e f no_is is =
   where
     said : List ℕ
     said = codes "\n\\ No newline at end of file\n"
-
--- the whole diff
-pub diff-is : (name old new none mid after : List ℕ) (items lines : List Line) → none ≡ [] → mid ≡ none ++ names_text name → lines ≡ items → old_lines items ≡ lines_of old → new_lines items ≡ lines_of new → PrintsHunks mid lines after → IsDiff name old new after
-diff-is name old new none mid after items lines e f same olds news printed = record {
-  lines = lines;
-  hunks = printed.hunks;
-  olds = ap old_lines same ∙ olds;
-  news = ap new_lines same ∙ news;
-  are = printed.are;
-  is = printed.is ∙ ap (λ (xs : List ℕ). xs ++ printed.hunks) (f ∙ ap (λ (xs : List ℕ). xs ++ names_text name) e);
-}

@@ -1,10 +1,7 @@
-use Rattle.std.proofs.Common.{◌≡◌, ◌+◌, ◌≤◌, arith, length, refl, string_bytes, take}
+use Rattle.std.proofs.Common.{◌≡◌, ◌+◌, ◌≤◌, arith, length, refl, take}
 use Rattle.tidy_run.specs.Diff.{old_lines, new_lines, IsHunk}
-use Rattle.tidy_run.proofs.HunkLemmas.{none-written, hunk-written, all-written, old-further, new-further, few-further}
+use Rattle.tidy_run.proofs.HunkLemmas.{hunk-written, all-written, old-further, new-further, few-further}
 use Rattle.tidy_run.proofs.hunks.push_hunks.Goals as goal
-
-pub hunks-init : goal.hunks-init
-hunks-init c = record { inside = omega arith; old = refl; new = refl; few_old = omega arith; few_new = omega arith; written = none-written (string_bytes c.args.output.now) c.args.lines.now }
 
 pub hunks-preserved : goal.hunks-preserved
 hunks-preserved c = record {
