@@ -1,7 +1,7 @@
 -- What a walk of folders comes to, step by step.
 use Rattle.std.proofs.Common.{◌≡◌, ◌≢◌, ℕ, ◌<◌, true, List, [], ◌∷◌, ◌++◌, length, map, get_or, Bor, sym, ap, ◌∙◌, subst, String, append_assoc, append-nil, arith, inl, inr, nat_cmp}
 use Rattle.std.specs.Global.{Global}
-use Rattle.std.specs.Prelude.{string_bytes, string_cmp, string_eq, OnOk, Result, Ok, Err}
+use Rattle.std.specs.Prelude.{string_bytes, string_cmp, string_eq, Result, Ok, Err}
 use Rattle.std.specs.Cmp.{unsigned_ties}
 use Rattle.std.specs.Cmp.Lexicographic.{lists_ties}
 use Rattle.std.specs.List.{All, Contains}
@@ -13,15 +13,12 @@ use Rattle.std.proofs.lemmas.List.Elements.{All-append, All-cons}
 use Rattle.std.proofs.lemmas.List.Filters.{All-dedup, dedup_is}
 use Rattle.std.proofs.lemmas.List.Kept.{IsStrictlySortedBy-dedup}
 use Rattle.std.proofs.lemmas.List.Sorted.{All-permutation}
-use Rattle.std.specs.declared.alloc.AllocError.{AllocError}
 use Rattle.std.specs.declared.io.ErrorKind.{ErrorKind}
-use Rattle.std.specs.declared.io.ErrorKind.TheVariants.{OutOfMemory}
 use Rattle.sources.specs.declared.fault.PathFault.{PathFault}
-use Rattle.sources.specs.declared.fault.Reason.TheVariants.{System}
 use Rattle.sources.specs.declared.walk.Choice.{Choice}
 use Rattle.sources.specs.declared.walk.Choice.TheVariants.{Folder, Source, Neither}
 use Rattle.sources.specs.Names.{is_source_name, IsFolderName}
-use Rattle.sources.specs.Found.{name_of, Adds, IsAskedOrSource, IsInOrder, IsNoLackOfMemory, IsRefusal, IsSourcePath, IsTold, IsWalked, TakesFault, TakesFile, TakesFolder, TakesRefusal}
+use Rattle.sources.specs.Found.{name_of, Adds, IsAskedOrSource, IsInOrder, IsNoLackOfMemory, IsRefusal, IsSourcePath, IsTold, IsWalked, TakesFile, TakesFolder, TakesRefusal}
 
 -- what is left of sorted paths without those that stand twice
 pub in_order : (sorted kept : List (String Global)) → IsSorted string_cmp sorted → IsFiltered (DiffersFromLast string_eq) [] sorted kept → IsInOrder kept
@@ -64,11 +61,6 @@ folders-added (Err kind) path old new is took = subst (Adds IsWalked old) (sym t
 pub faults-added : (told : Result Choice ErrorKind) (path : List ℕ) (old new : List PathFault) → IsNoLackOfMemory told → TakesRefusal told path old new → Adds IsRefusal old new
 faults-added (Err kind) path old new other took = adds_one IsRefusal old new took.0 took.1 (kind, took.3, other)
 faults-added (Ok choice) path old new other took = subst (Adds IsRefusal old) (sym took) (adds_none IsRefusal old)
-
--- a refusal leaves the other lists, and may be a lack of memory
-pub refusal-added : (answer : Result (Unit {0}) AllocError) (kind : ErrorKind) (path : List ℕ) (old new : List PathFault) → OnOk answer (kind ≢ OutOfMemory) → OnOk answer (TakesFault old new path (System kind)) → OnOk answer (Adds IsRefusal old new)
-refusal-added (Ok done) kind path old new other took = faults-added (Err kind) path old new other took
-refusal-added (Err error) kind path old new other took = tt
 
 -- each of the paths is one that was asked for
 pub asked_at : (paths : List (Bor (List ℕ))) (k : ℕ) (d : Bor (List ℕ)) → k < length paths → Contains (map (λ path. path.now) paths) (get_or paths k d).now

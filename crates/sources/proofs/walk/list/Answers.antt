@@ -1,10 +1,7 @@
 use Rattle.std.proofs.Common.{◌∙◌, Err, subst, sym}
 use Rattle.sources.specs.Found.{Adds, IsRefusal, IsSourcePath, IsTold, IsWalked}
-use Rattle.sources.proofs.FoundLemmas.{adds_on, faults-added, files-added, folders-added, refusal-added}
+use Rattle.sources.proofs.FoundLemmas.{adds_on, faults-added, files-added, folders-added}
 use Rattle.sources.proofs.walk.list.Goals as goal
-
-pub returns-in-Err-clause-faults : goal.returns-in-Err-clause-faults
-returns-in-Err-clause-faults g c = refusal-added c.take.result _ c.args.folder.now _ _ c.take.ensures.memory c.take.ensures.faults
 
 pub loop-entry-preserved-in-Ok-entry : goal.loop-entry-preserved-in-Ok-entry
 loop-entry-preserved-in-Ok-entry g c =
