@@ -1,6 +1,6 @@
 -- The first line of a token.
-use Rattle.std.proofs.Common.{◌≡◌, ℕ, zero, suc, ◌<◌, ◌==◌, ◌||◌, Bool, true, false, true≢false, List, [], ◌∷◌, length, get_or, refl, sym, ap, arith, inl, inr, Some, None, IsCharBoundary, slice_index}
-use Rattle.std.proofs.lemmas.Bool.{cases_Bool, eqb-true}
+use Rattle.std.proofs.Common.{◌≡◌, ℕ, zero, suc, ◌<◌, ◌==◌, ◌||◌, true, List, [], ◌∷◌, length, get_or, refl, sym, ap, arith, inl, inr, Some, None}
+use Rattle.std.proofs.lemmas.Bool.{cases_Bool}
 use Rattle.memchr.specs.Find.{IsFirstByte}
 use Rattle.marks.specs.Part.{ends_line, first_line}
 
@@ -19,20 +19,9 @@ first_ends (b ∷ bs) (suc n) low none here = elim (cases_Bool (ends_line b)) [
   | inr clear ↦ rw clear (ap suc (first_ends bs n (omega arith) (λ k less set. none (suc k) (omega arith) set) here))
 ]
 
-ends_small : (b : ℕ) → ends_line b ≡ true → b < 128
-ends_small b set = by (b == 10) (b == 13) refl refl set
-  where
-    by : (x y : Bool) → (b == 10) ≡ x → (b == 13) ≡ y → (x || y) ≡ true → b < 128
-    by true y e f s = let is = eqb-true b 10 e in omega arith
-    by false true e f s = let is = eqb-true b 13 f in omega arith
-    by false false e f s = absurd (true≢false (sym s))
-
 -- the first line ends at the first byte that ends one, where a text may be cut
 pub line_found : (bs : List ℕ) (n : ℕ) → IsFirstByte ends_line bs (Some n) → n ≡ first_line bs
 line_found bs n found = sym (first_ends bs n found.0.high (λ k less set. found.0.before k (omega arith) less set) found.1)
-
-pub may_cut : (bs : List ℕ) (n : ℕ) → IsFirstByte ends_line bs (Some n) → IsCharBoundary bs n
-may_cut bs n found = (let i = found.0.high in omega arith, λ low wide. let small : slice_index bs n < 128 = ends_small (slice_index bs n) found.1 in absurd (omega arith))
 
 -- and is the whole text where there is none
 pub line_whole : (bs : List ℕ) → IsFirstByte ends_line bs None → length bs ≡ first_line bs

@@ -22,7 +22,7 @@ use Rattle.marks.specs.Fault.{fault_of}
 use Rattle.marks.specs.Literal.{mode_of}
 use Rattle.marks.specs.Marked.{line_parts, marked, marked_tokens, parts, parts_by, past_line, sound_parts, text_parts, token_parts}
 use Rattle.marks.specs.Part.{Part, class_parts, with_marks, without_marks}
-use Rattle.marks.proofs.CallLemmas.{no_calls, on_ok_then}
+use Rattle.marks.proofs.CallLemmas.{on_ok_then}
 use Rattle.marks.proofs.EscapeLemmas.{unescaped_escaped}
 use Rattle.marks.proofs.LiteralLemmas.{shows_literal, without_literal}
 use Rattle.marks.proofs.PartLemmas.{Shows, shows_both, shows_class, shows_fault, untagged_parts, without_class, without_fault, without_marks-append, writes_parts}
@@ -111,9 +111,6 @@ module _ {W : Type 0} (took : W → List ℕ → W → Type 0) where
       writes_parts took style (token_parts style token.kind (take token.len text)) (parts style (drop token.len text) others) w0 w1 w
       (subst (λ (xs : List ℕ). WritesInCalls took w0 (with_marks style (token_parts style token.kind xs)) w1) is wrote)
       (subst (λ (xs : List ℕ). WritesInCalls took w1 (marked_tokens style xs others) w) past more))
-
-  pub writes_nothing : (style : Style) (w : W) (text : List ℕ) (left : List Token) → left ≡ [] → WritesInCalls took w (marked_tokens style text left) w
-  writes_nothing style w text left none = subst (λ (ts : List Token). WritesInCalls took w (marked_tokens style text ts) w) (sym none) (no_calls took w)
 
   -- a shebang line, and then the tokens of what follows it
   pub writes_past : {T E : Type 0} (style : Style) (edition : Edition) (w v u : W) (text line rest : List ℕ) (len : ℕ) (r : Result T E) → Some len ≡ shebang text → line ≡ take (len - 0) text

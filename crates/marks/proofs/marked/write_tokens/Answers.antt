@@ -1,6 +1,6 @@
 use Rattle.rustc_lexer.specs.Tokens.{tokens_left}
 use Rattle.rustc_lexer.proofs.PlaceLemmas.{piece_is, stands_past}
-use Rattle.marks.proofs.MarkedLemmas.{writes_token, writes_nothing}
+use Rattle.marks.proofs.MarkedLemmas.{writes_token}
 use Rattle.marks.proofs.marked.write_tokens.Goals as goal
 
 pub loop-token-preserved : goal.loop-token-preserved
@@ -14,6 +14,3 @@ loop-token-preserved g c =
       left = λ w more. c.loop-token.invariant.left w (writes_token g.W.Write.write_str_gives c.args.style c.loop-token.output c.write_token.new.output w at.rest past.rest c.range.result.now (tokens_left at) (tokens_left past) c.in-Some.token
           step.first step.rest piece c.in_ok-write_token.ensures more);
     }
-
-pub returns : goal.returns
-returns g c = c.loop-token.invariant.left _ (writes_nothing g.W.Write.write_str_gives c.args.style c.loop-token.output c.loop-token.token-iterator.rest (tokens_left c.loop-token.token-iterator) c.in-None.ensures.steps.0)
