@@ -19,6 +19,15 @@ fn tokens() {
 }
 
 #[test]
+fn names_of_kinds() {
+    for (kind, _) in cases().iter().flat_map(|case| &case.tokens) {
+        let debug = format!("{kind:?}");
+        assert_eq!(Some(kind.name()), debug.split(' ').next());
+    }
+    assert_eq!(TokenKind::Eof.name(), "Eof");
+}
+
+#[test]
 fn cursors() {
     for case in cases() {
         let Some(allowed) = case.allowed() else {

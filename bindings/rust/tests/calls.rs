@@ -140,17 +140,6 @@ fn orders_and_numbers() {
     assert!(guarded(1, true, 1) < guarded(1, true, 9));
 }
 
-#[test]
-fn names_of_kinds() {
-    let text =
-        "// a\n/**/a r#a k#a z\"\" 'a 'a#b 'r#a ##a 1;,.(){}[]@#~?:$=!<>-&|+*/^%\\a\u{1F600}";
-    for token in tokenize(text, FrontmatterAllowed::No) {
-        let debug = format!("{:?}", token.kind);
-        assert_eq!(Some(token.kind.name()), debug.split(' ').next());
-    }
-    assert_eq!(TokenKind::Eof.name(), "Eof");
-}
-
 /// Short texts, each with its tokens.
 const SHORT: [(&str, &[TokenKind]); 4] = [
     ("", &[]),

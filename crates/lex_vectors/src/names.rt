@@ -1,11 +1,9 @@
 //! The names of kinds, and what is written of errors.
-use rustc_lexer::{EditStop, Edition, FrontmatterAllowed, RawStrError, TokenKind, fits, tokenize};
+use crate::tables::all::all;
+use crate::tables::row::Row;
+use rustc_lexer::{EditStop, Edition, RawStrError, TokenKind};
 use std::alloc::{AllocError, Global};
 use std::fmt::{Debug, Display};
-
-/// A token of each kind but `Frontmatter` and `Eof`, and a literal of each kind.
-const ALL_KINDS: &str =
-    ";,.(){}[]@ #~?:$=!<>-&|+*/ ^%\0 a r#a k#a z\"\" 'z# 'r#a ## 'a a😀 /**/1 2.5 'a' b'a' b\"a\" c\"a\" r\"a\" br\"a\" cr\"a\"//";
 
 /// Whether what `Debug` writes of the value begins with this name.
 fn begins_with_name<T: Debug>(alloc: Global, value: &T, name: &str) -> Result<bool, AllocError> {
@@ -18,28 +16,35 @@ fn is_said<T: Display>(alloc: Global, error: &T, said: &str) -> Result<bool, All
     Ok(format!(in alloc; "{error}")?.as_str() == said)
 }
 
-#[test]
-fn a_name_is_that_of_its_variant(rt: HostRuntime) -> Result<(), AllocError> {
-    assert!(rt; fits(ALL_KINDS));
-    let mut kinds = [false; 44];
-    let mut literals = [false; 11];
-    for token in tokenize(ALL_KINDS, FrontmatterAllowed::No) {
-        assert!(rt; begins_with_name(rt.alloc(), &token.kind, token.kind.name())?);
-        let number = token.kind.number() as usize;
-        assert!(rt; number < 44);
-        kinds[number] = true;
-        if let TokenKind::Literal { kind, .. } = token.kind {
-            assert!(rt; begins_with_name(rt.alloc(), &kind, kind.name())?);
-            let number = kind.number() as usize;
-            assert!(rt; number < 11);
-            literals[number] = true;
+/// Whether the name of the kind is that of its variant, and so is the name of the kind of a literal.
+fn is_named(alloc: Global, kind: &TokenKind) -> Result<bool, AllocError> {
+    if !begins_with_name(alloc, kind, kind.name())? {
+        return Ok(false);
+    }
+    match kind {
+        TokenKind::Literal { kind, .. } => begins_with_name(alloc, kind, kind.name()),
+        _ => Ok(true),
+    }
+}
+
+/// Whether all kinds of the rows have the names of their variants.
+fn are_named(alloc: Global, rows: &[Row]) -> Result<bool, AllocError> {
+    for row in rows {
+        for (_, _, tokens) in row.parts {
+            for (kind, _) in *tokens {
+                if !is_named(alloc, kind)? {
+                    return Ok(false);
+                }
+            }
         }
     }
-    for (number, seen) in kinds.into_iter().enumerate() {
-        assert_eq!(rt; seen, !matches!(number, 0 | 4 | 43), "{number}");
-    }
-    for (number, seen) in literals.into_iter().enumerate() {
-        assert_eq!(rt; seen, number != 0, "{number}");
+    Ok(true)
+}
+
+#[test]
+fn a_name_is_that_of_its_variant(rt: HostRuntime) -> Result<(), AllocError> {
+    for (name, rows) in all() {
+        assert!(rt; are_named(rt.alloc(), rows)?, "{name}");
     }
     Ok(())
 }
