@@ -1,6 +1,10 @@
 //! The tokens of a text, as an iterator.
 
+#[cfg(feature = "alloc")]
+use crate::TokenKind;
 use crate::{Edition, FrontmatterAllowed, Record, Token, erased, fitting};
+#[cfg(feature = "alloc")]
+use alloc::vec::Vec;
 use core::fmt;
 use core::iter::FusedIterator;
 
@@ -92,6 +96,24 @@ impl Iterator for Tokens<'_> {
     #[inline]
     fn size_hint(&self) -> (usize, Option<usize>) {
         count_of(self.as_str())
+    }
+
+    /// Collects the tokens that are left, which are found many at a time. Of another collection than a `Vec` they are a
+    /// list for a moment.
+    #[cfg(feature = "alloc")]
+    fn collect<B: FromIterator<Token>>(mut self) -> B {
+        let mut tokens = Vec::new();
+        let mut room = [Token {
+            kind: TokenKind::Eof,
+            len: 0,
+        }; 32];
+        loop {
+            let count = self.fill(&mut room);
+            tokens.extend_from_slice(&room[..count]);
+            if count < room.len() {
+                return tokens.into_iter().collect();
+            }
+        }
     }
 }
 

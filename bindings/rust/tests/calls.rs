@@ -186,6 +186,11 @@ fn each_way_to_take_tokens_gives_the_same() {
             );
             assert_eq!(tokens.count(), all.len().saturating_sub(taken));
         }
+        for taken in 0..=all.len() {
+            let mut tokens = tokenize(text, FrontmatterAllowed::No);
+            assert!(tokens.by_ref().take(taken).eq(all[..taken].iter().copied()));
+            assert_eq!(tokens.collect::<Vec<_>>(), all[taken..]);
+        }
         assert!(tokenize_in(text, Edition::E2024).eq(all.iter().copied()));
     }
     for (text, kinds) in SHORT {

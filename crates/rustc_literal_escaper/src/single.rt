@@ -63,6 +63,7 @@ fn read_byte(src: &str) -> Result<u8, EscapeError>
 }
 
 /// The element at the front, between single quotes, and what is left past it.
+#[inline(always)]
 pub(crate) fn single(src: &str) -> Option<(Element, &str)>
     ensures { MatchOption result (chars src.now ≡ [])
         (λ r. StartsWithSingle (chars src.now) r.0 (chars r.1.now) × IsUtf8 r.1.now
@@ -74,6 +75,7 @@ pub(crate) fn single(src: &str) -> Option<(Element, &str)>
 }
 
 /// The element that begins with the character `c`, and what is left past it.
+#[inline(always)]
 fn first(c: char, tail: &str) -> (Element, &str)
     ensures shorter { length result.1.now ≤ length tail.now }
     ensures text { IsUtf8 result.1.now }
@@ -87,6 +89,7 @@ fn first(c: char, tail: &str) -> (Element, &str)
 }
 
 /// What a character that is not escaped is between single quotes.
+#[inline(always)]
 fn unescaped(c: char) -> Element
     ensures { result ≡ spec.unescaped c }
 {

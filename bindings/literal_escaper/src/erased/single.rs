@@ -48,6 +48,7 @@ fn read_byte(src: &str) -> Result<u8, EscapeError> {
 }
 
 /// The element at the front, between single quotes, and what is left past it.
+#[inline(always)]
 pub(crate) fn single(src: &str) -> Option<(Element, &str)> {
     let (c, tail) = split_first(src)?;
     let (element, left) = first(c, tail);
@@ -55,6 +56,7 @@ pub(crate) fn single(src: &str) -> Option<(Element, &str)> {
 }
 
 /// The element that begins with the character `c`, and what is left past it.
+#[inline(always)]
 fn first(c: char, tail: &str) -> (Element, &str) {
     if c == '\\' {
         escape(tail)
@@ -64,6 +66,7 @@ fn first(c: char, tail: &str) -> (Element, &str) {
 }
 
 /// What a character that is not escaped is between single quotes.
+#[inline(always)]
 fn unescaped(c: char) -> Element {
     match c {
         '\n' | '\t' | '\'' => Element::Fault(EscapeError::EscapeOnlyChar),
