@@ -1,79 +1,156 @@
--- The items of what is left of a text, step by step.
-use Rattle.std.proofs.Common.{◌≡◌, ℕ, zero, suc, ◌-◌, ◌≤◌, ◌==◌, Bool, true, false, if◌then◌else◌, List, [], ◌∷◌, ◌++◌, length, map, Option, Some, None, refl, sym, ap, ◌∙◌, arith}
+-- What is read at the front of a text, and the items of what is left of it, step by step.
+use Rattle.std.proofs.Common.{◌≡◌, ℕ, zero, suc, ◌+◌, ◌-◌, ◌≤◌, ◌==◌, Bool, true, false, if◌then◌else◌, List, [], ◌∷◌, ◌++◌, length, length-append, append_assoc, map, filter, Option, Some, None, refl, sym, ap, ◌∙◌, arith, All}
+use Rattle.std.specs.Char.{is_whitespace}
+use Rattle.std.specs.List.{list_any}
 use Rattle.std.specs.Option.{is_some, option_to_list}
 use Rattle.std.specs.Str.{byte, chars, IsUtf8}
 use Rattle.std.proofs.lemmas.Bool.{true≢false}
+use Rattle.std.proofs.lemmas.List.Elements.{All-append, All-cons, All-nil}
 use Rattle.std.proofs.lemmas.Str.{encodes-chars}
 use Rattle.rustc_literal_escaper.specs.declared.element.Element.{Element}
-use Rattle.rustc_literal_escaper.specs.Elements.{Front, Item, front, front_by, raw_front, is_newline, item_at, items_from, items_in, line_end, one, past_backslash, TakesFirst, place, unescaped, is_passed_over}
-use Rattle.rustc_literal_escaper.specs.Escape.{braced, closed, closed_at_run, escape, hex, is_digit_or_underscore, is_hex, unicode}
+use Rattle.rustc_literal_escaper.specs.declared.element.Element.TheVariants.{Fault, Unicode}
+use Rattle.rustc_literal_escaper.specs.declared.error.EscapeError.TheVariants.{InvalidCharInUnicodeEscape, MultipleSkippedLinesWarning, OverlongUnicodeEscape, UnskippedWhitespaceWarning}
+use Rattle.rustc_literal_escaper.specs.Elements.{Front, Item, front, front_by, raw_element, raw_front, is_newline, item_at, items_from, items_in, line_end, more_lines, more_space, one, past_backslash, TakesFirst, place, unescaped, is_passed_over}
+use Rattle.rustc_literal_escaper.specs.Escape.{braced, closed, closed_at_run, escape, hex, hex_value, is_digit_or_underscore, is_hex, number, short, unicode}
+use Rattle.rustc_literal_escaper.specs.Rebuilt.{is_warning}
 use Rattle.rustc_literal_escaper.specs.Runs.{front_run, past_run}
-
--- ---- each step takes a character at least
 
 pub either : {A : Type 0} (P : A → Type 0) (b : Bool) (x y : A) → P x → P y → P (if b then x else y)
 either P true x y p q = p
 either P false x y p q = q
 
-pub past_run-shorter : (p : ℕ → Bool) (s : List ℕ) → length (past_run p s) ≤ length s
-past_run-shorter p [] = omega arith
-past_run-shorter p (c ∷ s) = let all : length (past_run p s) ≤ length s = past_run-shorter p s in either (λ (xs : List ℕ). length xs ≤ length (c ∷ s)) (p c) (past_run p s) (c ∷ s) (omega arith) (omega arith)
+-- ---- what is left is an end of what there was
 
-abbrev IsWithin : List ℕ → Element × List ℕ → Type 0
-IsWithin s read = length read.1 ≤ length s
+abbrev pub Ends : List ℕ → List ℕ → Type 0
+Ends left s = (front : List ℕ) × (s ≡ front ++ left)
 
-hex-shorter : (s : List ℕ) → IsWithin s (hex s)
-hex-shorter [] = omega arith
-hex-shorter (h ∷ []) = omega arith
-hex-shorter (h ∷ l ∷ s) = either (IsWithin (h ∷ l ∷ s)) (is_hex h) _ _ (omega arith) (omega arith)
+pub all : (s : List ℕ) → Ends s s
+all s = ([], refl)
 
-closed-shorter : (digits s : List ℕ) → IsWithin s (closed digits s)
-closed-shorter digits [] = omega arith
-closed-shorter digits (c ∷ s) = omega arith
+pub past : (c : ℕ) (left s : List ℕ) → Ends left s → Ends left (c ∷ s)
+past c left s e = (c ∷ e.0, ap (λ xs. c ∷ xs) e.1)
 
-closed_at_run-shorter : (s : List ℕ) → IsWithin s (closed_at_run s)
-closed_at_run-shorter s = let a : IsWithin (past_run is_digit_or_underscore s) (closed_at_run s) = closed-shorter (front_run is_digit_or_underscore s) (past_run is_digit_or_underscore s) in let b = past_run-shorter is_digit_or_underscore s in omega arith
+pub tail : (c : ℕ) (s : List ℕ) → Ends s (c ∷ s)
+tail c s = (c ∷ [], refl)
 
-braced-shorter : (s : List ℕ) → IsWithin s (braced s)
-braced-shorter [] = omega arith
-braced-shorter (c ∷ s) = either (IsWithin (c ∷ s)) (c == byte "_") _ _ (omega arith)
-    (either (IsWithin (c ∷ s)) (c == byte "}") _ _ (omega arith) (either (IsWithin (c ∷ s)) (is_hex c) _ _ (closed_at_run-shorter (c ∷ s)) (omega arith)))
+pub through : (a b s : List ℕ) → Ends a b → Ends b s → Ends a s
+through a b s e f = (f.0 ++ e.0, f.1 ∙ (ap (λ xs. f.0 ++ xs) e.1 ∙ sym (append_assoc f.0 e.0 a)))
 
-unicode-shorter : (s : List ℕ) → IsWithin s (unicode s)
-unicode-shorter [] = omega arith
-unicode-shorter (c ∷ s) = let a : length (braced s).1 ≤ length s = braced-shorter s in either (IsWithin (c ∷ s)) (c == byte "{") (braced s) _ (omega arith) (omega arith)
+pub past_run-ends : (p : ℕ → Bool) (s : List ℕ) → Ends (past_run p s) s
+past_run-ends p [] = all []
+past_run-ends p (c ∷ s) = either (λ xs. Ends xs (c ∷ s)) (p c) (past_run p s) (c ∷ s) (past c (past_run p s) s (past_run-ends p s)) (all (c ∷ s))
 
-pub escape-shorter : (s : List ℕ) → IsWithin s (escape s)
-escape-shorter [] = omega arith
-escape-shorter (c ∷ s) =
-    let a : length (hex s).1 ≤ length s = hex-shorter s in
-    let b : length (unicode s).1 ≤ length s = unicode-shorter s in
-    either (IsWithin (c ∷ s)) (c == byte "x") (hex s) _ (omega arith) (either (IsWithin (c ∷ s)) (c == byte "u") (unicode s) _ (omega arith) (omega arith))
+-- ---- what is read past a backslash is no warning, and an end is left
 
-abbrev Shortens : (ℕ → List ℕ → Front) → Type 0
-Shortens at = (c : ℕ) (s : List ℕ) → length (at c s).left ≤ length s
+abbrev pub Tells : Element → Type 0
+Tells e = is_warning e ≡ false
 
-past_backslash-shorter : (s : List ℕ) → length (past_backslash s).left ≤ length s
-past_backslash-shorter [] = omega arith
-past_backslash-shorter (c ∷ s) =
-    let a : length (past_run is_passed_over s) ≤ length s = past_run-shorter is_passed_over s in
-    either (λ (f : Front). length f.left ≤ length (c ∷ s)) (is_newline c) (line_end s) (one (escape (c ∷ s))) (omega arith) (escape-shorter (c ∷ s))
+abbrev pub IsRead : List ℕ → Element × List ℕ → Type 0
+IsRead s read = Tells read.0 × Ends read.1 s
 
-pub front-shorter : Shortens front
-unfolding front
-front-shorter c s = either (λ (f : Front). length f.left ≤ length s) (c == byte "\\") (past_backslash s) (one (unescaped c, s)) (past_backslash-shorter s) (omega arith)
+wider : (c : ℕ) (s : List ℕ) (read : Element × List ℕ) → IsRead s read → IsRead (c ∷ s) read
+wider c s read r = (r.0, past c read.1 s r.1)
 
-pub raw_front-shorter : Shortens raw_front
-unfolding raw_front
-raw_front-shorter c s = omega arith
+short-tells : (c : ℕ) → Tells (short c)
+short-tells c =
+    either Tells (c == byte "0") _ _ refl (either Tells (c == byte "t") _ _ refl (either Tells (c == byte "n") _ _ refl (either Tells (c == byte "r") _ _ refl
+    (either Tells (c == byte "\"") _ _ refl (either Tells (c == byte "'") _ _ refl (either Tells (c == byte "\\") _ _ refl refl))))))
 
-pub front_by-shorter : (raw : Bool) → Shortens (front_by raw)
-front_by-shorter true = raw_front-shorter
-front_by-shorter false = front-shorter
+hex-read : (s : List ℕ) → IsRead s (hex s)
+hex-read [] = (refl, all [])
+hex-read (h ∷ []) = (either Tells (is_hex h) _ _ refl refl, tail h [])
+hex-read (h ∷ l ∷ s) = either (IsRead (h ∷ l ∷ s)) (is_hex h) _ _
+    (either Tells (is_hex l) _ _ refl refl, past h s (l ∷ s) (tail l s)) (refl, tail h (l ∷ s))
+
+closed-read : (digits s : List ℕ) → IsRead s (closed digits s)
+closed-read digits [] = (refl, all [])
+closed-read digits (c ∷ s) = (
+  either Tells (c == byte "}") (number (filter is_hex digits)) (Fault InvalidCharInUnicodeEscape)
+      (either Tells _ (Unicode (hex_value (filter is_hex digits))) (Fault OverlongUnicodeEscape) refl refl) refl,
+  tail c s,
+)
+
+closed_at_run-read : (s : List ℕ) → IsRead s (closed_at_run s)
+closed_at_run-read s =
+    let left : List ℕ = past_run is_digit_or_underscore s in
+    let r : IsRead left (closed_at_run s) = closed-read (front_run is_digit_or_underscore s) left in
+    (r.0, through (closed_at_run s).1 left s r.1 (past_run-ends is_digit_or_underscore s))
+
+braced-read : (s : List ℕ) → IsRead s (braced s)
+braced-read [] = (refl, all [])
+braced-read (c ∷ s) =
+    let other = tail c s in
+    either (IsRead (c ∷ s)) (c == byte "_") _ _ (refl, other) (either (IsRead (c ∷ s)) (c == byte "}") _ _ (refl, other)
+    (either (IsRead (c ∷ s)) (is_hex c) (closed_at_run (c ∷ s)) _ (closed_at_run-read (c ∷ s)) (refl, other)))
+
+unicode-read : (s : List ℕ) → IsRead s (unicode s)
+unicode-read [] = (refl, all [])
+unicode-read (c ∷ s) = either (IsRead (c ∷ s)) (c == byte "{") (braced s) _ (wider c s (braced s) (braced-read s)) (refl, tail c s)
+
+pub escape-read : (s : List ℕ) → IsRead s (escape s)
+escape-read [] = (refl, all [])
+escape-read (c ∷ s) = either (IsRead (c ∷ s)) (c == byte "x") (hex s) _ (wider c s (hex s) (hex-read s))
+    (either (IsRead (c ∷ s)) (c == byte "u") (unicode s) _ (wider c s (unicode s) (unicode-read s)) (short-tells c, tail c s))
+
+-- ---- all that is told at the front of a text marks it up to an end of `s`, and an end of it is left
+
+abbrev pub EndsAt : List ℕ → Element × List ℕ → Type 0
+EndsAt s read = Ends read.1 s
+
+pub record EndsFront (s : List ℕ) (at : Front) : Type 0 where
+  pub told : All (EndsAt s) at.told
+  pub left : Ends at.left s
+  pub few : length at.told + length at.left ≤ suc (length s)
+
+pub shorter : (left s : List ℕ) → Ends left s → length left ≤ length s
+shorter left s e = omega (arith, ap length e.1, length-append e.0 left)
+
+one-ends : (s : List ℕ) (read : Element × List ℕ) → EndsAt s read → EndsFront s (one read)
+one-ends s read e = record { told = All-cons (EndsAt s) read [] e (All-nil (EndsAt s)); left = e; few = omega (arith, shorter read.1 s e) }
+
+-- a warning, or none
+abbrev IsFew : List ℕ → List (Element × List ℕ) → Type 0
+IsFew s told = All (EndsAt s) told × (length told ≤ 1)
+
+one-few : (s : List ℕ) (b : Bool) (read : Element × List ℕ) → EndsAt s read → IsFew s (if b then read ∷ [] else [])
+one-few s true read e = (All-cons (EndsAt s) read [] e (All-nil (EndsAt s)), omega arith)
+one-few s false read e = (All-nil (EndsAt s), omega arith)
+
+more_space-few : (s left : List ℕ) → Ends left s → IsFew s (more_space left)
+more_space-few s [] e = (All-nil (EndsAt s), omega arith)
+more_space-few s (c ∷ left) e = one-few s (is_whitespace c) (Fault UnskippedWhitespaceWarning, left) (through left (c ∷ left) s (tail c left) e)
+
+line_end-ends : (c : ℕ) (s : List ℕ) → EndsFront (c ∷ s) (line_end s)
+line_end-ends c s =
+    let left : List ℕ = past_run is_passed_over s in
+    let e : Ends left (c ∷ s) = past c left s (past_run-ends is_passed_over s) in
+    let lines : List (Element × List ℕ) = more_lines (front_run is_passed_over s) left in
+    let a : IsFew (c ∷ s) lines = one-few (c ∷ s) (list_any is_newline (front_run is_passed_over s)) (Fault MultipleSkippedLinesWarning, left) e in
+    let b : IsFew (c ∷ s) (more_space left) = more_space-few (c ∷ s) left e in
+    record {
+      told = All-append (EndsAt (c ∷ s)) lines (more_space left) a.0 b.0;
+      left = e;
+      few = omega (arith, length-append lines (more_space left), a.1, b.1, shorter left s (past_run-ends is_passed_over s));
+    }
+
+past_backslash-ends : (s : List ℕ) → EndsFront s (past_backslash s)
+past_backslash-ends [] = one-ends [] (escape []) (all [])
+past_backslash-ends (c ∷ s) = either (EndsFront (c ∷ s)) (is_newline c) (line_end s) (one (escape (c ∷ s))) (line_end-ends c s) (one-ends (c ∷ s) (escape (c ∷ s)) (escape-read (c ∷ s)).1)
+
+pub front_by-ends : (raw : Bool) (c : ℕ) (s : List ℕ) → EndsFront s (front_by raw c s)
+unfolding front raw_front
+front_by-ends true c s = one-ends s (raw_element c, s) (all s)
+front_by-ends false c s = either (EndsFront s) (c == byte "\\") (past_backslash s) (one (unescaped c, s)) (past_backslash-ends s) (one-ends s (unescaped c, s) (all s))
+
+pub left-shorter : (raw : Bool) (c : ℕ) (s : List ℕ) → length (front_by raw c s).left ≤ length s
+left-shorter raw c s = shorter (front_by raw c s).left s (front_by-ends raw c s).left
 
 -- ---- so any number of steps that is large enough gives the same items
 
-module _ (at : ℕ → List ℕ → Front) (shorter : Shortens at) (total : ℕ) where
+module _ (raw : Bool) (total : ℕ) where
+  abbrev at : ℕ → List ℕ → Front
+  at = front_by raw
+
   enough : (m n : ℕ) (s : List ℕ) → length s ≤ m → length s ≤ n → items_in at m total s ≡ items_in at n total s
   enough zero zero [] a b = refl
   enough zero (suc n) [] a b = refl
@@ -82,12 +159,12 @@ module _ (at : ℕ → List ℕ → Front) (shorter : Shortens at) (total : ℕ)
   enough zero n (c ∷ s) a b = absurd (omega arith)
   enough (suc m) zero (c ∷ s) a b = absurd (omega arith)
   enough (suc m) (suc n) (c ∷ s) a b =
-      let h : length (at c s).left ≤ length s = shorter c s in
+      let h : length (at c s).left ≤ length s = left-shorter raw c s in
       ap (λ (is : List Item). map (item_at total (place total (c ∷ s))) (at c s).told ++ is) (enough m n (at c s).left (omega arith) (omega arith))
 
   pub items-cons : (c : ℕ) (s : List ℕ) → items_from at total (c ∷ s) ≡ map (item_at total (place total (c ∷ s))) (at c s).told ++ items_from at total (at c s).left
   unfolding items_from
-  items-cons c s = let h : length (at c s).left ≤ length s = shorter c s in
+  items-cons c s = let h : length (at c s).left ≤ length s = left-shorter raw c s in
       ap (λ (is : List Item). map (item_at total (place total (c ∷ s))) (at c s).told ++ is) (enough (length s) (length (at c s).left) (at c s).left (omega arith) (omega arith))
 
   -- one step over a text

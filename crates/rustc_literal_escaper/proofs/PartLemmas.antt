@@ -4,7 +4,7 @@ use Rattle.std.specs.Char.{encode_utf8}
 use Rattle.std.specs.Str.{chars, encode_utf8_all, IsUtf8}
 use Rattle.std.proofs.lemmas.Str.{chars-append, encodes-chars}
 use Rattle.rustc_literal_escaper.specs.Elements.{Front, Item, front_by, item_at, items_from, one, place, raw_element, raw_front, StartsWithOne}
-use Rattle.rustc_literal_escaper.proofs.ItemLemmas.{front_by-shorter, items-cons, nothing}
+use Rattle.rustc_literal_escaper.proofs.ItemLemmas.{items-cons, nothing}
 use Rattle.rustc_literal_escaper.proofs.SkipLemmas.{first-item}
 
 -- each character is one element
@@ -30,7 +30,7 @@ place-part : (total : ℕ) (xs ys : List ℕ) → place total (xs ++ ys) ≡ pla
 place-part total xs ys = let n = encode-both xs ys in omega arith
 
 raw-cons : (total c : ℕ) (s : List ℕ) → items_from (front_by true) total (c ∷ s) ≡ item_at total (place total (c ∷ s)) (raw_element c, s) ∷ items_from (front_by true) total s
-raw-cons total c s = items-cons (front_by true) (front_by-shorter true) total c s
+raw-cons total c s = items-cons true total c s
     ∙ ap (λ (f : Front). map (item_at total (place total (c ∷ s))) f.told ++ items_from (front_by true) total f.left) (raw-one c s)
 
 part : (total : ℕ) (xs ys : List ℕ) → items_from (front_by true) total (xs ++ ys) ≡ items_from (front_by true) (place total ys) xs ++ items_from (front_by true) total ys

@@ -9,54 +9,17 @@ use Rattle.std.proofs.lemmas.Bool.Decides.{nat_tests}
 use Rattle.std.proofs.lemmas.List.Elements.{filter-append}
 use Rattle.std.proofs.lemmas.Str.{encode_ascii, encodes-append, encodes-chars, encodes-IsAscii}
 use Rattle.rustc_literal_escaper.specs.declared.element.Element.{Element}
-use Rattle.rustc_literal_escaper.specs.declared.element.Element.TheVariants.{Fault, Plain, Unicode}
-use Rattle.rustc_literal_escaper.specs.declared.error.EscapeError.TheVariants.{BareCarriageReturn, BareCarriageReturnInRawString, EscapeOnlyChar, InvalidCharInHexEscape, InvalidCharInUnicodeEscape, MultipleSkippedLinesWarning, OverlongUnicodeEscape, TooShortHexEscape, UnskippedWhitespaceWarning}
+use Rattle.rustc_literal_escaper.specs.declared.element.Element.TheVariants.{Fault, Plain}
+use Rattle.rustc_literal_escaper.specs.declared.error.EscapeError.TheVariants.{BareCarriageReturn, BareCarriageReturnInRawString, EscapeOnlyChar, MultipleSkippedLinesWarning, UnskippedWhitespaceWarning}
 use Rattle.rustc_literal_escaper.specs.Elements.{Front, Item, front, front_by, is_newline, is_passed_over, item_at, items_from, items_in, items_of, line_end, more_space, one, past_backslash, place, raw_element, raw_front, unescaped}
-use Rattle.rustc_literal_escaper.specs.Escape.{braced, closed, closed_at_run, escape, hex, hex_value, is_digit_or_underscore, is_hex, number, short, unicode}
-use Rattle.rustc_literal_escaper.specs.Rebuilt.{AreLineEnds, IsMadeOf, IsRebuilt, is_unit, is_warning, places_of}
+use Rattle.rustc_literal_escaper.specs.Escape.{escape}
+use Rattle.rustc_literal_escaper.specs.Rebuilt.{AreLineEnds, IsMadeOf, IsRebuilt, is_unit, places_of}
 use Rattle.rustc_literal_escaper.specs.Runs.{front_run, past_run}
-use Rattle.rustc_literal_escaper.proofs.ItemLemmas.{either}
-use Rattle.rustc_literal_escaper.proofs.PlacedLemmas.{Ends, all, escape-ends, past, past_run-ends}
+use Rattle.rustc_literal_escaper.proofs.ItemLemmas.{Ends, IsRead, Tells, all, either, escape-read, past, past_run-ends}
 use Rattle.rustc_literal_escaper.proofs.RoundTripLemmas.{pick}
 use Rattle.rustc_literal_escaper.proofs.WrittenLemmas.{is-ascii}
 
 -- ---- what is no warning
-
-abbrev Tells : Element → Type 0
-Tells e = is_warning e ≡ false
-
-abbrev TellsAt : Element × List ℕ → Type 0
-TellsAt read = Tells read.0
-
-short-tells : (c : ℕ) → Tells (short c)
-short-tells c =
-    either Tells (c == byte "0") _ _ refl (either Tells (c == byte "t") _ _ refl (either Tells (c == byte "n") _ _ refl (either Tells (c == byte "r") _ _ refl
-    (either Tells (c == byte "\"") _ _ refl (either Tells (c == byte "'") _ _ refl (either Tells (c == byte "\\") _ _ refl refl))))))
-
-hex-tells : (s : List ℕ) → TellsAt (hex s)
-hex-tells [] = refl
-hex-tells (h ∷ []) = either Tells (is_hex h) (Fault TooShortHexEscape) (Fault InvalidCharInHexEscape) refl refl
-hex-tells (h ∷ l ∷ s) = either TellsAt (is_hex h) _ _ (either Tells (is_hex l) _ _ refl refl) refl
-
-number-tells : (digits : List ℕ) → Tells (number digits)
-number-tells digits = either Tells _ (Unicode (hex_value digits)) (Fault OverlongUnicodeEscape) refl refl
-
-closed-tells : (digits s : List ℕ) → TellsAt (closed digits s)
-closed-tells digits [] = refl
-closed-tells digits (c ∷ s) = either Tells (c == byte "}") (number (filter is_hex digits)) (Fault InvalidCharInUnicodeEscape) (number-tells (filter is_hex digits)) refl
-
-braced-tells : (s : List ℕ) → TellsAt (braced s)
-braced-tells [] = refl
-braced-tells (c ∷ s) = either TellsAt (c == byte "_") _ _ refl (either TellsAt (c == byte "}") _ _ refl
-    (either TellsAt (is_hex c) (closed_at_run (c ∷ s)) _ (closed-tells (front_run is_digit_or_underscore (c ∷ s)) (past_run is_digit_or_underscore (c ∷ s))) refl))
-
-unicode-tells : (s : List ℕ) → TellsAt (unicode s)
-unicode-tells [] = refl
-unicode-tells (c ∷ s) = either TellsAt (c == byte "{") (braced s) _ (braced-tells s) refl
-
-escape-tells : (s : List ℕ) → TellsAt (escape s)
-escape-tells [] = refl
-escape-tells (c ∷ s) = either TellsAt (c == byte "x") (hex s) _ (hex-tells s) (either TellsAt (c == byte "u") (unicode s) _ (unicode-tells s) (short-tells c))
 
 unescaped-tells : (c : ℕ) → Tells (unescaped c)
 unescaped-tells c = either Tells (c == byte "\"") (Fault EscapeOnlyChar) _ refl (either Tells (c == 13) (Fault BareCarriageReturn) (Plain c) refl refl)
@@ -121,13 +84,13 @@ module _ (raw : Bool) (total count : ℕ) where
   abbrev IsMadeAt : ℕ → List ℕ → Front → Type 0
   IsMadeAt c s at = IsMadeOf raw (place total (c ∷ s)) (encode_utf8_all (c ∷ s)) (places_of (map (item_at total (place total (c ∷ s))) at.told ++ items_in (front_by raw) count total at.left))
 
-  one-made : (c : ℕ) (s : List ℕ) (read : Element × List ℕ) → Tells read.0 → Ends read.1 s → length (encode_utf8_all (c ∷ s)) ≤ total
+  one-made : (c : ℕ) (s : List ℕ) (read : Element × List ℕ) → IsRead s read → length (encode_utf8_all (c ∷ s)) ≤ total
       → IsMadeOf raw (place total read.1) (encode_utf8_all read.1) (places_past read.1) → IsMadeAt c s (one read)
-  one-made c s read tells ends fits made = subst (IsMadeOf raw from (encode_utf8_all (c ∷ s))) (sym first) (
+  one-made c s read is fits made = subst (IsMadeOf raw from (encode_utf8_all (c ∷ s))) (sym first) (
     encode_utf8_all read.1,
     record {
       skipped = [];
-      marked = encode_utf8_all (c ∷ ends.0);
+      marked = encode_utf8_all (c ∷ is.1.0);
       line_ends = none raw;
       start = (omega arith);
       end = (let l = lengths in omega arith);
@@ -140,13 +103,13 @@ module _ (raw : Bool) (total count : ℕ) where
       from = place total (c ∷ s)
 
       first : places_of (item_at total (place total (c ∷ s)) read ∷ items_in (front_by raw) count total read.1) ≡ record { start = place total (c ∷ s); end = place total read.1 } ∷ places_past read.1
-      first = rw tells refl
+      first = rw (is.0) refl
 
-      cut : encode_utf8_all (c ∷ s) ≡ encode_utf8_all (c ∷ ends.0) ++ encode_utf8_all read.1
-      cut = ap (λ (xs : List ℕ). encode_utf8_all (c ∷ xs)) ends.1 ∙ encodes-append (c ∷ ends.0) read.1
+      cut : encode_utf8_all (c ∷ s) ≡ encode_utf8_all (c ∷ is.1.0) ++ encode_utf8_all read.1
+      cut = ap (λ (xs : List ℕ). encode_utf8_all (c ∷ xs)) is.1.1 ∙ encodes-append (c ∷ is.1.0) read.1
 
-      lengths : length (encode_utf8_all (c ∷ s)) ≡ length (encode_utf8_all (c ∷ ends.0)) + length (encode_utf8_all read.1)
-      lengths = ap length cut ∙ length-append (encode_utf8_all (c ∷ ends.0)) (encode_utf8_all read.1)
+      lengths : length (encode_utf8_all (c ∷ s)) ≡ length (encode_utf8_all (c ∷ is.1.0)) + length (encode_utf8_all read.1)
+      lengths = ap length cut ∙ length-append (encode_utf8_all (c ∷ is.1.0)) (encode_utf8_all read.1)
 
   -- warnings alone, past a line end that is skipped
   line-made : (s : List ℕ) → raw ≡ false → length (encode_utf8_all (92 ∷ 10 ∷ s)) ≤ total
@@ -199,7 +162,7 @@ module _ (total count : ℕ) where
 
   raw-made : (c : ℕ) (s : List ℕ) → length (encode_utf8_all (c ∷ s)) ≤ total → RestIsMade true s → IsMadeAt true total count c s (raw_front c s)
   unfolding raw_front
-  raw-made c s fits rest = one-made true total count c s (raw_element c, s) (raw-tells c) (all s) fits (rest s (all s))
+  raw-made c s fits rest = one-made true total count c s (raw_element c, s) (raw-tells c, all s) fits (rest s (all s))
 
   line_end-made : (c d : ℕ) (t : List ℕ) → c ≡ 92 → d ≡ 10 → length (encode_utf8_all (c ∷ d ∷ t)) ≤ total → RestIsMade false (d ∷ t) → IsMadeAt false total count c (d ∷ t) (line_end t)
   line_end-made c d t e f fits rest =
@@ -208,15 +171,15 @@ module _ (total count : ℕ) where
       (λ within. line-made false total count t refl within (rest (past_run is_passed_over t) (past d (past_run is_passed_over t) t (past_run-ends is_passed_over t))))) fits
 
   slash-made : (c : ℕ) (s : List ℕ) → c ≡ 92 → length (encode_utf8_all (c ∷ s)) ≤ total → RestIsMade false s → IsMadeAt false total count c s (past_backslash s)
-  slash-made c [] e fits rest = one-made false total count c [] (escape []) refl (all []) fits (rest [] (all []))
+  slash-made c [] e fits rest = one-made false total count c [] (escape []) (refl, all []) fits (rest [] (all []))
   slash-made c (d ∷ t) e fits rest = pick (IsMadeAt false total count c (d ∷ t)) (is_newline d) (line_end t) (one (escape (d ∷ t)))
       (λ n. line_end-made c d t e (eqb-true d 10 n) fits rest)
-      (λ n. one-made false total count c (d ∷ t) (escape (d ∷ t)) (escape-tells (d ∷ t)) (escape-ends (d ∷ t)) fits (rest (escape (d ∷ t)).1 (escape-ends (d ∷ t))))
+      (λ n. one-made false total count c (d ∷ t) (escape (d ∷ t)) (escape-read (d ∷ t)) fits (rest (escape (d ∷ t)).1 (escape-read (d ∷ t)).1))
 
   front-made : (c : ℕ) (s : List ℕ) → length (encode_utf8_all (c ∷ s)) ≤ total → RestIsMade false s → IsMadeAt false total count c s (front c s)
   unfolding front
   front-made c s fits rest = pick (IsMadeAt false total count c s) (c == byte "\\") (past_backslash s) (one (unescaped c, s))
-      (λ e. slash-made c s (eqb-true c 92 e) fits rest) (λ e. one-made false total count c s (unescaped c, s) (unescaped-tells c) (all s) fits (rest s (all s)))
+      (λ e. slash-made c s (eqb-true c 92 e) fits rest) (λ e. one-made false total count c s (unescaped c, s) (unescaped-tells c, all s) fits (rest s (all s)))
 
   step-made : (raw : Bool) (c : ℕ) (s : List ℕ) → length (encode_utf8_all (c ∷ s)) ≤ total → RestIsMade raw s → IsMadeAt raw total count c s (front_by raw c s)
   step-made true = raw-made

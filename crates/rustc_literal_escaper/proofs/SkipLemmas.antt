@@ -15,13 +15,13 @@ use Rattle.rustc_literal_escaper.specs.declared.mode.Mode.{Mode}
 use Rattle.rustc_literal_escaper.specs.Elements.{Front, Item, front_by, item_at, items_from, place, StartsWithOne}
 use Rattle.rustc_literal_escaper.specs.Errors.{error_of, errors_in, put}
 use Rattle.rustc_literal_escaper.specs.Plain.{is_plain, Passes}
-use Rattle.rustc_literal_escaper.proofs.ItemLemmas.{front_by-shorter, items-cons}
+use Rattle.rustc_literal_escaper.proofs.ItemLemmas.{items-cons}
 use Rattle.rustc_literal_escaper.proofs.PlaceLemmas.{item-is}
 use Rattle.rustc_literal_escaper.proofs.PlainLemmas.{front_by-plain}
 
 -- the items of what begins with a plain character
 pub items-plain : (raw : Bool) (total c : ℕ) (s : List ℕ) → is_plain raw c ≡ true → items_from (front_by raw) total (c ∷ s) ≡ item_at total (place total (c ∷ s)) (Plain c, s) ∷ items_from (front_by raw) total s
-items-plain raw total c s e = items-cons (front_by raw) (front_by-shorter raw) total c s ∙ ap (λ (f : Front). map (item_at total (place total (c ∷ s))) f.told ++ items_from (front_by raw) total f.left) (front_by-plain raw c s e)
+items-plain raw total c s e = items-cons raw total c s ∙ ap (λ (f : Front). map (item_at total (place total (c ∷ s))) f.told ++ items_from (front_by raw) total f.left) (front_by-plain raw c s e)
 
 -- where nothing is wrong with them, the errors are those of what is left
 module _ (mode : Mode) (raw : Bool) (class : ℕ → Bool) (fine : (c : ℕ) → class c ≡ true → (is_plain raw c ≡ true) × (error_of mode (Plain c) ≡ None)) (total : ℕ) where
@@ -155,7 +155,7 @@ first-item raw total rest left e is ends starts = by_front (chars rest) refl sta
     by_front : (s : List ℕ) → s ≡ chars rest → StartsWithOne raw s e (chars left) → items_from (front_by raw) total s ≡ item ∷ items_from (front_by raw) total (chars left)
     by_front [] same starts = absurd starts
     by_front (c ∷ s) same starts =
-        items-cons (front_by raw) (front_by-shorter raw) total c s
+        items-cons raw total c s
         ∙ (ap (λ (f : Front). map (item_at total (place total (c ∷ s))) f.told ++ items_from (front_by raw) total f.left) starts
         ∙ ap (λ (i : Item). i ∷ items_from (front_by raw) total (chars left)) (ap (λ (n : ℕ). item_at total n (e, chars left)) here ∙ sym (item-is total (total - length rest) e left ends)))
       where

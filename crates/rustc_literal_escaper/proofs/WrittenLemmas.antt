@@ -19,8 +19,8 @@ use Rattle.rustc_literal_escaper.specs.Escape.{braced}
 use Rattle.rustc_literal_escaper.specs.Meaning.{byte_of, char_of, unit_of}
 use Rattle.rustc_literal_escaper.specs.Units.{unit_of_byte}
 use Rattle.rustc_literal_escaper.specs.Written.{Grows, StandsFor, written_bytes, written_text}
-use Rattle.rustc_literal_escaper.proofs.ItemLemmas.{front-shorter, items-cons, nothing}
-use Rattle.rustc_literal_escaper.proofs.PlainLemmas.{front-plain}
+use Rattle.rustc_literal_escaper.proofs.ItemLemmas.{items-cons, nothing}
+use Rattle.rustc_literal_escaper.proofs.PlainLemmas.{front_by-plain}
 use Rattle.rustc_literal_escaper.proofs.RoundTripLemmas.{by_eq, byte-read, pick, plain-back, scalar-is, unicode-by, word, word-read, last}
 
 -- ---- all of it is ASCII
@@ -140,7 +140,7 @@ module _ {U : Type 0} (meaning : Element → Result U EscapeError) where
   read-first : (unit : U) (total : ℕ) (xs s : List ℕ) → Reads unit xs s → units_in (items_from front total xs) ≡ Ok unit ∷ units_in (items_from front total s)
   read-first unit total [] s r = absurd r
   read-first unit total (c ∷ t) s r =
-      ap units_in (items-cons front front-shorter total c t ∙ ap (λ (f : Front). map (item_at total (place total (c ∷ t))) f.told ++ items_from front total f.left) r.1)
+      ap units_in (items-cons false total c t ∙ ap (λ (f : Front). map (item_at total (place total (c ∷ t))) f.told ++ items_from front total f.left) r.1)
       ∙ ap (λ (m : Result U EscapeError). m ∷ units_in (items_from front total s)) r.2
 
   -- so what is written of a list is its units
@@ -154,7 +154,7 @@ module _ {U : Type 0} (meaning : Element → Result U EscapeError) where
       ap (λ (xs : List ℕ). units_in (items_from front (length (flat_map written cs)) xs)) (chars-IsAscii (flat_map written cs) (is-ascii (flat_map written cs) ascii)) ∙ read-all written unit (length (flat_map written cs)) cs all
 
   plain-written : (c : ℕ) (unit : U) → (c == 92) ≡ false → (c == 34) ≡ false → (c == 13) ≡ false → meaning (Plain c) ≡ Ok unit → IsWritten unit (c ∷ [])
-  plain-written c unit g f b m s = (Plain c, front-plain c s (rw (g, f, b) refl), m)
+  plain-written c unit g f b m s = (Plain c, front_by-plain false c s (rw (g, f, b) refl), m)
 
   -- a byte, of which a plain character below 127 is one spelling
   pub byte-written : (unit : ℕ → U) (b : ℕ) → b < 256 → meaning (Byte b) ≡ Ok (unit b) → (b < 127 → meaning (Plain b) ≡ Ok (unit b)) → IsWritten (unit b) (escape_ascii b)

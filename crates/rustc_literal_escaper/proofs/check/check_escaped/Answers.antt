@@ -5,7 +5,7 @@ use Rattle.rustc_literal_escaper.specs.declared.element.Element.TheVariants.{Byt
 use Rattle.rustc_literal_escaper.specs.Elements.{Front, Item, front, front_by, item_at, items_from, StartsWithOne}
 use Rattle.rustc_literal_escaper.specs.Errors.{Error, errors_in}
 use Rattle.rustc_literal_escaper.proofs.ErrorLemmas.{folds-errors}
-use Rattle.rustc_literal_escaper.proofs.ItemLemmas.{front-shorter, items-step, nothing}
+use Rattle.rustc_literal_escaper.proofs.ItemLemmas.{items-step, nothing}
 use Rattle.rustc_literal_escaper.proofs.SkipLemmas.{first-item, first-plain}
 use Rattle.rustc_literal_escaper.proofs.check.check_escaped.Goals as goal
 
@@ -45,7 +45,7 @@ items-preserved-in-Some-line_at g c = (
   λ last calls. c.items.invariant.3 last
       (subst (λ (es : List Error). FoldsTo (λ f error h. goal.F-step g f error.0 error.1 tt h) c.items.callback es last) (c.past_simple_front-front.ensures.same c.args.mode c.args.total)
       (folds-errors (λ f error h. goal.F-step g f error.0 error.1 tt h) c.args.mode c.items.callback c.check_warnings-left.new.callback last _ _ _
-      (items-step front front-shorter c.args.total c.past_simple_front-front.result.now c.in-Some.tail.now c.check_warnings-left.result.now c.in-Some.c _ c.past_simple_front-front.ensures.text c.in-Some.ensures.0
+      (items-step false c.args.total c.past_simple_front-front.result.now c.in-Some.tail.now c.check_warnings-left.result.now c.in-Some.c _ c.past_simple_front-front.ensures.text c.in-Some.ensures.0
       (ap (λ (f : Front). map (item_at c.args.total (c.args.total - length c.past_simple_front-front.result.now)) f.told) (sym c.in-Some-line_at.ensures.0))
       (c.check_warnings-left.ensures.left ∙ ap (λ (f : Front). f.left) (sym c.in-Some-line_at.ensures.0)))
       c.check_warnings-left.ensures.calls calls)),

@@ -3,7 +3,7 @@ use Rattle.std.specs.List.{FoldsTo}
 use Rattle.std.specs.Str.{chars}
 use Rattle.rustc_literal_escaper.specs.declared.element.Element.TheVariants.{Byte}
 use Rattle.rustc_literal_escaper.specs.Elements.{Front, Item, front, front_by, item_at, items_from, StartsWithOne}
-use Rattle.rustc_literal_escaper.proofs.ItemLemmas.{front-shorter, items-step, nothing}
+use Rattle.rustc_literal_escaper.proofs.ItemLemmas.{items-step, nothing}
 use Rattle.rustc_literal_escaper.proofs.RunLemmas.{folds-append, run-items}
 use Rattle.rustc_literal_escaper.proofs.SimpleLemmas.{simple-all-fine}
 use Rattle.rustc_literal_escaper.proofs.SkipLemmas.{first-item, first-plain}
@@ -49,7 +49,7 @@ items-preserved-in-Some-line_at g c = (
   (let a = c.in-Some-line_at.ensures.1 in let b = c.in-Some.ensures.1 in let d = c.each_warning-left.ensures.shorter in let m = c.items.invariant.2 in omega arith),
   λ last calls. c.items.invariant.3 last
       (subst (λ (is : List Item). FoldsTo (λ f item h. goal.F-step g f item.0 (g.M.Meaning.meaning item.1) tt h) c.items.callback is last)
-      (sym (items-step front front-shorter c.args.total c.items.left.now c.in-Some.tail.now c.each_warning-left.result.now c.in-Some.c _ c.items.invariant.0 c.in-Some.ensures.0
+      (sym (items-step false c.args.total c.items.left.now c.in-Some.tail.now c.each_warning-left.result.now c.in-Some.c _ c.items.invariant.0 c.in-Some.ensures.0
       (ap (λ (f : Front). map (item_at c.args.total (c.args.total - length c.items.left.now)) f.told) (sym c.in-Some-line_at.ensures.0))
       (c.each_warning-left.ensures.left ∙ ap (λ (f : Front). f.left) (sym c.in-Some-line_at.ensures.0))))
       (folds-append (λ f item h. goal.F-step g f item.0 (g.M.Meaning.meaning item.1) tt h) c.items.callback c.each_warning-left.new.callback last _ _ c.each_warning-left.ensures.calls calls)),
