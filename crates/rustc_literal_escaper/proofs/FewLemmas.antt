@@ -1,21 +1,14 @@
 -- There are no more elements between quotes than bytes, and no more errors than elements.
-use Rattle.std.proofs.Common.{ℕ, zero, suc, ◌+◌, ◌≤◌, ◌==◌, Bool, true, false, List, [], ◌∷◌, length, map, Option, Some, None, ap, arith, length-append}
-use Rattle.std.specs.Char.{is_whitespace}
-use Rattle.std.specs.List.{list_any}
+use Rattle.std.proofs.Common.{ℕ, zero, suc, ◌≤◌, Bool, List, [], ◌∷◌, length, map, Option, Some, None, ap, arith, length-append}
 use Rattle.std.specs.Option.{option_to_list}
-use Rattle.std.specs.Str.{byte, chars, IsUtf8}
+use Rattle.std.specs.Str.{chars, IsUtf8}
 use Rattle.std.specs.declared.ops.Range.{Range}
 use Rattle.std.proofs.lemmas.List.{length-map}
 use Rattle.std.proofs.lemmas.Str.{encodes-chars, length-le-encodes}
-use Rattle.rustc_literal_escaper.specs.declared.element.Element.{Element}
-use Rattle.rustc_literal_escaper.specs.declared.element.Element.TheVariants.{Fault}
 use Rattle.rustc_literal_escaper.specs.declared.error.EscapeError.{EscapeError}
-use Rattle.rustc_literal_escaper.specs.declared.error.EscapeError.TheVariants.{MultipleSkippedLinesWarning, UnskippedWhitespaceWarning}
 use Rattle.rustc_literal_escaper.specs.declared.mode.Mode.{Mode}
-use Rattle.rustc_literal_escaper.specs.Elements.{Front, Item, front, front_by, raw_front, is_newline, is_passed_over, item_at, items_from, items_in, items_of, line_end, more_lines, more_space, one, past_backslash, place, unescaped}
+use Rattle.rustc_literal_escaper.specs.Elements.{Front, Item, front_by, item_at, items_from, items_in, items_of, place}
 use Rattle.rustc_literal_escaper.specs.Errors.{Error, error_of, errors_in, put}
-use Rattle.rustc_literal_escaper.specs.Escape.{escape}
-use Rattle.rustc_literal_escaper.specs.Runs.{front_run, past_run}
 use Rattle.rustc_literal_escaper.proofs.ItemLemmas.{front_by-ends}
 
 -- each step takes as many characters as it tells elements, at least

@@ -4,7 +4,7 @@ use Rattle.std.specs.Char.{encode_utf8, is_ascii, is_whitespace}
 use Rattle.std.specs.List.{list_all, list_any}
 use Rattle.std.specs.Str.{byte, chars, encode_utf8_all, IsUtf8}
 use Rattle.std.specs.declared.ops.Range.{Range}
-use Rattle.std.proofs.lemmas.Bool.{eqb-true}
+use Rattle.std.proofs.lemmas.Bool.{cond_both, eqb-true}
 use Rattle.std.proofs.lemmas.Bool.Decides.{nat_tests}
 use Rattle.std.proofs.lemmas.List.Elements.{filter-append}
 use Rattle.std.proofs.lemmas.Str.{encode_ascii, encodes-append, encodes-chars, encodes-IsAscii}
@@ -16,7 +16,6 @@ use Rattle.rustc_literal_escaper.specs.Escape.{escape}
 use Rattle.rustc_literal_escaper.specs.Rebuilt.{AreLineEnds, IsMadeOf, IsRebuilt, is_unit, places_of}
 use Rattle.rustc_literal_escaper.specs.Runs.{front_run, past_run}
 use Rattle.rustc_literal_escaper.proofs.ItemLemmas.{Ends, IsRead, Tells, all, either, escape-read, past, past_run-ends}
-use Rattle.rustc_literal_escaper.proofs.RoundTripLemmas.{pick}
 use Rattle.rustc_literal_escaper.proofs.WrittenLemmas.{is-ascii}
 
 -- ---- what is no warning
@@ -39,7 +38,7 @@ run-cut p (c ∷ s) = by_test (p c) (run-cut p s)
 
 run-all : (p : ℕ → Bool) (s : List ℕ) → list_all p (front_run p s) ≡ true
 run-all p [] = refl
-run-all p (c ∷ s) = pick (λ (xs : List ℕ). list_all p xs ≡ true) (p c) (c ∷ front_run p s) [] (λ e. rw e (run-all p s)) (λ e. refl)
+run-all p (c ∷ s) = cond_both (p c) (c ∷ front_run p s) [] (λ (xs : List ℕ). list_all p xs ≡ true) (λ e. rw e (run-all p s)) (λ e. refl)
 
 space-ascii : (s : List ℕ) → list_all is_passed_over s ≡ true → list_all is_ascii s ≡ true
 space-ascii [] e = refl
@@ -172,13 +171,13 @@ module _ (total count : ℕ) where
 
   slash-made : (c : ℕ) (s : List ℕ) → c ≡ 92 → length (encode_utf8_all (c ∷ s)) ≤ total → RestIsMade false s → IsMadeAt false total count c s (past_backslash s)
   slash-made c [] e fits rest = one-made false total count c [] (escape []) (refl, all []) fits (rest [] (all []))
-  slash-made c (d ∷ t) e fits rest = pick (IsMadeAt false total count c (d ∷ t)) (is_newline d) (line_end t) (one (escape (d ∷ t)))
+  slash-made c (d ∷ t) e fits rest = cond_both (is_newline d) (line_end t) (one (escape (d ∷ t))) (IsMadeAt false total count c (d ∷ t))
       (λ n. line_end-made c d t e (eqb-true d 10 n) fits rest)
       (λ n. one-made false total count c (d ∷ t) (escape (d ∷ t)) (escape-read (d ∷ t)) fits (rest (escape (d ∷ t)).1 (escape-read (d ∷ t)).1))
 
   front-made : (c : ℕ) (s : List ℕ) → length (encode_utf8_all (c ∷ s)) ≤ total → RestIsMade false s → IsMadeAt false total count c s (front c s)
   unfolding front
-  front-made c s fits rest = pick (IsMadeAt false total count c s) (c == byte "\\") (past_backslash s) (one (unescaped c, s))
+  front-made c s fits rest = cond_both (c == byte "\\") (past_backslash s) (one (unescaped c, s)) (IsMadeAt false total count c s)
       (λ e. slash-made c s (eqb-true c 92 e) fits rest) (λ e. one-made false total count c s (unescaped c, s) (unescaped-tells c, all s) fits (rest s (all s)))
 
   step-made : (raw : Bool) (c : ℕ) (s : List ℕ) → length (encode_utf8_all (c ∷ s)) ≤ total → RestIsMade raw s → IsMadeAt raw total count c s (front_by raw c s)

@@ -1,215 +1,156 @@
--- Escaping and then unescaping.
-use Rattle.std.proofs.Common.{◌≡◌, ℕ, ◌+◌, ◌*◌, ◌/◌, ◌%◌, ◌<◌, ◌==◌, ◌&&◌, ◌||◌, Bool, true, false, true≢false, cond, if◌then◌else◌, List, [], ◌∷◌, ◌++◌, length, map, fold, filter, Result, Ok, Err, nat_lt, nat_le, refl, sym, ap, subst, ◌∙◌, inl, inr, arith}
-use Rattle.std.specs.Char.{digit_char, digit_value, IsScalar}
-use Rattle.std.specs.Char.Escape.{escape_default, escape_or, escape_unicode, hex_digit_at}
+-- What is written of a character or a byte is one element that stands for it.
+use Rattle.std.proofs.Common.{◌≡◌, ℕ, ◌+◌, ◌*◌, ◌/◌, ◌%◌, ◌<◌, ◌≤◌, ◌==◌, ◌&&◌, true, false, cond, List, [], ◌∷◌, ◌++◌, append_assoc, length, map, fold, Result, Ok, refl, sym, ap, subst, ◌∙◌, inl, inr, arith, nat_lt}
+use Rattle.std.specs.Char.{digit_char, digit_value, is_ascii, IsScalar}
+use Rattle.std.specs.Char.Escape.{escape_ascii, escape_default, escape_or, escape_unicode, hex_digit_at}
 use Rattle.std.specs.List.{list_all}
-use Rattle.std.proofs.lemmas.Bool.{and_parts, cases_Bool, eqb-true, lt-ltb, ltb-true, ne_eqb}
+use Rattle.std.proofs.lemmas.Bool.{agree_below_at, cases_Bool, cond-false, cond-true, cond_both, eqb-true, le-leb, lt-ltb, ltb-false, ltb-true}
 use Rattle.std.proofs.lemmas.Bool.Decides.{nat_tests}
+use Rattle.std.proofs.lemmas.List.{append-nil}
 use Rattle.std.proofs.Math.Nat.{div-one}
 use Rattle.std.proofs.lemmas.Str.{digit_value-digit_char}
-use Rattle.std.proofs.Math.Bool.{or-true}
 use Rattle.rustc_literal_escaper.specs.declared.element.Element.{Element}
-use Rattle.rustc_literal_escaper.specs.declared.element.Element.TheVariants.{Byte, Unicode, Fault}
+use Rattle.rustc_literal_escaper.specs.declared.element.Element.TheVariants.{Byte, Plain, Unicode}
 use Rattle.rustc_literal_escaper.specs.declared.error.EscapeError.{EscapeError}
-use Rattle.rustc_literal_escaper.specs.declared.error.EscapeError.TheVariants.{InvalidCharInHexEscape, LoneSurrogateUnicodeEscape, OutOfRangeUnicodeEscape, OverlongUnicodeEscape}
-use Rattle.rustc_literal_escaper.specs.Escape.{braced, closed, closed_at_run, hex, hex_value, is_digit_or_underscore, is_hex, number}
+use Rattle.rustc_literal_escaper.specs.Elements.{front, one, StartsWithOne}
+use Rattle.rustc_literal_escaper.specs.Escape.{braced, escape, hex, is_hex}
 use Rattle.rustc_literal_escaper.specs.Meaning.{char_of, scalar_of}
 use Rattle.rustc_literal_escaper.specs.RoundTrip.{CharComesBack}
-use Rattle.rustc_literal_escaper.specs.Runs.{front_run, past_run}
-use Rattle.rustc_literal_escaper.specs.Single.{alone, char_literal}
-use Rattle.rustc_literal_escaper.proofs.PlaceLemmas.{front_run-yes, past_run-yes}
+use Rattle.rustc_literal_escaper.specs.Single.{StartsWithSingle}
+use Rattle.rustc_literal_escaper.proofs.DigitLemmas.{left_at, left_at-brace, left_at-digit, left_at-start, with_digit}
+use Rattle.rustc_literal_escaper.proofs.PlainLemmas.{front_by-plain}
+use Rattle.rustc_literal_escaper.proofs.SingleLemmas.{literal-one}
 
-pub by_eq : (P : ℕ → Type 0) (c k : ℕ) → P k → ((c == k) ≡ false → P c) → P c
-by_eq P c k same other = elim (cases_Bool (c == k)) [ inl e ↦ subst P (sym (eqb-true c k e)) same | inr e ↦ other e ]
+-- ---- the last hexadecimal digit of a number
 
-pub pick : {A : Type 0} (P : A → Type 0) (b : Bool) (x y : A) → (b ≡ true → P x) → (b ≡ false → P y) → P (cond b x y)
-pick P true x y p q = p refl
-pick P false x y p q = q refl
+digit-value : (q : ℕ) → digit_value (digit_char (q % 16)) ≡ q % 16
+digit-value q = digit_value-digit_char (q % 16) (omega arith)
 
--- ---- digits
+digit-hex : (q : ℕ) → is_hex (digit_char (q % 16)) ≡ true
+digit-hex q = agree_below_at (λ d. is_hex (digit_char d)) (λ d. true) 16 (q % 16) refl (omega arith)
 
-hex-digit : (n : ℕ) → n < 16 → is_hex (digit_char n) ≡ true
-hex-digit n l = ap (λ v. nat_lt v 16) (digit_value-digit_char n (omega arith)) ∙ lt-ltb n 16 l
+digit-ascii : (q : ℕ) → is_ascii (digit_char (q % 16)) ≡ true
+digit-ascii q = agree_below_at (λ d. is_ascii (digit_char d)) (λ d. true) 16 (q % 16) refl (omega arith)
 
--- the last hexadecimal digit of each number
-abbrev pub word : List ℕ → List ℕ
+-- those of some numbers
+abbrev word : List ℕ → List ℕ
 word qs = map (λ q. digit_char (q % 16)) qs
 
-pub last : (q : ℕ) → q % 16 < 16
-last q = omega arith
+word-ascii : (qs : List ℕ) → list_all is_ascii (word qs ++ 125 ∷ []) ≡ true
+word-ascii [] = refl
+word-ascii (q ∷ qs) = ap (λ b. b && list_all is_ascii (word qs ++ 125 ∷ [])) (digit-ascii q) ∙ word-ascii qs
 
-word-hex : (qs : List ℕ) → list_all is_hex (word qs) ≡ true
-word-hex [] = refl
-word-hex (q ∷ qs) = ap (λ b. b && list_all is_hex (word qs)) (hex-digit (q % 16) (last q)) ∙ word-hex qs
-
-abbrev pub value_past : ℕ → List ℕ → ℕ
+abbrev value_past : ℕ → List ℕ → ℕ
 value_past v qs = fold (λ value q. value * 16 + q % 16) v qs
 
-word-value : (v : ℕ) (qs : List ℕ) → fold (λ value digit. value * 16 + digit_value digit) v (word qs) ≡ value_past v qs
-word-value v [] = refl
-word-value v (q ∷ qs) =
-    let l = last q in
-    let e : digit_value (digit_char (q % 16)) ≡ q % 16 = digit_value-digit_char (q % 16) (omega arith) in
-    ap (λ (n : ℕ). fold (λ value digit. value * 16 + digit_value digit) (v * 16 + n) (word qs)) e ∙ word-value (v * 16 + q % 16) qs
-
-filter-all : (p : ℕ → Bool) (ds : List ℕ) → list_all p ds ≡ true → filter p ds ≡ ds
-filter-all p [] e = refl
-filter-all p (d ∷ ds) e = let q = and_parts (p d) (list_all p ds) e in rw q.0 (ap (λ xs. d ∷ xs) (filter-all p ds q.1))
-
-in_run : (d : ℕ) → is_hex d ≡ true → is_digit_or_underscore d ≡ true
-in_run d h = ap (λ b. (d == 95) || b) h ∙ or-true (d == 95)
-
--- before the closing brace and what follows it
-front_run-digits : (ds s : List ℕ) → list_all is_hex ds ≡ true → front_run is_digit_or_underscore (ds ++ 125 ∷ s) ≡ ds
-front_run-digits [] s e = refl
-front_run-digits (d ∷ ds) s e = let q = and_parts (is_hex d) (list_all is_hex ds) e in front_run-yes is_digit_or_underscore d (ds ++ 125 ∷ s) (in_run d q.0) ∙ ap (λ xs. d ∷ xs) (front_run-digits ds s q.1)
-
-past_run-digits : (ds s : List ℕ) → list_all is_hex ds ≡ true → past_run is_digit_or_underscore (ds ++ 125 ∷ s) ≡ 125 ∷ s
-past_run-digits [] s e = refl
-past_run-digits (d ∷ ds) s e = let q = and_parts (is_hex d) (list_all is_hex ds) e in past_run-yes is_digit_or_underscore d (ds ++ 125 ∷ s) (in_run d q.0) ∙ past_run-digits ds s q.1
-
-closed-digits : (ds s : List ℕ) → list_all is_hex ds ≡ true → nat_le (length ds) 6 ≡ true → closed_at_run (ds ++ 125 ∷ s) ≡ (Unicode (hex_value ds), s)
-closed-digits ds s e few =
-    ap (λ xs. closed xs (past_run is_digit_or_underscore (ds ++ 125 ∷ s))) (front_run-digits ds s e)
-    ∙ (ap (closed ds) (past_run-digits ds s e)
-    ∙ (ap (λ (xs : List ℕ). (number xs, s)) (filter-all is_hex ds e)
-    ∙ ap (λ (b : Bool). ((if b then Unicode (hex_value ds) else Fault OverlongUnicodeEscape), s)) few))
-
-not_hex : (d k : ℕ) → is_hex k ≡ false → is_hex d ≡ true → (d == k) ≡ false
-not_hex d k none some = ne_eqb d k (λ e. true≢false (sym some ∙ (ap is_hex e ∙ none)))
-
-braced-digits : (d : ℕ) (ds s : List ℕ) → list_all is_hex (d ∷ ds) ≡ true → nat_le (length (d ∷ ds)) 6 ≡ true → braced (d ∷ (ds ++ 125 ∷ s)) ≡ (Unicode (hex_value (d ∷ ds)), s)
-braced-digits d ds s e few =
-    let h : is_hex d ≡ true = (and_parts (is_hex d) (list_all is_hex ds) e).0 in
-    choose (d == 95) (d == 125) (is_hex d) _ _ _ _ (not_hex d 95 refl h) (not_hex d 125 refl h) h ∙ closed-digits (d ∷ ds) s e few
+word-left : (v n : ℕ) (qs s : List ℕ) → n + length qs ≤ 6 → left_at v n (word qs ++ 125 ∷ s) ≡ (Unicode (value_past v qs), s)
+word-left v n [] s few = left_at-brace v n 125 s refl ∙ rw (le-leb n 6 (omega arith)) refl
+word-left v n (q ∷ qs) s few =
+    left_at-digit v n (digit_char (q % 16)) (word qs ++ 125 ∷ s) (digit-hex q)
+    ∙ (ap (λ (k : ℕ). left_at k (n + 1) (word qs ++ 125 ∷ s)) value ∙ word-left (v * 16 + q % 16) (n + 1) qs s (omega arith))
   where
-    choose : (a b c : Bool) (x y z w : Element × List ℕ) → a ≡ false → b ≡ false → c ≡ true → (if a then x else if b then y else if c then z else w) ≡ z
-    choose false false true x y z w p q r = refl
-    choose true b c x y z w p q r = absurd (true≢false p)
-    choose false true c x y z w p q r = absurd (true≢false q)
-    choose false false false x y z w p q r = absurd (true≢false (sym r))
+    value : with_digit v n (digit_value (digit_char (q % 16))) ≡ v * 16 + q % 16
+    value = rw (lt-ltb n 6 (omega arith)) (ap (λ (d : ℕ). v * 16 + d) (digit-value q))
 
--- ---- the number of a character
-
-low : (c : ℕ) → nat_le 57344 c ≡ true → nat_lt c 57344 ≡ false
-low c e = grind (arith, nat_tests)
-
-pub scalar-is : (c : ℕ) → IsScalar c → scalar_of c ≡ Ok c
-scalar-is c e = by_test (nat_lt c 0xD800) (nat_le 57344 c) (nat_lt c 0xE000) (nat_lt c 0x11_0000) e (low c)
+-- between braces they are one number
+word-read : (q : ℕ) (qs s : List ℕ) → length qs ≤ 5 → braced (word (q ∷ qs) ++ 125 ∷ s) ≡ (Unicode (value_past 0 (q ∷ qs)), s)
+word-read q qs s few =
+    cond-false _ _ _ (not 95 refl) ∙ (cond-false _ _ _ (not 125 refl) ∙ (cond-true (is_hex (digit_char (q % 16))) _ _ (digit-hex q)
+    ∙ (sym (left_at-start (word (q ∷ qs) ++ 125 ∷ s)) ∙ word-left 0 0 (q ∷ qs) s (omega arith))))
   where
-    by_test : (a b d f : Bool) → cond a true (b && f) ≡ true → (b ≡ true → d ≡ false) → ◌≡◌ {A = Result ℕ EscapeError} (if a then Ok c else if d then Err LoneSurrogateUnicodeEscape else if f then Ok c else Err OutOfRangeUnicodeEscape) (Ok c)
-    by_test true b d f h g = refl
-    by_test false b d f h g =
-        let p = and_parts b f h in
-        rw (g p.0) (rw p.1 refl)
+    not : (k : ℕ) → is_hex k ≡ false → (digit_char (q % 16) == k) ≡ false
+    not k none = grind (arith, nat_tests, digit-hex q)
 
--- a number that is written with its digits between braces
-abbrev pub braces : List ℕ → List ℕ
-braces qs = 92 ∷ 117 ∷ 123 ∷ (word qs ++ 125 ∷ [])
+-- ---- one element
 
--- what the braces hold is that number
-pub word-read : (c q : ℕ) (qs s : List ℕ) → nat_le (length (word (q ∷ qs))) 6 ≡ true → value_past 0 (q ∷ qs) ≡ c → braced (word (q ∷ qs) ++ 125 ∷ s) ≡ (Unicode c, s)
-word-read c q qs s few value =
-    braced-digits (digit_char (q % 16)) (word qs) s (word-hex (q ∷ qs)) few ∙ ap (λ (n : ℕ). (Unicode n, s)) (word-value 0 (q ∷ qs) ∙ value)
+-- all of it is ASCII, and whatever follows it, it is an element that stands for `unit`
+pub record IsSpelled {U : Type 0} (meaning : Element → Result U EscapeError) (unit : U) (xs : List ℕ) : Type 0 where
+  pub element : Element
+  pub means : meaning element ≡ Ok unit
+  pub ascii : list_all is_ascii xs ≡ true
+  pub double : (s : List ℕ) → StartsWithOne false (xs ++ s) element s
+  pub alone : (s : List ℕ) → StartsWithSingle (xs ++ s) element s
 
-unicode-word : (c q : ℕ) (qs : List ℕ) → IsScalar c → nat_le (length (word (q ∷ qs))) 6 ≡ true → value_past 0 (q ∷ qs) ≡ c → char_literal (braces (q ∷ qs)) ≡ Ok c
-unicode-word c q qs is few value =
-    ap (λ (r : Element × List ℕ). alone (char_of r.0) r.1) (word-read c q qs [] few value) ∙ ap (λ (r : Result ℕ EscapeError). alone r []) (scalar-is c is)
+module _ {U : Type 0} (meaning : Element → Result U EscapeError) where
+  escaped : (e : Element) (unit : U) (x : ℕ) (t : List ℕ) → meaning e ≡ Ok unit → list_all is_ascii (x ∷ t) ≡ true → (x == 10) ≡ false
+      → ((s : List ℕ) → escape (x ∷ (t ++ s)) ≡ (e, s)) → IsSpelled meaning unit (92 ∷ x ∷ t)
+  unfolding front
+  escaped e unit x t m ascii line read = record {
+    element = e;
+    means = m;
+    ascii = ascii;
+    double = λ s. rw line (ap one (read s));
+    alone = λ s. sym (read s);
+  }
 
--- ---- the digits of a number, from the first on
+  -- a short escape, the character itself, or another
+  or-spelled : (unit : ℕ → U) (c : ℕ) (xs : List ℕ) → (c < 127 → meaning (Byte c) ≡ Ok (unit c)) → (c < 127 → meaning (Plain c) ≡ Ok (unit c))
+      → IsSpelled meaning (unit c) xs → IsSpelled meaning (unit c) (escape_or c xs)
+  or-spelled unit c xs byte plain other =
+      by_eq P c 9 (λ m. escaped (Byte 9) (unit 9) 116 [] (m (omega arith)) refl refl (λ s. refl)) (λ a.
+      by_eq P c 13 (λ m. escaped (Byte 13) (unit 13) 114 [] (m (omega arith)) refl refl (λ s. refl)) (λ b.
+      by_eq P c 10 (λ m. escaped (Byte 10) (unit 10) 110 [] (m (omega arith)) refl refl (λ s. refl)) (λ d.
+      by_eq P c 39 (λ m. escaped (Byte 39) (unit 39) 39 [] (m (omega arith)) refl refl (λ s. refl)) (λ e.
+      by_eq P c 34 (λ m. escaped (Byte 34) (unit 34) 34 [] (m (omega arith)) refl refl (λ s. refl)) (λ f.
+      by_eq P c 92 (λ m. escaped (Byte 92) (unit 92) 92 [] (m (omega arith)) refl refl (λ s. refl)) (λ g m.
+      rw (a, b, d, e, f, g) (cond_both (nat_lt c 32) _ _ Spelled (λ h. other) (λ h. cond_both (nat_lt c 127) _ _ Spelled (λ l. record {
+        element = Plain c;
+        means = plain (ltb-true c 127 l);
+        ascii = rw (lt-ltb c 128 (let i = ltb-true c 127 l in omega arith)) refl;
+        double = λ s. front_by-plain false c s (rw (g, f, b) refl);
+        alone = λ s. rw (g, d, a, e, b) refl;
+      }) (λ l. other))))))))) byte
+    where
+      Spelled : List ℕ → Type 0
+      Spelled = IsSpelled meaning (unit c)
 
-at1 : (c v : ℕ) → v ≡ c / 0x10 → v * 16 + c / 1 % 16 ≡ c
-at1 c v e = let d : c / 1 ≡ c = div-one c in rw (e, d) (omega arith)
+      P : ℕ → Type 0
+      P n = (n < 127 → meaning (Byte n) ≡ Ok (unit n)) → IsSpelled meaning (unit n) (escape_or n xs)
 
-at2 : (c v : ℕ) → v ≡ c / 0x100 → v * 16 + c / 0x10 % 16 ≡ c / 0x10
-at2 c v e = rw e (omega arith)
+      by_eq : (Q : ℕ → Type 0) (c k : ℕ) → Q k → ((c == k) ≡ false → Q c) → Q c
+      by_eq Q c k same other = elim (cases_Bool (c == k)) [ inl e ↦ subst Q (sym (eqb-true c k e)) same | inr e ↦ other e ]
 
-at3 : (c v : ℕ) → v ≡ c / 0x1000 → v * 16 + c / 0x100 % 16 ≡ c / 0x100
-at3 c v e = rw e (omega arith)
+  pub byte-spelled : (unit : ℕ → U) (b : ℕ) → b < 256 → meaning (Byte b) ≡ Ok (unit b) → (b < 127 → meaning (Plain b) ≡ Ok (unit b)) → IsSpelled meaning (unit b) (escape_ascii b)
+  byte-spelled unit b small byte plain = or-spelled unit b _ (λ l. byte) plain
+      (escaped (Byte b) (unit b) 120 (hex_digit_at 0x10 b ∷ hex_digit_at 1 b ∷ []) byte (rw (digit-ascii (b / 0x10), digit-ascii (b / 1)) refl) refl read)
+    where
+      value : b / 0x10 % 16 * 16 + b / 1 % 16 ≡ b
+      value = rw div-one (omega arith)
 
-at4 : (c v : ℕ) → v ≡ c / 0x1_0000 → v * 16 + c / 0x1000 % 16 ≡ c / 0x1000
-at4 c v e = rw e (omega arith)
-
-at5 : (c v : ℕ) → v ≡ c / 0x10_0000 → v * 16 + c / 0x1_0000 % 16 ≡ c / 0x1_0000
-at5 c v e = rw e (omega arith)
-
-first1 : (c : ℕ) → c < 0x10 → 0 * 16 + c / 1 % 16 ≡ c
-first1 c l = let d : c / 1 ≡ c = div-one c in rw d (omega arith)
-
-first2 : (c : ℕ) → c < 0x100 → 0 * 16 + c / 0x10 % 16 ≡ c / 0x10
-first2 c l = omega arith
-
-first3 : (c : ℕ) → c < 0x1000 → 0 * 16 + c / 0x100 % 16 ≡ c / 0x100
-first3 c l = omega arith
-
-first4 : (c : ℕ) → c < 0x1_0000 → 0 * 16 + c / 0x1000 % 16 ≡ c / 0x1000
-first4 c l = omega arith
-
-first5 : (c : ℕ) → c < 0x10_0000 → 0 * 16 + c / 0x1_0000 % 16 ≡ c / 0x1_0000
-first5 c l = omega arith
-
-first6 : (c : ℕ) → c < 0x100_0000 → 0 * 16 + c / 0x10_0000 % 16 ≡ c / 0x10_0000
-first6 c l = omega arith
+      read : (s : List ℕ) → hex (hex_digit_at 0x10 b ∷ hex_digit_at 1 b ∷ s) ≡ (Byte b, s)
+      read s = rw (digit-hex (b / 0x10), digit-hex (b / 1), digit-value (b / 0x10), digit-value (b / 1), value) refl
 
 scalar-small : (c : ℕ) → IsScalar c → c < 0x100_0000
-scalar-small c e = by_test (nat_lt c 0xD800) (nat_le 57344 c) (nat_lt c 0x11_0000) e (ltb-true c 0xD800) (ltb-true c 0x11_0000)
-  where
-    by_test : (a b f : Bool) → cond a true (b && f) ≡ true → (a ≡ true → c < 0xD800) → (f ≡ true → c < 0x11_0000) → c < 0x100_0000
-    by_test true b f h x y = let l = x refl in omega arith
-    by_test false b f h x y = let l = y (and_parts b f h).1 in omega arith
+scalar-small c is = grind (arith, nat_tests)
 
--- what holds of a number of up to six digits that make `c`, holds of what is written of `c`
-pub unicode-by : (P : List ℕ → Type 0) (c : ℕ) → IsScalar c → ((q : ℕ) (qs : List ℕ) → nat_le (length (word (q ∷ qs))) 6 ≡ true → value_past 0 (q ∷ qs) ≡ c → P (braces (q ∷ qs))) → P (escape_unicode c)
-unicode-by P c is holds =
+scalar-is : (c : ℕ) → IsScalar c → scalar_of c ≡ Ok c
+scalar-is c is = grind (arith, nat_tests)
+
+unicode-spelled : (c : ℕ) → IsScalar c → IsSpelled char_of c (escape_unicode c)
+unicode-spelled c is =
     let q1 : List ℕ = c / 1 ∷ [] in
     let q2 : List ℕ = c / 0x10 ∷ q1 in
     let q3 : List ℕ = c / 0x100 ∷ q2 in
     let q4 : List ℕ = c / 0x1000 ∷ q3 in
     let q5 : List ℕ = c / 0x1_0000 ∷ q4 in
-    let q6 : List ℕ = c / 0x10_0000 ∷ q5 in
-    let from5 : List ℕ = cond (nat_lt c 0x10_0000) (braces q5) (braces q6) in
-    let from4 : List ℕ = cond (nat_lt c 0x1_0000) (braces q4) from5 in
-    let from3 : List ℕ = cond (nat_lt c 0x1000) (braces q3) from4 in
-    let from2 : List ℕ = cond (nat_lt c 0x100) (braces q2) from3 in
-    let p6 : P (braces q6) = holds (c / 0x10_0000) q5 refl (at1 c _ (at2 c _ (at3 c _ (at4 c _ (at5 c _ (first6 c (scalar-small c is))))))) in
-    let p5 : P from5 = pick P (nat_lt c 0x10_0000) (braces q5) (braces q6) (λ e. holds (c / 0x1_0000) q4 refl (at1 c _ (at2 c _ (at3 c _ (at4 c _ (first5 c (ltb-true c 0x10_0000 e))))))) (λ e. p6) in
-    let p4 : P from4 = pick P (nat_lt c 0x1_0000) (braces q4) from5 (λ e. holds (c / 0x1000) q3 refl (at1 c _ (at2 c _ (at3 c _ (first4 c (ltb-true c 0x1_0000 e)))))) (λ e. p5) in
-    let p3 : P from3 = pick P (nat_lt c 0x1000) (braces q3) from4 (λ e. holds (c / 0x100) q2 refl (at1 c _ (at2 c _ (first3 c (ltb-true c 0x1000 e))))) (λ e. p4) in
-    let p2 : P from2 = pick P (nat_lt c 0x100) (braces q2) from3 (λ e. holds (c / 0x10) q1 refl (at1 c _ (first2 c (ltb-true c 0x100 e)))) (λ e. p3) in
-    pick P (nat_lt c 0x10) (braces q1) from2 (λ e. holds (c / 1) [] refl (first1 c (ltb-true c 0x10 e))) (λ e. p2)
+    let one : c / 1 ≡ c = div-one c in
+    below 0x10 (λ l. made (c / 1) [] (omega arith) (rw one (omega arith))) (λ _.
+    below 0x100 (λ l. made (c / 0x10) q1 (omega arith) (rw one (omega arith))) (λ _.
+    below 0x1000 (λ l. made (c / 0x100) q2 (omega arith) (rw one (omega arith))) (λ _.
+    below 0x1_0000 (λ l. made (c / 0x1000) q3 (omega arith) (rw one (omega arith))) (λ _.
+    below 0x10_0000 (λ l. made (c / 0x1_0000) q4 (omega arith) (rw one (omega arith))) (λ _.
+    let l = scalar-small c is in made (c / 0x10_0000) q5 (omega arith) (rw one (omega arith)))))))
+  where
+    below : (k : ℕ) {x y : List ℕ} → (c < k → IsSpelled char_of c x) → (k ≤ c → IsSpelled char_of c y) → IsSpelled char_of c (cond (nat_lt c k) x y)
+    below k {x} {y} p q = cond_both (nat_lt c k) x y (IsSpelled char_of c) (λ e. p (ltb-true c k e)) (λ e. q (ltb-false c k e))
 
-unicode-back : (c : ℕ) → IsScalar c → char_literal (escape_unicode c) ≡ Ok c
-unicode-back c is = unicode-by (λ xs. char_literal xs ≡ Ok c) c is (λ q qs. unicode-word c q qs is)
+    made : (q : ℕ) (qs : List ℕ) → length qs ≤ 5 → value_past 0 (q ∷ qs) ≡ c → IsSpelled char_of c (92 ∷ 117 ∷ 123 ∷ (word (q ∷ qs) ++ 125 ∷ []))
+    made q qs few value = escaped char_of (Unicode c) c 117 (123 ∷ (word (q ∷ qs) ++ 125 ∷ [])) (scalar-is c is) (word-ascii (q ∷ qs)) refl
+        (λ s. ap braced (append_assoc (word (q ∷ qs)) (125 ∷ []) s) ∙ (word-read q qs s few ∙ ap (λ (n : ℕ). (Unicode n, s)) value))
 
--- ---- characters and bytes that are written as they are
-
-pub plain-back : (P : List ℕ → Type 0) (c : ℕ) (xs : List ℕ) → (c == 9) ≡ false → (c == 13) ≡ false → (c == 10) ≡ false → (c == 39) ≡ false → (c == 34) ≡ false → (c == 92) ≡ false
-    → P xs → (nat_lt c 127 ≡ true → P (c ∷ [])) → P (escape_or c xs)
-plain-back P c xs a b d e f g other plain = rw (a, b, d, e, f, g) (pick P (nat_lt c 32) _ _ (λ h. other) (λ h. pick P (nat_lt c 127) _ _ plain (λ i. other)))
-
-char-plain : (c : ℕ) → (c == 9) ≡ false → (c == 13) ≡ false → (c == 10) ≡ false → (c == 39) ≡ false → (c == 92) ≡ false → char_literal (c ∷ []) ≡ Ok c
-char-plain c a b d e g = rw (g, d, a, e, b) refl
+pub char-spelled : (c : ℕ) → IsScalar c → IsSpelled char_of c (escape_default c)
+char-spelled c is = or-spelled char_of (λ n. n) c (escape_unicode c) (λ l. rw (lt-ltb c 128 (omega arith)) refl) (λ l. refl) (unicode-spelled c is)
 
 pub char_comes_back : CharComesBack
 char_comes_back c is =
-    let P : ℕ → Type 0 = λ n. char_literal (escape_default n) ≡ Ok n in
-    by_eq P c 9 refl (λ a. by_eq P c 13 refl (λ b. by_eq P c 10 refl (λ d. by_eq P c 39 refl (λ e. by_eq P c 34 refl (λ f. by_eq P c 92 refl (λ g.
-    plain-back (λ xs. char_literal xs ≡ Ok c) c (escape_unicode c) a b d e f g (unicode-back c is) (λ l. char-plain c a b d e g)))))))
-
-byte-value : (b : ℕ) → b < 256 → b / 0x10 % 16 * 16 + b / 1 % 16 ≡ b
-byte-value b l = let d : b / 1 ≡ b = div-one b in rw d (omega arith)
-
--- the two digits of a byte are that byte
-pub byte-read : (b : ℕ) (s : List ℕ) → b < 256 → hex (hex_digit_at 0x10 b ∷ hex_digit_at 1 b ∷ s) ≡ (Byte b, s)
-byte-read b s l =
-    let h = hex-digit (b / 0x10 % 16) (last (b / 0x10)) in
-    let k = hex-digit (b / 1 % 16) (last (b / 1)) in
-    let i = last (b / 0x10) in
-    let j = last (b / 1) in
-    let value : digit_value (digit_char (b / 0x10 % 16)) * 16 + digit_value (digit_char (b / 1 % 16)) ≡ b =
-    ap (λ (n : ℕ). n * 16 + digit_value (digit_char (b / 1 % 16))) (digit_value-digit_char (b / 0x10 % 16) (omega arith))
-    ∙ (ap (λ (n : ℕ). b / 0x10 % 16 * 16 + n) (digit_value-digit_char (b / 1 % 16) (omega arith)) ∙ byte-value b l) in
-    by_test (is_hex (digit_char (b / 0x10 % 16))) (is_hex (digit_char (b / 1 % 16))) _ h k ∙ ap (λ (n : ℕ). (Byte n, s)) value
-  where
-    by_test : (p q : Bool) (n : ℕ) → p ≡ true → q ≡ true → ◌≡◌ {A = Element × List ℕ} (if p then ((if q then Byte n else Fault InvalidCharInHexEscape), s) else (Fault InvalidCharInHexEscape, digit_char (b / 1 % 16) ∷ s)) (Byte n, s)
-    by_test p q n h k = rw (h, k) refl
+    let w = char-spelled c is in
+    sym (literal-one char_of (escape_default c) [] w.element c (subst (λ (xs : List ℕ). StartsWithSingle xs w.element []) (append-nil (escape_default c)) (w.alone [])) w.means refl)

@@ -1,8 +1,7 @@
 -- Texts and bytes, written so that they stand between double quotes.
-use Rattle.std.specs.Prelude.{◌≡◌, ℕ, true, false, List, ◌++◌, map, Result, Ok}
-use Rattle.std.specs.Char.{is_ascii}
+use Rattle.std.specs.Prelude.{◌≡◌, ℕ, false, List, ◌++◌, map, Result, Ok}
 use Rattle.std.specs.Char.Escape.{escape_ascii, escape_default}
-use Rattle.std.specs.List.{flat_map, list_all}
+use Rattle.std.specs.List.{flat_map}
 use Rattle.std.specs.Str.{chars}
 use Rattle.rustc_literal_escaper.specs.declared.element.Element.{Element}
 use Rattle.rustc_literal_escaper.specs.declared.error.EscapeError.{EscapeError}
@@ -20,8 +19,6 @@ written_bytes bytes = flat_map escape_ascii bytes
 abbrev pub StandsFor : {U : Type 0} → (Element → Result U EscapeError) → List ℕ → List U → Type 0
 StandsFor meaning text units = map (λ item. meaning item.1) (items_of false text) ≡ map Ok units
 
--- some bytes of ASCII were appended
-pub record Grows (old new : List ℕ) : Type 0 where
-  pub more : List ℕ
-  pub ascii : list_all is_ascii more ≡ true
-  pub grown : new ≡ old ++ more
+-- some bytes were appended
+abbrev pub Grows : List ℕ → List ℕ → Type 0
+Grows old new = (more : List ℕ) × (new ≡ old ++ more)

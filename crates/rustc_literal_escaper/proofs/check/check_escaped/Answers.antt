@@ -2,7 +2,7 @@ use Rattle.std.proofs.Common.{◌≡◌, ◌-◌, ◌∷◌, List, [], ℕ, fals
 use Rattle.std.specs.List.{FoldsTo}
 use Rattle.std.specs.Str.{chars}
 use Rattle.rustc_literal_escaper.specs.declared.element.Element.TheVariants.{Byte, Plain}
-use Rattle.rustc_literal_escaper.specs.Elements.{Front, Item, front, front_by, item_at, items_from, StartsWithOne}
+use Rattle.rustc_literal_escaper.specs.Elements.{Front, Item, front_by, item_at, items_from, StartsWithOne}
 use Rattle.rustc_literal_escaper.specs.Errors.{Error, errors_in}
 use Rattle.rustc_literal_escaper.proofs.ErrorLemmas.{folds-errors}
 use Rattle.rustc_literal_escaper.proofs.ItemLemmas.{items-step, nothing}

@@ -2,7 +2,7 @@ use Rattle.std.proofs.Common.{◌≡◌, ◌-◌, ◌∷◌, List, [], false, le
 use Rattle.std.specs.List.{FoldsTo}
 use Rattle.std.specs.Str.{chars}
 use Rattle.rustc_literal_escaper.specs.declared.element.Element.TheVariants.{Byte}
-use Rattle.rustc_literal_escaper.specs.Elements.{Front, Item, front, front_by, item_at, items_from, StartsWithOne}
+use Rattle.rustc_literal_escaper.specs.Elements.{Front, Item, front_by, item_at, items_from, StartsWithOne}
 use Rattle.rustc_literal_escaper.proofs.ItemLemmas.{items-step, nothing}
 use Rattle.rustc_literal_escaper.proofs.RunLemmas.{folds-append, run-items}
 use Rattle.rustc_literal_escaper.proofs.SimpleLemmas.{simple-all-fine}

@@ -1,8 +1,9 @@
 use Rattle.std.specs.Char.Escape.{escape_ascii}
 use Rattle.std.specs.Char.Iter.{escape_byte_rest}
+use Rattle.std.specs.Str.{encode_utf8_all}
 use Rattle.std.specs.String.{string_bytes}
 use Rattle.rustc_literal_escaper.proofs.WrittenLemmas.{Writing}
 use Rattle.rustc_literal_escaper.proofs.written.push_byte.Given as goal
 
 abbrev pub invariant-loop-part : goal.invariant-loop-part
-invariant-loop-part l = Writing (escape_ascii l.fn.byte) (string_bytes l.fn.out) (string_bytes l.out) (escape_byte_rest l.part-iterator)
+invariant-loop-part l = Writing (escape_ascii l.fn.byte) (string_bytes l.fn.out) (string_bytes l.out) (encode_utf8_all (escape_byte_rest l.part-iterator))
