@@ -1,9 +1,10 @@
 -- The digits between braces, one by one.
-use Rattle.std.proofs.Common.{◌≡◌, ℕ, zero, suc, zero-add, add-zero, ◌+◌, ◌*◌, ◌^◌, ◌<◌, ◌==◌, ◌||◌, Bool, true, false, if◌then◌else◌, List, [], ◌∷◌, length, fold, filter, refl, sym, ap, ◌∙◌, subst, arith, nat_le, nat_lt, min}
+use Rattle.std.proofs.Common.{◌≡◌, ℕ, suc, zero-add, add-zero, ◌+◌, ◌*◌, ◌^◌, ◌<◌, ◌≤◌, ◌==◌, ◌||◌, Bool, true, false, if◌then◌else◌, List, [], ◌∷◌, length, fold, filter, refl, sym, ap, ◌∙◌, subst, arith, nat_le, nat_lt, min}
 use Rattle.std.specs.Char.{digit_value}
 use Rattle.std.proofs.lemmas.Bool.{ne_eqb}
 use Rattle.std.proofs.lemmas.Bool.Decides.{nat_tests}
 use Rattle.std.proofs.Math.Bool.{or-true}
+use Rattle.std.proofs.Math.Nat.{pow-le-pow_right}
 use Rattle.rustc_literal_escaper.specs.declared.element.Element.{Element}
 use Rattle.rustc_literal_escaper.specs.declared.element.Element.TheVariants.{Unicode, Fault}
 use Rattle.rustc_literal_escaper.specs.declared.error.EscapeError.TheVariants.{InvalidCharInUnicodeEscape, UnclosedUnicodeEscape, OverlongUnicodeEscape}
@@ -12,13 +13,7 @@ use Rattle.rustc_literal_escaper.specs.Runs.{front_run, past_run}
 
 -- one more digit has room in 24 bits
 pub with_room : (v n : ℕ) → v < 16 ^ min n 6 → n < 6 → v < 16 ^ 5
-with_room v zero h l = omega arith
-with_room v (suc zero) h l = omega arith
-with_room v (suc (suc zero)) h l = omega arith
-with_room v (suc (suc (suc zero))) h l = omega arith
-with_room v (suc (suc (suc (suc zero)))) h l = omega arith
-with_room v (suc (suc (suc (suc (suc zero))))) h l = omega arith
-with_room v (suc (suc (suc (suc (suc (suc n)))))) h l = absurd (omega arith)
+with_room v n h l = let k : 16 ^ min n 6 ≤ 16 ^ 5 = pow-le-pow_right {n = 16} (omega arith) {i = min n 6} {j = 5} (omega arith) in omega arith
 
 abbrev pub with_digit : ℕ → ℕ → ℕ → ℕ
 with_digit v n d = if nat_lt n 6 then v * 16 + d else v

@@ -1,5 +1,5 @@
 -- The errors of a list of items, one item at a time.
-use Rattle.std.proofs.Common.{◌≡◌, Bool, false, if◌then◌else◌, ℕ, ◌-◌, length, List, [], ◌∷◌, ◌++◌, Option, Some, None, refl, sym, ap, subst, ◌∙◌}
+use Rattle.std.proofs.Common.{◌≡◌, Bool, false, if◌then◌else◌, ℕ, ◌-◌, length, List, [], ◌∷◌, ◌++◌, Option, Some, None, refl, sym, ap, ◌∙◌}
 use Rattle.std.specs.List.{FoldsTo}
 use Rattle.std.specs.Option.{option_to_list}
 use Rattle.std.specs.Str.{chars, IsUtf8}
@@ -12,7 +12,7 @@ use Rattle.rustc_literal_escaper.specs.declared.mode.Mode.{Mode}
 use Rattle.rustc_literal_escaper.specs.Elements.{Item, items_of}
 use Rattle.rustc_literal_escaper.specs.Errors.{Error, alone_error, error_of, errors_in, errors_of, is_raw, is_single, put, single_error}
 use Rattle.rustc_literal_escaper.specs.Single.{StartsWithSingle}
-use Rattle.rustc_literal_escaper.proofs.RunLemmas.{folds-append}
+use Rattle.rustc_literal_escaper.proofs.RunLemmas.{folds-on}
 
 -- what is wrong between single quotes, by the first element
 single_error-starts : (total : ℕ) (mode : Mode) (s left : List ℕ) (e : Element) → StartsWithSingle s e left → single_error total mode s ≡ alone_error total (error_of mode e) left
@@ -48,4 +48,4 @@ errors-append mode [] ys = refl
 errors-append mode (x ∷ xs) ys = ap (put x.0 (error_of mode x.1)) (errors-append mode xs ys) ∙ put-append x.0 (error_of mode x.1) (errors_in mode xs) (errors_in mode ys)
 
 pub folds-errors : {P : Type 0} (R : P → Error → P → Type 0) (mode : Mode) (p q r : P) (all told rest : List Item) → all ≡ told ++ rest → FoldsTo R p (errors_in mode told) q → FoldsTo R q (errors_in mode rest) r → FoldsTo R p (errors_in mode all) r
-folds-errors R mode p q r all told rest e f g = subst (λ (es : List Error). FoldsTo R p es r) (sym (ap (errors_in mode) e ∙ errors-append mode told rest)) (folds-append R p q r (errors_in mode told) (errors_in mode rest) f g)
+folds-errors R mode p q r all told rest e f g = folds-on R p q r (errors_in mode all) (errors_in mode told) (errors_in mode rest) (ap (errors_in mode) e ∙ errors-append mode told rest) f g

@@ -10,7 +10,7 @@ use Rattle.std.proofs.lemmas.Str.{encodes-chars}
 use Rattle.rustc_literal_escaper.specs.declared.element.Element.{Element}
 use Rattle.rustc_literal_escaper.specs.declared.element.Element.TheVariants.{Fault, Unicode}
 use Rattle.rustc_literal_escaper.specs.declared.error.EscapeError.TheVariants.{InvalidCharInUnicodeEscape, MultipleSkippedLinesWarning, OverlongUnicodeEscape, UnskippedWhitespaceWarning}
-use Rattle.rustc_literal_escaper.specs.Elements.{Front, Item, front, front_by, raw_element, raw_front, is_newline, item_at, items_from, items_in, line_end, more_lines, more_space, one, past_backslash, TakesFirst, place, unescaped, is_passed_over}
+use Rattle.rustc_literal_escaper.specs.Elements.{Front, Item, front, front_by, raw_element, raw_front, is_newline, item_at, items_from, items_in, line_end, more_lines, more_space, one, past_backslash, StartsWithOne, TakesFirst, place, unescaped, is_passed_over}
 use Rattle.rustc_literal_escaper.specs.Escape.{braced, closed, closed_at_run, escape, hex, hex_value, is_digit_or_underscore, is_hex, number, short, unicode}
 use Rattle.rustc_literal_escaper.specs.Rebuilt.{is_warning}
 use Rattle.rustc_literal_escaper.specs.Runs.{front_run, past_run}
@@ -145,6 +145,10 @@ front_by-ends false c s = either (EndsFront s) (c == byte "\\") (past_backslash 
 pub left-shorter : (raw : Bool) (c : ℕ) (s : List ℕ) → length (front_by raw c s).left ≤ length s
 left-shorter raw c s = shorter (front_by raw c s).left s (front_by-ends raw c s).left
 
+-- what is left of a text has its own length
+pub item-is : (total start : ℕ) (e : Element) (left : List ℕ) → IsUtf8 left → (record { start = start; end = total - length left }, e) ≡ item_at total start (e, chars left)
+item-is total start e left is = ap (λ (n : ℕ). (record { start = start; end = total - n }, e)) (sym (ap length (encodes-chars left is)))
+
 -- ---- so any number of steps that is large enough gives the same items
 
 module _ (raw : Bool) (total : ℕ) where
@@ -167,17 +171,36 @@ module _ (raw : Bool) (total : ℕ) where
   items-cons c s = let h : length (at c s).left ≤ length s = left-shorter raw c s in
       ap (λ (is : List Item). map (item_at total (place total (c ∷ s))) (at c s).told ++ is) (enough (length s) (length (at c s).left) (at c s).left (omega arith) (omega arith))
 
+  -- one element
+  pub items-one : (c : ℕ) (s left : List ℕ) (e : Element) → at c s ≡ one (e, left) → items_from at total (c ∷ s) ≡ item_at total (place total (c ∷ s)) (e, left) ∷ items_from at total left
+  items-one c s left e is = items-cons c s ∙ ap (λ (f : Front). map (item_at total (place total (c ∷ s))) f.told ++ items_from at total f.left) is
+
   -- one step over a text
-  pub items-step : (left tail past : List ℕ) (c : ℕ) (told : List Item) → IsUtf8 left → chars left ≡ c ∷ chars tail → told ≡ map (item_at total (total - length left)) (at c (chars tail)).told
-      → chars past ≡ (at c (chars tail)).left → items_from at total (chars left) ≡ told ++ items_from at total (chars past)
-  items-step left tail past c told is e t p =
-      ap (items_from at total) e ∙ (items-cons c (chars tail)
-      ∙ (ap (λ (start : ℕ). map (item_at total start) (at c (chars tail)).told ++ items_from at total (at c (chars tail)).left) here
-      ∙ (ap (λ (is : List Item). is ++ items_from at total (at c (chars tail)).left) (sym t)
-      ∙ ap (λ (xs : List ℕ). told ++ items_from at total xs) (sym p))))
+  pub items-step : (rest : List ℕ) (c : ℕ) (s left : List ℕ) (told : List Item) → IsUtf8 rest → chars rest ≡ c ∷ s → told ≡ map (item_at total (total - length rest)) (at c s).told
+      → left ≡ (at c s).left → items_from at total (chars rest) ≡ told ++ items_from at total left
+  items-step rest c s left told is reads t l =
+      ap (items_from at total) reads ∙ (items-cons c s
+      ∙ (ap (λ (start : ℕ). map (item_at total start) (at c s).told ++ items_from at total (at c s).left) here
+      ∙ (ap (λ (is : List Item). is ++ items_from at total (at c s).left) (sym t) ∙ ap (λ (xs : List ℕ). told ++ items_from at total xs) (sym l))))
     where
-      here : place total (c ∷ chars tail) ≡ total - length left
-      here = ap (place total) (sym e) ∙ ap (λ (n : ℕ). total - n) (ap length (encodes-chars left is))
+      here : place total (c ∷ s) ≡ total - length rest
+      here = ap (place total) (sym reads) ∙ ap (λ (n : ℕ). total - n) (ap length (encodes-chars rest is))
+
+  -- an element that stands alone at the front is the first item
+  pub first-one : (rest left : List ℕ) (c : ℕ) (s : List ℕ) (e : Element) → IsUtf8 rest → IsUtf8 left → chars rest ≡ c ∷ s → at c s ≡ one (e, chars left)
+      → items_from at total (chars rest) ≡ (record { start = total - length rest; end = total - length left }, e) ∷ items_from at total (chars left)
+  first-one rest left c s e is ends reads starts = items-step rest c s (chars left) _ is reads
+      (ap (λ (i : Item). i ∷ []) (item-is total (total - length rest) e left ends) ∙ ap (λ (f : Front). map (item_at total (total - length rest)) f.told) (sym starts))
+      (ap (λ (f : Front). f.left) (sym starts))
+
+  pub first-item : (rest left : List ℕ) (e : Element) → IsUtf8 rest → IsUtf8 left → StartsWithOne raw (chars rest) e (chars left)
+      → items_from at total (chars rest) ≡ (record { start = total - length rest; end = total - length left }, e) ∷ items_from at total (chars left)
+  first-item rest left e is ends starts = by_front (chars rest) refl starts
+    where
+      by_front : (s : List ℕ) → chars rest ≡ s → StartsWithOne raw s e (chars left)
+          → items_from at total (chars rest) ≡ (record { start = total - length rest; end = total - length left }, e) ∷ items_from at total (chars left)
+      by_front [] reads starts = absurd starts
+      by_front (c ∷ s) reads starts = first-one rest left c s e is ends reads starts
 
 -- nothing is told
 pub told-none : (a b : Option Item) → is_some a ≡ false → (a ≡ None → b ≡ None) → option_to_list a ++ option_to_list b ≡ []

@@ -1,5 +1,5 @@
 -- The text, put together again from the places of its items.
-use Rattle.std.proofs.Common.{◌≡◌, ℕ, zero, suc, ◌+◌, ◌≤◌, ◌==◌, ◌&&◌, Bool, true, false, if◌then◌else◌, List, [], ◌∷◌, ◌++◌, length, length-append, append_assoc, map, filter, refl, sym, ap, subst, ◌∙◌, arith}
+use Rattle.std.proofs.Common.{◌≡◌, ℕ, zero, suc, ◌+◌, ◌≤◌, ◌==◌, Bool, true, false, if◌then◌else◌, List, [], ◌∷◌, ◌++◌, length, length-append, append_assoc, map, filter, refl, sym, ap, subst, ◌∙◌, arith}
 use Rattle.std.specs.Char.{encode_utf8, is_ascii, is_whitespace}
 use Rattle.std.specs.List.{list_all, list_any}
 use Rattle.std.specs.Str.{byte, chars, encode_utf8_all, IsUtf8}
@@ -16,7 +16,7 @@ use Rattle.rustc_literal_escaper.specs.Escape.{escape}
 use Rattle.rustc_literal_escaper.specs.Rebuilt.{AreLineEnds, IsMadeOf, IsRebuilt, is_unit, places_of}
 use Rattle.rustc_literal_escaper.specs.Runs.{front_run, past_run}
 use Rattle.rustc_literal_escaper.proofs.ItemLemmas.{Ends, IsRead, Tells, all, either, escape-read, past, past_run-ends}
-use Rattle.rustc_literal_escaper.proofs.WrittenLemmas.{is-ascii}
+use Rattle.rustc_literal_escaper.proofs.WrittenLemmas.{all-weaker, is-ascii}
 
 -- ---- what is no warning
 
@@ -39,18 +39,6 @@ run-cut p (c ∷ s) = by_test (p c) (run-cut p s)
 run-all : (p : ℕ → Bool) (s : List ℕ) → list_all p (front_run p s) ≡ true
 run-all p [] = refl
 run-all p (c ∷ s) = cond_both (p c) (c ∷ front_run p s) [] (λ (xs : List ℕ). list_all p xs ≡ true) (λ e. rw e (run-all p s)) (λ e. refl)
-
-space-ascii : (s : List ℕ) → list_all is_passed_over s ≡ true → list_all is_ascii s ≡ true
-space-ascii [] e = refl
-space-ascii (c ∷ s) e = let p = parts (is_passed_over c) (list_all is_passed_over s) e in rw (ascii c p.0) (space-ascii s p.1)
-  where
-    parts : (a b : Bool) → a && b ≡ true → (a ≡ true) × (b ≡ true)
-    parts true true e = (refl, refl)
-    parts true false e = (refl, e)
-    parts false b e = absurd (let f : false ≡ true = e in cc)
-
-    ascii : (c : ℕ) → is_passed_over c ≡ true → is_ascii c ≡ true
-    ascii c e = grind (arith, nat_tests)
 
 -- in front of what is made of some places it changes nothing
 skip : (space : List ℕ) → list_all is_passed_over space ≡ true → (from : ℕ) (left : List ℕ) (places : List (Range ℕ))
@@ -110,15 +98,18 @@ module _ (raw : Bool) (total count : ℕ) where
       lengths : length (encode_utf8_all (c ∷ s)) ≡ length (encode_utf8_all (c ∷ is.1.0)) + length (encode_utf8_all read.1)
       lengths = ap length cut ∙ length-append (encode_utf8_all (c ∷ is.1.0)) (encode_utf8_all read.1)
 
+-- so at each step, whichever way the text is read
+module _ (total count : ℕ) where
+  abbrev RestIsMade : Bool → List ℕ → Type 0
+  RestIsMade raw s = (left : List ℕ) → Ends left s → IsMadeOf raw (place total left) (encode_utf8_all left) (places_past raw total count left)
+
   -- warnings alone, past a line end that is skipped
-  line-made : (s : List ℕ) → raw ≡ false → length (encode_utf8_all (92 ∷ 10 ∷ s)) ≤ total
-      → IsMadeOf raw (place total (past_run is_passed_over s)) (encode_utf8_all (past_run is_passed_over s)) (places_past (past_run is_passed_over s)) → IsMadeAt 92 (10 ∷ s) (line_end s)
-  line-made s is fits made =
-      subst (IsMadeOf raw from (encode_utf8_all (92 ∷ 10 ∷ s))) (sym (ap (map (λ (i : Item). i.0)) (filter-append is_unit (map at (line_end s).told) items ∙ ap (λ (is : List Item). is ++ filter is_unit items) warned)))
-      (subst (λ (b : Bool). IsMadeOf b from (encode_utf8_all (92 ∷ 10 ∷ s)) (places_past left)) (sym is)
-      (subst (λ (xs : List ℕ). IsMadeOf false from xs (places_past left)) (sym cut)
-      (skip space (run-all is_passed_over s) from (encode_utf8_all left) (places_past left)
-      (subst (λ (n : ℕ). IsMadeOf false n (encode_utf8_all left) (places_past left)) here (subst (λ (b : Bool). IsMadeOf b (place total left) (encode_utf8_all left) (places_past left)) is made)))))
+  line-made : (s : List ℕ) → length (encode_utf8_all (92 ∷ 10 ∷ s)) ≤ total → RestIsMade false (10 ∷ s) → IsMadeAt false total count 92 (10 ∷ s) (line_end s)
+  line-made s fits rest =
+      subst (IsMadeOf false from (encode_utf8_all (92 ∷ 10 ∷ s))) (sym (ap (map (λ (i : Item). i.0)) (filter-append is_unit (map at (line_end s).told) items ∙ ap (λ (is : List Item). is ++ filter is_unit items) warned)))
+      (subst (λ (xs : List ℕ). IsMadeOf false from xs (places_past false total count left)) (sym cut)
+      (skip space (run-all is_passed_over s) from (encode_utf8_all left) (places_past false total count left)
+      (subst (λ (n : ℕ). IsMadeOf false n (encode_utf8_all left) (places_past false total count left)) here (rest left (past 10 left s (past_run-ends is_passed_over s))))))
     where
       from : ℕ
       from = place total (92 ∷ 10 ∷ s)
@@ -133,7 +124,7 @@ module _ (raw : Bool) (total count : ℕ) where
       left = past_run is_passed_over s
 
       items : List Item
-      items = items_in (front_by raw) count total (past_run is_passed_over s)
+      items = items_in front count total (past_run is_passed_over s)
 
       warned : filter is_unit (map at (line_end s).told) ≡ []
       warned = either (λ (told : List (Element × List ℕ)). filter is_unit (map at (told ++ more_space left)) ≡ []) (list_any is_newline space) ((Fault MultipleSkippedLinesWarning, left) ∷ []) [] (more left) (more left)
@@ -143,7 +134,7 @@ module _ (raw : Bool) (total count : ℕ) where
           more (d ∷ t) = either (λ (told : List (Element × List ℕ)). filter is_unit (map at told) ≡ []) (is_whitespace d) ((Fault UnskippedWhitespaceWarning, t) ∷ []) [] refl refl
 
       ascii : encode_utf8_all space ≡ space
-      ascii = encodes-IsAscii space (is-ascii space (space-ascii space (run-all is_passed_over s)))
+      ascii = encodes-IsAscii space (is-ascii space (all-weaker is_passed_over is_ascii (λ c e. grind (arith, nat_tests)) space (run-all is_passed_over s)))
 
       cut : encode_utf8_all (92 ∷ 10 ∷ s) ≡ 92 ∷ 10 ∷ (space ++ encode_utf8_all left)
       cut = ap (λ (xs : List ℕ). xs ++ (encode_utf8 10 ++ encode_utf8_all s)) (encode_ascii 92 (omega arith))
@@ -154,20 +145,11 @@ module _ (raw : Bool) (total count : ℕ) where
       here : place total left ≡ from + (2 + length space)
       here = let l = ap length cut in let k = length-append space (encode_utf8_all left) in omega arith
 
--- so at each step, whichever way the text is read
-module _ (total count : ℕ) where
-  abbrev RestIsMade : Bool → List ℕ → Type 0
-  RestIsMade raw s = (left : List ℕ) → Ends left s → IsMadeOf raw (place total left) (encode_utf8_all left) (places_past raw total count left)
-
-  raw-made : (c : ℕ) (s : List ℕ) → length (encode_utf8_all (c ∷ s)) ≤ total → RestIsMade true s → IsMadeAt true total count c s (raw_front c s)
-  unfolding raw_front
-  raw-made c s fits rest = one-made true total count c s (raw_element c, s) (raw-tells c, all s) fits (rest s (all s))
-
   line_end-made : (c d : ℕ) (t : List ℕ) → c ≡ 92 → d ≡ 10 → length (encode_utf8_all (c ∷ d ∷ t)) ≤ total → RestIsMade false (d ∷ t) → IsMadeAt false total count c (d ∷ t) (line_end t)
-  line_end-made c d t e f fits rest =
-      subst (λ (k : ℕ). length (encode_utf8_all (k ∷ d ∷ t)) ≤ total → IsMadeAt false total count k (d ∷ t) (line_end t)) (sym e)
-      (subst (λ (k : ℕ). length (encode_utf8_all (92 ∷ k ∷ t)) ≤ total → IsMadeAt false total count 92 (k ∷ t) (line_end t)) (sym f)
-      (λ within. line-made false total count t refl within (rest (past_run is_passed_over t) (past d (past_run is_passed_over t) t (past_run-ends is_passed_over t))))) fits
+  line_end-made c d t e f = subst (λ (k : ℕ). P k d) (sym e) (subst (λ (k : ℕ). P 92 k) (sym f) (line-made t))
+    where
+      P : ℕ → ℕ → Type 0
+      P k l = length (encode_utf8_all (k ∷ l ∷ t)) ≤ total → RestIsMade false (l ∷ t) → IsMadeAt false total count k (l ∷ t) (line_end t)
 
   slash-made : (c : ℕ) (s : List ℕ) → c ≡ 92 → length (encode_utf8_all (c ∷ s)) ≤ total → RestIsMade false s → IsMadeAt false total count c s (past_backslash s)
   slash-made c [] e fits rest = one-made false total count c [] (escape []) (refl, all []) fits (rest [] (all []))
@@ -175,14 +157,11 @@ module _ (total count : ℕ) where
       (λ n. line_end-made c d t e (eqb-true d 10 n) fits rest)
       (λ n. one-made false total count c (d ∷ t) (escape (d ∷ t)) (escape-read (d ∷ t)) fits (rest (escape (d ∷ t)).1 (escape-read (d ∷ t)).1))
 
-  front-made : (c : ℕ) (s : List ℕ) → length (encode_utf8_all (c ∷ s)) ≤ total → RestIsMade false s → IsMadeAt false total count c s (front c s)
-  unfolding front
-  front-made c s fits rest = cond_both (c == byte "\\") (past_backslash s) (one (unescaped c, s)) (IsMadeAt false total count c s)
-      (λ e. slash-made c s (eqb-true c 92 e) fits rest) (λ e. one-made false total count c s (unescaped c, s) (unescaped-tells c, all s) fits (rest s (all s)))
-
   step-made : (raw : Bool) (c : ℕ) (s : List ℕ) → length (encode_utf8_all (c ∷ s)) ≤ total → RestIsMade raw s → IsMadeAt raw total count c s (front_by raw c s)
-  step-made true = raw-made
-  step-made false = front-made
+  unfolding front raw_front
+  step-made true c s fits rest = one-made true total count c s (raw_element c, s) (raw-tells c, all s) fits (rest s (all s))
+  step-made false c s fits rest = cond_both (c == byte "\\") (past_backslash s) (one (unescaped c, s)) (IsMadeAt false total count c s)
+      (λ e. slash-made c s (eqb-true c 92 e) fits rest) (λ e. one-made false total count c s (unescaped c, s) (unescaped-tells c, all s) fits (rest s (all s)))
 
 made : (raw : Bool) (total count : ℕ) (s : List ℕ) → length s ≤ count → length (encode_utf8_all s) ≤ total → IsMadeOf raw (place total s) (encode_utf8_all s) (places_of (items_in (front_by raw) count total s))
 made raw total zero [] few fits = none raw

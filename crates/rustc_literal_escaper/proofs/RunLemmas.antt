@@ -1,42 +1,27 @@
 -- Runs of simple characters: the items of each.
-use Rattle.std.proofs.Common.{◌≡◌, ℕ, ◌+◌, ◌-◌, ◌<◌, ◌==◌, ◌&&◌, nat_lt, not, Bool, true, List, [], ◌∷◌, ◌++◌, length, length-append, refl, sym, ap, ap₂, subst, ◌∙◌, arith}
-use Rattle.std.specs.Char.{encode_utf8}
+use Rattle.std.proofs.Common.{◌≡◌, ℕ, ◌-◌, Bool, true, List, [], ◌∷◌, ◌++◌, length, length-append, refl, sym, ap, ap₂, subst, ◌∙◌, arith}
 use Rattle.std.specs.List.{list_all, FoldsTo}
 use Rattle.std.specs.Str.{chars, encode_utf8_all, IsUtf8}
 use Rattle.std.proofs.lemmas.Bool.{and_parts}
-use Rattle.std.proofs.lemmas.Bool.Decides.{nat_tests}
-use Rattle.std.proofs.lemmas.Str.{encode_ascii, encodes-chars}
+use Rattle.std.proofs.lemmas.Str.{encodes-append, encodes-chars, encodes-IsAscii}
 use Rattle.rustc_literal_escaper.specs.declared.element.Element.TheVariants.{Plain}
 use Rattle.rustc_literal_escaper.specs.Elements.{Item, front_by, items_from, place}
-use Rattle.rustc_literal_escaper.specs.Plain.{is_plain, is_simple, plain_items}
-use Rattle.rustc_literal_escaper.proofs.SimpleLemmas.{chars-simple}
-use Rattle.rustc_literal_escaper.proofs.SkipLemmas.{items-plain}
-
-small : (raw : Bool) (b : ℕ) → is_simple raw b ≡ true → b < 128
-small raw b e = let t = (and_parts (nat_lt b 128) (not (b == 0) && is_plain raw b) e).0 in grind (arith, nat_tests)
-
-plain : (raw : Bool) (b : ℕ) → is_simple raw b ≡ true → is_plain raw b ≡ true
-plain raw b e = (and_parts (not (b == 0)) (is_plain raw b) (and_parts (nat_lt b 128) (not (b == 0) && is_plain raw b) e).1).1
+use Rattle.rustc_literal_escaper.specs.Plain.{is_simple, plain_items}
+use Rattle.rustc_literal_escaper.proofs.SimpleLemmas.{chars-simple, simple-ascii, simple-parts}
+use Rattle.rustc_literal_escaper.proofs.PlainLemmas.{items-plain}
 
 module _ (raw : Bool) (total : ℕ) where
   -- each is one byte
-  encode-length : (run s : List ℕ) → list_all (is_simple raw) run ≡ true → length (encode_utf8_all (run ++ s)) ≡ length run + length (encode_utf8_all s)
-  encode-length [] s e = omega arith
-  encode-length (b ∷ bs) s e =
-      let p = and_parts (is_simple raw b) (list_all (is_simple raw) bs) e in
-      let both = length-append (encode_utf8 b) (encode_utf8_all (bs ++ s)) in
-      let one = ap length (encode_ascii b (small raw b p.0)) in
-      let more = encode-length bs s p.1 in
-      omega arith
-
   place-run : (run s : List ℕ) → list_all (is_simple raw) run ≡ true → place total (run ++ s) ≡ place total s - length run
-  place-run run s e = let n = encode-length run s e in omega arith
+  place-run run s e =
+      let n = ap length (encodes-append run s ∙ ap (λ xs. xs ++ encode_utf8_all s) (encodes-IsAscii run (simple-ascii raw run e))) ∙ length-append run (encode_utf8_all s) in
+      omega arith
 
   items-run : (run s : List ℕ) → list_all (is_simple raw) run ≡ true → items_from (front_by raw) total (run ++ s) ≡ plain_items (place total s) run ++ items_from (front_by raw) total s
   items-run [] s e = refl
   items-run (b ∷ bs) s e =
       let p = and_parts (is_simple raw b) (list_all (is_simple raw) bs) e in
-      items-plain raw total b (bs ++ s) (plain raw b p.0)
+      items-plain raw total b (bs ++ s) (simple-parts raw b p.0).2
       ∙ (ap₂ (λ (from past : ℕ). (record { start = from; end = past }, Plain b) ∷ items_from (front_by raw) total (bs ++ s)) (place-run (b ∷ bs) s e) (place-run bs s p.1)
       ∙ ap (λ (is : List Item). (record { start = place total s - length (b ∷ bs); end = place total s - length bs }, Plain b) ∷ is) (items-run bs s p.1))
 
@@ -52,3 +37,6 @@ module _ (raw : Bool) (total : ℕ) where
 pub folds-append : {P A : Type 0} (R : P → A → P → Type 0) (p q r : P) (xs ys : List A) → FoldsTo R p xs q → FoldsTo R q ys r → FoldsTo R p (xs ++ ys) r
 folds-append R p q r [] ys e f = subst (λ (a : _). FoldsTo R a ys r) (sym e) f
 folds-append R p q r (x ∷ xs) ys e f = (e.0, e.1, folds-append R e.0 q r xs ys e.2 f)
+
+pub folds-on : {P A : Type 0} (R : P → A → P → Type 0) (p q r : P) (all told rest : List A) → all ≡ told ++ rest → FoldsTo R p told q → FoldsTo R q rest r → FoldsTo R p all r
+folds-on R p q r all told rest e f g = subst (λ (is : List _). FoldsTo R p is r) (sym e) (folds-append R p q r told rest f g)

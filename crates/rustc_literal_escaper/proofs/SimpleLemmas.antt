@@ -1,9 +1,9 @@
 -- Simple characters, passed over.
-use Rattle.std.proofs.Common.{◌≡◌, ℕ, ◌≤◌, ◌==◌, ◌&&◌, nat_lt, not, Bool, true, List, [], ◌∷◌, ◌++◌, length, take, drop, None, refl, sym, ap, ap₂, ◌∙◌}
+use Rattle.std.proofs.Common.{◌≡◌, ℕ, ◌≤◌, ◌==◌, ◌&&◌, nat_lt, not, Bool, true, List, ◌++◌, length, take, drop, None, refl, sym, ap, ◌∙◌}
 use Rattle.std.specs.Char.{is_ascii}
 use Rattle.std.specs.List.{list_all, prefix_len}
 use Rattle.std.specs.Str.{chars, IsAscii, IsCharBoundary, IsUtf8}
-use Rattle.std.proofs.lemmas.Bool.{and_parts, not-true}
+use Rattle.std.proofs.lemmas.Bool.{and_from, and_parts, not-true}
 use Rattle.std.proofs.lemmas.List.{take-append-drop}
 use Rattle.std.proofs.lemmas.Str.{chars-append, chars-IsAscii, IsCharBoundary-from_take, IsUtf8-from_ascii}
 use Rattle.rustc_literal_escaper.specs.declared.element.Element.TheVariants.{Plain}
@@ -12,17 +12,20 @@ use Rattle.rustc_literal_escaper.specs.declared.mode.Mode.TheVariants.{Char, Byt
 use Rattle.rustc_literal_escaper.specs.Errors.{error_of}
 use Rattle.rustc_literal_escaper.specs.Plain.{is_fine, is_plain, is_simple, Passes}
 use Rattle.rustc_literal_escaper.proofs.LaneLemmas.{run_front}
-use Rattle.rustc_literal_escaper.proofs.WrittenLemmas.{is-ascii}
+use Rattle.rustc_literal_escaper.proofs.WrittenLemmas.{all-weaker, is-ascii}
+
+pub simple-parts : (raw : Bool) (c : ℕ) → is_simple raw c ≡ true → (nat_lt c 128 ≡ true) × (not (c == 0) ≡ true) × (is_plain raw c ≡ true)
+simple-parts raw c e =
+    let p = and_parts (nat_lt c 128) (not (c == 0) && is_plain raw c) e in
+    let q = and_parts (not (c == 0)) (is_plain raw c) p.1 in
+    (p.0, q.0, q.1)
 
 -- nothing is wrong with a simple character
 pub simple-fine : (mode : Mode) (raw : Bool) (c : ℕ) → is_simple raw c ≡ true → (is_plain raw c ≡ true) × (error_of mode (Plain c) ≡ None)
-simple-fine mode raw c e = (q.1, by_mode mode)
+simple-fine mode raw c e = (p.2, by_mode mode)
   where
-    p : (nat_lt c 128 ≡ true) × ((not (c == 0) && is_plain raw c) ≡ true)
-    p = and_parts (nat_lt c 128) (not (c == 0) && is_plain raw c) e
-
-    q : (not (c == 0) ≡ true) × (is_plain raw c ≡ true)
-    q = and_parts (not (c == 0)) (is_plain raw c) p.1
+    p : (nat_lt c 128 ≡ true) × (not (c == 0) ≡ true) × (is_plain raw c ≡ true)
+    p = simple-parts raw c e
 
     by_mode : (mode : Mode) → error_of mode (Plain c) ≡ None
     by_mode Char = refl
@@ -31,31 +34,16 @@ simple-fine mode raw c e = (q.1, by_mode mode)
     by_mode Byte = rw p.0 refl
     by_mode ByteStr = rw p.0 refl
     by_mode RawByteStr = rw p.0 refl
-    by_mode CStr = rw (not-true (c == 0) q.0) refl
-    by_mode RawCStr = rw (not-true (c == 0) q.0) refl
+    by_mode CStr = rw (not-true (c == 0) p.1) refl
+    by_mode RawCStr = rw (not-true (c == 0) p.1) refl
 
--- a simple character is a byte that stands for itself in each kind of string
-simple-is-fine : (raw : Bool) (c : ℕ) → is_simple raw c ≡ true → is_fine c ≡ true
-simple-is-fine raw c e =
-    let p = and_parts (nat_lt c 128) (not (c == 0) && is_plain raw c) e in
-    let q = and_parts (not (c == 0)) (is_plain raw c) p.1 in
-    ap₂ (λ x y. x && y) p.0 q.0
-
+-- it is a byte that stands for itself in each kind of string
 pub simple-all-fine : (raw : Bool) (bs : List ℕ) → list_all (is_simple raw) bs ≡ true → list_all is_fine bs ≡ true
-simple-all-fine raw [] e = refl
-simple-all-fine raw (b ∷ bs) e =
-    let p = and_parts (is_simple raw b) (list_all (is_simple raw) bs) e in
-    ap₂ (λ x y. x && y) (simple-is-fine raw b p.0) (simple-all-fine raw bs p.1)
+simple-all-fine raw bs e = all-weaker (is_simple raw) is_fine (λ c f. let p = simple-parts raw c f in and_from (nat_lt c 128) (not (c == 0)) p.0 p.1) bs e
 
 -- simple characters are bytes, and what follows them begins with a character
-simple-all-ascii : (raw : Bool) (bs : List ℕ) → list_all (is_simple raw) bs ≡ true → list_all is_ascii bs ≡ true
-simple-all-ascii raw [] e = refl
-simple-all-ascii raw (b ∷ bs) e =
-    let p = and_parts (is_simple raw b) (list_all (is_simple raw) bs) e in
-    ap₂ (λ x y. x && y) (and_parts (nat_lt b 128) (not (b == 0) && is_plain raw b) p.0).0 (simple-all-ascii raw bs p.1)
-
-simple-ascii : (raw : Bool) (bs : List ℕ) → list_all (is_simple raw) bs ≡ true → IsAscii bs
-simple-ascii raw bs e = is-ascii bs (simple-all-ascii raw bs e)
+pub simple-ascii : (raw : Bool) (bs : List ℕ) → list_all (is_simple raw) bs ≡ true → IsAscii bs
+simple-ascii raw bs e = is-ascii bs (all-weaker (is_simple raw) is_ascii (λ c f. (simple-parts raw c f).0) bs e)
 
 pub chars-simple : (raw : Bool) (run left : List ℕ) → list_all (is_simple raw) run ≡ true → chars (run ++ left) ≡ run ++ chars left
 chars-simple raw run left e =

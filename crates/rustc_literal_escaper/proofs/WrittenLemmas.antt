@@ -1,5 +1,5 @@
 -- What is written of characters and bytes, read between double quotes.
-use Rattle.std.proofs.Common.{◌≡◌, ℕ, suc, ◌+◌, ◌<◌, ◌==◌, true, false, List, [], ◌∷◌, ◌++◌, length, map, Result, Ok, refl, sym, ap, subst, ◌∙◌, arith, get_or, take, length-append}
+use Rattle.std.proofs.Common.{Bool, ◌≡◌, ℕ, suc, ◌+◌, ◌<◌, ◌==◌, true, false, List, [], ◌∷◌, ◌++◌, length, map, Result, Ok, refl, sym, ap, subst, ◌∙◌, arith, get_or, take, length-append}
 use Rattle.std.specs.Char.{is_ascii, IsScalar}
 use Rattle.std.specs.Char.Escape.{escape_ascii, escape_default}
 use Rattle.std.specs.List.{AllByRecursion, flat_map, list_all, list_any, slice_index}
@@ -7,7 +7,7 @@ use Rattle.std.specs.Prelude.{String}
 use Rattle.std.specs.String.{string_bytes}
 use Rattle.std.specs.Str.{all_scalars, chars, encode_utf8_all, IsAscii, IsCharBoundary, IsUtf8}
 use Rattle.std.proofs.lemmas.List.{append-nil, map-id}
-use Rattle.std.proofs.lemmas.Bool.{and_parts, lt-ltb, ltb-true, or_parts}
+use Rattle.std.proofs.lemmas.Bool.{and_from, and_parts, lt-ltb, ltb-true, or_parts}
 use Rattle.std.proofs.Math.Seq.{take-append_seam}
 use Rattle.std.proofs.lemmas.List.Recursion.{and_at}
 use Rattle.std.proofs.lemmas.List.Folds.{list_all-append}
@@ -21,6 +21,13 @@ use Rattle.rustc_literal_escaper.specs.Units.{unit_of_byte}
 use Rattle.rustc_literal_escaper.specs.Written.{Grows, StandsFor, written_bytes, written_text}
 use Rattle.rustc_literal_escaper.proofs.ItemLemmas.{items-cons, nothing}
 use Rattle.rustc_literal_escaper.proofs.RoundTripLemmas.{IsSpelled, byte-spelled, char-spelled}
+
+-- what each element passes
+pub all-weaker : (p q : ℕ → Bool) → ((c : ℕ) → p c ≡ true → q c ≡ true) → (cs : List ℕ) → list_all p cs ≡ true → list_all q cs ≡ true
+all-weaker p q weaker [] e = refl
+all-weaker p q weaker (c ∷ cs) e =
+    let r = and_parts (p c) (list_all p cs) e in
+    and_from (q c) (list_all q cs) (weaker c r.0) (all-weaker p q weaker cs r.1)
 
 pub is-ascii : (xs : List ℕ) → list_all is_ascii xs ≡ true → IsAscii xs
 is-ascii xs e = IsAscii-from_reads xs (length xs) (omega arith) (λ k l. ltb-true (get_or xs k 0) 128 (and_at (list_all is_ascii) is_ascii refl (λ x ys. refl) xs k 0 l e))

@@ -1,9 +1,10 @@
 -- Which faults are errors.
+use Rattle.std.specs.Prelude.{Bool, true, false}
 use Rattle.rustc_literal_escaper.specs.declared.error.EscapeError.{EscapeError}
 use Rattle.rustc_literal_escaper.specs.declared.error.EscapeError.TheVariants.{UnskippedWhitespaceWarning, MultipleSkippedLinesWarning}
 
 -- all but the two warnings
-abbrev pub IsFatal : EscapeError → Type 0
-IsFatal UnskippedWhitespaceWarning = ⊥
-IsFatal MultipleSkippedLinesWarning = ⊥
-IsFatal error = Unit {0}
+abbrev pub is_fatal : EscapeError → Bool
+is_fatal UnskippedWhitespaceWarning = false
+is_fatal MultipleSkippedLinesWarning = false
+is_fatal error = true

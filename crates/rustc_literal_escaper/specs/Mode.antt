@@ -3,11 +3,6 @@ use Rattle.std.specs.Prelude.{ℕ, List, codes}
 use Rattle.rustc_literal_escaper.specs.declared.mode.Mode.{Mode}
 use Rattle.rustc_literal_escaper.specs.declared.mode.Mode.TheVariants.{Char, Byte, Str, RawStr, ByteStr, RawByteStr, CStr, RawCStr}
 
-abbrev pub IsInDoubleQuotes : Mode → Type 0
-IsInDoubleQuotes Char = ⊥
-IsInDoubleQuotes Byte = ⊥
-IsInDoubleQuotes mode = Unit {0}
-
 -- without the `r` of a raw string
 abbrev pub prefix_of : Mode → List ℕ
 prefix_of Char = codes ""

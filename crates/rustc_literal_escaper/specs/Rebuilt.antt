@@ -5,8 +5,8 @@ use Rattle.std.specs.Str.{byte}
 use Rattle.std.specs.declared.ops.Range.{Range}
 use Rattle.rustc_literal_escaper.specs.declared.element.Element.{Element}
 use Rattle.rustc_literal_escaper.specs.declared.element.Element.TheVariants.{Fault}
-use Rattle.rustc_literal_escaper.specs.declared.error.EscapeError.TheVariants.{MultipleSkippedLinesWarning, UnskippedWhitespaceWarning}
 use Rattle.rustc_literal_escaper.specs.Elements.{Item, is_passed_over, items_of}
+use Rattle.rustc_literal_escaper.specs.Fatal.{is_fatal}
 
 -- line ends that are skipped: each a backslash, a newline, and white space that is passed over
 abbrev pub line_ends : List (List ℕ) → List ℕ
@@ -34,8 +34,7 @@ IsMadeOf raw from left (place ∷ places) = (rest : List ℕ) × IsNext raw from
 
 -- a warning tells of a line end that is skipped, and is no part of the text's meaning
 abbrev pub is_warning : Element → Bool
-is_warning (Fault UnskippedWhitespaceWarning) = true
-is_warning (Fault MultipleSkippedLinesWarning) = true
+is_warning (Fault error) = not (is_fatal error)
 is_warning element = false
 
 abbrev pub is_unit : Item → Bool

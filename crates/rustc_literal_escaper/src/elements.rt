@@ -46,12 +46,16 @@ impl<'a> Model for Elements<'a> {
 /// The elements of a raw string or another.
 #[inline(always)]
 pub(crate) fn elements_of(src: &str, raw: bool) -> Elements<'_>
-    ensures { result ≡ items_of raw src.now }
+    ensures items { result ≡ items_of raw src.now }
+    ensures plain { StandsForItself raw src.now }
+    ensures places { ArePlaced src.now (items_of raw src.now) }
+    ensures rebuilt { IsRebuilt raw src.now }
 {
-    if raw {
-        Elements::new_raw(src)
-    } else {
-        Elements::new(src)
+    Elements {
+        rest: src,
+        total: src.len(),
+        raw,
+        waiting: None,
     }
 }
 
@@ -63,12 +67,7 @@ impl<'a> Elements<'a> {
         ensures places { ArePlaced src.now (items_of false src.now) }
         ensures rebuilt { IsRebuilt false src.now }
     {
-        Elements {
-            rest: src,
-            total: src.len(),
-            raw: false,
-            waiting: None,
-        }
+        elements_of(src, false)
     }
 
     /// The elements of `src`, which is what stands between the quotes of a raw string, of any kind.
@@ -78,12 +77,7 @@ impl<'a> Elements<'a> {
         ensures places { ArePlaced src.now (items_of true src.now) }
         ensures rebuilt { IsRebuilt true src.now }
     {
-        Elements {
-            rest: src,
-            total: src.len(),
-            raw: true,
-            waiting: None,
-        }
+        elements_of(src, true)
     }
 
     /// The next thing that is wrong in a literal of this kind, and its place; the elements before it are passed over.

@@ -1,6 +1,6 @@
 //! What may be wrong in a literal.
-ghost use Rattle.std.specs.Prelude.{◌↔◌, IsTrue};
-ghost use Rattle.rustc_literal_escaper.specs.Fatal.{IsFatal};
+ghost use Rattle.std.specs.Prelude.{◌≡◌};
+ghost use Rattle.rustc_literal_escaper.specs.Fatal as spec;
 
 /// What is wrong in a literal, or what a reader of it may want to be warned of.
 #[derive(Clone, Copy, Debug, PartialEq, Eq)]
@@ -63,7 +63,7 @@ pub enum EscapeError {
 impl EscapeError {
     /// Whether this is an error: the two warnings are not.
     pub fn is_fatal(&self) -> bool
-        ensures { IsTrue result ↔ IsFatal self.now }
+        ensures { result ≡ spec.is_fatal self.now }
     {
         !matches!(
             self,

@@ -4,7 +4,7 @@ ghost use Rattle.std.specs.Iterator.{at_most};
 ghost use Rattle.rustc_literal_escaper.specs.Elements.{TakesFirst};
 ghost use Rattle.rustc_literal_escaper.specs.Errors as spec;
 
-use crate::check::{is_raw, is_single, single_error};
+use crate::check::{is_raw, single_error};
 use crate::elements::{Elements, elements_of};
 use crate::error::EscapeError;
 use crate::mode::Mode;
@@ -44,7 +44,7 @@ impl<'a> Faults<'a> {
     pub fn new(src: &'a str, mode: Mode) -> Faults<'a>
         ensures { result ≡ spec.errors_of mode src.now }
     {
-        if is_single(mode) {
+        if !mode.in_double_quotes() {
             return Faults {
                 alone: single_error(src, mode),
                 elements: Elements::new(""),

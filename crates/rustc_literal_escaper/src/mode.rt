@@ -1,6 +1,7 @@
 //! The kinds of literal that have escapes or could have them.
-ghost use Rattle.std.specs.Prelude.{◌≡◌, ◌↔◌, IsTrue};
-ghost use Rattle.rustc_literal_escaper.specs.Mode.{IsInDoubleQuotes, prefix_of};
+ghost use Rattle.std.specs.Prelude.{◌≡◌, not};
+ghost use Rattle.rustc_literal_escaper.specs.Errors.{is_single};
+ghost use Rattle.rustc_literal_escaper.specs.Mode.{prefix_of};
 
 /// A kind of literal.
 #[derive(Clone, Copy, Debug, PartialEq, Eq)]
@@ -26,7 +27,7 @@ pub enum Mode {
 impl Mode {
     /// Whether such a literal stands between double quotes: all but a character and a byte do.
     pub fn in_double_quotes(self) -> bool
-        ensures { IsTrue result ↔ IsInDoubleQuotes self }
+        ensures { result ≡ not (is_single self) }
     {
         !matches!(self, Mode::Char | Mode::Byte)
     }

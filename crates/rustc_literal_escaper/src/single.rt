@@ -9,6 +9,7 @@ use crate::element::Element;
 use crate::error::EscapeError;
 use crate::escape::escape;
 use crate::scan::split_first;
+use crate::strings::{AsByte, AsChar, Meaning};
 
 /// The character that a character literal stands for, of which `src` is what stands between the quotes.
 ///
@@ -21,22 +22,7 @@ pub fn unescape_char(src: &str) -> Result<char, EscapeError>
     ensures literal { result ≡ char_literal (chars src.now) }
     ensures escapes { CharComesBack }
 {
-    read_char(src)
-}
-
-/// The character of the one element, if nothing is left past it.
-fn read_char(src: &str) -> Result<char, EscapeError>
-    ensures { result ≡ char_literal (chars src.now) }
-{
-    let Some((element, left)) = single(src) else {
-        return Err(EscapeError::ZeroChars);
-    };
-    let c = element.to_char()?;
-    if left.is_empty() {
-        Ok(c)
-    } else {
-        Err(EscapeError::MoreThanOneChar)
-    }
+    read::<AsChar>(src)
 }
 
 /// The byte that a byte literal stands for, of which `src` is what stands between the quotes.
@@ -44,19 +30,19 @@ pub fn unescape_byte(src: &str) -> Result<u8, EscapeError>
     ensures literal { result ≡ byte_literal (chars src.now) }
     ensures escapes { ByteComesBack }
 {
-    read_byte(src)
+    read::<AsByte>(src)
 }
 
-/// The byte of the one element, if nothing is left past it.
-fn read_byte(src: &str) -> Result<u8, EscapeError>
-    ensures { result ≡ byte_literal (chars src.now) }
+/// What the one element stands for, if nothing is left past it.
+fn read<M: Meaning>(src: &str) -> Result<M::Meant, EscapeError>
+    ensures { result ≡ spec.literal M.meaning (chars src.now) }
 {
     let Some((element, left)) = single(src) else {
         return Err(EscapeError::ZeroChars);
     };
-    let byte = element.to_byte()?;
+    let meant = M::of(element)?;
     if left.is_empty() {
-        Ok(byte)
+        Ok(meant)
     } else {
         Err(EscapeError::MoreThanOneChar)
     }

@@ -47,10 +47,10 @@ pub(crate) fn advance(rest: &str, total: usize, raw: bool) -> Told<'_>
     }
 }
 
-/// What is told at the character `c` of a raw string or another, as [`step`] does.
+/// What is told at the character `c` of a raw string or another, which begins at the place `start`, before `tail`.
 #[inline(always)]
-#[tactic(auto, unfolding(crate::specs::Elements::raw_front))]
-pub(crate) fn step_by(raw: bool, c: char, tail: &str, start: usize, total: usize) -> Told<'_>
+#[tactic(auto, unfolding(crate::specs::Elements::front, crate::specs::Elements::raw_front))]
+fn step_by(raw: bool, c: char, tail: &str, start: usize, total: usize) -> Told<'_>
     requires fits { length tail.now ≤ total }
     ensures told { told_by result
         ≡ map (spec.item_at total start) (spec.front_by raw c (chars tail.now)).told }
@@ -60,10 +60,16 @@ pub(crate) fn step_by(raw: bool, c: char, tail: &str, start: usize, total: usize
     ensures text { IsUtf8 result.left.now }
 {
     if raw {
-        one(raw_element(c), tail, start, total)
-    } else {
-        step(c, tail, start, total)
+        return one(raw_element(c), tail, start, total);
     }
+    if c != '\\' {
+        return one(unescaped(c), tail, start, total);
+    }
+    if let Some(line) = strip_newline(tail) {
+        return line_end(line, start, total);
+    }
+    let (element, left) = escape(tail);
+    one(element, left, start, total)
 }
 
 /// The item at the front of what is left of a text of `total` bytes, and what is left past it.
@@ -216,28 +222,6 @@ fn raw_element(c: char) -> Element
     }
 }
 
-/// What is told at the character `c`, which begins at the place `start`, before `tail`.
-#[inline(always)]
-#[tactic(auto, unfolding(crate::specs::Elements::front))]
-fn step(c: char, tail: &str, start: usize, total: usize) -> Told<'_>
-    requires fits { length tail.now ≤ total }
-    ensures told { told_by result
-        ≡ map (spec.item_at total start) (spec.front c (chars tail.now)).told }
-    ensures left { chars result.left.now ≡ (spec.front c (chars tail.now)).left }
-    ensures none { result.first ≡ None → result.second ≡ None }
-    ensures shorter { length result.left.now ≤ length tail.now }
-    ensures text { IsUtf8 result.left.now }
-{
-    if c != '\\' {
-        return one(unescaped(c), tail, start, total);
-    }
-    if let Some(line) = strip_newline(tail) {
-        return line_end(line, start, total);
-    }
-    let (element, left) = escape(tail);
-    one(element, left, start, total)
-}
-
 /// One item, of the element from the place `start` up to what is left past it.
 #[inline(always)]
 fn one(element: Element, left: &str, start: usize, total: usize) -> Told<'_>
@@ -287,15 +271,12 @@ fn line_end(line: &str, start: usize, total: usize) -> Told<'_>
     ensures shorter { length result.left.now ≤ length line.now }
     ensures text { IsUtf8 result.left.now }
 {
-    let (more_lines, left) = pass_over(line);
+    let (newline, left) = pass_over(line);
+    let more_lines = more_lines(newline, left, start, total);
     let more_space = more_space(left, start, total);
-    if more_lines {
-        let lines = (
-            start..total - left.len(),
-            Element::Fault(EscapeError::MultipleSkippedLinesWarning),
-        );
+    if newline {
         Told {
-            first: Some(lines),
+            first: more_lines,
             second: more_space,
             left,
         }

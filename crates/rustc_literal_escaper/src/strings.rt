@@ -98,7 +98,7 @@ pub fn check_raw_c_str<F: FnMut(Range<usize>, Result<NonZeroChar, EscapeError>)>
 }
 
 /// What the elements of one kind of string stand for.
-trait Meaning {
+pub(crate) trait Meaning {
     ghost use Rattle.std.specs.Prelude.{◌≡◌, true, Result};
     ghost use Rattle.rustc_literal_escaper.specs.declared.element.Element.{Element};
     ghost use Rattle.rustc_literal_escaper.specs.declared.element.Element.TheVariants.{Plain};
@@ -106,7 +106,7 @@ trait Meaning {
     ghost use Rattle.rustc_literal_escaper.specs.Elements.{raw_element};
     ghost use Rattle.rustc_literal_escaper.specs.Plain.{is_fine};
 
-    type Meant;
+    type Meant: Copy;
 
     ghost meaning: { Element → Result Self.Meant EscapeError };
 
@@ -139,7 +139,7 @@ trait Meaning {
 }
 
 /// What strings stand for: characters.
-struct AsChar;
+pub(crate) struct AsChar;
 
 impl Meaning for AsChar {
     ghost use Rattle.rustc_literal_escaper.specs.Meaning.{char_of};
@@ -155,7 +155,7 @@ impl Meaning for AsChar {
 }
 
 /// What byte strings and raw ones stand for: bytes.
-struct AsByte;
+pub(crate) struct AsByte;
 
 impl Meaning for AsByte {
     ghost use Rattle.rustc_literal_escaper.specs.Meaning.{byte_of};

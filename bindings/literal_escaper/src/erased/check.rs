@@ -41,12 +41,6 @@ fn each_error<F: FnMut(Range<usize>, EscapeError)>(src: &str, mode: Mode, callba
     }
 }
 
-/// Whether such a literal stands between single quotes.
-#[inline(always)]
-pub(crate) fn is_single(mode: Mode) -> bool {
-    matches!(mode, Mode::Char | Mode::Byte)
-}
-
 /// Whether nothing is an escape in such a literal.
 #[inline(always)]
 pub(crate) fn is_raw(mode: Mode) -> bool {

@@ -23,32 +23,23 @@ pub struct Elements<'a> {
 /// The elements of a raw string or another.
 #[inline(always)]
 pub(crate) fn elements_of(src: &str, raw: bool) -> Elements<'_> {
-    if raw {
-        Elements::new_raw(src)
-    } else {
-        Elements::new(src)
+    Elements {
+        rest: src,
+        total: src.len(),
+        raw,
+        waiting: None,
     }
 }
 
 impl<'a> Elements<'a> {
     /// The elements of `src`, which is what stands between the quotes of a string, byte string or C string.
     pub fn new(src: &'a str) -> Elements<'a> {
-        Elements {
-            rest: src,
-            total: src.len(),
-            raw: false,
-            waiting: None,
-        }
+        elements_of(src, false)
     }
 
     /// The elements of `src`, which is what stands between the quotes of a raw string, of any kind.
     pub fn new_raw(src: &'a str) -> Elements<'a> {
-        Elements {
-            rest: src,
-            total: src.len(),
-            raw: true,
-            waiting: None,
-        }
+        elements_of(src, true)
     }
 
     /// The next thing that is wrong in a literal of this kind, and its place; the elements before it are passed over.

@@ -1,6 +1,6 @@
 //! What is wrong in a literal, one thing after another.
 
-use crate::erased::check::{is_raw, is_single, single_error};
+use crate::erased::check::{is_raw, single_error};
 use crate::erased::elements::{Elements, elements_of};
 use crate::erased::error::EscapeError;
 use crate::erased::mode::Mode;
@@ -26,7 +26,7 @@ pub struct Faults<'a> {
 impl<'a> Faults<'a> {
     /// What is wrong in a literal of this kind, of which `src` stands between the quotes.
     pub fn new(src: &'a str, mode: Mode) -> Faults<'a> {
-        if is_single(mode) {
+        if !mode.in_double_quotes() {
             return Faults {
                 alone: single_error(src, mode),
                 elements: Elements::new(""),

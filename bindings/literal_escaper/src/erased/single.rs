@@ -4,6 +4,7 @@ use crate::erased::element::Element;
 use crate::erased::error::EscapeError;
 use crate::erased::escape::escape;
 use crate::erased::scan::split_first;
+use crate::erased::strings::{AsByte, AsChar, Meaning};
 
 /// The character that a character literal stands for, of which `src` is what stands between the quotes.
 ///
@@ -13,35 +14,22 @@ use crate::erased::scan::split_first;
 /// unescape_char("ab") // Err(EscapeError::MoreThanOneChar)
 /// ```
 pub fn unescape_char(src: &str) -> Result<char, EscapeError> {
-    read_char(src)
-}
-
-/// The character of the one element, if nothing is left past it.
-fn read_char(src: &str) -> Result<char, EscapeError> {
-    let Some((element, left)) = single(src) else {
-        return Err(EscapeError::ZeroChars);
-    };
-    let c = element.to_char()?;
-    if left.is_empty() {
-        Ok(c)
-    } else {
-        Err(EscapeError::MoreThanOneChar)
-    }
+    read::<AsChar>(src)
 }
 
 /// The byte that a byte literal stands for, of which `src` is what stands between the quotes.
 pub fn unescape_byte(src: &str) -> Result<u8, EscapeError> {
-    read_byte(src)
+    read::<AsByte>(src)
 }
 
-/// The byte of the one element, if nothing is left past it.
-fn read_byte(src: &str) -> Result<u8, EscapeError> {
+/// What the one element stands for, if nothing is left past it.
+fn read<M: Meaning>(src: &str) -> Result<M::Meant, EscapeError> {
     let Some((element, left)) = single(src) else {
         return Err(EscapeError::ZeroChars);
     };
-    let byte = element.to_byte()?;
+    let meant = M::of(element)?;
     if left.is_empty() {
-        Ok(byte)
+        Ok(meant)
     } else {
         Err(EscapeError::MoreThanOneChar)
     }

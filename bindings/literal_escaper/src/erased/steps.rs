@@ -31,14 +31,20 @@ pub(crate) fn advance(rest: &str, total: usize, raw: bool) -> Told<'_> {
     }
 }
 
-/// What is told at the character `c` of a raw string or another, as [`step`] does.
+/// What is told at the character `c` of a raw string or another, which begins at the place `start`, before `tail`.
 #[inline(always)]
-pub(crate) fn step_by(raw: bool, c: char, tail: &str, start: usize, total: usize) -> Told<'_> {
+fn step_by(raw: bool, c: char, tail: &str, start: usize, total: usize) -> Told<'_> {
     if raw {
-        one(raw_element(c), tail, start, total)
-    } else {
-        step(c, tail, start, total)
+        return one(raw_element(c), tail, start, total);
     }
+    if c != '\\' {
+        return one(unescaped(c), tail, start, total);
+    }
+    if let Some(line) = strip_newline(tail) {
+        return line_end(line, start, total);
+    }
+    let (element, left) = escape(tail);
+    one(element, left, start, total)
 }
 
 /// The item at the front of what is left of a text of `total` bytes, and what is left past it.
@@ -153,19 +159,6 @@ fn raw_element(c: char) -> Element {
     }
 }
 
-/// What is told at the character `c`, which begins at the place `start`, before `tail`.
-#[inline(always)]
-fn step(c: char, tail: &str, start: usize, total: usize) -> Told<'_> {
-    if c != '\\' {
-        return one(unescaped(c), tail, start, total);
-    }
-    if let Some(line) = strip_newline(tail) {
-        return line_end(line, start, total);
-    }
-    let (element, left) = escape(tail);
-    one(element, left, start, total)
-}
-
 /// One item, of the element from the place `start` up to what is left past it.
 #[inline(always)]
 fn one(element: Element, left: &str, start: usize, total: usize) -> Told<'_> {
@@ -196,15 +189,12 @@ fn strip_newline(text: &str) -> Option<&str> {
 /// The warnings past a backslash and a newline, which begin at the place `start`.
 #[inline(always)]
 fn line_end(line: &str, start: usize, total: usize) -> Told<'_> {
-    let (more_lines, left) = pass_over(line);
+    let (newline, left) = pass_over(line);
+    let more_lines = more_lines(newline, left, start, total);
     let more_space = more_space(left, start, total);
-    if more_lines {
-        let lines = (
-            start..total - left.len(),
-            Element::Fault(EscapeError::MultipleSkippedLinesWarning),
-        );
+    if newline {
         Told {
-            first: Some(lines),
+            first: more_lines,
             second: more_space,
             left,
         }

@@ -72,8 +72,8 @@ pub fn check_raw_c_str<F: FnMut(Range<usize>, Result<NonZeroChar, EscapeError>)>
 }
 
 /// What the elements of one kind of string stand for.
-trait Meaning {
-    type Meant;
+pub(crate) trait Meaning {
+    type Meant: Copy;
 
     /// What an element stands for.
     fn of(element: Element) -> Result<Self::Meant, EscapeError>;
@@ -98,7 +98,7 @@ trait Meaning {
 }
 
 /// What strings stand for: characters.
-struct AsChar;
+pub(crate) struct AsChar;
 
 impl Meaning for AsChar {
     type Meant = char;
@@ -110,7 +110,7 @@ impl Meaning for AsChar {
 }
 
 /// What byte strings and raw ones stand for: bytes.
-struct AsByte;
+pub(crate) struct AsByte;
 
 impl Meaning for AsByte {
     type Meant = u8;

@@ -1,12 +1,12 @@
-use Rattle.std.proofs.Common.{◌≡◌, ◌-◌, ◌∷◌, List, [], ℕ, false, length, map, refl, sym, subst, ap, ◌∙◌, arith, rules}
+use Rattle.std.proofs.Common.{◌≡◌, ◌-◌, ◌∷◌, List, [], false, length, map, refl, sym, subst, ap, ◌∙◌, arith, rules}
 use Rattle.std.specs.List.{FoldsTo}
 use Rattle.std.specs.Str.{chars}
-use Rattle.rustc_literal_escaper.specs.declared.element.Element.TheVariants.{Byte, Plain}
-use Rattle.rustc_literal_escaper.specs.Elements.{Front, Item, front_by, item_at, items_from, StartsWithOne}
+use Rattle.rustc_literal_escaper.specs.declared.element.Element.TheVariants.{Byte}
+use Rattle.rustc_literal_escaper.specs.Elements.{Front, Item, front_by, item_at, items_from}
 use Rattle.rustc_literal_escaper.specs.Errors.{Error, errors_in}
 use Rattle.rustc_literal_escaper.proofs.ErrorLemmas.{folds-errors}
-use Rattle.rustc_literal_escaper.proofs.ItemLemmas.{items-step, nothing}
-use Rattle.rustc_literal_escaper.proofs.SkipLemmas.{first-item, first-plain}
+use Rattle.rustc_literal_escaper.proofs.ItemLemmas.{first-one, items-step, nothing}
+use Rattle.rustc_literal_escaper.proofs.PlainLemmas.{first-plain}
 use Rattle.rustc_literal_escaper.proofs.check.check_escaped.Goals as goal
 
 pub items-preserved-then-is_plain : goal.items-preserved-then-is_plain
@@ -14,10 +14,8 @@ items-preserved-then-is_plain g c = (
   c.past_fine-left.ensures.text,
   c.check_element.ensures.callable,
   (let a = c.past_simple_front-front.ensures.shorter in let b = c.in-Some.ensures.1 in let d = c.past_fine-left.ensures.shorter in let m = c.items.invariant.2 in omega arith),
-  λ last calls. c.items.invariant.3 last
-      (subst (λ (es : List Error). FoldsTo (λ f error h. goal.F-step g f error.0 error.1 tt h) c.items.callback es last) (c.past_simple_front-front.ensures.same c.args.mode c.args.total)
-      (folds-errors (λ f error h. goal.F-step g f error.0 error.1 tt h) c.args.mode c.items.callback c.check_element.new.callback last _
-      ((record { start = c.args.total - length c.past_simple_front-front.result.now; end = c.args.total - length c.in-Some.tail.now }, Plain c.in-Some.c) ∷ []) (items_from (front_by false) c.args.total (chars c.in-Some.tail.now))
+  λ last calls. c.items.invariant.3 last (subst (λ (es : List Error). FoldsTo (λ f error h. goal.F-step g f error.0 error.1 tt h) c.items.callback es last) (c.past_simple_front-front.ensures.same c.args.mode c.args.total)
+      (folds-errors (λ f error h. goal.F-step g f error.0 error.1 tt h) c.args.mode c.items.callback c.check_element.new.callback last _ (_ ∷ []) _
       (first-plain false c.args.total c.past_simple_front-front.result.now c.in-Some.tail.now c.in-Some.c c.past_simple_front-front.ensures.text c.in-Some.ensures.2 c.in-Some.ensures.0 (search rules))
       c.check_element.ensures.calls
       (subst (λ (es : List Error). FoldsTo (λ f error h. goal.F-step g f error.0 error.1 tt h) c.check_element.new.callback es last) (c.past_fine-left.ensures.same c.args.total) calls))),
@@ -28,12 +26,9 @@ items-preserved-in-Some-byte_at g c = (
   c.in-Some-byte_at.ensures.1,
   c.check_element-in-Some-byte_at.ensures.callable,
   (let a = c.in-Some-byte_at.ensures.2 in let b = c.in-Some.ensures.1 in let d = c.past_simple_front-front.ensures.shorter in let m = c.items.invariant.2 in omega arith),
-  λ last calls. c.items.invariant.3 last
-      (subst (λ (es : List Error). FoldsTo (λ f error h. goal.F-step g f error.0 error.1 tt h) c.items.callback es last) (c.past_simple_front-front.ensures.same c.args.mode c.args.total)
-      (folds-errors (λ f error h. goal.F-step g f error.0 error.1 tt h) c.args.mode c.items.callback c.check_element-in-Some-byte_at.new.callback last _
-      ((record { start = c.args.total - length c.past_simple_front-front.result.now; end = c.args.total - length c.in-Some-byte_at.behind.now }, Byte c.in-Some-byte_at.byte) ∷ []) (items_from (front_by false) c.args.total (chars c.in-Some-byte_at.behind.now))
-      (first-item false c.args.total c.past_simple_front-front.result.now c.in-Some-byte_at.behind.now (Byte c.in-Some-byte_at.byte) c.past_simple_front-front.ensures.text c.in-Some-byte_at.ensures.1
-      (subst (λ (s : List ℕ). StartsWithOne false s (Byte c.in-Some-byte_at.byte) (chars c.in-Some-byte_at.behind.now)) (sym c.in-Some.ensures.0) c.in-Some-byte_at.ensures.0))
+  λ last calls. c.items.invariant.3 last (subst (λ (es : List Error). FoldsTo (λ f error h. goal.F-step g f error.0 error.1 tt h) c.items.callback es last) (c.past_simple_front-front.ensures.same c.args.mode c.args.total)
+      (folds-errors (λ f error h. goal.F-step g f error.0 error.1 tt h) c.args.mode c.items.callback c.check_element-in-Some-byte_at.new.callback last _ (_ ∷ []) _
+      (first-one false c.args.total c.past_simple_front-front.result.now c.in-Some-byte_at.behind.now _ _ (Byte c.in-Some-byte_at.byte) c.past_simple_front-front.ensures.text c.in-Some-byte_at.ensures.1 c.in-Some.ensures.0 c.in-Some-byte_at.ensures.0)
       c.check_element-in-Some-byte_at.ensures.calls calls)),
 )
 
@@ -42,10 +37,9 @@ items-preserved-in-Some-line_at g c = (
   c.check_warnings-left.ensures.text,
   c.check_warnings-left.ensures.callable,
   (let a = c.in-Some-line_at.ensures.1 in let b = c.in-Some.ensures.1 in let d = c.check_warnings-left.ensures.shorter in let e = c.past_simple_front-front.ensures.shorter in let m = c.items.invariant.2 in omega arith),
-  λ last calls. c.items.invariant.3 last
-      (subst (λ (es : List Error). FoldsTo (λ f error h. goal.F-step g f error.0 error.1 tt h) c.items.callback es last) (c.past_simple_front-front.ensures.same c.args.mode c.args.total)
+  λ last calls. c.items.invariant.3 last (subst (λ (es : List Error). FoldsTo (λ f error h. goal.F-step g f error.0 error.1 tt h) c.items.callback es last) (c.past_simple_front-front.ensures.same c.args.mode c.args.total)
       (folds-errors (λ f error h. goal.F-step g f error.0 error.1 tt h) c.args.mode c.items.callback c.check_warnings-left.new.callback last _ _ _
-      (items-step false c.args.total c.past_simple_front-front.result.now c.in-Some.tail.now c.check_warnings-left.result.now c.in-Some.c _ c.past_simple_front-front.ensures.text c.in-Some.ensures.0
+      (items-step false c.args.total c.past_simple_front-front.result.now _ _ _ _ c.past_simple_front-front.ensures.text c.in-Some.ensures.0
       (ap (λ (f : Front). map (item_at c.args.total (c.args.total - length c.past_simple_front-front.result.now)) f.told) (sym c.in-Some-line_at.ensures.0))
       (c.check_warnings-left.ensures.left ∙ ap (λ (f : Front). f.left) (sym c.in-Some-line_at.ensures.0)))
       c.check_warnings-left.ensures.calls calls)),
@@ -56,12 +50,9 @@ items-preserved g c = (
   c.lone_element-element.ensures.text,
   c.check_element-in-items.ensures.callable,
   (let a = c.lone_element-element.ensures.shorter in let b = c.in-Some.ensures.1 in let d = c.past_simple_front-front.ensures.shorter in let m = c.items.invariant.2 in omega arith),
-  λ last calls. c.items.invariant.3 last
-      (subst (λ (es : List Error). FoldsTo (λ f error h. goal.F-step g f error.0 error.1 tt h) c.items.callback es last) (c.past_simple_front-front.ensures.same c.args.mode c.args.total)
-      (folds-errors (λ f error h. goal.F-step g f error.0 error.1 tt h) c.args.mode c.items.callback c.check_element-in-items.new.callback last _
-      ((record { start = c.args.total - length c.past_simple_front-front.result.now; end = c.args.total - length c.lone_element-element.result.1.now }, c.lone_element-element.result.0) ∷ []) (items_from (front_by false) c.args.total (chars c.lone_element-element.result.1.now))
-      (first-item false c.args.total c.past_simple_front-front.result.now c.lone_element-element.result.1.now c.lone_element-element.result.0 c.past_simple_front-front.ensures.text c.lone_element-element.ensures.text
-      (subst (λ (s : List ℕ). StartsWithOne false s c.lone_element-element.result.0 (chars c.lone_element-element.result.1.now)) (sym c.in-Some.ensures.0) c.lone_element-element.ensures.read))
+  λ last calls. c.items.invariant.3 last (subst (λ (es : List Error). FoldsTo (λ f error h. goal.F-step g f error.0 error.1 tt h) c.items.callback es last) (c.past_simple_front-front.ensures.same c.args.mode c.args.total)
+      (folds-errors (λ f error h. goal.F-step g f error.0 error.1 tt h) c.args.mode c.items.callback c.check_element-in-items.new.callback last _ (_ ∷ []) _
+      (first-one false c.args.total c.past_simple_front-front.result.now c.lone_element-element.result.1.now _ _ c.lone_element-element.result.0 c.past_simple_front-front.ensures.text c.lone_element-element.ensures.text c.in-Some.ensures.0 c.lone_element-element.ensures.read)
       c.check_element-in-items.ensures.calls calls)),
 )
 

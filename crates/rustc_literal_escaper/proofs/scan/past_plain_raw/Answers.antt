@@ -2,13 +2,13 @@ use Rattle.std.proofs.Common.{true, List, ℕ, Some, None, sym, subst}
 use Rattle.std.specs.Str.{chars}
 use Rattle.memchr.specs.Find.{IsFirstByte, is_byte}
 use Rattle.rustc_literal_escaper.specs.Plain.{is_plain, Passes}
-use Rattle.rustc_literal_escaper.proofs.SkipLemmas.{raw_found, raw_none}
+use Rattle.rustc_literal_escaper.proofs.SkipLemmas.{byte_plain, byte_small, past-found, past-none}
 use Rattle.rustc_literal_escaper.proofs.scan.past_plain_raw.Goals as goal
 
 pub returns-in-Some-clause-passes : goal.returns-in-Some-clause-passes
 returns-in-Some-clause-passes c =
     let found = subst (λ (xs : List ℕ). IsFirstByte (is_byte 13) xs (Some c.in-Some.at)) c.as_bytes.ensures.value c.in-Some.ensures in
-    subst (λ (xs : List ℕ). Passes (is_plain true) (chars c.args.rest.now) (chars xs)) (sym c.range_from.ensures.value) (raw_found c.args.rest.now c.in-Some.at c.utf8.rest found)
+    subst (λ (xs : List ℕ). Passes (is_plain true) (chars c.args.rest.now) (chars xs)) (sym c.range_from.ensures.value) (past-found true (is_byte 13) byte_small byte_plain c.args.rest.now c.in-Some.at c.utf8.rest found)
 
 pub returns-in-None-clause-passes : goal.returns-in-None-clause-passes
-returns-in-None-clause-passes c = raw_none c.args.rest.now c.utf8.rest (subst (λ (xs : List ℕ). IsFirstByte (is_byte 13) xs None) c.as_bytes.ensures.value c.in-None.ensures)
+returns-in-None-clause-passes c = past-none true (is_byte 13) byte_small byte_plain c.args.rest.now c.utf8.rest (subst (λ (xs : List ℕ). IsFirstByte (is_byte 13) xs None) c.as_bytes.ensures.value c.in-None.ensures)

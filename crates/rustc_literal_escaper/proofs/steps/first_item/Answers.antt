@@ -1,5 +1,5 @@
 use Rattle.std.proofs.Common.{arith}
-use Rattle.rustc_literal_escaper.proofs.SkipLemmas.{first-item}
+use Rattle.rustc_literal_escaper.proofs.ItemLemmas.{first-item}
 use Rattle.rustc_literal_escaper.proofs.steps.first_item.Goals as goal
 
 pub returns : goal.returns

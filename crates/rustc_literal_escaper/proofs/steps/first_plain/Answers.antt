@@ -1,5 +1,5 @@
 use Rattle.std.proofs.Common.{arith, rules}
-use Rattle.rustc_literal_escaper.proofs.SkipLemmas.{first-plain}
+use Rattle.rustc_literal_escaper.proofs.PlainLemmas.{first-plain}
 use Rattle.rustc_literal_escaper.proofs.steps.first_plain.Goals as goal
 
 pub returns : goal.returns

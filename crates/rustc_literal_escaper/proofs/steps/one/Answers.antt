@@ -1,6 +1,6 @@
 use Rattle.std.proofs.Common.{[], ◌∷◌, ap}
 use Rattle.rustc_literal_escaper.specs.Elements.{Item}
-use Rattle.rustc_literal_escaper.proofs.PlaceLemmas.{item-is}
+use Rattle.rustc_literal_escaper.proofs.ItemLemmas.{item-is}
 use Rattle.rustc_literal_escaper.proofs.steps.one.Goals as goal
 
 pub returns-clause-told : goal.returns-clause-told

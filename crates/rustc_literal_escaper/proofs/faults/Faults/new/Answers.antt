@@ -1,4 +1,4 @@
-use Rattle.std.proofs.Common.{◌≡◌, ◌++◌, Bool, true, false, true≢false, if◌then◌else◌, List, refl, ap, ◌∙◌}
+use Rattle.std.proofs.Common.{◌≡◌, ◌++◌, Bool, true, false, true≢false, if◌then◌else◌, List, refl, ap, ◌∙◌, arith}
 use Rattle.std.proofs.lemmas.List.{append-nil}
 use Rattle.std.specs.Option.{option_to_list}
 use Rattle.std.specs.Str.{chars}
@@ -10,8 +10,8 @@ chosen : (b : Bool) → true ≡ b → (alone more : List Error) → alone ≡ (
 chosen true e alone more = refl
 chosen false e alone more = absurd (true≢false e)
 
-pub returns-then-is_single : goal.returns-then-is_single
+pub returns-then-not-in_double_quotes : goal.returns-then-not-in_double_quotes
 unfolding items_from chars
-returns-then-is_single c =
+returns-then-not-in_double_quotes c =
     ap (λ (items : List Item). option_to_list c.single_error.result ++ errors_in c.args.mode items) c.new.ensures.items
-    ∙ (append-nil (option_to_list c.single_error.result) ∙ (ap option_to_list c.single_error.ensures ∙ chosen (is_single c.args.mode) (c.if-is_single.ensures) _ _))
+    ∙ (append-nil (option_to_list c.single_error.result) ∙ (ap option_to_list c.single_error.ensures ∙ chosen (is_single c.args.mode) (grind (arith, c.in_double_quotes.ensures, c.if-not-in_double_quotes.true)) _ _))
