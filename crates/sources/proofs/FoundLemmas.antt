@@ -1,5 +1,5 @@
 -- What a walk of folders comes to, step by step.
-use Rattle.std.proofs.Common.{◌≡◌, ◌≢◌, ℕ, ◌<◌, true, List, [], ◌∷◌, ◌++◌, length, map, get_or, Bor, sym, ap, ◌∙◌, subst, String, append_assoc, append-nil, arith, inl, inr, nat_cmp}
+use Rattle.std.proofs.Common.{◌≡◌, ℕ, ◌<◌, true, List, [], ◌∷◌, ◌++◌, length, map, get_or, Bor, sym, ap, ◌∙◌, subst, String, append_assoc, append-nil, arith, inl, inr, nat_cmp}
 use Rattle.std.specs.Global.{Global}
 use Rattle.std.specs.Prelude.{string_bytes, string_cmp, string_eq, Result, Ok, Err}
 use Rattle.std.specs.Cmp.{unsigned_ties}
@@ -16,7 +16,7 @@ use Rattle.std.proofs.lemmas.List.Sorted.{All-permutation}
 use Rattle.std.specs.declared.io.ErrorKind.{ErrorKind}
 use Rattle.sources.specs.declared.fault.PathFault.{PathFault}
 use Rattle.sources.specs.declared.walk.Choice.{Choice}
-use Rattle.sources.specs.declared.walk.Choice.TheVariants.{Folder, Source, Neither}
+use Rattle.sources.specs.declared.walk.Choice.TheVariants.{Folder, Source}
 use Rattle.sources.specs.Names.{is_source_name, IsFolderName}
 use Rattle.sources.specs.Found.{name_of, Adds, IsAskedOrSource, IsInOrder, IsNoLackOfMemory, IsRefusal, IsSourcePath, IsTold, IsWalked, TakesFile, TakesFolder, TakesRefusal}
 
@@ -48,15 +48,11 @@ module _ {T : Type 0} (Is : T → Type 0) where
 -- what is told of an entry of a folder adds a source at most, a folder at most, and a refusal at most
 pub files-added : (told : Result Choice ErrorKind) (path : List ℕ) (old new : List (String Global)) → IsTold path told → TakesFile told path old new → Adds IsSourcePath old new
 files-added (Ok Source) path old new is took = adds_one IsSourcePath old new took.0 took.1 (subst (λ name. is_source_name (name_of name) ≡ true) (sym took.2) is)
-files-added (Ok Folder) path old new is took = subst (Adds IsSourcePath old) (sym took) (adds_none IsSourcePath old)
-files-added (Ok Neither) path old new is took = subst (Adds IsSourcePath old) (sym took) (adds_none IsSourcePath old)
-files-added (Err kind) path old new is took = subst (Adds IsSourcePath old) (sym took) (adds_none IsSourcePath old)
+files-added told path old new is took = subst (Adds IsSourcePath old) (sym took) (adds_none IsSourcePath old)
 
 pub folders-added : (told : Result Choice ErrorKind) (path : List ℕ) (old new : List (String Global)) → IsTold path told → TakesFolder told path old new → Adds IsWalked old new
 folders-added (Ok Folder) path old new is took = adds_one IsWalked old new took.0 took.1 (subst (λ name. IsFolderName (name_of name)) (sym took.2) is)
-folders-added (Ok Source) path old new is took = subst (Adds IsWalked old) (sym took) (adds_none IsWalked old)
-folders-added (Ok Neither) path old new is took = subst (Adds IsWalked old) (sym took) (adds_none IsWalked old)
-folders-added (Err kind) path old new is took = subst (Adds IsWalked old) (sym took) (adds_none IsWalked old)
+folders-added told path old new is took = subst (Adds IsWalked old) (sym took) (adds_none IsWalked old)
 
 pub faults-added : (told : Result Choice ErrorKind) (path : List ℕ) (old new : List PathFault) → IsNoLackOfMemory told → TakesRefusal told path old new → Adds IsRefusal old new
 faults-added (Err kind) path old new other took = adds_one IsRefusal old new took.0 took.1 (kind, took.3, other)
@@ -71,9 +67,7 @@ asked_at paths k d below =
 -- a path that was asked for is a file at most, and what a walk adds has the name of a source
 pub asked-added : (asked : List (List ℕ)) (told : Result Choice ErrorKind) (path : List ℕ) (old new : List (String Global)) → Contains asked path → TakesFile told path old new → Adds (IsAskedOrSource asked) old new
 asked-added asked (Ok Source) path old new is took = adds_one (IsAskedOrSource asked) old new took.0 took.1 (inl (subst (Contains asked) (sym took.2) is))
-asked-added asked (Ok Folder) path old new is took = subst (Adds (IsAskedOrSource asked) old) (sym took) (adds_none (IsAskedOrSource asked) old)
-asked-added asked (Ok Neither) path old new is took = subst (Adds (IsAskedOrSource asked) old) (sym took) (adds_none (IsAskedOrSource asked) old)
-asked-added asked (Err kind) path old new is took = subst (Adds (IsAskedOrSource asked) old) (sym took) (adds_none (IsAskedOrSource asked) old)
+asked-added asked told path old new is took = subst (Adds (IsAskedOrSource asked) old) (sym took) (adds_none (IsAskedOrSource asked) old)
 
 pub sources-due : (asked : List (List ℕ)) (old new : List (String Global)) → Adds IsSourcePath old new → Adds (IsAskedOrSource asked) old new
 sources-due asked old new added = (added.0, added.1, λ k d below. inr (added.2 k d below))

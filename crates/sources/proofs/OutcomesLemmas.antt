@@ -5,7 +5,7 @@ use Rattle.std.specs.List.{All}
 use Rattle.std.proofs.lemmas.List.{map-append}
 use Rattle.std.proofs.lemmas.List.Elements.{All-append, All-nil}
 use Rattle.sources.specs.declared.fault.Fault.{Fault}
-use Rattle.sources.specs.declared.fault.Fault.TheVariants.{Memory, Source}
+use Rattle.sources.specs.declared.fault.Fault.TheVariants.{Memory}
 use Rattle.sources.specs.declared.fault.PathFault.{PathFault}
 use Rattle.sources.specs.declared.fault.Reason.{Reason}
 use Rattle.sources.specs.Outcomes.{Sources, passed_over, source, IsOfSource}
@@ -17,9 +17,8 @@ passed_over-append ((path, Err reason) ∷ xs) ys = ap (λ faults. record { path
 
 -- the path of a source that was taken
 path-source : {T : Type 0} (path : String Global) (came : Result T Fault) → IsOfSource came → map (λ one. one.0) (source path came) ≡ path ∷ []
-path-source path (Ok made) is = refl
-path-source path (Err (Source reason)) is = refl
 path-source path (Err Memory) is = absurd is
+path-source path came is = refl
 
 module _ {T : Type 0} (MayBe : String Global × Result T Reason → Type 0) where
   -- of these paths, those before the ones that are left were taken

@@ -15,7 +15,7 @@ use Rattle.sources.specs.declared.fault.PathFault.{PathFault}
 use Rattle.sources.specs.declared.fault.Reason.{Reason}
 use Rattle.sources.specs.declared.fault.Reason.TheVariants.{System}
 use Rattle.sources.specs.declared.walk.Choice.{Choice}
-use Rattle.sources.specs.declared.walk.Choice.TheVariants.{Folder, Source, Neither}
+use Rattle.sources.specs.declared.walk.Choice.TheVariants.{Folder, Source}
 use Rattle.sources.specs.Names.{is_source_name, IsFolderName}
 
 -- each path comes before those after it, by their bytes: so they are in order, and each stands once
@@ -76,8 +76,7 @@ IsNoLackOfMemory (Ok choice) = Unit {0}
 abbrev pub IsTold : List ℕ → Result Choice ErrorKind → Type 0
 IsTold path (Ok Source) = IsTrue (is_source_name (name_of path))
 IsTold path (Ok Folder) = IsFolderName (name_of path)
-IsTold path (Ok Neither) = Unit {0}
-IsTold path (Err kind) = Unit {0}
+IsTold path told = Unit {0}
 
 -- of a path that was asked for: a folder is walked, and all else is a source, whatever its name
 abbrev pub told_of_path : Result Metadata Error → Result Choice ErrorKind

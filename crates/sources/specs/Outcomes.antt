@@ -26,9 +26,8 @@ source path (Err Memory) = []
 
 -- it was no lack of memory
 abbrev pub IsOfSource : {T : Type 0} → Result T Fault → Type 0
-IsOfSource (Ok made) = Unit {0}
-IsOfSource (Err (Source reason)) = Unit {0}
 IsOfSource (Err Memory) = ⊥
+IsOfSource came = Unit {0}
 
 module _ {T : Type 0} (MayBe : String Global × Result T Reason → Type 0) where
   -- of each of the paths came what may come of it, and the faults are those from before, and then the sources that were passed

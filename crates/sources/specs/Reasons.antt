@@ -18,10 +18,7 @@ IsText bytes = IsUtf8 bytes × (length bytes < 2 ^ 32)
 abbrev pub IsNoText : List ℕ → Reason → Type 0
 IsNoText bytes NotUtf8 = (length bytes < 2 ^ 32) × ¬ (IsUtf8 bytes)
 IsNoText bytes TooLong = 2 ^ 32 ≤ length bytes
-IsNoText bytes Changed = ⊥
-IsNoText bytes NoFile = ⊥
-IsNoText bytes Read = ⊥
-IsNoText bytes (System kind) = ⊥
+IsNoText bytes reason = ⊥
 
 -- why no text is had of an input, by its bytes where they are known: those of another may be lost to a failed reader or to
 -- refused memory
@@ -30,9 +27,7 @@ IsInputFault known Memory = Unit {0}
 IsInputFault known (Source NotUtf8) = IfSome known (λ bytes. IsNoText bytes NotUtf8)
 IsInputFault known (Source TooLong) = IfSome known (λ bytes. IsNoText bytes TooLong)
 IsInputFault known (Source Read) = Unit {0}
-IsInputFault known (Source Changed) = ⊥
-IsInputFault known (Source NoFile) = ⊥
-IsInputFault known (Source (System kind)) = ⊥
+IsInputFault known fault = ⊥
 
 -- why a source is passed over where the system refuses it
 abbrev pub system_fault : ErrorKind → Fault
@@ -49,10 +44,8 @@ IsSystemFault fault = ⊥
 abbrev pub IsFileReason : Reason → Type 0
 IsFileReason NotUtf8 = Unit {0}
 IsFileReason TooLong = Unit {0}
-IsFileReason Changed = ⊥
-IsFileReason NoFile = ⊥
-IsFileReason Read = ⊥
 IsFileReason (System kind) = kind ≢ OutOfMemory
+IsFileReason reason = ⊥
 
 -- bytes that are no text, or refused memory
 abbrev pub IsTextFault : List ℕ → Fault → Type 0
