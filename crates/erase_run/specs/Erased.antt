@@ -1,5 +1,6 @@
 -- What is written of a source: its tokens in order, each by its fate.
 use Rattle.std.specs.Prelude.{ℕ, List, [], ◌∷◌, ◌++◌, take, drop, codes}
+use Rattle.std.specs.List.{flat_map}
 use Rattle.rustc_lexer.specs.declared.token.Token.{Token}
 use Rattle.erase_run.specs.declared.fate.Fate.{Fate}
 use Rattle.erase_run.specs.declared.fate.Fate.TheVariants.{Keep, Delete, Replace, Lead}
@@ -35,16 +36,12 @@ line_text Line.ProgramFormat = codes "\nuse rattle_std::prelude::format;\n"
 line_text Line.ProgramPrint = codes "\nuse rattle_std::prelude::print;\n"
 line_text Line.ProgramPrintln = codes "\nuse rattle_std::prelude::println;\n"
 
-abbrev pub lines_text : List Line → List ℕ
-lines_text [] = []
-lines_text (line ∷ lines) = line_text line ++ lines_text lines
-
 -- what is written for a token that has this text
 abbrev pub piece : List Line → Fate → List ℕ → List ℕ
 piece lines Keep text = text
 piece lines (Delete rule) text = []
 piece lines (Replace word) text = word_text word
-piece lines Lead text = lines_text lines ++ text
+piece lines Lead text = flat_map line_text lines ++ text
 
 -- the tokens of a text in order, each by its fate
 abbrev pub written : List Line → List ℕ → List Token → List Fate → List ℕ

@@ -1,6 +1,7 @@
 -- Which fates the tokens of a source may have: each has one, what is replaced has the text that its word stands for, and
 -- what goes is in stretches, each of which begins and ends as its rule says.
 use Rattle.std.specs.Prelude.{ℕ, ◌+◌, ◌-◌, ◌≡◌, Bool, true, false, ◌||◌, ◌&&◌, nat_eq, nat_lt, if◌then◌else◌, List, [], ◌∷◌, take, drop, codes, Option, Some, None}
+use Rattle.std.specs.Bool.{then_some}
 use Rattle.std.specs.List.{starts_with}
 use Rattle.std.specs.Str.{bytes_eq}
 use Rattle.rustc_lexer.specs.declared.token.DocStyle.TheVariants.{Outer}
@@ -102,17 +103,13 @@ go_on rule brackets kind text =
     if opens text then (if nat_lt brackets 255 then Some (Open rule (brackets + 1)) else None)
     else (if closes text then (if nat_eq brackets 0 then None else Some (outside rule (brackets - 1) kind text)) else Some (outside rule brackets kind text))
 
-abbrev pub closed_if : Bool → Option Stretch
-closed_if true = Some Closed
-closed_if false = None
-
 -- what is open behind a token with this fate; none where it may not have it
 abbrev pub step : Stretch → Fate → TokenKind → List ℕ → Option Stretch
 step (Open rule brackets) (Delete other) kind text = go_on rule brackets kind text
 step (Open rule brackets) fate kind text = None
 step Closed Keep kind text = Some Closed
 step Closed Lead kind text = Some Closed
-step Closed (Replace word) kind text = closed_if (bytes_eq text (replaced_text word))
+step Closed (Replace word) kind text = then_some (bytes_eq text (replaced_text word)) Closed
 step Closed (Delete rule) kind text = if begins rule kind text then go_on rule 0 kind text else None
 
 -- each token has one fate, which it may have behind those before it, and no stretch stays open

@@ -43,15 +43,9 @@ fn is_named(source: &Source<'_>, name: &str) -> bool {
         .as_bytes()
         .first()
         .is_some_and(|byte| byte.is_ascii_lowercase());
-    for n in 0..source.len() {
-        if source.is_kept(n)
-            && source.word(n) == name
-            && (!is_macro || source.word(past(n, 1)) == "!")
-        {
-            return true;
-        }
-    }
-    false
+    (0..source.len()).any(|n| {
+        source.is_kept(n) && source.word(n) == name && (!is_macro || source.word(past(n, 1)) == "!")
+    })
 }
 
 /// The token that the lines stand before: behind the documents of the file, and before those of its first item.

@@ -82,10 +82,5 @@ pub fn model(alloc: Global, source: &mut Source<'_>, n: usize) -> Result<usize, 
 
 /// Whether `Model for` stands between two words.
 fn names_model(source: &Source<'_>, from: usize, to: usize) -> bool {
-    for n in from..to {
-        if source.stands(n, &["Model", "for"]) {
-            return true;
-        }
-    }
-    false
+    (from..to).any(|n| source.stands(n, &["Model", "for"]))
 }

@@ -94,10 +94,7 @@ fn is_label(source: &Source<'_>, n: usize) -> bool {
 
 /// Whether a `break` or a `continue` names the label.
 fn is_named(source: &Source<'_>, label: &str) -> bool {
-    for n in 0..source.len() {
-        if ["break", "continue"].contains(&source.word(n)) && source.word(past(n, 1)) == label {
-            return true;
-        }
-    }
-    false
+    (0..source.len()).any(|n| {
+        ["break", "continue"].contains(&source.word(n)) && source.word(past(n, 1)) == label
+    })
 }

@@ -113,10 +113,7 @@ impl<'a> Source<'a> {
 
     /// The place of word `n` among all tokens.
     pub fn place(&self, n: usize) -> usize {
-        match self.words.get(n) {
-            Some(place) => *place,
-            None => self.pieces.len(),
-        }
+        self.words.get(n).copied().unwrap_or(self.pieces.len())
     }
 
     /// Word `n`, with its kind.
@@ -126,38 +123,22 @@ impl<'a> Source<'a> {
 
     /// The text of word `n`.
     pub fn word(&self, n: usize) -> &'a str {
-        match self.piece(n) {
-            Some(piece) => piece.text,
-            None => "",
-        }
+        self.piece(n).map_or("", |piece| piece.text)
     }
 
     /// The text of the word before word `n`.
     pub fn word_before(&self, n: usize) -> &'a str {
-        match n.checked_sub(1) {
-            Some(before) => self.word(before),
-            None => "",
-        }
+        n.checked_sub(1).map_or("", |before| self.word(before))
     }
 
     /// Whether these words stand at `n`.
     pub fn stands(&self, n: usize, words: &[&str]) -> bool {
-        for (i, word) in words.iter().enumerate() {
-            if self.word(past(n, i)) != *word {
-                return false;
-            }
-        }
-        true
+        (words.iter().enumerate()).all(|(i, word)| self.word(past(n, i)) == *word)
     }
 
     /// The first word at `n` or behind it that is one of these.
     pub fn find(&self, n: usize, words: &[&str]) -> Option<usize> {
-        for at in n..self.len() {
-            if (&*words).contains(&self.word(at)) {
-                return Some(at);
-            }
-        }
-        None
+        (n..self.len()).find(|at| (&*words).contains(&self.word(*at)))
     }
 
     /// Whether word `n` stays as it is.
@@ -167,10 +148,7 @@ impl<'a> Source<'a> {
 
     /// What becomes of the token at a place.
     pub fn fate_at(&self, place: usize) -> Fate {
-        match self.fates.get(place) {
-            Some(fate) => *fate,
-            None => Fate::Keep,
-        }
+        self.fates.get(place).copied().unwrap_or(Fate::Keep)
     }
 
     /// Gives the token at a place a fate.
@@ -304,11 +282,8 @@ fn is_close(word: &str) -> bool {
 
 /// How many newlines a text has.
 pub fn newlines(text: &str) -> usize {
-    let mut count: usize = 0;
-    for byte in text.as_bytes() {
-        if *byte == b'\n' {
-            count = count.saturating_add(1);
-        }
-    }
-    count
+    text.as_bytes()
+        .iter()
+        .filter(|byte| **byte == b'\n')
+        .count()
 }

@@ -1,5 +1,5 @@
 //! Which fates a token may have, by the tokens before it: what goes is a stretch of tokens that a rule names.
-ghost use Rattle.std.specs.Prelude.{◌≡◌, ◌↔◌, IsTrue};
+ghost use Rattle.std.specs.Prelude.{◌≡◌};
 ghost use Rattle.erase_run.specs.Fates as spec;
 
 use crate::fate::{Fate, Rule, Word};
@@ -23,7 +23,7 @@ pub fn step(stretch: Stretch, fate: Fate, piece: Piece<'_>) -> Option<Stretch>
         },
         Stretch::Closed => match fate {
             Fate::Keep | Fate::Lead => Some(Stretch::Closed),
-            Fate::Replace(word) => closed_if(piece.text == replaced_text(word)),
+            Fate::Replace(word) => (piece.text == replaced_text(word)).then_some(Stretch::Closed),
             Fate::Delete(rule) => {
                 if begins(rule, piece) {
                     go_on(rule, 0, piece)
@@ -35,44 +35,18 @@ pub fn step(stretch: Stretch, fate: Fate, piece: Piece<'_>) -> Option<Stretch>
     }
 }
 
-/// Whether nothing is open.
-pub fn is_closed(stretch: Stretch) -> bool
-    ensures { IsTrue result ↔ stretch ≡ Stretch.Closed }
-{
-    match stretch {
-        Stretch::Closed => true,
-        Stretch::Open { .. } => false,
-    }
-}
-
-/// No stretch, if the condition is met.
-fn closed_if(is_met: bool) -> Option<Stretch>
-    ensures { result ≡ spec.closed_if is_met }
-{
-    if is_met { Some(Stretch::Closed) } else { None }
-}
-
 /// What is open behind a token of a stretch: it ends with the first word that ends it outside all its brackets.
 fn go_on(rule: Rule, brackets: u8, piece: Piece<'_>) -> Option<Stretch>
     ensures { result ≡ spec.go_on rule brackets piece.entry.kind piece.entry.text.now }
 {
     if opens(piece.text) {
-        return if brackets < u8::MAX {
-            Some(Stretch::Open {
-                rule,
-                brackets: brackets + 1,
-            })
-        } else {
-            None
-        };
+        let brackets = brackets.checked_add(1)?;
+        return Some(Stretch::Open { rule, brackets });
     }
     if !closes(piece.text) {
         return Some(outside(rule, brackets, piece));
     }
-    if brackets == 0 {
-        return None;
-    }
-    Some(outside(rule, brackets - 1, piece))
+    Some(outside(rule, brackets.checked_sub(1)?, piece))
 }
 
 /// What is open behind a token that opens no bracket, where so many are open behind it.

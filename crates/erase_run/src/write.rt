@@ -1,5 +1,6 @@
 //! What is written of a source.
 ghost use Rattle.std.specs.Prelude.{◌≡◌, ◌++◌, IfOk, OnOk, string_bytes};
+ghost use Rattle.std.specs.List.{flat_map};
 ghost use Rattle.rustc_lexer.specs.Classes.{Fits};
 ghost use Rattle.rustc_lexer.specs.LanguageText.{mode_of};
 ghost use Rattle.rustc_lexer.specs.Tokens.{tokens_of};
@@ -12,7 +13,7 @@ use crate::front::{close_lines, lead};
 use crate::rules::apply;
 use crate::source::{Piece, Source, Target, newlines};
 use crate::stop::{Reason, Stop};
-use crate::stretch::{Stretch, is_closed, step};
+use crate::stretch::{Stretch, step};
 use rustc_lexer::{FrontmatterAllowed, tokenize};
 use std::alloc::{AllocError, Global};
 
@@ -81,7 +82,7 @@ fn written(alloc: Global, lines: &[Line], text: &str, fates: &[Fate]) -> Result<
         left = later;
         start = end;
     }
-    if left.is_empty() && is_closed(stretch) {
+    if left.is_empty() && stretch == Stretch::Closed {
         Ok(made)
     } else {
         Err(unfit(text))
@@ -115,7 +116,7 @@ fn push_piece(lines: &[Line], fate: Fate, text: &str, made: &mut String) -> Resu
 /// Appends lines.
 fn push_lines(lines: &[Line], made: &mut String) -> Result<(), AllocError>
     ensures { OnOk result (string_bytes made.new
-        ≡ string_bytes made.old ++ spec.lines_text lines.now) }
+        ≡ string_bytes made.old ++ flat_map spec.line_text lines.now) }
 {
     for line in lines {
         made.push_str(line_text(*line))?;
