@@ -38,6 +38,17 @@ in_edition options edition = unless_given options.edition record { html = option
 abbrev pub with_colours : Options → When → Option Options
 with_colours options when = unless_given options.color record { html = options.html; edition = options.edition; color = Some when }
 
+-- the options with the one that the first words write, and the words after them: `--html`, `--edition` and a year, or
+-- `--color` and a word that says when
+abbrev pub option_of : Options → List (List ℕ) → Option (Options × List (List ℕ))
+option_of options [] = None
+option_of options (word ∷ []) = if bytes_eq word (codes "--html") then option_map (λ o. (o, [])) (page options) else None
+option_of options (word ∷ next ∷ words) =
+    if bytes_eq word (codes "--html") then option_map (λ o. (o, next ∷ words)) (page options)
+    else (if bytes_eq word (codes "--edition") then option_map (λ o. (o, words)) (option_and_then (in_edition options) (edition_of next))
+    else (if bytes_eq word (codes "--color") then option_map (λ o. (o, words)) (option_and_then (with_colours options) (when_of next))
+    else None))
+
 -- the options that words write after those that stand before them: `--html`, `--edition` and a year, and `--color` and
 -- a word that says when, in any order and each at most once
 abbrev pub options_of : Options → List (List ℕ) → Option Options

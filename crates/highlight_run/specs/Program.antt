@@ -11,7 +11,7 @@ use Rattle.highlight_run.specs.declared.program.TheConstants.{HELP}
 use Rattle.highlight_run.specs.declared.stop.Stop.{Stop}
 use Rattle.highlight_run.specs.declared.stop.Stop.TheVariants.{Arguments, Memory}
 use Rattle.highlight_run.specs.Job.{job_of}
-use Rattle.highlight_run.specs.Outcome.{outcome, Ends}
+use Rattle.highlight_run.specs.Outcome.{Ends, Writes}
 
 -- no value, or an empty one
 abbrev pub is_unset : Result (String Global) VarError → Option Bool
@@ -28,8 +28,8 @@ colours_of no_color is_terminal = option_map (λ unset. unset && is_terminal) (i
 -- what a job comes to, or why there is none
 abbrev pub Does : Option Job → Option (List ℕ) → Option (List ℕ) → Option (List ℕ) → Result (Unit {0}) Stop → Type 0
 Does None known old new result = result ≡ Err Arguments
-Does (Some Help) known old new result = Ends old new result (Ok HELP.now)
-Does (Some (Show style edition)) known old new result = IfSome known (λ bytes. Ends old new result (outcome style edition bytes))
+Does (Some Help) known old new result = Writes HELP.now old new result
+Does (Some (Show style edition)) known old new result = IfSome known (λ bytes. Ends style edition bytes old new result)
 
 -- a run by words, or by none where they could not be had: it is that of the job which the words ask for, unless
 -- memory was refused; without words, or where it is not known whether colours are written, memory was refused

@@ -1,6 +1,7 @@
 //! What a run is to do.
-ghost use Rattle.std.specs.Prelude.{◌≡◌, map, string_bytes};
-ghost use Rattle.highlight_run.specs.Job.{in_edition, is_help, job_of, options_of, page, style_of, when_of, with_colours};
+ghost use Rattle.std.specs.Prelude.{◌≡◌, ◌<◌, IfSome, length, map, string_bytes};
+ghost use Rattle.std.specs.Option.{option_map};
+ghost use Rattle.highlight_run.specs.Job.{in_edition, is_help, job_of, option_of, options_of, page, style_of, when_of, with_colours};
 
 use marks::Style;
 use rustc_lexer::Edition;
@@ -64,20 +65,32 @@ fn is_help(words: &[String]) -> bool
     }
 }
 
-/// The options and those that the words write, in any order and each at most once: so it calls itself four times at most.
+/// The options and those that the words write, in any order and each at most once: so it calls itself three times at most.
 fn read_options(options: Options, words: &[String]) -> Option<Options>
     ensures { result ≡ options_of options (map string_bytes words.now) }
 {
+    if words.is_empty() {
+        return Some(options);
+    }
+    let (options, after) = read_option(options, words)?;
+    read_options(options, after)
+}
+
+/// The options with the one that the first words write, and the words after them.
+fn read_option(options: Options, words: &[String]) -> Option<(Options, &[String])>
+    ensures read { option_map (λ p. (p.0, map string_bytes p.1.now)) result
+        ≡ option_of options (map string_bytes words.now) }
+    ensures shorter { IfSome result (λ p. length p.1.now < length words.now) }
+{
     match words {
-        [] => Some(options),
-        [word, after @ ..] if word.as_str() == "--html" => read_options(page(options)?, after),
+        [word, after @ ..] if word.as_str() == "--html" => Some((page(options)?, after)),
         [word, year, after @ ..] if word.as_str() == "--edition" => {
             let edition = Edition::from_str(year.as_str()).ok()?;
-            read_options(in_edition(options, edition)?, after)
+            Some((in_edition(options, edition)?, after))
         }
         [word, when, after @ ..] if word.as_str() == "--color" => {
             let when = read_when(when.as_str())?;
-            read_options(with_colours(options, when)?, after)
+            Some((with_colours(options, when)?, after))
         }
         _ => None,
     }

@@ -2,7 +2,7 @@
 ghost use Rattle.std.specs.Prelude.{◌≡◌, ◌≢◌, ◌↔◌, false, true, IfErr, IfOk, IfSome, IsErrOf, IsTrue, OnErr, OnOk, string_bytes};
 ghost use Rattle.std.specs.Io.KnownBytes.{Appends, Keeps};
 ghost use Rattle.rustc_lexer.specs.Classes.{Fits};
-ghost use Rattle.highlight_run.specs.Outcome.{outcome, Ends, IsWriteStop};
+ghost use Rattle.highlight_run.specs.Outcome.{Ends, Writes};
 ghost use Rattle.highlight_run.specs.Page.{printed};
 ghost use Rattle.ends.specs.Known.{AppendsFront};
 
@@ -37,8 +37,8 @@ pub fn run<R: Read, W: Write>(
         (λ stop. stop ≢ Stop.Write → stop ≢ Stop.ClosedPipe
         → Keeps (W.contents output.old.inner) (W.contents output.new.inner)) }
     ensures ends { IfSome (R.remaining input.old.inner) (λ bytes.
-        Ends (W.contents output.old.inner) (W.contents output.new.inner) result
-        (outcome style edition bytes)) }
+        Ends style edition bytes (W.contents output.old.inner)
+        (W.contents output.new.inner) result) }
 {
     let bytes = read_all(alloc, input)?;
     let text = match std::str::from_utf8(bytes.as_slice()) {
@@ -68,11 +68,8 @@ pub(crate) fn put<W: Write>(output: &mut Watched<W>, text: &[u8]) -> Result<(), 
     ensures failed { IsErrOf result Stop.Write ↔ IsTrue output.new.faulty }
     ensures closed { IsErrOf result Stop.ClosedPipe ↔ IsTrue output.new.closed }
     ensures flushed { IfOk result (λ _. output.new.flushed ≡ true) }
-    ensures only { IfErr result IsWriteStop }
-    ensures ok { OnOk result
-        (Appends (W.contents output.old.inner) (W.contents output.new.inner) text.now) }
-    ensures err { OnErr result
-        (AppendsFront (W.contents output.old.inner) (W.contents output.new.inner) text.now) }
+    ensures writes { Writes text.now (W.contents output.old.inner)
+        (W.contents output.new.inner) result }
 {
     match write_all(output, text) {
         Ok(()) => Ok(()),
