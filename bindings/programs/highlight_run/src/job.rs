@@ -59,18 +59,26 @@ fn is_help(words: &[String]) -> bool {
     }
 }
 
-/// The options and those that the words write, in any order and each at most once: so it calls itself four times at most.
+/// The options and those that the words write, in any order and each at most once: so it calls itself three times at most.
 fn read_options(options: Options, words: &[String]) -> Option<Options> {
+    if words.is_empty() {
+        return Some(options);
+    }
+    let (options, after) = read_option(options, words)?;
+    read_options(options, after)
+}
+
+/// The options with the one that the first words write, and the words after them.
+fn read_option(options: Options, words: &[String]) -> Option<(Options, &[String])> {
     match words {
-        [] => Some(options),
-        [word, after @ ..] if word.as_str() == "--html" => read_options(page(options)?, after),
+        [word, after @ ..] if word.as_str() == "--html" => Some((page(options)?, after)),
         [word, year, after @ ..] if word.as_str() == "--edition" => {
             let edition = Edition::from_str(year.as_str()).ok()?;
-            read_options(in_edition(options, edition)?, after)
+            Some((in_edition(options, edition)?, after))
         }
         [word, when, after @ ..] if word.as_str() == "--color" => {
             let when = read_when(when.as_str())?;
-            read_options(with_colours(options, when)?, after)
+            Some((with_colours(options, when)?, after))
         }
         _ => None,
     }
