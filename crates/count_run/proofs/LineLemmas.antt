@@ -1,5 +1,5 @@
 -- A counter that went through a text has counted its lines.
-use Rattle.std.proofs.Common.{◌≡◌, ℕ, suc, ◌+◌, ◌<◌, ◌==◌, ◌||◌, Bool, true, false, cond, if◌then◌else◌, List, [], ◌∷◌, ◌++◌, length, map, take, drop, refl, sym, ap, ◌∙◌, arith, eqb-true, length-drop}
+use Rattle.std.proofs.Common.{◌≡◌, ℕ, suc, ◌+◌, ◌<◌, ◌==◌, ◌||◌, Bool, true, false, cond, if◌then◌else◌, List, [], ◌∷◌, ◌++◌, length, map, take, drop, refl, sym, ap, ◌∙◌, arith, length-drop}
 use Rattle.std.specs.List.{count_by, slice_split, onto_first}
 use Rattle.std.specs.Str.Lines.{lines, lines_of_parts}
 use Rattle.std.proofs.lemmas.List.{map-append, length-map, take-append-drop}
@@ -12,8 +12,9 @@ use Rattle.count_run.specs.declared.lines.Class.TheVariants.{Code}
 use Rattle.count_run.specs.declared.lines.Counter.{Counter}
 use Rattle.count_run.specs.declared.lines.Line.{Line}
 use Rattle.count_run.specs.declared.lines.LineCounts.{LineCounts}
-use Rattle.count_run.specs.Counter.{no_line, with_class, no_counts, counted, start, after_byte, after_bytes, finished}
+use Rattle.count_run.specs.Counter.{no_line, with_class, counted, start, after_byte, after_bytes, finished}
 use Rattle.count_run.specs.Lines.{Mark, mark, class_of, byte_of, token_marks, source_marks, shebang_len, marks, onto_line, split_lines, is_code, is_doc, is_comment, line_of, lines_of, counts_as_code, counts_as_doc, counts_as_comment, counts_as_blank, has_code_and_doc, has_code_and_comment, has_doc_and_comment, counts_of, line_counts, lines_counted}
+use Rattle.count_run.specs.Report.{no_counts}
 
 pub after_bytes-append : (c : Counter) (xs ys : List Mark) → after_bytes c (xs ++ ys) ≡ after_bytes (after_bytes c xs) ys
 after_bytes-append c [] ys = refl
@@ -60,15 +61,10 @@ abbrev joined : Line → Line → Line
 joined a b = record { code = a.code || b.code; doc = a.doc || b.doc; comment = a.comment || b.comment }
 
 or-swap : (a b c : Bool) → (a || b) || c ≡ b || (a || c)
-or-swap true true c = refl
-or-swap true false c = refl
-or-swap false b c = refl
+or-swap a b c = grind arith
 
 or-one : (a b : Bool) → a || b ≡ b || (a || false)
-or-one true true = refl
-or-one true false = refl
-or-one false true = refl
-or-one false false = refl
+or-one a b = grind arith
 
 same_line : {a b : Line} → a.code ≡ b.code → a.doc ≡ b.doc → a.comment ≡ b.comment → a ≡ b
 same_line p q r = λ i. record { code = p i; doc = q i; comment = r i }
@@ -145,35 +141,13 @@ sum-lines (l ∷ ls) = omega (
 
 -- ---- the lines are those that the language's own `lines` gives
 
-length-onto_line : (m : Mark) (parts : List (List Mark)) → 0 < length parts → length (onto_line m parts) ≡ length parts
-length-onto_line m [] some = absurd (omega arith)
-length-onto_line m (line ∷ others) some = refl
-
-length-onto_none : (m : Mark) (parts : List (List Mark)) → length parts < 2 → length (onto_line m parts) ≡ 1
-length-onto_none m [] few = refl
-length-onto_none m (line ∷ []) few = refl
-length-onto_none m (line ∷ next ∷ others) few = absurd (omega arith)
-
-some_if : (t : Bool) (x : List ℕ) → length (if t then [] else x ∷ []) < 2
-some_if true x = omega arith
-some_if false x = omega arith
-
-length-last : (x : List ℕ) → length (lines_of_parts (x ∷ [])) < 2
-length-last x = some_if (length x == 0) x
-
-one_if_not : (t : Bool) (b : ℕ) (x : List ℕ) → (length (b ∷ x) == 0) ≡ t → length (if t then [] else (b ∷ x) ∷ []) ≡ 1
-one_if_not true b x e = absurd (omega (arith, eqb-true (length (b ∷ x)) 0 e))
-one_if_not false b x e = refl
-
-length-last_some : (b : ℕ) (x : List ℕ) → length (lines_of_parts ((b ∷ x) ∷ [])) ≡ 1
-length-last_some b x = one_if_not (length (b ∷ x) == 0) b x refl
-
 length-goes : (m : Mark) (b : ℕ) (pieces : List (List ℕ)) (parts : List (List Mark)) → 0 < length pieces → length (lines_of_parts pieces) ≡ length parts
     → length (lines_of_parts (onto_first b pieces)) ≡ length (onto_line m parts)
 length-goes m b [] parts some same = absurd (omega arith)
-length-goes m b (x ∷ []) parts some same =
-    length-last_some b x ∙ sym (length-onto_none m parts (let few = length-last x in omega arith))
-length-goes m b (x ∷ next ∷ pieces) parts some same = same ∙ sym (length-onto_line m parts (omega arith))
+length-goes m b (x ∷ []) [] some same = grind arith
+length-goes m b (x ∷ []) (line ∷ others) some same = grind arith
+length-goes m b (x ∷ next ∷ pieces) [] some same = grind arith
+length-goes m b (x ∷ next ∷ pieces) (line ∷ others) some same = same
 
 length-ends : (pieces : List (List ℕ)) → 0 < length pieces → length (lines_of_parts ([] ∷ pieces)) ≡ suc (length (lines_of_parts pieces))
 length-ends [] some = absurd (omega arith)
@@ -228,19 +202,14 @@ pub bytes_step : (c d : Counter) (whole : Counter) (text rest piece : List ℕ) 
     → after_bytes c (token_marks text left) ≡ whole → left ≡ token ∷ others → rest ≡ drop token.len text → piece ≡ take token.len text → class ≡ class_of token.kind
     → d ≡ after_bytes c (map (mark class) piece) → after_bytes d (token_marks rest others) ≡ whole
 bytes_step c d whole text rest piece left others token class at first past own is took =
-    let here : d ≡ after_bytes c (map (mark (class_of token.kind)) (take token.len text)) = took ∙ (ap (λ (k : Class). after_bytes c (map (mark k) piece)) is ∙ ap (λ bs. after_bytes c (map (mark (class_of token.kind)) bs)) own) in
-    ap (λ (e : Counter). after_bytes e (token_marks rest others)) here
-    ∙ (ap (λ bs. after_bytes (after_bytes c (map (mark (class_of token.kind)) (take token.len text))) (token_marks bs others)) past
-    ∙ (sym (after_bytes-append c (map (mark (class_of token.kind)) (take token.len text)) (token_marks (drop token.len text) others))
-    ∙ (ap (λ ts. after_bytes c (token_marks text ts)) (sym first) ∙ at)))
+    let marked : token_marks text left ≡ map (mark (class_of token.kind)) (take token.len text) ++ token_marks (drop token.len text) others = ap (token_marks text) first in
+    let parted = after_bytes-append c (map (mark (class_of token.kind)) (take token.len text)) (token_marks (drop token.len text) others) in
+    cc
 
 pub document_counts : (text line rest : List ℕ) (n : ℕ) (c d e : Counter) (found : LineCounts)
     → n ≡ shebang_len text → c ≡ start → line ≡ take n text → rest ≡ drop n text
     → d ≡ after_bytes c (map (mark Code) line) → e ≡ after_bytes d (source_marks rest) → found ≡ finished e → found ≡ line_counts text
 document_counts text line rest n c d e found at new front back first second is =
-    is ∙ (ap (λ (x : Counter). finished x) (second
-    ∙ (ap (λ (x : Counter). after_bytes x (source_marks rest)) (first ∙ (ap (λ (x : Counter). after_bytes x (map (mark Code) line)) new
-    ∙ ap (λ bs. after_bytes start (map (mark Code) bs)) (front ∙ ap (λ m. take m text) at)))
-    ∙ (ap (λ bs. after_bytes (after_bytes start (map (mark Code) (take (shebang_len text) text))) (source_marks bs)) (back ∙ ap (λ m. drop m text) at)
-    ∙ sym (after_bytes-append start (map (mark Code) (take (shebang_len text) text)) (source_marks (drop (shebang_len text) text))))))
-    ∙ finished-whole (marks text))
+    let parted = after_bytes-append start (map (mark Code) (take (shebang_len text) text)) (source_marks (drop (shebang_len text) text)) in
+    let whole = finished-whole (marks text) in
+    cc

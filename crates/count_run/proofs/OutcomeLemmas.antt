@@ -1,22 +1,21 @@
 -- An outcome takes sources one by one.
-use Rattle.std.proofs.Common.{◌≡◌, ℕ, List, [], ◌∷◌, ◌++◌, refl, sym, ap, ◌∙◌, Result, Ok, Err, IfOk, IfErr, String, Vec, subst, append-nil, fold}
+use Rattle.std.proofs.Common.{◌≡◌, ℕ, List, [], ◌∷◌, ◌++◌, refl, sym, ap, ◌∙◌, Result, Ok, Err, IfOk, IfErr, String, Vec, subst, append-nil}
 use Rattle.std.specs.Global.{Global}
 use Rattle.std.specs.List.{All}
 use Rattle.std.proofs.lemmas.List.Elements.{All-cons, All-nil}
-use Rattle.std.specs.declared.alloc.AllocError.{AllocError}
-use Rattle.sources.specs.Found.{IsAskedOrSource, IsInOrder, IsRefusal}
+use Rattle.std.proofs.lemmas.List.Sums.{fold-append}
 use Rattle.sources.specs.declared.fault.Fault.{Fault}
 use Rattle.sources.specs.declared.fault.Fault.TheVariants.{Memory, Source}
 use Rattle.sources.specs.declared.fault.PathFault.{PathFault}
 use Rattle.sources.specs.declared.fault.Reason.TheVariants.{NotUtf8, TooLong, Changed, NoFile, Read, System}
-use Rattle.sources.specs.Outcomes.{Sources, passed_over, source, CameFrom, IsOfSource}
+use Rattle.sources.specs.Outcomes.{Sources, passed_over, source, IsOfSource}
 use Rattle.sources.specs.Reasons.{IsSystemFault}
 use Rattle.sources.proofs.OutcomesLemmas.{taken_more, taken_none, Taken}
 use Rattle.sources.proofs.ReasonLemmas.{no_text_reason}
 use Rattle.count_run.specs.declared.lines.LineCounts.{LineCounts}
 use Rattle.count_run.specs.declared.report.FileCounts.{FileCounts}
 use Rattle.count_run.specs.declared.run.Outcome.{Outcome}
-use Rattle.count_run.specs.Outcome.{counted, IsCountOf, IsCounted, IsOutcome}
+use Rattle.count_run.specs.Outcome.{counted, IsCountOf, IsCounted}
 use Rattle.count_run.specs.Report.{no_counts, sums, total_of}
 
 -- of these paths, those before the ones that are left were taken
@@ -31,12 +30,6 @@ counted-append [] ys = refl
 counted-append ((path, Ok counts) ∷ xs) ys = ap (λ files. record { path = path; counts = counts } ∷ files) (counted-append xs ys)
 counted-append ((path, Err reason) ∷ xs) ys = counted-append xs ys
 
-fold-onto : (total : LineCounts) (xs ys : List FileCounts)
-    → fold (λ (t : LineCounts) (file : FileCounts). sums t file.counts) total (xs ++ ys)
-    ≡ fold (λ (t : LineCounts) (file : FileCounts). sums t file.counts) (fold (λ (t : LineCounts) (file : FileCounts). sums t file.counts) total xs) ys
-fold-onto total [] ys = refl
-fold-onto total (x ∷ xs) ys = fold-onto (sums total x.counts) xs ys
-
 -- the total after a source
 total-source : (old new : Outcome) (path : String Global) (came : Result LineCounts Fault) → IsOfSource came
     → old.report.total ≡ total_of old.report.files.items
@@ -46,7 +39,7 @@ total-source : (old new : Outcome) (path : String Global) (came : Result LineCou
     → new.report.total ≡ total_of new.report.files.items
 total-source old new path (Ok counts) is total files more same =
     more ∙ (ap (λ (t : LineCounts). sums t counts) total
-    ∙ (sym (fold-onto no_counts old.report.files.items (counted (source path (Ok counts)))) ∙ ap (λ (xs : List FileCounts). total_of xs) (sym files)))
+    ∙ (sym (fold-append (λ (t : LineCounts) (file : FileCounts). sums t file.counts) no_counts old.report.files.items (counted (source path (Ok counts)))) ∙ ap (λ (xs : List FileCounts). total_of xs) (sym files)))
 total-source old new path (Err (Source reason)) is total files more same =
     same ∙ (total ∙ ap (λ (xs : List FileCounts). total_of xs) (sym (files ∙ append-nil old.report.files.items)))
 total-source old new path (Err Memory) is total files more same = absurd is
@@ -86,15 +79,3 @@ counted-step paths faults path all left old new read came so first other count i
   files = files ∙ (ap (λ xs. xs ++ counted (source path came)) so.files ∙ sym (counted-append so.sources (source path came)));
   total = total-source old new path came is so.total files more same;
 }
-
--- what was counted of the files that were found
-pub outcome-found : (asked : List (List ℕ)) (paths : List (String Global)) (faults : List PathFault) (result : Result Outcome AllocError)
-    → IsInOrder paths → All (IsAskedOrSource asked) paths → All IsRefusal faults
-    → IfOk result (λ outcome. (sources : Sources LineCounts) × CameFrom IsCounted paths faults sources outcome.faults.items × (outcome.report.files.items ≡ counted sources))
-    → IfOk result (IsOutcome asked)
-outcome-found asked paths faults (Ok outcome) in_order due refused so = record {
-  sources = so.0;
-  came = record { paths = paths; refused = faults; in_order = in_order; due = due; refusals = refused; came = so.1 };
-  files = so.2;
-}
-outcome-found asked paths faults (Err error) in_order due refused so = tt

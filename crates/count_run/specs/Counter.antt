@@ -5,6 +5,7 @@ use Rattle.count_run.specs.declared.lines.Counter.{Counter}
 use Rattle.count_run.specs.declared.lines.Line.{Line}
 use Rattle.count_run.specs.declared.lines.LineCounts.{LineCounts}
 use Rattle.count_run.specs.Lines.{Mark, is_code, is_doc, is_comment, counts_as_code, counts_as_doc, counts_as_comment, counts_as_blank, has_code_and_doc, has_code_and_comment, has_doc_and_comment}
+use Rattle.count_run.specs.Report.{no_counts}
 
 abbrev pub no_line : Line
 no_line = record { code = false; doc = false; comment = false }
@@ -12,9 +13,6 @@ no_line = record { code = false; doc = false; comment = false }
 -- a line on which a class stands too
 abbrev pub with_class : Line → Class → Line
 with_class line class = record { code = is_code class || line.code; doc = is_doc class || line.doc; comment = is_comment class || line.comment }
-
-abbrev pub no_counts : LineCounts
-no_counts = record { code = 0; doc = 0; comment = 0; blank = 0; code_and_doc = 0; code_and_comment = 0; doc_and_comment = 0 }
 
 abbrev pub one_if : Bool → ℕ
 one_if b = if b then 1 else 0

@@ -33,19 +33,13 @@ write_stop ClosedPipeWrite = ClosedPipe
 abbrev pub IsDone : Result (Unit {0}) Stop → Type 0
 IsDone (Ok done) = Unit {0}
 IsDone (Err Passed) = Unit {0}
-IsDone (Err Arguments) = ⊥
-IsDone (Err Memory) = ⊥
-IsDone (Err Write) = ⊥
-IsDone (Err ClosedPipe) = ⊥
+IsDone result = ⊥
 
 -- writing stopped
 abbrev pub IsWriteStop : Result (Unit {0}) Stop → Type 0
-IsWriteStop (Ok done) = ⊥
-IsWriteStop (Err Passed) = ⊥
-IsWriteStop (Err Arguments) = ⊥
-IsWriteStop (Err Memory) = ⊥
 IsWriteStop (Err Write) = Unit {0}
 IsWriteStop (Err ClosedPipe) = Unit {0}
+IsWriteStop result = ⊥
 
 -- why writing a report stops: the words that the program was given are read before
 abbrev pub IsReportStop : Stop → Type 0

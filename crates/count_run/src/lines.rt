@@ -5,7 +5,7 @@ ghost use Rattle.std.specs.Str.Lines.{lines};
 ghost use Rattle.rustc_lexer.specs.Classes.{Fits};
 ghost use Rattle.count_run.specs.Counter as counter;
 ghost use Rattle.count_run.specs.Lines as spec;
-ghost use Rattle.count_run.specs.Report.{all_lines, sums};
+ghost use Rattle.count_run.specs.Report.{all_lines, no_counts, sums};
 
 use rustc_lexer::{FrontmatterAllowed, TokenKind, strip_shebang, tokenize};
 
@@ -119,7 +119,7 @@ impl Line {
 impl LineCounts {
     /// No line.
     pub fn new() -> LineCounts
-        ensures { result ≡ counter.no_counts }
+        ensures { result ≡ no_counts }
     {
         LineCounts {
             code: 0,
