@@ -1,4 +1,6 @@
 //! Each caller of `examples` on texts that were made by hand.
+use crate::table::rows;
+use Edition::{E2015, E2018, E2021, E2024};
 use examples::arriving::{Arriving, lex_pieces};
 use examples::comments::skip_comments;
 use examples::highlight::highlight;
@@ -10,15 +12,12 @@ use examples::split::split_in;
 use rustc_lexer::{Edition, LexedText, LiteralKind, RawStrError, Relexed, Token, TokenKind, fits};
 use std::alloc::{AllocError, Global};
 
-static MARKS: &[(&str, &str)] = &[
-    ("", ""),
-    (
-        "let x = 'é'; // b",
-        "let x = \x1b[32m'é'\x1b[0m; \x1b[2m// b\x1b[0m",
-    ),
-    ("&'a str", "&\x1b[35m'a\x1b[0m str"),
-    ("\\", "\x1b[31m\\\x1b[0m"),
-];
+static MARKS: &[(&str, &str)] = rows! {
+    "" => "";
+    "let x = 'é'; // b" => "let x = \x1b[32m'é'\x1b[0m; \x1b[2m// b\x1b[0m";
+    "&'a str" => "&\x1b[35m'a\x1b[0m str";
+    "\\" => "\x1b[31m\\\x1b[0m";
+};
 
 /// Whether the text is written with these marks.
 fn is_marked(alloc: Global, text: &str, wanted: &str) -> bool {
@@ -42,19 +41,14 @@ static WORDS: &[(&str, &str, Option<usize>)] = &[
     ("", "x", None),
 ];
 
-/// The first text in which the word is found elsewhere.
-fn wrong_word() -> Option<&'static str> {
-    for (text, word, wanted) in WORDS {
-        if !fits(text) || find_word(text, word) != *wanted {
-            return Some(text);
-        }
-    }
-    None
-}
-
 #[test]
 fn words(rt: HostRuntime) {
-    assert_eq!(rt; wrong_word(), None);
+    for (text, word, wanted) in WORDS {
+        assert!(rt;
+            fits(text) && find_word(text, word) == *wanted,
+            "at {text:?}"
+        );
+    }
 }
 
 /// Texts, and what they are past their comments.
@@ -164,32 +158,12 @@ fn paint_after_an_edit(rt: HostRuntime) {
 }
 
 /// Editions, and the parts of the text below in each.
-static PARTS: &[(Edition, &[&str])] = &[
-    (
-        Edition::E2024,
-        &[
-            "r#c", " ", "k#x", " ", "z", "\"s\"", " ", "'r#a", " ", "#\"", "a", "\"",
-        ],
-    ),
-    (
-        Edition::E2021,
-        &[
-            "r#c", " ", "k#x", " ", "z", "\"s\"", " ", "'r#a", " ", "#", "\"a\"",
-        ],
-    ),
-    (
-        Edition::E2018,
-        &[
-            "r#c", " ", "k#x", " ", "z", "\"s\"", " ", "'r", "#", "a", " ", "#", "\"a\"",
-        ],
-    ),
-    (
-        Edition::E2015,
-        &[
-            "r#c", " ", "k#x", " ", "z", "\"s\"", " ", "'r", "#", "a", " ", "#", "\"a\"",
-        ],
-    ),
-];
+static PARTS: &[(Edition, &[&str])] = rows! {
+    E2024 => &["r#c", " ", "k#x", " ", "z", "\"s\"", " ", "'r#a", " ", "#\"", "a", "\""];
+    E2021 => &["r#c", " ", "k#x", " ", "z", "\"s\"", " ", "'r#a", " ", "#", "\"a\""];
+    E2018 => &["r#c", " ", "k#x", " ", "z", "\"s\"", " ", "'r", "#", "a", " ", "#", "\"a\""];
+    E2015 => &["r#c", " ", "k#x", " ", "z", "\"s\"", " ", "'r", "#", "a", " ", "#", "\"a\""];
+};
 
 #[test]
 fn parts_in_each_edition(rt: HostRuntime) -> Result<(), AllocError> {

@@ -8,4 +8,6 @@ mod erased;
 #[cfg(test)]
 mod literals;
 #[cfg(test)]
+mod table;
+#[cfg(test)]
 mod texts;

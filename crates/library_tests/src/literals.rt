@@ -1,8 +1,6 @@
 //! What literals stand for, what is wrong in them, and what is written of texts and bytes.
-use EscapeError::{
-    InvalidEscape, LoneSurrogateUnicodeEscape, MoreThanOneChar, NonAsciiCharInByte,
-    OutOfRangeHexEscape, OutOfRangeUnicodeEscape, UnicodeEscapeInByte,
-};
+use crate::table::rows;
+use EscapeError::*;
 use rustc_literal_escaper::{
     Elements, EscapeCStrError, EscapeError, Faults, MixedUnit, Mode, check_for_errors,
     check_raw_byte_str, check_raw_c_str, check_raw_str, escape_byte_str, escape_c_str, escape_str,
@@ -11,95 +9,87 @@ use rustc_literal_escaper::{
 use std::alloc::Global;
 
 /// What is wrong between single quotes, in a character and in a byte alike.
-static BAD_IN_BOTH: &[(&str, EscapeError)] = &[
-    ("", EscapeError::ZeroChars),
-    ("\\", EscapeError::LoneSlash),
-    ("\n", EscapeError::EscapeOnlyChar),
-    ("\t", EscapeError::EscapeOnlyChar),
-    ("'", EscapeError::EscapeOnlyChar),
-    ("\r", EscapeError::BareCarriageReturn),
-    ("spam", EscapeError::MoreThanOneChar),
-    ("\\x0ff", EscapeError::MoreThanOneChar),
-    ("\\\"a", EscapeError::MoreThanOneChar),
-    ("\\na", EscapeError::MoreThanOneChar),
-    ("\\ra", EscapeError::MoreThanOneChar),
-    ("\\ta", EscapeError::MoreThanOneChar),
-    ("\\\\a", EscapeError::MoreThanOneChar),
-    ("\\'a", EscapeError::MoreThanOneChar),
-    ("\\0a", EscapeError::MoreThanOneChar),
-    ("\\v", EscapeError::InvalidEscape),
-    ("\\💩", EscapeError::InvalidEscape),
-    ("\\●", EscapeError::InvalidEscape),
-    ("\\x", EscapeError::TooShortHexEscape),
-    ("\\x0", EscapeError::TooShortHexEscape),
-    ("\\xf", EscapeError::TooShortHexEscape),
-    ("\\xa", EscapeError::TooShortHexEscape),
-    ("\\xx", EscapeError::InvalidCharInHexEscape),
-    ("\\xы", EscapeError::InvalidCharInHexEscape),
-    ("\\x🦀", EscapeError::InvalidCharInHexEscape),
-    ("\\xtt", EscapeError::InvalidCharInHexEscape),
-    ("\\u", EscapeError::NoBraceInUnicodeEscape),
-    ("\\u[0123]", EscapeError::NoBraceInUnicodeEscape),
-    ("\\u{0x}", EscapeError::InvalidCharInUnicodeEscape),
-    ("\\u{", EscapeError::UnclosedUnicodeEscape),
-    ("\\u{0000", EscapeError::UnclosedUnicodeEscape),
-    ("\\u{}", EscapeError::EmptyUnicodeEscape),
+static BAD_IN_BOTH: &[(&str, EscapeError)] = rows! {
+    "" => ZeroChars;
+    "\\" => LoneSlash;
+    "\n" => EscapeOnlyChar;
+    "\t" => EscapeOnlyChar;
+    "'" => EscapeOnlyChar;
+    "\r" => BareCarriageReturn;
+    "spam" => MoreThanOneChar;
+    "\\x0ff" => MoreThanOneChar;
+    "\\\"a" => MoreThanOneChar;
+    "\\na" => MoreThanOneChar;
+    "\\ra" => MoreThanOneChar;
+    "\\ta" => MoreThanOneChar;
+    "\\\\a" => MoreThanOneChar;
+    "\\'a" => MoreThanOneChar;
+    "\\0a" => MoreThanOneChar;
+    "\\v" => InvalidEscape;
+    "\\💩" => InvalidEscape;
+    "\\●" => InvalidEscape;
+    "\\x" => TooShortHexEscape;
+    "\\x0" => TooShortHexEscape;
+    "\\xf" => TooShortHexEscape;
+    "\\xa" => TooShortHexEscape;
+    "\\xx" => InvalidCharInHexEscape;
+    "\\xы" => InvalidCharInHexEscape;
+    "\\x🦀" => InvalidCharInHexEscape;
+    "\\xtt" => InvalidCharInHexEscape;
+    "\\u" => NoBraceInUnicodeEscape;
+    "\\u[0123]" => NoBraceInUnicodeEscape;
+    "\\u{0x}" => InvalidCharInUnicodeEscape;
+    "\\u{" => UnclosedUnicodeEscape;
+    "\\u{0000" => UnclosedUnicodeEscape;
+    "\\u{}" => EmptyUnicodeEscape;
     // Past these the two kinds differ by what a number stands for, and not by how it is written.
-    ("\\u{_0000}", EscapeError::LeadingUnderscoreUnicodeEscape),
-    ("\\u{0000000}", EscapeError::OverlongUnicodeEscape),
-];
+    "\\u{_0000}" => LeadingUnderscoreUnicodeEscape;
+    "\\u{0000000}" => OverlongUnicodeEscape;
+};
 
 /// What a text stands for as a character and as a byte, or what is wrong in it.
 type Literal = (
     &'static str,
-    Result<char, EscapeError>,
-    Result<u8, EscapeError>,
+    (Result<char, EscapeError>, Result<u8, EscapeError>),
 );
 
-/// Rows `text => the character, the byte;`.
-macro_rules! literals {
-    ($($text:literal => $character:expr, $byte:expr;)*) => {
-        &[$(($text, $character, $byte)),*]
-    };
-}
-
-static LITERALS: &[Literal] = literals! {
-    "a" => Ok('a'), Ok(b'a');
-    "ы" => Ok('ы'), Err(NonAsciiCharInByte);
-    "🦀" => Ok('🦀'), Err(NonAsciiCharInByte);
-    "\\\"" => Ok('"'), Ok(b'"');
-    "\\n" => Ok('\n'), Ok(b'\n');
-    "\\r" => Ok('\r'), Ok(b'\r');
-    "\\t" => Ok('\t'), Ok(b'\t');
-    "\\\\" => Ok('\\'), Ok(b'\\');
-    "\\'" => Ok('\''), Ok(b'\'');
-    "\\0" => Ok('\0'), Ok(0);
-    "\\x00" => Ok('\0'), Ok(0);
-    "\\x5a" => Ok('Z'), Ok(90);
-    "\\x5A" => Ok('Z'), Ok(90);
-    "\\x7f" => Ok('\x7f'), Ok(127);
-    "\\u{0}" => Ok('\0'), Err(UnicodeEscapeInByte);
-    "\\u{000000}" => Ok('\0'), Err(UnicodeEscapeInByte);
-    "\\u{41}" => Ok('A'), Err(UnicodeEscapeInByte);
-    "\\u{0041}" => Ok('A'), Err(UnicodeEscapeInByte);
-    "\\u{00_41}" => Ok('A'), Err(UnicodeEscapeInByte);
-    "\\u{4__1__}" => Ok('A'), Err(UnicodeEscapeInByte);
-    "\\u{1F63b}" => Ok('😻'), Err(UnicodeEscapeInByte);
-    "\\u{0}x" => Err(MoreThanOneChar), Err(UnicodeEscapeInByte);
-    "\\u{1F63b}}" => Err(MoreThanOneChar), Err(UnicodeEscapeInByte);
-    "\\\r" => Err(InvalidEscape), Err(InvalidEscape);
-    "\\xff" => Err(OutOfRangeHexEscape), Ok(255);
-    "\\xFF" => Err(OutOfRangeHexEscape), Ok(255);
-    "\\x80" => Err(OutOfRangeHexEscape), Ok(128);
-    "\\u{FFFFFF}" => Err(OutOfRangeUnicodeEscape), Err(UnicodeEscapeInByte);
-    "\\u{ffffff}" => Err(OutOfRangeUnicodeEscape), Err(UnicodeEscapeInByte);
-    "\\u{110000}" => Err(OutOfRangeUnicodeEscape), Err(UnicodeEscapeInByte);
-    "\\u{DC00}" => Err(LoneSurrogateUnicodeEscape), Err(UnicodeEscapeInByte);
-    "\\u{DDDD}" => Err(LoneSurrogateUnicodeEscape), Err(UnicodeEscapeInByte);
-    "\\u{DFFF}" => Err(LoneSurrogateUnicodeEscape), Err(UnicodeEscapeInByte);
-    "\\u{D800}" => Err(LoneSurrogateUnicodeEscape), Err(UnicodeEscapeInByte);
-    "\\u{DAAA}" => Err(LoneSurrogateUnicodeEscape), Err(UnicodeEscapeInByte);
-    "\\u{DBFF}" => Err(LoneSurrogateUnicodeEscape), Err(UnicodeEscapeInByte);
+static LITERALS: &[Literal] = rows! {
+    "a" => (Ok('a'), Ok(b'a'));
+    "ы" => (Ok('ы'), Err(NonAsciiCharInByte));
+    "🦀" => (Ok('🦀'), Err(NonAsciiCharInByte));
+    "\\\"" => (Ok('"'), Ok(b'"'));
+    "\\n" => (Ok('\n'), Ok(b'\n'));
+    "\\r" => (Ok('\r'), Ok(b'\r'));
+    "\\t" => (Ok('\t'), Ok(b'\t'));
+    "\\\\" => (Ok('\\'), Ok(b'\\'));
+    "\\'" => (Ok('\''), Ok(b'\''));
+    "\\0" => (Ok('\0'), Ok(0));
+    "\\x00" => (Ok('\0'), Ok(0));
+    "\\x5a" => (Ok('Z'), Ok(90));
+    "\\x5A" => (Ok('Z'), Ok(90));
+    "\\x7f" => (Ok('\x7f'), Ok(127));
+    "\\u{0}" => (Ok('\0'), Err(UnicodeEscapeInByte));
+    "\\u{000000}" => (Ok('\0'), Err(UnicodeEscapeInByte));
+    "\\u{41}" => (Ok('A'), Err(UnicodeEscapeInByte));
+    "\\u{0041}" => (Ok('A'), Err(UnicodeEscapeInByte));
+    "\\u{00_41}" => (Ok('A'), Err(UnicodeEscapeInByte));
+    "\\u{4__1__}" => (Ok('A'), Err(UnicodeEscapeInByte));
+    "\\u{1F63b}" => (Ok('😻'), Err(UnicodeEscapeInByte));
+    "\\u{0}x" => (Err(MoreThanOneChar), Err(UnicodeEscapeInByte));
+    "\\u{1F63b}}" => (Err(MoreThanOneChar), Err(UnicodeEscapeInByte));
+    "\\\r" => (Err(InvalidEscape), Err(InvalidEscape));
+    "\\xff" => (Err(OutOfRangeHexEscape), Ok(255));
+    "\\xFF" => (Err(OutOfRangeHexEscape), Ok(255));
+    "\\x80" => (Err(OutOfRangeHexEscape), Ok(128));
+    "\\u{FFFFFF}" => (Err(OutOfRangeUnicodeEscape), Err(UnicodeEscapeInByte));
+    "\\u{ffffff}" => (Err(OutOfRangeUnicodeEscape), Err(UnicodeEscapeInByte));
+    "\\u{110000}" => (Err(OutOfRangeUnicodeEscape), Err(UnicodeEscapeInByte));
+    "\\u{DC00}" => (Err(LoneSurrogateUnicodeEscape), Err(UnicodeEscapeInByte));
+    "\\u{DDDD}" => (Err(LoneSurrogateUnicodeEscape), Err(UnicodeEscapeInByte));
+    "\\u{DFFF}" => (Err(LoneSurrogateUnicodeEscape), Err(UnicodeEscapeInByte));
+    "\\u{D800}" => (Err(LoneSurrogateUnicodeEscape), Err(UnicodeEscapeInByte));
+    "\\u{DAAA}" => (Err(LoneSurrogateUnicodeEscape), Err(UnicodeEscapeInByte));
+    "\\u{DBFF}" => (Err(LoneSurrogateUnicodeEscape), Err(UnicodeEscapeInByte));
 };
 
 #[test]
@@ -108,7 +98,7 @@ fn characters_and_bytes(rt: HostRuntime) {
         let is_so = unescape_char(text) == Err(*error) && unescape_byte(text) == Err(*error);
         assert!(rt; is_so, "at {text:?}");
     }
-    for (text, character, byte) in LITERALS {
+    for (text, (character, byte)) in LITERALS {
         let is_so = unescape_char(text) == *character && unescape_byte(text) == *byte;
         assert!(rt; is_so, "at {text:?}");
     }
@@ -127,41 +117,15 @@ fn modes(rt: HostRuntime) {
 type Found = (usize, usize, Result<char, EscapeError>);
 
 /// Texts, whether each is one of a raw string, and what stands there.
-static STRINGS: &[(&str, bool, &[Found])] = &[
-    ("\\\n", false, &[]),
-    ("\\\n ", false, &[]),
-    (
-        "\\\n \u{a0} x",
-        false,
-        &[
-            (0, 5, Err(EscapeError::UnskippedWhitespaceWarning)),
-            (3, 5, Ok('\u{a0}')),
-            (5, 6, Ok(' ')),
-            (6, 7, Ok('x')),
-        ],
-    ),
-    (
-        "\\\n  \n  x",
-        false,
-        &[
-            (0, 7, Err(EscapeError::MultipleSkippedLinesWarning)),
-            (7, 8, Ok('x')),
-        ],
-    ),
-    (
-        "\rx",
-        true,
-        &[
-            (0, 1, Err(EscapeError::BareCarriageReturnInRawString)),
-            (1, 2, Ok('x')),
-        ],
-    ),
-    (
-        "\r",
-        true,
-        &[(0, 1, Err(EscapeError::BareCarriageReturnInRawString))],
-    ),
-];
+static STRINGS: &[((&str, bool), &[Found])] = rows! {
+    ("\\\n", false) => &[];
+    ("\\\n ", false) => &[];
+    ("\\\n \u{a0} x", false) =>
+        &[(0, 5, Err(UnskippedWhitespaceWarning)), (3, 5, Ok('\u{a0}')), (5, 6, Ok(' ')), (6, 7, Ok('x'))];
+    ("\\\n  \n  x", false) => &[(0, 7, Err(MultipleSkippedLinesWarning)), (7, 8, Ok('x'))];
+    ("\rx", true) => &[(0, 1, Err(BareCarriageReturnInRawString)), (1, 2, Ok('x'))];
+    ("\r", true) => &[(0, 1, Err(BareCarriageReturnInRawString))];
+};
 
 /// Whether these are the elements, and no others.
 fn are(elements: Elements<'_>, wanted: &[Found]) -> bool {
@@ -176,13 +140,13 @@ fn are(elements: Elements<'_>, wanted: &[Found]) -> bool {
 
 #[test]
 fn elements_of_strings(rt: HostRuntime) {
-    for (text, raw, wanted) in STRINGS {
-        let is_so = if *raw {
-            are(Elements::new_raw(text), wanted)
+    for ((text, raw), wanted) in STRINGS {
+        let elements = if *raw {
+            Elements::new_raw(text)
         } else {
-            are(Elements::new(text), wanted)
+            Elements::new(text)
         };
-        assert!(rt; is_so, "at {text:?}");
+        assert!(rt; are(elements, wanted), "at {text:?}");
     }
 }
 
@@ -226,8 +190,8 @@ fn raw_byte_strings(rt: HostRuntime) {
         let _ = found.push((range.start, range.end, unit));
     });
     let expected = [
-        (0, 1, Err(EscapeError::BareCarriageReturnInRawString)),
-        (1, 5, Err(EscapeError::NonAsciiCharInByte)),
+        (0, 1, Err(BareCarriageReturnInRawString)),
+        (1, 5, Err(NonAsciiCharInByte)),
         (5, 6, Ok(b'a')),
     ];
     assert_eq!(rt; found.as_slice(), expected.as_slice());
@@ -235,7 +199,7 @@ fn raw_byte_strings(rt: HostRuntime) {
     check_raw_str("\r", |range, unit| {
         let _ = found.push((range.start, range.end, unit));
     });
-    let expected = [(0, 1, Err(EscapeError::BareCarriageReturnInRawString))];
+    let expected = [(0, 1, Err(BareCarriageReturnInRawString))];
     assert_eq!(rt; found.as_slice(), expected.as_slice());
 }
 
@@ -249,7 +213,7 @@ fn c_strings(rt: HostRuntime) {
         (0, 4, MixedUnit::try_from('A')),
         (4, 8, MixedUnit::try_from(0xa5)),
         (8, 10, MixedUnit::try_from('¥')),
-        (10, 12, Err(EscapeError::NulInCStr)),
+        (10, 12, Err(NulInCStr)),
     ];
     assert_eq!(rt; found.as_slice(), expected.as_slice());
     let mut found = Vec::new(rt.alloc());
@@ -260,16 +224,10 @@ fn c_strings(rt: HostRuntime) {
 }
 
 /// Literals, and what is wrong in them, each with its place.
-type Wrong = (&'static str, Mode, &'static [(usize, usize, EscapeError)]);
-
-static WRONG: &[Wrong] = &[
-    (
-        "a\\qb\\u{110000}",
-        Mode::Str,
-        &[(1, 3, InvalidEscape), (4, 14, OutOfRangeUnicodeEscape)],
-    ),
-    ("spam", Mode::Char, &[(0, 2, MoreThanOneChar)]),
-];
+static WRONG: &[((&str, Mode), &[(usize, usize, EscapeError)])] = rows! {
+    ("a\\qb\\u{110000}", Mode::Str) => &[(1, 3, InvalidEscape), (4, 14, OutOfRangeUnicodeEscape)];
+    ("spam", Mode::Char) => &[(0, 2, MoreThanOneChar)];
+};
 
 /// Whether the calls of a closure, and an iterator that stays at its end, tell these errors and no others.
 fn are_told(alloc: Global, text: &str, mode: Mode, wanted: &[(usize, usize, EscapeError)]) -> bool {
@@ -288,7 +246,7 @@ fn are_told(alloc: Global, text: &str, mode: Mode, wanted: &[(usize, usize, Esca
 
 #[test]
 fn errors(rt: HostRuntime) {
-    for (text, mode, wanted) in WRONG {
+    for ((text, mode), wanted) in WRONG {
         assert!(rt; are_told(rt.alloc(), text, *mode, wanted), "at {text:?}");
     }
 }
