@@ -4,7 +4,7 @@ use Rattle.std.specs.Char.{encode_utf8}
 use Rattle.std.specs.Str.{chars, encode_utf8_all, IsUtf8, IsCharBoundary}
 use Rattle.std.proofs.Math.Seq.{drop-append_seam, drop-cons}
 use Rattle.std.proofs.lemmas.Bool.{and_parts, cases_lt, eqb-true, le-leb, leb-true}
-use Rattle.std.proofs.lemmas.List.{length-map}
+use Rattle.std.proofs.lemmas.List.{drop_all, length-map}
 use Rattle.std.proofs.lemmas.Simd.{length-chunk, mask_l-lt}
 use Rattle.std.proofs.lemmas.Str.{char_from_byte, encode_ascii, inside_one, encodes-chars, IsCharBoundary-from_drop}
 use Rattle.std.proofs.Math.Bool.{and-true, or-true, or-false, and-false}
@@ -135,14 +135,8 @@ record Closed (n : ℕ) (cs text : List ℕ) (k : ℕ) : Type 0 where
 quote_byte : (n : ℕ) (text : List ℕ) (k : ℕ) → closes n (drop k text) ≡ true → (k < length text) × (get_or text k 0 ≡ 34)
 quote_byte n text k e = elim (cases_lt k (length text)) [
   | inl l ↦ (l, eqb-true (get_or text k 0) 34 (and_parts (is_quote (get_or text k 0)) _ (sym (ap (closes n) (drop-cons text k 0 l)) ∙ e)).0)
-  | inr far ↦ absurd (true≢false (sym e ∙ ap (closes n) (drop_all text k far)))
+  | inr far ↦ absurd (true≢false (sym e ∙ ap (closes n) (drop_all k text far)))
 ]
-  where
-    drop_all : (s : List ℕ) (k : ℕ) → length s ≤ k → drop k s ≡ []
-    drop_all [] zero l = refl
-    drop_all [] (suc k) l = refl
-    drop_all (c ∷ s) zero l = absurd (omega arith)
-    drop_all (c ∷ s) (suc k) l = drop_all s k (omega arith)
 
 -- one character that does not close is passed over
 module _ (n c : ℕ) (cs text : List ℕ) (k : ℕ) (e : text ≡ encode_utf8 c ++ encode_utf8_all cs) (stays : closes n (c ∷ cs) ≡ false) (l : length (encode_utf8 c) ≤ k) (at : ClosesAt n text k) where

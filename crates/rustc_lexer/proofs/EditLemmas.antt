@@ -2,6 +2,7 @@
 use Rattle.std.proofs.Common.{◌≡◌, ℕ, zero, suc, ◌+◌, ◌-◌, ◌*◌, ◌<◌, ◌≤◌, Bool, true, false, List, [], ◌∷◌, ◌++◌, length, take, drop, refl, sym, ap, ◌∙◌, subst, arith, length-drop, length-append, drop-drop, take-take, take-append-drop, take-add, take_at, drop_at, length-take-le, IsUtf8, IsCharBoundary, chars, leb-true, le-leb, leb, is_some, slice_get, encode_utf8, slice_range, append_assoc, Result, Ok, Err, IfErr, OnOk, OnErr, IfOk}
 use Rattle.std.specs.List.{replace_range}
 use Rattle.std.proofs.lemmas.List.{drop-take, take-append-le}
+use Rattle.std.proofs.lemmas.Grind.{common_steps}
 use Rattle.std.proofs.lemmas.Str.{chars_past_char, chars-nil, IsUtf8-append, IsUtf8-take, IsUtf8-drop, IsUtf8-between, IsCharBoundary-from_drop, chars-append, length-encode, len_utf8_bounds, encodes-chars}
 use Rattle.std.proofs.Math.Utf8.{encodes}
 use Rattle.rustc_lexer.specs.declared.token.Token.{Token}
@@ -121,27 +122,11 @@ module _ {first : List ℕ → Token} (law : IsGrammar first) (text : List ℕ) 
   pub met_whole : (j i : ℕ) → start + length insert ≤ bound (tokens_by first new) j → bound (tokens_by first text) i ≡ bound (tokens_by first new) j - length insert + (stop - start) → take j (tokens_by first new) ++ drop i (tokens_by first text) ≡ tokens_by first new
   met_whole j i past met = ap (λ ts. take j (tokens_by first new) ++ ts) (sym (met_rest j i past met)) ∙ take-append-drop j (tokens_by first new)
 
-take-nil : (n : ℕ) → take {A = ℕ} n [] ≡ []
-take-nil zero = refl
-take-nil (suc n) = refl
-
 drop_of-take : (p n : ℕ) (xs : List ℕ) → drop p (take n xs) ≡ take (n - p) (drop p xs)
-drop_of-take zero n xs = ap (λ m. take m xs) e
-  where
-    e : n ≡ n - zero
-    e = omega arith
-drop_of-take (suc p) zero xs = none
-  where
-    e : zero - suc p ≡ zero
-    e = omega arith
-
-    none : drop (suc p) (take zero xs) ≡ take (zero - suc p) (drop (suc p) xs)
-    none = sym (ap (λ m. take m (drop (suc p) xs)) e)
-drop_of-take (suc p) (suc n) [] = sym (take-nil (suc n - suc p))
-drop_of-take (suc p) (suc n) (x ∷ xs) = drop_of-take p n xs ∙ ap (λ m. take m (drop p xs)) e
-  where
-    e : n - p ≡ suc n - suc p
-    e = omega arith
+drop_of-take zero n xs = grind (arith, common_steps)
+drop_of-take (suc p) zero xs = grind (arith, common_steps)
+drop_of-take (suc p) (suc n) [] = grind (arith, common_steps)
+drop_of-take (suc p) (suc n) (x ∷ xs) = grind (arith, common_steps, drop_of-take p n xs)
 
 -- what stands from a place up to another is in the text up to that one
 pub has_two-same : (text other : List ℕ) (place to : ℕ) → take to text ≡ take to other → has_two text place to ≡ has_two other place to

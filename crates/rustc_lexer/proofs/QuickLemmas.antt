@@ -13,8 +13,8 @@ use Rattle.rustc_lexer.specs.means.ByteRuns.{is_continue_byte, is_space_byte, is
 use Rattle.rustc_lexer.specs.Classes.{is_id_continue}
 use Rattle.rustc_lexer.specs.Tables.{is_emoji}
 use Rattle.rustc_lexer.specs.means.Ident.{ident_or_unknown_prefix, is_prefix_mark, marks_ident}
-use Rattle.rustc_lexer.specs.laws.Choice.{by_arm}
-use Rattle.rustc_lexer.specs.means.Lexeme.{family_of, letters, word, symbol_kind, past_first, is_raw_mark, begins_raw}
+use Rattle.rustc_lexer.specs.laws.Family.{by_letter}
+use Rattle.rustc_lexer.specs.means.Lexeme.{family_of, word, symbol_kind, past_first, is_raw_mark, begins_raw}
 use Rattle.rustc_lexer.specs.means.Quick.{is_space_lead, turns_word, IsFirstToken}
 use Rattle.rustc_lexer.specs.means.Scan.{begins, next_is, past, run_len, scanned}
 use Rattle.rustc_lexer.proofs.BridgeLemmas.{chars-ascii, IsUtf8-ascii, skips, stops_here}
@@ -95,20 +95,7 @@ is_plain (c ∷ cs) h =
 word-plain : (b : ℕ) (s : List ℕ) → next_is is_prefix_mark (drop (run_len is_id_continue s) s) ≡ false → word b s ≡ ident_or_unknown_prefix s
 word-plain b s h =
     let p = is_plain s h in
-    by_arm (λ c scan. scan s ≡ ident_or_unknown_prefix s) letters (λ c. ident_or_unknown_prefix) b (
-      λ c e. rw (p.no_ident, p.no_hash) refl,
-      (
-        λ c e. rw p.no_ident refl,
-        (
-          λ c e. rw (p.no_char, p.no_string, p.no_letter) refl,
-          (
-            λ c e. rw (p.no_string, p.no_letter) refl,
-            tt,
-          ),
-        ),
-      ),
-    )
-    (λ none. refl)
+    by_letter (λ c scan. scan s ≡ ident_or_unknown_prefix s) b (rw (p.no_ident, p.no_hash) refl) (rw p.no_ident refl) (rw (p.no_char, p.no_string, p.no_letter) refl) (rw (p.no_string, p.no_letter) refl) (λ r k c d. refl)
 
 -- ---- the next character, by the next byte
 

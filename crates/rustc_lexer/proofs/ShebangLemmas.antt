@@ -1,5 +1,6 @@
 -- Shebang lines: the front of a text, and its first line.
-use Rattle.std.proofs.Common.{◌≡◌, ◌≢◌, ℕ, suc, ◌+◌, ◌-◌, ◌<◌, ◌≤◌, ◌==◌, ◌&&◌, Bool, true, false, true≢false, if◌then◌else◌, List, [], ◌∷◌, length, drop, get_or, codes, length-drop, refl, sym, ap, ◌∙◌, arith, ◌⊎◌, inl, inr, Option, Some, None}
+use Rattle.std.proofs.Common.{◌≡◌, ◌≢◌, ℕ, suc, ◌+◌, ◌-◌, ◌<◌, ◌≤◌, ◌==◌, Bool, true, false, true≢false, if◌then◌else◌, List, [], ◌∷◌, length, drop, get_or, codes, length-drop, refl, sym, ap, ◌∙◌, arith, ◌⊎◌, inl, inr, Option, Some, None}
+use Rattle.std.proofs.Math.Bool.{and-true}
 use Rattle.std.proofs.Math.Seq.{drop-cons}
 use Rattle.std.proofs.lemmas.Bool.{cases_lt, eqb-true, eq-eqb, ne_eqb}
 use Rattle.std.proofs.lemmas.List.Sums.{prefix_len-le-length, prefix_len_passes, prefix_len_stops}
@@ -88,10 +89,6 @@ module _ (text : List ℕ) where
         ap (λ (i : ℕ). begins (codes "\r\n") (drop i text)) before
         ∙ (ap (begins (codes "\r\n")) reads
         ∙ (and-true (get_or text j 0 == 13) ∙ ap (λ (i : ℕ). get_or text i 0 == 13) (sym before)))
-      where
-        and-true : (b : Bool) → b && true ≡ b
-        and-true true = refl
-        and-true false = refl
 
     front : k ≡ 0 → begins (codes "\r\n") (drop (k - 1) text) ≡ false
     front e =

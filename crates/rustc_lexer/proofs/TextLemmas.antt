@@ -19,9 +19,9 @@ use Rattle.rustc_lexer.specs.Classes.{is_id_continue, IsText}
 use Rattle.rustc_lexer.specs.means.Comment.{slash, line_comment}
 use Rattle.rustc_lexer.specs.means.Ident.{is_word, is_prefix_mark, ident_or_unknown_prefix, invalid_ident, marks_ident}
 use Rattle.rustc_lexer.specs.LanguageText.{Mode}
-use Rattle.rustc_lexer.specs.laws.Choice.{by_test, EachArm, by_arm, at_char, by_symbol}
-use Rattle.rustc_lexer.specs.laws.Family.{EachFamily, each_family}
-use Rattle.rustc_lexer.specs.means.Lexeme.{whitespace, letter_r, letter_k, letter_b, letter_c, raw_or_ident, raw_past_or_ident, begins_raw, is_raw_mark, letters, word, symbols, symbol_kind, symbol, past_first, lexeme, first_token}
+use Rattle.rustc_lexer.specs.laws.Choice.{by_test, at_char, by_symbol}
+use Rattle.rustc_lexer.specs.laws.Family.{by_letter, EachFamily, each_family}
+use Rattle.rustc_lexer.specs.means.Lexeme.{whitespace, letter_r, letter_k, letter_b, letter_c, raw_or_ident, raw_past_or_ident, begins_raw, is_raw_mark, word, symbols, symbol_kind, symbol, past_first, lexeme, first_token}
 use Rattle.rustc_lexer.specs.means.Lifetime.{is_marked, plain_lifetime, is_character, lifetime_or_char, is_raw}
 use Rattle.rustc_lexer.specs.laws.Lifetime.{raw, quoted_name, unquoted_name}
 use Rattle.rustc_lexer.specs.means.Literal.{Body, literal}
@@ -238,23 +238,8 @@ c-tells : TellsAll 99 letter_c
 c-tells s = by_test (Tells 99 s) (begins (codes "\"") s) (literal (after 1 c_str_body) s) (raw_past_or_ident Cr s) (λ e. literal-tells 99 s (after 1 c_str_body) (λ text. tt))
     (λ e. past-tells Cr 99 refl s)
 
-letters-tell : EachArm TellsAll letters
-letters-tell = (
-  at_char TellsAll 114 letter_r r-tells,
-  (
-    at_char TellsAll 107 letter_k k-tells,
-    (
-      at_char TellsAll 98 letter_b b-tells,
-      (
-        at_char TellsAll 99 letter_c c-tells,
-        tt,
-      ),
-    ),
-  ),
-)
-
 word-tells : (c : ℕ) → TellsAll c (word c)
-word-tells c = by_arm TellsAll letters (λ c. ident_or_unknown_prefix) c letters-tell (λ none. ident_or_unknown_prefix-tells c)
+word-tells c = by_letter TellsAll c r-tells k-tells b-tells c-tells (λ r k b d. ident_or_unknown_prefix-tells c)
 
 -- ---- all
 

@@ -1,7 +1,6 @@
 pub mod BlockComment
 pub mod BlockGrammar
 pub mod ByteRuns
-pub mod Choice
 pub mod Comment
 pub mod Edition
 pub mod Emoji

@@ -19,14 +19,14 @@ use Rattle.rustc_lexer.specs.LanguageText.{year}
 use Rattle.rustc_lexer.specs.means.Edition.{token, before_2024, before_2021, first_token_in}
 use Rattle.rustc_lexer.specs.means.Hash.{is_guarded_mark, hash}
 use Rattle.rustc_lexer.specs.means.Ident.{is_word, is_prefix_mark, ident_or_unknown_prefix, marks_ident}
-use Rattle.rustc_lexer.specs.means.Lexeme.{raw_or_ident, is_raw_mark, begins_raw, raw_past_or_ident, letter_b, letters, word, symbols, past_first, lexeme, first_token}
+use Rattle.rustc_lexer.specs.means.Lexeme.{raw_or_ident, is_raw_mark, begins_raw, raw_past_or_ident, letter_b, word, symbols, past_first, lexeme, first_token}
 use Rattle.rustc_lexer.specs.means.Lifetime.{is_marked, plain_lifetime, lifetime, is_character, is_character_at, is_raw, lifetime_or_char}
 use Rattle.rustc_lexer.specs.means.Literal.{literal}
 use Rattle.rustc_lexer.specs.means.Quoted.{byte_str_body, char_body}
 use Rattle.rustc_lexer.specs.means.Scan.{IsLocal, after, and_then, begins, bytes_of, gives, next_is, read_as, run_len, token_by}
 use Rattle.rustc_lexer.specs.Locality.{IsGrammar, AgreePast}
-use Rattle.rustc_lexer.specs.laws.Choice.{by_test, EachArm, by_arm, at_char, by_symbol}
-use Rattle.rustc_lexer.specs.laws.Family.{EachFamily, each_family}
+use Rattle.rustc_lexer.specs.laws.Choice.{by_test, at_char, by_symbol}
+use Rattle.rustc_lexer.specs.laws.Family.{by_letter, EachFamily, each_family}
 use Rattle.rustc_lexer.specs.laws.Lifetime.{unquoted_name, quoted_name, name_of, name_local, quoted_name_at, is_raw_told, raw, is_character_told}
 use Rattle.rustc_lexer.specs.laws.Lookahead.{first_token_grammar, families_local, LooksAtTwo}
 use Rattle.rustc_lexer.specs.laws.Quoted.{char_local}
@@ -76,32 +76,19 @@ raw_or_ident-plain = either-plain (next_is is_raw_mark) _ ident_or_unknown_prefi
 raw_past-plain : (prefix : RawPrefix) → ArePlain (raw_past_or_ident prefix)
 raw_past-plain prefix = either-plain begins_raw _ ident_or_unknown_prefix (λ s. refl) ident-plain
 
-abbrev PlainArm : ℕ → (List ℕ → TokenKind × ℕ) → Type 0
-PlainArm c scan = ArePlain scan
-
 letter_b-plain : ArePlain letter_b
 letter_b-plain = either-plain (begins (codes "'")) _ past_quote (λ s. refl) (either-plain (begins (codes "\"")) _ (raw_past_or_ident Br) (λ s. refl) (raw_past-plain Br))
   where
     past_quote : List ℕ → TokenKind × ℕ
     past_quote s = if begins (codes "\"") s then literal (after 1 byte_str_body) s else raw_past_or_ident Br s
 
-letters-plain : EachArm PlainArm letters
-letters-plain = (
-  λ c e. either-plain marks_ident _ raw_or_ident (λ s. refl) raw_or_ident-plain,
-  (
-    λ c e. either-plain marks_ident _ ident_or_unknown_prefix (λ s. refl) ident-plain,
-    (
-      λ c e. letter_b-plain,
-      (
-        λ c e. either-plain (begins (codes "\"")) _ (raw_past_or_ident Cr) (λ s. refl) (raw_past-plain Cr),
-        tt,
-      ),
-    ),
-  ),
-)
-
 word-plain : (c : ℕ) → ArePlain (word c)
-word-plain c = by_arm PlainArm letters (λ c. ident_or_unknown_prefix) c letters-plain (λ none. ident-plain)
+word-plain c = by_letter (λ c scan. ArePlain scan) c
+    (either-plain marks_ident _ raw_or_ident (λ s. refl) raw_or_ident-plain)
+    (either-plain marks_ident _ ident_or_unknown_prefix (λ s. refl) ident-plain)
+    letter_b-plain
+    (either-plain (begins (codes "\"")) _ (raw_past_or_ident Cr) (λ s. refl) (raw_past-plain Cr))
+    (λ r k b d. ident-plain)
 
 -- ---- a change of tokens that keeps the law
 

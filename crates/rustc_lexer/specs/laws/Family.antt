@@ -9,8 +9,9 @@ use Rattle.rustc_lexer.specs.Classes.{is_whitespace, is_id_start}
 use Rattle.rustc_lexer.specs.means.Comment.{slash}
 use Rattle.rustc_lexer.specs.Tables.{is_emoji}
 use Rattle.rustc_lexer.specs.means.Hash.{hash}
-use Rattle.rustc_lexer.specs.means.Ident.{invalid_ident}
-use Rattle.rustc_lexer.specs.means.Lexeme.{past_first, read_by, symbol, whitespace, word}
+use Rattle.rustc_lexer.specs.means.Ident.{ident_or_unknown_prefix, invalid_ident}
+use Rattle.rustc_lexer.specs.means.Lexeme.{letter_r, letter_k, letter_b, letter_c, past_first, read_by, symbol, whitespace, word}
+use Rattle.rustc_lexer.specs.laws.Choice.{by_test, at_char}
 use Rattle.rustc_lexer.specs.means.Lifetime.{lifetime_or_char}
 use Rattle.rustc_lexer.specs.means.Literal.{literal}
 use Rattle.rustc_lexer.specs.means.Number.{number}
@@ -43,3 +44,12 @@ each_family P each c =
     (branch P c (c == 34) Str _ (each.of_str c)
     (branch P c (is_emoji c) Emoji _ (each.of_emoji c)
     (branch P c (c == 35) Hash Symbol (each.of_hash c) (each.of_symbol c))))))))
+
+-- of what follows each letter that may be more than the start of an identifier, and of what follows any other start
+pub by_letter : (P : ℕ → (List ℕ → TokenKind × ℕ) → Type 0) (c : ℕ) → P 114 letter_r → P 107 letter_k → P 98 letter_b → P 99 letter_c
+    → ((c == 114) ≡ false → (c == 107) ≡ false → (c == 98) ≡ false → (c == 99) ≡ false → P c ident_or_unknown_prefix) → P c (word c)
+by_letter P c of_r of_k of_b of_c other =
+    by_test (P c) (c == 114) letter_r _ (at_char P 114 letter_r of_r c) (λ r.
+    by_test (P c) (c == 107) letter_k _ (at_char P 107 letter_k of_k c) (λ k.
+    by_test (P c) (c == 98) letter_b _ (at_char P 98 letter_b of_b c) (λ b.
+    by_test (P c) (c == 99) letter_c ident_or_unknown_prefix (at_char P 99 letter_c of_c c) (other r k b))))

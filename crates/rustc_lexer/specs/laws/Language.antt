@@ -1,7 +1,7 @@
 -- What is read at the front of a text is a token of the language, and a token of the language is what is read.
 use Rattle.std.proofs.Common.{◌≡◌, ◌↔◌, ℕ, ◌==◌, Bool, true, false, true≢false, List, [], ◌∷◌, ◌++◌, length, take, drop, codes, refl, sym, ap, ◌∙◌, subst, take-append-drop}
 use Rattle.std.proofs.Math.Seq.{take-append_seam, drop-append_seam}
-use Rattle.std.proofs.lemmas.Bool.{and_parts, eqb-true, or_parts}
+use Rattle.std.proofs.lemmas.Bool.{and_parts, eqb-true}
 use Rattle.unicode_ident.proofs.Computing.{unicode_ident}
 use Rattle.rustc_lexer.specs.declared.lexemes.raw.RawPrefix.TheVariants.{R, Br, Cr}
 use Rattle.rustc_lexer.specs.declared.token.LiteralKind.{LiteralKind}
@@ -9,7 +9,8 @@ use Rattle.rustc_lexer.specs.declared.token.TokenKind.{TokenKind}
 use Rattle.rustc_lexer.specs.declared.token.TokenKind.TheVariants.{RawIdent, ForcedKeywordIdent}
 use Rattle.rustc_lexer.specs.Classes.{is_id_start, is_id_continue, NextIs, NextIsNot}
 use Rattle.rustc_lexer.specs.means.Ident.{ident_or_unknown_prefix, marks_ident}
-use Rattle.rustc_lexer.specs.laws.Choice.{by_test, EachArm, by_arm, at_char, fits_some}
+use Rattle.rustc_lexer.specs.laws.Choice.{by_test}
+use Rattle.rustc_lexer.specs.laws.Family.{by_letter}
 use Rattle.rustc_lexer.specs.laws.LanguageComments.{space-sound, space-read, hash-sound, pound-read, guarded-read, symbol-sound, symbol-read, slash-sound, slash-read, line-read, block-read, open-read}
 use Rattle.rustc_lexer.specs.laws.LanguageLifetimes.{quote-sound, lifetime-read, prefix-read, raw_lifetime-read, char-reads, one-reads, name-reads}
 use Rattle.rustc_lexer.specs.laws.LanguageLiterals.{str-sound, byte-sound, byte_str-sound, c_str-sound, raw_str-sound, raw_byte_str-sound, raw_c_str-sound, number-sound, ReadsLiteral, plain-read, with_suffix-read, str-reads, byte-reads, byte_str-reads, c_str-reads, raw_str-reads, raw_byte_str-reads, raw_c_str-reads, number-reads}
@@ -21,7 +22,7 @@ use Rattle.rustc_lexer.specs.Language.{begins_prefixed, IsTokenBefore}
 use Rattle.rustc_lexer.specs.LiteralGrammar.{IsLiteralBefore}
 use Rattle.rustc_lexer.specs.LanguageText.{TheOnly}
 use Rattle.rustc_lexer.specs.LanguageLaws.{BeginsWith}
-use Rattle.rustc_lexer.specs.means.Lexeme.{is_raw_mark, raw_or_ident, begins_raw, raw_past_or_ident, letter_r, letter_k, letter_b, letter_c, letters, word, lexeme}
+use Rattle.rustc_lexer.specs.means.Lexeme.{is_raw_mark, raw_or_ident, begins_raw, raw_past_or_ident, letter_r, letter_k, letter_b, letter_c, word, lexeme}
 use Rattle.rustc_lexer.specs.means.Literal.{literal}
 use Rattle.rustc_lexer.specs.means.Quoted.{byte_body, byte_str_body, c_str_body}
 use Rattle.rustc_lexer.specs.means.Raw.{raw_literal}
@@ -75,31 +76,8 @@ c-sound s = by_test (Sound 99 s) (begins (codes "\"") s) (literal (after 1 c_str
         let none = none-raw s g in
         no-opening (99 ∷ s) record { r_quote = refl; r_hash = refl; b_one = refl; b_quote = refl; br_quote = refl; br_hash = refl; c_quote = f; cr_quote = none.0; cr_hash = none.1; k_hash = refl }
 
-letters-sound : EachArm SoundAll letters
-letters-sound = (
-  at_char SoundAll 114 letter_r r-sound,
-  (
-    at_char SoundAll 107 letter_k k-sound,
-    (
-      at_char SoundAll 98 letter_b b-sound,
-      (
-        at_char SoundAll 99 letter_c c-sound,
-        tt,
-      ),
-    ),
-  ),
-)
-
 word-sound : (c : ℕ) → is_id_start c ≡ true → SoundAll c (word c)
-word-sound c start = by_arm SoundAll letters (λ c. ident_or_unknown_prefix) c letters-sound (λ none s. ident-sound c start s (free none s))
-  where
-    free : fits_some letters c ≡ false → (s : List ℕ) → begins_prefixed (c ∷ s) ≡ false
-    free none s =
-        let r = or_parts (c == 114) _ none in
-        let k = or_parts (c == 107) _ r.1 in
-        let b = or_parts (c == 98) _ k.1 in
-        let d = or_parts (c == 99) _ b.1 in
-        rw (r.0, k.0, b.0, d.0) refl
+word-sound c start = by_letter SoundAll c r-sound k-sound b-sound c-sound (λ r k b d s. ident-sound c start s (rw (r, k, b, d) refl))
 
 families-sound : EachChosen SoundAll
 families-sound = record {

@@ -244,7 +244,7 @@ empty-or : (w next : List ℕ) → NextIsNot is_name_start w → NextIsNot is_na
 empty-or [] next e f = f
 empty-or (c ∷ w) next e f = e
 
-end-stops : (d : ℕ) (end next : List ℕ) {w : List ℕ} → lit.SingleTo (d ∷ end) w → NextIsNot is_name_start w → NextIsNot is_name_start (w ++ next)
+pub end-stops : (d : ℕ) (end next : List ℕ) {w : List ℕ} → lit.SingleTo (d ∷ end) w → NextIsNot is_name_start w → NextIsNot is_name_start (w ++ next)
 end-stops d end next ends e = e
 end-stops d end next (plain out q) e = e
 end-stops d end next (escape q) e = e

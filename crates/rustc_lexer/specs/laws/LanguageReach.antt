@@ -31,6 +31,7 @@ use Rattle.rustc_lexer.specs.laws.Language.{language, token-read}
 use Rattle.rustc_lexer.specs.laws.Choice.{by_symbol}
 use Rattle.rustc_lexer.specs.laws.LanguageLiterals.{HasDigit, longest-digit}
 use Rattle.rustc_lexer.specs.laws.LanguageRuns.{chooses-number, either-way, word-no_mark}
+use Rattle.rustc_lexer.specs.laws.LanguageLifetimes.{end-stops}
 use Rattle.rustc_lexer.specs.laws.LanguageWords.{continue-word}
 use Rattle.rustc_lexer.specs.laws.Lookahead.{lexeme_local}
 use Rattle.rustc_lexer.specs.laws.Number.{is_float, number_float}
@@ -117,16 +118,7 @@ number-looks false = omega arith
 
 float-digit : {next : List ℕ} {kind : LiteralKind} {takes : Bool} {w : List ℕ} → IsLiteralBefore next kind takes w → is_float kind ≡ true → HasDigit w
 float-digit {next} (lit.number {kind} {w} is) e = longest-digit next kind w is
-float-digit (lit.str q) e = absurd (true≢false (sym e))
-float-digit (lit.byte_str q) e = absurd (true≢false (sym e))
-float-digit (lit.c_str q) e = absurd (true≢false (sym e))
-float-digit (lit.byte_char q) e = absurd (true≢false (sym e))
-float-digit (lit.char_of_one out) e = absurd (true≢false (sym e))
-float-digit (lit.char q stop) e = absurd (true≢false (sym e))
-float-digit (lit.char_of_name w start all) e = absurd (true≢false (sym e))
-float-digit (lit.raw_str q free) e = absurd (true≢false (sym e))
-float-digit (lit.raw_byte_str q) e = absurd (true≢false (sym e))
-float-digit (lit.raw_c_str q) e = absurd (true≢false (sym e))
+float-digit other e = absurd (true≢false (sym e))
 
 digit-append : {w : List ℕ} → HasDigit w → (suffix : List ℕ) → HasDigit (w ++ suffix)
 digit-append d suffix = record { first = d.first; rest = d.rest ++ suffix; whole = ap (λ (x : List ℕ). x ++ suffix) d.whole; digit = d.digit }
@@ -150,10 +142,7 @@ single-alike : {next : List ℕ} {t : Bool} {w : List ℕ} → IsSingleQuoted ne
 single-alike {next} (lit.one out) t other e = lit.one out
 single-alike {next} (lit.closed {w} q f) t other e = lit.closed q (lone-alike w next other e q f)
 single-alike {next} (lit.closed_line q) t other e = lit.closed_line q
-single-alike {next} (lit.at_slash q a f) t other e = absurd (cc t)
-single-alike {next} (lit.at_newline q a f) t other e = absurd (cc t)
-single-alike {next} (lit.unclosed none q) t other e = absurd (cc t)
-single-alike {next} (lit.unclosed_escape none q) t other e = absurd (cc t)
+single-alike other t text e = absurd (cc t)
 
 raw-alike : {next : List ℕ} {o : Option ℕ} {w : List ℕ} → IsRaw next o w → (other : List ℕ) → take 1 other ≡ take 1 next → IsRaw other o w
 raw-alike {next} (lit.closed n w le lacks) other e = lit.closed n w le lacks
@@ -190,44 +179,18 @@ suffix-alike {next} (lit.some is stop) other e = lit.some is (stops _ next other
 -- a character behind a quote that one closes, and what follows
 closed-first : {next : List ℕ} {t : Bool} {w : List ℕ} → IsSingleQuoted next t w → t ≡ true → NextIsNot is_name_start w → (s : List ℕ) → NextIsNot is_name_start (w ++ s)
 closed-first (lit.one out) t stop s = stop
-closed-first (lit.closed q f) t stop s = by_end q stop
-  where
-    by_end : {w : List ℕ} → SingleTo (codes "'") w → NextIsNot is_name_start w → NextIsNot is_name_start (w ++ s)
-    by_end lit.ends stop = stop
-    by_end (lit.plain out q) stop = stop
-    by_end (lit.escape q) stop = stop
-closed-first (lit.closed_line q) t stop s = by_end q stop
-  where
-    by_end : {w : List ℕ} → SingleTo (codes "\n'") w → NextIsNot is_name_start w → NextIsNot is_name_start (w ++ s)
-    by_end lit.ends stop = stop
-    by_end (lit.plain out q) stop = stop
-    by_end (lit.escape q) stop = stop
-closed-first (lit.at_slash q a f) t stop s = absurd (cc t)
-closed-first (lit.at_newline q a f) t stop s = absurd (cc t)
-closed-first (lit.unclosed none q) t stop s = absurd (cc t)
-closed-first (lit.unclosed_escape none q) t stop s = absurd (cc t)
+closed-first (lit.closed q f) t stop s = end-stops 39 [] s q stop
+closed-first (lit.closed_line q) t stop s = end-stops 10 (39 ∷ []) s q stop
+closed-first other t stop s = absurd (cc t)
 
 -- what looks at nothing
 literal-none : {next : List ℕ} {kind : LiteralKind} {takes : Bool} {w : List ℕ} → IsLiteralBefore next kind takes w → (s : List ℕ) → literal_reach kind (w ++ s) ≡ 0 → (takes ≡ false) × ((other : List ℕ) → IsLiteralBefore other kind takes w)
 literal-none (lit.number {kind} {w} is) s e = absurd (let reach = (number-kind is.stands.is_number (w ++ s)).0 in omega (arith, reach, number-looks (is_float kind), e))
-literal-none (lit.str q) s e = absurd (omega (arith, e))
-literal-none (lit.byte_str q) s e = absurd (omega (arith, e))
-literal-none (lit.c_str q) s e = absurd (omega (arith, e))
-literal-none (lit.byte_char {t} q) s e = absurd (by_closed t _ e)
-  where
-    by_closed : (t : Bool) (v : List ℕ) → literal_reach (Byte t) v ≡ 0 → ⊥
-    by_closed true v e = absurd (omega (arith, e))
-    by_closed false v e = absurd (omega (arith, e))
 literal-none (lit.char_of_one {c} out) s e = absurd (let long : is_long_char (39 ∷ c ∷ 39 ∷ s) ≡ false = and-false (is_name_start c) in let one : literal_reach (Char true) (39 ∷ c ∷ 39 ∷ s) ≡ 1 = rw long refl in omega (arith, e, one))
-literal-none {next} (lit.char {t} {w} q stop) s e = absurd (by_closed t q e)
-  where
-    by_closed : (t : Bool) → IsSingleQuoted next t w → literal_reach (Char t) (39 ∷ w ++ s) ≡ 0 → ⊥
-    by_closed true q e = absurd (let first : next_is is_name_start (w ++ s) ≡ false = closed-first q refl stop s in let one : literal_reach (Char true) (39 ∷ w ++ s) ≡ 1 = rw first refl in omega (arith, e, one))
-    by_closed false q e = absurd (omega (arith, e))
+literal-none (lit.char {t = true} {w} q stop) s e = absurd (let first : next_is is_name_start (w ++ s) ≡ false = closed-first q refl stop s in let one : literal_reach (Char true) (39 ∷ w ++ s) ≡ 1 = rw first refl in omega (arith, e, one))
+literal-none (lit.byte_char {t = true} q) s e = absurd (omega (arith, e))
 literal-none (lit.char_of_name w start all) s e = (refl, λ other. lit.char_of_name w start all)
-literal-none (lit.raw_str q free) s e = absurd (omega (arith, e))
-literal-none (lit.raw_byte_str q) s e = absurd (omega (arith, e))
-literal-none (lit.raw_c_str q) s e = absurd (omega (arith, e))
+literal-none other s e = absurd (omega (arith, e))
 
 literal-end : {next : List ℕ} {kind : LiteralKind} {w : List ℕ} → IsLiteralBefore next kind false w → literal_reach kind w ≡ 0 → (other : List ℕ) → IsLiteralBefore other kind false w
 literal-end {next} {kind} {w} is none other = (literal-none is [] (subst (λ (v : List ℕ). literal_reach kind v ≡ 0) (sym (append-nil w)) none)).1 other
@@ -349,43 +312,25 @@ raw-stands {c} {next} (lit.unclosed n w none lacks) e other = absurd (let no : s
 raw-stands (lit.no_quote n c out) e other = lit.no_quote n c out
 raw-stands {c} {next} (lit.no_more n none) e other = absurd (let no : suc (length next) ≡ 0 = ap length none in omega (arith, no))
 
-none-r : (n : Option ℕ) → is_refused (RawStr n) ≡ true → n ≡ None
-none-r None e = refl
-none-r (Some n) e = absurd (true≢false (sym e))
-
-none-br : (n : Option ℕ) → is_refused (RawByteStr n) ≡ true → n ≡ None
-none-br None e = refl
-none-br (Some n) e = absurd (true≢false (sym e))
-
-none-cr : (n : Option ℕ) → is_refused (RawCStr n) ≡ true → n ≡ None
-none-cr None e = refl
-none-cr (Some n) e = absurd (true≢false (sym e))
+none-raw : (kind : Option ℕ → LiteralKind) (n : Option ℕ) → ((k : ℕ) → is_refused (kind (Some k)) ≡ false) → is_refused (kind n) ≡ true → n ≡ None
+none-raw kind None stands e = refl
+none-raw kind (Some k) stands e = absurd (either-way (is_refused (kind (Some k))) e (stands k))
 
 literal-takes : {next : List ℕ} {kind : LiteralKind} {takes : Bool} {w : List ℕ} → IsLiteralBefore next kind takes w → is_refused kind ≡ true → takes ≡ false
 literal-takes (lit.number is) e = absurd (either-way _ e (number-kind is.stands.is_number []).1)
-literal-takes (lit.str q) e = absurd (true≢false (sym e))
-literal-takes (lit.byte_str q) e = absurd (true≢false (sym e))
-literal-takes (lit.c_str q) e = absurd (true≢false (sym e))
-literal-takes (lit.byte_char q) e = absurd (true≢false (sym e))
-literal-takes (lit.char_of_one out) e = absurd (true≢false (sym e))
-literal-takes (lit.char q stop) e = absurd (true≢false (sym e))
 literal-takes (lit.char_of_name w start all) e = refl
-literal-takes (lit.raw_str {n} q free) e = ap is_some (none-r n e)
-literal-takes (lit.raw_byte_str {n} q) e = ap is_some (none-br n e)
-literal-takes (lit.raw_c_str {n} q) e = ap is_some (none-cr n e)
+literal-takes (lit.raw_str {n} q free) e = ap is_some (none-raw RawStr n (λ k. refl) e)
+literal-takes (lit.raw_byte_str {n} q) e = ap is_some (none-raw RawByteStr n (λ k. refl) e)
+literal-takes (lit.raw_c_str {n} q) e = ap is_some (none-raw RawCStr n (λ k. refl) e)
+literal-takes other e = absurd (true≢false (sym e))
 
 literal-stands : {c : ℕ} {next : List ℕ} {kind : LiteralKind} {takes : Bool} {w : List ℕ} → IsLiteralBefore (c ∷ next) kind takes w → is_refused kind ≡ true → (other : List ℕ) → IsLiteralBefore other kind takes w
 literal-stands (lit.number is) e other = absurd (either-way _ e (number-kind is.stands.is_number []).1)
-literal-stands (lit.str q) e other = absurd (true≢false (sym e))
-literal-stands (lit.byte_str q) e other = absurd (true≢false (sym e))
-literal-stands (lit.c_str q) e other = absurd (true≢false (sym e))
-literal-stands (lit.byte_char q) e other = absurd (true≢false (sym e))
-literal-stands (lit.char_of_one out) e other = absurd (true≢false (sym e))
-literal-stands (lit.char q stop) e other = absurd (true≢false (sym e))
 literal-stands (lit.char_of_name w start all) e other = lit.char_of_name w start all
-literal-stands (lit.raw_str {n} q free) e other = lit.raw_str (raw-stands q (none-r n e) other) free
-literal-stands (lit.raw_byte_str {n} q) e other = lit.raw_byte_str (raw-stands q (none-br n e) other)
-literal-stands (lit.raw_c_str {n} q) e other = lit.raw_c_str (raw-stands q (none-cr n e) other)
+literal-stands (lit.raw_str {n} q free) e other = lit.raw_str (raw-stands q (none-raw RawStr n (λ k. refl) e) other) free
+literal-stands (lit.raw_byte_str {n} q) e other = lit.raw_byte_str (raw-stands q (none-raw RawByteStr n (λ k. refl) e) other)
+literal-stands (lit.raw_c_str {n} q) e other = lit.raw_c_str (raw-stands q (none-raw RawCStr n (λ k. refl) e) other)
+literal-stands others e other = absurd (true≢false (sym e))
 
 abbrev is_refused_token : TokenKind → Bool
 is_refused_token (Literal kind suffix_start) = is_refused kind

@@ -9,12 +9,12 @@ use Rattle.rustc_lexer.specs.declared.token.TokenKind.TheVariants.{Ident, Invali
 use Rattle.rustc_lexer.specs.Classes.{is_id_start, is_id_continue, is_ident, is_word_continue, is_word_start, begins_ident_after, AreAll, NextIs, NextIsNot}
 use Rattle.rustc_lexer.specs.Tables.{is_emoji, emoji_ranges}
 use Rattle.rustc_lexer.specs.means.Ident.{ident_kind, ident_or_unknown_prefix, invalid_ident, marks_ident, marked}
-use Rattle.rustc_lexer.specs.laws.Choice.{EachArm, by_arm, at_char}
+use Rattle.rustc_lexer.specs.laws.Family.{by_letter}
 use Rattle.rustc_lexer.specs.laws.LanguageRuns.{run_len-here, run-stops, either-way, Sound, Read, read-first, begins-next, chooses-word, chooses-emoji, word-no_mark, mark-stops, start-word_start}
 use Rattle.rustc_lexer.specs.laws.Reach.{run_all}
 use Rattle.rustc_lexer.specs.Language as the
 use Rattle.rustc_lexer.specs.Language.{IsTokenBefore, ends_prefix, known_prefixes, begins_prefixed}
-use Rattle.rustc_lexer.specs.means.Lexeme.{letter_r, letter_k, letter_b, letter_c, letters, raw_or_ident, word, is_raw_mark, begins_raw}
+use Rattle.rustc_lexer.specs.means.Lexeme.{letter_r, letter_k, letter_b, letter_c, raw_or_ident, word, is_raw_mark, begins_raw}
 use Rattle.rustc_lexer.specs.means.Scan.{after, begins, next_is, run, run_len}
 
 -- ---- what begins no identifier
@@ -105,23 +105,9 @@ c-plain s n =
 abbrev IsPlain : ℕ → (List ℕ → TokenKind × ℕ) → Type 0
 IsPlain c scan = (s : List ℕ) → begins_prefixed (c ∷ s) ≡ false → scan s ≡ ident_or_unknown_prefix s
 
-letters-plain : EachArm IsPlain letters
-letters-plain = (
-  at_char IsPlain 114 letter_r (λ s e. r-plain s (begins-none (114 ∷ s) e)),
-  (
-    at_char IsPlain 107 letter_k (λ s e. k-plain s (begins-none (107 ∷ s) e)),
-    (
-      at_char IsPlain 98 letter_b (λ s e. b-plain s (begins-none (98 ∷ s) e)),
-      (
-        at_char IsPlain 99 letter_c (λ s e. c-plain s (begins-none (99 ∷ s) e)),
-        tt,
-      ),
-    ),
-  ),
-)
-
 word-plain : (c : ℕ) (s : List ℕ) → begins_prefixed (c ∷ s) ≡ false → word c s ≡ ident_or_unknown_prefix s
-word-plain c = by_arm IsPlain letters (λ c. ident_or_unknown_prefix) c letters-plain (λ none s e. refl)
+word-plain c = by_letter IsPlain c (λ s e. r-plain s (begins-none (114 ∷ s) e)) (λ s e. k-plain s (begins-none (107 ∷ s) e)) (λ s e. b-plain s (begins-none (98 ∷ s) e)) (λ s e. c-plain s (begins-none (99 ∷ s) e))
+    (λ r k b d s e. refl)
 
 -- ---- a word right before a mark
 

@@ -9,13 +9,12 @@ use Rattle.rustc_lexer.specs.declared.token.TokenKind.{TokenKind}
 use Rattle.rustc_lexer.specs.declared.token.TokenKind.TheVariants.{LineComment, Slash, Whitespace, RawIdent, ForcedKeywordIdent, Eof}
 use Rattle.rustc_lexer.specs.means.BlockComment.{block_comment}
 use Rattle.rustc_lexer.specs.laws.BlockComment.{block_comment_local}
-use Rattle.rustc_lexer.specs.laws.Choice.{EachArm, by_arm}
-use Rattle.rustc_lexer.specs.laws.Family.{EachFamily, each_family}
+use Rattle.rustc_lexer.specs.laws.Family.{by_letter, EachFamily, each_family}
 use Rattle.rustc_lexer.specs.Classes.{is_whitespace}
 use Rattle.rustc_lexer.specs.means.Comment.{line_comment, line_doc_style, is_no_newline, slash}
 use Rattle.rustc_lexer.specs.means.Ident.{ident_or_unknown_prefix}
 use Rattle.rustc_lexer.specs.laws.Ident.{ident_or_unknown_prefix_local, invalid_ident_local, marked_local}
-use Rattle.rustc_lexer.specs.means.Lexeme.{letter_b, letters, word, symbol_kind, past_first, lexeme, first_token, raw_or_ident, begins_raw, raw_past_or_ident, is_raw_mark}
+use Rattle.rustc_lexer.specs.means.Lexeme.{letter_b, word, symbol_kind, past_first, lexeme, first_token, raw_or_ident, begins_raw, raw_past_or_ident, is_raw_mark}
 use Rattle.rustc_lexer.specs.laws.Lifetime.{lifetime_or_char_local}
 use Rattle.rustc_lexer.specs.means.Literal.{literal}
 use Rattle.rustc_lexer.specs.laws.Literal.{prefixed_local}
@@ -85,23 +84,8 @@ letter_b_local = prefixed_local 2 (codes "'") byte_body _ (omega arith) (omega a
 abbrev pub LooksAtTwo : ℕ → (List ℕ → TokenKind × ℕ) → Type 0
 LooksAtTwo c scan = IsLocal TokenKind 2 scan
 
-letters_local : EachArm LooksAtTwo letters
-letters_local = (
-  λ c e. marked_local RawIdent raw_or_ident raw,
-  (
-    λ c e. marked_local ForcedKeywordIdent ident_or_unknown_prefix plain,
-    (
-      λ c e. letter_b_local,
-      (
-        λ c e. string CStr Cr,
-        tt,
-      ),
-    ),
-  ),
-)
-
 pub word_local : (c : ℕ) → IsLocal TokenKind 2 (word c)
-word_local c = by_arm LooksAtTwo letters (λ c. ident_or_unknown_prefix) c letters_local (λ none. plain)
+word_local c = by_letter LooksAtTwo c (marked_local RawIdent raw_or_ident raw) (marked_local ForcedKeywordIdent ident_or_unknown_prefix plain) letter_b_local (string CStr Cr) (λ r k b d. plain)
 
 pub families_local : EachFamily LooksAtTwo
 families_local = record {

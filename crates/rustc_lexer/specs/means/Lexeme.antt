@@ -10,7 +10,6 @@ use Rattle.rustc_lexer.specs.declared.lexemes.family.Family.TheVariants.{Slash, 
 use Rattle.rustc_lexer.specs.declared.token.Token.{Token}
 use Rattle.rustc_lexer.specs.declared.token.TokenKind.{TokenKind}
 use Rattle.rustc_lexer.specs.declared.token.TokenKind.TheVariants.{Whitespace, RawIdent, ForcedKeywordIdent, Eof}
-use Rattle.rustc_lexer.specs.means.Choice.{Arm, arm, chosen}
 use Rattle.rustc_lexer.specs.Classes.{is_among, is_whitespace, is_id_start}
 use Rattle.rustc_lexer.specs.means.Comment.{slash}
 use Rattle.rustc_lexer.specs.Tables.{is_emoji}
@@ -58,18 +57,13 @@ letter_b s =
 abbrev pub letter_c : List ℕ → TokenKind × ℕ
 letter_c s = if begins (codes "\"") s then literal (after 1 c_str_body) s else raw_past_or_ident Cr s
 
--- the letters that may be more than the start of an identifier
-abbrev pub letters : List Arm
-letters =
-    arm (λ c. c == byte "r") (λ c. letter_r)
-    ∷ arm (λ c. c == byte "k") (λ c. letter_k)
-    ∷ arm (λ c. c == byte "b") (λ c. letter_b)
-    ∷ arm (λ c. c == byte "c") (λ c. letter_c)
-    ∷ []
-
--- what follows a letter or another start of an identifier
+-- what follows the start of an identifier, of which some letters may be more
 abbrev pub word : ℕ → List ℕ → TokenKind × ℕ
-word c s = chosen letters (λ c. ident_or_unknown_prefix) c s
+word c =
+    if c == byte "r" then letter_r
+    else (if c == byte "k" then letter_k
+    else (if c == byte "b" then letter_b
+    else (if c == byte "c" then letter_c else ident_or_unknown_prefix)))
 
 -- a token of one character
 abbrev pub symbol : ℕ → List ℕ → TokenKind × ℕ
