@@ -1,6 +1,5 @@
 -- The tokens of a text that arrives in pieces.
-use Rattle.std.proofs.Common.{◌≡◌, ℕ, suc, ◌+◌, ◌<◌, ◌≤◌, List, [], ◌∷◌, ◌++◌, length, take, drop, refl, sym, ap, subst, ◌∙◌, arith, append_assoc, length-append, take_at, take-append-drop, length-drop, get_or, Bor, ◌^◌, inl, inr, eq-or-lt_of_le, IsCharBoundary, IsUtf8}
-use Rattle.std.proofs.lemmas.Bool.Decides.{leb_tells}
+use Rattle.std.proofs.Common.{◌≡◌, ℕ, zero, suc, ◌+◌, ◌<◌, ◌≤◌, List, [], ◌∷◌, ◌++◌, length, take, drop, refl, sym, ap, subst, ◌∙◌, arith, append_assoc, length-append, take_at, take-append-drop, length-drop, get_or, Bor, ◌^◌, IsCharBoundary, IsUtf8}
 use Rattle.std.proofs.Math.Seq.{drop-append_seam}
 use Rattle.std.proofs.lemmas.List.{append-nil, drop-append-le, take_more}
 use Rattle.std.proofs.lemmas.List.Concat.{flat_map-append}
@@ -13,59 +12,38 @@ use Rattle.rustc_lexer.specs.laws.Lookahead.{first_token_grammar}
 use Rattle.rustc_lexer.specs.LanguageText.{part}
 use Rattle.rustc_lexer.specs.Locality.{IsSettled, StaysUpTo}
 use Rattle.rustc_lexer.specs.Classes.{IsText}
-use Rattle.rustc_lexer.proofs.BoundLemmas.{bound_mono, rises}
 use Rattle.rustc_lexer.specs.laws.Cuts.{IsCutAt, at_bound}
 use Rattle.rustc_lexer.proofs.EditLemmas.{bound-same}
 use Rattle.examples.specs.Arriving.{GivesFirst, GivesSure, IsFirstUpTo}
 use Rattle.examples.specs.Joined.{joined}
 
--- the end of a token
-bound-next : (items others : List Token) (token : Token) → bound (items ++ token ∷ others) (length items) + token.len ≡ bound (items ++ token ∷ others) (suc (length items))
-bound-next [] others token = omega arith
-bound-next (t ∷ items) others token = omega (arith, bound-next items others token)
+-- the first of some tokens that stand behind `start`, up to the one that ends at the place
+abbrev pub IsFirstFrom : ℕ → ℕ → List Token → List Token → Type 0
+IsFirstFrom start place first tokens = (k : ℕ) → k ≤ length tokens → start + bound tokens k ≡ place → first ≡ take k tokens
 
--- each token takes something
-abbrev Rises : List Token → Type 0
-Rises tokens = (k : ℕ) → k < length tokens → bound tokens k < bound tokens (suc k)
+-- what the loop knows of the tokens so far: with the first of those that are left they are the first of all
+abbrev pub IsTaken : List Token → List Token → List Token → ℕ → ℕ → Type 0
+IsTaken tokens items left start place = (more : List Token) → IsFirstFrom start place more left → IsFirstUpTo place (items ++ more) tokens
 
--- what the loop knows of the tokens so far
-pub record IsTaken (tokens items left : List Token) (start place : ℕ) : Type 0 where
-  pub whole : items ++ left ≡ tokens
-  pub end : start ≡ bound tokens (length items)
-  pub before : (k : ℕ) → k < length items → bound tokens k < place
+pub taken_start : (tokens items left : List Token) (place : ℕ) → items ≡ [] → left ≡ tokens → IsTaken tokens items left 0 place
+taken_start tokens items left place none all = λ more first. rw (none, ← all) (λ k few end. first k few (omega arith))
 
 pub taken_more : (tokens items more left others : List Token) (token : Token) (start place : ℕ) → IsTaken tokens items left start place → left ≡ token ∷ others
     → start < place → more ≡ items ++ token ∷ [] → IsTaken tokens more others (start + token.len) place
-taken_more tokens items more left others token start place at first early pushed =
-    let long : length more ≡ suc (length items) = omega (arith, ap length pushed, length-append items (token ∷ [])) in
-    let whole : items ++ token ∷ others ≡ tokens = ap (λ ts. items ++ ts) (sym first) ∙ at.whole in
-    let next : bound tokens (length items) + token.len ≡ bound tokens (suc (length items)) = subst (λ ts. bound ts (length items) + token.len ≡ bound ts (suc (length items))) whole (bound-next items others token) in
-    record {
-      whole = ap (λ ts. ts ++ others) pushed ∙ (append_assoc items (token ∷ []) others ∙ whole);
-      end = ap (λ n. n + token.len) at.end ∙ (next ∙ ap (bound tokens) (sym long));
-      before = λ k less. omega (arith, long, bound_mono tokens k (length items) (omega (arith, long)), at.end);
-    }
+taken_more tokens items more left others token start place at first early pushed = λ last is.
+    subst (λ ts. IsFirstUpTo place ts tokens) (sym (ap (λ ts. ts ++ last) pushed ∙ append_assoc items (token ∷ []) last)) (at (token ∷ last) (subst (IsFirstFrom start place (token ∷ last)) (sym first) (by is)))
+  where
+    by : {last : List Token} → IsFirstFrom (start + token.len) place last others → IsFirstFrom start place (token ∷ last) (token ∷ others)
+    by is zero few end = absurd (omega arith)
+    by is (suc k) few end = ap (λ ts. token ∷ ts) (is k (omega arith) (omega arith))
 
--- the tokens so far are those up to the place, where that is a bound
-pub taken_up_to : (tokens items left : List Token) (start place : ℕ) → Rises tokens → IsTaken tokens items left start place → (0 < length left → place ≤ start) → IsFirstUpTo place items tokens
-taken_up_to tokens items left start place rise at past k few is =
-    let long : length items + length left ≡ length tokens = omega (arith, ap length at.whole, length-append items left) in
-    let same : length items ≡ k = elim (leb_tells k (length items)) [
-      | inl le ↦ elim (eq-or-lt_of_le le.1) [
-        | inl e ↦ sym e
-        | inr less ↦ absurd (let b = at.before k less in omega arith)
-      ]
-      | inr less ↦ absurd (
-          let n : ℕ = length items in
-          let l : n < k = less.1 in
-          let late : place ≤ start = past (omega arith) in
-          let up : bound tokens n < bound tokens (suc n) = rise n (omega arith) in
-          omega (arith, at.end, bound_mono tokens (suc n) k (omega arith)))
-    ] in
-    sym (ap (take k) (sym at.whole) ∙ (ap (λ n. take n (items ++ left)) (sym same) ∙ take_at items left (length items) refl))
-
-pub rises_now : (text : List ℕ) → IsText text → Rises (tokens_of (part E2024) text)
-rises_now = rises first_token_grammar
+-- past the place none is among the first
+pub taken_none : (tokens items left : List Token) (start place : ℕ) → IsTaken tokens items left start place → ((k : ℕ) → k < length left → place < start + bound left (suc k)) → IsFirstUpTo place items tokens
+taken_none tokens items left start place at past = subst (λ ts. IsFirstUpTo place ts tokens) (append-nil items) (at [] by)
+  where
+    by : IsFirstFrom start place [] left
+    by zero few end = refl
+    by (suc k) few end = absurd (let high = past k (omega arith) in omega arith)
 
 at_bound_now : (k : ℕ) (text : List ℕ) → IsText text → IsCutAt first_token text (tokens_of (part E2024) text) k
 at_bound_now = at_bound first_token_grammar

@@ -1,6 +1,3 @@
 pub mod ArrivingLemmas
-pub mod HighlightLemmas
-pub mod RawStringLemmas
+pub mod PieceLemmas
 pub mod RepaintLemmas
-pub mod SpanLemmas
-pub mod SplitLemmas

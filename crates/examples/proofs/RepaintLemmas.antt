@@ -1,8 +1,7 @@
 -- What is shown of a text after an edit.
-use Rattle.std.proofs.Common.{◌≡◌, ℕ, zero, suc, ◌+◌, ◌-◌, ◌<◌, ◌≤◌, Bool, true, false, cond, List, [], ◌∷◌, ◌++◌, length, map, take, drop, refl, sym, ap, subst, ◌∙◌, arith, drop-drop, take-take, take-append-drop, length-take, length-take-le, leb, leb-true, le-leb, ◌&&◌, IsUtf8, IsCharBoundary, Result, Ok, Err, IfOk, OnOk}
-use Rattle.std.proofs.lemmas.Bool.{and_parts}
+use Rattle.std.proofs.Common.{◌≡◌, ℕ, zero, suc, ◌+◌, ◌-◌, ◌<◌, ◌≤◌, Bool, true, false, cond, List, [], ◌∷◌, ◌++◌, length, map, take, drop, refl, sym, ap, subst, ◌∙◌, arith, drop-drop, take-take, take-append-drop, length-take, length-take-le, leb, leb-true, le-leb, inl, inr, ◌&&◌, IsUtf8, IsCharBoundary, Result, Ok, Err, IfOk, OnOk}
+use Rattle.std.proofs.lemmas.Bool.{and_parts, cases_Bool}
 use Rattle.std.proofs.lemmas.List.{drop-take}
-use Rattle.std.specs.Fmt.{WritesInCalls}
 use Rattle.rustc_lexer.specs.declared.relex.relexing.Relexed.{Relexed}
 use Rattle.rustc_lexer.specs.declared.token.Token.{Token}
 use Rattle.rustc_lexer.specs.Tokens.{bound, tokens_by}
@@ -13,23 +12,7 @@ use Rattle.rustc_lexer.proofs.BoundLemmas.{bound-last, ends_past-at, is_bound-el
 use Rattle.rustc_lexer.proofs.EditLemmas.{IsEdited, edited, front-none, has_two-before, bound-take, kept_same, met_rest, same_rest, start_inside}
 use Rattle.rustc_lexer.proofs.PieceLemmas.{drop-pieces, take-pieces}
 use Rattle.rustc_lexer.proofs.ReadyLemmas.{cuts}
-use Rattle.examples.specs.Highlight.{close_mark, open_mark, with_marks}
-use Rattle.examples.specs.Repaint.{changed, marked, moved, shown_after}
-use Rattle.examples.proofs.HighlightLemmas.{writes_then}
-
--- ---- the loop that paints
-
-module _ {W : Type 0} (took : W → List ℕ → W → Type 0) where
-  -- one piece more between its marks
-  pub paints_piece : (w0 w1 w2 w3 w : W) (left others : List Placed) (piece : Placed) (before after : List ℕ)
-      → left ≡ piece ∷ others → before ≡ open_mark piece.token.kind → after ≡ close_mark piece.token.kind
-      → took w0 before w1 → took w1 piece.text w2 → took w2 after w3
-      → WritesInCalls took w3 (with_marks (marked others)) w → WritesInCalls took w0 (with_marks (marked left)) w
-  paints_piece w0 w1 w2 w3 w left others piece before after first opens closes a b c d =
-      subst (λ (ps : List Placed). WritesInCalls took w0 (with_marks (marked ps)) w) (sym first) (
-      writes_then took w0 w1 w _ _ (subst (λ (bs : List ℕ). took w0 bs w1) opens a) (
-      writes_then took w1 w2 w _ _ b (
-      writes_then took w2 w3 w _ _ (subst (λ (bs : List ℕ). took w2 bs w3) closes c) d)))
+use Rattle.examples.specs.Repaint.{changed, moved, shown_after}
 
 -- ---- what the counts of an edit say
 
@@ -63,11 +46,10 @@ front-two text to from (t ∷ ts) is inside = by_test (front-two text to (from +
 -- the search for the first number that passes ends at one that does, if the last one does
 least-passes : (test : ℕ → Bool) (n k : ℕ) → test (k + n) ≡ true → test (least_from test n k) ≡ true
 least-passes test zero k pass = let e : k + 0 ≡ k = omega arith in subst (λ m. test m ≡ true) e pass
-least-passes test (suc n) k pass = let same : k + suc n ≡ suc k + n = omega arith in by_test (least-passes test n (suc k) (subst (λ m. test m ≡ true) same pass)) (test k) refl
-  where
-    by_test : test (least_from test n (suc k)) ≡ true → (b : Bool) → test k ≡ b → test (cond b k (least_from test n (suc k))) ≡ true
-    by_test ih true e = e
-    by_test ih false e = ih
+least-passes test (suc n) k pass = elim (cases_Bool (test k)) [
+  | inl hit ↦ rw hit hit
+  | inr miss ↦ let same : k + suc n ≡ suc k + n = omega arith in rw miss (least-passes test n (suc k) (subst (λ m. test m ≡ true) same pass))
+]
 
 -- ---- the pieces of two texts
 
@@ -75,16 +57,12 @@ length-pieces : (text : List ℕ) (start : ℕ) (ts : List Token) → length (pi
 length-pieces text start [] = refl
 length-pieces text start (t ∷ ts) = ap suc (length-pieces text (start + t.len) ts)
 
-part-same : (text other : List ℕ) (start n whole : ℕ) → take whole text ≡ take whole other → start + n ≤ whole → take n (drop start text) ≡ take n (drop start other)
-part-same text other start n whole same few =
-    sym (drop-take start n text) ∙ (ap (drop start) (sym (take-take (start + n) whole text few) ∙ (ap (take (start + n)) same ∙ take-take (start + n) whole other few)) ∙ drop-take start n other)
-
--- the pieces in front of a place to which two texts are the same
-pieces-front : (text other : List ℕ) (whole start : ℕ) (ts : List Token) → take whole text ≡ take whole other → start + bound ts (length ts) ≤ whole → pieces_from text start ts ≡ pieces_from other start ts
-pieces-front text other whole start [] same few = refl
-pieces-front text other whole start (t ∷ ts) same few =
-    ap (λ (bs : List ℕ). (let p : Placed = record { start = start; token = t; text = bs } in p) ∷ pieces_from text (start + t.len) ts) (part-same text other start t.len whole same (omega arith))
-    ∙ ap (λ ps. (let p : Placed = record { start = start; token = t; text = take t.len (drop start other) } in p) ∷ ps) (pieces-front text other whole (start + t.len) ts same (omega arith))
+-- pieces are those of the text up to a place that they do not pass
+pieces-within : (text : List ℕ) (whole start : ℕ) (ts : List Token) → start + bound ts (length ts) ≤ whole → pieces_from (take whole text) start ts ≡ pieces_from text start ts
+pieces-within text whole start [] few = refl
+pieces-within text whole start (t ∷ ts) few =
+    let own : take t.len (drop start (take whole text)) ≡ take t.len (drop start text) = sym (drop-take start t.len (take whole text)) ∙ (ap (drop start) (take-take (start + t.len) whole text (omega arith)) ∙ drop-take start t.len text) in
+    rw (own, pieces-within text whole (start + t.len) ts (omega arith)) refl
 
 -- the pieces of a rest that stands at another place
 pieces-moved : (added removed : ℕ) (text other : List ℕ) (from to : ℕ) (ts : List Token) → drop from text ≡ drop to other → to ≡ from + added - removed → removed ≤ from + added
@@ -173,7 +151,8 @@ module _ {first : List ℕ → Token} (law : IsGrammar first) (text : List ℕ) 
       let end : bound (take kept old) (length (take kept old)) ≡ bound old kept = ap (bound (take kept old)) long ∙ bound-take kept old in
       let early : bound old kept ≤ start = kept_before text start old kept kept_two.1 in
       take-pieces new_text 0 kept new ∙ (ap (pieces_from new_text 0) front_same
-      ∙ (pieces-front new_text text start 0 (take kept old) ed.front (omega (arith, end)) ∙ sym (take-pieces text 0 kept old)))
+      ∙ (sym (pieces-within new_text start 0 (take kept old) (omega (arith, end))) ∙ (ap (λ xs. pieces_from xs 0 (take kept old)) ed.front
+      ∙ (pieces-within text start 0 (take kept old) (omega (arith, end)) ∙ sym (take-pieces text 0 kept old)))))
 
   back_shown : drop met to_show ≡ map (moved (length insert) (stop - start)) (drop passes.1.0 shown)
   back_shown =

@@ -1,8 +1,8 @@
 -- A text with its tokens marked.
-use Rattle.std.specs.Prelude.{ℕ, List, [], ◌∷◌, ◌++◌, codes, take, drop}
-use Rattle.rustc_lexer.specs.declared.token.Token.{Token}
+use Rattle.std.specs.Prelude.{ℕ, List, [], ◌∷◌, ◌++◌, codes}
 use Rattle.rustc_lexer.specs.declared.token.TokenKind.{TokenKind}
 use Rattle.rustc_lexer.specs.declared.token.TokenKind.TheVariants.{LineComment, BlockComment, Literal, Lifetime, RawLifetime, UnknownPrefixLifetime, Unknown}
+use Rattle.rustc_lexer.specs.Edits.{Placed}
 
 -- the mark that opens a token of a kind, which sets the style of a terminal; none where the token is left plain
 abbrev pub open_mark : TokenKind → List ℕ
@@ -28,11 +28,10 @@ pub data Part : Type 0 where
   Mark : List ℕ → Part
   Text : List ℕ → Part
 
--- each token of a text between its marks
-abbrev pub parts : List ℕ → List Token → List Part
-parts text [] = []
-parts text (token ∷ tokens) =
-    Mark (open_mark token.kind) ∷ Text (take token.len text) ∷ Mark (close_mark token.kind) ∷ parts (drop token.len text) tokens
+-- each piece of a text between its marks
+abbrev pub marked : List Placed → List Part
+marked [] = []
+marked (piece ∷ pieces) = Mark (open_mark piece.token.kind) ∷ Text piece.text ∷ Mark (close_mark piece.token.kind) ∷ marked pieces
 
 abbrev pub with_marks : List Part → List ℕ
 with_marks [] = []

@@ -1,13 +1,7 @@
 -- What is shown of a text that is kept with its tokens, and what an edit makes of it.
-use Rattle.std.specs.Prelude.{ℕ, ◌+◌, ◌-◌, List, [], ◌∷◌, ◌++◌, length, map, take, drop}
+use Rattle.std.specs.Prelude.{ℕ, ◌+◌, ◌-◌, List, ◌++◌, length, map, take, drop}
 use Rattle.rustc_lexer.specs.declared.relex.relexing.Relexed.{Relexed}
 use Rattle.rustc_lexer.specs.Edits.{Placed}
-use Rattle.examples.specs.Highlight.{Part, Mark, Text, close_mark, open_mark}
-
--- each piece between its marks
-abbrev pub marked : List Placed → List Part
-marked [] = []
-marked (piece ∷ pieces) = Mark (open_mark piece.token.kind) ∷ Text piece.text ∷ Mark (close_mark piece.token.kind) ∷ marked pieces
 
 -- the pieces of the new text that were lexed
 abbrev pub changed : Relexed → List Placed → List Placed

@@ -2,10 +2,11 @@
 ghost use Rattle.std.specs.Prelude.{◌≡◌, OnOk};
 ghost use Rattle.std.specs.Fmt.{WritesInCalls};
 ghost use Rattle.rustc_lexer.specs.Classes.{Fits};
+ghost use Rattle.rustc_lexer.specs.Edits.{pieces_of};
 ghost use Rattle.rustc_lexer.specs.declared.edition.Edition.TheVariants.{E2024};
 ghost use Rattle.rustc_lexer.specs.LanguageText.{part};
 ghost use Rattle.rustc_lexer.specs.Tokens.{tokens_of};
-ghost use Rattle.examples.specs.Highlight.{close_mark, open_mark, parts, with_marks, without_marks};
+ghost use Rattle.examples.specs.Highlight.{close_mark, marked, open_mark, with_marks, without_marks};
 
 use rustc_lexer::{FrontmatterAllowed, TokenKind, tokenize};
 use std::fmt;
@@ -13,12 +14,12 @@ use std::fmt;
 /// Writes a text with its tokens marked by their kinds, in the styles of a terminal.
 ///
 /// Without the marks it is the text. The text may be a slice of a document.
-#[tactic(auto, using(crate::proofs::HighlightLemmas::without_marks_whole))]
+#[tactic(auto, using(crate::proofs::PieceLemmas::without_marks_whole))]
 pub fn highlight<W: fmt::Write>(text: &str, output: &mut W) -> fmt::Result
     requires fits { Fits text.now }
     ensures written { OnOk result (WritesInCalls W.write_str_gives output.old
-        (with_marks (parts text.now (tokens_of (part E2024) text.now))) output.new) }
-    ensures text { without_marks (parts text.now (tokens_of (part E2024) text.now))
+        (with_marks (marked (pieces_of text.now (tokens_of (part E2024) text.now)))) output.new) }
+    ensures text { without_marks (marked (pieces_of text.now (tokens_of (part E2024) text.now)))
         ≡ text.now }
 {
     let mut start = 0;

@@ -2,8 +2,8 @@
 ghost use Rattle.std.specs.Prelude.{◌≡◌, ◌+◌, ◌-◌, OnOk, OnErr, IfOk, length};
 ghost use Rattle.std.specs.Fmt.{WritesInCalls};
 ghost use Rattle.rustc_lexer.specs.Edits.{IsEdit, apply, pieces_of};
-ghost use Rattle.examples.specs.Highlight.{with_marks};
-ghost use Rattle.examples.specs.Repaint.{changed, marked, shown_after};
+ghost use Rattle.examples.specs.Highlight.{marked, with_marks};
+ghost use Rattle.examples.specs.Repaint.{changed, shown_after};
 
 use crate::highlight::{closing, opening};
 use rustc_lexer::{LexedText, Relexed, Stepper};

@@ -1,20 +1,16 @@
-use Rattle.std.proofs.Common.{refl}
-use Rattle.rustc_lexer.specs.Tokens.{tokens_left}
+use Rattle.std.proofs.Common.{drop, refl, ap}
+use Rattle.rustc_lexer.specs.Edits.{pieces_from}
 use Rattle.rustc_lexer.proofs.PlaceLemmas.{piece_is, stands_past}
-use Rattle.examples.proofs.HighlightLemmas.{writes_token, writes_nothing}
+use Rattle.examples.proofs.PieceLemmas.{writes_piece}
 use Rattle.examples.proofs.highlight.highlight.Goals as goal
 
 pub loop-token-preserved : goal.loop-token-preserved
 loop-token-preserved g c =
-    let at = c.loop-token.token-iterator in
-    let past = c.next.new.self in
+    let text = c.args.text.now in
+    let start = c.loop-token.start in
     let step = c.in-Some.ensures.steps in
-    let piece = piece_is c.args.text.now at.rest c.range.result.now c.loop-token.start c.in-Some.token.len c.range.ensures.value c.loop-token.invariant.place.1 in
     record {
-      place = stands_past c.args.text.now c.loop-token.start at past c.in-Some.token c.loop-token.invariant.place step;
-      left = λ w more. c.loop-token.invariant.left w (writes_token g.W.Write.write_str_gives c.loop-token.output c.write_str.new.self c.write_str-in-loop-token.new.self c.write_str-in-loop-token-2.new.self w at.rest past.rest c.range.result.now c.opening.result.now c.closing.result.now (tokens_left at) (tokens_left past) c.in-Some.token
-          step.first step.rest piece c.opening.ensures c.closing.ensures (c.in_ok-write_str.ensures.ok refl) (c.in_ok-write_str-2.ensures.ok refl) (c.in_ok-write_str-3.ensures.ok refl) more);
+      place = stands_past text start _ _ c.in-Some.token c.loop-token.invariant.place step;
+      left = λ w more. c.loop-token.invariant.left w (writes_piece g.W.Write.write_str_gives _ _ _ _ w _ _ _ _ _ _ (ap (pieces_from text start) step.first) c.opening.ensures
+          (piece_is text (drop start text) c.range.result.now start c.in-Some.token.len c.range.ensures.value refl) c.closing.ensures (c.in_ok-write_str.ensures.ok refl) (c.in_ok-write_str-2.ensures.ok refl) (c.in_ok-write_str-3.ensures.ok refl) more);
     }
-
-pub returns-clause-written : goal.returns-clause-written
-returns-clause-written g c = c.loop-token.invariant.left _ (writes_nothing g.W.Write.write_str_gives c.loop-token.output c.loop-token.token-iterator.rest (tokens_left c.loop-token.token-iterator) c.in-None.ensures.steps.0)

@@ -1,9 +1,8 @@
 use Rattle.std.proofs.Common.{◌≡◌, ◌-◌, List, take, drop, length, refl, ap, ◌∙◌, subst, arith}
 use Rattle.std.specs.Fmt.{WritesInCalls}
 use Rattle.rustc_lexer.specs.Edits.{Left, Placed, pieces_left, pieces_of, placed}
-use Rattle.examples.specs.Highlight.{with_marks}
-use Rattle.examples.specs.Repaint.{marked}
-use Rattle.examples.proofs.RepaintLemmas.{paints_piece}
+use Rattle.examples.specs.Highlight.{marked, with_marks}
+use Rattle.examples.proofs.PieceLemmas.{writes_piece}
 use Rattle.examples.proofs.repaint.repaint.Goals as goal
 
 pub loop-piece-init : goal.loop-piece-init
@@ -15,5 +14,5 @@ loop-piece-init g c =
     λ w more. subst (λ (ps : List Placed). WritesInCalls g.W.Write.write_str_gives c.args.output.now (with_marks (marked ps)) w) left more
 
 pub loop-piece-preserved : goal.loop-piece-preserved
-loop-piece-preserved g c = λ w more. c.loop-piece.invariant w (paints_piece g.W.Write.write_str_gives _ _ _ _ w _ _ (placed c.in-Some.piece) _ _ c.in-Some.ensures.steps.first
-    c.opening.ensures c.closing.ensures (c.in_ok-write_str.ensures.ok refl) (c.in_ok-write_str-2.ensures.ok refl) (c.in_ok-write_str-3.ensures.ok refl) more)
+loop-piece-preserved g c = λ w more. c.loop-piece.invariant w (writes_piece g.W.Write.write_str_gives _ _ _ _ w _ _ (placed c.in-Some.piece) _ _ _ c.in-Some.ensures.steps.first
+    c.opening.ensures refl c.closing.ensures (c.in_ok-write_str.ensures.ok refl) (c.in_ok-write_str-2.ensures.ok refl) (c.in_ok-write_str-3.ensures.ok refl) more)

@@ -1,8 +1,8 @@
 use Rattle.std.proofs.Common.{length}
 use Rattle.std.specs.Fmt.{WritesInCalls}
 use Rattle.rustc_lexer.specs.Edits.{pieces_left, pieces_of}
-use Rattle.examples.specs.Highlight.{with_marks}
-use Rattle.examples.specs.Repaint.{changed, marked}
+use Rattle.examples.specs.Highlight.{marked, with_marks}
+use Rattle.examples.specs.Repaint.{changed}
 use Rattle.examples.proofs.repaint.repaint.Given as goal
 
 abbrev pub invariant-loop-piece : goal.invariant-loop-piece
