@@ -1,18 +1,15 @@
 -- Writes one after another, as the calls that they make.
-use Rattle.std.proofs.Common.{◌≡◌, List, [], ◌∷◌, ◌++◌, ℕ, refl, sym, ap, subst, ◌∙◌, append-nil}
+use Rattle.std.proofs.Common.{List, [], ◌∷◌, ◌++◌, ℕ, refl, ap, ◌∙◌, append-nil}
 use Rattle.std.proofs.lemmas.List.Folds.{concat-append}
 use Rattle.std.specs.Fmt.{WritesInCalls}
 use Rattle.std.specs.Result.{IsOk}
 use Rattle.std.specs.Prelude.{OnOk, Result, Ok, Err}
-use Rattle.std.specs.List.{concat, FoldsTo}
+use Rattle.std.specs.List.{concat}
+use Rattle.rustc_literal_escaper.proofs.RunLemmas.{folds-append}
 
 pub on_ok : {T E : Type 0} (r : Result T E) {P Q : Type 0} → (IsOk r → P) → (P → Q) → OnOk r Q
 on_ok (Ok x) holds more = more (holds refl)
 on_ok (Err e) holds more = tt
-
-pub on_ok_then : {T E : Type 0} (r : Result T E) {P Q : Type 0} → OnOk r P → (P → Q) → OnOk r Q
-on_ok_then (Ok x) holds more = more holds
-on_ok_then (Err e) holds more = tt
 
 module _ {W : Type 0} (took : W → List ℕ → W → Type 0) where
   -- a text that is written in one call
@@ -26,18 +23,10 @@ module _ {W : Type 0} (took : W → List ℕ → W → Type 0) where
   pub no_calls : (w : W) → WritesInCalls took w [] w
   no_calls w = record { parts = []; calls = refl; whole = refl }
 
-  folds_append : (ps qs : List (List ℕ)) (w v u : W) → FoldsTo took w ps v → FoldsTo took v qs u → FoldsTo took w (ps ++ qs) u
-  folds_append [] qs w v u same more = subst (λ (x : W). FoldsTo took x qs u) (sym same) more
-  folds_append (p ∷ ps) qs w v u (x, call, others) more = (x, call, folds_append ps qs x v u others more)
-
   -- one write, and then another
   pub writes_both : (w v u : W) (bs cs : List ℕ) → WritesInCalls took w bs v → WritesInCalls took v cs u → WritesInCalls took w (bs ++ cs) u
   writes_both w v u bs cs first second = record {
     parts = first.parts ++ second.parts;
-    calls = folds_append first.parts second.parts w v u first.calls second.calls;
+    calls = folds-append took w v u first.parts second.parts first.calls second.calls;
     whole = concat-append first.parts second.parts ∙ (ap (λ xs. xs ++ concat second.parts) first.whole ∙ ap (λ xs. bs ++ xs) second.whole);
   }
-
-  -- the same of a text that is known to be these two
-  pub writes_whole : (w v u : W) (bs cs all : List ℕ) → all ≡ bs ++ cs → WritesInCalls took w bs v → WritesInCalls took v cs u → WritesInCalls took w all u
-  writes_whole w v u bs cs all is first second = subst (λ (xs : List ℕ). WritesInCalls took w xs u) (sym is) (writes_both w v u bs cs first second)

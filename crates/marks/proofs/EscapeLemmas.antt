@@ -43,10 +43,6 @@ untagged_escaped (b ∷ bs) rest =
     ∙ (untagged_byte b (escaped bs ++ rest)
     ∙ (ap (λ xs. escaped_byte b ++ xs) (untagged_escaped bs rest) ∙ sym (append_assoc (escaped_byte b) (escaped bs) (untagged_from false rest))))
 
-pub escaped_append : (xs ys : List ℕ) → escaped (xs ++ ys) ≡ escaped xs ++ escaped ys
-escaped_append [] ys = refl
-escaped_append (b ∷ bs) ys = ap (λ zs. escaped_byte b ++ zs) (escaped_append bs ys) ∙ sym (append_assoc (escaped_byte b) (escaped bs) (escaped ys))
-
 none_special : (bs : List ℕ) → ((k : ℕ) → k < length bs → is_special (get_or bs k 0) ≡ true → ⊥) → escaped bs ≡ bs
 none_special [] none = refl
 none_special (b ∷ bs) none = elim (cases_Bool (is_special b)) [

@@ -1,6 +1,5 @@
 pub mod CallLemmas
 pub mod EscapeLemmas
-pub mod LineLemmas
 pub mod LiteralLemmas
 pub mod MarkedLemmas
 pub mod PartLemmas

@@ -3,60 +3,39 @@ use Rattle.std.proofs.Common.{◌≡◌, ℕ, ◌+◌, ◌-◌, ◌<◌, ◌≤�
 use Rattle.std.specs.Fmt.{WritesInCalls}
 use Rattle.std.proofs.lemmas.Bool.{cases_lt, lt-ltb, le-ltb}
 use Rattle.std.proofs.lemmas.List.{drop-drop, get_or-take, length-take-le}
+use Rattle.std.proofs.lemmas.List.Concat.{flat_map-append}
 use Rattle.std.proofs.lemmas.List.Elements.{All-head, All-tail}
 use Rattle.std.proofs.lemmas.Str.{IsCharBoundary-from_rest}
 use Rattle.rustc_literal_escaper.specs.Elements.{Item, items_of}
 use Rattle.rustc_literal_escaper.specs.Errors.{is_raw}
 use Rattle.rustc_literal_escaper.specs.Places.{ArePlaced, IsPlaced}
 use Rattle.rustc_literal_escaper.specs.declared.mode.Mode.{Mode}
-use Rattle.marks.specs.declared.class.Class.TheVariants.{Text, Escape as EscapeClass}
+use Rattle.marks.specs.declared.class.Class.TheVariants.{Text}
 use Rattle.marks.specs.declared.fault.Fault.TheVariants.{InLiteral}
 use Rattle.marks.specs.declared.literal.Look.{Look}
 use Rattle.marks.specs.declared.literal.Look.TheVariants.{Escape, Wrong}
 use Rattle.marks.specs.declared.style.Style.{Style}
-use Rattle.marks.specs.declared.style.Style.TheVariants.{Html}
 use Rattle.marks.specs.Literal.{Stretch, WritesOn, between, literal_parts, look_of, look_parts, parts_from, single_error, single_look, single_stretches, skipped, stretch, stretches_from, stretches_of, string_stretches}
-use Rattle.marks.specs.Part.{class_parts, with_marks, without_marks}
-use Rattle.marks.proofs.PartLemmas.{Shows, shows_both, shows_class, shows_fault, without_class, without_fault, without_marks-append, writes_parts}
+use Rattle.marks.specs.Part.{Own, own, with_marks, without_marks}
+use Rattle.marks.proofs.PartLemmas.{without_fault, writes_parts}
 
-without_look : (style : Style) (look : Look) (text : List ℕ) → without_marks (look_parts style look text) ≡ text
-without_look style Escape text = without_class style EscapeClass text
-without_look style (Wrong error) text = without_fault style (InLiteral error) Text text
+without_look : (look : Look) (text : List ℕ) → without_marks (look_parts look text) ≡ text
+without_look Escape text = append-nil text
+without_look (Wrong error) text = without_fault (InLiteral error) Text text
 
-without_from : (style : Style) (at : ℕ) (left : List ℕ) (ss : List Stretch) → without_marks (parts_from style at left ss) ≡ left
-without_from style at left [] = without_class style Text left
-without_from style at left (s ∷ ss) =
-    let plain : List ℕ = take (s.start - at) left in
+without_from : (at : ℕ) (left : List ℕ) (ss : List Stretch) → without_marks (parts_from at left ss) ≡ left
+without_from at left [] = append-nil left
+without_from at left (s ∷ ss) =
     let past : List ℕ = drop (s.start - at) left in
-    let own : List ℕ = take (s.end - s.start) past in
+    let text : List ℕ = take (s.end - s.start) past in
     let rest : List ℕ = drop (s.end - s.start) past in
-    without_marks-append (class_parts style Text plain) (look_parts style s.look own ++ parts_from style s.end rest ss)
-    ∙ (ap (λ xs. xs ++ without_marks (look_parts style s.look own ++ parts_from style s.end rest ss)) (without_class style Text plain)
-    ∙ (ap (λ xs. plain ++ xs) (without_marks-append (look_parts style s.look own) (parts_from style s.end rest ss)
-    ∙ (ap (λ xs. xs ++ without_marks (parts_from style s.end rest ss)) (without_look style s.look own)
-    ∙ (ap (λ xs. own ++ xs) (without_from style s.end rest ss) ∙ take-append-drop (s.end - s.start) past)))
-    ∙ take-append-drop (s.start - at) left))
+    ap (λ xs. take (s.start - at) left ++ xs) (flat_map-append own (look_parts s.look text) (parts_from s.end rest ss)
+    ∙ (ap (λ xs. xs ++ without_marks (parts_from s.end rest ss)) (without_look s.look text) ∙ (ap (λ xs. text ++ xs) (without_from s.end rest ss) ∙ take-append-drop (s.end - s.start) past)))
+    ∙ take-append-drop (s.start - at) left
 
 -- without the marks, a literal is as it was, whatever its stretches are
-pub without_literal : (style : Style) (mode : Mode) (text : List ℕ) → without_marks (literal_parts style mode text) ≡ text
-without_literal style mode text = without_from style 0 text (stretches_of mode text)
-
-shows_look : (look : Look) (text : List ℕ) → Shows (look_parts Html look text)
-shows_look Escape text = shows_class EscapeClass text
-shows_look (Wrong error) text = shows_fault (InLiteral error) Text text
-
-shows_from : (at : ℕ) (left : List ℕ) (ss : List Stretch) → Shows (parts_from Html at left ss)
-shows_from at left [] = shows_class Text left
-shows_from at left (s ∷ ss) =
-    let plain : List ℕ = take (s.start - at) left in
-    let past : List ℕ = drop (s.start - at) left in
-    let own : List ℕ = take (s.end - s.start) past in
-    let rest : List ℕ = drop (s.end - s.start) past in
-    shows_both (class_parts Html Text plain) (look_parts Html s.look own ++ parts_from Html s.end rest ss) (shows_class Text plain)
-    (shows_both (look_parts Html s.look own) (parts_from Html s.end rest ss) (shows_look s.look own) (shows_from s.end rest ss))
-
-pub shows_literal : (mode : Mode) (text : List ℕ) → Shows (literal_parts Html mode text)
-shows_literal mode text = shows_from 0 text (stretches_of mode text)
+pub without_literal : (mode : Mode) (text : List ℕ) → without_marks (literal_parts mode text) ≡ text
+without_literal mode text = without_from 0 text (stretches_of mode text)
 
 -- ---- the places
 
@@ -123,33 +102,27 @@ module _ {W : Type 0} (took : W → List ℕ → W → Type 0) where
   -- a stretch, and the plain text before it
   pub writes_stretch : (style : Style) (look : Look) (some : Option Look) (text plain own : List ℕ) (shown start end : ℕ) (w0 w1 w2 : W) → some ≡ Some look → shown ≤ start → start ≤ end
       → plain ≡ take (start - shown) (drop shown text) → own ≡ take (end - start) (drop start text)
-      → WritesInCalls took w0 (with_marks style (class_parts style Text plain)) w1 → WritesInCalls took w1 (with_marks style (look_parts style look own)) w2
+      → WritesInCalls took w0 (with_marks style (Own Text plain ∷ [])) w1 → WritesInCalls took w1 (with_marks style (look_parts look own)) w2
       → WritesOn took style text w0 shown (stretch start end some) w2 end
   writes_stretch style look some text plain own shown start end w0 w1 w2 is low high is_plain is_own a b = λ more last rest.
       let past : drop (start - shown) (drop shown text) ≡ drop start text = let same : shown + (start - shown) ≡ start = omega arith in drop-drop (start - shown) shown text ∙ ap (λ (n : ℕ). drop n text) same in
       let behind : drop (end - start) (drop start text) ≡ drop end text = let same : start + (end - start) ≡ end = omega arith in drop-drop (end - start) start text ∙ ap (λ (n : ℕ). drop n text) same in
-      subst (λ (o : Option Look). WritesInCalls took w0 (with_marks style (parts_from style shown (drop shown text) (stretch start end o ++ more))) last) (sym is)
-      (writes_parts took style (class_parts style Text (take (start - shown) (drop shown text))) _ w0 w1 last
-      (subst (λ (xs : List ℕ). WritesInCalls took w0 (with_marks style (class_parts style Text xs)) w1) is_plain a)
-      (subst (λ (xs : List ℕ). WritesInCalls took w1 (with_marks style (look_parts style look (take (end - start) xs) ++ parts_from style end (drop (end - start) xs) more)) last) (sym past)
-      (writes_parts took style (look_parts style look (take (end - start) (drop start text))) (parts_from style end (drop (end - start) (drop start text)) more) w1 w2 last
-      (subst (λ (xs : List ℕ). WritesInCalls took w1 (with_marks style (look_parts style look xs)) w2) is_own b)
-      (subst (λ (xs : List ℕ). WritesInCalls took w2 (with_marks style (parts_from style end xs more)) last) (sym behind) rest))))
+      rw (is, past, behind, ← is_plain, ← is_own) (writes_parts took style (Own Text plain ∷ []) (look_parts look own ++ parts_from end (drop end text) more) w0 w1 last a (writes_parts took style (look_parts look own) (parts_from end (drop end text) more) w1 w2 last b rest))
 
   -- what is left of a literal from the place `shown` on
   abbrev pub WritesLeft : Style → List ℕ → W → ℕ → List Stretch → W → Type 0
-  WritesLeft style text w shown ss last = WritesInCalls took w (with_marks style (parts_from style shown (drop shown text) ss)) last
+  WritesLeft style text w shown ss last = WritesInCalls took w (with_marks style (parts_from shown (drop shown text) ss)) last
 
   -- some stretches, and then no more
-  pub writes_last : (style : Style) (text rest : List ℕ) (shown to : ℕ) (ss : List Stretch) (w v u : W) → WritesOn took style text w shown ss v to → rest ≡ drop to text → WritesInCalls took v (with_marks style (class_parts style Text rest)) u
+  pub writes_last : (style : Style) (text rest : List ℕ) (shown to : ℕ) (ss : List Stretch) (w v u : W) → WritesOn took style text w shown ss v to → rest ≡ drop to text → WritesInCalls took v (with_marks style (Own Text rest ∷ [])) u
       → WritesLeft style text w shown ss u
   writes_last style text rest shown to ss w v u on is wrote =
-      subst (λ (all : List Stretch). WritesLeft style text w shown all u) (append-nil ss) (on [] u (subst (λ (xs : List ℕ). WritesInCalls took v (with_marks style (class_parts style Text xs)) u) is wrote))
+      subst (λ (all : List Stretch). WritesLeft style text w shown all u) (append-nil ss) (on [] u (subst (λ (xs : List ℕ). WritesInCalls took v (with_marks style (Own Text xs ∷ [])) u) is wrote))
 
   -- what stands between single quotes
   pub writes_single : (style : Style) (mode : Mode) (text inside rest : List ℕ) (begin close to : ℕ) (look : Option Look) (w v u : W) → look ≡ single_look (single_error mode inside) inside → inside ≡ between begin close text → rest ≡ drop to text
-      → WritesOn took style text w 0 (stretch begin close look) v to → WritesInCalls took v (with_marks style (class_parts style Text rest)) u
-      → WritesInCalls took w (with_marks style (parts_from style 0 text (single_stretches mode begin close text))) u
+      → WritesOn took style text w 0 (stretch begin close look) v to → WritesInCalls took v (with_marks style (Own Text rest ∷ [])) u
+      → WritesInCalls took w (with_marks style (parts_from 0 text (single_stretches mode begin close text))) u
   writes_single style mode text inside rest begin close to look w v u looks is past on wrote =
       subst (λ (o : Option Look). WritesLeft style text w 0 (stretch begin close o) u) (looks ∙ ap (λ (xs : List ℕ). single_look (single_error mode xs) xs) is)
       (writes_last style text rest 0 to (stretch begin close look) w v u on past wrote)
@@ -170,11 +143,11 @@ module _ {W : Type 0} (took : W → List ℕ → W → Type 0) where
 
   -- all elements, and then none
   pub writes_all : (style : Style) (mode : Mode) (text inside : List ℕ) (begin close : ℕ) (items : List Item) (w last : W) → items ≡ items_of (is_raw mode) inside → inside ≡ between begin close text
-      → WritesLeft style text w 0 (stretches_from mode begin begin close items) last → WritesInCalls took w (with_marks style (parts_from style 0 text (string_stretches mode begin close text))) last
+      → WritesLeft style text w 0 (stretches_from mode begin begin close items) last → WritesInCalls took w (with_marks style (parts_from 0 text (string_stretches mode begin close text))) last
   writes_all style mode text inside begin close items w last are is wrote =
       subst (λ (all : List Item). WritesLeft style text w 0 (stretches_from mode begin begin close all) last) (are ∙ ap (items_of (is_raw mode)) is) wrote
 
   pub writes_end : (style : Style) (mode : Mode) (text rest : List ℕ) (begin at close shown to : ℕ) (items : List Item) (w v u : W) → items ≡ [] → rest ≡ drop to text → WritesOn took style text w shown (skipped at close) v to
-      → WritesInCalls took v (with_marks style (class_parts style Text rest)) u → WritesLeft style text w shown (stretches_from mode begin at close items) u
+      → WritesInCalls took v (with_marks style (Own Text rest ∷ [])) u → WritesLeft style text w shown (stretches_from mode begin at close items) u
   writes_end style mode text rest begin at close shown to items w v u none past on wrote =
       subst (λ (all : List Item). WritesLeft style text w shown (stretches_from mode begin at close all) u) (sym none) (writes_last style text rest shown to (skipped at close) w v u on past wrote)

@@ -1,70 +1,48 @@
--- The first and the last quote of a literal.
-use Rattle.std.proofs.Common.{◌≡◌, ℕ, zero, suc, ◌+◌, ◌<◌, ◌==◌, true, false, List, [], ◌∷◌, length, get_or, refl, sym, ap, arith, inl, inr, Some, None, IsCharBoundary, IsUtf8}
-use Rattle.std.specs.List.{list_any}
-use Rattle.std.proofs.lemmas.Bool.{cases_Bool, eqb-true}
+-- The first and the last byte that pass a test, in a text.
+use Rattle.std.proofs.Common.{◌≡◌, ℕ, ◌+◌, ◌-◌, ◌<◌, ◌==◌, Bool, List, length, get_or, not, ap, sym, arith, ◌∙◌, Some, None, IsCharBoundary, IsUtf8, subst}
+use Rattle.std.specs.List.{position_or_len}
+use Rattle.std.proofs.lemmas.Bool.{eqb-true, false_from_ne_true, not_from_false, not_from_true}
+use Rattle.std.proofs.lemmas.List.Sums.{position_or_len_is, suffix_len_is}
 use Rattle.std.proofs.lemmas.Str.{IsCharBoundary-after_ascii}
 use Rattle.memchr.specs.Find.{IsFirstByte, IsLastByte, is_byte}
 use Rattle.marks.specs.Literal.{first_place, last_place}
 
-module _ (b : ℕ) where
-  abbrev Here : List ℕ → ℕ → Type 0
-  Here xs k = (get_or xs k 0 == b) ≡ true
+pub first_found : (test : ℕ → Bool) (bytes text : List ℕ) (n : ℕ) → bytes ≡ text → IsFirstByte test bytes (Some n) → n ≡ position_or_len test text
+first_found test bytes text n same found =
+    let high = found.0.high in
+    sym (position_or_len_is test bytes n 0 (omega arith) (λ k low. false_from_ne_true _ (found.0.before k (omega arith) low)) (λ _. found.1)) ∙ ap (position_or_len test) same
 
-  none_is : (xs : List ℕ) → ((k : ℕ) → k < length xs → Here xs k → ⊥) → first_place b xs ≡ length xs
-  none_is [] none = refl
-  none_is (x ∷ xs) none = elim (cases_Bool (x == b)) [
-    | inl set ↦ absurd (none 0 (omega arith) set)
-    | inr clear ↦ rw clear (ap suc (none_is xs (λ k low set. none (suc k) (omega arith) set)))
-  ]
+pub first_none : (test : ℕ → Bool) (bytes text : List ℕ) → bytes ≡ text → IsFirstByte test bytes None → length text ≡ position_or_len test text
+first_none test bytes text same none =
+    ap length (sym same) ∙ (sym (position_or_len_is test bytes (length bytes) 0 (omega arith) (λ k low. false_from_ne_true _ (none k (omega arith) low)) (λ low. absurd (omega arith)))
+    ∙ ap (position_or_len test) same)
 
-  first_is : (xs : List ℕ) (n : ℕ) → n < length xs → ((k : ℕ) → k < n → Here xs k → ⊥) → Here xs n → first_place b xs ≡ n
-  first_is [] n low none here = absurd (omega arith)
-  first_is (x ∷ xs) zero low none here = rw here refl
-  first_is (x ∷ xs) (suc n) low none here = elim (cases_Bool (x == b)) [
-    | inl set ↦ absurd (none 0 (omega arith) set)
-    | inr clear ↦ rw clear (ap suc (first_is xs n (omega arith) (λ k less set. none (suc k) (omega arith) set) here))
-  ]
+module _ (b : ℕ) (bytes text : List ℕ) where
+  pub place_found : (n : ℕ) → bytes ≡ text → IsFirstByte (is_byte b) bytes (Some n) → n ≡ first_place b text
+  unfolding first_place
+  place_found n same found = first_found (is_byte b) bytes text n same found
 
-  any_none : (xs : List ℕ) → ((k : ℕ) → k < length xs → Here xs k → ⊥) → list_any (λ y. y == b) xs ≡ false
-  any_none [] none = refl
-  any_none (x ∷ xs) none = elim (cases_Bool (x == b)) [
-    | inl set ↦ absurd (none 0 (omega arith) set)
-    | inr clear ↦ rw clear (any_none xs (λ k low set. none (suc k) (omega arith) set))
-  ]
+  pub place_none : bytes ≡ text → IsFirstByte (is_byte b) bytes None → length text ≡ first_place b text
+  unfolding first_place
+  place_none same none = first_none (is_byte b) bytes text same none
 
-  any_some : (xs : List ℕ) (n : ℕ) → n < length xs → Here xs n → list_any (λ y. y == b) xs ≡ true
-  any_some [] n low here = absurd (omega arith)
-  any_some (x ∷ xs) zero low here = rw here refl
-  any_some (x ∷ xs) (suc n) low here = elim (cases_Bool (x == b)) [
-    | inl set ↦ rw set refl
-    | inr clear ↦ rw clear (any_some xs n (omega arith) here)
-  ]
+  pub last_found : (n : ℕ) → bytes ≡ text → IsLastByte (is_byte b) bytes (Some n) → n ≡ last_place b text
+  unfolding last_place
+  last_found n same found =
+      let high = found.0.high in
+      let back : n + 1 - 1 ≡ n = omega arith in
+      let long = suffix_len_is (λ x. not (x == b)) bytes (n + 1) 0 (omega arith) (λ k low less. not_from_false _ (false_from_ne_true _ (found.0.after k low less))) (λ _. rw back (not_from_true _ found.1)) in
+      let here : n ≡ last_place b bytes = omega arith in here ∙ ap (last_place b) same
 
-  last_is : (xs : List ℕ) (n : ℕ) → n < length xs → ((k : ℕ) → n < k → k < length xs → Here xs k → ⊥) → Here xs n → last_place b xs ≡ n
-  last_is [] n low none here = absurd (omega arith)
-  last_is (x ∷ xs) zero low none here = let no = any_none xs (λ k high set. none (suc k) (omega arith) (omega arith) set) in rw no refl
-  last_is (x ∷ xs) (suc n) low none here =
-      let some = any_some xs n (omega arith) here in
-      rw some (ap suc (last_is xs n (omega arith) (λ k more high set. none (suc k) (omega arith) (omega arith) set) here))
+  pub last_none : bytes ≡ text → IsLastByte (is_byte b) bytes None → 0 ≡ last_place b text
+  unfolding last_place
+  last_none same none =
+      let long = suffix_len_is (λ x. not (x == b)) bytes 0 0 (omega arith) (λ k low less. not_from_false _ (false_from_ne_true _ (none k low less))) (λ some. absurd (omega arith)) in
+      let here : 0 ≡ last_place b bytes = omega arith in here ∙ ap (last_place b) same
 
-  last_none : (xs : List ℕ) → ((k : ℕ) → k < length xs → Here xs k → ⊥) → last_place b xs ≡ 0
-  last_none [] none = refl
-  last_none (x ∷ xs) none = let no = any_none xs (λ k high set. none (suc k) (omega arith) set) in rw no refl
-
-  pub first_found : (xs : List ℕ) (n : ℕ) → IsFirstByte (is_byte b) xs (Some n) → n ≡ first_place b xs
-  first_found xs n found = sym (first_is xs n found.0.high (λ k less set. found.0.before k (omega arith) less set) found.1)
-
-  pub first_none : (xs : List ℕ) → IsFirstByte (is_byte b) xs None → length xs ≡ first_place b xs
-  first_none xs none = sym (none_is xs (λ k low set. none k (omega arith) low set))
-
-  pub last_found : (xs : List ℕ) (n : ℕ) → IsLastByte (is_byte b) xs (Some n) → n ≡ last_place b xs
-  last_found xs n found = sym (last_is xs n found.0.high (λ k more high set. found.0.after k (omega arith) high set) found.1)
-
-  pub last_zero : (xs : List ℕ) → IsLastByte (is_byte b) xs None → 0 ≡ last_place b xs
-  last_zero xs none = sym (last_none xs (λ k low set. none k (omega arith) low set))
-
-  small : (xs : List ℕ) (n : ℕ) → b < 128 → Here xs n → get_or xs n 0 < 128
-  small xs n ascii here = let is : get_or xs n 0 ≡ b = eqb-true (get_or xs n 0) b here in omega arith
-
-  pub past_first : (xs : List ℕ) (n : ℕ) → IsUtf8 xs → b < 128 → IsFirstByte (is_byte b) xs (Some n) → IsCharBoundary xs (n + 1)
-  past_first xs n utf8 ascii found = IsCharBoundary-after_ascii xs n utf8 found.0.high (small xs n ascii found.1)
+  -- the text may be cut past a byte of ASCII
+  pub past_first : (n : ℕ) → bytes ≡ text → IsUtf8 text → b < 128 → IsFirstByte (is_byte b) bytes (Some n) → IsCharBoundary text (n + 1)
+  past_first n same utf8 ascii found =
+      let at : IsFirstByte (is_byte b) text (Some n) = subst (λ (xs : List ℕ). IsFirstByte (is_byte b) xs (Some n)) same found in
+      let is : get_or text n 0 ≡ b = eqb-true (get_or text n 0) b at.1 in
+      IsCharBoundary-after_ascii text n utf8 at.0.high (omega arith)

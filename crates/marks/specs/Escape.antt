@@ -1,5 +1,6 @@
 -- A text as a page shows it, and the text that a page shows.
-use Rattle.std.specs.Prelude.{ℕ, zero, suc, ◌==◌, Bool, true, false, ◌||◌, not, if◌then◌else◌, List, [], ◌∷◌, ◌++◌, codes, length, take}
+use Rattle.std.specs.Prelude.{ℕ, zero, suc, ◌==◌, Bool, true, false, ◌||◌, not, if◌then◌else◌, List, [], ◌∷◌, codes, length, take}
+use Rattle.std.specs.List.{flat_map}
 use Rattle.std.specs.Str.{byte, bytes_eq}
 
 -- the bytes that a page would read as its own
@@ -15,8 +16,7 @@ escaped_byte b = if is_special b then entity b else b ∷ []
 
 -- the text with entities for `&`, `<` and `>`
 abbrev pub escaped : List ℕ → List ℕ
-escaped [] = []
-escaped (b ∷ bs) = escaped_byte b ++ escaped bs
+escaped text = flat_map escaped_byte text
 
 abbrev pub begins_with : List ℕ → List ℕ → Bool
 begins_with name bs = bytes_eq (take (length name) bs) name

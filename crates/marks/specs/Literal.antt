@@ -1,7 +1,7 @@
 -- The stretches of a literal: its escapes, and what is wrong in it. All else in it is plain.
-use Rattle.std.specs.Prelude.{ℕ, suc, ◌+◌, ◌-◌, ◌==◌, nat_lt, Bool, true, false, if◌then◌else◌, List, [], ◌∷◌, ◌++◌, take, drop, Option, Some, None}
+use Rattle.std.specs.Prelude.{ℕ, length, not, ◌+◌, ◌-◌, ◌==◌, nat_eq, nat_lt, codes, true, if◌then◌else◌, List, [], ◌∷◌, ◌++◌, take, drop, Option, Some, None}
 use Rattle.std.specs.Fmt.{WritesInCalls}
-use Rattle.std.specs.List.{list_any}
+use Rattle.std.specs.List.{position_or_len, starts_with, suffix_len}
 use Rattle.std.specs.Result.{result_err}
 use Rattle.std.specs.Str.{byte, chars}
 use Rattle.rustc_lexer.specs.declared.token.LiteralKind.{LiteralKind}
@@ -21,7 +21,7 @@ use Rattle.marks.specs.declared.fault.Fault.TheVariants.{InLiteral}
 use Rattle.marks.specs.declared.literal.Look.{Look}
 use Rattle.marks.specs.declared.literal.Look.TheVariants.{Escape, Wrong}
 use Rattle.marks.specs.declared.style.Style.{Style}
-use Rattle.marks.specs.Part.{Part, class_parts, fault_parts, with_marks}
+use Rattle.marks.specs.Part.{Part, Own, fault_parts, with_marks}
 
 -- the mode of a literal that is closed; a number has none
 abbrev pub literal_mode : LiteralKind → Option Mode
@@ -45,14 +45,12 @@ abbrev pub quote_of : Mode → ℕ
 quote_of mode = if is_single mode then byte "'" else byte "\""
 
 -- the place of the first byte of this value, or behind all bytes
-abbrev pub first_place : ℕ → List ℕ → ℕ
-first_place b [] = 0
-first_place b (x ∷ xs) = if x == b then 0 else suc (first_place b xs)
+unfoldable pub first_place : ℕ → List ℕ → ℕ
+first_place b text = position_or_len (λ x. x == b) text
 
 -- the place of the last one, or 0
-abbrev pub last_place : ℕ → List ℕ → ℕ
-last_place b [] = 0
-last_place b (x ∷ xs) = if list_any (λ y. y == b) xs then suc (last_place b xs) else 0
+unfoldable pub last_place : ℕ → List ℕ → ℕ
+last_place b text = length text - suffix_len (λ x. not (x == b)) text - 1
 
 -- the text from one place up to another
 abbrev pub between : ℕ → ℕ → List ℕ → List ℕ
@@ -99,13 +97,9 @@ abbrev pub single_error : Mode → List ℕ → Option EscapeError
 single_error Byte inside = result_err (byte_literal (chars inside))
 single_error mode inside = result_err (char_literal (chars inside))
 
-abbrev pub begins_escape : List ℕ → Bool
-begins_escape [] = false
-begins_escape (b ∷ bs) = b == byte "\\"
-
 abbrev pub single_look : Option EscapeError → List ℕ → Option Look
 single_look (Some error) inside = Some (Wrong error)
-single_look None inside = if begins_escape inside then Some Escape else None
+single_look None inside = if starts_with nat_eq inside (codes "\\") then Some Escape else None
 
 abbrev pub single_stretches : Mode → ℕ → ℕ → List ℕ → List Stretch
 single_stretches mode begin close text = stretch begin close (single_look (single_error mode (between begin close text)) (between begin close text))
@@ -122,24 +116,24 @@ stretches_of mode text = stretches_at mode (first_place (quote_of mode) text) (l
 
 -- ---- the parts
 
-abbrev pub look_parts : Style → Look → List ℕ → List Part
-look_parts style Escape text = class_parts style EscapeClass text
-look_parts style (Wrong error) text = fault_parts style (InLiteral error) Text text
+abbrev pub look_parts : Look → List ℕ → List Part
+look_parts Escape text = Own EscapeClass text ∷ []
+look_parts (Wrong error) text = fault_parts (InLiteral error) Text text
 
 -- what is left of a literal from the place `at` on: its stretches, and the plain text before, between and behind them
-abbrev pub parts_from : Style → ℕ → List ℕ → List Stretch → List Part
-parts_from style at left [] = class_parts style Text left
-parts_from style at left (s ∷ ss) =
-    class_parts style Text (take (s.start - at) left)
-    ++ (look_parts style s.look (take (s.end - s.start) (drop (s.start - at) left)) ++ parts_from style s.end (drop (s.end - s.start) (drop (s.start - at) left)) ss)
+abbrev pub parts_from : ℕ → List ℕ → List Stretch → List Part
+parts_from at left [] = Own Text left ∷ []
+parts_from at left (s ∷ ss) =
+    Own Text (take (s.start - at) left)
+    ∷ (look_parts s.look (take (s.end - s.start) (drop (s.start - at) left)) ++ parts_from s.end (drop (s.end - s.start) (drop (s.start - at) left)) ss)
 
 -- a literal that is closed
-abbrev pub literal_parts : Style → Mode → List ℕ → List Part
-literal_parts style mode text = parts_from style 0 text (stretches_of mode text)
+abbrev pub literal_parts : Mode → List ℕ → List Part
+literal_parts mode text = parts_from 0 text (stretches_of mode text)
 
 -- a writer that has taken a literal up to one place takes stretches, and it is then taken up to another place: whatever
 -- stretches come behind, writing them too writes all
 abbrev pub WritesOn : {W : Type 0} → (W → List ℕ → W → Type 0) → Style → List ℕ → W → ℕ → List Stretch → W → ℕ → Type 0
 WritesOn {W} took style text old shown stretches new to =
-    (more : List Stretch) (last : W) → WritesInCalls took new (with_marks style (parts_from style to (drop to text) more)) last
-    → WritesInCalls took old (with_marks style (parts_from style shown (drop shown text) (stretches ++ more))) last
+    (more : List Stretch) (last : W) → WritesInCalls took new (with_marks style (parts_from to (drop to text) more)) last
+    → WritesInCalls took old (with_marks style (parts_from shown (drop shown text) (stretches ++ more))) last

@@ -1,5 +1,6 @@
 -- A text with its shebang line and its tokens marked.
 use Rattle.std.specs.Prelude.{ℕ, List, [], ◌∷◌, ◌++◌, take, drop, Option, Some, None}
+use Rattle.std.specs.Option.{unwrap_or}
 use Rattle.rustc_lexer.specs.declared.edition.Edition.{Edition}
 use Rattle.rustc_lexer.specs.declared.token.Token.{Token}
 use Rattle.rustc_lexer.specs.declared.token.TokenKind.{TokenKind}
@@ -14,44 +15,33 @@ use Rattle.rustc_literal_escaper.specs.declared.mode.Mode.{Mode}
 use Rattle.marks.specs.Class.{class_of}
 use Rattle.marks.specs.Fault.{fault_of}
 use Rattle.marks.specs.Literal.{literal_parts, mode_of}
-use Rattle.marks.specs.Part.{Part, class_parts, fault_parts, with_marks}
+use Rattle.marks.specs.Part.{Part, Own, fault_parts, with_marks}
 
--- a token without a fault: a literal that is closed has stretches
-abbrev pub sound_parts : Style → Option Mode → Class → List ℕ → List Part
-sound_parts style None class text = class_parts style class text
-sound_parts style (Some mode) class text = literal_parts style mode text
+-- a token: with a fault, or a literal that is closed, or all in one class
+abbrev pub parts_by : Option Fault → Option Mode → Class → List ℕ → List Part
+parts_by (Some fault) mode class text = fault_parts fault class text
+parts_by None (Some mode) class text = literal_parts mode text
+parts_by None None class text = Own class text ∷ []
 
-abbrev pub parts_by : Style → Option Fault → Option Mode → Class → List ℕ → List Part
-parts_by style None mode class text = sound_parts style mode class text
-parts_by style (Some fault) mode class text = fault_parts style fault class text
+abbrev pub token_parts : TokenKind → List ℕ → List Part
+token_parts kind text = parts_by (fault_of kind text) (mode_of kind) (class_of kind text) text
 
--- a token between its marks
-abbrev pub token_parts : Style → TokenKind → List ℕ → List Part
-token_parts style kind text = parts_by style (fault_of kind text) (mode_of kind) (class_of kind text) text
+abbrev pub parts : List ℕ → List Token → List Part
+parts text [] = []
+parts text (token ∷ tokens) = token_parts token.kind (take token.len text) ++ parts (drop token.len text) tokens
 
--- each token of a text between its marks
-abbrev pub parts : Style → List ℕ → List Token → List Part
-parts style text [] = []
-parts style text (token ∷ tokens) = token_parts style token.kind (take token.len text) ++ parts style (drop token.len text) tokens
+-- how long the shebang line of a text is, or 0
+abbrev pub line_len : List ℕ → ℕ
+line_len text = unwrap_or (shebang text) 0
 
--- the shebang line, where a text has one, between the marks of a comment
-abbrev pub line_parts : Style → Option ℕ → List ℕ → List Part
-line_parts style None text = []
-line_parts style (Some len) text = class_parts style Comment (take len text)
-
--- what follows that line, which is the whole text where it has none
-abbrev pub past_line : Option ℕ → List ℕ → List ℕ
-past_line None text = text
-past_line (Some len) text = drop len text
-
--- a whole text: its shebang line, and the tokens of what follows, which is a document in an edition
-abbrev pub text_parts : Style → Edition → List ℕ → List Part
-text_parts style edition text = line_parts style (shebang text) text ++ parts style (past_line (shebang text) text) (tokens_of (document edition) (past_line (shebang text) text))
+-- a whole text: its shebang line as a comment, and the tokens of what follows, which is a document in an edition
+abbrev pub text_parts : Edition → List ℕ → List Part
+text_parts edition text = Own Comment (take (line_len text) text) ∷ parts (drop (line_len text) text) (tokens_of (document edition) (drop (line_len text) text))
 
 -- each token of a text between its marks, as it is written
 abbrev pub marked_tokens : Style → List ℕ → List Token → List ℕ
-marked_tokens style text tokens = with_marks style (parts style text tokens)
+marked_tokens style text tokens = with_marks style (parts text tokens)
 
 -- the same of a whole text
 abbrev pub marked : Style → Edition → List ℕ → List ℕ
-marked style edition text = with_marks style (text_parts style edition text)
+marked style edition text = with_marks style (text_parts edition text)

@@ -4,7 +4,7 @@ ghost use Rattle.std.specs.Fmt.{WritesInCalls};
 ghost use Rattle.std.specs.Str.{IsCharBoundary};
 ghost use Rattle.rustc_lexer.specs.Classes.{Fits};
 ghost use Rattle.rustc_literal_escaper.specs.Elements.{items_of};
-ghost use Rattle.rustc_literal_escaper.specs.Errors.{error_of, is_raw, is_single};
+ghost use Rattle.rustc_literal_escaper.specs.Errors.{is_raw, is_single};
 ghost use Rattle.rustc_literal_escaper.specs.Places.{ArePlaced};
 ghost use Rattle.marks.specs.Literal as spec;
 ghost use Rattle.marks.specs.Part.{with_marks};
@@ -56,7 +56,7 @@ pub fn write_literal<W: fmt::Write>(
 ) -> fmt::Result
     requires fits { Fits text.now }
     ensures { OnOk result (WritesInCalls W.write_str_gives output.old
-        (with_marks style (spec.literal_parts style mode text.now)) output.new) }
+        (with_marks style (spec.literal_parts mode text.now)) output.new) }
 {
     let quote = quote_of(mode);
     let first = first_place(quote, text);
@@ -86,6 +86,7 @@ fn quote_of(mode: Mode) -> u8
 }
 
 /// The place of the first byte of this value, or the length of the text.
+#[tactic(auto, using(crate::proofs::PlaceLemmas::place_found, crate::proofs::PlaceLemmas::place_none, crate::proofs::PlaceLemmas::past_first))]
 fn first_place(byte: u8, text: &str) -> usize
     requires ascii { byte < 128 }
     ensures value { result ≡ spec.first_place byte text.now }
@@ -98,6 +99,7 @@ fn first_place(byte: u8, text: &str) -> usize
 }
 
 /// The place of the last byte of this value, or 0.
+#[tactic(auto, using(crate::proofs::PlaceLemmas::last_found, crate::proofs::PlaceLemmas::last_none))]
 fn last_place(byte: u8, text: &str) -> usize
     requires ascii { byte < 128 }
     ensures value { result ≡ spec.last_place byte text.now }
@@ -122,7 +124,7 @@ fn write_single<W: fmt::Write>(
     requires close { IsCharBoundary text.now close }
     requires order { begin ≤ close }
     ensures { OnOk result (WritesInCalls W.write_str_gives output.old
-        (with_marks style (spec.parts_from style 0 text.now
+        (with_marks style (spec.parts_from 0 text.now
         (spec.single_stretches mode begin close text.now))) output.new) }
 {
     let look = single_look(mode, &text[begin..close]);
@@ -136,7 +138,7 @@ fn single_look(mode: Mode, inside: &str) -> Option<Look>
 {
     match single_error(mode, inside) {
         Some(error) => Some(Look::Wrong(error)),
-        None if begins_escape(inside) => Some(Look::Escape),
+        None if inside.starts_with('\\') => Some(Look::Escape),
         None => None,
     }
 }
@@ -148,16 +150,6 @@ fn single_error(mode: Mode, inside: &str) -> Option<EscapeError>
     match mode {
         Mode::Byte => unescape_byte(inside).err(),
         _ => unescape_char(inside).err(),
-    }
-}
-
-/// Whether a text begins with a backslash.
-fn begins_escape(inside: &str) -> bool
-    ensures { result ≡ spec.begins_escape inside.now }
-{
-    match inside.as_bytes().first() {
-        Some(byte) => *byte == b'\\',
-        None => false,
     }
 }
 
@@ -175,7 +167,7 @@ fn write_string<W: fmt::Write>(
     requires close { IsCharBoundary text.now close }
     requires order { begin ≤ close }
     ensures { OnOk result (WritesInCalls W.write_str_gives output.old
-        (with_marks style (spec.parts_from style 0 text.now
+        (with_marks style (spec.parts_from 0 text.now
         (spec.string_stretches mode begin close text.now))) output.new) }
 {
     let mut shown = 0;
@@ -256,7 +248,7 @@ fn write_stretch<W: fmt::Write>(
 /// Writes a stretch between its marks.
 fn write_look<W: fmt::Write>(style: Style, look: Look, text: &str, output: &mut W) -> fmt::Result
     ensures { OnOk result (WritesInCalls W.write_str_gives output.old
-        (with_marks style (spec.look_parts style look text.now)) output.new) }
+        (with_marks style (spec.look_parts look text.now)) output.new) }
 {
     match look {
         Look::Escape => write_in_class(style, Class::Escape, text, output),
@@ -281,21 +273,9 @@ fn elements_of(mode: Mode, inside: &str) -> Elements<'_>
 fn look_of(mode: Mode, element: Element) -> Option<Look>
     ensures { result ≡ spec.look_of mode element }
 {
-    match (error_of(mode, element), element) {
+    match (element.error_in(mode), element) {
         (Some(error), _) => Some(Look::Wrong(error)),
         (None, Element::Plain(_)) => None,
         (None, _) => Some(Look::Escape),
-    }
-}
-
-/// What is wrong with an element, in a literal of this kind.
-fn error_of(mode: Mode, element: Element) -> Option<EscapeError>
-    ensures { result ≡ error_of mode element }
-{
-    match mode {
-        Mode::Char | Mode::Str | Mode::RawStr => element.to_char().err(),
-        Mode::Byte | Mode::ByteStr | Mode::RawByteStr => element.to_byte().err(),
-        Mode::CStr => element.to_mixed_unit().err(),
-        Mode::RawCStr => element.to_raw_unit().err(),
     }
 }

@@ -34,7 +34,7 @@ pub fn write_marked<W: fmt::Write>(
     requires fits { Fits text.now }
     ensures written { OnOk result (WritesInCalls W.write_str_gives output.old
         (marked style edition text.now) output.new) }
-    ensures text { without_marks (text_parts style edition text.now) ≡ text.now }
+    ensures text { without_marks (text_parts edition text.now) ≡ text.now }
     ensures page { unescaped (untagged (marked Style.Html edition text.now)) ≡ text.now }
 {
     let Some(end) = strip_shebang(text) else {
@@ -104,7 +104,7 @@ fn write_token<W: fmt::Write>(
 ) -> fmt::Result
     requires fits { Fits text.now }
     ensures { OnOk result (WritesInCalls W.write_str_gives output.old
-        (with_marks style (token_parts style kind text.now)) output.new) }
+        (with_marks style (token_parts kind text.now)) output.new) }
 {
     let class = class_of(kind, text);
     if let Some(fault) = fault_of(kind, text) {

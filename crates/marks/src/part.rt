@@ -1,8 +1,8 @@
 //! A part of a text between the marks of its class and of its fault.
-ghost use Rattle.std.specs.Prelude.{◌≡◌, OnOk};
+ghost use Rattle.std.specs.Prelude.{◌≡◌, ◌∷◌, [], OnOk};
 ghost use Rattle.std.specs.Fmt.{WritesInCalls};
 ghost use Rattle.std.specs.Str.{IsCharBoundary};
-ghost use Rattle.marks.specs.Part.{class_parts, fault_parts, first_line, shown, with_marks};
+ghost use Rattle.marks.specs.Part.{Own, fault_parts, first_line, shown, with_marks};
 
 use crate::class::Class;
 use crate::escape::write_escaped;
@@ -20,7 +20,7 @@ pub fn write_with_fault<W: fmt::Write>(
     output: &mut W,
 ) -> fmt::Result
     ensures { OnOk result (WritesInCalls W.write_str_gives output.old
-        (with_marks style (fault_parts style fault class text.now)) output.new) }
+        (with_marks style (fault_parts fault class text.now)) output.new) }
 {
     let end = first_line(text);
     open_fault(style, fault, output)?;
@@ -30,6 +30,7 @@ pub fn write_with_fault<W: fmt::Write>(
 }
 
 /// How many bytes stand before the first newline or carriage return.
+#[tactic(auto, using(crate::proofs::PlaceLemmas::first_found, crate::proofs::PlaceLemmas::first_none))]
 fn first_line(text: &str) -> usize
     ensures value { result ≡ first_line text.now }
     ensures bounded { IsCharBoundary text.now result }
@@ -48,7 +49,7 @@ pub fn write_in_class<W: fmt::Write>(
     output: &mut W,
 ) -> fmt::Result
     ensures { OnOk result (WritesInCalls W.write_str_gives output.old
-        (with_marks style (class_parts style class text.now)) output.new) }
+        (with_marks style (Own class text.now ∷ [])) output.new) }
 {
     if text.is_empty() {
         return Ok(());

@@ -101,7 +101,7 @@ fn write_single<W: fmt::Write>(
 fn single_look(mode: Mode, inside: &str) -> Option<Look> {
     match single_error(mode, inside) {
         Some(error) => Some(Look::Wrong(error)),
-        None if begins_escape(inside) => Some(Look::Escape),
+        None if inside.starts_with('\\') => Some(Look::Escape),
         None => None,
     }
 }
@@ -111,14 +111,6 @@ fn single_error(mode: Mode, inside: &str) -> Option<EscapeError> {
     match mode {
         Mode::Byte => unescape_byte(inside).err(),
         _ => unescape_char(inside).err(),
-    }
-}
-
-/// Whether a text begins with a backslash.
-fn begins_escape(inside: &str) -> bool {
-    match inside.as_bytes().first() {
-        Some(byte) => *byte == b'\\',
-        None => false,
     }
 }
 
@@ -210,19 +202,9 @@ fn elements_of(mode: Mode, inside: &str) -> Elements<'_> {
 
 /// How an element looks; `None` where it is plain.
 fn look_of(mode: Mode, element: Element) -> Option<Look> {
-    match (error_of(mode, element), element) {
+    match (element.error_in(mode), element) {
         (Some(error), _) => Some(Look::Wrong(error)),
         (None, Element::Plain(_)) => None,
         (None, _) => Some(Look::Escape),
-    }
-}
-
-/// What is wrong with an element, in a literal of this kind.
-fn error_of(mode: Mode, element: Element) -> Option<EscapeError> {
-    match mode {
-        Mode::Char | Mode::Str | Mode::RawStr => element.to_char().err(),
-        Mode::Byte | Mode::ByteStr | Mode::RawByteStr => element.to_byte().err(),
-        Mode::CStr => element.to_mixed_unit().err(),
-        Mode::RawCStr => element.to_raw_unit().err(),
     }
 }

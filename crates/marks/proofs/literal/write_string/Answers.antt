@@ -1,7 +1,7 @@
 use Rattle.std.proofs.Common.{arith, ◌∙◌}
 use Rattle.std.proofs.lemmas.Str.{IsCharBoundary-start}
 use Rattle.rustc_literal_escaper.specs.Errors.{is_raw}
-use Rattle.marks.proofs.CallLemmas.{on_ok_then}
+use Rattle.std.proofs.lemmas.Result.{on_ok_weaker}
 use Rattle.marks.proofs.LiteralLemmas.{placed_all, placed_first, writes_all, writes_end, writes_item, writes_told}
 use Rattle.marks.proofs.literal.write_string.Goals as goal
 
@@ -81,5 +81,5 @@ loop-range-preserved g c =
 
 pub returns : goal.returns
 returns g c =
-    on_ok_then c.write_in_class.result c.write_in_class.ensures (λ last. c.loop-range.invariant.left _ (writes_end g.W.Write.write_str_gives c.args.style c.args.mode c.args.text.now c.range_from.result.now c.args.begin c.loop-range.at c.args.close
-    c.loop-range.shown c.in_ok-shown-3.shown c.loop-range.range-iterator c.loop-range.output c.write_skipped-2.new.output c.write_in_class.new.output c.in-None.ensures.steps.0 c.range_from.ensures.value c.in_ok-shown-3.ensures.1 last))
+    on_ok_weaker c.write_in_class.result (λ last. c.loop-range.invariant.left _ (writes_end g.W.Write.write_str_gives c.args.style c.args.mode c.args.text.now c.range_from.result.now c.args.begin c.loop-range.at c.args.close
+    c.loop-range.shown c.in_ok-shown-3.shown c.loop-range.range-iterator c.loop-range.output c.write_skipped-2.new.output c.write_in_class.new.output c.in-None.ensures.steps.0 c.range_from.ensures.value c.in_ok-shown-3.ensures.1 last)) c.write_in_class.ensures
