@@ -1,6 +1,6 @@
 //! What a run is to do.
-ghost use Rattle.std.specs.Prelude.{◌≡◌, map, string_bytes};
-ghost use Rattle.erase.specs.Job.{has, is_option, job_of};
+ghost use Rattle.std.specs.Prelude.{◌≡◌};
+ghost use Rattle.erase.specs.Job.{are_options, has, is_option, job_of};
 
 use erase_run::Target;
 
@@ -15,12 +15,10 @@ pub struct Job {
 /// The job that the words after the program's name ask for: `--program` and `--rules`. `None` where another word is among
 /// them.
 pub fn read_job(words: &[String]) -> Option<Job>
-    ensures { result ≡ job_of (map string_bytes words.now) }
+    ensures { result ≡ job_of words.now }
 {
-    for word in words {
-        if !is_option(word.as_str()) {
-            return None;
-        }
+    if !are_options(words) {
+        return None;
     }
     let target = if has(words, "--program") {
         Target::Program
@@ -33,6 +31,13 @@ pub fn read_job(words: &[String]) -> Option<Job>
     })
 }
 
+/// Whether each word is one of the two options.
+fn are_options(words: &[String]) -> bool
+    ensures { result ≡ are_options words.now }
+{
+    words.iter().all(|word| is_option(word.as_str()))
+}
+
 /// Whether the word is one of the two options.
 fn is_option(word: &str) -> bool
     ensures { result ≡ is_option word.now }
@@ -42,12 +47,7 @@ fn is_option(word: &str) -> bool
 
 /// Whether this word is among them.
 fn has(words: &[String], option: &str) -> bool
-    ensures { result ≡ has (map string_bytes words.now) option.now }
+    ensures { result ≡ has words.now option.now }
 {
-    for word in words {
-        if word.as_str() == option {
-            return true;
-        }
-    }
-    false
+    words.iter().any(|word| word.as_str() == option)
 }

@@ -130,7 +130,6 @@ pub fn run<R: Read, W: Write>(
 }
 
 /// What is printed of a source.
-#[tactic(auto, using(crate::proofs::OutcomeLemmas::prints_erased, crate::proofs::OutcomeLemmas::prints_rules, crate::proofs::OutcomeLemmas::stop_is_refusal))]
 fn print(alloc: Global, job: Job, text: &str) -> Result<String, Fault>
     requires fits { Fits text.now }
     ensures printed { IfOk result (λ made. IsPrinted job.tells_rules text.now (string_bytes made)) }
