@@ -27,33 +27,28 @@ fn checks_of_raw_strings(rt: HostRuntime) -> Result<(), AllocError> {
     Ok(())
 }
 
+/// Texts, the lengths of a prefix with which a raw string may start, and others with which none does.
+static PREFIXES: &[(&str, &[u32], &[u32])] = &[
+    ("", &[], &[0, 1]),
+    ("r", &[1], &[0, 2, u32::MAX]),
+    ("R", &[], &[1]),
+    ("rr", &[1, 2], &[]),
+    ("br", &[2], &[1, 3]),
+    ("ér", &[2], &[1, 3]),
+    ("r\"", &[1], &[]),
+];
+
 #[test]
 fn prefixes_of_raw_strings(rt: HostRuntime) {
-    let some = [
-        ("r", 1),
-        ("rr", 1),
-        ("rr", 2),
-        ("br", 2),
-        ("ér", 2),
-        ("r\"", 1),
-    ];
-    for (text, prefix_len) in some {
-        assert!(rt; starts_raw(text, prefix_len), "{prefix_len} in {text:?}");
-    }
-    let none = [
-        ("", 0),
-        ("", 1),
-        ("r", 0),
-        ("r", 2),
-        ("R", 1),
-        ("br", 1),
-        ("br", 3),
-        ("ér", 1),
-        ("ér", 3),
-        ("r", u32::MAX),
-    ];
-    for (text, prefix_len) in none {
-        assert!(rt; !starts_raw(text, prefix_len), "{prefix_len} in {text:?}");
+    for (text, some, none) in PREFIXES {
+        assert!(rt;
+            some.iter().all(|len| starts_raw(text, *len)),
+            "in {text:?}"
+        );
+        assert!(rt;
+            !none.iter().any(|len| starts_raw(text, *len)),
+            "in {text:?}"
+        );
     }
 }
 

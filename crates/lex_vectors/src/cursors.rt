@@ -1,5 +1,5 @@
 //! Calls of a cursor, one after another, and what they answer.
-use crate::cursors::Call::{Advance, First, Guarded, Rest, Third};
+use crate::cursors::Call::{Advance, First, Found, Missing, Rest, Third};
 use crate::rows::Made;
 use crate::tables::kinds::{CHAR, DASH, HASH, INT, LETTER, OPEN_STR, RAW_STR, SPACE, WORD};
 use crate::tables::row::{Part, literal, parts};
@@ -11,27 +11,16 @@ use std::alloc::AllocError;
 #[derive(Clone, Copy)]
 enum Call {
     Advance((TokenKind, u32)),
-    Guarded(Option<GuardedStr>),
+    /// A guarded string, with its hashes, whether it is terminated, and its length.
+    Found(u32, bool, u32),
+    /// No guarded string.
+    Missing,
     Rest(&'static str),
     First(char),
     Third(char),
 }
 
 const END: Call = Advance((Eof, 0));
-
-/// No guarded string is found.
-const NONE: Call = Guarded(None);
-
-/// A guarded string is found, with these fields.
-macro_rules! found {
-    ($n_hashes:expr, $terminated:expr, $token_len:expr) => {
-        Guarded(Some(GuardedStr {
-            n_hashes: $n_hashes,
-            terminated: $terminated,
-            token_len: $token_len,
-        }))
-    };
-}
 
 /// Texts, each with calls.
 macro_rules! calls {
@@ -43,39 +32,39 @@ macro_rules! calls {
 static ROWS: &[(&[Part], &[Call])] = calls! {
     "é-" => First('é'), Third('\0'), Advance(WORD), Rest("-"), Advance(DASH), END, First('\0');
     // A guarded string at the front, what is left after it, and the next token.
-    "##\"a" => found!(2, false, 4), Rest(""), END;
-    "\"a\"" => found!(0, true, 3), Rest(""), END;
-    "##\"a\"###x" => found!(2, true, 7), Rest("#x"), Advance(HASH);
-    "##\"a\"#x" => found!(2, true, 7), Rest(""), END;
-    "##\"é\"##" => found!(2, true, 8), Rest(""), END;
-    "\"a\"#" => found!(0, true, 3), Rest("#"), Advance(HASH);
-    "#\"a\\\"b\"#" => found!(1, true, 8), Rest(""), END;
+    "##\"a" => Found(2, false, 4), Rest(""), END;
+    "\"a\"" => Found(0, true, 3), Rest(""), END;
+    "##\"a\"###x" => Found(2, true, 7), Rest("#x"), Advance(HASH);
+    "##\"a\"#x" => Found(2, true, 7), Rest(""), END;
+    "##\"é\"##" => Found(2, true, 8), Rest(""), END;
+    "\"a\"#" => Found(0, true, 3), Rest("#"), Advance(HASH);
+    "#\"a\\\"b\"#" => Found(1, true, 8), Rest(""), END;
     // A suffix, and what begins none.
-    "#\"a\"é" => found!(1, true, 6), Rest(""), END;
-    "#\"a\"#_ u" => found!(1, true, 6), Rest(" u"), Advance(SPACE);
-    "#\"a\"1" => found!(1, true, 4), Rest("1"), Advance(literal!(INT, 1));
-    "#\"a\"😀" => found!(1, true, 4), Rest("😀"), Advance((InvalidIdent, 4));
-    "#\"a\"\"b" => found!(1, true, 4), Rest("\"b"), Advance(literal!(OPEN_STR, 2));
+    "#\"a\"é" => Found(1, true, 6), Rest(""), END;
+    "#\"a\"#_ u" => Found(1, true, 6), Rest(" u"), Advance(SPACE);
+    "#\"a\"1" => Found(1, true, 4), Rest("1"), Advance(literal!(INT, 1));
+    "#\"a\"😀" => Found(1, true, 4), Rest("😀"), Advance((InvalidIdent, 4));
+    "#\"a\"\"b" => Found(1, true, 4), Rest("\"b"), Advance(literal!(OPEN_STR, 2));
     // Nothing closes them.
-    "#\"" => found!(1, false, 2), Rest(""), END;
-    "#\"a#u" => found!(1, false, 5), Rest(""), END;
-    "#\"a\\\"" => found!(1, false, 5), Rest(""), END;
-    "" => NONE, Rest(""), END;
-    "##" => NONE, Rest(""), END;
-    "##x" => NONE, Rest("x"), Advance((Ident, 3));
-    "# x" => NONE, Rest(" x"), Advance((Whitespace, 2));
-    "x#\"a\"" => NONE, Rest("x#\"a\""), Advance((UnknownPrefix, 1));
+    "#\"" => Found(1, false, 2), Rest(""), END;
+    "#\"a#u" => Found(1, false, 5), Rest(""), END;
+    "#\"a\\\"" => Found(1, false, 5), Rest(""), END;
+    "" => Missing, Rest(""), END;
+    "##" => Missing, Rest(""), END;
+    "##x" => Missing, Rest("x"), Advance((Ident, 3));
+    "# x" => Missing, Rest(" x"), Advance((Whitespace, 2));
+    "x#\"a\"" => Missing, Rest("x#\"a\""), Advance((UnknownPrefix, 1));
     // The place of a suffix counts what is pending.
-    "#1u" => NONE, Rest("1u"), Advance(literal!(INT, 2, 3));
-    "##'a'x" => NONE, Rest("'a'x"), Advance(literal!(CHAR, 5, 6));
-    "#r\"a\"" => NONE, Rest("r\"a\""), Advance(literal!(RAW_STR, 5));
+    "#1u" => Missing, Rest("1u"), Advance(literal!(INT, 2, 3));
+    "##'a'x" => Missing, Rest("'a'x"), Advance(literal!(CHAR, 5, 6));
+    "#r\"a\"" => Missing, Rest("r\"a\""), Advance(literal!(RAW_STR, 5));
     // Within a text.
-    "a ##\"b\"##c d" => Advance(LETTER), Advance(SPACE), found!(2, true, 8), Rest(" d"), NONE, Advance(SPACE),
-        Advance(LETTER), NONE, END;
+    "a ##\"b\"##c d" => Advance(LETTER), Advance(SPACE), Found(2, true, 8), Rest(" d"), Missing, Advance(SPACE),
+        Advance(LETTER), Missing, END;
     // Two bytes are pending, and stay so; then two more at the end of the text, where no token is left to take them.
-    "a##-##" => Advance((UnknownPrefix, 1)), NONE, NONE, Rest("-##"), Advance((Minus, 3)), NONE, Rest(""), NONE, END, END;
-    ["#" * 301, "x"] => NONE, Advance((Ident, 302));
-    ["#" * 300, "\"abc\"", "#" * 301, "x"] => found!(300, true, 605), Rest("#x");
+    "a##-##" => Advance((UnknownPrefix, 1)), Missing, Missing, Rest("-##"), Advance((Minus, 3)), Missing, Rest(""), Missing, END, END;
+    ["#" * 301, "x"] => Missing, Advance((Ident, 302));
+    ["#" * 300, "\"abc\"", "#" * 301, "x"] => Found(300, true, 605), Rest("#x");
 };
 
 /// Whether the calls have these answers.
@@ -90,7 +79,15 @@ fn goes(text: &str, allowed: FrontmatterAllowed, calls: &[Call]) -> bool {
                 let token = cursor.advance_token();
                 token.kind == *kind && token.len == *len
             }
-            Guarded(answer) => cursor.guarded_double_quoted_string() == *answer,
+            Found(n_hashes, terminated, token_len) => {
+                let string = GuardedStr {
+                    n_hashes: *n_hashes,
+                    terminated: *terminated,
+                    token_len: *token_len,
+                };
+                cursor.guarded_double_quoted_string() == Some(string)
+            }
+            Missing => cursor.guarded_double_quoted_string().is_none(),
             Rest(rest) => cursor.as_str() == *rest,
             First(c) => cursor.first() == *c,
             Third(c) => cursor.third() == *c,

@@ -6,23 +6,14 @@ use crate::tables::kinds::BAD_LIFETIME;
 use rustc_lexer::{FrontmatterAllowed, TokenKind, fits, is_id_start, tokenize};
 use std::alloc::{AllocError, Global};
 
-/// Ranges with both their ends, or the one character of a range.
+/// The one character of a range, or both its ends.
 macro_rules! ranges {
     ($($low:literal $(..=$high:literal)?),* $(,)?) => {
-        [$(ends!($low $(, $high)?)),*]
+        [$(&[$low $(, $high)?]),*]
     };
 }
 
-macro_rules! ends {
-    ($one:literal) => {
-        ($one, $one)
-    };
-    ($low:literal, $high:literal) => {
-        ($low, $high)
-    };
-}
-
-static RANGES: [(u32, u32); 148] = ranges! {
+static RANGES: [&[u32]; 148] = ranges! {
     0xA9, 0xAE, 0x203C, 0x2049, 0x2122, 0x2139, 0x2194..=0x2199, 0x21A9..=0x21AA, 0x231A..=0x231B, 0x2328, 0x23CF,
     0x23E9..=0x23F3, 0x23F8..=0x23FA, 0x24C2, 0x25AA..=0x25AB, 0x25B6, 0x25C0, 0x25FB..=0x25FE, 0x2600..=0x2604,
     0x260E, 0x2611, 0x2614..=0x2615, 0x2618, 0x261D, 0x2620, 0x2622..=0x2623, 0x2626, 0x262A, 0x262E..=0x262F,
@@ -67,40 +58,34 @@ fn is_shown(alloc: Global, code: u32, emoji: bool) -> Result<bool, AllocError> {
     Ok(begins_lifetime == emoji && begins_word == (emoji && !is_id_start(c)))
 }
 
-/// The first range whose ends or neighbours are shown as what they are not.
-fn wrong_range(alloc: Global) -> Result<Option<(u32, u32)>, AllocError> {
-    for (low, high) in RANGES {
-        let inside = is_shown(alloc, low, true)? && is_shown(alloc, high, true)?;
-        let before = is_shown(alloc, low.wrapping_sub(1), false)?;
-        let past = is_shown(alloc, high.wrapping_add(1), false)?;
-        if !(inside && before && past) {
-            return Ok(Some((low, high)));
-        }
-    }
-    Ok(None)
+/// Whether the ends of the range are shown as emoji, and its neighbours as none.
+fn is_range(alloc: Global, ends: &[u32]) -> Result<bool, AllocError> {
+    let (Some(low), Some(high)) = (ends.first(), ends.last()) else {
+        return Ok(false);
+    };
+    Ok(
+        is_shown(alloc, *low, true)?
+            && is_shown(alloc, *high, true)?
+            && is_shown(alloc, low.wrapping_sub(1), false)?
+            && is_shown(alloc, high.wrapping_add(1), false)?,
+    )
 }
 
 #[test]
-fn ends_of_ranges(rt: HostRuntime) {
-    assert_eq!(rt; wrong_range(rt.alloc()), Ok(None));
+fn ends_of_ranges(rt: HostRuntime) -> Result<(), AllocError> {
+    for ends in RANGES {
+        assert!(rt; is_range(rt.alloc(), ends)?, "at {ends:?}");
+    }
+    Ok(())
 }
 
-/// The first of some characters of ASCII that is shown as an emoji.
-fn wrong_ascii(alloc: Global) -> Result<Option<char>, AllocError> {
+#[test]
+fn ascii(rt: HostRuntime) -> Result<(), AllocError> {
     for c in ['\0', '#', '*', 'a', '\u{7f}'] {
-        if !is_shown(alloc, u32::from(c), false)? {
-            return Ok(Some(c));
-        }
+        assert!(rt; is_shown(rt.alloc(), u32::from(c), false)?, "at {c:?}");
     }
     for digit in ['0', '9'] {
-        if kind_of(alloc, "", digit)? == Some(TokenKind::InvalidIdent) {
-            return Ok(Some(digit));
-        }
+        assert!(rt; kind_of(rt.alloc(), "", digit)? != Some(TokenKind::InvalidIdent));
     }
-    Ok(None)
-}
-
-#[test]
-fn ascii(rt: HostRuntime) {
-    assert_eq!(rt; wrong_ascii(rt.alloc()), Ok(None));
+    Ok(())
 }

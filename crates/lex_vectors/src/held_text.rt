@@ -1,16 +1,15 @@
-//! The pieces of a text that is kept with its tokens.
-use rustc_lexer::{LexedText, Piece, Pieces, Stepper, fits};
+//! The pieces and the edition of a text that is kept with its tokens.
+use crate::tables::kinds::{HASH, LIFETIME};
+use rustc_lexer::TokenKind::{Ident, RawLifetime};
+use rustc_lexer::{Edition, LexedText, Piece, Pieces, Stepper, Steps, TokenKind, fits};
 use std::alloc::AllocError;
 use std::iter::{ExactSizeIterator, Iterator};
 
 /// Whether there is a piece, which begins there and has this text.
 fn is_piece(piece: Option<Piece<'_>>, start: u32, text: &str) -> bool {
-    match piece {
-        Some(piece) => {
-            piece.start == start && piece.text == text && piece.token.len as usize == text.len()
-        }
-        None => false,
-    }
+    piece.is_some_and(|piece| {
+        piece.start == start && piece.text == text && piece.token.len as usize == text.len()
+    })
 }
 
 /// Whether these are the starts and the texts of the pieces.
@@ -63,5 +62,24 @@ fn pieces_of_some_tokens(rt: HostRuntime) -> Result<(), AllocError> {
     assert!(rt; has_pieces(&lexed, 1498, 1501, &front));
     assert!(rt; has_pieces(&lexed, 1501, 1503, &[(3001, "-"), (3002, "y")]));
     assert!(rt; has_pieces(&lexed, 1904, 1905, &[(3804, "12")]));
+    Ok(())
+}
+
+/// Whether the text `'r#foo` is held in the edition with these tokens.
+fn is_held(lexed: &LexedText<Steps>, edition: Edition, tokens: &[(TokenKind, u32)]) -> bool {
+    let held = lexed.tokens().iter().map(|token| (token.kind, token.len));
+    lexed.edition() == edition && lexed.text() == "'r#foo" && held.eq(tokens.iter().copied())
+}
+
+#[test]
+fn another_edition(rt: HostRuntime) -> Result<(), AllocError> {
+    let older = [(LIFETIME, 2), HASH, (Ident, 3)];
+    let newer = [(RawLifetime, 6)];
+    let mut lexed = LexedText::new(rt.alloc(), "'r#foo")?;
+    assert!(rt; is_held(&lexed, Edition::E2024, &newer));
+    lexed.set_edition(Edition::E2018)?;
+    assert!(rt; is_held(&lexed, Edition::E2018, &older));
+    lexed.set_edition(Edition::E2021)?;
+    assert!(rt; is_held(&lexed, Edition::E2021, &newer));
     Ok(())
 }

@@ -6,17 +6,11 @@ mod calls;
 #[cfg(test)]
 mod cursors;
 #[cfg(test)]
-mod editions;
-#[cfg(test)]
 mod edits;
 #[cfg(test)]
 mod emoji;
 #[cfg(test)]
 mod held_text;
-#[cfg(test)]
-mod names;
-#[cfg(test)]
-mod orders;
 #[cfg(test)]
 mod relexing;
 #[cfg(test)]
@@ -26,3 +20,5 @@ mod runs;
 pub mod steppers;
 #[cfg(test)]
 mod tables;
+#[cfg(test)]
+mod types;

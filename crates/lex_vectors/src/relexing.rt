@@ -2,25 +2,12 @@
 use rustc_lexer::TokenKind::{Eof, Ident, Whitespace};
 use rustc_lexer::{Bound, Change, Relexed, Relexing, Steps, Token};
 
-const WORD: Token = Token {
-    kind: Ident,
-    len: 2,
-};
-
-const LETTER: Token = Token {
-    kind: Ident,
-    len: 1,
-};
-
-const SPACE: Token = Token {
-    kind: Whitespace,
-    len: 1,
-};
-
 /// `ab cd ef` is changed to `ab x y ef`. Its new tokens come by rooms of two, and by single steps.
 #[test]
 fn a_list_of_the_caller(rt: HostRuntime) {
-    let old = [WORD, SPACE, WORD, SPACE, WORD];
+    let token = |kind, len| Token { kind, len };
+    let [word, letter, space] = [token(Ident, 2), token(Ident, 1), token(Whitespace, 1)];
+    let old = [word, space, word, space, word];
     let text = "ab x y ef";
     let change = Change {
         start: 3,
@@ -33,13 +20,13 @@ fn a_list_of_the_caller(rt: HostRuntime) {
         place: 0,
     };
     let mut steps = Steps::new();
-    let mut room = [Token { kind: Eof, len: 0 }; 2];
+    let mut room = [token(Eof, 0); 2];
     let mut relexing = Relexing::begin(text, &old, change, front);
     assert_eq!(rt; relexing.fill(&mut steps, text, &old, change, &mut room), 2);
-    assert_eq!(rt; room, [WORD, SPACE]);
-    assert_eq!(rt; relexing.next(&mut steps, text, &old, change), Some(LETTER));
+    assert_eq!(rt; room, [word, space]);
+    assert_eq!(rt; relexing.next(&mut steps, text, &old, change), Some(letter));
     assert_eq!(rt; relexing.fill(&mut steps, text, &old, change, &mut room), 2);
-    assert_eq!(rt; room, [SPACE, LETTER]);
+    assert_eq!(rt; room, [space, letter]);
     assert!(rt; relexing.is_over(text));
     assert_eq!(rt; relexing.fill(&mut steps, text, &old, change, &mut room), 0);
     assert_eq!(rt; relexing.next(&mut steps, text, &old, change), None);

@@ -15,7 +15,7 @@ use std::test::Fail;
 #[derive(Drop)]
 pub struct Made {
     pub text: String,
-    pub tokens: Vec<(TokenKind, u32)>,
+    pub tokens: Vec<Token>,
 }
 
 impl Made {
@@ -26,7 +26,12 @@ impl Made {
         for (part, times, wanted) in parts {
             for _ in 0..*times {
                 text.push_str(part)?;
-                tokens.extend_from_slice(wanted)?;
+                for (kind, len) in *wanted {
+                    tokens.push(Token {
+                        kind: *kind,
+                        len: *len,
+                    })?;
+                }
             }
         }
         Ok(Made { text, tokens })
@@ -81,28 +86,14 @@ fn rows(rt: HostRuntime) -> Result<(), Fail> {
     Ok(())
 }
 
-/// Whether these are the tokens, by kind and length.
-pub fn are(tokens: &[Token], wanted: &[(TokenKind, u32)]) -> bool {
-    for (token, (kind, len)) in tokens.iter().zip(wanted) {
-        if token.kind != *kind || token.len != *len {
-            return false;
-        }
-    }
-    tokens.len() == wanted.len()
-}
-
 /// How many tokens the longest room has, which is longer than each row.
 const ROOM: usize = 64;
 
 /// Whether these tokens come one by one, and no others, and nothing is left then.
-fn gives(tokens: Tokens<'_>, wanted: &[(TokenKind, u32)]) -> bool {
+fn gives(tokens: Tokens<'_>, wanted: &[Token]) -> bool {
     let mut tokens = tokens;
-    for (kind, len) in wanted {
-        let token = Token {
-            kind: *kind,
-            len: *len,
-        };
-        if tokens.next() != Some(token) {
+    for token in wanted {
+        if tokens.next() != Some(*token) {
             return false;
         }
     }
@@ -110,7 +101,7 @@ fn gives(tokens: Tokens<'_>, wanted: &[(TokenKind, u32)]) -> bool {
 }
 
 /// Whether these tokens and no others are written into a room of the one length and of the other in turns.
-fn fills(tokens: Tokens<'_>, lengths: [usize; 2], wanted: &[(TokenKind, u32)]) -> bool {
+fn fills(tokens: Tokens<'_>, lengths: [usize; 2], wanted: &[Token]) -> bool {
     let mut tokens = tokens;
     let mut room = [Token {
         kind: TokenKind::Eof,
@@ -124,7 +115,7 @@ fn fills(tokens: Tokens<'_>, lengths: [usize; 2], wanted: &[(TokenKind, u32)]) -
             return false;
         }
         let (now, later) = left.split_at(count);
-        if !are(&room[..count], now) {
+        if &room[..count] != now {
             return false;
         }
         left = later;

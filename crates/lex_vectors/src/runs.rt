@@ -1,9 +1,10 @@
 //! Runs of 0 to 100 characters, and searches as far: each text is made so that the place of what stops it is known.
 //!
 //! A byte that begins no character in UTF-8, such as 0x80, stands at no front that a text could show.
-use crate::tables::kinds::{EMPTY_HEXADECIMAL, HEXADECIMAL, INT, LINE, OPEN_STR, STR};
+use crate::tables::kinds::{HEXADECIMAL, INT, LINE, OPEN_STR, STR};
+use Reach::{PastStop, Suffix, ToEnd, ToStop};
 use rustc_lexer::TokenKind::{Eof, Ident, Literal, Whitespace};
-use rustc_lexer::{FrontmatterAllowed, Token, TokenKind, fits, tokenize};
+use rustc_lexer::{Base, FrontmatterAllowed, LiteralKind, Token, TokenKind, fits, tokenize};
 use std::alloc::{AllocError, Global};
 
 /// How many characters a text has at most beside its front and its stop.
@@ -30,8 +31,20 @@ struct Runs {
     members: &'static str,
     /// The token where the run is empty, and where it is not, but for the place of a suffix.
     kinds: [TokenKind; 2],
-    /// How far the token goes, and what then stops the run, where the end of the text is an empty one.
-    stops: &'static [(Reach, &'static [&'static str])],
+    /// What stops the run, where the end of the text is an empty one, and how far the token then goes.
+    stops: &'static [(&'static [&'static str], Reach)],
+}
+
+/// Rows `front, members, kinds: stops => reach, ..;`.
+macro_rules! runs {
+    ($($front:literal, $members:literal, [$empty:expr, $other:expr]: $($stops:tt => $reach:ident),*;)*) => {
+        &[$(Runs {
+            front: $front,
+            members: $members,
+            kinds: [$empty, $other],
+            stops: &[$((&$stops, $reach)),*],
+        }),*]
+    };
 }
 
 /// What `kinds` has in place of the place of a suffix.
@@ -47,94 +60,42 @@ macro_rules! run {
     };
 }
 
-static ALL: &[Runs] = &[
-    Runs {
-        front: "x",
-        members: "azAZ09_",
-        kinds: [Ident, Ident],
-        stops: &[
-            (Reach::ToStop, &["/", ":", "@", "[", "`", "{", "\x7f"]),
-            // The first byte of U+07F6 is 0xDF, which is that of `_` with one bit more.
-            (Reach::ToStop, &["\u{80}", "\u{7f6}", "\u{10ffff}"]),
-            (Reach::ToEnd, &["", "é", "ß", "ÿ"]),
-        ],
-    },
-    Runs {
-        front: " ",
-        members: " \t\n\x0b\x0c\r",
-        kinds: [Whitespace, Whitespace],
-        stops: &[
-            (Reach::ToStop, &["\x08", "\x0e", "\x1f", "!", "\u{a0}", "é"]),
-            (Reach::ToEnd, &["", "\u{85}"]),
-        ],
-    },
-    Runs {
-        front: "1",
-        members: "0_9",
-        kinds: [run!(INT), run!(INT)],
-        stops: &[
-            (Reach::ToStop, &["/", ":", "^", "`", "\u{b0}"]),
-            (Reach::ToEnd, &[""]),
-            (Reach::Suffix, &["a", "é"]),
-        ],
-    },
-    Runs {
-        front: "0x",
-        members: "0_9afAF",
-        kinds: [run!(EMPTY_HEXADECIMAL), run!(HEXADECIMAL)],
-        stops: &[
-            (Reach::ToStop, &["/", ":", "@", "^", "`"]),
-            (Reach::ToEnd, &[""]),
-            // The first byte of U+1000 is 0xE1, which is that of `a` with one bit more.
-            (Reach::Suffix, &["G", "g", "Á", "á", "\u{1000}", "é"]),
-        ],
-    },
-    Runs {
-        front: "//",
-        members: "\x0baz'\r#!",
-        kinds: [LINE, LINE],
-        stops: &[(Reach::ToStop, &["\n"]), (Reach::ToEnd, &["", "é"])],
-    },
-    Runs {
-        front: "\"",
-        members: "\x0baz'\r#!",
-        kinds: [run!(STR), run!(STR)],
-        stops: &[(Reach::PastStop, &["\""])],
-    },
-    Runs {
-        front: "\"",
-        members: "\x0baz'\r#!",
-        kinds: [run!(OPEN_STR), run!(OPEN_STR)],
-        stops: &[(Reach::ToEnd, &["", "\\\"", "é"])],
-    },
-];
+const EMPTY_HEXADECIMAL: LiteralKind = LiteralKind::Int {
+    base: Base::Hexadecimal,
+    empty_int: true,
+};
 
-/// A front, a stop, and how long the run between them is.
-type Place = (&'static str, &'static str, usize);
+// The first byte of U+07F6 is 0xDF, which is that of `_` with one bit more, and that of U+1000 is 0xE1, which is that of
+// `a` with one bit more.
+static ALL: &[Runs] = runs! {
+    "x", "azAZ09_", [Ident, Ident]:
+        ["/", ":", "@", "[", "`", "{", "\x7f", "\u{80}", "\u{7f6}", "\u{10ffff}"] => ToStop,
+        ["", "é", "ß", "ÿ"] => ToEnd;
+    " ", " \t\n\x0b\x0c\r", [Whitespace, Whitespace]:
+        ["\x08", "\x0e", "\x1f", "!", "\u{a0}", "é"] => ToStop,
+        ["", "\u{85}"] => ToEnd;
+    "1", "0_9", [run!(INT), run!(INT)]:
+        ["/", ":", "^", "`", "\u{b0}"] => ToStop,
+        [""] => ToEnd,
+        ["a", "é"] => Suffix;
+    "0x", "0_9afAF", [run!(EMPTY_HEXADECIMAL), run!(HEXADECIMAL)]:
+        ["/", ":", "@", "^", "`"] => ToStop,
+        [""] => ToEnd,
+        ["G", "g", "Á", "á", "\u{1000}", "é"] => Suffix;
+    "//", "\x0baz'\r#!", [LINE, LINE]: ["\n"] => ToStop, ["", "é"] => ToEnd;
+    "\"", "\x0baz'\r#!", [run!(STR), run!(STR)]: ["\""] => PastStop;
+    "\"", "\x0baz'\r#!", [run!(OPEN_STR), run!(OPEN_STR)]: ["", "\\\"", "é"] => ToEnd;
+};
 
 impl Runs {
-    /// The first place at which the token is another than the table says.
-    fn fault(&self, alloc: Global) -> Result<Option<Place>, AllocError> {
+    /// The first stop, and the length of a run before it, at which the token is another than the table says.
+    fn fault(&self, alloc: Global) -> Result<Option<(&'static str, usize)>, AllocError> {
         let all = self.members.repeat(alloc, MOST)?;
-        for (reach, stops) in self.stops {
-            if let Some(place) = self.wrong_stop(alloc, all.as_str(), stops, *reach)? {
-                return Ok(Some(place));
-            }
-        }
-        Ok(None)
-    }
-
-    /// The first of these stops at which it is another.
-    fn wrong_stop(
-        &self,
-        alloc: Global,
-        all: &str,
-        stops: &[&'static str],
-        reach: Reach,
-    ) -> Result<Option<Place>, AllocError> {
-        for stop in stops {
-            if let Some(end) = self.wrong_end(alloc, all, stop, reach)? {
-                return Ok(Some((self.front, *stop, end)));
+        for (stops, reach) in self.stops {
+            for stop in *stops {
+                if let Some(end) = self.wrong_end(alloc, all.as_str(), stop, *reach)? {
+                    return Ok(Some((*stop, end)));
+                }
             }
         }
         Ok(None)
@@ -172,10 +133,10 @@ impl Runs {
         let past_stop = text.len();
         text.push_str(tail)?;
         let (suffix_start, len) = match reach {
-            Reach::ToStop => (run_end, run_end),
-            Reach::PastStop => (past_stop, past_stop),
-            Reach::Suffix => (run_end, text.len()),
-            Reach::ToEnd => (text.len(), text.len()),
+            ToStop => (run_end, run_end),
+            PastStop => (past_stop, past_stop),
+            Suffix => (run_end, text.len()),
+            ToEnd => (text.len(), text.len()),
         };
         let kind = self.kinds[usize::from(!run.is_empty())];
         Ok(begins_with(text.as_str(), (kind, suffix_start, len)))
@@ -214,6 +175,6 @@ fn split(token: Token) -> (TokenKind, usize, usize) {
 #[test]
 fn tokens_of_runs(rt: HostRuntime) {
     for runs in ALL {
-        assert_eq!(rt; runs.fault(rt.alloc()), Ok(None));
+        assert_eq!(rt; runs.fault(rt.alloc()), Ok(None), "after {:?}", runs.front);
     }
 }

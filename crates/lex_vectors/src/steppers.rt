@@ -4,11 +4,12 @@ ghost use Rattle.lex_vectors.specs.Characters.{character};
 
 use rustc_lexer::{Edition, Stepper, Steps, Token, TokenKind};
 
-/// A `Steps` that counts its calls, as far as a `u64` goes.
+/// A `Steps` that counts its calls, and the bytes of the tokens that it gave, each as far as a `u64` goes.
 #[derive(Drop)]
 pub struct Counting {
     steps: Steps,
     pub calls: u64,
+    pub bytes: u64,
 }
 
 impl Counting {
@@ -25,6 +26,7 @@ impl Counting {
         Counting {
             steps: Steps::new_in(edition),
             calls: 0,
+            bytes: 0,
         }
     }
 }
@@ -39,8 +41,10 @@ impl Stepper for Counting {
     ghost law = { λ c. ⟦<Steps as Stepper>⟧.law c.steps };
 
     fn step(&mut self, rest: &str) -> Token {
+        let token = self.steps.step(rest);
         self.calls = self.calls.saturating_add(1);
-        self.steps.step(rest)
+        self.bytes = self.bytes.saturating_add(u64::from(token.len));
+        token
     }
 }
 

@@ -1,20 +1,17 @@
 //! Block comments, and what line comments have beside them.
-use crate::tables::kinds::{
-    BLOCK, CHAR, INNER_BLOCK, INNER_LINE, LINE, OPEN_BLOCK, OPEN_INNER_BLOCK, OPEN_OUTER_BLOCK,
-    OPEN_STR, OUTER_BLOCK, OUTER_LINE,
-};
-use crate::tables::row::{PLAIN, Row, literal, rows};
-use rustc_lexer::TokenKind::{Ident, Slash, Star, Whitespace};
+use crate::tables::kinds::*;
+use crate::tables::row::*;
+use rustc_lexer::DocStyle::*;
+use rustc_lexer::TokenKind::*;
 
 pub(crate) static ROWS: &[Row] = rows! {
     PLAIN:
     // Comments nest.
     "/* /* */ */x" => [(BLOCK, 11), (Ident, 1)],
-    "/* /* */ */'a'" => [(BLOCK, 11), literal!(CHAR, 3)],
     "/* /* */" => [(OPEN_BLOCK, 8)],
     "/*/**/*/" => [(BLOCK, 8)],
     "/* *//* */" => [(BLOCK, 5), (BLOCK, 5)],
-    "/** /*! */ */" => [(OUTER_BLOCK, 13)],
+    "/** /*! */ */" => [(BlockComment { doc_style: Some(Outer), terminated: true }, 13)],
     // A mark takes part in one opening or closing alone.
     "/*" => [(OPEN_BLOCK, 2)],
     "/*/" => [(OPEN_BLOCK, 3)],
@@ -26,14 +23,14 @@ pub(crate) static ROWS: &[Row] = rows! {
     "/**/" => [(BLOCK, 4)],
     "/***/" => [(BLOCK, 5)],
     "/*** a */" => [(BLOCK, 9)],
-    "/**" => [(OPEN_OUTER_BLOCK, 3)],
-    "/** a */" => [(OUTER_BLOCK, 8)],
-    "/*!" => [(OPEN_INNER_BLOCK, 3)],
-    "/*!*/" => [(INNER_BLOCK, 5)],
+    "/**" => [(BlockComment { doc_style: Some(Outer), terminated: false }, 3)],
+    "/** a */" => [(BlockComment { doc_style: Some(Outer), terminated: true }, 8)],
+    "/*!" => [(BlockComment { doc_style: Some(Inner), terminated: false }, 3)],
+    "/*!*/" => [(BlockComment { doc_style: Some(Inner), terminated: true }, 5)],
     "//" => [(LINE, 2)],
     "//\n//" => [(LINE, 2), (Whitespace, 1), (LINE, 2)],
-    "///\n" => [(OUTER_LINE, 3), (Whitespace, 1)],
-    "/// a\r\n" => [(OUTER_LINE, 6), (Whitespace, 1)],
+    "///\n" => [(LineComment { doc_style: Some(Outer) }, 3), (Whitespace, 1)],
+    "/// a\r\n" => [(LineComment { doc_style: Some(Outer) }, 6), (Whitespace, 1)],
     "//!" => [(INNER_LINE, 3)],
     // Nothing else counts inside.
     "/* // */ x" => [(BLOCK, 8), (Whitespace, 1), (Ident, 1)],

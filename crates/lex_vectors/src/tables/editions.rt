@@ -1,36 +1,24 @@
 //! The tokens of a text in each edition, also where a frontmatter stands in front.
 use crate::tables::frontmatter::FRONT;
-use crate::tables::kinds::{BAD_LIFETIME, HASH, LETTER, LIFETIME, OPEN_STR, RAW_STR, SPACE, STR};
-use crate::tables::row::{Row, Way, literal, rows};
-use rustc_lexer::Edition::{E2015, E2018, E2021, E2024};
-use rustc_lexer::TokenKind::{
-    GuardedStrPrefix, Ident, RawLifetime, UnknownPrefix, UnknownPrefixLifetime,
-};
+use crate::tables::kinds::*;
+use crate::tables::row::*;
+use rustc_lexer::Edition::*;
+use rustc_lexer::TokenKind::*;
 
-const IN_2024: &[Way] = &[Way::Part(E2024), Way::Document(E2024)];
+/// Both calls that take an edition, for each of these.
+macro_rules! both {
+    ($($edition:ident),*) => {
+        &[$(Way::Part($edition), Way::Document($edition)),*]
+    };
+}
 
-const SINCE_2021: &[Way] = &[
-    Way::Part(E2024),
-    Way::Document(E2024),
-    Way::Part(E2021),
-    Way::Document(E2021),
-];
+const IN_2024: &[Way] = both!(E2024);
 
-const UNTIL_2021: &[Way] = &[
-    Way::Part(E2021),
-    Way::Document(E2021),
-    Way::Part(E2018),
-    Way::Document(E2018),
-    Way::Part(E2015),
-    Way::Document(E2015),
-];
+const SINCE_2021: &[Way] = both!(E2024, E2021);
 
-const UNTIL_2018: &[Way] = &[
-    Way::Part(E2018),
-    Way::Document(E2018),
-    Way::Part(E2015),
-    Way::Document(E2015),
-];
+const UNTIL_2021: &[Way] = both!(E2021, E2018, E2015);
+
+const UNTIL_2018: &[Way] = both!(E2018, E2015);
 
 pub(crate) static ROWS: &[Row] = rows! {
     IN_2024: "#\"a\"" => [(GuardedStrPrefix, 2), (UnknownPrefix, 1), literal!(OPEN_STR, 1)],

@@ -1,11 +1,7 @@
 //! Edits of a text that is kept with its tokens, in an edition.
-use crate::tables::kinds::{
-    BLOCK, FLOAT, HASH, LETTER, LIFETIME, OPEN_BLOCK, OPEN_STR, SPACE, STR, WORD,
-};
-use crate::tables::row::{Part, literal, parts};
-use rustc_lexer::TokenKind::{
-    ForcedKeywordIdent, GuardedStrPrefix, Ident, InvalidIdent, RawLifetime, Slash, Star, Unknown,
-};
+use crate::tables::kinds::*;
+use crate::tables::row::*;
+use rustc_lexer::TokenKind::*;
 use rustc_lexer::{Edition, Relexed, TokenKind};
 
 /// An edit, and its counts, or none where it is refused.
@@ -57,7 +53,7 @@ macro_rules! counts {
     };
 }
 
-pub static SOME: &[EditRow] = edits! {
+pub static SHORT: &[EditRow] = edits! {
     E2024 "" (0..0 "": [0, 0, 0]) => "" [],
     E2024 "ab cd ef" (8..8 "z": [4, 1, 0]) => "ab cd efz" [WORD, SPACE, WORD, SPACE, (Ident, 3)],
     E2024 "ab cd ef" (3..5 "x y": [0, 5, 2]) => "ab x y ef" [WORD, SPACE, LETTER, SPACE, LETTER, SPACE, WORD],
@@ -68,9 +64,6 @@ pub static SOME: &[EditRow] = edits! {
     E2024 "a 😀 é" (9..9 "z": [3, 2, 0]) => "a 😀 éz" [LETTER, SPACE, (InvalidIdent, 4), SPACE, (Ident, 3)],
     E2024 "ab cd" (0..3 "": [0, 0, 1]) => "cd" [WORD],
     E2024 "/* a" (4..4 " */": [0, 1, 0]) => "/* a */" [(BLOCK, 7)],
-};
-
-pub static MORE: &[EditRow] = edits! {
     E2024 "a 😀 é" (2..6 "zz 1.": [0, 5, 2]) => "a zz 1. é" [
         LETTER, SPACE, WORD, SPACE, literal!(FLOAT, 2), SPACE, WORD,
     ],
@@ -81,10 +74,6 @@ pub static MORE: &[EditRow] = edits! {
     E2015 "'r#foo" (6..6 "x": [2, 1, 0]) => "'r#foox" [(LIFETIME, 2), HASH, (Ident, 4)],
     E2024 "#\"a\"" (0..0 "#": [0, 2, 0]) => "##\"a\"" [(GuardedStrPrefix, 2), literal!(STR, 3)],
     E2021 "#\"a\"" (0..0 "#": [0, 1, 2]) => "##\"a\"" [HASH, HASH, literal!(STR, 3)],
-};
-
-/// Lists of edits.
-pub static LISTS: &[EditRow] = edits! {
     // A later edit goes by the text that the earlier ones leave.
     E2024 "cd efz" => "cd efz" [WORD, SPACE, (Ident, 3)],
     E2024 "ab cd ef" (8..8 "z": [4, 1, 0]) (0..3 "": [0, 0, 3]) => "cd efz" [WORD, SPACE, (Ident, 3)],

@@ -1,11 +1,8 @@
 //! Line comments, white space, identifiers and symbols.
-use crate::tables::kinds::{INNER_LINE, LETTER, LINE, OUTER_LINE, SPACE, WORD};
-use crate::tables::row::{PLAIN, Row, rows};
-use rustc_lexer::TokenKind::{
-    And, At, Bang, Caret, CloseBrace, CloseBracket, CloseParen, Colon, Comma, Dollar, Dot, Eq, Gt,
-    Ident, Lt, Minus, OpenBrace, OpenBracket, OpenParen, Or, Percent, Plus, Pound, Question, Semi,
-    Slash, Star, Tilde,
-};
+use crate::tables::kinds::*;
+use crate::tables::row::*;
+use rustc_lexer::DocStyle::*;
+use rustc_lexer::TokenKind::*;
 
 pub(crate) static ROWS: &[Row] = rows! {
     PLAIN:
@@ -14,7 +11,7 @@ pub(crate) static ROWS: &[Row] = rows! {
     ],
     "" => [],
     "a//b\n/ c" => [LETTER, (LINE, 3), SPACE, (Slash, 1), SPACE, LETTER],
-    "///" => [(OUTER_LINE, 3)],
+    "///" => [(LineComment { doc_style: Some(Outer) }, 3)],
     "////" => [(LINE, 4)],
     "//!x" => [(INNER_LINE, 4)],
     ";,.(){}[]@#~?:$=!<>-&|+*/^%" => [

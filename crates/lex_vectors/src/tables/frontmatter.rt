@@ -1,15 +1,12 @@
 //! Frontmatter.
-use crate::tables::kinds::{DASH, HASH, INNER_LINE, LETTER, LINE, SPACE, STR};
-use crate::tables::row::{DOCUMENT, PLAIN, Row, literal, rows};
+use crate::tables::kinds::*;
+use crate::tables::row::*;
 use rustc_lexer::TokenKind;
-use rustc_lexer::TokenKind::{
-    Bang, CloseBrace, CloseBracket, CloseParen, Eq, Ident, OpenBrace, OpenBracket, OpenParen,
-    Unknown, Whitespace,
-};
+use rustc_lexer::TokenKind::*;
 
 macro_rules! front {
     ($spaced:literal, $bad_infostring:literal) => {
-        TokenKind::Frontmatter {
+        Frontmatter {
             has_invalid_preceding_whitespace: $spaced,
             invalid_infostring: $bad_infostring,
         }

@@ -1,10 +1,8 @@
 //! Guarded strings: their prefix as a token.
-use crate::tables::kinds::{CHAR, INT, ONE_HASH, OPEN_BYTE_STR, OPEN_STR, STR};
-use crate::tables::row::{PLAIN, Row, literal, rows};
-use rustc_lexer::TokenKind::{
-    Bang, GuardedStrPrefix, Ident, InvalidIdent, OpenBracket, Pound, Unknown, UnknownPrefix,
-    UnknownPrefixLifetime, Whitespace,
-};
+use crate::tables::kinds::*;
+use crate::tables::row::*;
+use rustc_lexer::LiteralKind::*;
+use rustc_lexer::TokenKind::*;
 
 pub(crate) static ROWS: &[Row] = rows! {
     PLAIN:
@@ -28,8 +26,8 @@ pub(crate) static ROWS: &[Row] = rows! {
     "1##" => [literal!(INT, 1), (GuardedStrPrefix, 2)],
     "k##" => [(UnknownPrefix, 1), (GuardedStrPrefix, 2)],
     "'a##" => [(UnknownPrefixLifetime, 2), (GuardedStrPrefix, 2)],
-    "r#\"a\"###" => [literal!(ONE_HASH, 6), (GuardedStrPrefix, 2)],
-    "\"a\"#\"b\"" => [literal!(STR, 3), (GuardedStrPrefix, 2), literal!(OPEN_BYTE_STR, 2)],
+    "r#\"a\"###" => [literal!(RawStr { n_hashes: Some(1) }, 6), (GuardedStrPrefix, 2)],
+    "\"a\"#\"b\"" => [literal!(STR, 3), (GuardedStrPrefix, 2), literal!(ByteStr { terminated: false }, 2)],
     // Many hashes.
     {"##" * 150 => [(GuardedStrPrefix, 2)], "#" => [(Pound, 1)]} => [],
 };

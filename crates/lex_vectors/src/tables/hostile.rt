@@ -1,13 +1,7 @@
 //! Long texts of the kind that make a careless lexer slow or deep.
-use crate::tables::kinds::{
-    BAD_RAW_STR, BLOCK, CHAR, EMPTY_EXPONENT, HASH, HEXADECIMAL, INT, LETTER, LIFETIME, LINE,
-    OPEN_BLOCK, OPEN_CHAR, OPEN_STR, SPACE, STR,
-};
-use crate::tables::row::{PLAIN, Row, literal, rows};
-use rustc_lexer::TokenKind::{
-    Ident, InvalidIdent, OpenBrace, OpenParen, RawIdent, Slash, Star, Unknown, UnknownPrefix,
-    UnknownPrefixLifetime, Whitespace,
-};
+use crate::tables::kinds::*;
+use crate::tables::row::*;
+use rustc_lexer::TokenKind::*;
 
 pub(crate) static ROWS: &[Row] = rows! {
     PLAIN:

@@ -1,9 +1,7 @@
 //! Identifiers, their prefixes, and emoji.
-use crate::tables::kinds::{CHAR, INT, OPEN_STR, STR};
-use crate::tables::row::{PLAIN, Row, literal, rows};
-use rustc_lexer::TokenKind::{
-    ForcedKeywordIdent, Ident, InvalidIdent, Pound, RawIdent, Unknown, UnknownPrefix, Whitespace,
-};
+use crate::tables::kinds::*;
+use crate::tables::row::*;
+use rustc_lexer::TokenKind::*;
 
 pub(crate) static ROWS: &[Row] = rows! {
     PLAIN:

@@ -1,12 +1,9 @@
 //! Numbers and their suffixes.
-use crate::tables::kinds::{
-    BINARY, BINARY_FLOAT, EMPTY_BINARY, EMPTY_EXPONENT, EMPTY_HEXADECIMAL, EMPTY_OCTAL, FLOAT,
-    HEXADECIMAL, HEXADECIMAL_FLOAT, INT, OCTAL, OCTAL_EMPTY_EXPONENT, STR,
-};
-use crate::tables::row::{PLAIN, Row, literal, rows};
-use rustc_lexer::TokenKind::{
-    CloseParen, Dot, Ident, InvalidIdent, Minus, OpenParen, Plus, Unknown, Whitespace,
-};
+use crate::tables::kinds::*;
+use crate::tables::row::*;
+use rustc_lexer::Base::*;
+use rustc_lexer::LiteralKind::*;
+use rustc_lexer::TokenKind::*;
 
 /// A number of each form, which the text ends with.
 pub(crate) static AT_THE_END: &[Row] = rows! {
@@ -18,37 +15,37 @@ pub(crate) static AT_THE_END: &[Row] = rows! {
     "12" => [literal!(INT, 2)],
     "1_" => [literal!(INT, 2)],
     "1__0" => [literal!(INT, 4)],
-    "0b" => [literal!(EMPTY_BINARY, 2)],
-    "0b_" => [literal!(EMPTY_BINARY, 3)],
-    "0b1" => [literal!(BINARY, 3)],
-    "0b12" => [literal!(BINARY, 4)],
-    "0o" => [literal!(EMPTY_OCTAL, 2)],
-    "0o7" => [literal!(OCTAL, 3)],
-    "0o18" => [literal!(OCTAL, 4)],
-    "0x" => [literal!(EMPTY_HEXADECIMAL, 2)],
-    "0x_" => [literal!(EMPTY_HEXADECIMAL, 3)],
+    "0b" => [literal!(Int { base: Binary, empty_int: true }, 2)],
+    "0b_" => [literal!(Int { base: Binary, empty_int: true }, 3)],
+    "0b1" => [literal!(Int { base: Binary, empty_int: false }, 3)],
+    "0b12" => [literal!(Int { base: Binary, empty_int: false }, 4)],
+    "0o" => [literal!(Int { base: Octal, empty_int: true }, 2)],
+    "0o7" => [literal!(Int { base: Octal, empty_int: false }, 3)],
+    "0o18" => [literal!(Int { base: Octal, empty_int: false }, 4)],
+    "0x" => [literal!(Int { base: Hexadecimal, empty_int: true }, 2)],
+    "0x_" => [literal!(Int { base: Hexadecimal, empty_int: true }, 3)],
     "0xe" => [literal!(HEXADECIMAL, 3)],
     "0x1_F" => [literal!(HEXADECIMAL, 5)],
     "0." => [literal!(FLOAT, 2)],
     "1." => [literal!(FLOAT, 2)],
     "0.0" => [literal!(FLOAT, 3)],
     "1.5_" => [literal!(FLOAT, 4)],
-    "0b1.0" => [literal!(BINARY_FLOAT, 5)],
-    "0x1." => [literal!(HEXADECIMAL_FLOAT, 4)],
-    "0x1.0" => [literal!(HEXADECIMAL_FLOAT, 5)],
+    "0b1.0" => [literal!(Float { base: Binary, empty_exponent: false }, 5)],
+    "0x1." => [literal!(Float { base: Hexadecimal, empty_exponent: false }, 4)],
+    "0x1.0" => [literal!(Float { base: Hexadecimal, empty_exponent: false }, 5)],
     "0e" => [literal!(EMPTY_EXPONENT, 2)],
     "1E" => [literal!(EMPTY_EXPONENT, 2)],
     "1e_" => [literal!(EMPTY_EXPONENT, 3)],
     "1e+" => [literal!(EMPTY_EXPONENT, 3)],
     "1.5e" => [literal!(EMPTY_EXPONENT, 4)],
-    "0o7e" => [literal!(OCTAL_EMPTY_EXPONENT, 4)],
+    "0o7e" => [literal!(Float { base: Octal, empty_exponent: true }, 4)],
     "0e0" => [literal!(FLOAT, 3)],
     "1e5" => [literal!(FLOAT, 3)],
     "1e-5" => [literal!(FLOAT, 4)],
     "1e+_5" => [literal!(FLOAT, 5)],
     "1.5e_1" => [literal!(FLOAT, 6)],
     "1.5E-3" => [literal!(FLOAT, 6)],
-    "0b1e3" => [literal!(BINARY_FLOAT, 5)],
+    "0b1e3" => [literal!(Float { base: Binary, empty_exponent: false }, 5)],
 };
 
 pub(crate) static SUFFIXES: &[Row] = rows! {
@@ -59,13 +56,13 @@ pub(crate) static SUFFIXES: &[Row] = rows! {
     "1é" => [literal!(INT, 1, 3)],
     "0B1" => [literal!(INT, 1, 3)],
     "0X1" => [literal!(INT, 1, 3)],
-    "0b1u8" => [literal!(BINARY, 3, 5)],
-    "0be3" => [literal!(EMPTY_BINARY, 2, 4)],
-    "0b_u8" => [literal!(EMPTY_BINARY, 3, 5)],
+    "0b1u8" => [literal!(Int { base: Binary, empty_int: false }, 3, 5)],
+    "0be3" => [literal!(Int { base: Binary, empty_int: true }, 2, 4)],
+    "0b_u8" => [literal!(Int { base: Binary, empty_int: true }, 3, 5)],
     "0xFu8" => [literal!(HEXADECIMAL, 3, 5)],
-    "0x_g" => [literal!(EMPTY_HEXADECIMAL, 3, 4)],
+    "0x_g" => [literal!(Int { base: Hexadecimal, empty_int: true }, 3, 4)],
     "1.5f32" => [literal!(FLOAT, 3, 6)],
-    "0x1.8p" => [literal!(HEXADECIMAL_FLOAT, 5, 6)],
+    "0x1.8p" => [literal!(Float { base: Hexadecimal, empty_exponent: false }, 5, 6)],
     "1e5f64" => [literal!(FLOAT, 3, 6)],
     "1e1e1" => [literal!(FLOAT, 3, 5)],
     "1em" => [literal!(EMPTY_EXPONENT, 2, 3)],
@@ -91,8 +88,8 @@ pub(crate) static BEFORE_OTHERS: &[Row] = rows! {
     // Nor is one after a fraction, an exponent or a prefix alone.
     "1.2.3" => [literal!(FLOAT, 3), (Dot, 1), literal!(INT, 1)],
     "1e1.0" => [literal!(FLOAT, 3), (Dot, 1), literal!(INT, 1)],
-    "0b.0" => [literal!(EMPTY_BINARY, 2), (Dot, 1), literal!(INT, 1)],
-    "0o_." => [literal!(EMPTY_OCTAL, 3), (Dot, 1)],
+    "0b.0" => [literal!(Int { base: Binary, empty_int: true }, 2), (Dot, 1), literal!(INT, 1)],
+    "0o_." => [literal!(Int { base: Octal, empty_int: true }, 3), (Dot, 1)],
     // Signs, and what no suffix begins with.
     ".5" => [(Dot, 1), literal!(INT, 1)],
     "-1" => [(Minus, 1), literal!(INT, 1)],

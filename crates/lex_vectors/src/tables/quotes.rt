@@ -1,13 +1,8 @@
 //! Strings, characters and bytes, and lifetimes.
-use crate::tables::kinds::{
-    BAD_LIFETIME, BYTE, BYTE_STR, C_STR, CHAR, INT, LIFETIME, LINE, OPEN_BYTE, OPEN_BYTE_STR,
-    OPEN_C_STR, OPEN_CHAR, OPEN_STR, STR,
-};
-use crate::tables::row::{PLAIN, Row, literal, rows};
-use rustc_lexer::TokenKind::{
-    Ident, InvalidIdent, Pound, RawLifetime, Slash, UnknownPrefix, UnknownPrefixLifetime,
-    Whitespace,
-};
+use crate::tables::kinds::*;
+use crate::tables::row::*;
+use rustc_lexer::LiteralKind::*;
+use rustc_lexer::TokenKind::*;
 
 pub(crate) static STRINGS: &[Row] = rows! {
     PLAIN:
@@ -16,23 +11,23 @@ pub(crate) static STRINGS: &[Row] = rows! {
     r#""é"é"# => [literal!(STR, 4, 6)],
     "\"a\nb\"" => [literal!(STR, 5)],
     r#""/*""# => [literal!(STR, 4)],
-    r#"b"a"x"# => [literal!(BYTE_STR, 4, 5)],
-    r#"c"a"_x"# => [literal!(C_STR, 4, 6)],
+    r#"b"a"x"# => [literal!(ByteStr { terminated: true }, 4, 5)],
+    r#"c"a"_x"# => [literal!(CStr { terminated: true }, 4, 6)],
     // A quote after an odd run of backslashes closes nothing.
     r#""a\"b"c"# => [literal!(STR, 6, 7)],
     r#""a\\"b"# => [literal!(STR, 5, 6)],
     r#""\""# => [literal!(OPEN_STR, 3)],
     r#""\\""# => [literal!(STR, 4)],
     r#""\\\""# => [literal!(OPEN_STR, 5)],
-    r#"b"a\"""# => [literal!(BYTE_STR, 6)],
-    r#"c"a\"""# => [literal!(C_STR, 6)],
+    r#"b"a\"""# => [literal!(ByteStr { terminated: true }, 6)],
+    r#"c"a\"""# => [literal!(CStr { terminated: true }, 6)],
     // Nothing closes them.
     r#"""# => [literal!(OPEN_STR, 1)],
     r#""\"# => [literal!(OPEN_STR, 2)],
     "\"\0" => [literal!(OPEN_STR, 2)],
-    r#"b""# => [literal!(OPEN_BYTE_STR, 2)],
-    r#"b"a"# => [literal!(OPEN_BYTE_STR, 3)],
-    r#"c""# => [literal!(OPEN_C_STR, 2)],
+    r#"b""# => [literal!(ByteStr { terminated: false }, 2)],
+    r#"b"a"# => [literal!(ByteStr { terminated: false }, 3)],
+    r#"c""# => [literal!(CStr { terminated: false }, 2)],
     // What begins no suffix.
     r#""a""b""# => [literal!(STR, 3), literal!(STR, 3)],
     r#""a"'b'"# => [literal!(STR, 3), literal!(CHAR, 3)],
@@ -87,21 +82,21 @@ pub(crate) static CHARACTERS: &[Row] = rows! {
     "'/" => [literal!(OPEN_CHAR, 1), (Slash, 1)],
     "'//" => [literal!(OPEN_CHAR, 1), (LINE, 2)],
     "'/x'" => [literal!(OPEN_CHAR, 1), (Slash, 1), (UnknownPrefix, 1), literal!(OPEN_CHAR, 1)],
-    "' a/b'" => [literal!(OPEN_CHAR, 3), (Slash, 1), literal!(OPEN_BYTE, 2)],
+    "' a/b'" => [literal!(OPEN_CHAR, 3), (Slash, 1), literal!(Byte { terminated: false }, 2)],
 };
 
 pub(crate) static BYTES: &[Row] = rows! {
     PLAIN:
-    "b'a'" => [literal!(BYTE, 4)],
-    "b''" => [literal!(BYTE, 3)],
-    "b'''" => [literal!(BYTE, 4)],
-    r"b'\''" => [literal!(BYTE, 5)],
-    "b'a'u8" => [literal!(BYTE, 4, 6)],
-    "b'ab'c" => [literal!(BYTE, 5, 6)],
-    "b'" => [literal!(OPEN_BYTE, 2)],
-    "b'a" => [literal!(OPEN_BYTE, 3)],
-    "b'a b" => [literal!(OPEN_BYTE, 5)],
-    "b'a\nb" => [literal!(OPEN_BYTE, 3), (Whitespace, 1), (Ident, 1)],
+    "b'a'" => [literal!(Byte { terminated: true }, 4)],
+    "b''" => [literal!(Byte { terminated: true }, 3)],
+    "b'''" => [literal!(Byte { terminated: true }, 4)],
+    r"b'\''" => [literal!(Byte { terminated: true }, 5)],
+    "b'a'u8" => [literal!(Byte { terminated: true }, 4, 6)],
+    "b'ab'c" => [literal!(Byte { terminated: true }, 5, 6)],
+    "b'" => [literal!(Byte { terminated: false }, 2)],
+    "b'a" => [literal!(Byte { terminated: false }, 3)],
+    "b'a b" => [literal!(Byte { terminated: false }, 5)],
+    "b'a\nb" => [literal!(Byte { terminated: false }, 3), (Whitespace, 1), (Ident, 1)],
     "c'a'" => [(UnknownPrefix, 1), literal!(CHAR, 3)],
 };
 
@@ -114,7 +109,7 @@ pub(crate) static LIFETIMES: &[Row] = rows! {
     "'static " => [(LIFETIME, 7), (Whitespace, 1)],
     "'a 'b" => [(LIFETIME, 2), (Whitespace, 1), (LIFETIME, 2)],
     r#"'a"b""# => [(LIFETIME, 2), literal!(STR, 3)],
-    "'a/b'" => [(LIFETIME, 2), (Slash, 1), literal!(OPEN_BYTE, 2)],
+    "'a/b'" => [(LIFETIME, 2), (Slash, 1), literal!(Byte { terminated: false }, 2)],
     // Digits and emoji.
     "'1" => [(BAD_LIFETIME, 2)],
     "'1a" => [(BAD_LIFETIME, 3)],

@@ -45,23 +45,13 @@ macro_rules! rows {
 /// or in braces the same, and with each the tokens that end in it every time.
 macro_rules! parts {
     ([$($text:literal $(* $times:literal)?),+] => $tokens:tt) => {
-        &[$(($text, $crate::tables::row::times!($($times)?), &[]),)+ ("", 1, &$tokens)]
+        &[$(($text, 1 $(* $times)?, &[]),)+ ("", 1, &$tokens)]
     };
     ({$($text:literal $(* $times:literal)? => $each:tt),+} => []) => {
-        &[$(($text, $crate::tables::row::times!($($times)?), &$each)),+]
+        &[$(($text, 1 $(* $times)?, &$each)),+]
     };
     ($text:expr => $tokens:tt) => {
         &[($text, 1, &$tokens)]
-    };
-}
-
-/// How often a part stands there.
-macro_rules! times {
-    () => {
-        1
-    };
-    ($times:literal) => {
-        $times
     };
 }
 
@@ -84,4 +74,3 @@ macro_rules! literal {
 pub(crate) use literal;
 pub(crate) use parts;
 pub(crate) use rows;
-pub(crate) use times;

@@ -1,0 +1,184 @@
+//! The types of an answer by themselves: names, numbers, orders, equality, and what is written of errors.
+use crate::tables::all::all;
+use crate::tables::row::Row;
+use rustc_lexer::Base::*;
+use rustc_lexer::Edition::*;
+use rustc_lexer::LiteralKind::*;
+use rustc_lexer::RawStrError::*;
+use rustc_lexer::{EditStop, Edition, GuardedStr, RawStrError, Token, TokenKind, UnknownEdition};
+use std::alloc::{AllocError, Global};
+use std::fmt::{Debug, Display};
+
+/// Whether what `Debug` writes of the value begins with this name.
+fn begins_with_name<T: Debug>(alloc: Global, value: &T, name: &str) -> Result<bool, AllocError> {
+    let shown = format!(in alloc; "{value:?}")?;
+    Ok(shown.as_str().split(' ').next() == Some(name))
+}
+
+/// Whether the name of the kind is that of its variant, and so is the name of the kind of a literal.
+fn is_named(alloc: Global, kind: &TokenKind) -> Result<bool, AllocError> {
+    let is_of_literal = match kind {
+        TokenKind::Literal { kind, .. } => begins_with_name(alloc, kind, kind.name())?,
+        _ => true,
+    };
+    Ok(is_of_literal && begins_with_name(alloc, kind, kind.name())?)
+}
+
+/// Whether all kinds of the rows have the names of their variants.
+fn are_named(alloc: Global, rows: &[Row]) -> Result<bool, AllocError> {
+    for row in rows {
+        for (_, _, tokens) in row.parts {
+            for (kind, _) in *tokens {
+                if !is_named(alloc, kind)? {
+                    return Ok(false);
+                }
+            }
+        }
+    }
+    Ok(true)
+}
+
+#[test]
+fn a_name_is_that_of_its_variant(rt: HostRuntime) -> Result<(), AllocError> {
+    for (name, rows) in all() {
+        assert!(rt; are_named(rt.alloc(), rows)?, "{name}");
+    }
+    Ok(())
+}
+
+/// Whether this is written of the error.
+fn is_said<T: Display>(alloc: Global, error: &T, said: &str) -> Result<bool, AllocError> {
+    Ok(format!(in alloc; "{error}")?.as_str() == said)
+}
+
+/// A refusal for want of an end, with these fields.
+fn no_terminator(expected: u32, found: u32, offset: Option<u32>) -> RawStrError {
+    NoTerminator {
+        expected,
+        found,
+        possible_terminator_offset: offset,
+    }
+}
+
+/// That each of these is written so.
+macro_rules! said {
+    ($rt:expr; $($error:expr => $said:literal,)*) => {
+        for (error, said) in [$(($error, $said)),*] {
+            assert!($rt; is_said($rt.alloc(), &error, said)?, "{said}");
+        }
+    };
+}
+
+#[test]
+fn errors_say_what_is_wrong(rt: HostRuntime) -> Result<(), AllocError> {
+    said!(rt;
+        InvalidStarter { bad_char: '~' } => "no hash or quote opens the raw string",
+        no_terminator(12, 3, Some(20)) => "no quote with 12 hashes closes the raw string",
+        TooManyDelimiters { found: 256 } => "the raw string has 256 hashes on each side, and 255 are the most",
+    );
+    said!(rt;
+        EditStop::Range { at: 0 } => "edit 0: bad range",
+        EditStop::TooLong { at: 10 } => "edit 10: text too long",
+        EditStop::Memory { at: 2 } => "edit 2: no memory",
+    );
+    said!(rt; UnknownEdition => "no edition of Rust has this year",);
+    Ok(())
+}
+
+#[test]
+fn numbers_of_bases(rt: HostRuntime) {
+    let numbers = [Binary as u8, Octal as u8, Decimal as u8, Hexadecimal as u8];
+    assert_eq!(rt; numbers, [2, 8, 10, 16]);
+}
+
+/// Whether of two values in a row the one that stands first is the smaller, and each equals itself.
+fn ascend<T: Ord>(values: &[T]) -> bool {
+    for (left_place, left) in values.iter().enumerate() {
+        for (right_place, right) in values.iter().enumerate() {
+            let is_so = (left < right) == (left_place < right_place)
+                && left.cmp(right) == left_place.cmp(&right_place)
+                && (left == right) == (left_place == right_place);
+            if !is_so {
+                return false;
+            }
+        }
+    }
+    true
+}
+
+/// A guarded string with these fields.
+fn guarded(n_hashes: u32, terminated: bool, token_len: u32) -> GuardedStr {
+    GuardedStr {
+        n_hashes,
+        terminated,
+        token_len,
+    }
+}
+
+/// That these ascend.
+macro_rules! ascending {
+    ($rt:expr; $($value:expr),* $(,)?) => {
+        assert!($rt; ascend(&[$($value),*]))
+    };
+}
+
+#[test]
+fn orders(rt: HostRuntime) {
+    ascending!(rt; Binary, Octal, Decimal, Hexadecimal);
+    ascending!(rt; E2015, E2018, E2021, E2024);
+    ascending!(rt;
+        Int { base: Binary, empty_int: true }, Int { base: Octal, empty_int: false },
+        Int { base: Octal, empty_int: true }, Float { base: Binary, empty_exponent: true },
+        Float { base: Decimal, empty_exponent: false }, Char { terminated: false }, Char { terminated: true },
+        Byte { terminated: false }, Str { terminated: false }, ByteStr { terminated: false },
+        CStr { terminated: false }, RawStr { n_hashes: None }, RawStr { n_hashes: Some(0) },
+        RawStr { n_hashes: Some(255) }, RawByteStr { n_hashes: None }, RawCStr { n_hashes: None },
+    );
+    ascending!(rt; guarded(1, false, 9), guarded(1, true, 8), guarded(1, true, 9), guarded(2, false, 3));
+    ascending!(rt;
+        InvalidStarter { bad_char: 'a' }, InvalidStarter { bad_char: 'é' }, no_terminator(1, 9, Some(9)),
+        no_terminator(2, 0, None), no_terminator(2, 1, Some(3)), no_terminator(2, 1, Some(4)),
+        TooManyDelimiters { found: 0 }, TooManyDelimiters { found: 256 },
+    );
+}
+
+#[test]
+fn tokens_of_one_length(rt: HostRuntime) {
+    let token = |kind, len| Token { kind, len };
+    let ident = token(TokenKind::Ident, 1);
+    assert!(rt; ident == token(TokenKind::Ident, 1));
+    assert!(rt; !(ident == token(TokenKind::Unknown, 1)));
+    assert!(rt; !(ident == token(TokenKind::Ident, 2)));
+}
+
+/// Whether the word and the year name the edition, and it has this place among all.
+fn is_edition(index: usize, word: &str, year: u16, edition: Edition) -> bool {
+    word.parse::<Edition>() == Ok(edition)
+        && edition.year() == year
+        && Edition::try_from(year) == Ok(edition)
+        && Edition::ALL.get(index).copied() == Some(edition)
+}
+
+#[test]
+fn a_year_names_its_edition(rt: HostRuntime) {
+    let named = [
+        ("2015", 2015, E2015),
+        ("2018", 2018, E2018),
+        ("2021", 2021, E2021),
+        ("2024", 2024, E2024),
+    ];
+    for (index, (word, year, edition)) in named.into_iter().enumerate() {
+        assert!(rt; is_edition(index, word, year, edition), "{word}");
+    }
+    assert_eq!(rt; Edition::ALL.len(), named.len());
+}
+
+#[test]
+fn no_other_word_or_year_names_one(rt: HostRuntime) {
+    for word in ["", "1999", "2016", "02015", "2024 ", "E2024"] {
+        assert_eq!(rt; word.parse::<Edition>(), Err(UnknownEdition), "{word}");
+    }
+    for year in [0u16, 15, 2016, 65535] {
+        assert_eq!(rt; Edition::try_from(year), Err(UnknownEdition), "{year}");
+    }
+}
