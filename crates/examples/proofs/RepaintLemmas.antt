@@ -10,7 +10,7 @@ use Rattle.rustc_lexer.specs.Locality.{has_two, IsGrammar}
 use Rattle.rustc_lexer.specs.Classes.{IsText}
 use Rattle.rustc_lexer.proofs.BoundLemmas.{bound-last, ends_past-at, is_bound-elim, is_bound-intro, least_from_ge, rises}
 use Rattle.rustc_lexer.proofs.EditLemmas.{IsEdited, edited, front-none, has_two-before, bound-take, kept_same, met_rest, same_rest, start_inside}
-use Rattle.rustc_lexer.proofs.PieceLemmas.{drop-pieces, take-pieces}
+use Rattle.rustc_lexer.proofs.PieceLemmas.{drop-pieces, length-pieces, take-pieces}
 use Rattle.rustc_lexer.proofs.ReadyLemmas.{cuts}
 use Rattle.examples.specs.Repaint.{changed, moved, shown_after}
 
@@ -52,10 +52,6 @@ least-passes test (suc n) k pass = elim (cases_Bool (test k)) [
 ]
 
 -- ---- the pieces of two texts
-
-length-pieces : (text : List ℕ) (start : ℕ) (ts : List Token) → length (pieces_from text start ts) ≡ length ts
-length-pieces text start [] = refl
-length-pieces text start (t ∷ ts) = ap suc (length-pieces text (start + t.len) ts)
 
 -- pieces are those of the text up to a place that they do not pass
 pieces-within : (text : List ℕ) (whole start : ℕ) (ts : List Token) → start + bound ts (length ts) ≤ whole → pieces_from (take whole text) start ts ≡ pieces_from text start ts
@@ -101,7 +97,7 @@ module _ {first : List ℕ → Token} (law : IsGrammar first) (text : List ℕ) 
 
   -- whether the new tokens meet the old ones at a bound
   abbrev test : ℕ → Bool
-  test = λ m. meets_at old (start + length insert) (length insert) (stop - start) (bound new m)
+  test = λ m. meets_at old stop (start + length insert) (bound new m)
 
   abbrev met : ℕ
   met = least_from test (length new - kept) kept
@@ -124,20 +120,22 @@ module _ {first : List ℕ → Token} (law : IsGrammar first) (text : List ℕ) 
   end_passes : test (kept + (length new - kept)) ≡ true
   end_passes =
       let few = kept_new in
+      let order = edit.inside.start_le_stop in
+      let within = edit.inside.stop_inside in
       let all : kept + (length new - kept) ≡ length new = omega arith in
       let last : bound new (length new) ≡ length new_text = bound-last law new_text ed.text_is in
       let inside = start_inside law text start stop insert new_text is edit ed in
       let past : start + length insert ≤ bound new (length new) = omega arith in
       let len = ed.len in
-      let there : bound old (length old) ≡ bound new (length new) - length insert + (stop - start) = omega (arith, bound-last law text is) in
+      let there : bound old (length old) ≡ bound new (length new) - (start + length insert) + stop = omega (arith, bound-last law text is) in
       subst (λ m. test m ≡ true) (sym all) (
-      ap (λ (b : Bool). b && is_bound old (bound new (length new) - length insert + (stop - start))) (le-leb (start + length insert) (bound new (length new)) past)
-      ∙ is_bound-intro old (length old) (bound new (length new) - length insert + (stop - start)) there)
+      ap (λ (b : Bool). b && is_bound old (bound new (length new) - (start + length insert) + stop)) (le-leb (start + length insert) (bound new (length new)) past)
+      ∙ is_bound-intro old (length old) (bound new (length new) - (start + length insert) + stop) there)
 
-  passes : (start + length insert ≤ bound new met) × ((i : ℕ) × (i ≤ length old) × (bound old i ≡ bound new met - length insert + (stop - start)))
+  passes : (start + length insert ≤ bound new met) × ((i : ℕ) × (i ≤ length old) × (bound old i ≡ bound new met - (start + length insert) + stop))
   passes =
-      let both = and_parts (leb (start + length insert) (bound new met)) (is_bound old (bound new met - length insert + (stop - start))) (least-passes test (length new - kept) kept end_passes) in
-      (leb-true (start + length insert) (bound new met) both.0, is_bound-elim old (bound new met - length insert + (stop - start)) both.1)
+      let both = and_parts (leb (start + length insert) (bound new met)) (is_bound old (bound new met - (start + length insert) + stop)) (least-passes test (length new - kept) kept end_passes) in
+      (leb-true (start + length insert) (bound new met) both.0, is_bound-elim old (bound new met - (start + length insert) + stop) both.1)
 
   abbrev shown : List Placed
   shown = pieces_of text old
@@ -157,8 +155,9 @@ module _ {first : List ℕ → Token} (law : IsGrammar first) (text : List ℕ) 
   back_shown : drop met to_show ≡ map (moved (length insert) (stop - start)) (drop passes.1.0 shown)
   back_shown =
       let i : ℕ = passes.1.0 in
+      let order = edit.inside.start_le_stop in
       let past : start + length insert ≤ bound new met = passes.0 in
-      let there : bound old i ≡ bound new met - length insert + (stop - start) = passes.1.2 in
+      let there : bound old i ≡ bound new met - (start + length insert) + stop = passes.1.2 in
       let a : bound old i ≡ 0 + bound old i = omega arith in
       let b : bound new met ≡ 0 + bound new met = omega arith in
       let same : drop (0 + bound old i) text ≡ drop (0 + bound new met) new_text =
@@ -174,8 +173,8 @@ module _ {first : List ℕ → Token} (law : IsGrammar first) (text : List ℕ) 
   enough =
       let i : ℕ = passes.1.0 in
       let few : i ≤ length old = passes.1.1 in
-      let back : ends_past old (bound new met - length insert + (stop - start)) ≡ length old - i = ap (ends_past old) (sym passes.1.2) ∙ ends_past-at old i few (rises law text is) in
-      let number : length shown - ends_past old (bound new met - length insert + (stop - start)) ≡ i = omega (arith, length-pieces text 0 old, back) in
+      let back : ends_past old (bound new met - (start + length insert) + stop) ≡ length old - i = ap (ends_past old) (sym passes.1.2) ∙ ends_past-at old i few (rises law text is) in
+      let number : length shown - ends_past old (bound new met - (start + length insert) + stop) ≡ i = omega (arith, length-pieces text 0 old, back) in
       in_three kept met to_show (least_from_ge test (length new - kept) kept)
       ∙ (ap (λ ps. ps ++ (take (met - kept) (drop kept to_show) ++ drop met to_show)) front_shown
       ∙ (ap (λ ps. take kept shown ++ (take (met - kept) (drop kept to_show) ++ ps)) back_shown

@@ -9,7 +9,7 @@ use Rattle.rustc_lexer.specs.declared.token.LiteralKind.TheVariants.{Int, Float,
 use Rattle.rustc_lexer.specs.declared.token.Token.{Token}
 use Rattle.rustc_lexer.specs.declared.token.TokenKind.{TokenKind}
 use Rattle.rustc_lexer.specs.declared.token.TokenKind.TheVariants.{LineComment, BlockComment, Frontmatter, Literal, Lifetime}
-pub use Rattle.rustc_lexer.specs.LanguageCalls.{kind_name}
+use Rattle.rustc_lexer.specs.LanguageCalls.{kind_entry}
 
 abbrev pub bool_text : Bool → List ℕ
 bool_text true = codes "true"
@@ -56,6 +56,10 @@ fields_text kind = []
 -- where a token begins and how long it is, each with a space after it
 abbrev pub place_text : ℕ → ℕ → List ℕ
 place_text start len = decimal start ++ (codes " " ++ (decimal len ++ codes " "))
+
+-- the name of a kind
+abbrev pub kind_name : TokenKind → List ℕ
+kind_name kind = (kind_entry kind).1
 
 unfoldable pub line_text : ℕ → Token → List ℕ
 line_text start token = decimal start ++ (codes " " ++ (decimal token.len ++ (codes " " ++ (kind_name token.kind ++ (fields_text token.kind ++ 10 ∷ [])))))

@@ -1,8 +1,6 @@
 -- What taking a token off does to the text that is left.
-use Rattle.std.proofs.Common.{◌≡◌, ◌≢◌, ℕ, ◌+◌, ◌-◌, ◌<◌, ◌==◌, List, [], ◌∷◌, length, true, false, true≢false, refl, sym, ap, ◌∙◌, subst, arith}
-use Rattle.std.specs.Str.{chars}
+use Rattle.std.proofs.Common.{◌≡◌, ◌≢◌, ℕ, ◌<◌, ◌==◌, List, [], ◌∷◌, length, true, false, true≢false, refl, sym, ap, ◌∙◌, arith}
 use Rattle.std.proofs.lemmas.Bool.{eqb-true, ne_eqb}
-use Rattle.std.proofs.lemmas.Str.{IsCharBoundary-from_take}
 use Rattle.std.proofs.lemmas.List.{nil_from_length}
 use Rattle.rustc_lexer.specs.declared.token.Token.{Token}
 use Rattle.rustc_lexer.specs.declared.token.TokenKind.{TokenKind}
@@ -11,11 +9,10 @@ use Rattle.rustc_lexer.specs.State.{State, kind_past, token_past}
 use Rattle.rustc_lexer.specs.means.Taking.{token_at, advance}
 use Rattle.rustc_lexer.specs.Classes.{IsText}
 use Rattle.rustc_lexer.specs.Tokens.{tokens_of, tokens_left, TakesFirst}
-use Rattle.rustc_lexer.specs.LanguageText.{AreTokens}
-use Rattle.rustc_lexer.specs.laws.LanguageTokens.{tokens-are}
-use Rattle.rustc_lexer.specs.laws.State.{past_token, advance-some, token_past-zero}
+use Rattle.rustc_lexer.specs.laws.State.{state, past_token, advance-some, token_past-zero}
 use Rattle.rustc_lexer.proofs.TextLemmas.{token_at-not_end}
-use Rattle.rustc_lexer.specs.laws.Tokens.{CutsOff, token_at-cuts, tokens-nil, tokens-cons}
+use Rattle.rustc_lexer.proofs.TokensLemmas.{takes_first as takes_alone}
+use Rattle.rustc_lexer.specs.laws.Tokens.{tokens-nil}
 
 -- pending bytes make no end of a token that is none
 kind_past-end : (pending : ℕ) (kind : TokenKind) → kind_past pending kind ≡ Eof → kind ≡ Eof
@@ -31,21 +28,17 @@ module _ (s t : State) (token : Token) (is : IsText s.rest) (some : 0 < length s
   pub takes_first : TakesFirst s token t
   takes_first =
       let first : Token = token_at s.mode s.rest in
-      let whole = advance-some s.pending s.rest s.mode s refl (ne_eqb (length s.rest) 0 (λ none. omega arith)) in
+      let more : (length s.rest == 0) ≡ false = ne_eqb (length s.rest) 0 (λ none. omega arith) in
+      let whole = advance-some s.pending s.rest s.mode s refl more in
       let token_is : token ≡ token_past s.pending first = e ∙ ap (λ (r : Token × State). r.0) whole in
       let state_is : t ≡ past_token s.rest s.mode first = f ∙ ap (λ (r : Token × State). r.1) whole in
-      let cuts : CutsOff s.rest first = token_at-cuts s.mode s.rest is some in
-      let own : (s.pending + first.len) - s.pending ≡ first.len = omega arith in
-      let alone : s.pending ≡ 0 → token_past s.pending first ≡ first = λ none. ap (λ n. token_past n first) none ∙ token_past-zero first in
-      rw (token_is, state_is) record {
+      let own = takes_alone (state 0 s.rest s.mode) t first refl is more refl state_is in
+      record {
         taken = first;
-        with_pending = refl;
-        tokens = subst (AreTokens s.mode (chars s.rest)) (tokens-cons s.mode s.rest is some) (tokens-are s.rest s.mode is);
-        first = λ none. tokens-cons s.mode s.rest is some ∙ ap (λ (k : Token). k ∷ tokens_left (past_token s.rest s.mode first)) (sym (alone none));
-        not_empty = let n = cuts.not_empty in omega arith;
-        boundary = rw own (IsCharBoundary-from_take s.rest first.len is.utf8 cuts.inside cuts.front);
-        rest = rw own refl;
-        pending = refl;
+        takes = own.takes;
+        with_pending = token_is;
+        alone = λ none. token_is ∙ (ap (λ n. token_past n first) none ∙ token_past-zero first);
+        none_pending = own.pending;
       }
 
 pub stays_at_end : (s : State) (text : List ℕ) (len : ℕ) → text ≡ s.rest → (length text == 0) ≡ true → len ≡ 0 → (tokens_left s ≡ []) × (s.rest ≡ []) × (len ≡ 0) × (s ≡ s)

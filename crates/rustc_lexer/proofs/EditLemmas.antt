@@ -105,21 +105,20 @@ module _ {first : List ℕ → Token} (law : IsGrammar first) (text : List ℕ) 
       tokens_local law (suc k) text new is ed.text_is few (has_two-agree text new place start middle ed.front has)
 
   -- past the edit both texts have the same rest
-  pub same_rest : (p : ℕ) → start + length insert ≤ p → drop p new ≡ drop (p - length insert + (stop - start)) text
+  pub same_rest : (p : ℕ) → start + length insert ≤ p → drop p new ≡ drop (p - (start + length insert) + stop) text
   same_rest p past =
-      let a = edit.inside.start_le_stop in
       let n : ℕ = p - (start + length insert) in
       let here : start + length insert + n ≡ p = omega arith in
-      let there : stop + n ≡ p - length insert + (stop - start) = omega arith in
+      let there : stop + n ≡ n + stop = omega arith in
       ap (λ q. drop q new) (sym here) ∙ (sym (drop-drop n (start + length insert) new) ∙ (ap (drop n) ed.back ∙ (drop-drop n stop text ∙ ap (λ q. drop q text) there)))
 
   -- the meeting: from a bound past the edit that, moved back, is a bound of the old text, the tokens are the old ones
-  pub met_rest : (j i : ℕ) → start + length insert ≤ bound (tokens_by first new) j → bound (tokens_by first text) i ≡ bound (tokens_by first new) j - length insert + (stop - start) → drop j (tokens_by first new) ≡ drop i (tokens_by first text)
+  pub met_rest : (j i : ℕ) → start + length insert ≤ bound (tokens_by first new) j → bound (tokens_by first text) i ≡ bound (tokens_by first new) j - (start + length insert) + stop → drop j (tokens_by first new) ≡ drop i (tokens_by first text)
   met_rest j i past met =
       (at_bound law j new ed.text_is).rest ∙ (ap (tokens_by first) (same_rest (bound (tokens_by first new) j) past ∙ ap (λ q. drop q text) (sym met)) ∙ sym (at_bound law i text is).rest)
 
   -- the new tokens: those up to the meeting, and the old ones past it
-  pub met_whole : (j i : ℕ) → start + length insert ≤ bound (tokens_by first new) j → bound (tokens_by first text) i ≡ bound (tokens_by first new) j - length insert + (stop - start) → take j (tokens_by first new) ++ drop i (tokens_by first text) ≡ tokens_by first new
+  pub met_whole : (j i : ℕ) → start + length insert ≤ bound (tokens_by first new) j → bound (tokens_by first text) i ≡ bound (tokens_by first new) j - (start + length insert) + stop → take j (tokens_by first new) ++ drop i (tokens_by first text) ≡ tokens_by first new
   met_whole j i past met = ap (λ ts. take j (tokens_by first new) ++ ts) (sym (met_rest j i past met)) ∙ take-append-drop j (tokens_by first new)
 
 drop_of-take : (p n : ℕ) (xs : List ℕ) → drop p (take n xs) ≡ take (n - p) (drop p xs)

@@ -1,6 +1,5 @@
 -- What an edition has in place of some tokens.
 use Rattle.std.proofs.Common.{◌≡◌, ◌<◌, ℕ, nat_le, Bool, true, false, List, length, refl, IsCharBoundary}
-use Rattle.std.proofs.lemmas.Str.{IsCharBoundary-from_take}
 use Rattle.rustc_lexer.specs.declared.edition.Edition.{Edition}
 use Rattle.rustc_lexer.specs.declared.edition.Edition.TheVariants.{E2024}
 use Rattle.rustc_lexer.specs.declared.token.FrontmatterAllowed.{FrontmatterAllowed}
@@ -44,8 +43,7 @@ module _ (P : Token → Type 0) (silent : (kind : TokenKind) (len : ℕ) → is_
 -- the token of an edition at the front of a text may be cut off
 pub boundary-of : (edition : Edition) (text : List ℕ) (token : Token) → IsText text → 0 < length text → token ≡ first_token_in edition text → IsCharBoundary text token.len
 boundary-of edition text token is some e =
-    let law = edition_grammar edition in
-    rw e (IsCharBoundary-from_take text _ is.utf8 (law.inside text is some) (law.front text is some))
+    rw e ((edition_grammar edition).boundary text is some)
 
 front-same : (edition : Edition) (text : List ℕ) → changed edition (chars text) (frontmatter text) ≡ frontmatter text
 unfolding frontmatter

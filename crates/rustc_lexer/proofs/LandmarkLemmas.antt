@@ -58,7 +58,7 @@ module _ {first : List ℕ → Token} (law : IsGrammar first) (text : List ℕ) 
   -- what an edit puts in place of the tokens between, of which there are `size`: the landmarks can be moved, and stay landmarks
   pub replaced_for : (old : List Token) (new : List ℕ) (lexed list : List Token) (kept met : Bound) (size end : ℕ) (landmarks : Landmarks) → old ≡ tokens_by first text → new ≡ apply text start stop insert → list ≡ take kept.number old ++ (lexed ++ drop met.number old) → size ≡ length lexed
       → kept.number ≤ length old → kept.place ≡ bound old kept.number → met.place ≡ bound old met.number → end ≡ bound (tokens_by first new) (kept.number + length lexed)
-      → IsMet first old new (start + length insert) (length insert) (stop - start) kept.number (take kept.number old ++ lexed) met.number → AreBounds old landmarks
+      → IsMet first old new stop (start + length insert) kept.number (take kept.number old ++ lexed) met.number → AreBounds old landmarks
       → All (IsMovable met (record { number = kept.number + size; place = end })) landmarks.bounds × IsReplaced old list kept met (record { number = kept.number + size; place = end })
   replaced_for old new lexed list kept met size end landmarks e f made size_is few kept_at met_at end_is is_met are =
       let front : List Token = take kept.number old in

@@ -1,78 +1,81 @@
 -- Lexing on from the kept front until the new tokens meet the old ones.
-use Rattle.std.proofs.Common.{◌≡◌, ℕ, suc, ◌+◌, ◌-◌, ◌<◌, ◌≤◌, max, Bool, true, false, List, [], ◌∷◌, ◌++◌, length, take, drop, refl, sym, ap, ◌∙◌, arith, leb, le-leb, length-append, eq-or-lt_of_le, inl, inr, true≢false}
+use Rattle.std.proofs.Common.{◌≡◌, ℕ, suc, ◌+◌, ◌-◌, ◌<◌, ◌≤◌, max, Bool, true, false, List, [], ◌∷◌, ◌++◌, length, take, drop, refl, sym, ap, ◌∙◌, arith, eqb, eqb-true, leb, le-leb, length-append, eq-or-lt_of_le, inl, inr, true≢false}
+use Rattle.std.proofs.lemmas.Bool.{and_parts, leb-true}
 use Rattle.rustc_lexer.specs.declared.token.Token.{Token}
 use Rattle.rustc_lexer.specs.Classes.{IsText}
 use Rattle.rustc_lexer.specs.Locality.{IsGrammar}
 use Rattle.rustc_lexer.specs.Tokens.{bound, tokens_by}
-use Rattle.rustc_lexer.specs.Edits.{meets_at, least_from, meet}
-use Rattle.rustc_lexer.proofs.BoundLemmas.{is_bound-intro, least_from_ge, least_from-more, least_from-here}
+use Rattle.rustc_lexer.specs.Edits.{is_bound, meets_at, least_from, meet}
+use Rattle.rustc_lexer.proofs.BoundLemmas.{is_bound-intro, is_bound-decide, least_from_ge, least_from-more, least_from-here}
 use Rattle.rustc_lexer.proofs.ProgressLemmas.{IsLexedTo, IsPlace, lexed_place, lexed_more}
 
 -- the items are the first tokens of the new text, up to where they meet the old ones at bound `number`
-pub record IsMet (first : List ℕ → Token) (old : List Token) (text : List ℕ) (past added removed kept : ℕ) (items : List Token) (number : ℕ) : Type 0 where
+pub record IsMet (first : List ℕ → Token) (old : List Token) (text : List ℕ) (old_stop new_stop kept : ℕ) (items : List Token) (number : ℕ) : Type 0 where
   pub items_are : items ≡ take (length items) (tokens_by first text)
-  pub least : length items ≡ meet old (tokens_by first text) past added removed kept
+  pub least : length items ≡ meet old (tokens_by first text) old_stop new_stop kept
   pub kept_le : kept ≤ length items
   pub number_bound : number ≤ length old
-  pub past_edit : past ≤ bound (tokens_by first text) (length items)
-  pub same_place : bound old number ≡ bound (tokens_by first text) (length items) - added + removed
+  pub past_edit : new_stop ≤ bound (tokens_by first text) (length items)
+  pub same_place : bound old number ≡ bound (tokens_by first text) (length items) - new_stop + old_stop
 
-module _ (first : List ℕ → Token) (old : List Token) (text : List ℕ) (past added removed kept : ℕ) where
+module _ (first : List ℕ → Token) (old : List Token) (text : List ℕ) (old_stop new_stop kept : ℕ) where
   abbrev pub test : ℕ → Bool
-  test j = meets_at old past added removed (bound (tokens_by first text) j)
+  test j = meets_at old old_stop new_stop (bound (tokens_by first text) j)
 
   -- the tokens so far, and what is still to be searched
   pub record IsGoing (items : List Token) (place number at_place : ℕ) (met : Bool) : Type 0 where
     pub to : IsLexedTo first text items place
     pub kept_le : kept ≤ length items
-    pub search : least_from test (length (tokens_by first text) - length items) (length items) ≡ meet old (tokens_by first text) past added removed kept
+    pub search : least_from test (length (tokens_by first text) - length items) (length items) ≡ meet old (tokens_by first text) old_stop new_stop kept
     pub number_bound : number ≤ length old
     pub place_is : at_place ≡ bound old number
-    pub below : (k : ℕ) → k < number → bound old k + added < max past place + removed
-    pub met_is : met ≡ meets_at old past added removed place
-    pub past_edit : met ≡ true → past ≤ place
-    pub same_place : met ≡ true → at_place ≡ place - added + removed
+    pub below : (k : ℕ) → k < number → bound old k + new_stop < max new_stop place + old_stop
+    pub reached : new_stop ≤ place → number < length old → place - new_stop + old_stop ≤ at_place
+    pub met_is : met ≡ meets_at old old_stop new_stop place
 
-  pub going_inside : IsGrammar first → IsText text → (items : List Token) (place number at_place : ℕ) (met : Bool) → IsGoing items place number at_place met → added ≤ past → past ≤ length text → bound old (length old) + added ≡ length text + removed → met ≡ false → place < length text
-  going_inside law is items place number at_place met at le inside ends out =
+  pub going_inside : IsGrammar first → IsText text → (items : List Token) (place number at_place : ℕ) (met : Bool) → IsGoing items place number at_place met → new_stop ≤ length text → bound old (length old) + new_stop ≡ length text + old_stop → met ≡ false → place < length text
+  going_inside law is items place number at_place met at inside ends out =
       let spot : IsPlace text place = lexed_place law text items place is at.to in
       elim (eq-or-lt_of_le spot.inside) [
         | inr less ↦ less
         | inl same ↦ absurd (
-            let last : bound old (length old) ≡ place - added + removed = omega arith in
-            let yes_past : leb past place ≡ true = le-leb past place (omega arith) in
-            let hit : meets_at old past added removed place ≡ true = rw (yes_past, is_bound-intro old (length old) (place - added + removed) last) refl in
+            let last : bound old (length old) ≡ place - new_stop + old_stop = omega arith in
+            let yes_past : leb new_stop place ≡ true = le-leb new_stop place (omega arith) in
+            let hit : meets_at old old_stop new_stop place ≡ true = rw (yes_past, is_bound-intro old (length old) (place - new_stop + old_stop) last) refl in
             true≢false (sym hit ∙ (sym at.met_is ∙ out)))
       ]
 
   -- one more token keeps the search
-  pub search_more : (items more : List Token) (place next : ℕ) (met : Bool) → IsLexedTo first text items place → IsLexedTo first text more next → length more ≡ suc (length items) → met ≡ meets_at old past added removed place → met ≡ false → least_from test (length (tokens_by first text) - length items) (length items) ≡ least_from test (length (tokens_by first text) - length more) (length more)
+  pub search_more : (items more : List Token) (place next : ℕ) (met : Bool) → IsLexedTo first text items place → IsLexedTo first text more next → length more ≡ suc (length items) → met ≡ meets_at old old_stop new_stop place → met ≡ false → least_from test (length (tokens_by first text) - length items) (length items) ≡ least_from test (length (tokens_by first text) - length more) (length more)
   search_more items more place next met at to long met_is out =
       let n : ℕ = length (tokens_by first text) in
       let few : length more ≤ n = to.number in
-      let here : test (length items) ≡ false = ap (λ p. meets_at old past added removed p) (sym at.place_is) ∙ (sym met_is ∙ out) in
+      let here : test (length items) ≡ false = ap (λ p. meets_at old old_stop new_stop p) (sym at.place_is) ∙ (sym met_is ∙ out) in
       least_from-more test (n - length items) (n - length more) (length items) (omega arith) here ∙ ap (least_from test (n - length more)) (sym long)
 
-  pub meet_more : (more : List Token) (items : List Token) → length more ≡ suc (length items) → least_from test (length (tokens_by first text) - length more) (length more) ≡ meet old (tokens_by first text) past added removed kept → suc (length items) ≤ meet old (tokens_by first text) past added removed kept
+  pub meet_more : (more : List Token) (items : List Token) → length more ≡ suc (length items) → least_from test (length (tokens_by first text) - length more) (length more) ≡ meet old (tokens_by first text) old_stop new_stop kept → suc (length items) ≤ meet old (tokens_by first text) old_stop new_stop kept
   meet_more more items long e = omega (arith, e, least_from_ge test (length (tokens_by first text) - length more) (length more))
 
-  pub going_met : (items : List Token) (place number at_place : ℕ) (met : Bool) → IsGoing items place number at_place met → met ≡ true → IsMet first old text past added removed kept items number
+  pub going_met : (items : List Token) (place number at_place : ℕ) (met : Bool) → IsGoing items place number at_place met → met ≡ true → IsMet first old text old_stop new_stop kept items number
   going_met items place number at_place met at hit =
       let same = at.to.place_is in
-      let found : test (length items) ≡ true = ap (λ p. meets_at old past added removed p) (sym at.to.place_is) ∙ (sym at.met_is ∙ hit) in
-      let le : past ≤ place = at.past_edit hit in
-      let e : at_place ≡ place - added + removed = at.same_place hit in
+      let found : test (length items) ≡ true = ap (λ p. meets_at old old_stop new_stop p) (sym at.to.place_is) ∙ (sym at.met_is ∙ hit) in
+      let target : ℕ = place - new_stop + old_stop in
+      let both = and_parts (leb new_stop place) (is_bound old target) (sym at.met_is ∙ hit) in
+      let le : new_stop ≤ place = leb-true new_stop place both.0 in
+      let there : is_bound old target ≡ eqb (bound old number) target = is_bound-decide old number target at.number_bound (λ k less. let b = at.below k less in omega arith) (λ few. let r = at.reached le few in let p = at.place_is in omega arith) in
+      let e : bound old number ≡ target = eqb-true (bound old number) target (sym there ∙ both.1) in
       record {
         items_are = at.to.items_are;
         least = sym (least_from-here test _ (length items) found) ∙ at.search;
         kept_le = at.kept_le;
         number_bound = at.number_bound;
         past_edit = omega arith;
-        same_place = sym at.place_is ∙ (e ∙ ap (λ p. p - added + removed) same);
+        same_place = e ∙ ap (λ p. p - new_stop + old_stop) same;
       }
 
   -- where another token was lexed, the meeting is past it
-  pub going_least : IsGrammar first → IsText text → (items : List Token) (place number at_place : ℕ) (met : Bool) → IsGoing items place number at_place met → met ≡ false → place < length text → suc (length items) ≤ meet old (tokens_by first text) past added removed kept
+  pub going_least : IsGrammar first → IsText text → (items : List Token) (place number at_place : ℕ) (met : Bool) → IsGoing items place number at_place met → met ≡ false → place < length text → suc (length items) ≤ meet old (tokens_by first text) old_stop new_stop kept
   going_least law is items place number at_place met at out inside =
       let more : List Token = items ++ first (drop place text) ∷ [] in
       let to = lexed_more law text items place is at.to inside in

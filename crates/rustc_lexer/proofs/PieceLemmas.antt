@@ -3,7 +3,7 @@ use Rattle.std.proofs.Common.{◌≡◌, ℕ, zero, suc, ◌+◌, ◌-◌, ◌^�
 use Rattle.rustc_lexer.specs.declared.token.Token.{Token}
 use Rattle.rustc_lexer.specs.Tokens.{bound, tokens_by}
 use Rattle.rustc_lexer.specs.means.Pieces.{AreBoundariesFrom}
-use Rattle.rustc_lexer.specs.Edits.{pieces_from, pieces_of}
+use Rattle.rustc_lexer.specs.Edits.{Placed, pieces_from, pieces_of}
 use Rattle.rustc_lexer.specs.Classes.{IsText}
 use Rattle.rustc_lexer.specs.Locality.{IsGrammar}
 use Rattle.rustc_lexer.proofs.BoundLemmas.{bound_mono}
@@ -34,6 +34,14 @@ cuts_whole {first} law text tokens is e k few =
     subst (AreBoundariesFrom text 0) (sym e) here k few
 
 -- ---- the pieces of some of the tokens
+
+pub length-pieces : (text : List ℕ) (start : ℕ) (ts : List Token) → length (pieces_from text start ts) ≡ length ts
+length-pieces text start [] = refl
+length-pieces text start (t ∷ ts) = ap suc (length-pieces text (start + t.len) ts)
+
+-- as many pieces are left as tokens
+pub as_many_left : (text : List ℕ) (start : ℕ) (tokens : List Token) {left : List Placed} → pieces_from text start tokens ≡ left → length tokens ≡ length left
+as_many_left text start tokens is = sym (length-pieces text start tokens) ∙ ap (λ (ps : List Placed). length ps) is
 
 -- the bounds of some of the tokens are bounds of all
 pub cuts_part : (text : List ℕ) (tokens : List Token) (from n : ℕ) → from ≤ length tokens → AreBoundariesFrom text 0 tokens → AreBoundariesFrom text (bound tokens from) (take n (drop from tokens))

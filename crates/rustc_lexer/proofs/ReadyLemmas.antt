@@ -2,7 +2,6 @@
 use Rattle.std.proofs.Common.{◌≡◌, ℕ, ◌+◌, ◌-◌, ◌<◌, ◌≤◌, ◌^◌, true, List, ◌++◌, length, take, drop, refl, sym, ap, ◌∙◌, subst, arith, length-take, append_assoc, IsUtf8}
 use Rattle.rustc_lexer.specs.means.Relexing.{AreBoundaries}
 use Rattle.rustc_lexer.specs.declared.relex.front.Bound.{Bound}
-use Rattle.rustc_lexer.specs.declared.relex.front.Damage.{Damage}
 use Rattle.rustc_lexer.specs.declared.token.Token.{Token}
 use Rattle.rustc_lexer.specs.Classes.{IsText}
 use Rattle.rustc_lexer.specs.Locality.{IsGrammar, has_two}
@@ -15,14 +14,10 @@ use Rattle.rustc_lexer.proofs.MeetingLemmas.{IsMet}
 use Rattle.std.proofs.lemmas.Str.{IsCharBoundary-from_drop}
 
 -- the new text has the tokens of the kept front, which are before the edit
-pub record IsReady (first : List ℕ → Token) (old : List Token) (text : List ℕ) (kept : Bound) (damage : Damage) : Type 0 where
+pub record IsReady (first : List ℕ → Token) (old : List Token) (text : List ℕ) (kept : Bound) (start : ℕ) : Type 0 where
   pub kept_same : take kept.number old ≡ take kept.number (tokens_by first text)
   pub kept_new : kept.number ≤ length (tokens_by first text)
-  pub kept_before : (k : ℕ) → k < kept.number → bound old k + damage.added < damage.past + damage.removed
-
--- what an edit does to the text
-abbrev pub damage_of : ℕ → ℕ → List ℕ → Damage
-damage_of start stop insert = record { past = start + length insert; added = length insert; removed = stop - start }
+  pub kept_before : (k : ℕ) → k < kept.number → bound old k < start
 
 module _ {first : List ℕ → Token} (law : IsGrammar first) (text : List ℕ) (is : IsText text) where
   pub cuts : AreBoundaries text (tokens_by first text)
@@ -32,7 +27,7 @@ module _ {first : List ℕ → Token} (law : IsGrammar first) (text : List ℕ) 
   bounds_fit k few = omega (arith, (cuts k few).0, is.fits)
 
   module _ (start stop : ℕ) (insert new : List ℕ) (edit : IsEdit text start stop insert) (ed : IsEdited text start stop insert new) where
-    pub ready : (kept : Bound) → kept.number ≤ length (tokens_by first text) → kept.place ≡ bound (tokens_by first text) kept.number → (0 < kept.number → has_two text kept.place start ≡ true) → IsReady first (tokens_by first text) new kept (damage_of start stop insert)
+    pub ready : (kept : Bound) → kept.number ≤ length (tokens_by first text) → kept.place ≡ bound (tokens_by first text) kept.number → (0 < kept.number → has_two text kept.place start ≡ true) → IsReady first (tokens_by first text) new kept start
     ready kept few at two =
         let two_past : 0 < kept.number → has_two text (bound (tokens_by first text) kept.number) start ≡ true = λ some. subst (λ p. has_two text p start ≡ true) at (two some) in
         let same : take kept.number (tokens_by first new) ≡ take kept.number (tokens_by first text) = kept_same law text start stop insert new is edit ed kept.number few two_past in
@@ -48,43 +43,43 @@ module _ {first : List ℕ → Token} (law : IsGrammar first) (text : List ℕ) 
         }
 
     -- what it leaves: the new tokens are whole, and the counts are those of the edit
-    pub whole : (items : List Token) (number kept : ℕ) → IsMet first (tokens_by first text) new (start + length insert) (length insert) (stop - start) kept items number → items ++ drop number (tokens_by first text) ≡ tokens_by first new
+    pub whole : (items : List Token) (number kept : ℕ) → IsMet first (tokens_by first text) new stop (start + length insert) kept items number → items ++ drop number (tokens_by first text) ≡ tokens_by first new
     whole items number kept met =
         ap (λ ts. ts ++ drop number (tokens_by first text)) met.items_are ∙
         met_whole law text start stop insert new is edit ed (length items) number met.past_edit met.same_place
 
-pub counts : {first : List ℕ → Token} (law : IsGrammar first) (text : List ℕ) (is : IsText text) (start stop : ℕ) (insert : List ℕ) (items : List Token) (number kept : ℕ) → kept ≡ kept_front text (tokens_by first text) start → IsMet first (tokens_by first text) (apply text start stop insert) (start + length insert) (length insert) (stop - start) kept items number → relexed_of first text start stop insert ≡ record { kept_front = kept; lexed = length items - kept; kept_back = length (tokens_by first text) - number }
+pub counts : {first : List ℕ → Token} (law : IsGrammar first) (text : List ℕ) (is : IsText text) (start stop : ℕ) (insert : List ℕ) (items : List Token) (number kept : ℕ) → kept ≡ kept_front text (tokens_by first text) start → IsMet first (tokens_by first text) (apply text start stop insert) stop (start + length insert) kept items number → relexed_of first text start stop insert ≡ record { kept_front = kept; lexed = length items - kept; kept_back = length (tokens_by first text) - number }
 unfolding relexed_of
 counts {first} law text is start stop insert items number kept kept_is met =
     let old : List Token = tokens_by first text in
     let new : List Token = tokens_by first (apply text start stop insert) in
-    let least : meet old new (start + length insert) (length insert) (stop - start) (kept_front text old start) ≡ length items = ap (meet old new (start + length insert) (length insert) (stop - start)) (sym kept_is) ∙ sym met.least in
-    let back : ends_past old (bound new (length items) - length insert + (stop - start)) ≡ length old - number = ap (ends_past old) (sym met.same_place) ∙ ends_past-at old number met.number_bound (rises law text is) in
+    let least : meet old new stop (start + length insert) (kept_front text old start) ≡ length items = ap (meet old new stop (start + length insert)) (sym kept_is) ∙ sym met.least in
+    let back : ends_past old (bound new (length items) - (start + length insert) + stop) ≡ length old - number = ap (ends_past old) (sym met.same_place) ∙ ends_past-at old number met.number_bound (rises law text is) in
     rw (least, ← kept_is, back) refl
 
 -- the same, for a list and a text that are known by equations
 module _ {first : List ℕ → Token} (law : IsGrammar first) (text : List ℕ) (is : IsText text) (start stop : ℕ) (insert : List ℕ) (its : IsUtf8 insert) (edit : IsEdit text start stop insert) where
-  pub ready_for : (old : List Token) (new : List ℕ) (kept : Bound) → old ≡ tokens_by first text → new ≡ apply text start stop insert → kept.number ≤ length old → kept.place ≡ bound old kept.number → (0 < kept.number → has_two text kept.place start ≡ true) → IsReady first old new kept (damage_of start stop insert)
+  pub ready_for : (old : List Token) (new : List ℕ) (kept : Bound) → old ≡ tokens_by first text → new ≡ apply text start stop insert → kept.number ≤ length old → kept.place ≡ bound old kept.number → (0 < kept.number → has_two text kept.place start ≡ true) → IsReady first old new kept start
   ready_for old new kept e f few at two =
       let few' : kept.number ≤ length (tokens_by first text) = rw e at few in
       let at' : kept.place ≡ bound (tokens_by first text) kept.number = at ∙ ap (λ ts. bound ts kept.number) e in
       rw (e, f) (ready law text is start stop insert (apply text start stop insert) edit (edited text start stop insert is its edit) kept few' at' two)
 
-  pub whole_for : (old : List Token) (new : List ℕ) (items : List Token) (number kept : ℕ) → old ≡ tokens_by first text → new ≡ apply text start stop insert → IsMet first old new (start + length insert) (length insert) (stop - start) kept items number → items ++ drop number old ≡ tokens_by first (apply text start stop insert)
+  pub whole_for : (old : List Token) (new : List ℕ) (items : List Token) (number kept : ℕ) → old ≡ tokens_by first text → new ≡ apply text start stop insert → IsMet first old new stop (start + length insert) kept items number → items ++ drop number old ≡ tokens_by first (apply text start stop insert)
   whole_for old new items number kept e f met =
-      let met' : IsMet first (tokens_by first text) (apply text start stop insert) (start + length insert) (length insert) (stop - start) kept items number = rw (e, f) at met in
+      let met' : IsMet first (tokens_by first text) (apply text start stop insert) stop (start + length insert) kept items number = rw (e, f) at met in
       rw e (whole law text is start stop insert (apply text start stop insert) edit (edited text start stop insert is its edit) items number kept met')
 
-  pub counts_for : (old : List Token) (new : List ℕ) (items : List Token) (number kept : ℕ) → old ≡ tokens_by first text → new ≡ apply text start stop insert → kept ≡ kept_front text old start → IsMet first old new (start + length insert) (length insert) (stop - start) kept items number → relexed_of first text start stop insert ≡ record { kept_front = kept; lexed = length items - kept; kept_back = length old - number }
+  pub counts_for : (old : List Token) (new : List ℕ) (items : List Token) (number kept : ℕ) → old ≡ tokens_by first text → new ≡ apply text start stop insert → kept ≡ kept_front text old start → IsMet first old new stop (start + length insert) kept items number → relexed_of first text start stop insert ≡ record { kept_front = kept; lexed = length items - kept; kept_back = length old - number }
   counts_for old new items number kept e f k met =
-      let met' : IsMet first (tokens_by first text) (apply text start stop insert) (start + length insert) (length insert) (stop - start) kept items number = rw (e, f) at met in
+      let met' : IsMet first (tokens_by first text) (apply text start stop insert) stop (start + length insert) kept items number = rw (e, f) at met in
       let k' : kept ≡ kept_front text (tokens_by first text) start = k ∙ ap (λ ts. kept_front text ts start) e in
       rw e (counts law text is start stop insert items number kept k' met')
 
-  pub lexed_for : (old : List Token) (new : List ℕ) (kept : ℕ) → old ≡ tokens_by first text → new ≡ apply text start stop insert → kept ≡ kept_front text old start → (relexed_of first text start stop insert).lexed ≡ meet old (tokens_by first new) (start + length insert) (length insert) (stop - start) kept - kept
+  pub lexed_for : (old : List Token) (new : List ℕ) (kept : ℕ) → old ≡ tokens_by first text → new ≡ apply text start stop insert → kept ≡ kept_front text old start → (relexed_of first text start stop insert).lexed ≡ meet old (tokens_by first new) stop (start + length insert) kept - kept
   unfolding relexed_of
   lexed_for old new kept e f k = rw (k, e, f) refl
 
   -- the kept front, what was lexed, and the kept back
-  pub put_together : (old : List Token) (new : List ℕ) (lexed : List Token) (number kept : ℕ) → old ≡ tokens_by first text → new ≡ apply text start stop insert → IsMet first old new (start + length insert) (length insert) (stop - start) kept (take kept old ++ lexed) number → take kept old ++ (lexed ++ drop number old) ≡ tokens_by first (apply text start stop insert)
+  pub put_together : (old : List Token) (new : List ℕ) (lexed : List Token) (number kept : ℕ) → old ≡ tokens_by first text → new ≡ apply text start stop insert → IsMet first old new stop (start + length insert) kept (take kept old ++ lexed) number → take kept old ++ (lexed ++ drop number old) ≡ tokens_by first (apply text start stop insert)
   put_together old new lexed number kept e f met = sym (append_assoc (take kept old) lexed (drop number old)) ∙ whole_for old new (take kept old ++ lexed) number kept e f met

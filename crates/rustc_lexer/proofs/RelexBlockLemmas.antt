@@ -1,8 +1,8 @@
 -- Relexing over many tokens at once, each of which begins before the end of what an edit put in.
-use Rattle.std.proofs.Common.{◌≡◌, ℕ, zero, suc, ◌+◌, ◌-◌, ◌<◌, ◌≤◌, Bool, true, false, ◌&&◌, leb, true≢false, List, ◌∷◌, length, drop, inl, inr, Some, refl, sym, ap, ◌∙◌, subst, arith, drop-drop, length-drop, IsUtf8, IsCharBoundary}
+use Rattle.std.proofs.Common.{◌≡◌, ℕ, zero, suc, ◌+◌, ◌-◌, ◌<◌, ◌≤◌, Bool, true, false, ◌&&◌, leb, List, ◌∷◌, length, drop, inl, inr, refl, sym, ap, ◌∙◌, subst, arith, drop-drop, length-drop, IsUtf8, IsCharBoundary}
 use Rattle.std.proofs.lemmas.Bool.{cases_lt, leb-true}
 use Rattle.std.proofs.lemmas.Str.{IsCharBoundary-from_drop, IsUtf8-drop}
-use Rattle.rustc_lexer.specs.means.Relexing.{added_by, removed_by}
+use Rattle.rustc_lexer.specs.means.Relexing.{IsFollowed}
 use Rattle.rustc_lexer.specs.declared.relex.front.Bound.{Bound}
 use Rattle.rustc_lexer.specs.declared.relex.front.Meeting.{Meeting}
 use Rattle.rustc_lexer.specs.declared.relex.relexing.Change.{Change}
@@ -10,7 +10,7 @@ use Rattle.rustc_lexer.specs.declared.relex.relexing.Relexing.{Relexing}
 use Rattle.rustc_lexer.specs.declared.token.Token.{Token}
 use Rattle.rustc_lexer.specs.Tokens.{IsFilledTo, bound, tokens_by}
 use Rattle.rustc_lexer.specs.Classes.{Fits, IsText}
-use Rattle.rustc_lexer.specs.Edits.{is_bound, meets_at, IsFollowed, IsMadeOf, Stands, TakesSteps, known, TakesStep}
+use Rattle.rustc_lexer.specs.Edits.{is_bound, meets_at, IsMadeOf, Stands, TakesSteps, is_over, known}
 use Rattle.rustc_lexer.specs.Locality.{IsGrammar}
 use Rattle.rustc_lexer.proofs.BoundLemmas.{number_le_bound, rises}
 use Rattle.rustc_lexer.proofs.BulkLemmas.{next_place, next_token, over, stands as place_stands}
@@ -19,12 +19,12 @@ use Rattle.rustc_lexer.proofs.ProgressLemmas.{IsPlace}
 use Rattle.rustc_lexer.proofs.RelexingLemmas.{below_later, made_text, stands_next}
 
 -- a place before that end meets nothing
-early : (old : List Token) (past added removed place : ℕ) → place < past → false ≡ meets_at old past added removed place
-early old past added removed place less = by_test (leb past place) refl
+early : (old : List Token) (old_stop new_stop place : ℕ) → place < new_stop → false ≡ meets_at old old_stop new_stop place
+early old old_stop new_stop place less = by_test (leb new_stop place) refl
   where
-    by_test : (b : Bool) → leb past place ≡ b → false ≡ b && is_bound old (place - added + removed)
+    by_test : (b : Bool) → leb new_stop place ≡ b → false ≡ b && is_bound old (place - new_stop + old_stop)
     by_test false e = refl
-    by_test true e = absurd (let far = leb-true past place e in omega arith)
+    by_test true e = absurd (let far = leb-true new_stop place e in omega arith)
 
 -- the tokens that are still to come are those of the text that is left
 pub left_at : {first : List ℕ → Token} (law : IsGrammar first) (before lengths insert text : List ℕ) (change : Change) (is : IsMadeOf first before lengths change insert text) (at : Relexing) (stands : Stands first before change text at) → tokens_by first (drop at.at text) ≡ drop (known at) (tokens_by first text)
@@ -44,11 +44,7 @@ module _ {first : List ℕ → Token} (law : IsGrammar first) (before lengths in
   past_some n = record { front = at.front; lexed = at.lexed + n; back = at.back; at = at.at + bound block n; met = false }
 
   no_meeting : at.met ≡ false
-  no_meeting = by_test at.met refl
-    where
-      by_test : (b : Bool) → at.met ≡ b → b ≡ false
-      by_test false e = refl
-      by_test true e = absurd (let far = stands.followed.past_edit e in omega arith)
+  no_meeting = stands.met_is ∙ sym (early (tokens_by first before) change.old_stop change.new_stop at.at less)
 
   made_here : IsText text
   made_here = made_text law before lengths insert text change is
@@ -67,17 +63,15 @@ module _ {first : List ℕ → Token} (law : IsGrammar first) (before lengths in
       ] in
       (more, sym (next_place law here here_text n (bound block n) refl more))
 
-  followed_early : (place : ℕ) → at.at ≤ place → place < change.new_stop → IsFollowed (tokens_by first before) change.new_stop (added_by change) (removed_by change) place at.back false
+  followed_early : (place : ℕ) → at.at ≤ place → place < change.new_stop → IsFollowed (tokens_by first before) change.old_stop change.new_stop place at.back false
   followed_early place le early_place = record {
-    bound_is = stands.followed.bound_is;
+    bound_is = stands.back_bound;
     below = below_later law before lengths insert text change is at stands place le;
     reached = λ far. absurd (omega arith);
-    met_is = early (tokens_by first before) change.new_stop (added_by change) (removed_by change) place early_place;
-    past_edit = λ e. absurd (true≢false (sym e));
-    same_place = λ e. absurd (true≢false (sym e));
+    met_is = early (tokens_by first before) change.old_stop change.new_stop place early_place;
   }
 
-  step_to : (n : ℕ) → n < length block → (on : Relexing) → on ≡ past_some n → Stands first before change text on → (to : Meeting) → (place : ℕ) → place ≡ at.at + bound block (n + 1) → IsFollowed (tokens_by first before) change.new_stop (added_by change) (removed_by change) place to.at to.met → (place < change.new_stop → to.at ≡ at.back)
+  step_to : (n : ℕ) → n < length block → (on : Relexing) → on ≡ past_some n → Stands first before change text on → (to : Meeting) → (place : ℕ) → place ≡ at.at + bound block (n + 1) → IsFollowed (tokens_by first before) change.old_stop change.new_stop place to.at to.met → (place < change.new_stop → to.at ≡ at.back)
       → Stands first before change text (record { front = at.front; lexed = at.lexed + (n + 1); back = to.at; at = place; met = to.met })
   step_to n few on e so to place at_place followed stays =
       let len = (step_len n few).1 in
@@ -85,7 +79,7 @@ module _ {first : List ℕ → Token} (law : IsGrammar first) (before lengths in
       let same : drop on.at text ≡ drop (bound block n) here = ap (λ (r : Relexing). drop r.at text) e ∙ (ap (λ k. drop k text) (omega arith) ∙ sym (drop-drop (bound block n) at.at text)) in
       let far : on.at + token.len ≡ place = omega (arith, ap (λ (r : Relexing). r.at) e, ap (λ (xs : List ℕ). (first xs).len) same, len, at_place) in
       let out : on.met ≡ false = ap (λ (r : Relexing). r.met) e in
-      let next = stands_next law before lengths insert text change is on so token to out refl (subst (λ p. IsFollowed (tokens_by first before) change.new_stop (added_by change) (removed_by change) p to.at to.met) (sym far) followed) (λ less. stays (omega arith) ∙ sym (ap (λ (r : Relexing). r.back) e)) in
+      let next = stands_next law before lengths insert text change is on so token to out refl (subst (λ p. IsFollowed (tokens_by first before) change.old_stop change.new_stop p to.at to.met) (sym far) followed) (λ less. stays (omega arith) ∙ sym (ap (λ (r : Relexing). r.back) e)) in
       let lexed : on.lexed + 1 ≡ at.lexed + (n + 1) = omega (arith, ap (λ (r : Relexing). r.lexed) e) in
       let front : on.front ≡ at.front = ap (λ (r : Relexing). r.front) e in
       let Now : Bound → ℕ → ℕ → Type 0 = λ f l p. Stands first before change text (record { front = f; lexed = l; back = to.at; at = p; met = to.met }) in
@@ -106,7 +100,7 @@ module _ {first : List ℕ → Token} (law : IsGrammar first) (before lengths in
       subst (λ k. Stands first before change text (past_some k)) (sym one) next
 
   -- where a room takes so many of them, relexing stands past the last
-  pub stands_filled : {X : Type 0} (written : Token → X) (room filled : List X) (count bytes : ℕ) (to : Meeting) → IsFilledTo written (change.new_stop - at.at) block room filled count → bytes ≡ bound block count → 0 < count → IsFollowed (tokens_by first before) change.new_stop (added_by change) (removed_by change) (at.at + bytes) to.at to.met → (at.at + bytes < change.new_stop → to.at ≡ at.back)
+  pub stands_filled : {X : Type 0} (written : Token → X) (room filled : List X) (count bytes : ℕ) (to : Meeting) → IsFilledTo written (change.new_stop - at.at) block room filled count → bytes ≡ bound block count → 0 < count → IsFollowed (tokens_by first before) change.old_stop change.new_stop (at.at + bytes) to.at to.met → (at.at + bytes < change.new_stop → to.at ≡ at.back)
       → Stands first before change text (record { front = at.front; lexed = at.lexed + count; back = to.at; at = at.at + bytes; met = to.met }) × (block ≡ drop (known at) (tokens_by first text))
   stands_filled written room filled zero bytes to is_filled bytes_is some followed stays = absurd (omega arith)
   stands_filled written room filled (suc n) bytes to is_filled bytes_is some followed stays =
@@ -206,7 +200,7 @@ pub one_step : {first : List ℕ → Token} (law : IsGrammar first) (text : List
 one_step {first} law text is past at token at' boundary step = step_more law text is past at at boundary 0 (no_step first text past at) token at' step
 
 -- and the other way round
-pub step_of : {first : List ℕ → Token} (law : IsGrammar first) (text : List ℕ) → IsText text → (past count : ℕ) (at : Relexing) (token : Token) (count' : ℕ) (at' : Relexing) → IsCharBoundary text at.at → TakesStep first text past count at (Some token) count' at' → IsStepTo first text past at token at'
+pub step_of : {first : List ℕ → Token} (law : IsGrammar first) (text : List ℕ) → IsText text → (past count : ℕ) (at : Relexing) (token : Token) (count' : ℕ) (at' : Relexing) → IsCharBoundary text at.at → (token ≡ first (drop at.at text)) × TakesSteps first text past at 1 at' × (count' ≡ count + 1) × (is_over text at ≡ false) → IsStepTo first text past at token at'
 step_of {first} law text is past count at token count' at' boundary step =
     let steps = step.1 in
     let rest : List ℕ = drop at.at text in

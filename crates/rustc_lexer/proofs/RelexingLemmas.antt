@@ -5,14 +5,13 @@ use Rattle.std.proofs.Math.Nat.{le-max_left, le-max_right, max-le}
 use Rattle.std.proofs.lemmas.Str.{IsUtf8-append, IsUtf8-drop, IsCharBoundary-at_seam, IsCharBoundary-from_drop}
 use Rattle.rustc_lexer.specs.declared.relex.relexing.Relexed.{Relexed}
 use Rattle.rustc_lexer.specs.declared.relex.front.Bound.{Bound}
-use Rattle.rustc_lexer.specs.declared.relex.front.Damage.{Damage}
 use Rattle.rustc_lexer.specs.declared.relex.front.Meeting.{Meeting}
 use Rattle.rustc_lexer.specs.declared.relex.relexing.Change.{Change}
 use Rattle.rustc_lexer.specs.declared.relex.relexing.Relexing.{Relexing}
 use Rattle.rustc_lexer.specs.declared.token.Token.{Token}
 use Rattle.rustc_lexer.specs.Tokens.{bound, tokens_by}
-use Rattle.rustc_lexer.specs.Edits.{apply, kept_front, IsEdit, least_from, meet, meets_at, relexed_of, IsBound, IsChange, IsFollowed, IsMadeOf, Stands, IsWhole, known}
-use Rattle.rustc_lexer.specs.means.Relexing.{IsFront, damage_of}
+use Rattle.rustc_lexer.specs.Edits.{apply, kept_front, IsEdit, least_from, meet, meets_at, relexed_of, IsBound, IsChange, IsMadeOf, Stands, IsWhole, known}
+use Rattle.rustc_lexer.specs.means.Relexing.{IsFollowed, IsFront, damage_of, old_stop_of}
 use Rattle.rustc_lexer.specs.Locality.{has_two, IsGrammar}
 use Rattle.rustc_lexer.specs.Classes.{IsText}
 use Rattle.rustc_lexer.proofs.BoundLemmas.{least_from_ge, bound-last}
@@ -41,21 +40,20 @@ least_from-skip test (suc n) k j le few = elim (eq-or-lt_of_le le) [
         let left : suc n - (j - k) ≡ n - (j - suc k) = omega arith in
         ap (λ n. least_from test n j) left ∙ ih (omega arith) h
 
-pub meet-skip : (old new : List Token) (past added removed k j : ℕ) → k ≤ j → j ≤ length new → j ≤ meet old new past added removed k → least_from (λ i. meets_at old past added removed (bound new i)) (length new - j) j ≡ meet old new past added removed k
+pub meet-skip : (old new : List Token) (old_stop new_stop k j : ℕ) → k ≤ j → j ≤ length new → j ≤ meet old new old_stop new_stop k → least_from (λ i. meets_at old old_stop new_stop (bound new i)) (length new - j) j ≡ meet old new old_stop new_stop k
 unfolding meet
-meet-skip old new past added removed k j le inside few =
-    let tests : ℕ → Bool = λ i. meets_at old past added removed (bound new i) in
+meet-skip old new old_stop new_stop k j le inside few =
+    let tests : ℕ → Bool = λ i. meets_at old old_stop new_stop (bound new i) in
     let left : length new - j ≡ (length new - k) - (j - k) = omega arith in
     ap (λ n. least_from tests n j) left ∙ least_from-skip tests (length new - k) k j le few
 
-pub meet_ge : (old new : List Token) (past added removed k : ℕ) → k ≤ meet old new past added removed k
+pub meet_ge : (old new : List Token) (old_stop new_stop k : ℕ) → k ≤ meet old new old_stop new_stop k
 unfolding meet
-meet_ge old new past added removed k = least_from_ge (λ i. meets_at old past added removed (bound new i)) (length new - k) k
+meet_ge old new old_stop new_stop k = least_from_ge (λ i. meets_at old old_stop new_stop (bound new i)) (length new - k) k
 
-damage_is : (change : Change) (insert : List ℕ) → change.new_stop ≡ change.start + length insert → damage_of change ≡ record { past = change.start + length insert; added = length insert; removed = change.old_stop - change.start }
-damage_is change insert e =
-    let added : change.new_stop - change.start ≡ length insert = omega arith in
-    rw (added, e) refl
+-- what a change did to a text ends where the change does
+pub damage_stop : (text : List ℕ) (change : Change) → IsChange text change → old_stop_of (damage_of change) ≡ change.old_stop
+damage_stop text change is = let a = is.start_le_old in let b = is.inserted.start_le_stop in omega arith
 
 module _ {first : List ℕ → Token} (law : IsGrammar first) (before lengths insert text : List ℕ) (change : Change) (is : IsMadeOf first before lengths change insert text) where
   abbrev pub old : List Token
@@ -63,9 +61,6 @@ module _ {first : List ℕ → Token} (law : IsGrammar first) (before lengths in
 
   abbrev pub new : List Token
   new = tokens_by first text
-
-  abbrev pub damage : Damage
-  damage = damage_of change
 
   ed : IsEdited before change.start change.old_stop insert (apply before change.start change.old_stop insert)
   ed = edited before change.start change.old_stop insert is.is_text is.inserted is.edit
@@ -93,27 +88,32 @@ module _ {first : List ℕ → Token} (law : IsGrammar first) (before lengths in
       let short : length (take change.start before) ≡ change.start = length-take-le change.start before (omega arith) in
       let back : IsUtf8 (drop change.old_stop before) = IsUtf8-drop before change.old_stop is.is_text.utf8 e.stop_boundary in
       let next : length (take change.start before ++ insert) ≡ change.new_stop = omega (arith, length-append (take change.start before) insert, short) in
+      let stop_boundary : IsCharBoundary text change.new_stop = subst (IsCharBoundary text) next (IsCharBoundary-at_seam text (take change.start before ++ insert) (drop change.old_stop before) (is.made ∙ sym (append_assoc (take change.start before) insert (drop change.old_stop before))) back) in
       record {
+        inserted = record {
+          start_le_stop = omega arith;
+          stop_inside = stop_boundary.0;
+          start_boundary = subst (IsCharBoundary text) short (IsCharBoundary-at_seam text (take change.start before) (insert ++ drop change.old_stop before) is.made (IsUtf8-append insert _ is.inserted back));
+          stop_boundary = stop_boundary;
+        };
         start_le_old = a;
         old_short = omega arith;
-        start_le_new = omega arith;
-        start_boundary = subst (IsCharBoundary text) short (IsCharBoundary-at_seam text (take change.start before) (insert ++ drop change.old_stop before) is.made (IsUtf8-append insert _ is.inserted back));
-        new_boundary = subst (IsCharBoundary text) next (IsCharBoundary-at_seam text (take change.start before ++ insert) (drop change.old_stop before) (is.made ∙ sym (append_assoc (take change.start before) insert (drop change.old_stop before))) back);
       }
 
   -- what lexing from the kept front asks
-  ready : (kept : Bound) → IsBound old kept → (0 < kept.number → has_two before kept.place change.start ≡ true) → IsReady first old text kept damage
+  ready : (kept : Bound) → IsBound old kept → (0 < kept.number → has_two before kept.place change.start ≡ true) → IsReady first old text kept change.start
   ready kept at two =
-      rw (damage_is change insert is.new_stop) (ready_for law before is.is_text change.start change.old_stop insert is.inserted is.edit old text kept refl is.made at.0 at.1 two)
+      ready_for law before is.is_text change.start change.old_stop insert is.inserted is.edit old text kept refl is.made at.0 at.1 two
 
   -- each bound before the kept front is before the edit
-  pub front_below : (kept : Bound) → IsBound old kept → (0 < kept.number → has_two before kept.place change.start ≡ true) → (k : ℕ) → k < kept.number → bound old k + damage.added < max damage.past kept.place + damage.removed
+  pub front_below : (kept : Bound) → IsBound old kept → (0 < kept.number → has_two before kept.place change.start ≡ true) → (k : ℕ) → k < kept.number → bound old k + change.new_stop < max change.new_stop kept.place + change.old_stop
   front_below kept at two k less =
       let b = (ready kept at two).kept_before k less in
-      let m = le-max_left damage.past kept.place in
+      let a = is.edit.inside.start_le_stop in
+      let m = le-max_left change.new_stop kept.place in
       omega arith
 
-  pub stands_first : (kept : Bound) (to : Meeting) → kept.number ≡ kept_front before old change.start → IsBound old kept → (0 < kept.number → has_two before kept.place change.start ≡ true) → IsFollowed old damage.past damage.added damage.removed kept.place to.at to.met → (kept.place < change.new_stop → to.at ≡ kept) → Stands first before change text record { front = kept; lexed = 0; back = to.at; at = kept.place; met = to.met }
+  pub stands_first : (kept : Bound) (to : Meeting) → kept.number ≡ kept_front before old change.start → IsBound old kept → (0 < kept.number → has_two before kept.place change.start ≡ true) → IsFollowed old change.old_stop change.new_stop kept.place to.at to.met → (kept.place < change.new_stop → to.at ≡ kept) → Stands first before change text record { front = kept; lexed = 0; back = to.at; at = kept.place; met = to.met }
   stands_first kept to number at two followed stays =
       let r = ready kept at two in
       let none : kept.number + 0 ≡ kept.number = omega arith in
@@ -123,9 +123,12 @@ module _ {first : List ℕ → Token} (law : IsGrammar first) (before lengths in
         front_same = r.kept_same;
         inside = omega (arith, r.kept_new);
         place = at.1 ∙ (bound-same kept.number old new r.kept_same ∙ ap (bound new) (sym none));
-        not_past = omega (arith, meet_ge old new damage.past damage.added damage.removed kept.number);
-        followed = followed;
+        not_past = omega (arith, meet_ge old new change.old_stop change.new_stop kept.number);
+        met_is = followed.met_is;
+        back_bound = followed.bound_is;
         not_begun = stays;
+        below = followed.below;
+        reached = followed.reached;
       }
 
   module _ (at : Relexing) (stands : Stands first before change text at) where
@@ -142,18 +145,17 @@ module _ {first : List ℕ → Token} (law : IsGrammar first) (before lengths in
       place_is = stands.place ∙ ap (bound new) (sym long);
     }
 
-    going : IsGoing first old text damage.past damage.added damage.removed at.front.number items at.at at.back.number at.back.place at.met
+    going : IsGoing first old text change.old_stop change.new_stop at.front.number items at.at at.back.number at.back.place at.met
     going = record {
       to = to;
       kept_le = omega (arith, long);
-      search = ap (λ n. least_from (test first old text damage.past damage.added damage.removed at.front.number) (length new - n) n) long
-          ∙ meet-skip old new damage.past damage.added damage.removed at.front.number (known at) (omega arith) stands.inside stands.not_past;
-      number_bound = stands.followed.bound_is.0;
-      place_is = stands.followed.bound_is.1;
-      below = stands.followed.below;
-      met_is = stands.followed.met_is;
-      past_edit = stands.followed.past_edit;
-      same_place = stands.followed.same_place;
+      search = ap (λ n. least_from (test first old text change.old_stop change.new_stop at.front.number) (length new - n) n) long
+          ∙ meet-skip old new change.old_stop change.new_stop at.front.number (known at) (omega arith) stands.inside stands.not_past;
+      number_bound = stands.back_bound.0;
+      place_is = stands.back_bound.1;
+      below = stands.below;
+      reached = stands.reached;
+      met_is = stands.met_is;
     }
 
     -- where the old tokens are not met, more text is left
@@ -165,10 +167,9 @@ module _ {first : List ℕ → Token} (law : IsGrammar first) (before lengths in
         let m : length text ≡ length (apply before change.start change.old_stop insert) = ap (λ (t : List ℕ). length t) is.made in
         let n = is.new_stop in
         let s : change.start + length insert ≤ length (apply before change.start change.old_stop insert) = start_inside law before change.start change.old_stop insert _ is.is_text is.edit ed in
-        let added : damage.added ≤ damage.past = omega arith in
-        let past : damage.past ≤ length text = omega arith in
-        let ends : bound old (length old) + damage.added ≡ length text + damage.removed = omega (arith, bound-last law before is.is_text) in
-        going_inside first old text damage.past damage.added damage.removed at.front.number law made_text items at.at at.back.number at.back.place at.met going added past ends out
+        let past : change.new_stop ≤ length text = omega arith in
+        let ends : bound old (length old) + change.new_stop ≡ length text + change.old_stop = omega (arith, bound-last law before is.is_text) in
+        going_inside first old text change.old_stop change.new_stop at.front.number law made_text items at.at at.back.number at.back.place at.met going past ends out
 
     -- at the end of the text they are met
     pub over_met : at.met ≡ false → eqb at.at (length text) ≡ at.met
@@ -179,26 +180,23 @@ module _ {first : List ℕ → Token} (law : IsGrammar first) (before lengths in
         by_test true same = absurd (let more = stands_inside out in let ends = eqb-true at.at (length text) same in omega arith)
 
     -- each bound that was passed is before a later place too
-    pub below_later : (later : ℕ) → at.at ≤ later → (k : ℕ) → k < at.back.number → bound old k + damage.added < max damage.past later + damage.removed
+    pub below_later : (later : ℕ) → at.at ≤ later → (k : ℕ) → k < at.back.number → bound old k + change.new_stop < max change.new_stop later + change.old_stop
     below_later later le k less =
-        let b = stands.followed.below k less in
-        let m : max damage.past at.at ≤ max damage.past later = max-le (le-max_left damage.past later) (omega (arith, le-max_right damage.past later)) in
+        let b = stands.below k less in
+        let m : max change.new_stop at.at ≤ max change.new_stop later = max-le (le-max_left change.new_stop later) (omega (arith, le-max_right change.new_stop later)) in
         omega arith
 
-    pub is_met : at.met ≡ true → IsMet first old text damage.past damage.added damage.removed at.front.number items at.back.number
-    is_met hit = going_met first old text damage.past damage.added damage.removed at.front.number items at.at at.back.number at.back.place at.met going hit
+    pub is_met : at.met ≡ true → IsMet first old text change.old_stop change.new_stop at.front.number items at.back.number
+    is_met hit = going_met first old text change.old_stop change.new_stop at.front.number items at.at at.back.number at.back.place at.met going hit
 
-    met_by : at.met ≡ true → IsMet first old text (change.start + length insert) (length insert) (change.old_stop - change.start) at.front.number items at.back.number
-    met_by hit =
-        let same : damage ≡ record { past = change.start + length insert; added = length insert; removed = change.old_stop - change.start } = damage_is change insert is.new_stop in
-        subst (λ (d : Damage). IsMet first old text d.past d.added d.removed at.front.number items at.back.number) same (is_met hit)
+    met_by : at.met ≡ true → IsMet first old text change.old_stop (change.start + length insert) at.front.number items at.back.number
+    met_by hit = subst (λ end. IsMet first old text change.old_stop end at.front.number items at.back.number) is.new_stop (is_met hit)
 
     -- no more was lexed than the whole edit lexes
     pub few_lexed : at.lexed ≤ (relexed_of first before change.start change.old_stop insert).lexed
     few_lexed =
-        let same : damage ≡ record { past = change.start + length insert; added = length insert; removed = change.old_stop - change.start } = damage_is change insert is.new_stop in
         let all = lexed_for law before is.is_text change.start change.old_stop insert is.inserted is.edit old text at.front.number refl is.made stands.front_number in
-        let few : known at ≤ meet old new (change.start + length insert) (length insert) (change.old_stop - change.start) at.front.number = subst (λ (d : Damage). known at ≤ meet old new d.past d.added d.removed at.front.number) same stands.not_past in
+        let few : known at ≤ meet old new change.old_stop (change.start + length insert) at.front.number = subst (λ end. known at ≤ meet old new change.old_stop end at.front.number) is.new_stop stands.not_past in
         omega arith
 
     -- at the meeting: the counts are those of the edit, and the new tokens are whole
@@ -216,14 +214,14 @@ module _ {first : List ℕ → Token} (law : IsGrammar first) (before lengths in
         )
 
     -- the tokens that were lexed for it, behind the kept front
-    pub lexed_met : (tokens : List Token) → at.met ≡ true → at.lexed ≡ length tokens → drop at.front.number new ≡ tokens ++ drop (known at) new → IsMet first old text (change.start + length insert) (length insert) (change.old_stop - change.start) at.front.number (take at.front.number old ++ tokens) at.back.number
+    pub lexed_met : (tokens : List Token) → at.met ≡ true → at.lexed ≡ length tokens → drop at.front.number new ≡ tokens ++ drop (known at) new → IsMet first old text change.old_stop (change.start + length insert) at.front.number (take at.front.number old ++ tokens) at.back.number
     lexed_met tokens hit lexed are =
         let here : take at.lexed (drop at.front.number new) ≡ tokens = ap (take at.lexed) are ∙ take_at tokens (drop (known at) new) at.lexed (sym lexed) in
         let split : items ≡ take at.front.number old ++ tokens = take-add at.front.number at.lexed new ∙ (ap (λ (ts : List Token). ts ++ take at.lexed (drop at.front.number new)) (sym stands.front_same) ∙ ap (λ (ts : List Token). take at.front.number old ++ ts) here) in
-        subst (λ (ts : List Token). IsMet first old text (change.start + length insert) (length insert) (change.old_stop - change.start) at.front.number ts at.back.number) split (met_by hit)
+        subst (λ (ts : List Token). IsMet first old text change.old_stop (change.start + length insert) at.front.number ts at.back.number) split (met_by hit)
 
     -- one token more
-    module _ (token : Token) (to_next : Meeting) (out : at.met ≡ false) (token_is : token ≡ first (drop at.at text)) (followed : IsFollowed old damage.past damage.added damage.removed (at.at + token.len) to_next.at to_next.met) (stays : at.at + token.len < change.new_stop → to_next.at ≡ at.back) where
+    module _ (token : Token) (to_next : Meeting) (out : at.met ≡ false) (token_is : token ≡ first (drop at.at text)) (followed : IsFollowed old change.old_stop change.new_stop (at.at + token.len) to_next.at to_next.met) (stays : at.at + token.len < change.new_stop → to_next.at ≡ at.back) where
       abbrev pub past_token : Relexing
       past_token = record { front = at.front; lexed = at.lexed + 1; back = to_next.at; at = at.at + token.len; met = to_next.met }
 
@@ -238,9 +236,12 @@ module _ {first : List ℕ → Token} (law : IsGrammar first) (before lengths in
             front_same = stands.front_same;
             inside = omega (arith, count, more.number);
             place = len ∙ (more.place_is ∙ ap (bound new) count);
-            not_past = omega (arith, long, going_least first old text damage.past damage.added damage.removed at.front.number law made_text items at.at at.back.number at.back.place at.met going out (stands_inside out));
-            followed = followed;
+            not_past = omega (arith, long, going_least first old text change.old_stop change.new_stop at.front.number law made_text items at.at at.back.number at.back.place at.met going out (stands_inside out));
+            met_is = followed.met_is;
+            back_bound = followed.bound_is;
             not_begun = λ early. stays early ∙ stands.not_begun (omega arith);
+            below = followed.below;
+            reached = followed.reached;
           }
 
       pub gives_next : drop (known at) new ≡ token ∷ drop (known past_token) new
@@ -262,8 +263,8 @@ step_place {first} law text at token is cut more token_is =
     let past : IsText left = record { utf8 = IsUtf8-drop text at is.utf8 cut; fits = (let f = is.fits in omega (arith, length-drop at text)) } in
     let some : 0 < length left = omega (arith, length-drop at text) in
     let len : token.len ≡ (first left).len = ap (λ (t : Token). t.len) token_is in
-    let inside : at + token.len ≤ length text = omega (arith, len, law.inside left past some, length-drop at text) in
-    let back : IsUtf8 (drop (at + token.len) text) = rw (← drop-drop token.len at text, len) (law.back left past some) in
+    let inside : at + token.len ≤ length text = omega (arith, len, (law.boundary left past some).0, length-drop at text) in
+    let back : IsUtf8 (drop (at + token.len) text) = rw (← drop-drop token.len at text, len) (IsUtf8-drop left _ past.utf8 (law.boundary left past some)) in
     (omega (arith, len, law.not_empty left past some), IsCharBoundary-from_drop text (at + token.len) inside back)
 
 -- where nothing was lexed, all tokens past the front are left

@@ -17,7 +17,7 @@ use Rattle.rustc_lexer.proofs.RelexingLemmas.{lexed_met}
 module _ {first : List ℕ → Token} (law : IsGrammar first) {text insert made : List ℕ} {start stop : ℕ} {tokens now : List Token} {at : Relexing} (e : tokens ≡ tokens_by first text)
     (is : IsMadeOf first text (map (λ (t : Token). t.len) tokens) (record { start = start; old_stop = stop; new_stop = start + length insert }) insert made)
     (renewed : IsRenewed first text record { start = start; old_stop = stop; new_stop = start + length insert } made tokens now at) where
-  is_met : IsMet first tokens made (start + length insert) (length insert) (stop - start) at.front.number (take at.front.number tokens ++ renewed.lexed) at.back.number
+  is_met : IsMet first tokens made stop (start + length insert) at.front.number (take at.front.number tokens ++ renewed.lexed) at.back.number
   is_met =
       let l = renewed.lexed_is in
       rw e (lexed_met law _ _ _ _ _ is at l.stands renewed.lexed l.met l.lexed l.tokens_are)
@@ -38,6 +38,6 @@ module _ {first : List ℕ → Token} (law : IsGrammar first) {text insert made 
   renewed_bounds landmarks are =
       let l = renewed.lexed_is in
       let front : IsBound tokens at.front = rw e l.stands.front_bound in
-      let back : IsBound tokens at.back = rw e l.stands.followed.bound_is in
+      let back : IsBound tokens at.back = rw e l.stands.back_bound in
       let place : at.at ≡ bound (tokens_by first made) (at.front.number + length renewed.lexed) = l.stands.place ∙ ap (λ n. bound (tokens_by first made) (at.front.number + n)) l.lexed in
       replaced_for law text is.is_text start stop insert is.inserted is.edit tokens made renewed.lexed now at.front at.back at.lexed at.at landmarks e is.made renewed.now_is l.lexed front.0 front.1 back.1 place is_met are

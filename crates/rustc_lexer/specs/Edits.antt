@@ -1,6 +1,6 @@
 -- What edits make of a text, what they keep of its tokens, and a text that is kept with its tokens; the same work where
 -- only the lengths of the old tokens are at hand.
-use Rattle.std.specs.Prelude.{ℕ, zero, suc, ◌+◌, ◌-◌, ◌<◌, ◌≤◌, ◌^◌, ◌&&◌, ◌||◌, Bool, cond, nat_le, nat_eq, List, [], ◌∷◌, ◌++◌, length, take, drop, IsCharBoundary, ◌≡◌, slice_get, IfSome, Option, Some, None, true, false, map, max}
+use Rattle.std.specs.Prelude.{ℕ, zero, suc, ◌+◌, ◌-◌, ◌<◌, ◌≤◌, ◌^◌, ◌&&◌, ◌||◌, Bool, cond, nat_le, nat_eq, List, [], ◌∷◌, ◌++◌, length, take, drop, IsCharBoundary, ◌≡◌, slice_get, IfSome, Option, Some, None, false, map, max, codes, decimal}
 use Rattle.std.specs.Str.{IsUtf8}
 use Rattle.rustc_lexer.specs.declared.relex.edit.Edit.{Edit}
 use Rattle.rustc_lexer.specs.declared.relex.edit_list.EditStop.{EditStop}
@@ -54,9 +54,10 @@ abbrev pub ends_past : List Token → ℕ → ℕ
 ends_past [] place = 0
 ends_past (t ∷ ts) place = cond (nat_le t.len place) (ends_past ts (place - t.len)) (suc (length ts))
 
--- whether bound j of the new tokens is past the edit and, moved back, a bound of the old ones
-abbrev pub meets_at : List Token → ℕ → ℕ → ℕ → ℕ → Bool
-meets_at old past added removed place = nat_le past place && is_bound old (place - added + removed)
+-- whether a place of the new text is past the edit, which ends at `new_stop` there and at `old_stop` in the old text,
+-- and, moved back, a bound of the old tokens
+abbrev pub meets_at : List Token → ℕ → ℕ → ℕ → Bool
+meets_at old old_stop new_stop place = nat_le new_stop place && is_bound old (place - new_stop + old_stop)
 
 -- the first number from j on that passes the test, of at most n
 abbrev pub least_from : (ℕ → Bool) → ℕ → ℕ → ℕ
@@ -64,17 +65,18 @@ least_from test zero j = j
 least_from test (suc n) j = cond (test j) j (least_from test n (suc j))
 
 -- the number of the bound of the new tokens at which lexing from bound k meets the old ones
-unfoldable pub meet : List Token → List Token → ℕ → ℕ → ℕ → ℕ → ℕ
-meet old new past added removed k = least_from (λ j. meets_at old past added removed (bound new j)) (length new - k) k
+unfoldable pub meet : List Token → List Token → ℕ → ℕ → ℕ → ℕ
+meet old new old_stop new_stop k = least_from (λ j. meets_at old old_stop new_stop (bound new j)) (length new - k) k
 
 -- what an edit keeps of the old tokens, and how many it lexes
 unfoldable pub relexed_of : (List ℕ → Token) → List ℕ → ℕ → ℕ → List ℕ → Relexed
 relexed_of first text start stop insert =
     let old : List Token = tokens_by first text in
     let new : List Token = tokens_by first (apply text start stop insert) in
+    let new_stop : ℕ = start + length insert in
     let k : ℕ = kept_front text old start in
-    let j : ℕ = meet old new (start + length insert) (length insert) (stop - start) k in
-    record { kept_front = k; lexed = j - k; kept_back = ends_past old (bound new j - length insert + (stop - start)) }
+    let j : ℕ = meet old new stop new_stop k in
+    record { kept_front = k; lexed = j - k; kept_back = ends_past old (bound new j - new_stop + stop) }
 
 -- ---- lists of edits
 
@@ -101,6 +103,12 @@ abbrev pub stop_at : EditStop → ℕ
 stop_at (Range at) = at
 stop_at (TooLong at) = at
 stop_at (Memory at) = at
+
+-- what is written of it
+abbrev pub stop_text : EditStop → List ℕ
+stop_text (Range at) = codes "edit " ++ (decimal at ++ codes ": bad range")
+stop_text (TooLong at) = codes "edit " ++ (decimal at ++ codes ": text too long")
+stop_text (Memory at) = codes "edit " ++ (decimal at ++ codes ": no memory")
 
 -- why an edit is refused on the present text
 abbrev pub IsRefusedOn : EditStop → List ℕ → Edit → Type 0
@@ -143,31 +151,12 @@ pieces_from text start (token ∷ tokens) = record { start = start; token = toke
 abbrev pub pieces_of : List ℕ → List Token → List Placed
 pieces_of text tokens = pieces_from text 0 tokens
 
--- the text, and the tokens that are left with the place of the first
-pub record Left : Type 0 where
-  pub text : List ℕ
-  pub start : ℕ
-  pub tokens : List Token
-
-abbrev pub pieces_left : Left → List Placed
-pieces_left s = pieces_from s.text s.start s.tokens
-
--- the piece is the first of those that are left: its text is the slice of the whole text at its place, which is inside,
--- and what is left begins at its end
-pub record TakesPiece (s : Left) (piece : Piece) (t : Left) : Type 0 where
-  pub first : pieces_left s ≡ placed piece ∷ pieces_left t
-  pub start : piece.start ≡ s.start
-  pub text : piece.text.now ≡ take piece.token.len (drop piece.start s.text)
-  pub len : length piece.text.now ≡ piece.token.len
-  pub inside : piece.start + piece.token.len ≤ length s.text
-  pub fits : length s.text < 2 ^ 32
-  pub past : t.start ≡ piece.start + piece.token.len
-  pub whole : t.text ≡ s.text
-
--- what `next` does: where no piece is left it gives none and changes nothing; else it takes one
-abbrev pub YieldsPiece : Left → Option Piece → Left → Type 0
-YieldsPiece s None t = (pieces_left s ≡ []) × (t ≡ s)
-YieldsPiece s (Some piece) t = TakesPiece s piece t
+-- what `next` does: where no piece is left it gives none and changes nothing; else it takes the first, whose text is as
+-- long as its token, and whose end is below 2 ^ 32
+abbrev pub YieldsPiece : List Placed → Option Piece → List Placed → Type 0
+YieldsPiece s None t = (s ≡ []) × (t ≡ s)
+YieldsPiece s (Some piece) t =
+    (s ≡ placed piece ∷ t) × (length piece.text.now ≡ piece.token.len) × (piece.start + piece.token.len < 2 ^ 32)
 
 -- ---- relexing on lists of a caller's own, of which only the lengths are at hand
 
@@ -175,25 +164,12 @@ YieldsPiece s (Some piece) t = TakesPiece s piece t
 abbrev pub IsBound : List Token → Bound → Type 0
 IsBound tokens at = (at.number ≤ length tokens) × (at.place ≡ bound tokens at.number)
 
--- a place of the new text was followed to a bound of the old tokens, before which none was met; and whether it meets
--- it. The edit ends at `past` in the new text, where `added` bytes stand for `removed`. From there on the bound is the
--- first that is not before the place, moved back, or the last one
-pub record IsFollowed (old : List Token) (past added removed place : ℕ) (back : Bound) (met : Bool) : Type 0 where
-  pub bound_is : IsBound old back
-  pub below : (k : ℕ) → k < back.number → bound old k + added < max past place + removed
-  pub reached : past ≤ place → back.number < length old → place - added + removed ≤ back.place
-  pub met_is : met ≡ meets_at old past added removed place
-  pub past_edit : met ≡ true → past ≤ place
-  pub same_place : met ≡ true → back.place ≡ place - added + removed
-
--- the change may have made the text: its places are in order, the old one is below 2 ^ 32, and what it put in lies
--- inside the text, between characters
+-- the change may have made the text: what it put in lies inside the text, and its old places are in order and below
+-- 2 ^ 32
 pub record IsChange (text : List ℕ) (change : Change) : Type 0 where
+  pub inserted : IsInside text change.start change.new_stop
   pub start_le_old : change.start ≤ change.old_stop
   pub old_short : change.old_stop < 2 ^ 32
-  pub start_le_new : change.start ≤ change.new_stop
-  pub start_boundary : IsCharBoundary text change.start
-  pub new_boundary : IsCharBoundary text change.new_stop
 
 -- the change made the text of `old`, whose tokens have the lengths, by putting in `insert`
 pub record IsMadeOf (first : List ℕ → Token) (old lengths : List ℕ) (change : Change) (insert text : List ℕ) : Type 0 where
@@ -216,17 +192,24 @@ pub record MayGoOn (text : List ℕ) (count : ℕ) (at : Relexing) : Type 0 wher
 abbrev pub known : Relexing → ℕ
 known at = at.front.number + at.lexed
 
--- relexing stands at a bound of the new tokens, past the kept front and not past the meeting. Before the end of the
--- edit no old token behind the kept front was followed
+-- relexing stands at a bound of the new tokens, past the kept front and not past the meeting. Its bound of the old
+-- tokens is the kept front before the end of the edit, and then the first that is not before its place, moved back, or
+-- the last one
 pub record Stands (first : List ℕ → Token) (old : List ℕ) (change : Change) (text : List ℕ) (at : Relexing) : Type 0 where
   pub front_number : at.front.number ≡ kept_front old (tokens_by first old) change.start
   pub front_bound : IsBound (tokens_by first old) at.front
   pub front_same : take at.front.number (tokens_by first old) ≡ take at.front.number (tokens_by first text)
   pub inside : known at ≤ length (tokens_by first text)
   pub place : at.at ≡ bound (tokens_by first text) (known at)
-  pub not_past : known at ≤ meet (tokens_by first old) (tokens_by first text) change.new_stop (change.new_stop - change.start) (change.old_stop - change.start) at.front.number
-  pub followed : IsFollowed (tokens_by first old) change.new_stop (change.new_stop - change.start) (change.old_stop - change.start) at.at at.back at.met
+  pub not_past : known at
+      ≤ meet (tokens_by first old) (tokens_by first text) change.old_stop change.new_stop at.front.number
+  pub met_is : at.met ≡ meets_at (tokens_by first old) change.old_stop change.new_stop at.at
+  pub back_bound : IsBound (tokens_by first old) at.back
   pub not_begun : at.at < change.new_stop → at.back ≡ at.front
+  pub below : (k : ℕ) → k < at.back.number
+      → bound (tokens_by first old) k + change.new_stop < max change.new_stop at.at + change.old_stop
+  pub reached : change.new_stop ≤ at.at → at.back.number < length (tokens_by first old)
+      → at.at - change.new_stop + change.old_stop ≤ at.back.place
 
 -- the old tokens are met, or no text is left
 abbrev pub is_over : List ℕ → Relexing → Bool
@@ -243,22 +226,11 @@ pub record TakesSteps (first : List ℕ → Token) (text : List ℕ) (past : ℕ
   pub same_back : at'.at < past → at'.back ≡ at.back
   pub not_met : 0 < count → at'.at < past → at'.met ≡ false
 
--- what `next` does: nothing, where relexing is over, or else one step of the stepper, whose token is the first of the
--- text that is left there
-abbrev pub TakesStep : (List ℕ → Token) → List ℕ → ℕ → ℕ → Relexing → Option Token → ℕ → Relexing → Type 0
-TakesStep first text past count at None count' at' = (at' ≡ at) × (count' ≡ count) × (is_over text at ≡ true)
-TakesStep first text past count at (Some token) count' at' = (token ≡ first (drop at.at text)) × TakesSteps first text past at 1 at' × (count' ≡ count + 1) × (is_over text at ≡ false)
-
 -- of each old text of which the old tokens have the lengths, and of which the change made this one: relexing that
 -- stands there before stands there after, and the text that was left has the tokens that were still to come
 abbrev pub GoesOn : (List ℕ → Token) → List ℕ → List ℕ → Change → Relexing → Relexing → Type 0
 GoesOn first lengths text change at at' = (before insert : List ℕ) → IsMadeOf first before lengths change insert text → Stands first before change text at
     → Stands first before change text at' × (tokens_by first (drop at.at text) ≡ drop (known at) (tokens_by first text))
-
--- what it gives is the next of the tokens, and nothing only where the old ones are met
-abbrev pub GivesNext : List Token → Relexing → Option Token → Relexing → Type 0
-GivesNext tokens at None at' = at'.met ≡ true
-GivesNext tokens at (Some token) at' = drop (known at) tokens ≡ token ∷ drop (known at') tokens
 
 -- the kept front, the tokens that were lexed and the old ones behind the meeting are the new tokens
 abbrev pub IsWhole : List Token → List Token → Relexing → Type 0

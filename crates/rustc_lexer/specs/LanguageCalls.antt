@@ -2,8 +2,6 @@
 -- are characters where nothing else is said, and places are in bytes.
 use Rattle.std.specs.Prelude.{◌≡◌, ◌==◌, ◌+◌, ◌-◌, ◌<◌, ◌≤◌, ℕ, suc, Bool, true, false, [], ◌∷◌, ◌++◌, length, drop, codes, Option, Some, None, Result, Ok, Err, List, decimal}
 use Rattle.std.specs.Str.{byte, chars}
-use Rattle.rustc_lexer.specs.declared.relex.edit_list.EditStop.{EditStop}
-use Rattle.rustc_lexer.specs.declared.relex.edit_list.EditStop.TheVariants.{Range, TooLong, Memory}
 use Rattle.rustc_lexer.specs.declared.token.LiteralKind.{LiteralKind}
 use Rattle.rustc_lexer.specs.declared.token.LiteralKind.TheVariants.{Int, Float, Char, Byte, Str, ByteStr, CStr, RawStr, RawByteStr, RawCStr}
 use Rattle.rustc_lexer.specs.declared.token.RawStrError.{RawStrError}
@@ -43,7 +41,13 @@ pub data IsRawAnswer (p : ℕ) : Chars → Result Unit RawStrError → Type 0 wh
       → IsRawAnswer p (hashes n ++ c ∷ next) (Err (InvalidStarter c))
   no_more : (n : ℕ) → IsRawAnswer p (hashes n) (Err (InvalidStarter 0))
 
--- ---- guarded strings
+-- what is written of it
+abbrev pub raw_str_text : RawStrError → List ℕ
+raw_str_text (InvalidStarter bad_char) = codes "no hash or quote opens the raw string"
+raw_str_text (NoTerminator expected found offset) = codes "no quote with " ++ (decimal expected ++ codes " hashes closes the raw string")
+raw_str_text (TooManyDelimiters found) = codes "the raw string has " ++ (decimal found ++ codes " hashes on each side, and 255 are the most")
+
+-- ---- guarded strings and shebang lines
 
 -- n hashes, a double-quoted string, and if it is closed k ≤ n hashes, all that stand there if they are fewer, and a
 -- suffix: `##"a"##s`, `##"a"#`
@@ -52,8 +56,6 @@ pub data IsGuardedBefore (next : Chars) : (n : ℕ) → (terminated : Bool) → 
       → k ≤ n → (k < n → NextNotIn (codes "#") (suffix ++ next)) → IsSuffixBefore next suffix
       → IsGuardedBefore next n true (hashes n ++ (byte "\"" ∷ w ++ (hashes k ++ suffix)))
   unclosed : (n : ℕ) {w : Chars} → IsDoubleQuoted next false w → IsGuardedBefore next n false (hashes n ++ (byte "\"" ∷ w))
-
--- ---- shebang lines
 
 -- what makes an attribute of `#!`: a bracket, behind white space and comments that are no docs
 pub data IsAttributeRest : Chars → Type 0 where
@@ -79,24 +81,10 @@ pub data IsShebang (text : Utf8) : Option ℕ → Type 0 where
   attribute : (rest : Utf8) → text ≡ codes "#!" ++ rest → IsAttributeRest (chars rest) → IsShebang text None
   no_start : begins (codes "#!") text ≡ false → IsShebang text None
 
--- ---- what is written of an error
+-- ---- kinds
 
--- why a list of edits stopped, and at which of them
-abbrev pub stop_text : EditStop → List ℕ
-stop_text (Range at) = codes "edit " ++ (decimal at ++ codes ": bad range")
-stop_text (TooLong at) = codes "edit " ++ (decimal at ++ codes ": text too long")
-stop_text (Memory at) = codes "edit " ++ (decimal at ++ codes ": no memory")
-
--- why a raw string is refused
-abbrev pub raw_str_text : RawStrError → List ℕ
-raw_str_text (InvalidStarter bad_char) = codes "no hash or quote opens the raw string"
-raw_str_text (NoTerminator expected found offset) = codes "no quote with " ++ (decimal expected ++ codes " hashes closes the raw string")
-raw_str_text (TooManyDelimiters found) = codes "the raw string has " ++ (decimal found ++ codes " hashes on each side, and 255 are the most")
-
--- ---- the number and the name of each kind. The name is that of the variant. The number is fixed:
--- a new kind gets a new one, and none has 0
-
--- the table of the kinds of tokens
+-- the number of a kind, for other languages, and its name, which is that of the variant. The number is fixed: a new
+-- kind gets a new one, and none has 0
 unfoldable pub kind_entry : TokenKind → ℕ × List ℕ
 kind_entry (LineComment doc_style) = (1, codes "LineComment")
 kind_entry (BlockComment doc_style terminated) = (2, codes "BlockComment")
@@ -142,7 +130,7 @@ kind_entry Percent = (41, codes "Percent")
 kind_entry Unknown = (42, codes "Unknown")
 kind_entry Eof = (43, codes "Eof")
 
--- the table of the kinds of literals
+-- the same of the kinds of literals
 unfoldable pub literal_entry : LiteralKind → ℕ × List ℕ
 literal_entry (Int base empty_int) = (1, codes "Int")
 literal_entry (Float base empty_exponent) = (2, codes "Float")
@@ -154,16 +142,3 @@ literal_entry (CStr terminated) = (7, codes "CStr")
 literal_entry (RawStr n_hashes) = (8, codes "RawStr")
 literal_entry (RawByteStr n_hashes) = (9, codes "RawByteStr")
 literal_entry (RawCStr n_hashes) = (10, codes "RawCStr")
-
--- a kind has a number for other languages, and a name
-abbrev pub kind_number : TokenKind → ℕ
-kind_number kind = (kind_entry kind).0
-
-abbrev pub kind_name : TokenKind → List ℕ
-kind_name kind = (kind_entry kind).1
-
-abbrev pub literal_number : LiteralKind → ℕ
-literal_number kind = (literal_entry kind).0
-
-abbrev pub literal_name : LiteralKind → List ℕ
-literal_name kind = (literal_entry kind).1

@@ -21,34 +21,25 @@ use Rattle.rustc_lexer.specs.LanguageText.{Mode, part, AreTokens, TheOnly, IsTok
 use Rattle.rustc_lexer.specs.Locality.{tokens_by}
 use Rattle.rustc_lexer.specs.State.{IsFirst}
 
--- ---- one token
-
 -- the characters begin with a token of this kind and text
 abbrev pub BeginsWith : Chars → TokenKind × Chars → Type 0
 BeginsWith s (kind, w) = (next : Chars) × (s ≡ w ++ next) × IsTokenBefore next kind w
-
--- ---- how far a token looks
 
 -- whether a name of two characters or more stands between quotes: `'ab'`
 abbrev pub is_long_char : Chars → Bool
 is_long_char w = next_is is_name_start (drop 1 w) && not (next_is (is_among (codes "'")) (drop 2 w))
 
--- an integer: a dot, and what is no fraction; `'` and `b'` that no quote closes: a slash or a newline, and what comes
--- next; a long name between quotes: nothing. Else a suffix, a digit, a sign or the end of the text
-abbrev pub literal_reach : LiteralKind → Chars → ℕ
-literal_reach (Int base empty_int) w = 2
-literal_reach (Float base empty_exponent) w = 1
-literal_reach (Char false) w = 2
-literal_reach (Byte false) w = 2
-literal_reach (Char true) w = if is_long_char w then 0 else 1
-literal_reach kind w = 1
-
--- the prefixes `k` and `'r`: a hash, and what begins no identifier. Symbols, closed block comments and what a guarded
--- string begins with look at nothing
+-- how far a token looks. The prefixes `k` and `'r`: a hash, and what begins no identifier; an integer: a dot, and what
+-- is no fraction; `'` and `b'` that no quote closes: a slash or a newline, and what comes next. A long name between
+-- quotes, symbols, closed block comments and what a guarded string begins with look at nothing
 abbrev pub reach : TokenKind → Chars → ℕ
 reach UnknownPrefix w = if bytes_eq w (codes "k") then 2 else 1
 reach UnknownPrefixLifetime w = if bytes_eq w (codes "'r") then 2 else 1
-reach (Literal kind suffix_start) w = literal_reach kind w
+reach (Literal (Int base empty_int) suffix_start) w = 2
+reach (Literal (Char false) suffix_start) w = 2
+reach (Literal (Byte false) suffix_start) w = 2
+reach (Literal (Char true) suffix_start) w = if is_long_char w then 0 else 1
+reach (Literal kind suffix_start) w = 1
 reach Eof w = 1
 reach Whitespace w = 1
 reach (LineComment style) w = 1
@@ -69,8 +60,6 @@ is_refused (RawStr None) = true
 is_refused (RawByteStr None) = true
 is_refused (RawCStr None) = true
 is_refused kind = false
-
--- ---- and no less
 
 -- two texts that one character less does not tell apart: the token stands before the first alone
 pub record Needs (kind : TokenKind) (w : Chars) : Type 0 where
@@ -101,8 +90,6 @@ NoneLooksLess =
     × Needs (Literal (RawByteStr (Some 0)) 4) (codes "br\"\"") × Needs (Literal (RawByteStr None) 3) (codes "br\"")
     × Needs (Literal (RawCStr (Some 0)) 4) (codes "cr\"\"") × Needs (Literal (RawCStr None) 3) (codes "cr\"")
     × Needs Slash (codes "/") × Needs Pound (codes "#")
-
--- ---- the laws
 
 pub record TheLaws : Type 0 where
   -- a text has one list of tokens, as a document and as a part in each edition, and the page allows no other

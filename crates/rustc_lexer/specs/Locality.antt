@@ -1,10 +1,8 @@
 -- A text cut into tokens, what one token may depend on, and how far the tokens of a text are sure.
 use Rattle.std.specs.Prelude.{ℕ, zero, suc, ◌≡◌, ◌+◌, ◌<◌, ◌≤◌, List, [], ◌∷◌, length, drop, All, IsCharBoundary, ◌-◌, Bool, true, nat_le, ◌++◌, take}
-use Rattle.std.specs.Str.{chars, IsUtf8}
+use Rattle.std.specs.Str.{chars}
 use Rattle.rustc_lexer.specs.declared.token.Token.{Token}
 use Rattle.rustc_lexer.specs.Classes.{IsText}
-
--- ---- cuts and their bounds
 
 -- the first `count` tokens of a text, by a grammar, which tells the first token of each text
 abbrev pub cut_by : (List ℕ → Token) → ℕ → List ℕ → List Token
@@ -28,8 +26,6 @@ pub record Partitions (text : List ℕ) (tokens : List Token) : Type 0 where
   pub boundaries : (k : ℕ) → k ≤ length tokens → IsCharBoundary text (bound tokens k)
   pub whole : bound tokens (length tokens) ≡ length text
 
--- ---- what one token may depend on
-
 -- the two texts agree below `place`, and in the two characters past it, or in how they end there
 pub record AgreePast (place : ℕ) (text other : List ℕ) : Type 0 where
   pub below : take place text ≡ take place other
@@ -39,12 +35,8 @@ pub record AgreePast (place : ℕ) (text other : List ℕ) : Type 0 where
 -- its end
 pub record IsGrammar (first : List ℕ → Token) : Type 0 where
   pub not_empty : (text : List ℕ) → IsText text → 0 < length text → 0 < (first text).len
-  pub inside : (text : List ℕ) → IsText text → 0 < length text → (first text).len ≤ length text
-  pub front : (text : List ℕ) → IsText text → 0 < length text → IsUtf8 (take (first text).len text)
-  pub back : (text : List ℕ) → IsText text → 0 < length text → IsUtf8 (drop (first text).len text)
+  pub boundary : (text : List ℕ) → IsText text → 0 < length text → IsCharBoundary text (first text).len
   pub local : (text other : List ℕ) → IsText text → IsText other → 0 < length text → AgreePast (first text).len text other → first other ≡ first text
-
--- ---- the tokens of a text
 
 -- whether at least two characters stand from `from` up to `to`
 unfoldable pub has_two : List ℕ → ℕ → ℕ → Bool

@@ -33,8 +33,6 @@ suffix_start_of kind = 0
 abbrev pub HasSuffixWithin : Token → Type 0
 HasSuffixWithin token = suffix_start_of token.kind ≤ token.len
 
--- ---- what calls take
-
 -- the token is the first one of the text, read as a part in an edition
 abbrev pub IsFirst : Edition → Utf8 → Token → Type 0
 IsFirst edition text token = (tokens : List Token) × AreTokens (part edition) (chars text) (token ∷ tokens)

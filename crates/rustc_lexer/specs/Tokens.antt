@@ -1,6 +1,5 @@
 -- The tokens of a text, and what the calls that take them do.
-use Rattle.std.specs.Prelude.{ℕ, ◌≡◌, ◌↔◌, ◌-◌, ◌<◌, ◌≤◌, List, [], ◌∷◌, length, take, drop, IsCharBoundary, Option, IsSome, Some, None, Ok, zero, suc, Bool, true, false, ◌++◌, map, min}
-use Rattle.std.specs.Str.{chars}
+use Rattle.std.specs.Prelude.{ℕ, ◌≡◌, ◌↔◌, ◌<◌, ◌≤◌, List, [], ◌∷◌, length, take, drop, IsCharBoundary, Option, IsSome, Some, None, Ok, zero, suc, Bool, true, false, ◌++◌, map}
 use Rattle.rustc_lexer.specs.declared.edition.Edition.{Edition}
 use Rattle.rustc_lexer.specs.declared.token.LiteralKind.TheVariants.{RawStr, RawByteStr, RawCStr}
 use Rattle.rustc_lexer.specs.declared.token.Token.{Token}
@@ -9,7 +8,7 @@ use Rattle.rustc_lexer.specs.declared.token.TokenKind.TheVariants.{Literal, Eof,
 use Rattle.rustc_lexer.specs.Answers.{advance, raw_check}
 pub use Rattle.rustc_lexer.specs.Answers.{tokens_of}
 use Rattle.rustc_lexer.specs.LanguageCalls.{StartsRaw}
-use Rattle.rustc_lexer.specs.LanguageText.{AreTokens, part, mode_edition, mode_after}
+use Rattle.rustc_lexer.specs.LanguageText.{part, mode_edition, mode_after}
 pub use Rattle.rustc_lexer.specs.Locality.{cut_by, tokens_by, bound, Partitions}
 use Rattle.rustc_lexer.specs.State.{State, token_past}
 
@@ -39,20 +38,13 @@ abbrev pub YieldsToken : State → Option Token → State → Type 0
 YieldsToken s None t = (tokens_left s ≡ []) × (t ≡ s)
 YieldsToken s (Some token) t = TakesToken s token t
 
--- a cursor that has text left takes the first of the tokens that the language allows there, a frontmatter where one
--- opens, with the bytes that were pending before it; the others are left. Past those bytes it is not empty, ends
--- between characters, and is taken off the text
+-- a cursor that has text left takes what it takes with nothing pending, and the bytes that were pending before it
 pub record TakesFirst (s : State) (token : Token) (t : State) : Type 0 where
   pub taken : Token
+  pub takes : TakesToken (record s { pending = 0 }) taken t
   pub with_pending : token ≡ token_past s.pending taken
-  pub tokens : AreTokens s.mode (chars s.rest) (taken ∷ tokens_left t)
-  pub first : s.pending ≡ 0 → tokens_left s ≡ token ∷ tokens_left t
-  pub not_empty : s.pending < token.len
-  pub boundary : IsCharBoundary s.rest (token.len - s.pending)
-  pub rest : t.rest ≡ drop (token.len - s.pending) s.rest
-  pub pending : t.pending ≡ 0
-
--- ---- what the kind of a token says of its own text, beside the page
+  pub alone : s.pending ≡ 0 → token ≡ taken
+  pub none_pending : t.pending ≡ 0
 
 -- the text may be checked, and the check accepts it exactly where the number of hashes is there
 abbrev pub IsChecked : ℕ → List ℕ → Option ℕ → Type 0
@@ -71,8 +63,6 @@ abbrev pub HaveTexts : List ℕ → List Token → Type 0
 HaveTexts text [] = Unit {0}
 HaveTexts text (token ∷ tokens) = HasText token.kind (take token.len text) × HaveTexts (drop token.len text) tokens
 
--- ---- many tokens at once, written into a room
-
 -- whether tokens of the kind differ in more than their length
 abbrev pub has_fields : TokenKind → Bool
 has_fields (LineComment doc_style) = true
@@ -82,14 +72,8 @@ has_fields (Literal kind suffix_start) = true
 has_fields (Lifetime starts_with_number) = true
 has_fields kind = false
 
--- the room holds the first of the tokens at its front, each as it is written: as many as there are, or as there is room
--- for; the rest of the room stays
-pub record IsFilled {X : Type 0} (written : Token → X) (left : List Token) (room filled : List X) (count : ℕ) : Type 0 where
-  pub as_many : count ≡ min (length room) (length left)
-  pub tokens : filled ≡ map written (take count left) ++ drop count room
-
--- the same of the tokens that begin before a place: each of those does, and where there is room for one more, it does
--- not
+-- the room holds the first of the tokens at its front, each as it is written, and the rest of it stays. They are those
+-- that begin before a place: each of them does, and where there is room for one more, it does not
 pub record IsFilledTo {X : Type 0} (written : Token → X) (end : ℕ) (left : List Token) (room filled : List X) (count : ℕ) : Type 0 where
   pub few : count ≤ length left
   pub within : count ≤ length room

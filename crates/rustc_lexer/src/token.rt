@@ -1,6 +1,6 @@
 //! Tokens: what each is, and how long.
 ghost use Rattle.std.specs.Prelude.{◌≡◌, Some};
-ghost use Rattle.rustc_lexer.specs.LanguageCalls.{raw_str_text, kind_name, kind_number, literal_name, literal_number};
+ghost use Rattle.rustc_lexer.specs.LanguageCalls.{raw_str_text, kind_entry, literal_entry};
 
 use std::error::Error;
 use std::fmt;
@@ -150,7 +150,7 @@ impl TokenKind {
     /// The name of the kind, which is that of its variant, such as `Ident`.
     #[tactic(auto, unfolding(crate::specs::LanguageCalls::kind_entry))]
     pub fn name(self) -> &'static str
-        ensures { result.now ≡ kind_name self }
+        ensures { result.now ≡ (kind_entry self).1 }
     {
         match self {
             TokenKind::LineComment { .. } => "LineComment",
@@ -203,7 +203,7 @@ impl TokenKind {
     #[inline(always)]
     #[tactic(auto, unfolding(crate::specs::LanguageCalls::kind_entry))]
     pub fn number(self) -> u8
-        ensures { result ≡ kind_number self }
+        ensures { result ≡ (kind_entry self).0 }
     {
         match self {
             TokenKind::LineComment { .. } => 1,
@@ -329,7 +329,7 @@ impl LiteralKind {
     /// The name of the kind, which is that of its variant, such as `Int`.
     #[tactic(auto, unfolding(crate::specs::LanguageCalls::literal_entry))]
     pub fn name(self) -> &'static str
-        ensures { result.now ≡ literal_name self }
+        ensures { result.now ≡ (literal_entry self).1 }
     {
         match self {
             LiteralKind::Int { .. } => "Int",
@@ -349,7 +349,7 @@ impl LiteralKind {
     #[inline(always)]
     #[tactic(auto, unfolding(crate::specs::LanguageCalls::literal_entry))]
     pub fn number(self) -> u8
-        ensures { result ≡ literal_number self }
+        ensures { result ≡ (literal_entry self).0 }
     {
         match self {
             LiteralKind::Int { .. } => 1,

@@ -6,7 +6,8 @@ use Rattle.std.proofs.Math.Nat.{min-le_right}
 use Rattle.rustc_lexer.specs.declared.edition.Edition.TheVariants.{E2024}
 use Rattle.rustc_lexer.specs.declared.token.FrontmatterAllowed.{FrontmatterAllowed}
 use Rattle.rustc_lexer.specs.declared.token.FrontmatterAllowed.TheVariants.{Yes, No}
-use Rattle.rustc_lexer.specs.Tokens.{IsFilled, bound, tokens_of, tokens_left}
+use Rattle.rustc_lexer.specs.Tokens.{bound, tokens_of, tokens_left}
+use Rattle.rustc_lexer.specs.means.Tokens.{IsFilled}
 use Rattle.rustc_lexer.specs.LanguageText.{Mode, mode_edition, mode_in, mode_of}
 use Rattle.rustc_lexer.specs.Classes.{IsText}
 use Rattle.rustc_lexer.specs.State.{State}

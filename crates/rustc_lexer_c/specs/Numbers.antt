@@ -9,7 +9,7 @@ use Rattle.rustc_lexer.specs.declared.token.LiteralKind.TheVariants.{Int, Float,
 use Rattle.rustc_lexer.specs.declared.token.Token.{Token}
 use Rattle.rustc_lexer.specs.declared.token.TokenKind.{TokenKind}
 use Rattle.rustc_lexer.specs.declared.token.TokenKind.TheVariants.{LineComment, BlockComment, Frontmatter, Literal, Lifetime}
-pub use Rattle.rustc_lexer.specs.LanguageCalls.{kind_number, literal_number}
+use Rattle.rustc_lexer.specs.LanguageCalls.{kind_entry, literal_entry}
 use Rattle.rustc_lexer.specs.State.{suffix_start_of}
 use Rattle.rustc_lexer_c.specs.declared.token.CToken.{CToken}
 
@@ -64,7 +64,7 @@ unfoldable pub first_of : TokenKind → ℕ
 first_of (LineComment doc_style) = style_number doc_style
 first_of (BlockComment doc_style terminated) = style_number doc_style
 first_of (Frontmatter has_invalid_preceding_whitespace invalid_infostring) = bool_number has_invalid_preceding_whitespace
-first_of (Literal kind suffix_start) = literal_number kind
+first_of (Literal kind suffix_start) = (literal_entry kind).0
 first_of (Lifetime starts_with_number) = bool_number starts_with_number
 first_of kind = 0
 
@@ -81,7 +81,7 @@ third_of kind = 0
 -- a token as numbers
 unfoldable pub token_numbers : Token → CToken
 token_numbers token = record {
-  kind = kind_number token.kind;
+  kind = (kind_entry token.kind).0;
   first = first_of token.kind;
   second = second_of token.kind;
   third = third_of token.kind;

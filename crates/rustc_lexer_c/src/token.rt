@@ -1,5 +1,6 @@
 //! Tokens as numbers.
 ghost use Rattle.std.specs.Prelude.{◌≡◌};
+ghost use Rattle.rustc_lexer.specs.LanguageCalls.{kind_entry};
 ghost use Rattle.rustc_lexer_c.specs.Numbers as numbers;
 
 use rustc_lexer::{DocStyle, LiteralKind, Record, Token, TokenKind};
@@ -93,7 +94,7 @@ pub(crate) fn token_numbers(token: Token) -> CToken
 #[inline(always)]
 fn bare(kind: TokenKind, len: u32) -> CToken
     ensures { result ≡ record {
-      kind = numbers.kind_number kind;
+      kind = (kind_entry kind).0;
       first = 0;
       second = 0;
       third = 0;

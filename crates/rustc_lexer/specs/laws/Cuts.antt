@@ -1,7 +1,7 @@
 -- Cutting a text: locality of lists of tokens, and what follows a bound.
 use Rattle.std.proofs.Common.{◌≡◌, ℕ, zero, suc, ◌+◌, ◌<◌, ◌≤◌, List, [], ◌∷◌, ◌++◌, length, take, drop, refl, sym, ap, ◌∙◌, arith, length-drop, IsUtf8, chars, drop-drop, take-add, take-take, take-append-drop}
 use Rattle.std.proofs.lemmas.List.{drop-take}
-use Rattle.std.proofs.lemmas.Str.{chars-append, IsUtf8-append, IsUtf8-nil}
+use Rattle.std.proofs.lemmas.Str.{chars-append, IsUtf8-append, IsUtf8-drop, IsUtf8-nil, IsUtf8-take}
 use Rattle.rustc_lexer.specs.declared.token.Token.{Token}
 use Rattle.rustc_lexer.specs.Locality.{AgreePast, IsGrammar, bound, cut_by, tokens_by}
 use Rattle.rustc_lexer.specs.Classes.{IsText}
@@ -15,7 +15,7 @@ look text = take 2 (chars text)
 -- what is left of a text past its first token
 pub past_first : {first : List ℕ → Token} (law : IsGrammar first) (text : List ℕ) → IsText text → 0 < length text → IsText (drop (first text).len text)
 past_first {first} law text is some = record {
-  utf8 = law.back text is some;
+  utf8 = IsUtf8-drop text _ is.utf8 (law.boundary text is some);
   fits = let f = is.fits in omega (arith, length-drop (first text).len text);
 }
 
@@ -66,8 +66,8 @@ at_bound {first} law (suc k) (c ∷ cs) is =
     let m : ℕ = bound (tokens_by first left) k in
     let whole : drop m left ≡ drop (n + m) text = drop-drop m n text in
     let cons : tokens_by first text ≡ first text ∷ tokens_by first left = tokens-cons law text is some in
-    let front : IsUtf8 (take (n + m) text) = rw (take-add n m text) (IsUtf8-append _ _ (law.front text is some) ih.front) in
-    let inside : n + m ≤ length text = let i = ih.inside in omega (arith, length-drop n text, law.inside text is some) in
+    let front : IsUtf8 (take (n + m) text) = rw (take-add n m text) (IsUtf8-append _ _ (IsUtf8-take text n is.utf8 (law.boundary text is some)) ih.front) in
+    let inside : n + m ≤ length text = let i = ih.inside in omega (arith, length-drop n text, (law.boundary text is some).0) in
     rw cons record { inside = inside; front = front; past = rw (← whole) ih.past; rest = ih.rest ∙ ap (tokens_by first) whole }
 
 -- what two texts show past a common front follows from what they show past it
@@ -113,8 +113,8 @@ tokens_local {first} law (suc k) (c ∷ cs) other is its few agree =
     let near : AgreePast n text other = agree_before n m text other at.front agrees in
     let same : first other ≡ first text = law.local text other is its some near in
     let positive = law.not_empty text is some in
-    let inside : n ≤ length other = agree_inside n text other (law.inside text is some) near in
+    let inside : n ≤ length other = agree_inside n text other (law.boundary text is some).0 near in
     let its_some : 0 < length other = omega arith in
-    let front : IsUtf8 (take n other) = rw (← near.below) (law.front text is some) in
+    let front : IsUtf8 (take n other) = rw (← near.below) (IsUtf8-take text n is.utf8 (law.boundary text is some)) in
     let its_cons : tokens_by first other ≡ first text ∷ tokens_by first (drop n other) = tokens-cons law other its its_some ∙ ap (λ (t : Token). t ∷ tokens_by first (drop t.len other)) same in
     rw (cons, its_cons) (ap (λ ts. first text ∷ ts) (tokens_local law k left (drop n other) (past_first law text is some) (left_text other n its inside front) (omega arith) (agree_left n m text other agrees)))

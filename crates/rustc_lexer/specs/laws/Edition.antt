@@ -1,4 +1,4 @@
--- How far the tokens of an edition look, and that a year names one edition.
+-- How far the tokens of an edition look.
 use Rattle.std.proofs.Common.{◌≡◌, ℕ, suc, ◌+◌, ◌≤◌, ◌==◌, nat_le, ◌&&◌, not, Bool, true, false, true≢false, if◌then◌else◌, List, [], ◌∷◌, take, drop, codes, refl, sym, ap, ◌∙◌, arith, Option, Some, None}
 use lib.Utf8.{encode}
 use Rattle.std.proofs.lemmas.Bool.{and_parts, eqb-true}
@@ -106,9 +106,7 @@ record Changed (change : List ℕ → TokenKind → ℕ → Token) (c : ℕ) (sc
 same_grammar : (first other : List ℕ → Token) → ((text : List ℕ) → first text ≡ other text) → IsGrammar other → IsGrammar first
 same_grammar first other same law = record {
   not_empty = λ text is some. rw (same text) (law.not_empty text is some);
-  inside = λ text is some. rw (same text) (law.inside text is some);
-  front = λ text is some. rw (same text) (law.front text is some);
-  back = λ text is some. rw (same text) (law.back text is some);
+  boundary = λ text is some. rw (same text) (law.boundary text is some);
   local = λ text next is its some agree.
       let there : AgreePast (other text).len text next = rw (same text) at agree in
       same next ∙ (law.local text next is its some there ∙ sym (same text));

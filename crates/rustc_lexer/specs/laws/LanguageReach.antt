@@ -20,7 +20,7 @@ use Rattle.rustc_lexer.specs.Language as the
 use Rattle.rustc_lexer.specs.LiteralGrammar as lit
 use Rattle.rustc_lexer.specs.LiteralGrammar.{IsDoubleQuoted, SingleTo, IsSingleQuoted, IsRaw, IsLiteralBefore, IsSuffixBefore}
 use Rattle.rustc_lexer.specs.Language.{ends_prefix, known_prefixes, begins_prefixed, IsTokenBefore}
-use Rattle.rustc_lexer.specs.LanguageLaws.{is_long_char, literal_reach, reach, is_refused, Needs, NoneLooksLess}
+use Rattle.rustc_lexer.specs.LanguageLaws.{is_long_char, reach, is_refused, Needs, NoneLooksLess}
 use Rattle.rustc_lexer.specs.means.Lexeme.{past_first, lexeme}
 use Rattle.rustc_lexer.specs.Tables.{is_emoji, emoji_ranges, symbols}
 use Rattle.rustc_lexer.specs.means.Number.{number_kind, fraction, number as number_past}
@@ -89,6 +89,17 @@ by_float next other w kind n p float d e =
     by_local 1 next other w (Literal kind n) p (subst (λ (x : List ℕ). IsLocalAt TokenKind 1 lexeme (x ++ next)) (sym d.whole) (float-at d.first d.rest next kind n d.digit float read)) e
 
 -- ---- literals
+
+-- how far a literal looks, wherever its suffix begins
+abbrev literal_reach : LiteralKind → List ℕ → ℕ
+literal_reach kind w = reach (Literal kind 0) w
+
+reach-literal : (kind : LiteralKind) (suffix_start : ℕ) (w : List ℕ) → reach (Literal kind suffix_start) w ≡ literal_reach kind w
+reach-literal (Int base empty) n w = refl
+reach-literal (Char false) n w = refl
+reach-literal (Char true) n w = refl
+reach-literal (Byte false) n w = refl
+reach-literal kind n w = refl
 
 -- how far a number looks; and it is no raw string
 abbrev number_reach : Bool → ℕ
@@ -288,12 +299,12 @@ token-alike {next} (the.unknown_prefix_lifetime {c} {w} start all hash free) oth
     (λ is_r two. by_two next other (39 ∷ c ∷ w) UnknownPrefixLifetime (the.unknown_prefix_lifetime start all hash free) two)
     (λ no_r one. the.unknown_prefix_lifetime start all (goes _ next other one hash) (no-hash 114 c w other all no_r))
 token-alike {next} (the.raw_lifetime is stop) other e = the.raw_lifetime is (stops _ next other e stop)
-token-alike {next} (the.literal {kind} {w} is) other e = by_reach kind w
+token-alike {next} (the.literal {kind} {w} is) other far = let e = subst (λ (k : ℕ). take k other ≡ take k next) (reach-literal kind _ w) far in by_reach kind w
     (λ none. the.literal (literal-end is none other))
     (λ float one. by_float next other w kind _ (the.literal is) float (float-digit is float) (subst (λ (k : ℕ). take k other ≡ take k next) one e))
     (λ whole one. the.literal (literal-alike is whole w one other (subst (λ (k : ℕ). take k other ≡ take k next) one e)))
     (λ two. by_two next other w _ (the.literal is) (subst (λ (k : ℕ). take k other ≡ take k next) two e))
-token-alike {next} (the.literal_with {kind} {w} {suffix} is suffix_is) other e = by_reach kind (w ++ suffix)
+token-alike {next} (the.literal_with {kind} {w} {suffix} is suffix_is) other far = let e = subst (λ (k : ℕ). take k other ≡ take k next) (reach-literal kind _ (w ++ suffix)) far in by_reach kind (w ++ suffix)
     (λ none. absurd (true≢false (literal-none is suffix none).0))
     (λ float one. by_float next other (w ++ suffix) kind _ (the.literal_with is suffix_is) float (digit-append (float-digit is float) suffix) (subst (λ (k : ℕ). take k other ≡ take k next) one e))
     (λ whole one. let near = subst (λ (k : ℕ). take k other ≡ take k next) one e in the.literal_with (literal-alike is whole (w ++ suffix) one (suffix ++ other) (past suffix next other near)) (suffix-alike suffix_is other near))

@@ -84,8 +84,6 @@ module _ (scan : List ℕ → TokenKind × ℕ) (takes : (c : ℕ) (cs : List �
   pub token_by_local : IsGrammar (token_by scan)
   token_by_local = record {
     not_empty = λ text t some. let p = parts text t in omega (arith, taken-positive (chars text) text (encodes-chars text t.utf8) some, length-le-encodes (take (scan (chars text)).1 (chars text)), p.taken);
-    inside = λ text t some. len_inside text t;
-    front = λ text t some. let p = parts text t in rw p.front (take (scan (chars text)).1 (chars text), (p.scalar_front, refl));
-    back = λ text t some. let p = parts text t in rw p.back (drop (scan (chars text)).1 (chars text), (p.scalar_back, refl));
+    boundary = λ text t some. IsCharBoundary-from_take text _ t.utf8 (len_inside text t) (let p = parts text t in rw p.front (take (scan (chars text)).1 (chars text), (p.scalar_front, refl)));
     local = λ text other t o some agree. same_token text other t o agree;
   }

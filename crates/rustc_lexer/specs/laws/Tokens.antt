@@ -28,9 +28,9 @@ token_at-cuts mode text is some = token_at-either (λ (t : Token). CutsOff text 
     let law = edition_grammar edition in
     record {
       not_empty = law.not_empty text is some;
-      inside = law.inside text is some;
-      front = law.front text is some;
-      left = record { utf8 = law.back text is some; fits = let f = is.fits in omega (arith, length-drop (first_token_in edition text).len text) };
+      inside = (law.boundary text is some).0;
+      front = IsUtf8-take text _ is.utf8 (law.boundary text is some);
+      left = record { utf8 = IsUtf8-drop text _ is.utf8 (law.boundary text is some); fits = let f = is.fits in omega (arith, length-drop (first_token_in edition text).len text) };
     })
     (λ opened.
     let cut = frontmatter-cut text is.utf8 opened in

@@ -1,8 +1,9 @@
 //! The tokens of a text, many at once.
-ghost use Rattle.std.specs.Prelude.{◌≡◌, ◌<◌, drop, length, IsCharBoundary, IsTrue};
-ghost use Rattle.rustc_lexer.specs.Tokens.{IsFilled, IsFilledTo, state_past, bound, tokens_left, tokens_of};
+ghost use Rattle.std.specs.Prelude.{◌≡◌, ◌<◌, ◌++◌, drop, length, map, min, take, IsCharBoundary, IsTrue};
+ghost use Rattle.rustc_lexer.specs.Tokens.{IsFilledTo, state_past, bound, tokens_left, tokens_of};
 ghost use Rattle.rustc_lexer.specs.Classes.{Fits};
 ghost use Rattle.rustc_lexer.specs.LanguageText.{mode_edition, part};
+ghost use Rattle.rustc_lexer.specs.means.Tokens.{IsFilled};
 
 use crate::bulk::{self, Record};
 use crate::edition::Edition;
@@ -31,7 +32,9 @@ impl<'a> Tokens<'a> {
     /// }
     /// ```
     pub fn fill<R: Record>(&mut self, room: &mut [R]) -> usize
-        ensures filled { IsFilled R.written (tokens_left self.old) room.old room.new result }
+        ensures count { result ≡ min (length room.old) (length (tokens_left self.old)) }
+        ensures tokens { room.new
+            ≡ map R.written (take result (tokens_left self.old)) ++ drop result room.old }
         ensures state { self.new ≡ state_past result self.old }
         ensures left { tokens_left self.new ≡ drop result (tokens_left self.old) }
         ensures rest { self.new.rest ≡ drop (bound (tokens_left self.old) result) self.old.rest }

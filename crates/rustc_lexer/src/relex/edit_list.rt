@@ -1,8 +1,7 @@
 //! Edits in a row.
 ghost use Rattle.std.specs.Prelude.{◌≡◌, ◌+◌, IfErr, OnOk, Some, take};
 ghost use Rattle.rustc_lexer.specs.Tokens.{tokens_by};
-ghost use Rattle.rustc_lexer.specs.Edits.{apply_list, AreEdits, lexed_list, stop_at, IsStop, IsCounted};
-ghost use Rattle.rustc_lexer.specs.LanguageCalls.{stop_text};
+ghost use Rattle.rustc_lexer.specs.Edits.{apply_list, AreEdits, lexed_list, stop_at, stop_text, IsStop, IsCounted};
 
 use crate::entry::stepper::Stepper;
 use crate::relex::edit::Edit;

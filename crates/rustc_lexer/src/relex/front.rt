@@ -4,10 +4,10 @@
 //! said of lengths that are those of a text's tokens.
 ghost use Rattle.std.specs.Prelude.{◌≡◌, ◌+◌, ◌-◌, ◌*◌, ◌<◌, ◌≤◌, ◌^◌, List, length, map, ℕ, true, false, IsCharBoundary, max};
 ghost use Rattle.rustc_lexer.specs.declared.token.Token.{Token};
-ghost use Rattle.rustc_lexer.specs.Edits.{kept_front, IsBound, IsFollowed};
+ghost use Rattle.rustc_lexer.specs.Edits.{kept_front, IsBound};
 ghost use Rattle.rustc_lexer.specs.Locality.{has_two};
 ghost use Rattle.rustc_lexer.specs.Tokens.{bound};
-ghost use Rattle.rustc_lexer.specs.means.Relexing.{IsFront, HasLengths};
+ghost use Rattle.rustc_lexer.specs.means.Relexing.{IsFollowed, IsFront, HasLengths, old_stop_of};
 
 use crate::token::Token;
 
@@ -184,8 +184,8 @@ pub(crate) fn follow<T: Measured>(
     ensures early { place < damage.past → result.met ≡ false }
     ensures followed { (ts : List Token) → HasLengths ts (map T.bytes tokens.now) → IsBound ts from
         → ((k : ℕ) → k < from.number
-        → bound ts k + damage.added < max damage.past place + damage.removed)
-        → IsFollowed ts damage.past damage.added damage.removed place result.at result.met }
+        → bound ts k + damage.past < max damage.past place + old_stop_of damage)
+        → IsFollowed ts (old_stop_of damage) damage.past place result.at result.met }
 {
     if place < damage.past {
         return Meeting {

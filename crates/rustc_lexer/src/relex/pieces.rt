@@ -2,8 +2,7 @@
 ghost use Rattle.std.specs.Prelude.{◌≡◌, ◌-◌, ◌≤◌, IfSome, Some, drop, length, take};
 ghost use Rattle.std.specs.Iterator.{UpTo, at_most};
 ghost use Rattle.std.specs.Iterator.SizeHint.{IsWithinCount};
-ghost use Rattle.rustc_lexer.specs.Edits.{pieces_left, pieces_of, YieldsPiece};
-ghost use Rattle.rustc_lexer.specs.Tokens.{bound};
+ghost use Rattle.rustc_lexer.specs.Edits.{pieces_of, YieldsPiece};
 
 use crate::entry::stepper::Stepper;
 use crate::relex::lexed_text::LexedText;
@@ -34,13 +33,13 @@ pub struct Pieces<'a> {
 }
 
 impl<'a> Model for Pieces<'a> {
-    ghost use Rattle.std.specs.Prelude.{◌≡◌, ◌<◌, ◌^◌, length};
-    ghost use Rattle.rustc_lexer.specs.Edits.{Left};
+    ghost use Rattle.std.specs.Prelude.{◌≡◌, ◌<◌, ◌^◌, List, length};
+    ghost use Rattle.rustc_lexer.specs.Edits.{Placed, pieces_from};
     ghost use Rattle.rustc_lexer.specs.means.Pieces.{AreBoundariesFrom};
 
-    ghost Value = { Left };
+    ghost Value = { List Placed };
 
-    ghost view = { λ p. record { text = p.text.now; start = p.start; tokens = p.tokens.now } };
+    ghost view = { λ p. pieces_from p.text.now p.start p.tokens.now };
 
     ghost invariant = { λ p. (length p.text.now < 2 ^ 32)
         × AreBoundariesFrom p.text.now p.start p.tokens.now };
@@ -51,7 +50,7 @@ impl<'a> Iterator for Pieces<'a> {
 
     ghost next_gives = { YieldsPiece };
 
-    ghost remaining = { λ s. at_most (length s.tokens) };
+    ghost remaining = { λ s. at_most (length s) };
 
     /// The next piece, or `None` past the last one, from then on.
     fn next(&mut self) -> Option<Piece<'a>> {
@@ -69,9 +68,9 @@ impl<'a> Iterator for Pieces<'a> {
 
     /// How many pieces are left, twice.
     fn size_hint(&self) -> (usize, Option<usize>)
-        ensures lower { IsWithinCount result.0 (at_most (length self.now.tokens)) }
-        ensures upper { IfSome result.1 (UpTo (at_most (length self.now.tokens))) }
-        ensures exact { result ≡ (length self.now.tokens, Some (length self.now.tokens)) }
+        ensures lower { IsWithinCount result.0 (at_most (length self.now)) }
+        ensures upper { IfSome result.1 (UpTo (at_most (length self.now))) }
+        ensures exact { result ≡ (length self.now, Some (length self.now)) }
     {
         let left = self.tokens.len();
         (left, Some(left))
@@ -88,9 +87,7 @@ impl<'a> ExactSizeIterator for Pieces<'a> {
 impl<S: Stepper> LexedText<S> {
     /// The pieces of the text, one for each token, in order.
     pub fn pieces(&self) -> Pieces<'_>
-        ensures state { result
-            ≡ record { text = self.now.text; start = 0; tokens = self.now.tokens } }
-        ensures pieces { pieces_left result ≡ pieces_of self.now.text self.now.tokens }
+        ensures pieces { result ≡ pieces_of self.now.text self.now.tokens }
     {
         Pieces {
             text: self.text(),
@@ -104,13 +101,7 @@ impl<S: Stepper> LexedText<S> {
     pub fn pieces_of(&self, from: usize, to: usize) -> Pieces<'_>
         requires from_le_to { from ≤ to }
         requires to_inside { to ≤ length self.now.tokens }
-        ensures state { result
-            ≡ record {
-              text = self.now.text;
-              start = bound self.now.tokens from;
-              tokens = take (to - from) (drop from self.now.tokens);
-            } }
-        ensures pieces { pieces_left result
+        ensures pieces { result
             ≡ take (to - from) (drop from (pieces_of self.now.text self.now.tokens)) }
     {
         Pieces {

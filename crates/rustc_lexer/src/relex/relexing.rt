@@ -1,5 +1,5 @@
 //! Lexing again what an edit changed, on lists that the caller holds.
-ghost use Rattle.std.specs.Prelude.{◌≡◌, ◌+◌, ◌-◌, ◌<◌, ◌≤◌, ◌++◌, ◌↔◌, IsTrue, List, drop, false, length, map, take, ℕ, true};
+ghost use Rattle.std.specs.Prelude.{◌≡◌, ◌+◌, ◌-◌, ◌<◌, ◌≤◌, ◌∷◌, ◌++◌, ◌↔◌, IsTrue, List, MatchOption, drop, false, length, map, take, ℕ, true};
 ghost use Rattle.rustc_lexer.specs.declared.relex.relexing.Change.{Change};
 ghost use Rattle.rustc_lexer.specs.declared.token.Token.{Token};
 ghost use Rattle.rustc_lexer.specs.Edits.{relexed_of, IsBound, known};
@@ -151,13 +151,20 @@ impl Relexing {
         ensures may_go_on { spec.MayGoOn text.now (length old.now) self.new }
         ensures grammar { S.grammar stepper.new ≡ S.grammar stepper.old }
         ensures number { S.number stepper.new ≡ S.number stepper.old }
-        ensures step { spec.TakesStep (S.grammar stepper.old) text.now change.new_stop
-            (S.count stepper.old) self.old result (S.count stepper.new) self.new }
+        ensures step { MatchOption result
+            ((self.new ≡ self.old) × (S.count stepper.new ≡ S.count stepper.old)
+            × (spec.is_over text.now self.old ≡ true))
+            (λ token. (token ≡ S.grammar stepper.old (drop self.old.at text.now))
+            × spec.TakesSteps (S.grammar stepper.old) text.now change.new_stop self.old 1 self.new
+            × (S.count stepper.new ≡ S.count stepper.old + 1)
+            × (spec.is_over text.now self.old ≡ false)) }
         ensures stands { (before insert : List ℕ)
             → spec.IsMadeOf (S.grammar stepper.old) before (map T.bytes old.now) change insert text.now
             → spec.Stands (S.grammar stepper.old) before change text.now self.old
             → spec.Stands (S.grammar stepper.old) before change text.now self.new
-            × spec.GivesNext (tokens_by (S.grammar stepper.old) text.now) self.old result self.new }
+            × MatchOption result (self.new.met ≡ true) (λ token.
+            drop (known self.old) (tokens_by (S.grammar stepper.old) text.now)
+            ≡ token ∷ drop (known self.new) (tokens_by (S.grammar stepper.old) text.now)) }
     {
         if self.is_over(text) {
             return None;

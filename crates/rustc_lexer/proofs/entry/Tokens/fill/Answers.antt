@@ -26,7 +26,8 @@ returns-then-rest-ge-BLOCK g c =
     c.fill_part-count.ensures.bytes
     (ap (λ xs. state 0 xs mode) (c.range_from-self-inside.ensures.value ∙ ap (drop bytes) c.as_str-rest.ensures.rest) ∙ ap (state 0 (drop bytes s.rest)) same) in
     record {
-      filled = all.holds;
+      count = all.holds.as_many;
+      tokens = all.holds.tokens;
       state = all.state_is;
       left = all.left;
       rest = all.rest;

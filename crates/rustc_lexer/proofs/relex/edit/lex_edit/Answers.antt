@@ -91,13 +91,7 @@ pub put_in_place-requires-in-Err-clause-inside : goal.put_in_place-requires-in-E
 put_in_place-requires-in-Err-clause-inside g c =
     let made = made_of c.requires.text c.requires.insert c.requires.edit c.requires.from_scratch c.as_str-made.ensures.value c.put_in_place.ensures.text c.reserve.ensures.bytes in
     let e = c.args.edit in
-    let change = made_change (g.S.Stepper.law c.args.stepper.now) _ _ _ _ _ made in
-    let inside : IsInside c.as_str-made.result.now e.start (e.start + length e.insert.now) = record {
-      start_le_stop = change.start_le_new;
-      stop_inside = change.new_boundary.0;
-      start_boundary = change.start_boundary;
-      stop_boundary = change.new_boundary;
-    } in
+    let inside : IsInside c.as_str-made.result.now e.start (e.start + length e.insert.now) = (made_change (g.S.Stepper.law c.args.stepper.now) _ _ _ _ _ made).inserted in
     rw (sym c.as_str-made.ensures.value) inside
 
 pub returns-clause-same_text : goal.returns-clause-same_text

@@ -1,6 +1,7 @@
-use Rattle.std.proofs.Common.{sym, ap, ◌∙◌, arith, ◌+◌, ◌-◌, ◌≡◌, ◌≤◌, ◌<◌, ◌&&◌, eqb, eqb-true, le-leb, length}
+use Rattle.std.proofs.Common.{sym, ap, ◌∙◌, arith, ◌+◌, ◌-◌, ◌≡◌, ◌≤◌, ◌<◌, ◌&&◌, eqb, le-leb, length}
 use Rattle.rustc_lexer.specs.Tokens.{bound}
 use Rattle.rustc_lexer.specs.Edits.{is_bound}
+use Rattle.rustc_lexer.specs.means.Relexing.{old_stop_of}
 use Rattle.rustc_lexer.proofs.BoundLemmas.{is_bound-decide}
 use Rattle.rustc_lexer.proofs.LengthLemmas.{as_many}
 use Rattle.rustc_lexer.proofs.relex.front.follow.Goals as goal
@@ -8,16 +9,15 @@ use Rattle.rustc_lexer.proofs.relex.front.follow.Goals as goal
 pub returns-clause-followed : goal.returns-clause-followed
 returns-clause-followed g c = λ ts are from before.
     let at = c.next_bound-at.result in
-    let target = c.args.place - c.args.damage.added + c.args.damage.removed in
+    let target = c.args.place - c.args.damage.past + old_stop_of c.args.damage in
+    let same : c.args.place - c.args.damage.added + c.args.damage.removed ≡ target = omega arith in
     let has = c.next_bound-at.ensures.bound ts are from (λ k less. let b = before k less in omega arith) in
     let many = as_many g.T.Measured.bytes c.args.tokens.now ts are in
-    let reached : at.number < length ts → target ≤ bound ts at.number = λ few. let r : target ≤ at.place = has.2 (omega (arith, many)) in let p : at.place ≡ bound ts at.number = has.0.1 in omega arith in
+    let reached : at.number < length ts → target ≤ bound ts at.number = λ few. let r : target ≤ at.place = (let h = has.2 (omega (arith, many)) in omega arith) in let p : at.place ≡ bound ts at.number = has.0.1 in omega arith in
     record {
       bound_is = has.0;
       below = λ k less. let b = has.1 k less in omega arith;
-      reached = λ _ few. has.2 (omega (arith, many));
-      met_is = ap (λ n. eqb n target) has.0.1 ∙ (sym (is_bound-decide ts at.number target has.0.0 has.1 reached) ∙
-          ap (λ b. b && is_bound ts target) (sym (le-leb c.args.damage.past c.args.place (omega arith))));
-      past_edit = λ _. omega arith;
-      same_place = λ e. eqb-true at.place target e;
+      reached = λ _ few. (let h = has.2 (omega (arith, many)) in omega arith);
+      met_is = ap (λ n. eqb at.place n) same ∙ (ap (λ n. eqb n target) has.0.1 ∙ (sym (is_bound-decide ts at.number target has.0.0 (λ k less. let b = has.1 k less in omega arith) reached) ∙
+          ap (λ b. b && is_bound ts target) (sym (le-leb c.args.damage.past c.args.place (omega arith)))));
     }

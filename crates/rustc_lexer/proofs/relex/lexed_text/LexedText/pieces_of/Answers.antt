@@ -16,6 +16,7 @@ invariant_of-result g c =
     let cut : AreBoundariesFrom text c.place_of.result (slice_range tokens c.args.from c.args.to) = rw start (cuts_part text tokens c.args.from (c.args.to - c.args.from) few whole) in
     (c.text.ensures.fits, cut)
 
-pub returns-clause-pieces : goal.returns-clause-pieces
-returns-clause-pieces g c =
-    rw (c.text.ensures.text, c.place_of.ensures, c.tokens.ensures.tokens) (pieces-part c.args.self.now.text c.args.self.now.tokens c.args.from (c.args.to - c.args.from))
+pub returns : goal.returns
+returns g c = record {
+  pieces = rw (c.text.ensures.text, c.place_of.ensures, c.tokens.ensures.tokens) (pieces-part c.args.self.now.text c.args.self.now.tokens c.args.from (c.args.to - c.args.from));
+}
