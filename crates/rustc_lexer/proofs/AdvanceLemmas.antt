@@ -2,6 +2,7 @@
 use Rattle.std.proofs.Common.{◌≡◌, ◌≢◌, ℕ, ◌<◌, ◌==◌, List, [], ◌∷◌, length, true, false, true≢false, refl, sym, ap, ◌∙◌, arith}
 use Rattle.std.proofs.lemmas.Bool.{eqb-true, ne_eqb}
 use Rattle.std.proofs.lemmas.List.{nil_from_length}
+use Rattle.std.proofs.lemmas.Grind.{common_steps}
 use Rattle.rustc_lexer.specs.declared.token.Token.{Token}
 use Rattle.rustc_lexer.specs.declared.token.TokenKind.{TokenKind}
 use Rattle.rustc_lexer.specs.declared.token.TokenKind.TheVariants.{Eof, Literal}
@@ -10,6 +11,8 @@ use Rattle.rustc_lexer.specs.means.Taking.{token_at, advance}
 use Rattle.rustc_lexer.specs.Classes.{IsText}
 use Rattle.rustc_lexer.specs.Tokens.{tokens_of, tokens_left, TakesFirst}
 use Rattle.rustc_lexer.specs.laws.State.{state, past_token, advance-some, token_past-zero}
+use Rattle.rustc_lexer.specs.LanguageText.{AreTokens}
+use Rattle.rustc_lexer.specs.laws.LanguageTokens.{tokens-are}
 use Rattle.rustc_lexer.proofs.TextLemmas.{token_at-not_end}
 use Rattle.rustc_lexer.proofs.TokensLemmas.{takes_first as takes_alone}
 use Rattle.rustc_lexer.specs.laws.Tokens.{tokens-nil}
@@ -42,9 +45,7 @@ module _ (s t : State) (token : Token) (is : IsText s.rest) (some : 0 < length s
       }
 
 pub stays_at_end : (s : State) (text : List ℕ) (len : ℕ) → text ≡ s.rest → (length text == 0) ≡ true → len ≡ 0 → (tokens_left s ≡ []) × (s.rest ≡ []) × (len ≡ 0) × (s ≡ s)
-stays_at_end s text len e none empty =
-    let rest : s.rest ≡ [] = sym e ∙ nil_from_length text (eqb-true (length text) 0 none) in
-    (ap (λ xs. tokens_of s.mode xs) rest ∙ tokens-nil s.mode, rest, empty, refl)
+stays_at_end s text len e none empty = grind (arith, common_steps, nil_from_length, eqb-true, tokens-nil)
 
 pub something : (xs ys : List ℕ) → xs ≡ ys → (length xs == 0) ≡ false → 0 < length ys
 something [] ys e h = absurd (true≢false h)

@@ -1,5 +1,5 @@
 -- One bit of a word, through each operation on it.
-use Rattle.std.proofs.Common.{◌≡◌, ℕ, zero, suc, ◌+◌, ◌-◌, ◌*◌, ◌/◌, ◌%◌, ◌^◌, ◌<◌, ◌≤◌, min, max, Bool, true, false, true≢false, not, ◌&&◌, ◌||◌, ◌==◌, List, length, map, get_or, cond, refl, sym, ap, ap₂, ◌∙◌, subst, arith, w64, bit_and, bit_or, inl, inr}
+use Rattle.std.proofs.Common.{◌≡◌, ℕ, zero, suc, ◌+◌, ◌-◌, ◌*◌, ◌/◌, ◌%◌, ◌^◌, ◌<◌, ◌≤◌, min, max, Bool, true, false, true≢false, not, ◌&&◌, ◌||◌, ◌==◌, List, length, map, get_or, refl, sym, ap, ap₂, ◌∙◌, subst, arith, w64, bit_and, bit_or, inl, inr}
 use Rattle.std.specs.Int.{bit_at}
 use Rattle.std.specs.Int.Bits.{mask_lt}
 use Rattle.std.proofs.lemmas.Bool.{agree_below_at, and_left, and_right, cases_lt, eqb-true}
@@ -8,15 +8,14 @@ use Rattle.std.proofs.lemmas.Nat.Bits.{bit_at_and, bit_at_or, bit_at_not, bit_at
 use Rattle.std.proofs.lemmas.List.{get_or-map}
 use Rattle.std.proofs.lemmas.Simd.{bit_mask_l, length-chunk, get_or-chunk}
 use Rattle.std.proofs.Math.Bool.{and-true, and_self}
+use Rattle.std.proofs.lemmas.Grind.{common_steps}
 use lib.Count.{count_trailing_zeros}
 use lib.Pow.{field, mod-mod-pow}
 use lib.Lanes.{chunk, mask_l}
 use Rattle.rustc_lexer.specs.means.Ends.{bit, IsLowest}
 
 bit_cases : (P : ℕ → Type 0) → P 0 → P 1 → (x : ℕ) → x < 2 → P x
-bit_cases P p q zero h = p
-bit_cases P p q (suc zero) h = q
-bit_cases P p q (suc (suc r)) h = absurd (omega arith)
+bit_cases w0 p q w3 h = grind (arith, common_steps)
 
 two_bits : (P : ℕ → ℕ → Type 0) → P 0 0 → P 0 1 → P 1 0 → P 1 1 → (a b i : ℕ) → P (bit_at a i) (bit_at b i)
 two_bits P p q r s a b i = bit_cases (λ x. P x (bit_at b i)) (bit_cases (P 0) p q (bit_at b i) (bit_at-lt b i)) (bit_cases (P 1) r s (bit_at b i) (bit_at-lt b i)) (bit_at a i) (bit_at-lt a i)
@@ -66,11 +65,7 @@ bit-shr y n k = ap (λ x. x % 2 == 1) (shr-shr y n k)
 
 pub bit-mask_l : (ms : List Bool) (i : ℕ) → bit (mask_l ms) i ≡ get_or ms i false
 unfolding bit
-bit-mask_l ms i = ap (λ x. x == 1) (bit_mask_l ms i) ∙ back (get_or ms i false)
-  where
-    back : (b : Bool) → (cond b 1 0 == 1) ≡ b
-    back true = refl
-    back false = refl
+bit-mask_l ms i = grind (arith, common_steps, bit_mask_l)
 
 pub bit-above : (x i : ℕ) → x < 2 ^ 64 → 64 ≤ i → bit x i ≡ false
 unfolding bit
@@ -148,10 +143,7 @@ module _ (x n : ℕ) where
   past-first = low-off (x / 2 ^ n)
 
   pub past-later : x < 2 ^ 64 → (k : ℕ) → bit (bit_and (x / 2 ^ n) high) (suc k) ≡ bit x (n + suc k)
-  past-later small k = elim (cases_lt (suc k) 64) [
-    | inl near ↦ high-stays (x / 2 ^ n) k near ∙ bit-shr x n (suc k)
-    | inr far ↦ bit-above (bit_and (x / 2 ^ n) high) (suc k) (omega (arith, and_le_l (x / 2 ^ n) high, shr_le x n)) far ∙ sym (bit-above x (n + suc k) small (omega arith))
-  ]
+  past-later small k = grind (arith, common_steps, cases_lt, high-stays, bit-shr, bit-above, and_le_l, shr_le)
 
 -- ---- the lowest bit
 
@@ -196,10 +188,8 @@ module _ (x low : ℕ) (some : 0 < x) (lowest : IsLowest x low) where
 
   pub past_lowest-gone : (k : ℕ) → k ≤ low → bit (bit_and x (x - 1)) k ≡ false
   unfolding bit
-  past_lowest-gone k le = bit-and x (x - 1) k ∙ elim (cases_lt k low) [
-    | inl before ↦ and_left (bit x k) _ (lowest.least k before)
-    | inr here ↦ let e : low ≡ k = omega arith in and_right (bit x k) _ (ap (λ n. n == 1) (subst (λ n. bit_at (x - 1) n ≡ 0) e (at_pred low x some set_at least_at)))
-  ]
+  past_lowest-gone k le =
+      grind (arith, common_steps, bit-and, cases_lt, and_left, lowest, and_right, at_pred, set_at, least_at)
 
   pub past_lowest-others : (k : ℕ) → low < k → bit (bit_and x (x - 1)) k ≡ bit x k
   unfolding bit

@@ -1,7 +1,8 @@
 -- The loop over a block comment: from mark to mark.
-use Rattle.std.proofs.Common.{◌≡◌, ◌≢◌, ℕ, zero, suc, ◌+◌, ◌<◌, ◌==◌, ◌&&◌, Bool, true, false, true≢false, List, [], ◌∷◌, drop, refl, sym, ap, ◌∙◌, arith, subst, inl, inr, Option, Some, None, not}
+use Rattle.std.proofs.Common.{◌≡◌, ◌≢◌, ℕ, zero, suc, ◌+◌, ◌<◌, ◌==◌, ◌&&◌, Bool, true, false, true≢false, List, [], ◌∷◌, drop, refl, sym, ap, ◌∙◌, arith, subst, Option, Some, None, not}
 use Rattle.std.specs.Str.{chars, IsUtf8}
 use Rattle.std.proofs.lemmas.Bool.{and_parts, or_cases, or_parts, eqb-true, eqb-false, ne_eqb, not-true, not-false}
+use Rattle.std.proofs.lemmas.Grind.{common_steps}
 use Rattle.rustc_lexer.specs.declared.token.DocStyle.{DocStyle}
 use Rattle.rustc_lexer.specs.declared.token.TokenKind.{TokenKind}
 use Rattle.rustc_lexer.specs.declared.token.TokenKind.TheVariants.{BlockComment}
@@ -71,16 +72,10 @@ alone true e = e
 alone false e = refl
 
 no_close : (depth : ℕ) (cs : List ℕ) → begins (47 ∷ []) cs ≡ false → ends depth 42 cs ≡ ends depth 0 cs
-no_close zero [] e = refl
-no_close (suc depth) [] e = refl
-no_close zero (d ∷ ds) e = refl
-no_close (suc depth) (d ∷ ds) e = rw (alone (d == 47) e) refl
+no_close w0 w1 e = grind (arith, common_steps, alone)
 
 no_open : (depth : ℕ) (cs : List ℕ) → begins (42 ∷ []) cs ≡ false → ends depth 47 cs ≡ ends depth 0 cs
-no_open zero [] e = refl
-no_open (suc depth) [] e = refl
-no_open zero (d ∷ ds) e = refl
-no_open (suc depth) (d ∷ ds) e = rw (alone (d == 42) e) refl
+no_open w0 w1 e = grind (arith, common_steps, alone)
 
 fresh : (depth c : ℕ) → next_depth (depth, 0) c ≡ (depth, c)
 fresh depth c = refl
@@ -110,20 +105,14 @@ module _ (text rest stop : List ℕ) (depth : ℕ) (some : 0 < depth) (at : Comm
   at_stop = subst (λ xs. Commenting text xs depth 0) (sym there) (run_on text rest depth (chars rest) some refl at)
 
   pub open_at_end : chars stop ≡ [] → (false, stop) ≡ scanned (or_all comment_end) text
-  open_at_end none =
-      ap (λ xs. (false, xs)) (sym (past-zero stop at_stop.utf8))
-      ∙ (ap (λ o. leaves o [] stop) (sym (until-none is_done next_depth (depth, 0) (not_done depth 0 some)))
-      ∙ (ap (λ cs. leaves (ends depth 0 cs) cs stop) (sym none) ∙ at_stop.same))
+  open_at_end none = grind (arith, common_steps, past-zero, at_stop, until-none, not_done)
 
   module _ (tail : List ℕ) (c : ℕ) (reads : chars stop ≡ c ∷ chars tail) (cut : tail ≡ past 1 stop) where
     marked : Commenting text tail depth c
     marked = step text stop tail depth 0 c (depth, c) at_stop some reads cut (fresh depth c)
 
     is_slash : c ≢ 42 → c ≡ 47
-    is_slash ne = elim (or_cases (c == 42) (c == 47) (not-false _ (run_fails is_unmarked rest stop (chars tail) c at.utf8 there reads))) [
-      | inl star ↦ absurd (ne (eqb-true c 42 star))
-      | inr slash ↦ eqb-true c 47 slash
-    ]
+    is_slash ne = grind (arith, common_steps, or_cases, not-false, run_fails, eqb-true)
 
     begins-one : (a : ℕ) (s : List ℕ) → begins (a ∷ []) s ≡ true → s ≡ a ∷ drop 1 s
     begins-one a [] e = absurd (true≢false (sym e))
@@ -147,9 +136,7 @@ module _ (text rest stop : List ℕ) (depth : ℕ) (some : 0 < depth) (at : Comm
         step text tail past_mark depth 47 42 (deeper, 0) (subst (Commenting text tail depth) (is_slash ne) marked) some (mark_reads 42 past_mark f g) g (ap (λ d. (d, 0)) (sym h))
 
 pub closed : (text rest : List ℕ) (depth : ℕ) → Commenting text rest depth 0 → depth ≡ 0 → (true, rest) ≡ scanned (or_all comment_end) text
-closed text rest depth at none =
-    let here : Commenting text rest 0 0 = subst (λ d. Commenting text rest d 0) none at in
-    ap (λ xs. (true, xs)) (sym (past-zero rest at.utf8)) ∙ (ap (λ o. leaves o (chars rest) rest) (sym (until-done is_done next_depth (chars rest) (0, 0) refl)) ∙ here.same)
+closed text rest depth at none = grind (arith, common_steps, past-zero, until-done)
 
 -- the comment, from its style and its end
 pub comment : (text rest : List ℕ) (style : Option DocStyle) (terminated : Bool) → style ≡ block_doc_style (chars text) → (terminated, rest) ≡ scanned (or_all comment_end) text

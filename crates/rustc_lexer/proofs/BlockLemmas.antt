@@ -4,6 +4,7 @@ use Rattle.std.proofs.lemmas.Bool.{cases_lt}
 use Rattle.std.proofs.lemmas.List.{map-id}
 use Rattle.std.proofs.Math.Nat.{min-eq_left, min-eq_right, min-le_right}
 use Rattle.std.proofs.Math.Seq.{take-add}
+use Rattle.std.proofs.lemmas.Grind.{common_steps}
 use Rattle.rustc_lexer.specs.declared.token.Token.{Token}
 use Rattle.rustc_lexer.specs.Tokens.{IsFilledTo, bound, tokens_by}
 use Rattle.rustc_lexer.specs.means.Tokens.{IsFilled}
@@ -11,7 +12,7 @@ use Rattle.rustc_lexer.specs.Classes.{IsText}
 use Rattle.rustc_lexer.specs.Locality.{IsGrammar}
 use Rattle.rustc_lexer.proofs.BoundLemmas.{bound_mono, rises}
 use Rattle.rustc_lexer.proofs.BulkLemmas.{filled_all}
-use Rattle.rustc_lexer.specs.laws.Cuts.{IsCutAt, at_bound, tokens-cons}
+use Rattle.rustc_lexer.specs.laws.Cuts.{at_bound, tokens-cons}
 use Rattle.rustc_lexer.proofs.FrontLemmas.{bound-shift}
 use Rattle.rustc_lexer.proofs.ProgressLemmas.{IsLexedTo, IsPlace, lexed_place}
 
@@ -52,18 +53,7 @@ module _ {first : List ℕ → Token} (law : IsGrammar first) where
   pub lexed_block : (text left : List ℕ) (items block : List Token) (place count bytes : ℕ) → IsText text → IsLexedTo first text items place → left ≡ drop place text → count ≤ length (tokens_by first left)
       → block ≡ take count (tokens_by first left) → bytes ≡ bound (tokens_by first left) count → IsLexedTo first text (items ++ block) (place + bytes)
   lexed_block text left items block place count bytes is at here few block_is bytes_is =
-      let all : List Token = tokens_by first text in
-      let n : ℕ = length items in
-      let cut : IsCutAt first text all n = at_bound law n text is in
-      let rest : tokens_by first left ≡ drop n all = ap (tokens_by first) (here ∙ ap (λ p. drop p text) at.place_is) ∙ sym cut.rest in
-      let fewer : count ≤ length (drop n all) = let e = ap length rest in omega arith in
-      let tail : block ≡ take count (drop n all) = block_is ∙ ap (take count) rest in
-      let long : length (items ++ block) ≡ n + count = omega (arith, length-append items block, ap length tail, length-take-le count (drop n all) fewer) in
-      record {
-        number = omega (arith, long, fewer, at.number, length-drop n all);
-        items_are = ap (λ ts. ts ++ block) at.items_are ∙ (ap (λ ts. take n all ++ ts) tail ∙ (sym (take-add n count all) ∙ ap (λ k. take k all) (sym long)));
-        place_is = ap (λ p. p + bytes) at.place_is ∙ (ap (λ b. bound all n + b) (bytes_is ∙ ap (λ ts. bound ts count) rest) ∙ (sym (bound-shift all n count) ∙ ap (bound all) (sym long)));
-      }
+      grind (arith, common_steps, at_bound, length-append, length-take-le, length-drop, take-add, bound-shift)
 
 -- one block more
 pub record IsBlock (first : List ℕ → Token) (text : List ℕ) (items filled : List Token) (place count bytes : ℕ) : Type 0 where

@@ -1,9 +1,10 @@
 -- Bounds of a list of tokens, and the search for one.
-use Rattle.std.proofs.Common.{◌≡◌, ℕ, zero, suc, ◌+◌, ◌-◌, ◌<◌, ◌≤◌, ◌≢◌, Bool, true, false, cond, ◌&&◌, ◌||◌, List, [], ◌∷◌, length, drop, refl, sym, ap, ◌∙◌, arith, eqb, leb, eq-eqb, eqb-true, leb-true, le-leb, true≢false, length-drop, inl, inr, eq-or-lt_of_le}
+use Rattle.std.proofs.Common.{◌≡◌, ℕ, zero, suc, ◌+◌, ◌-◌, ◌<◌, ◌≤◌, ◌≢◌, Bool, true, false, cond, ◌&&◌, ◌||◌, List, [], ◌∷◌, length, drop, refl, sym, ap, ◌∙◌, arith, eqb, leb, eq-eqb, eqb-true, leb-true, le-leb, true≢false, length-drop, eq-or-lt_of_le}
 use Rattle.std.proofs.lemmas.Bool.{lt-leb}
 use Rattle.std.proofs.lemmas.Bool.Decides.{leb_tells}
 use Rattle.std.proofs.lemmas.List.{drop_all}
 use Rattle.std.proofs.Math.Bool.{or-true}
+use Rattle.std.proofs.lemmas.Grind.{common_steps}
 use Rattle.rustc_lexer.specs.declared.token.Token.{Token}
 use Rattle.rustc_lexer.specs.Classes.{IsText}
 use Rattle.rustc_lexer.specs.Locality.{IsGrammar}
@@ -39,24 +40,8 @@ is_bound-elim (t ∷ ts) p e = by_tests (is_bound-elim ts (p - t.len)) (eqb p 0)
 
 -- where every bound before number n is below the place, and number n is not, the place is a bound only if it is that one
 pub is_bound-decide : (ts : List Token) (n p : ℕ) → n ≤ length ts → ((i : ℕ) → i < n → bound ts i < p) → (n < length ts → p ≤ bound ts n) → is_bound ts p ≡ eqb (bound ts n) p
-is_bound-decide ts n p few below reached = by_test (eqb (bound ts n) p) (is_bound ts p) refl refl
-  where
-    by_test : (a b : Bool) → eqb (bound ts n) p ≡ a → is_bound ts p ≡ b → b ≡ a
-    by_test true true ea eb = refl
-    by_test false false ea eb = refl
-    by_test true false ea eb = sym eb ∙ is_bound-intro ts n p (eqb-true (bound ts n) p ea)
-    by_test false true ea eb =
-        let at = is_bound-elim ts p eb in
-        let in_list = at.1 in
-        let is_p = at.2 in
-        let not_here : bound ts n ≢ p = λ e. true≢false (sym (eq-eqb (bound ts n) p e) ∙ ea) in
-        absurd (elim (leb_tells n at.0) [
-          | inr before ↦ let lt = below at.0 before.1 in omega arith
-          | inl after ↦ elim (eq-or-lt_of_le after.1) [
-            | inl same ↦ not_here (ap (bound ts) same ∙ is_p)
-            | inr later ↦ let le = bound_mono ts n at.0 after.1 in let r = reached (omega arith) in not_here (omega arith)
-          ]
-        ])
+is_bound-decide ts n p few below reached =
+    grind (arith, common_steps, is_bound-intro, eqb-true, is_bound-elim, eq-eqb, leb_tells, eq-or-lt_of_le, bound_mono)
 
 pub rises : {first : List ℕ → Token} (law : IsGrammar first) (text : List ℕ) → IsText text → (k : ℕ) → k < length (tokens_by first text) → bound (tokens_by first text) k < bound (tokens_by first text) (suc k)
 rises {first} law text is k few =
@@ -85,17 +70,7 @@ ends_past-at (t ∷ ts) (suc i) few up =
 
 -- the last bound is the text's end
 pub bound-last : {first : List ℕ → Token} (law : IsGrammar first) (text : List ℕ) → IsText text → bound (tokens_by first text) (length (tokens_by first text)) ≡ length text
-bound-last {first} law text is =
-    let n : ℕ = length (tokens_by first text) in
-    let cut : IsCutAt first text (tokens_by first text) n = at_bound law n text is in
-    let all : drop n (tokens_by first text) ≡ [] = drop_all n (tokens_by first text) (omega arith) in
-    let left : List ℕ = drop (bound (tokens_by first text) n) text in
-    let none : length left ≡ 0 = empty left cut.past (sym cut.rest ∙ all) in
-    omega (arith, cut.inside, length-drop (bound (tokens_by first text) n) text)
-  where
-    empty : (left : List ℕ) → IsText left → tokens_by first left ≡ [] → length left ≡ 0
-    empty [] l e = refl
-    empty (c ∷ cs) l e = absurd (let none : suc (length (tokens_by first (drop (first (c ∷ cs)).len (c ∷ cs)))) ≡ 0 = ap length (sym (tokens-cons law (c ∷ cs) l (omega arith)) ∙ e) in omega arith)
+bound-last {first} law text is = grind (arith, common_steps, at_bound, drop_all, length-drop, tokens-cons)
 
 pub tokens_le_bytes : {first : List ℕ → Token} (law : IsGrammar first) (text : List ℕ) → IsText text → length (tokens_by first text) ≤ length text
 tokens_le_bytes {first} law text is =

@@ -1,13 +1,15 @@
 -- A run of characters whose front is in ASCII, by its bytes.
-use Rattle.std.proofs.Common.{◌≡◌, ℕ, suc, ◌<◌, Bool, true, false, true≢false, List, [], ◌∷◌, ◌++◌, drop, refl, sym, ap, ◌∙◌, arith, subst, nat_lt}
+use Rattle.std.proofs.Common.{◌≡◌, ℕ, suc, ◌<◌, Bool, true, false, List, [], ◌∷◌, ◌++◌, drop, refl, sym, ap, ◌∙◌, arith, subst}
 use Rattle.std.specs.Char.{encode_utf8}
 use Rattle.std.specs.List.{prefix_len}
 use Rattle.std.specs.Str.{chars, encode_utf8_all, IsUtf8, IsCharBoundary}
 use Rattle.std.proofs.lemmas.Bool.{lt-ltb, ltb-true}
 use Rattle.std.proofs.lemmas.Str.{chars-nil, chars_past_char, encodes-chars, IsUtf8-past_char, encode_ascii, IsCharBoundary-from_drop}
 use Rattle.std.proofs.lemmas.List.Sums.{prefix_len-le-length}
+use Rattle.std.proofs.lemmas.Grind.{common_steps}
 use Rattle.rustc_lexer.specs.means.ByteRuns.{is_wide}
 use Rattle.rustc_lexer.specs.means.Scan.{past, next_is, run_len}
+use Rattle.rustc_lexer.specs.laws.Choice.{by_either}
 
 -- a text that begins with a byte of ASCII
 module _ (b : ℕ) (bs : List ℕ) (is : IsUtf8 (b ∷ bs)) (small : b < 128) where
@@ -43,34 +45,25 @@ pub record Skips (q p : ℕ → Bool) (text left : List ℕ) : Type 0 where
 
 pub skips : (q p : ℕ → Bool) → IsPart q p → (text : List ℕ) → IsUtf8 text → Skips q p text (drop (prefix_len q text) text)
 skips q p part [] is = record { utf8 = is; run = refl; stops = refl }
-skips q p part (b ∷ bs) is = by_test (skips q p part bs) (q b) refl
-  where
-    by_test : (IsUtf8 bs → Skips q p bs (drop (prefix_len q bs) bs)) → (t : Bool) → q b ≡ t → Skips q p (b ∷ bs) (drop (prefix_len q (b ∷ bs)) (b ∷ bs))
-    by_test ih true e =
-        let small = part.small b e in
-        let rest = ih (IsUtf8-ascii b bs is small) in
-        let more : prefix_len q (b ∷ bs) ≡ suc (prefix_len q bs) = rw e (omega arith) in
-        let in_class : p b ≡ true = sym (part.same b small) ∙ e in
-        subst (λ n. Skips q p (b ∷ bs) (drop n (b ∷ bs))) (sym more) record {
-          utf8 = rest.utf8;
-          run = ap (past_run p) (chars-ascii b bs is small) ∙ (past_run-in p b (chars bs) in_class ∙ rest.run);
-          stops = rest.stops;
-        }
-    by_test ih false e =
-        let none : prefix_len q (b ∷ bs) ≡ 0 = rw e refl in
-        subst (λ n. Skips q p (b ∷ bs) (drop n (b ∷ bs))) (sym none) record { utf8 = is; run = refl; stops = e }
+skips q p part (b ∷ bs) is = by_either (q b)
+    (λ e.
+    let small = part.small b e in
+    let rest = skips q p part bs (IsUtf8-ascii b bs is small) in
+    let more : prefix_len q (b ∷ bs) ≡ suc (prefix_len q bs) = rw e (omega arith) in
+    let in_class : p b ≡ true = sym (part.same b small) ∙ e in
+    subst (λ n. Skips q p (b ∷ bs) (drop n (b ∷ bs))) (sym more) record {
+      utf8 = rest.utf8;
+      run = ap (past_run p) (chars-ascii b bs is small) ∙ (past_run-in p b (chars bs) in_class ∙ rest.run);
+      stops = rest.stops;
+    })
+    (λ e.
+    let none : prefix_len q (b ∷ bs) ≡ 0 = rw e refl in
+    subst (λ n. Skips q p (b ∷ bs) (drop n (b ∷ bs))) (sym none) record { utf8 = is; run = refl; stops = e })
 
 -- a text that begins with no byte of the class, nor with one that is not in ASCII
 stays : (q p : ℕ → Bool) → IsPart q p → (left : List ℕ) → IsUtf8 left → next_is q left ≡ false → next_is is_wide left ≡ false → past_run p (chars left) ≡ left
-stays q p part [] is stops narrow = ap (past_run p) chars-nil
-stays q p part (b ∷ bs) is stops narrow = by_size (nat_lt b 128) refl
-  where
-    by_size : (t : Bool) → nat_lt b 128 ≡ t → past_run p (chars (b ∷ bs)) ≡ b ∷ bs
-    by_size false e = absurd (true≢false (sym (rw e refl) ∙ narrow))
-    by_size true e =
-        let small = ltb-true b 128 e in
-        let out : p b ≡ false = sym (part.same b small) ∙ stops in
-        ap (past_run p) (chars-ascii b bs is small) ∙ (past_run-out p b (chars bs) out ∙ (ap encode_utf8_all (sym (chars-ascii b bs is small)) ∙ encodes-chars (b ∷ bs) is))
+stays q p part w3 is stops narrow =
+    grind (arith, common_steps, chars-nil, ltb-true, chars-ascii, past_run-out, encodes-chars)
 
 -- where the bytes of the class at the front of a text end, it may be cut, and the run of the class goes on from there
 module _ (q p : ℕ → Bool) (part : IsPart q p) (text bytes : List ℕ) (end : ℕ) (is : IsUtf8 text) (read : bytes ≡ text) (counted : end ≡ prefix_len q bytes) where
@@ -95,9 +88,7 @@ module _ (q p : ℕ → Bool) (part : IsPart q p) (text bytes : List ℕ) (end :
 
     pub stops_here : next_is is_wide left ≡ false → left ≡ past (run_len p (chars text)) text
     unfolding past there e
-    stops_here narrow =
-        let at : Skips q p text left = subst (λ xs. Skips q p text xs) (sym f) there in
-        sym (at.run ∙ stays q p part left at.utf8 at.stops narrow)
+    stops_here narrow = grind (arith, common_steps, there, stays)
 
 -- past a character of the class, and such bytes after it
 pub skip_char : (q p : ℕ → Bool) → IsPart q p → (text left tail : List ℕ) (c : ℕ) → Skips q p text left → chars left ≡ c ∷ chars tail → IsUtf8 tail → p c ≡ true
@@ -108,12 +99,7 @@ skip_char q p part text left tail c at reads is in_class bytes n next read count
 
 -- no byte of the class stands where a byte outside ASCII does
 pub wide_stops : (q p : ℕ → Bool) → IsPart q p → (xs : List ℕ) → next_is is_wide xs ≡ true → next_is q xs ≡ false
-wide_stops q p part [] e = refl
-wide_stops q p part (b ∷ bs) e = by_test (q b) refl
-  where
-    by_test : (t : Bool) → q b ≡ t → q b ≡ false
-    by_test false f = f
-    by_test true f = absurd (true≢false (sym e ∙ rw (lt-ltb b 128 (part.small b f)) refl))
+wide_stops q p part w3 e = grind (arith, common_steps, e, lt-ltb)
 
 -- where the run ends
 module _ (q p : ℕ → Bool) (text left : List ℕ) (at : Skips q p text left) where

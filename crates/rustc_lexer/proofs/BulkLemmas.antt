@@ -5,6 +5,7 @@ use Rattle.std.proofs.lemmas.List.{take-append-drop, take_at, take_more_set, dro
 use Rattle.std.proofs.lemmas.List.Elements.{All-head, All-tail}
 use Rattle.std.proofs.lemmas.Str.{IsCharBoundary-from_drop}
 use Rattle.std.proofs.Math.Nat.{min-eq_left, min-eq_right, min-le_right}
+use Rattle.std.proofs.lemmas.Grind.{common_steps}
 use Rattle.rustc_lexer.specs.declared.token.Token.{Token}
 use Rattle.rustc_lexer.specs.declared.edition.Edition.{Edition}
 use Rattle.rustc_lexer.specs.declared.token.FrontmatterAllowed.{FrontmatterAllowed}
@@ -19,7 +20,7 @@ use Rattle.rustc_lexer.specs.means.Edition.{first_token_in}
 use Rattle.rustc_lexer.specs.means.Taking.{token_at, advance_by, advance}
 use Rattle.rustc_lexer.specs.laws.Edition.{edition_grammar}
 use Rattle.rustc_lexer.specs.laws.Cuts.{IsCutAt, at_bound, tokens-cons, tokens-nil}
-use Rattle.rustc_lexer.proofs.ProgressLemmas.{IsNext, IsPlace, next-from_drop}
+use Rattle.rustc_lexer.proofs.ProgressLemmas.{IsPlace, next-from_drop}
 use Rattle.rustc_lexer.specs.laws.State.{state, past_token, edition-after, advance-some}
 use Rattle.rustc_lexer.specs.laws.Tokens.{partitions}
 use Rattle.rustc_lexer.proofs.TokensLemmas.{restarts}
@@ -38,54 +39,25 @@ none_written written tokens room = record { front = refl; back = refl; few = ome
 module _ {X : Type 0} (written : Token → X) (tokens left : List Token) (room filled : List X) (count : ℕ) (token : Token) (is : IsWritten written tokens room filled count) (next : drop count tokens ≡ token ∷ left) (fits : count < length filled) where
   pub one_written : (x : X) → x ≡ written token → IsWritten written tokens room (slice_set filled count x) (count + 1)
   one_written x e =
-      let more : count + 1 ≡ suc count = omega arith in
-      let step : IsNext tokens count token = next-from_drop tokens count token left next in
-      let low : count < count + 1 = omega arith in
-      record {
-        front = take_more_set filled count x fits ∙ (ap (λ l. l ++ x ∷ []) is.front ∙ (ap (λ y. map written (take count tokens) ++ y ∷ []) e
-            ∙ (sym (map-append written (take count tokens) (token ∷ [])) ∙ ap (map written) (sym step.more ∙ ap (λ n. take n tokens) (sym more)))));
-        back = drop-set-lt (count + 1) filled count x low ∙ (sym (drop-drop 1 count filled) ∙ (ap (drop 1) is.back ∙ drop-drop 1 count room));
-        few = let n = step.number in omega arith;
-        within = let l = is.long in omega arith;
-        long = length-set filled count x ∙ is.long;
-      }
+      grind (arith, common_steps, next-from_drop, take_more_set, map-append, drop-set-lt, drop-drop, length-set)
 
 pub whole_room : {X : Type 0} (written : Token → X) (tokens : List Token) (room filled : List X) (count : ℕ) → IsWritten written tokens room filled count → filled ≡ map written (take count tokens) ++ drop count room
 whole_room written tokens room filled count is = sym (take-append-drop count filled) ∙ (ap (λ l. l ++ drop count filled) is.front ∙ ap (λ l. map written (take count tokens) ++ l) is.back)
 
 pub is_written : {X : Type 0} (written : Token → X) (tokens : List Token) (room filled : List X) (count : ℕ) → count ≤ length tokens → count ≤ length room → filled ≡ map written (take count tokens) ++ drop count room → IsWritten written tokens room filled count
 is_written written tokens room filled count few within is =
-    let n : length (map written (take count tokens)) ≡ count = length-map (take count tokens) written ∙ length-take-le count tokens few in
-    record {
-      front = ap (take count) is ∙ take_at (map written (take count tokens)) (drop count room) count n;
-      back = ap (drop count) is ∙ drop_at (map written (take count tokens)) (drop count room) count n;
-      few = few;
-      within = within;
-      long = omega (arith, ap length is, length-append (map written (take count tokens)) (drop count room), n, length-drop count room);
-    }
+    grind (arith, common_steps, length-map, length-take-le, take_at, drop_at, length-append, length-drop)
 
 -- either no token is left, or no room
 pub all_written : {X : Type 0} (written : Token → X) (tokens : List Token) (room filled : List X) (count : ℕ) → IsWritten written tokens room filled count → length tokens ≤ count → IsFilled written tokens room filled count
-all_written written tokens room filled count is all = record {
-  as_many = let n : length tokens ≤ length room = omega (arith, is.within) in let e : count ≡ length tokens = omega (arith, is.few) in e ∙ sym (min-eq_right n);
-  tokens = whole_room written tokens room filled count is;
-}
+all_written written tokens room filled count is all = grind (arith, common_steps, min-eq_right, whole_room)
 
 -- the tokens that begin before a place are written, and no other is left to be, or no room
 pub begun_more : (tokens : List Token) (count at end : ℕ) → at ≡ bound tokens count → at < end → ((k : ℕ) → k < count → bound tokens k < end) → (k : ℕ) → k < count + 1 → bound tokens k < end
-begun_more tokens count at end place more begun k less = elim (cases_lt k count) [
-  | inl below ↦ begun k below
-  | inr same ↦ let e : k ≡ count = omega arith in omega (arith, place, ap (bound tokens) e)
-]
+begun_more tokens count at end place more begun k less = grind (arith, common_steps, cases_lt)
 
 pub written_to : {X : Type 0} (written : Token → X) (end : ℕ) (tokens : List Token) (room filled : List X) (count at : ℕ) → IsWritten written tokens room filled count → at ≡ bound tokens count → ((k : ℕ) → k < count → bound tokens k < end) → (count < length filled → end ≤ at) → IsFilledTo written end tokens room filled count
-written_to written end tokens room filled count at is place begun done = record {
-  few = is.few;
-  within = is.within;
-  tokens = whole_room written tokens room filled count is;
-  begun = begun;
-  all = λ more. let e = done (omega (arith, is.long)) in omega (arith, place);
-}
+written_to written end tokens room filled count at is place begun done = grind (arith, common_steps, whole_room)
 
 -- ---- where the tokens end in the text
 
@@ -102,11 +74,7 @@ module _ {first : List ℕ → Token} (law : IsGrammar first) (text : List ℕ) 
       cut.rest ∙ (ap (λ p. tokens_by first (drop p text)) (sym place) ∙ tokens-cons law (drop at text) stands.past some)
 
   pub next_place : at < length text → at + (first (drop at text)).len ≡ bound (tokens_by first text) (count + 1)
-  next_place more =
-      let step : IsNext (tokens_by first text) count (first (drop at text)) = next-from_drop _ count _ _ (next_token more) in
-      let e : count + 1 ≡ suc count = omega arith in
-      let z : bound (tokens_by first text) (suc count) ≡ at + (first (drop at text)).len = step.end ∙ ap (λ n. n + (first (drop at text)).len) (sym place) in
-      sym (ap (bound (tokens_by first text)) e ∙ z)
+  next_place more = grind (arith, common_steps, next-from_drop, next_token)
 
   pub next_some : at < length text → 0 < (first (drop at text)).len
   next_some more = law.not_empty (drop at text) stands.past (omega (arith, length-drop at text))
@@ -185,10 +153,7 @@ part-stays edition zero s is = is
 part-stays edition (suc count) s is = part-advanced edition (state_past count s).rest (state_past count s) (part-stays edition count s is)
 
 pub part-left : (s t : State) (count : ℕ) (rest : List ℕ) → s.pending ≡ 0 → t ≡ state_past count s → t.rest ≡ rest → s.mode ≡ part (mode_edition s.mode) → t ≡ state s.pending rest s.mode
-part-left s t count rest none past cut is =
-    let there = part-stays (mode_edition s.mode) count s (none, is) in
-    ap (λ n. state n t.rest t.mode) (ap (λ (x : State). x.pending) past ∙ (there.0 ∙ sym none))
-    ∙ (ap (λ xs. state s.pending xs t.mode) cut ∙ ap (state s.pending rest) (ap (λ (x : State). x.mode) past ∙ (there.1 ∙ sym is)))
+part-left s t count rest none past cut is = grind (arith, common_steps, part-stays)
 
 -- how an iterator reads is told by the flag and the edition that it holds
 pub mode-held : (allowed : FrontmatterAllowed) (edition : Edition) (mode : Mode) → mode_in allowed edition ≡ mode → mode ≡ mode_in allowed (mode_edition mode)
@@ -207,23 +172,11 @@ count_bound [] some (suc count) few = absurd (omega arith)
 count_bound (t ∷ ts) some (suc count) few = let ih = count_bound ts (All-tail (λ (t : Token). 0 < t.len) t ts some) count (omega arith) in let one = All-head (λ (t : Token). 0 < t.len) t ts some in omega arith
 
 pub fewer_left : (text left : List ℕ) (tokens : List Token) → Partitions text tokens → (room count : ℕ) → count ≡ min room (length tokens) → left ≡ drop (bound tokens count) text → length left + count ≤ length text
-fewer_left text left tokens parts room count e cut =
-    let few : count ≤ length tokens = omega (arith, min-le_right room (length tokens)) in
-    let inside = (parts.boundaries count few).0 in
-    let long : length left ≡ length (drop (bound tokens count) text) = ap length cut in
-    omega (arith, inside, long, length-drop (bound tokens count) text, count_bound tokens parts.not_empty count few)
+fewer_left text left tokens parts room count e cut = grind (arith, common_steps, min-le_right, length-drop, count_bound)
 
 pub shorter_left : (text left : List ℕ) (tokens : List Token) → Partitions text tokens → (room count : ℕ) → count ≡ min room (length tokens) → left ≡ drop (bound tokens count) text → 0 < room → 0 < length text → length left < length text
 shorter_left text left tokens parts room count e cut some_room some_text =
-    let some : 0 < length tokens = elim (cases_lt 0 (length tokens)) [
-      | inl more ↦ more
-      | inr none ↦ absurd (let n : length tokens ≡ 0 = omega arith in let w : bound tokens (length tokens) ≡ 0 = ap (bound tokens) n in omega (arith, w, parts.whole))
-    ] in
-    let counted : 0 < count = elim (cases_lt room (length tokens)) [
-      | inl near ↦ let le : room ≤ length tokens = omega arith in omega (arith, e, min-eq_left le)
-      | inr far ↦ omega (arith, e, min-eq_right far)
-    ] in
-    omega (arith, counted, fewer_left text left tokens parts room count e cut)
+    grind (arith, common_steps, cases_lt, min-eq_left, min-eq_right, fewer_left)
 
 -- ---- what a call of `fill` leaves
 
@@ -271,6 +224,4 @@ module _ (s at past : State) (count : ℕ) (token : Token) (there : at ≡ state
   left_more = ap (drop 1) (sym next_is) ∙ drop-drop 1 count (tokens_left s)
 
   pub rest_more : past.rest ≡ drop (bound (tokens_left s) (count + 1)) s.rest
-  rest_more =
-      let step : IsNext (tokens_left s) count token = next-from_drop (tokens_left s) count token (tokens_left past) next_is in
-      takes.rest ∙ (ap (drop token.len) cut ∙ (drop-drop token.len (bound (tokens_left s) count) s.rest ∙ ap (λ n. drop n s.rest) (sym (ap (bound (tokens_left s)) more_is ∙ step.end))))
+  rest_more = grind (arith, common_steps, next-from_drop, drop-drop, more_is)

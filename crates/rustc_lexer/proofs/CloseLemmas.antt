@@ -1,5 +1,5 @@
 -- The quote that closes a raw string with no hash or one, by the bits of 64 bytes.
-use Rattle.std.proofs.Common.{◌≡◌, ℕ, zero, suc, ◌+◌, ◌-◌, ◌^◌, ◌≤◌, ◌<◌, ◌==◌, ◌&&◌, ◌||◌, nat_le, Bool, true, false, true≢false, if◌then◌else◌, List, [], ◌∷◌, ◌++◌, map, length, drop, get_or, refl, sym, ap, ap₂, ◌∙◌, subst, arith, length-drop, drop-drop, inl, inr, Option, Some, Result, Ok}
+use Rattle.std.proofs.Common.{◌≡◌, ℕ, zero, suc, ◌+◌, ◌-◌, ◌^◌, ◌≤◌, ◌<◌, ◌==◌, ◌&&◌, ◌||◌, nat_le, Bool, true, false, true≢false, if◌then◌else◌, List, [], ◌∷◌, ◌++◌, map, length, drop, get_or, refl, sym, ap, ap₂, ◌∙◌, subst, arith, length-drop, drop-drop, inl, inr, Some, Ok}
 use Rattle.std.specs.Char.{encode_utf8}
 use Rattle.std.specs.Str.{chars, encode_utf8_all, IsUtf8, IsCharBoundary}
 use Rattle.std.proofs.Math.Seq.{drop-append_seam, drop-cons}
@@ -8,14 +8,15 @@ use Rattle.std.proofs.lemmas.List.{drop_all, length-map}
 use Rattle.std.proofs.lemmas.Simd.{length-chunk, mask_l-lt}
 use Rattle.std.proofs.lemmas.Str.{char_from_byte, encode_ascii, inside_one, encodes-chars, IsCharBoundary-from_drop}
 use Rattle.std.proofs.Math.Bool.{and-true, or-true, or-false, and-false}
+use Rattle.std.proofs.lemmas.Grind.{common_steps}
 use Rattle.memchr.specs.Find.{is_byte}
 use lib.Count.{count_trailing_zeros}
 use lib.Lanes.{chunk, mask_l}
-use Rattle.rustc_lexer.specs.declared.token.RawStrError.{RawStrError}
 use Rattle.rustc_lexer.specs.means.Ends.{bit}
 use Rattle.rustc_lexer.specs.means.Least.{one_more}
-use Rattle.rustc_lexer.specs.means.Raw.{is_hash, is_quote, hash_run, closes, close, hash_count, raw_closed, raw_text}
+use Rattle.rustc_lexer.specs.means.Raw.{is_hash, is_quote, hash_run, closes, close, raw_text}
 use Rattle.rustc_lexer.specs.means.Scan.{bytes_of, past, scanned}
+use Rattle.rustc_lexer.specs.laws.Choice.{by_either}
 use Rattle.rustc_lexer.proofs.BitLemmas.{bit-at_byte, bit-above, lowest, below-lowest}
 use Rattle.rustc_lexer.specs.laws.CharSteps.{bytes_of-suc}
 use Rattle.rustc_lexer.specs.laws.Past.{past-past, past-drop, length-past, chars-past, IsUtf8-past}
@@ -29,14 +30,10 @@ one_hash true n = le-leb 1 (suc n) (omega arith)
 one_hash false n = refl
 
 closes_bare : (text : List ℕ) (k : ℕ) → k < length text → closes 0 (drop k text) ≡ is_quote (get_or text k 0)
-closes_bare text k l =
-    ap (closes 0) (drop-cons text k 0 l)
-    ∙ (ap (λ b. is_quote (get_or text k 0) && b) (le-leb 0 (hash_run (drop (suc k) text)) (omega arith)) ∙ and-true (is_quote (get_or text k 0)))
+closes_bare text k l = grind (arith, common_steps, drop-cons, le-leb, and-true)
 
 closes_hashed : (text : List ℕ) (k : ℕ) → suc k < length text → closes 1 (drop k text) ≡ (is_quote (get_or text k 0) && is_hash (get_or text (suc k) 0))
-closes_hashed text k l =
-    ap (closes 1) (drop-cons text k 0 (omega arith) ∙ ap (λ s. get_or text k 0 ∷ s) (drop-cons text (suc k) 0 l))
-    ∙ ap (λ b. is_quote (get_or text k 0) && b) (one_hash (is_hash (get_or text (suc k) 0)) (hash_run (drop (suc (suc k)) text)))
+closes_hashed text k l = grind (arith, common_steps, drop-cons, one_hash)
 
 module _ (text : List ℕ) (n quotes hashes found : ℕ) (few : n ≤ 1) (long : 64 ≤ length text) (small : found < 2 ^ 64)
     (of_quotes : quotes ≡ mask_l (map (is_byte 34) (chunk 0 64 text))) (of_hashes : hashes ≡ mask_l (map (is_byte 35) (chunk 0 64 text)))
@@ -51,9 +48,7 @@ module _ (text : List ℕ) (n quotes hashes found : ℕ) (few : n ≤ 1) (long :
   bare_at e k l = rw e (closes_bare text k (omega arith)) ∙ sym (at k l ∙ (ap₂ (λ a b. a && b) (quote_at k l) (rw e (or-true (bit hashes (suc k)))) ∙ and-true (is_quote (get_or text k 0))))
 
   hashed_at : n ≡ 1 → (k : ℕ) → suc k < 64 → closes n (drop k text) ≡ bit found k
-  hashed_at e k l =
-      rw e (closes_hashed text k (omega arith))
-      ∙ sym (at k (omega arith) ∙ ap₂ (λ a b. a && b) (quote_at k (omega arith)) (rw e (or-false (bit hashes (suc k))) ∙ hash_at (suc k) l))
+  hashed_at e k l = grind (arith, common_steps, closes_hashed, quote_at, or-false, hash_at)
 
   hashes_small : hashes < 2 ^ 64
   hashes_small =
@@ -76,12 +71,7 @@ module _ (text : List ℕ) (n quotes hashes found : ℕ) (few : n ≤ 1) (long :
       by_count (suc (suc m)) e = absurd (omega arith)
 
   clear_opens : (k : ℕ) → suc k < 64 → bit found k ≡ false → closes n (drop k text) ≡ false
-  clear_opens k l clear = by_count n refl
-    where
-      by_count : (m : ℕ) → n ≡ m → closes n (drop k text) ≡ false
-      by_count zero e = bare_at e k (omega arith) ∙ clear
-      by_count (suc zero) e = hashed_at e k l ∙ clear
-      by_count (suc (suc m)) e = absurd (omega arith)
+  clear_opens k l clear = grind (arith, common_steps, bare_at, hashed_at)
 
   some : count_trailing_zeros 64 found < 64 → 0 < found
   unfolding count_trailing_zeros
@@ -147,10 +137,7 @@ module _ (n c : ℕ) (cs text : List ℕ) (k : ℕ) (e : text ≡ encode_utf8 c 
   same = omega arith
 
   in_rest : ClosesAt n (encode_utf8_all cs) (k - length (encode_utf8 c))
-  in_rest = record {
-    here = ap (closes n) (rest_is (k - length (encode_utf8 c)) ∙ ap (λ j. drop j text) same) ∙ at.here;
-    before = λ j less. ap (closes n) (rest_is j) ∙ at.before (length (encode_utf8 c) + j) (omega arith);
-  }
+  in_rest = grind (arith, common_steps, rest_is, same)
 
   pass : Closed n cs (encode_utf8_all cs) (k - length (encode_utf8 c)) → Closed n (c ∷ cs) text k
   pass found = record {
@@ -173,7 +160,13 @@ by_chars n (c ∷ cs) text k e at = by_quote (by_chars n cs) (is_quote c) refl
           | inr past ↦ past
         ] in
         pass n c cs text k e stays far at (ih (encode_utf8_all cs) (k - length (encode_utf8 c)) refl (in_rest n c cs text k e stays far at))
-    by_quote ih true f = by_close (closes n (c ∷ cs)) refl
+    by_quote ih true f = by_either (closes n (c ∷ cs))
+        (λ g.
+        let none : k ≡ 0 = elim (cases_lt 0 k) [ inl more ↦ absurd (true≢false (sym (alike ∙ g) ∙ at.before 0 more)) | inr none ↦ omega arith ] in
+        record { taken = 0; least = place-here (closes n) c cs g; passes = g; there = sym e ∙ ap (λ j. drop j text) (sym none) })
+        (λ g.
+        let far : length (encode_utf8 c) ≤ k = elim (cases_lt 0 k) [ inl more ↦ omega (arith, ap length one) | inr none ↦ absurd (true≢false (sym at.here ∙ (ap (λ j. closes n (drop j text)) (let z : k ≡ 0 = omega arith in z) ∙ (alike ∙ g)))) ] in
+        pass n c cs text k e g far at (ih (encode_utf8_all cs) (k - length (encode_utf8 c)) refl (in_rest n c cs text k e g far at)))
       where
         quote : c ≡ 34
         quote = eqb-true c 34 f
@@ -183,14 +176,6 @@ by_chars n (c ∷ cs) text k e at = by_quote (by_chars n cs) (is_quote c) refl
 
         alike : closes n text ≡ closes n (c ∷ cs)
         alike = ap (closes n) (e ∙ ap (λ xs. xs ++ encode_utf8_all cs) one) ∙ ap (λ h. is_quote c && nat_le n h) (hash_bytes_run cs)
-
-        by_close : (t : Bool) → closes n (c ∷ cs) ≡ t → Closed n (c ∷ cs) text k
-        by_close true g =
-            let none : k ≡ 0 = elim (cases_lt 0 k) [ inl more ↦ absurd (true≢false (sym (alike ∙ g) ∙ at.before 0 more)) | inr none ↦ omega arith ] in
-            record { taken = 0; least = place-here (closes n) c cs g; passes = g; there = sym e ∙ ap (λ j. drop j text) (sym none) }
-        by_close false g =
-            let far : length (encode_utf8 c) ≤ k = elim (cases_lt 0 k) [ inl more ↦ omega (arith, ap length one) | inr none ↦ absurd (true≢false (sym at.here ∙ (ap (λ j. closes n (drop j text)) (let z : k ≡ 0 = omega arith in z) ∙ (alike ∙ g)))) ] in
-            pass n c cs text k e g far at (ih (encode_utf8_all cs) (k - length (encode_utf8 c)) refl (in_rest n c cs text k e g far at))
 
 -- ---- what is left behind the hashes
 
@@ -232,8 +217,4 @@ module _ (text : List ℕ) (n k : ℕ) (is : IsUtf8 text) (at : ClosesAt n text 
   close_cut = IsCharBoundary-from_drop text (k + 1 + n) room (subst IsUtf8 (sym cut_is) (IsUtf8-past (suc closed.taken + n) text is))
 
   pub closed_by : n ≤ 255 → (before : ℕ) (left : List ℕ) → left ≡ drop (k + 1 + n) text → (Ok n, left) ≡ scanned (raw_text n before) text
-  closed_by few before left e =
-      let counts : (Ok n) ≡ hash_count n = rw (le-leb n 255 few) refl in
-      ap (λ (r : Result ℕ RawStrError). (r, left)) counts
-      ∙ (ap (λ (xs : List ℕ). (hash_count n, xs)) (e ∙ cut_is)
-      ∙ ap (λ (o : Option ℕ). ((raw_closed n before (chars text) o).0, past (raw_closed n before (chars text) o).1 text)) (sym closed.least))
+  closed_by few before left e = grind (arith, common_steps, le-leb, cut_is, closed)

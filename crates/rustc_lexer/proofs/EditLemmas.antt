@@ -134,11 +134,7 @@ has_two-same text other place to same =
     ap (λ xs. leb 2 (length (chars xs))) (sym (drop_of-take place to text) ∙ (ap (drop place) same ∙ drop_of-take place to other))
 
 pub has_two-late : (text : List ℕ) (place to : ℕ) → to ≤ place → has_two text place to ≡ false
-has_two-late text place to late = by_test (has_two text place to) refl
-  where
-    by_test : (b : Bool) → has_two text place to ≡ b → b ≡ false
-    by_test false e = refl
-    by_test true e = absurd (let before = has_two-before text place to e in omega arith)
+has_two-late text place to late = grind (arith, common_steps, has_two-before)
 
 -- a place before another has no fewer characters past it
 pub has_two-mono : (text : List ℕ) (place later to : ℕ) → IsUtf8 text → place ≤ later → IsCharBoundary text place → IsCharBoundary text later → has_two text later to ≡ true → has_two text place to ≡ true
@@ -216,10 +212,7 @@ three_parts text start stop less =
 pub put_back : (text : List ℕ) (start stop : ℕ) (insert : List ℕ) → IsText text → IsUtf8 insert → IsEdit text start stop insert
     → apply (apply text start stop insert) start (start + length insert) (slice_range text start stop) ≡ text
 unfolding apply
-put_back text start stop insert is its edit =
-    let ed : IsEdited text start stop insert (apply text start stop insert) = edited text start stop insert is its edit in
-    ap (λ front. front ++ (slice_range text start stop ++ drop (start + length insert) (apply text start stop insert))) ed.front
-    ∙ (ap (λ back. take start text ++ (slice_range text start stop ++ back)) ed.back ∙ three_parts text start stop edit.inside.start_le_stop)
+put_back text start stop insert is its edit = grind (arith, common_steps, edited, three_parts)
 
 -- where two facts of what is answered give a third
 pub IfOk-two : {X Y : Type 0} (r : Result X Y) (P Q R : X → Type 0) → ((x : X) → P x → Q x → R x) → IfOk r P → IfOk r Q → IfOk r R

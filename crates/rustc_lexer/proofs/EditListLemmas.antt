@@ -1,5 +1,6 @@
 -- A list of edits, one edit at a time.
-use Rattle.std.proofs.Common.{◌≡◌, ℕ, zero, suc, ◌+◌, ◌<◌, List, [], ◌∷◌, length, take, get_or, refl, sym, ap, ◌∙◌, arith, subst}
+use Rattle.std.proofs.Common.{◌≡◌, ℕ, zero, suc, ◌+◌, ◌<◌, List, [], ◌∷◌, length, take, get_or, refl, arith}
+use Rattle.std.proofs.lemmas.Grind.{common_steps}
 use Rattle.rustc_lexer.specs.declared.token.Token.{Token}
 use Rattle.rustc_lexer.specs.declared.relex.edit.Edit.{Edit}
 use Rattle.rustc_lexer.specs.Edits.{IsEdit, relexed_of, applied, apply_list, lexed_list, AreEdits}
@@ -22,14 +23,10 @@ none = record { start = 0; stop = 0; insert = record { ref_ptr = (0, 0); now = [
 
 -- one more edit: what the text is then, and what was lexed by then
 pub text-more : (text now after : List ℕ) (es : List Edit) (n : ℕ) → n < length es → now ≡ apply_list text (take n es) → after ≡ applied now (get_or es n none) → after ≡ apply_list text (take (n + 1) es)
-text-more text now after es n few is made =
-    let e : suc n ≡ n + 1 = omega arith in
-    made ∙ (ap (λ t. applied t (get_or es n none)) is ∙ (sym (apply-next text es n none few) ∙ ap (λ k. apply_list text (take k es)) e))
+text-more text now after es n few is made = grind (arith, common_steps, apply-next)
 
 pub lexed-more : (first then : List ℕ → Token) (text now : List ℕ) (es : List Edit) (n : ℕ) → n < length es → now ≡ apply_list text (take n es) → then ≡ first → lexed_list first text (take n es) + lexed_by then now (get_or es n none) ≡ lexed_list first text (take (n + 1) es)
-lexed-more first then text now es n few is same =
-    let e : suc n ≡ n + 1 = omega arith in
-    rw (same, is) (sym (lexed-next first text es n none few) ∙ ap (λ k. lexed_list first text (take k es)) e)
+lexed-more first then text now es n few is same = grind (arith, common_steps, lexed-next)
 
 edits-next : (text : List ℕ) (es : List Edit) (n : ℕ) (d : Edit) → n < length es → AreEdits text (take n es) → IsEdit (apply_list text (take n es)) (get_or es n d).start (get_or es n d).stop (get_or es n d).insert.now → AreEdits text (take (suc n) es)
 edits-next text [] n d few are is = absurd (omega arith)
@@ -37,6 +34,4 @@ edits-next text (e ∷ es) zero d few are is = (is, tt)
 edits-next text (e ∷ es) (suc n) d few are is = (are.0, edits-next (applied text e) es n d (omega arith) are.1 is)
 
 pub edits-more : (text now : List ℕ) (es : List Edit) (n : ℕ) → n < length es → now ≡ apply_list text (take n es) → AreEdits text (take n es) → IsEdit now (get_or es n none).start (get_or es n none).stop (get_or es n none).insert.now → AreEdits text (take (n + 1) es)
-edits-more text now es n few same are is =
-    let e : suc n ≡ n + 1 = omega arith in
-    subst (λ k. AreEdits text (take k es)) e (edits-next text es n none few are (subst (λ t. IsEdit t (get_or es n none).start (get_or es n none).stop (get_or es n none).insert.now) same is))
+edits-more text now es n few same are is = grind (arith, common_steps, edits-next)

@@ -1,20 +1,21 @@
 -- What an edition has in place of some tokens.
-use Rattle.std.proofs.Common.{◌≡◌, ◌<◌, ℕ, nat_le, Bool, true, false, List, length, refl, IsCharBoundary}
+use Rattle.std.proofs.Common.{◌≡◌, ◌<◌, ℕ, nat_le, Bool, true, false, List, length, refl, IsCharBoundary, arith}
+use Rattle.std.proofs.lemmas.Str.{IsCharBoundary-from_take}
 use Rattle.rustc_lexer.specs.declared.edition.Edition.{Edition}
-use Rattle.rustc_lexer.specs.declared.edition.Edition.TheVariants.{E2024}
 use Rattle.rustc_lexer.specs.declared.token.FrontmatterAllowed.{FrontmatterAllowed}
 use Rattle.rustc_lexer.specs.declared.token.FrontmatterAllowed.TheVariants.{Yes, No}
 use Rattle.rustc_lexer.specs.declared.token.Token.{Token}
 use Rattle.rustc_lexer.specs.declared.token.TokenKind.{TokenKind}
-use Rattle.rustc_lexer.specs.declared.token.TokenKind.TheVariants.{UnknownPrefix, UnknownPrefixLifetime, RawLifetime, GuardedStrPrefix, Literal, Eof}
-use Rattle.rustc_lexer.specs.LanguageText.{year, document, mode_in, mode_of}
-use Rattle.rustc_lexer.specs.laws.Choice.{by_test}
+use Rattle.rustc_lexer.specs.declared.token.TokenKind.TheVariants.{GuardedStrPrefix, Literal, Eof}
+use Rattle.rustc_lexer.specs.LanguageText.{mode_in, mode_of}
+use Rattle.rustc_lexer.specs.laws.Choice.{by_either}
 use Rattle.rustc_lexer.specs.laws.Edition.{edition_grammar}
 use Rattle.rustc_lexer.specs.means.Edition.{token, before_2024, before_2021, changed, first_token_in}
 use Rattle.rustc_lexer.specs.Classes.{IsText}
 use Rattle.rustc_lexer.specs.means.Frontmatter.{frontmatter, opens}
 use Rattle.rustc_lexer.specs.means.Taking.{token_at}
 use Rattle.std.specs.Str.{chars}
+use Rattle.std.proofs.lemmas.Grind.{common_steps}
 
 -- kinds that say nothing of the text of their token
 abbrev pub is_silent : TokenKind → Bool
@@ -29,16 +30,10 @@ module _ (P : Token → Type 0) (silent : (kind : TokenKind) (len : ℕ) → is_
   in_2021 kind len p = p
 
   in_2018 : (cs : List ℕ) (kind : TokenKind) (len : ℕ) → P (token kind len) → P (before_2021 cs kind len)
-  in_2018 cs RawLifetime len p = silent _ _ refl
-  in_2018 cs UnknownPrefix len p = silent _ _ refl
-  in_2018 cs UnknownPrefixLifetime len p = silent _ _ refl
-  in_2018 cs GuardedStrPrefix len p = silent _ _ refl
-  in_2018 cs kind len p = p
+  in_2018 cs kind len p = grind (arith, common_steps)
 
   pub changed-either : (edition : Edition) (cs : List ℕ) (t : Token) → P t → P (changed edition cs t)
-  changed-either edition cs t p =
-      by_test P (nat_le 2024 (year edition)) _ _ (λ e. p) (λ e.
-      by_test P (nat_le 2021 (year edition)) _ _ (λ f. in_2021 t.kind t.len p) (λ f. in_2018 cs t.kind t.len p))
+  changed-either edition cs t p = grind (arith, common_steps, in_2018)
 
 -- the token of an edition at the front of a text may be cut off
 pub boundary-of : (edition : Edition) (text : List ℕ) (token : Token) → IsText text → 0 < length text → token ≡ first_token_in edition text → IsCharBoundary text token.len
@@ -47,15 +42,11 @@ boundary-of edition text token is some e =
 
 front-same : (edition : Edition) (text : List ℕ) → changed edition (chars text) (frontmatter text) ≡ frontmatter text
 unfolding frontmatter
-front-same edition text =
-    by_test (λ u. u ≡ frontmatter text) (nat_le 2024 (year edition)) _ _ (λ e. refl) (λ e.
-    by_test (λ u. u ≡ frontmatter text) (nat_le 2021 (year edition)) _ _ (λ f. refl) (λ f. refl))
+front-same edition text = grind (arith, common_steps)
 
 -- a frontmatter is the same in each edition, and what else a text begins with is changed
 pub changed-at : (allowed : FrontmatterAllowed) (edition : Edition) (text : List ℕ) → changed edition (chars text) (token_at (mode_of allowed) text) ≡ token_at (mode_in allowed edition) text
 changed-at No edition text = refl
-changed-at Yes edition text = by_opening (opens (chars text)) refl
-  where
-    by_opening : (b : Bool) → opens (chars text) ≡ b → changed edition (chars text) (token_at (document E2024) text) ≡ token_at (document edition) text
-    by_opening true e = rw e (front-same edition text)
-    by_opening false e = rw e refl
+changed-at Yes edition text = by_either (opens (chars text))
+    (λ e. rw e (front-same edition text))
+    (λ e. rw e refl)

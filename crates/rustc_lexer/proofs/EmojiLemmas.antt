@@ -7,8 +7,10 @@ use Rattle.std.specs.List.Sorted.{IsBinarySearchResult, IsPartitionPoint, IsSear
 use Rattle.std.specs.Ordering.{ordering_index}
 use Rattle.std.specs.declared.cmp.Ordering.{Ordering}
 use Rattle.std.specs.declared.cmp.Ordering.TheVariants.{Less, Equal, Greater}
+use Rattle.std.proofs.lemmas.Grind.{common_steps}
 use Rattle.rustc_lexer.specs.Tables.{emoji_ranges, is_emoji}
 use Rattle.rustc_lexer.specs.means.Emoji.{Range, is_within, in_ranges, side}
+use Rattle.rustc_lexer.specs.laws.Choice.{by_either}
 
 -- each range has a member, and begins past the end of the one before, the first at n or later
 abbrev rises_from : ℕ → List Range → Bool
@@ -26,28 +28,11 @@ index c r = ordering_index (side c r)
 -- the character is in the range that lies on neither side of it
 within : (c : ℕ) (r : Range) → is_within r c ≡ is_equal (side c r)
 unfolding is_equal
-within c r = by_test (nat_lt r.1 c) (nat_lt c r.0) refl refl
-  where
-    by_test : (past short : Bool) → nat_lt r.1 c ≡ past → nat_lt c r.0 ≡ short → is_within r c ≡ is_equal (side c r)
-    by_test true short e f = rw (e, lt-leb c r.1 (ltb-true r.1 c e)) (and-false (nat_le r.0 c))
-    by_test false true e f = rw (e, f, lt-leb r.0 c (ltb-true c r.0 f)) refl
-    by_test false false e f = rw (e, f, le-leb r.0 c (ltb-false c r.0 f), le-leb c r.1 (ltb-false r.1 c e)) refl
+within c r = grind (arith, common_steps, lt-leb, ltb-true, and-false, le-leb, ltb-false)
 
 -- of two ranges that rise, the later lies no less far on
 side_rises : (c : ℕ) (r s : Range) → r.1 < s.0 → s.0 ≤ s.1 → index c r ≤ index c s
-side_rises c r s apart some = by_test (nat_lt r.1 c) refl
-  where
-    at_most : (o : Ordering) → ordering_index o ≤ 2
-    at_most Less = omega arith
-    at_most Equal = omega arith
-    at_most Greater = omega arith
-
-    by_test : (past : Bool) → nat_lt r.1 c ≡ past → index c r ≤ index c s
-    by_test true e = rw e (omega arith)
-    by_test false e =
-        let le : c ≤ r.1 = ltb-false r.1 c e in
-        let greater : side c s ≡ Greater = rw (le-ltb s.1 c (omega arith), lt-ltb c s.0 (omega arith)) refl in
-        rw greater (at_most (side c r))
+side_rises c r s apart some = grind (arith, common_steps, ltb-false, le-ltb, lt-ltb)
 
 adjacent : (c n : ℕ) (rs : List Range) → rises_from n rs ≡ true → (k : ℕ) (d : Range) → k + 1 < length rs → index c (slice_index_or rs k d) ≤ index c (slice_index_or rs (k + 1) d)
 adjacent c n [] up k d lt = absurd (omega arith)
@@ -80,11 +65,9 @@ searched c rs (Err i) up bound found = sym (out_of_all c rs (λ k d lt. outside 
     parts = found (IsNonDecreasingBy-from_all_adjacent (index c) rs (λ k d lt. adjacent c 0 rs up k d lt))
 
     outside : (k : ℕ) (d : Range) → k < length rs → is_equal (side c (slice_index_or rs k d)) ≡ false
-    outside k d lt = by_place (nat_lt k i) refl
-      where
-        by_place : (b : Bool) → nat_lt k i ≡ b → is_equal (side c (slice_index_or rs k d)) ≡ false
-        by_place true e = ap is_equal (parts.0 k d (omega arith) (ltb-true k i e))
-        by_place false e = ap is_equal (parts.1 k d (ltb-false k i e) lt)
+    outside k d lt = by_either (nat_lt k i)
+        (λ e. ap is_equal (parts.0 k d (omega arith) (ltb-true k i e)))
+        (λ e. ap is_equal (parts.1 k d (ltb-false k i e) lt))
 
 -- past ASCII, what the search answers
 pub past_ascii : (c : ℕ) (ascii : Bool) (r : Result ℕ ℕ) → ascii ≡ nat_lt c 128 → ascii ≡ false → IsSearchInRange r (length emoji_ranges) → IsBinarySearchResult (side c) emoji_ranges r → is_ok r ≡ is_emoji c

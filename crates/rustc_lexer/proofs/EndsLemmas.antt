@@ -1,5 +1,5 @@
 -- The ends of runs, what is known past them, and the tokens that are told by them.
-use Rattle.std.proofs.Common.{◌≡◌, ◌≢◌, ℕ, zero, suc, ◌+◌, ◌-◌, ◌/◌, ◌^◌, bit_and, ◌<◌, ◌≤◌, nat_le, Bool, true, false, true≢false, not, ◌&&◌, ◌||◌, List, ◌∷◌, length, map, drop, get_or, refl, sym, ap, ap₂, subst, ◌∙◌, arith, length-drop, ◌⊎◌, inl, inr}
+use Rattle.std.proofs.Common.{◌≡◌, ◌≢◌, ℕ, zero, suc, ◌+◌, ◌-◌, ◌/◌, ◌^◌, bit_and, ◌<◌, ◌≤◌, Bool, true, false, true≢false, not, ◌&&◌, ◌||◌, List, ◌∷◌, length, map, drop, get_or, refl, sym, ap, ap₂, subst, ◌∙◌, arith, length-drop, ◌⊎◌, inl, inr}
 use Rattle.std.specs.List.{prefix_len}
 use Rattle.std.specs.Str.{IsUtf8}
 use Rattle.std.proofs.Math.Seq.{drop-cons}
@@ -8,6 +8,7 @@ use Rattle.std.proofs.lemmas.List.{get_or-drop}
 use Rattle.std.proofs.lemmas.List.FromFn.{get_or-map-range_with_len}
 use Rattle.std.proofs.lemmas.List.Sums.{prefix_len_is}
 use Rattle.std.proofs.Math.Bool.{and_comm, or_comm}
+use Rattle.std.proofs.lemmas.Grind.{common_steps}
 use lib.Lanes.{chunk, mask_l}
 use Rattle.unicode_ident.proofs.Computing.{unicode_ident}
 use Rattle.rustc_lexer.specs.declared.edition.Edition.{Edition}
@@ -17,7 +18,6 @@ use Rattle.rustc_lexer.specs.declared.lexemes.family.Family.TheVariants.{Slash, 
 use Rattle.rustc_lexer.specs.declared.token.TokenKind.{TokenKind}
 use Rattle.rustc_lexer.specs.declared.token.TokenKind.TheVariants.{Ident, Whitespace, GuardedStrPrefix, RawLifetime, UnknownPrefix, UnknownPrefixLifetime, Eof}
 use Rattle.rustc_lexer.specs.Tokens.{has_fields}
-use Rattle.rustc_lexer.specs.LanguageText.{year}
 use Rattle.rustc_lexer.specs.means.Edition.{before_2024, before_2021, changed}
 use Rattle.rustc_lexer.specs.declared.token.Token.{Token}
 use Rattle.rustc_lexer.specs.means.Ends.{bit, goes_on, is_end, AreEndsPast, IsEnds, IsLowest, told, told_in, StaysWithin}
@@ -26,7 +26,6 @@ use Rattle.rustc_lexer.specs.Tables.{is_emoji}
 use Rattle.rustc_lexer.specs.means.Lexeme.{family_of, symbol_kind}
 use Rattle.rustc_lexer.specs.means.Quick.{is_space_lead, turns_word, IsFirstToken}
 use Rattle.rustc_lexer.specs.means.Scan.{next_is}
-use Rattle.rustc_lexer.specs.laws.Choice.{by_test}
 use Rattle.rustc_lexer.proofs.BitLemmas.{below-high, below-low, bit-at_byte, bit-zero, high, past-first, past-later, within}
 use Rattle.rustc_lexer.proofs.QuickLemmas.{word_first, space_first, symbol_first}
 
@@ -37,10 +36,7 @@ all_past text ends are (suc j) set = (omega arith, (are (suc j) set).0, λ k mor
 
 -- only those before a place are kept
 pub before_place : (ends place k : ℕ) → bit (bit_and ends (2 ^ place - 1)) k ≡ true → k < place
-before_place ends place k set = elim (cases_lt k place) [
-  | inl near ↦ near
-  | inr far ↦ absurd (true≢false (sym set ∙ below-high ends place k far))
-]
+before_place ends place k set = grind (arith, common_steps, cases_lt, below-high)
 
 pub ends_before : (text : List ℕ) (ends place : ℕ) → IsEnds text ends → IsEnds text (bit_and ends (2 ^ place - 1))
 ends_before text ends place are j set =
@@ -85,10 +81,7 @@ ends_past text m from n late near are first later (suc j) set =
     at (suc k) le = later k ∙ ((are (n + suc j) (sym (later j) ∙ set)).2 (n + suc k) (omega (arith, near)) (omega arith) ∙ sym (end_past n text k))
 
 pub past_end : (text : List ℕ) (m from low less : ℕ) → AreEndsPast text from m → IsLowest m low → ((k : ℕ) → k ≤ low → bit less k ≡ false) → ((k : ℕ) → low < k → bit less k ≡ bit m k) → AreEndsPast text low less
-past_end text m from low less are lowest gone others j set = elim (cases_lt low j) [
-  | inl past ↦ let there = are j (sym (others j past) ∙ set) in let first = (are low lowest.set).0 in (past, there.1, λ k some le. others k some ∙ there.2 k (omega (arith, first, some)) le)
-  | inr before ↦ absurd (true≢false (sym set ∙ gone j (omega arith)))
-]
+past_end text m from low less are lowest gone others j set = grind (arith, common_steps, cases_lt)
 
 -- ---- where a run ends
 
@@ -193,10 +186,7 @@ module _ (text : List ℕ) (is : IsUtf8 text) (b : ℕ) (rest : List ℕ) (e : t
   front = ap (λ xs. get_or xs 0 0) e
 
   counted : (p : ℕ → Bool) → p b ≡ true → prefix_len p text ≡ suc n → n ≡ prefix_len p rest
-  counted p in_class all =
-      let whole : prefix_len p (b ∷ rest) ≡ suc n = sym (ap (prefix_len p) e) ∙ all in
-      let more : prefix_len p (b ∷ rest) ≡ 1 + prefix_len p rest = rw in_class refl in
-      omega arith
+  counted p in_class all = grind (arith, common_steps)
 
   left : drop n rest ≡ next ∷ drop (suc (suc n)) text
   left = ap (drop (suc n)) (sym e) ∙ (drop-cons text (suc n) 0 run.room ∙ ap (λ (x : ℕ). x ∷ drop (suc (suc n)) text) (sym last))
@@ -315,16 +305,10 @@ older_2021 GuardedStrPrefix len old = absurd (true≢false old)
 older_2021 kind len old = refl
 
 older_2018 : (cs : List ℕ) (kind : TokenKind) (len : ℕ) → is_newer kind ≡ false → before_2021 cs kind len ≡ record { kind = kind; len = len }
-older_2018 cs GuardedStrPrefix len old = absurd (true≢false old)
-older_2018 cs RawLifetime len old = absurd (true≢false old)
-older_2018 cs UnknownPrefix len old = absurd (true≢false old)
-older_2018 cs UnknownPrefixLifetime len old = absurd (true≢false old)
-older_2018 cs kind len old = refl
+older_2018 cs kind len old = grind (arith, common_steps)
 
 older : (edition : Edition) (cs : List ℕ) (t : Token) → is_newer t.kind ≡ false → changed edition cs t ≡ t
-older edition cs t old =
-    by_test (λ u. u ≡ t) (nat_le 2024 (year edition)) _ _ (λ e. refl) (λ e.
-    by_test (λ u. u ≡ t) (nat_le 2021 (year edition)) _ _ (λ f. older_2021 t.kind t.len old) (λ f. older_2018 cs t.kind t.len old))
+older edition cs t old = grind (arith, common_steps, older_2021, older_2018)
 
 pub told_same : (b : ℕ) → told b ≢ Eof → (edition : Edition) (cs : List ℕ) (kind : TokenKind) (len : ℕ) → kind ≡ told b → changed edition cs record { kind = kind; len = len } ≡ record { kind = kind; len = len }
 told_same b some edition cs kind len e = older edition cs record { kind = kind; len = len } (ap is_newer e ∙ told_older b some)

@@ -1,5 +1,5 @@
 -- The families that characters choose: by the table in ASCII, and by the classes past it.
-use Rattle.std.proofs.Common.{◌≡◌, ℕ, ◌<◌, ◌≤◌, ◌==◌, nat_le, not, Bool, true, false, true≢false, List, [], ◌∷◌, get_or, refl, sym, ap, ◌∙◌, arith}
+use Rattle.std.proofs.Common.{◌≡◌, ℕ, ◌<◌, ◌≤◌, ◌==◌, nat_le, not, true, false, true≢false, List, [], ◌∷◌, get_or, refl, sym, ap, ◌∙◌, arith}
 use Rattle.std.specs.Char.{is_ascii_digit}
 use Rattle.std.specs.Str.{chars}
 use Rattle.std.proofs.lemmas.Bool.{lt-leb, ne_eqb}
@@ -13,6 +13,7 @@ use Rattle.rustc_lexer.specs.declared.lexemes.family.Family.TheVariants.{Slash, 
 use Rattle.rustc_lexer.specs.declared.token.TokenKind.{TokenKind}
 use Rattle.rustc_lexer.specs.Classes.{is_id_start, is_whitespace}
 use Rattle.rustc_lexer.specs.Tables.{is_emoji}
+use Rattle.rustc_lexer.specs.laws.Choice.{by_either}
 use Rattle.rustc_lexer.specs.laws.LanguageRuns.{among}
 use Rattle.rustc_lexer.specs.means.Lexeme.{family_of, past_first, read_by}
 use Rattle.rustc_lexer.specs.means.Scan.{scanned}
@@ -37,11 +38,9 @@ unfolding unicode_ident
 no_start d e = among (λ x. not (is_xid_start x)) (0x9 ∷ 0xA ∷ 0xB ∷ 0xC ∷ 0xD ∷ 0x20 ∷ 0x85 ∷ 0x200E ∷ 0x200F ∷ 0x2028 ∷ 0x2029 ∷ []) refl d e
 
 no_space : (c : ℕ) → is_xid_start c ≡ true → is_whitespace c ≡ false
-no_space c e = by_test (is_whitespace c) refl
-  where
-    by_test : (t : Bool) → is_whitespace c ≡ t → is_whitespace c ≡ false
-    by_test false f = f
-    by_test true f = absurd (true≢false (sym (no_start c f) ∙ ap not e))
+no_space c e = by_either (is_whitespace c)
+    (λ f. absurd (true≢false (sym (no_start c f) ∙ ap not e)))
+    (λ f. f)
 
 module _ (c : ℕ) (wide : 128 ≤ c) where
   other : (n : ℕ) → n < 128 → (c == n) ≡ false

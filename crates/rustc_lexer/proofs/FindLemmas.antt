@@ -10,9 +10,11 @@ use Rattle.std.specs.List.{prefix_len}
 use Rattle.std.proofs.lemmas.List.{get_or-drop}
 use Rattle.std.proofs.lemmas.Str.{byte_from_char, inside_one, encodes-chars, IsCharBoundary-from_drop}
 use Rattle.std.proofs.Math.Bool.{not-not}
+use Rattle.std.proofs.lemmas.Grind.{common_steps}
 use Rattle.memchr.specs.Find.{IsFirstByte, is_byte, is_byte2}
 use Rattle.rustc_lexer.specs.means.ByteRuns.{outside}
 use Rattle.rustc_lexer.specs.means.Scan.{past, run_len}
+use Rattle.rustc_lexer.specs.laws.Choice.{by_either}
 use Rattle.rustc_lexer.proofs.BridgeLemmas.{past_run, past_run-in, past_run-out}
 use Rattle.rustc_lexer.proofs.KernelLemmas.{run_stops, run_short}
 use Rattle.rustc_lexer.specs.laws.Past.{IsUtf8-past}
@@ -43,12 +45,7 @@ module _ (stops : ℕ → Bool) (small : (b : ℕ) → stops b ≡ true → b < 
     long = ap length e ∙ length-append (encode_utf8 c) rest
 
     past_it : stops c ≡ false → length (encode_utf8 c) ≤ n
-    past_it f = elim (cases_lt n (length (encode_utf8 c))) [
-      | inl inner ↦
-          let set : stops (get_or text n 0) ≡ true = at.here (omega (arith, long)) in
-          absurd (true≢false (sym set ∙ (ap stops (sym (inside_one c rest text n e inner (small _ set))) ∙ f)))
-      | inr done ↦ done
-    ]
+    past_it f = grind (arith, common_steps, cases_lt, long, inside_one)
 
     rest_is : rest ≡ drop (length (encode_utf8 c)) text
     rest_is = sym (ap (drop (length (encode_utf8 c))) e ∙ drop-append_seam (encode_utf8 c) rest)
@@ -65,20 +62,16 @@ module _ (stops : ℕ → Bool) (small : (b : ℕ) → stops b ≡ true → b < 
     }
 
     same_place : stops c ≡ false → drop (n - length (encode_utf8 c)) rest ≡ drop n text
-    same_place f =
-        let same : length (encode_utf8 c) + (n - length (encode_utf8 c)) ≡ n = omega (arith, past_it f) in
-        ap (drop (n - length (encode_utf8 c))) rest_is ∙ (drop-drop (n - length (encode_utf8 c)) (length (encode_utf8 c)) text ∙ ap (λ k. drop k text) same)
+    same_place f = grind (arith, common_steps, past_it, rest_is, drop-drop)
 
   by_chars : (cs text : List ℕ) (n : ℕ) → text ≡ encode_utf8_all cs → IsStop stops text n → past_run others cs ≡ drop n text
   by_chars [] text n e at = sym (drop_of_length-le text (omega (arith, ap length e)))
-  by_chars (c ∷ cs) text n e at = by_test (by_chars cs) (stops c) refl
-    where
-      by_test : ((text : List ℕ) (n : ℕ) → text ≡ encode_utf8_all cs → IsStop stops text n → past_run others cs ≡ drop n text) → (t : Bool) → stops c ≡ t → past_run others (c ∷ cs) ≡ drop n text
-      by_test ih true f =
-          past_run-out others c cs (not_from_true (stops c) f) ∙ (sym e ∙ ap (λ k. drop k text) (sym (at_front c (encode_utf8_all cs) text n e at f)))
-      by_test ih false f =
-          past_run-in others c cs (not_from_false (stops c) f)
-          ∙ (ih (encode_utf8_all cs) (n - length (encode_utf8 c)) refl (in_rest c (encode_utf8_all cs) text n e at f) ∙ same_place c (encode_utf8_all cs) text n e at f)
+  by_chars (c ∷ cs) text n e at = by_either (stops c)
+      (λ f.
+      past_run-out others c cs (not_from_true (stops c) f) ∙ (sym e ∙ ap (λ k. drop k text) (sym (at_front c (encode_utf8_all cs) text n e at f))))
+      (λ f.
+      past_run-in others c cs (not_from_false (stops c) f)
+      ∙ (by_chars cs (encode_utf8_all cs) (n - length (encode_utf8 c)) refl (in_rest c (encode_utf8_all cs) text n e at f) ∙ same_place c (encode_utf8_all cs) text n e at f))
 
   module _ (text : List ℕ) (n : ℕ) (is : IsUtf8 text) (at : IsStop stops text n) where
     pub up_to : past (run_len others (chars text)) text ≡ drop n text
@@ -121,7 +114,4 @@ in_first stops bytes n found few room mask some =
 
 -- a lane is set where one of two tests is
 pub either_set : (a b : Bool) → top 7 (bit_or (cond a 255 0) (cond b 255 0)) ≡ (a || b)
-either_set true true = refl
-either_set true false = refl
-either_set false true = refl
-either_set false false = refl
+either_set w0 w1 = grind (arith, common_steps)

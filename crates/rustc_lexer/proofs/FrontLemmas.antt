@@ -1,6 +1,7 @@
 -- Counting the kept front, token by token.
 use Rattle.std.proofs.Common.{◌≡◌, ℕ, zero, suc, ◌+◌, ◌-◌, ◌<◌, ◌≤◌, true, false, cond, List, [], ◌∷◌, length, get_or, drop, sym, ap, ◌∙◌, subst, arith, IsUtf8, IsCharBoundary, drop-cons, length-drop}
 use Rattle.std.proofs.lemmas.List.{drop_all}
+use Rattle.std.proofs.lemmas.Grind.{common_steps}
 use Rattle.rustc_lexer.specs.means.Relexing.{AreBoundaries}
 use Rattle.rustc_lexer.specs.declared.token.Token.{Token}
 use Rattle.rustc_lexer.specs.Tokens.{bound}
@@ -126,7 +127,4 @@ pub back_place : (tokens : List Token) (n place : ℕ) (d : Token) → place ≡
 back_place tokens n place d is some few = (omega arith, omega (arith, back tokens n place d is some few))
 
 pub kept_end : (text : List ℕ) (tokens : List Token) (start number place : ℕ) → IsKept text tokens start number place → length tokens ≤ number → number ≡ kept_front text tokens start
-kept_end text tokens start number place at all =
-    let none : drop number tokens ≡ [] = drop_all number tokens all in
-    let rest : kept_front_from text start place (drop number tokens) ≡ 0 = ap (kept_front_from text start place) none in
-    omega (arith, at.count, rest)
+kept_end text tokens start number place at all = grind (arith, common_steps, drop_all)

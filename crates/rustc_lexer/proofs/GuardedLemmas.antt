@@ -1,7 +1,8 @@
 -- Guarded strings: what is taken of a text.
-use Rattle.std.proofs.Common.{◌≡◌, ℕ, suc, ◌+◌, ◌-◌, ◌≤◌, ◌==◌, ◌&&◌, min, Bool, true, false, if◌then◌else◌, List, [], ◌∷◌, length, drop, drop-drop, refl, sym, ap, ◌∙◌, arith, subst, Option, Some, None}
+use Rattle.std.proofs.Common.{◌≡◌, ℕ, suc, ◌+◌, ◌-◌, ◌≤◌, min, Bool, true, false, if◌then◌else◌, List, [], ◌∷◌, length, drop, drop-drop, sym, ap, ◌∙◌, arith, subst, Option, Some, None}
 use Rattle.std.specs.Str.{chars, IsUtf8, IsCharBoundary}
 use Rattle.std.proofs.lemmas.Str.{IsCharBoundary-from_drop}
+use Rattle.std.proofs.lemmas.Grind.{common_steps}
 use Rattle.rustc_lexer.specs.declared.token.GuardedStr.{GuardedStr}
 use Rattle.rustc_lexer.specs.means.Guarded.{closing_len, guarded_body, string_past, guarded_by, guarded}
 use Rattle.rustc_lexer.specs.means.Literal.{suffix_len}
@@ -56,17 +57,10 @@ module _ (body left mid end : List ℕ) (n : ℕ) (closed : Bool) (is : IsUtf8 b
       suffix ∙ (ap (λ (s : List ℕ). past (suffix_len s) mid) mid_chars ∙ (ap (past k) mid_is ∙ (past-past k (q + m) body is ∙ ap (λ (j : ℕ). past j body) sum)))
 
   pub closed_read : closed ≡ true → (true, end) ≡ scanned (guarded_body n) body
-  closed_read t =
-      ap (λ (xs : List ℕ). (true, xs)) end_is
-      ∙ ap (λ (b : Bool). let r : Bool × List ℕ = (b, past (q + (if b then closing_len n ahead else 0)) body) in r) (sym t ∙ ap (λ (r : Bool × List ℕ). r.0) read)
+  closed_read t = grind (arith, common_steps, end_is)
 
 begins-quote : (s : List ℕ) → next_is is_quote s ≡ begins (34 ∷ []) s
-begins-quote [] = refl
-begins-quote (c ∷ s) = by_test (c == 34)
-  where
-    by_test : (b : Bool) → b ≡ b && true
-    by_test true = refl
-    by_test false = refl
+begins-quote w0 = grind (arith, common_steps)
 
 -- what follows the n hashes at the front
 module _ (rest front : List ℕ) (n : ℕ) (is : IsUtf8 rest) (count : n ≡ hash_run (chars rest)) (cut : front ≡ drop n rest) where
@@ -112,11 +106,7 @@ module _ (rest front : List ℕ) (n : ℕ) (is : IsUtf8 rest) (count : n ≡ has
         IsCharBoundary-from_drop rest (length rest - length left) taken_inside (subst IsUtf8 (past-drop ((n + 1) + body_read.1) rest is ∙ ap (λ (k : ℕ). drop k rest) taken_is) (IsUtf8-past ((n + 1) + body_read.1) rest is))
 
     pub string_here : begins (34 ∷ []) (chars front) ≡ true → Some (closed, length rest - length left) ≡ string_past n (chars rest)
-    string_here e =
-        let sum : (n + 1) + body_read.1 ≡ suc n + body_read.1 = omega arith in
-        ap (λ (b : Bool). let r : Option (Bool × ℕ) = Some (b, length rest - length left) in r) (ap (λ (r : Bool × List ℕ). r.0) read_is)
-        ∙ (ap (λ (k : ℕ). let r : Option (Bool × ℕ) = Some (body_read.0, k) in r) (sym taken_is ∙ ap (λ (k : ℕ). bytes_of k (chars rest)) sum)
-        ∙ sym (ap chosen (quote_next ∙ e)))
+    string_here e = grind (arith, common_steps, read_is, taken_is, quote_next)
 
 -- a cursor at `index` of a text, whose next token begins at `start`, with n hashes next
 module _ (text : List ℕ) (index start : ℕ) (mode : Mode) (s : State) (rest : List ℕ) (view : state (index - start) (drop index text) mode ≡ s) (place : rest ≡ s.rest) (before : start ≤ index)
@@ -132,9 +122,7 @@ module _ (text : List ℕ) (index start : ℕ) (mode : Mode) (s : State) (rest :
 
   guarded-is : (o : Option (Bool × ℕ)) → o ≡ string_past n (chars rest) → guarded s ≡ guarded_by n o here_is
   unfolding guarded
-  guarded-is o read =
-      ap guarded (sym view ∙ ap (λ (xs : List ℕ). state (index - start) xs mode) (sym here))
-      ∙ (ap (λ (k : ℕ). guarded_by k (string_past k (chars rest)) here_is) (sym count) ∙ ap (λ (x : Option (Bool × ℕ)). guarded_by n x here_is) (sym read))
+  guarded-is o read = grind (arith, common_steps)
 
   pub none_here : None ≡ string_past n (chars rest) → guarded s ≡ (None, state (index + n - start) (drop (index + n) text) mode)
   none_here read =

@@ -1,14 +1,16 @@
 -- A hash, by the byte after it.
-use Rattle.std.proofs.Common.{◌≡◌, ◌≢◌, ℕ, ◌<◌, ◌≤◌, ◌==◌, Bool, true, false, true≢false, List, [], ◌∷◌, ◌++◌, length, get_or, refl, sym, ap, ◌∙◌, arith, nat_lt, inl, inr}
+use Rattle.std.proofs.Common.{◌≡◌, ◌≢◌, ℕ, ◌<◌, ◌≤◌, Bool, true, false, true≢false, List, [], ◌∷◌, ◌++◌, length, get_or, refl, sym, ap, ◌∙◌, arith, nat_lt}
 use Rattle.std.specs.Str.{chars, encode_utf8_all, IsUtf8}
 use Rattle.std.proofs.lemmas.Bool.{eqb-true, or_cases, ltb-true, ltb-false}
 use Rattle.std.proofs.lemmas.Str.{chars-nil, encode_ascii, encodes-chars}
+use Rattle.std.proofs.lemmas.Grind.{common_steps}
 use Rattle.rustc_lexer.specs.declared.token.TokenKind.TheVariants.{GuardedStrPrefix, Pound}
 use Rattle.rustc_lexer.specs.declared.lexemes.family.Family.TheVariants.{Hash}
 use Rattle.rustc_lexer.specs.means.Hash.{is_guarded_mark, hash}
 use Rattle.rustc_lexer.specs.means.Lexeme.{family_of, past_first}
 use Rattle.rustc_lexer.specs.means.Quick.{BeginsWithNoHash, IsFirstToken}
 use Rattle.rustc_lexer.specs.means.Scan.{after, gives, next_is, past, scanned}
+use Rattle.rustc_lexer.specs.laws.Choice.{by_either}
 use Rattle.rustc_lexer.proofs.BridgeLemmas.{chars-ascii}
 use Rattle.rustc_lexer.proofs.FamilyLemmas.{by_family}
 use Rattle.rustc_lexer.specs.laws.Past.{past-one}
@@ -16,20 +18,17 @@ use Rattle.rustc_lexer.proofs.QuickLemmas.{first}
 use Rattle.rustc_lexer.specs.laws.Scan.{scanned-gives, scanned-no, scanned-yes}
 
 mark-small : (c : ℕ) → is_guarded_mark c ≡ true → c < 128
-mark-small c e = elim (or_cases (c == 34) _ e) [
-  | inl a ↦ let same = eqb-true c 34 a in omega arith
-  | inr f ↦ elim (or_cases (c == 35) false f) [ inl a ↦ let same = eqb-true c 35 a in omega arith | inr none ↦ absurd (true≢false (sym none)) ]
-]
+mark-small c e = grind (arith, common_steps, or_cases, eqb-true)
 
 -- the next character is a mark where the next byte is one
 pub mark-byte : (text : List ℕ) → IsUtf8 text → next_is is_guarded_mark (chars text) ≡ next_is is_guarded_mark text
 mark-byte [] is = ap (next_is is_guarded_mark) chars-nil
-mark-byte (d ∷ ds) is = by_size (nat_lt d 128) refl
+mark-byte (d ∷ ds) is = by_either (nat_lt d 128)
+    (λ e. ap (next_is is_guarded_mark) (chars-ascii d ds is (ltb-true d 128 e)))
+    (λ e. let wide = ltb-false d 128 e in none wide (next_is is_guarded_mark (chars (d ∷ ds))) refl ∙ sym (by_either (is_guarded_mark d)
+    (λ e. absurd (let small = mark-small d e in omega arith))
+    (λ e. e)))
   where
-    no_mark : 128 ≤ d → (t : Bool) → is_guarded_mark d ≡ t → is_guarded_mark d ≡ false
-    no_mark wide false e = e
-    no_mark wide true e = absurd (let small = mark-small d e in omega arith)
-
     first_byte : (cs : List ℕ) → chars (d ∷ ds) ≡ cs → next_is is_guarded_mark cs ≡ true → d < 128
     first_byte [] e f = absurd (true≢false (sym f))
     first_byte (c ∷ cs) e f =
@@ -41,10 +40,6 @@ mark-byte (d ∷ ds) is = by_size (nat_lt d 128) refl
     none : 128 ≤ d → (t : Bool) → next_is is_guarded_mark (chars (d ∷ ds)) ≡ t → next_is is_guarded_mark (chars (d ∷ ds)) ≡ false
     none wide false e = e
     none wide true e = absurd (let small = first_byte (chars (d ∷ ds)) refl e in omega arith)
-
-    by_size : (t : Bool) → nat_lt d 128 ≡ t → next_is is_guarded_mark (chars (d ∷ ds)) ≡ is_guarded_mark d
-    by_size true e = ap (next_is is_guarded_mark) (chars-ascii d ds is (ltb-true d 128 e))
-    by_size false e = let wide = ltb-false d 128 e in none wide (next_is is_guarded_mark (chars (d ∷ ds))) refl ∙ sym (no_mark wide (is_guarded_mark d) refl)
 
 -- a hash alone chooses the family
 hash-code : (c : ℕ) → family_of c ≡ Hash → c ≡ 35

@@ -2,12 +2,13 @@
 use Rattle.std.proofs.Common.{◌≡◌, ℕ, suc, ◌+◌, ◌&&◌, not, Bool, true, false, true≢false, if◌then◌else◌, List, [], ◌∷◌, take, drop, refl, sym, ap, ◌∙◌, arith, subst, zero-add, codes, ltb, lt-ltb}
 use Rattle.std.specs.List.{list_all}
 use Rattle.std.specs.Str.{chars, IsUtf8}
-use Rattle.rustc_lexer.specs.declared.token.TokenKind.{TokenKind}
-use Rattle.rustc_lexer.specs.declared.token.TokenKind.TheVariants.{Ident, InvalidIdent, UnknownPrefix}
+use Rattle.std.proofs.lemmas.Grind.{common_steps}
+use Rattle.rustc_lexer.specs.declared.token.TokenKind.TheVariants.{Ident, UnknownPrefix}
 use Rattle.rustc_lexer.specs.Classes.{is_id_start, is_id_continue}
 use Rattle.rustc_lexer.specs.Tables.{is_emoji}
-use Rattle.rustc_lexer.specs.means.Ident.{is_word, is_prefix_mark, ident_kind, ident_or_unknown_prefix, invalid_ident, marks_ident}
+use Rattle.rustc_lexer.specs.means.Ident.{is_word, is_prefix_mark, ident_or_unknown_prefix, invalid_ident, marks_ident}
 use Rattle.rustc_lexer.specs.means.Scan.{begins, next_is, past, run_len, scanned}
+use Rattle.rustc_lexer.specs.laws.Choice.{by_either}
 use Rattle.rustc_lexer.specs.laws.Past.{chars-past, past-past, past-two}
 
 abbrev pub len : List ℕ → ℕ
@@ -18,16 +19,14 @@ has_emoji cs = next_is is_emoji (drop (len cs) cs)
 
 pub word_runs : (cs : List ℕ) → run_len is_word cs ≡ len cs + run_len is_word (drop (len cs) cs)
 word_runs [] = refl
-word_runs (c ∷ cs) = by_test (word_runs cs) (is_id_continue c) refl
-  where
-    by_test : run_len is_word cs ≡ len cs + run_len is_word (drop (len cs) cs) → (b : Bool) → is_id_continue c ≡ b → run_len is_word (c ∷ cs) ≡ len (c ∷ cs) + run_len is_word (drop (len (c ∷ cs)) (c ∷ cs))
-    by_test ih true e =
-        let taken : len (c ∷ cs) ≡ suc (len cs) = rw e refl in
-        let one : run_len is_word (c ∷ cs) ≡ suc (run_len is_word cs) = rw e refl in
-        one ∙ (omega arith ∙ ap (λ n. n + run_len is_word (drop n (c ∷ cs))) (sym taken))
-    by_test ih false e =
-        let none : len (c ∷ cs) ≡ 0 = rw e refl in
-        sym (zero-add (run_len is_word (c ∷ cs))) ∙ ap (λ n. n + run_len is_word (drop n (c ∷ cs))) (sym none)
+word_runs (c ∷ cs) = by_either (is_id_continue c)
+    (λ e.
+    let taken : len (c ∷ cs) ≡ suc (len cs) = rw e refl in
+    let one : run_len is_word (c ∷ cs) ≡ suc (run_len is_word cs) = rw e refl in
+    one ∙ (omega (arith, word_runs cs) ∙ ap (λ n. n + run_len is_word (drop n (c ∷ cs))) (sym taken)))
+    (λ e.
+    let none : len (c ∷ cs) ≡ 0 = rw e refl in
+    sym (zero-add (run_len is_word (c ∷ cs))) ∙ ap (λ n. n + run_len is_word (drop n (c ∷ cs))) (sym none))
 
 pub word_all : (cs : List ℕ) → list_all is_id_continue (take (run_len is_word cs) cs) ≡ not (has_emoji cs)
 word_all [] = refl
@@ -78,25 +77,10 @@ module _ (tail rest : List ℕ) (is : IsUtf8 tail) (e : rest ≡ past (len (char
   rest_is = ap chars e ∙ chars-past (len (chars tail)) tail is
 
   pub ident_or_unknown_prefix-invalid : next_is is_emoji (chars rest) ≡ true → scanned invalid_ident rest ≡ scanned ident_or_unknown_prefix tail
-  ident_or_unknown_prefix-invalid h =
-      let cs : List ℕ = chars tail in
-      let at : has_emoji cs ≡ true = sym (ap (next_is is_emoji) rest_is) ∙ h in
-      let kind : ident_kind (take (run_len is_word cs) cs) (drop (run_len is_word cs) cs) ≡ InvalidIdent =
-      ap (λ (b : Bool). if b then (if next_is is_prefix_mark (drop (run_len is_word cs) cs) then UnknownPrefix else Ident) else InvalidIdent) (word_all cs ∙ ap not at) in
-      let more : past (run_len is_word (chars rest)) rest ≡ past (run_len is_word cs) tail =
-      ap (λ ds. past (run_len is_word ds) rest) rest_is ∙ (ap (past (run_len is_word (drop (len cs) cs))) e ∙ (past-past (run_len is_word (drop (len cs) cs)) (len cs) tail is ∙ ap (λ n. past n tail) (sym (word_runs cs)))) in
-      ap (λ xs. (InvalidIdent, xs)) more ∙ ap (λ (k : TokenKind). (k, past (run_len is_word cs) tail)) (sym kind)
+  ident_or_unknown_prefix-invalid h = grind (arith, common_steps, rest_is, word_all, past-past, word_runs)
 
   pub ident_or_unknown_prefix-valid : next_is is_emoji (chars rest) ≡ false → ((if next_is is_prefix_mark (chars rest) then UnknownPrefix else Ident), rest) ≡ scanned ident_or_unknown_prefix tail
-  ident_or_unknown_prefix-valid h =
-      let cs : List ℕ = chars tail in
-      let at : has_emoji cs ≡ false = sym (ap (next_is is_emoji) rest_is) ∙ h in
-      let same : run_len is_word cs ≡ len cs = word_none cs at in
-      let next : next_is is_prefix_mark (chars rest) ≡ next_is is_prefix_mark (drop (run_len is_word cs) cs) = ap (next_is is_prefix_mark) (rest_is ∙ ap (λ n. drop n cs) (sym same)) in
-      let kind : (if next_is is_prefix_mark (chars rest) then UnknownPrefix else Ident) ≡ ident_kind (take (run_len is_word cs) cs) (drop (run_len is_word cs) cs) =
-      ap (λ (b : Bool). if b then UnknownPrefix else Ident) next
-      ∙ ap (λ (b : Bool). if b then (if next_is is_prefix_mark (drop (run_len is_word cs) cs) then UnknownPrefix else Ident) else InvalidIdent) (sym (word_all cs ∙ ap not at)) in
-      ap (λ (k : TokenKind). (k, rest)) kind ∙ ap (λ xs. (ident_kind (take (run_len is_word cs) cs) (drop (run_len is_word cs) cs), xs)) (e ∙ ap (λ n. past n tail) (sym same))
+  ident_or_unknown_prefix-valid h = grind (arith, common_steps, rest_is, word_none, word_all)
 
 -- a hash and what follows it
 module _ (tail word : List ℕ) (is : IsUtf8 tail) (e : word ≡ past 1 tail) (hash : begins (codes "#") (chars tail) ≡ true) where
@@ -110,8 +94,4 @@ module _ (tail word : List ℕ) (is : IsUtf8 tail) (e : word ≡ past 1 tail) (h
   marks-by c cs b f g = marks-is ∙ (ap (next_is is_id_start) f ∙ sym g)
 
   pub past-marked : (ident left : List ℕ) → ident ≡ past 1 word → left ≡ past (run_len is_id_continue (chars ident)) ident → left ≡ past (2 + run_len is_id_continue (drop 2 (chars tail))) tail
-  past-marked ident left f g =
-      let two : ident ≡ past 2 tail = past-two tail word ident is e f in
-      let n : ℕ = run_len is_id_continue (chars ident) in
-      let same : n ≡ run_len is_id_continue (drop 2 (chars tail)) = ap (run_len is_id_continue) (ap chars two ∙ chars-past 2 tail is) in
-      g ∙ (ap (past n) two ∙ (past-past n 2 tail is ∙ ap (λ m. past (2 + m) tail) same))
+  past-marked ident left f g = grind (arith, common_steps, past-two, chars-past, past-past)

@@ -1,6 +1,7 @@
 -- Bounds that are remembered are bounds of the tokens that an edit leaves.
-use Rattle.std.proofs.Common.{◌≡◌, ℕ, ◌+◌, ◌-◌, ◌≤◌, List, ◌++◌, get_or, length, take, drop, sym, ap, ◌∙◌, arith, subst, length-drop, length-append, length-take-le, take-take, take_at, drop_at, append_assoc, IsUtf8}
+use Rattle.std.proofs.Common.{◌≡◌, ℕ, ◌+◌, ◌-◌, ◌≤◌, List, ◌++◌, length, take, drop, sym, ap, ◌∙◌, arith, length-drop, length-append, length-take-le, take-take, take_at, drop_at, append_assoc, IsUtf8}
 use Rattle.std.specs.List.{All}
+use Rattle.std.proofs.lemmas.Grind.{common_steps}
 use Rattle.rustc_lexer.specs.declared.relex.front.Bound.{Bound}
 use Rattle.rustc_lexer.specs.declared.relex.landmarks.Landmarks.{Landmarks}
 use Rattle.rustc_lexer.specs.declared.token.Token.{Token}
@@ -10,7 +11,7 @@ use Rattle.rustc_lexer.specs.Tokens.{bound, tokens_by}
 use Rattle.rustc_lexer.specs.Edits.{apply, IsEdit, IsBound}
 use Rattle.rustc_lexer.specs.means.Landmarks.{AreBounds, IsMovable, IsReplaced}
 use Rattle.rustc_lexer.proofs.BoundLemmas.{bound_mono, tokens_le_bytes}
-use Rattle.rustc_lexer.proofs.EditLemmas.{IsEdited, edited, bound-same}
+use Rattle.rustc_lexer.proofs.EditLemmas.{edited, bound-same}
 use Rattle.rustc_lexer.proofs.FrontLemmas.{bound-shift}
 use Rattle.rustc_lexer.proofs.MeetingLemmas.{IsMet}
 use Rattle.rustc_lexer.proofs.ReadyLemmas.{bounds_fit, put_together}
@@ -44,16 +45,7 @@ module _ {first : List ℕ → Token} (law : IsGrammar first) (text : List ℕ) 
   -- numbers and places of both lists are small
   movable_for : (old list : List Token) (kept met now : Bound) (landmarks : Landmarks) → old ≡ tokens_by first text → list ≡ tokens_by first (apply text start stop insert) → IsReplaced old list kept met now → AreBounds old landmarks → All (IsMovable met now) landmarks.bounds
   movable_for old list kept met now landmarks e f replaced are k d few past =
-      let b : Bound = get_or landmarks.bounds k d in
-      let at : IsBound old b = are k d few in
-      let ed : IsEdited text start stop insert (apply text start stop insert) = edited text start stop insert is its edit in
-      let at' : IsBound (tokens_by first text) b = subst (λ ts. IsBound ts b) e at in
-      let now' : IsBound (tokens_by first (apply text start stop insert)) now = subst (λ ts. IsBound ts now) f replaced.now_bound in
-      let mono = bound_mono old met.number b.number past in (
-        omega (arith, replaced.met_bound.1, at.1, mono),
-        omega (arith, at'.0, now'.0, tokens_le_bytes law text is, tokens_le_bytes law (apply text start stop insert) ed.text_is, is.fits, ed.text_is.fits),
-        omega (arith, at'.1, now'.1, bounds_fit law text is b.number at'.0, bounds_fit law (apply text start stop insert) ed.text_is now.number now'.0),
-      )
+      grind (arith, common_steps, edited, bound_mono, tokens_le_bytes, bounds_fit)
 
   -- what an edit puts in place of the tokens between, of which there are `size`: the landmarks can be moved, and stay landmarks
   pub replaced_for : (old : List Token) (new : List ℕ) (lexed list : List Token) (kept met : Bound) (size end : ℕ) (landmarks : Landmarks) → old ≡ tokens_by first text → new ≡ apply text start stop insert → list ≡ take kept.number old ++ (lexed ++ drop met.number old) → size ≡ length lexed

@@ -1,8 +1,9 @@
 -- Tokens that are known by their lengths alone.
-use Rattle.std.proofs.Common.{◌≡◌, ℕ, ◌<◌, ◌≤◌, Bool, true, false, List, length, map, get_or, take, sym, ap, ◌∙◌, subst, arith, inl, inr, true≢false, IsUtf8, IsCharBoundary}
+use Rattle.std.proofs.Common.{◌≡◌, ℕ, ◌<◌, ◌≤◌, Bool, true, false, List, length, map, get_or, take, sym, ap, ◌∙◌, subst, arith, IsUtf8, IsCharBoundary}
 use Rattle.std.proofs.lemmas.List.{get_or-map, length-map, take-take}
 use Rattle.std.proofs.lemmas.Bool.Decides.{leb_tells}
 use Rattle.std.proofs.lemmas.Str.{IsUtf8-take, IsCharBoundary-from_take}
+use Rattle.std.proofs.lemmas.Grind.{common_steps}
 use Rattle.rustc_lexer.specs.means.Relexing.{HasLengths}
 use Rattle.rustc_lexer.specs.declared.token.Token.{Token}
 use Rattle.rustc_lexer.specs.declared.token.TokenKind.TheVariants.{Eof}
@@ -30,16 +31,9 @@ cut_alike old text place start is its same before inside cut =
 
 -- whether two characters stand before a place is told by the text up to there
 pub stand_alike : (old text : List ℕ) (place start : ℕ) (two : Bool) → IsUtf8 old → IsUtf8 text → take start text ≡ take start old → start ≤ length text → IsCharBoundary old place → (start ≤ place → two ≡ false) → (IsCharBoundary text place → two ≡ has_two text place start) → two ≡ has_two old place start
-stand_alike old text place start two is its same inside cut late here = elim (leb_tells start place) [
-  | inl past ↦ late past.1 ∙ sym (has_two-late old place start past.1)
-  | inr before ↦
-      let le : place ≤ start = (let b = before.1 in omega arith) in
-      here (cut_alike old text place start is its same le inside cut) ∙ has_two-same text old place start same
-]
+stand_alike old text place start two is its same inside cut late here =
+    grind (arith, common_steps, leb_tells, has_two-late, cut_alike, has_two-same)
 
 -- where two characters stand before a place, it is past them
 pub stood_before : (place start : ℕ) (two : Bool) → (start ≤ place → two ≡ false) → two ≡ true → place ≤ start
-stood_before place start two late hit = elim (leb_tells start place) [
-  | inl past ↦ absurd (true≢false (sym hit ∙ late past.1))
-  | inr before ↦ let b = before.1 in omega arith
-]
+stood_before place start two late hit = grind (arith, common_steps, leb_tells)

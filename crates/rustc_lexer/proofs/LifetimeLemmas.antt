@@ -1,10 +1,11 @@
 -- Characters and lifetimes, as the code reads them.
-use Rattle.std.proofs.Common.{◌≡◌, ℕ, zero, suc, ◌+◌, ◌-◌, ◌≤◌, ◌&&◌, ◌||◌, not, Bool, true, false, ltb, if◌then◌else◌, List, [], ◌∷◌, length, take, drop, codes, refl, sym, ap, ◌∙◌, arith, length-append, length-take-le, lt-ltb, le-ltb}
+use Rattle.std.proofs.Common.{◌≡◌, ℕ, zero, suc, ◌+◌, ◌-◌, ◌≤◌, ◌&&◌, ◌||◌, not, Bool, true, false, ltb, if◌then◌else◌, List, [], ◌∷◌, length, take, drop, codes, sym, ap, ◌∙◌, arith, length-append, length-take-le, lt-ltb, le-ltb}
 use Rattle.std.specs.Char.{is_ascii_digit, encode_utf8, len_utf8}
 use Rattle.std.specs.List.{list_all}
 use Rattle.std.specs.Str.{chars, encode_utf8_all, IsUtf8}
 use Rattle.std.proofs.lemmas.Str.{length-encode, length-le-encodes}
 use Rattle.std.proofs.Math.Bool.{not-not}
+use Rattle.std.proofs.lemmas.Grind.{common_steps}
 use Rattle.rustc_lexer.specs.declared.token.LiteralKind.TheVariants.{Char}
 use Rattle.rustc_lexer.specs.declared.token.TokenKind.{TokenKind}
 use Rattle.rustc_lexer.specs.declared.token.TokenKind.TheVariants.{Literal, Lifetime, UnknownPrefixLifetime}
@@ -29,13 +30,7 @@ module _ (text tail : List ℕ) (c : ℕ) (is : IsUtf8 text) (reads : chars text
       omega (arith, length-past 1 text is, ap length cut)
 
   pub pick-name : (r : TokenKind × List ℕ) → is_character c (chars tail) ≡ false → r ≡ scanned (lifetime c) tail → r ≡ scanned lifetime_or_char text
-  pick-name r t e =
-      let n : ℕ = (lifetime c (chars tail)).1 in
-      let one : 1 + n ≡ suc n = omega arith in
-      let left : past n tail ≡ past (suc n) text = ap (past n) cut ∙ (past-past n 1 text is ∙ ap (λ m. past m text) one) in
-      let at_name : lifetime_or_char (c ∷ chars tail) ≡ ((lifetime c (chars tail)).0, suc n) = rw t refl in
-      let whole : lifetime_or_char (chars text) ≡ ((lifetime c (chars tail)).0, suc n) = ap lifetime_or_char reads ∙ at_name in
-      e ∙ (ap (λ (xs : List ℕ). ((lifetime c (chars tail)).0, xs)) left ∙ ap (λ (p : TokenKind × ℕ). (p.0, past p.1 text)) (sym whole))
+  pick-name r t e = grind (arith, common_steps, past-past)
 
 -- a text is shorter past some characters of it exactly where there are some
 pub shorter-by : (n : ℕ) (text rest : List ℕ) → IsUtf8 text → n ≤ length (chars text) → rest ≡ past n text → ltb (length rest) (length text) ≡ ltb 0 n
@@ -46,9 +41,7 @@ shorter-by (suc n) text rest is le cut =
 
 -- what follows a name
 past-quoted : (c : ℕ) (name end left : List ℕ) (n : ℕ) → begins (codes "'") (chars end) ≡ true → left ≡ past 1 end → n ≡ 2 + length (encode_utf8_all (c ∷ name)) → (Literal (Char true) n, left) ≡ scanned (past_name c name) end
-past-quoted c name end left n t cut len =
-    ap (λ (k : ℕ). (Literal (Char true) k, left)) len
-    ∙ (ap (λ (xs : List ℕ). ((quoted_name c name []).0, xs)) cut ∙ sym (scanned-yes (begins (codes "'")) (quoted_name c name) (unquoted_name c name) end t))
+past-quoted c name end left n t cut len = grind (arith, common_steps, scanned-yes)
 
 past-unquoted_name : (c : ℕ) (name end : List ℕ) → IsUtf8 end → begins (codes "'") (chars end) ≡ false → ((unquoted_name c name (chars end)).0, end) ≡ scanned (past_name c name) end
 past-unquoted_name c name end is t =
@@ -68,9 +61,7 @@ module _ (c : ℕ) (rest part end : List ℕ) (is : IsUtf8 rest) (first : part �
 
   end-is : end ≡ past whole rest
   unfolding plain whole
-  end-is =
-      let more : ℕ = run_len is_word (drop plain (chars rest)) in
-      second ∙ (ap (λ ds. past (run_len is_word ds) part) part-chars ∙ (ap (past more) first ∙ (past-past more plain rest is ∙ ap (λ m. past m rest) (sym (word_runs (chars rest))))))
+  end-is = grind (arith, common_steps, part-chars, past-past, word_runs)
 
   emoji-is : ltb (length end) (length part) ≡ not (list_all is_id_continue (take whole (chars rest)))
   unfolding plain whole
@@ -85,10 +76,7 @@ module _ (c : ℕ) (rest part end : List ℕ) (is : IsUtf8 rest) (first : part �
 
   pub plain_lifetime-quoted : (left : List ℕ) (w : ℕ) → begins (codes "'") (chars end) ≡ true → left ≡ past 1 end → w ≡ len_utf8 c → (Literal (Char true) (2 + (w + (length rest - length end))), left) ≡ scanned (plain_lifetime c) rest
   plain_lifetime-quoted left w t cut is_w =
-      let name : List ℕ = take whole (chars rest) in
-      let len : 2 + (w + (length rest - length end)) ≡ 2 + length (encode_utf8_all (c ∷ name)) =
-      omega (arith, ap length end-is, length-past whole rest is, length-append (encode_utf8 c) (encode_utf8_all name), length-encode c) in
-      past-quoted c name end left (2 + (w + (length rest - length end))) t cut len ∙ sym plain_lifetime-is
+      grind (arith, common_steps, end-is, length-past, length-append, length-encode, past-quoted, plain_lifetime-is)
 
   pub plain_lifetime-unquoted_name : (kind : TokenKind) (emoji : Bool) → begins (codes "'") (chars end) ≡ false → emoji ≡ ltb (length end) (length part)
       → kind ≡ (if begins (codes "#") (chars end) && not (is_ascii_digit c) then UnknownPrefixLifetime else Lifetime (is_ascii_digit c || is_emoji c || emoji)) → (kind, end) ≡ scanned (plain_lifetime c) rest
@@ -100,10 +88,4 @@ module _ (c : ℕ) (rest part end : List ℕ) (is : IsUtf8 rest) (first : part �
 
 -- by its bytes, a character that a quote closes right away
 pub at_char : (text : List ℕ) (r : TokenKind × List ℕ) → is_character_at (chars text) ≡ true → r ≡ scanned (literal char_body) text → r ≡ scanned lifetime_or_char text
-at_char text r t e =
-    let whole : lifetime_or_char (chars text) ≡ literal char_body (chars text) = by_text (chars text) t in
-    e ∙ ap (λ (p : TokenKind × ℕ). (p.0, past p.1 text)) (sym whole)
-  where
-    by_text : (s : List ℕ) → is_character_at s ≡ true → lifetime_or_char s ≡ literal char_body s
-    by_text [] t = refl
-    by_text (c ∷ s) t = rw t refl
+at_char text r t e = grind (arith, common_steps)

@@ -2,6 +2,7 @@
 use Rattle.std.proofs.Common.{◌≡◌, ℕ, suc, ◌+◌, ◌-◌, ◌≤◌, Bool, true, false, sym, List, ◌∷◌, length, take, drop, ap, ◌∙◌, arith, length-append, take-add}
 use Rattle.std.specs.Str.{chars, encode_utf8_all, IsUtf8}
 use Rattle.std.proofs.lemmas.Str.{encodes-append, length-encode, len_utf8_bounds}
+use Rattle.std.proofs.lemmas.Grind.{common_steps}
 use Rattle.rustc_lexer.specs.declared.token.TokenKind.{TokenKind}
 use Rattle.rustc_lexer.specs.declared.token.LiteralKind.{LiteralKind}
 use Rattle.rustc_lexer.specs.declared.token.TokenKind.TheVariants.{Literal}
@@ -40,13 +41,7 @@ module _ (p : ℕ) (body : List ℕ → Body × ℕ) (tail rest : List ℕ) (kin
 
   pub literal-read : (token : TokenKind) (left : List ℕ) → token ≡ Literal kind (p + (length tail - length rest)) → left ≡ past (suffixed takes (chars rest)) rest → (token, left) ≡ scanned (λ s. literal_past p (body s) s) tail
   unfolding n
-  literal-read token left e f =
-      let m : ℕ = suffixed takes (drop n (chars tail)) in
-      let its : left ≡ past (n + m) tail =
-      f ∙ (ap (λ xs. past (suffixed takes (chars xs)) xs) left-is ∙ (ap (λ ds. past (suffixed takes ds) (past n tail)) (chars-past n tail is) ∙ past-past m n tail is)) in
-      ap (λ (k : TokenKind). (k, left)) (e ∙ ap (Literal kind) start-is)
-      ∙ (ap (λ (xs : List ℕ). (Literal kind (p + bytes_of n (chars tail)), xs)) its
-      ∙ ap (λ (r : Body × List ℕ). (Literal r.0.kind (p + bytes_of n (chars tail)), past (n + suffixed r.0.takes_suffix (drop n (chars tail))) tail)) read)
+  literal-read token left e f = grind (arith, common_steps, left-is, chars-past, past-past, start-is)
 
   pub with-suffix : (token : TokenKind) (left : List ℕ) → token ≡ Literal kind (p + (length tail - length rest)) → takes ≡ true → left ≡ past (suffix_len (chars rest)) rest → (token, left) ≡ scanned (λ s. literal_past p (body s) s) tail
   with-suffix token left e t f = literal-read token left e (f ∙ ap (λ (b : Bool). past (suffixed b (chars rest)) rest) (sym t))

@@ -4,6 +4,7 @@ use Rattle.std.specs.List.{list_any}
 use Rattle.std.specs.Str.{chars, IsUtf8}
 use Rattle.std.proofs.lemmas.Bool.{eqb-true, ne_eqb}
 use Rattle.std.proofs.Math.Bool.{and-true}
+use Rattle.std.proofs.lemmas.Grind.{common_steps}
 use Rattle.unicode_ident.proofs.IdentLemmas.{is_xid_start-ascii}
 use Rattle.rustc_lexer.specs.declared.token.Base.{Base}
 use Rattle.rustc_lexer.specs.declared.token.Base.TheVariants.{Decimal}
@@ -145,12 +146,5 @@ module _ (is_digit : ℕ → Bool) (none : is_digit 95 ≡ false) where
   pub digits-is : (text middle rest : List ℕ) (some : Bool) → is_digit 0 ≡ false → IsUtf8 text
       → middle ≡ past (run_len is_underscore (chars text)) text → some ≡ is_digit (get_or (chars middle) 0 0) → rest ≡ past (run_len (or_underscore is_digit) (chars middle)) middle
       → (some, rest) ≡ scanned (digits is_digit) text
-  digits-is text middle rest some zero is e f g =
-      let n : ℕ = run_len is_underscore (chars text) in
-      let cs : chars middle ≡ drop n (chars text) = ap chars e ∙ chars-past n text is in
-      let some_is : some ≡ list_any is_digit (take (run_len (or_underscore is_digit) (chars text)) (chars text)) =
-      f ∙ (sym (next_is-first is_digit (chars middle) zero) ∙ (ap (next_is is_digit) cs ∙ sym (list_any-past (chars text)))) in
-      let len : n + run_len (or_underscore is_digit) (chars middle) ≡ run_len (or_underscore is_digit) (chars text) = ap (λ xs. n + run_len (or_underscore is_digit) xs) cs ∙ sym (run_len-past (chars text)) in
-      let left : rest ≡ past (run_len (or_underscore is_digit) (chars text)) text =
-      g ∙ (ap (past (run_len (or_underscore is_digit) (chars middle))) e ∙ (past-past (run_len (or_underscore is_digit) (chars middle)) n text is ∙ ap (λ m. past m text) len)) in
-      ap (λ (b : Bool). (b, rest)) some_is ∙ ap (λ xs. (list_any is_digit (take (run_len (or_underscore is_digit) (chars text)) (chars text)), xs)) left
+  digits-is text middle rest some w4 is e f g =
+      grind (arith, common_steps, chars-past, next_is-first, list_any-past, run_len-past, past-past)

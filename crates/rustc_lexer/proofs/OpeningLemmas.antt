@@ -1,15 +1,17 @@
 -- The opening of a raw string with no hash or one.
-use Rattle.std.proofs.Common.{◌≡◌, ℕ, zero, suc, ◌+◌, ◌-◌, ◌≤◌, ◌==◌, Bool, true, false, true≢false, if◌then◌else◌, List, [], ◌∷◌, length, drop, refl, sym, ap, ◌∙◌, arith, subst, slice_index, Result}
+use Rattle.std.proofs.Common.{◌≡◌, ℕ, suc, ◌+◌, ◌-◌, ◌≤◌, ◌==◌, true, false, true≢false, List, [], ◌∷◌, length, drop, refl, sym, ap, ◌∙◌, arith, subst, slice_index, Result}
 use Rattle.std.specs.Int.{from_bool}
 use Rattle.std.specs.Str.{chars, IsUtf8, IsCharBoundary}
 use Rattle.std.proofs.lemmas.Bool.{eqb-true}
 use Rattle.std.proofs.lemmas.Str.{IsCharBoundary-from_drop}
+use Rattle.std.proofs.lemmas.Grind.{common_steps}
 use Rattle.unicode_ident.proofs.IdentLemmas.{is_xid_start-ascii}
 use Rattle.rustc_lexer.specs.declared.token.RawStrError.{RawStrError}
 use Rattle.rustc_lexer.specs.means.Ident.{marks_ident}
 use Rattle.rustc_lexer.specs.means.Lexeme.{is_raw_mark}
-use Rattle.rustc_lexer.specs.means.Raw.{is_quote, is_hash, hash_run, raw_read, raw_text}
+use Rattle.rustc_lexer.specs.means.Raw.{is_quote, hash_run, raw_read, raw_text}
 use Rattle.rustc_lexer.specs.means.Scan.{next_is, past, scanned}
+use Rattle.rustc_lexer.specs.laws.Choice.{by_either}
 use Rattle.rustc_lexer.proofs.BridgeLemmas.{chars-ascii, IsUtf8-ascii}
 use Rattle.rustc_lexer.specs.laws.Past.{past-past, past-two, chars-past, IsUtf8-past}
 use Rattle.rustc_lexer.proofs.RawLemmas.{hash_len}
@@ -46,21 +48,19 @@ module _ (text bytes : List ℕ) (n : ℕ) (is : IsUtf8 text) (same : bytes ≡ 
       by_text : (s : List ℕ) → IsUtf8 s → 2 ≤ length s → n ≡ from_bool (slice_index s 0 == 35) → slice_index s n ≡ 34 → Opening s (drop (n + 1) s) n
       by_text [] u l p q = absurd (omega arith)
       by_text (b ∷ []) u l p q = absurd (omega arith)
-      by_text (b ∷ c ∷ cs) u l p q = by_mark (b == 35) refl
-        where
-          by_mark : (t : Bool) → (b == 35) ≡ t → Opening (b ∷ c ∷ cs) (drop (n + 1) (b ∷ c ∷ cs)) n
-          by_mark false e =
-              let at : n ≡ 0 = p ∙ ap from_bool e in
-              let opens : b ≡ 34 = subst (λ k. slice_index (b ∷ c ∷ cs) k ≡ 34) at q in
-              subst (λ k. Opening (b ∷ c ∷ cs) (drop (k + 1) (b ∷ c ∷ cs)) k) (sym at)
-              (subst (λ x. Opening (x ∷ c ∷ cs) (c ∷ cs) 0) (sym opens) (bare (c ∷ cs) (subst (λ x. IsUtf8 (x ∷ c ∷ cs)) opens u)))
-          by_mark true e =
-              let at : n ≡ 1 = p ∙ ap from_bool e in
-              let mark : b ≡ 35 = eqb-true b 35 e in
-              let opens : c ≡ 34 = subst (λ k. slice_index (b ∷ c ∷ cs) k ≡ 34) at q in
-              subst (λ k. Opening (b ∷ c ∷ cs) (drop (k + 1) (b ∷ c ∷ cs)) k) (sym at)
-              (subst (λ x. Opening (x ∷ c ∷ cs) cs 1) (sym mark)
-              (subst (λ x. Opening (35 ∷ x ∷ cs) cs 1) (sym opens) (hashed cs (subst (λ x. IsUtf8 (35 ∷ x ∷ cs)) opens (subst (λ x. IsUtf8 (x ∷ c ∷ cs)) mark u)))))
+      by_text (b ∷ c ∷ cs) u l p q = by_either (b == 35)
+          (λ e.
+          let at : n ≡ 1 = p ∙ ap from_bool e in
+          let mark : b ≡ 35 = eqb-true b 35 e in
+          let opens : c ≡ 34 = subst (λ k. slice_index (b ∷ c ∷ cs) k ≡ 34) at q in
+          subst (λ k. Opening (b ∷ c ∷ cs) (drop (k + 1) (b ∷ c ∷ cs)) k) (sym at)
+          (subst (λ x. Opening (x ∷ c ∷ cs) cs 1) (sym mark)
+          (subst (λ x. Opening (35 ∷ x ∷ cs) cs 1) (sym opens) (hashed cs (subst (λ x. IsUtf8 (35 ∷ x ∷ cs)) opens (subst (λ x. IsUtf8 (x ∷ c ∷ cs)) mark u))))))
+          (λ e.
+          let at : n ≡ 0 = p ∙ ap from_bool e in
+          let opens : b ≡ 34 = subst (λ k. slice_index (b ∷ c ∷ cs) k ≡ 34) at q in
+          subst (λ k. Opening (b ∷ c ∷ cs) (drop (k + 1) (b ∷ c ∷ cs)) k) (sym at)
+          (subst (λ x. Opening (x ∷ c ∷ cs) (c ∷ cs) 0) (sym opens) (bare (c ∷ cs) (subst (λ x. IsUtf8 (x ∷ c ∷ cs)) opens u))))
 
   pub opening_room : n + 1 ≤ length text
   opening_room = omega (arith, some, ap length same, count, byte_le (slice_index bytes 0 == 35))
@@ -98,16 +98,4 @@ opened prefix n text body read left is count quote cut len e = by_front (drop n 
 
 -- no identifier is marked by it
 pub opens_raw : (n : ℕ) (s : List ℕ) → n ≤ 1 → n ≡ hash_run s → next_is is_quote (drop n s) ≡ true → (next_is is_raw_mark s ≡ true) × (marks_ident s ≡ false)
-opens_raw zero [] few count quote = absurd (true≢false (sym quote))
-opens_raw zero (c ∷ s) few count quote = let at : c ≡ 34 = eqb-true c 34 quote in rw at (refl, refl)
-opens_raw (suc zero) [] few count quote = absurd (true≢false (sym quote))
-opens_raw (suc zero) (c ∷ []) few count quote = absurd (true≢false (sym quote))
-opens_raw (suc zero) (c ∷ d ∷ s) few count quote = by_hash (is_hash c) refl count
-  where
-    by_hash : (b : Bool) → is_hash c ≡ b → 1 ≡ (if b then suc (hash_run (d ∷ s)) else 0) → (next_is is_raw_mark (c ∷ d ∷ s) ≡ true) × (marks_ident (c ∷ d ∷ s) ≡ false)
-    by_hash false e f = absurd (omega arith)
-    by_hash true e f =
-        let mark : c ≡ 35 = eqb-true c 35 e in
-        let at : d ≡ 34 = eqb-true d 34 quote in
-        rw (mark, at) (refl, is_xid_start-ascii 34 (omega arith))
-opens_raw (suc (suc n)) s few count quote = absurd (omega arith)
+opens_raw w0 s few count quote = grind (arith, common_steps, eqb-true, is_xid_start-ascii)

@@ -1,5 +1,6 @@
 -- The pieces of a text, one by one.
 use Rattle.std.proofs.Common.{◌≡◌, ℕ, zero, suc, ◌+◌, ◌-◌, ◌^◌, ◌<◌, ◌≤◌, List, [], ◌∷◌, get_or, length, take, drop, slice_range, refl, sym, ap, ◌∙◌, subst, arith, length-take, length-take-le, length-drop, take-take, IsCharBoundary}
+use Rattle.std.proofs.lemmas.Grind.{common_steps}
 use Rattle.rustc_lexer.specs.declared.token.Token.{Token}
 use Rattle.rustc_lexer.specs.Tokens.{bound, tokens_by}
 use Rattle.rustc_lexer.specs.means.Pieces.{AreBoundariesFrom}
@@ -63,9 +64,7 @@ take-pieces text start (suc k) [] = refl
 take-pieces text start (suc k) (t ∷ ts) = ap (λ ps. record { start = start; token = t; text = take t.len (drop start text) } ∷ ps) (take-pieces text (start + t.len) k ts)
 
 pub pieces-part : (text : List ℕ) (tokens : List Token) (from n : ℕ) → pieces_from text (bound tokens from) (take n (drop from tokens)) ≡ take n (drop from (pieces_of text tokens))
-pieces-part text tokens from n =
-    let zero_is : 0 + bound tokens from ≡ bound tokens from = omega arith in
-    sym (ap (take n) (drop-pieces text 0 from tokens ∙ ap (λ p. pieces_from text p (drop from tokens)) zero_is) ∙ take-pieces text (bound tokens from) n (drop from tokens))
+pieces-part text tokens from n = grind (arith, common_steps, drop-pieces, take-pieces)
 
 -- ---- where a token begins, from a bound before it on
 
@@ -87,6 +86,4 @@ bound-part tokens items from to place le inside is at =
 
 -- the bounds of a text that fits
 pub bound_short : {first : List ℕ → Token} (law : IsGrammar first) (text : List ℕ) (tokens : List Token) (k : ℕ) → IsText text → tokens ≡ tokens_by first text → k ≤ length tokens → bound tokens k < 2 ^ 32
-bound_short {first} law text tokens k is e few =
-    let few' : k ≤ length (tokens_by first text) = subst (λ (ts : List Token). k ≤ length ts) e few in
-    subst (λ (ts : List Token). bound ts k < 2 ^ 32) (sym e) (bounds_fit law text is k few')
+bound_short {first} law text tokens k is e few = grind (arith, common_steps, bounds_fit)

@@ -2,6 +2,7 @@
 use Rattle.std.proofs.Common.{◌≡◌, ℕ, zero, suc, ◌+◌, ◌<◌, ◌≤◌, List, [], ◌∷◌, ◌++◌, length, take, drop, refl, sym, ap, ◌∙◌, arith, length-drop, length-append, IsUtf8, IsCharBoundary, take_all}
 use Rattle.std.proofs.lemmas.List.{drop_all}
 use Rattle.std.proofs.lemmas.Str.{IsCharBoundary-from_drop}
+use Rattle.std.proofs.lemmas.Grind.{common_steps}
 use Rattle.rustc_lexer.specs.declared.token.Token.{Token}
 use Rattle.rustc_lexer.specs.Classes.{IsText}
 use Rattle.rustc_lexer.specs.Locality.{IsGrammar}
@@ -37,9 +38,7 @@ pub record IsPlace (text : List ℕ) (place : ℕ) : Type 0 where
   pub past : IsText (drop place text)
 
 pub lexed_place : {first : List ℕ → Token} (law : IsGrammar first) (text : List ℕ) (items : List Token) (place : ℕ) → IsText text → IsLexedTo first text items place → IsPlace text place
-lexed_place law text items place is at =
-    let cut = at_bound law (length items) text is in
-    rw at.place_is record { inside = cut.inside; boundary = IsCharBoundary-from_drop text _ cut.inside cut.past.utf8; front = cut.front; past = cut.past }
+lexed_place law text items place is at = grind (arith, common_steps, at_bound, IsCharBoundary-from_drop)
 
 pub lexed_more : {first : List ℕ → Token} (law : IsGrammar first) (text : List ℕ) (items : List Token) (place : ℕ) → IsText text → IsLexedTo first text items place → place < length text → IsLexedTo first text (items ++ first (drop place text) ∷ []) (place + (first (drop place text)).len)
 lexed_more {first} law text items place is at more =

@@ -1,11 +1,11 @@
 -- Tokens that are told by their bytes.
-use Rattle.std.proofs.Common.{◌≡◌, ℕ, suc, ◌+◌, ◌-◌, ◌<◌, ◌≤◌, ◌||◌, ◌==◌, not, Bool, true, false, true≢false, if◌then◌else◌, List, [], ◌∷◌, ◌++◌, length, drop, codes, refl, sym, ap, ◌∙◌, arith, subst, length-drop, inl, inr}
-use Rattle.std.specs.Char.{is_ascii_alphanumeric}
+use Rattle.std.proofs.Common.{◌≡◌, ℕ, suc, ◌+◌, ◌-◌, ◌<◌, ◌≤◌, ◌==◌, not, Bool, true, false, if◌then◌else◌, List, [], ◌∷◌, ◌++◌, length, drop, codes, refl, sym, ap, ◌∙◌, arith, subst, length-drop}
 use Rattle.std.specs.List.{prefix_len}
 use Rattle.std.specs.Str.{chars, IsUtf8}
 use Rattle.std.proofs.lemmas.Bool.{or_parts, or_cases, not-true, not-false, eqb-true, ltb-true, lt-leb}
 use Rattle.std.proofs.lemmas.Str.{chars-nil, encode_ascii}
 use Rattle.std.proofs.lemmas.List.Sums.{prefix_len-le-length}
+use Rattle.std.proofs.lemmas.Grind.{common_steps}
 use Rattle.unicode_ident.proofs.IdentLemmas.{is_xid_continue-ascii}
 use Rattle.rustc_lexer.specs.declared.token.TokenKind.{TokenKind}
 use Rattle.rustc_lexer.specs.declared.token.TokenKind.TheVariants.{Ident, UnknownPrefix, Whitespace}
@@ -34,24 +34,10 @@ emoji-ascii b l = rw (lt-leb 128 b l) refl
 -- ---- a word is an identifier where no mark follows it
 
 mark-continues : (c : ℕ) → is_prefix_mark c ≡ true → is_id_continue c ≡ false
-mark-continues c e = elim (or_cases (c == 35) _ e) [
-  | inl a ↦ at 35 (omega arith) refl (eqb-true c 35 a)
-  | inr f ↦ elim (or_cases (c == 34) _ f) [
-    | inl a ↦ at 34 (omega arith) refl (eqb-true c 34 a)
-    | inr g ↦ elim (or_cases (c == 39) false g) [ inl a ↦ at 39 (omega arith) refl (eqb-true c 39 a) | inr none_left ↦ absurd (true≢false (sym none_left)) ]
-  ]
-]
-  where
-    at : (n : ℕ) → n < 128 → (is_ascii_alphanumeric n || (n == 95)) ≡ false → c ≡ n → is_id_continue c ≡ false
-    at n l f same = ap is_id_continue same ∙ (is_xid_continue-ascii n l ∙ f)
+mark-continues c e = grind (arith, common_steps, or_cases, eqb-true, is_xid_continue-ascii)
 
 no_mark : (s : List ℕ) → next_is is_prefix_mark (drop (run_len is_id_continue s) s) ≡ false → next_is is_prefix_mark s ≡ false
-no_mark [] h = refl
-no_mark (c ∷ cs) h = by_test (is_prefix_mark c) refl
-  where
-    by_test : (t : Bool) → is_prefix_mark c ≡ t → is_prefix_mark c ≡ false
-    by_test false e = e
-    by_test true e = let none : run_len is_id_continue (c ∷ cs) ≡ 0 = rw (mark-continues c e) refl in subst (λ n. next_is is_prefix_mark (drop n (c ∷ cs)) ≡ false) none h
+no_mark w0 h = grind (arith, common_steps, mark-continues)
 
 r-continues : is_id_continue 114 ≡ true
 r-continues = is_xid_continue-ascii 114 (omega arith)
@@ -63,10 +49,7 @@ record Unmarked (c : ℕ) : Type 0 where
   single : (c == 39) ≡ false
 
 unmarked : (c : ℕ) → is_prefix_mark c ≡ false → Unmarked c
-unmarked c e =
-    let p = or_parts (c == 35) _ e in
-    let q = or_parts (c == 34) _ p.1 in
-    record { hash = p.0; double = q.0; single = (or_parts (c == 39) false q.1).0 }
+unmarked c e = grind (arith, common_steps, or_parts)
 
 no_raw : (s : List ℕ) → next_is is_prefix_mark s ≡ false → next_is is_raw_mark s ≡ false
 no_raw [] e = refl
@@ -100,12 +83,7 @@ word-plain b s h =
 -- ---- the next character, by the next byte
 
 pub turned-emoji : (left : List ℕ) → IsUtf8 left → next_is turns_word left ≡ false → (next_is is_emoji (chars left) ≡ false) × ((next_is is_prefix_mark (chars left) ≡ false) × (next_is is_wide left ≡ false))
-turned-emoji [] is e = (ap (next_is is_emoji) chars-nil, (ap (next_is is_prefix_mark) chars-nil, refl))
-turned-emoji (d ∷ ds) is e =
-    let parts = or_parts (is_wide d) (is_prefix_mark d) e in
-    let small : d < 128 = ltb-true d 128 (not-false _ parts.0) in
-    let read = chars-ascii d ds is small in
-    (ap (next_is is_emoji) read ∙ emoji-ascii d small, (ap (next_is is_prefix_mark) read ∙ parts.1, parts.0))
+turned-emoji w0 is e = grind (arith, common_steps, chars-nil, or_parts, ltb-true, not-false, chars-ascii, emoji-ascii)
 
 -- ---- the tokens
 

@@ -2,9 +2,10 @@
 use Rattle.std.proofs.Common.{◌≡◌, ◌≢◌, ℕ, suc, ◌+◌, ◌==◌, ◌&&◌, not, Bool, true, false, if◌then◌else◌, List, [], ◌∷◌, length, drop, refl, sym, ap, ◌∙◌, arith, ◌<◌, subst, eq-eqb, Option, Some, None, MatchOption, Bor}
 use Rattle.std.specs.Str.{chars, IsUtf8}
 use Rattle.std.proofs.lemmas.Bool.{ne_eqb}
+use Rattle.std.proofs.lemmas.Grind.{common_steps}
 use Rattle.rustc_lexer.specs.means.Scan.{begins, past, run_len, scanned}
-use Rattle.rustc_lexer.specs.means.Least.{one_more}
 use Rattle.rustc_lexer.specs.means.Quoted.{is_backslash, stopped, quoted, at_single_stop, is_lone, single_quoted_string}
+use Rattle.rustc_lexer.specs.laws.Choice.{by_either}
 use Rattle.rustc_lexer.specs.laws.Seek.{seek, free_place-seek, stopped-more}
 use Rattle.rustc_lexer.specs.laws.Scan.{run_len-stop}
 use Rattle.rustc_lexer.specs.laws.Past.{past-zero, past-past, past-two, chars-past, IsUtf8-past}
@@ -34,56 +35,37 @@ module _ (quote : ℕ) (test : List ℕ → Bool) where
     tail-utf8 = rw cut (IsUtf8-past 1 rest at.utf8)
 
     leaves-is : (o : Option ℕ) → seek test (c ∷ chars tail) escaped ≡ o → ((stopped quote o (c ∷ chars tail)).0, past (stopped quote o (c ∷ chars tail)).1 rest) ≡ scanned (quoted quote test) text
-    leaves-is o e =
-        ap (λ p. ((stopped quote p (c ∷ chars tail)).0, past (stopped quote p (c ∷ chars tail)).1 rest)) (sym e)
-        ∙ (ap (λ cs. ((stopped quote (seek test cs escaped) cs).0, past (stopped quote (seek test cs escaped) cs).1 rest)) (sym reads) ∙ at.same)
+    leaves-is o e = grind (arith, common_steps)
 
     -- a character that does not stop it
     pub seek-on : (to : Bool) → (not escaped && test (c ∷ chars tail)) ≡ false → (if escaped then false else is_backslash c) ≡ to → Seeking text tail to
-    seek-on to t next =
-        let opened : seek test (c ∷ chars tail) escaped ≡ one_more (seek test (chars tail) to) = rw (t, next) refl in
-        let r : Bool × ℕ = stopped quote (seek test (chars tail) to) (chars tail) in
-        let more : stopped quote (one_more (seek test (chars tail) to)) (c ∷ chars tail) ≡ (r.0, suc r.1) = stopped-more quote (seek test (chars tail) to) c (chars tail) in
-        record {
-          utf8 = tail-utf8;
-          same = ap (λ xs. (r.0, xs)) (sym (tail-is r.1)) ∙ (ap (λ (p : Bool × ℕ). (p.0, past p.1 rest)) (sym more) ∙ leaves-is (one_more (seek test (chars tail) to)) opened);
-        }
+    seek-on to t next = grind (arith, common_steps, stopped-more, tail-utf8, tail-is, leaves-is)
 
     -- the quote closes it
     pub seek-closed : (not escaped && test (c ∷ chars tail)) ≡ true → begins (quote ∷ []) (c ∷ chars tail) ≡ true → (true, tail) ≡ scanned (quoted quote test) text
-    seek-closed t q =
-        let here : seek test (c ∷ chars tail) escaped ≡ Some 0 = rw t refl in
-        let closed : stopped quote (Some 0) (c ∷ chars tail) ≡ (true, 1) = rw q refl in
-        ap (λ xs. (true, xs)) cut ∙ (ap (λ (p : Bool × ℕ). (p.0, past p.1 rest)) (sym closed) ∙ leaves-is (Some 0) here)
+    seek-closed t q = grind (arith, common_steps, leaves-is)
 
     -- another stop leaves it open
     pub seek-open : (not escaped && test (c ∷ chars tail)) ≡ true → begins (quote ∷ []) (c ∷ chars tail) ≡ false → (false, rest) ≡ scanned (quoted quote test) text
-    seek-open t q =
-        let here : seek test (c ∷ chars tail) escaped ≡ Some 0 = rw t refl in
-        let open_here : stopped quote (Some 0) (c ∷ chars tail) ≡ (false, 0) = rw q refl in
-        ap (λ xs. (false, xs)) (sym (past-zero rest at.utf8)) ∙ (ap (λ (p : Bool × ℕ). (p.0, past p.1 rest)) (sym open_here) ∙ leaves-is (Some 0) here)
+    seek-open t q = grind (arith, common_steps, past-zero, leaves-is)
 
   -- characters that neither stop it nor are backslashes
   pub seek-run : (plain : ℕ → Bool) → ((c : ℕ) (s : List ℕ) → plain c ≡ true → test (c ∷ s) ≡ false) → ((c : ℕ) → plain c ≡ true → is_backslash c ≡ false)
       → (text rest : List ℕ) (cs : List ℕ) → chars rest ≡ cs → Seeking text rest false → Seeking text (past (run_len plain cs) rest) false
   seek-run plain goes straight text rest [] reads at = subst (λ xs. Seeking text xs false) (sym (past-zero rest at.utf8)) at
-  seek-run plain goes straight text rest (c ∷ cs) reads at = by_test (seek-run plain goes straight text (past 1 rest) cs) (plain c) refl
-    where
-      by_test : (chars (past 1 rest) ≡ cs → Seeking text (past 1 rest) false → Seeking text (past (run_len plain cs) (past 1 rest)) false) → (t : Bool) → plain c ≡ t → Seeking text (past (run_len plain (c ∷ cs)) rest) false
-      by_test ih true e =
-          let left : chars (past 1 rest) ≡ cs = chars-past 1 rest at.utf8 ∙ ap (drop 1) reads in
-          let here : chars rest ≡ c ∷ chars (past 1 rest) = reads ∙ ap (λ xs. c ∷ xs) (sym left) in
-          let next : Seeking text (past 1 rest) false = seek-on text rest (past 1 rest) false c at here refl false (goes c (chars (past 1 rest)) e) (straight c e) in
-          let more : 1 + run_len plain cs ≡ run_len plain (c ∷ cs) = rw e (omega arith) in
-          subst (λ xs. Seeking text xs false) (past-past (run_len plain cs) 1 rest at.utf8 ∙ ap (λ n. past n rest) more) (ih left next)
-      by_test ih false e =
-          let none : run_len plain (c ∷ cs) ≡ 0 = rw e refl in
-          subst (λ xs. Seeking text xs false) (sym (ap (λ n. past n rest) none ∙ past-zero rest at.utf8)) at
+  seek-run plain goes straight text rest (c ∷ cs) reads at = by_either (plain c)
+      (λ e.
+      let left : chars (past 1 rest) ≡ cs = chars-past 1 rest at.utf8 ∙ ap (drop 1) reads in
+      let here : chars rest ≡ c ∷ chars (past 1 rest) = reads ∙ ap (λ xs. c ∷ xs) (sym left) in
+      let next : Seeking text (past 1 rest) false = seek-on text rest (past 1 rest) false c at here refl false (goes c (chars (past 1 rest)) e) (straight c e) in
+      let more : 1 + run_len plain cs ≡ run_len plain (c ∷ cs) = rw e (omega arith) in
+      subst (λ xs. Seeking text xs false) (past-past (run_len plain cs) 1 rest at.utf8 ∙ ap (λ n. past n rest) more) (seek-run plain goes straight text (past 1 rest) cs left next))
+      (λ e.
+      let none : run_len plain (c ∷ cs) ≡ 0 = rw e refl in
+      subst (λ xs. Seeking text xs false) (sym (ap (λ n. past n rest) none ∙ past-zero rest at.utf8)) at)
 
   pub seek-end : (text rest : List ℕ) (escaped : Bool) → Seeking text rest escaped → chars rest ≡ [] → (false, rest) ≡ scanned (quoted quote test) text
-  seek-end text rest escaped at none =
-      ap (λ xs. (false, xs)) (sym (past-zero rest at.utf8))
-      ∙ (ap (λ cs. ((stopped quote (seek test cs escaped) cs).0, past (stopped quote (seek test cs escaped) cs).1 rest)) (sym none) ∙ at.same)
+  seek-end text rest escaped at none = grind (arith, common_steps, past-zero)
 
 -- the tests of the loops
 pub when-escaped : (escaped stops : Bool) → escaped ≡ true → (not escaped && stops) ≡ false

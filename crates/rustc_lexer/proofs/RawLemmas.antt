@@ -5,9 +5,11 @@ use Rattle.std.specs.Str.{chars, encode_utf8_all, IsUtf8, IsCharBoundary}
 use Rattle.std.proofs.lemmas.Bool.{eqb-true, eq-eqb, ne_eqb, le-leb, lt-leb, not-false, and_parts, not-true}
 use Rattle.std.proofs.lemmas.Str.{encode_ascii, IsCharBoundary-from_drop}
 use Rattle.std.proofs.Math.Seq.{drop-length}
+use Rattle.std.proofs.lemmas.Grind.{common_steps}
 use Rattle.rustc_lexer.specs.declared.token.RawStrError.{RawStrError}
 use Rattle.rustc_lexer.specs.declared.token.RawStrError.TheVariants.{NoTerminator}
 use Rattle.rustc_lexer.specs.means.Least.{one_more, more}
+use Rattle.rustc_lexer.specs.laws.Choice.{by_either}
 use Rattle.rustc_lexer.specs.laws.Least.{place-here, place-on, more-zero}
 use Rattle.rustc_lexer.specs.means.Raw.{least_place, is_hash, is_quote, is_no_quote, hash_run, closes, close, quote_hashes, most_hashes, quote_with, quote_if, best_quote, quote_end, hash_count, raw_closed, raw_text}
 use Rattle.rustc_lexer.specs.means.Scan.{begins, bytes_of, past, run_len, scanned}
@@ -28,15 +30,13 @@ module _ (p : ℕ → Bool) (none : (c : ℕ) → p c ≡ true → is_quote c �
 
   skip-most : (s : List ℕ) → most_hashes s ≡ most_hashes (drop (run_len p s) s)
   skip-most [] = refl
-  skip-most (c ∷ s) = by_class (skip-most s) (p c) refl
-    where
-      by_class : most_hashes s ≡ most_hashes (drop (run_len p s) s) → (b : Bool) → p c ≡ b → most_hashes (c ∷ s) ≡ most_hashes (drop (run_len p (c ∷ s)) (c ∷ s))
-      by_class ih true e =
-          let n : ℕ = run_len p s in
-          let no_hashes : quote_hashes (c ∷ s) ≡ 0 = ap (λ (b : Bool). if b then hash_run s else 0) (none c e) in
-          let same : max 0 (most_hashes s) ≡ most_hashes s = omega arith in
-          ap (λ (m : ℕ). max m (most_hashes s)) no_hashes ∙ (same ∙ (ih ∙ ap (λ (b : Bool). most_hashes (drop (if b then suc n else 0) (c ∷ s))) (sym e)))
-      by_class ih false e = ap (λ (b : Bool). most_hashes (drop (if b then suc (run_len p s) else 0) (c ∷ s))) (sym e)
+  skip-most (c ∷ s) = by_either (p c)
+      (λ e.
+      let n : ℕ = run_len p s in
+      let no_hashes : quote_hashes (c ∷ s) ≡ 0 = ap (λ (b : Bool). if b then hash_run s else 0) (none c e) in
+      let same : max 0 (most_hashes s) ≡ most_hashes s = omega arith in
+      ap (λ (m : ℕ). max m (most_hashes s)) no_hashes ∙ (same ∙ (skip-most s ∙ ap (λ (b : Bool). most_hashes (drop (if b then suc n else 0) (c ∷ s))) (sym e))))
+      (λ e. ap (λ (b : Bool). most_hashes (drop (if b then suc (run_len p s) else 0) (c ∷ s))) (sym e))
 
 hash-no_quote : (c : ℕ) → is_hash c ≡ true → is_quote c ≡ false
 hash-no_quote c e = rw (eqb-true c 35 e) refl
@@ -109,15 +109,7 @@ pub record Searching (n before : ℕ) (text left : List ℕ) (found : ℕ) (end 
   pub ends : end ≡ quote_end before (chars text) (quote_if found (chars text))
 
 pub search_start : (n before : ℕ) (text : List ℕ) → IsUtf8 text → Searching n before text text 0 None
-search_start n before text is = record {
-  taken = 0;
-  inside = omega arith;
-  place = sym (past-zero text is);
-  closes_at = more-zero (close n (chars text));
-  most = omega arith;
-  more = λ m less. more-zero (quote_with m (chars text));
-  ends = refl;
-}
+search_start n before text is = grind (arith, common_steps, past-zero, more-zero)
 
 -- the hashes at the front are one byte each
 pub hash_bytes : (n : ℕ) (w : List ℕ) → n ≤ hash_run w → bytes_of n w ≡ n
@@ -156,11 +148,7 @@ module _ (n before : ℕ) (text left tail next : List ℕ) (found : ℕ) (end : 
   next_reads = ap chars next_is ∙ chars-past (hash_run (chars tail)) tail tail_utf8
 
   next_at : next ≡ past (at.taken + (suc (run_len is_no_quote (chars left)) + hash_run (chars tail))) text
-  next_at =
-      let k : ℕ = run_len is_no_quote (chars left) in
-      let h : ℕ = hash_run (chars tail) in
-      let same : (at.taken + suc k) + h ≡ at.taken + (suc k + h) = omega arith in
-      next_is ∙ (ap (past h) tail_at ∙ (past-past h (at.taken + suc k) text is ∙ ap (λ (m : ℕ). past m text) same))
+  next_at = grind (arith, common_steps, tail_at, past-past)
 
   place_on : (test : List ℕ → Bool) → ((c : ℕ) (s : List ℕ) → is_quote c ≡ false → test (c ∷ s) ≡ false) → test (34 ∷ chars tail) ≡ false → least_place test (chars text) ≡ more at.taken (least_place test (chars left))
       → least_place test (chars text) ≡ more (at.taken + (suc (run_len is_no_quote (chars left)) + hash_run (chars tail))) (least_place test (chars next))

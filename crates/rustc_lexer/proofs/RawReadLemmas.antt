@@ -1,9 +1,10 @@
 -- What a raw string is read as, from what its parts are.
-use Rattle.std.proofs.Common.{◌≡◌, ◌≢◌, ℕ, suc, ◌+◌, ◌-◌, ◌≤◌, ◌==◌, ◌↔◌, IsTrue, slice_index, Bool, true, false, true≢false, if◌then◌else◌, List, [], ◌∷◌, length, take, drop, refl, sym, ap, ◌∙◌, subst, arith, length-take, length-drop, Option, Some, None, Result, Ok, Err}
+use Rattle.std.proofs.Common.{◌≡◌, ◌≢◌, ℕ, suc, ◌+◌, ◌-◌, ◌≤◌, ◌==◌, ◌↔◌, IsTrue, slice_index, Bool, true, false, true≢false, if◌then◌else◌, List, [], ◌∷◌, length, take, drop, sym, ap, ◌∙◌, subst, arith, length-take, length-drop, Option, Some, None, Result, Ok, Err}
 use Rattle.std.specs.Str.{chars, encode_utf8_all, IsUtf8}
 use Rattle.std.proofs.lemmas.Bool.{ne_eqb}
 use Rattle.std.proofs.lemmas.Str.{length-le-encodes}
 use Rattle.std.proofs.lemmas.List.{nil_from_length}
+use Rattle.std.proofs.lemmas.Grind.{common_steps}
 use Rattle.rustc_lexer.specs.declared.lexemes.raw.RawPrefix.{RawPrefix}
 use Rattle.rustc_lexer.specs.declared.token.LiteralKind.{LiteralKind}
 use Rattle.rustc_lexer.specs.declared.token.RawStrError.{RawStrError}
@@ -29,22 +30,12 @@ module _ (prefix : ℕ) (text from : List ℕ) (is : IsUtf8 text) (from_is : fro
   to_starter = scanned-after (hash_run (chars text)) (raw_starter prefix (hash_run (chars text))) text from is from_is
 
   pub no_starter : chars from ≡ [] → (Err (InvalidStarter 0), from) ≡ scanned (raw_read prefix) text
-  no_starter e =
-      sym (to_starter
-      ∙ (ap (λ (s : List ℕ). let r : Left = ((raw_starter prefix (hash_run (chars text)) s).0, past (raw_starter prefix (hash_run (chars text)) s).1 from) in r) e
-      ∙ ap (λ (xs : List ℕ). let r : Left = (Err (InvalidStarter 0), xs) in r) (past-zero from from_utf8)))
+  no_starter e = grind (arith, common_steps, to_starter, past-zero, from_utf8)
 
   -- `body` follows the character after the hashes
   module _ (c : ℕ) (body : List ℕ) (reads : chars from ≡ c ∷ chars body) (body_is : body ≡ past 1 from) where
     to_body : scanned (raw_read prefix) text ≡ scanned (past_starter prefix (hash_run (chars text)) c) body
-    to_body =
-        let n : ℕ = hash_run (chars text) in
-        let m : ℕ = (past_starter prefix n c (chars body)).1 in
-        let same : 1 + m ≡ suc m = omega arith in
-        let left : past (suc m) from ≡ past m body = sym (ap (past m) body_is ∙ (past-past m 1 from from_utf8 ∙ ap (λ (k : ℕ). past k from) same)) in
-        to_starter
-        ∙ (ap (λ (s : List ℕ). let r : Left = ((raw_starter prefix n s).0, past (raw_starter prefix n s).1 from) in r) reads
-        ∙ ap (λ (xs : List ℕ). let r : Left = ((past_starter prefix n c (chars body)).0, xs) in r) left)
+    to_body = grind (arith, common_steps, past-past, from_utf8, to_starter)
 
     body_utf8 : IsUtf8 body
     body_utf8 = subst IsUtf8 (sym body_is) (IsUtf8-past 1 from from_utf8)
@@ -52,10 +43,7 @@ module _ (prefix : ℕ) (text from : List ℕ) (is : IsUtf8 text) (from_is : fro
     -- what is read of the body, where it is known whether that character is a quote
     by_quote : (b : Bool) → is_quote c ≡ b
         → scanned (raw_read prefix) text ≡ scanned (λ u. if b then raw_text (hash_run (chars text)) (prefix + suc (hash_run (chars text))) u else gives (Err (InvalidStarter c)) u) body
-    by_quote b e =
-        let n : ℕ = hash_run (chars text) in
-        to_body
-        ∙ ap (λ (b : Bool). let r : Result ℕ RawStrError × ℕ = if b then raw_text n (prefix + suc n) (chars body) else gives (Err (InvalidStarter c)) (chars body) in let t : Left = (r.0, past r.1 body) in t) e
+    by_quote b e = grind (arith, common_steps, to_body)
 
     pub bad_starter : c ≢ 34 → (Err (InvalidStarter c), body) ≡ scanned (raw_read prefix) text
     bad_starter ne = sym (by_quote false (ne_eqb c 34 ne) ∙ scanned-gives (Err (InvalidStarter c)) body body_utf8)
@@ -109,15 +97,7 @@ module _ (text rest : List ℕ) (p : ℕ) (is : IsUtf8 text) (rest_is : rest ≡
 
   -- the test of the letter
   pub starts_is : (q : ℕ) → q ≡ suc p → IsTrue (slice_index (chars rest) 0 == 114) ↔ StartsRaw text q
-  starts_is q same =
-      let before : q - 1 ≡ p = omega arith in
-      let reads : chars rest ≡ drop (q - 1) (chars text) = ap chars rest_is ∙ (chars-past p text is ∙ ap (λ (n : ℕ). drop n (chars text)) (sym before)) in
-      let letter : (slice_index (chars rest) 0 == 114) ≡ next_is is_r (drop (q - 1) (chars text)) = by_char (chars rest) ∙ ap (next_is is_r) reads in
-      (λ f. (omega arith, sym letter ∙ f), λ s. letter ∙ s.1)
-    where
-      by_char : (s : List ℕ) → (slice_index s 0 == 114) ≡ next_is is_r s
-      by_char [] = refl
-      by_char (c ∷ s) = refl
+  starts_is q same = grind (arith, common_steps, chars-past)
 
 pub past-end : (text rest : List ℕ) (n m : ℕ) → IsUtf8 text → rest ≡ past n text → chars rest ≡ [] → n ≤ m → rest ≡ past m text
 unfolding past

@@ -1,8 +1,9 @@
 -- Relexing over many tokens at once, each of which begins before the end of what an edit put in.
-use Rattle.std.proofs.Common.{◌≡◌, ℕ, zero, suc, ◌+◌, ◌-◌, ◌<◌, ◌≤◌, Bool, true, false, ◌&&◌, leb, List, ◌∷◌, length, drop, inl, inr, refl, sym, ap, ◌∙◌, subst, arith, drop-drop, length-drop, IsUtf8, IsCharBoundary}
+use Rattle.std.proofs.Common.{◌≡◌, ℕ, zero, suc, ◌+◌, ◌-◌, ◌<◌, ◌≤◌, Bool, true, false, ◌&&◌, leb, List, ◌∷◌, length, drop, inl, inr, refl, sym, ap, ◌∙◌, subst, arith, drop-drop, length-drop, IsUtf8, IsCharBoundary, Some}
 use Rattle.std.proofs.lemmas.Bool.{cases_lt, leb-true}
 use Rattle.std.proofs.lemmas.Str.{IsCharBoundary-from_drop, IsUtf8-drop}
-use Rattle.rustc_lexer.specs.means.Relexing.{IsFollowed}
+use Rattle.rustc_lexer.specs.means.Relexing.{IsFollowed, added_by, removed_by}
+use Rattle.std.proofs.lemmas.Grind.{common_steps}
 use Rattle.rustc_lexer.specs.declared.relex.front.Bound.{Bound}
 use Rattle.rustc_lexer.specs.declared.relex.front.Meeting.{Meeting}
 use Rattle.rustc_lexer.specs.declared.relex.relexing.Change.{Change}
@@ -10,7 +11,7 @@ use Rattle.rustc_lexer.specs.declared.relex.relexing.Relexing.{Relexing}
 use Rattle.rustc_lexer.specs.declared.token.Token.{Token}
 use Rattle.rustc_lexer.specs.Tokens.{IsFilledTo, bound, tokens_by}
 use Rattle.rustc_lexer.specs.Classes.{Fits, IsText}
-use Rattle.rustc_lexer.specs.Edits.{is_bound, meets_at, IsMadeOf, Stands, TakesSteps, is_over, known}
+use Rattle.rustc_lexer.specs.Edits.{is_bound, meets_at, IsMadeOf, Stands, TakesSteps, is_over, known, IsFollowed, TakesStep}
 use Rattle.rustc_lexer.specs.Locality.{IsGrammar}
 use Rattle.rustc_lexer.proofs.BoundLemmas.{number_le_bound, rises}
 use Rattle.rustc_lexer.proofs.BulkLemmas.{next_place, next_token, over, stands as place_stands}
@@ -139,15 +140,7 @@ stretch {first} law {text} {left} {at} {end} utf8 fits cut left_is {X} {written}
 
 -- no step
 pub no_step : (first : List ℕ → Token) (text : List ℕ) (past : ℕ) (at : Relexing) → TakesSteps first text past at 0 at
-no_step first text past at = record {
-  inside = omega arith;
-  none = λ _. refl;
-  front = refl;
-  lexed = omega arith;
-  place = omega arith;
-  same_back = λ _. refl;
-  not_met = λ some _. absurd (omega arith);
-}
+no_step first text past at = grind (arith, common_steps)
 
 -- past the token where relexing stands. Before the edit's end, at `past`, no old token is followed
 pub record IsStepTo (first : List ℕ → Token) (text : List ℕ) (past : ℕ) (at : Relexing) (token : Token) (at' : Relexing) : Type 0 where
@@ -181,19 +174,7 @@ module _ {first : List ℕ → Token} (law : IsGrammar first) (text : List ℕ) 
   next_left = subst (λ (t : Token). drop count left ≡ t ∷ tokens_by first (drop t.len (drop (bound left count) rest))) token_is (next_token law rest rest_is count (bound left count) refl more)
 
   pub step_more : TakesSteps first text past begin (count + 1) at'
-  step_more =
-      let lexed = step.lexed in
-      let before = steps.lexed in
-      let some = step.not_empty in
-      record {
-        inside = omega (arith, ap length next_left, length-drop count left);
-        none = λ e. absurd (omega arith);
-        front = step.front ∙ steps.front;
-        lexed = omega arith;
-        place = omega (arith, step.place, steps.place, next_place law rest rest_is count (bound left count) refl more, ap (λ (t : Token). t.len) token_is);
-        same_back = λ less. step.same_back less ∙ steps.same_back (let place = step.place in omega arith);
-        not_met = λ _ less. step.not_met less;
-      }
+  step_more = grind (arith, common_steps, next_left, length-drop, next_place, rest_is, token_is)
 
 -- so one step is such steps, one in number
 pub one_step : {first : List ℕ → Token} (law : IsGrammar first) (text : List ℕ) → IsText text → (past : ℕ) (at : Relexing) (token : Token) (at' : Relexing) → IsCharBoundary text at.at → IsStepTo first text past at token at' → TakesSteps first text past at 1 at'

@@ -1,8 +1,9 @@
 -- Relexing by the lengths of the old tokens: where it stands, from its beginning to the meeting.
-use Rattle.std.proofs.Common.{◌≡◌, ℕ, zero, suc, ◌+◌, ◌-◌, ◌<◌, ◌≤◌, Bool, true, false, cond, ◌||◌, eqb, eqb-true, eq-eqb, true≢false, List, [], ◌∷◌, ◌++◌, length, map, take, drop, refl, sym, ap, ◌∙◌, subst, arith, length-drop, length-append, IsUtf8, take-add, take_at, drop-drop, length-take-le, append_assoc, eq-or-lt_of_le, inl, inr, IsCharBoundary, max}
+use Rattle.std.proofs.Common.{◌≡◌, ℕ, zero, suc, ◌+◌, ◌-◌, ◌<◌, ◌≤◌, Bool, true, false, cond, ◌||◌, eqb, eqb-true, eq-eqb, List, [], ◌∷◌, ◌++◌, length, map, take, drop, refl, sym, ap, ◌∙◌, subst, arith, length-drop, length-append, IsUtf8, take-add, take_at, drop-drop, length-take-le, append_assoc, eq-or-lt_of_le, inl, inr, IsCharBoundary, max}
 use Rattle.std.proofs.lemmas.List.{length-map}
 use Rattle.std.proofs.Math.Nat.{le-max_left, le-max_right, max-le}
 use Rattle.std.proofs.lemmas.Str.{IsUtf8-append, IsUtf8-drop, IsCharBoundary-at_seam, IsCharBoundary-from_drop}
+use Rattle.std.proofs.lemmas.Grind.{common_steps}
 use Rattle.rustc_lexer.specs.declared.relex.relexing.Relexed.{Relexed}
 use Rattle.rustc_lexer.specs.declared.relex.front.Bound.{Bound}
 use Rattle.rustc_lexer.specs.declared.relex.front.Meeting.{Meeting}
@@ -139,11 +140,7 @@ module _ {first : List ℕ → Token} (law : IsGrammar first) (before lengths in
     long = length-take-le (known at) new stands.inside
 
     to : IsLexedTo first text items at.at
-    to = record {
-      number = omega (arith, long, stands.inside);
-      items_are = ap (λ n. take n new) (sym long);
-      place_is = stands.place ∙ ap (bound new) (sym long);
-    }
+    to = grind (arith, common_steps, long)
 
     going : IsGoing first old text change.old_stop change.new_stop at.front.number items at.at at.back.number at.back.place at.met
     going = record {
@@ -173,11 +170,7 @@ module _ {first : List ℕ → Token} (law : IsGrammar first) (before lengths in
 
     -- at the end of the text they are met
     pub over_met : at.met ≡ false → eqb at.at (length text) ≡ at.met
-    over_met out = by_test (eqb at.at (length text)) refl
-      where
-        by_test : (e : Bool) → eqb at.at (length text) ≡ e → e ≡ at.met
-        by_test false same = sym out
-        by_test true same = absurd (let more = stands_inside out in let ends = eqb-true at.at (length text) same in omega arith)
+    over_met out = grind (arith, common_steps, stands_inside, eqb-true)
 
     -- each bound that was passed is before a later place too
     pub below_later : (later : ℕ) → at.at ≤ later → (k : ℕ) → k < at.back.number → bound old k + change.new_stop < max change.new_stop later + change.old_stop
@@ -269,26 +262,13 @@ step_place {first} law text at token is cut more token_is =
 
 -- where nothing was lexed, all tokens past the front are left
 pub all_lexed : (new : List Token) (at : Relexing) (items : List Token) → items ≡ [] → at.lexed ≡ 0 → drop at.front.number new ≡ items ++ drop (known at) new
-all_lexed new at items none zero_lexed =
-    let same : at.front.number ≡ known at = omega arith in
-    ap (λ n. drop n new) same ∙ ap (λ (ts : List Token). ts ++ drop (known at) new) (sym none)
+all_lexed new at items none zero_lexed = grind (arith, common_steps)
 
 -- where relexing is not over, more text is left
 pub not_over : (met : Bool) (at end : ℕ) → at ≤ end → (met || eqb at end) ≡ false → (met ≡ false) × (at < end)
-not_over true at end le e = absurd (true≢false e)
-not_over false at end le e = elim (eq-or-lt_of_le le) [
-  | inl same ↦ absurd (true≢false (sym (eq-eqb at end same) ∙ e))
-  | inr less ↦ (refl, less)
-]
+not_over w0 at end le e = grind (arith, common_steps, eq-or-lt_of_le, eq-eqb)
 
 -- what `edit` asks, of a list and a text that are known by equations
 pub made_for : {first : List ℕ → Token} (text : List ℕ) → IsText text → (start stop : ℕ) (insert : List ℕ) → IsUtf8 insert → IsEdit text start stop insert → (tokens : List Token) (made : List ℕ) → tokens ≡ tokens_by first text → made ≡ apply text start stop insert
     → IsMadeOf first text (map (λ (t : Token). t.len) tokens) (record { start = start; old_stop = stop; new_stop = start + length insert }) insert made
-made_for text is start stop insert its edit tokens made e f = record {
-  is_text = is;
-  lengths_are = ap (map (λ (t : Token). t.len)) e;
-  edit = edit;
-  inserted = its;
-  made = f;
-  new_stop = refl;
-}
+made_for text is start stop insert its edit tokens made e f = grind (arith, common_steps)

@@ -1,6 +1,7 @@
 -- What stands once the tokens of a changed text are put in place of the old ones.
-use Rattle.std.proofs.Common.{◌≡◌, ℕ, ◌+◌, ◌-◌, List, ◌++◌, length, map, take, drop, sym, ap, ◌∙◌, arith, length-append, length-drop, length-take-le}
+use Rattle.std.proofs.Common.{◌≡◌, ℕ, ◌+◌, ◌-◌, List, ◌++◌, length, map, take, sym, ap, ◌∙◌, arith, length-append, length-drop, length-take-le}
 use Rattle.std.specs.List.{All}
+use Rattle.std.proofs.lemmas.Grind.{common_steps}
 use Rattle.rustc_lexer.specs.declared.relex.landmarks.Landmarks.{Landmarks}
 use Rattle.rustc_lexer.specs.declared.relex.relexing.Relexing.{Relexing}
 use Rattle.rustc_lexer.specs.declared.token.Token.{Token}
@@ -28,10 +29,7 @@ module _ {first : List ℕ → Token} (law : IsGrammar first) {text insert made 
 
   -- the kept front, what was lexed and the kept back are as many
   pub renewed_all : at.front.number + at.lexed + (length tokens - at.back.number) ≡ length now
-  renewed_all =
-      let l = renewed.lexed_is in
-      let front : IsBound tokens at.front = rw e l.stands.front_bound in
-      omega (arith, ap length renewed.now_is, length-append (take at.front.number tokens) (renewed.lexed ++ drop at.back.number tokens), length-append renewed.lexed (drop at.back.number tokens), length-take-le at.front.number tokens front.0, length-drop at.back.number tokens, l.lexed)
+  renewed_all = grind (arith, common_steps, length-append, length-take-le, length-drop)
 
   -- the landmarks can be moved, and stay landmarks
   pub renewed_bounds : (landmarks : Landmarks) → AreBounds tokens landmarks → All (IsMovable at.back (end_of at)) landmarks.bounds × IsReplaced tokens now at.front at.back (end_of at)

@@ -5,6 +5,7 @@ use Rattle.std.proofs.lemmas.Bool.Decides.{Decides-eqb}
 use Rattle.std.proofs.lemmas.List.{get_or-drop}
 use Rattle.std.proofs.lemmas.Slice.Eq.{starts_is}
 use Rattle.std.specs.List.{starts_with}
+use Rattle.std.proofs.lemmas.Grind.{common_steps}
 use Rattle.memchr.specs.Find.{IsFirstByte, OccursAt, is_byte}
 use Rattle.rustc_lexer.specs.means.Frontmatter.{first}
 use Rattle.rustc_lexer.specs.means.Scan.{begins}
@@ -37,9 +38,7 @@ module _ (pattern rest cut : List ℕ) (rare from : ℕ) (within : rare < length
 
   -- the byte stands where it does
   reads : (k : ℕ) → from ≤ k + rare → OccursAt rest pattern k → get_or cut (k + rare - from) 0 ≡ get_or pattern rare 0
-  reads k le occurs =
-      ap (λ xs. get_or xs (k + rare - from) 0) e ∙ (get_or-drop from rest (k + rare - from) 0
-      ∙ (ap (λ i. get_or rest i 0) (let same : from + (k + rare - from) ≡ k + rare = omega arith in same) ∙ occurs.reads rare within))
+  reads k le occurs = grind (arith, common_steps, get_or-drop)
 
   long : length cut ≡ length rest - from
   long = ap length e ∙ length-drop from rest

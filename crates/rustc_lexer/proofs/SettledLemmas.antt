@@ -3,6 +3,7 @@ use Rattle.std.proofs.Common.{◌≡◌, ℕ, zero, suc, ◌+◌, ◌-◌, ◌<�
 use Rattle.std.proofs.lemmas.Bool.Decides.{leb_tells}
 use Rattle.std.proofs.lemmas.Str.{IsCharBoundary-from_drop, IsCharBoundary-end, IsUtf8-between}
 use Rattle.std.proofs.Math.Seq.{take-length}
+use Rattle.std.proofs.lemmas.Grind.{common_steps}
 use Rattle.rustc_lexer.specs.declared.token.Token.{Token}
 use Rattle.rustc_lexer.specs.Tokens.{bound, tokens_by}
 use Rattle.rustc_lexer.specs.Locality.{has_two, AreLocal, IsSettled, StaysUpTo, IsGrammar, AgreePast}
@@ -29,11 +30,7 @@ module _ {first : List ℕ → Token} (law : IsGrammar first) (text : List ℕ) 
   boundary k = let cut = at_bound law k text is in (cut.inside, IsCharBoundary-from_drop text _ cut.inside cut.past.utf8)
 
   pub sure_end : (place : ℕ) → IsSureTo first text place → length text ≤ place → IsSettled text (tokens_by first text) place
-  sure_end place at all = record {
-    at_bound = (length at.items, at.to.number, sym at.to.place_is);
-    two = at.two;
-    last = λ k few has. omega (arith, (boundary k).0);
-  }
+  sure_end place at all = grind (arith, common_steps, at_bound, boundary)
 
   pub sure_stop : (place next : ℕ) (token : Token) → IsSureTo first text place → place < length text → token ≡ first (drop place text) → next ≡ place + token.len → has_two text next (length text) ≡ false → IsSettled text (tokens_by first text) place
   sure_stop place next token at more token_is next_is out =

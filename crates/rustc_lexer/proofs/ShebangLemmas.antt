@@ -4,6 +4,7 @@ use Rattle.std.proofs.Math.Bool.{and-true}
 use Rattle.std.proofs.Math.Seq.{drop-cons}
 use Rattle.std.proofs.lemmas.Bool.{cases_lt, eqb-true, eq-eqb, ne_eqb}
 use Rattle.std.proofs.lemmas.List.Sums.{prefix_len-le-length, prefix_len_passes, prefix_len_stops}
+use Rattle.std.proofs.lemmas.Grind.{common_steps}
 use Rattle.rustc_lexer.specs.declared.edition.Edition.TheVariants.{E2024}
 use Rattle.rustc_lexer.specs.means.Comment.{is_no_newline}
 use Rattle.rustc_lexer.specs.means.Scan.{begins}
@@ -14,18 +15,12 @@ use Rattle.rustc_lexer.specs.laws.LanguageShebang.{front-is, short}
 
 pub no_shebang : (s : List ℕ) → ((rest : List ℕ) → s ≢ 35 ∷ 33 ∷ rest) → None ≡ shebang s
 unfolding shebang
-no_shebang s lacks = by_front (begins (codes "#!") s) refl
-  where
-    by_front : (b : Bool) → begins (codes "#!") s ≡ b → None ≡ (if begins (codes "#!") s then shebang_past (drop 2 s) else None)
-    by_front true e = absurd (lacks (drop 2 s) (front-is s e))
-    by_front false e = ap (λ (b : Bool). if b then shebang_past (drop 2 s) else None) (sym e)
+no_shebang s lacks = grind (arith, common_steps, front-is)
 
 module _ (s tail : List ℕ) (n : ℕ) (two : n ≡ 2) (front : s ≡ 35 ∷ 33 ∷ drop n s) (cut : tail ≡ drop n s) where
   past_front : shebang s ≡ shebang_past tail
   unfolding shebang
-  past_front =
-      ap (λ (b : Bool). if b then shebang_past (drop 2 s) else None) (ap (begins (codes "#!")) front)
-      ∙ ap shebang_past (sym (cut ∙ ap (λ (k : ℕ). drop k s) two))
+  past_front = grind (arith, common_steps)
 
   pub attribute_here : is_attribute (tokens_of (part E2024) tail) ≡ true → None ≡ shebang s
   attribute_here e = sym (past_front ∙ ap (λ (b : Bool). let r : Option ℕ = if b then None else Some (2 + line_len tail) in r) e)
@@ -42,11 +37,7 @@ module _ (text : List ℕ) where
   newline-stops k e = rw e refl
 
   stop-newline : (k : ℕ) → is_no_newline (get_or text k 0) ≡ false → get_or text k 0 ≡ 10
-  stop-newline k e = by_test (get_or text k 0 == 10) refl
-    where
-      by_test : (b : Bool) → (get_or text k 0 == 10) ≡ b → get_or text k 0 ≡ 10
-      by_test true f = eqb-true (get_or text k 0) 10 f
-      by_test false f = absurd (true≢false (sym (rw f refl) ∙ e))
+  stop-newline k e = grind (arith, common_steps, eqb-true)
 
   -- no newline
   pub no_newline : ((i : ℕ) → i < length text → get_or text i 0 ≢ 10) → length text ≡ line_len text
@@ -79,16 +70,7 @@ module _ (text : List ℕ) where
 
     -- what stands before it
     two : (j : ℕ) → k ≡ suc j → begins (codes "\r\n") (drop (k - 1) text) ≡ (get_or text (k - 1) 0 == 13)
-    two j e =
-        let before : k - 1 ≡ j = omega arith in
-        let at_j : drop j text ≡ get_or text j 0 ∷ drop (suc j) text = drop-cons text j 0 (omega arith) in
-        let at_k : drop (suc j) text ≡ get_or text (suc j) 0 ∷ drop (suc (suc j)) text = drop-cons text (suc j) 0 (omega arith) in
-        let ten : get_or text (suc j) 0 ≡ 10 = ap (λ (i : ℕ). get_or text i 0) (sym e) ∙ newline in
-        let reads : drop j text ≡ get_or text j 0 ∷ 10 ∷ drop (suc (suc j)) text =
-        at_j ∙ ap (λ (xs : List ℕ). get_or text j 0 ∷ xs) (at_k ∙ ap (λ (x : ℕ). x ∷ drop (suc (suc j)) text) ten) in
-        ap (λ (i : ℕ). begins (codes "\r\n") (drop i text)) before
-        ∙ (ap (begins (codes "\r\n")) reads
-        ∙ (and-true (get_or text j 0 == 13) ∙ ap (λ (i : ℕ). get_or text i 0 == 13) (sym before)))
+    two j e = grind (arith, common_steps, drop-cons, and-true)
 
     front : k ≡ 0 → begins (codes "\r\n") (drop (k - 1) text) ≡ false
     front e =

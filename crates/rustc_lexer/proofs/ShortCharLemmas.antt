@@ -5,11 +5,13 @@ use Rattle.std.specs.Str.{chars, IsUtf8, IsCharBoundary}
 use Rattle.std.proofs.lemmas.Bool.{eqb-true, lt-leb}
 use Rattle.std.proofs.lemmas.Str.{encode_ascii, IsCharBoundary-from_drop}
 use Rattle.std.proofs.Math.Bool.{or-true}
+use Rattle.std.proofs.lemmas.Grind.{common_steps}
 use Rattle.unicode_ident.proofs.IdentLemmas.{is_xid_start-ascii}
 use Rattle.rustc_lexer.specs.Tables.{is_emoji}
 use Rattle.rustc_lexer.specs.means.Lifetime.{is_name_start, is_character_at}
 use Rattle.rustc_lexer.specs.means.Quoted.{at_single_stop, is_lone, single_quoted_string}
 use Rattle.rustc_lexer.specs.means.Scan.{begins, past, scanned}
+use Rattle.rustc_lexer.specs.laws.Choice.{by_either}
 use Rattle.rustc_lexer.proofs.BridgeLemmas.{chars-ascii, IsUtf8-ascii}
 use Rattle.rustc_lexer.specs.laws.Past.{past-one, past-two}
 use Rattle.rustc_lexer.proofs.QuotedLoop.{Seeking, seek-start, seek-on, seek-closed, single-lone, single-free}
@@ -19,10 +21,7 @@ past-ascii b bs is small = sym (past-one (b ∷ bs) bs b is (ap (λ (xs : List �
 
 backslash-no_name : is_name_start 92 ≡ false
 unfolding is_emoji
-backslash-no_name =
-    let no_letter = is_xid_start-ascii 92 (omega arith) in
-    let no_emoji : is_emoji 92 ≡ false = rw (lt-leb 128 92 (omega arith)) refl in
-    rw (no_letter, no_emoji) refl
+backslash-no_name = grind (arith, common_steps, is_xid_start-ascii, lt-leb)
 
 -- what is left past the quote
 pub record ShortChar (text left : List ℕ) : Type 0 where
@@ -73,23 +72,21 @@ module _ (text bytes : List ℕ) (place : ℕ) (is : IsUtf8 text) (same : bytes 
       by_text [] u l p m q = absurd (omega arith)
       by_text (b ∷ []) u l p m q = absurd (omega arith)
       by_text (b ∷ c ∷ []) u l p m q = absurd (omega arith)
-      by_text (b ∷ c ∷ d ∷ ds) u l p m q = by_mark (b == 92) refl
-        where
-          by_mark : (t : Bool) → (b == 92) ≡ t → ShortChar (b ∷ c ∷ d ∷ ds) (drop (place + 1) (b ∷ c ∷ d ∷ ds))
-          by_mark false e =
-              let at : place ≡ 1 = p ∙ ap (λ (t : Bool). 1 + from_bool t) e in
-              let first : b < 128 = subst (λ n. slice_index (b ∷ c ∷ d ∷ ds) (n - 1) < 128) at m in
-              let closes : c ≡ 39 = subst (λ n. slice_index (b ∷ c ∷ d ∷ ds) n ≡ 39) at q in
-              subst (λ n. ShortChar (b ∷ c ∷ d ∷ ds) (drop (n + 1) (b ∷ c ∷ d ∷ ds))) (sym at)
-              (subst (λ x. ShortChar (b ∷ x ∷ d ∷ ds) (d ∷ ds)) (sym closes) (lone b (d ∷ ds) (subst (λ x. IsUtf8 (b ∷ x ∷ d ∷ ds)) closes u) first e))
-          by_mark true e =
-              let at : place ≡ 2 = p ∙ ap (λ (t : Bool). 1 + from_bool t) e in
-              let mark : b ≡ 92 = eqb-true b 92 e in
-              let first : c < 128 = subst (λ n. slice_index (b ∷ c ∷ d ∷ ds) (n - 1) < 128) at m in
-              let closes : d ≡ 39 = subst (λ n. slice_index (b ∷ c ∷ d ∷ ds) n ≡ 39) at q in
-              subst (λ n. ShortChar (b ∷ c ∷ d ∷ ds) (drop (n + 1) (b ∷ c ∷ d ∷ ds))) (sym at)
-              (subst (λ x. ShortChar (x ∷ c ∷ d ∷ ds) ds) (sym mark)
-              (subst (λ x. ShortChar (92 ∷ c ∷ x ∷ ds) ds) (sym closes) (escaped c ds (subst (λ x. IsUtf8 (92 ∷ c ∷ x ∷ ds)) closes (subst (λ x. IsUtf8 (x ∷ c ∷ d ∷ ds)) mark u)) first)))
+      by_text (b ∷ c ∷ d ∷ ds) u l p m q = by_either (b == 92)
+          (λ e.
+          let at : place ≡ 2 = p ∙ ap (λ (t : Bool). 1 + from_bool t) e in
+          let mark : b ≡ 92 = eqb-true b 92 e in
+          let first : c < 128 = subst (λ n. slice_index (b ∷ c ∷ d ∷ ds) (n - 1) < 128) at m in
+          let closes : d ≡ 39 = subst (λ n. slice_index (b ∷ c ∷ d ∷ ds) n ≡ 39) at q in
+          subst (λ n. ShortChar (b ∷ c ∷ d ∷ ds) (drop (n + 1) (b ∷ c ∷ d ∷ ds))) (sym at)
+          (subst (λ x. ShortChar (x ∷ c ∷ d ∷ ds) ds) (sym mark)
+          (subst (λ x. ShortChar (92 ∷ c ∷ x ∷ ds) ds) (sym closes) (escaped c ds (subst (λ x. IsUtf8 (92 ∷ c ∷ x ∷ ds)) closes (subst (λ x. IsUtf8 (x ∷ c ∷ d ∷ ds)) mark u)) first))))
+          (λ e.
+          let at : place ≡ 1 = p ∙ ap (λ (t : Bool). 1 + from_bool t) e in
+          let first : b < 128 = subst (λ n. slice_index (b ∷ c ∷ d ∷ ds) (n - 1) < 128) at m in
+          let closes : c ≡ 39 = subst (λ n. slice_index (b ∷ c ∷ d ∷ ds) n ≡ 39) at q in
+          subst (λ n. ShortChar (b ∷ c ∷ d ∷ ds) (drop (n + 1) (b ∷ c ∷ d ∷ ds))) (sym at)
+          (subst (λ x. ShortChar (b ∷ x ∷ d ∷ ds) (d ∷ ds)) (sym closes) (lone b (d ∷ ds) (subst (λ x. IsUtf8 (b ∷ x ∷ d ∷ ds)) closes u) first e)))
 
   pub short_cut : place + 1 ≤ length text → IsCharBoundary text (place + 1)
   short_cut le = IsCharBoundary-from_drop text (place + 1) le short_char.utf8

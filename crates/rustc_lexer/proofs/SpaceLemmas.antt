@@ -7,6 +7,7 @@ use Rattle.std.proofs.lemmas.List.{get_or_append_left}
 use Rattle.std.proofs.lemmas.Str.{encodes-chars, length-encode, len_utf8_bounds}
 use Rattle.rustc_lexer.specs.means.ByteRuns.{is_space_byte}
 use Rattle.rustc_lexer.specs.Classes.{is_whitespace}
+use Rattle.rustc_lexer.specs.laws.Choice.{by_either}
 use Rattle.rustc_lexer.specs.laws.LanguageRuns.{among}
 use Rattle.rustc_lexer.specs.means.Quick.{is_space_lead}
 use Rattle.rustc_lexer.specs.means.Scan.{next_is, past, run_len}
@@ -31,16 +32,14 @@ module _ (text left : List ℕ) (at : Skips is_space_byte is_whitespace text lef
 
       by_chars : (cs : List ℕ) → chars left ≡ cs → left ≡ past (run_len is_whitespace (chars text)) text
       by_chars [] e = ends_none is_space_byte is_whitespace text left at e
-      by_chars (c ∷ cs) e = by_class (is_whitespace c) refl
+      by_chars (c ∷ cs) e = by_either (is_whitespace c)
+          (λ f. absurd (true≢false (sym (ap leads front ∙ lead_of c f) ∙ none_leads left at.stops out)))
+          (λ f. ends_out is_space_byte is_whitespace text left at c cs e f)
         where
           front : get_or left 0 0 ≡ get_or (encode_utf8 c) 0 0
           front =
               ap (λ xs. get_or xs 0 0) (sym (encodes-chars left at.utf8) ∙ ap encode_utf8_all e)
               ∙ get_or_append_left (encode_utf8 c) (encode_utf8_all cs) 0 0 (omega (arith, length-encode c, len_utf8_bounds c))
-
-          by_class : (t : Bool) → is_whitespace c ≡ t → left ≡ past (run_len is_whitespace (chars text)) text
-          by_class true f = absurd (true≢false (sym (ap leads front ∙ lead_of c f) ∙ none_leads left at.stops out))
-          by_class false f = ends_out is_space_byte is_whitespace text left at c cs e f
 
 pub space_stops_here : (text bytes : List ℕ) (end : ℕ) → IsUtf8 text → bytes ≡ text → end ≡ prefix_len is_space_byte bytes → (left : List ℕ) → left ≡ drop end text → next_is is_space_lead left ≡ false
     → left ≡ past (run_len is_whitespace (chars text)) text

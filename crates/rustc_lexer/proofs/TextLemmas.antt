@@ -1,31 +1,31 @@
 -- What the kind of a token says of its own text.
-use Rattle.std.proofs.Common.{◌≡◌, ◌↔◌, ℕ, suc, ◌+◌, ◌-◌, ◌≤◌, ◌<◌, ◌==◌, ◌&&◌, not, Bool, true, false, true≢false, eqb-true, length-append, if◌then◌else◌, List, [], ◌∷◌, ◌++◌, length, take, drop, codes, refl, sym, ap, subst, ◌∙◌, arith, take_at, All, Ok, Option, Some, None, IsSome, length-take}
+use Rattle.std.proofs.Common.{◌≡◌, ◌↔◌, ℕ, suc, ◌+◌, ◌-◌, ◌≤◌, ◌<◌, ◌==◌, Bool, true, false, true≢false, eqb-true, length-append, if◌then◌else◌, List, [], ◌∷◌, ◌++◌, length, take, drop, codes, refl, sym, ap, subst, ◌∙◌, arith, take_at, All, Ok, Option, Some, None, IsSome, length-take}
 use Rattle.std.specs.Char.{encode_utf8, len_utf8, is_ascii_digit}
-use Rattle.std.specs.List.{list_all}
 use Rattle.std.specs.Str.{chars, encode_utf8_all}
 use Rattle.std.proofs.lemmas.Bool.{and_parts}
 use Rattle.std.proofs.lemmas.List.Elements.{All-nil, All-cons}
 use Rattle.std.proofs.lemmas.Str.{chars-encodes, scalars-chars, length-encode}
+use Rattle.std.proofs.lemmas.Grind.{common_steps}
 use Rattle.rustc_lexer.specs.declared.lexemes.raw.RawPrefix.{RawPrefix}
 use Rattle.rustc_lexer.specs.declared.lexemes.raw.RawPrefix.TheVariants.{R, Br, Cr}
 use Rattle.rustc_lexer.specs.declared.token.Base.{Base}
 use Rattle.rustc_lexer.specs.declared.token.LiteralKind.{LiteralKind}
-use Rattle.rustc_lexer.specs.declared.token.LiteralKind.TheVariants.{Int, Float, RawStr, RawByteStr, RawCStr}
+use Rattle.rustc_lexer.specs.declared.token.LiteralKind.TheVariants.{Int, Float}
 use Rattle.rustc_lexer.specs.declared.token.Token.{Token}
 use Rattle.rustc_lexer.specs.declared.token.TokenKind.{TokenKind}
-use Rattle.rustc_lexer.specs.declared.token.TokenKind.TheVariants.{Ident, RawIdent, InvalidIdent, UnknownPrefix, ForcedKeywordIdent, Literal, Lifetime, UnknownPrefixLifetime, Slash, Whitespace, GuardedStrPrefix, Pound, Eof}
+use Rattle.rustc_lexer.specs.declared.token.TokenKind.TheVariants.{RawIdent, InvalidIdent, ForcedKeywordIdent, Literal, Slash, Whitespace, GuardedStrPrefix, Pound, Eof}
 use Rattle.rustc_lexer.specs.means.BlockComment.{block_comment, block_comment_to, comment_end}
 use Rattle.rustc_lexer.specs.Classes.{is_id_continue, IsText}
 use Rattle.rustc_lexer.specs.means.Comment.{slash, line_comment}
-use Rattle.rustc_lexer.specs.means.Ident.{is_word, is_prefix_mark, ident_or_unknown_prefix, invalid_ident, marks_ident}
+use Rattle.rustc_lexer.specs.means.Ident.{ident_or_unknown_prefix, invalid_ident, marks_ident}
 use Rattle.rustc_lexer.specs.LanguageText.{Mode}
 use Rattle.rustc_lexer.specs.laws.Choice.{by_test, at_char, by_symbol}
 use Rattle.rustc_lexer.specs.laws.Family.{by_letter, EachFamily, each_family}
 use Rattle.rustc_lexer.specs.means.Lexeme.{whitespace, letter_r, letter_k, letter_b, letter_c, raw_or_ident, raw_past_or_ident, begins_raw, is_raw_mark, word, symbols, symbol_kind, symbol, past_first, lexeme, first_token}
-use Rattle.rustc_lexer.specs.means.Lifetime.{is_marked, plain_lifetime, is_character, lifetime_or_char, is_raw}
-use Rattle.rustc_lexer.specs.laws.Lifetime.{raw, quoted_name, unquoted_name}
+use Rattle.rustc_lexer.specs.means.Lifetime.{plain_lifetime, is_character, lifetime_or_char, is_raw}
+use Rattle.rustc_lexer.specs.laws.Lifetime.{raw}
 use Rattle.rustc_lexer.specs.means.Literal.{Body, literal}
-use Rattle.rustc_lexer.specs.means.Number.{Front, is_sign, is_exponent_letter, begins_fraction, or_underscore, past_sign, float_exponent, optional_exponent, fraction_digits, fraction, past_digits, front, number_kind, number_body, number}
+use Rattle.rustc_lexer.specs.means.Number.{is_sign, is_exponent_letter, begins_fraction, or_underscore, past_sign, float_exponent, optional_exponent, fraction_digits, fraction, past_digits, front, number_kind, number_body, number}
 use Rattle.rustc_lexer.specs.means.Quoted.{str_body, byte_str_body, c_str_body, char_body, byte_body}
 use Rattle.rustc_lexer.specs.means.Raw.{accepted, is_r, prefix_kind, prefix_len, raw_body, raw_check, raw_literal, raw_read}
 use Rattle.rustc_lexer.specs.laws.Raw.{raw_check_own}
@@ -59,9 +59,7 @@ TellsAll c scan = (s : List ℕ) → Tells c s (scan s)
 -- ---- kinds that say nothing of their text
 
 silent : (c : ℕ) (s : List ℕ) (kind : TokenKind) (n : ℕ) → is_silent kind ≡ true → Tells c s (kind, n)
-silent c s (Literal kind suffix_start) n e = absurd (true≢false (sym e))
-silent c s Eof n e = absurd (true≢false (sym e))
-silent c s kind n e = record { within = omega arith; text = λ text e. tt }
+silent c s kind n e = grind (arith, common_steps)
 
 slash-tells : (c : ℕ) → TellsAll c slash
 slash-tells c s = by_test (Tells c s) (begins (codes "/") s) (after 1 line_comment s) _ (λ e. silent c s _ _ refl)
@@ -80,15 +78,7 @@ symbol-tells c s = silent c s (symbol_kind c) 0 (by_symbol is_silent symbols c r
 -- ---- identifiers
 
 ident_or_unknown_prefix-tells : (c : ℕ) → TellsAll c ident_or_unknown_prefix
-ident_or_unknown_prefix-tells c s = by_kind (next_is is_prefix_mark (drop n s)) (list_all is_id_continue (take n s))
-  where
-    n : ℕ
-    n = run_len is_word s
-
-    by_kind : (marked plain : Bool) → Tells c s (if plain then (if marked then UnknownPrefix else Ident) else InvalidIdent, n)
-    by_kind true true = silent c s UnknownPrefix n refl
-    by_kind false true = silent c s Ident n refl
-    by_kind marked false = silent c s InvalidIdent n refl
+ident_or_unknown_prefix-tells c s = grind (arith, common_steps, silent)
 
 -- ---- literals
 
@@ -97,10 +87,7 @@ abbrev HasRawText : LiteralKind → List ℕ → Type 0
 HasRawText kind text = HasText (Literal kind 0) text
 
 raw-text : (kind : LiteralKind) (suffix_start : ℕ) (text : List ℕ) → HasRawText kind text → HasText (Literal kind suffix_start) text
-raw-text (RawStr n_hashes) suffix_start text has = has
-raw-text (RawByteStr n_hashes) suffix_start text has = has
-raw-text (RawCStr n_hashes) suffix_start text has = has
-raw-text kind suffix_start text has = tt
+raw-text kind suffix_start text has = grind (arith, common_steps)
 
 literal-tells : (c : ℕ) (s : List ℕ) (body : List ℕ → Body × ℕ) → ((text : List ℕ) → HasRawText (body s).0.kind text) → Tells c s (literal body s)
 literal-tells c s body other = record { within = suffix_within 1 (body s) s; text = λ text e. raw-text _ _ text (other text) }
@@ -130,10 +117,7 @@ past_digits-number base s = of_number (begins_fraction s) (after 1 (fraction bas
 
 number_kind-number : (c : ℕ) (s : List ℕ) → IsNumber (number_kind c s).0
 unfolding number_kind
-number_kind-number c s =
-    let f : Front = (front c s).0 in
-    let left : List ℕ = drop (front c s).1 s in
-    of_number f.empty (gives (Int f.base true) left) (past_digits f.base left) tt (past_digits-number f.base left)
+number_kind-number c s = grind (arith, common_steps, of_number, past_digits-number)
 
 number-tells : (c : ℕ) → TellsAll c (number c)
 number-tells c s = literal-tells c s (number_body c) (other (number_kind c s).0 (number_kind-number c s))
@@ -151,23 +135,7 @@ next-quote (d ∷ s) t = let one : len_utf8 d ≡ 1 = ap len_utf8 (eqb-true d 39
 
 -- a name that a quote follows is a character, whose suffix begins at its end; no other name has one
 plain_lifetime-tells : (c : ℕ) (s : List ℕ) → Tells 39 (c ∷ s) ((plain_lifetime c s).0, suc (plain_lifetime c s).1)
-plain_lifetime-tells c s = by_test (λ r. Tells 39 (c ∷ s) (r.0, suc (n + r.1))) (begins (codes "'") left) (quoted_name c name left) (unquoted_name c name left) quoted
-    (λ e. by_test (λ kind. Tells 39 (c ∷ s) (kind, suc (n + 0))) (begins (codes "#") left && not (is_ascii_digit c)) UnknownPrefixLifetime (Lifetime (is_marked c name)) (λ e. silent 39 (c ∷ s) _ _ refl) (λ e. silent 39 (c ∷ s) _ _ refl))
-  where
-    n : ℕ
-    n = run_len is_word s
-
-    name : List ℕ
-    name = take n s
-
-    left : List ℕ
-    left = drop n s
-
-    quoted : begins (codes "'") left ≡ true → Tells 39 (c ∷ s) ((quoted_name c name left).0, suc (n + 1))
-    quoted t = record {
-      within = omega (arith, length-append (encode_utf8 c) (encode_utf8_all name), length-append (encode_utf8 c) (encode_utf8_all (take (n + 1) s)), bytes-add n 1 s, next-quote left t);
-      text = λ text e. tt;
-    }
+plain_lifetime-tells c s = grind (arith, common_steps, silent, length-append, bytes-add, next-quote)
 
 quote-tells : TellsAll 39 lifetime_or_char
 quote-tells [] = literal-tells 39 [] char_body (λ text. tt)
@@ -261,11 +229,7 @@ first-tells c = each_family TellsAll families-tell c
 
 pub first_token-suffix : (text : List ℕ) → HasSuffixWithin (first_token text)
 unfolding first_token
-first_token-suffix text = by_chars (chars text)
-  where
-    by_chars : (cs : List ℕ) → suffix_start_of (lexeme cs).0 ≤ bytes_of (lexeme cs).1 cs
-    by_chars [] = omega arith
-    by_chars (c ∷ s) = suffix-first (past_first c s).0 (past_first c s).1 c s (first-tells c s).within
+first_token-suffix text = grind (arith, common_steps, suffix-first, first-tells)
 
 first_token-text : (text : List ℕ) → IsText text → HasText (first_token text).kind (take (first_token text).len text)
 unfolding first_token
@@ -285,9 +249,7 @@ abbrev HasOwnText : List ℕ → Token → Type 0
 HasOwnText text t = HasText t.kind (take t.len text)
 
 silent-text : (text : List ℕ) (kind : TokenKind) (len : ℕ) → is_silent kind ≡ true → HasOwnText text (record { kind = kind; len = len })
-silent-text text (Literal kind suffix_start) len e = absurd (true≢false (sym e))
-silent-text text Eof len e = absurd (true≢false (sym e))
-silent-text text kind len e = tt
+silent-text text kind len e = grind (arith, common_steps)
 
 silent-suffix : (kind : TokenKind) (len : ℕ) → is_silent kind ≡ true → HasSuffixWithin (record { kind = kind; len = len })
 silent-suffix (Literal kind suffix_start) len e = absurd (true≢false (sym e))

@@ -1,5 +1,6 @@
 -- Where a block comment ends depends on the comment alone.
-use Rattle.std.proofs.Common.{◌≡◌, ℕ, suc, ◌+◌, ◌≤◌, true, false, List, [], ◌∷◌, length, take, drop, refl, sym, ap, ◌∙◌, arith, subst, length-drop, Option, Some, None}
+use Rattle.std.proofs.Common.{◌≡◌, ℕ, suc, ◌+◌, ◌≤◌, true, false, List, ◌∷◌, length, take, drop, refl, sym, ap, ◌∙◌, arith, subst, length-drop, Option, Some, None}
+use Rattle.std.proofs.lemmas.Grind.{common_steps}
 use Rattle.rustc_lexer.specs.declared.token.DocStyle.{DocStyle}
 use Rattle.rustc_lexer.specs.declared.token.TokenKind.{TokenKind}
 use Rattle.rustc_lexer.specs.declared.token.TokenKind.TheVariants.{BlockComment}
@@ -21,14 +22,10 @@ closes-inside (nested {s} {a} {b} p q) = omega (arith, closes-inside p, closes-i
 closes-inside (past_one e f p) = omega (arith, closes-inside p)
 
 pub at_closing_told : IsToldBy 2 at_closing
-at_closing_told [] = refl
-at_closing_told (c ∷ []) = refl
-at_closing_told (c ∷ d ∷ s) = refl
+at_closing_told w0 = grind (arith, common_steps)
 
 pub at_opening_told : IsToldBy 2 at_opening
-at_opening_told [] = refl
-at_opening_told (c ∷ []) = refl
-at_opening_told (c ∷ d ∷ s) = refl
+at_opening_told w0 = grind (arith, common_steps)
 
 -- a text that begins like one with this mark
 record HasMark (a b n : ℕ) (u s : List ℕ) : Type 0 where
@@ -37,10 +34,7 @@ record HasMark (a b n : ℕ) (u s : List ℕ) : Type 0 where
   alike : take n rest ≡ take n s
 
 cut_mark : (n a b : ℕ) (u s : List ℕ) → take (suc (suc n)) u ≡ take (suc (suc n)) (a ∷ b ∷ s) → HasMark a b n u s
-cut_mark n a b u s e = second (cut_first (suc n) a u (b ∷ s) e)
-  where
-    second : HasFirst a (suc n) u (b ∷ s) → HasMark a b n u s
-    second f = let g = cut_first n b f.rest s f.alike in record { rest = g.rest; whole = f.whole ∙ ap (λ xs. a ∷ xs) g.whole; alike = g.alike }
+cut_mark n a b u s e = grind (arith, common_steps, cut_first)
 
 -- what closes a comment closes it in each text that begins alike
 closes-same : {s : List ℕ} {n : ℕ} → Closes s n → (u : List ℕ) → take n u ≡ take n s → Closes u n
@@ -75,9 +69,7 @@ comment_end_found s n e =
 
 -- the style is told by two characters
 pub style_told : IsToldBy 2 block_doc_style
-style_told [] = refl
-style_told (c ∷ []) = refl
-style_told (c ∷ d ∷ s) = refl
+style_told w0 = grind (arith, common_steps)
 
 closed_at : (s : List ℕ) (n : ℕ) → comment_end s ≡ Some n → IsLocalAt TokenKind 0 block_comment s
 closed_at s n e =

@@ -1,5 +1,5 @@
 -- What is true of each arm of a choice is true of the choice.
-use Rattle.std.proofs.Common.{◌≡◌, ℕ, ◌==◌, Bool, true, false, if◌then◌else◌, List, [], ◌∷◌, refl, sym, subst}
+use Rattle.std.proofs.Common.{◌≡◌, ℕ, ◌==◌, Bool, true, false, if◌then◌else◌, List, [], ◌∷◌, refl, sym, subst, Option, Some, None}
 use Rattle.std.proofs.lemmas.Bool.{eqb-true, and_parts}
 use Rattle.std.specs.List.{list_all}
 use Rattle.rustc_lexer.specs.declared.token.TokenKind.{TokenKind}
@@ -10,6 +10,16 @@ use Rattle.rustc_lexer.specs.Tables.{kind_among}
 pub by_test : {A : Type 0} (P : A → Type 0) (b : Bool) (x y : A) → (b ≡ true → P x) → (b ≡ false → P y) → P (if b then x else y)
 by_test P true x y t f = t refl
 by_test P false x y t f = f refl
+
+-- a proof by whether a test passes
+pub by_either : {A : Type 0} (b : Bool) → (b ≡ true → A) → (b ≡ false → A) → A
+by_either true t f = t refl
+by_either false t f = f refl
+
+-- and by whether a search finds something
+pub by_found : {A B : Type 0} (o : Option A) → ((x : A) → o ≡ Some x → B) → (o ≡ None → B) → B
+by_found (Some x) found lost = found x refl
+by_found None found lost = lost refl
 
 -- what is true at one character, of each that is it
 pub at_char : (P : ℕ → (List ℕ → TokenKind × ℕ) → Type 0) (d : ℕ) (scan : List ℕ → TokenKind × ℕ) → P d scan → (c : ℕ) → (c == d) ≡ true → P c scan

@@ -2,43 +2,38 @@
 use Rattle.std.proofs.Common.{◌≡◌, ℕ, suc, ◌+◌, ◌≤◌, ◌==◌, nat_le, ◌&&◌, not, Bool, true, false, true≢false, if◌then◌else◌, List, [], ◌∷◌, take, drop, codes, refl, sym, ap, ◌∙◌, arith, Option, Some, None}
 use lib.Utf8.{encode}
 use Rattle.std.proofs.lemmas.Bool.{and_parts, eqb-true}
-use Rattle.std.specs.Char.{is_ascii_digit}
-use Rattle.std.specs.List.{list_all}
 use Rattle.std.specs.Str.{byte, chars}
+use Rattle.std.proofs.lemmas.Grind.{common_steps}
 use Rattle.rustc_lexer.specs.declared.edition.Edition.{Edition}
-use Rattle.rustc_lexer.specs.declared.edition.Edition.TheVariants.{E2015, E2018, E2021, E2024}
+use Rattle.rustc_lexer.specs.declared.edition.Edition.TheVariants.{E2018, E2021}
 use Rattle.rustc_lexer.specs.declared.lexemes.raw.RawPrefix.{RawPrefix}
-use Rattle.rustc_lexer.specs.declared.lexemes.raw.RawPrefix.TheVariants.{Br, Cr}
 use Rattle.rustc_lexer.specs.declared.token.Token.{Token}
 use Rattle.rustc_lexer.specs.declared.token.TokenKind.{TokenKind}
-use Rattle.rustc_lexer.specs.declared.token.TokenKind.TheVariants.{Ident, UnknownPrefix, UnknownPrefixLifetime, RawLifetime, Lifetime, GuardedStrPrefix, Pound, Eof, Slash, InvalidIdent}
+use Rattle.rustc_lexer.specs.declared.token.TokenKind.TheVariants.{Ident, UnknownPrefix, UnknownPrefixLifetime, RawLifetime, Lifetime, GuardedStrPrefix, Pound, Eof, Slash}
 use Rattle.rustc_lexer.specs.means.BlockComment.{block_comment, block_comment_to, comment_end}
-use Rattle.rustc_lexer.specs.Classes.{is_id_continue}
 use Rattle.rustc_lexer.specs.means.Comment.{line_comment, slash}
 use Rattle.rustc_lexer.specs.LanguageText.{year}
 use Rattle.rustc_lexer.specs.means.Edition.{token, before_2024, before_2021, first_token_in}
 use Rattle.rustc_lexer.specs.means.Hash.{is_guarded_mark, hash}
-use Rattle.rustc_lexer.specs.means.Ident.{is_word, is_prefix_mark, ident_or_unknown_prefix, marks_ident}
+use Rattle.rustc_lexer.specs.means.Ident.{is_word, ident_or_unknown_prefix, marks_ident}
 use Rattle.rustc_lexer.specs.means.Lexeme.{raw_or_ident, is_raw_mark, begins_raw, raw_past_or_ident, letter_b, word, symbols, past_first, lexeme, first_token}
-use Rattle.rustc_lexer.specs.means.Lifetime.{is_marked, plain_lifetime, lifetime, is_character, is_character_at, is_raw, lifetime_or_char}
+use Rattle.rustc_lexer.specs.means.Lifetime.{is_marked, plain_lifetime, is_character, is_character_at, is_raw, lifetime_or_char}
 use Rattle.rustc_lexer.specs.means.Literal.{literal}
-use Rattle.rustc_lexer.specs.means.Quoted.{byte_str_body, char_body}
+use Rattle.rustc_lexer.specs.means.Quoted.{char_body}
 use Rattle.rustc_lexer.specs.means.Scan.{IsLocal, after, and_then, begins, bytes_of, gives, next_is, read_as, run_len, token_by}
-use Rattle.rustc_lexer.specs.Locality.{IsGrammar, AgreePast}
-use Rattle.rustc_lexer.specs.laws.Choice.{by_test, at_char, by_symbol}
+use Rattle.rustc_lexer.specs.Locality.{IsGrammar}
+use Rattle.rustc_lexer.specs.laws.Choice.{by_either, by_test, at_char, by_symbol}
 use Rattle.rustc_lexer.specs.laws.Family.{by_letter, EachFamily, each_family}
-use Rattle.rustc_lexer.specs.laws.Lifetime.{unquoted_name, quoted_name, name_of, name_local, quoted_name_at, is_raw_told, raw, is_character_told}
+use Rattle.rustc_lexer.specs.laws.Lifetime.{quoted_name, name_of, name_local, quoted_name_at, is_raw_told, raw, is_character_told}
 use Rattle.rustc_lexer.specs.laws.Lookahead.{first_token_grammar, families_local, LooksAtTwo}
 use Rattle.rustc_lexer.specs.laws.Quoted.{char_local}
 use Rattle.rustc_lexer.specs.laws.Reach.{begins-told, either_at, first_local, gives_local, read_as_at, wider, and_then_local}
 use Rattle.rustc_lexer.specs.laws.TokenBy.{token_by_local}
+use Rattle.rustc_lexer.specs.declared.lexemes.raw.RawPrefix.TheVariants.{Cr}
 
 -- no edition is older
 pub oldest : (edition : Edition) → 2015 ≤ year edition
-oldest E2015 = omega arith
-oldest E2018 = omega arith
-oldest E2021 = omega arith
-oldest E2024 = omega arith
+oldest w0 = grind (arith, common_steps)
 
 -- ---- kinds that an edition keeps, or changes by no more than the kind
 
@@ -60,12 +55,7 @@ slash-plain s = by_test (λ r. is_plain r.0 ≡ true) (begins (codes "/") s) (af
     block (Some n) = refl
 
 ident-plain : ArePlain ident_or_unknown_prefix
-ident-plain s = by_kind (list_all is_id_continue (take (run_len is_word s) s)) (next_is is_prefix_mark (drop (run_len is_word s) s))
-  where
-    by_kind : (a b : Bool) → is_plain (if a then (if b then UnknownPrefix else Ident) else InvalidIdent) ≡ true
-    by_kind true true = refl
-    by_kind true false = refl
-    by_kind false b = refl
+ident-plain s = grind (arith, common_steps)
 
 either-plain : (test : List ℕ → Bool) (scan other : List ℕ → TokenKind × ℕ) → ArePlain scan → ArePlain other → ArePlain (λ s. if test s then scan s else other s)
 either-plain test scan other p q s = by_test (λ r. is_plain r.0 ≡ true) (test s) (scan s) (other s) (λ e. p s) (λ e. q s)
@@ -77,10 +67,7 @@ raw_past-plain : (prefix : RawPrefix) → ArePlain (raw_past_or_ident prefix)
 raw_past-plain prefix = either-plain begins_raw _ ident_or_unknown_prefix (λ s. refl) ident-plain
 
 letter_b-plain : ArePlain letter_b
-letter_b-plain = either-plain (begins (codes "'")) _ past_quote (λ s. refl) (either-plain (begins (codes "\"")) _ (raw_past_or_ident Br) (λ s. refl) (raw_past-plain Br))
-  where
-    past_quote : List ℕ → TokenKind × ℕ
-    past_quote s = if begins (codes "\"") s then literal (after 1 byte_str_body) s else raw_past_or_ident Br s
+letter_b-plain = grind (arith, common_steps, either-plain, raw_past-plain)
 
 word-plain : (c : ℕ) → ArePlain (word c)
 word-plain c = by_letter (λ c scan. ArePlain scan) c
@@ -160,9 +147,7 @@ module _ (change : List ℕ → TokenKind → ℕ → Token) (read : TokenKind �
 -- what a quote begins is a literal or a lifetime
 quote_kinds : (P : TokenKind × ℕ → Type 0) (c : ℕ) (s : List ℕ) → (is_character c s ≡ true → P (literal char_body (c ∷ s))) → (is_character c s ≡ false → is_raw c s ≡ true → P ((raw s).0, suc (raw s).1))
     → (is_character c s ≡ false → is_raw c s ≡ false → P ((plain_lifetime c s).0, suc (plain_lifetime c s).1)) → P (lifetime_or_char (c ∷ s))
-quote_kinds P c s character is_raw_one name =
-    by_test P (is_character c s) (literal char_body (c ∷ s)) ((lifetime c s).0, suc (lifetime c s).1) character (λ e.
-    by_test (λ (r : TokenKind × ℕ). P (r.0, suc r.1)) (is_raw c s) (raw s) (plain_lifetime c s) (is_raw_one e) (name e))
+quote_kinds w0 c s character is_raw_one name = grind (arith, common_steps)
 
 abbrev name_in : List ℕ → List ℕ
 name_in s = take (run_len is_word s) s
@@ -173,9 +158,7 @@ past_name_in s = drop (run_len is_word s) s
 -- what a name is by what follows it
 named_kinds : (P : TokenKind × ℕ → Type 0) (c : ℕ) (s : List ℕ) → (begins (codes "'") (past_name_in s) ≡ true → P ((quoted_name c (name_in s) (past_name_in s)).0, run_len is_word s + 1))
     → (begins (codes "'") (past_name_in s) ≡ false → P (UnknownPrefixLifetime, run_len is_word s + 0)) → (begins (codes "'") (past_name_in s) ≡ false → P (Lifetime (is_marked c (name_in s)), run_len is_word s + 0)) → P (plain_lifetime c s)
-named_kinds P c s quoted prefix plain =
-    by_test (λ (r : TokenKind × ℕ). P (r.0, run_len is_word s + r.1)) (begins (codes "'") (past_name_in s)) (quoted_name c (name_in s) (past_name_in s)) (unquoted_name c (name_in s) (past_name_in s)) quoted (λ e.
-    by_test (λ (kind : TokenKind). P (kind, run_len is_word s + 0)) (begins (codes "#") (past_name_in s) && not (is_ascii_digit c)) UnknownPrefixLifetime (Lifetime (is_marked c (name_in s))) (λ h. prefix e) (λ h. plain e))
+named_kinds w0 c s quoted prefix plain = grind (arith, common_steps)
 
 abbrev in_2021 : List ℕ → TokenKind → ℕ → Token
 in_2021 cs kind len = before_2024 kind len
@@ -215,10 +198,7 @@ plain_kind UnknownPrefix = Ident
 plain_kind kind = kind
 
 keeps_2018 : (cs : List ℕ) (kind : TokenKind) (len : ℕ) → is_plain kind ≡ true → before_2021 cs kind len ≡ token (plain_kind kind) len
-keeps_2018 cs GuardedStrPrefix len e = absurd (true≢false (sym e))
-keeps_2018 cs RawLifetime len e = absurd (true≢false (sym e))
-keeps_2018 cs UnknownPrefixLifetime len e = absurd (true≢false (sym e))
-keeps_2018 cs kind len e = refl
+keeps_2018 cs kind len e = grind (arith, common_steps)
 
 -- what follows a name, where no hash makes a prefix of it
 abbrev past_any_name : ℕ → List ℕ → List ℕ → TokenKind × ℕ
@@ -280,12 +260,10 @@ grammar_2018 = changed_grammar before_2021 (changed_first before_2021 plain_kind
 -- ---- the law of one token, in each edition: two characters past its end are enough, also where it is cut
 
 pub edition_grammar : (edition : Edition) → IsGrammar (first_token_in edition)
-edition_grammar edition = by_newest (nat_le 2024 (year edition)) refl
+edition_grammar edition = by_either (nat_le 2024 (year edition))
+    (λ e. same_grammar _ first_token (λ text. rw e refl) first_token_grammar)
+    (λ e. by_reserved (nat_le 2021 (year edition)) e refl)
   where
     by_reserved : (b : Bool) → nat_le 2024 (year edition) ≡ false → nat_le 2021 (year edition) ≡ b → IsGrammar (first_token_in edition)
     by_reserved true old e = same_grammar _ (first_token_in E2021) (λ text. rw (old, e) refl) grammar_2021
     by_reserved false old e = same_grammar _ (first_token_in E2018) (λ text. rw (old, e) refl) grammar_2018
-
-    by_newest : (b : Bool) → nat_le 2024 (year edition) ≡ b → IsGrammar (first_token_in edition)
-    by_newest true e = same_grammar _ first_token (λ text. rw e refl) first_token_grammar
-    by_newest false e = by_reserved (nat_le 2021 (year edition)) e refl

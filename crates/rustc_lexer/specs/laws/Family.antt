@@ -1,7 +1,8 @@
 -- What is true of what each family reads is true of the choice by the first character.
-use Rattle.std.proofs.Common.{◌≡◌, ℕ, ◌==◌, Bool, true, false, if◌then◌else◌, List, refl}
+use Rattle.std.proofs.Common.{◌≡◌, ℕ, ◌==◌, Bool, true, false, if◌then◌else◌, List, refl, arith}
 use Rattle.std.specs.Char.{is_ascii_digit}
 use Rattle.std.specs.Str.{byte}
+use Rattle.std.proofs.lemmas.Grind.{common_steps}
 use Rattle.rustc_lexer.specs.declared.lexemes.family.Family.{Family}
 use Rattle.rustc_lexer.specs.declared.lexemes.family.Family.TheVariants.{Slash, Space, Word, Number, Quote, Str, Emoji, Hash, Symbol}
 use Rattle.rustc_lexer.specs.declared.token.TokenKind.{TokenKind}
@@ -11,7 +12,6 @@ use Rattle.rustc_lexer.specs.Tables.{is_emoji}
 use Rattle.rustc_lexer.specs.means.Hash.{hash}
 use Rattle.rustc_lexer.specs.means.Ident.{ident_or_unknown_prefix, invalid_ident}
 use Rattle.rustc_lexer.specs.means.Lexeme.{letter_r, letter_k, letter_b, letter_c, past_first, read_by, symbol, whitespace, word}
-use Rattle.rustc_lexer.specs.laws.Choice.{by_test, at_char}
 use Rattle.rustc_lexer.specs.means.Lifetime.{lifetime_or_char}
 use Rattle.rustc_lexer.specs.means.Literal.{literal}
 use Rattle.rustc_lexer.specs.means.Number.{number}
@@ -48,8 +48,4 @@ each_family P each c =
 -- of what follows each letter that may be more than the start of an identifier, and of what follows any other start
 pub by_letter : (P : ℕ → (List ℕ → TokenKind × ℕ) → Type 0) (c : ℕ) → P 114 letter_r → P 107 letter_k → P 98 letter_b → P 99 letter_c
     → ((c == 114) ≡ false → (c == 107) ≡ false → (c == 98) ≡ false → (c == 99) ≡ false → P c ident_or_unknown_prefix) → P c (word c)
-by_letter P c of_r of_k of_b of_c other =
-    by_test (P c) (c == 114) letter_r _ (at_char P 114 letter_r of_r c) (λ r.
-    by_test (P c) (c == 107) letter_k _ (at_char P 107 letter_k of_k c) (λ k.
-    by_test (P c) (c == 98) letter_b _ (at_char P 98 letter_b of_b c) (λ b.
-    by_test (P c) (c == 99) letter_c ident_or_unknown_prefix (at_char P 99 letter_c of_c c) (other r k b))))
+by_letter w0 c of_r of_k of_b of_c other = grind (arith, common_steps)

@@ -1,41 +1,26 @@
 -- Searches of a frontmatter's closing.
 use Rattle.std.proofs.Common.{◌≡◌, ℕ, zero, suc, ◌+◌, ◌-◌, ◌<◌, ◌≤◌, ◌==◌, ◌&&◌, max, nat_lt, Bool, true, false, true≢false, if◌then◌else◌, List, [], ◌∷◌, length, take, drop, get_or, refl, sym, ap, ◌∙◌, arith, Option, Some, None, length-drop, length-take, drop-drop, take_all, inl, inr}
 use Rattle.std.proofs.Math.ListN.{drop_of_length-le}
-use Rattle.std.proofs.lemmas.Bool.{eqb-true, eq-eqb, and_parts, lt-ltb, cases_lt}
+use Rattle.std.proofs.lemmas.Bool.{false_from_ne_true, eqb-true, eq-eqb, and_parts, lt-ltb, cases_lt}
 use Rattle.std.proofs.lemmas.List.{get_or-drop, get_or-take}
 use Rattle.std.proofs.lemmas.List.Folds.{list_all_at}
 use Rattle.std.specs.List.{list_all}
+use Rattle.std.proofs.lemmas.Grind.{common_steps}
 use Rattle.rustc_lexer.specs.Classes.{is_horizontal_whitespace}
 use Rattle.memchr.specs.Find.{FindsNeedle, IsFirstByte, OccursAt, is_byte}
 use Rattle.rustc_lexer.specs.means.Comment.{is_no_newline}
 use Rattle.rustc_lexer.specs.means.Frontmatter.{dashes, first, first_alone, is_dash, is_newline, line_end, line_start, newline, places, places_from, stands_alone}
-use Rattle.rustc_lexer.specs.means.Least.{least, more, one_more}
+use Rattle.rustc_lexer.specs.means.Least.{more, one_more}
 use Rattle.rustc_lexer.specs.means.Raw.{least_place}
 use Rattle.rustc_lexer.specs.means.Scan.{begins, run_len}
+use Rattle.rustc_lexer.specs.laws.Choice.{by_either}
 use Rattle.rustc_lexer.specs.laws.Least.{more-zero, one_more-more, place-here, place-on, one_more-none}
+use Rattle.rustc_lexer.specs.laws.Reach.{least-is, least-none}
 use Rattle.rustc_lexer.specs.laws.Scan.{more-more}
 
 -- a slice from a place on
 pub slice_from : (place : ℕ) (s : List ℕ) → take (length s - place) (drop place s) ≡ drop place s
 slice_from place s = take_all (length s - place) (drop place s) (omega (arith, length-drop place s))
-
--- the least number that passes a test
-least-none : (test : ℕ → Bool) (count : ℕ) → ((k : ℕ) → k < count → test k ≡ true → ⊥) → least test count ≡ None
-least-none test zero none = refl
-least-none test (suc count) none = by_test (least-none (λ i. test (suc i)) count (λ k l e. none (suc k) (omega arith) e)) (test 0) refl
-  where
-    by_test : least (λ i. test (suc i)) count ≡ None → (b : Bool) → test 0 ≡ b → least test (suc count) ≡ None
-    by_test ih true e = absurd (none 0 (omega arith) e)
-    by_test ih false e = rw e (ap one_more ih)
-
-least-some : (test : ℕ → Bool) (count k : ℕ) → k < count → test k ≡ true → ((j : ℕ) → j < k → test j ≡ true → ⊥) → least test count ≡ Some k
-least-some test zero k l e none = absurd (omega arith)
-least-some test (suc count) zero l e none = rw e refl
-least-some test (suc count) (suc k) l e none = by_test (least-some (λ i. test (suc i)) count k (omega arith) e (λ j m f. none (suc j) (omega arith) f)) (test 0) refl
-  where
-    by_test : least (λ i. test (suc i)) count ≡ Some k → (b : Bool) → test 0 ≡ b → least test (suc count) ≡ Some (suc k)
-    by_test ih true f = absurd (none 0 (omega arith) f)
-    by_test ih false f = rw f (ap one_more ih)
 
 -- a text begins with a pattern where it has the pattern's bytes
 record Reads (pattern s : List ℕ) : Type 0 where
@@ -64,21 +49,20 @@ reads-begins (c ∷ cs) (d ∷ s) r =
 
 module _ (hay pattern : List ℕ) (some : 0 < length pattern) where
   pub occurs-begins : (k : ℕ) → OccursAt hay pattern k → begins pattern (drop k hay) ≡ true
-  occurs-begins k at = reads-begins pattern (drop k hay) record {
-    long = let f = at.fits in omega (arith, length-drop k hay);
-    same = λ j l. get_or-drop k hay j 0 ∙ at.reads j l;
-  }
+  occurs-begins k at = grind (arith, common_steps, reads-begins, length-drop, get_or-drop)
 
   pub begins-occurs : (k : ℕ) → begins pattern (drop k hay) ≡ true → OccursAt hay pattern k
-  begins-occurs k e =
-      let r = begins-reads pattern (drop k hay) e in
-      record { fits = let l = r.long in omega (arith, length-drop k hay); reads = λ j l. sym (get_or-drop k hay j 0) ∙ r.same j l }
+  begins-occurs k e = grind (arith, common_steps, begins-reads, length-drop, get_or-drop)
 
   -- the first occurrence, as a search answers it
   pub found-first : (r : Option ℕ) → FindsNeedle hay pattern 0 r → r ≡ first pattern hay
-  found-first None none = sym (least-none (λ k. begins pattern (drop k hay)) (length hay) (λ k l e. none k (omega arith) (omega arith) (begins-occurs k e)))
+  found-first None none = sym (least-none (λ k. begins pattern (drop k hay)) (length hay) (λ k l. false_from_ne_true _ (λ e. none k (omega arith) (omega arith) (begins-occurs k e))))
   found-first (Some k) at =
-      sym (least-some (λ k. begins pattern (drop k hay)) (length hay) k (let f = at.1.fits in omega arith) (occurs-begins k at.1) (λ j l e. at.0.before j (omega arith) l (begins-occurs j e)))
+      sym (least-is (λ k. begins pattern (drop k hay)) (length hay) k record {
+        below = let f = at.1.fits in omega arith;
+        here = occurs-begins k at.1;
+        before = λ j l. false_from_ne_true _ (λ e. at.0.before j (omega arith) l (begins-occurs j e));
+      })
 
 -- the run up to the first newline, as a search answers it
 run-none : (s : List ℕ) → ((k : ℕ) → k < length s → is_newline (get_or s k 0) ≡ true → ⊥) → run_len is_no_newline s ≡ length s
@@ -106,10 +90,7 @@ line-some s k at = run-some s k at.0.high at.1 (λ j l e. at.0.before j (omega a
 
 -- the same from a place on
 pub line_end-none : (rest cut : List ℕ) (place : ℕ) → place ≤ length rest → cut ≡ drop place rest → IsFirstByte (is_byte 10) cut None → length rest ≡ line_end place rest
-line_end-none rest cut place inside e none =
-    let long = line-none cut none in
-    let same : run_len is_no_newline (drop place rest) ≡ length (drop place rest) = sym (ap (run_len is_no_newline) e) ∙ (long ∙ ap length e) in
-    omega (arith, length-drop place rest)
+line_end-none rest cut place inside e none = grind (arith, common_steps, line-none, length-drop)
 
 pub line_end-some : (rest cut : List ℕ) (place step : ℕ) → cut ≡ drop place rest → IsFirstByte (is_byte 10) cut (Some step) → place + step ≡ line_end place rest
 line_end-some rest cut place step e at = ap (λ n. place + n) (sym (line-some cut step at) ∙ ap (run_len is_no_newline) e)
@@ -155,11 +136,7 @@ abbrev fence_at : ℕ → List ℕ → Option ℕ
 fence_at n s = first (newline ∷ dashes n) s
 
 no_newline-fails : (n c : ℕ) (s : List ℕ) → is_no_newline c ≡ true → begins (newline ∷ dashes n) (c ∷ s) ≡ false
-no_newline-fails n c s e = by_test (is_newline c) refl e
-  where
-    by_test : (b : Bool) → is_newline c ≡ b → is_no_newline c ≡ true → begins (newline ∷ dashes n) (c ∷ s) ≡ false
-    by_test true f e = absurd (true≢false (sym (rw f at e)))
-    by_test false f e = rw f refl
+no_newline-fails n c s e = grind (arith, common_steps)
 
 dash-fails : (n c : ℕ) (s : List ℕ) → is_dash c ≡ true → begins (newline ∷ dashes n) (c ∷ s) ≡ false
 dash-fails n c s e = rw (eqb-true c 45 e) refl
@@ -183,9 +160,7 @@ module _ (n : ℕ) (rest cut : List ℕ) (from step end : ℕ) (at : IsLooking n
   line = drop (from + step + 1) rest
 
   at_newline : (s : List ℕ) (k : ℕ) → k < length s → is_newline (get_or s k 0) ≡ true → drop k s ≡ newline ∷ drop (k + 1) s
-  at_newline [] k l f = absurd (omega arith)
-  at_newline (c ∷ s) zero l f = ap (λ b. b ∷ s) (eqb-true c 10 f)
-  at_newline (c ∷ s) (suc k) l f = at_newline s k (omega arith) f ∙ ap (λ m. newline ∷ drop m (c ∷ s)) (let same : suc (k + 1) ≡ suc k + 1 = omega arith in same)
+  at_newline w0 k l f = grind (arith, common_steps, eqb-true)
 
   to_line : fence_at n rest ≡ more (from + step) (fence_at n (newline ∷ line))
   unfolding line
@@ -200,9 +175,7 @@ module _ (n : ℕ) (rest cut : List ℕ) (from step end : ℕ) (at : IsLooking n
 
   pub look_found : n ≤ end - (from + step + 1) → Some (from + step) ≡ fence_at n rest
   unfolding line to_line
-  look_found enough =
-      let begins_so : begins (newline ∷ dashes n) (newline ∷ line) ≡ true = begins-enough n line (omega arith) in
-      sym (to_line ∙ (ap (more (from + step)) (place-here (begins (newline ∷ dashes n)) newline line begins_so) ∙ ap Some (omega arith)))
+  look_found enough = grind (arith, common_steps, begins-enough, to_line, place-here)
 
   pub look_on : end - (from + step + 1) < n → end ≤ length rest → IsLooking n rest end
   unfolding line to_line
@@ -223,11 +196,9 @@ module _ (n : ℕ) (rest cut : List ℕ) (from step end : ℕ) (at : IsLooking n
 module _ (pattern : List ℕ) where
   pub places-none : (place : ℕ) (s : List ℕ) → first pattern s ≡ None → places_from pattern 0 place s ≡ []
   places-none place [] e = refl
-  places-none place (b ∷ s) e = by_test (λ f. places-none (suc place) s f) (begins pattern (b ∷ s)) refl
-    where
-      by_test : (first pattern s ≡ None → places_from pattern 0 (suc place) s ≡ []) → (t : Bool) → begins pattern (b ∷ s) ≡ t → places_from pattern 0 place (b ∷ s) ≡ []
-      by_test ih true f = absurd (let at : first pattern (b ∷ s) ≡ Some 0 = place-here (begins pattern) b s f in let no : None ≡ Some 0 = sym e ∙ at in cc)
-      by_test ih false f = rw f (ih (one_more-none (first pattern s) (sym (place-on (begins pattern) b s f) ∙ e)))
+  places-none place (b ∷ s) e = by_either (begins pattern (b ∷ s))
+      (λ f. absurd (let at : first pattern (b ∷ s) ≡ Some 0 = place-here (begins pattern) b s f in let no : None ≡ Some 0 = sym e ∙ at in cc))
+      (λ f. rw f (places-none (suc place) s (one_more-none (first pattern s) (sym (place-on (begins pattern) b s f) ∙ e))))
 
   -- a place, and those past it
   abbrev next : ℕ → List ℕ → List ℕ
@@ -296,30 +267,26 @@ line_start-le (suc place) rest = elim (is_newline (get_or rest place 0)) as (λ 
 module _ (end place start : ℕ) (rest : List ℕ) (inside : place ≤ length rest) (before : start ≤ place) (line : line_start place rest ≡ line_start start rest)
     (blank : list_all is_horizontal_whitespace (drop start (take place rest)) ≡ true) where
   pub alone_past_end : start ≡ end → true ≡ stands_alone end place rest
-  alone_past_end e =
-      let base : max end (line_start place rest) ≡ start = omega (arith, line_start-le start rest) in
-      sym (ap (λ n. list_all is_horizontal_whitespace (drop n (take place rest))) base ∙ blank)
+  alone_past_end e = grind (arith, common_steps, line_start-le)
 
   pub alone_or_not : end < start → is_horizontal_whitespace (get_or rest (start - 1) 0) ≡ false → (nat_lt 0 start && is_newline (get_or rest (start - 1) 0)) ≡ stands_alone end place rest
-  alone_or_not more other = by_newline (is_newline (get_or rest (start - 1) 0)) refl
+  alone_or_not more other = by_either (is_newline (get_or rest (start - 1) 0))
+      (λ e.
+      let here : line_start start rest ≡ start = at_line ∙ (ap (λ (t : Bool). if t then suc (start - 1) else line_start (start - 1) rest) e ∙ same) in
+      let base : max end (line_start place rest) ≡ start = omega arith in
+      rw (e, lt-ltb 0 start (omega arith)) (sym (ap (λ n. list_all is_horizontal_whitespace (drop n (take place rest))) base ∙ blank)))
+      (λ e.
+      let earlier : line_start start rest ≡ line_start (start - 1) rest = at_line ∙ ap (λ (t : Bool). if t then suc (start - 1) else line_start (start - 1) rest) e in
+      let low : max end (line_start place rest) ≤ start - 1 = omega (arith, line_start-le (start - 1) rest) in
+      let base : ℕ = max end (line_start place rest) in
+      let there : get_or (drop base (take place rest)) (start - 1 - base) 0 ≡ get_or rest (start - 1) 0 =
+      get_or-drop base (take place rest) (start - 1 - base) 0 ∙ (ap (λ n. get_or (take place rest) n 0) (let sum : base + (start - 1 - base) ≡ start - 1 = omega arith in sum) ∙ get_or-take place rest (start - 1) 0 (omega arith)) in
+      let crowded : stands_alone end place rest ≡ false =
+      list_all_at is_horizontal_whitespace (drop base (take place rest)) (start - 1 - base) 0 (omega (arith, length-drop base (take place rest), length-take place rest)) (ap is_horizontal_whitespace there ∙ other) in
+      rw (e, lt-ltb 0 start (omega arith)) (sym crowded))
     where
       same : suc (start - 1) ≡ start
       same = omega arith
 
       at_line : line_start start rest ≡ (if is_newline (get_or rest (start - 1) 0) then suc (start - 1) else line_start (start - 1) rest)
       at_line = ap (λ n. line_start n rest) (sym same)
-
-      by_newline : (b : Bool) → is_newline (get_or rest (start - 1) 0) ≡ b → (nat_lt 0 start && is_newline (get_or rest (start - 1) 0)) ≡ stands_alone end place rest
-      by_newline true e =
-          let here : line_start start rest ≡ start = at_line ∙ (ap (λ (t : Bool). if t then suc (start - 1) else line_start (start - 1) rest) e ∙ same) in
-          let base : max end (line_start place rest) ≡ start = omega arith in
-          rw (e, lt-ltb 0 start (omega arith)) (sym (ap (λ n. list_all is_horizontal_whitespace (drop n (take place rest))) base ∙ blank))
-      by_newline false e =
-          let earlier : line_start start rest ≡ line_start (start - 1) rest = at_line ∙ ap (λ (t : Bool). if t then suc (start - 1) else line_start (start - 1) rest) e in
-          let low : max end (line_start place rest) ≤ start - 1 = omega (arith, line_start-le (start - 1) rest) in
-          let base : ℕ = max end (line_start place rest) in
-          let there : get_or (drop base (take place rest)) (start - 1 - base) 0 ≡ get_or rest (start - 1) 0 =
-          get_or-drop base (take place rest) (start - 1 - base) 0 ∙ (ap (λ n. get_or (take place rest) n 0) (let sum : base + (start - 1 - base) ≡ start - 1 = omega arith in sum) ∙ get_or-take place rest (start - 1) 0 (omega arith)) in
-          let crowded : stands_alone end place rest ≡ false =
-          list_all_at is_horizontal_whitespace (drop base (take place rest)) (start - 1 - base) 0 (omega (arith, length-drop base (take place rest), length-take place rest)) (ap is_horizontal_whitespace there ∙ other) in
-          rw (e, lt-ltb 0 start (omega arith)) (sym crowded)

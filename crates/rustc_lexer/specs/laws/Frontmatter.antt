@@ -1,5 +1,5 @@
 -- The opening of a frontmatter, and where the token ends.
-use Rattle.std.proofs.Common.{◌≡◌, ℕ, zero, suc, ◌+◌, ◌-◌, ◌<◌, ◌≤◌, ◌==◌, ◌&&◌, nat_lt, not, Bool, true, false, inl, inr, if◌then◌else◌, List, [], ◌∷◌, ◌++◌, codes, length, take, drop, get_or, refl, sym, ap, ◌∙◌, subst, arith, Option, Some, None, All, length-append, length-drop, length-take, append_assoc}
+use Rattle.std.proofs.Common.{◌≡◌, ℕ, zero, suc, ◌+◌, ◌-◌, ◌<◌, ◌≤◌, ◌==◌, ◌&&◌, nat_lt, not, Bool, true, false, if◌then◌else◌, List, [], ◌∷◌, ◌++◌, codes, length, take, drop, get_or, refl, sym, ap, ◌∙◌, subst, arith, Option, Some, None, All, length-append, length-drop, length-take, append_assoc}
 use Rattle.std.specs.Char.{encode_utf8}
 use Rattle.std.specs.Str.{chars, encode_utf8_all, IsUtf8, IsCharBoundary}
 use Rattle.std.proofs.Math.Seq.{drop-append_seam}
@@ -8,15 +8,17 @@ use Rattle.std.proofs.lemmas.List.{get_or-drop}
 use Rattle.std.proofs.lemmas.List.Elements.{All-nil, All-cons, All-head, All-tail}
 use Rattle.std.proofs.lemmas.Str.{encode_ascii, byte_from_char, inside_one, length-encode, len_utf8_bounds, length-le-encodes, IsCharBoundary-end, IsCharBoundary-before_ascii, IsCharBoundary-from_rest}
 use Rattle.std.proofs.Math.Bool.{and-false}
+use Rattle.std.proofs.lemmas.Grind.{common_steps}
 use Rattle.rustc_lexer.specs.declared.edition.Edition.{Edition}
 use Rattle.rustc_lexer.specs.declared.token.Token.{Token}
 use Rattle.rustc_lexer.specs.declared.token.TokenKind.TheVariants.{Frontmatter}
 use Rattle.rustc_lexer.specs.Classes.{is_whitespace, is_id_start}
-use Rattle.rustc_lexer.specs.LanguageText.{Mode, document, part}
+use Rattle.rustc_lexer.specs.LanguageText.{Mode}
 use Rattle.rustc_lexer.specs.means.Comment.{is_no_newline}
 use Rattle.rustc_lexer.specs.means.Edition.{first_token_in}
 use Rattle.rustc_lexer.specs.means.Frontmatter.{closing_end, dashes, ends_line, fence_len, first, first_alone, first_some, frontmatter, full_fence, infostring_len, inner_attribute, inner_doc, is_dash, is_infostring, is_newline, label_len, line_end, lone_dashes, newline, opening_len, opens, past_newline, past_opening, past_place, places, places_from, recoveries, recovery, short_fence, spaces_len, stands_alone, then_len, use_item}
 use Rattle.rustc_lexer.specs.means.Least.{one_more}
+use Rattle.rustc_lexer.specs.laws.Choice.{by_either}
 use Rattle.rustc_lexer.specs.laws.Least.{place-here, place-on}
 use Rattle.rustc_lexer.specs.laws.Reach.{run_len_le}
 use Rattle.rustc_lexer.specs.means.Scan.{begins, bytes_of, next_is, past, run_len}
@@ -28,17 +30,11 @@ use Rattle.rustc_lexer.specs.laws.Past.{past-zero, split_past, past-past, past-d
 
 -- past one length, and then another
 pub past-then : (f g : List ℕ → ℕ) (text mid left : List ℕ) → IsUtf8 text → mid ≡ past (f (chars text)) text → left ≡ past (g (chars mid)) mid → left ≡ past (then_len f g (chars text)) text
-past-then f g text mid left is e h =
-    let n : ℕ = f (chars text) in
-    let reads : chars mid ≡ drop n (chars text) = ap chars e ∙ chars-past n text is in
-    h ∙ (ap (λ s. past (g s) mid) reads ∙ (ap (past (g (drop n (chars text)))) e ∙ past-past (g (drop n (chars text))) n text is))
+past-then f g text mid left is e h = grind (arith, common_steps, chars-past, past-past)
 
 module _ (rest : List ℕ) (is : IsUtf8 rest) where
   pub infostring-yes : (tail left : List ℕ) → next_is is_id_start (chars rest) ≡ true → tail ≡ past 1 rest → left ≡ past (run_len is_infostring (chars tail)) tail → left ≡ past (infostring_len (chars rest)) rest
-  infostring-yes tail left e at f =
-      let n : ℕ = run_len is_infostring (chars tail) in
-      let same : n ≡ run_len is_infostring (drop 1 (chars rest)) = ap (run_len is_infostring) (ap chars at ∙ chars-past 1 rest is) in
-      f ∙ (ap (past n) at ∙ (past-past n 1 rest is ∙ (ap (λ k. past (1 + k) rest) same ∙ ap (λ (b : Bool). past (if b then 1 + run_len is_infostring (drop 1 (chars rest)) else 0) rest) (sym e))))
+  infostring-yes tail left e at f = grind (arith, common_steps, chars-past, past-past)
 
   pub infostring-no : next_is is_id_start (chars rest) ≡ false → rest ≡ past (infostring_len (chars rest)) rest
   infostring-no e = sym (past-zero rest is) ∙ ap (λ (b : Bool). past (if b then 1 + run_len is_infostring (drop 1 (chars rest)) else 0) rest) (sym e)
@@ -78,16 +74,14 @@ last_byte (c ∷ []) text rest e = by_newline (is_newline (get_or text (n - 1) 0
         let byte : get_or text (length (encode_utf8_all (c ∷ [])) - 1) 0 ≡ 10 = eqb-true _ 10 f in
         let same : c ≡ get_or text (length (encode_utf8_all (c ∷ [])) - 1) 0 = inside_one c rest text (length (encode_utf8_all (c ∷ [])) - 1) split (omega (arith, long, some)) (omega arith) in
         rw (f, lt-ltb 0 (length (encode_utf8_all (c ∷ []))) (omega (arith, long, some))) (sym (ap is_newline same ∙ f))
-    by_newline false f = rw (f, lt-ltb 0 (length (encode_utf8_all (c ∷ []))) (omega (arith, long, some))) (by_char (is_newline c) refl)
-      where
-        by_char : (b : Bool) → is_newline c ≡ b → false ≡ is_newline c
-        by_char false g = sym g
-        by_char true g =
-            let is : c ≡ 10 = eqb-true c 10 g in
-            let one : length (encode_utf8 c) ≡ 1 = ap length (encode_ascii c (omega arith)) in
-            let first_place : length (encode_utf8_all (c ∷ [])) - 1 ≡ 0 = omega (arith, long) in
-            let byte : get_or text (length (encode_utf8_all (c ∷ [])) - 1) 0 ≡ c = ap (λ k. get_or text k 0) first_place ∙ byte_from_char text rest c split (omega arith) in
-            sym f ∙ ap is_newline byte
+    by_newline false f = rw (f, lt-ltb 0 (length (encode_utf8_all (c ∷ []))) (omega (arith, long, some))) (by_either (is_newline c)
+        (λ g.
+        let is : c ≡ 10 = eqb-true c 10 g in
+        let one : length (encode_utf8 c) ≡ 1 = ap length (encode_ascii c (omega arith)) in
+        let first_place : length (encode_utf8_all (c ∷ [])) - 1 ≡ 0 = omega (arith, long) in
+        let byte : get_or text (length (encode_utf8_all (c ∷ [])) - 1) 0 ≡ c = ap (λ k. get_or text k 0) first_place ∙ byte_from_char text rest c split (omega arith) in
+        sym f ∙ ap is_newline byte)
+        (λ g. sym g))
 last_byte (c ∷ d ∷ s) text rest e =
     let long : length (encode_utf8_all (c ∷ d ∷ s)) ≡ length (encode_utf8 c) + length (encode_utf8_all (d ∷ s)) = length-append (encode_utf8 c) (encode_utf8_all (d ∷ s)) in
     let some : 1 ≤ length (encode_utf8_all (d ∷ s)) = omega (arith, length-le-encodes (d ∷ s)) in
@@ -121,9 +115,7 @@ module _ (text fence label : List ℕ) (is : IsUtf8 text) (fence_is : fence ≡ 
       omega (arith, count)
 
   spaces_are : length text - length fence ≡ bytes_of (spaces_len (chars text)) (chars text)
-  spaces_are =
-      let all : bytes_of (spaces_len (chars text)) (chars text) + length fence ≡ length text = ap (λ (xs : List ℕ). bytes_of (spaces_len (chars text)) (chars text) + length xs) fence_is ∙ length-past (spaces_len (chars text)) text is in
-      omega arith
+  spaces_are = grind (arith, common_steps, length-past)
 
   newline_before : (nat_lt 0 (length text - length fence) && is_newline (get_or text (length text - length fence - 1) 0)) ≡ ends_line (take (spaces_len (chars text)) (chars text))
   newline_before =
@@ -152,14 +144,7 @@ module _ (text fence label : List ℕ) (is : IsUtf8 text) (fence_is : fence ≡ 
         → record { kind = Frontmatter space bad; len = len } ≡ frontmatter text
     unfolding frontmatter past_opening
     frontmatter-is len end space bad end_is len_is space_is bad_is =
-        let n : ℕ = opening_len (chars text) in
-        let opening : length text - length rest ≡ bytes_of n (chars text) =
-        let all : bytes_of n (chars text) + length rest ≡ length text = ap (λ (xs : List ℕ). bytes_of n (chars text) + length xs) past_opening-is ∙ length-past n text is in omega arith in
-        let ends : end ≡ closing_end (fence_len (chars text)) (past_opening text) = end_is ∙ (ap (λ k. closing_end k rest) dashes_are ∙ ap (closing_end (fence_len (chars text))) past_opening-is) in
-        let long : len ≡ bytes_of n (chars text) + closing_end (fence_len (chars text)) (past_opening text) = omega arith in
-        ap (λ (b : Bool). let t : Token = record { kind = Frontmatter b bad; len = len } in t) space_is
-        ∙ (ap (λ (b : Bool). let t : Token = record { kind = Frontmatter (next_is is_whitespace (chars text)) b; len = len } in t) (bad_is ∙ ap (λ xs. not (next_is is_newline (chars xs))) past_opening-is)
-        ∙ ap (λ (k : ℕ). let t : Token = record { kind = Frontmatter (next_is is_whitespace (chars text)) (not (next_is is_newline (chars (past_opening text)))); len = k } in t) long)
+        grind (arith, common_steps, past_opening-is, length-past, dashes_are)
 
 -- the closing, by what the searches answer
 pub closing_end-full : (n place : ℕ) (rest : List ℕ) → Some place ≡ first (newline ∷ dashes n) rest → line_end (place + 1) rest ≡ closing_end n rest
@@ -176,12 +161,7 @@ pub recovery-is : (rest : List ℕ) (fence item doc attribute alone : Option ℕ
     → alone ≡ first_alone 0 (places (dashes 3) rest) rest
     → first_some (past_newline rest fence ∷ item ∷ doc ∷ attribute ∷ past_place rest alone ∷ []) (length rest) ≡ recovery rest
 unfolding recovery
-recovery-is rest fence item doc attribute alone e f g h i =
-    ap (λ (o : Option ℕ). first_some (past_newline rest o ∷ item ∷ doc ∷ attribute ∷ past_place rest alone ∷ []) (length rest)) e
-    ∙ (ap (λ (o : Option ℕ). first_some (short_fence rest ∷ o ∷ doc ∷ attribute ∷ past_place rest alone ∷ []) (length rest)) f
-    ∙ (ap (λ (o : Option ℕ). first_some (short_fence rest ∷ use_item rest ∷ o ∷ attribute ∷ past_place rest alone ∷ []) (length rest)) g
-    ∙ (ap (λ (o : Option ℕ). first_some (short_fence rest ∷ use_item rest ∷ inner_doc rest ∷ o ∷ past_place rest alone ∷ []) (length rest)) h
-    ∙ ap (λ (o : Option ℕ). first_some (short_fence rest ∷ use_item rest ∷ inner_doc rest ∷ inner_attribute rest ∷ past_place rest o ∷ []) (length rest)) i)))
+recovery-is rest fence item doc attribute alone e f g h i = grind (arith, common_steps)
 
 -- a place inside the text, at its end or at a newline
 record IsLineEnd (rest : List ℕ) (place : ℕ) : Type 0 where
@@ -190,17 +170,12 @@ record IsLineEnd (rest : List ℕ) (place : ℕ) : Type 0 where
 
 run-ends : (s : List ℕ) → run_len is_no_newline s < length s → get_or s (run_len is_no_newline s) 0 ≡ 10
 run-ends [] l = absurd (omega arith)
-run-ends (c ∷ s) l = by_newline (λ m. run-ends s m) (is_newline c) refl
-  where
-    by_newline : (run_len is_no_newline s < length s → get_or s (run_len is_no_newline s) 0 ≡ 10) → (b : Bool) → is_newline c ≡ b → get_or (c ∷ s) (run_len is_no_newline (c ∷ s)) 0 ≡ 10
-    by_newline ih true e = rw e (eqb-true c 10 e)
-    by_newline ih false e = rw e (ih (let more : suc (run_len is_no_newline s) < suc (length s) = rw e at l in omega arith))
+run-ends (c ∷ s) l = by_either (is_newline c)
+    (λ e. rw e (eqb-true c 10 e))
+    (λ e. rw e (run-ends s (let more : suc (run_len is_no_newline s) < suc (length s) = rw e at l in omega arith)))
 
 line_end-ends : (place : ℕ) (rest : List ℕ) → place ≤ length rest → IsLineEnd rest (line_end place rest)
-line_end-ends place rest le = record {
-  inside = omega (arith, run_len_le is_no_newline (drop place rest), length-drop place rest);
-  here = λ l. sym (get_or-drop place rest (run_len is_no_newline (drop place rest)) 0) ∙ run-ends (drop place rest) (omega (arith, length-drop place rest));
-}
+line_end-ends place rest le = grind (arith, common_steps, run_len_le, length-drop, get_or-drop, run-ends)
 
 -- a pattern that begins with a newline stands at one
 record StandsAt (rest : List ℕ) (place : ℕ) : Type 0 where
@@ -209,21 +184,19 @@ record StandsAt (rest : List ℕ) (place : ℕ) : Type 0 where
 
 first-stands : (pattern rest : List ℕ) (place : ℕ) → first (newline ∷ pattern) rest ≡ Some place → StandsAt rest place
 first-stands pattern [] place e = absurd (let no : None ≡ Some place = e in cc)
-first-stands pattern (b ∷ s) place e = by_test (λ m f. first-stands pattern s m f) (begins (newline ∷ pattern) (b ∷ s)) refl
+first-stands pattern (b ∷ s) place e = by_either (begins (newline ∷ pattern) (b ∷ s))
+    (λ f.
+    let at : Some place ≡ Some 0 = sym e ∙ place-here (begins (newline ∷ pattern)) b s f in
+    let none : place ≡ 0 = cc in
+    subst (StandsAt (b ∷ s)) (sym none) record { inside = omega arith; here = eqb-true b 10 (and_parts (b == 10) (begins pattern s) f).0 })
+    (λ f.
+    let m = later (first (newline ∷ pattern) s) (sym (place-on (begins (newline ∷ pattern)) b s f) ∙ e) in
+    let there = first-stands pattern s m.0 m.1 in
+    subst (StandsAt (b ∷ s)) (sym m.2) record { inside = let i = there.inside in omega arith; here = there.here })
   where
     later : (o : Option ℕ) → one_more o ≡ Some place → (m : ℕ) × (o ≡ Some m) × (place ≡ suc m)
     later None f = absurd (cc)
     later (Some m) f = (m, refl, (let some : Some (suc m) ≡ Some place = f in let same : suc m ≡ place = cc in sym same))
-
-    by_test : ((m : ℕ) → first (newline ∷ pattern) s ≡ Some m → StandsAt s m) → (t : Bool) → begins (newline ∷ pattern) (b ∷ s) ≡ t → StandsAt (b ∷ s) place
-    by_test ih true f =
-        let at : Some place ≡ Some 0 = sym e ∙ place-here (begins (newline ∷ pattern)) b s f in
-        let none : place ≡ 0 = cc in
-        subst (StandsAt (b ∷ s)) (sym none) record { inside = omega arith; here = eqb-true b 10 (and_parts (b == 10) (begins pattern s) f).0 }
-    by_test ih false f =
-        let m = later (first (newline ∷ pattern) s) (sym (place-on (begins (newline ∷ pattern)) b s f) ∙ e) in
-        let there = ih m.0 m.1 in
-        subst (StandsAt (b ∷ s)) (sym m.2) record { inside = let i = there.inside in omega arith; here = there.here }
 
 -- each place of a pattern is inside
 places-inside : (pattern : List ℕ) (skip place limit : ℕ) (s : List ℕ) → place + length s ≤ limit → All (λ k. k < limit) (places_from pattern skip place s)
@@ -287,10 +260,8 @@ closing_end-ends n rest =
 
 -- the closing ends between characters
 closing-boundary : (rest : List ℕ) (place : ℕ) → IsLineEnd rest place → IsCharBoundary rest place
-closing-boundary rest place ends = elim (cases_lt place (length rest)) [
-  | inl l ↦ IsCharBoundary-before_ascii rest place l (let h = ends.here l in omega arith)
-  | inr g ↦ let same : length rest ≡ place = let i = ends.inside in omega arith in subst (IsCharBoundary rest) same (IsCharBoundary-end rest)
-]
+closing-boundary rest place ends =
+    grind (arith, common_steps, cases_lt, IsCharBoundary-before_ascii, IsCharBoundary-end)
 
 pub closing_end-boundary : (n : ℕ) (rest : List ℕ) → IsCharBoundary rest (closing_end n rest)
 closing_end-boundary n rest = closing-boundary rest (closing_end n rest) (closing_end-ends n rest)
@@ -328,9 +299,4 @@ frontmatter-suffix text = omega arith
 
 -- what holds of the frontmatter, where one opens, and of the token of each edition holds of the token
 pub token_at-either : (P : Token → Type 0) (mode : Mode) (text : List ℕ) → ((edition : Edition) → P (first_token_in edition text)) → (opens (chars text) ≡ true → P (frontmatter text)) → P (token_at mode text)
-token_at-either P (part edition) text lexeme opened = lexeme edition
-token_at-either P (document edition) text lexeme opened = by_opening (opens (chars text)) refl
-  where
-    by_opening : (b : Bool) → opens (chars text) ≡ b → P (token_at (document edition) text)
-    by_opening true e = rw e (opened e)
-    by_opening false e = rw e (lexeme edition)
+token_at-either w0 w1 text lexeme opened = grind (arith, common_steps)

@@ -1,6 +1,7 @@
 -- How far identifiers look.
-use Rattle.std.proofs.Common.{◌≡◌, ℕ, ◌≤◌, ◌==◌, ◌&&◌, Bool, true, false, true≢false, if◌then◌else◌, List, [], ◌∷◌, length, drop, refl, sym, ap, arith}
+use Rattle.std.proofs.Common.{◌≡◌, ℕ, ◌≤◌, Bool, true, if◌then◌else◌, List, length, drop, ap, arith}
 use Rattle.std.specs.List.{list_all}
+use Rattle.std.proofs.lemmas.Grind.{common_steps}
 use Rattle.rustc_lexer.specs.declared.token.TokenKind.{TokenKind}
 use Rattle.rustc_lexer.specs.declared.token.TokenKind.TheVariants.{Ident, InvalidIdent, UnknownPrefix}
 use Rattle.rustc_lexer.specs.Classes.{is_id_continue}
@@ -17,18 +18,10 @@ invalid_ident_local = run_local InvalidIdent is_word
 
 -- a marked identifier is told by the hash and the character after it
 pub marks_ident-told : IsToldBy 2 marks_ident
-marks_ident-told [] = refl
-marks_ident-told (c ∷ []) = refl
-marks_ident-told (c ∷ d ∷ s) = refl
+marks_ident-told w0 = grind (arith, common_steps)
 
 pub marks_ident-length : (s : List ℕ) → marks_ident s ≡ true → 2 ≤ length s
-marks_ident-length [] e = absurd (true≢false (sym e))
-marks_ident-length (c ∷ []) e = absurd (by_hash (c == 35) e)
-  where
-    by_hash : (b : Bool) → ((b && true) && false) ≡ true → ⊥
-    by_hash true e = true≢false (sym e)
-    by_hash false e = true≢false (sym e)
-marks_ident-length (c ∷ d ∷ s) e = omega arith
+marks_ident-length w0 e = grind (arith, common_steps)
 
 -- past the mark it looks one character past its end
 pub past_mark_at : (kind : TokenKind) (s : List ℕ) → marks_ident s ≡ true → IsLocalAt TokenKind 1 (after 2 (run kind is_id_continue)) s

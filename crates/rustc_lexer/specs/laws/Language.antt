@@ -1,13 +1,14 @@
 -- What is read at the front of a text is a token of the language, and a token of the language is what is read.
-use Rattle.std.proofs.Common.{◌≡◌, ◌↔◌, ℕ, ◌==◌, Bool, true, false, true≢false, List, [], ◌∷◌, ◌++◌, length, take, drop, codes, refl, sym, ap, ◌∙◌, subst, take-append-drop}
+use Rattle.std.proofs.Common.{◌≡◌, ◌↔◌, ℕ, Bool, true, false, List, [], ◌∷◌, ◌++◌, length, take, drop, codes, refl, sym, ap, ◌∙◌, subst, take-append-drop, arith}
 use Rattle.std.proofs.Math.Seq.{take-append_seam, drop-append_seam}
 use Rattle.std.proofs.lemmas.Bool.{and_parts, eqb-true}
+use Rattle.std.proofs.lemmas.Grind.{common_steps}
 use Rattle.unicode_ident.proofs.Computing.{unicode_ident}
-use Rattle.rustc_lexer.specs.declared.lexemes.raw.RawPrefix.TheVariants.{R, Br, Cr}
+use Rattle.rustc_lexer.specs.declared.lexemes.raw.RawPrefix.TheVariants.{Br, Cr}
 use Rattle.rustc_lexer.specs.declared.token.LiteralKind.{LiteralKind}
 use Rattle.rustc_lexer.specs.declared.token.TokenKind.{TokenKind}
-use Rattle.rustc_lexer.specs.declared.token.TokenKind.TheVariants.{RawIdent, ForcedKeywordIdent}
-use Rattle.rustc_lexer.specs.Classes.{is_id_start, is_id_continue, NextIs, NextIsNot}
+use Rattle.rustc_lexer.specs.declared.token.TokenKind.TheVariants.{ForcedKeywordIdent}
+use Rattle.rustc_lexer.specs.Classes.{is_id_start, is_id_continue, NextIs}
 use Rattle.rustc_lexer.specs.means.Ident.{ident_or_unknown_prefix, marks_ident}
 use Rattle.rustc_lexer.specs.laws.Choice.{by_test}
 use Rattle.rustc_lexer.specs.laws.Family.{by_letter}
@@ -22,11 +23,11 @@ use Rattle.rustc_lexer.specs.Language.{begins_prefixed, IsTokenBefore}
 use Rattle.rustc_lexer.specs.LiteralGrammar.{IsLiteralBefore}
 use Rattle.rustc_lexer.specs.LanguageText.{TheOnly}
 use Rattle.rustc_lexer.specs.LanguageLaws.{BeginsWith}
-use Rattle.rustc_lexer.specs.means.Lexeme.{is_raw_mark, raw_or_ident, begins_raw, raw_past_or_ident, letter_r, letter_k, letter_b, letter_c, word, lexeme}
+use Rattle.rustc_lexer.specs.means.Lexeme.{is_raw_mark, begins_raw, raw_past_or_ident, letter_r, letter_k, letter_b, letter_c, word, lexeme}
 use Rattle.rustc_lexer.specs.means.Literal.{literal}
 use Rattle.rustc_lexer.specs.means.Quoted.{byte_body, byte_str_body, c_str_body}
 use Rattle.rustc_lexer.specs.means.Raw.{raw_literal}
-use Rattle.rustc_lexer.specs.means.Scan.{after, begins, next_is, run}
+use Rattle.rustc_lexer.specs.means.Scan.{after, begins, run}
 
 -- ---- what is read is a token
 
@@ -38,13 +39,8 @@ unfolding unicode_ident
 letters-start = (refl, refl, refl, refl)
 
 r-sound : SoundAll 114 letter_r
-r-sound s = by_test (Sound 114 s) (marks_ident s) (after 2 (run RawIdent is_id_continue) s) (raw_or_ident s) (raw_ident-sound s)
-    (λ e. by_test (Sound 114 s) (next_is is_raw_mark s) (raw_literal R s) (ident_or_unknown_prefix s) (λ f. raw_str-sound s f e) (λ f. ident-sound 114 letters-start.0 s (free f)))
-  where
-    free : NextIsNot is_raw_mark s → begins_prefixed (114 ∷ s) ≡ false
-    free f =
-        let none = raw_mark-none s f in
-        no-opening (114 ∷ s) record { r_quote = none.0; r_hash = none.1; b_one = refl; b_quote = refl; br_quote = refl; br_hash = refl; c_quote = refl; cr_quote = refl; cr_hash = refl; k_hash = refl }
+r-sound s =
+    grind (arith, common_steps, raw_ident-sound, raw_str-sound, ident-sound, letters-start, raw_mark-none, no-opening)
 
 k-sound : SoundAll 107 letter_k
 k-sound s = by_test (Sound 107 s) (marks_ident s) (after 2 (run ForcedKeywordIdent is_id_continue) s) (ident_or_unknown_prefix s) (keyword-sound s) (λ e. ident-sound 107 letters-start.1 s
@@ -52,10 +48,7 @@ k-sound s = by_test (Sound 107 s) (marks_ident s) (after 2 (run ForcedKeywordIde
 
 -- an `r` and its mark, past one letter
 raw-parts : (c : ℕ) (scan : List ℕ → TokenKind × ℕ) → ((s : List ℕ) → NextIs is_raw_mark s → Sound c (114 ∷ s) (scan (114 ∷ s))) → (s : List ℕ) → begins_raw s ≡ true → Sound c s (scan s)
-raw-parts c scan is [] e = absurd (true≢false (sym e))
-raw-parts c scan is (d ∷ s) e =
-    let parts = and_parts (begins (codes "r") (d ∷ s)) (next_is is_raw_mark s) e in
-    subst (λ (x : ℕ). Sound c (x ∷ s) (scan (x ∷ s))) (sym (eqb-true d 114 (and_parts (d == 114) true parts.0).0)) (is s parts.1)
+raw-parts c scan is w3 e = grind (arith, common_steps, and_parts, eqb-true)
 
 b-sound : SoundAll 98 letter_b
 b-sound s = by_test (Sound 98 s) (begins (codes "'") s) (literal (after 1 byte_body) s) _ (byte-sound s)

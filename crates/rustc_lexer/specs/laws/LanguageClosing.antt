@@ -4,22 +4,20 @@ use Rattle.std.proofs.lemmas.Bool.{and_parts, false_from_ne_true, cases_lt}
 use Rattle.std.proofs.lemmas.List.{drop_all}
 use Rattle.std.specs.List.{list_all}
 use Rattle.std.proofs.Math.Bool.{and-false}
+use Rattle.std.proofs.lemmas.Grind.{common_steps}
 use Rattle.rustc_lexer.specs.Classes.{is_horizontal_whitespace, AreAll}
 use Rattle.rustc_lexer.specs.means.Comment.{is_no_newline}
 use Rattle.rustc_lexer.specs.means.Frontmatter.{is_newline, dashes, first, past_newline, past_place, places_from, line_start, stands_alone, first_alone, first_some, closing_end}
 use Rattle.rustc_lexer.specs.laws.LanguageRuns.{run_len-here, run-stops, either-way}
-use Rattle.rustc_lexer.specs.laws.Reach.{begins-length, run_all, run_len_le, least-some, least-is}
+use Rattle.rustc_lexer.specs.laws.Reach.{begins-length, run_all, run_len_le, least-some, least-is, least-none}
+use Rattle.rustc_lexer.specs.laws.Choice.{by_found}
 use Rattle.rustc_lexer.specs.laws.Least.{one_more-none}
 use Rattle.rustc_lexer.specs.FrontmatterGrammar as the
 use Rattle.rustc_lexer.specs.FrontmatterGrammar.{fence, IsFirst, IsNowhere, LineOf, line, IsBlankBefore, from_start, from_line, IsLone, NoFence, NoRust, EndsAt}
-use Rattle.rustc_lexer.specs.means.Least.{one_more, least}
+use Rattle.rustc_lexer.specs.means.Least.{least}
 use Rattle.rustc_lexer.specs.means.Scan.{begins, run_len}
 
 -- ---- places
-
-least-none : (test : ℕ → Bool) (count : ℕ) → ((i : ℕ) → i < count → test i ≡ false) → least test count ≡ None
-least-none test zero none = refl
-least-none test (suc count) none = rw (none 0 (omega arith)) (ap one_more (least-none (λ i. test (suc i)) count (λ i lt. none (suc i) (omega arith))))
 
 none-least : (test : ℕ → Bool) (count : ℕ) → least test count ≡ None → (i : ℕ) → i < count → test i ≡ false
 none-least test zero e i lt = absurd (omega arith)
@@ -70,16 +68,10 @@ all-drop p (suc m) (suc n) [] le e = refl
 all-drop p (suc m) (suc n) (c ∷ xs) le e = all-drop p m n xs (omega arith) e
 
 newline-at : (k : ℕ) (s : List ℕ) → is_newline (slice_index s k) ≡ true → begins (10 ∷ []) (drop k s) ≡ true
-newline-at zero [] e = absurd (true≢false (sym e))
-newline-at (suc k) [] e = absurd (true≢false (sym e))
-newline-at zero (c ∷ s) e = rw e refl
-newline-at (suc k) (c ∷ s) e = newline-at k s e
+newline-at w0 w1 e = grind (arith, common_steps)
 
 at-newline : (k : ℕ) (s : List ℕ) → begins (10 ∷ []) (drop k s) ≡ true → is_newline (slice_index s k) ≡ true
-at-newline zero [] e = absurd (true≢false (sym e))
-at-newline (suc k) [] e = absurd (true≢false (sym e))
-at-newline zero (c ∷ s) e = (and_parts (c == 10) true e).0
-at-newline (suc k) (c ∷ s) e = at-newline k s e
+at-newline w0 w1 e = grind (arith, common_steps, and_parts)
 
 -- a line starts past the last newline before a place
 line-past : (i k : ℕ) (s : List ℕ) → k < i → is_newline (slice_index s k) ≡ true → suc k ≤ line_start i s
@@ -228,44 +220,24 @@ steps s f g u d a l = first_some (past_newline s f ∷ past_newline s g ∷ u �
 closing-is : (n : ℕ) (s : List ℕ) (f g u d a l : Option ℕ) → first (10 ∷ fence n) s ≡ f → first (10 ∷ fence 3) s ≡ g → first (codes "\nuse ") s ≡ u → first (codes "\n//!") s ≡ d → first (codes "\n#![") s ≡ a → alone_from 0 s ≡ l
     → closing_end n s ≡ steps s f g u d a l
 unfolding closing_end
-closing-is n s f g u d a l ef eg eu ed ea el =
-    ap (λ (xs : List ℕ). steps s (first (10 ∷ xs) s) (first (10 ∷ fence 3) s) (first (codes "\nuse ") s) (first (codes "\n//!") s) (first (codes "\n#![") s) (alone_from 0 s)) (sym (fence-dashes n))
-    ∙ (ap (λ (o : Option ℕ). steps s o (first (10 ∷ fence 3) s) (first (codes "\nuse ") s) (first (codes "\n//!") s) (first (codes "\n#![") s) (alone_from 0 s)) ef
-    ∙ (ap (λ (o : Option ℕ). steps s f o (first (codes "\nuse ") s) (first (codes "\n//!") s) (first (codes "\n#![") s) (alone_from 0 s)) eg
-    ∙ (ap (λ (o : Option ℕ). steps s f g o (first (codes "\n//!") s) (first (codes "\n#![") s) (alone_from 0 s)) eu
-    ∙ (ap (λ (o : Option ℕ). steps s f g u o (first (codes "\n#![") s) (alone_from 0 s)) ed
-    ∙ (ap (λ (o : Option ℕ). steps s f g u d o (alone_from 0 s)) ea
-    ∙ ap (λ (o : Option ℕ). steps s f g u d a o) el)))))
+closing-is n s f g u d a l ef eg eu ed ea el = grind (arith, common_steps, fence-dashes)
+
+no_two : (p q : Bool) → (p && (q && false)) ≡ false
+no_two p q = grind arith
+
+no_three : (p q r t : Bool) → (p && (q && (r && true))) ≡ false → (p && (q && (r && t))) ≡ false
+no_three p q r t e = grind arith
 
 -- where three dashes begin nothing, no more of them do
 no-more : (n : ℕ) (s : List ℕ) → 3 ≤ n → begins (fence 3) s ≡ false → begins (fence n) s ≡ false
 no-more (suc (suc (suc n))) [] le none = refl
 no-more (suc (suc (suc n))) (a ∷ []) le none = and-false (a == 45)
-no-more (suc (suc (suc n))) (a ∷ b ∷ []) le none = by_two (a == 45) (b == 45)
-  where
-    by_two : (p q : Bool) → (p && (q && false)) ≡ false
-    by_two true true = refl
-    by_two true false = refl
-    by_two false q = refl
-no-more (suc (suc (suc n))) (a ∷ b ∷ c ∷ s) le none = by_three (a == 45) (b == 45) (c == 45) none
-  where
-    by_three : (p q r : Bool) → (p && (q && (r && true))) ≡ false → (p && (q && (r && begins (fence n) s))) ≡ false
-    by_three true true true e = absurd (true≢false e)
-    by_three true true false e = refl
-    by_three true false r e = refl
-    by_three false q r e = refl
+no-more (suc (suc (suc n))) (a ∷ b ∷ []) le none = no_two (a == 45) (b == 45)
+no-more (suc (suc (suc n))) (a ∷ b ∷ c ∷ s) le none = no_three (a == 45) (b == 45) (c == 45) _ none
 no-more n s le none = absurd (omega (arith, le))
 
 no-longer : (n : ℕ) (s : List ℕ) → 3 ≤ n → NoFence s → IsNowhere (10 ∷ fence n) s 0
-no-longer n s three free j le = past_newline_none (drop j s) (free j le)
-  where
-    past_newline_none : (u : List ℕ) → begins (10 ∷ fence 3) u ≡ false → begins (10 ∷ fence n) u ≡ false
-    past_newline_none [] e = refl
-    past_newline_none (c ∷ u) e = by_newline (c == 10) (no-more n u three) e
-      where
-        by_newline : (b : Bool) → (begins (fence 3) u ≡ false → begins (fence n) u ≡ false) → (b && begins (fence 3) u) ≡ false → (b && begins (fence n) u) ≡ false
-        by_newline true more e = more e
-        by_newline false more e = refl
+no-longer n s three free j le = grind (arith, common_steps, no-more)
 
 pub ends-read : {n : ℕ} {s : List ℕ} {m : ℕ} → 3 ≤ n → EndsAt n s m → closing_end n s ≡ m
 ends-read {n} {s} three (the.full_fence {i} {k} is l) = closing-is n s (Some i) _ _ _ _ _ (first-is 10 (fence n) is) refl refl refl refl refl ∙ ap (λ (k : ℕ). suc i + k) (line-read l)
@@ -285,31 +257,14 @@ record AnyEnd (n : ℕ) (s : List ℕ) : Type 0 where
   is : EndsAt n s place
 
 any-end : (n : ℕ) (s : List ℕ) → AnyEnd n s
-any-end n s = by_full (first (10 ∷ fence n) s) refl
-  where
-    by_lone : NoFence s → NoRust s → (o : Option ℕ) → alone_from 0 s ≡ o → AnyEnd n s
-    by_lone free rust (Some i) e = record { place = i + run_len is_no_newline (drop i s); is = the.lone_dashes free rust (subst (IsLone s 0) e (lone-is s)) (line-of (drop i s)) }
-    by_lone free rust None e = record { place = length s; is = the.all free rust (subst (IsLone s 0) e (lone-is s)) }
-
-    by_attribute : NoFence s → IsNowhere (codes "\nuse ") s 0 → IsNowhere (codes "\n//!") s 0 → (o : Option ℕ) → first (codes "\n#![") s ≡ o → AnyEnd n s
-    by_attribute free no_use no_doc (Some i) e = record { place = i; is = the.inner_attribute free no_use no_doc (is-first 10 (codes "#![") s i e) }
-    by_attribute free no_use no_doc None e = by_lone free (no_use, no_doc, is-nowhere 10 (codes "#![") s e) (alone_from 0 s) refl
-
-    by_doc : NoFence s → IsNowhere (codes "\nuse ") s 0 → (o : Option ℕ) → first (codes "\n//!") s ≡ o → AnyEnd n s
-    by_doc free no_use (Some i) e = record { place = i; is = the.inner_doc free no_use (is-first 10 (codes "//!") s i e) }
-    by_doc free no_use None e = by_attribute free no_use (is-nowhere 10 (codes "//!") s e) (first (codes "\n#![") s) refl
-
-    by_use : NoFence s → (o : Option ℕ) → first (codes "\nuse ") s ≡ o → AnyEnd n s
-    by_use free (Some i) e = record { place = i; is = the.use_item free (is-first 10 (codes "use ") s i e) }
-    by_use free None e = by_doc free (is-nowhere 10 (codes "use ") s e) (first (codes "\n//!") s) refl
-
-    by_short : IsNowhere (10 ∷ fence n) s 0 → (o : Option ℕ) → first (10 ∷ fence 3) s ≡ o → AnyEnd n s
-    by_short none (Some i) e = record { place = suc i + run_len is_no_newline (drop (suc i) s); is = the.short_fence none (is-first 10 (fence 3) s i e) (line-of (drop (suc i) s)) }
-    by_short none None e = by_use (is-nowhere 10 (fence 3) s e) (first (codes "\nuse ") s) refl
-
-    by_full : (o : Option ℕ) → first (10 ∷ fence n) s ≡ o → AnyEnd n s
-    by_full (Some i) e = record { place = suc i + run_len is_no_newline (drop (suc i) s); is = the.full_fence (is-first 10 (fence n) s i e) (line-of (drop (suc i) s)) }
-    by_full None e = by_short (is-nowhere 10 (fence n) s e) (first (10 ∷ fence 3) s) refl
+any-end n s =
+    by_found (first (10 ∷ fence n) s) (λ i e. record { place = _; is = the.full_fence (is-first 10 (fence n) s i e) (line-of (drop (suc i) s)) }) (λ e. let none = is-nowhere 10 (fence n) s e in
+    by_found (first (10 ∷ fence 3) s) (λ i e. record { place = _; is = the.short_fence none (is-first 10 (fence 3) s i e) (line-of (drop (suc i) s)) }) (λ e. let free = is-nowhere 10 (fence 3) s e in
+    by_found (first (codes "\nuse ") s) (λ i e. record { place = _; is = the.use_item free (is-first 10 (codes "use ") s i e) }) (λ e. let no_use = is-nowhere 10 (codes "use ") s e in
+    by_found (first (codes "\n//!") s) (λ i e. record { place = _; is = the.inner_doc free no_use (is-first 10 (codes "//!") s i e) }) (λ e. let no_doc = is-nowhere 10 (codes "//!") s e in
+    by_found (first (codes "\n#![") s) (λ i e. record { place = _; is = the.inner_attribute free no_use no_doc (is-first 10 (codes "#![") s i e) }) (λ e. let no_rust : NoRust s = (no_use, no_doc, is-nowhere 10 (codes "#![") s e) in
+    by_found (alone_from 0 s) (λ i e. record { place = _; is = the.lone_dashes free no_rust (subst (IsLone s 0) e (lone-is s)) (line-of (drop i s)) })
+    (λ e. record { place = _; is = the.all free no_rust (subst (IsLone s 0) e (lone-is s)) }))))))
 
 pub ends-are : (n : ℕ) (s : List ℕ) → 3 ≤ n → EndsAt n s (closing_end n s)
 ends-are n s three = let any = any-end n s in subst (EndsAt n s) (sym (ends-read three any.is)) any.is

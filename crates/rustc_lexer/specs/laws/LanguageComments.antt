@@ -3,6 +3,7 @@ use Rattle.std.proofs.Common.{◌≡◌, ℕ, suc, ◌+◌, ◌≤◌, ◌==◌,
 use Rattle.std.proofs.Math.Seq.{take-append_seam, drop-append_seam, drop-length}
 use Rattle.std.proofs.lemmas.Bool.{and_parts, eqb-true, or_parts, or_from}
 use Rattle.std.proofs.lemmas.List.{append-nil}
+use Rattle.std.proofs.lemmas.Grind.{common_steps}
 use Rattle.rustc_lexer.specs.declared.token.DocStyle.{DocStyle}
 use Rattle.rustc_lexer.specs.declared.token.DocStyle.TheVariants.{Outer, Inner}
 use Rattle.rustc_lexer.specs.declared.token.TokenKind.{TokenKind}
@@ -15,7 +16,7 @@ use Rattle.rustc_lexer.specs.means.Hash.{is_guarded_mark, hash}
 use Rattle.rustc_lexer.specs.laws.BlockComment.{two_at_least, closes-inside, at_closing_told, at_opening_told, style_told}
 use Rattle.rustc_lexer.specs.laws.BlockGrammar.{comment_end-found, comment_end-allowed}
 use Rattle.rustc_lexer.specs.laws.Choice.{by_test}
-use Rattle.rustc_lexer.specs.laws.LanguageRuns.{run_len-here, run-stops, Sound, Read, pair, read-first, sound-after, told-front, begins-next, chooses-slash, chooses-space, chooses-hash, chooses-symbol}
+use Rattle.rustc_lexer.specs.laws.LanguageRuns.{run_len-here, run-stops, Sound, Read, read-first, sound-after, told-front, begins-next, chooses-slash, chooses-space, chooses-hash, chooses-symbol, pair}
 use Rattle.rustc_lexer.specs.laws.Lookahead.{line_doc_style-own}
 use Rattle.rustc_lexer.specs.laws.Reach.{run_all}
 use Rattle.rustc_lexer.specs.Language as the
@@ -29,9 +30,7 @@ pub space-sound : (c : ℕ) → is_whitespace c ≡ true → (s : List ℕ) → 
 space-sound c e s = the.whitespace (rw e (run_all is_whitespace s)) (run-stops is_whitespace s)
 
 pub space-read : (c : ℕ) (w next : List ℕ) → AreAll is_whitespace (c ∷ w) → NextIsNot is_whitespace next → Read Whitespace (suc (length w)) (c ∷ w ++ next)
-space-read c w next all stop =
-    let parts = and_parts (is_whitespace c) _ all in
-    read-first c whitespace (w ++ next) Whitespace (length w) _ (chooses-space c parts.0) (ap (λ (n : ℕ). (Whitespace, n)) (run_len-here is_whitespace w next parts.1 stop)) refl
+space-read c w next all stop = grind (arith, common_steps, and_parts, read-first, chooses-space, run_len-here)
 
 pub hash-sound : (s : List ℕ) → Sound 35 s (hash s)
 hash-sound s = by_test (Sound 35 s) (next_is is_guarded_mark s) (after 1 (gives GuardedStrPrefix) s) (gives Pound s) (at_mark_here s) (λ e. the.pound e)
@@ -108,9 +107,7 @@ line-read style w next all stop is =
 -- ---- block comments
 
 closes-two : {w : List ℕ} → IsCommentRest w → 2 ≤ length w
-closes-two the.closing = omega arith
-closes-two (the.nested {v} {w} p q) = omega (arith, length-append v w)
-closes-two (the.other e f p) = omega (arith, closes-two p)
+closes-two w0 = grind (arith, common_steps, length-append)
 
 -- what the text has closes the comment in the text
 closes-in : {w : List ℕ} → IsCommentRest w → (next : List ℕ) → ClosesIn (w ++ next) (length w)
@@ -250,8 +247,4 @@ slash-sound s = by_test (Sound 47 s) (begins (codes "/") s) (after 1 line_commen
     alone (d ∷ s) e f = or_from (d == 47) _ (or_parts (d == 47) false (sym (begins-next 47 (d ∷ s)) ∙ e)).0 (sym (begins-next 42 (d ∷ s)) ∙ f)
 
 pub slash-read : (next : List ℕ) → NextNotIn (codes "/*") next → Read Slash 1 (47 ∷ next)
-slash-read next stop = read-first 47 slash next Slash 0 1 chooses-slash (by_next next stop) refl
-  where
-    by_next : (next : List ℕ) → NextNotIn (codes "/*") next → slash next ≡ (Slash, 0)
-    by_next [] stop = refl
-    by_next (c ∷ s) stop = let parts = or_parts (c == 47) _ stop in let more = or_parts (c == 42) _ parts.1 in rw (parts.0, more.0) refl
+slash-read next stop = grind (arith, common_steps, read-first, chooses-slash, or_parts)

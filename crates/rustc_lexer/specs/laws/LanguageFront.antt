@@ -4,14 +4,13 @@ use lib.Utf8.{scalars}
 use Rattle.std.proofs.Math.Seq.{take-append_seam, drop-append_seam}
 use Rattle.std.proofs.lemmas.Str.{chars-encodes, encodes-append, encodes-chars, length-le-encodes, scalars-chars}
 use Rattle.std.specs.Str.{chars, encode_utf8_all, IsUtf8}
-use Rattle.rustc_lexer.specs.declared.token.Token.{Token}
+use Rattle.std.proofs.lemmas.Grind.{common_steps}
 use Rattle.rustc_lexer.specs.declared.token.TokenKind.{TokenKind}
 use Rattle.rustc_lexer.specs.laws.Language.{token-read}
 use Rattle.rustc_lexer.specs.laws.TokenBy.{scalars-take, scalars-drop}
 use Rattle.rustc_lexer.specs.Language.{IsTokenBefore}
 use Rattle.rustc_lexer.specs.Classes.{bytes, IsText}
-use Rattle.rustc_lexer.specs.means.Lexeme.{lexeme, first_token}
-use Rattle.rustc_lexer.specs.means.Scan.{bytes_of}
+use Rattle.rustc_lexer.specs.means.Lexeme.{first_token}
 
 -- ---- texts and characters
 
@@ -45,7 +44,4 @@ split text w next is e =
 
 pub first-is : {next : List ℕ} {kind : TokenKind} {c : ℕ} {w : List ℕ} → IsTokenBefore next kind (c ∷ w) → (text : List ℕ) → chars text ≡ c ∷ w ++ next → first_token text ≡ record { kind = kind; len = bytes (c ∷ w) }
 unfolding first_token
-first-is {next} {kind} {c} {w} p text e =
-    ap (λ (cs : List ℕ). let t : Token = record { kind = (lexeme cs).0; len = bytes_of (lexeme cs).1 cs } in t) e
-    ∙ (ap (λ (r : TokenKind × ℕ). let t : Token = record { kind = r.0; len = bytes_of r.1 (c ∷ w ++ next) } in t) (token-read p)
-    ∙ ap (λ (u : List ℕ). let t : Token = record { kind = kind; len = bytes (c ∷ u) } in t) (take-append_seam w next))
+first-is {next} {kind} {c} {w} p text e = grind (arith, common_steps, token-read, take-append_seam)

@@ -1,10 +1,11 @@
 -- What is taken as a guarded string is what the language says, and nothing else is.
-use Rattle.std.proofs.Common.{◌≡◌, ◌↔◌, ℕ, zero, suc, ◌+◌, ◌<◌, ◌≤◌, ◌==◌, ◌||◌, min, inl, inr, Bool, true, false, true≢false, if◌then◌else◌, List, [], ◌∷◌, ◌++◌, length, take, drop, codes, refl, sym, ap, ◌∙◌, subst, arith, append_assoc, length-append, take-append-drop, Option, Some, None}
+use Rattle.std.proofs.Common.{◌≡◌, ◌↔◌, ℕ, zero, suc, ◌+◌, ◌<◌, ◌≤◌, ◌==◌, min, inl, inr, Bool, true, false, if◌then◌else◌, List, [], ◌∷◌, ◌++◌, length, take, drop, codes, refl, sym, ap, ◌∙◌, subst, arith, append_assoc, length-append, take-append-drop, Option, Some, None}
 use Rattle.std.proofs.Math.Nat.{min-le_left, min-le_right, min-eq_left, min-eq_right}
 use Rattle.std.proofs.Math.Seq.{take-append_seam, drop-append_seam}
 use Rattle.std.proofs.lemmas.Bool.{cases_lt, eqb-true, or_from}
 use Rattle.std.specs.Str.{chars}
 use Rattle.std.proofs.Math.Bool.{or-false}
+use Rattle.std.proofs.lemmas.Grind.{common_steps}
 use Rattle.rustc_lexer.specs.declared.token.GuardedStr.{GuardedStr}
 use Rattle.rustc_lexer.specs.Classes.{is_among, NextIsNot, bytes}
 use Rattle.rustc_lexer.specs.means.Guarded as spec
@@ -18,6 +19,7 @@ use Rattle.rustc_lexer.specs.means.Literal.{suffix_len}
 use Rattle.rustc_lexer.specs.means.Quoted.{double_quoted_string}
 use Rattle.rustc_lexer.specs.means.Raw.{is_hash, is_quote, hash_run}
 use Rattle.rustc_lexer.specs.means.Scan.{bytes_of, next_is}
+use Rattle.rustc_lexer.specs.laws.Choice.{by_either}
 use Rattle.rustc_lexer.specs.laws.LanguageLiterals.{suffix-sound, suffix-read}
 use Rattle.rustc_lexer.specs.laws.LanguageQuoted.{double-read, double-sound}
 use Rattle.rustc_lexer.specs.laws.LanguageRaw.{guard-length, guard-hashes, at_least, split-hashes, guarded}
@@ -30,21 +32,10 @@ same-class [] = refl
 same-class (c ∷ s) = or-false (c == 35)
 
 no-hash : (s : List ℕ) → NextIsNot (is_among (codes "\"#")) s → NextIsNot is_hash s
-no-hash [] e = refl
-no-hash (c ∷ s) e = by_bools (c == 34) (c == 35) e
-  where
-    by_bools : (a b : Bool) → (a || (b || false)) ≡ false → b ≡ false
-    by_bools true b e = absurd (true≢false e)
-    by_bools false true e = absurd (true≢false e)
-    by_bools false false e = refl
+no-hash w0 e = grind (arith, common_steps)
 
 no-quote : (s : List ℕ) → NextIsNot (is_among (codes "\"#")) s → next_is is_quote s ≡ false
-no-quote [] e = refl
-no-quote (c ∷ s) e = by_bool (c == 34) e
-  where
-    by_bool : (a : Bool) → (a || is_among (codes "#") c) ≡ false → a ≡ false
-    by_bool true e = absurd (true≢false e)
-    by_bool false e = refl
+no-quote w0 e = grind (arith, common_steps)
 
 past-guard : (n : ℕ) (s : List ℕ) → drop n (hashes n ++ s) ≡ s
 past-guard n s = ap (λ (m : ℕ). drop m (hashes n ++ s)) (sym (guard-length n)) ∙ drop-append_seam (hashes n) s
@@ -57,29 +48,21 @@ past-one (suc n) c s = past-one n c s
 
 -- a string past its hashes and its quote
 string-past : (n : ℕ) (y : List ℕ) (t : Bool) (m : ℕ) → guarded_body n y ≡ (t, m) → string_past n (hashes n ++ 34 ∷ y) ≡ Some (t, bytes_of (suc n + m) (hashes n ++ 34 ∷ y))
-string-past n y t m e =
-    ap (λ (a : Bool). let b : Bool × ℕ = guarded_body n (drop (suc n) (hashes n ++ 34 ∷ y)) in let r : Option (Bool × ℕ) = if a then Some (b.0, bytes_of (suc n + b.1) (hashes n ++ 34 ∷ y)) else None in r) (ap (next_is is_quote) (past-guard n (34 ∷ y)))
-    ∙ ap (λ (b : Bool × ℕ). let r : Option (Bool × ℕ) = Some (b.0, bytes_of (suc n + b.1) (hashes n ++ 34 ∷ y)) in r) (ap (guarded_body n) (past-one n 34 y) ∙ e)
+string-past n y t m e = grind (arith, common_steps, past-guard, past-one)
 
 body-closed : (n : ℕ) (w z : List ℕ) → double_quoted_string (w ++ z) ≡ (true, length w) → guarded_body n (w ++ z) ≡ (true, length w + closing_len n z)
-body-closed n w z e =
-    ap (λ (r : Bool × ℕ). let q : Bool × ℕ = (r.0, r.1 + (if r.0 then closing_len n (drop r.1 (w ++ z)) else 0)) in q) e
-    ∙ ap (λ (x : List ℕ). let q : Bool × ℕ = (true, length w + closing_len n x) in q) (drop-append_seam w z)
+body-closed n w z e = grind (arith, common_steps, drop-append_seam)
 
 body-open : (n : ℕ) (w z : List ℕ) → double_quoted_string (w ++ z) ≡ (false, length w) → guarded_body n (w ++ z) ≡ (false, length w + 0)
 body-open n w z e = ap (λ (r : Bool × ℕ). let q : Bool × ℕ = (r.0, r.1 + (if r.0 then closing_len n (drop r.1 (w ++ z)) else 0)) in q) e
 
 -- so many of the hashes
 hashes-taken : (n k : ℕ) (s : List ℕ) → k ≤ n → (k < n → NextIsNot (is_among (codes "#")) s) → min n (hash_run (hashes k ++ s)) ≡ k
-hashes-taken n k s le stop = elim (cases_lt k n) [
-  | inl lt ↦ ap (min n) (guard-hashes k s (sym (same-class s) ∙ stop lt)) ∙ min-eq_right le
-  | inr ge ↦ let same : n ≡ k = omega arith in ap (λ (m : ℕ). min m (hash_run (hashes k ++ s))) same ∙ min-eq_left (at_least k s)
-]
+hashes-taken n k s le stop =
+    grind (arith, common_steps, cases_lt, guard-hashes, same-class, min-eq_right, min-eq_left, at_least)
 
 closing-read : {n k : ℕ} {suffix next : List ℕ} → k ≤ n → (k < n → NextIsNot (is_among (codes "#")) (suffix ++ next)) → IsSuffixBefore next suffix → closing_len n (hashes k ++ (suffix ++ next)) ≡ k + length suffix
-closing-read {n} {k} {suffix} {next} le stop is =
-    ap (λ (m : ℕ). m + suffix_len (drop m (hashes k ++ (suffix ++ next)))) (hashes-taken n k (suffix ++ next) le stop)
-    ∙ (ap (λ (s : List ℕ). k + suffix_len s) (past-guard k (suffix ++ next)) ∙ ap (λ (m : ℕ). k + m) (suffix-read is))
+closing-read {n} {k} {suffix} {next} le stop is = grind (arith, common_steps, hashes-taken, past-guard, suffix-read)
 
 record GuardedRead (n : ℕ) (t : Bool) (w next : List ℕ) : Type 0 where
   count : hash_run (w ++ next) ≡ n
@@ -154,11 +137,9 @@ taken s = let g = guarded (chars s.rest) in by_left g.count g.left (sym g.whole)
 
     by_left : (n : ℕ) (v : List ℕ) → chars s.rest ≡ hashes n ++ v → NextIsNot is_hash v → Taken s
     by_left n [] e stop = record { answer = _; is = holds.none n [] e refl }
-    by_left n (c ∷ u) e stop = by_quote (c == 34) refl
-      where
-        by_quote : (b : Bool) → (c == 34) ≡ b → Taken s
-        by_quote true f = by_string n u (double_quoted_string u).0 (double_quoted_string u).1 (e ∙ ap (λ (x : ℕ). hashes n ++ x ∷ u) (eqb-true c 34 f)) (double-sound u)
-        by_quote false f = record { answer = _; is = holds.none n (c ∷ u) e (or_from (c == 34) _ f (or_from (c == 35) false stop refl)) }
+    by_left n (c ∷ u) e stop = by_either (c == 34)
+        (λ f. by_string n u (double_quoted_string u).0 (double_quoted_string u).1 (e ∙ ap (λ (x : ℕ). hashes n ++ x ∷ u) (eqb-true c 34 f)) (double-sound u))
+        (λ f. record { answer = _; is = holds.none n (c ∷ u) e (or_from (c == 34) _ f (or_from (c == 35) false stop refl)) })
 
 -- this and nothing else
 pub guarded-answer : (s t : State) (answer : Option GuardedStr) → answer ≡ (spec.guarded s).0 → t ≡ (spec.guarded s).1 → (other : Option GuardedStr × State) → TakesGuarded s other ↔ (other ≡ (answer, t))

@@ -1,10 +1,11 @@
 -- The token at the front of a text in an edition is the one that its language has there.
-use Rattle.std.proofs.Common.{◌≡◌, ◌↔◌, ℕ, ◌+◌, ◌<◌, ◌≤◌, ◌==◌, nat_le, Bool, true, false, true≢false, List, [], ◌∷◌, ◌++◌, length, take, drop, codes, refl, sym, ap, ◌∙◌, subst, arith, take-append-drop}
+use Rattle.std.proofs.Common.{◌≡◌, ◌↔◌, ℕ, ◌+◌, ◌<◌, ◌≤◌, ◌==◌, Bool, true, false, true≢false, List, [], ◌∷◌, ◌++◌, length, take, drop, codes, refl, sym, ap, ◌∙◌, subst, arith, take-append-drop}
 use lib.Utf8.{encode}
 use Rattle.std.proofs.Math.Seq.{take-append_seam}
 use Rattle.std.proofs.lemmas.Bool.{and_parts, leb-true, leb-false, eqb-true}
 use Rattle.std.specs.List.{list_all}
 use Rattle.std.specs.Str.{chars}
+use Rattle.std.proofs.lemmas.Grind.{common_steps}
 use Rattle.rustc_lexer.specs.declared.edition.Edition.{Edition}
 use Rattle.rustc_lexer.specs.declared.edition.Edition.TheVariants.{E2024}
 use Rattle.rustc_lexer.specs.declared.token.Token.{Token}
@@ -17,7 +18,7 @@ use Rattle.rustc_lexer.specs.Language as the
 use Rattle.rustc_lexer.specs.Language.{is_bad_name, IsTokenBefore}
 use Rattle.rustc_lexer.specs.means.Lexeme.{past_first, lexeme, first_token, symbols, symbol_kind}
 use Rattle.rustc_lexer.specs.means.Scan.{bytes_of, next_is, run_len}
-use Rattle.rustc_lexer.specs.laws.Choice.{by_test, by_symbol}
+use Rattle.rustc_lexer.specs.laws.Choice.{by_either, by_symbol}
 use Rattle.rustc_lexer.specs.laws.Edition.{oldest}
 use Rattle.rustc_lexer.specs.laws.Language.{lexeme-sound}
 use Rattle.rustc_lexer.specs.laws.LanguageRuns.{run_len-here}
@@ -32,26 +33,16 @@ kept_2021 GuardedStrPrefix len lt = absurd (omega (arith, lt))
 kept_2021 kind len lt = refl
 
 kept_2018 : (cs : List ℕ) (kind : TokenKind) (len : ℕ) → kept_since kind < 2021 → before_2021 cs kind len ≡ token kind len
-kept_2018 cs GuardedStrPrefix len lt = absurd (omega (arith, lt))
-kept_2018 cs RawLifetime len lt = absurd (omega (arith, lt))
-kept_2018 cs UnknownPrefix len lt = absurd (omega (arith, lt))
-kept_2018 cs UnknownPrefixLifetime len lt = absurd (omega (arith, lt))
-kept_2018 cs kind len lt = refl
+kept_2018 cs kind len lt = grind (arith, common_steps)
 
 keeps : (edition : Edition) (cs : List ℕ) (kind : TokenKind) (len : ℕ) → kept_since kind ≤ year edition → changed edition cs (token kind len) ≡ token kind len
-keeps edition cs kind len le =
-    by_test (λ t. t ≡ token kind len) (nat_le 2024 (year edition)) _ _ (λ e. refl) (λ e.
-    by_test (λ t. t ≡ token kind len) (nat_le 2021 (year edition)) _ _ (λ f. kept_2021 kind len (let lt = leb-false 2024 (year edition) e in omega (arith, le))) (λ f. kept_2018 cs kind len (let lt = leb-false 2021 (year edition) f in omega (arith, le))))
+keeps edition cs kind len le = grind (arith, common_steps, kept_2021, leb-false, kept_2018)
 
 guarded-cut : (edition : Edition) (cs : List ℕ) (len : ℕ) → year edition < 2024 → changed edition cs (token GuardedStrPrefix len) ≡ token Pound 1
-guarded-cut edition cs len lt =
-    by_test (λ t. t ≡ token Pound 1) (nat_le 2024 (year edition)) _ _ (λ e. absurd (let le = leb-true 2024 (year edition) e in omega (arith, lt))) (λ e.
-    by_test (λ t. t ≡ token Pound 1) (nat_le 2021 (year edition)) _ _ (λ f. refl) (λ f. refl))
+guarded-cut edition cs len lt = grind (arith, common_steps, leb-true)
 
 before : (edition : Edition) (cs : List ℕ) (t : Token) → year edition < 2021 → changed edition cs t ≡ before_2021 cs t.kind t.len
-before edition cs t lt =
-    by_test (λ u. u ≡ before_2021 cs t.kind t.len) (nat_le 2024 (year edition)) _ _ (λ e. absurd (let le = leb-true 2024 (year edition) e in omega (arith, lt))) (λ e.
-    by_test (λ u. u ≡ before_2021 cs t.kind t.len) (nat_le 2021 (year edition)) _ _ (λ f. absurd (let le = leb-true 2021 (year edition) f in omega (arith, lt))) (λ f. refl))
+before edition cs t lt = grind (arith, common_steps, leb-true)
 
 -- ---- the tokens that an edition may not keep, as they stand on the page
 
@@ -75,9 +66,7 @@ view whole = other refl
 
 -- whether a name is marked
 name-marked : (c : ℕ) (w next : List ℕ) → AreAll is_word_continue w → NextIs (is_among (codes "#")) next → has_marked_name (39 ∷ c ∷ w ++ next) ≡ is_bad_name (c ∷ w)
-name-marked c w next all hash =
-    ap (λ (n : ℕ). is_bad_name (c ∷ take n (w ++ next))) (run_len-here is_word_continue w next all (hash-stops next hash))
-    ∙ ap (λ (v : List ℕ). is_bad_name (c ∷ v)) (take-append_seam w next)
+name-marked c w next all hash = grind (arith, common_steps, run_len-here, hash-stops, take-append_seam)
 
 lifetime-marked : {next : List ℕ} {kind : TokenKind} {c : ℕ} {w : List ℕ} → View next kind (39 ∷ c ∷ w) → kind ≡ UnknownPrefixLifetime → has_marked_name (39 ∷ c ∷ w ++ next) ≡ is_bad_name (c ∷ w)
 lifetime-marked {next} {kind} {c} {w} (cut_raw is) e = absurd (cc e)
@@ -109,15 +98,13 @@ token-read-in {edition} {next} {kind} {c} {w} (kept le p) text e = ap (changed e
 token-read-in {edition} {next} (pound lt) text e = by_next next e ∙ ap (token Pound) (sym hash-one)
   where
     by_next : (s : List ℕ) → chars text ≡ 35 ∷ s → first_token_in edition text ≡ token Pound 1
-    by_next s f = by_bool (next_is (is_among (codes "\"#")) s) refl
+    by_next s f = by_either (next_is (is_among (codes "\"#")) s)
+        (λ b. guarded s f b)
+        (λ b. ap (changed edition (chars text)) (first-is {next = s} (the.pound b) text f) ∙ (keeps edition (chars text) Pound (bytes (35 ∷ [])) (oldest edition) ∙ ap (token Pound) hash-one))
       where
         guarded : (u : List ℕ) → chars text ≡ 35 ∷ u → next_is (is_among (codes "\"#")) u ≡ true → first_token_in edition text ≡ token Pound 1
         guarded [] g b = absurd (true≢false (sym b))
         guarded (d ∷ u) g b = ap (changed edition (chars text)) (first-is {next = u} (the.guarded_prefix {c = d} b) text g) ∙ guarded-cut edition (chars text) (bytes (35 ∷ d ∷ [])) lt
-
-        by_bool : (b : Bool) → next_is (is_among (codes "\"#")) s ≡ b → first_token_in edition text ≡ token Pound 1
-        by_bool true b = guarded s f b
-        by_bool false b = ap (changed edition (chars text)) (first-is {next = s} (the.pound b) text f) ∙ (keeps edition (chars text) Pound (bytes (35 ∷ [])) (oldest edition) ∙ ap (token Pound) hash-one)
 token-read-in {edition} {next} {kind} {c} {w} (ident lt p) text e = ap (changed edition (chars text)) (first-is p text e) ∙ before edition (chars text) (token UnknownPrefix (bytes (c ∷ w))) lt
 token-read-in {edition} {next} (lifetime {c} {w} lt p) text e =
     ap (changed edition (chars text)) (first-is p text e) ∙ (before edition (chars text) (token UnknownPrefixLifetime (bytes (39 ∷ c ∷ w))) lt
@@ -149,11 +136,7 @@ goes-name (c ∷ w) next is = (and_parts (is_id_start c) (list_all is_id_continu
 
 -- by which of them an edition has
 by_year : {A : Type 0} (a b : ℕ) → (a ≤ b → A) → (b < a → A) → A
-by_year {A} a b le lt = by_bool (nat_le a b) refl
-  where
-    by_bool : (t : Bool) → nat_le a b ≡ t → A
-    by_bool true e = le (leb-true a b e)
-    by_bool false e = lt (leb-false a b e)
+by_year {A} a b le lt = grind (arith, common_steps, leb-true, leb-false)
 
 fronts : {next : List ℕ} {kind : TokenKind} {c : ℕ} {w : List ℕ} (edition : Edition) → View next kind (c ∷ w) → IsTokenBefore next kind (c ∷ w) → Fronts edition next kind c w
 fronts {next} {kind} {c} {w} edition (other old) p = keep edition next kind c w (let le = oldest edition in omega (arith, old)) p
@@ -208,18 +191,10 @@ first-front edition text (c ∷ s) is some e =
 -- ---- the newest edition has the page
 
 pub on_page : {edition : Edition} {next : List ℕ} {kind : TokenKind} {w : List ℕ} → edition ≡ E2024 → IsTokenIn edition next kind w → IsTokenBefore next kind w
-on_page newest (kept le p) = p
-on_page newest (pound lt) = absurd (omega (arith, ap year newest, lt))
-on_page newest (ident lt p) = absurd (omega (arith, ap year newest, lt))
-on_page newest (lifetime lt p) = absurd (omega (arith, ap year newest, lt))
-on_page newest (lifetime_r lt goes) = absurd (omega (arith, ap year newest, lt))
+on_page newest w1 = grind (arith, common_steps)
 
 kept_now : (kind : TokenKind) → kept_since kind ≤ 2024
-kept_now GuardedStrPrefix = omega arith
-kept_now RawLifetime = omega arith
-kept_now UnknownPrefix = omega arith
-kept_now UnknownPrefixLifetime = omega arith
-kept_now kind = omega arith
+kept_now kind = grind (arith, common_steps)
 
 pub of_page : {edition : Edition} {next : List ℕ} {kind : TokenKind} {w : List ℕ} → edition ≡ E2024 → IsTokenBefore next kind w → IsTokenIn edition next kind w
 of_page {edition} {next} {kind} newest p = kept (subst (λ (x : Edition). kept_since kind ≤ year x) (sym newest) (kept_now kind)) p

@@ -6,14 +6,15 @@ use Rattle.std.specs.Char.{is_ascii_digit}
 use Rattle.std.specs.List.{list_all}
 use Rattle.std.specs.Str.{encode_utf8_all}
 use Rattle.std.proofs.Math.Bool.{or-true}
+use Rattle.std.proofs.lemmas.Grind.{common_steps}
 use Rattle.unicode_ident.proofs.Computing.{unicode_ident}
 use Rattle.rustc_lexer.specs.declared.token.LiteralKind.TheVariants.{Char}
 use Rattle.rustc_lexer.specs.declared.token.TokenKind.{TokenKind}
 use Rattle.rustc_lexer.specs.declared.token.TokenKind.TheVariants.{Literal, Lifetime, RawLifetime, UnknownPrefixLifetime}
-use Rattle.rustc_lexer.specs.Classes.{is_among, is_id_start, is_id_continue, is_ident, NextIn, is_word_continue, is_word_start, is_name_start, begins_ident_after, AreAll, NextIs, NextIsNot, bytes}
+use Rattle.rustc_lexer.specs.Classes.{is_among, is_id_continue, is_ident, NextIn, is_word_continue, is_word_start, is_name_start, begins_ident_after, AreAll, NextIs, NextIsNot, bytes}
 use Rattle.rustc_lexer.specs.Tables.{is_emoji, emoji_ranges}
 use Rattle.rustc_lexer.specs.means.Ident.{marks_ident}
-use Rattle.rustc_lexer.specs.laws.Choice.{by_test}
+use Rattle.rustc_lexer.specs.laws.Choice.{by_either, by_test}
 use Rattle.rustc_lexer.specs.laws.LanguageLiterals.{bytes-append, bytes-one, literal-sound, past-read, ReadsLiteral}
 use Rattle.rustc_lexer.specs.laws.LanguageQuoted.{single-read, single-sound}
 use Rattle.rustc_lexer.specs.laws.LanguageRuns.{run_len-here, run-stops, either-way, other_than, Sound, Read, pair, read-first, begins-next, chooses-quote, word-no_mark, mark-stops, word_start-no_digit}
@@ -27,7 +28,7 @@ use Rattle.rustc_lexer.specs.LiteralGrammar.{ends, plain, escape, IsSingleQuoted
 use Rattle.rustc_lexer.specs.means.Lifetime.{is_marked, past_name, plain_lifetime, lifetime, is_character, is_raw, lifetime_or_char}
 use Rattle.rustc_lexer.specs.means.Literal.{Body, literal}
 use Rattle.rustc_lexer.specs.means.Quoted.{single_quoted_string, char_body}
-use Rattle.rustc_lexer.specs.means.Scan.{begins, next_is, run_len}
+use Rattle.rustc_lexer.specs.means.Scan.{begins, run_len}
 
 -- ---- classes
 
@@ -47,52 +48,31 @@ word-begins d (c ∷ w) next mark all none = false_from_ne_true (begins (d ∷ [
 
 -- what is read of a name
 name-read : (c : ℕ) (w next : List ℕ) → AreAll is_word_continue w → NextIsNot is_word_continue next → plain_lifetime c (w ++ next) ≡ ((past_name c w next).0, length w + (past_name c w next).1)
-name-read c w next all stop =
-    ap (λ (n : ℕ). let r : TokenKind × ℕ = ((past_name c (take n (w ++ next)) (drop n (w ++ next))).0, n + (past_name c (take n (w ++ next)) (drop n (w ++ next))).1) in r) (run_len-here is_word_continue w next all stop)
-    ∙ (ap (λ (front : List ℕ). let r : TokenKind × ℕ = ((past_name c front (drop (length w) (w ++ next))).0, length w + (past_name c front (drop (length w) (w ++ next))).1) in r) (take-append_seam w next)
-    ∙ ap (λ (rest : List ℕ). let r : TokenKind × ℕ = ((past_name c w rest).0, length w + (past_name c w rest).1) in r) (drop-append_seam w next))
+name-read c w next all stop = grind (arith, common_steps, run_len-here, take-append_seam, drop-append_seam)
 
 -- a name that is no character and not raw
 plain-read : (c : ℕ) (w next : List ℕ) (kind : TokenKind) (n : ℕ) → is_name_start c ≡ true → begins (codes "'") (w ++ next) ≡ false → is_raw c (w ++ next) ≡ false → AreAll is_word_continue w → NextIsNot is_word_continue next → past_name c w next ≡ (kind, n) → Read kind (suc (suc (length w + n))) (39 ∷ c ∷ w ++ next)
 plain-read c w next kind n start none no_raw all stop e =
-    read-first 39 lifetime_or_char (c ∷ w ++ next) kind (suc (length w + n)) _ chooses-quote
-    (rw (none, start, no_raw) (ap (λ (r : TokenKind × ℕ). let q : TokenKind × ℕ = (r.0, suc r.1) in q) (name-read c w next all stop ∙ ap (λ (r : TokenKind × ℕ). let q : TokenKind × ℕ = (r.0, length w + r.1) in q) e))) refl
+    grind (arith, common_steps, read-first, chooses-quote, name-read)
 
 begins-none : (d : ℕ) (s : List ℕ) → NextIsNot (is_among (d ∷ [])) s → begins (d ∷ []) s ≡ false
 begins-none d s e = begins-next d s ∙ e
 
 -- `r` is raw before a hash and the start of an identifier alone
 no_raw-word : (c : ℕ) (w next : List ℕ) → AreAll is_word_continue w → (begins (codes "#") next ≡ true → (c == 114) ≡ false) → is_raw c (w ++ next) ≡ false
-no_raw-word c w next all other = by_hash (begins (codes "#") next) refl
-  where
-    never : (a b : Bool) → b ≡ false → (a && (b && next_is is_id_start (drop 1 (w ++ next)))) ≡ false
-    never true b e = rw e refl
-    never false b e = refl
-
-    by_hash : (b : Bool) → begins (codes "#") next ≡ b → is_raw c (w ++ next) ≡ false
-    by_hash true e = rw (other e) refl
-    by_hash false e = never (c == 114) (begins (codes "#") (w ++ next)) (word-begins 35 w next refl all e)
+no_raw-word c w next all other = grind (arith, common_steps, word-begins)
 
 pub lifetime-read : (c : ℕ) (w next : List ℕ) → is_name_start c ≡ true → AreAll is_word_continue w → NextIsNot is_word_continue next → NextIsNot (is_among (codes "'")) next → (NextIs (is_among (codes "#")) next → is_ascii_digit c ≡ true)
     → Read (Lifetime (is_ascii_digit c || is_emoji c || not (list_all is_id_continue w))) (suc (suc (length w))) (39 ∷ c ∷ w ++ next)
 lifetime-read c w next start all stop quote hash =
     plain-read c w next (Lifetime (is_marked c w)) 0 start (word-begins 39 w next refl all (begins-none 39 next quote)) (no_raw-word c w next all (λ e. other_than is_ascii_digit 114 c refl (hash (sym (begins-next 35 next) ∙ e)))) all stop
-    (rw (begins-none 39 next quote) (by_hash (begins (codes "#") next) refl))
+    (rw (begins-none 39 next quote) (by_either (begins (codes "#") next)
+    (λ e. let digit : is_ascii_digit c ≡ true = hash (sym (begins-next 35 next) ∙ e) in rw (e, digit) refl)
+    (λ e. rw e refl)))
     ∙ pair _ _ _ _ refl (omega arith)
-  where
-    by_hash : (b : Bool) → begins (codes "#") next ≡ b → unquoted_name c w next ≡ (Lifetime (is_marked c w), 0)
-    by_hash true e = let digit : is_ascii_digit c ≡ true = hash (sym (begins-next 35 next) ∙ e) in rw (e, digit) refl
-    by_hash false e = rw e refl
 
 hash-mark : (c : ℕ) → is_among (codes "#") c ≡ true → ends_prefix c ≡ true
-hash-mark c e = or_left (c == 35) _ (hash c e)
-  where
-    by_bool : (b : Bool) → (b || false) ≡ true → b ≡ true
-    by_bool true e = refl
-    by_bool false e = e
-
-    hash : (c : ℕ) → is_among (codes "#") c ≡ true → (c == 35) ≡ true
-    hash c e = by_bool (c == 35) e
+hash-mark c e = grind (arith, common_steps, or_left)
 
 pub hash-stops : (next : List ℕ) → NextIs (is_among (codes "#")) next → NextIsNot is_word_continue next
 hash-stops [] e = refl
@@ -104,19 +84,10 @@ hash-no_quote (c ∷ s) e = rw (eqb-true c 35 (and_parts (c == 35) true e).0) re
 
 -- the two ways to say what is raw
 raw-same : (c : ℕ) (s : List ℕ) → begins_ident_after (codes "r#") (c ∷ s) ≡ is_raw c s
-raw-same c s = assoc (c == 114) (begins (codes "#") s) (next_is is_id_start (drop 1 s))
-  where
-    assoc : (a b d : Bool) → ((a && b) && d) ≡ (a && (b && d))
-    assoc true b d = refl
-    assoc false b d = refl
+raw-same c s = grind (arith, common_steps)
 
 word_start-name : (c : ℕ) → is_word_start c ≡ true → is_name_start c ≡ true
-word_start-name c e = by_bool (is_id_start c) (is_ascii_digit c) (is_emoji c) e
-  where
-    by_bool : (a d b : Bool) → (a || b) ≡ true → ((a || d) || b) ≡ true
-    by_bool true d b e = refl
-    by_bool false true b e = refl
-    by_bool false false b e = e
+word_start-name c e = grind (arith, common_steps)
 
 pub prefix-read : (c : ℕ) (w next : List ℕ) → is_word_start c ≡ true → AreAll is_word_continue w → NextIs (is_among (codes "#")) next → begins_ident_after (codes "r#") (c ∷ w ++ next) ≡ false → Read UnknownPrefixLifetime (suc (suc (length w))) (39 ∷ c ∷ w ++ next)
 prefix-read c w next start all hash free =
@@ -130,11 +101,8 @@ unfolding unicode_ident is_emoji emoji_ranges
 r-name = refl
 
 pub raw_lifetime-read : (w next : List ℕ) → is_ident w ≡ true → NextIsNot is_id_continue next → Read RawLifetime (suc (suc (suc (length w)))) (39 ∷ 114 ∷ 35 ∷ w ++ next)
-raw_lifetime-read [] next is stop = absurd (true≢false (sym is))
-raw_lifetime-read (c ∷ w) next is stop =
-    let parts = and_parts (is_id_start c) (list_all is_id_continue w) is in
-    read-first 39 lifetime_or_char (114 ∷ 35 ∷ c ∷ w ++ next) RawLifetime (suc (2 + length w)) _ chooses-quote
-    (rw (r-name, parts.0) (ap (λ (n : ℕ). (RawLifetime, suc (2 + n))) (run_len-here is_id_continue w next parts.1 stop))) (omega arith)
+raw_lifetime-read w0 next is stop =
+    grind (arith, common_steps, and_parts, read-first, chooses-quote, r-name, run_len-here)
 
 -- ---- and what is read is one of these
 
@@ -142,12 +110,7 @@ abbrev IsLifetime : ℕ → List ℕ → TokenKind × ℕ → Type 0
 IsLifetime c s r = IsTokenBefore (drop r.1 s) r.0 (39 ∷ c ∷ take r.1 s)
 
 no_digit-start : (c : ℕ) → is_name_start c ≡ true → is_ascii_digit c ≡ false → is_word_start c ≡ true
-no_digit-start c e f = by_bool (is_id_start c) (is_ascii_digit c) (is_emoji c) f e
-  where
-    by_bool : (a d b : Bool) → d ≡ false → ((a || d) || b) ≡ true → (a || b) ≡ true
-    by_bool true d b f e = refl
-    by_bool false true b f e = absurd (true≢false f)
-    by_bool false false b f e = e
+no_digit-start c e f = grind (arith, common_steps)
 
 name-sound : (c : ℕ) (s : List ℕ) → is_name_start c ≡ true → begins (codes "'") s ≡ false → is_raw c s ≡ false → IsLifetime c s (plain_lifetime c s)
 name-sound c s start none no_raw = by_test (λ r. IsLifetime c s (r.0, n + r.1)) (begins (codes "'") left) (quoted_name c name left) (unquoted_name c name left) (λ e. quoted name left refl refl e)
@@ -192,9 +155,7 @@ raw-lifetime c s e =
     subst (λ (x : ℕ). IsLifetime x s (raw s)) letter (marked-sound (λ next w. IsTokenBefore next RawLifetime (39 ∷ 114 ∷ w)) (λ w next is stop. the.raw_lifetime is stop) s parts.1)
 
 pub lifetime-sound : (c : ℕ) (s : List ℕ) → is_character c s ≡ false → Sound 39 (c ∷ s) ((lifetime c s).0, suc (lifetime c s).1)
-lifetime-sound c s e =
-    let parts = or_parts (begins (codes "'") s) (not (is_name_start c)) e in
-    by_test (IsLifetime c s) (is_raw c s) (raw s) (plain_lifetime c s) (raw-lifetime c s) (name-sound c s (not-false (is_name_start c) parts.1) parts.0)
+lifetime-sound c s e = grind (arith, common_steps, or_parts, raw-lifetime, name-sound, not-false)
 
 -- ---- characters
 
@@ -251,26 +212,17 @@ end-stops d end next (escape q) e = e
 
 -- nor does what follows it, if it is empty
 next-stops : {next : List ℕ} {t : Bool} {w : List ℕ} → IsSingleQuoted next t w → NextIsNot is_name_start w → NextIsNot is_name_start (w ++ next)
-next-stops {next} (lit.one out) e = e
-next-stops {next} (lit.closed {w} q none) e = end-stops 39 [] next q e
-next-stops {next} (lit.closed_line {w} q) e = end-stops 10 (39 ∷ []) next q e
-next-stops {next} (lit.at_slash {w} q at none) e = empty-or w next e (at-stops 47 next backslash-none.1 at)
-next-stops {next} (lit.at_newline {w} q at none) e = empty-or w next e (at-stops 10 next backslash-none.2 at)
-next-stops {next} (lit.unclosed {w} none q) e = subst (λ (xs : List ℕ). NextIsNot is_name_start (w ++ xs)) (sym none) (empty-or w [] e refl)
-next-stops {next} (lit.unclosed_escape {w} none q) e = subst (λ (xs : List ℕ). NextIsNot is_name_start (w ++ xs)) (sym none) (empty-or w [] e refl)
+next-stops {next} w1 e = grind (arith, common_steps, end-stops, empty-or, at-stops, backslash-none)
 
 abbrev char_of : Bool × ℕ → Body × ℕ
 char_of r = (record { kind = Char r.0; takes_suffix = r.0 }, r.1)
 
 pub char-reads : {next : List ℕ} (t : Bool) (w : List ℕ) → IsSingleQuoted next t w → NextIsNot is_name_start w → ReadsLiteral next (Char t) t (39 ∷ w)
 char-reads {next} t w q stop =
-    read-first 39 lifetime_or_char (w ++ next) _ _ _ chooses-quote
-    (quote-char (w ++ next) (next-stops q stop) ∙ past-read (39 ∷ []) w next 1 (Char t) t (char_body (w ++ next)) (ap char_of (single-read q)) (bytes-one 39 [] refl ∙ omega arith)) (omega arith)
+    grind (arith, common_steps, read-first, chooses-quote, quote-char, next-stops, past-read, single-read, bytes-one)
 
 pub one-reads : (next : List ℕ) (c : ℕ) → (c == 92) ≡ false → ReadsLiteral next (Char true) true (39 ∷ c ∷ 39 ∷ [])
-one-reads next c out =
-    let read : single_quoted_string (c ∷ 39 ∷ next) ≡ (true, 2) = rw out refl in
-    read-first 39 lifetime_or_char (c ∷ 39 ∷ next) _ _ _ chooses-quote (past-read (39 ∷ []) (c ∷ 39 ∷ []) next 1 (Char true) true (char_body (c ∷ 39 ∷ next)) (ap char_of read) (bytes-one 39 [] refl ∙ omega arith)) (omega arith)
+one-reads next c out = grind (arith, common_steps, read-first, chooses-quote, past-read, bytes-one)
 
 pub name-reads : (next : List ℕ) (c d : ℕ) (w : List ℕ) → is_name_start c ≡ true → AreAll is_word_continue (d ∷ w) → ReadsLiteral next (Char true) false (39 ∷ c ∷ d ∷ w ++ 39 ∷ [])
 name-reads next c d w start all =

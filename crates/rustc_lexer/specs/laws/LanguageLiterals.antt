@@ -5,9 +5,9 @@ use Rattle.std.proofs.lemmas.Bool.{and_parts, eqb-true, false_from_ne_true, lt-l
 use Rattle.std.proofs.lemmas.List.{append-nil}
 use Rattle.std.proofs.lemmas.Str.{encodes-append, length-encode}
 use Rattle.std.specs.Char.{encode_utf8, len_utf8, is_ascii_digit}
-use Rattle.std.specs.List.{list_all}
 use Rattle.std.specs.Option.{is_some}
 use Rattle.std.specs.Str.{encode_utf8_all}
+use Rattle.std.proofs.lemmas.Grind.{common_steps}
 use Rattle.unicode_ident.proofs.Computing.{unicode_ident}
 use Rattle.rustc_lexer.specs.declared.lexemes.raw.RawPrefix.{RawPrefix}
 use Rattle.rustc_lexer.specs.declared.lexemes.raw.RawPrefix.TheVariants.{R, Br, Cr}
@@ -17,7 +17,7 @@ use Rattle.rustc_lexer.specs.declared.token.LiteralKind.TheVariants.{Byte, Str, 
 use Rattle.rustc_lexer.specs.declared.token.RawStrError.{RawStrError}
 use Rattle.rustc_lexer.specs.declared.token.TokenKind.{TokenKind}
 use Rattle.rustc_lexer.specs.declared.token.TokenKind.TheVariants.{Literal}
-use Rattle.rustc_lexer.specs.Classes.{is_id_start, is_id_continue, is_ident, begins_ident_after, NextIs, bytes}
+use Rattle.rustc_lexer.specs.Classes.{is_id_start, is_id_continue, begins_ident_after, NextIs, bytes}
 use Rattle.rustc_lexer.specs.means.Ident.{marks_ident}
 use Rattle.rustc_lexer.specs.laws.Choice.{by_test}
 use Rattle.rustc_lexer.specs.laws.Ident.{marks_ident-told}
@@ -34,7 +34,7 @@ use Rattle.rustc_lexer.specs.Language.{IsTokenBefore}
 use Rattle.rustc_lexer.specs.means.Lexeme.{is_raw_mark, word}
 use Rattle.rustc_lexer.specs.means.Literal.{Body, suffix_len, suffixed, literal_past, literal}
 use Rattle.rustc_lexer.specs.means.Number.{with_suffix, number_kind, number_body, number}
-use Rattle.rustc_lexer.specs.NumberGrammar.{IsWhole, plain, with_b, with_o, with_x, IsNumberBefore, of_prefix, of_parts, IsLongestNumber}
+use Rattle.rustc_lexer.specs.NumberGrammar.{IsWhole, IsNumberBefore, of_prefix, of_parts, IsLongestNumber}
 use Rattle.rustc_lexer.specs.means.Quoted.{double_quoted_string, single_quoted_string, quoted_body, str_body, byte_str_body, c_str_body, byte_body}
 use Rattle.rustc_lexer.specs.means.Raw.{raw_read, accepted, is_accepted, raw_body, prefix_kind, prefix_len, raw_literal}
 use Rattle.rustc_lexer.specs.means.Scan.{after, begins, bytes_of, next_is, run_len}
@@ -65,15 +65,7 @@ suffix-sound (c ∷ s) =
     subst (λ (m : ℕ). IsSuffixBefore (drop m (c ∷ s)) (take m (c ∷ s))) more (lit.some (rw e (run_all is_id_continue s)) (run-stops is_id_continue s))) (λ e. lit.none e)
 
 pub suffix-read : {next w : List ℕ} → IsSuffixBefore next w → suffix_len (w ++ next) ≡ length w
-suffix-read {next} (lit.none stop) = rw stop refl
-suffix-read {next} (lit.some {w} is stop) = by_first w is
-  where
-    by_first : (w : List ℕ) → is_ident w ≡ true → suffix_len (w ++ next) ≡ length w
-    by_first [] is = absurd (true≢false (sym is))
-    by_first (c ∷ w) is =
-        let parts = and_parts (is_id_start c) (list_all is_id_continue w) is in
-        let read : suffix_len (c ∷ w ++ next) ≡ 1 + run_len is_id_continue (w ++ next) = rw parts.0 refl in
-        omega (arith, read, run_len-here is_id_continue w next parts.1 stop)
+suffix-read {next} w1 = grind (arith, common_steps, and_parts, run_len-here)
 
 -- ---- a literal and its suffix
 
@@ -99,8 +91,7 @@ literal-sound front p kind true m s e is =
 pub past-read : (front v rest : List ℕ) (p : ℕ) (kind : LiteralKind) (takes : Bool) (body : Body × ℕ) → body ≡ (record { kind = kind; takes_suffix = takes }, length v) → bytes front ≡ p
     → literal_past p body (v ++ rest) ≡ (Literal kind (bytes (front ++ v)), length v + suffixed takes rest)
 past-read front v rest p kind takes body e f =
-    let start : p + bytes_of (length v) (v ++ rest) ≡ bytes (front ++ v) = ap (λ (k : ℕ). k + bytes_of (length v) (v ++ rest)) (sym f) ∙ (ap (λ (w : List ℕ). bytes front + bytes w) (take-append_seam v rest) ∙ sym (bytes-append front v)) in
-    ap (λ (b : Body × ℕ). literal_past p b (v ++ rest)) e ∙ pair _ _ _ _ (ap (Literal kind) start) (ap (λ (u : List ℕ). length v + suffixed takes u) (drop-append_seam v rest))
+    grind (arith, common_steps, take-append_seam, bytes-append, drop-append_seam)
 
 -- a literal up to its suffix is read with the suffix that stands there
 abbrev pub ReadsLiteral : List ℕ → LiteralKind → Bool → List ℕ → Type 0
@@ -138,9 +129,7 @@ pub c_str-sound : (s : List ℕ) → begins (codes "\"") s ≡ true → Sound 99
 c_str-sound = at-letter 99 34 (literal (after 1 c_str_body)) (λ s. lettered-sound 99 34 CStr double_quoted_string s refl (lit.c_str (double-sound s)))
 
 pub str-reads : (next : List ℕ) (t : Bool) (w : List ℕ) → IsDoubleQuoted next t w → ReadsLiteral next (Str t) t (34 ∷ w)
-str-reads next t w q =
-    read-first 34 (literal str_body) (w ++ next) _ _ _ chooses-str
-    (past-read (34 ∷ []) w next 1 (Str t) t (str_body (w ++ next)) (ap (λ (r : Bool × ℕ). let b : Body = record { kind = Str r.0; takes_suffix = r.0 } in (b, r.1)) (double-read q)) (bytes-letter 34 refl)) (omega arith)
+str-reads next t w q = grind (arith, common_steps, read-first, chooses-str, past-read, double-read, bytes-letter)
 
 lettered-reads : (c d : ℕ) (kind : Bool → LiteralKind) (scan : List ℕ → Bool × ℕ) (next : List ℕ) (t : Bool) (w : List ℕ) → is_id_start c ≡ true → len_utf8 c ≡ 1 → word c (d ∷ w ++ next) ≡ literal (after 1 (quoted_body kind scan)) (d ∷ w ++ next) → scan (w ++ next) ≡ (t, length w)
     → ReadsLiteral next (kind t) t (c ∷ d ∷ w)
@@ -196,11 +185,7 @@ guard-mark zero c s e = e
 guard-mark (suc n) c s e = refl
 
 raw-mark : {next : List ℕ} {o : Option ℕ} {w : List ℕ} → IsRaw next o w → NextIs is_raw_mark (w ++ next)
-raw-mark {next} (lit.closed n w le lacks) = subst (λ (s : List ℕ). NextIs is_raw_mark s) (sym (append_assoc (hashes n) (34 ∷ w ++ 34 ∷ hashes n) next)) (guard-mark n 34 _ refl)
-raw-mark {next} (lit.too_many n w le lacks) = subst (λ (s : List ℕ). NextIs is_raw_mark s) (sym (append_assoc (hashes n) (34 ∷ w ++ 34 ∷ hashes n) next)) (guard-mark n 34 _ refl)
-raw-mark {next} (lit.unclosed n w none lacks) = subst (λ (s : List ℕ). NextIs is_raw_mark s) (sym (append_assoc (hashes n) (34 ∷ w) next)) (guard-mark n 34 _ refl)
-raw-mark {next} (lit.no_quote n c out) = refl
-raw-mark {next} (lit.no_more n none) = refl
+raw-mark {next} w1 = grind (arith, common_steps, append_assoc, guard-mark)
 
 whole-marks : (w next : List ℕ) → next ≡ [] → marks_ident (w ++ next) ≡ marks_ident w
 whole-marks w next none = ap (λ (xs : List ℕ). marks_ident (w ++ xs)) none ∙ ap marks_ident (append-nil w)
@@ -214,10 +199,7 @@ raw-marks {next} (lit.no_more n none) = whole-marks (hashes (suc n)) next none
 
 -- the body of a literal, from what is read of it
 raw-body : (kind : Option ℕ → LiteralKind) (next : List ℕ) (o : Option ℕ) (w : List ℕ) → IsRaw next o w → raw_body kind (w ++ next) ≡ (record { kind = kind o; takes_suffix = is_some o }, length w)
-raw-body kind next o w q =
-    let r : Result ℕ RawStrError × ℕ = raw_read 0 (w ++ next) in
-    ap (λ (b : Bool). let body : Body = record { kind = kind (accepted r.0); takes_suffix = b } in (body, r.1)) (accepts r.0)
-    ∙ ap (λ (p : Option ℕ × ℕ). let body : Body = record { kind = kind p.0; takes_suffix = is_some p.0 } in (body, p.1)) (raw-read q)
+raw-body kind next o w q = grind (arith, common_steps, accepts, raw-read)
 
 pub raw_str-reads : (next : List ℕ) (o : Option ℕ) (w : List ℕ) → IsRaw next o w → begins_ident_after (codes "#") w ≡ false → ReadsLiteral next (RawStr o) (is_some o) (114 ∷ w)
 raw_str-reads next o w q free =
@@ -258,10 +240,7 @@ pub record HasDigit (w : List ℕ) : Type 0 where
   pub digit : is_ascii_digit first ≡ true
 
 whole-digit : {base : Base} {empty : Bool} {w : List ℕ} → IsWhole base empty w → HasDigit w
-whole-digit (plain {d} {ds} digit are) = record { first = d; rest = ds; whole = refl; digit = digit }
-whole-digit (with_b {ds} are) = record { first = 48; rest = 98 ∷ ds; whole = refl; digit = refl }
-whole-digit (with_o {ds} are) = record { first = 48; rest = 111 ∷ ds; whole = refl; digit = refl }
-whole-digit (with_x {ds} are) = record { first = 48; rest = 120 ∷ ds; whole = refl; digit = refl }
+whole-digit w0 = grind (arith, common_steps)
 
 number-digit : {next : List ℕ} {kind : LiteralKind} {w : List ℕ} → IsNumberBefore next kind w → HasDigit w
 number-digit (of_prefix whole) = whole-digit whole
@@ -285,9 +264,7 @@ pub longest-digit : (next : List ℕ) (kind : LiteralKind) (w : List ℕ) → Is
 longest-digit next kind w is = subst HasDigit (take-append_seam w next) (number-digit is.stands.is_number)
 
 pub number-reads : (next : List ℕ) (kind : LiteralKind) (w : List ℕ) → IsLongestNumber kind (length w) (w ++ next) → ReadsLiteral next kind true w
-number-reads next kind w is =
-    let d = longest-digit next kind w is in
-    subst (ReadsLiteral next kind true) (sym d.whole) (first-reads next kind d.first d.rest d.digit (subst (λ (u : List ℕ). IsLongestNumber kind (length u) (u ++ next)) d.whole is))
+number-reads next kind w is = grind (arith, common_steps, longest-digit, first-reads)
 
 -- ---- all but characters
 

@@ -1,13 +1,14 @@
 -- Quoted text is in its language, and what is there is read so.
-use Rattle.std.proofs.Common.{◌≡◌, ℕ, zero, suc, ◌+◌, ◌≤◌, ◌==◌, ◌&&◌, ◌||◌, ◌⊎◌, inl, inr, not, Bool, true, false, true≢false, List, [], ◌∷◌, ◌++◌, length, take, drop, codes, refl, sym, ap, ◌∙◌, subst, arith, append_assoc, length-append, Some, None}
+use Rattle.std.proofs.Common.{◌≡◌, ℕ, zero, suc, ◌+◌, ◌≤◌, ◌==◌, ◌&&◌, ◌||◌, ◌⊎◌, inl, inr, not, Bool, true, false, true≢false, List, [], ◌∷◌, ◌++◌, length, take, drop, codes, refl, sym, ap, ◌∙◌, subst, arith, append_assoc, length-append, None}
 use Rattle.std.proofs.lemmas.Bool.{and_parts, eqb-true, or_parts, or_cases}
 use Rattle.std.proofs.lemmas.List.{append-nil}
 use Rattle.std.proofs.Math.Bool.{and-false}
+use Rattle.std.proofs.lemmas.Grind.{common_steps}
 use Rattle.rustc_lexer.specs.Classes.{is_among}
+use Rattle.rustc_lexer.specs.laws.Choice.{by_either}
 use Rattle.rustc_lexer.specs.laws.LanguageRuns.{begins-next, either-way, pair, parted}
 use Rattle.rustc_lexer.specs.LiteralGrammar as lit
 use Rattle.rustc_lexer.specs.LiteralGrammar.{QuotedTo, ends, plain, escape, SingleTo, IsDoubleQuoted, IsSingleQuoted}
-use Rattle.rustc_lexer.specs.means.Least.{one_more}
 use Rattle.rustc_lexer.specs.means.Quoted.{is_backslash, stopped, quoted, at_double_quote, double_quoted_string, at_single_stop, is_lone, single_quoted_string}
 use Rattle.rustc_lexer.specs.means.Scan.{begins}
 use Rattle.rustc_lexer.specs.laws.Seek.{seek, free_place-seek, stopped-more}
@@ -23,15 +24,10 @@ module _ (quote : ℕ) (test : List ℕ → Bool) (special : ℕ → Bool) (at_e
   passed s = ap (λ o. stopped quote o s) (free_place-seek test s)
 
   pass-plain : (c : ℕ) (s : List ℕ) → special c ≡ false → pass (c ∷ s) ≡ ((pass s).0, suc (pass s).1)
-  pass-plain c s e =
-      let found : seek test (c ∷ s) false ≡ one_more (seek test s false) = rw (goes c s e, straight c e) refl in
-      ap (λ o. stopped quote o (c ∷ s)) found ∙ stopped-more quote (seek test s false) c s
+  pass-plain c s e = grind (arith, common_steps, stopped-more)
 
   pass-escape : (c : ℕ) (s : List ℕ) → pass (92 ∷ c ∷ s) ≡ ((pass s).0, suc (suc (pass s).1))
-  pass-escape c s =
-      let found : seek test (92 ∷ c ∷ s) false ≡ one_more (one_more (seek test s false)) = rw (slashed (c ∷ s)) refl in
-      ap (λ o. stopped quote o (92 ∷ c ∷ s)) found
-      ∙ (stopped-more quote (one_more (seek test s false)) 92 (c ∷ s) ∙ ap (λ (r : Bool × ℕ). let q : Bool × ℕ = (r.0, suc r.1) in q) (stopped-more quote (seek test s false) c s))
+  pass-escape c s = grind (arith, common_steps, stopped-more)
 
   pass-slash : pass (92 ∷ []) ≡ (false, 1)
   pass-slash = let found : seek test (92 ∷ []) false ≡ None = rw (slashed []) refl in ap (λ o. stopped quote o (92 ∷ [])) found
@@ -66,7 +62,9 @@ module _ (quote : ℕ) (test : List ℕ → Bool) (special : ℕ → Bool) (at_e
   add-escape c (escaped {s} q e) = escaped (escape q) (passed (92 ∷ c ∷ s) ∙ (pass-escape c s ∙ ap (λ (r : Bool × ℕ). let q : Bool × ℕ = (r.0, suc (suc r.1)) in q) (sym (passed s) ∙ e)))
 
   outcome-next : (ih : List ℕ → Type 0) → ((s : List ℕ) → ih s → Outcome s) → (c : ℕ) (s : List ℕ) → ih s → ((d : ℕ) (u : List ℕ) → s ≡ d ∷ u → ih u) → Outcome (c ∷ s)
-  outcome-next ih have c s here next = by_special (special c) refl
+  outcome-next ih have c s here next = by_either (special c)
+      (λ e. by_slash (is_backslash c) e refl)
+      (λ e. add-plain c e (have s here))
     where
       by_next : (s : List ℕ) → ((d : ℕ) (u : List ℕ) → s ≡ d ∷ u → ih u) → Outcome (92 ∷ s)
       by_next [] next = escaped ends (passed (92 ∷ []) ∙ pass-slash)
@@ -75,10 +73,6 @@ module _ (quote : ℕ) (test : List ℕ → Bool) (special : ℕ → Bool) (at_e
       by_slash : (b : Bool) → special c ≡ true → is_backslash c ≡ b → Outcome (c ∷ s)
       by_slash false sp e = stops [] c s ends sp e (pair _ _ _ _ refl (omega arith))
       by_slash true sp e = subst (λ (x : ℕ). Outcome (x ∷ s)) (sym (eqb-true c 92 e)) (by_next s next)
-
-      by_special : (b : Bool) → special c ≡ b → Outcome (c ∷ s)
-      by_special false e = add-plain c e (have s here)
-      by_special true e = by_slash (is_backslash c) e refl
 
   outcome-in : (fuel : ℕ) (s : List ℕ) → length s ≤ fuel → Outcome s
   outcome-in fuel [] fits = whole ends (passed [] ∙ refl)
@@ -133,11 +127,7 @@ abbrev is_single : ℕ → Bool
 is_single c = is_among (codes "'/\n\\") c
 
 single-goes : (c : ℕ) (s : List ℕ) → is_single c ≡ false → at_single_stop (c ∷ s) ≡ false
-single-goes c s e =
-    let a = or_parts (c == 39) _ e in
-    let b = or_parts (c == 47) _ a.1 in
-    let d = or_parts (c == 10) _ b.1 in
-    rw (a.0, b.0, d.0) refl
+single-goes c s e = grind (arith, common_steps, or_parts)
 
 single-straight : (c : ℕ) → is_single c ≡ false → is_backslash c ≡ false
 single-straight c e = (or_parts (c == 92) false (or_parts (c == 10) _ (or_parts (c == 47) _ (or_parts (c == 39) _ e).1).1).1).0
@@ -154,11 +144,7 @@ to-read = quoted-read 39 at_single_stop is_single refl single-goes single-straig
 
 -- a text that is one character and a quote is read as such
 by-lone : (w next : List ℕ) (t : Bool) → (is_lone (w ++ next) ≡ true → ◌≡◌ {A = Bool × ℕ} (true, 2) (t, length w)) → past_quote (w ++ next) ≡ (t, length w) → single_quoted_string (w ++ next) ≡ (t, length w)
-by-lone w next t lone reads = by_test (is_lone (w ++ next)) refl
-  where
-    by_test : (b : Bool) → is_lone (w ++ next) ≡ b → single_quoted_string (w ++ next) ≡ (t, length w)
-    by_test true e = rw e (lone e)
-    by_test false e = rw e reads
+by-lone w next t lone reads = grind (arith, common_steps)
 
 -- the character that stands there is no quote
 no-quote : (c : ℕ) → is_single c ≡ false → (c == 39) ≡ false
@@ -208,24 +194,14 @@ last-lone (escape q) e = true≢false (sym e)
 
 -- what begins with a slash or a newline, and goes on with no quote
 stop-alone : (d : ℕ) (next : List ℕ) → (d == 39) ≡ false → begins (d ∷ []) next ≡ true → begins (d ∷ 39 ∷ []) next ≡ false → (begins (39 ∷ []) next ≡ false) × (is_lone next ≡ false)
-stop-alone d [] other at none = absurd (true≢false (sym at))
-stop-alone d (c ∷ s) other at none =
-    let same : c ≡ d = eqb-true c d (and_parts (c == d) true at).0 in
-    let second : begins (39 ∷ []) s ≡ false = rw (and_parts (c == d) true at).0 at none in
-    (rw (ap (λ (x : ℕ). x == 39) same ∙ other) refl, rw second (and-false (not (begins (92 ∷ []) (c ∷ s)))))
+stop-alone d w1 other at none = grind (arith, common_steps, eqb-true, and_parts, and-false)
 
 slash-stops : (next : List ℕ) → begins (47 ∷ []) next ≡ true → stopped 39 (seek at_single_stop next false) next ≡ (false, 0)
 slash-stops [] e = absurd (true≢false (sym e))
 slash-stops (c ∷ s) e = let same : c ≡ 47 = eqb-true c 47 (and_parts (c == 47) true e).0 in ap (λ (x : ℕ). stopped 39 (seek at_single_stop (x ∷ s) false) (x ∷ s)) same
 
 newline-stops : (next : List ℕ) → begins (10 ∷ []) next ≡ true → begins (10 ∷ 39 ∷ []) next ≡ false → stopped 39 (seek at_single_stop next false) next ≡ (false, 0)
-newline-stops [] e none = absurd (true≢false (sym e))
-newline-stops (c ∷ s) e none =
-    let same : c ≡ 10 = eqb-true c 10 (and_parts (c == 10) true e).0 in
-    let second : begins (39 ∷ []) s ≡ false = rw (and_parts (c == 10) true e).0 at none in
-    let stop : at_single_stop (10 ∷ s) ≡ true = rw second refl in
-    let found : seek at_single_stop (10 ∷ s) false ≡ Some 0 = rw stop refl in
-    ap (λ (x : ℕ). stopped 39 (seek at_single_stop (x ∷ s) false) (x ∷ s)) same ∙ ap (λ o. stopped 39 o (10 ∷ s)) found
+newline-stops w0 e none = grind (arith, common_steps, eqb-true, and_parts)
 
 pub single-read : {next : List ℕ} {t : Bool} {w : List ℕ} → IsSingleQuoted next t w → single_quoted_string (w ++ next) ≡ (t, length w)
 single-read {next} (lit.one {c} out) = rw out refl
@@ -250,15 +226,12 @@ single-read {next} (lit.unclosed_escape {w} none q) = subst (λ (s : List ℕ). 
 
 -- what is not one character and a quote begins with none
 lone-none : (d : ℕ) (s : List ℕ) → (d == 92) ≡ false → is_lone s ≡ false → begins (d ∷ 39 ∷ []) s ≡ false
-lone-none d [] ne e = refl
-lone-none d (c ∷ s) ne e = by_first (c == d) refl
-  where
-    by_first : (b : Bool) → (c == d) ≡ b → begins (d ∷ 39 ∷ []) (c ∷ s) ≡ false
-    by_first false f = rw f refl
-    by_first true f = let slash : (c == 92) ≡ false = ap (λ (x : ℕ). x == 92) (eqb-true c d f) ∙ ne in let second : begins (39 ∷ []) s ≡ false = rw slash at e in rw (f, second) refl
+lone-none d w1 ne e = grind (arith, common_steps, eqb-true)
 
 pub single-sound : (s : List ℕ) → IsSingleQuoted (drop (single_quoted_string s).1 s) (single_quoted_string s).0 (take (single_quoted_string s).1 s)
-single-sound s = by_lone (is_lone s) refl
+single-sound s = by_either (is_lone s)
+    (λ e. rw e (one_here s e))
+    (λ e. rw e (by_outcome (outcome 39 at_single_stop is_single refl single-goes single-straight single-slashed s) e))
   where
     one_here : (s : List ℕ) → is_lone s ≡ true → IsSingleQuoted (drop 2 s) true (take 2 s)
     one_here [] e = absurd (true≢false (sym e))
@@ -284,7 +257,13 @@ single-sound s = by_lone (is_lone s) refl
         let here : past_quote (x ∷ rest) ≡ (false, 0) = ap (λ (y : ℕ). past_quote (y ∷ rest)) is ∙ to-read {end = []} {w = []} ends (47 ∷ rest) false (slash-stops (47 ∷ rest) refl) in
         parted IsSingleQuoted v (x ∷ rest) (v ++ x ∷ rest) false _ refl (e ∙ (ap (λ (r : Bool × ℕ). let q : Bool × ℕ = (r.0, length v + r.1) in q) here ∙ pair _ _ _ _ refl (omega arith)))
         (lit.at_slash q (rw is refl) (lone-none 47 (v ++ x ∷ rest) refl alone))
-    at_stop v x rest q alone e (inr (inr is)) = by_next (begins (39 ∷ []) rest) refl
+    at_stop v x rest q alone e (inr (inr is)) = by_either (begins (39 ∷ []) rest)
+        (λ f. closes_line rest f e)
+        (λ f.
+        let none : begins (10 ∷ 39 ∷ []) (10 ∷ rest) ≡ false = f in
+        let here : past_quote (x ∷ rest) ≡ (false, 0) = ap (λ (y : ℕ). past_quote (y ∷ rest)) is ∙ to-read {end = []} {w = []} ends (10 ∷ rest) false (newline-stops (10 ∷ rest) refl none) in
+        parted IsSingleQuoted v (x ∷ rest) (v ++ x ∷ rest) false _ refl (e ∙ (ap (λ (r : Bool × ℕ). let q : Bool × ℕ = (r.0, length v + r.1) in q) here ∙ pair _ _ _ _ refl (omega arith)))
+        (lit.at_newline q (rw is refl) (rw is f)))
       where
         closes_line : (rest : List ℕ) → begins (39 ∷ []) rest ≡ true → past_quote (v ++ x ∷ rest) ≡ ((past_quote (x ∷ rest)).0, length v + (past_quote (x ∷ rest)).1)
             → IsSingleQuoted (drop (past_quote (v ++ x ∷ rest)).1 (v ++ x ∷ rest)) (past_quote (v ++ x ∷ rest)).0 (take (past_quote (v ++ x ∷ rest)).1 (v ++ x ∷ rest))
@@ -296,14 +275,6 @@ single-sound s = by_lone (is_lone s) refl
             let text : (v ++ 10 ∷ 39 ∷ []) ++ rest ≡ v ++ x ∷ d ∷ rest = append_assoc v (10 ∷ 39 ∷ []) rest ∙ (ap (λ (y : ℕ). v ++ y ∷ 39 ∷ rest) (sym is) ∙ ap (λ (y : ℕ). v ++ x ∷ y ∷ rest) (sym second)) in
             parted IsSingleQuoted (v ++ 10 ∷ 39 ∷ []) rest (v ++ x ∷ d ∷ rest) true _ text (e ∙ (ap (λ (r : Bool × ℕ). let q : Bool × ℕ = (r.0, length v + r.1) in q) here ∙ ap (λ (n : ℕ). (true, n)) len))
             (lit.closed_line (to-end q (10 ∷ 39 ∷ [])))
-
-        by_next : (b : Bool) → begins (39 ∷ []) rest ≡ b → IsSingleQuoted (drop (past_quote (v ++ x ∷ rest)).1 (v ++ x ∷ rest)) (past_quote (v ++ x ∷ rest)).0 (take (past_quote (v ++ x ∷ rest)).1 (v ++ x ∷ rest))
-        by_next true f = closes_line rest f e
-        by_next false f =
-            let none : begins (10 ∷ 39 ∷ []) (10 ∷ rest) ≡ false = f in
-            let here : past_quote (x ∷ rest) ≡ (false, 0) = ap (λ (y : ℕ). past_quote (y ∷ rest)) is ∙ to-read {end = []} {w = []} ends (10 ∷ rest) false (newline-stops (10 ∷ rest) refl none) in
-            parted IsSingleQuoted v (x ∷ rest) (v ++ x ∷ rest) false _ refl (e ∙ (ap (λ (r : Bool × ℕ). let q : Bool × ℕ = (r.0, length v + r.1) in q) here ∙ pair _ _ _ _ refl (omega arith)))
-            (lit.at_newline q (rw is refl) (rw is f))
 
     which : (x : ℕ) → is_single x ≡ true → is_backslash x ≡ false → (x ≡ 39) ⊎ ((x ≡ 47) ⊎ (x ≡ 10))
     which x sp nb = elim (or_cases (x == 39) _ sp) [ inl a ↦ inl (eqb-true x 39 a) | inr b ↦ inr (rest b) ]
@@ -318,7 +289,3 @@ single-sound s = by_lone (is_lone s) refl
     by_outcome (stops v x rest q sp nb e) alone = at_stop v x rest q alone e (which x sp nb)
     by_outcome (whole {s} q e) alone = parted IsSingleQuoted s [] s false _ (append-nil s) e (lit.unclosed refl q)
     by_outcome (escaped {s} q e) alone = parted IsSingleQuoted s [] s false _ (append-nil s) e (lit.unclosed_escape refl q)
-
-    by_lone : (b : Bool) → is_lone s ≡ b → IsSingleQuoted (drop (single_quoted_string s).1 s) (single_quoted_string s).0 (take (single_quoted_string s).1 s)
-    by_lone true e = rw e (one_here s e)
-    by_lone false e = rw e (by_outcome (outcome 39 at_single_stop is_single refl single-goes single-straight single-slashed s) e)

@@ -1,11 +1,11 @@
 -- Raw strings are in their language, and what is there is read so.
-use Rattle.std.proofs.Common.{◌≡◌, ℕ, zero, suc, ◌+◌, ◌≤◌, ◌<◌, ◌==◌, nat_le, Bool, true, false, true≢false, if◌then◌else◌, List, [], ◌∷◌, ◌++◌, length, get_or, take, drop, codes, refl, sym, ap, ◌∙◌, subst, arith, append_assoc, length-append, Option, Some, None, Result, Err}
+use Rattle.std.proofs.Common.{◌≡◌, ℕ, zero, suc, ◌+◌, ◌≤◌, ◌<◌, ◌==◌, nat_le, Bool, true, false, true≢false, if◌then◌else◌, List, [], ◌∷◌, ◌++◌, length, get_or, take, drop, codes, refl, sym, ap, ◌∙◌, subst, arith, append_assoc, length-append, Option, Some, None}
 use Rattle.std.proofs.Math.Seq.{drop-append_seam}
 use Rattle.std.proofs.lemmas.Bool.{and_parts, eqb-true, or_parts, or_from, leb-true, leb-false, le-leb, lt-leb, false_from_ne_true}
 use Rattle.std.proofs.lemmas.List.{append-nil}
-use Rattle.rustc_lexer.specs.declared.token.RawStrError.{RawStrError}
-use Rattle.rustc_lexer.specs.declared.token.RawStrError.TheVariants.{InvalidStarter}
+use Rattle.std.proofs.lemmas.Grind.{common_steps}
 use Rattle.rustc_lexer.specs.Classes.{is_among, NextIs, NextIsNot}
+use Rattle.rustc_lexer.specs.laws.Choice.{by_either}
 use Rattle.rustc_lexer.specs.laws.LanguageRuns.{either-way, pair, parted, run-stops}
 use Rattle.rustc_lexer.specs.LiteralGrammar as lit
 use Rattle.rustc_lexer.specs.LiteralGrammar.{hashes, NoQuoteWith, IsRaw}
@@ -39,13 +39,11 @@ at_least (suc n) v = omega (arith, at_least n v)
 pub split-hashes : (n : ℕ) (s : List ℕ) → n ≤ hash_run s → s ≡ hashes n ++ drop n s
 split-hashes zero s le = refl
 split-hashes (suc n) [] le = absurd (omega arith)
-split-hashes (suc n) (c ∷ s) le = by_hash (split-hashes n s) (is_hash c) refl
-  where
-    by_hash : (n ≤ hash_run s → s ≡ hashes n ++ drop n s) → (b : Bool) → is_hash c ≡ b → c ∷ s ≡ hashes (suc n) ++ drop n s
-    by_hash ih true e =
-        let more : hash_run (c ∷ s) ≡ suc (hash_run s) = rw e refl in
-        ap (λ (x : ℕ). x ∷ s) (eqb-true c 35 e) ∙ ap (λ (xs : List ℕ). 35 ∷ xs) (ih (omega arith))
-    by_hash ih false e = let none : hash_run (c ∷ s) ≡ 0 = rw e refl in absurd (omega arith)
+split-hashes (suc n) (c ∷ s) le = by_either (is_hash c)
+    (λ e.
+    let more : hash_run (c ∷ s) ≡ suc (hash_run s) = rw e refl in
+    ap (λ (x : ℕ). x ∷ s) (eqb-true c 35 e) ∙ ap (λ (xs : List ℕ). 35 ∷ xs) (split-hashes n s (omega arith)))
+    (λ e. let none : hash_run (c ∷ s) ≡ 0 = rw e refl in absurd (omega arith))
 
 -- and where a quote comes behind them, they stand before that
 pub record GuardBegins (n : ℕ) (w : List ℕ) : Type 0 where
@@ -55,14 +53,12 @@ pub record GuardBegins (n : ℕ) (w : List ℕ) : Type 0 where
 pub before-quote : (n : ℕ) (w z : List ℕ) → n ≤ hash_run (w ++ 34 ∷ z) → GuardBegins n w
 before-quote zero w z le = record { rest = w; whole = refl }
 before-quote (suc n) [] z le = absurd (omega arith)
-before-quote (suc n) (c ∷ w) z le = by_hash (before-quote n w z) (is_hash c) refl
-  where
-    by_hash : (n ≤ hash_run (w ++ 34 ∷ z) → GuardBegins n w) → (b : Bool) → is_hash c ≡ b → GuardBegins (suc n) (c ∷ w)
-    by_hash ih true e =
-        let more : hash_run (c ∷ w ++ 34 ∷ z) ≡ suc (hash_run (w ++ 34 ∷ z)) = rw e refl in
-        let g = ih (omega arith) in
-        record { rest = g.rest; whole = ap (λ (x : ℕ). x ∷ w) (eqb-true c 35 e) ∙ ap (λ (xs : List ℕ). 35 ∷ xs) g.whole }
-    by_hash ih false e = let none : hash_run (c ∷ w ++ 34 ∷ z) ≡ 0 = rw e refl in absurd (omega arith)
+before-quote (suc n) (c ∷ w) z le = by_either (is_hash c)
+    (λ e.
+    let more : hash_run (c ∷ w ++ 34 ∷ z) ≡ suc (hash_run (w ++ 34 ∷ z)) = rw e refl in
+    let g = before-quote n w z (omega arith) in
+    record { rest = g.rest; whole = ap (λ (x : ℕ). x ∷ w) (eqb-true c 35 e) ∙ ap (λ (xs : List ℕ). 35 ∷ xs) g.whole })
+    (λ e. let none : hash_run (c ∷ w ++ 34 ∷ z) ≡ 0 = rw e refl in absurd (omega arith))
 
 -- ---- where a string closes
 
@@ -137,9 +133,7 @@ abbrev starter_seen : ℕ → List ℕ → Option ℕ × ℕ
 starter_seen n v = (accepted (raw_starter 0 n v).0, n + (raw_starter 0 n v).1)
 
 starts : (n : ℕ) (v : List ℕ) → NextIsNot is_hash v → raw_seen (hashes n ++ v) ≡ starter_seen n v
-starts n v stop =
-    let left : drop n (hashes n ++ v) ≡ v = ap (λ (m : ℕ). drop m (hashes n ++ v)) (sym (guard-length n)) ∙ drop-append_seam (hashes n) v in
-    ap (λ (m : ℕ). starter_seen m (drop m (hashes n ++ v))) (guard-hashes n v stop) ∙ ap (starter_seen n) left
+starts n v stop = grind (arith, common_steps, guard-length, drop-append_seam, guard-hashes)
 
 -- past the quote
 abbrev closed_seen : ℕ → List ℕ → Option ℕ → Option ℕ × ℕ
@@ -164,25 +158,13 @@ whole-text n w next = append_assoc (hashes n) (34 ∷ w ++ 34 ∷ hashes n) next
 
 closed-seen : (n : ℕ) (w next : List ℕ) (o : Option ℕ) → NoQuoteWith n w → accepted (hash_count n) ≡ o → raw_seen ((hashes n ++ (34 ∷ w ++ 34 ∷ hashes n)) ++ next) ≡ (o, length (hashes n ++ (34 ∷ w ++ 34 ∷ hashes n)))
 closed-seen n w next o lacks count =
-    ap raw_seen (whole-text n w next)
-    ∙ (starts n (34 ∷ (w ++ (34 ∷ hashes n ++ next))) refl
-    ∙ (quote-seen n (w ++ (34 ∷ hashes n ++ next))
-    ∙ (ap (closed_seen n (w ++ (34 ∷ hashes n ++ next))) (close-read n w next lacks) ∙ pair _ _ _ _ count (whole-length n w))))
+    grind (arith, common_steps, whole-text, starts, quote-seen, close-read, whole-length)
 
 unclosed-seen : (n : ℕ) (w : List ℕ) → NoQuoteWith n w → raw_seen (hashes n ++ 34 ∷ w) ≡ (None, length (hashes n ++ 34 ∷ w))
-unclosed-seen n w lacks =
-    starts n (34 ∷ w) refl
-    ∙ (quote-seen n w
-    ∙ (ap (closed_seen n w) (unclosed-read n w lacks) ∙ pair _ _ _ _ refl (omega (arith, length-append (hashes n) (34 ∷ w), guard-length n))))
+unclosed-seen n w lacks = grind (arith, common_steps, starts, quote-seen, unclosed-read, length-append, guard-length)
 
 no_quote-seen : (n c : ℕ) (next : List ℕ) → is_among (codes "\"#") c ≡ false → raw_seen ((hashes n ++ c ∷ []) ++ next) ≡ (None, length (hashes n ++ c ∷ []))
-no_quote-seen n c next out =
-    let parts = or_parts (c == 34) _ out in
-    let no_hash : is_hash c ≡ false = (or_parts (c == 35) false parts.1).0 in
-    let read : raw_starter 0 n (c ∷ next) ≡ (Err (InvalidStarter c), 1) = rw parts.0 refl in
-    ap raw_seen (append_assoc (hashes n) (c ∷ []) next)
-    ∙ (starts n (c ∷ next) no_hash
-    ∙ (ap (λ (r : Result ℕ RawStrError × ℕ). let q : Seen = (accepted r.0, n + r.1) in q) read ∙ pair _ _ _ _ refl (omega (arith, length-append (hashes n) (c ∷ []), guard-length n))))
+no_quote-seen n c next out = grind (arith, common_steps, or_parts, append_assoc, starts, length-append, guard-length)
 
 no_more-seen : (n : ℕ) → raw_seen (hashes n) ≡ (None, length (hashes n))
 no_more-seen n = ap raw_seen (sym (append-nil (hashes n))) ∙ (starts n [] refl ∙ pair _ _ _ _ refl (omega (arith, guard-length n)))
@@ -210,23 +192,23 @@ pub guarded : (s : List ℕ) → Guarded s
 guarded s = record { count = hash_run s; left = drop (hash_run s) s; whole = sym (split-hashes (hash_run s) s (omega arith)); stops = run-stops is_hash s }
 
 past-quote : (n : ℕ) (u : List ℕ) {o : Option ℕ} → Closing n u o → IsRead (hashes n ++ 34 ∷ u)
-past-quote n u (found w z lacks whole) = by_count (nat_le n 255) refl
+past-quote n u (found w z lacks whole) = by_either (nat_le n 255)
+    (λ e. let le : n ≤ 255 = leb-true n 255 e in parted IsRaw (hashes n ++ (34 ∷ w ++ 34 ∷ hashes n)) z (hashes n ++ 34 ∷ u) (Some n) _ text (seen (Some n) (good n le)) (lit.closed n w le lacks))
+    (λ e. let lt : 255 < n = leb-false n 255 e in parted IsRaw (hashes n ++ (34 ∷ w ++ 34 ∷ hashes n)) z (hashes n ++ 34 ∷ u) None _ text (seen None (bad n lt)) (lit.too_many n w lt lacks))
   where
     text : (hashes n ++ (34 ∷ w ++ 34 ∷ hashes n)) ++ z ≡ hashes n ++ 34 ∷ u
     text = whole-text n w z ∙ ap (λ (xs : List ℕ). hashes n ++ 34 ∷ xs) whole
 
     seen : (o : Option ℕ) → accepted (hash_count n) ≡ o → raw_seen (hashes n ++ 34 ∷ u) ≡ (o, length (hashes n ++ (34 ∷ w ++ 34 ∷ hashes n)))
     seen o e = ap raw_seen (sym text) ∙ closed-seen n w z o lacks e
-
-    by_count : (b : Bool) → nat_le n 255 ≡ b → IsRead (hashes n ++ 34 ∷ u)
-    by_count true e = let le : n ≤ 255 = leb-true n 255 e in parted IsRaw (hashes n ++ (34 ∷ w ++ 34 ∷ hashes n)) z (hashes n ++ 34 ∷ u) (Some n) _ text (seen (Some n) (good n le)) (lit.closed n w le lacks)
-    by_count false e = let lt : 255 < n = leb-false n 255 e in parted IsRaw (hashes n ++ (34 ∷ w ++ 34 ∷ hashes n)) z (hashes n ++ 34 ∷ u) None _ text (seen None (bad n lt)) (lit.too_many n w lt lacks)
 past-quote n u (lost lacks) = parted IsRaw (hashes n ++ 34 ∷ u) [] (hashes n ++ 34 ∷ u) None _ (append-nil (hashes n ++ 34 ∷ u)) (unclosed-seen n u lacks) (lit.unclosed n u refl lacks)
 
 past-guard : (n : ℕ) (v : List ℕ) → NextIsNot is_hash v → NextIs is_raw_mark (hashes n ++ v) → IsRead (hashes n ++ v)
 past-guard zero [] stop mark = absurd (true≢false (sym mark))
 past-guard (suc n) [] stop mark = subst IsRead (sym (append-nil (hashes (suc n)))) (parted IsRaw (hashes (suc n)) [] (hashes (suc n)) None _ (append-nil (hashes (suc n))) (no_more-seen (suc n)) (lit.no_more n refl))
-past-guard n (c ∷ u) stop mark = by_quote (c == 34) refl
+past-guard n (c ∷ u) stop mark = by_either (c == 34)
+    (λ e. subst (λ (x : ℕ). IsRead (hashes n ++ x ∷ u)) (sym (eqb-true c 34 e)) (past-quote n u (closing n u)))
+    (λ e. not_quote n e mark)
   where
     not_quote : (n : ℕ) → (c == 34) ≡ false → NextIs is_raw_mark (hashes n ++ c ∷ u) → IsRead (hashes n ++ c ∷ u)
     not_quote zero e mark = absurd (either-way (is_raw_mark c) mark (or_from (c == 35) _ stop (or_from (c == 34) false e refl)))
@@ -234,10 +216,6 @@ past-guard n (c ∷ u) stop mark = by_quote (c == 34) refl
         let out : is_among (codes "\"#") c ≡ false = or_from (c == 34) _ e (or_from (c == 35) false stop refl) in
         parted IsRaw (hashes (suc n) ++ c ∷ []) u (hashes (suc n) ++ c ∷ u) None _ (append_assoc (hashes (suc n)) (c ∷ []) u)
         (ap raw_seen (sym (append_assoc (hashes (suc n)) (c ∷ []) u)) ∙ no_quote-seen (suc n) c u out) (lit.no_quote n c out)
-
-    by_quote : (b : Bool) → (c == 34) ≡ b → IsRead (hashes n ++ c ∷ u)
-    by_quote true e = subst (λ (x : ℕ). IsRead (hashes n ++ x ∷ u)) (sym (eqb-true c 34 e)) (past-quote n u (closing n u))
-    by_quote false e = not_quote n e mark
 
 pub raw-sound : (s : List ℕ) → NextIs is_raw_mark s → IsRaw (drop (raw_seen s).1 s) (raw_seen s).0 (take (raw_seen s).1 s)
 raw-sound s mark = let g = guarded s in subst IsRead g.whole (past-guard g.count g.left g.stops (subst (λ (xs : List ℕ). NextIs is_raw_mark xs) (sym g.whole) mark))

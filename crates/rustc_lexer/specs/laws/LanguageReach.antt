@@ -1,5 +1,5 @@
 -- How far a token of each kind looks can be read off the conditions of the language on what follows.
-use Rattle.std.proofs.Common.{◌≡◌, ℕ, suc, ◌+◌, ◌-◌, ◌<◌, ◌==◌, ◌&&◌, if◌then◌else◌, get_or, not, Bool, true, false, true≢false, List, [], ◌∷◌, ◌++◌, length, take, drop, codes, refl, sym, ap, ◌∙◌, subst, arith, take-add, Option, Some, None, bytes_eq}
+use Rattle.std.proofs.Common.{◌≡◌, ℕ, suc, ◌+◌, ◌-◌, ◌<◌, ◌==◌, ◌&&◌, if◌then◌else◌, not, Bool, true, false, true≢false, List, [], ◌∷◌, ◌++◌, length, take, drop, codes, refl, sym, ap, ◌∙◌, subst, arith, take-add, Option, Some, None, bytes_eq}
 use lib.Utf8.{encode}
 use Rattle.std.proofs.Math.Seq.{take-append_seam, drop-append_seam}
 use Rattle.std.proofs.lemmas.Bool.{and_parts, or_parts, or_from, eqb-true, not-true}
@@ -8,7 +8,8 @@ use Rattle.std.specs.Char.{is_ascii_digit}
 use Rattle.std.specs.List.{list_all, list_any}
 use Rattle.std.specs.Option.{is_some}
 use Rattle.std.proofs.Math.Bool.{and-false}
-use Rattle.rustc_lexer.specs.Classes.{is_id_start, is_id_continue, is_ident, AreAll, NextIs, NextIsNot, is_word_continue, is_name_start, begins_ident_after}
+use Rattle.std.proofs.lemmas.Grind.{common_steps}
+use Rattle.rustc_lexer.specs.Classes.{is_id_start, is_ident, AreAll, NextIs, NextIsNot, is_word_continue, is_name_start, begins_ident_after}
 use Rattle.unicode_ident.proofs.Computing.{unicode_ident}
 use Rattle.rustc_lexer.specs.declared.token.Base.{Base}
 use Rattle.rustc_lexer.specs.declared.token.Base.TheVariants.{Decimal}
@@ -62,12 +63,7 @@ seam : (k : ℕ) (w s : List ℕ) → take (length w + k) (w ++ s) ≡ w ++ take
 seam k w s = take-add (length w) k (w ++ s) ∙ (ap (λ (x : List ℕ). x ++ take k (drop (length w) (w ++ s))) (take-append_seam w s) ∙ ap (λ (x : List ℕ). w ++ take k x) (drop-append_seam w s))
 
 by_local : (k : ℕ) (next other w : List ℕ) (kind : TokenKind) → IsTokenBefore next kind w → IsLocalAt TokenKind k lexeme (w ++ next) → take k other ≡ take k next → IsTokenBefore other kind w
-by_local k next other w kind p is e =
-    let read : lexeme (w ++ next) ≡ (kind, length w) = token-read p in
-    let agree : take (length w + k) (w ++ other) ≡ take (length w + k) (w ++ next) = seam k w other ∙ (ap (λ (x : List ℕ). w ++ x) e ∙ sym (seam k w next)) in
-    let far : take ((lexeme (w ++ next)).1 + k) (w ++ other) ≡ take ((lexeme (w ++ next)).1 + k) (w ++ next) =
-    subst (λ (m : ℕ). take (m + k) (w ++ other) ≡ take (m + k) (w ++ next)) (sym (ap (λ (r : TokenKind × ℕ). r.1) read)) agree in
-    (language other w kind).1 (is.local (w ++ other) far ∙ read)
+by_local k next other w kind p is e = grind (arith, common_steps, token-read, seam, language)
 
 by_two : (next other w : List ℕ) (kind : TokenKind) → IsTokenBefore next kind w → take 2 other ≡ take 2 next → IsTokenBefore other kind w
 by_two next other w kind p e = by_local 2 next other w kind p (lexeme_local (w ++ next)) e
@@ -113,11 +109,7 @@ exponent-kind (number.signed e g ds) v = (refl, refl)
 exponent-kind (number.unsigned e ds) v = (refl, refl)
 
 tail-kind : {next : List ℕ} {base : Base} {kind : LiteralKind} {w : List ℕ} → IsTailBefore next base kind w → (v : List ℕ) → IsNumberKind kind v
-tail-kind number.nothing v = (refl, refl)
-tail-kind (number.dot e) v = (refl, refl)
-tail-kind (number.of_fraction d ds) v = (refl, refl)
-tail-kind (number.of_exponent e is) v = exponent-kind is v
-tail-kind (number.of_both ds d all is) v = exponent-kind is v
+tail-kind w0 v = grind (arith, common_steps, exponent-kind)
 
 number-kind : {next : List ℕ} {kind : LiteralKind} {w : List ℕ} → IsNumberBefore next kind w → (v : List ℕ) → IsNumberKind kind v
 number-kind (number.of_prefix is) v = (refl, refl)
@@ -141,12 +133,7 @@ double-alike {next} (lit.unclosed_escape none q) other e = lit.unclosed_escape (
 
 -- two quotes that begin a text of which the first character is told
 lone-alike : (w s u : List ℕ) → take 1 u ≡ take 1 s → SingleTo (codes "'") w → begins (codes "''") (w ++ s) ≡ false → begins (codes "''") (w ++ u) ≡ false
-lone-alike [] s u e q f = elim q [ ]
-lone-alike (c ∷ []) [] [] e q f = f
-lone-alike (c ∷ []) [] (d ∷ u) e q f = absurd (let no : 1 ≡ 0 = ap length e in omega (arith, no))
-lone-alike (c ∷ []) (d ∷ s) [] e q f = absurd (let no : 0 ≡ 1 = ap length e in omega (arith, no))
-lone-alike (c ∷ []) (d ∷ s) (x ∷ u) e q f = ap (λ (front : List ℕ). begins (codes "''") (c ∷ front)) e ∙ f
-lone-alike (c ∷ d ∷ w) s u e q f = f
+lone-alike w0 s u e q f = grind (arith, common_steps)
 
 -- past a quote, where one closes the text
 single-alike : {next : List ℕ} {t : Bool} {w : List ℕ} → IsSingleQuoted next t w → t ≡ true → (other : List ℕ) → take 1 other ≡ take 1 next → IsSingleQuoted other t w
@@ -189,10 +176,7 @@ suffix-alike {next} (lit.some is stop) other e = lit.some is (stops _ next other
 
 -- a character behind a quote that one closes, and what follows
 closed-first : {next : List ℕ} {t : Bool} {w : List ℕ} → IsSingleQuoted next t w → t ≡ true → NextIsNot is_name_start w → (s : List ℕ) → NextIsNot is_name_start (w ++ s)
-closed-first (lit.one out) t stop s = stop
-closed-first (lit.closed q f) t stop s = end-stops 39 [] s q stop
-closed-first (lit.closed_line q) t stop s = end-stops 10 (39 ∷ []) s q stop
-closed-first other t stop s = absurd (cc t)
+closed-first other t stop s = grind (arith, common_steps, end-stops)
 
 -- what looks at nothing
 literal-none : {next : List ℕ} {kind : LiteralKind} {takes : Bool} {w : List ℕ} → IsLiteralBefore next kind takes w → (s : List ℕ) → literal_reach kind (w ++ s) ≡ 0 → (takes ≡ false) × ((other : List ℕ) → IsLiteralBefore other kind takes w)
@@ -265,14 +249,8 @@ known-told w c u v mark = rw (
 ) refl
 
 prefixed-alike : (w next other : List ℕ) → is_ident w ≡ true → bytes_eq w (codes "k") ≡ false → NextIs ends_prefix next → take 1 other ≡ take 1 next → begins_prefixed (w ++ next) ≡ false → begins_prefixed (w ++ other) ≡ false
-prefixed-alike [] next other is only go e free = absurd (true≢false (sym is))
-prefixed-alike (x ∷ w) [] other is only go e free = absurd (true≢false (sym go))
-prefixed-alike (x ∷ w) (c ∷ u) [] is only go e free = absurd (let no : 0 ≡ 1 = ap length e in omega (arith, no))
-prefixed-alike (x ∷ w) (c ∷ u) (d ∷ v) is only go e free =
-    let same : d ≡ c = ap (λ (s : List ℕ). get_or s 0 0) e in
-    let known : list_any (λ prefix. begins prefix (x ∷ w ++ c ∷ v)) known_prefixes ≡ false = known-told (x ∷ w) c u v go ∙ (or_parts (list_any (λ prefix. begins prefix (x ∷ w ++ c ∷ u)) known_prefixes) _ free).0 in
-    let all : AreAll is_word_continue w = continue-word w (and_parts (is_id_start x) (list_all is_id_continue w) is).1 in
-    subst (λ (y : ℕ). begins_prefixed (x ∷ w ++ y ∷ v) ≡ false) (sym same) (or_from _ _ known (no-hash 107 x w (c ∷ v) all only))
+prefixed-alike w0 next other is only go e free =
+    grind (arith, common_steps, same, known-told, or_parts, continue-word, and_parts, or_from, no-hash)
 
 -- by whether a prefix is the one that looks further
 by_only : {A : Type 0} (b : Bool) (other next : List ℕ) → take (if b then 2 else 1) other ≡ take (if b then 2 else 1) next → (b ≡ true → take 2 other ≡ take 2 next → A) → (b ≡ false → take 1 other ≡ take 1 next → A) → A
@@ -363,14 +341,7 @@ looks_no_further next other w kind p e = token-alike p other e
 
 -- by what is read before one and before the other
 needs : (kind : TokenKind) (w next other : List ℕ) (n : ℕ) → 0 < reach kind w → lexeme (w ++ next) ≡ (kind, length w) → take (reach kind w - 1) other ≡ take (reach kind w - 1) next → (lexeme (w ++ other)).1 ≡ n → length w < n → Needs kind w
-needs kind w next other n some read alike longer lt = record {
-  next = next;
-  other = other;
-  some = some;
-  stands = (language next w kind).1 read;
-  alike = alike;
-  fails = λ p. let same : (lexeme (w ++ other)).1 ≡ length w = ap (λ (r : TokenKind × ℕ). r.1) ((language other w kind).0 p) in absurd (omega (arith, same, longer, lt));
-}
+needs kind w next other n some read alike longer lt = grind (arith, common_steps, language, same)
 
 pub none_looks_less : NoneLooksLess
 unfolding unicode_ident is_emoji emoji_ranges past_first encode number_kind fraction

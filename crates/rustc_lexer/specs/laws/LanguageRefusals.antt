@@ -5,6 +5,7 @@ use Rattle.std.proofs.Math.Seq.{take-append_seam, drop-append_seam}
 use Rattle.std.proofs.lemmas.Bool.{eqb-true, or_parts, or_from, leb-true, leb-false, le-leb, lt-leb, false_from_ne_true, eq-eqb}
 use Rattle.std.proofs.lemmas.List.{append-nil}
 use Rattle.std.specs.Str.{chars}
+use Rattle.std.proofs.lemmas.Grind.{common_steps}
 use Rattle.rustc_lexer.specs.declared.token.RawStrError.{RawStrError}
 use Rattle.rustc_lexer.specs.declared.token.RawStrError.TheVariants.{InvalidStarter, NoTerminator, TooManyDelimiters}
 use Rattle.rustc_lexer.specs.LiteralGrammar as lit
@@ -15,6 +16,7 @@ use Rattle.rustc_lexer.specs.means.Least.{one_more}
 use Rattle.rustc_lexer.specs.means.Raw.{is_hash, hash_run, close, most_hashes, quote_hashes, quote_with, best_quote, quote_if, quote_end, hash_count, raw_closed, raw_starter, raw_read, checked, raw_check}
 use Rattle.rustc_lexer.specs.means.Scan.{bytes_of}
 use Rattle.rustc_lexer.specs.Classes.{NextIsNot, bytes}
+use Rattle.rustc_lexer.specs.laws.Choice.{by_either}
 use Rattle.rustc_lexer.specs.laws.LanguageLiterals.{bytes-append, bytes-one}
 use Rattle.rustc_lexer.specs.laws.LanguageRaw.{guard-length, guard-hashes, at_least, split-hashes, before-quote, lacks-rest, lacks-front, close-read, unclosed-read, Closing, found, lost, closing, guarded, whole-text}
 
@@ -28,14 +30,12 @@ few-here m c w lacks = by_quote (c == 34) refl
   where
     by_quote : (b : Bool) → (c == 34) ≡ b → quote_hashes (c ∷ w) ≤ m
     by_quote false e = let none = at-other c w e in omega arith
-    by_quote true e = by_count (nat_le (suc m) (hash_run w)) refl
+    by_quote true e = by_either (nat_le (suc m) (hash_run w))
+        (λ f. absurd (lacks-front (suc m) c w lacks record { rest = drop (suc m) w; whole = split-hashes (suc m) w (leb-true (suc m) (hash_run w) f) } (eqb-true c 34 e)))
+        (λ f. let lt : hash_run w < suc m = leb-false (suc m) (hash_run w) f in omega (arith, same))
       where
         same : quote_hashes (c ∷ w) ≡ hash_run w
         same = ap (λ (x : ℕ). quote_hashes (x ∷ w)) (eqb-true c 34 e)
-
-        by_count : (b : Bool) → nat_le (suc m) (hash_run w) ≡ b → quote_hashes (c ∷ w) ≤ m
-        by_count true f = absurd (lacks-front (suc m) c w lacks record { rest = drop (suc m) w; whole = split-hashes (suc m) w (leb-true (suc m) (hash_run w) f) } (eqb-true c 34 e))
-        by_count false f = let lt : hash_run w < suc m = leb-false (suc m) (hash_run w) f in omega (arith, same)
 
 most-few : (m : ℕ) (w : List ℕ) → NoQuoteWith (suc m) w → most_hashes w ≤ m
 most-few m [] lacks = omega arith
@@ -128,9 +128,7 @@ has-best p front w = by_most (most_hashes w) refl
 -- ---- the answer
 
 starts : (p n : ℕ) (v : List ℕ) → NextIsNot is_hash v → checked (raw_read p (hashes n ++ v)).0 ≡ checked (raw_starter p n v).0
-starts p n v stop =
-    let left : drop n (hashes n ++ v) ≡ v = ap (λ (m : ℕ). drop m (hashes n ++ v)) (sym (guard-length n)) ∙ drop-append_seam (hashes n) v in
-    ap (λ (m : ℕ). checked (raw_starter p m (drop m (hashes n ++ v))).0) (guard-hashes n v stop) ∙ ap (λ (x : List ℕ). checked (raw_starter p n x).0) left
+starts p n v stop = grind (arith, common_steps, guard-length, drop-append_seam, guard-hashes)
 
 past-quote : (p n : ℕ) (u : List ℕ) → checked (raw_read p (hashes n ++ 34 ∷ u)).0 ≡ checked (raw_closed n (p + suc n) u (close n u)).0
 past-quote p n u = starts p n (34 ∷ u) refl
@@ -165,20 +163,16 @@ has-answer : (p : ℕ) (s : List ℕ) → HasAnswer p s
 has-answer p s = let g = guarded s in subst (HasAnswer p) g.whole (by_left g.count g.left g.stops)
   where
     closed : (n : ℕ) (u : List ℕ) {o : Option ℕ} → Closing n u o → HasAnswer p (hashes n ++ 34 ∷ u)
-    closed n u (found w z lacks whole) = subst (λ (x : List ℕ). HasAnswer p (hashes n ++ 34 ∷ x)) whole (by_count (nat_le n 255) refl)
-      where
-        by_count : (b : Bool) → nat_le n 255 ≡ b → HasAnswer p (hashes n ++ (34 ∷ w ++ (34 ∷ hashes n ++ z)))
-        by_count true e = record { answer = Ok tt; is = subst (λ (x : List ℕ). IsRawAnswer p x (Ok tt)) (whole-text n w z) (the.good (lit.closed n w (leb-true n 255 e) lacks)) }
-        by_count false e = record { answer = Err (TooManyDelimiters n); is = the.too_many n w z (leb-false n 255 e) lacks }
+    closed n u (found w z lacks whole) = subst (λ (x : List ℕ). HasAnswer p (hashes n ++ 34 ∷ x)) whole (by_either (nat_le n 255)
+        (λ e. record { answer = Ok tt; is = subst (λ (x : List ℕ). IsRawAnswer p x (Ok tt)) (whole-text n w z) (the.good (lit.closed n w (leb-true n 255 e) lacks)) })
+        (λ e. record { answer = Err (TooManyDelimiters n); is = the.too_many n w z (leb-false n 255 e) lacks }))
     closed n u (lost lacks) = let b = has-best p (hashes n ++ 34 ∷ []) u in record { answer = Err (NoTerminator n b.count b.end); is = the.unclosed n u lacks b.is }
 
     by_left : (n : ℕ) (v : List ℕ) → NextIsNot is_hash v → HasAnswer p (hashes n ++ v)
     by_left n [] stop = record { answer = Err (InvalidStarter 0); is = subst (λ (x : List ℕ). IsRawAnswer p x (Err (InvalidStarter 0))) (sym (append-nil (hashes n))) (the.no_more n) }
-    by_left n (c ∷ u) stop = by_quote (c == 34) refl
-      where
-        by_quote : (b : Bool) → (c == 34) ≡ b → HasAnswer p (hashes n ++ c ∷ u)
-        by_quote true e = subst (λ (x : ℕ). HasAnswer p (hashes n ++ x ∷ u)) (sym (eqb-true c 34 e)) (closed n u (closing n u))
-        by_quote false e = record { answer = Err (InvalidStarter c); is = the.no_quote n c u (or_from (c == 34) _ e (or_from (c == 35) false stop refl)) }
+    by_left n (c ∷ u) stop = by_either (c == 34)
+        (λ e. subst (λ (x : ℕ). HasAnswer p (hashes n ++ x ∷ u)) (sym (eqb-true c 34 e)) (closed n u (closing n u)))
+        (λ e. record { answer = Err (InvalidStarter c); is = the.no_quote n c u (or_from (c == 34) _ e (or_from (c == 35) false stop refl)) })
 
 -- this one and no other
 pub raw-answer : (text : List ℕ) (p : ℕ) (result : Result Unit RawStrError) → result ≡ raw_check text p → (other : Result Unit RawStrError) → IsRawAnswer p (drop p (chars text)) other ↔ (other ≡ result)

@@ -4,11 +4,12 @@ use Rattle.std.proofs.Math.Seq.{take-append_seam, drop-append_seam}
 use Rattle.std.proofs.lemmas.Bool.{agree_below_at, and_parts, eqb-true, leb-true, ne_eqb, or_cases, or_parts, or_left, or_right, not-true, false_from_ne_true}
 use Rattle.std.specs.Char.{is_ascii_digit}
 use Rattle.std.specs.List.{list_all}
+use Rattle.std.proofs.lemmas.Grind.{common_steps}
 use Rattle.unicode_ident.proofs.Computing.{unicode_ident}
 use Rattle.rustc_lexer.specs.declared.lexemes.family.Family.{Family}
 use Rattle.rustc_lexer.specs.declared.lexemes.family.Family.TheVariants.{Slash, Space, Word, Number, Quote, Str, Emoji, Hash, Symbol}
 use Rattle.rustc_lexer.specs.declared.token.TokenKind.{TokenKind}
-use Rattle.rustc_lexer.specs.Classes.{is_among, is_whitespace, is_id_start, is_word_continue, is_word_start, is_name_start, AreAll, NextIs, NextIsNot}
+use Rattle.rustc_lexer.specs.Classes.{is_among, is_whitespace, is_id_start, is_word_continue, is_word_start, AreAll, NextIs, NextIsNot}
 use Rattle.rustc_lexer.specs.Tables.{is_emoji, emoji_ranges}
 use Rattle.rustc_lexer.specs.laws.Choice.{by_test}
 use Rattle.rustc_lexer.specs.laws.Reach.{IsToldBy, told_same, run_len-in, run_len-out}
@@ -103,8 +104,7 @@ chooses-space c e = chooses c Space (rw (other_than is_whitespace 47 c refl e, e
 
 pub chooses-word : (c : ℕ) → is_id_start c ≡ true → past_first c ≡ read_by Word c
 chooses-word c e =
-    let w : is_word_start c ≡ true = start-word_start c e in
-    chooses c Word (rw (other_than is_word_start 47 c slash-no_start w, word_start-no_space c w, e) refl)
+    grind (arith, common_steps, start-word_start, chooses, other_than, slash-no_start, word_start-no_space)
 
 pub chooses-number : (c : ℕ) → is_ascii_digit c ≡ true → past_first c ≡ read_by Number c
 chooses-number c e =
@@ -142,16 +142,7 @@ chooses-emoji c f e =
     chooses c Emoji (rw (other_than is_word_start 47 c slash-no_start w, word_start-no_space c w, f, word_start-no_digit c w, o.0, n.0, e) refl)
 
 pub chooses-symbol : (c : ℕ) → has_rule c ≡ false → past_first c ≡ read_by Symbol c
-chooses-symbol c e =
-    let a = or_parts (is_whitespace c || is_name_start c) _ e in
-    let b = or_parts (is_whitespace c) _ a.0 in
-    let d = or_parts (is_id_start c || is_ascii_digit c) _ b.1 in
-    let f = or_parts (is_id_start c) _ d.0 in
-    let s = or_parts (c == 47) _ a.1 in
-    let q = or_parts (c == 39) _ s.1 in
-    let r = or_parts (c == 34) _ q.1 in
-    let h = or_parts (c == 35) _ r.1 in
-    chooses c Symbol (rw (s.0, b.0, f.0, f.1, q.0, r.0, d.1, h.0) refl)
+chooses-symbol c e = grind (arith, common_steps, or_parts, chooses)
 
 -- what holds of each family, at each character that chooses it
 pub record EachChosen (P : ℕ → (List ℕ → TokenKind × ℕ) → Type 0) : Type 0 where
@@ -199,31 +190,19 @@ pub pair : {A : Type 0} (a b : A) (m n : ℕ) → a ≡ b → m ≡ n → ◌≡
 pair {A} a b m n e f = ap (λ (x : A). let r : A × ℕ = (x, m) in r) e ∙ ap (λ (k : ℕ). let r : A × ℕ = (b, k) in r) f
 
 pub read-first : (c : ℕ) (scan : List ℕ → TokenKind × ℕ) (s : List ℕ) (kind : TokenKind) (n m : ℕ) → past_first c ≡ scan → scan s ≡ (kind, n) → suc n ≡ m → Read kind m (c ∷ s)
-read-first c scan s kind n m e f g =
-    ap (λ (scan : List ℕ → TokenKind × ℕ). let r : TokenKind × ℕ = ((scan s).0, suc (scan s).1) in r) e
-    ∙ (ap (λ (r : TokenKind × ℕ). let q : TokenKind × ℕ = (r.0, suc r.1) in q) f ∙ ap (λ (k : ℕ). let r : TokenKind × ℕ = (kind, k) in r) g)
+read-first c scan s kind n m e f g = grind (arith, common_steps)
 
 -- past one character more
 pub sound-after : (c d : ℕ) (s : List ℕ) (scan : List ℕ → TokenKind × ℕ) → IsTokenBefore (drop (scan s).1 s) (scan s).0 (c ∷ d ∷ take (scan s).1 s) → Sound c (d ∷ s) (after 1 scan (d ∷ s))
-sound-after c d s scan is =
-    let more : suc (scan s).1 ≡ 1 + (scan s).1 = omega arith in
-    subst (λ (n : ℕ). IsTokenBefore (drop n (d ∷ s)) (scan s).0 (c ∷ take n (d ∷ s))) more is
+sound-after c d s scan is = grind (arith, common_steps)
 
 -- what is told by the first characters is told by a front that has them
 pub told-front : {B : Type 0} (j : ℕ) (f : List ℕ → B) → IsToldBy j f → (w next : List ℕ) → j ≤ length w → f (w ++ next) ≡ f w
 told-front j f told w next le = told_same j (length w) f (w ++ next) w told le (take-append_seam w next ∙ sym (take_all (length w) w (omega arith)))
 
 pub begins-next : (d : ℕ) (s : List ℕ) → begins (d ∷ []) s ≡ next_is (is_among (d ∷ [])) s
-begins-next d [] = refl
-begins-next d (c ∷ s) = by_bool (c == d)
-  where
-    by_bool : (b : Bool) → (b && true) ≡ (b || false)
-    by_bool true = refl
-    by_bool false = refl
+begins-next d w1 = grind (arith, common_steps)
 
 -- what is read, of a text in two parts
 pub parted : {A : Type 0} (Is : List ℕ → A → List ℕ → Type 0) (v next s : List ℕ) (a : A) (r : A × ℕ) → v ++ next ≡ s → r ≡ (a, length v) → Is next a v → Is (drop r.1 s) r.0 (take r.1 s)
-parted {A} Is v next s a r e f is =
-    subst (λ (q : A × ℕ). Is (drop q.1 s) q.0 (take q.1 s)) (sym f)
-    (subst (λ (u : List ℕ). Is (drop (length v) u) a (take (length v) u)) e
-    (subst (λ (w : List ℕ). Is (drop (length v) (v ++ next)) a w) (sym (take-append_seam v next)) (subst (λ (u : List ℕ). Is u a v) (sym (drop-append_seam v next)) is)))
+parted {A} w1 v next s a r e f is = grind (arith, common_steps, take-append_seam, drop-append_seam)

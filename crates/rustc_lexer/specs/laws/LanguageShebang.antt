@@ -8,6 +8,7 @@ use Rattle.std.specs.List.{list_all, prefix_len}
 use Rattle.std.specs.Str.{chars, IsUtf8}
 use Rattle.std.proofs.Math.Seq.{drop-append_seam}
 use Rattle.std.proofs.Math.Bool.{and-false}
+use Rattle.std.proofs.lemmas.Grind.{common_steps}
 use Rattle.unicode_ident.proofs.Computing.{unicode_ident}
 use Rattle.rustc_lexer.specs.declared.token.Token.{Token}
 use Rattle.rustc_lexer.specs.declared.token.TokenKind.{TokenKind}
@@ -23,7 +24,7 @@ use Rattle.rustc_lexer.specs.means.Lexeme.{past_first, first_token, symbols, kin
 use Rattle.rustc_lexer.specs.means.Scan.{begins}
 use Rattle.rustc_lexer.specs.means.Shebang.{is_passed, is_open_bracket, is_attribute, before_newline, line_len, shebang_past, shebang}
 use Rattle.rustc_lexer.specs.Classes.{AreAll, is_inline, IsText}
-use Rattle.rustc_lexer.specs.laws.Choice.{by_test}
+use Rattle.rustc_lexer.specs.laws.Choice.{by_either, by_test}
 use Rattle.rustc_lexer.specs.laws.Language.{lexeme-sound}
 use Rattle.rustc_lexer.specs.laws.Lookahead.{first_token_grammar}
 use Rattle.rustc_lexer.specs.laws.Cuts.{past_first as text_past, shorter, tokens-nil, tokens-cons}
@@ -31,11 +32,7 @@ use Rattle.rustc_lexer.specs.laws.LanguageFront.{empty-text, split, first-is}
 
 -- what begins with `#!`
 pub front-is : (s : List ℕ) → begins (codes "#!") s ≡ true → s ≡ 35 ∷ 33 ∷ drop 2 s
-front-is [] e = absurd (true≢false (sym e))
-front-is (c ∷ []) e = absurd (true≢false (sym (and_parts (c == 35) false e).1))
-front-is (c ∷ d ∷ s) e =
-    let parts = and_parts (c == 35) ((d == 33) && true) e in
-    ap (λ (x : ℕ). x ∷ d ∷ s) (eqb-true c 35 parts.0) ∙ ap (λ (x : ℕ). 35 ∷ x ∷ s) (eqb-true d 33 (and_parts (d == 33) true parts.1).0)
+front-is w0 e = grind (arith, common_steps, and_parts, eqb-true)
 
 -- ---- an attribute
 
@@ -139,9 +136,7 @@ prefix-return [] (c ∷ next) all e =
 prefix-return (c ∷ w) next all e = let parts = and_parts (is_inline c) (list_all is_inline w) all in rw parts.0 (more (prefix_len is_no_newline (w ++ next)) ∙ ap suc (prefix-return w next parts.1 e))
 
 pub short : (s : List ℕ) → length s ≤ 1 → begins (codes "\r\n") s ≡ false
-short [] le = refl
-short (c ∷ []) le = and-false (c == 13)
-short (c ∷ d ∷ s) le = absurd (omega arith)
+short w0 le = grind (arith, common_steps, and-false)
 
 less : (k : ℕ) → suc k - 1 ≡ k
 less k = omega arith
@@ -153,11 +148,9 @@ one_less c d w s = ap (λ (k : ℕ). begins (codes "\r\n") (drop k (c ∷ d ∷ 
 no_return-before : (w next : List ℕ) → begins (codes "\n") next ≡ true → ((u : List ℕ) → w ≡ u ++ 13 ∷ [] → ⊥) → begins (codes "\r\n") (drop (length w - 1) (w ++ next)) ≡ false
 no_return-before [] [] e free = refl
 no_return-before [] (c ∷ next) e free = ap (λ (x : ℕ). begins (codes "\r\n") (x ∷ next)) (eqb-true c 10 (and_parts (c == 10) true e).0)
-no_return-before (c ∷ []) next e free = by_return (c == 13) refl
-  where
-    by_return : (b : Bool) → (c == 13) ≡ b → (c == 13) && begins (codes "\n") next ≡ false
-    by_return true f = absurd (free [] (ap (λ (x : ℕ). x ∷ []) (eqb-true c 13 f)))
-    by_return false f = rw f refl
+no_return-before (c ∷ []) next e free = by_either (c == 13)
+    (λ f. absurd (free [] (ap (λ (x : ℕ). x ∷ []) (eqb-true c 13 f))))
+    (λ f. rw f refl)
 no_return-before (c ∷ d ∷ w) next e free = one_less c d w (w ++ next) ∙ no_return-before (d ∷ w) next e (λ u f. free (c ∷ u) (ap (λ (x : List ℕ). c ∷ x) f))
 
 line-read : {next w : List ℕ} → IsLineBefore next w → line_len (w ++ next) ≡ length w
@@ -243,24 +236,20 @@ record HasShebang (text : List ℕ) : Type 0 where
   is : IsShebang text answer
 
 has-shebang : (text : List ℕ) → IsText text → HasShebang text
-has-shebang text is = by_mark (begins (codes "#!") text) refl
+has-shebang text is = by_either (begins (codes "#!") text)
+    (λ e. past (drop 2 text) (front-is text e))
+    (λ e. record { answer = None; is = the.no_start e })
   where
     past : (rest : List ℕ) → text ≡ 35 ∷ 33 ∷ rest → HasShebang text
-    past rest e = by_attribute (is_attribute (ts rest)) refl
-      where
-        by_attribute : (b : Bool) → is_attribute (ts rest) ≡ b → HasShebang text
-        by_attribute true f = record { answer = None; is = the.attribute rest e (attribute-is (length rest) rest (chars rest) (tail-text text rest is e) refl (omega arith) f) }
-        by_attribute false f =
-            let l = has-line rest in
-            let whole : text ≡ 35 ∷ 33 ∷ (l.w ++ l.next) = e ∙ ap (λ (x : List ℕ). 35 ∷ 33 ∷ x) (sym l.whole) in
-            record {
-              answer = _;
-              is = the.shebang l.w l.next whole (λ a. true≢false (sym (attribute-read a (l.w ++ l.next) (tail-text text (l.w ++ l.next) is whole) refl) ∙ (ap (λ (x : List ℕ). is_attribute (ts x)) l.whole ∙ f))) l.is;
-            }
-
-    by_mark : (b : Bool) → begins (codes "#!") text ≡ b → HasShebang text
-    by_mark true e = past (drop 2 text) (front-is text e)
-    by_mark false e = record { answer = None; is = the.no_start e }
+    past rest e = by_either (is_attribute (ts rest))
+        (λ f. record { answer = None; is = the.attribute rest e (attribute-is (length rest) rest (chars rest) (tail-text text rest is e) refl (omega arith) f) })
+        (λ f.
+        let l = has-line rest in
+        let whole : text ≡ 35 ∷ 33 ∷ (l.w ++ l.next) = e ∙ ap (λ (x : List ℕ). 35 ∷ 33 ∷ x) (sym l.whole) in
+        record {
+          answer = _;
+          is = the.shebang l.w l.next whole (λ a. true≢false (sym (attribute-read a (l.w ++ l.next) (tail-text text (l.w ++ l.next) is whole) refl) ∙ (ap (λ (x : List ℕ). is_attribute (ts x)) l.whole ∙ f))) l.is;
+        })
 
 -- this one and no other
 pub shebang-answer : (text : List ℕ) (answer : Option ℕ) → IsText text → answer ≡ shebang text → (other : Option ℕ) → IsShebang text other ↔ (other ≡ answer)

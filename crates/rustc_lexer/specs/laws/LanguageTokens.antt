@@ -1,8 +1,9 @@
 -- The tokens of a text are those that the language allows, and no other list of tokens is.
-use Rattle.std.proofs.Common.{◌≡◌, ◌↔◌, ℕ, ◌+◌, ◌<◌, ◌≤◌, ◌==◌, ◌||◌, not, codes, append_assoc, drop-drop, Bool, true, false, List, [], ◌∷◌, ◌++◌, length, take, drop, refl, sym, ap, ◌∙◌, subst, arith, length-append, length-take-le, take-append-drop}
+use Rattle.std.proofs.Common.{◌≡◌, ◌↔◌, ℕ, ◌+◌, ◌<◌, ◌≤◌, not, codes, append_assoc, drop-drop, Bool, true, false, List, [], ◌∷◌, ◌++◌, length, take, drop, refl, sym, ap, ◌∙◌, subst, arith, length-append, length-take-le, take-append-drop}
 use Rattle.std.proofs.Math.Seq.{take-append_seam, drop-append_seam}
 use Rattle.std.proofs.lemmas.Str.{chars-append, chars-nil, IsUtf8-take, IsUtf8-drop, IsCharBoundary-from_take, encodes-chars}
 use Rattle.std.specs.Str.{chars, encode_utf8_all, IsUtf8}
+use Rattle.std.proofs.lemmas.Grind.{common_steps}
 use Rattle.rustc_lexer.specs.declared.edition.Edition.{Edition}
 use Rattle.rustc_lexer.specs.declared.token.Token.{Token}
 use Rattle.rustc_lexer.specs.declared.token.TokenKind.{TokenKind}
@@ -40,12 +41,7 @@ opening-some : {next w : List ℕ} {n : ℕ} → IsOpeningBefore next n w → 1 
 opening-some (opening n space label spaces no_line many is stop) = omega (arith, length-append space (fence n ++ label), length-append (fence n) label, fence-length n)
 
 newline-same : (s : List ℕ) → next_is is_newline s ≡ next_is (is_among (codes "\n")) s
-newline-same [] = refl
-newline-same (c ∷ s) = by_bool (c == 10)
-  where
-    by_bool : (b : Bool) → b ≡ (b || false)
-    by_bool true = refl
-    by_bool false = refl
+newline-same w0 = grind (arith, common_steps)
 
 -- the frontmatter of a text that begins with an opening
 frontmatter-is : (text : List ℕ) (n : ℕ) (front rest : List ℕ) → IsText text → chars text ≡ front ++ rest → IsOpeningBefore rest n front
@@ -144,12 +140,7 @@ frontmatter-first edition text is some opened_here rest_are = put (opened (chars
         (subst (λ (t : Token). AreTokens (document edition) (o.front ++ (body ++ next)) (t ∷ tokens)) (sym same) (frontmatter_first body is_opening (subst (EndsAt n (encode_utf8_all (body ++ next))) (sym len) (ends-are n (encode_utf8_all (body ++ next)) (opening-dashes is_opening))) rest_is))
 
 puts : (mode : Mode) (text : List ℕ) → IsText text → 0 < length text → Puts mode text (token_at mode text)
-puts (part edition) text is some = lexeme-first (part edition) text is some (λ y. absurd (cc))
-puts (document edition) text is some = by_opening (opens (chars text)) refl
-  where
-    by_opening : (b : Bool) → opens (chars text) ≡ b → Puts (document edition) text (token_at (document edition) text)
-    by_opening true e = subst (Puts (document edition) text) (sym (at-frontmatter edition text e)) (frontmatter-first edition text is some e)
-    by_opening false e = lexeme-first (document edition) text is some (λ y. e)
+puts w0 text is some = grind (arith, common_steps, lexeme-first, at-frontmatter, frontmatter-first)
 
 abbrev pub AreOf : List ℕ → Mode → Type 0
 AreOf text mode = AreTokens mode (chars text) (tokens_of mode text)

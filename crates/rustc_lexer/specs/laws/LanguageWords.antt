@@ -1,19 +1,21 @@
 -- Words are in their languages, and what is there is read so.
-use Rattle.std.proofs.Common.{◌≡◌, ℕ, suc, ◌+◌, ◌==◌, ◌&&◌, Bool, true, false, true≢false, if◌then◌else◌, List, [], ◌∷◌, ◌++◌, length, take, drop, codes, refl, sym, ap, ◌∙◌, subst, arith, take-append-drop}
+use Rattle.std.proofs.Common.{◌≡◌, ℕ, suc, ◌+◌, ◌==◌, ◌&&◌, Bool, true, false, true≢false, if◌then◌else◌, List, [], ◌∷◌, ◌++◌, length, take, drop, codes, refl, sym, ap, ◌∙◌, arith, take-append-drop}
 use Rattle.std.proofs.Math.Seq.{take-append_seam, drop-append_seam}
 use Rattle.std.proofs.lemmas.Bool.{and_parts, eqb-true, or_parts, or_from, false_from_ne_true}
-use Rattle.std.specs.List.{list_all, list_any}
+use Rattle.std.specs.List.{list_all}
+use Rattle.std.proofs.lemmas.Grind.{common_steps}
 use Rattle.unicode_ident.proofs.Computing.{unicode_ident}
 use Rattle.rustc_lexer.specs.declared.token.TokenKind.{TokenKind}
 use Rattle.rustc_lexer.specs.declared.token.TokenKind.TheVariants.{Ident, InvalidIdent, RawIdent, ForcedKeywordIdent, UnknownPrefix}
 use Rattle.rustc_lexer.specs.Classes.{is_id_start, is_id_continue, is_ident, is_word_continue, is_word_start, begins_ident_after, AreAll, NextIs, NextIsNot}
 use Rattle.rustc_lexer.specs.Tables.{is_emoji, emoji_ranges}
 use Rattle.rustc_lexer.specs.means.Ident.{ident_kind, ident_or_unknown_prefix, invalid_ident, marks_ident, marked}
+use Rattle.rustc_lexer.specs.laws.Choice.{by_either}
 use Rattle.rustc_lexer.specs.laws.Family.{by_letter}
 use Rattle.rustc_lexer.specs.laws.LanguageRuns.{run_len-here, run-stops, either-way, Sound, Read, read-first, begins-next, chooses-word, chooses-emoji, word-no_mark, mark-stops, start-word_start}
 use Rattle.rustc_lexer.specs.laws.Reach.{run_all}
 use Rattle.rustc_lexer.specs.Language as the
-use Rattle.rustc_lexer.specs.Language.{IsTokenBefore, ends_prefix, known_prefixes, begins_prefixed}
+use Rattle.rustc_lexer.specs.Language.{IsTokenBefore, ends_prefix, begins_prefixed}
 use Rattle.rustc_lexer.specs.means.Lexeme.{letter_r, letter_k, letter_b, letter_c, raw_or_ident, word, is_raw_mark, begins_raw}
 use Rattle.rustc_lexer.specs.means.Scan.{after, begins, next_is, run, run_len}
 
@@ -33,24 +35,10 @@ pub record BeginsNone (s : List ℕ) : Type 0 where
   pub k_hash : begins_ident_after (codes "k#") s ≡ false
 
 pub begins-none : (s : List ℕ) → begins_prefixed s ≡ false → BeginsNone s
-begins-none s e =
-    let all = or_parts (list_any (λ front. begins front s) known_prefixes) (begins_ident_after (codes "k#") s) e in
-    let a = or_parts (begins (codes "r\"") s) _ all.0 in
-    let b = or_parts (begins (codes "r#") s) _ a.1 in
-    let c = or_parts (begins (codes "b'") s) _ b.1 in
-    let d = or_parts (begins (codes "b\"") s) _ c.1 in
-    let f = or_parts (begins (codes "br\"") s) _ d.1 in
-    let g = or_parts (begins (codes "br#") s) _ f.1 in
-    let h = or_parts (begins (codes "c\"") s) _ g.1 in
-    let i = or_parts (begins (codes "cr\"") s) _ h.1 in
-    let j = or_parts (begins (codes "cr#") s) _ i.1 in
-    record { r_quote = a.0; r_hash = b.0; b_one = c.0; b_quote = d.0; br_quote = f.0; br_hash = g.0; c_quote = h.0; cr_quote = i.0; cr_hash = j.0; k_hash = all.1 }
+begins-none s e = grind (arith, common_steps, or_parts)
 
 pub no-opening : (s : List ℕ) → BeginsNone s → begins_prefixed s ≡ false
-no-opening s n =
-    or_from (list_any (λ front. begins front s) known_prefixes) (begins_ident_after (codes "k#") s)
-    (or_from _ _ n.r_quote (or_from _ _ n.r_hash (or_from _ _ n.b_one (or_from _ _ n.b_quote (or_from _ _ n.br_quote (or_from _ _ n.br_hash (or_from _ _ n.c_quote (or_from _ _ n.cr_quote (or_from _ _ n.cr_hash refl)))))))))
-    n.k_hash
+no-opening s n = grind (arith, common_steps, or_from)
 
 -- no mark of a raw string is next
 raw_mark-stops : (s : List ℕ) → begins (codes "\"") s ≡ false → begins (codes "#") s ≡ false → NextIsNot is_raw_mark s
@@ -58,49 +46,27 @@ raw_mark-stops [] e f = refl
 raw_mark-stops (d ∷ s) e f = or_from (d == 35) _ (or_parts (d == 35) false (sym (begins-next 35 (d ∷ s)) ∙ f)).0 (sym (begins-next 34 (d ∷ s)) ∙ e)
 
 pub raw_mark-none : (s : List ℕ) → NextIsNot is_raw_mark s → (begins (codes "\"") s ≡ false) × (begins (codes "#") s ≡ false)
-raw_mark-none [] e = (refl, refl)
-raw_mark-none (d ∷ s) e =
-    let parts = or_parts (d == 35) _ e in
-    (begins-next 34 (d ∷ s) ∙ parts.1, begins-next 35 (d ∷ s) ∙ or_from (d == 35) false parts.0 refl)
+raw_mark-none w0 e = grind (arith, common_steps, or_parts, begins-next, or_from)
 
 raw-none : (s : List ℕ) → begins (codes "r\"") s ≡ false → begins (codes "r#") s ≡ false → begins_raw s ≡ false
-raw-none [] e f = refl
-raw-none (d ∷ s) e f = by_r (d == 114) refl
-  where
-    by_r : (b : Bool) → (d == 114) ≡ b → begins_raw (d ∷ s) ≡ false
-    by_r false g = rw g refl
-    by_r true g = let q : begins (codes "\"") s ≡ false = rw g at e in let h : begins (codes "#") s ≡ false = rw g at f in rw g (raw_mark-stops s q h)
+raw-none w0 e f = grind (arith, common_steps, raw_mark-stops)
 
 pub none-raw : (s : List ℕ) → begins_raw s ≡ false → (begins (codes "r\"") s ≡ false) × (begins (codes "r#") s ≡ false)
-none-raw [] e = (refl, refl)
-none-raw (d ∷ s) e = by_r (d == 114) refl
-  where
-    by_r : (b : Bool) → (d == 114) ≡ b → (begins (codes "r\"") (d ∷ s) ≡ false) × (begins (codes "r#") (d ∷ s) ≡ false)
-    by_r false g = (rw g refl, rw g refl)
-    by_r true g = let parts = raw_mark-none s (rw g at e) in (rw g parts.0, rw g parts.1)
+none-raw w0 e = grind (arith, common_steps, raw_mark-none)
 
 -- ---- what is read there as an identifier
 
 r-plain : (s : List ℕ) → BeginsNone (114 ∷ s) → letter_r s ≡ ident_or_unknown_prefix s
-r-plain s n =
-    let q : begins (codes "\"") s ≡ false = n.r_quote in
-    let h : begins (codes "#") s ≡ false = n.r_hash in
-    let m : marks_ident s ≡ false = rw h refl in
-    rw (m, raw_mark-stops s q h) refl
+r-plain s n = grind (arith, common_steps, raw_mark-stops)
 
 k-plain : (s : List ℕ) → BeginsNone (107 ∷ s) → letter_k s ≡ ident_or_unknown_prefix s
 k-plain s n = let m : marks_ident s ≡ false = n.k_hash in rw m refl
 
 b-plain : (s : List ℕ) → BeginsNone (98 ∷ s) → letter_b s ≡ ident_or_unknown_prefix s
-b-plain s n =
-    let a : begins (codes "'") s ≡ false = n.b_one in
-    let q : begins (codes "\"") s ≡ false = n.b_quote in
-    rw (a, q, raw-none s n.br_quote n.br_hash) refl
+b-plain s n = grind (arith, common_steps, raw-none)
 
 c-plain : (s : List ℕ) → BeginsNone (99 ∷ s) → letter_c s ≡ ident_or_unknown_prefix s
-c-plain s n =
-    let q : begins (codes "\"") s ≡ false = n.c_quote in
-    rw (q, raw-none s n.cr_quote n.cr_hash) refl
+c-plain s n = grind (arith, common_steps, raw-none)
 
 abbrev IsPlain : ℕ → (List ℕ → TokenKind × ℕ) → Type 0
 IsPlain c scan = (s : List ℕ) → begins_prefixed (c ∷ s) ≡ false → scan s ≡ ident_or_unknown_prefix s
@@ -133,11 +99,8 @@ whole-word (x ∷ f) m (d ∷ w) next mark fs ws stop e =
 
 module _ (c : ℕ) (w next : List ℕ) (ws : AreAll is_word_continue w) (stop : NextIsNot is_word_continue next) (right : NextIs ends_prefix next → is_ident (c ∷ w) ≡ false) where
   no-front : (x : ℕ) (f : List ℕ) (m : ℕ) → ends_prefix m ≡ true → AreAll is_word_continue f → is_ident (x ∷ f) ≡ true → begins (x ∷ f ++ m ∷ []) (c ∷ w ++ next) ≡ false
-  no-front x f m mark fs is = false_from_ne_true (begins (x ∷ f ++ m ∷ []) (c ∷ w ++ next)) (λ e.
-      let parts = and_parts (c == x) _ e in
-      let whole = whole-word f m w next mark fs ws stop parts.1 in
-      let same : c ∷ w ≡ x ∷ f = ap (λ (y : ℕ). y ∷ w) (eqb-true c x parts.0) ∙ ap (λ (ys : List ℕ). x ∷ ys) whole.same in
-      either-way (is_ident (c ∷ w)) (ap is_ident same ∙ is) (right whole.at_mark))
+  no-front x f m mark fs is =
+      grind (arith, common_steps, false_from_ne_true, and_parts, whole-word, eqb-true, either-way)
 
   -- a word that no mark follows, or that is no identifier, begins nothing else
   pub word-no_opening : begins_prefixed (c ∷ w ++ next) ≡ false
@@ -166,46 +129,31 @@ continue-word (c ∷ w) all = let parts = and_parts (is_id_continue c) (list_all
 
 -- what is read of a word
 ident-read : (w next : List ℕ) → AreAll is_word_continue w → NextIsNot is_word_continue next → ident_or_unknown_prefix (w ++ next) ≡ (ident_kind w next, length w)
-ident-read w next all stop =
-    ap (λ (n : ℕ). (ident_kind (take n (w ++ next)) (drop n (w ++ next)), n)) (run_len-here is_word_continue w next all stop)
-    ∙ (ap (λ (front : List ℕ). (ident_kind front (drop (length w) (w ++ next)), length w)) (take-append_seam w next) ∙ ap (λ (rest : List ℕ). (ident_kind w rest, length w)) (drop-append_seam w next))
+ident-read w next all stop = grind (arith, common_steps, run_len-here, take-append_seam, drop-append_seam)
 
 plain-read : (c : ℕ) (w next : List ℕ) (kind : TokenKind) → is_id_start c ≡ true → AreAll is_word_continue w → NextIsNot is_word_continue next → begins_prefixed (c ∷ w ++ next) ≡ false → ident_kind w next ≡ kind → Read kind (suc (length w)) (c ∷ w ++ next)
 plain-read c w next kind start all stop free is =
     read-first c (word c) (w ++ next) kind (length w) _ (chooses-word c start) (word-plain c (w ++ next) free ∙ (ident-read w next all stop ∙ ap (λ (k : TokenKind). (k, length w)) is)) refl
 
 pub ident-is_read : (w next : List ℕ) → is_ident w ≡ true → NextIsNot is_word_continue next → NextIsNot ends_prefix next → Read Ident (length w) (w ++ next)
-ident-is_read [] next is stop none = absurd (true≢false (sym is))
-ident-is_read (c ∷ w) next is stop none =
-    let parts = and_parts (is_id_start c) (list_all is_id_continue w) is in
-    let all : AreAll is_word_continue w = continue-word w parts.1 in
-    plain-read c w next Ident parts.0 all stop (word-no_opening c w next all stop (λ goes. either-way (next_is ends_prefix next) goes none)) (rw (parts.1, none) refl)
+ident-is_read w0 next is stop none =
+    grind (arith, common_steps, and_parts, continue-word, plain-read, word-no_opening, either-way)
 
 pub prefix-read : (w next : List ℕ) → is_ident w ≡ true → NextIs ends_prefix next → begins_prefixed (w ++ next) ≡ false → Read UnknownPrefix (length w) (w ++ next)
-prefix-read [] next is goes free = absurd (true≢false (sym is))
-prefix-read (c ∷ w) next is goes free =
-    let parts = and_parts (is_id_start c) (list_all is_id_continue w) is in
-    plain-read c w next UnknownPrefix parts.0 (continue-word w parts.1) (mark-stops next goes) free (rw (parts.1, goes) refl)
+prefix-read w0 next is goes free = grind (arith, common_steps, and_parts, plain-read, continue-word, mark-stops)
 
 pub invalid-read : (c : ℕ) (w next : List ℕ) → is_word_start c ≡ true → AreAll is_word_continue w → is_ident (c ∷ w) ≡ false → NextIsNot is_word_continue next → Read InvalidIdent (suc (length w)) (c ∷ w ++ next)
-invalid-read c w next start all wrong stop = by_start (is_id_start c) refl
-  where
-    by_start : (b : Bool) → is_id_start c ≡ b → Read InvalidIdent (suc (length w)) (c ∷ w ++ next)
-    by_start true e =
-        let no_ident : list_all is_id_continue w ≡ false = rw e at wrong in
-        plain-read c w next InvalidIdent e all stop (word-no_opening c w next all stop (λ goes. wrong)) (rw no_ident refl)
-    by_start false e =
-        let emoji : is_emoji c ≡ true = rw e at start in
-        read-first c invalid_ident (w ++ next) InvalidIdent (length w) _ (chooses-emoji c e emoji) (ap (λ (n : ℕ). (InvalidIdent, n)) (run_len-here is_word_continue w next all stop)) refl
+invalid-read c w next start all wrong stop = by_either (is_id_start c)
+    (λ e.
+    let no_ident : list_all is_id_continue w ≡ false = rw e at wrong in
+    plain-read c w next InvalidIdent e all stop (word-no_opening c w next all stop (λ goes. wrong)) (rw no_ident refl))
+    (λ e.
+    let emoji : is_emoji c ≡ true = rw e at start in
+    read-first c invalid_ident (w ++ next) InvalidIdent (length w) _ (chooses-emoji c e emoji) (ap (λ (n : ℕ). (InvalidIdent, n)) (run_len-here is_word_continue w next all stop)) refl)
 
 -- past a mark
 marked-read : (kind : TokenKind) (other : List ℕ → TokenKind × ℕ) (w next : List ℕ) → is_ident w ≡ true → NextIsNot is_id_continue next → marked kind other (35 ∷ w ++ next) ≡ (kind, suc (length w))
-marked-read kind other [] next is stop = absurd (true≢false (sym is))
-marked-read kind other (c ∷ w) next is stop =
-    let parts = and_parts (is_id_start c) (list_all is_id_continue w) is in
-    let sum : 2 + length w ≡ suc (suc (length w)) = omega arith in
-    let reads : marked kind other (35 ∷ c ∷ w ++ next) ≡ after 2 (run kind is_id_continue) (35 ∷ c ∷ w ++ next) = rw parts.0 refl in
-    reads ∙ (ap (λ (n : ℕ). (kind, 2 + n)) (run_len-here is_id_continue w next parts.1 stop) ∙ ap (λ (n : ℕ). (kind, n)) sum)
+marked-read kind other w2 next is stop = grind (arith, common_steps, and_parts, run_len-here)
 
 letter-start : (is_id_start 114 ≡ true) × (is_id_start 107 ≡ true)
 unfolding unicode_ident
@@ -239,15 +187,7 @@ invalid-sound c no_start emoji s = the.invalid_ident (rw (no_start, emoji) refl)
 -- past a mark, where this is so of what may stand there
 pub marked-sound : (P : List ℕ → List ℕ → Type 0) → ((w next : List ℕ) → is_ident w ≡ true → NextIsNot is_id_continue next → P next (35 ∷ w)) → (s : List ℕ) → marks_ident s ≡ true
     → P (drop (2 + run_len is_id_continue (drop 2 s)) s) (take (2 + run_len is_id_continue (drop 2 s)) s)
-marked-sound P is [] e = absurd (true≢false (sym e))
-marked-sound P is (h ∷ []) e = absurd (true≢false (sym (and_parts (begins (codes "#") (h ∷ [])) false e).1))
-marked-sound P is (h ∷ d ∷ s) e =
-    let parts = and_parts (begins (codes "#") (h ∷ d ∷ s)) (is_id_start d) e in
-    let n : ℕ = run_len is_id_continue s in
-    let more : suc (suc n) ≡ 2 + n = omega arith in
-    let hash : 35 ≡ h = sym (eqb-true h 35 (and_parts (h == 35) true parts.0).0) in
-    subst (λ (m : ℕ). P (drop m (h ∷ d ∷ s)) (take m (h ∷ d ∷ s))) more
-    (subst (λ (x : ℕ). P (drop n s) (x ∷ d ∷ take n s)) hash (is (d ∷ take n s) (drop n s) (rw parts.1 (run_all is_id_continue s)) (run-stops is_id_continue s)))
+marked-sound w0 is w2 e = grind (arith, common_steps, and_parts, eqb-true, run_all, run-stops)
 
 pub raw_ident-sound : (s : List ℕ) → marks_ident s ≡ true → Sound 114 s (after 2 (run RawIdent is_id_continue) s)
 raw_ident-sound = marked-sound (λ next w. IsTokenBefore next RawIdent (114 ∷ w)) (λ w next is stop. the.raw_ident is stop)

@@ -1,8 +1,9 @@
 -- How far a character or a lifetime looks past its end.
-use Rattle.std.proofs.Common.{◌≡◌, ℕ, suc, ◌+◌, ◌==◌, ◌&&◌, ◌||◌, not, Bool, true, false, if◌then◌else◌, List, [], ◌∷◌, length, codes, refl, ap, arith}
+use Rattle.std.proofs.Common.{◌≡◌, ℕ, suc, ◌+◌, ◌==◌, ◌&&◌, ◌||◌, not, true, false, if◌then◌else◌, List, [], ◌∷◌, length, codes, refl, ap, arith}
 use Rattle.std.proofs.lemmas.Bool.{and_parts}
 use Rattle.std.specs.Char.{is_ascii_digit}
 use Rattle.std.specs.Str.{byte, encode_utf8_all}
+use Rattle.std.proofs.lemmas.Grind.{common_steps}
 use Rattle.rustc_lexer.specs.declared.token.LiteralKind.TheVariants.{Char}
 use Rattle.rustc_lexer.specs.declared.token.TokenKind.{TokenKind}
 use Rattle.rustc_lexer.specs.declared.token.TokenKind.TheVariants.{Literal, Lifetime, RawLifetime, UnknownPrefixLifetime}
@@ -27,12 +28,7 @@ pub quoted_name_at : (c : ℕ) (name s : List ℕ) → begins (codes "'") s ≡ 
 quoted_name_at c name s t = record { inside = begins-length (codes "'") s t; local = λ u e. refl }
 
 unquoted_name_local : (c : ℕ) (name : List ℕ) → IsLocal TokenKind 1 (unquoted_name c name)
-unquoted_name_local c name s = record {
-  inside = omega arith;
-  local = λ u e.
-      ap (λ (b : Bool). let r : TokenKind × ℕ = (if b && not (is_ascii_digit c) then UnknownPrefixLifetime else Lifetime (is_marked c name), 0) in r)
-      (told_same 1 1 (begins (codes "#")) u s (begins-told (codes "#")) (omega arith) e);
-}
+unquoted_name_local c name s = grind (arith, common_steps, told_same, begins-told)
 
 past_name_local : (c : ℕ) (name : List ℕ) → IsLocal TokenKind 1 (past_name c name)
 past_name_local c name s =

@@ -1,6 +1,7 @@
 -- How far each lexeme looks past its end.
-use Rattle.std.proofs.Common.{◌≡◌, ℕ, ◌≤◌, ◌==◌, Bool, true, false, true≢false, if◌then◌else◌, List, [], ◌∷◌, length, take, drop, codes, refl, sym, ap, arith}
+use Rattle.std.proofs.Common.{◌≡◌, ℕ, ◌≤◌, Bool, true, true≢false, if◌then◌else◌, List, [], ◌∷◌, length, take, drop, codes, refl, sym, ap, arith}
 use Rattle.std.proofs.lemmas.Bool.{eqb-true}
+use Rattle.std.proofs.lemmas.Grind.{common_steps}
 use Rattle.rustc_lexer.specs.declared.lexemes.raw.RawPrefix.{RawPrefix}
 use Rattle.rustc_lexer.specs.declared.lexemes.raw.RawPrefix.TheVariants.{R, Br, Cr}
 use Rattle.rustc_lexer.specs.declared.token.LiteralKind.{LiteralKind}
@@ -31,20 +32,7 @@ use Rattle.rustc_lexer.specs.laws.Hash.{hash_local}
 
 -- the style of a comment is told by the comment
 pub line_doc_style-own : (s : List ℕ) → line_doc_style (take (run_len is_no_newline s) s) ≡ line_doc_style s
-line_doc_style-own [] = refl
-line_doc_style-own (c ∷ s) = by_newline (c == 10) refl
-  where
-    slash_own : (s : List ℕ) → begins (codes "/") (take (run_len is_no_newline s) s) ≡ begins (codes "/") s
-    slash_own [] = refl
-    slash_own (d ∷ s) = by_newline (d == 10) refl
-      where
-        by_newline : (b : Bool) → (d == 10) ≡ b → begins (codes "/") (take (run_len is_no_newline (d ∷ s)) (d ∷ s)) ≡ begins (codes "/") (d ∷ s)
-        by_newline true e = rw (eqb-true d 10 e) refl
-        by_newline false e = rw e refl
-
-    by_newline : (b : Bool) → (c == 10) ≡ b → line_doc_style (take (run_len is_no_newline (c ∷ s)) (c ∷ s)) ≡ line_doc_style (c ∷ s)
-    by_newline true e = rw (eqb-true c 10 e) refl
-    by_newline false e = rw (e, slash_own s) refl
+line_doc_style-own w0 = grind (arith, common_steps, eqb-true)
 
 pub line_comment_local : IsLocal TokenKind 1 line_comment
 line_comment_local s = same_at 1 line_comment (run_as (λ front rest. LineComment (line_doc_style front)) is_no_newline) s (λ s. ap (λ d. (LineComment d, run_len is_no_newline s)) (sym (line_doc_style-own s)))
@@ -63,9 +51,7 @@ raw : IsLocal TokenKind 2 raw_or_ident
 raw s = either_at 1 2 (next_is is_raw_mark) (raw_literal R) ident_or_unknown_prefix (next_is-told is_raw_mark) s (omega arith) (λ t. wider 1 2 (omega arith) (raw_literal_local R s)) (λ t. plain s)
 
 begins_raw-told : IsToldBy 2 begins_raw
-begins_raw-told [] = refl
-begins_raw-told (c ∷ []) = refl
-begins_raw-told (c ∷ d ∷ s) = refl
+begins_raw-told w0 = grind (arith, common_steps)
 
 begins_raw-length : (s : List ℕ) → begins_raw s ≡ true → 1 ≤ length s
 begins_raw-length [] e = absurd (true≢false (sym e))

@@ -3,11 +3,13 @@ use Rattle.std.proofs.Common.{◌≡◌, ℕ, ◌+◌, ◌≤◌, ◌==◌, Bool
 use Rattle.std.specs.Char.{is_ascii_digit, is_ascii_hexdigit}
 use Rattle.std.specs.List.{list_any}
 use Rattle.std.specs.Str.{byte}
+use Rattle.std.proofs.lemmas.Grind.{common_steps}
 use Rattle.rustc_lexer.specs.declared.token.Base.{Base}
 use Rattle.rustc_lexer.specs.declared.token.Base.TheVariants.{Binary, Octal, Hexadecimal}
 use Rattle.rustc_lexer.specs.declared.token.LiteralKind.{LiteralKind}
 use Rattle.rustc_lexer.specs.declared.token.LiteralKind.TheVariants.{Int, Float}
 use Rattle.rustc_lexer.specs.declared.token.TokenKind.{TokenKind}
+use Rattle.rustc_lexer.specs.laws.Choice.{by_either}
 use Rattle.rustc_lexer.specs.laws.Literal.{literal_at, literal_local}
 use Rattle.rustc_lexer.specs.means.Number.{or_underscore, digits, Front, prefixed, decimal, front_past_zero, front, float, is_exponent_letter, is_sign, past_sign, float_exponent, optional_exponent, fraction_digits, fraction, begins_fraction, past_digits, tail, number_kind, with_suffix, number_body, number}
 use Rattle.rustc_lexer.specs.laws.Reach.{IsToldBy, next_is-told, wider, read_as_at, and_then_at, and_then_local, after_at, yes_at, no_at, either_at, begins_local, next_is_local, gives_local, run_as_local, run_local}
@@ -48,9 +50,7 @@ fraction_local base s = either_at 1 1 (next_is is_ascii_digit) (fraction_digits 
     (λ t. gives_local 1 (Float base false) s)
 
 begins_fraction-told : IsToldBy 2 begins_fraction
-begins_fraction-told [] = refl
-begins_fraction-told (c ∷ []) = refl
-begins_fraction-told (c ∷ d ∷ s) = refl
+begins_fraction-told w0 = grind (arith, common_steps)
 
 begins_fraction-length : (s : List ℕ) → begins_fraction s ≡ true → 1 ≤ length s
 begins_fraction-length [] e = absurd (true≢false (sym e))
@@ -62,11 +62,7 @@ past_digits_local base s = either_at 2 2 begins_fraction (after 1 (fraction base
     (λ t. next_is_local 2 is_exponent_letter (float_exponent base) (gives (Int base false)) (omega arith) (λ s. wider 1 2 (omega arith) (float_exponent_local base s)) (gives_local 2 (Int base false)) s)
 
 pub tail_local : (front : Front) → IsLocal LiteralKind 2 (tail front)
-tail_local front = by_empty front.empty
-  where
-    by_empty : (b : Bool) → IsLocal LiteralKind 2 (λ s. if b then gives (Int front.base true) s else past_digits front.base s)
-    by_empty true = gives_local 2 (Int front.base true)
-    by_empty false = past_digits_local front.base
+tail_local front = grind (arith, common_steps, gives_local, past_digits_local)
 
 pub number_kind_local : (first : ℕ) → IsLocal LiteralKind 2 (number_kind first)
 unfolding number_kind
@@ -82,26 +78,21 @@ is_float (Float base empty_exponent) = true
 is_float kind = false
 
 past_digits_float : (base : Base) (s : List ℕ) → is_float (past_digits base s).0 ≡ true → IsLocalAt LiteralKind 1 (past_digits base) s
-past_digits_float base s float = by_fraction (begins_fraction s) refl
+past_digits_float base s float = by_either (begins_fraction s)
+    (λ t. yes_at 2 1 begins_fraction (after 1 (fraction base)) exponent begins_fraction-told s t (omega arith) (after_at 1 1 (fraction base) s (begins_fraction-length s t) (fraction_local base (drop 1 s))))
+    (λ none. no_at 2 1 begins_fraction (after 1 (fraction base)) exponent begins_fraction-told s none (far none)
+    (next_is_local 1 is_exponent_letter (float_exponent base) (gives (Int base false)) (omega arith) (float_exponent_local base) (gives_local 1 (Int base false)) s))
   where
     exponent : List ℕ → LiteralKind × ℕ
     exponent s = if next_is is_exponent_letter s then after 1 (float_exponent base) s else gives (Int base false) s
 
-    by_letter : begins_fraction s ≡ false → (b : Bool) → next_is is_exponent_letter s ≡ b → 2 ≤ (exponent s).1 + 1
-    by_letter none true t = rw t (omega arith)
-    by_letter none false t = absurd (true≢false (sym float ∙ rw (none, t) refl))
-
-    by_fraction : (b : Bool) → begins_fraction s ≡ b → IsLocalAt LiteralKind 1 (past_digits base) s
-    by_fraction true t = yes_at 2 1 begins_fraction (after 1 (fraction base)) exponent begins_fraction-told s t (omega arith) (after_at 1 1 (fraction base) s (begins_fraction-length s t) (fraction_local base (drop 1 s)))
-    by_fraction false t = no_at 2 1 begins_fraction (after 1 (fraction base)) exponent begins_fraction-told s t (by_letter t (next_is is_exponent_letter s) refl)
-        (next_is_local 1 is_exponent_letter (float_exponent base) (gives (Int base false)) (omega arith) (float_exponent_local base) (gives_local 1 (Int base false)) s)
+    far : begins_fraction s ≡ false → 2 ≤ (exponent s).1 + 1
+    far none = by_either (next_is is_exponent_letter s)
+        (λ t. rw t (omega arith))
+        (λ t. absurd (true≢false (sym float ∙ rw (none, t) refl)))
 
 tail_float : (front : Front) (s : List ℕ) → is_float (tail front s).0 ≡ true → IsLocalAt LiteralKind 1 (tail front) s
-tail_float front s = by_empty front.empty
-  where
-    by_empty : (b : Bool) → is_float (if b then gives (Int front.base true) s else past_digits front.base s).0 ≡ true → IsLocalAt LiteralKind 1 (λ s. if b then gives (Int front.base true) s else past_digits front.base s) s
-    by_empty true float = absurd (true≢false (sym float))
-    by_empty false float = past_digits_float front.base s float
+tail_float front s = grind (arith, common_steps, past_digits_float)
 
 number_kind_float : (first : ℕ) (s : List ℕ) → is_float (number_kind first s).0 ≡ true → IsLocalAt LiteralKind 1 (number_kind first) s
 unfolding number_kind

@@ -1,9 +1,10 @@
 -- The number that is read is the longest that stands at the front of its text.
-use Rattle.std.proofs.Common.{◌≡◌, ℕ, suc, ◌+◌, ◌<◌, ◌==◌, ◌&&◌, ◌||◌, inl, inr, not, Bool, true, false, true≢false, List, [], ◌∷◌, ◌++◌, length, take, drop, refl, sym, ap, ◌∙◌, subst, arith, codes, append_assoc, length-append, take-append-drop, length-take-le}
+use Rattle.std.proofs.Common.{◌≡◌, ℕ, suc, ◌+◌, ◌==◌, ◌&&◌, ◌||◌, inl, inr, not, Bool, true, false, true≢false, List, [], ◌∷◌, ◌++◌, length, take, drop, refl, sym, ap, ◌∙◌, subst, arith, codes, append_assoc, length-append, take-append-drop, length-take-le}
 use Rattle.std.proofs.lemmas.Bool.{agree_below_at, and_parts, eqb-true, or_cases, or_right}
 use Rattle.std.specs.Char.{is_ascii_digit}
 use Rattle.std.specs.List.{list_all, list_any}
 use Rattle.std.specs.Str.{byte}
+use Rattle.std.proofs.lemmas.Grind.{common_steps}
 use Rattle.unicode_ident.proofs.Computing.{unicode_ident}
 use Rattle.rustc_lexer.specs.declared.token.Base.{Base}
 use Rattle.rustc_lexer.specs.declared.token.Base.TheVariants.{Binary, Octal, Decimal, Hexadecimal}
@@ -14,7 +15,7 @@ use Rattle.rustc_lexer.specs.laws.NumberGrammar.{number-stands}
 use Rattle.rustc_lexer.specs.laws.Within.{Within, within-suc, within-one, within-any, then-within, run-within}
 use Rattle.rustc_lexer.specs.means.Number.{or_underscore, digits, Front, front_of, prefixed, binary, octal, hexadecimal, decimal, front_past_zero, front, float, is_exponent_letter, is_sign, past_sign, float_exponent, optional_exponent, fraction_digits, fraction, is_no_fraction, begins_fraction, past_digits, tail, number_kind}
 use Rattle.rustc_lexer.specs.NumberGrammar.{AreDigits, is_digit_of, IsWhole, plain, with_b, with_o, with_x, IsExponent, signed, unsigned, IsTailBefore, nothing, dot, of_fraction, of_exponent, of_both, IsNumberBefore, of_prefix, of_parts, NumberStands, IsLongestNumber}
-use Rattle.rustc_lexer.specs.means.Scan.{and_then, after, begins, gives, next_is, read_as, run, run_len}
+use Rattle.rustc_lexer.specs.means.Scan.{and_then, after, begins, gives, next_is, read_as, run}
 use Rattle.rustc_lexer.specs.laws.LanguageRuns.{digit-small, other_than}
 
 -- ---- characters
@@ -87,18 +88,11 @@ none-within base left =
 -- no digit after the dot
 dot-within : (base : Base) (left : List ℕ) → Within (Unit {0}) (fraction base left) (Float base false) 0
 unfolding fraction
-dot-within base left =
-    by_test (λ (r : LiteralKind × ℕ). Within (Unit {0}) r (Float base false) 0) (next_is is_ascii_digit left) (fraction_digits base left) (gives (Float base false) left) (λ t. inl (tt, some left t)) (λ t. inr refl)
-  where
-    some : (left : List ℕ) → next_is is_ascii_digit left ≡ true → 0 < (fraction_digits base left).1
-    some [] t = absurd (true≢false (sym t))
-    some (c ∷ s) t = let more : run_len (or_underscore is_ascii_digit) (c ∷ s) ≡ suc (run_len (or_underscore is_ascii_digit) s) = rw t refl in omega arith
+dot-within base left = grind (arith, common_steps)
 
 -- a dot that goes with what follows it
 at_dot : (base : Base) (kind : LiteralKind) (s : List ℕ) (m : ℕ) → next_is is_no_fraction s ≡ false → Within (Unit {0}) (fraction base s) kind m → Within (Unit {0}) (past_digits base (46 ∷ s)) kind (suc m)
-at_dot base kind s m free w =
-    let read : past_digits base (46 ∷ s) ≡ after 1 (fraction base) (46 ∷ s) = rw free refl in
-    subst (λ (r : LiteralKind × ℕ). Within (Unit {0}) r kind (suc m)) (sym read) (within-one (fraction base s) kind m w)
+at_dot base kind s m free w = grind (arith, common_steps, within-one)
 
 -- ---- what follows the whole part
 
@@ -161,16 +155,10 @@ prefix-within base ds left are =
     within-suc (r.0, 1 + r.1) f (suc (length ds)) (within-one r f (length ds) (within-goes base left r f (length ds) (run-within (λ front. prefixed base (list_any (is_digit_of base) front)) (or_underscore (is_digit_of base)) ds left are)))
 
 dot-stops : (base : Base) → goes_on base 46 ≡ false
-dot-stops Binary = refl
-dot-stops Octal = refl
-dot-stops Decimal = refl
-dot-stops Hexadecimal = refl
+dot-stops w0 = grind (arith, common_steps)
 
 letter-stops : (base : Base) (e : ℕ) → is_digit_of base e ≡ false → is_exponent_letter e ≡ true → goes_on base e ≡ false
-letter-stops base e no_digit letter =
-    let no_prefix : is_prefix_letter e ≡ false = of_two (λ x. is_prefix_letter x ≡ false) 101 69 e letter refl refl in
-    let no_underscore : (e == 95) ≡ false = other_than is_exponent_letter 95 e refl letter in
-    rw (no_prefix, no_digit, no_underscore) refl
+letter-stops base e no_digit letter = grind (arith, common_steps, of_two, other_than)
 
 -- what is past a first digit 0
 past_zero : (P : Front × ℕ → Type 0) (s : List ℕ) → (begins (codes "b") s ≡ true → P (after 1 binary s)) → (begins (codes "o") s ≡ true → P (after 1 octal s)) → (begins (codes "x") s ≡ true → P (after 1 hexadecimal s)) → P (decimal s) → P (front_past_zero s)
@@ -225,11 +213,7 @@ number_all s = and_then front_all tail s
 
 number_all-is : (first : ℕ) (s : List ℕ) → number_all (first ∷ s) ≡ ((number_kind first s).0, 1 + (number_kind first s).1)
 unfolding number_kind
-number_all-is first s =
-    let n : ℕ = (front first s).1 in
-    let m : ℕ = (tail (front first s).0 (drop n s)).1 in
-    let sum : suc n + m ≡ 1 + (n + m) = omega arith in
-    ap (λ (k : ℕ). let r : LiteralKind × ℕ = ((tail (front first s).0 (drop n s)).0, k) in r) sum
+number_all-is first s = grind (arith, common_steps)
 
 number-within : (left : List ℕ) {kind : LiteralKind} {t : List ℕ} → IsNumberBefore left kind t → Within (Unit {0}) (number_all (t ++ left)) kind (length t)
 number-within left (of_prefix {base = base} {whole = w} whole) =
@@ -253,10 +237,7 @@ stands-within first s kind n stands =
 
 -- the number that is read is the longest that stands there
 pub longest-read : (first : ℕ) (s : List ℕ) → is_ascii_digit first ≡ true → IsLongestNumber (number_kind first s).0 (1 + (number_kind first s).1) (first ∷ s)
-longest-read first s digit = record {
-  stands = number-stands first s digit;
-  longest = λ other m is. elim (stands-within first s other m is) [ inl h ↦ omega (arith, h.1) | inr e ↦ omega (arith, ap (λ (r : LiteralKind × ℕ). r.1) e) ];
-}
+longest-read first s digit = grind (arith, common_steps, number-stands, stands-within)
 
 -- and none of another kind is as long
 only-read : (first : ℕ) (s : List ℕ) (other : LiteralKind) (n : ℕ) → NumberStands other n (first ∷ s) → n ≡ 1 + (number_kind first s).1 → other ≡ (number_kind first s).0

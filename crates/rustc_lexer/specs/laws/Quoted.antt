@@ -1,11 +1,13 @@
 -- How far quoted text looks past its end.
-use Rattle.std.proofs.Common.{◌≡◌, ℕ, suc, ◌+◌, ◌≤◌, ◌<◌, ◌&&◌, not, Bool, true, false, true≢false, if◌then◌else◌, List, [], ◌∷◌, length, take, drop, reverse, codes, refl, sym, ap, ◌∙◌, arith, length-drop, Option, Some, None}
+use Rattle.std.proofs.Common.{◌≡◌, ℕ, suc, ◌+◌, ◌≤◌, ◌<◌, ◌&&◌, not, Bool, true, false, if◌then◌else◌, List, [], ◌∷◌, length, take, drop, reverse, codes, refl, sym, ap, ◌∙◌, arith, length-drop, Option, Some, None}
 use Rattle.std.specs.Str.{byte}
 use Rattle.std.proofs.Math.Bool.{and-false}
+use Rattle.std.proofs.lemmas.Grind.{common_steps}
 use Rattle.rustc_lexer.specs.declared.token.LiteralKind.{LiteralKind}
 use Rattle.rustc_lexer.specs.declared.token.LiteralKind.TheVariants.{Char, Str}
 use Rattle.rustc_lexer.specs.declared.token.TokenKind.{TokenKind}
 use Rattle.rustc_lexer.specs.means.Literal.{Body, literal}
+use Rattle.rustc_lexer.specs.laws.Choice.{by_either}
 use Rattle.rustc_lexer.specs.laws.Literal.{literal_local}
 use Rattle.rustc_lexer.specs.means.Quoted.{is_backslash, is_odd, is_escaped, free_place, stopped, quoted, at_double_quote, double_quoted_string, at_single_stop, is_lone, single_quoted_string, quoted_body, str_body, char_body}
 use Rattle.rustc_lexer.specs.laws.Reach.{IsToldBy, cut, cut_past, told_same, begins-told, begins-length, all_at, read_as_at, either_at, wider, found-inside, found-same, least_found}
@@ -46,11 +48,9 @@ module _ (k : ℕ) (some : 0 < k) (test : List ℕ → Bool) (told : IsToldBy k 
       where
         by_place : (o : Option ℕ) → free_place test s ≡ o → IsLocalAt Bool k (quoted quote test) s
         by_place None e = all_at k (quoted quote test) s some (ap (λ (r : Bool × ℕ). r.1) (place_is s None e))
-        by_place (Some n) e = by_quote (begins (quote ∷ []) (drop n s)) refl
-          where
-            by_quote : (q : Bool) → begins (quote ∷ []) (drop n s) ≡ q → IsLocalAt Bool k (quoted quote test) s
-            by_quote true f = stopped_at k s n true e f (omega (arith, ap (λ (r : Bool × ℕ). r.1) (at_place s n true e f)))
-            by_quote false f = stopped_at k s n false e f (omega (arith, ap (λ (r : Bool × ℕ). r.1) (at_place s n false e f)))
+        by_place (Some n) e = by_either (begins (quote ∷ []) (drop n s))
+            (λ f. stopped_at k s n true e f (omega (arith, ap (λ (r : Bool × ℕ). r.1) (at_place s n true e f))))
+            (λ f. stopped_at k s n false e f (omega (arith, ap (λ (r : Bool × ℕ). r.1) (at_place s n false e f))))
 
 -- double quotes
 pub double_quoted_string_local : IsLocal Bool 1 double_quoted_string
@@ -58,22 +58,16 @@ double_quoted_string_local = quoted_local 1 (omega arith) at_double_quote (begin
 
 -- single quotes
 single_told : IsToldBy 2 at_single_stop
-single_told [] = refl
-single_told (c ∷ []) = refl
-single_told (c ∷ d ∷ s) = refl
+single_told w0 = grind (arith, common_steps)
 
 lone_told : IsToldBy 2 is_lone
-lone_told [] = refl
-lone_told (c ∷ []) = refl
-lone_told (c ∷ d ∷ s) = refl
+lone_told w0 = grind (arith, common_steps)
 
 abbrev past_single : List ℕ → Bool × ℕ
 past_single s = quoted (byte "'") at_single_stop s
 
 lone_at : (s : List ℕ) → is_lone s ≡ true → IsLocalAt Bool 0 (λ s. (true, 2)) s
-lone_at [] t = absurd (true≢false (sym t))
-lone_at (c ∷ []) t = absurd (true≢false (sym t ∙ and-false (not (begins (codes "\\") (c ∷ [])))))
-lone_at (c ∷ d ∷ s) t = record { inside = omega arith; local = λ u e. refl }
+lone_at w0 t = grind (arith, common_steps, and-false)
 
 pub single_quoted_string_local : IsLocal Bool 2 single_quoted_string
 single_quoted_string_local s =

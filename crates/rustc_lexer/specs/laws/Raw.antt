@@ -1,16 +1,17 @@
 -- How far a raw string looks past its end, and what its own text is read as.
-use Rattle.std.proofs.Common.{◌≡◌, ◌↔◌, ℕ, zero, suc, ◌+◌, ◌≤◌, ◌<◌, ◌&&◌, ◌⊎◌, inl, inr, min, nat_le, Bool, true, false, true≢false, if◌then◌else◌, List, [], ◌∷◌, ◌++◌, length, take, drop, refl, sym, ap, ◌∙◌, subst, arith, length-drop, take-take, take_all, drop_at, IsSome, Option, Some, None, Result, Ok, Err}
+use Rattle.std.proofs.Common.{◌≡◌, ◌↔◌, ℕ, zero, suc, ◌+◌, ◌≤◌, ◌<◌, ◌&&◌, ◌⊎◌, inl, inr, min, nat_le, Bool, true, false, true≢false, if◌then◌else◌, List, [], ◌∷◌, ◌++◌, length, take, drop, refl, sym, ap, ◌∙◌, subst, arith, length-drop, take-take, take_all, drop_at, IsSome, Option, Some, Result, Ok, Err}
 use Rattle.std.proofs.lemmas.Bool.{leb-true, leb-false, le-leb, lt-leb, and_parts}
 use Rattle.std.specs.Str.{chars}
+use Rattle.std.proofs.lemmas.Grind.{common_steps}
 use Rattle.rustc_lexer.specs.declared.lexemes.raw.RawPrefix.{RawPrefix}
 use Rattle.rustc_lexer.specs.declared.token.LiteralKind.{LiteralKind}
 use Rattle.rustc_lexer.specs.declared.token.RawStrError.{RawStrError}
-use Rattle.rustc_lexer.specs.declared.token.RawStrError.TheVariants.{InvalidStarter, TooManyDelimiters}
+use Rattle.rustc_lexer.specs.declared.token.RawStrError.TheVariants.{InvalidStarter}
 use Rattle.rustc_lexer.specs.declared.token.TokenKind.{TokenKind}
 use Rattle.rustc_lexer.specs.means.Literal.{Body}
 use Rattle.rustc_lexer.specs.laws.Literal.{literal_at}
 use Rattle.rustc_lexer.specs.means.Raw.{is_hash, is_quote, hash_run, closes, close, raw_closed, raw_text, past_starter, raw_starter, raw_read, accepted, is_accepted, raw_body, prefix_kind, prefix_len, raw_literal, checked, raw_check, HasEnd, EndsItself}
-use Rattle.rustc_lexer.specs.laws.Reach.{IsToldBy, cut, cut_past, told_same, wider, all_at, read_as_at, and_then_at, first_at, gives_local, run_len_le, run_len_same, found-same, least-some, least_found}
+use Rattle.rustc_lexer.specs.laws.Reach.{IsToldBy, cut_past, told_same, wider, all_at, read_as_at, and_then_at, first_at, gives_local, run_len_le, run_len_same, found-same, least-some, least_found}
 use Rattle.rustc_lexer.specs.means.Scan.{IsLocalAt, IsLocal, IsFound, gives, run_len}
 
 run_len-take : (p : ℕ → Bool) (k : ℕ) (s : List ℕ) → run_len p (take k s) ≡ min k (run_len p s)
@@ -21,11 +22,7 @@ run_len-take p (suc k) (c ∷ s) =
     elim (p c) as (λ b. (if b then suc (run_len p (take k s)) else 0) ≡ min (suc k) (if b then suc (run_len p s) else 0)) [ true ↦ omega arith | false ↦ omega arith ]
 
 le-min : (n k x : ℕ) → n ≤ k → nat_le n (min k x) ≡ nat_le n x
-le-min n k x le = by_test (nat_le n x) refl
-  where
-    by_test : (b : Bool) → nat_le n x ≡ b → nat_le n (min k x) ≡ nat_le n x
-    by_test true e = le-leb n (min k x) (let f = leb-true n x e in omega arith) ∙ sym e
-    by_test false e = lt-leb n (min k x) (let f = leb-false n x e in omega arith) ∙ sym e
+le-min n k x le = grind (arith, common_steps, le-leb, leb-true, lt-leb, leb-false)
 
 -- whether a quote closes is told by it and n characters
 closes-told : (n : ℕ) → IsToldBy (suc n) (closes n)
@@ -41,9 +38,7 @@ close_found : (n : ℕ) → IsFound (suc n) (close n)
 close_found n = least_found (suc n) (λ s place. closes n (drop place s)) (omega arith) (λ u s i e. told_same (suc n) (suc n) (closes n) (drop i u) (drop i s) (closes-told n) (omega arith) (cut_past i (suc n) (i + suc n) u s (omega arith) e))
 
 close-inside : (n : ℕ) (s : List ℕ) (i : ℕ) → close n s ≡ Some i → i + suc n ≤ length s
-close-inside n s i e =
-    let is = least-some (λ place. closes n (drop place s)) (length s) i e in
-    omega (arith, closes-length n (drop i s) is.here, length-drop i s)
+close-inside n s i e = grind (arith, common_steps, least-some, closes-length, length-drop)
 
 abbrev pub Read : Type 0
 Read = Result ℕ RawStrError × ℕ
@@ -57,44 +52,13 @@ ended_local : (v : List ℕ) (scan : List ℕ → Read) (s : List ℕ) → IsEnd
 ended_local v scan s is = elim (is.ends) [ inl end ↦ wider 0 1 (omega arith) (is.within end) | inr all ↦ all_at 1 scan s (omega arith) all ]
 
 text_ended : (n before : ℕ) (v s : List ℕ) → IsEnded v (raw_text n before) s
-text_ended n before v s = by_close (close n s) refl
-  where
-    hash_count-ends : (b : Bool) → HasEnd v (if b then Ok n else Err (TooManyDelimiters n))
-    hash_count-ends true = tt
-    hash_count-ends false = tt
-
-    by_close : (o : Option ℕ) → close n s ≡ o → IsEnded v (raw_text n before) s
-    by_close None e =
-        let read : raw_text n before s ≡ raw_closed n before s None = ap (raw_closed n before s) e in
-        record { within = λ end. absurd (subst (λ (r : Read). HasEnd v r.0) read end); ends = inr (ap (λ (r : Read). r.1) read) }
-    by_close (Some i) e =
-        let read : raw_text n before s ≡ raw_closed n before s (Some i) = ap (raw_closed n before s) e in
-        let taken : (raw_text n before s).1 ≡ suc i + n = ap (λ (r : Read). r.1) read in
-        record {
-          within = λ end. record {
-            inside = omega (arith, close-inside n s i e);
-            local = λ u a.
-                let near : take (i + suc n) u ≡ take (i + suc n) s = cut (i + suc n) ((raw_text n before s).1 + 0) u s (omega arith) a in
-                ap (raw_closed n before u) (found-same (close n) (suc n) (close_found n) s i e u near) ∙ sym read;
-          };
-          ends = inl (subst (λ (r : Read). HasEnd v r.0) (sym read) (hash_count-ends (nat_le n 255)));
-        }
+text_ended n before v s = grind (arith, common_steps, close-inside, found-same, close_found)
 
 past_starter_ended : (prefix n c : ℕ) (s : List ℕ) → IsEnded (c ∷ s) (past_starter prefix n c) s
-past_starter_ended prefix n c s = by_quote (is_quote c)
-  where
-    by_quote : (b : Bool) → IsEnded (c ∷ s) (λ u. if b then raw_text n (prefix + suc n) u else gives (Err (InvalidStarter c)) u) s
-    by_quote true = text_ended n (prefix + suc n) (c ∷ s) s
-    by_quote false = record { within = λ end. gives_local 0 (Err (InvalidStarter c)) s; ends = inl (let some : 0 < suc (length s) = omega arith in some) }
+past_starter_ended prefix n c s = grind (arith, common_steps, text_ended, gives_local)
 
 raw_starter_ended : (prefix n : ℕ) (s : List ℕ) → IsEnded s (raw_starter prefix n) s
-raw_starter_ended prefix n [] = record { within = λ end. absurd (let no : 0 < 0 = end in omega arith); ends = inr refl }
-raw_starter_ended prefix n (c ∷ s) =
-    let is = past_starter_ended prefix n c s in
-    record {
-      within = λ end. first_at 0 (past_starter prefix n) (raw_starter prefix n) c s (λ c s. refl) (is.within end);
-      ends = elim (is.ends) as (λ _. HasEnd (c ∷ s) (raw_starter prefix n (c ∷ s)).0 ⊎ ((raw_starter prefix n (c ∷ s)).1 ≡ length (c ∷ s))) [ inl end ↦ inl end | inr all ↦ inr (ap suc all) ];
-    }
+raw_starter_ended prefix n w2 = grind (arith, common_steps, past_starter_ended, first_at)
 
 starter-some : (prefix n : ℕ) (s : List ℕ) → HasEnd s (raw_starter prefix n s).0 → 0 < (raw_starter prefix n s).1
 starter-some prefix n [] end = absurd (let no : 0 < 0 = end in omega arith)
@@ -130,24 +94,15 @@ abbrev starter_by : (prefix n c : ℕ) → List ℕ → Bool → Option ℕ → 
 starter_by prefix n c v b o = let r : Read = if b then raw_closed n (prefix + suc n) v o else gives (Err (InvalidStarter c)) v in (r.0, suc r.1)
 
 starter-prefix : (p q n : ℕ) (v : List ℕ) → seen n (raw_starter p n v) ≡ seen n (raw_starter q n v)
-starter-prefix p q n [] = refl
-starter-prefix p q n (c ∷ v) = by_quote (is_quote c) (close n v)
-  where
-    by_quote : (b : Bool) (o : Option ℕ) → seen n (starter_by p n c v b o) ≡ seen n (starter_by q n c v b o)
-    by_quote true None = refl
-    by_quote true (Some i) = refl
-    by_quote false o = refl
+starter-prefix p q n w3 = grind (arith, common_steps)
 
 pub raw_read_prefix : (p q : ℕ) (s : List ℕ) → seen 0 (raw_read p s) ≡ seen 0 (raw_read q s)
 raw_read_prefix p q s = ap (λ (r : Option ℕ × ℕ). let t : Option ℕ × ℕ = (r.0, 0 + r.1) in t) (starter-prefix p q (hash_run s) (drop (hash_run s) s))
 
 -- alone, the text of a raw string is read as it was where it stood
 pub raw_read_own : (prefix : ℕ) (s : List ℕ) (t : ℕ) → (raw_read 0 s).1 ≤ t → accepted (raw_read prefix (take t s)).0 ≡ accepted (raw_read 0 s).0
-raw_read_own prefix s t le = ap (λ (r : Option ℕ × ℕ). r.0) (raw_read_prefix prefix 0 (take t s)) ∙ ap (λ (r : Read). accepted r.0) (by_end ((raw_read_ended 0 s).ends))
-  where
-    by_end : HasEnd (drop (hash_run s) s) (raw_read 0 s).0 ⊎ ((raw_read 0 s).1 ≡ length s) → raw_read 0 (take t s) ≡ raw_read 0 s
-    by_end (inl end) = (raw_read_within 0 s end).local (take t s) (take-take ((raw_read 0 s).1 + 0) t s (omega arith))
-    by_end (inr all) = ap (raw_read 0) (take_all t s (omega arith))
+raw_read_own prefix s t le =
+    grind (arith, common_steps, raw_read_prefix, raw_read_ended, raw_read_within, take-take, take_all)
 
 -- how far the body of a literal looks, from how far what is read does
 body_at : (k : ℕ) (kind : Option ℕ → LiteralKind) (s : List ℕ) → IsLocalAt (Result ℕ RawStrError) k (raw_read 0) s → IsLocalAt Body k (raw_body kind) s

@@ -3,6 +3,7 @@ use Rattle.std.proofs.Common.{◌≡◌, ℕ, zero, suc, ◌+◌, ◌≤◌, ◌
 use Rattle.std.proofs.lemmas.List.{drop-take}
 use Rattle.std.specs.List.{list_all}
 use Rattle.std.proofs.lemmas.Bool.{and_parts}
+use Rattle.std.proofs.lemmas.Grind.{common_steps}
 use Rattle.rustc_lexer.specs.laws.Choice.{by_test}
 use Rattle.rustc_lexer.specs.means.Least.{one_more, least}
 use Rattle.rustc_lexer.specs.means.Scan.{IsLocalAt, IsLocal, IsFound, or_all, or_all_at, then_by, and_then, gives, after, read_as, begins, next_is, run_len, run, run_as}
@@ -69,9 +70,7 @@ all_at k scan s some all = record { inside = omega arith; local = λ u e. ap sca
 
 -- two ways to say the same scanner
 pub same_at : {A : Type 0} (k : ℕ) (scan other : List ℕ → A × ℕ) (s : List ℕ) → ((s : List ℕ) → scan s ≡ other s) → IsLocalAt A k other s → IsLocalAt A k scan s
-same_at {A} k scan other s same is =
-    let len : (scan s).1 ≡ (other s).1 = ap (λ (r : A × ℕ). r.1) (same s) in
-    record { inside = omega (arith, is.inside); local = λ u e. same u ∙ (is.local u (subst (λ (n : ℕ). take (n + k) u ≡ take (n + k) s) len e) ∙ sym (same s)) }
+same_at {A} k scan other s same is = grind (arith, common_steps)
 
 -- another answer
 pub read_as_at : {A B : Type 0} (k : ℕ) (f : A → B) (scan : List ℕ → A × ℕ) (s : List ℕ) → IsLocalAt A k scan s → IsLocalAt B k (read_as f scan) s
@@ -96,12 +95,7 @@ and_then_local k scan next is nexts s = and_then_at k k scan next s (is s) (next
 
 -- past some characters
 pub after_at : {A : Type 0} (k n : ℕ) (scan : List ℕ → A × ℕ) (s : List ℕ) → n ≤ length s → IsLocalAt A k scan (drop n s) → IsLocalAt A k (after n scan) s
-after_at {A} k n scan s fits is =
-    let m : ℕ = (scan (drop n s)).1 in
-    record {
-      inside = omega (arith, is.inside, length-drop n s);
-      local = λ u e. ap (λ (r : A × ℕ). let q : A × ℕ = (r.0, n + r.1) in q) (is.local (drop n u) (cut_past n (m + k) (n + m + k) u s (omega arith) e));
-    }
+after_at {A} k n scan s fits is = grind (arith, common_steps, length-drop, cut_past)
 
 -- a choice by a test that is told by j characters
 module _ {A : Type 0} (j k : ℕ) (test : List ℕ → Bool) (scan other : List ℕ → A × ℕ) (told : IsToldBy j test) where
@@ -131,11 +125,7 @@ module _ {A : Type 0} (j k : ℕ) (test : List ℕ → Bool) (scan other : List 
   }
 
   pub either_at : (s : List ℕ) → j ≤ k → (test s ≡ true → IsLocalAt A k scan s) → (test s ≡ false → IsLocalAt A k other s) → IsLocalAt A k (λ s. if test s then scan s else other s) s
-  either_at s le yes_is no_is = by_test (test s) refl
-    where
-      by_test : (b : Bool) → test s ≡ b → IsLocalAt A k (λ s. if test s then scan s else other s) s
-      by_test true t = yes_at s t (omega arith) (yes_is t)
-      by_test false t = no_at s t (omega arith) (no_is t)
+  either_at s le yes_is no_is = grind (arith, common_steps, yes_at, no_at)
 
 -- the first characters choose, and are taken
 pub begins_local : {A : Type 0} (k : ℕ) (p : List ℕ) (scan other : List ℕ → A × ℕ) → length p ≤ k → IsLocal A k scan → IsLocal A k other → IsLocal A k (λ s. if begins p s then after (length p) scan s else other s)
@@ -149,14 +139,7 @@ next_is_local k p scan other le is others s =
 -- the first character is taken
 pub first_at : {A : Type 0} (k : ℕ) (past_first : ℕ → List ℕ → A × ℕ) (scan : List ℕ → A × ℕ) (c : ℕ) (s : List ℕ) → ((c : ℕ) (s : List ℕ) → scan (c ∷ s) ≡ ((past_first c s).0, suc (past_first c s).1))
     → IsLocalAt A k (past_first c) s → IsLocalAt A k scan (c ∷ s)
-first_at {A} k past_first scan c s at_char is =
-    let m : ℕ = (past_first c s).1 in
-    let len : (scan (c ∷ s)).1 ≡ suc m = ap (λ (r : A × ℕ). r.1) (at_char c s) in
-    let sum : (scan (c ∷ s)).1 + k ≡ suc (m + k) = omega arith in
-    record { inside = omega (arith, is.inside); local = λ u e. local u (cut_first (m + k) c u s (subst (λ (n : ℕ). take n u ≡ take n (c ∷ s)) sum e)) }
-  where
-    local : (u : List ℕ) → HasFirst c ((past_first c s).1 + k) u s → scan u ≡ scan (c ∷ s)
-    local u f = ap scan f.whole ∙ (at_char c f.rest ∙ (ap (λ (r : A × ℕ). let q : A × ℕ = (r.0, suc r.1) in q) (is.local f.rest f.alike) ∙ sym (at_char c s)))
+first_at {A} k past_first scan c s at_char is = grind (arith, common_steps, cut_first)
 
 pub first_local : {A : Type 0} (k : ℕ) (end : A) (past_first : ℕ → List ℕ → A × ℕ) (scan : List ℕ → A × ℕ) → 0 < k → scan [] ≡ (end, 0)
     → ((c : ℕ) (s : List ℕ) → scan (c ∷ s) ≡ ((past_first c s).0, suc (past_first c s).1)) → ((c : ℕ) → IsLocal A k (past_first c)) → IsLocal A k scan
@@ -219,21 +202,14 @@ module _ (end : List ℕ → Option ℕ) where
   up_to_at o u = (o, (or_all_at o u).1)
 
   pub found_at : (k : ℕ) (s : List ℕ) (n : ℕ) → end s ≡ Some n → n ≤ length s → ((u : List ℕ) → take (n + k) u ≡ take (n + k) s → end u ≡ Some n) → IsLocalAt (Option ℕ) k (λ u. (end u, (or_all end u).1)) s
-  found_at k s n e le same =
-      let len : (or_all end s).1 ≡ n = ap (λ (o : Option ℕ). (or_all_at o s).1) e in
-      record {
-        inside = omega arith;
-        local = λ u a. ap (λ o. up_to_at o u) (same u (subst (λ (m : ℕ). take (m + k) u ≡ take (m + k) s) len a)) ∙ sym (ap (λ o. up_to_at o s) e);
-      }
+  found_at k s n e le same = grind (arith, common_steps)
 
   module _ (k : ℕ) (is : IsFound k end) (s : List ℕ) (n : ℕ) (e : end s ≡ Some n) where
     pub found-inside : n ≤ length s
     found-inside = let len : (or_all end s).1 ≡ n = ap (λ (o : Option ℕ). (or_all_at o s).1) e in let at = is s n e in omega (arith, at.inside)
 
     pub found-same : (u : List ℕ) → take (n + k) u ≡ take (n + k) s → end u ≡ Some n
-    found-same u a =
-        let len : n ≡ (or_all end s).1 = sym (ap (λ (o : Option ℕ). (or_all_at o s).1) e) in
-        ap (λ (r : Option ℕ × ℕ). r.0) ((is s n e).local u (subst (λ (m : ℕ). take (m + k) u ≡ take (m + k) s) len a)) ∙ e
+    found-same u a = grind (arith, common_steps)
 
 -- the least number that passes a test
 pub record IsLeast (test : ℕ → Bool) (count n : ℕ) : Type 0 where
@@ -271,6 +247,10 @@ least-is test (suc count) (suc n) is =
     let none : test 0 ≡ false = is.before 0 (omega arith) in
     let lt : n < count = let l = is.below in omega arith in
     rw none (ap one_more (least-is (λ i. test (suc i)) count n record { below = lt; here = is.here; before = λ i l. is.before (suc i) (omega arith) }))
+
+pub least-none : (test : ℕ → Bool) (count : ℕ) → ((i : ℕ) → i < count → test i ≡ false) → least test count ≡ None
+least-none test zero none = refl
+least-none test (suc count) none = rw (none 0 (omega arith)) (ap one_more (least-none (λ i. test (suc i)) count (λ i lt. none (suc i) (omega arith))))
 
 -- the least place that passes a test of what stands before it and of k characters from it on
 pub least_found : (k : ℕ) (test : List ℕ → ℕ → Bool) → 0 < k → ((u s : List ℕ) (i : ℕ) → take (i + k) u ≡ take (i + k) s → test u i ≡ test s i) → IsFound k (λ s. least (test s) (length s))

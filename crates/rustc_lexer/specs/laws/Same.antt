@@ -1,16 +1,15 @@
 -- What `==` of two tokens tells: that they are the same.
-use Rattle.std.proofs.Common.{◌≡◌, ◌↔◌, IsTrue, Bool, true, false, true≢false, refl, sym, ap, ◌∙◌, ◌==◌, List, [], ◌∷◌, Option, Some, None, ◌&&◌, inl, inr}
+use Rattle.std.proofs.Common.{◌≡◌, ◌↔◌, IsTrue, Bool, true, false, true≢false, refl, sym, ap, ◌∙◌, ◌==◌, List, [], ◌∷◌, Option, ◌&&◌, inl, inr, arith}
 use Rattle.std.specs.Cmp.Derive.{of_values}
 use Rattle.std.specs.Option.{option_eq}
 use Rattle.std.proofs.lemmas.Bool.{and_parts, eqb-true}
+use Rattle.std.proofs.lemmas.Grind.{common_steps}
 use denote.Enum.Bare.{same_true}
 use denote.Enum.Compared.{Each, by}
 use denote.Enum.Declared.{Record, Choice, values_one}
 use denote.Struct.Field.{Field}
 use mathlib.Core.Bool.{beq}
-use Rattle.rustc_lexer.specs.contracts.token.Base as base
 use Rattle.rustc_lexer.specs.contracts.token.DocStyle as doc_style
-use Rattle.rustc_lexer.specs.contracts.token.LiteralKind as literal_kind
 use Rattle.rustc_lexer.specs.contracts.token.LiteralKindPartialEq.TheImpl as literal
 use Rattle.rustc_lexer.specs.contracts.token.TokenEq.TheImpl.Laws as equal
 use Rattle.rustc_lexer.specs.contracts.token.TokenKind as token_kind
@@ -35,10 +34,7 @@ two : {J K : Type 0} {D : J → J → Bool} {E : K → K → Bool} → Tells D �
 two {J} {K} {D} {E} t u = record { tells = λ x y e. let both = and_parts (D x.0 y.0) (E x.1.0 y.1.0) e in λ i. (t.tells x.0 y.0 both.0 i, (u.tells x.1.0 y.1.0 both.1 i, tt)) }
 
 flag-tells : (x y : Bool) → beq x y ≡ true → x ≡ y
-flag-tells true true e = refl
-flag-tells false false e = refl
-flag-tells true false e = absurd (true≢false (sym e))
-flag-tells false true e = absurd (true≢false (sym e))
+flag-tells w0 w1 e = grind (arith, common_steps)
 
 flag : Tells beq
 flag = record { tells = flag-tells }
@@ -47,10 +43,7 @@ number : Tells ◌==◌
 number = record { tells = λ x y e. eqb-true x y e }
 
 option-tells : {K : Type 0} (E : K → K → Bool) → Tells E → (x y : Option K) → option_eq E x y ≡ true → x ≡ y
-option-tells E t None None e = refl
-option-tells E t (Some x) (Some y) e = ap Some (t.tells x y e)
-option-tells E t None (Some y) e = absurd (true≢false (sym e))
-option-tells E t (Some x) None e = absurd (true≢false (sym e))
+option-tells w0 t w2 w3 e = grind (arith, common_steps)
 
 option : {K : Type 0} {E : K → K → Bool} → Tells E → Tells (option_eq E)
 option {K} {E} t = record { tells = option-tells E t }
@@ -76,11 +69,7 @@ of_enum N es all = record { tells = λ a b e. values_one N a b (choices N.parts 
 -- ---- tokens
 
 literal-tells : Tells literal.ghosts.eq
-literal-tells =
-    let based = two (record { tells = same_true base.the_type tt }) flag in
-    let closed = one flag in
-    let hashes = one (option number) in
-    of_enum literal_kind.enum _ (based, (based, (closed, (closed, (closed, (closed, (closed, (hashes, (hashes, (hashes, tt))))))))))
+literal-tells = grind (arith, common_steps, two, flag, one, option, of_enum)
 
 kind-tells : Tells kind.ghosts.eq
 kind-tells =
@@ -88,9 +77,7 @@ kind-tells =
     of_enum token_kind.enum _ (one style, (two style flag, (two flag flag, (two literal-tells number, (one flag, tt)))))
 
 pub same_token : (a b : Token) → is_same a b ≡ true → a ≡ b
-same_token a b e =
-    let both = and_parts (kind.ghosts.eq a.kind b.kind) (a.len == b.len) e in
-    λ i. record { kind = kind-tells.tells a.kind b.kind both.0 i; len = eqb-true a.len b.len both.1 i }
+same_token a b e = grind (arith, common_steps, and_parts, kind-tells, eqb-true)
 
 token_same : (a b : Token) → a ≡ b → is_same a b ≡ true
 token_same a b e = ap (is_same a) (sym e) ∙ equal.laws-law.refl a

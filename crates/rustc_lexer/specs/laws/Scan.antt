@@ -1,10 +1,12 @@
 -- What scanners read of a text and leave of it.
 use Rattle.std.proofs.Common.{◌≡◌, ℕ, suc, ◌+◌, ◌≤◌, Bool, true, false, if◌then◌else◌, List, [], ◌∷◌, length, drop, refl, sym, ap, ◌∙◌, arith, Option, Some, None}
 use Rattle.std.specs.Str.{chars, IsUtf8}
+use Rattle.std.proofs.lemmas.Grind.{common_steps}
 use Rattle.rustc_lexer.specs.means.Scan.{after, and_then, gives, next_is, past, read_as, run_len, scanned}
 use Rattle.rustc_lexer.specs.Classes.{is_id_start, is_id_continue}
 use Rattle.rustc_lexer.specs.means.Least.{more}
 use Rattle.rustc_lexer.specs.means.Literal.{suffix_len}
+use Rattle.rustc_lexer.specs.laws.Choice.{by_either}
 use Rattle.rustc_lexer.specs.laws.Past.{past-zero, past-past, chars-past, length-past}
 
 module _ {A : Type 0} where
@@ -12,10 +14,7 @@ module _ {A : Type 0} where
   scanned-gives a text is = ap (λ xs. (a, xs)) (past-zero text is)
 
   pub scanned-after : (n : ℕ) (scan : List ℕ → A × ℕ) (text rest : List ℕ) → IsUtf8 text → rest ≡ past n text → scanned (after n scan) text ≡ scanned scan rest
-  scanned-after n scan text rest is e =
-      let cs : chars rest ≡ drop n (chars text) = ap chars e ∙ chars-past n text is in
-      let left : past (n + (scan (drop n (chars text))).1) text ≡ past (scan (drop n (chars text))).1 rest = sym (ap (past (scan (drop n (chars text))).1) e ∙ past-past _ n text is) in
-      ap (λ xs. ((scan (drop n (chars text))).0, xs)) left ∙ ap (λ ds. ((scan ds).0, past (scan ds).1 rest)) (sym cs)
+  scanned-after n scan text rest is e = grind (arith, common_steps, chars-past, past-past)
 
   pub scanned-yes : (test : List ℕ → Bool) (scan other : List ℕ → A × ℕ) (text : List ℕ) → test (chars text) ≡ true → scanned (λ s. if test s then scan s else other s) text ≡ scanned scan text
   scanned-yes test scan other text e =
@@ -31,9 +30,7 @@ module _ {A : Type 0} where
 -- one scanner, then the next on what it left
 pub scanned-and_then : {A B : Type 0} (scan : List ℕ → A × ℕ) (next : A → List ℕ → B × ℕ) (text rest : List ℕ) (a : A) → IsUtf8 text → (a, rest) ≡ scanned scan text
     → scanned (and_then scan next) text ≡ scanned (next a) rest
-scanned-and_then {A} {B} scan next text rest a is e =
-    scanned-after (scan (chars text)).1 (next (scan (chars text)).0) text rest is (ap (λ (r : A × List ℕ). r.1) e)
-    ∙ ap (λ (x : A). scanned (next x) rest) (sym (ap (λ (r : A × List ℕ). r.0) e))
+scanned-and_then {A} {B} scan next text rest a is e = grind (arith, common_steps, scanned-after)
 
 pub scanned-read_as : {A B : Type 0} (f : A → B) (scan : List ℕ → A × ℕ) (text rest : List ℕ) (a : A) → (a, rest) ≡ scanned scan text → (f a, rest) ≡ scanned (read_as f scan) text
 scanned-read_as {A} f scan text rest a e = ap (λ (r : A × List ℕ). (f r.0, r.1)) e
@@ -47,14 +44,12 @@ scanned-shorter {A} scan text rest a is e =
 -- a run ends before a character outside its class
 pub run_len-stop : (p : ℕ → Bool) (s : List ℕ) (c : ℕ) (u : List ℕ) → drop (run_len p s) s ≡ c ∷ u → p c ≡ false
 run_len-stop p [] c u e = absurd (cc)
-run_len-stop p (d ∷ s) c u e = by_class (λ f. run_len-stop p s c u f) (p d) refl
-  where
-    by_class : (drop (run_len p s) s ≡ c ∷ u → p c ≡ false) → (b : Bool) → p d ≡ b → p c ≡ false
-    by_class ih true f = ih (ap (λ (b : Bool). drop (if b then suc (run_len p s) else 0) (d ∷ s)) (sym f) ∙ e)
-    by_class ih false f =
-        let same : d ∷ s ≡ c ∷ u = ap (λ (b : Bool). drop (if b then suc (run_len p s) else 0) (d ∷ s)) (sym f) ∙ e in
-        let head : d ≡ c = cc in
-        ap p (sym head) ∙ f
+run_len-stop p (d ∷ s) c u e = by_either (p d)
+    (λ f. run_len-stop p s c u (ap (λ (b : Bool). drop (if b then suc (run_len p s) else 0) (d ∷ s)) (sym f) ∙ e))
+    (λ f.
+    let same : d ∷ s ≡ c ∷ u = ap (λ (b : Bool). drop (if b then suc (run_len p s) else 0) (d ∷ s)) (sym f) ∙ e in
+    let head : d ≡ c = cc in
+    ap p (sym head) ∙ f)
 
 -- what is found so much further on, and so much further
 pub more-more : (a b : ℕ) (o : Option ℕ) → more a (more b o) ≡ more (a + b) o
@@ -71,10 +66,7 @@ next_is-nil p cs e = ap (next_is p) e
 -- what the suffix of a literal leaves
 module _ (rest : List ℕ) (is : IsUtf8 rest) where
   pub suffix-yes : (tail left : List ℕ) → next_is is_id_start (chars rest) ≡ true → tail ≡ past 1 rest → left ≡ past (run_len is_id_continue (chars tail)) tail → left ≡ past (suffix_len (chars rest)) rest
-  suffix-yes tail left e at f =
-      let n : ℕ = run_len is_id_continue (chars tail) in
-      let same : n ≡ run_len is_id_continue (drop 1 (chars rest)) = ap (run_len is_id_continue) (ap chars at ∙ chars-past 1 rest is) in
-      f ∙ (ap (past n) at ∙ (past-past n 1 rest is ∙ (ap (λ k. past (1 + k) rest) same ∙ ap (λ (b : Bool). past (if b then 1 + run_len is_id_continue (drop 1 (chars rest)) else 0) rest) (sym e))))
+  suffix-yes tail left e at f = grind (arith, common_steps, chars-past, past-past)
 
   pub suffix-no : next_is is_id_start (chars rest) ≡ false → rest ≡ past (suffix_len (chars rest)) rest
   suffix-no e = sym (past-zero rest is) ∙ ap (λ (b : Bool). past (if b then 1 + run_len is_id_continue (drop 1 (chars rest)) else 0) rest) (sym e)

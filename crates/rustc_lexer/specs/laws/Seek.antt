@@ -1,9 +1,10 @@
 -- The place of a stop in a quoted text is found by one pass.
-use Rattle.std.proofs.Common.{◌≡◌, ℕ, suc, ◌&&◌, not, Bool, true, false, if◌then◌else◌, List, [], ◌∷◌, length, take, drop, refl, ap, ◌∙◌, Option, Some, None}
+use Rattle.std.proofs.Common.{◌≡◌, ℕ, suc, ◌&&◌, not, Bool, false, if◌then◌else◌, List, [], ◌∷◌, length, take, drop, refl, ap, ◌∙◌, Option, Some, None, arith}
+use Rattle.std.proofs.lemmas.Grind.{common_steps}
 use mathlib.Core.List.{reverse_aux}
 use Rattle.rustc_lexer.specs.means.Least.{one_more, least}
 use Rattle.rustc_lexer.specs.means.Quoted.{is_backslash, is_odd, free_place, stopped}
-use Rattle.rustc_lexer.specs.means.Scan.{begins, run_len}
+use Rattle.rustc_lexer.specs.means.Scan.{run_len}
 
 -- one pass finds the place that is sought, which knows whether the next character is escaped
 abbrev pub seek : (List ℕ → Bool) → List ℕ → Bool → Option ℕ
@@ -15,13 +16,7 @@ abbrev escapes : List ℕ → Bool
 escapes before = is_odd (run_len is_backslash before)
 
 escapes-cons : (c : ℕ) (before : List ℕ) → escapes (c ∷ before) ≡ (if escapes before then false else is_backslash c)
-escapes-cons c before = by_test (is_backslash c) (escapes before) refl refl
-  where
-    by_test : (b d : Bool) → is_backslash c ≡ b → escapes before ≡ d → escapes (c ∷ before) ≡ (if escapes before then false else is_backslash c)
-    by_test true true e f = rw (e, f) refl
-    by_test true false e f = rw (e, f) refl
-    by_test false true e f = rw (e, f) refl
-    by_test false false e f = rw (e, f) refl
+escapes-cons c before = grind (arith, common_steps)
 
 seek-least : (test : List ℕ → Bool) (s before : List ℕ) → least (λ place. not (escapes (reverse_aux (take place s) before)) && test (drop place s)) (length s) ≡ seek test s (escapes before)
 seek-least test [] before = refl
@@ -33,9 +28,4 @@ free_place-seek test s = seek-least test s []
 
 -- where the stop is one character later, so is the end
 pub stopped-more : (quote : ℕ) (o : Option ℕ) (c : ℕ) (s : List ℕ) → stopped quote (one_more o) (c ∷ s) ≡ ((stopped quote o s).0, suc (stopped quote o s).1)
-stopped-more quote None c s = refl
-stopped-more quote (Some n) c s = by_quote (begins (quote ∷ []) (drop n s)) refl
-  where
-    by_quote : (b : Bool) → begins (quote ∷ []) (drop n s) ≡ b → stopped quote (Some (suc n)) (c ∷ s) ≡ ((stopped quote (Some n) s).0, suc (stopped quote (Some n) s).1)
-    by_quote true t = rw t refl
-    by_quote false t = rw t refl
+stopped-more quote w1 c s = grind (arith, common_steps)

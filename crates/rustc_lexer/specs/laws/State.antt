@@ -1,12 +1,13 @@
 -- The state after a token.
-use Rattle.std.proofs.Common.{◌≡◌, ℕ, ◌==◌, true, false, true≢false, List, [], ◌∷◌, length, drop, refl, sym, ap, ◌∙◌, arith, zero-add, ◌+◌, ◌<◌, IsCharBoundary}
+use Rattle.std.proofs.Common.{◌≡◌, ℕ, ◌==◌, true, false, List, length, drop, refl, sym, ap, ◌∙◌, arith, zero-add, ◌<◌, IsCharBoundary}
 use Rattle.std.proofs.lemmas.Bool.{eqb-true, ne_eqb}
+use Rattle.std.proofs.lemmas.Grind.{common_steps}
 use Rattle.rustc_lexer.specs.declared.token.Token.{Token}
 use Rattle.rustc_lexer.specs.declared.token.TokenKind.{TokenKind}
-use Rattle.rustc_lexer.specs.declared.token.TokenKind.TheVariants.{Eof, Literal, Whitespace}
-use Rattle.rustc_lexer.specs.LanguageText.{Mode, document, part, mode_after, mode_edition}
+use Rattle.rustc_lexer.specs.declared.token.TokenKind.TheVariants.{Eof, Literal}
+use Rattle.rustc_lexer.specs.LanguageText.{Mode, mode_after, mode_edition}
 use Rattle.rustc_lexer.specs.State.{State, kind_past, token_past}
-use Rattle.rustc_lexer.specs.means.Taking.{token_at, advance_by, advance}
+use Rattle.rustc_lexer.specs.means.Taking.{token_at, advance}
 
 abbrev pub state : ℕ → List ℕ → Mode → State
 state pending rest mode = record { pending = pending; rest = rest; mode = mode }
@@ -23,27 +24,16 @@ past_token-is rest cut mode next token e f = ap (λ xs. state 0 xs next) e ∙ a
 
 -- a token leaves the edition as it is
 pub edition-after : (mode : Mode) (kind : TokenKind) → mode_edition (mode_after mode kind) ≡ mode_edition mode
-edition-after (part edition) kind = refl
-edition-after (document edition) Whitespace = refl
-edition-after (document edition) Eof = refl
-edition-after (document edition) kind = refl
+edition-after w0 kind = grind (arith, common_steps)
 
 module _ (pending : ℕ) (rest : List ℕ) (mode : Mode) (s : State) (e : state pending rest mode ≡ s) where
   pub advance-end : (length rest == 0) ≡ true → advance s ≡ (record { kind = Eof; len = 0 }, s)
   unfolding advance
-  advance-end none = sym (ap (λ (x : State). advance_by x.rest x) e) ∙ (at_end rest refl none ∙ ap (λ (x : State). let t : Token = record { kind = Eof; len = 0 } in (t, x)) e)
-    where
-      at_end : (r : List ℕ) → rest ≡ r → (length r == 0) ≡ true → advance_by rest (state pending rest mode) ≡ (record { kind = Eof; len = 0 }, state pending rest mode)
-      at_end [] f none = ap (λ r. advance_by r (state pending rest mode)) f
-      at_end (b ∷ bs) f none = absurd (let z = eqb-true (length (b ∷ bs)) 0 none in omega arith)
+  advance-end none = grind (arith, common_steps, eqb-true)
 
   pub advance-some : (length rest == 0) ≡ false → advance s ≡ (token_past pending (token_at mode rest), past_token rest mode (token_at mode rest))
   unfolding advance
-  advance-some some = sym (ap (λ (x : State). advance_by x.rest x) e) ∙ at_char rest refl some
-    where
-      at_char : (r : List ℕ) → rest ≡ r → (length r == 0) ≡ false → advance_by rest (state pending rest mode) ≡ (token_past pending (token_at mode rest), past_token rest mode (token_at mode rest))
-      at_char [] f some = absurd (true≢false some)
-      at_char (b ∷ bs) f some = ap (λ r. advance_by r (state pending rest mode)) f
+  advance-some some = grind (arith, common_steps)
 
 -- with nothing pending the token is the first one of the text
 kind_past-zero : (kind : TokenKind) → kind_past 0 kind ≡ kind
@@ -51,9 +41,7 @@ kind_past-zero (Literal kind start) = ap (Literal kind) (zero-add start)
 kind_past-zero kind = refl
 
 pub token_past-zero : (token : Token) → token_past 0 token ≡ token
-token_past-zero token =
-    ap (λ (k : TokenKind). let t : Token = record { kind = k; len = 0 + token.len } in t) (kind_past-zero token.kind)
-    ∙ ap (λ (n : ℕ). let t : Token = record { kind = token.kind; len = n } in t) (zero-add token.len)
+token_past-zero token = grind (arith, common_steps, kind_past-zero, zero-add)
 
 pub first-advanced : (text : List ℕ) (mode : Mode) (s : State) → s ≡ state 0 text mode → 0 < length text → (advance s).0 ≡ token_at mode text
 first-advanced text mode s e some = ap (λ (r : Token × State). r.0) (advance-some 0 text mode s (sym e) (ne_eqb (length text) 0 (λ none. omega arith))) ∙ token_past-zero (token_at mode text)

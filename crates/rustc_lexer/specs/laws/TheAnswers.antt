@@ -1,5 +1,5 @@
 -- How each answer of the page is found, and that it is the only one.
-use Rattle.std.proofs.Common.{◌≡◌, ℕ, ◌<◌, ◌==◌, Bool, true, false, List, [], ◌∷◌, length, drop, refl, sym, ap, ◌∙◌, subst, arith, pos_of_ne-zero}
+use Rattle.std.proofs.Common.{◌≡◌, ℕ, ◌<◌, ◌==◌, true, false, List, [], ◌∷◌, length, drop, refl, sym, ap, ◌∙◌, subst, arith, pos_of_ne-zero}
 use Rattle.std.proofs.lemmas.Bool.{eqb-true, eqb-false}
 use Rattle.std.specs.Str.{chars}
 use Rattle.std.proofs.lemmas.List.{nil_from_length}
@@ -10,6 +10,7 @@ use Rattle.rustc_lexer.specs.LanguageCalls.{IsRawAnswer, IsShebang}
 use Rattle.rustc_lexer.specs.State.{IsFirst, TakesGuarded, TakesNext, nothing_left, first_left, State, token_past}
 use Rattle.rustc_lexer.specs.LanguageText.{Mode, part, mode_after, AreTokens, TheOnly}
 use Rattle.rustc_lexer.specs.Classes.{IsText}
+use Rattle.rustc_lexer.specs.laws.Choice.{by_either}
 use Rattle.rustc_lexer.specs.laws.LanguageGuarded.{guarded-answer}
 use Rattle.rustc_lexer.specs.laws.LanguageRefusals.{raw-answer}
 use Rattle.rustc_lexer.specs.laws.LanguageShebang.{shebang-answer}
@@ -74,20 +75,16 @@ module _ (s : State) (is : IsText s.rest) where
 
   pub next-read : (other : Token × State) → TakesNext s other → other ≡ means_taking.advance s
   next-read _ (nothing_left e) = sym (at_end (ap (λ (text : List ℕ). length text == 0) e))
-  next-read _ (first_left {token} {tokens} are) = by_end (length s.rest == 0) refl
-    where
-      by_end : (b : Bool) → (length s.rest == 0) ≡ b → (token_past s.pending token, past_token s.rest s.mode token) ≡ means_taking.advance s
-      by_end true e = absurd (no_token token tokens e are)
-      by_end false e =
-          let same : token ≡ token_at s.mode s.rest = first-read s.mode s.rest is (nonempty e) token tokens are in
-          ap (λ (t : Token). let r : Token × State = (token_past s.pending t, past_token s.rest s.mode t) in r) same ∙ sym (at_token e)
+  next-read _ (first_left {token} {tokens} are) = by_either (length s.rest == 0)
+      (λ e. absurd (no_token token tokens e are))
+      (λ e.
+      let same : token ≡ token_at s.mode s.rest = first-read s.mode s.rest is (nonempty e) token tokens are in
+      ap (λ (t : Token). let r : Token × State = (token_past s.pending t, past_token s.rest s.mode t) in r) same ∙ sym (at_token e))
 
   pub next-is : TakesNext s (means_taking.advance s)
-  next-is = by_end (length s.rest == 0) refl
-    where
-      by_end : (b : Bool) → (length s.rest == 0) ≡ b → TakesNext s (means_taking.advance s)
-      by_end true e = subst (TakesNext s) (sym (at_end e)) (nothing_left (empty e))
-      by_end false e = subst (TakesNext s) (sym (at_token e)) (first_left (first-are s.mode s.rest is (nonempty e)))
+  next-is = by_either (length s.rest == 0)
+      (λ e. subst (TakesNext s) (sym (at_end e)) (nothing_left (empty e)))
+      (λ e. subst (TakesNext s) (sym (at_token e)) (first_left (first-are s.mode s.rest is (nonempty e))))
 
 abbrev pub the_next : (s : State) → TheOnly (IsText s.rest) (TakesNext s)
 the_next s = record {

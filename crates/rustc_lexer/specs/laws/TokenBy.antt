@@ -3,6 +3,7 @@ use Rattle.std.proofs.Common.{◌≡◌, ℕ, zero, suc, ◌+◌, ◌<◌, ◌�
 use lib.Utf8.{encodes, scalars, scalar}
 use Rattle.std.proofs.lemmas.Str.{chars-append, chars-encodes, encodes-chars, scalars-chars, encodes-append, IsCharBoundary-from_take, IsUtf8-drop, length-le-encodes}
 use Rattle.std.proofs.lemmas.Bool.{and_parts}
+use Rattle.std.proofs.lemmas.Grind.{common_steps}
 use Rattle.rustc_lexer.specs.declared.token.TokenKind.{TokenKind}
 use Rattle.rustc_lexer.specs.Classes.{IsText}
 use Rattle.rustc_lexer.specs.Locality.{IsGrammar, AgreePast}
@@ -11,10 +12,7 @@ use Rattle.rustc_lexer.specs.means.Scan.{IsLocal, token_by}
 
 -- what is left of a text past a front that may be cut off
 pub left_text : (other : List ℕ) (n : ℕ) → IsText other → n ≤ length other → IsUtf8 (take n other) → IsText (drop n other)
-left_text other n is inside front = record {
-  utf8 = IsUtf8-drop other n is.utf8 (IsCharBoundary-from_take other n is.utf8 inside front);
-  fits = let f = is.fits in omega (arith, length-drop n other);
-}
+left_text other n is inside front = grind (arith, common_steps, IsUtf8-drop, IsCharBoundary-from_take, length-drop)
 
 pub scalars-take : (n : ℕ) (cs : List ℕ) → scalars cs ≡ true → scalars (take n cs) ≡ true
 scalars-take zero cs is = refl

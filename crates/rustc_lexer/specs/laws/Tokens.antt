@@ -3,6 +3,7 @@ use Rattle.std.proofs.Common.{◌≡◌, ℕ, zero, suc, ◌<◌, ◌≤◌, Lis
 use Rattle.std.specs.Str.{IsUtf8}
 use Rattle.std.proofs.lemmas.Str.{IsUtf8-append, IsUtf8-drop, IsUtf8-nil, IsUtf8-take, IsCharBoundary-from_take}
 use Rattle.std.proofs.lemmas.List.Elements.{All-nil, All-cons}
+use Rattle.std.proofs.lemmas.Grind.{common_steps}
 use Rattle.rustc_lexer.specs.declared.token.Token.{Token}
 use Rattle.rustc_lexer.specs.Locality.{tokens_by, bound, Partitions}
 use Rattle.rustc_lexer.specs.means.Tokens.{cut, tokens_of_document, tokens_of}
@@ -74,13 +75,7 @@ tokens-nil (document edition) = refl
 pub tokens-cons : (mode : Mode) (text : List ℕ) → IsText text → 0 < length text
     → tokens_of mode text ≡ token_at mode text ∷ tokens_of (mode_after mode (token_at mode text).kind) (drop (token_at mode text).len text)
 unfolding tokens_of_document
-tokens-cons (part edition) text is some = part-cons (edition_grammar edition) text is some
-tokens-cons (document edition) [] is some = absurd (omega arith)
-tokens-cons (document edition) (c ∷ cs) is some =
-    let token : Token = token_at (document edition) (c ∷ cs) in
-    let cuts : CutsOff (c ∷ cs) token = token_at-cuts (document edition) (c ∷ cs) is some in
-    let less : length (drop token.len (c ∷ cs)) < suc (length cs) = shorter (c ∷ cs) token cuts in
-    ap (λ ts. token ∷ ts) (cut-all (mode_after (document edition) token.kind) (length cs) (drop token.len (c ∷ cs)) cuts.left (omega arith))
+tokens-cons w0 text is some = grind (arith, common_steps, part-cons, edition_grammar, token_at-cuts, shorter, cut-all)
 
 -- where a byte is left a token is, whatever the bytes are
 pub tokens-some : (mode : Mode) (b : ℕ) (bs : List ℕ) → (token : Token) × (tokens : List Token) × (tokens_of mode (b ∷ bs) ≡ token ∷ tokens)

@@ -1,10 +1,11 @@
 -- What is no longer than what a scanner reads.
-use Rattle.std.proofs.Common.{◌≡◌, ℕ, suc, ◌+◌, ◌<◌, ◌⊎◌, inl, inr, Bool, true, false, true≢false, List, [], ◌∷◌, ◌++◌, length, take, refl, sym, ap, ◌∙◌, subst, arith}
+use Rattle.std.proofs.Common.{◌≡◌, ℕ, suc, ◌+◌, ◌<◌, ◌⊎◌, inl, inr, Bool, true, false, true≢false, List, [], ◌∷◌, ◌++◌, length, refl, sym, ap, subst, arith}
 use Rattle.std.proofs.Math.Seq.{take-append_seam, drop-append_seam}
 use Rattle.std.proofs.lemmas.Bool.{and_parts}
 use Rattle.std.specs.List.{list_all}
+use Rattle.std.proofs.lemmas.Grind.{common_steps}
 use Rattle.rustc_lexer.specs.laws.Reach.{run_len-in, run_len-out}
-use Rattle.rustc_lexer.specs.means.Scan.{then_by, and_then, next_is, run_as, run_len}
+use Rattle.rustc_lexer.specs.means.Scan.{and_then, next_is, run_as, run_len}
 
 -- this answer and this length are what is read, or the length is less than what is read, for this reason
 abbrev pub Within : {A : Type 0} → Type 0 → A × ℕ → A → ℕ → Type 0
@@ -24,15 +25,7 @@ within-any r a n w = elim w [ inl h ↦ inl (tt, h.1) | inr e ↦ inr e ]
 -- one scanner after another: the second could read nothing where the first could read more
 pub then-within : {A B : Type 0} {R : Type 0} (scan : List ℕ → A × ℕ) (next : A → List ℕ → B × ℕ) (w left : List ℕ) (a : A) (b : B) (m : ℕ)
     → Within R (scan (w ++ left)) a (length w) → Within (Unit {0}) (next a left) b m → (R → m ≡ 0) → Within (Unit {0}) (and_then scan next (w ++ left)) b (length w + m)
-then-within {A} {B} scan next w left a b m one two none = elim one [ inl h ↦ inl (tt, omega (arith, h.1, none h.0)) | inr e ↦ by_first e ]
-  where
-    by_first : scan (w ++ left) ≡ (a, length w) → Within (Unit {0}) (and_then scan next (w ++ left)) b (length w + m)
-    by_first e =
-        let read : and_then scan next (w ++ left) ≡ ((next a left).0, length w + (next a left).1) =
-        ap (λ (p : A × ℕ). then_by p (w ++ left) next) e
-        ∙ ap (λ (xs : List ℕ). let r : B × ℕ = ((next a xs).0, length w + (next a xs).1) in r) (drop-append_seam w left) in
-        subst (λ (r : B × ℕ). Within (Unit {0}) r b (length w + m)) (sym read)
-        (elim two [ inl h ↦ inl (tt, omega (arith, h.1)) | inr e ↦ inr (ap (λ (r : B × ℕ). let q : B × ℕ = (r.0, length w + r.1) in q) e) ])
+then-within {A} {B} scan next w left a b m one two none = grind (arith, common_steps, drop-append_seam)
 
 -- ---- runs
 
@@ -54,10 +47,4 @@ run_len-none p (c ∷ s) t = run_len-out p c s t
 
 -- a beginning of a run is shorter because the class goes on
 pub run-within : {A : Type 0} (f : List ℕ → A) (p : ℕ → Bool) (ds left : List ℕ) → list_all p ds ≡ true → Within (next_is p left ≡ true) (run_as (λ front rest. f front) p (ds ++ left)) (f ds) (length ds)
-run-within {A} f p ds left all = by_next (next_is p left) refl
-  where
-    by_next : (b : Bool) → next_is p left ≡ b → Within (next_is p left ≡ true) (run_as (λ front rest. f front) p (ds ++ left)) (f ds) (length ds)
-    by_next true t = inl (t, omega (arith, run-past p ds left all, run_len-next p left t))
-    by_next false t =
-        let len : run_len p (ds ++ left) ≡ length ds = omega (arith, run-past p ds left all, run_len-none p left t) in
-        inr (ap (λ (n : ℕ). let r : A × ℕ = (f (take n (ds ++ left)), n) in r) len ∙ ap (λ (xs : List ℕ). let r : A × ℕ = (f xs, length ds) in r) (take-append_seam ds left))
+run-within {A} f p ds left all = grind (arith, common_steps, run-past, run_len-next, run_len-none, take-append_seam)

@@ -1,4 +1,4 @@
-use Rattle.std.proofs.Common.{◌+◌, ◌-◌}
+use Rattle.std.proofs.Common.{◌-◌, ◌+◌}
 use Rattle.rustc_lexer.specs.laws.Fences.{slice_from}
 use Rattle.rustc_lexer.proofs.SearchLemmas.{too_short, past_end, past_found, past_on}
 use Rattle.rustc_lexer.proofs.frontmatter.find.Goals as goal

@@ -1,9 +1,9 @@
-use Rattle.std.proofs.Common.{not, refl, ap, ◌∙◌, rules}
-use Rattle.rustc_lexer.specs.Classes.{is_whitespace}
-use Rattle.rustc_lexer.specs.means.Frontmatter.{closing_end, is_dash, is_newline}
+use Rattle.std.proofs.Common.{rules, not, refl, ap, ◌∙◌}
 use Rattle.rustc_lexer.specs.laws.Frontmatter.{opens-few, opens-line, opens-yes, frontmatter-is}
 use Rattle.rustc_lexer.proofs.frontmatter.frontmatter.Goals as goal
 use Rattle.rustc_lexer.proofs.frontmatter.frontmatter.Goals.{then-n_dashes-lt-MIN_DASHES-via-then-n_dashes-lt-MIN_DASHES, then-n_dashes-lt-MIN_DASHES-via-else-n_dashes-lt-MIN_DASHES+then-follows_newline}
+use Rattle.rustc_lexer.specs.Classes.{is_whitespace}
+use Rattle.rustc_lexer.specs.means.Frontmatter.{closing_end, is_dash, is_newline}
 
 pub returns-then-n_dashes-lt-MIN_DASHES : goal.returns-then-n_dashes-lt-MIN_DASHES
 returns-then-n_dashes-lt-MIN_DASHES c =

@@ -1,6 +1,5 @@
-use Rattle.std.proofs.Common.{◌≡◌, ℕ, ◌+◌, List, sym, ap, ◌∙◌, subst, arith}
-use Rattle.std.specs.Str.{IsUtf8}
-use Rattle.rustc_lexer.specs.means.Scan.{past}
+use Rattle.std.proofs.Common.{sym, arith}
+use Rattle.std.proofs.lemmas.Grind.{common_steps}
 use Rattle.rustc_lexer.specs.laws.Past.{past-zero, past-past, IsUtf8-past}
 use Rattle.rustc_lexer.proofs.RawReadLemmas.{past-end}
 use Rattle.rustc_lexer.proofs.raw_check.past_chars.Goals as goal
@@ -13,5 +12,4 @@ returns-in_default c = past-end _ _ _ _ c.utf8.text c.loop-taken.invariant.1 c.i
 
 pub loop-taken-preserved : goal.loop-taken-preserved
 loop-taken-preserved c =
-    let place : c.in-Some.tail.now ≡ past (c.loop-taken.taken + 1) c.args.text.now = c.in-Some.ensures.1 ∙ (ap (past 1) c.loop-taken.invariant.1 ∙ past-past 1 _ _ c.utf8.text) in
-    (subst (λ (xs : List ℕ). IsUtf8 xs) (sym place) (IsUtf8-past (c.loop-taken.taken + 1) _ c.utf8.text), place)
+    grind (arith, common_steps, past-past, IsUtf8-past, c.in-Some.ensures.1, c.loop-taken.invariant.1)

@@ -1,8 +1,8 @@
-use Rattle.std.proofs.Common.{◌≡◌, ◌++◌, length, sym, ap, ◌∙◌, arith, length-append}
-use Rattle.std.specs.Char.{encode_utf8}
+use Rattle.std.proofs.Common.{arith, length-append, ◌≡◌, ◌++◌, length, sym, ap, ◌∙◌}
 use Rattle.std.proofs.lemmas.Str.{chars_past_char, length-encode, len_utf8_bounds}
 use Rattle.rustc_lexer.specs.laws.Past.{past-one}
 use Rattle.rustc_lexer.proofs.scan.split_first.Goals as goal
+use Rattle.std.specs.Char.{encode_utf8}
 
 pub returns : goal.returns
 returns c =

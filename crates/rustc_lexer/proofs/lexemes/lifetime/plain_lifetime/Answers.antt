@@ -1,7 +1,7 @@
 use Rattle.std.proofs.Common.{refl}
-use Rattle.rustc_lexer.specs.means.Ident.{is_word}
 use Rattle.rustc_lexer.proofs.LifetimeLemmas.{plain_lifetime-quoted, plain_lifetime-unquoted_name}
 use Rattle.rustc_lexer.proofs.lexemes.lifetime.plain_lifetime.Goals as goal
+use Rattle.rustc_lexer.specs.means.Ident.{is_word}
 
 pub returns-in-Some : goal.returns-in-Some
 returns-in-Some c =

@@ -1,8 +1,8 @@
 use Rattle.std.proofs.Common.{refl, ap, ◌∙◌}
-use Rattle.std.specs.Char.{is_ascii_digit}
-use Rattle.rustc_lexer.specs.means.Number.{is_underscore}
 use Rattle.rustc_lexer.proofs.NumberLemmas.{digits-is}
 use Rattle.rustc_lexer.proofs.lexemes.number.eat_decimal_digits.Goals as goal
+use Rattle.std.specs.Char.{is_ascii_digit}
+use Rattle.rustc_lexer.specs.means.Number.{is_underscore}
 
 pub returns : goal.returns
 returns c = digits-is is_ascii_digit refl _ _ _ _ refl c.utf8.rest

@@ -1,4 +1,4 @@
-use Rattle.std.proofs.Common.{◌≡◌, ◌∙◌, ◌&&◌, Bool, true, false, List, ℕ, ap, sym, codes, drop}
+use Rattle.std.proofs.Common.{◌≡◌, ◌∙◌, ◌&&◌, Bool, true, List, ℕ, ap, sym, codes, drop, false}
 use Rattle.std.specs.Str.{chars, IsUtf8}
 use Rattle.rustc_lexer.specs.means.Ident.{ident_or_unknown_prefix}
 use Rattle.rustc_lexer.specs.means.Lexeme.{is_raw_mark, begins_raw}

@@ -2,9 +2,9 @@ use Rattle.std.proofs.Common.{◌≡◌, ◌+◌, List, ℕ, length, map, slice_
 use Rattle.std.specs.List.{Contains}
 use Rattle.std.proofs.lemmas.List.{length-map}
 use Rattle.std.proofs.lemmas.List.Elements.{All-contains}
+use Rattle.std.proofs.lemmas.Grind.{common_steps}
 use Rattle.rustc_lexer.specs.declared.relex.front.Bound.{Bound}
 use Rattle.rustc_lexer.specs.declared.relex.landmarks.Landmarks.{Landmarks}
-use Rattle.rustc_lexer.specs.declared.relex.relexing.Relexed.{Relexed}
 use Rattle.rustc_lexer.specs.declared.token.Token.{Token}
 use Rattle.rustc_lexer.specs.Tokens.{tokens_by}
 use Rattle.rustc_lexer.specs.Edits.{IsEdit, IsInside, apply, IsBound, IsMadeOf}
@@ -14,6 +14,7 @@ use Rattle.rustc_lexer.proofs.EditLemmas.{put_back}
 use Rattle.rustc_lexer.proofs.RelexingLemmas.{made_for, made_change}
 use Rattle.rustc_lexer.proofs.RenewedLemmas.{renewed_all, renewed_are, renewed_bounds}
 use Rattle.rustc_lexer.proofs.relex.edit.lex_edit.Goals as goal
+use Rattle.rustc_lexer.specs.declared.relex.relexing.Relexed.{Relexed}
 
 -- the edit made the text
 made_of : {first : List ℕ → Token} {text insert put reserved made : List ℕ} {start stop : ℕ} {tokens : List Token} → IsText text → IsUtf8 insert → IsEdit text start stop insert → tokens ≡ tokens_by first text → made ≡ put → put ≡ apply reserved start stop insert → reserved ≡ text
@@ -28,10 +29,7 @@ near_bound {tokens} {all} {near} landmarks e are is = rw (sym e) (All-contains (
 -- what was taken out is put back
 put_back_from : {text insert read removed reserved put now : List ℕ} {start stop : ℕ} → IsText text → IsUtf8 insert → IsEdit text start stop insert → removed ≡ slice_range read start stop → read ≡ text → reserved ≡ text → put ≡ apply reserved start stop insert → now ≡ apply put start (start + length insert) removed → now ≡ text
 put_back_from {text} {insert} {read} {removed} {reserved} {put} {now} {start} {stop} is its edit removed_is read_is reserve put_in again =
-    let stop' : ℕ = start + length insert in
-    let made : put ≡ apply text start stop insert = put_in ∙ ap (λ (bytes : List ℕ). apply bytes start stop insert) reserve in
-    let taken : removed ≡ slice_range text start stop = removed_is ∙ ap (λ (bytes : List ℕ). slice_range bytes start stop) read_is in
-    again ∙ (ap (λ (bytes : List ℕ). apply bytes start stop' removed) made ∙ (ap (apply (apply text start stop insert) start stop') taken ∙ put_back text start stop insert is its edit))
+    grind (arith, common_steps, put_back)
 
 pub renew-requires-clause-change : goal.renew-requires-clause-change
 renew-requires-clause-change g c =

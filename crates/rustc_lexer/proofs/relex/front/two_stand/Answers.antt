@@ -1,4 +1,4 @@
-use Rattle.std.proofs.Common.{sym, ap, ◌∙◌, is_some, arith}
+use Rattle.std.proofs.Common.{sym, is_some, arith, ap, ◌∙◌}
 use Rattle.rustc_lexer.proofs.EditLemmas.{has_two-late, has_two-long, two_chars}
 use Rattle.rustc_lexer.proofs.relex.front.two_stand.Goals as goal
 

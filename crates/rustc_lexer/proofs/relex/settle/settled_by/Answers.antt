@@ -1,13 +1,12 @@
-use Rattle.std.proofs.Common.{sym, ◌∙◌, refl}
+use Rattle.std.proofs.Common.{sym, ◌∙◌, refl, arith}
+use Rattle.std.proofs.lemmas.Grind.{common_steps}
 use Rattle.rustc_lexer.specs.Classes.{IsText}
 use Rattle.rustc_lexer.proofs.ProgressLemmas.{lexed_place, stepped}
 use Rattle.rustc_lexer.proofs.SettledLemmas.{sure_next, sure_end, sure_stop, next_boundary}
 use Rattle.rustc_lexer.proofs.relex.settle.settled_by.Goals as goal
 
 pub range_from-requires : goal.range_from-requires
-range_from-requires g c =
-    let is : IsText c.args.text.now = record { utf8 = c.utf8.text; fits = c.requires.fits } in
-    λ some. (lexed_place (g.S.Stepper.law c.args.stepper.now) _ _ _ is c.loop-place.invariant.0.to).boundary
+range_from-requires g c = grind (arith, common_steps, lexed_place, c.requires.fits, c.loop-place.invariant.0.to)
 
 pub two_stand-requires-clause-from_boundary : goal.two_stand-requires-clause-from_boundary
 two_stand-requires-clause-from_boundary g c =

@@ -1,8 +1,8 @@
-use Rattle.std.proofs.Common.{refl, ap, ◌∙◌, arith}
-use Rattle.rustc_lexer.specs.declared.relex.relexing.Relexed.{Relexed}
-use Rattle.rustc_lexer.specs.Tokens.{tokens_by}
+use Rattle.std.proofs.Common.{arith, refl, ap, ◌∙◌}
 use Rattle.rustc_lexer.proofs.EditListLemmas.{text-more, lexed-more, edits-more}
 use Rattle.rustc_lexer.proofs.relex.lexed_text.LexedText.edit_all.Goals as goal
+use Rattle.rustc_lexer.specs.declared.relex.relexing.Relexed.{Relexed}
+use Rattle.rustc_lexer.specs.Tokens.{tokens_by}
 
 pub loop-at-preserved : goal.loop-at-preserved
 loop-at-preserved g c =
