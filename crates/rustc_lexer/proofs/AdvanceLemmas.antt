@@ -9,10 +9,8 @@ use Rattle.rustc_lexer.specs.declared.token.TokenKind.TheVariants.{Eof, Literal}
 use Rattle.rustc_lexer.specs.State.{State, kind_past, token_past}
 use Rattle.rustc_lexer.specs.means.Taking.{token_at, advance}
 use Rattle.rustc_lexer.specs.Classes.{IsText}
-use Rattle.rustc_lexer.specs.Tokens.{tokens_of, tokens_left, TakesFirst}
+use Rattle.rustc_lexer.specs.Tokens.{tokens_left, TakesFirst}
 use Rattle.rustc_lexer.specs.laws.State.{state, past_token, advance-some, token_past-zero}
-use Rattle.rustc_lexer.specs.LanguageText.{AreTokens}
-use Rattle.rustc_lexer.specs.laws.LanguageTokens.{tokens-are}
 use Rattle.rustc_lexer.proofs.TextLemmas.{token_at-not_end}
 use Rattle.rustc_lexer.proofs.TokensLemmas.{takes_first as takes_alone}
 use Rattle.rustc_lexer.specs.laws.Tokens.{tokens-nil}

@@ -74,7 +74,10 @@ module _ {first : List ℕ → Token} (law : IsGrammar first) (text : List ℕ) 
       cut.rest ∙ (ap (λ p. tokens_by first (drop p text)) (sym place) ∙ tokens-cons law (drop at text) stands.past some)
 
   pub next_place : at < length text → at + (first (drop at text)).len ≡ bound (tokens_by first text) (count + 1)
-  next_place more = grind (arith, common_steps, next-from_drop, next_token)
+  next_place more =
+      let step = next-from_drop _ count _ _ (next_token more) in
+      let e : count + 1 ≡ suc count = omega arith in
+      sym (ap (bound (tokens_by first text)) e ∙ (step.end ∙ ap (λ n. n + (first (drop at text)).len) (sym place)))
 
   pub next_some : at < length text → 0 < (first (drop at text)).len
   next_some more = law.not_empty (drop at text) stands.past (omega (arith, length-drop at text))

@@ -1,6 +1,5 @@
 -- What an edition has in place of some tokens.
-use Rattle.std.proofs.Common.{◌≡◌, ◌<◌, ℕ, nat_le, Bool, true, false, List, length, refl, IsCharBoundary, arith}
-use Rattle.std.proofs.lemmas.Str.{IsCharBoundary-from_take}
+use Rattle.std.proofs.Common.{◌≡◌, ◌<◌, ℕ, Bool, true, false, List, length, refl, IsCharBoundary, arith}
 use Rattle.rustc_lexer.specs.declared.edition.Edition.{Edition}
 use Rattle.rustc_lexer.specs.declared.token.FrontmatterAllowed.{FrontmatterAllowed}
 use Rattle.rustc_lexer.specs.declared.token.FrontmatterAllowed.TheVariants.{Yes, No}

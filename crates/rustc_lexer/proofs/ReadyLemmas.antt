@@ -6,13 +6,12 @@ use Rattle.rustc_lexer.specs.declared.token.Token.{Token}
 use Rattle.rustc_lexer.specs.Classes.{IsText}
 use Rattle.rustc_lexer.specs.Locality.{IsGrammar, has_two}
 use Rattle.rustc_lexer.specs.Tokens.{bound, tokens_by}
-use Rattle.rustc_lexer.specs.Edits.{apply, IsEdit, kept_front, meet, relexed_of}
+use Rattle.rustc_lexer.specs.Edits.{apply, ends_past, IsEdit, kept_front, meet, relexed_of}
 use Rattle.rustc_lexer.specs.laws.Cuts.{at_bound}
 use Rattle.rustc_lexer.proofs.BoundLemmas.{bound_mono, rises, ends_past-at}
 use Rattle.rustc_lexer.proofs.EditLemmas.{IsEdited, edited, kept_same, met_whole, has_two-before}
 use Rattle.rustc_lexer.proofs.MeetingLemmas.{IsMet}
 use Rattle.std.proofs.lemmas.Str.{IsCharBoundary-from_drop}
-use Rattle.std.proofs.lemmas.Grind.{common_steps}
 
 -- the new text has the tokens of the kept front, which are before the edit
 pub record IsReady (first : List ℕ → Token) (old : List Token) (text : List ℕ) (kept : Bound) (start : ℕ) : Type 0 where

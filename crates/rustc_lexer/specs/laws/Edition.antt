@@ -1,5 +1,5 @@
 -- How far the tokens of an edition look.
-use Rattle.std.proofs.Common.{◌≡◌, ℕ, suc, ◌+◌, ◌≤◌, ◌==◌, nat_le, ◌&&◌, not, Bool, true, false, true≢false, if◌then◌else◌, List, [], ◌∷◌, take, drop, codes, refl, sym, ap, ◌∙◌, arith, Option, Some, None}
+use Rattle.std.proofs.Common.{◌≡◌, ℕ, suc, ◌+◌, ◌≤◌, ◌==◌, nat_le, Bool, true, false, true≢false, if◌then◌else◌, List, [], ◌∷◌, take, drop, codes, refl, sym, ap, ◌∙◌, arith, Option, Some, None}
 use lib.Utf8.{encode}
 use Rattle.std.proofs.lemmas.Bool.{and_parts, eqb-true}
 use Rattle.std.specs.Str.{byte, chars}
@@ -19,9 +19,9 @@ use Rattle.rustc_lexer.specs.means.Ident.{is_word, ident_or_unknown_prefix, mark
 use Rattle.rustc_lexer.specs.means.Lexeme.{raw_or_ident, is_raw_mark, begins_raw, raw_past_or_ident, letter_b, word, symbols, past_first, lexeme, first_token}
 use Rattle.rustc_lexer.specs.means.Lifetime.{is_marked, plain_lifetime, is_character, is_character_at, is_raw, lifetime_or_char}
 use Rattle.rustc_lexer.specs.means.Literal.{literal}
-use Rattle.rustc_lexer.specs.means.Quoted.{char_body}
+use Rattle.rustc_lexer.specs.means.Quoted.{char_body, byte_str_body}
 use Rattle.rustc_lexer.specs.means.Scan.{IsLocal, after, and_then, begins, bytes_of, gives, next_is, read_as, run_len, token_by}
-use Rattle.rustc_lexer.specs.Locality.{IsGrammar}
+use Rattle.rustc_lexer.specs.Locality.{AgreePast, IsGrammar}
 use Rattle.rustc_lexer.specs.laws.Choice.{by_either, by_test, at_char, by_symbol}
 use Rattle.rustc_lexer.specs.laws.Family.{by_letter, EachFamily, each_family}
 use Rattle.rustc_lexer.specs.laws.Lifetime.{quoted_name, name_of, name_local, quoted_name_at, is_raw_told, raw, is_character_told}
@@ -29,7 +29,7 @@ use Rattle.rustc_lexer.specs.laws.Lookahead.{first_token_grammar, families_local
 use Rattle.rustc_lexer.specs.laws.Quoted.{char_local}
 use Rattle.rustc_lexer.specs.laws.Reach.{begins-told, either_at, first_local, gives_local, read_as_at, wider, and_then_local}
 use Rattle.rustc_lexer.specs.laws.TokenBy.{token_by_local}
-use Rattle.rustc_lexer.specs.declared.lexemes.raw.RawPrefix.TheVariants.{Cr}
+use Rattle.rustc_lexer.specs.declared.lexemes.raw.RawPrefix.TheVariants.{Cr, Br}
 
 -- no edition is older
 pub oldest : (edition : Edition) → 2015 ≤ year edition
@@ -67,7 +67,10 @@ raw_past-plain : (prefix : RawPrefix) → ArePlain (raw_past_or_ident prefix)
 raw_past-plain prefix = either-plain begins_raw _ ident_or_unknown_prefix (λ s. refl) ident-plain
 
 letter_b-plain : ArePlain letter_b
-letter_b-plain = grind (arith, common_steps, either-plain, raw_past-plain)
+letter_b-plain = either-plain (begins (codes "'")) _ past_quote (λ s. refl) (either-plain (begins (codes "\"")) _ (raw_past_or_ident Br) (λ s. refl) (raw_past-plain Br))
+  where
+    past_quote : List ℕ → TokenKind × ℕ
+    past_quote s = if begins (codes "\"") s then literal (after 1 byte_str_body) s else raw_past_or_ident Br s
 
 word-plain : (c : ℕ) → ArePlain (word c)
 word-plain c = by_letter (λ c scan. ArePlain scan) c

@@ -1,4 +1,4 @@
-use Rattle.std.proofs.Common.{arith, min}
+use Rattle.std.proofs.Common.{arith}
 use Rattle.std.proofs.lemmas.Grind.{common_steps}
 use Rattle.rustc_lexer.proofs.GuardedLemmas.{hash_boundary, hash_cut}
 use Rattle.rustc_lexer.proofs.cursor.guarded.eat_hashes.Goals as goal

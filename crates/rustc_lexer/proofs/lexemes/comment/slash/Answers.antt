@@ -1,5 +1,4 @@
-use Rattle.std.proofs.Common.{List, codes, if◌then◌else◌, ℕ, sym, ◌∙◌, arith}
-use Rattle.std.proofs.lemmas.Grind.{common_steps}
+use Rattle.std.proofs.Common.{List, codes, if◌then◌else◌, ℕ, sym, ◌∙◌}
 use Rattle.rustc_lexer.specs.declared.token.TokenKind.{TokenKind}
 use Rattle.rustc_lexer.specs.declared.token.TokenKind.TheVariants.{Slash}
 use Rattle.rustc_lexer.specs.means.BlockComment.{block_comment}
@@ -23,4 +22,5 @@ returns-in-Some-strip c =
 
 pub returns-in_default-strip : goal.returns-in_default-strip
 returns-in_default-strip c =
-    grind (arith, common_steps, scanned-no, scanned-gives, c.in_default.ensures, c.in_default-strip.ensures)
+    sym (scanned-no (begins (codes "/")) (after 1 line_comment) other _ c.in_default.ensures
+    ∙ (scanned-no (begins (codes "*")) (after 1 block_comment) (gives Slash) _ c.in_default-strip.ensures ∙ scanned-gives Slash _ c.utf8.rest))
