@@ -6,7 +6,7 @@ use Rattle.std.specs.Option.{option_map, option_zip}
 use Rattle.std.specs.Result.{result_ok, OkIff}
 use Rattle.std.specs.Str.{all_ascii_digits}
 use Rattle.std.specs.Str.Parse.{ParsesUnsigned}
-use Rattle.std.proofs.lemmas.Bool.{and_parts, and_from, leb-true, le-leb}
+use Rattle.std.proofs.lemmas.Bool.Decides.{nat_tests}
 use Rattle.std.proofs.lemmas.Str.Parse.{IsNumeralModel, numerals_by_fold, tells_all_ascii_digits, parse_plain}
 use Rattle.rustc_lexer.specs.declared.edition.Edition.{Edition}
 use Rattle.lexdump_run.specs.Job.{edit, edit_job, AsksEdits, Replacement, number_after, number_of, place_of, replacement_of, replacements_of, first_replacement}
@@ -22,42 +22,26 @@ place-parse {E} word r short unsigned parses = by_result r (parse_plain numbers 
     is_place : Bool
     is_place = all_ascii_digits word && (nat_le 1 (length word) && (nat_le (length word) 10 && nat_le (number_of word) 4294967295))
 
-    by_test : (b : Bool) → is_place ≡ b → ¬ ((all_ascii_digits word ≡ true) × (0 < length word) × (number_of word < 2 ^ 32)) → is_place ≡ false
-    by_test false e none = e
-    by_test true e none =
-        let p : (all_ascii_digits word ≡ true) × ((nat_le 1 (length word) && (nat_le (length word) 10 && nat_le (number_of word) 4294967295)) ≡ true) = and_parts _ _ e in
-        let q : (nat_le 1 (length word) ≡ true) × ((nat_le (length word) 10 && nat_le (number_of word) 4294967295) ≡ true) = and_parts _ _ p.1 in
-        let s : (nat_le (length word) 10 ≡ true) × (nat_le (number_of word) 4294967295 ≡ true) = and_parts _ _ q.1 in
-        let one : 1 ≤ length word = leb-true 1 (length word) q.0 in
-        let most : number_of word ≤ 4294967295 = leb-true (number_of word) 4294967295 s.1 in
-        absurd (none (p.0, omega arith, omega arith))
-
     by_result : (x : Result ℕ E) → OkIff x ((all_ascii_digits word ≡ true) × (0 < length word) × (number_of word < 2 ^ 32)) (number_of word) → place_of word ≡ result_ok x
-    by_result (Ok n) h =
-        let e : is_place ≡ true = and_from _ _ h.0.0 (and_from _ _ (le-leb 1 (length word) (omega arith)) (and_from _ _ (le-leb (length word) 10 short) (le-leb (number_of word) 4294967295 (omega arith)))) in
-        rw (e, h.1) refl
-    by_result (Err error) h = rw (by_test is_place refl h) refl
+    by_result (Ok n) h = let e : is_place ≡ true = grind (arith, nat_tests, h.0, short) in rw (e, h.1) refl
+    by_result (Err error) h = let e : is_place ≡ false = grind (arith, nat_tests, h, short) in rw e refl
 
 -- the first three words write the edit, and these words are after them
 abbrev pub FirstIs : List (List ℕ) → Replacement → List (List ℕ) → Type 0
 FirstIs words e after = let p : Option (Replacement × List (List ℕ)) = Some (e, after) in p ≡ first_replacement words
 
+abbrev Pair : Type 0
+Pair = Replacement × List (List ℕ)
+
 -- what follows from the edit of the first three words
-module _ (e : Replacement) (words after : List (List ℕ)) where
-  abbrev Pair : Type 0
-  Pair = Replacement × List (List ℕ)
-
-  abbrev SplitsTo : Option Replacement → Type 0
-  SplitsTo o = let p : Option Pair = Some (e, after) in p ≡ option_map (λ (edit : Replacement). let q : Pair = (edit, words) in q) o
-
-  splits-after : (o : Option Replacement) → SplitsTo o → after ≡ words
-  splits-after None h = cc
-  splits-after (Some x) h = ap (λ (p : Option Pair). (unwrap_or p (e, after)).1) h
-
-  splits-zip : (o : Option Replacement) (r : Option (List Replacement)) → SplitsTo o → option_map (λ (edits : Replacement × List Replacement). edits.0 ∷ edits.1) (option_zip o r) ≡ option_map (λ edits. e ∷ edits) r
-  splits-zip None r h = cc
-  splits-zip (Some x) None h = refl
-  splits-zip (Some x) (Some es) h = ap (λ (y : Replacement). let r : Option (List Replacement) = Some (y ∷ es) in r) (sym (ap (λ (p : Option Pair). (unwrap_or p (e, after)).0) h))
+by_first : (e : Replacement) (words after : List (List ℕ)) (o : Option Replacement) (r : Option (List Replacement)) → (let p : Option Pair = Some (e, after) in p ≡ option_map (λ (edit : Replacement). let q : Pair = (edit, words) in q) o)
+    → (after ≡ words) × (option_map (λ (edits : Replacement × List Replacement). edits.0 ∷ edits.1) (option_zip o r) ≡ option_map (λ edits. e ∷ edits) r)
+by_first e words after None r h = cc
+by_first e words after (Some x) r h = (ap (λ (p : Option Pair). (unwrap_or p (e, after)).1) h, by_edits r)
+  where
+    by_edits : (r : Option (List Replacement)) → option_map (λ (edits : Replacement × List Replacement). edits.0 ∷ edits.1) (option_zip (Some x) r) ≡ option_map (λ edits. e ∷ edits) r
+    by_edits None = refl
+    by_edits (Some es) = ap (λ (y : Replacement). let r : Option (List Replacement) = Some (y ∷ es) in r) (sym (ap (λ (p : Option Pair). (unwrap_or p (e, after)).0) h))
 
 -- where three words write an edit, it is the first of the edits
 pub replacements-first : (e : Replacement) (words after : List (List ℕ)) → FirstIs words e after → replacements_of words ≡ option_map (λ edits. e ∷ edits) (replacements_of after)
@@ -65,14 +49,14 @@ replacements-first e [] after h = cc
 replacements-first e (start ∷ []) after h = cc
 replacements-first e (start ∷ stop ∷ []) after h = cc
 replacements-first e (start ∷ stop ∷ insert ∷ words) after h =
-    splits-zip e words after (replacement_of start stop insert) (replacements_of words) h
-    ∙ ap (λ (ws : List (List ℕ)). option_map (λ edits. e ∷ edits) (replacements_of ws)) (sym (splits-after e words after (replacement_of start stop insert) h))
+    let p = by_first e words after (replacement_of start stop insert) (replacements_of words) h in
+    p.1 ∙ ap (λ (ws : List (List ℕ)). option_map (λ edits. e ∷ edits) (replacements_of ws)) (sym p.0)
 
 pub length-after : (e : Replacement) (words after : List (List ℕ)) → FirstIs words e after → length after < length words
 length-after e [] after h = cc
 length-after e (start ∷ []) after h = cc
 length-after e (start ∷ stop ∷ []) after h = cc
-length-after e (start ∷ stop ∷ insert ∷ words) after h = let same = ap length (splits-after e words after (replacement_of start stop insert) h) in omega arith
+length-after e (start ∷ stop ∷ insert ∷ words) after h = let p = by_first e words after (replacement_of start stop insert) None h in omega (arith, ap length p.0)
 
 -- the words are edits if those after the first edit are
 pub some-after : (e : Replacement) (words after : List (List ℕ)) → FirstIs words e after → is_some (replacements_of words) ≡ is_some (replacements_of after)

@@ -1,8 +1,5 @@
-pub mod EditedLemmas
 pub mod JobLemmas
 pub mod ListingLemmas
 pub mod OutcomeLemmas
-pub mod PieceLemmas
 pub mod PlaceLemmas
-pub mod ProgramLemmas
 pub mod PushLemmas

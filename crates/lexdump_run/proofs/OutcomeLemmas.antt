@@ -1,131 +1,59 @@
--- The answer of a run is that of its outcome.
-use Rattle.std.proofs.Common.{◌≡◌, ◌≢◌, ℕ, ◌<◌, ◌≤◌, ◌^◌, nat_le, Bool, true, false, List, [], ◌++◌, length, refl, sym, ap, ◌∙◌, subst, Option, Some, None, Result, Ok, Err, Vec, Global}
-use Rattle.std.specs.Prelude.{IfSome, IfErr, IfOk, OnOk, OnErr}
-use Rattle.std.specs.Str.{IsUtf8, is_utf8}
-use Rattle.std.proofs.lemmas.Bool.{le-leb, lt-leb}
+-- How a run ends, by what was read and what was listed.
+use Rattle.std.proofs.Common.{◌≡◌, ◌≢◌, ℕ, ◌<◌, ◌^◌, List, [], ◌++◌, length, refl, sym, ap, arith, subst, Option, Some, None, Result, Ok, Err}
+use Rattle.std.specs.Prelude.{IfSome, IfErr, OnOk, OnErr}
+use Rattle.std.specs.Str.{IsUtf8}
 use Rattle.std.specs.Io.KnownBytes.{Appends, Keeps}
-use Rattle.std.proofs.lemmas.Str.{IsUtf8-from_is_utf8, is_utf8-from_IsUtf8}
 use Rattle.ends.specs.declared.reading.ReadStop.{ReadStop}
 use Rattle.ends.specs.declared.reading.ReadStop.TheVariants.{TooLong as TooLongRead, Memory as MemoryRead, Failed}
-use Rattle.ends.specs.Known.{AppendsFront}
+use Rattle.ends.specs.Known.{AppendsFront, Went}
 use Rattle.ends.specs.Reading.{EndsReading}
+use Rattle.ends.proofs.KnownLemmas.{appends-more, front_more, keeps_same}
+use Rattle.rustc_lexer.specs.Classes.{IsText}
 use Rattle.lexdump_run.specs.Fault.{read_fault}
 use Rattle.lexdump_run.specs.declared.fault.Fault.{Fault}
 use Rattle.lexdump_run.specs.declared.fault.Fault.TheVariants.{Arguments, NotUtf8, TooLong, EditRange, EditTooLong, Memory, Read, Write}
 use Rattle.lexdump_run.specs.declared.job.Job.{Job}
-use Rattle.lexdump_run.specs.Outcome.{printed, outcome, IsAnswer, Writes}
-use Rattle.lexdump_run.specs.Pushed.{Prints}
-use Rattle.lexdump_run.proofs.PushLemmas.{stopped_front}
+use Rattle.lexdump_run.specs.Outcome.{Ends}
+use Rattle.lexdump_run.specs.Pushed.{Lists}
 
-outcome-long : (job : Job) (bytes : List ℕ) → 2 ^ 32 ≤ length bytes → outcome job bytes ≡ Err TooLong
-unfolding outcome
-outcome-long job bytes long = let e : nat_le (2 ^ 32) (length bytes) ≡ true = le-leb (2 ^ 32) (length bytes) long in rw e refl
+pub is_text : (read cut text : List ℕ) → cut ≡ read → text ≡ cut → IsUtf8 cut → length read < 2 ^ 32 → IsText text
+is_text read cut text e f utf8 fits = record { utf8 = subst IsUtf8 (sym f) utf8; fits = omega (arith, ap length e, ap length f, fits) }
 
-outcome-no_text : (job : Job) (bytes : List ℕ) → length bytes < 2 ^ 32 → ¬ (IsUtf8 bytes) → outcome job bytes ≡ Err NotUtf8
-unfolding outcome
-outcome-no_text job bytes fits none = by_test (is_utf8 bytes) refl
-  where
-    by_test : (b : Bool) → is_utf8 bytes ≡ b → outcome job bytes ≡ Err NotUtf8
-    by_test true e = absurd (none (IsUtf8-from_is_utf8 bytes e))
-    by_test false e = let f : nat_le (2 ^ 32) (length bytes) ≡ false = lt-leb (2 ^ 32) (length bytes) fits in rw (f, e) refl
+-- reading stopped
+pub ends_unread : (job : Job) (known old : Option (List ℕ)) (stop : ReadStop) → EndsReading known (Err stop) → IfSome known (λ bytes. Ends job bytes old old (Err (read_fault stop)))
+ends_unread job None old stop ends = tt
+ends_unread job (Some bytes) old TooLongRead ends = (ends, keeps_same old)
+ends_unread job (Some bytes) old MemoryRead ends = keeps_same old
+ends_unread job (Some bytes) old Failed ends = keeps_same old
 
-outcome-text : (job : Job) (bytes : List ℕ) → length bytes < 2 ^ 32 → IsUtf8 bytes → outcome job bytes ≡ printed job bytes
-unfolding outcome
-outcome-text job bytes fits is =
-    let e : is_utf8 bytes ≡ true = is_utf8-from_IsUtf8 bytes is in
-    let f : nat_le (2 ^ 32) (length bytes) ≡ false = lt-leb (2 ^ 32) (length bytes) fits in
-    rw (f, e) refl
+module _ (job : Job) (text : List ℕ) (old mid : Option (List ℕ)) (held left : List ℕ) where
+  -- listing stopped
+  pub ends_unlisted : (fault : Fault) → held ≡ [] → Lists job text old mid held left (Err fault) → IsText text → Ends job text old mid (Err fault)
+  ends_unlisted Write none p is = (is, (p.0, p.1, subst (λ (xs : List ℕ). AppendsFront old mid (xs ++ p.0)) none p.2.1))
+  ends_unlisted (EditRange at) none p is = (is, p)
+  ends_unlisted (EditTooLong at) none p is = (is, p)
+  ends_unlisted Memory none p is = p.1
+  ends_unlisted Read none p is = absurd p.0
+  ends_unlisted Arguments none p is = absurd p.0
+  ends_unlisted NotUtf8 none p is = absurd p.0
+  ends_unlisted TooLong none p is = absurd p.0
 
-pub answer_unread : (job : Job) (known : Option (List ℕ)) (stop : ReadStop) → EndsReading known (Err stop) → IfSome known (λ bytes. IsAnswer (Err (read_fault stop)) (outcome job bytes))
-answer_unread job None stop ends = tt
-answer_unread job (Some bytes) TooLongRead ends = outcome-long job bytes ends
-answer_unread job (Some bytes) MemoryRead ends = tt
-answer_unread job (Some bytes) Failed ends = tt
+  pub silent_unlisted : (fault : Fault) → Lists job text old mid held left (Err fault) → fault ≢ Write → Keeps old mid
+  silent_unlisted Write p other = absurd (other refl)
+  silent_unlisted (EditRange at) p other = p.1
+  silent_unlisted (EditTooLong at) p other = p.1
+  silent_unlisted Memory p other = p.1
+  silent_unlisted Read p other = p.1
+  silent_unlisted Arguments p other = p.1
+  silent_unlisted NotUtf8 p other = p.1
+  silent_unlisted TooLong p other = p.1
 
-pub answer_no_text : (job : Job) (known : Option (List ℕ)) (read : Vec ℕ Global) → EndsReading known (Ok read) → length read.items < 2 ^ 32 → ¬ (IsUtf8 read.items) → IfSome known (λ bytes. IsAnswer (Err NotUtf8) (outcome job bytes))
-answer_no_text job None read ends fits none = tt
-answer_no_text job (Some bytes) read ends fits none =
-    subst (λ (xs : List ℕ). outcome job xs ≡ Err NotUtf8) ends (outcome-no_text job read.items fits none)
-
-module _ (job : Job) (known : Option (List ℕ)) (read : Vec ℕ Global) (text : List ℕ) (ends : EndsReading known (Ok read)) (is : IsUtf8 text) (same : text ≡ read.items) (fits : length text < 2 ^ 32) where
-  comes_to : (bytes : List ℕ) → read.items ≡ bytes → outcome job bytes ≡ printed job text
-  comes_to bytes e = ap (outcome job) (sym (same ∙ e)) ∙ outcome-text job text fits is
-
-  pub answer_unprinted : (fault : Fault) → IsAnswer (Err fault) (printed job text) → IfSome known (λ bytes. IsAnswer (Err fault) (outcome job bytes))
-  answer_unprinted fault not_printed = by_known known ends
-    where
-      by_known : (k : Option (List ℕ)) → EndsReading k (Ok read) → IfSome k (λ bytes. IsAnswer (Err fault) (outcome job bytes))
-      by_known None e = tt
-      by_known (Some bytes) e = subst (λ (o : Result (List ℕ) Fault). IsAnswer (Err fault) o) (sym (comes_to bytes e)) not_printed
-
-  pub writes_unprinted : (fault : Fault) (old new : Option (List ℕ)) → Writes old new (Err fault) (printed job text) → IfSome known (λ bytes. Writes old new (Err fault) (outcome job bytes))
-  writes_unprinted fault old new writes = by_known known ends
-    where
-      by_known : (k : Option (List ℕ)) → EndsReading k (Ok read) → IfSome k (λ bytes. Writes old new (Err fault) (outcome job bytes))
-      by_known None e = tt
-      by_known (Some bytes) e = subst (λ (o : Result (List ℕ) Fault). Writes old new (Err fault) o) (sym (comes_to bytes e)) writes
-
-  module _ (made : List ℕ) (prints : printed job text ≡ Ok made) (old new : Option (List ℕ)) (result : Result (Unit {0}) Fault) (only : IfErr result (λ fault. fault ≡ Write)) where
-    pub answer_text : IfSome known (λ bytes. IsAnswer result (outcome job bytes))
-    answer_text = by_known known ends
-      where
-        by_result : (r : Result (Unit {0}) Fault) → IfErr r (λ fault. fault ≡ Write) → (o : Result (List ℕ) Fault) → o ≡ Ok made → IsAnswer r o
-        by_result (Ok done) h o e = (made, e)
-        by_result (Err fault) h o e = subst (λ (x : Fault). IsAnswer (Err x) o) (sym h) (made, e)
-
-        by_known : (k : Option (List ℕ)) → EndsReading k (Ok read) → IfSome k (λ bytes. IsAnswer result (outcome job bytes))
-        by_known None e = tt
-        by_known (Some bytes) e = by_result result only (outcome job bytes) (comes_to bytes e ∙ prints)
-
-    pub writes_text : OnOk result (Appends old new made) → OnErr result (AppendsFront old new made) → IfSome known (λ bytes. Writes old new result (outcome job bytes))
-    writes_text ok err = by_known known ends
-      where
-        by_result : (r : Result (Unit {0}) Fault) → IfErr r (λ fault. fault ≡ Write) → OnOk r (Appends old new made) → OnErr r (AppendsFront old new made) → Writes old new r (Ok made)
-        by_result (Ok done) h a b = a
-        by_result (Err fault) h a b = subst (λ (x : Fault). Writes old new (Err x) (Ok made)) (sym h) b
-
-        by_known : (k : Option (List ℕ)) → EndsReading k (Ok read) → IfSome k (λ bytes. Writes old new result (outcome job bytes))
-        by_known None e = tt
-        by_known (Some bytes) e = subst (λ (o : Result (List ℕ) Fault). Writes old new result o) (sym (comes_to bytes e ∙ prints)) (by_result result only ok err)
-
--- printing that stops: what it answers, and what went out
-module _ (old new : Option (List ℕ)) (held left : List ℕ) (printed : Result (List ℕ) Fault) where
-  pub stop_answer : (fault : Fault) → Prints old new held left (Err fault) printed → IsAnswer (Err fault) printed
-  stop_answer Memory p = tt
-  stop_answer (EditRange at) p = p.0
-  stop_answer (EditTooLong at) p = p.0
-  stop_answer Write p = (p.0, p.1)
-  stop_answer Read p = tt
-  stop_answer Arguments p = let e = p.2.0 in cc
-  stop_answer NotUtf8 p = let e = p.2.0 in cc
-  stop_answer TooLong p = let e = p.2.0 in cc
-
-  pub stop_writes : held ≡ [] → (fault : Fault) → Prints old new held left (Err fault) printed → Writes old new (Err fault) printed
-  stop_writes none Memory p = p
-  stop_writes none (EditRange at) p = p.1
-  stop_writes none (EditTooLong at) p = p.1
-  stop_writes none Write p = subst (λ (o : Result (List ℕ) Fault). IfOk o (λ text. AppendsFront old new text)) (sym p.1) (subst (λ (xs : List ℕ). AppendsFront old new (xs ++ p.0)) none (stopped_front old new (held ++ p.0) left p.2.1))
-  stop_writes none Read p = let e = p.2.0 in cc
-  stop_writes none Arguments p = let e = p.2.0 in cc
-  stop_writes none NotUtf8 p = let e = p.2.0 in cc
-  stop_writes none TooLong p = let e = p.2.0 in cc
-
-  pub stop_no_read : (fault : Fault) → Prints old new held left (Err fault) printed → ¬ (fault ≡ Read)
-  stop_no_read Memory p e = cc
-  stop_no_read (EditRange at) p e = cc
-  stop_no_read (EditTooLong at) p e = cc
-  stop_no_read Write p e = cc
-  stop_no_read Read p e = let f = p.2.0 in cc
-  stop_no_read Arguments p e = cc
-  stop_no_read NotUtf8 p e = cc
-  stop_no_read TooLong p e = cc
-
-  pub stop_silent : (fault : Fault) → Prints old new held left (Err fault) printed → fault ≢ Write → Keeps old new
-  stop_silent Memory p other = p
-  stop_silent (EditRange at) p other = p.1
-  stop_silent (EditTooLong at) p other = p.1
-  stop_silent Write p other = absurd (other refl)
-  stop_silent Read p other = absurd (other p.2.0)
-  stop_silent Arguments p other = absurd (other p.2.0)
-  stop_silent NotUtf8 p other = absurd (other p.2.0)
-  stop_silent TooLong p other = absurd (other p.2.0)
+  -- all was listed, and what is held is written at the end
+  pub ends_listed : (new : Option (List ℕ)) (result : Result (Unit {0}) Fault) → held ≡ [] → IsText text → Lists job text old mid held left (Ok tt)
+      → IfErr result (λ fault. fault ≡ Write) → OnOk result (Appends mid new left) → OnErr result (AppendsFront mid new left) → Ends job text old new result
+  ends_listed new (Ok done) none is p only ok err =
+      let w : Went old mid p.0 left = subst (λ (xs : List ℕ). Went old mid (xs ++ p.0) left) none p.2 in
+      (is, (p.0, p.1, subst (λ (xs : List ℕ). Appends old new xs) (sym w.whole) (appends-more old mid new w.front left w.grew ok)))
+  ends_listed new (Err fault) none is p only ok err =
+      let w : Went old mid p.0 left = subst (λ (xs : List ℕ). Went old mid (xs ++ p.0) left) none p.2 in
+      subst (λ (f : Fault). Ends job text old new (Err f)) (sym only) (is, (p.0, p.1, front_more old mid new w.front left p.0 (sym w.whole) w.grew err))

@@ -1,11 +1,10 @@
 -- The start and the length of a token, written from the last byte to the first.
-use Rattle.std.proofs.Common.{◌≡◌, ℕ, suc, ◌+◌, ◌-◌, ◌<◌, ◌≤◌, ◌^◌, List, [], ◌∷◌, ◌++◌, length, take, drop, get_or, sym, ap, ◌∙◌, arith, replicate, append_assoc, take_all, length-drop}
+use Rattle.std.proofs.Common.{◌≡◌, ℕ, suc, ◌+◌, ◌-◌, ◌<◌, ◌≤◌, ◌^◌, List, ◌∷◌, ◌++◌, length, take, drop, get_or, sym, ap, ◌∙◌, arith, replicate, take_all, length-drop}
 use Rattle.std.specs.Fmt.{decimal}
 use Rattle.std.proofs.Math.Seq.{drop-cons}
 use Rattle.std.proofs.lemmas.Fmt.{length-decimal-le}
 use Rattle.std.proofs.lemmas.List.{get_or-take, get_or-replicate}
-use Rattle.rustc_lexer.specs.declared.token.Token.{Token}
-use Rattle.lexdump_run.specs.Listing.{fields_text, kind_name, line_text, place_text}
+use Rattle.lexdump_run.specs.Listing.{place_text}
 
 pub short : (n : ℕ) → n < 2 ^ 32 → length (decimal n) ≤ 10
 short n small = length-decimal-le 10 n (omega arith) (omega arith) (omega arith)
@@ -26,9 +25,3 @@ place-written start len at from spaces one two blank size after_space end len_at
 
 pub same-place : (a b c d : ℕ) → a ≡ b → c ≡ d → place_text a c ≡ place_text b d
 same-place a b c d e f = ap (λ (n : ℕ). place_text n c) e ∙ ap (place_text b) f
-
--- the place of a token and the rest of its line
-pub line-is : (start : ℕ) (token : Token) (rest : List ℕ) → rest ≡ kind_name token.kind ++ (fields_text token.kind ++ 10 ∷ []) → place_text start token.len ++ rest ≡ line_text start token
-unfolding line_text
-line-is start token rest e =
-    append_assoc (decimal start) (32 ∷ (decimal token.len ++ 32 ∷ [])) rest ∙ ap (λ xs. decimal start ++ 32 ∷ xs) (append_assoc (decimal token.len) (32 ∷ []) rest ∙ ap (λ xs. decimal token.len ++ 32 ∷ xs) e)

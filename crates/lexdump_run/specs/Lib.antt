@@ -5,5 +5,3 @@ pub mod Listing
 pub mod Outcome
 pub mod Program
 pub mod Pushed
-pub mod Test
-pub mod laws

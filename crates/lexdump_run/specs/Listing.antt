@@ -62,7 +62,7 @@ abbrev pub kind_name : TokenKind → List ℕ
 kind_name kind = (kind_entry kind).1
 
 unfoldable pub line_text : ℕ → Token → List ℕ
-line_text start token = decimal start ++ (codes " " ++ (decimal token.len ++ (codes " " ++ (kind_name token.kind ++ (fields_text token.kind ++ 10 ∷ [])))))
+line_text start token = place_text start token.len ++ (kind_name token.kind ++ (fields_text token.kind ++ 10 ∷ []))
 
 -- the lines of tokens, of which the first begins at `start`
 abbrev pub listing_from : ℕ → List Token → List ℕ

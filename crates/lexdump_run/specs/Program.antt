@@ -1,11 +1,11 @@
 -- What the program comes to, by its arguments and the bytes that it reads.
-use Rattle.std.specs.Prelude.{ℕ, ◌≡◌, List, [], Option, Some, None, Result, Ok, Err, IfSome}
+use Rattle.std.specs.Prelude.{ℕ, ◌≡◌, ◌≢◌, List, [], Option, Some, None, Result, Ok, Err, IfSome}
 use Rattle.lexdump_run.specs.declared.fault.Fault.{Fault}
 use Rattle.lexdump_run.specs.declared.fault.Fault.TheVariants.{Arguments, Memory}
 use Rattle.lexdump_run.specs.declared.job.Job.{Job}
 use Rattle.lexdump_run.specs.Fault.{fault_line, status_of}
 use Rattle.lexdump_run.specs.Job.{Command, command_of, job_of}
-use Rattle.lexdump_run.specs.Outcome.{outcome, IsAnswer, Writes}
+use Rattle.lexdump_run.specs.Outcome.{Ends}
 
 -- the status with which the program ends
 abbrev pub exit_status : Result (Unit {0}) Fault → ℕ
@@ -21,11 +21,10 @@ told (Err fault) = fault_line fault
 abbrev pub Does : Option Command → Option (List ℕ) → Option (List ℕ) → Option (List ℕ) → Result (Unit {0}) Fault → Type 0
 Does None known old new result = result ≡ Err Arguments
 Does (Some command) known old new result =
-    (job : Job) × (command_of job ≡ command) × IfSome known (λ bytes. IsAnswer result (outcome job bytes) × Writes old new result (outcome job bytes))
+    (job : Job) × (command_of job ≡ command) × IfSome known (λ bytes. Ends job bytes old new result)
 
--- a run by words, or by none where they could not be had: it is that of the job which the words ask for, unless
--- memory was refused; without words it is as if memory was refused
+-- a run by words, or by none where they could not be had: unless memory was refused, there are words, and it is that of
+-- the job which they ask for
 abbrev pub Ran : Option (List (List ℕ)) → Option (List ℕ) → Option (List ℕ) → Option (List ℕ) → Result (Unit {0}) Fault → Type 0
-Ran words known old new (Err Memory) = Unit {0}
-Ran None known old new result = ⊥
-Ran (Some words) known old new result = Does (job_of words) known old new result
+Ran None known old new result = result ≡ Err Memory
+Ran (Some words) known old new result = result ≢ Err Memory → Does (job_of words) known old new result

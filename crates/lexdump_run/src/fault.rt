@@ -1,9 +1,9 @@
 //! Why a run stops.
 ghost use Rattle.std.specs.Prelude.{◌≡◌, Some};
 ghost use Rattle.lexdump_run.specs.Fault.{fault_text, read_fault, status_of, stop_fault};
-ghost use Rattle.lexdump_run.specs.declared.fault.Fault.TheVariants.{Memory};
+ghost use Rattle.lexdump_run.specs.declared.fault.Fault.TheVariants.{Memory, Write};
 
-use ends::ReadStop;
+use ends::{ReadStop, WriteStop};
 use rustc_lexer::EditStop;
 use std::alloc::{AllocError, AllocFailed};
 use std::error::Error;
@@ -85,6 +85,14 @@ impl From<ReadStop> for Fault {
             ReadStop::Memory => Fault::Memory,
             ReadStop::Failed => Fault::Read,
         }
+    }
+}
+
+impl From<WriteStop> for Fault {
+    ghost from_gives = { λ _ fault. fault ≡ Write };
+
+    fn from(_stop: WriteStop) -> Fault {
+        Fault::Write
     }
 }
 

@@ -3,9 +3,10 @@ ghost use Rattle.std.specs.Prelude.{◌≡◌, ◌+◌, ◌^◌, ◌<◌, ◌++�
 ghost use Rattle.lexdump_run.specs.Listing.{base_text, bool_text, fields_text, hashes_text, line_text, listing, listing_from, literal_text, place_text, shebang_line, style_text};
 ghost use Rattle.lexdump_run.specs.Pushed.{Pushes};
 ghost use Rattle.lexdump_run.specs.Fields.{field_text, fields_shown};
-ghost use Rattle.lexdump_run.specs.Outcome.{edited_from, listed, IsRefused};
+ghost use Rattle.lexdump_run.specs.Outcome.{IsRefused};
 ghost use Rattle.rustc_lexer.specs.Classes.{Fits};
-ghost use Rattle.rustc_lexer.specs.LanguageText.{mode_in};
+ghost use Rattle.rustc_lexer.specs.Edits.{apply_list, AreEdits};
+ghost use Rattle.rustc_lexer.specs.LanguageText.{mode_in, part};
 ghost use Rattle.rustc_lexer.specs.Answers.{shebang};
 ghost use Rattle.rustc_lexer.specs.Tokens.{bound, tokens_of};
 
@@ -106,10 +107,9 @@ pub fn edited(
     edits: &[Edit<'_>],
 ) -> Result<LexedText<Steps>, Fault>
     requires { Fits text.now }
-    ensures ok { IfOk result (λ lexed.
-        listed edition (edited_from 0 text.now edits.now) ≡ Ok (listing lexed.tokens)) }
-    ensures err { IfErr result (λ fault.
-        IsRefused fault (listed edition (edited_from 0 text.now edits.now))) }
+    ensures ok { IfOk result (λ lexed. AreEdits text.now edits.now
+        × (lexed.tokens ≡ tokens_of (part edition) (apply_list text.now edits.now))) }
+    ensures err { IfErr result (IsRefused text.now edits.now) }
 {
     let mut lexed = LexedText::new_in(alloc, text, edition)?;
     lexed.edit_all(edits)?;
@@ -261,18 +261,18 @@ fn fields(kind: TokenKind) -> (Field, Field, Field)
             terminated,
         } => (
             text_field(" doc_style=", style_name(doc_style)),
-            text_field(" terminated=", bool_name(terminated)),
+            flag_field(" terminated=", terminated),
             NONE,
         ),
         TokenKind::Frontmatter {
             has_invalid_preceding_whitespace,
             invalid_infostring,
         } => (
-            text_field(
+            flag_field(
                 " has_invalid_preceding_whitespace=",
-                bool_name(has_invalid_preceding_whitespace),
+                has_invalid_preceding_whitespace,
             ),
-            text_field(" invalid_infostring=", bool_name(invalid_infostring)),
+            flag_field(" invalid_infostring=", invalid_infostring),
             NONE,
         ),
         TokenKind::Literal { kind, suffix_start } => {
@@ -284,7 +284,7 @@ fn fields(kind: TokenKind) -> (Field, Field, Field)
             (first, second, suffix_start)
         }
         TokenKind::Lifetime { starts_with_number } => (
-            text_field(" starts_with_number=", bool_name(starts_with_number)),
+            flag_field(" starts_with_number=", starts_with_number),
             NONE,
             NONE,
         ),
@@ -300,54 +300,23 @@ fn literal_fields(kind: LiteralKind) -> (Field, Field)
     match kind {
         LiteralKind::Int { base, empty_int } => (
             text_field(" kind=Int base=", base_name(base)),
-            text_field(" empty_int=", bool_name(empty_int)),
+            flag_field(" empty_int=", empty_int),
         ),
         LiteralKind::Float {
             base,
             empty_exponent,
         } => (
             text_field(" kind=Float base=", base_name(base)),
-            text_field(" empty_exponent=", bool_name(empty_exponent)),
+            flag_field(" empty_exponent=", empty_exponent),
         ),
-        LiteralKind::Char { terminated } => {
-            (
-                text_field(" kind=Char terminated=", bool_name(terminated)),
-                NONE,
-            )
-        }
-        LiteralKind::Byte { terminated } => {
-            (
-                text_field(" kind=Byte terminated=", bool_name(terminated)),
-                NONE,
-            )
-        }
-        LiteralKind::Str { terminated } => {
-            (
-                text_field(" kind=Str terminated=", bool_name(terminated)),
-                NONE,
-            )
-        }
-        LiteralKind::ByteStr { terminated } => {
-            (
-                text_field(" kind=ByteStr terminated=", bool_name(terminated)),
-                NONE,
-            )
-        }
-        LiteralKind::CStr { terminated } => {
-            (
-                text_field(" kind=CStr terminated=", bool_name(terminated)),
-                NONE,
-            )
-        }
-        LiteralKind::RawStr { n_hashes } => {
-            (hashes_field(" kind=RawStr n_hashes=", n_hashes), NONE)
-        }
-        LiteralKind::RawByteStr { n_hashes } => {
-            (hashes_field(" kind=RawByteStr n_hashes=", n_hashes), NONE)
-        }
-        LiteralKind::RawCStr { n_hashes } => {
-            (hashes_field(" kind=RawCStr n_hashes=", n_hashes), NONE)
-        }
+        LiteralKind::Char { terminated } => end_fields(" kind=Char terminated=", terminated),
+        LiteralKind::Byte { terminated } => end_fields(" kind=Byte terminated=", terminated),
+        LiteralKind::Str { terminated } => end_fields(" kind=Str terminated=", terminated),
+        LiteralKind::ByteStr { terminated } => end_fields(" kind=ByteStr terminated=", terminated),
+        LiteralKind::CStr { terminated } => end_fields(" kind=CStr terminated=", terminated),
+        LiteralKind::RawStr { n_hashes } => hash_fields(" kind=RawStr n_hashes=", n_hashes),
+        LiteralKind::RawByteStr { n_hashes } => hash_fields(" kind=RawByteStr n_hashes=", n_hashes),
+        LiteralKind::RawCStr { n_hashes } => hash_fields(" kind=RawCStr n_hashes=", n_hashes),
     }
 }
 
@@ -361,17 +330,36 @@ fn text_field(label: &'static str, text: &'static str) -> Field
     }
 }
 
-/// A field with the number of hashes of a raw string, or `none`.
-fn hashes_field(label: &'static str, n_hashes: Option<u8>) -> Field
-    ensures { field_text result ≡ label.now ++ hashes_text n_hashes }
+/// A field whose value is `true` or `false`.
+fn flag_field(label: &'static str, value: bool) -> Field
+    ensures { field_text result ≡ label.now ++ bool_text value }
 {
-    match n_hashes {
+    if value {
+        text_field(label, "true")
+    } else {
+        text_field(label, "false")
+    }
+}
+
+/// The fields of a literal that may lack its end.
+fn end_fields(label: &'static str, terminated: bool) -> (Field, Field)
+    ensures { field_text result.0 ++ field_text result.1 ≡ label.now ++ bool_text terminated }
+{
+    (flag_field(label, terminated), NONE)
+}
+
+/// The fields of a raw string: the number of its hashes, or `none`.
+fn hash_fields(label: &'static str, n_hashes: Option<u8>) -> (Field, Field)
+    ensures { field_text result.0 ++ field_text result.1 ≡ label.now ++ hashes_text n_hashes }
+{
+    let field = match n_hashes {
         None => text_field(label, "none"),
         Some(n) => Field {
             label,
             value: Value::Number(u32::from(n)),
         },
-    }
+    };
+    (field, NONE)
 }
 
 /// The style of a doc comment, or `none`.
@@ -383,13 +371,6 @@ fn style_name(style: Option<DocStyle>) -> &'static str
         Some(DocStyle::Outer) => "outer",
         Some(DocStyle::Inner) => "inner",
     }
-}
-
-/// `true` or `false`.
-fn bool_name(value: bool) -> &'static str
-    ensures { result.now ≡ bool_text value }
-{
-    if value { "true" } else { "false" }
 }
 
 /// The base of a number, in decimal.

@@ -6,7 +6,7 @@ ghost use Rattle.ends.specs.Known.{AppendsFront};
 ghost use Rattle.lexdump_run.specs.Pushed.{Pushes};
 
 use crate::fault::Fault;
-use ends::Watched;
+use ends::{Watched, write_all, write_bytes};
 use itoa::Buffer;
 use std::io::Write;
 use std::marker::Model;
@@ -96,7 +96,8 @@ impl Block {
     {
         self.write_out(output)?;
         if bytes.len() > BLOCK {
-            return write_bytes(output, bytes);
+            write_bytes(output, bytes)?;
+            return Ok(());
         }
         self.hold(bytes);
         Ok(())
@@ -146,38 +147,5 @@ impl Block {
         write_all(output, &self.bytes[..self.len])?;
         self.len = 0;
         Ok(())
-    }
-}
-
-/// Writes all of the bytes, and flushes.
-pub fn write_all<W: Write>(output: &mut Watched<W>, bytes: &[u8]) -> Result<(), Fault>
-    requires writes { output.old.failed ≡ false }
-    ensures failed { output.new.failed ≡ is_err result }
-    ensures flushed { IfOk result (λ _. output.new.flushed ≡ true) }
-    ensures only { IfErr result (λ fault. fault ≡ Fault.Write) }
-    ensures ok { OnOk result
-        (Appends (W.contents output.old.inner) (W.contents output.new.inner) bytes.now) }
-    ensures err { OnErr result
-        (AppendsFront (W.contents output.old.inner) (W.contents output.new.inner) bytes.now) }
-{
-    if ends::write_all(output, bytes).is_err() {
-        return Err(Fault::Write);
-    }
-    Ok(())
-}
-
-/// Writes all of the bytes.
-pub fn write_bytes<W: Write>(output: &mut Watched<W>, bytes: &[u8]) -> Result<(), Fault>
-    requires writes { output.old.failed ≡ false }
-    ensures failed { output.new.failed ≡ is_err result }
-    ensures only { IfErr result (λ fault. fault ≡ Fault.Write) }
-    ensures ok { OnOk result
-        (Appends (W.contents output.old.inner) (W.contents output.new.inner) bytes.now) }
-    ensures err { OnErr result
-        (AppendsFront (W.contents output.old.inner) (W.contents output.new.inner) bytes.now) }
-{
-    match ends::write_bytes(output, bytes) {
-        Ok(()) => Ok(()),
-        Err(_) => Err(Fault::Write),
     }
 }

@@ -1,13 +1,12 @@
 //! What is told of a run that stopped, and its status.
-ghost use Rattle.std.specs.Prelude.{◌≡◌, ◌++◌, ◌↔◌, false, true, IsErrOf, IsTrue, IfErr, IfOk, OnErr, OnOk};
+ghost use Rattle.std.specs.Prelude.{◌≡◌, ◌++◌, false, true, is_err, IfOk, OnErr, OnOk};
 ghost use Rattle.std.specs.Io.KnownBytes.{Appends};
 ghost use Rattle.lexdump_run.specs.Fault.{fault_line, number_text};
 ghost use Rattle.ends.specs.Known.{AppendsFront};
 ghost use Rattle.lexdump_run.specs.Program.{exit_status, told};
 
 use crate::fault::{Fault, status};
-use crate::output::{write_all, write_bytes};
-use ends::Watched;
+use ends::{Watched, WriteStop, write_all, write_bytes};
 use itoa::Buffer;
 use std::io::Write;
 
@@ -34,11 +33,10 @@ pub fn report<E: Write>(outcome: &Result<(), Fault>, errors: &mut Watched<E>) ->
 }
 
 /// Writes the line of the fault, and flushes.
-fn tell<E: Write>(fault: &Fault, errors: &mut Watched<E>) -> Result<(), Fault>
+fn tell<E: Write>(fault: &Fault, errors: &mut Watched<E>) -> Result<(), WriteStop>
     requires { errors.old.failed ≡ false }
-    ensures failed { IsErrOf result Fault.Write ↔ IsTrue errors.new.failed }
+    ensures failed { errors.new.failed ≡ is_err result }
     ensures flushed { IfOk result (λ _. errors.new.flushed ≡ true) }
-    ensures only { IfErr result (λ fault. fault ≡ Fault.Write) }
     ensures ok { OnOk result
         (Appends (E.contents errors.old.inner) (E.contents errors.new.inner)
         (fault_line fault.now)) }
@@ -53,10 +51,9 @@ fn tell<E: Write>(fault: &Fault, errors: &mut Watched<E>) -> Result<(), Fault>
 }
 
 /// Writes the number, if there is one.
-fn write_number<E: Write>(errors: &mut Watched<E>, number: Option<usize>) -> Result<(), Fault>
+fn write_number<E: Write>(errors: &mut Watched<E>, number: Option<usize>) -> Result<(), WriteStop>
     requires { errors.old.failed ≡ false }
-    ensures failed { IsErrOf result Fault.Write ↔ IsTrue errors.new.failed }
-    ensures only { IfErr result (λ fault. fault ≡ Fault.Write) }
+    ensures failed { errors.new.failed ≡ is_err result }
     ensures ok { OnOk result
         (Appends (E.contents errors.old.inner) (E.contents errors.new.inner) (number_text number)) }
     ensures err { OnErr result

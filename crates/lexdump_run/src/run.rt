@@ -2,8 +2,8 @@
 ghost use Rattle.std.specs.Prelude.{◌≡◌, ◌≢◌, ◌↔◌, false, true, IsTrue, IsErrOf, IfErr, IfOk, IfSome};
 ghost use Rattle.std.specs.Io.KnownBytes.{Keeps};
 ghost use Rattle.rustc_lexer.specs.Classes.{Fits};
-ghost use Rattle.lexdump_run.specs.Outcome.{outcome, printed, IsAnswer, Writes};
-ghost use Rattle.lexdump_run.specs.Pushed.{Prints};
+ghost use Rattle.lexdump_run.specs.Outcome.{Ends};
+ghost use Rattle.lexdump_run.specs.Pushed.{Lists};
 
 use crate::fault::Fault;
 use crate::job::Job;
@@ -33,11 +33,8 @@ pub fn run<R: Read, W: Write>(
     ensures silent { IfErr result
         (λ fault. fault ≢ Fault.Write
         → Keeps (W.contents output.old.inner) (W.contents output.new.inner)) }
-    ensures outcome { IfSome (R.remaining input.old.inner)
-        (λ bytes. IsAnswer result (outcome job.now bytes)) }
-    ensures written { IfSome (R.remaining input.old.inner) (λ bytes.
-        Writes (W.contents output.old.inner) (W.contents output.new.inner) result
-        (outcome job.now bytes)) }
+    ensures ends { IfSome (R.remaining input.old.inner) (λ bytes.
+        Ends job.now bytes (W.contents output.old.inner) (W.contents output.new.inner) result) }
 {
     let bytes = read_all(alloc, input)?;
     let text = match std::str::from_utf8(bytes.as_slice()) {
@@ -60,8 +57,8 @@ fn print<W: Write>(
     requires fits { Fits text.now }
     requires writes { output.old.failed ≡ false }
     ensures failed { IsErrOf result Fault.Write ↔ IsTrue output.new.failed }
-    ensures prints { Prints (W.contents output.old.inner) (W.contents output.new.inner)
-        lines.old lines.new result (printed job.now text.now) }
+    ensures lists { Lists job.now text.now (W.contents output.old.inner)
+        (W.contents output.new.inner) lines.old lines.new result }
 {
     match job {
         Job::Plain { edition } => {

@@ -1,6 +1,6 @@
 //! Why a run stops.
 
-use ends::ReadStop;
+use ends::{ReadStop, WriteStop};
 use rattle_std::alloc::{AllocError, AllocFailed};
 use rattle_std::error::Error;
 use rattle_std::fmt;
@@ -73,6 +73,12 @@ impl From<ReadStop> for Fault {
             ReadStop::Memory => Fault::Memory,
             ReadStop::Failed => Fault::Read,
         }
+    }
+}
+
+impl From<WriteStop> for Fault {
+    fn from(_stop: WriteStop) -> Fault {
+        Fault::Write
     }
 }
 

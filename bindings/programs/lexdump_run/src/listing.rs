@@ -195,18 +195,18 @@ fn fields(kind: TokenKind) -> (Field, Field, Field) {
             terminated,
         } => (
             text_field(" doc_style=", style_name(doc_style)),
-            text_field(" terminated=", bool_name(terminated)),
+            flag_field(" terminated=", terminated),
             NONE,
         ),
         TokenKind::Frontmatter {
             has_invalid_preceding_whitespace,
             invalid_infostring,
         } => (
-            text_field(
+            flag_field(
                 " has_invalid_preceding_whitespace=",
-                bool_name(has_invalid_preceding_whitespace),
+                has_invalid_preceding_whitespace,
             ),
-            text_field(" invalid_infostring=", bool_name(invalid_infostring)),
+            flag_field(" invalid_infostring=", invalid_infostring),
             NONE,
         ),
         TokenKind::Literal { kind, suffix_start } => {
@@ -218,7 +218,7 @@ fn fields(kind: TokenKind) -> (Field, Field, Field) {
             (first, second, suffix_start)
         }
         TokenKind::Lifetime { starts_with_number } => (
-            text_field(" starts_with_number=", bool_name(starts_with_number)),
+            flag_field(" starts_with_number=", starts_with_number),
             NONE,
             NONE,
         ),
@@ -231,44 +231,23 @@ fn literal_fields(kind: LiteralKind) -> (Field, Field) {
     match kind {
         LiteralKind::Int { base, empty_int } => (
             text_field(" kind=Int base=", base_name(base)),
-            text_field(" empty_int=", bool_name(empty_int)),
+            flag_field(" empty_int=", empty_int),
         ),
         LiteralKind::Float {
             base,
             empty_exponent,
         } => (
             text_field(" kind=Float base=", base_name(base)),
-            text_field(" empty_exponent=", bool_name(empty_exponent)),
+            flag_field(" empty_exponent=", empty_exponent),
         ),
-        LiteralKind::Char { terminated } => (
-            text_field(" kind=Char terminated=", bool_name(terminated)),
-            NONE,
-        ),
-        LiteralKind::Byte { terminated } => (
-            text_field(" kind=Byte terminated=", bool_name(terminated)),
-            NONE,
-        ),
-        LiteralKind::Str { terminated } => (
-            text_field(" kind=Str terminated=", bool_name(terminated)),
-            NONE,
-        ),
-        LiteralKind::ByteStr { terminated } => (
-            text_field(" kind=ByteStr terminated=", bool_name(terminated)),
-            NONE,
-        ),
-        LiteralKind::CStr { terminated } => (
-            text_field(" kind=CStr terminated=", bool_name(terminated)),
-            NONE,
-        ),
-        LiteralKind::RawStr { n_hashes } => {
-            (hashes_field(" kind=RawStr n_hashes=", n_hashes), NONE)
-        }
-        LiteralKind::RawByteStr { n_hashes } => {
-            (hashes_field(" kind=RawByteStr n_hashes=", n_hashes), NONE)
-        }
-        LiteralKind::RawCStr { n_hashes } => {
-            (hashes_field(" kind=RawCStr n_hashes=", n_hashes), NONE)
-        }
+        LiteralKind::Char { terminated } => end_fields(" kind=Char terminated=", terminated),
+        LiteralKind::Byte { terminated } => end_fields(" kind=Byte terminated=", terminated),
+        LiteralKind::Str { terminated } => end_fields(" kind=Str terminated=", terminated),
+        LiteralKind::ByteStr { terminated } => end_fields(" kind=ByteStr terminated=", terminated),
+        LiteralKind::CStr { terminated } => end_fields(" kind=CStr terminated=", terminated),
+        LiteralKind::RawStr { n_hashes } => hash_fields(" kind=RawStr n_hashes=", n_hashes),
+        LiteralKind::RawByteStr { n_hashes } => hash_fields(" kind=RawByteStr n_hashes=", n_hashes),
+        LiteralKind::RawCStr { n_hashes } => hash_fields(" kind=RawCStr n_hashes=", n_hashes),
     }
 }
 
@@ -280,15 +259,30 @@ fn text_field(label: &'static str, text: &'static str) -> Field {
     }
 }
 
-/// A field with the number of hashes of a raw string, or `none`.
-fn hashes_field(label: &'static str, n_hashes: Option<u8>) -> Field {
-    match n_hashes {
+/// A field whose value is `true` or `false`.
+fn flag_field(label: &'static str, value: bool) -> Field {
+    if value {
+        text_field(label, "true")
+    } else {
+        text_field(label, "false")
+    }
+}
+
+/// The fields of a literal that may lack its end.
+fn end_fields(label: &'static str, terminated: bool) -> (Field, Field) {
+    (flag_field(label, terminated), NONE)
+}
+
+/// The fields of a raw string: the number of its hashes, or `none`.
+fn hash_fields(label: &'static str, n_hashes: Option<u8>) -> (Field, Field) {
+    let field = match n_hashes {
         None => text_field(label, "none"),
         Some(n) => Field {
             label,
             value: Value::Number(u32::from(n)),
         },
-    }
+    };
+    (field, NONE)
 }
 
 /// The style of a doc comment, or `none`.
@@ -298,11 +292,6 @@ fn style_name(style: Option<DocStyle>) -> &'static str {
         Some(DocStyle::Outer) => "outer",
         Some(DocStyle::Inner) => "inner",
     }
-}
-
-/// `true` or `false`.
-fn bool_name(value: bool) -> &'static str {
-    if value { "true" } else { "false" }
 }
 
 /// The base of a number, in decimal.

@@ -1,7 +1,7 @@
 //! What goes out: bytes are held until there is a block of them, and then written at once.
 
 use crate::fault::Fault;
-use ends::Watched;
+use ends::{Watched, write_all, write_bytes};
 use itoa::Buffer;
 use rattle_std::io::Write;
 
@@ -57,7 +57,8 @@ impl Block {
     fn push_past<W: Write>(&mut self, output: &mut Watched<W>, bytes: &[u8]) -> Result<(), Fault> {
         self.write_out(output)?;
         if bytes.len() > BLOCK {
-            return write_bytes(output, bytes);
+            write_bytes(output, bytes)?;
+            return Ok(());
         }
         self.hold(bytes);
         Ok(())
@@ -83,21 +84,5 @@ impl Block {
         write_all(output, &self.bytes[..self.len])?;
         self.len = 0;
         Ok(())
-    }
-}
-
-/// Writes all of the bytes, and flushes.
-pub fn write_all<W: Write>(output: &mut Watched<W>, bytes: &[u8]) -> Result<(), Fault> {
-    if ends::write_all(output, bytes).is_err() {
-        return Err(Fault::Write);
-    }
-    Ok(())
-}
-
-/// Writes all of the bytes.
-pub fn write_bytes<W: Write>(output: &mut Watched<W>, bytes: &[u8]) -> Result<(), Fault> {
-    match ends::write_bytes(output, bytes) {
-        Ok(()) => Ok(()),
-        Err(_) => Err(Fault::Write),
     }
 }

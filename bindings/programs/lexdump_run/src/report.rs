@@ -1,8 +1,7 @@
 //! What is told of a run that stopped, and its status.
 
 use crate::fault::{Fault, status};
-use crate::output::{write_all, write_bytes};
-use ends::Watched;
+use ends::{Watched, WriteStop, write_all, write_bytes};
 use itoa::Buffer;
 use rattle_std::io::Write;
 
@@ -21,7 +20,7 @@ pub fn report<E: Write>(outcome: &Result<(), Fault>, errors: &mut Watched<E>) ->
 }
 
 /// Writes the line of the fault, and flushes.
-fn tell<E: Write>(fault: &Fault, errors: &mut Watched<E>) -> Result<(), Fault> {
+fn tell<E: Write>(fault: &Fault, errors: &mut Watched<E>) -> Result<(), WriteStop> {
     let (before, number, after) = line_parts(fault);
     write_bytes(errors, before.as_bytes())?;
     write_number(errors, number)?;
@@ -29,7 +28,7 @@ fn tell<E: Write>(fault: &Fault, errors: &mut Watched<E>) -> Result<(), Fault> {
 }
 
 /// Writes the number, if there is one.
-fn write_number<E: Write>(errors: &mut Watched<E>, number: Option<usize>) -> Result<(), Fault> {
+fn write_number<E: Write>(errors: &mut Watched<E>, number: Option<usize>) -> Result<(), WriteStop> {
     match number {
         Some(number) => write_bytes(errors, Buffer::new().format(number).as_bytes()),
         None => Ok(()),

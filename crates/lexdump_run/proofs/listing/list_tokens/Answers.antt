@@ -1,34 +1,43 @@
-use Rattle.std.proofs.Common.{◌≡◌, ◌-◌, List, ℕ, length, sym, ap, ◌∙◌, rules}
-use Rattle.std.proofs.lemmas.Result.{err_from_is_err_and}
+use Rattle.std.proofs.Common.{◌≡◌, ◌-◌, length, refl, sym, ap, ◌∙◌, rules, arith, length-drop}
 use Rattle.rustc_lexer.specs.State.{State}
-use Rattle.rustc_lexer.specs.Tokens.{tokens_left}
-use Rattle.rustc_lexer.proofs.BlockLemmas.{filled_front}
-use Rattle.lexdump_run.proofs.ListingLemmas.{none_left, rooms_start, rooms_fit, rooms_step, rooms_stopped, rooms_end}
+use Rattle.rustc_lexer.specs.LanguageText.{mode_in}
+use Rattle.rustc_lexer.specs.Tokens.{bound, tokens_left, tokens_of}
+use Rattle.lexdump_run.specs.Listing.{listing, listing_from}
+use Rattle.lexdump_run.proofs.ListingLemmas.{none_left, room_fits, room-split}
+use Rattle.lexdump_run.proofs.PushLemmas.{went_none, went_first, went_all, pushes_stopped}
 use Rattle.lexdump_run.proofs.listing.list_tokens.Goals as goal
 
 pub left-init : goal.left-init
-left-init g c = (c.requires.writes, rooms_start _ _ _ _ _ _ c.tokenize_as-tokens.ensures.tokens (ap (λ (s : State). s.rest) c.tokenize_as-tokens.ensures.state) c.tokenize_as-tokens.ensures.partitions.whole)
+left-init g c =
+    let whole = ap (λ (s : State). length s.rest) c.tokenize_as-tokens.ensures.state in
+    let none : length c.args.text.now - length c.tokenize_as-tokens.result.rest ≡ 0 = omega (arith, whole) in
+    record {
+      sound = c.requires.writes;
+      within = omega (arith, whole);
+      lines = went_none (g.W.Write.contents c.args.output.now.inner) c.args.lines.now (listing (tokens_of (mode_in c.args.frontmatter_allowed c.args.edition) c.args.text.now)) _
+          (ap (listing_from _) c.tokenize_as-tokens.ensures.tokens ∙ ap (λ n. listing_from n (tokens_of (mode_in c.args.frontmatter_allowed c.args.edition) c.args.text.now)) none);
+    }
 
 pub push_lines-requires-clause-fits : goal.push_lines-requires-clause-fits
 push_lines-requires-clause-fits g c =
-    let front = filled_front (tokens_left c.left.tokens) c.left.room c.fill-count.new.room c.fill-count.result (record { as_many = c.fill-count.ensures.count; tokens = c.fill-count.ensures.tokens }) in
-    let start : length c.args.text.now - length c.as_str-in-left.result.now ≡ length c.args.text.now - length c.left.tokens.rest = ap (λ (xs : List ℕ). length c.args.text.now - length xs) c.as_str-in-left.ensures.rest in
-    rooms_fit _ _ _ _ _ _ _ _ _ _ _ c.left.invariant.1 start front.few front.front c.requires.fits
+    room_fits c.args.text.now c.as_str-in-left.result.now c.left.tokens.rest c.left.tokens.mode c.left.room c.fill-count.new.room c.fill-count.result c.as_str-in-left.ensures.rest c.as_str-in-left.utf8 c.left.invariant.within c.requires.fits (record { as_many = c.fill-count.ensures.count; tokens = c.fill-count.ensures.tokens })
 
 pub left-preserved : goal.left-preserved
-left-preserved g c =
-    let front = filled_front (tokens_left c.left.tokens) c.left.room c.fill-count.new.room c.fill-count.result (record { as_many = c.fill-count.ensures.count; tokens = c.fill-count.ensures.tokens }) in
-    let start : length c.args.text.now - length c.as_str-in-left.result.now ≡ length c.args.text.now - length c.left.tokens.rest = ap (λ (xs : List ℕ). length c.args.text.now - length xs) c.as_str-in-left.ensures.rest in
-    (c.in_ok-push_lines.ensures.failed, rooms_step _ _ _ _ _ _ _ _ _ _ _ c.left.invariant.1 start front.few front.front _ _ _ _ c.fill-count.ensures.left c.fill-count.ensures.rest c.in_ok-push_lines.ensures.pushed)
+left-preserved g c = record {
+  sound = c.in_ok-push_lines.ensures.failed;
+  within = omega (arith, ap length c.fill-count.ensures.rest, length-drop (bound (tokens_left c.left.tokens) c.fill-count.result) c.left.tokens.rest, c.left.invariant.within);
+  lines = went_first _ _ _ _ _ _ _ _ c.left.invariant.lines
+      (room-split c.args.text.now c.as_str-in-left.result.now c.left.tokens.rest c.left.tokens.mode c.left.room c.fill-count.new.room c.fill-count.result c.as_str-in-left.ensures.rest c.as_str-in-left.utf8 c.left.invariant.within c.requires.fits (record { as_many = c.fill-count.ensures.count; tokens = c.fill-count.ensures.tokens }) _ _ c.fill-count.ensures.left c.fill-count.ensures.rest)
+      _ c.in_ok-push_lines.ensures.pushed;
+}
 
 pub returns-in_err-push_lines-clause-pushed : goal.returns-in_err-push_lines-clause-pushed
 returns-in_err-push_lines-clause-pushed g c =
-    let p = err_from_is_err_and c.from_residual.result c.from_residual.ensures.1 in
-    let front = filled_front (tokens_left c.left.tokens) c.left.room c.fill-count.new.room c.fill-count.result (record { as_many = c.fill-count.ensures.count; tokens = c.fill-count.ensures.tokens }) in
-    let start : length c.args.text.now - length c.as_str-in-left.result.now ≡ length c.args.text.now - length c.left.tokens.rest = ap (λ (xs : List ℕ). length c.args.text.now - length xs) c.as_str-in-left.ensures.rest in
-    rw (p.1, p.2) (c.in_err-push_lines.ensures.pushed.0, rooms_stopped _ _ _ _ _ _ _ _ _ _ _ c.left.invariant.1 start front.few front.front _ _ c.in_err-push_lines.ensures.pushed.1)
+    pushes_stopped (g.W.Write.contents c.args.output.now.inner) _ (g.W.Write.contents c.push_lines.new.output.inner) c.args.lines.now c.push_lines.new.lines (listing (tokens_of (mode_in c.args.frontmatter_allowed c.args.edition) c.args.text.now)) _ _ _ _ _ c.from_residual.result c.left.invariant.lines
+    (room-split c.args.text.now c.as_str-in-left.result.now c.left.tokens.rest c.left.tokens.mode c.left.room c.fill-count.new.room c.fill-count.result c.as_str-in-left.ensures.rest c.as_str-in-left.utf8 c.left.invariant.within c.requires.fits (record { as_many = c.fill-count.ensures.count; tokens = c.fill-count.ensures.tokens }) _ _ refl refl)
+    c.in_err-push_lines.ensures.pushed c.from_residual.ensures.1
 
 pub returns-clause-pushed : goal.returns-clause-pushed
 returns-clause-pushed g c =
     let none : length c.as_str.result.now ≡ 0 = search rules in
-    rooms_end _ _ _ _ _ _ _ _ c.left.invariant.1 (none_left c.left.tokens (ap length (sym c.as_str.ensures.rest) ∙ none))
+    went_all _ _ _ _ _ c.left.invariant.lines (ap (listing_from _) (none_left c.left.tokens (ap length (sym c.as_str.ensures.rest) ∙ none)))
