@@ -2,7 +2,8 @@
 ghost use Rattle.rustc_lexer.specs.Classes.{Fits};
 
 use anyhow::{Result, bail};
-use rustc_lexer::{LexedText, Relexed, Steps};
+use lex_vectors::steppers::Counting;
+use rustc_lexer::{LexedText, Stepper};
 use std::time::Instant;
 
 /// Where the edits stand.
@@ -17,29 +18,15 @@ pub(crate) enum Place {
 }
 
 /// What edits took.
-#[derive(Clone, Copy)]
+#[derive(Clone, Copy, Default)]
 pub(crate) struct EditWork {
     pub(crate) edits: u64,
     /// How many tokens were lexed for them.
     pub(crate) lexed: u64,
     /// A sum over what each of them kept, in order.
     pub(crate) sum: u64,
-}
-
-impl EditWork {
-    /// One edit more.
-    fn and(self, relexed: Relexed) -> EditWork {
-        EditWork {
-            edits: self.edits.wrapping_add(1),
-            lexed: self.lexed.wrapping_add(relexed.lexed as u64),
-            sum: self
-                .sum
-                .wrapping_mul(31)
-                .wrapping_add(relexed.kept_front as u64)
-                .wrapping_mul(31)
-                .wrapping_add(relexed.kept_back as u64),
-        }
-    }
+    /// How many tokens moved: those behind an edit, where their number is another than before.
+    moved: u64,
 }
 
 /// Types and deletes so many letters, and prints what one edit takes, and what lexing the whole text takes.
@@ -91,33 +78,56 @@ pub(crate) fn time_pastes(rt: &HostRuntime, text: &str, times: u32) -> Result<()
 }
 
 /// Types a letter and deletes it again, as often as asked.
-pub(crate) fn edit_letters(
-    held: &mut LexedText<Steps>,
+pub(crate) fn edit_letters<S: Stepper>(
+    held: &mut LexedText<S>,
     place: Place,
     times: u32,
 ) -> Result<EditWork> {
-    let mut work = EditWork {
-        edits: 0,
-        lexed: 0,
-        sum: 0,
-    };
+    let mut work = EditWork::default();
     let mut random = 1u64;
     for _ in 0..times {
         random = next_random(random);
         let at = index_of(place, held.text().len(), random);
-        if held.accepts(at, at, "x") {
-            work = work.and(held.edit(at, at, "x")?);
-        }
-        let past = at.wrapping_add(1);
-        if held.accepts(at, past, "") {
-            work = work.and(held.edit(at, past, "")?);
+        for (stop, insert) in [(at, "x"), (at.wrapping_add(1), "")] {
+            if held.accepts(at, stop, insert) {
+                let before = held.tokens().len();
+                let relexed = held.edit(at, stop, insert)?;
+                let back = relexed.kept_back as u64;
+                work.edits = work.edits.wrapping_add(1);
+                work.lexed = work.lexed.wrapping_add(relexed.lexed as u64);
+                for kept in [relexed.kept_front as u64, back] {
+                    work.sum = work.sum.wrapping_mul(31).wrapping_add(kept);
+                }
+                if held.tokens().len() != before {
+                    work.moved = work.moved.wrapping_add(back);
+                }
+            }
         }
     }
     Ok(work)
 }
 
+/// Types and deletes so many letters, and prints the work of it: the edits, the steps that they asked for, the bytes of
+/// the tokens that those gave, and the tokens that moved.
+pub(crate) fn print_work(rt: &HostRuntime, text: &str, place: Place, times: u32) -> Result<()>
+    requires { Fits text.now }
+{
+    let mut held = LexedText::with(rt.alloc(), text, Counting::new())?;
+    let whole = held.stepper().calls;
+    let whole_bytes = held.stepper().bytes;
+    let work = edit_letters(&mut held, place, times)?;
+    println!(rt;
+        "of {whole} tokens, {whole_bytes} bytes: edits {}, steps {}, bytes lexed {}, tokens moved {}",
+        work.edits,
+        held.stepper().calls.wrapping_sub(whole),
+        held.stepper().bytes.wrapping_sub(whole_bytes),
+        work.moved
+    )?;
+    Ok(())
+}
+
 /// The index of a place in a text of so many bytes.
-pub(crate) fn index_of(place: Place, len: usize, random: u64) -> usize {
+fn index_of(place: Place, len: usize, random: u64) -> usize {
     match place {
         Place::Middle => len / 2,
         Place::End => len,
@@ -126,7 +136,7 @@ pub(crate) fn index_of(place: Place, len: usize, random: u64) -> usize {
 }
 
 /// The next of a sequence of numbers that look as if drawn by chance (Knuth's linear congruence of 64 bits).
-pub(crate) fn next_random(random: u64) -> u64 {
+fn next_random(random: u64) -> u64 {
     random
         .wrapping_mul(6_364_136_223_846_793_005)
         .wrapping_add(1_442_695_040_888_963_407)

@@ -6,23 +6,18 @@ use rustc_lexer::{DocStyle, FrontmatterAllowed, LiteralKind, Token, TokenKind, t
 use std::time::Instant;
 
 /// How many tokens there are, and a sum over what each of them says, in order.
-#[derive(Clone, Copy)]
+#[derive(Clone, Copy, Default)]
 pub(crate) struct TokenSum {
     pub(crate) count: u64,
     pub(crate) sum: u64,
 }
 
 impl TokenSum {
-    /// No token.
-    pub(crate) fn new() -> TokenSum {
-        TokenSum { count: 0, sum: 0 }
-    }
-
     /// One token more. The order of the tokens counts.
     ///
     /// What it says is weighed by its place. A chain of products would take longer than the lexer does.
     #[inline(always)]
-    pub(crate) fn and(self, token: Token) -> TokenSum {
+    fn and(self, token: Token) -> TokenSum {
         self.and_number(number_of(token.kind), token.len)
     }
 
@@ -43,154 +38,142 @@ impl TokenSum {
     }
 }
 
-/// Lexes the text so many times, and prints what was found and the least time that it took.
-pub(crate) fn time_lexing(rt: &HostRuntime, text: &str, times: u32) -> Result<()>
+/// How a text is lexed, and what is read of its tokens.
+#[derive(Clone, Copy, PartialEq, Eq)]
+pub(crate) enum Way {
+    /// One token after another, with all fields.
+    Next,
+    /// The same, with kinds and lengths alone.
+    NextKinds,
+    /// Many tokens at once, with all fields.
+    Fill,
+    /// The same, with kinds and lengths alone.
+    FillKinds,
+    /// The same, with no look at the tokens.
+    FillAlone,
+}
+
+impl Way {
+    /// What its time is called.
+    fn name(self) -> &'static str {
+        match self {
+            Way::FillKinds => "least time of many at once",
+            Way::FillAlone => "least time with no look at the tokens",
+            _ => "least time",
+        }
+    }
+}
+
+/// Lexes the text so many times by each way, and prints what was found, and the least time of each.
+pub(crate) fn time_ways(rt: &HostRuntime, text: &str, times: u32, ways: &[Way]) -> Result<()>
     requires { Fits text.now }
 {
-    let mut tokens = TokenSum::new();
-    let mut least = u128::MAX;
-    for _ in 0..times {
-        let start = Instant::now(rt)?;
-        tokens = sum_tokens(text);
-        least = least.min(start.elapsed(rt)?.as_nanos());
+    let mut first = None;
+    for way in ways {
+        let mut tokens = TokenSum::default();
+        let mut least = u128::MAX;
+        for _ in 0..times {
+            let start = Instant::now(rt)?;
+            tokens = sum_by(text, *way);
+            least = least.min(start.elapsed(rt)?.as_nanos());
+        }
+        match first {
+            None => println!(rt; "tokens {}, sum {}", tokens.count, tokens.sum)?,
+            Some((count, sum)) => {
+                if count != tokens.count || (sum != tokens.sum && *way != Way::FillAlone) {
+                    bail!("two ways to lex find different tokens");
+                }
+            }
+        }
+        first = Some((tokens.count, tokens.sum));
+        println!(rt; "{} {least} ns", way.name())?;
     }
-    println!(rt; "tokens {}, sum {}", tokens.count, tokens.sum)?;
-    println!(rt; "least time {least} ns")?;
     Ok(())
 }
 
 /// Lexes the text once.
-#[inline(never)]
-pub(crate) fn sum_tokens(text: &str) -> TokenSum
+pub(crate) fn sum_by(text: &str, way: Way) -> TokenSum
     requires { Fits text.now }
 {
-    let mut tokens = TokenSum::new();
+    match way {
+        Way::Next => sum_tokens(text),
+        Way::NextKinds => sum_kinds(text),
+        Way::Fill => sum_filled(text),
+        Way::FillKinds => sum_filled_kinds(text),
+        Way::FillAlone => count_filled(text),
+    }
+}
+
+#[inline(never)]
+fn sum_tokens(text: &str) -> TokenSum
+    requires { Fits text.now }
+{
+    let mut tokens = TokenSum::default();
     for token in tokenize(text, FrontmatterAllowed::No) {
         tokens = tokens.and(token);
     }
     tokens
 }
 
-/// Lexes the text so many times, many tokens at once, and prints what was found and two least times: that of all, and
-/// that of writing the tokens alone.
-pub(crate) fn time_filling(rt: &HostRuntime, text: &str, times: u32) -> Result<()>
-    requires { Fits text.now }
-{
-    let mut tokens = TokenSum::new();
-    let mut least = u128::MAX;
-    let mut least_alone = u128::MAX;
-    for _ in 0..times {
-        let start = Instant::now(rt)?;
-        tokens = sum_filled(text);
-        least = least.min(start.elapsed(rt)?.as_nanos());
-        let start = Instant::now(rt)?;
-        let count = count_filled(text);
-        least_alone = least_alone.min(start.elapsed(rt)?.as_nanos());
-        if count != tokens.count {
-            bail!("two ways to fill a room give different numbers of tokens");
-        }
-    }
-    println!(rt; "tokens {}, sum {}", tokens.count, tokens.sum)?;
-    println!(rt; "least time {least} ns")?;
-    println!(rt; "least time with no look at the tokens {least_alone} ns")?;
-    Ok(())
-}
-
-/// Lexes the text so many times, reads kinds and lengths alone, and prints what was found and two least times: that of
-/// one token after another, and that of many at once.
-pub(crate) fn time_kinds(rt: &HostRuntime, text: &str, times: u32) -> Result<()>
-    requires { Fits text.now }
-{
-    let mut tokens = TokenSum::new();
-    let mut least = u128::MAX;
-    let mut least_filled = u128::MAX;
-    for _ in 0..times {
-        let start = Instant::now(rt)?;
-        tokens = sum_kinds(text);
-        least = least.min(start.elapsed(rt)?.as_nanos());
-        let start = Instant::now(rt)?;
-        let filled = sum_filled_kinds(text);
-        least_filled = least_filled.min(start.elapsed(rt)?.as_nanos());
-        if filled.sum != tokens.sum {
-            bail!("two ways to read kinds give different sums");
-        }
-    }
-    println!(rt; "tokens {}, sum {}", tokens.count, tokens.sum)?;
-    println!(rt; "least time {least} ns")?;
-    println!(rt; "least time of many at once {least_filled} ns")?;
-    Ok(())
-}
-
-/// Lexes the text once, and reads kinds and lengths alone.
 #[inline(never)]
 fn sum_kinds(text: &str) -> TokenSum
     requires { Fits text.now }
 {
-    let mut sum = TokenSum::new();
+    let mut tokens = TokenSum::default();
     for token in tokenize(text, FrontmatterAllowed::No) {
-        sum = sum.and_kind(token);
+        tokens = tokens.and_kind(token);
     }
-    sum
+    tokens
 }
 
-/// Lexes the text once, many tokens at a time, and reads kinds and lengths alone.
+#[inline(never)]
+fn sum_filled(text: &str) -> TokenSum
+    requires { Fits text.now }
+{
+    sum_blocks(text, Way::Fill)
+}
+
 #[inline(never)]
 fn sum_filled_kinds(text: &str) -> TokenSum
     requires { Fits text.now }
 {
-    sum_blocks(text, false)
+    sum_blocks(text, Way::FillKinds)
+}
+
+#[inline(never)]
+fn count_filled(text: &str) -> TokenSum
+    requires { Fits text.now }
+{
+    sum_blocks(text, Way::FillAlone)
 }
 
 /// How many tokens are written at once.
 const ROOM: usize = 256;
 
-/// A room in which no token was written yet.
-fn new_room() -> [Token; ROOM] {
-    [Token {
+/// Lexes the text once, many tokens at a time.
+#[inline(always)]
+fn sum_blocks(text: &str, way: Way) -> TokenSum
+    requires { Fits text.now }
+{
+    let mut sum = TokenSum::default();
+    let mut room = [Token {
         kind: TokenKind::Eof,
         len: 0,
-    }; ROOM]
-}
-
-/// Lexes the text once, many tokens at a time.
-#[inline(never)]
-pub(crate) fn sum_filled(text: &str) -> TokenSum
-    requires { Fits text.now }
-{
-    sum_blocks(text, true)
-}
-
-/// Lexes the text once, many tokens at a time. The fields of a token count where it is asked for.
-#[inline(always)]
-fn sum_blocks(text: &str, reads_fields: bool) -> TokenSum
-    requires { Fits text.now }
-{
-    let mut sum = TokenSum::new();
-    let mut room = new_room();
+    }; ROOM];
     let mut tokens = tokenize(text, FrontmatterAllowed::No);
     'left: while !tokens.as_str().is_empty() {
         let count = tokens.fill(&mut room);
+        if way == Way::FillAlone {
+            sum.count = sum.count.wrapping_add(count as u64);
+            continue;
+        }
         for token in &room[..count] {
-            sum = if reads_fields {
+            sum = if way == Way::Fill {
                 sum.and(*token)
             } else {
                 sum.and_kind(*token)
             };
         }
-    }
-    sum
-}
-
-/// Lexes the text once, many tokens at a time, and counts them.
-#[inline(never)]
-fn count_filled(text: &str) -> u64
-    requires { Fits text.now }
-{
-    let mut sum = 0u64;
-    let mut room = new_room();
-    let mut tokens = tokenize(text, FrontmatterAllowed::No);
-    'left: while !tokens.as_str().is_empty() {
-        sum = sum.wrapping_add(tokens.fill(&mut room) as u64);
     }
     sum
 }

@@ -10,9 +10,8 @@
 
 ghost use Rattle.rustc_lexer.specs.Classes.{Fits};
 
-use crate::edits::{Place, edit_letters, time_edits, time_pastes};
-use crate::lexing::{sum_filled, sum_tokens, time_filling, time_kinds, time_lexing};
-use crate::work::print_work;
+use crate::edits::{Place, edit_letters, print_work, time_edits, time_pastes};
+use crate::lexing::{Way, sum_by, time_ways};
 use anyhow::{Context, Result, bail};
 use rustc_lexer::{LexedText, fits};
 use std::env;
@@ -20,22 +19,10 @@ use std::io::Read;
 
 mod edits;
 mod lexing;
-mod work;
 
-/// What is asked for.
-#[derive(Clone, Copy)]
-enum Task {
-    Check,
-    Lex { times: u32 },
-    Bulk { times: u32 },
-    Kinds { times: u32 },
-    Edit { place: Place, times: u32 },
-    Paste { times: u32 },
-    Work { place: Place, times: u32 },
-}
+const USAGE: &str = "give check, or lex, bulk, kinds, edit, paste or work with how many times";
 
 fn main(rt: HostRuntime) -> Result<()> {
-    let task = read_task(&rt)?;
     let mut bytes = Vec::new(rt.alloc());
     let _ = rt.reader().read_to_end(&mut bytes)?;
     let text = str::from_utf8(&bytes)?;
@@ -43,59 +30,27 @@ fn main(rt: HostRuntime) -> Result<()> {
         bail!("the text is longer than a lexer takes");
     }
     println!(rt; "bytes {}", text.len())?;
-    match task {
-        Task::Check => check(&rt, text),
-        Task::Lex { times } => time_lexing(&rt, text, times),
-        Task::Bulk { times } => time_filling(&rt, text, times),
-        Task::Kinds { times } => time_kinds(&rt, text, times),
-        Task::Edit { place, times } => time_edits(&rt, text, place, times),
-        Task::Paste { times } => time_pastes(&rt, text, times),
-        Task::Work { place, times } => print_work(&rt, text, place, times),
-    }
-}
-
-/// Reads the task from the program's arguments.
-fn read_task(rt: &HostRuntime) -> Result<Task> {
-    let mut words = env::args(rt)?;
+    let mut words = env::args(&rt)?;
     let _program = words.next();
-    let command = words
-        .next()
-        .context("give check, lex, bulk, kinds, edit, paste or work")?;
-    match command.as_str() {
-        "check" => Ok(Task::Check),
-        "lex" => {
-            let times = read_times(words.next())?;
-            Ok(Task::Lex { times })
-        }
-        "bulk" => {
-            let times = read_times(words.next())?;
-            Ok(Task::Bulk { times })
-        }
-        "kinds" => {
-            let times = read_times(words.next())?;
-            Ok(Task::Kinds { times })
-        }
-        "edit" => {
-            let place = read_place(words.next())?;
-            let times = read_times(words.next())?;
-            Ok(Task::Edit { place, times })
-        }
-        "paste" => {
-            let times = read_times(words.next())?;
-            Ok(Task::Paste { times })
-        }
-        "work" => {
-            let place = read_place(words.next())?;
-            let times = read_times(words.next())?;
-            Ok(Task::Work { place, times })
-        }
-        _ => bail!("give check, lex, bulk, kinds, edit, paste or work"),
+    let command = words.next();
+    let place = match command.as_deref() {
+        Some("edit" | "work") => read_place(words.next())?,
+        _ => Place::Middle,
+    };
+    let times = match command.as_deref() {
+        Some("check") => 1,
+        _ => words.next().context(USAGE)?.parse::<u32>()?,
+    };
+    match command.as_deref() {
+        Some("check") => check(&rt, text),
+        Some("lex") => time_ways(&rt, text, times, &[Way::Next]),
+        Some("bulk") => time_ways(&rt, text, times, &[Way::Fill, Way::FillAlone]),
+        Some("kinds") => time_ways(&rt, text, times, &[Way::NextKinds, Way::FillKinds]),
+        Some("edit") => time_edits(&rt, text, place, times),
+        Some("paste") => time_pastes(&rt, text, times),
+        Some("work") => print_work(&rt, text, place, times),
+        _ => bail!(USAGE),
     }
-}
-
-fn read_times(word: Option<String>) -> Result<u32> {
-    let times = word.context("say how many times")?.parse::<u32>()?;
-    Ok(times)
 }
 
 fn read_place(word: Option<String>) -> Result<Place> {
@@ -111,10 +66,10 @@ fn read_place(word: Option<String>) -> Result<Place> {
 fn check(rt: &HostRuntime, text: &str) -> Result<()>
     requires { Fits text.now }
 {
-    let tokens = sum_tokens(text);
-    println!(rt; "tokens {}, sum {}", tokens.count, tokens.sum)?;
-    let filled = sum_filled(text);
-    println!(rt; "in bulk: tokens {}, sum {}", filled.count, filled.sum)?;
+    for (name, way) in [("", Way::Next), ("in bulk: ", Way::Fill)] {
+        let tokens = sum_by(text, way);
+        println!(rt; "{name}tokens {}, sum {}", tokens.count, tokens.sum)?;
+    }
     for (name, place) in [
         ("middle", Place::Middle),
         ("end", Place::End),

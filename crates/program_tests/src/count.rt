@@ -1,5 +1,6 @@
 //! Tests of `count`: numbers that were counted by hand, words, and reports.
-use crate::words::words_of;
+use crate::words::{rows, words_of};
+use Wanted::{Counts, Help, Nothing};
 use count_run::{Job, Layout, LineCounts, Report, Stop, count_source, read_job, write_report};
 use sources::Reason;
 use std::alloc::{AllocError, Global};
@@ -19,33 +20,27 @@ fn counts(numbers: [u64; 7]) -> LineCounts {
 }
 
 /// Texts with their numbers.
-static TEXTS: &[(&str, [u64; 7])] = &[
-    ("", [0, 0, 0, 0, 0, 0, 0]),
-    ("\n", [0, 0, 0, 1, 0, 0, 0]),
-    (" \t", [0, 0, 0, 1, 0, 0, 0]),
-    ("a\r\n\r\nb", [2, 0, 0, 1, 0, 0, 0]),
-    (
-        "// a\n/// b\n//! c\n/* d */\n/** e */\n",
-        [0, 3, 2, 0, 0, 0, 0],
-    ),
-    ("a // b\nc /// d\n/* e */ f\n", [3, 0, 0, 0, 1, 2, 0]),
-    ("/* a */ /// b\n", [0, 1, 0, 0, 0, 0, 1]),
-    ("a /** b */ // c\n", [1, 0, 0, 0, 1, 1, 1]),
-    ("x = \"// no\n\n/* no */\";\n", [3, 0, 0, 0, 0, 0, 0]),
-    ("r#\"\n//\"\n\n\"# // yes", [4, 0, 0, 0, 0, 1, 0]),
-    ("/* a /* b */\nc */ d\n", [1, 0, 1, 0, 0, 1, 0]),
-    ("/* a\n\n*/\n\nb\n", [1, 0, 3, 1, 0, 0, 0]),
-    ("/** a\n\n*/\n", [0, 3, 0, 0, 0, 0, 0]),
-    ("/* a\n\n", [0, 0, 2, 0, 0, 0, 0]),
-    ("#!/bin/sh // a\n// b\n", [1, 0, 1, 0, 0, 0, 0]),
-    ("#![a] // b\n", [1, 0, 0, 0, 0, 1, 0]),
-    ("#!/bin/sh\n---\n// a\n\n---\n\nfn\n", [6, 0, 0, 1, 0, 0, 0]),
-    ("'/' // a\n'\\'' /* b */\n", [2, 0, 0, 0, 0, 2, 0]),
-    (
-        "//! A crate.\n\n// A note.\n/// Doubles.\nfn f() { /* x */ }\n    \n/* one\n\n   two */\nlet s = \"a\n\nb\"; // c",
-        [4, 2, 4, 2, 0, 2, 0],
-    ),
-];
+static TEXTS: &[(&str, [u64; 7])] = rows! {
+    "" => [0, 0, 0, 0, 0, 0, 0];
+    "\n" => [0, 0, 0, 1, 0, 0, 0];
+    " \t" => [0, 0, 0, 1, 0, 0, 0];
+    "a\r\n\r\nb" => [2, 0, 0, 1, 0, 0, 0];
+    "// a\n/// b\n//! c\n/* d */\n/** e */\n" => [0, 3, 2, 0, 0, 0, 0];
+    "a // b\nc /// d\n/* e */ f\n" => [3, 0, 0, 0, 1, 2, 0];
+    "/* a */ /// b\n" => [0, 1, 0, 0, 0, 0, 1];
+    "a /** b */ // c\n" => [1, 0, 0, 0, 1, 1, 1];
+    "x = \"// no\n\n/* no */\";\n" => [3, 0, 0, 0, 0, 0, 0];
+    "r#\"\n//\"\n\n\"# // yes" => [4, 0, 0, 0, 0, 1, 0];
+    "/* a /* b */\nc */ d\n" => [1, 0, 1, 0, 0, 1, 0];
+    "/* a\n\n*/\n\nb\n" => [1, 0, 3, 1, 0, 0, 0];
+    "/** a\n\n*/\n" => [0, 3, 0, 0, 0, 0, 0];
+    "/* a\n\n" => [0, 0, 2, 0, 0, 0, 0];
+    "#!/bin/sh // a\n// b\n" => [1, 0, 1, 0, 0, 0, 0];
+    "#![a] // b\n" => [1, 0, 0, 0, 0, 1, 0];
+    "#!/bin/sh\n---\n// a\n\n---\n\nfn\n" => [6, 0, 0, 1, 0, 0, 0];
+    "'/' // a\n'\\'' /* b */\n" => [2, 0, 0, 0, 0, 2, 0];
+    "//! A crate.\n\n// A note.\n/// Doubles.\nfn f() { /* x */ }\n    \n/* one\n\n   two */\nlet s = \"a\n\nb\"; // c" => [4, 2, 4, 2, 0, 2, 0];
+};
 
 #[test]
 fn texts(rt: HostRuntime) {
@@ -63,8 +58,6 @@ enum Wanted {
     Help,
     Nothing,
 }
-
-use Wanted::{Counts, Help, Nothing};
 
 /// A table of the sums alone.
 pub(crate) const TABLE: Layout = Layout {
@@ -133,14 +126,12 @@ fn jobs(rt: HostRuntime) -> Result<(), Fail> {
 fn reports(rt: HostRuntime) -> Result<(), Fail> {
     let alloc = rt.alloc();
     let mut report = Report::new(alloc);
-    report.add(
-        String::from_str(alloc, "a.rs")?,
-        counts([1, 2, 3, 4, 5, 6, 7]),
-    )?;
-    report.add(
-        String::from_str(alloc, "b\".rs")?,
-        counts([10, 0, 0, 0, 0, 0, 0]),
-    )?;
+    for (name, numbers) in [
+        ("a.rs", [1, 2, 3, 4, 5, 6, 7]),
+        ("b\".rs", [10, 0, 0, 0, 0, 0, 0]),
+    ] {
+        report.add(String::from_str(alloc, name)?, counts(numbers))?;
+    }
     let table = write_report(alloc, FILES, &report)?;
     assert_eq!(rt;
         table.as_slice(),

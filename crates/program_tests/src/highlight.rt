@@ -1,120 +1,160 @@
-//! Tests of `highlight`: where there are colours, and statuses and lines.
-mod jobs;
-
+//! Tests of `highlight`: words, where there are colours, and statuses and lines.
 use crate::failing_ends::WHOLE;
-use crate::words::words_of;
-use NoColor::{NotText, Refused, Unset, Value};
+use crate::words::{rows, words_of};
+use Style::{Colours, Html, NoColours};
+use VarError::{NotPresent, NotUnicode, OutOfMemory};
 use highlight_run::program::{Start, program};
-use std::alloc::AllocError;
+use highlight_run::{Job, read_job};
+use marks::Style;
+use rustc_lexer::Edition;
+use rustc_lexer::Edition::{E2015, E2018, E2021, E2024};
+use std::alloc::{AllocError, Global};
 use std::env::VarError;
 use std::test::Fail;
 
-/// What `NO_COLOR` is set to.
-#[derive(Clone, Copy)]
-enum NoColor {
-    Value(&'static str),
-    Unset,
-    NotText,
-    Refused,
-}
+/// Words with bars between them, whether the output is a terminal that takes colours, and the style and the edition that
+/// they ask for.
+static SHOWN: &[((&str, bool), (Style, Edition))] = rows! {
+    ("", true) => (Colours, E2024);
+    ("", false) => (NoColours, E2024);
+    ("--html", false) => (Html, E2024);
+    ("--color|auto", true) => (Colours, E2024);
+    ("--color|auto", false) => (NoColours, E2024);
+    ("--color|always", true) => (Colours, E2024);
+    ("--color|always", false) => (Colours, E2024);
+    ("--color|never", true) => (NoColours, E2024);
+    ("--color|never", false) => (NoColours, E2024);
+    ("--color|always|--html", true) => (Html, E2024);
+    ("--edition|2015", true) => (Colours, E2015);
+    ("--edition|2018", false) => (NoColours, E2018);
+    ("--edition|2021", true) => (Colours, E2021);
+    ("--edition|2024", true) => (Colours, E2024);
+    ("--edition|2018|--color|never", true) => (NoColours, E2018);
+    ("--edition|2021|--html", true) => (Html, E2021);
+    ("--html|--edition|2024", false) => (Html, E2024);
+    ("--html|--color|never|--edition|2015", true) => (Html, E2015);
+};
 
-/// What a process is started with: its arguments, `NO_COLOR`, and whether the output is a terminal.
-type Process = (&'static str, NoColor, bool);
-
-fn start(rt: &HostRuntime, process: Process) -> Result<Start, AllocError> {
-    let (args, no_color, is_terminal) = process;
-    Ok(Start {
-        args: Some(words_of(rt.alloc(), args)?.into_iter()),
-        no_color: match no_color {
-            Value(text) => Ok(String::from_str(rt.alloc(), text)?),
-            Unset => Err(VarError::NotPresent),
-            NotText => Err(VarError::NotUnicode),
-            Refused => Err(VarError::OutOfMemory),
-        },
-        is_terminal,
-    })
-}
-
-/// Whether the program ends with this status, and writes this of the text, and this line.
-fn comes_to(
-    rt: &HostRuntime,
-    start: Start,
-    text: &[u8],
-    status: u8,
-    written: &str,
-    line: &str,
-) -> bool {
-    let mut input = WHOLE.reader(text);
-    let mut output = WHOLE.writer(rt.alloc());
-    let mut errors = WHOLE.writer(rt.alloc());
-    program(rt.alloc(), start, &mut input, &mut output, &mut errors) == status
-        && output.into_inner().taken.as_slice() == written.as_bytes()
-        && errors.into_inner().taken.as_slice() == line.as_bytes()
-}
-
-/// Where `fn` is written in colours, and where as it is.
-static COLOURED: &[(Process, bool)] = &[
-    (("highlight", Unset, true), true),
-    (("highlight", Unset, false), false),
-    (("highlight", Value(""), true), true),
-    (("highlight", Value(""), false), false),
-    (("highlight", Value("0"), true), false),
-    (("highlight", NotText, true), false),
-    (("", Unset, true), true),
-    (("highlight|--color|auto", Unset, true), true),
-    (("highlight|--color|auto", Unset, false), false),
-    (("highlight|--color|auto", Value("1"), true), false),
-    (("highlight|--color|always", Value("1"), false), true),
-    (("highlight|--color|never", Unset, true), false),
-    (
-        ("highlight|--edition|2015|--color|always", Unset, false),
-        true,
-    ),
+/// Words that ask for nothing.
+static NOTHING: &[&str] = &[
+    "html",
+    "--html|--html",
+    "--html|--help",
+    "--help|--html",
+    "--color",
+    "--color|Always",
+    "--color|--html",
+    "--color=always",
+    "--color|auto|--color|auto",
+    "--edition",
+    "--edition|2020",
+    "--edition|2018 ",
+    "--edition|--html|2018",
+    "--edition|2018|--edition|2018",
+    "--edition|2018|--help",
 ];
 
+/// Whether the words ask for this.
+fn ask_for(
+    alloc: Global,
+    line: &str,
+    colours: bool,
+    want: Option<Job>,
+) -> Result<bool, AllocError> {
+    let words = words_of(alloc, line)?;
+    Ok(read_job(words.as_slice(), colours) == want)
+}
+
 #[test]
-fn colours(rt: HostRuntime) -> Result<(), Fail> {
-    for (row, (process, coloured)) in COLOURED.iter().enumerate() {
-        let want = if *coloured { "\x1b[35mfn\x1b[0m" } else { "fn" };
-        let start = start(&rt, *process)?;
-        assert!(rt; comes_to(&rt, start, b"fn", 0, want, ""), "row {row}");
+fn jobs(rt: HostRuntime) -> Result<(), Fail> {
+    for ((words, colours), (style, edition)) in SHOWN {
+        let want = Some(Job::Show {
+            style: *style,
+            edition: *edition,
+        });
+        assert!(rt; ask_for(rt.alloc(), words, *colours, want)?, "{words}");
+    }
+    assert!(rt; ask_for(rt.alloc(), "--help", true, Some(Job::Help))?);
+    for words in NOTHING {
+        assert!(rt; ask_for(rt.alloc(), words, true, None)?, "{words}");
     }
     Ok(())
 }
 
-const UNKNOWN: &str = "highlight: unknown words; --help tells what it takes\n";
+/// What a process is started with: its arguments, if it could have them, `NO_COLOR`, and whether the output is a terminal.
+type Process = (Option<&'static str>, Result<&'static str, VarError>, bool);
 
-const NOT_UTF8: &str = "highlight: input is not UTF-8\n";
+/// Whether the program with this input ends with this status, and writes this, and this line.
+fn comes_to(
+    rt: &HostRuntime,
+    process: &Process,
+    input: &[u8],
+    want: (u8, &str, &str),
+) -> Result<bool, AllocError> {
+    let (args, no_color, is_terminal) = process;
+    let start = Start {
+        args: match args {
+            Some(line) => Some(words_of(rt.alloc(), line)?.into_iter()),
+            None => None,
+        },
+        no_color: match no_color {
+            Ok(text) => Ok(String::from_str(rt.alloc(), text)?),
+            Err(error) => Err(error.clone()?),
+        },
+        is_terminal: *is_terminal,
+    };
+    let mut input = WHOLE.reader(input);
+    let mut output = WHOLE.writer(rt.alloc());
+    let mut errors = WHOLE.writer(rt.alloc());
+    let status = program(rt.alloc(), start, &mut input, &mut output, &mut errors);
+    let (wanted, written, line) = want;
+    Ok(
+        status == wanted
+            && output.into_inner().taken.as_slice() == written.as_bytes()
+            && errors.into_inner().taken.as_slice() == line.as_bytes(),
+    )
+}
 
-const NO_MEMORY: &str = "highlight: no memory\n";
+/// Where `fn` is written in colours, and where as it is.
+static COLOURED: &[(Process, bool)] = rows! {
+    (Some("highlight"), Err(NotPresent), true) => true;
+    (Some("highlight"), Err(NotPresent), false) => false;
+    (Some("highlight"), Ok(""), true) => true;
+    (Some("highlight"), Ok(""), false) => false;
+    (Some("highlight"), Ok("0"), true) => false;
+    (Some("highlight"), Err(NotUnicode), true) => false;
+    (Some(""), Err(NotPresent), true) => true;
+    (Some("highlight|--color|always"), Ok("1"), false) => true;
+};
 
-/// A process, its input, the status, and the line that is told.
-static STOPPED: &[(Process, &[u8], u8, &str)] = &[
-    (("highlight|x", Unset, true), b"fn", 2, UNKNOWN),
-    (("highlight|--html|--help", Unset, true), b"fn", 2, UNKNOWN),
-    (("highlight|x", Value("1"), true), b"", 2, UNKNOWN),
-    (("highlight", Unset, true), b"\xff", 3, NOT_UTF8),
-    (("highlight", Unset, false), b"a\xc3", 3, NOT_UTF8),
-    (
-        ("highlight|--html", Unset, true),
-        b"\xed\xa0\x80",
-        3,
-        NOT_UTF8,
-    ),
-    (("highlight", Refused, true), b"fn", 6, NO_MEMORY),
-];
+#[test]
+fn colours(rt: HostRuntime) -> Result<(), Fail> {
+    for (row, (process, coloured)) in COLOURED.iter().enumerate() {
+        let written = if *coloured { "\x1b[35mfn\x1b[0m" } else { "fn" };
+        assert!(rt;
+            comes_to(&rt, process, b"fn", (0, written, ""))?,
+            "row {row}"
+        );
+    }
+    Ok(())
+}
+
+/// A process and its input, and the status and the line that is told.
+static STOPPED: &[((Process, &[u8]), (u8, &str))] = rows! {
+    ((Some("highlight|x"), Err(NotPresent), true), b"fn") =>
+        (2, "highlight: unknown words; --help tells what it takes\n");
+    ((Some("highlight"), Err(NotPresent), true), b"\xff") => (3, "highlight: input is not UTF-8\n");
+    ((Some("highlight"), Err(OutOfMemory), true), b"fn") => (6, "highlight: no memory\n");
+    ((None, Err(NotPresent), true), b"fn") => (6, "highlight: no memory\n");
+};
 
 #[test]
 fn stops(rt: HostRuntime) -> Result<(), Fail> {
-    for (row, (process, text, status, line)) in STOPPED.iter().enumerate() {
-        let start = start(&rt, *process)?;
-        assert!(rt; comes_to(&rt, start, text, *status, "", line), "row {row}");
+    for (row, ((process, text), (status, line))) in STOPPED.iter().enumerate() {
+        assert!(rt;
+            comes_to(&rt, process, text, (*status, "", line))?,
+            "row {row}"
+        );
     }
-    let no_arguments = Start {
-        args: None,
-        no_color: Err(VarError::NotPresent),
-        is_terminal: true,
-    };
-    assert!(rt; comes_to(&rt, no_arguments, b"fn", 6, "", NO_MEMORY));
     Ok(())
 }

@@ -1,16 +1,99 @@
-//! Tests of `lexdump`: listings, what stops a run, and the lines on standard error.
-mod jobs;
-
+//! Tests of `lexdump`: words, listings, what stops a run, and the lines on standard error.
 use crate::failing_ends::{BYTES, Script, ScriptWriter, WHOLE};
-use crate::words::words_of;
+use crate::words::{rows, words_of};
+use Wanted::{Edits, Front, Nothing, Plain, Shebang};
 use ends::Watched;
 use lexdump_run::program::program;
 use lexdump_run::report::report;
 use lexdump_run::run::run;
-use lexdump_run::{Fault, read_job, status};
-use std::alloc::AllocError;
-use std::env::Args;
+use lexdump_run::{Fault, Job, read_job, status};
+use rustc_lexer::Edition;
+use rustc_lexer::Edition::{E2015, E2018, E2021, E2024};
+use std::alloc::{AllocError, Global};
 use std::test::Fail;
+
+/// What words may ask for: a job, whose edits are `start, stop, insert`, or nothing.
+#[derive(Clone, Copy)]
+enum Wanted {
+    Plain(Edition),
+    Front(Edition),
+    Shebang,
+    Edits(Edition, &'static [(usize, usize, &'static str)]),
+    Nothing,
+}
+
+/// Words with bars between them, and what they ask for.
+static JOBS: &[(&str, Wanted)] = rows! {
+    "" => Plain(E2024);
+    "front" => Front(E2024);
+    "shebang" => Shebang;
+    "--edition|2015" => Plain(E2015);
+    "--edition|2018" => Plain(E2018);
+    "--edition|2021" => Plain(E2021);
+    "--edition|2024" => Plain(E2024);
+    "--edition|2021|front" => Front(E2021);
+    "--edition|2018|edit|6|6|x" => Edits(E2018, &[(6, 6, "x")]);
+    "edit|08|8|z" => Edits(E2024, &[(8, 8, "z")]);
+    "edit|9|1|edit" => Edits(E2024, &[(9, 1, "edit")]);
+    "edit|0000000000|4294967295|" => Edits(E2024, &[(0, 4294967295, "")]);
+    "edit|1|2|é 😀|1234567890|0|+1" => Edits(E2024, &[(1, 2, "é 😀"), (1234567890, 0, "+1")]);
+    "edit|0|0||0|0||7|70|b" => Edits(E2024, &[(0, 0, ""), (0, 0, ""), (7, 70, "b")]);
+    "x" => Nothing;
+    "front|front" => Nothing;
+    "edit" => Nothing;
+    "edit|1|2" => Nothing;
+    "edit|1|2|x|3|4" => Nothing;
+    "edit |1|2|x" => Nothing;
+    "edit|4294967296|0|z" => Nothing;
+    "edit|0|9999999999|z" => Nothing;
+    "edit|00000000000|0|z" => Nothing;
+    "edit||0|z" => Nothing;
+    "edit|+1|2|z" => Nothing;
+    "edit|1|-2|z" => Nothing;
+    "edit|1a|2|z" => Nothing;
+    "edit|1|\u{661}|z" => Nothing;
+    "edit|0|0||0|+|" => Nothing;
+    "--edition" => Nothing;
+    "--edition|2016" => Nothing;
+    "--edition|2018|shebang" => Nothing;
+    "--edition|2018|edit" => Nothing;
+    "--edition|2018|--edition|2018" => Nothing;
+    "front|--edition|2018" => Nothing;
+    "edit|0|0|x|--edition|2018" => Nothing;
+};
+
+/// Whether this is what is wanted.
+fn is_wanted(job: &Result<Job<'_>, Fault>, wanted: Wanted) -> bool {
+    match job {
+        Ok(Job::Plain { edition }) => matches!(wanted, Plain(want) if want == *edition),
+        Ok(Job::Front { edition }) => matches!(wanted, Front(want) if want == *edition),
+        Ok(Job::Shebang) => matches!(wanted, Shebang),
+        Ok(Job::Edit { edition, edits }) => match wanted {
+            Edits(want, list) => {
+                let found = edits
+                    .iter()
+                    .map(|edit| (edit.start, edit.stop, edit.insert));
+                want == *edition && found.eq(list.iter().copied())
+            }
+            _ => false,
+        },
+        Err(fault) => *fault == Fault::Arguments && matches!(wanted, Nothing),
+    }
+}
+
+/// Whether the words ask for this.
+fn ask_for(alloc: Global, line: &str, wanted: Wanted) -> Result<bool, AllocError> {
+    let words = words_of(alloc, line)?;
+    Ok(is_wanted(&read_job(alloc, words.as_slice()), wanted))
+}
+
+#[test]
+fn jobs(rt: HostRuntime) -> Result<(), Fail> {
+    for (words, wanted) in JOBS {
+        assert!(rt; ask_for(rt.alloc(), words, *wanted)?, "{words}");
+    }
+    Ok(())
+}
 
 /// Runs the job of the words over the ends of a script. Answers how it ended, and the writer.
 fn dump(
@@ -27,12 +110,7 @@ fn dump(
 }
 
 /// Words, the parts of a text and how often each stands there, and the listing.
-#[derive(Clone, Copy)]
-struct Listed {
-    words: &'static str,
-    parts: &'static [(&'static str, u32)],
-    listing: &'static str,
-}
+type Listed = (&'static str, &'static [(&'static str, u32)], &'static str);
 
 /// Rows `words, text => listing;`, where a text may be a list of its parts.
 macro_rules! listed {
@@ -43,11 +121,7 @@ macro_rules! listed {
         &[($text, 1)]
     };
     ($($words:literal, $text:tt => $listing:literal;)*) => {
-        &[$(Listed {
-            words: $words,
-            parts: listed!(@parts $text),
-            listing: $listing,
-        }),*]
+        &[$(($words, listed!(@parts $text), $listing)),*]
     };
 }
 
@@ -64,13 +138,7 @@ static LISTED: &[Listed] = listed! {
     // Edits.
     "edit|8|8|z", "ab cd ef" => "0 2 Ident\n2 1 Whitespace\n3 2 Ident\n5 1 Whitespace\n6 3 Ident\n";
     "edit|8|8|z|0|3|", "ab cd ef" => "0 2 Ident\n2 1 Whitespace\n3 3 Ident\n";
-    "edit|0|0|", "" => "";
-    "edit|0|3|", "ab cd" => "0 2 Ident\n";
-    "edit|0|0|\"", "x \"a\" y" => "0 5 Literal kind=Str terminated=true suffix_start=4\n5 3 Literal kind=Str terminated=false suffix_start=3\n";
-    "edit|4|4| */", "/* a" => "0 7 BlockComment doc_style=none terminated=true\n";
-    "edit|9|9|z", "a \u{1f600} \u{e9}" => "0 1 Ident\n1 1 Whitespace\n2 4 InvalidIdent\n6 1 Whitespace\n7 3 Ident\n";
     "--edition|2018|edit|6|6|x", "'r#foo" => "0 2 Lifetime starts_with_number=false\n2 1 Pound\n3 4 Ident\n";
-    "edit|6|6|x", "'r#foo" => "0 7 RawLifetime\n";
     // Texts that make a careless program slow, deep or wrong.
     "", [("/*", 100_000)] => "0 200000 BlockComment doc_style=none terminated=false\n";
     "", [("/*", 100_000), ("*/", 100_000)] => "0 400000 BlockComment doc_style=none terminated=true\n";
@@ -89,14 +157,15 @@ static LISTED: &[Listed] = listed! {
 
 /// Whether the text of a row has its listing, by a byte a read and a byte a write.
 fn is_listed(rt: &HostRuntime, row: &Listed) -> Result<bool, Fault> {
+    let (words, parts, listing) = row;
     let mut text = String::new(rt.alloc());
-    for (part, times) in row.parts {
+    for (part, times) in *parts {
         for _ in 0..*times {
             text.push_str(part)?;
         }
     }
-    let (answer, output) = dump(rt, row.words, text.as_bytes(), BYTES)?;
-    Ok(answer == Ok(()) && output.taken.as_slice() == row.listing.as_bytes())
+    let (answer, output) = dump(rt, words, text.as_bytes(), BYTES)?;
+    Ok(answer == Ok(()) && output.taken.as_slice() == listing.as_bytes())
 }
 
 #[test]
@@ -140,11 +209,7 @@ static STOPPED: &[(&str, &[u8], Fault)] = &[
     ("", b"\xed\xa0\x80", Fault::NotUtf8),
     ("edit|9|9|z", b"\xff", Fault::NotUtf8),
     ("edit|1|2|", b"\xc3\xa9", Fault::EditRange { at: 0 }),
-    ("edit|0|1|", b"\xc3\xa9", Fault::EditRange { at: 0 }),
-    ("edit|0|6|", b"ab cd", Fault::EditRange { at: 0 }),
-    ("edit|3|2|", b"ab cd", Fault::EditRange { at: 0 }),
     ("edit|0|3||1|9|", b"ab cd", Fault::EditRange { at: 1 }),
-    ("edit|2|2|c|3|3|d|5|5|", b"ab", Fault::EditRange { at: 2 }),
 ];
 
 #[test]
@@ -192,35 +257,38 @@ fn statuses_and_lines(rt: HostRuntime) -> Result<(), Fail> {
     Ok(())
 }
 
-/// Arguments, which begin with the program's name, what is written of `ab`, the line on standard error, and the status.
-static PROGRAMS: &[(&str, &str, &str, u8)] = &[
-    ("lexdump", "0 2 Ident\n", "", 0),
-    ("lexdump|shebang", "none\n", "", 0),
-    ("", "0 2 Ident\n", "", 0),
-    ("front|edit|0|1|", "0 1 Ident\n", "", 0),
-    ("lexdump|lexdump", "", "lexdump: bad arguments\n", 2),
-    ("lexdump|edit|2|3|", "", "lexdump: edit 0: bad range\n", 5),
+/// Arguments, which begin with the program's name, if they can be had; what is written of `ab`, the line on standard error,
+/// and the status.
+static PROGRAMS: &[(Option<&str>, &str, &str, u8)] = &[
+    (Some("lexdump"), "0 2 Ident\n", "", 0),
+    (Some("lexdump|shebang"), "none\n", "", 0),
+    (Some(""), "0 2 Ident\n", "", 0),
+    (Some("front|edit|0|1|"), "0 1 Ident\n", "", 0),
+    (Some("lexdump|lexdump"), "", "lexdump: bad arguments\n", 2),
+    (
+        Some("lexdump|edit|2|3|"),
+        "",
+        "lexdump: edit 0: bad range\n",
+        5,
+    ),
+    (None, "", "lexdump: no memory\n", 6),
 ];
-
-/// Whether the program with these arguments writes this listing of `ab` and this line, and ends with this status.
-fn comes_to(rt: &HostRuntime, args: Option<Args>, listing: &str, line: &str, status: u8) -> bool {
-    let mut input = Watched::new(b"ab".as_slice());
-    let mut output = Watched::new(Vec::new(rt.alloc()));
-    let mut errors = Watched::new(Vec::new(rt.alloc()));
-    program(rt.alloc(), args, &mut input, &mut output, &mut errors) == status
-        && output.into_inner().as_slice() == listing.as_bytes()
-        && errors.into_inner().as_slice() == line.as_bytes()
-}
 
 #[test]
 fn programs(rt: HostRuntime) -> Result<(), Fail> {
-    for (args, listing, line, status) in PROGRAMS {
-        let words = words_of(rt.alloc(), args)?.into_iter();
-        assert!(rt;
-            comes_to(&rt, Some(words), listing, line, *status),
-            "{args}"
-        );
+    for (line, listing, told, want) in PROGRAMS {
+        let args = match line {
+            Some(line) => Some(words_of(rt.alloc(), line)?.into_iter()),
+            None => None,
+        };
+        let mut output = WHOLE.writer(rt.alloc());
+        let mut errors = WHOLE.writer(rt.alloc());
+        let mut input = WHOLE.reader(b"ab");
+        let status = program(rt.alloc(), args, &mut input, &mut output, &mut errors);
+        let holds = status == *want
+            && output.into_inner().taken.as_slice() == listing.as_bytes()
+            && errors.into_inner().taken.as_slice() == told.as_bytes();
+        assert!(rt; holds, "{line:?}");
     }
-    assert!(rt; comes_to(&rt, None, "", "lexdump: no memory\n", 6));
     Ok(())
 }

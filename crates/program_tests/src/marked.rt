@@ -4,24 +4,13 @@ use rustc_lexer::{Edition, fits};
 use std::alloc::Global;
 use std::test::Fail;
 
-/// A text, and what is written of it in a style by the tokens of an edition.
-#[derive(Clone, Copy)]
-struct Row<'a> {
-    style: Style,
-    edition: Edition,
-    text: &'a str,
-    written: &'a str,
-}
+/// A style, an edition, a text, and what is written of it.
+type Row<'a> = (Style, Edition, &'a str, &'a str);
 
 /// Rows `style edition: text => what is written;`.
 macro_rules! rows {
     ($($style:ident $edition:ident: $text:literal => $written:literal;)*) => {
-        &[$(Row {
-            style: Style::$style,
-            edition: Edition::$edition,
-            text: $text,
-            written: $written,
-        }),*]
+        &[$((Style::$style, Edition::$edition, $text, $written)),*]
     };
 }
 
@@ -144,16 +133,17 @@ static ROWS: &[Row<'static>] = rows! {
 
 /// Whether this is what is written of the text.
 fn is_written(alloc: Global, row: Row<'_>) -> bool {
+    let (style, edition, text, wanted) = row;
     let mut written = String::new(alloc);
-    fits(row.text)
-        && write_marked(row.style, row.edition, row.text, &mut written).is_ok()
-        && written.as_str() == row.written
+    fits(text)
+        && write_marked(style, edition, text, &mut written).is_ok()
+        && written.as_str() == wanted
 }
 
 #[test]
 fn rows(rt: HostRuntime) {
     for row in ROWS {
-        assert!(rt; is_written(rt.alloc(), *row), "at {:?}", row.text);
+        assert!(rt; is_written(rt.alloc(), *row), "at {:?}", row.2);
     }
 }
 
@@ -164,12 +154,12 @@ fn too_many_hashes(rt: HostRuntime) -> Result<(), Fail> {
     let written = format!(in rt.alloc();
         "{text} [<- a raw string has at most 255 hashes on each side, and this one 256]"
     )?;
-    let row = Row {
-        style: Style::NoColours,
-        edition: Edition::E2024,
-        text: text.as_str(),
-        written: written.as_str(),
-    };
+    let row = (
+        Style::NoColours,
+        Edition::E2024,
+        text.as_str(),
+        written.as_str(),
+    );
     assert!(rt; is_written(rt.alloc(), row));
     Ok(())
 }

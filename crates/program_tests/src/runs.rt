@@ -20,7 +20,6 @@ enum Program {
 }
 
 /// Runs of a program over a text.
-#[derive(Clone, Copy)]
 struct Row {
     program: Program,
     text: &'static [u8],
@@ -30,32 +29,24 @@ struct Row {
     unread: (u8, &'static [u8]),
 }
 
-static ROWS: &[Row] = &[
-    Row {
-        program: Lexdump,
-        text: b"ab cd",
-        written: b"0 2 Ident\n2 1 Whitespace\n3 2 Ident\n",
-        unread: (7, b""),
-    },
-    Row {
-        program: Highlight,
-        text: b"fn a",
-        written: b"\x1b[35mfn\x1b[0m a",
-        unread: (7, b""),
-    },
-    Row {
-        program: Tidy,
-        text: b"fn  ",
-        written: b"fn\n",
-        unread: (7, b""),
-    },
-    Row {
-        program: Count,
-        text: b"a // b\n",
-        written: ONE_LINE,
-        unread: (3, NO_LINE),
-    },
-];
+/// Rows `program, text, what is written, where the input fails;`.
+macro_rules! rows {
+    ($($program:ident, $text:literal, $written:expr, $unread:expr;)*) => {
+        &[$(Row {
+            program: $program,
+            text: $text,
+            written: $written,
+            unread: $unread,
+        }),*]
+    };
+}
+
+static ROWS: &[Row] = rows! {
+    Lexdump, b"ab cd", b"0 2 Ident\n2 1 Whitespace\n3 2 Ident\n", (7, b"");
+    Highlight, b"fn a", b"\x1b[35mfn\x1b[0m a", (7, b"");
+    Tidy, b"fn  ", b"fn\n", (7, b"");
+    Count, b"a // b\n", ONE_LINE, (3, NO_LINE);
+};
 
 /// What came of a run.
 #[derive(Drop)]
@@ -64,15 +55,17 @@ struct Came {
     /// Whether the reader has failed, and whether the writer has.
     failed: [bool; 2],
     written: Vec<u8>,
-    reads: usize,
-    writes: usize,
-    flushes: usize,
+    /// How many reads, writes and flushes there were.
+    calls: [usize; 3],
 }
 
 impl Came {
-    /// Whether it ended with this status, these ends have failed, and this was written.
-    fn is(&self, status: u8, failed: [bool; 2], written: &[u8]) -> bool {
-        self.status == status && self.failed == failed && self.written.as_slice() == written
+    /// Whether it ended with this status, these ends have failed, this was written, and so many calls were made.
+    fn is(&self, status: u8, failed: [bool; 2], written: &[u8], calls: [usize; 3]) -> bool {
+        self.status == status
+            && self.failed == failed
+            && self.written.as_slice() == written
+            && self.calls == calls
     }
 }
 
@@ -113,29 +106,8 @@ fn run(alloc: Global, program: Program, text: &[u8], script: Script) -> Result<C
         status,
         failed,
         written: output.taken,
-        reads: input.into_inner().calls,
-        writes: output.calls,
-        flushes: output.flushes,
+        calls: [input.into_inner().calls, output.calls, output.flushes],
     })
-}
-
-/// Whether a run of the row stops wherever a read of a byte fails, and does not look at what it read.
-fn stops_at_each_read(alloc: Global, row: &Row) -> Result<bool, AllocError> {
-    for call in 0..=row.text.len() {
-        for kind in [ErrorKind::Interrupted, ErrorKind::BrokenPipe] {
-            let script = Script {
-                read: Some((call, Fails(kind))),
-                ..BYTES
-            };
-            let came = run(alloc, row.program, row.text, script)?;
-            let (status, written) = row.unread;
-            let is_last = came.reads == call.saturating_add(1) && came.writes == written.len();
-            if !is_last || !came.is(status, [true, false], written) {
-                return Ok(false);
-            }
-        }
-    }
-    Ok(true)
 }
 
 /// The status where nobody reads the output any more: that is no failure, but for `lexdump`.
@@ -143,96 +115,98 @@ fn closed_status(program: Program) -> u8 {
     if program == Lexdump { 7 } else { 0 }
 }
 
-/// Whether a run of the row stops with what is written by then, and no flush, wherever a write of a byte fails.
-fn stops_at_each_write(alloc: Global, row: &Row) -> Result<bool, AllocError> {
-    for call in 0..row.written.len() {
-        for (turn, status) in [
-            (Fails(ErrorKind::Other), 7),
-            (Fails(ErrorKind::OutOfMemory), 7),
-            (Fails(ErrorKind::BrokenPipe), closed_status(row.program)),
-            (MovesNothing, 7),
-        ] {
-            let script = Script {
-                write: Some((call, turn)),
-                ..BYTES
-            };
-            let came = run(alloc, row.program, row.text, script)?;
-            let is_last = came.writes == call.saturating_add(1) && came.flushes == 0;
-            if !is_last || !came.is(status, [false, true], &row.written[..call]) {
-                return Ok(false);
+/// A run stops wherever a read of a byte fails, and does not look at what it read.
+#[test]
+fn failing_reads(rt: HostRuntime) -> Result<(), Fail> {
+    for row in ROWS {
+        let (status, written) = row.unread;
+        for call in 0..=row.text.len() {
+            for kind in [ErrorKind::Interrupted, ErrorKind::BrokenPipe] {
+                let script = Script {
+                    read: Some((call, Fails(kind))),
+                    ..BYTES
+                };
+                let came = run(rt.alloc(), row.program, row.text, script)?;
+                let flushes = usize::from(!written.is_empty());
+                let calls = [call.saturating_add(1), written.len(), flushes];
+                let holds = came.is(status, [true, false], written, calls);
+                assert!(rt; holds, "read {call} of {:?}", row.program);
             }
         }
     }
-    Ok(true)
+    Ok(())
 }
 
-/// Whether a flush that fails stops a run of the row, with all of it written.
-fn stops_at_flush(alloc: Global, row: &Row) -> Result<bool, AllocError> {
-    for (kind, status) in [
-        (ErrorKind::Other, 7),
-        (ErrorKind::BrokenPipe, closed_status(row.program)),
-    ] {
-        let script = Script {
-            flush: Some(kind),
-            ..WHOLE
-        };
-        let came = run(alloc, row.program, row.text, script)?;
-        if !came.is(status, [false, true], row.written) || came.flushes != 1 {
-            return Ok(false);
-        }
-    }
-    Ok(true)
-}
-
-/// Whether the row is written and flushed once, by so many bytes at a time. After its end the reader would give a byte that
-/// is no text: it is asked once at its end, and not again.
-fn is_written(alloc: Global, row: &Row, piece: usize) -> Result<bool, AllocError> {
-    let reads = row.text.len().div_ceil(piece.max(1));
-    let mut bytes = Vec::new(alloc);
-    bytes.extend_from_slice(row.text)?;
-    if piece == 1 {
-        bytes.push(0xff)?;
-    }
-    let script = Script {
-        piece,
-        read: Some((reads, MovesNothing)),
-        ..WHOLE
-    };
-    let came = run(alloc, row.program, bytes.as_slice(), script)?;
-    let writes = row.written.len().div_ceil(piece.max(1));
-    Ok(
-        came.is(0, [false, false], row.written)
-            && came.reads == reads.saturating_add(1)
-            && came.writes == writes
-            && came.flushes == 1,
-    )
-}
-
-/// What of the row does not hold, if something does not.
-fn fault(alloc: Global, row: &Row) -> Result<Option<&'static str>, AllocError> {
-    for piece in [1, 2, 7, usize::MAX] {
-        if !is_written(alloc, row, piece)? {
-            return Ok(Some("pieces"));
-        }
-    }
-    if !stops_at_each_read(alloc, row)? {
-        return Ok(Some("reads"));
-    }
-    if !stops_at_each_write(alloc, row)? {
-        return Ok(Some("writes"));
-    }
-    Ok(if stops_at_flush(alloc, row)? {
-        None
-    } else {
-        Some("a flush")
-    })
-}
-
+/// A run stops with what is written by then, and no flush, wherever a write of a byte fails.
 #[test]
-fn ends(rt: HostRuntime) -> Result<(), Fail> {
+fn failing_writes(rt: HostRuntime) -> Result<(), Fail> {
     for row in ROWS {
-        let fault = fault(rt.alloc(), row)?;
-        assert!(rt; fault.is_none(), "{fault:?} of {:?}", row.program);
+        let reads = row.text.len().saturating_add(1);
+        for call in 0..row.written.len() {
+            for (turn, status) in [
+                (Fails(ErrorKind::Other), 7),
+                (Fails(ErrorKind::OutOfMemory), 7),
+                (Fails(ErrorKind::BrokenPipe), closed_status(row.program)),
+                (MovesNothing, 7),
+            ] {
+                let script = Script {
+                    write: Some((call, turn)),
+                    ..BYTES
+                };
+                let came = run(rt.alloc(), row.program, row.text, script)?;
+                let calls = [reads, call.saturating_add(1), 0];
+                let holds = came.is(status, [false, true], &row.written[..call], calls);
+                assert!(rt; holds, "write {call} of {:?}", row.program);
+            }
+        }
+    }
+    Ok(())
+}
+
+/// A flush that fails stops a run, with all of it written.
+#[test]
+fn failing_flushes(rt: HostRuntime) -> Result<(), Fail> {
+    for row in ROWS {
+        for (kind, status) in [
+            (ErrorKind::Other, 7),
+            (ErrorKind::BrokenPipe, closed_status(row.program)),
+        ] {
+            let script = Script {
+                flush: Some(kind),
+                ..BYTES
+            };
+            let came = run(rt.alloc(), row.program, row.text, script)?;
+            let calls = [row.text.len().saturating_add(1), row.written.len(), 1];
+            let holds = came.is(status, [false, true], row.written, calls);
+            assert!(rt; holds, "a flush of {:?}", row.program);
+        }
+    }
+    Ok(())
+}
+
+/// All is written and flushed once, by so many bytes at a time. After its end the reader would give a byte that is no text:
+/// it is asked once at its end, and not again.
+#[test]
+fn pieces(rt: HostRuntime) -> Result<(), Fail> {
+    for row in ROWS {
+        for piece in [1, 2, 7, usize::MAX] {
+            let reads = row.text.len().div_ceil(piece.max(1));
+            let mut bytes = Vec::new(rt.alloc());
+            bytes.extend_from_slice(row.text)?;
+            if piece == 1 {
+                bytes.push(0xff)?;
+            }
+            let script = Script {
+                piece,
+                read: Some((reads, MovesNothing)),
+                ..WHOLE
+            };
+            let came = run(rt.alloc(), row.program, bytes.as_slice(), script)?;
+            let writes = row.written.len().div_ceil(piece.max(1));
+            let calls = [reads.saturating_add(1), writes, 1];
+            let holds = came.is(0, [false, false], row.written, calls);
+            assert!(rt; holds, "{:?} by {piece}", row.program);
+        }
     }
     Ok(())
 }

@@ -1,6 +1,7 @@
 //! Tests of `tidy`: texts in order, words, and whole runs.
 use crate::failing_ends::WHOLE;
-use crate::words::words_of;
+use crate::words::{rows, words_of};
+use Wanted::{Does, Help, Nothing};
 use rustc_lexer::fits;
 use sources::{Fault, Reason};
 use std::alloc::{AllocError, Global};
@@ -9,37 +10,34 @@ use tidy_run::run::{check, show};
 use tidy_run::{Job, Stop, Task, changed, read_job, status, tidied};
 
 /// A text, and it in order.
-static TEXTS: &[(&str, &str)] = &[
-    ("", ""),
-    ("fn", "fn\n"),
-    (" \t\n \n\n", "\n"),
-    ("fn  ", "fn\n"),
-    ("a \t\r\n\r\n\n\n    b\t c \n", "a\n\n    b\t c\n"),
-    ("a \r \n\r\r\nb", "a\n\nb\n"),
-    ("// a  \r\nb", "// a  \nb\n"),
-    ("/// a\r\r\n// b\r", "/// a\n// b\n"),
-    ("/* a \r\n b\r\r\n c\rd\r*/", "/* a \n b\n c\rd\r*/\n"),
-    ("// a\r\n/* b\r\n", "// a\n/* b\r\n"),
-    ("/* \n\n\n\n */ \n", "/* \n\n\n\n */\n"),
-    ("\"a  \r\n\n\n\n\" \n;", "\"a  \r\n\n\n\n\"\n;\n"),
-    ("\"a  \n\n\n\n", "\"a  \n\n\n\n"),
-    ("r#\"  \n\"#  \n", "r#\"  \n\"#\n"),
-    ("r#  \n\n\n\na", "r# \n\na\n"),
-    ("'a \n\n\n\nb", "'a\n\nb\n"),
-    ("b'x  \n\n \n\ny", "b'x  \n\ny\n"),
-    ("b'\n \n'", "b'\n\n'"),
-    ("a\u{85} \n\u{2028}\n\n\n\nb", "a\u{85}\n\u{2028}\n\nb\n"),
-    (
-        " \n\n\n---\na  \n--- \n\n\n\nb",
-        "\n\n---\na  \n--- \n\nb\n",
-    ),
-    ("---\n---", "---\n---"),
-    ("---\na\nuse \n\n\n\nb", "---\na\nuse \n\n\n\nb"),
-    ("#!/bin/sh \r\n\r\n\n\nfn \n", "#!/bin/sh \n\nfn\n"),
-    ("#!x\r\r\nfn \n", "#!x\r\r\nfn \n"),
-    ("#![a] \n\n\n\nfn", "#![a]\n\nfn\n"),
-    ("\r", "\n"),
-];
+static TEXTS: &[(&str, &str)] = rows! {
+    "" => "";
+    "fn" => "fn\n";
+    " \t\n \n\n" => "\n";
+    "fn  " => "fn\n";
+    "a \t\r\n\r\n\n\n    b\t c \n" => "a\n\n    b\t c\n";
+    "a \r \n\r\r\nb" => "a\n\nb\n";
+    "// a  \r\nb" => "// a  \nb\n";
+    "/// a\r\r\n// b\r" => "/// a\n// b\n";
+    "/* a \r\n b\r\r\n c\rd\r*/" => "/* a \n b\n c\rd\r*/\n";
+    "// a\r\n/* b\r\n" => "// a\n/* b\r\n";
+    "/* \n\n\n\n */ \n" => "/* \n\n\n\n */\n";
+    "\"a  \r\n\n\n\n\" \n;" => "\"a  \r\n\n\n\n\"\n;\n";
+    "\"a  \n\n\n\n" => "\"a  \n\n\n\n";
+    "r#\"  \n\"#  \n" => "r#\"  \n\"#\n";
+    "r#  \n\n\n\na" => "r# \n\na\n";
+    "'a \n\n\n\nb" => "'a\n\nb\n";
+    "b'x  \n\n \n\ny" => "b'x  \n\ny\n";
+    "b'\n \n'" => "b'\n\n'";
+    "a\u{85} \n\u{2028}\n\n\n\nb" => "a\u{85}\n\u{2028}\n\nb\n";
+    " \n\n\n---\na  \n--- \n\n\n\nb" => "\n\n---\na  \n--- \n\nb\n";
+    "---\n---" => "---\n---";
+    "---\na\nuse \n\n\n\nb" => "---\na\nuse \n\n\n\nb";
+    "#!/bin/sh \r\n\r\n\n\nfn \n" => "#!/bin/sh \n\nfn\n";
+    "#!x\r\r\nfn \n" => "#!x\r\r\nfn \n";
+    "#![a] \n\n\n\nfn" => "#![a]\n\nfn\n";
+    "\r" => "\n";
+};
 
 /// Whether this is the text in order.
 fn is_tidied(alloc: Global, text: &str, want: &str) -> bool {
@@ -60,8 +58,6 @@ enum Wanted {
     Help,
     Nothing,
 }
-
-use Wanted::{Does, Help, Nothing};
 
 /// Words with bars between them, and what they ask for.
 static JOBS: &[(&str, Wanted)] = &[

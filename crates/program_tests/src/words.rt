@@ -1,4 +1,4 @@
-//! The words of a command line.
+//! The words of a command line, and the rows of a table.
 use std::alloc::{AllocError, Global};
 
 /// The words between the bars of a line, as a program is given them. An empty line has none.
@@ -12,3 +12,12 @@ pub(crate) fn words_of(alloc: Global, line: &str) -> Result<Vec<String>, AllocEr
     }
     Ok(words)
 }
+
+/// Rows of what is given and what is wanted of it.
+macro_rules! rows {
+    ($($given:expr => $wanted:expr;)*) => {
+        &[$(($given, $wanted)),*]
+    };
+}
+
+pub(crate) use rows;

@@ -1,18 +1,13 @@
 //! Rows of calls that take no memory: they answer the same whichever request is refused.
 use FrontmatterAllowed::{No, Yes};
-use rustc_lexer::TokenKind::{Dot, Frontmatter, Ident, Literal, Slash, UnknownPrefix, Whitespace};
+use rustc_lexer::TokenKind::*;
 use rustc_lexer::{
     Base, Cursor, FrontmatterAllowed, GuardedStr, LiteralKind, RawStrError, Token, TokenKind, fits,
     is_horizontal_whitespace, is_id_continue, is_id_start, is_ident, is_whitespace, settled,
     starts_raw, strip_shebang, tokenize, validate_raw_str,
 };
 
-/// A text, whether a frontmatter may stand in front, and the kinds and lengths of its tokens.
-type Row = (
-    &'static str,
-    FrontmatterAllowed,
-    &'static [(TokenKind, u32)],
-);
+const SPACE: (TokenKind, u32) = (Whitespace, 1);
 
 /// A literal without a suffix: what it is, and its length.
 macro_rules! literal {
@@ -27,20 +22,19 @@ macro_rules! literal {
     };
 }
 
-const INT: LiteralKind = LiteralKind::Int {
-    base: Base::Decimal,
-    empty_int: false,
-};
-
-const SPACE: (TokenKind, u32) = (Whitespace, 1);
-
-const ONE: (TokenKind, u32) = literal!(INT, 1);
+const ONE: (TokenKind, u32) = literal!(
+    LiteralKind::Int {
+        base: Base::Decimal,
+        empty_int: false,
+    },
+    1
+);
 
 const OPEN_CHAR: (TokenKind, u32) = literal!(LiteralKind::Char { terminated: false }, 1);
 
 const CHAR: (TokenKind, u32) = literal!(LiteralKind::Char { terminated: true }, 3);
 
-const BLOCK: TokenKind = TokenKind::BlockComment {
+const BLOCK: TokenKind = BlockComment {
     doc_style: None,
     terminated: true,
 };
@@ -50,44 +44,28 @@ const FRONT: TokenKind = Frontmatter {
     invalid_infostring: false,
 };
 
-static ROWS: &[Row] = &[
-    ("/* /* */ */'a'", No, &[(BLOCK, 11), CHAR]),
-    ("1..2", No, &[ONE, (Dot, 1), (Dot, 1), ONE]),
-    (
-        "'/x'",
-        No,
-        &[OPEN_CHAR, (Slash, 1), (UnknownPrefix, 1), OPEN_CHAR],
-    ),
-    ("'''", No, &[CHAR]),
-    (
-        "---\n//!d\nuse a",
-        Yes,
-        &[(FRONT, 8), SPACE, (Ident, 3), SPACE, (Ident, 1)],
-    ),
-    (
-        "---\nq------\nfn x",
-        Yes,
-        &[(FRONT, 11), SPACE, (Ident, 2), SPACE, (Ident, 1)],
-    ),
-];
+/// Texts, each with whether a frontmatter may stand in front, and the kinds and lengths of its tokens.
+macro_rules! rows {
+    ($($text:literal, $allowed:ident => $tokens:tt;)*) => {
+        &[$(($text, $allowed, &$tokens)),*]
+    };
+}
+
+static ROWS: &[(&str, FrontmatterAllowed, &[(TokenKind, u32)])] = rows! {
+    "/* /* */ */'a'", No => [(BLOCK, 11), CHAR];
+    "1..2", No => [ONE, (Dot, 1), (Dot, 1), ONE];
+    "'/x'", No => [OPEN_CHAR, (Slash, 1), (UnknownPrefix, 1), OPEN_CHAR];
+    "'''", No => [CHAR];
+    "---\n//!d\nuse a", Yes => [(FRONT, 8), SPACE, (Ident, 3), SPACE, (Ident, 1)];
+    "---\nq------\nfn x", Yes => [(FRONT, 11), SPACE, (Ident, 2), SPACE, (Ident, 1)];
+};
 
 /// Whether the text has these tokens and no others.
-fn has_tokens(row: &Row) -> bool {
-    let (text, allowed, wanted) = *row;
-    if !fits(text) {
-        return false;
-    }
-    let mut tokens = tokenize(text, allowed);
-    for (kind, len) in wanted {
-        let want = Token {
-            kind: *kind,
-            len: *len,
-        };
-        if tokens.next() != Some(want) {
-            return false;
-        }
-    }
-    tokens.next().is_none()
+fn has_tokens(text: &str, allowed: FrontmatterAllowed, wanted: &[(TokenKind, u32)]) -> bool {
+    fits(text)
+        && tokenize(text, allowed)
+            .map(|token| (token.kind, token.len))
+            .eq(wanted.iter().copied())
 }
 
 /// Whether the check of a raw string with a prefix of one byte refuses it so.
@@ -106,19 +84,12 @@ fn calls_hold() -> bool {
     if !fits(text) {
         return false;
     }
+    let token = |kind, len| Token { kind, len };
     let mut cursor = Cursor::new(text, No);
-    let looks = cursor.first() == 'é' && cursor.third() == 'b';
-    let word = Token {
-        kind: Ident,
-        len: 2,
-    };
-    let plus = Token {
-        kind: TokenKind::Plus,
-        len: 1,
-    };
-    looks
-        && cursor.advance_token() == word
-        && cursor.advance_token() == plus
+    cursor.first() == 'é'
+        && cursor.third() == 'b'
+        && cursor.advance_token() == token(Ident, 2)
+        && cursor.advance_token() == token(Plus, 1)
         && cursor.as_str() == "b c"
         && is_whitespace('\u{2028}')
         && !is_whitespace('\u{a0}')
@@ -144,7 +115,7 @@ pub fn lexing_holds() -> bool {
     };
     let shebang = "#!///x\n[a]";
     let prefix = "k# ";
-    ROWS.iter().all(|row| has_tokens(row))
+    ROWS.iter().all(|(text, allowed, wanted)| has_tokens(text, *allowed, wanted))
         && is_refused("r##\"abc\"#", too_few)
         && is_refused("r#", RawStrError::InvalidStarter { bad_char: '\0' })
         && is_guarded("##\"a\"#x", string)
