@@ -3,4 +3,3 @@ pub mod EscapeLemmas
 pub mod OutputLemmas
 pub mod RelexLemmas
 pub mod RoomLemmas
-pub mod TokenLemmas

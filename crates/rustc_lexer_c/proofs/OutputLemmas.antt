@@ -1,13 +1,10 @@
 -- What many writes into room of a caller's come to.
-use Rattle.std.proofs.Common.{◌≡◌, ◌≤◌, ◌+◌, ◌-◌, ℕ, List, [], ◌∷◌, true, length, take, drop, ◌++◌, refl, sym, ap, subst, ◌∙◌, arith, Bool, true≢false}
-use Rattle.std.proofs.lemmas.Fmt.{contents_after_writes}
+use Rattle.std.proofs.Common.{◌≡◌, ◌≤◌, ◌+◌, ◌-◌, ℕ, List, [], ◌∷◌, length, take, drop, ◌++◌, refl, sym, ap, subst, ◌∙◌, arith, append_assoc, append-nil}
 use Rattle.std.proofs.lemmas.List.{drop-drop, length-append, length-take-le}
 use Rattle.std.proofs.lemmas.Slice.{drop-put_mid, take-put_mid}
 use borrow.Rule.Slice.PartMut.{post_of, put_mid}
 use Rattle.std.specs.Fmt.{WritesInCalls}
-use Rattle.std.specs.List.{FoldsTo}
-use Rattle.std.specs.Prelude.{OnOk, Result, Ok, Err}
-use Rattle.std.specs.Result.{is_ok}
+use Rattle.std.specs.List.{concat, FoldsTo}
 use Rattle.rustc_lexer_c.specs.declared.room.Room.{Room}
 use Rattle.rustc_lexer_c.specs.Marks.{IsFront}
 use Rattle.rustc_lexer_c.specs.Room.{Appends}
@@ -28,46 +25,28 @@ module _ (a : ℕ) (xs ys : List ℕ) (low : a ≤ length xs) where
   pub filled_rest : drop (a + length ys) filled ≡ drop (a + length ys) xs
   filled_rest = drop-put_mid a (a + length ys - a) xs ys (a + length ys) (omega arith) low (omega arith)
 
--- all but the bytes, of some calls
-record Kept (s t : Room) : Type 0 where
-  same_reference : t.bytes.ghost_name ≡ s.bytes.ghost_name
-  within : t.len ≤ length t.bytes.now
-  more : s.len ≤ t.len
-  rest : drop t.len t.bytes.now ≡ drop t.len s.bytes.now
-
 -- what is past one place alike is so past a later one
 drop_later : (m n : ℕ) (xs ys : List ℕ) → m ≤ n → drop m xs ≡ drop m ys → drop n xs ≡ drop n ys
 drop_later m n xs ys low same =
     let whole : n ≡ m + (n - m) = omega arith in
     rw whole (sym (drop-drop (n - m) m xs) ∙ (ap (drop (n - m)) same ∙ drop-drop (n - m) m ys))
 
-kept : (s : Room) (parts : List (List ℕ)) (t : Room) → s.len ≤ length s.bytes.now → FoldsTo Appends s parts t → Kept s t
-kept s [] t low is = subst (Kept s) is record { same_reference = refl; within = low; more = omega arith; rest = refl }
-kept s (x ∷ xs) t low p =
+-- some writes are one of all their bytes
+appends_all : (s : Room) (parts : List (List ℕ)) (t : Room) → s.len ≤ length s.bytes.now → FoldsTo Appends s parts t → Appends s (concat parts) t
+appends_all s [] t low is = subst (Appends s []) is record { same_reference = refl; within = low; more = omega arith; written = sym (append-nil _); rest = refl }
+appends_all s (x ∷ xs) t low p =
     let one = p.1 in
-    let others = kept p.0 xs t one.within p.2 in
+    let others = appends_all p.0 xs t one.within p.2 in
     record {
       same_reference = others.same_reference ∙ one.same_reference;
       within = others.within;
       more = let a = one.more in let b = others.more in omega arith;
+      written = others.written ∙ (ap (λ bs. bs ++ concat xs) one.written ∙ append_assoc (take s.len s.bytes.now) x (concat xs));
       rest = others.rest ∙ drop_later p.0.len t.len p.0.bytes.now s.bytes.now others.more one.rest;
     }
 
--- the room is the same one of the caller's
-pub same_room : (s : Room) (bytes : List ℕ) (t : Room) → s.len ≡ 0 → WritesInCalls Appends s bytes t → t.bytes.ghost_name ≡ s.bytes.ghost_name
-same_room s bytes t none writes = (kept s writes.parts t (omega (arith, none)) writes.calls).same_reference
-
--- all that is written of a room of which nothing was
-pub written_front : (s : Room) (bytes : List ℕ) (t : Room) → s.len ≡ 0 → WritesInCalls Appends s bytes t → IsFront bytes s.bytes.now t.bytes.now t.len
+-- all that is written of a room of which nothing was, which stays the same one of the caller's
+pub written_front : (s : Room) (bytes : List ℕ) (t : Room) → s.len ≡ 0 → WritesInCalls Appends s bytes t → (t.bytes.ghost_name ≡ s.bytes.ghost_name) × IsFront bytes s.bytes.now t.bytes.now t.len
 written_front s bytes t none writes =
-    let others = kept s writes.parts t (omega (arith, none)) writes.calls in
-    record {
-      within = others.within;
-      front = contents_after_writes _ (λ (r : Room). take r.len r.bytes.now) (λ w bs v e. e.written) s bytes t writes ∙ ap (λ (n : ℕ). take n s.bytes.now ++ bytes) none;
-      rest = others.rest;
-    }
-
--- what is so where all writes were done
-pub if_done : {T E : Type 0} (r : Result T E) (b : Bool) {P : Type 0} → OnOk r P → b ≡ is_ok r → b ≡ true → P
-if_done (Ok x) b holds is done = holds
-if_done (Err e) b holds is done = absurd (true≢false (sym done ∙ is))
+    let all = appends_all s writes.parts t (omega (arith, none)) writes.calls in
+    (all.same_reference, record { within = all.within; front = all.written ∙ (ap (λ (n : ℕ). take n s.bytes.now ++ concat writes.parts) none ∙ writes.whole); rest = all.rest })

@@ -1,9 +1,8 @@
 -- How far a text is relexed, as numbers and back.
-use Rattle.std.proofs.Common.{◌≡◌, ◌≢◌, ℕ, ◌+◌, ◌-◌, ◌<◌, ◌≤◌, Bool, true, false, ◌||◌, if◌then◌else◌, eqb, List, ◌++◌, length, map, take, drop, true≢false, inl, inr, refl, sym, ap, ◌∙◌, subst, arith, Option, Some, None, take-add}
+use Rattle.std.proofs.Common.{◌≡◌, ◌≢◌, ℕ, ◌+◌, ◌-◌, ◌<◌, ◌≤◌, Bool, true, false, ◌||◌, if◌then◌else◌, eqb, List, ◌++◌, length, map, take, drop, true≢false, inl, inr, refl, sym, ap, ◌∙◌, subst, arith, take-add}
 use Rattle.std.proofs.lemmas.Bool.{cases_lt}
 use Rattle.std.proofs.lemmas.List.{length-map, length-drop, length-take-le, take_at, drop_at, drop-drop, map-append, take-map, drop-map}
 use Rattle.rustc_lexer.specs.declared.edition.Edition.{Edition}
-use Rattle.rustc_lexer.specs.declared.edition.Edition.TheVariants.{E2024}
 use Rattle.rustc_lexer.specs.declared.relex.relexing.Relexed.{Relexed}
 use Rattle.rustc_lexer.specs.declared.relex.relexing.Relexing.{Relexing}
 use Rattle.rustc_lexer.specs.declared.token.Token.{Token}
@@ -19,14 +18,6 @@ use Rattle.rustc_lexer_c.specs.declared.relex.CRelexing.{CRelexing}
 use Rattle.rustc_lexer_c.specs.declared.token.CToken.{CToken}
 use Rattle.rustc_lexer_c.specs.Numbers.{token_numbers}
 use Rattle.rustc_lexer_c.specs.Relex.{IsPassed, IsRelexBatch, change_of, front_of, lexed_before, numbers_of, relexing_of, written}
-
-edition_or : Option Edition → Edition
-edition_or (Some edition) = edition
-edition_or None = E2024
-
-pub edition_same : (a b : Edition) (r o : Option Edition) → r ≡ Some a → r ≡ o → o ≡ Some b → a ≡ b
-unfolding edition_or
-edition_same a b r o e f g = ap edition_or (sym e ∙ (f ∙ g))
 
 -- the stage tells whether it is over
 abbrev pub stage_of : Bool → ℕ

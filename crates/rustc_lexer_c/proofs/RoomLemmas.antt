@@ -1,6 +1,6 @@
 -- A list that is written into a room, one more at a time.
-use Rattle.std.proofs.Common.{◌≡◌, ℕ, ◌+◌, ◌<◌, ◌≤◌, List, [], ◌∷◌, ◌++◌, length, map, take, drop, min, sym, ap, ◌∙◌, arith, slice_set, take-add}
-use Rattle.std.proofs.lemmas.List.{drop-drop, drop-set-lt, length-drop, map-append, take-append-drop, take_more_set}
+use Rattle.std.proofs.Common.{◌≡◌, ℕ, ◌+◌, ◌<◌, ◌≤◌, List, [], ◌∷◌, ◌++◌, length, take, drop, min, sym, ap, ◌∙◌, arith, slice_set, take-add}
+use Rattle.std.proofs.lemmas.List.{drop-drop, drop-set-lt, length-drop, take-append-drop, take_more_set}
 use Rattle.std.proofs.Math.Nat.{min-eq_left, min-eq_right}
 
 module _ {X : Type 0} (all left : List X) (count : ℕ) (x : X) (next : drop count all ≡ x ∷ left) where
@@ -12,12 +12,8 @@ module _ {X : Type 0} (all left : List X) (count : ℕ) (x : X) (next : drop cou
   few_step = let n = length-drop count all in let m = ap (λ (xs : List X). length xs) next in omega arith
 
   -- the room past one more
-  pub front_step : {Y : Type 0} (f : X → Y) (room : List Y) → count < length room → take count room ≡ map f (take count all) → take (count + 1) (slice_set room count (f x)) ≡ map f (take (count + 1) all)
-  front_step f room fits front =
-      take_more_set room count (f x) fits
-      ∙ (ap (λ l. l ++ f x ∷ []) front
-      ∙ (sym (map-append f (take count all) (x ∷ []))
-      ∙ ap (map f) (sym (take-add count 1 all ∙ ap (λ l. take count all ++ take 1 l) next))))
+  pub front_step : (room : List X) → count < length room → take count room ≡ take count all → take (count + 1) (slice_set room count x) ≡ take (count + 1) all
+  front_step room fits front = take_more_set room count x fits ∙ (ap (λ l. l ++ x ∷ []) front ∙ sym (take-add count 1 all ∙ ap (λ l. take count all ++ take 1 l) next))
 
 pub back_step : {Y : Type 0} (room old : List Y) (count : ℕ) (y : Y) → drop count room ≡ drop count old → drop (count + 1) (slice_set room count y) ≡ drop (count + 1) old
 back_step room old count y back =

@@ -1,5 +1,5 @@
 -- Tokens in batches: as many as there is room for, and where to go on.
-use Rattle.std.specs.Prelude.{ℕ, zero, suc, ◌≡◌, List, [], ◌∷◌, ◌++◌, length, map, take, drop, min}
+use Rattle.std.specs.Prelude.{ℕ, zero, suc, ◌≡◌, ◌≢◌, List, [], ◌∷◌, ◌++◌, length, map, take, drop, min}
 use Rattle.std.specs.Str.{IsCharBoundary}
 use Rattle.rustc_lexer.specs.declared.token.FrontmatterAllowed.{FrontmatterAllowed}
 use Rattle.rustc_lexer.specs.declared.token.FrontmatterAllowed.TheVariants.{Yes, No}
@@ -11,6 +11,7 @@ use Rattle.rustc_lexer.specs.Tokens.{tokens_left}
 use Rattle.rustc_lexer_c.specs.declared.batch.CPlace.{CPlace}
 use Rattle.rustc_lexer_c.specs.declared.token.CToken.{CToken}
 use Rattle.rustc_lexer_c.specs.Numbers.{token_numbers}
+use Rattle.rustc_lexer_c.specs.Status.{IsStatus}
 
 -- 0 is `No`, and any other number is `Yes`
 abbrev pub allowed_of : ℕ → FrontmatterAllowed
@@ -49,8 +50,8 @@ pub record IsBatch (text : List ℕ) (s : State) (room : List CToken) (place : C
   pub allowed : place.frontmatter_allowed ≡ mode_number (state_past count s).mode
   pub left : tokens_left (state_at text place) ≡ drop count (tokens_left s)
 
--- nothing is written
-pub record IsUntouched (place place' : CPlace) (room room' : List CToken) (count : ℕ) : Type 0 where
-  pub same_place : place' ≡ place
-  pub same_room : room' ≡ room
-  pub none : count ≡ 0
+-- a call that takes the tokens from a place on, which is to be between characters; where it is refused nothing is written
+pub record TakesTokens (text : List ℕ) (place place' : CPlace) (room filled : List CToken) (count status : ℕ) : Type 0 where
+  pub status_is : IsStatus text (IsCharBoundary text place.at) 3 status
+  pub batch : status ≡ 0 → IsBatch text (state_at text place) room place' filled count
+  pub refused : status ≢ 0 → (place' ≡ place) × (filled ≡ room) × (count ≡ 0)

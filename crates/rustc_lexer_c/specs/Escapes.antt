@@ -1,8 +1,8 @@
 -- What a literal stands for, as it crosses to C: its units in order, each as numbers with its place.
-use Rattle.std.specs.Prelude.{ℕ, ◌≡◌, ◌<◌, ◌≤◌, ◌^◌, if◌then◌else◌, List, [], ◌∷◌, ◌++◌, length, map, take, drop, max, min, nat_eq, Option, Some, None, Result, Ok, Err}
-use Rattle.std.specs.Str.{IsUtf8, chars}
+use Rattle.std.specs.Prelude.{ℕ, ◌≡◌, ◌≢◌, ◌≤◌, if◌then◌else◌, List, [], ◌∷◌, ◌++◌, length, map, take, drop, max, min, nat_eq, Option, Some, None, Result, Ok, Err}
+use Rattle.std.specs.Option.{IsSomeAnd}
+use Rattle.std.specs.Str.{chars}
 use Rattle.std.specs.declared.ops.Range.{Range}
-use Rattle.rustc_lexer.specs.Classes.{IsText}
 use Rattle.rustc_literal_escaper.specs.declared.error.EscapeError.{EscapeError}
 use Rattle.rustc_literal_escaper.specs.declared.error.EscapeError.TheVariants.{ZeroChars, MoreThanOneChar, LoneSlash, InvalidEscape, BareCarriageReturn, BareCarriageReturnInRawString, EscapeOnlyChar, TooShortHexEscape, InvalidCharInHexEscape, OutOfRangeHexEscape, NoBraceInUnicodeEscape, InvalidCharInUnicodeEscape, EmptyUnicodeEscape, UnclosedUnicodeEscape, LeadingUnderscoreUnicodeEscape, OverlongUnicodeEscape, LoneSurrogateUnicodeEscape, OutOfRangeUnicodeEscape, UnicodeEscapeInByte, NonAsciiCharInByte, NulInCStr, UnskippedWhitespaceWarning, MultipleSkippedLinesWarning}
 use Rattle.rustc_literal_escaper.specs.declared.mode.Mode.{Mode}
@@ -16,6 +16,7 @@ use Rattle.rustc_literal_escaper.specs.Single.{byte_literal, char_literal}
 use Rattle.rustc_lexer_c.specs.declared.escapes.CUnit.{CUnit}
 use Rattle.rustc_lexer_c.specs.declared.escapes.Listing.{Listing}
 use Rattle.rustc_lexer_c.specs.declared.escapes.Listing.TheVariants.{Units, Errors}
+use Rattle.rustc_lexer_c.specs.Status.{IsStatus}
 
 -- the mode of a number, which is that of the literal's kind in a token
 abbrev pub mode_of : ℕ → Option Mode
@@ -69,13 +70,9 @@ abbrev pub wrong_unit : Range ℕ → EscapeError → CUnit
 wrong_unit place error = unit_at place (wrong_kind error) (error_number error)
 
 -- a character has the kind 1, and a byte the kind 2
-abbrev pub char_unit : Range ℕ → Result ℕ EscapeError → CUnit
-char_unit place (Ok c) = unit_at place 1 c
-char_unit place (Err error) = wrong_unit place error
-
-abbrev pub byte_unit : Range ℕ → Result ℕ EscapeError → CUnit
-byte_unit place (Ok b) = unit_at place 2 b
-byte_unit place (Err error) = wrong_unit place error
+abbrev pub coded_unit : ℕ → Range ℕ → Result ℕ EscapeError → CUnit
+coded_unit kind place (Ok code) = unit_at place kind code
+coded_unit kind place (Err error) = wrong_unit place error
 
 abbrev pub mixed_unit : Range ℕ → Result MixedUnit EscapeError → CUnit
 mixed_unit place (Ok (CharUnit c)) = unit_at place 1 c
@@ -84,22 +81,22 @@ mixed_unit place (Err error) = wrong_unit place error
 
 -- what an element stands for between double quotes
 abbrev pub item_unit : Mode → Item → CUnit
-item_unit Char item = char_unit item.0 (char_of item.1)
-item_unit Str item = char_unit item.0 (char_of item.1)
-item_unit RawStr item = char_unit item.0 (char_of item.1)
-item_unit Byte item = byte_unit item.0 (byte_of item.1)
-item_unit ByteStr item = byte_unit item.0 (byte_of item.1)
-item_unit RawByteStr item = byte_unit item.0 (byte_of item.1)
+item_unit Char item = coded_unit 1 item.0 (char_of item.1)
+item_unit Str item = coded_unit 1 item.0 (char_of item.1)
+item_unit RawStr item = coded_unit 1 item.0 (char_of item.1)
+item_unit Byte item = coded_unit 2 item.0 (byte_of item.1)
+item_unit ByteStr item = coded_unit 2 item.0 (byte_of item.1)
+item_unit RawByteStr item = coded_unit 2 item.0 (byte_of item.1)
 item_unit CStr item = mixed_unit item.0 (unit_of item.1)
-item_unit RawCStr item = char_unit item.0 (raw_unit_of item.1)
+item_unit RawCStr item = coded_unit 1 item.0 (raw_unit_of item.1)
 
 -- what stands between single quotes is one unit, of which the place is all of the text
 abbrev pub whole : List ℕ → Range ℕ
 whole text = record { start = 0; end = length text }
 
 abbrev pub single_unit : Mode → List ℕ → CUnit
-single_unit Byte text = byte_unit (whole text) (byte_literal (chars text))
-single_unit mode text = char_unit (whole text) (char_literal (chars text))
+single_unit Byte text = coded_unit 2 (whole text) (byte_literal (chars text))
+single_unit mode text = coded_unit 1 (whole text) (char_literal (chars text))
 
 -- the units of what stands between a literal's quotes
 abbrev pub units_of : Mode → List ℕ → List CUnit
@@ -122,23 +119,10 @@ abbrev pub listed : Listing → Mode → List ℕ → List CUnit
 listed Units mode text = units_of mode text
 listed Errors mode text = wrong_units_of mode text
 
--- a batch of what is listed of a text, where the number has a mode
-abbrev pub AreWritten : (Mode → List ℕ → List CUnit) → Option Mode → List ℕ → ℕ → List CUnit → List CUnit → ℕ → Type 0
-AreWritten list None text passed room filled count = ⊥
-AreWritten list (Some mode) text passed room filled count = IsUnits (list mode text) passed room filled count
-
--- there are no more of them than the text has bytes, or one: so much room is enough
-abbrev pub AreFew : (Mode → List ℕ → List CUnit) → Option Mode → List ℕ → Type 0
-AreFew list None text = ⊥
-AreFew list (Some mode) text = length (list mode text) ≤ max 1 (length text)
-
--- nothing is written
-abbrev pub AreNone : List CUnit → List CUnit → ℕ → Type 0
-AreNone room filled count = (filled ≡ room) × (count ≡ 0)
-
--- the status of a call that takes a text and the number of a mode
-pub record IsModeStatus (bytes : List ℕ) (mode : Option Mode) (status : ℕ) : Type 0 where
-  pub ok : IsText bytes → (mode ≡ None → ⊥) → status ≡ 0
-  pub not_utf8 : length bytes < 2 ^ 32 → ¬ (IsUtf8 bytes) → status ≡ 1
-  pub too_long : 2 ^ 32 ≤ length bytes → status ≡ 2
-  pub bad_mode : IsText bytes → mode ≡ None → status ≡ 7
+-- a call that lists some of a text in the mode of a number. There are no more of them than the text has bytes, or one: so
+-- much room is enough. Where it is refused nothing is written
+pub record Lists (list : Mode → List ℕ → List CUnit) (mode : Option Mode) (text : List ℕ) (passed : ℕ) (room filled : List CUnit) (count status : ℕ) : Type 0 where
+  pub status_is : IsStatus text (mode ≢ None) 7 status
+  pub units : status ≡ 0 → IsSomeAnd mode (λ kind. IsUnits (list kind text) passed room filled count)
+  pub bound : status ≡ 0 → IsSomeAnd mode (λ kind. length (list kind text) ≤ max 1 (length text))
+  pub refused : status ≢ 0 → (filled ≡ room) × (count ≡ 0)

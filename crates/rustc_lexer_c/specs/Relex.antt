@@ -74,12 +74,6 @@ pub record IsRelexBatch (edition : Edition) (text : List ℕ) (old : List CToken
   pub relexed : (before insert : List ℕ) → IsMadeOf (first_in edition) before (map (λ (t : CToken). t.len) old) (change_of edit) insert text → IsPassed (first_in edition) before (change_of edit) text (length old) c
       → IsRelexed (first_in edition) before edit insert text old c room c' filled count
 
--- nothing is written
-pub record IsNotRelexed (c c' : CRelexing) (room room' : List CToken) (count : ℕ) : Type 0 where
-  pub same : c' ≡ c
-  pub same_room : room' ≡ room
-  pub none : count ≡ 0
-
 -- the status of a call that relexes
 pub record IsRelexStatus (bytes : List ℕ) (edit : CEdit) (year count : ℕ) (c : CRelexing) (status : ℕ) : Type 0 where
   pub ok : IsText bytes → (edition : Edition) → edition_of_year year ≡ Some edition → IsChange bytes (change_of edit) → MayRelex bytes count c → status ≡ 0
@@ -87,6 +81,12 @@ pub record IsRelexStatus (bytes : List ℕ) (edit : CEdit) (year count : ℕ) (c
   pub too_long : 2 ^ 32 ≤ length bytes → status ≡ 2
   pub bad_edition : IsText bytes → edition_of_year year ≡ None → status ≡ 5
   pub bad_edit : IsText bytes → (edition : Edition) → edition_of_year year ≡ Some edition → ¬ (IsChange bytes (change_of edit) × MayRelex bytes count c) → status ≡ 6
+
+-- a call that relexes in the edition of a year; where it is refused nothing is written
+pub record Relexes (text : List ℕ) (old : List CToken) (edit : CEdit) (year : ℕ) (c c' : CRelexing) (room filled : List CToken) (count status : ℕ) : Type 0 where
+  pub status_is : IsRelexStatus text edit year (length old) c status
+  pub batch : status ≡ 0 → (edition : Edition) → edition_of_year year ≡ Some edition → IsRelexBatch edition text old edit c room c' filled count
+  pub refused : status ≢ 0 → (c' ≡ c) × (filled ≡ room) × (count ≡ 0)
 
 -- how far it was relexed, as numbers
 abbrev pub numbers_of : List ℕ → ℕ → Relexing → CRelexing

@@ -1,7 +1,6 @@
 -- The statuses of calls from C: 0 where the call was done.
-use Rattle.std.specs.Prelude.{ℕ, ◌≡◌, ◌<◌, ◌≤◌, ◌^◌, List, length}
-use Rattle.std.specs.Str.{IsUtf8, IsCharBoundary}
-use Rattle.rustc_lexer.specs.LanguageCalls.{StartsRaw}
+use Rattle.std.specs.Prelude.{ℕ, ◌≡◌, ◌≢◌, ◌<◌, ◌≤◌, ◌^◌, List, length}
+use Rattle.std.specs.Str.{IsUtf8}
 use Rattle.rustc_lexer.specs.Classes.{IsText}
 use Rattle.rustc_lexer_c.specs.declared.status.Refusal.{Refusal}
 use Rattle.rustc_lexer_c.specs.declared.status.Refusal.TheVariants.{NotUtf8, TooLong, BadPlace, NotRaw, BadEdition, BadEdit, BadMode, BadStyle, SmallRoom}
@@ -23,22 +22,19 @@ IsNoText bytes TooLong = 2 ^ 32 ≤ length bytes
 IsNoText bytes NotUtf8 = (length bytes < 2 ^ 32) × ¬ (IsUtf8 bytes)
 IsNoText bytes refusal = ⊥
 
+-- the status of a call that takes a text and asks something of it; where that is not so, it is the number
+pub record IsStatus (bytes : List ℕ) (Asked : Type 0) (number status : ℕ) : Type 0 where
+  pub ok : IsText bytes → Asked → status ≡ 0
+  pub not_utf8 : length bytes < 2 ^ 32 → ¬ (IsUtf8 bytes) → status ≡ 1
+  pub too_long : 2 ^ 32 ≤ length bytes → status ≡ 2
+  pub refused : IsText bytes → ¬ Asked → status ≡ number
+
 -- the status of a call that takes any text
-pub record IsTextStatus (bytes : List ℕ) (status : ℕ) : Type 0 where
-  pub ok : IsText bytes → status ≡ 0
-  pub not_utf8 : length bytes < 2 ^ 32 → ¬ (IsUtf8 bytes) → status ≡ 1
-  pub too_long : 2 ^ 32 ≤ length bytes → status ≡ 2
+abbrev pub IsTextStatus : List ℕ → ℕ → Type 0
+IsTextStatus bytes status = IsStatus bytes (Unit {0}) 0 status
 
--- the status of a call that takes a text and a place in it, which is to be between characters
-pub record IsPlaceStatus (bytes : List ℕ) (place : ℕ) (status : ℕ) : Type 0 where
-  pub ok : IsText bytes → IsCharBoundary bytes place → status ≡ 0
-  pub not_utf8 : length bytes < 2 ^ 32 → ¬ (IsUtf8 bytes) → status ≡ 1
-  pub too_long : 2 ^ 32 ≤ length bytes → status ≡ 2
-  pub bad_place : IsText bytes → ¬ (IsCharBoundary bytes place) → status ≡ 3
-
--- the status of a call that takes a raw string, of which the prefix has p characters
-pub record IsRawStatus (bytes : List ℕ) (p : ℕ) (status : ℕ) : Type 0 where
-  pub ok : IsText bytes → StartsRaw bytes p → status ≡ 0
-  pub not_utf8 : length bytes < 2 ^ 32 → ¬ (IsUtf8 bytes) → status ≡ 1
-  pub too_long : 2 ^ 32 ≤ length bytes → status ≡ 2
-  pub not_raw : IsText bytes → ¬ (StartsRaw bytes p) → status ≡ 4
+-- a call with such a status writes an answer, and where it is refused, what is none
+pub record Writes {X : Type 0} (bytes : List ℕ) (Asked : Type 0) (number : ℕ) (answer none written : X) (status : ℕ) : Type 0 where
+  pub status_is : IsStatus bytes Asked number status
+  pub answer_is : status ≡ 0 → written ≡ answer
+  pub none_is : status ≢ 0 → written ≡ none

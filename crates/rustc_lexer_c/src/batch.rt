@@ -1,13 +1,12 @@
 //! Tokens in batches.
-ghost use Rattle.std.specs.Prelude.{◌≡◌, ◌≢◌, length};
+ghost use Rattle.std.specs.Prelude.{◌≡◌};
 ghost use Rattle.std.specs.Str.{IsUtf8, IsCharBoundary};
 ghost use Rattle.rustc_lexer.specs.Classes.{Fits};
 ghost use Rattle.rustc_lexer.specs.LanguageText.{mode_of};
 ghost use Rattle.rustc_lexer.specs.Tokens.{tokens_of};
 ghost use Rattle.rustc_lexer_c.specs.Batch as spec;
-ghost use Rattle.rustc_lexer_c.specs.Status.{IsPlaceStatus};
 
-use crate::status::{Refusal, text_of, utf8_text_of};
+use crate::status::{Refusal, done, refuse, text_of, utf8_text_of};
 use crate::token::{CToken, token_numbers};
 use rustc_lexer::{FrontmatterAllowed, tokenize};
 
@@ -32,19 +31,11 @@ pub extern "C" fn rustc_lexer_tokens(
     room: &mut [CToken],
     count: &mut usize,
 ) -> u32
-    ensures status { IsPlaceStatus text.now place.old.at result }
-    ensures batch { result ≡ 0
-        → spec.IsBatch text.now (spec.state_at text.now place.old)
-        room.old place.new room.new count.new }
-    ensures refused { result ≢ 0
-        → spec.IsUntouched place.old place.new room.old room.new count.new }
+    ensures { spec.TakesTokens text.now place.old place.new room.old room.new count.new result }
 {
     match text_of(text) {
         Ok(text) => batch(text, place, room, count),
-        Err(refusal) => {
-            *count = 0;
-            refusal.number()
-        }
+        Err(refusal) => refuse(refusal, 0, count),
     }
 }
 
@@ -57,19 +48,11 @@ pub extern "C" fn rustc_lexer_tokens_unchecked(
     count: &mut usize,
 ) -> u32
     requires utf8 { IsUtf8 text.now }
-    ensures status { IsPlaceStatus text.now place.old.at result }
-    ensures batch { result ≡ 0
-        → spec.IsBatch text.now (spec.state_at text.now place.old)
-        room.old place.new room.new count.new }
-    ensures refused { result ≢ 0
-        → spec.IsUntouched place.old place.new room.old room.new count.new }
+    ensures { spec.TakesTokens text.now place.old place.new room.old room.new count.new result }
 {
     match utf8_text_of(text) {
         Ok(text) => batch(text, place, room, count),
-        Err(refusal) => {
-            *count = 0;
-            refusal.number()
-        }
+        Err(refusal) => refuse(refusal, 0, count),
     }
 }
 
@@ -120,19 +103,12 @@ fn no_token() -> CToken
 /// Writes the batch at the place of a text.
 fn batch(text: &str, place: &mut CPlace, room: &mut [CToken], count: &mut usize) -> u32
     requires fits { Fits text.now }
-    ensures status { IsPlaceStatus text.now place.old.at result }
-    ensures batch { result ≡ 0
-        → spec.IsBatch text.now (spec.state_at text.now place.old)
-        room.old place.new room.new count.new }
-    ensures refused { result ≢ 0
-        → spec.IsUntouched place.old place.new room.old room.new count.new }
+    ensures { spec.TakesTokens text.now place.old place.new room.old room.new count.new result }
 {
     if !text.is_char_boundary(place.at as usize) {
-        *count = 0;
-        return Refusal::BadPlace.number();
+        return refuse(Refusal::BadPlace, 0, count);
     }
-    *count = fill(text, place, room);
-    0
+    done(fill(text, place, room), count)
 }
 
 /// Writes the batch at a place between characters, and answers its number of tokens.

@@ -1,12 +1,12 @@
 //! Classes of characters, each by its code.
-ghost use Rattle.std.specs.Prelude.{◌≡◌, ◌≢◌, false};
+ghost use Rattle.std.specs.Prelude.{◌≡◌, false};
 ghost use Rattle.std.specs.Char.{IsScalar};
 ghost use Rattle.std.specs.Str.{IsUtf8, chars};
 ghost use Rattle.rustc_lexer.specs.Classes;
-ghost use Rattle.rustc_lexer_c.specs.Status.{IsTextStatus};
+ghost use Rattle.rustc_lexer_c.specs.Status.{Writes};
 ghost use Rattle.rustc_lexer_c.specs.Numbers.{bool_number};
 
-use crate::status::{OK, text_of};
+use crate::status::{done, refuse, text_of};
 use rustc_lexer::{is_horizontal_whitespace, is_id_continue, is_id_start, is_ident, is_whitespace};
 
 /// Whether the character is white space in Rust. False of a number that is no character.
@@ -60,19 +60,11 @@ pub extern "C" fn rustc_lexer_is_id_continue(code: u32) -> bool
 /// Writes whether the text is an identifier.
 #[unsafe(no_mangle)]
 pub extern "C" fn rustc_lexer_is_ident(text: &[u8], is: &mut u32) -> u32
-    ensures status { IsTextStatus text.now result }
-    ensures ident { result ≡ 0 → is.new ≡ bool_number (Classes.is_ident (chars text.now)) }
-    ensures refused { result ≢ 0 → is.new ≡ 0 }
+    ensures { Writes text.now (Unit {0}) 0 (bool_number (Classes.is_ident (chars text.now))) 0 is.new result }
 {
     match text_of(text) {
-        Ok(text) => {
-            *is = u32::from(is_ident(text));
-            OK
-        }
-        Err(refusal) => {
-            *is = 0;
-            refusal.number()
-        }
+        Ok(text) => done(u32::from(is_ident(text)), is),
+        Err(refusal) => refuse(refusal, 0, is),
     }
 }
 

@@ -1,5 +1,6 @@
 //! What a literal stands for, and what is wrong in it.
-ghost use Rattle.std.specs.Prelude.{◌≡◌, ◌≢◌, false, List, [], ◌∷◌, None, map};
+ghost use Rattle.std.specs.Prelude.{◌≡◌, ◌≢◌, ◌≤◌, length, max, false, List, [], ◌∷◌, None, map};
+ghost use Rattle.std.specs.Option.{IsSomeAnd};
 ghost use Rattle.std.specs.Result.{result_err};
 ghost use Rattle.std.specs.Str.{IsUtf8};
 ghost use Rattle.rustc_lexer.specs.Classes.{IsText};
@@ -7,9 +8,9 @@ ghost use Rattle.rustc_literal_escaper.specs.Elements.{items_of, TakesFirst};
 ghost use Rattle.rustc_literal_escaper.specs.Errors as errors;
 ghost use Rattle.rustc_literal_escaper.specs.Meaning.{unit_of};
 ghost use Rattle.rustc_lexer_c.specs.Escapes as spec;
-ghost use Rattle.rustc_lexer_c.specs.Status.{refusal_number};
+ghost use Rattle.rustc_lexer_c.specs.Status.{IsStatus};
 
-use crate::status::{OK, Refusal, text_of, utf8_text_of};
+use crate::status::{Refusal, done, refuse, text_of, utf8_text_of};
 use rustc_literal_escaper::{
     Element, Elements, EscapeError, Faults, Mode, NonZeroChar, unescape_byte, unescape_char,
 };
@@ -40,15 +41,11 @@ pub extern "C" fn rustc_lexer_unescape(
     room: &mut [CUnit],
     count: &mut usize,
 ) -> u32
-    ensures status { spec.IsModeStatus text.now (spec.mode_of mode) result }
-    ensures units { result ≡ 0
-        → spec.AreWritten spec.units_of (spec.mode_of mode) text.now passed room.old room.new count.new }
-    ensures bound { result ≡ 0 → spec.AreFew spec.units_of (spec.mode_of mode) text.now }
-    ensures refused { result ≢ 0 → spec.AreNone room.old room.new count.new }
+    ensures { spec.Lists spec.units_of (spec.mode_of mode) text.now passed room.old room.new count.new result }
 {
     match text_of(text) {
         Ok(text) => write(text, Listing::Units, mode, passed, room, count),
-        Err(refusal) => refuse(refusal, count),
+        Err(refusal) => refuse(refusal, 0, count),
     }
 }
 
@@ -62,15 +59,11 @@ pub extern "C" fn rustc_lexer_unescape_unchecked(
     count: &mut usize,
 ) -> u32
     requires utf8 { IsUtf8 text.now }
-    ensures status { spec.IsModeStatus text.now (spec.mode_of mode) result }
-    ensures units { result ≡ 0
-        → spec.AreWritten spec.units_of (spec.mode_of mode) text.now passed room.old room.new count.new }
-    ensures bound { result ≡ 0 → spec.AreFew spec.units_of (spec.mode_of mode) text.now }
-    ensures refused { result ≢ 0 → spec.AreNone room.old room.new count.new }
+    ensures { spec.Lists spec.units_of (spec.mode_of mode) text.now passed room.old room.new count.new result }
 {
     match utf8_text_of(text) {
         Ok(text) => write(text, Listing::Units, mode, passed, room, count),
-        Err(refusal) => refuse(refusal, count),
+        Err(refusal) => refuse(refusal, 0, count),
     }
 }
 
@@ -86,15 +79,11 @@ pub extern "C" fn rustc_lexer_literal_errors(
     room: &mut [CUnit],
     count: &mut usize,
 ) -> u32
-    ensures status { spec.IsModeStatus text.now (spec.mode_of mode) result }
-    ensures errors { result ≡ 0
-        → spec.AreWritten spec.wrong_units_of (spec.mode_of mode) text.now passed room.old room.new count.new }
-    ensures bound { result ≡ 0 → spec.AreFew spec.wrong_units_of (spec.mode_of mode) text.now }
-    ensures refused { result ≢ 0 → spec.AreNone room.old room.new count.new }
+    ensures { spec.Lists spec.wrong_units_of (spec.mode_of mode) text.now passed room.old room.new count.new result }
 {
     match text_of(text) {
         Ok(text) => write(text, Listing::Errors, mode, passed, room, count),
-        Err(refusal) => refuse(refusal, count),
+        Err(refusal) => refuse(refusal, 0, count),
     }
 }
 
@@ -108,15 +97,11 @@ pub extern "C" fn rustc_lexer_literal_errors_unchecked(
     count: &mut usize,
 ) -> u32
     requires utf8 { IsUtf8 text.now }
-    ensures status { spec.IsModeStatus text.now (spec.mode_of mode) result }
-    ensures errors { result ≡ 0
-        → spec.AreWritten spec.wrong_units_of (spec.mode_of mode) text.now passed room.old room.new count.new }
-    ensures bound { result ≡ 0 → spec.AreFew spec.wrong_units_of (spec.mode_of mode) text.now }
-    ensures refused { result ≢ 0 → spec.AreNone room.old room.new count.new }
+    ensures { spec.Lists spec.wrong_units_of (spec.mode_of mode) text.now passed room.old room.new count.new result }
 {
     match utf8_text_of(text) {
         Ok(text) => write(text, Listing::Errors, mode, passed, room, count),
-        Err(refusal) => refuse(refusal, count),
+        Err(refusal) => refuse(refusal, 0, count),
     }
 }
 
@@ -139,28 +124,17 @@ fn write(
     count: &mut usize,
 ) -> u32
     requires text { IsText text.now }
-    ensures status { spec.IsModeStatus text.now (spec.mode_of mode) result }
-    ensures listed { result ≡ 0
-        → spec.AreWritten (spec.listed listing) (spec.mode_of mode) text.now passed room.old room.new count.new }
-    ensures bound { result ≡ 0 → spec.AreFew (spec.listed listing) (spec.mode_of mode) text.now }
-    ensures refused { result ≢ 0 → spec.AreNone room.old room.new count.new }
+    ensures status { IsStatus text.now (spec.mode_of mode ≢ None) 7 result }
+    ensures listed { result ≡ 0 → IsSomeAnd (spec.mode_of mode)
+        (λ kind. spec.IsUnits (spec.listed listing kind text.now) passed room.old room.new count.new) }
+    ensures bound { result ≡ 0 → IsSomeAnd (spec.mode_of mode)
+        (λ kind. length (spec.listed listing kind text.now) ≤ max 1 (length text.now)) }
+    ensures refused { result ≢ 0 → (room.new ≡ room.old) × (count.new ≡ 0) }
 {
     match mode_of(mode) {
-        None => refuse(Refusal::BadMode, count),
-        Some(mode) => {
-            *count = fill(text, listing, mode, passed, room);
-            OK
-        }
+        None => refuse(Refusal::BadMode, 0, count),
+        Some(mode) => done(fill(text, listing, mode, passed, room), count),
     }
-}
-
-/// Writes nothing, and answers the status.
-fn refuse(refusal: Refusal, count: &mut usize) -> u32
-    ensures status { result ≡ refusal_number refusal }
-    ensures count { count.new ≡ 0 }
-{
-    *count = 0;
-    refusal.number()
 }
 
 /// The mode of a number.
@@ -330,7 +304,7 @@ fn item_unit(mode: Mode, place: Range<usize>, element: Element) -> CUnit
 
 /// A character as numbers, or what is wrong.
 fn char_unit(place: Range<usize>, meaning: Result<char, EscapeError>) -> CUnit
-    ensures { result ≡ spec.char_unit place meaning }
+    ensures { result ≡ spec.coded_unit 1 place meaning }
 {
     match meaning {
         Ok(c) => unit_at(place, 1, c as u32),
@@ -340,7 +314,7 @@ fn char_unit(place: Range<usize>, meaning: Result<char, EscapeError>) -> CUnit
 
 /// A byte as numbers, or what is wrong.
 fn byte_unit(place: Range<usize>, meaning: Result<u8, EscapeError>) -> CUnit
-    ensures { result ≡ spec.byte_unit place meaning }
+    ensures { result ≡ spec.coded_unit 2 place meaning }
 {
     match meaning {
         Ok(byte) => unit_at(place, 2, u32::from(byte)),
@@ -374,7 +348,7 @@ fn sound_unit(place: Range<usize>, element: Element) -> CUnit
 
 /// A character of a raw C string as numbers, or what is wrong.
 fn raw_unit(place: Range<usize>, meaning: Result<NonZeroChar, EscapeError>) -> CUnit
-    ensures { result ≡ spec.char_unit place meaning }
+    ensures { result ≡ spec.coded_unit 1 place meaning }
 {
     match meaning {
         Ok(c) => unit_at(place, 1, c.get() as u32),

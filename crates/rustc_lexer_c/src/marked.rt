@@ -1,5 +1,5 @@
 //! The tokens of a text between marks.
-ghost use Rattle.std.specs.Prelude.{◌≡◌, ◌≢◌, ◌≤◌, Some, true, length, take, drop};
+ghost use Rattle.std.specs.Prelude.{◌≡◌, ◌≢◌, Some, OnOk, take};
 ghost use Rattle.rustc_lexer.specs.declared.edition.Edition.{Edition};
 ghost use Rattle.rustc_lexer.specs.Classes.{Fits};
 ghost use Rattle.rustc_lexer.specs.LanguageText.{edition_of_year, part};
@@ -13,6 +13,7 @@ use crate::room::Room;
 use crate::status::{OK, Refusal, text_of};
 use marks::{Style, write_first_tokens};
 use rustc_lexer::Edition;
+use std::fmt;
 
 /// Writes the first `count` tokens of a text in an edition, each between the marks of a style, at the front of the room,
 /// or all where it has fewer, and the number of bytes into `written`.
@@ -47,9 +48,9 @@ pub extern "C" fn rustc_lexer_marks(
         return Refusal::BadStyle.number();
     };
     let mut output = Room::new(room);
-    if !fill(style, edition, count, text, &mut output) {
+    let Ok(()) = fill(style, edition, count, text, &mut output) else {
         return Refusal::SmallRoom.number();
-    }
+    };
     *written = output.len;
     OK
 }
@@ -66,15 +67,19 @@ fn style_of(number: u32) -> Option<Style>
     }
 }
 
-/// Writes marked tokens into room of which nothing is written, and answers whether there was enough.
-fn fill(style: Style, edition: Edition, count: usize, text: &str, output: &mut Room<'_>) -> bool
+/// Writes marked tokens into room of which nothing is written.
+fn fill(
+    style: Style,
+    edition: Edition,
+    count: usize,
+    text: &str,
+    output: &mut Room<'_>,
+) -> fmt::Result
     requires fits { Fits text.now }
     requires none { output.old.len ≡ 0 }
-    ensures same_reference { result ≡ true
-        → output.new.bytes.ghost_name ≡ output.old.bytes.ghost_name }
-    ensures front { result ≡ true
-        → spec.IsFront (marked_tokens style text.now (take count (tokens_of (part edition) text.now)))
-        output.old.bytes.now output.new.bytes.now output.new.len }
+    ensures { OnOk result ((output.new.bytes.ghost_name ≡ output.old.bytes.ghost_name)
+        × spec.IsFront (marked_tokens style text.now (take count (tokens_of (part edition) text.now)))
+        output.old.bytes.now output.new.bytes.now output.new.len) }
 {
-    write_first_tokens(style, edition, count, text, output).is_ok()
+    write_first_tokens(style, edition, count, text, output)
 }

@@ -8,27 +8,19 @@ ghost use Rattle.rustc_lexer.specs.Locality.{IsSettled, StaysUpTo};
 ghost use Rattle.rustc_lexer.specs.Answers.{shebang};
 ghost use Rattle.rustc_lexer.specs.Tokens.{tokens_of};
 ghost use Rattle.rustc_lexer_c.specs.Numbers.{some_or_zero};
-ghost use Rattle.rustc_lexer_c.specs.Status.{IsTextStatus};
+ghost use Rattle.rustc_lexer_c.specs.Status.{IsTextStatus, Writes};
 
-use crate::status::{OK, text_of, utf8_text_of};
+use crate::status::{done, refuse, text_of, utf8_text_of};
 use rustc_lexer::{settled, strip_shebang};
 
 /// Writes the length of the shebang line at the front of a text, without the end of the line; 0 where there is none.
 #[unsafe(no_mangle)]
 pub extern "C" fn rustc_lexer_strip_shebang(text: &[u8], line_len: &mut usize) -> u32
-    ensures status { IsTextStatus text.now result }
-    ensures line { result ≡ 0 → line_len.new ≡ some_or_zero (shebang text.now) }
-    ensures refused { result ≢ 0 → line_len.new ≡ 0 }
+    ensures { Writes text.now (Unit {0}) 0 (some_or_zero (shebang text.now)) 0 line_len.new result }
 {
     match text_of(text) {
-        Ok(text) => {
-            *line_len = shebang_len(text);
-            OK
-        }
-        Err(refusal) => {
-            *line_len = 0;
-            refusal.number()
-        }
+        Ok(text) => done(shebang_len(text), line_len),
+        Err(refusal) => refuse(refusal, 0, line_len),
     }
 }
 
@@ -36,19 +28,11 @@ pub extern "C" fn rustc_lexer_strip_shebang(text: &[u8], line_len: &mut usize) -
 #[unsafe(no_mangle)]
 pub extern "C" fn rustc_lexer_strip_shebang_unchecked(text: &[u8], line_len: &mut usize) -> u32
     requires utf8 { IsUtf8 text.now }
-    ensures status { IsTextStatus text.now result }
-    ensures line { result ≡ 0 → line_len.new ≡ some_or_zero (shebang text.now) }
-    ensures refused { result ≢ 0 → line_len.new ≡ 0 }
+    ensures { Writes text.now (Unit {0}) 0 (some_or_zero (shebang text.now)) 0 line_len.new result }
 {
     match utf8_text_of(text) {
-        Ok(text) => {
-            *line_len = shebang_len(text);
-            OK
-        }
-        Err(refusal) => {
-            *line_len = 0;
-            refusal.number()
-        }
+        Ok(text) => done(shebang_len(text), line_len),
+        Err(refusal) => refuse(refusal, 0, line_len),
     }
 }
 
@@ -62,14 +46,8 @@ pub extern "C" fn rustc_lexer_settled(text: &[u8], end: &mut usize) -> u32
     ensures refused { result ≢ 0 → end.new ≡ 0 }
 {
     match text_of(text) {
-        Ok(text) => {
-            *end = settled(text);
-            OK
-        }
-        Err(refusal) => {
-            *end = 0;
-            refusal.number()
-        }
+        Ok(text) => done(settled(text), end),
+        Err(refusal) => refuse(refusal, 0, end),
     }
 }
 

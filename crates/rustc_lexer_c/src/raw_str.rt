@@ -1,16 +1,13 @@
 //! Raw strings and guarded strings.
-ghost use Rattle.std.specs.Prelude.{◌≡◌, ◌≢◌, ◌↔◌, IsTrue, None};
+ghost use Rattle.std.specs.Prelude.{◌≡◌, ◌↔◌, IsTrue, None};
 ghost use Rattle.std.specs.Str.{IsUtf8};
 ghost use Rattle.rustc_lexer.specs.Classes.{Fits};
-ghost use Rattle.rustc_lexer.specs.declared.edition.Edition.TheVariants.{E2024};
-ghost use Rattle.rustc_lexer.specs.LanguageText.{part};
-ghost use Rattle.rustc_lexer.specs.Answers.{guarded};
 ghost use Rattle.rustc_lexer.specs.LanguageCalls.{StartsRaw};
 ghost use Rattle.rustc_lexer.specs.Answers.{raw_check};
 ghost use Rattle.rustc_lexer_c.specs.RawStr as spec;
-ghost use Rattle.rustc_lexer_c.specs.Status.{IsRawStatus, IsTextStatus};
+ghost use Rattle.rustc_lexer_c.specs.Status.{Writes};
 
-use crate::status::{OK, Refusal, text_of, utf8_text_of};
+use crate::status::{Refusal, done, refuse, text_of, utf8_text_of};
 use rustc_lexer::{
     Cursor, FrontmatterAllowed, GuardedStr, RawStrError, starts_raw, validate_raw_str,
 };
@@ -32,15 +29,6 @@ pub struct CRawStrError {
     /// Of 2: where the first quote with so many hashes ends, in bytes.
     pub possible_terminator_offset: u32,
 }
-
-/// No raw string is refused.
-const NO_ERROR: u32 = 0;
-/// The numbers of the errors.
-const INVALID_STARTER: u32 = 1;
-
-const NO_TERMINATOR: u32 = 2;
-
-const TOO_MANY_DELIMITERS: u32 = 3;
 
 /// A guarded string. All is 0 where there is none.
 #[repr(C)]
@@ -64,16 +52,12 @@ pub extern "C" fn rustc_lexer_validate_raw_str(
     prefix_len: u32,
     error: &mut CRawStrError,
 ) -> u32
-    ensures status { IsRawStatus text.now prefix_len result }
-    ensures error { result ≡ 0 → error.new ≡ spec.answer_numbers (raw_check text.now prefix_len) }
-    ensures refused { result ≢ 0 → error.new ≡ spec.no_error }
+    ensures { Writes text.now (StartsRaw text.now prefix_len) 4
+        (spec.answer_numbers (raw_check text.now prefix_len)) spec.no_error error.new result }
 {
     match text_of(text) {
         Ok(text) => raw_str(text, prefix_len, error),
-        Err(refusal) => {
-            *error = no_error();
-            refusal.number()
-        }
+        Err(refusal) => refuse(refusal, no_error(), error),
     }
 }
 
@@ -86,32 +70,25 @@ pub extern "C" fn rustc_lexer_validate_raw_str_unchecked(
     error: &mut CRawStrError,
 ) -> u32
     requires utf8 { IsUtf8 text.now }
-    ensures status { IsRawStatus text.now prefix_len result }
-    ensures error { result ≡ 0 → error.new ≡ spec.answer_numbers (raw_check text.now prefix_len) }
-    ensures refused { result ≢ 0 → error.new ≡ spec.no_error }
+    ensures { Writes text.now (StartsRaw text.now prefix_len) 4
+        (spec.answer_numbers (raw_check text.now prefix_len)) spec.no_error error.new result }
 {
     match utf8_text_of(text) {
         Ok(text) => raw_str(text, prefix_len, error),
-        Err(refusal) => {
-            *error = no_error();
-            refusal.number()
-        }
+        Err(refusal) => refuse(refusal, no_error(), error),
     }
 }
 
 /// Checks the raw string that a text begins with.
 fn raw_str(text: &str, prefix_len: u32, error: &mut CRawStrError) -> u32
     requires fits { Fits text.now }
-    ensures status { IsRawStatus text.now prefix_len result }
-    ensures error { result ≡ 0 → error.new ≡ spec.answer_numbers (raw_check text.now prefix_len) }
-    ensures refused { result ≢ 0 → error.new ≡ spec.no_error }
+    ensures { Writes text.now (StartsRaw text.now prefix_len) 4
+        (spec.answer_numbers (raw_check text.now prefix_len)) spec.no_error error.new result }
 {
     if !starts_raw(text, prefix_len) {
-        *error = no_error();
-        return Refusal::NotRaw.number();
+        return refuse(Refusal::NotRaw, no_error(), error);
     }
-    *error = answer_numbers(validate_raw_str(text, prefix_len));
-    OK
+    done(answer_numbers(validate_raw_str(text, prefix_len)), error)
 }
 
 /// Whether character number `prefix_len` of the text, counted from 1, is an `r`. The text is UTF-8, of any length.
@@ -131,21 +108,11 @@ pub extern "C" fn rustc_lexer_starts_raw_unchecked(text: &[u8], prefix_len: u32)
 /// part of the next token.
 #[unsafe(no_mangle)]
 pub extern "C" fn rustc_lexer_guarded_str(text: &[u8], string: &mut CGuardedStr) -> u32
-    ensures status { IsTextStatus text.now result }
-    ensures string { result ≡ 0 →
-        string.new ≡ spec.guarded_numbers
-        (guarded record { pending = 0; rest = text.now; mode = part E2024 }).0 }
-    ensures refused { result ≢ 0 → string.new ≡ spec.guarded_numbers None }
+    ensures { Writes text.now (Unit {0}) 0 (spec.guarded_at text.now) (spec.guarded_numbers None) string.new result }
 {
     match text_of(text) {
-        Ok(text) => {
-            *string = guarded_str(text);
-            OK
-        }
-        Err(refusal) => {
-            *string = guarded_numbers(None);
-            refusal.number()
-        }
+        Ok(text) => done(guarded_str(text), string),
+        Err(refusal) => refuse(refusal, guarded_numbers(None), string),
     }
 }
 
@@ -154,29 +121,18 @@ pub extern "C" fn rustc_lexer_guarded_str(text: &[u8], string: &mut CGuardedStr)
 #[unsafe(no_mangle)]
 pub extern "C" fn rustc_lexer_guarded_str_unchecked(text: &[u8], string: &mut CGuardedStr) -> u32
     requires utf8 { IsUtf8 text.now }
-    ensures status { IsTextStatus text.now result }
-    ensures string { result ≡ 0 →
-        string.new ≡ spec.guarded_numbers
-        (guarded record { pending = 0; rest = text.now; mode = part E2024 }).0 }
-    ensures refused { result ≢ 0 → string.new ≡ spec.guarded_numbers None }
+    ensures { Writes text.now (Unit {0}) 0 (spec.guarded_at text.now) (spec.guarded_numbers None) string.new result }
 {
     match utf8_text_of(text) {
-        Ok(text) => {
-            *string = guarded_str(text);
-            OK
-        }
-        Err(refusal) => {
-            *string = guarded_numbers(None);
-            refusal.number()
-        }
+        Ok(text) => done(guarded_str(text), string),
+        Err(refusal) => refuse(refusal, guarded_numbers(None), string),
     }
 }
 
 /// The guarded string that a text begins with, as numbers.
 fn guarded_str(text: &str) -> CGuardedStr
     requires fits { Fits text.now }
-    ensures string { result ≡ spec.guarded_numbers
-        (guarded record { pending = 0; rest = text.now; mode = part E2024 }).0 }
+    ensures { result ≡ spec.guarded_at text.now }
 {
     let mut cursor = Cursor::new(text, FrontmatterAllowed::No);
     guarded_numbers(cursor.guarded_double_quoted_string())
@@ -188,7 +144,30 @@ fn answer_numbers(answer: Result<(), RawStrError>) -> CRawStrError
 {
     match answer {
         Ok(_) => no_error(),
-        Err(error) => error_numbers(error),
+        Err(RawStrError::InvalidStarter { bad_char }) => CRawStrError {
+            error: 1,
+            bad_char: bad_char as u32,
+            ..no_error()
+        },
+        Err(
+            RawStrError::NoTerminator {
+                expected,
+                found,
+                possible_terminator_offset,
+            },
+        ) => CRawStrError {
+            error: 2,
+            expected,
+            found,
+            has_offset: u32::from(possible_terminator_offset.is_some()),
+            possible_terminator_offset: possible_terminator_offset.unwrap_or(0),
+            ..no_error()
+        },
+        Err(RawStrError::TooManyDelimiters { found }) => CRawStrError {
+            error: 3,
+            found,
+            ..no_error()
+        },
     }
 }
 
@@ -197,42 +176,12 @@ fn no_error() -> CRawStrError
     ensures { result ≡ spec.no_error }
 {
     CRawStrError {
-        error: NO_ERROR,
+        error: 0,
         bad_char: 0,
         expected: 0,
         found: 0,
         has_offset: 0,
         possible_terminator_offset: 0,
-    }
-}
-
-/// The error as numbers.
-fn error_numbers(error: RawStrError) -> CRawStrError
-    ensures { result ≡ spec.error_numbers error }
-{
-    match error {
-        RawStrError::InvalidStarter { bad_char } => CRawStrError {
-            error: INVALID_STARTER,
-            bad_char: bad_char as u32,
-            ..no_error()
-        },
-        RawStrError::NoTerminator {
-            expected,
-            found,
-            possible_terminator_offset,
-        } => CRawStrError {
-            error: NO_TERMINATOR,
-            expected,
-            found,
-            has_offset: u32::from(possible_terminator_offset.is_some()),
-            possible_terminator_offset: possible_terminator_offset.unwrap_or(0),
-            ..no_error()
-        },
-        RawStrError::TooManyDelimiters { found } => CRawStrError {
-            error: TOO_MANY_DELIMITERS,
-            found,
-            ..no_error()
-        },
     }
 }
 

@@ -9,7 +9,7 @@ ghost use Rattle.rustc_lexer.specs.Edits.{IsChange, IsMadeOf, MayGoOn, Stands};
 ghost use Rattle.rustc_lexer.specs.Locality.{IsGrammar};
 ghost use Rattle.rustc_lexer_c.specs.Relex as spec;
 
-use crate::status::{OK, Refusal, text_of, utf8_text_of};
+use crate::status::{OK, Refusal, refuse, text_of, utf8_text_of};
 use crate::token::CToken;
 use rustc_lexer::{Bound, Change, Edition, Measured, Relexing, Steps};
 
@@ -67,19 +67,12 @@ pub extern "C" fn rustc_lexer_relex(
     room: &mut [CToken],
     count: &mut usize,
 ) -> u32
-    ensures status { spec.IsRelexStatus text.now edit.now edition (length old.now) relexing.old result }
-    ensures batch { result ≡ 0 → (year : Edition) → edition_of_year edition ≡ Some year
-        → spec.IsRelexBatch year text.now old.now edit.now relexing.old
-        room.old relexing.new room.new count.new }
-    ensures refused { result ≢ 0
-        → spec.IsNotRelexed relexing.old relexing.new room.old room.new count.new }
+    ensures { spec.Relexes text.now old.now edit.now edition relexing.old relexing.new
+        room.old room.new count.new result }
 {
     match text_of(text) {
         Ok(text) => relex(text, old, edit, edition, relexing, room, count),
-        Err(refusal) => {
-            *count = 0;
-            refusal.number()
-        }
+        Err(refusal) => refuse(refusal, 0, count),
     }
 }
 
@@ -96,19 +89,12 @@ pub extern "C" fn rustc_lexer_relex_unchecked(
     count: &mut usize,
 ) -> u32
     requires utf8 { IsUtf8 text.now }
-    ensures status { spec.IsRelexStatus text.now edit.now edition (length old.now) relexing.old result }
-    ensures batch { result ≡ 0 → (year : Edition) → edition_of_year edition ≡ Some year
-        → spec.IsRelexBatch year text.now old.now edit.now relexing.old
-        room.old relexing.new room.new count.new }
-    ensures refused { result ≢ 0
-        → spec.IsNotRelexed relexing.old relexing.new room.old room.new count.new }
+    ensures { spec.Relexes text.now old.now edit.now edition relexing.old relexing.new
+        room.old room.new count.new result }
 {
     match utf8_text_of(text) {
         Ok(text) => relex(text, old, edit, edition, relexing, room, count),
-        Err(refusal) => {
-            *count = 0;
-            refusal.number()
-        }
+        Err(refusal) => refuse(refusal, 0, count),
     }
 }
 
@@ -128,18 +114,17 @@ fn relex(
         → spec.IsRelexBatch year text.now old.now edit.now relexing.old
         room.old relexing.new room.new count.new }
     ensures refused { result ≢ 0
-        → spec.IsNotRelexed relexing.old relexing.new room.old room.new count.new }
+        → (relexing.new ≡ relexing.old) × (room.new ≡ room.old) × (count.new ≡ 0) }
 {
-    *count = 0;
     let Some(edition) = edition_of(edition) else {
-        return Refusal::BadEdition.number();
+        return refuse(Refusal::BadEdition, 0, count);
     };
     let change = change_of(edit);
     if !change.may_make(text) {
-        return Refusal::BadEdit.number();
+        return refuse(Refusal::BadEdit, 0, count);
     }
     let Some(mut at) = standing(text, old, change, relexing) else {
-        return Refusal::BadEdit.number();
+        return refuse(Refusal::BadEdit, 0, count);
     };
     *count = at.fill(&mut Steps::new_in(edition), text, old, change, room);
     *relexing = relexing_numbers(&at, text, old.len());

@@ -11,23 +11,23 @@ pub(crate) const OK: u32 = 0;
 #[derive(Clone, Copy)]
 pub(crate) enum Refusal {
     /// The bytes are not UTF-8.
-    NotUtf8,
+    NotUtf8 = 1,
     /// There are more than `u32::MAX` bytes.
-    TooLong,
+    TooLong = 2,
     /// The place is past the end of the text, or inside a character.
-    BadPlace,
+    BadPlace = 3,
     /// No raw string begins at the text's front.
-    NotRaw,
+    NotRaw = 4,
     /// No edition has the year.
-    BadEdition,
+    BadEdition = 5,
     /// The edit cannot have made the text, or relexing cannot go on from the numbers.
-    BadEdit,
+    BadEdit = 6,
     /// No literal has the mode.
-    BadMode,
+    BadMode = 7,
     /// No style has the number.
-    BadStyle,
+    BadStyle = 8,
     /// There is more to write than room. What the room has then is not promised.
-    SmallRoom,
+    SmallRoom = 9,
 }
 
 impl Refusal {
@@ -35,18 +35,26 @@ impl Refusal {
     pub(crate) fn number(self) -> u32
         ensures { result ≡ spec.refusal_number self }
     {
-        match self {
-            Refusal::NotUtf8 => 1,
-            Refusal::TooLong => 2,
-            Refusal::BadPlace => 3,
-            Refusal::NotRaw => 4,
-            Refusal::BadEdition => 5,
-            Refusal::BadEdit => 6,
-            Refusal::BadMode => 7,
-            Refusal::BadStyle => 8,
-            Refusal::SmallRoom => 9,
-        }
+        self as u32
     }
+}
+
+/// Writes an answer, and answers that the call was done.
+pub(crate) fn done<T: Copy>(answer: T, written: &mut T) -> u32
+    ensures status { result ≡ 0 }
+    ensures written { written.new ≡ answer }
+{
+    *written = answer;
+    OK
+}
+
+/// Writes what stands for no answer, and answers why the call is refused.
+pub(crate) fn refuse<T: Copy>(refusal: Refusal, none: T, written: &mut T) -> u32
+    ensures status { result ≡ spec.refusal_number refusal }
+    ensures written { written.new ≡ none }
+{
+    *written = none;
+    refusal.number()
 }
 
 /// The bytes as a text that can be lexed.

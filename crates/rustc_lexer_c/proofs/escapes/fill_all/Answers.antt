@@ -1,5 +1,5 @@
 use Rattle.std.proofs.Common.{length, drop, sym, ◌∙◌, arith, Some}
-use Rattle.std.proofs.lemmas.List.{length-set, map-id}
+use Rattle.std.proofs.lemmas.List.{length-set}
 use Rattle.rustc_lexer_c.proofs.EscapeLemmas.{none_left, passed_step, units_done}
 use Rattle.rustc_lexer_c.proofs.RoomLemmas.{all_taken, back_step, count_first, count_second, few_step, front_step}
 use Rattle.rustc_lexer_c.proofs.escapes.fill_all.Goals as goal
@@ -21,7 +21,7 @@ room-preserved g c =
       left = passed_step all (g.U.Units.units c.room.units) (g.U.Units.units c.next_unit-in-room.new.self) c.room.count (Some _) inv.left c.in-Some.ensures;
       few = few_step all (g.U.Units.units c.next_unit-in-room.new.self) c.room.count _ next;
       within = (let same = length-set c.room.room c.room.count c.in-Some.unit in omega arith);
-      front = front_step all (g.U.Units.units c.next_unit-in-room.new.self) c.room.count _ next (λ unit. unit) c.room.room fits (inv.front ∙ sym (map-id _)) ∙ map-id _;
+      front = front_step all (g.U.Units.units c.next_unit-in-room.new.self) c.room.count _ next c.room.room fits inv.front;
       back = back_step c.room.room c.args.room.now c.room.count c.in-Some.unit inv.back;
     }
 

@@ -6,13 +6,13 @@ use Rattle.rustc_lexer.specs.Answers.{first_in}
 use Rattle.rustc_lexer.specs.Tokens.{tokens_by}
 use Rattle.rustc_lexer_c.specs.declared.token.CToken.{CToken}
 use Rattle.rustc_lexer_c.specs.Numbers.{token_numbers}
-use Rattle.rustc_lexer_c.proofs.RelexLemmas.{edition_same, batch_is}
+use Rattle.rustc_lexer_c.proofs.RelexLemmas.{batch_is}
 use Rattle.rustc_lexer_c.proofs.relex.relex.Goals as goal
 
 pub returns-clause-batch : goal.returns-clause-batch
 returns-clause-batch c = λ ok year is.
     let f = c.fill.ensures in
-    let same = edition_same c.in-Some.edition year _ _ c.in-Some.is c.edition_of.ensures is in
+    let same : c.in-Some.edition ≡ year = cc in
     let some = c.in-Some-standing.ensures.some in
     let begin = c.in-Some-standing.at in
     let change = c.change_of-change.ensures in
