@@ -1,6 +1,5 @@
 -- Where the name in a path begins, by where the path was split at its last slash.
-use Rattle.std.proofs.Common.{◌≡◌, ◌≢◌, ℕ, ◌+◌, ◌-◌, ◌<◌, ◌≤◌, not, eqb, List, [], ◌∷◌, ◌++◌, length, get_or, take, drop, codes, None, Result, Ok, Err, IfOk, String, string_bytes, sym, ap, ◌∙◌, arith, append_assoc, eq-eqb, ne_eqb, get_or-drop, length-drop}
-use Rattle.std.specs.Global.{Global}
+use Rattle.std.proofs.Common.{◌≡◌, ◌≢◌, ℕ, ◌+◌, ◌-◌, ◌<◌, ◌≤◌, not, eqb, List, [], ◌∷◌, ◌++◌, length, get_or, take, drop, codes, None, sym, ap, ◌∙◌, arith, append_assoc, eq-eqb, ne_eqb, get_or-drop, length-drop}
 use Rattle.std.specs.List.{suffix_len}
 use Rattle.std.specs.Path.{slash}
 use Rattle.std.specs.Str.Pattern.{RFindsChar, SplitsAroundMatch}
@@ -8,7 +7,6 @@ use Rattle.std.proofs.lemmas.List.{take_more}
 use Rattle.std.proofs.lemmas.List.Sums.{suffix_len_is}
 use Rattle.std.proofs.lemmas.Str.{len_utf8_ascii}
 use Rattle.std.proofs.lemmas.Str.Pattern.{NoCharPasses-char}
-use Rattle.std.specs.declared.alloc.AllocError.{AllocError}
 use Rattle.tidy_run.specs.Files.{name_start}
 
 -- the name begins behind this many bytes: no slash stands there, and one stands right before
@@ -45,8 +43,3 @@ pub beside-whole : (path tail : List ℕ) → RFindsChar slash path None
 beside-whole path tail none =
     ap (λ n. take n path ++ (codes "." ++ (drop n path ++ tail)))
     (name-start-is path 0 (omega arith) (λ k at in'. NoCharPasses-char slash path k none (omega arith) in') (λ some. absurd (omega arith)))
-
--- what was written is what is wanted
-pub beside-ok : (result : Result (String Global) AllocError) (written wanted : List ℕ) → IfOk result (λ text. string_bytes text ≡ written) → written ≡ wanted → IfOk result (λ text. string_bytes text ≡ wanted)
-beside-ok (Ok text) written wanted is same = is ∙ same
-beside-ok (Err error) written wanted is same = tt

@@ -22,26 +22,27 @@ use Rattle.rustc_lexer.specs.laws.LanguageRuns.{among, chooses-space, run_len-he
 use Rattle.rustc_lexer.specs.laws.Reach.{run_len-out}
 use Rattle.rustc_lexer.specs.laws.LanguageIn.{on_page, of_page}
 use Rattle.rustc_lexer.specs.laws.State.{edition-after}
-use Rattle.tidy_run.specs.Order.{in_order, is_space, is_open, space_in_order, text_in_order, closing, part_in_order, code_in_order, parts, end_parts, parts_in_order}
-use Rattle.tidy_run.proofs.NearLemmas.{Near, ends, space, closes, near-begins, near-refl, near-space, near-none, EndsToo, is_solid_kind, token-near}
+use Rattle.tidy_run.specs.Order.{in_order, is_dropped_before, is_last, is_space, is_front, is_open, space_in_order, text_in_order, closing, part_in_order, code_in_order, parts, end_parts, parts_in_order}
+use Rattle.tidy_run.proofs.NearLemmas.{Near, ends, space, closes, near-begins, near-refl, near-space, near-none, EndsToo, is_end, is_solid_kind, token-near}
 use Rattle.tidy_run.proofs.TurnedLemmas.{Turned, turned}
-use Rattle.tidy_run.proofs.OrderLemmas.{HasFirst, order-all, order-first, order-near, order-ends, order-again, order-bytes, order-size}
+use Rattle.tidy_run.proofs.OrderLemmas.{HasFirst, without-all, without-again, without-size, order-first, order-near, order-ends, order-bytes}
 
 -- ---- a token and what follows it
 
+-- characters in a row, cut where they meet
+pub cut-at : {A : Type 0} (make : List ℕ → List ℕ → A) (u next : List ℕ) → make (take (bytes u) (encode_utf8_all (u ++ next))) (drop (bytes u) (encode_utf8_all (u ++ next))) ≡ make (encode_utf8_all u) (encode_utf8_all next)
+cut-at make u next =
+    ap (λ (text : List ℕ). make (take (bytes u) text) (drop (bytes u) text)) (encodes-append u next)
+    ∙ (ap (λ (xs : List ℕ). make xs (drop (bytes u) (encode_utf8_all u ++ encode_utf8_all next))) (take-append_seam (encode_utf8_all u) (encode_utf8_all next))
+    ∙ ap (make (encode_utf8_all u)) (drop-append_seam (encode_utf8_all u) (encode_utf8_all next)))
+
 pub code-cons : (u next : List ℕ) (kind : TokenKind) (tokens : List Token)
-    → code_in_order (encode_utf8_all (u ++ next)) (record { kind = kind; len = bytes u } ∷ tokens) ≡ part_in_order kind (encode_utf8_all u) tokens ++ code_in_order (encode_utf8_all next) tokens
-code-cons u next kind tokens =
-    ap (λ (text : List ℕ). part_in_order kind (take (bytes u) text) tokens ++ code_in_order (drop (bytes u) text) tokens) (encodes-append u next)
-    ∙ (ap (λ (xs : List ℕ). part_in_order kind xs tokens ++ code_in_order (drop (bytes u) (encode_utf8_all u ++ encode_utf8_all next)) tokens) (take-append_seam (encode_utf8_all u) (encode_utf8_all next))
-    ∙ ap (λ (xs : List ℕ). part_in_order kind (encode_utf8_all u) tokens ++ code_in_order xs tokens) (drop-append_seam (encode_utf8_all u) (encode_utf8_all next)))
+    → code_in_order (encode_utf8_all (u ++ next)) (record { kind = kind; len = bytes u } ∷ tokens) ≡ part_in_order kind (encode_utf8_all u) (is_last tokens) ++ code_in_order (encode_utf8_all next) tokens
+code-cons u next kind tokens = cut-at (λ own rest. part_in_order kind own (is_last tokens) ++ code_in_order rest tokens) u next
 
 pub parts-cons : (u next : List ℕ) (kind : TokenKind) (tokens : List Token)
     → parts (encode_utf8_all (u ++ next)) (record { kind = kind; len = bytes u } ∷ tokens) ≡ (kind, if is_space kind then [] else encode_utf8_all u) ∷ parts (encode_utf8_all next) tokens
-parts-cons u next kind tokens =
-    ap (λ (text : List ℕ). let p : TokenKind × List ℕ = (kind, if is_space kind then [] else take (bytes u) text) in p ∷ parts (drop (bytes u) text) tokens) (encodes-append u next)
-    ∙ (ap (λ (xs : List ℕ). let p : TokenKind × List ℕ = (kind, if is_space kind then [] else xs) in p ∷ parts (drop (bytes u) (encode_utf8_all u ++ encode_utf8_all next)) tokens) (take-append_seam (encode_utf8_all u) (encode_utf8_all next))
-    ∙ ap (λ (xs : List ℕ). let p : TokenKind × List ℕ = (kind, if is_space kind then [] else encode_utf8_all u) in p ∷ parts xs tokens) (drop-append_seam (encode_utf8_all u) (encode_utf8_all next)))
+parts-cons u next kind tokens = cut-at (λ own rest. let p : TokenKind × List ℕ = (kind, if is_space kind then [] else own) in p ∷ parts rest tokens) u next
 
 -- only a text with no characters has no tokens
 pub none-left : {mode : Mode} {cs : List ℕ} {tokens : List Token} → AreTokens mode cs tokens → length tokens ≡ 0 → cs ≡ []
@@ -54,11 +55,6 @@ pub part-none : {mode : Mode} {cs : List ℕ} {tokens : List Token} → mode ≡
 part-none is_part (nothing) e = refl
 part-none is_part (something {c} {w} {next} p free rest) e = absurd (let n : suc (length (w ++ next)) ≡ 0 = ap length e in omega arith)
 part-none is_part (frontmatter_first body is_opening is_end rest) e = absurd (cc)
-
--- whether no tokens are left
-abbrev pub is_last : List Token → Bool
-is_last [] = true
-is_last (t ∷ ts) = false
 
 -- ---- where a frontmatter opens
 
@@ -119,18 +115,14 @@ pub record Spaces (u : List ℕ) (tokens : List Token) (s t : List ℕ) : Type 0
   pub rest : List ℕ
   pub all : AreAll is_whitespace (first ∷ rest)
   pub near : Near (u ++ s) (first ∷ rest ++ t)
-  pub is : space_in_order (encode_utf8_all u) tokens ≡ encode_utf8_all (first ∷ rest)
-  pub again : (outs : List Token) → is_last tokens ≡ is_last outs → space_in_order (encode_utf8_all (first ∷ rest)) outs ≡ encode_utf8_all (first ∷ rest)
+  pub is : space_in_order (encode_utf8_all u) (is_last tokens) ≡ encode_utf8_all (first ∷ rest)
+  pub again : space_in_order (encode_utf8_all (first ∷ rest)) (is_last tokens) ≡ encode_utf8_all (first ∷ rest)
   pub closed : opens (u ++ s) ≡ false → opens (first ∷ rest ++ t) ≡ false
   pub size : bytes (first ∷ rest) ≤ bytes u
 
 newline-one : encode_utf8_all (10 ∷ []) ≡ codes "\n"
 unfolding encode_utf8
 newline-one = refl
-
-newline-again : (outs : List Token) → true ≡ is_last outs → space_in_order (encode_utf8_all (10 ∷ [])) outs ≡ encode_utf8_all (10 ∷ [])
-newline-again [] e = sym newline-one
-newline-again (t ∷ ts) e = absurd (true≢false e)
 
 newline-size : (c : ℕ) (w : List ℕ) → bytes (10 ∷ []) ≤ bytes (c ∷ w)
 newline-size c w = let le = length-le-encodes (c ∷ w) in let one = ap length newline-one in omega arith
@@ -142,7 +134,7 @@ spaces c w [] {s} {t} all stop near too none = record {
   all = refl;
   near = space (and_parts (is_whitespace c) _ all).0 refl (λ e. (refl, λ f. ap (begins (codes "'")) (too (none refl))));
   is = sym newline-one;
-  again = newline-again;
+  again = sym newline-one;
   closed = λ e. ap (λ (xs : List ℕ). opens (10 ∷ xs)) (too (none refl));
   size = newline-size c w;
 }
@@ -158,20 +150,16 @@ spaces c w (token ∷ tokens) {s} {t} all stop near too none = by_first (order-f
       all = all_space;
       near = subst (λ (xs : List ℕ). Near (c ∷ w ++ s) (xs ++ t)) has.whole (order-near c w all near);
       is = order-bytes u all ∙ ap encode_utf8_all has.whole;
-      again = twice;
+      again = order-bytes (has.first ∷ has.rest) all_space ∙ ap encode_utf8_all (ap in_order (sym has.whole) ∙ (without-again is_dropped_before u ∙ has.whole));
       closed = λ e. opens-space (has.first ∷ has.rest) t all_space stop_t ∙ (ap (λ (b : Bool). b && not (ends_line (has.first ∷ has.rest))) (sym (near-begins (dashes 3) refl near)) ∙ (ap (λ (b : Bool). begins (dashes 3) s && not b) (sym (ap ends_line has.whole) ∙ order-ends u) ∙ (sym (opens-space u s all stop) ∙ e)));
-      size = subst (λ (xs : List ℕ). bytes xs ≤ bytes u) has.whole (order-size u);
+      size = subst (λ (xs : List ℕ). bytes xs ≤ bytes u) has.whole (without-size is_dropped_before u);
     }
       where
         all_space : AreAll is_whitespace (has.first ∷ has.rest)
-        all_space = subst (AreAll is_whitespace) has.whole (order-all u all)
+        all_space = subst (AreAll is_whitespace) has.whole (without-all is_dropped_before is_whitespace u all)
 
         stop_t : NextIsNot is_whitespace t
         stop_t = sym (near-space near too) ∙ stop
-
-        twice : (outs : List Token) → false ≡ is_last outs → space_in_order (encode_utf8_all (has.first ∷ has.rest)) outs ≡ encode_utf8_all (has.first ∷ has.rest)
-        twice [] e = absurd (true≢false (sym e))
-        twice (o ∷ os) e = order-bytes (has.first ∷ has.rest) all_space ∙ ap encode_utf8_all (ap in_order (sym has.whole) ∙ (order-again u ∙ has.whole))
 
 -- behind white space nothing comes
 space-ends : (ps : List (TokenKind × List ℕ)) → end_parts Whitespace ps ≡ []
@@ -184,7 +172,7 @@ space-closed ps = ap (λ (es : List (TokenKind × List ℕ)). let p : TokenKind 
 -- a token of white space more
 -- how an order treats a token, and by which it goes on
 abbrev pub Puts : Order → Order → TokenKind → List ℕ → Type 0
-Puts order more kind u = (left : List ℕ) (ts : List Token) → order (encode_utf8_all (u ++ left)) (record { kind = kind; len = bytes u } ∷ ts) ≡ part_in_order kind (encode_utf8_all u) ts ++ more (encode_utf8_all left) ts
+Puts order more kind u = (left : List ℕ) (ts : List Token) → order (encode_utf8_all (u ++ left)) (record { kind = kind; len = bytes u } ∷ ts) ≡ part_in_order kind (encode_utf8_all u) (is_last ts) ++ more (encode_utf8_all left) ts
 
 pub space-step : (order left : Order) (mode : Mode) (c : ℕ) (w next : List ℕ) (tokens : List Token) → mode_edition mode ≡ E2024 → ((u : List ℕ) → Puts order left Whitespace u) → AreAll is_whitespace (c ∷ w) → NextIsNot is_whitespace next → (IsDocument mode → OpensNone (c ∷ w ++ next)) → (length tokens ≡ 0 → next ≡ [])
     → Tidies left (mode_after mode Whitespace) next tokens → Tidies order mode (c ∷ w ++ next) (record { kind = Whitespace; len = bytes (c ∷ w) } ∷ tokens)
@@ -200,7 +188,7 @@ space-step order left mode c w next tokens newest puts all stop free none more =
       same = ap parts_in_order (parts-cons (sp.first ∷ sp.rest) more.out Whitespace more.outs)
           ∙ (space-closed (parts (encode_utf8_all more.out) more.outs) ∙ (ap (λ (ps : List (TokenKind × List ℕ)). let p : TokenKind × List ℕ = (Whitespace, []) in p ∷ ps) more.same
           ∙ (sym (space-closed (parts (encode_utf8_all next) tokens)) ∙ sym (ap parts_in_order (parts-cons (c ∷ w) next Whitespace tokens)))));
-      again = puts (sp.first ∷ sp.rest) more.out more.outs ∙ (ap (λ (xs : List ℕ). xs ++ left (encode_utf8_all more.out) more.outs) (sp.again more.outs more.last) ∙ (ap (λ (xs : List ℕ). encode_utf8_all (sp.first ∷ sp.rest) ++ xs) more.again ∙ sym (encodes-append (sp.first ∷ sp.rest) more.out)));
+      again = puts (sp.first ∷ sp.rest) more.out more.outs ∙ (ap (λ (xs : List ℕ). xs ++ left (encode_utf8_all more.out) more.outs) (ap (space_in_order (encode_utf8_all (sp.first ∷ sp.rest))) (sym more.last) ∙ sp.again) ∙ (ap (λ (xs : List ℕ). encode_utf8_all (sp.first ∷ sp.rest) ++ xs) more.again ∙ sym (encodes-append (sp.first ∷ sp.rest) more.out)));
       last = refl;
       size = let a = sp.size in let b = more.size in let e = ap length (encodes-append (sp.first ∷ sp.rest) more.out) in let f = ap length (encodes-append (c ∷ w) next) in let g = length-append (encode_utf8_all (sp.first ∷ sp.rest)) (encode_utf8_all more.out) in let h = length-append (encode_utf8_all (c ∷ w)) (encode_utf8_all next) in omega arith;
       good = λ e. scalars-join (sp.first ∷ sp.rest) more.out (space-scalars (sp.first ∷ sp.rest) sp.all) (more.good (scalars-parts (c ∷ w) next e).1);
@@ -216,32 +204,25 @@ pub record Behind (kind : TokenKind) (mode : Mode) (next : List ℕ) (tokens : L
   pub near : Near next out
   pub too : is_open kind ≡ true → EndsToo next out
   pub shut : is_open kind ≡ false → length out ≡ 0 → ⊥
-  pub is : closing kind tokens ++ code_in_order (encode_utf8_all next) tokens ≡ encode_utf8_all out
+  pub is : closing kind (is_last tokens) ++ code_in_order (encode_utf8_all next) tokens ≡ encode_utf8_all out
   pub same : end_parts kind (parts (encode_utf8_all out) outs) ++ parts_in_order (parts (encode_utf8_all out) outs) ≡ end_parts kind (parts (encode_utf8_all next) tokens) ++ parts_in_order (parts (encode_utf8_all next) tokens)
-  pub again : closing kind outs ++ code_in_order (encode_utf8_all out) outs ≡ encode_utf8_all out
+  pub again : closing kind (is_last outs) ++ code_in_order (encode_utf8_all out) outs ≡ encode_utf8_all out
   pub size : bytes out ≤ bytes next + 1
   pub good : scalars next ≡ true → scalars out ≡ true
 
-newline-token : Token
+abbrev newline-token : Token
 newline-token = record { kind = Whitespace; len = bytes (10 ∷ []) }
 
 newline-are : (mode : Mode) → mode_edition mode ≡ E2024 → AreTokens mode (10 ∷ []) (newline-token ∷ [])
-unfolding newline-token
 newline-are mode newest = something {w = []} {next = []} (of_page newest (the.whitespace refl refl)) (λ y. opens-none (10 ∷ []) refl) nothing
 
 newline-parts : parts_in_order (parts (encode_utf8_all (10 ∷ [])) (newline-token ∷ [])) ≡ (Whitespace, []) ∷ []
-unfolding newline-token
 newline-parts = refl
 
 newline-code : code_in_order (encode_utf8_all (10 ∷ [])) (newline-token ∷ []) ≡ encode_utf8_all (10 ∷ [])
-unfolding newline-token
 newline-code = sym newline-one
 
 -- before a token nothing closes
-open-before : (kind : TokenKind) (outs : List Token) → false ≡ is_last outs → closing kind outs ≡ []
-open-before kind [] e = absurd (true≢false (sym e))
-open-before kind (o ∷ os) e = refl
-
 parts-before : (kind : TokenKind) (text : List ℕ) (outs : List Token) → false ≡ is_last outs → end_parts kind (parts text outs) ≡ []
 parts-before kind text [] e = absurd (true≢false (sym e))
 parts-before kind text (o ∷ os) e = refl
@@ -256,7 +237,7 @@ behind kind mode next (t ∷ ts) solid newest none some more = record {
   shut = λ o e. omega (arith, some (near-none more.near e));
   is = more.is;
   same = ap (λ (es : List (TokenKind × List ℕ)). es ++ parts_in_order (parts (encode_utf8_all more.out) more.outs)) (parts-before kind (encode_utf8_all more.out) more.outs more.last) ∙ more.same;
-  again = ap (λ (es : List ℕ). es ++ code_in_order (encode_utf8_all more.out) more.outs) (open-before kind more.outs more.last) ∙ more.again;
+  again = ap (λ (es : List ℕ). es ++ code_in_order (encode_utf8_all more.out) more.outs) (ap (closing kind) (sym more.last)) ∙ more.again;
   size = more.size;
   good = more.good;
 }
@@ -316,9 +297,9 @@ solid-step order mode kind c w next tokens newest puts solid p free more turned 
     first = no-space p solid
 
     own : (u : List ℕ) → text_in_order kind (encode_utf8_all (c ∷ u)) ≡ encode_utf8_all (c ∷ v) → (rest : List ℕ) (ts : List Token)
-        → order (encode_utf8_all (c ∷ u ++ rest)) (record { kind = kind; len = bytes (c ∷ u) } ∷ ts) ≡ encode_utf8_all (c ∷ v) ++ (closing kind ts ++ code_in_order (encode_utf8_all rest) ts)
-    own u e rest ts = puts (c ∷ u) rest ts ∙ (ap (λ (b : Bool). (if b then space_in_order (encode_utf8_all (c ∷ u)) ts else text_in_order kind (encode_utf8_all (c ∷ u)) ++ closing kind ts) ++ code_in_order (encode_utf8_all rest) ts) solid
-        ∙ (ap (λ (xs : List ℕ). (xs ++ closing kind ts) ++ code_in_order (encode_utf8_all rest) ts) e ∙ append_assoc (encode_utf8_all (c ∷ v)) (closing kind ts) (code_in_order (encode_utf8_all rest) ts)))
+        → order (encode_utf8_all (c ∷ u ++ rest)) (record { kind = kind; len = bytes (c ∷ u) } ∷ ts) ≡ encode_utf8_all (c ∷ v) ++ (closing kind (is_last ts) ++ code_in_order (encode_utf8_all rest) ts)
+    own u e rest ts = puts (c ∷ u) rest ts ∙ (ap (λ (b : Bool). (if b then space_in_order (encode_utf8_all (c ∷ u)) (is_last ts) else text_in_order kind (encode_utf8_all (c ∷ u)) ++ closing kind (is_last ts)) ++ code_in_order (encode_utf8_all rest) ts) solid
+        ∙ (ap (λ (xs : List ℕ). (xs ++ closing kind (is_last ts)) ++ code_in_order (encode_utf8_all rest) ts) e ∙ append_assoc (encode_utf8_all (c ∷ v)) (closing kind (is_last ts)) (code_in_order (encode_utf8_all rest) ts)))
 
     front : (text : List ℕ) → text_in_order kind text ≡ encode_utf8_all (c ∷ v) → (ps : List (TokenKind × List ℕ))
         → parts_in_order ((kind, if is_space kind then [] else text) ∷ ps) ≡ (kind, encode_utf8_all (c ∷ v)) ∷ (end_parts kind ps ++ parts_in_order ps)
@@ -332,11 +313,11 @@ solid-token order mode kind c w next tokens newest puts solid p free more = elim
   | inr stays ↦ solid-step order mode kind c w next tokens newest puts solid p free more (turned more.near more.shut (stays.token (omega arith)))
 ]
 
-pub solid-kind : (kind : TokenKind) → is_solid_kind kind ≡ true → is_space kind ≡ false
-solid-kind kind e = not-true (is_space kind) (and_parts (not (is_space kind)) _ e).0
-
-pub after-newest : (mode : Mode) (kind : TokenKind) → mode_edition mode ≡ E2024 → mode_edition (mode_after mode kind) ≡ E2024
-after-newest mode kind e = edition-after mode kind ∙ e
+pub solid-no : (kind : TokenKind) → is_solid_kind kind ≡ true → (is_space kind ≡ false) × (is_front kind ≡ false) × (is_end kind ≡ false)
+solid-no kind e =
+    let both = and_parts (not (is_space kind)) (not (is_front kind) && not (is_end kind)) e in
+    let more = and_parts (not (is_front kind)) (not (is_end kind)) both.1 in
+    (not-true (is_space kind) both.0, not-true (is_front kind) more.0, not-true (is_end kind) more.1)
 
 -- in a part
 pub code-tidies : {mode : Mode} {cs : List ℕ} {tokens : List Token} → mode ≡ part E2024 → AreTokens mode cs tokens → Tidies code_in_order mode cs tokens
@@ -354,6 +335,6 @@ code-tidies is_part (something {mode} {kind} {c} {w} {next} {tokens} is free res
     by_token more = elim (token-near (near-refl next) (λ o e. e) p) [
       | inl run ↦ subst (λ (k : TokenKind). Tidies code_in_order mode (c ∷ w ++ next) (record { kind = k; len = bytes (c ∷ w) } ∷ tokens)) (sym run.kind_is) (space-step code_in_order code_in_order mode c w next tokens newest (λ u left ts. code-cons u left Whitespace ts) run.all run.stop free (none-left rest)
           (subst (λ (k : TokenKind). Tidies code_in_order (mode_after mode k) next tokens) run.kind_is more))
-      | inr here ↦ (let solid = solid-kind kind (here.is_solid (omega arith)) in
-          solid-token code_in_order mode kind c w next tokens newest (λ u left ts. code-cons u left kind ts) solid p free (behind kind (mode_after mode kind) next tokens solid (after-newest mode kind newest) (none-left rest) (part-none (ap (λ (m : Mode). mode_after m kind) is_part) rest) more))
+      | inr here ↦ (let solid = (solid-no kind (here.is_solid (omega arith))).0 in
+          solid-token code_in_order mode kind c w next tokens newest (λ u left ts. code-cons u left kind ts) solid p free (behind kind (mode_after mode kind) next tokens solid (edition-after mode kind ∙ newest) (none-left rest) (part-none (ap (λ (m : Mode). mode_after m kind) is_part) rest) more))
     ]

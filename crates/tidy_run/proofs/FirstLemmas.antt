@@ -10,8 +10,8 @@ use Rattle.rustc_lexer.specs.means.Taking.{token_at}
 use Rattle.rustc_lexer.specs.Classes.{IsText}
 use Rattle.rustc_lexer.specs.Tokens.{tokens_of, tokens_left, TakesToken}
 use Rattle.rustc_lexer.specs.laws.Tokens.{CutsOff, token_at-cuts, tokens-cons, tokens-nil}
-use Rattle.tidy_run.specs.Order.{is_front, is_space, space_in_order, text_in_order, closing, code_in_order, front_in_order, source_in_order, source_tidied}
-use Rattle.tidy_run.proofs.LoopLemmas.{put, put-is, end-is}
+use Rattle.tidy_run.specs.Order.{is_front, is_last, is_space, space_in_order, text_in_order, closing, part_in_order, code_in_order, front_in_order, source_in_order, source_tidied}
+use Rattle.tidy_run.proofs.LoopLemmas.{end-is}
 use Rattle.tidy_run.proofs.SourceLemmas.{code-size}
 
 abbrev first_or : Token → List Token → Token
@@ -68,20 +68,20 @@ module _ (text : List ℕ) (front : Token) (first : First text front) (at : is_f
 
 -- with white space first, or none
 pub space-first : (text : List ℕ) (token : Token) (before mid own rest : List ℕ) → First text token → is_space token.kind ≡ true → own ≡ take (token.len - 0) text → rest ≡ drop token.len text
-    → mid ≡ before ++ put token.kind (token.len == length text) own → mid ++ front_in_order rest (tokens_of (document E2024) rest) ≡ before ++ source_tidied text
+    → mid ≡ before ++ part_in_order token.kind own (token.len == length text) → mid ++ front_in_order rest (tokens_of (document E2024) rest) ≡ before ++ source_tidied text
 space-first text token before mid own rest first at is cut made =
     ap (λ (xs : List ℕ). xs ++ front_in_order rest (tokens_of (document E2024) rest)) (made ∙ ap (λ (xs : List ℕ). before ++ xs) written)
-    ∙ (append_assoc before (space_in_order (take token.len text) (tokens_of (document E2024) rest)) (front_in_order rest (tokens_of (document E2024) rest))
-    ∙ ap (λ (xs : List ℕ). before ++ xs) (ap (λ (xs : List ℕ). space_in_order (take token.len text) (tokens_of (document E2024) xs) ++ front_in_order xs (tokens_of (document E2024) xs)) cut ∙ sym order))
+    ∙ (append_assoc before (space_in_order (take token.len text) (is_last (tokens_of (document E2024) rest))) (front_in_order rest (tokens_of (document E2024) rest))
+    ∙ ap (λ (xs : List ℕ). before ++ xs) (ap (λ (xs : List ℕ). space_in_order (take token.len text) (is_last (tokens_of (document E2024) xs)) ++ front_in_order xs (tokens_of (document E2024) xs)) cut ∙ sym order))
   where
-    order : source_tidied text ≡ space_in_order (take token.len text) (tokens_of (document E2024) (drop token.len text)) ++ front_in_order (drop token.len text) (tokens_of (document E2024) (drop token.len text))
+    order : source_tidied text ≡ space_in_order (take token.len text) (is_last (tokens_of (document E2024) (drop token.len text))) ++ front_in_order (drop token.len text) (tokens_of (document E2024) (drop token.len text))
     order =
         ap (source_in_order text) first.tokens
-        ∙ (ap (λ (b : Bool). let ts : List Token = tokens_of (mode_after (document E2024) token.kind) (drop token.len text) in if b then space_in_order (take token.len text) ts ++ front_in_order (drop token.len text) ts else front_in_order text (token ∷ ts)) at
-        ∙ ap (λ (a : Mode). let ts : List Token = tokens_of a (drop token.len text) in space_in_order (take token.len text) ts ++ front_in_order (drop token.len text) ts) (space-yes token.kind at))
+        ∙ (ap (λ (b : Bool). let ts : List Token = tokens_of (mode_after (document E2024) token.kind) (drop token.len text) in if b then space_in_order (take token.len text) (is_last ts) ++ front_in_order (drop token.len text) ts else front_in_order text (token ∷ ts)) at
+        ∙ ap (λ (a : Mode). let ts : List Token = tokens_of a (drop token.len text) in space_in_order (take token.len text) (is_last ts) ++ front_in_order (drop token.len text) ts) (space-yes token.kind at))
 
-    written : put token.kind (token.len == length text) own ≡ space_in_order (take token.len text) (tokens_of (document E2024) rest)
+    written : part_in_order token.kind own (token.len == length text) ≡ space_in_order (take token.len text) (is_last (tokens_of (document E2024) rest))
     written =
-        ap (put token.kind (token.len == length text)) (whole-take token.len text own is)
-        ∙ (ap (λ (b : Bool). put token.kind b (take token.len text)) (end-is text rest token.len first.inside (sym cut))
-        ∙ (put-is (document E2024) rest token.kind (take token.len text) ∙ ap (λ (b : Bool). if b then space_in_order (take token.len text) (tokens_of (document E2024) rest) else text_in_order token.kind (take token.len text) ++ closing token.kind (tokens_of (document E2024) rest)) at))
+        ap (λ (xs : List ℕ). part_in_order token.kind xs (token.len == length text)) (whole-take token.len text own is)
+        ∙ (ap (part_in_order token.kind (take token.len text)) (end-is (document E2024) text rest token.len first.inside (sym cut))
+        ∙ ap (λ (b : Bool). let last : Bool = is_last (tokens_of (document E2024) rest) in if b then space_in_order (take token.len text) last else text_in_order token.kind (take token.len text) ++ closing token.kind last) at)

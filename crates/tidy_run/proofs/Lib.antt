@@ -7,7 +7,6 @@ pub mod TurnedLemmas
 pub mod ReturnLemmas
 pub mod CodeLemmas
 pub mod LineLemmas
-pub mod CallLemmas
 pub mod LoopLemmas
 pub mod FirstLemmas
 pub mod DocumentLemmas

@@ -1,13 +1,15 @@
 -- White space in order, line by line.
-use Rattle.std.proofs.Common.{◌≡◌, ◌≢◌, ℕ, zero, suc, ◌+◌, ◌-◌, ◌<◌, ◌≤◌, ◌==◌, ◌&&◌, ◌||◌, inl, inr, Bool, true, false, true≢false, if◌then◌else◌, List, [], ◌∷◌, ◌++◌, length, get_or, take, drop, codes, refl, sym, ap, ◌∙◌, subst, arith, drop-drop, length-drop, append_assoc, Some, None}
+use Rattle.std.proofs.Common.{◌≡◌, ◌≢◌, ℕ, zero, suc, ◌+◌, ◌-◌, ◌<◌, ◌≤◌, ◌==◌, ◌&&◌, ◌||◌, inl, inr, Bool, true, false, true≢false, if◌then◌else◌, List, [], ◌∷◌, ◌++◌, length, get_or, take, drop, codes, refl, sym, ap, ◌∙◌, subst, arith, drop-drop, length-drop, append_assoc, Option, Some, None, OnOk, Result, Ok, Err}
 use Rattle.std.proofs.lemmas.Bool.{and_parts, cases_Bool, eqb-true, ne_eqb}
 use Rattle.std.proofs.lemmas.List.{get_or-drop}
 use Rattle.std.proofs.lemmas.Str.{lead_after_ascii}
 use Rattle.std.specs.Char.{encode_utf8}
+use Rattle.std.specs.Option.{MatchOption}
+use Rattle.std.specs.Result.{is_ok}
 use Rattle.std.specs.Str.{IsUtf8}
 use Rattle.memchr.specs.Find.{IsFirstByte, is_byte}
 use Rattle.rustc_lexer.specs.Classes.{begins}
-use Rattle.tidy_run.specs.Order.{is_blank, is_dropped_before, in_order, IsSolidEnd}
+use Rattle.tidy_run.specs.Order.{is_blank, is_dropped_before, in_order, HasNoNewline, IsNewline, IsRunBefore}
 use Rattle.tidy_run.proofs.OrderLemmas.{judge, two-one, dropped-two}
 use Rattle.tidy_run.proofs.UnixLemmas.{newline-byte}
 
@@ -51,13 +53,13 @@ kept : (c : ℕ) (cs : List ℕ) → is_dropped_before (in_order cs) c ≡ false
 kept c cs e = rw e refl
 
 newline-first : (s : List ℕ) → begins (codes "\n") (in_order (10 ∷ s)) ≡ true
-newline-first s = elim (judge 10 s) [
+newline-first s = elim (judge is_dropped_before 10 s) [
   | inl d ↦ ap (begins (codes "\n")) d.1 ∙ two-one (in_order s) (dropped-two 10 (in_order s) d.0 refl)
   | inr k ↦ ap (begins (codes "\n")) k.1
 ]
 
 newlines-first : (s : List ℕ) → begins (codes "\n\n") (in_order (10 ∷ 10 ∷ s)) ≡ true
-newlines-first s = elim (judge 10 (10 ∷ s)) [
+newlines-first s = elim (judge is_dropped_before 10 (10 ∷ s)) [
   | inl d ↦ ap (begins (codes "\n\n")) d.1 ∙ dropped-two 10 (in_order (10 ∷ s)) d.0 refl
   | inr k ↦ ap (begins (codes "\n\n")) k.1 ∙ newline-first s
 ]
@@ -78,7 +80,7 @@ one-newline (suc zero) s lt = second-is (in_order (10 ∷ 10 ∷ s)) (newlines-f
 one-newline (suc (suc k)) s lt = absurd (omega arith)
 
 pub third-drops : (s : List ℕ) → tail 2 (10 ∷ s) ≡ tail 2 s
-third-drops s = elim (judge 10 (10 ∷ 10 ∷ s)) [
+third-drops s = elim (judge is_dropped_before 10 (10 ∷ 10 ∷ s)) [
   | inl d ↦ ap (drop 2) d.1
   | inr k ↦ absurd (true≢false (sym (newlines-first s) ∙ bad (in_order (10 ∷ 10 ∷ s)) k.0))
 ]
@@ -119,7 +121,7 @@ tail-solid (suc (suc zero)) s le e =
 tail-solid (suc (suc (suc k))) s le e = absurd (omega arith)
 
 -- a text with no newline stays
-plain-stays : (s : List ℕ) → ((k : ℕ) → k < length s → get_or s k 0 ≢ 10) → in_order s ≡ s
+plain-stays : (s : List ℕ) → HasNoNewline s → in_order s ≡ s
 plain-stays [] none = refl
 plain-stays (c ∷ []) none = kept c [] (stays-before c [] refl)
 plain-stays (c ∷ d ∷ s) none =
@@ -128,41 +130,38 @@ plain-stays (c ∷ d ∷ s) none =
 
 -- ---- where newlines are
 
--- the first newline of a text
-pub record Newline (s : List ℕ) (at : ℕ) : Type 0 where
-  pub inside : at < length s
-  pub here : get_or s at 0 ≡ 10
-  pub none : (k : ℕ) → k < at → get_or s k 0 ≢ 10
-
-pub newline-at : (s : List ℕ) (at : ℕ) → IsFirstByte (is_byte 10) s (Some at) → Newline s at
-newline-at s at found = record {
+pub newline_is : (s : List ℕ) (r : Option ℕ) → IsUtf8 s → IsFirstByte (is_byte 10) s r → MatchOption r (HasNoNewline s) (IsNewline s)
+newline_is s None utf8 none = λ k lt e. none k (omega arith) lt (ap (λ (b : ℕ). b == 10) e)
+newline_is s (Some at) utf8 found = record {
   inside = found.0.high;
-  here = eqb-true (get_or s at 0) 10 found.1;
+  here = here;
   none = λ k lt e. found.0.before k (omega arith) lt (ap (λ (b : ℕ). b == 10) e);
+  cut = (let i = found.0.high in omega arith, λ low wide. lead_after_ascii s at utf8 (let e = here in omega arith) low wide);
 }
-
-pub no_newline : (s : List ℕ) → IsFirstByte (is_byte 10) s None → (k : ℕ) → k < length s → get_or s k 0 ≢ 10
-no_newline s none k lt e = none k (omega arith) lt (ap (λ (b : ℕ). b == 10) e)
-
--- the text may be cut past it
-pub may_cut_past : (s : List ℕ) (at : ℕ) → IsUtf8 s → Newline s at → (at + 1 ≤ length s) × (at + 1 < length s → 128 ≤ get_or s (at + 1) 0 → 192 ≤ get_or s (at + 1) 0)
-may_cut_past s at utf8 line = (let i = line.inside in omega arith, λ low wide. lead_after_ascii s at utf8 (let e = line.here in omega arith) low wide)
+  where
+    here : get_or s at 0 ≡ 10
+    here = eqb-true (get_or s at 0) 10 found.1
 
 -- ---- steps of a loop over the lines
 
-pub rest-plain : (k : ℕ) (s : List ℕ) → k ≤ 2 → ((i : ℕ) → i < length s → get_or s i 0 ≢ 10) → tail k s ≡ s
+-- where the last call appended, the text is as wanted
+pub on_ok_is : {T E : Type 0} (r : Result T E) (b : List ℕ) {x a want : List ℕ} → x ≡ (if is_ok r then a else b) → a ≡ want → OnOk r (x ≡ want)
+on_ok_is (Ok v) b e f = e ∙ f
+on_ok_is (Err v) b e f = tt
+
+pub rest-plain : (k : ℕ) (s : List ℕ) → k ≤ 2 → HasNoNewline s → tail k s ≡ s
 rest-plain k s le none = tail-solid k s le (ap (begins (codes "\n")) (plain-stays s none) ∙ first s none) ∙ plain-stays s none
   where
-    first : (s : List ℕ) → ((i : ℕ) → i < length s → get_or s i 0 ≢ 10) → begins (codes "\n") s ≡ false
+    first : (s : List ℕ) → HasNoNewline s → begins (codes "\n") s ≡ false
     first [] none = refl
     first (c ∷ s) none = no_newline-first (c ∷ s) (omega arith) (none 0 (omega arith))
 
-module _ (s : List ℕ) (at end : ℕ) (inside : at < length s) (here : get_or s at 0 ≡ 10) (none : (k : ℕ) → k < at → get_or s k 0 ≢ 10) (solid : IsSolidEnd s at end) where
+module _ (s : List ℕ) (at end : ℕ) (line : IsNewline s at) (solid : IsRunBefore is_blank s at end) where
   blanks-from : in_order (drop end s) ≡ in_order (10 ∷ drop (suc at) s)
   blanks-from =
       let le = solid.inside in
       let there : end + (at - end) ≡ at = omega arith in
-      blanks-drop (at - end) (drop end s) (let e = length-drop end s in omega arith) (λ k l. ap is_blank (get_or-drop end s k 0) ∙ solid.blanks (end + k) (omega arith) (omega arith)) (get_or-drop end s (at - end) 0 ∙ (ap (λ (j : ℕ). get_or s j 0) there ∙ here))
+      blanks-drop (at - end) (drop end s) (let e = length-drop end s in let i = line.inside in omega arith) (λ k l. ap is_blank (get_or-drop end s k 0) ∙ solid.all (end + k) (omega arith) (omega arith)) (get_or-drop end s (at - end) 0 ∙ (ap (λ (j : ℕ). get_or s j 0) there ∙ line.here))
       ∙ ap (λ (xs : List ℕ). in_order (10 ∷ xs)) (drop-drop (suc (at - end)) end s ∙ ap (λ (j : ℕ). drop j s) (let e : end + suc (at - end) ≡ suc at = omega arith in e))
 
   -- a line that is not blank
@@ -173,13 +172,14 @@ module _ (s : List ℕ) (at end : ℕ) (inside : at < length s) (here : get_or s
       by_end zero e = absurd (omega arith)
       by_end (suc m) e =
           let i = solid.inside in
+          let inside = line.inside in
           let last : end - 1 ≡ m = omega arith in
           let whole : in_order s ≡ take end s ++ in_order (drop end s) =
-          subst (λ (j : ℕ). in_order s ≡ take j s ++ in_order (drop j s)) e (solid-stays m s (omega arith) (λ j l. none j (omega arith)) (ap (λ (j : ℕ). is_blank (get_or s j 0)) (sym last) ∙ solid.solid some)) in
+          subst (λ (j : ℕ). in_order s ≡ take j s ++ in_order (drop j s)) e (solid-stays m s (omega arith) (λ j l. line.none j (omega arith)) (ap (λ (j : ℕ). is_blank (get_or s j 0)) (sym last) ∙ solid.solid some)) in
           tail-solid k s le (ap (begins (codes "\n")) whole ∙ front) ∙ (whole ∙ ap (λ (xs : List ℕ). take end s ++ xs) (blanks-from ∙ one-newline 0 (drop (suc at) s) (omega arith)))
         where
           front : begins (codes "\n") (take end s ++ in_order (drop end s)) ≡ false
-          front = ap (λ (j : ℕ). begins (codes "\n") (take j s ++ in_order (drop end s))) (sym e) ∙ at_front s (none 0 (let i = solid.inside in omega arith)) inside
+          front = ap (λ (j : ℕ). begins (codes "\n") (take j s ++ in_order (drop end s))) (sym e) ∙ at_front s (line.none 0 (let i = solid.inside in omega arith)) line.inside
             where
               at_front : (xs : List ℕ) → get_or xs 0 0 ≢ 10 → at < length xs → begins (codes "\n") (take (suc m) xs ++ in_order (drop end s)) ≡ false
               at_front [] other lt = absurd (omega arith)
@@ -192,19 +192,19 @@ module _ (s : List ℕ) (at end : ℕ) (inside : at < length s) (here : get_or s
 -- ---- what is written at a line
 
 -- a line with more than blanks is written first
-pub line-written : (s now before : List ℕ) (at end k : ℕ) → Newline s at → IsSolidEnd s at end → k ≤ 2 → 0 < end → now ≡ before ++ take (end - 0) s → now ++ tail 0 (10 ∷ drop (at + 1) s) ≡ before ++ tail k s
+pub line-written : (s now before : List ℕ) (at end k : ℕ) → IsNewline s at → IsRunBefore is_blank s at end → k ≤ 2 → 0 < end → now ≡ before ++ take (end - 0) s → now ++ tail 0 (10 ∷ drop (at + 1) s) ≡ before ++ tail k s
 line-written s now before at end k line solid le some e =
     let all : end - 0 ≡ end = omega arith in
     let past : at + 1 ≡ suc at = omega arith in
     ap (λ (xs : List ℕ). xs ++ tail 0 (10 ∷ drop (at + 1) s)) e
     ∙ (append_assoc before (take (end - 0) s) (tail 0 (10 ∷ drop (at + 1) s))
     ∙ ap (λ (xs : List ℕ). before ++ xs) (ap (λ (j : ℕ). take j s ++ tail 0 (10 ∷ drop (at + 1) s)) all ∙ (ap (λ (j : ℕ). take end s ++ tail 0 (10 ∷ drop j s)) past
-    ∙ (ap (λ (xs : List ℕ). take end s ++ xs) (one-newline 0 (drop (suc at) s) (omega arith)) ∙ sym (line-step s at end line.inside line.here line.none solid k le some)))))
+    ∙ (ap (λ (xs : List ℕ). take end s ++ xs) (one-newline 0 (drop (suc at) s) (omega arith)) ∙ sym (line-step s at end line solid k le some)))))
 
-pub line-blank : (s before : List ℕ) (at end k : ℕ) → Newline s at → IsSolidEnd s at end → end ≤ 0 → before ++ tail k (10 ∷ drop (at + 1) s) ≡ before ++ tail k s
+pub line-blank : (s before : List ℕ) (at end k : ℕ) → IsNewline s at → IsRunBefore is_blank s at end → end ≤ 0 → before ++ tail k (10 ∷ drop (at + 1) s) ≡ before ++ tail k s
 line-blank s before at end k line solid none =
     let past : at + 1 ≡ suc at = omega arith in
-    ap (λ (xs : List ℕ). before ++ xs) (ap (λ (j : ℕ). tail k (10 ∷ drop j s)) past ∙ sym (blank-is s at end line.inside line.here line.none solid k (omega arith)))
+    ap (λ (xs : List ℕ). before ++ xs) (ap (λ (j : ℕ). tail k (10 ∷ drop j s)) past ∙ sym (blank-is s at end line solid k (omega arith)))
 
 -- and before the newline, or none
 pub newline-written : (s now before : List ℕ) (k : ℕ) → k < 2 → now ≡ before ++ encode_utf8 10 → now ++ tail (k + 1) s ≡ before ++ tail k (10 ∷ s)

@@ -56,25 +56,25 @@ ends-append (c ∷ w) {s} too e = absurd (let n : suc (length (w ++ s)) ≡ 0 = 
 abbrev pub IsSolid : (ℕ → Bool) → Type 0
 IsSolid p = (c : ℕ) → is_whitespace c ≡ true → p c ≡ false
 
-word-solid : IsSolid is_word_continue
-unfolding unicode_ident is_emoji emoji_ranges
-word-solid c e = none-among is_word_continue (0x9 ∷ 0xA ∷ 0xB ∷ 0xC ∷ 0xD ∷ 0x20 ∷ 0x85 ∷ 0x200E ∷ 0x200F ∷ 0x2028 ∷ 0x2029 ∷ []) refl c e
-
-start-solid : IsSolid is_id_start
-unfolding unicode_ident
-start-solid c e = none-among is_id_start (0x9 ∷ 0xA ∷ 0xB ∷ 0xC ∷ 0xD ∷ 0x20 ∷ 0x85 ∷ 0x200E ∷ 0x200F ∷ 0x2028 ∷ 0x2029 ∷ []) refl c e
-
-continue-solid : IsSolid is_id_continue
-unfolding unicode_ident
-continue-solid c e = none-among is_id_continue (0x9 ∷ 0xA ∷ 0xB ∷ 0xC ∷ 0xD ∷ 0x20 ∷ 0x85 ∷ 0x200E ∷ 0x200F ∷ 0x2028 ∷ 0x2029 ∷ []) refl c e
-
-fraction-solid : IsSolid is_no_fraction
-unfolding unicode_ident
-fraction-solid c e = none-among is_no_fraction (0x9 ∷ 0xA ∷ 0xB ∷ 0xC ∷ 0xD ∷ 0x20 ∷ 0x85 ∷ 0x200E ∷ 0x200F ∷ 0x2028 ∷ 0x2029 ∷ []) refl c e
-
 -- a class that computes
 by_list : (p : ℕ → Bool) → list_all (λ d. not (p d)) (0x9 ∷ 0xA ∷ 0xB ∷ 0xC ∷ 0xD ∷ 0x20 ∷ 0x85 ∷ 0x200E ∷ 0x200F ∷ 0x2028 ∷ 0x2029 ∷ []) ≡ true → IsSolid p
 by_list p all c e = none-among p (0x9 ∷ 0xA ∷ 0xB ∷ 0xC ∷ 0xD ∷ 0x20 ∷ 0x85 ∷ 0x200E ∷ 0x200F ∷ 0x2028 ∷ 0x2029 ∷ []) all c e
+
+word-solid : IsSolid is_word_continue
+unfolding unicode_ident is_emoji emoji_ranges
+word-solid = by_list is_word_continue refl
+
+start-solid : IsSolid is_id_start
+unfolding unicode_ident
+start-solid = by_list is_id_start refl
+
+continue-solid : IsSolid is_id_continue
+unfolding unicode_ident
+continue-solid = by_list is_id_continue refl
+
+fraction-solid : IsSolid is_no_fraction
+unfolding unicode_ident
+fraction-solid = by_list is_no_fraction refl
 
 -- ---- what comes next
 

@@ -2,16 +2,69 @@
 use Rattle.std.proofs.Common.{◌≡◌, ℕ, ◌≤◌, ◌==◌, ◌&&◌, ◌⊎◌, inl, inr, Bool, true, false, true≢false, if◌then◌else◌, List, [], ◌∷◌, ◌++◌, length, drop, length-append, codes, refl, sym, ap, ◌∙◌, subst, arith}
 use Rattle.std.proofs.lemmas.Bool.{and_parts, cases_Bool, eqb-true, or_cases}
 use Rattle.std.specs.Char.{encode_utf8}
+use Rattle.std.specs.List.{list_all}
 use Rattle.std.specs.Str.{encode_utf8_all}
 use Rattle.rustc_lexer.specs.Classes.{is_among, is_whitespace, AreAll, bytes, begins}
 use Rattle.rustc_lexer.specs.means.Frontmatter.{ends_line}
-use Rattle.tidy_run.specs.Order.{is_blank, is_dropped_before, in_order, IsInOrder}
+use Rattle.tidy_run.specs.Order.{without, is_blank, is_dropped_before, in_order, IsInOrder}
 use Rattle.tidy_run.proofs.NearLemmas.{Near, space, near-begins, plain-other}
 
--- ---- what is judged
+-- ---- what is left where characters are dropped
 
-pub judge : (c : ℕ) (cs : List ℕ) → ((is_dropped_before (in_order cs) c ≡ true) × (in_order (c ∷ cs) ≡ in_order cs)) ⊎ ((is_dropped_before (in_order cs) c ≡ false) × (in_order (c ∷ cs) ≡ c ∷ in_order cs))
-judge c cs = elim (cases_Bool (is_dropped_before (in_order cs) c)) [ inl e ↦ inl (e, rw e refl) | inr e ↦ inr (e, rw e refl) ]
+module _ (drops : List ℕ → ℕ → Bool) where
+  pub judge : (c : ℕ) (cs : List ℕ) → ((drops (without drops cs) c ≡ true) × (without drops (c ∷ cs) ≡ without drops cs)) ⊎ ((drops (without drops cs) c ≡ false) × (without drops (c ∷ cs) ≡ c ∷ without drops cs))
+  judge c cs = elim (cases_Bool (drops (without drops cs) c)) [ inl e ↦ inl (e, rw e refl) | inr e ↦ inr (e, rw e refl) ]
+
+  pub without-all : (p : ℕ → Bool) (w : List ℕ) → list_all p w ≡ true → list_all p (without drops w) ≡ true
+  without-all p [] all = refl
+  without-all p (c ∷ cs) all =
+      let parts = and_parts (p c) _ all in
+      elim (judge c cs) [
+        | inl d ↦ ap (list_all p) d.1 ∙ without-all p cs parts.1
+        | inr k ↦ ap (list_all p) k.1 ∙ (ap (λ (b : Bool). b && list_all p (without drops cs)) parts.0 ∙ without-all p cs parts.1)
+      ]
+
+  -- once is enough
+  pub without-again : (w : List ℕ) → without drops (without drops w) ≡ without drops w
+  without-again [] = refl
+  without-again (c ∷ cs) = elim (judge c cs) [
+    | inl d ↦ ap (without drops) d.1 ∙ (without-again cs ∙ sym d.1)
+    | inr k ↦ ap (without drops) k.1 ∙ (again (without-again cs) k.0 ∙ sym k.1)
+  ]
+    where
+      again : without drops (without drops cs) ≡ without drops cs → drops (without drops cs) c ≡ false → without drops (c ∷ without drops cs) ≡ c ∷ without drops cs
+      again once e = rw once (rw e refl)
+
+  pub without-size : (w : List ℕ) → bytes (without drops w) ≤ bytes w
+  without-size [] = omega arith
+  without-size (c ∷ w) = elim (judge c w) [
+    | inl d ↦ (let le = without-size w in let e : bytes (without drops (c ∷ w)) ≡ bytes (without drops w) = ap bytes d.1 in let n = length-append (encode_utf8 c) (encode_utf8_all w) in omega arith)
+    | inr k ↦ (let le = without-size w in let e : bytes (without drops (c ∷ w)) ≡ bytes (c ∷ without drops w) = ap bytes k.1 in let n = length-append (encode_utf8 c) (encode_utf8_all w) in let m = length-append (encode_utf8 c) (encode_utf8_all (without drops w)) in omega arith)
+  ]
+
+  without-short : (w : List ℕ) → length (without drops w) ≤ length w
+  without-short [] = omega arith
+  without-short (c ∷ w) = elim (judge c w) [
+    | inl d ↦ (let le = without-short w in let e = ap length d.1 in omega arith)
+    | inr k ↦ (let le = without-short w in let e = ap length k.1 in omega arith)
+  ]
+
+  -- where nothing is dropped, nothing is past any front
+  pub past : (c : ℕ) (w : List ℕ) → without drops (c ∷ w) ≡ c ∷ w → (drops w c ≡ false) × (without drops w ≡ w)
+  past c w e = elim (judge c w) [
+    | inl d ↦ absurd (let le = without-short w in let f = ap length (sym d.1 ∙ e) in omega arith)
+    | inr k ↦ (let rest = ap (drop 1) (sym k.1 ∙ e) in (sym (ap (λ (r : List ℕ). drops r c) rest) ∙ k.0, rest))
+  ]
+
+  past-front : (u w : List ℕ) → without drops (u ++ w) ≡ u ++ w → without drops w ≡ w
+  past-front [] w e = e
+  past-front (c ∷ u) w e = past-front u w (past c (u ++ w) e).1
+
+  -- no character of what is left is one to drop
+  pub none-dropped : (w u v : List ℕ) (c : ℕ) → without drops w ≡ u ++ (c ∷ v) → drops v c ≡ false
+  none-dropped w u v c e = (past c v (past-front u (c ∷ v) (sym (ap (without drops) e) ∙ (without-again w ∙ e)))).0
+
+-- ---- what is judged
 
 pub two-one : (s : List ℕ) → begins (codes "\n\n") s ≡ true → begins (codes "\n") s ≡ true
 two-one [] e = e
@@ -31,15 +84,6 @@ dropped-two c s e at = elim (or_cases (is_blank c && begins (codes "\n") s) _ e)
 
 -- ---- white space
 
-pub order-all : (w : List ℕ) → AreAll is_whitespace w → AreAll is_whitespace (in_order w)
-order-all [] all = refl
-order-all (c ∷ cs) all =
-    let parts = and_parts (is_whitespace c) _ all in
-    elim (judge c cs) [
-      | inl d ↦ rw d.1 (order-all cs parts.1)
-      | inr k ↦ rw k.1 (rw parts.0 (order-all cs parts.1))
-    ]
-
 pub record HasFirst (w : List ℕ) : Type 0 where
   pub first : ℕ
   pub rest : List ℕ
@@ -50,7 +94,7 @@ has-first [] e = absurd (true≢false (sym e))
 has-first (c ∷ w) e = record { first = c; rest = w; whole = refl }
 
 pub order-first : (c : ℕ) (cs : List ℕ) → HasFirst (in_order (c ∷ cs))
-order-first c cs = elim (judge c cs) [
+order-first c cs = elim (judge is_dropped_before c cs) [
   | inl d ↦ (let has = has-first (in_order cs) (dropped-newline c (in_order cs) d.0) in record { first = has.first; rest = has.rest; whole = d.1 ∙ has.whole })
   | inr k ↦ record { first = c; rest = in_order cs; whole = k.1 }
 ]
@@ -61,7 +105,7 @@ quote-after : (cs : List ℕ) → AreAll is_whitespace cs → {s t : List ℕ} �
 quote-after [] all near f = sym (near-begins (codes "'") refl near) ∙ f
 quote-after (c ∷ cs) all {s} {t} near f =
     let has = order-first c cs in
-    let all_space : AreAll is_whitespace (has.first ∷ has.rest) = subst (AreAll is_whitespace) has.whole (order-all (c ∷ cs) all) in
+    let all_space : AreAll is_whitespace (has.first ∷ has.rest) = subst (AreAll is_whitespace) has.whole (without-all is_dropped_before is_whitespace (c ∷ cs) all) in
     ap (λ (xs : List ℕ). begins (codes "'") (xs ++ t)) has.whole ∙ rw (plain-other 39 has.first refl (and_parts (is_whitespace has.first) _ all_space).0) refl
 
 after-drop : (c : ℕ) (x r t : List ℕ) → is_whitespace c ≡ true → begins (codes "\n") r ≡ true → ((c == 10) ≡ true → begins (codes "\n\n") r ≡ true) → Near (c ∷ x) (r ++ t)
@@ -76,7 +120,7 @@ after-drop c x (d ∷ f ∷ v) t blank e two =
 pub order-near : (c : ℕ) (cs : List ℕ) → AreAll is_whitespace (c ∷ cs) → {s t : List ℕ} → Near s t → Near (c ∷ cs ++ s) (in_order (c ∷ cs) ++ t)
 order-near c cs all {s} {t} near =
     let parts = and_parts (is_whitespace c) _ all in
-    elim (judge c cs) [
+    elim (judge is_dropped_before c cs) [
       | inl d ↦ subst (λ (xs : List ℕ). Near (c ∷ cs ++ s) (xs ++ t)) (sym d.1) (after-drop c (cs ++ s) (in_order cs) t parts.0 (dropped-newline c (in_order cs) d.0) (dropped-two c (in_order cs) d.0))
       | inr k ↦ subst (λ (xs : List ℕ). Near (c ∷ cs ++ s) (xs ++ t)) (sym k.1) (space parts.0 parts.0 (λ e. (e, quote-after cs parts.1 near)))
     ]
@@ -88,25 +132,13 @@ ends-more c w has = ap (λ (xs : List ℕ). ends_line (c ∷ xs)) has.whole ∙ 
 
 pub order-ends : (w : List ℕ) → ends_line (in_order w) ≡ ends_line w
 order-ends [] = refl
-order-ends (c ∷ []) = elim (judge c []) [
+order-ends (c ∷ []) = elim (judge is_dropped_before c []) [
   | inl d ↦ absurd (true≢false (sym (dropped-newline c [] d.0)))
   | inr k ↦ ap ends_line k.1
 ]
-order-ends (c ∷ d ∷ s) = elim (judge c (d ∷ s)) [
+order-ends (c ∷ d ∷ s) = elim (judge is_dropped_before c (d ∷ s)) [
   | inl e ↦ ap ends_line e.1 ∙ order-ends (d ∷ s)
   | inr k ↦ ap ends_line k.1 ∙ (ends-more c (in_order (d ∷ s)) (order-first d s) ∙ order-ends (d ∷ s))
-]
-
--- ---- once is enough
-
-kept-again : (c : ℕ) (cs : List ℕ) → in_order (in_order cs) ≡ in_order cs → is_dropped_before (in_order cs) c ≡ false → in_order (c ∷ in_order cs) ≡ c ∷ in_order cs
-kept-again c cs again e = rw again (rw e refl)
-
-pub order-again : (w : List ℕ) → in_order (in_order w) ≡ in_order w
-order-again [] = refl
-order-again (c ∷ cs) = elim (judge c cs) [
-  | inl d ↦ ap in_order d.1 ∙ (order-again cs ∙ sym d.1)
-  | inr k ↦ ap in_order k.1 ∙ (kept-again c cs (order-again cs) k.0 ∙ sym k.1)
 ]
 
 -- ---- bytes
@@ -144,8 +176,8 @@ ascii-adds : (w : List ℕ) → AreAll is_whitespace w → in_order (encode_utf8
 ascii-adds w all e c one =
     ap (λ (xs : List ℕ). in_order (xs ++ encode_utf8_all w)) one
     ∙ (ap (λ (xs : List ℕ). if is_dropped_before xs c then xs else c ∷ xs) e
-    ∙ (ap (λ (b : Bool). if b then encode_utf8_all (in_order w) else c ∷ encode_utf8_all (in_order w)) (dropped-bytes c (in_order w) (order-all w all))
-    ∙ elim (judge c w) [
+    ∙ (ap (λ (b : Bool). if b then encode_utf8_all (in_order w) else c ∷ encode_utf8_all (in_order w)) (dropped-bytes c (in_order w) (without-all is_dropped_before is_whitespace w all))
+    ∙ elim (judge is_dropped_before c w) [
       | inl d ↦ rw d.0 refl
       | inr k ↦ rw k.0 (sym (ap (λ (xs : List ℕ). xs ++ encode_utf8_all (in_order w)) one))
     ]))
@@ -159,44 +191,10 @@ order-bytes (c ∷ w) all =
     one_of (Adds w) (0x9 ∷ 0xA ∷ 0xB ∷ 0xC ∷ 0xD ∷ 0x20 ∷ 0x85 ∷ 0x200E ∷ 0x200F ∷ 0x2028 ∷ 0x2029 ∷ [])
     (ascii-adds w parts.1 e 0x9 refl, (ascii-adds w parts.1 e 0xA refl, (ascii-adds w parts.1 e 0xB refl, (ascii-adds w parts.1 e 0xC refl, (ascii-adds w parts.1 e 0xD refl, (ascii-adds w parts.1 e 0x20 refl, (ap (λ xs. 0xC2 ∷ 0x85 ∷ xs) e, (ap (λ xs. 0xE2 ∷ 0x80 ∷ 0x8E ∷ xs) e, (ap (λ xs. 0xE2 ∷ 0x80 ∷ 0x8F ∷ xs) e, (ap (λ xs. 0xE2 ∷ 0x80 ∷ 0xA8 ∷ xs) e, (ap (λ xs. 0xE2 ∷ 0x80 ∷ 0xA9 ∷ xs) e, tt))))))))))) c parts.0
 
--- ---- sizes
-
-pub order-size : (w : List ℕ) → bytes (in_order w) ≤ bytes w
-order-size [] = omega arith
-order-size (c ∷ w) = elim (judge c w) [
-  | inl d ↦ (let le = order-size w in let e : bytes (in_order (c ∷ w)) ≡ bytes (in_order w) = ap bytes d.1 in let n = length-append (encode_utf8 c) (encode_utf8_all w) in omega arith)
-  | inr k ↦ (let le = order-size w in let e : bytes (in_order (c ∷ w)) ≡ bytes (c ∷ in_order w) = ap bytes k.1 in let n = length-append (encode_utf8 c) (encode_utf8_all w) in let m = length-append (encode_utf8 c) (encode_utf8_all (in_order w)) in omega arith)
-]
-
 -- ---- in the words of the subject
-
-order-short : (w : List ℕ) → length (in_order w) ≤ length w
-order-short [] = omega arith
-order-short (c ∷ w) = elim (judge c w) [
-  | inl d ↦ (let le = order-short w in let e = ap length d.1 in omega arith)
-  | inr k ↦ (let le = order-short w in let e = ap length k.1 in omega arith)
-]
-
--- what is in order, is so past any front
-record Stays (c : ℕ) (w : List ℕ) : Type 0 where
-  kept : is_dropped_before w c ≡ false
-  rest : in_order w ≡ w
-
-stays-past : (c : ℕ) (w : List ℕ) → in_order (c ∷ w) ≡ c ∷ w → Stays c w
-stays-past c w e = elim (judge c w) [
-  | inl d ↦ absurd (let le = order-short w in let f = ap length (sym d.1 ∙ e) in omega arith)
-  | inr k ↦ (let rest = ap (drop 1) (sym k.1 ∙ e) in record { kept = sym (ap (λ (r : List ℕ). is_dropped_before r c) rest) ∙ k.0; rest = rest })
-]
-
-stays-at : (u w : List ℕ) → in_order (u ++ w) ≡ u ++ w → in_order w ≡ w
-stays-at [] w e = e
-stays-at (c ∷ u) w e = stays-at u w (stays-past c (u ++ w) e).rest
 
 pub in_order_is : (w : List ℕ) → IsInOrder (in_order w)
 in_order_is w = record {
-  no_blank = λ u v c blank e. true≢false (sym (rw blank refl) ∙ (stays-past c (10 ∷ v) (at u (c ∷ 10 ∷ v) e)).kept);
-  no_third = λ u v e. true≢false ((stays-past 10 (10 ∷ 10 ∷ v) (at u (10 ∷ 10 ∷ 10 ∷ v) e)).kept);
+  no_blank = λ u v c blank e. true≢false (sym (rw blank refl) ∙ none-dropped is_dropped_before w u (10 ∷ v) c e);
+  no_third = λ u v e. true≢false (none-dropped is_dropped_before w u (10 ∷ 10 ∷ v) 10 e);
 }
-  where
-    at : (u v : List ℕ) → in_order w ≡ u ++ v → in_order v ≡ v
-    at u v e = stays-at u v (sym (ap in_order e) ∙ (order-again w ∙ e))

@@ -1,5 +1,5 @@
 -- Where a text has no shebang line and no frontmatter, it is put in order: nothing stops that.
-use Rattle.std.proofs.Common.{◌≡◌, ℕ, ◌+◌, ◌<◌, ◌^◌, ◌||◌, Bool, true, false, true≢false, if◌then◌else◌, List, [], ◌∷◌, ◌++◌, length, take, drop, codes, refl, sym, ap, ◌∙◌, subst, arith, length-drop, IsCharBoundary, inl, inr, Some, None}
+use Rattle.std.proofs.Common.{◌≡◌, ℕ, ◌+◌, ◌<◌, ◌^◌, ◌||◌, Bool, true, false, true≢false, if◌then◌else◌, List, [], ◌∷◌, ◌++◌, length, map, take, drop, codes, refl, sym, ap, ◌∙◌, subst, arith, length-drop, IsCharBoundary, inl, inr, Some, None}
 use Rattle.std.proofs.lemmas.Bool.{and_parts, cases_Bool, not-true, false_from_ne_true}
 use Rattle.std.proofs.lemmas.Str.{chars-append, encodes-chars, IsUtf8-drop, IsCharBoundary-from_take}
 use Rattle.std.specs.Char.{encode_utf8}
@@ -22,7 +22,7 @@ use Rattle.rustc_lexer.specs.Tokens.{tokens_of}
 use Rattle.rustc_lexer.specs.laws.LanguageIn.{of_page}
 use Rattle.rustc_lexer.specs.laws.LanguageTokens.{language}
 use Rattle.rustc_lexer.specs.laws.LanguageShebang.{front-is, mark-utf8, no-mark}
-use Rattle.tidy_run.specs.Order.{is_space, is_open, end_parts, parts_in_order, is_front, is_no_front, space_in_order, if_kept, code_in_order, front_in_order, source_in_order, source_tidied, source_parts, parts}
+use Rattle.tidy_run.specs.Order.{is_last, is_space, is_open, end_parts, parts_in_order, is_front, is_no_front, space_in_order, if_kept, code_in_order, front_in_order, source_in_order, source_tidied, source_parts, parts}
 use Rattle.tidy_run.proofs.NearLemmas.{near-begins}
 use Rattle.tidy_run.proofs.SourceLemmas.{SourceLaw, source-law}
 
@@ -78,42 +78,35 @@ mark-tokens text is e =
 
 -- ---- kinds
 
-kinds : List Token → List TokenKind
-kinds [] = []
-kinds (t ∷ ts) = t.kind ∷ kinds ts
+abbrev kinds : List Token → List TokenKind
+kinds ts = map (λ (t : Token). t.kind) ts
 
-kinds_of : List (TokenKind × List ℕ) → List TokenKind
-kinds_of [] = []
-kinds_of (p ∷ ps) = p.0 ∷ kinds_of ps
+abbrev kinds_of : List (TokenKind × List ℕ) → List TokenKind
+kinds_of ps = map (λ (p : TokenKind × List ℕ). p.0) ps
 
 parts-kinds : (text : List ℕ) (ts : List Token) → kinds_of (parts text ts) ≡ kinds ts
-unfolding kinds kinds_of
 parts-kinds text [] = refl
 parts-kinds text (t ∷ ts) = ap (λ (ks : List TokenKind). t.kind ∷ ks) (parts-kinds (drop t.len text) ts)
 
-attribute_of : List TokenKind → Bool
+abbrev attribute_of : List TokenKind → Bool
 attribute_of [] = false
 attribute_of (k ∷ ks) = if is_passed k then attribute_of ks else is_open_bracket k
 
 attribute-kinds : (ts : List Token) → is_attribute ts ≡ attribute_of (kinds ts)
-unfolding kinds attribute_of
 attribute-kinds [] = refl
 attribute-kinds (t ∷ ts) = ap (λ (b : Bool). if is_passed t.kind then b else is_open_bracket t.kind) (attribute-kinds ts)
 
 -- white space at the end is passed
 attribute-ends : (kind : TokenKind) (ps : List (TokenKind × List ℕ)) → attribute_of (kinds_of (end_parts kind ps ++ parts_in_order ps)) ≡ attribute_of (kinds_of ps)
-unfolding kinds_of attribute_of
 attribute-ends kind [] = elim (cases_Bool (is_space kind || is_open kind)) [ inl e ↦ rw e refl | inr e ↦ rw e refl ]
 attribute-ends kind (p ∷ ps) = ap (λ (b : Bool). if is_passed p.0 then b else is_open_bracket p.0) (attribute-ends p.0 ps)
 
 closed-attribute : (ps : List (TokenKind × List ℕ)) → attribute_of (drop 2 (kinds_of (parts_in_order ps))) ≡ attribute_of (drop 2 (kinds_of ps))
-unfolding kinds_of
 closed-attribute [] = refl
 closed-attribute (p ∷ []) = elim (cases_Bool (is_space p.0 || is_open p.0)) [ inl e ↦ rw e refl | inr e ↦ rw e refl ]
 closed-attribute (p ∷ q ∷ ps) = attribute-ends q.0 ps
 
 marked-attribute : (text : List ℕ) → IsText text → begins (codes "#!") text ≡ true → is_attribute (tokens_of (part E2024) (drop 2 text)) ≡ attribute_of (drop 2 (kinds_of (parts_in_order (source_parts text))))
-unfolding kinds
 marked-attribute text is e =
     attribute-kinds (tokens_of (part E2024) (drop 2 text))
     ∙ (ap (λ (ks : List TokenKind). attribute_of (drop 2 ks)) (sym (ap kinds (mark-tokens text is e)) ∙ sym (parts-kinds text (tokens_of (document E2024) text)))
@@ -158,6 +151,6 @@ front-code text (t ∷ ts) all = ap (λ (b : Bool). if b then if_kept t text (ta
 pub source-code : (text : List ℕ) (ts : List Token) → list_all is_no_front ts ≡ true → source_in_order text ts ≡ code_in_order text ts
 source-code text [] all = refl
 source-code text (t ∷ ts) all = elim (cases_Bool (is_space t.kind)) [
-  | inl e ↦ rw e (ap (λ (xs : List ℕ). space_in_order (take t.len text) ts ++ xs) (front-code (drop t.len text) ts (and_parts (is_no_front t) _ all).1))
-  | inr e ↦ ap (λ (b : Bool). if b then space_in_order (take t.len text) ts ++ front_in_order (drop t.len text) ts else front_in_order text (t ∷ ts)) e ∙ front-code text (t ∷ ts) all
+  | inl e ↦ rw e (ap (λ (xs : List ℕ). space_in_order (take t.len text) (is_last ts) ++ xs) (front-code (drop t.len text) ts (and_parts (is_no_front t) _ all).1))
+  | inr e ↦ ap (λ (b : Bool). if b then space_in_order (take t.len text) (is_last ts) ++ front_in_order (drop t.len text) ts else front_in_order text (t ∷ ts)) e ∙ front-code text (t ∷ ts) all
 ]

@@ -1,8 +1,7 @@
 -- A source in order, with a frontmatter or without, has its tokens, but for the white space, and stays.
-use Rattle.std.proofs.Common.{◌≡◌, ℕ, ◌+◌, ◌<◌, ◌≤◌, ◌^◌, ◌&&◌, inl, inr, not, Bool, true, false, true≢false, if◌then◌else◌, List, [], ◌∷◌, ◌++◌, length, length-append, take, drop, codes, append_assoc, refl, sym, ap, ◌∙◌, subst, arith}
+use Rattle.std.proofs.Common.{◌≡◌, ℕ, ◌+◌, ◌<◌, ◌≤◌, ◌^◌, inl, inr, not, Bool, true, false, true≢false, if◌then◌else◌, List, [], ◌∷◌, ◌++◌, length, length-append, take, drop, codes, append_assoc, refl, sym, ap, ◌∙◌, subst, arith}
 use lib.Utf8.{scalars}
-use Rattle.std.proofs.Math.Seq.{take-append_seam, drop-append_seam}
-use Rattle.std.proofs.lemmas.Bool.{and_parts, not-true}
+use Rattle.std.proofs.lemmas.Bool.{and_parts}
 use Rattle.std.proofs.lemmas.Str.{chars-encodes, encodes-append, encodes-chars, scalars-chars}
 use Rattle.std.specs.Str.{chars, encode_utf8_all}
 use Rattle.rustc_lexer.specs.declared.edition.Edition.{Edition}
@@ -20,10 +19,11 @@ use Rattle.rustc_lexer.specs.Tokens.{tokens_of}
 use Rattle.rustc_lexer.specs.laws.LanguageIn.{on_page}
 use Rattle.rustc_lexer.specs.laws.LanguageTokens.{language}
 use Rattle.rustc_lexer.specs.laws.Same.{same_token}
+use Rattle.rustc_lexer.specs.laws.State.{edition-after}
 use Rattle.rustc_lexer.specs.laws.Tokens.{tokens-nil, tokens-cons}
-use Rattle.tidy_run.specs.Order.{is_space, is_front, begins_with, if_kept, space_in_order, code_in_order, front_in_order, source_in_order, source_tidied, source_parts, parts, parts_in_order}
+use Rattle.tidy_run.specs.Order.{is_last, is_space, is_front, begins_with, if_kept, space_in_order, code_in_order, front_in_order, source_in_order, source_tidied, source_parts, parts, parts_in_order}
 use Rattle.tidy_run.proofs.NearLemmas.{Near, ends, near-append, near-refl, ends-append, IsSpaceRun, is_end, is_solid_kind, token-near}
-use Rattle.tidy_run.proofs.CodeLemmas.{Tidies, Puts, none-left, part-none, scalars-parts, scalars-join, space-step, behind, solid-token, after-newest, code-cons, parts-cons, code-tidies}
+use Rattle.tidy_run.proofs.CodeLemmas.{Tidies, Puts, cut-at, none-left, part-none, scalars-parts, scalars-join, space-step, behind, solid-token, solid-no, code-cons, parts-cons, code-tidies}
 
 -- ---- what is a frontmatter
 
@@ -48,9 +48,7 @@ front-puts : (u next : List ℕ) (front : Token) (tokens : List Token) → is_fr
 front-puts u next front tokens at len =
     ap (λ (b : Bool). if b then if_kept front (encode_utf8_all (u ++ next)) (take front.len (encode_utf8_all (u ++ next)) ++ code_in_order (drop front.len (encode_utf8_all (u ++ next))) tokens) else code_in_order (encode_utf8_all (u ++ next)) (front ∷ tokens)) at
     ∙ (ap (λ (n : ℕ). if_kept front (encode_utf8_all (u ++ next)) (take n (encode_utf8_all (u ++ next)) ++ code_in_order (drop n (encode_utf8_all (u ++ next))) tokens)) len
-    ∙ (ap (λ (text : List ℕ). if_kept front (encode_utf8_all (u ++ next)) (take (bytes u) text ++ code_in_order (drop (bytes u) text) tokens)) (encodes-append u next)
-    ∙ (ap (λ (xs : List ℕ). if_kept front (encode_utf8_all (u ++ next)) (xs ++ code_in_order (drop (bytes u) (encode_utf8_all u ++ encode_utf8_all next)) tokens)) (take-append_seam (encode_utf8_all u) (encode_utf8_all next))
-    ∙ ap (λ (xs : List ℕ). if_kept front (encode_utf8_all (u ++ next)) (encode_utf8_all u ++ code_in_order xs tokens)) (drop-append_seam (encode_utf8_all u) (encode_utf8_all next)))))
+    ∙ cut-at (λ own rest. if_kept front (encode_utf8_all (u ++ next)) (own ++ code_in_order rest tokens)) u next)
 
 -- the parts of a text whose first token is as long as these characters
 front-parts : (u next : List ℕ) (front : Token) (tokens : List Token) → front.len ≡ bytes u
@@ -127,7 +125,7 @@ frontmatter-step u next space infostring len tokens good fits are len_is more = 
         out_text = text-of out out-good (let a = sizes.1 in let f = fits in omega arith)
 
         left : drop len (encode_utf8_all out) ≡ encode_utf8_all more.out
-        left = ap (λ (n : ℕ). drop n (encode_utf8_all out)) len_is ∙ (ap (drop (bytes u)) (encodes-append u more.out) ∙ drop-append_seam (encode_utf8_all u) (encode_utf8_all more.out))
+        left = ap (λ (n : ℕ). drop n (encode_utf8_all out)) len_is ∙ cut-at (λ own rest. rest) u more.out
 
         rest_are : more.outs ≡ tokens_of (part E2024) (encode_utf8_all more.out)
         rest_are = (language (encode_utf8_all more.out) (part E2024) (text-of more.out more-good sizes.0) more.outs).0 (subst (λ (cs : List ℕ). AreTokens (part E2024) cs more.outs) (sym (chars-encodes more.out more-good)) more.are)
@@ -174,12 +172,6 @@ past-solid Whitespace e f = absurd (true≢false e)
 past-solid Eof e f = absurd (true≢false f)
 past-solid kind e f = refl
 
-solid-no : (kind : TokenKind) → is_solid_kind kind ≡ true → (is_space kind ≡ false) × (is_front kind ≡ false) × (is_end kind ≡ false)
-solid-no kind e =
-    let both = and_parts (not (is_space kind)) (not (is_front kind) && not (is_end kind)) e in
-    let more = and_parts (not (is_front kind)) (not (is_end kind)) both.1 in
-    (not-true (is_space kind) both.0, not-true (is_front kind) more.0, not-true (is_end kind) more.1)
-
 -- the kind of a token that is no run of white space
 kind-solid : {next : List ℕ} {kind : TokenKind} {c : ℕ} {w : List ℕ} → is_whitespace c ≡ false → IsTokenBefore next kind (c ∷ w) → is_solid_kind kind ≡ true
 kind-solid {next} {kind} {c} {w} other p = elim (token-near (near-refl next) (λ o e. e) p) [
@@ -204,7 +196,7 @@ solid-front kind c w next tokens solid p free rest = by_token (code-tidies (past
 
     by_token : Tidies code_in_order (mode_after (document E2024) kind) next tokens → Tidies front_in_order (document E2024) (c ∷ w ++ next) (record { kind = kind; len = bytes (c ∷ w) } ∷ tokens)
     by_token more = solid-token front_in_order (document E2024) kind c w next tokens refl (λ u. solid-puts u kind known.1) known.0 p free
-        (behind kind (mode_after (document E2024) kind) next tokens known.0 (after-newest (document E2024) kind refl) (none-left rest) (part-none (past-solid kind known.0 known.2) rest) more)
+        (behind kind (mode_after (document E2024) kind) next tokens known.0 (edition-after (document E2024) kind) (none-left rest) (part-none (past-solid kind known.0 known.2) rest) more)
 
 front-tidies : {mode : Mode} {cs : List ℕ} {tokens : List Token} → mode ≡ document E2024 → scalars cs ≡ true → bytes cs + 1 < 2 ^ 32 → NextIsNot is_whitespace cs → AreTokens mode cs tokens → Tidies front_in_order (document E2024) cs tokens
 front-tidies yes_is good fits stop (nothing) = record { out = []; outs = []; are = nothing; near = ends; is = refl; too = λ e. refl; same = refl; again = refl; last = refl; size = omega arith; good = λ e. e }
@@ -216,28 +208,22 @@ front-tidies yes_is good fits stop (something {mode} {kind} {c} {w} {next} {toke
 -- ---- with white space first, or none
 
 source-puts : (u : List ℕ) → Puts source_in_order front_in_order Whitespace u
-source-puts u left ts =
-    ap (λ (text : List ℕ). space_in_order (take (bytes u) text) ts ++ front_in_order (drop (bytes u) text) ts) (encodes-append u left)
-    ∙ (ap (λ (xs : List ℕ). space_in_order xs ts ++ front_in_order (drop (bytes u) (encode_utf8_all u ++ encode_utf8_all left)) ts) (take-append_seam (encode_utf8_all u) (encode_utf8_all left))
-    ∙ ap (λ (xs : List ℕ). space_in_order (encode_utf8_all u) ts ++ front_in_order xs ts) (drop-append_seam (encode_utf8_all u) (encode_utf8_all left)))
+source-puts u left ts = cut-at (λ own rest. space_in_order own (is_last ts) ++ front_in_order rest ts) u left
 
 -- whether white space is the first part
-begins_space : List (TokenKind × List ℕ) → Bool
+abbrev begins_space : List (TokenKind × List ℕ) → Bool
 begins_space [] = false
 begins_space (p ∷ ps) = is_space p.0
 
 closed-begins : (ps : List (TokenKind × List ℕ)) → begins_space (parts_in_order ps) ≡ begins_space ps
-unfolding begins_space
 closed-begins [] = refl
 closed-begins (p ∷ ps) = refl
 
 front-source : (text : List ℕ) (tokens : List Token) → begins_space (parts text tokens) ≡ false → source_in_order text tokens ≡ front_in_order text tokens
-unfolding begins_space
 front-source text [] e = refl
-front-source text (t ∷ ts) e = ap (λ (b : Bool). if b then space_in_order (take t.len text) ts ++ front_in_order (drop t.len text) ts else front_in_order text (t ∷ ts)) e
+front-source text (t ∷ ts) e = ap (λ (b : Bool). if b then space_in_order (take t.len text) (is_last ts) ++ front_in_order (drop t.len text) ts else front_in_order text (t ∷ ts)) e
 
 as-source : (cs : List ℕ) (t : Token) (ts : List Token) → is_space t.kind ≡ false → Tidies front_in_order (document E2024) cs (t ∷ ts) → Tidies source_in_order (document E2024) cs (t ∷ ts)
-unfolding begins_space
 as-source cs t ts solid tidy = record {
   out = tidy.out;
   outs = tidy.outs;

@@ -12,9 +12,10 @@ use Rattle.rustc_lexer.specs.Classes.{AreAll, NextIsNot, is_inline, bytes, begin
 use Rattle.rustc_lexer.specs.Tables.{symbols, symbol_kind}
 use Rattle.rustc_lexer.specs.laws.Choice.{by_symbol}
 use Rattle.rustc_lexer.specs.laws.LanguageComments.{IsLineStyle, IsBlockStyle}
-use Rattle.tidy_run.specs.Order.{unix_lines, text_in_order, is_open}
+use Rattle.tidy_run.specs.Order.{is_return_before, unix_lines, text_in_order, is_open}
 use Rattle.tidy_run.proofs.NearLemmas.{Near, near-append}
-use Rattle.tidy_run.proofs.UnixLemmas.{unix-again, unix-all, unix-style, unix-rest, unix-near, unix-size, unix-scalars, unix-bytes}
+use Rattle.tidy_run.proofs.UnixLemmas.{unix-style, unix-rest, unix-near, unix-scalars, unix-bytes}
+use Rattle.tidy_run.proofs.OrderLemmas.{without-all, without-again, without-size}
 
 -- what a token becomes, before what comes behind it
 pub record Turned (kind : TokenKind) (c : ℕ) (w s t : List ℕ) : Type 0 where
@@ -31,19 +32,17 @@ data IsComment (next : List ℕ) : TokenKind → List ℕ → Type 0 where
   line : {style : Option DocStyle} {w : List ℕ} → AreAll is_inline w → NextIsNot is_inline next → IsLineStyle style w → IsComment next (LineComment style) (47 ∷ 47 ∷ w)
   block : {style : Option DocStyle} {w : List ℕ} → IsCommentRest w → IsBlockStyle style w → IsComment next (BlockComment style true) (47 ∷ 42 ∷ w)
 
-is_comment : TokenKind → Bool
+abbrev is_comment : TokenKind → Bool
 is_comment (LineComment style) = true
 is_comment (BlockComment style terminated) = true
 is_comment kind = false
 
 no_comment : (kind : TokenKind) → is_comment kind ≡ false → (text : List ℕ) → text_in_order kind text ≡ text
-unfolding is_comment
 no_comment (LineComment style) e text = absurd (true≢false e)
 no_comment (BlockComment style terminated) e text = absurd (true≢false e)
 no_comment kind e text = refl
 
 symbol-none : (c : ℕ) → is_comment (symbol_kind c) ≡ false
-unfolding is_comment
 symbol-none c = not-true _ (by_symbol (λ kind. not (is_comment kind)) symbols c refl refl)
 
 comment-or : {t : List ℕ} {kind : TokenKind} {w : List ℕ} → IsTokenBefore t kind w → IsComment t kind w ⊎ ((text : List ℕ) → text_in_order kind text ≡ text)
@@ -58,7 +57,7 @@ newline-after [] stop some = absurd (some refl)
 newline-after (d ∷ t) stop some = elim (cases_Bool (d == 10)) [ inl e ↦ rw e refl | inr e ↦ absurd (true≢false (sym (ap not e) ∙ stop)) ]
 
 unix-turned : (last : Bool) (w : List ℕ) → unix_lines last (encode_utf8_all (unix_lines last w)) ≡ encode_utf8_all (unix_lines last w)
-unix-turned last w = (unix-bytes last (unix_lines last w)).lines ∙ ap encode_utf8_all (unix-again last w)
+unix-turned last w = (unix-bytes last (unix_lines last w)).lines ∙ ap encode_utf8_all (without-again (is_return_before last) w)
 
 comment-turned : {s t : List ℕ} → Near s t → {kind : TokenKind} {u : List ℕ} → (is_open kind ≡ false → length t ≡ 0 → ⊥) → IsComment t kind u → (c : ℕ) (w : List ℕ) → u ≡ c ∷ w → Turned kind c w s t
 comment-turned {s} {t} near shut (line {style} {w} all stop is) c v e = subst (λ (xs : List ℕ). Turned (LineComment style) (get_or xs 0 0) (drop 1 xs) s t) e made
@@ -66,11 +65,11 @@ comment-turned {s} {t} near shut (line {style} {w} all stop is) c v e = subst (�
     made : Turned (LineComment style) 47 (47 ∷ w) s t
     made = record {
       rest = 47 ∷ unix_lines true w;
-      token = the.line_comment (unix-all is_inline true w all) stop (unix-style 47 (codes "/") refl refl refl refl refl true is);
+      token = the.line_comment (without-all (is_return_before true) is_inline w all) stop (unix-style 47 (codes "/") refl refl refl refl refl true is);
       near = unix-near true (47 ∷ 47 ∷ w) near (λ _. newline-after t stop (shut refl));
       is = (unix-bytes true (47 ∷ 47 ∷ w)).lines;
       again = unix-turned true (47 ∷ 47 ∷ w);
-      size = unix-size true (47 ∷ 47 ∷ w);
+      size = without-size (is_return_before true) (47 ∷ 47 ∷ w);
       good = unix-scalars true (47 ∷ 47 ∷ w);
     }
 comment-turned {s} {t} near shut (block {style} {w} p is) c v e = subst (λ (xs : List ℕ). Turned (BlockComment style true) (get_or xs 0 0) (drop 1 xs) s t) e made
@@ -82,7 +81,7 @@ comment-turned {s} {t} near shut (block {style} {w} p is) c v e = subst (λ (xs 
       near = unix-near false (47 ∷ 42 ∷ w) near (λ e. absurd (true≢false (sym e)));
       is = (unix-bytes false (47 ∷ 42 ∷ w)).lines;
       again = unix-turned false (47 ∷ 42 ∷ w);
-      size = unix-size false (47 ∷ 42 ∷ w);
+      size = without-size (is_return_before false) (47 ∷ 42 ∷ w);
       good = unix-scalars false (47 ∷ 42 ∷ w);
     }
 

@@ -1,75 +1,45 @@
 -- Comments with unix line ends are comments still, stay, and are near what they were.
-use Rattle.std.proofs.Common.{◌≡◌, ℕ, suc, ◌<◌, ◌≤◌, ◌==◌, ◌&&◌, ◌||◌, ◌⊎◌, inl, inr, not, Bool, true, false, true≢false, if◌then◌else◌, List, [], ◌∷◌, ◌++◌, length, get_or, drop, length-append, codes, refl, sym, ap, ◌∙◌, subst, arith, append_assoc, Option}
+use Rattle.std.proofs.Common.{◌≡◌, ℕ, suc, ◌<◌, ◌==◌, ◌&&◌, ◌||◌, inl, inr, not, Bool, true, false, true≢false, if◌then◌else◌, List, [], ◌∷◌, ◌++◌, length, get_or, length-append, codes, refl, sym, ap, ◌∙◌, subst, arith, append_assoc, Option}
 use lib.Utf8.{scalar, scalars}
 use Rattle.std.proofs.lemmas.Bool.{and_parts, cases_Bool, eqb-true, ne_eqb, eq-eqb, not-true}
+use Rattle.std.proofs.lemmas.List.{append-nil}
 use Rattle.std.proofs.lemmas.Str.{inside_one, length-le-encodes}
 use Rattle.std.specs.Char.{encode_utf8}
 use Rattle.std.specs.List.{list_all}
 use Rattle.std.specs.Str.{encode_utf8_all}
 use Rattle.rustc_lexer.specs.declared.token.DocStyle.{DocStyle}
-use Rattle.rustc_lexer.specs.Classes.{is_among, is_whitespace, bytes, begins, next_is}
+use Rattle.rustc_lexer.specs.Classes.{is_among, is_whitespace, begins, next_is}
 use Rattle.rustc_lexer.specs.Language as the
 use Rattle.rustc_lexer.specs.Language.{IsStyle, IsCommentRest}
-use Rattle.tidy_run.specs.Order.{is_line_end, unix_lines, IsUnix}
+use Rattle.tidy_run.specs.Order.{is_line_end, is_return_before, unix_lines, IsUnix}
 use Rattle.tidy_run.proofs.NearLemmas.{Near, space, same}
+use Rattle.tidy_run.proofs.OrderLemmas.{judge, without-all, without-again, past, none-dropped}
 
 -- ---- what is judged
-
-pub unix-judge : (last : Bool) (c : ℕ) (w : List ℕ) → (((c == 13) ≡ true) × (is_line_end last w ≡ true) × (unix_lines last (c ∷ w) ≡ unix_lines last w)) ⊎ (unix_lines last (c ∷ w) ≡ c ∷ unix_lines last w)
-unix-judge last c w = elim (cases_Bool (c == 13 && is_line_end last w)) [
-  | inl e ↦ (let both = and_parts (c == 13) (is_line_end last w) e in inl (both.0, both.1, rw e refl))
-  | inr e ↦ inr (rw e refl)
-]
 
 -- the ends of lines stay
 pub unix-ends : (last : Bool) (w : List ℕ) → is_line_end last (unix_lines last w) ≡ is_line_end last w
 unix-ends last [] = refl
-unix-ends last (c ∷ w) = elim (unix-judge last c w) [
-  | inl d ↦ ap (is_line_end last) d.2 ∙ (unix-ends last w ∙ (d.1 ∙ sym (at_return d.0 d.1)))
-  | inr k ↦ ap (is_line_end last) k ∙ ap (λ (b : Bool). c == 10 || c == 13 && b) (unix-ends last w)
+unix-ends last (c ∷ w) = elim (judge (is_return_before last) c w) [
+  | inl d ↦ ap (is_line_end last) d.1 ∙ (unix-ends last w ∙ sym (ap (λ (x : ℕ). is_line_end last (x ∷ w)) (eqb-true c 13 (and_parts (c == 13) _ d.0).0)))
+  | inr k ↦ ap (is_line_end last) k.1 ∙ ap (λ (b : Bool). c == 10 || c == 13 && b) (unix-ends last w)
 ]
-  where
-    at_return : (c == 13) ≡ true → is_line_end last w ≡ true → is_line_end last (c ∷ w) ≡ true
-    at_return e f = ap (λ (d : ℕ). is_line_end last (d ∷ w)) (eqb-true c 13 e) ∙ f
-
--- once is enough
-pub unix-again : (last : Bool) (w : List ℕ) → unix_lines last (unix_lines last w) ≡ unix_lines last w
-unix-again last [] = refl
-unix-again last (c ∷ w) = elim (cases_Bool (c == 13 && is_line_end last w)) [
-  | inl e ↦ rw e (unix-again last w)
-  | inr e ↦ rw e (ap (λ (b : Bool). if c == 13 && b then unix_lines last (unix_lines last w) else c ∷ unix_lines last (unix_lines last w)) (unix-ends last w) ∙ rw e (ap (λ (xs : List ℕ). c ∷ xs) (unix-again last w)))
-]
-
-pub unix-all : (p : ℕ → Bool) (last : Bool) (w : List ℕ) → list_all p w ≡ true → list_all p (unix_lines last w) ≡ true
-unix-all p last [] all = refl
-unix-all p last (c ∷ w) all =
-    let parts = and_parts (p c) (list_all p w) all in
-    elim (unix-judge last c w) [
-      | inl d ↦ ap (list_all p) d.2 ∙ unix-all p last w parts.1
-      | inr k ↦ ap (list_all p) k ∙ (ap (λ (b : Bool). b && list_all p (unix_lines last w)) parts.0 ∙ unix-all p last w parts.1)
-    ]
 
 -- ---- what comes next
 
 -- before the end of a line is nothing of such a class
-none-next : (p : ℕ → Bool) → p 13 ≡ false → p 10 ≡ false → (last : Bool) (w : List ℕ) → is_line_end last w ≡ true → next_is p (unix_lines last w) ≡ false
+none-next : (p : ℕ → Bool) → p 13 ≡ false → p 10 ≡ false → (last : Bool) (w : List ℕ) → is_line_end last w ≡ true → next_is p w ≡ false
 none-next p r n last [] e = refl
-none-next p r n last (c ∷ w) e = elim (unix-judge last c w) [
-  | inl d ↦ ap (next_is p) d.2 ∙ none-next p r n last w d.1
-  | inr k ↦ ap (next_is p) k ∙ at_end
+none-next p r n last (c ∷ w) e = elim (cases_Bool (c == 10)) [
+  | inl f ↦ ap p (eqb-true c 10 f) ∙ n
+  | inr f ↦ ap p (eqb-true c 13 (and_parts (c == 13) (is_line_end last w) (sym (ap (λ (b : Bool). b || c == 13 && is_line_end last w) f) ∙ e)).0) ∙ r
 ]
-  where
-    at_end : p c ≡ false
-    at_end = elim (cases_Bool (c == 10)) [
-      | inl f ↦ ap p (eqb-true c 10 f) ∙ n
-      | inr f ↦ ap p (eqb-true c 13 (and_parts (c == 13) (is_line_end last w) (sym (ap (λ (b : Bool). b || c == 13 && is_line_end last w) f) ∙ e)).0) ∙ r
-    ]
 
 pub unix-next : (p : ℕ → Bool) → p 13 ≡ false → p 10 ≡ false → (last : Bool) (w : List ℕ) → next_is p (unix_lines last w) ≡ next_is p w
 unix-next p r n last [] = refl
-unix-next p r n last (c ∷ w) = elim (unix-judge last c w) [
-  | inl d ↦ ap (next_is p) d.2 ∙ (none-next p r n last w d.1 ∙ sym (ap p (eqb-true c 13 d.0) ∙ r))
-  | inr k ↦ ap (next_is p) k
+unix-next p r n last (c ∷ w) = elim (judge (is_return_before last) c w) [
+  | inl d ↦ (let both = and_parts (c == 13) (is_line_end last (unix_lines last w)) d.0 in ap (next_is p) d.1 ∙ (none-next p r n last (unix_lines last w) both.1 ∙ sym (ap p (eqb-true c 13 both.0) ∙ r)))
+  | inr k ↦ ap (next_is p) k.1
 ]
 
 -- ---- comments
@@ -92,7 +62,7 @@ rest-append (the.closing) w = refl
 rest-append (the.nested {v} {w = u} a b) w =
     ap (λ (xs : List ℕ). 47 ∷ 42 ∷ xs) (ap (unix_lines false) (append_assoc v u w) ∙ (rest-append a (u ++ w) ∙ (ap (λ (xs : List ℕ). unix_lines false v ++ xs) (rest-append b w)
     ∙ (sym (append_assoc (unix_lines false v) (unix_lines false u) (unix_lines false w)) ∙ ap (λ (xs : List ℕ). xs ++ unix_lines false w) (sym (rest-append a u))))))
-rest-append (the.other {c} {w = v} e f is) w = ap (λ (b : Bool). if c == 13 && b then unix_lines false (v ++ w) else c ∷ unix_lines false (v ++ w)) (rest-ends is w) ∙ elim (cases_Bool (c == 13 && is_line_end false v)) [
+rest-append (the.other {c} {w = v} e f is) w = ap (λ (b : Bool). if c == 13 && b then unix_lines false (v ++ w) else c ∷ unix_lines false (v ++ w)) (unix-ends false (v ++ w) ∙ (rest-ends is w ∙ sym (unix-ends false v))) ∙ elim (cases_Bool (c == 13 && is_line_end false (unix_lines false v))) [
   | inl g ↦ rw g (rest-append is w)
   | inr g ↦ rw g (ap (λ (xs : List ℕ). c ∷ xs) (rest-append is w))
 ]
@@ -111,26 +81,20 @@ unix-mark d f c w r n e = ap (λ (b : Bool). c == d && b) (one-next (unix_lines 
 pub unix-rest : {w : List ℕ} → IsCommentRest w → IsCommentRest (unix_lines false w)
 unix-rest (the.closing) = the.closing
 unix-rest (the.nested {v} {w} a b) = subst (λ (xs : List ℕ). IsCommentRest (47 ∷ 42 ∷ xs)) (sym (rest-append a w)) (the.nested (unix-rest a) (unix-rest b))
-unix-rest (the.other {c} {w} e f is) = elim (unix-judge false c w) [
-  | inl d ↦ subst IsCommentRest (sym d.2) (unix-rest is)
-  | inr k ↦ subst IsCommentRest (sym k) (the.other (unix-mark 42 47 c w refl refl e) (unix-mark 47 42 c w refl refl f) (unix-rest is))
+unix-rest (the.other {c} {w} e f is) = elim (judge (is_return_before false) c w) [
+  | inl d ↦ subst IsCommentRest (sym d.1) (unix-rest is)
+  | inr k ↦ subst IsCommentRest (sym k.1) (the.other (unix-mark 42 47 c w refl refl e) (unix-mark 47 42 c w refl refl f) (unix-rest is))
 ]
 
 -- ---- near
 
--- past carriage returns that are dropped stands a newline
-newline-stays : (last : Bool) (w t : List ℕ) → is_line_end last w ≡ true → (last ≡ true → begins (codes "\n") t ≡ true) → begins (codes "\n") (unix_lines last w ++ t) ≡ true
-newline-stays last [] t e end = end e
-newline-stays last (c ∷ w) t e end = elim (unix-judge last c w) [
-  | inl d ↦ ap (λ (xs : List ℕ). begins (codes "\n") (xs ++ t)) d.2 ∙ newline-stays last w t d.1 end
-  | inr k ↦ ap (λ (xs : List ℕ). begins (codes "\n") (xs ++ t)) k ∙ elim (cases_Bool (c == 10)) [
-    | inl f ↦ rw f refl
-    | inr f ↦ (let g = sym (ap (λ (b : Bool). b || c == 13 && is_line_end last w) f) ∙ e in absurd (shorter (ap length (sym (ap (λ (b : Bool). if b then unix_lines last w else c ∷ unix_lines last w) g) ∙ k))))
-  ]
+-- at the end of a line that holds no carriage return before it stands a newline
+newline-here : (last : Bool) (w t : List ℕ) → unix_lines last w ≡ w → is_line_end last w ≡ true → (last ≡ true → begins (codes "\n") t ≡ true) → begins (codes "\n") (w ++ t) ≡ true
+newline-here last [] t stays e end = end e
+newline-here last (c ∷ w) t stays e end = elim (cases_Bool (c == 10)) [
+  | inl f ↦ rw f refl
+  | inr f ↦ absurd (true≢false (sym (sym (ap (λ (b : Bool). b || c == 13 && is_line_end last w) f) ∙ e) ∙ (past (is_return_before last) c w stays).0))
 ]
-  where
-    shorter : length (unix_lines last w) ≡ length (c ∷ unix_lines last w) → ⊥
-    shorter e = omega (arith, e)
 
 near-newline-first : (c : ℕ) (s r : List ℕ) → (c == 13) ≡ true → begins (codes "\n") r ≡ true → Near (c ∷ s) r
 near-newline-first c s [] e f = absurd (true≢false (sym f))
@@ -140,28 +104,20 @@ near-newline-first c s (d ∷ r) e f =
 
 pub unix-near : (last : Bool) (w : List ℕ) {s t : List ℕ} → Near s t → (last ≡ true → begins (codes "\n") t ≡ true) → Near (w ++ s) (unix_lines last w ++ t)
 unix-near last [] near end = near
-unix-near last (c ∷ w) {s} {t} near end = elim (unix-judge last c w) [
-  | inl d ↦ subst (λ (xs : List ℕ). Near (c ∷ w ++ s) (xs ++ t)) (sym d.2) (near-newline-first c (w ++ s) (unix_lines last w ++ t) d.0 (newline-stays last w t d.1 end))
-  | inr k ↦ subst (λ (xs : List ℕ). Near (c ∷ w ++ s) (xs ++ t)) (sym k) (same (unix-near last w near end))
+unix-near last (c ∷ w) {s} {t} near end = elim (judge (is_return_before last) c w) [
+  | inl d ↦ (let both = and_parts (c == 13) (is_line_end last (unix_lines last w)) d.0 in
+      subst (λ (xs : List ℕ). Near (c ∷ w ++ s) (xs ++ t)) (sym d.1) (near-newline-first c (w ++ s) (unix_lines last w ++ t) both.0 (newline-here last (unix_lines last w) t (without-again (is_return_before last) w) both.1 end)))
+  | inr k ↦ subst (λ (xs : List ℕ). Near (c ∷ w ++ s) (xs ++ t)) (sym k.1) (same (unix-near last w near end))
 ]
 
 -- ---- bytes
 
-pub unix-size : (last : Bool) (w : List ℕ) → bytes (unix_lines last w) ≤ bytes w
-unix-size last [] = omega arith
-unix-size last (c ∷ w) = elim (unix-judge last c w) [
-  | inl d ↦ (let le = unix-size last w in let e : bytes (unix_lines last (c ∷ w)) ≡ bytes (unix_lines last w) = ap bytes d.2 in let n = length-append (encode_utf8 c) (encode_utf8_all w) in omega arith)
-  | inr k ↦ (let le = unix-size last w in let e : bytes (unix_lines last (c ∷ w)) ≡ bytes (c ∷ unix_lines last w) = ap bytes k in let n = length-append (encode_utf8 c) (encode_utf8_all w) in let m = length-append (encode_utf8 c) (encode_utf8_all (unix_lines last w)) in omega arith)
-]
+scalars-all : (w : List ℕ) → scalars w ≡ list_all scalar w
+scalars-all [] = refl
+scalars-all (c ∷ w) = ap (λ (b : Bool). scalar c && b) (scalars-all w)
 
 pub unix-scalars : (last : Bool) (w : List ℕ) → scalars w ≡ true → scalars (unix_lines last w) ≡ true
-unix-scalars last [] e = refl
-unix-scalars last (c ∷ w) e =
-    let parts = and_parts (scalar c) (scalars w) e in
-    elim (unix-judge last c w) [
-      | inl d ↦ ap scalars d.2 ∙ unix-scalars last w parts.1
-      | inr k ↦ ap scalars k ∙ (ap (λ (b : Bool). b && scalars (unix_lines last w)) parts.0 ∙ unix-scalars last w parts.1)
-    ]
+unix-scalars last w e = scalars-all (unix_lines last w) ∙ without-all (is_return_before last) scalar w (sym (scalars-all w) ∙ e)
 
 -- bytes that are no line ends and no carriage returns stay
 abbrev is_text : ℕ → Bool
@@ -175,11 +131,7 @@ text-bytes : (c : ℕ) → (c == 10) ≡ false → (c == 13) ≡ false → list_
 text-bytes c n r = all-text (encode_utf8 c) each
   where
     other : (d k : ℕ) → (c == d) ≡ false → d < 128 → k < length (encode_utf8 c) → (get_or (encode_utf8 c) k 0 == d) ≡ false
-    other d k e small lt = ne_eqb (get_or (encode_utf8 c) k 0) d (λ same. true≢false (sym (eq-eqb c d (inside_one c [] (encode_utf8 c) k (no-more (encode_utf8 c)) lt (omega arith) ∙ same)) ∙ e))
-      where
-        no-more : (xs : List ℕ) → xs ≡ xs ++ []
-        no-more [] = refl
-        no-more (x ∷ xs) = ap (λ (ys : List ℕ). x ∷ ys) (no-more xs)
+    other d k e small lt = ne_eqb (get_or (encode_utf8 c) k 0) d (λ same. true≢false (sym (eq-eqb c d (inside_one c [] (encode_utf8 c) k (sym (append-nil (encode_utf8 c))) lt (omega arith) ∙ same)) ∙ e))
 
     each : (k : ℕ) → k < length (encode_utf8 c) → is_text (get_or (encode_utf8 c) k 0) ≡ true
     each k lt = rw (other 10 k n (omega arith) lt, other 13 k r (omega arith) lt) refl
@@ -219,8 +171,8 @@ unix-bytes last (c ∷ w) = elim (cases_Bool (c == 10)) [
   })
   | inr n ↦ elim (cases_Bool (c == 13)) [
     | inl r ↦ subst (λ (d : ℕ). SameBytes last (d ∷ w)) (sym (eqb-true c 13 r)) (record {
-      lines = ap (λ (bs : List ℕ). unix_lines last (bs ++ encode_utf8_all w)) return-byte ∙ (ap (λ (b : Bool). if b then unix_lines last (encode_utf8_all w) else 13 ∷ unix_lines last (encode_utf8_all w)) (unix-bytes last w).ends
-          ∙ (ap (λ (xs : List ℕ). if is_line_end last w then xs else 13 ∷ xs) (unix-bytes last w).lines ∙ choose (is_line_end last w)));
+      lines = ap (λ (bs : List ℕ). unix_lines last (bs ++ encode_utf8_all w)) return-byte ∙ (ap (λ (b : Bool). if b then unix_lines last (encode_utf8_all w) else 13 ∷ unix_lines last (encode_utf8_all w)) (unix-ends last (encode_utf8_all w) ∙ ((unix-bytes last w).ends ∙ sym (unix-ends last w)))
+          ∙ (ap (λ (xs : List ℕ). if is_line_end last (unix_lines last w) then xs else 13 ∷ xs) (unix-bytes last w).lines ∙ choose (is_line_end last (unix_lines last w))));
       ends = ap (λ (bs : List ℕ). is_line_end last (bs ++ encode_utf8_all w)) return-byte ∙ (unix-bytes last w).ends;
     })
     | inr r ↦ (let text = text-bytes c n r in record {
@@ -245,39 +197,8 @@ unix-bytes last (c ∷ w) = elim (cases_Bool (c == 10)) [
 
 -- ---- in the words of the subject
 
-unix-short : (last : Bool) (w : List ℕ) → length (unix_lines last w) ≤ length w
-unix-short last [] = omega arith
-unix-short last (c ∷ w) = elim (unix-judge last c w) [
-  | inl d ↦ (let le = unix-short last w in let e = ap length d.2 in omega arith)
-  | inr k ↦ (let le = unix-short last w in let e = ap length k in omega arith)
-]
-
--- what has unix line ends, has them past any front
-record Past (last : Bool) (c : ℕ) (w : List ℕ) : Type 0 where
-  kept : (c == 13 && is_line_end last w) ≡ false
-  rest : unix_lines last w ≡ w
-
-unix-past : (last : Bool) (c : ℕ) (w : List ℕ) → unix_lines last (c ∷ w) ≡ c ∷ w → Past last c w
-unix-past last c w eq = elim (cases_Bool (c == 13 && is_line_end last w)) [
-  | inl e ↦ absurd (let le = unix-short last w in let f = ap length (sym eq ∙ dropped e) in omega arith)
-  | inr e ↦ record { kept = e; rest = ap (drop 1) (sym (stays e) ∙ eq) }
-]
-  where
-    dropped : (c == 13 && is_line_end last w) ≡ true → unix_lines last (c ∷ w) ≡ unix_lines last w
-    dropped e = rw e refl
-
-    stays : (c == 13 && is_line_end last w) ≡ false → unix_lines last (c ∷ w) ≡ c ∷ unix_lines last w
-    stays e = rw e refl
-
-unix-at : (last : Bool) (u v : List ℕ) → unix_lines last (u ++ v) ≡ u ++ v → unix_lines last v ≡ v
-unix-at last [] v eq = eq
-unix-at last (c ∷ u) v eq = unix-at last u v (unix-past last c (u ++ v) eq).rest
-
 pub unix_lines_are : (last : Bool) (w : List ℕ) → IsUnix last (unix_lines last w)
 unix_lines_are last w = record {
-  no_return = λ u v e. true≢false (unix-past last 13 (10 ∷ v) (at u (13 ∷ 10 ∷ v) e)).kept;
-  no_last = λ yes u e. true≢false (sym yes ∙ (unix-past last 13 [] (at u (13 ∷ []) e)).kept);
+  no_return = λ u v e. true≢false (none-dropped (is_return_before last) w u (10 ∷ v) 13 e);
+  no_last = λ yes u e. true≢false (sym yes ∙ none-dropped (is_return_before last) w u [] 13 e);
 }
-  where
-    at : (u v : List ℕ) → unix_lines last w ≡ u ++ v → unix_lines last v ≡ v
-    at u v e = unix-at last u v (sym (ap (unix_lines last) e) ∙ (unix-again last w ∙ e))

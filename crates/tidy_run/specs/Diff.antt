@@ -1,7 +1,7 @@
 -- The diff of two texts: what is to be read from it, and how it is printed.
-use Rattle.std.specs.Prelude.{◌≡◌, ℕ, ◌+◌, ◌-◌, ◌<◌, ◌≤◌, ◌==◌, Bool, true, false, not, if◌then◌else◌, List, [], ◌∷◌, ◌++◌, length, take, codes, decimal, slice_index}
-use Rattle.std.specs.List.{between, list_any}
-use Rattle.std.specs.Str.{byte}
+use Rattle.std.specs.Prelude.{◌≡◌, ℕ, ◌+◌, ◌-◌, ◌<◌, ◌≤◌, ◌==◌, ◌&&◌, Bool, true, false, not, if◌then◌else◌, List, [], ◌∷◌, ◌++◌, length, take, drop, codes, decimal, nat_eq, map, filter, count_by}
+use Rattle.std.specs.List.{between, ends_with, flat_map, list_any}
+use Rattle.std.specs.Str.{byte, IsCharBoundary}
 use Rattle.tidy_run.specs.declared.diff.Line.{Line}
 use Rattle.tidy_run.specs.declared.diff.Mark.{Mark}
 use Rattle.tidy_run.specs.declared.diff.Mark.TheVariants.{Same, Old, New}
@@ -15,6 +15,12 @@ abbrev pub lines_of : List ℕ → List (List ℕ)
 lines_of [] = []
 lines_of (c ∷ cs) = if c == byte "\n" then (c ∷ []) ∷ lines_of cs else onto_first c (lines_of cs)
 
+-- where the first line of a text ends
+pub record IsFirstEnd (text : List ℕ) (end : ℕ) : Type 0 where
+  pub some : 0 < end
+  pub cut : IsCharBoundary text end
+  pub line : lines_of text ≡ take end text ∷ lines_of (drop end text)
+
 -- the lines of the old text are those with the marks ` ` and `-`, those of the new one have ` ` and `+`
 abbrev pub is_old : Mark → Bool
 is_old Same = true
@@ -27,17 +33,14 @@ is_new Old = false
 is_new New = true
 
 abbrev pub is_same : Mark → Bool
-is_same Same = true
-is_same Old = false
-is_same New = false
+is_same mark = is_old mark && is_new mark
 
-abbrev pub old_lines : List Line → List (List ℕ)
-old_lines [] = []
-old_lines (line ∷ lines) = if is_old line.mark then line.text.now ∷ old_lines lines else old_lines lines
+-- the lines whose marks pass, and how many they are
+abbrev pub marked : (Mark → Bool) → List Line → List (List ℕ)
+marked passes lines = map (λ (line : Line). line.text.now) (filter (λ (line : Line). passes line.mark) lines)
 
-abbrev pub new_lines : List Line → List (List ℕ)
-new_lines [] = []
-new_lines (line ∷ lines) = if is_new line.mark then line.text.now ∷ new_lines lines else new_lines lines
+abbrev pub count_marked : (Mark → Bool) → List Line → ℕ
+count_marked passes lines = count_by (λ (line : Line). passes line.mark) lines
 
 -- ---- which lines are shown
 
@@ -70,17 +73,10 @@ mark_text Same = codes " "
 mark_text Old = codes "-"
 mark_text New = codes "+"
 
-abbrev pub ends_in_newline : List ℕ → Bool
-ends_in_newline text = slice_index text (length text - 1) == byte "\n"
-
 -- of a line with no newline that is said
 abbrev pub line_text : Line → List ℕ
 line_text line =
-    mark_text line.mark ++ (line.text.now ++ (if ends_in_newline line.text.now then [] else codes "\n\\ No newline at end of file\n"))
-
-abbrev pub lines_text : List Line → List ℕ
-lines_text [] = []
-lines_text (line ∷ lines) = line_text line ++ lines_text lines
+    mark_text line.mark ++ (line.text.now ++ (if ends_with nat_eq line.text.now (codes "\n") then [] else codes "\n\\ No newline at end of file\n"))
 
 -- the number of the first line, counted from 1, and how many there are; of none, the number of the line before
 abbrev pub first_number : ℕ → ℕ → ℕ
@@ -94,7 +90,7 @@ head_text old olds new news =
 
 -- lines with their head, where so many lines of each text are before them
 abbrev pub hunk_text : ℕ → ℕ → List Line → List ℕ
-hunk_text old new shown = head_text old (length (old_lines shown)) new (length (new_lines shown)) ++ lines_text shown
+hunk_text old new shown = head_text old (count_marked is_old shown) new (count_marked is_new shown) ++ flat_map line_text shown
 
 -- what is printed of the lines from a place on: each line that is shown, in hunks that do not touch
 pub data AreHunks (lines : List Line) : ℕ → List ℕ → Type 0 where
@@ -102,7 +98,7 @@ pub data AreHunks (lines : List Line) : ℕ → List ℕ → Type 0 where
   hunk : {at : ℕ} {text : List ℕ} (start end : ℕ)
       → IsHunk lines at start end
       → AreHunks lines end text
-      → AreHunks lines at (hunk_text (length (old_lines (take start lines))) (length (new_lines (take start lines))) (between start end lines) ++ text)
+      → AreHunks lines at (hunk_text (count_marked is_old (take start lines)) (count_marked is_new (take start lines)) (between start end lines) ++ text)
 
 -- the hunks of these lines are appended
 pub record PrintsHunks (before : List ℕ) (lines : List Line) (after : List ℕ) : Type 0 where
@@ -119,7 +115,7 @@ names_text name = codes "--- a/" ++ (name ++ (codes "\t\n+++ b/" ++ (name ++ cod
 pub record IsDiff (name old new text : List ℕ) : Type 0 where
   pub lines : List Line
   pub hunks : List ℕ
-  pub olds : old_lines lines ≡ lines_of old
-  pub news : new_lines lines ≡ lines_of new
+  pub olds : marked is_old lines ≡ lines_of old
+  pub news : marked is_new lines ≡ lines_of new
   pub are : AreHunks lines 0 hunks
   pub is : text ≡ names_text name ++ hunks

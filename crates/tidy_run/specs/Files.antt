@@ -49,13 +49,6 @@ shown_of (Ok (Replaced text)) = []
 shown_of (Ok (Shown text)) = string_bytes text
 shown_of (Err fault) = []
 
--- memory is asked for in order to note it, or was refused before
-abbrev pub AsksMemory : Result Step Fault → Type 0
-AsksMemory (Ok Stays) = ⊥
-AsksMemory (Ok (Replaced text)) = ⊥
-AsksMemory (Ok (Shown text)) = Unit {0}
-AsksMemory (Err fault) = Unit {0}
-
 -- one more, if it is so; a number past 2 ^ 64 - 1 stays there
 abbrev pub raised : ℕ → Bool → ℕ
 raised n more = if more then min (n + 1) (2 ^ 64 - 1) else n

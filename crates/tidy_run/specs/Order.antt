@@ -1,7 +1,8 @@
 -- A text in order: what its white space becomes. All else stays.
-use Rattle.std.specs.Prelude.{◌≡◌, ◌≢◌, ℕ, ◌+◌, ◌-◌, ◌<◌, ◌≤◌, ◌^◌, get_or, ◌==◌, ◌&&◌, ◌||◌, not, Bool, true, false, if◌then◌else◌, List, [], ◌∷◌, ◌++◌, length, take, drop, codes, Option, Some, None, is_none}
+use Rattle.std.specs.Prelude.{◌≡◌, ◌≢◌, ℕ, ◌+◌, ◌-◌, ◌<◌, ◌≤◌, ◌^◌, get_or, ◌==◌, ◌&&◌, ◌||◌, not, Bool, true, false, if◌then◌else◌, List, [], ◌∷◌, ◌++◌, length, take, drop, codes, nat_eq, None, is_none}
 use Rattle.std.specs.List.{list_all}
-use Rattle.std.specs.Str.{byte}
+use Rattle.std.specs.Option.{option_eq, unwrap_or}
+use Rattle.std.specs.Str.{byte, IsCharBoundary}
 use Rattle.rustc_lexer.specs.declared.token.Token.{Token}
 use Rattle.rustc_lexer.specs.declared.token.TokenKind.{TokenKind}
 use Rattle.rustc_lexer.specs.declared.token.LiteralKind.{LiteralKind}
@@ -18,34 +19,52 @@ use Rattle.rustc_lexer.specs.laws.Same.{is_same}
 abbrev pub is_blank : ℕ → Bool
 is_blank c = is_among (0x9 ∷ 0xD ∷ 0x20 ∷ []) c
 
+-- a text without what is dropped: each character is judged before what is left of those behind it
+abbrev pub without : (List ℕ → ℕ → Bool) → List ℕ → List ℕ
+without drops [] = []
+without drops (c ∷ cs) = if drops (without drops cs) c then without drops cs else c ∷ without drops cs
+
 -- whether a character is dropped before these: a blank before a newline, and a newline before two
 abbrev pub is_dropped_before : List ℕ → ℕ → Bool
 is_dropped_before next c = is_blank c && begins (codes "\n") next || c == byte "\n" && begins (codes "\n\n") next
 
--- white space in order: each character is judged before what is left of those behind it
+-- white space in order
 abbrev pub in_order : List ℕ → List ℕ
-in_order [] = []
-in_order (c ∷ cs) = if is_dropped_before (in_order cs) c then in_order cs else c ∷ in_order cs
+in_order space = without is_dropped_before space
 
 -- no blank stands right before a newline, and no three newlines in a row
 pub record IsInOrder (space : List ℕ) : Type 0 where
   pub no_blank : (before after : List ℕ) (c : ℕ) → is_blank c ≡ true → space ≡ before ++ (c ∷ codes "\n" ++ after) → ⊥
   pub no_third : (before after : List ℕ) → space ≡ before ++ (codes "\n\n\n" ++ after) → ⊥
 
--- blanks stand from `end` up to a place, and right before `end` is none
-pub record IsSolidEnd (text : List ℕ) (place end : ℕ) : Type 0 where
+-- where newlines are: nowhere; or first at a place, behind which the text may be cut
+abbrev pub HasNoNewline : List ℕ → Type 0
+HasNoNewline text = (k : ℕ) → k < length text → get_or text k 0 ≢ 10
+
+pub record IsNewline (text : List ℕ) (at : ℕ) : Type 0 where
+  pub inside : at < length text
+  pub here : get_or text at 0 ≡ 10
+  pub none : (k : ℕ) → k < at → get_or text k 0 ≢ 10
+  pub cut : IsCharBoundary text (at + 1)
+
+-- characters that pass stand from `end` up to a place, and right before `end` is none
+pub record IsRunBefore (passes : ℕ → Bool) (text : List ℕ) (place end : ℕ) : Type 0 where
   pub inside : end ≤ place
-  pub blanks : (k : ℕ) → end ≤ k → k < place → is_blank (get_or text k 0) ≡ true
-  pub solid : 0 < end → is_blank (get_or text (end - 1) 0) ≡ false
+  pub all : (k : ℕ) → end ≤ k → k < place → passes (get_or text k 0) ≡ true
+  pub solid : 0 < end → passes (get_or text (end - 1) 0) ≡ false
 
 abbrev pub is_space : TokenKind → Bool
 is_space Whitespace = true
 is_space kind = false
 
+-- whether no tokens are left
+abbrev pub is_last : List Token → Bool
+is_last [] = true
+is_last (token ∷ left) = false
+
 -- the white space that ends a text is one newline
-abbrev pub space_in_order : List ℕ → List Token → List ℕ
-space_in_order space [] = codes "\n"
-space_in_order space (token ∷ left) = in_order space
+abbrev pub space_in_order : List ℕ → Bool → List ℕ
+space_in_order space last = if last then codes "\n" else in_order space
 
 -- ---- the tokens that are no white space
 
@@ -54,36 +73,23 @@ abbrev pub is_line_end : Bool → List ℕ → Bool
 is_line_end last [] = last
 is_line_end last (c ∷ cs) = c == byte "\n" || c == byte "\r" && is_line_end last cs
 
+abbrev pub is_return_before : Bool → List ℕ → ℕ → Bool
+is_return_before last next c = c == byte "\r" && is_line_end last next
+
 -- a text with unix line ends: no carriage return stands before the end of a line
 abbrev pub unix_lines : Bool → List ℕ → List ℕ
-unix_lines last [] = []
-unix_lines last (c ∷ cs) = if c == byte "\r" && is_line_end last cs then unix_lines last cs else c ∷ unix_lines last cs
+unix_lines last text = without (is_return_before last) text
 
 -- no carriage return stands right before a newline, nor at the end where that is the end of a line
 pub record IsUnix (last : Bool) (text : List ℕ) : Type 0 where
   pub no_return : (before after : List ℕ) → text ≡ before ++ (codes "\r\n" ++ after) → ⊥
   pub no_last : last ≡ true → (before : List ℕ) → text ≡ before ++ codes "\r" → ⊥
 
--- carriage returns stand from `end` up to a place, and right before `end` is none
-pub record IsLineEnd (text : List ℕ) (place end : ℕ) : Type 0 where
-  pub inside : end ≤ place
-  pub returns : (k : ℕ) → end ≤ k → k < place → get_or text k 0 ≡ 13
-  pub solid : 0 < end → get_or text (end - 1) 0 ≢ 13
-
-abbrev pub is_line_comment : TokenKind → Bool
-is_line_comment (LineComment doc_style) = true
-is_line_comment kind = false
-
--- one that is closed
-abbrev pub is_block_comment : TokenKind → Bool
-is_block_comment (BlockComment doc_style terminated) = terminated
-is_block_comment kind = false
-
--- the text of a token in order: a comment has unix line ends, and a line comment ends a line
+-- the text of a token in order: a comment that is closed has unix line ends, and a line comment ends a line
 abbrev pub text_in_order : TokenKind → List ℕ → List ℕ
-text_in_order kind text =
-    if is_line_comment kind then unix_lines true text
-    else (if is_block_comment kind then unix_lines false text else text)
+text_in_order (LineComment doc_style) text = unix_lines true text
+text_in_order (BlockComment doc_style true) text = unix_lines false text
+text_in_order kind text = text
 
 -- whether a newline behind the token would become a part of it: nothing closes it, or it is a frontmatter
 abbrev pub is_open_literal : LiteralKind → Bool
@@ -103,19 +109,18 @@ is_open (Literal kind suffix_start) = is_open_literal kind
 is_open (Frontmatter has_invalid_preceding_whitespace invalid_infostring) = true
 is_open kind = false
 
--- what comes behind a token, before the tokens that are left: behind the last one a newline
-abbrev pub closing : TokenKind → List Token → List ℕ
-closing kind [] = if is_open kind then [] else codes "\n"
-closing kind (token ∷ left) = []
+-- what comes behind a token: behind the last one a newline
+abbrev pub closing : TokenKind → Bool → List ℕ
+closing kind last = if last && not (is_open kind) then codes "\n" else []
 
--- a part of the text that is a token, before the tokens that are left
-abbrev pub part_in_order : TokenKind → List ℕ → List Token → List ℕ
-part_in_order kind part left = if is_space kind then space_in_order part left else text_in_order kind part ++ closing kind left
+-- a part of the text that is a token, the last one or another
+abbrev pub part_in_order : TokenKind → List ℕ → Bool → List ℕ
+part_in_order kind part last = if is_space kind then space_in_order part last else text_in_order kind part ++ closing kind last
 
 -- a text by its tokens
 abbrev pub code_in_order : List ℕ → List Token → List ℕ
 code_in_order text [] = []
-code_in_order text (token ∷ tokens) = part_in_order token.kind (take token.len text) tokens ++ code_in_order (drop token.len text) tokens
+code_in_order text (token ∷ tokens) = part_in_order token.kind (take token.len text) (is_last tokens) ++ code_in_order (drop token.len text) tokens
 
 -- the kinds of the tokens, each with its own text, but white space with none
 abbrev pub parts : List ℕ → List Token → List (TokenKind × List ℕ)
@@ -148,28 +153,18 @@ front_in_order text (token ∷ tokens) =
 abbrev pub source_in_order : List ℕ → List Token → List ℕ
 source_in_order text [] = []
 source_in_order text (token ∷ tokens) =
-    if is_space token.kind then space_in_order (take token.len text) tokens ++ front_in_order (drop token.len text) tokens
+    if is_space token.kind then space_in_order (take token.len text) (is_last tokens) ++ front_in_order (drop token.len text) tokens
     else front_in_order text (token ∷ tokens)
 
 abbrev pub source_tidied : List ℕ → List ℕ
 source_tidied text = source_in_order text (tokens_of (document E2024) text)
 
 -- a shebang line stays, and what follows it is a source
-abbrev pub end_of : Option ℕ → ℕ
-end_of None = 0
-end_of (Some len) = len
-
 abbrev pub line_end : List ℕ → ℕ
-line_end text = end_of (shebang text)
+line_end text = unwrap_or (shebang text) 0
 
 abbrev pub document_in_order : List ℕ → List ℕ
 document_in_order text = take (line_end text) text ++ source_tidied (drop (line_end text) text)
-
-abbrev pub is_same_len : Option ℕ → Option ℕ → Bool
-is_same_len None None = true
-is_same_len None (Some n) = false
-is_same_len (Some m) None = false
-is_same_len (Some m) (Some n) = m == n
 
 -- a text of so many bytes has no room for a newline more
 abbrev pub is_full : List ℕ → Bool
@@ -177,7 +172,7 @@ is_full text = length text == 2 ^ 32 - 1
 
 -- a text stays as it is where it is full, and where its shebang line would be another
 abbrev pub may_change : List ℕ → Bool
-may_change text = not (is_full text) && is_same_len (shebang (document_in_order text)) (shebang text)
+may_change text = not (is_full text) && option_eq nat_eq (shebang (document_in_order text)) (shebang text)
 
 -- a whole text in order
 unfoldable pub tidied : List ℕ → List ℕ

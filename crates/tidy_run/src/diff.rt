@@ -3,8 +3,7 @@ ghost use Rattle.std.specs.Prelude.{◌≡◌, ◌<◌, ◌∷◌, IfOk, IfSome,
 ghost use Rattle.std.specs.Str.{IsUtf8};
 ghost use Rattle.tidy_run.specs.Diff as spec;
 
-use crate::order::is_blank;
-use memchr::memchr;
+use crate::order::{is_blank, newline};
 use std::alloc::{AllocError, Global};
 
 /// In which of two texts a line stands.
@@ -62,8 +61,8 @@ pub struct Line<'a> {
 /// The lines of two texts in a row: those that are the same once, and a line that differs by blanks at its end
 /// before the one that it becomes.
 pub fn compare<'a>(alloc: Global, old: &'a str, new: &'a str) -> Result<Vec<Line<'a>>, AllocError>
-    ensures old { IfOk result (λ lines. spec.old_lines lines.items ≡ spec.lines_of old.now) }
-    ensures new { IfOk result (λ lines. spec.new_lines lines.items ≡ spec.lines_of new.now) }
+    ensures old { IfOk result (λ lines. spec.marked spec.is_old lines.items ≡ spec.lines_of old.now) }
+    ensures new { IfOk result (λ lines. spec.marked spec.is_new lines.items ≡ spec.lines_of new.now) }
 {
     let mut lines = Vec::new(alloc);
     let mut left = old;
@@ -116,11 +115,19 @@ fn first_line(text: &str) -> Option<(&str, &str)>
     if text.is_empty() {
         return None;
     }
-    let end = match memchr(b'\n', text.as_bytes()) {
+    Some(text.split_at(first_end(text)))
+}
+
+/// Where the first line of a text ends.
+#[tactic(auto, using(crate::proofs::DiffLemmas::first_end, crate::proofs::DiffLemmas::last_end))]
+fn first_end(text: &str) -> usize
+    requires some { 0 < length text.now }
+    ensures { spec.IsFirstEnd text.now result }
+{
+    match newline(text) {
         Some(at) => at + 1,
         None => text.len(),
-    };
-    Some((&text[..end], &text[end..]))
+    }
 }
 
 /// Whether two lines are the same up to the blanks before their ends.

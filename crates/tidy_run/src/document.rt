@@ -1,5 +1,5 @@
 //! A whole text in order.
-ghost use Rattle.std.specs.Prelude.{◌≡◌, ◌+◌, ◌<◌, ◌≤◌, ◌^◌, IfOk, length, string_bytes};
+ghost use Rattle.std.specs.Prelude.{◌≡◌, ◌+◌, ◌<◌, ◌^◌, IfOk, length, string_bytes};
 ghost use Rattle.std.specs.Str.{IsCharBoundary};
 ghost use Rattle.rustc_lexer.specs.Classes.{Fits};
 ghost use Rattle.tidy_run.specs.Order as spec;
@@ -10,35 +10,27 @@ use std::alloc::{AllocError, Global};
 
 /// A text with its white space and the line ends of its comments in order, closed by a newline. Its shebang line and
 /// all tokens but white space stay, with their texts but for those line ends, and a text in order stays as it is.
-#[tactic(auto, using(crate::proofs::DocumentLemmas::room), unfolding(crate::specs::Order::tidied))]
+#[tactic(auto, using(crate::proofs::DocumentLemmas::room, crate::proofs::DocumentLemmas::full_law, crate::proofs::DocumentLemmas::made_shorter), unfolding(crate::specs::Order::tidied))]
 pub fn tidied(alloc: Global, text: &str) -> Result<String, AllocError>
     requires fits { Fits text.now }
     ensures text { IfOk result (λ out. string_bytes out ≡ spec.tidied text.now) }
     ensures law { spec.IsSound text.now }
 {
-    if is_full(text) {
+    if text.len() == u32::MAX as usize {
         return String::from_str(alloc, text);
     }
     let made = ordered(alloc, text)?;
-    if is_same_len(strip_shebang(made.as_str()), strip_shebang(text)) {
+    if strip_shebang(made.as_str()) == strip_shebang(text) {
         Ok(made)
     } else {
         String::from_str(alloc, text)
     }
 }
 
-/// Whether the text has no room for a newline more.
-fn is_full(text: &str) -> bool
-    ensures { result ≡ spec.is_full text.now }
-{
-    text.len() == u32::MAX as usize
-}
-
 /// The shebang line, and what follows it in order.
 fn ordered(alloc: Global, text: &str) -> Result<String, AllocError>
     requires room { length text.now + 1 < 2 ^ 32 }
     ensures text { IfOk result (λ out. string_bytes out ≡ spec.document_in_order text.now) }
-    ensures inside { spec.line_end text.now ≤ length text.now }
     ensures boundary { IsCharBoundary text.now (spec.line_end text.now) }
 {
     let end = line_len(text);
@@ -51,22 +43,10 @@ fn ordered(alloc: Global, text: &str) -> Result<String, AllocError>
 fn line_len(text: &str) -> usize
     requires fits { Fits text.now }
     ensures line { result ≡ spec.line_end text.now }
-    ensures inside { result ≤ length text.now }
     ensures boundary { IsCharBoundary text.now result }
 {
     match strip_shebang(text) {
         Some(end) => end,
         None => 0,
-    }
-}
-
-/// Whether both are none, or both the same.
-fn is_same_len(len: Option<usize>, other: Option<usize>) -> bool
-    ensures { result ≡ spec.is_same_len len other }
-{
-    match (len, other) {
-        (None, None) => true,
-        (Some(len), Some(other)) => len == other,
-        _ => false,
     }
 }

@@ -7,7 +7,7 @@ ghost use Rattle.std.specs.Str.{IsUtf8};
 ghost use Rattle.sources.specs.Outcomes.{passed_over, source, IsOfSource};
 ghost use Rattle.sources.specs.Reasons.{IsSystemFault, IsText, IsTextFault};
 ghost use Rattle.tidy_run.specs.Diff.{IsDiff};
-ghost use Rattle.tidy_run.specs.Files.{raised, shown_of, AsksMemory, IsOutcome, IsReplaceFault, IsSame, IsStep, IsStepAt, IsTidiedFrom, IsTidyFault};
+ghost use Rattle.tidy_run.specs.Files.{raised, shown_of, IsOutcome, IsReplaceFault, IsSame, IsStep, IsStepAt, IsTidiedFrom, IsTidyFault};
 ghost use Rattle.tidy_run.specs.Files as spec;
 ghost use Rattle.tidy_run.specs.Order.{IsSound, tidied};
 
@@ -96,7 +96,6 @@ impl Outcome {
     /// Takes what came of one file. Where memory is refused nothing changes.
     fn take(&mut self, path: String, came: Result<Step, Fault>) -> Result<(), AllocError>
         ensures memory { OnOk result (IsOfSource came) }
-        ensures asks { OnErr result (AsksMemory came) }
         ensures read { OnOk result (self.new.read ≡ raised self.old.read (spec.is_read came)) }
         ensures changed { OnOk result (self.new.changed ≡ raised self.old.changed (spec.is_changed came)) }
         ensures shown { OnOk result

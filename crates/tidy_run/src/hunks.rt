@@ -1,5 +1,6 @@
 //! How the diff of two texts is printed.
 ghost use Rattle.std.specs.Prelude.{◌≡◌, ◌+◌, ◌<◌, ◌≤◌, ◌^◌, ◌++◌, IfOk, IfSome, None, OnOk, false, length, not, string_bytes};
+ghost use Rattle.std.specs.List.{flat_map};
 ghost use Rattle.tidy_run.specs.Diff as spec;
 
 use crate::diff::{Line, compare};
@@ -110,22 +111,13 @@ fn some_differ(lines: &[Line<'_>]) -> bool
 impl Place {
     /// How many of these lines stand in each text.
     fn past(lines: &[Line<'_>]) -> Place
-        ensures old { result.old ≡ length (spec.old_lines lines.now) }
-        ensures new { result.new ≡ length (spec.new_lines lines.now) }
-        ensures few_old { result.old ≤ length lines.now }
-        ensures few_new { result.new ≤ length lines.now }
+        ensures old { result.old ≡ spec.count_marked spec.is_old lines.now }
+        ensures new { result.new ≡ spec.count_marked spec.is_new lines.now }
     {
-        let mut old: usize = 0;
-        let mut new: usize = 0;
-        for line in lines {
-            if line.mark.is_old() {
-                old += 1;
-            }
-            if line.mark.is_new() {
-                new += 1;
-            }
+        Place {
+            old: lines.iter().filter(|line| line.mark.is_old()).count(),
+            new: lines.iter().filter(|line| line.mark.is_new()).count(),
         }
-        Place { old, new }
     }
 }
 
@@ -135,10 +127,8 @@ fn push_hunk(start: Place, lines: &[Line<'_>], output: &mut String) -> Result<Pl
     requires new { start.new + length lines.now < 2 ^ 64 }
     ensures text { OnOk result (string_bytes output.new
         ≡ string_bytes output.old ++ spec.hunk_text start.old start.new lines.now) }
-    ensures old { IfOk result (λ past. past.old ≡ start.old + length (spec.old_lines lines.now)) }
-    ensures new { IfOk result (λ past. past.new ≡ start.new + length (spec.new_lines lines.now)) }
-    ensures few_old { IfOk result (λ past. past.old ≤ start.old + length lines.now) }
-    ensures few_new { IfOk result (λ past. past.new ≤ start.new + length lines.now) }
+    ensures old { IfOk result (λ past. past.old ≡ start.old + spec.count_marked spec.is_old lines.now) }
+    ensures new { IfOk result (λ past. past.new ≡ start.new + spec.count_marked spec.is_new lines.now) }
 {
     let count = Place::past(lines);
     push_head(start, count, output)?;
@@ -172,7 +162,7 @@ fn first_number(before: usize, count: usize) -> usize
 /// Appends lines, each behind its mark.
 fn push_lines(lines: &[Line<'_>], output: &mut String) -> Result<(), AllocError>
     ensures { OnOk result (string_bytes output.new
-        ≡ string_bytes output.old ++ spec.lines_text lines.now) }
+        ≡ string_bytes output.old ++ flat_map spec.line_text lines.now) }
 {
     for line in lines {
         push_line(line, output)?;
@@ -185,18 +175,11 @@ fn push_line(line: &Line<'_>, output: &mut String) -> Result<(), AllocError>
     ensures { OnOk result (string_bytes output.new
         ≡ string_bytes output.old ++ spec.line_text line.now) }
 {
-    output.push_str(line.mark.text())?;
-    output.push_str(line.text)?;
-    if ends_in_newline(line.text) {
-        return Ok(());
-    }
-    output.push_str("\n\\ No newline at end of file\n")
-}
-
-/// Whether a line has its newline.
-fn ends_in_newline(line: &str) -> bool
-    ensures { result ≡ spec.ends_in_newline line.now }
-{
-    let bytes = line.as_bytes();
-    !bytes.is_empty() && bytes[bytes.len() - 1] == b'\n'
+    let mark = line.mark.text();
+    let end = if line.text.as_bytes().ends_with(b"\n") {
+        ""
+    } else {
+        "\n\\ No newline at end of file\n"
+    };
+    write!(output, "{mark}{}{end}", line.text)
 }

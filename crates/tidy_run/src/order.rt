@@ -1,6 +1,6 @@
 //! White space and tokens in order.
-ghost use Rattle.std.specs.Prelude.{◌≡◌, ◌<◌, ◌≤◌, ◌-◌, ◌++◌, [], OnOk, drop, length, false, true, string_bytes, if◌then◌else◌, codes};
-ghost use Rattle.rustc_lexer.specs.Classes.{Fits, AreAll};
+ghost use Rattle.std.specs.Prelude.{◌≡◌, ◌+◌, ◌<◌, ◌≤◌, ◌^◌, ◌++◌, ◌==◌, IfSome, MatchOption, OnOk, length, string_bytes};
+ghost use Rattle.rustc_lexer.specs.Classes.{Fits};
 ghost use Rattle.rustc_lexer.specs.LanguageText.{mode_of};
 ghost use Rattle.rustc_lexer.specs.Tokens.{tokens_of};
 ghost use Rattle.tidy_run.specs.Order as spec;
@@ -36,9 +36,7 @@ pub fn push_part(
     output: &mut String,
 ) -> Result<(), AllocError>
     ensures { OnOk result (string_bytes output.new
-        ≡ string_bytes output.old ++ (if spec.is_space kind
-        then (if is_last then codes "\n" else spec.in_order part.now)
-        else spec.text_in_order kind part.now ++ (if is_last then (if spec.is_open kind then [] else codes "\n") else []))) }
+        ≡ string_bytes output.old ++ spec.part_in_order kind part.now is_last) }
 {
     if !is_space(kind) {
         push_text(kind, part, output)?;
@@ -58,33 +56,14 @@ fn push_text(kind: TokenKind, text: &str, output: &mut String) -> Result<(), All
     ensures { OnOk result (string_bytes output.new
         ≡ string_bytes output.old ++ spec.text_in_order kind text.now) }
 {
-    if is_line_comment(kind) {
-        return push_unix(text, true, output);
-    }
-    if is_block_comment(kind) {
-        return push_unix(text, false, output);
-    }
-    output.push_str(text)
-}
-
-/// Whether the token is a line comment.
-fn is_line_comment(kind: TokenKind) -> bool
-    ensures { result ≡ spec.is_line_comment kind }
-{
-    matches!(kind, TokenKind::LineComment { .. })
-}
-
-/// Whether the token is a block comment that is closed.
-fn is_block_comment(kind: TokenKind) -> bool
-    ensures { result ≡ spec.is_block_comment kind }
-{
-    matches!(
-        kind,
+    match kind {
+        TokenKind::LineComment { .. } => push_unix(text, true, output),
         TokenKind::BlockComment {
             terminated: true,
             ..
-        }
-    )
+        } => push_unix(text, false, output),
+        _ => output.push_str(text),
+    }
 }
 
 /// Appends a text with no carriage return before the end of a line; `is_line` says whether its end is one.
@@ -95,8 +74,8 @@ fn push_unix(text: &str, is_line: bool, output: &mut String) -> Result<(), Alloc
         ≡ string_bytes output.old ++ spec.unix_lines is_line text.now) }
 {
     let mut rest = text;
-    while let Some(at) = memchr(b'\n', rest.as_bytes()) {
-        let end = line_end(rest.as_bytes(), at);
+    while let Some(at) = newline(rest) {
+        let end = line_end(rest, at);
         output.push_str(&rest[..end])?;
         output.push('\n')?;
         rest = &rest[at + 1..];
@@ -104,15 +83,16 @@ fn push_unix(text: &str, is_line: bool, output: &mut String) -> Result<(), Alloc
     if !is_line {
         return output.push_str(rest);
     }
-    let end = line_end(rest.as_bytes(), rest.len());
+    let end = line_end(rest, rest.len());
     output.push_str(&rest[..end])
 }
 
 /// Where the carriage returns right before a place begin.
-fn line_end(bytes: &[u8], place: usize) -> usize
-    requires inside { place ≤ length bytes.now }
-    ensures { spec.IsLineEnd bytes.now place result }
+fn line_end(text: &str, place: usize) -> usize
+    requires inside { place ≤ length text.now }
+    ensures { spec.IsRunBefore (λ c. c == 13) text.now place result }
 {
+    let bytes = text.as_bytes();
     let mut end = place;
     'returns: while end > 0 && bytes[end - 1] == b'\r' {
         end -= 1;
@@ -165,8 +145,8 @@ fn push_in_order(space: &str, output: &mut String) -> Result<(), AllocError>
 {
     let mut rest = space;
     let mut newlines: usize = 0;
-    while let Some(at) = memchr(b'\n', rest.as_bytes()) {
-        let end = solid_end(rest.as_bytes(), at);
+    while let Some(at) = newline(rest) {
+        let end = solid_end(rest, at);
         if 0 < end {
             output.push_str(&rest[..end])?;
             newlines = 0;
@@ -181,15 +161,24 @@ fn push_in_order(space: &str, output: &mut String) -> Result<(), AllocError>
 }
 
 /// Where the blanks right before a place begin.
-fn solid_end(bytes: &[u8], place: usize) -> usize
-    requires inside { place ≤ length bytes.now }
-    ensures { spec.IsSolidEnd bytes.now place result }
+fn solid_end(text: &str, place: usize) -> usize
+    requires inside { place ≤ length text.now }
+    ensures { spec.IsRunBefore spec.is_blank text.now place result }
 {
+    let bytes = text.as_bytes();
     let mut end = place;
     'blanks: while end > 0 && is_blank(bytes[end - 1]) {
         end -= 1;
     }
     end
+}
+
+/// Where the first newline of a text stands.
+pub fn newline(text: &str) -> Option<usize>
+    ensures found { MatchOption result (spec.HasNoNewline text.now) (spec.IsNewline text.now) }
+    ensures few { IfSome result (λ at. at + 1 < 2 ^ 64) }
+{
+    memchr(b'\n', text.as_bytes())
 }
 
 /// Space, tab and carriage return.

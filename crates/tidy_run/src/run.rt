@@ -44,9 +44,7 @@ pub fn run<R: Read, W: Write>(
     ensures sound { OnOk result (IfSome (R.remaining input.old.inner) (λ bytes. IsSound bytes)) }
 {
     let text = read_text(alloc, input)?;
-    let Ok(made) = document::tidied(alloc, text.as_str()) else {
-        return Err(Stop::Memory);
-    };
+    let made = document::tidied(alloc, text.as_str())?;
     put(output, made.as_str())
 }
 
@@ -62,9 +60,7 @@ pub fn check<R: Read>(alloc: Global, input: &mut Watched<R>) -> Result<(), Stop>
         → IsInputStop (R.remaining input.old.inner) stop) }
 {
     let text = read_text(alloc, input)?;
-    let Ok(made) = document::tidied(alloc, text.as_str()) else {
-        return Err(Stop::Memory);
-    };
+    let made = document::tidied(alloc, text.as_str())?;
     if made.as_str() == text.as_str() {
         Ok(())
     } else {
@@ -85,15 +81,11 @@ pub fn show<R: Read>(alloc: Global, input: &mut Watched<R>) -> Result<Option<Str
     ensures stop { IfErr result (IsInputStop (R.remaining input.old.inner)) }
 {
     let text = read_text(alloc, input)?;
-    let Ok(made) = document::tidied(alloc, text.as_str()) else {
-        return Err(Stop::Memory);
-    };
+    let made = document::tidied(alloc, text.as_str())?;
     if text.as_str() == made.as_str() {
         return Ok(None);
     }
-    let Ok(diff) = hunks::diff(alloc, "stdin", text.as_str(), made.as_str()) else {
-        return Err(Stop::Memory);
-    };
+    let diff = hunks::diff(alloc, "stdin", text.as_str(), made.as_str())?;
     Ok(Some(diff))
 }
 
@@ -113,10 +105,7 @@ fn read_text<R: Read>(alloc: Global, input: &mut Watched<R>) -> Result<String, S
         Err(ReadStop::Memory) => return Err(Stop::Memory),
         Err(ReadStop::Failed) => return Err(Stop::Read),
     };
-    match String::from_utf8(bytes) {
-        Ok(text) => Ok(text),
-        Err(_) => Err(Stop::NotUtf8),
-    }
+    String::from_utf8(bytes).map_err(|_| Stop::NotUtf8)
 }
 
 /// Writes all of the text, and flushes.

@@ -1,8 +1,7 @@
 //! The lines of two texts beside each other, and how they are printed.
 use rattle_std::prelude::Vec;
 
-use crate::order::is_blank;
-use memchr::memchr;
+use crate::order::{is_blank, newline};
 use rattle_std::alloc::{AllocError, Global};
 
 /// In which of two texts a line stands.
@@ -97,11 +96,15 @@ fn first_line(text: &str) -> Option<(&str, &str)> {
     if text.is_empty() {
         return None;
     }
-    let end = match memchr(b'\n', text.as_bytes()) {
+    Some(text.split_at(first_end(text)))
+}
+
+/// Where the first line of a text ends.
+fn first_end(text: &str) -> usize {
+    match newline(text) {
         Some(at) => at + 1,
         None => text.len(),
-    };
-    Some((&text[..end], &text[end..]))
+    }
 }
 
 /// Whether two lines are the same up to the blanks before their ends.

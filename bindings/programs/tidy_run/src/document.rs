@@ -8,20 +8,15 @@ use rustc_lexer::erased::strip_shebang;
 /// A text with its white space and the line ends of its comments in order, closed by a newline. Its shebang line and
 /// all tokens but white space stay, with their texts but for those line ends, and a text in order stays as it is.
 pub fn tidied(alloc: Global, text: &str) -> Result<String, AllocError> {
-    if is_full(text) {
+    if text.len() == u32::MAX as usize {
         return String::from_str(alloc, text);
     }
     let made = ordered(alloc, text)?;
-    if is_same_len(strip_shebang(made.as_str()), strip_shebang(text)) {
+    if strip_shebang(made.as_str()) == strip_shebang(text) {
         Ok(made)
     } else {
         String::from_str(alloc, text)
     }
-}
-
-/// Whether the text has no room for a newline more.
-fn is_full(text: &str) -> bool {
-    text.len() == u32::MAX as usize
 }
 
 /// The shebang line, and what follows it in order.
@@ -37,14 +32,5 @@ fn line_len(text: &str) -> usize {
     match strip_shebang(text) {
         Some(end) => end,
         None => 0,
-    }
-}
-
-/// Whether both are none, or both the same.
-fn is_same_len(len: Option<usize>, other: Option<usize>) -> bool {
-    match (len, other) {
-        (None, None) => true,
-        (Some(len), Some(other)) => len == other,
-        _ => false,
     }
 }

@@ -86,17 +86,10 @@ fn some_differ(lines: &[Line<'_>]) -> bool {
 impl Place {
     /// How many of these lines stand in each text.
     fn past(lines: &[Line<'_>]) -> Place {
-        let mut old: usize = 0;
-        let mut new: usize = 0;
-        for line in lines {
-            if line.mark.is_old() {
-                old += 1;
-            }
-            if line.mark.is_new() {
-                new += 1;
-            }
+        Place {
+            old: lines.iter().filter(|line| line.mark.is_old()).count(),
+            new: lines.iter().filter(|line| line.mark.is_new()).count(),
         }
-        Place { old, new }
     }
 }
 
@@ -133,16 +126,11 @@ fn push_lines(lines: &[Line<'_>], output: &mut String) -> Result<(), AllocError>
 
 /// Appends a line behind its mark.
 fn push_line(line: &Line<'_>, output: &mut String) -> Result<(), AllocError> {
-    output.push_str(line.mark.text())?;
-    output.push_str(line.text)?;
-    if ends_in_newline(line.text) {
-        return Ok(());
-    }
-    output.push_str("\n\\ No newline at end of file\n")
-}
-
-/// Whether a line has its newline.
-fn ends_in_newline(line: &str) -> bool {
-    let bytes = line.as_bytes();
-    !bytes.is_empty() && bytes[bytes.len() - 1] == b'\n'
+    let mark = line.mark.text();
+    let end = if line.text.as_bytes().ends_with(b"\n") {
+        ""
+    } else {
+        "\n\\ No newline at end of file\n"
+    };
+    write!(output, "{mark}{}{end}", line.text)
 }

@@ -42,36 +42,20 @@ pub fn push_part(
 
 /// Appends the text of a token that is no white space; a comment gets unix line ends.
 fn push_text(kind: TokenKind, text: &str, output: &mut String) -> Result<(), AllocError> {
-    if is_line_comment(kind) {
-        return push_unix(text, true, output);
-    }
-    if is_block_comment(kind) {
-        return push_unix(text, false, output);
-    }
-    output.push_str(text)
-}
-
-/// Whether the token is a line comment.
-fn is_line_comment(kind: TokenKind) -> bool {
-    matches!(kind, TokenKind::LineComment { .. })
-}
-
-/// Whether the token is a block comment that is closed.
-fn is_block_comment(kind: TokenKind) -> bool {
-    matches!(
-        kind,
+    match kind {
+        TokenKind::LineComment { .. } => push_unix(text, true, output),
         TokenKind::BlockComment {
-            terminated: true,
-            ..
-        }
-    )
+            terminated: true, ..
+        } => push_unix(text, false, output),
+        _ => output.push_str(text),
+    }
 }
 
 /// Appends a text with no carriage return before the end of a line; `is_line` says whether its end is one.
 fn push_unix(text: &str, is_line: bool, output: &mut String) -> Result<(), AllocError> {
     let mut rest = text;
-    while let Some(at) = memchr(b'\n', rest.as_bytes()) {
-        let end = line_end(rest.as_bytes(), at);
+    while let Some(at) = newline(rest) {
+        let end = line_end(rest, at);
         output.push_str(&rest[..end])?;
         output.push('\n')?;
         rest = &rest[at + 1..];
@@ -79,12 +63,13 @@ fn push_unix(text: &str, is_line: bool, output: &mut String) -> Result<(), Alloc
     if !is_line {
         return output.push_str(rest);
     }
-    let end = line_end(rest.as_bytes(), rest.len());
+    let end = line_end(rest, rest.len());
     output.push_str(&rest[..end])
 }
 
 /// Where the carriage returns right before a place begin.
-fn line_end(bytes: &[u8], place: usize) -> usize {
+fn line_end(text: &str, place: usize) -> usize {
+    let bytes = text.as_bytes();
     let mut end = place;
     while end > 0 && bytes[end - 1] == b'\r' {
         end -= 1;
@@ -126,8 +111,8 @@ pub fn is_space(kind: TokenKind) -> bool {
 fn push_in_order(space: &str, output: &mut String) -> Result<(), AllocError> {
     let mut rest = space;
     let mut newlines: usize = 0;
-    while let Some(at) = memchr(b'\n', rest.as_bytes()) {
-        let end = solid_end(rest.as_bytes(), at);
+    while let Some(at) = newline(rest) {
+        let end = solid_end(rest, at);
         if 0 < end {
             output.push_str(&rest[..end])?;
             newlines = 0;
@@ -142,12 +127,18 @@ fn push_in_order(space: &str, output: &mut String) -> Result<(), AllocError> {
 }
 
 /// Where the blanks right before a place begin.
-fn solid_end(bytes: &[u8], place: usize) -> usize {
+fn solid_end(text: &str, place: usize) -> usize {
+    let bytes = text.as_bytes();
     let mut end = place;
     while end > 0 && is_blank(bytes[end - 1]) {
         end -= 1;
     }
     end
+}
+
+/// Where the first newline of a text stands.
+pub fn newline(text: &str) -> Option<usize> {
+    memchr(b'\n', text.as_bytes())
 }
 
 /// Space, tab and carriage return.

@@ -17,18 +17,14 @@ pub fn run<R: Read, W: Write>(
     output: &mut Watched<W>,
 ) -> Result<(), Stop> {
     let text = read_text(alloc, input)?;
-    let Ok(made) = document::tidied(alloc, text.as_str()) else {
-        return Err(Stop::Memory);
-    };
+    let made = document::tidied(alloc, text.as_str())?;
     put(output, made.as_str())
 }
 
 /// Reads all of the input, and says whether it is in order.
 pub fn check<R: Read>(alloc: Global, input: &mut Watched<R>) -> Result<(), Stop> {
     let text = read_text(alloc, input)?;
-    let Ok(made) = document::tidied(alloc, text.as_str()) else {
-        return Err(Stop::Memory);
-    };
+    let made = document::tidied(alloc, text.as_str())?;
     if made.as_str() == text.as_str() {
         Ok(())
     } else {
@@ -39,15 +35,11 @@ pub fn check<R: Read>(alloc: Global, input: &mut Watched<R>) -> Result<(), Stop>
 /// Reads all of the input, and answers what would change, as a diff; `None` where it is in order.
 pub fn show<R: Read>(alloc: Global, input: &mut Watched<R>) -> Result<Option<String>, Stop> {
     let text = read_text(alloc, input)?;
-    let Ok(made) = document::tidied(alloc, text.as_str()) else {
-        return Err(Stop::Memory);
-    };
+    let made = document::tidied(alloc, text.as_str())?;
     if text.as_str() == made.as_str() {
         return Ok(None);
     }
-    let Ok(diff) = hunks::diff(alloc, "stdin", text.as_str(), made.as_str()) else {
-        return Err(Stop::Memory);
-    };
+    let diff = hunks::diff(alloc, "stdin", text.as_str(), made.as_str())?;
     Ok(Some(diff))
 }
 
@@ -59,10 +51,7 @@ fn read_text<R: Read>(alloc: Global, input: &mut Watched<R>) -> Result<String, S
         Err(ReadStop::Memory) => return Err(Stop::Memory),
         Err(ReadStop::Failed) => return Err(Stop::Read),
     };
-    match String::from_utf8(bytes) {
-        Ok(text) => Ok(text),
-        Err(_) => Err(Stop::NotUtf8),
-    }
+    String::from_utf8(bytes).map_err(|_| Stop::NotUtf8)
 }
 
 /// Writes all of the text, and flushes.

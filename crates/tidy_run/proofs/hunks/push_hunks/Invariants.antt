@@ -1,15 +1,13 @@
 use Rattle.std.proofs.Common.{◌≡◌, ◌≤◌, ◌-◌, length, take, string_bytes}
-use Rattle.tidy_run.specs.Diff.{old_lines, new_lines}
+use Rattle.tidy_run.specs.Diff.{is_old, is_new, count_marked}
 use Rattle.tidy_run.proofs.HunkLemmas.{Written}
 use Rattle.tidy_run.proofs.hunks.push_hunks.Given as goal
 
 abbrev pub invariant-hunks : goal.invariant-hunks
 invariant-hunks l = record {
   inside : l.at ≤ length l.lines;
-  old : l.place.old ≡ length (old_lines (take l.at l.lines));
-  new : l.place.new ≡ length (new_lines (take l.at l.lines));
-  few_old : l.place.old ≤ l.at;
-  few_new : l.place.new ≤ l.at;
+  old : l.place.old ≡ count_marked is_old (take l.at l.lines);
+  new : l.place.new ≡ count_marked is_new (take l.at l.lines);
   written : Written (string_bytes l.initial.output) l.lines l.at (string_bytes l.output);
 }
 

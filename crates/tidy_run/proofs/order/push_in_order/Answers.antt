@@ -1,14 +1,7 @@
-use Rattle.std.proofs.Common.{◌≡◌, ◌≤◌, ◌+◌, ◌++◌, List, ◌∷◌, ℕ, arith, drop, string_bytes, ap, sym, ◌∙◌, subst, Some, None}
-use Rattle.memchr.specs.Find.{IsFirstByte, is_byte}
-use Rattle.tidy_run.specs.Order.{IsSolidEnd}
-use Rattle.tidy_run.proofs.CallLemmas.{on_ok_is}
-use Rattle.tidy_run.proofs.LineLemmas.{tail, Newline, newline-at, no_newline, may_cut_past, line-written, line-blank, newline-written, newline-dropped, rest-plain}
+use Rattle.std.proofs.Common.{◌≡◌, ◌≤◌, ◌+◌, ◌++◌, List, ◌∷◌, ℕ, arith, drop, string_bytes, ap, sym, ◌∙◌}
+use Rattle.tidy_run.proofs.LineLemmas.{on_ok_is, tail, line-written, line-blank, newline-written, newline-dropped, rest-plain}
 use Rattle.tidy_run.proofs.order.push_in_order.Goals as goal
 use Rattle.tidy_run.proofs.order.push_in_order.Goals.{then-end-gt0+in_ok-push_str, else-end-gt0, then-newlines-lt2+in_ok-push, else-newlines-lt2}
-
-pub range_from-rest-requires : goal.range_from-rest-requires
-range_from-rest-requires c = λ some. may_cut_past c.loop-at.rest.now c.in-Some.at c.loop-at.invariant.utf8
-    (newline-at c.loop-at.rest.now c.in-Some.at (subst (λ (xs : List ℕ). IsFirstByte (is_byte 10) xs (Some c.in-Some.at)) c.as_bytes.ensures.value c.in-Some.ensures))
 
 pub loop-at-preserved : goal.loop-at-preserved
 loop-at-preserved c = record {
@@ -20,22 +13,16 @@ loop-at-preserved c = record {
     rest : List ℕ
     rest = c.loop-at.rest.now
 
-    line : Newline rest c.in-Some.at
-    line = newline-at rest c.in-Some.at (subst (λ (xs : List ℕ). IsFirstByte (is_byte 10) xs (Some c.in-Some.at)) c.as_bytes.ensures.value c.in-Some.ensures)
-
-    solid : IsSolidEnd rest c.in-Some.at c.solid_end-end.result
-    solid = subst (λ (xs : List ℕ). IsSolidEnd xs c.in-Some.at c.solid_end-end.result) c.as_bytes-in-Some.ensures.value c.solid_end-end.ensures
-
     few_first : c.if-end-gt0.newlines ≤ 2
     few_first = elim c.if-end-gt0.branch [ then-end-gt0+in_ok-push_str w ↦ (let e = w.newlines-is in omega arith) | else-end-gt0 w ↦ (let e = w.newlines-is in let le = c.loop-at.invariant.few in omega arith) ]
 
     first : string_bytes c.if-end-gt0.output ++ tail c.if-end-gt0.newlines (10 ∷ drop (c.in-Some.at + 1) rest) ≡ string_bytes c.loop-at.output ++ tail c.loop-at.newlines rest
     first = elim c.if-end-gt0.branch [
       | then-end-gt0+in_ok-push_str w ↦ ap (λ (k : ℕ). string_bytes c.if-end-gt0.output ++ tail k (10 ∷ drop (c.in-Some.at + 1) rest)) w.newlines-is
-          ∙ line-written rest (string_bytes c.if-end-gt0.output) (string_bytes c.loop-at.output) c.in-Some.at c.solid_end-end.result c.loop-at.newlines line solid c.loop-at.invariant.few w.if-end-gt0.true
+          ∙ line-written rest (string_bytes c.if-end-gt0.output) (string_bytes c.loop-at.output) c.in-Some.at c.solid_end-end.result c.loop-at.newlines c.in-Some.ensures.found c.solid_end-end.ensures c.loop-at.invariant.few w.if-end-gt0.true
           (ap string_bytes w.output-is ∙ (w.in_ok-push_str.ensures.bytes ∙ ap (λ (xs : List ℕ). string_bytes c.loop-at.output ++ xs) w.range.ensures.value))
       | else-end-gt0 w ↦ ap (λ (k : ℕ). string_bytes c.if-end-gt0.output ++ tail k (10 ∷ drop (c.in-Some.at + 1) rest)) w.newlines-is
-          ∙ (ap (λ o. string_bytes o ++ tail c.loop-at.newlines (10 ∷ drop (c.in-Some.at + 1) rest)) w.output-is ∙ line-blank rest (string_bytes c.loop-at.output) c.in-Some.at c.solid_end-end.result c.loop-at.newlines line solid w.if-end-gt0.false)
+          ∙ (ap (λ o. string_bytes o ++ tail c.loop-at.newlines (10 ∷ drop (c.in-Some.at + 1) rest)) w.output-is ∙ line-blank rest (string_bytes c.loop-at.output) c.in-Some.at c.solid_end-end.result c.loop-at.newlines c.in-Some.ensures.found c.solid_end-end.ensures w.if-end-gt0.false)
     ]
 
     second : string_bytes c.if-newlines-lt2.output ++ tail c.if-newlines-lt2.newlines (drop (c.in-Some.at + 1) rest) ≡ string_bytes c.if-end-gt0.output ++ tail c.if-end-gt0.newlines (10 ∷ drop (c.in-Some.at + 1) rest)
@@ -49,4 +36,4 @@ loop-at-preserved c = record {
 pub returns-clause-written : goal.returns-clause-written
 returns-clause-written c = on_ok_is c.push_str-2.result _ c.push_str-2.ensures.bytes
     (ap (λ (xs : List ℕ). string_bytes c.loop-at.output ++ xs) (sym (rest-plain c.loop-at.newlines c.loop-at.rest.now c.loop-at.invariant.few
-    (no_newline c.loop-at.rest.now (subst (λ (xs : List ℕ). IsFirstByte (is_byte 10) xs None) c.as_bytes.ensures.value c.in_default.ensures)))) ∙ c.loop-at.invariant.left)
+    c.in_default.ensures.found)) ∙ c.loop-at.invariant.left)

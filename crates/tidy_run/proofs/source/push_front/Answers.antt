@@ -1,4 +1,4 @@
-use Rattle.std.proofs.Common.{◌≡◌, arith, ◌<◌, ◌^◌, ◌++◌, List, ℕ, true, false, length, sym, ◌∙◌, subst}
+use Rattle.std.proofs.Common.{◌≡◌, arith, ◌<◌, ◌^◌, List, ℕ, true, length, sym, ◌∙◌, subst}
 use Rattle.tidy_run.specs.Order.{is_front}
 use Rattle.rustc_lexer.specs.Classes.{IsText}
 use Rattle.tidy_run.proofs.FirstLemmas.{first-is, made-fits}
