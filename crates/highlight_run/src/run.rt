@@ -1,9 +1,10 @@
 //! A whole run: from the bytes of a reader to those of a writer.
-ghost use Rattle.std.specs.Prelude.{◌≡◌, ◌≢◌, ◌↔◌, false, true, IfErr, IfOk, IfSome, IsErrOf, IsTrue, string_bytes};
-ghost use Rattle.std.specs.Io.KnownBytes.{Keeps};
+ghost use Rattle.std.specs.Prelude.{◌≡◌, ◌≢◌, ◌↔◌, false, true, IfErr, IfOk, IfSome, IsErrOf, IsTrue, OnErr, OnOk, string_bytes};
+ghost use Rattle.std.specs.Io.KnownBytes.{Appends, Keeps};
 ghost use Rattle.rustc_lexer.specs.Classes.{Fits};
 ghost use Rattle.highlight_run.specs.Outcome.{Ends, Writes};
 ghost use Rattle.highlight_run.specs.Page.{printed};
+ghost use Rattle.ends.specs.Known.{AppendsFront};
 
 use crate::page::write_text;
 use crate::stop::Stop;
