@@ -1,5 +1,5 @@
 -- How a run ends, by what was read and what was written.
-use Rattle.std.proofs.Common.{◌≡◌, ℕ, List, Option, Some, None, Result, Ok, Err}
+use Rattle.std.proofs.Common.{ℕ, List, Option, Some, None, Result, Ok, Err}
 use Rattle.std.specs.Prelude.{IfSome}
 use Rattle.ends.specs.declared.reading.ReadStop.{ReadStop}
 use Rattle.ends.specs.declared.reading.ReadStop.TheVariants.{TooLong as TooLongRead, Memory as MemoryRead, Failed}

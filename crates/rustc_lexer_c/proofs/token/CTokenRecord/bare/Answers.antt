@@ -1,13 +1,14 @@
 use Rattle.std.proofs.Common.{◌≡◌, ◌∙◌, ℕ, false}
 use Rattle.rustc_lexer.specs.declared.token.TokenKind.{TokenKind}
 use Rattle.rustc_lexer.specs.declared.token.TokenKind.TheVariants.{LineComment}
+use Rattle.rustc_lexer.specs.LanguageCalls.{kind_entry}
 use Rattle.rustc_lexer.specs.Tokens.{has_fields}
 use Rattle.rustc_lexer_c.specs.declared.token.CToken.{CToken}
-use Rattle.rustc_lexer_c.specs.Numbers.{kind_number, first_of, second_of, third_of, token_numbers}
+use Rattle.rustc_lexer_c.specs.Numbers.{first_of, second_of, third_of, token_numbers}
 use Rattle.rustc_lexer_c.proofs.token.CTokenRecord.bare.Goals as goal
 
 abbrev bare : TokenKind → ℕ → CToken
-bare kind len = record { kind = kind_number kind; first = 0; second = 0; third = 0; suffix_start = 0; len = len }
+bare kind len = record { kind = (kind_entry kind).0; first = 0; second = 0; third = 0; suffix_start = 0; len = len }
 
 bare_numbers : (kind : TokenKind) (len : ℕ) → has_fields kind ≡ false → bare kind len ≡ token_numbers record { kind = kind; len = len }
 unfolding token_numbers first_of second_of third_of
