@@ -88,6 +88,7 @@ impl<S: Stepper> LexedText<S> {
     /// The pieces of the text, one for each token, in order.
     pub fn pieces(&self) -> Pieces<'_>
         ensures pieces { result ≡ pieces_of self.now.text self.now.tokens }
+        ensures number { length result ≡ length self.now.tokens }
     {
         Pieces {
             text: self.text(),
@@ -103,6 +104,7 @@ impl<S: Stepper> LexedText<S> {
         requires to_inside { to ≤ length self.now.tokens }
         ensures pieces { result
             ≡ take (to - from) (drop from (pieces_of self.now.text self.now.tokens)) }
+        ensures number { length result ≡ to - from }
     {
         Pieces {
             text: self.text(),

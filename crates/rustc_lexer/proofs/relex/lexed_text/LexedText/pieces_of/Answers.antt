@@ -1,8 +1,8 @@
-use Rattle.std.proofs.Common.{◌≡◌, ◌-◌, ◌≤◌, List, length, slice_range, sym, ap, ◌∙◌, arith}
+use Rattle.std.proofs.Common.{◌≡◌, ◌-◌, ◌≤◌, List, drop, length, slice_range, sym, ap, ◌∙◌, arith, length-drop, length-take-le}
 use Rattle.rustc_lexer.specs.declared.token.Token.{Token}
 use Rattle.rustc_lexer.specs.Tokens.{bound, tokens_by}
 use Rattle.rustc_lexer.specs.means.Pieces.{AreBoundariesFrom}
-use Rattle.rustc_lexer.proofs.PieceLemmas.{cuts_part, cuts_whole, pieces-part}
+use Rattle.rustc_lexer.proofs.PieceLemmas.{cuts_part, cuts_whole, length-pieces, pieces-part}
 use Rattle.rustc_lexer.proofs.relex.lexed_text.LexedText.pieces_of.Goals as goal
 
 pub invariant_of-result : goal.invariant_of-result
@@ -19,4 +19,8 @@ invariant_of-result g c =
 pub returns : goal.returns
 returns g c = record {
   pieces = rw (c.text.ensures.text, c.place_of.ensures, c.tokens.ensures.tokens) (pieces-part c.args.self.now.text c.args.self.now.tokens c.args.from (c.args.to - c.args.from));
+  number =
+      let tokens : List Token = c.tokens.result.now in
+      let enough : c.args.to - c.args.from ≤ length (drop c.args.from tokens) = omega (arith, length-drop c.args.from tokens, c.requires.to_inside, ap length c.tokens.ensures.tokens) in
+      length-pieces c.text.result.now c.place_of.result (slice_range tokens c.args.from c.args.to) ∙ length-take-le (c.args.to - c.args.from) (drop c.args.from tokens) enough;
 }
