@@ -1,14 +1,15 @@
 -- The digits between braces, one by one.
-use Rattle.std.proofs.Common.{◌≡◌, ℕ, suc, zero-add, add-zero, ◌+◌, ◌*◌, ◌^◌, ◌<◌, ◌≤◌, ◌==◌, ◌||◌, Bool, true, false, if◌then◌else◌, List, [], ◌∷◌, length, fold, filter, refl, sym, ap, ◌∙◌, subst, arith, nat_le, nat_lt, min}
+use Rattle.std.proofs.Common.{◌≡◌, ℕ, zero-add, add-zero, ◌+◌, ◌*◌, ◌^◌, ◌<◌, ◌≤◌, ◌==◌, ◌||◌, Bool, true, false, if◌then◌else◌, List, [], ◌∷◌, length, fold, filter, refl, sym, ap, ◌∙◌, subst, arith, nat_le, nat_lt, min}
 use Rattle.std.specs.Char.{digit_value}
 use Rattle.std.proofs.lemmas.Bool.{ne_eqb}
 use Rattle.std.proofs.lemmas.Bool.Decides.{nat_tests}
 use Rattle.std.proofs.Math.Bool.{or-true}
 use Rattle.std.proofs.Math.Nat.{pow-le-pow_right}
+use Rattle.std.proofs.lemmas.Grind.{common_steps}
 use Rattle.rustc_literal_escaper.specs.declared.element.Element.{Element}
 use Rattle.rustc_literal_escaper.specs.declared.element.Element.TheVariants.{Unicode, Fault}
 use Rattle.rustc_literal_escaper.specs.declared.error.EscapeError.TheVariants.{InvalidCharInUnicodeEscape, UnclosedUnicodeEscape, OverlongUnicodeEscape}
-use Rattle.rustc_literal_escaper.specs.Escape.{is_hex, is_digit_or_underscore, closed, closed_at_run}
+use Rattle.rustc_literal_escaper.specs.Escape.{is_hex, is_digit_or_underscore, closed_at_run}
 use Rattle.rustc_literal_escaper.specs.Runs.{front_run, past_run}
 
 -- one more digit has room in 24 bits
@@ -36,11 +37,7 @@ left_at v n s = left_by is_digit_or_underscore is_hex v n s
 
 pub left_at-start : (s : List ℕ) → left_at 0 0 s ≡ closed_at_run s
 unfolding left_at
-left_at-start s = by_run (front_run is_digit_or_underscore s) (past_run is_digit_or_underscore s)
-  where
-    by_run : (digits left : List ℕ) → closed_past is_hex 0 0 digits left ≡ closed digits left
-    by_run digits [] = refl
-    by_run digits (c ∷ t) = rw (zero-add (length (filter is_hex digits))) refl
+left_at-start s = grind (arith, common_steps, zero-add)
 
 pub left_at-end : (v n : ℕ) → left_at v n [] ≡ (Fault UnclosedUnicodeEscape, [])
 unfolding left_at
@@ -48,27 +45,17 @@ left_at-end v n = refl
 
 pub left_at-underscore : (v n c : ℕ) (s : List ℕ) → c ≡ 95 → left_at v n (c ∷ s) ≡ left_at v n s
 unfolding left_at
-left_at-underscore v n c s e = subst (λ (d : ℕ). left_at v n (d ∷ s) ≡ left_at v n s) (sym e) (by_run (front_run is_digit_or_underscore s) (past_run is_digit_or_underscore s))
-  where
-    by_run : (digits left : List ℕ) → closed_past is_hex v n (95 ∷ digits) left ≡ closed_past is_hex v n digits left
-    by_run digits [] = refl
-    by_run digits (d ∷ t) = refl
+left_at-underscore v n c s e = grind (arith, common_steps)
 
 pub left_at-brace : (v n c : ℕ) (s : List ℕ) → c ≡ 125 → left_at v n (c ∷ s) ≡ ((if nat_le n 6 then Unicode v else Fault OverlongUnicodeEscape), s)
 unfolding left_at
 left_at-brace v n c s e = subst (λ (d : ℕ). left_at v n (d ∷ s) ≡ ((if nat_le n 6 then Unicode v else Fault OverlongUnicodeEscape), s)) (sym e) (rw (add-zero n) refl)
 
 number_digit : (v n c : ℕ) (ds : List ℕ) → number_past v n (c ∷ ds) ≡ number_past (with_digit v n (digit_value c)) (n + 1) ds
-number_digit v n c ds =
-    let one : n + suc (length ds) ≡ (n + 1) + length ds = omega arith in
-    rw one (grind (arith, nat_tests))
+number_digit v n c ds = grind (arith, common_steps, nat_tests)
 
 by_digit : (p h : ℕ → Bool) (v n c : ℕ) (s : List ℕ) → p c ≡ true → h c ≡ true → left_by p h v n (c ∷ s) ≡ left_by p h (with_digit v n (digit_value c)) (n + 1) s
-by_digit p h v n c s a b = rw a (by_run (front_run p s) (past_run p s))
-  where
-    by_run : (digits left : List ℕ) → closed_past h v n (c ∷ digits) left ≡ closed_past h (with_digit v n (digit_value c)) (n + 1) digits left
-    by_run digits [] = refl
-    by_run digits (d ∷ t) = rw b (rw (number_digit v n c (filter h digits)) refl)
+by_digit p h v n c s a b = grind (arith, common_steps, number_digit)
 
 pub left_at-digit : (v n c : ℕ) (s : List ℕ) → is_hex c ≡ true → left_at v n (c ∷ s) ≡ left_at (with_digit v n (digit_value c)) (n + 1) s
 unfolding left_at

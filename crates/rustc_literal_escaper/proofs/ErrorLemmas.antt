@@ -1,10 +1,10 @@
 -- The errors of a list of items, one item at a time.
-use Rattle.std.proofs.Common.{◌≡◌, Bool, false, if◌then◌else◌, ℕ, ◌-◌, length, List, [], ◌∷◌, ◌++◌, Option, Some, None, refl, sym, ap, ◌∙◌}
+use Rattle.std.proofs.Common.{◌≡◌, false, ℕ, ◌-◌, length, List, [], ◌∷◌, ◌++◌, Option, Some, None, refl, sym, ap, ◌∙◌, arith}
 use Rattle.std.specs.List.{FoldsTo}
-use Rattle.std.specs.Option.{option_to_list}
 use Rattle.std.specs.Str.{chars, IsUtf8}
 use Rattle.std.specs.declared.ops.Range.{Range}
 use Rattle.std.proofs.lemmas.Str.{encodes-chars}
+use Rattle.std.proofs.lemmas.Grind.{common_steps}
 use Rattle.rustc_literal_escaper.specs.declared.element.Element.{Element}
 use Rattle.rustc_literal_escaper.specs.declared.error.EscapeError.TheVariants.{MoreThanOneChar}
 use Rattle.rustc_literal_escaper.specs.declared.error.EscapeError.{EscapeError}
@@ -16,8 +16,7 @@ use Rattle.rustc_literal_escaper.proofs.RunLemmas.{folds-on}
 
 -- what is wrong between single quotes, by the first element
 single_error-starts : (total : ℕ) (mode : Mode) (s left : List ℕ) (e : Element) → StartsWithSingle s e left → single_error total mode s ≡ alone_error total (error_of mode e) left
-single_error-starts total mode [] left e h = absurd h
-single_error-starts total mode (c ∷ s) left e h = ap (λ (r : Element × List ℕ). alone_error total (error_of mode r.0) r.1) (sym h)
+single_error-starts total mode w2 left e h = grind (arith, common_steps)
 
 error_to-is : (total : ℕ) (error : EscapeError) (left : List ℕ) → IsUtf8 left → Some (record { start = 0; end = total - length left }, error) ≡ alone_error total (Some error) (chars left)
 error_to-is total error left is = ap (λ (n : ℕ). Some (record { start = 0; end = total - n }, error)) (sym (ap length (encodes-chars left is)))
@@ -34,14 +33,11 @@ single_error-more total mode s left more e d h none reads is =
 
 -- a literal between double quotes has the errors of its elements
 pub errors_of-strings : (mode : Mode) (text : List ℕ) (items : List Item) → false ≡ is_single mode → items ≡ items_of (is_raw mode) text → errors_in mode items ≡ errors_of mode text
-errors_of-strings mode text items double are =
-    ap (errors_in mode) are
-    ∙ ap (λ (b : Bool). if b then option_to_list (single_error (length text) mode (chars text)) else errors_in mode (items_of (is_raw mode) text)) double
+errors_of-strings mode text items double are = grind (arith, common_steps)
 
 -- the errors of some items and then others
 put-append : (range : Range ℕ) (error : Option EscapeError) (xs ys : List Error) → put range error (xs ++ ys) ≡ put range error xs ++ ys
-put-append range None xs ys = refl
-put-append range (Some error) xs ys = refl
+put-append range w1 xs ys = grind (arith, common_steps)
 
 errors-append : (mode : Mode) (xs ys : List Item) → errors_in mode (xs ++ ys) ≡ errors_in mode xs ++ errors_in mode ys
 errors-append mode [] ys = refl

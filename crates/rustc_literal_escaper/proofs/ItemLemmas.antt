@@ -1,23 +1,22 @@
 -- What is read at the front of a text, and the items of what is left of it, step by step.
-use Rattle.std.proofs.Common.{◌≡◌, ℕ, zero, suc, ◌+◌, ◌-◌, ◌≤◌, ◌==◌, Bool, true, false, if◌then◌else◌, List, [], ◌∷◌, ◌++◌, length, length-append, append_assoc, map, filter, Option, Some, None, refl, sym, ap, ◌∙◌, arith, All}
+use Rattle.std.proofs.Common.{◌≡◌, ℕ, zero, suc, ◌+◌, ◌-◌, ◌≤◌, ◌==◌, Bool, true, false, if◌then◌else◌, List, [], ◌∷◌, ◌++◌, length, length-append, append_assoc, map, Option, None, refl, sym, ap, ◌∙◌, arith, All}
 use Rattle.std.specs.Char.{is_whitespace}
 use Rattle.std.specs.List.{list_any}
 use Rattle.std.specs.Option.{is_some, option_to_list}
 use Rattle.std.specs.Str.{byte, chars, IsUtf8}
-use Rattle.std.proofs.lemmas.Bool.{true≢false}
 use Rattle.std.proofs.lemmas.List.Elements.{All-append, All-cons, All-nil}
 use Rattle.std.proofs.lemmas.Str.{encodes-chars}
+use Rattle.std.proofs.lemmas.Grind.{common_steps}
 use Rattle.rustc_literal_escaper.specs.declared.element.Element.{Element}
-use Rattle.rustc_literal_escaper.specs.declared.element.Element.TheVariants.{Fault, Unicode}
-use Rattle.rustc_literal_escaper.specs.declared.error.EscapeError.TheVariants.{InvalidCharInUnicodeEscape, MultipleSkippedLinesWarning, OverlongUnicodeEscape, UnskippedWhitespaceWarning}
+use Rattle.rustc_literal_escaper.specs.declared.element.Element.TheVariants.{Fault}
+use Rattle.rustc_literal_escaper.specs.declared.error.EscapeError.TheVariants.{MultipleSkippedLinesWarning, UnskippedWhitespaceWarning}
 use Rattle.rustc_literal_escaper.specs.Elements.{Front, Item, front, front_by, raw_element, raw_front, is_newline, item_at, items_from, items_in, line_end, more_lines, more_space, one, past_backslash, StartsWithOne, TakesFirst, place, unescaped, is_passed_over}
-use Rattle.rustc_literal_escaper.specs.Escape.{braced, closed, closed_at_run, escape, hex, hex_value, is_digit_or_underscore, is_hex, number, short, unicode}
+use Rattle.rustc_literal_escaper.specs.Escape.{braced, closed, closed_at_run, escape, hex, is_digit_or_underscore, is_hex, short, unicode}
 use Rattle.rustc_literal_escaper.specs.Rebuilt.{is_warning}
 use Rattle.rustc_literal_escaper.specs.Runs.{front_run, past_run}
 
 pub either : {A : Type 0} (P : A → Type 0) (b : Bool) (x y : A) → P x → P y → P (if b then x else y)
-either P true x y p q = p
-either P false x y p q = q
+either w0 w1 x y p q = grind (arith, common_steps)
 
 -- ---- what is left is an end of what there was
 
@@ -52,9 +51,7 @@ wider : (c : ℕ) (s : List ℕ) (read : Element × List ℕ) → IsRead s read 
 wider c s read r = (r.0, past c read.1 s r.1)
 
 short-tells : (c : ℕ) → Tells (short c)
-short-tells c =
-    either Tells (c == byte "0") _ _ refl (either Tells (c == byte "t") _ _ refl (either Tells (c == byte "n") _ _ refl (either Tells (c == byte "r") _ _ refl
-    (either Tells (c == byte "\"") _ _ refl (either Tells (c == byte "'") _ _ refl (either Tells (c == byte "\\") _ _ refl refl))))))
+short-tells c = grind (arith, common_steps, either)
 
 hex-read : (s : List ℕ) → IsRead s (hex s)
 hex-read [] = (refl, all [])
@@ -64,11 +61,7 @@ hex-read (h ∷ l ∷ s) = either (IsRead (h ∷ l ∷ s)) (is_hex h) _ _
 
 closed-read : (digits s : List ℕ) → IsRead s (closed digits s)
 closed-read digits [] = (refl, all [])
-closed-read digits (c ∷ s) = (
-  either Tells (c == byte "}") (number (filter is_hex digits)) (Fault InvalidCharInUnicodeEscape)
-      (either Tells _ (Unicode (hex_value (filter is_hex digits))) (Fault OverlongUnicodeEscape) refl refl) refl,
-  tail c s,
-)
+closed-read digits (c ∷ s) = grind (arith, common_steps, either, tail)
 
 closed_at_run-read : (s : List ℕ) → IsRead s (closed_at_run s)
 closed_at_run-read s =
@@ -113,8 +106,7 @@ abbrev IsFew : List ℕ → List (Element × List ℕ) → Type 0
 IsFew s told = All (EndsAt s) told × (length told ≤ 1)
 
 one-few : (s : List ℕ) (b : Bool) (read : Element × List ℕ) → EndsAt s read → IsFew s (if b then read ∷ [] else [])
-one-few s true read e = (All-cons (EndsAt s) read [] e (All-nil (EndsAt s)), omega arith)
-one-few s false read e = (All-nil (EndsAt s), omega arith)
+one-few s w1 read e = grind (arith, common_steps, All-cons, All-nil)
 
 more_space-few : (s left : List ℕ) → Ends left s → IsFew s (more_space left)
 more_space-few s [] e = (All-nil (EndsAt s), omega arith)
@@ -162,14 +154,11 @@ module _ (raw : Bool) (total : ℕ) where
   enough (suc m) (suc n) [] a b = refl
   enough zero n (c ∷ s) a b = absurd (omega arith)
   enough (suc m) zero (c ∷ s) a b = absurd (omega arith)
-  enough (suc m) (suc n) (c ∷ s) a b =
-      let h : length (at c s).left ≤ length s = left-shorter raw c s in
-      ap (λ (is : List Item). map (item_at total (place total (c ∷ s))) (at c s).told ++ is) (enough m n (at c s).left (omega arith) (omega arith))
+  enough (suc m) (suc n) (c ∷ s) a b = grind (arith, common_steps, left-shorter, enough m n)
 
   pub items-cons : (c : ℕ) (s : List ℕ) → items_from at total (c ∷ s) ≡ map (item_at total (place total (c ∷ s))) (at c s).told ++ items_from at total (at c s).left
   unfolding items_from
-  items-cons c s = let h : length (at c s).left ≤ length s = left-shorter raw c s in
-      ap (λ (is : List Item). map (item_at total (place total (c ∷ s))) (at c s).told ++ is) (enough (length s) (length (at c s).left) (at c s).left (omega arith) (omega arith))
+  items-cons c s = grind (arith, common_steps, left-shorter, enough)
 
   -- one element
   pub items-one : (c : ℕ) (s left : List ℕ) (e : Element) → at c s ≡ one (e, left) → items_from at total (c ∷ s) ≡ item_at total (place total (c ∷ s)) (e, left) ∷ items_from at total left
@@ -204,9 +193,7 @@ module _ (raw : Bool) (total : ℕ) where
 
 -- nothing is told
 pub told-none : (a b : Option Item) → is_some a ≡ false → (a ≡ None → b ≡ None) → option_to_list a ++ option_to_list b ≡ []
-told-none None None e h = refl
-told-none None (Some x) e h = absurd (let f : Some x ≡ None = h refl in cc)
-told-none (Some x) b e h = absurd (true≢false e)
+told-none w0 b e h = grind (arith, common_steps)
 
 -- no items are in nothing
 pub nothing : (at : ℕ → List ℕ → Front) (total : ℕ) → items_from at total [] ≡ []
@@ -217,13 +204,4 @@ nothing at total = refl
 pub takes_first : (at : ℕ → List ℕ → Front) (total : ℕ) (waiting first second : Option Item) (rest left : List ℕ) → false ≡ is_some waiting
     → items_from at total rest ≡ (option_to_list first ++ option_to_list second) ++ items_from at total left → (first ≡ None → (second ≡ None) × (left ≡ []))
     → TakesFirst (option_to_list waiting ++ items_from at total rest) first (option_to_list second ++ items_from at total left)
-takes_first at total None first second rest left none told all = by_first first second told all
-  where
-    by_first : (first second : Option Item) → items_from at total rest ≡ (option_to_list first ++ option_to_list second) ++ items_from at total left → (first ≡ None → (second ≡ None) × (left ≡ []))
-        → TakesFirst (items_from at total rest) first (option_to_list second ++ items_from at total left)
-    by_first (Some x) second told all = told
-    by_first None second told all =
-        let ends : option_to_list second ++ items_from at total left ≡ [] =
-        ap (λ (o : Option Item). option_to_list o ++ items_from at total left) (all refl).0 ∙ (ap (items_from at total) (all refl).1 ∙ nothing at total) in
-        (told ∙ ends, ends)
-takes_first at total (Some item) first second rest left none told all = absurd (true≢false (sym none))
+takes_first at total w2 first second rest left none told all = grind (arith, common_steps, all, nothing)

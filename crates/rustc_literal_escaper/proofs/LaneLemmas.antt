@@ -1,5 +1,5 @@
 -- A run of bytes that pass a test, seen a vector at a time through the mask of those that fail it.
-use Rattle.std.proofs.Common.{◌≡◌, ℕ, zero, suc, ◌&&◌, leb, cond, eqb, ◌+◌, ◌*◌, ◌%◌, ◌^◌, ◌<◌, ◌≤◌, Bool, true, false, not, List, [], ◌∷◌, map, length, take, drop, refl, sym, ap, ap₂, ◌∙◌, arith, w8, Fits}
+use Rattle.std.proofs.Common.{◌≡◌, ℕ, zero, suc, leb, cond, eqb, ◌+◌, ◌*◌, ◌%◌, ◌^◌, ◌<◌, ◌≤◌, Bool, true, not, List, [], ◌∷◌, map, length, take, drop, refl, sym, ap, ap₂, ◌∙◌, arith, w8, Fits}
 use Rattle.std.specs.List.{list_all, prefix_len}
 use Rattle.std.proofs.lemmas.Bool.{agree_below, agree_below_at, eq-eqb, ne_eqb}
 use Rattle.std.proofs.lemmas.Simd.{chunk-drop, length-chunk, leading_from_mask_l, mask_l-mod, trailing_mask_l}
@@ -7,6 +7,7 @@ use Rattle.std.proofs.lemmas.List.{length-drop, length-map}
 use Rattle.std.proofs.lemmas.List.Folds.{prefix_len-append}
 use Rattle.std.proofs.lemmas.List.Sums.{prefix_len-le-length}
 use Rattle.std.proofs.Math.Bool.{not-not}
+use Rattle.std.proofs.lemmas.Grind.{common_steps}
 use lib.Lanes.{chunk, mask_l, top, Each1}
 use lib.Count.{count_trailing_zeros}
 
@@ -28,16 +29,14 @@ pub run_bound : (q : ℕ → Bool) (d : List ℕ) (i : ℕ) → i ≤ length d �
 run_bound q d i h = omega (arith, prefix_len-le-length q (drop i d), length-drop i d)
 
 none_fails : (b : Bool) (n l m : ℕ) → n ≤ l → cond b (1 + n) 0 ≡ 1 + l → (n ≡ l → m ≡ 0) → cond (not b) 1 0 + 2 * m ≡ 0
-none_fails true n l m le e ih = let z = ih (omega arith) in omega arith
-none_fails false n l m le e ih = let no : ⊥ = omega arith in absurd no
+none_fails w0 n l m le e ih = grind (arith, common_steps)
 
 module _ (q : ℕ → Bool) where
   abbrev fails : ℕ → Bool
   fails x = not (q x)
 
   twice : (xs : List ℕ) → prefix_len (λ x. not (fails x)) xs ≡ prefix_len q xs
-  twice [] = refl
-  twice (x ∷ xs) = ap₂ (λ b n. cond b (1 + n) 0) (not-not (q x)) (twice xs)
+  twice w0 = grind (arith, common_steps, not-not)
 
   all_pass : (xs : List ℕ) → prefix_len q xs ≡ length xs → mask_l (map fails xs) ≡ 0
   all_pass [] e = refl
@@ -62,8 +61,4 @@ module _ (q : ℕ → Bool) where
   pub run_front : (d : List ℕ) (n : ℕ) → n ≤ prefix_len q d → list_all q (take n d) ≡ true
   run_front d zero le = refl
   run_front [] (suc n) le = refl
-  run_front (x ∷ xs) (suc n) le = by_test (q x) refl le (run_front xs n)
-    where
-      by_test : (b : Bool) → q x ≡ b → suc n ≤ cond b (1 + prefix_len q xs) 0 → (n ≤ prefix_len q xs → list_all q (take n xs) ≡ true) → q x && list_all q (take n xs) ≡ true
-      by_test true e l more = ap₂ (λ a b. a && b) e (more (omega arith))
-      by_test false e l more = absurd (omega arith)
+  run_front (x ∷ xs) (suc n) le = grind (arith, common_steps, run_front xs n)

@@ -1,7 +1,8 @@
 -- Parts of a raw string: the items of each.
-use Rattle.std.proofs.Common.{◌≡◌, ℕ, ◌-◌, true, List, [], ◌∷◌, ◌++◌, length, length-append, refl, sym, ap, ap₂, ◌∙◌, arith}
+use Rattle.std.proofs.Common.{◌≡◌, ℕ, ◌-◌, true, List, [], ◌∷◌, ◌++◌, length, length-append, refl, sym, ap, ◌∙◌, arith}
 use Rattle.std.specs.Str.{chars, encode_utf8_all, IsUtf8}
 use Rattle.std.proofs.lemmas.Str.{chars-append, encodes-append, encodes-chars}
+use Rattle.std.proofs.lemmas.Grind.{common_steps}
 use Rattle.rustc_literal_escaper.specs.Elements.{Item, front_by, item_at, items_from, one, place, raw_element, raw_front}
 use Rattle.rustc_literal_escaper.proofs.ItemLemmas.{first-one, items-one, nothing}
 
@@ -22,17 +23,9 @@ raw-cons total c s = items-one true total c s s (raw_element c) (raw-one c s)
 
 part : (total : ℕ) (xs ys : List ℕ) → items_from (front_by true) total (xs ++ ys) ≡ items_from (front_by true) (place total ys) xs ++ items_from (front_by true) total ys
 part total [] ys = ap (λ (is : List Item). is ++ items_from (front_by true) total ys) (sym (nothing (front_by true) (place total ys)))
-part total (c ∷ xs) ys =
-    raw-cons total c (xs ++ ys)
-    ∙ (ap₂ (λ (from past : ℕ). (record { start = from; end = past }, raw_element c) ∷ items_from (front_by true) total (xs ++ ys)) (place-part total (c ∷ xs) ys) (place-part total xs ys)
-    ∙ (ap (λ (is : List Item). item_at (place total ys) (place (place total ys) (c ∷ xs)) (raw_element c, xs) ∷ is) (part total xs ys)
-    ∙ ap (λ (is : List Item). is ++ items_from (front_by true) total ys) (sym (raw-cons (place total ys) c xs))))
+part total (c ∷ xs) ys = grind (arith, common_steps, raw-cons, place-part, part total xs ys)
 
 -- the items of a text of two parts: those of the first end where the second begins
 pub part-items : (total : ℕ) (text front past : List ℕ) → IsUtf8 front → IsUtf8 past → text ≡ front ++ past
     → items_from (front_by true) total (chars text) ≡ items_from (front_by true) (total - length past) (chars front) ++ items_from (front_by true) total (chars past)
-part-items total text front past is ends whole =
-    ap (λ (xs : List ℕ). items_from (front_by true) total (chars xs)) whole
-    ∙ (ap (items_from (front_by true) total) (chars-append front past is)
-    ∙ (part total (chars front) (chars past)
-    ∙ ap (λ (n : ℕ). items_from (front_by true) (total - n) (chars front) ++ items_from (front_by true) total (chars past)) (ap length (encodes-chars past ends))))
+part-items total text front past is ends whole = grind (arith, common_steps, chars-append, part, encodes-chars)

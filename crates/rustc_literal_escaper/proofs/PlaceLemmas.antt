@@ -1,5 +1,5 @@
 -- Items and their places.
-use Rattle.std.proofs.Common.{◌≡◌, ℕ, ◌-◌, ◌<◌, ◌||◌, Bool, true, false, true≢false, Some, None, List, [], ◌∷◌, length, map, ◌++◌, if◌then◌else◌, refl, sym, ap, ap₂, subst, ◌∙◌, arith}
+use Rattle.std.proofs.Common.{◌≡◌, ℕ, ◌-◌, ◌<◌, Bool, true, false, Some, None, List, [], ◌∷◌, length, map, ◌++◌, if◌then◌else◌, refl, sym, ap, ◌∙◌, arith}
 use Rattle.std.specs.Char.{is_whitespace}
 use Rattle.std.specs.List.{list_any, slice_get}
 use Rattle.std.specs.Str.{chars, encode_utf8_all, IsUtf8}
@@ -7,6 +7,7 @@ use Rattle.std.proofs.lemmas.Bool.{cond-false, cond-true, eqb-true, false_from_n
 use Rattle.std.proofs.lemmas.Bool.Decides.{nat_tests}
 use Rattle.std.proofs.lemmas.List.{map-append}
 use Rattle.std.proofs.lemmas.Str.{byte_from_char, char_from_byte, chars-nil, encodes-chars}
+use Rattle.std.proofs.lemmas.Grind.{common_steps}
 use Rattle.rustc_literal_escaper.specs.declared.element.Element.TheVariants.{Fault}
 use Rattle.rustc_literal_escaper.specs.declared.error.EscapeError.TheVariants.{MultipleSkippedLinesWarning, UnskippedWhitespaceWarning}
 use Rattle.rustc_literal_escaper.specs.Elements.{Item, begins_line, is_newline, is_passed_over, item_at, line_end, more_space}
@@ -24,28 +25,16 @@ pub record Passing (line left : List ℕ) : Type 0 where
 
 pub passing-blank : (line left s : List ℕ) (c : ℕ) → Passing line left → left ≡ c ∷ s → is_passed_over c ≡ true → (c ≡ 10 → ⊥) → Passing line s
 unfolding newline_ahead
-passing-blank line left s c at e is off = record {
-  seen = at.seen ∙ (ap newline_ahead e ∙ ahead);
-  past = at.past ∙ (ap (past_run is_passed_over) e ∙ cond-true (is_passed_over c) _ _ is);
-}
-  where
-    ahead : newline_ahead (c ∷ s) ≡ newline_ahead s
-    ahead = ap (list_any is_newline) (cond-true (is_passed_over c) (c ∷ front_run is_passed_over s) [] is) ∙ ap (λ b. b || newline_ahead s) (ne_eqb c 10 off)
+passing-blank line left s c at e is off = grind (arith, common_steps, cond-true, ne_eqb)
 
 -- where none stands next, all of it is seen
 pub past_run-none : (p : ℕ → Bool) (s : List ℕ) → front_run p s ≡ [] → past_run p s ≡ s
 past_run-none p [] e = refl
-past_run-none p (c ∷ s) e = by_test (p c) e
-  where
-    by_test : (t : Bool) → (if t then c ∷ front_run p s else []) ≡ [] → (if t then past_run p s else c ∷ s) ≡ c ∷ s
-    by_test true f = absurd cc
-    by_test false f = refl
+past_run-none p (c ∷ s) e = grind (arith, common_steps)
 
 -- where a line begins, or no such white space stands next, the search for a line's end stops
 no-line : (s : List ℕ) → front_run is_passed_over s ≡ [] → begins_line s ≡ false
-no-line [] none = refl
-no-line (c ∷ s) none = false_from_ne_true (is_newline c) (λ yes.
-    let f : 10 ∷ front_run is_passed_over s ≡ [] = subst (λ (d : ℕ). front_run is_passed_over (d ∷ s) ≡ []) (eqb-true c 10 yes) none in cc)
+no-line w0 none = grind (arith, common_steps, false_from_ne_true, eqb-true)
 
 abbrev pub Stopped : List ℕ → List ℕ → Type 0
 Stopped line left = (begins_line left ≡ list_any is_newline (front_run is_passed_over line))
@@ -54,22 +43,11 @@ Stopped line left = (begins_line left ≡ list_any is_newline (front_run is_pass
 
 pub stopped-line : (line left s : List ℕ) (c : ℕ) → Passing line left → left ≡ c ∷ s → c ≡ 10 → Stopped line left
 unfolding newline_ahead
-stopped-line line left s c at e ten = (
-  subst (λ (xs : List ℕ). begins_line xs ≡ list_any is_newline (front_run is_passed_over xs)) (sym here) refl ∙ sym at.seen,
-  sym at.past,
-  λ off. absurd (true≢false (sym (ap begins_line here) ∙ off)),
-)
-  where
-    here : left ≡ 10 ∷ s
-    here = e ∙ ap (λ (d : ℕ). d ∷ s) ten
+stopped-line line left s c at e ten = grind (arith, common_steps)
 
 pub stopped-end : (line left : List ℕ) → Passing line left → front_run is_passed_over left ≡ [] → Stopped line left
 unfolding newline_ahead
-stopped-end line left at none = (
-  no-line left none ∙ sym (at.seen ∙ ap (list_any is_newline) none),
-  sym at.past,
-  λ off. sym (at.past ∙ past_run-none is_passed_over left none),
-)
+stopped-end line left at none = grind (arith, common_steps, no-line, past_run-none)
 
 -- the first byte tells whether such white space stands next
 
@@ -124,7 +102,4 @@ pub line_end-told : (total start : ℕ) (line left : List ℕ) (newline : Bool) 
     → lines ≡ map (item_at total start) (if newline then (Fault MultipleSkippedLinesWarning, left) ∷ [] else [])
     → space ≡ map (item_at total start) (more_space left)
     → lines ++ space ≡ map (item_at total start) (line_end line).told
-line_end-told total start line left newline lines space n l a b =
-    ap₂ (λ (xs ys : List Item). xs ++ ys) a b
-    ∙ (sym (map-append (item_at total start) (if newline then (Fault MultipleSkippedLinesWarning, left) ∷ [] else []) (more_space left))
-    ∙ ap₂ (λ (t : Bool) (xs : List ℕ). map (item_at total start) ((if t then (Fault MultipleSkippedLinesWarning, xs) ∷ [] else []) ++ more_space xs)) n l)
+line_end-told total start line left newline lines space n l a b = grind (arith, common_steps, map-append)

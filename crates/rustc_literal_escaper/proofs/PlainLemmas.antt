@@ -1,8 +1,9 @@
 -- Texts of plain characters.
-use Rattle.std.proofs.Common.{◌≡◌, ℕ, ◌-◌, ◌==◌, ◌&&◌, not, Bool, true, false, List, [], ◌∷◌, length, map, refl, ap, ◌∙◌}
+use Rattle.std.proofs.Common.{◌≡◌, ℕ, ◌-◌, Bool, true, List, [], ◌∷◌, length, map, ap, ◌∙◌, arith}
 use Rattle.std.specs.List.{list_all}
-use Rattle.std.specs.Str.{byte, chars, IsUtf8}
+use Rattle.std.specs.Str.{chars, IsUtf8}
 use Rattle.std.proofs.lemmas.Bool.{and_parts, not-true}
+use Rattle.std.proofs.lemmas.Grind.{common_steps}
 use Rattle.rustc_literal_escaper.specs.declared.element.Element.TheVariants.{Plain}
 use Rattle.rustc_literal_escaper.specs.Elements.{front, front_by, item_at, items_from, one, place, raw_front}
 use Rattle.rustc_literal_escaper.specs.Plain.{elements_in, is_plain, StandsForItself}
@@ -10,11 +11,7 @@ use Rattle.rustc_literal_escaper.proofs.ItemLemmas.{first-one, items-one, nothin
 
 pub front_by-plain : (raw : Bool) (c : ℕ) (s : List ℕ) → is_plain raw c ≡ true → front_by raw c s ≡ one (Plain c, s)
 unfolding front raw_front
-front_by-plain true c s e = rw (not-true (c == 13) e) refl
-front_by-plain false c s e =
-    let p = and_parts (not (c == byte "\\")) (not (c == byte "\"") && not (c == 13)) e in
-    let q = and_parts (not (c == byte "\"")) (not (c == 13)) p.1 in
-    rw (not-true (c == byte "\\") p.0) (rw (not-true (c == byte "\"") q.0) (rw (not-true (c == 13) q.1) refl))
+front_by-plain w0 c s e = grind (arith, common_steps, not-true, and_parts)
 
 -- it is an item
 pub items-plain : (raw : Bool) (total c : ℕ) (s : List ℕ) → is_plain raw c ≡ true → items_from (front_by raw) total (c ∷ s) ≡ item_at total (place total (c ∷ s)) (Plain c, s) ∷ items_from (front_by raw) total s

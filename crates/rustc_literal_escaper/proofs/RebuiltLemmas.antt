@@ -1,5 +1,5 @@
 -- The text, put together again from the places of its items.
-use Rattle.std.proofs.Common.{◌≡◌, ℕ, zero, suc, ◌+◌, ◌≤◌, ◌==◌, Bool, true, false, if◌then◌else◌, List, [], ◌∷◌, ◌++◌, length, length-append, append_assoc, map, filter, refl, sym, ap, subst, ◌∙◌, arith}
+use Rattle.std.proofs.Common.{◌≡◌, ℕ, zero, suc, ◌+◌, ◌≤◌, ◌==◌, Bool, true, false, List, [], ◌∷◌, ◌++◌, length, length-append, append_assoc, map, filter, refl, sym, ap, subst, ◌∙◌, arith}
 use Rattle.std.specs.Char.{encode_utf8, is_ascii, is_whitespace}
 use Rattle.std.specs.List.{list_all, list_any}
 use Rattle.std.specs.Str.{byte, chars, encode_utf8_all, IsUtf8}
@@ -8,6 +8,7 @@ use Rattle.std.proofs.lemmas.Bool.{cond_both, eqb-true}
 use Rattle.std.proofs.lemmas.Bool.Decides.{nat_tests}
 use Rattle.std.proofs.lemmas.List.Elements.{filter-append}
 use Rattle.std.proofs.lemmas.Str.{encode_ascii, encodes-append, encodes-chars, encodes-IsAscii}
+use Rattle.std.proofs.lemmas.Grind.{common_steps}
 use Rattle.rustc_literal_escaper.specs.declared.element.Element.{Element}
 use Rattle.rustc_literal_escaper.specs.declared.element.Element.TheVariants.{Fault, Plain}
 use Rattle.rustc_literal_escaper.specs.declared.error.EscapeError.TheVariants.{BareCarriageReturn, BareCarriageReturnInRawString, EscapeOnlyChar, MultipleSkippedLinesWarning, UnskippedWhitespaceWarning}
@@ -30,11 +31,7 @@ raw-tells c = either Tells (c == 13) (Fault BareCarriageReturnInRawString) (Plai
 
 run-cut : (p : ℕ → Bool) (s : List ℕ) → s ≡ front_run p s ++ past_run p s
 run-cut p [] = refl
-run-cut p (c ∷ s) = by_test (p c) (run-cut p s)
-  where
-    by_test : (b : Bool) → s ≡ front_run p s ++ past_run p s → c ∷ s ≡ (if b then c ∷ front_run p s else []) ++ (if b then past_run p s else c ∷ s)
-    by_test true e = ap (λ xs. c ∷ xs) e
-    by_test false e = refl
+run-cut p (c ∷ s) = grind (arith, common_steps, run-cut p s)
 
 run-all : (p : ℕ → Bool) (s : List ℕ) → list_all p (front_run p s) ≡ true
 run-all p [] = refl
@@ -60,8 +57,7 @@ skip space e from left (r ∷ places) made = (
 -- ---- one step
 
 none : (raw : Bool) → AreLineEnds raw []
-none true = refl
-none false = ([], refl, refl)
+none w0 = grind (arith, common_steps)
 
 module _ (raw : Bool) (total count : ℕ) where
   abbrev places_past : List ℕ → List (Range ℕ)
@@ -146,10 +142,7 @@ module _ (total count : ℕ) where
       here = let l = ap length cut in let k = length-append space (encode_utf8_all left) in omega arith
 
   line_end-made : (c d : ℕ) (t : List ℕ) → c ≡ 92 → d ≡ 10 → length (encode_utf8_all (c ∷ d ∷ t)) ≤ total → RestIsMade false (d ∷ t) → IsMadeAt false total count c (d ∷ t) (line_end t)
-  line_end-made c d t e f = subst (λ (k : ℕ). P k d) (sym e) (subst (λ (k : ℕ). P 92 k) (sym f) (line-made t))
-    where
-      P : ℕ → ℕ → Type 0
-      P k l = length (encode_utf8_all (k ∷ l ∷ t)) ≤ total → RestIsMade false (l ∷ t) → IsMadeAt false total count k (l ∷ t) (line_end t)
+  line_end-made c d t e f = grind (arith, common_steps, line-made)
 
   slash-made : (c : ℕ) (s : List ℕ) → c ≡ 92 → length (encode_utf8_all (c ∷ s)) ≤ total → RestIsMade false s → IsMadeAt false total count c s (past_backslash s)
   slash-made c [] e fits rest = one-made false total count c [] (escape []) (refl, all []) fits (rest [] (all []))
@@ -167,10 +160,8 @@ made : (raw : Bool) (total count : ℕ) (s : List ℕ) → length s ≤ count �
 made raw total zero [] few fits = none raw
 made raw total zero (c ∷ s) few fits = absurd (omega arith)
 made raw total (suc count) [] few fits = none raw
-made raw total (suc count) (c ∷ s) few fits = step-made total count raw c s fits (λ left ends. made raw total count left
-    (let l : length s ≡ length ends.0 + length left = ap length ends.1 ∙ length-append ends.0 left in omega arith)
-    (let l : length (encode_utf8_all s) ≡ length (encode_utf8_all ends.0) + length (encode_utf8_all left) = ap length (ap encode_utf8_all ends.1 ∙ encodes-append ends.0 left) ∙ length-append (encode_utf8_all ends.0) (encode_utf8_all left) in
-    let k : length (encode_utf8 c ++ encode_utf8_all s) ≡ length (encode_utf8 c) + length (encode_utf8_all s) = length-append (encode_utf8 c) (encode_utf8_all s) in omega arith))
+made raw total (suc count) (c ∷ s) few fits = grind (arith, common_steps, step-made, length-append, encodes-append,
+    made raw total count)
 
 pub is_rebuilt : (raw : Bool) (text : List ℕ) → IsUtf8 text → IsRebuilt raw text
 unfolding items_from

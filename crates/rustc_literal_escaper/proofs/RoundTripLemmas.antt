@@ -8,6 +8,7 @@ use Rattle.std.proofs.lemmas.Bool.Decides.{nat_tests}
 use Rattle.std.proofs.lemmas.List.{append-nil}
 use Rattle.std.proofs.Math.Nat.{div-one}
 use Rattle.std.proofs.lemmas.Str.{digit_value-digit_char}
+use Rattle.std.proofs.lemmas.Grind.{common_steps}
 use Rattle.rustc_literal_escaper.specs.declared.element.Element.{Element}
 use Rattle.rustc_literal_escaper.specs.declared.element.Element.TheVariants.{Byte, Plain, Unicode}
 use Rattle.rustc_literal_escaper.specs.declared.error.EscapeError.{EscapeError}
@@ -74,13 +75,7 @@ module _ {U : Type 0} (meaning : Element → Result U EscapeError) where
   escaped : (e : Element) (unit : U) (x : ℕ) (t : List ℕ) → meaning e ≡ Ok unit → list_all is_ascii (x ∷ t) ≡ true → (x == 10) ≡ false
       → ((s : List ℕ) → escape (x ∷ (t ++ s)) ≡ (e, s)) → IsSpelled meaning unit (92 ∷ x ∷ t)
   unfolding front
-  escaped e unit x t m ascii line read = record {
-    element = e;
-    means = m;
-    ascii = ascii;
-    double = λ s. rw line (ap one (read s));
-    alone = λ s. sym (read s);
-  }
+  escaped e unit x t m ascii line read = grind (arith, common_steps)
 
   -- a short escape, the character itself, or another
   or-spelled : (unit : ℕ → U) (c : ℕ) (xs : List ℕ) → (c < 127 → meaning (Byte c) ≡ Ok (unit c)) → (c < 127 → meaning (Plain c) ≡ Ok (unit c))

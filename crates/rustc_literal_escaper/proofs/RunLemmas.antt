@@ -1,11 +1,11 @@
 -- Runs of simple characters: the items of each.
-use Rattle.std.proofs.Common.{◌≡◌, ℕ, ◌-◌, Bool, true, List, [], ◌∷◌, ◌++◌, length, length-append, refl, sym, ap, ap₂, subst, ◌∙◌, arith}
+use Rattle.std.proofs.Common.{◌≡◌, ℕ, ◌-◌, Bool, true, List, [], ◌∷◌, ◌++◌, length, length-append, refl, sym, ap, subst, ◌∙◌, arith}
 use Rattle.std.specs.List.{list_all, FoldsTo}
 use Rattle.std.specs.Str.{chars, encode_utf8_all, IsUtf8}
 use Rattle.std.proofs.lemmas.Bool.{and_parts}
 use Rattle.std.proofs.lemmas.Str.{encodes-append, encodes-chars, encodes-IsAscii}
-use Rattle.rustc_literal_escaper.specs.declared.element.Element.TheVariants.{Plain}
-use Rattle.rustc_literal_escaper.specs.Elements.{Item, front_by, items_from, place}
+use Rattle.std.proofs.lemmas.Grind.{common_steps}
+use Rattle.rustc_literal_escaper.specs.Elements.{front_by, items_from, place}
 use Rattle.rustc_literal_escaper.specs.Plain.{is_simple, plain_items}
 use Rattle.rustc_literal_escaper.proofs.SimpleLemmas.{chars-simple, simple-ascii, simple-parts}
 use Rattle.rustc_literal_escaper.proofs.PlainLemmas.{items-plain}
@@ -19,19 +19,11 @@ module _ (raw : Bool) (total : ℕ) where
 
   items-run : (run s : List ℕ) → list_all (is_simple raw) run ≡ true → items_from (front_by raw) total (run ++ s) ≡ plain_items (place total s) run ++ items_from (front_by raw) total s
   items-run [] s e = refl
-  items-run (b ∷ bs) s e =
-      let p = and_parts (is_simple raw b) (list_all (is_simple raw) bs) e in
-      items-plain raw total b (bs ++ s) (simple-parts raw b p.0).2
-      ∙ (ap₂ (λ (from past : ℕ). (record { start = from; end = past }, Plain b) ∷ items_from (front_by raw) total (bs ++ s)) (place-run (b ∷ bs) s e) (place-run bs s p.1)
-      ∙ ap (λ (is : List Item). (record { start = place total s - length (b ∷ bs); end = place total s - length bs }, Plain b) ∷ is) (items-run bs s p.1))
+  items-run (b ∷ bs) s e = grind (arith, common_steps, and_parts, items-plain, simple-parts, place-run, items-run bs s)
 
   pub run-items : (rest run left : List ℕ) → list_all (is_simple raw) run ≡ true → rest ≡ run ++ left → IsUtf8 left
       → items_from (front_by raw) total (chars rest) ≡ plain_items (total - length left) run ++ items_from (front_by raw) total (chars left)
-  run-items rest run left e whole is =
-      ap (λ (xs : List ℕ). items_from (front_by raw) total (chars xs)) whole
-      ∙ (ap (items_from (front_by raw) total) (chars-simple raw run left e)
-      ∙ (items-run run (chars left) e
-      ∙ ap (λ (n : ℕ). plain_items (total - n) run ++ items_from (front_by raw) total (chars left)) (ap length (encodes-chars left is))))
+  run-items rest run left e whole is = grind (arith, common_steps, chars-simple, items-run, encodes-chars)
 
 -- calls over some items, and then over others
 pub folds-append : {P A : Type 0} (R : P → A → P → Type 0) (p q r : P) (xs ys : List A) → FoldsTo R p xs q → FoldsTo R q ys r → FoldsTo R p (xs ++ ys) r

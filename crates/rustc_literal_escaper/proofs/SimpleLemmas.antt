@@ -1,41 +1,25 @@
 -- Simple characters, passed over.
-use Rattle.std.proofs.Common.{◌≡◌, ℕ, ◌≤◌, ◌==◌, ◌&&◌, nat_lt, not, Bool, true, List, ◌++◌, length, take, drop, None, refl, sym, ap, ◌∙◌}
+use Rattle.std.proofs.Common.{◌≡◌, ℕ, ◌≤◌, ◌==◌, nat_lt, not, Bool, true, List, ◌++◌, length, take, drop, None, sym, ap, ◌∙◌, arith}
 use Rattle.std.specs.Char.{is_ascii}
 use Rattle.std.specs.List.{list_all, prefix_len}
 use Rattle.std.specs.Str.{chars, IsAscii, IsCharBoundary, IsUtf8}
 use Rattle.std.proofs.lemmas.Bool.{and_from, and_parts, not-true}
 use Rattle.std.proofs.lemmas.List.{take-append-drop}
 use Rattle.std.proofs.lemmas.Str.{chars-append, chars-IsAscii, IsCharBoundary-from_take, IsUtf8-from_ascii}
+use Rattle.std.proofs.lemmas.Grind.{common_steps}
 use Rattle.rustc_literal_escaper.specs.declared.element.Element.TheVariants.{Plain}
 use Rattle.rustc_literal_escaper.specs.declared.mode.Mode.{Mode}
-use Rattle.rustc_literal_escaper.specs.declared.mode.Mode.TheVariants.{Char, Byte, Str, RawStr, ByteStr, RawByteStr, CStr, RawCStr}
 use Rattle.rustc_literal_escaper.specs.Errors.{error_of}
 use Rattle.rustc_literal_escaper.specs.Plain.{is_fine, is_plain, is_simple, Passes}
 use Rattle.rustc_literal_escaper.proofs.LaneLemmas.{run_front}
 use Rattle.rustc_literal_escaper.proofs.WrittenLemmas.{all-weaker, is-ascii}
 
 pub simple-parts : (raw : Bool) (c : ℕ) → is_simple raw c ≡ true → (nat_lt c 128 ≡ true) × (not (c == 0) ≡ true) × (is_plain raw c ≡ true)
-simple-parts raw c e =
-    let p = and_parts (nat_lt c 128) (not (c == 0) && is_plain raw c) e in
-    let q = and_parts (not (c == 0)) (is_plain raw c) p.1 in
-    (p.0, q.0, q.1)
+simple-parts raw c e = grind (arith, common_steps, and_parts)
 
 -- nothing is wrong with a simple character
 pub simple-fine : (mode : Mode) (raw : Bool) (c : ℕ) → is_simple raw c ≡ true → (is_plain raw c ≡ true) × (error_of mode (Plain c) ≡ None)
-simple-fine mode raw c e = (p.2, by_mode mode)
-  where
-    p : (nat_lt c 128 ≡ true) × (not (c == 0) ≡ true) × (is_plain raw c ≡ true)
-    p = simple-parts raw c e
-
-    by_mode : (mode : Mode) → error_of mode (Plain c) ≡ None
-    by_mode Char = refl
-    by_mode Str = refl
-    by_mode RawStr = refl
-    by_mode Byte = rw p.0 refl
-    by_mode ByteStr = rw p.0 refl
-    by_mode RawByteStr = rw p.0 refl
-    by_mode CStr = rw (not-true (c == 0) p.1) refl
-    by_mode RawCStr = rw (not-true (c == 0) p.1) refl
+simple-fine mode raw c e = grind (arith, common_steps, simple-parts, not-true)
 
 -- it is a byte that stands for itself in each kind of string
 pub simple-all-fine : (raw : Bool) (bs : List ℕ) → list_all (is_simple raw) bs ≡ true → list_all is_fine bs ≡ true

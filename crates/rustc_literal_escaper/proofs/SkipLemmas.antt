@@ -1,5 +1,5 @@
 -- Plain characters, passed over.
-use Rattle.std.proofs.Common.{◌≡◌, ℕ, suc, ◌+◌, ◌<◌, ◌≤◌, Bool, true, false, List, [], ◌∷◌, ◌++◌, length, length-append, take, drop, Option, Some, None, refl, sym, ap, subst, ◌∙◌, arith}
+use Rattle.std.proofs.Common.{◌≡◌, ℕ, ◌+◌, ◌<◌, ◌≤◌, Bool, true, false, List, [], ◌∷◌, ◌++◌, length, length-append, take, drop, Option, Some, None, refl, sym, ap, subst, ◌∙◌, arith}
 use Rattle.std.specs.Char.{encode_utf8}
 use Rattle.std.specs.List.{list_all, slice_index}
 use Rattle.std.specs.Str.{chars, encode_utf8_all, IsUtf8}
@@ -8,12 +8,12 @@ use Rattle.std.proofs.lemmas.Bool.{and_parts, false_from_ne_true}
 use Rattle.std.proofs.lemmas.Bool.Decides.{nat_tests}
 use Rattle.std.proofs.lemmas.List.{append-nil, get_or-append-add, get_or_append_left, length-take, take-append-drop}
 use Rattle.std.proofs.lemmas.Str.{chars-append, chars-nil, encode_ascii, encodes-chars, IsCharBoundary-before_ascii, IsUtf8-take}
+use Rattle.std.proofs.lemmas.Grind.{common_steps}
 use Rattle.memchr.specs.Find.{is_byte, is_byte3, IsFirstByte}
 use Rattle.rustc_literal_escaper.specs.declared.element.Element.TheVariants.{Plain}
-use Rattle.rustc_literal_escaper.specs.declared.error.EscapeError.{EscapeError}
 use Rattle.rustc_literal_escaper.specs.declared.mode.Mode.{Mode}
-use Rattle.rustc_literal_escaper.specs.Elements.{Item, front_by, item_at, items_from, place}
-use Rattle.rustc_literal_escaper.specs.Errors.{error_of, errors_in, put}
+use Rattle.rustc_literal_escaper.specs.Elements.{Item, front_by, items_from}
+use Rattle.rustc_literal_escaper.specs.Errors.{error_of, errors_in}
 use Rattle.rustc_literal_escaper.specs.Plain.{is_plain, Passes}
 use Rattle.rustc_literal_escaper.proofs.PlainLemmas.{items-plain}
 
@@ -21,28 +21,18 @@ use Rattle.rustc_literal_escaper.proofs.PlainLemmas.{items-plain}
 module _ (mode : Mode) (raw : Bool) (class : ℕ → Bool) (fine : (c : ℕ) → class c ≡ true → (is_plain raw c ≡ true) × (error_of mode (Plain c) ≡ None)) (total : ℕ) where
   errors-past : (passed left : List ℕ) → list_all class passed ≡ true → errors_in mode (items_from (front_by raw) total left) ≡ errors_in mode (items_from (front_by raw) total (passed ++ left))
   errors-past [] left e = refl
-  errors-past (c ∷ cs) left e =
-      let p = and_parts (class c) (list_all class cs) e in
-      errors-past cs left p.1
-      ∙ (ap (λ (o : Option EscapeError). put (item_at total (place total (c ∷ (cs ++ left))) (Plain c, cs ++ left)).0 o (errors_in mode (items_from (front_by raw) total (cs ++ left)))) (sym (fine c p.0).1)
-      ∙ ap (errors_in mode) (sym (items-plain raw total c (cs ++ left) (fine c p.0).0)))
+  errors-past (c ∷ cs) left e = grind (arith, common_steps, and_parts, items-plain, errors-past cs left)
 
   fewer-past : (passed left : List ℕ) → list_all class passed ≡ true → length (items_from (front_by raw) total left) ≤ length (items_from (front_by raw) total (passed ++ left))
   fewer-past [] left e = omega arith
-  fewer-past (c ∷ cs) left e =
-      let p = and_parts (class c) (list_all class cs) e in
-      let more = fewer-past cs left p.1 in
-      let here : length (items_from (front_by raw) total (c ∷ (cs ++ left))) ≡ suc (length (items_from (front_by raw) total (cs ++ left))) = ap length (items-plain raw total c (cs ++ left) (fine c p.0).0) in
-      omega arith
+  fewer-past (c ∷ cs) left e = grind (arith, common_steps, and_parts, items-plain, fewer-past cs left)
 
   -- behind what waits
   errors-behind : (waiting : Option Item) (xs ys : List Item) → errors_in mode xs ≡ errors_in mode ys → errors_in mode (option_to_list waiting ++ xs) ≡ errors_in mode (option_to_list waiting ++ ys)
-  errors-behind None xs ys e = e
-  errors-behind (Some item) xs ys e = ap (put item.0 (error_of mode item.1)) e
+  errors-behind w0 xs ys e = grind (arith, common_steps)
 
   fewer-behind : (waiting : Option Item) (xs ys : List Item) → length xs ≤ length ys → length (option_to_list waiting ++ xs) ≤ length (option_to_list waiting ++ ys)
-  fewer-behind None xs ys l = l
-  fewer-behind (Some item) xs ys l = omega arith
+  fewer-behind w0 xs ys l = grind (arith, common_steps)
 
   pub errors-skip : (waiting : Option Item) (s left : List ℕ) → Passes class s left → errors_in mode (option_to_list waiting ++ items_from (front_by raw) total left) ≡ errors_in mode (option_to_list waiting ++ items_from (front_by raw) total s)
   errors-skip waiting s left p = errors-behind waiting (items_from (front_by raw) total left) (items_from (front_by raw) total s) (errors-past p.passed left p.all ∙ ap (λ (xs : List ℕ). errors_in mode (items_from (front_by raw) total xs)) (sym p.whole))

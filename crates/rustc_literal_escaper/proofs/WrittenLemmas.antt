@@ -13,6 +13,7 @@ use Rattle.std.proofs.lemmas.List.Recursion.{and_at}
 use Rattle.std.proofs.lemmas.List.Folds.{list_all-append}
 use Rattle.std.proofs.lemmas.Str.{chars-IsAscii, encodes-IsAscii, IsCharBoundary-from_take, IsUtf8-string_bytes, scalars-chars}
 use Rattle.std.proofs.lemmas.Str.Ascii.{IsAscii-from_reads}
+use Rattle.std.proofs.lemmas.Grind.{common_steps}
 use Rattle.rustc_literal_escaper.specs.declared.element.Element.{Element}
 use Rattle.rustc_literal_escaper.specs.declared.error.EscapeError.{EscapeError}
 use Rattle.rustc_literal_escaper.specs.Elements.{Front, Item, front, item_at, items_from, place, StartsWithOne}
@@ -25,9 +26,7 @@ use Rattle.rustc_literal_escaper.proofs.RoundTripLemmas.{IsSpelled, byte-spelled
 -- what each element passes
 pub all-weaker : (p q : ℕ → Bool) → ((c : ℕ) → p c ≡ true → q c ≡ true) → (cs : List ℕ) → list_all p cs ≡ true → list_all q cs ≡ true
 all-weaker p q weaker [] e = refl
-all-weaker p q weaker (c ∷ cs) e =
-    let r = and_parts (p c) (list_all p cs) e in
-    and_from (q c) (list_all q cs) (weaker c r.0) (all-weaker p q weaker cs r.1)
+all-weaker p q weaker (c ∷ cs) e = grind (arith, common_steps, and_parts, and_from, all-weaker p q weaker cs)
 
 pub is-ascii : (xs : List ℕ) → list_all is_ascii xs ≡ true → IsAscii xs
 is-ascii xs e = IsAscii-from_reads xs (length xs) (omega arith) (λ k l. ltb-true (get_or xs k 0) 128 (and_at (list_all is_ascii) is_ascii refl (λ x ys. refl) xs k 0 l e))
@@ -54,14 +53,10 @@ module _ {U : Type 0} (meaning : Element → Result U EscapeError) (written : �
 
   read-all : (total : ℕ) (cs : List ℕ) → AreSpelled cs → units_in (items_from front total (flat_map written cs)) ≡ map Ok (map unit cs)
   read-all total [] all = ap units_in (nothing front total)
-  read-all total (c ∷ cs) all =
-      read-first total all.0.element (unit c) (written c ++ flat_map written cs) (flat_map written cs) (all.0.double (flat_map written cs)) all.0.means
-      ∙ ap (λ (ms : List (Result U EscapeError)). Ok (unit c) ∷ ms) (read-all total cs all.1)
+  read-all total (c ∷ cs) all = grind (arith, common_steps, read-first, read-all total cs)
 
   pub stands_for : (cs : List ℕ) → AreSpelled cs → StandsFor meaning (flat_map written cs) (map unit cs)
-  stands_for cs all =
-      ap (λ (xs : List ℕ). units_in (items_from front (length (flat_map written cs)) xs)) (chars-IsAscii (flat_map written cs) (is-ascii (flat_map written cs) (all-ascii cs all)))
-      ∙ read-all (length (flat_map written cs)) cs all
+  stands_for cs all = grind (arith, common_steps, chars-IsAscii, is-ascii, all-ascii, read-all)
 
 -- a text
 text-spelled : (text : List ℕ) → IsUtf8 text → AreSpelled char_of escape_default (λ c. c) (chars text)
