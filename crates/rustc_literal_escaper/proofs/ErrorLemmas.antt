@@ -16,7 +16,7 @@ use Rattle.rustc_literal_escaper.proofs.RunLemmas.{folds-on}
 
 -- what is wrong between single quotes, by the first element
 single_error-starts : (total : ℕ) (mode : Mode) (s left : List ℕ) (e : Element) → StartsWithSingle s e left → single_error total mode s ≡ alone_error total (error_of mode e) left
-single_error-starts total mode w2 left e h = grind (arith, common_steps)
+single_error-starts total mode s left e h = grind (arith, common_steps)
 
 error_to-is : (total : ℕ) (error : EscapeError) (left : List ℕ) → IsUtf8 left → Some (record { start = 0; end = total - length left }, error) ≡ alone_error total (Some error) (chars left)
 error_to-is total error left is = ap (λ (n : ℕ). Some (record { start = 0; end = total - n }, error)) (sym (ap length (encodes-chars left is)))
@@ -27,9 +27,8 @@ single_error-some total mode s left e error h is some = error_to-is total error 
 
 pub single_error-more : (total : ℕ) (mode : Mode) (s left more : List ℕ) (e : Element) (d : ℕ) → StartsWithSingle s e (chars left) → None ≡ error_of mode e → chars left ≡ d ∷ chars more → IsUtf8 more
     → Some (record { start = 0; end = total - length more }, MoreThanOneChar) ≡ single_error total mode s
-single_error-more total mode s left more e d h none reads is =
-    error_to-is total MoreThanOneChar more is
-    ∙ (ap (alone_error total None) (sym reads) ∙ (ap (λ (o : Option EscapeError). alone_error total o (chars left)) none ∙ sym (single_error-starts total mode s (chars left) e h)))
+single_error-more total mode s left more e d h none reads is = grind (arith, common_steps,
+    error_to-is total MoreThanOneChar more is, single_error-starts total mode s (chars left) e h)
 
 -- a literal between double quotes has the errors of its elements
 pub errors_of-strings : (mode : Mode) (text : List ℕ) (items : List Item) → false ≡ is_single mode → items ≡ items_of (is_raw mode) text → errors_in mode items ≡ errors_of mode text
@@ -37,7 +36,7 @@ errors_of-strings mode text items double are = grind (arith, common_steps)
 
 -- the errors of some items and then others
 put-append : (range : Range ℕ) (error : Option EscapeError) (xs ys : List Error) → put range error (xs ++ ys) ≡ put range error xs ++ ys
-put-append range w1 xs ys = grind (arith, common_steps)
+put-append range error xs ys = grind (arith, common_steps)
 
 errors-append : (mode : Mode) (xs ys : List Item) → errors_in mode (xs ++ ys) ≡ errors_in mode xs ++ errors_in mode ys
 errors-append mode [] ys = refl

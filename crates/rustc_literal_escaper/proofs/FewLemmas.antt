@@ -24,11 +24,11 @@ unfolding items_from
 items-few raw text is = omega (arith, few_in raw (length (chars text)) (length text) (chars text), length-le-encodes (chars text), ap length (encodes-chars text is))
 
 put-few : (range : Range ℕ) (error : Option EscapeError) (errors : List Error) → length (put range error errors) ≤ suc (length errors)
-put-few range w1 errors = grind (arith, common_steps)
+put-few range error errors = grind (arith, common_steps)
 
 pub errors-few : (mode : Mode) (items : List Item) → length (errors_in mode items) ≤ length items
 errors-few mode [] = omega arith
 errors-few mode (item ∷ items) = omega (arith, put-few item.0 (error_of mode item.1) (errors_in mode items), errors-few mode items)
 
 pub alone-few : (error : Option Error) → length (option_to_list error) ≤ 1
-alone-few w0 = grind (arith, common_steps)
+alone-few error = grind (arith, common_steps)

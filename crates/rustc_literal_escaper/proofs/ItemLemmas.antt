@@ -16,7 +16,7 @@ use Rattle.rustc_literal_escaper.specs.Rebuilt.{is_warning}
 use Rattle.rustc_literal_escaper.specs.Runs.{front_run, past_run}
 
 pub either : {A : Type 0} (P : A → Type 0) (b : Bool) (x y : A) → P x → P y → P (if b then x else y)
-either w0 w1 x y p q = grind (arith, common_steps)
+either P b x y p q = grind (arith, common_steps)
 
 -- ---- what is left is an end of what there was
 
@@ -106,7 +106,7 @@ abbrev IsFew : List ℕ → List (Element × List ℕ) → Type 0
 IsFew s told = All (EndsAt s) told × (length told ≤ 1)
 
 one-few : (s : List ℕ) (b : Bool) (read : Element × List ℕ) → EndsAt s read → IsFew s (if b then read ∷ [] else [])
-one-few s w1 read e = grind (arith, common_steps, All-cons, All-nil)
+one-few s b read e = grind (arith, common_steps, All-cons, All-nil)
 
 more_space-few : (s left : List ℕ) → Ends left s → IsFew s (more_space left)
 more_space-few s [] e = (All-nil (EndsAt s), omega arith)
@@ -167,13 +167,7 @@ module _ (raw : Bool) (total : ℕ) where
   -- one step over a text
   pub items-step : (rest : List ℕ) (c : ℕ) (s left : List ℕ) (told : List Item) → IsUtf8 rest → chars rest ≡ c ∷ s → told ≡ map (item_at total (total - length rest)) (at c s).told
       → left ≡ (at c s).left → items_from at total (chars rest) ≡ told ++ items_from at total left
-  items-step rest c s left told is reads t l =
-      ap (items_from at total) reads ∙ (items-cons c s
-      ∙ (ap (λ (start : ℕ). map (item_at total start) (at c s).told ++ items_from at total (at c s).left) here
-      ∙ (ap (λ (is : List Item). is ++ items_from at total (at c s).left) (sym t) ∙ ap (λ (xs : List ℕ). told ++ items_from at total xs) (sym l))))
-    where
-      here : place total (c ∷ s) ≡ total - length rest
-      here = ap (place total) (sym reads) ∙ ap (λ (n : ℕ). total - n) (ap length (encodes-chars rest is))
+  items-step rest c s left told is reads t l = grind (arith, common_steps, items-cons c s, encodes-chars rest is)
 
   -- an element that stands alone at the front is the first item
   pub first-one : (rest left : List ℕ) (c : ℕ) (s : List ℕ) (e : Element) → IsUtf8 rest → IsUtf8 left → chars rest ≡ c ∷ s → at c s ≡ one (e, chars left)
@@ -193,7 +187,7 @@ module _ (raw : Bool) (total : ℕ) where
 
 -- nothing is told
 pub told-none : (a b : Option Item) → is_some a ≡ false → (a ≡ None → b ≡ None) → option_to_list a ++ option_to_list b ≡ []
-told-none w0 b e h = grind (arith, common_steps)
+told-none a b e h = grind (arith, common_steps)
 
 -- no items are in nothing
 pub nothing : (at : ℕ → List ℕ → Front) (total : ℕ) → items_from at total [] ≡ []
@@ -204,4 +198,4 @@ nothing at total = refl
 pub takes_first : (at : ℕ → List ℕ → Front) (total : ℕ) (waiting first second : Option Item) (rest left : List ℕ) → false ≡ is_some waiting
     → items_from at total rest ≡ (option_to_list first ++ option_to_list second) ++ items_from at total left → (first ≡ None → (second ≡ None) × (left ≡ []))
     → TakesFirst (option_to_list waiting ++ items_from at total rest) first (option_to_list second ++ items_from at total left)
-takes_first at total w2 first second rest left none told all = grind (arith, common_steps, all, nothing)
+takes_first at total waiting first second rest left none told all = grind (arith, common_steps, all, nothing)

@@ -29,14 +29,14 @@ pub run_bound : (q : ℕ → Bool) (d : List ℕ) (i : ℕ) → i ≤ length d �
 run_bound q d i h = omega (arith, prefix_len-le-length q (drop i d), length-drop i d)
 
 none_fails : (b : Bool) (n l m : ℕ) → n ≤ l → cond b (1 + n) 0 ≡ 1 + l → (n ≡ l → m ≡ 0) → cond (not b) 1 0 + 2 * m ≡ 0
-none_fails w0 n l m le e ih = grind (arith, common_steps)
+none_fails b n l m le e ih = grind (arith, common_steps)
 
 module _ (q : ℕ → Bool) where
   abbrev fails : ℕ → Bool
   fails x = not (q x)
 
   twice : (xs : List ℕ) → prefix_len (λ x. not (fails x)) xs ≡ prefix_len q xs
-  twice w0 = grind (arith, common_steps, not-not)
+  twice xs = grind (arith, common_steps, not-not)
 
   all_pass : (xs : List ℕ) → prefix_len q xs ≡ length xs → mask_l (map fails xs) ≡ 0
   all_pass [] e = refl

@@ -34,7 +34,7 @@ past_run-none p (c ∷ s) e = grind (arith, common_steps)
 
 -- where a line begins, or no such white space stands next, the search for a line's end stops
 no-line : (s : List ℕ) → front_run is_passed_over s ≡ [] → begins_line s ≡ false
-no-line w0 none = grind (arith, common_steps, false_from_ne_true, eqb-true)
+no-line s none = grind (arith, common_steps, false_from_ne_true, eqb-true)
 
 abbrev pub Stopped : List ℕ → List ℕ → Type 0
 Stopped line left = (begins_line left ≡ list_any is_newline (front_run is_passed_over line))
@@ -56,18 +56,9 @@ passed-small c e = grind (arith, nat_tests)
 
 first-tells : (bs s : List ℕ) (b c : ℕ) → IsUtf8 bs → Some b ≡ slice_get bs 0 → chars bs ≡ c ∷ s → is_passed_over c ≡ is_passed_over b
 first-tells [] s b c is e at = absurd (let f : Some b ≡ None = e in cc)
-first-tells (x ∷ xs) s b c is e at = by_tests (is_passed_over c) (is_passed_over b) refl refl
-  where
-    here : x ≡ b
-    here = let f : Some b ≡ Some x = e in cc
-
-    text : x ∷ xs ≡ encode_utf8_all (c ∷ s)
-    text = sym (encodes-chars (x ∷ xs) is) ∙ ap encode_utf8_all at
-
-    by_tests : (p q : Bool) → is_passed_over c ≡ p → is_passed_over b ≡ q → is_passed_over c ≡ is_passed_over b
-    by_tests true q f g = ap is_passed_over (sym (byte_from_char (x ∷ xs) (encode_utf8_all s) c text (passed-small c f)) ∙ here)
-    by_tests false true f g = ap is_passed_over (char_from_byte (x ∷ xs) (encode_utf8_all s) c text (let l = passed-small b g in omega (arith, here)) (omega arith) ∙ here)
-    by_tests false false f g = f ∙ sym g
+first-tells (x ∷ xs) s b c is e at = grind (arith, common_steps, encodes-chars (x ∷ xs) is,
+    byte_from_char (x ∷ xs) (encode_utf8_all s) c, passed-small c, char_from_byte (x ∷ xs) (encode_utf8_all s) c,
+    passed-small b)
 
 pub byte-not : (bs : List ℕ) (b : ℕ) → IsUtf8 bs → Some b ≡ slice_get bs 0 → is_passed_over b ≡ false → front_run is_passed_over (chars bs) ≡ []
 byte-not bs b is e off = by_front (chars bs) refl

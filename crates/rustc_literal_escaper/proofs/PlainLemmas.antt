@@ -11,7 +11,7 @@ use Rattle.rustc_literal_escaper.proofs.ItemLemmas.{first-one, items-one, nothin
 
 pub front_by-plain : (raw : Bool) (c : ℕ) (s : List ℕ) → is_plain raw c ≡ true → front_by raw c s ≡ one (Plain c, s)
 unfolding front raw_front
-front_by-plain w0 c s e = grind (arith, common_steps, not-true, and_parts)
+front_by-plain raw c s e = grind (arith, common_steps, not-true, and_parts)
 
 -- it is an item
 pub items-plain : (raw : Bool) (total c : ℕ) (s : List ℕ) → is_plain raw c ≡ true → items_from (front_by raw) total (c ∷ s) ≡ item_at total (place total (c ∷ s)) (Plain c, s) ∷ items_from (front_by raw) total s

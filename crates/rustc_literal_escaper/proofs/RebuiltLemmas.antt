@@ -12,7 +12,7 @@ use Rattle.std.proofs.lemmas.Grind.{common_steps}
 use Rattle.rustc_literal_escaper.specs.declared.element.Element.{Element}
 use Rattle.rustc_literal_escaper.specs.declared.element.Element.TheVariants.{Fault, Plain}
 use Rattle.rustc_literal_escaper.specs.declared.error.EscapeError.TheVariants.{BareCarriageReturn, BareCarriageReturnInRawString, EscapeOnlyChar, MultipleSkippedLinesWarning, UnskippedWhitespaceWarning}
-use Rattle.rustc_literal_escaper.specs.Elements.{Front, Item, front, front_by, is_newline, is_passed_over, item_at, items_from, items_in, items_of, line_end, more_space, one, past_backslash, place, raw_element, raw_front, unescaped}
+use Rattle.rustc_literal_escaper.specs.Elements.{Front, Item, front, front_by, is_newline, is_passed_over, item_at, items_from, items_in, line_end, more_space, one, past_backslash, place, raw_element, raw_front, unescaped}
 use Rattle.rustc_literal_escaper.specs.Escape.{escape}
 use Rattle.rustc_literal_escaper.specs.Rebuilt.{AreLineEnds, IsMadeOf, IsRebuilt, is_unit, places_of}
 use Rattle.rustc_literal_escaper.specs.Runs.{front_run, past_run}
@@ -57,7 +57,7 @@ skip space e from left (r ∷ places) made = (
 -- ---- one step
 
 none : (raw : Bool) → AreLineEnds raw []
-none w0 = grind (arith, common_steps)
+none raw = grind (arith, common_steps)
 
 module _ (raw : Bool) (total count : ℕ) where
   abbrev places_past : List ℕ → List (Range ℕ)
@@ -165,8 +165,5 @@ made raw total (suc count) (c ∷ s) few fits = grind (arith, common_steps, step
 
 pub is_rebuilt : (raw : Bool) (text : List ℕ) → IsUtf8 text → IsRebuilt raw text
 unfolding items_from
-is_rebuilt raw text is =
-    let whole : length (encode_utf8_all (chars text)) ≡ length text = ap length (encodes-chars text is) in
-    subst (λ (n : ℕ). IsMadeOf raw n text (places_of (items_of raw text))) (omega arith)
-    (subst (λ (xs : List ℕ). IsMadeOf raw (place (length text) (chars text)) xs (places_of (items_of raw text))) (encodes-chars text is)
-    (made raw (length text) (length (chars text)) (chars text) (omega arith) (omega arith)))
+is_rebuilt raw text is = grind (arith, common_steps, encodes-chars text is,
+    made raw (length text) (length (chars text)) (chars text))

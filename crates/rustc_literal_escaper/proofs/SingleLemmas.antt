@@ -11,7 +11,7 @@ use Rattle.rustc_literal_escaper.specs.Single.{alone, literal, StartsWithSingle}
 module _ {U : Type 0} (meaning : Element → Result U EscapeError) where
   -- what the literal stands for, by its first element
   pub literal-starts : (s left : List ℕ) (e : Element) → StartsWithSingle s e left → literal meaning s ≡ alone (meaning e) left
-  literal-starts w0 left e h = grind (arith, common_steps)
+  literal-starts s left e h = grind (arith, common_steps)
 
   pub literal-one : (s left : List ℕ) (e : Element) (u : U) → StartsWithSingle s e left → meaning e ≡ Ok u → left ≡ [] → Ok u ≡ literal meaning s
   literal-one s left e u h m none = sym (literal-starts s left e h ∙ rw m (rw none refl))

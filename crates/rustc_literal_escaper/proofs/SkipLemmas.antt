@@ -29,10 +29,10 @@ module _ (mode : Mode) (raw : Bool) (class : ℕ → Bool) (fine : (c : ℕ) →
 
   -- behind what waits
   errors-behind : (waiting : Option Item) (xs ys : List Item) → errors_in mode xs ≡ errors_in mode ys → errors_in mode (option_to_list waiting ++ xs) ≡ errors_in mode (option_to_list waiting ++ ys)
-  errors-behind w0 xs ys e = grind (arith, common_steps)
+  errors-behind waiting xs ys e = grind (arith, common_steps)
 
   fewer-behind : (waiting : Option Item) (xs ys : List Item) → length xs ≤ length ys → length (option_to_list waiting ++ xs) ≤ length (option_to_list waiting ++ ys)
-  fewer-behind w0 xs ys l = grind (arith, common_steps)
+  fewer-behind waiting xs ys l = grind (arith, common_steps)
 
   pub errors-skip : (waiting : Option Item) (s left : List ℕ) → Passes class s left → errors_in mode (option_to_list waiting ++ items_from (front_by raw) total left) ≡ errors_in mode (option_to_list waiting ++ items_from (front_by raw) total s)
   errors-skip waiting s left p = errors-behind waiting (items_from (front_by raw) total left) (items_from (front_by raw) total s) (errors-past p.passed left p.all ∙ ap (λ (xs : List ℕ). errors_in mode (items_from (front_by raw) total xs)) (sym p.whole))
@@ -80,11 +80,8 @@ module _ (raw : Bool) (test : ℕ → Bool) (small : (b : ℕ) → test b ≡ tr
 
   -- all of them, where none is found
   pub past-none : (bs : List ℕ) → IsUtf8 bs → IsFirstByte test bs None → Passes (is_plain raw) (chars bs) (chars [])
-  past-none bs is none = record {
-    passed = chars bs;
-    all = clear-chars (chars bs) (subst Clear (sym (encodes-chars bs is)) (λ k l set. none k (omega arith) l set));
-    whole = sym (ap (λ xs. chars bs ++ xs) chars-nil ∙ append-nil (chars bs));
-  }
+  past-none bs is none = grind (arith, common_steps, clear-chars (chars bs), encodes-chars bs is, chars-nil,
+      append-nil (chars bs))
 
 pub byte_small : (b : ℕ) → is_byte 13 b ≡ true → b < 128
 byte_small b e = grind (arith, nat_tests)

@@ -1,5 +1,5 @@
 -- What is written of characters and bytes, read between double quotes.
-use Rattle.std.proofs.Common.{Bool, ◌≡◌, ℕ, suc, ◌+◌, ◌<◌, ◌==◌, true, false, List, [], ◌∷◌, ◌++◌, length, map, Result, Ok, refl, sym, ap, subst, ◌∙◌, arith, get_or, take, length-append}
+use Rattle.std.proofs.Common.{Bool, ◌≡◌, ℕ, suc, ◌+◌, ◌<◌, ◌==◌, true, false, List, [], ◌∷◌, ◌++◌, length, map, Result, Ok, refl, sym, ap, ◌∙◌, arith, get_or, length-append}
 use Rattle.std.specs.Char.{is_ascii, IsScalar}
 use Rattle.std.specs.Char.Escape.{escape_ascii, escape_default}
 use Rattle.std.specs.List.{AllByRecursion, flat_map, list_all, list_any, slice_index}
@@ -16,7 +16,7 @@ use Rattle.std.proofs.lemmas.Str.Ascii.{IsAscii-from_reads}
 use Rattle.std.proofs.lemmas.Grind.{common_steps}
 use Rattle.rustc_literal_escaper.specs.declared.element.Element.{Element}
 use Rattle.rustc_literal_escaper.specs.declared.error.EscapeError.{EscapeError}
-use Rattle.rustc_literal_escaper.specs.Elements.{Front, Item, front, item_at, items_from, place, StartsWithOne}
+use Rattle.rustc_literal_escaper.specs.Elements.{Item, front, items_from, StartsWithOne}
 use Rattle.rustc_literal_escaper.specs.Meaning.{byte_of, char_of, unit_of}
 use Rattle.rustc_literal_escaper.specs.Units.{unit_of_byte}
 use Rattle.rustc_literal_escaper.specs.Written.{Grows, StandsFor, written_bytes, written_text}
@@ -47,9 +47,7 @@ module _ {U : Type 0} (meaning : Element → Result U EscapeError) (written : �
   read-first : (total : ℕ) (e : Element) (u : U) (xs s : List ℕ) → StartsWithOne false xs e s → meaning e ≡ Ok u
       → units_in (items_from front total xs) ≡ Ok u ∷ units_in (items_from front total s)
   read-first total e u [] s starts means = absurd starts
-  read-first total e u (c ∷ t) s starts means =
-      ap units_in (items-cons false total c t ∙ ap (λ (f : Front). map (item_at total (place total (c ∷ t))) f.told ++ items_from front total f.left) starts)
-      ∙ ap (λ (m : Result U EscapeError). m ∷ units_in (items_from front total s)) means
+  read-first total e u (c ∷ t) s starts means = grind (arith, common_steps, items-cons false total c t)
 
   read-all : (total : ℕ) (cs : List ℕ) → AreSpelled cs → units_in (items_from front total (flat_map written cs)) ≡ map Ok (map unit cs)
   read-all total [] all = ap units_in (nothing front total)
@@ -104,7 +102,6 @@ writing-start all old = record { grown = ([], sym (append-nil old)); whole = ref
 
 -- it may be cut off again
 pub boundary : {Z : Type 0} (old new : String Z) → Grows (string_bytes old) (string_bytes new) → IsCharBoundary (string_bytes new) (length (string_bytes old))
-boundary old new g =
-    let l : length (string_bytes new) ≡ length (string_bytes old) + length g.0 = ap length g.1 ∙ length-append (string_bytes old) g.0 in
-    IsCharBoundary-from_take (string_bytes new) (length (string_bytes old)) (IsUtf8-string_bytes new) (omega arith)
-    (subst IsUtf8 (sym (ap (take (length (string_bytes old))) g.1 ∙ take-append_seam (string_bytes old) g.0)) (IsUtf8-string_bytes old))
+boundary old new g = grind (arith, common_steps, length-append (string_bytes old) g.0,
+    IsCharBoundary-from_take (string_bytes new) (length (string_bytes old)) (IsUtf8-string_bytes new),
+    IsUtf8-string_bytes new, take-append_seam (string_bytes old) g.0, IsUtf8-string_bytes old)
