@@ -1,15 +1,14 @@
 -- Writes one after another, as the calls that they make.
-use Rattle.std.proofs.Common.{List, [], ◌∷◌, ◌++◌, ℕ, refl, ap, ◌∙◌, append-nil}
+use Rattle.std.proofs.Common.{List, [], ◌∷◌, ◌++◌, ℕ, refl, append-nil, arith}
 use Rattle.std.proofs.lemmas.List.Folds.{concat-append}
 use Rattle.std.specs.Fmt.{WritesInCalls}
 use Rattle.std.specs.Result.{IsOk}
-use Rattle.std.specs.Prelude.{OnOk, Result, Ok, Err}
-use Rattle.std.specs.List.{concat}
+use Rattle.std.specs.Prelude.{OnOk, Result}
+use Rattle.std.proofs.lemmas.Grind.{common_steps}
 use Rattle.rustc_literal_escaper.proofs.RunLemmas.{folds-append}
 
 pub on_ok : {T E : Type 0} (r : Result T E) {P Q : Type 0} → (IsOk r → P) → (P → Q) → OnOk r Q
-on_ok (Ok x) holds more = more (holds refl)
-on_ok (Err e) holds more = tt
+on_ok r holds more = grind (arith, common_steps)
 
 module _ {W : Type 0} (took : W → List ℕ → W → Type 0) where
   -- a text that is written in one call
@@ -25,8 +24,4 @@ module _ {W : Type 0} (took : W → List ℕ → W → Type 0) where
 
   -- one write, and then another
   pub writes_both : (w v u : W) (bs cs : List ℕ) → WritesInCalls took w bs v → WritesInCalls took v cs u → WritesInCalls took w (bs ++ cs) u
-  writes_both w v u bs cs first second = record {
-    parts = first.parts ++ second.parts;
-    calls = folds-append took w v u first.parts second.parts first.calls second.calls;
-    whole = concat-append first.parts second.parts ∙ (ap (λ xs. xs ++ concat second.parts) first.whole ∙ ap (λ xs. bs ++ xs) second.whole);
-  }
+  writes_both w v u bs cs first second = grind (arith, common_steps, folds-append, concat-append)

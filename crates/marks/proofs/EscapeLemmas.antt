@@ -1,10 +1,11 @@
 -- A text with entities: that they are undone, that it holds no tag, and how it is written.
-use Rattle.std.proofs.Common.{◌≡◌, ℕ, zero, suc, ◌+◌, ◌<◌, ◌≤◌, ◌==◌, ◌||◌, if◌then◌else◌, Bool, true, false, true≢false, List, [], ◌∷◌, ◌++◌, length, take, drop, get_or, refl, sym, ap, subst, ◌∙◌, arith, inl, inr, append_assoc, Some, None}
+use Rattle.std.proofs.Common.{◌≡◌, ℕ, zero, suc, ◌+◌, ◌<◌, ◌≤◌, ◌||◌, if◌then◌else◌, Bool, true, false, List, [], ◌∷◌, ◌++◌, length, take, drop, get_or, refl, sym, ap, subst, ◌∙◌, arith, inl, inr, append_assoc, Some, None}
 use Rattle.std.specs.Prelude.{codes}
 use Rattle.std.specs.Str.{IsUtf8}
 use Rattle.std.proofs.lemmas.Str.{lead_after_ascii}
 use Rattle.std.specs.Fmt.{WritesInCalls}
 use Rattle.std.proofs.lemmas.Bool.{cases_Bool, eqb-true}
+use Rattle.std.proofs.lemmas.Grind.{common_steps}
 use Rattle.memchr.specs.Find.{IsFirstByte}
 use Rattle.marks.specs.Escape.{entity, escaped, escaped_byte, is_special, unescaped_past, untagged_from}
 use Rattle.marks.proofs.CallLemmas.{one_call, writes_both}
@@ -14,34 +15,19 @@ abbrev by_tests : Bool → Bool → Bool → ℕ → List ℕ
 by_tests x y z b = if x || y || z then (if x then codes "&amp;" else (if y then codes "&lt;" else codes "&gt;")) else b ∷ []
 
 unescaped_byte : (b : ℕ) (rest : List ℕ) → unescaped_past 0 (escaped_byte b ++ rest) ≡ b ∷ unescaped_past 0 rest
-unescaped_byte b rest = by (b == 38) (b == 60) (b == 62) refl refl refl
-  where
-    by : (x y z : Bool) → (b == 38) ≡ x → (b == 60) ≡ y → (b == 62) ≡ z → unescaped_past 0 (by_tests x y z b ++ rest) ≡ b ∷ unescaped_past 0 rest
-    by true y z e f g = ap (λ (c : ℕ). c ∷ unescaped_past 0 rest) (sym (eqb-true b 38 e))
-    by false true z e f g = ap (λ (c : ℕ). c ∷ unescaped_past 0 rest) (sym (eqb-true b 60 f))
-    by false false true e f g = ap (λ (c : ℕ). c ∷ unescaped_past 0 rest) (sym (eqb-true b 62 g))
-    by false false false e f g = rw e refl
+unescaped_byte b rest = grind (arith, common_steps, eqb-true)
 
 pub unescaped_escaped : (text : List ℕ) → unescaped_past 0 (escaped text) ≡ text
 unescaped_escaped [] = refl
 unescaped_escaped (b ∷ bs) = unescaped_byte b (escaped bs) ∙ ap (λ xs. b ∷ xs) (unescaped_escaped bs)
 
 untagged_byte : (b : ℕ) (rest : List ℕ) → untagged_from false (escaped_byte b ++ rest) ≡ escaped_byte b ++ untagged_from false rest
-untagged_byte b rest = by (b == 38) (b == 60) (b == 62) refl
-  where
-    by : (x y z : Bool) → (b == 60) ≡ y → untagged_from false (by_tests x y z b ++ rest) ≡ by_tests x y z b ++ untagged_from false rest
-    by true y z f = refl
-    by false true z f = refl
-    by false false true f = refl
-    by false false false f = rw f refl
+untagged_byte b rest = grind (arith, common_steps)
 
 -- no tag begins in a text with entities
 pub untagged_escaped : (text rest : List ℕ) → untagged_from false (escaped text ++ rest) ≡ escaped text ++ untagged_from false rest
 untagged_escaped [] rest = refl
-untagged_escaped (b ∷ bs) rest =
-    ap (untagged_from false) (append_assoc (escaped_byte b) (escaped bs) rest)
-    ∙ (untagged_byte b (escaped bs ++ rest)
-    ∙ (ap (λ xs. escaped_byte b ++ xs) (untagged_escaped bs rest) ∙ sym (append_assoc (escaped_byte b) (escaped bs) (untagged_from false rest))))
+untagged_escaped (b ∷ bs) rest = grind (arith, common_steps, append_assoc, untagged_byte, untagged_escaped bs rest)
 
 none_special : (bs : List ℕ) → ((k : ℕ) → k < length bs → is_special (get_or bs k 0) ≡ true → ⊥) → escaped bs ≡ bs
 none_special [] none = refl
@@ -60,13 +46,7 @@ first_special (b ∷ bs) (suc n) low none here = elim (cases_Bool (is_special b)
 ]
 
 special_small : (b : ℕ) → is_special b ≡ true → b < 128
-special_small b set = by (b == 38) (b == 60) (b == 62) refl refl refl set
-  where
-    by : (x y z : Bool) → (b == 38) ≡ x → (b == 60) ≡ y → (b == 62) ≡ z → (x || y || z) ≡ true → b < 128
-    by true y z e f g s = let is = eqb-true b 38 e in omega arith
-    by false true z e f g s = let is = eqb-true b 60 f in omega arith
-    by false false true e f g s = let is = eqb-true b 62 g in omega arith
-    by false false false e f g s = absurd (true≢false (sym s))
+special_small b set = grind (arith, common_steps, eqb-true)
 
 -- the text may be cut past a special byte
 pub may_cut_past : (bs : List ℕ) (n : ℕ) → IsUtf8 bs → IsFirstByte is_special bs (Some n) → (n + 1 ≤ length bs) × (n + 1 < length bs → 128 ≤ get_or bs (n + 1) 0 → 192 ≤ get_or bs (n + 1) 0)
@@ -88,5 +68,4 @@ module _ {W : Type 0} (took : W → List ℕ → W → Type 0) where
 
   -- a text with no special byte is written as it is
   pub writes_plain : (w v : W) (bs : List ℕ) → IsFirstByte is_special bs None → took w bs v → WritesInCalls took w (escaped bs) v
-  writes_plain w v bs none call =
-      subst (λ (xs : List ℕ). WritesInCalls took w xs v) (sym (none_special bs (λ k low set. none k (omega arith) low set))) (one_call took w v bs call)
+  writes_plain w v bs none call = grind (arith, common_steps, none_special, one_call)

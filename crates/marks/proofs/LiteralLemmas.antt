@@ -1,27 +1,25 @@
 -- What a literal says between its marks, and the calls that write it.
-use Rattle.std.proofs.Common.{◌≡◌, ℕ, ◌+◌, ◌-◌, ◌<◌, ◌≤◌, if◌then◌else◌, Bool, List, [], ◌∷◌, ◌++◌, length, get_or, take, drop, sym, ap, subst, ◌∙◌, arith, inl, inr, take-append-drop, length-drop, append-nil, IsCharBoundary, Option, Some}
+use Rattle.std.proofs.Common.{◌≡◌, ℕ, ◌+◌, ◌-◌, ◌<◌, ◌≤◌, if◌then◌else◌, Bool, List, [], ◌∷◌, ◌++◌, take, drop, sym, ap, subst, ◌∙◌, arith, take-append-drop, length-drop, append-nil, IsCharBoundary, Option, Some}
 use Rattle.std.specs.Fmt.{WritesInCalls}
 use Rattle.std.proofs.lemmas.Bool.{cases_lt, lt-ltb, le-ltb}
 use Rattle.std.proofs.lemmas.List.{drop-drop, get_or-take, length-take-le}
 use Rattle.std.proofs.lemmas.List.Concat.{flat_map-append}
 use Rattle.std.proofs.lemmas.List.Elements.{All-head, All-tail}
 use Rattle.std.proofs.lemmas.Str.{IsCharBoundary-from_rest}
+use Rattle.std.proofs.lemmas.Grind.{common_steps}
 use Rattle.rustc_literal_escaper.specs.Elements.{Item, items_of}
 use Rattle.rustc_literal_escaper.specs.Errors.{is_raw}
 use Rattle.rustc_literal_escaper.specs.Places.{ArePlaced, IsPlaced}
 use Rattle.rustc_literal_escaper.specs.declared.mode.Mode.{Mode}
 use Rattle.marks.specs.declared.class.Class.TheVariants.{Text}
-use Rattle.marks.specs.declared.fault.Fault.TheVariants.{InLiteral}
 use Rattle.marks.specs.declared.literal.Look.{Look}
-use Rattle.marks.specs.declared.literal.Look.TheVariants.{Escape, Wrong}
 use Rattle.marks.specs.declared.style.Style.{Style}
 use Rattle.marks.specs.Literal.{Stretch, WritesOn, between, literal_parts, look_of, look_parts, parts_from, single_error, single_look, single_stretches, skipped, stretch, stretches_from, stretches_of, string_stretches}
 use Rattle.marks.specs.Part.{Own, own, with_marks, without_marks}
 use Rattle.marks.proofs.PartLemmas.{without_fault, writes_parts}
 
 without_look : (look : Look) (text : List ℕ) → without_marks (look_parts look text) ≡ text
-without_look Escape text = append-nil text
-without_look (Wrong error) text = without_fault (InLiteral error) Text text
+without_look look text = grind (arith, common_steps, append-nil, without_fault)
 
 without_from : (at : ℕ) (left : List ℕ) (ss : List Stretch) → without_marks (parts_from at left ss) ≡ left
 without_from at left [] = append-nil left
@@ -41,23 +39,8 @@ without_literal mode text = without_from 0 text (stretches_of mode text)
 
 -- a place between characters of what stands between the quotes is one of the literal
 pub boundary_in : (text : List ℕ) (begin close k : ℕ) → begin ≤ close → IsCharBoundary text begin → IsCharBoundary text close → IsCharBoundary (between begin close text) k → (begin + k ≤ close) × IsCharBoundary text (begin + k)
-boundary_in text begin close k order at_begin at_close at_k =
-    let low : begin ≤ length text = at_begin.0 in
-    let high : close ≤ length text = at_close.0 in
-    let many : length (drop begin text) ≡ length text - begin = length-drop begin text in
-    let all : length (between begin close text) ≡ close - begin = length-take-le (close - begin) (drop begin text) (omega arith) in
-    let within : k ≤ length (between begin close text) = at_k.0 in (
-      omega arith,
-      elim (cases_lt k (close - begin)) [
-        | inl less ↦ IsCharBoundary-from_rest text begin k low (
-          omega arith,
-          λ inside wide.
-              let same : get_or (between begin close text) k 0 ≡ get_or (drop begin text) k 0 = get_or-take (close - begin) (drop begin text) k 0 less in
-              let lead : 192 ≤ get_or (between begin close text) k 0 = at_k.1 (omega arith) (omega arith) in omega arith,
-        )
-        | inr past ↦ let is : close ≡ begin + k = omega arith in subst (IsCharBoundary text) is at_close
-      ],
-    )
+boundary_in text begin close k order at_begin at_close at_k = grind (arith, common_steps, length-drop, length-take-le,
+    cases_lt, IsCharBoundary-from_rest, get_or-take)
 
 -- the first of some items, and the others
 pub record Placed (text : List ℕ) (close start end : ℕ) : Type 0 where
@@ -77,8 +60,7 @@ placed_first text begin close items rest item order at_begin at_close are is =
     (record { low = omega arith; high = end.0; at_start = start.1; at_end = end.1 }, All-tail (IsPlaced (between begin close text)) item rest all)
 
 pub placed_all : (text inside : List ℕ) (begin close : ℕ) (raw : Bool) (items : List Item) → items ≡ items_of raw inside → inside ≡ between begin close text → ArePlaced inside (items_of raw inside) → ArePlaced (between begin close text) items
-placed_all text inside begin close raw items are is places =
-    subst (λ (xs : List ℕ). ArePlaced xs items) is (subst (ArePlaced inside) (sym are) places)
+placed_all text inside begin close raw items are is places = grind (arith, common_steps)
 
 -- ---- the stretches of some items, by the first of them
 
@@ -138,14 +120,12 @@ module _ {W : Type 0} (took : W → List ℕ → W → Type 0) where
       → WritesOn took style text w shown (skipped at (begin + item.0.start)) v to → WritesOn took style text v to (stretch (begin + item.0.start) (begin + item.0.end) look) u next
       → WritesLeft style text u next (stretches_from mode begin (begin + item.0.end) close rest) last → WritesLeft style text w shown (stretches_from mode begin at close items) last
   writes_item style mode text begin at close shown to next items rest item look w v u last is high looks a b more =
-      subst (λ (all : List Stretch). WritesLeft style text w shown all last) (sym (told_now mode begin at close items rest item is high)) (a _ last
-      (subst (λ (o : Option Look). WritesLeft style text v to (stretch (begin + item.0.start) (begin + item.0.end) o ++ stretches_from mode begin (begin + item.0.end) close rest) last) looks (b _ last more)))
+      grind (arith, common_steps)
 
   -- all elements, and then none
   pub writes_all : (style : Style) (mode : Mode) (text inside : List ℕ) (begin close : ℕ) (items : List Item) (w last : W) → items ≡ items_of (is_raw mode) inside → inside ≡ between begin close text
       → WritesLeft style text w 0 (stretches_from mode begin begin close items) last → WritesInCalls took w (with_marks style (parts_from 0 text (string_stretches mode begin close text))) last
-  writes_all style mode text inside begin close items w last are is wrote =
-      subst (λ (all : List Item). WritesLeft style text w 0 (stretches_from mode begin begin close all) last) (are ∙ ap (items_of (is_raw mode)) is) wrote
+  writes_all style mode text inside begin close items w last are is wrote = grind (arith, common_steps)
 
   pub writes_end : (style : Style) (mode : Mode) (text rest : List ℕ) (begin at close shown to : ℕ) (items : List Item) (w v u : W) → items ≡ [] → rest ≡ drop to text → WritesOn took style text w shown (skipped at close) v to
       → WritesInCalls took v (with_marks style (Own Text rest ∷ [])) u → WritesLeft style text w shown (stretches_from mode begin at close items) u

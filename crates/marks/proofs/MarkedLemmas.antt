@@ -1,11 +1,12 @@
 -- What a marked text says, and the calls that write it.
-use Rattle.std.proofs.Common.{◌≡◌, ℕ, List, [], ◌∷◌, ◌++◌, length, take, drop, refl, sym, ap, subst, ◌∙◌, arith, take-add, take_all, Option, Some, None, length-drop, take-append-drop, append-nil, IsCharBoundary, IsUtf8, Result, OnOk, ◌-◌}
+use Rattle.std.proofs.Common.{◌≡◌, ℕ, List, [], ◌∷◌, ◌++◌, length, take, drop, refl, sym, ap, ◌∙◌, arith, take-add, take_all, Option, Some, length-drop, take-append-drop, append-nil, IsCharBoundary, IsUtf8, Result, OnOk, ◌-◌}
 use Rattle.std.specs.Prelude.{IfSome}
 use Rattle.std.specs.Fmt.{WritesInCalls}
 use Rattle.std.proofs.lemmas.List.Concat.{flat_map-append}
 use Rattle.std.proofs.lemmas.Result.{on_ok_weaker}
 use Rattle.std.proofs.lemmas.Str.{IsCharBoundary-start, IsUtf8-drop}
 use Rattle.std.specs.Option.{unwrap_or}
+use Rattle.std.proofs.lemmas.Grind.{common_steps}
 use Rattle.rustc_lexer.specs.declared.edition.Edition.{Edition}
 use Rattle.rustc_lexer.specs.declared.token.Token.{Token}
 use Rattle.rustc_lexer.specs.Classes.{Fits}
@@ -30,9 +31,7 @@ use Rattle.marks.proofs.LiteralLemmas.{without_literal}
 use Rattle.marks.proofs.PartLemmas.{shows, without_fault, writes_parts}
 
 without_token : (fault : Option Fault) (mode : Option Mode) (class : Class) (text : List ℕ) → without_marks (parts_by fault mode class text) ≡ text
-without_token (Some fault) mode class text = without_fault fault class text
-without_token None (Some mode) class text = without_literal mode text
-without_token None None class text = append-nil text
+without_token fault mode class text = grind (arith, common_steps, without_fault, without_literal, append-nil)
 
 -- without the marks, the parts are the text as far as the tokens go
 without_marks-parts : (text : List ℕ) (tokens : List Token) → without_marks (parts text tokens) ≡ take (bound tokens (length tokens)) text
@@ -46,11 +45,7 @@ without_marks-parts text (token ∷ tokens) =
 -- without the marks, a text is as it was, and so it is on a page
 module _ (edition : Edition) (text : List ℕ) (line : Option ℕ) (is : line ≡ shebang text) (bounded : IfSome line (λ len. IsCharBoundary text len)) (utf8 : IsUtf8 text) (fits : Fits text) where
   line_end : IsCharBoundary text (line_len text)
-  line_end = subst (λ (l : Option ℕ). IsCharBoundary text (unwrap_or l 0)) is (by line bounded)
-    where
-      by : (l : Option ℕ) → IfSome l (λ len. IsCharBoundary text len) → IsCharBoundary text (unwrap_or l 0)
-      by None none = IsCharBoundary-start text utf8
-      by (Some len) at = at
+  line_end = grind (arith, common_steps, IsCharBoundary-start)
 
   pub text_is : without_marks (text_parts edition text) ≡ text
   text_is =

@@ -1,87 +1,60 @@
 -- A part of a text between its marks: what it says, and the calls that write it.
-use Rattle.std.proofs.Common.{◌≡◌, ℕ, zero, suc, ◌+◌, ◌/◌, ◌%◌, ◌<◌, ◌==◌, if◌then◌else◌, Bool, true, false, List, [], ◌∷◌, ◌++◌, length, take, drop, refl, sym, ap, subst, ◌∙◌, arith, append_assoc, not, nat_lt, take-append-drop, ◌-◌, append-nil, true≢false}
-use Rattle.std.specs.Prelude.{codes, decimal}
+use Rattle.std.proofs.Common.{◌≡◌, ℕ, zero, suc, ◌+◌, ◌%◌, ◌==◌, Bool, true, false, List, [], ◌∷◌, ◌++◌, length, take, drop, refl, sym, ap, subst, ◌∙◌, arith, append_assoc, not, take-append-drop, ◌-◌, append-nil, true≢false}
+use Rattle.std.specs.Prelude.{decimal}
 use Rattle.std.specs.Fmt.{digit_glyph, digits, digits_onto, WritesInCalls}
 use Rattle.std.proofs.lemmas.Bool.{ne_eqb}
 use Rattle.std.proofs.lemmas.List.Concat.{flat_map-append}
+use Rattle.std.proofs.lemmas.Grind.{common_steps}
 use Rattle.rustc_literal_escaper.specs.declared.error.EscapeError.{EscapeError}
-use Rattle.rustc_literal_escaper.specs.declared.error.EscapeError.TheVariants.{ZeroChars}
 use Rattle.marks.specs.declared.class.Class.{Class}
-use Rattle.marks.specs.declared.class.Class.TheVariants.{Plain}
 use Rattle.marks.specs.declared.fault.Fault.{Fault}
-use Rattle.marks.specs.declared.fault.Fault.TheVariants.{OpenRawString, FewHashes, ManyHashes, InLiteral}
 use Rattle.marks.specs.declared.style.Style.{Style}
 use Rattle.marks.specs.declared.style.Style.TheVariants.{Html}
 use Rattle.marks.specs.Escape.{escaped, escaped_byte, untagged, untagged_from}
 use Rattle.marks.specs.Fault.{error_sentence, sentence}
 use Rattle.marks.specs.Mark.{class_open, class_close, fault_open, fault_close}
-use Rattle.marks.specs.Part.{Part, Own, Open, Close, fault_parts, first_line, own, shown, with_marks, without_marks, written}
+use Rattle.marks.specs.Part.{Part, Own, Close, fault_parts, first_line, own, shown, with_marks, without_marks, written}
 use Rattle.marks.proofs.CallLemmas.{no_calls, one_call, writes_both}
 use Rattle.marks.proofs.EscapeLemmas.{untagged_escaped}
 
 pub without_fault : (fault : Fault) (class : Class) (text : List ℕ) → without_marks (fault_parts fault class text) ≡ text
-without_fault fault class text =
-    let n : ℕ = first_line text in
-    ap (λ xs. take n text ++ xs) (append-nil (drop n text)) ∙ take-append-drop n text
+without_fault fault class text = grind (arith, common_steps, append-nil, take-append-drop)
 
 -- ---- no mark of a page shows anything
 
 -- digits stand inside of a tag
 no_end : (n : ℕ) → digit_glyph false (n % 10) ≡ 62 → ⊥
-no_end n = by_size (nat_lt (n % 10) 10)
-  where
-    by_size : (b : Bool) → (if b then 48 + n % 10 else 87 + n % 10) ≡ 62 → ⊥
-    by_size true e = let low : n % 10 < 10 = omega arith in omega arith
-    by_size false e = omega arith
+no_end n = grind (arith, common_steps)
 
 in_digit : (d : ℕ) (acc rest : List ℕ) → (d ≡ 62 → ⊥) → untagged_from true (acc ++ rest) ≡ untagged_from true rest → untagged_from true ((d ∷ acc) ++ rest) ≡ untagged_from true rest
 in_digit d acc rest other at = ap (λ (x : Bool). untagged_from (not x) (acc ++ rest)) (ne_eqb d 62 other) ∙ at
 
 in_digits : (k n : ℕ) (acc rest : List ℕ) → untagged_from true (acc ++ rest) ≡ untagged_from true rest → untagged_from true (digits_onto k 10 false n acc ++ rest) ≡ untagged_from true rest
 in_digits zero n acc rest at = at
-in_digits (suc k) n acc rest at =
-    let one = in_digit (digit_glyph false (n % 10)) acc rest (no_end n) at in
-    let more : List ℕ = digit_glyph false (n % 10) ∷ acc in
-    elim (n / 10 == 0) as (λ b. untagged_from true ((if b then more else digits_onto k 10 false (n / 10) more) ++ rest) ≡ untagged_from true rest) [ true ↦ one | false ↦ in_digits k (n / 10) more rest one ]
+in_digits (suc k) n acc rest at = grind (arith, common_steps, in_digit, no_end, in_digits k)
 
 in_decimal : (n : ℕ) (rest : List ℕ) → untagged_from true (decimal n ++ rest) ≡ untagged_from true rest
 unfolding digits
 in_decimal n rest = in_digits 64 n [] rest refl
 
 in_error : (error : EscapeError) (rest : List ℕ) → untagged_from true (error_sentence error ++ rest) ≡ untagged_from true rest
-in_error ZeroChars rest = refl
-in_error error rest = refl
+in_error error rest = grind (arith, common_steps)
 
 -- a sentence stands inside of a tag
 in_sentence : (fault : Fault) (rest : List ℕ) → untagged_from true (sentence fault ++ rest) ≡ untagged_from true rest
 unfolding sentence
-in_sentence (OpenRawString expected) rest = ap (untagged_from true) (append_assoc (decimal expected) (codes " # would") rest) ∙ in_decimal expected (codes " # would" ++ rest)
-in_sentence (FewHashes expected found end) rest =
-    ap (untagged_from true) (append_assoc (decimal expected) _ rest)
-    ∙ (in_decimal expected _ ∙ (ap (untagged_from true) (append_assoc (decimal end) _ rest) ∙ (in_decimal end _ ∙ in_decimal found rest)))
-in_sentence (ManyHashes found) rest = in_decimal found rest
-in_sentence (InLiteral error) rest = in_error error rest
-in_sentence fault rest = refl
+in_sentence fault rest = grind (arith, common_steps, append_assoc, in_decimal, in_error)
 
 class_open_unseen : (class : Class) (rest : List ℕ) → untagged_from false (class_open Html class ++ rest) ≡ untagged_from false rest
-class_open_unseen Plain rest = refl
-class_open_unseen class rest = refl
+class_open_unseen class rest = grind (arith, common_steps)
 
 class_close_unseen : (class : Class) (rest : List ℕ) → untagged_from false (class_close Html class ++ rest) ≡ untagged_from false rest
-class_close_unseen Plain rest = refl
-class_close_unseen class rest = refl
+class_close_unseen class rest = grind (arith, common_steps)
 
 -- outside of tags, a part shows what it is without its marks
 shows_part : (part : Part) (rest : List ℕ) → untagged_from false (written Html part ++ rest) ≡ escaped (own part) ++ untagged_from false rest
-shows_part (Own class []) rest = refl
-shows_part (Own class (b ∷ bs)) rest =
-    let close : List ℕ = class_close Html class in
-    ap (untagged_from false) (append_assoc (class_open Html class) (escaped (b ∷ bs) ++ close) rest)
-    ∙ (class_open_unseen class ((escaped (b ∷ bs) ++ close) ++ rest)
-    ∙ (ap (untagged_from false) (append_assoc (escaped (b ∷ bs)) close rest)
-    ∙ (untagged_escaped (b ∷ bs) (close ++ rest) ∙ ap (λ xs. escaped (b ∷ bs) ++ xs) (class_close_unseen class rest))))
-shows_part (Open fault) rest = ap (untagged_from true) (append_assoc (sentence fault) (codes "\">") rest) ∙ in_sentence fault (codes "\">" ++ rest)
-shows_part (Close fault) rest = refl
+shows_part part rest = grind (arith, common_steps, append_assoc, class_open_unseen, untagged_escaped, class_close_unseen,
+    in_sentence)
 
 -- and so do some parts: a page shows the text with entities
 pub shows : (ps : List Part) → untagged (with_marks Html ps) ≡ escaped (without_marks ps)

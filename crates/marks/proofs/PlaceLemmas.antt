@@ -1,16 +1,15 @@
 -- The first and the last byte that pass a test, in a text.
-use Rattle.std.proofs.Common.{◌≡◌, ℕ, ◌+◌, ◌-◌, ◌<◌, ◌==◌, Bool, List, length, get_or, not, ap, sym, arith, ◌∙◌, Some, None, IsCharBoundary, IsUtf8, subst}
+use Rattle.std.proofs.Common.{◌≡◌, ℕ, ◌+◌, ◌-◌, ◌<◌, ◌==◌, Bool, List, length, not, ap, sym, arith, ◌∙◌, Some, None, IsCharBoundary, IsUtf8}
 use Rattle.std.specs.List.{position_or_len}
 use Rattle.std.proofs.lemmas.Bool.{eqb-true, false_from_ne_true, not_from_false, not_from_true}
 use Rattle.std.proofs.lemmas.List.Sums.{position_or_len_is, suffix_len_is}
 use Rattle.std.proofs.lemmas.Str.{IsCharBoundary-after_ascii}
+use Rattle.std.proofs.lemmas.Grind.{common_steps}
 use Rattle.memchr.specs.Find.{IsFirstByte, IsLastByte, is_byte}
 use Rattle.marks.specs.Literal.{first_place, last_place}
 
 pub first_found : (test : ℕ → Bool) (bytes text : List ℕ) (n : ℕ) → bytes ≡ text → IsFirstByte test bytes (Some n) → n ≡ position_or_len test text
-first_found test bytes text n same found =
-    let high = found.0.high in
-    sym (position_or_len_is test bytes n 0 (omega arith) (λ k low. false_from_ne_true _ (found.0.before k (omega arith) low)) (λ _. found.1)) ∙ ap (position_or_len test) same
+first_found test bytes text n same found = grind (arith, common_steps, position_or_len_is, false_from_ne_true)
 
 pub first_none : (test : ℕ → Bool) (bytes text : List ℕ) → bytes ≡ text → IsFirstByte test bytes None → length text ≡ position_or_len test text
 first_none test bytes text same none =
@@ -42,7 +41,4 @@ module _ (b : ℕ) (bytes text : List ℕ) where
 
   -- the text may be cut past a byte of ASCII
   pub past_first : (n : ℕ) → bytes ≡ text → IsUtf8 text → b < 128 → IsFirstByte (is_byte b) bytes (Some n) → IsCharBoundary text (n + 1)
-  past_first n same utf8 ascii found =
-      let at : IsFirstByte (is_byte b) text (Some n) = subst (λ (xs : List ℕ). IsFirstByte (is_byte b) xs (Some n)) same found in
-      let is : get_or text n 0 ≡ b = eqb-true (get_or text n 0) b at.1 in
-      IsCharBoundary-after_ascii text n utf8 at.0.high (omega arith)
+  past_first n same utf8 ascii found = grind (arith, common_steps, eqb-true, IsCharBoundary-after_ascii)
