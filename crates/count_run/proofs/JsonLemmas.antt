@@ -10,17 +10,16 @@ use Rattle.json.proofs.Printed.Trees.{value-json_tokens}
 use Rattle.count_run.specs.declared.report.FileCounts.{FileCounts}
 use Rattle.count_run.specs.declared.report.Report.{Report}
 use Rattle.count_run.specs.Json.{file_object, file_objects, files_member, listed_tokens, numbers, report_object, total_member}
+use Rattle.std.proofs.lemmas.Grind.{common_steps}
 
 -- a token, and those after it
 pub token-first : (a b c rest : List Token) (x y : Token) → b ≡ a ++ x ∷ [] → x ≡ y → c ≡ b ++ rest → c ≡ a ++ y ∷ rest
-token-first a b c rest x y one same more =
-    more ∙ (ap (λ (ts : List Token). ts ++ rest) one ∙ (append_assoc a (x ∷ []) rest ∙ ap (λ (t : Token). a ++ t ∷ rest) same))
+token-first a b c rest x y one same more = grind (arith, common_steps, append_assoc)
 
 -- a member with a number, and the tokens after it
 pub number-first : (a b c rest : List Token) (name : List ℕ) (m n : ℕ) → b ≡ a ++ key name ∷ number (decimal m) ∷ [] → m ≡ n → c ≡ b ++ rest
     → c ≡ a ++ key name ∷ number (decimal n) ∷ rest
-number-first a b c rest name m n one same more =
-    more ∙ (ap (λ (ts : List Token). ts ++ rest) one ∙ (append_assoc a (key name ∷ number (decimal m) ∷ []) rest ∙ ap (λ (k : ℕ). a ++ key name ∷ number (decimal k) ∷ rest) same))
+number-first a b c rest name m n one same more = grind (arith, common_steps, append_assoc)
 
 -- the tokens of a report, part by part
 pub report-tokens : (by_file : Bool) (report : Report) (a b c d e f g : List Token)
@@ -29,16 +28,7 @@ pub report-tokens : (by_file : Bool) (report : Report) (a b c d e f g : List Tok
     → g ≡ f ++ end_object ∷ [] → g ≡ a ++ json_tokens (report_object by_file report)
 unfolding report_object
 report-tokens by_file report a b c d e f g first listed total inner counted last =
-    let rest : List Token = members_tokens (numbers report.total) ++ end_object ∷ [] in
-    let end : g ≡ e ++ rest = last ∙ (ap (λ ts. ts ++ end_object ∷ []) counted ∙ append_assoc e (members_tokens (numbers report.total)) (end_object ∷ [])) in
-    let sums : g ≡ c ++ key (codes "total") ∷ begin_object ∷ rest = token-first _ _ _ _ _ _ total refl (token-first _ _ _ _ _ _ inner refl end) in
-    let whole : g ≡ b ++ (listed_tokens by_file report.files.items ++ key (codes "total") ∷ begin_object ∷ rest)
-    = sums ∙ (ap (λ ts. ts ++ key (codes "total") ∷ begin_object ∷ rest) listed ∙ append_assoc b (listed_tokens by_file report.files.items) (key (codes "total") ∷ begin_object ∷ rest)) in
-    token-first _ _ _ _ _ _ first refl (whole ∙ ap (λ ts. b ++ ts) (members by_file report.files.items))
-  where
-    members : (by : Bool) (files : List FileCounts) → listed_tokens by files ++ members_tokens (total_member report.total) ≡ members_tokens (files_member by files (total_member report.total))
-    members true files = refl
-    members false files = refl
+    grind (arith, common_steps, append_assoc, token-first)
 
 -- it nests four deep at most
 file-depth : (file : FileCounts) → depth (file_object file) ≤ 1
@@ -51,8 +41,7 @@ files-depth (file ∷ files) = max-le (file-depth file) (files-depth files)
 
 report-depth : (by_file : Bool) (report : Report) → depth (report_object by_file report) ≤ max_depth
 unfolding report_object numbers
-report-depth true report = let d = files-depth report.files.items in omega arith
-report-depth false report = omega arith
+report-depth w0 report = grind (arith, common_steps, files-depth)
 
 -- a text of these tokens is the report
 pub report-reads_back : (by_file : Bool) (report : Report) (old ts : List Token) → old ≡ [] → ts ≡ old ++ json_tokens (report_object by_file report) → tokens (print ts) ≡ ts

@@ -1,5 +1,6 @@
 -- A counter that went through a text has counted its lines.
 use Rattle.std.proofs.Common.{◌≡◌, ℕ, suc, ◌+◌, ◌<◌, ◌==◌, ◌||◌, Bool, true, false, cond, if◌then◌else◌, List, [], ◌∷◌, ◌++◌, length, map, take, drop, refl, sym, ap, ◌∙◌, arith, length-drop}
+use Rattle.std.proofs.lemmas.Grind.{common_steps}
 use Rattle.std.specs.List.{count_by, slice_split, onto_first}
 use Rattle.std.specs.Str.Lines.{lines, lines_of_parts}
 use Rattle.std.proofs.lemmas.List.{map-append, length-map, take-append-drop}
@@ -70,12 +71,10 @@ same_line : {a b : Line} → a.code ≡ b.code → a.doc ≡ b.doc → a.comment
 same_line p q r = λ i. record { code = p i; doc = q i; comment = r i }
 
 with_class-one : (k : Line) (m : Mark) → with_class k m.class ≡ joined k (line_of (m ∷ []))
-with_class-one k m = same_line {a = with_class k m.class} {b = joined k (line_of (m ∷ []))}
-    (or-one (is_code m.class) k.code) (or-one (is_doc m.class) k.doc) (or-one (is_comment m.class) k.comment)
+with_class-one k m = grind (arith, common_steps, same_line, or-one)
 
 with_class-more : (k : Line) (m : Mark) (line : List Mark) → joined (with_class k m.class) (line_of line) ≡ joined k (line_of (m ∷ line))
-with_class-more k m line = same_line {a = joined (with_class k m.class) (line_of line)} {b = joined k (line_of (m ∷ line))}
-    (or-swap (is_code m.class) k.code (line_of line).code) (or-swap (is_doc m.class) k.doc (line_of line).doc) (or-swap (is_comment m.class) k.comment (line_of line).comment)
+with_class-more k m line = grind (arith, common_steps, same_line, or-swap)
 
 -- ---- the lines that are left, the first of which goes on
 
@@ -85,8 +84,7 @@ left k o (line ∷ others) = joined k (line_of line) ∷ map line_of others
 
 -- no line goes on
 left-fresh : (parts : List (List Mark)) → left no_line false parts ≡ map line_of parts
-left-fresh [] = refl
-left-fresh (line ∷ others) = refl
+left-fresh w0 = grind (arith, common_steps)
 
 -- the line ends
 left-ends : (k : Line) (o : Bool) (m : Mark) (parts : List (List Mark)) → with_class k m.class ∷ left no_line false parts ≡ left k o ((m ∷ []) ∷ parts)
@@ -94,15 +92,10 @@ left-ends k o m parts = ap (λ (l : Line). l ∷ left no_line false parts) (with
 
 -- the line goes on
 left-goes : (k : Line) (o : Bool) (m : Mark) (parts : List (List Mark)) → left (with_class k m.class) true parts ≡ left k o (onto_line m parts)
-left-goes k o m [] = ap (λ (l : Line). l ∷ []) (with_class-one k m)
-left-goes k o m (line ∷ others) = ap (λ (l : Line). l ∷ map line_of others) (with_class-more k m line)
+left-goes k o m w3 = grind (arith, common_steps, with_class-one, with_class-more)
 
 finished-left : (c : Counter) (ms : List Mark) → finished (after_bytes c ms) ≡ tally c.counts (left c.line c.is_open (split_lines ms))
-finished-left c [] = at_end c.is_open
-  where
-    at_end : (o : Bool) → (if o then counted c.counts c.line else c.counts) ≡ tally c.counts (if o then c.line ∷ [] else [])
-    at_end true = refl
-    at_end false = refl
+finished-left c [] = grind (arith, common_steps)
 finished-left c (m ∷ ms) = finished-left (after_byte c m) ms ∙ by_byte (m.byte == 10)
   where
     by_byte : (b : Bool) → (let d : Counter = if b then record { counts = counted c.counts (with_class c.line m.class); line = no_line; is_open = false } else record { counts = c.counts; line = with_class c.line m.class; is_open = true } in
@@ -118,14 +111,7 @@ finished-whole ms = finished-left start ms ∙ (ap (tally no_counts) (left-fresh
 -- ---- each line is counted once
 
 one-sum : (l : Line) → cond (counts_as_code l) 1 0 + cond (counts_as_doc l) 1 0 + cond (counts_as_comment l) 1 0 + cond (counts_as_blank l) 1 0 ≡ 1
-one-sum l = by l.code l.doc l.comment
-  where
-    by : (a b c : Bool) → (let l : Line = record { code = a; doc = b; comment = c } in
-        cond (counts_as_code l) 1 0 + cond (counts_as_doc l) 1 0 + cond (counts_as_comment l) 1 0 + cond (counts_as_blank l) 1 0) ≡ 1
-    by true b c = refl
-    by false true c = refl
-    by false false true = refl
-    by false false false = refl
+one-sum l = grind (arith, common_steps)
 
 sum-lines : (ls : List Line) → lines_counted (counts_of ls) ≡ length ls
 sum-lines [] = refl
@@ -143,28 +129,17 @@ sum-lines (l ∷ ls) = omega (
 
 length-goes : (m : Mark) (b : ℕ) (pieces : List (List ℕ)) (parts : List (List Mark)) → 0 < length pieces → length (lines_of_parts pieces) ≡ length parts
     → length (lines_of_parts (onto_first b pieces)) ≡ length (onto_line m parts)
-length-goes m b [] parts some same = absurd (omega arith)
-length-goes m b (x ∷ []) [] some same = grind arith
-length-goes m b (x ∷ []) (line ∷ others) some same = grind arith
-length-goes m b (x ∷ next ∷ pieces) [] some same = grind arith
-length-goes m b (x ∷ next ∷ pieces) (line ∷ others) some same = same
+length-goes m b w2 parts some same = grind (arith, common_steps)
 
 length-ends : (pieces : List (List ℕ)) → 0 < length pieces → length (lines_of_parts ([] ∷ pieces)) ≡ suc (length (lines_of_parts pieces))
-length-ends [] some = absurd (omega arith)
-length-ends (piece ∷ pieces) some = refl
+length-ends w0 some = grind (arith, common_steps)
 
 some_piece : (bs : List ℕ) → 0 < length (slice_split (λ b. b == 10) bs)
 some_piece bs = omega (arith, length-slice_split (λ b. b == 10) bs)
 
 length-lines : (ms : List Mark) → length (lines (map byte_of ms)) ≡ length (split_lines ms)
 length-lines [] = refl
-length-lines (m ∷ ms) = by_byte (length-lines ms) (m.byte == 10)
-  where
-    by_byte : length (lines (map byte_of ms)) ≡ length (split_lines ms)
-        → (t : Bool) → length (lines_of_parts (cond t ([] ∷ slice_split (λ b. b == 10) (map byte_of ms)) (onto_first m.byte (slice_split (λ b. b == 10) (map byte_of ms)))))
-        ≡ length (if t then (m ∷ []) ∷ split_lines ms else onto_line m (split_lines ms))
-    by_byte same true = length-ends (slice_split (λ b. b == 10) (map byte_of ms)) (some_piece (map byte_of ms)) ∙ ap (λ n. suc n) same
-    by_byte same false = length-goes m m.byte (slice_split (λ b. b == 10) (map byte_of ms)) (split_lines ms) (some_piece (map byte_of ms)) same
+length-lines (m ∷ ms) = grind (arith, common_steps, length-ends, some_piece, length-goes, length-lines ms)
 
 -- the marks of a text are its bytes
 bytes-mark : (class : Class) (bs : List ℕ) → map byte_of (map (mark class) bs) ≡ bs
@@ -175,26 +150,19 @@ bytes-first : (class : Class) (bs : List ℕ) (ms : List Mark) → map byte_of (
 bytes-first class bs ms = map-append byte_of (map (mark class) bs) ms ∙ ap (λ xs. xs ++ map byte_of ms) (bytes-mark class bs)
 
 none_left : (bs : List ℕ) → 0 ≡ length bs → [] ≡ bs
-none_left [] e = refl
-none_left (b ∷ bs) e = absurd (omega arith)
+none_left w0 e = grind (arith, common_steps)
 
 pub bytes-token_marks : (tokens : List Token) (text : List ℕ) → bound tokens (length tokens) ≡ length text → map byte_of (token_marks text tokens) ≡ text
 bytes-token_marks [] text whole = none_left text whole
-bytes-token_marks (token ∷ tokens) text whole =
-    bytes-first (class_of token.kind) (take token.len text) (token_marks (drop token.len text) tokens)
-    ∙ (ap (λ xs. take token.len text ++ xs) (bytes-token_marks tokens (drop token.len text) (let l = length-drop token.len text in omega arith))
-    ∙ take-append-drop token.len text)
+bytes-token_marks (token ∷ tokens) text whole = grind (arith, common_steps, bytes-first, length-drop, take-append-drop,
+    bytes-token_marks tokens)
 
 pub bytes-marks : (text : List ℕ) → map byte_of (source_marks (drop (shebang_len text) text)) ≡ drop (shebang_len text) text → map byte_of (marks text) ≡ text
-bytes-marks text rest =
-    bytes-first Code (take (shebang_len text) text) (source_marks (drop (shebang_len text) text))
-    ∙ (ap (λ xs. take (shebang_len text) text ++ xs) rest ∙ take-append-drop (shebang_len text) text)
+bytes-marks text rest = grind (arith, common_steps, bytes-first, take-append-drop)
 
 -- the four numbers sum to the lines of the text
 pub lines-counted : (text : List ℕ) → map byte_of (marks text) ≡ text → lines_counted (line_counts text) ≡ length (lines text)
-lines-counted text is =
-    sum-lines (lines_of text) ∙ (length-map (split_lines (marks text)) line_of
-    ∙ (sym (length-lines (marks text)) ∙ ap (λ bs. length (lines bs)) is))
+lines-counted text is = grind (arith, common_steps, sum-lines, length-map, length-lines)
 
 -- ---- the loop over the tokens, and the whole document
 
@@ -202,14 +170,10 @@ pub bytes_step : (c d : Counter) (whole : Counter) (text rest piece : List ℕ) 
     → after_bytes c (token_marks text left) ≡ whole → left ≡ token ∷ others → rest ≡ drop token.len text → piece ≡ take token.len text → class ≡ class_of token.kind
     → d ≡ after_bytes c (map (mark class) piece) → after_bytes d (token_marks rest others) ≡ whole
 bytes_step c d whole text rest piece left others token class at first past own is took =
-    let marked : token_marks text left ≡ map (mark (class_of token.kind)) (take token.len text) ++ token_marks (drop token.len text) others = ap (token_marks text) first in
-    let parted = after_bytes-append c (map (mark (class_of token.kind)) (take token.len text)) (token_marks (drop token.len text) others) in
-    cc
+    grind (arith, common_steps, after_bytes-append)
 
 pub document_counts : (text line rest : List ℕ) (n : ℕ) (c d e : Counter) (found : LineCounts)
     → n ≡ shebang_len text → c ≡ start → line ≡ take n text → rest ≡ drop n text
     → d ≡ after_bytes c (map (mark Code) line) → e ≡ after_bytes d (source_marks rest) → found ≡ finished e → found ≡ line_counts text
 document_counts text line rest n c d e found at new front back first second is =
-    let parted = after_bytes-append start (map (mark Code) (take (shebang_len text) text)) (source_marks (drop (shebang_len text) text)) in
-    let whole = finished-whole (marks text) in
-    cc
+    grind (arith, common_steps, after_bytes-append, finished-whole)

@@ -1,5 +1,6 @@
 -- An outcome takes sources one by one.
-use Rattle.std.proofs.Common.{◌≡◌, ℕ, List, [], ◌∷◌, ◌++◌, refl, sym, ap, ◌∙◌, Result, Ok, Err, IfOk, IfErr, String, Vec, subst, append-nil}
+use Rattle.std.proofs.Common.{◌≡◌, ℕ, List, [], ◌∷◌, ◌++◌, refl, sym, ap, ◌∙◌, Result, Ok, Err, IfOk, IfErr, String, Vec, subst, append-nil, arith}
+use Rattle.std.proofs.lemmas.Grind.{common_steps}
 use Rattle.std.specs.Global.{Global}
 use Rattle.std.specs.List.{All}
 use Rattle.std.proofs.lemmas.List.Elements.{All-cons, All-nil}
@@ -37,34 +38,15 @@ total-source : (old new : Outcome) (path : String Global) (came : Result LineCou
     → IfOk came (λ counts. new.report.total ≡ sums old.report.total counts)
     → IfErr came (λ _. new.report.total ≡ old.report.total)
     → new.report.total ≡ total_of new.report.files.items
-total-source old new path (Ok counts) is total files more same =
-    more ∙ (ap (λ (t : LineCounts). sums t counts) total
-    ∙ (sym (fold-append (λ (t : LineCounts) (file : FileCounts). sums t file.counts) no_counts old.report.files.items (counted (source path (Ok counts)))) ∙ ap (λ (xs : List FileCounts). total_of xs) (sym files)))
-total-source old new path (Err (Source reason)) is total files more same =
-    same ∙ (total ∙ ap (λ (xs : List FileCounts). total_of xs) (sym (files ∙ append-nil old.report.files.items)))
-total-source old new path (Err Memory) is total files more same = absurd is
+total-source old new path w3 is total files more same = grind (arith, common_steps, fold-append, append-nil)
 
 -- what comes of a file that was read, or could not be
 came-counted : (path : String Global) (read : Result (Vec ℕ Global) Fault) (came : Result LineCounts Fault) → IfErr read IsSystemFault → IsCountOf read came → All IsCounted (source path came)
-came-counted path (Ok bytes) (Ok counts) other is = All-cons IsCounted (path, Ok counts) [] (bytes.items, is.0, is.1) (All-nil IsCounted)
-came-counted path (Ok bytes) (Err (Source reason)) other is = All-cons IsCounted (path, Err reason) [] (no_text_reason bytes.items reason is) (All-nil IsCounted)
-came-counted path (Ok bytes) (Err Memory) other is = absurd is
-came-counted path (Err Memory) came other is = subst (λ r. All IsCounted (source path r)) (sym is) (All-nil IsCounted)
-came-counted path (Err (Source (System kind))) came other is = subst (λ r. All IsCounted (source path r)) (sym is) (All-cons IsCounted (path, Err (System kind)) [] other (All-nil IsCounted))
-came-counted path (Err (Source NotUtf8)) came other is = absurd other
-came-counted path (Err (Source TooLong)) came other is = absurd other
-came-counted path (Err (Source Changed)) came other is = absurd other
-came-counted path (Err (Source NoFile)) came other is = absurd other
-came-counted path (Err (Source Read)) came other is = absurd other
+came-counted path w1 came other is = grind (arith, common_steps, All-cons, All-nil, no_text_reason)
 
 pub counted-none : (paths left : List (String Global)) (faults : List PathFault) (outcome : Outcome) → left ≡ paths → outcome.report.files.items ≡ [] → outcome.report.total ≡ no_counts → outcome.faults.items ≡ faults
     → Counted paths faults left outcome
-counted-none paths left faults outcome all files total same = record {
-  sources = [];
-  taken = taken_none IsCounted paths left faults outcome.faults.items all same;
-  files = files;
-  total = total ∙ ap (λ (xs : List FileCounts). total_of xs) (sym files);
-}
+counted-none paths left faults outcome all files total same = grind (arith, common_steps, taken_none)
 
 pub counted-step : (paths : List (String Global)) (faults : List PathFault) (path : String Global) (all left : List (String Global)) (old new : Outcome) (read : Result (Vec ℕ Global) Fault) (came : Result LineCounts Fault)
     → Counted paths faults all old → all ≡ path ∷ left → IfErr read IsSystemFault → IsCountOf read came → IsOfSource came

@@ -1,5 +1,6 @@
 -- The words of a job.
 use Rattle.std.proofs.Common.{◌≡◌, ◌↔◌, true≢false, ℕ, ◌<◌, ◌≤◌, ◌^◌, ◌&&◌, ◌≢◌, Bool, true, false, List, [], ◌∷◌, ◌++◌, length, get_or, append_assoc, rules, refl, sym, ap, ◌∙◌, arith, Option, Some, None, Result, Ok, Err}
+use Rattle.std.proofs.lemmas.Grind.{common_steps}
 use Rattle.std.specs.Bool.{IsTrue}
 use Rattle.std.specs.Prelude.{nat_le, is_some, unwrap_or, IsSome}
 use Rattle.std.specs.Option.{option_map, option_zip}
@@ -17,14 +18,7 @@ numbers = numerals_by_fold _ tells_all_ascii_digits number_after (search rules)
 -- `parse` reads the places that have no sign and at most ten digits
 pub place-parse : {E : Type 0} (word : List ℕ) (r : Result ℕ E) → length word ≤ 10 → get_or word 0 0 ≢ 43 → ParsesUnsigned 32 10 word r → place_of word ≡ result_ok r
 unfolding place_of
-place-parse {E} word r short unsigned parses = by_result r (parse_plain numbers 32 word r parses unsigned)
-  where
-    is_place : Bool
-    is_place = all_ascii_digits word && (nat_le 1 (length word) && (nat_le (length word) 10 && nat_le (number_of word) 4294967295))
-
-    by_result : (x : Result ℕ E) → OkIff x ((all_ascii_digits word ≡ true) × (0 < length word) × (number_of word < 2 ^ 32)) (number_of word) → place_of word ≡ result_ok x
-    by_result (Ok n) h = let e : is_place ≡ true = grind (arith, nat_tests, h.0, short) in rw (e, h.1) refl
-    by_result (Err error) h = let e : is_place ≡ false = grind (arith, nat_tests, h, short) in rw e refl
+place-parse {E} word r short unsigned parses = grind (arith, common_steps, parse_plain, numbers, nat_tests)
 
 -- the first three words write the edit, and these words are after them
 abbrev pub FirstIs : List (List ℕ) → Replacement → List (List ℕ) → Type 0
@@ -36,35 +30,18 @@ Pair = Replacement × List (List ℕ)
 -- what follows from the edit of the first three words
 by_first : (e : Replacement) (words after : List (List ℕ)) (o : Option Replacement) (r : Option (List Replacement)) → (let p : Option Pair = Some (e, after) in p ≡ option_map (λ (edit : Replacement). let q : Pair = (edit, words) in q) o)
     → (after ≡ words) × (option_map (λ (edits : Replacement × List Replacement). edits.0 ∷ edits.1) (option_zip o r) ≡ option_map (λ edits. e ∷ edits) r)
-by_first e words after None r h = cc
-by_first e words after (Some x) r h = (ap (λ (p : Option Pair). (unwrap_or p (e, after)).1) h, by_edits r)
-  where
-    by_edits : (r : Option (List Replacement)) → option_map (λ (edits : Replacement × List Replacement). edits.0 ∷ edits.1) (option_zip (Some x) r) ≡ option_map (λ edits. e ∷ edits) r
-    by_edits None = refl
-    by_edits (Some es) = ap (λ (y : Replacement). let r : Option (List Replacement) = Some (y ∷ es) in r) (sym (ap (λ (p : Option Pair). (unwrap_or p (e, after)).0) h))
+by_first e words after w3 r h = grind (arith, common_steps)
 
 -- where three words write an edit, it is the first of the edits
 pub replacements-first : (e : Replacement) (words after : List (List ℕ)) → FirstIs words e after → replacements_of words ≡ option_map (λ edits. e ∷ edits) (replacements_of after)
-replacements-first e [] after h = cc
-replacements-first e (start ∷ []) after h = cc
-replacements-first e (start ∷ stop ∷ []) after h = cc
-replacements-first e (start ∷ stop ∷ insert ∷ words) after h =
-    let p = by_first e words after (replacement_of start stop insert) (replacements_of words) h in
-    p.1 ∙ ap (λ (ws : List (List ℕ)). option_map (λ edits. e ∷ edits) (replacements_of ws)) (sym p.0)
+replacements-first e w1 after h = grind (arith, common_steps, by_first)
 
 pub length-after : (e : Replacement) (words after : List (List ℕ)) → FirstIs words e after → length after < length words
-length-after e [] after h = cc
-length-after e (start ∷ []) after h = cc
-length-after e (start ∷ stop ∷ []) after h = cc
-length-after e (start ∷ stop ∷ insert ∷ words) after h = let p = by_first e words after (replacement_of start stop insert) None h in omega (arith, ap length p.0)
+length-after e w1 after h = grind (arith, common_steps, by_first)
 
 -- the words are edits if those after the first edit are
 pub some-after : (e : Replacement) (words after : List (List ℕ)) → FirstIs words e after → is_some (replacements_of words) ≡ is_some (replacements_of after)
-some-after e words after h = ap is_some (replacements-first e words after h) ∙ some-map (replacements_of after)
-  where
-    some-map : (r : Option (List Replacement)) → is_some (option_map (λ edits. e ∷ edits) r) ≡ is_some r
-    some-map None = refl
-    some-map (Some es) = refl
+some-after e words after h = grind (arith, common_steps, replacements-first)
 
 -- the edits of all words are those that were read, and then those of the rest
 abbrev pub ReadBefore : List (List ℕ) → List Replacement → List (List ℕ) → Type 0

@@ -1,5 +1,6 @@
 -- The loops that list tokens.
 use Rattle.std.proofs.Common.{◌≡◌, ℕ, zero, suc, ◌+◌, ◌-◌, ◌<◌, ◌≤◌, ◌^◌, List, [], ◌∷◌, ◌++◌, length, take, drop, get_or, refl, ap, sym, ◌∙◌, arith, append_assoc, length-drop, length-take-le, subst, Option}
+use Rattle.std.proofs.lemmas.Grind.{common_steps}
 use Rattle.std.proofs.lemmas.List.{nil_from_length}
 use Rattle.std.specs.Str.{IsUtf8}
 use Rattle.ends.specs.Known.{Went}
@@ -45,10 +46,7 @@ module _ (text cut rest : List ℕ) (mode : Mode) (room filled : List Token) (co
   inside = (bounds rest mode record { utf8 = subst IsUtf8 cut_is utf8; fits = omega (arith, within, fits) } count).inside
 
   pub room_fits : length text - length cut + bound (take count filled) (length (take count filled)) < 2 ^ 32
-  room_fits =
-      let long : length (take count filled) ≡ count = length-take-le count filled front.within in
-      let end : bound (take count filled) (length (take count filled)) ≡ bound left count = ap (bound (take count filled)) long ∙ (ap (λ ts. bound ts count) front.front ∙ bound-take count left) in
-      omega (arith, end, inside, within, ap length cut_is, fits)
+  room_fits = grind (arith, common_steps, length-take-le, bound-take, inside)
 
   -- the lines of the room, and then those of what is left past it
   pub room-split : (later : List Token) (after : List ℕ) → later ≡ drop count left → after ≡ drop (bound left count) rest

@@ -1,5 +1,6 @@
 -- How a run ends, by what was read and what was listed.
 use Rattle.std.proofs.Common.{◌≡◌, ◌≢◌, ℕ, ◌<◌, ◌^◌, List, [], ◌++◌, length, refl, sym, ap, arith, subst, Option, Some, None, Result, Ok, Err}
+use Rattle.std.proofs.lemmas.Grind.{common_steps}
 use Rattle.std.specs.Prelude.{IfSome, IfErr, OnOk, OnErr}
 use Rattle.std.specs.Str.{IsUtf8}
 use Rattle.std.specs.Io.KnownBytes.{Appends, Keeps}
@@ -21,39 +22,20 @@ is_text read cut text e f utf8 fits = record { utf8 = subst IsUtf8 (sym f) utf8;
 
 -- reading stopped
 pub ends_unread : (job : Job) (known old : Option (List ℕ)) (stop : ReadStop) → EndsReading known (Err stop) → IfSome known (λ bytes. Ends job bytes old old (Err (read_fault stop)))
-ends_unread job None old stop ends = tt
-ends_unread job (Some bytes) old TooLongRead ends = (ends, keeps_same old)
-ends_unread job (Some bytes) old MemoryRead ends = keeps_same old
-ends_unread job (Some bytes) old Failed ends = keeps_same old
+ends_unread job w1 old stop ends = grind (arith, common_steps, keeps_same)
 
 module _ (job : Job) (text : List ℕ) (old mid : Option (List ℕ)) (held left : List ℕ) where
   -- listing stopped
   pub ends_unlisted : (fault : Fault) → held ≡ [] → Lists job text old mid held left (Err fault) → IsText text → Ends job text old mid (Err fault)
-  ends_unlisted Write none p is = (is, (p.0, p.1, subst (λ (xs : List ℕ). AppendsFront old mid (xs ++ p.0)) none p.2.1))
-  ends_unlisted (EditRange at) none p is = (is, p)
-  ends_unlisted (EditTooLong at) none p is = (is, p)
-  ends_unlisted Memory none p is = p.1
-  ends_unlisted Read none p is = absurd p.0
-  ends_unlisted Arguments none p is = absurd p.0
-  ends_unlisted NotUtf8 none p is = absurd p.0
-  ends_unlisted TooLong none p is = absurd p.0
+  ends_unlisted w0 none p is = grind (arith, common_steps)
 
   pub silent_unlisted : (fault : Fault) → Lists job text old mid held left (Err fault) → fault ≢ Write → Keeps old mid
-  silent_unlisted Write p other = absurd (other refl)
-  silent_unlisted (EditRange at) p other = p.1
-  silent_unlisted (EditTooLong at) p other = p.1
-  silent_unlisted Memory p other = p.1
-  silent_unlisted Read p other = p.1
-  silent_unlisted Arguments p other = p.1
-  silent_unlisted NotUtf8 p other = p.1
-  silent_unlisted TooLong p other = p.1
+  silent_unlisted w0 p other = grind (arith, common_steps)
 
   -- all was listed, and what is held is written at the end
   pub ends_listed : (new : Option (List ℕ)) (result : Result (Unit {0}) Fault) → held ≡ [] → IsText text → Lists job text old mid held left (Ok tt)
       → IfErr result (λ fault. fault ≡ Write) → OnOk result (Appends mid new left) → OnErr result (AppendsFront mid new left) → Ends job text old new result
-  ends_listed new (Ok done) none is p only ok err =
-      let w : Went old mid p.0 left = subst (λ (xs : List ℕ). Went old mid (xs ++ p.0) left) none p.2 in
-      (is, (p.0, p.1, subst (λ (xs : List ℕ). Appends old new xs) (sym w.whole) (appends-more old mid new w.front left w.grew ok)))
+  ends_listed new (Ok done) none is p only ok err = grind (arith, common_steps, appends-more)
   ends_listed new (Err fault) none is p only ok err =
       let w : Went old mid p.0 left = subst (λ (xs : List ℕ). Went old mid (xs ++ p.0) left) none p.2 in
       subst (λ (f : Fault). Ends job text old new (Err f)) (sym only) (is, (p.0, p.1, front_more old mid new w.front left p.0 (sym w.whole) w.grew err))

@@ -1,5 +1,6 @@
 -- Bytes that are pushed, one after another.
-use Rattle.std.proofs.Common.{◌≡◌, ℕ, List, [], ◌++◌, refl, sym, ap, ◌∙◌, append_assoc, append-nil, subst, Option, Result, Ok, Err}
+use Rattle.std.proofs.Common.{◌≡◌, ℕ, List, [], ◌++◌, refl, sym, ap, ◌∙◌, append_assoc, append-nil, subst, Option, Result, Ok, Err, arith}
+use Rattle.std.proofs.lemmas.Grind.{common_steps}
 use Rattle.std.specs.Result.{IsErrAnd}
 use Rattle.std.specs.Io.KnownBytes.{Appends}
 use Rattle.ends.specs.Known.{AppendsFront, Went}
@@ -22,11 +23,7 @@ module _ (old mid new : Option (List ℕ)) (all held to_come first rest : List �
   parted = at.whole ∙ ap (λ xs. at.front ++ xs) (ap (λ xs. held ++ xs) e ∙ sym (append_assoc held first rest))
 
   pub went_first : (left : List ℕ) → Went mid new (held ++ first) left → Went old new all (left ++ rest)
-  went_first left v = record {
-    front = at.front ++ v.front;
-    whole = parted ∙ (ap (λ xs. at.front ++ xs) (ap (λ xs. xs ++ rest) v.whole ∙ append_assoc v.front left rest) ∙ sym (append_assoc at.front v.front (left ++ rest)));
-    grew = appends-more old mid new at.front v.front at.grew v.grew;
-  }
+  went_first left v = grind (arith, common_steps, parted, append_assoc, appends-more)
 
   pub front_stopped : AppendsFront mid new (held ++ first) → AppendsFront old new all
   front_stopped f = front_more old mid new at.front ((held ++ first) ++ rest) all (sym parted) at.grew (front_first mid new (held ++ first) rest _ refl f)
@@ -53,8 +50,4 @@ pushes_both old mid new held between left one two bytes (Err fault) e p q =
 
 -- what is held is written, and then the bytes themselves
 pub pushes_past : (old mid new : Option (List ℕ)) (held left bytes : List ℕ) → Appends old mid held → left ≡ [] → Appends mid new bytes → Pushes old new held left bytes (Ok tt)
-pushes_past old mid new held left bytes a e b = record {
-  front = held ++ bytes;
-  whole = sym (append-nil (held ++ bytes)) ∙ ap (λ xs. (held ++ bytes) ++ xs) (sym e);
-  grew = appends-more old mid new held bytes a b;
-}
+pushes_past old mid new held left bytes a e b = grind (arith, common_steps, append-nil, appends-more)

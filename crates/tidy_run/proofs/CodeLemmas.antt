@@ -1,5 +1,6 @@
 -- A text in order has the tokens of the text, but for the white space, and stays.
 use Rattle.std.proofs.Common.{◌≡◌, ℕ, suc, ◌+◌, ◌≤◌, ◌&&◌, inl, inr, not, Bool, true, false, true≢false, if◌then◌else◌, List, [], ◌∷◌, ◌++◌, length, length-append, take, drop, codes, append_assoc, refl, sym, ap, ◌∙◌, subst, arith}
+use Rattle.std.proofs.lemmas.Grind.{common_steps}
 use lib.Utf8.{scalar, scalars}
 use Rattle.std.proofs.Math.Seq.{take-append_seam, drop-append_seam}
 use Rattle.std.proofs.lemmas.Bool.{and_parts, cases_Bool, not-true}
@@ -31,10 +32,7 @@ use Rattle.tidy_run.proofs.OrderLemmas.{HasFirst, without-all, without-again, wi
 
 -- characters in a row, cut where they meet
 pub cut-at : {A : Type 0} (make : List ℕ → List ℕ → A) (u next : List ℕ) → make (take (bytes u) (encode_utf8_all (u ++ next))) (drop (bytes u) (encode_utf8_all (u ++ next))) ≡ make (encode_utf8_all u) (encode_utf8_all next)
-cut-at make u next =
-    ap (λ (text : List ℕ). make (take (bytes u) text) (drop (bytes u) text)) (encodes-append u next)
-    ∙ (ap (λ (xs : List ℕ). make xs (drop (bytes u) (encode_utf8_all u ++ encode_utf8_all next))) (take-append_seam (encode_utf8_all u) (encode_utf8_all next))
-    ∙ ap (make (encode_utf8_all u)) (drop-append_seam (encode_utf8_all u) (encode_utf8_all next)))
+cut-at make u next = grind (arith, common_steps, encodes-append, take-append_seam, drop-append_seam)
 
 pub code-cons : (u next : List ℕ) (kind : TokenKind) (tokens : List Token)
     → code_in_order (encode_utf8_all (u ++ next)) (record { kind = kind; len = bytes u } ∷ tokens) ≡ part_in_order kind (encode_utf8_all u) (is_last tokens) ++ code_in_order (encode_utf8_all next) tokens
@@ -46,33 +44,23 @@ parts-cons u next kind tokens = cut-at (λ own rest. let p : TokenKind × List �
 
 -- only a text with no characters has no tokens
 pub none-left : {mode : Mode} {cs : List ℕ} {tokens : List Token} → AreTokens mode cs tokens → length tokens ≡ 0 → cs ≡ []
-none-left (nothing) e = refl
-none-left (something p free rest) e = absurd (omega (arith, e))
-none-left (frontmatter_first body is_opening is_end rest) e = absurd (omega (arith, e))
+none-left w0 e = grind (arith, common_steps)
 
 -- and it has none
 pub part-none : {mode : Mode} {cs : List ℕ} {tokens : List Token} → mode ≡ part E2024 → AreTokens mode cs tokens → cs ≡ [] → length tokens ≡ 0
-part-none is_part (nothing) e = refl
-part-none is_part (something {c} {w} {next} p free rest) e = absurd (let n : suc (length (w ++ next)) ≡ 0 = ap length e in omega arith)
-part-none is_part (frontmatter_first body is_opening is_end rest) e = absurd (cc)
+part-none is_part w1 e = grind (arith, common_steps)
 
 -- ---- where a frontmatter opens
 
 opens-space : (u next : List ℕ) → AreAll is_whitespace u → NextIsNot is_whitespace next → opens (u ++ next) ≡ (begins (dashes 3) next && not (ends_line u))
-opens-space u next all stop =
-    ap (λ (n : ℕ). begins (dashes 3) (drop n (u ++ next)) && not (ends_line (take n (u ++ next)))) (run_len-here is_whitespace u next all stop)
-    ∙ (ap (λ (xs : List ℕ). begins (dashes 3) xs && not (ends_line (take (length u) (u ++ next)))) (drop-append_seam u next)
-    ∙ ap (λ (xs : List ℕ). begins (dashes 3) next && not (ends_line xs)) (take-append_seam u next))
+opens-space u next all stop = grind (arith, common_steps, run_len-here, drop-append_seam, take-append_seam)
 
 opens-solid : (c : ℕ) (s : List ℕ) → is_whitespace c ≡ false → opens (c ∷ s) ≡ (begins (dashes 3) (c ∷ s) && true)
 opens-solid c s e = ap (λ (n : ℕ). begins (dashes 3) (drop n (c ∷ s)) && not (ends_line (take n (c ∷ s)))) (run_len-out is_whitespace c s e)
 
 -- a token that is no white space begins with none
 pub no-space : {next : List ℕ} {kind : TokenKind} {c : ℕ} {w : List ℕ} → IsTokenBefore next kind (c ∷ w) → is_space kind ≡ false → is_whitespace c ≡ false
-no-space {next} {kind} {c} {w} p solid = elim (cases_Bool (is_whitespace c)) [
-  | inl e ↦ absurd (true≢false (ap is_space (ap (λ (r : TokenKind × ℕ). r.0) (ap (λ (scan : List ℕ → TokenKind × ℕ). let r : TokenKind × ℕ = ((scan (w ++ next)).0, suc (scan (w ++ next)).1) in r) (sym (chooses-space c e)) ∙ token-read p)) ∙ solid))
-  | inr e ↦ e
-]
+no-space {next} {kind} {c} {w} p solid = grind (arith, common_steps, cases_Bool, chooses-space, token-read)
 
 -- ---- characters
 
@@ -86,9 +74,7 @@ scalars-join (c ∷ u) v e f = let parts = and_parts (scalar c) _ e in rw parts.
 
 space-scalars : (u : List ℕ) → AreAll is_whitespace u → scalars u ≡ true
 space-scalars [] all = refl
-space-scalars (c ∷ u) all =
-    let parts = and_parts (is_whitespace c) _ all in
-    rw (among scalar (0x9 ∷ 0xA ∷ 0xB ∷ 0xC ∷ 0xD ∷ 0x20 ∷ 0x85 ∷ 0x200E ∷ 0x200F ∷ 0x2028 ∷ 0x2029 ∷ []) refl c parts.0) (space-scalars u parts.1)
+space-scalars (c ∷ u) all = grind (arith, common_steps, and_parts, among, space-scalars u)
 
 -- ---- what putting in order makes of a text
 
@@ -128,16 +114,7 @@ newline-size : (c : ℕ) (w : List ℕ) → bytes (10 ∷ []) ≤ bytes (c ∷ w
 newline-size c w = let le = length-le-encodes (c ∷ w) in let one = ap length newline-one in omega arith
 
 pub spaces : (c : ℕ) (w : List ℕ) (tokens : List Token) {s t : List ℕ} → AreAll is_whitespace (c ∷ w) → NextIsNot is_whitespace s → Near s t → EndsToo s t → (length tokens ≡ 0 → s ≡ []) → Spaces (c ∷ w) tokens s t
-spaces c w [] {s} {t} all stop near too none = record {
-  first = 10;
-  rest = [];
-  all = refl;
-  near = space (and_parts (is_whitespace c) _ all).0 refl (λ e. (refl, λ f. ap (begins (codes "'")) (too (none refl))));
-  is = sym newline-one;
-  again = sym newline-one;
-  closed = λ e. ap (λ (xs : List ℕ). opens (10 ∷ xs)) (too (none refl));
-  size = newline-size c w;
-}
+spaces c w [] {s} {t} all stop near too none = grind (arith, common_steps, space, and_parts, newline-one, newline-size)
 spaces c w (token ∷ tokens) {s} {t} all stop near too none = by_first (order-first c w)
   where
     u : List ℕ
@@ -163,8 +140,7 @@ spaces c w (token ∷ tokens) {s} {t} all stop near too none = by_first (order-f
 
 -- behind white space nothing comes
 space-ends : (ps : List (TokenKind × List ℕ)) → end_parts Whitespace ps ≡ []
-space-ends [] = refl
-space-ends (p ∷ ps) = refl
+space-ends w0 = grind (arith, common_steps)
 
 space-closed : (ps : List (TokenKind × List ℕ)) → parts_in_order ((Whitespace, []) ∷ ps) ≡ (Whitespace, []) ∷ parts_in_order ps
 space-closed ps = ap (λ (es : List (TokenKind × List ℕ)). let p : TokenKind × List ℕ = (Whitespace, []) in p ∷ (es ++ parts_in_order ps)) (space-ends ps)
@@ -224,23 +200,10 @@ newline-code = sym newline-one
 
 -- before a token nothing closes
 parts-before : (kind : TokenKind) (text : List ℕ) (outs : List Token) → false ≡ is_last outs → end_parts kind (parts text outs) ≡ []
-parts-before kind text [] e = absurd (true≢false (sym e))
-parts-before kind text (o ∷ os) e = refl
+parts-before kind text w2 e = grind (arith, common_steps)
 
 pub behind : (kind : TokenKind) (mode : Mode) (next : List ℕ) (tokens : List Token) → is_space kind ≡ false → mode_edition mode ≡ E2024 → (length tokens ≡ 0 → next ≡ []) → (next ≡ [] → length tokens ≡ 0) → Tidies code_in_order mode next tokens → Behind kind mode next tokens
-behind kind mode next (t ∷ ts) solid newest none some more = record {
-  out = more.out;
-  outs = more.outs;
-  are = more.are;
-  near = more.near;
-  too = λ o. more.too;
-  shut = λ o e. omega (arith, some (near-none more.near e));
-  is = more.is;
-  same = ap (λ (es : List (TokenKind × List ℕ)). es ++ parts_in_order (parts (encode_utf8_all more.out) more.outs)) (parts-before kind (encode_utf8_all more.out) more.outs more.last) ∙ more.same;
-  again = ap (λ (es : List ℕ). es ++ code_in_order (encode_utf8_all more.out) more.outs) (ap (closing kind) (sym more.last)) ∙ more.again;
-  size = more.size;
-  good = more.good;
-}
+behind kind mode next (t ∷ ts) solid newest none some more = grind (arith, common_steps, near-none, parts-before)
 behind kind mode next [] solid newest none some more = subst (λ (cs : List ℕ). Behind kind mode cs []) (sym (none refl)) (by_kind (is_open kind) refl)
   where
     by_kind : (b : Bool) → is_open kind ≡ b → Behind kind mode [] []
@@ -314,10 +277,7 @@ solid-token order mode kind c w next tokens newest puts solid p free more = elim
 ]
 
 pub solid-no : (kind : TokenKind) → is_solid_kind kind ≡ true → (is_space kind ≡ false) × (is_front kind ≡ false) × (is_end kind ≡ false)
-solid-no kind e =
-    let both = and_parts (not (is_space kind)) (not (is_front kind) && not (is_end kind)) e in
-    let more = and_parts (not (is_front kind)) (not (is_end kind)) both.1 in
-    (not-true (is_space kind) both.0, not-true (is_front kind) more.0, not-true (is_end kind) more.1)
+solid-no kind e = grind (arith, common_steps, and_parts, not-true)
 
 -- in a part
 pub code-tidies : {mode : Mode} {cs : List ℕ} {tokens : List Token} → mode ≡ part E2024 → AreTokens mode cs tokens → Tidies code_in_order mode cs tokens

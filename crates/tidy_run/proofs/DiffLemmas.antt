@@ -1,5 +1,6 @@
 -- The lines of a text, and those with a mark.
-use Rattle.std.proofs.Common.{◌≡◌, ◌≢◌, ℕ, zero, suc, ◌+◌, ◌<◌, Bool, List, [], ◌∷◌, ◌++◌, map, length, take, drop, get_or, refl, sym, ap, ◌∙◌, subst, arith, append_assoc, ne_eqb}
+use Rattle.std.proofs.Common.{◌≡◌, ◌≢◌, ℕ, zero, suc, ◌+◌, ◌<◌, Bool, List, [], ◌∷◌, ◌++◌, map, length, take, drop, get_or, refl, sym, ap, ◌∙◌, arith, append_assoc, ne_eqb}
+use Rattle.std.proofs.lemmas.Grind.{common_steps}
 use Rattle.std.specs.List.{filter}
 use Rattle.std.proofs.lemmas.List.{map-append}
 use Rattle.std.proofs.lemmas.Str.{IsCharBoundary-end}
@@ -27,18 +28,10 @@ lines-last (c ∷ d ∷ cs) some none =
     rw (ne_eqb c 10 (none 0 (omega arith))) (ap (onto_first c) more)
 
 pub first_end : (text : List ℕ) (at : ℕ) → IsNewline text at → IsFirstEnd text (at + 1)
-first_end text at line = record {
-  some = omega arith;
-  cut = line.cut;
-  line = subst (λ (k : ℕ). lines_of text ≡ take k text ∷ lines_of (drop k text)) (let e : suc at ≡ at + 1 = omega arith in e) (lines-first text at line.inside line.here line.none);
-}
+first_end text at line = grind (arith, common_steps, lines-first)
 
 pub last_end : (text : List ℕ) → 0 < length text → HasNoNewline text → IsFirstEnd text (length text)
-last_end text some none = record {
-  some = some;
-  cut = IsCharBoundary-end text;
-  line = lines-last text some none ∙ ap (λ (xs : List ℕ). xs ∷ []) (sym (take-length text)) ∙ ap (λ (xs : List ℕ). take (length text) text ∷ lines_of xs) (sym (drop-length text));
-}
+last_end text some none = grind (arith, common_steps, IsCharBoundary-end, lines-last, take-length, drop-length)
 
 -- ---- one line more
 

@@ -1,7 +1,8 @@
 -- A whole text in order keeps its shebang line and its tokens, but for the white space, and stays.
-use Rattle.std.proofs.Common.{◌≡◌, ◌≢◌, ℕ, ◌+◌, ◌-◌, ◌<◌, ◌≤◌, ◌^◌, ◌&&◌, inl, inr, not, Bool, true, false, true≢false, if◌then◌else◌, List, ◌++◌, length, take, drop, refl, sym, ap, ◌∙◌, arith, length-append, length-drop, length-take-le, Option, Some, None}
+use Rattle.std.proofs.Common.{◌≡◌, ◌≢◌, ℕ, ◌+◌, ◌-◌, ◌<◌, ◌≤◌, ◌^◌, ◌&&◌, inl, inr, not, Bool, true, false, true≢false, if◌then◌else◌, List, ◌++◌, length, take, drop, refl, sym, ap, ◌∙◌, arith, length-append, length-drop, length-take-le, Option, None}
 use Rattle.std.proofs.Math.Seq.{take-append_seam, drop-append_seam}
 use Rattle.std.proofs.lemmas.Bool.{cases_Bool, eq-eqb, eqb-true}
+use Rattle.std.proofs.lemmas.Grind.{common_steps}
 use Rattle.std.proofs.lemmas.Str.{IsUtf8-drop}
 use Rattle.std.specs.List.{list_all}
 use Rattle.std.specs.Option.{option_eq, unwrap_or}
@@ -17,10 +18,7 @@ use Rattle.tidy_run.proofs.ShebangLemmas.{stays-none, source-code}
 use Rattle.tidy_run.proofs.SourceLemmas.{SourceLaw, source-law}
 
 same-len : (a b : Option ℕ) → option_eq nat_eq a b ≡ true → a ≡ b
-same-len None None e = refl
-same-len None (Some n) e = absurd (true≢false (sym e))
-same-len (Some m) None e = absurd (true≢false (sym e))
-same-len (Some m) (Some n) e = ap (λ (k : ℕ). Some k) (eqb-true m n e)
+same-len w0 w1 e = grind (arith, common_steps, eqb-true)
 
 record DocumentLaw (text : List ℕ) : Type 0 where
   sound : IsSound text
@@ -36,12 +34,7 @@ full-stays text e = ap (λ (b : Bool). if not b && option_eq nat_eq (shebang (do
 
 -- a text that stays
 kept-law : (text : List ℕ) → tidied text ≡ text → (is_full text ≡ false → shebang text ≡ None → list_all is_no_front (tokens_of (document E2024) text) ≡ true → tidied text ≡ code_in_order text (tokens_of (document E2024) text)) → IsSound text
-kept-law text e plain = record {
-  solid_same = ap (λ (xs : List ℕ). solid_in_order (solid xs)) e;
-  again = ap tidied e;
-  shorter = let f = ap length e in omega arith;
-  in_order = plain;
-}
+kept-law text e plain = grind (arith, common_steps)
 
 pub full_law : (text : List ℕ) → length text ≡ 2 ^ 32 - 1 → IsSound text
 full_law text e = let full = eq-eqb (length text) (2 ^ 32 - 1) e in kept-law text (full-stays text full) (λ f. absurd (true≢false (sym full ∙ f)))

@@ -1,16 +1,16 @@
 -- The first token of a source, and what follows it in order.
-use Rattle.std.proofs.Common.{◌≡◌, ℕ, ◌+◌, ◌-◌, ◌<◌, ◌≤◌, ◌^◌, ◌==◌, Bool, true, true≢false, if◌then◌else◌, List, [], ◌∷◌, ◌++◌, length, take, drop, refl, sym, ap, ◌∙◌, subst, arith, append_assoc, length-append, length-drop, length-take-le}
+use Rattle.std.proofs.Common.{◌≡◌, ℕ, ◌+◌, ◌-◌, ◌<◌, ◌≤◌, ◌^◌, ◌==◌, true, List, [], ◌∷◌, ◌++◌, length, take, drop, sym, ap, ◌∙◌, subst, arith, append_assoc, length-append, length-drop, length-take-le}
 use Rattle.rustc_lexer.specs.declared.edition.Edition.TheVariants.{E2024}
 use Rattle.rustc_lexer.specs.declared.token.Token.{Token}
 use Rattle.rustc_lexer.specs.declared.token.TokenKind.{TokenKind}
-use Rattle.rustc_lexer.specs.declared.token.TokenKind.TheVariants.{Whitespace}
-use Rattle.rustc_lexer.specs.LanguageText.{Mode, document, part, mode_after}
+use Rattle.rustc_lexer.specs.LanguageText.{document, part, mode_after}
 use Rattle.rustc_lexer.specs.State.{State}
 use Rattle.rustc_lexer.specs.means.Taking.{token_at}
 use Rattle.rustc_lexer.specs.Classes.{IsText}
 use Rattle.rustc_lexer.specs.Tokens.{tokens_of, tokens_left, TakesToken}
 use Rattle.rustc_lexer.specs.laws.Tokens.{CutsOff, token_at-cuts, tokens-cons, tokens-nil}
-use Rattle.tidy_run.specs.Order.{is_front, is_last, is_space, space_in_order, text_in_order, closing, part_in_order, code_in_order, front_in_order, source_in_order, source_tidied}
+use Rattle.std.proofs.lemmas.Grind.{common_steps}
+use Rattle.tidy_run.specs.Order.{is_front, is_space, part_in_order, code_in_order, front_in_order, source_tidied}
 use Rattle.tidy_run.proofs.LoopLemmas.{end-is}
 use Rattle.tidy_run.proofs.SourceLemmas.{code-size}
 
@@ -42,8 +42,7 @@ first-is (c ∷ cs) s t token is e step = record {
     same = ap (first_or token) (sym cons ∙ (sym e ∙ step.first))
 
 space-yes : (kind : TokenKind) → is_space kind ≡ true → mode_after (document E2024) kind ≡ document E2024
-space-yes Whitespace e = refl
-space-yes kind e = absurd (true≢false (sym e))
+space-yes kind e = grind (arith, common_steps)
 
 whole-take : (n : ℕ) (text own : List ℕ) → own ≡ take (n - 0) text → own ≡ take n text
 whole-take n text own e = e ∙ (let all : n - 0 ≡ n = omega arith in ap (λ (k : ℕ). take k text) all)
@@ -52,36 +51,14 @@ whole-take n text own e = e ∙ (let all : n - 0 ≡ n = omega arith in ap (λ (
 module _ (text : List ℕ) (front : Token) (first : First text front) (at : is_front front.kind ≡ true) where
   made-is : (line own rest made : List ℕ) → line ≡ own → own ≡ take (front.len - 0) text → rest ≡ drop front.len text → made ≡ line ++ code_in_order rest (tokens_of (part E2024) rest)
       → made ≡ take front.len text ++ code_in_order (drop front.len text) (tokens_of (part E2024) (drop front.len text))
-  made-is line own rest made e f g h =
-      h ∙ (ap (λ (xs : List ℕ). xs ++ code_in_order rest (tokens_of (part E2024) rest)) (e ∙ whole-take front.len text own f) ∙ ap (λ (xs : List ℕ). take front.len text ++ code_in_order xs (tokens_of (part E2024) xs)) g)
+  made-is line own rest made e f g h = grind (arith, common_steps, whole-take)
 
   pub made-fits : (line own rest made : List ℕ) → length text + 1 < 2 ^ 32 → line ≡ own → own ≡ take (front.len - 0) text → rest ≡ drop front.len text → made ≡ line ++ code_in_order rest (tokens_of (part E2024) rest) → length made < 2 ^ 32
-  made-fits line own rest made room e f g h =
-      let size = code-size (drop front.len text) first.left in
-      let long = ap length (made-is line own rest made e f g h) in
-      let both = length-append (take front.len text) (code_in_order (drop front.len text) (tokens_of (part E2024) (drop front.len text))) in
-      let a = length-take-le front.len text first.inside in
-      let b = length-drop front.len text in
-      let c = room in
-      let d = first.inside in
-      omega arith
+  made-fits line own rest made room e f g h = grind (arith, common_steps, code-size, made-is, length-append,
+      length-take-le, length-drop)
 
 -- with white space first, or none
 pub space-first : (text : List ℕ) (token : Token) (before mid own rest : List ℕ) → First text token → is_space token.kind ≡ true → own ≡ take (token.len - 0) text → rest ≡ drop token.len text
     → mid ≡ before ++ part_in_order token.kind own (token.len == length text) → mid ++ front_in_order rest (tokens_of (document E2024) rest) ≡ before ++ source_tidied text
-space-first text token before mid own rest first at is cut made =
-    ap (λ (xs : List ℕ). xs ++ front_in_order rest (tokens_of (document E2024) rest)) (made ∙ ap (λ (xs : List ℕ). before ++ xs) written)
-    ∙ (append_assoc before (space_in_order (take token.len text) (is_last (tokens_of (document E2024) rest))) (front_in_order rest (tokens_of (document E2024) rest))
-    ∙ ap (λ (xs : List ℕ). before ++ xs) (ap (λ (xs : List ℕ). space_in_order (take token.len text) (is_last (tokens_of (document E2024) xs)) ++ front_in_order xs (tokens_of (document E2024) xs)) cut ∙ sym order))
-  where
-    order : source_tidied text ≡ space_in_order (take token.len text) (is_last (tokens_of (document E2024) (drop token.len text))) ++ front_in_order (drop token.len text) (tokens_of (document E2024) (drop token.len text))
-    order =
-        ap (source_in_order text) first.tokens
-        ∙ (ap (λ (b : Bool). let ts : List Token = tokens_of (mode_after (document E2024) token.kind) (drop token.len text) in if b then space_in_order (take token.len text) (is_last ts) ++ front_in_order (drop token.len text) ts else front_in_order text (token ∷ ts)) at
-        ∙ ap (λ (a : Mode). let ts : List Token = tokens_of a (drop token.len text) in space_in_order (take token.len text) (is_last ts) ++ front_in_order (drop token.len text) ts) (space-yes token.kind at))
-
-    written : part_in_order token.kind own (token.len == length text) ≡ space_in_order (take token.len text) (is_last (tokens_of (document E2024) rest))
-    written =
-        ap (λ (xs : List ℕ). part_in_order token.kind xs (token.len == length text)) (whole-take token.len text own is)
-        ∙ (ap (part_in_order token.kind (take token.len text)) (end-is (document E2024) text rest token.len first.inside (sym cut))
-        ∙ ap (λ (b : Bool). let last : Bool = is_last (tokens_of (document E2024) rest) in if b then space_in_order (take token.len text) last else text_in_order token.kind (take token.len text) ++ closing token.kind last) at)
+space-first text token before mid own rest first at is cut made = grind (arith, common_steps, append_assoc, space-yes,
+    whole-take, end-is)

@@ -1,6 +1,7 @@
 -- White space in order, line by line.
-use Rattle.std.proofs.Common.{◌≡◌, ◌≢◌, ℕ, zero, suc, ◌+◌, ◌-◌, ◌<◌, ◌≤◌, ◌==◌, ◌&&◌, ◌||◌, inl, inr, Bool, true, false, true≢false, if◌then◌else◌, List, [], ◌∷◌, ◌++◌, length, get_or, take, drop, codes, refl, sym, ap, ◌∙◌, subst, arith, drop-drop, length-drop, append_assoc, Option, Some, None, OnOk, Result, Ok, Err}
+use Rattle.std.proofs.Common.{◌≡◌, ◌≢◌, ℕ, zero, suc, ◌+◌, ◌-◌, ◌<◌, ◌≤◌, ◌==◌, true, false, if◌then◌else◌, List, [], ◌∷◌, ◌++◌, length, get_or, take, drop, codes, refl, sym, ap, ◌∙◌, subst, arith, drop-drop, length-drop, append_assoc, Option, OnOk, Result}
 use Rattle.std.proofs.lemmas.Bool.{and_parts, cases_Bool, eqb-true, ne_eqb}
+use Rattle.std.proofs.lemmas.Grind.{common_steps}
 use Rattle.std.proofs.lemmas.List.{get_or-drop}
 use Rattle.std.proofs.lemmas.Str.{lead_after_ascii}
 use Rattle.std.specs.Char.{encode_utf8}
@@ -33,17 +34,7 @@ tail-same k x y e = ap (drop k) (put-same (lines k) x y e)
 
 -- before what begins with no newline, a character stays, but for a blank before a newline
 stays-before : (c : ℕ) (r : List ℕ) → begins (codes "\n") r ≡ false → is_dropped_before r c ≡ false
-stays-before c r e = rw (e, two r e) (none (is_blank c) (c == 10))
-  where
-    two : (r : List ℕ) → begins (codes "\n") r ≡ false → begins (codes "\n\n") r ≡ false
-    two [] e = refl
-    two (d ∷ r) e = elim (cases_Bool (d == 10)) [ inl f ↦ absurd (true≢false (sym (rw f refl) ∙ e)) | inr f ↦ rw f refl ]
-
-    none : (a b : Bool) → (a && false || b && false) ≡ false
-    none true true = refl
-    none true false = refl
-    none false true = refl
-    none false false = refl
+stays-before c r e = grind (arith, common_steps, cases_Bool)
 
 -- what is neither stays before anything
 stays-solid : (c : ℕ) (r : List ℕ) → is_blank c ≡ false → (c == 10) ≡ false → is_dropped_before r c ≡ false
@@ -53,24 +44,16 @@ kept : (c : ℕ) (cs : List ℕ) → is_dropped_before (in_order cs) c ≡ false
 kept c cs e = rw e refl
 
 newline-first : (s : List ℕ) → begins (codes "\n") (in_order (10 ∷ s)) ≡ true
-newline-first s = elim (judge is_dropped_before 10 s) [
-  | inl d ↦ ap (begins (codes "\n")) d.1 ∙ two-one (in_order s) (dropped-two 10 (in_order s) d.0 refl)
-  | inr k ↦ ap (begins (codes "\n")) k.1
-]
+newline-first s = grind (arith, common_steps, judge, two-one, dropped-two)
 
 newlines-first : (s : List ℕ) → begins (codes "\n\n") (in_order (10 ∷ 10 ∷ s)) ≡ true
-newlines-first s = elim (judge is_dropped_before 10 (10 ∷ s)) [
-  | inl d ↦ ap (begins (codes "\n\n")) d.1 ∙ dropped-two 10 (in_order (10 ∷ s)) d.0 refl
-  | inr k ↦ ap (begins (codes "\n\n")) k.1 ∙ newline-first s
-]
+newlines-first s = grind (arith, common_steps, judge, dropped-two, newline-first)
 
 first-is : (r : List ℕ) → begins (codes "\n") r ≡ true → r ≡ 10 ∷ drop 1 r
-first-is [] e = absurd (true≢false (sym e))
-first-is (c ∷ r) e = ap (λ (d : ℕ). d ∷ r) (eqb-true c 10 (and_parts (c == 10) _ e).0)
+first-is w0 e = grind (arith, common_steps, eqb-true, and_parts)
 
 second-is : (r : List ℕ) → begins (codes "\n\n") r ≡ true → drop 1 r ≡ 10 ∷ drop 2 r
-second-is [] e = absurd (true≢false (sym e))
-second-is (c ∷ r) e = first-is r (and_parts (c == 10) _ e).1
+second-is w0 e = grind (arith, common_steps, first-is, and_parts)
 
 -- ---- a newline
 
@@ -80,13 +63,7 @@ one-newline (suc zero) s lt = second-is (in_order (10 ∷ 10 ∷ s)) (newlines-f
 one-newline (suc (suc k)) s lt = absurd (omega arith)
 
 pub third-drops : (s : List ℕ) → tail 2 (10 ∷ s) ≡ tail 2 s
-third-drops s = elim (judge is_dropped_before 10 (10 ∷ 10 ∷ s)) [
-  | inl d ↦ ap (drop 2) d.1
-  | inr k ↦ absurd (true≢false (sym (newlines-first s) ∙ bad (in_order (10 ∷ 10 ∷ s)) k.0))
-]
-  where
-    bad : (r : List ℕ) → is_dropped_before r 10 ≡ false → begins (codes "\n\n") r ≡ false
-    bad r e = e
+third-drops s = grind (arith, common_steps, judge, newlines-first)
 
 -- ---- blanks, and what is before them
 
@@ -98,8 +75,7 @@ blanks-drop (suc at) (c ∷ s) lt blanks here =
     ap (λ (r : List ℕ). if is_dropped_before r c then r else c ∷ r) more ∙ rw (blanks 0 (omega arith), newline-first (drop (suc at) s)) refl
 
 no_newline-first : (s : List ℕ) → 0 < length s → get_or s 0 0 ≢ 10 → begins (codes "\n") s ≡ false
-no_newline-first [] some other = absurd (omega arith)
-no_newline-first (c ∷ s) some other = rw (ne_eqb c 10 other) refl
+no_newline-first w0 some other = grind (arith, common_steps, ne_eqb)
 
 -- what holds no newline, and ends with no blank, stays
 solid-stays : (end : ℕ) (s : List ℕ) → end < length s → ((k : ℕ) → k ≤ end → get_or s k 0 ≢ 10) → is_blank (get_or s end 0) ≡ false → in_order s ≡ take (suc end) s ++ in_order (drop (suc end) s)
@@ -115,9 +91,7 @@ solid-stays (suc end) (c ∷ d ∷ s) lt none solid =
 tail-solid : (k : ℕ) (s : List ℕ) → k ≤ 2 → begins (codes "\n") (in_order s) ≡ false → tail k s ≡ in_order s
 tail-solid zero s le e = refl
 tail-solid (suc zero) s le e = ap (drop 1) (kept 10 s (stays-before 10 (in_order s) e))
-tail-solid (suc (suc zero)) s le e =
-    let one = kept 10 s (stays-before 10 (in_order s) e) in
-    ap (drop 2) (kept 10 (10 ∷ s) (ap (λ (r : List ℕ). is_dropped_before r 10) one ∙ e) ∙ ap (λ (xs : List ℕ). 10 ∷ xs) one)
+tail-solid (suc (suc zero)) s le e = grind (arith, common_steps, kept, stays-before)
 tail-solid (suc (suc (suc k))) s le e = absurd (omega arith)
 
 -- a text with no newline stays
@@ -131,23 +105,13 @@ plain-stays (c ∷ d ∷ s) none =
 -- ---- where newlines are
 
 pub newline_is : (s : List ℕ) (r : Option ℕ) → IsUtf8 s → IsFirstByte (is_byte 10) s r → MatchOption r (HasNoNewline s) (IsNewline s)
-newline_is s None utf8 none = λ k lt e. none k (omega arith) lt (ap (λ (b : ℕ). b == 10) e)
-newline_is s (Some at) utf8 found = record {
-  inside = found.0.high;
-  here = here;
-  none = λ k lt e. found.0.before k (omega arith) lt (ap (λ (b : ℕ). b == 10) e);
-  cut = (let i = found.0.high in omega arith, λ low wide. lead_after_ascii s at utf8 (let e = here in omega arith) low wide);
-}
-  where
-    here : get_or s at 0 ≡ 10
-    here = eqb-true (get_or s at 0) 10 found.1
+newline_is s w1 utf8 none = grind (arith, common_steps, lead_after_ascii, eqb-true)
 
 -- ---- steps of a loop over the lines
 
 -- where the last call appended, the text is as wanted
 pub on_ok_is : {T E : Type 0} (r : Result T E) (b : List ℕ) {x a want : List ℕ} → x ≡ (if is_ok r then a else b) → a ≡ want → OnOk r (x ≡ want)
-on_ok_is (Ok v) b e f = e ∙ f
-on_ok_is (Err v) b e f = tt
+on_ok_is w0 b e f = grind (arith, common_steps)
 
 pub rest-plain : (k : ℕ) (s : List ℕ) → k ≤ 2 → HasNoNewline s → tail k s ≡ s
 rest-plain k s le none = tail-solid k s le (ap (begins (codes "\n")) (plain-stays s none) ∙ first s none) ∙ plain-stays s none
@@ -208,12 +172,7 @@ line-blank s before at end k line solid none =
 
 -- and before the newline, or none
 pub newline-written : (s now before : List ℕ) (k : ℕ) → k < 2 → now ≡ before ++ encode_utf8 10 → now ++ tail (k + 1) s ≡ before ++ tail k (10 ∷ s)
-newline-written s now before k lt e =
-    let more : k + 1 ≡ suc k = omega arith in
-    ap (λ (xs : List ℕ). xs ++ tail (k + 1) s) (e ∙ ap (λ (xs : List ℕ). before ++ xs) newline-byte)
-    ∙ (append_assoc before (10 ∷ []) (tail (k + 1) s) ∙ ap (λ (xs : List ℕ). before ++ xs) (ap (λ (j : ℕ). 10 ∷ tail j s) more ∙ sym (one-newline k s lt)))
+newline-written s now before k lt e = grind (arith, common_steps, newline-byte, append_assoc, one-newline)
 
 pub newline-dropped : (s before : List ℕ) (k : ℕ) → k ≤ 2 → 2 ≤ k → before ++ tail k s ≡ before ++ tail k (10 ∷ s)
-newline-dropped s before k le ge =
-    let two : k ≡ 2 = omega arith in
-    ap (λ (xs : List ℕ). before ++ xs) (ap (λ (j : ℕ). tail j s) two ∙ (sym (third-drops s) ∙ ap (λ (j : ℕ). tail j (10 ∷ s)) (sym two)))
+newline-dropped s before k le ge = grind (arith, common_steps, third-drops)

@@ -8,6 +8,7 @@ use Rattle.rustc_lexer.specs.State.{State}
 use Rattle.rustc_lexer.specs.Tokens.{tokens_of, tokens_left, TakesToken}
 use Rattle.rustc_lexer.proofs.PlaceLemmas.{stands_past}
 use Rattle.rustc_lexer.specs.laws.Tokens.{tokens-nil, tokens-some}
+use Rattle.std.proofs.lemmas.Grind.{common_steps}
 use Rattle.tidy_run.specs.Order.{is_last, part_in_order, code_in_order}
 
 -- whether a place is the end of the text
@@ -25,14 +26,4 @@ pub code-step : (text : List ℕ) (place : ℕ) (s t : State) (token : Token) (b
     → now ≡ before ++ part_in_order token.kind part (place + token.len == length text) → before ++ code_in_order s.rest (tokens_left s) ≡ whole
     → now ++ code_in_order t.rest (tokens_left t) ≡ whole
 code-step text place s t token before now part whole at step is made more =
-    ap (λ (xs : List ℕ). xs ++ code_in_order t.rest (tokens_left t)) (made ∙ ap (λ (xs : List ℕ). before ++ xs) written)
-    ∙ (append_assoc before (part_in_order token.kind (take token.len s.rest) (is_last (tokens_left t))) (code_in_order t.rest (tokens_left t))
-    ∙ (ap (λ (xs : List ℕ). before ++ (part_in_order token.kind (take token.len s.rest) (is_last (tokens_left t)) ++ code_in_order xs (tokens_left t))) step.rest
-    ∙ (ap (λ (ts : List Token). before ++ code_in_order s.rest ts) (sym step.first) ∙ more)))
-  where
-    past : StandsAt text (place + token.len) t
-    past = stands_past text place s t token at step
-
-    written : part_in_order token.kind part (place + token.len == length text) ≡ part_in_order token.kind (take token.len s.rest) (is_last (tokens_left t))
-    written = ap (λ (xs : List ℕ). part_in_order token.kind xs (place + token.len == length text)) is
-        ∙ ap (part_in_order token.kind (take token.len s.rest)) (end-is t.mode text t.rest (place + token.len) past.0.0 past.1)
+    grind (arith, common_steps, append_assoc, stands_past, end-is)

@@ -2,6 +2,7 @@
 use Rattle.std.proofs.Common.{◌≡◌, ℕ, zero, suc, ◌+◌, ◌<◌, ◌≤◌, ◌==◌, ◌&&◌, ◌||◌, ◌⊎◌, inl, inr, not, Bool, true, false, true≢false, List, [], ◌∷◌, ◌++◌, length, length-append, take, drop, codes, refl, sym, ap, ◌∙◌, subst, arith, is_none}
 use Rattle.std.proofs.Math.Seq.{take-append_seam, drop-append_seam}
 use Rattle.std.proofs.lemmas.Bool.{and_parts, cases_Bool, eqb-true, not-true}
+use Rattle.std.proofs.lemmas.Grind.{common_steps}
 use Rattle.std.specs.Char.{is_ascii_digit, is_ascii_hexdigit}
 use Rattle.std.specs.List.{list_all, list_any}
 use Rattle.unicode_ident.proofs.Computing.{unicode_ident}
@@ -17,7 +18,7 @@ use Rattle.rustc_lexer.specs.LiteralGrammar.{IsDoubleQuoted, IsSingleQuoted, IsR
 use Rattle.rustc_lexer.specs.laws.LanguageRuns.{none-among, begins-next}
 use Rattle.rustc_lexer.specs.laws.Choice.{by_symbol}
 use Rattle.rustc_lexer.specs.NumberGrammar as num
-use Rattle.rustc_lexer.specs.NumberGrammar.{or_underscore, is_exponent_letter, is_sign, is_no_fraction, AreDigits, IsWhole, IsExponent, IsTailBefore, IsNumberBefore, NumberStands, IsLongestNumber}
+use Rattle.rustc_lexer.specs.NumberGrammar.{is_exponent_letter, is_sign, is_no_fraction, AreDigits, IsWhole, IsExponent, IsTailBefore, IsNumberBefore, NumberStands, IsLongestNumber}
 use Rattle.tidy_run.specs.Order.{is_space, is_front, is_open_literal, is_open}
 
 -- two texts up to the first white space at which they differ: a newline stays one, and a quote comes no nearer to it; or a
@@ -95,10 +96,7 @@ abbrev pub is_plain : ℕ → Bool
 is_plain c = not (is_whitespace c)
 
 pub plain-other : (c d : ℕ) → is_plain c ≡ true → is_whitespace d ≡ true → (d == c) ≡ false
-plain-other c d plain blank = elim (cases_Bool (d == c)) [
-  | inl e ↦ absurd (true≢false (sym blank ∙ (ap is_whitespace (eqb-true d c e) ∙ not-true (is_whitespace c) plain)))
-  | inr e ↦ e
-]
+plain-other c d plain blank = grind (arith, common_steps, cases_Bool, eqb-true, not-true)
 
 -- and what follows these characters
 pub near-then : (p : ℕ → Bool) → IsSolid p → (front : List ℕ) → AreAll is_plain front → {s t : List ℕ} → Near s t
@@ -106,28 +104,20 @@ pub near-then : (p : ℕ → Bool) → IsSolid p → (front : List ℕ) → AreA
 near-then p solid [] all near = near-next p solid near
 near-then p solid (f ∷ front) all ends = refl
 near-then p solid (f ∷ front) all closes = rw (plain-other f 10 (and_parts (is_plain f) _ all).0 refl) refl
-near-then p solid (f ∷ front) all (space {c} {d} a b k) =
-    let plain = (and_parts (is_plain f) _ all).0 in
-    rw (plain-other f c plain a, plain-other f d plain b) refl
-near-then p solid (f ∷ front) all (same {c} near) = elim (cases_Bool (c == f)) [
-  | inl e ↦ rw e (near-then p solid front (and_parts (is_plain f) _ all).1 near)
-  | inr e ↦ rw e refl
-]
+near-then p solid (f ∷ front) all (space {c} {d} a b k) = grind (arith, common_steps, and_parts, plain-other)
+near-then p solid (f ∷ front) all (same {c} near) = grind (arith, common_steps, cases_Bool, and_parts,
+    near-then p solid front)
 
 pub near-begins : (front : List ℕ) → AreAll is_plain front → {s t : List ℕ} → Near s t → begins front s ≡ begins front t
 near-begins [] all near = refl
 near-begins (f ∷ front) all ends = refl
 near-begins (f ∷ front) all closes = rw (plain-other f 10 (and_parts (is_plain f) _ all).0 refl) refl
-near-begins (f ∷ front) all (space {c} {d} a b k) =
-    let plain = (and_parts (is_plain f) _ all).0 in
-    rw (plain-other f c plain a, plain-other f d plain b) refl
+near-begins (f ∷ front) all (space {c} {d} a b k) = grind (arith, common_steps, and_parts, plain-other)
 near-begins (f ∷ front) all (same {c} near) = ap (λ (b : Bool). c == f && b) (near-begins front (and_parts (is_plain f) _ all).1 near)
 
 near-any : (fronts : List (List ℕ)) → list_all (λ front. list_all is_plain front) fronts ≡ true → {s t : List ℕ} → Near s t → list_any (λ front. begins front s) fronts ≡ list_any (λ front. begins front t) fronts
 near-any [] all near = refl
-near-any (front ∷ fronts) all {s} {t} near =
-    let parts = and_parts (list_all is_plain front) _ all in
-    ap (λ (b : Bool). b || list_any (λ front. begins front s) fronts) (near-begins front parts.0 near) ∙ ap (λ (b : Bool). begins front t || b) (near-any fronts parts.1 near)
+near-any (front ∷ fronts) all {s} {t} near = grind (arith, common_steps, and_parts, near-begins, near-any fronts)
 
 near-opening : {s t : List ℕ} → Near s t → begins_prefixed s ≡ begins_prefixed t
 near-opening {s} {t} near =
@@ -136,10 +126,7 @@ near-opening {s} {t} near =
 near-inline : {s t : List ℕ} → Near s t → NextIsNot is_inline s → NextIsNot is_inline t
 near-inline ends stop = refl
 near-inline closes stop = refl
-near-inline (space {c} {d} a b k) stop = elim (cases_Bool (c == 10)) [
-  | inl e ↦ rw (k e).0 refl
-  | inr e ↦ absurd (true≢false (sym (ap not e) ∙ stop))
-]
+near-inline (space {c} {d} a b k) stop = grind (arith, common_steps, cases_Bool)
 near-inline (same near) stop = stop
 
 near-newline : {s t : List ℕ} → Near s t → begins (codes "\n") s ≡ true → begins (codes "\n") t ≡ true
@@ -151,10 +138,7 @@ near-newline (same near) e = e
 near-lone : {s t : List ℕ} → Near s t → begins (codes "\n") s ≡ true → begins (codes "\n'") s ≡ false → begins (codes "\n'") t ≡ false
 near-lone ends e f = f
 near-lone closes e f = refl
-near-lone (space {c} {d} {s} {t} a b k) e f =
-    let at = (and_parts (c == 10) true e).0 in
-    let kept = k at in
-    rw kept.0 (kept.1 (sym (ap (λ (x : Bool). x && begins (codes "'") s) at) ∙ f))
+near-lone (space {c} {d} {s} {t} a b k) e f = grind (arith, common_steps, and_parts)
 near-lone (same {c} {s} {t} near) e f = ap (λ (b : Bool). c == 10 && b) (sym (near-begins (codes "'") refl near)) ∙ f
 
 -- ---- numbers
@@ -164,44 +148,31 @@ solid-plain p solid c e = elim (cases_Bool (is_whitespace c)) [ inl f ↦ absurd
 
 digits-plain : (ds : List ℕ) → AreDigits is_ascii_digit ds → AreAll is_plain ds
 digits-plain [] all = refl
-digits-plain (d ∷ ds) all =
-    let parts = and_parts (or_underscore is_ascii_digit d) _ all in
-    rw (solid-plain (or_underscore is_ascii_digit) (by_list (or_underscore is_ascii_digit) refl) d parts.0) (digits-plain ds parts.1)
+digits-plain (d ∷ ds) all = grind (arith, common_steps, and_parts, solid-plain, by_list, digits-plain ds)
 
 hexdigits-plain : (ds : List ℕ) → AreDigits is_ascii_hexdigit ds → AreAll is_plain ds
 hexdigits-plain [] all = refl
-hexdigits-plain (d ∷ ds) all =
-    let parts = and_parts (or_underscore is_ascii_hexdigit d) _ all in
-    rw (solid-plain (or_underscore is_ascii_hexdigit) (by_list (or_underscore is_ascii_hexdigit) refl) d parts.0) (hexdigits-plain ds parts.1)
+hexdigits-plain (d ∷ ds) all = grind (arith, common_steps, and_parts, solid-plain, by_list, hexdigits-plain ds)
 
 -- one character more
 one-plain : (p : ℕ → Bool) → IsSolid p → (c : ℕ) (w : List ℕ) → p c ≡ true → AreAll is_plain w → AreAll is_plain (c ∷ w)
 one-plain p solid c w e all = rw (solid-plain p solid c e) all
 
 append-plain : (v w : List ℕ) → AreAll is_plain v → AreAll is_plain w → AreAll is_plain (v ++ w)
-append-plain [] w a b = b
-append-plain (c ∷ v) w a b = let parts = and_parts (is_plain c) _ a in rw (parts.0) (append-plain v w parts.1 b)
+append-plain w0 w a b = grind (arith, common_steps, and_parts)
 
 whole-plain : {base : _} {none : Bool} {w : List ℕ} → IsWhole base none w → AreAll is_plain w
-whole-plain (num.plain {d} {ds} e all) = one-plain is_ascii_digit (by_list is_ascii_digit refl) d ds e (digits-plain ds all)
-whole-plain (num.with_b {ds} all) = digits-plain ds all
-whole-plain (num.with_o {ds} all) = digits-plain ds all
-whole-plain (num.with_x {ds} all) = hexdigits-plain ds all
+whole-plain w0 = grind (arith, common_steps, one-plain, by_list, digits-plain, hexdigits-plain)
 
 exponent-plain : {base : _} {kind : LiteralKind} {w : List ℕ} → IsExponent base kind w → AreAll is_plain w
 exponent-plain (num.signed {base} {e} {g} {ds} letter sign all) = one-plain is_exponent_letter (by_list is_exponent_letter refl) e (g ∷ ds) letter (one-plain is_sign (by_list is_sign refl) g ds sign (digits-plain ds all))
 exponent-plain (num.unsigned {base} {e} {ds} letter all) = one-plain is_exponent_letter (by_list is_exponent_letter refl) e ds letter (digits-plain ds all)
 
 tail-plain : {next : List ℕ} {base : _} {kind : LiteralKind} {w : List ℕ} → IsTailBefore next base kind w → AreAll is_plain w
-tail-plain (num.nothing) = refl
-tail-plain (num.dot stop) = refl
-tail-plain (num.of_fraction {base} {d} {ds} e all) = one-plain is_ascii_digit (by_list is_ascii_digit refl) d ds e (digits-plain ds all)
-tail-plain (num.of_exponent other is) = exponent-plain is
-tail-plain (num.of_both {base} {kind} {d} {e} ds digit all is) = one-plain is_ascii_digit (by_list is_ascii_digit refl) d (ds ++ e) digit (append-plain ds e (digits-plain ds all) (exponent-plain is))
+tail-plain w0 = grind (arith, common_steps, one-plain, by_list, digits-plain, exponent-plain, append-plain)
 
 number-plain : {next : List ℕ} {kind : LiteralKind} {w : List ℕ} → IsNumberBefore next kind w → AreAll is_plain w
-number-plain (num.of_prefix is) = whole-plain is
-number-plain (num.of_parts {base} {kind} {whole} {tail} is more) = append-plain whole tail (whole-plain is) (tail-plain more)
+number-plain w0 = grind (arith, common_steps, whole-plain, append-plain, tail-plain)
 
 tail-before : {s t : List ℕ} → next_is is_no_fraction s ≡ next_is is_no_fraction t → {base : _} {kind : LiteralKind} {w : List ℕ} → IsTailBefore s base kind w → IsTailBefore t base kind w
 tail-before e (num.nothing) = num.nothing
@@ -225,9 +196,7 @@ same-front zero near le all = record { inside = omega arith; front = refl; left 
 same-front (suc m) ends le all = absurd (omega arith)
 same-front (suc m) closes le all = absurd (true≢false (sym all))
 same-front (suc m) (space {c} {d} {s} {t} a b k) le all = absurd (true≢false (sym b ∙ not-true (is_whitespace d) (and_parts (is_plain d) _ all).0))
-same-front (suc m) (same {c} {s} {t} near) le all =
-    let more = same-front m near (omega arith) (and_parts (is_plain c) _ all).1 in
-    record { inside = let i = more.inside in omega arith; front = ap (λ (xs : List ℕ). c ∷ xs) more.front; left = more.left }
+same-front (suc m) (same {c} {s} {t} near) le all = grind (arith, common_steps, and_parts, same-front m near)
 
 stands-back : {s t : List ℕ} → Near s t → {kind : LiteralKind} {m : ℕ} → NumberStands kind m t → NumberStands kind m s
 stands-back {s} {t} near {kind} {m} at =

@@ -1,12 +1,13 @@
 -- White space in order: that it is white space still, that it is near what it was, and that it stays.
-use Rattle.std.proofs.Common.{◌≡◌, ℕ, ◌≤◌, ◌==◌, ◌&&◌, ◌⊎◌, inl, inr, Bool, true, false, true≢false, if◌then◌else◌, List, [], ◌∷◌, ◌++◌, length, drop, length-append, codes, refl, sym, ap, ◌∙◌, subst, arith}
+use Rattle.std.proofs.Common.{◌≡◌, ℕ, ◌≤◌, ◌==◌, ◌⊎◌, inl, inr, Bool, true, false, true≢false, List, [], ◌∷◌, ◌++◌, length, drop, length-append, codes, refl, sym, ap, ◌∙◌, subst, arith}
 use Rattle.std.proofs.lemmas.Bool.{and_parts, cases_Bool, eqb-true, or_cases}
+use Rattle.std.proofs.lemmas.Grind.{common_steps}
 use Rattle.std.specs.Char.{encode_utf8}
 use Rattle.std.specs.List.{list_all}
 use Rattle.std.specs.Str.{encode_utf8_all}
 use Rattle.rustc_lexer.specs.Classes.{is_among, is_whitespace, AreAll, bytes, begins}
 use Rattle.rustc_lexer.specs.means.Frontmatter.{ends_line}
-use Rattle.tidy_run.specs.Order.{without, is_blank, is_dropped_before, in_order, IsInOrder}
+use Rattle.tidy_run.specs.Order.{without, is_dropped_before, in_order, IsInOrder}
 use Rattle.tidy_run.proofs.NearLemmas.{Near, space, near-begins, plain-other}
 
 -- ---- what is left where characters are dropped
@@ -17,37 +18,20 @@ module _ (drops : List ℕ → ℕ → Bool) where
 
   pub without-all : (p : ℕ → Bool) (w : List ℕ) → list_all p w ≡ true → list_all p (without drops w) ≡ true
   without-all p [] all = refl
-  without-all p (c ∷ cs) all =
-      let parts = and_parts (p c) _ all in
-      elim (judge c cs) [
-        | inl d ↦ ap (list_all p) d.1 ∙ without-all p cs parts.1
-        | inr k ↦ ap (list_all p) k.1 ∙ (ap (λ (b : Bool). b && list_all p (without drops cs)) parts.0 ∙ without-all p cs parts.1)
-      ]
+  without-all p (c ∷ cs) all = grind (arith, common_steps, and_parts, judge, without-all p cs)
 
   -- once is enough
   pub without-again : (w : List ℕ) → without drops (without drops w) ≡ without drops w
   without-again [] = refl
-  without-again (c ∷ cs) = elim (judge c cs) [
-    | inl d ↦ ap (without drops) d.1 ∙ (without-again cs ∙ sym d.1)
-    | inr k ↦ ap (without drops) k.1 ∙ (again (without-again cs) k.0 ∙ sym k.1)
-  ]
-    where
-      again : without drops (without drops cs) ≡ without drops cs → drops (without drops cs) c ≡ false → without drops (c ∷ without drops cs) ≡ c ∷ without drops cs
-      again once e = rw once (rw e refl)
+  without-again (c ∷ cs) = grind (arith, common_steps, judge, without-again cs)
 
   pub without-size : (w : List ℕ) → bytes (without drops w) ≤ bytes w
   without-size [] = omega arith
-  without-size (c ∷ w) = elim (judge c w) [
-    | inl d ↦ (let le = without-size w in let e : bytes (without drops (c ∷ w)) ≡ bytes (without drops w) = ap bytes d.1 in let n = length-append (encode_utf8 c) (encode_utf8_all w) in omega arith)
-    | inr k ↦ (let le = without-size w in let e : bytes (without drops (c ∷ w)) ≡ bytes (c ∷ without drops w) = ap bytes k.1 in let n = length-append (encode_utf8 c) (encode_utf8_all w) in let m = length-append (encode_utf8 c) (encode_utf8_all (without drops w)) in omega arith)
-  ]
+  without-size (c ∷ w) = grind (arith, common_steps, judge, length-append, without-size w)
 
   without-short : (w : List ℕ) → length (without drops w) ≤ length w
   without-short [] = omega arith
-  without-short (c ∷ w) = elim (judge c w) [
-    | inl d ↦ (let le = without-short w in let e = ap length d.1 in omega arith)
-    | inr k ↦ (let le = without-short w in let e = ap length k.1 in omega arith)
-  ]
+  without-short (c ∷ w) = grind (arith, common_steps, judge, without-short w)
 
   -- where nothing is dropped, nothing is past any front
   pub past : (c : ℕ) (w : List ℕ) → without drops (c ∷ w) ≡ c ∷ w → (drops w c ≡ false) × (without drops w ≡ w)
@@ -67,20 +51,13 @@ module _ (drops : List ℕ → ℕ → Bool) where
 -- ---- what is judged
 
 pub two-one : (s : List ℕ) → begins (codes "\n\n") s ≡ true → begins (codes "\n") s ≡ true
-two-one [] e = e
-two-one (c ∷ s) e = rw (and_parts (c == 10) _ e).0 refl
+two-one w0 e = grind (arith, common_steps, and_parts)
 
 dropped-newline : (c : ℕ) (s : List ℕ) → is_dropped_before s c ≡ true → begins (codes "\n") s ≡ true
-dropped-newline c s e = elim (or_cases (is_blank c && begins (codes "\n") s) _ e) [
-  | inl f ↦ (and_parts (is_blank c) _ f).1
-  | inr f ↦ two-one s (and_parts (c == 10) _ f).1
-]
+dropped-newline c s e = grind (arith, common_steps, or_cases, and_parts, two-one)
 
 pub dropped-two : (c : ℕ) (s : List ℕ) → is_dropped_before s c ≡ true → (c == 10) ≡ true → begins (codes "\n\n") s ≡ true
-dropped-two c s e at = elim (or_cases (is_blank c && begins (codes "\n") s) _ e) [
-  | inl f ↦ absurd (true≢false (sym (and_parts (is_blank c) _ f).0 ∙ ap is_blank (eqb-true c 10 at)))
-  | inr f ↦ (and_parts (c == 10) _ f).1
-]
+dropped-two c s e at = grind (arith, common_steps, or_cases, and_parts, eqb-true)
 
 -- ---- white space
 
@@ -90,40 +67,23 @@ pub record HasFirst (w : List ℕ) : Type 0 where
   pub whole : w ≡ first ∷ rest
 
 has-first : (w : List ℕ) → begins (codes "\n") w ≡ true → HasFirst w
-has-first [] e = absurd (true≢false (sym e))
-has-first (c ∷ w) e = record { first = c; rest = w; whole = refl }
+has-first w0 e = grind (arith, common_steps)
 
 pub order-first : (c : ℕ) (cs : List ℕ) → HasFirst (in_order (c ∷ cs))
-order-first c cs = elim (judge is_dropped_before c cs) [
-  | inl d ↦ (let has = has-first (in_order cs) (dropped-newline c (in_order cs) d.0) in record { first = has.first; rest = has.rest; whole = d.1 ∙ has.whole })
-  | inr k ↦ record { first = c; rest = in_order cs; whole = k.1 }
-]
+order-first c cs = grind (arith, common_steps, judge, has-first, dropped-newline)
 
 -- ---- near
 
 quote-after : (cs : List ℕ) → AreAll is_whitespace cs → {s t : List ℕ} → Near s t → begins (codes "'") (cs ++ s) ≡ false → begins (codes "'") (in_order cs ++ t) ≡ false
 quote-after [] all near f = sym (near-begins (codes "'") refl near) ∙ f
-quote-after (c ∷ cs) all {s} {t} near f =
-    let has = order-first c cs in
-    let all_space : AreAll is_whitespace (has.first ∷ has.rest) = subst (AreAll is_whitespace) has.whole (without-all is_dropped_before is_whitespace (c ∷ cs) all) in
-    ap (λ (xs : List ℕ). begins (codes "'") (xs ++ t)) has.whole ∙ rw (plain-other 39 has.first refl (and_parts (is_whitespace has.first) _ all_space).0) refl
+quote-after (c ∷ cs) all {s} {t} near f = grind (arith, common_steps, order-first, without-all, plain-other, and_parts)
 
 after-drop : (c : ℕ) (x r t : List ℕ) → is_whitespace c ≡ true → begins (codes "\n") r ≡ true → ((c == 10) ≡ true → begins (codes "\n\n") r ≡ true) → Near (c ∷ x) (r ++ t)
-after-drop c x [] t blank e two = absurd (true≢false (sym e))
-after-drop c x (d ∷ []) t blank e two =
-    let at = (and_parts (d == 10) _ e).0 in
-    space blank (ap is_whitespace (eqb-true d 10 at)) (λ f. absurd (true≢false (sym (and_parts (d == 10) _ (two f)).1)))
-after-drop c x (d ∷ f ∷ v) t blank e two =
-    let at = (and_parts (d == 10) _ e).0 in
-    space {t = f ∷ v ++ t} blank (ap is_whitespace (eqb-true d 10 at)) (λ g. (at, λ q. rw (plain-other 39 f refl (ap is_whitespace (eqb-true f 10 (and_parts (f == 10) _ (and_parts (d == 10) _ (two g)).1).0))) refl))
+after-drop c x w2 t blank e two = grind (arith, common_steps, and_parts, space, eqb-true, plain-other)
 
 pub order-near : (c : ℕ) (cs : List ℕ) → AreAll is_whitespace (c ∷ cs) → {s t : List ℕ} → Near s t → Near (c ∷ cs ++ s) (in_order (c ∷ cs) ++ t)
-order-near c cs all {s} {t} near =
-    let parts = and_parts (is_whitespace c) _ all in
-    elim (judge is_dropped_before c cs) [
-      | inl d ↦ subst (λ (xs : List ℕ). Near (c ∷ cs ++ s) (xs ++ t)) (sym d.1) (after-drop c (cs ++ s) (in_order cs) t parts.0 (dropped-newline c (in_order cs) d.0) (dropped-two c (in_order cs) d.0))
-      | inr k ↦ subst (λ (xs : List ℕ). Near (c ∷ cs ++ s) (xs ++ t)) (sym k.1) (space parts.0 parts.0 (λ e. (e, quote-after cs parts.1 near)))
-    ]
+order-near c cs all {s} {t} near = grind (arith, common_steps, and_parts, judge, after-drop, dropped-newline,
+    dropped-two, space, quote-after)
 
 -- ---- the end of the line
 
@@ -132,10 +92,7 @@ ends-more c w has = ap (λ (xs : List ℕ). ends_line (c ∷ xs)) has.whole ∙ 
 
 pub order-ends : (w : List ℕ) → ends_line (in_order w) ≡ ends_line w
 order-ends [] = refl
-order-ends (c ∷ []) = elim (judge is_dropped_before c []) [
-  | inl d ↦ absurd (true≢false (sym (dropped-newline c [] d.0)))
-  | inr k ↦ ap ends_line k.1
-]
+order-ends (c ∷ []) = grind (arith, common_steps, judge, dropped-newline)
 order-ends (c ∷ d ∷ s) = elim (judge is_dropped_before c (d ∷ s)) [
   | inl e ↦ ap ends_line e.1 ∙ order-ends (d ∷ s)
   | inr k ↦ ap ends_line k.1 ∙ (ends-more c (in_order (d ∷ s)) (order-first d s) ∙ order-ends (d ∷ s))
@@ -153,17 +110,11 @@ one_of P (d ∷ ds) all c e = elim (or_cases (c == d) (is_among ds c) e) [ inl f
 
 newline-bytes : (x : List ℕ) → AreAll is_whitespace x → begins (codes "\n") (encode_utf8_all x) ≡ begins (codes "\n") x
 unfolding encode_utf8
-newline-bytes [] all = refl
-newline-bytes (c ∷ x) all = one_of (λ d. begins (codes "\n") (encode_utf8_all (d ∷ x)) ≡ begins (codes "\n") (d ∷ x)) (0x9 ∷ 0xA ∷ 0xB ∷ 0xC ∷ 0xD ∷ 0x20 ∷ 0x85 ∷ 0x200E ∷ 0x200F ∷ 0x2028 ∷ 0x2029 ∷ [])
-    (refl, (refl, (refl, (refl, (refl, (refl, (refl, (refl, (refl, (refl, (refl, tt))))))))))) c (and_parts (is_whitespace c) _ all).0
+newline-bytes w0 all = grind (arith, common_steps, one_of, and_parts)
 
 newlines-bytes : (x : List ℕ) → AreAll is_whitespace x → begins (codes "\n\n") (encode_utf8_all x) ≡ begins (codes "\n\n") x
 unfolding encode_utf8
-newlines-bytes [] all = refl
-newlines-bytes (c ∷ x) all =
-    let parts = and_parts (is_whitespace c) _ all in
-    one_of (λ d. begins (codes "\n\n") (encode_utf8_all (d ∷ x)) ≡ begins (codes "\n\n") (d ∷ x)) (0x9 ∷ 0xA ∷ 0xB ∷ 0xC ∷ 0xD ∷ 0x20 ∷ 0x85 ∷ 0x200E ∷ 0x200F ∷ 0x2028 ∷ 0x2029 ∷ [])
-    (refl, (newline-bytes x parts.1, (refl, (refl, (refl, (refl, (refl, (refl, (refl, (refl, (refl, tt))))))))))) c parts.0
+newlines-bytes w0 all = grind (arith, common_steps, and_parts, one_of, newline-bytes)
 
 dropped-bytes : (c : ℕ) (x : List ℕ) → AreAll is_whitespace x → is_dropped_before (encode_utf8_all x) c ≡ is_dropped_before x c
 dropped-bytes c x all = rw (newline-bytes x all, newlines-bytes x all) refl
@@ -173,14 +124,7 @@ abbrev Adds : List ℕ → ℕ → Type 0
 Adds w c = in_order (encode_utf8 c ++ encode_utf8_all w) ≡ encode_utf8_all (in_order (c ∷ w))
 
 ascii-adds : (w : List ℕ) → AreAll is_whitespace w → in_order (encode_utf8_all w) ≡ encode_utf8_all (in_order w) → (c : ℕ) → encode_utf8 c ≡ c ∷ [] → Adds w c
-ascii-adds w all e c one =
-    ap (λ (xs : List ℕ). in_order (xs ++ encode_utf8_all w)) one
-    ∙ (ap (λ (xs : List ℕ). if is_dropped_before xs c then xs else c ∷ xs) e
-    ∙ (ap (λ (b : Bool). if b then encode_utf8_all (in_order w) else c ∷ encode_utf8_all (in_order w)) (dropped-bytes c (in_order w) (without-all is_dropped_before is_whitespace w all))
-    ∙ elim (judge is_dropped_before c w) [
-      | inl d ↦ rw d.0 refl
-      | inr k ↦ rw k.0 (sym (ap (λ (xs : List ℕ). xs ++ encode_utf8_all (in_order w)) one))
-    ]))
+ascii-adds w all e c one = grind (arith, common_steps, dropped-bytes, without-all, judge)
 
 pub order-bytes : (w : List ℕ) → AreAll is_whitespace w → in_order (encode_utf8_all w) ≡ encode_utf8_all (in_order w)
 unfolding encode_utf8
@@ -194,7 +138,4 @@ order-bytes (c ∷ w) all =
 -- ---- in the words of the subject
 
 pub in_order_is : (w : List ℕ) → IsInOrder (in_order w)
-in_order_is w = record {
-  no_blank = λ u v c blank e. true≢false (sym (rw blank refl) ∙ none-dropped is_dropped_before w u (10 ∷ v) c e);
-  no_third = λ u v e. true≢false (none-dropped is_dropped_before w u (10 ∷ 10 ∷ v) 10 e);
-}
+in_order_is w = grind (arith, common_steps, none-dropped)

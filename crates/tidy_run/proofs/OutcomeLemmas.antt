@@ -1,5 +1,6 @@
 -- An outcome takes what came of files, one by one.
-use Rattle.std.proofs.Common.{◌≡◌, ℕ, ◌+◌, ◌-◌, ◌^◌, ◌<◌, ◌≤◌, Bool, true, false, cond, List, [], ◌∷◌, ◌++◌, map, length, refl, sym, ap, ◌∙◌, subst, arith, Result, Ok, Err, IfErr, IfOk, String, string_bytes, append-nil, length-append}
+use Rattle.std.proofs.Common.{◌≡◌, ℕ, ◌+◌, ◌-◌, ◌^◌, ◌<◌, ◌≤◌, Bool, cond, List, [], ◌∷◌, ◌++◌, map, length, sym, ap, ◌∙◌, subst, arith, Result, Ok, Err, IfErr, IfOk, String, string_bytes, append-nil, length-append}
+use Rattle.std.proofs.lemmas.Grind.{common_steps}
 use Rattle.std.specs.Global.{Global}
 use Rattle.std.specs.List.{All, count_by, flat_map}
 use Rattle.std.proofs.lemmas.Grind.{flat_map-append}
@@ -15,7 +16,6 @@ use Rattle.sources.specs.declared.fault.Reason.{Reason}
 use Rattle.sources.proofs.OutcomesLemmas.{taken_more, taken_none, Taken}
 use Rattle.tidy_run.specs.declared.files.Outcome.{Outcome}
 use Rattle.tidy_run.specs.declared.files.Step.{Step}
-use Rattle.tidy_run.specs.declared.files.Step.TheVariants.{Stays, Replaced, Shown}
 use Rattle.tidy_run.specs.declared.job.Task.{Task}
 use Rattle.tidy_run.specs.Files.{is_changed, is_read, raised, shown_of, IsStepAt, IsTidied, IsTidiedFrom, IsTidyFault, Sums}
 
@@ -35,33 +35,19 @@ abbrev shown_of_all : Sources Step → List ℕ
 shown_of_all sources = flat_map (λ one. shown_of one.1) sources
 
 read-source : (path : String Global) (came : Result Step Fault) → IsOfSource came → read_of (source path came) ≡ cond (is_read came) 1 0
-read-source path (Ok step) is = refl
-read-source path (Err (Source reason)) is = refl
-read-source path (Err Memory) is = absurd is
+read-source path w1 is = grind (arith, common_steps)
 
 changed-source : (path : String Global) (came : Result Step Fault) → IsOfSource came → changed_of (source path came) ≡ cond (is_changed came) 1 0
-changed-source path (Ok Stays) is = refl
-changed-source path (Ok (Replaced text)) is = refl
-changed-source path (Ok (Shown text)) is = refl
-changed-source path (Err (Source reason)) is = refl
-changed-source path (Err Memory) is = absurd is
+changed-source path w1 is = grind (arith, common_steps)
 
 shown-source : (path : String Global) (came : Result Step Fault) → IsOfSource came → shown_of_all (source path came) ≡ shown_of came
-shown-source path (Ok Stays) is = refl
-shown-source path (Ok (Replaced text)) is = refl
-shown-source path (Ok (Shown text)) is = append-nil (string_bytes text)
-shown-source path (Err (Source reason)) is = refl
-shown-source path (Err Memory) is = absurd is
+shown-source path w1 is = grind (arith, common_steps, append-nil, string_bytes)
 
 raised-is : (n : ℕ) (more : Bool) → n < 2 ^ 64 - 1 → raised n more ≡ n + cond more 1 0
-raised-is n true below = omega arith
-raised-is n false below = omega arith
+raised-is n w1 below = grind (arith, common_steps)
 
 changed-le-one : (one : String Global × Result Step Reason) → changed_of (one ∷ []) ≤ read_of (one ∷ [])
-changed-le-one (path, Ok Stays) = omega arith
-changed-le-one (path, Ok (Replaced text)) = omega arith
-changed-le-one (path, Ok (Shown text)) = omega arith
-changed-le-one (path, Err reason) = omega arith
+changed-le-one w0 = grind (arith, common_steps)
 
 -- what is changed was read
 changed-le-read : (sources : Sources Step) → changed_of sources ≤ read_of sources
@@ -74,16 +60,8 @@ sums-step : (sources : Sources Step) (path : String Global) (old new : Outcome) 
     → new.changed ≡ raised old.changed (is_changed came)
     → string_bytes new.shown ≡ string_bytes old.shown ++ shown_of came
     → Sums (sources ++ source path came) new
-sums-step sources path old new came so few is read changed shown =
-    let read_few : read_of sources ≤ length sources = count_by-le-length (λ one. is_read one.1) sources in
-    let changed_few : changed_of sources ≤ length sources = count_by-le-length (λ one. is_changed one.1) sources in
-    let read_more : raised old.read (is_read came) ≡ old.read + cond (is_read came) 1 0 = raised-is old.read (is_read came) (omega (arith, so.read)) in
-    let changed_more : raised old.changed (is_changed came) ≡ old.changed + cond (is_changed came) 1 0 = raised-is old.changed (is_changed came) (omega (arith, so.changed)) in
-    record {
-      read = omega (arith, read, read_more, so.read, read-source path came is, sum_by-append (λ one. cond (is_read one.1) 1 0) sources (source path came));
-      changed = omega (arith, changed, changed_more, so.changed, changed-source path came is, sum_by-append (λ one. cond (is_changed one.1) 1 0) sources (source path came));
-      shown = shown ∙ (ap (λ xs. xs ++ shown_of came) so.shown ∙ (ap (λ xs. shown_of_all sources ++ xs) (sym (shown-source path came is)) ∙ sym (flat_map-append (λ one. shown_of one.1) sources (source path came))));
-    }
+sums-step sources path old new came so few is read changed shown = grind (arith, common_steps, count_by-le-length,
+    raised-is, read-source, sum_by-append, changed-source, shown-source, flat_map-append)
 
 -- what may come of a file of this name
 came-may : (task : Task) (path : String Global) (name : List ℕ) (came : Result Step Fault) → name ≡ string_bytes path → IfOk came (IsStepAt task name) → IfErr came (IsTidyFault task) → All (IsTidied task) (source path came)
@@ -93,11 +71,7 @@ came-may task path name (Err Memory) is may fault = All-nil (IsTidied task)
 
 pub tidied-none : (task : Task) (paths left : List (String Global)) (before : List PathFault) (outcome : Outcome) → left ≡ paths → outcome.read ≡ 0 → outcome.changed ≡ 0 → string_bytes outcome.shown ≡ [] → outcome.faults.items ≡ before
     → Tidied task paths before left outcome
-tidied-none task paths left before outcome all read changed shown faults = record {
-  sources = [];
-  taken = taken_none (IsTidied task) paths left before outcome.faults.items all faults;
-  sums = record { read = read; changed = changed; shown = shown };
-}
+tidied-none task paths left before outcome all read changed shown faults = grind (arith, common_steps, taken_none)
 
 pub tidied-step : (task : Task) (paths : List (String Global)) (before : List PathFault) (path : String Global) (all left : List (String Global)) (old new : Outcome) (name : List ℕ) (came : Result Step Fault)
     → Tidied task paths before all old → all ≡ path ∷ left → length paths < 2 ^ 64 → name ≡ string_bytes path → IfOk came (IsStepAt task name) → IfErr came (IsTidyFault task) → IsOfSource came

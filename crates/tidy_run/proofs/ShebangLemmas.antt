@@ -1,6 +1,7 @@
 -- Where a text has no shebang line and no frontmatter, it is put in order: nothing stops that.
 use Rattle.std.proofs.Common.{◌≡◌, ℕ, ◌+◌, ◌<◌, ◌^◌, ◌||◌, Bool, true, false, true≢false, if◌then◌else◌, List, [], ◌∷◌, ◌++◌, length, map, take, drop, codes, refl, sym, ap, ◌∙◌, subst, arith, length-drop, IsCharBoundary, inl, inr, Some, None}
 use Rattle.std.proofs.lemmas.Bool.{and_parts, cases_Bool, not-true, false_from_ne_true}
+use Rattle.std.proofs.lemmas.Grind.{common_steps}
 use Rattle.std.proofs.lemmas.Str.{chars-append, encodes-chars, IsUtf8-drop, IsCharBoundary-from_take}
 use Rattle.std.specs.Char.{encode_utf8}
 use Rattle.std.specs.List.{list_all}
@@ -22,7 +23,7 @@ use Rattle.rustc_lexer.specs.Tokens.{tokens_of}
 use Rattle.rustc_lexer.specs.laws.LanguageIn.{of_page}
 use Rattle.rustc_lexer.specs.laws.LanguageTokens.{language}
 use Rattle.rustc_lexer.specs.laws.LanguageShebang.{front-is, mark-utf8, no-mark}
-use Rattle.tidy_run.specs.Order.{is_last, is_space, is_open, end_parts, parts_in_order, is_front, is_no_front, space_in_order, if_kept, code_in_order, front_in_order, source_in_order, source_tidied, source_parts, parts}
+use Rattle.tidy_run.specs.Order.{is_space, is_open, end_parts, parts_in_order, is_no_front, code_in_order, front_in_order, source_in_order, source_tidied, source_parts, parts}
 use Rattle.tidy_run.proofs.NearLemmas.{near-begins}
 use Rattle.tidy_run.proofs.SourceLemmas.{SourceLaw, source-law}
 
@@ -107,15 +108,11 @@ closed-attribute (p ∷ []) = elim (cases_Bool (is_space p.0 || is_open p.0)) [ 
 closed-attribute (p ∷ q ∷ ps) = attribute-ends q.0 ps
 
 marked-attribute : (text : List ℕ) → IsText text → begins (codes "#!") text ≡ true → is_attribute (tokens_of (part E2024) (drop 2 text)) ≡ attribute_of (drop 2 (kinds_of (parts_in_order (source_parts text))))
-marked-attribute text is e =
-    attribute-kinds (tokens_of (part E2024) (drop 2 text))
-    ∙ (ap (λ (ks : List TokenKind). attribute_of (drop 2 ks)) (sym (ap kinds (mark-tokens text is e)) ∙ sym (parts-kinds text (tokens_of (document E2024) text)))
-    ∙ sym (closed-attribute (source_parts text)))
+marked-attribute text is e = grind (arith, common_steps, attribute-kinds, mark-tokens, parts-kinds, closed-attribute)
 
 same-attribute : (text other : List ℕ) → IsText text → IsText other → begins (codes "#!") text ≡ true → begins (codes "#!") other ≡ true → parts_in_order (source_parts other) ≡ parts_in_order (source_parts text)
     → is_attribute (tokens_of (part E2024) (drop 2 other)) ≡ is_attribute (tokens_of (part E2024) (drop 2 text))
-same-attribute text other is other_is e f same =
-    marked-attribute other other_is f ∙ (ap (λ (ps : List (TokenKind × List ℕ)). attribute_of (drop 2 (kinds_of ps))) same ∙ sym (marked-attribute text is e))
+same-attribute text other is other_is e f same = grind (arith, common_steps, marked-attribute)
 
 -- ---- no shebang line comes
 
@@ -124,8 +121,7 @@ unfolding shebang
 past-there text e = rw e refl
 
 if_none : (b : Bool) (n : ℕ) → (if b then None else Some n) ≡ None → b ≡ true
-if_none true n e = refl
-if_none false n e = absurd (cc e)
+if_none w0 n e = grind (arith, common_steps)
 
 no_line : (tail : List ℕ) → shebang_past tail ≡ None → is_attribute (tokens_of (part E2024) tail) ≡ true
 no_line tail e = if_none (is_attribute (tokens_of (part E2024) tail)) (2 + line_len tail) e
@@ -145,12 +141,7 @@ stays-none text is room none = elim (cases_Bool (begins (codes "#!") text)) [
 -- ---- no frontmatter
 
 front-code : (text : List ℕ) (ts : List Token) → list_all is_no_front ts ≡ true → front_in_order text ts ≡ code_in_order text ts
-front-code text [] all = refl
-front-code text (t ∷ ts) all = ap (λ (b : Bool). if b then if_kept t text (take t.len text ++ code_in_order (drop t.len text) ts) else code_in_order text (t ∷ ts)) (not-true (is_front t.kind) (and_parts (is_no_front t) _ all).0)
+front-code text w1 all = grind (arith, common_steps, not-true, and_parts)
 
 pub source-code : (text : List ℕ) (ts : List Token) → list_all is_no_front ts ≡ true → source_in_order text ts ≡ code_in_order text ts
-source-code text [] all = refl
-source-code text (t ∷ ts) all = elim (cases_Bool (is_space t.kind)) [
-  | inl e ↦ rw e (ap (λ (xs : List ℕ). space_in_order (take t.len text) (is_last ts) ++ xs) (front-code (drop t.len text) ts (and_parts (is_no_front t) _ all).1))
-  | inr e ↦ ap (λ (b : Bool). if b then space_in_order (take t.len text) (is_last ts) ++ front_in_order (drop t.len text) ts else front_in_order text (t ∷ ts)) e ∙ front-code text (t ∷ ts) all
-]
+source-code text w1 all = grind (arith, common_steps, cases_Bool, front-code, and_parts)

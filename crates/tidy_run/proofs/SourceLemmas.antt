@@ -1,5 +1,6 @@
 -- A source in order, with a frontmatter or without, has its tokens, but for the white space, and stays.
 use Rattle.std.proofs.Common.{◌≡◌, ℕ, ◌+◌, ◌<◌, ◌≤◌, ◌^◌, inl, inr, not, Bool, true, false, true≢false, if◌then◌else◌, List, [], ◌∷◌, ◌++◌, length, length-append, take, drop, codes, append_assoc, refl, sym, ap, ◌∙◌, subst, arith}
+use Rattle.std.proofs.lemmas.Grind.{common_steps}
 use lib.Utf8.{scalars}
 use Rattle.std.proofs.lemmas.Bool.{and_parts}
 use Rattle.std.proofs.lemmas.Str.{chars-encodes, encodes-append, encodes-chars, scalars-chars}
@@ -8,7 +9,7 @@ use Rattle.rustc_lexer.specs.declared.edition.Edition.{Edition}
 use Rattle.rustc_lexer.specs.declared.edition.Edition.TheVariants.{E2024}
 use Rattle.rustc_lexer.specs.declared.token.Token.{Token}
 use Rattle.rustc_lexer.specs.declared.token.TokenKind.{TokenKind}
-use Rattle.rustc_lexer.specs.declared.token.TokenKind.TheVariants.{Whitespace, Frontmatter, Eof}
+use Rattle.rustc_lexer.specs.declared.token.TokenKind.TheVariants.{Whitespace, Frontmatter}
 use Rattle.rustc_lexer.specs.Classes.{is_among, is_whitespace, NextIsNot, bytes, next_is, IsText}
 use Rattle.rustc_lexer.specs.FrontmatterGrammar.{IsOpeningBefore, OpensNone, EndsAt}
 use Rattle.rustc_lexer.specs.Language.{IsTokenBefore}
@@ -53,8 +54,7 @@ front-puts u next front tokens at len =
 -- the parts of a text whose first token is as long as these characters
 front-parts : (u next : List ℕ) (front : Token) (tokens : List Token) → front.len ≡ bytes u
     → parts (encode_utf8_all (u ++ next)) (front ∷ tokens) ≡ (front.kind, if is_space front.kind then [] else encode_utf8_all u) ∷ parts (encode_utf8_all next) tokens
-front-parts u next front tokens len =
-    ap (λ (n : ℕ). parts (encode_utf8_all (u ++ next)) (record { kind = front.kind; len = n } ∷ tokens)) len ∙ parts-cons u next front.kind tokens
+front-parts u next front tokens len = grind (arith, common_steps, parts-cons)
 
 text-of : (cs : List ℕ) → scalars cs ≡ true → bytes cs < 2 ^ 32 → IsText (encode_utf8_all cs)
 text-of cs good fits = record { utf8 = (cs, (good, refl)); fits = fits }
@@ -158,19 +158,11 @@ opened-tidies {n} {front} {next} {tokens} body good fits is_opening is_end rest 
 
 -- a front that is no frontmatter is as in code
 solid-puts : (u : List ℕ) (kind : TokenKind) → is_front kind ≡ false → Puts front_in_order code_in_order kind u
-solid-puts u kind no_front left ts = ap (λ (b : Bool). if b then if_kept t text (take (bytes u) text ++ code_in_order (drop (bytes u) text) ts) else code_in_order text (t ∷ ts)) no_front ∙ code-cons u left kind ts
-  where
-    t : Token
-    t = record { kind = kind; len = bytes u }
-
-    text : List ℕ
-    text = encode_utf8_all (u ++ left)
+solid-puts u kind no_front left ts = grind (arith, common_steps, code-cons)
 
 -- past what is no white space a document goes on as a part
 past-solid : (kind : TokenKind) → is_space kind ≡ false → is_end kind ≡ false → mode_after (document E2024) kind ≡ part E2024
-past-solid Whitespace e f = absurd (true≢false e)
-past-solid Eof e f = absurd (true≢false f)
-past-solid kind e f = refl
+past-solid kind e f = grind (arith, common_steps)
 
 -- the kind of a token that is no run of white space
 kind-solid : {next : List ℕ} {kind : TokenKind} {c : ℕ} {w : List ℕ} → is_whitespace c ≡ false → IsTokenBefore next kind (c ∷ w) → is_solid_kind kind ≡ true
@@ -202,8 +194,7 @@ front-tidies : {mode : Mode} {cs : List ℕ} {tokens : List Token} → mode ≡ 
 front-tidies yes_is good fits stop (nothing) = record { out = []; outs = []; are = nothing; near = ends; is = refl; too = λ e. refl; same = refl; again = refl; last = refl; size = omega arith; good = λ e. e }
 front-tidies yes_is good fits stop (frontmatter_first {edition} body is_opening is_end rest) = opened-tidies body good fits is_opening is_end (in-newest {edition = edition} yes_is rest)
 front-tidies yes_is good fits stop (something {mode} {kind} {c} {w} {next} {tokens} is free rest) =
-    let p : IsTokenBefore next kind (c ∷ w) = on_page (ap mode_edition yes_is) is in
-    solid-front kind c w next tokens (kind-solid stop p) p (λ y. free (is_document yes_is)) (subst (λ (a : Mode). AreTokens (mode_after a kind) next tokens) yes_is rest)
+    grind (arith, common_steps, on_page, solid-front, kind-solid, is_document)
 
 -- ---- with white space first, or none
 
@@ -216,12 +207,10 @@ begins_space [] = false
 begins_space (p ∷ ps) = is_space p.0
 
 closed-begins : (ps : List (TokenKind × List ℕ)) → begins_space (parts_in_order ps) ≡ begins_space ps
-closed-begins [] = refl
-closed-begins (p ∷ ps) = refl
+closed-begins w0 = grind (arith, common_steps)
 
 front-source : (text : List ℕ) (tokens : List Token) → begins_space (parts text tokens) ≡ false → source_in_order text tokens ≡ front_in_order text tokens
-front-source text [] e = refl
-front-source text (t ∷ ts) e = ap (λ (b : Bool). if b then space_in_order (take t.len text) (is_last ts) ++ front_in_order (drop t.len text) ts else front_in_order text (t ∷ ts)) e
+front-source text w1 e = grind (arith, common_steps)
 
 as-source : (cs : List ℕ) (t : Token) (ts : List Token) → is_space t.kind ≡ false → Tidies front_in_order (document E2024) cs (t ∷ ts) → Tidies source_in_order (document E2024) cs (t ∷ ts)
 as-source cs t ts solid tidy = record {
@@ -241,8 +230,7 @@ as-source cs t ts solid tidy = record {
 source-tidies : {mode : Mode} {cs : List ℕ} {tokens : List Token} → mode ≡ document E2024 → scalars cs ≡ true → bytes cs + 1 < 2 ^ 32 → AreTokens mode cs tokens → Tidies source_in_order (document E2024) cs tokens
 source-tidies yes_is good fits (nothing) = record { out = []; outs = []; are = nothing; near = ends; is = refl; too = λ e. refl; same = refl; again = refl; last = refl; size = omega arith; good = λ e. e }
 source-tidies yes_is good fits (frontmatter_first {edition} {n} {opening = front} {next} {tokens} body is_opening is_end rest) =
-    as-source (front ++ (body ++ next)) (record { kind = Frontmatter (next_is is_whitespace front) (not (next_is (is_among (codes "\n")) (body ++ next))); len = bytes front + bytes body }) tokens refl
-    (opened-tidies body good fits is_opening is_end (in-newest {edition = edition} yes_is rest))
+    grind (arith, common_steps, as-source, opened-tidies, in-newest)
 source-tidies yes_is good fits (something {mode} {kind} {c} {w} {next} {tokens} is free rest) = elim (token-near (near-refl next) (λ o e. e) p) [
   | inl run ↦ spaced run
   | inr stays ↦ (let solid = stays.is_solid (omega arith) in as-source (c ∷ w ++ next) (record { kind = kind; len = bytes (c ∷ w) }) tokens (solid-no kind solid).0

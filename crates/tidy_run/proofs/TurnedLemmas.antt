@@ -1,5 +1,6 @@
 -- A token in order is a token of its kind still: a comment with unix line ends, and each other one as it is.
-use Rattle.std.proofs.Common.{◌≡◌, ℕ, ◌≤◌, ◌==◌, ◌⊎◌, inl, inr, not, Bool, true, false, true≢false, List, [], ◌∷◌, ◌++◌, length, get_or, drop, codes, refl, sym, ap, ◌∙◌, subst, arith, Option}
+use Rattle.std.proofs.Common.{◌≡◌, ℕ, ◌≤◌, ◌⊎◌, inl, inr, not, Bool, true, false, true≢false, List, ◌∷◌, ◌++◌, length, get_or, drop, codes, refl, sym, ap, ◌∙◌, subst, arith, Option}
+use Rattle.std.proofs.lemmas.Grind.{common_steps}
 use lib.Utf8.{scalars}
 use Rattle.std.proofs.lemmas.Bool.{cases_Bool, not-true}
 use Rattle.std.specs.Str.{encode_utf8_all}
@@ -38,9 +39,7 @@ is_comment (BlockComment style terminated) = true
 is_comment kind = false
 
 no_comment : (kind : TokenKind) → is_comment kind ≡ false → (text : List ℕ) → text_in_order kind text ≡ text
-no_comment (LineComment style) e text = absurd (true≢false e)
-no_comment (BlockComment style terminated) e text = absurd (true≢false e)
-no_comment kind e text = refl
+no_comment kind e text = grind (arith, common_steps)
 
 symbol-none : (c : ℕ) → is_comment (symbol_kind c) ≡ false
 symbol-none c = not-true _ (by_symbol (λ kind. not (is_comment kind)) symbols c refl refl)
@@ -53,8 +52,7 @@ comment-or other = inr (λ text. refl)
 
 -- what ends a line comment is a newline
 newline-after : (t : List ℕ) → NextIsNot is_inline t → (length t ≡ 0 → ⊥) → begins (codes "\n") t ≡ true
-newline-after [] stop some = absurd (some refl)
-newline-after (d ∷ t) stop some = elim (cases_Bool (d == 10)) [ inl e ↦ rw e refl | inr e ↦ absurd (true≢false (sym (ap not e) ∙ stop)) ]
+newline-after w0 stop some = grind (arith, common_steps, cases_Bool)
 
 unix-turned : (last : Bool) (w : List ℕ) → unix_lines last (encode_utf8_all (unix_lines last w)) ≡ encode_utf8_all (unix_lines last w)
 unix-turned last w = (unix-bytes last (unix_lines last w)).lines ∙ ap encode_utf8_all (without-again (is_return_before last) w)

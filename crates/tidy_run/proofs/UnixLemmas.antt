@@ -1,5 +1,6 @@
 -- Comments with unix line ends are comments still, stay, and are near what they were.
 use Rattle.std.proofs.Common.{◌≡◌, ℕ, suc, ◌<◌, ◌==◌, ◌&&◌, ◌||◌, inl, inr, not, Bool, true, false, true≢false, if◌then◌else◌, List, [], ◌∷◌, ◌++◌, length, get_or, length-append, codes, refl, sym, ap, ◌∙◌, subst, arith, append_assoc, Option}
+use Rattle.std.proofs.lemmas.Grind.{common_steps}
 use lib.Utf8.{scalar, scalars}
 use Rattle.std.proofs.lemmas.Bool.{and_parts, cases_Bool, eqb-true, ne_eqb, eq-eqb, not-true}
 use Rattle.std.proofs.lemmas.List.{append-nil}
@@ -8,7 +9,7 @@ use Rattle.std.specs.Char.{encode_utf8}
 use Rattle.std.specs.List.{list_all}
 use Rattle.std.specs.Str.{encode_utf8_all}
 use Rattle.rustc_lexer.specs.declared.token.DocStyle.{DocStyle}
-use Rattle.rustc_lexer.specs.Classes.{is_among, is_whitespace, begins, next_is}
+use Rattle.rustc_lexer.specs.Classes.{is_among, begins, next_is}
 use Rattle.rustc_lexer.specs.Language as the
 use Rattle.rustc_lexer.specs.Language.{IsStyle, IsCommentRest}
 use Rattle.tidy_run.specs.Order.{is_line_end, is_return_before, unix_lines, IsUnix}
@@ -20,27 +21,16 @@ use Rattle.tidy_run.proofs.OrderLemmas.{judge, without-all, without-again, past,
 -- the ends of lines stay
 pub unix-ends : (last : Bool) (w : List ℕ) → is_line_end last (unix_lines last w) ≡ is_line_end last w
 unix-ends last [] = refl
-unix-ends last (c ∷ w) = elim (judge (is_return_before last) c w) [
-  | inl d ↦ ap (is_line_end last) d.1 ∙ (unix-ends last w ∙ sym (ap (λ (x : ℕ). is_line_end last (x ∷ w)) (eqb-true c 13 (and_parts (c == 13) _ d.0).0)))
-  | inr k ↦ ap (is_line_end last) k.1 ∙ ap (λ (b : Bool). c == 10 || c == 13 && b) (unix-ends last w)
-]
+unix-ends last (c ∷ w) = grind (arith, common_steps, judge, eqb-true, and_parts, unix-ends last w)
 
 -- ---- what comes next
 
 -- before the end of a line is nothing of such a class
 none-next : (p : ℕ → Bool) → p 13 ≡ false → p 10 ≡ false → (last : Bool) (w : List ℕ) → is_line_end last w ≡ true → next_is p w ≡ false
-none-next p r n last [] e = refl
-none-next p r n last (c ∷ w) e = elim (cases_Bool (c == 10)) [
-  | inl f ↦ ap p (eqb-true c 10 f) ∙ n
-  | inr f ↦ ap p (eqb-true c 13 (and_parts (c == 13) (is_line_end last w) (sym (ap (λ (b : Bool). b || c == 13 && is_line_end last w) f) ∙ e)).0) ∙ r
-]
+none-next p r n last w4 e = grind (arith, common_steps, cases_Bool, eqb-true, and_parts)
 
 pub unix-next : (p : ℕ → Bool) → p 13 ≡ false → p 10 ≡ false → (last : Bool) (w : List ℕ) → next_is p (unix_lines last w) ≡ next_is p w
-unix-next p r n last [] = refl
-unix-next p r n last (c ∷ w) = elim (judge (is_return_before last) c w) [
-  | inl d ↦ (let both = and_parts (c == 13) (is_line_end last (unix_lines last w)) d.0 in ap (next_is p) d.1 ∙ (none-next p r n last (unix_lines last w) both.1 ∙ sym (ap p (eqb-true c 13 both.0) ∙ r)))
-  | inr k ↦ ap (next_is p) k.1
-]
+unix-next p r n last w4 = grind (arith, common_steps, judge, and_parts, none-next, eqb-true)
 
 -- ---- comments
 
@@ -62,21 +52,12 @@ rest-append (the.closing) w = refl
 rest-append (the.nested {v} {w = u} a b) w =
     ap (λ (xs : List ℕ). 47 ∷ 42 ∷ xs) (ap (unix_lines false) (append_assoc v u w) ∙ (rest-append a (u ++ w) ∙ (ap (λ (xs : List ℕ). unix_lines false v ++ xs) (rest-append b w)
     ∙ (sym (append_assoc (unix_lines false v) (unix_lines false u) (unix_lines false w)) ∙ ap (λ (xs : List ℕ). xs ++ unix_lines false w) (sym (rest-append a u))))))
-rest-append (the.other {c} {w = v} e f is) w = ap (λ (b : Bool). if c == 13 && b then unix_lines false (v ++ w) else c ∷ unix_lines false (v ++ w)) (unix-ends false (v ++ w) ∙ (rest-ends is w ∙ sym (unix-ends false v))) ∙ elim (cases_Bool (c == 13 && is_line_end false (unix_lines false v))) [
-  | inl g ↦ rw g (rest-append is w)
-  | inr g ↦ rw g (ap (λ (xs : List ℕ). c ∷ xs) (rest-append is w))
-]
+rest-append (the.other {c} {w = v} e f is) w = grind (arith, common_steps, unix-ends, rest-ends, cases_Bool,
+    rest-append is w)
 
 -- a mark of two characters begins where it began
 unix-mark : (d f : ℕ) (c : ℕ) (w : List ℕ) → (f == 13) ≡ false → (f == 10) ≡ false → begins (d ∷ f ∷ []) (c ∷ w) ≡ false → begins (d ∷ f ∷ []) (c ∷ unix_lines false w) ≡ false
-unix-mark d f c w r n e = ap (λ (b : Bool). c == d && b) (one-next (unix_lines false w) ∙ (unix-next (λ x. x == f) (sym-false 13 r) (sym-false 10 n) false w ∙ sym (one-next w))) ∙ e
-  where
-    one-next : (xs : List ℕ) → begins (f ∷ []) xs ≡ next_is (λ x. x == f) xs
-    one-next [] = refl
-    one-next (x ∷ xs) = elim (cases_Bool (x == f)) [ inl g ↦ rw g refl | inr g ↦ rw g refl ]
-
-    sym-false : (x : ℕ) → (f == x) ≡ false → (x == f) ≡ false
-    sym-false x g = ne_eqb x f (λ same. true≢false (sym (eq-eqb f x (sym same)) ∙ g))
+unix-mark d f c w r n e = grind (arith, common_steps, unix-next, cases_Bool, ne_eqb, eq-eqb)
 
 pub unix-rest : {w : List ℕ} → IsCommentRest w → IsCommentRest (unix_lines false w)
 unix-rest (the.closing) = the.closing
@@ -97,10 +78,7 @@ newline-here last (c ∷ w) t stays e end = elim (cases_Bool (c == 10)) [
 ]
 
 near-newline-first : (c : ℕ) (s r : List ℕ) → (c == 13) ≡ true → begins (codes "\n") r ≡ true → Near (c ∷ s) r
-near-newline-first c s [] e f = absurd (true≢false (sym f))
-near-newline-first c s (d ∷ r) e f =
-    let at = eqb-true c 13 e in
-    space (ap is_whitespace at) (ap is_whitespace (eqb-true d 10 (and_parts (d == 10) true f).0)) (λ g. absurd (true≢false (sym g ∙ ap (λ (x : ℕ). x == 10) at)))
+near-newline-first c s w2 e f = grind (arith, common_steps, eqb-true, space, and_parts)
 
 pub unix-near : (last : Bool) (w : List ℕ) {s t : List ℕ} → Near s t → (last ≡ true → begins (codes "\n") t ≡ true) → Near (w ++ s) (unix_lines last w ++ t)
 unix-near last [] near end = near
@@ -113,8 +91,7 @@ unix-near last (c ∷ w) {s} {t} near end = elim (judge (is_return_before last) 
 -- ---- bytes
 
 scalars-all : (w : List ℕ) → scalars w ≡ list_all scalar w
-scalars-all [] = refl
-scalars-all (c ∷ w) = ap (λ (b : Bool). scalar c && b) (scalars-all w)
+scalars-all w0 = grind (arith, common_steps)
 
 pub unix-scalars : (last : Bool) (w : List ℕ) → scalars w ≡ true → scalars (unix_lines last w) ≡ true
 unix-scalars last w e = scalars-all (unix_lines last w) ∙ without-all (is_return_before last) scalar w (sym (scalars-all w) ∙ e)
@@ -138,16 +115,11 @@ text-bytes c n r = all-text (encode_utf8 c) each
 
 text-past : (last : Bool) (bs x : List ℕ) → list_all is_text bs ≡ true → unix_lines last (bs ++ x) ≡ bs ++ unix_lines last x
 text-past last [] x all = refl
-text-past last (b ∷ bs) x all =
-    let parts = and_parts (is_text b) (list_all is_text bs) all in
-    let no = and_parts (not (b == 10)) (not (b == 13)) parts.0 in
-    rw (not-true (b == 13) no.1) (ap (λ (ys : List ℕ). b ∷ ys) (text-past last bs x parts.1))
+text-past last (b ∷ bs) x all = grind (arith, common_steps, and_parts, not-true, text-past last bs x)
 
 text-no_end : (last : Bool) (bs x : List ℕ) → 0 < length bs → list_all is_text bs ≡ true → is_line_end last (bs ++ x) ≡ false
 text-no_end last [] x some all = absurd (omega arith)
-text-no_end last (b ∷ bs) x some all =
-    let no = and_parts (not (b == 10)) (not (b == 13)) (and_parts (is_text b) (list_all is_text bs) all).0 in
-    rw (not-true (b == 10) no.0, not-true (b == 13) no.1) refl
+text-no_end last (b ∷ bs) x some all = grind (arith, common_steps, and_parts, not-true)
 
 pub newline-byte : encode_utf8 10 ≡ 10 ∷ []
 unfolding encode_utf8
@@ -198,7 +170,4 @@ unix-bytes last (c ∷ w) = elim (cases_Bool (c == 10)) [
 -- ---- in the words of the subject
 
 pub unix_lines_are : (last : Bool) (w : List ℕ) → IsUnix last (unix_lines last w)
-unix_lines_are last w = record {
-  no_return = λ u v e. true≢false (none-dropped (is_return_before last) w u (10 ∷ v) 13 e);
-  no_last = λ yes u e. true≢false (sym yes ∙ none-dropped (is_return_before last) w u [] 13 e);
-}
+unix_lines_are last w = grind (arith, common_steps, none-dropped)

@@ -6,17 +6,11 @@ use Rattle.lexdump_run.specs.Listing.{listing, listing_from}
 use Rattle.lexdump_run.proofs.ListingLemmas.{none_left, room_fits, room-split}
 use Rattle.lexdump_run.proofs.PushLemmas.{went_none, went_first, went_all, pushes_stopped}
 use Rattle.lexdump_run.proofs.listing.list_tokens.Goals as goal
+use Rattle.std.proofs.lemmas.Grind.{common_steps}
 
 pub left-init : goal.left-init
-left-init g c =
-    let whole = ap (λ (s : State). length s.rest) c.tokenize_as-tokens.ensures.state in
-    let none : length c.args.text.now - length c.tokenize_as-tokens.result.rest ≡ 0 = omega (arith, whole) in
-    record {
-      sound = c.requires.writes;
-      within = omega (arith, whole);
-      lines = went_none (g.W.Write.contents c.args.output.now.inner) c.args.lines.now (listing (tokens_of (mode_in c.args.frontmatter_allowed c.args.edition) c.args.text.now)) _
-          (ap (listing_from _) c.tokenize_as-tokens.ensures.tokens ∙ ap (λ n. listing_from n (tokens_of (mode_in c.args.frontmatter_allowed c.args.edition) c.args.text.now)) none);
-    }
+left-init g c = grind (arith, common_steps, went_none, c.tokenize_as-tokens.ensures.state, c.requires.writes,
+    c.tokenize_as-tokens.ensures.tokens)
 
 pub push_lines-requires-clause-fits : goal.push_lines-requires-clause-fits
 push_lines-requires-clause-fits g c =
@@ -38,6 +32,5 @@ returns-in_err-push_lines-clause-pushed g c =
     c.in_err-push_lines.ensures.pushed c.from_residual.ensures.1
 
 pub returns-clause-pushed : goal.returns-clause-pushed
-returns-clause-pushed g c =
-    let none : length c.as_str.result.now ≡ 0 = search rules in
-    went_all _ _ _ _ _ c.left.invariant.lines (ap (listing_from _) (none_left c.left.tokens (ap length (sym c.as_str.ensures.rest) ∙ none)))
+returns-clause-pushed g c = grind (arith, common_steps, rules, went_all, none_left, c.left.invariant.lines,
+    c.as_str.ensures.rest)
