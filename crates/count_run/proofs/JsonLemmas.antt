@@ -1,5 +1,5 @@
 -- The tokens of a report, and its JSON text.
-use Rattle.std.proofs.Common.{◌≡◌, ℕ, ◌≤◌, List, [], ◌∷◌, ◌++◌, Bool, true, false, ap, ◌∙◌, sym, refl, codes, decimal, Some, option_and_then, append_assoc, append-nil, arith}
+use Rattle.std.proofs.Common.{◌≡◌, ℕ, ◌≤◌, List, [], ◌∷◌, ◌++◌, Bool, ap, ◌∙◌, sym, codes, decimal, Some, option_and_then, append_assoc, append-nil, arith}
 use Rattle.std.proofs.Math.Nat.{max-le}
 use Rattle.json.specs.Json.{Json, document, if_last, value, max_depth}
 use Rattle.json.specs.Lex.{tokens}
@@ -9,7 +9,7 @@ use Rattle.json.specs.Tree.{json_tokens, members_tokens, depth, items_depth}
 use Rattle.json.proofs.Printed.Trees.{value-json_tokens}
 use Rattle.count_run.specs.declared.report.FileCounts.{FileCounts}
 use Rattle.count_run.specs.declared.report.Report.{Report}
-use Rattle.count_run.specs.Json.{file_object, file_objects, files_member, listed_tokens, numbers, report_object, total_member}
+use Rattle.count_run.specs.Json.{file_object, file_objects, listed_tokens, numbers, report_object}
 use Rattle.std.proofs.lemmas.Grind.{common_steps}
 
 -- a token, and those after it
@@ -41,7 +41,7 @@ files-depth (file ∷ files) = max-le (file-depth file) (files-depth files)
 
 report-depth : (by_file : Bool) (report : Report) → depth (report_object by_file report) ≤ max_depth
 unfolding report_object numbers
-report-depth w0 report = grind (arith, common_steps, files-depth)
+report-depth by_file report = grind (arith, common_steps, files-depth)
 
 -- a text of these tokens is the report
 pub report-reads_back : (by_file : Bool) (report : Report) (old ts : List Token) → old ≡ [] → ts ≡ old ++ json_tokens (report_object by_file report) → tokens (print ts) ≡ ts

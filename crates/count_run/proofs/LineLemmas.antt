@@ -1,5 +1,5 @@
 -- A counter that went through a text has counted its lines.
-use Rattle.std.proofs.Common.{◌≡◌, ℕ, suc, ◌+◌, ◌<◌, ◌==◌, ◌||◌, Bool, true, false, cond, if◌then◌else◌, List, [], ◌∷◌, ◌++◌, length, map, take, drop, refl, sym, ap, ◌∙◌, arith, length-drop}
+use Rattle.std.proofs.Common.{◌≡◌, ℕ, suc, ◌+◌, ◌<◌, ◌==◌, ◌||◌, Bool, true, false, cond, if◌then◌else◌, List, [], ◌∷◌, ◌++◌, length, map, take, drop, refl, ap, ◌∙◌, arith, length-drop}
 use Rattle.std.proofs.lemmas.Grind.{common_steps}
 use Rattle.std.specs.List.{count_by, slice_split, onto_first}
 use Rattle.std.specs.Str.Lines.{lines, lines_of_parts}
@@ -14,7 +14,7 @@ use Rattle.count_run.specs.declared.lines.Counter.{Counter}
 use Rattle.count_run.specs.declared.lines.Line.{Line}
 use Rattle.count_run.specs.declared.lines.LineCounts.{LineCounts}
 use Rattle.count_run.specs.Counter.{no_line, with_class, counted, start, after_byte, after_bytes, finished}
-use Rattle.count_run.specs.Lines.{Mark, mark, class_of, byte_of, token_marks, source_marks, shebang_len, marks, onto_line, split_lines, is_code, is_doc, is_comment, line_of, lines_of, counts_as_code, counts_as_doc, counts_as_comment, counts_as_blank, has_code_and_doc, has_code_and_comment, has_doc_and_comment, counts_of, line_counts, lines_counted}
+use Rattle.count_run.specs.Lines.{Mark, mark, class_of, byte_of, token_marks, source_marks, shebang_len, marks, onto_line, split_lines, line_of, counts_as_code, counts_as_doc, counts_as_comment, counts_as_blank, has_code_and_doc, has_code_and_comment, has_doc_and_comment, counts_of, line_counts, lines_counted}
 use Rattle.count_run.specs.Report.{no_counts}
 
 pub after_bytes-append : (c : Counter) (xs ys : List Mark) → after_bytes c (xs ++ ys) ≡ after_bytes (after_bytes c xs) ys
@@ -84,7 +84,7 @@ left k o (line ∷ others) = joined k (line_of line) ∷ map line_of others
 
 -- no line goes on
 left-fresh : (parts : List (List Mark)) → left no_line false parts ≡ map line_of parts
-left-fresh w0 = grind (arith, common_steps)
+left-fresh parts = grind (arith, common_steps)
 
 -- the line ends
 left-ends : (k : Line) (o : Bool) (m : Mark) (parts : List (List Mark)) → with_class k m.class ∷ left no_line false parts ≡ left k o ((m ∷ []) ∷ parts)
@@ -92,7 +92,7 @@ left-ends k o m parts = ap (λ (l : Line). l ∷ left no_line false parts) (with
 
 -- the line goes on
 left-goes : (k : Line) (o : Bool) (m : Mark) (parts : List (List Mark)) → left (with_class k m.class) true parts ≡ left k o (onto_line m parts)
-left-goes k o m w3 = grind (arith, common_steps, with_class-one, with_class-more)
+left-goes k o m parts = grind (arith, common_steps, with_class-one, with_class-more)
 
 finished-left : (c : Counter) (ms : List Mark) → finished (after_bytes c ms) ≡ tally c.counts (left c.line c.is_open (split_lines ms))
 finished-left c [] = grind (arith, common_steps)
@@ -129,10 +129,10 @@ sum-lines (l ∷ ls) = omega (
 
 length-goes : (m : Mark) (b : ℕ) (pieces : List (List ℕ)) (parts : List (List Mark)) → 0 < length pieces → length (lines_of_parts pieces) ≡ length parts
     → length (lines_of_parts (onto_first b pieces)) ≡ length (onto_line m parts)
-length-goes m b w2 parts some same = grind (arith, common_steps)
+length-goes m b pieces parts some same = grind (arith, common_steps)
 
 length-ends : (pieces : List (List ℕ)) → 0 < length pieces → length (lines_of_parts ([] ∷ pieces)) ≡ suc (length (lines_of_parts pieces))
-length-ends w0 some = grind (arith, common_steps)
+length-ends pieces some = grind (arith, common_steps)
 
 some_piece : (bs : List ℕ) → 0 < length (slice_split (λ b. b == 10) bs)
 some_piece bs = omega (arith, length-slice_split (λ b. b == 10) bs)
@@ -150,7 +150,7 @@ bytes-first : (class : Class) (bs : List ℕ) (ms : List Mark) → map byte_of (
 bytes-first class bs ms = map-append byte_of (map (mark class) bs) ms ∙ ap (λ xs. xs ++ map byte_of ms) (bytes-mark class bs)
 
 none_left : (bs : List ℕ) → 0 ≡ length bs → [] ≡ bs
-none_left w0 e = grind (arith, common_steps)
+none_left bs e = grind (arith, common_steps)
 
 pub bytes-token_marks : (tokens : List Token) (text : List ℕ) → bound tokens (length tokens) ≡ length text → map byte_of (token_marks text tokens) ≡ text
 bytes-token_marks [] text whole = none_left text whole

@@ -1,20 +1,17 @@
 -- An outcome takes sources one by one.
-use Rattle.std.proofs.Common.{◌≡◌, ℕ, List, [], ◌∷◌, ◌++◌, refl, sym, ap, ◌∙◌, Result, Ok, Err, IfOk, IfErr, String, Vec, subst, append-nil, arith}
+use Rattle.std.proofs.Common.{◌≡◌, ℕ, List, [], ◌∷◌, ◌++◌, refl, sym, ap, ◌∙◌, Result, Ok, Err, IfOk, IfErr, String, Vec, append-nil, arith}
 use Rattle.std.proofs.lemmas.Grind.{common_steps}
 use Rattle.std.specs.Global.{Global}
 use Rattle.std.specs.List.{All}
 use Rattle.std.proofs.lemmas.List.Elements.{All-cons, All-nil}
 use Rattle.std.proofs.lemmas.List.Sums.{fold-append}
 use Rattle.sources.specs.declared.fault.Fault.{Fault}
-use Rattle.sources.specs.declared.fault.Fault.TheVariants.{Memory, Source}
 use Rattle.sources.specs.declared.fault.PathFault.{PathFault}
-use Rattle.sources.specs.declared.fault.Reason.TheVariants.{NotUtf8, TooLong, Changed, NoFile, Read, System}
 use Rattle.sources.specs.Outcomes.{Sources, passed_over, source, IsOfSource}
 use Rattle.sources.specs.Reasons.{IsSystemFault}
 use Rattle.sources.proofs.OutcomesLemmas.{taken_more, taken_none, Taken}
 use Rattle.sources.proofs.ReasonLemmas.{no_text_reason}
 use Rattle.count_run.specs.declared.lines.LineCounts.{LineCounts}
-use Rattle.count_run.specs.declared.report.FileCounts.{FileCounts}
 use Rattle.count_run.specs.declared.run.Outcome.{Outcome}
 use Rattle.count_run.specs.Outcome.{counted, IsCountOf, IsCounted}
 use Rattle.count_run.specs.Report.{no_counts, sums, total_of}
@@ -38,11 +35,11 @@ total-source : (old new : Outcome) (path : String Global) (came : Result LineCou
     → IfOk came (λ counts. new.report.total ≡ sums old.report.total counts)
     → IfErr came (λ _. new.report.total ≡ old.report.total)
     → new.report.total ≡ total_of new.report.files.items
-total-source old new path w3 is total files more same = grind (arith, common_steps, fold-append, append-nil)
+total-source old new path came is total files more same = grind (arith, common_steps, fold-append, append-nil)
 
 -- what comes of a file that was read, or could not be
 came-counted : (path : String Global) (read : Result (Vec ℕ Global) Fault) (came : Result LineCounts Fault) → IfErr read IsSystemFault → IsCountOf read came → All IsCounted (source path came)
-came-counted path w1 came other is = grind (arith, common_steps, All-cons, All-nil, no_text_reason)
+came-counted path read came other is = grind (arith, common_steps, All-cons, All-nil, no_text_reason)
 
 pub counted-none : (paths left : List (String Global)) (faults : List PathFault) (outcome : Outcome) → left ≡ paths → outcome.report.files.items ≡ [] → outcome.report.total ≡ no_counts → outcome.faults.items ≡ faults
     → Counted paths faults left outcome

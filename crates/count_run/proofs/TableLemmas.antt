@@ -1,5 +1,5 @@
 -- The text of a row, as it is put together.
-use Rattle.std.proofs.Common.{◌≡◌, ℕ, zero, suc, ◌-◌, ◌^◌, List, [], ◌∷◌, ◌++◌, length, replicate, refl, ap, ◌∙◌, codes, decimal, Result, Ok, Err, is_ok, if◌then◌else◌, Bool, true, false, ◌&&◌, ◌==◌, eqb-true, OnOk, append_assoc, append-nil, arith}
+use Rattle.std.proofs.Common.{◌≡◌, ℕ, zero, suc, ◌-◌, ◌^◌, List, [], ◌∷◌, ◌++◌, length, replicate, refl, ap, codes, decimal, Result, is_ok, if◌then◌else◌, Bool, true, false, ◌&&◌, ◌==◌, eqb-true, OnOk, append_assoc, append-nil, arith}
 use Rattle.std.proofs.lemmas.Grind.{common_steps}
 use Rattle.std.specs.Fmt.{char_count, format_spec, padded_integral, styled_decimal}
 use Rattle.std.specs.Char.{encode_utf8}
@@ -20,7 +20,7 @@ unfolding at_right padded_integral char_count encode_utf8
 padded-at_right width n = grind (arith, common_steps, filled)
 
 bare : (b : Bool) (x y z : List ℕ) → (b ≡ true → x ≡ z) → y ≡ z → (if (b && true) && true then x else y) ≡ z
-bare w0 x y z whole other = grind (arith, common_steps)
+bare b x y z whole other = grind (arith, common_steps)
 
 none-before : (width n : ℕ) → (width == 0) ≡ true → 0 ≡ width - n
 none-before width n none = let e : width ≡ 0 = eqb-true width 0 none in omega arith
@@ -34,7 +34,7 @@ pub text-at_right : (width n : ℕ) → styled_decimal (format_spec 32 3 0 width
 text-at_right width n = grind (arith, common_steps, bare, whole-at_right, padded-at_right)
 
 pub pushed : {E : Type 0} (r : Result (Unit {0}) E) (new old text other : List ℕ) → new ≡ (if is_ok r then old ++ text else old) → text ≡ other → OnOk r (new ≡ old ++ other)
-pushed w0 new old text other is same = grind (arith, common_steps)
+pushed r new old text other is same = grind (arith, common_steps)
 
 regroup : (a b c d e : List ℕ) → (((a ++ b) ++ c) ++ d) ++ e ≡ a ++ (b ++ (c ++ (d ++ e)))
 regroup a b c d e = simp append_assoc
@@ -43,4 +43,4 @@ pub row-pushed : {E : Type 0} (r : Result (Unit {0}) E) (first second third four
     → cols ≡ columns counts → second ≡ first ++ cells cols → third ≡ second ++ codes "  " → fourth ≡ third ++ name
     → last ≡ (if is_ok r then fourth ++ codes "\n" else fourth) → OnOk r (last ≡ first ++ row name counts)
 unfolding row
-row-pushed w0 first second third fourth last name cols counts is a b c d = grind (arith, common_steps, regroup)
+row-pushed r first second third fourth last name cols counts is a b c d = grind (arith, common_steps, regroup)

@@ -1,4 +1,4 @@
-use Rattle.std.proofs.Common.{◌≡◌, ap, map, take, drop, ◌∙◌, sym, arith}
+use Rattle.std.proofs.Common.{◌≡◌, ap, map, drop, ◌∙◌, sym, arith}
 use Rattle.count_run.specs.declared.lines.LineCounts.{LineCounts}
 use Rattle.count_run.specs.Lines.{byte_of, source_marks, shebang_len, lines_counted}
 use Rattle.count_run.proofs.LineLemmas.{document_counts, bytes-marks, lines-counted}

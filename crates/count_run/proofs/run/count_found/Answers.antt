@@ -1,5 +1,4 @@
-use Rattle.std.specs.Vec.Iter.{into_iter_items}
-use Rattle.std.proofs.Common.{◌≡◌, refl, arith}
+use Rattle.std.proofs.Common.{arith}
 use Rattle.count_run.proofs.OutcomeLemmas.{counted-none, counted-step}
 use Rattle.count_run.proofs.run.count_found.Goals as goal
 use Rattle.std.proofs.lemmas.Grind.{common_steps}
