@@ -1,16 +1,16 @@
 -- The words of a job.
-use Rattle.std.proofs.Common.{◌≡◌, ◌↔◌, true≢false, ℕ, ◌<◌, ◌≤◌, ◌^◌, ◌&&◌, ◌≢◌, Bool, true, false, List, [], ◌∷◌, ◌++◌, length, get_or, append_assoc, rules, refl, sym, ap, ◌∙◌, arith, Option, Some, None, Result, Ok, Err}
+use Rattle.std.proofs.Common.{◌≡◌, ◌↔◌, true≢false, ℕ, ◌<◌, ◌≤◌, ◌≢◌, Bool, true, false, List, [], ◌∷◌, ◌++◌, length, get_or, append_assoc, rules, refl, sym, ap, ◌∙◌, arith, Option, Some, None, Result}
 use Rattle.std.proofs.lemmas.Grind.{common_steps}
 use Rattle.std.specs.Bool.{IsTrue}
-use Rattle.std.specs.Prelude.{nat_le, is_some, unwrap_or, IsSome}
+use Rattle.std.specs.Prelude.{is_some, IsSome}
 use Rattle.std.specs.Option.{option_map, option_zip}
-use Rattle.std.specs.Result.{result_ok, OkIff}
+use Rattle.std.specs.Result.{result_ok}
 use Rattle.std.specs.Str.{all_ascii_digits}
 use Rattle.std.specs.Str.Parse.{ParsesUnsigned}
 use Rattle.std.proofs.lemmas.Bool.Decides.{nat_tests}
 use Rattle.std.proofs.lemmas.Str.Parse.{IsNumeralModel, numerals_by_fold, tells_all_ascii_digits, parse_plain}
 use Rattle.rustc_lexer.specs.declared.edition.Edition.{Edition}
-use Rattle.lexdump_run.specs.Job.{edit, edit_job, AsksEdits, Replacement, number_after, number_of, place_of, replacement_of, replacements_of, first_replacement}
+use Rattle.lexdump_run.specs.Job.{edit, edit_job, AsksEdits, Replacement, number_after, number_of, place_of, replacements_of, first_replacement}
 
 numbers : IsNumeralModel (λ ds. all_ascii_digits ds ≡ true) number_of
 numbers = numerals_by_fold _ tells_all_ascii_digits number_after (search rules)
@@ -30,14 +30,14 @@ Pair = Replacement × List (List ℕ)
 -- what follows from the edit of the first three words
 by_first : (e : Replacement) (words after : List (List ℕ)) (o : Option Replacement) (r : Option (List Replacement)) → (let p : Option Pair = Some (e, after) in p ≡ option_map (λ (edit : Replacement). let q : Pair = (edit, words) in q) o)
     → (after ≡ words) × (option_map (λ (edits : Replacement × List Replacement). edits.0 ∷ edits.1) (option_zip o r) ≡ option_map (λ edits. e ∷ edits) r)
-by_first e words after w3 r h = grind (arith, common_steps)
+by_first e words after o r h = grind (arith, common_steps)
 
 -- where three words write an edit, it is the first of the edits
 pub replacements-first : (e : Replacement) (words after : List (List ℕ)) → FirstIs words e after → replacements_of words ≡ option_map (λ edits. e ∷ edits) (replacements_of after)
-replacements-first e w1 after h = grind (arith, common_steps, by_first)
+replacements-first e words after h = grind (arith, common_steps, by_first)
 
 pub length-after : (e : Replacement) (words after : List (List ℕ)) → FirstIs words e after → length after < length words
-length-after e w1 after h = grind (arith, common_steps, by_first)
+length-after e words after h = grind (arith, common_steps, by_first)
 
 -- the words are edits if those after the first edit are
 pub some-after : (e : Replacement) (words after : List (List ℕ)) → FirstIs words e after → is_some (replacements_of words) ≡ is_some (replacements_of after)

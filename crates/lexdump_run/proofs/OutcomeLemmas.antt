@@ -1,18 +1,17 @@
 -- How a run ends, by what was read and what was listed.
-use Rattle.std.proofs.Common.{◌≡◌, ◌≢◌, ℕ, ◌<◌, ◌^◌, List, [], ◌++◌, length, refl, sym, ap, arith, subst, Option, Some, None, Result, Ok, Err}
+use Rattle.std.proofs.Common.{◌≡◌, ◌≢◌, ℕ, ◌<◌, ◌^◌, List, [], ◌++◌, length, sym, ap, arith, subst, Option, Result, Ok, Err}
 use Rattle.std.proofs.lemmas.Grind.{common_steps}
 use Rattle.std.specs.Prelude.{IfSome, IfErr, OnOk, OnErr}
 use Rattle.std.specs.Str.{IsUtf8}
 use Rattle.std.specs.Io.KnownBytes.{Appends, Keeps}
 use Rattle.ends.specs.declared.reading.ReadStop.{ReadStop}
-use Rattle.ends.specs.declared.reading.ReadStop.TheVariants.{TooLong as TooLongRead, Memory as MemoryRead, Failed}
 use Rattle.ends.specs.Known.{AppendsFront, Went}
 use Rattle.ends.specs.Reading.{EndsReading}
 use Rattle.ends.proofs.KnownLemmas.{appends-more, front_more, keeps_same}
 use Rattle.rustc_lexer.specs.Classes.{IsText}
 use Rattle.lexdump_run.specs.Fault.{read_fault}
 use Rattle.lexdump_run.specs.declared.fault.Fault.{Fault}
-use Rattle.lexdump_run.specs.declared.fault.Fault.TheVariants.{Arguments, NotUtf8, TooLong, EditRange, EditTooLong, Memory, Read, Write}
+use Rattle.lexdump_run.specs.declared.fault.Fault.TheVariants.{Write}
 use Rattle.lexdump_run.specs.declared.job.Job.{Job}
 use Rattle.lexdump_run.specs.Outcome.{Ends}
 use Rattle.lexdump_run.specs.Pushed.{Lists}
@@ -22,15 +21,15 @@ is_text read cut text e f utf8 fits = record { utf8 = subst IsUtf8 (sym f) utf8;
 
 -- reading stopped
 pub ends_unread : (job : Job) (known old : Option (List ℕ)) (stop : ReadStop) → EndsReading known (Err stop) → IfSome known (λ bytes. Ends job bytes old old (Err (read_fault stop)))
-ends_unread job w1 old stop ends = grind (arith, common_steps, keeps_same)
+ends_unread job known old stop ends = grind (arith, common_steps, keeps_same)
 
 module _ (job : Job) (text : List ℕ) (old mid : Option (List ℕ)) (held left : List ℕ) where
   -- listing stopped
   pub ends_unlisted : (fault : Fault) → held ≡ [] → Lists job text old mid held left (Err fault) → IsText text → Ends job text old mid (Err fault)
-  ends_unlisted w0 none p is = grind (arith, common_steps)
+  ends_unlisted fault none p is = grind (arith, common_steps)
 
   pub silent_unlisted : (fault : Fault) → Lists job text old mid held left (Err fault) → fault ≢ Write → Keeps old mid
-  silent_unlisted w0 p other = grind (arith, common_steps)
+  silent_unlisted fault p other = grind (arith, common_steps)
 
   -- all was listed, and what is held is written at the end
   pub ends_listed : (new : Option (List ℕ)) (result : Result (Unit {0}) Fault) → held ≡ [] → IsText text → Lists job text old mid held left (Ok tt)

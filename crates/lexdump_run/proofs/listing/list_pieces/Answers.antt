@@ -1,4 +1,4 @@
-use Rattle.std.proofs.Common.{ap, ◌∙◌, arith}
+use Rattle.std.proofs.Common.{ap, arith}
 use Rattle.lexdump_run.specs.Listing.{listing}
 use Rattle.lexdump_run.proofs.ListingLemmas.{lines, lines-from}
 use Rattle.lexdump_run.proofs.PushLemmas.{went_none, went_first, went_all, pushes_stopped}

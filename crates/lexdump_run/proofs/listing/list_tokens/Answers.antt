@@ -1,8 +1,7 @@
-use Rattle.std.proofs.Common.{◌≡◌, ◌-◌, length, refl, sym, ap, ◌∙◌, rules, arith, length-drop}
-use Rattle.rustc_lexer.specs.State.{State}
+use Rattle.std.proofs.Common.{◌-◌, length, refl, ap, rules, arith, length-drop}
 use Rattle.rustc_lexer.specs.LanguageText.{mode_in}
 use Rattle.rustc_lexer.specs.Tokens.{bound, tokens_left, tokens_of}
-use Rattle.lexdump_run.specs.Listing.{listing, listing_from}
+use Rattle.lexdump_run.specs.Listing.{listing}
 use Rattle.lexdump_run.proofs.ListingLemmas.{none_left, room_fits, room-split}
 use Rattle.lexdump_run.proofs.PushLemmas.{went_none, went_first, went_all, pushes_stopped}
 use Rattle.lexdump_run.proofs.listing.list_tokens.Goals as goal

@@ -1,4 +1,4 @@
-use Rattle.std.proofs.Common.{◌++◌, List, ℕ, refl, ap, ◌∙◌, Result, Ok, Err, OnErr, arith}
+use Rattle.std.proofs.Common.{◌++◌, List, ℕ, refl, ap, ◌∙◌, Result, OnErr, arith}
 use Rattle.lexdump_run.specs.Fault.{number_text}
 use Rattle.ends.proofs.KnownLemmas.{front_first, front_more, front_last}
 use Rattle.std.proofs.lemmas.Grind.{common_steps}
@@ -6,7 +6,7 @@ use Rattle.std.proofs.lemmas.Result.{on_err_weaker}
 use Rattle.lexdump_run.proofs.report.tell.Goals as goal
 
 on_err : {T E P : Type 0} (result : Result T E) → P → OnErr result P
-on_err w0 p = grind (arith, common_steps)
+on_err result p = grind (arith, common_steps)
 
 pub returns-in_err-write_bytes-clause-err : goal.returns-in_err-write_bytes-clause-err
 returns-in_err-write_bytes-clause-err g c =
