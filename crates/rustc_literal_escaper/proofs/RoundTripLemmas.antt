@@ -12,7 +12,7 @@ use Rattle.std.proofs.lemmas.Grind.{common_steps}
 use Rattle.rustc_literal_escaper.specs.declared.element.Element.{Element}
 use Rattle.rustc_literal_escaper.specs.declared.element.Element.TheVariants.{Byte, Plain, Unicode}
 use Rattle.rustc_literal_escaper.specs.declared.error.EscapeError.{EscapeError}
-use Rattle.rustc_literal_escaper.specs.Elements.{front, one, StartsWithOne}
+use Rattle.rustc_literal_escaper.specs.Elements.{front, StartsWithOne}
 use Rattle.rustc_literal_escaper.specs.Escape.{braced, escape, hex, is_hex}
 use Rattle.rustc_literal_escaper.specs.Meaning.{char_of, scalar_of}
 use Rattle.rustc_literal_escaper.specs.RoundTrip.{CharComesBack}

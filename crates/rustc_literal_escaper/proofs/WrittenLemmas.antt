@@ -1,5 +1,5 @@
 -- What is written of characters and bytes, read between double quotes.
-use Rattle.std.proofs.Common.{Bool, ◌≡◌, ℕ, suc, ◌+◌, ◌<◌, ◌==◌, true, false, List, [], ◌∷◌, ◌++◌, length, map, Result, Ok, refl, sym, ap, ◌∙◌, arith, get_or, length-append}
+use Rattle.std.proofs.Common.{Bool, ◌≡◌, ℕ, suc, ◌<◌, ◌==◌, true, false, List, [], ◌∷◌, ◌++◌, length, map, Result, Ok, refl, sym, ap, ◌∙◌, arith, get_or, length-append}
 use Rattle.std.specs.Char.{is_ascii, IsScalar}
 use Rattle.std.specs.Char.Escape.{escape_ascii, escape_default}
 use Rattle.std.specs.List.{AllByRecursion, flat_map, list_all, list_any, slice_index}

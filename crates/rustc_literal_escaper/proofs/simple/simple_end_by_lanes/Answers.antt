@@ -1,4 +1,5 @@
 use Rattle.std.proofs.Common.{sym, ap, ◌∙◌, arith}
+use Rattle.std.proofs.lemmas.Grind.{common_steps}
 use lib.Count.{count_trailing_zeros}
 use Rattle.rustc_literal_escaper.specs.Plain.{is_simple}
 use Rattle.rustc_literal_escaper.proofs.LaneLemmas.{run_bound, run_through, run_stops}
@@ -15,6 +16,4 @@ returns-then-found-ne0-clause-bound c =
     omega (arith, run, run_bound (is_simple c.args.raw) c.args.bytes.now c.lanes.end c.lanes.invariant.inside)
 
 pub lanes-preserved : goal.lanes-preserved
-lanes-preserved c =
-    let run = run_through (is_simple c.args.raw) c.args.bytes.now c.lanes.end 32 (omega arith) (omega (arith, c.marks-found.ensures)) in
-    record { run = omega (arith, run, c.lanes.invariant.run); inside = omega arith }
+lanes-preserved c = grind (arith, common_steps, run_through, c.marks-found.ensures, c.lanes.invariant.run)
