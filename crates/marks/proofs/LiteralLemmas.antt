@@ -106,8 +106,7 @@ module _ {W : Type 0} (took : W → List ℕ → W → Type 0) where
       → WritesOn took style text w 0 (stretch begin close look) v to → WritesInCalls took v (with_marks style (Own Text rest ∷ [])) u
       → WritesInCalls took w (with_marks style (parts_from 0 text (single_stretches mode begin close text))) u
   writes_single style mode text inside rest begin close to look w v u looks is past on wrote =
-      subst (λ (o : Option Look). WritesLeft style text w 0 (stretch begin close o) u) (looks ∙ ap (λ (xs : List ℕ). single_look (single_error mode xs) xs) is)
-      (writes_last style text rest 0 to (stretch begin close look) w v u on past wrote)
+      grind (arith, common_steps, writes_last style text rest 0 to (stretch begin close look) w v u on past wrote)
 
   -- an element that is told already
   pub writes_told : (style : Style) (mode : Mode) (text : List ℕ) (begin at close shown : ℕ) (items rest : List Item) (item : Item) (w last : W) → items ≡ item ∷ rest → begin + item.0.start < at
