@@ -44,11 +44,11 @@ parts-cons u next kind tokens = cut-at (λ own rest. let p : TokenKind × List �
 
 -- only a text with no characters has no tokens
 pub none-left : {mode : Mode} {cs : List ℕ} {tokens : List Token} → AreTokens mode cs tokens → length tokens ≡ 0 → cs ≡ []
-none-left w0 e = grind (arith, common_steps)
+none-left is e = grind (arith, common_steps)
 
 -- and it has none
 pub part-none : {mode : Mode} {cs : List ℕ} {tokens : List Token} → mode ≡ part E2024 → AreTokens mode cs tokens → cs ≡ [] → length tokens ≡ 0
-part-none is_part w1 e = grind (arith, common_steps)
+part-none is_part is e = grind (arith, common_steps)
 
 -- ---- where a frontmatter opens
 
@@ -140,7 +140,7 @@ spaces c w (token ∷ tokens) {s} {t} all stop near too none = by_first (order-f
 
 -- behind white space nothing comes
 space-ends : (ps : List (TokenKind × List ℕ)) → end_parts Whitespace ps ≡ []
-space-ends w0 = grind (arith, common_steps)
+space-ends ps = grind (arith, common_steps)
 
 space-closed : (ps : List (TokenKind × List ℕ)) → parts_in_order ((Whitespace, []) ∷ ps) ≡ (Whitespace, []) ∷ parts_in_order ps
 space-closed ps = ap (λ (es : List (TokenKind × List ℕ)). let p : TokenKind × List ℕ = (Whitespace, []) in p ∷ (es ++ parts_in_order ps)) (space-ends ps)
@@ -200,7 +200,7 @@ newline-code = sym newline-one
 
 -- before a token nothing closes
 parts-before : (kind : TokenKind) (text : List ℕ) (outs : List Token) → false ≡ is_last outs → end_parts kind (parts text outs) ≡ []
-parts-before kind text w2 e = grind (arith, common_steps)
+parts-before kind text outs e = grind (arith, common_steps)
 
 pub behind : (kind : TokenKind) (mode : Mode) (next : List ℕ) (tokens : List Token) → is_space kind ≡ false → mode_edition mode ≡ E2024 → (length tokens ≡ 0 → next ≡ []) → (next ≡ [] → length tokens ≡ 0) → Tidies code_in_order mode next tokens → Behind kind mode next tokens
 behind kind mode next (t ∷ ts) solid newest none some more = grind (arith, common_steps, near-none, parts-before)

@@ -18,7 +18,7 @@ use Rattle.tidy_run.proofs.ShebangLemmas.{stays-none, source-code}
 use Rattle.tidy_run.proofs.SourceLemmas.{SourceLaw, source-law}
 
 same-len : (a b : Option ℕ) → option_eq nat_eq a b ≡ true → a ≡ b
-same-len w0 w1 e = grind (arith, common_steps, eqb-true)
+same-len a b e = grind (arith, common_steps, eqb-true)
 
 record DocumentLaw (text : List ℕ) : Type 0 where
   sound : IsSound text

@@ -50,10 +50,10 @@ newlines-first : (s : List ℕ) → begins (codes "\n\n") (in_order (10 ∷ 10 �
 newlines-first s = grind (arith, common_steps, judge, dropped-two, newline-first)
 
 first-is : (r : List ℕ) → begins (codes "\n") r ≡ true → r ≡ 10 ∷ drop 1 r
-first-is w0 e = grind (arith, common_steps, eqb-true, and_parts)
+first-is r e = grind (arith, common_steps, eqb-true, and_parts)
 
 second-is : (r : List ℕ) → begins (codes "\n\n") r ≡ true → drop 1 r ≡ 10 ∷ drop 2 r
-second-is w0 e = grind (arith, common_steps, first-is, and_parts)
+second-is r e = grind (arith, common_steps, first-is, and_parts)
 
 -- ---- a newline
 
@@ -75,7 +75,7 @@ blanks-drop (suc at) (c ∷ s) lt blanks here =
     ap (λ (r : List ℕ). if is_dropped_before r c then r else c ∷ r) more ∙ rw (blanks 0 (omega arith), newline-first (drop (suc at) s)) refl
 
 no_newline-first : (s : List ℕ) → 0 < length s → get_or s 0 0 ≢ 10 → begins (codes "\n") s ≡ false
-no_newline-first w0 some other = grind (arith, common_steps, ne_eqb)
+no_newline-first s some other = grind (arith, common_steps, ne_eqb)
 
 -- what holds no newline, and ends with no blank, stays
 solid-stays : (end : ℕ) (s : List ℕ) → end < length s → ((k : ℕ) → k ≤ end → get_or s k 0 ≢ 10) → is_blank (get_or s end 0) ≡ false → in_order s ≡ take (suc end) s ++ in_order (drop (suc end) s)
@@ -105,13 +105,13 @@ plain-stays (c ∷ d ∷ s) none =
 -- ---- where newlines are
 
 pub newline_is : (s : List ℕ) (r : Option ℕ) → IsUtf8 s → IsFirstByte (is_byte 10) s r → MatchOption r (HasNoNewline s) (IsNewline s)
-newline_is s w1 utf8 none = grind (arith, common_steps, lead_after_ascii, eqb-true)
+newline_is s r utf8 none = grind (arith, common_steps, lead_after_ascii, eqb-true)
 
 -- ---- steps of a loop over the lines
 
 -- where the last call appended, the text is as wanted
 pub on_ok_is : {T E : Type 0} (r : Result T E) (b : List ℕ) {x a want : List ℕ} → x ≡ (if is_ok r then a else b) → a ≡ want → OnOk r (x ≡ want)
-on_ok_is w0 b e f = grind (arith, common_steps)
+on_ok_is r b e f = grind (arith, common_steps)
 
 pub rest-plain : (k : ℕ) (s : List ℕ) → k ≤ 2 → HasNoNewline s → tail k s ≡ s
 rest-plain k s le none = tail-solid k s le (ap (begins (codes "\n")) (plain-stays s none) ∙ first s none) ∙ plain-stays s none

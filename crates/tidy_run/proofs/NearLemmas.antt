@@ -159,20 +159,20 @@ one-plain : (p : ℕ → Bool) → IsSolid p → (c : ℕ) (w : List ℕ) → p 
 one-plain p solid c w e all = rw (solid-plain p solid c e) all
 
 append-plain : (v w : List ℕ) → AreAll is_plain v → AreAll is_plain w → AreAll is_plain (v ++ w)
-append-plain w0 w a b = grind (arith, common_steps, and_parts)
+append-plain v w a b = grind (arith, common_steps, and_parts)
 
 whole-plain : {base : _} {none : Bool} {w : List ℕ} → IsWhole base none w → AreAll is_plain w
-whole-plain w0 = grind (arith, common_steps, one-plain, by_list, digits-plain, hexdigits-plain)
+whole-plain is = grind (arith, common_steps, one-plain, by_list, digits-plain, hexdigits-plain)
 
 exponent-plain : {base : _} {kind : LiteralKind} {w : List ℕ} → IsExponent base kind w → AreAll is_plain w
 exponent-plain (num.signed {base} {e} {g} {ds} letter sign all) = one-plain is_exponent_letter (by_list is_exponent_letter refl) e (g ∷ ds) letter (one-plain is_sign (by_list is_sign refl) g ds sign (digits-plain ds all))
 exponent-plain (num.unsigned {base} {e} {ds} letter all) = one-plain is_exponent_letter (by_list is_exponent_letter refl) e ds letter (digits-plain ds all)
 
 tail-plain : {next : List ℕ} {base : _} {kind : LiteralKind} {w : List ℕ} → IsTailBefore next base kind w → AreAll is_plain w
-tail-plain w0 = grind (arith, common_steps, one-plain, by_list, digits-plain, exponent-plain, append-plain)
+tail-plain is = grind (arith, common_steps, one-plain, by_list, digits-plain, exponent-plain, append-plain)
 
 number-plain : {next : List ℕ} {kind : LiteralKind} {w : List ℕ} → IsNumberBefore next kind w → AreAll is_plain w
-number-plain w0 = grind (arith, common_steps, whole-plain, append-plain, tail-plain)
+number-plain is = grind (arith, common_steps, whole-plain, append-plain, tail-plain)
 
 tail-before : {s t : List ℕ} → next_is is_no_fraction s ≡ next_is is_no_fraction t → {base : _} {kind : LiteralKind} {w : List ℕ} → IsTailBefore s base kind w → IsTailBefore t base kind w
 tail-before e (num.nothing) = num.nothing

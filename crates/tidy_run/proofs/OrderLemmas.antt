@@ -51,7 +51,7 @@ module _ (drops : List ℕ → ℕ → Bool) where
 -- ---- what is judged
 
 pub two-one : (s : List ℕ) → begins (codes "\n\n") s ≡ true → begins (codes "\n") s ≡ true
-two-one w0 e = grind (arith, common_steps, and_parts)
+two-one s e = grind (arith, common_steps, and_parts)
 
 dropped-newline : (c : ℕ) (s : List ℕ) → is_dropped_before s c ≡ true → begins (codes "\n") s ≡ true
 dropped-newline c s e = grind (arith, common_steps, or_cases, and_parts, two-one)
@@ -67,7 +67,7 @@ pub record HasFirst (w : List ℕ) : Type 0 where
   pub whole : w ≡ first ∷ rest
 
 has-first : (w : List ℕ) → begins (codes "\n") w ≡ true → HasFirst w
-has-first w0 e = grind (arith, common_steps)
+has-first w e = grind (arith, common_steps)
 
 pub order-first : (c : ℕ) (cs : List ℕ) → HasFirst (in_order (c ∷ cs))
 order-first c cs = grind (arith, common_steps, judge, has-first, dropped-newline)
@@ -79,7 +79,7 @@ quote-after [] all near f = sym (near-begins (codes "'") refl near) ∙ f
 quote-after (c ∷ cs) all {s} {t} near f = grind (arith, common_steps, order-first, without-all, plain-other, and_parts)
 
 after-drop : (c : ℕ) (x r t : List ℕ) → is_whitespace c ≡ true → begins (codes "\n") r ≡ true → ((c == 10) ≡ true → begins (codes "\n\n") r ≡ true) → Near (c ∷ x) (r ++ t)
-after-drop c x w2 t blank e two = grind (arith, common_steps, and_parts, space, eqb-true, plain-other)
+after-drop c x r t blank e two = grind (arith, common_steps, and_parts, space, eqb-true, plain-other)
 
 pub order-near : (c : ℕ) (cs : List ℕ) → AreAll is_whitespace (c ∷ cs) → {s t : List ℕ} → Near s t → Near (c ∷ cs ++ s) (in_order (c ∷ cs) ++ t)
 order-near c cs all {s} {t} near = grind (arith, common_steps, and_parts, judge, after-drop, dropped-newline,
@@ -110,11 +110,11 @@ one_of P (d ∷ ds) all c e = elim (or_cases (c == d) (is_among ds c) e) [ inl f
 
 newline-bytes : (x : List ℕ) → AreAll is_whitespace x → begins (codes "\n") (encode_utf8_all x) ≡ begins (codes "\n") x
 unfolding encode_utf8
-newline-bytes w0 all = grind (arith, common_steps, one_of, and_parts)
+newline-bytes x all = grind (arith, common_steps, one_of, and_parts)
 
 newlines-bytes : (x : List ℕ) → AreAll is_whitespace x → begins (codes "\n\n") (encode_utf8_all x) ≡ begins (codes "\n\n") x
 unfolding encode_utf8
-newlines-bytes w0 all = grind (arith, common_steps, and_parts, one_of, newline-bytes)
+newlines-bytes x all = grind (arith, common_steps, and_parts, one_of, newline-bytes)
 
 dropped-bytes : (c : ℕ) (x : List ℕ) → AreAll is_whitespace x → is_dropped_before (encode_utf8_all x) c ≡ is_dropped_before x c
 dropped-bytes c x all = rw (newline-bytes x all, newlines-bytes x all) refl

@@ -35,19 +35,19 @@ abbrev shown_of_all : Sources Step → List ℕ
 shown_of_all sources = flat_map (λ one. shown_of one.1) sources
 
 read-source : (path : String Global) (came : Result Step Fault) → IsOfSource came → read_of (source path came) ≡ cond (is_read came) 1 0
-read-source path w1 is = grind (arith, common_steps)
+read-source path came is = grind (arith, common_steps)
 
 changed-source : (path : String Global) (came : Result Step Fault) → IsOfSource came → changed_of (source path came) ≡ cond (is_changed came) 1 0
-changed-source path w1 is = grind (arith, common_steps)
+changed-source path came is = grind (arith, common_steps)
 
 shown-source : (path : String Global) (came : Result Step Fault) → IsOfSource came → shown_of_all (source path came) ≡ shown_of came
-shown-source path w1 is = grind (arith, common_steps, append-nil, string_bytes)
+shown-source path came is = grind (arith, common_steps, append-nil, string_bytes)
 
 raised-is : (n : ℕ) (more : Bool) → n < 2 ^ 64 - 1 → raised n more ≡ n + cond more 1 0
-raised-is n w1 below = grind (arith, common_steps)
+raised-is n more below = grind (arith, common_steps)
 
 changed-le-one : (one : String Global × Result Step Reason) → changed_of (one ∷ []) ≤ read_of (one ∷ [])
-changed-le-one w0 = grind (arith, common_steps)
+changed-le-one one = grind (arith, common_steps)
 
 -- what is changed was read
 changed-le-read : (sources : Sources Step) → changed_of sources ≤ read_of sources

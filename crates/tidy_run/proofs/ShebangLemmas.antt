@@ -121,7 +121,7 @@ unfolding shebang
 past-there text e = rw e refl
 
 if_none : (b : Bool) (n : ℕ) → (if b then None else Some n) ≡ None → b ≡ true
-if_none w0 n e = grind (arith, common_steps)
+if_none b n e = grind (arith, common_steps)
 
 no_line : (tail : List ℕ) → shebang_past tail ≡ None → is_attribute (tokens_of (part E2024) tail) ≡ true
 no_line tail e = if_none (is_attribute (tokens_of (part E2024) tail)) (2 + line_len tail) e
@@ -141,7 +141,7 @@ stays-none text is room none = elim (cases_Bool (begins (codes "#!") text)) [
 -- ---- no frontmatter
 
 front-code : (text : List ℕ) (ts : List Token) → list_all is_no_front ts ≡ true → front_in_order text ts ≡ code_in_order text ts
-front-code text w1 all = grind (arith, common_steps, not-true, and_parts)
+front-code text ts all = grind (arith, common_steps, not-true, and_parts)
 
 pub source-code : (text : List ℕ) (ts : List Token) → list_all is_no_front ts ≡ true → source_in_order text ts ≡ code_in_order text ts
-source-code text w1 all = grind (arith, common_steps, cases_Bool, front-code, and_parts)
+source-code text ts all = grind (arith, common_steps, cases_Bool, front-code, and_parts)

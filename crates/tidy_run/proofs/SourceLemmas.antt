@@ -207,10 +207,10 @@ begins_space [] = false
 begins_space (p ∷ ps) = is_space p.0
 
 closed-begins : (ps : List (TokenKind × List ℕ)) → begins_space (parts_in_order ps) ≡ begins_space ps
-closed-begins w0 = grind (arith, common_steps)
+closed-begins ps = grind (arith, common_steps)
 
 front-source : (text : List ℕ) (tokens : List Token) → begins_space (parts text tokens) ≡ false → source_in_order text tokens ≡ front_in_order text tokens
-front-source text w1 e = grind (arith, common_steps)
+front-source text tokens e = grind (arith, common_steps)
 
 as-source : (cs : List ℕ) (t : Token) (ts : List Token) → is_space t.kind ≡ false → Tidies front_in_order (document E2024) cs (t ∷ ts) → Tidies source_in_order (document E2024) cs (t ∷ ts)
 as-source cs t ts solid tidy = record {

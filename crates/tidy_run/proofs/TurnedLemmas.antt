@@ -52,7 +52,7 @@ comment-or other = inr (λ text. refl)
 
 -- what ends a line comment is a newline
 newline-after : (t : List ℕ) → NextIsNot is_inline t → (length t ≡ 0 → ⊥) → begins (codes "\n") t ≡ true
-newline-after w0 stop some = grind (arith, common_steps, cases_Bool)
+newline-after t stop some = grind (arith, common_steps, cases_Bool)
 
 unix-turned : (last : Bool) (w : List ℕ) → unix_lines last (encode_utf8_all (unix_lines last w)) ≡ encode_utf8_all (unix_lines last w)
 unix-turned last w = (unix-bytes last (unix_lines last w)).lines ∙ ap encode_utf8_all (without-again (is_return_before last) w)

@@ -27,10 +27,10 @@ unix-ends last (c ∷ w) = grind (arith, common_steps, judge, eqb-true, and_part
 
 -- before the end of a line is nothing of such a class
 none-next : (p : ℕ → Bool) → p 13 ≡ false → p 10 ≡ false → (last : Bool) (w : List ℕ) → is_line_end last w ≡ true → next_is p w ≡ false
-none-next p r n last w4 e = grind (arith, common_steps, cases_Bool, eqb-true, and_parts)
+none-next p r n last w e = grind (arith, common_steps, cases_Bool, eqb-true, and_parts)
 
 pub unix-next : (p : ℕ → Bool) → p 13 ≡ false → p 10 ≡ false → (last : Bool) (w : List ℕ) → next_is p (unix_lines last w) ≡ next_is p w
-unix-next p r n last w4 = grind (arith, common_steps, judge, and_parts, none-next, eqb-true)
+unix-next p r n last w = grind (arith, common_steps, judge, and_parts, none-next, eqb-true)
 
 -- ---- comments
 
@@ -78,7 +78,7 @@ newline-here last (c ∷ w) t stays e end = elim (cases_Bool (c == 10)) [
 ]
 
 near-newline-first : (c : ℕ) (s r : List ℕ) → (c == 13) ≡ true → begins (codes "\n") r ≡ true → Near (c ∷ s) r
-near-newline-first c s w2 e f = grind (arith, common_steps, eqb-true, space, and_parts)
+near-newline-first c s r e f = grind (arith, common_steps, eqb-true, space, and_parts)
 
 pub unix-near : (last : Bool) (w : List ℕ) {s t : List ℕ} → Near s t → (last ≡ true → begins (codes "\n") t ≡ true) → Near (w ++ s) (unix_lines last w ++ t)
 unix-near last [] near end = near
@@ -91,7 +91,7 @@ unix-near last (c ∷ w) {s} {t} near end = elim (judge (is_return_before last) 
 -- ---- bytes
 
 scalars-all : (w : List ℕ) → scalars w ≡ list_all scalar w
-scalars-all w0 = grind (arith, common_steps)
+scalars-all w = grind (arith, common_steps)
 
 pub unix-scalars : (last : Bool) (w : List ℕ) → scalars w ≡ true → scalars (unix_lines last w) ≡ true
 unix-scalars last w e = scalars-all (unix_lines last w) ∙ without-all (is_return_before last) scalar w (sym (scalars-all w) ∙ e)
