@@ -154,8 +154,8 @@ none_left bs e = grind (arith, common_steps)
 
 pub bytes-token_marks : (tokens : List Token) (text : List ℕ) → bound tokens (length tokens) ≡ length text → map byte_of (token_marks text tokens) ≡ text
 bytes-token_marks [] text whole = none_left text whole
-bytes-token_marks (token ∷ tokens) text whole = grind (arith, common_steps, bytes-first, length-drop, take-append-drop,
-    bytes-token_marks tokens)
+bytes-token_marks (token ∷ tokens) text whole =
+    grind (arith, common_steps, bytes-first, length-drop, take-append-drop, bytes-token_marks tokens)
 
 pub bytes-marks : (text : List ℕ) → map byte_of (source_marks (drop (shebang_len text) text)) ≡ drop (shebang_len text) text → map byte_of (marks text) ≡ text
 bytes-marks text rest = grind (arith, common_steps, bytes-first, take-append-drop)

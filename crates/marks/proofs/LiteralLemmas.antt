@@ -39,8 +39,8 @@ without_literal mode text = without_from 0 text (stretches_of mode text)
 
 -- a place between characters of what stands between the quotes is one of the literal
 pub boundary_in : (text : List ℕ) (begin close k : ℕ) → begin ≤ close → IsCharBoundary text begin → IsCharBoundary text close → IsCharBoundary (between begin close text) k → (begin + k ≤ close) × IsCharBoundary text (begin + k)
-boundary_in text begin close k order at_begin at_close at_k = grind (arith, common_steps, length-drop, length-take-le,
-    cases_lt, IsCharBoundary-from_rest, get_or-take)
+boundary_in text begin close k order at_begin at_close at_k =
+    grind (arith, common_steps, length-drop, length-take-le, cases_lt, IsCharBoundary-from_rest, get_or-take)
 
 -- the first of some items, and the others
 pub record Placed (text : List ℕ) (close start end : ℕ) : Type 0 where

@@ -53,8 +53,8 @@ class_close_unseen class rest = grind (arith, common_steps)
 
 -- outside of tags, a part shows what it is without its marks
 shows_part : (part : Part) (rest : List ℕ) → untagged_from false (written Html part ++ rest) ≡ escaped (own part) ++ untagged_from false rest
-shows_part part rest = grind (arith, common_steps, append_assoc, class_open_unseen, untagged_escaped,
-    class_close_unseen, in_sentence)
+shows_part part rest =
+    grind (arith, common_steps, append_assoc, class_open_unseen, untagged_escaped, class_close_unseen, in_sentence)
 
 -- and so do some parts: a page shows the text with entities
 pub shows : (ps : List Part) → untagged (with_marks Html ps) ≡ escaped (without_marks ps)

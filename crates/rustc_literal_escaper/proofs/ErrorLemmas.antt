@@ -27,8 +27,9 @@ single_error-some total mode s left e error h is some = error_to-is total error 
 
 pub single_error-more : (total : ℕ) (mode : Mode) (s left more : List ℕ) (e : Element) (d : ℕ) → StartsWithSingle s e (chars left) → None ≡ error_of mode e → chars left ≡ d ∷ chars more → IsUtf8 more
     → Some (record { start = 0; end = total - length more }, MoreThanOneChar) ≡ single_error total mode s
-single_error-more total mode s left more e d h none reads is = grind (arith, common_steps,
-    error_to-is total MoreThanOneChar more is, single_error-starts total mode s (chars left) e h)
+single_error-more total mode s left more e d h none reads is =
+    error_to-is total MoreThanOneChar more is
+    ∙ (ap (alone_error total None) (sym reads) ∙ (ap (λ (o : Option EscapeError). alone_error total o (chars left)) none ∙ sym (single_error-starts total mode s (chars left) e h)))
 
 -- a literal between double quotes has the errors of its elements
 pub errors_of-strings : (mode : Mode) (text : List ℕ) (items : List Item) → false ≡ is_single mode → items ≡ items_of (is_raw mode) text → errors_in mode items ≡ errors_of mode text

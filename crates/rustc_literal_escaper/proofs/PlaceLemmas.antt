@@ -56,9 +56,15 @@ passed-small c e = grind (arith, nat_tests)
 
 first-tells : (bs s : List ℕ) (b c : ℕ) → IsUtf8 bs → Some b ≡ slice_get bs 0 → chars bs ≡ c ∷ s → is_passed_over c ≡ is_passed_over b
 first-tells [] s b c is e at = absurd (let f : Some b ≡ None = e in cc)
-first-tells (x ∷ xs) s b c is e at = grind (arith, common_steps, encodes-chars (x ∷ xs) is,
-    byte_from_char (x ∷ xs) (encode_utf8_all s) c, passed-small c, char_from_byte (x ∷ xs) (encode_utf8_all s) c,
-    passed-small b)
+first-tells (x ∷ xs) s b c is e at = grind (
+  arith,
+  common_steps,
+  encodes-chars (x ∷ xs) is,
+  byte_from_char (x ∷ xs) (encode_utf8_all s) c,
+  passed-small c,
+  char_from_byte (x ∷ xs) (encode_utf8_all s) c,
+  passed-small b,
+)
 
 pub byte-not : (bs : List ℕ) (b : ℕ) → IsUtf8 bs → Some b ≡ slice_get bs 0 → is_passed_over b ≡ false → front_run is_passed_over (chars bs) ≡ []
 byte-not bs b is e off = by_front (chars bs) refl

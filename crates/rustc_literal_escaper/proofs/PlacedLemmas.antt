@@ -1,5 +1,5 @@
 -- What is left of a text is its end, so the places of its items lie between characters.
-use Rattle.std.proofs.Common.{◌≡◌, ℕ, zero, suc, ◌<◌, Bool, true, List, [], ◌∷◌, ◌++◌, length, length-append, map, sym, ap, ◌∙◌, arith}
+use Rattle.std.proofs.Common.{◌≡◌, ℕ, zero, suc, ◌<◌, Bool, true, List, [], ◌∷◌, ◌++◌, length, length-append, map, sym, ap, ◌∙◌, arith, ◌+◌, ◌≤◌, refl, subst}
 use Rattle.std.specs.Prelude.{IsCharBoundary}
 use Rattle.std.specs.Char.{encode_utf8}
 use Rattle.std.specs.List.{slice_index_or}
@@ -7,7 +7,6 @@ use Rattle.std.specs.Str.{all_scalars, chars, encode_utf8_all, IsUtf8}
 use Rattle.std.proofs.lemmas.Bool.{and_parts}
 use Rattle.std.proofs.lemmas.List.Elements.{All-append, All-map, All-nil}
 use Rattle.std.proofs.lemmas.Str.{encodes-append, encodes-chars, scalars-chars, length-encode, len_utf8_bounds, IsCharBoundary-at_seam}
-use Rattle.std.proofs.lemmas.Grind.{common_steps}
 use Rattle.rustc_literal_escaper.specs.Elements.{front, front_by, item_at, items_from, items_in, items_of, place}
 use Rattle.rustc_literal_escaper.specs.Places.{ArePlaced, IsPlaced}
 use Rattle.rustc_literal_escaper.proofs.ItemLemmas.{Ends, EndsFront, all, front_by-ends, tail, through}
@@ -22,15 +21,19 @@ module _ (text : List ℕ) (is : IsUtf8 text) where
   seam left e = sym (encodes-chars text is) ∙ (ap encode_utf8_all e.1 ∙ encodes-append e.0 left)
 
   boundary : (left : List ℕ) → Ends left (chars text) → IsCharBoundary text (place (length text) left)
-  boundary left e = grind (arith, common_steps, seam left e, length-append (encode_utf8_all e.0) (encode_utf8_all left),
-      IsCharBoundary-at_seam text (encode_utf8_all e.0) (encode_utf8_all left), scalars-end e.0 left,
-      scalars-chars text is)
+  boundary left e =
+      let cut : text ≡ encode_utf8_all e.0 ++ encode_utf8_all left = seam left e in
+      let whole : length text ≡ length (encode_utf8_all e.0) + length (encode_utf8_all left) = ap length cut ∙ length-append (encode_utf8_all e.0) (encode_utf8_all left) in
+      let here : length (encode_utf8_all e.0) ≡ place (length text) left = omega arith in
+      subst (IsCharBoundary text) here (IsCharBoundary-at_seam text (encode_utf8_all e.0) (encode_utf8_all left) cut (left, (scalars-end e.0 left (ap all_scalars (sym e.1) ∙ scalars-chars text is), refl)))
 
   nearer : (c : ℕ) (s left : List ℕ) → Ends (c ∷ s) (chars text) → Ends left s → place (length text) (c ∷ s) < place (length text) left
-  nearer c s left e f = grind (arith, common_steps, seam (c ∷ s) e,
-      length-append (encode_utf8_all e.0) (encode_utf8_all (c ∷ s)), length-append (encode_utf8 c) (encode_utf8_all s),
-      length-encode c, len_utf8_bounds c, encodes-append f.0 left,
-      length-append (encode_utf8_all f.0) (encode_utf8_all left))
+  nearer c s left e f =
+      let whole : length text ≡ length (encode_utf8_all e.0) + length (encode_utf8 c ++ encode_utf8_all s) = ap length (seam (c ∷ s) e) ∙ length-append (encode_utf8_all e.0) (encode_utf8_all (c ∷ s)) in
+      let first : length (encode_utf8 c ++ encode_utf8_all s) ≡ length (encode_utf8 c) + length (encode_utf8_all s) = length-append (encode_utf8 c) (encode_utf8_all s) in
+      let some : 1 ≤ length (encode_utf8 c) = let l = length-encode c in let b = (len_utf8_bounds c).0 in omega arith in
+      let rest : length (encode_utf8_all s) ≡ length (encode_utf8_all f.0) + length (encode_utf8_all left) = ap length (ap encode_utf8_all f.1 ∙ encodes-append f.0 left) ∙ length-append (encode_utf8_all f.0) (encode_utf8_all left) in
+      omega arith
 
   placed : (raw : Bool) (count : ℕ) (s : List ℕ) → Ends s (chars text) → ArePlaced text (items_in (front_by raw) count (length text) s)
   placed raw zero s e = All-nil (IsPlaced text)

@@ -160,10 +160,10 @@ made : (raw : Bool) (total count : ℕ) (s : List ℕ) → length s ≤ count �
 made raw total zero [] few fits = none raw
 made raw total zero (c ∷ s) few fits = absurd (omega arith)
 made raw total (suc count) [] few fits = none raw
-made raw total (suc count) (c ∷ s) few fits = grind (arith, common_steps, step-made, length-append, encodes-append,
-    made raw total count)
+made raw total (suc count) (c ∷ s) few fits =
+    grind (arith, common_steps, step-made, length-append, encodes-append, made raw total count)
 
 pub is_rebuilt : (raw : Bool) (text : List ℕ) → IsUtf8 text → IsRebuilt raw text
 unfolding items_from
-is_rebuilt raw text is = grind (arith, common_steps, encodes-chars text is,
-    made raw (length text) (length (chars text)) (chars text))
+is_rebuilt raw text is =
+    grind (arith, common_steps, encodes-chars text is, made raw (length text) (length (chars text)) (chars text))

@@ -146,5 +146,6 @@ pub char-spelled : (c : ℕ) → IsScalar c → IsSpelled char_of c (escape_defa
 char-spelled c is = or-spelled char_of (λ n. n) c (escape_unicode c) (λ l. rw (lt-ltb c 128 (omega arith)) refl) (λ l. refl) (unicode-spelled c is)
 
 pub char_comes_back : CharComesBack
-char_comes_back c is = grind (arith, common_steps, char-spelled c is, literal-one char_of (escape_default c),
-    append-nil (escape_default c))
+char_comes_back c is =
+    let w = char-spelled c is in
+    sym (literal-one char_of (escape_default c) [] w.element c (subst (λ (xs : List ℕ). StartsWithSingle xs w.element []) (append-nil (escape_default c)) (w.alone [])) w.means refl)

@@ -1,5 +1,5 @@
 -- Runs of simple characters: the items of each.
-use Rattle.std.proofs.Common.{◌≡◌, ℕ, ◌-◌, Bool, true, List, [], ◌∷◌, ◌++◌, length, length-append, refl, sym, subst, arith}
+use Rattle.std.proofs.Common.{◌≡◌, ℕ, ◌-◌, Bool, true, List, [], ◌∷◌, ◌++◌, length, length-append, refl, sym, subst, arith, ap, ◌∙◌}
 use Rattle.std.specs.List.{list_all, FoldsTo}
 use Rattle.std.specs.Str.{chars, encode_utf8_all, IsUtf8}
 use Rattle.std.proofs.lemmas.Bool.{and_parts}
@@ -13,8 +13,9 @@ use Rattle.rustc_literal_escaper.proofs.PlainLemmas.{items-plain}
 module _ (raw : Bool) (total : ℕ) where
   -- each is one byte
   place-run : (run s : List ℕ) → list_all (is_simple raw) run ≡ true → place total (run ++ s) ≡ place total s - length run
-  place-run run s e = grind (arith, common_steps, encodes-append run s, encodes-IsAscii run (simple-ascii raw run e),
-      simple-ascii raw run e, length-append run (encode_utf8_all s))
+  place-run run s e =
+      let n = ap length (encodes-append run s ∙ ap (λ xs. xs ++ encode_utf8_all s) (encodes-IsAscii run (simple-ascii raw run e))) ∙ length-append run (encode_utf8_all s) in
+      omega arith
 
   items-run : (run s : List ℕ) → list_all (is_simple raw) run ≡ true → items_from (front_by raw) total (run ++ s) ≡ plain_items (place total s) run ++ items_from (front_by raw) total s
   items-run [] s e = refl

@@ -1,5 +1,5 @@
 -- Simple characters, passed over.
-use Rattle.std.proofs.Common.{◌≡◌, ℕ, ◌≤◌, ◌==◌, nat_lt, not, Bool, true, List, ◌++◌, length, take, drop, None, arith}
+use Rattle.std.proofs.Common.{◌≡◌, ℕ, ◌≤◌, ◌==◌, nat_lt, not, Bool, true, List, ◌++◌, length, take, drop, None, arith, sym, ap, ◌∙◌}
 use Rattle.std.specs.Char.{is_ascii}
 use Rattle.std.specs.List.{list_all, prefix_len}
 use Rattle.std.specs.Str.{chars, IsAscii, IsCharBoundary, IsUtf8}
@@ -30,12 +30,13 @@ pub simple-ascii : (raw : Bool) (bs : List ℕ) → list_all (is_simple raw) bs 
 simple-ascii raw bs e = is-ascii bs (all-weaker (is_simple raw) is_ascii (λ c f. (simple-parts raw c f).0) bs e)
 
 pub chars-simple : (raw : Bool) (run left : List ℕ) → list_all (is_simple raw) run ≡ true → chars (run ++ left) ≡ run ++ chars left
-chars-simple raw run left e = grind (arith, common_steps, simple-ascii raw run e, chars-append run left,
-    IsUtf8-from_ascii run, chars-IsAscii run)
+chars-simple raw run left e =
+    grind (arith, common_steps, simple-ascii raw run e, chars-append run left, IsUtf8-from_ascii run, chars-IsAscii run)
 
 pub passes-simple : (raw : Bool) (bs : List ℕ) (n : ℕ) → n ≤ prefix_len (is_simple raw) bs → Passes (is_simple raw) (chars bs) (chars (drop n bs))
-passes-simple raw bs n run = grind (arith, common_steps, run_front (is_simple raw) bs n run, take-append-drop n bs,
-    chars-simple raw (take n bs) (drop n bs))
+passes-simple raw bs n run =
+    let all = run_front (is_simple raw) bs n run in
+    record { passed = take n bs; all = all; whole = ap chars (sym (take-append-drop n bs)) ∙ chars-simple raw (take n bs) (drop n bs) all }
 
 -- so a text may be cut there
 pub cut-simple : (raw : Bool) (bs : List ℕ) (n : ℕ) → IsUtf8 bs → n ≤ length bs → n ≤ prefix_len (is_simple raw) bs → IsCharBoundary bs n

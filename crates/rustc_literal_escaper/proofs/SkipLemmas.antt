@@ -80,8 +80,8 @@ module _ (raw : Bool) (test : ℕ → Bool) (small : (b : ℕ) → test b ≡ tr
 
   -- all of them, where none is found
   pub past-none : (bs : List ℕ) → IsUtf8 bs → IsFirstByte test bs None → Passes (is_plain raw) (chars bs) (chars [])
-  past-none bs is none = grind (arith, common_steps, clear-chars (chars bs), encodes-chars bs is, chars-nil,
-      append-nil (chars bs))
+  past-none bs is none =
+      grind (arith, common_steps, clear-chars (chars bs), encodes-chars bs is, chars-nil, append-nil (chars bs))
 
 pub byte_small : (b : ℕ) → is_byte 13 b ≡ true → b < 128
 byte_small b e = grind (arith, nat_tests)

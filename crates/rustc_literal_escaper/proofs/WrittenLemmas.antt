@@ -1,5 +1,5 @@
 -- What is written of characters and bytes, read between double quotes.
-use Rattle.std.proofs.Common.{Bool, ◌≡◌, ℕ, suc, ◌<◌, ◌==◌, true, false, List, [], ◌∷◌, ◌++◌, length, map, Result, Ok, refl, sym, ap, ◌∙◌, arith, get_or, length-append}
+use Rattle.std.proofs.Common.{Bool, ◌≡◌, ℕ, suc, ◌<◌, ◌==◌, true, false, List, [], ◌∷◌, ◌++◌, length, map, Result, Ok, refl, sym, ap, ◌∙◌, arith, get_or, length-append, ◌+◌, subst, take}
 use Rattle.std.specs.Char.{is_ascii, IsScalar}
 use Rattle.std.specs.Char.Escape.{escape_ascii, escape_default}
 use Rattle.std.specs.List.{AllByRecursion, flat_map, list_all, list_any, slice_index}
@@ -102,6 +102,7 @@ writing-start all old = record { grown = ([], sym (append-nil old)); whole = ref
 
 -- it may be cut off again
 pub boundary : {Z : Type 0} (old new : String Z) → Grows (string_bytes old) (string_bytes new) → IsCharBoundary (string_bytes new) (length (string_bytes old))
-boundary old new g = grind (arith, common_steps, length-append (string_bytes old) g.0,
-    IsCharBoundary-from_take (string_bytes new) (length (string_bytes old)) (IsUtf8-string_bytes new),
-    IsUtf8-string_bytes new, take-append_seam (string_bytes old) g.0, IsUtf8-string_bytes old)
+boundary old new g =
+    let l : length (string_bytes new) ≡ length (string_bytes old) + length g.0 = ap length g.1 ∙ length-append (string_bytes old) g.0 in
+    IsCharBoundary-from_take (string_bytes new) (length (string_bytes old)) (IsUtf8-string_bytes new) (omega arith)
+    (subst IsUtf8 (sym (ap (take (length (string_bytes old))) g.1 ∙ take-append_seam (string_bytes old) g.0)) (IsUtf8-string_bytes old))

@@ -54,11 +54,11 @@ module _ (text : List ℕ) (front : Token) (first : First text front) (at : is_f
   made-is line own rest made e f g h = grind (arith, common_steps, whole-take)
 
   pub made-fits : (line own rest made : List ℕ) → length text + 1 < 2 ^ 32 → line ≡ own → own ≡ take (front.len - 0) text → rest ≡ drop front.len text → made ≡ line ++ code_in_order rest (tokens_of (part E2024) rest) → length made < 2 ^ 32
-  made-fits line own rest made room e f g h = grind (arith, common_steps, code-size, made-is, length-append,
-      length-take-le, length-drop)
+  made-fits line own rest made room e f g h =
+      grind (arith, common_steps, code-size, made-is, length-append, length-take-le, length-drop)
 
 -- with white space first, or none
 pub space-first : (text : List ℕ) (token : Token) (before mid own rest : List ℕ) → First text token → is_space token.kind ≡ true → own ≡ take (token.len - 0) text → rest ≡ drop token.len text
     → mid ≡ before ++ part_in_order token.kind own (token.len == length text) → mid ++ front_in_order rest (tokens_of (document E2024) rest) ≡ before ++ source_tidied text
-space-first text token before mid own rest first at is cut made = grind (arith, common_steps, append_assoc, space-yes,
-    whole-take, end-is)
+space-first text token before mid own rest first at is cut made =
+    grind (arith, common_steps, append_assoc, space-yes, whole-take, end-is)

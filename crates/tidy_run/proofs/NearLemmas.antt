@@ -105,8 +105,8 @@ near-then p solid [] all near = near-next p solid near
 near-then p solid (f ∷ front) all ends = refl
 near-then p solid (f ∷ front) all closes = rw (plain-other f 10 (and_parts (is_plain f) _ all).0 refl) refl
 near-then p solid (f ∷ front) all (space {c} {d} a b k) = grind (arith, common_steps, and_parts, plain-other)
-near-then p solid (f ∷ front) all (same {c} near) = grind (arith, common_steps, cases_Bool, and_parts,
-    near-then p solid front)
+near-then p solid (f ∷ front) all (same {c} near) =
+    grind (arith, common_steps, cases_Bool, and_parts, near-then p solid front)
 
 pub near-begins : (front : List ℕ) → AreAll is_plain front → {s t : List ℕ} → Near s t → begins front s ≡ begins front t
 near-begins [] all near = refl

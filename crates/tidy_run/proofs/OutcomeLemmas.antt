@@ -60,8 +60,16 @@ sums-step : (sources : Sources Step) (path : String Global) (old new : Outcome) 
     → new.changed ≡ raised old.changed (is_changed came)
     → string_bytes new.shown ≡ string_bytes old.shown ++ shown_of came
     → Sums (sources ++ source path came) new
-sums-step sources path old new came so few is read changed shown = grind (arith, common_steps, count_by-le-length,
-    raised-is, read-source, sum_by-append, changed-source, shown-source, flat_map-append)
+sums-step sources path old new came so few is read changed shown =
+    let read_few : read_of sources ≤ length sources = count_by-le-length (λ one. is_read one.1) sources in
+    let changed_few : changed_of sources ≤ length sources = count_by-le-length (λ one. is_changed one.1) sources in
+    let read_more : raised old.read (is_read came) ≡ old.read + cond (is_read came) 1 0 = raised-is old.read (is_read came) (omega (arith, so.read)) in
+    let changed_more : raised old.changed (is_changed came) ≡ old.changed + cond (is_changed came) 1 0 = raised-is old.changed (is_changed came) (omega (arith, so.changed)) in
+    record {
+      read = omega (arith, read, read_more, so.read, read-source path came is, sum_by-append (λ one. cond (is_read one.1) 1 0) sources (source path came));
+      changed = omega (arith, changed, changed_more, so.changed, changed-source path came is, sum_by-append (λ one. cond (is_changed one.1) 1 0) sources (source path came));
+      shown = shown ∙ (ap (λ xs. xs ++ shown_of came) so.shown ∙ (ap (λ xs. shown_of_all sources ++ xs) (sym (shown-source path came is)) ∙ sym (flat_map-append (λ one. shown_of one.1) sources (source path came))));
+    }
 
 -- what may come of a file of this name
 came-may : (task : Task) (path : String Global) (name : List ℕ) (came : Result Step Fault) → name ≡ string_bytes path → IfOk came (IsStepAt task name) → IfErr came (IsTidyFault task) → All (IsTidied task) (source path came)

@@ -52,8 +52,8 @@ rest-append (the.closing) w = refl
 rest-append (the.nested {v} {w = u} a b) w =
     ap (λ (xs : List ℕ). 47 ∷ 42 ∷ xs) (ap (unix_lines false) (append_assoc v u w) ∙ (rest-append a (u ++ w) ∙ (ap (λ (xs : List ℕ). unix_lines false v ++ xs) (rest-append b w)
     ∙ (sym (append_assoc (unix_lines false v) (unix_lines false u) (unix_lines false w)) ∙ ap (λ (xs : List ℕ). xs ++ unix_lines false w) (sym (rest-append a u))))))
-rest-append (the.other {c} {w = v} e f is) w = grind (arith, common_steps, unix-ends, rest-ends, cases_Bool,
-    rest-append is w)
+rest-append (the.other {c} {w = v} e f is) w =
+    grind (arith, common_steps, unix-ends, rest-ends, cases_Bool, rest-append is w)
 
 -- a mark of two characters begins where it began
 unix-mark : (d f : ℕ) (c : ℕ) (w : List ℕ) → (f == 13) ≡ false → (f == 10) ≡ false → begins (d ∷ f ∷ []) (c ∷ w) ≡ false → begins (d ∷ f ∷ []) (c ∷ unix_lines false w) ≡ false

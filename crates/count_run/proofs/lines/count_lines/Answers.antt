@@ -1,14 +1,14 @@
-use Rattle.std.proofs.Common.{◌≡◌, ap, map, drop, ◌∙◌, sym, arith}
+use Rattle.std.proofs.Common.{◌≡◌, ap, map, drop, ◌∙◌, sym, arith, take}
 use Rattle.count_run.specs.declared.lines.LineCounts.{LineCounts}
 use Rattle.count_run.specs.Lines.{byte_of, source_marks, shebang_len, lines_counted}
 use Rattle.count_run.proofs.LineLemmas.{document_counts, bytes-marks, lines-counted}
 use Rattle.count_run.proofs.lines.count_lines.Goals as goal
-use Rattle.std.proofs.lemmas.Grind.{common_steps}
 
 pub returns-clause-counts : goal.returns-clause-counts
-returns-clause-counts c = grind (arith, common_steps, document_counts, c.shebang_len-end.ensures.line,
-    c.new-counter.ensures, c.range_from.ensures.value, c.take_all.ensures.bytes, c.take_source.ensures.bytes,
-    c.finish.ensures)
+returns-clause-counts c =
+    let line : c.range.result.now ≡ take c.shebang_len-end.result c.args.text.now = grind arith in
+    document_counts c.args.text.now c.range.result.now c.range_from.result.now c.shebang_len-end.result c.new-counter.result c.take_all.new.self c.take_source.new.self c.finish.result
+    c.shebang_len-end.ensures.line c.new-counter.ensures line c.range_from.ensures.value c.take_all.ensures.bytes c.take_source.ensures.bytes c.finish.ensures
 
 pub returns-clause-once : goal.returns-clause-once
 returns-clause-once c =

@@ -7,5 +7,5 @@ use Rattle.count_run.proofs.report.write_file.Goals as goal
 
 pub returns-clause-tokens : goal.returns-clause-tokens
 unfolding file_object
-returns-clause-tokens c = grind (arith, common_steps, rules, on_ok_weaker, token-first, c.as_str.ensures.value,
-    c.write_counts.ensures.tokens)
+returns-clause-tokens c =
+    grind (arith, common_steps, rules, on_ok_weaker, token-first, c.as_str.ensures.value, c.write_counts.ensures.tokens)

@@ -1,17 +1,20 @@
-use Rattle.std.proofs.Common.{ap, arith}
+use Rattle.std.proofs.Common.{ap, ◌∙◌}
 use Rattle.lexdump_run.specs.Listing.{listing}
 use Rattle.lexdump_run.proofs.ListingLemmas.{lines, lines-from}
 use Rattle.lexdump_run.proofs.PushLemmas.{went_none, went_first, went_all, pushes_stopped}
 use Rattle.lexdump_run.proofs.listing.list_pieces.Goals as goal
-use Rattle.std.proofs.lemmas.Grind.{common_steps}
 
 pub loop-piece-init : goal.loop-piece-init
-loop-piece-init g c = grind (arith, common_steps, went_none, lines-from, c.requires.writes,
-    c.into_iter-piece-iterator.ensures.into_iter_gives, c.pieces-piece-items.ensures.pieces)
+loop-piece-init g c = record {
+  sound = c.requires.writes;
+  lines = went_none _ _ _ _ (ap lines c.into_iter-piece-iterator.ensures.into_iter_gives ∙ (ap lines c.pieces-piece-items.ensures.pieces ∙ lines-from _ 0 c.args.lexed.now.tokens));
+}
 
 pub loop-piece-preserved : goal.loop-piece-preserved
-loop-piece-preserved g c = grind (arith, common_steps, went_first, c.in_ok-push_line.ensures.failed,
-    c.loop-piece.invariant.lines, c.in-Some.ensures.steps.0, c.in_ok-push_line.ensures.pushed)
+loop-piece-preserved g c = record {
+  sound = c.in_ok-push_line.ensures.failed;
+  lines = went_first _ _ _ _ _ _ _ _ c.loop-piece.invariant.lines (ap lines c.in-Some.ensures.steps.0) _ c.in_ok-push_line.ensures.pushed;
+}
 
 pub returns-in_err-push_line-clause-pushed : goal.returns-in_err-push_line-clause-pushed
 returns-in_err-push_line-clause-pushed g c =

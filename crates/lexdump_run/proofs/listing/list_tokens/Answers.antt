@@ -1,4 +1,4 @@
-use Rattle.std.proofs.Common.{◌-◌, length, refl, ap, rules, arith, length-drop}
+use Rattle.std.proofs.Common.{length, refl, ap, rules, arith, length-drop}
 use Rattle.rustc_lexer.specs.LanguageText.{mode_in}
 use Rattle.rustc_lexer.specs.Tokens.{bound, tokens_left, tokens_of}
 use Rattle.lexdump_run.specs.Listing.{listing}
@@ -8,8 +8,14 @@ use Rattle.lexdump_run.proofs.listing.list_tokens.Goals as goal
 use Rattle.std.proofs.lemmas.Grind.{common_steps}
 
 pub left-init : goal.left-init
-left-init g c = grind (arith, common_steps, went_none, c.tokenize_as-tokens.ensures.state, c.requires.writes,
-    c.tokenize_as-tokens.ensures.tokens)
+left-init g c = grind (
+  arith,
+  common_steps,
+  went_none,
+  c.tokenize_as-tokens.ensures.state,
+  c.requires.writes,
+  c.tokenize_as-tokens.ensures.tokens,
+)
 
 pub push_lines-requires-clause-fits : goal.push_lines-requires-clause-fits
 push_lines-requires-clause-fits g c =
@@ -31,5 +37,5 @@ returns-in_err-push_lines-clause-pushed g c =
     c.in_err-push_lines.ensures.pushed c.from_residual.ensures.1
 
 pub returns-clause-pushed : goal.returns-clause-pushed
-returns-clause-pushed g c = grind (arith, common_steps, rules, went_all, none_left, c.left.invariant.lines,
-    c.as_str.ensures.rest)
+returns-clause-pushed g c =
+    grind (arith, common_steps, rules, went_all, none_left, c.left.invariant.lines, c.as_str.ensures.rest)

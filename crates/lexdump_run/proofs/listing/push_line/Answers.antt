@@ -6,8 +6,8 @@ use Rattle.std.proofs.lemmas.Grind.{common_steps}
 
 pub returns-in_err-push_place-clause-pushed : goal.returns-in_err-push_place-clause-pushed
 unfolding line_text
-returns-in_err-push_place-clause-pushed g c = grind (arith, common_steps, pushes_first,
-    c.in_err-push_place.ensures.pushed, c.from_residual.ensures.1)
+returns-in_err-push_place-clause-pushed g c =
+    grind (arith, common_steps, pushes_first, c.in_err-push_place.ensures.pushed, c.from_residual.ensures.1)
 
 pub returns-in_err-push-clause-pushed : goal.returns-in_err-push-clause-pushed
 unfolding line_text
@@ -18,8 +18,10 @@ returns-in_err-push-clause-pushed g c =
 
 pub returns-then-has_fields-clause-pushed : goal.returns-then-has_fields-clause-pushed
 unfolding line_text
-returns-then-has_fields-clause-pushed g c = grind (arith, common_steps, pushes_both, c.in_ok-push_place.ensures.pushed,
-    c.name.ensures, c.in_ok-push.ensures.pushed, c.push_fields.ensures.pushed)
+returns-then-has_fields-clause-pushed g c =
+    let fields : List ℕ = fields_text c.args.token.kind ++ 10 ∷ [] in
+    pushes_both (g.W.Write.contents c.args.output.now.inner) (g.W.Write.contents c.push_place.new.output.inner) (g.W.Write.contents c.push_fields.new.output.inner) c.args.lines.now c.push_place.new.lines c.push_fields.new.lines (place_text c.args.start c.args.token.len) (kind_name c.args.token.kind ++ fields) (line_text c.args.start c.args.token) c.push_fields.result refl c.in_ok-push_place.ensures.pushed
+    (pushes_both (g.W.Write.contents c.push_place.new.output.inner) (g.W.Write.contents c.push.new.output.inner) (g.W.Write.contents c.push_fields.new.output.inner) c.push_place.new.lines c.push.new.self c.push_fields.new.lines c.name.result.now fields (kind_name c.args.token.kind ++ fields) c.push_fields.result (ap (λ xs. xs ++ fields) (sym c.name.ensures)) c.in_ok-push.ensures.pushed c.push_fields.ensures.pushed)
 
 pub returns-clause-pushed : goal.returns-clause-pushed
 unfolding line_text

@@ -12,8 +12,8 @@ pub overflow_sub-len_at : goal.overflow_sub-len_at
 overflow_sub-len_at g c = omega (arith, short c.from.result (rw c.from.ensures c.ranges.len.fits), c.write_digits-len_at.ensures.start)
 
 pub write_digits-start_at-requires : goal.write_digits-start_at-requires
-write_digits-start_at-requires g c = grind (arith, common_steps, short, c.from.ensures, c.from-2.ensures,
-    c.write_digits-len_at.ensures.start)
+write_digits-start_at-requires g c =
+    grind (arith, common_steps, short, c.from.ensures, c.from-2.ensures, c.write_digits-len_at.ensures.start)
 
 pub returns-clause-pushed : goal.returns-clause-pushed
 returns-clause-pushed g c =

@@ -4,5 +4,5 @@ use Rattle.rustc_literal_escaper.proofs.PlainLemmas.{first-plain}
 use Rattle.rustc_literal_escaper.proofs.steps.first_plain.Goals as goal
 
 pub returns : goal.returns
-returns c = grind (arith, common_steps, first-plain, rules, c.in_ok-c.ensures.2, c.in_ok-c.ensures.0,
-    c.in_ok-c.ensures.1)
+returns c =
+    grind (arith, common_steps, first-plain, rules, c.in_ok-c.ensures.2, c.in_ok-c.ensures.0, c.in_ok-c.ensures.1)

@@ -1,11 +1,12 @@
-use Rattle.std.proofs.Common.{◌<◌, ◌^◌, arith, length, of_calls}
-use Rattle.std.proofs.lemmas.Grind.{common_steps}
+use Rattle.std.proofs.Common.{◌<◌, ◌^◌, arith, length, of_calls, ◌≡◌, refl}
 use Rattle.tidy_run.proofs.OutcomeLemmas.{tidied-none, tidied-step}
 use Rattle.tidy_run.proofs.files.tidy_found.Goals as goal
+use Rattle.std.specs.Vec.Iter.{into_iter_items}
 
 pub loop-path-init : goal.loop-path-init
-loop-path-init g c = grind (arith, common_steps, tidied-none, of_calls,
-    c.into_iter-path-iterator.ensures.into_iter_gives.0, c.new.ensures.bytes)
+loop-path-init g c =
+    let all : into_iter_items c.into_iter-path-iterator.result ≡ c.args.found.files.items = c.into_iter-path-iterator.ensures.into_iter_gives.0 in
+    record { tidied = tidied-none _ _ _ _ _ all refl refl c.new.ensures.bytes refl; callable = search of_calls }
 
 pub loop-path-preserved : goal.loop-path-preserved
 loop-path-preserved g c =

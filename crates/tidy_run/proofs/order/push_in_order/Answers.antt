@@ -1,5 +1,4 @@
-use Rattle.std.proofs.Common.{◌≡◌, ◌≤◌, ◌+◌, ◌++◌, List, ◌∷◌, ℕ, arith, drop, string_bytes, ap, ◌∙◌}
-use Rattle.std.proofs.lemmas.Grind.{common_steps}
+use Rattle.std.proofs.Common.{◌≡◌, ◌≤◌, ◌+◌, ◌++◌, List, ◌∷◌, ℕ, arith, drop, string_bytes, ap, ◌∙◌, sym}
 use Rattle.tidy_run.proofs.LineLemmas.{on_ok_is, tail, line-written, line-blank, newline-written, newline-dropped, rest-plain}
 use Rattle.tidy_run.proofs.order.push_in_order.Goals as goal
 use Rattle.tidy_run.proofs.order.push_in_order.Goals.{then-end-gt0+in_ok-push_str, else-end-gt0, then-newlines-lt2+in_ok-push, else-newlines-lt2}
@@ -35,5 +34,6 @@ loop-at-preserved c = record {
     ]
 
 pub returns-clause-written : goal.returns-clause-written
-returns-clause-written c = grind (arith, common_steps, on_ok_is, string_bytes, rest-plain, c.push_str-2.ensures.bytes,
-    c.loop-at.invariant.few, c.in_default.ensures.found, c.loop-at.invariant.left)
+returns-clause-written c = on_ok_is c.push_str-2.result _ c.push_str-2.ensures.bytes
+    (ap (λ (xs : List ℕ). string_bytes c.loop-at.output ++ xs) (sym (rest-plain c.loop-at.newlines c.loop-at.rest.now c.loop-at.invariant.few
+    c.in_default.ensures.found)) ∙ c.loop-at.invariant.left)

@@ -1,8 +1,8 @@
-use Rattle.std.proofs.Common.{◌-◌, string_bytes, arith}
-use Rattle.std.proofs.lemmas.Grind.{common_steps}
+use Rattle.std.proofs.Common.{◌-◌, string_bytes, arith, ◌≡◌, ◌++◌, Bool, List, ℕ, take, ap, sym, ◌∙◌}
 use Rattle.tidy_run.proofs.LineLemmas.{on_ok_is}
 use Rattle.tidy_run.proofs.ReturnLemmas.{line-unix, last-unix, open-unix}
 use Rattle.tidy_run.proofs.order.push_unix.Goals as goal
+use Rattle.tidy_run.specs.Order.{unix_lines}
 
 pub loop-at-preserved : goal.loop-at-preserved
 loop-at-preserved c = record {
@@ -11,11 +11,19 @@ loop-at-preserved c = record {
 }
 
 pub returns-then-not-is_line-clause-written : goal.returns-then-not-is_line-clause-written
-returns-then-not-is_line-clause-written c = grind (arith, common_steps, on_ok_is, string_bytes, open-unix,
-    c.push_str-then-not-is_line.ensures.bytes, c.loop-at.invariant.left, c.args.is_line, c.if-not-is_line.true,
-    c.in_default.ensures.found)
+returns-then-not-is_line-clause-written c = on_ok_is c.push_str-then-not-is_line.result _ c.push_str-then-not-is_line.ensures.bytes
+    (ap (λ (xs : List ℕ). string_bytes c.loop-at.output ++ xs) (sym stays) ∙ c.loop-at.invariant.left)
+  where
+    stays : unix_lines c.args.is_line c.loop-at.rest.now ≡ c.loop-at.rest.now
+    stays = ap (λ (b : Bool). unix_lines b c.loop-at.rest.now) c.if-not-is_line.true ∙ open-unix c.loop-at.rest.now c.in_default.ensures.found
 
 pub returns-clause-written : goal.returns-clause-written
-returns-clause-written c = grind (arith, common_steps, on_ok_is, string_bytes, last-unix, c.push_str-2.ensures.bytes,
-    c.range-2.ensures.value, c.loop-at.invariant.left, c.args.is_line, c.if-not-is_line.false,
-    c.in_default.ensures.found, c.line_end-end-2.ensures)
+returns-clause-written c = on_ok_is c.push_str-2.result _ c.push_str-2.ensures.bytes
+    (ap (λ (xs : List ℕ). string_bytes c.loop-at.output ++ xs) (c.range-2.ensures.value ∙ sym ends) ∙ c.loop-at.invariant.left)
+  where
+    rest : List ℕ
+    rest = c.loop-at.rest.now
+
+    ends : unix_lines c.args.is_line rest ≡ take (c.line_end-end-2.result - 0) rest
+    ends = ap (λ (b : Bool). unix_lines b rest) c.if-not-is_line.false ∙ (last-unix rest c.line_end-end-2.result c.in_default.ensures.found c.line_end-end-2.ensures
+        ∙ ap (λ (n : ℕ). take n rest) (let e : c.line_end-end-2.result ≡ c.line_end-end-2.result - 0 = omega arith in e))

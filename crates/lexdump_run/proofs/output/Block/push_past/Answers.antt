@@ -1,13 +1,13 @@
-use Rattle.std.proofs.Common.{refl, arith}
-use Rattle.std.proofs.lemmas.Grind.{common_steps}
+use Rattle.std.proofs.Common.{refl}
 use Rattle.std.proofs.lemmas.Result.{err_from_is_err_and}
 use Rattle.ends.proofs.KnownLemmas.{front_first, front_more}
 use Rattle.lexdump_run.proofs.PushLemmas.{pushes_past}
 use Rattle.lexdump_run.proofs.output.Block.push_past.Goals as goal
 
 pub returns-in_err-write_out-clause-pushed : goal.returns-in_err-write_out-clause-pushed
-returns-in_err-write_out-clause-pushed g c = grind (arith, common_steps, err_from_is_err_and, front_first,
-    c.from_residual.ensures.1, c.in_err-write_out.ensures.only, c.in_err-write_out.ensures.err)
+returns-in_err-write_out-clause-pushed g c =
+    let p = err_from_is_err_and c.from_residual.result c.from_residual.ensures.1 in
+    rw (p.1, p.2) (c.in_err-write_out.ensures.only, front_first _ _ c.args.self.now c.args.bytes.now _ refl c.in_err-write_out.ensures.err)
 
 pub returns-in_err-write_bytes-clause-pushed : goal.returns-in_err-write_bytes-clause-pushed
 returns-in_err-write_bytes-clause-pushed g c =
