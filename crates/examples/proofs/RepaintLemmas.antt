@@ -1,15 +1,16 @@
 -- What is shown of a text after an edit.
-use Rattle.std.proofs.Common.{◌≡◌, ℕ, zero, suc, ◌+◌, ◌-◌, ◌<◌, ◌≤◌, Bool, true, false, cond, List, [], ◌∷◌, ◌++◌, length, map, take, drop, refl, sym, ap, subst, ◌∙◌, arith, drop-drop, take-take, take-append-drop, length-take, length-take-le, leb, leb-true, le-leb, inl, inr, ◌&&◌, IsUtf8, IsCharBoundary, Result, Ok, Err, IfOk, OnOk}
+use Rattle.std.proofs.Common.{◌≡◌, ℕ, zero, suc, ◌+◌, ◌-◌, ◌<◌, ◌≤◌, Bool, true, false, cond, List, [], ◌∷◌, ◌++◌, length, map, take, drop, refl, sym, ap, subst, ◌∙◌, arith, drop-drop, take-take, take-append-drop, length-take, length-take-le, leb, ltb, leb-true, le-leb, inl, inr, ◌&&◌, IsUtf8, IsCharBoundary, Result, Ok, Err, IfOk, OnOk}
 use Rattle.std.proofs.lemmas.Bool.{and_parts, cases_Bool}
 use Rattle.std.proofs.lemmas.List.{drop-take}
+use Rattle.std.specs.List.{count_by}
 use Rattle.rustc_lexer.specs.declared.relex.relexing.Relexed.{Relexed}
 use Rattle.rustc_lexer.specs.declared.token.Token.{Token}
 use Rattle.rustc_lexer.specs.Tokens.{bound, tokens_by}
-use Rattle.rustc_lexer.specs.Edits.{IsEdit, apply, ends_past, is_bound, kept_front, kept_front_from, least_from, meet, meets_at, relexed_of, Placed, pieces_from, pieces_of}
+use Rattle.rustc_lexer.specs.Edits.{IsEdit, apply, ends_from, kept_front, least_from, meet, meets_at, relexed_of, Placed, pieces_from, pieces_of}
 use Rattle.rustc_lexer.specs.Locality.{has_two, IsGrammar}
 use Rattle.rustc_lexer.specs.Classes.{IsText}
-use Rattle.rustc_lexer.proofs.BoundLemmas.{bound-last, ends_past-at, is_bound-elim, is_bound-intro, least_from_ge, rises}
-use Rattle.rustc_lexer.proofs.EditLemmas.{IsEdited, edited, front-none, has_two-before, bound-take, kept_same, met_rest, same_rest, start_inside}
+use Rattle.rustc_lexer.proofs.BoundLemmas.{bound-last, ends_past-at, is_bound, is_bound-elim, is_bound-intro, least_from_ge, rises}
+use Rattle.rustc_lexer.proofs.EditLemmas.{IsEdited, edited, front-none, has_two-before, bound-take, kept_front_by, kept_front_from, kept_same, met_rest, same_rest, start_inside}
 use Rattle.rustc_lexer.proofs.PieceLemmas.{drop-pieces, length-pieces, take-pieces}
 use Rattle.rustc_lexer.proofs.ReadyLemmas.{cuts}
 use Rattle.examples.specs.Repaint.{changed, moved, shown_after}
@@ -108,7 +109,8 @@ module _ {first : List ℕ → Token} (law : IsGrammar first) (text : List ℕ) 
   kept_two : (kept ≤ length old) × (0 < kept → has_two text (bound old kept) start ≡ true)
   kept_two =
       let zero_is : (k : ℕ) → bound old k ≡ 0 + bound old k = λ k. omega arith in
-      let two = front-two text start 0 old is.utf8 (λ k few. subst (IsCharBoundary text) (zero_is k) (cuts law text is k few)) in
+      let two = subst (λ n. (n ≤ length old) × (0 < n → has_two text (0 + bound old n) start ≡ true)) (sym (kept_front_by text start 0 old))
+      (front-two text start 0 old is.utf8 (λ k few. subst (IsCharBoundary text) (zero_is k) (cuts law text is k few))) in
       (two.0, λ some. subst (λ p. has_two text p start ≡ true) (sym (zero_is kept)) (two.1 some))
 
   front_same : take kept new ≡ take kept old
@@ -173,8 +175,8 @@ module _ {first : List ℕ → Token} (law : IsGrammar first) (text : List ℕ) 
   enough =
       let i : ℕ = passes.1.0 in
       let few : i ≤ length old = passes.1.1 in
-      let back : ends_past old (bound new met - (start + length insert) + stop) ≡ length old - i = ap (ends_past old) (sym passes.1.2) ∙ ends_past-at old i few (rises law text is) in
-      let number : length shown - ends_past old (bound new met - (start + length insert) + stop) ≡ i = omega (arith, length-pieces text 0 old, back) in
+      let back : count_by (ltb (bound new met - (start + length insert) + stop)) (ends_from 0 old) ≡ length old - i = ap (λ p. count_by (ltb p) (ends_from 0 old)) (sym passes.1.2) ∙ ends_past-at old i few (rises law text is) in
+      let number : length shown - count_by (ltb (bound new met - (start + length insert) + stop)) (ends_from 0 old) ≡ i = omega (arith, length-pieces text 0 old, back) in
       in_three kept met to_show (least_from_ge test (length new - kept) kept)
       ∙ (ap (λ ps. ps ++ (take (met - kept) (drop kept to_show) ++ drop met to_show)) front_shown
       ∙ (ap (λ ps. take kept shown ++ (take (met - kept) (drop kept to_show) ++ ps)) back_shown

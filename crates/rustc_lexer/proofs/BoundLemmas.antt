@@ -1,26 +1,32 @@
 -- Bounds of a list of tokens, and the search for one.
-use Rattle.std.proofs.Common.{◌≡◌, ℕ, zero, suc, ◌+◌, ◌-◌, ◌<◌, ◌≤◌, Bool, true, false, cond, ◌&&◌, ◌||◌, List, [], ◌∷◌, length, drop, refl, sym, ap, ◌∙◌, arith, eqb, leb, eq-eqb, eqb-true, leb-true, le-leb, true≢false, length-drop, eq-or-lt_of_le}
-use Rattle.std.proofs.lemmas.Bool.{lt-leb}
+use Rattle.std.proofs.Common.{◌≡◌, ℕ, zero, suc, ◌+◌, ◌-◌, ◌<◌, ◌≤◌, Bool, true, false, cond, ◌||◌, List, [], ◌∷◌, length, drop, refl, sym, ap, ◌∙◌, arith, eqb, ltb, eq-eqb, eqb-true, true≢false, length-drop, eq-or-lt_of_le}
+use Rattle.std.proofs.lemmas.Bool.{lt-ltb, le-ltb}
+use Rattle.std.proofs.lemmas.List.Sums.{sum_by_from}
+use Rattle.std.specs.List.{list_any, count_by}
 use Rattle.std.proofs.lemmas.Bool.Decides.{leb_tells}
 use Rattle.std.proofs.lemmas.List.{drop_all}
 use Rattle.std.proofs.Math.Bool.{or-true}
 use Rattle.std.proofs.lemmas.Grind.{common_steps}
-use Rattle.rustc_lexer.specs.declared.token.Token.{Token}
+use Rattle.rustc_lexer.specs.{Token}
 use Rattle.rustc_lexer.specs.Classes.{IsText}
 use Rattle.rustc_lexer.specs.Locality.{IsGrammar}
 use Rattle.rustc_lexer.specs.Tokens.{bound, tokens_by}
-use Rattle.rustc_lexer.specs.Edits.{is_bound, ends_past, least_from}
+use Rattle.rustc_lexer.specs.Edits.{ends_from, least_from}
+use Rattle.rustc_lexer.specs.laws.Choice.{by_either}
 use Rattle.rustc_lexer.specs.laws.Cuts.{IsCutAt, at_bound, tokens-cons, tokens-nil}
 use Rattle.rustc_lexer.proofs.ProgressLemmas.{IsNext, next-from_drop}
 
+-- whether the place is 0 or the end of a token
+abbrev pub is_bound : List Token → ℕ → Bool
+is_bound tokens place = list_any (eqb place) (0 ∷ ends_from 0 tokens)
+
+bound_among : (from : ℕ) (ts : List Token) (i p : ℕ) → from + bound ts i ≡ p → list_any (eqb p) (from ∷ ends_from from ts) ≡ true
+bound_among from ts zero p e = rw (eq-eqb p from (omega arith)) refl
+bound_among from [] (suc i) p e = rw (eq-eqb p from (omega arith)) refl
+bound_among from (t ∷ ts) (suc i) p e = rw (bound_among (from + t.len) ts i p (omega arith), or-true (eqb p from)) refl
+
 pub is_bound-intro : (ts : List Token) (i p : ℕ) → bound ts i ≡ p → is_bound ts p ≡ true
-is_bound-intro [] zero p e = eq-eqb p 0 (sym e)
-is_bound-intro [] (suc i) p e = eq-eqb p 0 (sym e)
-is_bound-intro (t ∷ ts) zero p e = rw (eq-eqb p 0 (sym e)) refl
-is_bound-intro (t ∷ ts) (suc i) p e =
-    let le : t.len ≤ p = omega arith in
-    let rest : bound ts i ≡ p - t.len = omega arith in
-    rw (le-leb t.len p le, is_bound-intro ts i (p - t.len) rest, or-true (eqb p 0)) refl
+is_bound-intro ts i p e = bound_among 0 ts i p (omega arith)
 
 pub bound_mono : (ts : List Token) (i j : ℕ) → i ≤ j → bound ts i ≤ bound ts j
 bound_mono ts zero j le = omega arith
@@ -29,14 +35,23 @@ bound_mono [] (suc i) (suc j) le = omega arith
 bound_mono (t ∷ ts) (suc i) zero le = absurd (omega arith)
 bound_mono (t ∷ ts) (suc i) (suc j) le = omega (arith, bound_mono ts i j (omega arith))
 
+among_ends : (from : ℕ) (ts : List Token) (p : ℕ) → list_any (eqb p) (ends_from from ts) ≡ true → (i : ℕ) × (i ≤ length ts) × (from + bound ts i ≡ p)
+among_ends from [] p e = absurd (true≢false (sym e))
+among_ends from (t ∷ ts) p e = by_either (eqb p (from + t.len))
+    (λ here. let same = eqb-true p (from + t.len) here in (1, omega arith, omega arith))
+    (λ other.
+    let at = among_ends (from + t.len) ts p (sym (ap (λ b. b || list_any (eqb p) (ends_from (from + t.len) ts)) other) ∙ e) in
+    let few = at.1 in
+    let there = at.2 in
+    (suc at.0, omega arith, omega arith))
+
+among-bound : (from : ℕ) (ts : List Token) (p : ℕ) → list_any (eqb p) (from ∷ ends_from from ts) ≡ true → (i : ℕ) × (i ≤ length ts) × (from + bound ts i ≡ p)
+among-bound from ts p e = by_either (eqb p from)
+    (λ here. let same = eqb-true p from here in (0, omega arith, omega arith))
+    (λ other. among_ends from ts p (sym (ap (λ b. b || list_any (eqb p) (ends_from from ts)) other) ∙ e))
+
 pub is_bound-elim : (ts : List Token) (p : ℕ) → is_bound ts p ≡ true → (i : ℕ) × (i ≤ length ts) × (bound ts i ≡ p)
-is_bound-elim [] p e = (0, omega arith, sym (eqb-true p 0 e))
-is_bound-elim (t ∷ ts) p e = by_tests (is_bound-elim ts (p - t.len)) (eqb p 0) (leb t.len p) refl refl e
-  where
-    by_tests : (is_bound ts (p - t.len) ≡ true → (i : ℕ) × (i ≤ length ts) × (bound ts i ≡ p - t.len)) → (a b : Bool) → eqb p 0 ≡ a → leb t.len p ≡ b → (a || (b && is_bound ts (p - t.len))) ≡ true → (i : ℕ) × (i ≤ suc (length ts)) × (bound (t ∷ ts) i ≡ p)
-    by_tests ih true b ea eb h = (0, omega arith, sym (eqb-true p 0 ea))
-    by_tests ih false true ea eb h = let at = ih h in let le : t.len ≤ p = leb-true t.len p eb in let e1 = at.1 in let e2 = at.2 in (suc at.0, omega arith, omega arith)
-    by_tests ih false false ea eb h = absurd (true≢false (sym h))
+is_bound-elim ts p e = let at = among-bound 0 ts p e in let there = at.2 in (at.0, at.1, omega arith)
 
 -- where every bound before number n is below the place, and number n is not, the place is a bound only if it is that one
 pub is_bound-decide : (ts : List Token) (n p : ℕ) → n ≤ length ts → ((i : ℕ) → i < n → bound ts i < p) → (n < length ts → p ≤ bound ts n) → is_bound ts p ≡ eqb (bound ts n) p
@@ -60,13 +75,29 @@ pub number_le_bound : (ts : List Token) (k : ℕ) → k ≤ length ts → ((j : 
 number_le_bound ts zero few up = omega arith
 number_le_bound ts (suc k) few up = omega (arith, up k (omega arith), number_le_bound ts k (omega arith) up)
 
-pub ends_past-at : (ts : List Token) (i : ℕ) → i ≤ length ts → ((k : ℕ) → k < length ts → bound ts k < bound ts (suc k)) → ends_past ts (bound ts i) ≡ length ts - i
-ends_past-at [] i few up = omega arith
-ends_past-at (t ∷ ts) zero few up = let some : 0 < t.len = let u = up 0 (omega arith) in omega arith in rw (lt-leb t.len 0 some) (omega arith)
-ends_past-at (t ∷ ts) (suc i) few up =
-    let ih = ends_past-at ts i (omega arith) (λ k h. let u = up (suc k) (omega arith) in omega arith) in
-    let left : t.len + bound ts i - t.len ≡ bound ts i = omega arith in
-    rw (le-leb t.len (t.len + bound ts i) (omega arith), left, ih) (omega arith)
+pub count-cons : {X : Type 0} (test : X → Bool) (x : X) (xs : List X) → count_by test (x ∷ xs) ≡ cond (test x) 1 0 + count_by test xs
+count-cons test x xs =
+    let e : 0 + cond (test x) 1 0 ≡ cond (test x) 1 0 = omega arith in
+    sum_by_from (λ y. cond (test y) 1 0) (0 + cond (test x) 1 0) xs ∙ ap (λ n. n + count_by test xs) e
+
+-- how many of the tokens end past the place: all that begin past it, and all behind the bound that it is
+ends_past-all : (from : ℕ) (ts : List Token) (p : ℕ) → p < from → count_by (ltb p) (ends_from from ts) ≡ length ts
+ends_past-all from [] p less = refl
+ends_past-all from (t ∷ ts) p less =
+    let rest = ends_past-all (from + t.len) ts p (omega arith) in
+    count-cons (ltb p) (from + t.len) (ends_from (from + t.len) ts) ∙ rw (lt-ltb p (from + t.len) (omega arith), rest) (omega arith)
+
+ends_past-from : (from : ℕ) (ts : List Token) (i p : ℕ) → i ≤ length ts → ((k : ℕ) → k < length ts → bound ts k < bound ts (suc k)) → from + bound ts i ≡ p → count_by (ltb p) (ends_from from ts) ≡ length ts - i
+ends_past-from from [] i p few up e = omega arith
+ends_past-from from (t ∷ ts) zero p few up e =
+    let some : 0 < t.len = let u = up 0 (omega arith) in omega arith in
+    count-cons (ltb p) (from + t.len) (ends_from (from + t.len) ts) ∙ rw (lt-ltb p (from + t.len) (omega arith), ends_past-all (from + t.len) ts p (omega arith)) (omega arith)
+ends_past-from from (t ∷ ts) (suc i) p few up e =
+    let rest = ends_past-from (from + t.len) ts i p (omega arith) (λ k h. let u = up (suc k) (omega arith) in omega arith) (omega arith) in
+    count-cons (ltb p) (from + t.len) (ends_from (from + t.len) ts) ∙ rw (le-ltb p (from + t.len) (omega arith), rest) (omega arith)
+
+pub ends_past-at : (ts : List Token) (i : ℕ) → i ≤ length ts → ((k : ℕ) → k < length ts → bound ts k < bound ts (suc k)) → count_by (ltb (bound ts i)) (ends_from 0 ts) ≡ length ts - i
+ends_past-at ts i few up = ends_past-from 0 ts i (bound ts i) few up (omega arith)
 
 -- the last bound is the text's end
 pub bound-last : {first : List ℕ → Token} (law : IsGrammar first) (text : List ℕ) → IsText text → bound (tokens_by first text) (length (tokens_by first text)) ≡ length text

@@ -6,10 +6,7 @@ use Rattle.std.proofs.lemmas.List.Elements.{All-head, All-tail}
 use Rattle.std.proofs.lemmas.Str.{IsCharBoundary-from_drop}
 use Rattle.std.proofs.Math.Nat.{min-eq_left, min-eq_right, min-le_right}
 use Rattle.std.proofs.lemmas.Grind.{common_steps}
-use Rattle.rustc_lexer.specs.declared.token.Token.{Token}
-use Rattle.rustc_lexer.specs.declared.edition.Edition.{Edition}
-use Rattle.rustc_lexer.specs.declared.token.FrontmatterAllowed.{FrontmatterAllowed}
-use Rattle.rustc_lexer.specs.declared.token.FrontmatterAllowed.TheVariants.{Yes, No}
+use Rattle.rustc_lexer.specs.{Token, Edition, FrontmatterAllowed, Yes, No}
 use Rattle.rustc_lexer.specs.Tokens.{IsFilledTo, state_past, bound, tokens_by, tokens_of, tokens_left, Partitions, TakesToken}
 use Rattle.rustc_lexer.specs.means.Tokens.{IsFilled}
 use Rattle.rustc_lexer.specs.State.{State}

@@ -1,16 +1,17 @@
 -- What an edit keeps: the front by locality, the back by a bound that both texts have.
-use Rattle.std.proofs.Common.{◌≡◌, ℕ, zero, suc, ◌+◌, ◌-◌, ◌*◌, ◌<◌, ◌≤◌, Bool, true, false, List, [], ◌∷◌, ◌++◌, length, take, drop, refl, sym, ap, ◌∙◌, subst, arith, length-drop, length-append, drop-drop, take-take, take-append-drop, take-add, take_at, drop_at, length-take-le, IsUtf8, IsCharBoundary, chars, leb-true, le-leb, leb, is_some, slice_get, encode_utf8, slice_range, append_assoc, Result, Ok, Err, IfErr, OnOk, OnErr, IfOk}
-use Rattle.std.specs.List.{replace_range}
+use Rattle.std.proofs.Common.{◌≡◌, ℕ, zero, suc, ◌+◌, ◌-◌, ◌*◌, ◌<◌, ◌≤◌, Bool, true, false, List, [], ◌∷◌, ◌++◌, length, take, drop, cond, refl, sym, ap, ◌∙◌, subst, arith, length-drop, length-append, drop-drop, take-take, take-append-drop, take-add, take_at, drop_at, length-take-le, IsUtf8, IsCharBoundary, chars, leb-true, le-leb, leb, is_some, slice_get, encode_utf8, slice_range, append_assoc, Result, Ok, Err, IfErr, OnOk, OnErr, IfOk}
+use Rattle.std.specs.List.{count_by, replace_range}
 use Rattle.std.proofs.lemmas.List.{drop-take, take-append-le}
 use Rattle.std.proofs.lemmas.Grind.{common_steps}
 use Rattle.std.proofs.lemmas.Str.{chars_past_char, chars-nil, IsUtf8-append, IsUtf8-take, IsUtf8-drop, IsUtf8-between, IsCharBoundary-from_drop, chars-append, length-encode, len_utf8_bounds, encodes-chars}
 use Rattle.std.proofs.Math.Utf8.{encodes}
-use Rattle.rustc_lexer.specs.declared.token.Token.{Token}
+use Rattle.rustc_lexer.specs.{Token}
 use Rattle.rustc_lexer.specs.Locality.{AgreePast, IsGrammar, has_two}
 use Rattle.rustc_lexer.specs.Classes.{IsText}
 use Rattle.rustc_lexer.specs.Tokens.{bound, tokens_by}
-use Rattle.rustc_lexer.specs.Edits.{apply, IsEdit, kept_front_from}
+use Rattle.rustc_lexer.specs.Edits.{apply, ends_from, IsEdit}
 use Rattle.rustc_lexer.specs.laws.Cuts.{IsCutAt, at_bound, tokens_local, look}
+use Rattle.rustc_lexer.proofs.BoundLemmas.{count-cons}
 
 -- what holds anyway holds of an error
 pub IfErr-always : {T E : Type 0} {P : Type 0} (r : Result T E) → P → IfErr r (λ _. P)
@@ -149,6 +150,16 @@ has_two-mono text place later to is le b c two =
     ap (λ zs. xs ++ take (to - later) zs) (drop-drop (later - place) place text ∙ ap (λ n. drop n text) next)) in
     let enough = has_two-count text later to two in
     has_two-intro text place to (rw (split, chars-append xs ys (IsUtf8-between text place later is le b c)) (omega (arith, length-append (chars xs) (chars ys), enough)))
+
+-- how many of the tokens end at least two characters before `to`; the first begins at `from`
+abbrev pub kept_front_from : List ℕ → ℕ → ℕ → List Token → ℕ
+kept_front_from text to from [] = 0
+kept_front_from text to from (t ∷ ts) = cond (has_two text (from + t.len) to) 1 0 + kept_front_from text to (from + t.len) ts
+
+pub kept_front_by : (text : List ℕ) (to from : ℕ) (ts : List Token) → count_by (λ end. has_two text end to) (ends_from from ts) ≡ kept_front_from text to from ts
+kept_front_by text to from [] = refl
+kept_front_by text to from (t ∷ ts) =
+    count-cons (λ end. has_two text end to) (from + t.len) (ends_from (from + t.len) ts) ∙ ap (λ n. cond (has_two text (from + t.len) to) 1 0 + n) (kept_front_by text to (from + t.len) ts)
 
 -- the tokens past one that ends too late end too late
 pub front-none : (text : List ℕ) (to from : ℕ) (ts : List Token) → IsUtf8 text → ((k : ℕ) → k ≤ length ts → IsCharBoundary text (from + bound ts k)) → has_two text from to ≡ false → kept_front_from text to from ts ≡ 0

@@ -3,11 +3,11 @@ use Rattle.std.proofs.Common.{◌≡◌, ℕ, zero, suc, ◌+◌, ◌-◌, ◌<�
 use Rattle.std.proofs.lemmas.List.{drop_all}
 use Rattle.std.proofs.lemmas.Grind.{common_steps}
 use Rattle.rustc_lexer.specs.means.Relexing.{AreBoundaries}
-use Rattle.rustc_lexer.specs.declared.token.Token.{Token}
+use Rattle.rustc_lexer.specs.{Token}
 use Rattle.rustc_lexer.specs.Tokens.{bound}
-use Rattle.rustc_lexer.specs.Edits.{kept_front, kept_front_from}
+use Rattle.rustc_lexer.specs.Edits.{kept_front}
 use Rattle.rustc_lexer.specs.Locality.{has_two}
-use Rattle.rustc_lexer.proofs.EditLemmas.{front-none, has_two-mono}
+use Rattle.rustc_lexer.proofs.EditLemmas.{front-none, has_two-mono, kept_front_by, kept_front_from}
 use Rattle.rustc_lexer.proofs.ProgressLemmas.{IsNext, next-from_drop}
 
 pub record IsKept (text : List ℕ) (tokens : List Token) (start number place : ℕ) : Type 0 where
@@ -112,7 +112,7 @@ kept_from text tokens start number place is cuts few at two =
     record {
       number_bound = few;
       place_is = at;
-      count = all ∙ ap (λ p. number + kept_front_from text start p (drop number tokens)) here;
+      count = kept_front_by text start 0 tokens ∙ (all ∙ ap (λ p. number + kept_front_from text start p (drop number tokens)) here);
       two = two;
     }
 

@@ -3,7 +3,7 @@ use Rattle.std.proofs.Common.{◌≡◌, ℕ, suc, ◌+◌, ◌-◌, ◌≤◌, 
 use Rattle.std.specs.Str.{chars, IsUtf8, IsCharBoundary}
 use Rattle.std.proofs.lemmas.Str.{IsCharBoundary-from_drop}
 use Rattle.std.proofs.lemmas.Grind.{common_steps}
-use Rattle.rustc_lexer.specs.declared.token.GuardedStr.{GuardedStr}
+use Rattle.rustc_lexer.specs.{GuardedStr}
 use Rattle.rustc_lexer.specs.means.Guarded.{closing_len, guarded_body, string_past, guarded_by, guarded}
 use Rattle.rustc_lexer.specs.means.Literal.{suffix_len}
 use Rattle.rustc_lexer.specs.means.Quoted.{double_quoted_string}

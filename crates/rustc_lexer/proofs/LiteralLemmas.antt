@@ -3,9 +3,7 @@ use Rattle.std.proofs.Common.{◌≡◌, ℕ, suc, ◌+◌, ◌-◌, ◌≤◌, 
 use Rattle.std.specs.Str.{chars, encode_utf8_all, IsUtf8}
 use Rattle.std.proofs.lemmas.Str.{encodes-append, length-encode, len_utf8_bounds}
 use Rattle.std.proofs.lemmas.Grind.{common_steps}
-use Rattle.rustc_lexer.specs.declared.token.TokenKind.{TokenKind}
-use Rattle.rustc_lexer.specs.declared.token.LiteralKind.{LiteralKind}
-use Rattle.rustc_lexer.specs.declared.token.TokenKind.TheVariants.{Literal}
+use Rattle.rustc_lexer.specs.{TokenKind, LiteralKind, Literal}
 use Rattle.rustc_lexer.specs.means.Literal.{Body, suffix_len, suffixed, literal_past}
 use Rattle.rustc_lexer.specs.means.Scan.{bytes_of, past, scanned}
 use Rattle.rustc_lexer.specs.State.{suffix_start_of}

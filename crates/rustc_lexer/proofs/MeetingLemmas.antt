@@ -1,12 +1,12 @@
 -- Lexing on from the kept front until the new tokens meet the old ones.
 use Rattle.std.proofs.Common.{◌≡◌, ℕ, suc, ◌+◌, ◌-◌, ◌<◌, ◌≤◌, max, Bool, true, false, List, [], ◌∷◌, ◌++◌, length, take, drop, refl, sym, ap, ◌∙◌, arith, eqb, eqb-true, leb, le-leb, length-append, eq-or-lt_of_le, inl, inr, true≢false}
 use Rattle.std.proofs.lemmas.Bool.{and_parts, leb-true}
-use Rattle.rustc_lexer.specs.declared.token.Token.{Token}
+use Rattle.rustc_lexer.specs.{Token}
 use Rattle.rustc_lexer.specs.Classes.{IsText}
 use Rattle.rustc_lexer.specs.Locality.{IsGrammar}
 use Rattle.rustc_lexer.specs.Tokens.{bound, tokens_by}
-use Rattle.rustc_lexer.specs.Edits.{is_bound, meets_at, least_from, meet}
-use Rattle.rustc_lexer.proofs.BoundLemmas.{is_bound-intro, is_bound-decide, least_from_ge, least_from-more, least_from-here}
+use Rattle.rustc_lexer.specs.Edits.{meets_at, least_from, meet}
+use Rattle.rustc_lexer.proofs.BoundLemmas.{is_bound, is_bound-intro, is_bound-decide, least_from_ge, least_from-more, least_from-here}
 use Rattle.rustc_lexer.proofs.ProgressLemmas.{IsLexedTo, IsPlace, lexed_place, lexed_more}
 
 -- the items are the first tokens of the new text, up to where they meet the old ones at bound `number`

@@ -6,10 +6,7 @@ use Rattle.std.proofs.lemmas.Bool.{eqb-true, ne_eqb}
 use Rattle.std.proofs.Math.Bool.{and-true}
 use Rattle.std.proofs.lemmas.Grind.{common_steps}
 use Rattle.unicode_ident.proofs.IdentLemmas.{is_xid_start-ascii}
-use Rattle.rustc_lexer.specs.declared.token.Base.{Base}
-use Rattle.rustc_lexer.specs.declared.token.Base.TheVariants.{Decimal}
-use Rattle.rustc_lexer.specs.declared.token.LiteralKind.{LiteralKind}
-use Rattle.rustc_lexer.specs.declared.token.LiteralKind.TheVariants.{Int}
+use Rattle.rustc_lexer.specs.{Base, LiteralKind, Decimal, Int}
 use Rattle.rustc_lexer.specs.means.Number.{is_underscore, or_underscore, digits, Front, front_of, binary, octal, hexadecimal, decimal, front_past_zero, is_exponent_letter, float_exponent, fraction, is_no_fraction, begins_fraction, past_digits, front, tail, number_kind}
 use Rattle.rustc_lexer.specs.means.Scan.{after, begins, gives, next_is, past, run_len, scanned}
 use Rattle.rustc_lexer.specs.laws.Past.{IsUtf8-past, chars-past, past-past}

@@ -6,7 +6,7 @@ use Rattle.std.proofs.lemmas.Bool.{eqb-true}
 use Rattle.std.proofs.lemmas.Str.{IsCharBoundary-from_drop}
 use Rattle.std.proofs.lemmas.Grind.{common_steps}
 use Rattle.unicode_ident.proofs.IdentLemmas.{is_xid_start-ascii}
-use Rattle.rustc_lexer.specs.declared.token.RawStrError.{RawStrError}
+use Rattle.rustc_lexer.specs.{RawStrError}
 use Rattle.rustc_lexer.specs.means.Ident.{marks_ident}
 use Rattle.rustc_lexer.specs.means.Lexeme.{is_raw_mark}
 use Rattle.rustc_lexer.specs.means.Raw.{is_quote, hash_run, raw_read, raw_text}

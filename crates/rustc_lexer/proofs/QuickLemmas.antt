@@ -7,8 +7,7 @@ use Rattle.std.proofs.lemmas.Str.{chars-nil, encode_ascii}
 use Rattle.std.proofs.lemmas.List.Sums.{prefix_len-le-length}
 use Rattle.std.proofs.lemmas.Grind.{common_steps}
 use Rattle.unicode_ident.proofs.IdentLemmas.{is_xid_continue-ascii}
-use Rattle.rustc_lexer.specs.declared.token.TokenKind.{TokenKind}
-use Rattle.rustc_lexer.specs.declared.token.TokenKind.TheVariants.{Ident, UnknownPrefix, Whitespace}
+use Rattle.rustc_lexer.specs.{TokenKind, Ident, UnknownPrefix, Whitespace}
 use Rattle.rustc_lexer.specs.means.ByteRuns.{is_continue_byte, is_space_byte, is_wide}
 use Rattle.rustc_lexer.specs.Classes.{is_id_continue}
 use Rattle.rustc_lexer.specs.Tables.{is_emoji}

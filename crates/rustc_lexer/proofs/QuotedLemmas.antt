@@ -1,7 +1,7 @@
 -- Literals of quoted text.
 use Rattle.std.proofs.Common.{◌≡◌, ℕ, Bool, List, sym, ap, ◌∙◌}
 use Rattle.std.specs.Str.{IsUtf8}
-use Rattle.rustc_lexer.specs.declared.token.LiteralKind.{LiteralKind}
+use Rattle.rustc_lexer.specs.{LiteralKind}
 use Rattle.rustc_lexer.specs.means.Literal.{Body}
 use Rattle.rustc_lexer.specs.means.Quoted.{quoted_body}
 use Rattle.rustc_lexer.specs.means.Scan.{after, past, scanned}

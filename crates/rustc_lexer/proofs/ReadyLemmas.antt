@@ -1,12 +1,13 @@
 -- An edit: what lexing from the kept front asks, and what it leaves.
-use Rattle.std.proofs.Common.{◌≡◌, ℕ, ◌+◌, ◌-◌, ◌<◌, ◌≤◌, ◌^◌, true, List, ◌++◌, length, take, drop, refl, sym, ap, ◌∙◌, subst, arith, length-take, append_assoc, IsUtf8}
+use Rattle.std.proofs.Common.{◌≡◌, ℕ, ◌+◌, ◌-◌, ◌<◌, ◌≤◌, ◌^◌, true, List, ◌++◌, length, take, drop, refl, sym, ap, ◌∙◌, subst, arith, length-take, append_assoc, IsUtf8, ltb}
+use Rattle.std.specs.List.{count_by}
 use Rattle.rustc_lexer.specs.means.Relexing.{AreBoundaries}
 use Rattle.rustc_lexer.specs.declared.relex.front.Bound.{Bound}
-use Rattle.rustc_lexer.specs.declared.token.Token.{Token}
+use Rattle.rustc_lexer.specs.{Token}
 use Rattle.rustc_lexer.specs.Classes.{IsText}
 use Rattle.rustc_lexer.specs.Locality.{IsGrammar, has_two}
 use Rattle.rustc_lexer.specs.Tokens.{bound, tokens_by}
-use Rattle.rustc_lexer.specs.Edits.{apply, ends_past, IsEdit, kept_front, meet, relexed_of}
+use Rattle.rustc_lexer.specs.Edits.{apply, ends_from, IsEdit, kept_front, meet, relexed_of}
 use Rattle.rustc_lexer.specs.laws.Cuts.{at_bound}
 use Rattle.rustc_lexer.proofs.BoundLemmas.{bound_mono, rises, ends_past-at}
 use Rattle.rustc_lexer.proofs.EditLemmas.{IsEdited, edited, kept_same, met_whole, has_two-before}
@@ -54,7 +55,7 @@ counts {first} law text is start stop insert items number kept kept_is met =
     let old : List Token = tokens_by first text in
     let new : List Token = tokens_by first (apply text start stop insert) in
     let least : meet old new stop (start + length insert) (kept_front text old start) ≡ length items = ap (meet old new stop (start + length insert)) (sym kept_is) ∙ sym met.least in
-    let back : ends_past old (bound new (length items) - (start + length insert) + stop) ≡ length old - number = ap (ends_past old) (sym met.same_place) ∙ ends_past-at old number met.number_bound (rises law text is) in
+    let back : count_by (ltb (bound new (length items) - (start + length insert) + stop)) (ends_from 0 old) ≡ length old - number = ap (λ p. count_by (ltb p) (ends_from 0 old)) (sym met.same_place) ∙ ends_past-at old number met.number_bound (rises law text is) in
     rw (least, ← kept_is, back) refl
 
 -- the same, for a list and a text that are known by equations

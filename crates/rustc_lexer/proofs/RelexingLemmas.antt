@@ -9,7 +9,7 @@ use Rattle.rustc_lexer.specs.declared.relex.front.Bound.{Bound}
 use Rattle.rustc_lexer.specs.declared.relex.front.Meeting.{Meeting}
 use Rattle.rustc_lexer.specs.declared.relex.relexing.Change.{Change}
 use Rattle.rustc_lexer.specs.declared.relex.relexing.Relexing.{Relexing}
-use Rattle.rustc_lexer.specs.declared.token.Token.{Token}
+use Rattle.rustc_lexer.specs.{Token}
 use Rattle.rustc_lexer.specs.Tokens.{bound, tokens_by}
 use Rattle.rustc_lexer.specs.Edits.{apply, kept_front, IsEdit, least_from, meet, meets_at, relexed_of, IsBound, IsChange, IsMadeOf, Stands, IsWhole, known}
 use Rattle.rustc_lexer.specs.means.Relexing.{IsFollowed, IsFront, damage_of, old_stop_of}

@@ -5,7 +5,7 @@ use Rattle.std.proofs.Math.Seq.{drop-cons}
 use Rattle.std.proofs.lemmas.Bool.{cases_lt, eqb-true, eq-eqb, ne_eqb}
 use Rattle.std.proofs.lemmas.List.Sums.{prefix_len-le-length, prefix_len_passes, prefix_len_stops}
 use Rattle.std.proofs.lemmas.Grind.{common_steps}
-use Rattle.rustc_lexer.specs.declared.edition.Edition.TheVariants.{E2024}
+use Rattle.rustc_lexer.specs.{E2024}
 use Rattle.rustc_lexer.specs.means.Comment.{is_no_newline}
 use Rattle.rustc_lexer.specs.means.Scan.{begins}
 use Rattle.rustc_lexer.specs.means.Shebang.{is_attribute, before_newline, line_len, shebang_past, shebang}

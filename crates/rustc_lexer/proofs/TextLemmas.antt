@@ -8,12 +8,7 @@ use Rattle.std.proofs.lemmas.Str.{chars-encodes, scalars-chars, length-encode}
 use Rattle.std.proofs.lemmas.Grind.{common_steps}
 use Rattle.rustc_lexer.specs.declared.lexemes.raw.RawPrefix.{RawPrefix}
 use Rattle.rustc_lexer.specs.declared.lexemes.raw.RawPrefix.TheVariants.{R, Br, Cr}
-use Rattle.rustc_lexer.specs.declared.token.Base.{Base}
-use Rattle.rustc_lexer.specs.declared.token.LiteralKind.{LiteralKind}
-use Rattle.rustc_lexer.specs.declared.token.LiteralKind.TheVariants.{Int, Float}
-use Rattle.rustc_lexer.specs.declared.token.Token.{Token}
-use Rattle.rustc_lexer.specs.declared.token.TokenKind.{TokenKind}
-use Rattle.rustc_lexer.specs.declared.token.TokenKind.TheVariants.{RawIdent, InvalidIdent, ForcedKeywordIdent, Literal, Slash, Whitespace, GuardedStrPrefix, Pound, Eof}
+use Rattle.rustc_lexer.specs.{Base, LiteralKind, Token, TokenKind, Int, Float, RawIdent, InvalidIdent, ForcedKeywordIdent, Literal, Slash, Whitespace, GuardedStrPrefix, Pound, Eof}
 use Rattle.rustc_lexer.specs.means.BlockComment.{block_comment, block_comment_to, comment_end}
 use Rattle.rustc_lexer.specs.Classes.{is_id_continue, IsText}
 use Rattle.rustc_lexer.specs.means.Comment.{slash, line_comment}

@@ -6,11 +6,7 @@ use Rattle.std.specs.Str.{IsUtf8}
 use Rattle.std.proofs.lemmas.Bool.{eqb-true, eqb-false}
 use Rattle.std.proofs.lemmas.Str.{IsCharBoundary-from_take}
 use Rattle.std.proofs.lemmas.List.{nil_from_length}
-use Rattle.rustc_lexer.specs.declared.edition.Edition.{Edition}
-use Rattle.rustc_lexer.specs.declared.edition.Edition.TheVariants.{E2024}
-use Rattle.rustc_lexer.specs.declared.token.FrontmatterAllowed.{FrontmatterAllowed}
-use Rattle.rustc_lexer.specs.declared.token.FrontmatterAllowed.TheVariants.{No}
-use Rattle.rustc_lexer.specs.declared.token.Token.{Token}
+use Rattle.rustc_lexer.specs.{Edition, FrontmatterAllowed, Token, E2024, No}
 use Rattle.rustc_lexer.specs.Tokens.{tokens_of, tokens_left, RestartsAtBounds, TakesToken}
 use Rattle.rustc_lexer.specs.laws.Tokens.{CutsOff, token_at-cuts, tokens-cons, tokens-nil, shorter}
 use Rattle.rustc_lexer.specs.LanguageText.{Mode, part, mode_after, mode_in}

@@ -2,12 +2,8 @@
 -- the page allows, and the page allows nothing else: so says the type of what it is taken from.
 -- That type is all that one has to read. How an answer is found, and the proof that it is the only
 -- one, stand in laws/TheAnswers.antt.
-use Rattle.std.specs.Prelude.{ℕ, ◌<◌, List, length, drop, Option, Result}
-use Rattle.std.specs.Str.{chars}
-use Rattle.rustc_lexer.specs.declared.edition.Edition.{Edition}
-use Rattle.rustc_lexer.specs.declared.token.GuardedStr.{GuardedStr}
-use Rattle.rustc_lexer.specs.declared.token.RawStrError.{RawStrError}
-use Rattle.rustc_lexer.specs.declared.token.Token.{Token}
+use Rattle.std.specs.Prelude.{ℕ, ◌<◌, List, length, drop, Option, Result, chars}
+use Rattle.rustc_lexer.specs.{Edition, GuardedStr, RawStrError, Token}
 use Rattle.rustc_lexer.specs.Classes.{IsText, Utf8}
 use Rattle.rustc_lexer.specs.LanguageCalls.{IsRawAnswer, IsShebang}
 use Rattle.rustc_lexer.specs.LanguageText.{Mode, AreTokens, TheOnly}

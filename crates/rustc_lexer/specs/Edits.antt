@@ -1,16 +1,10 @@
 -- What edits make of a text, what they keep of its tokens, and a text that is kept with its tokens; the same work where
 -- only the lengths of the old tokens are at hand.
-use Rattle.std.specs.Prelude.{ℕ, zero, suc, ◌+◌, ◌-◌, ◌<◌, ◌≤◌, ◌^◌, ◌&&◌, ◌||◌, Bool, cond, nat_le, nat_eq, List, [], ◌∷◌, ◌++◌, length, take, drop, IsCharBoundary, ◌≡◌, slice_get, IfSome, Option, Some, None, false, map, max, codes, decimal}
-use Rattle.std.specs.Str.{IsUtf8}
-use Rattle.rustc_lexer.specs.declared.relex.edit.Edit.{Edit}
-use Rattle.rustc_lexer.specs.declared.relex.edit_list.EditStop.{EditStop}
+use Rattle.std.specs.Prelude.{ℕ, zero, suc, ◌+◌, ◌-◌, ◌<◌, ◌≤◌, ◌^◌, ◌&&◌, ◌||◌, Bool, cond, nat_le, nat_eq, List, [], ◌∷◌, ◌++◌, length, take, drop, IsCharBoundary, ◌≡◌, slice_get, IfSome, Option, Some, None, false, map, max, codes, decimal, count_by, nat_lt, IsUtf8}
+use Rattle.std.specs.List.{list_any}
+use Rattle.rustc_lexer.specs.declared.relex.{edit.Edit.Edit, edit_list.EditStop.EditStop, front.Bound.Bound, pieces.Piece.Piece, relexing.Change.Change, relexing.Relexed.Relexed, relexing.Relexing.Relexing}
 use Rattle.rustc_lexer.specs.declared.relex.edit_list.EditStop.TheVariants.{Range, TooLong, Memory}
-use Rattle.rustc_lexer.specs.declared.relex.front.Bound.{Bound}
-use Rattle.rustc_lexer.specs.declared.relex.pieces.Piece.{Piece}
-use Rattle.rustc_lexer.specs.declared.relex.relexing.Change.{Change}
-use Rattle.rustc_lexer.specs.declared.relex.relexing.Relexed.{Relexed}
-use Rattle.rustc_lexer.specs.declared.relex.relexing.Relexing.{Relexing}
-use Rattle.rustc_lexer.specs.declared.token.Token.{Token}
+use Rattle.rustc_lexer.specs.{Token}
 use Rattle.rustc_lexer.specs.Classes.{IsText}
 use Rattle.rustc_lexer.specs.Locality.{bound, has_two, tokens_by}
 
@@ -27,37 +21,24 @@ pub record IsInside (text : List ℕ) (start stop : ℕ) : Type 0 where
   pub start_boundary : IsCharBoundary text start
   pub stop_boundary : IsCharBoundary text stop
 
--- what the edit makes can be held
-abbrev pub IsShort : List ℕ → ℕ → ℕ → List ℕ → Type 0
-IsShort text start stop insert = length text + length insert < 2 ^ 32 + (stop - start)
-
 -- the edit is inside the text, between characters, and what it makes can be held
 pub record IsEdit (text : List ℕ) (start stop : ℕ) (insert : List ℕ) : Type 0 where
   pub inside : IsInside text start stop
-  pub short : IsShort text start stop insert
+  pub short : length text + length insert < 2 ^ 32 + (stop - start)
 
--- how many of the tokens end at least two characters before `to`; the first begins at `from`
-abbrev pub kept_front_from : List ℕ → ℕ → ℕ → List Token → ℕ
-kept_front_from text to from [] = 0
-kept_front_from text to from (t ∷ ts) = cond (has_two text (from + t.len) to) 1 0 + kept_front_from text to (from + t.len) ts
+-- where the tokens end, the first of which begins at `from`
+abbrev pub ends_from : ℕ → List Token → List ℕ
+ends_from from [] = []
+ends_from from (t ∷ ts) = (from + t.len) ∷ ends_from (from + t.len) ts
 
+-- how many of the tokens end at least two characters before `to`
 abbrev pub kept_front : List ℕ → List Token → ℕ → ℕ
-kept_front text tokens to = kept_front_from text to 0 tokens
-
--- whether `place` is 0 or the end of a token
-abbrev pub is_bound : List Token → ℕ → Bool
-is_bound [] place = nat_eq place 0
-is_bound (t ∷ ts) place = nat_eq place 0 || (nat_le t.len place && is_bound ts (place - t.len))
-
--- how many tokens end past `place`
-abbrev pub ends_past : List Token → ℕ → ℕ
-ends_past [] place = 0
-ends_past (t ∷ ts) place = cond (nat_le t.len place) (ends_past ts (place - t.len)) (suc (length ts))
+kept_front text tokens to = count_by (λ end. has_two text end to) (ends_from 0 tokens)
 
 -- whether a place of the new text is past the edit, which ends at `new_stop` there and at `old_stop` in the old text,
--- and, moved back, a bound of the old tokens
+-- and, moved back, a bound of the old tokens: 0 or the end of one
 abbrev pub meets_at : List Token → ℕ → ℕ → ℕ → Bool
-meets_at old old_stop new_stop place = nat_le new_stop place && is_bound old (place - new_stop + old_stop)
+meets_at old old_stop new_stop place = nat_le new_stop place && list_any (nat_eq (place - new_stop + old_stop)) (0 ∷ ends_from 0 old)
 
 -- the first number from j on that passes the test, of at most n
 abbrev pub least_from : (ℕ → Bool) → ℕ → ℕ → ℕ
@@ -76,7 +57,7 @@ relexed_of first text start stop insert =
     let new_stop : ℕ = start + length insert in
     let k : ℕ = kept_front text old start in
     let j : ℕ = meet old new stop new_stop k in
-    record { kept_front = k; lexed = j - k; kept_back = ends_past old (bound new j - new_stop + stop) }
+    record { kept_front = k; lexed = j - k; kept_back = count_by (nat_lt (bound new j - new_stop + stop)) (ends_from 0 old) }
 
 -- ---- lists of edits
 
@@ -113,7 +94,7 @@ stop_text (Memory at) = codes "edit " ++ (decimal at ++ codes ": no memory")
 -- why an edit is refused on the present text
 abbrev pub IsRefusedOn : EditStop → List ℕ → Edit → Type 0
 IsRefusedOn (Range at) text e = IsInside text e.start e.stop → ⊥
-IsRefusedOn (TooLong at) text e = IsInside text e.start e.stop × (IsShort text e.start e.stop e.insert.now → ⊥)
+IsRefusedOn (TooLong at) text e = IsInside text e.start e.stop × (IsEdit text e.start e.stop e.insert.now → ⊥)
 IsRefusedOn (Memory at) text e = IsEdit text e.start e.stop e.insert.now
 
 abbrev pub IsStop : EditStop → List ℕ → List Edit → Type 0

@@ -13,11 +13,7 @@ use Rattle.std.specs.Prelude.{◌≡◌, ℕ, ◌||◌, not, Bool, true, false, 
 use Rattle.std.specs.Char.{is_ascii_digit}
 use Rattle.std.specs.List.{list_all, list_any}
 use Rattle.std.specs.Str.{byte}
-use Rattle.rustc_lexer.specs.declared.token.DocStyle.{DocStyle}
-use Rattle.rustc_lexer.specs.declared.token.DocStyle.TheVariants.{Outer, Inner}
-use Rattle.rustc_lexer.specs.declared.token.LiteralKind.{LiteralKind}
-use Rattle.rustc_lexer.specs.declared.token.TokenKind.{TokenKind}
-use Rattle.rustc_lexer.specs.declared.token.TokenKind.TheVariants.{Whitespace, Eof, LineComment, BlockComment, Ident, InvalidIdent, RawIdent, ForcedKeywordIdent, Lifetime, UnknownPrefix, RawLifetime, UnknownPrefixLifetime, Literal, GuardedStrPrefix, Slash, Pound}
+use Rattle.rustc_lexer.specs.{DocStyle, LiteralKind, TokenKind, Outer, Inner, Whitespace, Eof, LineComment, BlockComment, Ident, InvalidIdent, RawIdent, ForcedKeywordIdent, Lifetime, UnknownPrefix, RawLifetime, UnknownPrefixLifetime, Literal, GuardedStrPrefix, Slash, Pound}
 use Rattle.rustc_lexer.specs.Classes.{is_among, is_whitespace, is_id_continue, is_ident, Chars, begins, AreAll, NextIs, NextIsNot, NextIn, NextNotIn, bytes, is_inline, is_word_start, is_word_continue, is_name_start, begins_ident_after}
 use Rattle.rustc_lexer.specs.LiteralGrammar.{IsLiteralBefore, IsSuffixBefore}
 use Rattle.rustc_lexer.specs.Tables.{is_emoji, symbol_kind}

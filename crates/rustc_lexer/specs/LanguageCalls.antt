@@ -1,13 +1,8 @@
 -- What the calls beside the tokens answer, in the words of the language. `w` and `next` are as in Language.antt; texts
 -- are characters where nothing else is said, and places are in bytes.
-use Rattle.std.specs.Prelude.{◌≡◌, ◌==◌, ◌+◌, ◌-◌, ◌<◌, ◌≤◌, ℕ, suc, Bool, true, false, [], ◌∷◌, ◌++◌, length, drop, codes, Option, Some, None, Result, Ok, Err, List, decimal}
+use Rattle.std.specs.Prelude.{◌≡◌, ◌==◌, ◌+◌, ◌-◌, ◌<◌, ◌≤◌, ℕ, suc, Bool, true, false, [], ◌∷◌, ◌++◌, length, drop, codes, Contains, Option, Some, None, Result, Ok, Err, List, decimal}
 use Rattle.std.specs.Str.{byte, chars}
-use Rattle.rustc_lexer.specs.declared.token.LiteralKind.{LiteralKind}
-use Rattle.rustc_lexer.specs.declared.token.LiteralKind.TheVariants.{Int, Float, Char, Byte, Str, ByteStr, CStr, RawStr, RawByteStr, RawCStr}
-use Rattle.rustc_lexer.specs.declared.token.RawStrError.{RawStrError}
-use Rattle.rustc_lexer.specs.declared.token.RawStrError.TheVariants.{InvalidStarter, NoTerminator, TooManyDelimiters}
-use Rattle.rustc_lexer.specs.declared.token.TokenKind.{TokenKind}
-use Rattle.rustc_lexer.specs.declared.token.TokenKind.TheVariants.{LineComment, BlockComment, Whitespace, Frontmatter, Ident, InvalidIdent, RawIdent, ForcedKeywordIdent, UnknownPrefix, UnknownPrefixLifetime, RawLifetime, GuardedStrPrefix, Literal, Lifetime, Semi, Comma, Dot, OpenParen, CloseParen, OpenBrace, CloseBrace, OpenBracket, CloseBracket, At, Pound, Tilde, Question, Colon, Dollar, Eq, Bang, Lt, Gt, Minus, And, Or, Plus, Star, Slash, Caret, Percent, Unknown, Eof}
+use Rattle.rustc_lexer.specs.{LiteralKind, RawStrError, TokenKind, Int, Float, Char, Byte, Str, ByteStr, CStr, RawStr, RawByteStr, RawCStr, InvalidStarter, NoTerminator, TooManyDelimiters, LineComment, BlockComment, Whitespace, Frontmatter, Ident, InvalidIdent, RawIdent, ForcedKeywordIdent, UnknownPrefix, UnknownPrefixLifetime, RawLifetime, GuardedStrPrefix, Literal, Lifetime, Semi, Comma, Dot, OpenParen, CloseParen, OpenBrace, CloseBrace, OpenBracket, CloseBracket, At, Pound, Tilde, Question, Colon, Dollar, Eq, Bang, Lt, Gt, Minus, And, Or, Plus, Star, Slash, Caret, Percent, Unknown, Eof}
 use Rattle.rustc_lexer.specs.Classes.{is_among, Chars, Utf8, begins, next_is, AreAll, NextNotIn, bytes, is_inline}
 use Rattle.rustc_lexer.specs.Language.{IsTokenBefore}
 use Rattle.rustc_lexer.specs.LiteralGrammar.{hashes, NoQuoteWith, IsRaw, IsDoubleQuoted, IsSuffixBefore}
@@ -60,12 +55,9 @@ pub data IsGuardedBefore (next : Chars) : (n : ℕ) → (terminated : Bool) → 
 -- what makes an attribute of `#!`: a bracket, behind white space and comments that are no docs
 pub data IsAttributeRest : Chars → Type 0 where
   bracket : (next : Chars) → IsAttributeRest (byte "[" ∷ next)
-  space : {c : ℕ} {w next : Chars} → IsTokenBefore next Whitespace (c ∷ w)
-      → IsAttributeRest next → IsAttributeRest (c ∷ w ++ next)
-  line_comment : {c : ℕ} {w next : Chars} → IsTokenBefore next (LineComment None) (c ∷ w)
-      → IsAttributeRest next → IsAttributeRest (c ∷ w ++ next)
-  block_comment : {c : ℕ} {w next : Chars} {terminated : Bool} → IsTokenBefore next (BlockComment None terminated) (c ∷ w)
-      → IsAttributeRest next → IsAttributeRest (c ∷ w ++ next)
+  passed : {kind : TokenKind} {c : ℕ} {w next : Chars}
+      → Contains (Whitespace ∷ LineComment None ∷ BlockComment None true ∷ BlockComment None false ∷ []) kind
+      → IsTokenBefore next kind (c ∷ w) → IsAttributeRest next → IsAttributeRest (c ∷ w ++ next)
 
 -- a line in bytes, before its end: a newline, a carriage return and a newline, or the end of the text
 pub data IsLineBefore (next w : Utf8) : Type 0 where
@@ -78,8 +70,7 @@ pub data IsLineBefore (next w : Utf8) : Type 0 where
 pub data IsShebang (text : Utf8) : Option ℕ → Type 0 where
   shebang : (w next : Utf8) → text ≡ codes "#!" ++ (w ++ next) → (IsAttributeRest (chars (w ++ next)) → ⊥)
       → IsLineBefore next w → IsShebang text (Some (length (codes "#!" ++ w)))
-  attribute : (rest : Utf8) → text ≡ codes "#!" ++ rest → IsAttributeRest (chars rest) → IsShebang text None
-  no_start : begins (codes "#!") text ≡ false → IsShebang text None
+  none : ((rest : Utf8) → text ≡ codes "#!" ++ rest → IsAttributeRest (chars rest)) → IsShebang text None
 
 -- ---- kinds
 

@@ -5,13 +5,7 @@
 -- though Rust has C strings since 2021 only (docs/EDITIONS.md, "What is left to a compiler").
 use Rattle.std.specs.Prelude.{◌≡◌, ◌<◌, ◌≤◌, ℕ, nat_eq, if◌then◌else◌, true, false, List, ◌∷◌, codes, Option, Some, None, ◌+◌, not, Bool, [], ◌++◌, ◌↔◌}
 use Rattle.std.specs.Str.{byte, bytes_eq, encode_utf8_all}
-use Rattle.rustc_lexer.specs.declared.edition.Edition.{Edition}
-use Rattle.rustc_lexer.specs.declared.edition.Edition.TheVariants.{E2015, E2018, E2021, E2024}
-use Rattle.rustc_lexer.specs.declared.token.FrontmatterAllowed.{FrontmatterAllowed}
-use Rattle.rustc_lexer.specs.declared.token.FrontmatterAllowed.TheVariants.{Yes, No}
-use Rattle.rustc_lexer.specs.declared.token.Token.{Token}
-use Rattle.rustc_lexer.specs.declared.token.TokenKind.{TokenKind}
-use Rattle.rustc_lexer.specs.declared.token.TokenKind.TheVariants.{Ident, UnknownPrefix, Lifetime, UnknownPrefixLifetime, Pound, RawLifetime, GuardedStrPrefix, Whitespace, Frontmatter, Eof}
+use Rattle.rustc_lexer.specs.{Edition, FrontmatterAllowed, Token, TokenKind, E2015, E2018, E2021, E2024, Yes, No, Ident, UnknownPrefix, Lifetime, UnknownPrefixLifetime, Pound, RawLifetime, GuardedStrPrefix, Whitespace, Frontmatter, Eof}
 use Rattle.rustc_lexer.specs.Classes.{Chars, begins_ident_after, is_among, is_whitespace, next_is, bytes}
 use Rattle.rustc_lexer.specs.FrontmatterGrammar.{IsOpeningBefore, OpensNone, EndsAt}
 use Rattle.rustc_lexer.specs.Language.{is_bad_name, IsTokenBefore}

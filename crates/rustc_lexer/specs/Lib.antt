@@ -1,10 +1,11 @@
+-- The definitions of the lexer. With them the types of tokens and of editions, and the variants of these, which the files
+-- of this crate import from here: `use Rattle.rustc_lexer.specs.{Token, TokenKind, Ident}`.
 pub mod Answers
 pub mod Classes
 pub mod Edits
 pub mod FrontmatterGrammar
 pub mod Language
 pub mod LanguageCalls
-pub mod LanguageLaws
 pub mod LanguageText
 pub mod LiteralGrammar
 pub mod Locality
@@ -14,3 +15,13 @@ pub mod Tables
 pub mod Tokens
 pub mod laws
 pub mod means
+pub use declared.edition.Edition.{Edition}
+pub use declared.edition.Edition.TheVariants.*
+pub use declared.token.{Base.Base, DocStyle.DocStyle, FrontmatterAllowed.FrontmatterAllowed, GuardedStr.GuardedStr, LiteralKind.LiteralKind, RawStrError.RawStrError, Token.Token, TokenKind.TokenKind}
+pub use declared.token.Base.TheVariants.*
+pub use declared.token.DocStyle.TheVariants.*
+pub use declared.token.FrontmatterAllowed.TheVariants.*
+pub use declared.token.LiteralKind.TheVariants.*
+pub use declared.token.RawStrError.TheVariants.*
+pub use declared.token.TokenKind.TheVariants.*
+use declared.token.TokenKind.TheVariants.{the_data}

@@ -1,11 +1,6 @@
 -- A cursor or an iterator on its way through a text: where it is, and what a call takes.
-use Rattle.std.specs.Prelude.{ℕ, ◌≡◌, ◌+◌, ◌≤◌, List, drop, Bool, [], ◌∷◌, ◌++◌, codes, Option, Some, None}
-use Rattle.std.specs.Str.{chars}
-use Rattle.rustc_lexer.specs.declared.edition.Edition.{Edition}
-use Rattle.rustc_lexer.specs.declared.token.GuardedStr.{GuardedStr}
-use Rattle.rustc_lexer.specs.declared.token.Token.{Token}
-use Rattle.rustc_lexer.specs.declared.token.TokenKind.{TokenKind}
-use Rattle.rustc_lexer.specs.declared.token.TokenKind.TheVariants.{Literal, Eof}
+use Rattle.std.specs.Prelude.{ℕ, ◌≡◌, ◌+◌, ◌≤◌, List, drop, Bool, [], ◌∷◌, ◌++◌, codes, Option, Some, None, chars}
+use Rattle.rustc_lexer.specs.{Edition, GuardedStr, Token, TokenKind, Literal, Eof}
 use Rattle.rustc_lexer.specs.Classes.{Chars, Utf8, bytes, NextNotIn}
 use Rattle.rustc_lexer.specs.LanguageCalls.{IsGuardedBefore}
 use Rattle.rustc_lexer.specs.LanguageText.{Mode, part, mode_after, AreTokens}

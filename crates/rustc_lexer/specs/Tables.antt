@@ -2,8 +2,7 @@
 use Rattle.std.specs.Prelude.{ℕ, Bool, ◌&&◌, nat_le, if◌then◌else◌, List, [], ◌∷◌, ◌==◌}
 use Rattle.std.specs.List.{list_any}
 use Rattle.std.specs.Str.{byte}
-use Rattle.rustc_lexer.specs.declared.token.TokenKind.{TokenKind}
-use Rattle.rustc_lexer.specs.declared.token.TokenKind.TheVariants.{Semi, Comma, Dot, Colon, At, OpenParen, CloseParen, Tilde, OpenBrace, CloseBrace, Question, OpenBracket, CloseBracket, Eq, Dollar, Bang, Lt, Gt, Minus, And, Or, Plus, Star, Caret, Percent, Unknown}
+use Rattle.rustc_lexer.specs.{TokenKind, Semi, Comma, Dot, Colon, At, OpenParen, CloseParen, Tilde, OpenBrace, CloseBrace, Question, OpenBracket, CloseBracket, Eq, Dollar, Bang, Lt, Gt, Minus, And, Or, Plus, Star, Caret, Percent, Unknown}
 
 -- the ranges of emoji, each with both its ends, in rising order; no two of them meet
 unfoldable pub emoji_ranges : List (ℕ × ℕ)

@@ -1,12 +1,7 @@
 -- The tokens of a text, and what the calls that take them do.
 use Rattle.std.specs.Prelude.{ℕ, ◌≡◌, ◌↔◌, ◌<◌, ◌≤◌, List, [], ◌∷◌, length, take, drop, IsCharBoundary, Option, IsSome, Some, None, Ok, zero, suc, Bool, true, false, ◌++◌, map}
-use Rattle.rustc_lexer.specs.declared.edition.Edition.{Edition}
-use Rattle.rustc_lexer.specs.declared.token.LiteralKind.TheVariants.{RawStr, RawByteStr, RawCStr}
-use Rattle.rustc_lexer.specs.declared.token.Token.{Token}
-use Rattle.rustc_lexer.specs.declared.token.TokenKind.{TokenKind}
-use Rattle.rustc_lexer.specs.declared.token.TokenKind.TheVariants.{Literal, Eof, LineComment, BlockComment, Frontmatter, Lifetime}
-use Rattle.rustc_lexer.specs.Answers.{advance, raw_check}
-pub use Rattle.rustc_lexer.specs.Answers.{tokens_of}
+use Rattle.rustc_lexer.specs.{Edition, Token, TokenKind, RawStr, RawByteStr, RawCStr, Literal, Eof, LineComment, BlockComment, Frontmatter, Lifetime}
+pub use Rattle.rustc_lexer.specs.Answers.{advance, raw_check, tokens_of}
 use Rattle.rustc_lexer.specs.LanguageCalls.{StartsRaw}
 use Rattle.rustc_lexer.specs.LanguageText.{part, mode_edition, mode_after}
 pub use Rattle.rustc_lexer.specs.Locality.{cut_by, tokens_by, bound, Partitions}

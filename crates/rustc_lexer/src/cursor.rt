@@ -1,8 +1,7 @@
 //! A cursor over a text, which takes it token by token.
 ghost use Rattle.std.specs.Prelude.{◌≡◌, [], ◌≢◌, ◌+◌, ◌^◌, ◌<◌, slice_index};
 ghost use Rattle.std.specs.Str.{chars};
-ghost use Rattle.rustc_lexer.specs.declared.edition.Edition.{Edition};
-ghost use Rattle.rustc_lexer.specs.declared.edition.Edition.TheVariants.{E2024};
+ghost use Rattle.rustc_lexer.specs.{Edition, E2024};
 ghost use Rattle.rustc_lexer.specs.Classes.{Fits};
 ghost use Rattle.rustc_lexer.specs.Tokens.{TakesFirst, tokens_left};
 ghost use Rattle.rustc_lexer.specs.LanguageText.{mode_after, mode_edition, mode_in, mode_of};

@@ -1,8 +1,7 @@
 //! The tokens of a text.
 ghost use Rattle.std.specs.Prelude.{◌≡◌, ◌<◌, length, All};
 ghost use Rattle.std.specs.Iterator.{at_most};
-ghost use Rattle.rustc_lexer.specs.declared.edition.Edition.TheVariants.{E2015, E2018, E2024};
-ghost use Rattle.rustc_lexer.specs.declared.token.FrontmatterAllowed.TheVariants.{No};
+ghost use Rattle.rustc_lexer.specs.{E2015, E2018, E2024, No};
 ghost use Rattle.rustc_lexer.specs.Classes.{Fits};
 ghost use Rattle.rustc_lexer.specs.LanguageText.{mode_edition, mode_in, mode_of, part};
 ghost use Rattle.rustc_lexer.specs.Locality.{AreLocal};

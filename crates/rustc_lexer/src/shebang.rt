@@ -1,7 +1,7 @@
 //! The shebang line that a document may begin with.
 ghost use Rattle.std.specs.Prelude.{◌≡◌, ◌≤◌, IfSome, IsNone, codes, false, length};
 ghost use Rattle.std.specs.Str.{IsCharBoundary};
-ghost use Rattle.rustc_lexer.specs.declared.edition.Edition.TheVariants.{E2024};
+ghost use Rattle.rustc_lexer.specs.{E2024};
 ghost use Rattle.rustc_lexer.specs.Answers.{shebang};
 ghost use Rattle.rustc_lexer.specs.Classes.{Fits, begins};
 ghost use Rattle.rustc_lexer.specs.LanguageText.{part};

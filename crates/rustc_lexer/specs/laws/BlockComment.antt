@@ -1,9 +1,7 @@
 -- Where a block comment ends depends on the comment alone.
 use Rattle.std.proofs.Common.{◌≡◌, ℕ, suc, ◌+◌, ◌≤◌, true, false, List, ◌∷◌, length, take, drop, refl, sym, ap, ◌∙◌, arith, subst, length-drop, Option, Some, None}
 use Rattle.std.proofs.lemmas.Grind.{common_steps}
-use Rattle.rustc_lexer.specs.declared.token.DocStyle.{DocStyle}
-use Rattle.rustc_lexer.specs.declared.token.TokenKind.{TokenKind}
-use Rattle.rustc_lexer.specs.declared.token.TokenKind.TheVariants.{BlockComment}
+use Rattle.rustc_lexer.specs.{DocStyle, TokenKind, BlockComment}
 use Rattle.rustc_lexer.specs.means.BlockComment.{at_closing, at_opening, comment_end, block_doc_style, block_comment_to, block_comment}
 use Rattle.rustc_lexer.specs.means.BlockGrammar.{Closes, at_mark, nested, past_one}
 use Rattle.rustc_lexer.specs.laws.BlockGrammar.{comment_end-found, comment_end-allowed}

@@ -5,7 +5,7 @@ use Rattle.std.specs.Str.{byte}
 use Rattle.std.proofs.lemmas.Grind.{common_steps}
 use Rattle.rustc_lexer.specs.declared.lexemes.family.Family.{Family}
 use Rattle.rustc_lexer.specs.declared.lexemes.family.Family.TheVariants.{Slash, Space, Word, Number, Quote, Str, Emoji, Hash, Symbol}
-use Rattle.rustc_lexer.specs.declared.token.TokenKind.{TokenKind}
+use Rattle.rustc_lexer.specs.{TokenKind}
 use Rattle.rustc_lexer.specs.Classes.{is_whitespace, is_id_start}
 use Rattle.rustc_lexer.specs.means.Comment.{slash}
 use Rattle.rustc_lexer.specs.Tables.{is_emoji}

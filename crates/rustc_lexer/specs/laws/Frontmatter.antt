@@ -9,9 +9,7 @@ use Rattle.std.proofs.lemmas.List.Elements.{All-nil, All-cons, All-head, All-tai
 use Rattle.std.proofs.lemmas.Str.{encode_ascii, byte_from_char, inside_one, length-encode, len_utf8_bounds, length-le-encodes, IsCharBoundary-end, IsCharBoundary-before_ascii, IsCharBoundary-from_rest}
 use Rattle.std.proofs.Math.Bool.{and-false}
 use Rattle.std.proofs.lemmas.Grind.{common_steps}
-use Rattle.rustc_lexer.specs.declared.edition.Edition.{Edition}
-use Rattle.rustc_lexer.specs.declared.token.Token.{Token}
-use Rattle.rustc_lexer.specs.declared.token.TokenKind.TheVariants.{Frontmatter}
+use Rattle.rustc_lexer.specs.{Edition, Token, Frontmatter}
 use Rattle.rustc_lexer.specs.Classes.{is_whitespace, is_id_start}
 use Rattle.rustc_lexer.specs.LanguageText.{Mode}
 use Rattle.rustc_lexer.specs.means.Comment.{is_no_newline}

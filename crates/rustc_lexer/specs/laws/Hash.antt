@@ -1,7 +1,6 @@
 -- How far a hash looks.
 use Rattle.std.proofs.Common.{arith}
-use Rattle.rustc_lexer.specs.declared.token.TokenKind.{TokenKind}
-use Rattle.rustc_lexer.specs.declared.token.TokenKind.TheVariants.{GuardedStrPrefix, Pound}
+use Rattle.rustc_lexer.specs.{TokenKind, GuardedStrPrefix, Pound}
 use Rattle.rustc_lexer.specs.means.Hash.{is_guarded_mark, hash}
 use Rattle.rustc_lexer.specs.laws.Reach.{gives_local, next_is_local}
 use Rattle.rustc_lexer.specs.means.Scan.{IsLocal, gives}

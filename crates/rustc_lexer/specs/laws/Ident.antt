@@ -2,8 +2,7 @@
 use Rattle.std.proofs.Common.{◌≡◌, ℕ, ◌≤◌, Bool, true, if◌then◌else◌, List, length, drop, ap, arith}
 use Rattle.std.specs.List.{list_all}
 use Rattle.std.proofs.lemmas.Grind.{common_steps}
-use Rattle.rustc_lexer.specs.declared.token.TokenKind.{TokenKind}
-use Rattle.rustc_lexer.specs.declared.token.TokenKind.TheVariants.{Ident, InvalidIdent, UnknownPrefix}
+use Rattle.rustc_lexer.specs.{TokenKind, Ident, InvalidIdent, UnknownPrefix}
 use Rattle.rustc_lexer.specs.Classes.{is_id_continue}
 use Rattle.rustc_lexer.specs.means.Ident.{is_word, is_prefix_mark, ident_kind, ident_or_unknown_prefix, invalid_ident, marks_ident, marked}
 use Rattle.rustc_lexer.specs.laws.Reach.{IsToldBy, next_is-told, wider, after_at, either_at, run_as_local, run_local}

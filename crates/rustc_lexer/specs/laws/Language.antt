@@ -5,9 +5,7 @@ use Rattle.std.proofs.lemmas.Bool.{and_parts, eqb-true}
 use Rattle.std.proofs.lemmas.Grind.{common_steps}
 use Rattle.unicode_ident.proofs.Computing.{unicode_ident}
 use Rattle.rustc_lexer.specs.declared.lexemes.raw.RawPrefix.TheVariants.{Br, Cr}
-use Rattle.rustc_lexer.specs.declared.token.LiteralKind.{LiteralKind}
-use Rattle.rustc_lexer.specs.declared.token.TokenKind.{TokenKind}
-use Rattle.rustc_lexer.specs.declared.token.TokenKind.TheVariants.{ForcedKeywordIdent}
+use Rattle.rustc_lexer.specs.{LiteralKind, TokenKind, ForcedKeywordIdent}
 use Rattle.rustc_lexer.specs.Classes.{is_id_start, is_id_continue, NextIs}
 use Rattle.rustc_lexer.specs.means.Ident.{ident_or_unknown_prefix, marks_ident}
 use Rattle.rustc_lexer.specs.laws.Choice.{by_test}
@@ -22,7 +20,7 @@ use Rattle.rustc_lexer.specs.LiteralGrammar as lit
 use Rattle.rustc_lexer.specs.Language.{begins_prefixed, IsTokenBefore}
 use Rattle.rustc_lexer.specs.LiteralGrammar.{IsLiteralBefore}
 use Rattle.rustc_lexer.specs.LanguageText.{TheOnly}
-use Rattle.rustc_lexer.specs.LanguageLaws.{BeginsWith}
+use Rattle.rustc_lexer.specs.Locality.{BeginsWith}
 use Rattle.rustc_lexer.specs.means.Lexeme.{is_raw_mark, begins_raw, raw_past_or_ident, letter_r, letter_k, letter_b, letter_c, word, lexeme}
 use Rattle.rustc_lexer.specs.means.Literal.{literal}
 use Rattle.rustc_lexer.specs.means.Quoted.{byte_body, byte_str_body, c_str_body}

@@ -4,10 +4,7 @@ use Rattle.std.proofs.Math.Seq.{take-append_seam, drop-append_seam, drop-length}
 use Rattle.std.proofs.lemmas.Bool.{and_parts, eqb-true, or_parts, or_from}
 use Rattle.std.proofs.lemmas.List.{append-nil}
 use Rattle.std.proofs.lemmas.Grind.{common_steps}
-use Rattle.rustc_lexer.specs.declared.token.DocStyle.{DocStyle}
-use Rattle.rustc_lexer.specs.declared.token.DocStyle.TheVariants.{Outer, Inner}
-use Rattle.rustc_lexer.specs.declared.token.TokenKind.{TokenKind}
-use Rattle.rustc_lexer.specs.declared.token.TokenKind.TheVariants.{LineComment, BlockComment, Whitespace, GuardedStrPrefix, Pound, Slash}
+use Rattle.rustc_lexer.specs.{DocStyle, TokenKind, Outer, Inner, LineComment, BlockComment, Whitespace, GuardedStrPrefix, Pound, Slash}
 use Rattle.rustc_lexer.specs.means.BlockComment.{at_closing, at_opening, block_doc_style, block_comment_to, block_comment, comment_end}
 use Rattle.rustc_lexer.specs.means.BlockGrammar.{Closes as ClosesIn, at_mark, nested as nested_in, past_one}
 use Rattle.rustc_lexer.specs.Classes.{is_among, is_whitespace, NextIn, NextNotIn, AreAll, NextIsNot, is_inline}

@@ -5,7 +5,7 @@ use Rattle.std.proofs.Math.Seq.{take-append_seam, drop-append_seam}
 use Rattle.std.proofs.lemmas.Str.{chars-encodes, encodes-append, encodes-chars, length-le-encodes, scalars-chars}
 use Rattle.std.specs.Str.{chars, encode_utf8_all, IsUtf8}
 use Rattle.std.proofs.lemmas.Grind.{common_steps}
-use Rattle.rustc_lexer.specs.declared.token.TokenKind.{TokenKind}
+use Rattle.rustc_lexer.specs.{TokenKind}
 use Rattle.rustc_lexer.specs.laws.Language.{token-read}
 use Rattle.rustc_lexer.specs.laws.TokenBy.{scalars-take, scalars-drop}
 use Rattle.rustc_lexer.specs.Language.{IsTokenBefore}

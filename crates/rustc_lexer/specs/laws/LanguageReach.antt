@@ -9,19 +9,14 @@ use Rattle.std.specs.List.{list_all, list_any}
 use Rattle.std.specs.Option.{is_some}
 use Rattle.std.proofs.Math.Bool.{and-false}
 use Rattle.std.proofs.lemmas.Grind.{common_steps}
-use Rattle.rustc_lexer.specs.Classes.{is_id_start, is_ident, AreAll, NextIs, NextIsNot, is_word_continue, is_name_start, begins_ident_after}
+use Rattle.rustc_lexer.specs.Classes.{is_among, Chars, is_id_start, is_ident, AreAll, NextIs, NextIsNot, is_word_continue, is_name_start, begins_ident_after}
 use Rattle.unicode_ident.proofs.Computing.{unicode_ident}
-use Rattle.rustc_lexer.specs.declared.token.Base.{Base}
-use Rattle.rustc_lexer.specs.declared.token.Base.TheVariants.{Decimal}
-use Rattle.rustc_lexer.specs.declared.token.LiteralKind.{LiteralKind}
-use Rattle.rustc_lexer.specs.declared.token.LiteralKind.TheVariants.{Int, Float, Char, Byte, Str, ByteStr, CStr, RawStr, RawByteStr, RawCStr}
-use Rattle.rustc_lexer.specs.declared.token.TokenKind.{TokenKind}
-use Rattle.rustc_lexer.specs.declared.token.TokenKind.TheVariants.{LineComment, BlockComment, Whitespace, Ident, InvalidIdent, RawIdent, ForcedKeywordIdent, RawLifetime, Lifetime, Slash, Pound, Eof, Literal, UnknownPrefix, UnknownPrefixLifetime}
+use Rattle.rustc_lexer.specs.{Base, LiteralKind, TokenKind, Decimal, Int, Float, Char, Byte, Str, ByteStr, CStr, RawStr, RawByteStr, RawCStr, LineComment, BlockComment, Whitespace, Ident, InvalidIdent, RawIdent, ForcedKeywordIdent, RawLifetime, Lifetime, Slash, Pound, Eof, Literal, UnknownPrefix, UnknownPrefixLifetime}
 use Rattle.rustc_lexer.specs.Language as the
 use Rattle.rustc_lexer.specs.LiteralGrammar as lit
 use Rattle.rustc_lexer.specs.LiteralGrammar.{IsDoubleQuoted, SingleTo, IsSingleQuoted, IsRaw, IsLiteralBefore, IsSuffixBefore}
 use Rattle.rustc_lexer.specs.Language.{ends_prefix, known_prefixes, begins_prefixed, IsTokenBefore}
-use Rattle.rustc_lexer.specs.LanguageLaws.{is_long_char, reach, is_refused, Needs, NoneLooksLess}
+use Rattle.rustc_lexer.specs.Locality.{reach}
 use Rattle.rustc_lexer.specs.means.Lexeme.{past_first, lexeme}
 use Rattle.rustc_lexer.specs.Tables.{is_emoji, emoji_ranges, symbols}
 use Rattle.rustc_lexer.specs.means.Number.{number_kind, fraction, number as number_past}
@@ -86,6 +81,10 @@ by_float next other w kind n p float d e =
 
 -- ---- literals
 
+-- whether a name of two characters or more stands between quotes: `'ab'`
+abbrev is_long_char : List ℕ → Bool
+is_long_char w = next_is is_name_start (drop 1 w) && not (next_is (is_among (codes "'")) (drop 2 w))
+
 -- how far a literal looks, wherever its suffix begins
 abbrev literal_reach : LiteralKind → List ℕ → ℕ
 literal_reach kind w = reach (Literal kind 0) w
@@ -96,6 +95,13 @@ reach-literal (Char false) n w = refl
 reach-literal (Char true) n w = refl
 reach-literal (Byte false) n w = refl
 reach-literal kind n w = refl
+
+-- a raw string that is refused
+abbrev pub is_refused : LiteralKind → Bool
+is_refused (RawStr None) = true
+is_refused (RawByteStr None) = true
+is_refused (RawCStr None) = true
+is_refused kind = false
 
 -- how far a number looks; and it is no raw string
 abbrev number_reach : Bool → ℕ
@@ -331,6 +337,7 @@ token-stands (the.literal_with is suffix_is) e other = absurd (true≢false (lit
 token-stands (the.symbol {c} is) e other = absurd (either-way _ e (not-true _ (by_symbol (λ kind. not (is_refused_token kind)) symbols c refl refl)))
 token-stands others e other = absurd (true≢false (sym e))
 
+-- a raw string that is refused and is not at the end of the text looks at nothing
 pub refused_stands : (c suffix_start : ℕ) (next other w : List ℕ) (kind : LiteralKind) → is_refused kind ≡ true → IsTokenBefore (c ∷ next) (Literal kind suffix_start) w → IsTokenBefore other (Literal kind suffix_start) w
 refused_stands c n next other w kind refused p = token-stands p refused other
 
@@ -338,6 +345,36 @@ pub looks_no_further : (next other w : List ℕ) (kind : TokenKind) → IsTokenB
 looks_no_further next other w kind p e = token-alike p other e
 
 -- ---- and no less is enough
+
+-- two texts that one character less does not tell apart: the token stands before the first alone
+pub record Needs (kind : TokenKind) (w : Chars) : Type 0 where
+  pub next : Chars
+  pub other : Chars
+  pub some : 0 < reach kind w
+  pub stands : IsTokenBefore next kind w
+  pub alike : take (reach kind w - 1) other ≡ take (reach kind w - 1) next
+  pub fails : IsTokenBefore other kind w → ⊥
+
+-- so it is with one text of each kind that looks at something, or with one for each of its numbers. Of the other texts
+-- of a kind this says nothing: `1u8` and `0x` look at one character
+abbrev pub NoneLooksLess : Type 0
+NoneLooksLess =
+    Needs Eof [] × Needs Whitespace (codes " ") × Needs (LineComment None) (codes "//")
+    × Needs (BlockComment None false) (codes "/*") × Needs Ident (codes "a") × Needs InvalidIdent (0x1F600 ∷ [])
+    × Needs RawIdent (codes "r#a") × Needs ForcedKeywordIdent (codes "k#a") × Needs UnknownPrefix (codes "a")
+    × Needs UnknownPrefix (codes "k") × Needs (Lifetime false) (codes "'a") × Needs UnknownPrefixLifetime (codes "'a")
+    × Needs UnknownPrefixLifetime (codes "'r") × Needs RawLifetime (codes "'r#a")
+    × Needs (Literal (Int Decimal false) 1) (codes "1") × Needs (Literal (Float Decimal false) 3) (codes "1.5")
+    × Needs (Literal (Float Decimal true) 2) (codes "1e") × Needs (Literal (Char true) 3) (codes "'a'")
+    × Needs (Literal (Char true) 2) (codes "''") × Needs (Literal (Char false) 1) (codes "'")
+    × Needs (Literal (Byte true) 4) (codes "b'a'") × Needs (Literal (Byte false) 2) (codes "b'")
+    × Needs (Literal (Str true) 2) (codes "\"\"") × Needs (Literal (Str false) 1) (codes "\"")
+    × Needs (Literal (ByteStr true) 3) (codes "b\"\"") × Needs (Literal (ByteStr false) 2) (codes "b\"")
+    × Needs (Literal (CStr true) 3) (codes "c\"\"") × Needs (Literal (CStr false) 2) (codes "c\"")
+    × Needs (Literal (RawStr (Some 0)) 3) (codes "r\"\"") × Needs (Literal (RawStr None) 2) (codes "r\"")
+    × Needs (Literal (RawByteStr (Some 0)) 4) (codes "br\"\"") × Needs (Literal (RawByteStr None) 3) (codes "br\"")
+    × Needs (Literal (RawCStr (Some 0)) 4) (codes "cr\"\"") × Needs (Literal (RawCStr None) 3) (codes "cr\"")
+    × Needs Slash (codes "/") × Needs Pound (codes "#")
 
 -- by what is read before one and before the other
 needs : (kind : TokenKind) (w next other : List ℕ) (n : ℕ) → 0 < reach kind w → lexeme (w ++ next) ≡ (kind, length w) → take (reach kind w - 1) other ≡ take (reach kind w - 1) next → (lexeme (w ++ other)).1 ≡ n → length w < n → Needs kind w

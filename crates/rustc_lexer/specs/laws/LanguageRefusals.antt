@@ -6,8 +6,7 @@ use Rattle.std.proofs.lemmas.Bool.{eqb-true, or_parts, or_from, leb-true, leb-fa
 use Rattle.std.proofs.lemmas.List.{append-nil}
 use Rattle.std.specs.Str.{chars}
 use Rattle.std.proofs.lemmas.Grind.{common_steps}
-use Rattle.rustc_lexer.specs.declared.token.RawStrError.{RawStrError}
-use Rattle.rustc_lexer.specs.declared.token.RawStrError.TheVariants.{InvalidStarter, NoTerminator, TooManyDelimiters}
+use Rattle.rustc_lexer.specs.{RawStrError, InvalidStarter, NoTerminator, TooManyDelimiters}
 use Rattle.rustc_lexer.specs.LiteralGrammar as lit
 use Rattle.rustc_lexer.specs.LiteralGrammar.{hashes, NoQuoteWith}
 use Rattle.rustc_lexer.specs.LanguageCalls as the

@@ -8,7 +8,7 @@ use Rattle.std.proofs.lemmas.Grind.{common_steps}
 use Rattle.unicode_ident.proofs.Computing.{unicode_ident}
 use Rattle.rustc_lexer.specs.declared.lexemes.family.Family.{Family}
 use Rattle.rustc_lexer.specs.declared.lexemes.family.Family.TheVariants.{Slash, Space, Word, Number, Quote, Str, Emoji, Hash, Symbol}
-use Rattle.rustc_lexer.specs.declared.token.TokenKind.{TokenKind}
+use Rattle.rustc_lexer.specs.{TokenKind}
 use Rattle.rustc_lexer.specs.Classes.{is_among, is_whitespace, is_id_start, is_word_continue, is_word_start, AreAll, NextIs, NextIsNot}
 use Rattle.rustc_lexer.specs.Tables.{is_emoji, emoji_ranges}
 use Rattle.rustc_lexer.specs.laws.Choice.{by_test}

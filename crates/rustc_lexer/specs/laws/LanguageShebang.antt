@@ -4,15 +4,13 @@ use lib.Utf8.{encode}
 use Rattle.std.proofs.lemmas.Bool.{and_parts, eqb-true}
 use Rattle.std.proofs.lemmas.List.{append-nil}
 use Rattle.std.proofs.lemmas.Str.{IsUtf8-drop, IsCharBoundary-from_take}
-use Rattle.std.specs.List.{list_all, prefix_len}
+use Rattle.std.specs.List.{list_all, prefix_len, Contains}
 use Rattle.std.specs.Str.{chars, IsUtf8}
 use Rattle.std.proofs.Math.Seq.{drop-append_seam}
 use Rattle.std.proofs.Math.Bool.{and-false}
 use Rattle.std.proofs.lemmas.Grind.{common_steps}
 use Rattle.unicode_ident.proofs.Computing.{unicode_ident}
-use Rattle.rustc_lexer.specs.declared.token.Token.{Token}
-use Rattle.rustc_lexer.specs.declared.token.TokenKind.{TokenKind}
-use Rattle.rustc_lexer.specs.declared.token.TokenKind.TheVariants.{LineComment, BlockComment, Whitespace, OpenBracket}
+use Rattle.rustc_lexer.specs.{Token, TokenKind, LineComment, BlockComment, Whitespace, OpenBracket}
 use Rattle.rustc_lexer.specs.means.Comment.{is_no_newline}
 use Rattle.rustc_lexer.specs.Locality.{tokens_by}
 use Rattle.rustc_lexer.specs.Tables.{is_emoji, emoji_ranges}
@@ -68,12 +66,22 @@ bracket-alone : has_rule 91 ≡ false
 unfolding unicode_ident is_emoji emoji_ranges
 bracket-alone = refl
 
+abbrev passed_kinds : List TokenKind
+passed_kinds = Whitespace ∷ LineComment None ∷ BlockComment None true ∷ BlockComment None false ∷ []
+
+passes : (kind : TokenKind) → Contains passed_kinds kind → is_passed kind ≡ true
+passes kind (zero, few, e) = ap is_passed (sym e)
+passes kind (suc zero, few, e) = ap is_passed (sym e)
+passes kind (suc (suc zero), few, e) = ap is_passed (sym e)
+passes kind (suc (suc (suc zero)), few, e) = ap is_passed (sym e)
+passes kind (suc (suc (suc (suc k))), few, e) = absurd (omega (arith, few))
+
 attribute-read : {cs : List ℕ} → IsAttributeRest cs → (text : List ℕ) → IsText text → chars text ≡ cs → is_attribute (ts text) ≡ true
 attribute-read (the.bracket next) text is e = first-step text OpenBracket 91 [] next is e (page.symbol {c = 91} bracket-alone)
-attribute-read (the.space {c} {w} {next} p rest) text is e = let r = rest-is text Whitespace c w next is e p in first-step text Whitespace c w next is e p ∙ attribute-read rest (drop (first_token text).len text) r.text_left r.left
-attribute-read (the.line_comment {c} {w} {next} p rest) text is e = let r = rest-is text (LineComment None) c w next is e p in first-step text (LineComment None) c w next is e p ∙ attribute-read rest (drop (first_token text).len text) r.text_left r.left
-attribute-read (the.block_comment {c} {w} {next} {terminated} p rest) text is e =
-    let r = rest-is text (BlockComment None terminated) c w next is e p in first-step text (BlockComment None terminated) c w next is e p ∙ attribute-read rest (drop (first_token text).len text) r.text_left r.left
+attribute-read (the.passed {kind} {c} {w} {next} among p rest) text is e =
+    let r = rest-is text kind c w next is e p in
+    let left : List ℕ = drop (first_token text).len text in
+    first-step text kind c w next is e p ∙ (ap (λ (b : Bool). if b then is_attribute (ts left) else is_open_bracket kind) (passes kind among) ∙ attribute-read rest left r.text_left r.left)
 
 -- a bracket is what it is alone
 among-bracket : (ss : List (ℕ × TokenKind)) (c : ℕ) → list_all (λ s. not (is_open_bracket s.1) || (s.0 == 91)) ss ≡ true → is_open_bracket (kind_among ss c) ≡ true → c ≡ 91
@@ -88,10 +96,11 @@ bracket-view other e = absurd (true≢false (sym e))
 
 -- by what the first token is
 attribute-first : (kind : TokenKind) (c : ℕ) (w next : List ℕ) (tokens : List Token) → IsTokenBefore next kind (c ∷ w) → has_bracket kind tokens ≡ true → (is_attribute tokens ≡ true → IsAttributeRest next) → IsAttributeRest (c ∷ w ++ next)
-attribute-first Whitespace c w next tokens p e rest = the.space p (rest e)
-attribute-first (LineComment None) c w next tokens p e rest = the.line_comment p (rest e)
+attribute-first Whitespace c w next tokens p e rest = the.passed (0, omega arith, refl) p (rest e)
+attribute-first (LineComment None) c w next tokens p e rest = the.passed (1, omega arith, refl) p (rest e)
 attribute-first (LineComment (Some style)) c w next tokens p e rest = absurd (true≢false (sym e))
-attribute-first (BlockComment None terminated) c w next tokens p e rest = the.block_comment p (rest e)
+attribute-first (BlockComment None true) c w next tokens p e rest = the.passed (2, omega arith, refl) p (rest e)
+attribute-first (BlockComment None false) c w next tokens p e rest = the.passed (3, omega arith, refl) p (rest e)
 attribute-first (BlockComment (Some style) terminated) c w next tokens p e rest = absurd (true≢false (sym e))
 attribute-first OpenBracket c w next tokens p e rest = subst (λ (v : List ℕ). IsAttributeRest (v ++ next)) (sym (bracket-view p refl)) (the.bracket next)
 attribute-first kind c w next tokens p e rest = absurd (true≢false (sym e))
@@ -228,8 +237,12 @@ answer-read {text} is (the.shebang w next e free line) = sym (past-mark text (w 
     by_attribute : (b : Bool) → is_attribute (ts (w ++ next)) ≡ b → (if is_attribute (ts (w ++ next)) then None else Some (2 + line_len (w ++ next))) ≡ Some (2 + line_len (w ++ next))
     by_attribute true f = absurd (free (attribute-is (length (w ++ next)) (w ++ next) (chars (w ++ next)) (tail-text text (w ++ next) is e) refl (omega arith) f))
     by_attribute false f = rw f refl
-answer-read {text} is (the.attribute rest e attribute) = sym (past-mark text rest e ∙ ap (λ (b : Bool). let r : Option ℕ = if b then None else Some (2 + line_len rest) in r) (attribute-read attribute rest (tail-text text rest is e) refl))
-answer-read {text} is (the.no_start e) = sym (no-mark text e)
+answer-read {text} is (the.none free) = by_either (begins (codes "#!") text)
+    (λ e.
+    let rest : List ℕ = drop 2 text in
+    let marked : text ≡ 35 ∷ 33 ∷ rest = front-is text e in
+    sym (past-mark text rest marked ∙ ap (λ (b : Bool). let r : Option ℕ = if b then None else Some (2 + line_len rest) in r) (attribute-read (free rest marked) rest (tail-text text rest is marked) refl)))
+    (λ e. sym (no-mark text e))
 
 record HasShebang (text : List ℕ) : Type 0 where
   answer : Option ℕ
@@ -238,11 +251,13 @@ record HasShebang (text : List ℕ) : Type 0 where
 has-shebang : (text : List ℕ) → IsText text → HasShebang text
 has-shebang text is = by_either (begins (codes "#!") text)
     (λ e. past (drop 2 text) (front-is text e))
-    (λ e. record { answer = None; is = the.no_start e })
+    (λ e. record { answer = None; is = the.none (λ rest f. absurd (true≢false (sym (ap (begins (codes "#!")) f) ∙ e))) })
   where
     past : (rest : List ℕ) → text ≡ 35 ∷ 33 ∷ rest → HasShebang text
     past rest e = by_either (is_attribute (ts rest))
-        (λ f. record { answer = None; is = the.attribute rest e (attribute-is (length rest) rest (chars rest) (tail-text text rest is e) refl (omega arith) f) })
+        (λ f.
+        let attribute : IsAttributeRest (chars rest) = attribute-is (length rest) rest (chars rest) (tail-text text rest is e) refl (omega arith) f in
+        record { answer = None; is = the.none (λ other g. subst (λ r. IsAttributeRest (chars r)) (ap (drop 2) (sym e ∙ g)) attribute) })
         (λ f.
         let l = has-line rest in
         let whole : text ≡ 35 ∷ 33 ∷ (l.w ++ l.next) = e ∙ ap (λ (x : List ℕ). 35 ∷ 33 ∷ x) (sym l.whole) in

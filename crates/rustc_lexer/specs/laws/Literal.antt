@@ -1,8 +1,7 @@
 -- A literal looks as far as its body does, and one character past its suffix.
 use Rattle.std.proofs.Common.{◌≡◌, ℕ, ◌+◌, ◌≤◌, ◌<◌, Bool, true, false, if◌then◌else◌, List, length, take, drop, refl, ap, ◌∙◌, arith, length-drop}
 use Rattle.std.specs.Str.{encode_utf8_all}
-use Rattle.rustc_lexer.specs.declared.token.TokenKind.{TokenKind}
-use Rattle.rustc_lexer.specs.declared.token.TokenKind.TheVariants.{Literal}
+use Rattle.rustc_lexer.specs.{TokenKind, Literal}
 use Rattle.rustc_lexer.specs.Classes.{is_id_start, is_id_continue}
 use Rattle.rustc_lexer.specs.means.Literal.{Body, suffix_len, suffixed, literal_past, literal}
 use Rattle.rustc_lexer.specs.laws.Reach.{cut, cut_past, after_at, begins-told, begins-length, either_at, next_is_local, gives_local, run_local, same_at}

@@ -4,10 +4,7 @@ use Rattle.std.proofs.lemmas.Bool.{eqb-true}
 use Rattle.std.proofs.lemmas.Grind.{common_steps}
 use Rattle.rustc_lexer.specs.declared.lexemes.raw.RawPrefix.{RawPrefix}
 use Rattle.rustc_lexer.specs.declared.lexemes.raw.RawPrefix.TheVariants.{R, Br, Cr}
-use Rattle.rustc_lexer.specs.declared.token.LiteralKind.{LiteralKind}
-use Rattle.rustc_lexer.specs.declared.token.LiteralKind.TheVariants.{Byte, ByteStr, CStr}
-use Rattle.rustc_lexer.specs.declared.token.TokenKind.{TokenKind}
-use Rattle.rustc_lexer.specs.declared.token.TokenKind.TheVariants.{LineComment, Slash, Whitespace, RawIdent, ForcedKeywordIdent, Eof}
+use Rattle.rustc_lexer.specs.{LiteralKind, TokenKind, Byte, ByteStr, CStr, LineComment, Slash, Whitespace, RawIdent, ForcedKeywordIdent, Eof}
 use Rattle.rustc_lexer.specs.means.BlockComment.{block_comment}
 use Rattle.rustc_lexer.specs.laws.BlockComment.{block_comment_local}
 use Rattle.rustc_lexer.specs.laws.Family.{by_letter, EachFamily, each_family}

@@ -6,10 +6,7 @@ use Rattle.std.specs.List.{list_all, list_any}
 use Rattle.std.specs.Str.{byte}
 use Rattle.std.proofs.lemmas.Grind.{common_steps}
 use Rattle.unicode_ident.proofs.Computing.{unicode_ident}
-use Rattle.rustc_lexer.specs.declared.token.Base.{Base}
-use Rattle.rustc_lexer.specs.declared.token.Base.TheVariants.{Binary, Octal, Decimal, Hexadecimal}
-use Rattle.rustc_lexer.specs.declared.token.LiteralKind.{LiteralKind}
-use Rattle.rustc_lexer.specs.declared.token.LiteralKind.TheVariants.{Int, Float}
+use Rattle.rustc_lexer.specs.{Base, LiteralKind, Binary, Octal, Decimal, Hexadecimal, Int, Float}
 use Rattle.rustc_lexer.specs.laws.Choice.{by_test}
 use Rattle.rustc_lexer.specs.laws.NumberGrammar.{number-stands}
 use Rattle.rustc_lexer.specs.laws.Within.{Within, within-suc, within-one, within-any, then-within, run-within}

@@ -4,10 +4,7 @@ use Rattle.std.proofs.lemmas.Bool.{leb-true, leb-false, le-leb, lt-leb, and_part
 use Rattle.std.specs.Str.{chars}
 use Rattle.std.proofs.lemmas.Grind.{common_steps}
 use Rattle.rustc_lexer.specs.declared.lexemes.raw.RawPrefix.{RawPrefix}
-use Rattle.rustc_lexer.specs.declared.token.LiteralKind.{LiteralKind}
-use Rattle.rustc_lexer.specs.declared.token.RawStrError.{RawStrError}
-use Rattle.rustc_lexer.specs.declared.token.RawStrError.TheVariants.{InvalidStarter}
-use Rattle.rustc_lexer.specs.declared.token.TokenKind.{TokenKind}
+use Rattle.rustc_lexer.specs.{LiteralKind, RawStrError, TokenKind, InvalidStarter}
 use Rattle.rustc_lexer.specs.means.Literal.{Body}
 use Rattle.rustc_lexer.specs.laws.Literal.{literal_at}
 use Rattle.rustc_lexer.specs.means.Raw.{is_hash, is_quote, hash_run, closes, close, raw_closed, raw_text, past_starter, raw_starter, raw_read, accepted, is_accepted, raw_body, prefix_kind, prefix_len, raw_literal, checked, raw_check, HasEnd, EndsItself}

@@ -15,7 +15,7 @@ use Rattle.rustc_lexer.specs.contracts.token.TokenEq.TheImpl.Laws as equal
 use Rattle.rustc_lexer.specs.contracts.token.TokenKind as token_kind
 use Rattle.rustc_lexer.specs.contracts.token.TokenKindPartialEq.TheImpl as kind
 use Rattle.rustc_lexer.specs.contracts.token.TokenPartialEq.TheImpl as token
-use Rattle.rustc_lexer.specs.declared.token.Token.{Token}
+use Rattle.rustc_lexer.specs.{Token}
 
 -- what `==` answers
 abbrev pub is_same : Token → Token → Bool

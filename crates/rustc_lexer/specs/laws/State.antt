@@ -2,9 +2,7 @@
 use Rattle.std.proofs.Common.{◌≡◌, ℕ, ◌==◌, true, false, List, length, drop, refl, sym, ap, ◌∙◌, arith, zero-add, ◌<◌, IsCharBoundary}
 use Rattle.std.proofs.lemmas.Bool.{eqb-true, ne_eqb}
 use Rattle.std.proofs.lemmas.Grind.{common_steps}
-use Rattle.rustc_lexer.specs.declared.token.Token.{Token}
-use Rattle.rustc_lexer.specs.declared.token.TokenKind.{TokenKind}
-use Rattle.rustc_lexer.specs.declared.token.TokenKind.TheVariants.{Eof, Literal}
+use Rattle.rustc_lexer.specs.{Token, TokenKind, Eof, Literal}
 use Rattle.rustc_lexer.specs.LanguageText.{Mode, mode_after, mode_edition}
 use Rattle.rustc_lexer.specs.State.{State, kind_past, token_past}
 use Rattle.rustc_lexer.specs.means.Taking.{token_at, advance}

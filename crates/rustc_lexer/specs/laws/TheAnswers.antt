@@ -3,9 +3,7 @@ use Rattle.std.proofs.Common.{◌≡◌, ℕ, ◌<◌, ◌==◌, true, false, Li
 use Rattle.std.proofs.lemmas.Bool.{eqb-true, eqb-false}
 use Rattle.std.specs.Str.{chars}
 use Rattle.std.proofs.lemmas.List.{nil_from_length}
-use Rattle.rustc_lexer.specs.declared.edition.Edition.{Edition}
-use Rattle.rustc_lexer.specs.declared.token.Token.{Token}
-use Rattle.rustc_lexer.specs.declared.token.TokenKind.TheVariants.{Eof}
+use Rattle.rustc_lexer.specs.{Edition, Token, Eof}
 use Rattle.rustc_lexer.specs.LanguageCalls.{IsRawAnswer, IsShebang}
 use Rattle.rustc_lexer.specs.State.{IsFirst, TakesGuarded, TakesNext, nothing_left, first_left, State, token_past}
 use Rattle.rustc_lexer.specs.LanguageText.{Mode, part, mode_after, AreTokens, TheOnly}

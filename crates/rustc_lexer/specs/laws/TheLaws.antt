@@ -1,9 +1,9 @@
 -- The laws of the page, and where each is proved.
 use Rattle.std.proofs.Common.{refl}
-use Rattle.rustc_lexer.specs.LanguageLaws.{TheLaws}
+use Rattle.rustc_lexer.specs.Locality.{TheLaws}
 use Rattle.rustc_lexer.specs.laws.Language.{begins-one}
 use Rattle.rustc_lexer.specs.laws.LanguageIn.{page}
-use Rattle.rustc_lexer.specs.laws.LanguageReach.{looks_no_further, refused_stands, none_looks_less}
+use Rattle.rustc_lexer.specs.laws.LanguageReach.{looks_no_further}
 use Rattle.rustc_lexer.specs.laws.TheAnswers.{the_tokens, the_first}
 
 abbrev pub the_laws : TheLaws
@@ -14,6 +14,4 @@ the_laws = record {
   one_token = begins-one;
   newest = page;
   looks_no_further = looks_no_further;
-  refused_stands = refused_stands;
-  none_looks_less = none_looks_less;
 }

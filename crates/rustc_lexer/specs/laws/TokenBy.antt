@@ -4,7 +4,7 @@ use lib.Utf8.{encodes, scalars, scalar}
 use Rattle.std.proofs.lemmas.Str.{chars-append, chars-encodes, encodes-chars, scalars-chars, encodes-append, IsCharBoundary-from_take, IsUtf8-drop, length-le-encodes}
 use Rattle.std.proofs.lemmas.Bool.{and_parts}
 use Rattle.std.proofs.lemmas.Grind.{common_steps}
-use Rattle.rustc_lexer.specs.declared.token.TokenKind.{TokenKind}
+use Rattle.rustc_lexer.specs.{TokenKind}
 use Rattle.rustc_lexer.specs.Classes.{IsText}
 use Rattle.rustc_lexer.specs.Locality.{IsGrammar, AgreePast}
 use Rattle.rustc_lexer.specs.laws.Texts.{agree_inside}

@@ -1,9 +1,6 @@
 -- Means, by how it is read: block comments, from what follows the opening mark.
 use Rattle.std.specs.Prelude.{ℕ, zero, suc, ◌&&◌, not, Bool, true, false, if◌then◌else◌, List, [], ◌∷◌, length, drop, codes, Option, Some, None}
-use Rattle.rustc_lexer.specs.declared.token.DocStyle.{DocStyle}
-use Rattle.rustc_lexer.specs.declared.token.DocStyle.TheVariants.{Outer, Inner}
-use Rattle.rustc_lexer.specs.declared.token.TokenKind.{TokenKind}
-use Rattle.rustc_lexer.specs.declared.token.TokenKind.TheVariants.{BlockComment}
+use Rattle.rustc_lexer.specs.{DocStyle, TokenKind, Outer, Inner, BlockComment}
 use Rattle.rustc_lexer.specs.means.Least.{more}
 use Rattle.rustc_lexer.specs.means.Scan.{begins}
 

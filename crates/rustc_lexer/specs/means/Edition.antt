@@ -1,10 +1,7 @@
 -- Means, by how it is read: what an edition has in place of the token at the front of a text.
 use Rattle.std.specs.Prelude.{ℕ, nat_le, if◌then◌else◌, Bool, false, List, [], ◌∷◌, take}
 use Rattle.std.specs.Str.{chars}
-use Rattle.rustc_lexer.specs.declared.edition.Edition.{Edition}
-use Rattle.rustc_lexer.specs.declared.token.Token.{Token}
-use Rattle.rustc_lexer.specs.declared.token.TokenKind.{TokenKind}
-use Rattle.rustc_lexer.specs.declared.token.TokenKind.TheVariants.{Ident, UnknownPrefix, UnknownPrefixLifetime, RawLifetime, Lifetime, GuardedStrPrefix, Pound}
+use Rattle.rustc_lexer.specs.{Edition, Token, TokenKind, Ident, UnknownPrefix, UnknownPrefixLifetime, RawLifetime, Lifetime, GuardedStrPrefix, Pound}
 use Rattle.rustc_lexer.specs.LanguageText.{year}
 use Rattle.rustc_lexer.specs.means.Ident.{is_word}
 use Rattle.rustc_lexer.specs.means.Lexeme.{first_token}

@@ -1,7 +1,6 @@
 -- Means, by how it is read: a hash: a symbol, or the prefix of a guarded string.
 use Rattle.std.specs.Prelude.{ℕ, Bool, if◌then◌else◌, List, codes}
-use Rattle.rustc_lexer.specs.declared.token.TokenKind.{TokenKind}
-use Rattle.rustc_lexer.specs.declared.token.TokenKind.TheVariants.{GuardedStrPrefix, Pound}
+use Rattle.rustc_lexer.specs.{TokenKind, GuardedStrPrefix, Pound}
 use Rattle.rustc_lexer.specs.Classes.{is_among}
 use Rattle.rustc_lexer.specs.means.Scan.{after, gives, next_is}
 

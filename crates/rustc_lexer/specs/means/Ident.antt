@@ -1,8 +1,7 @@
 -- Means, by how it is read: identifiers, with what may stand before and after them.
 use Rattle.std.specs.Prelude.{ℕ, ◌||◌, ◌&&◌, Bool, if◌then◌else◌, List, drop, codes}
 use Rattle.std.specs.List.{list_all}
-use Rattle.rustc_lexer.specs.declared.token.TokenKind.{TokenKind}
-use Rattle.rustc_lexer.specs.declared.token.TokenKind.TheVariants.{Ident, InvalidIdent, UnknownPrefix}
+use Rattle.rustc_lexer.specs.{TokenKind, Ident, InvalidIdent, UnknownPrefix}
 use Rattle.rustc_lexer.specs.Classes.{is_among, is_id_start, is_id_continue}
 use Rattle.rustc_lexer.specs.Tables.{is_emoji}
 use Rattle.rustc_lexer.specs.means.Scan.{after, begins, next_is, run, run_as}

@@ -7,9 +7,7 @@ use Rattle.std.specs.Char.{is_ascii_digit}
 use Rattle.std.specs.Str.{byte}
 use Rattle.rustc_lexer.specs.declared.lexemes.family.Family.{Family}
 use Rattle.rustc_lexer.specs.declared.lexemes.family.Family.TheVariants.{Slash, Space, Word, Number, Quote, Str, Emoji, Hash, Symbol}
-use Rattle.rustc_lexer.specs.declared.token.Token.{Token}
-use Rattle.rustc_lexer.specs.declared.token.TokenKind.{TokenKind}
-use Rattle.rustc_lexer.specs.declared.token.TokenKind.TheVariants.{Whitespace, RawIdent, ForcedKeywordIdent, Eof}
+use Rattle.rustc_lexer.specs.{Token, TokenKind, Whitespace, RawIdent, ForcedKeywordIdent, Eof}
 use Rattle.rustc_lexer.specs.Classes.{is_among, is_whitespace, is_id_start}
 use Rattle.rustc_lexer.specs.means.Comment.{slash}
 use Rattle.rustc_lexer.specs.Tables.{is_emoji}

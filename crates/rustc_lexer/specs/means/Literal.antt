@@ -1,8 +1,6 @@
 -- Means, by how it is read: literals: a body, and a suffix where the body takes one.
 use Rattle.std.specs.Prelude.{ℕ, ◌+◌, Bool, if◌then◌else◌, List, drop}
-use Rattle.rustc_lexer.specs.declared.token.LiteralKind.{LiteralKind}
-use Rattle.rustc_lexer.specs.declared.token.TokenKind.{TokenKind}
-use Rattle.rustc_lexer.specs.declared.token.TokenKind.TheVariants.{Literal}
+use Rattle.rustc_lexer.specs.{LiteralKind, TokenKind, Literal}
 use Rattle.rustc_lexer.specs.Classes.{is_id_start, is_id_continue}
 use Rattle.rustc_lexer.specs.means.Scan.{next_is, run_len, bytes_of}
 

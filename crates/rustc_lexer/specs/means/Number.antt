@@ -3,11 +3,7 @@ use Rattle.std.specs.Prelude.{ℕ, ◌==◌, ◌&&◌, ◌||◌, not, Bool, fals
 use Rattle.std.specs.Char.{is_ascii_digit, is_ascii_hexdigit}
 use Rattle.std.specs.List.{list_any}
 use Rattle.std.specs.Str.{byte}
-use Rattle.rustc_lexer.specs.declared.token.Base.{Base}
-use Rattle.rustc_lexer.specs.declared.token.Base.TheVariants.{Binary, Octal, Decimal, Hexadecimal}
-use Rattle.rustc_lexer.specs.declared.token.LiteralKind.{LiteralKind}
-use Rattle.rustc_lexer.specs.declared.token.LiteralKind.TheVariants.{Int, Float}
-use Rattle.rustc_lexer.specs.declared.token.TokenKind.{TokenKind}
+use Rattle.rustc_lexer.specs.{Base, LiteralKind, TokenKind, Binary, Octal, Decimal, Hexadecimal, Int, Float}
 use Rattle.rustc_lexer.specs.Classes.{is_id_start}
 use Rattle.rustc_lexer.specs.means.Literal.{Body, literal}
 use Rattle.rustc_lexer.specs.means.Scan.{after, and_then, begins, gives, next_is, read_as, run, run_as}

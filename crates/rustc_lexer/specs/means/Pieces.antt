@@ -1,6 +1,6 @@
 -- Means, by how it is read: what the pieces of a text keep.
 use Rattle.std.specs.Prelude.{ℕ, ◌+◌, ◌≤◌, List, length, IsCharBoundary}
-use Rattle.rustc_lexer.specs.declared.token.Token.{Token}
+use Rattle.rustc_lexer.specs.{Token}
 use Rattle.rustc_lexer.specs.Locality.{bound}
 
 -- each bound of the tokens, the first of which begins at `start`, is inside the text, between characters

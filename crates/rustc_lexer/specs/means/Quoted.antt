@@ -3,9 +3,7 @@ use Rattle.std.specs.Prelude.{ℕ, zero, suc, ◌==◌, ◌&&◌, ◌||◌, not,
 use Rattle.std.specs.Str.{byte}
 use Rattle.rustc_lexer.specs.declared.lexemes.quoted.QuotedPrefix.{QuotedPrefix}
 use Rattle.rustc_lexer.specs.declared.lexemes.quoted.QuotedPrefix.TheVariants.{Single, BSingle, Double, BDouble, CDouble}
-use Rattle.rustc_lexer.specs.declared.token.LiteralKind.{LiteralKind}
-use Rattle.rustc_lexer.specs.declared.token.LiteralKind.TheVariants.{Char, Byte, Str, ByteStr, CStr}
-use Rattle.rustc_lexer.specs.declared.token.TokenKind.{TokenKind}
+use Rattle.rustc_lexer.specs.{LiteralKind, TokenKind, Char, Byte, Str, ByteStr, CStr}
 use Rattle.rustc_lexer.specs.means.Least.{least}
 use Rattle.rustc_lexer.specs.means.Literal.{Body, literal}
 use Rattle.rustc_lexer.specs.means.Scan.{after, begins, run_len}

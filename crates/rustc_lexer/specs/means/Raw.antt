@@ -3,11 +3,7 @@ use Rattle.std.specs.Prelude.{ℕ, zero, suc, ◌+◌, ◌<◌, ◌==◌, nat_le
 use Rattle.std.specs.Str.{byte, chars}
 use Rattle.rustc_lexer.specs.declared.lexemes.raw.RawPrefix.{RawPrefix}
 use Rattle.rustc_lexer.specs.declared.lexemes.raw.RawPrefix.TheVariants.{R, Br, Cr}
-use Rattle.rustc_lexer.specs.declared.token.LiteralKind.{LiteralKind}
-use Rattle.rustc_lexer.specs.declared.token.LiteralKind.TheVariants.{RawStr, RawByteStr, RawCStr}
-use Rattle.rustc_lexer.specs.declared.token.RawStrError.{RawStrError}
-use Rattle.rustc_lexer.specs.declared.token.RawStrError.TheVariants.{InvalidStarter, NoTerminator, TooManyDelimiters}
-use Rattle.rustc_lexer.specs.declared.token.TokenKind.{TokenKind}
+use Rattle.rustc_lexer.specs.{LiteralKind, RawStrError, TokenKind, RawStr, RawByteStr, RawCStr, InvalidStarter, NoTerminator, TooManyDelimiters}
 use Rattle.rustc_lexer.specs.means.Least.{least}
 use Rattle.rustc_lexer.specs.means.Literal.{Body, literal_past}
 use Rattle.rustc_lexer.specs.means.Scan.{IsLocalAt, after, bytes_of, gives, next_is, run_len}

@@ -5,7 +5,7 @@ use Rattle.rustc_lexer.specs.declared.relex.front.Bound.{Bound}
 use Rattle.rustc_lexer.specs.declared.relex.front.Damage.{Damage}
 use Rattle.rustc_lexer.specs.declared.relex.relexing.Change.{Change}
 use Rattle.rustc_lexer.specs.declared.relex.relexing.Relexing.{Relexing}
-use Rattle.rustc_lexer.specs.declared.token.Token.{Token}
+use Rattle.rustc_lexer.specs.{Token}
 use Rattle.rustc_lexer.specs.Locality.{bound, tokens_by}
 use Rattle.rustc_lexer.specs.Edits.{IsBound, Stands, known, meets_at}
 

@@ -1,8 +1,7 @@
 -- Means, by how it is read: scanners: what is read at the front of a list of characters, and how many of them are taken.
 use Rattle.std.specs.Prelude.{ℕ, suc, ◌≡◌, ◌+◌, ◌≤◌, Bool, true, false, if◌then◌else◌, List, [], ◌∷◌, length, take, drop, Option, Some, None}
 use Rattle.std.specs.Str.{chars, encode_utf8_all}
-use Rattle.rustc_lexer.specs.declared.token.Token.{Token}
-use Rattle.rustc_lexer.specs.declared.token.TokenKind.{TokenKind}
+use Rattle.rustc_lexer.specs.{Token, TokenKind}
 pub use Rattle.rustc_lexer.specs.Classes.{begins, next_is}
 
 -- what is read of this text depends on no more than `reach` characters past what is taken: a text that has the same first

@@ -1,8 +1,7 @@
 -- Means, by how it is read: the token that a cursor takes, and the state after it.
 use Rattle.std.specs.Prelude.{ℕ, List, [], ◌∷◌, drop, if◌then◌else◌}
 use Rattle.std.specs.Str.{chars}
-use Rattle.rustc_lexer.specs.declared.token.Token.{Token}
-use Rattle.rustc_lexer.specs.declared.token.TokenKind.TheVariants.{Eof}
+use Rattle.rustc_lexer.specs.{Token, Eof}
 use Rattle.rustc_lexer.specs.LanguageText.{Mode, document, part, mode_after}
 use Rattle.rustc_lexer.specs.State.{State, token_past}
 use Rattle.rustc_lexer.specs.means.Edition.{first_token_in}

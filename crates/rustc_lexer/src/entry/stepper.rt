@@ -1,7 +1,6 @@
 //! A grammar, met one token at a time or many at once.
 ghost use Rattle.std.specs.Prelude.{◌≡◌, ◌+◌, ◌<◌, ◌≤◌, List, ℕ, length};
-ghost use Rattle.rustc_lexer.specs.declared.edition.Edition.TheVariants.{E2024};
-ghost use Rattle.rustc_lexer.specs.declared.token.Token.{Token};
+ghost use Rattle.rustc_lexer.specs.{Token, E2024};
 ghost use Rattle.rustc_lexer.specs.Tokens.{IsFilledTo, bound, tokens_by, tokens_of};
 ghost use Rattle.rustc_lexer.specs.Classes.{Fits};
 ghost use Rattle.rustc_lexer.specs.Answers.{first_in};

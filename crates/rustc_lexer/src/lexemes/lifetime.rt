@@ -2,7 +2,7 @@
 ghost use Rattle.std.specs.Prelude.{◌≡◌, ◌+◌, ◌≤◌, ◌<◌, ◌^◌, ◌&&◌, ◌||◌, not, if◌then◌else◌, true, length, codes, IfSome};
 ghost use Rattle.std.specs.Char.{is_ascii_digit, len_utf8};
 ghost use Rattle.std.specs.Str.{chars};
-ghost use Rattle.rustc_lexer.specs.declared.token.TokenKind.TheVariants.{Lifetime, UnknownPrefixLifetime};
+ghost use Rattle.rustc_lexer.specs.{Lifetime, UnknownPrefixLifetime};
 ghost use Rattle.rustc_lexer.specs.Tables.{is_emoji};
 ghost use Rattle.rustc_lexer.specs.means.Lifetime as spec;
 ghost use Rattle.rustc_lexer.specs.means.Lifetime.{is_character_at};

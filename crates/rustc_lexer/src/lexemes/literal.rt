@@ -1,7 +1,7 @@
 //! What every literal has: where its suffix begins, and the suffix.
 ghost use Rattle.std.specs.Prelude.{◌≡◌, ◌+◌, ◌-◌, ◌≤◌, ◌<◌, ◌^◌, length};
 ghost use Rattle.std.specs.Str.{chars};
-ghost use Rattle.rustc_lexer.specs.declared.token.TokenKind.TheVariants.{Literal};
+ghost use Rattle.rustc_lexer.specs.{Literal};
 ghost use Rattle.rustc_lexer.specs.means.Literal.{suffix_len};
 ghost use Rattle.rustc_lexer.specs.means.Scan.{past};
 

@@ -1,7 +1,7 @@
 //! Numbers.
 ghost use Rattle.std.specs.Prelude.{◌≡◌, ◌+◌, ◌<◌, ◌^◌, false, length};
 ghost use Rattle.std.specs.Char.{is_ascii_digit, is_ascii_hexdigit};
-ghost use Rattle.rustc_lexer.specs.declared.token.LiteralKind.TheVariants.{Float};
+ghost use Rattle.rustc_lexer.specs.{Float};
 ghost use Rattle.rustc_lexer.specs.means.Number as spec;
 ghost use Rattle.rustc_lexer.specs.means.Scan.{scanned};
 

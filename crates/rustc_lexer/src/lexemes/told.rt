@@ -1,6 +1,6 @@
 //! The commonest tokens, told by their first byte and the ends of runs.
 ghost use Rattle.std.specs.Prelude.{◌≡◌, ◌≢◌, ◌≤◌, ◌<◌, ◌+◌, ◌-◌, suc, ℕ, List, false, drop, slice_index, true, IsTrue, IsFalse};
-ghost use Rattle.rustc_lexer.specs.declared.edition.Edition.{Edition};
+ghost use Rattle.rustc_lexer.specs.{Edition};
 ghost use Rattle.rustc_lexer.specs.Tokens.{has_fields};
 ghost use Rattle.rustc_lexer.specs.means.Edition.{changed};
 ghost use Rattle.rustc_lexer.specs.means.Ends as spec;

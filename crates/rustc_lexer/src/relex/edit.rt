@@ -3,7 +3,7 @@ ghost use Rattle.std.specs.Prelude.{◌≡◌, ◌+◌, ◌-◌, ◌^◌, ◌<�
 ghost use Rattle.std.specs.List.{All};
 ghost use Rattle.std.specs.Str.{IsUtf8};
 ghost use Rattle.std.specs.String.{string_bytes, string_capacity, string_len};
-ghost use Rattle.rustc_lexer.specs.declared.token.Token.{Token};
+ghost use Rattle.rustc_lexer.specs.{Token};
 ghost use Rattle.rustc_lexer.specs.Classes.{Fits, IsText};
 ghost use Rattle.rustc_lexer.specs.Tokens.{tokens_by};
 ghost use Rattle.rustc_lexer.specs.Edits.{IsEdit, IsInside, apply, relexed_of, IsBound, IsChange, IsMadeOf, MayGoOn, Stands, known};

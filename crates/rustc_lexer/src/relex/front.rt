@@ -3,7 +3,7 @@
 //! Only the lengths of the old tokens are read. Each function here may be called with any lengths; what it finds is
 //! said of lengths that are those of a text's tokens.
 ghost use Rattle.std.specs.Prelude.{◌≡◌, ◌+◌, ◌-◌, ◌*◌, ◌<◌, ◌≤◌, ◌^◌, List, length, map, ℕ, true, false, IsCharBoundary, max};
-ghost use Rattle.rustc_lexer.specs.declared.token.Token.{Token};
+ghost use Rattle.rustc_lexer.specs.{Token};
 ghost use Rattle.rustc_lexer.specs.Edits.{kept_front, IsBound};
 ghost use Rattle.rustc_lexer.specs.Locality.{has_two};
 ghost use Rattle.rustc_lexer.specs.Tokens.{bound};

@@ -1,7 +1,7 @@
 //! Bounds that are remembered, so that a search begins near where it ends.
 ghost use Rattle.std.specs.Prelude.{◌≤◌, List};
 ghost use Rattle.std.specs.List.{All, Contains};
-ghost use Rattle.rustc_lexer.specs.declared.token.Token.{Token};
+ghost use Rattle.rustc_lexer.specs.{Token};
 ghost use Rattle.rustc_lexer.specs.means.Landmarks.{AreBounds, IsMovable, IsReplaced};
 ghost use Rattle.rustc_lexer.specs.Edits.{IsBound};
 

@@ -1,7 +1,7 @@
 //! Lexing again what an edit changed, on lists that the caller holds.
 ghost use Rattle.std.specs.Prelude.{◌≡◌, ◌+◌, ◌-◌, ◌<◌, ◌≤◌, ◌∷◌, ◌++◌, ◌↔◌, IsTrue, List, MatchOption, drop, false, length, map, take, ℕ, true};
 ghost use Rattle.rustc_lexer.specs.declared.relex.relexing.Change.{Change};
-ghost use Rattle.rustc_lexer.specs.declared.token.Token.{Token};
+ghost use Rattle.rustc_lexer.specs.{Token};
 ghost use Rattle.rustc_lexer.specs.Edits.{relexed_of, IsBound, known};
 ghost use Rattle.rustc_lexer.specs.Classes.{Fits};
 ghost use Rattle.rustc_lexer.specs.Tokens.{tokens_by};

@@ -1,5 +1,5 @@
 //! How far the tokens of a text are sure, however the text goes on.
-ghost use Rattle.rustc_lexer.specs.declared.edition.Edition.TheVariants.{E2024};
+ghost use Rattle.rustc_lexer.specs.{E2024};
 ghost use Rattle.rustc_lexer.specs.Classes.{Fits};
 ghost use Rattle.rustc_lexer.specs.Tokens.{tokens_by, tokens_of};
 ghost use Rattle.rustc_lexer.specs.LanguageText.{part};

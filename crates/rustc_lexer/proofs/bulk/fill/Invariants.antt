@@ -1,5 +1,5 @@
 use Rattle.std.proofs.Common.{◌≡◌, ◌≢◌, ◌+◌, ◌-◌, ◌^◌, ◌<◌, ℕ, true, length, drop, get_or}
-use Rattle.rustc_lexer.specs.declared.token.TokenKind.TheVariants.{Eof}
+use Rattle.rustc_lexer.specs.{Eof}
 use Rattle.rustc_lexer.specs.Tokens.{bound, tokens_of}
 use Rattle.rustc_lexer.specs.LanguageText.{part}
 use Rattle.rustc_lexer.specs.means.Ends.{told, bit, AreEndsPast, IsEnds}

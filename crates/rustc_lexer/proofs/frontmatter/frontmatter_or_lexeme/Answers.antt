@@ -1,5 +1,5 @@
 use Rattle.std.proofs.Common.{sym, subst}
-use Rattle.rustc_lexer.specs.declared.token.Token.{Token}
+use Rattle.rustc_lexer.specs.{Token}
 use Rattle.rustc_lexer.specs.State.{HasSuffixWithin}
 use Rattle.rustc_lexer.specs.laws.Frontmatter.{IsCutOff, frontmatter-cut, frontmatter-suffix}
 use Rattle.rustc_lexer.proofs.frontmatter.frontmatter_or_lexeme.Goals as goal

@@ -1,5 +1,5 @@
 use Rattle.std.proofs.Common.{◌≡◌, length}
-use Rattle.rustc_lexer.specs.declared.edition.Edition.TheVariants.{E2024}
+use Rattle.rustc_lexer.specs.{E2024}
 use Rattle.rustc_lexer.specs.LanguageText.{part}
 use Rattle.rustc_lexer.specs.means.Shebang.{is_attribute}
 use Rattle.rustc_lexer.specs.Tokens.{tokens_of, tokens_left}

@@ -1,5 +1,5 @@
 use Rattle.std.proofs.Common.{Option, ap, sym}
-use Rattle.rustc_lexer.specs.declared.token.GuardedStr.{GuardedStr}
+use Rattle.rustc_lexer.specs.{GuardedStr}
 use Rattle.rustc_lexer.specs.State.{State}
 use Rattle.rustc_lexer.proofs.GuardedLemmas.{none_here, some_here}
 use Rattle.rustc_lexer.proofs.cursor.Cursor.guarded_double_quoted_string.Goals as goal

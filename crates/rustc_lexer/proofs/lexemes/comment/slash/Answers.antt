@@ -1,6 +1,5 @@
 use Rattle.std.proofs.Common.{List, codes, if◌then◌else◌, ℕ, sym, ◌∙◌}
-use Rattle.rustc_lexer.specs.declared.token.TokenKind.{TokenKind}
-use Rattle.rustc_lexer.specs.declared.token.TokenKind.TheVariants.{Slash}
+use Rattle.rustc_lexer.specs.{TokenKind, Slash}
 use Rattle.rustc_lexer.specs.means.BlockComment.{block_comment}
 use Rattle.rustc_lexer.specs.means.Comment.{line_comment}
 use Rattle.rustc_lexer.specs.means.Scan.{after, begins, gives}

@@ -1,6 +1,5 @@
 use Rattle.std.proofs.Common.{Bool, if◌then◌else◌, sym, ap, ◌∙◌}
-use Rattle.rustc_lexer.specs.declared.token.TokenKind.{TokenKind}
-use Rattle.rustc_lexer.specs.declared.token.TokenKind.TheVariants.{Ident, UnknownPrefix}
+use Rattle.rustc_lexer.specs.{TokenKind, Ident, UnknownPrefix}
 use Rattle.rustc_lexer.specs.Tables.{is_emoji}
 use Rattle.rustc_lexer.specs.means.Ident.{is_prefix_mark}
 use Rattle.rustc_lexer.proofs.IdentLemmas.{ident_or_unknown_prefix-invalid, ident_or_unknown_prefix-valid}

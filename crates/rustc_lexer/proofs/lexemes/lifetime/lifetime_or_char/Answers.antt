@@ -1,5 +1,5 @@
 use Rattle.std.proofs.Common.{sym, arith, refl}
-use Rattle.rustc_lexer.specs.declared.token.LiteralKind.TheVariants.{Char}
+use Rattle.rustc_lexer.specs.{Char}
 use Rattle.rustc_lexer.specs.means.Quoted.{char_body, single_quoted_string}
 use Rattle.rustc_lexer.proofs.LifetimeLemmas.{first-length, pick-name, at_char}
 use Rattle.rustc_lexer.proofs.LiteralLemmas.{with-suffix}

@@ -1,7 +1,7 @@
 use Rattle.std.proofs.Common.{false, refl, sym, ap, ◌∙◌}
 use Rattle.std.specs.Char.{is_ascii_digit}
 use Rattle.std.specs.Str.{chars}
-use Rattle.rustc_lexer.specs.declared.token.LiteralKind.TheVariants.{Float}
+use Rattle.rustc_lexer.specs.{Float}
 use Rattle.rustc_lexer.specs.means.Number.{optional_exponent, fraction, fraction_digits, or_underscore}
 use Rattle.rustc_lexer.specs.means.Scan.{gives, next_is, run}
 use Rattle.rustc_lexer.proofs.NumberLemmas.{next_is-first}

@@ -1,6 +1,6 @@
 use Rattle.std.proofs.Common.{sym, ◌∙◌}
 use Rattle.std.specs.Char.{is_ascii_digit, is_ascii_hexdigit}
-use Rattle.rustc_lexer.specs.declared.token.Base.TheVariants.{Octal, Hexadecimal, Binary}
+use Rattle.rustc_lexer.specs.{Octal, Hexadecimal, Binary}
 use Rattle.rustc_lexer.specs.means.Number.{digits, prefixed}
 use Rattle.rustc_lexer.proofs.NumberLemmas.{front_past_zero-end, pick-binary, pick-octal, pick-hexadecimal}
 use Rattle.rustc_lexer.specs.laws.Scan.{scanned-read_as}

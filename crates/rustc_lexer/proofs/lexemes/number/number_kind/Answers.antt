@@ -1,5 +1,5 @@
 use Rattle.std.proofs.Common.{sym, ap, ◌∙◌}
-use Rattle.rustc_lexer.specs.declared.token.LiteralKind.TheVariants.{Int}
+use Rattle.rustc_lexer.specs.{Int}
 use Rattle.rustc_lexer.proofs.NumberLemmas.{pick-tail, pick-empty}
 use Rattle.rustc_lexer.proofs.lexemes.number.number_kind.Goals as goal
 

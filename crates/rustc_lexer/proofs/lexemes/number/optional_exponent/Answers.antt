@@ -1,5 +1,5 @@
 use Rattle.std.proofs.Common.{false, sym, ap, ◌∙◌}
-use Rattle.rustc_lexer.specs.declared.token.LiteralKind.TheVariants.{Float}
+use Rattle.rustc_lexer.specs.{Float}
 use Rattle.rustc_lexer.specs.means.Number.{is_exponent_letter, float_exponent}
 use Rattle.rustc_lexer.specs.means.Scan.{gives}
 use Rattle.rustc_lexer.proofs.NumberLemmas.{next-in, next-out, next-end}

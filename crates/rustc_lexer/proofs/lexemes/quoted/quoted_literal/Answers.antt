@@ -1,5 +1,5 @@
 use Rattle.std.proofs.Common.{◌+◌, ◌-◌, length, ap, ◌∙◌}
-use Rattle.rustc_lexer.specs.declared.token.TokenKind.TheVariants.{Literal}
+use Rattle.rustc_lexer.specs.{Literal}
 use Rattle.rustc_lexer.specs.means.Quoted.{quoted_body, quoted_kind, quoted_string}
 use Rattle.rustc_lexer.proofs.LiteralLemmas.{with-suffix, no-suffix}
 use Rattle.rustc_lexer.proofs.QuotedLemmas.{body-read}

@@ -1,5 +1,5 @@
 use Rattle.std.proofs.Common.{◌∙◌, refl, sym, ap, subst, drop, slice_index}
-use Rattle.rustc_lexer.specs.declared.token.TokenKind.{TokenKind}
+use Rattle.rustc_lexer.specs.{TokenKind}
 use Rattle.rustc_lexer.specs.Tokens.{has_fields}
 use Rattle.rustc_lexer.specs.means.Ends.{told, StaysWithin}
 use Rattle.rustc_lexer.specs.means.Quick.{IsFirstToken}

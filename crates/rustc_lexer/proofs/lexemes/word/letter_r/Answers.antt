@@ -6,7 +6,7 @@ use Rattle.rustc_lexer.proofs.lexemes.word.letter_r.Goals as goal
 use Rattle.std.specs.Str.{chars}
 use Rattle.rustc_lexer.specs.Classes.{is_id_continue}
 use Rattle.rustc_lexer.specs.declared.lexemes.raw.RawPrefix.TheVariants.{R}
-use Rattle.rustc_lexer.specs.declared.token.TokenKind.TheVariants.{RawIdent}
+use Rattle.rustc_lexer.specs.{RawIdent}
 use Rattle.rustc_lexer.specs.means.Ident.{ident_or_unknown_prefix, marks_ident}
 use Rattle.rustc_lexer.specs.means.Lexeme.{is_raw_mark, raw_or_ident}
 use Rattle.rustc_lexer.specs.means.Scan.{after, next_is, run}

@@ -1,6 +1,6 @@
 use Rattle.std.proofs.Common.{◌≡◌, ◌+◌, ◌∷◌, List, ℕ, length, map, drop, refl, ap, ◌∙◌, subst, arith, append_assoc, length-append, [], ◌++◌, sym}
 use Rattle.rustc_lexer.specs.declared.relex.front.Bound.{Bound}
-use Rattle.rustc_lexer.specs.declared.token.Token.{Token}
+use Rattle.rustc_lexer.specs.{Token}
 use Rattle.rustc_lexer.specs.Tokens.{tokens_by}
 use Rattle.rustc_lexer.specs.Edits.{IsMadeOf, Stands, known}
 use Rattle.rustc_lexer.proofs.RelexBlockLemmas.{step_of}

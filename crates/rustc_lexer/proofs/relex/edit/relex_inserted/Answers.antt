@@ -1,7 +1,7 @@
 use Rattle.std.proofs.Common.{◌≡◌, ◌+◌, ◌++◌, List, ℕ, length, map, drop, take, sym, ap, ◌∙◌, subst, arith, append_assoc, length-append, length-take-le}
 use Rattle.std.proofs.lemmas.List.{drop-drop, take-append-drop}
 use Rattle.rustc_lexer.specs.declared.relex.front.Bound.{Bound}
-use Rattle.rustc_lexer.specs.declared.token.Token.{Token}
+use Rattle.rustc_lexer.specs.{Token}
 use Rattle.rustc_lexer.specs.Tokens.{tokens_by}
 use Rattle.rustc_lexer.specs.Edits.{IsMadeOf, Stands, known}
 use Rattle.rustc_lexer.proofs.BlockLemmas.{IsFront, front_of}

@@ -1,8 +1,7 @@
 use Rattle.std.proofs.Common.{sym, ap, ◌∙◌, arith, ◌+◌, ◌-◌, ◌≡◌, ◌≤◌, ◌<◌, ◌&&◌, eqb, le-leb, length}
 use Rattle.rustc_lexer.specs.Tokens.{bound}
-use Rattle.rustc_lexer.specs.Edits.{is_bound}
 use Rattle.rustc_lexer.specs.means.Relexing.{old_stop_of}
-use Rattle.rustc_lexer.proofs.BoundLemmas.{is_bound-decide}
+use Rattle.rustc_lexer.proofs.BoundLemmas.{is_bound, is_bound-decide}
 use Rattle.rustc_lexer.proofs.LengthLemmas.{as_many}
 use Rattle.rustc_lexer.proofs.relex.front.follow.Goals as goal
 

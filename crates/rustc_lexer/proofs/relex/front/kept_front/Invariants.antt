@@ -1,5 +1,5 @@
 use Rattle.std.proofs.Common.{length, map, List, ℕ, ◌≤◌, ◌-◌, IsCharBoundary}
-use Rattle.rustc_lexer.specs.declared.token.Token.{Token}
+use Rattle.rustc_lexer.specs.{Token}
 use Rattle.rustc_lexer.specs.Edits.{IsBound}
 use Rattle.rustc_lexer.specs.means.Relexing.{IsFront}
 use Rattle.rustc_lexer.proofs.FrontLemmas.{IsKept}

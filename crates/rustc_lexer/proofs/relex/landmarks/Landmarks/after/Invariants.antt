@@ -1,6 +1,6 @@
 use Rattle.std.proofs.Common.{List}
 use Rattle.std.specs.List.{All}
-use Rattle.rustc_lexer.specs.declared.token.Token.{Token}
+use Rattle.rustc_lexer.specs.{Token}
 use Rattle.rustc_lexer.specs.means.Landmarks.{AreBounds, IsReplaced}
 use Rattle.rustc_lexer.specs.Edits.{IsBound}
 use Rattle.rustc_lexer.proofs.relex.landmarks.Landmarks.after.Given as goal

@@ -1,6 +1,6 @@
 use Rattle.std.proofs.Common.{◌<◌, ◌≤◌, ℕ, List, get_or}
 use Rattle.rustc_lexer.specs.declared.relex.front.Bound.{Bound}
-use Rattle.rustc_lexer.specs.declared.token.Token.{Token}
+use Rattle.rustc_lexer.specs.{Token}
 use Rattle.rustc_lexer.specs.means.Landmarks.{AreBounds}
 use Rattle.rustc_lexer.specs.Edits.{IsBound}
 use Rattle.rustc_lexer.proofs.relex.landmarks.Landmarks.before_number.Given as goal

@@ -1,5 +1,5 @@
 use Rattle.std.proofs.Common.{◌≡◌, ◌-◌, ◌≤◌, List, drop, length, slice_range, sym, ap, ◌∙◌, arith, length-drop, length-take-le}
-use Rattle.rustc_lexer.specs.declared.token.Token.{Token}
+use Rattle.rustc_lexer.specs.{Token}
 use Rattle.rustc_lexer.specs.Tokens.{bound, tokens_by}
 use Rattle.rustc_lexer.specs.means.Pieces.{AreBoundariesFrom}
 use Rattle.rustc_lexer.proofs.PieceLemmas.{cuts_part, cuts_whole, length-pieces, pieces-part}

@@ -1,5 +1,5 @@
 use Rattle.std.proofs.Common.{◌≡◌, ◌≤◌, List, length, slice_range, ap, ◌∙◌, subst, arith}
-use Rattle.rustc_lexer.specs.declared.token.Token.{Token}
+use Rattle.rustc_lexer.specs.{Token}
 use Rattle.rustc_lexer.specs.Tokens.{bound}
 use Rattle.rustc_lexer.specs.Edits.{IsBound}
 use Rattle.rustc_lexer.proofs.PieceLemmas.{bound-part, bound_short}

@@ -1,6 +1,6 @@
 use Rattle.std.proofs.Common.{◌+◌, ◌-◌, List, ℕ, ap, subst, ◌∙◌, arith}
 use Rattle.rustc_lexer.specs.declared.relex.front.Damage.{Damage}
-use Rattle.rustc_lexer.specs.declared.token.Token.{Token}
+use Rattle.rustc_lexer.specs.{Token}
 use Rattle.rustc_lexer.specs.Tokens.{IsFilledTo, bound, tokens_by}
 use Rattle.rustc_lexer.specs.means.Relexing.{IsFollowed, old_stop_of}
 use Rattle.rustc_lexer.proofs.RelexBlockLemmas.{stretch, stands_filled}

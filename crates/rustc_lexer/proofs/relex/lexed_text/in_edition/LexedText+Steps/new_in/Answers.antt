@@ -1,5 +1,5 @@
 use Rattle.std.proofs.Common.{List, ℕ, ap, ◌∙◌}
-use Rattle.rustc_lexer.specs.declared.token.Token.{Token}
+use Rattle.rustc_lexer.specs.{Token}
 use Rattle.rustc_lexer.specs.Tokens.{tokens_by}
 use Rattle.rustc_lexer.proofs.EditLemmas.{IfOk-two}
 use Rattle.rustc_lexer.proofs.relex.lexed_text.in_edition.LexedText+Steps.new_in.Goals as goal
