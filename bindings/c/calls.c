@@ -15,32 +15,32 @@
         } \
     } while (0)
 
-#define ROOM 8
+#define BUFFER_LEN 8
 
 typedef uint32_t batch_call(const uint8_t *, size_t, struct rustc_lexer_place *, struct rustc_lexer_token *, size_t,
                             size_t *);
 
-static struct rustc_lexer_token room[ROOM];
+static struct rustc_lexer_token buffer[BUFFER_LEN];
 
-/* A call with so much room, on room that has a mark in each byte. */
+/* A call with so much room, on a buffer that has a mark in each byte. */
 static uint32_t call(batch_call *tokens, const char *text, size_t len, struct rustc_lexer_place *place,
-                     size_t room_len, size_t *count) {
-    memset(room, 0xAA, sizeof room);
+                     size_t buffer_len, size_t *count) {
+    memset(buffer, 0xAA, sizeof buffer);
     *count = 99;
-    return tokens((const uint8_t *)text, len, place, room, room_len, count);
+    return tokens((const uint8_t *)text, len, place, buffer, buffer_len, count);
 }
 
-/* Whether the room from a token on still has the marks. */
+/* Whether the buffer from a token on still has the marks. */
 static bool is_marked(size_t from) {
-    const unsigned char *bytes = (const unsigned char *)&room[from];
-    for (size_t i = 0; i < (ROOM - from) * sizeof room[0]; i++)
+    const unsigned char *bytes = (const unsigned char *)&buffer[from];
+    for (size_t i = 0; i < (BUFFER_LEN - from) * sizeof buffer[0]; i++)
         if (bytes[i] != 0xAA)
             return false;
     return true;
 }
 
 static bool is_token(size_t number, uint8_t kind, uint32_t len) {
-    return room[number].kind == kind && room[number].len == len;
+    return buffer[number].kind == kind && buffer[number].len == len;
 }
 
 static int check_bad_texts(void) {
@@ -54,7 +54,7 @@ static int check_bad_texts(void) {
         struct rustc_lexer_guarded_str string = {9, 9, 9, 9};
         uint32_t is = 9;
         CHECK(rustc_lexer_check(text, len) == RUSTC_LEXER_NOT_UTF8);
-        CHECK(call(rustc_lexer_tokens, bad[i], len, &place, ROOM, &count) == RUSTC_LEXER_NOT_UTF8);
+        CHECK(call(rustc_lexer_tokens, bad[i], len, &place, BUFFER_LEN, &count) == RUSTC_LEXER_NOT_UTF8);
         CHECK(count == 0 && place.at == 0 && place.frontmatter_allowed == 1 && is_marked(0));
         CHECK(rustc_lexer_strip_shebang(text, len, &end) == RUSTC_LEXER_NOT_UTF8 && end == 0);
         end = 99;
@@ -66,7 +66,7 @@ static int check_bad_texts(void) {
         CHECK(rustc_lexer_is_ident(text, len, &is) == RUSTC_LEXER_NOT_UTF8 && is == 0);
         struct rustc_lexer_edit edit = {0, 0, (uint32_t)len};
         struct rustc_lexer_relexing relexing = {0};
-        CHECK(rustc_lexer_relex(text, len, room, 0, &edit, 2024, &relexing, room + 1, ROOM - 1, &count) ==
+        CHECK(rustc_lexer_relex(text, len, buffer, 0, &edit, 2024, &relexing, buffer + 1, BUFFER_LEN - 1, &count) ==
                   RUSTC_LEXER_NOT_UTF8 &&
               count == 0 && relexing.stage == 0 && is_marked(0));
     }
@@ -77,7 +77,7 @@ static int check_empty_text(batch_call *tokens) {
     struct rustc_lexer_place place = {0, 1};
     size_t count, end = 99;
     uint32_t is = 9;
-    CHECK(call(tokens, "", 0, &place, ROOM, &count) == RUSTC_LEXER_OK);
+    CHECK(call(tokens, "", 0, &place, BUFFER_LEN, &count) == RUSTC_LEXER_OK);
     CHECK(count == 0 && place.at == 0 && place.frontmatter_allowed == 1 && is_marked(0));
     CHECK(rustc_lexer_strip_shebang((const uint8_t *)"", 0, &end) == RUSTC_LEXER_OK && end == 0);
     end = 99;
@@ -97,14 +97,14 @@ static int check_null(void) {
     uint32_t is = 9;
     CHECK(rustc_lexer_check(NULL, 0) == RUSTC_LEXER_OK);
     CHECK(rustc_lexer_tokens(NULL, 0, &place, NULL, 0, &count) == RUSTC_LEXER_OK && count == 0);
-    CHECK(rustc_lexer_tokens(NULL, 0, &place, room, ROOM, &count) == RUSTC_LEXER_OK && count == 0);
+    CHECK(rustc_lexer_tokens(NULL, 0, &place, buffer, BUFFER_LEN, &count) == RUSTC_LEXER_OK && count == 0);
     CHECK(rustc_lexer_tokens_unchecked(NULL, 0, &place, NULL, 0, &count) == RUSTC_LEXER_OK && count == 0);
     CHECK(rustc_lexer_tokens((const uint8_t *)"a", 1, &place, NULL, 0, &count) == RUSTC_LEXER_OK && place.at == 0);
     CHECK(rustc_lexer_first_token_unchecked(NULL, 0, 0).kind == 0);
     CHECK(rustc_lexer_relex(NULL, 0, NULL, 0, &edit, 2024, &relexing, NULL, 0, &count) == RUSTC_LEXER_OK);
     CHECK(count == 0 && relexing.stage == 2 && relexing.kept_front == 0 && relexing.kept_back == 0);
-    CHECK(rustc_lexer_relex_unchecked(NULL, 0, NULL, 0, &edit, 2015, &(struct rustc_lexer_relexing){0}, room, ROOM,
-                                      &count) == RUSTC_LEXER_OK && count == 0);
+    CHECK(rustc_lexer_relex_unchecked(NULL, 0, NULL, 0, &edit, 2015, &(struct rustc_lexer_relexing){0}, buffer,
+                                      BUFFER_LEN, &count) == RUSTC_LEXER_OK && count == 0);
     CHECK(rustc_lexer_strip_shebang(NULL, 0, &end) == RUSTC_LEXER_OK && end == 0);
     CHECK(rustc_lexer_strip_shebang_unchecked(NULL, 0, &end) == RUSTC_LEXER_OK && end == 0);
     CHECK(rustc_lexer_settled(NULL, 0, &end) == RUSTC_LEXER_OK && end == 0);
@@ -145,8 +145,9 @@ static int check_records(void) {
         memcpy(&want, rows[i].bytes, 4);
         want.suffix_start = rows[i].suffix_start;
         want.len = rows[i].len;
-        CHECK(call(rustc_lexer_tokens, rows[i].text, strlen(rows[i].text), &place, ROOM, &count) == RUSTC_LEXER_OK);
-        CHECK(count == 1 && memcmp(room, &want, sizeof want) == 0 && memcmp(&first, &want, sizeof want) == 0);
+        CHECK(call(rustc_lexer_tokens, rows[i].text, strlen(rows[i].text), &place, BUFFER_LEN, &count) ==
+              RUSTC_LEXER_OK);
+        CHECK(count == 1 && memcmp(buffer, &want, sizeof want) == 0 && memcmp(&first, &want, sizeof want) == 0);
     }
     const uint8_t *document = (const uint8_t *)" ---\na\n---\n";
     struct rustc_lexer_token first = rustc_lexer_first_token_unchecked(document, 11, 7);
@@ -157,7 +158,7 @@ static int check_records(void) {
     return 0;
 }
 
-static int check_room(batch_call *tokens) {
+static int check_buffer(batch_call *tokens) {
     struct rustc_lexer_place place = {0, 0};
     size_t count;
     CHECK(call(tokens, "ab cd", 5, &place, 0, &count) == RUSTC_LEXER_OK);
@@ -167,7 +168,7 @@ static int check_room(batch_call *tokens) {
     CHECK(call(tokens, "ab cd", 5, &place, 2, &count) == RUSTC_LEXER_OK);
     CHECK(count == 2 && place.at == 5 && is_token(0, RUSTC_LEXER_WHITESPACE, 1));
     CHECK(is_token(1, RUSTC_LEXER_IDENT, 2) && is_marked(2));
-    CHECK(call(tokens, "ab cd", 5, &place, ROOM, &count) == RUSTC_LEXER_OK);
+    CHECK(call(tokens, "ab cd", 5, &place, BUFFER_LEN, &count) == RUSTC_LEXER_OK);
     CHECK(count == 0 && place.at == 5 && is_marked(0));
     return 0;
 }
@@ -179,7 +180,7 @@ static int check_frontmatter(batch_call *tokens) {
     CHECK(call(tokens, text, 12, &place, 1, &count) == RUSTC_LEXER_OK);
     CHECK(count == 1 && is_token(0, RUSTC_LEXER_WHITESPACE, 1) && place.at == 1 && place.frontmatter_allowed == 1);
     CHECK(call(tokens, text, 12, &place, 1, &count) == RUSTC_LEXER_OK);
-    CHECK(count == 1 && is_token(0, RUSTC_LEXER_FRONTMATTER, 9) && room[0].invalid_infostring == 0);
+    CHECK(count == 1 && is_token(0, RUSTC_LEXER_FRONTMATTER, 9) && buffer[0].invalid_infostring == 0);
     CHECK(place.at == 10 && place.frontmatter_allowed == 0);
     place.at = 1;
     CHECK(call(tokens, text, 12, &place, 1, &count) == RUSTC_LEXER_OK);
@@ -193,12 +194,12 @@ static int check_places(batch_call *tokens) {
     for (uint32_t at = 0; at < 6; at++) {
         struct rustc_lexer_place place = {at, 5};
         bool good = at == 0 || at == 1 || at == 3;
-        uint32_t status = call(tokens, text, 3, &place, ROOM, &count);
+        uint32_t status = call(tokens, text, 3, &place, BUFFER_LEN, &count);
         CHECK(status == (good ? RUSTC_LEXER_OK : RUSTC_LEXER_BAD_PLACE));
         CHECK(good ? place.at == 3 : count == 0 && place.at == at && place.frontmatter_allowed == 5 && is_marked(0));
     }
     struct rustc_lexer_place last = {UINT32_MAX, 0};
-    CHECK(call(tokens, text, 3, &last, ROOM, &count) == RUSTC_LEXER_BAD_PLACE);
+    CHECK(call(tokens, text, 3, &last, BUFFER_LEN, &count) == RUSTC_LEXER_BAD_PLACE);
     return 0;
 }
 
@@ -299,9 +300,9 @@ struct held {
     struct rustc_lexer_relexing relexing;
 };
 
-/* Puts `insert` in place of the bytes from `start` up to `stop`, by rooms of so many tokens. */
+/* Puts `insert` in place of the bytes from `start` up to `stop`, by buffers of so many tokens. */
 static uint32_t edit_held(relex_call *relex, struct held *held, size_t start, size_t stop, const char *insert,
-                          uint32_t edition, size_t room_len) {
+                          uint32_t edition, size_t buffer_len) {
     struct rustc_lexer_token lexed[MOST];
     struct rustc_lexer_edit edit = {(uint32_t)start, (uint32_t)stop, (uint32_t)(start + strlen(insert))};
     size_t written = 0, count;
@@ -311,20 +312,20 @@ static uint32_t edit_held(relex_call *relex, struct held *held, size_t start, si
     held->relexing.stage = 0;
     do {
         uint32_t status = relex((const uint8_t *)held->text, held->len, held->tokens, held->count, &edit, edition,
-                                &held->relexing, room, room_len, &count);
+                                &held->relexing, buffer, buffer_len, &count);
         if (status != RUSTC_LEXER_OK)
             return status;
-        memcpy(lexed + written, room, count * sizeof room[0]);
+        memcpy(lexed + written, buffer, count * sizeof buffer[0]);
         written += count;
     } while (held->relexing.stage == 1);
     size_t front = held->relexing.kept_front, back = held->relexing.kept_back;
-    memmove(held->tokens + front + written, held->tokens + held->count - back, back * sizeof room[0]);
-    memcpy(held->tokens + front, lexed, written * sizeof room[0]);
+    memmove(held->tokens + front + written, held->tokens + held->count - back, back * sizeof buffer[0]);
+    memcpy(held->tokens + front, lexed, written * sizeof buffer[0]);
     held->count = front + written + back;
     return written == held->relexing.lexed ? RUSTC_LEXER_OK : 99;
 }
 
-/* Lexes the whole text, by one room. */
+/* Lexes the whole text, by one buffer. */
 static uint32_t lex_whole(relex_call *relex, struct held *held, uint32_t edition) {
     struct rustc_lexer_edit all = {0, 0, (uint32_t)held->len};
     struct rustc_lexer_relexing relexing = {0};
@@ -347,26 +348,26 @@ static bool is_from_scratch(const struct held *held) {
 
 static int check_edits(relex_call *relex) {
     struct held held;
-    for (size_t room_len = 1; room_len <= ROOM; room_len++) {
+    for (size_t buffer_len = 1; buffer_len <= BUFFER_LEN; buffer_len++) {
         memset(&held, 0, sizeof held);
-        CHECK(edit_held(relex, &held, 0, 0, "let ab = cd + ef;", 2024, room_len) == RUSTC_LEXER_OK);
+        CHECK(edit_held(relex, &held, 0, 0, "let ab = cd + ef;", 2024, buffer_len) == RUSTC_LEXER_OK);
         CHECK(is_from_scratch(&held) && held.count == 12 && held.relexing.lexed == 12);
-        CHECK(edit_held(relex, &held, 12, 13, "- 1 -", 2024, room_len) == RUSTC_LEXER_OK);
+        CHECK(edit_held(relex, &held, 12, 13, "- 1 -", 2024, buffer_len) == RUSTC_LEXER_OK);
         CHECK(is_from_scratch(&held) && held.count == 16);
         CHECK(held.relexing.kept_front == 6 && held.relexing.lexed == 7 && held.relexing.kept_back == 3);
         CHECK(held.relexing.front_place == 9 && held.relexing.back_place == 13 && held.relexing.at == 17);
         CHECK(held.relexing.stage == 2);
-        CHECK(edit_held(relex, &held, 0, 0, "/*", 2024, room_len) == RUSTC_LEXER_OK);
+        CHECK(edit_held(relex, &held, 0, 0, "/*", 2024, buffer_len) == RUSTC_LEXER_OK);
         CHECK(is_from_scratch(&held) && held.count == 1 && held.relexing.kept_back == 0);
-        CHECK(edit_held(relex, &held, 1, 2, "", 2024, room_len) == RUSTC_LEXER_OK);
+        CHECK(edit_held(relex, &held, 1, 2, "", 2024, buffer_len) == RUSTC_LEXER_OK);
         CHECK(is_from_scratch(&held) && held.count == 17);
-        CHECK(edit_held(relex, &held, 1, 1, "\xc3\xa9", 2024, room_len) == RUSTC_LEXER_OK && is_from_scratch(&held));
-        CHECK(edit_held(relex, &held, 0, held.len, "", 2024, room_len) == RUSTC_LEXER_OK && held.count == 0);
+        CHECK(edit_held(relex, &held, 1, 1, "\xc3\xa9", 2024, buffer_len) == RUSTC_LEXER_OK && is_from_scratch(&held));
+        CHECK(edit_held(relex, &held, 0, held.len, "", 2024, buffer_len) == RUSTC_LEXER_OK && held.count == 0);
     }
     return 0;
 }
 
-/* 300 symbols are put in between two, by rooms of so many tokens. What stands less than two characters before them is
+/* 300 symbols are put in between two, by buffers of so many tokens. What stands less than two characters before them is
  * lexed again. A call past the last token writes none. */
 static int check_long_edit(relex_call *relex) {
     static const size_t lens[] = {40, 64, 300, 301, 400};
@@ -403,11 +404,11 @@ static int check_editions(relex_call *relex) {
     struct held held;
     for (size_t i = 0; i < 4; i++) {
         memset(&held, 0, sizeof held);
-        CHECK(edit_held(relex, &held, 0, 0, "'r#a##", years[i].edition, ROOM) == RUSTC_LEXER_OK);
+        CHECK(edit_held(relex, &held, 0, 0, "'r#a##", years[i].edition, BUFFER_LEN) == RUSTC_LEXER_OK);
         CHECK(held.count == years[i].count + (years[i].edition < 2021));
     }
     memset(&held, 0, sizeof held);
-    CHECK(edit_held(relex, &held, 0, 0, "a", 2022, ROOM) == RUSTC_LEXER_BAD_EDITION);
+    CHECK(edit_held(relex, &held, 0, 0, "a", 2022, BUFFER_LEN) == RUSTC_LEXER_BAD_EDITION);
     CHECK(held.relexing.stage == 0 && held.relexing.at == 0);
     return 0;
 }
@@ -422,20 +423,21 @@ static int check_bad_edits(relex_call *relex) {
     memset(old, 0, sizeof old);
     for (size_t i = 0; i < sizeof bad / sizeof bad[0]; i++) {
         struct rustc_lexer_relexing relexing = {0};
-        memset(room, 0xAA, sizeof room);
-        CHECK(relex(text, 5, old, 5, &bad[i], 2024, &relexing, room, ROOM, &count) == RUSTC_LEXER_BAD_EDIT);
+        memset(buffer, 0xAA, sizeof buffer);
+        CHECK(relex(text, 5, old, 5, &bad[i], 2024, &relexing, buffer, BUFFER_LEN, &count) == RUSTC_LEXER_BAD_EDIT);
         CHECK(count == 0 && relexing.stage == 0 && is_marked(0));
     }
     struct rustc_lexer_edit good = {3, 3, 4};
     struct rustc_lexer_relexing none[] = {{0, 0, 0, 6, 0, 0, 1}, {0, 0, 0, 0, 0, 2, 1}, {0, 0, 0, 0, 0, 6, 1},
                                           {0, 0, 4, 0, 0, 3, 1}, {3, 0, 0, 3, 0, 0, 1}, {0, 0, 0, 0, SIZE_MAX, 0, 1}};
     for (size_t i = 0; i < sizeof none / sizeof none[0]; i++)
-        CHECK(relex(text, 5, old, 5, &good, 2024, &none[i], room, ROOM, &count) == RUSTC_LEXER_BAD_EDIT && count == 0);
+        CHECK(relex(text, 5, old, 5, &good, 2024, &none[i], buffer, BUFFER_LEN, &count) == RUSTC_LEXER_BAD_EDIT &&
+              count == 0);
     /* a stage past 2 counts as 1 */
     static const size_t stages[] = {1, 3, 4, SIZE_MAX};
     for (size_t i = 0; i < sizeof stages / sizeof stages[0]; i++) {
         struct rustc_lexer_relexing begun = {0, 0, 0, 0, 0, 0, stages[i]};
-        CHECK(relex(text, 5, NULL, 0, &good, 2024, &begun, room, ROOM, &count) == RUSTC_LEXER_OK);
+        CHECK(relex(text, 5, NULL, 0, &good, 2024, &begun, buffer, BUFFER_LEN, &count) == RUSTC_LEXER_OK);
         CHECK(count == 3 && begun.lexed == 3 && begun.at == 5 && begun.stage == 2);
     }
     for (size_t i = 0; i < 7 * 7 * 7 * 7; i++) {
@@ -446,7 +448,7 @@ static int check_bad_edits(relex_call *relex) {
             struct rustc_lexer_relexing relexing = {near, near * near * near * 1000003, 0, 0, 0, 0, 0};
             size_t calls = 0;
             do {
-                CHECK(relex(text, 5, old, 5, &good, 2024, &relexing, room, 1, &count) == RUSTC_LEXER_OK);
+                CHECK(relex(text, 5, old, 5, &good, 2024, &relexing, buffer, 1, &count) == RUSTC_LEXER_OK);
                 CHECK(relexing.kept_front + relexing.kept_back <= 5 && count <= 1 && ++calls <= 5);
             } while (relexing.stage == 1);
             CHECK(relexing.stage == 2);
@@ -520,11 +522,11 @@ static int check_random_edits(relex_call *relex, uint32_t edition) {
         if (held.len - (stop - start) + strlen(insert) > MOST)
             continue;
         old = held;
-        CHECK(edit_held(relex, &held, start, stop, insert, edition, 1 + below(&random, ROOM)) == RUSTC_LEXER_OK);
+        CHECK(edit_held(relex, &held, start, stop, insert, edition, 1 + below(&random, BUFFER_LEN)) == RUSTC_LEXER_OK);
         memcpy(anew.text, held.text, held.len);
         anew.len = held.len;
         CHECK(lex_whole(relex, &anew, edition) == RUSTC_LEXER_OK);
-        CHECK(anew.count == held.count && memcmp(anew.tokens, held.tokens, held.count * sizeof room[0]) == 0);
+        CHECK(anew.count == held.count && memcmp(anew.tokens, held.tokens, held.count * sizeof buffer[0]) == 0);
         CHECK(has_counts(&old, &held, start, stop, strlen(insert)));
     }
     return 0;
@@ -583,7 +585,7 @@ static int check_errors(unescape_call *errors) {
     return 0;
 }
 
-/* What is marked of a text, with so much room. Behind what is written the room keeps its marks. */
+/* What is marked of a text, with so much room. Behind what is written the buffer keeps its marks. */
 static bool is_marked_as(const char *text, uint32_t style, uint32_t edition, size_t count, const char *wanted) {
     uint8_t bytes[200];
     size_t written = 99, len = strlen(wanted);
@@ -612,15 +614,15 @@ static int check_marks(void) {
     memset(bytes, 0xAA, sizeof bytes);
     CHECK(rustc_lexer_marks(text, 2, 1, 2024, 9, bytes, 5, &written) == RUSTC_LEXER_OK && written == 5);
     CHECK(memcmp(bytes, "a&lt;\xaa\xaa\xaa", 8) == 0);
-    /* a byte too small: nothing is written past the room */
+    /* a byte too small: nothing is written past the buffer */
     memset(bytes, 0xAA, sizeof bytes);
-    CHECK(rustc_lexer_marks(text, 2, 1, 2024, 9, bytes, 4, &written) == RUSTC_LEXER_SMALL_ROOM && written == 0);
+    CHECK(rustc_lexer_marks(text, 2, 1, 2024, 9, bytes, 4, &written) == RUSTC_LEXER_SMALL_BUFFER && written == 0);
     CHECK(memcmp(bytes + 4, "\xaa\xaa\xaa\xaa", 4) == 0);
     written = 99;
-    CHECK(rustc_lexer_marks(text, 2, 1, 2024, 9, NULL, 0, &written) == RUSTC_LEXER_SMALL_ROOM && written == 0);
+    CHECK(rustc_lexer_marks(text, 2, 1, 2024, 9, NULL, 0, &written) == RUSTC_LEXER_SMALL_BUFFER && written == 0);
     CHECK(rustc_lexer_marks(NULL, 0, 1, 2024, 9, NULL, 0, &written) == RUSTC_LEXER_OK && written == 0);
 
-    /* what is refused, in its order; the room stays as it was */
+    /* what is refused, in its order; the buffer stays as it was */
     static const struct {
         const char *text;
         uint32_t style, edition, status;
@@ -646,7 +648,7 @@ int main(void) {
     CHECK(sizeof(struct rustc_lexer_token) == 12 && sizeof(struct rustc_lexer_relexing) == 7 * sizeof(size_t));
     CHECK(sizeof(struct rustc_lexer_unit) == 2 * sizeof(size_t) + 8);
     for (int i = 0; i < 2; i++)
-        if (check_empty_text(calls[i]) || check_room(calls[i]) || check_frontmatter(calls[i]) ||
+        if (check_empty_text(calls[i]) || check_buffer(calls[i]) || check_frontmatter(calls[i]) ||
             check_places(calls[i]) || check_symbols(calls[i]) || check_literals(calls[i]) || check_fields(calls[i]))
             return 1;
     unescape_call *const unescapes[] = {rustc_lexer_unescape, rustc_lexer_unescape_unchecked};

@@ -8,8 +8,8 @@
 #include "rustc_lexer.h"
 
 /* How many tokens one call may write; the tests build with other numbers. */
-#ifndef ROOM
-#define ROOM 1024
+#ifndef BUFFER_LEN
+#define BUFFER_LEN 1024
 #endif
 
 static const char *const styles[] = {
@@ -72,23 +72,23 @@ static void print_token(size_t start, const struct rustc_lexer_token *token) {
 
 /* The bytes of standard input, or null where memory is refused or the read fails. */
 static uint8_t *read_all(size_t *len) {
-    size_t room = 1 << 16;
-    uint8_t *text = malloc(room);
+    size_t capacity = 1 << 16;
+    uint8_t *text = malloc(capacity);
     *len = 0;
     while (text != NULL) {
-        size_t got = fread(text + *len, 1, room - *len, stdin);
+        size_t got = fread(text + *len, 1, capacity - *len, stdin);
         *len += got;
         if (got == 0) {
             if (!ferror(stdin))
                 return text;
             break;
         }
-        if (*len == room) {
-            uint8_t *more = realloc(text, 2 * room);
+        if (*len == capacity) {
+            uint8_t *more = realloc(text, 2 * capacity);
             if (more == NULL)
                 break;
             text = more;
-            room *= 2;
+            capacity *= 2;
         }
     }
     free(text);
@@ -97,18 +97,18 @@ static uint8_t *read_all(size_t *len) {
 
 static uint32_t print_tokens(const uint8_t *text, size_t len, uint32_t frontmatter_allowed) {
     struct rustc_lexer_place place = {0, frontmatter_allowed};
-    struct rustc_lexer_token room[ROOM];
+    struct rustc_lexer_token buffer[BUFFER_LEN];
     size_t start = 0, count;
     uint32_t status = rustc_lexer_check(text, len);
     if (status != RUSTC_LEXER_OK)
         return status;
     do {
-        status = rustc_lexer_tokens_unchecked(text, len, &place, room, ROOM, &count);
+        status = rustc_lexer_tokens_unchecked(text, len, &place, buffer, BUFFER_LEN, &count);
         for (size_t i = 0; i < count; i++) {
-            print_token(start, &room[i]);
-            start += room[i].len;
+            print_token(start, &buffer[i]);
+            start += buffer[i].len;
         }
-    } while (status == RUSTC_LEXER_OK && count == ROOM);
+    } while (status == RUSTC_LEXER_OK && count == BUFFER_LEN);
     return status;
 }
 

@@ -1,5 +1,5 @@
-/* Calls of the library with texts and rooms at odd places: right before a page that may not be read, right behind one,
- * and in a block of the heap that is as long as they are. Texts end anywhere, also inside a character; rooms have few
+/* Calls of the library with texts and buffers at odd places: right before a page that may not be read, right behind
+ * one, and in a block of the heap that is as long as they are. Texts end anywhere, also inside a character; buffers have few
  * tokens, and edits are random. Exits with 1 at the first check that fails, and says which.
  *
  *     odd_places ROUNDS FILE..
@@ -88,54 +88,54 @@ static bool is_same(const struct list *one, const struct list *other) {
     return one->count == other->count;
 }
 
-/* Adds what stands in the room to the list. */
-static void take(struct list *list, const struct rustc_lexer_token *room, size_t count) {
+/* Adds what stands in the buffer to the list. */
+static void take(struct list *list, const struct rustc_lexer_token *buffer, size_t count) {
     CHECK(list->count + count <= MOST);
     if (count > 0)
-        memcpy(list->tokens + list->count, room, count * sizeof room[0]);
+        memcpy(list->tokens + list->count, buffer, count * sizeof buffer[0]);
     list->count += count;
 }
 
-/* The tokens of a text by rooms of so many. */
-static void lex(const uint8_t *text, size_t len, uint32_t allowed, bool tested, size_t room_len,
+/* The tokens of a text by buffers of so many. */
+static void lex(const uint8_t *text, size_t len, uint32_t allowed, bool tested, size_t buffer_len,
                 enum placement placement, struct list *list) {
     struct rustc_lexer_place at = {0, allowed};
-    struct block room = block_of(room_len * sizeof(struct rustc_lexer_token), placement);
+    struct block buffer = block_of(buffer_len * sizeof(struct rustc_lexer_token), placement);
     struct block place = copy_of(&at, sizeof at, placement);
     struct block count = block_of(sizeof(size_t), placement);
     size_t written;
     list->count = 0;
     do {
         uint32_t status = (tested ? rustc_lexer_tokens : rustc_lexer_tokens_unchecked)(
-            text, len, place.bytes, room.bytes, room_len, count.bytes);
+            text, len, place.bytes, buffer.bytes, buffer_len, count.bytes);
         CHECK(status == RUSTC_LEXER_OK);
         memcpy(&written, count.bytes, sizeof written);
-        CHECK(written <= room_len);
-        take(list, room.bytes, written);
-    } while (written == room_len && written > 0);
+        CHECK(written <= buffer_len);
+        take(list, buffer.bytes, written);
+    } while (written == buffer_len && written > 0);
     memcpy(&at, place.bytes, sizeof at);
-    CHECK(room_len == 0 ? at.at == 0 : at.at == len);
-    release(room);
+    CHECK(buffer_len == 0 ? at.at == 0 : at.at == len);
+    release(buffer);
     release(place);
     release(count);
 }
 
-/* The tokens of a text after an edit, by rooms of so many, from those before it, which become the new ones. */
-static void relex(const uint8_t *text, size_t len, struct rustc_lexer_edit made, size_t room_len,
+/* The tokens of a text after an edit, by buffers of so many, from those before it, which become the new ones. */
+static void relex(const uint8_t *text, size_t len, struct rustc_lexer_edit made, size_t buffer_len,
                   enum placement placement, struct list *list) {
     struct list lexed = {.count = 0}, before = *list;
     struct rustc_lexer_relexing from = {.stage = 0};
     struct block old = copy_of(before.tokens, before.count * sizeof before.tokens[0], placement);
-    struct block room = block_of(room_len * sizeof(struct rustc_lexer_token), placement);
+    struct block buffer = block_of(buffer_len * sizeof(struct rustc_lexer_token), placement);
     struct block edit = copy_of(&made, sizeof made, placement), count = block_of(sizeof(size_t), placement);
     struct block relexing = copy_of(&from, sizeof from, placement);
     size_t written;
     do {
-        CHECK(rustc_lexer_relex(text, len, old.bytes, before.count, edit.bytes, 2024, relexing.bytes, room.bytes,
-                                room_len, count.bytes) == RUSTC_LEXER_OK);
+        CHECK(rustc_lexer_relex(text, len, old.bytes, before.count, edit.bytes, 2024, relexing.bytes, buffer.bytes,
+                                buffer_len, count.bytes) == RUSTC_LEXER_OK);
         memcpy(&written, count.bytes, sizeof written);
         memcpy(&from, relexing.bytes, sizeof from);
-        take(&lexed, room.bytes, written);
+        take(&lexed, buffer.bytes, written);
     } while (from.stage == 1);
     CHECK(from.kept_front + from.kept_back <= before.count);
     list->count = 0;
@@ -143,7 +143,7 @@ static void relex(const uint8_t *text, size_t len, struct rustc_lexer_edit made,
     take(list, lexed.tokens, lexed.count);
     take(list, before.tokens + before.count - from.kept_back, from.kept_back);
     release(old);
-    release(room);
+    release(buffer);
     release(edit);
     release(count);
     release(relexing);
@@ -177,7 +177,7 @@ static uint32_t call_all(const uint8_t *text, size_t len, enum placement placeme
 
 /* All calls on a text. */
 static void check_text(const uint8_t *bytes, size_t len) {
-    static const size_t rooms[] = {1, 2, 3, 5, 8, 31, MOST};
+    static const size_t buffers[] = {1, 2, 3, 5, 8, 31, MOST};
     static struct list whole, batches;
     for (int placement = 0; placement < PLACEMENTS; placement++) {
         struct block text = copy_of(bytes, len, placement);
@@ -185,8 +185,8 @@ static void check_text(const uint8_t *bytes, size_t len) {
             for (uint32_t allowed = 0; allowed < 2; allowed++) {
                 lex(text.bytes, len, allowed, true, MOST, placement, &whole);
                 lex(text.bytes, len, allowed, false, 0, placement, &batches);
-                for (size_t i = 0; i < sizeof rooms / sizeof rooms[0]; i++) {
-                    lex(text.bytes, len, allowed, i % 2 == 0, rooms[i], placement, &batches);
+                for (size_t i = 0; i < sizeof buffers / sizeof buffers[0]; i++) {
+                    lex(text.bytes, len, allowed, i % 2 == 0, buffers[i], placement, &batches);
                     CHECK(is_same(&whole, &batches));
                 }
             }

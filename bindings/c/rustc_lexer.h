@@ -7,8 +7,8 @@
  *   - no pointer is null, but one whose length is 0 may be;
  *   - `len` bytes can be read at `text`, and nothing writes to them during the call;
  *   - each pointer that is not const points to memory that the caller may write to, that is aligned for its type
- *     and that nothing else uses during the call: `room` to `room_len` tokens, units or bytes, the others to one value. What
- *     is there before the call does not matter, but for `place` and `relexing`;
+ *     and that nothing else uses during the call: `buffer` to `buffer_len` tokens, units or bytes, the others to
+ *     one value. What is there before the call does not matter, but for `place` and `relexing`;
  *   - `old_len` tokens can be read at `old`, and one value at `edit`. Both pointers are aligned for their types, and
  *     nothing writes to what they point to during the call;
  *   - what the calls with `_unchecked` say of their texts.
@@ -41,7 +41,7 @@ enum {
     RUSTC_LEXER_BAD_EDIT = 6,  /* the edit cannot have made the text, or relexing cannot go on from the numbers */
     RUSTC_LEXER_BAD_MODE = 7,  /* the mode is none of the kinds of literals from RUSTC_LEXER_CHAR on */
     RUSTC_LEXER_BAD_STYLE = 8, /* the style is none of RUSTC_LEXER_STYLE_.. */
-    RUSTC_LEXER_SMALL_ROOM = 9 /* there is more to write than room */
+    RUSTC_LEXER_SMALL_BUFFER = 9 /* there is more to write than room */
 };
 
 /* Kinds of tokens. No token that is written has the kind 0 or 43. */
@@ -305,13 +305,14 @@ uint32_t rustc_lexer_check(const uint8_t *text, size_t len);
 
 /* Writes the tokens from a place on, as many as there is room for, and their number into `count`. The place moves
  * behind them, and the next call goes on there. The tokens of all calls together are those that one call with room
- * enough gives. `count` is less than `room_len` only at the end of the text. With `room_len` 0 no step is made:
- * `count` is 0, and `at` stays. With another status than 0 the place and the room stay as they were, and `count` is 0.
+ * enough gives. `count` is less than `buffer_len` only at the end of the text. With `buffer_len` 0 no step is made:
+ * `count` is 0, and `at` stays. With another status than 0 the place and the buffer stay as they were, and `count` is
+ * 0.
  *
  * Each call tests the whole text. To lex a long text in many batches, call rustc_lexer_check once and then
  * rustc_lexer_tokens_unchecked. */
 uint32_t rustc_lexer_tokens(const uint8_t *text, size_t len, struct rustc_lexer_place *place,
-                            struct rustc_lexer_token *room, size_t room_len, size_t *count);
+                            struct rustc_lexer_token *buffer, size_t buffer_len, size_t *count);
 
 /* Does what rustc_lexer_tokens does. The caller promises that the text is UTF-8, and this is not tested: on another
  * text the call may do anything. rustc_lexer_check tests it. The length and the place are tested here too.
@@ -319,7 +320,7 @@ uint32_t rustc_lexer_tokens(const uint8_t *text, size_t len, struct rustc_lexer_
  * Each other call with `_unchecked` does what the one without does. It asks for the same promise, and does not test it.
  * It costs what it reads, whatever the length of the text. */
 uint32_t rustc_lexer_tokens_unchecked(const uint8_t *text, size_t len, struct rustc_lexer_place *place,
-                                      struct rustc_lexer_token *room, size_t room_len, size_t *count);
+                                      struct rustc_lexer_token *buffer, size_t buffer_len, size_t *count);
 
 /* The first token of a text, for a caller who needs no other. All its bytes are 0 where the text is empty or has more
  * than 4294967295 bytes. `frontmatter_allowed` is as in a place. The caller promises that the text is UTF-8, which is
@@ -332,10 +333,10 @@ struct rustc_lexer_token rustc_lexer_first_token_unchecked(const uint8_t *text, 
  *
  *     the first `kept_front` of `old`, the `lexed` tokens that are written, the last `kept_back` of `old`.
  *
- * Set `stage` to 0 before the first call for an edit. While it is 1 the room was too small: take the tokens from it
+ * Set `stage` to 0 before the first call for an edit. While it is 1 the buffer was too small: take the tokens from it
  * and call again, with nothing else changed, as often as it takes. It is 2 when all are written. `count` is how many
- * this call wrote; it is `room_len` at stage 1. With `room_len` 0 no step is made, so such calls alone need not come to
- * stage 2.
+ * this call wrote; it is `buffer_len` at stage 1. With `buffer_len` 0 no step is made, so such calls alone need not
+ * come to stage 2.
  *
  * At stage 0 the search for the kept front begins at token `kept_front`, which begins at `front_place`. Any bound of
  * the old tokens will do, and a near one makes the call fast: 0 and 0, or what the call for the edit before has left
@@ -350,7 +351,7 @@ struct rustc_lexer_token rustc_lexer_first_token_unchecked(const uint8_t *text, 
  * rustc_lexer_tokens from {0, 0}. To lex a whole text in an edition, pass no old tokens, the edit {0, 0, len} and
  * zeros.
  *
- * With another status than 0 the room and `relexing` stay as they were, and `count` is 0. RUSTC_LEXER_BAD_EDIT says
+ * With another status than 0 the buffer and `relexing` stay as they were, and `count` is 0. RUSTC_LEXER_BAD_EDIT says
  * that `start` is past one of the others, that `start` or `new_stop` is past the end of the text or inside a
  * character, or that at a later stage relexing cannot go on from the numbers: `at` is past the end of the text or
  * inside a character, `lexed` is more than `at`, `kept_front` and `kept_back` together are more than `old_len`, or
@@ -360,15 +361,15 @@ struct rustc_lexer_token rustc_lexer_first_token_unchecked(const uint8_t *text, 
  * Each call tests the whole text. */
 uint32_t rustc_lexer_relex(const uint8_t *text, size_t len, const struct rustc_lexer_token *old, size_t old_len,
                            const struct rustc_lexer_edit *edit, uint32_t edition,
-                           struct rustc_lexer_relexing *relexing, struct rustc_lexer_token *room, size_t room_len,
+                           struct rustc_lexer_relexing *relexing, struct rustc_lexer_token *buffer, size_t buffer_len,
                            size_t *count);
 
 /* Does what rustc_lexer_relex does. The caller promises that the text is UTF-8, which is not tested. A text that was
  * UTF-8 is so after an edit between characters, where what is put in is. */
 uint32_t rustc_lexer_relex_unchecked(const uint8_t *text, size_t len, const struct rustc_lexer_token *old,
                                      size_t old_len, const struct rustc_lexer_edit *edit, uint32_t edition,
-                                     struct rustc_lexer_relexing *relexing, struct rustc_lexer_token *room,
-                                     size_t room_len, size_t *count);
+                                     struct rustc_lexer_relexing *relexing, struct rustc_lexer_token *buffer,
+                                     size_t buffer_len, size_t *count);
 
 /* Writes the length in bytes of the shebang line at the front of the text, without the end of the line, or 0 where
  * there is none. A shebang line has at least 2 bytes. */
@@ -407,33 +408,34 @@ uint32_t rustc_lexer_guarded_str_unchecked(const uint8_t *text, size_t len,
  * quotes there is one unit, and its place is all of the text.
  *
  * A text has no more units than bytes, or one where it is empty. Each call reads the text from its front, so room for
- * as many units as bytes makes one call do. With another status than 0 the room stays as it was, and `count` is 0. */
+ * as many units as bytes makes one call do. With another status than 0 the buffer stays as it was, and `count` is 0. */
 uint32_t rustc_lexer_unescape(const uint8_t *text, size_t len, uint32_t mode, size_t passed,
-                              struct rustc_lexer_unit *room, size_t room_len, size_t *count);
+                              struct rustc_lexer_unit *buffer, size_t buffer_len, size_t *count);
 uint32_t rustc_lexer_unescape_unchecked(const uint8_t *text, size_t len, uint32_t mode, size_t passed,
-                                        struct rustc_lexer_unit *room, size_t room_len, size_t *count);
+                                        struct rustc_lexer_unit *buffer, size_t buffer_len, size_t *count);
 
 /* Writes what is wrong in a literal, errors and warnings in order, and nothing else: as many as there is room for, past
  * the first `passed`, and their number into `count`. It takes what rustc_lexer_unescape takes, and searches past what
  * is not wrong, so it is much faster. Between single quotes one thing is wrong at most, and its place reaches from 0
- * past the character that shows it. With another status than 0 the room stays as it was, and `count` is 0. */
+ * past the character that shows it. With another status than 0 the buffer stays as it was, and `count` is 0. */
 uint32_t rustc_lexer_literal_errors(const uint8_t *text, size_t len, uint32_t mode, size_t passed,
-                                    struct rustc_lexer_unit *room, size_t room_len, size_t *count);
+                                    struct rustc_lexer_unit *buffer, size_t buffer_len, size_t *count);
 uint32_t rustc_lexer_literal_errors_unchecked(const uint8_t *text, size_t len, uint32_t mode, size_t passed,
-                                              struct rustc_lexer_unit *room, size_t room_len, size_t *count);
+                                              struct rustc_lexer_unit *buffer, size_t buffer_len, size_t *count);
 
-/* Writes the first `count` tokens of the text, or all where it has fewer, each between its marks, into the room, and the
- * number of bytes into `written`. The marks tell the class of a token and a sentence of what is wrong with it; in a
- * literal they tell its escapes. The text is read as a part of a document in an edition, such as 2024, with no frontmatter
- * and no shebang line. What is written is UTF-8, with no zero behind it. Behind it the room stays as it was.
+/* Writes the first `count` tokens of the text, or all where it has fewer, each between its marks, into the buffer, and
+ * the number of bytes into `written`. The marks tell the class of a token and a sentence of what is wrong with it; in a
+ * literal they tell its escapes. The text is read as a part of a document in an edition, such as 2024, with no
+ * frontmatter and no shebang line. What is written is UTF-8, with no zero behind it. Behind it the buffer stays as it
+ * was.
  *
- * A token depends on nothing before it and on two characters past its end at most. So the caller may pass what is seen of
- * a text from the start of a token on, with two characters more.
+ * A token depends on nothing before it and on two characters past its end at most. So the caller may pass what is seen
+ * of a text from the start of a token on, with two characters more.
  *
- * With RUSTC_LEXER_SMALL_ROOM any bytes may stand in the room, and the call is to be made again with more. With any other
- * status than 0 the room stays as it was. With each of these `written` is 0. */
+ * With RUSTC_LEXER_SMALL_BUFFER any bytes may stand in the buffer, and the call is to be made again with more. With any
+ * other status than 0 the buffer stays as it was. With each of these `written` is 0. */
 uint32_t rustc_lexer_marks(const uint8_t *text, size_t len, uint32_t style, uint32_t edition, size_t count,
-                           uint8_t *room, size_t room_len, size_t *written);
+                           uint8_t *buffer, size_t buffer_len, size_t *written);
 
 /* Writes 1 where the text is an identifier, else 0. */
 uint32_t rustc_lexer_is_ident(const uint8_t *text, size_t len, uint32_t *is);

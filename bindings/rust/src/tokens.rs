@@ -60,28 +60,28 @@ impl<'a> Tokens<'a> {
         self.0.frontmatter_allowed()
     }
 
-    /// Writes the next tokens into the room, as many as are left, or as there is room for. Answers their number, which
-    /// is less than the length of the room only where no token is left.
+    /// Writes the next tokens into the buffer, as many as are left, or as there is room for. Answers their number,
+    /// which is less than the length of the buffer only where no token is left.
     ///
     /// They are the tokens that so many calls of `next` give, and take less time.
     ///
     /// ```
     /// use ra_ap_rustc_lexer::{tokenize, FrontmatterAllowed, Token, TokenKind};
     ///
-    /// let mut room = [Token { kind: TokenKind::Eof, len: 0 }; 256];
+    /// let mut buffer = [Token { kind: TokenKind::Eof, len: 0 }; 256];
     /// let mut tokens = tokenize("let x = 1;", FrontmatterAllowed::No);
     /// let mut spaces = 0;
     /// while !tokens.as_str().is_empty() {
-    ///     let count = tokens.fill(&mut room);
-    ///     for token in &room[..count] {
+    ///     let count = tokens.fill(&mut buffer);
+    ///     for token in &buffer[..count] {
     ///         spaces += usize::from(token.kind == TokenKind::Whitespace);
     ///     }
     /// }
     /// assert_eq!(spaces, 3);
     /// ```
     #[inline]
-    pub fn fill<R: Record>(&mut self, room: &mut [R]) -> usize {
-        self.0.fill(room)
+    pub fn fill<R: Record>(&mut self, buffer: &mut [R]) -> usize {
+        self.0.fill(buffer)
     }
 }
 
@@ -103,14 +103,14 @@ impl Iterator for Tokens<'_> {
     #[cfg(feature = "alloc")]
     fn collect<B: FromIterator<Token>>(mut self) -> B {
         let mut tokens = Vec::new();
-        let mut room = [Token {
+        let mut buffer = [Token {
             kind: TokenKind::Eof,
             len: 0,
         }; 32];
         loop {
-            let count = self.fill(&mut room);
-            tokens.extend_from_slice(&room[..count]);
-            if count < room.len() {
+            let count = self.fill(&mut buffer);
+            tokens.extend_from_slice(&buffer[..count]);
+            if count < buffer.len() {
                 return tokens.into_iter().collect();
             }
         }

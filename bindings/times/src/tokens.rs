@@ -324,12 +324,12 @@ fn by_rooms(text: &str, take: impl Fn(Sum, ours::Token) -> Sum) -> Sum {
         kind: ours::TokenKind::Eof,
         len: 0,
     };
-    let mut room = [eof; 256];
+    let mut buffer = [eof; 256];
     let mut tokens = ours::tokenize(text, ours::FrontmatterAllowed::No);
     let mut sum = Sum::default();
     while !tokens.as_str().is_empty() {
-        let count = tokens.fill(&mut room);
-        sum = room[..count]
+        let count = tokens.fill(&mut buffer);
+        sum = buffer[..count]
             .iter()
             .fold(sum, |sum, token| take(sum, *token));
     }

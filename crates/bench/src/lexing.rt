@@ -148,7 +148,7 @@ fn count_filled(text: &str) -> TokenSum
 }
 
 /// How many tokens are written at once.
-const ROOM: usize = 256;
+const BUFFER_LEN: usize = 256;
 
 /// Lexes the text once, many tokens at a time.
 #[inline(always)]
@@ -156,18 +156,18 @@ fn sum_blocks(text: &str, way: Way) -> TokenSum
     requires { Fits text.now }
 {
     let mut sum = TokenSum::default();
-    let mut room = [Token {
+    let mut buffer = [Token {
         kind: TokenKind::Eof,
         len: 0,
-    }; ROOM];
+    }; BUFFER_LEN];
     let mut tokens = tokenize(text, FrontmatterAllowed::No);
     'left: while !tokens.as_str().is_empty() {
-        let count = tokens.fill(&mut room);
+        let count = tokens.fill(&mut buffer);
         if way == Way::FillAlone {
             sum.count = sum.count.wrapping_add(count as u64);
             continue;
         }
-        for token in &room[..count] {
+        for token in &buffer[..count] {
             sum = if way == Way::Fill {
                 sum.and(*token)
             } else {

@@ -2,7 +2,7 @@
 use rustc_lexer::TokenKind::{Eof, Ident, Whitespace};
 use rustc_lexer::{Bound, Change, Relexed, Relexing, Steps, Token};
 
-/// `ab cd ef` is changed to `ab x y ef`. Its new tokens come by rooms of two, and by single steps.
+/// `ab cd ef` is changed to `ab x y ef`. Its new tokens come by buffers of two, and by single steps.
 #[test]
 fn a_list_of_the_caller(rt: HostRuntime) {
     let token = |kind, len| Token { kind, len };
@@ -20,15 +20,24 @@ fn a_list_of_the_caller(rt: HostRuntime) {
         place: 0,
     };
     let mut steps = Steps::new();
-    let mut room = [token(Eof, 0); 2];
+    let mut buffer = [token(Eof, 0); 2];
     let mut relexing = Relexing::begin(text, &old, change, front);
-    assert_eq!(rt; relexing.fill(&mut steps, text, &old, change, &mut room), 2);
-    assert_eq!(rt; room, [word, space]);
+    assert_eq!(rt;
+        relexing.fill(&mut steps, text, &old, change, &mut buffer),
+        2
+    );
+    assert_eq!(rt; buffer, [word, space]);
     assert_eq!(rt; relexing.next(&mut steps, text, &old, change), Some(letter));
-    assert_eq!(rt; relexing.fill(&mut steps, text, &old, change, &mut room), 2);
-    assert_eq!(rt; room, [space, letter]);
+    assert_eq!(rt;
+        relexing.fill(&mut steps, text, &old, change, &mut buffer),
+        2
+    );
+    assert_eq!(rt; buffer, [space, letter]);
     assert!(rt; relexing.is_over(text));
-    assert_eq!(rt; relexing.fill(&mut steps, text, &old, change, &mut room), 0);
+    assert_eq!(rt;
+        relexing.fill(&mut steps, text, &old, change, &mut buffer),
+        0
+    );
     assert_eq!(rt; relexing.next(&mut steps, text, &old, change), None);
     let wanted = Relexed {
         kept_front: 0,

@@ -44,7 +44,7 @@ impl Made {
         for (number, way) in ways.iter().enumerate() {
             let holds = fits(text)
                 && gives(lex(text, *way), wanted)
-                && fills(lex(text, *way), [ROOM, ROOM], wanted)
+                && fills(lex(text, *way), [BUFFER_LEN, BUFFER_LEN], wanted)
                 && fills(lex(text, *way), [1, 3], wanted);
             if !holds {
                 return Some(number);
@@ -86,8 +86,8 @@ fn rows(rt: HostRuntime) -> Result<(), Fail> {
     Ok(())
 }
 
-/// How many tokens the longest room has, which is longer than each row.
-const ROOM: usize = 64;
+/// How many tokens the longest buffer has, which is longer than each row.
+const BUFFER_LEN: usize = 64;
 
 /// Whether these tokens come one by one, and no others, and nothing is left then.
 fn gives(tokens: Tokens<'_>, wanted: &[Token]) -> bool {
@@ -100,22 +100,22 @@ fn gives(tokens: Tokens<'_>, wanted: &[Token]) -> bool {
     tokens.as_str().is_empty() && tokens.next().is_none() && tokens.next().is_none()
 }
 
-/// Whether these tokens and no others are written into a room of the one length and of the other in turns.
+/// Whether these tokens and no others are written into a buffer of the one length and of the other in turns.
 fn fills(tokens: Tokens<'_>, lengths: [usize; 2], wanted: &[Token]) -> bool {
     let mut tokens = tokens;
-    let mut room = [Token {
+    let mut buffer = [Token {
         kind: TokenKind::Eof,
         len: 0,
-    }; ROOM];
+    }; BUFFER_LEN];
     let mut left = wanted;
     for turn in 0..=wanted.len() {
-        let length = lengths[turn % 2].min(ROOM);
-        let count = tokens.fill(&mut room[..length]);
+        let length = lengths[turn % 2].min(BUFFER_LEN);
+        let count = tokens.fill(&mut buffer[..length]);
         if count != length.min(left.len()) {
             return false;
         }
         let (now, later) = left.split_at(count);
-        if &room[..count] != now {
+        if &buffer[..count] != now {
             return false;
         }
         left = later;

@@ -65,8 +65,8 @@ const EMPTY_HEXADECIMAL: LiteralKind = LiteralKind::Int {
     empty_int: true,
 };
 
-// The first byte of U+07F6 is 0xDF, which is that of `_` with one bit more, and that of U+1000 is 0xE1, which is that of
-// `a` with one bit more.
+// The first byte of U+07F6 is 0xDF, which is that of `_` with one bit more, and that of U+1000 is 0xE1, which is that
+// of `a` with one bit more.
 static ALL: &[Runs] = runs! {
     "x", "azAZ09_", [Ident, Ident]:
         ["/", ":", "@", "[", "`", "{", "\x7f", "\u{80}", "\u{7f6}", "\u{10ffff}"] => ToStop,
@@ -143,15 +143,15 @@ impl Runs {
     }
 }
 
-/// Whether the text begins with this token, where it is taken alone and where a room is filled.
+/// Whether the text begins with this token, where it is taken alone and where a buffer is filled.
 fn begins_with(text: &str, token: (TokenKind, usize, usize)) -> bool {
     if !fits(text) {
         return false;
     }
-    let mut room = [Token { kind: Eof, len: 0 }; 2];
-    let _ = tokenize(text, FrontmatterAllowed::No).fill(&mut room);
+    let mut buffer = [Token { kind: Eof, len: 0 }; 2];
+    let _ = tokenize(text, FrontmatterAllowed::No).fill(&mut buffer);
     match tokenize(text, FrontmatterAllowed::No).next() {
-        Some(first) => split(first) == token && split(room[0]) == token,
+        Some(first) => split(first) == token && split(buffer[0]) == token,
         None => false,
     }
 }

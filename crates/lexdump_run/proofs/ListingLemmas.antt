@@ -34,24 +34,24 @@ pub line_fits : (tokens : List Token) (i start place : ℕ) (d : Token) (old new
     → Went old new (held ++ line_text place (get_or tokens i d)) left → place + (get_or tokens i d).len < 2 ^ 32
 line_fits tokens i start place d old new held left few at fits went = omega (arith, line_end tokens i start place d few at, bound_mono tokens (i + 1) (length tokens) (omega arith), fits)
 
--- a room is filled with the first `count` of the tokens of the rest of a text
-module _ (text cut rest : List ℕ) (mode : Mode) (room filled : List Token) (count : ℕ) (cut_is : cut ≡ rest) (utf8 : IsUtf8 cut) (within : length rest ≤ length text) (fits : length text < 2 ^ 32) (fills : IsFilled (λ (t : Token). t) (tokens_of mode rest) room filled count) where
+-- a buffer is filled with the first `count` of the tokens of the rest of a text
+module _ (text cut rest : List ℕ) (mode : Mode) (buffer filled : List Token) (count : ℕ) (cut_is : cut ≡ rest) (utf8 : IsUtf8 cut) (within : length rest ≤ length text) (fits : length text < 2 ^ 32) (fills : IsFilled (λ (t : Token). t) (tokens_of mode rest) buffer filled count) where
   abbrev left : List Token
   left = tokens_of mode rest
 
   front : IsFront left filled count
-  front = filled_front left room filled count fills
+  front = filled_front left buffer filled count fills
 
   inside : bound left count ≤ length rest
   inside = (bounds rest mode record { utf8 = subst IsUtf8 cut_is utf8; fits = omega (arith, within, fits) } count).inside
 
-  pub room_fits : length text - length cut + bound (take count filled) (length (take count filled)) < 2 ^ 32
-  room_fits = grind (arith, common_steps, length-take-le, bound-take, inside)
+  pub buffer_fits : length text - length cut + bound (take count filled) (length (take count filled)) < 2 ^ 32
+  buffer_fits = grind (arith, common_steps, length-take-le, bound-take, inside)
 
-  -- the lines of the room, and then those of what is left past it
-  pub room-split : (later : List Token) (after : List ℕ) → later ≡ drop count left → after ≡ drop (bound left count) rest
+  -- the lines of the buffer, and then those of what is left past it
+  pub buffer-split : (later : List Token) (after : List ℕ) → later ≡ drop count left → after ≡ drop (bound left count) rest
       → listing_from (length text - length rest) left ≡ listing_from (length text - length cut) (take count filled) ++ listing_from (length text - length after) later
-  room-split later after e f =
+  buffer-split later after e f =
       let start : length text - length rest ≡ length text - length cut = omega (arith, ap length cut_is) in
       let next : length text - length cut + bound left count ≡ length text - length after = omega (arith, ap length cut_is, ap length f, length-drop (bound left count) rest, inside, within) in
       ap (λ n. listing_from n left) start ∙ (listing-split (length text - length cut) left count

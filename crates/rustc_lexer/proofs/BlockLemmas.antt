@@ -1,4 +1,4 @@
--- A text that is lexed block by block: each is a room that is filled with the next tokens.
+-- A text that is lexed block by block: each is a buffer that is filled with the next tokens.
 use Rattle.std.proofs.Common.{◌≡◌, ℕ, ◌+◌, ◌-◌, ◌<◌, ◌≤◌, List, ◌++◌, length, map, take, drop, min, inl, inr, sym, ap, subst, ◌∙◌, arith, length-drop, length-append, length-take-le, take_at}
 use Rattle.std.proofs.lemmas.Bool.{cases_lt}
 use Rattle.std.proofs.lemmas.List.{map-id}
@@ -16,35 +16,35 @@ use Rattle.rustc_lexer.specs.laws.Cuts.{at_bound, tokens-cons}
 use Rattle.rustc_lexer.proofs.FrontLemmas.{bound-shift}
 use Rattle.rustc_lexer.proofs.ProgressLemmas.{IsLexedTo, IsPlace, lexed_place}
 
--- what stands at the front of a room that was filled with tokens as they are
+-- what stands at the front of a buffer that was filled with tokens as they are
 pub record IsFront (tokens : List Token) (filled : List Token) (count : ℕ) : Type 0 where
   pub few : count ≤ length tokens
   pub within : count ≤ length filled
   pub front : take count filled ≡ take count tokens
 
--- the front of a room that holds so many tokens, as they are
-pub front_of : (tokens room filled : List Token) (count : ℕ) → count ≤ length tokens → filled ≡ map (λ (t : Token). t) (take count tokens) ++ drop count room → IsFront tokens filled count
-front_of tokens room filled count few is =
+-- the front of a buffer that holds so many tokens, as they are
+pub front_of : (tokens buffer filled : List Token) (count : ℕ) → count ≤ length tokens → filled ≡ map (λ (t : Token). t) (take count tokens) ++ drop count buffer → IsFront tokens filled count
+front_of tokens buffer filled count few is =
     let short : length (take count tokens) ≡ count = length-take-le count tokens few in
-    let whole : filled ≡ take count tokens ++ drop count room = is ∙ ap (λ ts. ts ++ drop count room) (map-id (take count tokens)) in
+    let whole : filled ≡ take count tokens ++ drop count buffer = is ∙ ap (λ ts. ts ++ drop count buffer) (map-id (take count tokens)) in
     let long = ap length whole in
     record {
       few = few;
-      within = omega (arith, long, short, length-append (take count tokens) (drop count room));
-      front = ap (take count) whole ∙ take_at (take count tokens) (drop count room) count short;
+      within = omega (arith, long, short, length-append (take count tokens) (drop count buffer));
+      front = ap (take count) whole ∙ take_at (take count tokens) (drop count buffer) count short;
     }
 
-pub filled_front : (tokens room filled : List Token) (count : ℕ) → IsFilled (λ (t : Token). t) tokens room filled count → IsFront tokens filled count
-filled_front tokens room filled count is = front_of tokens room filled count (omega (arith, is.as_many, min-le_right (length room) (length tokens))) is.tokens
+pub filled_front : (tokens buffer filled : List Token) (count : ℕ) → IsFilled (λ (t : Token). t) tokens buffer filled count → IsFront tokens filled count
+filled_front tokens buffer filled count is = front_of tokens buffer filled count (omega (arith, is.as_many, min-le_right (length buffer) (length tokens))) is.tokens
 
 module _ {first : List ℕ → Token} (law : IsGrammar first) where
-  -- a room that is not empty is filled with some bytes of a text that is not empty
-  pub some_bytes : (text : List ℕ) → IsText text → 0 < length text → (room count : ℕ) → 0 < room → count ≡ min room (length (tokens_by first text)) → 0 < bound (tokens_by first text) count
-  some_bytes text is some room count places e =
+  -- a buffer that is not empty is filled with some bytes of a text that is not empty
+  pub some_bytes : (text : List ℕ) → IsText text → 0 < length text → (buffer count : ℕ) → 0 < buffer → count ≡ min buffer (length (tokens_by first text)) → 0 < bound (tokens_by first text) count
+  some_bytes text is some buffer count places e =
       let tokens : List Token = tokens_by first text in
       let many : 0 < length tokens = let n = ap length (tokens-cons law text is some) in omega arith in
-      let one : 1 ≤ count = elim (cases_lt room (length tokens)) [
-        | inl less ↦ let l : room ≤ length tokens = omega arith in omega (arith, e, min-eq_left l)
+      let one : 1 ≤ count = elim (cases_lt buffer (length tokens)) [
+        | inl less ↦ let l : buffer ≤ length tokens = omega arith in omega (arith, e, min-eq_left l)
         | inr more ↦ omega (arith, e, min-eq_right more)
       ] in
       omega (arith, rises law text is 0 many, bound_mono tokens 1 count one)
@@ -62,23 +62,23 @@ pub record IsBlock (first : List ℕ → Token) (text : List ℕ) (items filled 
   pub few : place + bytes ≤ length text
   pub some : 0 < bytes
 
--- a stepper whose grammar is the one that it had at first fills the room with the tokens of what is left
-pub block_more : {first now : List ℕ → Token} (law : IsGrammar first) (text left : List ℕ) (items room filled : List Token) (place count bytes : ℕ) → now ≡ first → IsText text → IsLexedTo first text items place → place < length text → left ≡ drop place text → 0 < length room
-    → (end : ℕ) → end ≡ length text - place → IsFilledTo (λ (t : Token). t) end (tokens_by now left) room filled count → bytes ≡ bound (tokens_by now left) count → IsBlock first text items filled place count bytes
-block_more {first} {now} law text left items room filled place count bytes same is at more here places end whole fills long =
+-- a stepper whose grammar is the one that it had at first fills the buffer with the tokens of what is left
+pub block_more : {first now : List ℕ → Token} (law : IsGrammar first) (text left : List ℕ) (items buffer filled : List Token) (place count bytes : ℕ) → now ≡ first → IsText text → IsLexedTo first text items place → place < length text → left ≡ drop place text → 0 < length buffer
+    → (end : ℕ) → end ≡ length text - place → IsFilledTo (λ (t : Token). t) end (tokens_by now left) buffer filled count → bytes ≡ bound (tokens_by now left) count → IsBlock first text items filled place count bytes
+block_more {first} {now} law text left items buffer filled place count bytes same is at more here places end whole fills long =
     let tokens : List Token = tokens_by first left in
     let spot : IsPlace text place = lexed_place law text items place is at in
     let left_is : IsText left = subst IsText (sym here) spot.past in
     let all : end ≡ length left = omega (arith, whole, ap length here, length-drop place text) in
-    let full : IsFilled (λ (t : Token). t) tokens room filled count =
-    filled_all law (λ (t : Token). t) left left_is end all room filled count (subst (λ (f : List ℕ → Token). IsFilledTo (λ (t : Token). t) end (tokens_by f left) room filled count) same fills) in
+    let full : IsFilled (λ (t : Token). t) tokens buffer filled count =
+    filled_all law (λ (t : Token). t) left left_is end all buffer filled count (subst (λ (f : List ℕ → Token). IsFilledTo (λ (t : Token). t) end (tokens_by f left) buffer filled count) same fills) in
     let bytes_is : bytes ≡ bound tokens count = long ∙ ap (λ (f : List ℕ → Token). bound (tokens_by f left) count) same in
-    let front : IsFront tokens filled count = filled_front tokens room filled count full in
+    let front : IsFront tokens filled count = filled_front tokens buffer filled count full in
     let some_left : 0 < length left = omega (arith, ap length here, length-drop place text) in
     let next = lexed_block law text left items (take count filled) place count bytes is at here front.few front.front bytes_is in
     record {
       more = next;
       number = length-take-le count filled front.within;
       few = (lexed_place law text _ _ is next).inside;
-      some = subst (λ n. 0 < n) (sym bytes_is) (some_bytes law left left_is some_left (length room) count places full.as_many);
+      some = subst (λ n. 0 < n) (sym bytes_is) (some_bytes law left left_is some_left (length buffer) count places full.as_many);
     }

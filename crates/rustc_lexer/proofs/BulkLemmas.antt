@@ -1,4 +1,4 @@
--- A room that is filled from the front with the tokens of a text.
+-- A buffer that is filled from the front with the tokens of a text.
 use Rattle.std.proofs.Common.{All, ◌≡◌, ℕ, zero, suc, ◌+◌, ◌<◌, ◌≤◌, List, [], ◌∷◌, ◌++◌, length, map, take, drop, min, false, ◌==◌, inl, inr, refl, sym, ap, subst, ◌∙◌, arith, slice_set, length-append, length-drop, length-take-le}
 use Rattle.std.proofs.lemmas.Bool.{cases_lt, ne_eqb}
 use Rattle.std.proofs.lemmas.List.{take-append-drop, take_at, take_more_set, drop-set-lt, drop-drop, drop_all, drop_at, length-map, length-set, map-append}
@@ -22,39 +22,39 @@ use Rattle.rustc_lexer.specs.laws.State.{state, past_token, edition-after, advan
 use Rattle.rustc_lexer.specs.laws.Tokens.{partitions}
 use Rattle.rustc_lexer.proofs.TokensLemmas.{restarts}
 
--- the first `count` tokens are written, and the rest of the room is as it was
-pub record IsWritten {X : Type 0} (written : Token → X) (tokens : List Token) (room filled : List X) (count : ℕ) : Type 0 where
+-- the first `count` tokens are written, and the rest of the buffer is as it was
+pub record IsWritten {X : Type 0} (written : Token → X) (tokens : List Token) (buffer filled : List X) (count : ℕ) : Type 0 where
   pub front : take count filled ≡ map written (take count tokens)
-  pub back : drop count filled ≡ drop count room
+  pub back : drop count filled ≡ drop count buffer
   pub few : count ≤ length tokens
-  pub within : count ≤ length room
-  pub long : length filled ≡ length room
+  pub within : count ≤ length buffer
+  pub long : length filled ≡ length buffer
 
-pub none_written : {X : Type 0} (written : Token → X) (tokens : List Token) (room : List X) → IsWritten written tokens room room 0
-none_written written tokens room = record { front = refl; back = refl; few = omega arith; within = omega arith; long = refl }
+pub none_written : {X : Type 0} (written : Token → X) (tokens : List Token) (buffer : List X) → IsWritten written tokens buffer buffer 0
+none_written written tokens buffer = record { front = refl; back = refl; few = omega arith; within = omega arith; long = refl }
 
-module _ {X : Type 0} (written : Token → X) (tokens left : List Token) (room filled : List X) (count : ℕ) (token : Token) (is : IsWritten written tokens room filled count) (next : drop count tokens ≡ token ∷ left) (fits : count < length filled) where
-  pub one_written : (x : X) → x ≡ written token → IsWritten written tokens room (slice_set filled count x) (count + 1)
+module _ {X : Type 0} (written : Token → X) (tokens left : List Token) (buffer filled : List X) (count : ℕ) (token : Token) (is : IsWritten written tokens buffer filled count) (next : drop count tokens ≡ token ∷ left) (fits : count < length filled) where
+  pub one_written : (x : X) → x ≡ written token → IsWritten written tokens buffer (slice_set filled count x) (count + 1)
   one_written x e =
       grind (arith, common_steps, next-from_drop, take_more_set, map-append, drop-set-lt, drop-drop, length-set)
 
-pub whole_room : {X : Type 0} (written : Token → X) (tokens : List Token) (room filled : List X) (count : ℕ) → IsWritten written tokens room filled count → filled ≡ map written (take count tokens) ++ drop count room
-whole_room written tokens room filled count is = sym (take-append-drop count filled) ∙ (ap (λ l. l ++ drop count filled) is.front ∙ ap (λ l. map written (take count tokens) ++ l) is.back)
+pub whole_buffer : {X : Type 0} (written : Token → X) (tokens : List Token) (buffer filled : List X) (count : ℕ) → IsWritten written tokens buffer filled count → filled ≡ map written (take count tokens) ++ drop count buffer
+whole_buffer written tokens buffer filled count is = sym (take-append-drop count filled) ∙ (ap (λ l. l ++ drop count filled) is.front ∙ ap (λ l. map written (take count tokens) ++ l) is.back)
 
-pub is_written : {X : Type 0} (written : Token → X) (tokens : List Token) (room filled : List X) (count : ℕ) → count ≤ length tokens → count ≤ length room → filled ≡ map written (take count tokens) ++ drop count room → IsWritten written tokens room filled count
-is_written written tokens room filled count few within is =
+pub is_written : {X : Type 0} (written : Token → X) (tokens : List Token) (buffer filled : List X) (count : ℕ) → count ≤ length tokens → count ≤ length buffer → filled ≡ map written (take count tokens) ++ drop count buffer → IsWritten written tokens buffer filled count
+is_written written tokens buffer filled count few within is =
     grind (arith, common_steps, length-map, length-take-le, take_at, drop_at, length-append, length-drop)
 
 -- either no token is left, or no room
-pub all_written : {X : Type 0} (written : Token → X) (tokens : List Token) (room filled : List X) (count : ℕ) → IsWritten written tokens room filled count → length tokens ≤ count → IsFilled written tokens room filled count
-all_written written tokens room filled count is all = grind (arith, common_steps, min-eq_right, whole_room)
+pub all_written : {X : Type 0} (written : Token → X) (tokens : List Token) (buffer filled : List X) (count : ℕ) → IsWritten written tokens buffer filled count → length tokens ≤ count → IsFilled written tokens buffer filled count
+all_written written tokens buffer filled count is all = grind (arith, common_steps, min-eq_right, whole_buffer)
 
 -- the tokens that begin before a place are written, and no other is left to be, or no room
 pub begun_more : (tokens : List Token) (count at end : ℕ) → at ≡ bound tokens count → at < end → ((k : ℕ) → k < count → bound tokens k < end) → (k : ℕ) → k < count + 1 → bound tokens k < end
 begun_more tokens count at end place more begun k less = grind (arith, common_steps, cases_lt)
 
-pub written_to : {X : Type 0} (written : Token → X) (end : ℕ) (tokens : List Token) (room filled : List X) (count at : ℕ) → IsWritten written tokens room filled count → at ≡ bound tokens count → ((k : ℕ) → k < count → bound tokens k < end) → (count < length filled → end ≤ at) → IsFilledTo written end tokens room filled count
-written_to written end tokens room filled count at is place begun done = grind (arith, common_steps, whole_room)
+pub written_to : {X : Type 0} (written : Token → X) (end : ℕ) (tokens : List Token) (buffer filled : List X) (count at : ℕ) → IsWritten written tokens buffer filled count → at ≡ bound tokens count → ((k : ℕ) → k < count → bound tokens k < end) → (count < length filled → end ≤ at) → IsFilledTo written end tokens buffer filled count
+written_to written end tokens buffer filled count at is place begun done = grind (arith, common_steps, whole_buffer)
 
 -- ---- where the tokens end in the text
 
@@ -87,18 +87,18 @@ module _ {first : List ℕ → Token} (law : IsGrammar first) (text : List ℕ) 
       omega (arith, length-drop count (tokens_by first text))
 
 -- those that begin before the end of the text are all
-pub filled_all : {first : List ℕ → Token} (law : IsGrammar first) {X : Type 0} (written : Token → X) (text : List ℕ) → IsText text → (end : ℕ) → end ≡ length text → (room filled : List X) (count : ℕ) → IsFilledTo written end (tokens_by first text) room filled count → IsFilled written (tokens_by first text) room filled count
-filled_all {first} law written text is end whole room filled count to = record {
-  as_many = elim (cases_lt count (length room)) [
+pub filled_all : {first : List ℕ → Token} (law : IsGrammar first) {X : Type 0} (written : Token → X) (text : List ℕ) → IsText text → (end : ℕ) → end ≡ length text → (buffer filled : List X) (count : ℕ) → IsFilledTo written end (tokens_by first text) buffer filled count → IsFilled written (tokens_by first text) buffer filled count
+filled_all {first} law written text is end whole buffer filled count to = record {
+  as_many = elim (cases_lt count (length buffer)) [
     | inl more ↦
         let far = to.all more in
         let n : length (tokens_by first text) ≤ count = over law text is count _ refl (omega (arith, whole)) in
         let e : count ≡ length (tokens_by first text) = omega (arith, to.few) in
-        let m : length (tokens_by first text) ≤ length room = omega (arith, to.within) in
+        let m : length (tokens_by first text) ≤ length buffer = omega (arith, to.within) in
         e ∙ sym (min-eq_right m)
     | inr full ↦
-        let e : count ≡ length room = omega (arith, to.within) in
-        let m : length room ≤ length (tokens_by first text) = omega (arith, to.few) in
+        let e : count ≡ length buffer = omega (arith, to.within) in
+        let m : length buffer ≤ length (tokens_by first text) = omega (arith, to.few) in
         e ∙ sym (min-eq_left m)
   ];
   tokens = to.tokens;
@@ -171,30 +171,30 @@ count_bound tokens some zero few = omega arith
 count_bound [] some (suc count) few = absurd (omega arith)
 count_bound (t ∷ ts) some (suc count) few = let ih = count_bound ts (All-tail (λ (t : Token). 0 < t.len) t ts some) count (omega arith) in let one = All-head (λ (t : Token). 0 < t.len) t ts some in omega arith
 
-pub fewer_left : (text left : List ℕ) (tokens : List Token) → Partitions text tokens → (room count : ℕ) → count ≡ min room (length tokens) → left ≡ drop (bound tokens count) text → length left + count ≤ length text
-fewer_left text left tokens parts room count e cut = grind (arith, common_steps, min-le_right, length-drop, count_bound)
+pub fewer_left : (text left : List ℕ) (tokens : List Token) → Partitions text tokens → (buffer count : ℕ) → count ≡ min buffer (length tokens) → left ≡ drop (bound tokens count) text → length left + count ≤ length text
+fewer_left text left tokens parts buffer count e cut = grind (arith, common_steps, min-le_right, length-drop, count_bound)
 
-pub shorter_left : (text left : List ℕ) (tokens : List Token) → Partitions text tokens → (room count : ℕ) → count ≡ min room (length tokens) → left ≡ drop (bound tokens count) text → 0 < room → 0 < length text → length left < length text
-shorter_left text left tokens parts room count e cut some_room some_text =
+pub shorter_left : (text left : List ℕ) (tokens : List Token) → Partitions text tokens → (buffer count : ℕ) → count ≡ min buffer (length tokens) → left ≡ drop (bound tokens count) text → 0 < buffer → 0 < length text → length left < length text
+shorter_left text left tokens parts buffer count e cut some_buffer some_text =
     grind (arith, common_steps, cases_lt, min-eq_left, min-eq_right, fewer_left)
 
 -- ---- what a call of `fill` leaves
 
-pub record Fills {X : Type 0} (written : Token → X) (s t : State) (room filled : List X) (count : ℕ) : Type 0 where
-  pub holds : IsFilled written (tokens_left s) room filled count
+pub record Fills {X : Type 0} (written : Token → X) (s t : State) (buffer filled : List X) (count : ℕ) : Type 0 where
+  pub holds : IsFilled written (tokens_left s) buffer filled count
   pub state_is : t ≡ state_past count s
   pub left : tokens_left t ≡ drop count (tokens_left s)
   pub rest : t.rest ≡ drop (bound (tokens_left s) count) s.rest
-  pub progress : 0 < length room → 0 < length s.rest → length t.rest < length s.rest
+  pub progress : 0 < length buffer → 0 < length s.rest → length t.rest < length s.rest
 
-pub fills : {X : Type 0} (written : Token → X) (edition : Edition) (s t : State) (text : List ℕ) → IsText text → text ≡ s.rest → s.pending ≡ 0 → s.mode ≡ part edition → (room filled : List X) (count bytes : ℕ)
-    → IsFilled written (tokens_of (part edition) text) room filled count → bytes ≡ bound (tokens_of (part edition) text) count → t ≡ state 0 (drop bytes s.rest) s.mode → Fills written s t room filled count
-fills written edition s t text is e pending none room filled count bytes filling at after =
+pub fills : {X : Type 0} (written : Token → X) (edition : Edition) (s t : State) (text : List ℕ) → IsText text → text ≡ s.rest → s.pending ≡ 0 → s.mode ≡ part edition → (buffer filled : List X) (count bytes : ℕ)
+    → IsFilled written (tokens_of (part edition) text) buffer filled count → bytes ≡ bound (tokens_of (part edition) text) count → t ≡ state 0 (drop bytes s.rest) s.mode → Fills written s t buffer filled count
+fills written edition s t text is e pending none buffer filled count bytes filling at after =
     let all : tokens_of (part edition) text ≡ tokens_left s = ap (tokens_of (part edition)) e ∙ ap (λ (a : Mode). tokens_of a s.rest) (sym none) in
     let whole : IsText s.rest = subst IsText e is in
-    let here : IsFilled written (tokens_left s) room filled count = subst (λ (ts : List Token). IsFilled written ts room filled count) all filling in
+    let here : IsFilled written (tokens_left s) buffer filled count = subst (λ (ts : List Token). IsFilled written ts buffer filled count) all filling in
     let no : tokens_left s ≡ tokens_of (part edition) s.rest = ap (λ (a : Mode). tokens_of a s.rest) none in
-    let few : count ≤ length (tokens_of (part edition) s.rest) = omega (arith, here.as_many, min-le_right (length room) (length (tokens_left s)), ap length no) in
+    let few : count ≤ length (tokens_of (part edition) s.rest) = omega (arith, here.as_many, min-le_right (length buffer) (length (tokens_left s)), ap length no) in
     let end : bytes ≡ bound (tokens_of (part edition) s.rest) count = at ∙ ap (λ (ts : List Token). bound ts count) (all ∙ no) in
     let past : t ≡ state 0 (drop (bound (tokens_of (part edition) s.rest) count) s.rest) (part edition) = after ∙ (ap (λ n. state 0 (drop n s.rest) s.mode) end ∙ ap (λ (a : Mode). state 0 (drop (bound (tokens_of (part edition) s.rest) count) s.rest) a) none) in
     record {
@@ -202,7 +202,7 @@ fills written edition s t text is e pending none room filled count bytes filling
       state_is = past ∙ sym (state_past-no edition s.rest whole s (plain_state edition s s.rest pending refl none) count few);
       left = ap (λ (x : State). tokens_left x) past ∙ (restarts edition s.rest whole count few ∙ sym (ap (drop count) no));
       rest = ap (λ (x : State). x.rest) past ∙ ap (λ (ts : List Token). drop (bound ts count) s.rest) (sym no);
-      progress = λ places some. shorter_left s.rest t.rest (tokens_of (part edition) s.rest) (partitions s.rest (part edition) whole) (length room) count (here.as_many ∙ ap (λ (ts : List Token). min (length room) (length ts)) no) (ap (λ (x : State). x.rest) past) places some;
+      progress = λ places some. shorter_left s.rest t.rest (tokens_of (part edition) s.rest) (partitions s.rest (part edition) whole) (length buffer) count (here.as_many ∙ ap (λ (ts : List Token). min (length buffer) (length ts)) no) (ap (λ (x : State). x.rest) past) places some;
     }
 
 -- ---- one token after another

@@ -20,7 +20,7 @@ pub mod GuardedLemmas
 pub mod HashLemmas
 pub mod IdentLemmas
 pub mod KernelLemmas
-pub mod LandmarkLemmas
+pub mod CheckpointLemmas
 pub mod LaneLemmas
 pub mod LengthLemmas
 pub mod LexemeLemmas

@@ -100,11 +100,11 @@ module _ {first : List ℕ → Token} (law : IsGrammar first) (before lengths in
       let next = step_to n (omega arith) (past_some n) refl ih (record { at = at.back; met = false }) (at.at + bound block (n + 1)) refl (followed_early _ (omega arith) low) (λ _. refl) in
       subst (λ k. Stands first before change text (past_some k)) (sym one) next
 
-  -- where a room takes so many of them, relexing stands past the last
-  pub stands_filled : {X : Type 0} (written : Token → X) (room filled : List X) (count bytes : ℕ) (to : Meeting) → IsFilledTo written (change.new_stop - at.at) block room filled count → bytes ≡ bound block count → 0 < count → IsFollowed (tokens_by first before) change.old_stop change.new_stop (at.at + bytes) to.at to.met → (at.at + bytes < change.new_stop → to.at ≡ at.back)
+  -- where a buffer takes so many of them, relexing stands past the last
+  pub stands_filled : {X : Type 0} (written : Token → X) (buffer filled : List X) (count bytes : ℕ) (to : Meeting) → IsFilledTo written (change.new_stop - at.at) block buffer filled count → bytes ≡ bound block count → 0 < count → IsFollowed (tokens_by first before) change.old_stop change.new_stop (at.at + bytes) to.at to.met → (at.at + bytes < change.new_stop → to.at ≡ at.back)
       → Stands first before change text (record { front = at.front; lexed = at.lexed + count; back = to.at; at = at.at + bytes; met = to.met }) × (block ≡ drop (known at) (tokens_by first text))
-  stands_filled written room filled zero bytes to is_filled bytes_is some followed stays = absurd (omega arith)
-  stands_filled written room filled (suc n) bytes to is_filled bytes_is some followed stays =
+  stands_filled written buffer filled zero bytes to is_filled bytes_is some followed stays = absurd (omega arith)
+  stands_filled written buffer filled (suc n) bytes to is_filled bytes_is some followed stays =
       let few : suc n ≤ length block = is_filled.few in
       let one : n + 1 ≡ suc n = omega arith in
       let so : Stands first before change text (past_some n) = stands_some n (omega arith) (λ k l. let b = is_filled.begun k (omega arith) in omega arith) in
@@ -114,15 +114,15 @@ module _ {first : List ℕ → Token} (law : IsGrammar first) (before lengths in
         left_at law before lengths insert text change is at stands,
       )
 
--- what a room takes at a place of the text: some bytes, at least one for each token, up to a place between characters
+-- what a buffer takes at a place of the text: some bytes, at least one for each token, up to a place between characters
 pub record IsStretch (text : List ℕ) (at count bytes : ℕ) : Type 0 where
   pub inside : at + bytes ≤ length text
   pub boundary : IsCharBoundary text (at + bytes)
   pub some : 0 < count
   pub long : count ≤ bytes
 
-pub stretch : {first : List ℕ → Token} (law : IsGrammar first) {text left : List ℕ} {at end : ℕ} → IsUtf8 text → Fits text → IsCharBoundary text at → left ≡ drop at text → {X : Type 0} {written : Token → X} {room filled : List X} {count bytes : ℕ} → IsFilledTo written (end - at) (tokens_by first left) room filled count → bytes ≡ bound (tokens_by first left) count → 0 < length room → at < end → IsStretch text at count bytes
-stretch {first} law {text} {left} {at} {end} utf8 fits cut left_is {X} {written} {room} {filled} {count} {bytes} is_filled bytes_is places more =
+pub stretch : {first : List ℕ → Token} (law : IsGrammar first) {text left : List ℕ} {at end : ℕ} → IsUtf8 text → Fits text → IsCharBoundary text at → left ≡ drop at text → {X : Type 0} {written : Token → X} {buffer filled : List X} {count bytes : ℕ} → IsFilledTo written (end - at) (tokens_by first left) buffer filled count → bytes ≡ bound (tokens_by first left) count → 0 < length buffer → at < end → IsStretch text at count bytes
+stretch {first} law {text} {left} {at} {end} utf8 fits cut left_is {X} {written} {buffer} {filled} {count} {bytes} is_filled bytes_is places more =
     let left_text : IsText left = rw left_is record { utf8 = IsUtf8-drop text at utf8 cut; fits = omega (arith, fits, length-drop at text) } in
     let spot : IsPlace left bytes = place_stands law left left_text count bytes bytes_is in
     let inside : at + bytes ≤ length text = omega (arith, spot.inside, ap length left_is, length-drop at text, cut.0) in

@@ -2,15 +2,15 @@
 use Rattle.std.proofs.Common.{◌≡◌, ℕ, ◌+◌, ◌-◌, List, ◌++◌, length, map, take, sym, ap, ◌∙◌, arith, length-append, length-drop, length-take-le}
 use Rattle.std.specs.List.{All}
 use Rattle.std.proofs.lemmas.Grind.{common_steps}
-use Rattle.rustc_lexer.specs.declared.relex.landmarks.Landmarks.{Landmarks}
+use Rattle.rustc_lexer.specs.declared.relex.checkpoints.Checkpoints.{Checkpoints}
 use Rattle.rustc_lexer.specs.declared.relex.relexing.Relexing.{Relexing}
 use Rattle.rustc_lexer.specs.{Token}
 use Rattle.rustc_lexer.specs.Tokens.{bound, tokens_by}
 use Rattle.rustc_lexer.specs.Edits.{IsBound, IsMadeOf}
 use Rattle.rustc_lexer.specs.Locality.{IsGrammar}
-use Rattle.rustc_lexer.specs.means.Landmarks.{AreBounds, IsMovable, IsReplaced, end_of}
+use Rattle.rustc_lexer.specs.means.Checkpoints.{AreBounds, IsMovable, IsReplaced, end_of}
 use Rattle.rustc_lexer.specs.means.Relexing.{IsRenewed}
-use Rattle.rustc_lexer.proofs.LandmarkLemmas.{replaced_for}
+use Rattle.rustc_lexer.proofs.CheckpointLemmas.{replaced_for}
 use Rattle.rustc_lexer.proofs.MeetingLemmas.{IsMet}
 use Rattle.rustc_lexer.proofs.ReadyLemmas.{put_together}
 use Rattle.rustc_lexer.proofs.RelexingLemmas.{lexed_met}
@@ -31,11 +31,11 @@ module _ {first : List ℕ → Token} (law : IsGrammar first) {text insert made 
   pub renewed_all : at.front.number + at.lexed + (length tokens - at.back.number) ≡ length now
   renewed_all = grind (arith, common_steps, length-append, length-take-le, length-drop)
 
-  -- the landmarks can be moved, and stay landmarks
-  pub renewed_bounds : (landmarks : Landmarks) → AreBounds tokens landmarks → All (IsMovable at.back (end_of at)) landmarks.bounds × IsReplaced tokens now at.front at.back (end_of at)
-  renewed_bounds landmarks are =
+  -- the checkpoints can be moved, and stay checkpoints
+  pub renewed_bounds : (checkpoints : Checkpoints) → AreBounds tokens checkpoints → All (IsMovable at.back (end_of at)) checkpoints.bounds × IsReplaced tokens now at.front at.back (end_of at)
+  renewed_bounds checkpoints are =
       let l = renewed.lexed_is in
       let front : IsBound tokens at.front = rw e l.stands.front_bound in
       let back : IsBound tokens at.back = rw e l.stands.back_bound in
       let place : at.at ≡ bound (tokens_by first made) (at.front.number + length renewed.lexed) = l.stands.place ∙ ap (λ n. bound (tokens_by first made) (at.front.number + n)) l.lexed in
-      replaced_for law text is.is_text start stop insert is.inserted is.edit tokens made renewed.lexed now at.front at.back at.lexed at.at landmarks e is.made renewed.now_is l.lexed front.0 front.1 back.1 place is_met are
+      replaced_for law text is.is_text start stop insert is.inserted is.edit tokens made renewed.lexed now at.front at.back at.lexed at.at checkpoints e is.made renewed.now_is l.lexed front.0 front.1 back.1 place is_met are

@@ -67,14 +67,14 @@ has_fields (Literal kind suffix_start) = true
 has_fields (Lifetime starts_with_number) = true
 has_fields kind = false
 
--- the room holds the first of the tokens at its front, each as it is written, and the rest of it stays. They are those
--- that begin before a place: each of them does, and where there is room for one more, it does not
-pub record IsFilledTo {X : Type 0} (written : Token → X) (end : ℕ) (left : List Token) (room filled : List X) (count : ℕ) : Type 0 where
+-- the buffer holds the first of the tokens at its front, each as it is written, and the rest of it stays. They are
+-- those that begin before a place: each of them does, and where there is room for one more, it does not
+pub record IsFilledTo {X : Type 0} (written : Token → X) (end : ℕ) (left : List Token) (buffer filled : List X) (count : ℕ) : Type 0 where
   pub few : count ≤ length left
-  pub within : count ≤ length room
-  pub tokens : filled ≡ map written (take count left) ++ drop count room
+  pub within : count ≤ length buffer
+  pub tokens : filled ≡ map written (take count left) ++ drop count buffer
   pub begun : (k : ℕ) → k < count → bound left k < end
-  pub all : count < length room → end ≤ bound left count
+  pub all : count < length buffer → end ≤ bound left count
 
 -- the state past `count` tokens
 abbrev pub state_past : ℕ → State → State

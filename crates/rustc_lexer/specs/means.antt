@@ -9,7 +9,7 @@ pub mod Frontmatter
 pub mod Guarded
 pub mod Hash
 pub mod Ident
-pub mod Landmarks
+pub mod Checkpoints
 pub mod Least
 pub mod Lexeme
 pub mod Lifetime

@@ -1,4 +1,4 @@
-//! Many tokens at once, written into a room.
+//! Many tokens at once, written into a buffer.
 ghost use Rattle.std.specs.Prelude.{◌≡◌, ◌<◌, ◌≤◌, IsCharBoundary, false, length};
 ghost use Rattle.rustc_lexer.specs.{Token};
 ghost use Rattle.rustc_lexer.specs.Tokens.{has_fields, IsFilledTo, bound, tokens_of};
@@ -41,29 +41,29 @@ impl Record for Token {
     }
 }
 
-/// Writes the first tokens of a text into the room, in an edition: those that begin before `stop`, or as many as it has
-/// room for. Their number, and how many bytes they have.
+/// Writes the first tokens of a text into the buffer, in an edition: those that begin before `stop`, or as many as it
+/// has room for. Their number, and how many bytes they have.
 ///
-/// The ends of runs are found 64 bytes at a time. Where these tell a token, its kind is a look in a table and its length
-/// a count of zeros, with no branch on either.
+/// The ends of runs are found 64 bytes at a time. Where these tell a token, its kind is a look in a table and its
+/// length a count of zeros, with no branch on either.
 #[inline(always)]
 pub(crate) fn fill<R: Record>(
     text: &str,
     stop: usize,
     edition: Edition,
-    room: &mut [R],
+    buffer: &mut [R],
 ) -> (usize, usize)
     requires fits { Fits text.now }
     requires inside { stop ≤ length text.now }
     ensures filled { IsFilledTo R.written stop (tokens_of (part edition) text.now)
-        room.old room.new result.0 }
+        buffer.old buffer.new result.0 }
     ensures bytes { result.1 ≡ bound (tokens_of (part edition) text.now) result.0 }
     ensures boundary { IsCharBoundary text.now result.1 }
 {
     let mut count = 0;
     let mut at = 0;
     let mut ends = 0;
-    'tokens: while count < room.len() && at < stop {
+    'tokens: while count < buffer.len() && at < stop {
         let rest = &text[at..];
         let bytes = rest.as_bytes();
         let mut first = bytes[0];
@@ -73,7 +73,7 @@ pub(crate) fn fill<R: Record>(
         }
         // How far in `rest` tokens are told: 0 as long as none is.
         let mut from = 0;
-        'told: while tells && ends != 0 && count < room.len() {
+        'told: while tells && ends != 0 && count < buffer.len() {
             let end = ends.trailing_zeros();
             let next = bytes[end as usize];
             // A byte that tells a token of its own never turns the one before it.
@@ -82,7 +82,7 @@ pub(crate) fn fill<R: Record>(
                 break;
             }
             let token = told(first, end - from);
-            room[count] = R::bare(token.kind, token.len);
+            buffer[count] = R::bare(token.kind, token.len);
             count += 1;
             from = end;
             first = next;
@@ -91,7 +91,7 @@ pub(crate) fn fill<R: Record>(
         if from == 0 {
             // The ends of runs told nothing here.
             let token = token_in(rest, edition);
-            room[count] = R::of(token);
+            buffer[count] = R::of(token);
             count += 1;
             from = token.len;
         }

@@ -30,8 +30,8 @@ mode_of-edition : (allowed : FrontmatterAllowed) → mode_edition (mode_of allow
 mode_of-edition Yes = refl
 mode_of-edition No = refl
 
-module _ (text : List ℕ) (is : IsText text) (place : CPlace) (boundary : IsCharBoundary text place.at) (s t : State) (room filled : List CToken) (count : ℕ) (begun : s ≡ state_at text place)
-    (filling : IsFilled token_numbers (tokens_left s) room filled count) (past : t ≡ state_past count s) (left : tokens_left t ≡ drop count (tokens_left s)) (rest : t.rest ≡ drop (bound (tokens_left s) count) s.rest)
+module _ (text : List ℕ) (is : IsText text) (place : CPlace) (boundary : IsCharBoundary text place.at) (s t : State) (buffer filled : List CToken) (count : ℕ) (begun : s ≡ state_at text place)
+    (filling : IsFilled token_numbers (tokens_left s) buffer filled count) (past : t ≡ state_past count s) (left : tokens_left t ≡ drop count (tokens_left s)) (rest : t.rest ≡ drop (bound (tokens_left s) count) s.rest)
     (edition : mode_edition t.mode ≡ mode_edition s.mode) where
   abbrev cut : List ℕ
   cut = drop place.at text
@@ -42,11 +42,11 @@ module _ (text : List ℕ) (is : IsText text) (place : CPlace) (boundary : IsCha
   cut_is : IsText cut
   cut_is = record { utf8 = IsUtf8-drop text place.at is.utf8 boundary; fits = let f = is.fits in omega (arith, length-drop place.at text) }
 
-  here : IsFilled token_numbers (tokens_of mode cut) room filled count
-  here = subst (λ (x : State). IsFilled token_numbers (tokens_left x) room filled count) begun filling
+  here : IsFilled token_numbers (tokens_of mode cut) buffer filled count
+  here = subst (λ (x : State). IsFilled token_numbers (tokens_left x) buffer filled count) begun filling
 
   few : count ≤ length (tokens_of mode cut)
-  few = omega (arith, here.as_many, min-le_right (length room) (length (tokens_of mode cut)))
+  few = omega (arith, here.as_many, min-le_right (length buffer) (length (tokens_of mode cut)))
 
   abbrev end : ℕ
   end = bound (tokens_of mode cut) count
@@ -66,7 +66,7 @@ module _ (text : List ℕ) (is : IsText text) (place : CPlace) (boundary : IsCha
   newest : mode_edition t.mode ≡ E2024
   newest = edition ∙ (ap (λ (x : State). mode_edition x.mode) begun ∙ mode_of-edition (allowed_of place.frontmatter_allowed))
 
-  pub batch_is : (place' : CPlace) (allowed : FrontmatterAllowed) → place'.at ≡ length text - length t.rest → t.mode ≡ mode_in allowed (mode_edition t.mode) → place'.frontmatter_allowed ≡ allowed_number allowed → IsBatch text (state_at text place) room place' filled count
+  pub batch_is : (place' : CPlace) (allowed : FrontmatterAllowed) → place'.at ≡ length text - length t.rest → t.mode ≡ mode_in allowed (mode_edition t.mode) → place'.frontmatter_allowed ≡ allowed_number allowed → IsBatch text (state_at text place) buffer place' filled count
   batch_is place' allowed at held number =
       let there : place'.at ≡ place.at + end = at ∙ place_is in
       let follows : drop place'.at text ≡ t.rest = ap (λ n. drop n text) there ∙ (sym (drop-drop end place.at text) ∙ sym rest_is) in

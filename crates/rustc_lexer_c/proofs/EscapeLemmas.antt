@@ -13,27 +13,27 @@ use Rattle.rustc_lexer_c.specs.declared.escapes.CUnit.{CUnit}
 use Rattle.rustc_lexer_c.specs.declared.escapes.Listing.{Listing}
 use Rattle.rustc_lexer_c.specs.declared.escapes.Listing.TheVariants.{Units, Errors}
 use Rattle.rustc_lexer_c.specs.Escapes.{IsUnits, item_unit, listed, single_unit, wrong_unit}
-use Rattle.rustc_lexer_c.proofs.RoomLemmas.{all_taken, count_second, left_step, room_filled}
+use Rattle.rustc_lexer_c.proofs.BufferLemmas.{all_taken, count_second, left_step, buffer_filled}
 
 -- what is left past one more, if there is one
 pub passed_step : {X : Type 0} (all at past : List X) (over : ℕ) (next : Option X) → at ≡ drop over all → TakesFirst at next past → past ≡ drop (over + 1) all
 passed_step all at past over None is taken = taken.1 ∙ (ap (drop 1) (sym taken.0 ∙ is) ∙ drop-drop 1 over all)
 passed_step all at past over (Some x) is taken = left_step all past over x (sym is ∙ taken)
 
--- what the room holds at the end
-pub units_done : (all : List CUnit) (passed : ℕ) (room old : List CUnit) (count : ℕ) → take count room ≡ take count (drop passed all) → drop count room ≡ drop count old → count ≡ min (length old) (length (drop passed all)) → IsUnits all passed old room count
-units_done all passed room old count front back is = record {
+-- what the buffer holds at the end
+pub units_done : (all : List CUnit) (passed : ℕ) (buffer old : List CUnit) (count : ℕ) → take count buffer ≡ take count (drop passed all) → drop count buffer ≡ drop count old → count ≡ min (length old) (length (drop passed all)) → IsUnits all passed old buffer count
+units_done all passed buffer old count front back is = record {
   as_many = is;
-  written = room_filled room old (take count (drop passed all)) count front back;
+  written = buffer_filled buffer old (take count (drop passed all)) count front back;
 }
 
 -- past all of them nothing is written
-pub none_left : (all at past : List CUnit) (over passed : ℕ) (room : List CUnit) (next : Option CUnit) → at ≡ drop over all → over ≤ passed → is_some next ≡ false → TakesFirst at next past → IsUnits all passed room room 0
-none_left all at past over passed room (Some unit) is low none taken = absurd (true≢false none)
-none_left all at past over passed room None is low none taken =
+pub none_left : (all at past : List CUnit) (over passed : ℕ) (buffer : List CUnit) (next : Option CUnit) → at ≡ drop over all → over ≤ passed → is_some next ≡ false → TakesFirst at next past → IsUnits all passed buffer buffer 0
+none_left all at past over passed buffer (Some unit) is low none taken = absurd (true≢false none)
+none_left all at past over passed buffer None is low none taken =
     let few = all_taken all over (sym is ∙ taken.0) in
     let left = length-drop passed all in
-    units_done all passed room room 0 refl refl (count_second 0 (length room) (length (drop passed all)) (omega arith) (omega arith))
+    units_done all passed buffer buffer 0 refl refl (count_second 0 (length buffer) (length (drop passed all)) (omega arith) (omega arith))
 
 -- there are no more of them than bytes, or one
 pub listed_few : (listing : Listing) (mode : Mode) (text : List ℕ) → IsUtf8 text → length (listed listing mode text) ≤ max 1 (length text)

@@ -2,4 +2,4 @@ pub mod BatchLemmas
 pub mod EscapeLemmas
 pub mod OutputLemmas
 pub mod RelexLemmas
-pub mod RoomLemmas
+pub mod BufferLemmas

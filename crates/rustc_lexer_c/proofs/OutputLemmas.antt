@@ -1,13 +1,13 @@
--- What many writes into room of a caller's come to.
+-- What many writes into a buffer of a caller's come to.
 use Rattle.std.proofs.Common.{◌≡◌, ◌≤◌, ◌+◌, ◌-◌, ℕ, List, [], ◌∷◌, length, take, drop, ◌++◌, refl, sym, ap, subst, ◌∙◌, arith, append_assoc, append-nil}
 use Rattle.std.proofs.lemmas.List.{drop-drop, length-append, length-take-le}
 use Rattle.std.proofs.lemmas.Slice.{drop-put_mid, take-put_mid}
 use borrow.Rule.Slice.PartMut.{post_of, put_mid}
 use Rattle.std.specs.Fmt.{WritesInCalls}
 use Rattle.std.specs.List.{concat, FoldsTo}
-use Rattle.rustc_lexer_c.specs.declared.room.Room.{Room}
+use Rattle.rustc_lexer_c.specs.declared.buffer.Buffer.{Buffer}
 use Rattle.rustc_lexer_c.specs.Marks.{IsFront}
-use Rattle.rustc_lexer_c.specs.Room.{Appends}
+use Rattle.rustc_lexer_c.specs.Buffer.{Appends}
 
 -- what a list holds once others stand in it from a place on
 module _ (a : ℕ) (xs ys : List ℕ) (low : a ≤ length xs) where
@@ -32,7 +32,7 @@ drop_later m n xs ys low same =
     rw whole (sym (drop-drop (n - m) m xs) ∙ (ap (drop (n - m)) same ∙ drop-drop (n - m) m ys))
 
 -- some writes are one of all their bytes
-appends_all : (s : Room) (parts : List (List ℕ)) (t : Room) → s.len ≤ length s.bytes.now → FoldsTo Appends s parts t → Appends s (concat parts) t
+appends_all : (s : Buffer) (parts : List (List ℕ)) (t : Buffer) → s.len ≤ length s.bytes.now → FoldsTo Appends s parts t → Appends s (concat parts) t
 appends_all s [] t low is = subst (Appends s []) is record { same_reference = refl; within = low; more = omega arith; written = sym (append-nil _); rest = refl }
 appends_all s (x ∷ xs) t low p =
     let one = p.1 in
@@ -45,8 +45,8 @@ appends_all s (x ∷ xs) t low p =
       rest = others.rest ∙ drop_later p.0.len t.len p.0.bytes.now s.bytes.now others.more one.rest;
     }
 
--- all that is written of a room of which nothing was, which stays the same one of the caller's
-pub written_front : (s : Room) (bytes : List ℕ) (t : Room) → s.len ≡ 0 → WritesInCalls Appends s bytes t → (t.bytes.ghost_name ≡ s.bytes.ghost_name) × IsFront bytes s.bytes.now t.bytes.now t.len
+-- all that is written of a buffer of which nothing was, which stays the same one of the caller's
+pub written_front : (s : Buffer) (bytes : List ℕ) (t : Buffer) → s.len ≡ 0 → WritesInCalls Appends s bytes t → (t.bytes.ghost_name ≡ s.bytes.ghost_name) × IsFront bytes s.bytes.now t.bytes.now t.len
 written_front s bytes t none writes =
     let all = appends_all s writes.parts t (omega (arith, none)) writes.calls in
     (all.same_reference, record { within = all.within; front = all.written ∙ (ap (λ (n : ℕ). take n s.bytes.now ++ concat writes.parts) none ∙ writes.whole); rest = all.rest })

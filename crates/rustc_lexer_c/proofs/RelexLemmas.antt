@@ -47,11 +47,11 @@ relex_back text n at few over =
     rw (number, met) refl
 
 -- what this call wrote comes behind what was written
-written_more : (new : List Token) (front before count lexed : ℕ) (room filled : List CToken) → lexed ≡ before + count → front + lexed ≤ length new → filled ≡ map token_numbers (take count (drop (front + before) new)) ++ drop count room → written new front lexed ≡ written new front before ++ take count filled
-written_more new front before count lexed room filled sum inside e =
+written_more : (new : List Token) (front before count lexed : ℕ) (buffer filled : List CToken) → lexed ≡ before + count → front + lexed ≤ length new → filled ≡ map token_numbers (take count (drop (front + before) new)) ++ drop count buffer → written new front lexed ≡ written new front before ++ take count filled
+written_more new front before count lexed buffer filled sum inside e =
     let lexed_now : List Token = take count (drop (front + before) new) in
     let long : length lexed_now ≡ count = length-take-le count (drop (front + before) new) (omega (arith, length-drop (front + before) new)) in
-    let here : take count filled ≡ map token_numbers lexed_now = ap (take count) e ∙ take_at (map token_numbers lexed_now) (drop count room) count (length-map lexed_now token_numbers ∙ long) in
+    let here : take count filled ≡ map token_numbers lexed_now = ap (take count) e ∙ take_at (map token_numbers lexed_now) (drop count buffer) count (length-map lexed_now token_numbers ∙ long) in
     let split : take lexed (drop front new) ≡ take before (drop front new) ++ lexed_now =
     ap (λ n. take n (drop front new)) sum ∙ (take-add before count (drop front new) ∙ ap (λ (ts : List Token). take before (drop front new) ++ take count ts) (drop-drop before front new)) in
     ap (map token_numbers) split ∙ (map-append token_numbers (take before (drop front new)) lexed_now ∙ ap (λ (l : List CToken). written new front before ++ l) (sym here))
@@ -68,7 +68,7 @@ list_whole tokens new at n old same e whole =
     ∙ (ap (λ (l : List CToken). map token_numbers (take at.front.number tokens) ++ l) rest
     ∙ (sym (map-append token_numbers (take at.front.number tokens) (middle ++ drop at.back.number tokens)) ∙ ap (map token_numbers) whole))
 
-module _ (edition : Edition) (text : List ℕ) (old : List CToken) (change : CEdit) (c : CRelexing) (room filled : List CToken) (count : ℕ) (begin at : Relexing) where
+module _ (edition : Edition) (text : List ℕ) (old : List CToken) (change : CEdit) (c : CRelexing) (buffer filled : List CToken) (count : ℕ) (begin at : Relexing) where
   abbrev pub lens : List ℕ
   lens = map (λ (t : CToken). t.len) old
 
@@ -82,21 +82,21 @@ module _ (edition : Edition) (text : List ℕ) (old : List CToken) (change : CEd
       by_test true e = ap (λ m. m || eqb at.at (length text)) e ∙ sym e
       by_test false e = ap (λ m. m || eqb at.at (length text)) e ∙ over_met (edition_grammar edition) before lens insert text (change_of change) is at stands e
 
-  pub batch_is : count ≤ length room → TakesSteps first text (change_of change).new_stop begin count at → filled ≡ map token_numbers (take count (tokens_by first (drop begin.at text))) ++ drop count room → MayGoOn text (length old) at → (count < length room → is_over text at ≡ true) → begin.lexed ≡ lexed_before c
+  pub batch_is : count ≤ length buffer → TakesSteps first text (change_of change).new_stop begin count at → filled ≡ map token_numbers (take count (tokens_by first (drop begin.at text))) ++ drop count buffer → MayGoOn text (length old) at → (count < length buffer → is_over text at ≡ true) → begin.lexed ≡ lexed_before c
       → (c.stage ≢ 0 → begin.front ≡ front_of c)
       → ((first : List ℕ → Token) (before insert : List ℕ) → IsGrammar first → IsMadeOf first before lens (change_of change) insert text → IsPassed first before (change_of change) text (length old) c → Stands first before (change_of change) text begin)
       → ((before insert : List ℕ) → IsMadeOf first before lens (change_of change) insert text → Stands first before (change_of change) text begin → Stands first before (change_of change) text at × (tokens_by first (drop begin.at text) ≡ drop (known begin) (tokens_by first text)))
-      → IsRelexBatch edition text old change c room (numbers_of text (length old) at) filled count
+      → IsRelexBatch edition text old change c buffer (numbers_of text (length old) at) filled count
   batch_is within steps tokens may over_of before_lexed begun_front begun stands = record {
     within = within;
     rest =
         let long : length (map token_numbers (take count (tokens_by first (drop begin.at text)))) ≡ count = length-map (take count (tokens_by first (drop begin.at text))) token_numbers ∙ length-take-le count (tokens_by first (drop begin.at text)) steps.inside in
-        ap (drop count) tokens ∙ drop_at (map token_numbers (take count (tokens_by first (drop begin.at text)))) (drop count room) count long;
+        ap (drop count) tokens ∙ drop_at (map token_numbers (take count (tokens_by first (drop begin.at text)))) (drop count buffer) count long;
     lexed = steps.lexed ∙ ap (λ n. n + count) before_lexed;
     goes_on = λ not.
         let on = stage_goes_on (is_over text at) not in (
           on.0,
-          elim (cases_lt count (length room)) [
+          elim (cases_lt count (length buffer)) [
             | inl less ↦ absurd (true≢false (sym (over_of less) ∙ on.1))
             | inr full ↦ omega arith
           ],
@@ -124,7 +124,7 @@ module _ (edition : Edition) (text : List ℕ) (old : List CToken) (change : CEd
         let at_begin : known begin ≡ at.front.number + lexed_before c = omega arith in
         let many : length lens ≡ length old = length-map old (λ (t : CToken). t.len) in
         let left : tokens_by first (drop begin.at text) ≡ drop (at.front.number + lexed_before c) (tokens_of (part edition) text) = so.1 ∙ ap (λ n. drop n (tokens_of (part edition) text)) at_begin in
-        let filled_is = tokens ∙ ap (λ (ts : List Token). map token_numbers (take count ts) ++ drop count room) left in
+        let filled_is = tokens ∙ ap (λ (ts : List Token). map token_numbers (take count ts) ++ drop count buffer) left in
         let back : length old - (length old - at.back.number) ≡ at.back.number = (let few = may.number in omega arith) in
         record {
           passed = record {
@@ -132,7 +132,7 @@ module _ (edition : Edition) (text : List ℕ) (old : List CToken) (change : CEd
             stands = λ _. subst (Stands first before (change_of change) text) (sym same) so.0;
           };
           tokens = filled_is;
-          more = written_more (tokens_of (part edition) text) at.front.number (lexed_before c) count at.lexed room filled (omega arith) so.0.inside filled_is;
+          more = written_more (tokens_of (part edition) text) at.front.number (lexed_before c) count at.lexed buffer filled (omega arith) so.0.inside filled_is;
           few = few_lexed law before lens insert text (change_of change) is at so.0;
           counts = λ e.
               let met = counts_met law before lens insert text (change_of change) is at so.0 (sym over ∙ stage_met (is_over text at) e) in

@@ -41,17 +41,18 @@ abbrev pub state_at : List ℕ → CPlace → State
 state_at text place = record { pending = 0; rest = drop place.at text; mode = mode_of (allowed_of place.frontmatter_allowed) }
 
 -- the batch at a state: as many of the tokens that are left there as there is room for, as numbers, at the front of the
--- room, whose rest stays; and the place behind them, from which the tokens are those that are left past the batch
-pub record IsBatch (text : List ℕ) (s : State) (room : List CToken) (place : CPlace) (filled : List CToken) (count : ℕ) : Type 0 where
-  pub as_many : count ≡ min (length room) (length (tokens_left s))
-  pub tokens : filled ≡ map token_numbers (take count (tokens_left s)) ++ drop count room
+-- buffer, whose rest stays; and the place behind them, from which the tokens are those that are left past the batch
+pub record IsBatch (text : List ℕ) (s : State) (buffer : List CToken) (place : CPlace) (filled : List CToken) (count : ℕ) : Type 0 where
+  pub as_many : count ≡ min (length buffer) (length (tokens_left s))
+  pub tokens : filled ≡ map token_numbers (take count (tokens_left s)) ++ drop count buffer
   pub boundary : IsCharBoundary text place.at
   pub rest : drop place.at text ≡ (state_past count s).rest
   pub allowed : place.frontmatter_allowed ≡ mode_number (state_past count s).mode
   pub left : tokens_left (state_at text place) ≡ drop count (tokens_left s)
 
--- a call that takes the tokens from a place on, which is to be between characters; where it is refused nothing is written
-pub record TakesTokens (text : List ℕ) (place place' : CPlace) (room filled : List CToken) (count status : ℕ) : Type 0 where
+-- a call that takes the tokens from a place on, which is to be between characters; where it is refused nothing is
+-- written
+pub record TakesTokens (text : List ℕ) (place place' : CPlace) (buffer filled : List CToken) (count status : ℕ) : Type 0 where
   pub status_is : IsStatus text (IsCharBoundary text place.at) 3 status
-  pub batch : status ≡ 0 → IsBatch text (state_at text place) room place' filled count
-  pub refused : status ≢ 0 → (place' ≡ place) × (filled ≡ room) × (count ≡ 0)
+  pub batch : status ≡ 0 → IsBatch text (state_at text place) buffer place' filled count
+  pub refused : status ≢ 0 → (place' ≡ place) × (filled ≡ buffer) × (count ≡ 0)

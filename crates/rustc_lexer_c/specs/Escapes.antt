@@ -106,10 +106,10 @@ units_of mode text = if is_single mode then single_unit mode text ∷ [] else ma
 abbrev pub wrong_units : List Error → List CUnit
 wrong_units errors = map (λ (e : Error). wrong_unit e.0 e.1) errors
 
--- a batch of them: past the first ones as many as there is room for, at the front of the room, whose rest stays
-pub record IsUnits (units : List CUnit) (passed : ℕ) (room filled : List CUnit) (count : ℕ) : Type 0 where
-  pub as_many : count ≡ min (length room) (length (drop passed units))
-  pub written : filled ≡ take count (drop passed units) ++ drop count room
+-- a batch of them: past the first ones as many as there is room for, at the front of the buffer, whose rest stays
+pub record IsUnits (units : List CUnit) (passed : ℕ) (buffer filled : List CUnit) (count : ℕ) : Type 0 where
+  pub as_many : count ≡ min (length buffer) (length (drop passed units))
+  pub written : filled ≡ take count (drop passed units) ++ drop count buffer
 
 abbrev pub wrong_units_of : Mode → List ℕ → List CUnit
 wrong_units_of mode text = wrong_units (errors_of mode text)
@@ -119,10 +119,10 @@ abbrev pub listed : Listing → Mode → List ℕ → List CUnit
 listed Units mode text = units_of mode text
 listed Errors mode text = wrong_units_of mode text
 
--- a call that lists some of a text in the mode of a number. There are no more of them than the text has bytes, or one: so
--- much room is enough. Where it is refused nothing is written
-pub record Lists (list : Mode → List ℕ → List CUnit) (mode : Option Mode) (text : List ℕ) (passed : ℕ) (room filled : List CUnit) (count status : ℕ) : Type 0 where
+-- a call that lists some of a text in the mode of a number. There are no more of them than the text has bytes, or one:
+-- so much room is enough. Where it is refused nothing is written
+pub record Lists (list : Mode → List ℕ → List CUnit) (mode : Option Mode) (text : List ℕ) (passed : ℕ) (buffer filled : List CUnit) (count status : ℕ) : Type 0 where
   pub status_is : IsStatus text (mode ≢ None) 7 status
-  pub units : status ≡ 0 → IsSomeAnd mode (λ kind. IsUnits (list kind text) passed room filled count)
+  pub units : status ≡ 0 → IsSomeAnd mode (λ kind. IsUnits (list kind text) passed buffer filled count)
   pub bound : status ≡ 0 → IsSomeAnd mode (λ kind. length (list kind text) ≤ max 1 (length text))
-  pub refused : status ≢ 0 → (filled ≡ room) × (count ≡ 0)
+  pub refused : status ≢ 0 → (filled ≡ buffer) × (count ≡ 0)

@@ -4,5 +4,5 @@ pub mod Marks
 pub mod Numbers
 pub mod RawStr
 pub mod Relex
-pub mod Room
+pub mod Buffer
 pub mod Status

@@ -15,13 +15,13 @@ style_of number =
     else if nat_eq number 3 then Some NoColours
     else None
 
--- the bytes stand at the front of the room, and behind them it is as before
-pub record IsFront (bytes room filled : List ℕ) (written : ℕ) : Type 0 where
+-- the bytes stand at the front of the buffer, and behind them it is as before
+pub record IsFront (bytes buffer filled : List ℕ) (written : ℕ) : Type 0 where
   pub within : written ≤ length filled
   pub front : take written filled ≡ bytes
-  pub rest : drop written filled ≡ drop written room
+  pub rest : drop written filled ≡ drop written buffer
 
--- the status of a call that takes a text, a style and a year, and has room of which nothing is said
+-- the status of a call that takes a text, a style and a year, and has a buffer of which nothing is said
 pub record IsMarksStatus (bytes : List ℕ) (style year : ℕ) (status : ℕ) : Type 0 where
   pub ok : IsText bytes → (edition : Edition) → edition_of_year year ≡ Some edition → (kind : Style) → style_of style ≡ Some kind → (status ≡ 0) ⊎ (status ≡ 9)
   pub not_utf8 : length bytes < 2 ^ 32 → ¬ (IsUtf8 bytes) → status ≡ 1

@@ -50,29 +50,29 @@ pub record IsPassed (first : List ℕ → Token) (before : List ℕ) (change : C
 abbrev pub written : List Token → ℕ → ℕ → List CToken
 written tokens front lexed = map token_numbers (take lexed (drop front tokens))
 
--- the tokens of the present text that follow the front and those of the calls before are written. Once the stage is 2 the
--- counts are those of the edit, and the list that has the old tokens of the front, all that was written, and the old tokens
--- of the back is the tokens of the present text
-pub record IsRelexed (first : List ℕ → Token) (before : List ℕ) (edit : CEdit) (insert text : List ℕ) (old : List CToken) (c : CRelexing) (room : List CToken) (c' : CRelexing) (filled : List CToken) (count : ℕ) : Type 0 where
+-- the tokens of the present text that follow the front and those of the calls before are written. Once the stage is 2
+-- the counts are those of the edit, and the list that has the old tokens of the front, all that was written, and the
+-- old tokens of the back is the tokens of the present text
+pub record IsRelexed (first : List ℕ → Token) (before : List ℕ) (edit : CEdit) (insert text : List ℕ) (old : List CToken) (c : CRelexing) (buffer : List CToken) (c' : CRelexing) (filled : List CToken) (count : ℕ) : Type 0 where
   pub passed : IsPassed first before (change_of edit) text (length old) c'
-  pub tokens : filled ≡ map token_numbers (take count (drop (c'.kept_front + lexed_before c) (tokens_by first text))) ++ drop count room
+  pub tokens : filled ≡ map token_numbers (take count (drop (c'.kept_front + lexed_before c) (tokens_by first text))) ++ drop count buffer
   pub more : written (tokens_by first text) c'.kept_front c'.lexed ≡ written (tokens_by first text) c'.kept_front (lexed_before c) ++ take count filled
   pub few : c'.lexed ≤ (relexed_of first before edit.start edit.old_stop insert).lexed
   pub counts : c'.stage ≡ 2 → relexed_of first before edit.start edit.old_stop insert ≡ record { kept_front = c'.kept_front; lexed = c'.lexed; kept_back = c'.kept_back }
   pub list : c'.stage ≡ 2 → old ≡ map token_numbers (tokens_by first before)
       → take c'.kept_front old ++ (written (tokens_by first text) c'.kept_front c'.lexed ++ drop (length old - c'.kept_back) old) ≡ map token_numbers (tokens_by first text)
 
--- what a call does for any numbers, and what for those of an edit: of each text of which the old tokens are those in the
--- edition, and of which the edit made the present text
-pub record IsRelexBatch (edition : Edition) (text : List ℕ) (old : List CToken) (edit : CEdit) (c : CRelexing) (room : List CToken) (c' : CRelexing) (filled : List CToken) (count : ℕ) : Type 0 where
-  pub within : count ≤ length room
-  pub rest : drop count filled ≡ drop count room
+-- what a call does for any numbers, and what for those of an edit: of each text of which the old tokens are those in
+-- the edition, and of which the edit made the present text
+pub record IsRelexBatch (edition : Edition) (text : List ℕ) (old : List CToken) (edit : CEdit) (c : CRelexing) (buffer : List CToken) (c' : CRelexing) (filled : List CToken) (count : ℕ) : Type 0 where
+  pub within : count ≤ length buffer
+  pub rest : drop count filled ≡ drop count buffer
   pub lexed : c'.lexed ≡ lexed_before c + count
-  pub goes_on : c'.stage ≢ 2 → (c'.stage ≡ 1) × (count ≡ length room)
+  pub goes_on : c'.stage ≢ 2 → (c'.stage ≡ 1) × (count ≡ length buffer)
   pub front : c.stage ≢ 0 → front_of c' ≡ front_of c
   pub may_relex : MayRelex text (length old) c'
   pub relexed : (before insert : List ℕ) → IsMadeOf (first_in edition) before (map (λ (t : CToken). t.len) old) (change_of edit) insert text → IsPassed (first_in edition) before (change_of edit) text (length old) c
-      → IsRelexed (first_in edition) before edit insert text old c room c' filled count
+      → IsRelexed (first_in edition) before edit insert text old c buffer c' filled count
 
 -- the status of a call that relexes
 pub record IsRelexStatus (bytes : List ℕ) (edit : CEdit) (year count : ℕ) (c : CRelexing) (status : ℕ) : Type 0 where
@@ -83,10 +83,10 @@ pub record IsRelexStatus (bytes : List ℕ) (edit : CEdit) (year count : ℕ) (c
   pub bad_edit : IsText bytes → (edition : Edition) → edition_of_year year ≡ Some edition → ¬ (IsChange bytes (change_of edit) × MayRelex bytes count c) → status ≡ 6
 
 -- a call that relexes in the edition of a year; where it is refused nothing is written
-pub record Relexes (text : List ℕ) (old : List CToken) (edit : CEdit) (year : ℕ) (c c' : CRelexing) (room filled : List CToken) (count status : ℕ) : Type 0 where
+pub record Relexes (text : List ℕ) (old : List CToken) (edit : CEdit) (year : ℕ) (c c' : CRelexing) (buffer filled : List CToken) (count status : ℕ) : Type 0 where
   pub status_is : IsRelexStatus text edit year (length old) c status
-  pub batch : status ≡ 0 → (edition : Edition) → edition_of_year year ≡ Some edition → IsRelexBatch edition text old edit c room c' filled count
-  pub refused : status ≢ 0 → (c' ≡ c) × (filled ≡ room) × (count ≡ 0)
+  pub batch : status ≡ 0 → (edition : Edition) → edition_of_year year ≡ Some edition → IsRelexBatch edition text old edit c buffer c' filled count
+  pub refused : status ≢ 0 → (c' ≡ c) × (filled ≡ buffer) × (count ≡ 0)
 
 -- how far it was relexed, as numbers
 abbrev pub numbers_of : List ℕ → ℕ → Relexing → CRelexing

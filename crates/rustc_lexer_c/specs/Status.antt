@@ -3,7 +3,7 @@ use Rattle.std.specs.Prelude.{ℕ, ◌≡◌, ◌≢◌, ◌<◌, ◌≤◌, ◌
 use Rattle.std.specs.Str.{IsUtf8}
 use Rattle.rustc_lexer.specs.Classes.{IsText}
 use Rattle.rustc_lexer_c.specs.declared.status.Refusal.{Refusal}
-use Rattle.rustc_lexer_c.specs.declared.status.Refusal.TheVariants.{NotUtf8, TooLong, BadPlace, NotRaw, BadEdition, BadEdit, BadMode, BadStyle, SmallRoom}
+use Rattle.rustc_lexer_c.specs.declared.status.Refusal.TheVariants.{NotUtf8, TooLong, BadPlace, NotRaw, BadEdition, BadEdit, BadMode, BadStyle, SmallBuffer}
 
 abbrev pub refusal_number : Refusal → ℕ
 refusal_number NotUtf8 = 1
@@ -14,7 +14,7 @@ refusal_number BadEdition = 5
 refusal_number BadEdit = 6
 refusal_number BadMode = 7
 refusal_number BadStyle = 8
-refusal_number SmallRoom = 9
+refusal_number SmallBuffer = 9
 
 -- why bytes are no text that can be lexed; their length is looked at first
 abbrev pub IsNoText : List ℕ → Refusal → Type 0

@@ -20,7 +20,7 @@ pub struct CPlace {
     pub frontmatter_allowed: u32,
 }
 
-/// Writes the tokens from a place on into the room, as many as there is room for, and their number into `count`.
+/// Writes the tokens from a place on into the buffer, as many as there is room for, and their number into `count`.
 /// The place moves behind them: the next call goes on there. Past the last token the number is 0.
 ///
 /// Each call tests the whole text. `rustc_lexer_tokens_unchecked` does not.
@@ -28,13 +28,13 @@ pub struct CPlace {
 pub extern "C" fn rustc_lexer_tokens(
     text: &[u8],
     place: &mut CPlace,
-    room: &mut [CToken],
+    buffer: &mut [CToken],
     count: &mut usize,
 ) -> u32
-    ensures { spec.TakesTokens text.now place.old place.new room.old room.new count.new result }
+    ensures { spec.TakesTokens text.now place.old place.new buffer.old buffer.new count.new result }
 {
     match text_of(text) {
-        Ok(text) => batch(text, place, room, count),
+        Ok(text) => batch(text, place, buffer, count),
         Err(refusal) => refuse(refusal, 0, count),
     }
 }
@@ -44,14 +44,14 @@ pub extern "C" fn rustc_lexer_tokens(
 pub extern "C" fn rustc_lexer_tokens_unchecked(
     text: &[u8],
     place: &mut CPlace,
-    room: &mut [CToken],
+    buffer: &mut [CToken],
     count: &mut usize,
 ) -> u32
     requires utf8 { IsUtf8 text.now }
-    ensures { spec.TakesTokens text.now place.old place.new room.old room.new count.new result }
+    ensures { spec.TakesTokens text.now place.old place.new buffer.old buffer.new count.new result }
 {
     match utf8_text_of(text) {
-        Ok(text) => batch(text, place, room, count),
+        Ok(text) => batch(text, place, buffer, count),
         Err(refusal) => refuse(refusal, 0, count),
     }
 }
@@ -101,26 +101,26 @@ fn no_token() -> CToken
 }
 
 /// Writes the batch at the place of a text.
-fn batch(text: &str, place: &mut CPlace, room: &mut [CToken], count: &mut usize) -> u32
+fn batch(text: &str, place: &mut CPlace, buffer: &mut [CToken], count: &mut usize) -> u32
     requires fits { Fits text.now }
-    ensures { spec.TakesTokens text.now place.old place.new room.old room.new count.new result }
+    ensures { spec.TakesTokens text.now place.old place.new buffer.old buffer.new count.new result }
 {
     if !text.is_char_boundary(place.at as usize) {
         return refuse(Refusal::BadPlace, 0, count);
     }
-    done(fill(text, place, room), count)
+    done(fill(text, place, buffer), count)
 }
 
 /// Writes the batch at a place between characters, and answers its number of tokens.
-fn fill(text: &str, place: &mut CPlace, room: &mut [CToken]) -> usize
+fn fill(text: &str, place: &mut CPlace, buffer: &mut [CToken]) -> usize
     requires fits { Fits text.now }
     requires boundary { IsCharBoundary text.now place.old.at }
     ensures { spec.IsBatch text.now (spec.state_at text.now place.old)
-        room.old place.new room.new result }
+        buffer.old place.new buffer.new result }
 {
     let allowed = allowed_of(place.frontmatter_allowed);
     let mut tokens = tokenize(&text[place.at as usize..], allowed);
-    let count = tokens.fill(room);
+    let count = tokens.fill(buffer);
     *place = CPlace {
         at: (text.len() - tokens.as_str().len()) as u32,
         frontmatter_allowed: allowed_number(tokens.frontmatter_allowed()),

@@ -28,7 +28,7 @@ pub struct CUnit {
     pub value: u32,
 }
 
-/// Writes units of what stands between the quotes of a literal into the room, as many as there is room for, and their
+/// Writes units of what stands between the quotes of a literal into the buffer, as many as there is room for, and their
 /// number into `count`. The first `passed` units are passed over.
 ///
 /// `mode` is the number of the literal's kind, 3 to 10. Between single quotes there is one unit, whose place is all of
@@ -38,13 +38,13 @@ pub extern "C" fn rustc_lexer_unescape(
     text: &[u8],
     mode: u32,
     passed: usize,
-    room: &mut [CUnit],
+    buffer: &mut [CUnit],
     count: &mut usize,
 ) -> u32
-    ensures { spec.Lists spec.units_of (spec.mode_of mode) text.now passed room.old room.new count.new result }
+    ensures { spec.Lists spec.units_of (spec.mode_of mode) text.now passed buffer.old buffer.new count.new result }
 {
     match text_of(text) {
-        Ok(text) => write(text, Listing::Units, mode, passed, room, count),
+        Ok(text) => write(text, Listing::Units, mode, passed, buffer, count),
         Err(refusal) => refuse(refusal, 0, count),
     }
 }
@@ -55,14 +55,14 @@ pub extern "C" fn rustc_lexer_unescape_unchecked(
     text: &[u8],
     mode: u32,
     passed: usize,
-    room: &mut [CUnit],
+    buffer: &mut [CUnit],
     count: &mut usize,
 ) -> u32
     requires utf8 { IsUtf8 text.now }
-    ensures { spec.Lists spec.units_of (spec.mode_of mode) text.now passed room.old room.new count.new result }
+    ensures { spec.Lists spec.units_of (spec.mode_of mode) text.now passed buffer.old buffer.new count.new result }
 {
     match utf8_text_of(text) {
-        Ok(text) => write(text, Listing::Units, mode, passed, room, count),
+        Ok(text) => write(text, Listing::Units, mode, passed, buffer, count),
         Err(refusal) => refuse(refusal, 0, count),
     }
 }
@@ -76,13 +76,13 @@ pub extern "C" fn rustc_lexer_literal_errors(
     text: &[u8],
     mode: u32,
     passed: usize,
-    room: &mut [CUnit],
+    buffer: &mut [CUnit],
     count: &mut usize,
 ) -> u32
-    ensures { spec.Lists spec.wrong_units_of (spec.mode_of mode) text.now passed room.old room.new count.new result }
+    ensures { spec.Lists spec.wrong_units_of (spec.mode_of mode) text.now passed buffer.old buffer.new count.new result }
 {
     match text_of(text) {
-        Ok(text) => write(text, Listing::Errors, mode, passed, room, count),
+        Ok(text) => write(text, Listing::Errors, mode, passed, buffer, count),
         Err(refusal) => refuse(refusal, 0, count),
     }
 }
@@ -93,14 +93,14 @@ pub extern "C" fn rustc_lexer_literal_errors_unchecked(
     text: &[u8],
     mode: u32,
     passed: usize,
-    room: &mut [CUnit],
+    buffer: &mut [CUnit],
     count: &mut usize,
 ) -> u32
     requires utf8 { IsUtf8 text.now }
-    ensures { spec.Lists spec.wrong_units_of (spec.mode_of mode) text.now passed room.old room.new count.new result }
+    ensures { spec.Lists spec.wrong_units_of (spec.mode_of mode) text.now passed buffer.old buffer.new count.new result }
 {
     match utf8_text_of(text) {
-        Ok(text) => write(text, Listing::Errors, mode, passed, room, count),
+        Ok(text) => write(text, Listing::Errors, mode, passed, buffer, count),
         Err(refusal) => refuse(refusal, 0, count),
     }
 }
@@ -120,20 +120,20 @@ fn write(
     listing: Listing,
     mode: u32,
     passed: usize,
-    room: &mut [CUnit],
+    buffer: &mut [CUnit],
     count: &mut usize,
 ) -> u32
     requires text { IsText text.now }
     ensures status { IsStatus text.now (spec.mode_of mode ≢ None) 7 result }
     ensures listed { result ≡ 0 → IsSomeAnd (spec.mode_of mode)
-        (λ kind. spec.IsUnits (spec.listed listing kind text.now) passed room.old room.new count.new) }
+        (λ kind. spec.IsUnits (spec.listed listing kind text.now) passed buffer.old buffer.new count.new) }
     ensures bound { result ≡ 0 → IsSomeAnd (spec.mode_of mode)
         (λ kind. length (spec.listed listing kind text.now) ≤ max 1 (length text.now)) }
-    ensures refused { result ≢ 0 → (room.new ≡ room.old) × (count.new ≡ 0) }
+    ensures refused { result ≢ 0 → (buffer.new ≡ buffer.old) × (count.new ≡ 0) }
 {
     match mode_of(mode) {
         None => refuse(Refusal::BadMode, 0, count),
-        Some(mode) => done(fill(text, listing, mode, passed, room), count),
+        Some(mode) => done(fill(text, listing, mode, passed, buffer), count),
     }
 }
 
@@ -155,27 +155,27 @@ fn mode_of(number: u32) -> Option<Mode>
 }
 
 /// Writes what is listed of a literal, and answers how many there are.
-fn fill(text: &str, listing: Listing, mode: Mode, passed: usize, room: &mut [CUnit]) -> usize
-    ensures { spec.IsUnits (spec.listed listing mode text.now) passed room.old room.new result }
+fn fill(text: &str, listing: Listing, mode: Mode, passed: usize, buffer: &mut [CUnit]) -> usize
+    ensures { spec.IsUnits (spec.listed listing mode text.now) passed buffer.old buffer.new result }
 {
     match listing {
-        Listing::Units => fill_units(text, mode, passed, room),
-        Listing::Errors => fill_all(Faults::new(text, mode), passed, room),
+        Listing::Units => fill_units(text, mode, passed, buffer),
+        Listing::Errors => fill_all(Faults::new(text, mode), passed, buffer),
     }
 }
 
 /// Writes units in a mode, and answers their number.
-fn fill_units(text: &str, mode: Mode, passed: usize, room: &mut [CUnit]) -> usize
-    ensures { spec.IsUnits (spec.units_of mode text.now) passed room.old room.new result }
+fn fill_units(text: &str, mode: Mode, passed: usize, buffer: &mut [CUnit]) -> usize
+    ensures { spec.IsUnits (spec.units_of mode text.now) passed buffer.old buffer.new result }
 {
     match mode {
-        Mode::Char | Mode::Byte => fill_one(single_unit(text, mode), passed, room),
-        Mode::Str => fill_string(text, Mode::Str, passed, room),
-        Mode::ByteStr => fill_string(text, Mode::ByteStr, passed, room),
-        Mode::CStr => fill_string(text, Mode::CStr, passed, room),
-        Mode::RawStr => fill_string(text, Mode::RawStr, passed, room),
-        Mode::RawByteStr => fill_string(text, Mode::RawByteStr, passed, room),
-        Mode::RawCStr => fill_string(text, Mode::RawCStr, passed, room),
+        Mode::Char | Mode::Byte => fill_one(single_unit(text, mode), passed, buffer),
+        Mode::Str => fill_string(text, Mode::Str, passed, buffer),
+        Mode::ByteStr => fill_string(text, Mode::ByteStr, passed, buffer),
+        Mode::CStr => fill_string(text, Mode::CStr, passed, buffer),
+        Mode::RawStr => fill_string(text, Mode::RawStr, passed, buffer),
+        Mode::RawByteStr => fill_string(text, Mode::RawByteStr, passed, buffer),
+        Mode::RawCStr => fill_string(text, Mode::RawCStr, passed, buffer),
     }
 }
 
@@ -183,25 +183,25 @@ fn fill_units(text: &str, mode: Mode, passed: usize, room: &mut [CUnit]) -> usiz
 ///
 /// It is inlined into each arm of its caller, so that the mode is known there.
 #[inline(always)]
-fn fill_string(text: &str, mode: Mode, passed: usize, room: &mut [CUnit]) -> usize
+fn fill_string(text: &str, mode: Mode, passed: usize, buffer: &mut [CUnit]) -> usize
     requires double { false ≡ errors.is_single mode }
-    ensures { spec.IsUnits (spec.units_of mode text.now) passed room.old room.new result }
+    ensures { spec.IsUnits (spec.units_of mode text.now) passed buffer.old buffer.new result }
 {
     let elements = elements_of(text, mode);
-    fill_all(Meanings { elements, mode }, passed, room)
+    fill_all(Meanings { elements, mode }, passed, buffer)
 }
 
 /// Writes the one unit, if it is not passed over, and there is room.
-fn fill_one(unit: CUnit, passed: usize, room: &mut [CUnit]) -> usize
-    ensures { spec.IsUnits (unit ∷ []) passed room.old room.new result }
+fn fill_one(unit: CUnit, passed: usize, buffer: &mut [CUnit]) -> usize
+    ensures { spec.IsUnits (unit ∷ []) passed buffer.old buffer.new result }
 {
     if passed > 0 {
         return 0;
     }
-    if room.is_empty() {
+    if buffer.is_empty() {
         return 0;
     }
-    room[0] = unit;
+    buffer[0] = unit;
     1
 }
 
@@ -268,8 +268,8 @@ impl<'a> Units for Faults<'a> {
 
 /// Writes units, past the first ones.
 #[inline(always)]
-fn fill_all<U: Units>(mut units: U, passed: usize, room: &mut [CUnit]) -> usize
-    ensures { spec.IsUnits (U.units units) passed room.old room.new result }
+fn fill_all<U: Units>(mut units: U, passed: usize, buffer: &mut [CUnit]) -> usize
+    ensures { spec.IsUnits (U.units units) passed buffer.old buffer.new result }
 {
     let mut over = 0;
     'passed: while over < passed {
@@ -279,11 +279,11 @@ fn fill_all<U: Units>(mut units: U, passed: usize, room: &mut [CUnit]) -> usize
         over += 1;
     }
     let mut count = 0;
-    'room: while count < room.len() {
+    'buffer: while count < buffer.len() {
         let Some(unit) = units.next_unit() else {
             break;
         };
-        room[count] = unit;
+        buffer[count] = unit;
         count += 1;
     }
     count

@@ -8,33 +8,33 @@ ghost use Rattle.marks.specs.declared.style.Style.{Style};
 ghost use Rattle.marks.specs.Marked.{marked_tokens};
 ghost use Rattle.rustc_lexer_c.specs.Marks as spec;
 
+use crate::buffer::Buffer;
 use crate::relex::edition_of;
-use crate::room::Room;
 use crate::status::{OK, Refusal, text_of};
 use marks::{Style, write_first_tokens};
 use rustc_lexer::Edition;
 use std::fmt;
 
-/// Writes the first `count` tokens of a text in an edition, each between the marks of a style, at the front of the room,
-/// or all where it has fewer, and the number of bytes into `written`.
+/// Writes the first `count` tokens of a text in an edition, each between the marks of a style, at the front of the
+/// buffer, or all where it has fewer, and the number of bytes into `written`.
 ///
-/// Where the room is too small, `written` is 0, and what the room has is not promised.
+/// Where the buffer is too small, `written` is 0, and what the buffer has is not promised.
 #[unsafe(no_mangle)]
 pub extern "C" fn rustc_lexer_marks(
     text: &[u8],
     style: u32,
     edition: u32,
     count: usize,
-    room: &mut [u8],
+    buffer: &mut [u8],
     written: &mut usize,
 ) -> u32
     ensures status { spec.IsMarksStatus text.now style edition result }
     ensures marks { result ≡ 0 → (kind : Style) → spec.style_of style ≡ Some kind
         → (year : Edition) → edition_of_year edition ≡ Some year
         → spec.IsFront (marked_tokens kind text.now (take count (tokens_of (part year) text.now)))
-        room.old room.new written.new }
+        buffer.old buffer.new written.new }
     ensures refused { result ≢ 0 → written.new ≡ 0 }
-    ensures same { result ≢ 0 → result ≢ 9 → room.new ≡ room.old }
+    ensures same { result ≢ 0 → result ≢ 9 → buffer.new ≡ buffer.old }
 {
     *written = 0;
     let text = match text_of(text) {
@@ -47,9 +47,9 @@ pub extern "C" fn rustc_lexer_marks(
     let Some(style) = style_of(style) else {
         return Refusal::BadStyle.number();
     };
-    let mut output = Room::new(room);
+    let mut output = Buffer::new(buffer);
     let Ok(()) = fill(style, edition, count, text, &mut output) else {
-        return Refusal::SmallRoom.number();
+        return Refusal::SmallBuffer.number();
     };
     *written = output.len;
     OK
@@ -67,13 +67,13 @@ fn style_of(number: u32) -> Option<Style>
     }
 }
 
-/// Writes marked tokens into room of which nothing is written.
+/// Writes marked tokens into a buffer of which nothing is written.
 fn fill(
     style: Style,
     edition: Edition,
     count: usize,
     text: &str,
-    output: &mut Room<'_>,
+    output: &mut Buffer<'_>,
 ) -> fmt::Result
     requires fits { Fits text.now }
     requires none { output.old.len ≡ 0 }

@@ -52,7 +52,7 @@ impl Measured for CToken {
     }
 }
 
-/// Writes the tokens of the present text that an edit asks for into the room, as many as there is room for, and their
+/// Writes the tokens of the present text that an edit asks for into the buffer, as many as there is room for, and their
 /// number into `count`. They stand between the old tokens that stay at the front and those that stay at the back.
 ///
 /// `old` has the tokens of the text before the edit, of which only the lengths are read. Any others may be passed too,
@@ -64,14 +64,14 @@ pub extern "C" fn rustc_lexer_relex(
     edit: &CEdit,
     edition: u32,
     relexing: &mut CRelexing,
-    room: &mut [CToken],
+    buffer: &mut [CToken],
     count: &mut usize,
 ) -> u32
     ensures { spec.Relexes text.now old.now edit.now edition relexing.old relexing.new
-        room.old room.new count.new result }
+        buffer.old buffer.new count.new result }
 {
     match text_of(text) {
-        Ok(text) => relex(text, old, edit, edition, relexing, room, count),
+        Ok(text) => relex(text, old, edit, edition, relexing, buffer, count),
         Err(refusal) => refuse(refusal, 0, count),
     }
 }
@@ -85,15 +85,15 @@ pub extern "C" fn rustc_lexer_relex_unchecked(
     edit: &CEdit,
     edition: u32,
     relexing: &mut CRelexing,
-    room: &mut [CToken],
+    buffer: &mut [CToken],
     count: &mut usize,
 ) -> u32
     requires utf8 { IsUtf8 text.now }
     ensures { spec.Relexes text.now old.now edit.now edition relexing.old relexing.new
-        room.old room.new count.new result }
+        buffer.old buffer.new count.new result }
 {
     match utf8_text_of(text) {
-        Ok(text) => relex(text, old, edit, edition, relexing, room, count),
+        Ok(text) => relex(text, old, edit, edition, relexing, buffer, count),
         Err(refusal) => refuse(refusal, 0, count),
     }
 }
@@ -105,16 +105,16 @@ fn relex(
     edit: &CEdit,
     edition: u32,
     relexing: &mut CRelexing,
-    room: &mut [CToken],
+    buffer: &mut [CToken],
     count: &mut usize,
 ) -> u32
     requires fits { Fits text.now }
     ensures status { spec.IsRelexStatus text.now edit.now edition (length old.now) relexing.old result }
     ensures batch { result ≡ 0 → (year : Edition) → edition_of_year edition ≡ Some year
         → spec.IsRelexBatch year text.now old.now edit.now relexing.old
-        room.old relexing.new room.new count.new }
+        buffer.old relexing.new buffer.new count.new }
     ensures refused { result ≢ 0
-        → (relexing.new ≡ relexing.old) × (room.new ≡ room.old) × (count.new ≡ 0) }
+        → (relexing.new ≡ relexing.old) × (buffer.new ≡ buffer.old) × (count.new ≡ 0) }
 {
     let Some(edition) = edition_of(edition) else {
         return refuse(Refusal::BadEdition, 0, count);
@@ -126,7 +126,7 @@ fn relex(
     let Some(mut at) = standing(text, old, change, relexing) else {
         return refuse(Refusal::BadEdit, 0, count);
     };
-    *count = at.fill(&mut Steps::new_in(edition), text, old, change, room);
+    *count = at.fill(&mut Steps::new_in(edition), text, old, change, buffer);
     *relexing = relexing_numbers(&at, text, old.len());
     OK
 }

@@ -26,8 +26,8 @@ pub(crate) enum Refusal {
     BadMode = 7,
     /// No style has the number.
     BadStyle = 8,
-    /// There is more to write than room. What the room has then is not promised.
-    SmallRoom = 9,
+    /// There is more to write than room. What the buffer has then is not promised.
+    SmallBuffer = 9,
 }
 
 impl Refusal {

@@ -2,7 +2,7 @@
 mod edit;
 mod edit_list;
 mod front;
-mod landmarks;
+mod checkpoints;
 mod lex;
 mod lexed_text;
 mod pieces;

@@ -24,8 +24,8 @@ abbrev pub tokens_of : Mode → List ℕ → List Token
 tokens_of (part edition) text = tokens_by (first_token_in edition) text
 tokens_of (document edition) text = tokens_of_document edition text
 
--- the room holds the first of the tokens at its front, each as it is written: as many as there are, or as there is room
--- for; the rest of the room stays
-pub record IsFilled {X : Type 0} (written : Token → X) (left : List Token) (room filled : List X) (count : ℕ) : Type 0 where
-  pub as_many : count ≡ min (length room) (length left)
-  pub tokens : filled ≡ map written (take count left) ++ drop count room
+-- the buffer holds the first of the tokens at its front, each as it is written: as many as there are, or as there is
+-- room for; the rest of the buffer stays
+pub record IsFilled {X : Type 0} (written : Token → X) (left : List Token) (buffer filled : List X) (count : ℕ) : Type 0 where
+  pub as_many : count ≡ min (length buffer) (length left)
+  pub tokens : filled ≡ map written (take count left) ++ drop count buffer

@@ -15,26 +15,26 @@ use std::iter::Iterator;
 const BLOCK: usize = 64;
 
 impl<'a> Tokens<'a> {
-    /// Writes the next tokens into the room, as many as are left, or as there is room for. Answers their number, which
-    /// is less than the length of the room only where no token is left.
+    /// Writes the next tokens into the buffer, as many as are left, or as there is room for. Answers their number,
+    /// which is less than the length of the buffer only where no token is left.
     ///
     /// They are the tokens that so many calls of `next` give, and take less time: most of them are found 64 bytes at a
     /// time. Where a frontmatter may still stand, or fewer than 64 bytes are left, they come one by one.
     ///
     /// ```ignore
-    /// let mut room = [Token { kind: TokenKind::Eof, len: 0 }; 256];
+    /// let mut buffer = [Token { kind: TokenKind::Eof, len: 0 }; 256];
     /// let mut tokens = tokenize(text, FrontmatterAllowed::No);
     /// while !tokens.as_str().is_empty() {
-    ///     let count = tokens.fill(&mut room);
-    ///     for token in &room[..count] {
+    ///     let count = tokens.fill(&mut buffer);
+    ///     for token in &buffer[..count] {
     ///         spaces += matches!(token.kind, TokenKind::Whitespace) as usize;
     ///     }
     /// }
     /// ```
-    pub fn fill<R: Record>(&mut self, room: &mut [R]) -> usize
-        ensures count { result ≡ min (length room.old) (length (tokens_left self.old)) }
-        ensures tokens { room.new
-            ≡ map R.written (take result (tokens_left self.old)) ++ drop result room.old }
+    pub fn fill<R: Record>(&mut self, buffer: &mut [R]) -> usize
+        ensures count { result ≡ min (length buffer.old) (length (tokens_left self.old)) }
+        ensures tokens { buffer.new
+            ≡ map R.written (take result (tokens_left self.old)) ++ drop result buffer.old }
         ensures state { self.new ≡ state_past result self.old }
         ensures left { tokens_left self.new ≡ drop result (tokens_left self.old) }
         ensures rest { self.new.rest ≡ drop (bound (tokens_left self.old) result) self.old.rest }
@@ -45,16 +45,16 @@ impl<'a> Tokens<'a> {
               rest = drop (bound (tokens_left self.old) result) self.old.rest;
               mode = self.old.mode;
             } }
-        ensures progress { 0 < length room.old → 0 < length self.old.rest
+        ensures progress { 0 < length buffer.old → 0 < length self.old.rest
             → length self.new.rest < length self.old.rest }
     {
         let rest = self.as_str();
         if self.is_part() && rest.len() >= BLOCK {
-            let (count, bytes) = fill_part(rest, self.edition, room);
+            let (count, bytes) = fill_part(rest, self.edition, buffer);
             self.rest = &rest[bytes..];
             return count;
         }
-        self.fill_singly(room)
+        self.fill_singly(buffer)
     }
 
     /// Whether no frontmatter may stand in what is left.
@@ -65,38 +65,38 @@ impl<'a> Tokens<'a> {
         matches!(self.frontmatter_allowed, FrontmatterAllowed::No)
     }
 
-    /// Writes the next tokens into the room, as `fill` does, one after another.
-    fn fill_singly<R: Record>(&mut self, room: &mut [R]) -> usize
-        ensures filled { IsFilled R.written (tokens_left self.old) room.old room.new result }
+    /// Writes the next tokens into the buffer, as `fill` does, one after another.
+    fn fill_singly<R: Record>(&mut self, buffer: &mut [R]) -> usize
+        ensures filled { IsFilled R.written (tokens_left self.old) buffer.old buffer.new result }
         ensures state { self.new ≡ state_past result self.old }
         ensures left { tokens_left self.new ≡ drop result (tokens_left self.old) }
         ensures rest { self.new.rest ≡ drop (bound (tokens_left self.old) result) self.old.rest }
     {
         let mut count = 0;
-        'places: while count < room.len() {
+        'places: while count < buffer.len() {
             let Some(token) = self.next() else {
                 break;
             };
-            room[count] = R::of(token);
+            buffer[count] = R::of(token);
             count += 1;
         }
         count
     }
 }
 
-/// Writes the first tokens of a text into the room, in an edition.
+/// Writes the first tokens of a text into the buffer, in an edition.
 ///
 /// The newest edition has a body of its own, in which no token asks for the edition.
 #[inline(always)]
-fn fill_part<R: Record>(text: &str, edition: Edition, room: &mut [R]) -> (usize, usize)
+fn fill_part<R: Record>(text: &str, edition: Edition, buffer: &mut [R]) -> (usize, usize)
     requires fits { Fits text.now }
     ensures filled { IsFilledTo R.written (length text.now) (tokens_of (part edition) text.now)
-        room.old room.new result.0 }
+        buffer.old buffer.new result.0 }
     ensures bytes { result.1 ≡ bound (tokens_of (part edition) text.now) result.0 }
     ensures boundary { IsCharBoundary text.now result.1 }
 {
     match edition {
-        Edition::E2024 => bulk::fill(text, text.len(), Edition::E2024, room),
-        _ => bulk::fill(text, text.len(), edition, room),
+        Edition::E2024 => bulk::fill(text, text.len(), Edition::E2024, buffer),
+        _ => bulk::fill(text, text.len(), edition, buffer),
     }
 }

@@ -18,7 +18,8 @@ use crate::token::Token;
 /// after it. A step answers the first token of what it is handed, the same one each time. In Rattle each implementation
 /// proves this; in plain Rust it has to keep it, or the tokens of an edited text are wrong.
 ///
-/// Contracts see three things of a stepper: its grammar, a number that names the grammar, and how many steps were taken.
+/// Contracts see three things of a stepper: its grammar, a number that names the grammar, and how many steps were
+/// taken.
 pub trait Stepper: Drop {
     /// The first token of each text.
     ghost grammar: { Self → List ℕ → Token };
@@ -41,15 +42,15 @@ pub trait Stepper: Drop {
         ensures grammar { grammar self.new ≡ grammar self.old }
         ensures number { number self.new ≡ number self.old };
 
-    /// The first tokens of the text, written into the room: those that begin before `end`, or as many as it has room for.
-    /// Answers their number, and how many bytes they have. Each is a step.
+    /// The first tokens of the text, written into the buffer: those that begin before `end`, or as many as it has room
+    /// for. Answers their number, and how many bytes they have. Each is a step.
     ///
     /// One step after another gives them here. A stepper that finds many tokens at once has a body of its own.
-    fn fill<R: Record>(&mut self, text: &str, end: usize, room: &mut [R]) -> (usize, usize)
+    fn fill<R: Record>(&mut self, text: &str, end: usize, buffer: &mut [R]) -> (usize, usize)
         requires fits { Fits text.now }
         requires inside { end ≤ length text.now }
         ensures filled { IsFilledTo R.written end (tokens_by (grammar self.old) text.now)
-            room.old room.new result.0 }
+            buffer.old buffer.new result.0 }
         ensures bytes { result.1 ≡ bound (tokens_by (grammar self.old) text.now) result.0 }
         ensures count { count self.new ≡ count self.old + result.0 }
         ensures grammar { grammar self.new ≡ grammar self.old }
@@ -57,9 +58,9 @@ pub trait Stepper: Drop {
     {
         let mut written = 0;
         let mut at = 0;
-        'places: while written < room.len() && at < end {
+        'places: while written < buffer.len() && at < end {
             let token = self.step(&text[at..]);
-            room[written] = R::of(token);
+            buffer[written] = R::of(token);
             written += 1;
             at += token.len as usize;
         }
@@ -124,8 +125,8 @@ impl Stepper for Steps {
         token_in(rest, self.edition)
     }
 
-    fn fill<R: Record>(&mut self, text: &str, end: usize, room: &mut [R]) -> (usize, usize) {
-        let (count, bytes) = bulk::fill(text, end, self.edition, room);
+    fn fill<R: Record>(&mut self, text: &str, end: usize, buffer: &mut [R]) -> (usize, usize) {
+        let (count, bytes) = bulk::fill(text, end, self.edition, buffer);
         self.tally.tick_by(count);
         (count, bytes)
     }

@@ -7,13 +7,13 @@ ghost use Rattle.rustc_lexer.specs.{Token};
 ghost use Rattle.rustc_lexer.specs.Classes.{Fits, IsText};
 ghost use Rattle.rustc_lexer.specs.Tokens.{tokens_by};
 ghost use Rattle.rustc_lexer.specs.Edits.{IsEdit, IsInside, apply, relexed_of, IsBound, IsChange, IsMadeOf, MayGoOn, Stands, known};
-ghost use Rattle.rustc_lexer.specs.means.Landmarks.{AreBounds, IsMovable, IsReplaced, end_of};
+ghost use Rattle.rustc_lexer.specs.means.Checkpoints.{AreBounds, IsMovable, IsReplaced, end_of};
 ghost use Rattle.rustc_lexer.specs.means.Relexing.{IsLexed, IsRenewed};
 
 use crate::entry::stepper::Stepper;
+use crate::relex::checkpoints::Checkpoints;
 use crate::relex::front::Bound;
-use crate::relex::landmarks::Landmarks;
-use crate::relex::lex::new_room;
+use crate::relex::lex::new_buffer;
 use crate::relex::relexing::{Change, LONG, Relexed, Relexing};
 use crate::relex::replace::replace;
 use crate::token::Token;
@@ -120,10 +120,10 @@ fn relex_inserted<S: Stepper>(
         → OnOk result (all
         ≡ tokens.new.items ++ drop (known at.new) (tokens_by (S.grammar stepper.old) text.now))) }
 {
-    let mut room = new_room();
+    let mut buffer = new_buffer();
     'inserted: while at.at < change.new_stop {
-        let count = at.fill_inserted(stepper, text, old, change, &mut room);
-        tokens.extend_from_slice(&room[..count])?;
+        let count = at.fill_inserted(stepper, text, old, change, &mut buffer);
+        tokens.extend_from_slice(&buffer[..count])?;
     }
     Ok(())
 }
@@ -168,20 +168,20 @@ fn renew<S: Stepper>(
 }
 
 /// Makes text and tokens those of the edited text. Where memory is refused both stay as they are. The search for
-/// what stays begins at the nearest of the landmarks.
+/// what stays begins at the nearest of the checkpoints.
 pub(crate) fn lex_edit<S: Stepper>(
     alloc: Global,
     stepper: &mut S,
     text: &mut String,
     tokens: &mut Vec<Token>,
-    landmarks: &mut Landmarks,
+    checkpoints: &mut Checkpoints,
     edit: Edit<'_>,
 ) -> Result<Relexed, AllocError>
     requires text { IsText (string_bytes text.old) }
     requires insert { IsUtf8 edit.insert.now }
     requires from_scratch { tokens.old.items
         ≡ tokens_by (S.grammar stepper.old) (string_bytes text.old) }
-    requires landmarks { AreBounds tokens.old.items landmarks.old }
+    requires checkpoints { AreBounds tokens.old.items checkpoints.old }
     requires edit { IsEdit (string_bytes text.old) edit.start edit.stop edit.insert.now }
     ensures grammar { S.grammar stepper.new ≡ S.grammar stepper.old }
     ensures number { S.number stepper.new ≡ S.number stepper.old }
@@ -193,7 +193,7 @@ pub(crate) fn lex_edit<S: Stepper>(
     ensures from_scratch { tokens.new.items
         ≡ tokens_by (S.grammar stepper.old) (string_bytes text.new) }
     ensures same_tokens { OnErr result (tokens.new.items ≡ tokens.old.items) }
-    ensures landmarks { AreBounds tokens.new.items landmarks.new }
+    ensures checkpoints { AreBounds tokens.new.items checkpoints.new }
     ensures relexed { IfOk result
         (λ r. r
         ≡ relexed_of (S.grammar stepper.old) (string_bytes text.old)
@@ -222,11 +222,11 @@ pub(crate) fn lex_edit<S: Stepper>(
         new_stop: start + insert.len(),
     };
     let count = tokens.as_slice().len();
-    let near = landmarks.nearest(start);
+    let near = checkpoints.nearest(start);
     let made = text.as_str();
     match renew(alloc, stepper, tokens, near, made, change) {
         Ok(at) => {
-            *landmarks = past_edit(landmarks, at, made.len());
+            *checkpoints = past_edit(checkpoints, at, made.len());
             Ok(at.counts(count))
         }
         Err(refused) => {
@@ -236,18 +236,18 @@ pub(crate) fn lex_edit<S: Stepper>(
     }
 }
 
-/// Where the landmarks are after an edit that was relexed so far, in a text of `len` bytes; its kept front is one.
-fn past_edit(landmarks: &Landmarks, at: Relexing, len: usize) -> Landmarks
+/// Where the checkpoints are after an edit that was relexed so far, in a text of `len` bytes; its kept front is one.
+fn past_edit(checkpoints: &Checkpoints, at: Relexing, len: usize) -> Checkpoints
     requires small { known at < 2 ^ 64 }
-    requires movable { All (IsMovable at.back (end_of at)) landmarks.now.bounds }
+    requires movable { All (IsMovable at.back (end_of at)) checkpoints.now.bounds }
     ensures { (old new : List Token) → IsReplaced old new at.front at.back (end_of at)
-        → AreBounds old landmarks.now → AreBounds new result }
+        → AreBounds old checkpoints.now → AreBounds new result }
 {
     let now = Bound {
         number: at.front.number + at.lexed,
         place: at.at,
     };
-    let mut landmarks = landmarks.after(at.front, at.back, now);
-    landmarks.remember(at.front, len);
-    landmarks
+    let mut checkpoints = checkpoints.after(at.front, at.back, now);
+    checkpoints.remember(at.front, len);
+    checkpoints
 }

@@ -2,19 +2,19 @@
 ghost use Rattle.std.specs.Prelude.{◌≡◌, ◌+◌, IfOk, length};
 ghost use Rattle.rustc_lexer.specs.Classes.{Fits};
 ghost use Rattle.rustc_lexer.specs.Tokens.{tokens_by};
-ghost use Rattle.rustc_lexer.specs.means.Landmarks.{AreBounds};
+ghost use Rattle.rustc_lexer.specs.means.Checkpoints.{AreBounds};
 
 use crate::entry::stepper::Stepper;
+use crate::relex::checkpoints::Checkpoints;
 use crate::relex::front::Bound;
-use crate::relex::landmarks::Landmarks;
 use crate::token::{Token, TokenKind};
 use std::alloc::{AllocError, Global};
 
-/// How many tokens are lexed at once, and stand between two landmarks.
+/// How many tokens are lexed at once, and stand between two checkpoints.
 const BLOCK: usize = 128;
 
-/// A room in which no token was written yet.
-pub(crate) fn new_room() -> [Token; BLOCK]
+/// A buffer in which no token was written yet.
+pub(crate) fn new_buffer() -> [Token; BLOCK]
     ensures { length result ≡ 128 }
 {
     [Token {
@@ -23,30 +23,30 @@ pub(crate) fn new_room() -> [Token; BLOCK]
     }; BLOCK]
 }
 
-/// All tokens of a text, and landmarks among them.
+/// All tokens of a text, and checkpoints among them.
 pub(crate) fn lex_all<S: Stepper>(
     alloc: Global,
     stepper: &mut S,
     text: &str,
-) -> Result<(Vec<Token>, Landmarks), AllocError>
+) -> Result<(Vec<Token>, Checkpoints), AllocError>
     requires fits { Fits text.now }
     ensures tokens { IfOk result (λ r. r.0.items ≡ tokens_by (S.grammar stepper.old) text.now) }
-    ensures landmarks { IfOk result (λ r. AreBounds r.0.items r.1) }
+    ensures checkpoints { IfOk result (λ r. AreBounds r.0.items r.1) }
     ensures count { IfOk result
         (λ r. S.count stepper.new ≡ S.count stepper.old + length r.0.items) }
     ensures grammar { S.grammar stepper.new ≡ S.grammar stepper.old }
     ensures number { S.number stepper.new ≡ S.number stepper.old }
 {
     let mut tokens = Vec::new(alloc);
-    let mut landmarks = Landmarks::new();
-    let mut room = new_room();
+    let mut checkpoints = Checkpoints::new();
+    let mut buffer = new_buffer();
     let mut place = 0;
     'left: while place < text.len() {
         let number = tokens.len();
-        landmarks.remember(Bound { number, place }, text.len());
-        let (count, bytes) = stepper.fill(&text[place..], text.len() - place, &mut room);
-        tokens.extend_from_slice(&room[..count])?;
+        checkpoints.remember(Bound { number, place }, text.len());
+        let (count, bytes) = stepper.fill(&text[place..], text.len() - place, &mut buffer);
+        tokens.extend_from_slice(&buffer[..count])?;
         place += bytes;
     }
-    Ok((tokens, landmarks))
+    Ok((tokens, checkpoints))
 }

@@ -9,8 +9,8 @@ ghost use Rattle.rustc_lexer.specs.Answers.{first_in};
 
 use crate::edition::Edition;
 use crate::entry::stepper::{Stepper, Steps};
+use crate::relex::checkpoints::Checkpoints;
 use crate::relex::edit::{Edit, lex_edit};
-use crate::relex::landmarks::Landmarks;
 use crate::relex::lex::lex_all;
 use crate::relex::relexing::Relexed;
 use crate::token::Token;
@@ -27,7 +27,7 @@ pub struct LexedText<S: Stepper> {
     tokens: Vec<Token>,
     stepper: S,
     /// Bounds of the tokens, where the search of an edit may begin.
-    landmarks: Landmarks,
+    checkpoints: Checkpoints,
 }
 
 impl<S: Stepper> Model for LexedText<S> {
@@ -35,7 +35,7 @@ impl<S: Stepper> Model for LexedText<S> {
     ghost use Rattle.std.specs.String.{string_bytes};
     ghost use Rattle.rustc_lexer.specs.Edits.{Held};
     ghost use Rattle.rustc_lexer.specs.Tokens.{tokens_by};
-    ghost use Rattle.rustc_lexer.specs.means.Landmarks.{AreBounds};
+    ghost use Rattle.rustc_lexer.specs.means.Checkpoints.{AreBounds};
     ghost use Rattle.rustc_lexer.specs.Classes.{IsText};
 
     ghost Value = { Held S };
@@ -48,7 +48,7 @@ impl<S: Stepper> Model for LexedText<S> {
 
     ghost invariant = { λ a. IsText (string_bytes a.text)
         × (a.tokens.items ≡ tokens_by (S.grammar a.stepper) (string_bytes a.text))
-        × AreBounds a.tokens.items a.landmarks };
+        × AreBounds a.tokens.items a.checkpoints };
 }
 
 impl<S: Stepper> LexedText<S> {
@@ -64,13 +64,13 @@ impl<S: Stepper> LexedText<S> {
     {
         let mut stepper = stepper;
         let held = String::from_str(alloc, text)?;
-        let (tokens, landmarks) = lex_all(alloc, &mut stepper, text)?;
+        let (tokens, checkpoints) = lex_all(alloc, &mut stepper, text)?;
         Ok(LexedText {
             alloc,
             text: held,
             tokens,
             stepper,
-            landmarks,
+            checkpoints,
         })
     }
 
@@ -97,13 +97,13 @@ impl<S: Stepper> LexedText<S> {
         &self.stepper
     }
 
-    /// Where the bound with the number is, in bytes from the start of the text. The search begins at the last bound up to
-    /// it that is remembered.
+    /// Where the bound with the number is, in bytes from the start of the text. The search begins at the last bound up
+    /// to it that is remembered.
     pub(crate) fn place_of(&self, number: usize) -> u32
         requires inside { number ≤ length self.now.tokens }
         ensures { result ≡ bound self.now.tokens number }
     {
-        let near = self.landmarks.before_number(number);
+        let near = self.checkpoints.before_number(number);
         let start = near.place as u32;
         end_from(start, &self.tokens.as_slice()[near.number..number])
     }
@@ -162,7 +162,7 @@ impl<S: Stepper> LexedText<S> {
             &mut self.stepper,
             &mut self.text,
             &mut self.tokens,
-            &mut self.landmarks,
+            &mut self.checkpoints,
             Edit {
                 start,
                 stop,

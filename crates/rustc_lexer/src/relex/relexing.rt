@@ -182,18 +182,18 @@ impl Relexing {
         Some(token)
     }
 
-    /// Writes the next tokens into the room, as many as there is room for, or up to where the old tokens are met. Answers
-    /// their number, which is less than the length of the room only where `is_over` is true.
+    /// Writes the next tokens into the buffer, as many as there is room for, or up to where the old tokens are met.
+    /// Answers their number, which is less than the length of the buffer only where `is_over` is true.
     ///
-    /// They are the tokens that so many calls of `next` give. A long part that the change put in is lexed many tokens at
-    /// once.
+    /// They are the tokens that so many calls of `next` give. A long part that the change put in is lexed many tokens
+    /// at once.
     pub fn fill<S: Stepper, T: Measured, R: Record>(
         &mut self,
         stepper: &mut S,
         text: &str,
         old: &[T],
         change: Change,
-        room: &mut [R],
+        buffer: &mut [R],
     ) -> usize
         requires fits { Fits text.now }
         requires change { spec.IsChange text.now change }
@@ -204,30 +204,30 @@ impl Relexing {
         ensures count { S.count stepper.new ≡ S.count stepper.old + result }
         ensures steps { spec.TakesSteps (S.grammar stepper.old) text.now change.new_stop
             self.old result self.new }
-        ensures tokens { room.new
+        ensures tokens { buffer.new
             ≡ map R.written (take result (tokens_by (S.grammar stepper.old) (drop self.old.at text.now)))
-            ++ drop result room.old }
-        ensures room { result ≤ length room.old }
+            ++ drop result buffer.old }
+        ensures buffer { result ≤ length buffer.old }
         ensures begins { 0 < result → spec.is_over text.now self.old ≡ false }
-        ensures over { result < length room.old → spec.is_over text.now self.new ≡ true }
+        ensures over { result < length buffer.old → spec.is_over text.now self.new ≡ true }
         ensures stands { spec.GoesOn (S.grammar stepper.old) (map T.bytes old.now) text.now change
             self.old self.new }
     {
         let mut count = 0;
-        if self.at + LONG <= change.new_stop && !self.is_over(text) && !room.is_empty() {
-            count = self.fill_inserted(stepper, text, old, change, room);
+        if self.at + LONG <= change.new_stop && !self.is_over(text) && !buffer.is_empty() {
+            count = self.fill_inserted(stepper, text, old, change, buffer);
         }
-        'places: while count < room.len() {
+        'places: while count < buffer.len() {
             let Some(token) = self.next(stepper, text, old, change) else {
                 break;
             };
-            room[count] = R::of(token);
+            buffer[count] = R::of(token);
             count += 1;
         }
         count
     }
 
-    /// Writes the next tokens into the room: those that begin before the end of what was put in, or as many as it has
+    /// Writes the next tokens into the buffer: those that begin before the end of what was put in, or as many as it has
     /// room for. Answers their number. None of them can meet the old tokens before the last one ends.
     pub(crate) fn fill_inserted<S: Stepper, T: Measured, R: Record>(
         &mut self,
@@ -235,28 +235,28 @@ impl Relexing {
         text: &str,
         old: &[T],
         change: Change,
-        room: &mut [R],
+        buffer: &mut [R],
     ) -> usize
         requires fits { Fits text.now }
         requires change { spec.IsChange text.now change }
         requires may_go_on { spec.MayGoOn text.now (length old.now) self.old }
         requires before { self.old.at < change.new_stop }
-        requires places { 0 < length room.old }
+        requires places { 0 < length buffer.old }
         ensures may_go_on { spec.MayGoOn text.now (length old.now) self.new }
         ensures grammar { S.grammar stepper.new ≡ S.grammar stepper.old }
         ensures number { S.number stepper.new ≡ S.number stepper.old }
         ensures count { S.count stepper.new ≡ S.count stepper.old + result }
         ensures progress { self.old.at < self.new.at }
-        ensures room { (result ≤ length room.old) × (length room.new ≡ length room.old) }
+        ensures buffer { (result ≤ length buffer.old) × (length buffer.new ≡ length buffer.old) }
         ensures steps { spec.TakesSteps (S.grammar stepper.old) text.now change.new_stop
             self.old result self.new }
-        ensures tokens { room.new
+        ensures tokens { buffer.new
             ≡ map R.written (take result (tokens_by (S.grammar stepper.old) (drop self.old.at text.now)))
-            ++ drop result room.old }
+            ++ drop result buffer.old }
         ensures stands { spec.GoesOn (S.grammar stepper.old) (map T.bytes old.now) text.now change
             self.old self.new }
     {
-        let (count, bytes) = stepper.fill(&text[self.at..], change.new_stop - self.at, room);
+        let (count, bytes) = stepper.fill(&text[self.at..], change.new_stop - self.at, buffer);
         let at = self.at + bytes;
         let to = follow(old, self.back, at, change.damage());
         *self = Relexing {

@@ -3,7 +3,7 @@ use crate::support::{String, Vec};
 
 use crate::erased::entry::stepper::Stepper;
 use crate::erased::relex::front::Bound;
-use crate::erased::relex::landmarks::Landmarks;
+use crate::erased::relex::checkpoints::Checkpoints;
 use crate::erased::relex::lex::new_room;
 use crate::erased::relex::relexing::{Change, LONG, Relexed, Relexing};
 use crate::erased::relex::replace::replace;
@@ -85,13 +85,13 @@ fn renew<S: Stepper>(
 }
 
 /// Makes text and tokens those of the edited text. Where memory is refused both stay as they are. The search for
-/// what stays begins at the nearest of the landmarks.
+/// what stays begins at the nearest of the checkpoints.
 pub(crate) fn lex_edit<S: Stepper>(
     alloc: Global,
     stepper: &mut S,
     text: &mut String,
     tokens: &mut Vec<Token>,
-    landmarks: &mut Landmarks,
+    checkpoints: &mut Checkpoints,
     edit: Edit<'_>,
 ) -> Result<Relexed, AllocError> {
     let Edit {
@@ -108,11 +108,11 @@ pub(crate) fn lex_edit<S: Stepper>(
         new_stop: start + insert.len(),
     };
     let count = tokens.as_slice().len();
-    let near = landmarks.nearest(start);
+    let near = checkpoints.nearest(start);
     let made = text.as_str();
     match renew(alloc, stepper, tokens, near, made, change) {
         Ok(at) => {
-            *landmarks = past_edit(landmarks, at, made.len());
+            *checkpoints = past_edit(checkpoints, at, made.len());
             Ok(at.counts(count))
         }
         Err(refused) => {
@@ -122,13 +122,13 @@ pub(crate) fn lex_edit<S: Stepper>(
     }
 }
 
-/// Where the landmarks are after an edit that was relexed so far, in a text of `len` bytes; its kept front is one.
-fn past_edit(landmarks: &Landmarks, at: Relexing, len: usize) -> Landmarks {
+/// Where the checkpoints are after an edit that was relexed so far, in a text of `len` bytes; its kept front is one.
+fn past_edit(checkpoints: &Checkpoints, at: Relexing, len: usize) -> Checkpoints {
     let now = Bound {
         number: at.front.number + at.lexed,
         place: at.at,
     };
-    let mut landmarks = landmarks.after(at.front, at.back, now);
-    landmarks.remember(at.front, len);
-    landmarks
+    let mut checkpoints = checkpoints.after(at.front, at.back, now);
+    checkpoints.remember(at.front, len);
+    checkpoints
 }

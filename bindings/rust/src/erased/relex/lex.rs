@@ -3,11 +3,11 @@ use crate::support::Vec;
 
 use crate::erased::entry::stepper::Stepper;
 use crate::erased::relex::front::Bound;
-use crate::erased::relex::landmarks::Landmarks;
+use crate::erased::relex::checkpoints::Checkpoints;
 use crate::erased::token::{Token, TokenKind};
 use crate::support::{AllocError, Global};
 
-/// How many tokens are lexed at once, and stand between two landmarks.
+/// How many tokens are lexed at once, and stand between two checkpoints.
 const BLOCK: usize = 128;
 
 /// A room in which no token was written yet.
@@ -18,22 +18,22 @@ pub(crate) fn new_room() -> [Token; BLOCK] {
     }; BLOCK]
 }
 
-/// All tokens of a text, and landmarks among them.
+/// All tokens of a text, and checkpoints among them.
 pub(crate) fn lex_all<S: Stepper>(
     alloc: Global,
     stepper: &mut S,
     text: &str,
-) -> Result<(Vec<Token>, Landmarks), AllocError> {
+) -> Result<(Vec<Token>, Checkpoints), AllocError> {
     let mut tokens = Vec::new(alloc);
-    let mut landmarks = Landmarks::new();
+    let mut checkpoints = Checkpoints::new();
     let mut room = new_room();
     let mut place = 0;
     while place < text.len() {
         let number = tokens.len();
-        landmarks.remember(Bound { number, place }, text.len());
+        checkpoints.remember(Bound { number, place }, text.len());
         let (count, bytes) = stepper.fill(&text[place..], text.len() - place, &mut room);
         tokens.extend_from_slice(&room[..count])?;
         place += bytes;
     }
-    Ok((tokens, landmarks))
+    Ok((tokens, checkpoints))
 }

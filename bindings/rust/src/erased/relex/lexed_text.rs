@@ -4,7 +4,7 @@ use crate::support::{String, Vec};
 use crate::erased::edition::Edition;
 use crate::erased::entry::stepper::{Stepper, Steps};
 use crate::erased::relex::edit::{Edit, lex_edit};
-use crate::erased::relex::landmarks::Landmarks;
+use crate::erased::relex::checkpoints::Checkpoints;
 use crate::erased::relex::lex::lex_all;
 use crate::erased::relex::relexing::Relexed;
 use crate::erased::token::Token;
@@ -19,7 +19,7 @@ pub struct LexedText<S: Stepper> {
     tokens: Vec<Token>,
     stepper: S,
     /// Bounds of the tokens, where the search of an edit may begin.
-    landmarks: Landmarks,
+    checkpoints: Checkpoints,
 }
 
 impl<S: Stepper> LexedText<S> {
@@ -27,13 +27,13 @@ impl<S: Stepper> LexedText<S> {
     pub fn with(alloc: Global, text: &str, stepper: S) -> Result<LexedText<S>, AllocError> {
         let mut stepper = stepper;
         let held = String::from_str(alloc, text)?;
-        let (tokens, landmarks) = lex_all(alloc, &mut stepper, text)?;
+        let (tokens, checkpoints) = lex_all(alloc, &mut stepper, text)?;
         Ok(LexedText {
             alloc,
             text: held,
             tokens,
             stepper,
-            landmarks,
+            checkpoints,
         })
     }
 
@@ -55,7 +55,7 @@ impl<S: Stepper> LexedText<S> {
     /// Where the bound with the number is, in bytes from the start of the text. The search begins at the last bound up to
     /// it that is remembered.
     pub(crate) fn place_of(&self, number: usize) -> u32 {
-        let near = self.landmarks.before_number(number);
+        let near = self.checkpoints.before_number(number);
         let start = near.place as u32;
         end_from(start, &self.tokens.as_slice()[near.number..number])
     }
@@ -86,7 +86,7 @@ impl<S: Stepper> LexedText<S> {
             &mut self.stepper,
             &mut self.text,
             &mut self.tokens,
-            &mut self.landmarks,
+            &mut self.checkpoints,
             Edit {
                 start,
                 stop,

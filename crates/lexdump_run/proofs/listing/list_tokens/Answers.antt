@@ -2,7 +2,7 @@ use Rattle.std.proofs.Common.{length, refl, ap, rules, arith, length-drop}
 use Rattle.rustc_lexer.specs.LanguageText.{mode_in}
 use Rattle.rustc_lexer.specs.Tokens.{bound, tokens_left, tokens_of}
 use Rattle.lexdump_run.specs.Listing.{listing}
-use Rattle.lexdump_run.proofs.ListingLemmas.{none_left, room_fits, room-split}
+use Rattle.lexdump_run.proofs.ListingLemmas.{none_left, buffer_fits, buffer-split}
 use Rattle.lexdump_run.proofs.PushLemmas.{went_none, went_first, went_all, pushes_stopped}
 use Rattle.lexdump_run.proofs.listing.list_tokens.Goals as goal
 use Rattle.std.proofs.lemmas.Grind.{common_steps}
@@ -19,21 +19,21 @@ left-init g c = grind (
 
 pub push_lines-requires-clause-fits : goal.push_lines-requires-clause-fits
 push_lines-requires-clause-fits g c =
-    room_fits c.args.text.now c.as_str-in-left.result.now c.left.tokens.rest c.left.tokens.mode c.left.room c.fill-count.new.room c.fill-count.result c.as_str-in-left.ensures.rest c.as_str-in-left.utf8 c.left.invariant.within c.requires.fits (record { as_many = c.fill-count.ensures.count; tokens = c.fill-count.ensures.tokens })
+    buffer_fits c.args.text.now c.as_str-in-left.result.now c.left.tokens.rest c.left.tokens.mode c.left.buffer c.fill-count.new.buffer c.fill-count.result c.as_str-in-left.ensures.rest c.as_str-in-left.utf8 c.left.invariant.within c.requires.fits (record { as_many = c.fill-count.ensures.count; tokens = c.fill-count.ensures.tokens })
 
 pub left-preserved : goal.left-preserved
 left-preserved g c = record {
   sound = c.in_ok-push_lines.ensures.failed;
   within = omega (arith, ap length c.fill-count.ensures.rest, length-drop (bound (tokens_left c.left.tokens) c.fill-count.result) c.left.tokens.rest, c.left.invariant.within);
   lines = went_first _ _ _ _ _ _ _ _ c.left.invariant.lines
-      (room-split c.args.text.now c.as_str-in-left.result.now c.left.tokens.rest c.left.tokens.mode c.left.room c.fill-count.new.room c.fill-count.result c.as_str-in-left.ensures.rest c.as_str-in-left.utf8 c.left.invariant.within c.requires.fits (record { as_many = c.fill-count.ensures.count; tokens = c.fill-count.ensures.tokens }) _ _ c.fill-count.ensures.left c.fill-count.ensures.rest)
+      (buffer-split c.args.text.now c.as_str-in-left.result.now c.left.tokens.rest c.left.tokens.mode c.left.buffer c.fill-count.new.buffer c.fill-count.result c.as_str-in-left.ensures.rest c.as_str-in-left.utf8 c.left.invariant.within c.requires.fits (record { as_many = c.fill-count.ensures.count; tokens = c.fill-count.ensures.tokens }) _ _ c.fill-count.ensures.left c.fill-count.ensures.rest)
       _ c.in_ok-push_lines.ensures.pushed;
 }
 
 pub returns-in_err-push_lines-clause-pushed : goal.returns-in_err-push_lines-clause-pushed
 returns-in_err-push_lines-clause-pushed g c =
     pushes_stopped (g.W.Write.contents c.args.output.now.inner) _ (g.W.Write.contents c.push_lines.new.output.inner) c.args.lines.now c.push_lines.new.lines (listing (tokens_of (mode_in c.args.frontmatter_allowed c.args.edition) c.args.text.now)) _ _ _ _ _ c.from_residual.result c.left.invariant.lines
-    (room-split c.args.text.now c.as_str-in-left.result.now c.left.tokens.rest c.left.tokens.mode c.left.room c.fill-count.new.room c.fill-count.result c.as_str-in-left.ensures.rest c.as_str-in-left.utf8 c.left.invariant.within c.requires.fits (record { as_many = c.fill-count.ensures.count; tokens = c.fill-count.ensures.tokens }) _ _ refl refl)
+    (buffer-split c.args.text.now c.as_str-in-left.result.now c.left.tokens.rest c.left.tokens.mode c.left.buffer c.fill-count.new.buffer c.fill-count.result c.as_str-in-left.ensures.rest c.as_str-in-left.utf8 c.left.invariant.within c.requires.fits (record { as_many = c.fill-count.ensures.count; tokens = c.fill-count.ensures.tokens }) _ _ refl refl)
     c.in_err-push_lines.ensures.pushed c.from_residual.ensures.1
 
 pub returns-clause-pushed : goal.returns-clause-pushed

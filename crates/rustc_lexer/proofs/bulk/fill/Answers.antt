@@ -105,7 +105,7 @@ told-preserved g c =
     let long : (first_token_in c.args.edition (drop (at + from) text)).len ≡ end - from = ap (λ (t : Token). t.len) there ∙ c.told-token.ensures.len in
     let same : at + end ≡ at + from + (first_token_in c.args.edition (drop (at + from) text)).len = omega (arith, after, long) in
     record {
-      written = one_written g.R.Record.written (tokens_of (part c.args.edition) text) _ c.args.room.now c.told.room c.told.count (first_token_in c.args.edition (drop (at + from) text)) inv.written
+      written = one_written g.R.Record.written (tokens_of (part c.args.edition) text) _ c.args.buffer.now c.told.buffer c.told.count (first_token_in c.args.edition (drop (at + from) text)) inv.written
           (next_token law text is c.told.count (at + from) inv.place more) (omega arith) _
           (c.bare.ensures ∙ ap g.R.Record.written (sym there));
       begun = begun_more (tokens_of (part c.args.edition) text) c.told.count (at + from) c.args.stop inv.place inv.inside inv.begun;
@@ -154,17 +154,17 @@ tokens-preserved g c =
           let place : at ≡ bound tokens c.told.count = let e : at ≡ at + c.told.from = omega (arith, none) in e ∙ inv.place in
           let more : at < length text = omega arith in
           let token = w.token_in-token.ensures.token ∙ ap (λ (xs : List ℕ). first_token_in c.args.edition xs) c.range_from-rest.ensures.value in
-          let written = one_written g.R.Record.written tokens _ c.args.room.now c.told.room c.told.count (first_token_in c.args.edition (drop at text)) inv.written
+          let written = one_written g.R.Record.written tokens _ c.args.buffer.now c.told.buffer c.told.count (first_token_in c.args.edition (drop at text)) inv.written
           (next_token law text is c.told.count at place more) (inv.some none) _ (w.of.ensures ∙ ap g.R.Record.written token) in
           record {
-            written = subst (λ r. IsWritten g.R.Record.written tokens c.args.room.now r c.if-from-eq0.count) (sym w.room-is) (subst (λ n. IsWritten g.R.Record.written tokens c.args.room.now (slice_set c.told.room c.told.count w.of.result) n) (sym w.count-is) written);
+            written = subst (λ r. IsWritten g.R.Record.written tokens c.args.buffer.now r c.if-from-eq0.count) (sym w.buffer-is) (subst (λ n. IsWritten g.R.Record.written tokens c.args.buffer.now (slice_set c.told.buffer c.told.count w.of.result) n) (sym w.count-is) written);
             begun = subst (λ n. (k : ℕ) → k < n → bound tokens k < c.args.stop) (sym w.count-is) (begun_more tokens c.told.count at c.args.stop place (omega arith) inv.begun);
             place = ap (λ n. at + n) (w.from-is ∙ ap (λ (t : Token). t.len) token) ∙ (next_place law text is c.told.count at place more ∙ ap (bound tokens) (sym w.count-is));
             ends = left c.told.from (omega (arith, none)) inv.ends;
             small = omega arith;
           }
       | else-from-eq0 w ↦ record {
-        written = subst (λ r. IsWritten g.R.Record.written tokens c.args.room.now r c.if-from-eq0.count) (sym w.room-is) (subst (λ n. IsWritten g.R.Record.written tokens c.args.room.now c.told.room n) (sym w.count-is) inv.written);
+        written = subst (λ r. IsWritten g.R.Record.written tokens c.args.buffer.now r c.if-from-eq0.count) (sym w.buffer-is) (subst (λ n. IsWritten g.R.Record.written tokens c.args.buffer.now c.told.buffer n) (sym w.count-is) inv.written);
         begun = subst (λ n. (k : ℕ) → k < n → bound tokens k < c.args.stop) (sym w.count-is) inv.begun;
         place = ap (λ n. at + n) w.from-is ∙ (inv.place ∙ ap (bound tokens) (sym w.count-is));
         ends = left c.told.from (omega (arith, w.from-is)) inv.ends;

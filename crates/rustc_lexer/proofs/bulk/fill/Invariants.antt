@@ -8,7 +8,7 @@ use Rattle.rustc_lexer.proofs.bulk.fill.Given as goal
 
 abbrev pub invariant-tokens : goal.invariant-tokens
 invariant-tokens g l = record {
-  written : IsWritten g.R.Record.written (tokens_of (part l.edition) l.text) l.fn.room l.room l.count;
+  written : IsWritten g.R.Record.written (tokens_of (part l.edition) l.text) l.fn.buffer l.buffer l.count;
   begun : (k : ℕ) → k < l.count → bound (tokens_of (part l.edition) l.text) k < l.stop;
   place : l.at ≡ bound (tokens_of (part l.edition) l.text) l.count;
   ends : IsEnds (drop l.at l.text) l.ends;
@@ -20,7 +20,7 @@ decreases-tokens g l = length l.text - l.at
 
 abbrev pub invariant-told : goal.invariant-told
 invariant-told g l = record {
-  written : IsWritten g.R.Record.written (tokens_of (part l.edition) l.text) l.fn.room l.room l.count;
+  written : IsWritten g.R.Record.written (tokens_of (part l.edition) l.text) l.fn.buffer l.buffer l.count;
   begun : (k : ℕ) → k < l.count → bound (tokens_of (part l.edition) l.text) k < l.stop;
   place : l.at + l.from ≡ bound (tokens_of (part l.edition) l.text) l.count;
   ends : AreEndsPast (drop l.at l.text) l.from l.ends;
@@ -29,8 +29,8 @@ invariant-told g l = record {
   inside : l.at + l.from < l.stop;
   first : l.first ≡ get_or (drop l.at l.text) l.from 0;
   tells : l.tells ≡ true → told l.first ≢ Eof;
-  some : l.from ≡ 0 → l.count < length l.room;
+  some : l.from ≡ 0 → l.count < length l.buffer;
 }
 
 abbrev pub decreases-told : goal.decreases-told
-decreases-told g l = length l.room - l.count
+decreases-told g l = length l.buffer - l.count

@@ -53,10 +53,10 @@ impl LexedText<Steps> {
         ensures same { OnErr result (self.new ≡ self.old) }
     {
         let mut stepper = Steps::new_in(edition);
-        let (tokens, landmarks) = lex_all(self.alloc, &mut stepper, self.text.as_str())?;
+        let (tokens, checkpoints) = lex_all(self.alloc, &mut stepper, self.text.as_str())?;
         self.tokens = tokens;
         self.stepper = stepper;
-        self.landmarks = landmarks;
+        self.checkpoints = checkpoints;
         Ok(())
     }
 }

@@ -17,6 +17,6 @@ returns c =
     let text : List ℕ = c.args.text.now in
     let is : IsText text = record { utf8 = c.utf8.text; fits = c.requires.fits } in
     let from : c.tokenize-tokens.result ≡ state_at text c.args.place.now = begun _ _ _ _ c.tokenize-tokens.result c.tokenize-tokens.ensures.state c.range_from.ensures.value c.allowed_of-allowed.ensures in
-    batch_is text is c.args.place.now c.requires.boundary c.tokenize-tokens.result c.fill-count.new.self c.args.room.now c.fill-count.new.room c.fill-count.result from
+    batch_is text is c.args.place.now c.requires.boundary c.tokenize-tokens.result c.fill-count.new.self c.args.buffer.now c.fill-count.new.buffer c.fill-count.result from
     (record { as_many = c.fill-count.ensures.count; tokens = c.fill-count.ensures.tokens }) c.fill-count.ensures.state c.fill-count.ensures.left c.fill-count.ensures.rest c.fill-count.ensures.edition _ c.frontmatter_allowed.result
     (ap (λ (xs : List ℕ). length text - length xs) c.as_str.ensures.rest) c.frontmatter_allowed.ensures c.allowed_number.ensures

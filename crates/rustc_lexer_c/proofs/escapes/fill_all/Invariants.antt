@@ -7,17 +7,17 @@ invariant-passed g l = record {
   low : l.over ≤ l.passed;
 }
 
-abbrev pub invariant-room : goal.invariant-room
-invariant-room g l = record {
+abbrev pub invariant-buffer : goal.invariant-buffer
+invariant-buffer g l = record {
   left : g.U.Units.units l.units ≡ drop l.count (drop l.fn.passed (g.U.Units.units l.fn.units));
   few : l.count ≤ length (drop l.fn.passed (g.U.Units.units l.fn.units));
-  within : l.count ≤ length l.room;
-  front : take l.count l.room ≡ take l.count (drop l.fn.passed (g.U.Units.units l.fn.units));
-  back : drop l.count l.room ≡ drop l.count l.fn.room;
+  within : l.count ≤ length l.buffer;
+  front : take l.count l.buffer ≡ take l.count (drop l.fn.passed (g.U.Units.units l.fn.units));
+  back : drop l.count l.buffer ≡ drop l.count l.fn.buffer;
 }
 
 abbrev pub decreases-passed : goal.decreases-passed
 decreases-passed g l = l.passed - l.over
 
-abbrev pub decreases-room : goal.decreases-room
-decreases-room g l = length l.room - l.count
+abbrev pub decreases-buffer : goal.decreases-buffer
+decreases-buffer g l = length l.buffer - l.count

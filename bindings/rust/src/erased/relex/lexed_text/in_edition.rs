@@ -24,10 +24,10 @@ impl LexedText<Steps> {
     /// Lexes the text again, in another edition. Where memory is refused nothing changes.
     pub fn set_edition(&mut self, edition: Edition) -> Result<(), AllocError> {
         let mut stepper = Steps::new_in(edition);
-        let (tokens, landmarks) = lex_all(self.alloc, &mut stepper, self.text.as_str())?;
+        let (tokens, checkpoints) = lex_all(self.alloc, &mut stepper, self.text.as_str())?;
         self.tokens = tokens;
         self.stepper = stepper;
-        self.landmarks = landmarks;
+        self.checkpoints = checkpoints;
         Ok(())
     }
 }

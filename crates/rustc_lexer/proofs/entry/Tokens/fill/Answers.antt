@@ -21,8 +21,8 @@ returns-then-rest-ge-BLOCK g c =
     let same : mode ≡ s.mode = ap (λ (x : State). x.mode) c.self.view_is in
     let all = fills g.R.Record.written edition s (state 0 left mode) text is c.as_str-rest.ensures.rest c.as_str-rest.ensures.pending
     (edition-held c.self.inside.frontmatter_allowed edition s.mode same (c.is_part.ensures c.if-is_part.true))
-    c.args.room.now c.fill_part-count.new.room c.fill_part-count.result.0 bytes
-    (filled_all (edition_grammar edition) g.R.Record.written text is _ refl c.args.room.now c.fill_part-count.new.room c.fill_part-count.result.0 c.fill_part-count.ensures.filled)
+    c.args.buffer.now c.fill_part-count.new.buffer c.fill_part-count.result.0 bytes
+    (filled_all (edition_grammar edition) g.R.Record.written text is _ refl c.args.buffer.now c.fill_part-count.new.buffer c.fill_part-count.result.0 c.fill_part-count.ensures.filled)
     c.fill_part-count.ensures.bytes
     (ap (λ xs. state 0 xs mode) (c.range_from-self-inside.ensures.value ∙ ap (drop bytes) c.as_str-rest.ensures.rest) ∙ ap (state 0 (drop bytes s.rest)) same) in
     record {
@@ -46,4 +46,4 @@ pub returns-clause-progress : goal.returns-clause-progress
 returns-clause-progress g c =
     let s : State = c.args.self.now in
     let whole : IsText s.rest = subst IsText c.as_str-rest.ensures.rest record { utf8 = c.as_str-rest.utf8; fits = c.as_str-rest.ensures.fits } in
-    λ places some. shorter_left s.rest c.fill_singly.new.self.rest (tokens_left s) (partitions s.rest s.mode whole) (length c.args.room.now) c.fill_singly.result c.fill_singly.ensures.filled.as_many c.fill_singly.ensures.rest places some
+    λ places some. shorter_left s.rest c.fill_singly.new.self.rest (tokens_left s) (partitions s.rest s.mode whole) (length c.args.buffer.now) c.fill_singly.result c.fill_singly.ensures.filled.as_many c.fill_singly.ensures.rest places some

@@ -8,8 +8,8 @@ invariant-places g l = record {
   past : l.self ≡ state_past l.count l.fn.self;
   left : tokens_left l.self ≡ drop l.count (tokens_left l.fn.self);
   rest : l.self.rest ≡ drop (bound (tokens_left l.fn.self) l.count) l.fn.self.rest;
-  written : IsWritten g.R.Record.written (tokens_left l.fn.self) l.fn.room l.room l.count;
+  written : IsWritten g.R.Record.written (tokens_left l.fn.self) l.fn.buffer l.buffer l.count;
 }
 
 abbrev pub decreases-places : goal.decreases-places
-decreases-places g l = length l.room - l.count
+decreases-places g l = length l.buffer - l.count

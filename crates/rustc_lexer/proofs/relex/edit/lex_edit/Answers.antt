@@ -4,12 +4,12 @@ use Rattle.std.proofs.lemmas.List.{length-map}
 use Rattle.std.proofs.lemmas.List.Elements.{All-contains}
 use Rattle.std.proofs.lemmas.Grind.{common_steps}
 use Rattle.rustc_lexer.specs.declared.relex.front.Bound.{Bound}
-use Rattle.rustc_lexer.specs.declared.relex.landmarks.Landmarks.{Landmarks}
+use Rattle.rustc_lexer.specs.declared.relex.checkpoints.Checkpoints.{Checkpoints}
 use Rattle.rustc_lexer.specs.{Token}
 use Rattle.rustc_lexer.specs.Tokens.{tokens_by}
 use Rattle.rustc_lexer.specs.Edits.{IsEdit, IsInside, apply, IsBound, IsMadeOf}
 use Rattle.rustc_lexer.specs.Classes.{IsText}
-use Rattle.rustc_lexer.specs.means.Landmarks.{AreBounds}
+use Rattle.rustc_lexer.specs.means.Checkpoints.{AreBounds}
 use Rattle.rustc_lexer.proofs.EditLemmas.{put_back}
 use Rattle.rustc_lexer.proofs.RelexingLemmas.{made_for, made_change}
 use Rattle.rustc_lexer.proofs.RenewedLemmas.{renewed_all, renewed_are, renewed_bounds}
@@ -22,9 +22,9 @@ made_of : {first : List ℕ → Token} {text insert put reserved made : List ℕ
 made_of {first} {text} {insert} {put} {reserved} {made} {start} {stop} {tokens} is its edit e as_str put_in reserve =
     made_for text is start stop insert its edit tokens made e (as_str ∙ (put_in ∙ ap (λ (bytes : List ℕ). apply bytes start stop insert) reserve))
 
--- the nearest landmark is a bound of its tokens
-near_bound : {tokens all : List Token} {near : Bound} (landmarks : Landmarks) → tokens ≡ all → AreBounds tokens landmarks → Contains landmarks.bounds near → IsBound all near
-near_bound {tokens} {all} {near} landmarks e are is = rw (sym e) (All-contains (IsBound tokens) landmarks.bounds near are is)
+-- the nearest checkpoint is a bound of its tokens
+near_bound : {tokens all : List Token} {near : Bound} (checkpoints : Checkpoints) → tokens ≡ all → AreBounds tokens checkpoints → Contains checkpoints.bounds near → IsBound all near
+near_bound {tokens} {all} {near} checkpoints e are is = rw (sym e) (All-contains (IsBound tokens) checkpoints.bounds near are is)
 
 -- what was taken out is put back
 put_back_from : {text insert read removed reserved put now : List ℕ} {start stop : ℕ} → IsText text → IsUtf8 insert → IsEdit text start stop insert → removed ≡ slice_range read start stop → read ≡ text → reserved ≡ text → put ≡ apply reserved start stop insert → now ≡ apply put start (start + length insert) removed → now ≡ text
@@ -39,26 +39,26 @@ renew-requires-clause-change g c =
 pub past_edit-requires-clause-movable : goal.past_edit-requires-clause-movable
 past_edit-requires-clause-movable g c =
     let made = made_of c.requires.text c.requires.insert c.requires.edit c.requires.from_scratch c.as_str-made.ensures.value c.put_in_place.ensures.text c.reserve.ensures.bytes in
-    let renewed = c.in-Ok.ensures.renewed _ _ made (near_bound c.args.landmarks.now c.requires.from_scratch c.requires.landmarks c.nearest-near.ensures) in
-    (renewed_bounds (g.S.Stepper.law c.args.stepper.now) c.requires.from_scratch made renewed.0 c.args.landmarks.now c.requires.landmarks).0
+    let renewed = c.in-Ok.ensures.renewed _ _ made (near_bound c.args.checkpoints.now c.requires.from_scratch c.requires.checkpoints c.nearest-near.ensures) in
+    (renewed_bounds (g.S.Stepper.law c.args.stepper.now) c.requires.from_scratch made renewed.0 c.args.checkpoints.now c.requires.checkpoints).0
 
 pub returns-in-Ok-clause-from_scratch : goal.returns-in-Ok-clause-from_scratch
 returns-in-Ok-clause-from_scratch g c =
     let made = made_of c.requires.text c.requires.insert c.requires.edit c.requires.from_scratch c.as_str-made.ensures.value c.put_in_place.ensures.text c.reserve.ensures.bytes in
-    let renewed = c.in-Ok.ensures.renewed _ _ made (near_bound c.args.landmarks.now c.requires.from_scratch c.requires.landmarks c.nearest-near.ensures) in
+    let renewed = c.in-Ok.ensures.renewed _ _ made (near_bound c.args.checkpoints.now c.requires.from_scratch c.requires.checkpoints c.nearest-near.ensures) in
     renewed_are (g.S.Stepper.law c.args.stepper.now) c.requires.from_scratch made renewed.0
     ∙ ap (tokens_by (g.S.Stepper.grammar c.args.stepper.now)) c.as_str-made.ensures.value
 
-pub returns-in-Ok-clause-landmarks : goal.returns-in-Ok-clause-landmarks
-returns-in-Ok-clause-landmarks g c =
+pub returns-in-Ok-clause-checkpoints : goal.returns-in-Ok-clause-checkpoints
+returns-in-Ok-clause-checkpoints g c =
     let made = made_of c.requires.text c.requires.insert c.requires.edit c.requires.from_scratch c.as_str-made.ensures.value c.put_in_place.ensures.text c.reserve.ensures.bytes in
-    let renewed = c.in-Ok.ensures.renewed _ _ made (near_bound c.args.landmarks.now c.requires.from_scratch c.requires.landmarks c.nearest-near.ensures) in
-    c.past_edit.ensures _ _ (renewed_bounds (g.S.Stepper.law c.args.stepper.now) c.requires.from_scratch made renewed.0 c.args.landmarks.now c.requires.landmarks).1 c.requires.landmarks
+    let renewed = c.in-Ok.ensures.renewed _ _ made (near_bound c.args.checkpoints.now c.requires.from_scratch c.requires.checkpoints c.nearest-near.ensures) in
+    c.past_edit.ensures _ _ (renewed_bounds (g.S.Stepper.law c.args.stepper.now) c.requires.from_scratch made renewed.0 c.args.checkpoints.now c.requires.checkpoints).1 c.requires.checkpoints
 
 pub returns-in-Ok-clause-relexed : goal.returns-in-Ok-clause-relexed
 returns-in-Ok-clause-relexed g c =
     let made = made_of c.requires.text c.requires.insert c.requires.edit c.requires.from_scratch c.as_str-made.ensures.value c.put_in_place.ensures.text c.reserve.ensures.bytes in
-    let renewed = c.in-Ok.ensures.renewed _ _ made (near_bound c.args.landmarks.now c.requires.from_scratch c.requires.landmarks c.nearest-near.ensures) in
+    let renewed = c.in-Ok.ensures.renewed _ _ made (near_bound c.args.checkpoints.now c.requires.from_scratch c.requires.checkpoints c.nearest-near.ensures) in
     let l = renewed.0.lexed_is in
     let many : length (map (λ (t : Token). t.len) c.args.tokens.now.items) ≡ length c.as_slice-count.result.now = omega (arith, length-map c.args.tokens.now.items (λ (t : Token). t.len), ap length c.as_slice-count.ensures.value) in
     let exact = c.counts.ensures.exact _ _ _ _ _ _ (g.S.Stepper.law c.args.stepper.now) made many l.stands l.met in
@@ -67,7 +67,7 @@ returns-in-Ok-clause-relexed g c =
 pub returns-in-Ok-clause-all : goal.returns-in-Ok-clause-all
 returns-in-Ok-clause-all g c =
     let made = made_of c.requires.text c.requires.insert c.requires.edit c.requires.from_scratch c.as_str-made.ensures.value c.put_in_place.ensures.text c.reserve.ensures.bytes in
-    let renewed = c.in-Ok.ensures.renewed _ _ made (near_bound c.args.landmarks.now c.requires.from_scratch c.requires.landmarks c.nearest-near.ensures) in
+    let renewed = c.in-Ok.ensures.renewed _ _ made (near_bound c.args.checkpoints.now c.requires.from_scratch c.requires.checkpoints c.nearest-near.ensures) in
     let counts = c.counts.ensures.counts in
     omega (
       arith,
@@ -81,7 +81,7 @@ returns-in-Ok-clause-all g c =
 pub returns-in-Ok-clause-count : goal.returns-in-Ok-clause-count
 returns-in-Ok-clause-count g c =
     let made = made_of c.requires.text c.requires.insert c.requires.edit c.requires.from_scratch c.as_str-made.ensures.value c.put_in_place.ensures.text c.reserve.ensures.bytes in
-    let renewed = c.in-Ok.ensures.renewed _ _ made (near_bound c.args.landmarks.now c.requires.from_scratch c.requires.landmarks c.nearest-near.ensures) in
+    let renewed = c.in-Ok.ensures.renewed _ _ made (near_bound c.args.checkpoints.now c.requires.from_scratch c.requires.checkpoints c.nearest-near.ensures) in
     let counts = ap (λ (r : Relexed). r.lexed) c.counts.ensures.counts in
     omega (arith, counts, renewed.1)
 
@@ -110,4 +110,4 @@ returns-clause-from_scratch g c =
 pub returns-clause-few : goal.returns-clause-few
 returns-clause-few g c =
     let made = made_of c.requires.text c.requires.insert c.requires.edit c.requires.from_scratch c.as_str-made.ensures.value c.put_in_place.ensures.text c.reserve.ensures.bytes in
-    c.in-Err.ensures.few _ _ made (near_bound c.args.landmarks.now c.requires.from_scratch c.requires.landmarks c.nearest-near.ensures)
+    c.in-Err.ensures.few _ _ made (near_bound c.args.checkpoints.now c.requires.from_scratch c.requires.checkpoints c.nearest-near.ensures)

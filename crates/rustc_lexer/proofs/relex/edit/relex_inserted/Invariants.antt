@@ -13,7 +13,7 @@ invariant-inserted g l = record {
   count : g.S.Stepper.count l.stepper + l.fn.at.lexed ≡ g.S.Stepper.count l.fn.stepper + l.at.lexed;
   more : l.fn.at.lexed ≤ l.at.lexed;
   lexed : length l.tokens.items + l.fn.at.lexed ≡ length l.fn.tokens.items + l.at.lexed;
-  room : 0 < length l.room;
+  buffer : 0 < length l.buffer;
   stands : (before insert : List ℕ) → IsMadeOf (g.S.Stepper.grammar l.fn.stepper) before (map (λ (t : Token). t.len) l.old) l.change insert l.text
       → Stands (g.S.Stepper.grammar l.fn.stepper) before l.change l.text l.fn.at
       → Stands (g.S.Stepper.grammar l.fn.stepper) before l.change l.text l.at

@@ -1,6 +1,6 @@
 use Rattle.std.proofs.Common.{length, ◌-◌, ◌≡◌, ◌+◌}
 use Rattle.rustc_lexer.specs.Tokens.{tokens_by}
-use Rattle.rustc_lexer.specs.means.Landmarks.{AreBounds}
+use Rattle.rustc_lexer.specs.means.Checkpoints.{AreBounds}
 use Rattle.rustc_lexer.proofs.ProgressLemmas.{IsLexedTo}
 use Rattle.rustc_lexer.proofs.relex.lex.lex_all.Given as goal
 
@@ -9,7 +9,7 @@ invariant-left g l = IsLexedTo (g.S.Stepper.grammar l.fn.stepper) l.text l.token
     × (g.S.Stepper.grammar l.stepper ≡ g.S.Stepper.grammar l.fn.stepper)
     × (g.S.Stepper.number l.stepper ≡ g.S.Stepper.number l.fn.stepper)
     × (g.S.Stepper.count l.stepper ≡ g.S.Stepper.count l.fn.stepper + length l.tokens.items)
-    × AreBounds (tokens_by (g.S.Stepper.grammar l.fn.stepper) l.text) l.landmarks
+    × AreBounds (tokens_by (g.S.Stepper.grammar l.fn.stepper) l.text) l.checkpoints
 
 abbrev pub decreases-left : goal.decreases-left
 decreases-left g l = length l.text - l.place

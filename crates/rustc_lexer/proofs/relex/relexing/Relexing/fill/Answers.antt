@@ -13,24 +13,24 @@ pub places-init : goal.places-init
 places-init g c = elim c.if-self-change.branch [
   | then-self-change+then-not-is_over+then-not-is_empty w ↦
       let fill = w.fill_inserted-count.ensures in
-      rw (w.self-is, w.stepper-is, w.room-is, w.count-is) record {
+      rw (w.self-is, w.stepper-is, w.buffer-is, w.count-is) record {
         may_go_on = fill.may_go_on;
         grammar = fill.grammar;
         number = fill.number;
         count = fill.count;
         steps = fill.steps;
-        written = is_written g.R.Record.written _ c.args.room.now w.fill_inserted-count.new.room w.fill_inserted-count.result fill.steps.inside (omega (arith, fill.room.0, fill.room.1)) fill.tokens;
+        written = is_written g.R.Record.written _ c.args.buffer.now w.fill_inserted-count.new.buffer w.fill_inserted-count.result fill.steps.inside (omega (arith, fill.buffer.0, fill.buffer.1)) fill.tokens;
         begins = λ _. sym w.is_over.ensures.over ∙ w.if-not-is_over.true;
         stands = λ before insert made begun. (fill.stands before insert made begun).0;
       }
   | else-self-change w ↦
-      rw (w.self-is, w.stepper-is, w.room-is, w.count-is) record {
+      rw (w.self-is, w.stepper-is, w.buffer-is, w.count-is) record {
         may_go_on = c.requires.may_go_on;
         grammar = refl;
         number = refl;
         count = omega arith;
         steps = no_step (g.S.Stepper.grammar c.args.stepper.now) c.args.text.now c.args.change.new_stop c.args.self.now;
-        written = none_written g.R.Record.written _ c.args.room.now;
+        written = none_written g.R.Record.written _ c.args.buffer.now;
         begins = λ some. absurd (omega arith);
         stands = λ before insert made begun. begun;
       }
@@ -56,7 +56,7 @@ places-preserved g c =
       number = c.in-Some.ensures.number ∙ inv.number;
       count = omega (arith, c.in-Some.ensures.step.2, inv.count);
       steps = step_more law text is c.args.change.new_stop begin at boundary c.places.count inv.steps token past step;
-      written = one_written g.R.Record.written (tokens_by first (drop begin.at text)) _ c.args.room.now c.places.room c.places.count token inv.written
+      written = one_written g.R.Record.written (tokens_by first (drop begin.at text)) _ c.args.buffer.now c.places.buffer c.places.count token inv.written
           (next_left law text is c.args.change.new_stop begin at boundary c.places.count inv.steps token past step) (let less = c.places-test.true in omega arith) c.of.result c.of.ensures;
       begins = λ _. elim (cases_lt 0 c.places.count) [
         | inl some ↦ inv.begins some

@@ -11,7 +11,7 @@ invariant-places g l = record {
   number : g.S.Stepper.number l.stepper ≡ g.S.Stepper.number l.fn.stepper;
   count : g.S.Stepper.count l.stepper ≡ g.S.Stepper.count l.fn.stepper + l.count;
   steps : TakesSteps (g.S.Stepper.grammar l.fn.stepper) l.text l.change.new_stop l.fn.self l.count l.self;
-  written : IsWritten g.R.Record.written (tokens_by (g.S.Stepper.grammar l.fn.stepper) (drop l.fn.self.at l.text)) l.fn.room l.room l.count;
+  written : IsWritten g.R.Record.written (tokens_by (g.S.Stepper.grammar l.fn.stepper) (drop l.fn.self.at l.text)) l.fn.buffer l.buffer l.count;
   begins : 0 < l.count → is_over l.text l.fn.self ≡ false;
   stands : (before insert : List ℕ) → IsMadeOf (g.S.Stepper.grammar l.fn.stepper) before (map g.T.Measured.bytes l.old) l.change insert l.text
       → Stands (g.S.Stepper.grammar l.fn.stepper) before l.change l.text l.fn.self
@@ -19,4 +19,4 @@ invariant-places g l = record {
 }
 
 abbrev pub decreases-places : goal.decreases-places
-decreases-places g l = length l.room - l.count
+decreases-places g l = length l.buffer - l.count

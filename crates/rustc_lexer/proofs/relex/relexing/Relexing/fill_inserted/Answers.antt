@@ -50,6 +50,6 @@ returns-clause-stands g c = λ before insert is_made stands.
     let Followed : Damage → Type 0 = λ d. IsFollowed (tokens_by first before) (old_stop_of d) d.past (at.at + bytes) c.follow-to.result.at c.follow-to.result.met in
     let followed = subst (λ n. IsFollowed (tokens_by first before) n c.args.change.new_stop (at.at + bytes) c.follow-to.result.at c.follow-to.result.met) (damage_stop c.args.text.now c.args.change c.requires.change) (subst Followed c.damage.ensures to) in
     let left = c.range_from.ensures.value in
-    let filled = subst (λ (xs : List ℕ). IsFilledTo g.R.Record.written (c.args.change.new_stop - at.at) (tokens_by first xs) c.args.room.now c.fill-count.new.room c.fill-count.result.0) left c.fill-count.ensures.filled in
+    let filled = subst (λ (xs : List ℕ). IsFilledTo g.R.Record.written (c.args.change.new_stop - at.at) (tokens_by first xs) c.args.buffer.now c.fill-count.new.buffer c.fill-count.result.0) left c.fill-count.ensures.filled in
     let bytes_is = c.fill-count.ensures.bytes ∙ ap (λ (xs : List ℕ). bound (tokens_by first xs) c.fill-count.result.0) left in
-    stands_filled law before _ insert _ c.args.change is_made at stands c.requires.before g.R.Record.written c.args.room.now c.fill-count.new.room c.fill-count.result.0 bytes c.follow-to.result filled bytes_is s.some followed (λ early. c.follow-to.ensures.stays (rw c.damage.ensures early))
+    stands_filled law before _ insert _ c.args.change is_made at stands c.requires.before g.R.Record.written c.args.buffer.now c.fill-count.new.buffer c.fill-count.result.0 bytes c.follow-to.result filled bytes_is s.some followed (λ early. c.follow-to.ensures.stays (rw c.damage.ensures early))

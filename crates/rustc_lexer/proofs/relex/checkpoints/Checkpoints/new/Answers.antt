@@ -1,7 +1,7 @@
 use Rattle.std.proofs.Common.{refl, arith}
 use Rattle.std.proofs.lemmas.List.Elements.{All-replicate}
 use Rattle.rustc_lexer.specs.Edits.{IsBound}
-use Rattle.rustc_lexer.proofs.relex.landmarks.Landmarks.new.Goals as goal
+use Rattle.rustc_lexer.proofs.relex.checkpoints.Checkpoints.new.Goals as goal
 
 pub returns : goal.returns
 returns c = λ tokens. All-replicate (IsBound tokens) 64 (record { number = 0; place = 0 }) (omega arith, refl)

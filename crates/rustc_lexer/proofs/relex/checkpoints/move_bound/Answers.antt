@@ -1,5 +1,5 @@
-use Rattle.rustc_lexer.proofs.LandmarkLemmas.{front_stays, kept_stays, back_moves}
-use Rattle.rustc_lexer.proofs.relex.landmarks.move_bound.Goals as goal
+use Rattle.rustc_lexer.proofs.CheckpointLemmas.{front_stays, kept_stays, back_moves}
+use Rattle.rustc_lexer.proofs.relex.checkpoints.move_bound.Goals as goal
 
 pub returns-then-bound-kept : goal.returns-then-bound-kept
 returns-then-bound-kept c = λ old new is here. front_stays old new c.args.kept c.args.met c.args.now is c.args.bound c.if-bound-kept.true here

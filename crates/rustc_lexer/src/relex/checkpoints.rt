@@ -1,33 +1,45 @@
 //! Bounds that are remembered, so that a search begins near where it ends.
+ghost use Rattle.std.specs.Prelude.{◌≤◌, List};
+ghost use Rattle.std.specs.List.{All, Contains};
+ghost use Rattle.rustc_lexer.specs.{Token};
+ghost use Rattle.rustc_lexer.specs.means.Checkpoints.{AreBounds, IsMovable, IsReplaced};
+ghost use Rattle.rustc_lexer.specs.Edits.{IsBound};
 
-use crate::erased::relex::front::{Bound, FIRST};
+use crate::relex::front::{Bound, FIRST};
 
 /// How many bounds are remembered.
 const COUNT: usize = 64;
 
 /// Some bounds of a list of tokens, one for each of `COUNT` equal shares of its text.
 #[derive(Clone, Copy)]
-pub(crate) struct Landmarks {
+pub(crate) struct Checkpoints {
     bounds: [Bound; COUNT],
 }
 
-impl Landmarks {
+impl Checkpoints {
     /// The first bound alone, which each list has.
-    pub(crate) fn new() -> Landmarks {
-        Landmarks {
+    pub(crate) fn new() -> Checkpoints
+        ensures { (tokens : List Token) → AreBounds tokens result }
+    {
+        Checkpoints {
             bounds: [FIRST; COUNT],
         }
     }
 
     /// Remembers the bound, in place of the one in the same share of a text of `len` bytes.
-    pub(crate) fn remember(&mut self, bound: Bound, len: usize) {
+    pub(crate) fn remember(&mut self, bound: Bound, len: usize)
+        ensures { (tokens : List Token) → AreBounds tokens self.old → IsBound tokens bound
+            → AreBounds tokens self.new }
+    {
         let share = len / COUNT + 1;
         let index = (bound.place / share).min(COUNT - 1);
         self.bounds[index] = bound;
     }
 
     /// The one that is nearest to `place`.
-    pub(crate) fn nearest(&self, place: usize) -> Bound {
+    pub(crate) fn nearest(&self, place: usize) -> Bound
+        ensures { Contains self.now.bounds result }
+    {
         let mut nearest = self.bounds[0];
         for bound in &self.bounds {
             if bound.place.abs_diff(place) < nearest.place.abs_diff(place) {
@@ -38,7 +50,12 @@ impl Landmarks {
     }
 
     /// The last one that at most `number` tokens stand before, or the first bound of the list.
-    pub(crate) fn before_number(&self, number: usize) -> Bound {
+    pub(crate) fn before_number(&self, number: usize) -> Bound
+        ensures number { result.number ≤ number }
+        ensures bound { (tokens : List Token) → AreBounds tokens self.now → IsBound tokens result }
+        ensures last { All (λ bound. bound.number ≤ number → bound.number ≤ result.number)
+            self.now.bounds }
+    {
         let mut last = FIRST;
         for bound in &self.bounds {
             if last.number < bound.number && bound.number <= number {
@@ -50,17 +67,25 @@ impl Landmarks {
 
     /// Where they are after an edit that keeps the tokens up to `kept`, and those from `met` on, which is then
     /// `now`. One that stood between is `kept`.
-    pub(crate) fn after(&self, kept: Bound, met: Bound, now: Bound) -> Landmarks {
+    pub(crate) fn after(&self, kept: Bound, met: Bound, now: Bound) -> Checkpoints
+        requires { All (IsMovable met now) self.now.bounds }
+        ensures { (old new : List Token) → IsReplaced old new kept met now → AreBounds old self.now
+            → AreBounds new result }
+    {
         let mut bounds = [kept; COUNT];
         for (i, bound) in self.bounds.iter().enumerate() {
             bounds[i] = move_bound(*bound, kept, met, now);
         }
-        Landmarks { bounds }
+        Checkpoints { bounds }
     }
 }
 
 /// Where the bound is after an edit that keeps the tokens up to `kept`, and those from `met` on, which is then `now`.
-fn move_bound(bound: Bound, kept: Bound, met: Bound, now: Bound) -> Bound {
+fn move_bound(bound: Bound, kept: Bound, met: Bound, now: Bound) -> Bound
+    requires { IsMovable met now bound }
+    ensures { (old new : List Token) → IsReplaced old new kept met now → IsBound old bound
+        → IsBound new result }
+{
     if bound.number <= kept.number {
         bound
     } else if bound.number >= met.number {

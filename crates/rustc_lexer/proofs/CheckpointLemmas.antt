@@ -3,13 +3,13 @@ use Rattle.std.proofs.Common.{◌≡◌, ℕ, ◌+◌, ◌-◌, ◌≤◌, List,
 use Rattle.std.specs.List.{All}
 use Rattle.std.proofs.lemmas.Grind.{common_steps}
 use Rattle.rustc_lexer.specs.declared.relex.front.Bound.{Bound}
-use Rattle.rustc_lexer.specs.declared.relex.landmarks.Landmarks.{Landmarks}
+use Rattle.rustc_lexer.specs.declared.relex.checkpoints.Checkpoints.{Checkpoints}
 use Rattle.rustc_lexer.specs.{Token}
 use Rattle.rustc_lexer.specs.Classes.{IsText}
 use Rattle.rustc_lexer.specs.Locality.{IsGrammar}
 use Rattle.rustc_lexer.specs.Tokens.{bound, tokens_by}
 use Rattle.rustc_lexer.specs.Edits.{apply, IsEdit, IsBound}
-use Rattle.rustc_lexer.specs.means.Landmarks.{AreBounds, IsMovable, IsReplaced}
+use Rattle.rustc_lexer.specs.means.Checkpoints.{AreBounds, IsMovable, IsReplaced}
 use Rattle.rustc_lexer.proofs.BoundLemmas.{bound_mono, tokens_le_bytes}
 use Rattle.rustc_lexer.proofs.EditLemmas.{edited, bound-same}
 use Rattle.rustc_lexer.proofs.FrontLemmas.{bound-shift}
@@ -43,16 +43,17 @@ module _ (old new : List Token) (kept met now : Bound) (is : IsReplaced old new 
 
 module _ {first : List ℕ → Token} (law : IsGrammar first) (text : List ℕ) (is : IsText text) (start stop : ℕ) (insert : List ℕ) (its : IsUtf8 insert) (edit : IsEdit text start stop insert) where
   -- numbers and places of both lists are small
-  movable_for : (old list : List Token) (kept met now : Bound) (landmarks : Landmarks) → old ≡ tokens_by first text → list ≡ tokens_by first (apply text start stop insert) → IsReplaced old list kept met now → AreBounds old landmarks → All (IsMovable met now) landmarks.bounds
-  movable_for old list kept met now landmarks e f replaced are k d few past =
+  movable_for : (old list : List Token) (kept met now : Bound) (checkpoints : Checkpoints) → old ≡ tokens_by first text → list ≡ tokens_by first (apply text start stop insert) → IsReplaced old list kept met now → AreBounds old checkpoints → All (IsMovable met now) checkpoints.bounds
+  movable_for old list kept met now checkpoints e f replaced are k d few past =
       grind (arith, common_steps, edited, bound_mono, tokens_le_bytes, bounds_fit)
 
-  -- what an edit puts in place of the tokens between, of which there are `size`: the landmarks can be moved, and stay landmarks
-  pub replaced_for : (old : List Token) (new : List ℕ) (lexed list : List Token) (kept met : Bound) (size end : ℕ) (landmarks : Landmarks) → old ≡ tokens_by first text → new ≡ apply text start stop insert → list ≡ take kept.number old ++ (lexed ++ drop met.number old) → size ≡ length lexed
+  -- what an edit puts in place of the tokens between, of which there are `size`: the checkpoints can be moved, and stay
+  -- checkpoints
+  pub replaced_for : (old : List Token) (new : List ℕ) (lexed list : List Token) (kept met : Bound) (size end : ℕ) (checkpoints : Checkpoints) → old ≡ tokens_by first text → new ≡ apply text start stop insert → list ≡ take kept.number old ++ (lexed ++ drop met.number old) → size ≡ length lexed
       → kept.number ≤ length old → kept.place ≡ bound old kept.number → met.place ≡ bound old met.number → end ≡ bound (tokens_by first new) (kept.number + length lexed)
-      → IsMet first old new stop (start + length insert) kept.number (take kept.number old ++ lexed) met.number → AreBounds old landmarks
-      → All (IsMovable met (record { number = kept.number + size; place = end })) landmarks.bounds × IsReplaced old list kept met (record { number = kept.number + size; place = end })
-  replaced_for old new lexed list kept met size end landmarks e f made size_is few kept_at met_at end_is is_met are =
+      → IsMet first old new stop (start + length insert) kept.number (take kept.number old ++ lexed) met.number → AreBounds old checkpoints
+      → All (IsMovable met (record { number = kept.number + size; place = end })) checkpoints.bounds × IsReplaced old list kept met (record { number = kept.number + size; place = end })
+  replaced_for old new lexed list kept met size end checkpoints e f made size_is few kept_at met_at end_is is_met are =
       let front : List Token = take kept.number old in
       let short : length front ≡ kept.number = length-take-le kept.number old few in
       let long : length (front ++ lexed) ≡ kept.number + size = omega (arith, short, size_is, length-append front lexed) in
@@ -68,4 +69,4 @@ module _ {first : List ℕ → Token} (law : IsGrammar first) (text : List ℕ) 
         kept_le = omega arith;
         front = ap (take kept.number) made ∙ take_at front (lexed ++ drop met.number old) kept.number short;
         back = ap (drop (kept.number + size)) split ∙ drop_at (front ++ lexed) (drop met.number old) (kept.number + size) long;
-      } in (movable_for old list kept met _ landmarks e whole replaced are, replaced)
+      } in (movable_for old list kept met _ checkpoints e whole replaced are, replaced)

@@ -1,4 +1,4 @@
--- A list that is written into a room, one more at a time.
+-- A list that is written into a buffer, one more at a time.
 use Rattle.std.proofs.Common.{◌≡◌, ℕ, ◌+◌, ◌<◌, ◌≤◌, List, [], ◌∷◌, ◌++◌, length, take, drop, min, sym, ap, ◌∙◌, arith, slice_set, take-add}
 use Rattle.std.proofs.lemmas.List.{drop-drop, drop-set-lt, length-drop, take-append-drop, take_more_set}
 use Rattle.std.proofs.Math.Nat.{min-eq_left, min-eq_right}
@@ -11,18 +11,18 @@ module _ {X : Type 0} (all left : List X) (count : ℕ) (x : X) (next : drop cou
   pub few_step : count + 1 ≤ length all
   few_step = let n = length-drop count all in let m = ap (λ (xs : List X). length xs) next in omega arith
 
-  -- the room past one more
-  pub front_step : (room : List X) → count < length room → take count room ≡ take count all → take (count + 1) (slice_set room count x) ≡ take (count + 1) all
-  front_step room fits front = take_more_set room count x fits ∙ (ap (λ l. l ++ x ∷ []) front ∙ sym (take-add count 1 all ∙ ap (λ l. take count all ++ take 1 l) next))
+  -- the buffer past one more
+  pub front_step : (buffer : List X) → count < length buffer → take count buffer ≡ take count all → take (count + 1) (slice_set buffer count x) ≡ take (count + 1) all
+  front_step buffer fits front = take_more_set buffer count x fits ∙ (ap (λ l. l ++ x ∷ []) front ∙ sym (take-add count 1 all ∙ ap (λ l. take count all ++ take 1 l) next))
 
-pub back_step : {Y : Type 0} (room old : List Y) (count : ℕ) (y : Y) → drop count room ≡ drop count old → drop (count + 1) (slice_set room count y) ≡ drop (count + 1) old
-back_step room old count y back =
+pub back_step : {Y : Type 0} (buffer old : List Y) (count : ℕ) (y : Y) → drop count buffer ≡ drop count old → drop (count + 1) (slice_set buffer count y) ≡ drop (count + 1) old
+back_step buffer old count y back =
     let low : count < count + 1 = omega arith in
-    drop-set-lt (count + 1) room count y low ∙ (sym (drop-drop 1 count room) ∙ (ap (drop 1) back ∙ drop-drop 1 count old))
+    drop-set-lt (count + 1) buffer count y low ∙ (sym (drop-drop 1 count buffer) ∙ (ap (drop 1) back ∙ drop-drop 1 count old))
 
--- what the room holds at the end
-pub room_filled : {Y : Type 0} (room old front : List Y) (count : ℕ) → take count room ≡ front → drop count room ≡ drop count old → room ≡ front ++ drop count old
-room_filled room old front count is back = sym (take-append-drop count room) ∙ (ap (λ l. l ++ drop count room) is ∙ ap (λ l. front ++ l) back)
+-- what the buffer holds at the end
+pub buffer_filled : {Y : Type 0} (buffer old front : List Y) (count : ℕ) → take count buffer ≡ front → drop count buffer ≡ drop count old → buffer ≡ front ++ drop count old
+buffer_filled buffer old front count is back = sym (take-append-drop count buffer) ∙ (ap (λ l. l ++ drop count buffer) is ∙ ap (λ l. front ++ l) back)
 
 -- past all of a list none is left
 pub all_taken : {X : Type 0} (all : List X) (count : ℕ) → drop count all ≡ [] → length all ≤ count

@@ -1,7 +1,7 @@
 use Rattle.std.proofs.lemmas.List.Elements.{All-replicate}
 use Rattle.rustc_lexer.specs.Edits.{IsBound}
-use Rattle.rustc_lexer.proofs.LandmarkLemmas.{kept_stays}
-use Rattle.rustc_lexer.proofs.relex.landmarks.Landmarks.after.Goals as goal
+use Rattle.rustc_lexer.proofs.CheckpointLemmas.{kept_stays}
+use Rattle.rustc_lexer.proofs.relex.checkpoints.Checkpoints.after.Goals as goal
 
 pub loop-i-init : goal.loop-i-init
 loop-i-init c = λ old new is are. All-replicate (IsBound new) 64 c.args.kept (kept_stays old new c.args.kept c.args.met c.args.now is)

@@ -1,10 +1,10 @@
--- Bytes that are written into room of a caller's, one text behind the other.
+-- Bytes that are written into a buffer of a caller's, one text behind the other.
 use Rattle.std.specs.Prelude.{ℕ, ◌+◌, ◌≡◌, ◌≤◌, List, ◌++◌, length, take, drop}
-use Rattle.rustc_lexer_c.specs.declared.room.Room.{Room}
+use Rattle.rustc_lexer_c.specs.declared.buffer.Buffer.{Buffer}
 
--- the bytes are written behind those that were written before, into the same room of the caller's. Behind them it is as
--- before
-pub record Appends (s : Room) (bytes : List ℕ) (t : Room) : Type 0 where
+-- the bytes are written behind those that were written before, into the same buffer of the caller's. Behind them it is
+-- as before
+pub record Appends (s : Buffer) (bytes : List ℕ) (t : Buffer) : Type 0 where
   pub same_reference : t.bytes.ghost_name ≡ s.bytes.ghost_name
   pub within : t.len ≤ length t.bytes.now
   pub more : s.len ≤ t.len
@@ -12,5 +12,5 @@ pub record Appends (s : Room) (bytes : List ℕ) (t : Room) : Type 0 where
   pub rest : drop t.len t.bytes.now ≡ drop t.len s.bytes.now
 
 -- there is room for the bytes behind those that were written before
-abbrev pub HasRoom : Room → List ℕ → Type 0
+abbrev pub HasRoom : Buffer → List ℕ → Type 0
 HasRoom s bytes = s.len + length bytes ≤ length s.bytes.now

@@ -1,34 +1,34 @@
-//! Room of a caller's, which is written from its front on.
+//! A buffer of a caller's, which is written from its front on.
 ghost use Rattle.std.specs.Prelude.{◌≡◌, ◌↔◌, IsOk};
-ghost use Rattle.rustc_lexer_c.specs.Room.{Appends, HasRoom};
+ghost use Rattle.rustc_lexer_c.specs.Buffer.{Appends, HasRoom};
 
 use std::fmt;
 
-/// Room of a caller's, of which the first `len` bytes are written.
+/// A buffer of a caller's, of which the first `len` bytes are written.
 #[derive(Drop)]
-pub(crate) struct Room<'a> {
+pub(crate) struct Buffer<'a> {
     pub(crate) bytes: &'a mut [u8],
     pub(crate) len: usize,
 }
 
-impl<'a> Room<'a> {
-    /// Room of which nothing is written.
-    pub(crate) fn new(bytes: &'a mut [u8]) -> Room<'a>
+impl<'a> Buffer<'a> {
+    /// A buffer of which nothing is written.
+    pub(crate) fn new(bytes: &'a mut [u8]) -> Buffer<'a>
         ensures same_reference { result.bytes.ghost_name ≡ bytes.entry.ghost_name }
         ensures value { result.bytes.now ≡ bytes.old }
         ensures none { result.len ≡ 0 }
     {
-        Room { bytes, len: 0 }
+        Buffer { bytes, len: 0 }
     }
 }
 
-impl<'a> fmt::Write for Room<'a> {
+impl<'a> fmt::Write for Buffer<'a> {
     ghost write_str_gives = { Appends };
 
     /// Writes a text behind what is written, unless there is too little room for it.
     fn write_str(&mut self, s: &str) -> fmt::Result
         ensures ok { IsOk result → Appends self.old s.now self.new }
-        ensures room { IsOk result ↔ HasRoom self.old s.now }
+        ensures buffer { IsOk result ↔ HasRoom self.old s.now }
     {
         let bytes = s.as_bytes();
         if self.len > self.bytes.len() || bytes.len() > self.bytes.len() - self.len {

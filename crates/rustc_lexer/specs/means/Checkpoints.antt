@@ -2,14 +2,14 @@
 use Rattle.std.specs.Prelude.{◌≡◌, ◌+◌, ◌<◌, ◌≤◌, ◌^◌, List, take, drop}
 use Rattle.std.specs.List.{All}
 use Rattle.rustc_lexer.specs.declared.relex.front.Bound.{Bound}
-use Rattle.rustc_lexer.specs.declared.relex.landmarks.Landmarks.{Landmarks}
+use Rattle.rustc_lexer.specs.declared.relex.checkpoints.Checkpoints.{Checkpoints}
 use Rattle.rustc_lexer.specs.{Token}
 use Rattle.rustc_lexer.specs.declared.relex.relexing.Relexing.{Relexing}
 use Rattle.rustc_lexer.specs.Edits.{IsBound, known}
 
 -- all of them are bounds of the tokens
-abbrev pub AreBounds : List Token → Landmarks → Type 0
-AreBounds tokens landmarks = All (IsBound tokens) landmarks.bounds
+abbrev pub AreBounds : List Token → Checkpoints → Type 0
+AreBounds tokens checkpoints = All (IsBound tokens) checkpoints.bounds
 
 -- the tokens up to the bound `kept` stay, and so do those from `met` on, which is the bound `now` of the new tokens
 pub record IsReplaced (old new : List Token) (kept met now : Bound) : Type 0 where

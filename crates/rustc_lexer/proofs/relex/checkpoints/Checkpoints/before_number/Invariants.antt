@@ -1,9 +1,9 @@
 use Rattle.std.proofs.Common.{◌<◌, ◌≤◌, ℕ, List, get_or}
 use Rattle.rustc_lexer.specs.declared.relex.front.Bound.{Bound}
 use Rattle.rustc_lexer.specs.{Token}
-use Rattle.rustc_lexer.specs.means.Landmarks.{AreBounds}
+use Rattle.rustc_lexer.specs.means.Checkpoints.{AreBounds}
 use Rattle.rustc_lexer.specs.Edits.{IsBound}
-use Rattle.rustc_lexer.proofs.relex.landmarks.Landmarks.before_number.Given as goal
+use Rattle.rustc_lexer.proofs.relex.checkpoints.Checkpoints.before_number.Given as goal
 
 abbrev pub invariant-loop-bound : goal.invariant-loop-bound
 invariant-loop-bound l = (l.last.number ≤ l.number)

@@ -1,7 +1,7 @@
 use Rattle.std.proofs.Common.{◌≤◌, List, ℕ, ◌++◌, length, take, drop, refl, ap, subst, ◌∙◌, ◌≡◌, ◌+◌, ◌-◌, arith, sym}
 use borrow.Rule.Slice.PartMut.{put_mid}
 use Rattle.rustc_lexer_c.proofs.OutputLemmas.{filled_front, filled_rest, filled_within}
-use Rattle.rustc_lexer_c.proofs.room.RoomWrite.write_str.Goals as goal
+use Rattle.rustc_lexer_c.proofs.buffer.BufferWrite.write_str.Goals as goal
 
 pub returns-clause-ok : goal.returns-clause-ok
 returns-clause-ok c done =
