@@ -1,4 +1,4 @@
--- The ends of runs, what is known past them, and the tokens that are told by them.
+-- The ends of runs, what is known past them, and the tokens that are classified by them.
 use Rattle.std.proofs.Common.{◌≡◌, ◌≢◌, ℕ, zero, suc, ◌+◌, ◌-◌, ◌/◌, ◌^◌, bit_and, ◌<◌, ◌≤◌, Bool, true, false, true≢false, not, ◌&&◌, ◌||◌, List, ◌∷◌, length, map, drop, get_or, refl, sym, ap, ap₂, subst, ◌∙◌, arith, length-drop, ◌⊎◌, inl, inr}
 use Rattle.std.specs.List.{prefix_len}
 use Rattle.std.specs.Str.{IsUtf8}
@@ -12,12 +12,12 @@ use Rattle.std.proofs.lemmas.Grind.{common_steps}
 use lib.Lanes.{chunk, mask_l}
 use Rattle.unicode_ident.proofs.Computing.{unicode_ident}
 use Rattle.rustc_lexer.specs.{Edition, TokenKind, Token, Ident, Whitespace, GuardedStrPrefix, RawLifetime, UnknownPrefix, UnknownPrefixLifetime, Eof}
-use Rattle.rustc_lexer.specs.declared.lexemes.told.TheConstants.{TOLD}
+use Rattle.rustc_lexer.specs.declared.lexemes.classified.TheConstants.{CLASSIFIED}
 use Rattle.rustc_lexer.specs.declared.lexemes.family.Family.{Family}
 use Rattle.rustc_lexer.specs.declared.lexemes.family.Family.TheVariants.{Slash, Space, Word, Number, Quote, Str, Emoji, Hash, Symbol}
 use Rattle.rustc_lexer.specs.Tokens.{has_fields}
 use Rattle.rustc_lexer.specs.means.Edition.{before_2024, before_2021, changed}
-use Rattle.rustc_lexer.specs.means.Ends.{bit, goes_on, is_end, AreEndsPast, IsEnds, IsLowest, told, told_in, StaysWithin}
+use Rattle.rustc_lexer.specs.means.Ends.{bit, goes_on, is_end, AreEndsPast, IsEnds, IsLowest, classified, classified_in, StaysWithin}
 use Rattle.rustc_lexer.specs.means.ByteRuns.{is_continue_byte, is_space_byte}
 use Rattle.rustc_lexer.specs.Tables.{is_emoji}
 use Rattle.rustc_lexer.specs.means.Lexeme.{family_of, symbol_kind}
@@ -120,13 +120,13 @@ module _ (p other : ℕ → Bool) (parted : (b : ℕ) → (p b && other b) ≡ f
 
 -- ---- what the first byte tells
 
-pub told_table : (b : ℕ) (none : TokenKind) → b < 256 → get_or TOLD b none ≡ told b
+pub classified_table : (b : ℕ) (none : TokenKind) → b < 256 → get_or CLASSIFIED b none ≡ classified b
 unfolding is_emoji unicode_ident
-told_table b none small = get_or-map-range_with_len told 0 256 b b none small (omega arith)
+classified_table b none small = get_or-map-range_with_len classified 0 256 b b none small (omega arith)
 
--- a symbol is told by itself
-pub told_symbol : (b : ℕ) → b < 128 → family_of b ≡ Symbol → told b ≡ symbol_kind b
-told_symbol b small symbol = rw (lt-ltb b 128 small, symbol) refl
+-- a symbol is classified by itself
+pub classified_symbol : (b : ℕ) → b < 128 → family_of b ≡ Symbol → classified b ≡ symbol_kind b
+classified_symbol b small symbol = rw (lt-ltb b 128 small, symbol) refl
 
 is_word_family : Family → Bool
 is_word_family Word = true
@@ -157,15 +157,15 @@ symbol_alone b l e = holds _ _ (agree_below_at (λ x. not (is_symbol_family (fam
 
 pub record Tells (b : ℕ) : Type 0 where
   pub small : b < 128
-  pub by : ((told b ≡ Ident) × (Word ≡ family_of b)) ⊎ (((told b ≡ Whitespace) × (Space ≡ family_of b)) ⊎ ((told b ≡ symbol_kind b) × (Symbol ≡ family_of b)))
+  pub by : ((classified b ≡ Ident) × (Word ≡ family_of b)) ⊎ (((classified b ≡ Whitespace) × (Space ≡ family_of b)) ⊎ ((classified b ≡ symbol_kind b) × (Symbol ≡ family_of b)))
 
-pub tells : (b : ℕ) → told b ≢ Eof → Tells b
+pub tells : (b : ℕ) → classified b ≢ Eof → Tells b
 tells b some = elim (cases_lt b 128) [
-  | inl small ↦ let at : told b ≡ told_in (family_of b) b = rw (lt-ltb b 128 small) refl in record { small = small; by = by_family (family_of b) refl at }
+  | inl small ↦ let at : classified b ≡ classified_in (family_of b) b = rw (lt-ltb b 128 small) refl in record { small = small; by = by_family (family_of b) refl at }
   | inr wide ↦ absurd (some (rw (le-ltb b 128 wide) refl))
 ]
   where
-    by_family : (f : Family) → family_of b ≡ f → told b ≡ told_in f b → ((told b ≡ Ident) × (Word ≡ family_of b)) ⊎ (((told b ≡ Whitespace) × (Space ≡ family_of b)) ⊎ ((told b ≡ symbol_kind b) × (Symbol ≡ family_of b)))
+    by_family : (f : Family) → family_of b ≡ f → classified b ≡ classified_in f b → ((classified b ≡ Ident) × (Word ≡ family_of b)) ⊎ (((classified b ≡ Whitespace) × (Space ≡ family_of b)) ⊎ ((classified b ≡ symbol_kind b) × (Symbol ≡ family_of b)))
     by_family Word e is = inl (is, sym e)
     by_family Space e is = inr (inl (is, sym e))
     by_family Symbol e is = inr (inr (is, sym e))
@@ -213,23 +213,23 @@ module _ (text : List ℕ) (is : IsUtf8 text) (b : ℕ) (rest : List ℕ) (e : t
       alone zero f = sym f
       alone (suc m) f = absurd (true≢false (sym (run.on 0 (omega arith)) ∙ rw (ap is_continue_byte front ∙ out.0, ap is_space_byte front ∙ out.1) refl))
 
-  pub as_told : Tells b → StaysWithin (told b) next → IsFirstToken text record { kind = told b; len = suc n }
-  as_told t stays = subst (λ k. IsFirstToken text record { kind = told b; len = k }) (let z : 1 + n ≡ suc n = omega arith in z) (by_kind t.by)
+  pub as_classified : Tells b → StaysWithin (classified b) next → IsFirstToken text record { kind = classified b; len = suc n }
+  as_classified t stays = subst (λ k. IsFirstToken text record { kind = classified b; len = k }) (let z : 1 + n ≡ suc n = omega arith in z) (by_kind t.by)
     where
-      by_kind : ((told b ≡ Ident) × (Word ≡ family_of b)) ⊎ (((told b ≡ Whitespace) × (Space ≡ family_of b)) ⊎ ((told b ≡ symbol_kind b) × (Symbol ≡ family_of b))) → IsFirstToken text record { kind = told b; len = 1 + n }
+      by_kind : ((classified b ≡ Ident) × (Word ≡ family_of b)) ⊎ (((classified b ≡ Whitespace) × (Space ≡ family_of b)) ⊎ ((classified b ≡ symbol_kind b) × (Symbol ≡ family_of b))) → IsFirstToken text record { kind = classified b; len = 1 + n }
       by_kind (inl w) = subst (λ (k : TokenKind). IsFirstToken text record { kind = k; len = 1 + n }) (sym w.0) (as_word t.small w.1 (stays.word w.0))
       by_kind (inr (inl s)) = subst (λ (k : TokenKind). IsFirstToken text record { kind = k; len = 1 + n }) (sym s.0) (as_space t.small s.1 (stays.space s.0))
       by_kind (inr (inr y)) = subst (λ (k : TokenKind). IsFirstToken text record { kind = k; len = 1 + n }) (sym y.0) (as_symbol t.small y.1)
 
 -- the token that the first byte and the lowest end tell
-module _ (text : List ℕ) (is : IsUtf8 text) (b : ℕ) (rest : List ℕ) (e : text ≡ b ∷ rest) (some : told b ≢ Eof) (ends end next : ℕ) (are : IsEnds text ends) (set : bit ends end ≡ true) (least : (k : ℕ) → k < end → bit ends k ≡ false)
+module _ (text : List ℕ) (is : IsUtf8 text) (b : ℕ) (rest : List ℕ) (e : text ≡ b ∷ rest) (some : classified b ≢ Eof) (ends end next : ℕ) (are : IsEnds text ends) (set : bit ends end ≡ true) (least : (k : ℕ) → k < end → bit ends k ≡ false)
     (last : next ≡ get_or text end 0) where
-  at_end : StaysWithin (told b) next → (n : ℕ) → end ≡ n → IsFirstToken text record { kind = told b; len = n }
+  at_end : StaysWithin (classified b) next → (n : ℕ) → end ≡ n → IsFirstToken text record { kind = classified b; len = n }
   at_end stays zero f = absurd (true≢false (sym set ∙ (ap (bit ends) f ∙ (are end set).1 0 (omega arith))))
-  at_end stays (suc n) f = as_told text is b rest e n next (runs_to text ends n are (ap (bit ends) (sym f) ∙ set) (λ k l. least k (omega arith))) (last ∙ ap (λ i. get_or text i 0) f) (tells b some) stays
+  at_end stays (suc n) f = as_classified text is b rest e n next (runs_to text ends n are (ap (bit ends) (sym f) ∙ set) (λ k l. least k (omega arith))) (last ∙ ap (λ i. get_or text i 0) f) (tells b some) stays
 
-  pub token_told : (kind : TokenKind) → kind ≡ told b → StaysWithin kind next → IsFirstToken text record { kind = kind; len = end }
-  token_told kind f stays = subst (λ (k : TokenKind). IsFirstToken text record { kind = k; len = end }) (sym f) (at_end (subst (λ (k : TokenKind). StaysWithin k next) f stays) end refl)
+  pub token_classified : (kind : TokenKind) → kind ≡ classified b → StaysWithin kind next → IsFirstToken text record { kind = kind; len = end }
+  token_classified kind f stays = subst (λ (k : TokenKind). IsFirstToken text record { kind = k; len = end }) (sym f) (at_end (subst (λ (k : TokenKind). StaysWithin k next) f stays) end refl)
 
 -- ---- a byte that tells a token turns none before it
 
@@ -241,19 +241,19 @@ no_eof : (kind : TokenKind) → kind ≢ Eof → is_eof kind ≡ false
 no_eof Eof some = absurd (some refl)
 no_eof kind some = refl
 
-turns_eof : (b : ℕ) → told b ≢ Eof → (is_eof (told b) || not (turns_word b)) ≡ true
+turns_eof : (b : ℕ) → classified b ≢ Eof → (is_eof (classified b) || not (turns_word b)) ≡ true
 unfolding is_emoji unicode_ident
-turns_eof b some = agree_below_at (λ x. is_eof (told x) || not (turns_word x)) (λ _. true) 128 b refl (tells b some).small
+turns_eof b some = agree_below_at (λ x. is_eof (classified x) || not (turns_word x)) (λ _. true) 128 b refl (tells b some).small
 
-pub told_stays : (kind : TokenKind) (next : ℕ) → told next ≢ Eof → StaysWithin kind next
-told_stays kind next some = record {
-  word = λ _. not-true _ (sym (ap (λ b. b || not (turns_word next)) (no_eof (told next) some)) ∙ turns_eof next some);
+pub classified_stays : (kind : TokenKind) (next : ℕ) → classified next ≢ Eof → StaysWithin kind next
+classified_stays kind next some = record {
+  word = λ _. not-true _ (sym (ap (λ b. b || not (turns_word next)) (no_eof (classified next) some)) ∙ turns_eof next some);
   space = λ _. agree_below_at (λ x. is_space_lead x) (λ _. false) 128 next refl (tells next some).small;
 }
 
--- the same behind a place, up to which no end is told
-module _ (text : List ℕ) (from ends end first next : ℕ) (utf8 : IsUtf8 (drop from text)) (are : AreEndsPast text from ends) (small : ends < 2 ^ 64) (low : IsLowest ends end) (of_first : first ≡ get_or text from 0) (some : told first ≢ Eof)
-    (of_next : next ≡ get_or text end 0) (stays : StaysWithin (told first) next) where
+-- the same behind a place, up to which no end is classified
+module _ (text : List ℕ) (from ends end first next : ℕ) (utf8 : IsUtf8 (drop from text)) (are : AreEndsPast text from ends) (small : ends < 2 ^ 64) (low : IsLowest ends end) (of_first : first ≡ get_or text from 0) (some : classified first ≢ Eof)
+    (of_next : next ≡ get_or text end 0) (stays : StaysWithin (classified first) next) where
   abbrev late : ℕ
   late = bit_and (ends / 2 ^ from) high
 
@@ -263,27 +263,27 @@ module _ (text : List ℕ) (from ends end first next : ℕ) (utf8 : IsUtf8 (drop
       let inside = (are end low.set).1 in
       drop-cons (drop from text) 0 0 (omega (arith, length-drop from text, after, inside)) ∙ ap (λ (b : ℕ). b ∷ drop 1 (drop from text)) (get_or-drop from text 0 0 ∙ (ap (λ i. get_or text i 0) (let z : from + 0 ≡ from = omega arith in z) ∙ sym of_first))
 
-  by_len : (n : ℕ) → from + suc n ≡ end → IsFirstToken (drop from text) record { kind = told first; len = suc n }
+  by_len : (n : ℕ) → from + suc n ≡ end → IsFirstToken (drop from text) record { kind = classified first; len = suc n }
   by_len n e =
       let later = past-later ends from small in
-      token_told (drop from text) utf8 first (drop 1 (drop from text)) begins some late (suc n) next (ends_past text ends from from late (omega arith) are (past-first ends from) later)
-      (later n ∙ (ap (bit ends) e ∙ low.set)) least (of_next ∙ (ap (λ i. get_or text i 0) (sym e) ∙ sym (get_or-drop from text (suc n) 0))) (told first) refl stays
+      token_classified (drop from text) utf8 first (drop 1 (drop from text)) begins some late (suc n) next (ends_past text ends from from late (omega arith) are (past-first ends from) later)
+      (later n ∙ (ap (bit ends) e ∙ low.set)) least (of_next ∙ (ap (λ i. get_or text i 0) (sym e) ∙ sym (get_or-drop from text (suc n) 0))) (classified first) refl stays
     where
       least : (k : ℕ) → k < suc n → bit late k ≡ false
       least zero l = past-first ends from
       least (suc k) l = past-later ends from small k ∙ low.least (from + suc k) (omega arith)
 
-  pub told_behind : IsFirstToken (drop from text) record { kind = told first; len = end - from }
-  told_behind = let after = (are end low.set).0 in
+  pub classified_behind : IsFirstToken (drop from text) record { kind = classified first; len = end - from }
+  classified_behind = let after = (are end low.set).0 in
       let e : from + suc (end - from - 1) ≡ end = omega (arith, after) in
       let n : suc (end - from - 1) ≡ end - from = omega (arith, after) in
-      subst (λ k. IsFirstToken (drop from text) record { kind = told first; len = k }) n (by_len (end - from - 1) e)
+      subst (λ k. IsFirstToken (drop from text) record { kind = classified first; len = k }) n (by_len (end - from - 1) e)
 
--- ---- what is told has no fields, and each edition has it
+-- ---- what is classified has no fields, and each edition has it
 
-pub told_bare : (b : ℕ) → told b ≢ Eof → has_fields (told b) ≡ false
+pub classified_bare : (b : ℕ) → classified b ≢ Eof → has_fields (classified b) ≡ false
 unfolding is_emoji unicode_ident
-told_bare b some = agree_below_at (λ x. has_fields (told x)) (λ _. false) 128 b refl (tells b some).small
+classified_bare b some = agree_below_at (λ x. has_fields (classified x)) (λ _. false) 128 b refl (tells b some).small
 
 -- whether an older edition has another token in place of one of this kind
 abbrev is_newer : TokenKind → Bool
@@ -293,9 +293,9 @@ is_newer UnknownPrefix = true
 is_newer UnknownPrefixLifetime = true
 is_newer kind = false
 
-told_older : (b : ℕ) → told b ≢ Eof → is_newer (told b) ≡ false
+classified_older : (b : ℕ) → classified b ≢ Eof → is_newer (classified b) ≡ false
 unfolding is_emoji unicode_ident
-told_older b some = agree_below_at (λ x. is_newer (told x)) (λ _. false) 128 b refl (tells b some).small
+classified_older b some = agree_below_at (λ x. is_newer (classified x)) (λ _. false) 128 b refl (tells b some).small
 
 older_2021 : (kind : TokenKind) (len : ℕ) → is_newer kind ≡ false → before_2024 kind len ≡ record { kind = kind; len = len }
 older_2021 GuardedStrPrefix len old = absurd (true≢false old)
@@ -307,5 +307,5 @@ older_2018 cs kind len old = grind (arith, common_steps)
 older : (edition : Edition) (cs : List ℕ) (t : Token) → is_newer t.kind ≡ false → changed edition cs t ≡ t
 older edition cs t old = grind (arith, common_steps, older_2021, older_2018)
 
-pub told_same : (b : ℕ) → told b ≢ Eof → (edition : Edition) (cs : List ℕ) (kind : TokenKind) (len : ℕ) → kind ≡ told b → changed edition cs record { kind = kind; len = len } ≡ record { kind = kind; len = len }
-told_same b some edition cs kind len e = older edition cs record { kind = kind; len = len } (ap is_newer e ∙ told_older b some)
+pub classified_same : (b : ℕ) → classified b ≢ Eof → (edition : Edition) (cs : List ℕ) (kind : TokenKind) (len : ℕ) → kind ≡ classified b → changed edition cs record { kind = kind; len = len } ≡ record { kind = kind; len = len }
+classified_same b some edition cs kind len e = older edition cs record { kind = kind; len = len } (ap is_newer e ∙ classified_older b some)

@@ -8,7 +8,9 @@ ghost use Rattle.rustc_lexer.specs.LanguageText.{part};
 ghost use Rattle.rustc_lexer.specs.means.Ends.{IsEnds};
 
 use crate::edition::{Edition, token_in};
-use crate::lexemes::told::{ends_before, ends_for, ends_left, is_told, past_lowest, told, turns};
+use crate::lexemes::classified::{
+    classified, ends_before, ends_for, ends_left, is_classified, past_lowest, turns,
+};
 use crate::token::{Token, TokenKind};
 
 /// What tokens are written as, where many are written at once.
@@ -67,21 +69,21 @@ pub(crate) fn fill<R: Record>(
         let rest = &text[at..];
         let bytes = rest.as_bytes();
         let mut first = bytes[0];
-        let mut tells = is_told(first);
+        let mut tells = is_classified(first);
         if tells {
             ends = ends_before(ends_for(rest, ends), stop - at);
         }
-        // How far in `rest` tokens are told: 0 as long as none is.
+        // How far in `rest` tokens are classified: 0 as long as none is.
         let mut from = 0;
-        'told: while tells && ends != 0 && count < buffer.len() {
+        'classified: while tells && ends != 0 && count < buffer.len() {
             let end = ends.trailing_zeros();
             let next = bytes[end as usize];
             // A byte that tells a token of its own never turns the one before it.
-            tells = is_told(next);
+            tells = is_classified(next);
             if !tells && turns(first, next) {
                 break;
             }
-            let token = told(first, end - from);
+            let token = classified(first, end - from);
             buffer[count] = R::bare(token.kind, token.len);
             count += 1;
             from = end;
@@ -89,7 +91,7 @@ pub(crate) fn fill<R: Record>(
             ends = past_lowest(ends);
         }
         if from == 0 {
-            // The ends of runs told nothing here.
+            // The ends of runs classified nothing here.
             let token = token_in(rest, edition);
             buffer[count] = R::of(token);
             count += 1;

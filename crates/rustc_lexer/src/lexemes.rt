@@ -6,6 +6,7 @@ ghost use Rattle.rustc_lexer.specs.means.Lexeme as spec;
 ghost use Rattle.rustc_lexer.specs.means.Quick.{BeginsWithNoHash, IsFirstToken};
 ghost use Rattle.rustc_lexer.specs.means.Scan.{scanned};
 
+use crate::lexemes::classified::symbol_kind;
 use crate::lexemes::comment::slash;
 use crate::lexemes::family::{Family, family_of};
 use crate::lexemes::ident::invalid_ident;
@@ -13,12 +14,12 @@ use crate::lexemes::lifetime::lifetime_or_char;
 use crate::lexemes::number::number;
 use crate::lexemes::quick::quick_token;
 use crate::lexemes::quoted::{QuotedPrefix, quoted_literal};
-use crate::lexemes::told::symbol_kind;
 use crate::lexemes::word::word;
 use crate::scan::{eat_whitespace, split_first};
 use crate::token::{Token, TokenKind};
 
 mod block_comment;
+pub(crate) mod classified;
 mod comment;
 mod family;
 pub(crate) mod ident;
@@ -28,7 +29,6 @@ mod number;
 pub(crate) mod quick;
 pub(crate) mod quoted;
 pub(crate) mod raw;
-pub(crate) mod told;
 mod word;
 
 /// The token at the front of a text. At the end of the text it is `Eof`, of length 0.

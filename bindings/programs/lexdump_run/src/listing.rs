@@ -12,14 +12,14 @@ use rustc_lexer::erased::{
 };
 
 /// How many tokens are read at once.
-const ROOM: usize = 256;
+const BUFFER_LEN: usize = 256;
 
-/// A room in which no token was written yet.
-fn new_room() -> [Token; ROOM] {
+/// A buffer in which no token was written yet.
+fn new_buffer() -> [Token; BUFFER_LEN] {
     [Token {
         kind: TokenKind::Eof,
         len: 0,
-    }; ROOM]
+    }; BUFFER_LEN]
 }
 
 /// Lists the tokens of a text, which has at most `u32::MAX` bytes, in an edition.
@@ -30,12 +30,12 @@ pub fn list_tokens<W: Write>(
     frontmatter_allowed: FrontmatterAllowed,
     edition: Edition,
 ) -> Result<(), Fault> {
-    let mut room = new_room();
+    let mut buffer = new_buffer();
     let mut tokens = tokenize_as(text, frontmatter_allowed, edition);
     while !tokens.as_str().is_empty() {
         let start = text.len() - tokens.as_str().len();
-        let count = tokens.fill(&mut room);
-        push_lines(lines, output, start as u32, &room[..count])?;
+        let count = tokens.fill(&mut buffer);
+        push_lines(lines, output, start as u32, &buffer[..count])?;
     }
     Ok(())
 }

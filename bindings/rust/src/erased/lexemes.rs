@@ -1,5 +1,6 @@
 //! The token at the front of a text: a choice by its first character, and a function for most families.
 
+use crate::erased::lexemes::classified::symbol_kind;
 use crate::erased::lexemes::comment::slash;
 use crate::erased::lexemes::family::{Family, family_of};
 use crate::erased::lexemes::ident::invalid_ident;
@@ -7,12 +8,12 @@ use crate::erased::lexemes::lifetime::lifetime_or_char;
 use crate::erased::lexemes::number::number;
 use crate::erased::lexemes::quick::quick_token;
 use crate::erased::lexemes::quoted::{QuotedPrefix, quoted_literal};
-use crate::erased::lexemes::told::symbol_kind;
 use crate::erased::lexemes::word::word;
 use crate::erased::scan::{eat_whitespace, split_first};
 use crate::erased::token::{Token, TokenKind};
 
 mod block_comment;
+pub(crate) mod classified;
 mod comment;
 mod family;
 pub(crate) mod ident;
@@ -22,7 +23,6 @@ mod number;
 pub(crate) mod quick;
 pub(crate) mod quoted;
 pub(crate) mod raw;
-pub(crate) mod told;
 mod word;
 
 /// The token at the front of a text. At the end of the text it is `Eof`, of length 0.

@@ -1,8 +1,8 @@
 //! A text that is kept with its tokens, and its edits.
+mod checkpoints;
 mod edit;
 mod edit_list;
 mod front;
-mod checkpoints;
 mod lex;
 mod lexed_text;
 mod pieces;

@@ -34,14 +34,14 @@ pub record IsLowest (m low : ℕ) : Type 0 where
   pub least : (k : ℕ) → k < low → bit m k ≡ false
 
 -- the kind of a token that the first character, of ASCII, and its run tell; Eof where they tell none
-abbrev pub told_in : Family → ℕ → TokenKind
-told_in Word c = Ident
-told_in Space c = Whitespace
-told_in Symbol c = symbol_kind c
-told_in other c = Eof
+abbrev pub classified_in : Family → ℕ → TokenKind
+classified_in Word c = Ident
+classified_in Space c = Whitespace
+classified_in Symbol c = symbol_kind c
+classified_in other c = Eof
 
-abbrev pub told : ℕ → TokenKind
-told b = if nat_lt b 128 then told_in (family_of b) b else Eof
+abbrev pub classified : ℕ → TokenKind
+classified b = if nat_lt b 128 then classified_in (family_of b) b else Eof
 
 -- a byte after which a token of the kind neither turns nor goes on
 pub record StaysWithin (kind : TokenKind) (next : ℕ) : Type 0 where
@@ -54,4 +54,4 @@ pub record TellsAt (text : List ℕ) (from ends end : ℕ) : Type 0 where
   pub known : AreEndsPast text from ends
   pub small : ends < 2 ^ 64
   pub lowest : IsLowest ends end
-  pub stays : StaysWithin (told (slice_index text from)) (slice_index text end)
+  pub stays : StaysWithin (classified (slice_index text from)) (slice_index text end)

@@ -6,8 +6,8 @@ ghost use Rattle.rustc_lexer.specs.means.Quick.{BeginsWithNoHash, IsFirstToken};
 ghost use Rattle.rustc_lexer.specs.means.Scan;
 
 use crate::kernels::{Continue, Space, ends_space, ends_word, run_end, short_run_end};
+use crate::lexemes::classified::symbol_kind;
 use crate::lexemes::family::{Family, family_of_byte};
-use crate::lexemes::told::symbol_kind;
 use crate::token::{Token, TokenKind};
 
 /// The token at the front of the text, where the bytes of one run and the byte after it tell what it is. A hash and

@@ -10,30 +10,30 @@ use core::iter::Iterator;
 const BLOCK: usize = 64;
 
 impl<'a> Tokens<'a> {
-    /// Writes the next tokens into the room, as many as are left, or as there is room for. Answers their number, which
-    /// is less than the length of the room only where no token is left.
+    /// Writes the next tokens into the buffer, as many as are left, or as there is room for. Answers their number,
+    /// which is less than the length of the buffer only where no token is left.
     ///
     /// They are the tokens that so many calls of `next` give, and take less time: most of them are found 64 bytes at a
     /// time. Where a frontmatter may still stand, or fewer than 64 bytes are left, they come one by one.
     ///
     /// ```ignore
-    /// let mut room = [Token { kind: TokenKind::Eof, len: 0 }; 256];
+    /// let mut buffer = [Token { kind: TokenKind::Eof, len: 0 }; 256];
     /// let mut tokens = tokenize(text, FrontmatterAllowed::No);
     /// while !tokens.as_str().is_empty() {
-    ///     let count = tokens.fill(&mut room);
-    ///     for token in &room[..count] {
+    ///     let count = tokens.fill(&mut buffer);
+    ///     for token in &buffer[..count] {
     ///         spaces += matches!(token.kind, TokenKind::Whitespace) as usize;
     ///     }
     /// }
     /// ```
-    pub fn fill<R: Record>(&mut self, room: &mut [R]) -> usize {
+    pub fn fill<R: Record>(&mut self, buffer: &mut [R]) -> usize {
         let rest = self.as_str();
         if self.is_part() && rest.len() >= BLOCK {
-            let (count, bytes) = fill_part(rest, self.edition, room);
+            let (count, bytes) = fill_part(rest, self.edition, buffer);
             self.rest = &rest[bytes..];
             return count;
         }
-        self.fill_singly(room)
+        self.fill_singly(buffer)
     }
 
     /// Whether no frontmatter may stand in what is left.
@@ -42,27 +42,27 @@ impl<'a> Tokens<'a> {
         matches!(self.frontmatter_allowed, FrontmatterAllowed::No)
     }
 
-    /// Writes the next tokens into the room, as `fill` does, one after another.
-    fn fill_singly<R: Record>(&mut self, room: &mut [R]) -> usize {
+    /// Writes the next tokens into the buffer, as `fill` does, one after another.
+    fn fill_singly<R: Record>(&mut self, buffer: &mut [R]) -> usize {
         let mut count = 0;
-        while count < room.len() {
+        while count < buffer.len() {
             let Some(token) = self.next() else {
                 break;
             };
-            room[count] = R::of(token);
+            buffer[count] = R::of(token);
             count += 1;
         }
         count
     }
 }
 
-/// Writes the first tokens of a text into the room, in an edition.
+/// Writes the first tokens of a text into the buffer, in an edition.
 ///
 /// The newest edition has a body of its own, in which no token asks for the edition.
 #[inline(always)]
-fn fill_part<R: Record>(text: &str, edition: Edition, room: &mut [R]) -> (usize, usize) {
+fn fill_part<R: Record>(text: &str, edition: Edition, buffer: &mut [R]) -> (usize, usize) {
     match edition {
-        Edition::E2024 => bulk::fill(text, text.len(), Edition::E2024, room),
-        _ => bulk::fill(text, text.len(), edition, room),
+        Edition::E2024 => bulk::fill(text, text.len(), Edition::E2024, buffer),
+        _ => bulk::fill(text, text.len(), edition, buffer),
     }
 }

@@ -11,21 +11,22 @@ use crate::erased::token::Token;
 /// after it. A step answers the first token of what it is handed, the same one each time. In Rattle each implementation
 /// proves this; in plain Rust it has to keep it, or the tokens of an edited text are wrong.
 ///
-/// Contracts see three things of a stepper: its grammar, a number that names the grammar, and how many steps were taken.
+/// Contracts see three things of a stepper: its grammar, a number that names the grammar, and how many steps were
+/// taken.
 pub trait Stepper {
     /// The first token of the text.
     fn step(&mut self, rest: &str) -> Token;
 
-    /// The first tokens of the text, written into the room: those that begin before `end`, or as many as it has room for.
-    /// Answers their number, and how many bytes they have. Each is a step.
+    /// The first tokens of the text, written into the buffer: those that begin before `end`, or as many as it has room
+    /// for. Answers their number, and how many bytes they have. Each is a step.
     ///
     /// One step after another gives them here. A stepper that finds many tokens at once has a body of its own.
-    fn fill<R: Record>(&mut self, text: &str, end: usize, room: &mut [R]) -> (usize, usize) {
+    fn fill<R: Record>(&mut self, text: &str, end: usize, buffer: &mut [R]) -> (usize, usize) {
         let mut written = 0;
         let mut at = 0;
-        while written < room.len() && at < end {
+        while written < buffer.len() && at < end {
             let token = self.step(&text[at..]);
-            room[written] = R::of(token);
+            buffer[written] = R::of(token);
             written += 1;
             at += token.len as usize;
         }
@@ -65,8 +66,8 @@ impl Stepper for Steps {
         token_in(rest, self.edition)
     }
 
-    fn fill<R: Record>(&mut self, text: &str, end: usize, room: &mut [R]) -> (usize, usize) {
-        let (count, bytes) = bulk::fill(text, end, self.edition, room);
+    fn fill<R: Record>(&mut self, text: &str, end: usize, buffer: &mut [R]) -> (usize, usize) {
+        let (count, bytes) = bulk::fill(text, end, self.edition, buffer);
         self.tally.tick_by(count);
         (count, bytes)
     }

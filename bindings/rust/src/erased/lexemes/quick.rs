@@ -1,8 +1,8 @@
 //! The commonest tokens, told by their bytes: identifiers, white space, hashes and symbols.
 
 use crate::erased::kernels::{Continue, Space, ends_space, ends_word, run_end, short_run_end};
+use crate::erased::lexemes::classified::symbol_kind;
 use crate::erased::lexemes::family::{Family, family_of_byte};
-use crate::erased::lexemes::told::symbol_kind;
 use crate::erased::token::{Token, TokenKind};
 
 /// The token at the front of the text, where the bytes of one run and the byte after it tell what it is. A hash and

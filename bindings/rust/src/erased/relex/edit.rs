@@ -2,9 +2,9 @@
 use crate::support::{String, Vec};
 
 use crate::erased::entry::stepper::Stepper;
-use crate::erased::relex::front::Bound;
 use crate::erased::relex::checkpoints::Checkpoints;
-use crate::erased::relex::lex::new_room;
+use crate::erased::relex::front::Bound;
+use crate::erased::relex::lex::new_buffer;
 use crate::erased::relex::relexing::{Change, LONG, Relexed, Relexing};
 use crate::erased::relex::replace::replace;
 use crate::erased::token::Token;
@@ -61,10 +61,10 @@ fn relex_inserted<S: Stepper>(
     at: &mut Relexing,
     tokens: &mut Vec<Token>,
 ) -> Result<(), AllocError> {
-    let mut room = new_room();
+    let mut buffer = new_buffer();
     while at.at < change.new_stop {
-        let count = at.fill_inserted(stepper, text, old, change, &mut room);
-        tokens.extend_from_slice(&room[..count])?;
+        let count = at.fill_inserted(stepper, text, old, change, &mut buffer);
+        tokens.extend_from_slice(&buffer[..count])?;
     }
     Ok(())
 }

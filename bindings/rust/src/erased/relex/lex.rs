@@ -2,16 +2,16 @@
 use crate::support::Vec;
 
 use crate::erased::entry::stepper::Stepper;
-use crate::erased::relex::front::Bound;
 use crate::erased::relex::checkpoints::Checkpoints;
+use crate::erased::relex::front::Bound;
 use crate::erased::token::{Token, TokenKind};
 use crate::support::{AllocError, Global};
 
 /// How many tokens are lexed at once, and stand between two checkpoints.
 const BLOCK: usize = 128;
 
-/// A room in which no token was written yet.
-pub(crate) fn new_room() -> [Token; BLOCK] {
+/// A buffer in which no token was written yet.
+pub(crate) fn new_buffer() -> [Token; BLOCK] {
     [Token {
         kind: TokenKind::Eof,
         len: 0,
@@ -26,13 +26,13 @@ pub(crate) fn lex_all<S: Stepper>(
 ) -> Result<(Vec<Token>, Checkpoints), AllocError> {
     let mut tokens = Vec::new(alloc);
     let mut checkpoints = Checkpoints::new();
-    let mut room = new_room();
+    let mut buffer = new_buffer();
     let mut place = 0;
     while place < text.len() {
         let number = tokens.len();
         checkpoints.remember(Bound { number, place }, text.len());
-        let (count, bytes) = stepper.fill(&text[place..], text.len() - place, &mut room);
-        tokens.extend_from_slice(&room[..count])?;
+        let (count, bytes) = stepper.fill(&text[place..], text.len() - place, &mut buffer);
+        tokens.extend_from_slice(&buffer[..count])?;
         place += bytes;
     }
     Ok((tokens, checkpoints))

@@ -3,8 +3,8 @@ use crate::support::{String, Vec};
 
 use crate::erased::edition::Edition;
 use crate::erased::entry::stepper::{Stepper, Steps};
-use crate::erased::relex::edit::{Edit, lex_edit};
 use crate::erased::relex::checkpoints::Checkpoints;
+use crate::erased::relex::edit::{Edit, lex_edit};
 use crate::erased::relex::lex::lex_all;
 use crate::erased::relex::relexing::Relexed;
 use crate::erased::token::Token;
@@ -52,8 +52,8 @@ impl<S: Stepper> LexedText<S> {
         &self.stepper
     }
 
-    /// Where the bound with the number is, in bytes from the start of the text. The search begins at the last bound up to
-    /// it that is remembered.
+    /// Where the bound with the number is, in bytes from the start of the text. The search begins at the last bound up
+    /// to it that is remembered.
     pub(crate) fn place_of(&self, number: usize) -> u32 {
         let near = self.checkpoints.before_number(number);
         let start = near.place as u32;

@@ -129,34 +129,34 @@ impl Relexing {
         Some(token)
     }
 
-    /// Writes the next tokens into the room, as many as there is room for, or up to where the old tokens are met. Answers
-    /// their number, which is less than the length of the room only where `is_over` is true.
+    /// Writes the next tokens into the buffer, as many as there is room for, or up to where the old tokens are met.
+    /// Answers their number, which is less than the length of the buffer only where `is_over` is true.
     ///
-    /// They are the tokens that so many calls of `next` give. A long part that the change put in is lexed many tokens at
-    /// once.
+    /// They are the tokens that so many calls of `next` give. A long part that the change put in is lexed many tokens
+    /// at once.
     pub fn fill<S: Stepper, T: Measured, R: Record>(
         &mut self,
         stepper: &mut S,
         text: &str,
         old: &[T],
         change: Change,
-        room: &mut [R],
+        buffer: &mut [R],
     ) -> usize {
         let mut count = 0;
-        if self.at + LONG <= change.new_stop && !self.is_over(text) && !room.is_empty() {
-            count = self.fill_inserted(stepper, text, old, change, room);
+        if self.at + LONG <= change.new_stop && !self.is_over(text) && !buffer.is_empty() {
+            count = self.fill_inserted(stepper, text, old, change, buffer);
         }
-        while count < room.len() {
+        while count < buffer.len() {
             let Some(token) = self.next(stepper, text, old, change) else {
                 break;
             };
-            room[count] = R::of(token);
+            buffer[count] = R::of(token);
             count += 1;
         }
         count
     }
 
-    /// Writes the next tokens into the room: those that begin before the end of what was put in, or as many as it has
+    /// Writes the next tokens into the buffer: those that begin before the end of what was put in, or as many as it has
     /// room for. Answers their number. None of them can meet the old tokens before the last one ends.
     pub(crate) fn fill_inserted<S: Stepper, T: Measured, R: Record>(
         &mut self,
@@ -164,9 +164,9 @@ impl Relexing {
         text: &str,
         old: &[T],
         change: Change,
-        room: &mut [R],
+        buffer: &mut [R],
     ) -> usize {
-        let (count, bytes) = stepper.fill(&text[self.at..], change.new_stop - self.at, room);
+        let (count, bytes) = stepper.fill(&text[self.at..], change.new_stop - self.at, buffer);
         let at = self.at + bytes;
         let to = follow(old, self.back, at, change.damage());
         *self = Relexing {

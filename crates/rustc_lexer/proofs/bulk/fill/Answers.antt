@@ -6,12 +6,12 @@ use Rattle.rustc_lexer.specs.{Token, Eof}
 use Rattle.rustc_lexer.specs.means.Edition.{changed, first_token_in}
 use Rattle.rustc_lexer.specs.Tokens.{bound, tokens_of}
 use Rattle.rustc_lexer.specs.LanguageText.{part}
-use Rattle.rustc_lexer.specs.means.Ends.{told, AreEndsPast, IsEnds, IsLowest, StaysWithin}
+use Rattle.rustc_lexer.specs.means.Ends.{classified, AreEndsPast, IsEnds, IsLowest, StaysWithin}
 use Rattle.rustc_lexer.specs.Classes.{IsText}
 use Rattle.rustc_lexer.specs.laws.Edition.{edition_grammar}
 use Rattle.rustc_lexer.proofs.BitLemmas.{lowest, below-lowest}
 use Rattle.rustc_lexer.proofs.BulkLemmas.{IsWritten, begun_more, none_written, one_written, stands, next_token, next_place, next_some}
-use Rattle.rustc_lexer.proofs.EndsLemmas.{all_past, no_ends, past_end, told_stays}
+use Rattle.rustc_lexer.proofs.EndsLemmas.{all_past, no_ends, past_end, classified_stays}
 use Rattle.rustc_lexer.proofs.bulk.fill.Goals as goal
 use Rattle.rustc_lexer.proofs.bulk.fill.Goals.{then-tells, else-tells, else-not-tells-via-then-not-tells+else-turns, else-not-tells-via-else-not-tells, then-from-eq0, else-from-eq0}
 
@@ -24,8 +24,8 @@ range_from-rest-requires g c = λ some. (stands (edition_grammar c.args.edition)
 least : (ends : ℕ) → 0 < ends → ends < 2 ^ 64 → IsLowest ends (count_trailing_zeros 64 ends)
 least ends some small = record { set = lowest ends some small; least = below-lowest ends some small }
 
-pub told-init : goal.told-init
-told-init g c =
+pub classified-init : goal.classified-init
+classified-init g c =
     let text : List ℕ = c.args.text.now in
     let at : ℕ = c.tokens.at in
     let inv = c.tokens.invariant in
@@ -44,7 +44,7 @@ told-init g c =
             before = λ _ k set. let low = w.ends_before-ends.ensures.before k set in omega arith;
             inside = omega arith;
             first = first;
-            tells = λ e. c.is_told-tells.ensures e;
+            tells = λ e. c.is_classified-tells.ensures e;
             some = λ _. omega arith;
           }
       | else-tells w ↦
@@ -57,60 +57,60 @@ told-init g c =
             before = λ e k set. absurd (true≢false (sym e ∙ w.if-tells.false));
             inside = omega arith;
             first = first;
-            tells = λ e. c.is_told-tells.ensures e;
+            tells = λ e. c.is_classified-tells.ensures e;
             some = λ _. omega arith;
           }
     ]
 
 pub bounds-bytes-end : goal.bounds-bytes-end
 bounds-bytes-end g c =
-    let low = least c.told.ends (omega (arith, c.if-ends-ne0.true)) c.told.invariant.small in
-    subst (λ (xs : List ℕ). count_trailing_zeros 64 c.told.ends < length xs) (sym (c.as_bytes-bytes.ensures.value ∙ c.range_from-rest.ensures.value)) (c.told.invariant.ends _ low.set).1
+    let low = least c.classified.ends (omega (arith, c.if-ends-ne0.true)) c.classified.invariant.small in
+    subst (λ (xs : List ℕ). count_trailing_zeros 64 c.classified.ends < length xs) (sym (c.as_bytes-bytes.ensures.value ∙ c.range_from-rest.ensures.value)) (c.classified.invariant.ends _ low.set).1
 
 pub overflow_sub-end : goal.overflow_sub-end
 overflow_sub-end g c =
-    let low = least c.told.ends (omega (arith, c.if-ends-ne0.true)) c.told.invariant.small in
-    let after = (c.told.invariant.ends _ low.set).0 in
+    let low = least c.classified.ends (omega (arith, c.if-ends-ne0.true)) c.classified.invariant.small in
+    let after = (c.classified.invariant.ends _ low.set).0 in
     omega (arith, after)
 
-pub told-preserved : goal.told-preserved
-told-preserved g c =
+pub classified-preserved : goal.classified-preserved
+classified-preserved g c =
     let text : List ℕ = c.args.text.now in
     let at : ℕ = c.tokens.at in
-    let from : ℕ = c.told.from in
-    let first : ℕ = c.told.first in
-    let end : ℕ = count_trailing_zeros 64 c.told.ends in
+    let from : ℕ = c.classified.from in
+    let first : ℕ = c.classified.first in
+    let end : ℕ = count_trailing_zeros 64 c.classified.ends in
     let is : IsText text = record { utf8 = c.utf8.text; fits = c.requires.fits } in
     let law = edition_grammar c.args.edition in
-    let inv = c.told.invariant in
-    let low = least c.told.ends (omega (arith, c.if-ends-ne0.true)) inv.small in
+    let inv = c.classified.invariant in
+    let low = least c.classified.ends (omega (arith, c.if-ends-ne0.true)) inv.small in
     let after = (inv.ends end low.set).0 in
     let inside = (inv.ends end low.set).1 in
     let joined : drop from (drop at text) ≡ drop (at + from) text = drop-drop from at text in
-    let utf8 : IsUtf8 (drop from (drop at text)) = subst IsUtf8 (sym joined) (stands law text is c.told.count (at + from) inv.place).past.utf8 in
+    let utf8 : IsUtf8 (drop from (drop at text)) = subst IsUtf8 (sym joined) (stands law text is c.classified.count (at + from) inv.place).past.utf8 in
     let bytes : c.as_bytes-bytes.result.now ≡ drop at text = c.as_bytes-bytes.ensures.value ∙ c.range_from-rest.ensures.value in
-    let some : told first ≢ Eof = inv.tells c.told-test.true in
-    let stays : StaysWithin (told first) (get_or c.as_bytes-bytes.result.now end 0) = elim c.else-not-tells.branch [
+    let some : classified first ≢ Eof = inv.tells c.classified-test.true in
+    let stays : StaysWithin (classified first) (get_or c.as_bytes-bytes.result.now end 0) = elim c.else-not-tells.branch [
       | else-not-tells-via-then-not-tells+else-turns w ↦ w.turns.ensures w.if-turns.false
-      | else-not-tells-via-else-not-tells w ↦ told_stays (told first) _ (c.is_told-tells-in-told.ensures w.if-not-tells.false)
+      | else-not-tells-via-else-not-tells w ↦ classified_stays (classified first) _ (c.is_classified-tells-in-classified.ensures w.if-not-tells.false)
     ] in
     let next : get_or c.as_bytes-bytes.result.now end 0 ≡ get_or (drop at text) end 0 = ap (λ (xs : List ℕ). get_or xs end 0) bytes in
-    let stays_at : StaysWithin (told (get_or (drop at text) from 0)) (get_or (drop at text) end 0) = subst (λ b. StaysWithin (told (get_or (drop at text) from 0)) b) next (subst (λ b. StaysWithin (told b) (get_or c.as_bytes-bytes.result.now end 0)) inv.first stays) in
-    let token = c.told-token.ensures.token (drop at text) from c.told.ends end record { utf8 = utf8; known = inv.ends; small = inv.small; lowest = low; stays = stays_at } inv.first refl in
-    let one : Token = c.told-token.result in
-    let here : first_token_in c.args.edition (drop from (drop at text)) ≡ one = ap (λ (t : Token). changed c.args.edition (chars (drop from (drop at text))) t) (sym token.token) ∙ c.told-token.ensures.same c.args.edition (chars (drop from (drop at text))) in
+    let stays_at : StaysWithin (classified (get_or (drop at text) from 0)) (get_or (drop at text) end 0) = subst (λ b. StaysWithin (classified (get_or (drop at text) from 0)) b) next (subst (λ b. StaysWithin (classified b) (get_or c.as_bytes-bytes.result.now end 0)) inv.first stays) in
+    let token = c.classified-token.ensures.token (drop at text) from c.classified.ends end record { utf8 = utf8; known = inv.ends; small = inv.small; lowest = low; stays = stays_at } inv.first refl in
+    let one : Token = c.classified-token.result in
+    let here : first_token_in c.args.edition (drop from (drop at text)) ≡ one = ap (λ (t : Token). changed c.args.edition (chars (drop from (drop at text))) t) (sym token.token) ∙ c.classified-token.ensures.same c.args.edition (chars (drop from (drop at text))) in
     let there : first_token_in c.args.edition (drop (at + from) text) ≡ one = ap (λ (xs : List ℕ). first_token_in c.args.edition xs) (sym joined) ∙ here in
     let more : at + from < length text = omega (arith, inv.inside) in
-    let before = inv.before c.told-test.true in
-    let long : (first_token_in c.args.edition (drop (at + from) text)).len ≡ end - from = ap (λ (t : Token). t.len) there ∙ c.told-token.ensures.len in
+    let before = inv.before c.classified-test.true in
+    let long : (first_token_in c.args.edition (drop (at + from) text)).len ≡ end - from = ap (λ (t : Token). t.len) there ∙ c.classified-token.ensures.len in
     let same : at + end ≡ at + from + (first_token_in c.args.edition (drop (at + from) text)).len = omega (arith, after, long) in
     record {
-      written = one_written g.R.Record.written (tokens_of (part c.args.edition) text) _ c.args.buffer.now c.told.buffer c.told.count (first_token_in c.args.edition (drop (at + from) text)) inv.written
-          (next_token law text is c.told.count (at + from) inv.place more) (omega arith) _
+      written = one_written g.R.Record.written (tokens_of (part c.args.edition) text) _ c.args.buffer.now c.classified.buffer c.classified.count (first_token_in c.args.edition (drop (at + from) text)) inv.written
+          (next_token law text is c.classified.count (at + from) inv.place more) (omega arith) _
           (c.bare.ensures ∙ ap g.R.Record.written (sym there));
-      begun = begun_more (tokens_of (part c.args.edition) text) c.told.count (at + from) c.args.stop inv.place inv.inside inv.begun;
-      place = same ∙ next_place law text is c.told.count (at + from) inv.place more;
-      ends = past_end (drop at text) c.told.ends from end c.past_lowest-ends.result inv.ends low (λ k le. c.past_lowest-ends.ensures.gone end k low le) (λ k l. c.past_lowest-ends.ensures.others end k low l);
+      begun = begun_more (tokens_of (part c.args.edition) text) c.classified.count (at + from) c.args.stop inv.place inv.inside inv.begun;
+      place = same ∙ next_place law text is c.classified.count (at + from) inv.place more;
+      ends = past_end (drop at text) c.classified.ends from end c.past_lowest-ends.result inv.ends low (λ k le. c.past_lowest-ends.ensures.gone end k low le) (λ k l. c.past_lowest-ends.ensures.others end k low l);
       small = omega arith;
       before = λ _ k set. before k (elim (cases_lt end k) [
         | inl later ↦ sym (c.past_lowest-ends.ensures.others end k low later) ∙ set
@@ -118,7 +118,7 @@ told-preserved g c =
       ]);
       inside = before end low.set;
       first = next;
-      tells = λ e. c.is_told-tells-in-told.ensures e;
+      tells = λ e. c.is_classified-tells-in-classified.ensures e;
       some = λ e. absurd (omega (arith, after, e));
     }
 
@@ -144,30 +144,30 @@ tokens-preserved g c =
     let at : ℕ = c.tokens.at in
     let is : IsText text = record { utf8 = c.utf8.text; fits = c.requires.fits } in
     let law = edition_grammar c.args.edition in
-    let inv = c.told.invariant in
+    let inv = c.classified.invariant in
     let tokens : List Token = tokens_of (part c.args.edition) text in
-    let left : (n : ℕ) → n ≤ c.if-from-eq0.from → AreEndsPast (drop at text) n c.told.ends → IsEnds (drop (at + c.if-from-eq0.from) text) c.ends_left-ends.result =
+    let left : (n : ℕ) → n ≤ c.if-from-eq0.from → AreEndsPast (drop at text) n c.classified.ends → IsEnds (drop (at + c.if-from-eq0.from) text) c.ends_left-ends.result =
     λ n near are. subst (λ (xs : List ℕ). IsEnds xs c.ends_left-ends.result) (drop-drop c.if-from-eq0.from at text) (c.ends_left-ends.ensures (drop at text) n near are) in
     elim c.if-from-eq0.branch [
       | then-from-eq0 w ↦
-          let none : c.told.from ≡ 0 = w.if-from-eq0.true in
-          let place : at ≡ bound tokens c.told.count = let e : at ≡ at + c.told.from = omega (arith, none) in e ∙ inv.place in
+          let none : c.classified.from ≡ 0 = w.if-from-eq0.true in
+          let place : at ≡ bound tokens c.classified.count = let e : at ≡ at + c.classified.from = omega (arith, none) in e ∙ inv.place in
           let more : at < length text = omega arith in
           let token = w.token_in-token.ensures.token ∙ ap (λ (xs : List ℕ). first_token_in c.args.edition xs) c.range_from-rest.ensures.value in
-          let written = one_written g.R.Record.written tokens _ c.args.buffer.now c.told.buffer c.told.count (first_token_in c.args.edition (drop at text)) inv.written
-          (next_token law text is c.told.count at place more) (inv.some none) _ (w.of.ensures ∙ ap g.R.Record.written token) in
+          let written = one_written g.R.Record.written tokens _ c.args.buffer.now c.classified.buffer c.classified.count (first_token_in c.args.edition (drop at text)) inv.written
+          (next_token law text is c.classified.count at place more) (inv.some none) _ (w.of.ensures ∙ ap g.R.Record.written token) in
           record {
-            written = subst (λ r. IsWritten g.R.Record.written tokens c.args.buffer.now r c.if-from-eq0.count) (sym w.buffer-is) (subst (λ n. IsWritten g.R.Record.written tokens c.args.buffer.now (slice_set c.told.buffer c.told.count w.of.result) n) (sym w.count-is) written);
-            begun = subst (λ n. (k : ℕ) → k < n → bound tokens k < c.args.stop) (sym w.count-is) (begun_more tokens c.told.count at c.args.stop place (omega arith) inv.begun);
-            place = ap (λ n. at + n) (w.from-is ∙ ap (λ (t : Token). t.len) token) ∙ (next_place law text is c.told.count at place more ∙ ap (bound tokens) (sym w.count-is));
-            ends = left c.told.from (omega (arith, none)) inv.ends;
+            written = subst (λ r. IsWritten g.R.Record.written tokens c.args.buffer.now r c.if-from-eq0.count) (sym w.buffer-is) (subst (λ n. IsWritten g.R.Record.written tokens c.args.buffer.now (slice_set c.classified.buffer c.classified.count w.of.result) n) (sym w.count-is) written);
+            begun = subst (λ n. (k : ℕ) → k < n → bound tokens k < c.args.stop) (sym w.count-is) (begun_more tokens c.classified.count at c.args.stop place (omega arith) inv.begun);
+            place = ap (λ n. at + n) (w.from-is ∙ ap (λ (t : Token). t.len) token) ∙ (next_place law text is c.classified.count at place more ∙ ap (bound tokens) (sym w.count-is));
+            ends = left c.classified.from (omega (arith, none)) inv.ends;
             small = omega arith;
           }
       | else-from-eq0 w ↦ record {
-        written = subst (λ r. IsWritten g.R.Record.written tokens c.args.buffer.now r c.if-from-eq0.count) (sym w.buffer-is) (subst (λ n. IsWritten g.R.Record.written tokens c.args.buffer.now c.told.buffer n) (sym w.count-is) inv.written);
+        written = subst (λ r. IsWritten g.R.Record.written tokens c.args.buffer.now r c.if-from-eq0.count) (sym w.buffer-is) (subst (λ n. IsWritten g.R.Record.written tokens c.args.buffer.now c.classified.buffer n) (sym w.count-is) inv.written);
         begun = subst (λ n. (k : ℕ) → k < n → bound tokens k < c.args.stop) (sym w.count-is) inv.begun;
         place = ap (λ n. at + n) w.from-is ∙ (inv.place ∙ ap (bound tokens) (sym w.count-is));
-        ends = left c.told.from (omega (arith, w.from-is)) inv.ends;
+        ends = left c.classified.from (omega (arith, w.from-is)) inv.ends;
         small = omega arith;
       }
     ]

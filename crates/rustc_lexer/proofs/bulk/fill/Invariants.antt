@@ -2,7 +2,7 @@ use Rattle.std.proofs.Common.{◌≡◌, ◌≢◌, ◌+◌, ◌-◌, ◌^◌, �
 use Rattle.rustc_lexer.specs.{Eof}
 use Rattle.rustc_lexer.specs.Tokens.{bound, tokens_of}
 use Rattle.rustc_lexer.specs.LanguageText.{part}
-use Rattle.rustc_lexer.specs.means.Ends.{told, bit, AreEndsPast, IsEnds}
+use Rattle.rustc_lexer.specs.means.Ends.{classified, bit, AreEndsPast, IsEnds}
 use Rattle.rustc_lexer.proofs.BulkLemmas.{IsWritten}
 use Rattle.rustc_lexer.proofs.bulk.fill.Given as goal
 
@@ -18,8 +18,8 @@ invariant-tokens g l = record {
 abbrev pub decreases-tokens : goal.decreases-tokens
 decreases-tokens g l = length l.text - l.at
 
-abbrev pub invariant-told : goal.invariant-told
-invariant-told g l = record {
+abbrev pub invariant-classified : goal.invariant-classified
+invariant-classified g l = record {
   written : IsWritten g.R.Record.written (tokens_of (part l.edition) l.text) l.fn.buffer l.buffer l.count;
   begun : (k : ℕ) → k < l.count → bound (tokens_of (part l.edition) l.text) k < l.stop;
   place : l.at + l.from ≡ bound (tokens_of (part l.edition) l.text) l.count;
@@ -28,9 +28,9 @@ invariant-told g l = record {
   before : l.tells ≡ true → (k : ℕ) → bit l.ends k ≡ true → l.at + k < l.stop;
   inside : l.at + l.from < l.stop;
   first : l.first ≡ get_or (drop l.at l.text) l.from 0;
-  tells : l.tells ≡ true → told l.first ≢ Eof;
+  tells : l.tells ≡ true → classified l.first ≢ Eof;
   some : l.from ≡ 0 → l.count < length l.buffer;
 }
 
-abbrev pub decreases-told : goal.decreases-told
-decreases-told g l = length l.buffer - l.count
+abbrev pub decreases-classified : goal.decreases-classified
+decreases-classified g l = length l.buffer - l.count

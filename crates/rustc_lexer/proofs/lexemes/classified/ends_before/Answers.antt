@@ -3,7 +3,7 @@ use Rattle.std.proofs.lemmas.Nat.{one_shl}
 use Rattle.rustc_lexer.specs.means.Ends.{bit, IsEnds}
 use Rattle.rustc_lexer.proofs.BitLemmas.{within}
 use Rattle.rustc_lexer.proofs.EndsLemmas.{ends_before, before_place}
-use Rattle.rustc_lexer.proofs.lexemes.told.ends_before.Goals as goal
+use Rattle.rustc_lexer.proofs.lexemes.classified.ends_before.Goals as goal
 
 pub returns-then-place-lt64-clause-known : goal.returns-then-place-lt64-clause-known
 returns-then-place-lt64-clause-known c = λ text are. subst (λ m. IsEnds text (bit_and c.args.ends (m - 1))) (sym (one_shl c.args.place 64 (omega arith))) (ends_before text c.args.ends c.args.place are)

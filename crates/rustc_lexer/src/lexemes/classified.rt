@@ -1,16 +1,25 @@
-//! The commonest tokens, told by their first byte and the ends of runs.
+//! The commonest tokens, classified by their first byte and the ends of runs.
+ghost use Rattle.std.specs.Prelude.{◌≡◌, ◌≢◌, ◌≤◌, ◌<◌, ◌+◌, ◌-◌, suc, ℕ, List, false, drop, slice_index, true, IsTrue, IsFalse};
+ghost use Rattle.rustc_lexer.specs.{Edition};
+ghost use Rattle.rustc_lexer.specs.Tokens.{has_fields};
+ghost use Rattle.rustc_lexer.specs.means.Edition.{changed};
+ghost use Rattle.rustc_lexer.specs.means.Ends as spec;
+ghost use Rattle.rustc_lexer.specs.declared.lexemes.family.Family.TheVariants.{Symbol};
+ghost use Rattle.rustc_lexer.specs.means.Ends.{bit, AreEndsPast, IsEnds, IsLowest, StaysWithin, TellsAt};
+ghost use Rattle.rustc_lexer.specs.means.Lexeme;
+ghost use Rattle.rustc_lexer.specs.means.Quick.{turns_word, IsFirstToken};
 
-use crate::erased::kernels::ends_of_runs;
-use crate::erased::token::TokenKind::{
+use crate::kernels::ends_of_runs;
+use crate::token::TokenKind::{
     And, At, Bang, Caret, CloseBrace, CloseBracket as ShutSquare, CloseParen, Colon, Comma, Dollar,
     Dot, Eof, Eq, Gt, Ident, Lt, Minus, OpenBrace, OpenBracket as OpenSquare, OpenParen, Or,
     Percent, Plus, Question, Semi, Star, Tilde, Unknown, Whitespace,
 };
-use crate::erased::token::{Token, TokenKind};
+use crate::token::{Token, TokenKind};
 
 /// What the first byte of a text says of its token, where its run and the byte past that tell all of it: else
 /// `Eof`. A look in a table costs less than a choice: which byte comes next is hard to foresee.
-static TOLD: [TokenKind; 256] = [
+static CLASSIFIED: [TokenKind; 256] = [
     Unknown, Unknown, Unknown, Unknown, Unknown, Unknown, Unknown, Unknown, Unknown, Whitespace,
     Whitespace, Whitespace, Whitespace, Whitespace, Unknown, Unknown, Unknown, Unknown, Unknown,
     Unknown, Unknown, Unknown, Unknown, Unknown, Unknown, Unknown, Unknown, Unknown, Unknown,
@@ -31,28 +40,42 @@ static TOLD: [TokenKind; 256] = [
     Eof, Eof, Eof, Eof, Eof,
 ];
 
-/// Whether a token that begins with the byte may be told by the ends of runs.
+/// Whether a token that begins with the byte may be classified by the ends of runs.
 #[inline(always)]
-pub(crate) fn is_told(first: u8) -> bool {
-    !matches!(told_by(first), TokenKind::Eof)
+pub(crate) fn is_classified(first: u8) -> bool
+    ensures { IsTrue result → spec.classified first ≢ TokenKind.Eof }
+{
+    !matches!(classified_by(first), TokenKind::Eof)
 }
 
 /// What the byte says of the token that begins with it.
 #[inline(always)]
-fn told_by(first: u8) -> TokenKind {
-    TOLD[first as usize]
+fn classified_by(first: u8) -> TokenKind
+    ensures { result ≡ spec.classified first }
+{
+    CLASSIFIED[first as usize]
 }
 
 /// What a character is by itself that no longer token begins with.
 #[inline(always)]
-pub(crate) fn symbol_kind(c: char) -> TokenKind {
+pub(crate) fn symbol_kind(c: char) -> TokenKind
+    requires { Lexeme.family_of c ≡ Symbol }
+    ensures { result ≡ Lexeme.symbol_kind c }
+{
     let code = c as usize;
-    if code < 128 { TOLD[code] } else { Unknown }
+    if code < 128 {
+        CLASSIFIED[code]
+    } else {
+        Unknown
+    }
 }
 
 /// The ends of runs that are known, or else those of the first 64 bytes.
 #[inline(always)]
-pub(crate) fn ends_for(text: &str, ends: u64) -> u64 {
+pub(crate) fn ends_for(text: &str, ends: u64) -> u64
+    requires { IsEnds text.now ends }
+    ensures { IsEnds text.now result }
+{
     if ends != 0 {
         ends
     } else {
@@ -62,7 +85,10 @@ pub(crate) fn ends_for(text: &str, ends: u64) -> u64 {
 
 /// The ends of runs that are known before a place.
 #[inline(always)]
-pub(crate) fn ends_before(ends: u64, place: usize) -> u64 {
+pub(crate) fn ends_before(ends: u64, place: usize) -> u64
+    ensures known { (text : List ℕ) → IsEnds text ends → IsEnds text result }
+    ensures before { (k : ℕ) → bit result k ≡ true → k < place }
+{
     if place < 64 {
         ends & ((1 << place) - 1)
     } else {
@@ -72,28 +98,46 @@ pub(crate) fn ends_before(ends: u64, place: usize) -> u64 {
 
 /// The ends of runs past the lowest.
 #[inline(always)]
-pub(crate) fn past_lowest(ends: u64) -> u64 {
+pub(crate) fn past_lowest(ends: u64) -> u64
+    requires { ends ≢ 0 }
+    ensures gone { (low k : ℕ) → IsLowest ends low → k ≤ low → bit result k ≡ false }
+    ensures others { (low k : ℕ) → IsLowest ends low → low < k → bit result k ≡ bit ends k }
+{
     ends & (ends - 1)
 }
 
 /// The ends of runs that are known past so many bytes.
 #[inline(always)]
-pub(crate) fn ends_left(ends: u64, len: u32) -> u64 {
+pub(crate) fn ends_left(ends: u64, len: u32) -> u64
+    ensures { (text : List ℕ) (from : ℕ) → from ≤ len → AreEndsPast text from ends
+        → IsEnds (drop len text) result }
+{
     if len < 64 { ends_past(ends, len) } else { 0 }
 }
 
 /// The ends of runs past so many bytes.
 #[inline(always)]
-fn ends_past(ends: u64, len: u32) -> u64 {
+fn ends_past(ends: u64, len: u32) -> u64
+    requires { len < 64 }
+    ensures first { bit result 0 ≡ false }
+    ensures later { (k : ℕ) → bit result (suc k) ≡ bit ends (len + suc k) }
+{
     (ends >> len) & !1
 }
 
 /// The token that begins with the byte, where the ends of runs tell it, and so how many bytes it has. It has no fields,
 /// and each edition has it.
 #[inline(always)]
-pub(crate) fn told(first: u8, len: u32) -> Token {
+pub(crate) fn classified(first: u8, len: u32) -> Token
+    requires { spec.classified first ≢ TokenKind.Eof }
+    ensures token { (text : List ℕ) (from ends end : ℕ) → TellsAt text from ends end
+        → first ≡ slice_index text from → len ≡ end - from → IsFirstToken (drop from text) result }
+    ensures bare { has_fields result.kind ≡ false }
+    ensures same { (edition : Edition) (cs : List ℕ) → changed edition cs result ≡ result }
+    ensures len { result.len ≡ len }
+{
     Token {
-        kind: told_by(first),
+        kind: classified_by(first),
         len,
     }
 }
@@ -101,9 +145,11 @@ pub(crate) fn told(first: u8, len: u32) -> Token {
 /// Whether the token that begins with the byte `first`, and whose run the byte `next` follows, may be another or go
 /// on.
 #[inline(always)]
-pub(crate) fn turns(first: u8, next: u8) -> bool {
+pub(crate) fn turns(first: u8, next: u8) -> bool
+    ensures { IsFalse result → StaysWithin (spec.classified first) next }
+{
     is_mark(next)
-        && match told_by(first) {
+        && match classified_by(first) {
             TokenKind::Ident => true,
             TokenKind::Whitespace => next == 0xC2 || next == 0xE2,
             _ => false,
@@ -112,6 +158,8 @@ pub(crate) fn turns(first: u8, next: u8) -> bool {
 
 /// Whether a word that the byte follows may be no identifier.
 #[inline(always)]
-fn is_mark(next: u8) -> bool {
+fn is_mark(next: u8) -> bool
+    ensures { result ≡ turns_word next }
+{
     next >= 128 || matches!(next, b'#' | b'"' | b'\'')
 }

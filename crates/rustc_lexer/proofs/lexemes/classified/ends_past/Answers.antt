@@ -1,5 +1,5 @@
 use Rattle.rustc_lexer.proofs.BitLemmas.{past-first, past-later}
-use Rattle.rustc_lexer.proofs.lexemes.told.ends_past.Goals as goal
+use Rattle.rustc_lexer.proofs.lexemes.classified.ends_past.Goals as goal
 
 pub returns-clause-first : goal.returns-clause-first
 returns-clause-first c = past-first c.args.ends c.args.len
