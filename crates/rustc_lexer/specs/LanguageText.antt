@@ -3,7 +3,7 @@
 -- An older one has others in the place of what the compiler's lexer leaves to its caller: guarded
 -- strings, raw lifetimes and reserved prefixes. C strings and `k#` are read alike in all editions,
 -- though Rust has C strings since 2021 only (docs/EDITIONS.md, "What is left to a compiler").
-use Rattle.std.specs.Prelude.{◌≡◌, ◌<◌, ◌≤◌, ℕ, nat_eq, if◌then◌else◌, true, false, List, ◌∷◌, codes, Option, Some, None, ◌+◌, not, Bool, [], ◌++◌, ◌↔◌}
+use Rattle.std.specs.Prelude.{◌≡◌, ◌<◌, ◌≤◌, ℕ, nat_eq, if◌then◌else◌, find, true, false, List, ◌∷◌, codes, Option, Some, None, ◌+◌, not, Bool, [], ◌++◌, ◌↔◌}
 use Rattle.std.specs.Str.{byte, bytes_eq, encode_utf8_all}
 use Rattle.rustc_lexer.specs.{Edition, FrontmatterAllowed, Token, TokenKind, E2015, E2018, E2021, E2024, Yes, No, Ident, UnknownPrefix, Lifetime, UnknownPrefixLifetime, Pound, RawLifetime, GuardedStrPrefix, Whitespace, Frontmatter, Eof}
 use Rattle.rustc_lexer.specs.Classes.{Chars, begins_ident_after, is_among, is_whitespace, next_is, bytes}
@@ -19,12 +19,7 @@ year E2024 = 2024
 
 -- the edition of a year
 abbrev pub edition_of_year : ℕ → Option Edition
-edition_of_year year =
-    if nat_eq year 2015 then Some E2015
-    else (if nat_eq year 2018 then Some E2018
-    else (if nat_eq year 2021 then Some E2021
-    else (if nat_eq year 2024 then Some E2024
-    else None)))
+edition_of_year number = find (λ edition. nat_eq number (year edition)) (E2015 ∷ E2018 ∷ E2021 ∷ E2024 ∷ [])
 
 -- the edition that a word names, by its year
 abbrev pub edition_of : List ℕ → Option Edition

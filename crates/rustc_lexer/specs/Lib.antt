@@ -24,4 +24,5 @@ pub use declared.token.FrontmatterAllowed.TheVariants.*
 pub use declared.token.LiteralKind.TheVariants.*
 pub use declared.token.RawStrError.TheVariants.*
 pub use declared.token.TokenKind.TheVariants.*
+-- each of them has a `the_data`, and one has to be named
 use declared.token.TokenKind.TheVariants.{the_data}
