@@ -1,6 +1,6 @@
 /* Calls of the library with texts and buffers at odd places: right before a page that may not be read, right behind
- * one, and in a block of the heap that is as long as they are. Texts end anywhere, also inside a character; buffers have few
- * tokens, and edits are random. Exits with 1 at the first check that fails, and says which.
+ * one, and in a block of the heap that is as long as they are. Texts end anywhere, also inside a character; buffers
+ * have few tokens, and edits are random. Exits with 1 at the first check that fails, and says which.
  *
  *     odd_places ROUNDS FILE..
  *
