@@ -51,7 +51,7 @@ static ROWS: &[(&[Part], &[Call])] = calls! {
     "#\"a\\\"" => Found(1, false, 5), Rest(""), END;
     "" => Missing, Rest(""), END;
     "##" => Missing, Rest(""), END;
-    "##x" => Missing, Rest("x"), Advance((Ident, 3));
+    "##x" => Missing, Rest("x"), Advance((Ident, 3)), END;
     "# x" => Missing, Rest(" x"), Advance((Whitespace, 2));
     "x#\"a\"" => Missing, Rest("x#\"a\""), Advance((UnknownPrefix, 1));
     // The place of a suffix counts what is pending.

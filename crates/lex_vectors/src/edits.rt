@@ -2,7 +2,7 @@
 use crate::rows::Made;
 use crate::steppers::{Characters, Counting};
 use crate::tables::edits::{CHARACTERS, EditRow, LONG, SHORT, Step};
-use rustc_lexer::{Edit, EditStop, LexedText, Stepper, fits};
+use rustc_lexer::{Edit, EditStop, Edition, LexedText, Stepper, fits};
 use std::alloc::{AllocError, Global};
 
 /// Whether the text and the tokens are these.
@@ -88,7 +88,10 @@ fn holds(alloc: Global, row: &EditRow) -> Result<bool, AllocError> {
     if !fits(text) {
         return Ok(false);
     }
-    let mut kept = LexedText::new_in(alloc, text, row.edition)?;
+    let mut kept = match row.edition {
+        Edition::E2024 => LexedText::new(alloc, text)?,
+        edition => LexedText::new_in(alloc, text, edition)?,
+    };
     let mut edited = LexedText::with(alloc, text, Counting::new_in(row.edition))?;
     let mut listed = LexedText::with(alloc, text, Counting::new_in(row.edition))?;
     let calls = edited.stepper().calls.saturating_add(lexed_by(row));

@@ -38,3 +38,10 @@ module _ (job : Job) (text : List ℕ) (old mid : Option (List ℕ)) (held left 
   ends_listed new (Err fault) none is p only ok err =
       let w : Went old mid p.0 left = subst (λ (xs : List ℕ). Went old mid (xs ++ p.0) left) none p.2 in
       subst (λ (f : Fault). Ends job text old new (Err f)) (sym only) (is, (p.0, p.1, front_more old mid new w.front left p.0 (sym w.whole) w.grew err))
+
+-- what went out, and then what is held, are the bytes; where the end fails a beginning of them went out
+pub front_written : (old mid new : Option (List ℕ)) (held bytes left : List ℕ) (result : Result (Unit {0}) Fault) → held ≡ [] → Went old mid (held ++ bytes) left → OnErr result (AppendsFront mid new left) → OnErr result (AppendsFront old new bytes)
+front_written old mid new held bytes left (Ok done) none went err = grind (arith, common_steps)
+front_written old mid new held bytes left (Err fault) none went err =
+    let w : Went old mid bytes left = subst (λ (xs : List ℕ). Went old mid (xs ++ bytes) left) none went in
+    front_more old mid new w.front left bytes (sym w.whole) w.grew err

@@ -20,7 +20,7 @@ pub record Replacement : Type 0 where
 -- what words ask for
 pub data Command : Type 0 where
   plain : Edition → Command
-  front : Edition → Command
+  front : Command
   shebang : Command
   edit : Edition → List Replacement → Command
 
@@ -60,23 +60,26 @@ abbrev pub edit_job : Edition → List (List ℕ) → Option Command
 edit_job edition [] = None
 edit_job edition (start ∷ words) = option_map (edit edition) (replacements_of (start ∷ words))
 
--- what words ask for in an edition: no words for the tokens of the text, `front` for those of the text with a frontmatter,
--- `edit` and one edit or more for those of the edited text
+-- what words ask for in an edition: no words for the tokens of the text, `edit` and one edit or more for those of the
+-- edited text
 abbrev pub job_in : Edition → List (List ℕ) → Option Command
 job_in edition [] = Some (plain edition)
-job_in edition (word ∷ []) = if bytes_eq word (codes "front") then Some (front edition) else None
-job_in edition (word ∷ second ∷ words) = if bytes_eq word (codes "edit") then edit_job edition (second ∷ words) else None
+job_in edition (word ∷ words) = if bytes_eq word (codes "edit") then edit_job edition words else None
 
 -- the same, where the edition may be none
 abbrev pub job_by : Option Edition → List (List ℕ) → Option Command
 job_by None words = None
 job_by (Some edition) words = job_in edition words
 
--- what the words after the program's name ask for: `shebang` for the length of the text's shebang line, `--edition` and a
--- year for what the words after them ask for in that edition, and else what they ask for in the newest one
+-- what the words after the program's name ask for: `front` for the tokens of the text with a frontmatter, `shebang` for
+-- the length of its shebang line, `--edition` and a year for what the words after them ask for in that edition, and else
+-- what they ask for in the newest one
 abbrev pub job_of : List (List ℕ) → Option Command
-job_of [] = Some (plain E2024)
-job_of (word ∷ []) = if bytes_eq word (codes "shebang") then Some shebang else job_in E2024 (word ∷ [])
+job_of [] = job_in E2024 []
+job_of (word ∷ []) =
+    if bytes_eq word (codes "front") then Some front
+    else (if bytes_eq word (codes "shebang") then Some shebang
+    else job_in E2024 (word ∷ []))
 job_of (word ∷ second ∷ words) = if bytes_eq word (codes "--edition") then job_by (edition_of second) words else job_in E2024 (word ∷ second ∷ words)
 
 abbrev pub replacement : TextEdit → Replacement
@@ -85,7 +88,7 @@ replacement e = record { start = e.start; stop = e.stop; insert = e.insert.now }
 -- what a job does, with its edits as a list
 abbrev pub command_of : Job → Command
 command_of (Plain edition) = plain edition
-command_of (Front edition) = front edition
+command_of Front = front
 command_of Shebang = shebang
 command_of (Edit edition edits) = edit edition (map replacement edits.items)
 

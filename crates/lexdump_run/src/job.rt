@@ -15,11 +15,9 @@ pub enum Job<'a> {
     Plain {
         edition: Edition,
     },
-    /// List them, where a frontmatter may stand in front.
-    Front {
-        edition: Edition,
-    },
-    /// Tell the length of the shebang line.
+    /// List the tokens of the text in the newest edition, where a frontmatter may stand in front.
+    Front,
+    /// Print the length of the shebang line.
     Shebang,
     /// List the tokens of the text after the edits, in an edition.
     Edit {
@@ -35,6 +33,7 @@ pub fn read_job<'a>(alloc: Global, words: &'a [String]) -> Result<Job<'a>, Fault
     ensures fault { IfErr result (λ fault. IsJobFault fault (job_of (map string_bytes words.now))) }
 {
     match words {
+        [command] if command.as_str() == "front" => Ok(Job::Front),
         [command] if command.as_str() == "shebang" => Ok(Job::Shebang),
         [option, year, rest @ ..] if option.as_str() == "--edition" => {
             let Ok(edition) = Edition::from_str(year.as_str()) else {
@@ -46,7 +45,7 @@ pub fn read_job<'a>(alloc: Global, words: &'a [String]) -> Result<Job<'a>, Fault
     }
 }
 
-/// Reads the words of a job that lists the tokens of an edition.
+/// Reads the words of a job that may name an edition.
 fn read_job_in<'a>(alloc: Global, words: &'a [String], edition: Edition) -> Result<Job<'a>, Fault>
     ensures job { IfOk result
         (λ job. job_in edition (map string_bytes words.now) ≡ Some (command_of job)) }
@@ -55,7 +54,6 @@ fn read_job_in<'a>(alloc: Global, words: &'a [String], edition: Edition) -> Resu
 {
     match words {
         [] => Ok(Job::Plain { edition }),
-        [command] if command.as_str() == "front" => Ok(Job::Front { edition }),
         [command, edits @ ..] if command.as_str() == "edit" => {
             read_edit_job(alloc, edits, edition)
         }

@@ -1,5 +1,7 @@
 //! The listing of tokens: a line for each, with its start, its length, its kind and the fields of that.
-ghost use Rattle.std.specs.Prelude.{◌≡◌, ◌+◌, ◌^◌, ◌<◌, ◌++◌, [], Ok, codes, false, is_err, length, IfErr, IfOk};
+ghost use Rattle.std.specs.Prelude.{◌≡◌, ◌+◌, ◌^◌, ◌<◌, ◌++◌, [], Ok, codes, false, true, is_err, length, IfErr, IfOk, OnErr, OnOk};
+ghost use Rattle.std.specs.Io.KnownBytes.{Appends};
+ghost use Rattle.ends.specs.Known.{AppendsFront};
 ghost use Rattle.lexdump_run.specs.Listing.{base_text, bool_text, fields_text, hashes_text, line_text, listing, listing_from, literal_text, place_text, shebang_line, style_text};
 ghost use Rattle.lexdump_run.specs.Pushed.{Pushes};
 ghost use Rattle.lexdump_run.specs.Fields.{field_text, fields_shown};
@@ -30,6 +32,27 @@ fn new_buffer() -> [Token; BUFFER_LEN] {
         kind: TokenKind::Eof,
         len: 0,
     }; BUFFER_LEN]
+}
+
+/// Writes the lines of tokens, of which the first begins at the byte `start`, and flushes the output.
+pub fn write_listing<W: Write>(
+    output: &mut Watched<W>,
+    start: u32,
+    tokens: &[Token],
+) -> Result<(), Fault>
+    requires fits { start + bound tokens.now (length tokens.now) < 2 ^ 32 }
+    requires writes { output.old.failed ≡ false }
+    ensures write { IfErr result (λ fault. fault ≡ Fault.Write) }
+    ensures failed { output.new.failed ≡ is_err result }
+    ensures flushed { IfOk result (λ _. output.new.flushed ≡ true) }
+    ensures whole { OnOk result (Appends (W.contents output.old.inner)
+        (W.contents output.new.inner) (listing_from start tokens.now)) }
+    ensures front { OnErr result (AppendsFront (W.contents output.old.inner)
+        (W.contents output.new.inner) (listing_from start tokens.now)) }
+{
+    let mut lines = Block::new();
+    push_lines(&mut lines, output, start, tokens)?;
+    lines.finish(output)
 }
 
 /// Lists the tokens of a text, which has at most `u32::MAX` bytes, in an edition.

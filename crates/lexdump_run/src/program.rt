@@ -9,7 +9,7 @@ ghost use Rattle.lexdump_run.specs.Program.{exit_status, told, Ran};
 use crate::fault::Fault;
 use crate::job::read_job;
 use crate::report::report;
-use crate::run::run;
+use crate::run_job::run;
 use ends::{Watched, past_name};
 use std::alloc::Global;
 use std::env::Args;

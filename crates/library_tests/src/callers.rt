@@ -4,11 +4,13 @@ use Edition::{E2015, E2018, E2021, E2024};
 use examples::arriving::{Arriving, lex_pieces};
 use examples::comments::skip_comments;
 use examples::highlight::highlight;
+use examples::names::first_name;
 use examples::raw_strings::{RawFault, raw_faults};
 use examples::repaint::{edit_shown, repaint};
 use examples::slices::find_word;
 use examples::spans::{Span, spans};
 use examples::split::split_in;
+use examples::suffixes::any_suffix;
 use rustc_lexer::{Edition, LexedText, LiteralKind, RawStrError, Relexed, Token, TokenKind, fits};
 use std::alloc::{AllocError, Global};
 
@@ -48,6 +50,40 @@ fn words(rt: HostRuntime) {
             fits(text) && find_word(text, word) == *wanted,
             "at {text:?}"
         );
+    }
+}
+
+/// Texts, editions, and the first name in each.
+static NAMES: &[(&str, Edition, Option<&str>)] = &[
+    ("1 + r#fn", E2024, Some("fn")),
+    ("// a\n\"b\" é", E2015, Some("é")),
+    ("z\"a\"", E2021, None),
+    ("z\"a\"", E2018, Some("z")),
+];
+
+#[test]
+fn names(rt: HostRuntime) {
+    for (text, edition, wanted) in NAMES {
+        assert!(rt;
+            fits(text) && first_name(text, *edition) == *wanted,
+            "at {text:?}"
+        );
+    }
+}
+
+/// Texts, and whether a literal in each has a suffix.
+static SUFFIXES: &[(&str, bool)] = &[
+    ("a 1u", true),
+    ("\"a\"s", true),
+    ("1 'a' b", false),
+    ("\"as", false),
+    ("r##\"a\"#s", false),
+];
+
+#[test]
+fn suffixes(rt: HostRuntime) {
+    for (text, wanted) in SUFFIXES {
+        assert!(rt; fits(text) && any_suffix(text) == *wanted, "at {text:?}");
     }
 }
 

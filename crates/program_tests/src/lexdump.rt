@@ -1,22 +1,22 @@
 //! Tests of `lexdump`: words, listings, what stops a run, and the lines on standard error.
-use crate::failing_ends::{BYTES, Script, ScriptWriter, WHOLE};
+use crate::failing_ends::{BYTES, Script, ScriptWriter, Turn, WHOLE};
 use crate::words::{rows, words_of};
+use Turn::{Fails, MovesNothing};
 use Wanted::{Edits, Front, Nothing, Plain, Shebang};
-use ends::Watched;
 use lexdump_run::program::program;
 use lexdump_run::report::report;
-use lexdump_run::run::run;
-use lexdump_run::{Fault, Job, read_job, status};
-use rustc_lexer::Edition;
+use lexdump_run::{Fault, Job, Watched, read_job, run, status, write_listing};
 use rustc_lexer::Edition::{E2015, E2018, E2021, E2024};
+use rustc_lexer::{Edition, FrontmatterAllowed, tokenize};
 use std::alloc::{AllocError, Global};
+use std::io::ErrorKind;
 use std::test::Fail;
 
 /// What words may ask for: a job, whose edits are `start, stop, insert`, or nothing.
 #[derive(Clone, Copy)]
 enum Wanted {
     Plain(Edition),
-    Front(Edition),
+    Front,
     Shebang,
     Edits(Edition, &'static [(usize, usize, &'static str)]),
     Nothing,
@@ -25,13 +25,12 @@ enum Wanted {
 /// Words with bars between them, and what they ask for.
 static JOBS: &[(&str, Wanted)] = rows! {
     "" => Plain(E2024);
-    "front" => Front(E2024);
+    "front" => Front;
     "shebang" => Shebang;
     "--edition|2015" => Plain(E2015);
     "--edition|2018" => Plain(E2018);
     "--edition|2021" => Plain(E2021);
     "--edition|2024" => Plain(E2024);
-    "--edition|2021|front" => Front(E2021);
     "--edition|2018|edit|6|6|x" => Edits(E2018, &[(6, 6, "x")]);
     "edit|08|8|z" => Edits(E2024, &[(8, 8, "z")]);
     "edit|9|1|edit" => Edits(E2024, &[(9, 1, "edit")]);
@@ -55,6 +54,7 @@ static JOBS: &[(&str, Wanted)] = rows! {
     "edit|0|0||0|+|" => Nothing;
     "--edition" => Nothing;
     "--edition|2016" => Nothing;
+    "--edition|2018|front" => Nothing;
     "--edition|2018|shebang" => Nothing;
     "--edition|2018|edit" => Nothing;
     "--edition|2018|--edition|2018" => Nothing;
@@ -66,7 +66,7 @@ static JOBS: &[(&str, Wanted)] = rows! {
 fn is_wanted(job: &Result<Job<'_>, Fault>, wanted: Wanted) -> bool {
     match job {
         Ok(Job::Plain { edition }) => matches!(wanted, Plain(want) if want == *edition),
-        Ok(Job::Front { edition }) => matches!(wanted, Front(want) if want == *edition),
+        Ok(Job::Front) => matches!(wanted, Front),
         Ok(Job::Shebang) => matches!(wanted, Shebang),
         Ok(Job::Edit { edition, edits }) => match wanted {
             Edits(want, list) => {
@@ -134,7 +134,6 @@ static LISTED: &[Listed] = listed! {
     "shebang", "fn" => "none\n";
     "shebang", "#![no_std]\n" => "none\n";
     "front", "---\n//!d\nuse a" => "0 8 Frontmatter has_invalid_preceding_whitespace=false invalid_infostring=false\n8 1 Whitespace\n9 3 Ident\n12 1 Whitespace\n13 1 Ident\n";
-    "--edition|2021|front", "---\n---\n#\"a\"" => "0 7 Frontmatter has_invalid_preceding_whitespace=false invalid_infostring=false\n7 1 Whitespace\n8 1 Pound\n9 3 Literal kind=Str terminated=true suffix_start=3\n";
     // Edits.
     "edit|8|8|z", "ab cd ef" => "0 2 Ident\n2 1 Whitespace\n3 2 Ident\n5 1 Whitespace\n6 3 Ident\n";
     "edit|8|8|z|0|3|", "ab cd ef" => "0 2 Ident\n2 1 Whitespace\n3 3 Ident\n";
@@ -173,6 +172,20 @@ fn listings(rt: HostRuntime) -> Result<(), Fail> {
     for (number, row) in LISTED.iter().enumerate() {
         assert!(rt; is_listed(&rt, row)?, "row {number}");
     }
+    Ok(())
+}
+
+#[test]
+fn listing_of_some_tokens(rt: HostRuntime) -> Result<(), Fail> {
+    let mut tokens = Vec::new(rt.alloc());
+    for token in tokenize("b; c", FrontmatterAllowed::No) {
+        tokens.push(token)?;
+    }
+    let mut output = WHOLE.writer(rt.alloc());
+    assert!(rt; write_listing(&mut output, 10, &tokens.as_slice()[1..]) == Ok(()));
+    let output = output.into_inner();
+    let listing = b"10 1 Semi\n11 1 Whitespace\n12 1 Ident\n".as_slice();
+    assert!(rt; output.taken.as_slice() == listing && output.flushes == 1);
     Ok(())
 }
 
@@ -220,6 +233,50 @@ fn stops(rt: HostRuntime) -> Result<(), Fail> {
         assert!(rt; is_right, "row {number}");
     }
     Ok(())
+}
+
+/// Whether a run over `ab cd` by the ends of a script stops with the fault, has these ends failed, and wrote this.
+fn is_stopped(
+    rt: &HostRuntime,
+    script: Script,
+    fault: Fault,
+    failed: [bool; 2],
+    written: &[u8],
+) -> bool {
+    let job = Job::Plain { edition: E2024 };
+    let mut input = script.reader(b"ab cd");
+    let mut output = script.writer(rt.alloc());
+    run(rt.alloc(), &job, &mut input, &mut output) == Err(fault)
+        && [input.failed(), output.failed()] == failed
+        && output.into_inner().taken.as_slice() == written
+}
+
+#[test]
+fn faults_of_failing_ends(rt: HostRuntime) {
+    let listing = b"0 2 Ident\n2 1 Whitespace\n3 2 Ident\n".as_slice();
+    for call in 0..3usize {
+        let script = Script {
+            read: Some((call, Fails(ErrorKind::Other))),
+            ..BYTES
+        };
+        let holds = is_stopped(&rt, script, Fault::Read, [true, false], b"");
+        assert!(rt; holds, "read {call}");
+    }
+    for call in 0..listing.len() {
+        for turn in [Fails(ErrorKind::Other), MovesNothing] {
+            let script = Script {
+                write: Some((call, turn)),
+                ..BYTES
+            };
+            let holds = is_stopped(&rt, script, Fault::Write, [false, true], &listing[..call]);
+            assert!(rt; holds, "write {call}");
+        }
+    }
+    let script = Script {
+        flush: Some(ErrorKind::Other),
+        ..BYTES
+    };
+    assert!(rt; is_stopped(&rt, script, Fault::Write, [false, true], listing));
 }
 
 /// Each fault with its status and its words.

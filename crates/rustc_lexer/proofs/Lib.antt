@@ -20,6 +20,7 @@ pub mod GuardedLemmas
 pub mod HashLemmas
 pub mod IdentLemmas
 pub mod KernelLemmas
+pub mod KindLemmas
 pub mod CheckpointLemmas
 pub mod LaneLemmas
 pub mod LengthLemmas

@@ -8,12 +8,12 @@ use Rattle.std.proofs.lemmas.Str.{chars-encodes, scalars-chars, length-encode}
 use Rattle.std.proofs.lemmas.Grind.{common_steps}
 use Rattle.rustc_lexer.specs.declared.lexemes.raw.RawPrefix.{RawPrefix}
 use Rattle.rustc_lexer.specs.declared.lexemes.raw.RawPrefix.TheVariants.{R, Br, Cr}
-use Rattle.rustc_lexer.specs.{Base, LiteralKind, Token, TokenKind, Int, Float, RawIdent, InvalidIdent, ForcedKeywordIdent, Literal, Slash, Whitespace, GuardedStrPrefix, Pound, Eof}
+use Rattle.rustc_lexer.specs.{Base, LiteralKind, Token, TokenKind, Int, Float, RawStr, RawByteStr, RawCStr, Ident, RawIdent, InvalidIdent, ForcedKeywordIdent, Literal, Slash, Whitespace, GuardedStrPrefix, Pound, Eof}
 use Rattle.rustc_lexer.specs.means.BlockComment.{block_comment, block_comment_to, comment_end}
 use Rattle.rustc_lexer.specs.Classes.{is_id_continue, IsText}
 use Rattle.rustc_lexer.specs.means.Comment.{slash, line_comment}
 use Rattle.rustc_lexer.specs.means.Ident.{ident_or_unknown_prefix, invalid_ident, marks_ident}
-use Rattle.rustc_lexer.specs.LanguageText.{Mode}
+use Rattle.rustc_lexer.specs.LanguageText.{AreTokens, Mode}
 use Rattle.rustc_lexer.specs.laws.Choice.{by_test, at_char, by_symbol}
 use Rattle.rustc_lexer.specs.laws.Family.{by_letter, EachFamily, each_family}
 use Rattle.rustc_lexer.specs.means.Lexeme.{whitespace, letter_r, letter_k, letter_b, letter_c, raw_or_ident, raw_past_or_ident, begins_raw, is_raw_mark, word, symbols, symbol_kind, symbol, past_first, lexeme, first_token}
@@ -27,26 +27,36 @@ use Rattle.rustc_lexer.specs.laws.Raw.{raw_check_own}
 use Rattle.rustc_lexer.specs.means.Scan.{after, begins, bytes_of, gives, next_is, past, run, run_len}
 use Rattle.rustc_lexer.specs.State.{suffix_start_of, HasSuffixWithin}
 use Rattle.rustc_lexer.specs.laws.TokenBy.{scalars-take}
-use Rattle.rustc_lexer.specs.Tokens.{tokens_of, HasText, HaveTexts}
+use Rattle.rustc_lexer.specs.Tokens.{tokens_of, HasSuffix, HasText, HaveTexts, IsChecked}
 use Rattle.rustc_lexer.specs.laws.CharSteps.{bytes_of-suc}
 use Rattle.rustc_lexer.proofs.EditionLemmas.{is_silent, changed-either}
 use Rattle.rustc_lexer.specs.laws.Frontmatter.{frontmatter-suffix, token_at-either}
 use Rattle.rustc_lexer.specs.laws.Past.{split_past}
 use Rattle.rustc_lexer.proofs.LiteralLemmas.{bytes-add, suffix_within, suffix-first}
+use Rattle.rustc_lexer.proofs.KindLemmas.{first-said, HasName, IsSaid}
+use Rattle.rustc_lexer.specs.laws.LanguageTokens.{tokens-are}
 use Rattle.rustc_lexer.specs.laws.Tokens.{token_at-cuts, by_tokens, tokens-nil, tokens-cons}
 use Rattle.rustc_lexer.specs.means.Frontmatter.{frontmatter}
 use Rattle.rustc_lexer.specs.means.Hash.{is_guarded_mark, hash}
 use Rattle.rustc_lexer.specs.means.Taking.{token_at}
 
+-- what is told beside the grammar: the text of a raw string may be checked, and `Eof` has none
+abbrev IsCheckedAs : TokenKind → List ℕ → Type 0
+IsCheckedAs (Literal (RawStr n_hashes) suffix_start) text = IsChecked 1 text n_hashes
+IsCheckedAs (Literal (RawByteStr n_hashes) suffix_start) text = IsChecked 2 text n_hashes
+IsCheckedAs (Literal (RawCStr n_hashes) suffix_start) text = IsChecked 2 text n_hashes
+IsCheckedAs Eof text = length text ≡ 0
+IsCheckedAs kind text = Unit {0}
+
 -- a frontmatter says nothing of its text
-frontmatter-text : (text : List ℕ) → HasText (frontmatter text).kind (take (frontmatter text).len text)
+frontmatter-text : (text : List ℕ) → IsCheckedAs (frontmatter text).kind (take (frontmatter text).len text)
 unfolding frontmatter
 frontmatter-text text = tt
 
 -- of what is read past the first character `c`: the suffix begins within the token, and its text is as the kind says
 record Tells (c : ℕ) (s : List ℕ) (read : TokenKind × ℕ) : Type 0 where
   within : suffix_start_of read.0 ≤ 1 + bytes_of read.1 s
-  text : (text : List ℕ) → chars text ≡ c ∷ take read.1 s → HasText read.0 text
+  text : (text : List ℕ) → chars text ≡ c ∷ take read.1 s → IsCheckedAs read.0 text
 
 abbrev TellsAll : ℕ → (List ℕ → TokenKind × ℕ) → Type 0
 TellsAll c scan = (s : List ℕ) → Tells c s (scan s)
@@ -79,9 +89,9 @@ ident_or_unknown_prefix-tells c s = grind (arith, common_steps, silent)
 
 -- a literal says of its text what a raw string does, wherever its suffix begins
 abbrev HasRawText : LiteralKind → List ℕ → Type 0
-HasRawText kind text = HasText (Literal kind 0) text
+HasRawText kind text = IsCheckedAs (Literal kind 0) text
 
-raw-text : (kind : LiteralKind) (suffix_start : ℕ) (text : List ℕ) → HasRawText kind text → HasText (Literal kind suffix_start) text
+raw-text : (kind : LiteralKind) (suffix_start : ℕ) (text : List ℕ) → HasRawText kind text → IsCheckedAs (Literal kind suffix_start) text
 raw-text kind suffix_start text has = grind (arith, common_steps)
 
 literal-tells : (c : ℕ) (s : List ℕ) (body : List ℕ → Body × ℕ) → ((text : List ℕ) → HasRawText (body s).0.kind text) → Tells c s (literal body s)
@@ -226,11 +236,11 @@ pub first_token-suffix : (text : List ℕ) → HasSuffixWithin (first_token text
 unfolding first_token
 first_token-suffix text = grind (arith, common_steps, suffix-first, first-tells)
 
-first_token-text : (text : List ℕ) → IsText text → HasText (first_token text).kind (take (first_token text).len text)
+first_token-text : (text : List ℕ) → IsText text → IsCheckedAs (first_token text).kind (take (first_token text).len text)
 unfolding first_token
 first_token-text text is = by_chars (chars text) refl
   where
-    by_chars : (cs : List ℕ) → chars text ≡ cs → HasText (lexeme cs).0 (take (bytes_of (lexeme cs).1 cs) text)
+    by_chars : (cs : List ℕ) → chars text ≡ cs → IsCheckedAs (lexeme cs).0 (take (bytes_of (lexeme cs).1 cs) text)
     by_chars [] e = refl
     by_chars (c ∷ s) e =
         let n : ℕ = suc (past_first c s).1 in
@@ -241,7 +251,7 @@ first_token-text text is = by_chars (chars text) refl
 
 -- the same of the token of each edition, and of what a document begins with
 abbrev HasOwnText : List ℕ → Token → Type 0
-HasOwnText text t = HasText t.kind (take t.len text)
+HasOwnText text t = IsCheckedAs t.kind (take t.len text)
 
 silent-text : (text : List ℕ) (kind : TokenKind) (len : ℕ) → is_silent kind ≡ true → HasOwnText text (record { kind = kind; len = len })
 silent-text text kind len e = grind (arith, common_steps)
@@ -250,7 +260,7 @@ silent-suffix : (kind : TokenKind) (len : ℕ) → is_silent kind ≡ true → H
 silent-suffix (Literal kind suffix_start) len e = absurd (true≢false (sym e))
 silent-suffix kind len e = omega arith
 
-pub token_at-text : (mode : Mode) (text : List ℕ) → IsText text → HasText (token_at mode text).kind (take (token_at mode text).len text)
+pub token_at-text : (mode : Mode) (text : List ℕ) → IsText text → IsCheckedAs (token_at mode text).kind (take (token_at mode text).len text)
 token_at-text mode text is = token_at-either (HasOwnText text) mode text
     (λ edition. changed-either (HasOwnText text) (silent-text text) edition (chars text) (first_token text) (first_token-text text is))
     (λ opened. frontmatter-text text)
@@ -264,19 +274,34 @@ token_at-suffix mode text = token_at-either HasSuffixWithin mode text
 pub token_at-not_end : (mode : Mode) (text : List ℕ) → IsText text → 0 < length text → (token_at mode text).kind ≡ Eof → ⊥
 token_at-not_end mode text is some e =
     let n : ℕ = (token_at mode text).len in
-    let none : length (take n text) ≡ 0 = subst (λ (kind : TokenKind). HasText kind (take n text)) e (token_at-text mode text is) in
+    let none : length (take n text) ≡ 0 = subst (λ (kind : TokenKind). IsCheckedAs kind (take n text)) e (token_at-text mode text is) in
     let cuts = token_at-cuts mode text is some in
     omega (arith, length-take n text, cuts.inside, cuts.not_empty)
+
+-- ---- all tokens of a text
+
+has_text : (kind : TokenKind) (text : List ℕ) → HasName kind text → IsCheckedAs kind text → HasText kind text
+has_text Ident text name checked = name
+has_text RawIdent text name checked = name
+has_text (Literal (RawStr n_hashes) suffix_start) text name checked = checked
+has_text (Literal (RawByteStr n_hashes) suffix_start) text name checked = checked
+has_text (Literal (RawCStr n_hashes) suffix_start) text name checked = checked
+has_text Eof text name checked = checked
+has_text kind text name checked = tt
+
+token_at-said : (mode : Mode) (text : List ℕ) → IsText text → 0 < length text → IsSaid text (token_at mode text)
+token_at-said mode text is some = first-said (subst (AreTokens mode (chars text)) (tokens-cons mode text is some) (tokens-are text mode is)) text is refl
 
 abbrev TextsOf : List ℕ → Mode → Type 0
 TextsOf text mode = HaveTexts text (tokens_of mode text)
 
 pub texts : (text : List ℕ) (mode : Mode) → IsText text → HaveTexts text (tokens_of mode text)
-texts = by_tokens TextsOf (λ mode. rw (tokens-nil mode) tt) (λ text mode is some rest. rw (tokens-cons mode text is some) (token_at-text mode text is, rest))
+texts = by_tokens TextsOf (λ mode. rw (tokens-nil mode) tt)
+    (λ text mode is some rest. rw (tokens-cons mode text is some) (has_text _ _ (token_at-said mode text is some).name (token_at-text mode text is), rest))
 
-abbrev SuffixesWithin : List ℕ → Mode → Type 0
-SuffixesWithin text mode = All HasSuffixWithin (tokens_of mode text)
+abbrev SuffixesOf : List ℕ → Mode → Type 0
+SuffixesOf text mode = All HasSuffix (tokens_of mode text)
 
-pub suffixes : (text : List ℕ) (mode : Mode) → IsText text → All HasSuffixWithin (tokens_of mode text)
-suffixes = by_tokens SuffixesWithin (λ mode. rw (tokens-nil mode) (All-nil HasSuffixWithin)) (λ text mode is some rest. rw (tokens-cons mode text is some)
-    (All-cons HasSuffixWithin _ _ (token_at-suffix mode text) rest))
+pub suffixes : (text : List ℕ) (mode : Mode) → IsText text → All HasSuffix (tokens_of mode text)
+suffixes = by_tokens SuffixesOf (λ mode. rw (tokens-nil mode) (All-nil HasSuffix)) (λ text mode is some rest. rw (tokens-cons mode text is some)
+    (All-cons HasSuffix _ _ (token_at-suffix mode text, (token_at-said mode text is some).ends) rest))

@@ -1,11 +1,12 @@
 -- The tokens of a text, and what the calls that take them do.
-use Rattle.std.specs.Prelude.{ℕ, ◌≡◌, ◌↔◌, ◌<◌, ◌≤◌, List, [], ◌∷◌, length, take, drop, IsCharBoundary, Option, IsSome, Some, None, Ok, zero, suc, Bool, true, false, ◌++◌, map}
-use Rattle.rustc_lexer.specs.{Edition, Token, TokenKind, RawStr, RawByteStr, RawCStr, Literal, Eof, LineComment, BlockComment, Frontmatter, Lifetime}
+use Rattle.std.specs.Prelude.{ℕ, ◌≡◌, ◌↔◌, ◌<◌, ◌≤◌, List, [], ◌∷◌, length, take, drop, chars, codes, IsCharBoundary, Option, is_some, IsSome, Some, None, Ok, zero, suc, Bool, true, false, not, ◌++◌, map}
+use Rattle.rustc_lexer.specs.{Edition, LiteralKind, Token, TokenKind, Char, Byte, Str, ByteStr, CStr, RawStr, RawByteStr, RawCStr, Literal, Eof, Ident, RawIdent, LineComment, BlockComment, Frontmatter, Lifetime}
 pub use Rattle.rustc_lexer.specs.Answers.{advance, raw_check, tokens_of}
+use Rattle.rustc_lexer.specs.Classes.{is_ident}
 use Rattle.rustc_lexer.specs.LanguageCalls.{StartsRaw}
 use Rattle.rustc_lexer.specs.LanguageText.{part, mode_edition, mode_after}
 pub use Rattle.rustc_lexer.specs.Locality.{cut_by, tokens_by, bound, Partitions}
-use Rattle.rustc_lexer.specs.State.{State, token_past}
+use Rattle.rustc_lexer.specs.State.{State, token_past, HasSuffixWithin}
 
 -- the tokens that a cursor with nothing pending, or an iterator, will come to
 abbrev pub tokens_left : State → List Token
@@ -45,8 +46,11 @@ pub record TakesFirst (s : State) (token : Token) (t : State) : Type 0 where
 abbrev pub IsChecked : ℕ → List ℕ → Option ℕ → Type 0
 IsChecked prefix text n_hashes = StartsRaw text prefix × ((raw_check text prefix ≡ Ok tt) ↔ IsSome n_hashes)
 
--- the text of a raw string may be checked, and `Eof` has none. The page says which texts a kind has
+-- an identifier is one by itself, and past its `r#` if it is raw; the text of a raw string may be checked; and `Eof` has
+-- none. The page says which texts a kind has
 abbrev pub HasText : TokenKind → List ℕ → Type 0
+HasText Ident text = is_ident (chars text) ≡ true
+HasText RawIdent text = (word : List ℕ) × (text ≡ codes "r#" ++ word) × (is_ident (chars word) ≡ true)
 HasText (Literal (RawStr n_hashes) suffix_start) text = IsChecked 1 text n_hashes
 HasText (Literal (RawByteStr n_hashes) suffix_start) text = IsChecked 2 text n_hashes
 HasText (Literal (RawCStr n_hashes) suffix_start) text = IsChecked 2 text n_hashes
@@ -57,6 +61,27 @@ HasText kind text = Unit {0}
 abbrev pub HaveTexts : List ℕ → List Token → Type 0
 HaveTexts text [] = Unit {0}
 HaveTexts text (token ∷ tokens) = HasText token.kind (take token.len text) × HaveTexts (drop token.len text) tokens
+
+-- a quoted literal that nothing closes, or a raw one that is refused
+abbrev pub is_faulty : LiteralKind → Bool
+is_faulty (Char terminated) = not terminated
+is_faulty (Byte terminated) = not terminated
+is_faulty (Str terminated) = not terminated
+is_faulty (ByteStr terminated) = not terminated
+is_faulty (CStr terminated) = not terminated
+is_faulty (RawStr n_hashes) = not (is_some n_hashes)
+is_faulty (RawByteStr n_hashes) = not (is_some n_hashes)
+is_faulty (RawCStr n_hashes) = not (is_some n_hashes)
+is_faulty kind = false
+
+-- a faulty literal has no suffix, so that would begin at its end
+abbrev pub EndsFaulty : TokenKind → ℕ → Type 0
+EndsFaulty (Literal kind suffix_start) len = is_faulty kind ≡ true → suffix_start ≡ len
+EndsFaulty kind len = Unit {0}
+
+-- where the suffix of a token begins
+abbrev pub HasSuffix : Token → Type 0
+HasSuffix token = HasSuffixWithin token × EndsFaulty token.kind token.len
 
 -- whether tokens of the kind differ in more than their length
 abbrev pub has_fields : TokenKind → Bool

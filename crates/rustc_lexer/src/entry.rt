@@ -5,8 +5,7 @@ ghost use Rattle.rustc_lexer.specs.{E2015, E2018, E2024, No};
 ghost use Rattle.rustc_lexer.specs.Classes.{Fits};
 ghost use Rattle.rustc_lexer.specs.LanguageText.{mode_edition, mode_in, mode_of, part};
 ghost use Rattle.rustc_lexer.specs.Locality.{AreLocal};
-ghost use Rattle.rustc_lexer.specs.State.{HasSuffixWithin};
-ghost use Rattle.rustc_lexer.specs.Tokens.{HaveTexts, tokens_of, tokens_left, Partitions, RestartsAtBounds, YieldsToken};
+ghost use Rattle.rustc_lexer.specs.Tokens.{HasSuffix, HaveTexts, tokens_of, tokens_left, Partitions, RestartsAtBounds, YieldsToken};
 
 use crate::cursor::next_allowed;
 use crate::edition::{Edition, token_as};
@@ -47,7 +46,7 @@ pub fn tokenize<'a>(input: &'a str, frontmatter_allowed: FrontmatterAllowed) -> 
     ensures tokens { tokens_left result ≡ tokens_of (mode_of frontmatter_allowed) input.now }
     ensures partitions { Partitions input.now (tokens_of (mode_of frontmatter_allowed) input.now) }
     ensures restarts { RestartsAtBounds E2024 input.now }
-    ensures suffixes { All HasSuffixWithin (tokens_of (mode_of frontmatter_allowed) input.now) }
+    ensures suffixes { All HasSuffix (tokens_of (mode_of frontmatter_allowed) input.now) }
     ensures texts { HaveTexts input.now (tokens_of (mode_of frontmatter_allowed) input.now) }
 {
     tokenize_as(input, frontmatter_allowed, Edition::E2024)
@@ -67,7 +66,7 @@ pub fn tokenize_in<'a>(text: &'a str, edition: Edition) -> EditionTokens<'a>
     ensures tokens { tokens_left result ≡ tokens_of (part edition) text.now }
     ensures partitions { Partitions text.now (tokens_of (part edition) text.now) }
     ensures restarts { RestartsAtBounds edition text.now }
-    ensures suffixes { All HasSuffixWithin (tokens_of (part edition) text.now) }
+    ensures suffixes { All HasSuffix (tokens_of (part edition) text.now) }
     ensures texts { HaveTexts text.now (tokens_of (part edition) text.now) }
     ensures local { AreLocal (tokens_of (part edition)) }
     ensures newest { tokens_of (part E2024) text.now ≡ tokens_of (mode_of No) text.now }
@@ -93,7 +92,7 @@ pub fn tokenize_as<'a>(
     ensures tokens { tokens_left result ≡ tokens_of (mode_in frontmatter_allowed edition) text.now }
     ensures partitions { Partitions text.now (tokens_of (mode_in frontmatter_allowed edition) text.now) }
     ensures restarts { RestartsAtBounds edition text.now }
-    ensures suffixes { All HasSuffixWithin (tokens_of (mode_in frontmatter_allowed edition) text.now) }
+    ensures suffixes { All HasSuffix (tokens_of (mode_in frontmatter_allowed edition) text.now) }
     ensures texts { HaveTexts text.now (tokens_of (mode_in frontmatter_allowed edition) text.now) }
 {
     Tokens {

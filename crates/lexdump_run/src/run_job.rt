@@ -10,7 +10,7 @@ use crate::job::Job;
 use crate::listing::{edited, list_pieces, list_tokens, tell_shebang};
 use crate::output::Block;
 use ends::{Watched, read_all};
-use rustc_lexer::FrontmatterAllowed;
+use rustc_lexer::{Edition, FrontmatterAllowed};
 use std::alloc::Global;
 use std::io::{Read, Write};
 
@@ -64,9 +64,7 @@ fn print<W: Write>(
         Job::Plain { edition } => {
             list_tokens(lines, output, text, FrontmatterAllowed::No, *edition)
         }
-        Job::Front { edition } => {
-            list_tokens(lines, output, text, FrontmatterAllowed::Yes, *edition)
-        }
+        Job::Front => { list_tokens(lines, output, text, FrontmatterAllowed::Yes, Edition::E2024) }
         Job::Shebang => tell_shebang(lines, output, text),
         Job::Edit { edition, edits } => {
             let lexed = edited(alloc, text, *edition, edits.as_slice())?;

@@ -2,7 +2,7 @@ use Rattle.std.proofs.Common.{arith, Err, ap, length, refl}
 use Rattle.std.proofs.lemmas.Result.{err_from_is_err_and}
 use Rattle.ends.proofs.KnownLemmas.{keeps_same, text_known}
 use Rattle.lexdump_run.proofs.OutcomeLemmas.{ends_unread, ends_unlisted, silent_unlisted, ends_listed, is_text}
-use Rattle.lexdump_run.proofs.run.run.Goals as goal
+use Rattle.lexdump_run.proofs.run_job.run.Goals as goal
 use Rattle.lexdump_run.specs.Outcome.{Ends}
 use Rattle.lexdump_run.specs.declared.fault.Fault.TheVariants.{NotUtf8}
 
