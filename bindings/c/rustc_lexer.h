@@ -205,7 +205,8 @@ static inline const char *rustc_lexer_literal_kind_name(uint8_t literal_kind) {
     }
 }
 
-/* A place in a text. A text begins at {0, 0}, or at {0, 1} where it is a whole document. */
+/* A place in a text. A text begins at {0, 0}, and a whole document at {line_len, 1}: past its shebang line, of which
+ * rustc_lexer_strip_shebang writes the length. */
 struct rustc_lexer_place {
     uint32_t at;                  /* in bytes from the start of the text */
     uint32_t frontmatter_allowed; /* whether a frontmatter may stand there: 0 for no, any other number for yes */

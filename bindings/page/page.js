@@ -81,9 +81,8 @@ function drawKept({ kept, bytes, lines }, count) {
   const [front, lexed, back] = kept || [0, count, 0];
   [front, lexed, back].forEach((part, number) => { at('bar').children[number].style.flexGrow = part; });
   const all = `${count} tokens, ${bytes} bytes, ${lines} lines`;
-  at('kept').textContent = (at('document').checked ? 'All was lexed anew, since a whole document is not kept under edits'
-    : front + back ? `The last edit kept ${front} tokens in front, lexed ${lexed}, and kept ${back} at the back`
-      : 'All was lexed') + `: ${count} tokens, ${bytes} bytes, ${lines} lines.`;
+  at('kept').textContent = (front + back ? `The last edit kept ${front} tokens in front, lexed ${lexed}, and kept ${back} at the back`
+    : 'All was lexed') + `: ${count} tokens, ${bytes} bytes, ${lines} lines.`;
 }
 
 function drawEditions() {

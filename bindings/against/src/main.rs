@@ -5,10 +5,11 @@
 //!
 //! Compared are each character, each file of a PATH (of a folder those that end in `.rs`, at any depth), and N random
 //! texts (200,000, if not given), of which half are parts of the files with something put in. Then come each character
-//! and N random texts as what stands between the quotes of a literal. With `--every N` one of N characters is in texts,
-//! and the classes of all are compared.
+//! and N random texts as what stands between the quotes of a literal, and N random edits of documents. With `--every N`
+//! one of N characters is in texts, and the classes of all are compared.
 
 mod answers;
+mod documents;
 mod literals;
 mod texts;
 
@@ -18,10 +19,14 @@ use std::process::ExitCode;
 use std::{env, fs};
 
 use answers::Pair;
+use documents::Documents;
 use texts::Random;
 
 /// How many differences are shown.
 const SHOWN: usize = 20;
+
+/// How many edits are made of one document.
+const EDITS: u64 = 12;
 
 /// What was asked for on the command line.
 struct Asked {
@@ -220,10 +225,24 @@ fn main() -> ExitCode {
     }
     of_literals.print("literals");
 
+    let mut of_documents = Counts::default();
+    let mut documents = Documents::new(&mut random);
+    for number in 0..asked.texts {
+        if number % EDITS == 0 {
+            documents = Documents::new(&mut random);
+        }
+        let before = documents.text().to_owned();
+        let (range, insert) = (random.range(&before), random.insert(3));
+        let compared = documents.edit(range.clone(), &insert);
+        of_documents.count(&format!("{insert:?} at {range:?}"), &before, compared);
+    }
+    of_documents.print("edits of documents");
+
     let differences = of_characters.differences
         + of_files.differences
         + of_texts.differences
-        + of_literals.differences;
+        + of_literals.differences
+        + of_documents.differences;
     println!("differences: {differences}");
     ExitCode::from(u8::from(differences != 0))
 }

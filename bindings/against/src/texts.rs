@@ -1,6 +1,7 @@
 //! Random texts, full of what lexers trip over.
 
 use std::collections::HashSet;
+use std::ops::Range;
 use std::path::PathBuf;
 
 /// What texts are put together from, beside characters of any kind.
@@ -25,6 +26,13 @@ const ESCAPES: &[&str] = &[
     "\\u", "\\u{", "\\u{}", "\\u{_", "\\u{_0}", "\\u{0}", "\\u{41}", "\\u{4_1_}", "\\u{d7ff}", "\\u{D800}", "\\u{dfff}",
     "\\u{e000}", "\\u{10ffff}", "\\u{110000}", "\\u{0000041}", "\\u{1234567", "\\u{12 }", "\\u{12é}", "}",
     "\\\n", "\\\n\n", "\\\n  ", "\\\n \t\r\n", "\\\r\n", "\u{a0}", "\u{b}", "\u{c}", "\u{2028}",
+];
+
+/// What documents and their edits are put together from, beside those.
+#[rustfmt::skip]
+const HEADS: &[&str] = &[
+    "#!", "#", "!", "/", "[", "#![", "\n#![", "bin/sh", "\n", "\n", "\n", "\r\n", " ", "---", "---\n", "\n---", "----", "--", "-",
+    "---a\n", "--- a.b\n", "cargo", "use ", "\nuse ", "//!", "\n//!", "//", "/*", "*/", "\"", "'", "r#\"", "\"#", "'r#a", "a",
 ];
 
 /// The source of random texts.
@@ -96,6 +104,40 @@ impl<'a> Random<'a> {
         let start = boundary(self.below(text.len() + 1));
         let end = (start + self.below(300)).min(text.len());
         &text[start..boundary(end).max(start)]
+    }
+
+    /// Pieces that begin, end and break a shebang line or a frontmatter, and others.
+    pub fn insert(&mut self, most: usize) -> String {
+        let mut text = String::new();
+        for _ in 0..self.below(most + 1) {
+            match self.below(4) {
+                0 => self.put_piece(&mut text),
+                _ => text.push_str(HEADS[self.below(HEADS.len())]),
+            }
+        }
+        text
+    }
+
+    /// A document, which begins with a shebang line and a frontmatter, or with one of them, or none.
+    pub fn document(&mut self) -> String {
+        let line = ["", "#!/bin/sh\n", "#!\n"][self.below(3)];
+        let front = ["", "---\na\n---\n", "\n---a\n---\n", " \n----\n---\n----\n"][self.below(4)];
+        [line, front, &self.insert(20)].concat()
+    }
+
+    /// A range of a text, from one character to another, often at the front, and often short.
+    pub fn range(&mut self, text: &str) -> Range<usize> {
+        let near = if self.below(2) == 0 { 24 } else { text.len() };
+        let mut start = self.below(near.min(text.len()) + 1);
+        while !text.is_char_boundary(start) {
+            start -= 1;
+        }
+        let most = [0, 1, 9, text.len()][self.below(4)];
+        let mut end = start + self.below(most.min(text.len() - start) + 1);
+        while !text.is_char_boundary(end) {
+            end += 1;
+        }
+        start..end
     }
 
     /// A text: pieces alone, or parts of files with pieces between them.

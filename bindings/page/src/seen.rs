@@ -69,7 +69,7 @@ fn fresh(source: &Source, edition: usize) -> Range<usize> {
         return 0..0;
     };
     let tokens = source.tokens(edition);
-    let front = bytes_of(&tokens[..last.kept_front]);
+    let front = source.begin() + bytes_of(&tokens[..last.kept_front]);
     front..front + bytes_of(&tokens[last.range()])
 }
 

@@ -1,34 +1,54 @@
 //! The text of the page, with its tokens in each edition.
 
 use ra_ap_rustc_lexer::{
-    Edition, FrontmatterAllowed, LexedText, Relexed, Token, TokenKind, strip_shebang, tokenize,
-    tokenize_as, tokenize_in,
+    Edition, FrontmatterAllowed, LexedDocument, LexedText, Relexed, Token, TokenKind, tokenize,
+    tokenize_document, tokenize_in,
 };
+use std::ops::Range;
 
 /// How many editions there are.
 pub const EDITIONS: usize = Edition::ALL.len();
 
 /// The text, with its tokens in each edition.
 pub struct Source {
-    texts: [LexedText; EDITIONS],
-    document: Option<Document>,
+    held: Held,
     /// Where each line begins.
     lines: Vec<usize>,
     last: Option<[Relexed; EDITIONS]>,
 }
 
-/// A whole document, which has no edits: it is lexed anew.
-struct Document {
-    shebang: usize,
-    tokens: [Vec<Token>; EDITIONS],
+/// A text in each edition.
+enum Held {
+    Part([LexedText; EDITIONS]),
+    Document([LexedDocument; EDITIONS]),
+}
+
+impl Held {
+    fn new(text: &str, document: bool) -> Held {
+        if document {
+            Held::Document(Edition::ALL.map(|edition| LexedDocument::new_in(text, edition)))
+        } else {
+            Held::Part(Edition::ALL.map(|edition| LexedText::new_in(text, edition)))
+        }
+    }
+
+    fn edit(&mut self, range: Range<usize>, insert: &str) -> [Relexed; EDITIONS] {
+        match self {
+            Held::Part(texts) => texts
+                .each_mut()
+                .map(|text| text.edit(range.clone(), insert)),
+            Held::Document(texts) => texts
+                .each_mut()
+                .map(|text| text.edit(range.clone(), insert)),
+        }
+    }
 }
 
 impl Source {
     /// An empty text.
     pub fn new() -> Source {
         Source {
-            texts: Edition::ALL.map(|edition| LexedText::new_in("", edition)),
-            document: None,
+            held: Held::new("", false),
             lines: vec![0],
             last: None,
         }
@@ -36,27 +56,31 @@ impl Source {
 
     /// The text.
     pub fn text(&self) -> &str {
-        self.texts[0].text()
+        match &self.held {
+            Held::Part(texts) => texts[0].text(),
+            Held::Document(texts) => texts[0].text(),
+        }
     }
 
     /// Its tokens in an edition, from `begin` on.
     pub fn tokens(&self, edition: usize) -> &[Token] {
-        match &self.document {
-            Some(document) => &document.tokens[edition],
-            None => self.texts[edition].tokens(),
+        match &self.held {
+            Held::Part(texts) => texts[edition].tokens(),
+            Held::Document(texts) => texts[edition].tokens(),
         }
     }
 
     /// Where its first token begins: past a shebang line.
     pub fn begin(&self) -> usize {
-        self.document
-            .as_ref()
-            .map_or(0, |document| document.shebang)
+        match &self.held {
+            Held::Part(_) => 0,
+            Held::Document(texts) => texts[0].shebang_len(),
+        }
     }
 
     /// Whether the text is a whole document.
     pub fn is_document(&self) -> bool {
-        self.document.is_some()
+        matches!(self.held, Held::Document(_))
     }
 
     /// What the last change kept and lexed in an edition; `None` where all was lexed anew.
@@ -120,45 +144,33 @@ impl Source {
         let (range, insert) = (front..old.len() - back, &new[front..new.len() - back]);
         if document != self.is_document() {
             self.last = None;
+            self.held = Held::new(new, document);
+        } else if !(range.is_empty() && insert.is_empty()) {
+            self.last = Some(self.held.edit(range, insert));
         }
-        if !(range.is_empty() && insert.is_empty()) {
-            let relexed = self
-                .texts
-                .each_mut()
-                .map(|text| text.edit(range.clone(), insert));
-            self.last = (!document).then_some(relexed);
-            let ends = new.bytes().enumerate().filter(|(_, byte)| *byte == b'\n');
-            self.lines = std::iter::once(0)
-                .chain(ends.map(|(at, _)| at + 1))
-                .collect();
-        }
-        self.document = document.then(|| Document::new(new));
+        let ends = new.bytes().enumerate().filter(|(_, byte)| *byte == b'\n');
+        self.lines = std::iter::once(0)
+            .chain(ends.map(|(at, _)| at + 1))
+            .collect();
     }
 
     /// `yes`, or the first year whose tokens are not those of lexing the text anew.
     pub fn as_lexed_anew(&self) -> String {
+        let text = self.text();
         for (number, edition) in Edition::ALL.into_iter().enumerate() {
-            let held = self.texts[number].tokens().iter().copied();
-            if !tokenize_in(self.text(), edition).eq(held.clone())
-                || edition == Edition::E2024
-                    && !tokenize(self.text(), FrontmatterAllowed::No).eq(held)
-            {
+            let held = || self.tokens(number).iter().copied();
+            let same = match self.held {
+                Held::Document(_) => tokenize_document(text, edition).eq(held()),
+                Held::Part(_) if edition == Edition::E2024 => {
+                    tokenize(text, FrontmatterAllowed::No).eq(held())
+                }
+                Held::Part(_) => tokenize_in(text, edition).eq(held()),
+            };
+            if !same {
                 return edition.year().to_string();
             }
         }
         "yes".to_string()
-    }
-}
-
-impl Document {
-    fn new(text: &str) -> Document {
-        let shebang = strip_shebang(text).unwrap_or(0);
-        let read =
-            |edition| tokenize_as(&text[shebang..], FrontmatterAllowed::Yes, edition).collect();
-        Document {
-            shebang,
-            tokens: Edition::ALL.map(read),
-        }
     }
 }
 

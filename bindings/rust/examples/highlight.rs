@@ -1,12 +1,26 @@
-//! Keeps a file highlighted under edits. Each line of standard input is an edit: START STOP TEXT. What was painted anew
-//! is printed, and not the rest: `cargo run --example highlight -- FILE`.
+//! Keeps a file in colours while it is edited, as an editor does: its shebang line, its frontmatter and its code. Each line
+//! of standard input is an edit: START STOP TEXT. What is painted anew is printed, and in the end the whole file:
+//! `cargo run --example highlight -- FILE`.
 
-use ra_ap_rustc_lexer::{LexedText, TokenKind};
+use ra_ap_rustc_lexer::{LexedDocument, Piece, TokenKind};
 use std::{env, fs, io};
+
+fn paint(piece: Piece<'_>) -> String {
+    let colour = match piece.token.kind {
+        TokenKind::LineComment { .. } | TokenKind::BlockComment { .. } => "32",
+        TokenKind::Literal { .. } => "35",
+        TokenKind::Ident => "34",
+        TokenKind::Frontmatter { .. } => "36",
+        _ => "0",
+    };
+    format!("\x1b[{colour}m{}\x1b[0m", piece.text)
+}
 
 fn main() -> io::Result<()> {
     let path = env::args().nth(1).expect("the name of a file");
-    let mut lexed = LexedText::new(fs::read_to_string(path)?);
+    let mut lexed = LexedDocument::new(fs::read_to_string(path)?);
+    // What an editor shows: each token in its colour.
+    let mut shown: Vec<String> = lexed.pieces().map(paint).collect();
     for line in io::stdin().lines() {
         let line = line?;
         let mut words = line.splitn(3, ' ');
@@ -19,16 +33,13 @@ fn main() -> io::Result<()> {
             continue;
         }
         let relexed = lexed.edit(start..stop, insert);
-        for piece in lexed.pieces_of(relexed.range()) {
-            let colour = match piece.token.kind {
-                TokenKind::LineComment { .. } | TokenKind::BlockComment { .. } => "32",
-                TokenKind::Literal { .. } => "35",
-                TokenKind::Ident => "34",
-                _ => "0",
-            };
-            print!("\x1b[{colour}m{}\x1b[0m", piece.text);
-        }
-        println!("  ({} tokens kept)", relexed.kept_front + relexed.kept_back);
+        let painted: Vec<String> = lexed.pieces_of(relexed.range()).map(paint).collect();
+        let kept = relexed.kept_front + relexed.kept_back;
+        println!("{}  ({kept} tokens kept)", painted.concat());
+        shown.splice(relexed.kept_front..shown.len() - relexed.kept_back, painted);
     }
+    // The shebang line is no token.
+    let shebang = &lexed.text()[..lexed.shebang_len()];
+    print!("\x1b[32m{shebang}\x1b[0m{}", shown.concat());
     Ok(())
 }

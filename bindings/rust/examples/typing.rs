@@ -1,11 +1,11 @@
 //! Keeps the tokens of a file while it is typed into: `cargo run --example typing -- FILE`. Each line of standard input
 //! is typed at the end of the file's first line, and the tokens that were lexed again are shown.
-use ra_ap_rustc_lexer::LexedText;
+use ra_ap_rustc_lexer::LexedDocument;
 use std::{env, fs, io};
 
 fn main() -> io::Result<()> {
     let path = env::args().nth(1).expect("the name of a file");
-    let mut lexed = LexedText::new(fs::read_to_string(path)?);
+    let mut lexed = LexedDocument::new(fs::read_to_string(path)?);
     let mut cursor = lexed.text().find('\n').unwrap_or(lexed.text().len());
     for typed in io::stdin().lines() {
         let typed = typed?;

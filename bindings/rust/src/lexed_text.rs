@@ -7,7 +7,8 @@ use core::fmt;
 use core::iter::FusedIterator;
 use core::ops::Range;
 
-/// A text and its tokens, which are always those of lexing the text from its beginning.
+/// A text and its tokens, which are always those of lexing the text from its beginning, as a part of a document. A whole
+/// one, with a shebang line and a frontmatter, is a [`LexedDocument`](crate::LexedDocument).
 ///
 /// An edit lexes again the tokens about it, and keeps every other as it is.
 ///
@@ -25,7 +26,24 @@ use core::ops::Range;
 pub struct LexedText<S: Stepper = Steps>(erased::LexedText<S>);
 
 /// What is said where memory is refused.
-const REFUSED: &str = "memory was refused";
+pub(crate) const REFUSED: &str = "memory was refused";
+
+/// The numbers of tokens, which have to be there.
+pub(crate) fn there(numbers: Range<usize>, tokens: &[Token]) -> Range<usize> {
+    assert!(
+        numbers.start <= numbers.end && numbers.end <= tokens.len(),
+        "the tokens {numbers:?} are not there"
+    );
+    numbers
+}
+
+/// Panics where an edit is not accepted.
+pub(crate) fn is_accepted(accepted: bool, range: &Range<usize>) {
+    assert!(
+        accepted,
+        "the edit of {range:?} has to be inside the text, between characters, and to make a text that fits"
+    );
+}
 
 impl LexedText {
     /// The text with its tokens, those of [`tokenize`](crate::tokenize) with `FrontmatterAllowed::No`.
@@ -175,10 +193,7 @@ impl<S: Stepper> LexedText<S> {
     ///
     /// Where there are no such tokens.
     pub fn pieces_of(&self, numbers: Range<usize>) -> Pieces<'_> {
-        assert!(
-            numbers.start <= numbers.end && numbers.end <= self.tokens().len(),
-            "the tokens {numbers:?} are not there"
-        );
+        let numbers = there(numbers, self.tokens());
         self.0.pieces_of(numbers.start, numbers.end)
     }
 
@@ -217,10 +232,7 @@ impl<S: Stepper> LexedText<S> {
     ///
     /// Where the edit is not accepted. Text and tokens are then as they were.
     pub fn try_edit(&mut self, range: Range<usize>, insert: &str) -> Result<Relexed, AllocError> {
-        assert!(
-            self.accepts(range.clone(), insert),
-            "the edit of {range:?} has to be inside the text, between characters, and to make a text that fits"
-        );
+        is_accepted(self.accepts(range.clone(), insert), &range);
         self.0.edit(range.start, range.end, insert)
     }
 

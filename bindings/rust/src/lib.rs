@@ -13,10 +13,11 @@
 //! | You want | Take |
 //! |---|---|
 //! | the tokens of a text | [`tokenize`] |
-//! | those of an older edition | [`tokenize_in`], [`tokenize_as`] |
+//! | those of a whole file, past a shebang line, in an edition | [`tokenize_document`] |
+//! | those of a part of an older edition | [`tokenize_in`], [`tokenize_as`] |
 //! | many tokens at once, which is faster | [`Tokens::fill`] |
 //! | to take tokens one by one, and look ahead | [`Cursor`] |
-//! | a text that is edited, always with its tokens | [`LexedText`] |
+//! | a text that is edited, always with its tokens | [`LexedText`], and [`LexedDocument`] for a whole file |
 //! | the same over lists of your own | [`Relexing`] |
 //! | a text that is still coming | [`settled`] |
 //! | to test what would panic | [`fits`], [`starts_raw`] |
@@ -25,10 +26,10 @@
 //!
 //! The modules below `erased` are made from a source in Rattle, which is Rust with contracts, by deleting the
 //! contracts. Of that source it is proved, for every text, that these are the only tokens which a grammar of the
-//! language allows. The rest of this crate is written by hand. The calls of the original and those of [`LexedText`] test
-//! what those contracts ask of a caller, and give what takes memory the forms of plain Rust. [`Relexing`] and a
-//! [`Stepper`] test nothing: lists that are not those of the old text give wrong tokens or a panic. The repository's
-//! `docs/ERASED.md` says what is claimed and what is trusted.
+//! language allows. The rest of this crate is written by hand. The calls of the original and those of [`LexedText`] and
+//! [`LexedDocument`] test what those contracts ask of a caller, and give what takes memory the forms of plain Rust.
+//! [`Relexing`] and a [`Stepper`] test nothing: lists that are not those of the old text give wrong tokens or a panic.
+//! The repository's `docs/ERASED.md` says what is claimed and what is trusted.
 //!
 //! # A program that keeps the tokens of a file
 //!
@@ -51,8 +52,11 @@ mod cursor;
 #[allow(missing_docs, unused_imports, unused_variables, dead_code)]
 #[allow(clippy::collapsible_if, clippy::redundant_pattern_matching)]
 #[allow(clippy::len_without_is_empty, clippy::new_without_default)]
+#[allow(clippy::too_many_arguments)]
 #[doc(hidden)]
 pub mod erased;
+#[cfg(feature = "alloc")]
+mod lexed_document;
 #[cfg(feature = "alloc")]
 mod lexed_text;
 #[allow(missing_docs)]
@@ -71,9 +75,11 @@ pub use erased::{
 #[cfg(feature = "alloc")]
 pub use erased::{Edit, EditStop, Piece, Pieces};
 #[cfg(feature = "alloc")]
+pub use lexed_document::LexedDocument;
+#[cfg(feature = "alloc")]
 pub use lexed_text::LexedText;
 pub use support::AllocError;
-pub use tokens::{EditionTokens, Tokens, tokenize, tokenize_as, tokenize_in};
+pub use tokens::{EditionTokens, Tokens, tokenize, tokenize_as, tokenize_document, tokenize_in};
 
 /// The text, which has to fit.
 #[inline(always)]

@@ -36,7 +36,7 @@ pub fn tokenize(input: &str, frontmatter_allowed: FrontmatterAllowed) -> Tokens<
     tokenize_as(input, frontmatter_allowed, Edition::E2024)
 }
 
-/// The tokens of a text, made by [`tokenize`], [`tokenize_in`] and [`tokenize_as`].
+/// The tokens of a text, made by [`tokenize`], [`tokenize_in`], [`tokenize_as`] and [`tokenize_document`].
 pub struct Tokens<'a>(erased::Tokens<'a>);
 
 impl<'a> Tokens<'a> {
@@ -148,8 +148,7 @@ pub fn tokenize_in(text: &str, edition: Edition) -> EditionTokens<'_> {
 /// Another name of [`Tokens`], for what [`tokenize_in`] makes.
 pub type EditionTokens<'a> = Tokens<'a>;
 
-/// The tokens of a text in an edition, in order, where a frontmatter may stand in front or may not. So it reads a whole
-/// document of an older edition.
+/// The tokens of a text in an edition, in order, where a frontmatter may stand in front or may not.
 ///
 /// ```
 /// use ra_ap_rustc_lexer::{tokenize_as, Edition, FrontmatterAllowed};
@@ -173,6 +172,35 @@ pub fn tokenize_as(
         frontmatter_allowed,
         edition,
     ))
+}
+
+/// The tokens of a whole document in an edition, in order: those of what follows its shebang line, where a frontmatter
+/// may stand in front.
+///
+/// The shebang line is no token. So the first token begins where the text that is left begins:
+///
+/// ```
+/// use ra_ap_rustc_lexer::{tokenize_document, Edition};
+///
+/// let text = "#!/bin/sh\n---\n[package]\n---\nfn main() {}";
+/// let tokens = tokenize_document(text, Edition::E2024);
+/// let mut start = text.len() - tokens.as_str().len();
+/// assert_eq!(start, 9);
+/// let mut texts = Vec::new();
+/// for token in tokens {
+///     let end = start + token.len as usize;
+///     texts.push(&text[start..end]);
+///     start = end;
+/// }
+/// assert_eq!(texts[..4], ["\n", "---\n[package]\n---", "\n", "fn"]);
+/// ```
+///
+/// # Panics
+///
+/// Where the text has more than `u32::MAX` bytes.
+#[inline]
+pub fn tokenize_document(text: &str, edition: Edition) -> Tokens<'_> {
+    Tokens(erased::tokenize_document(fitting(text), edition))
 }
 
 /// How many tokens a text has, at least and at most: no token is empty.

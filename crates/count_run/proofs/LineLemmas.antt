@@ -7,6 +7,8 @@ use Rattle.std.proofs.lemmas.List.{map-append, length-map, take-append-drop}
 use Rattle.std.proofs.lemmas.List.Sums.{sum_by-cons}
 use Rattle.std.proofs.lemmas.List.Splits.{length-slice_split}
 use Rattle.rustc_lexer.specs.declared.token.Token.{Token}
+use Rattle.rustc_lexer.specs.declared.edition.Edition.TheVariants.{E2024}
+use Rattle.rustc_lexer.specs.Document.{document_tokens, shebang_len}
 use Rattle.rustc_lexer.specs.Tokens.{bound}
 use Rattle.count_run.specs.declared.lines.Class.{Class}
 use Rattle.count_run.specs.declared.lines.Class.TheVariants.{Code}
@@ -14,7 +16,7 @@ use Rattle.count_run.specs.declared.lines.Counter.{Counter}
 use Rattle.count_run.specs.declared.lines.Line.{Line}
 use Rattle.count_run.specs.declared.lines.LineCounts.{LineCounts}
 use Rattle.count_run.specs.Counter.{no_line, with_class, counted, start, after_byte, after_bytes, finished}
-use Rattle.count_run.specs.Lines.{Mark, mark, class_of, byte_of, token_marks, source_marks, shebang_len, marks, onto_line, split_lines, line_of, counts_as_code, counts_as_doc, counts_as_comment, counts_as_blank, has_code_and_doc, has_code_and_comment, has_doc_and_comment, counts_of, line_counts, lines_counted}
+use Rattle.count_run.specs.Lines.{Mark, mark, class_of, byte_of, token_marks, marks, onto_line, split_lines, line_of, counts_as_code, counts_as_doc, counts_as_comment, counts_as_blank, has_code_and_doc, has_code_and_comment, has_doc_and_comment, counts_of, line_counts, lines_counted}
 use Rattle.count_run.specs.Report.{no_counts}
 
 pub after_bytes-append : (c : Counter) (xs ys : List Mark) → after_bytes c (xs ++ ys) ≡ after_bytes (after_bytes c xs) ys
@@ -157,8 +159,8 @@ bytes-token_marks [] text whole = none_left text whole
 bytes-token_marks (token ∷ tokens) text whole =
     grind (arith, common_steps, bytes-first, length-drop, take-append-drop, bytes-token_marks tokens)
 
-pub bytes-marks : (text : List ℕ) → map byte_of (source_marks (drop (shebang_len text) text)) ≡ drop (shebang_len text) text → map byte_of (marks text) ≡ text
-bytes-marks text rest = grind (arith, common_steps, bytes-first, take-append-drop)
+pub bytes-marks : (text : List ℕ) → bound (document_tokens E2024 text) (length (document_tokens E2024 text)) ≡ length (drop (shebang_len text) text) → map byte_of (marks text) ≡ text
+bytes-marks text whole = grind (arith, common_steps, bytes-first, take-append-drop, bytes-token_marks (document_tokens E2024 text) (drop (shebang_len text) text) whole)
 
 -- the four numbers sum to the lines of the text
 pub lines-counted : (text : List ℕ) → map byte_of (marks text) ≡ text → lines_counted (line_counts text) ≡ length (lines text)
@@ -172,8 +174,12 @@ pub bytes_step : (c d : Counter) (whole : Counter) (text rest piece : List ℕ) 
 bytes_step c d whole text rest piece left others token class at first past own is took =
     grind (arith, common_steps, after_bytes-append)
 
-pub document_counts : (text line rest : List ℕ) (n : ℕ) (c d e : Counter) (found : LineCounts)
-    → n ≡ shebang_len text → c ≡ start → line ≡ take n text → rest ≡ drop n text
-    → d ≡ after_bytes c (map (mark Code) line) → e ≡ after_bytes d (source_marks rest) → found ≡ finished e → found ≡ line_counts text
-document_counts text line rest n c d e found at new front back first second is =
-    grind (arith, common_steps, after_bytes-append, finished-whole)
+-- what was taken of the shebang line, and then the tokens of what follows it
+pub document_begins : (text line rest : List ℕ) (tokens : List Token) (c d : Counter)
+    → c ≡ start → line ≡ take (shebang_len text) text → rest ≡ drop (shebang_len text) text → tokens ≡ document_tokens E2024 text
+    → d ≡ after_bytes c (map (mark Code) line) → after_bytes d (token_marks rest tokens) ≡ after_bytes start (marks text)
+document_begins text line rest tokens c d new front back all first =
+    grind (arith, common_steps, after_bytes-append)
+
+pub document_counts : (text : List ℕ) (c : Counter) (found : LineCounts) → c ≡ after_bytes start (marks text) → found ≡ finished c → found ≡ line_counts text
+document_counts text c found at is = grind (arith, common_steps, finished-whole)

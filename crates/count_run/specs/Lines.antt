@@ -2,15 +2,13 @@
 --
 -- A token stands on each line on which a byte of it lies, and a newline lies on the line that it ends. So a blank line inside of
 -- a string is code, and one inside of a comment is a comment.
-use Rattle.std.specs.Prelude.{ℕ, ◌+◌, ◌==◌, ◌&&◌, not, Bool, true, false, if◌then◌else◌, List, [], ◌∷◌, ◌++◌, map, take, drop, Some, None, unwrap_or}
+use Rattle.std.specs.Prelude.{ℕ, ◌+◌, ◌==◌, ◌&&◌, not, Bool, true, false, if◌then◌else◌, List, [], ◌∷◌, ◌++◌, map, take, drop, Some, None}
 use Rattle.std.specs.List.{count_by, list_any}
 use Rattle.rustc_lexer.specs.declared.token.Token.{Token}
 use Rattle.rustc_lexer.specs.declared.token.TokenKind.{TokenKind}
 use Rattle.rustc_lexer.specs.declared.token.TokenKind.TheVariants.{LineComment, BlockComment, Whitespace}
-use Rattle.rustc_lexer.specs.Answers.{shebang}
 use Rattle.rustc_lexer.specs.declared.edition.Edition.TheVariants.{E2024}
-use Rattle.rustc_lexer.specs.LanguageText.{document}
-use Rattle.rustc_lexer.specs.Tokens.{tokens_of}
+use Rattle.rustc_lexer.specs.Document.{document_tokens, shebang_len}
 use Rattle.count_run.specs.declared.lines.Class.{Class}
 use Rattle.count_run.specs.declared.lines.Class.TheVariants.{Code, Doc, Comment, Space}
 use Rattle.count_run.specs.declared.lines.Line.{Line}
@@ -41,15 +39,9 @@ abbrev pub token_marks : List ℕ → List Token → List Mark
 token_marks text [] = []
 token_marks text (token ∷ tokens) = map (mark (class_of token.kind)) (take token.len text) ++ token_marks (drop token.len text) tokens
 
-abbrev pub source_marks : List ℕ → List Mark
-source_marks text = token_marks text (tokens_of (document E2024) text)
-
--- a document may begin with a shebang line, which is code, and else is a source
-abbrev pub shebang_len : List ℕ → ℕ
-shebang_len text = unwrap_or (shebang text) 0
-
+-- the shebang line that a document may begin with is code
 abbrev pub marks : List ℕ → List Mark
-marks text = map (mark Code) (take (shebang_len text) text) ++ source_marks (drop (shebang_len text) text)
+marks text = map (mark Code) (take (shebang_len text) text) ++ token_marks (drop (shebang_len text) text) (document_tokens E2024 text)
 
 -- ---- the lines: each ends with its newline, but the last may end with none
 

@@ -1,13 +1,12 @@
 //! What stands on the lines of a text, and how many lines there are of each sort.
 ghost use Rattle.std.specs.Prelude.{◌≡◌, ◌+◌, ◌*◌, ◌^◌, ◌<◌, ◌≤◌, length, map};
-ghost use Rattle.std.specs.Str.{IsCharBoundary};
 ghost use Rattle.std.specs.Str.Lines.{lines};
 ghost use Rattle.rustc_lexer.specs.Classes.{Fits};
 ghost use Rattle.count_run.specs.Counter as counter;
 ghost use Rattle.count_run.specs.Lines as spec;
 ghost use Rattle.count_run.specs.Report.{all_lines, no_counts, sums};
 
-use rustc_lexer::{FrontmatterAllowed, TokenKind, strip_shebang, tokenize};
+use rustc_lexer::{Edition, TokenKind, tokenize_document};
 
 /// How many lines of a text have what on them. The first four numbers count each line once.
 #[derive(Clone, Copy, Debug, PartialEq, Eq)]
@@ -55,24 +54,16 @@ pub fn count_lines(text: &str) -> LineCounts
     ensures counts { result ≡ spec.line_counts text.now }
     ensures once { spec.lines_counted result ≡ length (lines text.now) }
 {
-    let end = shebang_len(text);
+    let tokens = tokenize_document(text, Edition::E2024);
+    let mut start = text.len() - tokens.as_str().len();
     let mut counter = Counter::new();
-    counter.take_all(&text[..end], Class::Code);
-    counter.take_source(&text[end..]);
-    counter.finish()
-}
-
-/// The length of the shebang line, or 0.
-fn shebang_len(text: &str) -> usize
-    requires fits { Fits text.now }
-    ensures line { result ≡ spec.shebang_len text.now }
-    ensures inside { result ≤ length text.now }
-    ensures boundary { IsCharBoundary text.now result }
-{
-    match strip_shebang(text) {
-        Some(end) => end,
-        None => 0,
+    counter.take_all(&text[..start], Class::Code);
+    for token in tokens {
+        let end = start + token.len as usize;
+        counter.take_all(&text[start..end], class_of(token.kind));
+        start = end;
     }
+    counter.finish()
 }
 
 /// What a token is.
@@ -225,22 +216,6 @@ impl Counter {
     {
         for byte in piece.as_bytes() {
             self.take(*byte, class);
-        }
-    }
-
-    /// Takes what follows the shebang line.
-    fn take_source(&mut self, text: &str)
-        requires fits { Fits text.now }
-        requires few { counter.begun self.old + 7 * length text.now < 2 ^ 64 }
-        ensures bytes { self.new ≡ counter.after_bytes self.old (spec.source_marks text.now) }
-        ensures whole { map spec.byte_of (spec.source_marks text.now) ≡ text.now }
-        ensures begun { counter.begun self.new ≤ counter.begun self.old + 7 * length text.now }
-    {
-        let mut start = 0;
-        for token in tokenize(text, FrontmatterAllowed::Yes) {
-            let end = start + token.len as usize;
-            self.take_all(&text[start..end], class_of(token.kind));
-            start = end;
         }
     }
 

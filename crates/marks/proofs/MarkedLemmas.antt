@@ -1,19 +1,12 @@
 -- What a marked text says, and the calls that write it.
 use Rattle.std.proofs.Common.{◌≡◌, ℕ, List, [], ◌∷◌, ◌++◌, length, take, drop, refl, sym, ap, ◌∙◌, arith, take-add, take_all, Option, Some, length-drop, take-append-drop, append-nil, IsCharBoundary, IsUtf8, Result, OnOk, ◌-◌}
-use Rattle.std.specs.Prelude.{IfSome}
 use Rattle.std.specs.Fmt.{WritesInCalls}
 use Rattle.std.proofs.lemmas.List.Concat.{flat_map-append}
-use Rattle.std.proofs.lemmas.Result.{on_ok_weaker}
-use Rattle.std.proofs.lemmas.Str.{IsCharBoundary-start, IsUtf8-drop}
-use Rattle.std.specs.Option.{unwrap_or}
 use Rattle.std.proofs.lemmas.Grind.{common_steps}
 use Rattle.rustc_lexer.specs.declared.edition.Edition.{Edition}
 use Rattle.rustc_lexer.specs.declared.token.Token.{Token}
-use Rattle.rustc_lexer.specs.Classes.{Fits}
-use Rattle.rustc_lexer.specs.Answers.{shebang}
-use Rattle.rustc_lexer.specs.LanguageText.{document}
-use Rattle.rustc_lexer.specs.Tokens.{bound, tokens_of}
-use Rattle.rustc_lexer.specs.laws.Tokens.{partitions}
+use Rattle.rustc_lexer.specs.Document.{document_tokens, shebang_len}
+use Rattle.rustc_lexer.specs.Tokens.{bound, Partitions}
 use Rattle.rustc_literal_escaper.specs.declared.mode.Mode.{Mode}
 use Rattle.marks.specs.declared.class.Class.{Class}
 use Rattle.marks.specs.declared.class.Class.TheVariants.{Comment}
@@ -24,7 +17,7 @@ use Rattle.marks.specs.Class.{class_of}
 use Rattle.marks.specs.Escape.{unescaped, untagged}
 use Rattle.marks.specs.Fault.{fault_of}
 use Rattle.marks.specs.Literal.{mode_of}
-use Rattle.marks.specs.Marked.{line_len, marked, marked_tokens, parts, parts_by, text_parts, token_parts}
+use Rattle.marks.specs.Marked.{marked, marked_tokens, parts, parts_by, text_parts, token_parts}
 use Rattle.marks.specs.Part.{Own, own, with_marks, without_marks}
 use Rattle.marks.proofs.EscapeLemmas.{unescaped_escaped}
 use Rattle.marks.proofs.LiteralLemmas.{without_literal}
@@ -43,17 +36,12 @@ without_marks-parts text (token ∷ tokens) =
     ∙ (ap (λ bs. first ++ bs) (without_marks-parts (drop token.len text) tokens) ∙ sym (take-add token.len (bound tokens (length tokens)) text)))
 
 -- without the marks, a text is as it was, and so it is on a page
-module _ (edition : Edition) (text : List ℕ) (line : Option ℕ) (is : line ≡ shebang text) (bounded : IfSome line (λ len. IsCharBoundary text len)) (utf8 : IsUtf8 text) (fits : Fits text) where
-  line_end : IsCharBoundary text (line_len text)
-  line_end = grind (arith, common_steps, IsCharBoundary-start)
-
+module _ (edition : Edition) (text : List ℕ) (cut : Partitions (drop (shebang_len text) text) (document_tokens edition text)) where
   pub text_is : without_marks (text_parts edition text) ≡ text
   text_is =
-      let n : ℕ = line_len text in
-      let past : List ℕ = drop n text in
-      let tokens : List Token = tokens_of (document edition) past in
-      let whole = (partitions past (document edition) record { utf8 = IsUtf8-drop text n utf8 line_end; fits = omega (arith, fits, length-drop n text) }).whole in
-      ap (λ xs. take n text ++ xs) (without_marks-parts past tokens ∙ take_all (bound tokens (length tokens)) past (omega arith)) ∙ take-append-drop n text
+      let n : ℕ = shebang_len text in
+      let tokens : List Token = document_tokens edition text in
+      ap (λ xs. take n text ++ xs) (without_marks-parts (drop n text) tokens ∙ take_all (bound tokens (length tokens)) (drop n text) (omega (arith, cut.whole))) ∙ take-append-drop n text
 
   pub page_is : unescaped (untagged (marked Html edition text)) ≡ text
   page_is = ap unescaped (shows (text_parts edition text)) ∙ (unescaped_escaped (without_marks (text_parts edition text)) ∙ text_is)
@@ -69,13 +57,8 @@ module _ {W : Type 0} (took : W → List ℕ → W → Type 0) where
   writes_token style w0 w1 w text rest own left others token first past is wrote more =
       let both = writes_parts took style (token_parts token.kind own) (parts rest others) w0 w1 w wrote more in rw (first, sym is, sym past) both
 
-  -- a shebang line, and then the tokens of what follows it
-  pub writes_past : {T E : Type 0} (style : Style) (edition : Edition) (w v u : W) (text line rest : List ℕ) (len : ℕ) (r : Result T E) → Some len ≡ shebang text → line ≡ take (len - 0) text
-      → rest ≡ drop len text → WritesInCalls took w (with_marks style (Own Comment line ∷ [])) v → OnOk r (WritesInCalls took v (marked_tokens style rest (tokens_of (document edition) rest)) u)
-      → OnOk r (WritesInCalls took w (marked style edition text) u)
-  writes_past style edition w v u text line rest len r some is past first more = on_ok_weaker r (λ wrote.
-      let both = writes_parts took style (Own Comment line ∷ []) (parts rest (tokens_of (document edition) rest)) w v u first wrote in
-      let all : len - 0 ≡ len = omega arith in
-      let is_line : line ≡ take len text = is ∙ ap (λ (k : ℕ). take k text) all in
-      let here : len ≡ line_len text = ap (λ (l : Option ℕ). unwrap_or l 0) some in
-      rw (← here, ← is_line, ← past) both) more
+  -- the shebang line, and then the tokens of what follows it
+  pub writes_past : (style : Style) (edition : Edition) (w v u : W) (text : List ℕ)
+      → WritesInCalls took w (with_marks style (Own Comment (take (shebang_len text) text) ∷ [])) v
+      → WritesInCalls took v (marked_tokens style (drop (shebang_len text) text) (document_tokens edition text)) u → WritesInCalls took w (marked style edition text) u
+  writes_past style edition w v u text first more = writes_parts took style (Own Comment (take (shebang_len text) text) ∷ []) (parts (drop (shebang_len text) text) (document_tokens edition text)) w v u first more

@@ -1,12 +1,9 @@
 -- A text with its shebang line and its tokens marked.
 use Rattle.std.specs.Prelude.{ℕ, List, [], ◌∷◌, ◌++◌, take, drop, Option, Some, None}
-use Rattle.std.specs.Option.{unwrap_or}
 use Rattle.rustc_lexer.specs.declared.edition.Edition.{Edition}
 use Rattle.rustc_lexer.specs.declared.token.Token.{Token}
 use Rattle.rustc_lexer.specs.declared.token.TokenKind.{TokenKind}
-use Rattle.rustc_lexer.specs.Answers.{shebang}
-use Rattle.rustc_lexer.specs.LanguageText.{document}
-use Rattle.rustc_lexer.specs.Tokens.{tokens_of}
+use Rattle.rustc_lexer.specs.Document.{document_tokens, shebang_len}
 use Rattle.marks.specs.declared.class.Class.{Class}
 use Rattle.marks.specs.declared.class.Class.TheVariants.{Comment}
 use Rattle.marks.specs.declared.fault.Fault.{Fault}
@@ -30,13 +27,9 @@ abbrev pub parts : List ℕ → List Token → List Part
 parts text [] = []
 parts text (token ∷ tokens) = token_parts token.kind (take token.len text) ++ parts (drop token.len text) tokens
 
--- how long the shebang line of a text is, or 0
-abbrev pub line_len : List ℕ → ℕ
-line_len text = unwrap_or (shebang text) 0
-
 -- a whole text: its shebang line as a comment, and the tokens of what follows, which is a document in an edition
 abbrev pub text_parts : Edition → List ℕ → List Part
-text_parts edition text = Own Comment (take (line_len text) text) ∷ parts (drop (line_len text) text) (tokens_of (document edition) (drop (line_len text) text))
+text_parts edition text = Own Comment (take (shebang_len text) text) ∷ parts (drop (shebang_len text) text) (document_tokens edition text)
 
 -- each token of a text between its marks, as it is written
 abbrev pub marked_tokens : Style → List ℕ → List Token → List ℕ

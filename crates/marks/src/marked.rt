@@ -2,7 +2,7 @@
 ghost use Rattle.std.specs.Prelude.{◌≡◌, OnOk, take};
 ghost use Rattle.std.specs.Fmt.{WritesInCalls};
 ghost use Rattle.rustc_lexer.specs.Classes.{Fits};
-ghost use Rattle.rustc_lexer.specs.LanguageText.{document, part};
+ghost use Rattle.rustc_lexer.specs.LanguageText.{part};
 ghost use Rattle.rustc_lexer.specs.Tokens.{tokens_of};
 ghost use Rattle.marks.specs.Escape.{unescaped, untagged};
 ghost use Rattle.marks.specs.Marked.{marked, marked_tokens, text_parts, token_parts};
@@ -13,9 +13,7 @@ use crate::fault::fault_of;
 use crate::literal::{mode_of, write_literal};
 use crate::part::{write_in_class, write_with_fault};
 use crate::style::Style;
-use rustc_lexer::{
-    Edition, FrontmatterAllowed, TokenKind, strip_shebang, tokenize_as, tokenize_in,
-};
+use rustc_lexer::{Edition, TokenKind, tokenize_document, tokenize_in};
 use std::fmt;
 
 /// Writes a whole text: its shebang line, where it has one, between the marks of a comment, and the
@@ -24,7 +22,7 @@ use std::fmt;
 ///
 /// Without the marks it is the text. In a page the text is what stands outside of the tags, with
 /// its entities undone.
-#[tactic(auto, using(crate::proofs::MarkedLemmas::text_is, crate::proofs::MarkedLemmas::page_is, crate::proofs::MarkedLemmas::writes_past))]
+#[tactic(auto, using(crate::proofs::MarkedLemmas::text_is, crate::proofs::MarkedLemmas::page_is))]
 pub fn write_marked<W: fmt::Write>(
     style: Style,
     edition: Edition,
@@ -37,26 +35,10 @@ pub fn write_marked<W: fmt::Write>(
     ensures text { without_marks (text_parts edition text.now) ≡ text.now }
     ensures page { unescaped (untagged (marked Style.Html edition text.now)) ≡ text.now }
 {
-    let Some(end) = strip_shebang(text) else {
-        return write_tokens(style, edition, text, output);
-    };
-    write_in_class(style, Class::Comment, &text[..end], output)?;
-    write_tokens(style, edition, &text[end..], output)
-}
-
-/// Writes the tokens of a text in an edition, each between its marks. A frontmatter may stand in front.
-fn write_tokens<W: fmt::Write>(
-    style: Style,
-    edition: Edition,
-    text: &str,
-    output: &mut W,
-) -> fmt::Result
-    requires fits { Fits text.now }
-    ensures { OnOk result (WritesInCalls W.write_str_gives output.old
-        (marked_tokens style text.now (tokens_of (document edition) text.now)) output.new) }
-{
-    let mut start = 0;
-    for token in tokenize_as(text, FrontmatterAllowed::Yes, edition) {
+    let tokens = tokenize_document(text, edition);
+    let mut start = text.len() - tokens.as_str().len();
+    write_in_class(style, Class::Comment, &text[..start], output)?;
+    for token in tokens {
         let end = start + token.len as usize;
         write_token(style, token.kind, &text[start..end], output)?;
         start = end;

@@ -8,6 +8,13 @@ pub mod BridgeLemmas
 pub mod BulkLemmas
 pub mod ClassLemmas
 pub mod CloseLemmas
+pub mod DocumentEditLemmas
+pub mod DocumentEdits
+pub mod DocumentHead
+pub mod DocumentLemmas
+pub mod DocumentPage
+pub mod DocumentPieces
+pub mod DocumentTokens
 pub mod EditLemmas
 pub mod EditListLemmas
 pub mod EditionLemmas
@@ -17,6 +24,7 @@ pub mod FamilyLemmas
 pub mod FindLemmas
 pub mod FrontLemmas
 pub mod GuardedLemmas
+pub mod HeadLemmas
 pub mod HashLemmas
 pub mod IdentLemmas
 pub mod KernelLemmas

@@ -4,7 +4,7 @@ use Rattle.std.proofs.lemmas.Grind.{common_steps}
 use Rattle.rustc_lexer.specs.{Token}
 use Rattle.rustc_lexer.specs.Tokens.{bound, tokens_by}
 use Rattle.rustc_lexer.specs.means.Pieces.{AreBoundariesFrom}
-use Rattle.rustc_lexer.specs.Edits.{Placed, pieces_from, pieces_of}
+use Rattle.rustc_lexer.specs.Edits.{Placed, pieces_from}
 use Rattle.rustc_lexer.specs.Classes.{IsText}
 use Rattle.rustc_lexer.specs.Locality.{IsGrammar}
 use Rattle.rustc_lexer.proofs.BoundLemmas.{bound_mono}
@@ -45,12 +45,12 @@ pub as_many_left : (text : List ℕ) (start : ℕ) (tokens : List Token) {left :
 as_many_left text start tokens is = sym (length-pieces text start tokens) ∙ ap (λ (ps : List Placed). length ps) is
 
 -- the bounds of some of the tokens are bounds of all
-pub cuts_part : (text : List ℕ) (tokens : List Token) (from n : ℕ) → from ≤ length tokens → AreBoundariesFrom text 0 tokens → AreBoundariesFrom text (bound tokens from) (take n (drop from tokens))
-cuts_part text tokens from n few are k less =
+pub cuts_part : (text : List ℕ) (start place : ℕ) (tokens : List Token) (from n : ℕ) → from ≤ length tokens → place ≡ start + bound tokens from → AreBoundariesFrom text start tokens → AreBoundariesFrom text place (take n (drop from tokens))
+cuts_part text start place tokens from n few at are k less =
     let within : k ≤ n = omega (arith, length-take n (drop from tokens)) in
     let inside : from + k ≤ length tokens = omega (arith, length-take n (drop from tokens), length-drop from tokens) in
     let short : bound (take n (drop from tokens)) k ≡ bound (drop from tokens) k = bound-same k (take n (drop from tokens)) (drop from tokens) (take-take k n (drop from tokens) within) in
-    let same : 0 + bound tokens (from + k) ≡ bound tokens from + bound (take n (drop from tokens)) k = omega (arith, bound-shift tokens from k, short) in
+    let same : start + bound tokens (from + k) ≡ place + bound (take n (drop from tokens)) k = omega (arith, at, bound-shift tokens from k, short) in
     subst (IsCharBoundary text) same (are (from + k) inside)
 
 pub drop-pieces : (text : List ℕ) (start k : ℕ) (ts : List Token) → drop k (pieces_from text start ts) ≡ pieces_from text (start + bound ts k) (drop k ts)
@@ -63,8 +63,8 @@ take-pieces text start zero ts = refl
 take-pieces text start (suc k) [] = refl
 take-pieces text start (suc k) (t ∷ ts) = ap (λ ps. record { start = start; token = t; text = take t.len (drop start text) } ∷ ps) (take-pieces text (start + t.len) k ts)
 
-pub pieces-part : (text : List ℕ) (tokens : List Token) (from n : ℕ) → pieces_from text (bound tokens from) (take n (drop from tokens)) ≡ take n (drop from (pieces_of text tokens))
-pieces-part text tokens from n = grind (arith, common_steps, drop-pieces, take-pieces)
+pub pieces-part : (text : List ℕ) (start place : ℕ) (tokens : List Token) (from n : ℕ) → place ≡ start + bound tokens from → pieces_from text place (take n (drop from tokens)) ≡ take n (drop from (pieces_from text start tokens))
+pieces-part text start place tokens from n at = grind (arith, common_steps, drop-pieces, take-pieces)
 
 -- ---- where a token begins, from a bound before it on
 

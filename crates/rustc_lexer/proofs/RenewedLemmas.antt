@@ -1,5 +1,5 @@
 -- What stands once the tokens of a changed text are put in place of the old ones.
-use Rattle.std.proofs.Common.{◌≡◌, ℕ, ◌+◌, ◌-◌, List, ◌++◌, length, map, take, sym, ap, ◌∙◌, arith, length-append, length-drop, length-take-le}
+use Rattle.std.proofs.Common.{◌≡◌, ℕ, ◌+◌, ◌-◌, List, ◌++◌, length, map, take, drop, sym, ap, ◌∙◌, arith, length-append, length-drop, length-take-le, take_at, drop_at, append_assoc}
 use Rattle.std.specs.List.{All}
 use Rattle.std.proofs.lemmas.Grind.{common_steps}
 use Rattle.rustc_lexer.specs.declared.relex.checkpoints.Checkpoints.{Checkpoints}
@@ -30,6 +30,22 @@ module _ {first : List ℕ → Token} (law : IsGrammar first) {text insert made 
   -- the kept front, what was lexed and the kept back are as many
   pub renewed_all : at.front.number + at.lexed + (length tokens - at.back.number) ≡ length now
   renewed_all = grind (arith, common_steps, length-append, length-take-le, length-drop)
+
+  kept_size : length (take at.front.number tokens) ≡ at.front.number
+  kept_size = length-take-le at.front.number tokens (omega (arith, renewed.lexed_is.stands.front_bound.0, ap length e))
+
+  -- the kept tokens are the old ones
+  pub renewed_front : take at.front.number now ≡ take at.front.number tokens
+  renewed_front = ap (take at.front.number) renewed.now_is ∙ take_at (take at.front.number tokens) (renewed.lexed ++ drop at.back.number tokens) at.front.number kept_size
+
+  pub renewed_back : drop (at.front.number + at.lexed) now ≡ drop at.back.number tokens
+  renewed_back =
+      let size : length (take at.front.number tokens ++ renewed.lexed) ≡ at.front.number + at.lexed = omega (arith, length-append (take at.front.number tokens) renewed.lexed, kept_size, renewed.lexed_is.lexed) in
+      ap (drop (at.front.number + at.lexed)) (renewed.now_is ∙ sym (append_assoc (take at.front.number tokens) renewed.lexed (drop at.back.number tokens))) ∙ drop_at (take at.front.number tokens ++ renewed.lexed) (drop at.back.number tokens) (at.front.number + at.lexed) size
+
+  -- where they begin at the back, by how many they are
+  pub renewed_at : at.back.number ≡ length tokens - (length tokens - at.back.number)
+  renewed_at = omega (arith, renewed.lexed_is.stands.back_bound.0, ap length e)
 
   -- the checkpoints can be moved, and stay checkpoints
   pub renewed_bounds : (checkpoints : Checkpoints) → AreBounds tokens checkpoints → All (IsMovable at.back (end_of at)) checkpoints.bounds × IsReplaced tokens now at.front at.back (end_of at)

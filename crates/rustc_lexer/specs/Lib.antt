@@ -2,6 +2,7 @@
 -- of this crate import from here: `use Rattle.rustc_lexer.specs.{Token, TokenKind, Ident}`.
 pub mod Answers
 pub mod Classes
+pub mod Document
 pub mod Edits
 pub mod FrontmatterGrammar
 pub mod Language

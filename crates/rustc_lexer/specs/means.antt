@@ -2,6 +2,7 @@ pub mod BlockComment
 pub mod BlockGrammar
 pub mod ByteRuns
 pub mod Comment
+pub mod Document
 pub mod Edition
 pub mod Emoji
 pub mod Ends

@@ -15,10 +15,12 @@ use crate::token::{FrontmatterAllowed, Token};
 use std::iter::Iterator;
 use std::marker::Model;
 
+mod document;
 mod fill;
 pub(crate) mod stepper;
 mod tally;
 
+pub use document::tokenize_document;
 pub use stepper::{Stepper, Steps};
 
 /// The tokens of a text, in order. The text has at most `u32::MAX` bytes.
@@ -102,7 +104,8 @@ pub fn tokenize_as<'a>(
     }
 }
 
-/// An iterator over the tokens of a text, made by [`tokenize`], [`tokenize_in`] and [`tokenize_as`].
+/// An iterator over the tokens of a text, made by [`tokenize`], [`tokenize_in`], [`tokenize_as`] and
+/// [`tokenize_document`].
 #[derive(Drop)]
 pub struct Tokens<'a> {
     rest: &'a str,

@@ -51,7 +51,7 @@ fn frontmatter_or_lexeme(text: &str) -> Token
 /// The frontmatter at the front of the text, if one opens there.
 ///
 /// White space before its dashes is part of it, unless a newline is the last character of that.
-fn frontmatter(text: &str) -> Option<Token>
+pub(crate) fn frontmatter(text: &str) -> Option<Token>
     requires fits { Fits text.now }
     ensures { MatchOption result (spec.opens (chars text.now) ≡ false)
         (λ token. (spec.opens (chars text.now) ≡ true) × (token ≡ spec.frontmatter text.now)) }

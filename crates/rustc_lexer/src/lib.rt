@@ -25,11 +25,14 @@ pub use classes::{
 };
 pub use cursor::Cursor;
 pub use edition::{Edition, UnknownEdition};
-pub use entry::{EditionTokens, Stepper, Steps, Tokens, tokenize, tokenize_as, tokenize_in};
+pub use entry::{
+    EditionTokens, Stepper, Steps, Tokens, tokenize, tokenize_as, tokenize_document, tokenize_in,
+};
 pub use lexemes::ident::is_ident;
 pub use raw_check::{starts_raw, validate_raw_str};
 pub use relex::{
-    Bound, Change, Edit, EditStop, LexedText, Measured, Piece, Pieces, Relexed, Relexing, settled,
+    Bound, Change, Edit, EditStop, LexedDocument, LexedText, Measured, Piece, Pieces, Relexed,
+    Relexing, settled,
 };
 pub use shebang::strip_shebang;
 pub use token::{

@@ -1,9 +1,12 @@
 //! A text that is kept with its tokens, and its edits.
 mod checkpoints;
+mod document_edit;
 mod edit;
 mod edit_list;
 mod front;
+mod head;
 mod lex;
+mod lexed_document;
 mod lexed_text;
 mod pieces;
 mod relexing;
@@ -13,6 +16,7 @@ mod settle;
 pub use edit::Edit;
 pub use edit_list::EditStop;
 pub use front::{Bound, Measured};
+pub use lexed_document::LexedDocument;
 pub use lexed_text::LexedText;
 pub use pieces::{Piece, Pieces};
 pub use relexing::{Change, Relexed, Relexing};

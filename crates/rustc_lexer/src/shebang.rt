@@ -4,6 +4,7 @@ ghost use Rattle.std.specs.Str.{IsCharBoundary};
 ghost use Rattle.rustc_lexer.specs.{E2024};
 ghost use Rattle.rustc_lexer.specs.Answers.{shebang};
 ghost use Rattle.rustc_lexer.specs.Classes.{Fits, begins};
+ghost use Rattle.rustc_lexer.specs.Document as document;
 ghost use Rattle.rustc_lexer.specs.LanguageText.{part};
 ghost use Rattle.rustc_lexer.specs.means.Shebang as spec;
 ghost use Rattle.rustc_lexer.specs.Tokens.{tokens_of};
@@ -33,6 +34,15 @@ pub fn strip_shebang(input: &str) -> Option<usize>
         return None;
     }
     Some(2 + line_len(tail))
+}
+
+/// The length of the shebang line, or 0.
+pub(crate) fn shebang_len(text: &str) -> usize
+    requires fits { Fits text.now }
+    ensures len { result ≡ document.shebang_len text.now }
+    ensures boundary { IsCharBoundary text.now result }
+{
+    strip_shebang(text).unwrap_or(0)
 }
 
 /// Whether what follows `#!` is an attribute.

@@ -9,11 +9,12 @@ use Rattle.std.specs.Option.{option_eq, unwrap_or}
 use Rattle.std.specs.Prelude.{nat_eq}
 use Rattle.std.specs.Str.{IsCharBoundary, IsUtf8}
 use Rattle.rustc_lexer.specs.Answers.{shebang}
+use Rattle.rustc_lexer.specs.Document.{shebang_len}
 use Rattle.rustc_lexer.specs.Classes.{IsText}
 use Rattle.rustc_lexer.specs.declared.edition.Edition.TheVariants.{E2024}
 use Rattle.rustc_lexer.specs.LanguageText.{document}
 use Rattle.rustc_lexer.specs.Tokens.{tokens_of}
-use Rattle.tidy_run.specs.Order.{is_no_front, code_in_order, line_end, source_tidied, source_parts, document_in_order, is_full, may_change, tidied, Solid, solid, parts_in_order, solid_in_order, IsSound}
+use Rattle.tidy_run.specs.Order.{is_no_front, code_in_order, source_tidied, source_parts, document_in_order, is_full, may_change, tidied, Solid, solid, parts_in_order, solid_in_order, IsSound}
 use Rattle.tidy_run.proofs.ShebangLemmas.{stays-none, source-code}
 use Rattle.tidy_run.proofs.SourceLemmas.{SourceLaw, source-law}
 
@@ -39,18 +40,18 @@ kept-law text e plain = grind (arith, common_steps)
 pub full_law : (text : List ℕ) → length text ≡ 2 ^ 32 - 1 → IsSound text
 full_law text e = let full = eq-eqb (length text) (2 ^ 32 - 1) e in kept-law text (full-stays text full) (λ f. absurd (true≢false (sym full ∙ f)))
 
-document-law : (text : List ℕ) → IsText text → IsCharBoundary text (line_end text) → DocumentLaw text
+document-law : (text : List ℕ) → IsText text → IsCharBoundary text (shebang_len text) → DocumentLaw text
 unfolding tidied
 document-law text is boundary = elim (cases_Bool (is_full text)) [
   | inl e ↦ record { sound = full_law text (eqb-true (length text) (2 ^ 32 - 1) e); shorter = λ f. absurd (true≢false (sym e ∙ f)) }
   | inr e ↦ law-with-room text is boundary e
 ]
   where
-    law-with-room : (text : List ℕ) → IsText text → IsCharBoundary text (line_end text) → is_full text ≡ false → DocumentLaw text
+    law-with-room : (text : List ℕ) → IsText text → IsCharBoundary text (shebang_len text) → is_full text ≡ false → DocumentLaw text
     law-with-room text is boundary not_full = by_check (option_eq nat_eq (shebang made) (shebang text)) refl
       where
         n : ℕ
-        n = line_end text
+        n = shebang_len text
 
         made : List ℕ
         made = document_in_order text
@@ -97,7 +98,7 @@ document-law text is boundary = elim (cases_Bool (is_full text)) [
           shorter = λ _. small;
         }
           where
-            same : line_end made ≡ n
+            same : shebang_len made ≡ n
             same = ap (λ (l : Option ℕ). unwrap_or l 0) (same-len (shebang made) (shebang text) e)
 
             kept : solid_in_order (solid made) ≡ solid_in_order (solid text)
@@ -119,8 +120,8 @@ document-law text is boundary = elim (cases_Bool (is_full text)) [
                 either false = refl
 
 -- as the code takes them
-pub sound : (text : List ℕ) → IsUtf8 text → length text < 2 ^ 32 → IsCharBoundary text (line_end text) → IsSound text
+pub sound : (text : List ℕ) → IsUtf8 text → length text < 2 ^ 32 → IsCharBoundary text (shebang_len text) → IsSound text
 sound text utf8 fits boundary = (document-law text (record { utf8 = utf8; fits = fits }) boundary).sound
 
-pub made_shorter : (text : List ℕ) → IsUtf8 text → length text < 2 ^ 32 → IsCharBoundary text (line_end text) → is_full text ≡ false → length (document_in_order text) ≤ length text + 1
+pub made_shorter : (text : List ℕ) → IsUtf8 text → length text < 2 ^ 32 → IsCharBoundary text (shebang_len text) → is_full text ≡ false → length (document_in_order text) ≤ length text + 1
 made_shorter text utf8 fits boundary = (document-law text (record { utf8 = utf8; fits = fits }) boundary).shorter

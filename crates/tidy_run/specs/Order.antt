@@ -1,7 +1,7 @@
 -- A text in order: what its white space becomes. All else stays.
 use Rattle.std.specs.Prelude.{◌≡◌, ◌≢◌, ℕ, ◌+◌, ◌-◌, ◌<◌, ◌≤◌, ◌^◌, get_or, ◌==◌, ◌&&◌, ◌||◌, not, Bool, true, false, if◌then◌else◌, List, [], ◌∷◌, ◌++◌, length, take, drop, codes, nat_eq, None, is_none}
 use Rattle.std.specs.List.{list_all}
-use Rattle.std.specs.Option.{option_eq, unwrap_or}
+use Rattle.std.specs.Option.{option_eq}
 use Rattle.std.specs.Str.{byte, IsCharBoundary}
 use Rattle.rustc_lexer.specs.declared.token.Token.{Token}
 use Rattle.rustc_lexer.specs.declared.token.TokenKind.{TokenKind}
@@ -12,6 +12,7 @@ use Rattle.rustc_lexer.specs.Classes.{is_among, begins}
 use Rattle.rustc_lexer.specs.declared.edition.Edition.TheVariants.{E2024}
 use Rattle.rustc_lexer.specs.LanguageText.{document}
 use Rattle.rustc_lexer.specs.Answers.{shebang}
+use Rattle.rustc_lexer.specs.Document.{shebang_len}
 use Rattle.rustc_lexer.specs.Tokens.{tokens_of}
 use Rattle.rustc_lexer.specs.laws.Same.{is_same}
 
@@ -160,11 +161,8 @@ abbrev pub source_tidied : List ℕ → List ℕ
 source_tidied text = source_in_order text (tokens_of (document E2024) text)
 
 -- a shebang line stays, and what follows it is a source
-abbrev pub line_end : List ℕ → ℕ
-line_end text = unwrap_or (shebang text) 0
-
 abbrev pub document_in_order : List ℕ → List ℕ
-document_in_order text = take (line_end text) text ++ source_tidied (drop (line_end text) text)
+document_in_order text = take (shebang_len text) text ++ source_tidied (drop (shebang_len text) text)
 
 -- a text of so many bytes has no room for a newline more
 abbrev pub is_full : List ℕ → Bool
@@ -187,7 +185,7 @@ abbrev pub source_parts : List ℕ → List (TokenKind × List ℕ)
 source_parts text = parts text (tokens_of (document E2024) text)
 
 abbrev pub solid : List ℕ → Solid
-solid text = record { line = take (line_end text) text; parts = source_parts (drop (line_end text) text) }
+solid text = record { line = take (shebang_len text) text; parts = source_parts (drop (shebang_len text) text) }
 
 -- what stays, with the texts of the tokens in order, and white space behind the last one where a newline comes there
 abbrev pub end_parts : TokenKind → List (TokenKind × List ℕ) → List (TokenKind × List ℕ)

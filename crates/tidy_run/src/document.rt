@@ -2,10 +2,11 @@
 ghost use Rattle.std.specs.Prelude.{◌≡◌, ◌+◌, ◌<◌, ◌^◌, IfOk, length, string_bytes};
 ghost use Rattle.std.specs.Str.{IsCharBoundary};
 ghost use Rattle.rustc_lexer.specs.Classes.{Fits};
+ghost use Rattle.rustc_lexer.specs.Document.{shebang_len};
 ghost use Rattle.tidy_run.specs.Order as spec;
 
 use crate::source::push_source;
-use rustc_lexer::strip_shebang;
+use rustc_lexer::{Edition, strip_shebang, tokenize_document};
 use std::alloc::{AllocError, Global};
 
 /// A text with its white space and the line ends of its comments in order, closed by a newline. Its shebang line and
@@ -31,22 +32,10 @@ pub fn tidied(alloc: Global, text: &str) -> Result<String, AllocError>
 fn ordered(alloc: Global, text: &str) -> Result<String, AllocError>
     requires room { length text.now + 1 < 2 ^ 32 }
     ensures text { IfOk result (λ out. string_bytes out ≡ spec.document_in_order text.now) }
-    ensures boundary { IsCharBoundary text.now (spec.line_end text.now) }
+    ensures boundary { IsCharBoundary text.now (shebang_len text.now) }
 {
-    let end = line_len(text);
-    let mut made = String::from_str(alloc, &text[..end])?;
-    push_source(alloc, &text[end..], &mut made)?;
+    let rest = tokenize_document(text, Edition::E2024).as_str();
+    let mut made = String::from_str(alloc, &text[..text.len() - rest.len()])?;
+    push_source(alloc, rest, &mut made)?;
     Ok(made)
-}
-
-/// The length of the shebang line, or 0.
-fn line_len(text: &str) -> usize
-    requires fits { Fits text.now }
-    ensures line { result ≡ spec.line_end text.now }
-    ensures boundary { IsCharBoundary text.now result }
-{
-    match strip_shebang(text) {
-        Some(end) => end,
-        None => 0,
-    }
 }

@@ -6,9 +6,7 @@ use crate::erased::literal::{mode_of, write_literal};
 use crate::erased::part::{write_in_class, write_with_fault};
 use crate::erased::style::Style;
 use core::fmt;
-use rustc_lexer::erased::{
-    Edition, FrontmatterAllowed, TokenKind, strip_shebang, tokenize_as, tokenize_in,
-};
+use rustc_lexer::erased::{Edition, TokenKind, tokenize_document, tokenize_in};
 
 /// Writes a whole text: its shebang line, where it has one, between the marks of a comment, and the
 /// tokens of what follows between theirs. The marks are colours by the class of each token, and a
@@ -22,22 +20,10 @@ pub fn write_marked<W: fmt::Write>(
     text: &str,
     output: &mut W,
 ) -> fmt::Result {
-    let Some(end) = strip_shebang(text) else {
-        return write_tokens(style, edition, text, output);
-    };
-    write_in_class(style, Class::Comment, &text[..end], output)?;
-    write_tokens(style, edition, &text[end..], output)
-}
-
-/// Writes the tokens of a text in an edition, each between its marks. A frontmatter may stand in front.
-fn write_tokens<W: fmt::Write>(
-    style: Style,
-    edition: Edition,
-    text: &str,
-    output: &mut W,
-) -> fmt::Result {
-    let mut start = 0;
-    for token in tokenize_as(text, FrontmatterAllowed::Yes, edition) {
+    let tokens = tokenize_document(text, edition);
+    let mut start = text.len() - tokens.as_str().len();
+    write_in_class(style, Class::Comment, &text[..start], output)?;
+    for token in tokens {
         let end = start + token.len as usize;
         write_token(style, token.kind, &text[start..end], output)?;
         start = end;

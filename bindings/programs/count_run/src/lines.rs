@@ -1,6 +1,6 @@
 //! What stands on the lines of a text, and how many lines there are of each sort.
 
-use rustc_lexer::erased::{FrontmatterAllowed, TokenKind, strip_shebang, tokenize};
+use rustc_lexer::erased::{Edition, TokenKind, tokenize_document};
 
 /// How many lines of a text have what on them. The first four numbers count each line once.
 #[derive(Clone, Copy, Debug, PartialEq, Eq)]
@@ -44,19 +44,16 @@ struct Line {
 /// one inside of a comment is a comment. A shebang line and a frontmatter are code. What follows the last newline
 /// is a line if it is not empty.
 pub fn count_lines(text: &str) -> LineCounts {
-    let end = shebang_len(text);
+    let tokens = tokenize_document(text, Edition::E2024);
+    let mut start = text.len() - tokens.as_str().len();
     let mut counter = Counter::new();
-    counter.take_all(&text[..end], Class::Code);
-    counter.take_source(&text[end..]);
-    counter.finish()
-}
-
-/// The length of the shebang line, or 0.
-fn shebang_len(text: &str) -> usize {
-    match strip_shebang(text) {
-        Some(end) => end,
-        None => 0,
+    counter.take_all(&text[..start], Class::Code);
+    for token in tokens {
+        let end = start + token.len as usize;
+        counter.take_all(&text[start..end], class_of(token.kind));
+        start = end;
     }
+    counter.finish()
 }
 
 /// What a token is.
@@ -180,16 +177,6 @@ impl Counter {
     fn take_all(&mut self, piece: &str, class: Class) {
         for byte in piece.as_bytes() {
             self.take(*byte, class);
-        }
-    }
-
-    /// Takes what follows the shebang line.
-    fn take_source(&mut self, text: &str) {
-        let mut start = 0;
-        for token in tokenize(text, FrontmatterAllowed::Yes) {
-            let end = start + token.len as usize;
-            self.take_all(&text[start..end], class_of(token.kind));
-            start = end;
         }
     }
 

@@ -3,7 +3,7 @@ use rattle_std::prelude::String;
 
 use crate::source::push_source;
 use rattle_std::alloc::{AllocError, Global};
-use rustc_lexer::erased::strip_shebang;
+use rustc_lexer::erased::{Edition, strip_shebang, tokenize_document};
 
 /// A text with its white space and the line ends of its comments in order, closed by a newline. Its shebang line and
 /// all tokens but white space stay, with their texts but for those line ends, and a text in order stays as it is.
@@ -21,16 +21,8 @@ pub fn tidied(alloc: Global, text: &str) -> Result<String, AllocError> {
 
 /// The shebang line, and what follows it in order.
 fn ordered(alloc: Global, text: &str) -> Result<String, AllocError> {
-    let end = line_len(text);
-    let mut made = String::from_str(alloc, &text[..end])?;
-    push_source(alloc, &text[end..], &mut made)?;
+    let rest = tokenize_document(text, Edition::E2024).as_str();
+    let mut made = String::from_str(alloc, &text[..text.len() - rest.len()])?;
+    push_source(alloc, rest, &mut made)?;
     Ok(made)
-}
-
-/// The length of the shebang line, or 0.
-fn line_len(text: &str) -> usize {
-    match strip_shebang(text) {
-        Some(end) => end,
-        None => 0,
-    }
 }

@@ -7,10 +7,12 @@ use crate::erased::lexemes::quick::quick_token;
 use crate::erased::token::{FrontmatterAllowed, Token};
 use core::iter::Iterator;
 
+mod document;
 mod fill;
 pub(crate) mod stepper;
 mod tally;
 
+pub use document::tokenize_document;
 pub use stepper::{Stepper, Steps};
 
 /// The tokens of a text, in order. The text has at most `u32::MAX` bytes.
@@ -65,7 +67,8 @@ pub fn tokenize_as<'a>(
     }
 }
 
-/// An iterator over the tokens of a text, made by [`tokenize`], [`tokenize_in`] and [`tokenize_as`].
+/// An iterator over the tokens of a text, made by [`tokenize`], [`tokenize_in`], [`tokenize_as`] and
+/// [`tokenize_document`].
 pub struct Tokens<'a> {
     rest: &'a str,
     frontmatter_allowed: FrontmatterAllowed,

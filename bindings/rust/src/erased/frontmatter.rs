@@ -32,7 +32,7 @@ fn frontmatter_or_lexeme(text: &str) -> Token {
 /// The frontmatter at the front of the text, if one opens there.
 ///
 /// White space before its dashes is part of it, unless a newline is the last character of that.
-fn frontmatter(text: &str) -> Option<Token> {
+pub(crate) fn frontmatter(text: &str) -> Option<Token> {
     let fence = eat_whitespace(text);
     let label = eat_while(fence, |c| c == '-');
     let n_dashes = fence.len() - label.len();

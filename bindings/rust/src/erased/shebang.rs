@@ -21,6 +21,11 @@ pub fn strip_shebang(input: &str) -> Option<usize> {
     Some(2 + line_len(tail))
 }
 
+/// The length of the shebang line, or 0.
+pub(crate) fn shebang_len(text: &str) -> usize {
+    strip_shebang(text).unwrap_or(0)
+}
+
 /// Whether what follows `#!` is an attribute.
 fn is_attribute(tail: &str) -> bool {
     for token in tokenize(tail, FrontmatterAllowed::No) {

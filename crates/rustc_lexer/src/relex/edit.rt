@@ -1,5 +1,5 @@
 //! One edit: the text that it makes, and the tokens that it lexes for it.
-ghost use Rattle.std.specs.Prelude.{◌≡◌, ◌+◌, ◌-◌, ◌^◌, ◌<◌, ◌≤◌, ◌++◌, IfOk, IfErr, OnOk, OnErr, List, ℕ, drop, length, map};
+ghost use Rattle.std.specs.Prelude.{◌≡◌, ◌+◌, ◌-◌, ◌^◌, ◌<◌, ◌≤◌, ◌++◌, IfOk, IfErr, OnOk, OnErr, List, ℕ, drop, length, map, take};
 ghost use Rattle.std.specs.List.{All};
 ghost use Rattle.std.specs.Str.{IsUtf8};
 ghost use Rattle.std.specs.String.{string_bytes, string_capacity, string_len};
@@ -31,7 +31,7 @@ pub struct Edit<'a> {
 }
 
 /// Puts `insert` in place of the bytes from `start` up to `stop`, where the text has room for it beside them.
-fn put_in_place(text: &mut String, start: usize, stop: usize, insert: &str)
+pub(crate) fn put_in_place(text: &mut String, start: usize, stop: usize, insert: &str)
     requires inside { IsInside (string_bytes text.old) start stop }
     requires room { string_len text.old + length insert.now ≤ string_capacity text.old }
     ensures text { string_bytes text.new ≡ apply (string_bytes text.old) start stop insert.now }
@@ -45,7 +45,7 @@ fn put_in_place(text: &mut String, start: usize, stop: usize, insert: &str)
 
 /// Lexes the new text from the kept front on, until it meets the old tokens, and answers the tokens between with
 /// the place of the meeting.
-fn relex<S: Stepper>(
+pub(crate) fn relex<S: Stepper>(
     alloc: Global,
     stepper: &mut S,
     old: &[Token],
@@ -200,6 +200,11 @@ pub(crate) fn lex_edit<S: Stepper>(
         edit.entry.start edit.entry.stop edit.entry.insert.now) }
     ensures all { IfOk result
         (λ r. r.kept_front + r.lexed + r.kept_back ≡ length tokens.new.items) }
+    ensures front { IfOk result
+        (λ r. take r.kept_front tokens.new.items ≡ take r.kept_front tokens.old.items) }
+    ensures back { IfOk result
+        (λ r. drop (r.kept_front + r.lexed) tokens.new.items
+        ≡ drop (length tokens.old.items - r.kept_back) tokens.old.items) }
     ensures count { IfOk result (λ r. S.count stepper.new ≡ S.count stepper.old + r.lexed) }
     ensures rose { S.count stepper.old ≤ S.count stepper.new }
     ensures few { OnErr result
@@ -237,7 +242,7 @@ pub(crate) fn lex_edit<S: Stepper>(
 }
 
 /// Where the checkpoints are after an edit that was relexed so far, in a text of `len` bytes; its kept front is one.
-fn past_edit(checkpoints: &Checkpoints, at: Relexing, len: usize) -> Checkpoints
+pub(crate) fn past_edit(checkpoints: &Checkpoints, at: Relexing, len: usize) -> Checkpoints
     requires small { known at < 2 ^ 64 }
     requires movable { All (IsMovable at.back (end_of at)) checkpoints.now.bounds }
     ensures { (old new : List Token) → IsReplaced old new at.front at.back (end_of at)

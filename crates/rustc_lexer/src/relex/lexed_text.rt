@@ -1,5 +1,5 @@
 //! A text that is kept with its tokens.
-ghost use Rattle.std.specs.Prelude.{◌≡◌, ◌+◌, ◌^◌, ◌<◌, ◌≤◌, ◌↔◌, IfOk, IfErr, OnOk, OnErr, IsTrue, length};
+ghost use Rattle.std.specs.Prelude.{◌≡◌, ◌+◌, ◌-◌, ◌^◌, ◌<◌, ◌≤◌, ◌↔◌, IfOk, IfErr, OnOk, OnErr, IsTrue, drop, length, take};
 ghost use Rattle.rustc_lexer.specs.{E2024};
 ghost use Rattle.rustc_lexer.specs.Classes.{Fits};
 ghost use Rattle.rustc_lexer.specs.Tokens.{bound, tokens_by, tokens_of};
@@ -145,6 +145,11 @@ impl<S: Stepper> LexedText<S> {
             (λ r. r ≡ relexed_of (S.grammar self.old.stepper) self.old.text start stop insert.now) }
         ensures all { IfOk result
             (λ r. r.kept_front + r.lexed + r.kept_back ≡ length self.new.tokens) }
+        ensures front { IfOk result
+            (λ r. take r.kept_front self.new.tokens ≡ take r.kept_front self.old.tokens) }
+        ensures back { IfOk result
+            (λ r. drop (r.kept_front + r.lexed) self.new.tokens
+            ≡ drop (length self.old.tokens - r.kept_back) self.old.tokens) }
         ensures count { IfOk result
             (λ r. S.count self.new.stepper ≡ S.count self.old.stepper + r.lexed) }
         ensures grammar { S.grammar self.new.stepper ≡ S.grammar self.old.stepper }
@@ -173,7 +178,7 @@ impl<S: Stepper> LexedText<S> {
 }
 
 /// Where the last of the tokens ends, the first of which begins at `start`.
-fn end_from(start: u32, tokens: &[Token]) -> u32
+pub(crate) fn end_from(start: u32, tokens: &[Token]) -> u32
     requires { start + bound tokens.now (length tokens.now) < 2 ^ 32 }
     ensures { result ≡ start + bound tokens.now (length tokens.now) }
 {

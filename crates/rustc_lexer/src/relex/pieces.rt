@@ -2,9 +2,11 @@
 ghost use Rattle.std.specs.Prelude.{◌≡◌, ◌-◌, ◌≤◌, IfSome, Some, drop, length, take};
 ghost use Rattle.std.specs.Iterator.{UpTo, at_most};
 ghost use Rattle.std.specs.Iterator.SizeHint.{IsWithinCount};
-ghost use Rattle.rustc_lexer.specs.Edits.{pieces_of, YieldsPiece};
+ghost use Rattle.rustc_lexer.specs.Document.{shebang_len};
+ghost use Rattle.rustc_lexer.specs.Edits.{pieces_from, pieces_of, YieldsPiece};
 
 use crate::entry::stepper::Stepper;
+use crate::relex::lexed_document::LexedDocument;
 use crate::relex::lexed_text::LexedText;
 use crate::token::Token;
 use std::iter::{ExactSizeIterator, Iterator};
@@ -110,6 +112,50 @@ impl<S: Stepper> LexedText<S> {
             text: self.text(),
             start: self.place_of(from),
             tokens: &self.tokens()[from..to],
+        }
+    }
+}
+
+impl<S: Stepper> LexedDocument<S> {
+    /// Returns the pieces of the text, one for each token, in order. The shebang line is none: the first piece begins
+    /// where it ends.
+    pub fn pieces(&self) -> Pieces<'_>
+        ensures pieces { result
+            ≡ pieces_from self.now.text (shebang_len self.now.text) self.now.tokens }
+        ensures number { length result ≡ length self.now.tokens }
+    {
+        Pieces {
+            text: self.text(),
+            start: self.shebang_len() as u32,
+            tokens: self.tokens(),
+        }
+    }
+
+    /// Returns the pieces of the tokens from number `from` up to number `to`, such as those that an edit lexed. Few of
+    /// the tokens before them are read.
+    ///
+    /// So an editor paints anew what an edit changed:
+    ///
+    /// ```ignore
+    /// let counts = held.edit(start, stop, insert)?;
+    /// for piece in held.pieces_of(counts.kept_front, counts.kept_front + counts.lexed) {
+    ///     paint(piece.start, piece.token.kind, piece.text);
+    /// }
+    /// ```
+    pub fn pieces_of(&self, from: usize, to: usize) -> Pieces<'_>
+        requires from_le_to { from ≤ to }
+        requires to_inside { to ≤ length self.now.tokens }
+        ensures pieces { result
+            ≡ take (to - from)
+            (drop from (pieces_from self.now.text (shebang_len self.now.text) self.now.tokens)) }
+        ensures number { length result ≡ to - from }
+    {
+        let start = self.place_of(from);
+        let tokens = &self.tokens()[from..to];
+        Pieces {
+            text: self.text(),
+            start,
+            tokens,
         }
     }
 }

@@ -22,7 +22,7 @@ pub struct Edit<'a> {
 }
 
 /// Puts `insert` in place of the bytes from `start` up to `stop`, where the text has room for it beside them.
-fn put_in_place(text: &mut String, start: usize, stop: usize, insert: &str) {
+pub(crate) fn put_in_place(text: &mut String, start: usize, stop: usize, insert: &str) {
     match text.replace_range(start..stop, insert) {
         Ok(()) | Err(_) => {}
     }
@@ -30,7 +30,7 @@ fn put_in_place(text: &mut String, start: usize, stop: usize, insert: &str) {
 
 /// Lexes the new text from the kept front on, until it meets the old tokens, and answers the tokens between with
 /// the place of the meeting.
-fn relex<S: Stepper>(
+pub(crate) fn relex<S: Stepper>(
     alloc: Global,
     stepper: &mut S,
     old: &[Token],
@@ -123,7 +123,7 @@ pub(crate) fn lex_edit<S: Stepper>(
 }
 
 /// Where the checkpoints are after an edit that was relexed so far, in a text of `len` bytes; its kept front is one.
-fn past_edit(checkpoints: &Checkpoints, at: Relexing, len: usize) -> Checkpoints {
+pub(crate) fn past_edit(checkpoints: &Checkpoints, at: Relexing, len: usize) -> Checkpoints {
     let now = Bound {
         number: at.front.number + at.lexed,
         place: at.at,

@@ -97,7 +97,7 @@ impl<S: Stepper> LexedText<S> {
 }
 
 /// Where the last of the tokens ends, the first of which begins at `start`.
-fn end_from(start: u32, tokens: &[Token]) -> u32 {
+pub(crate) fn end_from(start: u32, tokens: &[Token]) -> u32 {
     let mut end = start;
     for token in tokens {
         end += token.len;

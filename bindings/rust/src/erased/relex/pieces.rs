@@ -1,6 +1,7 @@
 //! The pieces of a text that is kept with its tokens.
 
 use crate::erased::entry::stepper::Stepper;
+use crate::erased::relex::lexed_document::LexedDocument;
 use crate::erased::relex::lexed_text::LexedText;
 use crate::erased::token::Token;
 use core::iter::{ExactSizeIterator, Iterator};
@@ -74,6 +75,39 @@ impl<S: Stepper> LexedText<S> {
             text: self.text(),
             start: self.place_of(from),
             tokens: &self.tokens()[from..to],
+        }
+    }
+}
+
+impl<S: Stepper> LexedDocument<S> {
+    /// Returns the pieces of the text, one for each token, in order. The shebang line is none: the first piece begins
+    /// where it ends.
+    pub fn pieces(&self) -> Pieces<'_> {
+        Pieces {
+            text: self.text(),
+            start: self.shebang_len() as u32,
+            tokens: self.tokens(),
+        }
+    }
+
+    /// Returns the pieces of the tokens from number `from` up to number `to`, such as those that an edit lexed. Few of
+    /// the tokens before them are read.
+    ///
+    /// So an editor paints anew what an edit changed:
+    ///
+    /// ```ignore
+    /// let counts = held.edit(start, stop, insert)?;
+    /// for piece in held.pieces_of(counts.kept_front, counts.kept_front + counts.lexed) {
+    ///     paint(piece.start, piece.token.kind, piece.text);
+    /// }
+    /// ```
+    pub fn pieces_of(&self, from: usize, to: usize) -> Pieces<'_> {
+        let start = self.place_of(from);
+        let tokens = &self.tokens()[from..to];
+        Pieces {
+            text: self.text(),
+            start,
+            tokens,
         }
     }
 }

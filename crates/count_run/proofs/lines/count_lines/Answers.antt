@@ -1,19 +1,45 @@
-use Rattle.std.proofs.Common.{◌≡◌, ap, map, drop, ◌∙◌, sym, arith, take}
+use Rattle.std.proofs.Common.{◌≡◌, ℕ, ◌-◌, List, length, take, drop, length-drop, arith, ap, sym, subst, ◌∙◌, IsCharBoundary}
+use Rattle.std.proofs.lemmas.Grind.{common_steps}
+use Rattle.rustc_lexer.specs.Document.{shebang_len}
+use Rattle.rustc_lexer.specs.State.{State}
+use Rattle.rustc_lexer.specs.Tokens.{tokens_left}
+use Rattle.rustc_lexer.proofs.PlaceLemmas.{piece_is, stands_past}
 use Rattle.count_run.specs.declared.lines.LineCounts.{LineCounts}
-use Rattle.count_run.specs.Lines.{byte_of, source_marks, shebang_len, lines_counted}
-use Rattle.count_run.proofs.LineLemmas.{document_counts, bytes-marks, lines-counted}
+use Rattle.count_run.specs.Counter.{begun}
+use Rattle.count_run.specs.Lines.{lines_counted}
+use Rattle.count_run.proofs.LineLemmas.{bytes_step, bytes-marks, document_begins, document_counts, lines-counted}
 use Rattle.count_run.proofs.lines.count_lines.Goals as goal
 
+pub loop-token-preserved : goal.loop-token-preserved
+loop-token-preserved c =
+    let at = c.loop-token.token-iterator in
+    let past = c.next.new.self in
+    let step = c.in-Some.ensures.steps in
+    let piece = piece_is c.args.text.now at.rest c.range-in-loop-token.result.now c.loop-token.start c.in-Some.token.len c.range-in-loop-token.ensures.value c.loop-token.invariant.place.1 in
+    record {
+      place = stands_past c.args.text.now c.loop-token.start at past c.in-Some.token c.loop-token.invariant.place step;
+      few = let b = c.take_all-in-loop-token.ensures.begun in let l = c.range-in-loop-token.ensures.len in let f = c.loop-token.invariant.few in omega arith;
+      left = bytes_step c.loop-token.counter c.take_all-in-loop-token.new.self _ at.rest past.rest c.range-in-loop-token.result.now (tokens_left at) (tokens_left past) c.in-Some.token c.class_of.result
+          c.loop-token.invariant.left step.first step.rest piece c.class_of.ensures c.take_all-in-loop-token.ensures.bytes;
+    }
+
+pub loop-token-init : goal.loop-token-init
+loop-token-init c =
+    let text : List ℕ = c.args.text.now in
+    let tokens = c.tokenize_document-tokens in
+    let state = c.into_iter-token-iterator.ensures.into_iter_gives ∙ tokens.ensures.state in
+    let rest : c.as_str.result.now ≡ drop (shebang_len text) text = c.as_str.ensures.rest ∙ ap (λ (s : State). s.rest) tokens.ensures.state in
+    let begins : length text - length c.as_str.result.now ≡ shebang_len text = let b = tokens.ensures.boundary.0 in omega (arith, ap length rest, length-drop (shebang_len text) text) in
+    let line : c.range.result.now ≡ take (shebang_len text) text = c.range.ensures.value ∙ ap (λ (n : ℕ). take n text) (let e : length text - length c.as_str.result.now - 0 ≡ shebang_len text = omega (arith, begins) in e) in
+    record {
+      place = (subst (λ (n : ℕ). IsCharBoundary text n) (sym begins) tokens.ensures.boundary, ap (λ (n : ℕ). drop n text) begins ∙ sym (ap (λ (s : State). s.rest) state));
+      few = let b = c.take_all.ensures.begun in let l = c.range.ensures.len in let z : begun c.new-counter.result ≡ 0 = ap begun c.new-counter.ensures in omega arith;
+      left = document_begins text c.range.result.now _ _ c.new-counter.result c.take_all.new.self c.new-counter.ensures line (ap (λ (s : State). s.rest) state) (ap tokens_left state) c.take_all.ensures.bytes;
+    }
+
 pub returns-clause-counts : goal.returns-clause-counts
-returns-clause-counts c =
-    let line : c.range.result.now ≡ take c.shebang_len-end.result c.args.text.now = grind arith in
-    document_counts c.args.text.now c.range.result.now c.range_from.result.now c.shebang_len-end.result c.new-counter.result c.take_all.new.self c.take_source.new.self c.finish.result
-    c.shebang_len-end.ensures.line c.new-counter.ensures line c.range_from.ensures.value c.take_all.ensures.bytes c.take_source.ensures.bytes c.finish.ensures
+returns-clause-counts c = document_counts c.args.text.now c.loop-token.counter c.finish.result (grind (arith, common_steps, c.loop-token.invariant.left)) c.finish.ensures
 
 pub returns-clause-once : goal.returns-clause-once
 returns-clause-once c =
-    let text = c.args.text.now in
-    let rest : c.range_from.result.now ≡ drop (shebang_len text) text = c.range_from.ensures.value ∙ ap (λ n. drop n text) c.shebang_len-end.ensures.line in
-    let whole : map byte_of (source_marks (drop (shebang_len text) text)) ≡ drop (shebang_len text) text =
-    ap (λ bs. map byte_of (source_marks bs)) (sym rest) ∙ (c.take_source.ensures.whole ∙ rest) in
-    ap (λ (n : LineCounts). lines_counted n) (returns-clause-counts c) ∙ lines-counted text (bytes-marks text whole)
+    ap (λ (n : LineCounts). lines_counted n) (returns-clause-counts c) ∙ lines-counted c.args.text.now (bytes-marks c.args.text.now c.tokenize_document-tokens.ensures.partitions.whole)

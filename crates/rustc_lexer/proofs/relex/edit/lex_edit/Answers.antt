@@ -1,4 +1,4 @@
-use Rattle.std.proofs.Common.{◌≡◌, ◌+◌, List, ℕ, length, map, slice_range, string_bytes, sym, ap, ◌∙◌, arith, IsUtf8}
+use Rattle.std.proofs.Common.{◌≡◌, ◌+◌, ◌-◌, List, ℕ, length, map, drop, take, subst, slice_range, string_bytes, sym, ap, ◌∙◌, arith, IsUtf8}
 use Rattle.std.specs.List.{Contains}
 use Rattle.std.proofs.lemmas.List.{length-map}
 use Rattle.std.proofs.lemmas.List.Elements.{All-contains}
@@ -12,7 +12,7 @@ use Rattle.rustc_lexer.specs.Classes.{IsText}
 use Rattle.rustc_lexer.specs.means.Checkpoints.{AreBounds}
 use Rattle.rustc_lexer.proofs.EditLemmas.{put_back}
 use Rattle.rustc_lexer.proofs.RelexingLemmas.{made_for, made_change}
-use Rattle.rustc_lexer.proofs.RenewedLemmas.{renewed_all, renewed_are, renewed_bounds}
+use Rattle.rustc_lexer.proofs.RenewedLemmas.{renewed_all, renewed_are, renewed_at, renewed_back, renewed_bounds, renewed_front}
 use Rattle.rustc_lexer.proofs.relex.edit.lex_edit.Goals as goal
 use Rattle.rustc_lexer.specs.declared.relex.relexing.Relexed.{Relexed}
 
@@ -77,6 +77,21 @@ returns-in-Ok-clause-all g c =
       ap (λ (r : Relexed). r.lexed) counts,
       ap (λ (r : Relexed). r.kept_back) counts,
     )
+
+pub returns-in-Ok-clause-front : goal.returns-in-Ok-clause-front
+returns-in-Ok-clause-front g c =
+    let made = made_of c.requires.text c.requires.insert c.requires.edit c.requires.from_scratch c.as_str-made.ensures.value c.put_in_place.ensures.text c.reserve.ensures.bytes in
+    let renewed = c.in-Ok.ensures.renewed _ _ made (near_bound c.args.checkpoints.now c.requires.from_scratch c.requires.checkpoints c.nearest-near.ensures) in
+    subst (λ (r : Relexed). take r.kept_front c.renew.new.tokens.items ≡ take r.kept_front c.args.tokens.now.items) (sym c.counts.ensures.counts) (renewed_front (g.S.Stepper.law c.args.stepper.now) c.requires.from_scratch made renewed.0)
+
+pub returns-in-Ok-clause-back : goal.returns-in-Ok-clause-back
+returns-in-Ok-clause-back g c =
+    let made = made_of c.requires.text c.requires.insert c.requires.edit c.requires.from_scratch c.as_str-made.ensures.value c.put_in_place.ensures.text c.reserve.ensures.bytes in
+    let renewed = c.in-Ok.ensures.renewed _ _ made (near_bound c.args.checkpoints.now c.requires.from_scratch c.requires.checkpoints c.nearest-near.ensures) in
+    let law = g.S.Stepper.law c.args.stepper.now in
+    let back = renewed_back law c.requires.from_scratch made renewed.0 ∙ ap (λ n. drop n c.args.tokens.now.items) (renewed_at law c.requires.from_scratch made renewed.0) in
+    let kept = ap (λ (n : ℕ). drop (length c.args.tokens.now.items - (n - c.in-Ok.at.back.number)) c.args.tokens.now.items) (ap length c.as_slice-count.ensures.value) in
+    subst (λ (r : Relexed). drop (r.kept_front + r.lexed) c.renew.new.tokens.items ≡ drop (length c.args.tokens.now.items - r.kept_back) c.args.tokens.now.items) (sym c.counts.ensures.counts) (back ∙ sym kept)
 
 pub returns-in-Ok-clause-count : goal.returns-in-Ok-clause-count
 returns-in-Ok-clause-count g c =

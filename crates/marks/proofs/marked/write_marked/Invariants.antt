@@ -1,13 +1,12 @@
 use Rattle.std.specs.Fmt.{WritesInCalls}
-use Rattle.rustc_lexer.specs.LanguageText.{document}
 use Rattle.rustc_lexer.specs.laws.State.{StandsAt}
-use Rattle.rustc_lexer.specs.Tokens.{tokens_of, tokens_left}
-use Rattle.marks.specs.Marked.{marked_tokens}
-use Rattle.marks.proofs.marked.write_tokens.Given as goal
+use Rattle.rustc_lexer.specs.Tokens.{tokens_left}
+use Rattle.marks.specs.Marked.{marked, marked_tokens}
+use Rattle.marks.proofs.marked.write_marked.Given as goal
 
 abbrev pub invariant-loop-token : goal.invariant-loop-token
 invariant-loop-token g l = record {
   place : StandsAt l.text l.start l.token-iterator;
   left : (w : _) → WritesInCalls g.W.Write.write_str_gives l.output (marked_tokens l.style l.token-iterator.rest (tokens_left l.token-iterator)) w
-      → WritesInCalls g.W.Write.write_str_gives l.initial.output (marked_tokens l.style l.text (tokens_of (document l.fn.edition) l.text)) w;
+      → WritesInCalls g.W.Write.write_str_gives l.fn.output (marked l.style l.fn.edition l.text) w;
 }

@@ -1,0 +1,64 @@
+//! Whole documents that are kept with their tokens under edits.
+
+use crate::texts::Random;
+use proved::{tokenize_document, Edition, LexedDocument};
+use std::fmt::{Debug, Write};
+use std::ops::Range;
+
+/// A document in each edition, the newest one last.
+pub struct Documents(Vec<LexedDocument>);
+
+impl Documents {
+    /// A document that begins with what scripts begin with, or not.
+    pub fn new(random: &mut Random) -> Documents {
+        let text = random.document();
+        let lexed = |edition| LexedDocument::new_in(&text, edition);
+        Documents(Edition::ALL.map(lexed).into())
+    }
+
+    /// The text.
+    pub fn text(&self) -> &str {
+        self.0[0].text()
+    }
+
+    /// Makes the same edit in each edition. Answers how many answers were compared, or the first that differ: in each
+    /// edition with what lexing the text anew gives, and in the newest one with what the original gives.
+    pub fn edit(&mut self, range: Range<usize>, insert: &str) -> Result<usize, [String; 2]> {
+        let mut made = self.text().to_owned();
+        made.replace_range(range.clone(), insert);
+        let mut count = 0;
+        for lexed in &mut self.0 {
+            lexed.edit(range.clone(), insert);
+            let anew = tokenize_document(&made, lexed.edition());
+            let start = made.len() - anew.as_str().len();
+            let kept = answers(lexed.text(), lexed.shebang_len(), lexed.tokens().iter());
+            count += same(answers(&made, start, anew), &kept)?;
+            if lexed.edition() == Edition::E2024 {
+                let start = original::strip_shebang(&made).unwrap_or(0);
+                let tokens = original::tokenize(&made[start..], original::FrontmatterAllowed::Yes);
+                count += same(answers(&made, start, tokens), &kept)?;
+            }
+        }
+        Ok(count)
+    }
+}
+
+/// A text, where its tokens begin, and its tokens, as lines.
+fn answers(text: &str, start: usize, tokens: impl Iterator<Item = impl Debug>) -> String {
+    let mut lines = format!("text {text:?}\nshebang {start}\n");
+    for token in tokens {
+        writeln!(lines, "{token:?}").expect("a String takes all that is written");
+    }
+    lines
+}
+
+/// The number of lines that are the same, or the first that differ.
+fn same(wanted: String, kept: &str) -> Result<usize, [String; 2]> {
+    if wanted == kept {
+        return Ok(kept.lines().count());
+    }
+    let lines = wanted.lines().zip(kept.lines());
+    let differing = lines.clone().find(|(a, b)| a != b);
+    let [a, b] = differing.map_or(["one has fewer"; 2], |(a, b)| [a, b]);
+    Err([a.to_owned(), b.to_owned()])
+}

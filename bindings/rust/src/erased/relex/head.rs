@@ -1,0 +1,100 @@
+//! What stands in front of the body of a document.
+use crate::support::Vec;
+
+use crate::erased::frontmatter::frontmatter;
+use crate::erased::scan::eat_whitespace;
+use crate::erased::shebang::shebang_len;
+use crate::erased::token::{Token, TokenKind};
+use crate::support::AllocError;
+
+/// What stands in front of the body of a document: a shebang line, and a frontmatter.
+#[derive(Clone, Copy)]
+pub(crate) struct Head {
+    /// The length of the shebang line, or 0.
+    pub shebang: usize,
+    /// The length of the white space before the frontmatter, where that is a token of its own, or 0.
+    pub space: u32,
+    /// The frontmatter.
+    pub front: Option<Token>,
+    /// Where the body begins.
+    pub end: usize,
+}
+
+impl Head {
+    /// The head of a document.
+    pub(crate) fn of(text: &str) -> Head {
+        let shebang = shebang_len(text);
+        let rest = &text[shebang..];
+        if let Some(front) = frontmatter(rest) {
+            return Head {
+                shebang,
+                space: 0,
+                front: Some(front),
+                end: shebang + front.len as usize,
+            };
+        }
+        let past = eat_whitespace(rest);
+        match frontmatter(past) {
+            Some(front) => {
+                let space = rest.len() - past.len();
+                Head {
+                    shebang,
+                    space: space as u32,
+                    front: Some(front),
+                    end: shebang + space + front.len as usize,
+                }
+            }
+            None => Head {
+                shebang,
+                space: 0,
+                front: None,
+                end: shebang,
+            },
+        }
+    }
+
+    /// How many tokens it has.
+    pub(crate) fn count(self) -> usize {
+        match self.front {
+            None => 0,
+            Some(_) => {
+                if self.space == 0 {
+                    1
+                } else {
+                    2
+                }
+            }
+        }
+    }
+
+    /// Appends its tokens.
+    pub(crate) fn push_to(self, list: &mut Vec<Token>) -> Result<(), AllocError> {
+        if let Some(front) = self.front {
+            if self.space > 0 {
+                list.push(Token {
+                    kind: TokenKind::Whitespace,
+                    len: self.space,
+                })?;
+            }
+            list.push(front)?;
+        }
+        Ok(())
+    }
+
+    /// Whether it is the same as the other.
+    pub(crate) fn is_same(self, other: Head) -> bool {
+        same_front(self.front, other.front)
+            && self.shebang == other.shebang
+            && self.space == other.space
+            && self.end == other.end
+    }
+}
+
+/// Whether both are the same frontmatter, or none.
+fn same_front(front: Option<Token>, other: Option<Token>) -> bool {
+    match (front, other) {
+        (Some(front), Some(other)) => front == other,
+        (None, None) => true,
+        _ => false,
+    }
+}

@@ -1,0 +1,29 @@
+//! Edits of a document in a row.
+
+use crate::erased::entry::stepper::Stepper;
+use crate::erased::relex::edit::Edit;
+use crate::erased::relex::edit_list::EditStop;
+use crate::erased::relex::lexed_document::LexedDocument;
+
+impl<S: Stepper> LexedDocument<S> {
+    /// Makes the edits in order, each on the text that those before it leave, as far as the first that is refused. `Err`
+    /// says which that is and why; the edits before it stand.
+    pub fn edit_all(&mut self, edits: &[Edit<'_>]) -> Result<(), EditStop> {
+        // So the tokens are those of the text, also where there is no edit.
+        debug_assert!(self.is_consistent());
+        for (at, edit) in edits.iter().enumerate() {
+            if !self.accepts(edit.start, edit.stop, edit.insert) {
+                return Err(if self.contains_range(edit.start, edit.stop) {
+                    EditStop::TooLong { at }
+                } else {
+                    EditStop::Range { at }
+                });
+            }
+            match self.edit(edit.start, edit.stop, edit.insert) {
+                Ok(_) => {}
+                Err(_) => return Err(EditStop::Memory { at }),
+            }
+        }
+        Ok(())
+    }
+}

@@ -1,0 +1,276 @@
+-- An edit of a document: what is put in place of its old tokens.
+use Rattle.std.proofs.Common.{◌≡◌, ℕ, ◌+◌, ◌-◌, ◌<◌, ◌≤◌, ◌^◌, Bool, true, false, true≢false, List, [], ◌∷◌, ◌++◌, length, map, take, drop, refl, sym, ap, ap₂, ◌∙◌, subst, arith, length-drop, length-append, drop-drop, take_at, drop_at, length-take-le, take-add, append_assoc, IsUtf8, IsCharBoundary, IsTrue, ◌↔◌, Option, Result, Ok, Err, OnErr, inl, inr}
+use Rattle.std.specs.List.{All, Contains}
+use Rattle.std.proofs.lemmas.Bool.{cases_lt}
+use Rattle.std.proofs.lemmas.List.Elements.{All-contains}
+use Rattle.std.proofs.Math.Seq.{drop-append_seam, drop-append-add, take-append_seam, take-append-add}
+use Rattle.rustc_lexer.specs.declared.relex.checkpoints.Checkpoints.{Checkpoints}
+use Rattle.rustc_lexer.specs.declared.relex.front.Bound.{Bound}
+use Rattle.rustc_lexer.specs.declared.relex.head.Head.{Head}
+use Rattle.rustc_lexer.specs.declared.relex.relexing.Change.{Change}
+use Rattle.rustc_lexer.specs.declared.relex.relexing.Relexed.{Relexed}
+use Rattle.rustc_lexer.specs.declared.relex.relexing.Relexing.{Relexing}
+use Rattle.rustc_lexer.specs.{Token}
+use Rattle.rustc_lexer.specs.Classes.{IsText}
+use Rattle.rustc_lexer.specs.means.Document.{body_change, body_insert, counted, document_by, head_of, head_put, head_unless, HeadStays, IsCountedByHead, IsRelexedByHead, IsRenewedBehind, relexed_by_head, tokens_of_head}
+use Rattle.rustc_lexer.specs.Edits.{apply, kept_front, relexed_of, IsBound, IsEdit, IsMadeOf}
+use Rattle.rustc_lexer.specs.Locality.{IsGrammar}
+use Rattle.rustc_lexer.specs.Tokens.{tokens_by}
+use Rattle.rustc_lexer.specs.means.Checkpoints.{AreBounds, IsMovable, IsReplaced, end_of}
+use Rattle.rustc_lexer.specs.means.Relexing.{IsRenewed}
+use Rattle.rustc_lexer.proofs.BoundLemmas.{tokens_le_bytes}
+use Rattle.rustc_lexer.proofs.DocumentLemmas.{made_body}
+use Rattle.rustc_lexer.proofs.EditLemmas.{has_two-late, kept_front_from, kept_front_by}
+use Rattle.rustc_lexer.proofs.RenewedLemmas.{renewed_all, renewed_are, renewed_back, renewed_bounds, renewed_front}
+
+abbrev pub edit_change : ℕ → ℕ → List ℕ → Change
+edit_change start stop insert = record { start = start; old_stop = stop; new_stop = start + length insert }
+
+-- what is known of an edit of a document, whose old head has n tokens
+pub record IsBodyEdit (first : List ℕ → Token) (text made insert : List ℕ) (start stop : ℕ) (old now : Head) (kept : Bool) (n : ℕ) (tokens : List Token) (body : List ℕ) (change : Change) : Type 0 where
+  pub made_is : made ≡ apply text start stop insert
+  pub old_is : old ≡ head_of text
+  pub now_is : now ≡ head_of made
+  pub told : IsTrue kept ↔ ((old ≡ now) × (old.end ≤ start))
+  pub n_is : n ≡ length (tokens_of_head old)
+  pub body_is : body ≡ drop now.end made
+  pub change_is : change ≡ body_change kept old.end now.end (edit_change start stop insert)
+  pub old_body : drop n tokens ≡ tokens_by first (drop old.end text)
+  pub old_front : take n tokens ≡ tokens_of_head old
+  pub inside : n ≤ length tokens
+  pub made_of : IsMadeOf first (drop old.end text) (map (λ (t : Token). t.len) (drop n tokens)) change (body_insert kept change insert body) body
+
+pub body_edit : {first : List ℕ → Token} (law : IsGrammar first) {text made insert put reserved : List ℕ} {start stop : ℕ} {old now : Head} {kept : Bool} {n : ℕ} {tokens : List Token} {body : List ℕ} {change : Change}
+    → IsText text → IsUtf8 insert → IsEdit text start stop insert → made ≡ put → put ≡ apply reserved start stop insert → reserved ≡ text → old ≡ head_of text → IsCharBoundary text old.end → now ≡ head_of made → IsCharBoundary made now.end
+    → IsTrue kept ↔ ((old ≡ now) × (old.end ≤ start)) → n ≡ length (tokens_of_head old) → tokens ≡ document_by first text → body ≡ drop now.end made → change ≡ body_change kept old.end now.end (edit_change start stop insert)
+    → IsBodyEdit first text made insert start stop old now kept n tokens body change
+body_edit {first} law {text} {made} {insert} {put} {reserved} {start} {stop} {old} {now} {kept} {n} {tokens} {body} {change} is its edit as_str put_in reserve old_is old_at now_is now_at told n_is scratch body_is change_is =
+    let e : made ≡ apply text start stop insert = as_str ∙ (put_in ∙ ap (λ (bytes : List ℕ). apply bytes start stop insert) reserve) in
+    let all : tokens ≡ tokens_of_head old ++ tokens_by first (drop old.end text) = scratch ∙ ap (λ (h : Head). tokens_of_head h ++ tokens_by first (drop h.end text)) (sym old_is) in
+    let behind : drop n tokens ≡ tokens_by first (drop old.end text) = ap₂ drop n_is all ∙ drop-append_seam (tokens_of_head old) (tokens_by first (drop old.end text)) in
+    record {
+      made_is = e;
+      old_is = old_is;
+      now_is = now_is;
+      told = told;
+      n_is = n_is;
+      body_is = body_is;
+      change_is = change_is;
+      old_body = behind;
+      old_front = ap₂ take n_is all ∙ take-append_seam (tokens_of_head old) (tokens_by first (drop old.end text));
+      inside = omega (arith, n_is, ap length all, length-append (tokens_of_head old) (tokens_by first (drop old.end text)));
+      made_of = rw change_is (made_body law text insert made start stop is its edit e old.end now.end old_at now_at (drop n tokens) behind body body_is kept (λ t. (ap (λ (h : Head). h.end) (told.0 t).0, (told.0 t).1)));
+    }
+
+-- nothing is kept before an edit at the front
+none_from : (text : List ℕ) (from : ℕ) (ts : List Token) → kept_front_from text 0 from ts ≡ 0
+none_from text from [] = refl
+none_from text from (t ∷ ts) = rw (has_two-late text (from + t.len) 0 (omega arith), none_from text (from + t.len) ts) refl
+
+kept_none : (text : List ℕ) (ts : List Token) → kept_front text ts 0 ≡ 0
+kept_none text ts = kept_front_by text 0 0 ts ∙ none_from text 0 ts
+
+pub relexed-front : (first : List ℕ → Token) (text : List ℕ) (stop : ℕ) (insert : List ℕ) → (relexed_of first text 0 stop insert).kept_front ≡ 0
+unfolding relexed_of
+relexed-front first text stop insert = kept_none text (tokens_by first text)
+
+pub near_behind : (tokens : List Token) {all : List Token} {near : Bound} {n m : ℕ} (checkpoints : Checkpoints) → n ≡ m → drop n tokens ≡ all → AreBounds (drop m tokens) checkpoints → Contains checkpoints.bounds near → IsBound all near
+near_behind tokens {all} {near} {n} {m} checkpoints same e are is =
+    let turned : drop m tokens ≡ all = ap (λ k. drop k tokens) (sym same) ∙ e in
+    rw (sym turned) (All-contains (IsBound (drop m tokens)) checkpoints.bounds near are is)
+
+module _ {first : List ℕ → Token} (law : IsGrammar first) {text made insert : List ℕ} {start stop : ℕ} {old now : Head} {kept : Bool} {n : ℕ} {tokens : List Token} {body : List ℕ} {change : Change} (b : IsBodyEdit first text made insert start stop old now kept n tokens body change)
+    {head : Option Head} {new : List Token} {at : Relexing} (head_is : head ≡ head_unless kept now) (r : IsRenewedBehind first (drop old.end text) change body n tokens head new at) where
+  abbrev put : List ℕ
+  put = body_insert kept change insert body
+
+  abbrev whole : Change
+  whole = record { start = change.start; old_stop = change.old_stop; new_stop = change.start + length put }
+
+  whole_is : change ≡ whole
+  whole_is = ap (λ (p : ℕ). let ch : Change = record { start = change.start; old_stop = change.old_stop; new_stop = p } in ch) b.made_of.new_stop
+
+  whole_made : IsMadeOf first (drop old.end text) (map (λ (t : Token). t.len) (drop n tokens)) whole put body
+  whole_made = subst (λ (ch : Change). IsMadeOf first (drop old.end text) (map (λ (t : Token). t.len) (drop n tokens)) ch put body) whole_is b.made_of
+
+  whole_renewed : IsRenewed first (drop old.end text) whole body (drop n tokens) r.behind at
+  whole_renewed = subst (λ (ch : Change). IsRenewed first (drop old.end text) ch body (drop n tokens) r.behind at) whole_is r.renewed
+
+  behind_are : r.behind ≡ tokens_by first body
+  behind_are = renewed_are law b.old_body whole_made whole_renewed
+
+  head_are : head_put (take n tokens) head ≡ tokens_of_head now
+  head_are = ap (head_put (take n tokens)) head_is ∙ by_kept kept refl
+    where
+      by_kept : (k : Bool) → kept ≡ k → head_put (take n tokens) (head_unless k now) ≡ tokens_of_head now
+      by_kept true e = b.old_front ∙ ap tokens_of_head (b.told.0 e).0
+      by_kept false e = refl
+
+  new_is : new ≡ tokens_of_head now ++ r.behind
+  new_is = r.now_is ∙ ap (λ ts. ts ++ r.behind) head_are
+
+  -- they are the tokens of the changed document
+  pub new_are : new ≡ document_by first made
+  new_are = new_is ∙ (ap (λ ts. tokens_of_head now ++ ts) (behind_are ∙ ap (tokens_by first) b.body_is) ∙ ap (λ (h : Head). tokens_of_head h ++ tokens_by first (drop h.end made)) b.now_is)
+
+  pub new_behind : drop (length (tokens_of_head now)) new ≡ r.behind
+  new_behind = ap (drop (length (tokens_of_head now))) new_is ∙ drop-append_seam (tokens_of_head now) r.behind
+
+  pub bounds_move : (checkpoints : Checkpoints) {m : ℕ} → n ≡ m → AreBounds (drop m tokens) checkpoints → All (IsMovable at.back (end_of at)) checkpoints.bounds × IsReplaced (drop n tokens) r.behind at.front at.back (end_of at)
+  bounds_move checkpoints same are =
+      renewed_bounds law b.old_body whole_made whole_renewed checkpoints (subst (λ k. AreBounds (drop k tokens) checkpoints) (sym same) are)
+
+  -- where the head does not stay, nothing is kept before the edit
+  front_none : kept ≡ false → at.front.number ≡ 0
+  front_none e =
+      let zero_start : change.start ≡ 0 = ap (λ (ch : Change). ch.start) b.change_is ∙ ap (λ (k : Bool). (body_change k old.end now.end (edit_change start stop insert)).start) e in
+      r.renewed.lexed_is.stands.front_number ∙ (ap (kept_front (drop old.end text) (tokens_by first (drop old.end text))) zero_start ∙ kept_none (drop old.end text) (tokens_by first (drop old.end text)))
+
+  module _ (counts : Relexed) {m c : ℕ} (m_is : m ≡ length (tokens_of_head now)) (c_is : c ≡ length tokens - n) (counts_are : counts ≡ record { kept_front = at.front.number; lexed = at.lexed; kept_back = c - at.back.number }) where
+    sizes : (at.front.number + at.lexed + (c - at.back.number) ≡ length r.behind) × (length new ≡ m + length r.behind) × (c ≡ length (drop n tokens))
+    sizes =
+        let size : c ≡ length (drop n tokens) = omega (arith, c_is, length-drop n tokens) in
+        let all = renewed_all law b.old_body whole_made whole_renewed in
+        (omega (arith, all, size), omega (arith, ap length new_is, length-append (tokens_of_head now) r.behind, m_is), size)
+
+    same_count : kept ≡ true → n ≡ m
+    same_count e = b.n_is ∙ (ap (λ (h : Head). length (tokens_of_head h)) (b.told.0 e).0 ∙ sym m_is)
+
+    -- the counts are those of all tokens
+    pub counted_all : (counted kept n m counts).kept_front + (counted kept n m counts).lexed + (counted kept n m counts).kept_back ≡ length new
+    counted_all = rw counts_are (by_kept kept refl)
+      where
+        by_kept : (k : Bool) → kept ≡ k → (counted k n m (record { kept_front = at.front.number; lexed = at.lexed; kept_back = c - at.back.number })).kept_front + (counted k n m (record { kept_front = at.front.number; lexed = at.lexed; kept_back = c - at.back.number })).lexed + (counted k n m (record { kept_front = at.front.number; lexed = at.lexed; kept_back = c - at.back.number })).kept_back ≡ length new
+        by_kept true e = omega (arith, sizes.0, sizes.1, same_count e)
+        by_kept false e = omega (arith, sizes.0, sizes.1)
+
+    back_few : at.back.number ≤ length (drop n tokens)
+    back_few = omega (arith, r.renewed.lexed_is.stands.back_bound.0, ap length b.old_body)
+
+    behind_front : take at.front.number r.behind ≡ take at.front.number (drop n tokens)
+    behind_front = renewed_front law b.old_body whole_made whole_renewed
+
+    behind_back : drop (at.front.number + at.lexed) r.behind ≡ drop at.back.number (drop n tokens)
+    behind_back = renewed_back law b.old_body whole_made whole_renewed
+
+    pub counted_front : take (counted kept n m counts).kept_front new ≡ take (counted kept n m counts).kept_front tokens
+    counted_front = rw counts_are (by_kept kept refl)
+      where
+        by_kept : (k : Bool) → kept ≡ k → take (counted k n m (record { kept_front = at.front.number; lexed = at.lexed; kept_back = c - at.back.number })).kept_front new ≡ take (counted k n m (record { kept_front = at.front.number; lexed = at.lexed; kept_back = c - at.back.number })).kept_front tokens
+        by_kept true e =
+            let number : n + at.front.number ≡ length (tokens_of_head now) + at.front.number = omega (arith, same_count e, m_is) in
+            ap₂ take number new_is ∙ (take-append-add (tokens_of_head now) r.behind at.front.number ∙ (ap₂ (λ xs ys. xs ++ ys) (sym (b.old_front ∙ ap tokens_of_head (b.told.0 e).0)) behind_front ∙ sym (take-add n at.front.number tokens)))
+        by_kept false e = rw (front_none e) refl
+
+    back_with : (k : ℕ) → k ≡ length (tokens_of_head now) + (at.front.number + at.lexed) → drop k new ≡ drop (length tokens - (c - at.back.number)) tokens
+    back_with k e =
+        let place : n + at.back.number ≡ length tokens - (c - at.back.number) = omega (arith, c_is, back_few, sizes.2, b.inside) in
+        ap₂ drop e new_is ∙ (drop-append-add (tokens_of_head now) r.behind (at.front.number + at.lexed) ∙ (behind_back ∙ (drop-drop at.back.number n tokens ∙ ap (λ i. drop i tokens) place)))
+
+    pub counted_back : drop ((counted kept n m counts).kept_front + (counted kept n m counts).lexed) new ≡ drop (length tokens - (counted kept n m counts).kept_back) tokens
+    counted_back = rw counts_are (by_kept kept refl)
+      where
+        by_kept : (k : Bool) → kept ≡ k → drop ((counted k n m (record { kept_front = at.front.number; lexed = at.lexed; kept_back = c - at.back.number })).kept_front + (counted k n m (record { kept_front = at.front.number; lexed = at.lexed; kept_back = c - at.back.number })).lexed) new ≡ drop (length tokens - (counted k n m (record { kept_front = at.front.number; lexed = at.lexed; kept_back = c - at.back.number })).kept_back) tokens
+        by_kept true e = back_with _ (omega (arith, same_count e, m_is))
+        by_kept false e = back_with _ (omega (arith, m_is))
+
+    -- by the texts alone
+    abbrev formula : Head → Head → List ℕ → Relexed
+    formula o w mk =
+        let ch : Change = body_change kept o.end w.end (edit_change start stop insert) in
+        counted kept (length (tokens_of_head o)) (length (tokens_of_head w)) (relexed_of first (drop o.end text) ch.start ch.old_stop (body_insert kept ch insert (drop w.end mk)))
+
+    keeps : HeadStays text start stop insert → kept ≡ true
+    keeps k = b.told.1 (b.old_is ∙ (k.0 ∙ (ap head_of (sym b.made_is) ∙ sym b.now_is)), (let e = k.1 in omega (arith, e, ap (λ (h : Head). h.end) b.old_is)))
+
+    changes : (HeadStays text start stop insert → ⊥) → kept ≡ false
+    changes none = by_none kept refl
+      where
+        by_none : (k : Bool) → kept ≡ k → kept ≡ false
+        by_none true e = absurd (none (sym b.old_is ∙ ((b.told.0 e).0 ∙ (b.now_is ∙ ap head_of b.made_is)), (let p = (b.told.0 e).1 in omega (arith, p, ap (λ (h : Head). h.end) b.old_is))))
+        by_none false e = e
+
+    module _ (counted_is : counts ≡ relexed_of first (drop old.end text) change.start change.old_stop put) where
+      by_formula : counted kept n m counts ≡ relexed_by_head kept first text start stop insert
+      unfolding relexed_by_head
+      by_formula =
+          let one : counted kept n m counts ≡ counted kept (length (tokens_of_head old)) (length (tokens_of_head now)) (relexed_of first (drop old.end text) change.start change.old_stop (body_insert kept change insert (drop now.end made))) =
+          ap₂ (λ i j. counted kept i j counts) b.n_is m_is ∙ ap (counted kept (length (tokens_of_head old)) (length (tokens_of_head now))) (counted_is ∙ ap (λ xs. relexed_of first (drop old.end text) change.start change.old_stop (body_insert kept change insert xs)) b.body_is) in
+          let two : counted kept (length (tokens_of_head old)) (length (tokens_of_head now)) (relexed_of first (drop old.end text) change.start change.old_stop (body_insert kept change insert (drop now.end made))) ≡ formula old now made =
+          ap (λ (ch : Change). counted kept (length (tokens_of_head old)) (length (tokens_of_head now)) (relexed_of first (drop old.end text) ch.start ch.old_stop (body_insert kept ch insert (drop now.end made)))) b.change_is in
+          let three : formula old now made ≡ formula (head_of text) (head_of (apply text start stop insert)) (apply text start stop insert) =
+          ap₂ (λ (o w : Head). formula o w made) b.old_is (b.now_is ∙ ap head_of b.made_is) ∙ ap (formula (head_of text) (head_of (apply text start stop insert))) b.made_is in
+          one ∙ (two ∙ three)
+
+      pub counted_relexed : IsRelexedByHead first text start stop insert (counted kept n m counts)
+      counted_relexed = record {
+        kept = λ k. by_formula ∙ ap (λ (t : Bool). relexed_by_head t first text start stop insert) (keeps k);
+        changed = λ none. by_formula ∙ ap (λ (t : Bool). relexed_by_head t first text start stop insert) (changes none);
+      }
+
+    pub counted_steps : (before after : ℕ) → after ≡ before + at.lexed → IsCountedByHead text start stop insert before after (counted kept n m counts).lexed
+    counted_steps before after e = record {
+      kept = λ k. e ∙ ap (λ (l : ℕ). before + l) (sym (ap (λ (r : Relexed). r.lexed) (ap₂ (λ (t : Bool) (x : Relexed). counted t n m x) (keeps k) counts_are)));
+      changed = λ none.
+          let lexed = ap (λ (r : Relexed). r.lexed) (ap₂ (λ (t : Bool) (x : Relexed). counted t n m x) (changes none) counts_are) in
+          let heads = ap (λ (h : Head). length (tokens_of_head h)) (b.now_is ∙ ap head_of b.made_is) in
+          omega (arith, e, lexed, heads, m_is);
+    }
+
+    pub counted_few : IsText text → counts.kept_front < 2 ^ 33
+    counted_few is =
+        let front = ap (λ (x : Relexed). x.kept_front) counts_are in
+        let many = tokens_le_bytes law (drop old.end text) b.made_of.is_text in
+        let short = b.made_of.is_text.fits in
+        omega (arith, front, many, short, r.renewed.lexed_is.stands.front_bound.0)
+
+-- ---- an edit that is refused
+
+abbrev texts_formula : (List ℕ → Token) → List ℕ → ℕ → ℕ → List ℕ → Bool → Head → Head → List ℕ → Relexed
+texts_formula first text start stop insert k o w mk =
+    let ch : Change = body_change k o.end w.end (edit_change start stop insert) in
+    counted k (length (tokens_of_head o)) (length (tokens_of_head w)) (relexed_of first (drop o.end text) ch.start ch.old_stop (body_insert k ch insert (drop w.end mk)))
+
+module _ {first : List ℕ → Token} {text made insert : List ℕ} {start stop : ℕ} {old now : Head} {kept : Bool} {n : ℕ} {tokens : List Token} {body : List ℕ} {change : Change} (b : IsBodyEdit first text made insert start stop old now kept n tokens body change) where
+  by_texts : counted kept (length (tokens_of_head old)) (length (tokens_of_head now)) (relexed_of first (drop old.end text) change.start change.old_stop (body_insert kept change insert body)) ≡ relexed_by_head kept first text start stop insert
+  unfolding relexed_by_head
+  by_texts =
+      ap (λ xs. counted kept (length (tokens_of_head old)) (length (tokens_of_head now)) (relexed_of first (drop old.end text) change.start change.old_stop (body_insert kept change insert xs))) b.body_is
+      ∙ (ap (λ (ch : Change). counted kept (length (tokens_of_head old)) (length (tokens_of_head now)) (relexed_of first (drop old.end text) ch.start ch.old_stop (body_insert kept ch insert (drop now.end made)))) b.change_is
+      ∙ (ap₂ (λ (o w : Head). texts_formula first text start stop insert kept o w made) b.old_is (b.now_is ∙ ap head_of b.made_is) ∙ ap (texts_formula first text start stop insert kept (head_of text) (head_of (apply text start stop insert))) b.made_is))
+
+  abbrev of_body : Relexed
+  of_body = relexed_of first (drop old.end text) change.start change.old_stop (body_insert kept change insert body)
+
+  -- it takes no more steps than it would have
+  pub few_body : (r : Relexed) (before most : ℕ) → IsRelexedByHead first text start stop insert r → IsCountedByHead text start stop insert before most r.lexed → before + of_body.lexed ≤ most
+  few_body r before most is steps = by_kept kept refl
+    where
+      by_kept : (k : Bool) → kept ≡ k → before + of_body.lexed ≤ most
+      by_kept true e =
+          let stays : HeadStays text start stop insert = (sym b.old_is ∙ ((b.told.0 e).0 ∙ (b.now_is ∙ ap head_of b.made_is)), (let p = (b.told.0 e).1 in omega (arith, p, ap (λ (h : Head). h.end) b.old_is))) in
+          let same : r ≡ counted kept (length (tokens_of_head old)) (length (tokens_of_head now)) of_body = is.kept stays ∙ (ap (λ (t : Bool). relexed_by_head t first text start stop insert) (sym e) ∙ sym by_texts) in
+          omega (arith, steps.kept stays, ap (λ (x : Relexed). x.lexed) (same ∙ ap (λ (t : Bool). counted t (length (tokens_of_head old)) (length (tokens_of_head now)) of_body) e))
+      by_kept false e =
+          let none : HeadStays text start stop insert → ⊥ = λ k. true≢false (sym (b.told.1 (b.old_is ∙ (k.0 ∙ (ap head_of (sym b.made_is) ∙ sym b.now_is)), (let p = k.1 in omega (arith, p, ap (λ (h : Head). h.end) b.old_is)))) ∙ e) in
+          let same : r ≡ counted kept (length (tokens_of_head old)) (length (tokens_of_head now)) of_body = is.changed none ∙ (ap (λ (t : Bool). relexed_by_head t first text start stop insert) (sym e) ∙ sym by_texts) in
+          let heads = ap (λ (h : Head). length (tokens_of_head h)) (b.now_is ∙ ap head_of b.made_is) in
+          omega (arith, steps.changed none, heads, ap (λ (x : Relexed). x.lexed) (same ∙ ap (λ (t : Bool). counted t (length (tokens_of_head old)) (length (tokens_of_head now)) of_body) e))
+
+-- the count of steps does not fall
+anew-lexed : (first : List ℕ → Token) (text : List ℕ) (start stop : ℕ) (insert : List ℕ) → length (tokens_of_head (head_of (apply text start stop insert))) ≤ (relexed_by_head false first text start stop insert).lexed
+unfolding relexed_by_head
+anew-lexed first text start stop insert = omega arith
+
+pub steps_rise : (first : List ℕ → Token) (text : List ℕ) (start stop : ℕ) (insert : List ℕ) (before : ℕ) (r : Relexed) (most : ℕ) → IsRelexedByHead first text start stop insert r → IsCountedByHead text start stop insert before most r.lexed → before ≤ most
+steps_rise first text start stop insert before r most is steps = elim (cases_lt most before) [
+  | inl less ↦
+      let gone : HeadStays text start stop insert → ⊥ = λ k. let e = steps.kept k in omega (arith, e, less) in
+      let lexed = ap (λ (x : Relexed). x.lexed) (is.changed gone) in
+      absurd (omega (arith, lexed, anew-lexed first text start stop insert, steps.changed gone, less))
+  | inr more ↦ omega (arith, more)
+]
+
+pub OnErr-always : {T E : Type 0} {P : Type 0} (r : Result T E) → P → OnErr r P
+OnErr-always (Ok x) p = tt
+OnErr-always (Err e) p = p

@@ -1,0 +1,114 @@
+-- The head of a document by its tokens: those up to the frontmatter.
+use Rattle.std.proofs.Common.{◌≡◌, ℕ, zero, suc, ◌+◌, ◌-◌, Bool, not, true, false, true≢false, List, [], ◌∷◌, ◌++◌, length, length-drop, drop, refl, sym, ap, ap₂, ◌∙◌, arith, chars, Option, None, Some, IsCharBoundary}
+use Rattle.std.proofs.Math.Seq.{drop-append_seam}
+use Rattle.std.proofs.lemmas.Bool.{not-true}
+use Rattle.rustc_lexer.specs.{Edition, Token, TokenKind}
+use Rattle.rustc_lexer.specs.declared.relex.head.Head.{Head}
+use Rattle.rustc_lexer.specs.Classes.{IsText}
+use Rattle.rustc_lexer.specs.Document.{is_frontmatter, shebang_len, document_tokens, head_count}
+use Rattle.rustc_lexer.specs.means.Document.{front_tokens, head_of, tokens_of_head}
+use Rattle.rustc_lexer.specs.Language as the
+use Rattle.rustc_lexer.specs.Language.{IsTokenBefore}
+use Rattle.rustc_lexer.specs.LanguageText as page
+use Rattle.rustc_lexer.specs.LanguageText.{AreTokens, IsTokenIn, Mode, document, mode_after, part}
+use Rattle.rustc_lexer.specs.Tables.{symbols}
+use Rattle.rustc_lexer.specs.Tokens.{bound}
+use Rattle.rustc_lexer.specs.laws.Choice.{by_symbol}
+use Rattle.rustc_lexer.specs.laws.LanguageTokens.{language}
+use Rattle.rustc_lexer.specs.means.Frontmatter.{frontmatter, opens, spaces_len}
+use Rattle.rustc_lexer.specs.means.Lexeme.{symbol_kind}
+use Rattle.rustc_lexer.specs.means.Scan.{past}
+use Rattle.rustc_lexer.specs.means.Tokens.{tokens_of}
+use Rattle.rustc_lexer.proofs.DocumentTokens.{document_law, shebang-boundary}
+use Rattle.std.proofs.lemmas.Str.{IsUtf8-drop}
+
+-- ---- no token of a part is a frontmatter
+
+none-before : {next u : List ℕ} {kind : TokenKind} → IsTokenBefore next kind u → is_frontmatter kind ≡ false
+none-before (the.symbol {c} is) = not-true (is_frontmatter (symbol_kind c)) (by_symbol (λ (kind : TokenKind). not (is_frontmatter kind)) symbols c refl refl)
+none-before p = refl
+
+none-in : {edition : Edition} {next u : List ℕ} {kind : TokenKind} → IsTokenIn edition next kind u → is_frontmatter kind ≡ false
+none-in (page.kept since p) = none-before p
+none-in p = refl
+
+abbrev is_document : Mode → Bool
+is_document (document edition) = true
+is_document (part edition) = false
+
+stays-part : (mode : Mode) (kind : TokenKind) → is_document mode ≡ false → is_document (mode_after mode kind) ≡ false
+stays-part (part edition) kind e = refl
+stays-part (document edition) kind e = absurd (true≢false e)
+
+no-front : {mode : Mode} {cs : List ℕ} {tokens : List Token} → AreTokens mode cs tokens → is_document mode ≡ false → head_count tokens ≡ 0
+no-front page.nothing e = refl
+no-front (page.something {mode} {kind} p free rest) e = rw (none-in p, no-front rest (stays-part mode kind e)) refl
+no-front (page.frontmatter_first body is_opening ends rest) e = absurd (true≢false e)
+
+part-none : (edition : Edition) (text : List ℕ) → IsText text → head_count (tokens_of (part edition) text) ≡ 0
+part-none edition text is = no-front ((language text (part edition) is (tokens_of (part edition) text)).1 refl) refl
+
+-- ---- the head
+
+-- what is known of one, and of where it ends
+pub record IsFrontOf (text : List ℕ) (head : Head) : Type 0 where
+  pub is_one : (front : Token) → head.front ≡ Some front → is_frontmatter front.kind ≡ true
+  pub ends : head.end ≡ shebang_len text + bound (tokens_of_head head) (length (tokens_of_head head))
+
+end_at : (n m : ℕ) (front : Token) → n + m + front.len ≡ n + bound (front_tokens m (Some front)) (length (front_tokens m (Some front)))
+end_at n zero front = omega arith
+end_at n (suc m) front = omega arith
+
+some_kind : TokenKind → Option Token → TokenKind
+some_kind kind None = kind
+some_kind kind (Some t) = t.kind
+
+some-front : (front other : Token) → Some front ≡ Some other → is_frontmatter front.kind ≡ true → is_frontmatter other.kind ≡ true
+unfolding some_kind
+some-front front other e is = ap is_frontmatter (sym (ap (some_kind front.kind) e)) ∙ is
+
+module _ (text : List ℕ) where
+  abbrev rest : List ℕ
+  rest = drop (shebang_len text) text
+
+  abbrev past_space : List ℕ
+  past_space = past (spaces_len (chars rest)) rest
+
+  by_front : (a : Bool) → opens (chars rest) ≡ a → (b : Bool) → opens (chars past_space) ≡ b → IsFrontOf text (head_of text)
+  unfolding head_of frontmatter
+  by_front true e b f = rw e record { is_one = λ front same. some-front (frontmatter rest) front same refl; ends = omega arith }
+  by_front false e true f = rw (e, f) record { is_one = λ front same. some-front (frontmatter past_space) front same refl; ends = end_at (shebang_len text) (length rest - length past_space) (frontmatter past_space) }
+  by_front false e false f = rw (e, f) record { is_one = λ front same. absurd (let none : None ≡ Some front = same in cc); ends = omega arith }
+
+  pub front_of : IsFrontOf text (head_of text)
+  front_of = by_front (opens (chars rest)) refl (opens (chars past_space)) refl
+
+count-front : (space : ℕ) (front : Option Token) (tokens : List Token) → ((t : Token) → front ≡ Some t → is_frontmatter t.kind ≡ true) → head_count tokens ≡ 0 → head_count (front_tokens space front ++ tokens) ≡ length (front_tokens space front)
+count-front space None tokens is none = none
+count-front zero (Some t) tokens is none = rw (is t refl) refl
+count-front (suc n) (Some t) tokens is none = rw (is t refl) refl
+
+pub bound-append : (ts us : List Token) → bound (ts ++ us) (length ts) ≡ bound ts (length ts)
+bound-append [] us = refl
+bound-append (t ∷ ts) us = ap (λ n. t.len + n) (bound-append ts us)
+
+module _ (edition : Edition) (text : List ℕ) (is : IsText text) (at : IsCharBoundary text (head_of text).end) where
+  pub head_whole : document_tokens edition text ≡ tokens_of_head (head_of text) ++ tokens_of (part edition) (drop (head_of text).end text)
+  head_whole = sym (document_law edition text is (shebang-boundary text is))
+
+  body_text : IsText (drop (head_of text).end text)
+  body_text = record { utf8 = IsUtf8-drop text (head_of text).end is.utf8 at; fits = let f = is.fits in omega (arith, length-drop (head_of text).end text) }
+
+  -- the tokens of the head are those up to the frontmatter
+  pub head_count-tokens : head_count (document_tokens edition text) ≡ length (tokens_of_head (head_of text))
+  head_count-tokens = ap head_count head_whole ∙ count-front (head_of text).space (head_of text).front _ (front_of text).is_one (part-none edition (drop (head_of text).end text) body_text)
+
+  -- where they end the body begins
+  pub head_end : (head_of text).end ≡ shebang_len text + bound (document_tokens edition text) (head_count (document_tokens edition text))
+  head_end =
+      let front = front_of text in
+      front.ends ∙ ap (λ n. shebang_len text + n) (sym (ap₂ bound head_whole head_count-tokens ∙ bound-append (tokens_of_head (head_of text)) _))
+
+  -- and the other tokens are its own
+  pub body_tokens : drop (head_count (document_tokens edition text)) (document_tokens edition text) ≡ tokens_of (part edition) (drop (shebang_len text + bound (document_tokens edition text) (head_count (document_tokens edition text))) text)
+  body_tokens = ap₂ drop head_count-tokens head_whole ∙ (drop-append_seam (tokens_of_head (head_of text)) _ ∙ ap (λ n. tokens_of (part edition) (drop n text)) head_end)

@@ -1,0 +1,159 @@
+-- What an edit of a document keeps, by the tokens of the page.
+use Rattle.std.proofs.Common.{Result, Ok, Err, OnErr, ◌++◌, ◌≡◌, ℕ, zero, suc, ◌+◌, ◌≤◌, Bool, true, false, if◌then◌else◌, List, [], ◌∷◌, length, take, drop, refl, sym, ap, ap₂, ◌∙◌, arith, chars, get_or, length-take-le, Option, None, Some, IsCharBoundary}
+use Rattle.std.proofs.Math.Seq.{take-append_seam}
+use Rattle.rustc_lexer.specs.{Token, E2024}
+use Rattle.rustc_lexer.specs.declared.relex.head.Head.{Head}
+use Rattle.rustc_lexer.specs.declared.relex.relexing.Change.{Change}
+use Rattle.rustc_lexer.specs.declared.relex.relexing.Relexed.{Relexed}
+use Rattle.rustc_lexer.specs.Classes.{IsText}
+use Rattle.rustc_lexer.specs.Document.{body_start, document_tokens_by, IsCountedDocument, head_tokens, relexed_anew, relexed_behind, is_frontmatter, one_more, head_count, shebang_len, document_tokens, IsRelexedDocument, KeepsHead}
+use Rattle.rustc_lexer.specs.means.Document.{body_change, body_insert, counted, front_change, document_by, front_tokens, head_of, HeadStays, IsCountedByHead, IsRelexedByHead, relexed_by_head, tokens_of_head}
+use Rattle.rustc_lexer.specs.Edits.{apply, relexed_of}
+use Rattle.rustc_lexer.specs.Tokens.{bound, tokens_by}
+use Rattle.rustc_lexer.proofs.EditLemmas.{bound-take}
+use Rattle.rustc_lexer.specs.means.Frontmatter.{frontmatter, opens, spaces_len}
+use Rattle.rustc_lexer.specs.means.Scan.{past}
+use Rattle.rustc_lexer.proofs.DocumentHead.{head_count-tokens, head_end, head_whole}
+use Rattle.rustc_lexer.proofs.DocumentEditLemmas.{relexed-front}
+use Rattle.rustc_lexer.proofs.DocumentTokens.{shebang-boundary}
+use Rattle.rustc_lexer.proofs.HeadLemmas.{front-boundary, spaced-boundary, head-shebang}
+
+-- where the head ends, and that no white space stands where no frontmatter does
+pub record IsAhead (text : List ℕ) (head : Head) : Type 0 where
+  pub boundary : IsCharBoundary text head.end
+  pub bare : head.front ≡ None → head.space ≡ 0
+
+some_front : Option Token → Bool
+some_front None = false
+some_front (Some t) = true
+
+module _ (text : List ℕ) (is : IsText text) where
+  abbrev rest : List ℕ
+  rest = drop (shebang_len text) text
+
+  abbrev past_space : List ℕ
+  past_space = past (spaces_len (chars rest)) rest
+
+  by_front : (a : Bool) → opens (chars rest) ≡ a → (b : Bool) → opens (chars past_space) ≡ b → IsAhead text (head_of text)
+  unfolding head_of
+  by_front true e b f = rw e record { boundary = front-boundary text rest (shebang_len text) is.utf8 (shebang-boundary text is) refl (frontmatter rest) e refl; bare = λ none. refl }
+  by_front false e true f = rw (e, f) record { boundary = spaced-boundary text rest (shebang_len text) is.utf8 (shebang-boundary text is) refl past_space refl (frontmatter past_space) f refl; bare = λ none. absurd (let no_front : Some (frontmatter past_space) ≡ None = none in cc) }
+  by_front false e false f = rw (e, f) record { boundary = shebang-boundary text is; bare = λ none. refl }
+
+  pub ahead : IsAhead text (head_of text)
+  ahead = by_front (opens (chars rest)) refl (opens (chars past_space)) refl
+
+  pub end_is : (head_of text).end ≡ body_start text
+  end_is = head_end E2024 text is ahead.boundary
+
+  pub front_is : tokens_of_head (head_of text) ≡ head_tokens text
+  front_is = sym (ap₂ take (head_count-tokens E2024 text is ahead.boundary) (head_whole E2024 text is ahead.boundary) ∙ take-append_seam (tokens_of_head (head_of text)) _)
+
+-- the tokens of a document, by those of the page
+pub past_law : (first : List ℕ → Token) (text : List ℕ) → IsText text → document_by first text ≡ document_tokens_by first text
+past_law first text is = ap₂ (λ ts n. ts ++ tokens_by first (drop n text)) (front_is text is) (end_is text is)
+
+-- the tokens tell the head
+same-parts : (s s' : ℕ) (f f' : Option Token) → (f ≡ None → s ≡ 0) → (f' ≡ None → s' ≡ 0) → front_tokens s f ≡ front_tokens s' f' → (s ≡ s') × (f ≡ f')
+same-parts s s' None None bare bare' e = (bare refl ∙ sym (bare' refl), refl)
+same-parts s zero None (Some t) bare bare' e = absurd (omega (arith, ap (λ (ts : List Token). length ts) e))
+same-parts s (suc n) None (Some t) bare bare' e = absurd (omega (arith, ap (λ (ts : List Token). length ts) e))
+same-parts zero s' (Some t) None bare bare' e = absurd (omega (arith, ap (λ (ts : List Token). length ts) e))
+same-parts (suc n) s' (Some t) None bare bare' e = absurd (omega (arith, ap (λ (ts : List Token). length ts) e))
+same-parts zero zero (Some t) (Some u) bare bare' e = (refl, ap (λ (x : Token). Some x) (ap (λ (ts : List Token). get_or ts 0 t) e))
+same-parts zero (suc n) (Some t) (Some u) bare bare' e = absurd (omega (arith, ap (λ (ts : List Token). length ts) e))
+same-parts (suc n) zero (Some t) (Some u) bare bare' e = absurd (omega (arith, ap (λ (ts : List Token). length ts) e))
+same-parts (suc n) (suc m) (Some t) (Some u) bare bare' e = (ap (λ (x : Token). x.len) (ap (λ (ts : List Token). get_or ts 0 t) e), ap (λ (x : Token). Some x) (ap (λ (ts : List Token). get_or ts 1 t) e))
+
+up_few : (ts : List Token) → head_count ts ≤ length ts
+up_few [] = omega arith
+up_few (t ∷ ts) = by_test (is_frontmatter t.kind) (head_count ts) (up_few ts)
+  where
+    by_test : (b : Bool) (n : ℕ) → n ≤ length ts → (if b then 1 else one_more n) ≤ suc (length ts)
+    by_test true n le = omega arith
+    by_test false zero le = omega arith
+    by_test false (suc n) le = omega arith
+
+body_by : (text : List ℕ) → body_start text ≡ shebang_len text + bound (head_tokens text) (length (head_tokens text))
+body_by text =
+    let ts : List Token = document_tokens E2024 text in
+    let size : length (take (head_count ts) ts) ≡ head_count ts = length-take-le (head_count ts) ts (up_few ts) in
+    ap (λ n. shebang_len text + n) (sym (bound-take (head_count ts) ts) ∙ ap (bound (take (head_count ts) ts)) (sym size))
+
+module _ (text made : List ℕ) (is : IsText text) (its : IsText made) where
+  same_head : shebang_len text ≡ shebang_len made → head_tokens text ≡ head_tokens made → head_of text ≡ head_of made
+  same_head line front =
+      let tokens : tokens_of_head (head_of text) ≡ tokens_of_head (head_of made) = front_is text is ∙ (front ∙ sym (front_is made its)) in
+      let parts = same-parts (head_of text).space (head_of made).space (head_of text).front (head_of made).front (ahead text is).bare (ahead made its).bare tokens in
+      let start : (head_of text).shebang ≡ (head_of made).shebang = head-shebang text ∙ (line ∙ sym (head-shebang made)) in
+      let end : (head_of text).end ≡ (head_of made).end = end_is text is ∙ (same_end line front ∙ sym (end_is made its)) in
+      λ i. record { shebang = start i; space = parts.0 i; front = parts.1 i; end = end i }
+    where
+      same_end : shebang_len text ≡ shebang_len made → head_tokens text ≡ head_tokens made → body_start text ≡ body_start made
+      same_end line front = body_by text ∙ (ap₂ (λ n ts. n + bound ts (length ts)) line front ∙ sym (body_by made))
+
+module _ (first : List ℕ → Token) (text insert : List ℕ) (start stop : ℕ) (is : IsText text) (its : IsText (apply text start stop insert)) where
+  abbrev made : List ℕ
+  made = apply text start stop insert
+
+  to_page : HeadStays text start stop insert → KeepsHead text start stop insert
+  to_page k = (
+    sym (head-shebang text) ∙ (ap (λ (h : Head). h.shebang) k.0 ∙ head-shebang made),
+    sym (front_is text is) ∙ (ap tokens_of_head k.0 ∙ front_is made its),
+    (let e = k.1 in omega (arith, e, end_is text is)),
+  )
+
+  from_page : KeepsHead text start stop insert → HeadStays text start stop insert
+  from_page s = (same_head text made is its s.0 s.1, (let e = s.2 in omega (arith, e, end_is text is)))
+
+  -- the same formula, by the head of the text and by the tokens of the page
+  abbrev formula : Bool → ℕ → ℕ → List Token → List Token → Relexed
+  formula kept from to old new =
+      let change : Change = body_change kept from to (record { start = start; old_stop = stop; new_stop = start + length insert }) in
+      counted kept (length old) (length new) (relexed_of first (drop from text) change.start change.old_stop (body_insert kept change insert (drop to made)))
+
+  by_page : (kept : Bool) → relexed_by_head kept first text start stop insert ≡ formula kept (body_start text) (body_start made) (head_tokens text) (head_tokens made)
+  unfolding relexed_by_head
+  by_page kept =
+      ap₂ (λ from to. formula kept from to (tokens_of_head (head_of text)) (tokens_of_head (head_of made))) (end_is text is) (end_is made its)
+      ∙ ap₂ (λ old new. formula kept (body_start text) (body_start made) old new) (front_is text is) (front_is made its)
+
+  same_behind : relexed_by_head true first text start stop insert ≡ relexed_behind first text start stop insert
+  unfolding relexed_behind
+  same_behind = by_page true
+
+  same_anew : relexed_by_head false first text start stop insert ≡ relexed_anew first text start stop insert
+  unfolding relexed_anew
+  same_anew =
+      let change : Change = front_change (body_start text) (body_start made) (record { start = start; old_stop = stop; new_stop = start + length insert }) in
+      let r : Relexed = relexed_of first (drop (body_start text) text) 0 change.old_stop (take change.new_stop (drop (body_start made) made)) in
+      by_page false ∙ ap (λ n. record { kept_front = n; lexed = length (head_tokens made) + r.lexed; kept_back = r.kept_back }) (relexed-front first (drop (body_start text) text) change.old_stop (take change.new_stop (drop (body_start made) made)))
+
+  pub relexed_page : {r : Relexed} → IsRelexedByHead first text start stop insert r → IsRelexedDocument first text start stop insert r
+  relexed_page r = record {
+    kept = λ s. r.kept (from_page s) ∙ same_behind;
+    changed = λ none. r.changed (λ k. none (to_page k)) ∙ same_anew;
+  }
+
+  pub stepped_page : {before after lexed : ℕ} → IsCountedByHead text start stop insert before after lexed → IsCountedDocument text start stop insert before after lexed
+  stepped_page r = record {
+    kept = λ s. r.kept (from_page s);
+    changed = λ none. let e = r.changed (λ k. none (to_page k)) in omega (arith, e, ap (λ (ts : List Token). length ts) (front_is made its));
+  }
+
+  pub page_relexed : {r : Relexed} → IsRelexedDocument first text start stop insert r → IsRelexedByHead first text start stop insert r
+  page_relexed r = record {
+    kept = λ k. r.kept (to_page k) ∙ sym same_behind;
+    changed = λ none. r.changed (λ s. none (from_page s)) ∙ sym same_anew;
+  }
+
+  pub page_stepped : {before after lexed : ℕ} → IsCountedDocument text start stop insert before after lexed → IsCountedByHead text start stop insert before after lexed
+  page_stepped r = record {
+    kept = λ k. r.kept (to_page k);
+    changed = λ none. let e = r.changed (λ s. none (from_page s)) in omega (arith, e, ap (λ (ts : List Token). length ts) (front_is made its));
+  }
+
+-- of what holds of an error, what follows from it
+pub OnErr-map : {T E : Type 0} {P Q : Type 0} (r : Result T E) → (P → Q) → OnErr r P → OnErr r Q
+OnErr-map (Ok x) f p = p
+OnErr-map (Err e) f p = f p

@@ -1,0 +1,88 @@
+-- The pieces of a document: its tokens are cut between characters, from the end of its shebang line on.
+use Rattle.std.proofs.Common.{◌≡◌, ℕ, suc, ◌+◌, ◌-◌, ◌^◌, ◌<◌, ◌≤◌, List, length, take, drop, slice_range, refl, sym, ap, ap₂, ◌∙◌, subst, arith, length-append, length-drop, length-take-le, inl, inr, IsCharBoundary}
+use Rattle.std.proofs.Math.Seq.{drop-append_seam}
+use Rattle.std.proofs.lemmas.Bool.{cases_lt}
+use Rattle.std.proofs.lemmas.List.{take-append-le}
+use Rattle.std.proofs.lemmas.Str.{IsCharBoundary-from_rest, IsUtf8-drop}
+use Rattle.rustc_lexer.specs.declared.relex.front.Bound.{Bound}
+use Rattle.rustc_lexer.specs.{Token, E2024}
+use Rattle.rustc_lexer.specs.Classes.{IsText}
+use Rattle.rustc_lexer.specs.Document.{shebang_len, document_tokens}
+use Rattle.rustc_lexer.specs.means.Document.{document_by, head_of, tokens_of_head}
+use Rattle.rustc_lexer.specs.Edits.{IsBound}
+use Rattle.rustc_lexer.specs.LanguageText.{document, part}
+use Rattle.rustc_lexer.specs.Locality.{IsGrammar}
+use Rattle.rustc_lexer.specs.Tokens.{bound, tokens_by}
+use Rattle.rustc_lexer.specs.laws.Tokens.{partitions}
+use Rattle.rustc_lexer.specs.means.Pieces.{AreBoundariesFrom}
+use Rattle.rustc_lexer.specs.means.Tokens.{tokens_of}
+use Rattle.rustc_lexer.proofs.DocumentHead as head
+use Rattle.rustc_lexer.proofs.DocumentHead.{bound-append, head_whole}
+use Rattle.rustc_lexer.proofs.DocumentPage.{ahead}
+use Rattle.rustc_lexer.proofs.DocumentTokens.{shebang-boundary}
+use Rattle.rustc_lexer.proofs.EditLemmas.{bound-same, bound-take}
+use Rattle.rustc_lexer.proofs.FrontLemmas.{bound-shift}
+use Rattle.rustc_lexer.proofs.PieceLemmas.{bound-part}
+use Rattle.rustc_lexer.proofs.ReadyLemmas.{cuts}
+
+module _ {first : List ℕ → Token} (law : IsGrammar first) (text : List ℕ) (tokens : List Token) (is : IsText text) (e : tokens ≡ document_by first text) where
+  abbrev heads : List Token
+  heads = tokens_of_head (head_of text)
+
+  abbrev body : List ℕ
+  body = drop (head_of text).end text
+
+  abbrev rest : List ℕ
+  rest = drop (shebang_len text) text
+
+  rest_text : IsText rest
+  rest_text = record { utf8 = IsUtf8-drop text (shebang_len text) is.utf8 (shebang-boundary text is); fits = let f = is.fits in omega (arith, length-drop (shebang_len text) text) }
+
+  body_text : IsText body
+  body_text = record { utf8 = IsUtf8-drop text (head_of text).end is.utf8 (ahead text is).boundary; fits = let f = is.fits in omega (arith, length-drop (head_of text).end text) }
+
+  cut_front : (k : ℕ) → k ≤ length heads → IsCharBoundary text (shebang_len text + bound tokens k)
+  cut_front k few =
+      let all = head_whole E2024 text is (ahead text is).boundary in
+      let front : take k (document_tokens E2024 text) ≡ take k tokens = ap (take k) all ∙ (take-append-le k heads _ few ∙ sym (ap (take k) e ∙ take-append-le k heads _ few)) in
+      let same : bound (document_tokens E2024 text) k ≡ bound tokens k = bound-same k (document_tokens E2024 text) tokens front in
+      let there : IsCharBoundary rest (bound (document_tokens E2024 text) k) = (partitions rest (document E2024) rest_text).boundaries k (omega (arith, ap length all, length-append heads (tokens_of (part E2024) body))) in
+      IsCharBoundary-from_rest text (shebang_len text) (bound tokens k) (shebang-boundary text is).0 (subst (IsCharBoundary rest) same there)
+
+  -- the bounds of the tokens of the body
+  pub body_bound : (j : ℕ) → (head_of text).end + bound (drop (length heads) tokens) j ≡ shebang_len text + bound tokens (length heads + j)
+  body_bound j =
+      let at : bound tokens (length heads) ≡ bound heads (length heads) = ap (λ ts. bound ts (length heads)) e ∙ bound-append heads (tokens_by first body) in
+      omega (arith, (head.front_of text).ends, at, bound-shift tokens (length heads) j)
+
+  cut_back : (j : ℕ) → length heads + j ≤ length tokens → IsCharBoundary text (shebang_len text + bound tokens (length heads + j))
+  cut_back j few =
+      let behind : drop (length heads) tokens ≡ tokens_by first body = ap (drop (length heads)) e ∙ drop-append_seam heads (tokens_by first body) in
+      let inside : j ≤ length (tokens_by first body) = omega (arith, ap length e, length-append heads (tokens_by first body)) in
+      let there : IsCharBoundary body (bound (tokens_by first body) j) = cuts law body body_text j inside in
+      let place : (head_of text).end + bound (tokens_by first body) j ≡ shebang_len text + bound tokens (length heads + j) = omega (arith, body_bound j, ap (λ ts. bound ts j) behind) in
+      subst (IsCharBoundary text) place (IsCharBoundary-from_rest text (head_of text).end (bound (tokens_by first body) j) (ahead text is).boundary.0 there)
+
+  pub document_cuts : AreBoundariesFrom text (shebang_len text) tokens
+  document_cuts k few = elim (cases_lt k (suc (length heads))) [
+    | inl less ↦ cut_front k (omega arith)
+    | inr more ↦
+        let same : length heads + (k - length heads) ≡ k = omega arith in
+        subst (λ n. IsCharBoundary text (shebang_len text + bound tokens n)) same (cut_back (k - length heads) (omega arith))
+  ]
+
+  pub bound_fits : (k : ℕ) → k ≤ length tokens → shebang_len text + bound tokens k < 2 ^ 32
+  bound_fits k few = let f = is.fits in omega (arith, (document_cuts k few).0, f)
+
+  -- where a bound is, from the end of the shebang line on
+  pub from_line : (k : ℕ) (items : List Token) → k ≤ length tokens → items ≡ take k tokens → shebang_len text + bound items (length items) ≡ shebang_len text + bound tokens k
+  from_line k items few f =
+      let long : length items ≡ k = ap length f ∙ length-take-le k tokens few in
+      ap (λ n. shebang_len text + n) (ap₂ bound f long ∙ bound-take k tokens)
+
+  -- and from a bound of the body's tokens on
+  pub from_near : (k : ℕ) (near : Bound) (items : List Token) → k ≤ length tokens → IsBound (drop (length heads) tokens) near → length heads + near.number ≤ k → items ≡ slice_range tokens (length heads + near.number) k
+      → (head_of text).end + near.place + bound items (length items) ≡ shebang_len text + bound tokens k
+  from_near k near items few at le f =
+      let here = bound-part tokens items (length heads + near.number) k (bound tokens (length heads + near.number)) le few f refl in
+      omega (arith, at.1, body_bound near.number, here)

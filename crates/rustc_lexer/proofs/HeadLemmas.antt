@@ -1,0 +1,68 @@
+-- The head of a document: where it ends.
+use Rattle.std.proofs.Common.{◌≡◌, ℕ, ◌+◌, ◌-◌, true, false, List, length, drop, refl, sym, ap, ◌∙◌, subst, arith, drop-drop, IsUtf8, IsCharBoundary, chars, length-drop, Some, None, Option, Bool, IsTrue, ◌↔◌}
+use Rattle.std.proofs.lemmas.Str.{IsUtf8-drop, IsCharBoundary-from_rest}
+use Rattle.rustc_lexer.specs.{Token}
+use Rattle.rustc_lexer.specs.Document.{shebang_len}
+use Rattle.rustc_lexer.specs.means.Document.{head_of}
+use Rattle.rustc_lexer.specs.laws.Frontmatter.{frontmatter-cut}
+use Rattle.rustc_lexer.specs.laws.Past.{past-drop, length-past, IsUtf8-cut}
+use Rattle.rustc_lexer.specs.means.Frontmatter.{frontmatter, opens, spaces_len}
+use Rattle.rustc_lexer.specs.means.Scan.{past, bytes_of}
+
+module _ (text rest : List ℕ) (n : ℕ) (e : n ≡ shebang_len text) (f : rest ≡ drop n text) where
+  left : drop (shebang_len text) text ≡ rest
+  left = ap (λ k. drop k text) (sym e) ∙ sym f
+
+  pub head-front : (front : Token) → opens (chars rest) ≡ true → front ≡ frontmatter rest → (record { shebang = n; space = 0; front = Some front; end = n + front.len }) ≡ head_of text
+  unfolding head_of
+  head-front front o is = rw (left, ← e, o, is) refl
+
+  module _ (tail : List ℕ) (none : opens (chars rest) ≡ false) (g : tail ≡ past (spaces_len (chars rest)) rest) where
+    pub head-spaced : (front : Token) → opens (chars tail) ≡ true → front ≡ frontmatter tail → (record { shebang = n; space = length rest - length tail; front = Some front; end = n + (length rest - length tail) + front.len }) ≡ head_of text
+    unfolding head_of
+    head-spaced front o is = rw (left, ← e, none, ← g, o, is) refl
+
+    pub head-none : opens (chars tail) ≡ false → (record { shebang = n; space = 0; front = None; end = n }) ≡ head_of text
+    unfolding head_of
+    head-none o = rw (left, ← e, none, ← g, o) refl
+
+-- where it ends
+module _ (text rest : List ℕ) (n : ℕ) (is : IsUtf8 text) (at : IsCharBoundary text n) (f : rest ≡ drop n text) where
+  rest-utf8 : IsUtf8 rest
+  rest-utf8 = subst IsUtf8 (sym f) (IsUtf8-drop text n is at)
+
+  pub front-boundary : (front : Token) → opens (chars rest) ≡ true → front ≡ frontmatter rest → IsCharBoundary text (n + front.len)
+  front-boundary front o is_frontmatter =
+      let cut = frontmatter-cut rest rest-utf8 o in
+      let there : IsCharBoundary (drop n text) front.len = rw (is_frontmatter, ← f) cut.boundary in
+      IsCharBoundary-from_rest text n front.len at.0 there
+
+  pub spaced-boundary : (tail : List ℕ) → tail ≡ past (spaces_len (chars rest)) rest → (front : Token) → opens (chars tail) ≡ true → front ≡ frontmatter tail → IsCharBoundary text (n + (length rest - length tail) + front.len)
+  spaced-boundary tail g front o is_frontmatter =
+      let k : ℕ = spaces_len (chars rest) in
+      let its : IsUtf8 tail = IsUtf8-cut k rest tail rest-utf8 g in
+      let cut = frontmatter-cut tail its o in
+      let long = length-past k rest rest-utf8 in
+      let m : bytes_of k (chars rest) ≡ length rest - length tail = omega (arith, long, ap length g) in
+      let here : tail ≡ drop (n + (length rest - length tail)) text = g ∙ (past-drop k rest rest-utf8 ∙ (ap (λ j. drop j rest) m ∙ (ap (drop (length rest - length tail)) f ∙ (drop-drop (length rest - length tail) n text ∙ (let turned : n + (length rest - length tail) ≡ n + (length rest - length tail) = refl in refl))))) in
+      let there : IsCharBoundary (drop (n + (length rest - length tail)) text) front.len = rw (is_frontmatter, ← here) cut.boundary in
+      IsCharBoundary-from_rest text (n + (length rest - length tail)) front.len (omega (arith, at.0, ap length f, length-drop n text)) there
+
+-- two frontmatters that are there are the same where the tokens are
+some_is : Token → Option Token → Token
+some_is other None = other
+some_is other (Some t) = t
+
+pub some-same : (answer : Bool) (front other : Option Token) (a b : Token) → front ≡ Some a → other ≡ Some b → IsTrue answer ↔ (a ≡ b) → IsTrue answer ↔ (front ≡ other)
+unfolding some_is
+some-same answer front other a b e f told =
+    (λ t. e ∙ (ap (λ (x : Token). Some x) (told.0 t) ∙ sym f), λ g. told.1 (ap (some_is a) (sym e ∙ (g ∙ f))))
+
+shebang_by : (text : List ℕ) (a b : Bool) → opens (chars (drop (shebang_len text) text)) ≡ a → opens (chars (past (spaces_len (chars (drop (shebang_len text) text))) (drop (shebang_len text) text))) ≡ b → (head_of text).shebang ≡ shebang_len text
+unfolding head_of
+shebang_by text true b e f = rw e refl
+shebang_by text false true e f = rw (e, f) refl
+shebang_by text false false e f = rw (e, f) refl
+
+pub head-shebang : (text : List ℕ) → (head_of text).shebang ≡ shebang_len text
+head-shebang text = shebang_by text _ _ refl refl

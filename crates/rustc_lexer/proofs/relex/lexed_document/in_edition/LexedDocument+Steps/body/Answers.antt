@@ -1,0 +1,22 @@
+use Rattle.std.proofs.Common.{List, ℕ, length, ap, ◌∙◌, sym, subst, ◌≡◌, string_bytes, IsCharBoundary}
+use Rattle.rustc_lexer.specs.declared.relex.head.Head.{Head}
+use Rattle.rustc_lexer.specs.Document.{body_start, document_tokens, head_count}
+use Rattle.rustc_lexer.specs.means.Document.{tokens_of_head}
+use Rattle.rustc_lexer.proofs.DocumentTokens.{document_law, shebang-boundary}
+use Rattle.rustc_lexer.proofs.DocumentHead.{head_count-tokens}
+use Rattle.rustc_lexer.proofs.DocumentPage.{end_is}
+use Rattle.rustc_lexer.proofs.relex.lexed_document.in_edition.LexedDocument+Steps.body.Goals as goal
+
+pub returns-clause-number : goal.returns-clause-number
+returns-clause-number c =
+    let text : List ℕ = string_bytes c.self.inside.text in
+    let edition = c.self.inside.stepper.edition in
+    let is = c.self.invariant.0 in
+    let tokens : c.self.inside.tokens.items ≡ document_tokens edition text = c.self.invariant.1 ∙ document_law edition text is (shebang-boundary text is) in
+    let at = subst (λ (h : Head). IsCharBoundary text h.end) c.self.invariant.2 c.self.invariant.3 in
+    subst (λ l. c.count.result ≡ head_count l.tokens) c.self.view_is (c.count.ensures ∙ (ap (λ (h : Head). length (tokens_of_head h)) c.self.invariant.2 ∙ (sym (head_count-tokens edition text is at) ∙ ap head_count (sym tokens))))
+
+pub returns-clause-place : goal.returns-clause-place
+returns-clause-place c =
+    let text : List ℕ = string_bytes c.self.inside.text in
+    subst (λ l. c.self.inside.head.end ≡ body_start l.text) c.self.view_is (ap (λ (h : Head). h.end) c.self.invariant.2 ∙ end_is text c.self.invariant.0)

@@ -1,0 +1,105 @@
+-- A whole document: its tokens; its head, which is a shebang line and a frontmatter; its body, which is all else; and what
+-- an edit keeps of its tokens.
+use Rattle.std.specs.Prelude.{ℕ, zero, suc, ◌+◌, ◌-◌, ◌≤◌, ◌≡◌, if◌then◌else◌, List, [], ◌∷◌, ◌++◌, length, take, drop, max, Bool, true, false, IfSome, slice_get}
+use Rattle.std.specs.Option.{unwrap_or}
+use Rattle.rustc_lexer.specs.declared.relex.{edit.Edit.Edit, edit_list.EditStop.EditStop, relexing.Relexed.Relexed}
+use Rattle.rustc_lexer.specs.declared.relex.edit_list.EditStop.TheVariants.{Memory}
+use Rattle.rustc_lexer.specs.{Edition, Token, TokenKind, E2024, Frontmatter}
+use Rattle.rustc_lexer.specs.Answers.{shebang, tokens_of}
+use Rattle.rustc_lexer.specs.LanguageText.{document}
+use Rattle.rustc_lexer.specs.Edits.{applied, apply, apply_list, relexed_of, stop_at}
+use Rattle.rustc_lexer.specs.Locality.{bound, tokens_by}
+
+-- the length of the shebang line, or 0
+abbrev pub shebang_len : List ℕ → ℕ
+shebang_len text = unwrap_or (shebang text) 0
+
+-- the tokens of a document in an edition, past its shebang line
+abbrev pub document_tokens : Edition → List ℕ → List Token
+document_tokens edition text = tokens_of (document edition) (drop (shebang_len text) text)
+
+-- ---- head and body
+
+-- whether a token of the kind is a frontmatter
+abbrev pub is_frontmatter : TokenKind → Bool
+is_frontmatter (Frontmatter has_invalid_preceding_whitespace invalid_infostring) = true
+is_frontmatter kind = false
+
+-- one more than a number, unless that is 0
+abbrev pub one_more : ℕ → ℕ
+one_more zero = zero
+one_more (suc n) = suc (suc n)
+
+-- how many tokens stand up to the frontmatter, with it, or 0 where there is none
+abbrev pub head_count : List Token → ℕ
+head_count [] = 0
+head_count (token ∷ tokens) = if is_frontmatter token.kind then 1 else one_more (head_count tokens)
+
+-- the tokens of the head: the frontmatter, and the white space before it. They are the same in each edition
+abbrev pub head_tokens : List ℕ → List Token
+head_tokens text = take (head_count (document_tokens E2024 text)) (document_tokens E2024 text)
+
+-- where the body begins: past the shebang line and the tokens of the head
+abbrev pub body_start : List ℕ → ℕ
+body_start text = shebang_len text + bound (document_tokens E2024 text) (head_count (document_tokens E2024 text))
+
+-- the tokens of a document whose body is lexed by a grammar, which tells the first token of each text
+abbrev pub document_tokens_by : (List ℕ → Token) → List ℕ → List Token
+document_tokens_by first text = head_tokens text ++ tokens_by first (drop (body_start text) text)
+
+-- ---- an edit
+
+-- the edit keeps the head: the shebang line and the head's tokens stay, and it is behind them
+abbrev pub KeepsHead : List ℕ → ℕ → ℕ → List ℕ → Type 0
+KeepsHead text start stop insert =
+    let made : List ℕ = apply text start stop insert in
+    (shebang_len text ≡ shebang_len made) × (head_tokens text ≡ head_tokens made) × (body_start text ≤ start)
+
+-- the counts of an edit that keeps the head: its tokens are kept, and the edit is one of the body
+unfoldable pub relexed_behind : (List ℕ → Token) → List ℕ → ℕ → ℕ → List ℕ → Relexed
+relexed_behind first text start stop insert =
+    let from : ℕ = body_start text in
+    let r : Relexed = relexed_of first (drop from text) (start - from) (stop - from) insert in
+    record { kept_front = length (head_tokens text) + r.kept_front; lexed = r.lexed; kept_back = r.kept_back }
+
+-- of any other edit: the new head's tokens are lexed, and the body changes from its begin on, up to where the texts are
+-- the same and both bodies have begun, `more` past the edit
+unfoldable pub relexed_anew : (List ℕ → Token) → List ℕ → ℕ → ℕ → List ℕ → Relexed
+relexed_anew first text start stop insert =
+    let made : List ℕ = apply text start stop insert in
+    let from : ℕ = body_start text in
+    let to : ℕ = body_start made in
+    let more : ℕ = max (from - stop) (to - (start + length insert)) in
+    let r : Relexed = relexed_of first (drop from text) 0 (stop + more - from) (take (start + length insert + more - to) (drop to made)) in
+    record { kept_front = 0; lexed = length (head_tokens made) + r.lexed; kept_back = r.kept_back }
+
+-- these are the counts of an edit
+pub record IsRelexedDocument (first : List ℕ → Token) (text : List ℕ) (start stop : ℕ) (insert : List ℕ) (r : Relexed) : Type 0 where
+  pub kept : KeepsHead text start stop insert → r ≡ relexed_behind first text start stop insert
+  pub changed : (KeepsHead text start stop insert → ⊥) → r ≡ relexed_anew first text start stop insert
+
+-- the count of steps rose by the tokens that were lexed, except those of a new head, which take no step
+pub record IsCountedDocument (text : List ℕ) (start stop : ℕ) (insert : List ℕ) (before after lexed : ℕ) : Type 0 where
+  pub kept : KeepsHead text start stop insert → after ≡ before + lexed
+  pub changed : (KeepsHead text start stop insert → ⊥) → after + length (head_tokens (apply text start stop insert)) ≡ before + lexed
+
+-- the count of steps rose by what an edit lexes
+abbrev pub IsStepped : (List ℕ → Token) → List ℕ → ℕ → ℕ → List ℕ → ℕ → ℕ → Type 0
+IsStepped first text start stop insert before after =
+    (r : Relexed) × IsRelexedDocument first text start stop insert r × IsCountedDocument text start stop insert before after r.lexed
+
+-- ---- edits in a row
+
+-- the count of steps rose by what the edits lex, one after another
+abbrev pub AreStepped : (List ℕ → Token) → List ℕ → List Edit → ℕ → ℕ → Type 0
+AreStepped first text [] before after = after ≡ before
+AreStepped first text (e ∷ es) before after =
+    (between : ℕ) × IsStepped first text e.start e.stop e.insert.now before between × AreStepped first (applied text e) es between after
+
+-- it rose by what the edits before the refused one lex. Where memory was refused it rose by at most what that edit lexes
+-- more
+abbrev pub IsStopStepped : EditStop → (List ℕ → Token) → List ℕ → List Edit → ℕ → ℕ → Type 0
+IsStopStepped (Memory at) first text edits before after =
+    (between : ℕ) × AreStepped first text (take at edits) before between × (between ≤ after)
+    × IfSome (slice_get edits at) (λ e. (most : ℕ) → IsStepped first (apply_list text (take at edits)) e.start e.stop e.insert.now between most → after ≤ most)
+IsStopStepped s first text edits before after = AreStepped first text (take (stop_at s) edits) before after

@@ -1,0 +1,110 @@
+-- Means, by how it is read: the head of a document, and what an edit keeps of the document by it.
+use Rattle.std.specs.Prelude.{ℕ, zero, suc, ◌+◌, ◌-◌, ◌≤◌, ◌≡◌, if◌then◌else◌, List, [], ◌∷◌, ◌++◌, length, take, drop, chars, max, Option, Some, None, Bool, true, false}
+use Rattle.rustc_lexer.specs.declared.relex.head.Head.{Head}
+use Rattle.rustc_lexer.specs.declared.relex.relexing.{Change.Change, Relexed.Relexed, Relexing.Relexing}
+use Rattle.rustc_lexer.specs.{Token, Whitespace}
+use Rattle.rustc_lexer.specs.Document.{shebang_len}
+use Rattle.rustc_lexer.specs.Edits.{apply, relexed_of}
+use Rattle.rustc_lexer.specs.Locality.{tokens_by}
+use Rattle.rustc_lexer.specs.means.Frontmatter.{frontmatter, opens, spaces_len}
+use Rattle.rustc_lexer.specs.means.Relexing.{IsRenewed}
+use Rattle.rustc_lexer.specs.means.Scan.{past}
+
+-- the head of a text with a shebang line of n bytes, past which `rest` stands, and `past` past the white space there
+abbrev pub head_past : ℕ → List ℕ → List ℕ → Head
+head_past n rest past =
+    if opens (chars past) then record { shebang = n; space = length rest - length past; front = Some (frontmatter past); end = n + (length rest - length past) + (frontmatter past).len }
+    else record { shebang = n; space = 0; front = None; end = n }
+
+-- the same, where the frontmatter may begin with the white space
+abbrev pub head_at : ℕ → List ℕ → Head
+head_at n rest =
+    if opens (chars rest) then record { shebang = n; space = 0; front = Some (frontmatter rest); end = n + (frontmatter rest).len }
+    else head_past n rest (past (spaces_len (chars rest)) rest)
+
+-- the head of a text
+unfoldable pub head_of : List ℕ → Head
+head_of text = head_at (shebang_len text) (drop (shebang_len text) text)
+
+-- a frontmatter, and white space before it
+abbrev pub front_tokens : ℕ → Option Token → List Token
+front_tokens space None = []
+front_tokens zero (Some front) = front ∷ []
+front_tokens (suc n) (Some front) = record { kind = Whitespace; len = suc n } ∷ front ∷ []
+
+-- the tokens of a head
+abbrev pub tokens_of_head : Head → List Token
+tokens_of_head head = front_tokens head.space head.front
+
+-- what follows the head of a text
+abbrev pub body_of : List ℕ → List ℕ
+body_of text = drop (head_of text).end text
+
+-- the tokens of a document
+abbrev pub document_by : (List ℕ → Token) → List ℕ → List Token
+document_by first text = tokens_of_head (head_of text) ++ tokens_by first (body_of text)
+
+-- ---- what an edit changes of the body, which began at `from` and now begins at `to`
+
+-- how far past the edit the two bodies differ
+abbrev pub unlike_past : Change → ℕ → ℕ → ℕ
+unlike_past edit from to = max (from - edit.old_stop) (to - edit.new_stop)
+
+-- where the head stays, the edit, by places of the body
+abbrev pub moved : ℕ → Change → Change
+moved from edit = record { start = edit.start - from; old_stop = edit.old_stop - from; new_stop = edit.new_stop - from }
+
+-- where it does not, all up to where the bodies are alike
+abbrev pub front_change : ℕ → ℕ → Change → Change
+front_change from to edit = record { start = 0; old_stop = edit.old_stop + unlike_past edit from to - from; new_stop = edit.new_stop + unlike_past edit from to - to }
+
+-- either of them
+abbrev pub body_change : Bool → ℕ → ℕ → Change → Change
+body_change kept from to edit = if kept then moved from edit else front_change from to edit
+
+-- what it puts in
+abbrev pub body_insert : Bool → Change → List ℕ → List ℕ → List ℕ
+body_insert kept change insert body = if kept then insert else take change.new_stop body
+
+-- the counts of all tokens, by those of the body
+abbrev pub counted : Bool → ℕ → ℕ → Relexed → Relexed
+counted true old new r = record { kept_front = old + r.kept_front; lexed = r.lexed; kept_back = r.kept_back }
+counted false old new r = record { kept_front = r.kept_front; lexed = new + r.lexed; kept_back = r.kept_back }
+
+-- the head is the same after the edit, and ends before it
+abbrev pub HeadStays : List ℕ → ℕ → ℕ → List ℕ → Type 0
+HeadStays text start stop insert = (head_of text ≡ head_of (apply text start stop insert)) × ((head_of text).end ≤ start)
+
+-- the counts of an edit, where the head stays or does not
+unfoldable pub relexed_by_head : Bool → (List ℕ → Token) → List ℕ → ℕ → ℕ → List ℕ → Relexed
+relexed_by_head kept first text start stop insert =
+    let made : List ℕ = apply text start stop insert in
+    let edit : Change = record { start = start; old_stop = stop; new_stop = start + length insert } in
+    let change : Change = body_change kept (head_of text).end (head_of made).end edit in
+    counted kept (length (tokens_of_head (head_of text))) (length (tokens_of_head (head_of made))) (relexed_of first (body_of text) change.start change.old_stop (body_insert kept change insert (body_of made)))
+
+-- these are the counts of an edit
+pub record IsRelexedByHead (first : List ℕ → Token) (text : List ℕ) (start stop : ℕ) (insert : List ℕ) (r : Relexed) : Type 0 where
+  pub kept : HeadStays text start stop insert → r ≡ relexed_by_head true first text start stop insert
+  pub changed : (HeadStays text start stop insert → ⊥) → r ≡ relexed_by_head false first text start stop insert
+
+-- the count of steps rose by the tokens that were lexed, except those of a new head
+pub record IsCountedByHead (text : List ℕ) (start stop : ℕ) (insert : List ℕ) (before after lexed : ℕ) : Type 0 where
+  pub kept : HeadStays text start stop insert → after ≡ before + lexed
+  pub changed : (HeadStays text start stop insert → ⊥) → after + length (tokens_of_head (head_of (apply text start stop insert))) ≡ before + lexed
+
+-- the head that is put in, where the old one does not stay
+abbrev pub head_unless : Bool → Head → Option Head
+head_unless true now = None
+head_unless false now = Some now
+
+-- the new head's tokens, or those of the old one, which stays
+abbrev pub head_put : List Token → Option Head → List Token
+head_put old None = old
+head_put old (Some head) = tokens_of_head head
+
+-- the tokens of the head, and behind them those of the body, in place of the old ones
+pub record IsRenewedBehind (first : List ℕ → Token) (body : List ℕ) (change : Change) (made : List ℕ) (count : ℕ) (tokens : List Token) (head : Option Head) (now : List Token) (at : Relexing) : Type 0 where
+  pub behind : List Token
+  pub renewed : IsRenewed first body change made (drop count tokens) behind at
+  pub now_is : now ≡ head_put (take count tokens) head ++ behind

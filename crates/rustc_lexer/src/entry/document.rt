@@ -1,0 +1,42 @@
+//! The tokens of a whole document.
+ghost use Rattle.std.specs.Prelude.{◌≡◌, All, drop};
+ghost use Rattle.std.specs.Str.{IsCharBoundary};
+ghost use Rattle.rustc_lexer.specs.Classes.{Fits};
+ghost use Rattle.rustc_lexer.specs.Document.{document_tokens, shebang_len};
+ghost use Rattle.rustc_lexer.specs.LanguageText.{document};
+ghost use Rattle.rustc_lexer.specs.State.{HasSuffixWithin};
+ghost use Rattle.rustc_lexer.specs.Tokens.{HaveTexts, Partitions, tokens_left};
+
+use crate::edition::Edition;
+use crate::entry::{Tokens, tokenize_as};
+use crate::shebang::shebang_len;
+use crate::token::FrontmatterAllowed;
+
+/// The tokens of a whole document in an edition, in order: those of the text past its shebang line, where a
+/// frontmatter may stand in front. The text has at most `u32::MAX` bytes.
+///
+/// The shebang line is no token. So the first token begins where the text that is left begins, which is
+/// `text.len() - tokens.as_str().len()` bytes in as long as no token was taken. [`tokenize_as`] is for a text that is
+/// no whole document, and for one whose shebang line is read as tokens.
+///
+/// ```ignore
+/// let tokens = tokenize_document(text, Edition::E2024);
+/// let mut start = text.len() - tokens.as_str().len(); // 9 of "#!/bin/sh\nfn", and 0 where no such line stands
+/// for token in tokens {
+///     let end = start + token.len as usize;
+///     show(token.kind, &text[start..end]);
+///     start = end;
+/// }
+/// ```
+pub fn tokenize_document<'a>(text: &'a str, edition: Edition) -> Tokens<'a>
+    requires fits { Fits text.now }
+    ensures state { result
+        ≡ record { pending = 0; rest = drop (shebang_len text.now) text.now; mode = document edition } }
+    ensures tokens { tokens_left result ≡ document_tokens edition text.now }
+    ensures boundary { IsCharBoundary text.now (shebang_len text.now) }
+    ensures partitions { Partitions (drop (shebang_len text.now) text.now) (document_tokens edition text.now) }
+    ensures suffixes { All HasSuffixWithin (document_tokens edition text.now) }
+    ensures texts { HaveTexts (drop (shebang_len text.now) text.now) (document_tokens edition text.now) }
+{
+    tokenize_as(&text[shebang_len(text)..], FrontmatterAllowed::Yes, edition)
+}

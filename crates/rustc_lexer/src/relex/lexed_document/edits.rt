@@ -1,0 +1,50 @@
+//! Edits of a document in a row.
+ghost use Rattle.std.specs.Prelude.{◌≡◌, IfErr, OnOk, take};
+ghost use Rattle.rustc_lexer.specs.Document.{AreStepped, IsStopStepped, document_tokens_by};
+ghost use Rattle.rustc_lexer.specs.Edits.{apply_list, AreEdits, stop_at, IsStop};
+
+use crate::entry::stepper::Stepper;
+use crate::relex::edit::Edit;
+use crate::relex::edit_list::EditStop;
+use crate::relex::lexed_document::LexedDocument;
+
+impl<S: Stepper> LexedDocument<S> {
+    /// Makes the edits in order, each on the text that those before it leave, as far as the first that is refused. `Err`
+    /// says which that is and why; the edits before it stand.
+    pub fn edit_all(&mut self, edits: &[Edit<'_>]) -> Result<(), EditStop>
+        ensures accepted { OnOk result (AreEdits self.old.text edits.now) }
+        ensures text { OnOk result (self.new.text ≡ apply_list self.old.text edits.now) }
+        ensures from_scratch { self.new.tokens
+            ≡ document_tokens_by (S.grammar self.old.stepper) self.new.text }
+        ensures grammar { S.grammar self.new.stepper ≡ S.grammar self.old.stepper }
+        ensures number { S.number self.new.stepper ≡ S.number self.old.stepper }
+        ensures count { OnOk result
+            (AreStepped (S.grammar self.old.stepper) self.old.text edits.now
+            (S.count self.old.stepper) (S.count self.new.stepper)) }
+        ensures stop { IfErr result (λ e. IsStop e self.new.text edits.now) }
+        ensures stop_accepted { IfErr result
+            (λ e. AreEdits self.old.text (take (stop_at e) edits.now)) }
+        ensures stop_text { IfErr result
+            (λ e. self.new.text ≡ apply_list self.old.text (take (stop_at e) edits.now)) }
+        ensures stop_count { IfErr result
+            (λ e. IsStopStepped e (S.grammar self.old.stepper) self.old.text edits.now
+            (S.count self.old.stepper) (S.count self.new.stepper)) }
+    {
+        // So the tokens are those of the text, also where there is no edit.
+        prove!(self.is_consistent());
+        for (at, edit) in edits.iter().enumerate() {
+            if !self.accepts(edit.start, edit.stop, edit.insert) {
+                return Err(if self.contains_range(edit.start, edit.stop) {
+                    EditStop::TooLong { at }
+                } else {
+                    EditStop::Range { at }
+                });
+            }
+            match self.edit(edit.start, edit.stop, edit.insert) {
+                Ok(_) => {}
+                Err(_) => return Err(EditStop::Memory { at }),
+            }
+        }
+        Ok(())
+    }
+}

@@ -1,0 +1,104 @@
+//! A document that is kept with its tokens in an edition.
+ghost use Rattle.std.specs.Prelude.{◌≡◌, ◌+◌, IfOk, OnErr, OnOk, drop, length};
+ghost use Rattle.rustc_lexer.specs.{E2024, Edition};
+ghost use Rattle.rustc_lexer.specs.Answers.{first_in};
+ghost use Rattle.rustc_lexer.specs.Classes.{Fits};
+ghost use Rattle.rustc_lexer.specs.Document as spec;
+ghost use Rattle.rustc_lexer.specs.LanguageText.{part, year};
+ghost use Rattle.rustc_lexer.specs.Tokens.{tokens_of};
+
+use crate::edition::Edition;
+use crate::entry::stepper::{Stepper, Steps};
+use crate::relex::front::Bound;
+use crate::relex::lexed_document::{LexedDocument, lex_document};
+use std::alloc::{AllocError, Global};
+
+impl LexedDocument<Steps> {
+    /// Returns a copy of the text, which has at most `u32::MAX` bytes, with its tokens in the newest edition. `Err` means
+    /// that memory was refused.
+    pub fn new(alloc: Global, text: &str) -> Result<LexedDocument<Steps>, AllocError>
+        requires fits { Fits text.now }
+        ensures text { IfOk result (λ l. l.text ≡ text.now) }
+        ensures from_scratch { IfOk result (λ l. l.tokens ≡ spec.document_tokens E2024 text.now) }
+        ensures grammar { IfOk result (λ l. ⟦<Steps as Stepper>⟧.grammar l.stepper ≡ first_in E2024) }
+        ensures number { IfOk result (λ l. ⟦<Steps as Stepper>⟧.number l.stepper ≡ 2024) }
+        ensures count { IfOk result
+            (λ l. ⟦<Steps as Stepper>⟧.count l.stepper + length (spec.head_tokens text.now)
+            ≡ length l.tokens) }
+    {
+        LexedDocument::new_in(alloc, text, Edition::E2024)
+    }
+
+    /// Returns a copy of the text, which has at most `u32::MAX` bytes, with its tokens in the edition. `Err` means that
+    /// memory was refused.
+    pub fn new_in(
+        alloc: Global,
+        text: &str,
+        edition: Edition,
+    ) -> Result<LexedDocument<Steps>, AllocError>
+        requires fits { Fits text.now }
+        ensures text { IfOk result (λ l. l.text ≡ text.now) }
+        ensures from_scratch { IfOk result (λ l. l.tokens ≡ spec.document_tokens edition text.now) }
+        ensures grammar { IfOk result
+            (λ l. ⟦<Steps as Stepper>⟧.grammar l.stepper ≡ first_in edition) }
+        ensures number { IfOk result (λ l. ⟦<Steps as Stepper>⟧.number l.stepper ≡ year edition) }
+        ensures count { IfOk result
+            (λ l. ⟦<Steps as Stepper>⟧.count l.stepper + length (spec.head_tokens text.now)
+            ≡ length l.tokens) }
+    {
+        LexedDocument::with(alloc, text, Steps::new_in(edition))
+    }
+
+    /// Returns the edition that the tokens are of. Edits keep it.
+    pub fn edition(&self) -> Edition
+        ensures number { ⟦<Steps as Stepper>⟧.number self.now.stepper ≡ year result }
+        ensures only { (edition : Edition)
+            → ⟦<Steps as Stepper>⟧.number self.now.stepper ≡ year edition → result ≡ edition }
+        ensures grammar { ⟦<Steps as Stepper>⟧.grammar self.now.stepper ≡ first_in result }
+        ensures from_scratch { self.now.tokens ≡ spec.document_tokens result self.now.text }
+    {
+        self.stepper.edition()
+    }
+
+    /// Returns where the body begins, in bytes, and how many tokens stand before it: those up to the frontmatter, or none
+    /// where there is no frontmatter.
+    pub fn body(&self) -> Bound
+        ensures number { result.number ≡ spec.head_count self.now.tokens }
+        ensures place { result.place ≡ spec.body_start self.now.text }
+        ensures tokens { (edition : Edition)
+            → ⟦<Steps as Stepper>⟧.number self.now.stepper ≡ year edition
+            → drop result.number self.now.tokens
+            ≡ tokens_of (part edition) (drop result.place self.now.text) }
+    {
+        Bound {
+            number: self.head.count(),
+            place: self.head.end,
+        }
+    }
+
+    /// Lexes the text again, in another edition. The head stays: it is the same in each. `Err` means that memory was
+    /// refused, and then nothing changes.
+    pub fn set_edition(&mut self, edition: Edition) -> Result<(), AllocError>
+        ensures text { self.new.text ≡ self.old.text }
+        ensures from_scratch { OnOk result (self.new.tokens ≡ spec.document_tokens edition self.new.text) }
+        ensures grammar { OnOk result
+            (⟦<Steps as Stepper>⟧.grammar self.new.stepper ≡ first_in edition) }
+        ensures number { OnOk result (⟦<Steps as Stepper>⟧.number self.new.stepper ≡ year edition) }
+        ensures count { OnOk result
+            (⟦<Steps as Stepper>⟧.count self.new.stepper + length (spec.head_tokens self.new.text)
+            ≡ length self.new.tokens) }
+        ensures same { OnErr result (self.new ≡ self.old) }
+    {
+        let mut stepper = Steps::new_in(edition);
+        let (tokens, checkpoints) = lex_document(
+            self.alloc,
+            &mut stepper,
+            self.text.as_str(),
+            self.head,
+        )?;
+        self.tokens = tokens;
+        self.stepper = stepper;
+        self.checkpoints = checkpoints;
+        Ok(())
+    }
+}
