@@ -1,129 +1,244 @@
 //! Rows of calls that take no memory: they answer the same whichever request is refused.
+ghost use Rattle.rustc_lexer.specs.Classes.{Fits};
+
 use FrontmatterAllowed::{No, Yes};
+use rustc_lexer::Base::{Binary, Decimal};
+use rustc_lexer::LiteralKind::{Char, Float, Int, RawStr};
 use rustc_lexer::TokenKind::*;
 use rustc_lexer::{
-    Base, Cursor, FrontmatterAllowed, GuardedStr, LiteralKind, RawStrError, Token, TokenKind, fits,
+    Cursor, FrontmatterAllowed, GuardedStr, LiteralKind, RawStrError, Token, TokenKind, fits,
     is_horizontal_whitespace, is_id_continue, is_id_start, is_ident, is_whitespace, settled,
     starts_raw, strip_shebang, tokenize, validate_raw_str,
 };
 
-const SPACE: (TokenKind, u32) = (Whitespace, 1);
+/// A text, whether a frontmatter may stand in front, its tokens, where what is settled of it ends, and why it is refused
+/// as a raw string with a prefix of one byte, if it is one.
+type Row<'a> = (
+    &'a str,
+    FrontmatterAllowed,
+    &'a [Token],
+    usize,
+    Option<RawStrError>,
+);
 
-/// A literal without a suffix: what it is, and its length.
+macro_rules! token {
+    ($kind:expr, $len:expr) => {
+        Token {
+            kind: $kind,
+            len: $len,
+        }
+    };
+}
+
+/// A literal: what it is, where its suffix starts if it has one, and its length.
 macro_rules! literal {
-    ($kind:expr, $len:literal) => {
-        (
+    ($kind:expr, $len:expr) => {
+        literal!($kind, $len, $len)
+    };
+    ($kind:expr, $suffix_start:expr, $len:expr) => {
+        token!(
             Literal {
                 kind: $kind,
-                suffix_start: $len,
+                suffix_start: $suffix_start,
             },
-            $len,
+            $len
         )
     };
 }
 
-const ONE: (TokenKind, u32) = literal!(
-    LiteralKind::Int {
-        base: Base::Decimal,
+/// A block comment: whether it is terminated.
+macro_rules! block {
+    ($terminated:literal) => {
+        BlockComment {
+            doc_style: None,
+            terminated: $terminated,
+        }
+    };
+}
+
+/// A frontmatter: whether whitespace in front of it, and its infostring, are invalid.
+macro_rules! front {
+    ($whitespace:literal, $infostring:literal) => {
+        Frontmatter {
+            has_invalid_preceding_whitespace: $whitespace,
+            invalid_infostring: $infostring,
+        }
+    };
+}
+
+const ONE: Token = literal!(
+    Int {
+        base: Decimal,
         empty_int: false,
     },
     1
 );
 
-const OPEN_CHAR: (TokenKind, u32) = literal!(LiteralKind::Char { terminated: false }, 1);
-
-const CHAR: (TokenKind, u32) = literal!(LiteralKind::Char { terminated: true }, 3);
-
-const BLOCK: TokenKind = BlockComment {
-    doc_style: None,
-    terminated: true,
+const NO_DIGITS: LiteralKind = Int {
+    base: Binary,
+    empty_int: true,
 };
 
-const FRONT: TokenKind = Frontmatter {
-    has_invalid_preceding_whitespace: false,
-    invalid_infostring: false,
+const FLOAT: LiteralKind = Float {
+    base: Decimal,
+    empty_exponent: false,
 };
 
-/// Texts, each with whether a frontmatter may stand in front, and the kinds and lengths of its tokens.
+const NO_EXPONENT: LiteralKind = Float {
+    base: Decimal,
+    empty_exponent: true,
+};
+
+const CHAR: LiteralKind = Char { terminated: true };
+
+const OPEN_CHAR: Token = literal!(Char { terminated: false }, 1);
+
+/// A raw string that is refused.
+const REFUSED: LiteralKind = RawStr { n_hashes: None };
+
+const DOT: Token = token!(Dot, 1);
+
+const SPACE: Token = token!(Whitespace, 1);
+
+const TOO_FEW: RawStrError = RawStrError::NoTerminator {
+    expected: 2,
+    found: 1,
+    possible_terminator_offset: Some(8),
+};
+
+const NO_STARTER: RawStrError = RawStrError::InvalidStarter { bad_char: '\0' };
+
 macro_rules! rows {
-    ($($text:literal, $allowed:ident => $tokens:tt;)*) => {
-        &[$(($text, $allowed, &$tokens)),*]
+    ($($text:literal, $allowed:ident => $tokens:tt, settled $end:literal, $refusal:expr;)*) => {
+        &[$(($text, $allowed, &$tokens, $end, $refusal)),*]
     };
 }
 
-static ROWS: &[(&str, FrontmatterAllowed, &[(TokenKind, u32)])] = rows! {
-    "/* /* */ */'a'", No => [(BLOCK, 11), CHAR];
-    "1..2", No => [ONE, (Dot, 1), (Dot, 1), ONE];
-    "'/x'", No => [OPEN_CHAR, (Slash, 1), (UnknownPrefix, 1), OPEN_CHAR];
-    "'''", No => [CHAR];
-    "---\n//!d\nuse a", Yes => [(FRONT, 8), SPACE, (Ident, 3), SPACE, (Ident, 1)];
-    "---\nq------\nfn x", Yes => [(FRONT, 11), SPACE, (Ident, 2), SPACE, (Ident, 1)];
+static ROWS: &[Row<'static>] = rows! {
+    "/* /* */ */'a'", No => [token!(block!(true), 11), literal!(CHAR, 3)], settled 11, None;
+    "/* /* */", No => [token!(block!(false), 8)], settled 0, None;
+    "1..2", No => [ONE, DOT, DOT, ONE], settled 2, None;
+    "1.", No => [literal!(FLOAT, 2)], settled 0, None;
+    "0b_", No => [literal!(NO_DIGITS, 3)], settled 0, None;
+    "1em", No => [literal!(NO_EXPONENT, 2, 3)], settled 0, None;
+    "'/x'", No => [OPEN_CHAR, token!(Slash, 1), token!(UnknownPrefix, 1), OPEN_CHAR], settled 2, None;
+    "'''", No => [literal!(CHAR, 3)], settled 0, None;
+    "'(\0'", No => [literal!(CHAR, 4)], settled 0, None;
+    "r##\"abc\"#", No => [literal!(REFUSED, 9)], settled 0, Some(TOO_FEW);
+    "r#", No => [literal!(REFUSED, 2)], settled 0, Some(NO_STARTER);
+    "---\n//!d\nuse a", Yes => [token!(front!(false, false), 8), SPACE, token!(Ident, 3), SPACE, token!(Ident, 1)], settled 12, None;
+    "---\nq------\nfn x", Yes => [token!(front!(false, false), 11), SPACE, token!(Ident, 2), SPACE, token!(Ident, 1)], settled 14, None;
+    "---", Yes => [token!(front!(false, true), 3)], settled 1, None;
+    " ---\n---\n", Yes => [token!(front!(true, false), 8), SPACE], settled 7, None;
 };
 
-/// Whether the text has these tokens and no others.
-fn has_tokens(text: &str, allowed: FrontmatterAllowed, wanted: &[(TokenKind, u32)]) -> bool {
+/// Whether the calls of a row and of each of its characters answer as it says.
+fn row_holds(row: Row<'_>) -> bool {
+    let (text, allowed, tokens, end, refusal) = row;
     fits(text)
-        && tokenize(text, allowed)
-            .map(|token| (token.kind, token.len))
-            .eq(wanted.iter().copied())
+        && gives_tokens(text, allowed, tokens)
+        && !is_ident(text)
+        && strip_shebang(text).is_none()
+        && settled(text) == end
+        && text.chars().all(are_classes)
+        && match refusal {
+            Some(refusal) => starts_raw(text, 1) && validate_raw_str(text, 1) == Err(refusal),
+            None => !starts_raw(text, 1),
+        }
 }
 
-/// Whether the check of a raw string with a prefix of one byte refuses it so.
-fn is_refused(text: &str, refusal: RawStrError) -> bool {
-    fits(text) && starts_raw(text, 1) && validate_raw_str(text, 1) == Err(refusal)
-}
-
-/// Whether the text begins with this guarded string.
-fn is_guarded(text: &str, string: GuardedStr) -> bool {
-    fits(text) && Cursor::new(text, No).guarded_double_quoted_string() == Some(string)
-}
-
-/// Whether the classes of characters and the cursor's own calls answer what they do where there is memory.
-fn calls_hold() -> bool {
-    let text = "é+b c";
-    if !fits(text) {
+/// Whether an iterator and a cursor give these tokens of the text and no others, and hold the rest after each.
+fn gives_tokens(text: &str, allowed: FrontmatterAllowed, wanted: &[Token]) -> bool
+    requires { Fits text.now }
+{
+    let mut guarded = Cursor::new(text, allowed);
+    if guarded.guarded_double_quoted_string().is_some() || !is_at(&guarded, text) {
         return false;
     }
-    let token = |kind, len| Token { kind, len };
-    let mut cursor = Cursor::new(text, No);
-    cursor.first() == 'é'
-        && cursor.third() == 'b'
-        && cursor.advance_token() == token(Ident, 2)
-        && cursor.advance_token() == token(Plus, 1)
-        && cursor.as_str() == "b c"
-        && is_whitespace('\u{2028}')
-        && !is_whitespace('\u{a0}')
-        && is_horizontal_whitespace('\t')
-        && !is_horizontal_whitespace('\n')
-        && is_id_start('é')
-        && !is_id_start('1')
-        && is_id_continue('1')
-        && !is_id_continue('-')
+    let mut tokens = tokenize(text, allowed);
+    let mut cursor = Cursor::new(text, allowed);
+    let mut rest = text;
+    for token in wanted {
+        if !is_at(&cursor, rest) || tokens.as_str() != rest {
+            return false;
+        }
+        if cursor.advance_token() != *token || tokens.next() != Some(*token) {
+            return false;
+        }
+        rest = match rest.get(token.len as usize..) {
+            Some(rest) => rest,
+            None => return false,
+        };
+    }
+    is_at(&cursor, "")
+        && tokens.as_str() == ""
+        && rest.is_empty()
+        && cursor.advance_token() == token!(Eof, 0)
+        && tokens.next().is_none()
 }
 
-/// Whether each call answers what it does where there is memory.
-pub fn lexing_holds() -> bool {
-    let too_few = RawStrError::NoTerminator {
-        expected: 2,
-        found: 1,
-        possible_terminator_offset: Some(8),
+/// Whether this is the rest of the cursor, and what it looks at is there.
+fn is_at(cursor: &Cursor<'_>, rest: &str) -> bool {
+    let at = |number| rest.chars().nth(number).unwrap_or('\0');
+    cursor.as_str() == rest && cursor.first() == at(0) && cursor.third() == at(2)
+}
+
+/// Whether each class has this ASCII character where it should.
+fn are_classes(c: char) -> bool {
+    is_whitespace(c) == matches!(c, '\t'..='\r' | ' ')
+        && is_horizontal_whitespace(c) == matches!(c, '\t' | ' ')
+        && is_id_start(c) == matches!(c, 'a'..='z' | 'A'..='Z' | '_')
+        && is_id_continue(c) == matches!(c, 'a'..='z' | 'A'..='Z' | '_' | '0'..='9')
+}
+
+/// Whether raw strings with 256 hashes in front are refused: for their number, or where they are not closed.
+fn many_hashes_hold() -> bool {
+    let mut bytes = [b'#'; 518];
+    bytes[0] = b'r';
+    bytes[257..262].copy_from_slice(b"\"abc\"");
+    let closed = RawStrError::TooManyDelimiters { found: 256 };
+    let open = RawStrError::NoTerminator {
+        expected: 256,
+        found: 0,
+        possible_terminator_offset: None,
     };
+    is_refused(&bytes, 518, closed) && is_refused(&bytes[..262], 262, open)
+}
+
+/// Whether these bytes are a raw string that is refused so, one token of this length.
+fn is_refused(bytes: &[u8], len: u32, refusal: RawStrError) -> bool {
+    match std::str::from_utf8(bytes) {
+        Ok(text) => row_holds((text, No, &[literal!(REFUSED, len)], 0, Some(refusal))),
+        Err(_) => false,
+    }
+}
+
+/// Whether calls that answer more than those of the rows hold.
+fn others_hold() -> bool {
+    let (text, guarded, shebang, prefix) = ("é+b c", "##\"a\"#x", "#!///x\n[a]", "k# ");
+    if !(fits(text) && fits(guarded) && fits(shebang) && fits(prefix)) {
+        return false;
+    }
     let string = GuardedStr {
         n_hashes: 2,
         terminated: true,
         token_len: 7,
     };
-    let shebang = "#!///x\n[a]";
-    let prefix = "k# ";
-    ROWS.iter().all(|(text, allowed, wanted)| has_tokens(text, *allowed, wanted))
-        && is_refused("r##\"abc\"#", too_few)
-        && is_refused("r#", RawStrError::InvalidStarter { bad_char: '\0' })
-        && is_guarded("##\"a\"#x", string)
-        && fits(shebang)
+    let mut cursor = Cursor::new(text, No);
+    is_at(&cursor, text)
+        && cursor.advance_token() == token!(Ident, 2)
+        && cursor.advance_token() == token!(Plus, 1)
+        && is_at(&cursor, "b c")
+        && Cursor::new(guarded, No).guarded_double_quoted_string() == Some(string)
         && strip_shebang(shebang) == Some(6)
-        && fits(prefix)
         && settled(prefix) == 1
         && is_ident("a1")
-        && !is_ident("1a")
-        && calls_hold()
+        && is_whitespace('\u{2028}')
+        && !is_whitespace('\u{a0}')
+        && is_id_start('é')
+}
+
+/// Whether each call answers what it does where there is memory.
+pub fn lexing_holds() -> bool {
+    ROWS.iter().all(|row| row_holds(*row)) && many_hashes_hold() && others_hold()
 }

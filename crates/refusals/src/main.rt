@@ -4,16 +4,20 @@
 //! its first request for memory refused, then its second, and so on, and then with each refused: it has to print
 //! the same line each time.
 //!
-//! `refusals make ROW` keeps the text of a row of edits with its tokens, and `refusals edit ROW` edits it too. By
-//! the requests for memory that the second makes over the first, the script knows those of the edit.
+//! `refusals make ROW` keeps the text of a row of edits with its tokens, `refusals edit ROW` edits it too, and
+//! `refusals run WORDS..` does what `lexdump` does at these words. They tell how that ended. Where the words
+//! themselves were refused memory, the line is that of the rows.
 #![tactic(auto)]
 
+mod dumping;
 mod lexing;
 
+use crate::dumping::dump;
 use crate::lexing::lexing_holds;
+use ends::past_name;
 use lex_vectors::steppers::Counting;
 use rustc_lexer::{Edit, EditStop, Edition, LexedText, Relexed, Stepper, Steps, fits, tokenize_in};
-use std::alloc::Global;
+use std::alloc::{AllocError, Global};
 use std::{env, io};
 
 /// A text, an edit of it by `start, stop, insert`, the text that it makes, and its counts. An edit that makes the same text
@@ -25,7 +29,7 @@ type EditRow = (
     [usize; 3],
 );
 
-const EDITS: [EditRow; 5] = [
+static EDITS: [EditRow; 5] = [
     ("ab", (2, 2, "c"), "abc", [0, 1, 0]),
     ("a 😀 é", (2, 6, "zz 1."), "a zz 1. é", [0, 5, 2]),
     ("a b c */ d", (2, 2, "/*"), "a /*b c */ d", [0, 3, 2]),
@@ -145,36 +149,38 @@ fn edition_holds(alloc: Global) -> bool {
         && is_held(&lexed, edition, "'r#foo")
 }
 
-/// Whether a row is edited, and its number, by the words after the program's name; `None` where they name none.
-fn read_row(rt: &HostRuntime) -> Option<(bool, usize)> {
-    let mut words = env::args(rt).ok()?;
-    let _ = words.next();
-    let edits = match words.next()?.as_str() {
-        "make" => false,
-        "edit" => true,
-        _ => return None,
-    };
-    let number = words.next()?.parse::<usize>().ok()?;
-    Some((edits, number))
-}
-
 /// Keeps the text of a row with its tokens, and edits it if that is asked. Whether all of it was done.
-fn take_row(alloc: Global, row: EditRow, edits: bool) -> bool {
-    let (text, (start, stop, insert), _, counts) = row;
-    let Some(mut lexed) = held(alloc, text) else {
-        return false;
-    };
-    !edits
-        || lexed.accepts(start, stop, insert)
-            && lexed.edit(start, stop, insert) == Ok(relexed(counts))
+fn take_row(alloc: Global, row: EditRow, edits: bool) -> Result<bool, AllocError> {
+    let (text, (start, stop, insert), made, counts) = row;
+    if !fits(text) {
+        return Ok(false);
+    }
+    let mut lexed = LexedText::new(alloc, text)?;
+    if !edits {
+        return Ok(is_held(&lexed, Edition::E2024, text));
+    }
+    if !lexed.accepts(start, stop, insert) {
+        return Ok(false);
+    }
+    let answer = lexed.edit(start, stop, insert)?;
+    Ok(answer == relexed(counts) && is_held(&lexed, Edition::E2024, made))
 }
 
-fn main(rt: HostRuntime) -> io::Result<()> {
-    if let Some((edits, number)) = read_row(&rt) {
-        let row = EDITS.get(number);
-        let done = row.is_some_and(|row| take_row(rt.alloc(), *row, edits));
-        return println!(rt; "row {number}: {}", if done { "done" } else { "not done" });
+/// Tells what came of the row of this number.
+fn tell_row(rt: &HostRuntime, edits: bool, number: &str) -> io::Result<()> {
+    let row = match number.parse::<usize>() {
+        Ok(at) => EDITS.get(at),
+        Err(_) => None,
+    };
+    match row.map(|row| take_row(rt.alloc(), *row, edits)) {
+        Some(Ok(true)) => println!(rt; "row {number}: done"),
+        Some(Err(error)) => println!(rt; "row {number}: {error:?}"),
+        _ => println!(rt; "row {number}: not done"),
     }
+}
+
+/// Tells which rows do not hold.
+fn tell_rows(rt: &HostRuntime) -> io::Result<()> {
     for (number, row) in EDITS.iter().enumerate() {
         if !edit_holds(rt.alloc(), *row) {
             println!(rt; "edit {number} does not hold")?;
@@ -191,4 +197,20 @@ fn main(rt: HostRuntime) -> io::Result<()> {
         }
     }
     println!(rt; "rows of refused memory: done")
+}
+
+/// The words after the program's name, if there is memory for them.
+fn read_words(rt: &HostRuntime) -> Option<Vec<String>> {
+    past_name(rt.alloc(), env::args(rt).ok()?).ok()
+}
+
+fn main(rt: HostRuntime) -> io::Result<()> {
+    let Some(words) = read_words(&rt) else {
+        return tell_rows(&rt);
+    };
+    match words.as_slice() {
+        [command, rest @ ..] if command.as_str() == "run" => dump(&rt, rest),
+        [command, number] => tell_row(&rt, command.as_str() == "edit", number.as_str()),
+        _ => tell_rows(&rt),
+    }
 }
