@@ -1,6 +1,7 @@
 /* Calls of the library with texts and buffers at odd places: right before a page that may not be read, right behind
  * one, and in a block of the heap that is as long as they are. Texts end anywhere, also inside a character; buffers
- * have few tokens, and edits are random. Exits with 1 at the first check that fails, and says which.
+ * have few tokens, units or bytes, and edits and literals are random. Exits with 1 at the first check that fails, and
+ * says which.
  *
  *     odd_places ROUNDS FILE..
  *
@@ -175,6 +176,67 @@ static uint32_t call_all(const uint8_t *text, size_t len, enum placement placeme
     return status;
 }
 
+/* What a literal of each kind stands for, and what is wrong in it, by small buffers: they are filled as one buffer is that
+ * has room enough. */
+static void check_literal(const uint8_t *text, size_t len, enum placement placement) {
+    static struct rustc_lexer_unit whole[MOST];
+    struct block count = block_of(sizeof(size_t), placement);
+    for (uint32_t mode = RUSTC_LEXER_CHAR; mode <= RUSTC_LEXER_RAW_C_STR; mode++)
+        for (int wrong = 0; wrong < 2; wrong++) {
+            size_t most, passed = 0, buffer_len = 1 + below(9), written;
+            CHECK((wrong ? rustc_lexer_literal_errors : rustc_lexer_unescape)(text, len, mode, 0, whole, MOST, &most) ==
+                  RUSTC_LEXER_OK);
+            CHECK(most <= len || most == 1);
+            struct block buffer = block_of(buffer_len * sizeof whole[0], placement);
+            do {
+                CHECK((wrong ? rustc_lexer_literal_errors_unchecked : rustc_lexer_unescape_unchecked)(
+                          text, len, mode, passed, buffer.bytes, buffer_len, count.bytes) == RUSTC_LEXER_OK);
+                memcpy(&written, count.bytes, sizeof written);
+                CHECK(written <= buffer_len && passed + written <= most);
+                CHECK(written == 0 || memcmp(buffer.bytes, whole + passed, written * sizeof whole[0]) == 0);
+                passed += written;
+            } while (written == buffer_len);
+            CHECK(passed == most);
+            release(buffer);
+        }
+    release(count);
+}
+
+/* A literal of random parts. */
+static void check_parts(void) {
+    static const char *const parts[] = {
+        "\\n", "\\0", "\\'", "\\q", "\\", "\\x41", "\\xff", "\\xg", "\\x4", "\\u{1F600}", "\\u{41}", "\\u{0}",
+        "\\u{D800}", "\\u{110000}", "\\u{1234567}", "\\u{_1}", "\\u{}", "\\u{4", "\\u", "\\\n  ", "\\\n\n x",
+        "\\\n\xc2\xa0", "a", "\"", "'", "\r", "\n", "\xc3\xa9", "\xf0\x9f\x98\x80", "thirty-two bytes of plain text, and more",
+    };
+    uint8_t bytes[MOST];
+    size_t len = 0;
+    for (size_t rest = below(7); rest > 0; rest--) {
+        const char *part = parts[below(sizeof parts / sizeof parts[0])];
+        memcpy(bytes + len, part, strlen(part));
+        len += strlen(part);
+    }
+    for (int placement = 0; placement < PLACEMENTS; placement++) {
+        struct block text = copy_of(bytes, len, placement);
+        check_literal(text.bytes, len, placement);
+        release(text);
+    }
+}
+
+/* A text between its marks, in a buffer that may be too small. */
+static void check_marks(const uint8_t *text, size_t len, enum placement placement) {
+    struct block count = block_of(sizeof(size_t), placement);
+    for (uint32_t style = RUSTC_LEXER_STYLE_HTML; style <= RUSTC_LEXER_STYLE_NO_COLOURS; style++) {
+        size_t buffer_len = below(20 * MOST), written;
+        struct block buffer = block_of(buffer_len, placement);
+        uint32_t status = rustc_lexer_marks(text, len, style, 2021, below(MOST), buffer.bytes, buffer_len, count.bytes);
+        memcpy(&written, count.bytes, sizeof written);
+        CHECK(status == RUSTC_LEXER_OK ? written <= buffer_len : status == RUSTC_LEXER_SMALL_BUFFER && written == 0);
+        release(buffer);
+    }
+    release(count);
+}
+
 /* All calls on a text. */
 static void check_text(const uint8_t *bytes, size_t len) {
     static const size_t buffers[] = {1, 2, 3, 5, 8, 31, MOST};
@@ -190,6 +252,8 @@ static void check_text(const uint8_t *bytes, size_t len) {
                     CHECK(is_same(&whole, &batches));
                 }
             }
+            check_literal(text.bytes, len, placement);
+            check_marks(text.bytes, len, placement);
         }
         release(text);
     }
@@ -240,6 +304,7 @@ int main(int count, char **words) {
             check_text(file + from, part);
             size_t other = below(len + 1), insert = below(9);
             check_edit(file + from, part, file + other, insert < len - other ? insert : len - other);
+            check_parts();
         }
     }
     check_text(file, 0);

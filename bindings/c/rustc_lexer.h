@@ -1,4 +1,6 @@
-/* The lexer for C: the calls of the static library rustc_lexer_c.
+/* The lexer for C: the calls of the library rustc_lexer_c, static or shared. Cargo builds it of files that are a proved
+ * source less its contracts; its README says what is claimed. Rattle, which proves the source, builds it too, for x86-64
+ * Linux, with the same calls and answers.
  *
  * A text is a pointer to its bytes and their number. It needs no zero at its end, and may have zeros in it.
  * Nothing takes memory, and nothing keeps a pointer past its call. Calls may be made from any thread.

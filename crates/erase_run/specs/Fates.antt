@@ -61,6 +61,7 @@ begins Rule.Label kind text = starts_with nat_eq text (codes "'")
 begins Rule.Path kind text = bytes_eq text (codes ":")
 begins Rule.Prove kind text = false
 begins Rule.Handle kind text = bytes_eq text (codes "rt")
+begins Rule.Export kind text = bytes_eq text (codes "#") || bytes_eq text (codes "extern")
 begins Rule.Blank kind text = is_space kind
 
 -- its last token: the first such one outside all brackets of the stretch
@@ -85,6 +86,7 @@ ends Rule.Label kind text = bytes_eq text (codes ":")
 ends Rule.Path kind text = bytes_eq text (codes "alloc") || bytes_eq text (codes "prelude")
 ends Rule.Prove kind text = false
 ends Rule.Handle kind text = bytes_eq text (codes "HostRuntime")
+ends Rule.Export kind text = bytes_eq text (codes "]") || bytes_eq text (codes "\"C\"")
 ends Rule.Blank kind text = is_space kind
 
 abbrev pub opens : List ℕ → Bool

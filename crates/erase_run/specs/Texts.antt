@@ -1,7 +1,7 @@
 -- The words for rules and for what no rule knows.
 use Rattle.std.specs.Prelude.{ℕ, List, codes}
 use Rattle.erase_run.specs.declared.fate.Rule.{Rule}
-use Rattle.erase_run.specs.declared.fate.Rule.TheVariants.{Use, Field, Member, Doc, Attribute, Requires, Ensures, Final, Tactic, Tests, Derive, Bound, ModelImpl, ModelImport, ModelName, Writer, Label, Path, Prove, Handle, Blank}
+use Rattle.erase_run.specs.declared.fate.Rule.TheVariants.{Use, Field, Member, Doc, Attribute, Requires, Ensures, Final, Tactic, Tests, Derive, Bound, ModelImpl, ModelImport, ModelName, Writer, Label, Path, Prove, Handle, Export, Blank}
 use Rattle.erase_run.specs.declared.stop.Reason.{Reason}
 use Rattle.erase_run.specs.declared.stop.Reason.TheVariants.{Bracket, Clause, Ghost, Item, Attribute as NoAttribute, Path as NoPath, Macro, Word, Token, Fate, Front}
 
@@ -41,4 +41,5 @@ rule_text Label = codes "a label that only proofs name"
 rule_text Path = codes "a renamed path"
 rule_text Prove = codes "prove! is debug_assert!"
 rule_text Handle = codes "main's handle"
+rule_text Export = codes "what C calls"
 rule_text Blank = codes "a line that is emptied"

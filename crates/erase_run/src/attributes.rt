@@ -21,6 +21,8 @@ pub fn attribute(alloc: Global, source: &mut Source<'_>, n: usize) -> Result<usi
         "tactic" | "cycle" => cut(source, Rule::Tactic, n, end),
         "cfg" => tests(alloc, source, n, end),
         "derive" => derive(source, n, end),
+        "unsafe" => export(source, n, end),
+        "repr" => layout(source, n, end),
         name => {
             if !SAME.contains(&name) {
                 return Err(source.refused(n, Reason::Attribute));
@@ -67,4 +69,20 @@ fn drop_derive(source: &mut Source<'_>, n: usize, at: usize, end: usize) -> Resu
         source.delete(Rule::Derive, n, end)?;
     }
     Ok(())
+}
+
+/// The attribute of what C calls by its name. The function of that name is written by hand, and calls this one.
+fn export(source: &mut Source<'_>, n: usize, end: usize) -> Result<usize, Stop> {
+    if !source.stands(n, &["#", "[", "unsafe", "(", "no_mangle", ")", "]"]) {
+        return Err(source.refused(n, Reason::Attribute));
+    }
+    cut(source, Rule::Export, n, end)
+}
+
+/// The layout of C, which means in Rust what it means in Rattle. No other one is known.
+fn layout(source: &mut Source<'_>, n: usize, end: usize) -> Result<usize, Stop> {
+    if !source.stands(n, &["#", "[", "repr", "(", "C", ")", "]"]) {
+        return Err(source.refused(n, Reason::Attribute));
+    }
+    Ok(end)
 }

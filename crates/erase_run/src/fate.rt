@@ -74,6 +74,7 @@ pub enum Rule {
     Path,
     Prove,
     Handle,
+    Export,
     Blank,
 }
 
@@ -131,7 +132,7 @@ pub fn line_text(line: Line) -> &'static str
 
 impl Rule {
     /// All rules whose uses are counted: all but that for emptied lines.
-    pub const COUNTED: [Rule; 20] = [
+    pub const COUNTED: [Rule; 21] = [
         Rule::Use,
         Rule::Field,
         Rule::Member,
@@ -152,6 +153,7 @@ impl Rule {
         Rule::Path,
         Rule::Prove,
         Rule::Handle,
+        Rule::Export,
     ];
 
     /// The rule as it is told.
@@ -179,6 +181,7 @@ impl Rule {
             Rule::Path => "a renamed path",
             Rule::Prove => "prove! is debug_assert!",
             Rule::Handle => "main's handle",
+            Rule::Export => "what C calls",
             Rule::Blank => "a line that is emptied",
         }
     }

@@ -25,6 +25,20 @@ const REFUSED: [&str; 12] = [
 /// The words of these that a program may have.
 const HANDLES: [&str; 2] = ["HostRuntime", "rt"];
 
+/// The one block of `unsafe` that may be kept, up to the word that is passed: bytes that a contract has as UTF-8.
+const UNTESTED: [&str; 10] = [
+    "unsafe",
+    "{",
+    "std",
+    ":",
+    ":",
+    "str",
+    ":",
+    ":",
+    "from_utf8_unchecked",
+    "(",
+];
+
 /// The macros that mean in Rust what they mean in Rattle.
 const MACROS: [&str; 4] = ["unreachable", "matches", "write", "writeln"];
 
@@ -52,7 +66,8 @@ fn refuse_word(source: &Source<'_>, n: usize, piece: Piece<'_>) -> Result<(), St
         return Ok(());
     }
     let is_program = source.target == Target::Program;
-    let is_refused = REFUSED.contains(&piece.text) || !is_program && HANDLES.contains(&piece.text);
+    let is_refused = REFUSED.contains(&piece.text) && !is_untested(source, n)
+        || !is_program && HANDLES.contains(&piece.text);
     if is_refused || !piece.text.is_ascii() {
         return Err(source.refused(n, Reason::Word));
     }
@@ -61,6 +76,11 @@ fn refuse_word(source: &Source<'_>, n: usize, piece: Piece<'_>) -> Result<(), St
         return Err(source.refused(n, Reason::Macro));
     }
     Ok(())
+}
+
+/// Whether a block of `unsafe` stands at `n` that is one call of `from_utf8_unchecked`, and passes one word.
+fn is_untested(source: &Source<'_>, n: usize) -> bool {
+    source.stands(n, &UNTESTED) && source.stands(past(n, 11), &[")", "}"])
 }
 
 /// Whether what stands before a `!` is known.

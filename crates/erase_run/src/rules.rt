@@ -71,13 +71,16 @@ fn bound(source: &mut Source<'_>, n: usize) -> Result<usize, Stop> {
     Ok(past(from, 2))
 }
 
-/// Any other word: `final`, the type of a formatter, a label, or a path.
+/// Any other word: `final`, the type of a formatter, the calling convention of C, a label, or a path.
 fn other(source: &mut Source<'_>, n: usize) -> Result<usize, Stop> {
     if source.stands(n, &["final", "fn"]) {
         return cut(source, Rule::Final, n, past(n, 1));
     }
     if source.stands(n, &["Formatter", "<", "W", ">"]) {
         return cut(source, Rule::Writer, past(n, 1), past(n, 4));
+    }
+    if source.stands(n, &["extern", "\"C\"", "fn"]) {
+        return cut(source, Rule::Export, n, past(n, 2));
     }
     if is_label(source, n) && !is_named(source, source.word(n)) {
         return cut(source, Rule::Label, n, past(n, 2));

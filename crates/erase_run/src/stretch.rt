@@ -97,6 +97,7 @@ fn begins(rule: Rule, piece: Piece<'_>) -> bool
         Rule::Path => text == ":",
         Rule::Prove => false,
         Rule::Handle => text == "rt",
+        Rule::Export => text == "#" || text == "extern",
         Rule::Blank => piece.is_space(),
     }
 }
@@ -122,6 +123,7 @@ fn ends(rule: Rule, piece: Piece<'_>) -> bool
         Rule::Path => text == "alloc" || text == "prelude",
         Rule::Prove => false,
         Rule::Handle => text == "HostRuntime",
+        Rule::Export => text == "]" || text == "\"C\"",
         Rule::Blank => piece.is_space(),
     }
 }

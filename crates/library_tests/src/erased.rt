@@ -23,6 +23,9 @@ static MADE: &[(&str, &str)] = rows! {
         "use crate::erased::a::{b};\npub(crate) fn f(c: crate::erased::D) -> (crate::erased::E, a::crate) {}";
     "use rustc_lexer::a;\nuse std::str;" => "use rustc_lexer::erased::a;\nuse core::str;";
     "// ghost\nfn f() -> &str { \"ghost\" }" => "// ghost\nfn f() -> &str { \"ghost\" }";
+    "#[repr(C)]\nstruct S;\n/// a\n#[unsafe(no_mangle)]\npub extern \"C\" fn f() {}\n" =>
+        "#[repr(C)]\nstruct S;\n/// a\npub  fn f() {}\n";
+    "fn f() { unsafe { std::str::from_utf8_unchecked(a) } }" => "fn f() { unsafe { core::str::from_utf8_unchecked(a) } }";
 };
 
 /// A file of a program, and what is made of it.
@@ -37,7 +40,11 @@ static PROGRAMS: &[(&str, &str)] = rows! {
 
 /// A module that is refused, on which line, and why.
 static REFUSED: &[(&str, (usize, Reason))] = rows! {
-    "#[repr(C)]\nstruct S;" => (1, Reason::Attribute);
+    "#[repr(u8)]\nstruct S;" => (1, Reason::Attribute);
+    "#[repr(C, packed)]\nstruct S;" => (1, Reason::Attribute);
+    "#[unsafe(link_section = \"a\")]\nfn f() {}" => (1, Reason::Attribute);
+    "fn f() { unsafe { a(std::str::from_utf8_unchecked(b)) } }" => (1, Reason::Word);
+    "fn f() { unsafe { std::str::from_utf8_unchecked(a); b() } }" => (1, Reason::Word);
     "\nfn f() { a.clone() }" => (2, Reason::Word);
     "fn f() { unsafe {} }" => (1, Reason::Word);
     "fn f() { size_of::<u8>() }" => (1, Reason::Word);

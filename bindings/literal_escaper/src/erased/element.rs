@@ -70,6 +70,10 @@ impl Element {
 }
 
 /// The character of this number.
+///
+/// It stays a call, which is passed the number alone. Where it is inlined, `rustc` compares the whole element, with the
+/// padding below the number. That changes no answer, but valgrind warns of it.
+#[inline(never)]
 fn scalar(number: u32) -> Result<char, EscapeError> {
     if number > 0x10_FFFF {
         return Err(EscapeError::OutOfRangeUnicodeEscape);

@@ -4,8 +4,7 @@ ghost use Rattle.std.specs.Str.{IsCharBoundary};
 ghost use Rattle.rustc_lexer.specs.Classes.{Fits};
 ghost use Rattle.rustc_lexer.specs.Document.{document_tokens, shebang_len};
 ghost use Rattle.rustc_lexer.specs.LanguageText.{document};
-ghost use Rattle.rustc_lexer.specs.State.{HasSuffixWithin};
-ghost use Rattle.rustc_lexer.specs.Tokens.{HaveTexts, Partitions, tokens_left};
+ghost use Rattle.rustc_lexer.specs.Tokens.{HasSuffix, HaveTexts, Partitions, tokens_left};
 
 use crate::edition::Edition;
 use crate::entry::{Tokens, tokenize_as};
@@ -35,7 +34,7 @@ pub fn tokenize_document<'a>(text: &'a str, edition: Edition) -> Tokens<'a>
     ensures tokens { tokens_left result ≡ document_tokens edition text.now }
     ensures boundary { IsCharBoundary text.now (shebang_len text.now) }
     ensures partitions { Partitions (drop (shebang_len text.now) text.now) (document_tokens edition text.now) }
-    ensures suffixes { All HasSuffixWithin (document_tokens edition text.now) }
+    ensures suffixes { All HasSuffix (document_tokens edition text.now) }
     ensures texts { HaveTexts (drop (shebang_len text.now) text.now) (document_tokens edition text.now) }
 {
     tokenize_as(&text[shebang_len(text)..], FrontmatterAllowed::Yes, edition)

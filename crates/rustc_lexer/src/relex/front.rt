@@ -44,7 +44,11 @@ pub(crate) const FIRST: Bound = Bound {
     place: 0,
 };
 
+/// A bound that is so many bytes before an edit is far from it.
+const FAR: usize = 256;
+
 /// Whether at least two characters stand between the places.
+#[inline(always)]
 pub(crate) fn two_stand(text: &str, from: usize, to: usize) -> bool
     requires from_boundary { IsCharBoundary text.now from }
     requires to_boundary { IsCharBoundary text.now to }
@@ -64,6 +68,7 @@ pub(crate) fn two_stand(text: &str, from: usize, to: usize) -> bool
 }
 
 /// Whether `from` is between characters, and at least two of them stand from there up to `to`.
+#[inline(always)]
 fn stand_before(text: &str, from: usize, to: usize) -> bool
     requires to_boundary { IsCharBoundary text.now to }
     ensures late { to ≤ from → result ≡ false }
@@ -100,6 +105,43 @@ fn walk_back<T: Measured>(text: &str, tokens: &[T], start: usize, from: Bound) -
     FIRST
 }
 
+/// The first bound from `from` on that is at or past `start`, or the last one.
+fn past_start<T: Measured>(tokens: &[T], from: Bound, start: usize) -> Bound
+    requires number { from.number ≤ length tokens.now }
+    requires small { start < 2 ^ 63 }
+    ensures bound { (ts : List Token) → HasLengths ts (map T.bytes tokens.now) → IsBound ts from → IsBound ts result }
+{
+    let mut at = from;
+    while at.number < tokens.len() && at.place < start {
+        at = Bound {
+            number: at.number + 1,
+            place: at.place + tokens[at.number].len() as usize,
+        };
+    }
+    at
+}
+
+/// A bound from which few tokens are left up to `start`: where `from` is far before it, lengths alone are read on the way.
+fn walk_ahead<T: Measured>(text: &str, tokens: &[T], start: usize, from: Bound) -> Bound
+    requires boundary { IsCharBoundary text.now start }
+    requires number { from.number ≤ length tokens.now }
+    requires from_boundary { IsCharBoundary text.now from.place }
+    requires before { from.place ≤ start }
+    ensures number { result.number ≤ length tokens.now }
+    ensures boundary { IsCharBoundary text.now result.place }
+    ensures before { result.place ≤ start }
+    ensures bound { (old : List ℕ) (ts : List Token)
+        → IsFront old ts (map T.bytes tokens.now) text.now start → IsBound ts from
+        → (0 < from.number → has_two old from.place start ≡ true)
+        → IsBound ts result × (0 < result.number → has_two old result.place start ≡ true) }
+{
+    if start - from.place < FAR {
+        return from;
+    }
+    let past = past_start(tokens, from, start);
+    walk_back(text, tokens, start, past)
+}
+
 /// How many of the tokens end at least two characters before `start`. The search begins at `near`, which may be
 /// any bound.
 pub(crate) fn kept_front<T: Measured>(text: &str, tokens: &[T], start: usize, near: Bound) -> Bound
@@ -113,7 +155,8 @@ pub(crate) fn kept_front<T: Measured>(text: &str, tokens: &[T], start: usize, ne
         × IsBound ts result
         × (0 < result.number → has_two old result.place start ≡ true) }
 {
-    let mut at = walk_back(text, tokens, start, near);
+    let back = walk_back(text, tokens, start, near);
+    let mut at = walk_ahead(text, tokens, start, back);
     while at.number < tokens.len() {
         let next = Bound {
             number: at.number + 1,

@@ -32,7 +32,11 @@ pub(crate) const FIRST: Bound = Bound {
     place: 0,
 };
 
+/// A bound that is so many bytes before an edit is far from it.
+const FAR: usize = 256;
+
 /// Whether at least two characters stand between the places.
+#[inline(always)]
 pub(crate) fn two_stand(text: &str, from: usize, to: usize) -> bool {
     if from >= to {
         return false;
@@ -48,6 +52,7 @@ pub(crate) fn two_stand(text: &str, from: usize, to: usize) -> bool {
 }
 
 /// Whether `from` is between characters, and at least two of them stand from there up to `to`.
+#[inline(always)]
 fn stand_before(text: &str, from: usize, to: usize) -> bool {
     text.is_char_boundary(from) && two_stand(text, from, to)
 }
@@ -71,6 +76,27 @@ fn walk_back<T: Measured>(text: &str, tokens: &[T], start: usize, from: Bound) -
     FIRST
 }
 
+/// The first bound from `from` on that is at or past `start`, or the last one.
+fn past_start<T: Measured>(tokens: &[T], from: Bound, start: usize) -> Bound {
+    let mut at = from;
+    while at.number < tokens.len() && at.place < start {
+        at = Bound {
+            number: at.number + 1,
+            place: at.place + tokens[at.number].len() as usize,
+        };
+    }
+    at
+}
+
+/// A bound from which few tokens are left up to `start`: where `from` is far before it, lengths alone are read on the way.
+fn walk_ahead<T: Measured>(text: &str, tokens: &[T], start: usize, from: Bound) -> Bound {
+    if start - from.place < FAR {
+        return from;
+    }
+    let past = past_start(tokens, from, start);
+    walk_back(text, tokens, start, past)
+}
+
 /// How many of the tokens end at least two characters before `start`. The search begins at `near`, which may be
 /// any bound.
 pub(crate) fn kept_front<T: Measured>(
@@ -79,7 +105,8 @@ pub(crate) fn kept_front<T: Measured>(
     start: usize,
     near: Bound,
 ) -> Bound {
-    let mut at = walk_back(text, tokens, start, near);
+    let back = walk_back(text, tokens, start, near);
+    let mut at = walk_ahead(text, tokens, start, back);
     while at.number < tokens.len() {
         let next = Bound {
             number: at.number + 1,

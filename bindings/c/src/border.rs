@@ -1,0 +1,133 @@
+//! What C calls. Each call makes the slices of its pointers and lengths, and calls the erased function of its name.
+
+use crate::erased::batch::CPlace;
+use crate::erased::escapes::CUnit;
+use crate::erased::raw_str::{CGuardedStr, CRawStrError};
+use crate::erased::relex::{CEdit, CRelexing};
+use crate::erased::token::CToken;
+use core::panic::PanicInfo;
+use core::slice::{from_raw_parts, from_raw_parts_mut};
+
+/// A length, cut to the longest that a slice of these may have. No object is longer, so a true length stays as it is.
+fn short<T>(len: usize) -> usize {
+    len.min(isize::MAX as usize / size_of::<T>())
+}
+
+/// What can be read at a pointer. It may be null where the length is 0.
+unsafe fn read<'a, T>(items: *const T, len: usize) -> &'a [T] {
+    if len == 0 {
+        return &[];
+    }
+    // SAFETY: the caller promises so many items.
+    unsafe { from_raw_parts(items, short::<T>(len)) }
+}
+
+/// What can be written at a pointer. It may be null where the length is 0.
+unsafe fn write<'a, T>(items: *mut T, len: usize) -> &'a mut [T] {
+    if len == 0 {
+        return &mut [];
+    }
+    // SAFETY: the caller promises so many items, which nothing else uses.
+    unsafe { from_raw_parts_mut(items, short::<T>(len)) }
+}
+
+/// The calls, by the modules that they stand in, with their parameters there: a slice crosses as a pointer and a length.
+macro_rules! calls {
+    ($($module:ident { $(fn $name:ident($($parameters:tt)*) -> $answer:ty;)* })*) => {
+        $($(calls!(@ $module $name $answer [] [] $($parameters)*,);)*)*
+    };
+    (@ $module:ident $name:ident $answer:ty [$($crossing:tt)*] [$($passed:tt)*] $(,)?) => {
+        /// The call of this name in `rustc_lexer.h`.
+        #[unsafe(no_mangle)]
+        unsafe extern "C" fn $name($($crossing)*) -> $answer {
+            crate::erased::$module::$name($($passed)*)
+        }
+    };
+    (@ $m:ident $n:ident $a:ty [$($c:tt)*] [$($p:tt)*] $item:ident: &[$type:ty], $($rest:tt)*) => {
+        // SAFETY: the header asks the caller for it.
+        calls!(@ $m $n $a [$($c)* $item: *const $type, len: usize,] [$($p)* unsafe { read($item, len) },] $($rest)*);
+    };
+    (@ $m:ident $n:ident $a:ty [$($c:tt)*] [$($p:tt)*] $item:ident: &mut [$type:ty], $($rest:tt)*) => {
+        // SAFETY: the header asks the caller for it.
+        calls!(@ $m $n $a [$($c)* $item: *mut $type, len: usize,] [$($p)* unsafe { write($item, len) },] $($rest)*);
+    };
+    (@ $m:ident $n:ident $a:ty [$($c:tt)*] [$($p:tt)*] $item:ident: $type:ty, $($rest:tt)*) => {
+        calls!(@ $m $n $a [$($c)* $item: $type,] [$($p)* $item,] $($rest)*);
+    };
+}
+
+#[rustfmt::skip]
+calls! {
+    status {
+        fn rustc_lexer_check(text: &[u8]) -> u32;
+    }
+    batch {
+        fn rustc_lexer_tokens(text: &[u8], place: &mut CPlace, buffer: &mut [CToken], count: &mut usize) -> u32;
+        fn rustc_lexer_tokens_unchecked(
+            text: &[u8], place: &mut CPlace, buffer: &mut [CToken], count: &mut usize
+        ) -> u32;
+        fn rustc_lexer_first_token_unchecked(text: &[u8], frontmatter_allowed: u32) -> CToken;
+    }
+    relex {
+        fn rustc_lexer_relex(
+            text: &[u8], old: &[CToken], edit: &CEdit, edition: u32, relexing: &mut CRelexing, buffer: &mut [CToken],
+            count: &mut usize
+        ) -> u32;
+        fn rustc_lexer_relex_unchecked(
+            text: &[u8], old: &[CToken], edit: &CEdit, edition: u32, relexing: &mut CRelexing, buffer: &mut [CToken],
+            count: &mut usize
+        ) -> u32;
+    }
+    places {
+        fn rustc_lexer_strip_shebang(text: &[u8], line_len: &mut usize) -> u32;
+        fn rustc_lexer_strip_shebang_unchecked(text: &[u8], line_len: &mut usize) -> u32;
+        fn rustc_lexer_settled(text: &[u8], end: &mut usize) -> u32;
+    }
+    raw_str {
+        fn rustc_lexer_validate_raw_str(text: &[u8], prefix_len: u32, error: &mut CRawStrError) -> u32;
+        fn rustc_lexer_validate_raw_str_unchecked(text: &[u8], prefix_len: u32, error: &mut CRawStrError) -> u32;
+        fn rustc_lexer_starts_raw_unchecked(text: &[u8], prefix_len: u32) -> bool;
+        fn rustc_lexer_guarded_str(text: &[u8], string: &mut CGuardedStr) -> u32;
+        fn rustc_lexer_guarded_str_unchecked(text: &[u8], string: &mut CGuardedStr) -> u32;
+    }
+    escapes {
+        fn rustc_lexer_unescape(text: &[u8], mode: u32, passed: usize, buffer: &mut [CUnit], count: &mut usize) -> u32;
+        fn rustc_lexer_unescape_unchecked(
+            text: &[u8], mode: u32, passed: usize, buffer: &mut [CUnit], count: &mut usize
+        ) -> u32;
+        fn rustc_lexer_literal_errors(
+            text: &[u8], mode: u32, passed: usize, buffer: &mut [CUnit], count: &mut usize
+        ) -> u32;
+        fn rustc_lexer_literal_errors_unchecked(
+            text: &[u8], mode: u32, passed: usize, buffer: &mut [CUnit], count: &mut usize
+        ) -> u32;
+    }
+    marked {
+        fn rustc_lexer_marks(
+            text: &[u8], style: u32, edition: u32, count: usize, buffer: &mut [u8], written: &mut usize
+        ) -> u32;
+    }
+    classes {
+        fn rustc_lexer_is_ident(text: &[u8], is: &mut u32) -> u32;
+        fn rustc_lexer_is_ident_unchecked(text: &[u8]) -> bool;
+        fn rustc_lexer_is_whitespace(code: u32) -> bool;
+        fn rustc_lexer_is_horizontal_whitespace(code: u32) -> bool;
+        fn rustc_lexer_is_id_start(code: u32) -> bool;
+        fn rustc_lexer_is_id_continue(code: u32) -> bool;
+    }
+    abi {
+        fn rustc_lexer_abi_1() -> u32;
+    }
+}
+
+// A shared library names the C library that it takes `abort` and `memcpy` from.
+#[cfg_attr(unix, link(name = "c"))]
+unsafe extern "C" {
+    safe fn abort() -> !;
+}
+
+/// A panic ends the process. It is proved of the source that none comes where the caller keeps the header's promises.
+#[panic_handler]
+fn stop(_: &PanicInfo<'_>) -> ! {
+    abort()
+}

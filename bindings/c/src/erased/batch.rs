@@ -1,0 +1,114 @@
+//! Tokens in batches.
+
+use crate::erased::status::{Refusal, done, refuse, text_of, utf8_text_of};
+use crate::erased::token::{CToken, token_numbers};
+use rustc_lexer::erased::{FrontmatterAllowed, tokenize};
+
+/// A place in a text, from which tokens are taken.
+#[repr(C)]
+#[derive(Clone, Copy, Debug, PartialEq, Eq)]
+pub struct CPlace {
+    /// In bytes from the start of the text.
+    pub at: u32,
+    /// Whether a frontmatter may stand there: 0 for no, any other number for yes.
+    pub frontmatter_allowed: u32,
+}
+
+/// Writes the tokens from a place on into the buffer, as many as there is room for, and their number into `count`.
+/// The place moves behind them: the next call goes on there. Past the last token the number is 0.
+///
+/// Each call tests the whole text. `rustc_lexer_tokens_unchecked` does not.
+pub fn rustc_lexer_tokens(
+    text: &[u8],
+    place: &mut CPlace,
+    buffer: &mut [CToken],
+    count: &mut usize,
+) -> u32 {
+    match text_of(text) {
+        Ok(text) => batch(text, place, buffer, count),
+        Err(refusal) => refuse(refusal, 0, count),
+    }
+}
+
+/// Writes the tokens from a place on of a text that `rustc_lexer_check` found to be UTF-8, which is not tested again.
+pub fn rustc_lexer_tokens_unchecked(
+    text: &[u8],
+    place: &mut CPlace,
+    buffer: &mut [CToken],
+    count: &mut usize,
+) -> u32 {
+    match utf8_text_of(text) {
+        Ok(text) => batch(text, place, buffer, count),
+        Err(refusal) => refuse(refusal, 0, count),
+    }
+}
+
+/// The first token of a text that `rustc_lexer_check` found to be UTF-8, or zeros where there is none: the text is
+/// empty, or has more than `u32::MAX` bytes.
+pub fn rustc_lexer_first_token_unchecked(text: &[u8], frontmatter_allowed: u32) -> CToken {
+    match utf8_text_of(text) {
+        Ok(text) => match allowed_of(frontmatter_allowed) {
+            FrontmatterAllowed::No => first_token(text, FrontmatterAllowed::No),
+            FrontmatterAllowed::Yes => first_token(text, FrontmatterAllowed::Yes),
+        },
+        Err(_) => no_token(),
+    }
+}
+
+/// The first token of a text as numbers, or zeros.
+#[inline(always)]
+fn first_token(text: &str, allowed: FrontmatterAllowed) -> CToken {
+    match tokenize(text, allowed).next() {
+        Some(token) => token_numbers(token),
+        None => no_token(),
+    }
+}
+
+/// Zeros, which are no token.
+fn no_token() -> CToken {
+    CToken {
+        kind: 0,
+        first: 0,
+        second: 0,
+        third: 0,
+        suffix_start: 0,
+        len: 0,
+    }
+}
+
+/// Writes the batch at the place of a text.
+fn batch(text: &str, place: &mut CPlace, buffer: &mut [CToken], count: &mut usize) -> u32 {
+    if !text.is_char_boundary(place.at as usize) {
+        return refuse(Refusal::BadPlace, 0, count);
+    }
+    done(fill(text, place, buffer), count)
+}
+
+/// Writes the batch at a place between characters, and answers its number of tokens.
+fn fill(text: &str, place: &mut CPlace, buffer: &mut [CToken]) -> usize {
+    let allowed = allowed_of(place.frontmatter_allowed);
+    let mut tokens = tokenize(&text[place.at as usize..], allowed);
+    let count = tokens.fill(buffer);
+    *place = CPlace {
+        at: (text.len() - tokens.as_str().len()) as u32,
+        frontmatter_allowed: allowed_number(tokens.frontmatter_allowed()),
+    };
+    count
+}
+
+/// Whether a frontmatter is allowed, of its number.
+fn allowed_of(number: u32) -> FrontmatterAllowed {
+    if number == 0 {
+        FrontmatterAllowed::No
+    } else {
+        FrontmatterAllowed::Yes
+    }
+}
+
+/// The number of whether a frontmatter is allowed.
+fn allowed_number(allowed: FrontmatterAllowed) -> u32 {
+    match allowed {
+        FrontmatterAllowed::No => 0,
+        FrontmatterAllowed::Yes => 1,
+    }
+}

@@ -1,0 +1,52 @@
+//! Classes of characters, each by its code.
+
+use crate::erased::status::{done, refuse, text_of};
+use rustc_lexer::erased::{
+    is_horizontal_whitespace, is_id_continue, is_id_start, is_ident, is_whitespace,
+};
+
+/// Whether the character is white space in Rust. False of a number that is no character.
+pub fn rustc_lexer_is_whitespace(code: u32) -> bool {
+    match char::from_u32(code) {
+        Some(c) => is_whitespace(c),
+        None => false,
+    }
+}
+
+/// Whether the character is a tab or a space. False of a number that is no character.
+pub fn rustc_lexer_is_horizontal_whitespace(code: u32) -> bool {
+    match char::from_u32(code) {
+        Some(c) => is_horizontal_whitespace(c),
+        None => false,
+    }
+}
+
+/// Whether an identifier may begin with the character. False of a number that is no character.
+pub fn rustc_lexer_is_id_start(code: u32) -> bool {
+    match char::from_u32(code) {
+        Some(c) => is_id_start(c),
+        None => false,
+    }
+}
+
+/// Whether an identifier may go on with the character. False of a number that is no character.
+pub fn rustc_lexer_is_id_continue(code: u32) -> bool {
+    match char::from_u32(code) {
+        Some(c) => is_id_continue(c),
+        None => false,
+    }
+}
+
+/// Writes whether the text is an identifier.
+pub fn rustc_lexer_is_ident(text: &[u8], is: &mut u32) -> u32 {
+    match text_of(text) {
+        Ok(text) => done(u32::from(is_ident(text)), is),
+        Err(refusal) => refuse(refusal, 0, is),
+    }
+}
+
+/// Whether the text, which is UTF-8 of any length, is an identifier.
+pub fn rustc_lexer_is_ident_unchecked(text: &[u8]) -> bool {
+    // The caller promises it.
+    is_ident(unsafe { core::str::from_utf8_unchecked(text) })
+}

@@ -1,0 +1,336 @@
+//! What a literal stands for, and what is wrong in it.
+
+use crate::erased::status::{Refusal, done, refuse, text_of, utf8_text_of};
+use core::ops::Range;
+use rustc_literal_escaper::erased::{
+    Element, Elements, EscapeError, Faults, Mode, NonZeroChar, unescape_byte, unescape_char,
+};
+
+/// A unit of what a literal stands for, or what is wrong, and its place in bytes.
+#[repr(C)]
+#[derive(Clone, Copy, Debug, PartialEq, Eq)]
+pub struct CUnit {
+    pub start: usize,
+    pub end: usize,
+    /// 1 for a character, 2 for a byte, 3 for an error, 4 for a warning.
+    pub kind: u32,
+    /// The character, the byte, or the number of what is wrong.
+    pub value: u32,
+}
+
+/// Writes units of what stands between the quotes of a literal into the buffer, as many as there is room for, and their
+/// number into `count`. The first `passed` units are passed over.
+///
+/// `mode` is the number of the literal's kind, 3 to 10. Between single quotes there is one unit, whose place is all of
+/// the text. Each call tests the whole text, and reads it from its front.
+pub fn rustc_lexer_unescape(
+    text: &[u8],
+    mode: u32,
+    passed: usize,
+    buffer: &mut [CUnit],
+    count: &mut usize,
+) -> u32 {
+    match text_of(text) {
+        Ok(text) => write(text, Listing::Units, mode, passed, buffer, count),
+        Err(refusal) => refuse(refusal, 0, count),
+    }
+}
+
+/// Writes units of a text that `rustc_lexer_check` found to be UTF-8, which is not tested again.
+pub fn rustc_lexer_unescape_unchecked(
+    text: &[u8],
+    mode: u32,
+    passed: usize,
+    buffer: &mut [CUnit],
+    count: &mut usize,
+) -> u32 {
+    match utf8_text_of(text) {
+        Ok(text) => write(text, Listing::Units, mode, passed, buffer, count),
+        Err(refusal) => refuse(refusal, 0, count),
+    }
+}
+
+/// Writes what is wrong in a literal, of which `text` stands between the quotes, as `rustc_lexer_unescape` writes its
+/// units. What is not wrong is passed over.
+///
+/// Between single quotes one thing is wrong at most, and its place reaches from 0 past the character that shows it.
+pub fn rustc_lexer_literal_errors(
+    text: &[u8],
+    mode: u32,
+    passed: usize,
+    buffer: &mut [CUnit],
+    count: &mut usize,
+) -> u32 {
+    match text_of(text) {
+        Ok(text) => write(text, Listing::Errors, mode, passed, buffer, count),
+        Err(refusal) => refuse(refusal, 0, count),
+    }
+}
+
+/// Writes what is wrong in a text that `rustc_lexer_check` found to be UTF-8, which is not tested again.
+pub fn rustc_lexer_literal_errors_unchecked(
+    text: &[u8],
+    mode: u32,
+    passed: usize,
+    buffer: &mut [CUnit],
+    count: &mut usize,
+) -> u32 {
+    match utf8_text_of(text) {
+        Ok(text) => write(text, Listing::Errors, mode, passed, buffer, count),
+        Err(refusal) => refuse(refusal, 0, count),
+    }
+}
+
+/// What is listed of a literal.
+#[derive(Clone, Copy)]
+enum Listing {
+    /// What it stands for, and what is wrong in it.
+    Units,
+    /// What is wrong in it.
+    Errors,
+}
+
+/// Writes what is listed of a text.
+fn write(
+    text: &str,
+    listing: Listing,
+    mode: u32,
+    passed: usize,
+    buffer: &mut [CUnit],
+    count: &mut usize,
+) -> u32 {
+    match mode_of(mode) {
+        None => refuse(Refusal::BadMode, 0, count),
+        Some(mode) => done(fill(text, listing, mode, passed, buffer), count),
+    }
+}
+
+/// The mode of a number.
+fn mode_of(number: u32) -> Option<Mode> {
+    match number {
+        3 => Some(Mode::Char),
+        4 => Some(Mode::Byte),
+        5 => Some(Mode::Str),
+        6 => Some(Mode::ByteStr),
+        7 => Some(Mode::CStr),
+        8 => Some(Mode::RawStr),
+        9 => Some(Mode::RawByteStr),
+        10 => Some(Mode::RawCStr),
+        _ => None,
+    }
+}
+
+/// Writes what is listed of a literal, and answers how many there are.
+fn fill(text: &str, listing: Listing, mode: Mode, passed: usize, buffer: &mut [CUnit]) -> usize {
+    match listing {
+        Listing::Units => fill_units(text, mode, passed, buffer),
+        Listing::Errors => fill_all(Faults::new(text, mode), passed, buffer),
+    }
+}
+
+/// Writes units in a mode, and answers their number.
+fn fill_units(text: &str, mode: Mode, passed: usize, buffer: &mut [CUnit]) -> usize {
+    match mode {
+        Mode::Char | Mode::Byte => fill_one(single_unit(text, mode), passed, buffer),
+        Mode::Str => fill_string(text, Mode::Str, passed, buffer),
+        Mode::ByteStr => fill_string(text, Mode::ByteStr, passed, buffer),
+        Mode::CStr => fill_string(text, Mode::CStr, passed, buffer),
+        Mode::RawStr => fill_string(text, Mode::RawStr, passed, buffer),
+        Mode::RawByteStr => fill_string(text, Mode::RawByteStr, passed, buffer),
+        Mode::RawCStr => fill_string(text, Mode::RawCStr, passed, buffer),
+    }
+}
+
+/// Writes units of what stands between double quotes.
+///
+/// It is inlined into each arm of its caller, so that the mode is known there.
+#[inline(always)]
+fn fill_string(text: &str, mode: Mode, passed: usize, buffer: &mut [CUnit]) -> usize {
+    let elements = elements_of(text, mode);
+    fill_all(Meanings { elements, mode }, passed, buffer)
+}
+
+/// Writes the one unit, if it is not passed over, and there is room.
+fn fill_one(unit: CUnit, passed: usize, buffer: &mut [CUnit]) -> usize {
+    if passed > 0 {
+        return 0;
+    }
+    if buffer.is_empty() {
+        return 0;
+    }
+    buffer[0] = unit;
+    1
+}
+
+/// The unit between single quotes.
+fn single_unit(text: &str, mode: Mode) -> CUnit {
+    match mode {
+        Mode::Byte => byte_unit(0..text.len(), unescape_byte(text)),
+        _ => char_unit(0..text.len(), unescape_char(text)),
+    }
+}
+
+/// The elements between double quotes.
+#[inline(always)]
+fn elements_of(text: &str, mode: Mode) -> Elements<'_> {
+    match mode {
+        Mode::RawStr | Mode::RawByteStr | Mode::RawCStr => Elements::new_raw(text),
+        _ => Elements::new(text),
+    }
+}
+
+/// Units that come one after another.
+trait Units {
+    /// The next one, or `None` past the last.
+    fn next_unit(&mut self) -> Option<CUnit>;
+}
+
+/// What elements stand for in a mode.
+struct Meanings<'a> {
+    elements: Elements<'a>,
+    mode: Mode,
+}
+
+impl<'a> Units for Meanings<'a> {
+    #[inline(always)]
+    fn next_unit(&mut self) -> Option<CUnit> {
+        let (place, element) = self.elements.next()?;
+        Some(item_unit(self.mode, place, element))
+    }
+}
+
+/// What is wrong, and nothing else.
+impl<'a> Units for Faults<'a> {
+    #[inline(always)]
+    fn next_unit(&mut self) -> Option<CUnit> {
+        let (place, error) = self.next()?;
+        Some(wrong_unit(place, error))
+    }
+}
+
+/// Writes units, past the first ones.
+#[inline(always)]
+fn fill_all<U: Units>(mut units: U, passed: usize, buffer: &mut [CUnit]) -> usize {
+    let mut over = 0;
+    while over < passed {
+        if units.next_unit().is_none() {
+            return 0;
+        }
+        over += 1;
+    }
+    let mut count = 0;
+    while count < buffer.len() {
+        let Some(unit) = units.next_unit() else {
+            break;
+        };
+        buffer[count] = unit;
+        count += 1;
+    }
+    count
+}
+
+/// What an element stands for between double quotes, as numbers.
+#[inline(always)]
+fn item_unit(mode: Mode, place: Range<usize>, element: Element) -> CUnit {
+    match mode {
+        Mode::Char | Mode::Str | Mode::RawStr => char_unit(place, element.to_char()),
+        Mode::Byte | Mode::ByteStr | Mode::RawByteStr => byte_unit(place, element.to_byte()),
+        Mode::CStr => mixed_unit(place, element),
+        Mode::RawCStr => raw_unit(place, element.to_raw_unit()),
+    }
+}
+
+/// A character as numbers, or what is wrong.
+fn char_unit(place: Range<usize>, meaning: Result<char, EscapeError>) -> CUnit {
+    match meaning {
+        Ok(c) => unit_at(place, 1, c as u32),
+        Err(error) => wrong_unit(place, error),
+    }
+}
+
+/// A byte as numbers, or what is wrong.
+fn byte_unit(place: Range<usize>, meaning: Result<u8, EscapeError>) -> CUnit {
+    match meaning {
+        Ok(byte) => unit_at(place, 2, u32::from(byte)),
+        Err(error) => wrong_unit(place, error),
+    }
+}
+
+/// A unit of a C string as numbers, or what is wrong.
+fn mixed_unit(place: Range<usize>, element: Element) -> CUnit {
+    match element.to_mixed_unit().err() {
+        Some(error) => wrong_unit(place, error),
+        None => sound_unit(place, element),
+    }
+}
+
+/// A unit of a C string as numbers, where nothing is wrong with it.
+fn sound_unit(place: Range<usize>, element: Element) -> CUnit {
+    match element {
+        Element::Plain(c) => unit_at(place, 1, c as u32),
+        Element::Byte(byte) if byte < 128 => unit_at(place, 1, u32::from(byte)),
+        Element::Byte(byte) => unit_at(place, 2, u32::from(byte)),
+        Element::Unicode(_) => char_unit(place, element.to_char()),
+        Element::Fault(error) => wrong_unit(place, error),
+    }
+}
+
+/// A character of a raw C string as numbers, or what is wrong.
+fn raw_unit(place: Range<usize>, meaning: Result<NonZeroChar, EscapeError>) -> CUnit {
+    match meaning {
+        Ok(c) => unit_at(place, 1, c.get() as u32),
+        Err(error) => wrong_unit(place, error),
+    }
+}
+
+/// What is wrong, as numbers.
+fn wrong_unit(place: Range<usize>, error: EscapeError) -> CUnit {
+    unit_at(place, wrong_kind(error), error_number(error))
+}
+
+/// A unit of a kind.
+fn unit_at(place: Range<usize>, kind: u32, value: u32) -> CUnit {
+    CUnit {
+        start: place.start,
+        end: place.end,
+        kind,
+        value,
+    }
+}
+
+/// Whether what is wrong is an error or a warning.
+fn wrong_kind(error: EscapeError) -> u32 {
+    match error {
+        EscapeError::UnskippedWhitespaceWarning | EscapeError::MultipleSkippedLinesWarning => 4,
+        _ => 3,
+    }
+}
+
+/// The number of what is wrong.
+fn error_number(error: EscapeError) -> u32 {
+    match error {
+        EscapeError::ZeroChars => 1,
+        EscapeError::MoreThanOneChar => 2,
+        EscapeError::LoneSlash => 3,
+        EscapeError::InvalidEscape => 4,
+        EscapeError::BareCarriageReturn => 5,
+        EscapeError::BareCarriageReturnInRawString => 6,
+        EscapeError::EscapeOnlyChar => 7,
+        EscapeError::TooShortHexEscape => 8,
+        EscapeError::InvalidCharInHexEscape => 9,
+        EscapeError::OutOfRangeHexEscape => 10,
+        EscapeError::NoBraceInUnicodeEscape => 11,
+        EscapeError::InvalidCharInUnicodeEscape => 12,
+        EscapeError::EmptyUnicodeEscape => 13,
+        EscapeError::UnclosedUnicodeEscape => 14,
+        EscapeError::LeadingUnderscoreUnicodeEscape => 15,
+        EscapeError::OverlongUnicodeEscape => 16,
+        EscapeError::LoneSurrogateUnicodeEscape => 17,
+        EscapeError::OutOfRangeUnicodeEscape => 18,
+        EscapeError::UnicodeEscapeInByte => 19,
+        EscapeError::NonAsciiCharInByte => 20,
+        EscapeError::NulInCStr => 21,
+        EscapeError::UnskippedWhitespaceWarning => 22,
+        EscapeError::MultipleSkippedLinesWarning => 23,
+    }
+}

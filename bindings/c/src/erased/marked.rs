@@ -1,0 +1,60 @@
+//! The tokens of a text between marks.
+
+use crate::erased::buffer::Buffer;
+use crate::erased::relex::edition_of;
+use crate::erased::status::{OK, Refusal, text_of};
+use core::fmt;
+use marks::{Style, write_first_tokens};
+use rustc_lexer::erased::Edition;
+
+/// Writes the first `count` tokens of a text in an edition, each between the marks of a style, at the front of the
+/// buffer, or all where it has fewer, and the number of bytes into `written`.
+///
+/// Where the buffer is too small, `written` is 0, and what the buffer has is not promised.
+pub fn rustc_lexer_marks(
+    text: &[u8],
+    style: u32,
+    edition: u32,
+    count: usize,
+    buffer: &mut [u8],
+    written: &mut usize,
+) -> u32 {
+    *written = 0;
+    let text = match text_of(text) {
+        Ok(text) => text,
+        Err(refusal) => return refusal.number(),
+    };
+    let Some(edition) = edition_of(edition) else {
+        return Refusal::BadEdition.number();
+    };
+    let Some(style) = style_of(style) else {
+        return Refusal::BadStyle.number();
+    };
+    let mut output = Buffer::new(buffer);
+    let Ok(()) = fill(style, edition, count, text, &mut output) else {
+        return Refusal::SmallBuffer.number();
+    };
+    *written = output.len;
+    OK
+}
+
+/// The style of a number.
+fn style_of(number: u32) -> Option<Style> {
+    match number {
+        1 => Some(Style::Html),
+        2 => Some(Style::Colours),
+        3 => Some(Style::NoColours),
+        _ => None,
+    }
+}
+
+/// Writes marked tokens into a buffer of which nothing is written.
+fn fill(
+    style: Style,
+    edition: Edition,
+    count: usize,
+    text: &str,
+    output: &mut Buffer<'_>,
+) -> fmt::Result {
+    write_first_tokens(style, edition, count, text, output)
+}

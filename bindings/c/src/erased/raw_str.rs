@@ -1,0 +1,160 @@
+//! Raw strings and guarded strings.
+
+use crate::erased::status::{Refusal, done, refuse, text_of, utf8_text_of};
+use rustc_lexer::erased::{
+    Cursor, FrontmatterAllowed, GuardedStr, RawStrError, starts_raw, validate_raw_str,
+};
+
+/// Why a raw string is refused. A field that the error does not have is 0.
+#[repr(C)]
+#[derive(Clone, Copy, Debug, PartialEq, Eq)]
+pub struct CRawStrError {
+    /// 0 for none, 1 for an invalid starter, 2 for no terminator, 3 for too many delimiters.
+    pub error: u32,
+    /// Of 1: the character.
+    pub bad_char: u32,
+    /// Of 2: how many hashes would close the string.
+    pub expected: u32,
+    /// Of 2: the most hashes after a quote in it. Of 3: how many there are.
+    pub found: u32,
+    /// Of 2: whether there is an offset, 0 or 1.
+    pub has_offset: u32,
+    /// Of 2: where the first quote with so many hashes ends, in bytes.
+    pub possible_terminator_offset: u32,
+}
+
+/// A guarded string. All is 0 where there is none.
+#[repr(C)]
+#[derive(Clone, Copy, Debug, PartialEq, Eq)]
+pub struct CGuardedStr {
+    /// Whether there is one, 0 or 1.
+    pub is_some: u32,
+    /// How many hashes stand before it.
+    pub n_hashes: u32,
+    /// Whether a quote closes it, 0 or 1.
+    pub terminated: u32,
+    /// The length of all of it in bytes.
+    pub token_len: u32,
+}
+
+/// Checks the raw string that the text begins with, whose prefix has `prefix_len` characters, and writes why it is
+/// refused.
+pub fn rustc_lexer_validate_raw_str(text: &[u8], prefix_len: u32, error: &mut CRawStrError) -> u32 {
+    match text_of(text) {
+        Ok(text) => raw_str(text, prefix_len, error),
+        Err(refusal) => refuse(refusal, no_error(), error),
+    }
+}
+
+/// Checks the raw string of a text that `rustc_lexer_check` found to be UTF-8, which is not tested again: no more is read
+/// than the string.
+pub fn rustc_lexer_validate_raw_str_unchecked(
+    text: &[u8],
+    prefix_len: u32,
+    error: &mut CRawStrError,
+) -> u32 {
+    match utf8_text_of(text) {
+        Ok(text) => raw_str(text, prefix_len, error),
+        Err(refusal) => refuse(refusal, no_error(), error),
+    }
+}
+
+/// Checks the raw string that a text begins with.
+fn raw_str(text: &str, prefix_len: u32, error: &mut CRawStrError) -> u32 {
+    if !starts_raw(text, prefix_len) {
+        return refuse(Refusal::NotRaw, no_error(), error);
+    }
+    done(answer_numbers(validate_raw_str(text, prefix_len)), error)
+}
+
+/// Whether character number `prefix_len` of the text, counted from 1, is an `r`. The text is UTF-8, of any length.
+///
+/// Of a text of at most `u32::MAX` bytes this is false exactly where `rustc_lexer_validate_raw_str` answers 4. Of a
+/// longer one that answers 2, whatever this is.
+pub fn rustc_lexer_starts_raw_unchecked(text: &[u8], prefix_len: u32) -> bool {
+    // The caller promises it.
+    starts_raw(unsafe { core::str::from_utf8_unchecked(text) }, prefix_len)
+}
+
+/// Writes the guarded string that the text begins with, or zeros where there is none. Hashes at the front are then
+/// part of the next token.
+pub fn rustc_lexer_guarded_str(text: &[u8], string: &mut CGuardedStr) -> u32 {
+    match text_of(text) {
+        Ok(text) => done(guarded_str(text), string),
+        Err(refusal) => refuse(refusal, guarded_numbers(None), string),
+    }
+}
+
+/// Writes the guarded string of a text that `rustc_lexer_check` found to be UTF-8, which is not tested again: no more is
+/// read than the string.
+pub fn rustc_lexer_guarded_str_unchecked(text: &[u8], string: &mut CGuardedStr) -> u32 {
+    match utf8_text_of(text) {
+        Ok(text) => done(guarded_str(text), string),
+        Err(refusal) => refuse(refusal, guarded_numbers(None), string),
+    }
+}
+
+/// The guarded string that a text begins with, as numbers.
+fn guarded_str(text: &str) -> CGuardedStr {
+    let mut cursor = Cursor::new(text, FrontmatterAllowed::No);
+    guarded_numbers(cursor.guarded_double_quoted_string())
+}
+
+/// The answer as numbers.
+fn answer_numbers(answer: Result<(), RawStrError>) -> CRawStrError {
+    match answer {
+        Ok(_) => no_error(),
+        Err(RawStrError::InvalidStarter { bad_char }) => CRawStrError {
+            error: 1,
+            bad_char: bad_char as u32,
+            ..no_error()
+        },
+        Err(RawStrError::NoTerminator {
+            expected,
+            found,
+            possible_terminator_offset,
+        }) => CRawStrError {
+            error: 2,
+            expected,
+            found,
+            has_offset: u32::from(possible_terminator_offset.is_some()),
+            possible_terminator_offset: possible_terminator_offset.unwrap_or(0),
+            ..no_error()
+        },
+        Err(RawStrError::TooManyDelimiters { found }) => CRawStrError {
+            error: 3,
+            found,
+            ..no_error()
+        },
+    }
+}
+
+/// No error.
+fn no_error() -> CRawStrError {
+    CRawStrError {
+        error: 0,
+        bad_char: 0,
+        expected: 0,
+        found: 0,
+        has_offset: 0,
+        possible_terminator_offset: 0,
+    }
+}
+
+/// The string as numbers.
+fn guarded_numbers(string: Option<GuardedStr>) -> CGuardedStr {
+    match string {
+        None => CGuardedStr {
+            is_some: 0,
+            n_hashes: 0,
+            terminated: 0,
+            token_len: 0,
+        },
+        Some(string) => CGuardedStr {
+            is_some: 1,
+            n_hashes: string.n_hashes,
+            terminated: u32::from(string.terminated),
+            token_len: string.token_len,
+        },
+    }
+}

@@ -1,0 +1,160 @@
+//! Relexing: the tokens of a text that was edited, by its old tokens.
+
+use crate::erased::status::{OK, Refusal, refuse, text_of, utf8_text_of};
+use crate::erased::token::CToken;
+use rustc_lexer::erased::{Bound, Change, Edition, Measured, Relexing, Steps};
+
+/// An edit that was made, by its places in bytes: what stood from `start` up to `old_stop` was taken out, and what now
+/// stands from `start` up to `new_stop` was put in.
+#[repr(C)]
+#[derive(Clone, Copy, Debug, PartialEq, Eq)]
+pub struct CEdit {
+    pub start: u32,
+    pub old_stop: u32,
+    pub new_stop: u32,
+}
+
+/// How far an edited text is lexed again.
+#[repr(C)]
+#[derive(Clone, Copy, Debug, PartialEq, Eq)]
+pub struct CRelexing {
+    /// How many old tokens stay at the front. At stage 0: the number of any bound of the old tokens, where the search
+    /// for it begins.
+    pub kept_front: usize,
+    /// Where they end, in bytes.
+    pub front_place: usize,
+    /// How many tokens were written, by all calls.
+    pub lexed: usize,
+    /// How many old tokens stay at the back, at stage 2.
+    pub kept_back: usize,
+    /// Where they begin in the old text.
+    pub back_place: usize,
+    /// Where the tokens that were written end in the present text, and so where those at the back begin.
+    pub at: usize,
+    /// 0 before the first call, 1 where there are more tokens to write, 2 where there are none.
+    pub stage: usize,
+}
+
+impl Measured for CToken {
+    fn len(&self) -> u32 {
+        self.len
+    }
+}
+
+/// Writes the tokens of the present text that an edit asks for into the buffer, as many as there is room for, and their
+/// number into `count`. They stand between the old tokens that stay at the front and those that stay at the back.
+///
+/// `old` has the tokens of the text before the edit, of which only the lengths are read. Any others may be passed too,
+/// and then the answer means nothing.
+pub fn rustc_lexer_relex(
+    text: &[u8],
+    old: &[CToken],
+    edit: &CEdit,
+    edition: u32,
+    relexing: &mut CRelexing,
+    buffer: &mut [CToken],
+    count: &mut usize,
+) -> u32 {
+    match text_of(text) {
+        Ok(text) => relex(text, old, edit, edition, relexing, buffer, count),
+        Err(refusal) => refuse(refusal, 0, count),
+    }
+}
+
+/// Relexes a text that `rustc_lexer_check` found to be UTF-8, which is not tested again. All else is as in
+/// `rustc_lexer_relex`.
+pub fn rustc_lexer_relex_unchecked(
+    text: &[u8],
+    old: &[CToken],
+    edit: &CEdit,
+    edition: u32,
+    relexing: &mut CRelexing,
+    buffer: &mut [CToken],
+    count: &mut usize,
+) -> u32 {
+    match utf8_text_of(text) {
+        Ok(text) => relex(text, old, edit, edition, relexing, buffer, count),
+        Err(refusal) => refuse(refusal, 0, count),
+    }
+}
+
+/// Relexes a text.
+fn relex(
+    text: &str,
+    old: &[CToken],
+    edit: &CEdit,
+    edition: u32,
+    relexing: &mut CRelexing,
+    buffer: &mut [CToken],
+    count: &mut usize,
+) -> u32 {
+    let Some(edition) = edition_of(edition) else {
+        return refuse(Refusal::BadEdition, 0, count);
+    };
+    let change = change_of(edit);
+    if !change.may_make(text) {
+        return refuse(Refusal::BadEdit, 0, count);
+    }
+    let Some(mut at) = standing(text, old, change, relexing) else {
+        return refuse(Refusal::BadEdit, 0, count);
+    };
+    *count = at.fill(&mut Steps::new_in(edition), text, old, change, buffer);
+    *relexing = relexing_numbers(&at, text, old.len());
+    OK
+}
+
+/// The edition of a year.
+pub(crate) fn edition_of(year: u32) -> Option<Edition> {
+    Edition::try_from(u16::try_from(year).ok()?).ok()
+}
+
+/// What the edit changed.
+fn change_of(edit: &CEdit) -> Change {
+    Change {
+        start: edit.start as usize,
+        old_stop: edit.old_stop as usize,
+        new_stop: edit.new_stop as usize,
+    }
+}
+
+/// Where to begin or to go on, or `None` where the numbers are none that a call left.
+fn standing(text: &str, old: &[CToken], change: Change, relexing: &CRelexing) -> Option<Relexing> {
+    let front = Bound {
+        number: relexing.kept_front,
+        place: relexing.front_place,
+    };
+    if relexing.stage == 0 {
+        return Some(Relexing::begin(text, old, change, front));
+    }
+    if relexing.kept_back > old.len() {
+        return None;
+    }
+    let at = Relexing {
+        front,
+        lexed: relexing.lexed,
+        back: Bound {
+            number: old.len() - relexing.kept_back,
+            place: relexing.back_place,
+        },
+        at: relexing.at,
+        met: relexing.stage == 2,
+    };
+    if at.may_go_on(text, old.len()) {
+        Some(at)
+    } else {
+        None
+    }
+}
+
+/// How far it is relexed, as numbers.
+fn relexing_numbers(at: &Relexing, text: &str, old_count: usize) -> CRelexing {
+    CRelexing {
+        kept_front: at.front.number,
+        front_place: at.front.place,
+        lexed: at.lexed,
+        kept_back: old_count - at.back.number,
+        back_place: at.back.place,
+        at: at.at,
+        stage: if at.is_over(text) { 2 } else { 1 },
+    }
+}
