@@ -3,7 +3,7 @@
 //!
 //! A text comes as a pointer and a length, tokens go into the caller's buffer, and nothing takes memory. Nothing
 //! checks what C passes, so each call tests its text and answers a status; only the calls with `_unchecked` ask
-//! for UTF-8. What crosses is written down in `bindings/c/rustc_lexer.h`.
+//! for UTF-8. What crosses is written down in the header, `rustc_lexer.h`.
 
 pub mod abi;
 pub mod batch;

@@ -75,10 +75,10 @@ pub extern "C" fn editions() -> usize {
     answered(|source, _| editions::write(source))
 }
 
-/// The listing that `lexdump` writes of the text, or of what follows its shebang line.
+/// The listing that `lexdump` writes of the tokens of the text. Of a whole document their places begin past its shebang line.
 #[unsafe(no_mangle)]
 pub extern "C" fn listing(edition: usize) -> usize {
-    answered(|source, _| listing::write(source, 0, usize::MAX, edition))
+    answered(|source, _| listing::write(source, 0..source.tokens(edition).len(), edition))
 }
 
 /// The marks of all lines of the text, and of each line alone, are the same: what `show` draws of a part is what it

@@ -144,7 +144,7 @@ fn push_tokens(
         return out.push_str("[]");
     }
     let mut end = source.begin() + bytes_of(&tokens[..numbers.start]);
-    let lines = listing::write(source, numbers.start, numbers.len(), edition);
+    let lines = listing::write(source, numbers.clone(), edition);
     push_list(out, numbers.zip(lines.lines()), |out, (number, line)| {
         let start = end;
         end += tokens[number].len as usize;

@@ -1,46 +1,157 @@
-//! A whole document that is kept with its tokens.
-use rustc_lexer::{Bound, Edit, Edition, LexedDocument, fits};
-use std::alloc::AllocError;
-use std::iter::Iterator;
+//! Whole documents that are kept with their tokens.
+use crate::edits::{Keeps, is_edited, is_listed, lexed_by};
+use crate::held_text::are_pieces;
+use crate::rows::Made;
+use crate::steppers::{Characters, Counting};
+use crate::tables::documents::{FRONTS, HEADS, KEPT, SPACED};
+use crate::tables::edits::{CHARACTERS, EditRow, LONG, SHORT};
+use rustc_lexer::{Bound, Edit, EditStop, Edition, LexedDocument, Relexed, Stepper, Token, fits};
+use std::alloc::{AllocError, Global};
 
-/// A shebang line and a frontmatter go and come; what is kept is counted from the front of all tokens.
-#[test]
-fn edits_of_a_document(rt: HostRuntime) -> Result<(), AllocError> {
-    let text = "#!/bin/sh\n---cargo\na\n---\nfn x";
-    assert!(rt; fits(text));
-    let mut held = LexedDocument::new_in(rt.alloc(), text, Edition::E2024)?;
-    assert_eq!(rt; held.shebang_len(), 9);
-    assert_eq!(rt;
-        held.body(),
-        Bound {
-            number: 2,
-            place: 24
-        }
-    );
-    assert!(rt;
-        held.pieces()
-            .next()
-            .is_some_and(|piece| piece.start == 9 && piece.text == "\n")
-    );
-    // In the body, in the frontmatter, in the shebang line, and the closing fence, each as (front, lexed, back).
-    let rows = [
-        (29, 29, "y", (4, 2, 0)),
-        (19, 20, "b", (0, 2, 4)),
-        (2, 3, "", (0, 2, 4)),
-        (20, 21, "", (0, 2, 0)),
-    ];
-    for (start, stop, insert, wanted) in rows {
-        assert!(rt; held.accepts(start, stop, insert));
-        let counts = held.edit(start, stop, insert)?;
-        assert_eq!(rt; (counts.kept_front, counts.lexed, counts.kept_back), wanted);
+impl<S: Stepper> Keeps for LexedDocument<S> {
+    fn text(&self) -> &str {
+        self.text()
     }
-    held.set_edition(Edition::E2015)?;
-    assert_eq!(rt; held.edition(), Edition::E2015);
-    let edits = [Edit {
-        start: 0,
-        stop: 2,
-        insert: "",
-    }];
-    assert!(rt; held.edit_all(&edits).is_ok() && held.shebang_len() == 0);
+
+    fn tokens(&self) -> &[Token] {
+        self.tokens()
+    }
+
+    fn try_edit(
+        &mut self,
+        start: usize,
+        stop: usize,
+        insert: &str,
+    ) -> Result<Option<Relexed>, AllocError> {
+        if !self.accepts(start, stop, insert) {
+            return Ok(None);
+        }
+        Ok(Some(self.edit(start, stop, insert)?))
+    }
+
+    fn try_edits(&mut self, edits: &[Edit<'_>]) -> Result<(), EditStop> {
+        self.edit_all(edits)
+    }
+}
+
+/// Whether the row holds for a document in its edition, for one edit after another, and for all of them as a list. The
+/// stepper is called as often as tokens are lexed, except for so many tokens of heads.
+fn holds(alloc: Global, row: &EditRow, heads: u64) -> Result<bool, AllocError> {
+    let made = Made::of(alloc, row.text)?;
+    let text = made.text.as_str();
+    if !fits(text) {
+        return Ok(false);
+    }
+    let mut kept = LexedDocument::new_in(alloc, text, row.edition)?;
+    let mut edited = LexedDocument::with(alloc, text, Counting::new_in(row.edition))?;
+    let mut listed = LexedDocument::with(alloc, text, Counting::new_in(row.edition))?;
+    let lexed = lexed_by(row).saturating_sub(heads);
+    let calls = edited.stepper().calls.saturating_add(lexed);
+    Ok(
+        is_edited(alloc, &mut kept, row)?
+            && kept.edition() == row.edition
+            && is_edited(alloc, &mut edited, row)?
+            && edited.stepper().calls == calls
+            && is_listed(alloc, &mut listed, row)?
+            && listed.stepper().calls == calls,
+    )
+}
+
+/// Texts with a head, and those of parts, which have none: what an edit of them keeps is the same.
+#[test]
+fn rows(rt: HostRuntime) -> Result<(), AllocError> {
+    for (name, heads, rows) in [
+        ("KEPT", 0, KEPT),
+        ("FRONTS", 1, FRONTS),
+        ("SPACED", 2, SPACED),
+        ("SHORT", 0, SHORT),
+        ("LONG", 0, LONG),
+    ] {
+        for (number, row) in rows.iter().enumerate() {
+            assert!(rt; holds(rt.alloc(), row, heads)?, "{name}, row {number}");
+        }
+    }
+    Ok(())
+}
+
+#[test]
+fn one_character_a_token(rt: HostRuntime) -> Result<(), AllocError> {
+    for row in CHARACTERS {
+        let made = Made::of(rt.alloc(), row.text)?;
+        assert!(rt; fits(made.text.as_str()));
+        let mut lexed = LexedDocument::with(rt.alloc(), made.text.as_str(), Characters::new())?;
+        assert!(rt; is_edited(rt.alloc(), &mut lexed, row)?);
+    }
+    Ok(())
+}
+
+#[test]
+fn heads(rt: HostRuntime) -> Result<(), AllocError> {
+    for (text, shebang, number, place) in HEADS {
+        assert!(rt; fits(text));
+        let lexed = LexedDocument::new(rt.alloc(), text)?;
+        let body = Bound {
+            number: *number,
+            place: *place,
+        };
+        assert!(rt;
+            lexed.shebang_len() == *shebang && lexed.body() == body,
+            "{text}"
+        );
+    }
+    Ok(())
+}
+
+/// Whether the tokens from number `from` up to `to` are there, and these are their pieces.
+fn has_pieces<S: Stepper>(
+    held: &LexedDocument<S>,
+    from: usize,
+    to: usize,
+    rows: &[(u32, &str)],
+) -> bool {
+    from <= to && to <= held.tokens().len() && are_pieces(held.pieces_of(from, to), rows)
+}
+
+#[test]
+fn pieces_of_a_document(rt: HostRuntime) -> Result<(), AllocError> {
+    let held = LexedDocument::new(rt.alloc(), "#!a\n---\nb\n---\nfn")?;
+    let all = [(3, "\n"), (4, "---\nb\n---"), (13, "\n"), (14, "fn")];
+    assert!(rt; are_pieces(held.pieces(), &all));
+    assert!(rt; has_pieces(&held, 0, 0, &[]));
+    assert!(rt; has_pieces(&held, 0, 2, &[(3, "\n"), (4, "---\nb\n---")]));
+    assert!(rt; has_pieces(&held, 1, 3, &[(4, "---\nb\n---"), (13, "\n")]));
+    assert!(rt; has_pieces(&held, 3, 4, &[(14, "fn")]));
+    assert!(rt; has_pieces(&held, 4, 4, &[]));
+    Ok(())
+}
+
+/// Far in a text of 2000 tokens behind a frontmatter, four in each 8 bytes, and what an edit lexes and moves.
+#[test]
+fn pieces_far_behind_a_frontmatter(rt: HostRuntime) -> Result<(), AllocError> {
+    let mut text = String::from_str(rt.alloc(), "---\n---\n")?;
+    for _ in 0..500 {
+        text.push_str("abé 12 ")?;
+    }
+    assert!(rt; fits(text.as_str()));
+    let mut held = LexedDocument::new(rt.alloc(), text.as_str())?;
+    let far = [(3012, " "), (3013, "12"), (3015, " ")];
+    assert!(rt; has_pieces(&held, 1503, 1506, &far));
+    assert!(rt; held.accepts(3008, 3012, "x-y"));
+    held.edit(3008, 3012, "x-y")?;
+    let front = [(3005, "12"), (3007, " "), (3008, "x")];
+    assert!(rt; has_pieces(&held, 1500, 1503, &front));
+    assert!(rt; has_pieces(&held, 1503, 1505, &[(3009, "-"), (3010, "y")]));
+    assert!(rt; has_pieces(&held, 1906, 1907, &[(3812, "12")]));
+    Ok(())
+}
+
+/// An edition has its tokens behind the same head.
+#[test]
+fn another_edition(rt: HostRuntime) -> Result<(), AllocError> {
+    let mut held = LexedDocument::new_in(rt.alloc(), "#!a\n---\n---\n'r#foo", Edition::E2021)?;
+    assert!(rt; held.edition() == Edition::E2021 && held.tokens().len() == 4);
+    held.set_edition(Edition::E2018)?;
+    assert!(rt; held.edition() == Edition::E2018 && held.tokens().len() == 6);
+    assert!(rt; held.shebang_len() == 3 && held.body().number == 2);
     Ok(())
 }

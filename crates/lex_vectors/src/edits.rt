@@ -2,32 +2,67 @@
 use crate::rows::Made;
 use crate::steppers::{Characters, Counting};
 use crate::tables::edits::{CHARACTERS, EditRow, LONG, SHORT, Step};
-use rustc_lexer::{Edit, EditStop, Edition, LexedText, Stepper, fits};
+use rustc_lexer::{Edit, EditStop, Edition, LexedText, Relexed, Stepper, Token, fits};
 use std::alloc::{AllocError, Global};
 
+/// A type that keeps a text with its tokens.
+pub(crate) trait Keeps {
+    fn text(&self) -> &str;
+
+    fn tokens(&self) -> &[Token];
+
+    /// Makes the edit, or answers `None` where it is not accepted.
+    fn try_edit(
+        &mut self,
+        start: usize,
+        stop: usize,
+        insert: &str,
+    ) -> Result<Option<Relexed>, AllocError>;
+
+    fn try_edits(&mut self, edits: &[Edit<'_>]) -> Result<(), EditStop>;
+}
+
+impl<S: Stepper> Keeps for LexedText<S> {
+    fn text(&self) -> &str {
+        self.text()
+    }
+
+    fn tokens(&self) -> &[Token] {
+        self.tokens()
+    }
+
+    fn try_edit(
+        &mut self,
+        start: usize,
+        stop: usize,
+        insert: &str,
+    ) -> Result<Option<Relexed>, AllocError> {
+        if !self.accepts(start, stop, insert) {
+            return Ok(None);
+        }
+        Ok(Some(self.edit(start, stop, insert)?))
+    }
+
+    fn try_edits(&mut self, edits: &[Edit<'_>]) -> Result<(), EditStop> {
+        self.edit_all(edits)
+    }
+}
+
 /// Whether the text and the tokens are these.
-fn is_left<S: Stepper>(lexed: &LexedText<S>, made: &Made) -> bool {
+fn is_left<K: Keeps>(lexed: &K, made: &Made) -> bool {
     lexed.text() == made.text.as_str() && lexed.tokens() == made.tokens.as_slice()
 }
 
 /// Makes the edit, where it is accepted. Answers whether it has its counts, or is refused as it should be.
-fn is_made<S: Stepper>(
-    alloc: Global,
-    lexed: &mut LexedText<S>,
-    step: &Step,
-) -> Result<bool, AllocError> {
+fn is_made<K: Keeps>(alloc: Global, lexed: &mut K, step: &Step) -> Result<bool, AllocError> {
     let made = Made::of(alloc, step.insert)?;
-    let insert = made.text.as_str();
-    if !lexed.accepts(step.start, step.stop, insert) {
-        return Ok(step.counts.is_none());
-    }
-    Ok(Some(lexed.edit(step.start, step.stop, insert)?) == step.counts)
+    Ok(lexed.try_edit(step.start, step.stop, made.text.as_str())? == step.counts)
 }
 
 /// Makes the edits one by one. Answers whether each is as the row says, and so is what they leave.
-fn is_edited<S: Stepper>(
+pub(crate) fn is_edited<K: Keeps>(
     alloc: Global,
-    lexed: &mut LexedText<S>,
+    lexed: &mut K,
     row: &EditRow,
 ) -> Result<bool, AllocError> {
     for step in row.steps {
@@ -39,9 +74,9 @@ fn is_edited<S: Stepper>(
 }
 
 /// Whether the edits as a list come to the same, and an empty list behind them changes nothing.
-fn is_listed(
+pub(crate) fn is_listed<K: Keeps>(
     alloc: Global,
-    lexed: &mut LexedText<Counting>,
+    lexed: &mut K,
     row: &EditRow,
 ) -> Result<bool, AllocError> {
     let mut inserts = Vec::new(alloc);
@@ -62,15 +97,15 @@ fn is_listed(
     };
     let made = Made::of(alloc, row.made)?;
     Ok(
-        lexed.edit_all(edits.as_slice()) == end
+        lexed.try_edits(edits.as_slice()) == end
             && is_left(lexed, &made)
-            && lexed.edit_all(&[]) == Ok(())
+            && lexed.try_edits(&[]) == Ok(())
             && is_left(lexed, &made),
     )
 }
 
 /// How many tokens the edits of the row lex.
-fn lexed_by(row: &EditRow) -> u64 {
+pub(crate) fn lexed_by(row: &EditRow) -> u64 {
     let mut lexed = 0u64;
     for step in row.steps {
         if let Some(counts) = step.counts {

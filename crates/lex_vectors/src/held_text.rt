@@ -13,7 +13,7 @@ fn is_piece(piece: Option<Piece<'_>>, start: u32, text: &str) -> bool {
 }
 
 /// Whether these are the starts and the texts of the pieces.
-fn are_pieces(pieces: Pieces<'_>, rows: &[(u32, &str)]) -> bool {
+pub(crate) fn are_pieces(pieces: Pieces<'_>, rows: &[(u32, &str)]) -> bool {
     let mut pieces = pieces;
     let (least, most) = pieces.size_hint();
     if pieces.len() != rows.len() || least != rows.len() || most != Some(rows.len()) {

@@ -1,7 +1,8 @@
-//! The rows, as data. The tests of the bindings read these files too: each names nothing but the lexer's types, and other
+//! The rows, as data. The tests of plain Rust read these files too: each names nothing but the lexer's types, and other
 //! tables.
 pub(crate) mod all;
 pub(crate) mod comments;
+pub(crate) mod documents;
 pub(crate) mod editions;
 pub(crate) mod edits;
 pub(crate) mod first_path;

@@ -40,8 +40,8 @@ pub fn write_listing<W: Write>(
     start: u32,
     tokens: &[Token],
 ) -> Result<(), Fault>
-    requires fits { start + bound tokens.now (length tokens.now) < 2 ^ 32 }
     requires writes { output.old.failed ≡ false }
+    requires fits { start + bound tokens.now (length tokens.now) < 2 ^ 32 }
     ensures write { IfErr result (λ fault. fault ≡ Fault.Write) }
     ensures failed { output.new.failed ≡ is_err result }
     ensures flushed { IfOk result (λ _. output.new.flushed ≡ true) }

@@ -9,14 +9,18 @@
 //! themselves were refused memory, the line is that of the rows.
 #![tactic(auto)]
 
+mod documents;
 mod dumping;
 mod lexing;
 
+use crate::documents::{DOCUMENTS, document_edition_holds, document_holds, document_list_holds};
 use crate::dumping::dump;
 use crate::lexing::lexing_holds;
 use ends::past_name;
 use lex_vectors::steppers::Counting;
-use rustc_lexer::{Edit, EditStop, Edition, LexedText, Relexed, Stepper, Steps, fits, tokenize_in};
+use rustc_lexer::{
+    EditStop, Edition, LexedText, Pieces, Relexed, Stepper, Steps, Tokens, fits, tokenize_in,
+};
 use std::alloc::{AllocError, Global};
 use std::{env, io};
 
@@ -56,14 +60,11 @@ fn held(alloc: Global, text: &str) -> Option<LexedText<Steps>> {
     }
 }
 
-/// Whether the text is held with its tokens of the edition, and its pieces make it up.
-fn is_held<S: Stepper>(lexed: &LexedText<S>, edition: Edition, text: &str) -> bool {
-    if lexed.text() != text || !fits(text) {
-        return false;
-    }
-    let mut tokens = tokenize_in(text, edition);
+/// Whether the pieces make the text up, and their tokens are these.
+fn are_pieces(pieces: Pieces<'_>, tokens: Tokens<'_>, text: &str) -> bool {
+    let mut tokens = tokens;
     let mut left = text.as_bytes();
-    for piece in lexed.pieces() {
+    for piece in pieces {
         if tokens.next() != Some(piece.token) {
             return false;
         }
@@ -72,7 +73,15 @@ fn is_held<S: Stepper>(lexed: &LexedText<S>, edition: Edition, text: &str) -> bo
             None => return false,
         }
     }
-    left.is_empty() && tokens.next().is_none() && lexed.tokens().len() == lexed.pieces().count()
+    left.is_empty() && tokens.next().is_none()
+}
+
+/// Whether the text is held with its tokens of the edition, and its pieces make it up.
+fn is_held<S: Stepper>(lexed: &LexedText<S>, edition: Edition, text: &str) -> bool {
+    lexed.text() == text
+        && fits(text)
+        && are_pieces(lexed.pieces(), tokenize_in(text, edition), text)
+        && lexed.tokens().len() == lexed.pieces().count()
 }
 
 /// Whether the edit makes what it should, or leaves all as it was where it is refused memory.
@@ -104,13 +113,15 @@ fn edit_holds(alloc: Global, row: EditRow) -> bool {
 /// An edit: `start..stop insert`.
 macro_rules! edit {
     ($start:literal .. $stop:literal $insert:literal) => {
-        Edit {
+        rustc_lexer::Edit {
             start: $start,
             stop: $stop,
             insert: $insert,
         }
     };
 }
+
+pub(crate) use edit;
 
 /// Whether the edits before the one that is refused memory stand, and no other.
 fn list_holds(alloc: Global) -> bool {
@@ -186,10 +197,23 @@ fn tell_rows(rt: &HostRuntime) -> io::Result<()> {
             println!(rt; "edit {number} does not hold")?;
         }
     }
+    for (number, row) in DOCUMENTS.iter().enumerate() {
+        if !document_holds(rt.alloc(), *row) {
+            println!(rt; "edit {number} of a document does not hold")?;
+        }
+    }
     for (holds, what) in [
         (list_holds(rt.alloc()), "the list of edits"),
         (bad_edit_holds(rt.alloc()), "the bad edit"),
         (edition_holds(rt.alloc()), "the other edition"),
+        (
+            document_list_holds(rt.alloc()),
+            "the list of edits of a document",
+        ),
+        (
+            document_edition_holds(rt.alloc()),
+            "the other edition of a document",
+        ),
         (lexing_holds(), "a call that takes no memory"),
     ] {
         if !holds {

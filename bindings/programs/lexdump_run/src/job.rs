@@ -12,9 +12,9 @@ use rustc_lexer::erased::{Edit, Edition};
 pub enum Job<'a> {
     /// List the tokens of the text in an edition.
     Plain { edition: Edition },
-    /// List them, where a frontmatter may stand in front.
-    Front { edition: Edition },
-    /// Tell the length of the shebang line.
+    /// List the tokens of the text in the newest edition, where a frontmatter may stand in front.
+    Front,
+    /// Print the length of the shebang line.
     Shebang,
     /// List the tokens of the text after the edits, in an edition.
     Edit {
@@ -27,6 +27,7 @@ pub enum Job<'a> {
 /// known to be good.
 pub fn read_job<'a>(alloc: Global, words: &'a [String]) -> Result<Job<'a>, Fault> {
     match words {
+        [command] if command.as_str() == "front" => Ok(Job::Front),
         [command] if command.as_str() == "shebang" => Ok(Job::Shebang),
         [option, year, rest @ ..] if option.as_str() == "--edition" => {
             let Ok(edition) = Edition::from_str(year.as_str()) else {
@@ -38,11 +39,10 @@ pub fn read_job<'a>(alloc: Global, words: &'a [String]) -> Result<Job<'a>, Fault
     }
 }
 
-/// Reads the words of a job that lists the tokens of an edition.
+/// Reads the words of a job that may name an edition.
 fn read_job_in<'a>(alloc: Global, words: &'a [String], edition: Edition) -> Result<Job<'a>, Fault> {
     match words {
         [] => Ok(Job::Plain { edition }),
-        [command] if command.as_str() == "front" => Ok(Job::Front { edition }),
         [command, edits @ ..] if command.as_str() == "edit" => read_edit_job(alloc, edits, edition),
         _ => Err(Fault::Arguments),
     }

@@ -6,7 +6,10 @@ mod listing;
 mod output;
 pub mod program;
 pub mod report;
-pub mod run;
+mod run_job;
 
+pub use ends::Watched;
 pub use fault::{Fault, status};
 pub use job::{Job, read_job};
+pub use listing::write_listing;
+pub use run_job::run;

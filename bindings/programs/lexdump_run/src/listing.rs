@@ -22,6 +22,17 @@ fn new_buffer() -> [Token; BUFFER_LEN] {
     }; BUFFER_LEN]
 }
 
+/// Writes the lines of tokens, of which the first begins at the byte `start`, and flushes the output.
+pub fn write_listing<W: Write>(
+    output: &mut Watched<W>,
+    start: u32,
+    tokens: &[Token],
+) -> Result<(), Fault> {
+    let mut lines = Block::new();
+    push_lines(&mut lines, output, start, tokens)?;
+    lines.finish(output)
+}
+
 /// Lists the tokens of a text, which has at most `u32::MAX` bytes, in an edition.
 pub fn list_tokens<W: Write>(
     lines: &mut Block,

@@ -3,7 +3,7 @@
 use crate::fault::Fault;
 use crate::job::read_job;
 use crate::report::report;
-use crate::run::run;
+use crate::run_job::run;
 use ends::{Watched, past_name};
 use rattle_std::alloc::Global;
 use rattle_std::env::Args;

@@ -26,16 +26,16 @@ pub struct EditRow {
 /// refused.
 macro_rules! edits {
     ($($edition:ident $text:tt $(($start:literal..$stop:literal $insert:tt $(: $counts:tt)?))* => $made:tt $tokens:tt),* $(,)?) => {
-        &[$(EditRow {
-            edition: Edition::$edition,
-            text: parts!($text => []),
-            steps: &[$(Step {
+        &[$($crate::tables::edits::EditRow {
+            edition: rustc_lexer::Edition::$edition,
+            text: $crate::tables::row::parts!($text => []),
+            steps: &[$($crate::tables::edits::Step {
                 start: $start,
                 stop: $stop,
-                insert: parts!($insert => []),
-                counts: counts!($($counts)?),
+                insert: $crate::tables::row::parts!($insert => []),
+                counts: $crate::tables::edits::counts!($($counts)?),
             }),*],
-            made: parts!($made => $tokens),
+            made: $crate::tables::row::parts!($made => $tokens),
         }),*]
     };
 }
@@ -45,13 +45,16 @@ macro_rules! counts {
         None
     };
     ([$kept_front:literal, $lexed:literal, $kept_back:literal]) => {
-        Some(Relexed {
+        Some(rustc_lexer::Relexed {
             kept_front: $kept_front,
             lexed: $lexed,
             kept_back: $kept_back,
         })
     };
 }
+
+pub(crate) use counts;
+pub(crate) use edits;
 
 pub static SHORT: &[EditRow] = edits! {
     E2024 "" (0..0 "": [0, 0, 0]) => "" [],

@@ -16,7 +16,7 @@ macro_rules! front {
 pub(crate) const FRONT: TokenKind = front!(false, false);
 
 /// One with something else than an infostring after its dashes.
-const BAD_INFOSTRING: TokenKind = front!(false, true);
+pub(crate) const BAD_INFOSTRING: TokenKind = front!(false, true);
 
 /// One with white space before its dashes.
 const SPACED: TokenKind = front!(true, false);

@@ -25,11 +25,11 @@ mod in_edition;
 /// For a part of a document, where no frontmatter may stand, there is [`LexedText`](crate::LexedText).
 ///
 /// ```ignore
-/// let mut held = LexedDocument::new(alloc, "#!/bin/sh\n---cargo\n---\nfn f")?;
+/// let mut held = LexedDocument::new(alloc, "#!/bin/sh\n---cargo\n---\nfn")?;
 /// let end = held.text().len();
 /// if held.accepts(end, end, "x") {
 ///     let counts = held.edit(end, end, "x")?;
-///     assert_eq!((counts.kept_front, counts.lexed, counts.kept_back), (5, 1, 0));
+///     assert_eq!((counts.kept_front, counts.lexed, counts.kept_back), (3, 1, 0));
 /// }
 /// ```
 pub struct LexedDocument<S: Stepper> {

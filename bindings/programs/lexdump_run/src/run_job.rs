@@ -7,7 +7,7 @@ use crate::output::Block;
 use ends::{Watched, read_all};
 use rattle_std::alloc::Global;
 use rattle_std::io::{Read, Write};
-use rustc_lexer::erased::FrontmatterAllowed;
+use rustc_lexer::erased::{Edition, FrontmatterAllowed};
 
 /// Reads all of the input, and then writes what the job prints of it.
 ///
@@ -42,9 +42,7 @@ fn print<W: Write>(
         Job::Plain { edition } => {
             list_tokens(lines, output, text, FrontmatterAllowed::No, *edition)
         }
-        Job::Front { edition } => {
-            list_tokens(lines, output, text, FrontmatterAllowed::Yes, *edition)
-        }
+        Job::Front => list_tokens(lines, output, text, FrontmatterAllowed::Yes, Edition::E2024),
         Job::Shebang => tell_shebang(lines, output, text),
         Job::Edit { edition, edits } => {
             let lexed = edited(alloc, text, *edition, edits.as_slice())?;

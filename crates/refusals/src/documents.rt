@@ -1,0 +1,106 @@
+//! Rows of documents that are kept with their tokens: what is left of them where a request for memory is refused.
+use crate::{EditRow, are_pieces, edit, relexed};
+use lex_vectors::steppers::Counting;
+use rustc_lexer::{
+    EditStop, Edition, FrontmatterAllowed, LexedDocument, Relexed, Stepper, fits, strip_shebang,
+    tokenize_as,
+};
+use std::alloc::{AllocError, Global};
+
+/// A letter behind a shebang line and a frontmatter; a letter in a frontmatter; a fence, and a bracket that makes a shebang
+/// line an attribute.
+pub(crate) const DOCUMENTS: [EditRow; 4] = [
+    (
+        "#!a\n---\nb\n---\nfn",
+        (16, 16, "x"),
+        "#!a\n---\nb\n---\nfnx",
+        [3, 1, 0],
+    ),
+    (
+        "---\nb\n---\nfn",
+        (5, 5, "c"),
+        "---\nbc\n---\nfn",
+        [0, 1, 2],
+    ),
+    ("---\na\n--\nb", (8, 8, "-"), "---\na\n---\nb", [0, 3, 0]),
+    ("#!\nb", (3, 3, "["), "#!\n[b", [0, 4, 1]),
+];
+
+/// Whether the document is held with its tokens of the edition, and its pieces make it up past the shebang line.
+fn is_held<S: Stepper>(held: &LexedDocument<S>, edition: Edition, text: &str) -> bool {
+    if held.text() != text || !fits(text) {
+        return false;
+    }
+    let start = strip_shebang(text).unwrap_or(0);
+    let rest = &text[start..];
+    let tokens = tokenize_as(rest, FrontmatterAllowed::Yes, edition);
+    held.shebang_len() == start
+        && are_pieces(held.pieces(), tokens, rest)
+        && held.tokens().len() == held.pieces().count()
+}
+
+/// Whether an edit had these counts and made this text, or was refused memory and left the other text.
+fn is_done(
+    held: &LexedDocument<Counting>,
+    answer: Result<Relexed, AllocError>,
+    want: Relexed,
+    made: &str,
+    text: &str,
+) -> bool {
+    match answer {
+        Ok(counts) => counts == want && is_held(held, Edition::E2024, made),
+        Err(_) => is_held(held, Edition::E2024, text),
+    }
+}
+
+/// Whether the edit makes what it should, or leaves all as it was where it is refused memory: so made once more it makes
+/// what it should.
+pub(crate) fn document_holds(alloc: Global, row: EditRow) -> bool {
+    let (text, (start, stop, insert), made, counts) = row;
+    if !fits(text) {
+        return false;
+    }
+    let Ok(mut held) = LexedDocument::with(alloc, text, Counting::new()) else {
+        return true;
+    };
+    if !held.accepts(start, stop, insert) {
+        return false;
+    }
+    let want = relexed(counts);
+    let answer = held.edit(start, stop, insert);
+    if answer.is_ok() {
+        return is_done(&held, answer, want, made, text);
+    }
+    if !is_held(&held, Edition::E2024, text) || !held.accepts(start, stop, insert) {
+        return false;
+    }
+    let again = held.edit(start, stop, insert);
+    is_done(&held, again, want, made, text)
+}
+
+/// Whether the edits before the one that is refused memory stand, and no other.
+pub(crate) fn document_list_holds(alloc: Global) -> bool {
+    let Ok(mut held) = LexedDocument::new(alloc, "--\n---\nb") else {
+        return true;
+    };
+    let left = match held.edit_all(&[edit!(0..0 "-"), edit!(0..0 "#!a\n")]) {
+        Ok(()) => "#!a\n---\n---\nb",
+        Err(EditStop::Memory { at: 0 }) => "--\n---\nb",
+        Err(EditStop::Memory { at: 1 }) => "---\n---\nb",
+        Err(_) => return false,
+    };
+    is_held(&held, Edition::E2024, left)
+}
+
+/// Whether another edition is taken with its tokens, or nothing changes where it is refused memory.
+pub(crate) fn document_edition_holds(alloc: Global) -> bool {
+    let text = "---\n---\n'r#foo";
+    let Ok(mut held) = LexedDocument::new(alloc, text) else {
+        return true;
+    };
+    let edition = match held.set_edition(Edition::E2018) {
+        Ok(()) => Edition::E2018,
+        Err(_) => Edition::E2024,
+    };
+    held.edition() == edition && is_held(&held, edition, text)
+}
