@@ -1,0 +1,472 @@
+/* The lexer for C: the calls of the library rustc_lexer_c, static or shared. Cargo builds it of files that are a proved
+ * source less its contracts; its README says what is claimed. Rattle, which proves the source, builds it too, for x86-64
+ * Linux, with the same calls and answers.
+ *
+ * A text is a pointer to its bytes and their number. It needs no zero at its end, and may have zeros in it.
+ * Nothing takes memory, and nothing keeps a pointer past its call. Calls may be made from any thread.
+ *
+ * What the caller promises, which no call can test:
+ *   - no pointer is null, but one whose length is 0 may be;
+ *   - `len` bytes can be read at `text`, and nothing writes to them during the call;
+ *   - each pointer that is not const points to memory that the caller may write to, that is aligned for its type
+ *     and that nothing else uses during the call: `buffer` to `buffer_len` tokens, units or bytes, the others to
+ *     one value. What is there before the call does not matter, but for `place` and `relexing`;
+ *   - `old_len` tokens can be read at `old`, and one value at `edit`. Both pointers are aligned for their types, and
+ *     nothing writes to what they point to during the call;
+ *   - what the calls with `_unchecked` say of their texts.
+ * All else is tested. Each call answers a status; with one that is not 0 it has written zeros, or nothing where that
+ * is said.
+ *
+ * The numbers here are fixed. A new kind of token gets a new number.
+ *
+ * This is C11, which first had the unions without a name that a token has, and it is C++ too.
+ */
+#ifndef RUSTC_LEXER_H
+#define RUSTC_LEXER_H
+
+#include <stdbool.h>
+#include <stddef.h>
+#include <stdint.h>
+
+#ifdef __cplusplus
+extern "C" {
+#endif
+
+/* Statuses. They are judged in the order 2, 1, and then 3 or 4 or 7, or 5 and 6, or 5, 8 and 9. */
+enum {
+    RUSTC_LEXER_OK = 0,
+    RUSTC_LEXER_NOT_UTF8 = 1,  /* the text is not UTF-8 */
+    RUSTC_LEXER_TOO_LONG = 2,  /* the text has more than 4294967295 bytes */
+    RUSTC_LEXER_BAD_PLACE = 3, /* the place is past the end of the text, or inside a character */
+    RUSTC_LEXER_NOT_RAW = 4,   /* character number prefix_len of the text, counted from 1, is no r */
+    RUSTC_LEXER_BAD_EDITION = 5, /* the edition is none of 2015, 2018, 2021 and 2024 */
+    RUSTC_LEXER_BAD_EDIT = 6,  /* the edit cannot have made the text, or relexing cannot go on from the numbers */
+    RUSTC_LEXER_BAD_MODE = 7,  /* the mode is none of the kinds of literals from RUSTC_LEXER_CHAR on */
+    RUSTC_LEXER_BAD_STYLE = 8, /* the style is none of RUSTC_LEXER_STYLE_.. */
+    RUSTC_LEXER_SMALL_BUFFER = 9 /* there is more to write than room */
+};
+
+/* Kinds of tokens. No token that is written has the kind 0 or 43. */
+enum {
+    RUSTC_LEXER_LINE_COMMENT = 1,
+    RUSTC_LEXER_BLOCK_COMMENT = 2,
+    RUSTC_LEXER_WHITESPACE = 3,
+    RUSTC_LEXER_FRONTMATTER = 4,
+    RUSTC_LEXER_IDENT = 5,
+    RUSTC_LEXER_INVALID_IDENT = 6,
+    RUSTC_LEXER_RAW_IDENT = 7,
+    RUSTC_LEXER_FORCED_KEYWORD_IDENT = 8,
+    RUSTC_LEXER_UNKNOWN_PREFIX = 9,
+    RUSTC_LEXER_UNKNOWN_PREFIX_LIFETIME = 10,
+    RUSTC_LEXER_RAW_LIFETIME = 11,
+    RUSTC_LEXER_GUARDED_STR_PREFIX = 12,
+    RUSTC_LEXER_LITERAL = 13,
+    RUSTC_LEXER_LIFETIME = 14,
+    RUSTC_LEXER_SEMI = 15,
+    RUSTC_LEXER_COMMA = 16,
+    RUSTC_LEXER_DOT = 17,
+    RUSTC_LEXER_OPEN_PAREN = 18,
+    RUSTC_LEXER_CLOSE_PAREN = 19,
+    RUSTC_LEXER_OPEN_BRACE = 20,
+    RUSTC_LEXER_CLOSE_BRACE = 21,
+    RUSTC_LEXER_OPEN_BRACKET = 22,
+    RUSTC_LEXER_CLOSE_BRACKET = 23,
+    RUSTC_LEXER_AT = 24,
+    RUSTC_LEXER_POUND = 25,
+    RUSTC_LEXER_TILDE = 26,
+    RUSTC_LEXER_QUESTION = 27,
+    RUSTC_LEXER_COLON = 28,
+    RUSTC_LEXER_DOLLAR = 29,
+    RUSTC_LEXER_EQ = 30,
+    RUSTC_LEXER_BANG = 31,
+    RUSTC_LEXER_LT = 32,
+    RUSTC_LEXER_GT = 33,
+    RUSTC_LEXER_MINUS = 34,
+    RUSTC_LEXER_AND = 35,
+    RUSTC_LEXER_OR = 36,
+    RUSTC_LEXER_PLUS = 37,
+    RUSTC_LEXER_STAR = 38,
+    RUSTC_LEXER_SLASH = 39,
+    RUSTC_LEXER_CARET = 40,
+    RUSTC_LEXER_PERCENT = 41,
+    RUSTC_LEXER_UNKNOWN = 42,
+    RUSTC_LEXER_EOF = 43
+};
+
+/* Kinds of literals. */
+enum {
+    RUSTC_LEXER_INT = 1,
+    RUSTC_LEXER_FLOAT = 2,
+    RUSTC_LEXER_CHAR = 3,
+    RUSTC_LEXER_BYTE = 4,
+    RUSTC_LEXER_STR = 5,
+    RUSTC_LEXER_BYTE_STR = 6,
+    RUSTC_LEXER_C_STR = 7,
+    RUSTC_LEXER_RAW_STR = 8,
+    RUSTC_LEXER_RAW_BYTE_STR = 9,
+    RUSTC_LEXER_RAW_C_STR = 10
+};
+
+/* Styles of doc comments. */
+enum {
+    RUSTC_LEXER_NO_DOC = 0,
+    RUSTC_LEXER_OUTER_DOC = 1,
+    RUSTC_LEXER_INNER_DOC = 2
+};
+
+/* A token, of 12 bytes. Behind its kind stand the fields of the kind, a byte for each. The names of one union belong to
+ * different kinds. A byte that the kind has no field for is 0, and a field that says whether something is so is 0 or
+ * 1. */
+struct rustc_lexer_token {
+    uint8_t kind;
+    union {
+        uint8_t doc_style;                        /* of a comment */
+        uint8_t literal_kind;                     /* of a literal */
+        uint8_t starts_with_number;               /* of a lifetime: it begins with a digit or holds an emoji */
+        uint8_t has_invalid_preceding_whitespace; /* of a frontmatter: white space stands before it that ends no line */
+    };
+    union {
+        uint8_t terminated;         /* of a block comment, or a literal in quotes that is not raw: it is closed */
+        uint8_t base;               /* of an integer or a float: 2, 8, 10 or 16 */
+        uint8_t has_hashes;         /* of a raw string: it is not refused, and n_hashes is the number of its hashes */
+        uint8_t invalid_infostring; /* of a frontmatter: its first line is a bad one */
+    };
+    union {
+        uint8_t empty_int;      /* of an integer: it has no digit behind the prefix of its base */
+        uint8_t empty_exponent; /* of a float: its exponent has no digit */
+        uint8_t n_hashes;       /* of a raw string */
+    };
+    uint32_t suffix_start; /* of a literal: where its suffix begins, in bytes from the token's start; len: none */
+    uint32_t len;          /* in bytes, at least 1 */
+};
+
+/* The name of a kind of token, or "" for another number. */
+static inline const char *rustc_lexer_kind_name(uint8_t kind) {
+    switch (kind) {
+    case RUSTC_LEXER_LINE_COMMENT: return "LineComment";
+    case RUSTC_LEXER_BLOCK_COMMENT: return "BlockComment";
+    case RUSTC_LEXER_WHITESPACE: return "Whitespace";
+    case RUSTC_LEXER_FRONTMATTER: return "Frontmatter";
+    case RUSTC_LEXER_IDENT: return "Ident";
+    case RUSTC_LEXER_INVALID_IDENT: return "InvalidIdent";
+    case RUSTC_LEXER_RAW_IDENT: return "RawIdent";
+    case RUSTC_LEXER_FORCED_KEYWORD_IDENT: return "ForcedKeywordIdent";
+    case RUSTC_LEXER_UNKNOWN_PREFIX: return "UnknownPrefix";
+    case RUSTC_LEXER_UNKNOWN_PREFIX_LIFETIME: return "UnknownPrefixLifetime";
+    case RUSTC_LEXER_RAW_LIFETIME: return "RawLifetime";
+    case RUSTC_LEXER_GUARDED_STR_PREFIX: return "GuardedStrPrefix";
+    case RUSTC_LEXER_LITERAL: return "Literal";
+    case RUSTC_LEXER_LIFETIME: return "Lifetime";
+    case RUSTC_LEXER_SEMI: return "Semi";
+    case RUSTC_LEXER_COMMA: return "Comma";
+    case RUSTC_LEXER_DOT: return "Dot";
+    case RUSTC_LEXER_OPEN_PAREN: return "OpenParen";
+    case RUSTC_LEXER_CLOSE_PAREN: return "CloseParen";
+    case RUSTC_LEXER_OPEN_BRACE: return "OpenBrace";
+    case RUSTC_LEXER_CLOSE_BRACE: return "CloseBrace";
+    case RUSTC_LEXER_OPEN_BRACKET: return "OpenBracket";
+    case RUSTC_LEXER_CLOSE_BRACKET: return "CloseBracket";
+    case RUSTC_LEXER_AT: return "At";
+    case RUSTC_LEXER_POUND: return "Pound";
+    case RUSTC_LEXER_TILDE: return "Tilde";
+    case RUSTC_LEXER_QUESTION: return "Question";
+    case RUSTC_LEXER_COLON: return "Colon";
+    case RUSTC_LEXER_DOLLAR: return "Dollar";
+    case RUSTC_LEXER_EQ: return "Eq";
+    case RUSTC_LEXER_BANG: return "Bang";
+    case RUSTC_LEXER_LT: return "Lt";
+    case RUSTC_LEXER_GT: return "Gt";
+    case RUSTC_LEXER_MINUS: return "Minus";
+    case RUSTC_LEXER_AND: return "And";
+    case RUSTC_LEXER_OR: return "Or";
+    case RUSTC_LEXER_PLUS: return "Plus";
+    case RUSTC_LEXER_STAR: return "Star";
+    case RUSTC_LEXER_SLASH: return "Slash";
+    case RUSTC_LEXER_CARET: return "Caret";
+    case RUSTC_LEXER_PERCENT: return "Percent";
+    case RUSTC_LEXER_UNKNOWN: return "Unknown";
+    case RUSTC_LEXER_EOF: return "Eof";
+    default: return "";
+    }
+}
+
+/* The name of a kind of literal, or "" for another number. */
+static inline const char *rustc_lexer_literal_kind_name(uint8_t literal_kind) {
+    switch (literal_kind) {
+    case RUSTC_LEXER_INT: return "Int";
+    case RUSTC_LEXER_FLOAT: return "Float";
+    case RUSTC_LEXER_CHAR: return "Char";
+    case RUSTC_LEXER_BYTE: return "Byte";
+    case RUSTC_LEXER_STR: return "Str";
+    case RUSTC_LEXER_BYTE_STR: return "ByteStr";
+    case RUSTC_LEXER_C_STR: return "CStr";
+    case RUSTC_LEXER_RAW_STR: return "RawStr";
+    case RUSTC_LEXER_RAW_BYTE_STR: return "RawByteStr";
+    case RUSTC_LEXER_RAW_C_STR: return "RawCStr";
+    default: return "";
+    }
+}
+
+/* A place in a text. A text begins at {0, 0}, and a whole document at {line_len, 1}: past its shebang line, of which
+ * rustc_lexer_strip_shebang writes the length. */
+struct rustc_lexer_place {
+    uint32_t at;                  /* in bytes from the start of the text */
+    uint32_t frontmatter_allowed; /* whether a frontmatter may stand there: 0 for no, any other number for yes */
+};
+
+/* An edit that was made, in bytes from the start of the text. It took out what stood from `start` up to `old_stop` of
+ * the old text, and put in what stands from `start` up to `new_stop` of the present one. */
+struct rustc_lexer_edit {
+    uint32_t start;
+    uint32_t old_stop;
+    uint32_t new_stop;
+};
+
+/* How far an edited text is lexed again. All zeros is a good beginning. */
+struct rustc_lexer_relexing {
+    size_t kept_front;  /* how many old tokens stay at the front; at stage 0, see rustc_lexer_relex */
+    size_t front_place; /* where they end, in bytes from the start of the text */
+    size_t lexed;       /* how many tokens all calls together have written */
+    size_t kept_back;   /* at stage 2: how many old tokens stay at the back */
+    size_t back_place;  /* at stage 2: where those begin, in bytes from the start of the old text */
+    size_t at;          /* where what was written ends, in bytes from the start of the present text; at stage 2 those at
+                           the back begin there */
+    size_t stage;       /* 0: to begin; 1: there are more tokens to write; 2: there are none */
+};
+
+/* Why a raw string is refused. A field that the error does not have is 0. */
+struct rustc_lexer_raw_str_error {
+    uint32_t error;      /* 0: none; 1: invalid starter; 2: no terminator; 3: too many delimiters */
+    uint32_t bad_char;   /* of 1: the character, or 0 at the end of the text */
+    uint32_t expected;   /* of 2: how many hashes would close the string */
+    uint32_t found;      /* of 2: the most hashes behind a quote in it; of 3: how many there are */
+    uint32_t has_offset; /* of 2: whether there is an offset, 0 or 1 */
+    uint32_t possible_terminator_offset; /* of 2: where the first quote with so many hashes ends: in bytes past the
+                                            prefix, and prefix_len more */
+};
+
+/* A guarded string. All is 0 where there is none. */
+struct rustc_lexer_guarded_str {
+    uint32_t is_some;    /* whether there is one, 0 or 1 */
+    uint32_t n_hashes;   /* before the string */
+    uint32_t terminated; /* whether a quote closes it, 0 or 1 */
+    uint32_t token_len;  /* of all of it, in bytes */
+};
+
+/* Kinds of units. */
+enum {
+    RUSTC_LEXER_UNIT_CHAR = 1,    /* a character */
+    RUSTC_LEXER_UNIT_BYTE = 2,    /* a byte; in a C string one from 128 on */
+    RUSTC_LEXER_UNIT_ERROR = 3,   /* something is wrong */
+    RUSTC_LEXER_UNIT_WARNING = 4  /* something that a reader may want to be warned of */
+};
+
+/* What is wrong in a literal. The last two are warnings. */
+enum {
+    RUSTC_LEXER_ZERO_CHARS = 1,
+    RUSTC_LEXER_MORE_THAN_ONE_CHAR = 2,
+    RUSTC_LEXER_LONE_SLASH = 3,
+    RUSTC_LEXER_INVALID_ESCAPE = 4,
+    RUSTC_LEXER_BARE_CARRIAGE_RETURN = 5,
+    RUSTC_LEXER_BARE_CARRIAGE_RETURN_IN_RAW_STRING = 6,
+    RUSTC_LEXER_ESCAPE_ONLY_CHAR = 7,
+    RUSTC_LEXER_TOO_SHORT_HEX_ESCAPE = 8,
+    RUSTC_LEXER_INVALID_CHAR_IN_HEX_ESCAPE = 9,
+    RUSTC_LEXER_OUT_OF_RANGE_HEX_ESCAPE = 10,
+    RUSTC_LEXER_NO_BRACE_IN_UNICODE_ESCAPE = 11,
+    RUSTC_LEXER_INVALID_CHAR_IN_UNICODE_ESCAPE = 12,
+    RUSTC_LEXER_EMPTY_UNICODE_ESCAPE = 13,
+    RUSTC_LEXER_UNCLOSED_UNICODE_ESCAPE = 14,
+    RUSTC_LEXER_LEADING_UNDERSCORE_UNICODE_ESCAPE = 15,
+    RUSTC_LEXER_OVERLONG_UNICODE_ESCAPE = 16,
+    RUSTC_LEXER_LONE_SURROGATE_UNICODE_ESCAPE = 17,
+    RUSTC_LEXER_OUT_OF_RANGE_UNICODE_ESCAPE = 18,
+    RUSTC_LEXER_UNICODE_ESCAPE_IN_BYTE = 19,
+    RUSTC_LEXER_NON_ASCII_CHAR_IN_BYTE = 20,
+    RUSTC_LEXER_NUL_IN_C_STR = 21,
+    RUSTC_LEXER_UNSKIPPED_WHITESPACE_WARNING = 22,
+    RUSTC_LEXER_MULTIPLE_SKIPPED_LINES_WARNING = 23
+};
+
+/* A unit of what a literal stands for, or what is wrong, and its place. */
+struct rustc_lexer_unit {
+    size_t start;   /* in bytes from the front of the text */
+    size_t end;     /* the same, past the last byte */
+    uint32_t kind;  /* RUSTC_LEXER_UNIT_.. */
+    uint32_t value; /* the character, the byte, or the number of what is wrong */
+};
+
+/* Styles of marks. */
+enum {
+    RUSTC_LEXER_STYLE_HTML = 1,      /* by the tags of a page, and entities for what a page would read as its own */
+    RUSTC_LEXER_STYLE_COLOURS = 2,   /* by escape sequences, in the colours of a terminal */
+    RUSTC_LEXER_STYLE_NO_COLOURS = 3 /* by the sentences of faults alone */
+};
+
+/* RUSTC_LEXER_OK for a text that is UTF-8 and short enough, else the status that the other calls have for it. */
+uint32_t rustc_lexer_check(const uint8_t *text, size_t len);
+
+/* Writes the tokens from a place on, as many as there is room for, and their number into `count`. The place moves
+ * behind them, and the next call goes on there. The tokens of all calls together are those that one call with room
+ * enough gives. `count` is less than `buffer_len` only at the end of the text. With `buffer_len` 0 no step is made:
+ * `count` is 0, and `at` stays. With another status than 0 the place and the buffer stay as they were, and `count` is
+ * 0.
+ *
+ * Each call tests the whole text. To lex a long text in many batches, call rustc_lexer_check once and then
+ * rustc_lexer_tokens_unchecked. */
+uint32_t rustc_lexer_tokens(const uint8_t *text, size_t len, struct rustc_lexer_place *place,
+                            struct rustc_lexer_token *buffer, size_t buffer_len, size_t *count);
+
+/* Does what rustc_lexer_tokens does. The caller promises that the text is UTF-8, and this is not tested: on another
+ * text the call may do anything. rustc_lexer_check tests it. The length and the place are tested here too.
+ *
+ * Each other call with `_unchecked` does what the one without does. It asks for the same promise, and does not test it.
+ * It costs what it reads, whatever the length of the text. */
+uint32_t rustc_lexer_tokens_unchecked(const uint8_t *text, size_t len, struct rustc_lexer_place *place,
+                                      struct rustc_lexer_token *buffer, size_t buffer_len, size_t *count);
+
+/* The first token of a text, for a caller who needs no other. All its bytes are 0 where the text is empty or has more
+ * than 4294967295 bytes. `frontmatter_allowed` is as in a place. The caller promises that the text is UTF-8, which is
+ * not tested. */
+struct rustc_lexer_token rustc_lexer_first_token_unchecked(const uint8_t *text, size_t len,
+                                                           uint32_t frontmatter_allowed);
+
+/* Keeps a list of tokens with a text under edits. `text` is the text after an edit, and `old` the tokens of the text
+ * before it, all of them. The tokens after it are
+ *
+ *     the first `kept_front` of `old`, the `lexed` tokens that are written, the last `kept_back` of `old`.
+ *
+ * Set `stage` to 0 before the first call for an edit. While it is 1 the buffer was too small: take the tokens from it
+ * and call again, with nothing else changed, as often as it takes. It is 2 when all are written. `count` is how many
+ * this call wrote; it is `buffer_len` at stage 1. With `buffer_len` 0 no step is made, so such calls alone need not
+ * come to stage 2.
+ *
+ * At stage 0 the search for the kept front begins at token `kept_front`, which begins at `front_place`. Any bound of
+ * the old tokens will do, and a near one makes the call fast: 0 and 0, or what the call for the edit before has left
+ * there.
+ *
+ * Of `old` only the lengths are read. Where they are not those of the tokens of the text before the edit, in the
+ * edition, or the two numbers at stage 0 are not a bound of them, the answer is of no use, but the call is as safe as
+ * with any others: it reads and writes where it may, and it ends. `kept_front` and `kept_back` together are then too
+ * no more than `old_len`.
+ *
+ * The edition is a year: 2015, 2018, 2021 or 2024. No frontmatter is allowed, so the tokens of 2024 are those of
+ * rustc_lexer_tokens from {0, 0}. To lex a whole text in an edition, pass no old tokens, the edit {0, 0, len} and
+ * zeros.
+ *
+ * With another status than 0 the buffer and `relexing` stay as they were, and `count` is 0. RUSTC_LEXER_BAD_EDIT says
+ * that `start` is past one of the others, that `start` or `new_stop` is past the end of the text or inside a
+ * character, or that at a later stage relexing cannot go on from the numbers: `at` is past the end of the text or
+ * inside a character, `lexed` is more than `at`, `kept_front` and `kept_back` together are more than `old_len`, or
+ * `back_place` is 2 to the power of 63 or more. What a call has left for this text is never refused. A stage past 2
+ * counts as 1.
+ *
+ * Each call tests the whole text. */
+uint32_t rustc_lexer_relex(const uint8_t *text, size_t len, const struct rustc_lexer_token *old, size_t old_len,
+                           const struct rustc_lexer_edit *edit, uint32_t edition,
+                           struct rustc_lexer_relexing *relexing, struct rustc_lexer_token *buffer, size_t buffer_len,
+                           size_t *count);
+
+/* Does what rustc_lexer_relex does. The caller promises that the text is UTF-8, which is not tested. A text that was
+ * UTF-8 is so after an edit between characters, where what is put in is. */
+uint32_t rustc_lexer_relex_unchecked(const uint8_t *text, size_t len, const struct rustc_lexer_token *old,
+                                     size_t old_len, const struct rustc_lexer_edit *edit, uint32_t edition,
+                                     struct rustc_lexer_relexing *relexing, struct rustc_lexer_token *buffer,
+                                     size_t buffer_len, size_t *count);
+
+/* Writes the length in bytes of the shebang line at the front of the text, without the end of the line, or 0 where
+ * there is none. A shebang line has at least 2 bytes. */
+uint32_t rustc_lexer_strip_shebang(const uint8_t *text, size_t len, size_t *line_len);
+uint32_t rustc_lexer_strip_shebang_unchecked(const uint8_t *text, size_t len, size_t *line_len);
+
+/* Writes the end of the last token that at least two characters follow, in bytes from the start of the text, or 0, with
+ * no frontmatter allowed. However the text goes on, its tokens up to there stay. */
+uint32_t rustc_lexer_settled(const uint8_t *text, size_t len, size_t *end);
+
+/* Checks the raw string that the text begins with, and writes why it is refused. `prefix_len` is the number of
+ * characters of its prefix, with the r: 1 for r, 2 for br and cr. */
+uint32_t rustc_lexer_validate_raw_str(const uint8_t *text, size_t len, uint32_t prefix_len,
+                                      struct rustc_lexer_raw_str_error *error);
+uint32_t rustc_lexer_validate_raw_str_unchecked(const uint8_t *text, size_t len, uint32_t prefix_len,
+                                                struct rustc_lexer_raw_str_error *error);
+
+/* Whether character number `prefix_len` of the text, counted from 1, is an r. The text may have any length. The caller
+ * promises that it is UTF-8, which is not tested.
+ *
+ * For a text of at most 4294967295 bytes this is false exactly where rustc_lexer_validate_raw_str has the status
+ * RUSTC_LEXER_NOT_RAW. For a longer one that has the status RUSTC_LEXER_TOO_LONG, whatever this call answers. */
+bool rustc_lexer_starts_raw_unchecked(const uint8_t *text, size_t len, uint32_t prefix_len);
+
+/* Writes the guarded string that the text begins with: hashes, a string, as many hashes at most, a suffix. */
+uint32_t rustc_lexer_guarded_str(const uint8_t *text, size_t len, struct rustc_lexer_guarded_str *string);
+uint32_t rustc_lexer_guarded_str_unchecked(const uint8_t *text, size_t len,
+                                           struct rustc_lexer_guarded_str *string);
+
+/* Writes what a literal stands for: the units of the text that stands between its quotes, in order, as many as there
+ * is room for, and their number into `count`. The first `passed` units are passed over. `mode` is the kind of the
+ * literal, from RUSTC_LEXER_CHAR to RUSTC_LEXER_RAW_C_STR, as its token has it in `literal_kind`.
+ *
+ * Between double quotes the places follow each other. A backslash at a line's end has no unit, with the white space
+ * that it skips. But each of the two warnings may tell of it, at a place that begins at the backslash. Between single
+ * quotes there is one unit, and its place is all of the text.
+ *
+ * A text has no more units than bytes, or one where it is empty. Each call reads the text from its front, so room for
+ * as many units as bytes makes one call do. With another status than 0 the buffer stays as it was, and `count` is 0. */
+uint32_t rustc_lexer_unescape(const uint8_t *text, size_t len, uint32_t mode, size_t passed,
+                              struct rustc_lexer_unit *buffer, size_t buffer_len, size_t *count);
+uint32_t rustc_lexer_unescape_unchecked(const uint8_t *text, size_t len, uint32_t mode, size_t passed,
+                                        struct rustc_lexer_unit *buffer, size_t buffer_len, size_t *count);
+
+/* Writes what is wrong in a literal, errors and warnings in order, and nothing else: as many as there is room for, past
+ * the first `passed`, and their number into `count`. It takes what rustc_lexer_unescape takes, and searches past what
+ * is not wrong, so it is much faster. Between single quotes one thing is wrong at most, and its place reaches from 0
+ * past the character that shows it. With another status than 0 the buffer stays as it was, and `count` is 0. */
+uint32_t rustc_lexer_literal_errors(const uint8_t *text, size_t len, uint32_t mode, size_t passed,
+                                    struct rustc_lexer_unit *buffer, size_t buffer_len, size_t *count);
+uint32_t rustc_lexer_literal_errors_unchecked(const uint8_t *text, size_t len, uint32_t mode, size_t passed,
+                                              struct rustc_lexer_unit *buffer, size_t buffer_len, size_t *count);
+
+/* Writes the first `count` tokens of the text, or all where it has fewer, each between its marks, into the buffer, and
+ * the number of bytes into `written`. The marks tell the class of a token and a sentence of what is wrong with it; in a
+ * literal they tell its escapes. The text is read as a part of a document in an edition, such as 2024, with no
+ * frontmatter and no shebang line. What is written is UTF-8, with no zero behind it. Behind it the buffer stays as it
+ * was.
+ *
+ * A token depends on nothing before it and on two characters past its end at most. So the caller may pass what is seen
+ * of a text from the start of a token on, with two characters more.
+ *
+ * With RUSTC_LEXER_SMALL_BUFFER any bytes may stand in the buffer, and the call is to be made again with more. With any
+ * other status than 0 the buffer stays as it was. With each of these `written` is 0. */
+uint32_t rustc_lexer_marks(const uint8_t *text, size_t len, uint32_t style, uint32_t edition, size_t count,
+                           uint8_t *buffer, size_t buffer_len, size_t *written);
+
+/* Writes 1 where the text is an identifier, else 0. */
+uint32_t rustc_lexer_is_ident(const uint8_t *text, size_t len, uint32_t *is);
+
+/* Whether the text is an identifier. It may have any length. The caller promises that it is UTF-8, which is not
+ * tested. */
+bool rustc_lexer_is_ident_unchecked(const uint8_t *text, size_t len);
+
+/* Classes of characters. False of a number that is no character. */
+bool rustc_lexer_is_whitespace(uint32_t code);
+bool rustc_lexer_is_horizontal_whitespace(uint32_t code);
+bool rustc_lexer_is_id_start(uint32_t code);
+bool rustc_lexer_is_id_continue(uint32_t code);
+
+/* The number of this interface, and the first version that has it. It rises with each change that a program which was
+ * built with the header before would not survive. The call answers it, and its name has the number too. Each object
+ * file that GCC 11, Clang 13 or a later one builds with this header asks for that name, so the program does not link
+ * with a library of another number. CMake takes this version for one that is asked for from the first one on. */
+#define RUSTC_LEXER_ABI 1 /* since version 0.1.0 */
+uint32_t rustc_lexer_abi_1(void);
+#ifdef __has_attribute
+#if __has_attribute(used) && __has_attribute(retain)
+__attribute__((used, retain)) static uint32_t (*const rustc_lexer_linked_abi)(void) = rustc_lexer_abi_1;
+#endif
+#endif
+
+#ifdef __cplusplus
+}
+#endif
+
+#endif

@@ -1,0 +1,198 @@
+//! The text of the page, with its tokens in each edition.
+
+use rustc_lexer::{
+    Edition, FrontmatterAllowed, LexedDocument, LexedText, Relexed, Token, TokenKind, tokenize,
+    tokenize_document, tokenize_in,
+};
+use std::ops::Range;
+
+/// How many editions there are.
+pub const EDITIONS: usize = Edition::ALL.len();
+
+/// The text, with its tokens in each edition.
+pub struct Source {
+    held: Held,
+    /// Where each line begins.
+    lines: Vec<usize>,
+    last: Option<[Relexed; EDITIONS]>,
+}
+
+/// A text in each edition.
+enum Held {
+    Part([LexedText; EDITIONS]),
+    Document([LexedDocument; EDITIONS]),
+}
+
+impl Held {
+    fn new(text: &str, document: bool) -> Held {
+        if document {
+            Held::Document(Edition::ALL.map(|edition| LexedDocument::new_in(text, edition)))
+        } else {
+            Held::Part(Edition::ALL.map(|edition| LexedText::new_in(text, edition)))
+        }
+    }
+
+    fn edit(&mut self, range: Range<usize>, insert: &str) -> [Relexed; EDITIONS] {
+        match self {
+            Held::Part(texts) => texts
+                .each_mut()
+                .map(|text| text.edit(range.clone(), insert)),
+            Held::Document(texts) => texts
+                .each_mut()
+                .map(|text| text.edit(range.clone(), insert)),
+        }
+    }
+}
+
+impl Source {
+    /// An empty text.
+    pub fn new() -> Source {
+        Source {
+            held: Held::new("", false),
+            lines: vec![0],
+            last: None,
+        }
+    }
+
+    /// The text.
+    pub fn text(&self) -> &str {
+        match &self.held {
+            Held::Part(texts) => texts[0].text(),
+            Held::Document(texts) => texts[0].text(),
+        }
+    }
+
+    /// Its tokens in an edition, from `begin` on.
+    pub fn tokens(&self, edition: usize) -> &[Token] {
+        match &self.held {
+            Held::Part(texts) => texts[edition].tokens(),
+            Held::Document(texts) => texts[edition].tokens(),
+        }
+    }
+
+    /// Where its first token begins: past a shebang line.
+    pub fn begin(&self) -> usize {
+        match &self.held {
+            Held::Part(_) => 0,
+            Held::Document(texts) => texts[0].shebang_len(),
+        }
+    }
+
+    /// Whether the text is a whole document.
+    pub fn is_document(&self) -> bool {
+        matches!(self.held, Held::Document(_))
+    }
+
+    /// What the last change kept and lexed in an edition; `None` where all was lexed anew.
+    pub fn last(&self, edition: usize) -> Option<Relexed> {
+        self.last.map(|last| last[edition])
+    }
+
+    /// The number of lines.
+    pub fn line_count(&self) -> usize {
+        self.lines.len()
+    }
+
+    /// Where a line begins, or the length of the text where there are fewer.
+    pub fn line_start(&self, line: usize) -> usize {
+        self.lines.get(line).copied().unwrap_or(self.text().len())
+    }
+
+    /// The line and the column of a byte, from 1. A column is a number of characters.
+    pub fn place(&self, at: usize) -> (usize, usize) {
+        let line = self.lines.partition_point(|start| *start <= at);
+        let before = &self.text()[self.lines[line - 1]..at];
+        (line, before.chars().count() + 1)
+    }
+
+    /// The byte of a place in units of UTF-16.
+    pub fn byte_of(&self, units: usize) -> usize {
+        let mut left = units;
+        let found = self.text().char_indices().find(|(_, c)| {
+            let past = left < c.len_utf16();
+            left = left.saturating_sub(c.len_utf16());
+            past
+        });
+        found.map_or(self.text().len(), |(at, _)| at)
+    }
+
+    /// The number and the start of the first token that ends past the byte.
+    pub fn token_at(&self, edition: usize, byte: usize) -> (usize, usize) {
+        let mut start = self.begin();
+        for (number, token) in self.tokens(edition).iter().enumerate() {
+            if start + token.len as usize > byte {
+                return (number, start);
+            }
+            start += token.len as usize;
+        }
+        (self.tokens(edition).len(), start)
+    }
+
+    /// Whether no shebang line and no frontmatter can stand where the token of this number begins, so that what is from
+    /// there on is read as a part.
+    pub fn is_part(&self, edition: usize, number: usize) -> bool {
+        let mut before = self.tokens(edition)[..number].iter();
+        !self.is_document() || before.any(|token| token.kind != TokenKind::Whitespace)
+    }
+
+    /// Puts a text in the place of the old one, by one edit of what is between the bytes that both have in front and
+    /// at the back.
+    pub fn change(&mut self, new: &str, document: bool) {
+        let old = self.text();
+        let front = shared_front(old, new);
+        let back = shared_back(&old[front..], &new[front..]);
+        let (range, insert) = (front..old.len() - back, &new[front..new.len() - back]);
+        if document != self.is_document() {
+            self.last = None;
+            self.held = Held::new(new, document);
+        } else if !(range.is_empty() && insert.is_empty()) {
+            self.last = Some(self.held.edit(range, insert));
+        }
+        let ends = new.bytes().enumerate().filter(|(_, byte)| *byte == b'\n');
+        self.lines = std::iter::once(0)
+            .chain(ends.map(|(at, _)| at + 1))
+            .collect();
+    }
+
+    /// `yes`, or the first year whose tokens are not those of lexing the text anew.
+    pub fn as_lexed_anew(&self) -> String {
+        let text = self.text();
+        for (number, edition) in Edition::ALL.into_iter().enumerate() {
+            let held = || self.tokens(number).iter().copied();
+            let same = match self.held {
+                Held::Document(_) => tokenize_document(text, edition).eq(held()),
+                Held::Part(_) if edition == Edition::E2024 => {
+                    tokenize(text, FrontmatterAllowed::No).eq(held())
+                }
+                Held::Part(_) => tokenize_in(text, edition).eq(held()),
+            };
+            if !same {
+                return edition.year().to_string();
+            }
+        }
+        "yes".to_string()
+    }
+}
+
+/// How many bytes both texts have in front, in whole characters.
+fn shared_front(old: &str, new: &str) -> usize {
+    let mut front = old
+        .bytes()
+        .zip(new.bytes())
+        .take_while(|(a, b)| a == b)
+        .count();
+    while !old.is_char_boundary(front) || !new.is_char_boundary(front) {
+        front -= 1;
+    }
+    front
+}
+
+/// How many bytes both texts have at the back, in whole characters.
+fn shared_back(old: &str, new: &str) -> usize {
+    let pairs = old.bytes().rev().zip(new.bytes().rev());
+    let mut back = pairs.take_while(|(a, b)| a == b).count();
+    while !old.is_char_boundary(old.len() - back) || !new.is_char_boundary(new.len() - back) {
+        back -= 1;
+    }
+    back
+}

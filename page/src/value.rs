@@ -1,0 +1,108 @@
+//! What a literal stands for.
+
+use rustc_lexer::{LiteralKind, TokenKind};
+use rustc_literal_escaper::{
+    EscapeError, MixedUnit, check_raw_byte_str, check_raw_c_str, check_raw_str, escape_byte_str,
+    escape_str, unescape_byte, unescape_byte_str, unescape_c_str, unescape_char, unescape_str,
+};
+
+/// What a literal with quotes stands for, written with escapes. `None` for what is no such literal, or is not closed.
+pub fn value(kind: TokenKind, text: &str) -> Option<String> {
+    let TokenKind::Literal { kind, suffix_start } = kind else {
+        return None;
+    };
+    let text = &text[..suffix_start as usize];
+    let single = matches!(kind, LiteralKind::Char { .. } | LiteralKind::Byte { .. });
+    let quote = if single { '\'' } else { '"' };
+    let (first, last) = (text.find(quote)?, text.rfind(quote)?);
+    let inside = text.get(first + 1..last)?;
+    let mut read = Read::default();
+    let unit = match kind {
+        LiteralKind::Char { terminated: true } => {
+            read.char(unescape_char(inside));
+            "character"
+        }
+        LiteralKind::Byte { terminated: true } => {
+            read.byte(unescape_byte(inside));
+            "byte"
+        }
+        LiteralKind::Str { terminated: true } => {
+            unescape_str(inside, |_, c| read.char(c));
+            "character"
+        }
+        LiteralKind::RawStr { n_hashes: Some(_) } => {
+            check_raw_str(inside, |_, c| read.char(c));
+            "character"
+        }
+        LiteralKind::ByteStr { terminated: true } => {
+            unescape_byte_str(inside, |_, byte| read.byte(byte));
+            "byte"
+        }
+        LiteralKind::RawByteStr { n_hashes: Some(_) } => {
+            check_raw_byte_str(inside, |_, byte| read.byte(byte));
+            "byte"
+        }
+        LiteralKind::CStr { terminated: true } => {
+            unescape_c_str(inside, |_, unit| read.unit(unit));
+            read.byte(Ok(0));
+            "byte"
+        }
+        LiteralKind::RawCStr { n_hashes: Some(_) } => {
+            check_raw_c_str(inside, |_, c| read.unit(c.map(MixedUnit::Char)));
+            read.byte(Ok(0));
+            "byte"
+        }
+        _ => return None,
+    };
+    Some(read.told(unit))
+}
+
+/// What was read of a literal.
+#[derive(Default)]
+struct Read {
+    text: String,
+    bytes: Vec<u8>,
+    is_wrong: bool,
+}
+
+impl Read {
+    fn char(&mut self, read: Result<char, EscapeError>) {
+        match read {
+            Ok(c) => self.text.push(c),
+            Err(error) => self.is_wrong |= error.is_fatal(),
+        }
+    }
+
+    fn byte(&mut self, read: Result<u8, EscapeError>) {
+        match read {
+            Ok(byte) => self.bytes.push(byte),
+            Err(error) => self.is_wrong |= error.is_fatal(),
+        }
+    }
+
+    fn unit(&mut self, read: Result<MixedUnit, EscapeError>) {
+        match read {
+            Ok(MixedUnit::Char(c)) => self.bytes.extend(c.get().encode_utf8(&mut [0; 4]).bytes()),
+            Ok(MixedUnit::HighByte(byte)) => self.bytes.push(byte.get()),
+            Err(error) => self.is_wrong |= error.is_fatal(),
+        }
+    }
+
+    /// The count, and what is there between quotes.
+    fn told(&self, unit: &str) -> String {
+        if self.is_wrong {
+            return "nothing: it is wrong".to_string();
+        }
+        let mut shown = String::new();
+        let (count, done) = match unit {
+            "character" => (
+                self.text.chars().count(),
+                escape_str(&self.text, &mut shown),
+            ),
+            _ => (self.bytes.len(), escape_byte_str(&self.bytes, &mut shown)),
+        };
+        done.expect("memory was refused");
+        let end = if count == 1 { "" } else { "s" };
+        format!("{count} {unit}{end}: \"{shown}\"")
+    }
+}

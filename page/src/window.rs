@@ -1,0 +1,165 @@
+//! Lines of a text between their marks: what `marks` writes, as runs of characters with a class.
+
+use crate::source::Source;
+use marks::{Style, write_first_tokens, write_marked};
+use rustc_lexer::Edition;
+use std::fmt;
+use std::ops::Range;
+
+/// How many bytes of a line are in colours, and how many sentences stand beside it.
+const LONG: usize = 4000;
+const MOST_SAID: usize = 10;
+
+/// A run of characters that look alike.
+#[derive(Clone, Debug, Default, PartialEq, Eq)]
+pub struct Run {
+    /// The class, such as `keyword`; empty for plain text.
+    pub class: String,
+    /// Whether a fault is marked there.
+    pub wrong: bool,
+    /// Whether the last edit lexed it.
+    pub fresh: bool,
+    /// The characters.
+    pub text: String,
+}
+
+/// A line: its runs, and the sentences of the faults that begin there.
+#[derive(Clone, Debug, Default, PartialEq, Eq)]
+pub struct Line {
+    /// The runs, without the end of the line.
+    pub runs: Vec<Run>,
+    /// The sentences.
+    pub said: Vec<String>,
+}
+
+/// The lines that lie in a range of bytes, which ends at the end of a line. `fresh` is what the last edit lexed.
+pub fn lines_of(
+    source: &Source,
+    range: Range<usize>,
+    fresh: Range<usize>,
+    edition: usize,
+) -> Vec<Line> {
+    let (number, start) = source.token_at(edition, range.start);
+    let mut window = Window {
+        range,
+        fresh,
+        at: start,
+        ..Window::default()
+    };
+    window.lines.push(Line::default());
+    let year = Edition::ALL[edition];
+    // the window stops the writing where it ends
+    let _ = if source.is_part(edition, number) {
+        let count = source.tokens(edition).len() - number;
+        write_first_tokens(
+            Style::Html,
+            year,
+            count,
+            &source.text()[start..],
+            &mut window,
+        )
+    } else {
+        window.at = 0;
+        write_marked(Style::Html, year, source.text(), &mut window)
+    };
+    window.lines
+}
+
+/// Reads the marks again, as they are written.
+#[derive(Default)]
+struct Window {
+    range: Range<usize>,
+    fresh: Range<usize>,
+    /// The byte of the text that is written next.
+    at: usize,
+    class: String,
+    wrong: bool,
+    /// How many bytes its line has so far.
+    in_line: usize,
+    /// A tag or an entity that has begun.
+    held: String,
+    lines: Vec<Line>,
+}
+
+impl fmt::Write for Window {
+    fn write_str(&mut self, written: &str) -> fmt::Result {
+        for c in written.chars() {
+            match (self.held.chars().next(), c) {
+                (None, '<' | '&') => self.held.push(c),
+                (None, _) => self.put(c),
+                (Some('<'), '>') => self.tag(),
+                (Some('&'), ';') => self.entity(),
+                (Some(_), _) => self.held.push(c),
+            }
+        }
+        if self.at < self.range.end {
+            Ok(())
+        } else {
+            Err(fmt::Error)
+        }
+    }
+}
+
+impl Window {
+    /// A tag has ended.
+    fn tag(&mut self) {
+        let tag = std::mem::take(&mut self.held);
+        let value = tag.split('"').nth(1).unwrap_or("");
+        match tag.as_str() {
+            "</mark" => self.wrong = false,
+            "</span" => self.class.clear(),
+            _ if tag.starts_with("<mark") => {
+                self.wrong = true;
+                if self.range.contains(&self.at) && self.line().said.len() < MOST_SAID {
+                    self.line().said.push(value.to_string());
+                }
+            }
+            _ => self.class = value.to_string(),
+        }
+    }
+
+    fn line(&mut self) -> &mut Line {
+        self.lines
+            .last_mut()
+            .expect("there is a line from the start")
+    }
+
+    /// An entity has ended.
+    fn entity(&mut self) {
+        let entity = std::mem::take(&mut self.held);
+        self.put(match &entity[1..] {
+            "amp" => '&',
+            "lt" => '<',
+            _ => '>',
+        });
+    }
+
+    /// A character of the text.
+    fn put(&mut self, c: char) {
+        let at = self.at;
+        self.at += c.len_utf8();
+        if !self.range.contains(&at) {
+            return;
+        }
+        if c == '\n' {
+            self.in_line = 0;
+            return self.lines.push(Line::default());
+        }
+        self.in_line += c.len_utf8();
+        let (class, wrong, fresh) = match self.in_line {
+            ..=LONG => (self.class.clone(), self.wrong, self.fresh.contains(&at)),
+            _ => (String::new(), false, false),
+        };
+        match self.line().runs.last_mut() {
+            Some(run) if run.class == class && run.wrong == wrong && run.fresh == fresh => {
+                run.text.push(c)
+            }
+            _ => self.line().runs.push(Run {
+                class,
+                wrong,
+                fresh,
+                text: c.to_string(),
+            }),
+        }
+    }
+}

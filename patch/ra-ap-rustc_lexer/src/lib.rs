@@ -1,0 +1,5 @@
+//! `rustc_lexer` under the name and the number of the original, for `[patch]`.
+
+#![no_std]
+
+pub use rustc_lexer::*;

@@ -1,0 +1,5 @@
+//! `rustc_literal_escaper` under the name and the number of the original, for `[patch]`.
+
+#![no_std]
+
+pub use rustc_literal_escaper::*;

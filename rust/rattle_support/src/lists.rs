@@ -1,0 +1,226 @@
+//! Lists and texts whose calls answer where memory is refused. Nothing changes then.
+
+use super::{AllocError, Global};
+use alloc::collections::TryReserveError;
+use core::ops::{Deref, DerefMut, Range};
+
+impl From<TryReserveError> for AllocError {
+    fn from(_: TryReserveError) -> AllocError {
+        AllocError
+    }
+}
+
+/// A list. The contracts are those of `std::vec::Vec` in Rattle: what `items` is after each call.
+#[derive(Clone, Debug, PartialEq, Eq)]
+pub struct Vec<T>(alloc::vec::Vec<T>);
+
+impl<T> Vec<T> {
+    /// No items.
+    pub fn new(_: Global) -> Vec<T> {
+        Vec(alloc::vec::Vec::new())
+    }
+
+    pub fn as_slice(&self) -> &[T] {
+        &self.0
+    }
+
+    pub fn as_mut_slice(&mut self) -> &mut [T] {
+        &mut self.0
+    }
+
+    /// Appends an item.
+    #[inline]
+    pub fn push(&mut self, value: T) -> Result<(), AllocError> {
+        self.0.try_reserve(1)?;
+        self.0.push(value);
+        Ok(())
+    }
+
+    /// Keeps the first `len` items, or all where there are no more.
+    pub fn truncate(&mut self, len: usize) {
+        self.0.truncate(len);
+    }
+}
+
+/// What only programs take.
+impl<T> Vec<T> {
+    /// Takes the last item; `None` where there is none.
+    pub fn pop(&mut self) -> Option<T> {
+        self.0.pop()
+    }
+
+    /// Of equal items in a row keeps the first.
+    pub fn dedup(&mut self)
+    where
+        T: PartialEq,
+    {
+        self.0.dedup();
+    }
+}
+
+impl Vec<String> {
+    /// Puts the texts in the order of their bytes. In place: Rust's stable sort ends the program where memory is refused,
+    /// and equal texts are one as good as the other.
+    pub fn sort(&mut self) -> Result<(), AllocError> {
+        self.0.sort_unstable();
+        Ok(())
+    }
+}
+
+impl<T> IntoIterator for Vec<T> {
+    type Item = T;
+    type IntoIter = alloc::vec::IntoIter<T>;
+
+    fn into_iter(self) -> alloc::vec::IntoIter<T> {
+        self.0.into_iter()
+    }
+}
+
+impl<'a, T> IntoIterator for &'a Vec<T> {
+    type Item = &'a T;
+    type IntoIter = core::slice::Iter<'a, T>;
+
+    fn into_iter(self) -> core::slice::Iter<'a, T> {
+        self.0.iter()
+    }
+}
+
+impl<T: Copy> Vec<T> {
+    /// Appends the items of a slice.
+    pub fn extend_from_slice(&mut self, more: &[T]) -> Result<(), AllocError> {
+        self.0.try_reserve(more.len())?;
+        self.0.extend_from_slice(more);
+        Ok(())
+    }
+
+    /// Makes it `len` items long: the first of them, or all and then `value`, as often as it takes.
+    pub fn resize(&mut self, len: usize, value: T) -> Result<(), AllocError> {
+        self.0.try_reserve(len.saturating_sub(self.0.len()))?;
+        self.0.resize(len, value);
+        Ok(())
+    }
+}
+
+impl<T> Deref for Vec<T> {
+    type Target = [T];
+
+    fn deref(&self) -> &[T] {
+        &self.0
+    }
+}
+
+impl<T> DerefMut for Vec<T> {
+    fn deref_mut(&mut self) -> &mut [T] {
+        &mut self.0
+    }
+}
+
+/// A text. The contracts are those of `std::string::String` in Rattle: what its bytes are after each call.
+#[derive(Clone, Debug, PartialEq, Eq, PartialOrd, Ord)]
+pub struct String(alloc::string::String);
+
+impl String {
+    /// The empty text.
+    pub fn new(_: Global) -> String {
+        String(alloc::string::String::new())
+    }
+
+    /// A copy of a text.
+    pub fn from_str(_: Global, text: &str) -> Result<String, AllocError> {
+        let mut held = alloc::string::String::new();
+        held.try_reserve_exact(text.len())?;
+        held.push_str(text);
+        Ok(String(held))
+    }
+
+    pub fn as_str(&self) -> &str {
+        &self.0
+    }
+
+    /// Appends a character.
+    #[inline]
+    pub fn push(&mut self, c: char) -> Result<(), AllocError> {
+        self.0.try_reserve(c.len_utf8())?;
+        self.0.push(c);
+        Ok(())
+    }
+
+    /// Keeps the first `len` bytes.
+    pub fn truncate(&mut self, len: usize) {
+        self.0.truncate(len);
+    }
+
+    /// Makes room for so many bytes more.
+    pub fn reserve(&mut self, more: usize) -> Result<(), AllocError> {
+        Ok(self.0.try_reserve(more)?)
+    }
+
+    /// Puts a text in place of the bytes of the range.
+    pub fn replace_range(&mut self, range: Range<usize>, with: &str) -> Result<(), AllocError> {
+        self.0.try_reserve(with.len())?;
+        self.0.replace_range(range, with);
+        Ok(())
+    }
+}
+
+/// What only programs take.
+impl String {
+    /// The text of these bytes, or an error where they are none.
+    pub fn from_utf8(bytes: Vec<u8>) -> Result<String, core::str::Utf8Error> {
+        match alloc::string::String::from_utf8(bytes.0) {
+            Ok(text) => Ok(String(text)),
+            Err(error) => Err(error.utf8_error()),
+        }
+    }
+
+    /// Its bytes.
+    pub fn into_bytes(self) -> Vec<u8> {
+        Vec(self.0.into_bytes())
+    }
+
+    /// Appends a text.
+    #[inline]
+    pub fn push_str(&mut self, text: &str) -> Result<(), AllocError> {
+        self.0.try_reserve(text.len())?;
+        self.0.push_str(text);
+        Ok(())
+    }
+
+    /// Appends what `write!` is given. In Rattle the error of that is the writer's.
+    pub fn write_fmt(&mut self, words: core::fmt::Arguments<'_>) -> Result<(), AllocError> {
+        core::fmt::Write::write_fmt(self, words).map_err(|_| AllocError)
+    }
+}
+
+impl core::fmt::Display for String {
+    fn fmt(&self, f: &mut core::fmt::Formatter<'_>) -> core::fmt::Result {
+        core::fmt::Display::fmt(&self.0, f)
+    }
+}
+
+/// What is written is appended. Where memory is refused nothing is, and that is an error.
+impl core::fmt::Write for String {
+    fn write_str(&mut self, text: &str) -> core::fmt::Result {
+        self.push_str(text).map_err(|_| core::fmt::Error)
+    }
+}
+
+impl From<alloc::string::String> for String {
+    fn from(text: alloc::string::String) -> String {
+        String(text)
+    }
+}
+
+impl From<String> for alloc::string::String {
+    fn from(text: String) -> alloc::string::String {
+        text.0
+    }
+}
+
+impl Deref for String {
+    type Target = str;
+
+    fn deref(&self) -> &str {
+        &self.0
+    }
+}

@@ -1,0 +1,45 @@
+//! Keeps a file in colours while it is edited, as an editor does: its shebang line, its frontmatter and its code. Each line
+//! of standard input is an edit: START STOP TEXT. What is painted anew is printed, and in the end the whole file:
+//! `cargo run --example highlight -- FILE`.
+
+use rustc_lexer::{LexedDocument, Piece, TokenKind};
+use std::{env, fs, io};
+
+fn paint(piece: Piece<'_>) -> String {
+    let colour = match piece.token.kind {
+        TokenKind::LineComment { .. } | TokenKind::BlockComment { .. } => "32",
+        TokenKind::Literal { .. } => "35",
+        TokenKind::Ident => "34",
+        TokenKind::Frontmatter { .. } => "36",
+        _ => "0",
+    };
+    format!("\x1b[{colour}m{}\x1b[0m", piece.text)
+}
+
+fn main() -> io::Result<()> {
+    let path = env::args().nth(1).expect("the name of a file");
+    let mut lexed = LexedDocument::new(fs::read_to_string(path)?);
+    // What an editor shows: each token in its colour.
+    let mut shown: Vec<String> = lexed.pieces().map(paint).collect();
+    for line in io::stdin().lines() {
+        let line = line?;
+        let mut words = line.splitn(3, ' ');
+        let mut place = || words.next().and_then(|word| word.parse().ok());
+        let (Some(start), Some(stop)) = (place(), place()) else {
+            continue;
+        };
+        let insert = words.next().unwrap_or("");
+        if !lexed.accepts(start..stop, insert) {
+            continue;
+        }
+        let relexed = lexed.edit(start..stop, insert);
+        let painted: Vec<String> = lexed.pieces_of(relexed.range()).map(paint).collect();
+        let kept = relexed.kept_front + relexed.kept_back;
+        println!("{}  ({kept} tokens kept)", painted.concat());
+        shown.splice(relexed.kept_front..shown.len() - relexed.kept_back, painted);
+    }
+    // The shebang line is no token.
+    let shebang = &lexed.text()[..lexed.shebang_len()];
+    print!("\x1b[32m{shebang}\x1b[0m{}", shown.concat());
+    Ok(())
+}

@@ -1,0 +1,110 @@
+//! A cursor over a text.
+
+use crate::{FrontmatterAllowed, GuardedStr, Token, erased, fitting};
+use core::fmt;
+
+/// A place in a text, from which the next token is taken.
+///
+/// ```
+/// use rustc_lexer::{Cursor, FrontmatterAllowed, TokenKind};
+///
+/// let mut cursor = Cursor::new("a + b", FrontmatterAllowed::No);
+/// while cursor.advance_token().kind != TokenKind::Plus {}
+/// assert_eq!(cursor.as_str(), " b");
+/// ```
+pub struct Cursor<'a>(erased::Cursor<'a>);
+
+impl<'a> Cursor<'a> {
+    /// A cursor at the front of the text.
+    ///
+    /// ```
+    /// use rustc_lexer::{Cursor, FrontmatterAllowed};
+    ///
+    /// assert_eq!(Cursor::new("a b", FrontmatterAllowed::No).advance_token().len, 1);
+    /// ```
+    ///
+    /// # Panics
+    ///
+    /// Where the text has more than `u32::MAX` bytes.
+    #[inline]
+    pub fn new(input: &'a str, frontmatter_allowed: FrontmatterAllowed) -> Cursor<'a> {
+        Cursor(erased::Cursor::new(fitting(input), frontmatter_allowed))
+    }
+
+    /// The text that is left.
+    ///
+    /// ```
+    /// use rustc_lexer::{Cursor, FrontmatterAllowed};
+    ///
+    /// let mut cursor = Cursor::new("let x", FrontmatterAllowed::No);
+    /// cursor.advance_token();
+    /// assert_eq!(cursor.as_str(), " x");
+    /// ```
+    #[inline]
+    pub fn as_str(&self) -> &'a str {
+        self.0.as_str()
+    }
+
+    /// The next character, which is not taken, or U+0000 at the end of the text.
+    ///
+    /// ```
+    /// use rustc_lexer::{Cursor, FrontmatterAllowed};
+    ///
+    /// assert_eq!(Cursor::new("é", FrontmatterAllowed::No).first(), 'é');
+    /// ```
+    #[inline]
+    pub fn first(&self) -> char {
+        self.0.first()
+    }
+
+    /// The character after the next two, or U+0000 where there is none.
+    ///
+    /// ```
+    /// use rustc_lexer::{Cursor, FrontmatterAllowed};
+    ///
+    /// assert_eq!(Cursor::new("abc", FrontmatterAllowed::No).third(), 'c');
+    /// ```
+    #[inline]
+    pub fn third(&self) -> char {
+        self.0.third()
+    }
+
+    /// Takes the next token; at the end of the text `Eof`, of length 0, which changes nothing. Bytes that are pending
+    /// count as part of the token.
+    ///
+    /// ```
+    /// use rustc_lexer::{Cursor, FrontmatterAllowed, TokenKind};
+    ///
+    /// let mut cursor = Cursor::new("x", FrontmatterAllowed::No);
+    /// assert_eq!(cursor.advance_token().kind, TokenKind::Ident);
+    /// assert_eq!(cursor.advance_token().kind, TokenKind::Eof);
+    /// ```
+    #[inline]
+    pub fn advance_token(&mut self) -> Token {
+        self.0.advance_token()
+    }
+
+    /// Takes a guarded string. Where there is none, the hashes at the front are taken, and are part of the next
+    /// token.
+    ///
+    /// ```
+    /// use rustc_lexer::{Cursor, FrontmatterAllowed};
+    ///
+    /// let mut cursor = Cursor::new("#\"a\"# ##b", FrontmatterAllowed::No);
+    /// assert_eq!(cursor.guarded_double_quoted_string().unwrap().token_len, 5);
+    /// cursor.advance_token();
+    /// assert_eq!(cursor.guarded_double_quoted_string(), None);
+    /// assert_eq!(cursor.advance_token().len, 3);
+    /// ```
+    #[inline]
+    pub fn guarded_double_quoted_string(&mut self) -> Option<GuardedStr> {
+        self.0.guarded_double_quoted_string()
+    }
+}
+
+/// The text that is left.
+impl fmt::Debug for Cursor<'_> {
+    fn fmt(&self, f: &mut fmt::Formatter<'_>) -> fmt::Result {
+        f.debug_tuple("Cursor").field(&self.as_str()).finish()
+    }
+}

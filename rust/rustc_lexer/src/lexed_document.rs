@@ -1,0 +1,285 @@
+//! A whole document that is kept with its tokens under edits.
+
+use crate::erased::{self, Edit, EditStop};
+use crate::lexed_text::{REFUSED, is_accepted, there};
+use crate::support::{AllocError, Global};
+use crate::{Bound, Edition, Pieces, Relexed, Stepper, Steps, Token, fitting};
+use core::fmt;
+use core::ops::Range;
+
+/// A whole document and its tokens, which are always those of [`tokenize_document`](crate::tokenize_document): past a
+/// shebang line, and with a frontmatter where one stands.
+///
+/// It is to a file what a [`LexedText`](crate::LexedText) is to a part of one, and its calls are the same. Behind the
+/// head, which is the shebang line and the frontmatter, an edit keeps what it keeps there.
+///
+/// ```
+/// use rustc_lexer::{LexedDocument, TokenKind};
+///
+/// let mut lexed = LexedDocument::new("#!/bin/sh\n---\n[package]\n---\nfn main() {}");
+/// assert!(matches!(lexed.tokens()[1].kind, TokenKind::Frontmatter { .. }));
+///
+/// // Without the second fence all that follows the first is the frontmatter, and with it again it is code.
+/// lexed.edit(24..27, "");
+/// assert_eq!(lexed.tokens().len(), 2);
+/// lexed.edit(24..24, "---");
+/// assert_eq!(lexed.pieces().nth(3).map(|piece| (piece.start, piece.text)), Some((28, "fn")));
+/// ```
+///
+/// Each call that takes memory has a twin, such as [`try_edit`](LexedDocument::try_edit), which answers where memory is
+/// refused.
+pub struct LexedDocument<S: Stepper = Steps>(erased::LexedDocument<S>);
+
+impl LexedDocument {
+    /// The document with its tokens in the newest edition.
+    ///
+    /// ```
+    /// use rustc_lexer::LexedDocument;
+    ///
+    /// assert_eq!(LexedDocument::new("#!/bin/sh\nlet x;").tokens().len(), 5);
+    /// ```
+    ///
+    /// # Panics
+    ///
+    /// Where the text has more than `u32::MAX` bytes, or memory is refused.
+    pub fn new(text: impl AsRef<str>) -> LexedDocument {
+        LexedDocument::new_in(text, Edition::E2024)
+    }
+
+    /// The document with its tokens in an edition.
+    ///
+    /// ```
+    /// use rustc_lexer::{Edition, LexedDocument};
+    ///
+    /// assert_eq!(LexedDocument::new_in("#!/bin/sh\n'r#a", Edition::E2018).tokens().len(), 4);
+    /// ```
+    ///
+    /// # Panics
+    ///
+    /// Where the text has more than `u32::MAX` bytes, or memory is refused.
+    pub fn new_in(text: impl AsRef<str>, edition: Edition) -> LexedDocument {
+        LexedDocument::try_new_in(text, edition).expect(REFUSED)
+    }
+
+    /// The document with its tokens in an edition, or that memory was refused.
+    ///
+    /// # Panics
+    ///
+    /// Where the text has more than `u32::MAX` bytes.
+    pub fn try_new_in(
+        text: impl AsRef<str>,
+        edition: Edition,
+    ) -> Result<LexedDocument, AllocError> {
+        let text = fitting(text.as_ref());
+        erased::LexedDocument::new_in(Global, text, edition).map(LexedDocument)
+    }
+
+    /// The edition that the tokens are of. Edits keep it.
+    ///
+    /// ```
+    /// use rustc_lexer::{Edition, LexedDocument};
+    ///
+    /// assert_eq!(LexedDocument::new("").edition(), Edition::E2024);
+    /// ```
+    pub fn edition(&self) -> Edition {
+        self.0.edition()
+    }
+
+    /// Where the body begins, which is what follows the head: how many tokens stand before it, and the byte.
+    ///
+    /// ```
+    /// use rustc_lexer::LexedDocument;
+    ///
+    /// let body = LexedDocument::new("#!/bin/sh\n---\n---\nfn").body();
+    /// assert_eq!((body.number, body.place), (2, 17));
+    /// ```
+    pub fn body(&self) -> Bound {
+        self.0.body()
+    }
+
+    /// Lexes the document again, in another edition.
+    ///
+    /// ```
+    /// use rustc_lexer::{Edition, LexedDocument};
+    ///
+    /// let mut lexed = LexedDocument::new("'r#a");
+    /// lexed.set_edition(Edition::E2015);
+    /// assert_eq!(lexed.tokens().len(), 3);
+    /// ```
+    ///
+    /// # Panics
+    ///
+    /// Where memory is refused. Nothing changes then.
+    pub fn set_edition(&mut self, edition: Edition) {
+        self.try_set_edition(edition).expect(REFUSED);
+    }
+
+    /// Lexes the document again, in another edition. Where memory is refused nothing changes.
+    pub fn try_set_edition(&mut self, edition: Edition) -> Result<(), AllocError> {
+        self.0.set_edition(edition)
+    }
+}
+
+impl<S: Stepper> LexedDocument<S> {
+    /// The document with its tokens, those of its body by a stepper of the caller's, or that memory was refused.
+    ///
+    /// ```
+    /// use rustc_lexer::{LexedDocument, Steps};
+    ///
+    /// let lexed = LexedDocument::try_with("#!/bin/sh\nlet x;", Steps::new()).unwrap();
+    /// assert_eq!(lexed.tokens().len(), 5);
+    /// ```
+    ///
+    /// # Panics
+    ///
+    /// Where the text has more than `u32::MAX` bytes.
+    pub fn try_with(text: impl AsRef<str>, stepper: S) -> Result<LexedDocument<S>, AllocError> {
+        let text = fitting(text.as_ref());
+        erased::LexedDocument::with(Global, text, stepper).map(LexedDocument)
+    }
+
+    /// The stepper that the tokens of the body came from.
+    pub fn stepper(&self) -> &S {
+        self.0.stepper()
+    }
+
+    /// The text, with its shebang line.
+    ///
+    /// ```
+    /// use rustc_lexer::LexedDocument;
+    ///
+    /// assert_eq!(LexedDocument::new("#!/bin/sh\n").text(), "#!/bin/sh\n");
+    /// ```
+    pub fn text(&self) -> &str {
+        self.0.text()
+    }
+
+    /// The length of the shebang line, or 0. There the first token begins.
+    ///
+    /// ```
+    /// use rustc_lexer::LexedDocument;
+    ///
+    /// assert_eq!(LexedDocument::new("#!/bin/sh\nfn").shebang_len(), 9);
+    /// assert_eq!(LexedDocument::new("#![no_std]").shebang_len(), 0);
+    /// ```
+    pub fn shebang_len(&self) -> usize {
+        self.0.shebang_len()
+    }
+
+    /// Its tokens past the shebang line, in order.
+    ///
+    /// ```
+    /// use rustc_lexer::{LexedDocument, TokenKind};
+    ///
+    /// let lexed = LexedDocument::new("#!/bin/sh\na");
+    /// assert_eq!(lexed.tokens()[1].kind, TokenKind::Ident);
+    /// ```
+    pub fn tokens(&self) -> &[Token] {
+        self.0.tokens()
+    }
+
+    /// The tokens with their places and their parts of the text, in order. The first place is
+    /// [`shebang_len`](LexedDocument::shebang_len).
+    ///
+    /// ```
+    /// use rustc_lexer::LexedDocument;
+    ///
+    /// let lexed = LexedDocument::new("#!/bin/sh\na + b");
+    /// assert_eq!(lexed.pieces().nth(3).map(|piece| (piece.start, piece.text)), Some((12, "+")));
+    /// ```
+    pub fn pieces(&self) -> Pieces<'_> {
+        self.0.pieces()
+    }
+
+    /// The pieces of some tokens, by their numbers: after an edit those of `relexed.range()` are to be painted anew. A
+    /// shebang line is no piece: where it changes, `relexed.kept_front` is 0, and what stands before the first piece is
+    /// to be painted too.
+    ///
+    /// ```
+    /// use rustc_lexer::LexedDocument;
+    ///
+    /// let mut lexed = LexedDocument::new("#!/bin/sh\na + b + c + d");
+    /// let relexed = lexed.edit(18..18, "x");
+    /// let painted: Vec<&str> = lexed.pieces_of(relexed.range()).map(|piece| piece.text).collect();
+    /// assert_eq!(painted, ["+", " ", "xc"]);
+    /// ```
+    ///
+    /// # Panics
+    ///
+    /// Where there are no such tokens.
+    pub fn pieces_of(&self, numbers: Range<usize>) -> Pieces<'_> {
+        let numbers = there(numbers, self.tokens());
+        self.0.pieces_of(numbers.start, numbers.end)
+    }
+
+    /// Whether the range is inside the text, between characters, and the edit makes a text of at most `u32::MAX` bytes.
+    ///
+    /// ```
+    /// use rustc_lexer::LexedDocument;
+    ///
+    /// let lexed = LexedDocument::new("é");
+    /// assert!(lexed.accepts(0..2, "e") && !lexed.accepts(1..2, "e"));
+    /// ```
+    pub fn accepts(&self, range: Range<usize>, insert: &str) -> bool {
+        self.0.accepts(range.start, range.end, insert)
+    }
+
+    /// Puts `insert` in place of the range of bytes.
+    ///
+    /// ```
+    /// use rustc_lexer::LexedDocument;
+    ///
+    /// let mut lexed = LexedDocument::new("#!/bin/sh\nlet x;");
+    /// lexed.edit(10..10, "[a]");
+    /// assert_eq!((lexed.text(), lexed.shebang_len()), ("#!/bin/sh\n[a]let x;", 9));
+    /// lexed.edit(2..9, "");
+    /// assert_eq!((lexed.text(), lexed.shebang_len()), ("#!\n[a]let x;", 0));
+    /// ```
+    ///
+    /// # Panics
+    ///
+    /// Where the edit is not accepted, or memory is refused. Text and tokens are then as they were.
+    pub fn edit(&mut self, range: Range<usize>, insert: &str) -> Relexed {
+        self.try_edit(range, insert).expect(REFUSED)
+    }
+
+    /// Puts `insert` in place of the range of bytes. Where memory is refused, text and tokens are as they were.
+    ///
+    /// # Panics
+    ///
+    /// Where the edit is not accepted. Text and tokens are then as they were.
+    pub fn try_edit(&mut self, range: Range<usize>, insert: &str) -> Result<Relexed, AllocError> {
+        is_accepted(self.accepts(range.clone(), insert), &range);
+        self.0.edit(range.start, range.end, insert)
+    }
+
+    /// Makes the edits in order, as far as the first that is refused.
+    ///
+    /// ```
+    /// use rustc_lexer::{Edit, EditStop, LexedDocument};
+    ///
+    /// let mut lexed = LexedDocument::new("#!a");
+    /// let edits = [Edit { start: 3, stop: 3, insert: "\n+b" }, Edit { start: 9, stop: 9, insert: "" }];
+    /// assert_eq!(lexed.edit_all(&edits), Err(EditStop::Range { at: 1 }));
+    /// assert_eq!((lexed.text(), lexed.tokens().len()), ("#!a\n+b", 3));
+    /// ```
+    pub fn edit_all(&mut self, edits: &[Edit<'_>]) -> Result<(), EditStop> {
+        self.0.edit_all(edits)
+    }
+}
+
+impl<S: Stepper> fmt::Debug for LexedDocument<S> {
+    fn fmt(&self, f: &mut fmt::Formatter<'_>) -> fmt::Result {
+        f.debug_struct("LexedDocument")
+            .field("text", &self.text())
+            .field("tokens", &self.tokens())
+            .finish_non_exhaustive()
+    }
+}
+
+/// The empty document.
+impl Default for LexedDocument {
+    fn default() -> LexedDocument {
+        LexedDocument::new("")
+    }
+}

@@ -1,0 +1,209 @@
+//! The tokens of a text, as an iterator.
+
+#[cfg(feature = "alloc")]
+use crate::TokenKind;
+use crate::{Edition, FrontmatterAllowed, Record, Token, erased, fitting};
+#[cfg(feature = "alloc")]
+use alloc::vec::Vec;
+use core::fmt;
+use core::iter::FusedIterator;
+
+/// The tokens of a text, in order.
+///
+/// The lengths of the tokens sum to that of the text, and each token ends between two characters.
+///
+/// ```
+/// use rustc_lexer::{tokenize, FrontmatterAllowed, TokenKind};
+///
+/// let text = "let x = 1;";
+/// let mut start = 0;
+/// let mut idents = Vec::new();
+/// for token in tokenize(text, FrontmatterAllowed::No) {
+///     let end = start + token.len as usize;
+///     if token.kind == TokenKind::Ident {
+///         idents.push(&text[start..end]);
+///     }
+///     start = end;
+/// }
+/// assert_eq!(idents, ["let", "x"]);
+/// ```
+///
+/// # Panics
+///
+/// Where the text has more than `u32::MAX` bytes.
+#[inline]
+pub fn tokenize(input: &str, frontmatter_allowed: FrontmatterAllowed) -> Tokens<'_> {
+    tokenize_as(input, frontmatter_allowed, Edition::E2024)
+}
+
+/// The tokens of a text, made by [`tokenize`], [`tokenize_in`], [`tokenize_as`] and [`tokenize_document`].
+pub struct Tokens<'a>(erased::Tokens<'a>);
+
+impl<'a> Tokens<'a> {
+    /// The text whose tokens were not given out yet.
+    ///
+    /// ```
+    /// use rustc_lexer::{tokenize, FrontmatterAllowed};
+    ///
+    /// let mut tokens = tokenize("let x", FrontmatterAllowed::No);
+    /// tokens.next();
+    /// assert_eq!(tokens.as_str(), " x");
+    /// ```
+    #[inline]
+    pub fn as_str(&self) -> &'a str {
+        self.0.as_str()
+    }
+
+    /// Whether a frontmatter may stand in front of that text.
+    #[inline]
+    pub fn frontmatter_allowed(&self) -> FrontmatterAllowed {
+        self.0.frontmatter_allowed()
+    }
+
+    /// Writes the next tokens into the buffer, as many as are left, or as there is room for. Answers their number,
+    /// which is less than the length of the buffer only where no token is left.
+    ///
+    /// They are the tokens that so many calls of `next` give, and take less time.
+    ///
+    /// ```
+    /// use rustc_lexer::{tokenize, FrontmatterAllowed, Token, TokenKind};
+    ///
+    /// let mut buffer = [Token { kind: TokenKind::Eof, len: 0 }; 256];
+    /// let mut tokens = tokenize("let x = 1;", FrontmatterAllowed::No);
+    /// let mut spaces = 0;
+    /// while !tokens.as_str().is_empty() {
+    ///     let count = tokens.fill(&mut buffer);
+    ///     for token in &buffer[..count] {
+    ///         spaces += usize::from(token.kind == TokenKind::Whitespace);
+    ///     }
+    /// }
+    /// assert_eq!(spaces, 3);
+    /// ```
+    #[inline]
+    pub fn fill<R: Record>(&mut self, buffer: &mut [R]) -> usize {
+        self.0.fill(buffer)
+    }
+}
+
+impl Iterator for Tokens<'_> {
+    type Item = Token;
+
+    #[inline(always)]
+    fn next(&mut self) -> Option<Token> {
+        self.0.next()
+    }
+
+    #[inline]
+    fn size_hint(&self) -> (usize, Option<usize>) {
+        count_of(self.as_str())
+    }
+
+    /// Collects the tokens that are left, which are found many at a time. Of another collection than a `Vec` they are a
+    /// list for a moment.
+    #[cfg(feature = "alloc")]
+    fn collect<B: FromIterator<Token>>(mut self) -> B {
+        let mut tokens = Vec::new();
+        let mut buffer = [Token {
+            kind: TokenKind::Eof,
+            len: 0,
+        }; 32];
+        loop {
+            let count = self.fill(&mut buffer);
+            tokens.extend_from_slice(&buffer[..count]);
+            if count < buffer.len() {
+                return tokens.into_iter().collect();
+            }
+        }
+    }
+}
+
+impl FusedIterator for Tokens<'_> {}
+
+/// The text whose tokens were not given out yet.
+impl fmt::Debug for Tokens<'_> {
+    fn fmt(&self, f: &mut fmt::Formatter<'_>) -> fmt::Result {
+        f.debug_tuple("Tokens").field(&self.as_str()).finish()
+    }
+}
+
+/// The tokens of a text in an edition, in order. No frontmatter is allowed: with `Edition::E2024` they are those of
+/// [`tokenize`] with `FrontmatterAllowed::No`.
+///
+/// ```
+/// use rustc_lexer::{tokenize_in, Edition, TokenKind};
+///
+/// let first = |edition| tokenize_in("##", edition).next().map(|token| token.kind);
+/// assert_eq!(first(Edition::E2021), Some(TokenKind::Pound));
+/// assert_eq!(first(Edition::E2024), Some(TokenKind::GuardedStrPrefix));
+/// ```
+///
+/// # Panics
+///
+/// Where the text has more than `u32::MAX` bytes.
+#[inline]
+pub fn tokenize_in(text: &str, edition: Edition) -> EditionTokens<'_> {
+    tokenize_as(text, FrontmatterAllowed::No, edition)
+}
+
+/// Another name of [`Tokens`], for what [`tokenize_in`] makes.
+pub type EditionTokens<'a> = Tokens<'a>;
+
+/// The tokens of a text in an edition, in order, where a frontmatter may stand in front or may not.
+///
+/// ```
+/// use rustc_lexer::{tokenize_as, Edition, FrontmatterAllowed};
+///
+/// let script = "---\nedition = 2018\n---\n##";
+/// let lens = tokenize_as(script, FrontmatterAllowed::Yes, Edition::E2018).map(|token| token.len);
+/// assert!(lens.eq([22, 1, 1, 1]));
+/// ```
+///
+/// # Panics
+///
+/// Where the text has more than `u32::MAX` bytes.
+#[inline]
+pub fn tokenize_as(
+    text: &str,
+    frontmatter_allowed: FrontmatterAllowed,
+    edition: Edition,
+) -> Tokens<'_> {
+    Tokens(erased::tokenize_as(
+        fitting(text),
+        frontmatter_allowed,
+        edition,
+    ))
+}
+
+/// The tokens of a whole document in an edition, in order: those of what follows its shebang line, where a frontmatter
+/// may stand in front.
+///
+/// The shebang line is no token. So the first token begins where the text that is left begins:
+///
+/// ```
+/// use rustc_lexer::{tokenize_document, Edition};
+///
+/// let text = "#!/bin/sh\n---\n[package]\n---\nfn main() {}";
+/// let tokens = tokenize_document(text, Edition::E2024);
+/// let mut start = text.len() - tokens.as_str().len();
+/// assert_eq!(start, 9);
+/// let mut texts = Vec::new();
+/// for token in tokens {
+///     let end = start + token.len as usize;
+///     texts.push(&text[start..end]);
+///     start = end;
+/// }
+/// assert_eq!(texts[..4], ["\n", "---\n[package]\n---", "\n", "fn"]);
+/// ```
+///
+/// # Panics
+///
+/// Where the text has more than `u32::MAX` bytes.
+#[inline]
+pub fn tokenize_document(text: &str, edition: Edition) -> Tokens<'_> {
+    Tokens(erased::tokenize_document(fitting(text), edition))
+}
+
+/// How many tokens a text has, at least and at most: no token is empty.
+fn count_of(text: &str) -> (usize, Option<usize>) {
+    (usize::from(!text.is_empty()), Some(text.len()))
+}

@@ -1,0 +1,311 @@
+//! A whole document that is kept with its tokens, against lexing it from scratch.
+
+use rustc_lexer::{
+    Edit, EditStop, Edition, FrontmatterAllowed, LexedDocument, LexedText, Relexed, Stepper, Steps,
+    Token, TokenKind, strip_shebang, tokenize_as, tokenize_document,
+};
+use std::ops::Range;
+
+/// A document with all that may stand in front, and where its body begins.
+const SCRIPT: &str = "#!/bin/sh\n---\na\n---\nb'c'";
+const BODY: usize = 19;
+
+/// What documents and edits are made of: pieces that begin, end and break a shebang line or a frontmatter.
+#[rustfmt::skip]
+const BITS: [&str; 44] = [
+    "#!", "#", "!", "/", "[", "]", "#![", "bin/sh", "\n", "\n", "\n", "\r\n", "\r", " ", "\t", "\u{2028}",
+    "---", "---\n", "\n---", "----", "--", "-", "---a\n", "---\nuse ", "cargo", "a.b", "use ", "\nuse ",
+    "//", "//!", "\n//!", "/*", "*/", "/**", "\"", "'", "r#\"", "\"#", "'r#a", "##\"", "z\"", "é", "fn x", "1.",
+];
+
+/// Numbers that look as if drawn by chance (Knuth's linear congruence of 64 bits).
+struct Random(u64);
+
+impl Random {
+    fn below(&mut self, bound: usize) -> usize {
+        self.0 = self
+            .0
+            .wrapping_mul(6_364_136_223_846_793_005)
+            .wrapping_add(1_442_695_040_888_963_407);
+        ((self.0 >> 33) as usize) % bound
+    }
+
+    fn text(&mut self, most: usize) -> String {
+        let count = self.below(most + 1);
+        (0..count).map(|_| BITS[self.below(BITS.len())]).collect()
+    }
+
+    fn document(&mut self) -> String {
+        let line = ["", "#!/bin/sh\n", "#!\n"][self.below(3)];
+        let front = ["", "---\na\n---\n", "\n ---\n", " \n----\n---\n----\n"][self.below(4)];
+        [line, front, &self.text(20)].concat()
+    }
+
+    /// A range between characters, often at the front, and often short.
+    fn range(&mut self, text: &str) -> Range<usize> {
+        let most = if self.below(2) == 0 { 24 } else { text.len() };
+        let mut start = self.below(most.min(text.len()) + 1);
+        while !text.is_char_boundary(start) {
+            start -= 1;
+        }
+        let most = [0, 1, 9, text.len()][self.below(4)];
+        let mut stop = start + self.below(most.min(text.len() - start) + 1);
+        while !text.is_char_boundary(stop) {
+            stop += 1;
+        }
+        start..stop
+    }
+}
+
+/// Whether the tokens, and all that is told of them, are those of the text.
+fn check(lexed: &LexedDocument, edition: Edition, context: &str) {
+    let text = lexed.text();
+    let line = strip_shebang(text).unwrap_or(0);
+    let scratch: Vec<Token> =
+        tokenize_as(&text[line..], FrontmatterAllowed::Yes, edition).collect();
+    assert_eq!(lexed.tokens(), scratch, "{context}");
+    assert_eq!(
+        (lexed.edition(), lexed.shebang_len()),
+        (edition, line),
+        "{context}"
+    );
+    assert!(tokenize_document(text, edition).eq(scratch.iter().copied()));
+    let head = scratch
+        .iter()
+        .position(|token| matches!(token.kind, TokenKind::Frontmatter { .. }))
+        .map_or(0, |at| at + 1);
+    let mut start = line;
+    for (number, (piece, token)) in lexed.pieces().zip(&scratch).enumerate() {
+        if number == head {
+            let body = lexed.body();
+            assert_eq!((body.number, body.place), (head, start), "{context}");
+        }
+        let end = start + token.len as usize;
+        let told = (piece.start as usize, piece.token, piece.text);
+        assert_eq!(told, (start, *token, &text[start..end]), "{context}");
+        start = end;
+    }
+    assert_eq!((lexed.pieces().len(), start), (scratch.len(), text.len()));
+}
+
+/// What an edit of the body alone tells, where head and body stay where they are.
+fn of_body(
+    before: &LexedDocument,
+    after: &LexedDocument,
+    range: &Range<usize>,
+    insert: &str,
+) -> Option<Relexed> {
+    let (old, new) = (before.body(), after.body());
+    let stays = old == new
+        && before.shebang_len() == after.shebang_len()
+        && before.tokens()[..old.number] == after.tokens()[..new.number];
+    (stays && old.place <= range.start).then(|| {
+        let mut body = LexedText::new_in(&before.text()[old.place..], before.edition());
+        let relexed = body.edit(range.start - old.place..range.end - old.place, insert);
+        Relexed {
+            kept_front: old.number + relexed.kept_front,
+            ..relexed
+        }
+    })
+}
+
+fn edit_and_check(lexed: &mut LexedDocument, range: Range<usize>, insert: &str) {
+    let before = LexedDocument::new_in(lexed.text(), lexed.edition());
+    let relexed = lexed.edit(range.clone(), insert);
+    let mut text = before.text().to_string();
+    text.replace_range(range.clone(), insert);
+    let context = format!(
+        "{:?} with {insert:?} at {range:?}, in {:?}",
+        before.text(),
+        before.edition()
+    );
+    assert_eq!(lexed.text(), text, "{context}");
+    check(lexed, before.edition(), &context);
+    let Relexed {
+        kept_front,
+        kept_back,
+        ..
+    } = relexed;
+    let (old, new) = (before.tokens(), lexed.tokens());
+    assert_eq!(
+        relexed.range(),
+        kept_front..new.len() - kept_back,
+        "{context}"
+    );
+    assert_eq!(old[..kept_front], new[..kept_front], "{context}");
+    let behind = [old.len() - kept_back, new.len() - kept_back];
+    assert_eq!(old[behind[0]..], new[behind[1]..], "{context}");
+    match of_body(&before, lexed, &range, insert) {
+        Some(wanted) => assert_eq!(relexed, wanted, "{context}"),
+        None => assert_eq!(kept_front, 0, "{context}"),
+    }
+    let painted: Vec<_> = lexed.pieces_of(relexed.range()).collect();
+    let wanted: Vec<_> = lexed
+        .pieces()
+        .skip(kept_front)
+        .take(relexed.lexed)
+        .collect();
+    assert_eq!(painted, wanted, "{context}");
+}
+
+/// Ten thousand edits of documents in each edition, or as many as the variable EDITS says.
+#[test]
+fn random_edits_in_each_edition() {
+    let asked = std::env::var("EDITS").map(|count| count.parse());
+    let count: usize = asked.map_or(10_000, |count| count.expect("EDITS is a number"));
+    for edition in Edition::ALL {
+        let mut random = Random(u64::from(edition.year()));
+        let mut lexed = LexedDocument::new_in("", edition);
+        for number in 0..count {
+            if number % 12 == 0 {
+                lexed = LexedDocument::new_in(random.document(), edition);
+                check(&lexed, edition, "at the start");
+            }
+            let range = random.range(lexed.text());
+            let insert = random.text(3);
+            edit_and_check(&mut lexed, range, &insert);
+        }
+    }
+}
+
+#[test]
+fn a_document_in_each_edition() {
+    let mut lexed = LexedDocument::new("#!/bin/sh\n---\na\n---\n'r#a");
+    check(&lexed, Edition::E2024, "at the start");
+    for edition in Edition::ALL {
+        lexed.set_edition(edition);
+        check(&lexed, edition, "in another edition");
+        let made = LexedDocument::new_in(lexed.text(), edition);
+        assert_eq!(made.tokens(), lexed.tokens());
+    }
+    assert!(lexed.try_set_edition(Edition::E2015).is_ok());
+    check(&lexed, Edition::E2015, "in the first edition");
+    let tried = LexedDocument::try_new_in(SCRIPT, Edition::E2021).unwrap();
+    check(&tried, Edition::E2021, "where memory is given");
+}
+
+/// Edits behind the head, which is kept, and at each place that changes it: how many tokens are kept in front, and where
+/// the body begins.
+#[test]
+fn edits_of_the_head() {
+    for (range, insert, front, body) in [
+        (24..24, "d", 3, BODY),
+        (20..20, "fn ", 2, BODY),
+        (2..9, "", 0, BODY - 7),
+        (2..9, "[", 0, 0),
+        (9..10, "", 0, 12),
+        (10..11, "", 0, 9),
+        (14..15, "bc", 0, BODY + 1),
+        (16..17, "", 0, 23),
+        (0..BODY, "", 0, 0),
+    ] {
+        let mut lexed = LexedDocument::new(SCRIPT);
+        let relexed = lexed.try_edit(range.clone(), insert).unwrap();
+        let told = (relexed.kept_front, lexed.body().place);
+        assert_eq!(told, (front, body), "{insert:?} at {range:?}");
+        check(&lexed, Edition::E2024, "an edit of the head");
+    }
+}
+
+/// The frontmatter ends where it ended, and its first line is no bad one any more.
+#[test]
+fn an_edit_right_behind_the_head() {
+    let mut lexed = LexedDocument::new("---");
+    let kinds = |lexed: &LexedDocument| lexed.tokens()[0].kind;
+    let before = kinds(&lexed);
+    edit_and_check(&mut lexed, 3..3, "\nuse a;");
+    assert_eq!(lexed.body().place, 3);
+    assert!(kinds(&lexed) != before);
+}
+
+#[test]
+fn a_list_of_edits() {
+    let mut lexed = LexedDocument::new(SCRIPT);
+    let edit = |start, stop, insert| Edit {
+        start,
+        stop,
+        insert,
+    };
+    let edits = [
+        edit(16, 19, ""),
+        edit(16, 16, "---"),
+        edit(BODY, BODY, "é"),
+        edit(BODY + 1, BODY + 1, ""),
+    ];
+    assert_eq!(lexed.edit_all(&edits[..2]), Ok(()));
+    assert_eq!(lexed.text(), SCRIPT);
+    assert_eq!(lexed.edit_all(&edits), Err(EditStop::Range { at: 3 }));
+    assert_eq!(
+        lexed.text(),
+        [&SCRIPT[..BODY], "é", &SCRIPT[BODY..]].concat()
+    );
+    check(&lexed, Edition::E2024, "a list of edits");
+}
+
+#[test]
+fn what_is_not_accepted() {
+    let lexed = LexedDocument::new("#!é");
+    for (range, good) in [
+        (0..0, true),
+        (2..4, true),
+        (2..3, false),
+        (3..4, false),
+        (0..5, false),
+        (5..5, false),
+    ] {
+        assert_eq!(lexed.accepts(range, "b"), good);
+    }
+}
+
+/// A grammar whose tokens are single characters, and its steps.
+struct Characters(usize);
+
+impl Stepper for Characters {
+    fn step(&mut self, rest: &str) -> Token {
+        self.0 += 1;
+        Token {
+            kind: TokenKind::Unknown,
+            len: rest.chars().next().map_or(0, char::len_utf8) as u32,
+        }
+    }
+}
+
+#[test]
+fn what_is_held() {
+    let lexed = LexedDocument::try_with(SCRIPT, Steps::new_in(Edition::E2018)).unwrap();
+    check(&lexed, Edition::E2018, "by a stepper");
+    let by_characters = LexedDocument::try_with("#!a\nbé", Characters(0)).unwrap();
+    let lens: Vec<u32> = by_characters
+        .tokens()
+        .iter()
+        .map(|token| token.len)
+        .collect();
+    assert_eq!((lens, by_characters.stepper().0), (vec![1, 1, 2], 3));
+    let pieces: Vec<_> = lexed
+        .pieces_of(1..3)
+        .map(|piece| (piece.start, piece.text))
+        .collect();
+    assert_eq!(pieces, [(10, "---\na\n---"), (19, "\n")]);
+    let empty = LexedDocument::default();
+    assert_eq!(
+        (empty.text(), empty.tokens().len(), empty.body().place),
+        ("", 0, 0)
+    );
+    let shown = format!("{:?}", LexedDocument::new("#!a\nb"));
+    assert!(
+        shown.starts_with(r##"LexedDocument { text: "#!a\nb", tokens: [Token"##),
+        "{shown}"
+    );
+}
+
+#[test]
+#[should_panic(expected = "between characters")]
+fn an_edit_inside_a_character() {
+    LexedDocument::new("é").edit(1..2, "");
+}
+
+#[test]
+#[should_panic(expected = "are not there")]
+fn pieces_past_the_last() {
+    LexedDocument::new("#!a\nb").pieces_of(1..3);
+}

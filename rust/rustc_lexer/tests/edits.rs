@@ -1,0 +1,293 @@
+//! A text that is kept with its tokens, against lexing it from scratch and against what an edit is to keep.
+
+use rustc_lexer::{
+    Edition, FrontmatterAllowed, LexedText, Token, TokenKind, fits, settled, starts_raw, tokenize,
+    tokenize_in,
+};
+use std::ops::Range;
+
+const EDITIONS: [Edition; 4] = [
+    Edition::E2015,
+    Edition::E2018,
+    Edition::E2021,
+    Edition::E2024,
+];
+
+/// What edits are made of: pieces that change what stands around them.
+const BITS: [&str; 40] = [
+    "a",
+    "bc",
+    "r",
+    "k",
+    "br",
+    "c",
+    "1",
+    "0x",
+    "e",
+    ".",
+    "_",
+    " ",
+    "\n",
+    "\t",
+    "é",
+    "😀",
+    "\u{3b1}",
+    "\"",
+    "'",
+    "#",
+    "##",
+    "r#",
+    "r#\"",
+    "\"#",
+    "\\",
+    "/",
+    "//",
+    "/*",
+    "*/",
+    "///",
+    "!",
+    "'r#a",
+    "b'",
+    "::",
+    "->",
+    "..=",
+    "let x = 1;",
+    "fn f() {}\n",
+    "'a",
+    "\u{200d}",
+];
+
+/// Numbers that look as if drawn by chance (Knuth's linear congruence of 64 bits).
+struct Random(u64);
+
+impl Random {
+    fn below(&mut self, bound: usize) -> usize {
+        self.0 = self
+            .0
+            .wrapping_mul(6_364_136_223_846_793_005)
+            .wrapping_add(1_442_695_040_888_963_407);
+        ((self.0 >> 33) as usize) % bound
+    }
+
+    fn text(&mut self, most: usize) -> String {
+        let count = self.below(most + 1);
+        (0..count).map(|_| BITS[self.below(BITS.len())]).collect()
+    }
+
+    /// A place between characters.
+    fn place(&mut self, text: &str) -> usize {
+        let mut place = self.below(text.len() + 1);
+        while !text.is_char_boundary(place) {
+            place -= 1;
+        }
+        place
+    }
+
+    fn range(&mut self, text: &str) -> Range<usize> {
+        let start = self.place(text);
+        let mut stop = (start + self.below(9)).min(text.len());
+        if self.below(20) == 0 {
+            stop = self.place(text).max(start);
+        }
+        while !text.is_char_boundary(stop) {
+            stop += 1;
+        }
+        start..stop
+    }
+}
+
+/// The ends of the tokens, with 0 before them.
+fn bounds(tokens: &[Token]) -> Vec<usize> {
+    let mut bounds = vec![0];
+    for token in tokens {
+        bounds.push(bounds[bounds.len() - 1] + token.len as usize);
+    }
+    bounds
+}
+
+/// What the edit is to keep in front, to lex and to keep at the back, counted as docs/RELEXING.md says it.
+fn counts(
+    old_text: &str,
+    old: &[Token],
+    new: &[Token],
+    range: &Range<usize>,
+    inserted: usize,
+) -> (usize, usize, usize) {
+    let old_bounds = bounds(old);
+    let new_bounds = bounds(new);
+    let kept_front = old_bounds[1..]
+        .iter()
+        .filter(|&&end| end <= range.start && old_text[end..range.start].chars().count() >= 2)
+        .count();
+    let past = range.start + inserted;
+    let met = (kept_front..new_bounds.len())
+        .find(|&number| {
+            let end = new_bounds[number];
+            end >= past && old_bounds.contains(&(end - inserted + range.len()))
+        })
+        .expect("the ends of both texts meet");
+    let there = new_bounds[met] - inserted + range.len();
+    let kept_back = old_bounds[1..].iter().filter(|&&end| end > there).count();
+    (kept_front, met - kept_front, kept_back)
+}
+
+fn check(lexed: &LexedText, context: &str) {
+    let scratch: Vec<Token> = tokenize_in(lexed.text(), lexed.edition()).collect();
+    assert_eq!(lexed.tokens(), scratch, "{context}");
+    let mut start = 0;
+    for (piece, token) in lexed.pieces().zip(&scratch) {
+        let end = start + token.len as usize;
+        assert_eq!(
+            (piece.start, piece.token, piece.text),
+            (start as u32, *token, &lexed.text()[start..end])
+        );
+        start = end;
+    }
+    assert_eq!(start, lexed.text().len());
+}
+
+fn edit_and_check(lexed: &mut LexedText, range: Range<usize>, insert: &str) {
+    let before = lexed.text().to_string();
+    let old = lexed.tokens().to_vec();
+    let relexed = lexed.edit(range.clone(), insert);
+    let mut text = before.clone();
+    text.replace_range(range.clone(), insert);
+    assert_eq!(lexed.text(), text);
+    let context = format!(
+        "{before:?} with {insert:?} at {range:?}, in {:?}",
+        lexed.edition()
+    );
+    check(lexed, &context);
+    assert_eq!(
+        (relexed.kept_front, relexed.lexed, relexed.kept_back),
+        counts(&before, &old, lexed.tokens(), &range, insert.len()),
+        "{context}"
+    );
+    let painted: Vec<_> = lexed.pieces_of(relexed.range()).collect();
+    let wanted: Vec<_> = lexed
+        .pieces()
+        .skip(relexed.kept_front)
+        .take(relexed.lexed)
+        .collect();
+    assert_eq!(painted, wanted, "{context}");
+}
+
+#[test]
+fn random_edits_of_short_texts() {
+    let mut random = Random(1);
+    for round in 0..800 {
+        let edition = EDITIONS[round % 4];
+        let mut lexed = LexedText::new_in(random.text(40), edition);
+        check(&lexed, "at the start");
+        for _ in 0..12 {
+            let range = random.range(lexed.text());
+            let insert = random.text(3);
+            edit_and_check(&mut lexed, range, &insert);
+        }
+    }
+}
+
+/// Ten thousand edits of one text in each edition, or as many as the variable EDITS says.
+#[test]
+fn many_edits_of_one_text_in_each_edition() {
+    let asked = std::env::var("EDITS").map(|count| count.parse());
+    let count = asked.map_or(10_000, |count| count.expect("EDITS is a number"));
+    for edition in EDITIONS {
+        let mut random = Random(u64::from(edition.year()));
+        let mut lexed = LexedText::new_in(random.text(200), edition);
+        for _ in 0..count {
+            let range = random.range(lexed.text());
+            let most = if lexed.text().len() < 400 { 20 } else { 2 };
+            let insert = random.text(most);
+            edit_and_check(&mut lexed, range, &insert);
+        }
+    }
+}
+
+#[test]
+fn random_edits_of_a_long_text() {
+    let mut random = Random(2);
+    let mut lexed =
+        LexedText::new("fn add(left: u32, right: u32) -> u32 { left + right } // é\n".repeat(400));
+    for _ in 0..400 {
+        let range = random.range(lexed.text());
+        let insert = random.text(4);
+        edit_and_check(&mut lexed, range, &insert);
+        if random.below(40) == 0 {
+            let edition = EDITIONS[random.below(4)];
+            lexed.set_edition(edition);
+            assert_eq!(lexed.edition(), edition);
+            check(&lexed, "in another edition");
+        }
+    }
+}
+
+#[test]
+fn more_tokens_than_the_room_of_one_call() {
+    let mut lexed = LexedText::new("a + b");
+    edit_and_check(&mut lexed, 1..1, &" - c".repeat(10_000));
+    edit_and_check(&mut lexed, 0..0, "/*");
+    assert_eq!(lexed.tokens().len(), 1);
+    edit_and_check(&mut lexed, 0..1, "");
+    let all = 0..lexed.text().len();
+    edit_and_check(&mut lexed, all, "");
+    assert_eq!(lexed.tokens().len(), 0);
+}
+
+#[test]
+fn the_example_of_the_documents() {
+    let mut lexed = LexedText::new("let ab = cd + ef;");
+    edit_and_check(&mut lexed, 12..13, "- 1 -");
+    let relexed = lexed.edit(12..17, "+");
+    assert_eq!(
+        (relexed.kept_front, relexed.lexed, relexed.kept_back),
+        (6, 3, 3)
+    );
+    assert_eq!(lexed.tokens()[2].kind, TokenKind::Ident);
+    assert_eq!(
+        lexed.tokens().last().map(|token| token.kind),
+        Some(TokenKind::Semi)
+    );
+}
+
+#[test]
+fn editions() {
+    let kinds = |edition| tokenize_in("'r#a##", edition).count();
+    assert_eq!(EDITIONS.map(kinds), [5, 5, 3, 2]);
+    assert_eq!(EDITIONS.map(Edition::year), [2015, 2018, 2021, 2024]);
+    assert!(EDITIONS.is_sorted() && EDITIONS[0] < EDITIONS[1]);
+    let text = "a ".repeat(1000) + "r#\"b\"# c\"d\" 'é";
+    assert!(tokenize_in(&text, Edition::E2024).eq(tokenize(&text, FrontmatterAllowed::No)));
+    assert_eq!(tokenize_in("", Edition::E2015).next(), None);
+}
+
+#[test]
+fn what_is_not_accepted() {
+    let lexed = LexedText::new("aé");
+    for (range, good) in [
+        (0..0, true),
+        (1..3, true),
+        (1..2, false),
+        (2..3, false),
+        (0..4, false),
+        (4..4, false),
+    ] {
+        assert_eq!(lexed.accepts(range, "b"), good);
+    }
+    #[allow(clippy::reversed_empty_ranges)]
+    let reversed = 3..1;
+    assert!(!lexed.accepts(reversed, ""));
+}
+
+#[test]
+#[should_panic(expected = "between characters")]
+fn an_edit_inside_a_character() {
+    LexedText::new("é").edit(1..2, "");
+}
+
+#[test]
+fn checks() {
+    assert!(fits(""));
+    assert!(starts_raw("br\"a\"", 2) && !starts_raw("br\"a\"", 1) && !starts_raw("r", 0));
+    assert_eq!((settled("ab cd ef"), settled("k#"), settled("")), (6, 0, 0));
+}

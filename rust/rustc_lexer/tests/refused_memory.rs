@@ -1,0 +1,87 @@
+//! Each request for memory that an edit makes, refused in turn: text and tokens are then as they were.
+
+use rustc_lexer::{Edition, LexedText};
+use std::alloc::{GlobalAlloc, Layout, System};
+use std::cell::Cell;
+
+thread_local! {
+    /// How many requests of this thread are still given, counted down.
+    static GIVEN: Cell<usize> = const { Cell::new(usize::MAX) };
+}
+
+/// The allocator of the system, which refuses what is not given.
+struct Refusing;
+
+fn is_given() -> bool {
+    GIVEN.with(|given| {
+        let left = given.get().checked_sub(1);
+        given.set(left.unwrap_or(0));
+        left.is_some()
+    })
+}
+
+// SAFETY: each call is that of the system's allocator, or answers null, which says that it was refused.
+unsafe impl GlobalAlloc for Refusing {
+    unsafe fn alloc(&self, layout: Layout) -> *mut u8 {
+        if is_given() {
+            unsafe { System.alloc(layout) }
+        } else {
+            std::ptr::null_mut()
+        }
+    }
+
+    unsafe fn dealloc(&self, at: *mut u8, layout: Layout) {
+        unsafe { System.dealloc(at, layout) }
+    }
+
+    unsafe fn realloc(&self, at: *mut u8, layout: Layout, size: usize) -> *mut u8 {
+        if is_given() {
+            unsafe { System.realloc(at, layout, size) }
+        } else {
+            std::ptr::null_mut()
+        }
+    }
+}
+
+#[global_allocator]
+static ALLOCATOR: Refusing = Refusing;
+
+/// What a call answers to whom so many requests are given.
+fn given<T>(count: usize, call: impl FnOnce() -> T) -> T {
+    GIVEN.with(|given| given.set(count));
+    let answer = call();
+    GIVEN.with(|given| given.set(usize::MAX));
+    answer
+}
+
+#[test]
+fn each_request_of_an_edit() {
+    let text = "fn f() { let a = \"b\"; }\n".repeat(40);
+    let long = "x + ".repeat(400);
+    for insert in ["", "a", "/*", "\"", long.as_str()] {
+        let mut refused = 0;
+        for count in 0..100 {
+            let mut lexed = LexedText::new(&text);
+            let before = lexed.tokens().to_vec();
+            if given(count, || lexed.try_edit(300..310, insert)).is_ok() {
+                assert_eq!(lexed.text(), [&text[..300], insert, &text[310..]].concat());
+                assert_eq!(lexed.tokens(), LexedText::new(lexed.text()).tokens());
+                break;
+            }
+            refused += 1;
+            assert_eq!(lexed.text(), text);
+            assert_eq!(lexed.tokens(), before);
+        }
+        assert!((1..99).contains(&refused), "{refused} refusals");
+    }
+}
+
+#[test]
+fn a_text_and_another_edition() {
+    assert!(given(0, || LexedText::try_new_in("a + b", Edition::E2024)).is_err());
+    let mut lexed = LexedText::new("'r#a");
+    assert!(given(0, || lexed.try_set_edition(Edition::E2015)).is_err());
+    assert_eq!((lexed.edition(), lexed.tokens().len()), (Edition::E2024, 1));
+    assert!(lexed.try_set_edition(Edition::E2015).is_ok());
+    assert_eq!(lexed.tokens().len(), 3);
+}

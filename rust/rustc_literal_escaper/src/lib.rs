@@ -1,0 +1,51 @@
+//! What the literals of Rust stand for, with the names, types and signatures of the compiler's own
+//! `rustc_literal_escaper`.
+//!
+//! A lexer takes `"\q"` for one token. The calls here are given what stands between a literal's quotes, and answer
+//! what it stands for, unit by unit, and what is wrong in it.
+//!
+//! ```
+//! use rustc_literal_escaper::{unescape_str, EscapeError};
+//!
+//! let mut faults = Vec::new();
+//! let mut value = String::new();
+//! unescape_str(r"a\n\q", |range, unit| match unit {
+//!     Ok(c) => value.push(c),
+//!     Err(error) => faults.push((range, error)),
+//! });
+//! assert_eq!(value, "a\n");
+//! assert_eq!(faults, [(3..5, EscapeError::InvalidEscape)]);
+//! ```
+//!
+//! The modules below `erased` are made from a proved source in Rattle, which is Rust with contracts, by deleting the
+//! contracts. The rest is written by hand. The repository's `docs/ERASED.md` says what is claimed and what is trusted.
+
+#![no_std]
+#![deny(missing_docs)]
+#![forbid(unsafe_code)]
+
+#[cfg(feature = "alloc")]
+extern crate alloc;
+#[cfg(test)]
+extern crate std;
+
+// Contracts alone use some of its imports and variables.
+#[allow(missing_docs, unused_imports, unused_variables, dead_code)]
+#[allow(clippy::assign_op_pattern, clippy::collapsible_if)]
+#[allow(clippy::question_mark)]
+#[doc(hidden)]
+pub mod erased;
+mod unit;
+#[cfg(feature = "alloc")]
+mod written;
+
+pub use erased::{
+    EscapeError, Mode, check_for_errors, check_raw_byte_str, check_raw_str, unescape_byte,
+    unescape_byte_str, unescape_char, unescape_str,
+};
+use rattle_support as support;
+#[cfg(feature = "alloc")]
+pub use rattle_support::AllocError;
+pub use unit::{MixedUnit, check_raw_c_str, unescape_c_str};
+#[cfg(feature = "alloc")]
+pub use written::{EscapeCStrError, escape_byte_str, escape_c_str, escape_str};
