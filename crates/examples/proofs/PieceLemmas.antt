@@ -5,7 +5,7 @@ use Rattle.std.specs.List.{flat_map}
 use Rattle.rustc_lexer.specs.declared.token.Token.{Token}
 use Rattle.rustc_lexer.specs.Edits.{Placed, pieces_from, pieces_of}
 use Rattle.rustc_lexer.specs.Tokens.{bound, Partitions}
-use Rattle.examples.specs.Highlight.{close_mark, marked, open_mark, with_marks, without_marks}
+use Rattle.examples.specs.Repaint.{close_mark, marked, open_mark}
 
 -- what was gathered of the pieces in front of a token, and then what the token gives
 pub gather : {X : Type 0} (of : List Placed → List X) (text : List ℕ) (start : ℕ) (left others : List Token) (token : Token) (held here more all : List X) → held ++ of (pieces_from text start left) ≡ all → left ≡ token ∷ others
@@ -24,13 +24,6 @@ pieces-joined text start (token ∷ tokens) =
 pub joined_whole : (text : List ℕ) (tokens : List Token) → Partitions text tokens → flat_map (λ (piece : Placed). piece.text) (pieces_of text tokens) ≡ text
 joined_whole text tokens cut = pieces-joined text 0 tokens ∙ take_all (bound tokens (length tokens)) text (let w = cut.whole in omega arith)
 
-without_marks-marked : (pieces : List Placed) → without_marks (marked pieces) ≡ flat_map (λ (piece : Placed). piece.text) pieces
-without_marks-marked [] = refl
-without_marks-marked (piece ∷ pieces) = ap (λ bs. piece.text ++ bs) (without_marks-marked pieces)
-
-pub without_marks_whole : (text : List ℕ) (tokens : List Token) → Partitions text tokens → without_marks (marked (pieces_of text tokens)) ≡ text
-without_marks_whole text tokens cut = without_marks-marked (pieces_of text tokens) ∙ joined_whole text tokens cut
-
 module _ {W : Type 0} (took : W → List ℕ → W → Type 0) where
   -- one more call before the others
   writes_then : (w v u : W) (bs rest : List ℕ) → took w bs v → WritesInCalls took v rest u → WritesInCalls took w (bs ++ rest) u
@@ -40,6 +33,6 @@ module _ {W : Type 0} (took : W → List ℕ → W → Type 0) where
   pub writes_piece : (w0 w1 w2 w3 w : W) (left others : List Placed) (piece : Placed) (before text after : List ℕ)
       → left ≡ piece ∷ others → before ≡ open_mark piece.token.kind → text ≡ piece.text → after ≡ close_mark piece.token.kind
       → took w0 before w1 → took w1 text w2 → took w2 after w3
-      → WritesInCalls took w3 (with_marks (marked others)) w → WritesInCalls took w0 (with_marks (marked left)) w
+      → WritesInCalls took w3 (marked others) w → WritesInCalls took w0 (marked left) w
   writes_piece w0 w1 w2 w3 w left others piece before text after first opens is closes a b c d =
       let all = writes_then w0 w1 w before _ a (writes_then w1 w2 w text _ b (writes_then w2 w3 w after _ c d)) in rw (first, ← closes, ← opens, ← is) all

@@ -1,11 +1,9 @@
 pub mod Arriving
 pub mod Comments
-pub mod Highlight
 pub mod Joined
 pub mod Names
 pub mod RawStrings
 pub mod Repaint
 pub mod Slices
-pub mod Spans
 pub mod Split
 pub mod Suffixes

@@ -24,7 +24,7 @@ pub fn skip_comments(text: &str) -> &str
 }
 
 /// Whether a token is white space or a comment.
-pub(crate) fn is_skipped(kind: TokenKind) -> bool
+fn is_skipped(kind: TokenKind) -> bool
     ensures { result ≡ is_skipped kind }
 {
     matches!(

@@ -3,12 +3,10 @@
 
 pub mod arriving;
 pub mod comments;
-pub mod highlight;
 pub mod names;
 pub mod raw_strings;
 pub mod repaint;
 pub mod same;
 pub mod slices;
-pub mod spans;
 pub mod split;
 pub mod suffixes;

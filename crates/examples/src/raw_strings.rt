@@ -1,14 +1,14 @@
 //! The raw strings of a file, checked.
 ghost use Rattle.std.specs.Prelude.{◌≡◌, IfOk};
 ghost use Rattle.rustc_lexer.specs.Classes.{Fits};
-ghost use Rattle.rustc_lexer.specs.Edits.{pieces_of};
+ghost use Rattle.rustc_lexer.specs.Edits.{pieces_from};
 ghost use Rattle.rustc_lexer.specs.declared.edition.Edition.TheVariants.{E2024};
-ghost use Rattle.rustc_lexer.specs.LanguageText.{document};
-ghost use Rattle.rustc_lexer.specs.Tokens.{tokens_of, HasText};
+ghost use Rattle.rustc_lexer.specs.Document.{document_tokens, shebang_len};
+ghost use Rattle.rustc_lexer.specs.Tokens.{HasText};
 ghost use Rattle.examples.specs.RawStrings.{faults_of, raw_fault, raw_prefix_len};
 
 use rustc_lexer::{
-    FrontmatterAllowed, LiteralKind, RawStrError, TokenKind, tokenize, validate_raw_str,
+    Edition, LiteralKind, RawStrError, TokenKind, tokenize_document, validate_raw_str,
 };
 use std::alloc::{AllocError, Global};
 
@@ -26,11 +26,12 @@ pub fn raw_faults(alloc: Global, text: &str) -> Result<Vec<RawFault>, AllocError
     requires fits { Fits text.now }
     ensures { IfOk result
         (λ faults. faults.items
-        ≡ faults_of (pieces_of text.now (tokens_of (document E2024) text.now))) }
+        ≡ faults_of (pieces_from text.now (shebang_len text.now) (document_tokens E2024 text.now))) }
 {
     let mut faults = Vec::new(alloc);
-    let mut start = 0;
-    for token in tokenize(text, FrontmatterAllowed::Yes) {
+    let tokens = tokenize_document(text, Edition::E2024);
+    let mut start = text.len() - tokens.as_str().len();
+    for token in tokens {
         let stop = start + token.len as usize;
         if let Some(fault) = raw_fault(start, token.kind, &text[start..stop]) {
             faults.push(fault)?;

@@ -2,11 +2,9 @@
 ghost use Rattle.std.specs.Prelude.{◌≡◌, ◌+◌, ◌-◌, OnOk, OnErr, IfOk, length};
 ghost use Rattle.std.specs.Fmt.{WritesInCalls};
 ghost use Rattle.rustc_lexer.specs.Edits.{IsEdit, apply, pieces_of};
-ghost use Rattle.examples.specs.Highlight.{marked, with_marks};
-ghost use Rattle.examples.specs.Repaint.{changed, shown_after};
+ghost use Rattle.examples.specs.Repaint.{changed, close_mark, marked, open_mark, shown_after};
 
-use crate::highlight::{closing, opening};
-use rustc_lexer::{LexedText, Relexed, Stepper};
+use rustc_lexer::{LexedText, Relexed, Stepper, TokenKind};
 use std::alloc::AllocError;
 use std::fmt;
 
@@ -36,7 +34,7 @@ pub fn edit_shown<S: Stepper>(
     lexed.edit(start, stop, insert)
 }
 
-/// Writes the tokens that an edit changed, marked by their kinds as [`highlight`](crate::highlight) does.
+/// Writes the tokens that an edit changed, marked by their kinds in the styles of a terminal.
 pub fn repaint<S: Stepper, W: fmt::Write>(
     lexed: &LexedText<S>,
     relexed: Relexed,
@@ -44,7 +42,7 @@ pub fn repaint<S: Stepper, W: fmt::Write>(
 ) -> fmt::Result
     requires all { relexed.kept_front + relexed.lexed + relexed.kept_back ≡ length lexed.now.tokens }
     ensures { OnOk result (WritesInCalls W.write_str_gives output.old
-        (with_marks (marked (changed relexed (pieces_of lexed.now.text lexed.now.tokens))))
+        (marked (changed relexed (pieces_of lexed.now.text lexed.now.tokens)))
         output.new) }
 {
     let back = lexed.tokens().len() - relexed.kept_back;
@@ -54,4 +52,29 @@ pub fn repaint<S: Stepper, W: fmt::Write>(
         output.write_str(closing(piece.token.kind))?;
     }
     Ok(())
+}
+
+/// The mark before a token, which sets the style of a terminal; none where the token is left plain.
+fn opening(kind: TokenKind) -> &'static str
+    ensures { result.now ≡ open_mark kind }
+{
+    match kind {
+        TokenKind::LineComment { .. } | TokenKind::BlockComment { .. } => "\x1b[2m",
+        TokenKind::Literal { .. } => "\x1b[32m",
+        TokenKind::Lifetime { .. } | TokenKind::RawLifetime | TokenKind::UnknownPrefixLifetime =>
+            "\x1b[35m",
+        TokenKind::Unknown => "\x1b[31m",
+        _ => "",
+    }
+}
+
+/// The mark past a token, which sets the style back.
+fn closing(kind: TokenKind) -> &'static str
+    ensures { result.now ≡ close_mark kind }
+{
+    if opening(kind).is_empty() {
+        ""
+    } else {
+        "\x1b[0m"
+    }
 }

@@ -3,36 +3,14 @@ use crate::table::rows;
 use Edition::{E2015, E2018, E2021, E2024};
 use examples::arriving::{Arriving, lex_pieces};
 use examples::comments::skip_comments;
-use examples::highlight::highlight;
 use examples::names::first_name;
 use examples::raw_strings::{RawFault, raw_faults};
 use examples::repaint::{edit_shown, repaint};
 use examples::slices::find_word;
-use examples::spans::{Span, spans};
 use examples::split::split_in;
 use examples::suffixes::any_suffix;
 use rustc_lexer::{Edition, LexedText, LiteralKind, RawStrError, Relexed, Token, TokenKind, fits};
 use std::alloc::{AllocError, Global};
-
-static MARKS: &[(&str, &str)] = rows! {
-    "" => "";
-    "let x = 'é'; // b" => "let x = \x1b[32m'é'\x1b[0m; \x1b[2m// b\x1b[0m";
-    "&'a str" => "&\x1b[35m'a\x1b[0m str";
-    "\\" => "\x1b[31m\\\x1b[0m";
-};
-
-/// Whether the text is written with these marks.
-fn is_marked(alloc: Global, text: &str, wanted: &str) -> bool {
-    let mut written = String::new(alloc);
-    fits(text) && highlight(text, &mut written).is_ok() && written.as_str() == wanted
-}
-
-#[test]
-fn marks(rt: HostRuntime) {
-    for (text, wanted) in MARKS {
-        assert!(rt; is_marked(rt.alloc(), text, wanted), "at {text:?}");
-    }
-}
 
 /// Texts, words, and where those stand in them.
 static WORDS: &[(&str, &str, Option<usize>)] = &[
@@ -98,31 +76,10 @@ fn comments(rt: HostRuntime) {
 }
 
 #[test]
-fn parts_of_a_parser(rt: HostRuntime) {
-    let text = "fn /* é */ f(x) // d";
-    let span = |kind, start, stop, text| Span {
-        kind,
-        start,
-        stop,
-        text,
-    };
-    let wanted = [
-        span(TokenKind::Ident, 0, 2, "fn"),
-        span(TokenKind::Ident, 12, 13, "f"),
-        span(TokenKind::OpenParen, 13, 14, "("),
-        span(TokenKind::Ident, 14, 15, "x"),
-        span(TokenKind::CloseParen, 15, 16, ")"),
-    ];
-    assert!(rt; fits(text));
-    let found = spans(rt.alloc(), text).expect(&rt, "memory");
-    assert_eq!(rt; found.as_slice(), wanted.as_slice());
-}
-
-#[test]
 fn refused_raw_strings(rt: HostRuntime) {
-    let text = "r#\"a\"# br##\"abc\"# ";
+    let text = "#!/b\nr#\"a\"# br##\"abc\"# ";
     let want = [RawFault {
-        start: 7,
+        start: 12,
         error: RawStrError::NoTerminator {
             expected: 2,
             found: 1,

@@ -1,8 +1,9 @@
 -- Where an iterator stands in its text, for its callers.
-use Rattle.std.proofs.Common.{◌≡◌, ℕ, ◌+◌, ◌-◌, List, take, drop, drop-drop, arith}
+use Rattle.std.proofs.Common.{◌≡◌, ℕ, ◌+◌, ◌-◌, ◌∙◌, List, length, take, drop, drop-drop, length-drop, ap, sym, subst, IsCharBoundary, arith}
 use Rattle.std.proofs.lemmas.Str.{IsCharBoundary-from_rest}
 use Rattle.std.proofs.lemmas.Grind.{common_steps}
 use Rattle.rustc_lexer.specs.{Token}
+use Rattle.rustc_lexer.specs.Document.{shebang_len}
 use Rattle.rustc_lexer.specs.laws.State.{StandsAt}
 use Rattle.rustc_lexer.specs.State.{State}
 use Rattle.rustc_lexer.specs.Tokens.{TakesToken}
@@ -14,3 +15,11 @@ stands_past text place s t token at takes = grind (arith, common_steps, IsCharBo
 -- the slice from `start` to the end of the token is the front of what is left
 pub piece_is : (text rest piece : List ℕ) (start n : ℕ) → piece ≡ take (start + n - start) (drop start text) → drop start text ≡ rest → piece ≡ take n rest
 piece_is text rest piece start n e left = grind (arith, common_steps)
+
+-- where the tokens of a document begin, by the text that is left before any is taken
+pub document_start : (text rest : List ℕ) (s : State) → IsCharBoundary text (shebang_len text) → rest ≡ s.rest → s.rest ≡ drop (shebang_len text) text → length text - length rest ≡ shebang_len text
+document_start text rest s boundary left is = let b = boundary.0 in omega (arith, ap length (left ∙ is), length-drop (shebang_len text) text)
+
+pub document_place : (text rest : List ℕ) (s : State) → IsCharBoundary text (shebang_len text) → rest ≡ s.rest → s.rest ≡ drop (shebang_len text) text → StandsAt text (length text - length rest) s
+document_place text rest s boundary left is =
+    let begins = document_start text rest s boundary left is in (subst (λ (n : ℕ). IsCharBoundary text n) (sym begins) boundary, ap (λ (n : ℕ). drop n text) begins ∙ sym is)

@@ -3,7 +3,7 @@ use Rattle.std.proofs.lemmas.Grind.{common_steps}
 use Rattle.rustc_lexer.specs.Document.{shebang_len}
 use Rattle.rustc_lexer.specs.State.{State}
 use Rattle.rustc_lexer.specs.Tokens.{tokens_left}
-use Rattle.rustc_lexer.proofs.PlaceLemmas.{piece_is, stands_past}
+use Rattle.rustc_lexer.proofs.PlaceLemmas.{document_place, document_start, piece_is, stands_past}
 use Rattle.count_run.specs.declared.lines.LineCounts.{LineCounts}
 use Rattle.count_run.specs.Counter.{begun}
 use Rattle.count_run.specs.Lines.{lines_counted}
@@ -28,11 +28,12 @@ loop-token-init c =
     let text : List ℕ = c.args.text.now in
     let tokens = c.tokenize_document-tokens in
     let state = c.into_iter-token-iterator.ensures.into_iter_gives ∙ tokens.ensures.state in
-    let rest : c.as_str.result.now ≡ drop (shebang_len text) text = c.as_str.ensures.rest ∙ ap (λ (s : State). s.rest) tokens.ensures.state in
-    let begins : length text - length c.as_str.result.now ≡ shebang_len text = let b = tokens.ensures.boundary.0 in omega (arith, ap length rest, length-drop (shebang_len text) text) in
+    let rest : c.as_str.result.now ≡ c.into_iter-token-iterator.result.rest = c.as_str.ensures.rest ∙ ap (λ (s : State). s.rest) (sym c.into_iter-token-iterator.ensures.into_iter_gives) in
+    let left = ap (λ (s : State). s.rest) state in
+    let begins = document_start text c.as_str.result.now c.into_iter-token-iterator.result tokens.ensures.boundary rest left in
     let line : c.range.result.now ≡ take (shebang_len text) text = c.range.ensures.value ∙ ap (λ (n : ℕ). take n text) (let e : length text - length c.as_str.result.now - 0 ≡ shebang_len text = omega (arith, begins) in e) in
     record {
-      place = (subst (λ (n : ℕ). IsCharBoundary text n) (sym begins) tokens.ensures.boundary, ap (λ (n : ℕ). drop n text) begins ∙ sym (ap (λ (s : State). s.rest) state));
+      place = document_place text c.as_str.result.now c.into_iter-token-iterator.result tokens.ensures.boundary rest left;
       few = let b = c.take_all.ensures.begun in let l = c.range.ensures.len in let z : begun c.new-counter.result ≡ 0 = ap begun c.new-counter.ensures in omega arith;
       left = document_begins text c.range.result.now _ _ c.new-counter.result c.take_all.new.self c.new-counter.ensures line (ap (λ (s : State). s.rest) state) (ap tokens_left state) c.take_all.ensures.bytes;
     }

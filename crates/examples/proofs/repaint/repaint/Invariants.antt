@@ -1,13 +1,12 @@
 use Rattle.std.proofs.Common.{length}
 use Rattle.std.specs.Fmt.{WritesInCalls}
 use Rattle.rustc_lexer.specs.Edits.{pieces_of}
-use Rattle.examples.specs.Highlight.{marked, with_marks}
-use Rattle.examples.specs.Repaint.{changed}
+use Rattle.examples.specs.Repaint.{changed, marked}
 use Rattle.examples.proofs.repaint.repaint.Given as goal
 
 abbrev pub invariant-loop-piece : goal.invariant-loop-piece
-invariant-loop-piece g l = (w : _) → WritesInCalls g.W.Write.write_str_gives l.output (with_marks (marked l.piece-iterator)) w
-    → WritesInCalls g.W.Write.write_str_gives l.initial.output (with_marks (marked (changed l.fn.relexed (pieces_of l.fn.lexed.text l.fn.lexed.tokens)))) w
+invariant-loop-piece g l = (w : _) → WritesInCalls g.W.Write.write_str_gives l.output (marked l.piece-iterator) w
+    → WritesInCalls g.W.Write.write_str_gives l.initial.output (marked (changed l.fn.relexed (pieces_of l.fn.lexed.text l.fn.lexed.tokens))) w
 
 abbrev pub decreases-loop-piece : goal.decreases-loop-piece
 decreases-loop-piece g l = length l.piece-iterator

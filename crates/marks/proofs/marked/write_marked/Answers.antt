@@ -3,7 +3,7 @@ use Rattle.std.specs.Fmt.{WritesInCalls}
 use Rattle.rustc_lexer.specs.Document.{shebang_len}
 use Rattle.rustc_lexer.specs.State.{State}
 use Rattle.rustc_lexer.specs.Tokens.{tokens_left}
-use Rattle.rustc_lexer.proofs.PlaceLemmas.{piece_is, stands_past}
+use Rattle.rustc_lexer.proofs.PlaceLemmas.{document_place, document_start, piece_is, stands_past}
 use Rattle.marks.specs.declared.class.Class.TheVariants.{Comment}
 use Rattle.marks.specs.Marked.{marked_tokens}
 use Rattle.marks.specs.Part.{Own, with_marks}
@@ -27,11 +27,12 @@ loop-token-init g c =
     let text : List ℕ = c.args.text.now in
     let tokens = c.tokenize_document-tokens in
     let state = c.into_iter-token-iterator.ensures.into_iter_gives ∙ tokens.ensures.state in
-    let rest : c.as_str.result.now ≡ drop (shebang_len text) text = c.as_str.ensures.rest ∙ ap (λ (s : State). s.rest) tokens.ensures.state in
-    let begins : length text - length c.as_str.result.now ≡ shebang_len text = let b = tokens.ensures.boundary.0 in omega (arith, ap length rest, length-drop (shebang_len text) text) in
+    let rest : c.as_str.result.now ≡ c.into_iter-token-iterator.result.rest = c.as_str.ensures.rest ∙ ap (λ (s : State). s.rest) (sym c.into_iter-token-iterator.ensures.into_iter_gives) in
+    let left = ap (λ (s : State). s.rest) state in
+    let begins = document_start text c.as_str.result.now c.into_iter-token-iterator.result tokens.ensures.boundary rest left in
     let line : c.range.result.now ≡ take (shebang_len text) text = c.range.ensures.value ∙ ap (λ (n : ℕ). take n text) (let e : length text - length c.as_str.result.now - 0 ≡ shebang_len text = omega (arith, begins) in e) in
     record {
-      place = (subst (λ (n : ℕ). IsCharBoundary text n) (sym begins) tokens.ensures.boundary, ap (λ (n : ℕ). drop n text) begins ∙ sym (ap (λ (s : State). s.rest) state));
+      place = document_place text c.as_str.result.now c.into_iter-token-iterator.result tokens.ensures.boundary rest left;
       left = λ w more. writes_past g.W.Write.write_str_gives c.args.style c.args.edition c.args.output.now c.write_in_class.new.output w text
           (subst (λ (bs : List ℕ). WritesInCalls g.W.Write.write_str_gives c.args.output.now (with_marks c.args.style (Own Comment bs ∷ [])) c.write_in_class.new.output) line c.in_ok-write_in_class.ensures)
           (subst (λ (s : State). WritesInCalls g.W.Write.write_str_gives c.write_in_class.new.output (marked_tokens c.args.style s.rest (tokens_left s)) w) state more);
