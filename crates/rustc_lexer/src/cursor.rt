@@ -1,14 +1,16 @@
 //! A cursor over a text, which takes it token by token.
-ghost use Rattle.std.specs.Prelude.{◌≡◌, [], ◌≢◌, ◌+◌, ◌^◌, ◌<◌, slice_index};
-ghost use Rattle.std.specs.Str.{chars};
+ghost use Rattle.std.specs.Prelude.{◌≡◌, [], ◌≢◌, ◌+◌, ◌^◌, ◌<◌, ◌≤◌, IsTrue, drop, length, slice_index};
+ghost use Rattle.std.specs.Str.{chars, IsCharBoundary};
 ghost use Rattle.rustc_lexer.specs.{Edition, E2024};
 ghost use Rattle.rustc_lexer.specs.Classes.{Fits};
 ghost use Rattle.rustc_lexer.specs.Tokens.{TakesFirst, tokens_left};
-ghost use Rattle.rustc_lexer.specs.LanguageText.{mode_after, mode_edition, mode_in, mode_of};
+ghost use Rattle.rustc_lexer.specs.LanguageText.{mode_after, mode_edition, mode_in, mode_of, part};
 ghost use Rattle.rustc_lexer.specs.Answers.{advance};
 ghost use Rattle.rustc_lexer.specs.State.{token_past, HasSuffixWithin};
 
 use crate::frontmatter::token_at;
+use crate::lexemes::choose_token;
+use crate::lexemes::quick::quick_token;
 use crate::scan;
 use crate::token::{FrontmatterAllowed, Token, TokenKind};
 use std::marker::Model;
@@ -108,6 +110,8 @@ impl<'a> Cursor<'a> {
     ///
     /// The length of the token, and where its suffix begins, count the bytes that were pending; then none are.
     /// Past a token that is no white space, no frontmatter is allowed.
+    ///
+    /// Where no bytes are pending, each way gives its token out by itself, as `next` of the iterator does.
     #[inline(always)]
     pub fn advance_token(&mut self) -> Token
         ensures token { result ≡ (advance self.old).0 }
@@ -123,6 +127,15 @@ impl<'a> Cursor<'a> {
                 len: 0,
             };
         }
+        if self.is_plain() {
+            if let Some(quick) = quick_token(rest) {
+                self.pass(quick.len);
+                return quick;
+            }
+            let chosen = choose_token(rest);
+            self.pass(chosen.len);
+            return chosen;
+        }
         let token = token_at(rest, self.frontmatter_allowed);
         let pending = (self.index - self.start) as u32;
         let end = self.index + token.len as usize;
@@ -130,6 +143,26 @@ impl<'a> Cursor<'a> {
         self.start = end;
         self.frontmatter_allowed = next_allowed(self.frontmatter_allowed, token.kind);
         with_pending(token, pending)
+    }
+
+    /// Whether no bytes are pending and no frontmatter may stand in front: mostly so past the first token.
+    #[inline(always)]
+    fn is_plain(&self) -> bool
+        ensures { IsTrue result → (self.now.pending ≡ 0) × (self.now.mode ≡ part E2024) }
+    {
+        self.index == self.start && matches!(self.frontmatter_allowed, FrontmatterAllowed::No)
+    }
+
+    /// Moves on by so many bytes. Then none are pending.
+    #[inline(always)]
+    fn pass(&mut self, len: u32)
+        requires inside { len ≤ length self.old.rest }
+        requires boundary { IsCharBoundary self.old.rest len }
+        ensures { self.new
+            ≡ record { pending = 0; rest = drop len self.old.rest; mode = self.old.mode } }
+    {
+        self.index += len as usize;
+        self.start = self.index;
     }
 }
 

@@ -11,8 +11,8 @@ ghost use Rattle.rustc_lexer.specs.means.Scan.{run_len};
 ghost use Rattle.rustc_lexer.specs.means.Taking as state;
 
 use crate::classes::emoji::is_emoji;
-use crate::cursor::Cursor;
 use crate::frontmatter::token_at;
+use crate::lexemes::lexeme;
 use crate::scan::{eat_continue, next_is, split_first};
 use crate::token::{FrontmatterAllowed, Token, TokenKind};
 use std::error::Error;
@@ -136,10 +136,7 @@ fn older_token(rest: &str, allowed: FrontmatterAllowed, edition: Edition) -> Tok
     changed(token_at(rest, allowed), rest, edition)
 }
 
-/// The token at the front of a text, in an edition.
-///
-/// It is one call of `Cursor::advance_token`, since that is what a step of [`Steps`](crate::Steps) counts. Once it is
-/// inlined, nothing of the cursor is left.
+/// The token at the front of a text that is not empty, in an edition, where no frontmatter may stand.
 #[inline(always)]
 pub(crate) fn token_in(rest: &str, edition: Edition) -> Token
     requires not_empty { 0 < length rest.now }
@@ -147,8 +144,7 @@ pub(crate) fn token_in(rest: &str, edition: Edition) -> Token
     ensures token { result ≡ spec.first_token_in edition rest.now }
     ensures boundary { IsCharBoundary rest.now result.len }
 {
-    let token = Cursor::new(rest, FrontmatterAllowed::No).advance_token();
-    changed(token, rest, edition)
+    changed(lexeme(rest), rest, edition)
 }
 
 /// What the edition has in place of the token at the front of the text.

@@ -1,6 +1,6 @@
 //! How far runs of bytes go and where a byte stands, 32 bytes at a time.
 ghost use Rattle.memchr.specs.Find.{IsFirstByte, is_byte, is_byte2};
-ghost use Rattle.std.specs.Prelude.{◌≡◌, ◌≤◌, ◌<◌, ◌&&◌, ◌||◌, ◌==◌, ℕ, suc, Bool, true, false, drop, length, map, not};
+ghost use Rattle.std.specs.Prelude.{◌≡◌, ◌≤◌, ◌<◌, ◌&&◌, ◌||◌, ◌==◌, ℕ, suc, Bool, IfSome, true, false, drop, length, map, not};
 ghost use Rattle.std.specs.List.{prefix_len};
 ghost use Rattle.std.specs.Simd.Lanes.{mask_l};
 ghost use Rattle.rustc_lexer.specs.means.ByteRuns.{is_continue_byte, is_space_byte, is_decimal_byte, is_hexadecimal_byte, outside};
@@ -224,24 +224,29 @@ pub(crate) fn find(stop: u8, bytes: &[u8]) -> Option<usize>
     memchr(stop, bytes)
 }
 
-/// The place of the first quote that so many hashes follow, none or one, within the next 64 bytes. From 64 up it tells
-/// nothing.
+/// The place of the first quote that so many hashes follow, none or one, if it is within the next 64 bytes and there are
+/// so many.
 ///
 /// Which of the two it is costs no branch: it is hard to foresee.
 #[inline(always)]
-pub(crate) fn find_close(n_hashes: u32, bytes: &[u8]) -> usize
+pub(crate) fn find_close(n_hashes: u32, bytes: &[u8]) -> Option<usize>
     requires few { n_hashes ≤ 1 }
-    ensures here { result < 64 → closes n_hashes (drop result bytes.now) ≡ true }
-    ensures before { result < 64
-        → (k : ℕ) → k < result → closes n_hashes (drop k bytes.now) ≡ false }
+    ensures near { IfSome result (λ place. place < 64) }
+    ensures here { IfSome result (λ place. closes n_hashes (drop place bytes.now) ≡ true) }
+    ensures before { IfSome result
+        (λ place. (k : ℕ) → k < place → closes n_hashes (drop k bytes.now) ≡ false) }
 {
     if bytes.len() < 64 {
-        return 64;
+        return None;
     }
     let v = u8x64::from_slice(bytes);
     let quotes = v.simd_eq(u8x64::splat(b'"')).to_bitmask();
     let hashes = v.simd_eq(u8x64::splat(b'#')).to_bitmask();
-    followed(quotes, hashes, n_hashes).trailing_zeros() as usize
+    let found = followed(quotes, hashes, n_hashes);
+    if found == 0 {
+        return None;
+    }
+    Some(found.trailing_zeros() as usize)
 }
 
 /// Bit k is set where a quote stands at k and so many hashes follow it, none or one.

@@ -5,7 +5,7 @@ ghost use Rattle.rustc_lexer.specs.Classes.{Fits};
 ghost use Rattle.rustc_lexer.specs.LanguageCalls.{StartsRaw};
 ghost use Rattle.rustc_lexer.specs.means.Scan.{past};
 
-use crate::lexemes::raw::raw_double_quoted_string;
+use crate::lexemes::raw::{raw_double_quoted_string, short_opening};
 use crate::scan::{first, split_first};
 use crate::token::RawStrError;
 
@@ -38,7 +38,8 @@ pub fn validate_raw_str(input: &str, prefix_len: u32) -> Result<(), RawStrError>
     requires raw { StartsRaw input.now prefix_len }
     ensures check { result ≡ raw_check input.now prefix_len }
 {
-    let (read, _) = raw_double_quoted_string(past_chars(input, prefix_len), prefix_len);
+    let rest = past_chars(input, prefix_len);
+    let (read, _) = raw_double_quoted_string(rest, short_opening(rest), prefix_len);
     match read {
         Ok(_) => Ok(()),
         Err(error) => Err(error),
@@ -50,11 +51,13 @@ fn past_chars(text: &str, count: u32) -> &str
     ensures { result.now ≡ past count text.now }
 {
     let mut rest = text;
-    for taken in 0..count {
+    let mut left = count;
+    'chars: while left > 0 {
         let Some((_, tail)) = split_first(rest) else {
             return rest;
         };
         rest = tail;
+        left -= 1;
     }
     rest
 }

@@ -3,7 +3,7 @@ ghost use Rattle.std.specs.Prelude.{◌≡◌, ℕ, suc, ◌+◌, ◌≤◌, ◌
 ghost use Rattle.std.specs.Str.{byte, chars};
 ghost use Rattle.rustc_lexer.specs.declared.lexemes.raw.RawPrefix.{RawPrefix};
 ghost use Rattle.rustc_lexer.specs.means.Raw as spec;
-ghost use Rattle.rustc_lexer.specs.means.Scan.{next_is, past, run_len, scanned};
+ghost use Rattle.rustc_lexer.specs.means.Scan.{past, run_len, scanned};
 
 use crate::kernels::find_close;
 use crate::lexemes::literal::eat_literal_suffix;
@@ -21,13 +21,18 @@ pub(crate) enum RawPrefix {
     Cr,
 }
 
-/// The token of a raw string. `rest` is what follows its prefix.
+/// The token of a raw string. `rest` is what follows its prefix, and `opening` is its [`short_opening`].
 #[inline(always)]
-pub(crate) fn raw_literal(prefix: RawPrefix, rest: &str) -> (TokenKind, &str)
+pub(crate) fn raw_literal<'a>(
+    prefix: RawPrefix,
+    rest: &'a str,
+    opening: Option<(u32, &'a str)>,
+) -> (TokenKind, &'a str)
     requires fits { spec.prefix_len prefix + length rest.now < 2 ^ 32 }
+    requires opens { IfSome opening (λ o. spec.OpensShort rest.now o.0 o.1.now) }
     ensures { (result.0, result.1.now) ≡ scanned (spec.raw_literal prefix) rest.now }
 {
-    let (read, left) = raw_double_quoted_string(rest, 0);
+    let (read, left) = raw_double_quoted_string(rest, opening, 0);
     let suffix_start = prefix_len(prefix) + (rest.len() - left.len()) as u32;
     match read {
         Ok(n_hashes) => {
@@ -69,15 +74,19 @@ fn literal_kind(prefix: RawPrefix, n_hashes: Option<u8>) -> LiteralKind
 
 /// The number of hashes on each side of a raw string, or why it is refused; and what it leaves of `rest`,
 /// which follows its prefix. An offset is in bytes, and counts `prefix_len` for the prefix.
+///
+/// `opening` is the [`short_opening`] of `rest`, which the caller may have looked at before.
 #[inline(always)]
-pub(crate) fn raw_double_quoted_string(
-    rest: &str,
+pub(crate) fn raw_double_quoted_string<'a>(
+    rest: &'a str,
+    opening: Option<(u32, &'a str)>,
     prefix_len: u32,
-) -> (Result<u8, RawStrError>, &str)
+) -> (Result<u8, RawStrError>, &'a str)
     requires fits { prefix_len + length rest.now < 2 ^ 32 }
+    requires opens { IfSome opening (λ o. spec.OpensShort rest.now o.0 o.1.now) }
     ensures { (result.0, result.1.now) ≡ scanned (spec.raw_read prefix_len) rest.now }
 {
-    if let Some((n_hashes, text)) = short_opening(rest) {
+    if let Some((n_hashes, text)) = opening {
         if let Some(left) = past_close(text, n_hashes) {
             return (Ok(n_hashes as u8), left);
         }
@@ -111,11 +120,7 @@ fn any_raw_string(rest: &str, prefix_len: u32) -> (Result<u8, RawStrError>, &str
 /// Which of the two it is costs no branch: it is hard to foresee.
 #[inline(always)]
 pub(crate) fn short_opening(rest: &str) -> Option<(u32, &str)>
-    ensures { IfSome result (λ opening. (opening.0 ≤ 1)
-        × (opening.0 ≡ spec.hash_run (chars rest.now))
-        × (next_is spec.is_quote (drop opening.0 (chars rest.now)) ≡ true)
-        × (opening.1.now ≡ past (suc opening.0) rest.now)
-        × (suc opening.0 + length opening.1.now ≡ length rest.now)) }
+    ensures { IfSome result (λ opening. spec.OpensShort rest.now opening.0 opening.1.now) }
 {
     let bytes = rest.as_bytes();
     if bytes.len() < 2 {
@@ -138,12 +143,8 @@ fn past_close(text: &str, n_hashes: u32) -> Option<&str>
     ensures { IfSome result (λ left. (before : ℕ)
         → (Ok n_hashes, left.now) ≡ scanned (spec.raw_text n_hashes before) text.now) }
 {
-    let place = find_close(n_hashes, text.as_bytes());
-    if place < 64 {
-        Some(&text[place + 1 + n_hashes as usize..])
-    } else {
-        None
-    }
+    let place = find_close(n_hashes, text.as_bytes())?;
+    Some(&text[place + 1 + n_hashes as usize..])
 }
 
 /// How the raw string goes on past its opening quote, before which `n_hashes` hashes stand; and what it leaves of

@@ -31,14 +31,14 @@ fn letter_r(tail: &str) -> (TokenKind, &str)
     requires fits { length tail.now + 1 < 2 ^ 32 }
     ensures { (result.0, result.1.now) ≡ scanned spec.letter_r tail.now }
 {
-    if let Some(_) = short_opening(tail) {
-        return raw_literal(RawPrefix::R, tail);
+    if let Some(opening) = short_opening(tail) {
+        return raw_literal(RawPrefix::R, tail, Some(opening));
     }
     if let Some(rest) = eat_marked(tail) {
         return (TokenKind::RawIdent, rest);
     }
     if next_is(tail, is_raw_mark) {
-        raw_literal(RawPrefix::R, tail)
+        raw_literal(RawPrefix::R, tail, None)
     } else {
         ident_or_unknown_prefix(tail)
     }
@@ -101,7 +101,7 @@ fn raw_or_ident(prefix: RawPrefix, tail: &str) -> (TokenKind, &str)
         return ident_or_unknown_prefix(tail);
     };
     if next_is(rest, is_raw_mark) {
-        raw_literal(prefix, rest)
+        raw_literal(prefix, rest, short_opening(rest))
     } else {
         ident_or_unknown_prefix(tail)
     }
