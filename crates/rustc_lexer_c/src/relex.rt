@@ -5,7 +5,8 @@ ghost use Rattle.rustc_lexer.specs.declared.edition.Edition.{Edition};
 ghost use Rattle.rustc_lexer.specs.declared.token.Token.{Token};
 ghost use Rattle.rustc_lexer.specs.Classes.{Fits};
 ghost use Rattle.rustc_lexer.specs.LanguageText.{edition_of_year};
-ghost use Rattle.rustc_lexer.specs.Edits.{IsChange, IsMadeOf, MayGoOn, Stands};
+ghost use Rattle.rustc_lexer.specs.Edits.{IsChange, IsMadeOf, MayGoOn};
+ghost use Rattle.rustc_lexer.specs.Relexing.{IsUnderWay};
 ghost use Rattle.rustc_lexer.specs.Locality.{IsGrammar};
 ghost use Rattle.rustc_lexer_c.specs.Relex as spec;
 
@@ -160,7 +161,7 @@ fn standing(text: &str, old: &[CToken], change: Change, relexing: &CRelexing) ->
         × ((first : List ℕ → Token) (before insert : List ℕ) → IsGrammar first
         → IsMadeOf first before (map (λ (t : CToken). t.len) old.now) change insert text.now
         → spec.IsPassed first before change text.now (length old.now) relexing.now
-        → Stands first before change text.now at)) }
+        → IsUnderWay first before change text.now at)) }
 {
     let front = Bound {
         number: relexing.kept_front,

@@ -7,9 +7,9 @@ ghost use Rattle.rustc_lexer.specs.{Token};
 ghost use Rattle.rustc_lexer.specs.Classes.{Fits, IsText};
 ghost use Rattle.rustc_lexer.specs.means.Document as means;
 ghost use Rattle.rustc_lexer.specs.Tokens.{tokens_by};
-ghost use Rattle.rustc_lexer.specs.Edits.{IsEdit, apply, relexed_of, IsBound, IsChange, IsMadeOf, MayGoOn};
+ghost use Rattle.rustc_lexer.specs.Edits.{IsEdit, apply, IsBound, IsChange, IsMadeOf, MayGoOn};
 ghost use Rattle.rustc_lexer.specs.means.Checkpoints.{AreBounds};
-ghost use Rattle.rustc_lexer.specs.means.Relexing.{IsRenewed};
+ghost use Rattle.rustc_lexer.specs.means.Relexing.{IsRenewed, relexed_of};
 
 use crate::entry::stepper::Stepper;
 use crate::relex::checkpoints::Checkpoints;

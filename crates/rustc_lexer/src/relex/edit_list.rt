@@ -1,7 +1,7 @@
 //! Edits in a row.
 ghost use Rattle.std.specs.Prelude.{◌≡◌, ◌+◌, IfErr, OnOk, Some, take};
 ghost use Rattle.rustc_lexer.specs.Tokens.{tokens_by};
-ghost use Rattle.rustc_lexer.specs.Edits.{apply_list, AreEdits, lexed_list, stop_at, stop_text, IsStop, IsCounted};
+ghost use Rattle.rustc_lexer.specs.Edits.{apply_list, AreCounted, AreEdits, stop_at, stop_text, IsStop, IsCounted};
 
 use crate::entry::stepper::Stepper;
 use crate::relex::edit::Edit;
@@ -46,9 +46,8 @@ impl<S: Stepper> LexedText<S> {
         ensures grammar { S.grammar self.new.stepper ≡ S.grammar self.old.stepper }
         ensures number { S.number self.new.stepper ≡ S.number self.old.stepper }
         ensures count { OnOk result
-            (S.count self.new.stepper
-            ≡ S.count self.old.stepper
-            + lexed_list (S.grammar self.old.stepper) self.old.text edits.now) }
+            (AreCounted (S.grammar self.old.stepper) self.old.text edits.now
+            (S.count self.old.stepper) (S.count self.new.stepper)) }
         ensures stop { IfErr result (λ e. IsStop e self.new.text edits.now) }
         ensures stop_accepted { IfErr result
             (λ e. AreEdits self.old.text (take (stop_at e) edits.now)) }

@@ -3,7 +3,8 @@ ghost use Rattle.std.specs.Prelude.{◌≡◌, ◌+◌, ◌-◌, ◌^◌, ◌<�
 ghost use Rattle.rustc_lexer.specs.{E2024};
 ghost use Rattle.rustc_lexer.specs.Classes.{Fits};
 ghost use Rattle.rustc_lexer.specs.Tokens.{bound, tokens_by, tokens_of};
-ghost use Rattle.rustc_lexer.specs.Edits.{IsEdit, IsInside, apply, relexed_of};
+ghost use Rattle.rustc_lexer.specs.declared.relex.relexing.Relexed.{Relexed};
+ghost use Rattle.rustc_lexer.specs.Edits.{IsEdit, IsInside, IsRelexed, apply};
 ghost use Rattle.rustc_lexer.specs.LanguageText.{part};
 ghost use Rattle.rustc_lexer.specs.Answers.{first_in};
 
@@ -142,7 +143,7 @@ impl<S: Stepper> LexedText<S> {
         ensures from_scratch { self.new.tokens
             ≡ tokens_by (S.grammar self.old.stepper) self.new.text }
         ensures relexed { IfOk result
-            (λ r. r ≡ relexed_of (S.grammar self.old.stepper) self.old.text start stop insert.now) }
+            (IsRelexed (S.grammar self.old.stepper) self.old.text start stop insert.now) }
         ensures all { IfOk result
             (λ r. r.kept_front + r.lexed + r.kept_back ≡ length self.new.tokens) }
         ensures front { IfOk result
@@ -158,9 +159,8 @@ impl<S: Stepper> LexedText<S> {
         ensures same_text { OnErr result (self.new.text ≡ self.old.text) }
         ensures same_tokens { OnErr result (self.new.tokens ≡ self.old.tokens) }
         ensures few { OnErr result
-            (S.count self.new.stepper
-            ≤ S.count self.old.stepper
-            + (relexed_of (S.grammar self.old.stepper) self.old.text start stop insert.now).lexed) }
+            ((r : Relexed) × IsRelexed (S.grammar self.old.stepper) self.old.text start stop insert.now r
+            × (S.count self.new.stepper ≤ S.count self.old.stepper + r.lexed)) }
     {
         lex_edit(
             self.alloc,

@@ -2,10 +2,11 @@
 ghost use Rattle.std.specs.Prelude.{◌≡◌, ◌+◌, ◌-◌, ◌<◌, ◌≤◌, ◌∷◌, ◌++◌, ◌↔◌, IsTrue, List, MatchOption, drop, false, length, map, take, ℕ, true};
 ghost use Rattle.rustc_lexer.specs.declared.relex.relexing.Change.{Change};
 ghost use Rattle.rustc_lexer.specs.{Token};
-ghost use Rattle.rustc_lexer.specs.Edits.{relexed_of, IsBound, known};
+ghost use Rattle.rustc_lexer.specs.Edits.{IsBound, known};
 ghost use Rattle.rustc_lexer.specs.Classes.{Fits};
 ghost use Rattle.rustc_lexer.specs.Tokens.{tokens_by};
 ghost use Rattle.rustc_lexer.specs.Edits as spec;
+ghost use Rattle.rustc_lexer.specs.Relexing.{GoesOn, IsUnderWay};
 ghost use Rattle.rustc_lexer.specs.means.Relexing.{damage_of};
 ghost use Rattle.rustc_lexer.specs.Locality.{IsGrammar};
 
@@ -100,7 +101,7 @@ impl Relexing {
         ensures stands { (first : List ℕ → Token) (before insert : List ℕ) → IsGrammar first
             → spec.IsMadeOf first before (map T.bytes old.now) change insert text.now
             → IsBound (tokens_by first before) near
-            → spec.Stands first before change text.now result }
+            → IsUnderWay first before change text.now result }
     {
         let front = kept_front(text, old, change.start, near);
         let to = follow(old, front, front.place, change.damage());
@@ -131,7 +132,7 @@ impl Relexing {
         ensures over { result ≡ spec.is_over text.now self.now }
         ensures met { (first : List ℕ → Token) (before lengths insert : List ℕ) (change : Change)
             → IsGrammar first → spec.IsMadeOf first before lengths change insert text.now
-            → spec.Stands first before change text.now self.now
+            → IsUnderWay first before change text.now self.now
             → result ≡ self.now.met }
     {
         self.met || self.at == text.len()
@@ -160,8 +161,8 @@ impl Relexing {
             × (spec.is_over text.now self.old ≡ false)) }
         ensures stands { (before insert : List ℕ)
             → spec.IsMadeOf (S.grammar stepper.old) before (map T.bytes old.now) change insert text.now
-            → spec.Stands (S.grammar stepper.old) before change text.now self.old
-            → spec.Stands (S.grammar stepper.old) before change text.now self.new
+            → IsUnderWay (S.grammar stepper.old) before change text.now self.old
+            → IsUnderWay (S.grammar stepper.old) before change text.now self.new
             × MatchOption result (self.new.met ≡ true) (λ token.
             drop (known self.old) (tokens_by (S.grammar stepper.old) text.now)
             ≡ token ∷ drop (known self.new) (tokens_by (S.grammar stepper.old) text.now)) }
@@ -210,7 +211,7 @@ impl Relexing {
         ensures buffer { result ≤ length buffer.old }
         ensures begins { 0 < result → spec.is_over text.now self.old ≡ false }
         ensures over { result < length buffer.old → spec.is_over text.now self.new ≡ true }
-        ensures stands { spec.GoesOn (S.grammar stepper.old) (map T.bytes old.now) text.now change
+        ensures stands { GoesOn (S.grammar stepper.old) (map T.bytes old.now) text.now change
             self.old self.new }
     {
         let mut count = 0;
@@ -253,7 +254,7 @@ impl Relexing {
         ensures tokens { buffer.new
             ≡ map R.written (take result (tokens_by (S.grammar stepper.old) (drop self.old.at text.now)))
             ++ drop result buffer.old }
-        ensures stands { spec.GoesOn (S.grammar stepper.old) (map T.bytes old.now) text.now change
+        ensures stands { GoesOn (S.grammar stepper.old) (map T.bytes old.now) text.now change
             self.old self.new }
     {
         let (count, bytes) = stepper.fill(&text[self.at..], change.new_stop - self.at, buffer);
@@ -280,9 +281,9 @@ impl Relexing {
             } }
         ensures exact { (first : List ℕ → Token) (before lengths insert text : List ℕ) (change : Change)
             → IsGrammar first → spec.IsMadeOf first before lengths change insert text
-            → length lengths ≡ old_count → spec.Stands first before change text self.now
+            → length lengths ≡ old_count → IsUnderWay first before change text self.now
             → self.now.met ≡ true
-            → (result ≡ relexed_of first before change.start change.old_stop insert)
+            → spec.IsRelexed first before change.start change.old_stop insert result
             × spec.IsWhole (tokens_by first before) (tokens_by first text) self.now }
     {
         Relexed {
