@@ -108,7 +108,7 @@ fn an_error_is_one_of_the_output() {
 fn a_text_that_is_too_long() {
     let zeros = vec![0; 1 << 32];
     // SAFETY: U+0000 is one byte that is 0.
-    let text = unsafe { str::from_utf8_unchecked(&zeros) };
+    let text = unsafe { std::str::from_utf8_unchecked(&zeros) };
     let calls: [&dyn Fn() -> fmt::Result; 2] = [
         &|| write_marked(Style::Html, Edition::E2024, text, &mut Few(0)),
         &|| write_first_tokens(Style::Html, Edition::E2024, 1, text, &mut Few(0)),

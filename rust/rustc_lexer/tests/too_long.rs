@@ -15,7 +15,7 @@ static ZEROS: LazyLock<Vec<u8>> = LazyLock::new(|| vec![0; 1 << 32]);
 
 fn too_long() -> &'static str {
     // SAFETY: U+0000 is one byte that is 0.
-    unsafe { str::from_utf8_unchecked(&ZEROS) }
+    unsafe { std::str::from_utf8_unchecked(&ZEROS) }
 }
 
 type Call = fn(&'static str);
