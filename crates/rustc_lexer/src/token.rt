@@ -80,7 +80,7 @@ pub enum TokenKind {
 
     /// A lifetime, as `'a`.
     Lifetime {
-        /// It begins with a digit, or holds an emoji, and so is none in Rust.
+        /// It begins with a digit, or holds an emoji that no identifier may go on with, and so is none in Rust.
         starts_with_number: bool,
     },
 

@@ -83,8 +83,15 @@ fn split_part(text: &str) -> (&str, &str)
     ensures text { IsUtf8 result.1.now }
     ensures sizes { length text.now ≡ length result.0.now + length result.1.now }
 {
-    let (part, left) = text.split_at(text.floor_char_boundary(ALONE));
-    (part, left)
+    let mut end = text.len().min(ALONE);
+    'back: while end > 0 {
+        if text.is_char_boundary(end) {
+            let (part, left) = text.split_at(end);
+            return (part, left);
+        }
+        end -= 1;
+    }
+    ("", text)
 }
 
 /// A number of simple bytes at the front. It is 0 where fewer than 32 bytes are left.

@@ -25,6 +25,7 @@ mod guarded;
 ///     }
 /// }
 /// ```
+#[derive(Clone)]
 pub struct Cursor<'a> {
     text: &'a str,
     /// Where the text that is left begins.

@@ -10,7 +10,7 @@ use core::fmt;
 use core::str::FromStr;
 
 /// An edition of Rust, in the order of their years.
-#[derive(Clone, Copy, Debug, PartialEq, Eq, PartialOrd, Ord)]
+#[derive(Clone, Copy, Debug, PartialEq, Eq, PartialOrd, Ord, Hash)]
 pub enum Edition {
     /// Rust 2015.
     E2015,
