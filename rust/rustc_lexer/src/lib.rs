@@ -85,6 +85,15 @@ pub use edit_error::EditError;
 /// ```
 #[doc(inline)]
 pub use erased::Edition;
+/// ```
+/// use rustc_lexer::LiteralKind;
+///
+/// let kind = LiteralKind::Str { terminated: true };
+/// assert_eq!(kind.name(), "Str");
+/// assert_eq!(kind.number(), 5);
+/// ```
+#[doc(inline)]
+pub use erased::LiteralKind;
 /// A list of the kinds alone, which a buffer of [`Tokens::fill`] may be:
 ///
 /// ```
@@ -152,10 +161,18 @@ pub use erased::Relexing;
 /// ```
 #[doc(inline)]
 pub use erased::Stepper;
+/// ```
+/// use rustc_lexer::TokenKind;
+///
+/// assert_eq!(TokenKind::Plus.name(), "Plus");
+/// assert_eq!(TokenKind::Plus.number(), 37);
+/// ```
+#[doc(inline)]
+pub use erased::TokenKind;
 #[doc(inline)]
 pub use erased::{
-    Base, Bound, Change, DocStyle, FrontmatterAllowed, GuardedStr, LiteralKind, Measured,
-    RawStrError, Relexed, Steps, Token, TokenKind, UnknownEdition,
+    Base, Bound, Change, DocStyle, FrontmatterAllowed, GuardedStr, Measured, RawStrError, Relexed,
+    Steps, Token, UnknownEdition,
 };
 #[cfg(feature = "alloc")]
 #[doc(inline)]

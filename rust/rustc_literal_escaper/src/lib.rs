@@ -42,6 +42,11 @@ mod unit;
 #[cfg(feature = "alloc")]
 mod written;
 
+/// ```
+/// use rustc_literal_escaper::EscapeError;
+///
+/// assert!(EscapeError::LoneSlash.is_fatal() && !EscapeError::UnskippedWhitespaceWarning.is_fatal());
+/// ```
 #[doc(inline)]
 pub use erased::EscapeError;
 /// ```
