@@ -45,7 +45,8 @@ pub enum TokenKind {
 
     /// A frontmatter: a block between two lines of dashes, which may come before the source of a document.
     Frontmatter {
-        /// White space stands before its dashes and is part of the token; it ends no line.
+        /// Whether white space comes before its dashes and is part of the token. The last character of that is not
+        /// a newline.
         has_invalid_preceding_whitespace: bool,
         /// Whether its first line has more on it than dashes, an infostring and blanks, or the text ends in that
         /// line.
