@@ -6,7 +6,8 @@ ghost use Rattle.std.specs.String.{string_bytes, string_capacity, string_len};
 ghost use Rattle.rustc_lexer.specs.{Token};
 ghost use Rattle.rustc_lexer.specs.Classes.{Fits, IsText};
 ghost use Rattle.rustc_lexer.specs.Tokens.{tokens_by};
-ghost use Rattle.rustc_lexer.specs.Edits.{IsEdit, IsInside, apply, IsBound, IsChange, IsMadeOf, MayGoOn, known};
+ghost use Rattle.rustc_lexer.specs.Edits.{IsEdit, IsInside, apply, IsBound, known};
+ghost use Rattle.rustc_lexer.specs.Relexing.{IsChange, IsMadeOf, MayGoOn};
 ghost use Rattle.rustc_lexer.specs.means.Checkpoints.{AreBounds, IsMovable, IsReplaced, end_of};
 ghost use Rattle.rustc_lexer.specs.means.Relexing.{IsLexed, IsRenewed, relexed_of, Stands};
 
