@@ -47,9 +47,9 @@ extern crate alloc;
 extern crate std;
 
 mod cursor;
-// Contracts alone use some imports and variables of the source, and Clippy would write some of it otherwise.
-#[allow(missing_docs, unused_imports, unused_variables, dead_code)]
-#[allow(clippy::collapsible_if, clippy::redundant_pattern_matching)]
+// Contracts alone use some imports of the source, and Clippy would write some of it otherwise.
+#[allow(missing_docs, unused_imports, dead_code)]
+#[allow(clippy::collapsible_if)]
 #[allow(clippy::len_without_is_empty, clippy::new_without_default)]
 #[allow(clippy::too_many_arguments)]
 #[doc(hidden)]

@@ -17,11 +17,8 @@ use crate::token::Token;
 /// A first token is not empty, ends between two characters, and depends on no more than itself and the two characters
 /// after it. A step answers the first token of what it is handed, the same one each time. In Rattle each implementation
 /// proves this; in plain Rust it has to keep it, or the tokens of an edited text are wrong.
-///
-/// Contracts see three things of a stepper: its grammar, a number that names the grammar, and how many steps were
-/// taken.
 pub trait Stepper: Drop {
-    /// The first token of each text.
+    /// The grammar: the first token of each text.
     ghost grammar: { Self → List ℕ → Token };
 
     /// The number that names the grammar.
@@ -76,7 +73,7 @@ pub struct Steps {
 }
 
 impl Steps {
-    /// No step taken, in the edition of 2024.
+    /// Returns the lexer of the edition of 2024, before its first step.
     pub fn new() -> Steps
         ensures count { ⟦<Steps as Stepper>⟧.count result ≡ 0 }
         ensures number { ⟦<Steps as Stepper>⟧.number result ≡ 2024 }
@@ -87,7 +84,7 @@ impl Steps {
         Steps::new_in(Edition::E2024)
     }
 
-    /// No step taken, in an edition.
+    /// Returns the lexer of an edition, before its first step.
     pub fn new_in(edition: Edition) -> Steps
         ensures count { ⟦<Steps as Stepper>⟧.count result ≡ 0 }
         ensures number { ⟦<Steps as Stepper>⟧.number result ≡ year edition }

@@ -4,7 +4,7 @@ ghost use base.Fml.{ftrue};
 
 use std::marker::{Model, PhantomData};
 
-/// A number that contracts alone see. It has no bytes.
+/// A number that contracts alone see. It has no bytes, and to count does nothing when the program runs.
 #[derive(Drop)]
 pub(crate) struct Tally {
     marker: PhantomData<()>,

@@ -2,7 +2,7 @@
 
 use core::marker::PhantomData;
 
-/// A number that contracts alone see. It has no bytes.
+/// A number that contracts alone see. It has no bytes, and to count does nothing when the program runs.
 pub(crate) struct Tally {
     marker: PhantomData<()>,
 }
