@@ -34,6 +34,7 @@ pub mod LaneLemmas
 pub mod LengthLemmas
 pub mod LexemeLemmas
 pub mod LifetimeLemmas
+pub mod LineLemmas
 pub mod LiteralLemmas
 pub mod MeetingLemmas
 pub mod NumberLemmas

@@ -1,6 +1,6 @@
 -- A pattern, looked for at the places of one of its bytes.
 use Rattle.std.proofs.Common.{◌≡◌, ℕ, ◌+◌, ◌-◌, ◌<◌, ◌≤◌, ◌==◌, Bool, true, false, true≢false, inl, inr, List, [], ◌∷◌, ◌++◌, length, drop, get_or, refl, sym, ap, ◌∙◌, subst, arith, Some, None, length-drop}
-use Rattle.std.proofs.lemmas.Bool.{and_parts, cases_lt, eq-eqb, eqb-true}
+use Rattle.std.proofs.lemmas.Bool.{cases_lt, eq-eqb}
 use Rattle.std.proofs.lemmas.Bool.Decides.{Decides-eqb}
 use Rattle.std.proofs.lemmas.List.{get_or-drop}
 use Rattle.std.proofs.lemmas.Slice.Eq.{starts_is}
@@ -11,7 +11,7 @@ use Rattle.rustc_lexer.specs.means.Frontmatter.{first}
 use Rattle.rustc_lexer.specs.means.Scan.{begins}
 use Rattle.rustc_lexer.specs.laws.Fences.{begins-occurs, begins-whole, found-first, occurs-begins}
 
-begins-front : (pattern rest : List ℕ) → begins pattern (pattern ++ rest) ≡ true
+pub begins-front : (pattern rest : List ℕ) → begins pattern (pattern ++ rest) ≡ true
 begins-front [] rest = refl
 begins-front (c ∷ cs) rest = rw (eq-eqb c c refl, begins-front cs rest) refl
 

@@ -1,8 +1,8 @@
 //! Frontmatter: a block between two fences of dashes, which may come before the first token.
-ghost use Rattle.std.specs.Prelude.{◌≡◌, ◌+◌, ◌-◌, ◌≤◌, ◌<◌, ◌==◌, ◌&&◌, true, false, length, nat_lt, slice_index, drop, MatchOption, IfSome, ◌∷◌};
+ghost use Rattle.std.specs.Prelude.{◌≡◌, ◌+◌, ◌-◌, ◌≤◌, ◌<◌, ◌==◌, ◌&&◌, true, false, length, nat_lt, slice_index, drop, codes, MatchOption, IfSome, ◌∷◌};
 ghost use Rattle.std.specs.Str.{chars, IsCharBoundary};
 ghost use Rattle.rustc_lexer.specs.{E2024};
-ghost use Rattle.rustc_lexer.specs.Classes.{Fits};
+ghost use Rattle.rustc_lexer.specs.Classes.{Fits, begins, is_among, next_is};
 ghost use Rattle.rustc_lexer.specs.LanguageText.{document, mode_of};
 ghost use Rattle.rustc_lexer.specs.means.Frontmatter as spec;
 ghost use Rattle.rustc_lexer.specs.means.Scan.{past, run_len};
@@ -104,32 +104,107 @@ fn is_infostring(c: char) -> bool
     is_id_continue(c) || c == '-' || c == '.'
 }
 
-/// Returns where the frontmatter ends in `rest`, which is the text after an opening of `n_dashes` dashes.
+/// Returns where the frontmatter ends in `rest`, which is the text after an opening of `n_dashes` dashes. One pass over
+/// the lines looks for the fence that closes it, and remembers the first line of each other kind that may end it.
 fn closing_end(rest: &[u8], n_dashes: usize) -> usize
+    requires some { 0 < n_dashes }
     ensures end { result ≡ spec.closing_end n_dashes rest.now }
     ensures inside { result ≤ length rest.now }
 {
-    match find_fence(rest, n_dashes) {
-        Some(place) => line_end(rest, place + 1),
-        None => recovery(rest),
+    let mut guesses = Guesses {
+        short_fence: None,
+        use_item: None,
+        inner_doc: None,
+        inner_attribute: None,
+    };
+    let mut from = 0;
+    'lines: while let Some(step) = memchr(b'\n', &rest[from..]) {
+        let line = run_end(rest, from + step + 1, b'\n');
+        let end = run_end(rest, line, b'-');
+        if end - line >= n_dashes {
+            return line_end(rest, line);
+        }
+        guesses = with_line(guesses, rest, line);
+        from = end;
+    }
+    recovery(rest, guesses)
+}
+
+/// The first line of each kind that may end a frontmatter without a closing fence: the places of the newlines before them.
+#[derive(Clone, Copy)]
+struct Guesses {
+    short_fence: Option<usize>,
+    use_item: Option<usize>,
+    inner_doc: Option<usize>,
+    inner_attribute: Option<usize>,
+}
+
+/// Returns the guesses with a line added, if it is the first of its kind.
+#[inline(always)]
+fn with_line(guesses: Guesses, rest: &[u8], line: usize) -> Guesses
+    requires some { 0 < line }
+    requires inside { line ≤ length rest.now }
+    ensures short_fence { result.short_fence ≡ spec.or_here guesses.short_fence (begins (spec.newline ∷ spec.dashes 3) (drop (line - 1) rest.now)) (line - 1) }
+    ensures use_item { result.use_item ≡ spec.or_here guesses.use_item (begins (codes "\nuse ") (drop (line - 1) rest.now)) (line - 1) }
+    ensures inner_doc { result.inner_doc ≡ spec.or_here guesses.inner_doc (begins (codes "\n//!") (drop (line - 1) rest.now)) (line - 1) }
+    ensures inner_attribute { result.inner_attribute ≡ spec.or_here guesses.inner_attribute (begins (codes "\n#![") (drop (line - 1) rest.now)) (line - 1) }
+{
+    if !may_end(rest, line) {
+        return guesses;
+    }
+    Guesses {
+        short_fence: or_here(guesses.short_fence, rest, line - 1, b"\n---"),
+        use_item: or_here(guesses.use_item, rest, line - 1, b"\nuse "),
+        inner_doc: or_here(guesses.inner_doc, rest, line - 1, b"\n//!"),
+        inner_attribute: or_here(guesses.inner_attribute, rest, line - 1, b"\n#!["),
+    }
+}
+
+/// Returns whether a line begins with the first byte of one of these kinds.
+#[inline(always)]
+fn may_end(rest: &[u8], line: usize) -> bool
+    requires { line ≤ length rest.now }
+    ensures { result ≡ next_is (is_among (codes "-u/#")) (drop line rest.now) }
+{
+    line < rest.len() && matches!(rest[line], b'-' | b'u' | b'/' | b'#')
+}
+
+/// Returns the place that was found before, or this one if the pattern is here.
+#[inline(always)]
+fn or_here(found: Option<usize>, rest: &[u8], place: usize, pattern: &[u8]) -> Option<usize>
+    requires { place ≤ length rest.now }
+    ensures { result ≡ spec.or_here found (begins pattern.now (drop place rest.now)) place }
+{
+    match found {
+        Some(before) => Some(before),
+        None => {
+            if rest[place..].starts_with(pattern) {
+                return Some(place);
+            }
+            None
+        }
     }
 }
 
 /// Returns where a frontmatter ends that no line of enough dashes closes: the best guess of where Rust begins.
-fn recovery(rest: &[u8]) -> usize
+fn recovery(rest: &[u8], guesses: Guesses) -> usize
+    requires short_fence { guesses.short_fence ≡ spec.first (spec.newline ∷ spec.dashes 3) rest.now }
+    requires use_item { guesses.use_item ≡ spec.use_item rest.now }
+    requires inner_doc { guesses.inner_doc ≡ spec.inner_doc rest.now }
+    requires inner_attribute { guesses.inner_attribute ≡ spec.inner_attribute rest.now }
     ensures end { result ≡ spec.recovery rest.now }
     ensures inside { result ≤ length rest.now }
 {
-    if let Some(place) = find(rest, b"\n---", 1) {
+    if let Some(place) = guesses.short_fence {
         return line_end(rest, place + 1);
     }
-    if let Some(place) = find(rest, b"\nuse ", 0) {
+    if let Some(place) = guesses.use_item {
         return place;
     }
-    if let Some(place) = find(rest, b"\n//!", 3) {
+    if let Some(place) = guesses.inner_doc {
         return place;
     }
-    if let Some(place) = find(rest, b"\n#![", 2) {
+    if let Some(place) = guesses.inner_attribute {
         return place;
     }
     match find_lone_dashes(rest) {
@@ -138,31 +213,15 @@ fn recovery(rest: &[u8]) -> usize
     }
 }
 
-/// Returns the place of the first newline that at least `n_dashes` dashes follow.
-fn find_fence(rest: &[u8], n_dashes: usize) -> Option<usize>
-    ensures place { result ≡ spec.first (spec.newline ∷ spec.dashes n_dashes) rest.now }
-    ensures inside { IfSome result (λ place. place < length rest.now) }
-{
-    let mut from = 0;
-    'lines: while let Some(step) = memchr(b'\n', &rest[from..]) {
-        let line = from + step + 1;
-        let end = dashes_end(rest, line);
-        if end - line >= n_dashes {
-            return Some(from + step);
-        }
-        from = end;
-    }
-    None
-}
-
-/// Returns where the dashes that begin at `from` end.
-fn dashes_end(rest: &[u8], from: usize) -> usize
+/// Returns where the run of a byte that begins at `from` ends.
+#[inline(always)]
+fn run_end(rest: &[u8], from: usize, byte: u8) -> usize
     requires { from ≤ length rest.now }
-    ensures end { result ≡ from + run_len spec.is_dash (drop from rest.now) }
+    ensures end { result ≡ from + run_len (λ b. b == byte) (drop from rest.now) }
     ensures inside { result ≤ length rest.now }
 {
     let mut end = from;
-    'dashes: while end < rest.len() && rest[end] == b'-' {
+    'run: while end < rest.len() && rest[end] == byte {
         end += 1;
     }
     end

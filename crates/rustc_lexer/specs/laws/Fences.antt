@@ -1,6 +1,5 @@
 -- Searches of a frontmatter's closing.
 use Rattle.std.proofs.Common.{◌≡◌, ℕ, zero, suc, ◌+◌, ◌-◌, ◌<◌, ◌≤◌, ◌==◌, ◌&&◌, max, nat_lt, Bool, true, false, true≢false, if◌then◌else◌, List, [], ◌∷◌, ◌++◌, length, take, drop, get_or, refl, sym, ap, ◌∙◌, arith, Option, Some, None, length-drop, length-take, drop-drop, take_all, inl, inr}
-use Rattle.std.proofs.Math.ListN.{drop_of_length-le}
 use Rattle.std.proofs.lemmas.Bool.{false_from_ne_true, eqb-true, eq-eqb, and_parts, lt-ltb, cases_lt}
 use Rattle.std.proofs.lemmas.List.{get_or-drop, get_or-take}
 use Rattle.std.proofs.lemmas.List.Folds.{list_all_at}
@@ -9,14 +8,13 @@ use Rattle.std.proofs.lemmas.Grind.{common_steps}
 use Rattle.rustc_lexer.specs.Classes.{is_horizontal_whitespace}
 use Rattle.memchr.specs.Find.{FindsNeedle, IsFirstByte, OccursAt, is_byte}
 use Rattle.rustc_lexer.specs.means.Comment.{is_no_newline}
-use Rattle.rustc_lexer.specs.means.Frontmatter.{dashes, first, first_alone, is_dash, is_newline, line_end, line_start, newline, places, places_from, stands_alone}
+use Rattle.rustc_lexer.specs.means.Frontmatter.{dashes, first, first_alone, is_dash, is_newline, line_end, line_start, places, places_from, stands_alone}
 use Rattle.rustc_lexer.specs.means.Least.{more, one_more}
 use Rattle.rustc_lexer.specs.means.Raw.{least_place}
 use Rattle.rustc_lexer.specs.means.Scan.{begins, run_len}
 use Rattle.rustc_lexer.specs.laws.Choice.{by_either}
 use Rattle.rustc_lexer.specs.laws.Least.{more-zero, one_more-more, place-here, place-on, one_more-none}
 use Rattle.rustc_lexer.specs.laws.Reach.{least-is, least-none}
-use Rattle.rustc_lexer.specs.laws.Scan.{more-more}
 
 -- a slice from a place on
 pub slice_from : (place : ℕ) (s : List ℕ) → take (length s - place) (drop place s) ≡ drop place s
@@ -137,67 +135,6 @@ begins-few (suc n) (c ∷ s) less = by_test (begins-few n s) (is_dash c) refl le
 
 pub begins-dashes : (n : ℕ) (s : List ℕ) → begins (dashes n) s ≡ true → n ≤ run_len is_dash s
 begins-dashes n s e = elim (cases_lt (run_len is_dash s) n) [ inl few ↦ absurd (true≢false (sym e ∙ begins-few n s few)) | inr enough ↦ enough ]
-
--- the first newline and so many dashes
-abbrev fence_at : ℕ → List ℕ → Option ℕ
-fence_at n s = first (newline ∷ dashes n) s
-
-no_newline-fails : (n c : ℕ) (s : List ℕ) → is_no_newline c ≡ true → begins (newline ∷ dashes n) (c ∷ s) ≡ false
-no_newline-fails n c s e = grind (arith, common_steps)
-
-dash-fails : (n c : ℕ) (s : List ℕ) → is_dash c ≡ true → begins (newline ∷ dashes n) (c ∷ s) ≡ false
-dash-fails n c s e = rw (eqb-true c 45 e) refl
-
--- the loop that looks for the fence stands at `from`
-pub record IsLooking (n : ℕ) (rest : List ℕ) (from : ℕ) : Type 0 where
-  pub inside : from ≤ length rest
-  pub found : fence_at n rest ≡ more from (fence_at n (drop from rest))
-
-pub look_end : (n : ℕ) (rest cut : List ℕ) (from : ℕ) → IsLooking n rest from → cut ≡ drop from rest → IsFirstByte (is_byte 10) cut None → None ≡ fence_at n rest
-look_end n rest cut from at e none =
-    let k : ℕ = run_len is_no_newline cut in
-    let over : drop k cut ≡ [] = drop_of_length-le cut (omega (arith, line-none cut none)) in
-    let gone : fence_at n cut ≡ None = skip_run is_no_newline (begins (newline ∷ dashes n)) (no_newline-fails n) cut ∙ ap (λ s. more k (fence_at n s)) over in
-    sym (at.found ∙ ap (more from) (ap (fence_at n) (sym e) ∙ gone))
-
--- a newline stands `step` bytes on, and its dashes end at `end`
-module _ (n : ℕ) (rest cut : List ℕ) (from step end : ℕ) (at : IsLooking n rest from) (e : cut ≡ drop from rest) (here : IsFirstByte (is_byte 10) cut (Some step))
-    (counted : end ≡ from + step + 1 + run_len is_dash (drop (from + step + 1) rest)) where
-  line : List ℕ
-  line = drop (from + step + 1) rest
-
-  at_newline : (s : List ℕ) (k : ℕ) → k < length s → is_newline (get_or s k 0) ≡ true → drop k s ≡ newline ∷ drop (k + 1) s
-  at_newline w0 k l f = grind (arith, common_steps, eqb-true)
-
-  to_line : fence_at n rest ≡ more (from + step) (fence_at n (newline ∷ line))
-  unfolding line
-  to_line =
-      let k : ℕ = run_len is_no_newline cut in
-      let is : k ≡ step = line-some cut step here in
-      let past : drop (step + 1) cut ≡ line = ap (drop (step + 1)) e ∙ (drop-drop (step + 1) from rest ∙ ap (λ m. drop m rest) (let same : from + (step + 1) ≡ from + step + 1 = omega arith in same)) in
-      let there : drop k cut ≡ newline ∷ line = ap (λ m. drop m cut) is ∙ (at_newline cut step here.0.high here.1 ∙ ap (λ s. newline ∷ s) past) in
-      at.found ∙ (ap (more from) (ap (fence_at n) (sym e) ∙ (skip_run is_no_newline (begins (newline ∷ dashes n)) (no_newline-fails n) cut
-      ∙ (ap (λ m. more m (fence_at n (drop k cut))) is ∙ ap (λ s. more step (fence_at n s)) there)))
-      ∙ more-more from step (fence_at n (newline ∷ line)))
-
-  pub look_found : n ≤ end - (from + step + 1) → Some (from + step) ≡ fence_at n rest
-  unfolding line to_line
-  look_found enough = grind (arith, common_steps, begins-enough, to_line, place-here)
-
-  pub look_on : end - (from + step + 1) < n → end ≤ length rest → IsLooking n rest end
-  unfolding line to_line
-  look_on few inside =
-      let d : ℕ = run_len is_dash line in
-      let others : begins (newline ∷ dashes n) (newline ∷ line) ≡ false = begins-few n line (omega arith) in
-      let left : drop d line ≡ drop end rest = drop-drop d (from + step + 1) rest ∙ ap (λ m. drop m rest) (sym counted) in
-      let one : fence_at n (newline ∷ line) ≡ more (suc d) (fence_at n (drop end rest)) =
-      place-on (begins (newline ∷ dashes n)) newline line others ∙ (ap one_more (skip_run is_dash (begins (newline ∷ dashes n)) (dash-fails n) line)
-      ∙ (one_more-more d (fence_at n (drop d line)) ∙ ap (λ s. more (suc d) (fence_at n s)) left)) in
-      record {
-        inside = inside;
-        found = to_line ∙ (ap (more (from + step)) one ∙ (more-more (from + step) (suc d) (fence_at n (drop end rest))
-            ∙ ap (λ m. more m (fence_at n (drop end rest))) (let same : from + step + suc d ≡ end = omega arith in same)));
-      }
 
 -- the places of a pattern, by the first of them
 module _ (pattern : List ℕ) where

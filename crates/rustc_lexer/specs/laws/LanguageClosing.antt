@@ -1,5 +1,5 @@
 -- The end of a frontmatter is the one that the language has: the code looks in bytes, the language in characters.
-use Rattle.std.proofs.Common.{◌≡◌, ℕ, zero, suc, ◌+◌, ◌-◌, ◌≤◌, ◌<◌, ◌==◌, ◌&&◌, nat_lt, inl, inr, Bool, true, false, true≢false, if◌then◌else◌, List, [], ◌∷◌, ◌++◌, length, take, drop, get_or, codes, refl, sym, ap, ◌∙◌, subst, arith, length-append, length-drop, take-append-drop, append_assoc, drop-drop, Option, Some, None}
+use Rattle.std.proofs.Common.{◌≡◌, ℕ, zero, suc, ◌+◌, ◌-◌, ◌≤◌, ◌<◌, ◌==◌, ◌&&◌, nat_lt, inl, inr, Bool, true, false, true≢false, if◌then◌else◌, List, [], ◌∷◌, ◌++◌, length, take, drop, get_or, codes, refl, sym, ap, ◌∙◌, subst, arith, length-append, take-append-drop, append_assoc, drop-drop, Option, Some, None}
 use Rattle.std.proofs.Math.Seq.{drop-append_seam}
 use Rattle.std.proofs.lemmas.Bool.{and_parts, false_from_ne_true, cases_lt, eqb-true, eq-eqb, ne_eqb, ltb-true, lt-ltb}
 use Rattle.std.proofs.lemmas.List.{get_or-drop, get_or_append_left, append-nil, nil_from_length}
@@ -19,7 +19,7 @@ use Rattle.rustc_lexer.specs.laws.LanguageLiterals.{bytes-append}
 use Rattle.rustc_lexer.specs.laws.LanguageLone as places
 use Rattle.rustc_lexer.specs.laws.LanguageLone.{none-first, at-three, three-at, all-points, points-all, IsRunAt, IsEdgeAt, IsLoneAt, IsFirstLone, lone-first}
 use Rattle.rustc_lexer.specs.laws.LanguageRuns.{run_len-here, run-stops, either-way}
-use Rattle.rustc_lexer.specs.laws.Reach.{begins-length, run_all, least-some}
+use Rattle.rustc_lexer.specs.laws.Reach.{run_all, least-some}
 use Rattle.rustc_lexer.specs.means.Scan.{begins, next_is, run_len}
 
 -- ---- characters and their bytes
@@ -265,10 +265,10 @@ encode-blanks (c ∷ w) all =
     elim (cases_lt c 128) [
       | inl lt ↦ rw (ap is_horizontal_whitespace (ap (λ (xs : List ℕ). get_or xs 0 0) (sym (encode_ascii c lt))) ∙ first_blank, encode-blanks w parts.1) refl
       | inr ge ↦ absurd (
-        let far = high c [] 0 ge (encode_some c) in
-        let same : get_or (encode_utf8 c ++ []) 0 0 ≡ get_or (encode_utf8 c) 0 0 = ap (λ (xs : List ℕ). get_or xs 0 0) (append-nil (encode_utf8 c)) in
-        omega (arith, blank-ascii (get_or (encode_utf8 c) 0 0) first_blank)
-      )
+          let far = high c [] 0 ge (encode_some c) in
+          let same : get_or (encode_utf8 c ++ []) 0 0 ≡ get_or (encode_utf8 c) 0 0 = ap (λ (xs : List ℕ). get_or xs 0 0) (append-nil (encode_utf8 c)) in
+          omega (arith, blank-ascii (get_or (encode_utf8 c) 0 0) first_blank)
+          )
     ]
 
 fence-bytes : (u : List ℕ) → bytes (u ++ fence 3) ≡ bytes u + 3

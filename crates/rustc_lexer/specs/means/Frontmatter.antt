@@ -71,6 +71,11 @@ opens s = begins (dashes 3) (drop (spaces_len s) s) && not (ends_line (take (spa
 abbrev pub first : List ℕ → List ℕ → Option ℕ
 first pattern rest = least_place (begins pattern) rest
 
+-- a place that was found before, or this one if it is such
+abbrev pub or_here : Option ℕ → Bool → ℕ → Option ℕ
+or_here (Some found) here place = Some found
+or_here None here place = if here then Some place else None
+
 -- the first newline at or past a place, or the end
 abbrev pub line_end : ℕ → List ℕ → ℕ
 line_end place rest = place + run_len is_no_newline (drop place rest)

@@ -73,26 +73,84 @@ fn is_infostring(c: char) -> bool {
     is_id_continue(c) || c == '-' || c == '.'
 }
 
-/// Where the frontmatter ends in `rest`, which follows an opening of `n_dashes` dashes.
+/// Where the frontmatter ends in `rest`, which follows an opening of `n_dashes` dashes. One pass over its lines looks for
+/// the fence that closes it, and keeps what serves where there is none.
 fn closing_end(rest: &[u8], n_dashes: usize) -> usize {
-    match find_fence(rest, n_dashes) {
-        Some(place) => line_end(rest, place + 1),
-        None => recovery(rest),
+    let mut guesses = Guesses {
+        short_fence: None,
+        use_item: None,
+        inner_doc: None,
+        inner_attribute: None,
+    };
+    let mut from = 0;
+    while let Some(step) = memchr(b'\n', &rest[from..]) {
+        let line = run_end(rest, from + step + 1, b'\n');
+        let end = run_end(rest, line, b'-');
+        if end - line >= n_dashes {
+            return line_end(rest, line);
+        }
+        guesses = with_line(guesses, rest, line);
+        from = end;
+    }
+    recovery(rest, guesses)
+}
+
+/// The first lines of each kind where Rust may begin, or a fence may stand that is too short: the places of the newlines
+/// before them.
+#[derive(Clone, Copy)]
+struct Guesses {
+    short_fence: Option<usize>,
+    use_item: Option<usize>,
+    inner_doc: Option<usize>,
+    inner_attribute: Option<usize>,
+}
+
+/// The guesses with a line, if it is the first of its kind.
+#[inline(always)]
+fn with_line(guesses: Guesses, rest: &[u8], line: usize) -> Guesses {
+    if !may_end(rest, line) {
+        return guesses;
+    }
+    Guesses {
+        short_fence: or_here(guesses.short_fence, rest, line - 1, b"\n---"),
+        use_item: or_here(guesses.use_item, rest, line - 1, b"\nuse "),
+        inner_doc: or_here(guesses.inner_doc, rest, line - 1, b"\n//!"),
+        inner_attribute: or_here(guesses.inner_attribute, rest, line - 1, b"\n#!["),
+    }
+}
+
+/// Whether a line begins with a byte that one of these lines begins with.
+#[inline(always)]
+fn may_end(rest: &[u8], line: usize) -> bool {
+    line < rest.len() && matches!(rest[line], b'-' | b'u' | b'/' | b'#')
+}
+
+/// The place that was found before, or this one if the pattern stands here.
+#[inline(always)]
+fn or_here(found: Option<usize>, rest: &[u8], place: usize, pattern: &[u8]) -> Option<usize> {
+    match found {
+        Some(before) => Some(before),
+        None => {
+            if rest[place..].starts_with(pattern) {
+                return Some(place);
+            }
+            None
+        }
     }
 }
 
 /// Where a frontmatter ends that no line of so many dashes closes: at the best guess of where Rust begins.
-fn recovery(rest: &[u8]) -> usize {
-    if let Some(place) = find(rest, b"\n---", 1) {
+fn recovery(rest: &[u8], guesses: Guesses) -> usize {
+    if let Some(place) = guesses.short_fence {
         return line_end(rest, place + 1);
     }
-    if let Some(place) = find(rest, b"\nuse ", 0) {
+    if let Some(place) = guesses.use_item {
         return place;
     }
-    if let Some(place) = find(rest, b"\n//!", 3) {
+    if let Some(place) = guesses.inner_doc {
         return place;
     }
-    if let Some(place) = find(rest, b"\n#![", 2) {
+    if let Some(place) = guesses.inner_attribute {
         return place;
     }
     match find_lone_dashes(rest) {
@@ -101,24 +159,11 @@ fn recovery(rest: &[u8]) -> usize {
     }
 }
 
-/// The place of the first newline that at least `n_dashes` dashes follow.
-fn find_fence(rest: &[u8], n_dashes: usize) -> Option<usize> {
-    let mut from = 0;
-    while let Some(step) = memchr(b'\n', &rest[from..]) {
-        let line = from + step + 1;
-        let end = dashes_end(rest, line);
-        if end - line >= n_dashes {
-            return Some(from + step);
-        }
-        from = end;
-    }
-    None
-}
-
-/// Where the dashes from a place on end.
-fn dashes_end(rest: &[u8], from: usize) -> usize {
+/// Where the run of a byte from a place on ends.
+#[inline(always)]
+fn run_end(rest: &[u8], from: usize, byte: u8) -> usize {
     let mut end = from;
-    while end < rest.len() && rest[end] == b'-' {
+    while end < rest.len() && rest[end] == byte {
         end += 1;
     }
     end
