@@ -8,7 +8,7 @@ use Rattle.std.proofs.lemmas.List.Sums.{fold-append}
 use Rattle.sources.specs.declared.fault.Fault.{Fault}
 use Rattle.sources.specs.declared.fault.PathFault.{PathFault}
 use Rattle.sources.specs.Outcomes.{Sources, passed_over, source, IsOfSource}
-use Rattle.sources.specs.Reasons.{IsSystemFault}
+use Rattle.sources.specs.Reasons.{IsUnread}
 use Rattle.sources.proofs.OutcomesLemmas.{taken_more, taken_none, Taken}
 use Rattle.sources.proofs.ReasonLemmas.{no_text_reason}
 use Rattle.count_run.specs.declared.lines.LineCounts.{LineCounts}
@@ -38,7 +38,7 @@ total-source : (old new : Outcome) (path : String Global) (came : Result LineCou
 total-source old new path came is total files more same = grind (arith, common_steps, fold-append, append-nil)
 
 -- what comes of a file that was read, or could not be
-came-counted : (path : String Global) (read : Result (Vec ℕ Global) Fault) (came : Result LineCounts Fault) → IfErr read IsSystemFault → IsCountOf read came → All IsCounted (source path came)
+came-counted : (path : String Global) (read : Result (Vec ℕ Global) Fault) (came : Result LineCounts Fault) → IfErr read IsUnread → IsCountOf read came → All IsCounted (source path came)
 came-counted path read came other is = grind (arith, common_steps, All-cons, All-nil, no_text_reason)
 
 pub counted-none : (paths left : List (String Global)) (faults : List PathFault) (outcome : Outcome) → left ≡ paths → outcome.report.files.items ≡ [] → outcome.report.total ≡ no_counts → outcome.faults.items ≡ faults
@@ -46,7 +46,7 @@ pub counted-none : (paths left : List (String Global)) (faults : List PathFault)
 counted-none paths left faults outcome all files total same = grind (arith, common_steps, taken_none)
 
 pub counted-step : (paths : List (String Global)) (faults : List PathFault) (path : String Global) (all left : List (String Global)) (old new : Outcome) (read : Result (Vec ℕ Global) Fault) (came : Result LineCounts Fault)
-    → Counted paths faults all old → all ≡ path ∷ left → IfErr read IsSystemFault → IsCountOf read came → IsOfSource came
+    → Counted paths faults all old → all ≡ path ∷ left → IfErr read IsUnread → IsCountOf read came → IsOfSource came
     → new.report.files.items ≡ old.report.files.items ++ counted (source path came)
     → new.faults.items ≡ old.faults.items ++ passed_over (source path came)
     → IfOk came (λ counts. new.report.total ≡ sums old.report.total counts)

@@ -1,20 +1,13 @@
 -- The known bytes of readers and writers, over loops.
-use Rattle.std.proofs.Common.{◌≡◌, ℕ, ◌+◌, ◌-◌, List, [], ◌++◌, length, take, drop, refl, sym, ap, ◌∙◌, arith, append_assoc, append-nil, length-append, take-append-drop, take_at, length-drop, take_all, subst, Option, Some, None, Ok, Vec, Global}
+use Rattle.std.proofs.Common.{◌≡◌, ℕ, ◌+◌, ◌-◌, List, [], ◌++◌, length, take, drop, refl, sym, ap, ◌∙◌, arith, append_assoc, append-nil, length-append, take-append-drop, take_at, length-drop, take_all, subst, Option, Some, None}
 use Rattle.std.specs.Io.KnownBytes.{Appends, Keeps}
 use Rattle.std.proofs.Math.Seq.{take-append-add}
 use Rattle.std.proofs.lemmas.List.{take-append-le}
-use Rattle.std.specs.Prelude.{IfSome}
 use Rattle.ends.specs.Known.{AppendsFront, Went}
-use Rattle.ends.specs.Reading.{EndsReading}
 
 pub keeps_same : (old : Option (List ℕ)) → Keeps old old
 keeps_same None = tt
 keeps_same (Some xs) = refl
-
--- what holds of a text that was read holds of the bytes of the reader, where they are known
-pub text_known : (P : List ℕ → Type 0) (known : Option (List ℕ)) (read : Vec ℕ Global) (cut text : List ℕ) → EndsReading known (Ok read) → cut ≡ read.items → text ≡ cut → P text → IfSome known P
-text_known P None read cut text ends e f p = tt
-text_known P (Some bytes) read cut text ends e f p = subst P (f ∙ (e ∙ ends)) p
 
 pub appends-none : (old : Option (List ℕ)) → Appends old old []
 appends-none None = tt

@@ -1,2 +1,3 @@
 mod FlagLemmas
 pub mod KnownLemmas
+pub mod RunLemmas

@@ -3,11 +3,15 @@
 #![tactic(auto)]
 
 mod reading;
+mod run;
+mod stop;
 mod watched;
 mod words;
 mod writing;
 
 pub use reading::{ReadStop, read_all};
+pub use run::{put, read_text};
+pub use stop::{Stop, report};
 pub use watched::{Watched, is_closed};
-pub use words::past_name;
-pub use writing::{WriteStop, tell, write_all, write_bytes};
+pub use words::{given_words, past_name};
+pub use writing::{WriteStop, tell, write_all, write_bytes, write_texts};

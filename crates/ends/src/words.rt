@@ -1,6 +1,7 @@
 //! The words of the command line.
-ghost use Rattle.std.specs.Prelude.{◌≡◌, IfOk, drop};
+ghost use Rattle.std.specs.Prelude.{◌≡◌, IfOk, Some, drop, map, string_bytes};
 ghost use Rattle.std.specs.Vec.Iter.{into_iter_items};
+ghost use Rattle.ends.specs.Words.{words_of};
 
 use std::alloc::{AllocError, Global};
 use std::env::Args;
@@ -15,4 +16,15 @@ pub fn past_name(alloc: Global, mut args: Args) -> Result<Vec<String>, AllocErro
         words.push(word)?;
     }
     Ok(words)
+}
+
+/// The words after the first, which is the program's name. Where the arguments could not be had, as `None` says, it is as
+/// if memory was refused.
+pub fn given_words(alloc: Global, args: Option<Args>) -> Result<Vec<String>, AllocError>
+    ensures { IfOk result (λ words. words_of args ≡ Some (map string_bytes words.items)) }
+{
+    match args {
+        Some(args) => past_name(alloc, args),
+        None => Err(AllocError),
+    }
 }

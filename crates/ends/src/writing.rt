@@ -1,5 +1,5 @@
 //! Bytes that are written, all of them or a beginning.
-ghost use Rattle.std.specs.Prelude.{◌≡◌, ◌||◌, false, true, if◌then◌else◌, is_err, IfOk, OnErr, OnOk};
+ghost use Rattle.std.specs.Prelude.{◌≡◌, ◌||◌, ◌++◌, false, true, if◌then◌else◌, is_err, IfOk, OnErr, OnOk};
 ghost use Rattle.std.specs.Io.KnownBytes.{Appends};
 ghost use Rattle.ends.specs.Known.{AppendsFront};
 ghost use Rattle.ends.specs.Watch.{is_closed};
@@ -57,6 +57,27 @@ pub fn write_bytes<W: Write>(output: &mut Watched<W>, bytes: &[u8]) -> Result<()
         rest = &rest[count..];
     }
     Ok(())
+}
+
+/// Writes three texts, one behind another, and flushes.
+pub fn write_texts<W: Write>(
+    output: &mut Watched<W>,
+    one: &str,
+    two: &str,
+    three: &str,
+) -> Result<(), WriteStop>
+    ensures failed { output.new.failed ≡ (output.old.failed || is_err result) }
+    ensures faulty { output.new.faulty ≡ (output.old.faulty || is_fault result) }
+    ensures closed { output.new.closed ≡ (output.old.closed || is_pipe_closed result) }
+    ensures flushed { IfOk result (λ _. output.new.flushed ≡ true) }
+    ensures ok { OnOk result (Appends (W.contents output.old.inner) (W.contents output.new.inner)
+        (one.now ++ (two.now ++ three.now))) }
+    ensures err { OnErr result (AppendsFront (W.contents output.old.inner)
+        (W.contents output.new.inner) (one.now ++ (two.now ++ three.now))) }
+{
+    write_bytes(output, one.as_bytes())?;
+    write_bytes(output, two.as_bytes())?;
+    write_all(output, three.as_bytes())
 }
 
 /// Writes what is told of a run, and flushes. Where it can't be written there is nobody to tell.

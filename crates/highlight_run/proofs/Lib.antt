@@ -1,2 +1,1 @@
 pub mod JobLemmas
-pub mod OutcomeLemmas

@@ -1,5 +1,3 @@
 pub mod Job
-pub mod Outcome
 pub mod Page
 pub mod Program
-pub mod Stop

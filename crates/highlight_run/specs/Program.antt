@@ -5,13 +5,14 @@ use Rattle.std.specs.Global.{Global}
 use Rattle.std.specs.declared.env.VarError.{VarError}
 use Rattle.std.specs.declared.env.VarError.TheVariants.{NotPresent, NotUnicode, OutOfMemory}
 use Rattle.std.specs.declared.string.String.{String}
+use Rattle.ends.specs.Run.{Makes, RanBy, Writes}
+use Rattle.ends.specs.declared.stop.Stop.{Stop}
+use Rattle.ends.specs.declared.stop.Stop.TheVariants.{Arguments, Memory}
 use Rattle.highlight_run.specs.declared.job.Job.{Job}
 use Rattle.highlight_run.specs.declared.job.Job.TheVariants.{Show, Help}
 use Rattle.highlight_run.specs.declared.program.TheConstants.{HELP}
-use Rattle.highlight_run.specs.declared.stop.Stop.{Stop}
-use Rattle.highlight_run.specs.declared.stop.Stop.TheVariants.{Arguments, Memory}
 use Rattle.highlight_run.specs.Job.{job_of}
-use Rattle.highlight_run.specs.Outcome.{Ends, Writes}
+use Rattle.highlight_run.specs.Page.{printed}
 
 -- no value, or an empty one
 abbrev pub is_unset : Result (String Global) VarError → Option Bool
@@ -25,16 +26,13 @@ is_unset (Err OutOfMemory) = None
 abbrev pub colours_of : Result (String Global) VarError → Bool → Option Bool
 colours_of no_color is_terminal = option_map (λ unset. unset && is_terminal) (is_unset no_color)
 
--- what a job comes to, or why there is none
-abbrev pub Does : Option Job → Option (List ℕ) → Option (List ℕ) → Option (List ℕ) → Result (Unit {0}) Stop → Type 0
-Does None known old new result = result ≡ Err Arguments
-Does (Some Help) known old new result = Writes HELP.now old new result
-Does (Some (Show style edition)) known old new result = IfSome known (λ bytes. Ends style edition bytes old new result)
+-- what a job comes to
+abbrev pub Does : Option (List ℕ) → Option (List ℕ) → Option (List ℕ) → Job → Result (Unit {0}) Stop → Type 0
+Does known old new Help result = Writes HELP.now old new result
+Does known old new (Show style edition) result = IfSome known (λ bytes. Makes (printed style edition) bytes old new result)
 
 -- a run by words, or by none where they could not be had: it is that of the job which the words ask for, unless
 -- memory was refused; without words, or where it is not known whether colours are written, memory was refused
 abbrev pub Ran : Option (List (List ℕ)) → Option Bool → Option (List ℕ) → Option (List ℕ) → Option (List ℕ) → Result (Unit {0}) Stop → Type 0
-Ran words colours known old new (Err Memory) = Unit {0}
-Ran None colours known old new result = ⊥
-Ran (Some words) None known old new result = ⊥
-Ran (Some words) (Some colours) known old new result = Does (job_of words colours) known old new result
+Ran words None known old new result = result ≡ Err Memory
+Ran words (Some colours) known old new result = RanBy Arguments Memory (λ (words : List (List ℕ)). job_of words colours) (Does known old new) words result

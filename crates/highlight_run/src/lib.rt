@@ -4,9 +4,7 @@
 mod job;
 mod page;
 pub mod program;
-mod report;
 pub mod run;
-mod stop;
 
+pub use ends::Stop;
 pub use job::{Job, read_job};
-pub use stop::Stop;

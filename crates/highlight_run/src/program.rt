@@ -1,17 +1,14 @@
 //! The whole program, over any ends.
-ghost use Rattle.std.specs.Prelude.{◌≡◌, ◌≢◌, ◌↔◌, false, true, IsErrOf, IsTrue, IfErr, IfOk, OnErr, Result};
-ghost use Rattle.std.specs.Io.KnownBytes.{Appends, Keeps};
-ghost use Rattle.highlight_run.specs.declared.stop.Stop.{Stop as TheStop};
-ghost use Rattle.ends.specs.Known.{AppendsFront};
+ghost use Rattle.std.specs.Prelude.{◌≡◌, false, codes, Result};
+ghost use Rattle.ends.specs.Run.{Leaves};
+ghost use Rattle.ends.specs.Stop.{status_of, stop_line, Told};
 ghost use Rattle.ends.specs.Words.{words_of};
+ghost use Rattle.ends.specs.declared.stop.Stop.{Stop as TheStop};
 ghost use Rattle.highlight_run.specs.Program.{colours_of, Ran};
-ghost use Rattle.highlight_run.specs.Stop.{exit_status, told};
 
 use crate::job::{Job, read_job};
-use crate::report::report;
-use crate::run::{put, run};
-use crate::stop::Stop;
-use ends::{Watched, past_name};
+use crate::run::run;
+use ends::{Stop, Watched, given_words, put, report};
 use std::alloc::Global;
 use std::env::{Args, VarError};
 use std::io::{Read, Write};
@@ -56,21 +53,14 @@ pub fn program<R: Read, W: Write, E: Write>(
         × Ran (words_of start.args) (colours_of start.no_color start.is_terminal)
         (R.remaining input.old.inner) (W.contents output.old.inner)
         (W.contents output.new.inner) outcome
-        × (IsErrOf outcome Stop.Read ↔ IsTrue input.new.failed)
-        × (IsErrOf outcome Stop.Write ↔ IsTrue output.new.faulty)
-        × (IsErrOf outcome Stop.ClosedPipe ↔ IsTrue output.new.closed)
-        × (IfOk outcome (λ _. output.new.flushed ≡ true))
-        × (IfErr outcome (λ stop. stop ≢ Stop.Write → stop ≢ Stop.ClosedPipe
-        → Keeps (W.contents output.old.inner) (W.contents output.new.inner)))
-        × (result ≡ exit_status outcome)
-        × (errors.new.faulty ≡ false → errors.new.closed ≡ false
-        → Appends (E.contents errors.old.inner) (E.contents errors.new.inner) (told outcome))
-        × (OnErr outcome (errors.new.faulty ≡ false → errors.new.closed ≡ false
-        → errors.new.flushed ≡ true))
-        × AppendsFront (E.contents errors.old.inner) (E.contents errors.new.inner) (told outcome) }
+        × Leaves input.new output.new (W.contents output.old.inner)
+        (W.contents output.new.inner) outcome
+        × Told status_of (stop_line (codes "highlight: ")) outcome result
+        ((errors.new.faulty ≡ false) × (errors.new.closed ≡ false)) errors.new.flushed
+        (E.contents errors.old.inner) (E.contents errors.new.inner) }
 {
     let outcome = show(alloc, start, input, output);
-    report(&outcome, errors)
+    report("highlight: ", &outcome, errors)
 }
 
 /// Reads the arguments, and then does what they ask for.
@@ -83,33 +73,19 @@ fn show<R: Read, W: Write>(
     requires reads { input.old.failed ≡ false }
     requires writes { output.old.faulty ≡ false }
     requires open { output.old.closed ≡ false }
-    ensures read { IsErrOf result Stop.Read ↔ IsTrue input.new.failed }
-    ensures write { IsErrOf result Stop.Write ↔ IsTrue output.new.faulty }
-    ensures closed { IsErrOf result Stop.ClosedPipe ↔ IsTrue output.new.closed }
-    ensures flushed { IfOk result (λ _. output.new.flushed ≡ true) }
-    ensures silent { IfErr result (λ stop. stop ≢ Stop.Write → stop ≢ Stop.ClosedPipe
-        → Keeps (W.contents output.old.inner) (W.contents output.new.inner)) }
+    ensures leaves { Leaves input.new output.new (W.contents output.old.inner)
+        (W.contents output.new.inner) result }
     ensures ran { Ran (words_of start.args) (colours_of start.no_color start.is_terminal)
         (R.remaining input.old.inner) (W.contents output.old.inner)
         (W.contents output.new.inner) result }
 {
-    let Start {
-        args,
-        no_color,
-        is_terminal,
-    } = start;
-    let Some(args) = args else {
-        return Err(Stop::Memory);
-    };
-    let Ok(words) = past_name(alloc, args) else {
-        return Err(Stop::Memory);
-    };
-    let Some(colours) = wants_colours(&no_color, is_terminal) else {
+    let words = given_words(alloc, start.args)?;
+    let Some(colours) = wants_colours(&start.no_color, start.is_terminal) else {
         return Err(Stop::Memory);
     };
     match read_job(words.as_slice(), colours) {
         Some(Job::Show { style, edition }) => run(alloc, style, edition, input, output),
-        Some(Job::Help) => put(output, HELP.as_bytes()),
+        Some(Job::Help) => put(output, HELP),
         None => Err(Stop::Arguments),
     }
 }

@@ -1,9 +1,9 @@
 //! Why a run stops.
 ghost use Rattle.std.specs.Prelude.{◌≡◌, Some};
-ghost use Rattle.lexdump_run.specs.Fault.{fault_text, read_fault, status_of, stop_fault};
+ghost use Rattle.lexdump_run.specs.Fault.{fault_text, end_fault, status_of, stop_fault};
 ghost use Rattle.lexdump_run.specs.declared.fault.Fault.TheVariants.{Memory, Write};
 
-use ends::{ReadStop, WriteStop};
+use ends::{Stop, WriteStop};
 use rustc_lexer::EditStop;
 use std::alloc::{AllocError, AllocFailed};
 use std::error::Error;
@@ -76,14 +76,17 @@ impl From<EditStop> for Fault {
     }
 }
 
-impl From<ReadStop> for Fault {
-    ghost from_gives = { λ stop fault. fault ≡ read_fault stop };
+impl From<Stop> for Fault {
+    ghost from_gives = { λ stop fault. fault ≡ end_fault stop };
 
-    fn from(stop: ReadStop) -> Fault {
+    fn from(stop: Stop) -> Fault {
         match stop {
-            ReadStop::TooLong => Fault::TooLong,
-            ReadStop::Memory => Fault::Memory,
-            ReadStop::Failed => Fault::Read,
+            Stop::Arguments => Fault::Arguments,
+            Stop::NotUtf8 => Fault::NotUtf8,
+            Stop::TooLong => Fault::TooLong,
+            Stop::Memory => Fault::Memory,
+            Stop::Read => Fault::Read,
+            Stop::Write | Stop::ClosedPipe => Fault::Write,
         }
     }
 }

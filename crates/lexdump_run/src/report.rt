@@ -1,12 +1,10 @@
 //! What is told of a run that stopped, and its status.
-ghost use Rattle.std.specs.Prelude.{◌≡◌, ◌++◌, false, true, is_err, IfOk, OnErr, OnOk};
-ghost use Rattle.std.specs.Io.KnownBytes.{Appends};
-ghost use Rattle.lexdump_run.specs.Fault.{fault_line, number_text};
-ghost use Rattle.ends.specs.Known.{AppendsFront};
-ghost use Rattle.lexdump_run.specs.Program.{exit_status, told};
+ghost use Rattle.std.specs.Prelude.{◌≡◌, ◌++◌, false};
+ghost use Rattle.ends.specs.Stop.{Told};
+ghost use Rattle.lexdump_run.specs.Fault.{fault_line, number_text, status_of};
 
 use crate::fault::{Fault, status};
-use ends::{Watched, WriteStop, write_all, write_bytes};
+use ends::{Watched, write_texts};
 use itoa::Buffer;
 use std::io::Write;
 
@@ -14,55 +12,26 @@ use std::io::Write;
 ///
 /// What goes out is all of the line where the writer does not fail, else a beginning of it. The status is the same.
 pub fn report<E: Write>(outcome: &Result<(), Fault>, errors: &mut Watched<E>) -> u8
-    requires { errors.old.failed ≡ false }
-    ensures status { result ≡ exit_status outcome.now }
-    ensures line { errors.new.failed ≡ false
-        → Appends (E.contents errors.old.inner) (E.contents errors.new.inner) (told outcome.now) }
-    ensures flushed { OnErr outcome.now (errors.new.failed ≡ false → errors.new.flushed ≡ true) }
-    ensures front { AppendsFront (E.contents errors.old.inner) (E.contents errors.new.inner)
-        (told outcome.now) }
+    ensures { Told status_of fault_line outcome.now result (errors.new.failed ≡ false)
+        errors.new.flushed (E.contents errors.old.inner) (E.contents errors.new.inner) }
 {
-    match outcome {
-        Ok(()) => 0,
-        Err(fault) => {
-            // Where this line can't be written there is nobody to tell.
-            let _ = tell(fault, errors);
-            status(fault)
-        }
-    }
-}
-
-/// Writes the line of the fault, and flushes.
-fn tell<E: Write>(fault: &Fault, errors: &mut Watched<E>) -> Result<(), WriteStop>
-    requires { errors.old.failed ≡ false }
-    ensures failed { errors.new.failed ≡ is_err result }
-    ensures flushed { IfOk result (λ _. errors.new.flushed ≡ true) }
-    ensures ok { OnOk result
-        (Appends (E.contents errors.old.inner) (E.contents errors.new.inner)
-        (fault_line fault.now)) }
-    ensures err { OnErr result
-        (AppendsFront (E.contents errors.old.inner) (E.contents errors.new.inner)
-        (fault_line fault.now)) }
-{
+    let Err(fault) = outcome else {
+        return 0;
+    };
     let (before, number, after) = line_parts(fault);
-    write_bytes(errors, before.as_bytes())?;
-    write_number(errors, number)?;
-    write_all(errors, after.as_bytes())
+    let mut buffer = Buffer::new();
+    // Where this line can't be written there is nobody to tell.
+    let _ = write_texts(errors, before, digits(&mut buffer, number), after);
+    status(fault)
 }
 
-/// Writes the number, if there is one.
-fn write_number<E: Write>(errors: &mut Watched<E>, number: Option<usize>) -> Result<(), WriteStop>
-    requires { errors.old.failed ≡ false }
-    ensures failed { errors.new.failed ≡ is_err result }
-    ensures ok { OnOk result
-        (Appends (E.contents errors.old.inner) (E.contents errors.new.inner) (number_text number)) }
-    ensures err { OnErr result
-        (AppendsFront (E.contents errors.old.inner) (E.contents errors.new.inner)
-        (number_text number)) }
+/// The digits of the number, if there is one.
+fn digits(buffer: &mut Buffer, number: Option<usize>) -> &str
+    ensures { result.now ≡ number_text number }
 {
     match number {
-        Some(number) => write_bytes(errors, Buffer::new().format(number).as_bytes()),
-        None => Ok(()),
+        Some(number) => buffer.format(number),
+        None => "",
     }
 }
 

@@ -9,7 +9,7 @@ use crate::fault::Fault;
 use crate::job::Job;
 use crate::listing::{edited, list_pieces, list_tokens, tell_shebang};
 use crate::output::Block;
-use ends::{Watched, read_all};
+use ends::{Watched, read_text};
 use rustc_lexer::{Edition, FrontmatterAllowed};
 use std::alloc::Global;
 use std::io::{Read, Write};
@@ -19,6 +19,7 @@ use std::io::{Read, Write};
 /// The lines go out in blocks. Nothing that may be refused comes after the first byte: after every fault but
 /// `Fault::Write` the output is as it was.
 /// At `Ok` the last thing asked of the output was a flush, and it was not refused.
+#[tactic(auto, using(crate::proofs::OutcomeLemmas::ends_unread, crate::proofs::OutcomeLemmas::ends_unlisted, crate::proofs::OutcomeLemmas::silent_unlisted, crate::proofs::OutcomeLemmas::ends_listed))]
 pub fn run<R: Read, W: Write>(
     alloc: Global,
     job: &Job<'_>,
@@ -36,13 +37,9 @@ pub fn run<R: Read, W: Write>(
     ensures ends { IfSome (R.remaining input.old.inner) (λ bytes.
         Ends job.now bytes (W.contents output.old.inner) (W.contents output.new.inner) result) }
 {
-    let bytes = read_all(alloc, input)?;
-    let text = match std::str::from_utf8(bytes.as_slice()) {
-        Ok(text) => text,
-        Err(_) => return Err(Fault::NotUtf8),
-    };
+    let text = read_text(alloc, input)?;
     let mut lines = Block::new();
-    print(alloc, job, text, &mut lines, output)?;
+    print(alloc, job, text.as_str(), &mut lines, output)?;
     lines.finish(output)
 }
 

@@ -1,4 +1,4 @@
-//! A text as a page shows it: with entities for the bytes that a page would read as its own.
+//! Writes a text for a page, with entities for the bytes that a page would read as its own.
 ghost use Rattle.std.specs.Prelude.{◌≡◌, OnOk};
 ghost use Rattle.std.specs.Fmt.{WritesInCalls};
 ghost use Rattle.marks.specs.Escape.{entity, escaped, unescaped};
@@ -22,7 +22,7 @@ pub fn write_escaped<W: fmt::Write>(text: &str, output: &mut W) -> fmt::Result
     output.write_str(rest)
 }
 
-/// The entity for `&`, `<` or else `>`.
+/// Returns the entity for `&` or `<`, or else for `>`.
 fn entity(byte: u8) -> &'static str
     ensures { result.now ≡ entity byte }
 {

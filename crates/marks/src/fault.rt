@@ -1,4 +1,4 @@
-//! What is wrong with a token.
+//! The faults of tokens.
 ghost use Rattle.std.specs.Prelude.{◌≡◌, Some};
 ghost use Rattle.rustc_lexer.specs.Classes.{Fits};
 ghost use Rattle.marks.specs.Fault.{error_sentence, fault_of, literal_fault, raw_fault, sentence};
@@ -7,22 +7,22 @@ use rustc_lexer::{LiteralKind, RawStrError, TokenKind, starts_raw, validate_raw_
 use rustc_literal_escaper::EscapeError;
 use std::fmt;
 
-/// What is wrong with a token. Its `Display` is a sentence that says so.
+/// A fault of a token. Its `Display` writes a sentence about it.
 #[derive(Clone, Copy, Debug, PartialEq, Eq)]
 pub enum Fault {
     /// Nothing closes a block comment.
     OpenComment,
-    /// White space stands before the dashes of a frontmatter.
+    /// White space comes before the dashes of a frontmatter.
     FrontmatterSpace,
-    /// The first line of a frontmatter has more than it may.
+    /// The first line of a frontmatter has more on it than is allowed.
     FrontmatterInfostring,
     /// A name holds an emoji.
     InvalidName,
-    /// A name stands right before a quote or a hash.
+    /// A name comes right before a quote or a hash.
     UnknownPrefix,
-    /// A lifetime stands right before a hash.
+    /// A lifetime comes right before a hash.
     UnknownLifetimePrefix,
-    /// `#"` or `##`, which are reserved.
+    /// The text has `#"` or `##`, which are reserved.
     GuardedString,
     /// A lifetime begins with a digit, or holds an emoji.
     InvalidLifetime,
@@ -38,19 +38,19 @@ pub enum Fault {
     OpenByte,
     /// Nothing closes a string.
     OpenString,
-    /// Neither a hash nor a quote stands where a raw string should begin.
+    /// There is neither a hash nor a quote where a raw string should begin.
     RawStarter,
-    /// Nothing closes a raw string, and no quote in it has a hash behind it.
+    /// Nothing closes a raw string, and no hash follows a quote in it.
     OpenRawString { expected: u32 },
-    /// Nothing closes a raw string; the quote that ends at byte `end` of it has too few hashes behind it.
+    /// Nothing closes a raw string. Too few hashes follow the quote that ends at byte `end` of it.
     FewHashes { expected: u32, found: u32, end: u32 },
     /// A raw string has more than 255 hashes on each side.
     ManyHashes { found: u32 },
-    /// Something between the quotes of a literal.
+    /// Something is wrong between the quotes of a literal.
     InLiteral(EscapeError),
 }
 
-/// What is wrong with a token, by its kind and its text; `None` where nothing is.
+/// Returns what is wrong with a token, by its kind and its text. Returns `None` if nothing is wrong.
 pub fn fault_of(kind: TokenKind, text: &str) -> Option<Fault>
     requires fits { Fits text.now }
     ensures { result ≡ fault_of kind text.now }
@@ -81,7 +81,7 @@ pub fn fault_of(kind: TokenKind, text: &str) -> Option<Fault>
     }
 }
 
-/// What is wrong with a literal.
+/// Returns what is wrong with a literal, or `None` if nothing is.
 fn literal_fault(kind: LiteralKind, text: &str) -> Option<Fault>
     requires fits { Fits text.now }
     ensures { result ≡ literal_fault kind text.now }
@@ -108,7 +108,7 @@ fn literal_fault(kind: LiteralKind, text: &str) -> Option<Fault>
     }
 }
 
-/// Why a raw string is refused, whose prefix has so many characters.
+/// Returns why a raw string is refused, or `None` if it is not. Its prefix has `prefix_len` characters.
 fn raw_fault(text: &str, prefix_len: u32) -> Option<Fault>
     requires fits { Fits text.now }
     ensures { result ≡ raw_fault text.now prefix_len }
@@ -135,7 +135,7 @@ fn raw_fault(text: &str, prefix_len: u32) -> Option<Fault>
     }
 }
 
-/// What is wrong between the quotes of a literal, as a sentence.
+/// Returns a sentence that says what is wrong between the quotes of a literal.
 fn error_sentence(error: EscapeError) -> &'static str
     ensures { result.now ≡ error_sentence error }
 {

@@ -1,4 +1,4 @@
-//! Literals: the escapes in them, and what is wrong.
+//! Writes literals: their escapes, and what is wrong in them.
 ghost use Rattle.std.specs.Prelude.{◌≡◌, ◌+◌, ◌≤◌, ◌<◌, length, MatchResult, OnOk};
 ghost use Rattle.std.specs.Fmt.{WritesInCalls};
 ghost use Rattle.std.specs.Str.{IsCharBoundary};
@@ -18,7 +18,7 @@ use rustc_lexer::{LiteralKind, TokenKind};
 use rustc_literal_escaper::{Element, Elements, EscapeError, Mode, unescape_byte, unescape_char};
 use std::fmt;
 
-/// How a stretch of a literal looks that is not plain.
+/// The look of a stretch of a literal that is not plain.
 #[derive(Clone, Copy, Debug, PartialEq, Eq)]
 pub enum Look {
     /// An escape.
@@ -27,7 +27,7 @@ pub enum Look {
     Wrong(EscapeError),
 }
 
-/// The kind of a literal that is closed; `None` for a number and for what is no literal.
+/// Returns the kind of a closed literal. Returns `None` for a number, and for a token that is not a literal.
 pub fn mode_of(kind: TokenKind) -> Option<Mode>
     ensures { result ≡ spec.mode_of kind }
 {
@@ -47,7 +47,7 @@ pub fn mode_of(kind: TokenKind) -> Option<Mode>
     }
 }
 
-/// Writes a literal that is closed: its escapes in their class, its faults between their marks, and the rest as text.
+/// Writes a closed literal: its escapes in their class, its faults between their marks, and the rest as text.
 pub fn write_literal<W: fmt::Write>(
     style: Style,
     mode: Mode,
@@ -70,14 +70,14 @@ pub fn write_literal<W: fmt::Write>(
     }
 }
 
-/// Whether such a literal stands between single quotes.
+/// Returns whether such a literal has single quotes.
 fn is_single(mode: Mode) -> bool
     ensures { result ≡ is_single mode }
 {
     matches!(mode, Mode::Char | Mode::Byte)
 }
 
-/// The quote of such a literal.
+/// Returns the quote of such a literal.
 fn quote_of(mode: Mode) -> u8
     ensures value { result ≡ spec.quote_of mode }
     ensures ascii { result < 128 }
@@ -85,7 +85,7 @@ fn quote_of(mode: Mode) -> u8
     if is_single(mode) { b'\'' } else { b'"' }
 }
 
-/// The place of the first byte of this value, or the length of the text.
+/// Returns the place of the first byte of this value, or the length of the text.
 #[tactic(auto, using(crate::proofs::PlaceLemmas::place_found, crate::proofs::PlaceLemmas::place_none, crate::proofs::PlaceLemmas::past_first))]
 fn first_place(byte: u8, text: &str) -> usize
     requires ascii { byte < 128 }
@@ -98,7 +98,7 @@ fn first_place(byte: u8, text: &str) -> usize
     }
 }
 
-/// The place of the last byte of this value, or 0.
+/// Returns the place of the last byte of this value, or 0.
 #[tactic(auto, using(crate::proofs::PlaceLemmas::last_found, crate::proofs::PlaceLemmas::last_none))]
 fn last_place(byte: u8, text: &str) -> usize
     requires ascii { byte < 128 }
@@ -111,7 +111,7 @@ fn last_place(byte: u8, text: &str) -> usize
     }
 }
 
-/// Writes a literal between single quotes, of which the inside goes from the place `begin` to `close`.
+/// Writes a literal between single quotes. The text between them goes from the place `begin` to `close`.
 fn write_single<W: fmt::Write>(
     style: Style,
     mode: Mode,
@@ -132,7 +132,7 @@ fn write_single<W: fmt::Write>(
     write_in_class(style, Class::Text, &text[shown..], output)
 }
 
-/// How the inside of a literal between single quotes looks.
+/// Returns the look of the text between single quotes, or `None` if it is plain.
 fn single_look(mode: Mode, inside: &str) -> Option<Look>
     ensures { result ≡ spec.single_look (spec.single_error mode inside.now) inside.now }
 {
@@ -143,7 +143,7 @@ fn single_look(mode: Mode, inside: &str) -> Option<Look>
     }
 }
 
-/// What is wrong between single quotes.
+/// Returns what is wrong between single quotes, or `None` if nothing is.
 fn single_error(mode: Mode, inside: &str) -> Option<EscapeError>
     ensures { result ≡ spec.single_error mode inside.now }
 {
@@ -153,7 +153,7 @@ fn single_error(mode: Mode, inside: &str) -> Option<EscapeError>
     }
 }
 
-/// Writes a literal between double quotes, of which the inside goes from the place `begin` to `close`.
+/// Writes a literal between double quotes. The text between them goes from the place `begin` to `close`.
 fn write_string<W: fmt::Write>(
     style: Style,
     mode: Mode,
@@ -194,7 +194,7 @@ fn write_string<W: fmt::Write>(
     write_in_class(style, Class::Text, &text[shown..], output)
 }
 
-/// Writes what stands between two elements: nothing, or a line end that is passed over.
+/// Writes the text between two elements: nothing, or a line end that is skipped.
 fn write_skipped<W: fmt::Write>(
     style: Style,
     text: &str,
@@ -218,8 +218,8 @@ fn write_skipped<W: fmt::Write>(
     }
 }
 
-/// Writes a stretch that is not plain, and before it the plain text that is not written yet. Answers up to where all is
-/// written.
+/// Writes a stretch that is not plain, and before it the plain text that is not written yet. Returns the place up
+/// to which all is written.
 fn write_stretch<W: fmt::Write>(
     style: Style,
     look: Option<Look>,
@@ -258,7 +258,7 @@ fn write_look<W: fmt::Write>(style: Style, look: Look, text: &str, output: &mut 
     }
 }
 
-/// The elements of a literal between double quotes.
+/// Returns the elements of a literal between double quotes.
 fn elements_of(mode: Mode, inside: &str) -> Elements<'_>
     ensures items { result ≡ items_of (is_raw mode) inside.now }
     ensures places { ArePlaced inside.now (items_of (is_raw mode) inside.now) }
@@ -269,7 +269,7 @@ fn elements_of(mode: Mode, inside: &str) -> Elements<'_>
     }
 }
 
-/// How an element looks; `None` where it is plain.
+/// Returns the look of an element, or `None` if it is plain.
 fn look_of(mode: Mode, element: Element) -> Option<Look>
     ensures { result ≡ spec.look_of mode element }
 {

@@ -1,4 +1,4 @@
-//! A part of a text between the marks of its class and of its fault.
+//! Writes a part of a text between the marks of its class and of its fault.
 ghost use Rattle.std.specs.Prelude.{◌≡◌, ◌∷◌, [], OnOk};
 ghost use Rattle.std.specs.Fmt.{WritesInCalls};
 ghost use Rattle.std.specs.Str.{IsCharBoundary};
@@ -29,7 +29,7 @@ pub fn write_with_fault<W: fmt::Write>(
     write_in_class(style, class, &text[end..], output)
 }
 
-/// How many bytes stand before the first newline or carriage return.
+/// Returns how many bytes come before the first newline or carriage return.
 #[tactic(auto, using(crate::proofs::PlaceLemmas::first_found, crate::proofs::PlaceLemmas::first_none))]
 fn first_line(text: &str) -> usize
     ensures value { result ≡ first_line text.now }
@@ -41,7 +41,7 @@ fn first_line(text: &str) -> usize
     }
 }
 
-/// Writes a part of the text between the marks of its class, and nothing where it is empty.
+/// Writes a part of the text between the marks of its class. Writes nothing if the part is empty.
 pub fn write_in_class<W: fmt::Write>(
     style: Style,
     class: Class,

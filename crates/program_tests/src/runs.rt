@@ -88,10 +88,10 @@ fn run(alloc: Global, program: Program, text: &[u8], script: Script) -> Result<C
             };
             highlight_run::program::program(alloc, start, &mut input, &mut output, &mut errors)
         }
-        Tidy => match tidy_run::run::run(alloc, &mut input, &mut output) {
-            Ok(()) => 0,
-            Err(stop) => tidy_run::status(&stop),
-        },
+        Tidy => {
+            let args = Some(words);
+            tidy_run::program::program(alloc, args, &mut input, &mut output, &mut errors)
+        }
         Count => {
             let outcome = count_stdin(alloc, &mut input)?;
             match put_report(alloc, TABLE, &outcome, &mut output) {

@@ -1,13 +1,11 @@
-//! Tests of `tidy`: texts in order, words, and whole runs.
+//! Tests of `tidy`: texts in order, words, and what the program comes to.
 use crate::failing_ends::WHOLE;
 use crate::words::{rows, words_of};
-use Wanted::{Does, Help, Nothing};
 use rustc_lexer::fits;
-use sources::{Fault, Reason};
 use std::alloc::{AllocError, Global};
 use std::test::Fail;
-use tidy_run::run::{check, show};
-use tidy_run::{Job, Stop, Task, changed, read_job, status, tidied};
+use tidy_run::program::program;
+use tidy_run::{Job, read_job, tidied};
 
 /// A text, and it in order.
 static TEXTS: &[(&str, &str)] = rows! {
@@ -51,111 +49,77 @@ fn texts(rt: HostRuntime) {
     }
 }
 
-/// What words ask for: a task and its paths, help, or nothing.
-#[derive(Clone, Copy)]
-enum Wanted {
-    Does(Task, &'static [&'static str]),
-    Help,
-    Nothing,
-}
-
 /// Words with bars between them, and what they ask for.
-static JOBS: &[(&str, Wanted)] = &[
-    ("", Does(Task::Write, &[])),
-    ("src|--check|a b.rs", Does(Task::Check, &["src", "a b.rs"])),
-    ("--check|--diff", Does(Task::Diff, &[])),
-    ("--diff|-|--check", Does(Task::Diff, &["-"])),
-    ("--check|--|--diff|--", Does(Task::Check, &["--diff", "--"])),
-    ("--", Does(Task::Write, &[])),
-    ("--help|src", Help),
-    ("--no|--help", Help),
-    ("--no", Nothing),
-    ("--check=src", Nothing),
-    ("--check|--check", Nothing),
-    ("--diff|a|--diff", Nothing),
-];
-
-/// Whether this is the job that is wanted.
-fn is_wanted(job: &Result<Job<'_>, Stop>, wanted: Wanted) -> bool {
-    match job {
-        Ok(Job::Tidy { task, paths }) => match wanted {
-            Does(want, list) => *task == want && paths.as_slice() == list,
-            _ => false,
-        },
-        Ok(Job::Help) => matches!(wanted, Help),
-        Err(stop) => *stop == Stop::Arguments && matches!(wanted, Nothing),
-    }
-}
+static JOBS: &[(&str, Option<Job>)] = rows! {
+    "" => Some(Job::Write);
+    "--check" => Some(Job::Check);
+    "--help" => Some(Job::Help);
+    "--check|--check" => None;
+    "--check|--help" => None;
+    "--help|--check" => None;
+    "--check|src" => None;
+    "--Check" => None;
+    "--" => None;
+    "-" => None;
+    "src" => None;
+};
 
 /// Whether the words ask for this.
-fn ask_for(alloc: Global, line: &str, wanted: Wanted) -> Result<bool, AllocError> {
+fn ask_for(alloc: Global, line: &str, want: Option<Job>) -> Result<bool, AllocError> {
     let words = words_of(alloc, line)?;
-    Ok(is_wanted(&read_job(alloc, words.as_slice()), wanted))
+    Ok(read_job(words.as_slice()) == want)
 }
 
 #[test]
 fn jobs(rt: HostRuntime) -> Result<(), Fail> {
-    for (words, wanted) in JOBS {
-        assert!(rt; ask_for(rt.alloc(), words, *wanted)?, "{words}");
+    for (words, want) in JOBS {
+        assert!(rt; ask_for(rt.alloc(), words, *want)?, "{words}");
     }
     Ok(())
 }
 
+/// Arguments, if they could be had, and an input; then the status, what is written, and the line that is told.
+static RUNS: &[((Option<&str>, &[u8]), (u8, &str, &str))] = rows! {
+    (Some("tidy"), b"fn \n") => (0, "fn\n", "");
+    (Some("tidy"), b"") => (0, "", "");
+    (Some(""), b"fn\r\n") => (0, "fn\n", "");
+    (Some("tidy|--check"), b"") => (0, "", "");
+    (Some("tidy|--check"), b"fn\n") => (0, "", "");
+    (Some("tidy|--check"), b"fn \n") => (1, "", "tidy: not in order\n");
+    (Some("tidy|--check"), b"fn") => (1, "", "tidy: not in order\n");
+    (Some("tidy|--check"), b"fn\xff") => (3, "", "tidy: input is not UTF-8\n");
+    (Some("tidy"), b"fn\xff") => (3, "", "tidy: input is not UTF-8\n");
+    (Some("tidy|src"), b"fn") => (2, "", "tidy: unknown words; --help tells what it takes\n");
+    (None, b"fn") => (6, "", "tidy: no memory\n");
+};
+
+/// Whether the program with these arguments and this input ends with this status, writes this, and tells this.
+fn comes_to(
+    alloc: Global,
+    args: Option<&str>,
+    input: &[u8],
+    want: (u8, &str, &str),
+) -> Result<bool, AllocError> {
+    let args = match args {
+        Some(line) => Some(words_of(alloc, line)?.into_iter()),
+        None => None,
+    };
+    let mut input = WHOLE.reader(input);
+    let mut output = WHOLE.writer(alloc);
+    let mut errors = WHOLE.writer(alloc);
+    let status = program(alloc, args, &mut input, &mut output, &mut errors);
+    let (wanted, written, line) = want;
+    Ok(
+        status == wanted
+            && output.into_inner().taken.as_slice() == written.as_bytes()
+            && errors.into_inner().taken.as_slice() == line.as_bytes(),
+    )
+}
+
 #[test]
-fn checks(rt: HostRuntime) {
-    let rows: [(&[u8], Result<(), Stop>); 4] = [
-        (b"", Ok(())),
-        (b"fn\n", Ok(())),
-        (b"fn \n", Err(Stop::Untidy)),
-        (b"fn\xff", Err(Stop::NotUtf8)),
-    ];
-    for (bytes, want) in rows {
-        assert_eq!(rt; check(rt.alloc(), &mut WHOLE.reader(bytes)), want);
+fn runs(rt: HostRuntime) -> Result<(), Fail> {
+    for (row, ((args, input), want)) in RUNS.iter().enumerate() {
+        assert!(rt; comes_to(rt.alloc(), *args, input, *want)?, "row {row}");
     }
-    assert_eq!(rt; status(&Stop::Untidy), 1);
-}
-
-/// A text, and the diff of it and the text in order, which is empty where they are the same.
-static DIFFS: &[(&[u8], &str)] = &[
-    (b"fn\n", ""),
-    (
-        b"1 \n2\n3\n4\n5\n6\n7\n8 \n",
-        "--- a/stdin\t\n+++ b/stdin\t\n@@ -1,8 +1,8 @@\n-1 \n+1\n 2\n 3\n 4\n 5\n 6\n 7\n-8 \n+8\n",
-    ),
-    (
-        b"a \n\"b \r\n\"\r\n \n\n\nc",
-        "--- a/stdin\t\n+++ b/stdin\t\n@@ -1,7 +1,5 @@\n-a \n+a\n \"b \r\n-\"\r\n+\"\n\
-- \n+\n-\n-\n-c\n\\ No newline at end of file\n+c\n",
-    ),
-    (
-        b"1\n2\n3\n4 \n5\n6\n7\n8\n9\n10\n11\n12 ",
-        "--- a/stdin\t\n+++ b/stdin\t\n@@ -1,7 +1,7 @@\n 1\n 2\n 3\n-4 \n+4\n 5\n 6\n 7\n\
-@@ -9,4 +9,4 @@\n 9\n 10\n 11\n-12 \n\\ No newline at end of file\n+12\n",
-    ),
-];
-
-/// Whether this is what is shown of the text.
-fn is_shown(alloc: Global, text: &[u8], want: &str) -> bool {
-    show(alloc, &mut WHOLE.reader(text)).is_ok_and(|diff| match diff {
-        Some(diff) => diff.as_str() == want && !want.is_empty(),
-        None => want.is_empty(),
-    })
-}
-
-#[test]
-fn diffs(rt: HostRuntime) {
-    for (text, want) in DIFFS {
-        assert!(rt; is_shown(rt.alloc(), text, want));
-    }
-}
-
-#[test]
-fn files(rt: HostRuntime) -> Result<(), Fail> {
-    let alloc = rt.alloc();
-    assert!(rt; changed(alloc, b"fn\n".as_slice())?.is_none());
-    let text = changed(alloc, b"fn \n".as_slice())?.ok_or("a text")?;
-    assert_eq!(rt; text.as_str(), "fn\n");
-    let fault = Fault::Source(Reason::NotUtf8);
-    assert!(rt; changed(alloc, b"fn\xff \n".as_slice()).is_err_and(|e| e == fault));
     Ok(())
 }

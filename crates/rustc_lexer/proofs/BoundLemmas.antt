@@ -11,7 +11,8 @@ use Rattle.rustc_lexer.specs.{Token}
 use Rattle.rustc_lexer.specs.Classes.{IsText}
 use Rattle.rustc_lexer.specs.Locality.{IsGrammar}
 use Rattle.rustc_lexer.specs.Tokens.{bound, tokens_by}
-use Rattle.rustc_lexer.specs.Edits.{ends_from, least_from}
+use Rattle.rustc_lexer.specs.Edits.{ends_from}
+use Rattle.rustc_lexer.specs.means.Relexing.{least_from}
 use Rattle.rustc_lexer.specs.laws.Choice.{by_either}
 use Rattle.rustc_lexer.specs.laws.Cuts.{IsCutAt, at_bound, tokens-cons, tokens-nil}
 use Rattle.rustc_lexer.proofs.ProgressLemmas.{IsNext, next-from_drop}

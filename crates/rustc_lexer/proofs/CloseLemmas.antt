@@ -17,7 +17,7 @@ use Rattle.rustc_lexer.specs.means.Least.{one_more}
 use Rattle.rustc_lexer.specs.means.Raw.{is_hash, is_quote, hash_run, closes, close, raw_text}
 use Rattle.rustc_lexer.specs.means.Scan.{bytes_of, past, scanned}
 use Rattle.rustc_lexer.specs.laws.Choice.{by_either}
-use Rattle.rustc_lexer.proofs.BitLemmas.{bit-at_byte, bit-above, lowest, below-lowest}
+use Rattle.rustc_lexer.proofs.BitLemmas.{bit-at_byte, bit-above, lowest, below-lowest, within}
 use Rattle.rustc_lexer.specs.laws.CharSteps.{bytes_of-suc}
 use Rattle.rustc_lexer.specs.laws.Past.{past-past, past-drop, length-past, chars-past, IsUtf8-past}
 use Rattle.rustc_lexer.specs.laws.Least.{place-here, place-on}
@@ -34,6 +34,10 @@ closes_bare text k l = grind (arith, common_steps, drop-cons, le-leb, and-true)
 
 closes_hashed : (text : List ℕ) (k : ℕ) → suc k < length text → closes 1 (drop k text) ≡ (is_quote (get_or text k 0) && is_hash (get_or text (suc k) 0))
 closes_hashed text k l = grind (arith, common_steps, drop-cons, one_hash)
+
+-- the lowest bit that is set is one of 64
+pub near : (found : ℕ) → 0 < found → found < 2 ^ 64 → count_trailing_zeros 64 found < 64
+near found some small = within found _ small (lowest found some small)
 
 module _ (text : List ℕ) (n quotes hashes found : ℕ) (few : n ≤ 1) (long : 64 ≤ length text) (small : found < 2 ^ 64)
     (of_quotes : quotes ≡ mask_l (map (is_byte 34) (chunk 0 64 text))) (of_hashes : hashes ≡ mask_l (map (is_byte 35) (chunk 0 64 text)))
@@ -73,18 +77,11 @@ module _ (text : List ℕ) (n quotes hashes found : ℕ) (few : n ≤ 1) (long :
   clear_opens : (k : ℕ) → suc k < 64 → bit found k ≡ false → closes n (drop k text) ≡ false
   clear_opens k l clear = grind (arith, common_steps, bare_at, hashed_at)
 
-  some : count_trailing_zeros 64 found < 64 → 0 < found
-  unfolding count_trailing_zeros
-  some l = elim (cases_lt 0 found) [
-    | inl more ↦ more
-    | inr none ↦ let zero_is : found ≡ 0 = omega arith in absurd (let full : count_trailing_zeros 64 found ≡ 64 = rw zero_is (refl {a = 64}) in omega arith)
-  ]
+  pub closes_there : 0 < found → closes n (drop (count_trailing_zeros 64 found) text) ≡ true
+  closes_there some = set_closes (count_trailing_zeros 64 found) (near found some small) (lowest found some small)
 
-  pub closes_there : count_trailing_zeros 64 found < 64 → closes n (drop (count_trailing_zeros 64 found) text) ≡ true
-  closes_there l = set_closes (count_trailing_zeros 64 found) l (lowest found (some l) small)
-
-  pub none_before : count_trailing_zeros 64 found < 64 → (k : ℕ) → k < count_trailing_zeros 64 found → closes n (drop k text) ≡ false
-  none_before l k less = clear_opens k (omega arith) (below-lowest found (some l) small k less)
+  pub none_before : 0 < found → (k : ℕ) → k < count_trailing_zeros 64 found → closes n (drop k text) ≡ false
+  none_before some k less = clear_opens k (let l = near found some small in omega arith) (below-lowest found some small k less)
 
 -- ---- where a quote closes by bytes, it closes by characters
 

@@ -12,15 +12,16 @@ use Rattle.rustc_lexer.specs.declared.relex.relexing.Relexed.{Relexed}
 use Rattle.rustc_lexer.specs.declared.relex.relexing.Relexing.{Relexing}
 use Rattle.rustc_lexer.specs.{Token}
 use Rattle.rustc_lexer.specs.Classes.{IsText}
-use Rattle.rustc_lexer.specs.means.Document.{body_change, body_insert, counted, document_by, head_of, head_put, head_unless, HeadStays, IsCountedByHead, IsRelexedByHead, IsRenewedBehind, relexed_by_head, tokens_of_head}
-use Rattle.rustc_lexer.specs.Edits.{apply, kept_front, relexed_of, IsBound, IsEdit, IsMadeOf}
+use Rattle.rustc_lexer.specs.means.Document.{body_change, body_insert, counted, document_by, head_of, head_put, head_unless, HeadStays, IsCountedByHead, IsRelexedAs, IsRelexedByHead, IsRelexedWith, IsRenewedBehind, tokens_of_head}
+use Rattle.rustc_lexer.specs.Edits.{apply, kept_front, IsBound, IsEdit, IsMadeOf, IsRelexed}
 use Rattle.rustc_lexer.specs.Locality.{IsGrammar}
 use Rattle.rustc_lexer.specs.Tokens.{tokens_by}
 use Rattle.rustc_lexer.specs.means.Checkpoints.{AreBounds, IsMovable, IsReplaced, end_of}
-use Rattle.rustc_lexer.specs.means.Relexing.{IsRenewed}
+use Rattle.rustc_lexer.specs.means.Relexing.{IsRenewed, relexed_of}
 use Rattle.rustc_lexer.proofs.BoundLemmas.{tokens_le_bytes}
 use Rattle.rustc_lexer.proofs.DocumentLemmas.{made_body}
 use Rattle.rustc_lexer.proofs.EditLemmas.{has_two-late, kept_front_from, kept_front_by}
+use Rattle.rustc_lexer.proofs.RelexedLemmas.{relexed_found}
 use Rattle.rustc_lexer.proofs.RenewedLemmas.{renewed_all, renewed_are, renewed_back, renewed_bounds, renewed_front}
 
 abbrev pub edit_change : ℕ → ℕ → List ℕ → Change
@@ -70,9 +71,35 @@ none_from text from (t ∷ ts) = rw (has_two-late text (from + t.len) 0 (omega a
 kept_none : (text : List ℕ) (ts : List Token) → kept_front text ts 0 ≡ 0
 kept_none text ts = kept_front_by text 0 0 ts ∙ none_from text 0 ts
 
-pub relexed-front : (first : List ℕ → Token) (text : List ℕ) (stop : ℕ) (insert : List ℕ) → (relexed_of first text 0 stop insert).kept_front ≡ 0
-unfolding relexed_of
-relexed-front first text stop insert = kept_none text (tokens_by first text)
+pub relexed-front : {first : List ℕ → Token} {text : List ℕ} {stop : ℕ} {insert : List ℕ} {r : Relexed} → IsRelexed first text 0 stop insert r → r.kept_front ≡ 0
+relexed-front {first} {text} is = is.front ∙ kept_none text (tokens_by first text)
+
+-- the counts of the body's edit, which is known by equations, and those of the texts alone
+module _ {first : List ℕ → Token} {text made insert : List ℕ} {start stop : ℕ} {old now : Head} {kept : Bool} {n : ℕ} {tokens : List Token} {body : List ℕ} {change : Change} (b : IsBodyEdit first text made insert start stop old now kept n tokens body change) where
+  abbrev pub IsRelexedAt : Change → List ℕ → Relexed → Type 0
+  IsRelexedAt ch bytes r = (x : Relexed) × IsRelexed first (drop old.end text) ch.start ch.old_stop (body_insert kept ch insert bytes) x
+      × (r ≡ counted kept (length (tokens_of_head old)) (length (tokens_of_head now)) x)
+
+  abbrev As : Head → Head → List ℕ → Relexed → Type 0
+  As o w mk r = IsRelexedAs first text start stop insert kept o w mk r
+
+  pub to_texts : (r : Relexed) → IsRelexedAt change body r → IsRelexedWith kept first text start stop insert r
+  unfolding IsRelexedWith
+  to_texts r x =
+      let one : IsRelexedAt change (drop now.end made) r = subst (λ xs. IsRelexedAt change xs r) b.body_is x in
+      let two : As old now made r = subst (λ (ch : Change). IsRelexedAt ch (drop now.end made) r) b.change_is one in
+      let three : As (head_of text) now made r = subst (λ (o : Head). As o now made r) b.old_is two in
+      let four : As (head_of text) (head_of made) made r = subst (λ (w : Head). As (head_of text) w made r) b.now_is three in
+      subst (λ (mk : List ℕ). As (head_of text) (head_of mk) mk r) b.made_is four
+
+  pub of_texts : (r : Relexed) → IsRelexedWith kept first text start stop insert r → IsRelexedAt change body r
+  unfolding IsRelexedWith
+  of_texts r x =
+      let four : As (head_of text) (head_of made) made r = subst (λ (mk : List ℕ). As (head_of text) (head_of mk) mk r) (sym b.made_is) x in
+      let three : As (head_of text) now made r = subst (λ (w : Head). As (head_of text) w made r) (sym b.now_is) four in
+      let two : As old now made r = subst (λ (o : Head). As o now made r) (sym b.old_is) three in
+      let one : IsRelexedAt change (drop now.end made) r = subst (λ (ch : Change). IsRelexedAt ch (drop now.end made) r) (sym b.change_is) two in
+      subst (λ xs. IsRelexedAt change xs r) (sym b.body_is) one
 
 pub near_behind : (tokens : List Token) {all : List Token} {near : Bound} {n m : ℕ} (checkpoints : Checkpoints) → n ≡ m → drop n tokens ≡ all → AreBounds (drop m tokens) checkpoints → Contains checkpoints.bounds near → IsBound all near
 near_behind tokens {all} {near} {n} {m} checkpoints same e are is =
@@ -174,12 +201,6 @@ module _ {first : List ℕ → Token} (law : IsGrammar first) {text made insert 
         by_kept true e = back_with _ (omega (arith, same_count e, m_is))
         by_kept false e = back_with _ (omega (arith, m_is))
 
-    -- by the texts alone
-    abbrev formula : Head → Head → List ℕ → Relexed
-    formula o w mk =
-        let ch : Change = body_change kept o.end w.end (edit_change start stop insert) in
-        counted kept (length (tokens_of_head o)) (length (tokens_of_head w)) (relexed_of first (drop o.end text) ch.start ch.old_stop (body_insert kept ch insert (drop w.end mk)))
-
     keeps : HeadStays text start stop insert → kept ≡ true
     keeps k = b.told.1 (b.old_is ∙ (k.0 ∙ (ap head_of (sym b.made_is) ∙ sym b.now_is)), (let e = k.1 in omega (arith, e, ap (λ (h : Head). h.end) b.old_is)))
 
@@ -190,22 +211,14 @@ module _ {first : List ℕ → Token} (law : IsGrammar first) {text made insert 
         by_none true e = absurd (none (sym b.old_is ∙ ((b.told.0 e).0 ∙ (b.now_is ∙ ap head_of b.made_is)), (let p = (b.told.0 e).1 in omega (arith, p, ap (λ (h : Head). h.end) b.old_is))))
         by_none false e = e
 
-    module _ (counted_is : counts ≡ relexed_of first (drop old.end text) change.start change.old_stop put) where
-      by_formula : counted kept n m counts ≡ relexed_by_head kept first text start stop insert
-      unfolding relexed_by_head
-      by_formula =
-          let one : counted kept n m counts ≡ counted kept (length (tokens_of_head old)) (length (tokens_of_head now)) (relexed_of first (drop old.end text) change.start change.old_stop (body_insert kept change insert (drop now.end made))) =
-          ap₂ (λ i j. counted kept i j counts) b.n_is m_is ∙ ap (counted kept (length (tokens_of_head old)) (length (tokens_of_head now))) (counted_is ∙ ap (λ xs. relexed_of first (drop old.end text) change.start change.old_stop (body_insert kept change insert xs)) b.body_is) in
-          let two : counted kept (length (tokens_of_head old)) (length (tokens_of_head now)) (relexed_of first (drop old.end text) change.start change.old_stop (body_insert kept change insert (drop now.end made))) ≡ formula old now made =
-          ap (λ (ch : Change). counted kept (length (tokens_of_head old)) (length (tokens_of_head now)) (relexed_of first (drop old.end text) ch.start ch.old_stop (body_insert kept ch insert (drop now.end made)))) b.change_is in
-          let three : formula old now made ≡ formula (head_of text) (head_of (apply text start stop insert)) (apply text start stop insert) =
-          ap₂ (λ (o w : Head). formula o w made) b.old_is (b.now_is ∙ ap head_of b.made_is) ∙ ap (formula (head_of text) (head_of (apply text start stop insert))) b.made_is in
-          one ∙ (two ∙ three)
+    module _ (exact : IsRelexed first (drop old.end text) change.start change.old_stop put counts) where
+      by_texts : IsRelexedWith kept first text start stop insert (counted kept n m counts)
+      by_texts = to_texts b (counted kept n m counts) (counts, exact, ap₂ (λ i j. counted kept i j counts) b.n_is m_is)
 
       pub counted_relexed : IsRelexedByHead first text start stop insert (counted kept n m counts)
       counted_relexed = record {
-        kept = λ k. by_formula ∙ ap (λ (t : Bool). relexed_by_head t first text start stop insert) (keeps k);
-        changed = λ none. by_formula ∙ ap (λ (t : Bool). relexed_by_head t first text start stop insert) (changes none);
+        kept = λ k. subst (λ (t : Bool). IsRelexedWith t first text start stop insert (counted kept n m counts)) (keeps k) by_texts;
+        changed = λ none. subst (λ (t : Bool). IsRelexedWith t first text start stop insert (counted kept n m counts)) (changes none) by_texts;
       }
 
     pub counted_steps : (before after : ℕ) → after ≡ before + at.lexed → IsCountedByHead text start stop insert before after (counted kept n m counts).lexed
@@ -226,21 +239,16 @@ module _ {first : List ℕ → Token} (law : IsGrammar first) {text made insert 
 
 -- ---- an edit that is refused
 
-abbrev texts_formula : (List ℕ → Token) → List ℕ → ℕ → ℕ → List ℕ → Bool → Head → Head → List ℕ → Relexed
-texts_formula first text start stop insert k o w mk =
-    let ch : Change = body_change k o.end w.end (edit_change start stop insert) in
-    counted k (length (tokens_of_head o)) (length (tokens_of_head w)) (relexed_of first (drop o.end text) ch.start ch.old_stop (body_insert k ch insert (drop w.end mk)))
-
-module _ {first : List ℕ → Token} {text made insert : List ℕ} {start stop : ℕ} {old now : Head} {kept : Bool} {n : ℕ} {tokens : List Token} {body : List ℕ} {change : Change} (b : IsBodyEdit first text made insert start stop old now kept n tokens body change) where
-  by_texts : counted kept (length (tokens_of_head old)) (length (tokens_of_head now)) (relexed_of first (drop old.end text) change.start change.old_stop (body_insert kept change insert body)) ≡ relexed_by_head kept first text start stop insert
-  unfolding relexed_by_head
-  by_texts =
-      ap (λ xs. counted kept (length (tokens_of_head old)) (length (tokens_of_head now)) (relexed_of first (drop old.end text) change.start change.old_stop (body_insert kept change insert xs))) b.body_is
-      ∙ (ap (λ (ch : Change). counted kept (length (tokens_of_head old)) (length (tokens_of_head now)) (relexed_of first (drop old.end text) ch.start ch.old_stop (body_insert kept ch insert (drop now.end made)))) b.change_is
-      ∙ (ap₂ (λ (o w : Head). texts_formula first text start stop insert kept o w made) b.old_is (b.now_is ∙ ap head_of b.made_is) ∙ ap (texts_formula first text start stop insert kept (head_of text) (head_of (apply text start stop insert))) b.made_is))
-
+module _ {first : List ℕ → Token} (law : IsGrammar first) {text made insert : List ℕ} {start stop : ℕ} {old now : Head} {kept : Bool} {n : ℕ} {tokens : List Token} {body : List ℕ} {change : Change} (b : IsBodyEdit first text made insert start stop old now kept n tokens body change) where
   abbrev of_body : Relexed
   of_body = relexed_of first (drop old.end text) change.start change.old_stop (body_insert kept change insert body)
+
+  -- there are no other counts
+  same_counts : (r : Relexed) → IsRelexedWith kept first text start stop insert r → r ≡ counted kept (length (tokens_of_head old)) (length (tokens_of_head now)) of_body
+  same_counts r is =
+      let x = of_texts b r is in
+      let only : x.0 ≡ of_body = relexed_found law (drop old.end text) b.made_of.is_text change.start change.old_stop (body_insert kept change insert body) b.made_of.inserted b.made_of.edit x.0 x.1 in
+      x.2 ∙ ap (counted kept (length (tokens_of_head old)) (length (tokens_of_head now))) only
 
   -- it takes no more steps than it would have
   pub few_body : (r : Relexed) (before most : ℕ) → IsRelexedByHead first text start stop insert r → IsCountedByHead text start stop insert before most r.lexed → before + of_body.lexed ≤ most
@@ -249,25 +257,24 @@ module _ {first : List ℕ → Token} {text made insert : List ℕ} {start stop 
       by_kept : (k : Bool) → kept ≡ k → before + of_body.lexed ≤ most
       by_kept true e =
           let stays : HeadStays text start stop insert = (sym b.old_is ∙ ((b.told.0 e).0 ∙ (b.now_is ∙ ap head_of b.made_is)), (let p = (b.told.0 e).1 in omega (arith, p, ap (λ (h : Head). h.end) b.old_is))) in
-          let same : r ≡ counted kept (length (tokens_of_head old)) (length (tokens_of_head now)) of_body = is.kept stays ∙ (ap (λ (t : Bool). relexed_by_head t first text start stop insert) (sym e) ∙ sym by_texts) in
+          let same = same_counts r (subst (λ (t : Bool). IsRelexedWith t first text start stop insert r) (sym e) (is.kept stays)) in
           omega (arith, steps.kept stays, ap (λ (x : Relexed). x.lexed) (same ∙ ap (λ (t : Bool). counted t (length (tokens_of_head old)) (length (tokens_of_head now)) of_body) e))
       by_kept false e =
           let none : HeadStays text start stop insert → ⊥ = λ k. true≢false (sym (b.told.1 (b.old_is ∙ (k.0 ∙ (ap head_of (sym b.made_is) ∙ sym b.now_is)), (let p = k.1 in omega (arith, p, ap (λ (h : Head). h.end) b.old_is)))) ∙ e) in
-          let same : r ≡ counted kept (length (tokens_of_head old)) (length (tokens_of_head now)) of_body = is.changed none ∙ (ap (λ (t : Bool). relexed_by_head t first text start stop insert) (sym e) ∙ sym by_texts) in
+          let same = same_counts r (subst (λ (t : Bool). IsRelexedWith t first text start stop insert r) (sym e) (is.changed none)) in
           let heads = ap (λ (h : Head). length (tokens_of_head h)) (b.now_is ∙ ap head_of b.made_is) in
           omega (arith, steps.changed none, heads, ap (λ (x : Relexed). x.lexed) (same ∙ ap (λ (t : Bool). counted t (length (tokens_of_head old)) (length (tokens_of_head now)) of_body) e))
 
 -- the count of steps does not fall
-anew-lexed : (first : List ℕ → Token) (text : List ℕ) (start stop : ℕ) (insert : List ℕ) → length (tokens_of_head (head_of (apply text start stop insert))) ≤ (relexed_by_head false first text start stop insert).lexed
-unfolding relexed_by_head
-anew-lexed first text start stop insert = omega arith
+anew-lexed : (first : List ℕ → Token) (text : List ℕ) (start stop : ℕ) (insert : List ℕ) (r : Relexed) → IsRelexedWith false first text start stop insert r → length (tokens_of_head (head_of (apply text start stop insert))) ≤ r.lexed
+unfolding IsRelexedWith
+anew-lexed first text start stop insert r is = let e = ap (λ (x : Relexed). x.lexed) is.2 in omega (arith, e)
 
 pub steps_rise : (first : List ℕ → Token) (text : List ℕ) (start stop : ℕ) (insert : List ℕ) (before : ℕ) (r : Relexed) (most : ℕ) → IsRelexedByHead first text start stop insert r → IsCountedByHead text start stop insert before most r.lexed → before ≤ most
 steps_rise first text start stop insert before r most is steps = elim (cases_lt most before) [
   | inl less ↦
       let gone : HeadStays text start stop insert → ⊥ = λ k. let e = steps.kept k in omega (arith, e, less) in
-      let lexed = ap (λ (x : Relexed). x.lexed) (is.changed gone) in
-      absurd (omega (arith, lexed, anew-lexed first text start stop insert, steps.changed gone, less))
+      absurd (omega (arith, anew-lexed first text start stop insert r (is.changed gone), steps.changed gone, less))
   | inr more ↦ omega (arith, more)
 ]
 

@@ -1,14 +1,14 @@
 -- What an edit of a document keeps, by the tokens of the page.
-use Rattle.std.proofs.Common.{Result, Ok, Err, OnErr, ◌++◌, ◌≡◌, ℕ, zero, suc, ◌+◌, ◌≤◌, Bool, true, false, if◌then◌else◌, List, [], ◌∷◌, length, take, drop, refl, sym, ap, ap₂, ◌∙◌, arith, chars, get_or, length-take-le, Option, None, Some, IsCharBoundary}
+use Rattle.std.proofs.Common.{Result, Ok, Err, OnErr, ◌++◌, ◌≡◌, ℕ, zero, suc, ◌+◌, ◌≤◌, Bool, true, false, if◌then◌else◌, List, [], ◌∷◌, length, take, drop, refl, sym, subst, ap, ap₂, ◌∙◌, arith, chars, get_or, length-take-le, Option, None, Some, IsCharBoundary}
 use Rattle.std.proofs.Math.Seq.{take-append_seam}
 use Rattle.rustc_lexer.specs.{Token, E2024}
 use Rattle.rustc_lexer.specs.declared.relex.head.Head.{Head}
 use Rattle.rustc_lexer.specs.declared.relex.relexing.Change.{Change}
 use Rattle.rustc_lexer.specs.declared.relex.relexing.Relexed.{Relexed}
 use Rattle.rustc_lexer.specs.Classes.{IsText}
-use Rattle.rustc_lexer.specs.Document.{body_start, document_tokens_by, IsCountedDocument, head_tokens, relexed_anew, relexed_behind, is_frontmatter, one_more, head_count, shebang_len, document_tokens, IsRelexedDocument, KeepsHead}
-use Rattle.rustc_lexer.specs.means.Document.{body_change, body_insert, counted, front_change, document_by, front_tokens, head_of, HeadStays, IsCountedByHead, IsRelexedByHead, relexed_by_head, tokens_of_head}
-use Rattle.rustc_lexer.specs.Edits.{apply, relexed_of}
+use Rattle.rustc_lexer.specs.Document.{body_start, document_tokens_by, IsCountedDocument, head_tokens, is_frontmatter, one_more, head_count, shebang_len, document_tokens, IsRelexedAnew, IsRelexedDocument, KeepsHead}
+use Rattle.rustc_lexer.specs.means.Document.{body_change, body_insert, counted, document_by, front_tokens, head_of, HeadStays, IsCountedByHead, IsRelexedByHead, IsRelexedWith, tokens_of_head}
+use Rattle.rustc_lexer.specs.Edits.{apply, IsRelexed}
 use Rattle.rustc_lexer.specs.Tokens.{bound, tokens_by}
 use Rattle.rustc_lexer.proofs.EditLemmas.{bound-take}
 use Rattle.rustc_lexer.specs.means.Frontmatter.{frontmatter, opens, spaces_len}
@@ -106,33 +106,43 @@ module _ (first : List ℕ → Token) (text insert : List ℕ) (start stop : ℕ
   from_page : KeepsHead text start stop insert → HeadStays text start stop insert
   from_page s = (same_head text made is its s.0 s.1, (let e = s.2 in omega (arith, e, end_is text is)))
 
-  -- the same formula, by the head of the text and by the tokens of the page
-  abbrev formula : Bool → ℕ → ℕ → List Token → List Token → Relexed
-  formula kept from to old new =
+  -- the same, by the head of the text and by the tokens of the page
+  abbrev At : Bool → ℕ → ℕ → List Token → List Token → Relexed → Type 0
+  At kept from to old now r =
       let change : Change = body_change kept from to (record { start = start; old_stop = stop; new_stop = start + length insert }) in
-      counted kept (length old) (length new) (relexed_of first (drop from text) change.start change.old_stop (body_insert kept change insert (drop to made)))
+      (x : Relexed) × IsRelexed first (drop from text) change.start change.old_stop (body_insert kept change insert (drop to made)) x
+      × (r ≡ counted kept (length old) (length now) x)
 
-  by_page : (kept : Bool) → relexed_by_head kept first text start stop insert ≡ formula kept (body_start text) (body_start made) (head_tokens text) (head_tokens made)
-  unfolding relexed_by_head
-  by_page kept =
-      ap₂ (λ from to. formula kept from to (tokens_of_head (head_of text)) (tokens_of_head (head_of made))) (end_is text is) (end_is made its)
-      ∙ ap₂ (λ old new. formula kept (body_start text) (body_start made) old new) (front_is text is) (front_is made its)
+  by_page : (kept : Bool) (r : Relexed) → IsRelexedWith kept first text start stop insert r → At kept (body_start text) (body_start made) (head_tokens text) (head_tokens made) r
+  unfolding IsRelexedWith
+  by_page kept r x =
+      let one : At kept (body_start text) (head_of made).end (tokens_of_head (head_of text)) (tokens_of_head (head_of made)) r = subst (λ from. At kept from (head_of made).end (tokens_of_head (head_of text)) (tokens_of_head (head_of made)) r) (end_is text is) x in
+      let two : At kept (body_start text) (body_start made) (tokens_of_head (head_of text)) (tokens_of_head (head_of made)) r = subst (λ to. At kept (body_start text) to (tokens_of_head (head_of text)) (tokens_of_head (head_of made)) r) (end_is made its) one in
+      let three : At kept (body_start text) (body_start made) (head_tokens text) (tokens_of_head (head_of made)) r = subst (λ ts. At kept (body_start text) (body_start made) ts (tokens_of_head (head_of made)) r) (front_is text is) two in
+      subst (λ ts. At kept (body_start text) (body_start made) (head_tokens text) ts r) (front_is made its) three
 
-  same_behind : relexed_by_head true first text start stop insert ≡ relexed_behind first text start stop insert
-  unfolding relexed_behind
-  same_behind = by_page true
+  by_head : (kept : Bool) (r : Relexed) → At kept (body_start text) (body_start made) (head_tokens text) (head_tokens made) r → IsRelexedWith kept first text start stop insert r
+  unfolding IsRelexedWith
+  by_head kept r x =
+      let three : At kept (body_start text) (body_start made) (head_tokens text) (tokens_of_head (head_of made)) r = subst (λ ts. At kept (body_start text) (body_start made) (head_tokens text) ts r) (sym (front_is made its)) x in
+      let two : At kept (body_start text) (body_start made) (tokens_of_head (head_of text)) (tokens_of_head (head_of made)) r = subst (λ ts. At kept (body_start text) (body_start made) ts (tokens_of_head (head_of made)) r) (sym (front_is text is)) three in
+      let one : At kept (body_start text) (head_of made).end (tokens_of_head (head_of text)) (tokens_of_head (head_of made)) r = subst (λ to. At kept (body_start text) to (tokens_of_head (head_of text)) (tokens_of_head (head_of made)) r) (sym (end_is made its)) two in
+      subst (λ from. At kept from (head_of made).end (tokens_of_head (head_of text)) (tokens_of_head (head_of made)) r) (sym (end_is text is)) one
 
-  same_anew : relexed_by_head false first text start stop insert ≡ relexed_anew first text start stop insert
-  unfolding relexed_anew
-  same_anew =
-      let change : Change = front_change (body_start text) (body_start made) (record { start = start; old_stop = stop; new_stop = start + length insert }) in
-      let r : Relexed = relexed_of first (drop (body_start text) text) 0 change.old_stop (take change.new_stop (drop (body_start made) made)) in
-      by_page false ∙ ap (λ n. record { kept_front = n; lexed = length (head_tokens made) + r.lexed; kept_back = r.kept_back }) (relexed-front first (drop (body_start text) text) change.old_stop (take change.new_stop (drop (body_start made) made)))
+  -- nothing is kept before the edit of a body at its begin
+  abbrev anew : ℕ → Relexed → Relexed
+  anew front x = record { kept_front = front; lexed = length (head_tokens made) + x.lexed; kept_back = x.kept_back }
+
+  to_anew : (r : Relexed) → At false (body_start text) (body_start made) (head_tokens text) (head_tokens made) r → IsRelexedAnew first text start stop insert r
+  to_anew r x = (x.0, x.1, x.2 ∙ ap (λ front. anew front x.0) (relexed-front x.1))
+
+  of_anew : (r : Relexed) → IsRelexedAnew first text start stop insert r → At false (body_start text) (body_start made) (head_tokens text) (head_tokens made) r
+  of_anew r x = (x.0, x.1, x.2 ∙ ap (λ front. anew front x.0) (sym (relexed-front x.1)))
 
   pub relexed_page : {r : Relexed} → IsRelexedByHead first text start stop insert r → IsRelexedDocument first text start stop insert r
-  relexed_page r = record {
-    kept = λ s. r.kept (from_page s) ∙ same_behind;
-    changed = λ none. r.changed (λ k. none (to_page k)) ∙ same_anew;
+  relexed_page {r} is_head = record {
+    kept = λ s. by_page true r (is_head.kept (from_page s));
+    changed = λ none. to_anew r (by_page false r (is_head.changed (λ k. none (to_page k))));
   }
 
   pub stepped_page : {before after lexed : ℕ} → IsCountedByHead text start stop insert before after lexed → IsCountedDocument text start stop insert before after lexed
@@ -142,9 +152,9 @@ module _ (first : List ℕ → Token) (text insert : List ℕ) (start stop : ℕ
   }
 
   pub page_relexed : {r : Relexed} → IsRelexedDocument first text start stop insert r → IsRelexedByHead first text start stop insert r
-  page_relexed r = record {
-    kept = λ k. r.kept (to_page k) ∙ sym same_behind;
-    changed = λ none. r.changed (λ s. none (from_page s)) ∙ sym same_anew;
+  page_relexed {r} is_page = record {
+    kept = λ k. by_head true r (is_page.kept (to_page k));
+    changed = λ none. by_head false r (of_anew r (is_page.changed (λ s. none (from_page s))));
   }
 
   pub page_stepped : {before after lexed : ℕ} → IsCountedDocument text start stop insert before after lexed → IsCountedByHead text start stop insert before after lexed

@@ -1,22 +1,27 @@
 -- A list of edits, one edit at a time.
-use Rattle.std.proofs.Common.{◌≡◌, ℕ, zero, suc, ◌+◌, ◌<◌, List, [], ◌∷◌, length, take, get_or, refl, arith}
+use Rattle.std.proofs.Common.{◌≡◌, ℕ, zero, suc, ◌+◌, ◌<◌, List, [], ◌∷◌, length, take, get_or, refl, subst, arith}
 use Rattle.std.proofs.lemmas.Grind.{common_steps}
 use Rattle.rustc_lexer.specs.{Token}
 use Rattle.rustc_lexer.specs.declared.relex.edit.Edit.{Edit}
-use Rattle.rustc_lexer.specs.Edits.{IsEdit, relexed_of, applied, apply_list, lexed_list, AreEdits}
+use Rattle.rustc_lexer.specs.declared.relex.relexing.Relexed.{Relexed}
+use Rattle.rustc_lexer.specs.Edits.{IsEdit, IsRelexed, applied, apply_list, AreEdits, AreRelexed}
+
+-- the counts of an edit
+abbrev pub IsRelexedBy : (List ℕ → Token) → List ℕ → Edit → Relexed → Type 0
+IsRelexedBy first text e r = IsRelexed first text e.start e.stop e.insert.now r
 
 pub apply-next : (text : List ℕ) (es : List Edit) (n : ℕ) (d : Edit) → n < length es → apply_list text (take (suc n) es) ≡ applied (apply_list text (take n es)) (get_or es n d)
 apply-next text [] n d few = absurd (omega arith)
 apply-next text (e ∷ es) zero d few = refl
 apply-next text (e ∷ es) (suc n) d few = apply-next (applied text e) es n d (omega arith)
 
-abbrev pub lexed_by : (List ℕ → Token) → List ℕ → Edit → ℕ
-lexed_by first text e = (relexed_of first text e.start e.stop e.insert.now).lexed
-
-pub lexed-next : (first : List ℕ → Token) (text : List ℕ) (es : List Edit) (n : ℕ) (d : Edit) → n < length es → lexed_list first text (take (suc n) es) ≡ lexed_list first text (take n es) + lexed_by first (apply_list text (take n es)) (get_or es n d)
-lexed-next first text [] n d few = absurd (omega arith)
-lexed-next first text (e ∷ es) zero d few = omega arith
-lexed-next first text (e ∷ es) (suc n) d few = let ih = lexed-next first (applied text e) es n d (omega arith) in omega (arith, ih)
+-- one edit more lexes so many tokens more
+relexed-next : (first : List ℕ → Token) (text : List ℕ) (es : List Edit) (n : ℕ) (d : Edit) (lexed : ℕ) (r : Relexed) → n < length es → AreRelexed first text (take n es) lexed → IsRelexedBy first (apply_list text (take n es)) (get_or es n d) r → AreRelexed first text (take (suc n) es) (lexed + r.lexed)
+relexed-next first text [] n d lexed r few are is = absurd (omega arith)
+relexed-next first text (e ∷ es) zero d lexed r few are is = (r, 0, is, refl, omega (arith, are))
+relexed-next first text (e ∷ es) (suc n) d lexed r few are is =
+    let sum = are.4 in
+    (are.0, are.1 + r.lexed, are.2, relexed-next first (applied text e) es n d are.1 r (omega arith) are.3 is, omega arith)
 
 abbrev pub none : Edit
 none = record { start = 0; stop = 0; insert = record { ref_ptr = (0, 0); now = [] } }
@@ -25,8 +30,11 @@ none = record { start = 0; stop = 0; insert = record { ref_ptr = (0, 0); now = [
 pub text-more : (text now after : List ℕ) (es : List Edit) (n : ℕ) → n < length es → now ≡ apply_list text (take n es) → after ≡ applied now (get_or es n none) → after ≡ apply_list text (take (n + 1) es)
 text-more text now after es n few is made = grind (arith, common_steps, apply-next)
 
-pub lexed-more : (first then : List ℕ → Token) (text now : List ℕ) (es : List Edit) (n : ℕ) → n < length es → now ≡ apply_list text (take n es) → then ≡ first → lexed_list first text (take n es) + lexed_by then now (get_or es n none) ≡ lexed_list first text (take (n + 1) es)
-lexed-more first then text now es n few is same = grind (arith, common_steps, lexed-next)
+pub relexed-more : (first then : List ℕ → Token) (text now : List ℕ) (es : List Edit) (n lexed : ℕ) (r : Relexed) → n < length es → now ≡ apply_list text (take n es) → then ≡ first → AreRelexed first text (take n es) lexed → IsRelexedBy then now (get_or es n none) r → AreRelexed first text (take (n + 1) es) (lexed + r.lexed)
+relexed-more first then text now es n lexed r few is same are one =
+    let more : suc n ≡ n + 1 = omega arith in
+    let here : IsRelexedBy first (apply_list text (take n es)) (get_or es n none) r = subst (λ f. IsRelexedBy f (apply_list text (take n es)) (get_or es n none) r) same (subst (λ xs. IsRelexedBy then xs (get_or es n none) r) is one) in
+    subst (λ k. AreRelexed first text (take k es) (lexed + r.lexed)) more (relexed-next first text es n none lexed r few are here)
 
 edits-next : (text : List ℕ) (es : List Edit) (n : ℕ) (d : Edit) → n < length es → AreEdits text (take n es) → IsEdit (apply_list text (take n es)) (get_or es n d).start (get_or es n d).stop (get_or es n d).insert.now → AreEdits text (take (suc n) es)
 edits-next text [] n d few are is = absurd (omega arith)

@@ -48,6 +48,7 @@ pub mod QuotedLoop
 pub mod RawLemmas
 pub mod RawReadLemmas
 pub mod ReadyLemmas
+pub mod RelexedLemmas
 pub mod RelexBlockLemmas
 pub mod RelexingLemmas
 pub mod RenewedLemmas

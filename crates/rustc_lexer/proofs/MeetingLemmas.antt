@@ -5,7 +5,7 @@ use Rattle.rustc_lexer.specs.{Token}
 use Rattle.rustc_lexer.specs.Classes.{IsText}
 use Rattle.rustc_lexer.specs.Locality.{IsGrammar}
 use Rattle.rustc_lexer.specs.Tokens.{bound, tokens_by}
-use Rattle.rustc_lexer.specs.Edits.{meets_at, least_from, meet}
+use Rattle.rustc_lexer.specs.means.Relexing.{meets_at, least_from, meet}
 use Rattle.rustc_lexer.proofs.BoundLemmas.{is_bound, is_bound-intro, is_bound-decide, least_from_ge, least_from-more, least_from-here}
 use Rattle.rustc_lexer.proofs.ProgressLemmas.{IsLexedTo, IsPlace, lexed_place, lexed_more}
 

@@ -9,7 +9,7 @@ use Rattle.unicode_ident.proofs.IdentLemmas.{is_xid_start-ascii}
 use Rattle.rustc_lexer.specs.{RawStrError}
 use Rattle.rustc_lexer.specs.means.Ident.{marks_ident}
 use Rattle.rustc_lexer.specs.means.Lexeme.{is_raw_mark}
-use Rattle.rustc_lexer.specs.means.Raw.{is_quote, hash_run, raw_read, raw_text}
+use Rattle.rustc_lexer.specs.means.Raw.{OpensShort, is_quote, hash_run, raw_read, raw_text}
 use Rattle.rustc_lexer.specs.means.Scan.{next_is, past, scanned}
 use Rattle.rustc_lexer.specs.laws.Choice.{by_either}
 use Rattle.rustc_lexer.proofs.BridgeLemmas.{chars-ascii, IsUtf8-ascii}
@@ -69,12 +69,12 @@ module _ (text bytes : List ℕ) (n : ℕ) (is : IsUtf8 text) (same : bytes ≡ 
   opening_cut = IsCharBoundary-from_drop text (n + 1) opening_room opening.utf8
 
 -- behind it a raw string is read
-pub opened : (prefix n : ℕ) (text body : List ℕ) (read : Result ℕ RawStrError) (left : List ℕ) → IsUtf8 text → n ≡ hash_run (chars text) → next_is is_quote (drop n (chars text)) ≡ true → body ≡ past (suc n) text → suc n + length body ≡ length text
+pub opened : (prefix n : ℕ) (text body : List ℕ) (read : Result ℕ RawStrError) (left : List ℕ) → IsUtf8 text → OpensShort text n body
     → (read, left) ≡ scanned (raw_text n (prefix + n + 1)) body → (read, left) ≡ scanned (raw_read prefix) text
-opened prefix n text body read left is count quote cut len e = by_front (drop n (chars text)) refl quote
+opened prefix n text body read left is opens e = by_front (drop n (chars text)) refl opens.quote
   where
     body_is : body ≡ past 1 (past n text)
-    body_is = let one : suc n ≡ n + 1 = omega arith in cut ∙ (ap (λ k. past k text) one ∙ sym (past-past 1 n text is))
+    body_is = let one : suc n ≡ n + 1 = omega arith in opens.behind ∙ (ap (λ k. past k text) one ∙ sym (past-past 1 n text is))
 
     utf8 : IsUtf8 (past n text)
     utf8 = IsUtf8-past n text is
@@ -83,10 +83,10 @@ opened prefix n text body read left is count quote cut len e = by_front (drop n 
     reads = chars-past n text is
 
     from_is : past n text ≡ past (hash_run (chars text)) text
-    from_is = ap (λ k. past k text) count
+    from_is = ap (λ k. past k text) opens.hashes
 
     long : length text - length (past n text) ≡ n
-    long = hash_len text (past n text) is from_is ∙ sym count
+    long = hash_len text (past n text) is from_is ∙ sym opens.hashes
 
     by_front : (s : List ℕ) → drop n (chars text) ≡ s → next_is is_quote s ≡ true → (read, left) ≡ scanned (raw_read prefix) text
     by_front [] f q = absurd (true≢false (sym q))

@@ -1,13 +1,13 @@
 -- An edit: what lexing from the kept front asks, and what it leaves.
 use Rattle.std.proofs.Common.{◌≡◌, ℕ, ◌+◌, ◌-◌, ◌<◌, ◌≤◌, ◌^◌, true, List, ◌++◌, length, take, drop, refl, sym, ap, ◌∙◌, subst, arith, length-take, append_assoc, IsUtf8, ltb}
 use Rattle.std.specs.List.{count_by}
-use Rattle.rustc_lexer.specs.means.Relexing.{AreBoundaries}
+use Rattle.rustc_lexer.specs.means.Relexing.{AreBoundaries, meet, relexed_of}
 use Rattle.rustc_lexer.specs.declared.relex.front.Bound.{Bound}
 use Rattle.rustc_lexer.specs.{Token}
 use Rattle.rustc_lexer.specs.Classes.{IsText}
 use Rattle.rustc_lexer.specs.Locality.{IsGrammar, has_two}
 use Rattle.rustc_lexer.specs.Tokens.{bound, tokens_by}
-use Rattle.rustc_lexer.specs.Edits.{apply, ends_from, IsEdit, kept_front, meet, relexed_of}
+use Rattle.rustc_lexer.specs.Edits.{apply, ends_from, IsEdit, kept_front}
 use Rattle.rustc_lexer.specs.laws.Cuts.{at_bound}
 use Rattle.rustc_lexer.proofs.BoundLemmas.{bound_mono, rises, ends_past-at}
 use Rattle.rustc_lexer.proofs.EditLemmas.{IsEdited, edited, kept_same, met_whole, has_two-before}

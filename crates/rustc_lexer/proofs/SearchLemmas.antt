@@ -9,18 +9,11 @@ use Rattle.std.proofs.lemmas.Grind.{common_steps}
 use Rattle.memchr.specs.Find.{IsFirstByte, OccursAt, is_byte}
 use Rattle.rustc_lexer.specs.means.Frontmatter.{first}
 use Rattle.rustc_lexer.specs.means.Scan.{begins}
-use Rattle.rustc_lexer.specs.laws.Fences.{begins-occurs, found-first, occurs-begins}
+use Rattle.rustc_lexer.specs.laws.Fences.{begins-occurs, begins-whole, found-first, occurs-begins}
 
 begins-front : (pattern rest : List ℕ) → begins pattern (pattern ++ rest) ≡ true
 begins-front [] rest = refl
 begins-front (c ∷ cs) rest = rw (eq-eqb c c refl, begins-front cs rest) refl
-
-begins-whole : (pattern text : List ℕ) → begins pattern text ≡ true → text ≡ pattern ++ drop (length pattern) text
-begins-whole [] text e = refl
-begins-whole (c ∷ cs) [] e = absurd (true≢false (sym e))
-begins-whole (c ∷ cs) (d ∷ text) e =
-    let parts = and_parts (d == c) (begins cs text) e in
-    ap (λ x. x ∷ text) (eqb-true d c parts.0) ∙ ap (λ xs. c ∷ xs) (begins-whole cs text parts.1)
 
 -- that byte was looked for below `from`, and the pattern stands nowhere around such a place
 pub record IsPast (pattern rest : List ℕ) (rare from : ℕ) : Type 0 where

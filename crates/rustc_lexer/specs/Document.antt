@@ -7,7 +7,7 @@ use Rattle.rustc_lexer.specs.declared.relex.edit_list.EditStop.TheVariants.{Memo
 use Rattle.rustc_lexer.specs.{Edition, Token, TokenKind, E2024, Frontmatter}
 use Rattle.rustc_lexer.specs.Answers.{shebang, tokens_of}
 use Rattle.rustc_lexer.specs.LanguageText.{document}
-use Rattle.rustc_lexer.specs.Edits.{applied, apply, apply_list, relexed_of, stop_at}
+use Rattle.rustc_lexer.specs.Edits.{applied, apply, apply_list, stop_at, IsRelexed}
 use Rattle.rustc_lexer.specs.Locality.{bound, tokens_by}
 
 -- the length of the shebang line, or 0
@@ -56,27 +56,27 @@ KeepsHead text start stop insert =
     (shebang_len text ≡ shebang_len made) × (head_tokens text ≡ head_tokens made) × (body_start text ≤ start)
 
 -- the counts of an edit that keeps the head: its tokens are kept, and the edit is one of the body
-unfoldable pub relexed_behind : (List ℕ → Token) → List ℕ → ℕ → ℕ → List ℕ → Relexed
-relexed_behind first text start stop insert =
+abbrev pub IsRelexedBehind : (List ℕ → Token) → List ℕ → ℕ → ℕ → List ℕ → Relexed → Type 0
+IsRelexedBehind first text start stop insert r =
     let from : ℕ = body_start text in
-    let r : Relexed = relexed_of first (drop from text) (start - from) (stop - from) insert in
-    record { kept_front = length (head_tokens text) + r.kept_front; lexed = r.lexed; kept_back = r.kept_back }
+    (body : Relexed) × IsRelexed first (drop from text) (start - from) (stop - from) insert body
+    × (r ≡ record { kept_front = length (head_tokens text) + body.kept_front; lexed = body.lexed; kept_back = body.kept_back })
 
 -- of any other edit: the new head's tokens are lexed, and the body changes from its begin on, up to where the texts are
 -- the same and both bodies have begun, `more` past the edit
-unfoldable pub relexed_anew : (List ℕ → Token) → List ℕ → ℕ → ℕ → List ℕ → Relexed
-relexed_anew first text start stop insert =
+abbrev pub IsRelexedAnew : (List ℕ → Token) → List ℕ → ℕ → ℕ → List ℕ → Relexed → Type 0
+IsRelexedAnew first text start stop insert r =
     let made : List ℕ = apply text start stop insert in
     let from : ℕ = body_start text in
     let to : ℕ = body_start made in
     let more : ℕ = max (from - stop) (to - (start + length insert)) in
-    let r : Relexed = relexed_of first (drop from text) 0 (stop + more - from) (take (start + length insert + more - to) (drop to made)) in
-    record { kept_front = 0; lexed = length (head_tokens made) + r.lexed; kept_back = r.kept_back }
+    (body : Relexed) × IsRelexed first (drop from text) 0 (stop + more - from) (take (start + length insert + more - to) (drop to made)) body
+    × (r ≡ record { kept_front = 0; lexed = length (head_tokens made) + body.lexed; kept_back = body.kept_back })
 
 -- these are the counts of an edit
 pub record IsRelexedDocument (first : List ℕ → Token) (text : List ℕ) (start stop : ℕ) (insert : List ℕ) (r : Relexed) : Type 0 where
-  pub kept : KeepsHead text start stop insert → r ≡ relexed_behind first text start stop insert
-  pub changed : (KeepsHead text start stop insert → ⊥) → r ≡ relexed_anew first text start stop insert
+  pub kept : KeepsHead text start stop insert → IsRelexedBehind first text start stop insert r
+  pub changed : (KeepsHead text start stop insert → ⊥) → IsRelexedAnew first text start stop insert r
 
 -- the count of steps rose by the tokens that were lexed, except those of a new head, which take no step
 pub record IsCountedDocument (text : List ℕ) (start stop : ℕ) (insert : List ℕ) (before after lexed : ℕ) : Type 0 where

@@ -1,7 +1,6 @@
 -- What edits make of a text, what they keep of its tokens, and a text that is kept with its tokens; the same work where
 -- only the lengths of the old tokens are at hand.
-use Rattle.std.specs.Prelude.{ℕ, zero, suc, ◌+◌, ◌-◌, ◌<◌, ◌≤◌, ◌^◌, ◌&&◌, ◌||◌, Bool, cond, nat_le, nat_eq, List, [], ◌∷◌, ◌++◌, length, take, drop, IsCharBoundary, ◌≡◌, slice_get, IfSome, Option, Some, None, false, map, max, codes, decimal, count_by, nat_lt, IsUtf8}
-use Rattle.std.specs.List.{list_any}
+use Rattle.std.specs.Prelude.{ℕ, ◌+◌, ◌-◌, ◌<◌, ◌≤◌, ◌^◌, ◌||◌, Bool, nat_eq, List, [], ◌∷◌, ◌++◌, length, take, drop, IsCharBoundary, ◌≡◌, slice_get, IfSome, Option, Some, None, false, map, codes, decimal, count_by, IsUtf8}
 use Rattle.rustc_lexer.specs.declared.relex.{edit.Edit.Edit, edit_list.EditStop.EditStop, front.Bound.Bound, pieces.Piece.Piece, relexing.Change.Change, relexing.Relexed.Relexed, relexing.Relexing.Relexing}
 use Rattle.rustc_lexer.specs.declared.relex.edit_list.EditStop.TheVariants.{Range, TooLong, Memory}
 use Rattle.rustc_lexer.specs.{Token}
@@ -35,29 +34,22 @@ ends_from from (t ∷ ts) = (from + t.len) ∷ ends_from (from + t.len) ts
 abbrev pub kept_front : List ℕ → List Token → ℕ → ℕ
 kept_front text tokens to = count_by (λ end. has_two text end to) (ends_from 0 tokens)
 
--- whether a place of the new text is past the edit, which ends at `new_stop` there and at `old_stop` in the old text,
--- and, moved back, a bound of the old tokens: 0 or the end of one
-abbrev pub meets_at : List Token → ℕ → ℕ → ℕ → Bool
-meets_at old old_stop new_stop place = nat_le new_stop place && list_any (nat_eq (place - new_stop + old_stop)) (0 ∷ ends_from 0 old)
+-- bound `number` of the new tokens meets the old ones, of which `back` are left there: it is not before the end of what
+-- was put in, and as far past that as a bound of the old tokens is past what was taken out
+pub record IsMeeting (old new : List Token) (old_stop new_stop number back : ℕ) : Type 0 where
+  pub number_inside : number ≤ length new
+  pub past_edit : new_stop ≤ bound new number
+  pub old_number : ℕ
+  pub back_is : old_number + back ≡ length old
+  pub same_place : bound new number + old_stop ≡ bound old old_number + new_stop
 
--- the first number from j on that passes the test, of at most n
-abbrev pub least_from : (ℕ → Bool) → ℕ → ℕ → ℕ
-least_from test zero j = j
-least_from test (suc n) j = cond (test j) j (least_from test n (suc j))
-
--- the number of the bound of the new tokens at which lexing from bound k meets the old ones
-unfoldable pub meet : List Token → List Token → ℕ → ℕ → ℕ → ℕ
-meet old new old_stop new_stop k = least_from (λ j. meets_at old old_stop new_stop (bound new j)) (length new - k) k
-
--- what an edit keeps of the old tokens, and how many it lexes
-unfoldable pub relexed_of : (List ℕ → Token) → List ℕ → ℕ → ℕ → List ℕ → Relexed
-relexed_of first text start stop insert =
-    let old : List Token = tokens_by first text in
-    let new : List Token = tokens_by first (apply text start stop insert) in
-    let new_stop : ℕ = start + length insert in
-    let k : ℕ = kept_front text old start in
-    let j : ℕ = meet old new stop new_stop k in
-    record { kept_front = k; lexed = j - k; kept_back = count_by (nat_lt (bound new j - new_stop + stop)) (ends_from 0 old) }
+-- what an edit keeps of the tokens, and how many it lexes. It keeps those that end at least two characters before it.
+-- From there on tokens are lexed, up to the first bound that meets the old tokens, and the old ones from there on are kept
+pub record IsRelexed (first : List ℕ → Token) (text : List ℕ) (start stop : ℕ) (insert : List ℕ) (r : Relexed) : Type 0 where
+  pub front : r.kept_front ≡ kept_front text (tokens_by first text) start
+  pub meeting : IsMeeting (tokens_by first text) (tokens_by first (apply text start stop insert)) stop (start + length insert) (r.kept_front + r.lexed) r.kept_back
+  pub none_before : (number back : ℕ) → r.kept_front ≤ number → number < r.kept_front + r.lexed
+      → IsMeeting (tokens_by first text) (tokens_by first (apply text start stop insert)) stop (start + length insert) number back → ⊥
 
 -- ---- lists of edits
 
@@ -74,10 +66,16 @@ abbrev pub AreEdits : List ℕ → List Edit → Type 0
 AreEdits text [] = Unit {0}
 AreEdits text (e ∷ es) = IsEdit text e.start e.stop e.insert.now × AreEdits (applied text e) es
 
--- how many tokens the edits lex
-abbrev pub lexed_list : (List ℕ → Token) → List ℕ → List Edit → ℕ
-lexed_list first text [] = 0
-lexed_list first text (e ∷ es) = (relexed_of first text e.start e.stop e.insert.now).lexed + lexed_list first (applied text e) es
+-- the edits lex so many tokens, one edit after another
+abbrev pub AreRelexed : (List ℕ → Token) → List ℕ → List Edit → ℕ → Type 0
+AreRelexed first text [] lexed = lexed ≡ 0
+AreRelexed first text (e ∷ es) lexed =
+    (r : Relexed) × (more : ℕ) × IsRelexed first text e.start e.stop e.insert.now r × AreRelexed first (applied text e) es more
+    × (lexed ≡ r.lexed + more)
+
+-- the count rose by what the edits lex
+abbrev pub AreCounted : (List ℕ → Token) → List ℕ → List Edit → ℕ → ℕ → Type 0
+AreCounted first text edits before after = (lexed : ℕ) × AreRelexed first text edits lexed × (after ≡ before + lexed)
 
 -- the number of the edit that was refused
 abbrev pub stop_at : EditStop → ℕ
@@ -103,8 +101,10 @@ IsStop s text edits = (stop_at s < length edits) × IfSome (slice_get edits (sto
 -- the count rose by what the edits before the refused one lex. Where memory was refused it rose by at most what that
 -- edit lexes more
 abbrev pub IsCounted : EditStop → (List ℕ → Token) → List ℕ → List Edit → ℕ → ℕ → Type 0
-IsCounted (Memory at) first text edits before after = (before + lexed_list first text (take at edits) ≤ after) × (after ≤ before + lexed_list first text (take (at + 1) edits))
-IsCounted s first text edits before after = after ≡ before + lexed_list first text (take (stop_at s) edits)
+IsCounted (Memory at) first text edits before after =
+    (least most : ℕ) × AreRelexed first text (take at edits) least × AreRelexed first text (take (at + 1) edits) most
+    × (before + least ≤ after) × (after ≤ before + most)
+IsCounted s first text edits before after = AreCounted first text (take (stop_at s) edits) before after
 
 -- ---- a text that is kept with its tokens, and its pieces
 
@@ -173,25 +173,6 @@ pub record MayGoOn (text : List ℕ) (count : ℕ) (at : Relexing) : Type 0 wher
 abbrev pub known : Relexing → ℕ
 known at = at.front.number + at.lexed
 
--- relexing stands at a bound of the new tokens, past the kept front and not past the meeting. Its bound of the old
--- tokens is the kept front before the end of the edit, and then the first that is not before its place, moved back, or
--- the last one
-pub record Stands (first : List ℕ → Token) (old : List ℕ) (change : Change) (text : List ℕ) (at : Relexing) : Type 0 where
-  pub front_number : at.front.number ≡ kept_front old (tokens_by first old) change.start
-  pub front_bound : IsBound (tokens_by first old) at.front
-  pub front_same : take at.front.number (tokens_by first old) ≡ take at.front.number (tokens_by first text)
-  pub inside : known at ≤ length (tokens_by first text)
-  pub place : at.at ≡ bound (tokens_by first text) (known at)
-  pub not_past : known at
-      ≤ meet (tokens_by first old) (tokens_by first text) change.old_stop change.new_stop at.front.number
-  pub met_is : at.met ≡ meets_at (tokens_by first old) change.old_stop change.new_stop at.at
-  pub back_bound : IsBound (tokens_by first old) at.back
-  pub not_begun : at.at < change.new_stop → at.back ≡ at.front
-  pub below : (k : ℕ) → k < at.back.number
-      → bound (tokens_by first old) k + change.new_stop < max change.new_stop at.at + change.old_stop
-  pub reached : change.new_stop ≤ at.at → at.back.number < length (tokens_by first old)
-      → at.at - change.new_stop + change.old_stop ≤ at.back.place
-
 -- the old tokens are met, or no text is left
 abbrev pub is_over : List ℕ → Relexing → Bool
 is_over text at = at.met || nat_eq at.at (length text)
@@ -206,12 +187,6 @@ pub record TakesSteps (first : List ℕ → Token) (text : List ℕ) (past : ℕ
   pub place : at'.at ≡ at.at + bound (tokens_by first (drop at.at text)) count
   pub same_back : at'.at < past → at'.back ≡ at.back
   pub not_met : 0 < count → at'.at < past → at'.met ≡ false
-
--- of each old text of which the old tokens have the lengths, and of which the change made this one: relexing that
--- stands there before stands there after, and the text that was left has the tokens that were still to come
-abbrev pub GoesOn : (List ℕ → Token) → List ℕ → List ℕ → Change → Relexing → Relexing → Type 0
-GoesOn first lengths text change at at' = (before insert : List ℕ) → IsMadeOf first before lengths change insert text → Stands first before change text at
-    → Stands first before change text at' × (tokens_by first (drop at.at text) ≡ drop (known at) (tokens_by first text))
 
 -- the kept front, the tokens that were lexed and the old ones behind the meeting are the new tokens
 abbrev pub IsWhole : List Token → List Token → Relexing → Type 0

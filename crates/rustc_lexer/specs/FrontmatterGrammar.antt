@@ -1,9 +1,10 @@
--- The language of a frontmatter: how it opens and ends. `w` and `next` are as in Language.antt.
-use Rattle.std.specs.Prelude.{◌≡◌, ◌+◌, ◌<◌, ◌≤◌, ◌||◌, ℕ, zero, suc, Bool, true, false, List, [], ◌∷◌, ◌++◌, length, take, drop, codes, Option, Some, None}
+-- The language of a frontmatter: how it opens and ends. `w` and `next` are as in Language.antt; all
+-- texts here are characters.
+use Rattle.std.specs.Prelude.{◌≡◌, ◌≤◌, ◌||◌, ℕ, zero, suc, Bool, true, false, List, [], ◌∷◌, ◌++◌, length, codes}
 use Rattle.std.specs.Str.{byte}
-use Rattle.rustc_lexer.specs.Classes.{is_among, is_whitespace, is_horizontal_whitespace, is_id_start, is_id_continue, Chars, Utf8, begins, AreAll, NextIsNot, NextNotIn, is_inline}
+use Rattle.rustc_lexer.specs.Classes.{is_among, is_whitespace, is_horizontal_whitespace, is_id_start, is_id_continue, Chars, begins, AreAll, NextIsNot, NextNotIn, is_inline}
 
--- ---- its opening, in characters
+-- ---- its opening
 
 -- n dashes
 abbrev pub fence : ℕ → List ℕ
@@ -45,92 +46,70 @@ pub data IsOpeningBefore (next : Chars) : (n : ℕ) → Chars → Type 0 where
 abbrev pub OpensNone : Chars → Type 0
 OpensNone s = (n : ℕ) (w next : Chars) → s ≡ w ++ next → IsOpeningBefore next n w → ⊥
 
--- ---- its end, in bytes: `s` is what follows the opening, and each pattern is in ASCII
+-- ---- its end
 
--- the first place from `start` on where a pattern stands; and that it stands at none from there on
-pub record IsFirst (pattern s : Utf8) (start i : ℕ) : Type 0 where
-  pub from : start ≤ i
-  pub here : begins pattern (drop i s) ≡ true
-  pub before : (j : ℕ) → start ≤ j → j < i → begins pattern (drop j s) ≡ false
+-- of the places in `u ++ v` that are such, the one between u and v is the first; and no place in s
+-- is such. A place has what stands before it, and what follows it
+pub record IsFirstPlaceOf (IsSuch : Chars → Chars → Type 0) (u v : Chars) : Type 0 where
+  pub here : IsSuch u v
+  pub first : (x y : Chars) → x ++ y ≡ u ++ v → IsSuch x y → length u ≤ length x
 
-abbrev pub IsNowhere : Utf8 → Utf8 → ℕ → Type 0
-IsNowhere pattern s start = (j : ℕ) → start ≤ j → begins pattern (drop j s) ≡ false
+abbrev pub IsNowhere : (Chars → Chars → Type 0) → Chars → Type 0
+IsNowhere IsSuch s = (x y : Chars) → x ++ y ≡ s → IsSuch x y → ⊥
 
--- the length of the first line, without its \n
-pub data LineOf : Utf8 → ℕ → Type 0 where
-  line : (u v : Utf8) → AreAll is_inline u → NextIsNot is_inline v → LineOf (u ++ v) (length u)
+-- a place where the pattern stands
+abbrev pub IsAt : Chars → Chars → Chars → Type 0
+IsAt pattern before after = begins pattern after ≡ true
 
--- only spaces and tabs stand before the place i: from `start` on, or from the start of a later line
-pub data IsBlankBefore (s : Utf8) (start i : ℕ) : Type 0 where
-  from_start :
-      AreAll is_horizontal_whitespace (drop start (take i s))
-      → IsBlankBefore s start i
-  from_line : {k : ℕ}
-      → start ≤ k
-      → begins (codes "\n") (drop k s) ≡ true
-      → k < i
-      → AreAll is_horizontal_whitespace (drop (suc k) (take i s))
-      → IsBlankBefore s start i
+-- from where on blanks before lone dashes count: the front, the front of a line, or behind the first
+-- three of the dashes that stand in a row
+pub data IsEdge : Chars → Type 0 where
+  front : IsEdge []
+  line : (u : Chars) → IsEdge (u ++ codes "\n")
+  dashes : (u : Chars)
+      → ((v : Chars) → u ≡ v ++ codes "-" → ⊥)
+      → IsEdge (u ++ fence 3)
 
--- the first three dashes with only spaces and tabs before them on their line. The search goes on
--- behind three that are rejected, and from there on what stood before counts no more: in
--- `! ------` the second three are such
-pub data IsLone (s : Utf8) : (start : ℕ) → Option ℕ → Type 0 where
-  none : {start : ℕ} → IsNowhere (fence 3) s start → IsLone s start None
-  this : {start i : ℕ}
-      → IsFirst (fence 3) s start i
-      → IsBlankBefore s start i
-      → IsLone s start (Some i)
-  later : {start i : ℕ} {o : Option ℕ}
-      → IsFirst (fence 3) s start i
-      → (IsBlankBefore s start i → ⊥)
-      → IsLone s (i + 3) o
-      → IsLone s start o
+-- a place of three dashes that only spaces and tabs stand before: in `! ------` that of the second
+-- three, in `! --- ---` too
+pub data IsLone : Chars → Chars → Type 0 where
+  lone : (edge blanks after : Chars)
+      → IsEdge edge
+      → AreAll is_horizontal_whitespace blanks
+      → begins (fence 3) after ≡ true
+      → IsLone (edge ++ blanks) after
 
--- no line begins with a fence; and none with Rust
-abbrev pub NoFence : Utf8 → Type 0
-NoFence s = IsNowhere (byte "\n" ∷ fence 3) s 0
+-- what ends a frontmatter of n dashes, and whether its line is taken too: as many dashes at the
+-- front of a line; three of them; or a line of Rust
+abbrev pub endings : ℕ → List (Chars × Bool)
+endings n =
+    (byte "\n" ∷ fence n, true) ∷ (codes "\n---", true)
+    ∷ (codes "\nuse ", false) ∷ (codes "\n//!", false) ∷ (codes "\n#![", false) ∷ []
 
-abbrev pub NoRust : Utf8 → Type 0
-NoRust s =
-    IsNowhere (codes "\nuse ") s 0
-    × IsNowhere (codes "\n//!") s 0
-    × IsNowhere (codes "\n#![") s 0
-
--- where it ends: by the first of these that the text has anywhere, in this order and not in the
--- order of their places. In `\n//!\nuse x` it is the `use` item
-pub data EndsAt (n : ℕ) (s : Utf8) : ℕ → Type 0 where
-  -- at the end of a line that begins with as many dashes as the opening has; or with three
-  full_fence : {i k : ℕ}
-      → IsFirst (byte "\n" ∷ fence n) s 0 i
-      → LineOf (drop (suc i) s) k
-      → EndsAt n s (suc i + k)
-  short_fence : {i k : ℕ}
-      → IsNowhere (byte "\n" ∷ fence n) s 0
-      → IsFirst (byte "\n" ∷ fence 3) s 0 i
-      → LineOf (drop (suc i) s) k
-      → EndsAt n s (suc i + k)
-  -- before a line of Rust
-  use_item : {i : ℕ}
-      → NoFence s
-      → IsFirst (codes "\nuse ") s 0 i
-      → EndsAt n s i
-  inner_doc : {i : ℕ}
-      → NoFence s
-      → IsNowhere (codes "\nuse ") s 0
-      → IsFirst (codes "\n//!") s 0 i
-      → EndsAt n s i
-  inner_attribute : {i : ℕ}
-      → NoFence s
-      → IsNowhere (codes "\nuse ") s 0
-      → IsNowhere (codes "\n//!") s 0
-      → IsFirst (codes "\n#![") s 0 i
-      → EndsAt n s i
-  -- at the end of the line of lone dashes; or with the text
-  lone_dashes : {i k : ℕ}
-      → NoFence s
-      → NoRust s
-      → IsLone s 0 (Some i)
-      → LineOf (drop i s) k
-      → EndsAt n s (i + k)
-  all : NoFence s → NoRust s → IsLone s 0 None → EndsAt n s (length s)
+-- w is the body, which is all between the opening and the end, where these endings are left to
+-- look for
+pub data IsBodyBefore (next : Chars) : List (Chars × Bool) → Chars → Type 0 where
+  -- it ends at the first place of the first ending that has any place, whatever the places of the
+  -- others: in `\n//!\nuse x` before the `use` item
+  with_line : (pattern u line : Chars) {others : List (Chars × Bool)}
+      → IsFirstPlaceOf (IsAt pattern) u (byte "\n" ∷ line ++ next)
+      → AreAll is_inline line
+      → NextIsNot is_inline next
+      → IsBodyBefore next ((pattern, true) ∷ others) (u ++ byte "\n" ∷ line)
+  before_line : (pattern w : Chars) {others : List (Chars × Bool)}
+      → IsFirstPlaceOf (IsAt pattern) w next
+      → IsBodyBefore next ((pattern, false) ∷ others) w
+  other : (pattern : Chars) {takes_line : Bool} {w : Chars} {others : List (Chars × Bool)}
+      → IsNowhere (IsAt pattern) (w ++ next)
+      → IsBodyBefore next others w
+      → IsBodyBefore next ((pattern, takes_line) ∷ others) w
+  -- where none has a place, with the line of the first lone dashes; or with the text
+  lone_dashes : (u line : Chars)
+      → IsFirstPlaceOf IsLone u (line ++ next)
+      → AreAll is_inline line
+      → NextIsNot is_inline next
+      → IsBodyBefore next [] (u ++ line)
+  all : {w : Chars}
+      → next ≡ []
+      → IsNowhere IsLone w
+      → IsBodyBefore next [] w

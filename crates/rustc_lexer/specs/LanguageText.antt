@@ -4,10 +4,10 @@
 -- strings, raw lifetimes and reserved prefixes. C strings and `k#` are read alike in all editions,
 -- though Rust has C strings since 2021 only (docs/EDITIONS.md, "What is left to a compiler").
 use Rattle.std.specs.Prelude.{◌≡◌, ◌<◌, ◌≤◌, ℕ, nat_eq, if◌then◌else◌, find, true, false, List, ◌∷◌, codes, Option, Some, None, ◌+◌, not, Bool, [], ◌++◌, ◌↔◌}
-use Rattle.std.specs.Str.{byte, bytes_eq, encode_utf8_all}
+use Rattle.std.specs.Str.{byte, bytes_eq}
 use Rattle.rustc_lexer.specs.{Edition, FrontmatterAllowed, Token, TokenKind, E2015, E2018, E2021, E2024, Yes, No, Ident, UnknownPrefix, Lifetime, UnknownPrefixLifetime, Pound, RawLifetime, GuardedStrPrefix, Whitespace, Frontmatter, Eof}
 use Rattle.rustc_lexer.specs.Classes.{Chars, begins_ident_after, is_among, is_whitespace, next_is, bytes}
-use Rattle.rustc_lexer.specs.FrontmatterGrammar.{IsOpeningBefore, OpensNone, EndsAt}
+use Rattle.rustc_lexer.specs.FrontmatterGrammar.{IsOpeningBefore, OpensNone, endings, IsBodyBefore}
 use Rattle.rustc_lexer.specs.Language.{is_bad_name, IsTokenBefore}
 
 -- the year that names an edition
@@ -117,7 +117,7 @@ pub data AreTokens : Mode → Chars → List Token → Type 0 where
       → AreTokens mode (c ∷ w ++ next) (record { kind = kind; len = bytes (c ∷ w) } ∷ tokens)
   frontmatter_first : {edition : Edition} {n : ℕ} {opening next : Chars} {tokens : List Token} (body : Chars)
       → IsOpeningBefore (body ++ next) n opening
-      → EndsAt n (encode_utf8_all (body ++ next)) (bytes body)
+      → IsBodyBefore next (endings n) body
       → AreTokens (part edition) next tokens
       → AreTokens (document edition) (opening ++ (body ++ next)) (frontmatter_token opening body next ∷ tokens)
 

@@ -11,6 +11,7 @@ pub mod LanguageText
 pub mod LiteralGrammar
 pub mod Locality
 pub mod NumberGrammar
+pub mod Relexing
 pub mod State
 pub mod Tables
 pub mod Tokens

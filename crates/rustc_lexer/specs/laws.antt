@@ -18,6 +18,7 @@ pub mod LanguageGuarded
 pub mod LanguageIn
 pub mod LanguageLifetimes
 pub mod LanguageLiterals
+pub mod LanguageLone
 pub mod LanguageQuoted
 pub mod LanguageRaw
 pub mod LanguageReach

@@ -1,26 +1,28 @@
-//! A cursor over a text, which takes it token by token.
-ghost use Rattle.std.specs.Prelude.{◌≡◌, [], ◌≢◌, ◌+◌, ◌^◌, ◌<◌, slice_index};
-ghost use Rattle.std.specs.Str.{chars};
+//! A cursor, which takes the tokens of a text one by one.
+ghost use Rattle.std.specs.Prelude.{◌≡◌, [], ◌≢◌, ◌+◌, ◌^◌, ◌<◌, ◌≤◌, IsTrue, drop, length, slice_index};
+ghost use Rattle.std.specs.Str.{chars, IsCharBoundary};
 ghost use Rattle.rustc_lexer.specs.{Edition, E2024};
 ghost use Rattle.rustc_lexer.specs.Classes.{Fits};
 ghost use Rattle.rustc_lexer.specs.Tokens.{TakesFirst, tokens_left};
-ghost use Rattle.rustc_lexer.specs.LanguageText.{mode_after, mode_edition, mode_in, mode_of};
+ghost use Rattle.rustc_lexer.specs.LanguageText.{mode_after, mode_edition, mode_in, mode_of, part};
 ghost use Rattle.rustc_lexer.specs.Answers.{advance};
 ghost use Rattle.rustc_lexer.specs.State.{token_past, HasSuffixWithin};
 
 use crate::frontmatter::token_at;
+use crate::lexemes::choose_token;
+use crate::lexemes::quick::quick_token;
 use crate::scan;
 use crate::token::{FrontmatterAllowed, Token, TokenKind};
 use std::marker::Model;
 
 mod guarded;
 
-/// A place in a text, from which the next token is taken.
+/// A cursor over a text, which takes the next token from the place that it has reached.
 ///
-/// Its state is the text that is left, how many bytes were taken since the last token and so are part of
-/// the next, and whether a frontmatter may stand at the front.
+/// Its state is the text that is left, the number of bytes taken since the last token, and whether a frontmatter
+/// may come in front. The bytes taken since the last token are pending: they are part of the next token.
 ///
-/// A loop takes tokens until it has the one that it looks for, here the first that is no comment:
+/// A loop takes tokens until it has the one that it looks for. Here that is the first one that is not a comment:
 ///
 /// ```ignore
 /// let mut cursor = Cursor::new(text, FrontmatterAllowed::No);
@@ -35,9 +37,9 @@ mod guarded;
 #[derive(Drop)]
 pub struct Cursor<'a> {
     text: &'a str,
-    /// Where the text that is left begins.
+    /// The place where the text that is left begins.
     index: usize,
-    /// Where the token begins that is taken next: before `index` where bytes are pending.
+    /// The place where the next token begins. It is before `index` if bytes are pending.
     start: usize,
     frontmatter_allowed: FrontmatterAllowed,
 }
@@ -62,7 +64,7 @@ impl<'a> Model for Cursor<'a> {
 }
 
 impl<'a> Cursor<'a> {
-    /// A cursor at the front of the text, which has at most `u32::MAX` bytes.
+    /// Creates a cursor at the front of the text, which may have at most `u32::MAX` bytes.
     pub fn new(input: &'a str, frontmatter_allowed: FrontmatterAllowed) -> Cursor<'a>
         requires fits { Fits input.now }
         ensures { result
@@ -76,7 +78,7 @@ impl<'a> Cursor<'a> {
         }
     }
 
-    /// The text that is left.
+    /// Returns the text that is left.
     #[inline(always)]
     pub fn as_str(&self) -> &'a str
         ensures rest { result.now ≡ self.now.rest }
@@ -86,28 +88,32 @@ impl<'a> Cursor<'a> {
         &self.text[self.index..]
     }
 
-    /// The next character, which is not taken, or U+0000 at the end of the text.
+    /// Returns the next character without taking it, or U+0000 at the end of the text.
     ///
-    /// A U+0000 in the text gives the same answer: `as_str` tells the two apart.
+    /// A U+0000 in the text gives the same answer. [`as_str`](Cursor::as_str) shows which of the two it is.
     pub fn first(&self) -> char
         ensures { result ≡ slice_index (chars self.now.rest) 0 }
     {
         scan::first(self.as_str())
     }
 
-    /// The character after the next two, or U+0000 where the text has no more than two.
+    /// Returns the third of the next characters without taking it, or U+0000 if the text has no more than two.
     pub fn third(&self) -> char
         ensures { result ≡ slice_index (chars self.now.rest) 2 }
     {
         scan::third(self.as_str())
     }
 
-    /// Takes the next token. At the end of the text it answers `Eof`, of length 0, and changes nothing.
+    /// Takes the next token and returns it. At the end of the text it returns `Eof`, of length 0, and changes
+    /// nothing.
     ///
-    /// No other token is `Eof`. Each is longer than the bytes that were pending, and ends between characters.
+    /// No other token is `Eof`. Each token is longer than the bytes that were pending, and ends between two
+    /// characters.
     ///
-    /// The length of the token, and where its suffix begins, count the bytes that were pending; then none are.
-    /// Past a token that is no white space, no frontmatter is allowed.
+    /// The length of the token, and the place where its suffix begins, count the pending bytes. After the call no
+    /// bytes are pending. After a token that is not white space, no frontmatter is allowed.
+    ///
+    /// If no bytes are pending, each branch returns its token by itself, like `next` of the iterator.
     #[inline(always)]
     pub fn advance_token(&mut self) -> Token
         ensures token { result ≡ (advance self.old).0 }
@@ -123,6 +129,15 @@ impl<'a> Cursor<'a> {
                 len: 0,
             };
         }
+        if self.is_plain() {
+            if let Some(quick) = quick_token(rest) {
+                self.pass(quick.len);
+                return quick;
+            }
+            let chosen = choose_token(rest);
+            self.pass(chosen.len);
+            return chosen;
+        }
         let token = token_at(rest, self.frontmatter_allowed);
         let pending = (self.index - self.start) as u32;
         let end = self.index + token.len as usize;
@@ -131,9 +146,29 @@ impl<'a> Cursor<'a> {
         self.frontmatter_allowed = next_allowed(self.frontmatter_allowed, token.kind);
         with_pending(token, pending)
     }
+
+    /// Returns whether no bytes are pending and no frontmatter may come. Past the first token this is mostly so.
+    #[inline(always)]
+    fn is_plain(&self) -> bool
+        ensures { IsTrue result → (self.now.pending ≡ 0) × (self.now.mode ≡ part E2024) }
+    {
+        self.index == self.start && matches!(self.frontmatter_allowed, FrontmatterAllowed::No)
+    }
+
+    /// Moves on by this many bytes. Then no bytes are pending.
+    #[inline(always)]
+    fn pass(&mut self, len: u32)
+        requires inside { len ≤ length self.old.rest }
+        requires boundary { IsCharBoundary self.old.rest len }
+        ensures { self.new
+            ≡ record { pending = 0; rest = drop len self.old.rest; mode = self.old.mode } }
+    {
+        self.index += len as usize;
+        self.start = self.index;
+    }
 }
 
-/// Whether a frontmatter may stand after a token of this kind.
+/// Returns whether a frontmatter may come after a token of this kind.
 #[inline(always)]
 pub(crate) fn next_allowed(allowed: FrontmatterAllowed, kind: TokenKind) -> FrontmatterAllowed
     ensures { (edition : Edition)
@@ -145,7 +180,7 @@ pub(crate) fn next_allowed(allowed: FrontmatterAllowed, kind: TokenKind) -> Fron
     }
 }
 
-/// The token with the bytes that were pending before it.
+/// Returns the token made longer by the bytes that were pending before it.
 #[inline(always)]
 fn with_pending(token: Token, pending: u32) -> Token
     requires suffix { HasSuffixWithin token }

@@ -1,4 +1,4 @@
-//! The editions of Rust, and what each has in place of a token of the newest one.
+//! The editions of Rust, and how their tokens differ from those of the newest edition.
 ghost use Rattle.std.specs.Prelude.{◌≡◌, ◌<◌, not, codes, length, take, IsCharBoundary, Some};
 ghost use Rattle.std.specs.List.{list_all};
 ghost use Rattle.std.specs.Result.{result_ok};
@@ -11,29 +11,29 @@ ghost use Rattle.rustc_lexer.specs.means.Scan.{run_len};
 ghost use Rattle.rustc_lexer.specs.means.Taking as state;
 
 use crate::classes::emoji::is_emoji;
-use crate::cursor::Cursor;
 use crate::frontmatter::token_at;
+use crate::lexemes::lexeme;
 use crate::scan::{eat_continue, next_is, split_first};
 use crate::token::{FrontmatterAllowed, Token, TokenKind};
 use std::error::Error;
 use std::fmt;
 use std::str::FromStr;
 
-/// An edition of Rust, in the order of their years.
+/// An edition of Rust. Editions are ordered by their years.
 #[derive(Clone, Copy, Debug, PartialEq, Eq, PartialOrd, Ord)]
 pub enum Edition {
     /// Rust 2015.
     E2015,
-    /// Rust 2018, whose tokens are those of 2015.
+    /// Rust 2018. Its tokens are those of Rust 2015.
     E2018,
     /// Rust 2021.
     E2021,
-    /// Rust 2024, the newest.
+    /// Rust 2024, the newest edition.
     E2024,
 }
 
 impl Edition {
-    /// All editions, in the order of their years.
+    /// All editions, ordered by their years.
     pub const ALL: [Edition; 4] = [
         Edition::E2015,
         Edition::E2018,
@@ -41,7 +41,7 @@ impl Edition {
         Edition::E2024,
     ];
 
-    /// The year that names the edition.
+    /// Returns the year that names the edition.
     pub fn year(self) -> u16
         ensures { result ≡ year self }
     {
@@ -63,7 +63,7 @@ const _: () = prove!(Edition::ALL[2] as u8 == Edition::E2021 as u8);
 
 const _: () = prove!(Edition::ALL[3] as u8 == Edition::E2024 as u8);
 
-/// Reads the year that names an edition, such as `2021`.
+/// Parses the year that names an edition, like `2021`.
 impl FromStr for Edition {
     type Err = UnknownEdition;
 
@@ -80,7 +80,7 @@ impl FromStr for Edition {
     }
 }
 
-/// The edition of a year, such as `2021`.
+/// Converts the year that names an edition, like `2021`.
 impl TryFrom<u16> for Edition {
     type Error = UnknownEdition;
 
@@ -97,7 +97,7 @@ impl TryFrom<u16> for Edition {
     }
 }
 
-/// A word or a number names no edition.
+/// The error for a word or a number that names no edition.
 #[derive(Clone, Copy, Debug, PartialEq, Eq)]
 pub struct UnknownEdition;
 
@@ -111,7 +111,7 @@ impl fmt::Display for UnknownEdition {
 
 impl Error for UnknownEdition {}
 
-/// The token at the front of a text that is not empty, in an edition, where a frontmatter may stand or may not.
+/// Returns the first token of a text in an edition, with or without a frontmatter in front. The text is not empty.
 #[inline(always)]
 pub(crate) fn token_as(rest: &str, allowed: FrontmatterAllowed, edition: Edition) -> Token
     requires not_empty { 0 < length rest.now }
@@ -125,7 +125,8 @@ pub(crate) fn token_as(rest: &str, allowed: FrontmatterAllowed, edition: Edition
     }
 }
 
-/// The same of any edition. It is not inlined, so that the way of the newest edition stays short.
+/// Returns what [`token_as`] returns, for any edition. It is not inlined, so that the code for the newest edition
+/// stays short.
 #[inline(never)]
 fn older_token(rest: &str, allowed: FrontmatterAllowed, edition: Edition) -> Token
     requires not_empty { 0 < length rest.now }
@@ -136,10 +137,7 @@ fn older_token(rest: &str, allowed: FrontmatterAllowed, edition: Edition) -> Tok
     changed(token_at(rest, allowed), rest, edition)
 }
 
-/// The token at the front of a text, in an edition.
-///
-/// It is one call of `Cursor::advance_token`, since that is what a step of [`Steps`](crate::Steps) counts. Once it is
-/// inlined, nothing of the cursor is left.
+/// Returns the first token of a text in an edition, where no frontmatter is allowed. The text is not empty.
 #[inline(always)]
 pub(crate) fn token_in(rest: &str, edition: Edition) -> Token
     requires not_empty { 0 < length rest.now }
@@ -147,11 +145,10 @@ pub(crate) fn token_in(rest: &str, edition: Edition) -> Token
     ensures token { result ≡ spec.first_token_in edition rest.now }
     ensures boundary { IsCharBoundary rest.now result.len }
 {
-    let token = Cursor::new(rest, FrontmatterAllowed::No).advance_token();
-    changed(token, rest, edition)
+    changed(lexeme(rest), rest, edition)
 }
 
-/// What the edition has in place of the token at the front of the text.
+/// Returns the token that the edition has in place of the text's first token.
 #[inline(always)]
 fn changed(token: Token, text: &str, edition: Edition) -> Token
     ensures { result ≡ spec.changed edition (chars text.now) token }
@@ -163,7 +160,7 @@ fn changed(token: Token, text: &str, edition: Edition) -> Token
     }
 }
 
-/// What an edition before 2024 has in place of the token.
+/// Returns the token that an edition before 2024 has in place of this one.
 fn before_2024(token: Token) -> Token
     ensures { result ≡ spec.before_2024 token.kind token.len }
 {
@@ -176,7 +173,7 @@ fn before_2024(token: Token) -> Token
     }
 }
 
-/// What an edition before 2021 has in place of the token at the front of the text.
+/// Returns the token that an edition before 2021 has in place of the text's first token.
 fn before_2021(token: Token, text: &str) -> Token
     ensures { result ≡ spec.before_2021 (chars text.now) token.kind token.len }
 {
@@ -201,7 +198,7 @@ fn before_2021(token: Token, text: &str) -> Token
     }
 }
 
-/// Whether the name after the quote that the text begins with is one that no lifetime of Rust has.
+/// Returns whether the name after the quote at the front of the text is one that no lifetime of Rust has.
 fn has_marked_name(text: &str) -> bool
     ensures { result ≡ spec.has_marked_name (chars text.now) }
 {
@@ -214,7 +211,7 @@ fn has_marked_name(text: &str) -> bool
     first.is_ascii_digit() || is_emoji(first) || holds_emoji(rest)
 }
 
-/// Whether an emoji that no identifier goes on with stands in the name that goes on here.
+/// Returns whether the rest of a name holds an emoji that may not continue an identifier.
 fn holds_emoji(rest: &str) -> bool
     ensures { result
         ≡ not (list_all is_id_continue (take (run_len is_word (chars rest.now)) (chars rest.now))) }

@@ -1,4 +1,4 @@
-//! Frontmatter: what may stand in front of the first token, between two fences of dashes.
+//! Frontmatter: a block between two fences of dashes, which may come before the first token.
 ghost use Rattle.std.specs.Prelude.{◌≡◌, ◌+◌, ◌-◌, ◌≤◌, ◌<◌, ◌==◌, ◌&&◌, true, false, length, nat_lt, slice_index, drop, MatchOption, IfSome, ◌∷◌};
 ghost use Rattle.std.specs.Str.{chars, IsCharBoundary};
 ghost use Rattle.rustc_lexer.specs.{E2024};
@@ -15,10 +15,10 @@ use crate::scan::{eat_while, eat_whitespace, next_is, split_first};
 use crate::token::{FrontmatterAllowed, Token, TokenKind};
 use memchr::memchr;
 
-/// A fence has at least so many dashes.
+/// The least number of dashes in a fence.
 const MIN_DASHES: usize = 3;
 
-/// The token at the front of a text. At the end of the text it is `Eof`, of length 0.
+/// Returns the first token of a text. At the end of the text it is `Eof`, of length 0.
 #[inline(always)]
 pub(crate) fn token_at(text: &str, allowed: FrontmatterAllowed) -> Token
     requires fits { Fits text.now }
@@ -33,7 +33,7 @@ pub(crate) fn token_at(text: &str, allowed: FrontmatterAllowed) -> Token
     }
 }
 
-/// The token at the front of a text where a frontmatter is allowed.
+/// Returns the first token of a text where a frontmatter is allowed.
 #[inline(never)]
 fn frontmatter_or_lexeme(text: &str) -> Token
     requires fits { Fits text.now }
@@ -48,9 +48,9 @@ fn frontmatter_or_lexeme(text: &str) -> Token
     }
 }
 
-/// The frontmatter at the front of the text, if one opens there.
+/// Returns the frontmatter at the front of the text, or `None` if none opens there.
 ///
-/// White space before its dashes is part of it, unless a newline is the last character of that.
+/// White space before its dashes is part of it, unless the last character of that white space is a newline.
 pub(crate) fn frontmatter(text: &str) -> Option<Token>
     requires fits { Fits text.now }
     ensures { MatchOption result (spec.opens (chars text.now) ≡ false)
@@ -73,8 +73,8 @@ pub(crate) fn frontmatter(text: &str) -> Option<Token>
     })
 }
 
-/// What is left past the rest of the opening fence's line: blanks, an infostring, and blanks. `rest` is what
-/// follows the dashes.
+/// Returns the text after the rest of the opening fence's line: after blanks, an infostring, and blanks. `rest` is
+/// the text after the dashes.
 fn eat_label(rest: &str) -> &str
     ensures shorter { length result.now ≤ length rest.now }
     ensures past { result.now ≡ past (spec.label_len (chars rest.now)) rest.now }
@@ -83,7 +83,7 @@ fn eat_label(rest: &str) -> &str
     eat_while(eat_infostring(infostring), is_horizontal_whitespace)
 }
 
-/// What an infostring leaves of the text, if one stands here.
+/// Returns the text after an infostring, if there is one at the front, or else the whole text.
 fn eat_infostring(rest: &str) -> &str
     ensures shorter { length result.now ≤ length rest.now }
     ensures past { result.now ≡ past (spec.infostring_len (chars rest.now)) rest.now }
@@ -97,14 +97,14 @@ fn eat_infostring(rest: &str) -> &str
     eat_while(tail, is_infostring)
 }
 
-/// What an infostring goes on with.
+/// Returns whether an infostring may continue with the character.
 fn is_infostring(c: char) -> bool
     ensures { result ≡ spec.is_infostring c }
 {
     is_id_continue(c) || c == '-' || c == '.'
 }
 
-/// Where the frontmatter ends in `rest`, which follows an opening of `n_dashes` dashes.
+/// Returns where the frontmatter ends in `rest`, which is the text after an opening of `n_dashes` dashes.
 fn closing_end(rest: &[u8], n_dashes: usize) -> usize
     ensures end { result ≡ spec.closing_end n_dashes rest.now }
     ensures inside { result ≤ length rest.now }
@@ -115,7 +115,7 @@ fn closing_end(rest: &[u8], n_dashes: usize) -> usize
     }
 }
 
-/// Where a frontmatter ends that no line of so many dashes closes: at the best guess of where Rust begins.
+/// Returns where a frontmatter ends that no line of enough dashes closes: the best guess of where Rust begins.
 fn recovery(rest: &[u8]) -> usize
     ensures end { result ≡ spec.recovery rest.now }
     ensures inside { result ≤ length rest.now }
@@ -138,7 +138,7 @@ fn recovery(rest: &[u8]) -> usize
     }
 }
 
-/// The place of the first newline that at least `n_dashes` dashes follow.
+/// Returns the place of the first newline that at least `n_dashes` dashes follow.
 fn find_fence(rest: &[u8], n_dashes: usize) -> Option<usize>
     ensures place { result ≡ spec.first (spec.newline ∷ spec.dashes n_dashes) rest.now }
     ensures inside { IfSome result (λ place. place < length rest.now) }
@@ -155,7 +155,7 @@ fn find_fence(rest: &[u8], n_dashes: usize) -> Option<usize>
     None
 }
 
-/// Where the dashes from a place on end.
+/// Returns where the dashes that begin at `from` end.
 fn dashes_end(rest: &[u8], from: usize) -> usize
     requires { from ≤ length rest.now }
     ensures end { result ≡ from + run_len spec.is_dash (drop from rest.now) }
@@ -168,7 +168,7 @@ fn dashes_end(rest: &[u8], from: usize) -> usize
     end
 }
 
-/// The first place of three dashes with only blanks before them: on their line, and past the dashes before.
+/// Returns the first place of three dashes with only blanks before them, on their line and past the dashes before.
 fn find_lone_dashes(rest: &[u8]) -> Option<usize>
     ensures place { result ≡ spec.first_alone 0 (spec.places (spec.dashes 3) rest.now) rest.now }
     ensures inside { IfSome result (λ place. place < length rest.now) }
@@ -184,7 +184,7 @@ fn find_lone_dashes(rest: &[u8]) -> Option<usize>
     None
 }
 
-/// Whether only blanks stand before a place: on its line, and past `end`.
+/// Returns whether only blanks come before `place`, on its line and past `end`.
 fn stands_alone(rest: &[u8], end: usize, place: usize) -> bool
     requires order { end ≤ place }
     requires inside { place ≤ length rest.now }
@@ -197,7 +197,7 @@ fn stands_alone(rest: &[u8], end: usize, place: usize) -> bool
     start == end || follows_newline(rest, start)
 }
 
-/// Whether a newline stands right before a place.
+/// Returns whether a newline comes right before a place.
 fn follows_newline(bytes: &[u8], place: usize) -> bool
     requires { place ≤ length bytes.now }
     ensures { result ≡ (nat_lt 0 place && spec.is_newline (slice_index bytes.now (place - 1))) }
@@ -205,7 +205,7 @@ fn follows_newline(bytes: &[u8], place: usize) -> bool
     place > 0 && bytes[place - 1] == b'\n'
 }
 
-/// The first newline at or past a place, or the end.
+/// Returns the place of the first newline at or past `place`, or the end of the text.
 fn line_end(rest: &[u8], place: usize) -> usize
     requires { place ≤ length rest.now }
     ensures end { result ≡ spec.line_end place rest.now }
@@ -217,8 +217,8 @@ fn line_end(rest: &[u8], place: usize) -> usize
     }
 }
 
-/// The first place where the pattern stands. Its byte `rare`, one that texts have few of, is looked for: no searcher has
-/// to be made, which would reach the heap.
+/// Returns the first place of the pattern. It searches for the pattern's byte number `rare`, one that texts have
+/// few of. So it does not have to make a searcher, which would allocate on the heap.
 fn find(rest: &[u8], pattern: &[u8], rare: usize) -> Option<usize>
     requires { rare < length pattern.now }
     ensures place { result ≡ spec.first pattern.now rest.now }

@@ -1,6 +1,6 @@
-//! How far runs of bytes go and where a byte stands, 32 bytes at a time.
+//! Searches over bytes that look at 32 bytes at a time: where a run ends, and where a byte is.
 ghost use Rattle.memchr.specs.Find.{IsFirstByte, is_byte, is_byte2};
-ghost use Rattle.std.specs.Prelude.{◌≡◌, ◌≤◌, ◌<◌, ◌&&◌, ◌||◌, ◌==◌, ℕ, suc, Bool, true, false, drop, length, map, not};
+ghost use Rattle.std.specs.Prelude.{◌≡◌, ◌≤◌, ◌<◌, ◌&&◌, ◌||◌, ◌==◌, ℕ, suc, Bool, IfSome, true, false, drop, length, map, not};
 ghost use Rattle.std.specs.List.{prefix_len};
 ghost use Rattle.std.specs.Simd.Lanes.{mask_l};
 ghost use Rattle.rustc_lexer.specs.means.ByteRuns.{is_continue_byte, is_space_byte, is_decimal_byte, is_hexadecimal_byte, outside};
@@ -16,16 +16,16 @@ use std::simd::prelude::*;
 pub(crate) trait ByteClass {
     ghost passes: { ℕ → Bool };
 
-    /// Whether the byte is in the class.
+    /// Returns whether the byte is in the class.
     fn has(byte: u8) -> bool
         ensures { result ≡ passes byte };
 
-    /// Bit k is set where lane k is outside the class.
+    /// Returns a mask. Bit k is set if lane k is outside the class.
     fn stops(v: u8x32) -> u64
         ensures { result ≡ mask_l (map (outside passes) v) };
 }
 
-/// What an identifier goes on with.
+/// The bytes that an identifier may continue with.
 #[derive(Clone, Copy)]
 pub(crate) struct Continue;
 
@@ -107,7 +107,7 @@ impl ByteClass for Hexadecimal {
     }
 }
 
-/// Bit k is set where lane k is of a word.
+/// Returns a mask. Bit k is set if lane k belongs to a word.
 #[inline(always)]
 fn words(v: u8x64) -> u64
     ensures { result ≡ mask_l (map is_continue_byte v) }
@@ -119,7 +119,7 @@ fn words(v: u8x64) -> u64
         | v.simd_eq(u8x64::splat(b'_'))).to_bitmask()
 }
 
-/// Bit k is set where lane k is white space.
+/// Returns a mask. Bit k is set if lane k is white space.
 #[inline(always)]
 fn spaces(v: u8x64) -> u64
     ensures { result ≡ mask_l (map is_space_byte v) }
@@ -128,7 +128,7 @@ fn spaces(v: u8x64) -> u64
     (v.simd_eq(u8x64::splat(b' ')) | from_tab.simd_lt(u8x64::splat(5))).to_bitmask()
 }
 
-/// Bit k is set where bytes k - 1 and k are not both of a word, nor both white space.
+/// Returns a mask. Bit k is set unless bytes k - 1 and k both belong to a word or are both white space.
 #[inline(always)]
 fn apart(words: u64, spaces: u64) -> u64
     ensures first { bit result 0 ≡ false }
@@ -138,7 +138,8 @@ fn apart(words: u64, spaces: u64) -> u64
     !(((words << 1) & words) | ((spaces << 1) & spaces)) & !1
 }
 
-/// Where the runs of words and of white space end in the next 64 bytes: nothing where there are fewer.
+/// Returns where the runs of words and of white space end in the next 64 bytes. Returns no ends if fewer bytes are
+/// left.
 #[inline(never)]
 pub(crate) fn ends_of_runs(bytes: &[u8]) -> u64
     ensures { IsEnds bytes.now result }
@@ -150,7 +151,7 @@ pub(crate) fn ends_of_runs(bytes: &[u8]) -> u64
     apart(words(v), spaces(v))
 }
 
-/// How many bytes at the front are in the class. It mostly ends within 32 bytes.
+/// Returns how many bytes at the front are in the class. The run mostly ends within 32 bytes.
 #[inline(always)]
 pub(crate) fn run_end<C: ByteClass>(bytes: &[u8]) -> usize
     ensures value { result ≡ prefix_len C.passes bytes.now }
@@ -166,7 +167,7 @@ pub(crate) fn run_end<C: ByteClass>(bytes: &[u8]) -> usize
     stops.trailing_zeros() as usize
 }
 
-/// How many bytes at the front are in the class. Mostly the first one is not.
+/// Returns how many bytes at the front are in the class. Mostly the first byte is not.
 #[inline(always)]
 pub(crate) fn short_run_end<C: ByteClass>(bytes: &[u8]) -> usize
     ensures value { result ≡ prefix_len C.passes bytes.now }
@@ -178,7 +179,7 @@ pub(crate) fn short_run_end<C: ByteClass>(bytes: &[u8]) -> usize
     0
 }
 
-/// How many bytes at the front are in the class, 32 bytes after another.
+/// Returns how many bytes at the front are in the class. Looks at 32 bytes at a time.
 #[inline(never)]
 fn run_end_by_lanes<C: ByteClass>(bytes: &[u8]) -> usize
     ensures value { result ≡ prefix_len C.passes bytes.now }
@@ -195,7 +196,7 @@ fn run_end_by_lanes<C: ByteClass>(bytes: &[u8]) -> usize
     end + run_end_by_bytes::<C>(&bytes[end..])
 }
 
-/// How many bytes at the front are in the class, a byte after another.
+/// Returns how many bytes at the front are in the class. Looks at one byte at a time.
 #[inline(never)]
 fn run_end_by_bytes<C: ByteClass>(bytes: &[u8]) -> usize
     ensures value { result ≡ prefix_len C.passes bytes.now }
@@ -208,7 +209,8 @@ fn run_end_by_bytes<C: ByteClass>(bytes: &[u8]) -> usize
     end
 }
 
-/// The first place of the byte. It mostly is within 64 bytes: these are looked at before the search is called.
+/// Returns the first place of the byte. It is mostly within 64 bytes, so these are looked at before the search is
+/// called.
 #[inline(always)]
 pub(crate) fn find(stop: u8, bytes: &[u8]) -> Option<usize>
     ensures { IsFirstByte (is_byte stop) bytes.now result }
@@ -224,27 +226,32 @@ pub(crate) fn find(stop: u8, bytes: &[u8]) -> Option<usize>
     memchr(stop, bytes)
 }
 
-/// The place of the first quote that so many hashes follow, none or one, within the next 64 bytes. From 64 up it tells
-/// nothing.
+/// Returns the place of the first quote that `n_hashes` hashes follow, none or one. Returns it only if it is within
+/// the next 64 bytes and there are that many bytes.
 ///
-/// Which of the two it is costs no branch: it is hard to foresee.
+/// There is no branch on whether it is none or one, which is hard to predict.
 #[inline(always)]
-pub(crate) fn find_close(n_hashes: u32, bytes: &[u8]) -> usize
+pub(crate) fn find_close(n_hashes: u32, bytes: &[u8]) -> Option<usize>
     requires few { n_hashes ≤ 1 }
-    ensures here { result < 64 → closes n_hashes (drop result bytes.now) ≡ true }
-    ensures before { result < 64
-        → (k : ℕ) → k < result → closes n_hashes (drop k bytes.now) ≡ false }
+    ensures near { IfSome result (λ place. place < 64) }
+    ensures here { IfSome result (λ place. closes n_hashes (drop place bytes.now) ≡ true) }
+    ensures before { IfSome result
+        (λ place. (k : ℕ) → k < place → closes n_hashes (drop k bytes.now) ≡ false) }
 {
     if bytes.len() < 64 {
-        return 64;
+        return None;
     }
     let v = u8x64::from_slice(bytes);
     let quotes = v.simd_eq(u8x64::splat(b'"')).to_bitmask();
     let hashes = v.simd_eq(u8x64::splat(b'#')).to_bitmask();
-    followed(quotes, hashes, n_hashes).trailing_zeros() as usize
+    let found = followed(quotes, hashes, n_hashes);
+    if found == 0 {
+        return None;
+    }
+    Some(found.trailing_zeros() as usize)
 }
 
-/// Bit k is set where a quote stands at k and so many hashes follow it, none or one.
+/// Returns a mask. Bit k is set if a quote is at k and `n_hashes` hashes follow it, none or one.
 #[inline(always)]
 fn followed(quotes: u64, hashes: u64, n_hashes: u32) -> u64
     requires few { n_hashes ≤ 1 }
@@ -254,8 +261,8 @@ fn followed(quotes: u64, hashes: u64, n_hashes: u32) -> u64
     quotes & ((hashes >> 1) | u64::from(n_hashes).wrapping_sub(1))
 }
 
-/// The first place of either byte. Where such bytes stand together it is the first one, and else it mostly is within
-/// 32 bytes, which are looked at in the same way.
+/// Returns the first place of either byte. If such bytes come together it is the first byte, and otherwise it is
+/// mostly within 32 bytes. Both are looked at before the search is called.
 #[inline(always)]
 pub(crate) fn find_either(one: u8, two: u8, bytes: &[u8]) -> Option<usize>
     ensures { IsFirstByte (is_byte2 one two) bytes.now result }
@@ -273,7 +280,7 @@ pub(crate) fn find_either(one: u8, two: u8, bytes: &[u8]) -> Option<usize>
     memchr2(one, two, bytes)
 }
 
-/// Whether a word that ends there is an identifier, by the byte after it.
+/// Returns whether a word that ends at `end` is an identifier, as the byte after it determines.
 #[inline(always)]
 pub(crate) fn ends_word(bytes: &[u8], end: usize) -> bool
     ensures { result ≡ not (Scan.next_is turns_word (drop end bytes.now)) }
@@ -285,7 +292,7 @@ pub(crate) fn ends_word(bytes: &[u8], end: usize) -> bool
     }
 }
 
-/// Whether no white space outside ASCII stands there, by its first byte.
+/// Returns whether there is no white space outside ASCII at `end`, as the first byte there determines.
 #[inline(always)]
 pub(crate) fn ends_space(bytes: &[u8], end: usize) -> bool
     ensures { result ≡ not (Scan.next_is is_space_lead (drop end bytes.now)) }

@@ -9,9 +9,12 @@ use Rattle.rustc_lexer.specs.declared.token.Token.{Token}
 use Rattle.rustc_lexer.specs.Tokens.{tokens_by, tokens_of}
 use Rattle.rustc_lexer.specs.Answers.{first_in}
 use Rattle.rustc_lexer.specs.LanguageText.{part}
-use Rattle.rustc_lexer.specs.Edits.{IsMadeOf, IsWhole, MayGoOn, Stands, TakesSteps, is_over, known}
+use Rattle.rustc_lexer.specs.Edits.{IsMadeOf, IsRelexed, IsWhole, MayGoOn, TakesSteps, is_over, known}
+use Rattle.rustc_lexer.specs.Relexing.{IsUnderWay}
+use Rattle.rustc_lexer.specs.means.Relexing.{relexed_of}
 use Rattle.rustc_lexer.specs.Locality.{IsGrammar}
 use Rattle.rustc_lexer.specs.laws.Edition.{edition_grammar}
+use Rattle.rustc_lexer.proofs.RelexedLemmas.{relexed_is}
 use Rattle.rustc_lexer.proofs.RelexingLemmas.{over_met, few_lexed, counts_met}
 use Rattle.rustc_lexer_c.specs.declared.relex.CEdit.{CEdit}
 use Rattle.rustc_lexer_c.specs.declared.relex.CRelexing.{CRelexing}
@@ -75,17 +78,17 @@ module _ (edition : Edition) (text : List ℕ) (old : List CToken) (change : CEd
   abbrev pub first : List ℕ → Token
   first = first_in edition
 
-  pub over_is : (before insert : List ℕ) → IsMadeOf first before lens (change_of change) insert text → Stands first before (change_of change) text at → is_over text at ≡ at.met
+  pub over_is : (before insert : List ℕ) → IsMadeOf first before lens (change_of change) insert text → IsUnderWay first before (change_of change) text at → is_over text at ≡ at.met
   over_is before insert is stands = by_test at.met refl
     where
       by_test : (b : Bool) → at.met ≡ b → (at.met || eqb at.at (length text)) ≡ at.met
       by_test true e = ap (λ m. m || eqb at.at (length text)) e ∙ sym e
-      by_test false e = ap (λ m. m || eqb at.at (length text)) e ∙ over_met (edition_grammar edition) before lens insert text (change_of change) is at stands e
+      by_test false e = ap (λ m. m || eqb at.at (length text)) e ∙ over_met (edition_grammar edition) before lens insert text (change_of change) is at stands.stands e
 
   pub batch_is : count ≤ length buffer → TakesSteps first text (change_of change).new_stop begin count at → filled ≡ map token_numbers (take count (tokens_by first (drop begin.at text))) ++ drop count buffer → MayGoOn text (length old) at → (count < length buffer → is_over text at ≡ true) → begin.lexed ≡ lexed_before c
       → (c.stage ≢ 0 → begin.front ≡ front_of c)
-      → ((first : List ℕ → Token) (before insert : List ℕ) → IsGrammar first → IsMadeOf first before lens (change_of change) insert text → IsPassed first before (change_of change) text (length old) c → Stands first before (change_of change) text begin)
-      → ((before insert : List ℕ) → IsMadeOf first before lens (change_of change) insert text → Stands first before (change_of change) text begin → Stands first before (change_of change) text at × (tokens_by first (drop begin.at text) ≡ drop (known begin) (tokens_by first text)))
+      → ((first : List ℕ → Token) (before insert : List ℕ) → IsGrammar first → IsMadeOf first before lens (change_of change) insert text → IsPassed first before (change_of change) text (length old) c → IsUnderWay first before (change_of change) text begin)
+      → ((before insert : List ℕ) → IsMadeOf first before lens (change_of change) insert text → IsUnderWay first before (change_of change) text begin → IsUnderWay first before (change_of change) text at × (tokens_by first (drop begin.at text) ≡ drop (known begin) (tokens_by first text)))
       → IsRelexBatch edition text old change c buffer (numbers_of text (length old) at) filled count
   batch_is within steps tokens may over_of before_lexed begun_front begun stands = record {
     within = within;
@@ -117,6 +120,7 @@ module _ (edition : Edition) (text : List ℕ) (old : List CToken) (change : CEd
     relexed = λ before insert is passed.
         let law = edition_grammar edition in
         let so = stands before insert is (begun first before insert law is passed) in
+        let found : IsRelexed first before change.start change.old_stop insert (relexed_of first before change.start change.old_stop insert) = relexed_is law before is.is_text change.start change.old_stop insert is.inserted is.edit in
         let lexed = steps.lexed in
         let over = over_is before insert is so.0 in
         let same = relex_back text (length old) at may.number over in
@@ -129,16 +133,16 @@ module _ (edition : Edition) (text : List ℕ) (old : List CToken) (change : CEd
         record {
           passed = record {
             near = λ e. absurd (stage_some (is_over text at) e);
-            stands = λ _. subst (Stands first before (change_of change) text) (sym same) so.0;
+            under_way = λ _. subst (IsUnderWay first before (change_of change) text) (sym same) so.0;
           };
           tokens = filled_is;
-          more = written_more (tokens_of (part edition) text) at.front.number (lexed_before c) count at.lexed buffer filled (omega arith) so.0.inside filled_is;
-          few = few_lexed law before lens insert text (change_of change) is at so.0;
+          more = written_more (tokens_of (part edition) text) at.front.number (lexed_before c) count at.lexed buffer filled (omega arith) so.0.stands.inside filled_is;
+          few = (relexed_of first before change.start change.old_stop insert, found, few_lexed law before lens insert text (change_of change) is at so.0.stands);
           counts = λ e.
-              let met = counts_met law before lens insert text (change_of change) is at so.0 (sym over ∙ stage_met (is_over text at) e) in
-              met.1 ∙ ap (λ (n : ℕ). let r : Relexed = record { kept_front = at.front.number; lexed = at.lexed; kept_back = n - at.back.number } in r) (sym met.0 ∙ many);
+              let met = counts_met law before lens insert text (change_of change) is at so.0.stands (sym over ∙ stage_met (is_over text at) e) in
+              subst (IsRelexed first before change.start change.old_stop insert) (met.1 ∙ ap (λ (n : ℕ). let r : Relexed = record { kept_front = at.front.number; lexed = at.lexed; kept_back = n - at.back.number } in r) (sym met.0 ∙ many)) found;
           list = λ e are.
-              let met = counts_met law before lens insert text (change_of change) is at so.0 (sym over ∙ stage_met (is_over text at) e) in
+              let met = counts_met law before lens insert text (change_of change) is at so.0.stands (sym over ∙ stage_met (is_over text at) e) in
               list_whole (tokens_by first before) (tokens_by first text) at (length old - (length old - at.back.number)) old back are met.2;
         };
   }

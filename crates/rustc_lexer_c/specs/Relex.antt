@@ -4,12 +4,14 @@ use Rattle.std.specs.Str.{IsUtf8}
 use Rattle.rustc_lexer.specs.declared.edition.Edition.{Edition}
 use Rattle.rustc_lexer.specs.declared.relex.front.Bound.{Bound}
 use Rattle.rustc_lexer.specs.declared.relex.relexing.Change.{Change}
+use Rattle.rustc_lexer.specs.declared.relex.relexing.Relexed.{Relexed}
 use Rattle.rustc_lexer.specs.declared.relex.relexing.Relexing.{Relexing}
 use Rattle.rustc_lexer.specs.declared.token.Token.{Token}
 use Rattle.rustc_lexer.specs.Tokens.{tokens_by}
 use Rattle.rustc_lexer.specs.LanguageText.{edition_of_year}
 use Rattle.rustc_lexer.specs.Answers.{first_in}
-use Rattle.rustc_lexer.specs.Edits.{relexed_of, IsBound, IsChange, IsMadeOf, MayGoOn, Stands, is_over}
+use Rattle.rustc_lexer.specs.Edits.{IsBound, IsChange, IsMadeOf, IsRelexed, MayGoOn, is_over}
+use Rattle.rustc_lexer.specs.Relexing.{IsUnderWay}
 use Rattle.rustc_lexer.specs.Classes.{IsText}
 use Rattle.rustc_lexer_c.specs.declared.relex.CEdit.{CEdit}
 use Rattle.rustc_lexer_c.specs.declared.relex.CRelexing.{CRelexing}
@@ -44,7 +46,7 @@ MayRelex text count c = c.stage ≢ 0 → (c.kept_back ≤ count) × MayGoOn tex
 -- the numbers are those that a call may begin with, of which only a bound of the old tokens counts, or that a call left
 pub record IsPassed (first : List ℕ → Token) (before : List ℕ) (change : Change) (text : List ℕ) (count : ℕ) (c : CRelexing) : Type 0 where
   pub near : c.stage ≡ 0 → IsBound (tokens_by first before) (front_of c)
-  pub stands : c.stage ≢ 0 → Stands first before change text (relexing_of count c)
+  pub under_way : c.stage ≢ 0 → IsUnderWay first before change text (relexing_of count c)
 
 -- so many tokens of the present text past those of the front, as numbers
 abbrev pub written : List Token → ℕ → ℕ → List CToken
@@ -53,12 +55,12 @@ written tokens front lexed = map token_numbers (take lexed (drop front tokens))
 -- the tokens of the present text that follow the front and those of the calls before are written. Once the stage is 2
 -- the counts are those of the edit, and the list that has the old tokens of the front, all that was written, and the
 -- old tokens of the back is the tokens of the present text
-pub record IsRelexed (first : List ℕ → Token) (before : List ℕ) (edit : CEdit) (insert text : List ℕ) (old : List CToken) (c : CRelexing) (buffer : List CToken) (c' : CRelexing) (filled : List CToken) (count : ℕ) : Type 0 where
+pub record HasRelexed (first : List ℕ → Token) (before : List ℕ) (edit : CEdit) (insert text : List ℕ) (old : List CToken) (c : CRelexing) (buffer : List CToken) (c' : CRelexing) (filled : List CToken) (count : ℕ) : Type 0 where
   pub passed : IsPassed first before (change_of edit) text (length old) c'
   pub tokens : filled ≡ map token_numbers (take count (drop (c'.kept_front + lexed_before c) (tokens_by first text))) ++ drop count buffer
   pub more : written (tokens_by first text) c'.kept_front c'.lexed ≡ written (tokens_by first text) c'.kept_front (lexed_before c) ++ take count filled
-  pub few : c'.lexed ≤ (relexed_of first before edit.start edit.old_stop insert).lexed
-  pub counts : c'.stage ≡ 2 → relexed_of first before edit.start edit.old_stop insert ≡ record { kept_front = c'.kept_front; lexed = c'.lexed; kept_back = c'.kept_back }
+  pub few : (r : Relexed) × IsRelexed first before edit.start edit.old_stop insert r × (c'.lexed ≤ r.lexed)
+  pub counts : c'.stage ≡ 2 → IsRelexed first before edit.start edit.old_stop insert (record { kept_front = c'.kept_front; lexed = c'.lexed; kept_back = c'.kept_back })
   pub list : c'.stage ≡ 2 → old ≡ map token_numbers (tokens_by first before)
       → take c'.kept_front old ++ (written (tokens_by first text) c'.kept_front c'.lexed ++ drop (length old - c'.kept_back) old) ≡ map token_numbers (tokens_by first text)
 
@@ -72,7 +74,7 @@ pub record IsRelexBatch (edition : Edition) (text : List ℕ) (old : List CToken
   pub front : c.stage ≢ 0 → front_of c' ≡ front_of c
   pub may_relex : MayRelex text (length old) c'
   pub relexed : (before insert : List ℕ) → IsMadeOf (first_in edition) before (map (λ (t : CToken). t.len) old) (change_of edit) insert text → IsPassed (first_in edition) before (change_of edit) text (length old) c
-      → IsRelexed (first_in edition) before edit insert text old c buffer c' filled count
+      → HasRelexed (first_in edition) before edit insert text old c buffer c' filled count
 
 -- the status of a call that relexes
 pub record IsRelexStatus (bytes : List ℕ) (edit : CEdit) (year count : ℕ) (c : CRelexing) (status : ℕ) : Type 0 where

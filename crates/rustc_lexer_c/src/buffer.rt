@@ -1,10 +1,10 @@
-//! A buffer of a caller's, which is written from its front on.
+//! A caller's buffer, which is written from its front on.
 ghost use Rattle.std.specs.Prelude.{◌≡◌, ◌↔◌, IsOk};
 ghost use Rattle.rustc_lexer_c.specs.Buffer.{Appends, HasRoom};
 
 use std::fmt;
 
-/// A buffer of a caller's, of which the first `len` bytes are written.
+/// A caller's buffer, whose first `len` bytes are written.
 #[derive(Drop)]
 pub(crate) struct Buffer<'a> {
     pub(crate) bytes: &'a mut [u8],
@@ -12,7 +12,7 @@ pub(crate) struct Buffer<'a> {
 }
 
 impl<'a> Buffer<'a> {
-    /// A buffer of which nothing is written.
+    /// Creates a buffer of which nothing is written.
     pub(crate) fn new(bytes: &'a mut [u8]) -> Buffer<'a>
         ensures same_reference { result.bytes.ghost_name ≡ bytes.entry.ghost_name }
         ensures value { result.bytes.now ≡ bytes.old }
@@ -25,7 +25,7 @@ impl<'a> Buffer<'a> {
 impl<'a> fmt::Write for Buffer<'a> {
     ghost write_str_gives = { Appends };
 
-    /// Writes a text behind what is written, unless there is too little room for it.
+    /// Appends a text to what is written, unless there is too little room for it.
     fn write_str(&mut self, s: &str) -> fmt::Result
         ensures ok { IsOk result → Appends self.old s.now self.new }
         ensures buffer { IsOk result ↔ HasRoom self.old s.now }

@@ -1,4 +1,4 @@
-//! Classes of characters, each by its code.
+//! Classes of characters. A caller passes the code of a character.
 ghost use Rattle.std.specs.Prelude.{◌≡◌, false};
 ghost use Rattle.std.specs.Char.{IsScalar};
 ghost use Rattle.std.specs.Str.{IsUtf8, chars};
@@ -9,7 +9,7 @@ ghost use Rattle.rustc_lexer_c.specs.Numbers.{bool_number};
 use crate::status::{done, refuse, text_of};
 use rustc_lexer::{is_horizontal_whitespace, is_id_continue, is_id_start, is_ident, is_whitespace};
 
-/// Whether the character is white space in Rust. False of a number that is no character.
+/// Returns whether the character is white space in Rust. Returns false for a number that is not a character.
 #[unsafe(no_mangle)]
 pub extern "C" fn rustc_lexer_is_whitespace(code: u32) -> bool
     ensures class { IsScalar code → result ≡ Classes.is_whitespace code }
@@ -21,7 +21,7 @@ pub extern "C" fn rustc_lexer_is_whitespace(code: u32) -> bool
     }
 }
 
-/// Whether the character is a tab or a space. False of a number that is no character.
+/// Returns whether the character is a tab or a space. Returns false for a number that is not a character.
 #[unsafe(no_mangle)]
 pub extern "C" fn rustc_lexer_is_horizontal_whitespace(code: u32) -> bool
     ensures class { IsScalar code → result ≡ Classes.is_horizontal_whitespace code }
@@ -33,7 +33,7 @@ pub extern "C" fn rustc_lexer_is_horizontal_whitespace(code: u32) -> bool
     }
 }
 
-/// Whether an identifier may begin with the character. False of a number that is no character.
+/// Returns whether an identifier may begin with the character. Returns false for a number that is not a character.
 #[unsafe(no_mangle)]
 pub extern "C" fn rustc_lexer_is_id_start(code: u32) -> bool
     ensures class { IsScalar code → result ≡ Classes.is_id_start code }
@@ -45,7 +45,8 @@ pub extern "C" fn rustc_lexer_is_id_start(code: u32) -> bool
     }
 }
 
-/// Whether an identifier may go on with the character. False of a number that is no character.
+/// Returns whether an identifier may continue with the character. Returns false for a number that is not a
+/// character.
 #[unsafe(no_mangle)]
 pub extern "C" fn rustc_lexer_is_id_continue(code: u32) -> bool
     ensures class { IsScalar code → result ≡ Classes.is_id_continue code }
@@ -68,7 +69,7 @@ pub extern "C" fn rustc_lexer_is_ident(text: &[u8], is: &mut u32) -> u32
     }
 }
 
-/// Whether the text, which is UTF-8 of any length, is an identifier.
+/// Returns whether the text is an identifier. The text is UTF-8, of any length.
 #[unsafe(no_mangle)]
 pub extern "C" fn rustc_lexer_is_ident_unchecked(text: &[u8]) -> bool
     requires utf8 { IsUtf8 text.now }

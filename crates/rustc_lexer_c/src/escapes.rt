@@ -1,4 +1,4 @@
-//! What a literal stands for, and what is wrong in it.
+//! The units of a literal, and what is wrong in it.
 ghost use Rattle.std.specs.Prelude.{◌≡◌, ◌≢◌, ◌≤◌, length, max, false, List, [], ◌∷◌, None, map};
 ghost use Rattle.std.specs.Option.{IsSomeAnd};
 ghost use Rattle.std.specs.Result.{result_err};
@@ -16,7 +16,7 @@ use rustc_literal_escaper::{
 };
 use std::ops::Range;
 
-/// A unit of what a literal stands for, or what is wrong, and its place in bytes.
+/// A unit that a literal stands for, or an error or warning, and its place in bytes.
 #[repr(C)]
 #[derive(Clone, Copy, Debug, PartialEq, Eq)]
 pub struct CUnit {
@@ -24,15 +24,15 @@ pub struct CUnit {
     pub end: usize,
     /// 1 for a character, 2 for a byte, 3 for an error, 4 for a warning.
     pub kind: u32,
-    /// The character, the byte, or the number of what is wrong.
+    /// The character, the byte, or the number of the error or warning.
     pub value: u32,
 }
 
-/// Writes units of what stands between the quotes of a literal into the buffer, as many as there is room for, and their
-/// number into `count`. The first `passed` units are passed over.
+/// Writes units of the text between the quotes of a literal into the buffer, as many as there is room for, and
+/// their number into `count`. Skips the first `passed` units.
 ///
-/// `mode` is the number of the literal's kind, 3 to 10. Between single quotes there is one unit, whose place is all of
-/// the text. Each call tests the whole text, and reads it from its front.
+/// `mode` is the number of the literal's kind, 3 to 10. Between single quotes there is one unit, whose place is the
+/// whole text. Each call checks the whole text, and reads it from its front.
 #[unsafe(no_mangle)]
 pub extern "C" fn rustc_lexer_unescape(
     text: &[u8],
@@ -49,7 +49,7 @@ pub extern "C" fn rustc_lexer_unescape(
     }
 }
 
-/// Writes units of a text that `rustc_lexer_check` found to be UTF-8, which is not tested again.
+/// Writes units of a text that `rustc_lexer_check` found to be UTF-8. Does not check it again.
 #[unsafe(no_mangle)]
 pub extern "C" fn rustc_lexer_unescape_unchecked(
     text: &[u8],
@@ -67,10 +67,11 @@ pub extern "C" fn rustc_lexer_unescape_unchecked(
     }
 }
 
-/// Writes what is wrong in a literal, of which `text` stands between the quotes, as `rustc_lexer_unescape` writes its
-/// units. What is not wrong is passed over.
+/// Writes the errors and warnings of a literal in the same way as `rustc_lexer_unescape` writes its units. `text`
+/// is the text between the quotes. Skips what is not wrong.
 ///
-/// Between single quotes one thing is wrong at most, and its place reaches from 0 past the character that shows it.
+/// Between single quotes there is at most one error. Its place goes from 0 to the end of the character that shows
+/// it.
 #[unsafe(no_mangle)]
 pub extern "C" fn rustc_lexer_literal_errors(
     text: &[u8],
@@ -87,7 +88,7 @@ pub extern "C" fn rustc_lexer_literal_errors(
     }
 }
 
-/// Writes what is wrong in a text that `rustc_lexer_check` found to be UTF-8, which is not tested again.
+/// Writes the errors and warnings of a text that `rustc_lexer_check` found to be UTF-8. Does not check it again.
 #[unsafe(no_mangle)]
 pub extern "C" fn rustc_lexer_literal_errors_unchecked(
     text: &[u8],
@@ -105,16 +106,16 @@ pub extern "C" fn rustc_lexer_literal_errors_unchecked(
     }
 }
 
-/// What is listed of a literal.
+/// What a call lists of a literal.
 #[derive(Clone, Copy)]
 enum Listing {
-    /// What it stands for, and what is wrong in it.
+    /// What it stands for, and its errors and warnings.
     Units,
-    /// What is wrong in it.
+    /// Its errors and warnings.
     Errors,
 }
 
-/// Writes what is listed of a text.
+/// Writes the listing of a text.
 fn write(
     text: &str,
     listing: Listing,
@@ -137,7 +138,7 @@ fn write(
     }
 }
 
-/// The mode of a number.
+/// Returns the mode with this number, or `None` if there is none.
 fn mode_of(number: u32) -> Option<Mode>
     ensures { result ≡ spec.mode_of number }
 {
@@ -154,7 +155,7 @@ fn mode_of(number: u32) -> Option<Mode>
     }
 }
 
-/// Writes what is listed of a literal, and answers how many there are.
+/// Writes the listing of a literal. Returns how many units it wrote.
 fn fill(text: &str, listing: Listing, mode: Mode, passed: usize, buffer: &mut [CUnit]) -> usize
     ensures { spec.IsUnits (spec.listed listing mode text.now) passed buffer.old buffer.new result }
 {
@@ -164,7 +165,7 @@ fn fill(text: &str, listing: Listing, mode: Mode, passed: usize, buffer: &mut [C
     }
 }
 
-/// Writes units in a mode, and answers their number.
+/// Writes units in a mode. Returns how many it wrote.
 fn fill_units(text: &str, mode: Mode, passed: usize, buffer: &mut [CUnit]) -> usize
     ensures { spec.IsUnits (spec.units_of mode text.now) passed buffer.old buffer.new result }
 {
@@ -179,7 +180,7 @@ fn fill_units(text: &str, mode: Mode, passed: usize, buffer: &mut [CUnit]) -> us
     }
 }
 
-/// Writes units of what stands between double quotes.
+/// Writes units of the text between double quotes. Returns how many it wrote.
 ///
 /// It is inlined into each arm of its caller, so that the mode is known there.
 #[inline(always)]
@@ -191,7 +192,7 @@ fn fill_string(text: &str, mode: Mode, passed: usize, buffer: &mut [CUnit]) -> u
     fill_all(Meanings { elements, mode }, passed, buffer)
 }
 
-/// Writes the one unit, if it is not passed over, and there is room.
+/// Writes the one unit, if it is not skipped and there is room. Returns how many units it wrote.
 fn fill_one(unit: CUnit, passed: usize, buffer: &mut [CUnit]) -> usize
     ensures { spec.IsUnits (unit ∷ []) passed buffer.old buffer.new result }
 {
@@ -205,7 +206,7 @@ fn fill_one(unit: CUnit, passed: usize, buffer: &mut [CUnit]) -> usize
     1
 }
 
-/// The unit between single quotes.
+/// Returns the unit between single quotes.
 fn single_unit(text: &str, mode: Mode) -> CUnit
     ensures { result ≡ spec.single_unit mode text.now }
 {
@@ -215,7 +216,7 @@ fn single_unit(text: &str, mode: Mode) -> CUnit
     }
 }
 
-/// The elements between double quotes.
+/// Returns the elements between double quotes.
 #[inline(always)]
 fn elements_of(text: &str, mode: Mode) -> Elements<'_>
     ensures { result ≡ items_of (errors.is_raw mode) text.now }
@@ -226,19 +227,19 @@ fn elements_of(text: &str, mode: Mode) -> Elements<'_>
     }
 }
 
-/// Units that come one after another.
+/// An iterator over units.
 trait Units: Drop {
     ghost use Rattle.rustc_lexer_c.specs.declared.escapes.CUnit.{CUnit};
 
-    /// Those that are still to come.
+    /// The units that are left.
     ghost units: { Self → List CUnit };
 
-    /// The next one, or `None` past the last.
+    /// Returns the next unit, or `None` past the last one.
     fn next_unit(&mut self) -> Option<CUnit>
         ensures { TakesFirst (units self.old) result (units self.new) };
 }
 
-/// What elements stand for in a mode.
+/// The units that elements stand for in a mode.
 #[derive(Drop)]
 struct Meanings<'a> {
     elements: Elements<'a>,
@@ -255,7 +256,7 @@ impl<'a> Units for Meanings<'a> {
     }
 }
 
-/// What is wrong, and nothing else.
+/// The errors and warnings, and nothing else.
 impl<'a> Units for Faults<'a> {
     ghost units = { λ faults. spec.wrong_units faults };
 
@@ -266,7 +267,7 @@ impl<'a> Units for Faults<'a> {
     }
 }
 
-/// Writes units, past the first ones.
+/// Writes units, without the first ones, which it skips. Returns how many it wrote.
 #[inline(always)]
 fn fill_all<U: Units>(mut units: U, passed: usize, buffer: &mut [CUnit]) -> usize
     ensures { spec.IsUnits (U.units units) passed buffer.old buffer.new result }
@@ -289,7 +290,7 @@ fn fill_all<U: Units>(mut units: U, passed: usize, buffer: &mut [CUnit]) -> usiz
     count
 }
 
-/// What an element stands for between double quotes, as numbers.
+/// Returns what an element between double quotes stands for, as numbers.
 #[inline(always)]
 fn item_unit(mode: Mode, place: Range<usize>, element: Element) -> CUnit
     ensures { result ≡ spec.item_unit mode (place, element) }
@@ -302,7 +303,7 @@ fn item_unit(mode: Mode, place: Range<usize>, element: Element) -> CUnit
     }
 }
 
-/// A character as numbers, or what is wrong.
+/// Returns a character as numbers, or the error.
 fn char_unit(place: Range<usize>, meaning: Result<char, EscapeError>) -> CUnit
     ensures { result ≡ spec.coded_unit 1 place meaning }
 {
@@ -312,7 +313,7 @@ fn char_unit(place: Range<usize>, meaning: Result<char, EscapeError>) -> CUnit
     }
 }
 
-/// A byte as numbers, or what is wrong.
+/// Returns a byte as numbers, or the error.
 fn byte_unit(place: Range<usize>, meaning: Result<u8, EscapeError>) -> CUnit
     ensures { result ≡ spec.coded_unit 2 place meaning }
 {
@@ -322,7 +323,7 @@ fn byte_unit(place: Range<usize>, meaning: Result<u8, EscapeError>) -> CUnit
     }
 }
 
-/// A unit of a C string as numbers, or what is wrong.
+/// Returns a unit of a C string as numbers, or the error.
 fn mixed_unit(place: Range<usize>, element: Element) -> CUnit
     ensures { result ≡ spec.mixed_unit place (unit_of element) }
 {
@@ -332,7 +333,7 @@ fn mixed_unit(place: Range<usize>, element: Element) -> CUnit
     }
 }
 
-/// A unit of a C string as numbers, where nothing is wrong with it.
+/// Returns a unit of a C string with which nothing is wrong, as numbers.
 fn sound_unit(place: Range<usize>, element: Element) -> CUnit
     requires sound { None ≡ result_err (unit_of element) }
     ensures { result ≡ spec.mixed_unit place (unit_of element) }
@@ -346,7 +347,7 @@ fn sound_unit(place: Range<usize>, element: Element) -> CUnit
     }
 }
 
-/// A character of a raw C string as numbers, or what is wrong.
+/// Returns a character of a raw C string as numbers, or the error.
 fn raw_unit(place: Range<usize>, meaning: Result<NonZeroChar, EscapeError>) -> CUnit
     ensures { result ≡ spec.coded_unit 1 place meaning }
 {
@@ -356,14 +357,14 @@ fn raw_unit(place: Range<usize>, meaning: Result<NonZeroChar, EscapeError>) -> C
     }
 }
 
-/// What is wrong, as numbers.
+/// Returns an error or warning as numbers.
 fn wrong_unit(place: Range<usize>, error: EscapeError) -> CUnit
     ensures { result ≡ spec.wrong_unit place error }
 {
     unit_at(place, wrong_kind(error), error_number(error))
 }
 
-/// A unit of a kind.
+/// Returns a unit of a kind.
 fn unit_at(place: Range<usize>, kind: u32, value: u32) -> CUnit
     ensures { result ≡ spec.unit_at place kind value }
 {
@@ -375,7 +376,7 @@ fn unit_at(place: Range<usize>, kind: u32, value: u32) -> CUnit
     }
 }
 
-/// Whether what is wrong is an error or a warning.
+/// Returns the kind of the unit for an error or a warning.
 fn wrong_kind(error: EscapeError) -> u32
     ensures { result ≡ spec.wrong_kind error }
 {
@@ -385,7 +386,7 @@ fn wrong_kind(error: EscapeError) -> u32
     }
 }
 
-/// The number of what is wrong.
+/// Returns the number of an error or warning.
 fn error_number(error: EscapeError) -> u32
     ensures { result ≡ spec.error_number error }
 {

@@ -1,4 +1,4 @@
-//! Places in a text: the end of its shebang line, and how far its tokens are sure.
+//! Places in a text: the end of its shebang line, and the end of the tokens that are certain.
 ghost use Rattle.std.specs.Prelude.{◌≡◌, ◌≢◌};
 ghost use Rattle.std.specs.Str.{IsUtf8};
 ghost use Rattle.rustc_lexer.specs.Classes.{Fits};
@@ -13,7 +13,8 @@ ghost use Rattle.rustc_lexer_c.specs.Status.{IsTextStatus, Writes};
 use crate::status::{done, refuse, text_of, utf8_text_of};
 use rustc_lexer::{settled, strip_shebang};
 
-/// Writes the length of the shebang line at the front of a text, without the end of the line; 0 where there is none.
+/// Writes the length in bytes of the shebang line at the front of a text, without the end of the line, or 0 if
+/// there is none.
 #[unsafe(no_mangle)]
 pub extern "C" fn rustc_lexer_strip_shebang(text: &[u8], line_len: &mut usize) -> u32
     ensures { Writes text.now (Unit {0}) 0 (some_or_zero (shebang text.now)) 0 line_len.new result }
@@ -24,7 +25,8 @@ pub extern "C" fn rustc_lexer_strip_shebang(text: &[u8], line_len: &mut usize) -
     }
 }
 
-/// Writes the length of the shebang line of a text that `rustc_lexer_check` found to be UTF-8, which is not tested again.
+/// Writes the length of the shebang line of a text that `rustc_lexer_check` found to be UTF-8. Does not check it
+/// again.
 #[unsafe(no_mangle)]
 pub extern "C" fn rustc_lexer_strip_shebang_unchecked(text: &[u8], line_len: &mut usize) -> u32
     requires utf8 { IsUtf8 text.now }
@@ -36,8 +38,8 @@ pub extern "C" fn rustc_lexer_strip_shebang_unchecked(text: &[u8], line_len: &mu
     }
 }
 
-/// Writes the end of the last token that at least two characters follow, or 0. However the text goes on, its tokens
-/// up to there stay, where no frontmatter is allowed.
+/// Writes where the last token that at least two characters follow ends, or 0. However the text continues, its
+/// tokens up to there stay as they are, if no frontmatter is allowed.
 #[unsafe(no_mangle)]
 pub extern "C" fn rustc_lexer_settled(text: &[u8], end: &mut usize) -> u32
     ensures status { IsTextStatus text.now result }
@@ -51,7 +53,7 @@ pub extern "C" fn rustc_lexer_settled(text: &[u8], end: &mut usize) -> u32
     }
 }
 
-/// The length of the shebang line, or 0.
+/// Returns the length of the shebang line in bytes, or 0 if there is none.
 fn shebang_len(text: &str) -> usize
     requires fits { Fits text.now }
     ensures line { result ≡ some_or_zero (shebang text.now) }

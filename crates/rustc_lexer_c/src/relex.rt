@@ -1,11 +1,12 @@
-//! Relexing: the tokens of a text that was edited, by its old tokens.
+//! Lexes an edited text again, from its old tokens.
 ghost use Rattle.std.specs.Prelude.{◌≡◌, ◌≢◌, ◌↔◌, List, ℕ, Some, None, IfSome, length, map};
 ghost use Rattle.std.specs.Str.{IsUtf8};
 ghost use Rattle.rustc_lexer.specs.declared.edition.Edition.{Edition};
 ghost use Rattle.rustc_lexer.specs.declared.token.Token.{Token};
 ghost use Rattle.rustc_lexer.specs.Classes.{Fits};
 ghost use Rattle.rustc_lexer.specs.LanguageText.{edition_of_year};
-ghost use Rattle.rustc_lexer.specs.Edits.{IsChange, IsMadeOf, MayGoOn, Stands};
+ghost use Rattle.rustc_lexer.specs.Edits.{IsChange, IsMadeOf, MayGoOn};
+ghost use Rattle.rustc_lexer.specs.Relexing.{IsUnderWay};
 ghost use Rattle.rustc_lexer.specs.Locality.{IsGrammar};
 ghost use Rattle.rustc_lexer_c.specs.Relex as spec;
 
@@ -13,8 +14,8 @@ use crate::status::{OK, Refusal, refuse, text_of, utf8_text_of};
 use crate::token::CToken;
 use rustc_lexer::{Bound, Change, Edition, Measured, Relexing, Steps};
 
-/// An edit that was made, by its places in bytes: what stood from `start` up to `old_stop` was taken out, and what now
-/// stands from `start` up to `new_stop` was put in.
+/// An edit that was made, by its places in bytes. It took out what was from `start` up to `old_stop` in the old
+/// text, and put in what is from `start` up to `new_stop` in the present text.
 #[repr(C)]
 #[derive(Clone, Copy, Debug, PartialEq, Eq)]
 pub struct CEdit {
@@ -23,24 +24,24 @@ pub struct CEdit {
     pub new_stop: u32,
 }
 
-/// How far an edited text is lexed again.
+/// How far an edited text has been lexed again.
 #[repr(C)]
 #[derive(Clone, Copy, Debug, PartialEq, Eq)]
 pub struct CRelexing {
-    /// How many old tokens stay at the front. At stage 0: the number of any bound of the old tokens, where the search
-    /// for it begins.
+    /// How many old tokens stay at the front. At stage 0: the number of any bound of the old tokens, where the
+    /// search for the front begins.
     pub kept_front: usize,
-    /// Where they end, in bytes.
+    /// Where the tokens at the front end, in bytes.
     pub front_place: usize,
-    /// How many tokens were written, by all calls.
+    /// How many tokens all calls have written.
     pub lexed: usize,
     /// How many old tokens stay at the back, at stage 2.
     pub kept_back: usize,
-    /// Where they begin in the old text.
+    /// Where the tokens at the back begin in the old text.
     pub back_place: usize,
-    /// Where the tokens that were written end in the present text, and so where those at the back begin.
+    /// Where the tokens that were written end in the present text. At stage 2 those at the back begin there.
     pub at: usize,
-    /// 0 before the first call, 1 where there are more tokens to write, 2 where there are none.
+    /// 0 before the first call, 1 if there are more tokens to write, 2 if there are none.
     pub stage: usize,
 }
 
@@ -52,11 +53,12 @@ impl Measured for CToken {
     }
 }
 
-/// Writes the tokens of the present text that an edit asks for into the buffer, as many as there is room for, and their
-/// number into `count`. They stand between the old tokens that stay at the front and those that stay at the back.
+/// Writes the tokens of the present text that an edit makes necessary into the buffer, as many as there is room
+/// for, and their number into `count`. They come between the old tokens that stay at the front and those that stay
+/// at the back.
 ///
-/// `old` has the tokens of the text before the edit, of which only the lengths are read. Any others may be passed too,
-/// and then the answer means nothing.
+/// `old` has the tokens of the text before the edit, of which it reads only the lengths. Any other tokens may be
+/// passed too, but then the answer means nothing.
 #[unsafe(no_mangle)]
 pub extern "C" fn rustc_lexer_relex(
     text: &[u8],
@@ -76,8 +78,8 @@ pub extern "C" fn rustc_lexer_relex(
     }
 }
 
-/// Relexes a text that `rustc_lexer_check` found to be UTF-8, which is not tested again. All else is as in
-/// `rustc_lexer_relex`.
+/// Relexes a text that `rustc_lexer_check` found to be UTF-8. Does not check it again. Otherwise it does what
+/// `rustc_lexer_relex` does.
 #[unsafe(no_mangle)]
 pub extern "C" fn rustc_lexer_relex_unchecked(
     text: &[u8],
@@ -131,14 +133,14 @@ fn relex(
     OK
 }
 
-/// The edition of a year.
+/// Returns the edition with this year, or `None` if there is none.
 pub(crate) fn edition_of(year: u32) -> Option<Edition>
     ensures { result ≡ edition_of_year year }
 {
     Edition::try_from(u16::try_from(year).ok()?).ok()
 }
 
-/// What the edit changed.
+/// Returns what the edit changed.
 fn change_of(edit: &CEdit) -> Change
     ensures { result ≡ spec.change_of edit.now }
 {
@@ -149,7 +151,7 @@ fn change_of(edit: &CEdit) -> Change
     }
 }
 
-/// Where to begin or to go on, or `None` where the numbers are none that a call left.
+/// Returns where to begin or to go on, or `None` if no call left these numbers.
 fn standing(text: &str, old: &[CToken], change: Change, relexing: &CRelexing) -> Option<Relexing>
     requires fits { Fits text.now }
     requires change { IsChange text.now change }
@@ -160,7 +162,7 @@ fn standing(text: &str, old: &[CToken], change: Change, relexing: &CRelexing) ->
         × ((first : List ℕ → Token) (before insert : List ℕ) → IsGrammar first
         → IsMadeOf first before (map (λ (t : CToken). t.len) old.now) change insert text.now
         → spec.IsPassed first before change text.now (length old.now) relexing.now
-        → Stands first before change text.now at)) }
+        → IsUnderWay first before change text.now at)) }
 {
     let front = Bound {
         number: relexing.kept_front,
@@ -189,7 +191,7 @@ fn standing(text: &str, old: &[CToken], change: Change, relexing: &CRelexing) ->
     }
 }
 
-/// How far it is relexed, as numbers.
+/// Returns how far the text is relexed, as numbers.
 fn relexing_numbers(at: &Relexing, text: &str, old_count: usize) -> CRelexing
     requires may_go_on { MayGoOn text.now old_count at.now }
     ensures { result ≡ spec.numbers_of text.now old_count at.now }

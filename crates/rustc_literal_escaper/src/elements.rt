@@ -1,4 +1,4 @@
-//! The elements of what stands between double quotes.
+//! The elements of the text between double quotes.
 ghost use Rattle.std.specs.Prelude.{◌≡◌, ◌≤◌, ◌∷◌, ℕ, None, true, false, length, MatchOption};
 ghost use Rattle.std.specs.Iterator.{at_most};
 ghost use Rattle.rustc_literal_escaper.specs.Elements.{items_of, TakesFirst};
@@ -17,15 +17,17 @@ use std::iter::Iterator;
 use std::marker::Model;
 use std::ops::Range;
 
-/// An iterator over the elements of a string, each with its place in bytes, made by [`Elements::new`] or [`Elements::new_raw`].
+/// An iterator over the elements of a string, each with its place in bytes.
+///
+/// [`Elements::new`] and [`Elements::new_raw`] return it.
 #[derive(Drop)]
 pub struct Elements<'a> {
     rest: &'a str,
     /// How many bytes the text has.
     total: usize,
-    /// Whether it is a raw string's.
+    /// Whether the text is that of a raw string.
     raw: bool,
-    /// What comes before the elements of the rest.
+    /// The item that comes before the elements of the rest.
     waiting: Option<(Range<usize>, Element)>,
 }
 
@@ -43,7 +45,7 @@ impl<'a> Model for Elements<'a> {
     ghost invariant = { λ e. length e.rest.now ≤ e.total };
 }
 
-/// The elements of a raw string or another.
+/// Returns an iterator over the elements of a raw string, or of a string that may have escapes.
 #[inline(always)]
 pub(crate) fn elements_of(src: &str, raw: bool) -> Elements<'_>
     ensures items { result ≡ items_of raw src.now }
@@ -60,7 +62,8 @@ pub(crate) fn elements_of(src: &str, raw: bool) -> Elements<'_>
 }
 
 impl<'a> Elements<'a> {
-    /// The elements of `src`, which is what stands between the quotes of a string, byte string or C string.
+    /// Returns an iterator over the elements of `src`, the text between the quotes of a string, byte string or C
+    /// string.
     pub fn new(src: &'a str) -> Elements<'a>
         ensures items { result ≡ items_of false src.now }
         ensures plain { StandsForItself false src.now }
@@ -70,7 +73,7 @@ impl<'a> Elements<'a> {
         elements_of(src, false)
     }
 
-    /// The elements of `src`, which is what stands between the quotes of a raw string, of any kind.
+    /// Returns an iterator over the elements of `src`, the text between the quotes of a raw string of any kind.
     pub fn new_raw(src: &'a str) -> Elements<'a>
         ensures items { result ≡ items_of true src.now }
         ensures plain { StandsForItself true src.now }
@@ -80,9 +83,9 @@ impl<'a> Elements<'a> {
         elements_of(src, true)
     }
 
-    /// The next thing that is wrong in a literal of this kind, and its place; the elements before it are passed over.
+    /// Returns the next error or warning in a literal of this kind, and its place. It skips the elements before.
     ///
-    /// It is `None` where nothing is wrong any more. Warnings come too.
+    /// Returns `None` if nothing more is wrong.
     #[inline(always)]
     pub(crate) fn next_fault(&mut self, mode: Mode) -> Option<(Range<usize>, EscapeError)>
         ensures { TakesFirst (errors_in mode self.old) result (errors_in mode self.new) }
@@ -119,9 +122,9 @@ impl<'a> Elements<'a> {
         }
     }
 
-    /// The next element, where it is a plain character.
+    /// Returns the next element if it is a plain character.
     ///
-    /// A loop over these alone is fast. Where it is `None`, another element may come.
+    /// A loop over these alone is fast. After `None`, another element may come.
     #[inline(always)]
     pub(crate) fn next_plain(&mut self) -> Option<(Range<usize>, char)>
         ensures { MatchOption result (self.new ≡ self.old)
@@ -135,7 +138,7 @@ impl<'a> Elements<'a> {
         Some(item)
     }
 
-    /// The next element, where it is an escape of a byte.
+    /// Returns the next element if it is an escape of a byte.
     #[inline(always)]
     pub(crate) fn next_byte(&mut self) -> Option<(Range<usize>, u8)>
         ensures { MatchOption result (self.new ≡ self.old)
@@ -149,9 +152,9 @@ impl<'a> Elements<'a> {
         Some(item)
     }
 
-    /// What waits before the elements of the rest, if anything does.
+    /// Returns the item that waits before the elements of the rest, if there is one.
     ///
-    /// A loop that asks for it behind each line end knows that nothing waits elsewhere.
+    /// A loop that asks for it after each line end knows that nothing waits elsewhere.
     #[inline(always)]
     pub(crate) fn next_waiting(&mut self) -> Option<(Range<usize>, Element)>
         ensures { MatchOption result (self.new ≡ self.old) (λ r. self.old ≡ r ∷ self.new) }
@@ -159,9 +162,9 @@ impl<'a> Elements<'a> {
         self.waiting.take()
     }
 
-    /// The next element, where it is told alone: not a warning of a line end that is skipped.
+    /// Returns the next element if it comes alone: if it is not a warning about a skipped line end.
     ///
-    /// It is `None` where such a line end stands next, and past the last element.
+    /// Returns `None` if such a line end is next, and past the last element.
     #[inline(always)]
     pub(crate) fn next_alone(&mut self) -> Option<(Range<usize>, Element)>
         ensures { MatchOption result (self.new ≡ self.old) (λ r. self.old ≡ r ∷ self.new) }
@@ -174,10 +177,10 @@ impl<'a> Elements<'a> {
         Some(item)
     }
 
-    /// The next element, whatever it is, or `None` past the last one.
+    /// Returns the next element, whatever it is, or `None` past the last one.
     ///
-    /// It has the large locals that [`Elements::next_alone`] and [`Elements::next_byte`] go without, and is asked where one
-    /// of these is `None`.
+    /// It has the large local variables that [`Elements::next_alone`] and [`Elements::next_byte`] do without. So it
+    /// is called only when one of these returns `None`.
     #[inline(always)]
     pub(crate) fn next_by_steps(&mut self) -> Option<(Range<usize>, Element)>
         ensures { TakesFirst self.old result self.new }
@@ -195,9 +198,9 @@ impl<'a> Elements<'a> {
         first
     }
 
-    /// Passes over simple characters in front. Nothing is wrong with any of them in any kind of string.
+    /// Skips simple characters at the front. They are wrong in no kind of string.
     ///
-    /// Where a character that is not in ASCII stands next, it does not look for them.
+    /// It does not look for them if the next character is outside ASCII.
     #[inline(always)]
     pub(crate) fn skip_simple(&mut self)
         ensures same { (mode : Mode) → errors_in mode self.new ≡ errors_in mode self.old }
@@ -209,7 +212,7 @@ impl<'a> Elements<'a> {
         }
     }
 
-    /// Passes over the plain characters in front, where nothing is wrong with any of them in this mode.
+    /// Skips the plain characters at the front, if no plain character is wrong in this mode.
     #[inline(always)]
     pub(crate) fn skip_plain(&mut self, mode: Mode)
         ensures same { errors_in mode self.new ≡ errors_in mode self.old }
@@ -221,7 +224,7 @@ impl<'a> Elements<'a> {
     }
 }
 
-/// Whether no plain character is wrong in such a literal.
+/// Returns whether no plain character is wrong in such a literal.
 #[inline(always)]
 pub(crate) fn takes_all(mode: Mode) -> bool
     ensures { result ≡ true → (c : ℕ) → error_of mode (Element.Plain c) ≡ None }
@@ -236,7 +239,7 @@ impl<'a> Iterator for Elements<'a> {
 
     ghost remaining = { λ s. at_most (length s) };
 
-    /// The next element, or `None` past the last one, from then on.
+    /// Returns the next element. Past the last one it returns `None`, and does so from then on.
     #[inline(always)]
     fn next(&mut self) -> Option<(Range<usize>, Element)> {
         if let Some(item) = self.next_alone() {

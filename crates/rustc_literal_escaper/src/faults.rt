@@ -1,4 +1,4 @@
-//! What is wrong in a literal, one thing after another.
+//! The errors and warnings of a literal, one after another.
 ghost use Rattle.std.specs.Prelude.{◌≡◌, ◌++◌, length};
 ghost use Rattle.std.specs.Iterator.{at_most};
 ghost use Rattle.rustc_literal_escaper.specs.Elements.{TakesFirst};
@@ -12,9 +12,10 @@ use std::iter::Iterator;
 use std::marker::Model;
 use std::ops::Range;
 
-/// An iterator over all that is wrong in a literal, warnings too, each with its place in bytes.
+/// An iterator over the errors and warnings of a literal, each with its place in bytes.
 ///
-/// It gives what [`check_for_errors`](crate::check_for_errors) calls its callback with, in that order:
+/// It returns the items with which [`check_for_errors`](crate::check_for_errors) calls its callback, in the same
+/// order:
 ///
 /// ```ignore
 /// for (place, error) in Faults::new(r"a\q", Mode::Str) {
@@ -23,7 +24,7 @@ use std::ops::Range;
 /// ```
 #[derive(Drop)]
 pub struct Faults<'a> {
-    /// What is wrong between single quotes, until it is given out.
+    /// The error between single quotes, until it is returned.
     alone: Option<(Range<usize>, EscapeError)>,
     elements: Elements<'a>,
     mode: Mode,
@@ -40,7 +41,8 @@ impl<'a> Model for Faults<'a> {
 }
 
 impl<'a> Faults<'a> {
-    /// What is wrong in a literal of this kind, of which `src` stands between the quotes.
+    /// Returns an iterator over the errors and warnings of a literal of this kind. `src` is the text between the
+    /// quotes.
     pub fn new(src: &'a str, mode: Mode) -> Faults<'a>
         ensures { result ≡ spec.errors_of mode src.now }
     {
@@ -66,7 +68,7 @@ impl<'a> Iterator for Faults<'a> {
 
     ghost remaining = { λ s. at_most (length s) };
 
-    /// The next thing that is wrong, or `None` past the last one, from then on.
+    /// Returns the next error or warning. Past the last one it returns `None`, and does so from then on.
     #[inline]
     fn next(&mut self) -> Option<(Range<usize>, EscapeError)> {
         if self.alone.is_some() {

@@ -1,11 +1,11 @@
-//! Characters at the front of a text.
+//! Reads the characters at the front of a text.
 ghost use Rattle.std.specs.Prelude.{◌≡◌, ◌<◌, ◌≤◌, true, false, ◌∷◌, [], length, IfSome, MatchOption};
 ghost use Rattle.std.specs.Str.{chars, IsUtf8};
 ghost use Rattle.rustc_literal_escaper.specs.Plain.{is_plain, Passes};
 
 use memchr::{memchr, memchr3};
 
-/// The first character and what follows it.
+/// Returns the first character and the text after it, or `None` if the text is empty.
 #[inline(always)]
 pub(crate) fn split_first(rest: &str) -> Option<(char, &str)>
     ensures { MatchOption result (chars rest.now ≡ [])
@@ -17,9 +17,9 @@ pub(crate) fn split_first(rest: &str) -> Option<(char, &str)>
     Some((first, chars.as_str()))
 }
 
-/// The first character and what follows it, where it is in ASCII.
+/// Returns the first character and the text after it if the character is in ASCII.
 ///
-/// Its first byte tells that, so no character of several bytes is put together.
+/// The first byte determines that, so it puts no character of several bytes together.
 #[inline(always)]
 pub(crate) fn split_ascii(rest: &str) -> Option<(char, &str)>
     ensures { IfSome result (λ r. (chars rest.now ≡ r.0 ∷ chars r.1.now)
@@ -32,7 +32,7 @@ pub(crate) fn split_ascii(rest: &str) -> Option<(char, &str)>
     split_first(rest)
 }
 
-/// What is left past the plain characters in front.
+/// Returns the text after the plain characters at the front.
 pub(crate) fn past_plain(rest: &str, raw: bool) -> &str
     ensures passes { Passes (is_plain raw) (chars rest.now) (chars result.now) }
     ensures text { IsUtf8 result.now }
@@ -45,7 +45,7 @@ pub(crate) fn past_plain(rest: &str, raw: bool) -> &str
     }
 }
 
-/// What is left of a raw string past its plain characters in front: from the first carriage return on.
+/// Returns the text after the plain characters at the front of a raw string: from the first carriage return on.
 fn past_plain_raw(rest: &str) -> &str
     ensures passes { Passes (is_plain true) (chars rest.now) (chars result.now) }
     ensures text { IsUtf8 result.now }
@@ -57,7 +57,8 @@ fn past_plain_raw(rest: &str) -> &str
     }
 }
 
-/// What is left past them of a string that may have escapes: from the first character that is not plain on.
+/// Returns the text after the plain characters at the front of a string that may have escapes: from the first
+/// character that is not plain on.
 fn past_plain_escaped(rest: &str) -> &str
     ensures passes { Passes (is_plain false) (chars rest.now) (chars result.now) }
     ensures text { IsUtf8 result.now }

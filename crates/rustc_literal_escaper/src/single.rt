@@ -1,4 +1,4 @@
-//! Characters and bytes.
+//! Reads characters and bytes, the literals between single quotes.
 ghost use Rattle.std.specs.Prelude.{◌≡◌, ◌≤◌, ◌<◌, MatchOption, [], length};
 ghost use Rattle.std.specs.Str.{chars, IsUtf8};
 ghost use Rattle.rustc_literal_escaper.specs.RoundTrip.{ByteComesBack, CharComesBack};
@@ -11,7 +11,10 @@ use crate::escape::escape;
 use crate::scan::split_first;
 use crate::strings::{AsByte, AsChar, Meaning};
 
-/// The character that a character literal stands for, of which `src` is what stands between the quotes.
+/// Returns the character that a character literal stands for. `src` is the text between its quotes. `Err` says what
+/// is wrong in it.
+///
+/// Rust Reference, [Character literals](https://doc.rust-lang.org/reference/tokens.html#character-literals).
 ///
 /// ```ignore
 /// unescape_char("a") // Ok('a')
@@ -25,7 +28,10 @@ pub fn unescape_char(src: &str) -> Result<char, EscapeError>
     read::<AsChar>(src)
 }
 
-/// The byte that a byte literal stands for, of which `src` is what stands between the quotes.
+/// Returns the byte that a byte literal stands for. `src` is the text between its quotes. `Err` says what is wrong
+/// in it.
+///
+/// Rust Reference, [Byte literals](https://doc.rust-lang.org/reference/tokens.html#byte-literals).
 pub fn unescape_byte(src: &str) -> Result<u8, EscapeError>
     ensures literal { result ≡ byte_literal (chars src.now) }
     ensures escapes { ByteComesBack }
@@ -33,7 +39,7 @@ pub fn unescape_byte(src: &str) -> Result<u8, EscapeError>
     read::<AsByte>(src)
 }
 
-/// What the one element stands for, if nothing is left past it.
+/// Returns what the only element stands for, if no text is left after it.
 fn read<M: Meaning>(src: &str) -> Result<M::Meant, EscapeError>
     ensures { result ≡ spec.literal M.meaning (chars src.now) }
 {
@@ -48,7 +54,7 @@ fn read<M: Meaning>(src: &str) -> Result<M::Meant, EscapeError>
     }
 }
 
-/// The element at the front, between single quotes, and what is left past it.
+/// Returns the first element between single quotes, and the text after it.
 #[inline(always)]
 pub(crate) fn single(src: &str) -> Option<(Element, &str)>
     ensures { MatchOption result (chars src.now ≡ [])
@@ -60,7 +66,7 @@ pub(crate) fn single(src: &str) -> Option<(Element, &str)>
     Some((element, left))
 }
 
-/// The element that begins with the character `c`, and what is left past it.
+/// Returns the element that begins with the character `c`, and the text after it.
 #[inline(always)]
 fn first(c: char, tail: &str) -> (Element, &str)
     ensures shorter { length result.1.now ≤ length tail.now }
@@ -74,7 +80,7 @@ fn first(c: char, tail: &str) -> (Element, &str)
     }
 }
 
-/// What a character that is not escaped is between single quotes.
+/// Returns the element for a character that is not escaped, between single quotes.
 #[inline(always)]
 fn unescaped(c: char) -> Element
     ensures { result ≡ spec.unescaped c }

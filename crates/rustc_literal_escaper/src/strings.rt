@@ -1,4 +1,4 @@
-//! Strings of every kind, by a callback.
+//! Reads strings of every kind, and passes their units to a callback.
 ghost use Rattle.std.specs.Prelude.{◌≡◌, ◌≤◌, true, false, length, map};
 ghost use Rattle.std.specs.List.{FoldsTo, list_all};
 ghost use Rattle.std.specs.Option.{option_to_list};
@@ -15,13 +15,15 @@ use crate::steps::{byte_at, is_plain, line_at, lone_element, more_lines, more_sp
 use crate::unit::{MixedUnit, NonZeroChar};
 use std::ops::Range;
 
-/// Calls `callback` with each character that a string stands for, or what is wrong, and its place in bytes.
+/// Calls `callback` with each character that a string stands for, or with what is wrong, and its place in bytes.
 ///
-/// `src` is what stands between the quotes. The calls are in the order of the text. A place reaches from the
-/// first byte to the one past the last, and both are between characters.
+/// `src` is the text between the quotes. The calls come in the order of the text. A place goes from the first byte
+/// up to the one past the last, and both ends are between characters.
 ///
-/// A backslash at the end of a line stands for nothing, and no call tells of it. Two calls may warn of the
-/// white space past it: their places begin at the backslash.
+/// A backslash at the end of a line stands for nothing, so it has no call. Two calls may warn about the white space
+/// after it. Their places begin at the backslash.
+///
+/// Rust Reference, [String literals](https://doc.rust-lang.org/reference/tokens.html#string-literals).
 pub fn unescape_str<F: FnMut(Range<usize>, Result<char, EscapeError>)>(src: &str, mut callback: F)
     requires callable { F.IsAlwaysCallable callback }
     ensures calls { (last : F) × FoldsTo (λ f item g. F.step f item.0 (char_of item.1) tt g)
@@ -30,9 +32,11 @@ pub fn unescape_str<F: FnMut(Range<usize>, Result<char, EscapeError>)>(src: &str
     each_unit::<AsChar, F>(src, false, &mut callback);
 }
 
-/// Calls `callback` with each byte that a byte string stands for, or what is wrong, and its place.
+/// Calls `callback` with each byte that a byte string stands for, or with what is wrong, and its place.
 ///
-/// It is as [`unescape_str`] is.
+/// It calls in the same way as [`unescape_str`].
+///
+/// Rust Reference, [Byte string literals](https://doc.rust-lang.org/reference/tokens.html#byte-string-literals).
 pub fn unescape_byte_str<F: FnMut(Range<usize>, Result<u8, EscapeError>)>(
     src: &str,
     mut callback: F,
@@ -44,9 +48,11 @@ pub fn unescape_byte_str<F: FnMut(Range<usize>, Result<u8, EscapeError>)>(
     each_unit::<AsByte, F>(src, false, &mut callback);
 }
 
-/// Calls `callback` with each unit that a C string stands for, or what is wrong, and its place.
+/// Calls `callback` with each unit that a C string stands for, or with what is wrong, and its place.
 ///
-/// It is as [`unescape_str`] is.
+/// It calls in the same way as [`unescape_str`].
+///
+/// Rust Reference, [C string literals](https://doc.rust-lang.org/reference/tokens.html#c-string-literals).
 pub fn unescape_c_str<F: FnMut(Range<usize>, Result<MixedUnit, EscapeError>)>(
     src: &str,
     mut callback: F,
@@ -58,9 +64,11 @@ pub fn unescape_c_str<F: FnMut(Range<usize>, Result<MixedUnit, EscapeError>)>(
     each_unit::<AsMixedUnit, F>(src, false, &mut callback);
 }
 
-/// Calls `callback` with each character of a raw string, or what is wrong, and its place.
+/// Calls `callback` with each character of a raw string, or with what is wrong, and its place.
 ///
-/// Nothing is an escape there, and only a carriage return is wrong.
+/// A raw string has no escapes, and only a carriage return is wrong in it.
+///
+/// Rust Reference, [Raw string literals](https://doc.rust-lang.org/reference/tokens.html#raw-string-literals).
 pub fn check_raw_str<F: FnMut(Range<usize>, Result<char, EscapeError>)>(src: &str, mut callback: F)
     requires callable { F.IsAlwaysCallable callback }
     ensures calls { (last : F) × FoldsTo (λ f item g. F.step f item.0 (char_of item.1) tt g)
@@ -69,9 +77,12 @@ pub fn check_raw_str<F: FnMut(Range<usize>, Result<char, EscapeError>)>(src: &st
     each_unit::<AsChar, F>(src, true, &mut callback);
 }
 
-/// Calls `callback` with each byte of a raw byte string, or what is wrong, and its place.
+/// Calls `callback` with each byte of a raw byte string, or with what is wrong, and its place.
 ///
-/// A carriage return is wrong, and a character that is not in ASCII.
+/// A carriage return and a character outside ASCII are wrong in it.
+///
+/// Rust Reference, [Raw byte string
+/// literals](https://doc.rust-lang.org/reference/tokens.html#raw-byte-string-literals).
 pub fn check_raw_byte_str<F: FnMut(Range<usize>, Result<u8, EscapeError>)>(
     src: &str,
     mut callback: F,
@@ -83,9 +94,11 @@ pub fn check_raw_byte_str<F: FnMut(Range<usize>, Result<u8, EscapeError>)>(
     each_unit::<AsByte, F>(src, true, &mut callback);
 }
 
-/// Calls `callback` with each character of a raw C string, or what is wrong, and its place.
+/// Calls `callback` with each character of a raw C string, or with what is wrong, and its place.
 ///
-/// A carriage return is wrong, and U+0000.
+/// A carriage return and U+0000 are wrong in it.
+///
+/// Rust Reference, [Raw C string literals](https://doc.rust-lang.org/reference/tokens.html#raw-c-string-literals).
 pub fn check_raw_c_str<F: FnMut(Range<usize>, Result<NonZeroChar, EscapeError>)>(
     src: &str,
     mut callback: F,
@@ -97,7 +110,7 @@ pub fn check_raw_c_str<F: FnMut(Range<usize>, Result<NonZeroChar, EscapeError>)>
     each_unit::<AsRawUnit, F>(src, true, &mut callback);
 }
 
-/// What the elements of one kind of string stand for.
+/// The meaning of elements in one kind of string.
 pub(crate) trait Meaning {
     ghost use Rattle.std.specs.Prelude.{◌≡◌, true, Result};
     ghost use Rattle.rustc_literal_escaper.specs.declared.element.Element.{Element};
@@ -110,11 +123,11 @@ pub(crate) trait Meaning {
 
     ghost meaning: { Element → Result Self.Meant EscapeError };
 
-    /// What an element stands for.
+    /// Returns what an element stands for.
     fn of(element: Element) -> Result<Self::Meant, EscapeError>
         ensures { result ≡ meaning element };
 
-    /// What a byte of ASCII that is not 0 stands for, where it is not escaped.
+    /// Returns what a byte of ASCII other than 0 stands for when it is not escaped.
     #[inline(always)]
     fn of_fine(byte: u8) -> Result<Self::Meant, EscapeError>
         requires fine { is_fine byte ≡ true }
@@ -123,9 +136,10 @@ pub(crate) trait Meaning {
         Self::of(Element::Plain(byte as char))
     }
 
-    /// What a character of a raw string stands for.
+    /// Returns what a character of a raw string stands for.
     ///
-    /// Each way knows what kind of element it has, so the compiler makes none and asks for no kind.
+    /// Each implementation knows what kind of element it has, so the compiler neither makes an element nor looks at
+    /// its kind.
     #[inline(always)]
     fn of_raw(c: char) -> Result<Self::Meant, EscapeError>
         ensures { result ≡ meaning (raw_element c) }
@@ -138,7 +152,7 @@ pub(crate) trait Meaning {
     }
 }
 
-/// What strings stand for: characters.
+/// The meaning in strings: characters.
 pub(crate) struct AsChar;
 
 impl Meaning for AsChar {
@@ -154,7 +168,7 @@ impl Meaning for AsChar {
     }
 }
 
-/// What byte strings and raw ones stand for: bytes.
+/// The meaning in byte strings and raw byte strings: bytes.
 pub(crate) struct AsByte;
 
 impl Meaning for AsByte {
@@ -175,7 +189,7 @@ impl Meaning for AsByte {
     }
 }
 
-/// What C strings stand for: characters and bytes.
+/// The meaning in C strings: characters and bytes.
 struct AsMixedUnit;
 
 impl Meaning for AsMixedUnit {
@@ -196,7 +210,7 @@ impl Meaning for AsMixedUnit {
     }
 }
 
-/// What raw C strings stand for: characters that are not U+0000.
+/// The meaning in raw C strings: characters other than U+0000.
 struct AsRawUnit;
 
 impl Meaning for AsRawUnit {
@@ -225,10 +239,10 @@ impl Meaning for AsRawUnit {
     }
 }
 
-/// Calls `callback` with what each element of a text stands for, and its place, and for nothing else.
+/// Calls `callback` with what each element of a text stands for and its place, and with nothing else.
 ///
-/// That is said of the closure as it is left here. One that is passed by value is let go at the end of its call, and no
-/// clause can speak of it there.
+/// The contract is about the closure as it is left here. A closure that is passed by value is dropped at the end of
+/// its call, and no clause can name it there.
 #[inline(always)]
 fn each_unit<M: Meaning, F: FnMut(Range<usize>, Result<M::Meant, EscapeError>)>(
     src: &str,
@@ -246,10 +260,10 @@ fn each_unit<M: Meaning, F: FnMut(Range<usize>, Result<M::Meant, EscapeError>)>(
     }
 }
 
-/// Calls `callback` with what each element of what is left of a text of `total` bytes stands for, and its place.
+/// Calls `callback` with what each element in the rest of a text of `total` bytes stands for, and its place.
 ///
-/// Plain characters and escapes of a byte have a call of their own, which the compiler makes short. Behind a plain character
-/// a run of simple ones is looked for, and these have a loop of their own.
+/// Plain characters and escapes of a byte have a call of their own, which the compiler makes short. After a plain
+/// character it looks for a run of simple ones, which have a loop of their own.
 #[inline(always)]
 fn each_unit_in<M: Meaning, F: FnMut(Range<usize>, Result<M::Meant, EscapeError>)>(
     rest: &str,
@@ -288,8 +302,8 @@ fn each_unit_in<M: Meaning, F: FnMut(Range<usize>, Result<M::Meant, EscapeError>
     }
 }
 
-/// Calls `callback` with the warnings past a backslash and a newline, which begin at the place `start`. Returns what is left
-/// past the white space.
+/// Calls `callback` with the warnings after a backslash and a newline, which begin at the place `start`. Returns
+/// the text after the white space.
 #[inline(always)]
 fn each_warning<'a, M: Meaning, F: FnMut(Range<usize>, Result<M::Meant, EscapeError>)>(
     line: &'a str,
@@ -312,9 +326,10 @@ fn each_warning<'a, M: Meaning, F: FnMut(Range<usize>, Result<M::Meant, EscapeEr
     left
 }
 
-/// The same as [`each_unit_in`] for a raw string, of which each element is one character.
+/// Does what [`each_unit_in`] does, for a raw string, in which each element is one character.
 ///
-/// Behind a short run of simple ones, characters are told one by one for a while. That loop does nothing else.
+/// After a short run of simple characters it reads characters one by one for a while, in a loop that does nothing
+/// else.
 #[inline(always)]
 fn each_raw_unit_in<M: Meaning, F: FnMut(Range<usize>, Result<M::Meant, EscapeError>)>(
     rest: &str,
@@ -338,7 +353,8 @@ fn each_raw_unit_in<M: Meaning, F: FnMut(Range<usize>, Result<M::Meant, EscapeEr
     }
 }
 
-/// Calls `callback` with what each character of a part of a raw string stands for, and its place. The last ends at `end`.
+/// Calls `callback` with what each character in a part of a raw string stands for, and its place. The last one ends
+/// at `end`.
 #[inline(always)]
 fn each_raw_char<M: Meaning, F: FnMut(Range<usize>, Result<M::Meant, EscapeError>)>(
     part: &str,
@@ -360,7 +376,7 @@ fn each_raw_char<M: Meaning, F: FnMut(Range<usize>, Result<M::Meant, EscapeError
     }
 }
 
-/// Calls `callback` with what is told, if anything is.
+/// Calls `callback` with what an item stands for, if there is an item.
 #[inline(always)]
 fn each_told<M: Meaning, F: FnMut(Range<usize>, Result<M::Meant, EscapeError>)>(
     told: Option<(Range<usize>, Element)>,
@@ -376,8 +392,8 @@ fn each_told<M: Meaning, F: FnMut(Range<usize>, Result<M::Meant, EscapeError>)>(
     }
 }
 
-/// Calls `callback` with what each of the bytes stands for, a character of its own, and its place. The last ends at
-/// `end`.
+/// Calls `callback` with what each of the bytes stands for as a character of its own, and its place. The last one
+/// ends at `end`.
 #[inline(always)]
 fn each_simple<M: Meaning, F: FnMut(Range<usize>, Result<M::Meant, EscapeError>)>(
     run: &[u8],

@@ -8,7 +8,7 @@ use Rattle.sources.specs.declared.fault.Fault.{Fault}
 use Rattle.sources.specs.declared.fault.Fault.TheVariants.{Memory, Source}
 use Rattle.sources.specs.declared.fault.PathFault.{PathFault}
 use Rattle.sources.specs.declared.fault.Reason.{Reason}
-use Rattle.sources.specs.declared.fault.Reason.TheVariants.{NotUtf8, TooLong, Changed, NoFile, Read, System}
+use Rattle.sources.specs.declared.fault.Reason.TheVariants.{NotUtf8, TooLong, Read, System}
 
 -- bytes that are a text whose lengths are numbers of 32 bits
 abbrev pub IsText : List ℕ → Type 0
@@ -34,30 +34,21 @@ abbrev pub system_fault : ErrorKind → Fault
 system_fault OutOfMemory = Memory
 system_fault kind = Source (System kind)
 
--- a lack of memory, or an error of the system, which is then none for want of memory
-abbrev pub IsSystemFault : Fault → Type 0
-IsSystemFault Memory = Unit {0}
-IsSystemFault (Source (System kind)) = kind ≢ OutOfMemory
-IsSystemFault fault = ⊥
-
--- why a file has no text: its bytes are none, or the system refuses it, and not for want of memory
+-- why a file has no text: its bytes are none, reading them failed, or the system refuses it, and not for want of memory
 abbrev pub IsFileReason : Reason → Type 0
-IsFileReason NotUtf8 = Unit {0}
-IsFileReason TooLong = Unit {0}
 IsFileReason (System kind) = kind ≢ OutOfMemory
-IsFileReason reason = ⊥
+IsFileReason reason = Unit {0}
 
--- bytes that are no text, or refused memory
-abbrev pub IsTextFault : List ℕ → Fault → Type 0
-IsTextFault bytes Memory = Unit {0}
-IsTextFault bytes (Source reason) = IsNoText bytes reason
+-- why bytes are not had, whether they are a text or not
+abbrev pub IsUnread : Fault → Type 0
+IsUnread Memory = Unit {0}
+IsUnread (Source NotUtf8) = ⊥
+IsUnread (Source reason) = IsFileReason reason
 
 -- what is said of a reason; of an error of the system that is for the system to say
 abbrev pub reason_text : Reason → Option (List ℕ)
 reason_text NotUtf8 = Some (codes "not UTF-8")
 reason_text TooLong = Some (codes "too long")
-reason_text Changed = Some (codes "changed while it was read")
-reason_text NoFile = Some (codes "not a file")
 reason_text Read = Some (codes "read failed")
 reason_text (System kind) = None
 

@@ -13,10 +13,6 @@ pub enum Reason {
     NotUtf8,
     /// There are more than `u32::MAX` of them.
     TooLong,
-    /// The file changed while it was read.
-    Changed,
-    /// The path names no file, but such as a device.
-    NoFile,
     /// The reader failed.
     Read,
     /// The system refused, with this kind of error.
@@ -30,8 +26,6 @@ impl fmt::Display for Reason {
         match self {
             Reason::NotUtf8 => f.write_str("not UTF-8"),
             Reason::TooLong => f.write_str("too long"),
-            Reason::Changed => f.write_str("changed while it was read"),
-            Reason::NoFile => f.write_str("not a file"),
             Reason::Read => f.write_str("read failed"),
             Reason::System(kind) => write!(f, "{kind}"),
         }

@@ -1,5 +1,4 @@
-//! What the programs over Rust sources share: the sources among files and folders, their texts, and the options and
-//! paths among the words of the command line.
+//! The Rust sources among files and folders, their texts, and the options and paths among the words of a command line.
 #![tactic(auto)]
 
 mod fault;

@@ -3,7 +3,7 @@ ghost use Rattle.std.specs.Prelude.{◌≡◌, ◌<◌, ◌≤◌, ◌^◌, ◌�
 ghost use Rattle.std.specs.IoError.{error_kind};
 ghost use Rattle.std.specs.Str.{IsUtf8};
 ghost use Rattle.rustc_lexer.specs.Classes.{Fits};
-ghost use Rattle.sources.specs.Reasons.{system_fault, IsInputFault, IsNoText, IsSystemFault, IsText};
+ghost use Rattle.sources.specs.Reasons.{system_fault, IsInputFault, IsNoText, IsText, IsUnread};
 
 use crate::fault::{Fault, Reason};
 use ends::{ReadStop, Watched, read_all};
@@ -40,6 +40,7 @@ pub fn read_input<R: Read>(alloc: Global, input: &mut Watched<R>) -> Result<Vec<
         IfSome (R.remaining input.old.inner) (λ bytes. all.items ≡ bytes)) }
     ensures fits { IfOk result (λ all. length all.items < 2 ^ 32) }
     ensures fault { IfErr result (IsInputFault (R.remaining input.old.inner)) }
+    ensures only { IfErr result IsUnread }
     ensures read { IsErrOf result (Fault.Source Reason.Read) ↔ IsTrue input.new.failed }
 {
     match read_all(alloc, input) {
@@ -50,9 +51,10 @@ pub fn read_input<R: Read>(alloc: Global, input: &mut Watched<R>) -> Result<Vec<
     }
 }
 
-/// All bytes of a file.
+/// All bytes of a file, of which there are at most `u32::MAX`.
 pub fn read_source<R: Files + AllocGlobal>(rt: &R, path: &str) -> Result<Vec<u8>, Fault>
-    ensures { IfErr result IsSystemFault }
+    ensures fits { IfOk result (λ all. length all.items < 2 ^ 32) }
+    ensures fault { IfErr result IsUnread }
 {
     read_opened(rt.alloc(), File::open(rt, path))
 }
@@ -62,10 +64,9 @@ fn read_opened<R: Read + Drop>(alloc: Global, opened: io::Result<R>) -> Result<V
     ensures refused { IfErr opened (λ error. result ≡ Err (system_fault (error_kind error))) }
     ensures bytes { IfOk opened (λ file. IfOk result (λ all.
         IfSome (R.remaining file) (λ bytes. all.items ≡ bytes))) }
-    ensures only { IfErr result IsSystemFault }
+    ensures fits { IfOk result (λ all. length all.items < 2 ^ 32) }
+    ensures fault { IfOk opened (λ file. IfErr result (IsInputFault (R.remaining file))) }
+    ensures only { IfErr result IsUnread }
 {
-    let mut file = opened?;
-    let mut bytes = Vec::new(alloc);
-    file.read_to_end(&mut bytes)?;
-    Ok(bytes)
+    read_input(alloc, &mut Watched::new(opened?))
 }

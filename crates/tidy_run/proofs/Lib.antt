@@ -1,7 +1,6 @@
 pub mod SourceLemmas
 pub mod NearLemmas
 pub mod OrderLemmas
-pub mod OutcomeLemmas
 pub mod UnixLemmas
 pub mod TurnedLemmas
 pub mod ReturnLemmas
@@ -11,6 +10,3 @@ pub mod LoopLemmas
 pub mod FirstLemmas
 pub mod DocumentLemmas
 pub mod ShebangLemmas
-pub mod DiffLemmas
-pub mod HunkLemmas
-pub mod BesideLemmas

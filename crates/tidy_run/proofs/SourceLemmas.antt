@@ -11,7 +11,7 @@ use Rattle.rustc_lexer.specs.declared.token.Token.{Token}
 use Rattle.rustc_lexer.specs.declared.token.TokenKind.{TokenKind}
 use Rattle.rustc_lexer.specs.declared.token.TokenKind.TheVariants.{Whitespace, Frontmatter}
 use Rattle.rustc_lexer.specs.Classes.{is_among, is_whitespace, NextIsNot, bytes, next_is, IsText}
-use Rattle.rustc_lexer.specs.FrontmatterGrammar.{IsOpeningBefore, OpensNone, EndsAt}
+use Rattle.rustc_lexer.specs.FrontmatterGrammar.{IsOpeningBefore, OpensNone, endings, IsBodyBefore}
 use Rattle.rustc_lexer.specs.Language.{IsTokenBefore}
 use Rattle.rustc_lexer.specs.LanguageText.{Mode, IsDocument, document, part, mode_edition, mode_after, AreTokens, nothing, something, frontmatter_first}
 use Rattle.rustc_lexer.specs.laws.LanguageLiterals.{bytes-append}
@@ -135,7 +135,7 @@ frontmatter-step u next space infostring len tokens good fits are len_is more = 
 
 -- with a frontmatter of the language first
 opened-tidies : {n : ℕ} {front next : List ℕ} {tokens : List Token} (body : List ℕ) → scalars (front ++ (body ++ next)) ≡ true → bytes (front ++ (body ++ next)) + 1 < 2 ^ 32
-    → IsOpeningBefore (body ++ next) n front → EndsAt n (encode_utf8_all (body ++ next)) (bytes body) → AreTokens (part E2024) next tokens
+    → IsOpeningBefore (body ++ next) n front → IsBodyBefore next (endings n) body → AreTokens (part E2024) next tokens
     → Tidies front_in_order (document E2024) (front ++ (body ++ next)) (record { kind = Frontmatter (next_is is_whitespace front) (not (next_is (is_among (codes "\n")) (body ++ next))); len = bytes front + bytes body } ∷ tokens)
 opened-tidies {n} {front} {next} {tokens} body good fits is_opening is_end rest =
     subst (λ (cs : List ℕ). Tidies front_in_order (document E2024) cs (token ∷ tokens)) whole

@@ -1,6 +1,5 @@
-pub mod Diff
-pub mod Files
 pub mod Job
 pub mod Order
+pub mod Outcome
 pub mod Program
 pub mod Stop

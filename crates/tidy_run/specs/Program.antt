@@ -1,42 +1,28 @@
--- What the program comes to, by its arguments.
-use Rattle.std.specs.Prelude.{ℕ, ◌≡◌, ◌≢◌, List, [], Option, Some, None, Result, Ok, Err, IfErr}
-use Rattle.tidy_run.specs.declared.job.Task.TheVariants.{Write as WriteTask}
+-- What the program comes to, by its arguments and the bytes that it reads.
+use Rattle.std.specs.Prelude.{ℕ, ◌≡◌, List, Option, Some, None, Result, Err}
+use Rattle.tidy_run.specs.declared.job.Job.{Job}
+use Rattle.tidy_run.specs.declared.job.Job.TheVariants.{Write, Check, Help}
+use Rattle.tidy_run.specs.declared.program.TheConstants.{HELP}
 use Rattle.tidy_run.specs.declared.stop.Stop.{Stop}
-use Rattle.tidy_run.specs.declared.stop.Stop.TheVariants.{Arguments, Untidy, Passed, NotUtf8, TooLong, Memory, Read, Write, ClosedPipe}
-use Rattle.tidy_run.specs.Job.{Command, tidy, help, job_of}
-use Rattle.tidy_run.specs.Stop.{status_of}
+use Rattle.tidy_run.specs.declared.stop.Stop.TheVariants.{Arguments, Memory}
+use Rattle.tidy_run.specs.Job.{job_of}
+use Rattle.tidy_run.specs.Outcome.{Checks, Ends, Writes}
 
--- the status with which the program ends
-abbrev pub exit_status : Result (Unit {0}) Stop → ℕ
-exit_status (Ok done) = 0
-exit_status (Err stop) = status_of stop
+-- words that ask whether the input is in order
+abbrev pub IsCheck : Option (List (List ℕ)) → Type 0
+IsCheck None = ⊥
+IsCheck (Some words) = job_of words ≡ Some Check
 
--- what may stop a command: standard input alone stops it by what it holds or by a failed read, only where there are paths is
--- something passed over, and where all is put in order nothing is out of order; help reads nothing
-abbrev pub IsStopOf : Stop → Command → Type 0
-IsStopOf Arguments command = ⊥
-IsStopOf Untidy (tidy task paths) = task ≢ WriteTask
-IsStopOf Untidy help = ⊥
-IsStopOf Passed (tidy task paths) = paths ≢ []
-IsStopOf Passed help = ⊥
-IsStopOf NotUtf8 (tidy task paths) = paths ≡ []
-IsStopOf NotUtf8 help = ⊥
-IsStopOf TooLong (tidy task paths) = paths ≡ []
-IsStopOf TooLong help = ⊥
-IsStopOf Read (tidy task paths) = paths ≡ []
-IsStopOf Read help = ⊥
-IsStopOf Memory command = Unit {0}
-IsStopOf Write command = Unit {0}
-IsStopOf ClosedPipe command = Unit {0}
+-- what a job comes to, or why there is none
+abbrev pub Does : Option Job → Option (List ℕ) → Option (List ℕ) → Option (List ℕ) → Result (Unit {0}) Stop → Type 0
+Does None known old new result = result ≡ Err Arguments
+Does (Some Write) known old new result = Ends known old new result
+Does (Some Check) known old new result = Checks known result
+Does (Some Help) known old new result = Writes HELP.now old new result
 
--- what a command comes to, or why there is none
-abbrev pub Does : Option Command → Result (Unit {0}) Stop → Type 0
-Does None result = result ≡ Err Arguments
-Does (Some command) result = IfErr result (λ stop. IsStopOf stop command)
-
--- a run by words, or by none where they could not be had: it is that of the command which the words ask for, unless
+-- a run by words, or by none where they could not be had: it is that of the job which the words ask for, unless
 -- memory was refused; without words it is as if memory was refused
-abbrev pub Ran : Option (List (List ℕ)) → Result (Unit {0}) Stop → Type 0
-Ran words (Err Memory) = Unit {0}
-Ran None result = ⊥
-Ran (Some words) result = Does (job_of words) result
+abbrev pub Ran : Option (List (List ℕ)) → Option (List ℕ) → Option (List ℕ) → Option (List ℕ) → Result (Unit {0}) Stop → Type 0
+Ran words known old new (Err Memory) = Unit {0}
+Ran None known old new result = ⊥
+Ran (Some words) known old new result = Does (job_of words) known old new result

@@ -1,18 +1,15 @@
-//! What the program `tidy` does: it puts the white space of Rust sources in order.
+//! What the program `tidy` does, over any ends: it puts the white space of a Rust source in order.
 #![tactic(auto)]
 
-mod diff;
 mod document;
-mod files;
-mod hunks;
 mod job;
 mod order;
 pub mod program;
+mod report;
 pub mod run;
 mod source;
 mod stop;
 
 pub use document::tidied;
-pub use files::changed;
-pub use job::{Job, Task, read_job};
-pub use stop::{Stop, line, status};
+pub use job::{Job, read_job};
+pub use stop::Stop;

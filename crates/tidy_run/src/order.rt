@@ -174,7 +174,7 @@ fn solid_end(text: &str, place: usize) -> usize
 }
 
 /// Where the first newline of a text stands.
-pub fn newline(text: &str) -> Option<usize>
+fn newline(text: &str) -> Option<usize>
     ensures found { MatchOption result (spec.HasNoNewline text.now) (spec.IsNewline text.now) }
     ensures few { IfSome result (λ at. at + 1 < 2 ^ 64) }
 {
@@ -182,7 +182,7 @@ pub fn newline(text: &str) -> Option<usize>
 }
 
 /// Space, tab and carriage return.
-pub fn is_blank(byte: u8) -> bool
+fn is_blank(byte: u8) -> bool
     ensures { result ≡ spec.is_blank byte }
 {
     matches!(byte, b' ' | b'\t' | b'\r')

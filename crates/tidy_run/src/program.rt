@@ -1,126 +1,93 @@
-//! The whole program, over the ends of a process.
-ghost use Rattle.std.specs.Prelude.{◌≡◌, ◌≢◌, [], IfErr, Result, map};
+//! The whole program, over any ends.
+ghost use Rattle.std.specs.Prelude.{◌≡◌, ◌≢◌, ◌↔◌, false, true, IfErr, IfOk, IsErrOf, IsTrue, OnErr, Result};
+ghost use Rattle.std.specs.Io.KnownBytes.{Appends, Keeps};
+ghost use Rattle.ends.specs.Known.{AppendsFront};
 ghost use Rattle.ends.specs.Words.{words_of};
 ghost use Rattle.tidy_run.specs.declared.stop.Stop.{Stop as TheStop};
-ghost use Rattle.tidy_run.specs.Job as spec;
-ghost use Rattle.tidy_run.specs.Program.{exit_status, IsStopOf, Ran};
+ghost use Rattle.tidy_run.specs.Program.{IsCheck, Ran};
+ghost use Rattle.tidy_run.specs.Stop.{exit_status, told};
 
-use crate::files::{ending, tidy_paths};
-use crate::job::{Job, Task, read_job};
-use crate::run::{check, put, run, show};
-use crate::stop::{Stop, line, status};
-use ends::{Watched, past_name, tell};
+use crate::job::{Job, read_job};
+use crate::report::report;
+use crate::run::{check, put, run};
+use crate::stop::Stop;
+use ends::{Watched, past_name};
+use std::alloc::Global;
 use std::env::Args;
-use std::io::IsTerminal;
-use std::process;
+use std::io::{Read, Write};
 
 /// What the program takes.
 const HELP: &str =
-    "tidy < FILE        writes a Rust source with the white space between its tokens in order
-tidy PATH ..       puts files in order where they lie, and the .rs files in folders
-tidy --help        writes these lines
-With --check no file is written: those that would change are named, and where there are any the status is 1.
-With --diff no file is written: what would change is shown as a unified diff, and where there is any the status is 1.
-Options stand in any order, each once. Behind -- each word is a path.
+    "tidy < FILE            writes a Rust source with the white space between its tokens in order
+tidy --check < FILE    writes nothing, and says with status 1 and a line on standard error where it is not in order
+tidy --help            writes these lines
 Spaces, tabs and carriage returns before a newline go, of newlines in a row two stay, and the text ends in one newline.
 In comments carriage returns alone go. Nothing else is changed.
 ";
 
-/// The whole program: does what its arguments ask for, which begin with its name, tells what stopped it, and answers
-/// its status. `None` says that the arguments could not be had.
-pub fn program(rt: &HostRuntime, args: Option<Args>) -> u8
+/// The whole program: reads its arguments and its input, writes to its output, tells what stopped it, and answers its
+/// status. The arguments begin with the program's name; they are `None` where they could not be had.
+pub fn program<R: Read, W: Write, E: Write>(
+    alloc: Global,
+    args: Option<Args>,
+    input: &mut Watched<R>,
+    output: &mut Watched<W>,
+    errors: &mut Watched<E>,
+) -> u8
+    requires reads { input.old.failed ≡ false }
+    requires writes { output.old.faulty ≡ false }
+    requires open { output.old.closed ≡ false }
+    requires tells { errors.old.faulty ≡ false }
+    requires heard { errors.old.closed ≡ false }
     ensures ended { (outcome : Result (Unit {0}) TheStop)
-        × Ran (words_of args) outcome
-        × (result ≡ exit_status outcome) }
+        × Ran (words_of args) (R.remaining input.old.inner) (W.contents output.old.inner)
+        (W.contents output.new.inner) outcome
+        × (IsErrOf outcome Stop.Read ↔ IsTrue input.new.failed)
+        × (IsErrOf outcome Stop.Write ↔ IsTrue output.new.faulty)
+        × (IsErrOf outcome Stop.ClosedPipe ↔ IsTrue output.new.closed)
+        × (IfOk outcome (λ _. ¬ (IsCheck (words_of args)) → output.new.flushed ≡ true))
+        × (IfErr outcome (λ stop. stop ≢ Stop.Write → stop ≢ Stop.ClosedPipe
+        → Keeps (W.contents output.old.inner) (W.contents output.new.inner)))
+        × (result ≡ exit_status outcome)
+        × (errors.new.faulty ≡ false → errors.new.closed ≡ false
+        → Appends (E.contents errors.old.inner) (E.contents errors.new.inner) (told outcome))
+        × (OnErr outcome (errors.new.faulty ≡ false → errors.new.closed ≡ false
+        → errors.new.flushed ≡ true))
+        × AppendsFront (E.contents errors.old.inner) (E.contents errors.new.inner) (told outcome) }
+    ensures untouched { IsCheck (words_of args) → output.new ≡ output.old }
 {
-    match tidy(rt, args) {
-        Ok(()) => 0,
-        Err(stop) => {
-            tell(&mut Watched::new(rt.stderr()), line(&stop));
-            status(&stop)
-        }
-    }
+    let outcome = tidy(alloc, args, input, output);
+    report(&outcome, errors)
 }
 
-/// Does what the arguments ask for.
-fn tidy(rt: &HostRuntime, args: Option<Args>) -> Result<(), Stop>
-    ensures { Ran (words_of args) result }
+/// Reads the arguments, and then does what they ask for.
+fn tidy<R: Read, W: Write>(
+    alloc: Global,
+    args: Option<Args>,
+    input: &mut Watched<R>,
+    output: &mut Watched<W>,
+) -> Result<(), Stop>
+    requires reads { input.old.failed ≡ false }
+    requires writes { output.old.faulty ≡ false }
+    requires open { output.old.closed ≡ false }
+    ensures read { IsErrOf result Stop.Read ↔ IsTrue input.new.failed }
+    ensures write { IsErrOf result Stop.Write ↔ IsTrue output.new.faulty }
+    ensures closed { IsErrOf result Stop.ClosedPipe ↔ IsTrue output.new.closed }
+    ensures flushed { IfOk result (λ _. ¬ (IsCheck (words_of args)) → output.new.flushed ≡ true) }
+    ensures silent { IfErr result (λ stop. stop ≢ Stop.Write → stop ≢ Stop.ClosedPipe
+        → Keeps (W.contents output.old.inner) (W.contents output.new.inner)) }
+    ensures untouched { IsCheck (words_of args) → output.new ≡ output.old }
+    ensures ran { Ran (words_of args) (R.remaining input.old.inner) (W.contents output.old.inner)
+        (W.contents output.new.inner) result }
 {
     let Some(args) = args else {
         return Err(Stop::Memory);
     };
-    let words = past_name(rt.alloc(), args)?;
-    match read_job(rt.alloc(), words.as_slice())? {
-        Job::Tidy { task, paths } if paths.is_empty() => tidy_input(rt, task),
-        Job::Tidy { task, paths } => tidy_files(rt, task, paths.as_slice()),
-        Job::Help => put(&mut Watched::new(rt.stdout()), HELP),
+    let words = past_name(alloc, args)?;
+    match read_job(words.as_slice()) {
+        Some(Job::Write) => run(alloc, input, output),
+        Some(Job::Check) => check(alloc, input),
+        Some(Job::Help) => put(output, HELP),
+        None => Err(Stop::Arguments),
     }
-}
-
-/// Does the task with standard input. That it is not in order is said on standard error, or shown by the diff.
-fn tidy_input(rt: &HostRuntime, task: Task) -> Result<(), Stop>
-    ensures { IfErr result (λ stop. IsStopOf stop (spec.tidy task [])) }
-{
-    let mut input = Watched::new(rt.stdin());
-    let mut output = Watched::new(rt.stdout());
-    match task {
-        Task::Write => run(rt.alloc(), &mut input, &mut output),
-        Task::Check => {
-            let checked = check(rt.alloc(), &mut input);
-            if checked == Err(Stop::Untidy) {
-                tell(&mut Watched::new(rt.stderr()), "tidy: not in order\n");
-            }
-            checked
-        }
-        Task::Diff => match show(rt.alloc(), &mut input)? {
-            None => Ok(()),
-            Some(diff) => {
-                put(&mut output, diff.as_str())?;
-                Err(Stop::Untidy)
-            }
-        },
-    }
-}
-
-/// How many files are done from one line of progress to the next.
-const STEP: usize = 256;
-
-/// Shows how many files are done, now and then where there are many. The line is gone at the end.
-fn show_progress(rt: &HostRuntime, done: usize, total: usize) {
-    if total < STEP {
-        return;
-    }
-    if done == total {
-        let _ = eprint!(rt; "\r\u{1b}[K");
-    } else if done % STEP == 0 {
-        let _ = eprint!(rt; "\r{done} of {total} files");
-    }
-}
-
-/// Puts files in order, or names those that are not. What was passed over, and a line on all, goes to standard error.
-fn tidy_files(rt: &HostRuntime, task: Task, paths: &[&str]) -> Result<(), Stop>
-    requires { map (λ path. path.now) paths.now ≢ [] }
-    ensures { IfErr result (λ stop. IsStopOf stop (spec.tidy task (map (λ path. path.now) paths.now))) }
-{
-    let id = process::id(rt.process());
-    let is_terminal = rt.stderr().is_terminal();
-    let progress = |done: usize, total: usize| {
-        if is_terminal {
-            show_progress(rt, done, total);
-        }
-    };
-    let outcome = tidy_paths(rt, id, task, paths, progress)?;
-    // Where a line can't be written to standard error there is nobody to tell.
-    for fault in &outcome.faults {
-        let _ = eprintln!(rt; "tidy: {fault}");
-    }
-    put(&mut Watched::new(rt.stdout()), outcome.shown.as_str())?;
-    let changed = outcome.changed;
-    let read = outcome.read;
-    if task == Task::Write {
-        let _ = eprintln!(rt; "tidy: {changed} of {read} files changed");
-    } else {
-        let _ = eprintln!(rt; "tidy: {changed} of {read} files would change");
-    }
-    ending(task, &outcome)
 }

@@ -1,16 +1,13 @@
 //! A whole run: from the bytes of a reader to those of a writer.
-ghost use Rattle.std.specs.Prelude.{◌≡◌, ◌≢◌, ◌↔◌, false, true, IfErr, IfOk, IfSome, IsErrOf, IsTrue, None, Ok, OnErr, OnOk, codes, string_bytes};
-ghost use Rattle.std.specs.Io.KnownBytes.{Appends, Keeps};
-ghost use Rattle.ends.specs.Known.{AppendsFront};
+ghost use Rattle.std.specs.Prelude.{◌≡◌, ◌≢◌, ◌↔◌, false, true, IfErr, IfOk, IfSome, IsErrOf, IsTrue, OnOk, string_bytes};
+ghost use Rattle.std.specs.Io.KnownBytes.{Keeps};
 ghost use Rattle.rustc_lexer.specs.Classes.{Fits};
-ghost use Rattle.sources.specs.Reasons.{IsText};
-ghost use Rattle.tidy_run.specs.Diff.{IsDiff};
-ghost use Rattle.tidy_run.specs.Order.{tidied, IsSound};
-ghost use Rattle.tidy_run.specs.Stop.{IsInputStop, IsWriteStop};
+ghost use Rattle.tidy_run.specs.Order.{IsSound};
+ghost use Rattle.tidy_run.specs.Outcome.{Checks, Ends, IsInputStop, Writes};
 
+use crate::document;
 use crate::stop::Stop;
-use crate::{document, hunks};
-use ends::{ReadStop, Watched, WriteStop, read_all, write_all};
+use ends::{Watched, WriteStop, read_all, write_all};
 use std::alloc::Global;
 use std::io::{Read, Write};
 
@@ -33,14 +30,8 @@ pub fn run<R: Read, W: Write>(
     ensures silent { IfErr result
         (λ stop. stop ≢ Stop.Write → stop ≢ Stop.ClosedPipe
         → Keeps (W.contents output.old.inner) (W.contents output.new.inner)) }
-    ensures stop { IfErr result
-        (λ stop. stop ≢ Stop.Write → stop ≢ Stop.ClosedPipe
-        → IsInputStop (R.remaining input.old.inner) stop) }
-    ensures written { OnOk result (IfSome (R.remaining input.old.inner) (λ bytes.
-        Appends (W.contents output.old.inner) (W.contents output.new.inner) (tidied bytes))) }
-    ensures begun { IfErr result (λ stop. IsWriteStop stop → IfSome (R.remaining input.old.inner) (λ bytes.
-        AppendsFront (W.contents output.old.inner) (W.contents output.new.inner) (tidied bytes))) }
-    ensures text { OnOk result (IfSome (R.remaining input.old.inner) IsText) }
+    ensures ends { Ends (R.remaining input.old.inner) (W.contents output.old.inner)
+        (W.contents output.new.inner) result }
     ensures sound { OnOk result (IfSome (R.remaining input.old.inner) (λ bytes. IsSound bytes)) }
 {
     let text = read_text(alloc, input)?;
@@ -52,12 +43,7 @@ pub fn run<R: Read, W: Write>(
 pub fn check<R: Read>(alloc: Global, input: &mut Watched<R>) -> Result<(), Stop>
     requires reads { input.old.failed ≡ false }
     ensures read { IsErrOf result Stop.Read ↔ IsTrue input.new.failed }
-    ensures in_order { OnOk result (IfSome (R.remaining input.old.inner)
-        (λ bytes. IsText bytes × (tidied bytes ≡ bytes))) }
-    ensures untidy { IsErrOf result Stop.Untidy → IfSome (R.remaining input.old.inner)
-        (λ bytes. IsText bytes × (tidied bytes ≢ bytes)) }
-    ensures stop { IfErr result (λ stop. stop ≢ Stop.Untidy
-        → IsInputStop (R.remaining input.old.inner) stop) }
+    ensures checks { Checks (R.remaining input.old.inner) result }
 {
     let text = read_text(alloc, input)?;
     let made = document::tidied(alloc, text.as_str())?;
@@ -68,29 +54,7 @@ pub fn check<R: Read>(alloc: Global, input: &mut Watched<R>) -> Result<(), Stop>
     }
 }
 
-/// Reads all of the input, and answers what would change, as a diff; `None` where it is in order.
-pub fn show<R: Read>(alloc: Global, input: &mut Watched<R>) -> Result<Option<String>, Stop>
-    requires reads { input.old.failed ≡ false }
-    ensures read { IsErrOf result Stop.Read ↔ IsTrue input.new.failed }
-    ensures in_order { result ≡ Ok None → IfSome (R.remaining input.old.inner)
-        (λ bytes. IsText bytes × (tidied bytes ≡ bytes)) }
-    ensures untidy { IfOk result (λ shown. IfSome shown (λ _. IfSome (R.remaining input.old.inner)
-        (λ bytes. IsText bytes × (tidied bytes ≢ bytes)))) }
-    ensures shown { IfOk result (λ shown. IfSome shown (λ diff. IfSome (R.remaining input.old.inner)
-        (λ bytes. IsDiff (codes "stdin") bytes (tidied bytes) (string_bytes diff)))) }
-    ensures stop { IfErr result (IsInputStop (R.remaining input.old.inner)) }
-{
-    let text = read_text(alloc, input)?;
-    let made = document::tidied(alloc, text.as_str())?;
-    if text.as_str() == made.as_str() {
-        return Ok(None);
-    }
-    let diff = hunks::diff(alloc, "stdin", text.as_str(), made.as_str())?;
-    Ok(Some(diff))
-}
-
 /// Reads all of the input, which is to be a text.
-#[tactic(auto, using(sources::proofs::ReadingLemmas::read_known, sources::proofs::ReadingLemmas::long_known))]
 fn read_text<R: Read>(alloc: Global, input: &mut Watched<R>) -> Result<String, Stop>
     requires reads { input.old.failed ≡ false }
     ensures read { IsErrOf result Stop.Read ↔ IsTrue input.new.failed }
@@ -99,12 +63,7 @@ fn read_text<R: Read>(alloc: Global, input: &mut Watched<R>) -> Result<String, S
     ensures fits { IfOk result (λ text. Fits (string_bytes text)) }
     ensures stop { IfErr result (IsInputStop (R.remaining input.old.inner)) }
 {
-    let bytes = match read_all(alloc, input) {
-        Ok(bytes) => bytes,
-        Err(ReadStop::TooLong) => return Err(Stop::TooLong),
-        Err(ReadStop::Memory) => return Err(Stop::Memory),
-        Err(ReadStop::Failed) => return Err(Stop::Read),
-    };
+    let bytes = read_all(alloc, input)?;
     String::from_utf8(bytes).map_err(|_| Stop::NotUtf8)
 }
 
@@ -115,11 +74,8 @@ pub(crate) fn put<W: Write>(output: &mut Watched<W>, text: &str) -> Result<(), S
     ensures failed { IsErrOf result Stop.Write ↔ IsTrue output.new.faulty }
     ensures closed { IsErrOf result Stop.ClosedPipe ↔ IsTrue output.new.closed }
     ensures flushed { IfOk result (λ _. output.new.flushed ≡ true) }
-    ensures only { IfErr result IsWriteStop }
-    ensures ok { OnOk result
-        (Appends (W.contents output.old.inner) (W.contents output.new.inner) text.now) }
-    ensures err { OnErr result
-        (AppendsFront (W.contents output.old.inner) (W.contents output.new.inner) text.now) }
+    ensures writes { Writes text.now (W.contents output.old.inner)
+        (W.contents output.new.inner) result }
 {
     match write_all(output, text.as_bytes()) {
         Ok(()) => Ok(()),

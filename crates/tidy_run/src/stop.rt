@@ -1,8 +1,9 @@
 //! Why a run stops.
 ghost use Rattle.std.specs.Prelude.{◌≡◌};
-ghost use Rattle.tidy_run.specs.Stop.{status_of, stop_line};
+ghost use Rattle.tidy_run.specs.Stop.{read_stop, status_of, stop_line};
 ghost use Rattle.tidy_run.specs.declared.stop.Stop.TheVariants.{Memory};
 
+use ends::ReadStop;
 use std::alloc::AllocError;
 
 /// Why a run stops.
@@ -10,10 +11,8 @@ use std::alloc::AllocError;
 pub enum Stop {
     /// The words after the program's name are none that it knows.
     Arguments,
-    /// Something is not in order, where that was asked. It is told or shown already.
+    /// The input is not in order, where that was asked.
     Untidy,
-    /// Some file was passed over. It is named already, and all else is done.
-    Passed,
     /// The input is not UTF-8.
     NotUtf8,
     /// The input has more than `u32::MAX` bytes.
@@ -36,26 +35,38 @@ pub fn status(stop: &Stop) -> u8
         Stop::ClosedPipe => 0,
         Stop::Untidy => 1,
         Stop::Arguments => 2,
-        Stop::NotUtf8 | Stop::Passed => 3,
+        Stop::NotUtf8 => 3,
         Stop::TooLong => 4,
         Stop::Memory => 6,
         Stop::Read | Stop::Write => 7,
     }
 }
 
-/// The line that tells of it on standard error. What is not in order and what was passed over is told already, and a
-/// closed pipe is met in silence.
+/// The line that tells of it on standard error. A closed pipe is met in silence.
 pub fn line(stop: &Stop) -> &'static str
     ensures { result.now ≡ stop_line stop.now }
 {
     match stop {
         Stop::Arguments => "tidy: unknown words; --help tells what it takes\n",
+        Stop::Untidy => "tidy: not in order\n",
         Stop::NotUtf8 => "tidy: input is not UTF-8\n",
         Stop::TooLong => "tidy: input too long\n",
         Stop::Memory => "tidy: no memory\n",
         Stop::Read => "tidy: read failed\n",
         Stop::Write => "tidy: write failed\n",
-        Stop::Untidy | Stop::Passed | Stop::ClosedPipe => "",
+        Stop::ClosedPipe => "",
+    }
+}
+
+impl From<ReadStop> for Stop {
+    ghost from_gives = { λ read stop. stop ≡ read_stop read };
+
+    fn from(read: ReadStop) -> Stop {
+        match read {
+            ReadStop::TooLong => Stop::TooLong,
+            ReadStop::Memory => Stop::Memory,
+            ReadStop::Failed => Stop::Read,
+        }
     }
 }
 

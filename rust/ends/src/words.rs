@@ -15,3 +15,12 @@ pub fn past_name(alloc: Global, mut args: Args) -> Result<Vec<String>, AllocErro
     }
     Ok(words)
 }
+
+/// The words after the first, which is the program's name. Where the arguments could not be had, as `None` says, it is as
+/// if memory was refused.
+pub fn given_words(alloc: Global, args: Option<Args>) -> Result<Vec<String>, AllocError> {
+    match args {
+        Some(args) => past_name(alloc, args),
+        None => Err(AllocError),
+    }
+}

@@ -37,6 +37,18 @@ pub fn write_bytes<W: Write>(output: &mut Watched<W>, bytes: &[u8]) -> Result<()
     Ok(())
 }
 
+/// Writes three texts, one behind another, and flushes.
+pub fn write_texts<W: Write>(
+    output: &mut Watched<W>,
+    one: &str,
+    two: &str,
+    three: &str,
+) -> Result<(), WriteStop> {
+    write_bytes(output, one.as_bytes())?;
+    write_bytes(output, two.as_bytes())?;
+    write_all(output, three.as_bytes())
+}
+
 /// Writes what is told of a run, and flushes. Where it can't be written there is nobody to tell.
 ///
 /// What goes out is all of the line where the writer does not fail, else a beginning of it. Where it never failed, the

@@ -2,10 +2,8 @@
 use rattle_std::prelude::String;
 
 use crate::job::{Job, read_job};
-use crate::report::report;
-use crate::run::{put, run};
-use crate::stop::Stop;
-use ends::{Watched, past_name};
+use crate::run::run;
+use ends::{Stop, Watched, given_words, put, report};
 use rattle_std::alloc::Global;
 use rattle_std::env::{Args, VarError};
 use rattle_std::io::{Read, Write};
@@ -41,7 +39,7 @@ pub fn program<R: Read, W: Write, E: Write>(
     errors: &mut Watched<E>,
 ) -> u8 {
     let outcome = show(alloc, start, input, output);
-    report(&outcome, errors)
+    report("highlight: ", &outcome, errors)
 }
 
 /// Reads the arguments, and then does what they ask for.
@@ -51,23 +49,13 @@ fn show<R: Read, W: Write>(
     input: &mut Watched<R>,
     output: &mut Watched<W>,
 ) -> Result<(), Stop> {
-    let Start {
-        args,
-        no_color,
-        is_terminal,
-    } = start;
-    let Some(args) = args else {
-        return Err(Stop::Memory);
-    };
-    let Ok(words) = past_name(alloc, args) else {
-        return Err(Stop::Memory);
-    };
-    let Some(colours) = wants_colours(&no_color, is_terminal) else {
+    let words = given_words(alloc, start.args)?;
+    let Some(colours) = wants_colours(&start.no_color, start.is_terminal) else {
         return Err(Stop::Memory);
     };
     match read_job(words.as_slice(), colours) {
         Some(Job::Show { style, edition }) => run(alloc, style, edition, input, output),
-        Some(Job::Help) => put(output, HELP.as_bytes()),
+        Some(Job::Help) => put(output, HELP),
         None => Err(Stop::Arguments),
     }
 }

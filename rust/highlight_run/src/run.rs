@@ -2,8 +2,7 @@
 use rattle_std::prelude::String;
 
 use crate::page::write_text;
-use crate::stop::Stop;
-use ends::{Watched, WriteStop, read_all, write_all};
+use ends::{Stop, Watched, put, read_text};
 use marks::Style;
 use rattle_std::alloc::Global;
 use rattle_std::fmt;
@@ -21,15 +20,11 @@ pub fn run<R: Read, W: Write>(
     input: &mut Watched<R>,
     output: &mut Watched<W>,
 ) -> Result<(), Stop> {
-    let bytes = read_all(alloc, input)?;
-    let text = match rattle_std::str::from_utf8(bytes.as_slice()) {
-        Ok(text) => text,
-        Err(_) => return Err(Stop::NotUtf8),
-    };
-    let Ok(made) = print(alloc, style, edition, text) else {
+    let text = read_text(alloc, input)?;
+    let Ok(made) = print(alloc, style, edition, text.as_str()) else {
         return Err(Stop::Memory);
     };
-    put(output, made.as_str().as_bytes())
+    put(output, made.as_str())
 }
 
 /// All that is written of the text.
@@ -37,13 +32,4 @@ fn print(alloc: Global, style: Style, edition: Edition, text: &str) -> Result<St
     let mut made = String::new(alloc);
     write_text(style, edition, text, &mut made)?;
     Ok(made)
-}
-
-/// Writes all of the text, and flushes.
-pub(crate) fn put<W: Write>(output: &mut Watched<W>, text: &[u8]) -> Result<(), Stop> {
-    match write_all(output, text) {
-        Ok(()) => Ok(()),
-        Err(WriteStop::Failed) => Err(Stop::Write),
-        Err(WriteStop::ClosedPipe) => Err(Stop::ClosedPipe),
-    }
 }

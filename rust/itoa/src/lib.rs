@@ -50,7 +50,7 @@ impl Buffer {
     /// The number in decimal, without leading zeros.
     pub fn format(&mut self, n: usize) -> &str {
         let start = write_digits(n as u64, &mut self.0, ROOM);
-        str::from_utf8(&self.0[start..]).expect("digits are text")
+        core::str::from_utf8(&self.0[start..]).expect("digits are text")
     }
 }
 

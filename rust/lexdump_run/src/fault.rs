@@ -1,6 +1,6 @@
 //! Why a run stops.
 
-use ends::{ReadStop, WriteStop};
+use ends::{Stop, WriteStop};
 use rattle_std::alloc::{AllocError, AllocFailed};
 use rattle_std::error::Error;
 use rattle_std::fmt;
@@ -66,12 +66,15 @@ impl From<EditStop> for Fault {
     }
 }
 
-impl From<ReadStop> for Fault {
-    fn from(stop: ReadStop) -> Fault {
+impl From<Stop> for Fault {
+    fn from(stop: Stop) -> Fault {
         match stop {
-            ReadStop::TooLong => Fault::TooLong,
-            ReadStop::Memory => Fault::Memory,
-            ReadStop::Failed => Fault::Read,
+            Stop::Arguments => Fault::Arguments,
+            Stop::NotUtf8 => Fault::NotUtf8,
+            Stop::TooLong => Fault::TooLong,
+            Stop::Memory => Fault::Memory,
+            Stop::Read => Fault::Read,
+            Stop::Write | Stop::ClosedPipe => Fault::Write,
         }
     }
 }

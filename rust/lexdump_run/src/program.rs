@@ -4,7 +4,7 @@ use crate::fault::Fault;
 use crate::job::read_job;
 use crate::report::report;
 use crate::run_job::run;
-use ends::{Watched, past_name};
+use ends::{Watched, given_words};
 use rattle_std::alloc::Global;
 use rattle_std::env::Args;
 use rattle_std::io::{Read, Write};
@@ -29,12 +29,7 @@ fn dump<R: Read, W: Write>(
     input: &mut Watched<R>,
     output: &mut Watched<W>,
 ) -> Result<(), Fault> {
-    let Some(args) = args else {
-        return Err(Fault::Memory);
-    };
-    let Ok(words) = past_name(alloc, args) else {
-        return Err(Fault::Memory);
-    };
+    let words = given_words(alloc, args)?;
     match read_job(alloc, words.as_slice()) {
         Ok(job) => run(alloc, &job, input, output),
         Err(fault) => Err(fault),

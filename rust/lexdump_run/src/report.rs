@@ -1,7 +1,7 @@
 //! What is told of a run that stopped, and its status.
 
 use crate::fault::{Fault, status};
-use ends::{Watched, WriteStop, write_all, write_bytes};
+use ends::{Watched, write_texts};
 use itoa::Buffer;
 use rattle_std::io::Write;
 
@@ -9,29 +9,21 @@ use rattle_std::io::Write;
 ///
 /// What goes out is all of the line where the writer does not fail, else a beginning of it. The status is the same.
 pub fn report<E: Write>(outcome: &Result<(), Fault>, errors: &mut Watched<E>) -> u8 {
-    match outcome {
-        Ok(()) => 0,
-        Err(fault) => {
-            // Where this line can't be written there is nobody to tell.
-            let _ = tell(fault, errors);
-            status(fault)
-        }
-    }
-}
-
-/// Writes the line of the fault, and flushes.
-fn tell<E: Write>(fault: &Fault, errors: &mut Watched<E>) -> Result<(), WriteStop> {
+    let Err(fault) = outcome else {
+        return 0;
+    };
     let (before, number, after) = line_parts(fault);
-    write_bytes(errors, before.as_bytes())?;
-    write_number(errors, number)?;
-    write_all(errors, after.as_bytes())
+    let mut buffer = Buffer::new();
+    // Where this line can't be written there is nobody to tell.
+    let _ = write_texts(errors, before, digits(&mut buffer, number), after);
+    status(fault)
 }
 
-/// Writes the number, if there is one.
-fn write_number<E: Write>(errors: &mut Watched<E>, number: Option<usize>) -> Result<(), WriteStop> {
+/// The digits of the number, if there is one.
+fn digits(buffer: &mut Buffer, number: Option<usize>) -> &str {
     match number {
-        Some(number) => write_bytes(errors, Buffer::new().format(number).as_bytes()),
-        None => Ok(()),
+        Some(number) => buffer.format(number),
+        None => "",
     }
 }
 

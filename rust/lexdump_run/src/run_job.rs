@@ -4,7 +4,7 @@ use crate::fault::Fault;
 use crate::job::Job;
 use crate::listing::{edited, list_pieces, list_tokens, tell_shebang};
 use crate::output::Block;
-use ends::{Watched, read_all};
+use ends::{Watched, read_text};
 use rattle_std::alloc::Global;
 use rattle_std::io::{Read, Write};
 use rustc_lexer::erased::{Edition, FrontmatterAllowed};
@@ -20,13 +20,9 @@ pub fn run<R: Read, W: Write>(
     input: &mut Watched<R>,
     output: &mut Watched<W>,
 ) -> Result<(), Fault> {
-    let bytes = read_all(alloc, input)?;
-    let text = match rattle_std::str::from_utf8(bytes.as_slice()) {
-        Ok(text) => text,
-        Err(_) => return Err(Fault::NotUtf8),
-    };
+    let text = read_text(alloc, input)?;
     let mut lines = Block::new();
-    print(alloc, job, text, &mut lines, output)?;
+    print(alloc, job, text.as_str(), &mut lines, output)?;
     lines.finish(output)
 }
 

@@ -22,12 +22,17 @@
 #![deny(missing_docs)]
 #![forbid(unsafe_code)]
 
+/// The proved source without its contracts, as it is made of `crates/marks`.
+///
+/// This is for packages that are made in the same way, such as `highlight` and the library for C: their calls are proved to
+/// meet what the contracts ask for, which the calls here do not test. They stay as they are only as long as the source
+/// does. All other callers take the calls of the crate's root.
 // Contracts alone use some of its imports and variables.
 #[allow(missing_docs, unused_imports, unused_variables, dead_code)]
 #[allow(clippy::manual_unwrap_or, clippy::manual_unwrap_or_default)]
-#[doc(hidden)]
 pub mod erased;
 
+#[doc(inline)]
 pub use erased::Style;
 pub use rustc_lexer::Edition;
 
@@ -44,6 +49,17 @@ fn fitting(text: &str) -> &str {
 
 /// Writes a whole text: its shebang line, where it has one, between the marks of a comment, and the tokens of what
 /// follows between theirs, as the edition reads them. A frontmatter may stand in front.
+///
+/// ```
+/// use marks::{Edition, Style, write_marked};
+///
+/// let mut page = String::new();
+/// write_marked(Style::Html, Edition::E2024, "#!/bin/sh\nfn", &mut page).unwrap();
+/// assert_eq!(
+///     page,
+///     "<span class=\"comment\">#!/bin/sh</span>\n<span class=\"keyword\">fn</span>"
+/// );
+/// ```
 ///
 /// An error is one of the output's. Then the output has a beginning.
 ///

@@ -65,6 +65,20 @@ fn an_edition_has_its_tokens() {
     assert_eq!(first(Style::Html, Edition::E2021, 3, "'a#b"), lifetime);
     let older = "<span class=\"lifetime\">'a</span>#b";
     assert_eq!(first(Style::Html, Edition::E2018, 3, "'a#b"), older);
+    assert_eq!(whole(Style::Html, Edition::E2021, "'a#b"), lifetime);
+    assert_eq!(whole(Style::Html, Edition::E2018, "'a#b"), older);
+}
+
+/// A frontmatter stands in front of a whole text alone: to a part its dashes are symbols.
+#[test]
+fn a_whole_text_has_a_frontmatter() {
+    let text = "---\na\n---\nfn";
+    let marked = whole(Style::Html, Edition::E2024, text);
+    assert!(
+        marked.starts_with("<span") && marked.contains(">---\na\n---</span>\n<span"),
+        "{marked}"
+    );
+    assert!(first(Style::Html, Edition::E2024, 3, text) == "---");
 }
 
 /// An output that takes so many calls.
@@ -86,4 +100,22 @@ fn an_error_is_one_of_the_output() {
     assert!(!takes(0, 1));
     assert!(takes(3, 1));
     assert!(!takes(3, 2));
+}
+
+/// A text of more than `u32::MAX` bytes is too long for either call, in a release, too.
+#[cfg(target_pointer_width = "64")]
+#[test]
+fn a_text_that_is_too_long() {
+    let zeros = vec![0; 1 << 32];
+    // SAFETY: U+0000 is one byte that is 0.
+    let text = unsafe { std::str::from_utf8_unchecked(&zeros) };
+    let calls: [&dyn Fn() -> fmt::Result; 2] = [
+        &|| write_marked(Style::Html, Edition::E2024, text, &mut Few(0)),
+        &|| write_first_tokens(Style::Html, Edition::E2024, 1, text, &mut Few(0)),
+    ];
+    for call in calls {
+        let said = std::panic::catch_unwind(std::panic::AssertUnwindSafe(call)).unwrap_err();
+        let wanted = "the text has more than u32::MAX bytes";
+        assert_eq!(said.downcast_ref::<&str>(), Some(&wanted));
+    }
 }

@@ -2,15 +2,15 @@
 //! UTF-8 is one, too. What Rust asks for itself, such as for a path that goes to the system, aborts where it is refused.
 
 use crate::alloc::Global;
-use crate::io::{Error, ErrorKind, Read, Result, Write};
+use crate::io::{Error, ErrorKind, Read, Result};
 use crate::path::{AsPath, PathBuf};
 use crate::prelude::String;
 use crate::rt::Files;
 use std::fs;
 use std::marker::PhantomData;
 
-/// What a path leads to, whether it is a folder or a file, and who may do what with it.
-pub use std::fs::{FileType, Metadata, Permissions};
+/// What a path leads to, and whether it is a folder or a file.
+pub use std::fs::{FileType, Metadata};
 
 /// An open file.
 pub struct File(fs::File);
@@ -19,30 +19,6 @@ impl File {
     /// Opens a file to be read.
     pub fn open<R: Files, P: AsPath>(_: &R, path: P) -> Result<File> {
         fs::File::open(path.path_text()).map(File)
-    }
-
-    /// Makes a file to be written. One that is there already is an error.
-    pub fn create_new<R: Files, P: AsPath>(_: &R, path: P) -> Result<File> {
-        fs::File::create_new(path.path_text()).map(File)
-    }
-}
-
-/// What is asked of an open file.
-pub trait OpenFile {
-    /// Says who may do what with it.
-    fn set_permissions(&mut self, permissions: Permissions) -> Result<()>;
-
-    /// Waits until what was written is on the disk.
-    fn sync_all(&mut self) -> Result<()>;
-}
-
-impl OpenFile for File {
-    fn set_permissions(&mut self, permissions: Permissions) -> Result<()> {
-        self.0.set_permissions(permissions)
-    }
-
-    fn sync_all(&mut self) -> Result<()> {
-        self.0.sync_all()
     }
 }
 
@@ -53,35 +29,9 @@ impl Read for File {
     }
 }
 
-/// Each write is one call of the system, and nothing is held back.
-impl Write for File {
-    fn write(&mut self, buf: &[u8]) -> Result<usize> {
-        std::io::Write::write(&mut self.0, buf)
-    }
-
-    fn flush(&mut self) -> Result<()> {
-        Ok(())
-    }
-}
-
 /// What a path leads to. A link is followed.
 pub fn metadata<R: Files, P: AsPath>(_: &R, path: P) -> Result<Metadata> {
     fs::metadata(path.path_text())
-}
-
-/// The path with no link in it.
-pub fn canonicalize<R: Files, P: AsPath>(_: &R, path: P) -> Result<PathBuf> {
-    text(fs::canonicalize(path.path_text())?)
-}
-
-/// Removes a file.
-pub fn remove_file<R: Files, P: AsPath>(_: &R, path: P) -> Result<()> {
-    fs::remove_file(path.path_text())
-}
-
-/// Gives a file another name. One that has it already is replaced.
-pub fn rename<R: Files, P: AsPath, Q: AsPath>(_: &R, from: P, to: Q) -> Result<()> {
-    fs::rename(from.path_text(), to.path_text())
 }
 
 /// A path as a text.

@@ -1,36 +1,12 @@
 //! Readers and writers.
 
-use crate::prelude::Vec;
-
 /// `ErrorKind::BrokenPipe` says that nobody reads what is written.
 pub use std::io::{Error, ErrorKind, Result};
-
-/// How many bytes are asked for at once.
-const PIECE: usize = 65536;
 
 /// What gives bytes.
 pub trait Read {
     /// Answers a number of bytes, at most those that there is room for, and they are the next ones; 0 is the end.
     fn read(&mut self, buf: &mut [u8]) -> Result<usize>;
-
-    /// Appends all bytes up to the end, and answers how many. A read that was interrupted is tried again. Where memory is
-    /// refused the error is `OutOfMemory`.
-    fn read_to_end(&mut self, bytes: &mut Vec<u8>) -> Result<usize> {
-        let mut piece = [0; PIECE];
-        let mut all = 0;
-        loop {
-            match self.read(&mut piece) {
-                Ok(0) => return Ok(all),
-                Ok(count) => {
-                    let more = bytes.extend_from_slice(&piece[..count]);
-                    more.map_err(|_| Error::from(ErrorKind::OutOfMemory))?;
-                    all += count;
-                }
-                Err(error) if error.kind() == ErrorKind::Interrupted => {}
-                Err(error) => return Err(error),
-            }
-        }
-    }
 }
 
 /// What takes bytes.

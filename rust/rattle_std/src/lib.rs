@@ -30,11 +30,6 @@ pub mod alloc {
 pub mod process {
     /// The status with which the process ends.
     pub use std::process::ExitCode;
-
-    /// The number of the process, which no other running one has.
-    pub fn id(_: crate::rt::Process) -> u32 {
-        std::process::id()
-    }
 }
 
 /// What each file of a source in Rattle names without an import.
@@ -46,15 +41,7 @@ pub mod prelude {
     pub use crate::rt::{AllocGlobal, HostRuntime};
 
     /// The texts are those that Rust's macros of the same names write.
-    pub use crate::{eprint, eprintln, format};
-}
-
-/// Writes to standard error. The answer tells whether it was written.
-#[macro_export]
-macro_rules! eprint {
-    ($rt:expr; $($words:tt)*) => {
-        $crate::rt::say(&mut $rt.stderr(), format_args!($($words)*))
-    };
+    pub use crate::{eprintln, format};
 }
 
 /// Writes a line to standard error. The answer tells whether it was written.

@@ -6,16 +6,7 @@ use crate::prelude::String;
 pub trait AsPath {
     /// The path as a text.
     fn path_text(&self) -> &str;
-
-    /// The path itself.
-    fn as_path(&self) -> Path<'_> {
-        Path(self.path_text())
-    }
 }
-
-/// A path.
-#[derive(Clone, Copy, Debug)]
-pub struct Path<'a>(&'a str);
 
 /// A path that is held.
 #[derive(Debug)]
@@ -24,12 +15,6 @@ pub struct PathBuf(pub(crate) String);
 impl AsPath for PathBuf {
     fn path_text(&self) -> &str {
         self.0.as_str()
-    }
-}
-
-impl AsPath for Path<'_> {
-    fn path_text(&self) -> &str {
-        self.0
     }
 }
 

@@ -84,9 +84,6 @@ pub trait Files {}
 
 impl Files for HostRuntime {}
 
-/// The process.
-pub struct Process(());
-
 /// The handle that `main` is passed in Rattle.
 pub fn start() -> HostRuntime {
     HostRuntime(())
@@ -96,11 +93,6 @@ impl HostRuntime {
     /// The allocator.
     pub fn alloc(&self) -> Global {
         Global
-    }
-
-    /// The process.
-    pub fn process(&self) -> Process {
-        Process(())
     }
 
     /// Standard input.

@@ -38,6 +38,13 @@
 )]
 mod lanes;
 
+// The tests have plain functions in their place.
+#[cfg(target_arch = "aarch64")]
+#[allow(unused_imports)]
+use core::arch::aarch64 as arch;
+#[cfg(target_arch = "wasm32")]
+#[allow(unused_imports)]
+use core::arch::wasm32 as arch;
 use core::ops::{BitAnd, BitOr, Sub};
 use lanes::{COUNT, Lanes};
 
@@ -149,58 +156,4 @@ impl<const N: usize> BitAnd for Mask<N> {
 }
 
 #[cfg(test)]
-mod tests {
-    use super::{Bytes, COUNT, Mask, u8x32, u8x64};
-
-    /// Bit k is whether the test holds of the two bytes in lane k.
-    fn bits(a: &[u8], b: &[u8], test: impl Fn(u8, u8) -> bool) -> u64 {
-        let pairs = a.iter().zip(b).enumerate();
-        pairs.fold(0, |bits, (k, (a, b))| bits | u64::from(test(*a, *b)) << k)
-    }
-
-    /// Each pair of bytes, in each lane in turn, against the same said of one byte.
-    fn all_pairs<const N: usize>() {
-        let len = N * COUNT;
-        for apart in 0..=255u8 {
-            for from in (0..256).step_by(len) {
-                let a: std::vec::Vec<u8> = (from..from + len).map(|n| n as u8).collect();
-                let b: std::vec::Vec<u8> = a.iter().map(|n| n.wrapping_add(apart)).collect();
-                let (x, y) = (Bytes::<N>::from_slice(&a), Bytes::<N>::from_slice(&b));
-                assert_eq!(x.simd_eq(y).to_bitmask(), bits(&a, &b, |a, b| a == b));
-                assert_eq!(x.simd_ne(y).to_bitmask(), bits(&a, &b, |a, b| a != b));
-                assert_eq!(x.simd_ge(y).to_bitmask(), bits(&a, &b, |a, b| a >= b));
-                assert_eq!(x.simd_lt(y).to_bitmask(), bits(&a, &b, |a, b| a < b));
-                let seven = Bytes::splat(7);
-                let (less, joined) = ((x - y).simd_ge(seven), (x | y).simd_eq(seven));
-                assert_eq!(
-                    less.to_bitmask(),
-                    bits(&a, &b, |a, b| a.wrapping_sub(b) >= 7)
-                );
-                assert_eq!(joined.to_bitmask(), bits(&a, &b, |a, b| a | b == 7));
-                let (one, other): (Mask<N>, Mask<N>) = (x.simd_ge(y), x.simd_ge(seven));
-                let (any, both) = ((one | other).to_bitmask(), (one & other).to_bitmask());
-                assert_eq!(any, bits(&a, &b, |a, b| a >= b || a >= 7));
-                assert_eq!(both, bits(&a, &b, |a, b| a >= b && a >= 7));
-            }
-        }
-    }
-
-    #[test]
-    fn lanes_are_bytes() {
-        all_pairs::<{ 32 / COUNT }>();
-        all_pairs::<{ 64 / COUNT }>();
-        let bytes: [u8; 64] = core::array::from_fn(|n| n as u8);
-        assert_eq!(
-            u8x32::from_slice(&bytes)
-                .simd_lt(u8x32::splat(3))
-                .to_bitmask(),
-            7
-        );
-        assert_eq!(
-            u8x64::from_slice(&bytes)
-                .simd_lt(u8x64::splat(3))
-                .to_bitmask(),
-            7
-        );
-    }
-}
+mod tests;

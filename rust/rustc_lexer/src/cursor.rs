@@ -12,10 +12,11 @@ use core::fmt;
 /// while cursor.advance_token().kind != TokenKind::Plus {}
 /// assert_eq!(cursor.as_str(), " b");
 /// ```
+#[derive(Clone)]
 pub struct Cursor<'a>(erased::Cursor<'a>);
 
 impl<'a> Cursor<'a> {
-    /// A cursor at the front of the text.
+    /// Returns a cursor at the front of the text.
     ///
     /// ```
     /// use rustc_lexer::{Cursor, FrontmatterAllowed};
@@ -27,11 +28,12 @@ impl<'a> Cursor<'a> {
     ///
     /// Where the text has more than `u32::MAX` bytes.
     #[inline]
+    #[must_use]
     pub fn new(input: &'a str, frontmatter_allowed: FrontmatterAllowed) -> Cursor<'a> {
         Cursor(erased::Cursor::new(fitting(input), frontmatter_allowed))
     }
 
-    /// The text that is left.
+    /// Returns the text that is left.
     ///
     /// ```
     /// use rustc_lexer::{Cursor, FrontmatterAllowed};
@@ -41,11 +43,12 @@ impl<'a> Cursor<'a> {
     /// assert_eq!(cursor.as_str(), " x");
     /// ```
     #[inline]
+    #[must_use]
     pub fn as_str(&self) -> &'a str {
         self.0.as_str()
     }
 
-    /// The next character, which is not taken, or U+0000 at the end of the text.
+    /// Returns the next character, which is not taken, or U+0000 at the end of the text.
     ///
     /// ```
     /// use rustc_lexer::{Cursor, FrontmatterAllowed};
@@ -53,11 +56,12 @@ impl<'a> Cursor<'a> {
     /// assert_eq!(Cursor::new("é", FrontmatterAllowed::No).first(), 'é');
     /// ```
     #[inline]
+    #[must_use]
     pub fn first(&self) -> char {
         self.0.first()
     }
 
-    /// The character after the next two, or U+0000 where there is none.
+    /// Returns the character after the next two, which are not taken, or U+0000 where there is none.
     ///
     /// ```
     /// use rustc_lexer::{Cursor, FrontmatterAllowed};
@@ -65,12 +69,13 @@ impl<'a> Cursor<'a> {
     /// assert_eq!(Cursor::new("abc", FrontmatterAllowed::No).third(), 'c');
     /// ```
     #[inline]
+    #[must_use]
     pub fn third(&self) -> char {
         self.0.third()
     }
 
-    /// Takes the next token; at the end of the text `Eof`, of length 0, which changes nothing. Bytes that are pending
-    /// count as part of the token.
+    /// Takes the next token and returns it; at the end of the text `Eof`, of length 0, which changes nothing. Bytes that
+    /// are pending count as part of the token.
     ///
     /// ```
     /// use rustc_lexer::{Cursor, FrontmatterAllowed, TokenKind};
@@ -84,7 +89,7 @@ impl<'a> Cursor<'a> {
         self.0.advance_token()
     }
 
-    /// Takes a guarded string. Where there is none, the hashes at the front are taken, and are part of the next
+    /// Takes a guarded string and returns it. Where there is none, the hashes at the front are taken, and are part of the next
     /// token.
     ///
     /// ```

@@ -1,9 +1,10 @@
 //! A whole document that is kept with its tokens under edits.
 
+use crate::edit_error::{EditError, accepted, short};
 use crate::erased::{self, Edit, EditStop};
-use crate::lexed_text::{REFUSED, is_accepted, there};
+use crate::lexed_text::there;
 use crate::support::{AllocError, Global};
-use crate::{Bound, Edition, Pieces, Relexed, Stepper, Steps, Token, fitting};
+use crate::{Bound, Edition, Pieces, Relexed, Stepper, Steps, Token};
 use core::fmt;
 use core::ops::Range;
 
@@ -26,12 +27,13 @@ use core::ops::Range;
 /// assert_eq!(lexed.pieces().nth(3).map(|piece| (piece.start, piece.text)), Some((28, "fn")));
 /// ```
 ///
-/// Each call that takes memory has a twin, such as [`try_edit`](LexedDocument::try_edit), which answers where memory is
-/// refused.
+/// Each call that panics where a text does not fit, a range is bad or memory is refused has a twin that returns an error
+/// there, such as [`try_edit`](LexedDocument::try_edit).
+#[derive(Clone)]
 pub struct LexedDocument<S: Stepper = Steps>(erased::LexedDocument<S>);
 
 impl LexedDocument {
-    /// The document with its tokens in the newest edition.
+    /// Returns the document with its tokens in the newest edition.
     ///
     /// ```
     /// use rustc_lexer::LexedDocument;
@@ -42,11 +44,12 @@ impl LexedDocument {
     /// # Panics
     ///
     /// Where the text has more than `u32::MAX` bytes, or memory is refused.
+    #[must_use]
     pub fn new(text: impl AsRef<str>) -> LexedDocument {
         LexedDocument::new_in(text, Edition::E2024)
     }
 
-    /// The document with its tokens in an edition.
+    /// Returns the document with its tokens in an edition.
     ///
     /// ```
     /// use rustc_lexer::{Edition, LexedDocument};
@@ -57,35 +60,40 @@ impl LexedDocument {
     /// # Panics
     ///
     /// Where the text has more than `u32::MAX` bytes, or memory is refused.
+    #[must_use]
     pub fn new_in(text: impl AsRef<str>, edition: Edition) -> LexedDocument {
-        LexedDocument::try_new_in(text, edition).expect(REFUSED)
+        LexedDocument::try_new_in(text, edition).unwrap_or_else(|error| panic!("{error}"))
     }
 
-    /// The document with its tokens in an edition, or that memory was refused.
+    /// Returns the document with its tokens in an edition, or why it could not be made: `TooLong` or `Memory`.
     ///
-    /// # Panics
+    /// ```
+    /// use rustc_lexer::{Edition, LexedDocument};
     ///
-    /// Where the text has more than `u32::MAX` bytes.
-    pub fn try_new_in(
-        text: impl AsRef<str>,
-        edition: Edition,
-    ) -> Result<LexedDocument, AllocError> {
-        let text = fitting(text.as_ref());
-        erased::LexedDocument::new_in(Global, text, edition).map(LexedDocument)
+    /// let lexed = LexedDocument::try_new_in("let x;", Edition::E2021)?;
+    /// assert_eq!(lexed.tokens().len(), 4);
+    /// # Ok::<(), rustc_lexer::EditError>(())
+    /// ```
+    pub fn try_new_in(text: impl AsRef<str>, edition: Edition) -> Result<LexedDocument, EditError> {
+        let text = short(text.as_ref())?;
+        Ok(LexedDocument(erased::LexedDocument::new_in(
+            Global, text, edition,
+        )?))
     }
 
-    /// The edition that the tokens are of. Edits keep it.
+    /// Returns the edition that the tokens are of. Edits keep it.
     ///
     /// ```
     /// use rustc_lexer::{Edition, LexedDocument};
     ///
     /// assert_eq!(LexedDocument::new("").edition(), Edition::E2024);
     /// ```
+    #[must_use]
     pub fn edition(&self) -> Edition {
         self.0.edition()
     }
 
-    /// Where the body begins, which is what follows the head: how many tokens stand before it, and the byte.
+    /// Returns where the body begins, which is what follows the head: how many tokens stand before it, and the byte.
     ///
     /// ```
     /// use rustc_lexer::LexedDocument;
@@ -93,6 +101,7 @@ impl LexedDocument {
     /// let body = LexedDocument::new("#!/bin/sh\n---\n---\nfn").body();
     /// assert_eq!((body.number, body.place), (2, 17));
     /// ```
+    #[must_use]
     pub fn body(&self) -> Bound {
         self.0.body()
     }
@@ -111,17 +120,28 @@ impl LexedDocument {
     ///
     /// Where memory is refused. Nothing changes then.
     pub fn set_edition(&mut self, edition: Edition) {
-        self.try_set_edition(edition).expect(REFUSED);
+        self.try_set_edition(edition)
+            .unwrap_or_else(|error| panic!("{error}"));
     }
 
     /// Lexes the document again, in another edition. Where memory is refused nothing changes.
+    ///
+    /// ```
+    /// use rustc_lexer::{Edition, LexedDocument};
+    ///
+    /// let mut lexed = LexedDocument::new("'r#a");
+    /// lexed.try_set_edition(Edition::E2018)?;
+    /// assert_eq!(lexed.tokens().len(), 3);
+    /// # Ok::<(), rustc_lexer::AllocError>(())
+    /// ```
     pub fn try_set_edition(&mut self, edition: Edition) -> Result<(), AllocError> {
         self.0.set_edition(edition)
     }
 }
 
 impl<S: Stepper> LexedDocument<S> {
-    /// The document with its tokens, those of its body by a stepper of the caller's, or that memory was refused.
+    /// Returns the document with its tokens, those of its body by a stepper of the caller's, or why it could not be made:
+    /// `TooLong` or `Memory`.
     ///
     /// ```
     /// use rustc_lexer::{LexedDocument, Steps};
@@ -129,32 +149,40 @@ impl<S: Stepper> LexedDocument<S> {
     /// let lexed = LexedDocument::try_with("#!/bin/sh\nlet x;", Steps::new()).unwrap();
     /// assert_eq!(lexed.tokens().len(), 5);
     /// ```
-    ///
-    /// # Panics
-    ///
-    /// Where the text has more than `u32::MAX` bytes.
-    pub fn try_with(text: impl AsRef<str>, stepper: S) -> Result<LexedDocument<S>, AllocError> {
-        let text = fitting(text.as_ref());
-        erased::LexedDocument::with(Global, text, stepper).map(LexedDocument)
+    pub fn try_with(text: impl AsRef<str>, stepper: S) -> Result<LexedDocument<S>, EditError> {
+        let text = short(text.as_ref())?;
+        Ok(LexedDocument(erased::LexedDocument::with(
+            Global, text, stepper,
+        )?))
     }
 
-    /// The stepper that the tokens of the body came from.
+    /// Returns the stepper that the tokens of the body came from.
+    ///
+    /// ```
+    /// use rustc_lexer::{LexedDocument, Stepper, Steps};
+    ///
+    /// let lexed = LexedDocument::try_with("a b", Steps::new()).unwrap();
+    /// let mut steps = lexed.stepper().clone();
+    /// assert_eq!(steps.step("let x").len, 3);
+    /// ```
+    #[must_use]
     pub fn stepper(&self) -> &S {
         self.0.stepper()
     }
 
-    /// The text, with its shebang line.
+    /// Returns the text, with its shebang line.
     ///
     /// ```
     /// use rustc_lexer::LexedDocument;
     ///
     /// assert_eq!(LexedDocument::new("#!/bin/sh\n").text(), "#!/bin/sh\n");
     /// ```
+    #[must_use]
     pub fn text(&self) -> &str {
         self.0.text()
     }
 
-    /// The length of the shebang line, or 0. There the first token begins.
+    /// Returns the length of the shebang line, or 0. There the first token begins.
     ///
     /// ```
     /// use rustc_lexer::LexedDocument;
@@ -162,11 +190,12 @@ impl<S: Stepper> LexedDocument<S> {
     /// assert_eq!(LexedDocument::new("#!/bin/sh\nfn").shebang_len(), 9);
     /// assert_eq!(LexedDocument::new("#![no_std]").shebang_len(), 0);
     /// ```
+    #[must_use]
     pub fn shebang_len(&self) -> usize {
         self.0.shebang_len()
     }
 
-    /// Its tokens past the shebang line, in order.
+    /// Returns its tokens past the shebang line, in order.
     ///
     /// ```
     /// use rustc_lexer::{LexedDocument, TokenKind};
@@ -174,11 +203,12 @@ impl<S: Stepper> LexedDocument<S> {
     /// let lexed = LexedDocument::new("#!/bin/sh\na");
     /// assert_eq!(lexed.tokens()[1].kind, TokenKind::Ident);
     /// ```
+    #[must_use]
     pub fn tokens(&self) -> &[Token] {
         self.0.tokens()
     }
 
-    /// The tokens with their places and their parts of the text, in order. The first place is
+    /// Returns the tokens with their places and their parts of the text, in order. The first place is
     /// [`shebang_len`](LexedDocument::shebang_len).
     ///
     /// ```
@@ -191,7 +221,7 @@ impl<S: Stepper> LexedDocument<S> {
         self.0.pieces()
     }
 
-    /// The pieces of some tokens, by their numbers: after an edit those of `relexed.range()` are to be painted anew. A
+    /// Returns the pieces of some tokens, by their numbers: after an edit those of `relexed.range()` are to be painted anew. A
     /// shebang line is no piece: where it changes, `relexed.kept_front` is 0, and what stands before the first piece is
     /// to be painted too.
     ///
@@ -212,7 +242,7 @@ impl<S: Stepper> LexedDocument<S> {
         self.0.pieces_of(numbers.start, numbers.end)
     }
 
-    /// Whether the range is inside the text, between characters, and the edit makes a text of at most `u32::MAX` bytes.
+    /// Returns whether the range is inside the text, between characters, and the edit makes a text of at most `u32::MAX` bytes.
     ///
     /// ```
     /// use rustc_lexer::LexedDocument;
@@ -220,6 +250,7 @@ impl<S: Stepper> LexedDocument<S> {
     /// let lexed = LexedDocument::new("é");
     /// assert!(lexed.accepts(0..2, "e") && !lexed.accepts(1..2, "e"));
     /// ```
+    #[must_use]
     pub fn accepts(&self, range: Range<usize>, insert: &str) -> bool {
         self.0.accepts(range.start, range.end, insert)
     }
@@ -238,22 +269,28 @@ impl<S: Stepper> LexedDocument<S> {
     ///
     /// # Panics
     ///
-    /// Where the edit is not accepted, or memory is refused. Text and tokens are then as they were.
+    /// Where [`try_edit`](LexedDocument::try_edit) returns an error. Text and tokens are then as they were.
     pub fn edit(&mut self, range: Range<usize>, insert: &str) -> Relexed {
-        self.try_edit(range, insert).expect(REFUSED)
+        self.try_edit(range.clone(), insert)
+            .unwrap_or_else(|error| panic!("the edit of {range:?}: {error}"))
     }
 
-    /// Puts `insert` in place of the range of bytes. Where memory is refused, text and tokens are as they were.
+    /// Puts `insert` in place of the range of bytes, or returns why not. Text and tokens are then as they were.
     ///
-    /// # Panics
+    /// ```
+    /// use rustc_lexer::{EditError, LexedDocument};
     ///
-    /// Where the edit is not accepted. Text and tokens are then as they were.
-    pub fn try_edit(&mut self, range: Range<usize>, insert: &str) -> Result<Relexed, AllocError> {
-        is_accepted(self.accepts(range.clone(), insert), &range);
-        self.0.edit(range.start, range.end, insert)
+    /// let mut lexed = LexedDocument::new("let é;");
+    /// assert_eq!(lexed.try_edit(4..5, "e"), Err(EditError::Range));
+    /// assert_eq!(lexed.try_edit(4..6, "e").map(|relexed| relexed.lexed), Ok(3));
+    /// assert_eq!(lexed.text(), "let e;");
+    /// ```
+    pub fn try_edit(&mut self, range: Range<usize>, insert: &str) -> Result<Relexed, EditError> {
+        accepted(|insert| self.accepts(range.clone(), insert), insert)?;
+        Ok(self.0.edit(range.start, range.end, insert)?)
     }
 
-    /// Makes the edits in order, as far as the first that is refused.
+    /// Makes the edits in order, as far as the first that is refused, and returns which that is, and why.
     ///
     /// ```
     /// use rustc_lexer::{Edit, EditStop, LexedDocument};

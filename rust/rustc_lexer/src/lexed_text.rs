@@ -1,8 +1,9 @@
 //! A text that is kept with its tokens under edits.
 
+use crate::edit_error::{EditError, accepted, short};
 use crate::erased::{self, Edit, EditStop};
 use crate::support::{AllocError, Global};
-use crate::{Edition, Pieces, Relexed, Stepper, Steps, Token, fitting};
+use crate::{Edition, Pieces, Relexed, Stepper, Steps, Token};
 use core::fmt;
 use core::iter::FusedIterator;
 use core::ops::Range;
@@ -21,12 +22,10 @@ use core::ops::Range;
 /// assert_eq!((relexed.kept_front, relexed.lexed, relexed.kept_back), (6, 7, 3));
 /// ```
 ///
-/// Each call that takes memory has a twin, such as [`try_edit`](LexedText::try_edit), which answers where memory is
-/// refused.
+/// Each call that panics where a text does not fit, a range is bad or memory is refused has a twin that returns an error
+/// there, such as [`try_edit`](LexedText::try_edit).
+#[derive(Clone)]
 pub struct LexedText<S: Stepper = Steps>(erased::LexedText<S>);
-
-/// What is said where memory is refused.
-pub(crate) const REFUSED: &str = "memory was refused";
 
 /// The numbers of tokens, which have to be there.
 pub(crate) fn there(numbers: Range<usize>, tokens: &[Token]) -> Range<usize> {
@@ -37,16 +36,8 @@ pub(crate) fn there(numbers: Range<usize>, tokens: &[Token]) -> Range<usize> {
     numbers
 }
 
-/// Panics where an edit is not accepted.
-pub(crate) fn is_accepted(accepted: bool, range: &Range<usize>) {
-    assert!(
-        accepted,
-        "the edit of {range:?} has to be inside the text, between characters, and to make a text that fits"
-    );
-}
-
 impl LexedText {
-    /// The text with its tokens, those of [`tokenize`](crate::tokenize) with `FrontmatterAllowed::No`.
+    /// Returns the text with its tokens, those of [`tokenize`](crate::tokenize) with `FrontmatterAllowed::No`.
     ///
     /// ```
     /// use rustc_lexer::LexedText;
@@ -57,11 +48,12 @@ impl LexedText {
     /// # Panics
     ///
     /// Where the text has more than `u32::MAX` bytes, or memory is refused.
+    #[must_use]
     pub fn new(text: impl AsRef<str>) -> LexedText {
         LexedText::new_in(text, Edition::E2024)
     }
 
-    /// The text with its tokens in an edition.
+    /// Returns the text with its tokens in an edition.
     ///
     /// ```
     /// use rustc_lexer::{Edition, LexedText};
@@ -72,27 +64,33 @@ impl LexedText {
     /// # Panics
     ///
     /// Where the text has more than `u32::MAX` bytes, or memory is refused.
+    #[must_use]
     pub fn new_in(text: impl AsRef<str>, edition: Edition) -> LexedText {
-        LexedText::try_new_in(text, edition).expect(REFUSED)
+        LexedText::try_new_in(text, edition).unwrap_or_else(|error| panic!("{error}"))
     }
 
-    /// The text with its tokens in an edition, or that memory was refused.
+    /// Returns the text with its tokens in an edition, or why it could not be made: `TooLong` or `Memory`.
     ///
-    /// # Panics
+    /// ```
+    /// use rustc_lexer::{Edition, LexedText};
     ///
-    /// Where the text has more than `u32::MAX` bytes.
-    pub fn try_new_in(text: impl AsRef<str>, edition: Edition) -> Result<LexedText, AllocError> {
-        let text = fitting(text.as_ref());
+    /// let lexed = LexedText::try_new_in("let x;", Edition::E2021)?;
+    /// assert_eq!(lexed.tokens().len(), 4);
+    /// # Ok::<(), rustc_lexer::EditError>(())
+    /// ```
+    pub fn try_new_in(text: impl AsRef<str>, edition: Edition) -> Result<LexedText, EditError> {
+        let text = short(text.as_ref())?;
         Ok(LexedText(erased::LexedText::new_in(Global, text, edition)?))
     }
 
-    /// The edition that the tokens are of. Edits keep it.
+    /// Returns the edition that the tokens are of. Edits keep it.
     ///
     /// ```
     /// use rustc_lexer::{Edition, LexedText};
     ///
     /// assert_eq!(LexedText::new("").edition(), Edition::E2024);
     /// ```
+    #[must_use]
     pub fn edition(&self) -> Edition {
         self.0.edition()
     }
@@ -111,17 +109,27 @@ impl LexedText {
     ///
     /// Where memory is refused. Nothing changes then.
     pub fn set_edition(&mut self, edition: Edition) {
-        self.try_set_edition(edition).expect(REFUSED);
+        self.try_set_edition(edition)
+            .unwrap_or_else(|error| panic!("{error}"));
     }
 
     /// Lexes the text again, in another edition. Where memory is refused nothing changes.
+    ///
+    /// ```
+    /// use rustc_lexer::{Edition, LexedText};
+    ///
+    /// let mut lexed = LexedText::new("'r#a");
+    /// lexed.try_set_edition(Edition::E2018)?;
+    /// assert_eq!(lexed.tokens().len(), 3);
+    /// # Ok::<(), rustc_lexer::AllocError>(())
+    /// ```
     pub fn try_set_edition(&mut self, edition: Edition) -> Result<(), AllocError> {
         self.0.set_edition(edition)
     }
 }
 
 impl<S: Stepper> LexedText<S> {
-    /// The text with its tokens by a stepper of the caller's, or that memory was refused.
+    /// Returns the text with its tokens by a stepper of the caller's, or why it could not be made: `TooLong` or `Memory`.
     ///
     /// ```
     /// use rustc_lexer::{LexedText, Steps};
@@ -129,32 +137,38 @@ impl<S: Stepper> LexedText<S> {
     /// let lexed = LexedText::try_with("let x;", Steps::new()).unwrap();
     /// assert_eq!(lexed.tokens().len(), 4);
     /// ```
-    ///
-    /// # Panics
-    ///
-    /// Where the text has more than `u32::MAX` bytes.
-    pub fn try_with(text: impl AsRef<str>, stepper: S) -> Result<LexedText<S>, AllocError> {
-        let text = fitting(text.as_ref());
+    pub fn try_with(text: impl AsRef<str>, stepper: S) -> Result<LexedText<S>, EditError> {
+        let text = short(text.as_ref())?;
         Ok(LexedText(erased::LexedText::with(Global, text, stepper)?))
     }
 
-    /// The stepper that the tokens came from.
+    /// Returns the stepper that the tokens came from.
+    ///
+    /// ```
+    /// use rustc_lexer::{LexedText, Stepper, Steps};
+    ///
+    /// let lexed = LexedText::try_with("a b", Steps::new()).unwrap();
+    /// let mut steps = lexed.stepper().clone();
+    /// assert_eq!(steps.step("let x").len, 3);
+    /// ```
+    #[must_use]
     pub fn stepper(&self) -> &S {
         self.0.stepper()
     }
 
-    /// The text.
+    /// Returns the text.
     ///
     /// ```
     /// use rustc_lexer::LexedText;
     ///
     /// assert_eq!(LexedText::new("let x;").text(), "let x;");
     /// ```
+    #[must_use]
     pub fn text(&self) -> &str {
         self.0.text()
     }
 
-    /// Its tokens, in order.
+    /// Returns its tokens, in order.
     ///
     /// ```
     /// use rustc_lexer::{LexedText, TokenKind};
@@ -162,11 +176,12 @@ impl<S: Stepper> LexedText<S> {
     /// let lexed = LexedText::new("a + b");
     /// assert_eq!(lexed.tokens()[2].kind, TokenKind::Plus);
     /// ```
+    #[must_use]
     pub fn tokens(&self) -> &[Token] {
         self.0.tokens()
     }
 
-    /// The tokens with their places and their parts of the text, in order.
+    /// Returns the tokens with their places and their parts of the text, in order.
     ///
     /// ```
     /// use rustc_lexer::LexedText;
@@ -178,7 +193,7 @@ impl<S: Stepper> LexedText<S> {
         self.0.pieces()
     }
 
-    /// The pieces of some tokens, by their numbers: after an edit those of `relexed.range()` are to be painted anew.
+    /// Returns the pieces of some tokens, by their numbers: after an edit those of `relexed.range()` are to be painted anew.
     ///
     /// ```
     /// use rustc_lexer::LexedText;
@@ -197,7 +212,7 @@ impl<S: Stepper> LexedText<S> {
         self.0.pieces_of(numbers.start, numbers.end)
     }
 
-    /// Whether the range is inside the text, between characters, and the edit makes a text of at most `u32::MAX` bytes.
+    /// Returns whether the range is inside the text, between characters, and the edit makes a text of at most `u32::MAX` bytes.
     ///
     /// ```
     /// use rustc_lexer::LexedText;
@@ -205,6 +220,7 @@ impl<S: Stepper> LexedText<S> {
     /// let lexed = LexedText::new("é");
     /// assert!(lexed.accepts(0..2, "e") && !lexed.accepts(1..2, "e"));
     /// ```
+    #[must_use]
     pub fn accepts(&self, range: Range<usize>, insert: &str) -> bool {
         self.0.accepts(range.start, range.end, insert)
     }
@@ -221,22 +237,28 @@ impl<S: Stepper> LexedText<S> {
     ///
     /// # Panics
     ///
-    /// Where the edit is not accepted, or memory is refused. Text and tokens are then as they were.
+    /// Where [`try_edit`](LexedText::try_edit) returns an error. Text and tokens are then as they were.
     pub fn edit(&mut self, range: Range<usize>, insert: &str) -> Relexed {
-        self.try_edit(range, insert).expect(REFUSED)
+        self.try_edit(range.clone(), insert)
+            .unwrap_or_else(|error| panic!("the edit of {range:?}: {error}"))
     }
 
-    /// Puts `insert` in place of the range of bytes. Where memory is refused, text and tokens are as they were.
+    /// Puts `insert` in place of the range of bytes, or returns why not. Text and tokens are then as they were.
     ///
-    /// # Panics
+    /// ```
+    /// use rustc_lexer::{EditError, LexedText};
     ///
-    /// Where the edit is not accepted. Text and tokens are then as they were.
-    pub fn try_edit(&mut self, range: Range<usize>, insert: &str) -> Result<Relexed, AllocError> {
-        is_accepted(self.accepts(range.clone(), insert), &range);
-        self.0.edit(range.start, range.end, insert)
+    /// let mut lexed = LexedText::new("let é;");
+    /// assert_eq!(lexed.try_edit(4..5, "e"), Err(EditError::Range));
+    /// assert_eq!(lexed.try_edit(4..6, "e").map(|relexed| relexed.lexed), Ok(3));
+    /// assert_eq!(lexed.text(), "let e;");
+    /// ```
+    pub fn try_edit(&mut self, range: Range<usize>, insert: &str) -> Result<Relexed, EditError> {
+        accepted(|insert| self.accepts(range.clone(), insert), insert)?;
+        Ok(self.0.edit(range.start, range.end, insert)?)
     }
 
-    /// Makes the edits in order, as far as the first that is refused.
+    /// Makes the edits in order, as far as the first that is refused, and returns which that is, and why.
     ///
     /// ```
     /// use rustc_lexer::{Edit, EditStop, LexedText};
@@ -268,7 +290,7 @@ impl Default for LexedText {
 }
 
 impl Relexed {
-    /// The numbers of the tokens that were lexed, among those behind the edit.
+    /// Returns the numbers of the tokens that were lexed, among those behind the edit.
     ///
     /// ```
     /// use rustc_lexer::LexedText;
@@ -278,6 +300,7 @@ impl Relexed {
     /// let written: u32 = lexed.tokens()[relexed.range()].iter().map(|token| token.len).sum();
     /// assert_eq!(written, 4);
     /// ```
+    #[must_use]
     pub fn range(&self) -> Range<usize> {
         self.kept_front..self.kept_front + self.lexed
     }

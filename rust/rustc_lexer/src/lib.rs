@@ -15,7 +15,7 @@
 //! | the tokens of a text | [`tokenize`] |
 //! | those of a whole file, past a shebang line, in an edition | [`tokenize_document`] |
 //! | those of a part of an older edition | [`tokenize_in`], [`tokenize_as`] |
-//! | many tokens at once, which is faster | [`Tokens::fill`] |
+//! | many tokens at once, which is faster | [`Tokens::fill`], `Tokens::into_vec` |
 //! | to take tokens one by one, and look ahead | [`Cursor`] |
 //! | a text that is edited, always with its tokens | [`LexedText`], and [`LexedDocument`] for a whole file |
 //! | the same over lists of your own | [`Relexing`] |
@@ -24,7 +24,7 @@
 //!
 //! # What is proved
 //!
-//! The modules below `erased` are made from a source in Rattle, which is Rust with contracts, by deleting the
+//! The modules below [`erased`] are made from a source in Rattle, which is Rust with contracts, by deleting the
 //! contracts. Of that source it is proved, for every text, that these are the only tokens which a grammar of the
 //! language allows. The rest of this crate is written by hand. The calls of the original and those of [`LexedText`] and
 //! [`LexedDocument`] test what those contracts ask of a caller, and give what takes memory the forms of plain Rust.
@@ -33,7 +33,8 @@
 //!
 //! # A program that keeps the tokens of a file
 //!
-//! ```no_run
+#![cfg_attr(feature = "alloc", doc = "```no_run")]
+#![cfg_attr(not(feature = "alloc"), doc = "```ignore")]
 #![doc = include_str!("../examples/typing.rs")]
 //! ```
 
@@ -46,13 +47,20 @@ extern crate alloc;
 #[cfg(test)]
 extern crate std;
 
+mod classes;
 mod cursor;
+#[cfg(feature = "alloc")]
+mod edit_error;
+/// The proved source without its contracts, as it is made of `crates/rustc_lexer`.
+///
+/// This is for packages that are made in the same way, such as `marks` and the programs: their calls are proved to meet
+/// what the contracts ask for. The calls here test nothing of that, and where it is not met they answer wrongly or panic.
+/// They stay as they are only as long as the source does. All other callers take the calls of the crate's root.
 // Contracts alone use some imports and variables of the source, and Clippy would write some of it otherwise.
 #[allow(missing_docs, unused_imports, unused_variables, dead_code)]
 #[allow(clippy::collapsible_if, clippy::redundant_pattern_matching)]
 #[allow(clippy::len_without_is_empty, clippy::new_without_default)]
 #[allow(clippy::too_many_arguments)]
-#[doc(hidden)]
 pub mod erased;
 #[cfg(feature = "alloc")]
 mod lexed_document;
@@ -61,14 +69,113 @@ mod lexed_text;
 mod tokens;
 mod traits;
 
+pub use classes::{
+    fits, is_horizontal_whitespace, is_id_continue, is_id_start, is_ident, is_whitespace,
+    starts_raw,
+};
 pub use cursor::Cursor;
+#[cfg(feature = "alloc")]
+pub use edit_error::EditError;
+/// ```
+/// use rustc_lexer::Edition;
+///
+/// assert_eq!("2021".parse(), Ok(Edition::E2021));
+/// assert_eq!(Edition::try_from(2018), Ok(Edition::E2018));
+/// assert_eq!(Edition::ALL.map(Edition::year), [2015, 2018, 2021, 2024]);
+/// ```
+#[doc(inline)]
+pub use erased::Edition;
+/// ```
+/// use rustc_lexer::LiteralKind;
+///
+/// let kind = LiteralKind::Str { terminated: true };
+/// assert_eq!(kind.name(), "Str");
+/// assert_eq!(kind.number(), 5);
+/// ```
+#[doc(inline)]
+pub use erased::LiteralKind;
+/// A list of the kinds alone, which a buffer of [`Tokens::fill`] may be:
+///
+/// ```
+/// use rustc_lexer::{FrontmatterAllowed, Record, Token, TokenKind, tokenize};
+///
+/// #[derive(Clone, Copy, Debug, PartialEq)]
+/// struct Kind(TokenKind);
+///
+/// impl Record for Kind {
+///     fn of(token: Token) -> Kind {
+///         Kind(token.kind)
+///     }
+///
+///     fn bare(kind: TokenKind, _: u32) -> Kind {
+///         Kind(kind)
+///     }
+/// }
+///
+/// let mut kinds = [Kind(TokenKind::Eof); 4];
+/// assert_eq!(tokenize("a+b", FrontmatterAllowed::No).fill(&mut kinds), 3);
+/// assert_eq!(kinds[1], Kind(TokenKind::Plus));
+/// ```
+#[doc(inline)]
+pub use erased::Record;
+/// The lengths of the old tokens are enough, and the new ones go where the caller has them:
+///
+/// ```
+/// use rustc_lexer::{Bound, Change, FrontmatterAllowed, Relexing, Steps, Token, tokenize};
+///
+/// let (old, new) = ("let ab = cd;", "let abc = cd;");
+/// let mut tokens: Vec<Token> = tokenize(old, FrontmatterAllowed::No).collect();
+/// // A `c` was put in at 6.
+/// let change = Change { start: 6, old_stop: 6, new_stop: 7 };
+/// let first = Bound { number: 0, place: 0 };
+///
+/// let mut steps = Steps::new();
+/// let mut relexing = Relexing::begin(new, &tokens, change, first);
+/// let mut lexed = Vec::new();
+/// while let Some(token) = relexing.next(&mut steps, new, &tokens, change) {
+///     lexed.push(token);
+/// }
+/// let counts = relexing.counts(tokens.len());
+/// let back = tokens.len() - counts.kept_back;
+/// tokens.splice(counts.kept_front..back, lexed);
+/// assert!(tokenize(new, FrontmatterAllowed::No).eq(tokens));
+/// assert_eq!((counts.kept_front, counts.lexed, counts.kept_back), (2, 1, 5));
+/// ```
+#[doc(inline)]
+pub use erased::Relexing;
+/// A grammar whose tokens are single characters:
+///
+/// ```
+/// use rustc_lexer::{Stepper, Token, TokenKind};
+///
+/// struct Characters;
+///
+/// impl Stepper for Characters {
+///     fn step(&mut self, rest: &str) -> Token {
+///         let len = rest.chars().next().map_or(0, char::len_utf8) as u32;
+///         Token { kind: TokenKind::Unknown, len }
+///     }
+/// }
+///
+/// assert_eq!(Characters.step("é+").len, 2);
+/// ```
+#[doc(inline)]
+pub use erased::Stepper;
+/// ```
+/// use rustc_lexer::TokenKind;
+///
+/// assert_eq!(TokenKind::Plus.name(), "Plus");
+/// assert_eq!(TokenKind::Plus.number(), 37);
+/// ```
+#[doc(inline)]
+pub use erased::TokenKind;
+#[doc(inline)]
 pub use erased::{
-    Base, Bound, Change, DocStyle, Edition, FrontmatterAllowed, GuardedStr, LiteralKind, Measured,
-    RawStrError, Record, Relexed, Relexing, Stepper, Steps, Token, TokenKind, UNICODE_VERSION,
-    UnknownEdition, fits, is_horizontal_whitespace, is_id_continue, is_id_start, is_ident,
-    is_whitespace, starts_raw,
+    Base, Bound, Change, DocStyle, FrontmatterAllowed, GuardedStr, Measured, RawStrError, Relexed,
+    Steps, Token, UnknownEdition,
 };
 #[cfg(feature = "alloc")]
+#[doc(inline)]
 pub use erased::{Edit, EditStop, Piece, Pieces};
 #[cfg(feature = "alloc")]
 pub use lexed_document::LexedDocument;
@@ -77,6 +184,14 @@ pub use lexed_text::LexedText;
 use rattle_support as support;
 pub use rattle_support::AllocError;
 pub use tokens::{EditionTokens, Tokens, tokenize, tokenize_as, tokenize_document, tokenize_in};
+/// The version of Unicode of the tables that tell which characters begin or continue an identifier: those of the
+/// `unicode-ident` of this build. The table of emoji is a part of this crate, and that of Unicode 15.
+///
+/// ```
+/// assert!(rustc_lexer::UNICODE_VERSION.0 >= 15);
+/// ```
+#[doc(inline)]
+pub use unicode_ident::UNICODE_VERSION;
 
 /// The text, which has to fit.
 #[inline(always)]
@@ -85,7 +200,7 @@ fn fitting(text: &str) -> &str {
     text
 }
 
-/// The length of the shebang line at the front of a text, without the end of the line, if one stands there.
+/// Returns the length of the shebang line at the front of a text, without the end of the line, if one stands there.
 ///
 /// ```
 /// use rustc_lexer::strip_shebang;
@@ -97,12 +212,13 @@ fn fitting(text: &str) -> &str {
 /// # Panics
 ///
 /// Where the text has more than `u32::MAX` bytes.
+#[must_use]
 pub fn strip_shebang(input: &str) -> Option<usize> {
     erased::strip_shebang(fitting(input))
 }
 
-/// Whether the raw string that the text begins with is a good one, or why not. `prefix_len` is the length of its
-/// prefix in characters, with the `r`.
+/// Returns `Ok` where the raw string that the text begins with is a good one, or else why it is none. `prefix_len` is the
+/// length of its prefix in characters, with the `r`.
 ///
 /// ```
 /// use rustc_lexer::{validate_raw_str, RawStrError};
@@ -121,7 +237,7 @@ pub fn validate_raw_str(input: &str, prefix_len: u32) -> Result<(), RawStrError>
     erased::validate_raw_str(text, prefix_len)
 }
 
-/// The end of the last token that at least two characters follow, or 0, read with `FrontmatterAllowed::No`. However
+/// Returns the end of the last token that at least two characters follow, or 0, read with `FrontmatterAllowed::No`. However
 /// the text goes on, its tokens up to there stay.
 ///
 /// ```
@@ -133,6 +249,7 @@ pub fn validate_raw_str(input: &str, prefix_len: u32) -> Result<(), RawStrError>
 /// # Panics
 ///
 /// Where the text has more than `u32::MAX` bytes.
+#[must_use]
 pub fn settled(input: &str) -> usize {
     erased::settled(fitting(input))
 }

@@ -8,7 +8,7 @@ use alloc::vec::Vec;
 use core::fmt;
 use core::iter::FusedIterator;
 
-/// The tokens of a text, in order.
+/// Returns the tokens of a text, in order.
 ///
 /// The lengths of the tokens sum to that of the text, and each token ends between two characters.
 ///
@@ -36,11 +36,13 @@ pub fn tokenize(input: &str, frontmatter_allowed: FrontmatterAllowed) -> Tokens<
     tokenize_as(input, frontmatter_allowed, Edition::E2024)
 }
 
-/// The tokens of a text, made by [`tokenize`], [`tokenize_in`], [`tokenize_as`] and [`tokenize_document`].
+/// An iterator over the tokens of a text, made by [`tokenize`], [`tokenize_in`], [`tokenize_as`] and [`tokenize_document`].
+#[derive(Clone)]
+#[must_use = "iterators are lazy and do nothing unless consumed"]
 pub struct Tokens<'a>(erased::Tokens<'a>);
 
 impl<'a> Tokens<'a> {
-    /// The text whose tokens were not given out yet.
+    /// Returns the text whose tokens were not given out yet.
     ///
     /// ```
     /// use rustc_lexer::{tokenize, FrontmatterAllowed};
@@ -50,17 +52,29 @@ impl<'a> Tokens<'a> {
     /// assert_eq!(tokens.as_str(), " x");
     /// ```
     #[inline]
+    #[must_use]
     pub fn as_str(&self) -> &'a str {
         self.0.as_str()
     }
 
-    /// Whether a frontmatter may stand in front of that text.
+    /// Returns whether a frontmatter may stand in front of that text.
+    ///
+    /// ```
+    /// use rustc_lexer::{tokenize, FrontmatterAllowed};
+    ///
+    /// let mut tokens = tokenize("\na", FrontmatterAllowed::Yes);
+    /// tokens.next();
+    /// assert_eq!(tokens.frontmatter_allowed(), FrontmatterAllowed::Yes);
+    /// tokens.next();
+    /// assert_eq!(tokens.frontmatter_allowed(), FrontmatterAllowed::No);
+    /// ```
     #[inline]
+    #[must_use]
     pub fn frontmatter_allowed(&self) -> FrontmatterAllowed {
         self.0.frontmatter_allowed()
     }
 
-    /// Writes the next tokens into the buffer, as many as are left, or as there is room for. Answers their number,
+    /// Writes the next tokens into the buffer, as many as are left, or as there is room for. Returns their number,
     /// which is less than the length of the buffer only where no token is left.
     ///
     /// They are the tokens that so many calls of `next` give, and take less time.
@@ -83,6 +97,30 @@ impl<'a> Tokens<'a> {
     pub fn fill<R: Record>(&mut self, buffer: &mut [R]) -> usize {
         self.0.fill(buffer)
     }
+
+    /// Returns the tokens that are left, which are found many at a time. `collect` takes them one by one.
+    ///
+    /// ```
+    /// use rustc_lexer::{tokenize, FrontmatterAllowed};
+    ///
+    /// assert_eq!(tokenize("let x;", FrontmatterAllowed::No).into_vec().len(), 4);
+    /// ```
+    #[cfg(feature = "alloc")]
+    #[must_use]
+    pub fn into_vec(mut self) -> Vec<Token> {
+        let mut tokens = Vec::new();
+        let mut buffer = [Token {
+            kind: TokenKind::Eof,
+            len: 0,
+        }; 32];
+        loop {
+            let count = self.fill(&mut buffer);
+            tokens.extend_from_slice(&buffer[..count]);
+            if count < buffer.len() {
+                return tokens;
+            }
+        }
+    }
 }
 
 impl Iterator for Tokens<'_> {
@@ -97,24 +135,6 @@ impl Iterator for Tokens<'_> {
     fn size_hint(&self) -> (usize, Option<usize>) {
         count_of(self.as_str())
     }
-
-    /// Collects the tokens that are left, which are found many at a time. Of another collection than a `Vec` they are a
-    /// list for a moment.
-    #[cfg(feature = "alloc")]
-    fn collect<B: FromIterator<Token>>(mut self) -> B {
-        let mut tokens = Vec::new();
-        let mut buffer = [Token {
-            kind: TokenKind::Eof,
-            len: 0,
-        }; 32];
-        loop {
-            let count = self.fill(&mut buffer);
-            tokens.extend_from_slice(&buffer[..count]);
-            if count < buffer.len() {
-                return tokens.into_iter().collect();
-            }
-        }
-    }
 }
 
 impl FusedIterator for Tokens<'_> {}
@@ -126,7 +146,7 @@ impl fmt::Debug for Tokens<'_> {
     }
 }
 
-/// The tokens of a text in an edition, in order. No frontmatter is allowed: with `Edition::E2024` they are those of
+/// Returns the tokens of a text in an edition, in order. No frontmatter is allowed: with `Edition::E2024` they are those of
 /// [`tokenize`] with `FrontmatterAllowed::No`.
 ///
 /// ```
@@ -148,7 +168,7 @@ pub fn tokenize_in(text: &str, edition: Edition) -> EditionTokens<'_> {
 /// Another name of [`Tokens`], for what [`tokenize_in`] makes.
 pub type EditionTokens<'a> = Tokens<'a>;
 
-/// The tokens of a text in an edition, in order, where a frontmatter may stand in front or may not.
+/// Returns the tokens of a text in an edition, in order, where a frontmatter may stand in front or may not.
 ///
 /// ```
 /// use rustc_lexer::{tokenize_as, Edition, FrontmatterAllowed};
@@ -174,7 +194,7 @@ pub fn tokenize_as(
     ))
 }
 
-/// The tokens of a whole document in an edition, in order: those of what follows its shebang line, where a frontmatter
+/// Returns the tokens of a whole document in an edition, in order: those of what follows its shebang line, where a frontmatter
 /// may stand in front.
 ///
 /// The shebang line is no token. So the first token begins where the text that is left begins:

@@ -2,8 +2,9 @@
 
 use rustc_lexer::{
     Base, Cursor, DocStyle, Edition, FrontmatterAllowed, GuardedStr, LiteralKind, RawStrError,
-    Token, TokenKind, UNICODE_VERSION, is_horizontal_whitespace, is_id_continue, is_id_start,
-    is_ident, is_whitespace, strip_shebang, tokenize, tokenize_in, validate_raw_str,
+    Steps, Token, TokenKind, UNICODE_VERSION, is_horizontal_whitespace, is_id_continue,
+    is_id_start, is_ident, is_whitespace, settled, starts_raw, strip_shebang, tokenize,
+    tokenize_as, tokenize_document, tokenize_in, validate_raw_str,
 };
 
 fn guarded(n_hashes: u32, terminated: bool, token_len: u32) -> Option<GuardedStr> {
@@ -189,6 +190,8 @@ fn each_way_to_take_tokens_gives_the_same() {
         for taken in 0..=all.len() {
             let mut tokens = tokenize(text, FrontmatterAllowed::No);
             assert!(tokens.by_ref().take(taken).eq(all[..taken].iter().copied()));
+            #[cfg(feature = "alloc")]
+            assert_eq!(tokens.clone().into_vec(), all[taken..]);
             assert_eq!(tokens.collect::<Vec<_>>(), all[taken..]);
         }
         assert!(tokenize_in(text, Edition::E2024).eq(all.iter().copied()));
@@ -231,31 +234,148 @@ fn first_and_third() {
     let mut cursor = Cursor::new("é-", FrontmatterAllowed::No);
     assert_eq!((cursor.first(), cursor.third()), ('é', '\0'));
     assert_eq!(cursor.advance_token().len, 2);
-    assert_eq!(cursor.as_str(), "-");
-    assert_eq!(Cursor::new("abc", FrontmatterAllowed::No).third(), 'c');
+    assert_eq!((cursor.as_str(), cursor.first()), ("-", '-'));
+    assert_eq!(cursor.advance_token().kind, TokenKind::Minus);
+    assert_eq!((cursor.as_str(), cursor.first()), ("", '\0'));
+    assert_eq!(Cursor::new("abcd", FrontmatterAllowed::No).third(), 'c');
 }
 
+/// Each character: white space as the Reference lists it, and words by the tables of this build.
 #[test]
 fn classes() {
-    for c in [
-        '\t', '\n', '\u{b}', '\u{c}', '\r', ' ', '\u{85}', '\u{200e}', '\u{2029}',
+    let spaces = "\t\n\u{b}\u{c}\r \u{85}\u{200e}\u{200f}\u{2028}\u{2029}";
+    for c in '\0'..=char::MAX {
+        assert_eq!(is_whitespace(c), spaces.contains(c), "{c:?}");
+        assert_eq!(is_horizontal_whitespace(c), "\t ".contains(c), "{c:?}");
+        let start = c == '_' || unicode_ident::is_xid_start(c);
+        assert_eq!(is_id_start(c), start, "{c:?}");
+        assert_eq!(
+            is_id_continue(c),
+            unicode_ident::is_xid_continue(c),
+            "{c:?}"
+        );
+    }
+    assert_eq!(UNICODE_VERSION, unicode_ident::UNICODE_VERSION);
+    for (text, is) in [
+        ("_", true),
+        ("a1", true),
+        ("é", true),
+        ("fn", true),
+        ("", false),
+        ("1a", false),
+        ("a😀", false),
+        ("a b", false),
     ] {
-        assert!(is_whitespace(c), "{c:?}");
+        assert_eq!(is_ident(text), is, "{text:?}");
     }
-    for c in ['a', '\u{a0}', '\0', char::MAX] {
-        assert!(!is_whitespace(c), "{c:?}");
+    for (text, prefix_len, starts) in [
+        ("br\"a\"", 2, true),
+        ("r", 1, true),
+        ("ér", 2, true),
+        ("br\"a\"", 1, false),
+        ("r", 0, false),
+        ("r", 2, false),
+        ("", 1, false),
+    ] {
+        assert_eq!(starts_raw(text, prefix_len), starts, "{text:?}");
     }
-    assert!(is_horizontal_whitespace('\t') && is_horizontal_whitespace(' '));
-    assert!(!is_horizontal_whitespace('\n'));
-    for c in ['_', 'a', 'Z', 'é', '\u{2139}'] {
-        assert!(is_id_start(c) && is_id_continue(c), "{c:?}");
+}
+
+/// The end of the last token that two characters follow: how far each token looks is a table of the documents.
+#[test]
+fn what_is_settled() {
+    for (text, end) in [
+        ("ab cd ef", 6),
+        ("a 😀 é", 6),
+        ("k# ", 1),
+        ("k#", 0),
+        ("1. ", 0),
+        ("'a# ", 2),
+        ("---\n", 2),
+        ("", 0),
+    ] {
+        assert_eq!(settled(text), end, "{text:?}");
     }
-    for c in ['0', '\u{200d}', '\u{30fb}'] {
-        assert!(!is_id_start(c) && is_id_continue(c), "{c:?}");
+}
+
+/// Which calls read a frontmatter, and in which edition. The shebang line is a token to none but the document's.
+#[test]
+fn each_call_has_its_frontmatter_and_edition() {
+    use FrontmatterAllowed::{No, Yes};
+    let text = "---\na\n---\n##";
+    let lens = |tokens: rustc_lexer::Tokens<'_>| tokens.map(|token| token.len).collect::<Vec<_>>();
+    let dashes = [1, 1, 1, 1, 1, 1, 1, 1, 1, 1];
+    let (part, older) = (
+        [&dashes[..], &[2]].concat(),
+        [&dashes[..], &[1, 1]].concat(),
+    );
+    assert_eq!(lens(tokenize(text, No)), part);
+    assert_eq!(lens(tokenize(text, Yes)), [9, 1, 2]);
+    assert_eq!(lens(tokenize_in(text, Edition::E2024)), part);
+    assert_eq!(lens(tokenize_in(text, Edition::E2021)), older);
+    assert_eq!(lens(tokenize_as(text, No, Edition::E2021)), older);
+    assert_eq!(lens(tokenize_as(text, Yes, Edition::E2021)), [9, 1, 1, 1]);
+    assert_eq!(lens(tokenize_as(text, Yes, Edition::E2024)), [9, 1, 2]);
+    let script = ["#!/\n", text].concat();
+    assert_eq!(
+        lens(tokenize_document(&script, Edition::E2021)),
+        [1, 9, 1, 1, 1]
+    );
+    assert_eq!(
+        lens(tokenize_document(&script, Edition::E2024)),
+        [1, 9, 1, 2]
+    );
+    assert_eq!(
+        tokenize_document(&script, Edition::E2024).as_str(),
+        &script[3..]
+    );
+}
+
+/// White space leaves it allowed, and every other token ends that.
+#[test]
+fn whether_a_frontmatter_is_allowed_still() {
+    use FrontmatterAllowed::{No, Yes};
+    for (text, first, wanted) in [
+        ("\n---\na\n---\nb", Yes, &[Yes, Yes, No, No, No][..]),
+        ("a\n", Yes, &[Yes, No, No]),
+        ("\n", Yes, &[Yes, Yes]),
+        ("\na", No, &[No, No, No]),
+    ] {
+        let mut tokens = tokenize(text, first);
+        let mut told = vec![tokens.frontmatter_allowed()];
+        while tokens.next().is_some() {
+            told.push(tokens.frontmatter_allowed());
+        }
+        assert_eq!(told, wanted, "{text:?}");
     }
-    assert!(is_ident("_") && is_ident("a1"));
-    assert!(!is_ident("") && !is_ident("1a") && !is_ident("a😀"));
-    assert_eq!(UNICODE_VERSION, (18, 0, 0));
+}
+
+/// A clone goes on from where it was made, and takes nothing from the other.
+#[test]
+fn clones() {
+    let mut cursor = Cursor::new("##x y", FrontmatterAllowed::No);
+    assert_eq!(cursor.guarded_double_quoted_string(), None);
+    let mut second = cursor.clone();
+    assert_eq!(cursor.advance_token().len, 3);
+    assert_eq!((second.as_str(), second.advance_token().len), ("x y", 3));
+    let mut tokens = tokenize_as("\n---\n---\n##", FrontmatterAllowed::Yes, Edition::E2018);
+    tokens.next();
+    let lens: Vec<u32> = tokens.clone().map(|token| token.len).collect();
+    assert_eq!(lens, [7, 1, 1, 1]);
+    assert_eq!(tokens.next().map(|token| token.len), Some(7));
+}
+
+/// Equal kinds have one hash, and a set keeps those that are not.
+#[test]
+fn kinds_in_a_set() {
+    let text = "a b 'c' \"d\" 1 0x1 1.0 // \n/// \n/* */ /** */";
+    let kinds = || tokenize(text, FrontmatterAllowed::No).map(|token| token.kind);
+    let set: std::collections::HashSet<TokenKind> = kinds().collect();
+    let list: Vec<TokenKind> = kinds().collect();
+    assert!(list.iter().all(|kind| set.contains(kind)));
+    let apart = (0..list.len()).filter(|&n| !list[..n].contains(&list[n]));
+    // An identifier, white space, four literals without suffix, of which two differ in their ends, and four comments.
+    assert_eq!((set.len(), apart.count()), (11, 11));
 }
 
 #[test]
@@ -296,12 +416,16 @@ fn a_check_of_no_raw_string() {
 #[test]
 fn what_is_written_of_values() {
     assert_eq!(format!("{:?}", FrontmatterAllowed::Yes), "Yes");
+    assert_eq!(format!("{:?}", FrontmatterAllowed::No), "No");
     let cursor = Cursor::new("a b", FrontmatterAllowed::No);
     assert_eq!(format!("{cursor:?}"), r#"Cursor("a b")"#);
     let mut tokens = tokenize("a b", FrontmatterAllowed::No);
     tokens.next();
     assert_eq!(format!("{tokens:?}"), r#"Tokens(" b")"#);
-    for edition in Edition::ALL {
-        assert_eq!(edition.to_string().parse(), Ok(edition));
+    assert_eq!(format!("{:?}", Steps::new()), "Steps { .. }");
+    let years = ["2015", "2018", "2021", "2024"];
+    assert_eq!(Edition::ALL.map(|edition| edition.to_string()), years);
+    for (edition, year) in Edition::ALL.into_iter().zip(years) {
+        assert_eq!(year.parse(), Ok(edition));
     }
 }

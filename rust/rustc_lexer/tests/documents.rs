@@ -307,5 +307,5 @@ fn an_edit_inside_a_character() {
 #[test]
 #[should_panic(expected = "are not there")]
 fn pieces_past_the_last() {
-    LexedDocument::new("#!a\nb").pieces_of(1..3);
+    let _ = LexedDocument::new("#!a\nb").pieces_of(1..3);
 }

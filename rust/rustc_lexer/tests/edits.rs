@@ -1,8 +1,8 @@
 //! A text that is kept with its tokens, against lexing it from scratch and against what an edit is to keep.
 
 use rustc_lexer::{
-    Edition, FrontmatterAllowed, LexedText, Token, TokenKind, fits, settled, starts_raw, tokenize,
-    tokenize_in,
+    Edit, EditError, EditStop, Edition, FrontmatterAllowed, LexedDocument, LexedText, Steps, Token,
+    TokenKind, tokenize, tokenize_in,
 };
 use std::ops::Range;
 
@@ -285,9 +285,110 @@ fn an_edit_inside_a_character() {
     LexedText::new("é").edit(1..2, "");
 }
 
+/// Ranges that are none, and what a call says that has no answer for them. Text and tokens stay as they were.
 #[test]
-fn checks() {
-    assert!(fits(""));
-    assert!(starts_raw("br\"a\"", 2) && !starts_raw("br\"a\"", 1) && !starts_raw("r", 0));
-    assert_eq!((settled("ab cd ef"), settled("k#"), settled("")), (6, 0, 0));
+fn ranges_that_are_refused() {
+    #[allow(clippy::reversed_empty_ranges)]
+    for range in [1..2, 2..3, 0..4, 4..4, 3..1, usize::MAX..usize::MAX] {
+        let mut text = LexedText::new("aé");
+        let mut document = LexedDocument::new("aé");
+        assert_eq!(text.try_edit(range.clone(), "b"), Err(EditError::Range));
+        assert_eq!(document.try_edit(range.clone(), "b"), Err(EditError::Range));
+        let nothing = Edit {
+            start: 0,
+            stop: 0,
+            insert: "",
+        };
+        let edit = Edit {
+            start: range.start,
+            stop: range.end,
+            insert: "b",
+        };
+        let stop = Err(EditStop::Range { at: 1 });
+        assert_eq!(text.edit_all(&[nothing, edit, nothing]), stop);
+        assert_eq!(document.edit_all(&[nothing, edit, nothing]), stop);
+        assert_eq!((text.text(), text.tokens().len()), ("aé", 1));
+        assert_eq!((document.text(), document.tokens().len()), ("aé", 1));
+    }
+    for (error, said) in [
+        (
+            EditError::Range,
+            "the range has to be inside the text, between characters",
+        ),
+        (EditError::TooLong, "the text has more than u32::MAX bytes"),
+        (EditError::Memory, "memory was refused"),
+    ] {
+        assert_eq!(error.to_string(), said);
+    }
+    assert_eq!(EditError::from(rustc_lexer::AllocError), EditError::Memory);
+}
+
+/// Edits in order: each is of the text that those before it made.
+#[test]
+fn a_list_of_edits() {
+    let edits = [
+        Edit {
+            start: 8,
+            stop: 8,
+            insert: "z",
+        },
+        Edit {
+            start: 0,
+            stop: 3,
+            insert: "",
+        },
+    ];
+    let mut lexed = LexedText::new("ab cd ef");
+    assert_eq!(lexed.edit_all(&edits), Ok(()));
+    check(&lexed, "a list of edits");
+    assert_eq!((lexed.text(), lexed.tokens().len()), ("cd efz", 3));
+    assert_eq!(lexed.edit_all(&[]), Ok(()));
+    assert_eq!(lexed.text(), "cd efz");
+}
+
+/// A clone is edited by itself, and what is made of nothing is in the newest edition.
+#[test]
+fn clones_and_defaults() {
+    let mut lexed = LexedText::new_in("'r#a", Edition::E2018);
+    let second = lexed.clone();
+    let piece = second.pieces().nth(1);
+    lexed.edit(0..1, "");
+    assert_eq!(
+        (lexed.text(), second.text(), second.tokens().len()),
+        ("r#a", "'r#a", 3)
+    );
+    assert_eq!(
+        (second.edition(), lexed.edition()),
+        (Edition::E2018, Edition::E2018)
+    );
+    assert_eq!(second.pieces().clone().nth(1), piece);
+    let mut document = LexedDocument::new("#!/a\nb");
+    let second = document.clone();
+    document.edit(0..5, "");
+    assert_eq!(
+        (document.text(), second.text(), second.shebang_len()),
+        ("b", "#!/a\nb", 4)
+    );
+    let empty = LexedText::default();
+    assert_eq!(
+        (empty.text(), empty.tokens().len(), empty.edition()),
+        ("", 0, Edition::E2024)
+    );
+    assert_eq!(LexedDocument::default().edition(), Edition::E2024);
+    let by_default = LexedText::try_with("'r#a", Steps::default()).unwrap();
+    assert_eq!(
+        (by_default.edition(), by_default.tokens().len()),
+        (Edition::E2024, 1)
+    );
+}
+
+#[test]
+fn what_is_written_of_texts() {
+    let shown = format!("{:?}", LexedText::new("a"));
+    let wanted = r#"LexedText { text: "a", tokens: [Token { kind: Ident, len: 1 }], .. }"#;
+    assert_eq!(shown, wanted);
+    let lexed = LexedText::new("a b");
+    let mut pieces = lexed.pieces();
+    pieces.next();
+    assert_eq!(format!("{pieces:?}"), "Pieces { left: 2, .. }");
 }

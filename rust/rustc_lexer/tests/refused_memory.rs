@@ -1,6 +1,8 @@
 //! Each request for memory that an edit makes, refused in turn: text and tokens are then as they were.
 
-use rustc_lexer::{Edition, LexedText};
+use rustc_lexer::{
+    AllocError, Edit, EditError, EditStop, Edition, LexedDocument, LexedText, Steps,
+};
 use std::alloc::{GlobalAlloc, Layout, System};
 use std::cell::Cell;
 
@@ -63,12 +65,14 @@ fn each_request_of_an_edit() {
         for count in 0..100 {
             let mut lexed = LexedText::new(&text);
             let before = lexed.tokens().to_vec();
-            if given(count, || lexed.try_edit(300..310, insert)).is_ok() {
+            let answer = given(count, || lexed.try_edit(300..310, insert));
+            if answer.is_ok() {
                 assert_eq!(lexed.text(), [&text[..300], insert, &text[310..]].concat());
                 assert_eq!(lexed.tokens(), LexedText::new(lexed.text()).tokens());
                 break;
             }
             refused += 1;
+            assert_eq!(answer, Err(EditError::Memory));
             assert_eq!(lexed.text(), text);
             assert_eq!(lexed.tokens(), before);
         }
@@ -76,12 +80,52 @@ fn each_request_of_an_edit() {
     }
 }
 
+/// What each call answers to whom nothing is given, and what stands then.
 #[test]
-fn a_text_and_another_edition() {
-    assert!(given(0, || LexedText::try_new_in("a + b", Edition::E2024)).is_err());
+fn texts_and_another_edition() {
+    let memory = Some(EditError::Memory);
+    let edition = Edition::E2024;
+    let text = "a + b";
+    assert_eq!(
+        given(0, || LexedText::try_new_in(text, edition)).err(),
+        memory
+    );
+    assert_eq!(
+        given(0, || LexedText::try_with(text, Steps::new())).err(),
+        memory
+    );
+    assert_eq!(
+        given(0, || LexedDocument::try_new_in(text, edition)).err(),
+        memory
+    );
+    assert_eq!(
+        given(0, || LexedDocument::try_with(text, Steps::new())).err(),
+        memory
+    );
     let mut lexed = LexedText::new("'r#a");
-    assert!(given(0, || lexed.try_set_edition(Edition::E2015)).is_err());
-    assert_eq!((lexed.edition(), lexed.tokens().len()), (Edition::E2024, 1));
-    assert!(lexed.try_set_edition(Edition::E2015).is_ok());
+    let mut document = LexedDocument::new("'r#a");
+    let refused = Err(AllocError);
+    assert_eq!(given(0, || lexed.try_set_edition(Edition::E2015)), refused);
+    assert_eq!(
+        given(0, || document.try_set_edition(Edition::E2015)),
+        refused
+    );
+    assert_eq!((lexed.edition(), lexed.tokens().len()), (edition, 1));
+    assert_eq!((document.edition(), document.tokens().len()), (edition, 1));
+    let edits = [Edit {
+        start: 0,
+        stop: 0,
+        insert: "a long text that takes memory",
+    }];
+    let stop = Err(EditStop::Memory { at: 0 });
+    assert_eq!(given(0, || lexed.edit_all(&edits)), stop);
+    assert_eq!(given(0, || document.edit_all(&edits)), stop);
+    let insert = edits[0].insert;
+    assert_eq!(
+        given(0, || document.try_edit(0..0, insert)),
+        Err(EditError::Memory)
+    );
+    assert_eq!((lexed.text(), document.text()), ("'r#a", "'r#a"));
+    assert_eq!(given(9, || lexed.try_set_edition(Edition::E2015)), Ok(()));
     assert_eq!(lexed.tokens().len(), 3);
 }

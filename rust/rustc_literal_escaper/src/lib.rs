@@ -29,20 +29,95 @@ extern crate alloc;
 #[cfg(test)]
 extern crate std;
 
+/// The proved source without its contracts, as it is made of `crates/rustc_literal_escaper`.
+///
+/// This is for packages that are made in the same way, such as `marks`. It has types of its own for units of C strings, and
+/// stays as it is only as long as the source does. All other callers take the calls of the crate's root.
 // Contracts alone use some of its imports and variables.
 #[allow(missing_docs, unused_imports, unused_variables, dead_code)]
 #[allow(clippy::assign_op_pattern, clippy::collapsible_if)]
 #[allow(clippy::question_mark)]
-#[doc(hidden)]
 pub mod erased;
 mod unit;
 #[cfg(feature = "alloc")]
 mod written;
 
-pub use erased::{
-    EscapeError, Mode, check_for_errors, check_raw_byte_str, check_raw_str, unescape_byte,
-    unescape_byte_str, unescape_char, unescape_str,
-};
+/// ```
+/// use rustc_literal_escaper::EscapeError;
+///
+/// assert!(EscapeError::LoneSlash.is_fatal() && !EscapeError::UnskippedWhitespaceWarning.is_fatal());
+/// ```
+#[doc(inline)]
+pub use erased::EscapeError;
+/// ```
+/// use rustc_literal_escaper::Mode;
+///
+/// assert_eq!(Mode::RawByteStr.prefix_noraw(), "b");
+/// assert!(Mode::CStr.in_double_quotes() && !Mode::Byte.in_double_quotes());
+/// ```
+#[doc(inline)]
+pub use erased::Mode;
+/// ```
+/// use rustc_literal_escaper::{EscapeError, Mode, check_for_errors};
+///
+/// let mut faults = Vec::new();
+/// check_for_errors(r"a\q", Mode::Str, |range, error| faults.push((range, error)));
+/// assert_eq!(faults, [(1..3, EscapeError::InvalidEscape)]);
+/// ```
+#[doc(inline)]
+pub use erased::check_for_errors;
+/// ```
+/// use rustc_literal_escaper::{EscapeError, check_raw_byte_str};
+///
+/// let mut units = Vec::new();
+/// check_raw_byte_str("aé", |_, unit| units.push(unit));
+/// assert_eq!(units, [Ok(b'a'), Err(EscapeError::NonAsciiCharInByte)]);
+/// ```
+#[doc(inline)]
+pub use erased::check_raw_byte_str;
+/// ```
+/// use rustc_literal_escaper::check_raw_str;
+///
+/// let mut units = Vec::new();
+/// check_raw_str(r"\n", |range, unit| units.push((range, unit)));
+/// assert_eq!(units, [(0..1, Ok('\\')), (1..2, Ok('n'))]);
+/// ```
+#[doc(inline)]
+pub use erased::check_raw_str;
+/// ```
+/// use rustc_literal_escaper::{EscapeError, unescape_byte};
+///
+/// assert_eq!(unescape_byte(r"\xff"), Ok(255));
+/// assert_eq!(unescape_byte("é"), Err(EscapeError::NonAsciiCharInByte));
+/// ```
+#[doc(inline)]
+pub use erased::unescape_byte;
+/// ```
+/// use rustc_literal_escaper::unescape_byte_str;
+///
+/// let mut units = Vec::new();
+/// unescape_byte_str(r"a\xff", |range, unit| units.push((range, unit)));
+/// assert_eq!(units, [(0..1, Ok(b'a')), (1..5, Ok(255))]);
+/// ```
+#[doc(inline)]
+pub use erased::unescape_byte_str;
+/// ```
+/// use rustc_literal_escaper::{EscapeError, unescape_char};
+///
+/// assert_eq!(unescape_char(r"\u{e9}"), Ok('é'));
+/// assert_eq!(unescape_char("ab"), Err(EscapeError::MoreThanOneChar));
+/// ```
+#[doc(inline)]
+pub use erased::unescape_char;
+/// ```
+/// use rustc_literal_escaper::unescape_str;
+///
+/// let mut units = Vec::new();
+/// unescape_str(r"a\n", |range, unit| units.push((range, unit)));
+/// assert_eq!(units, [(0..1, Ok('a')), (1..3, Ok('\n'))]);
+/// ```
+#[doc(inline)]
+pub use erased::unescape_str;
 use rattle_support as support;
 #[cfg(feature = "alloc")]
 pub use rattle_support::AllocError;

@@ -6,7 +6,7 @@ use core::num::NonZero;
 use core::ops::Range;
 
 /// A unit of a C string, whose text may have characters and bytes that are in none.
-#[derive(Clone, Copy, Debug, PartialEq, Eq)]
+#[derive(Clone, Copy, Debug, PartialEq, Eq, Hash)]
 pub enum MixedUnit {
     /// A character, written as it is, by `\u{..}`, or by an escape for a byte below 128. It stands for its bytes in
     /// UTF-8.
@@ -33,6 +33,14 @@ fn mixed(unit: erased::MixedUnit) -> MixedUnit {
 /// Calls `callback` with each unit that a C string stands for, or what is wrong, and its place in bytes.
 ///
 /// It is as [`unescape_str`](crate::unescape_str) is.
+///
+/// ```
+/// use rustc_literal_escaper::{MixedUnit, unescape_c_str};
+///
+/// let mut units = Vec::new();
+/// unescape_c_str(r"a\xff", |_, unit| units.push(unit));
+/// assert_eq!(units, [MixedUnit::try_from('a'), MixedUnit::try_from(255)]);
+/// ```
 #[inline]
 pub fn unescape_c_str(
     src: &str,
@@ -44,6 +52,14 @@ pub fn unescape_c_str(
 /// Calls `callback` with each character of a raw C string, or what is wrong, and its place in bytes.
 ///
 /// A carriage return is wrong, and U+0000.
+///
+/// ```
+/// use rustc_literal_escaper::{EscapeError, check_raw_c_str};
+///
+/// let mut faults = Vec::new();
+/// check_raw_c_str("a\0", |range, unit| faults.extend(unit.err().map(|error| (range, error))));
+/// assert_eq!(faults, [(1..2, EscapeError::NulInCStr)]);
+/// ```
 #[inline]
 pub fn check_raw_c_str(
     src: &str,

@@ -32,15 +32,12 @@ pub fn read_input<R: Read>(alloc: Global, input: &mut Watched<R>) -> Result<Vec<
     }
 }
 
-/// All bytes of a file.
+/// All bytes of a file, of which there are at most `u32::MAX`.
 pub fn read_source<R: Files + AllocGlobal>(rt: &R, path: &str) -> Result<Vec<u8>, Fault> {
     read_opened(rt.alloc(), File::open(rt, path))
 }
 
 /// All bytes of a file that was opened, if it could be.
 fn read_opened<R: Read>(alloc: Global, opened: io::Result<R>) -> Result<Vec<u8>, Fault> {
-    let mut file = opened?;
-    let mut bytes = Vec::new(alloc);
-    file.read_to_end(&mut bytes)?;
-    Ok(bytes)
+    read_input(alloc, &mut Watched::new(opened?))
 }

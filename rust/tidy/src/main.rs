@@ -1,5 +1,6 @@
-//! Puts the white space of Rust sources in order.
+//! Puts the white space of a Rust source in order.
 
+use ends::Watched;
 use rattle_std::env;
 use rattle_std::process::ExitCode;
 use tidy_run::program::program;
@@ -7,5 +8,14 @@ use tidy_run::program::program;
 fn main() -> ExitCode {
     let rt = rattle_std::rt::start();
     let args = env::args(&rt).ok();
-    ExitCode::from(program(&rt, args))
+    let mut input = Watched::new(rt.stdin());
+    let mut output = Watched::new(rt.stdout());
+    let mut errors = Watched::new(rt.stderr());
+    ExitCode::from(program(
+        rt.alloc(),
+        args,
+        &mut input,
+        &mut output,
+        &mut errors,
+    ))
 }

@@ -137,11 +137,11 @@ fn solid_end(text: &str, place: usize) -> usize {
 }
 
 /// Where the first newline of a text stands.
-pub fn newline(text: &str) -> Option<usize> {
+fn newline(text: &str) -> Option<usize> {
     memchr(b'\n', text.as_bytes())
 }
 
 /// Space, tab and carriage return.
-pub fn is_blank(byte: u8) -> bool {
+fn is_blank(byte: u8) -> bool {
     matches!(byte, b' ' | b'\t' | b'\r')
 }

@@ -1,9 +1,9 @@
 //! A whole run: from the bytes of a reader to those of a writer.
 use rattle_std::prelude::String;
 
+use crate::document;
 use crate::stop::Stop;
-use crate::{document, hunks};
-use ends::{ReadStop, Watched, WriteStop, read_all, write_all};
+use ends::{Watched, WriteStop, read_all, write_all};
 use rattle_std::alloc::Global;
 use rattle_std::io::{Read, Write};
 
@@ -32,25 +32,9 @@ pub fn check<R: Read>(alloc: Global, input: &mut Watched<R>) -> Result<(), Stop>
     }
 }
 
-/// Reads all of the input, and answers what would change, as a diff; `None` where it is in order.
-pub fn show<R: Read>(alloc: Global, input: &mut Watched<R>) -> Result<Option<String>, Stop> {
-    let text = read_text(alloc, input)?;
-    let made = document::tidied(alloc, text.as_str())?;
-    if text.as_str() == made.as_str() {
-        return Ok(None);
-    }
-    let diff = hunks::diff(alloc, "stdin", text.as_str(), made.as_str())?;
-    Ok(Some(diff))
-}
-
 /// Reads all of the input, which is to be a text.
 fn read_text<R: Read>(alloc: Global, input: &mut Watched<R>) -> Result<String, Stop> {
-    let bytes = match read_all(alloc, input) {
-        Ok(bytes) => bytes,
-        Err(ReadStop::TooLong) => return Err(Stop::TooLong),
-        Err(ReadStop::Memory) => return Err(Stop::Memory),
-        Err(ReadStop::Failed) => return Err(Stop::Read),
-    };
+    let bytes = read_all(alloc, input)?;
     String::from_utf8(bytes).map_err(|_| Stop::NotUtf8)
 }
 

@@ -1,11 +1,11 @@
 //! The rows of `crates/lex_vectors`, for tests of the crate for plain Rust: texts with the tokens that they should give.
 
 use crate::tables::all::all;
-use crate::tables::raw_strings::{Check, CHECKS};
+use crate::tables::raw_strings::{CHECKS, Check};
 use crate::tables::row::{Part, Way};
 use crate::tables::shebang;
 use rustc_lexer::{
-    tokenize, tokenize_as, tokenize_in, FrontmatterAllowed, RawStrError, TokenKind, Tokens,
+    FrontmatterAllowed, RawStrError, TokenKind, Tokens, tokenize, tokenize_as, tokenize_in,
 };
 
 #[allow(dead_code)]

@@ -1,5 +1,5 @@
 -- Searches of a frontmatter's closing.
-use Rattle.std.proofs.Common.{◌≡◌, ℕ, zero, suc, ◌+◌, ◌-◌, ◌<◌, ◌≤◌, ◌==◌, ◌&&◌, max, nat_lt, Bool, true, false, true≢false, if◌then◌else◌, List, [], ◌∷◌, length, take, drop, get_or, refl, sym, ap, ◌∙◌, arith, Option, Some, None, length-drop, length-take, drop-drop, take_all, inl, inr}
+use Rattle.std.proofs.Common.{◌≡◌, ℕ, zero, suc, ◌+◌, ◌-◌, ◌<◌, ◌≤◌, ◌==◌, ◌&&◌, max, nat_lt, Bool, true, false, true≢false, if◌then◌else◌, List, [], ◌∷◌, ◌++◌, length, take, drop, get_or, refl, sym, ap, ◌∙◌, arith, Option, Some, None, length-drop, length-take, drop-drop, take_all, inl, inr}
 use Rattle.std.proofs.Math.ListN.{drop_of_length-le}
 use Rattle.std.proofs.lemmas.Bool.{false_from_ne_true, eqb-true, eq-eqb, and_parts, lt-ltb, cases_lt}
 use Rattle.std.proofs.lemmas.List.{get_or-drop, get_or-take}
@@ -46,6 +46,13 @@ reads-begins (c ∷ cs) (d ∷ s) r =
     let head : (d == c) ≡ true = eq-eqb d c (r.same 0 (omega arith)) in
     let rest : Reads cs s = record { long = let l = r.long in omega arith; same = λ j l. r.same (suc j) (omega arith) } in
     rw (head, reads-begins cs s rest) refl
+
+pub begins-whole : (pattern text : List ℕ) → begins pattern text ≡ true → text ≡ pattern ++ drop (length pattern) text
+begins-whole [] text e = refl
+begins-whole (c ∷ cs) [] e = absurd (true≢false (sym e))
+begins-whole (c ∷ cs) (d ∷ text) e =
+    let parts = and_parts (d == c) (begins cs text) e in
+    ap (λ x. x ∷ text) (eqb-true d c parts.0) ∙ ap (λ xs. c ∷ xs) (begins-whole cs text parts.1)
 
 module _ (hay pattern : List ℕ) (some : 0 < length pattern) where
   pub occurs-begins : (k : ℕ) → OccursAt hay pattern k → begins pattern (drop k hay) ≡ true

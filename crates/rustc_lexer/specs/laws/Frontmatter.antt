@@ -261,12 +261,6 @@ closing-boundary : (rest : List ℕ) (place : ℕ) → IsLineEnd rest place → 
 closing-boundary rest place ends =
     grind (arith, common_steps, cases_lt, IsCharBoundary-before_ascii, IsCharBoundary-end)
 
-pub closing_end-boundary : (n : ℕ) (rest : List ℕ) → IsCharBoundary rest (closing_end n rest)
-closing_end-boundary n rest = closing-boundary rest (closing_end n rest) (closing_end-ends n rest)
-
-pub closing_end-inside : (n : ℕ) (rest : List ℕ) → closing_end n rest ≤ length rest
-closing_end-inside n rest = let ends = closing_end-ends n rest in let i = ends.inside in omega arith
-
 -- a frontmatter is not empty, and ends between characters
 pub record IsCutOff (text : List ℕ) (token : Token) : Type 0 where
   pub not_empty : 0 < token.len

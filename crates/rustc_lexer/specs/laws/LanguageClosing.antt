@@ -1,270 +1,529 @@
--- The end of a frontmatter is the one that the language has.
-use Rattle.std.proofs.Common.{◌≡◌, ℕ, zero, suc, ◌+◌, ◌-◌, ◌≤◌, ◌<◌, ◌==◌, ◌&&◌, inl, inr, max, Bool, true, false, true≢false, if◌then◌else◌, List, [], ◌∷◌, ◌++◌, length, take, drop, codes, refl, sym, ap, ◌∙◌, subst, arith, length-drop, length-take-le, take-append-drop, slice_index, drop-drop, Option, Some, None}
-use Rattle.std.proofs.lemmas.Bool.{and_parts, false_from_ne_true, cases_lt}
-use Rattle.std.proofs.lemmas.List.{drop_all}
+-- The end of a frontmatter is the one that the language has: the code looks in bytes, the language in characters.
+use Rattle.std.proofs.Common.{◌≡◌, ℕ, zero, suc, ◌+◌, ◌-◌, ◌≤◌, ◌<◌, ◌==◌, ◌&&◌, nat_lt, inl, inr, Bool, true, false, true≢false, if◌then◌else◌, List, [], ◌∷◌, ◌++◌, length, take, drop, get_or, codes, refl, sym, ap, ◌∙◌, subst, arith, length-append, length-drop, take-append-drop, append_assoc, drop-drop, Option, Some, None}
+use Rattle.std.proofs.Math.Seq.{drop-append_seam}
+use Rattle.std.proofs.lemmas.Bool.{and_parts, false_from_ne_true, cases_lt, eqb-true, eq-eqb, ne_eqb, ltb-true, lt-ltb}
+use Rattle.std.proofs.lemmas.List.{get_or-drop, get_or_append_left, append-nil, nil_from_length}
+use Rattle.std.proofs.lemmas.List.Folds.{list_all-append}
+use Rattle.std.proofs.lemmas.Str.{encode_ascii, inside_one, length-encode, len_utf8_bounds, length-le-encodes, encodes-append}
+use Rattle.std.specs.Char.{encode_utf8}
 use Rattle.std.specs.List.{list_all}
-use Rattle.std.proofs.Math.Bool.{and-false}
-use Rattle.std.proofs.lemmas.Grind.{common_steps}
-use Rattle.rustc_lexer.specs.Classes.{is_horizontal_whitespace, AreAll}
-use Rattle.rustc_lexer.specs.means.Comment.{is_no_newline}
-use Rattle.rustc_lexer.specs.means.Frontmatter.{is_newline, dashes, first, past_newline, past_place, places_from, line_start, stands_alone, first_alone, first_some, closing_end}
-use Rattle.rustc_lexer.specs.laws.LanguageRuns.{run_len-here, run-stops, either-way}
-use Rattle.rustc_lexer.specs.laws.Reach.{begins-length, run_all, run_len_le, least-some, least-is, least-none}
-use Rattle.rustc_lexer.specs.laws.Choice.{by_found}
-use Rattle.rustc_lexer.specs.laws.Least.{one_more-none}
+use Rattle.std.specs.Str.{encode_utf8_all}
+use Rattle.rustc_lexer.specs.Classes.{is_horizontal_whitespace, is_inline, bytes, Chars, AreAll, NextIsNot}
 use Rattle.rustc_lexer.specs.FrontmatterGrammar as the
-use Rattle.rustc_lexer.specs.FrontmatterGrammar.{fence, IsFirst, IsNowhere, LineOf, line, IsBlankBefore, from_start, from_line, IsLone, NoFence, NoRust, EndsAt}
-use Rattle.rustc_lexer.specs.means.Least.{least}
-use Rattle.rustc_lexer.specs.means.Scan.{begins, run_len}
+use Rattle.rustc_lexer.specs.FrontmatterGrammar.{fence, IsFirstPlaceOf, IsNowhere, IsAt, IsEdge, IsLone, endings, IsBodyBefore}
+use Rattle.rustc_lexer.specs.means.Comment.{is_no_newline}
+use Rattle.rustc_lexer.specs.means.Frontmatter.{newline, dashes, first, line_end, past_newline, past_place, places, first_alone, first_some, recoveries, closing_end}
+use Rattle.rustc_lexer.specs.laws.Choice.{by_either, by_found}
+use Rattle.rustc_lexer.specs.laws.Fences.{begins-whole}
+use Rattle.rustc_lexer.specs.laws.LanguageLiterals.{bytes-append}
+use Rattle.rustc_lexer.specs.laws.LanguageLone as places
+use Rattle.rustc_lexer.specs.laws.LanguageLone.{none-first, at-three, three-at, all-points, points-all, IsRunAt, IsEdgeAt, IsLoneAt, IsFirstLone, lone-first}
+use Rattle.rustc_lexer.specs.laws.LanguageRuns.{run_len-here, run-stops, either-way}
+use Rattle.rustc_lexer.specs.laws.Reach.{begins-length, run_all, least-some}
+use Rattle.rustc_lexer.specs.means.Scan.{begins, next_is, run_len}
 
--- ---- places
+-- ---- characters and their bytes
 
-none-least : (test : ℕ → Bool) (count : ℕ) → least test count ≡ None → (i : ℕ) → i < count → test i ≡ false
-none-least test zero e i lt = absurd (omega arith)
-none-least test (suc count) e i lt = by_test (test 0) refl (none-least (λ i. test (suc i)) count) i lt
+abbrev is_ascii : ℕ → Bool
+is_ascii c = nat_lt c 128
+
+encode_some : (c : ℕ) → 0 < length (encode_utf8 c)
+encode_some c = omega (arith, length-encode c, len_utf8_bounds c)
+
+-- no byte of another character is in ASCII
+high : (c : ℕ) (rest : List ℕ) (k : ℕ) → 128 ≤ c → k < length (encode_utf8 c) → 128 ≤ get_or (encode_utf8 c ++ rest) k 0
+high c rest k le lt = elim (cases_lt (get_or (encode_utf8 c ++ rest) k 0) 128) [
+  | inl less ↦ absurd (let same : c ≡ get_or (encode_utf8 c ++ rest) k 0 = inside_one c rest (encode_utf8 c ++ rest) k refl lt less in omega arith)
+  | inr ge ↦ ge
+]
+
+begins-head : (d : ℕ) (ds s : List ℕ) → begins (d ∷ ds) s ≡ true → get_or s 0 0 ≡ d
+begins-head d ds [] e = absurd (true≢false (sym e))
+begins-head d ds (c ∷ s) e = eqb-true c d (and_parts (c == d) (begins ds s) e).0
+
+-- a pattern in ASCII stands at the front of the bytes where it stands at the front of the characters
+begins-encode : (pattern s : List ℕ) → list_all is_ascii pattern ≡ true → begins pattern (encode_utf8_all s) ≡ begins pattern s
+begins-encode [] s ascii = refl
+begins-encode (d ∷ ds) [] ascii = refl
+begins-encode (d ∷ ds) (c ∷ s) ascii =
+    let parts = and_parts (is_ascii d) (list_all is_ascii ds) ascii in
+    let low : d < 128 = ltb-true d 128 parts.0 in
+    elim (cases_lt c 128) [
+      | inl lt ↦ ap (λ (xs : List ℕ). begins (d ∷ ds) (xs ++ encode_utf8_all s)) (encode_ascii c lt) ∙ ap (λ (b : Bool). (c == d) && b) (begins-encode ds s parts.1)
+      | inr ge ↦
+          let bytes_differ : begins (d ∷ ds) (encode_utf8 c ++ encode_utf8_all s) ≡ false =
+          false_from_ne_true _ (λ e. let head = begins-head d ds (encode_utf8 c ++ encode_utf8_all s) e in let far = high c (encode_utf8_all s) 0 ge (encode_some c) in absurd (omega arith)) in
+          let chars_differ : begins (d ∷ ds) (c ∷ s) ≡ false = false_from_ne_true _ (λ e. let head = begins-head d ds (c ∷ s) e in absurd (omega arith)) in
+          bytes_differ ∙ sym chars_differ
+    ]
+
+-- a place in the bytes of a text that is between two of its characters
+record Cut (s : List ℕ) (j : ℕ) (IsSuch : Chars → Chars → Type 0) : Type 0 where
+  front : Chars
+  back : Chars
+  whole : front ++ back ≡ s
+  size : bytes front ≡ j
+  is : IsSuch front back
+
+past-front : (u v : List ℕ) → drop (bytes u) (encode_utf8_all (u ++ v)) ≡ encode_utf8_all v
+past-front u v = ap (drop (bytes u)) (encodes-append u v) ∙ drop-append_seam (encode_utf8_all u) (encode_utf8_all v)
+
+-- where a pattern in ASCII stands in the bytes
+cut : (d : ℕ) (ds : List ℕ) → list_all is_ascii (d ∷ ds) ≡ true → (s : List ℕ) (j : ℕ) → begins (d ∷ ds) (drop j (encode_utf8_all s)) ≡ true → Cut s j (IsAt (d ∷ ds))
+cut d ds ascii [] zero e = absurd (true≢false (sym e))
+cut d ds ascii [] (suc j) e = absurd (true≢false (sym e))
+cut d ds ascii (c ∷ s) zero e = record { front = []; back = c ∷ s; whole = refl; size = refl; is = sym (begins-encode (d ∷ ds) (c ∷ s) ascii) ∙ e }
+cut d ds ascii (c ∷ s) (suc j) e = by_size (cut d ds ascii s (suc j - length (encode_utf8 c)))
   where
-    by_test : (b : Bool) → test 0 ≡ b → (least (λ i. test (suc i)) count ≡ None → (i : ℕ) → i < count → test (suc i) ≡ false) → (i : ℕ) → i < suc count → test i ≡ false
-    by_test true f ih i lt = absurd (let found : Some 0 ≡ None = sym (rw f refl) ∙ e in cc)
-    by_test false f ih zero lt = f
-    by_test false f ih (suc i) lt = ih (one_more-none (least (λ i. test (suc i)) count) (sym (rw f refl) ∙ e)) i (omega arith)
+    n : ℕ
+    n = length (encode_utf8 c)
 
-module _ (c : ℕ) (cs : List ℕ) where
-  stands-inside : (s : List ℕ) (i : ℕ) → begins (c ∷ cs) (drop i s) ≡ true → i < length s
-  stands-inside s i e = omega (arith, begins-length (c ∷ cs) (drop i s) e, length-drop i s)
+    far : length (encode_utf8 c) ≤ suc j
+    far = elim (cases_lt (suc j) (length (encode_utf8 c))) [
+      | inr ge ↦ ge
+      | inl lt ↦ elim (cases_lt c 128) [
+        | inl low ↦ absurd (omega (arith, ap length (encode_ascii c low)))
+        | inr ge ↦
+            let head : get_or (encode_utf8 c ++ encode_utf8_all s) (suc j) 0 ≡ d = ap (λ k. get_or (encode_utf8 c ++ encode_utf8_all s) k 0) (let same : suc j ≡ suc j + 0 = omega arith in same) ∙ (sym (get_or-drop (suc j) (encode_utf8 c ++ encode_utf8_all s) 0 0) ∙ begins-head d ds _ e) in
+            let low : d < 128 = ltb-true d 128 (and_parts (is_ascii d) (list_all is_ascii ds) ascii).0 in
+            absurd (omega (arith, high c (encode_utf8_all s) (suc j) ge lt))
+      ]
+    ]
 
-  past-none : (s : List ℕ) (j : ℕ) → length s ≤ j → begins (c ∷ cs) (drop j s) ≡ false
-  past-none s j le = ap (begins (c ∷ cs)) (drop_all j s le)
+    left : drop (suc j - length (encode_utf8 c)) (encode_utf8_all s) ≡ drop (suc j) (encode_utf8_all (c ∷ s))
+    left =
+        ap (drop (suc j - length (encode_utf8 c))) (sym (drop-append_seam (encode_utf8 c) (encode_utf8_all s)))
+        ∙ (drop-drop (suc j - length (encode_utf8 c)) (length (encode_utf8 c)) (encode_utf8 c ++ encode_utf8_all s) ∙ ap (λ k. drop k (encode_utf8 c ++ encode_utf8_all s)) (let same : length (encode_utf8 c) + (suc j - length (encode_utf8 c)) ≡ suc j = omega (arith, far) in same))
 
-  first-is : {s : List ℕ} {i : ℕ} → IsFirst (c ∷ cs) s 0 i → first (c ∷ cs) s ≡ Some i
-  first-is {s} {i} is = least-is (λ place. begins (c ∷ cs) (drop place s)) (length s) i record { below = stands-inside s i is.here; here = is.here; before = λ j lt. is.before j (omega arith) lt }
+    by_size : (begins (d ∷ ds) (drop (suc j - length (encode_utf8 c)) (encode_utf8_all s)) ≡ true → Cut s (suc j - length (encode_utf8 c)) (IsAt (d ∷ ds))) → Cut (c ∷ s) (suc j) (IsAt (d ∷ ds))
+    by_size ih =
+        let there = ih (ap (begins (d ∷ ds)) left ∙ e) in
+        record {
+          front = c ∷ there.front;
+          back = there.back;
+          whole = ap (λ (xs : List ℕ). c ∷ xs) there.whole;
+          size = length-append (encode_utf8 c) (encode_utf8_all there.front) ∙ omega (arith, far, there.size);
+          is = there.is;
+        }
 
-  first-none : {s : List ℕ} → IsNowhere (c ∷ cs) s 0 → first (c ∷ cs) s ≡ None
-  first-none {s} none = least-none (λ place. begins (c ∷ cs) (drop place s)) (length s) (λ j lt. none j (omega arith))
+-- of two ways to part a text, one goes further
+record Further (x y u v : List ℕ) : Type 0 where
+  between : List ℕ
+  front : u ≡ x ++ between
+  back : y ≡ between ++ v
+  size : bytes u ≡ bytes x + bytes between
 
-  is-first : (s : List ℕ) (i : ℕ) → first (c ∷ cs) s ≡ Some i → IsFirst (c ∷ cs) s 0 i
-  is-first s i e = let is = least-some (λ place. begins (c ∷ cs) (drop place s)) (length s) i e in record { from = omega arith; here = is.here; before = λ j le lt. is.before j lt }
+further : (x y u v : List ℕ) → x ++ y ≡ u ++ v → length x ≤ length u → Further x y u v
+further [] y u v e le = record { between = u; front = refl; back = e; size = omega arith }
+further (a ∷ x) y [] v e le = absurd (omega arith)
+further (a ∷ x) y (b ∷ u) v e le =
+    let head : a ≡ b = cc in
+    let tail : x ++ y ≡ u ++ v = cc in
+    let f = further x y u v tail (omega arith) in
+    record {
+      between = f.between;
+      front = ap (λ (c : ℕ). c ∷ u) (sym head) ∙ ap (λ (xs : List ℕ). a ∷ xs) f.front;
+      back = f.back;
+      size = length-append (encode_utf8 b) (encode_utf8_all u) ∙ omega (arith, f.size, length-append (encode_utf8 a) (encode_utf8_all x), ap (λ (c : ℕ). length (encode_utf8 c)) head);
+    }
 
-  is-nowhere : (s : List ℕ) → first (c ∷ cs) s ≡ None → IsNowhere (c ∷ cs) s 0
-  is-nowhere s e j le = elim (cases_lt j (length s)) [ inl lt ↦ none-least (λ place. begins (c ∷ cs) (drop place s)) (length s) e j lt | inr ge ↦ past-none s j (omega arith) ]
+bytes-order : (x y u v : List ℕ) → x ++ y ≡ u ++ v → length x ≤ length u → bytes x ≤ bytes u
+bytes-order x y u v e le = omega (arith, (further x y u v e le).size)
 
--- ---- lines
+order-bytes : (x y u v : List ℕ) → x ++ y ≡ u ++ v → bytes x ≤ bytes u → length x ≤ length u
+order-bytes x y u v e le = elim (cases_lt (length u) (length x)) [
+  | inr ge ↦ omega arith
+  | inl lt ↦
+      let f = further u v x y (sym e) (omega arith) in
+      absurd (omega (arith, f.size, length-le-encodes f.between, ap length f.front, length-append u f.between))
+]
 
-line-read : {t : List ℕ} {k : ℕ} → LineOf t k → run_len is_no_newline t ≡ k
-line-read (line u v all stop) = run_len-here is_no_newline u v all stop
+further-by_bytes : (x y u v : List ℕ) → x ++ y ≡ u ++ v → bytes x ≤ bytes u → Further x y u v
+further-by_bytes x y u v e le = further x y u v e (order-bytes x y u v e le)
 
-line-of : (t : List ℕ) → LineOf t (run_len is_no_newline t)
-line-of t =
-    let n : ℕ = run_len is_no_newline t in
-    subst (λ (u : List ℕ). LineOf u n) (take-append-drop n t) (subst (LineOf (take n t ++ drop n t)) (length-take-le n t (run_len_le is_no_newline t)) (line (take n t) (drop n t) (run_all is_no_newline t) (run-stops is_no_newline t)))
+-- a character in ASCII behind others
+char-at : (u : List ℕ) (c : ℕ) (v : List ℕ) → c < 128 → get_or (encode_utf8_all (u ++ (c ∷ v))) (bytes u) 0 ≡ c
+char-at u c v lt =
+    ap (λ k. get_or (encode_utf8_all (u ++ (c ∷ v))) k 0) (let same : bytes u ≡ bytes u + 0 = omega arith in same)
+    ∙ (sym (get_or-drop (bytes u) (encode_utf8_all (u ++ (c ∷ v))) 0 0)
+    ∙ (ap (λ xs. get_or xs 0 0) (past-front u (c ∷ v)) ∙ ap (λ (xs : List ℕ). get_or (xs ++ encode_utf8_all v) 0 0) (encode_ascii c lt)))
 
--- ---- blanks before a place
+char-begins : (c : ℕ) (s : List ℕ) → 0 < c → get_or s 0 0 ≡ c → begins (c ∷ []) s ≡ true
+char-begins c [] some e = absurd (omega arith)
+char-begins c (a ∷ s) some e = rw (eq-eqb a c e) refl
 
-all-drop : (p : ℕ → Bool) (m n : ℕ) (xs : List ℕ) → m ≤ n → list_all p (drop m xs) ≡ true → list_all p (drop n xs) ≡ true
-all-drop p zero zero xs le e = e
-all-drop p (suc m) zero xs le e = absurd (omega arith)
-all-drop p zero (suc n) [] le e = refl
-all-drop p zero (suc n) (c ∷ xs) le e = all-drop p zero n xs (omega arith) (and_parts (p c) (list_all p xs) e).1
-all-drop p (suc m) (suc n) [] le e = refl
-all-drop p (suc m) (suc n) (c ∷ xs) le e = all-drop p m n xs (omega arith) e
+bytes-one : (u : List ℕ) (c : ℕ) → c < 128 → bytes (u ++ (c ∷ [])) ≡ bytes u + 1
+bytes-one u c lt = bytes-append u (c ∷ []) ∙ ap (λ n. bytes u + n) (length-append (encode_utf8 c) [] ∙ omega (arith, ap length (encode_ascii c lt)))
 
-newline-at : (k : ℕ) (s : List ℕ) → is_newline (slice_index s k) ≡ true → begins (10 ∷ []) (drop k s) ≡ true
-newline-at w0 w1 e = grind (arith, common_steps)
-
-at-newline : (k : ℕ) (s : List ℕ) → begins (10 ∷ []) (drop k s) ≡ true → is_newline (slice_index s k) ≡ true
-at-newline w0 w1 e = grind (arith, common_steps, and_parts)
-
--- a line starts past the last newline before a place
-line-past : (i k : ℕ) (s : List ℕ) → k < i → is_newline (slice_index s k) ≡ true → suc k ≤ line_start i s
-line-past zero k s lt e = absurd (omega arith)
-line-past (suc i) k s lt e = by_test (is_newline (slice_index s i)) refl (line-past i k s)
+-- a character of one byte in ASCII that stands at a place in the bytes
+cut-char : (c : ℕ) → 0 < c → c < 128 → (s : List ℕ) (j : ℕ) → get_or (encode_utf8_all s) j 0 ≡ c → Cut s (suc j) (λ u v. (w : List ℕ) × (u ≡ w ++ (c ∷ [])) × (bytes w ≡ j))
+cut-char c some low s j e =
+    let here : get_or (drop j (encode_utf8_all s)) 0 0 ≡ c = get_or-drop j (encode_utf8_all s) 0 0 ∙ (ap (λ k. get_or (encode_utf8_all s) k 0) (let same : j + 0 ≡ j = omega arith in same) ∙ e) in
+    let there = cut c [] (rw (lt-ltb c 128 low) refl) s j (char-begins c (drop j (encode_utf8_all s)) some here) in
+    by_back there there.back refl
   where
-    by_test : (b : Bool) → is_newline (slice_index s i) ≡ b → (k < i → is_newline (slice_index s k) ≡ true → suc k ≤ line_start i s) → suc k ≤ (if b then suc i else line_start i s)
-    by_test true f ih = omega arith
-    by_test false f ih = elim (cases_lt k i) [ inl l ↦ ih l e | inr g ↦ absurd (let same : k ≡ i = omega arith in either-way (is_newline (slice_index s i)) (ap (λ (x : ℕ). is_newline (slice_index s x)) (sym same) ∙ e) f) ]
+    by_back : (there : Cut s j (IsAt (c ∷ []))) → (back : List ℕ) → there.back ≡ back → Cut s (suc j) (λ u v. (w : List ℕ) × (u ≡ w ++ (c ∷ [])) × (bytes w ≡ j))
+    by_back there [] f = absurd (true≢false (sym (ap (begins (c ∷ [])) (sym f) ∙ there.is)))
+    by_back there (a ∷ back) f =
+        let same : a ≡ c = begins-head c [] (a ∷ back) (ap (begins (c ∷ [])) (sym f) ∙ there.is) in
+        record {
+          front = there.front ++ (c ∷ []);
+          back = back;
+          whole = append_assoc there.front (c ∷ []) back ∙ (ap (λ (x : ℕ). there.front ++ (x ∷ back)) (sym same) ∙ (ap (λ (xs : List ℕ). there.front ++ xs) (sym f) ∙ there.whole));
+          size = bytes-one there.front c low ∙ omega (arith, there.size);
+          is = (there.front, refl, there.size);
+        }
 
-record HasLine (i : ℕ) (s : List ℕ) : Type 0 where
-  place : ℕ
-  start : line_start i s ≡ suc place
-  here : is_newline (slice_index s place) ≡ true
-  below : place < i
+-- ---- what a search in the bytes finds
 
-has-line : (i : ℕ) (s : List ℕ) → 0 < line_start i s → HasLine i s
-has-line zero s lt = absurd (omega arith)
-has-line (suc i) s lt = by_test (is_newline (slice_index s i)) refl (has-line i s)
-  where
-    by_test : (b : Bool) → is_newline (slice_index s i) ≡ b → (0 < line_start i s → HasLine i s) → HasLine (suc i) s
-    by_test true f ih = record { place = i; start = rw f refl; here = f; below = omega arith }
-    by_test false f ih =
-        let same : line_start (suc i) s ≡ line_start i s = rw f refl in
-        let h = ih (omega arith) in
-        record { place = h.place; start = same ∙ h.start; here = h.here; below = let l = h.below in omega arith }
+-- a search that finds the first place that is such, said of characters and of bytes
+record Finds (IsSuch : Chars → Chars → Type 0) (search : List ℕ → Option ℕ) : Type 0 where
+  some : (s : List ℕ) (j : ℕ) → search (encode_utf8_all s) ≡ Some j → Cut s j (IsFirstPlaceOf IsSuch)
+  none : (s : List ℕ) → search (encode_utf8_all s) ≡ None → IsNowhere IsSuch s
 
-blank-stands : {s : List ℕ} {start i : ℕ} → IsBlankBefore s start i → stands_alone start i s ≡ true
-blank-stands {s} {start} {i} (from_start all) = all-drop is_horizontal_whitespace start (max start (line_start i s)) (take i s) (omega arith) all
-blank-stands {s} {start} {i} (from_line {k} le at lt all) =
-    let past : suc k ≤ line_start i s = line-past i k s lt (at-newline k s at) in
-    all-drop is_horizontal_whitespace (suc k) (max start (line_start i s)) (take i s) (omega arith) all
+-- the same place is said to be such in both
+record IsSaidAlike (IsSuch : Chars → Chars → Type 0) (IsSuchByte : List ℕ → ℕ → Type 0) : Type 0 where
+  from_bytes : (s : List ℕ) (j : ℕ) → IsSuchByte (encode_utf8_all s) j → Cut s j IsSuch
+  to_bytes : (u v : List ℕ) → IsSuch u v → IsSuchByte (encode_utf8_all (u ++ v)) (bytes u)
 
-stands-blank : (s : List ℕ) (start i : ℕ) → stands_alone start i s ≡ true → IsBlankBefore s start i
-stands-blank s start i e = elim (cases_lt start (line_start i s)) [ inl lt ↦ later lt | inr ge ↦ from_start (let same : max start (line_start i s) ≡ start = omega arith in subst (λ (m : ℕ). AreAll is_horizontal_whitespace (drop m (take i s))) same e) ]
-  where
-    later : start < line_start i s → IsBlankBefore s start i
-    later lt =
-        let h = has-line i s (omega arith) in
-        let same : max start (line_start i s) ≡ suc h.place = omega (arith, h.start) in
-        from_line (omega (arith, h.start)) (newline-at h.place s h.here) h.below (subst (λ (m : ℕ). AreAll is_horizontal_whitespace (drop m (take i s))) same e)
+module _ (IsSuch : Chars → Chars → Type 0) (IsSuchByte : List ℕ → ℕ → Type 0) (search : List ℕ → Option ℕ) (alike : IsSaidAlike IsSuch IsSuchByte)
+    (found : (b : List ℕ) (j : ℕ) → search b ≡ Some j → IsSuchByte b j × ((i : ℕ) → i < j → IsSuchByte b i → ⊥))
+    (lost : (b : List ℕ) → search b ≡ None → (i : ℕ) → IsSuchByte b i → ⊥) where
+  such-byte : (s x y : List ℕ) → x ++ y ≡ s → IsSuch x y → IsSuchByte (encode_utf8_all s) (bytes x)
+  such-byte s x y e is = subst (λ (t : List ℕ). IsSuchByte (encode_utf8_all t) (bytes x)) e (alike.to_bytes x y is)
+
+  finds : Finds IsSuch search
+  finds = record {
+    some = λ s j e.
+        let there = alike.from_bytes s j (found (encode_utf8_all s) j e).0 in
+        record {
+          front = there.front;
+          back = there.back;
+          whole = there.whole;
+          size = there.size;
+          is = record {
+            here = there.is;
+            first = λ x y f is. elim (cases_lt (bytes x) j) [
+              | inl less ↦ absurd ((found (encode_utf8_all s) j e).1 (bytes x) less (such-byte s x y (f ∙ there.whole) is))
+              | inr ge ↦ order-bytes there.front there.back x y (sym f) (omega (arith, there.size))
+            ];
+          };
+        };
+    none = λ s e x y f is. lost (encode_utf8_all s) e (bytes x) (such-byte s x y f is);
+  }
+
+-- so where the language has a first place, the search finds it; and none where it has none
+module _ {IsSuch : Chars → Chars → Type 0} {search : List ℕ → Option ℕ} (finds_it : Finds IsSuch search) where
+  first-read : (u v : List ℕ) → IsFirstPlaceOf IsSuch u v → search (encode_utf8_all (u ++ v)) ≡ Some (bytes u)
+  first-read u v is = by_found (search (encode_utf8_all (u ++ v)))
+      (λ j e.
+      let there = finds_it.some (u ++ v) j e in
+      let le : length u ≤ length there.front = is.first there.front there.back there.whole there.is.here in
+      let ge : length there.front ≤ length u = there.is.first u v (sym there.whole) is.here in
+      let one = bytes-order u v there.front there.back (sym there.whole) le in
+      let two = bytes-order there.front there.back u v there.whole ge in
+      e ∙ ap Some (omega (arith, there.size)))
+      (λ e. absurd (finds_it.none (u ++ v) e u v refl is.here))
+
+  nowhere-read : (s : List ℕ) → IsNowhere IsSuch s → search (encode_utf8_all s) ≡ None
+  nowhere-read s none = by_found (search (encode_utf8_all s)) (λ j e. let there = finds_it.some s j e in absurd (none there.front there.back there.whole there.is.here)) (λ e. e)
+
+-- ---- a pattern that begins with a newline
+
+abbrev is_pattern : List ℕ → Bool
+is_pattern pattern = begins (codes "\n") pattern && list_all is_ascii pattern
+
+pattern-finds : (pattern : List ℕ) → is_pattern pattern ≡ true → Finds (IsAt pattern) (first pattern)
+pattern-finds [] is = absurd (true≢false (sym is))
+pattern-finds (d ∷ ds) is =
+    let ascii : list_all is_ascii (d ∷ ds) ≡ true = (and_parts (begins (codes "\n") (d ∷ ds)) (list_all is_ascii (d ∷ ds)) is).1 in
+    finds (IsAt (d ∷ ds)) (λ b j. begins (d ∷ ds) (drop j b) ≡ true) (first (d ∷ ds))
+    record {
+      from_bytes = cut d ds ascii;
+      to_bytes = λ u v e. ap (begins (d ∷ ds)) (past-front u v) ∙ (begins-encode (d ∷ ds) v ascii ∙ e);
+    }
+    (λ b j e. let least = least-some (λ place. begins (d ∷ ds) (drop place b)) (length b) j e in (least.here, λ i lt f. either-way (begins (d ∷ ds) (drop i b)) f (least.before i lt)))
+    (none-first d ds)
 
 -- ---- lone dashes
 
-abbrev spots : ℕ → List ℕ → List ℕ
-spots place t = places_from (dashes 3) 0 place t
+-- blanks are bytes
+blank-ascii : (c : ℕ) → is_horizontal_whitespace c ≡ true → c < 128
+blank-ascii c e = elim (cases_lt c 128) [ inl lt ↦ lt | inr ge ↦ absurd (true≢false (sym e ∙ rw (ne_eqb c 9 (omega arith), ne_eqb c 32 (omega arith)) refl)) ]
 
--- the first of them, and those past its end
-spots-first : (t : List ℕ) (place d : ℕ) → begins (dashes 3) (drop d t) ≡ true → ((j : ℕ) → j < d → begins (dashes 3) (drop j t) ≡ false) → spots place t ≡ (place + d) ∷ spots (place + d + 3) (drop (d + 3) t)
-spots-first [] place zero here before = absurd (true≢false (sym here))
-spots-first [] place (suc d) here before = absurd (true≢false (sym here))
-spots-first (a ∷ []) place zero here before = absurd (true≢false (sym (and_parts (a == 45) false here).1))
-spots-first (a ∷ b ∷ []) place zero here before = absurd (true≢false (sym (and_parts (b == 45) false (and_parts (a == 45) _ here).1).1))
-spots-first (a ∷ b ∷ c ∷ t) place zero here before =
-    let three : suc (suc (suc place)) ≡ place + 0 + 3 = omega arith in
-    let zero_more : place ≡ place + 0 = omega arith in
-    let read : spots place (a ∷ b ∷ c ∷ t) ≡ place ∷ spots (suc (suc (suc place))) t = rw here refl in
-    read ∙ (ap (λ (n : ℕ). place ∷ spots n t) three ∙ ap (λ (n : ℕ). n ∷ spots (place + 0 + 3) t) zero_more)
-spots-first (a ∷ t) place (suc d) here before =
-    let none : begins (dashes 3) (a ∷ t) ≡ false = before 0 (omega arith) in
-    let read : spots place (a ∷ t) ≡ spots (suc place) t = rw none refl in
-    let one : suc place + d ≡ place + suc d = omega arith in
-    let three : suc place + d + 3 ≡ place + suc d + 3 = omega arith in
-    let left : drop (d + 3) t ≡ drop (suc d + 3) (a ∷ t) = let more : suc (d + 3) ≡ suc d + 3 = omega arith in ap (λ (n : ℕ). drop n (a ∷ t)) more in
-    read ∙ (spots-first t (suc place) d here (λ j lt. before (suc j) (omega arith)) ∙ (ap (λ (n : ℕ). n ∷ spots (suc place + d + 3) (drop (d + 3) t)) one
-    ∙ (ap (λ (n : ℕ). (place + suc d) ∷ spots n (drop (d + 3) t)) three ∙ ap (λ (xs : List ℕ). (place + suc d) ∷ spots (place + suc d + 3) xs) left)))
+blanks-encode : (w : List ℕ) → AreAll is_horizontal_whitespace w → encode_utf8_all w ≡ w
+blanks-encode [] all = refl
+blanks-encode (c ∷ w) all =
+    let parts = and_parts (is_horizontal_whitespace c) (list_all is_horizontal_whitespace w) all in
+    ap (λ (xs : List ℕ). xs ++ encode_utf8_all w) (encode_ascii c (blank-ascii c parts.0)) ∙ ap (λ (xs : List ℕ). c ∷ xs) (blanks-encode w parts.1)
 
-spots-none : (t : List ℕ) (place : ℕ) → ((j : ℕ) → begins (dashes 3) (drop j t) ≡ false) → spots place t ≡ []
-spots-none [] place none = refl
-spots-none (a ∷ t) place none = rw (none 0) (spots-none t (suc place) (λ j. none (suc j)))
+encode-blanks : (w : List ℕ) → AreAll is_horizontal_whitespace (encode_utf8_all w) → AreAll is_horizontal_whitespace w
+encode-blanks [] all = refl
+encode-blanks (c ∷ w) all =
+    let parts = and_parts (list_all is_horizontal_whitespace (encode_utf8 c)) (list_all is_horizontal_whitespace (encode_utf8_all w)) (sym (list_all-append is_horizontal_whitespace (encode_utf8 c) (encode_utf8_all w)) ∙ all) in
+    let first_blank = all-points is_horizontal_whitespace (encode_utf8 c) parts.0 0 (encode_some c) in
+    elim (cases_lt c 128) [
+      | inl lt ↦ rw (ap is_horizontal_whitespace (ap (λ (xs : List ℕ). get_or xs 0 0) (sym (encode_ascii c lt))) ∙ first_blank, encode-blanks w parts.1) refl
+      | inr ge ↦ absurd (
+        let far = high c [] 0 ge (encode_some c) in
+        let same : get_or (encode_utf8 c ++ []) 0 0 ≡ get_or (encode_utf8 c) 0 0 = ap (λ (xs : List ℕ). get_or xs 0 0) (append-nil (encode_utf8 c)) in
+        omega (arith, blank-ascii (get_or (encode_utf8 c) 0 0) first_blank)
+      )
+    ]
 
--- from a place on
-abbrev alone_from : ℕ → List ℕ → Option ℕ
-alone_from start s = first_alone start (spots start (drop start s)) s
+fence-bytes : (u : List ℕ) → bytes (u ++ fence 3) ≡ bytes u + 3
+unfolding encode_utf8
+fence-bytes u = bytes-append u (fence 3)
 
-from-first : (s : List ℕ) (start i : ℕ) → IsFirst (fence 3) s start i → spots start (drop start s) ≡ i ∷ spots (i + 3) (drop (i + 3) s)
-from-first s start i is =
-    let d : ℕ = i - start in
-    let from = is.from in
-    let whole : start + d ≡ i = omega arith in
-    let same : (j : ℕ) → drop j (drop start s) ≡ drop (start + j) s = λ j. drop-drop j start s in
-    let here : begins (dashes 3) (drop d (drop start s)) ≡ true = ap (begins (dashes 3)) (same d ∙ ap (λ (n : ℕ). drop n s) whole) ∙ is.here in
-    let read = spots-first (drop start s) start d here (λ j lt. ap (begins (dashes 3)) (same j) ∙ is.before (start + j) (omega arith) (omega arith)) in
-    let left : drop (d + 3) (drop start s) ≡ drop (i + 3) s = same (d + 3) ∙ (let sum : start + (d + 3) ≡ i + 3 = omega arith in ap (λ (n : ℕ). drop n s) sum) in
-    read ∙ (ap (λ (n : ℕ). n ∷ spots (n + 3) (drop (d + 3) (drop start s))) whole ∙ ap (λ (xs : List ℕ). i ∷ spots (i + 3) xs) left)
+-- where blanks count from
+edge-to_bytes : {edge : List ℕ} → IsEdge edge → (rest : List ℕ) → IsEdgeAt (encode_utf8_all (edge ++ rest)) (bytes edge)
+edge-to_bytes the.front rest = places.front refl
+edge-to_bytes (the.line u) rest =
+    places.line (bytes u) (bytes-one u 10 (omega arith) ∙ omega arith) (ap (λ (t : List ℕ). get_or (encode_utf8_all t) (bytes u) 0) (append_assoc u (codes "\n") rest) ∙ char-at u 10 rest (omega arith))
+edge-to_bytes (the.dashes u fresh) rest = places.dashes_before record {
+  place = bytes u;
+  end = fence-bytes u;
+  here = ap (begins (fence 3)) (ap (λ (t : List ℕ). drop (bytes u) (encode_utf8_all t)) (append_assoc u (fence 3) rest) ∙ past-front u (fence 3 ++ rest)) ∙ begins-encode (fence 3) (fence 3 ++ rest) refl;
+  fresh = λ p e dash.
+      let there = cut-char 45 (omega arith) (omega arith) ((u ++ fence 3) ++ rest) p dash in
+      let same : there.front ++ there.back ≡ u ++ (fence 3 ++ rest) = there.whole ∙ append_assoc u (fence 3) rest in
+      let f = further-by_bytes there.front there.back u (fence 3 ++ rest) same (omega (arith, there.size)) in
+      let empty : length f.between ≡ 0 = omega (arith, f.size, there.size, length-le-encodes f.between) in
+      fresh there.is.0 (f.front ∙ (ap (λ (t : List ℕ). there.front ++ t) (nil_from_length f.between empty) ∙ (append-nil there.front ∙ there.is.1)));
+}
 
-from-none : (s : List ℕ) (start : ℕ) → IsNowhere (fence 3) s start → spots start (drop start s) ≡ []
-from-none s start none = spots-none (drop start s) start (λ j. ap (begins (dashes 3)) (drop-drop j start s) ∙ none (start + j) (omega arith))
+lone-to_bytes : (u v : List ℕ) → IsLone u v → IsLoneAt (encode_utf8_all (u ++ v)) (bytes u)
+lone-to_bytes u v (the.lone edge blanks after is_edge all here) = record {
+  edge = bytes edge;
+  before = omega (arith, bytes-append edge blanks);
+  is_edge = subst (λ (t : List ℕ). IsEdgeAt (encode_utf8_all t) (bytes edge)) (sym (append_assoc edge blanks after)) (edge-to_bytes is_edge (blanks ++ after));
+  blanks = λ j from lt.
+      let n : ℕ = j - bytes edge in
+      let whole : bytes edge + (j - bytes edge) ≡ j = omega arith in
+      let few : j - bytes edge < length (encode_utf8_all blanks) = omega (arith, bytes-append edge blanks) in
+      let read : get_or (encode_utf8_all ((edge ++ blanks) ++ after)) j 0 ≡ get_or (encode_utf8_all blanks) (j - bytes edge) 0 =
+      ap (λ (k : ℕ). get_or (encode_utf8_all ((edge ++ blanks) ++ after)) k 0) (sym whole)
+      ∙ (sym (get_or-drop (bytes edge) (encode_utf8_all ((edge ++ blanks) ++ after)) (j - bytes edge) 0)
+      ∙ (ap (λ (t : List ℕ). get_or (drop (bytes edge) (encode_utf8_all t)) (j - bytes edge) 0) (append_assoc edge blanks after)
+      ∙ (ap (λ (t : List ℕ). get_or t (j - bytes edge) 0) (past-front edge (blanks ++ after) ∙ encodes-append blanks after)
+      ∙ get_or_append_left (encode_utf8_all blanks) (encode_utf8_all after) 0 (j - bytes edge) few))) in
+      ap is_horizontal_whitespace read ∙ all-points is_horizontal_whitespace (encode_utf8_all blanks) (ap (list_all is_horizontal_whitespace) (blanks-encode blanks all) ∙ all) (j - bytes edge) few;
+  here = ap (begins (fence 3)) (past-front (edge ++ blanks) after) ∙ (begins-encode (fence 3) after refl ∙ here);
+}
 
-lone-read : {s : List ℕ} {start : ℕ} {o : Option ℕ} → IsLone s start o → alone_from start s ≡ o
-lone-read {s} (the.none {start} none) = ap (λ (ps : List ℕ). first_alone start ps s) (from-none s start none)
-lone-read {s} (the.this {start} {i} is blank) = ap (λ (ps : List ℕ). first_alone start ps s) (from-first s start i is) ∙ rw (blank-stands blank) refl
-lone-read {s} (the.later {start} {i} {o} is not_blank more) =
-    let free : stands_alone start i s ≡ false = false_from_ne_true (stands_alone start i s) (λ e. not_blank (stands-blank s start i e)) in
-    ap (λ (ps : List ℕ). first_alone start ps s) (from-first s start i is) ∙ rw free (lone-read more)
+edge-from_bytes : (s : List ℕ) (k : ℕ) → IsEdgeAt (encode_utf8_all s) k → Cut s k (λ u v. IsEdge u)
+edge-from_bytes s k (places.front e) = record { front = []; back = s; whole = refl; size = sym e; is = the.front }
+edge-from_bytes s k (places.line m e newline_there) =
+    let there = cut-char 10 (omega arith) (omega arith) s m newline_there in
+    record { front = there.front; back = there.back; whole = there.whole; size = there.size ∙ sym e; is = subst IsEdge (sym there.is.1) (the.line there.is.0) }
+edge-from_bytes s k (places.dashes_before run) =
+    let there = cut 45 (45 ∷ 45 ∷ []) refl s run.place run.here in
+    let back : there.back ≡ fence 3 ++ drop 3 there.back = begins-whole (fence 3) there.back there.is in
+    record {
+      front = there.front ++ fence 3;
+      back = drop 3 there.back;
+      whole = append_assoc there.front (fence 3) (drop 3 there.back) ∙ (ap (λ (t : List ℕ). there.front ++ t) (sym back) ∙ there.whole);
+      size = fence-bytes there.front ∙ (ap (λ (n : ℕ). n + 3) there.size ∙ sym run.end);
+      is = the.dashes there.front (λ v e.
+          let at : bytes v + 1 ≡ run.place = sym (bytes-one v 45 (omega arith)) ∙ (ap bytes (sym e) ∙ there.size) in
+          let text : v ++ (45 ∷ there.back) ≡ s = sym (append_assoc v (codes "-") there.back) ∙ (ap (λ (t : List ℕ). t ++ there.back) (sym e) ∙ there.whole) in
+          run.fresh (bytes v) (omega (arith, at)) (ap (λ (t : List ℕ). get_or (encode_utf8_all t) (bytes v) 0) (sym text) ∙ char-at v 45 there.back (omega arith)));
+    }
 
--- the first place from a place on
-data Place (s : List ℕ) (start : ℕ) : Type 0 where
-  found : (i : ℕ) → IsFirst (fence 3) s start i → Place s start
-  lost : IsNowhere (fence 3) s start → Place s start
+lone-from_bytes : (s : List ℕ) (j : ℕ) → IsLoneAt (encode_utf8_all s) j → Cut s j IsLone
+lone-from_bytes s j is =
+    let there = cut 45 (45 ∷ 45 ∷ []) refl s j is.here in
+    let edge = edge-from_bytes s is.edge is.is_edge in
+    let f = further-by_bytes edge.front edge.back there.front there.back (edge.whole ∙ sym there.whole) (let le = is.before in omega (arith, edge.size, there.size)) in
+    let text : edge.front ++ (f.between ++ there.back) ≡ s = ap (λ (t : List ℕ). edge.front ++ t) (sym f.back) ∙ edge.whole in
+    let between : (n : ℕ) → n < bytes f.between → get_or (encode_utf8_all f.between) n 0 ≡ get_or (encode_utf8_all s) (is.edge + n) 0 =
+    λ n lt. sym (get_or_append_left (encode_utf8_all f.between) (encode_utf8_all there.back) 0 n lt)
+    ∙ (ap (λ (t : List ℕ). get_or t n 0) (sym (encodes-append f.between there.back) ∙ sym (past-front edge.front (f.between ++ there.back)))
+    ∙ (get_or-drop (bytes edge.front) (encode_utf8_all (edge.front ++ (f.between ++ there.back))) n 0
+    ∙ (ap (λ (k : ℕ). get_or (encode_utf8_all (edge.front ++ (f.between ++ there.back))) (k + n) 0) edge.size ∙ ap (λ (t : List ℕ). get_or (encode_utf8_all t) (is.edge + n) 0) text))) in
+    let blank : AreAll is_horizontal_whitespace f.between = encode-blanks f.between (points-all is_horizontal_whitespace (encode_utf8_all f.between)
+    (λ n lt. ap is_horizontal_whitespace (between n lt) ∙ is.blanks (is.edge + n) (omega arith) (omega (arith, f.size, edge.size, there.size)))) in
+    record {
+      front = there.front;
+      back = there.back;
+      whole = there.whole;
+      size = there.size;
+      is = subst (λ (u : List ℕ). IsLone u there.back) (sym f.front) (the.lone edge.front f.between there.back edge.is blank there.is);
+    }
 
-place-of : (s : List ℕ) (start : ℕ) → Place s start
-place-of s start = by_first (first (fence 3) (drop start s)) refl
+abbrev alone : List ℕ → Option ℕ
+alone s = first_alone 0 (places (dashes 3) s) s
+
+lone-found : (b : List ℕ) (o : Option ℕ) → IsFirstLone b o → (j : ℕ) → o ≡ Some j → IsLoneAt b j × ((i : ℕ) → i < j → IsLoneAt b i → ⊥)
+lone-found b o (places.found i is before) j e = (let same : i ≡ j = cc in subst (λ (k : ℕ). IsLoneAt b k × ((i : ℕ) → i < k → IsLoneAt b i → ⊥)) same (is, before))
+lone-found b o (places.lost none) j e = absurd (cc)
+
+lone-lost : (b : List ℕ) (o : Option ℕ) → IsFirstLone b o → o ≡ None → (i : ℕ) → IsLoneAt b i → ⊥
+lone-lost b o (places.found i is before) e = absurd (cc)
+lone-lost b o (places.lost none) e = none
+
+lone-finds : Finds IsLone alone
+lone-finds = finds IsLone IsLoneAt alone record { from_bytes = lone-from_bytes; to_bytes = lone-to_bytes } (λ b. lone-found b (alone b) (lone-first b)) (λ b. lone-lost b (alone b) (lone-first b))
+
+-- ---- lines
+
+newline-stops : (s : List ℕ) → NextIsNot is_inline s → NextIsNot is_no_newline (encode_utf8_all s)
+newline-stops [] stop = refl
+newline-stops (c ∷ s) stop =
+    let is : c ≡ 10 = by_either (c == 10) (λ e. eqb-true c 10 e) (λ e. let clash : true ≡ false = rw e at stop in absurd (true≢false clash)) in
+    subst (λ (x : ℕ). NextIsNot is_no_newline (encode_utf8_all (x ∷ s))) (sym is) (ap (λ (xs : List ℕ). next_is is_no_newline (xs ++ encode_utf8_all s)) (encode_ascii 10 (omega arith)))
+
+line-read : (line next : List ℕ) → AreAll is_inline line → NextIsNot is_inline next → run_len is_no_newline (encode_utf8_all (line ++ next)) ≡ bytes line
+line-read line next all stop = ap (run_len is_no_newline) (encodes-append line next) ∙ run_len-here is_no_newline (encode_utf8_all line) (encode_utf8_all next) (inline-bytes line all) (newline-stops next stop)
   where
-    by_first : (o : Option ℕ) → first (fence 3) (drop start s) ≡ o → Place s start
-    by_first (Some d) e =
-        let is = is-first 45 (45 ∷ 45 ∷ []) (drop start s) d e in
-        found (start + d) record {
-          from = omega arith;
-          here = ap (begins (fence 3)) (sym (drop-drop d start s)) ∙ is.here;
-          before = λ j le lt. let sum : start + (j - start) ≡ j = omega arith in ap (begins (fence 3)) (sym (drop-drop (j - start) start s ∙ ap (λ (n : ℕ). drop n s) sum)) ∙ is.before (j - start) (omega arith) (omega arith);
-        }
-    by_first None e = lost (λ j le. let sum : start + (j - start) ≡ j = omega arith in ap (begins (fence 3)) (sym (drop-drop (j - start) start s ∙ ap (λ (n : ℕ). drop n s) sum)) ∙ is-nowhere 45 (45 ∷ 45 ∷ []) (drop start s) e (j - start) (omega arith))
+    one : (c : ℕ) → is_inline c ≡ true → AreAll is_no_newline (encode_utf8 c)
+    one c e = elim (cases_lt c 128) [
+      | inl lt ↦ ap (list_all is_no_newline) (encode_ascii c lt) ∙ rw e refl
+      | inr ge ↦ points-all is_no_newline (encode_utf8 c) (λ n lt.
+          let far : 128 ≤ get_or (encode_utf8 c) n 0 = subst (λ (xs : List ℕ). 128 ≤ get_or xs n 0) (append-nil (encode_utf8 c)) (high c [] n ge lt) in
+          rw (ne_eqb (get_or (encode_utf8 c) n 0) 10 (omega arith)) refl)
+    ]
 
-record AnyLone (s : List ℕ) (start : ℕ) : Type 0 where
-  answer : Option ℕ
-  is : IsLone s start answer
+    inline-bytes : (w : List ℕ) → AreAll is_inline w → AreAll is_no_newline (encode_utf8_all w)
+    inline-bytes [] all = refl
+    inline-bytes (c ∷ w) all =
+        let parts = and_parts (is_inline c) (list_all is_inline w) all in
+        list_all-append is_no_newline (encode_utf8 c) (encode_utf8_all w) ∙ rw (one c parts.0, inline-bytes w parts.1) refl
 
-any-lone : (fuel : ℕ) (s : List ℕ) (start : ℕ) → length s < start + fuel → AnyLone s start
-any-lone zero s start fits = record { answer = None; is = the.none (λ j le. past-none 45 (45 ∷ 45 ∷ []) s j (omega arith)) }
-any-lone (suc fuel) s start fits = by_place (any-lone fuel s) (place-of s start)
-  where
-    by_blank : ((next : ℕ) → length s < next + fuel → AnyLone s next) → (i : ℕ) → IsFirst (fence 3) s start i → (b : Bool) → stands_alone start i s ≡ b → AnyLone s start
-    by_blank ih i is true e = record { answer = Some i; is = the.this is (stands-blank s start i e) }
-    by_blank ih i is false e =
-        let from = is.from in
-        let more = ih (i + 3) (omega arith) in
-        record { answer = more.answer; is = the.later is (λ blank. either-way (stands_alone start i s) (blank-stands blank) e) more.is }
+-- a text up to the end of its first line
+record Lined (s : List ℕ) : Type 0 where
+  line : Chars
+  next : Chars
+  whole : line ++ next ≡ s
+  inline : AreAll is_inline line
+  stop : NextIsNot is_inline next
 
-    by_place : ((next : ℕ) → length s < next + fuel → AnyLone s next) → Place s start → AnyLone s start
-    by_place ih (found i is) = by_blank ih i is (stands_alone start i s) refl
-    by_place ih (lost none) = record { answer = None; is = the.none none }
+lined : (s : List ℕ) → Lined s
+lined s = let n : ℕ = run_len is_inline s in record { line = take n s; next = drop n s; whole = take-append-drop n s; inline = run_all is_inline s; stop = run-stops is_inline s }
 
-lone-is : (s : List ℕ) → IsLone s 0 (alone_from 0 s)
-lone-is s = let any = any-lone (suc (length s)) s 0 (omega arith) in subst (IsLone s 0) (sym (lone-read any.is)) any.is
-
--- ---- the steps
+-- ---- the endings
 
 fence-dashes : (n : ℕ) → fence n ≡ dashes n
 fence-dashes zero = refl
 fence-dashes (suc n) = ap (λ (xs : List ℕ). 45 ∷ xs) (fence-dashes n)
 
-abbrev steps : List ℕ → Option ℕ → Option ℕ → Option ℕ → Option ℕ → Option ℕ → Option ℕ → ℕ
-steps s f g u d a l = first_some (past_newline s f ∷ past_newline s g ∷ u ∷ d ∷ a ∷ past_place s l ∷ []) (length s)
+abbrev ends_by : List ℕ → Chars × Bool → Option ℕ
+ends_by s ending = if ending.1 then past_newline s (first ending.0 s) else first ending.0 s
 
-closing-is : (n : ℕ) (s : List ℕ) (f g u d a l : Option ℕ) → first (10 ∷ fence n) s ≡ f → first (10 ∷ fence 3) s ≡ g → first (codes "\nuse ") s ≡ u → first (codes "\n//!") s ≡ d → first (codes "\n#![") s ≡ a → alone_from 0 s ≡ l
-    → closing_end n s ≡ steps s f g u d a l
+abbrev steps : List (Chars × Bool) → List ℕ → List (Option ℕ)
+steps [] s = past_place s (alone s) ∷ []
+steps (ending ∷ others) s = ends_by s ending ∷ steps others s
+
+abbrev end_by : List (Chars × Bool) → List ℕ → ℕ
+end_by es s = first_some (steps es s) (length s)
+
+closing-is : (n : ℕ) (s : List ℕ) → closing_end n s ≡ end_by (endings n) s
 unfolding closing_end
-closing-is n s f g u d a l ef eg eu ed ea el = grind (arith, common_steps, fence-dashes)
+closing-is n s = ap (λ (f : List ℕ). first_some (past_newline s (first (newline ∷ f) s) ∷ recoveries s) (length s)) (sym (fence-dashes n))
 
-no_two : (p q : Bool) → (p && (q && false)) ≡ false
-no_two p q = grind arith
+abbrev are_patterns : List (Chars × Bool) → Bool
+are_patterns es = list_all (λ (ending : Chars × Bool). is_pattern ending.0) es
 
-no_three : (p q r t : Bool) → (p && (q && (r && true))) ≡ false → (p && (q && (r && t))) ≡ false
-no_three p q r t e = grind arith
+endings-patterns : (n : ℕ) → are_patterns (endings n) ≡ true
+endings-patterns n = rw (fence-ascii n) refl
+  where
+    fence-ascii : (n : ℕ) → list_all is_ascii (fence n) ≡ true
+    fence-ascii zero = refl
+    fence-ascii (suc n) = fence-ascii n
 
--- where three dashes begin nothing, no more of them do
-no-more : (n : ℕ) (s : List ℕ) → 3 ≤ n → begins (fence 3) s ≡ false → begins (fence n) s ≡ false
-no-more (suc (suc (suc n))) [] le none = refl
-no-more (suc (suc (suc n))) (a ∷ []) le none = and-false (a == 45)
-no-more (suc (suc (suc n))) (a ∷ b ∷ []) le none = no_two (a == 45) (b == 45)
-no-more (suc (suc (suc n))) (a ∷ b ∷ c ∷ s) le none = no_three (a == 45) (b == 45) (c == 45) _ none
-no-more n s le none = absurd (omega (arith, le))
+-- ---- what the language has is read
 
-no-longer : (n : ℕ) (s : List ℕ) → 3 ≤ n → NoFence s → IsNowhere (10 ∷ fence n) s 0
-no-longer n s three free j le = grind (arith, common_steps, no-more)
+-- where the line of a place ends
+at-line : (u line next : List ℕ) → AreAll is_inline line → NextIsNot is_inline next → line_end (bytes u) (encode_utf8_all (u ++ (line ++ next))) ≡ bytes (u ++ line)
+at-line u line next all stop = ap (λ n. bytes u + n) (ap (run_len is_no_newline) (past-front u (line ++ next)) ∙ line-read line next all stop) ∙ sym (bytes-append u line)
 
-pub ends-read : {n : ℕ} {s : List ℕ} {m : ℕ} → 3 ≤ n → EndsAt n s m → closing_end n s ≡ m
-ends-read {n} {s} three (the.full_fence {i} {k} is l) = closing-is n s (Some i) _ _ _ _ _ (first-is 10 (fence n) is) refl refl refl refl refl ∙ ap (λ (k : ℕ). suc i + k) (line-read l)
-ends-read {n} {s} three (the.short_fence {i} {k} none is l) = closing-is n s None (Some i) _ _ _ _ (first-none 10 (fence n) none) (first-is 10 (fence 3) is) refl refl refl refl ∙ ap (λ (k : ℕ). suc i + k) (line-read l)
-ends-read {n} {s} three (the.use_item {i} free is) = closing-is n s None None (Some i) _ _ _ (first-none 10 (fence n) (no-longer n s three free)) (first-none 10 (fence 3) free) (first-is 10 (codes "use ") is) refl refl refl
-ends-read {n} {s} three (the.inner_doc {i} free no_use is) = closing-is n s None None None (Some i) _ _ (first-none 10 (fence n) (no-longer n s three free)) (first-none 10 (fence 3) free) (first-none 10 (codes "use ") no_use) (first-is 10 (codes "//!") is) refl refl
-ends-read {n} {s} three (the.inner_attribute {i} free no_use no_doc is) =
-    closing-is n s None None None None (Some i) _ (first-none 10 (fence n) (no-longer n s three free)) (first-none 10 (fence 3) free) (first-none 10 (codes "use ") no_use) (first-none 10 (codes "//!") no_doc) (first-is 10 (codes "#![") is) refl
-ends-read {n} {s} three (the.lone_dashes {i} {k} free no_rust is l) =
-    closing-is n s None None None None None (Some i) (first-none 10 (fence n) (no-longer n s three free)) (first-none 10 (fence 3) free) (first-none 10 (codes "use ") no_rust.0) (first-none 10 (codes "//!") no_rust.1) (first-none 10 (codes "#![") no_rust.2) (lone-read is)
-    ∙ ap (λ (k : ℕ). i + k) (line-read l)
-ends-read {n} {s} three (the.all free no_rust is) =
-    closing-is n s None None None None None None (first-none 10 (fence n) (no-longer n s three free)) (first-none 10 (fence 3) free) (first-none 10 (codes "use ") no_rust.0) (first-none 10 (codes "//!") no_rust.1) (first-none 10 (codes "#![") no_rust.2) (lone-read is)
+past-line : (u line next : List ℕ) → AreAll is_inline line → NextIsNot is_inline next → line_end (suc (bytes u)) (encode_utf8_all (u ++ (10 ∷ line ++ next))) ≡ bytes (u ++ (10 ∷ line))
+past-line u line next all stop =
+    let front : List ℕ = u ++ codes "\n" in
+    let text : u ++ (10 ∷ line ++ next) ≡ front ++ (line ++ next) = sym (append_assoc u (codes "\n") (line ++ next)) in
+    let place : suc (bytes u) ≡ bytes front = omega (arith, bytes-one u 10 (omega arith)) in
+    ap (λ n. line_end n (encode_utf8_all (u ++ (10 ∷ line ++ next)))) place
+    ∙ (ap (λ (t : List ℕ). line_end (bytes front) (encode_utf8_all t)) text ∙ (at-line front line next all stop ∙ ap bytes (append_assoc u (codes "\n") line)))
 
-record AnyEnd (n : ℕ) (s : List ℕ) : Type 0 where
-  place : ℕ
-  is : EndsAt n s place
+body-by : {next w : List ℕ} {es : List (Chars × Bool)} → IsBodyBefore next es w → are_patterns es ≡ true → end_by es (encode_utf8_all (w ++ next)) ≡ bytes w
+body-by {next} (the.with_line pattern u line {others} is all stop) good =
+    let parts = and_parts (is_pattern pattern) (are_patterns others) good in
+    let text : (u ++ (10 ∷ line)) ++ next ≡ u ++ (10 ∷ line ++ next) = append_assoc u (10 ∷ line) next in
+    let found = first-read (pattern-finds pattern parts.0) u (10 ∷ line ++ next) is in
+    ap (λ (t : List ℕ). end_by ((pattern, true) ∷ others) (encode_utf8_all t)) text
+    ∙ (ap (λ (o : Option ℕ). first_some (past_newline (encode_utf8_all (u ++ (10 ∷ line ++ next))) o ∷ steps others (encode_utf8_all (u ++ (10 ∷ line ++ next)))) (length (encode_utf8_all (u ++ (10 ∷ line ++ next))))) found
+    ∙ past-line u line next all stop)
+body-by {next} (the.before_line pattern w {others} is) good =
+    let parts = and_parts (is_pattern pattern) (are_patterns others) good in
+    ap (λ (o : Option ℕ). first_some (o ∷ steps others (encode_utf8_all (w ++ next))) (length (encode_utf8_all (w ++ next)))) (first-read (pattern-finds pattern parts.0) w next is)
+body-by {next} (the.other pattern {takes_line} {w} {others} none rest) good =
+    let parts = and_parts (is_pattern pattern) (are_patterns others) good in
+    let lost : ends_by (encode_utf8_all (w ++ next)) (pattern, takes_line) ≡ None = by_kind takes_line (nowhere-read (pattern-finds pattern parts.0) (w ++ next) none) in
+    ap (λ (o : Option ℕ). first_some (o ∷ steps others (encode_utf8_all (w ++ next))) (length (encode_utf8_all (w ++ next)))) lost ∙ body-by rest parts.1
+  where
+    by_kind : (b : Bool) → first pattern (encode_utf8_all (w ++ next)) ≡ None → (if b then past_newline (encode_utf8_all (w ++ next)) (first pattern (encode_utf8_all (w ++ next))) else first pattern (encode_utf8_all (w ++ next))) ≡ None
+    by_kind true e = ap (past_newline (encode_utf8_all (w ++ next))) e
+    by_kind false e = e
+body-by {next} (the.lone_dashes u line is all stop) good =
+    ap (λ (t : List ℕ). end_by [] (encode_utf8_all t)) (append_assoc u line next)
+    ∙ (ap (λ (o : Option ℕ). first_some (past_place (encode_utf8_all (u ++ (line ++ next))) o ∷ []) (length (encode_utf8_all (u ++ (line ++ next))))) (first-read lone-finds u (line ++ next) is)
+    ∙ at-line u line next all stop)
+body-by {next} (the.all {w} ends none) good =
+    let text : w ++ next ≡ w = ap (λ (t : List ℕ). w ++ t) ends ∙ append-nil w in
+    ap (λ (t : List ℕ). end_by [] (encode_utf8_all t)) text
+    ∙ ap (λ (o : Option ℕ). first_some (past_place (encode_utf8_all w) o ∷ []) (length (encode_utf8_all w))) (nowhere-read lone-finds w none)
 
-any-end : (n : ℕ) (s : List ℕ) → AnyEnd n s
-any-end n s =
-    by_found (first (10 ∷ fence n) s) (λ i e. record { place = _; is = the.full_fence (is-first 10 (fence n) s i e) (line-of (drop (suc i) s)) }) (λ e. let none = is-nowhere 10 (fence n) s e in
-    by_found (first (10 ∷ fence 3) s) (λ i e. record { place = _; is = the.short_fence none (is-first 10 (fence 3) s i e) (line-of (drop (suc i) s)) }) (λ e. let free = is-nowhere 10 (fence 3) s e in
-    by_found (first (codes "\nuse ") s) (λ i e. record { place = _; is = the.use_item free (is-first 10 (codes "use ") s i e) }) (λ e. let no_use = is-nowhere 10 (codes "use ") s e in
-    by_found (first (codes "\n//!") s) (λ i e. record { place = _; is = the.inner_doc free no_use (is-first 10 (codes "//!") s i e) }) (λ e. let no_doc = is-nowhere 10 (codes "//!") s e in
-    by_found (first (codes "\n#![") s) (λ i e. record { place = _; is = the.inner_attribute free no_use no_doc (is-first 10 (codes "#![") s i e) }) (λ e. let no_rust : NoRust s = (no_use, no_doc, is-nowhere 10 (codes "#![") s e) in
-    by_found (alone_from 0 s) (λ i e. record { place = _; is = the.lone_dashes free no_rust (subst (IsLone s 0) e (lone-is s)) (line-of (drop i s)) })
-    (λ e. record { place = _; is = the.all free no_rust (subst (IsLone s 0) e (lone-is s)) }))))))
+pub body-read : (n : ℕ) {body next : List ℕ} → IsBodyBefore next (endings n) body → closing_end n (encode_utf8_all (body ++ next)) ≡ bytes body
+body-read n {body} {next} is = closing-is n (encode_utf8_all (body ++ next)) ∙ body-by is (endings-patterns n)
 
-pub ends-are : (n : ℕ) (s : List ℕ) → 3 ≤ n → EndsAt n s (closing_end n s)
-ends-are n s three = let any = any-end n s in subst (EndsAt n s) (sym (ends-read three any.is)) any.is
+-- ---- and each text has such a body
+
+pub record Body (es : List (Chars × Bool)) (s : List ℕ) : Type 0 where
+  pub body : Chars
+  pub next : Chars
+  pub whole : body ++ next ≡ s
+  pub is : IsBodyBefore next es body
+
+body-at : (es : List (Chars × Bool)) (s : List ℕ) → are_patterns es ≡ true → Body es s
+body-at [] s good = by_found (alone (encode_utf8_all s))
+    (λ j e.
+    let there = lone-finds.some s j e in
+    let l = lined there.back in
+    record {
+      body = there.front ++ l.line;
+      next = l.next;
+      whole = append_assoc there.front l.line l.next ∙ (ap (λ (t : List ℕ). there.front ++ t) l.whole ∙ there.whole);
+      is = the.lone_dashes there.front l.line (subst (IsFirstPlaceOf IsLone there.front) (sym l.whole) there.is) l.inline l.stop;
+    })
+    (λ e. record { body = s; next = []; whole = append-nil s; is = the.all refl (lone-finds.none s e) })
+body-at ((pattern, takes_line) ∷ others) s good =
+    let parts = and_parts (is_pattern pattern) (are_patterns others) good in
+    by_found (first pattern (encode_utf8_all s)) (λ j e. by_kind takes_line ((pattern-finds pattern parts.0).some s j e) parts.0)
+    (λ e. let rest = body-at others s parts.1 in record {
+      body = rest.body;
+      next = rest.next;
+      whole = rest.whole;
+      is = the.other pattern (subst (IsNowhere (IsAt pattern)) (sym rest.whole) ((pattern-finds pattern parts.0).none s e)) rest.is;
+    })
+  where
+    newline-first : (pattern text : List ℕ) → is_pattern pattern ≡ true → begins pattern text ≡ true → text ≡ 10 ∷ drop 1 text
+    newline-first [] text is e = absurd (true≢false (sym is))
+    newline-first (d ∷ ds) [] is e = absurd (true≢false (sym e))
+    newline-first (d ∷ ds) (c ∷ text) is e =
+        let head : d ≡ 10 = eqb-true d 10 (and_parts (d == 10) true (and_parts (begins (codes "\n") (d ∷ ds)) (list_all is_ascii (d ∷ ds)) is).0).0 in
+        ap (λ (x : ℕ). x ∷ text) (eqb-true c d (and_parts (c == d) (begins ds text) e).0 ∙ head)
+
+    by_kind : (b : Bool) → {j : ℕ} → Cut s j (IsFirstPlaceOf (IsAt pattern)) → is_pattern pattern ≡ true → Body ((pattern, b) ∷ others) s
+    by_kind false there is = record { body = there.front; next = there.back; whole = there.whole; is = the.before_line pattern there.front there.is }
+    by_kind true there is =
+        let l = lined (drop 1 there.back) in
+        let back : there.back ≡ 10 ∷ l.line ++ l.next = newline-first pattern there.back is there.is.here ∙ ap (λ (t : List ℕ). 10 ∷ t) (sym l.whole) in
+        record {
+          body = there.front ++ (10 ∷ l.line);
+          next = l.next;
+          whole = append_assoc there.front (10 ∷ l.line) l.next ∙ (ap (λ (t : List ℕ). there.front ++ t) (sym back) ∙ there.whole);
+          is = the.with_line pattern there.front l.line (subst (IsFirstPlaceOf (IsAt pattern) there.front) back there.is) l.inline l.stop;
+        }
+
+pub any-body : (n : ℕ) (s : List ℕ) → Body (endings n) s
+any-body n s = body-at (endings n) s (endings-patterns n)

@@ -9,14 +9,13 @@ use Rattle.rustc_lexer.specs.Classes.{is_among, is_whitespace, bytes, IsText}
 use Rattle.rustc_lexer.specs.means.Tokens.{tokens_of}
 use Rattle.rustc_lexer.specs.means.Edition.{token, first_token_in}
 use Rattle.rustc_lexer.specs.means.Frontmatter.{is_newline, fence_len, opening_len, opens, closing_end, past_opening, frontmatter}
-use Rattle.rustc_lexer.specs.laws.LanguageClosing.{ends-read, ends-are}
+use Rattle.rustc_lexer.specs.laws.LanguageClosing.{body-read, any-body}
 use Rattle.rustc_lexer.specs.laws.LanguageFrontmatter.{fence-length, opening-read, Opened, opened, opens-none, none-opens}
 use Rattle.rustc_lexer.specs.laws.LanguageLiterals.{bytes-append}
-use Rattle.rustc_lexer.specs.FrontmatterGrammar.{fence, IsOpeningBefore, opening, EndsAt}
+use Rattle.rustc_lexer.specs.FrontmatterGrammar.{fence, IsOpeningBefore, opening}
 use Rattle.rustc_lexer.specs.LanguageText.{IsTokenIn, Mode, IsDocument, document, part, mode_edition, mode_after, AreTokens, nothing, something, frontmatter_first}
 use Rattle.rustc_lexer.specs.means.Scan.{bytes_of, next_is, past}
 use Rattle.rustc_lexer.specs.means.Taking.{token_at}
-use Rattle.rustc_lexer.specs.laws.Frontmatter.{closing_end-boundary, closing_end-inside}
 use Rattle.rustc_lexer.specs.laws.LanguageIn.{token-read-in, first-front}
 use Rattle.rustc_lexer.specs.laws.LanguageFront.{empty-text, split}
 use Rattle.rustc_lexer.specs.laws.Tokens.{token_at-cuts, by_tokens, tokens-nil, tokens-cons}
@@ -59,10 +58,6 @@ frontmatter-is text n front rest is e is_opening =
     ∙ (ap (λ (k : ℕ). let t : Token = record { kind = Frontmatter (next_is is_whitespace front) (not (next_is (is_among (codes "\n")) rest)); len = k + closing_end (fence_len (chars text)) (past_opening text) } in t) size
     ∙ ap (λ (k : ℕ). let t : Token = record { kind = Frontmatter (next_is is_whitespace front) (not (next_is (is_among (codes "\n")) rest)); len = bytes front + k } in t) closes))
 
--- three dashes or more open it
-opening-dashes : {next w : List ℕ} {n : ℕ} → IsOpeningBefore next n w → 3 ≤ n
-opening-dashes (opening n space label white last three is stop) = three
-
 -- one token more
 step : (mode : Mode) (text w next : List ℕ) (token : Token) (tokens : List Token) → IsText text → 0 < length w → chars text ≡ w ++ next → token_at mode text ≡ token → token.len ≡ bytes w
     → ((u : List ℕ) → IsText u → chars u ≡ next → tokens_of (mode_after mode token.kind) u ≡ tokens) → tokens_of mode text ≡ token ∷ tokens
@@ -81,7 +76,7 @@ tokens-read (something {mode} {kind} {c} {w} {next} {tokens} p free rest) text i
     step mode text (c ∷ w) next (token kind (bytes (c ∷ w))) tokens is (omega arith) e (at-first mode text (λ y. ap opens e ∙ none-opens (c ∷ w ++ next) (free y)) ∙ token-read-in p text e) refl
     (λ u text_u f. tokens-read rest u text_u f)
 tokens-read (frontmatter_first {edition} {n} {opening = front} {next} {tokens} body is_opening is_end rest) text is e =
-    let len : bytes body ≡ closing_end n (encode_utf8_all (body ++ next)) = sym (ends-read (opening-dashes is_opening) is_end) in
+    let len : bytes body ≡ closing_end n (encode_utf8_all (body ++ next)) = sym (body-read n is_end) in
     let r = opening-read is_opening in
     let token : Token = record { kind = Frontmatter (next_is is_whitespace front) (not (next_is (is_among (codes "\n")) (body ++ next))); len = bytes front + bytes body } in
     let whole : chars text ≡ (front ++ body) ++ next = e ∙ sym (append_assoc front body next) in
@@ -117,24 +112,18 @@ frontmatter-first edition text is some opened_here rest_are = put (opened (chars
     put : Opened (chars text) → AreTokens (document edition) (chars text) (frontmatter text ∷ tokens)
     put o =
         let n : ℕ = o.count in
-        let parts = split text o.front o.rest is (sym o.whole) in
-        let left : List ℕ = encode_utf8_all o.rest in
-        let left_utf8 : IsUtf8 left = subst IsUtf8 parts.left (IsUtf8-drop text (bytes o.front) is.utf8 (IsCharBoundary-from_take text (bytes o.front) is.utf8 parts.inside (subst IsUtf8 (sym parts.front) parts.front_utf8))) in
-        let m : ℕ = closing_end n left in
-        let body : List ℕ = chars (take m left) in
-        let next : List ℕ = chars (drop m left) in
-        let utf8 : IsUtf8 (take m left) = IsUtf8-take left m left_utf8 (closing_end-boundary n left) in
-        let body_is : body ++ next ≡ o.rest = sym (chars-append (take m left) (drop m left) utf8) ∙ (ap chars (take-append-drop m left) ∙ parts.again) in
-        let size : bytes body ≡ m = ap length (encodes-chars (take m left) utf8) ∙ length-take-le m left (closing_end-inside n left) in
-        let is_opening : IsOpeningBefore (body ++ next) n o.front = subst (λ (u : List ℕ). IsOpeningBefore u n o.front) (sym body_is) o.is in
-        let len : bytes body ≡ closing_end n (encode_utf8_all (body ++ next)) = size ∙ ap (λ (u : List ℕ). closing_end n (encode_utf8_all u)) (sym body_is) in
-        let whole : o.front ++ (body ++ next) ≡ chars text = ap (λ (u : List ℕ). o.front ++ u) body_is ∙ o.whole in
+        let b = any-body n o.rest in
+        let body : List ℕ = b.body in
+        let next : List ℕ = b.next in
+        let is_opening : IsOpeningBefore (body ++ next) n o.front = subst (λ (u : List ℕ). IsOpeningBefore u n o.front) (sym b.whole) o.is in
+        let whole : o.front ++ (body ++ next) ≡ chars text = ap (λ (u : List ℕ). o.front ++ u) b.whole ∙ o.whole in
+        let parts = split text (o.front ++ body) next is (sym (append_assoc o.front body next ∙ whole)) in
         let same : frontmatter text ≡ record { kind = Frontmatter (next_is is_whitespace o.front) (not (next_is (is_among (codes "\n")) (body ++ next))); len = bytes o.front + bytes body } =
-        frontmatter-is text n o.front (body ++ next) is (sym whole) is_opening ∙ ap (λ (k : ℕ). let t : Token = record { kind = Frontmatter (next_is is_whitespace o.front) (not (next_is (is_among (codes "\n")) (body ++ next))); len = bytes o.front + k } in t) (sym len) in
-        let cut : drop (frontmatter text).len text ≡ drop m left = ap (λ (t : Token). drop t.len text) same ∙ (ap (λ (k : ℕ). drop (bytes o.front + k) text) size ∙ (sym (drop-drop m (bytes o.front) text) ∙ ap (drop m) parts.left)) in
-        let rest_is : AreTokens (part edition) next tokens = subst (λ (cs : List ℕ). AreTokens (part edition) cs tokens) (ap chars cut) (subst (λ (mode : Mode). AreTokens mode (chars (drop (frontmatter text).len text)) tokens) (after-frontmatter edition text) rest_are) in
+        frontmatter-is text n o.front (body ++ next) is (sym whole) is_opening ∙ ap (λ (k : ℕ). let t : Token = record { kind = Frontmatter (next_is is_whitespace o.front) (not (next_is (is_among (codes "\n")) (body ++ next))); len = bytes o.front + k } in t) (body-read n b.is) in
+        let cut : drop (frontmatter text).len text ≡ encode_utf8_all next = ap (λ (t : Token). drop t.len text) same ∙ (ap (λ (k : ℕ). drop k text) (sym (bytes-append o.front body)) ∙ parts.left) in
+        let rest_is : AreTokens (part edition) next tokens = subst (λ (cs : List ℕ). AreTokens (part edition) cs tokens) (ap chars cut ∙ parts.again) (subst (λ (mode : Mode). AreTokens mode (chars (drop (frontmatter text).len text)) tokens) (after-frontmatter edition text) rest_are) in
         subst (λ (cs : List ℕ). AreTokens (document edition) cs (frontmatter text ∷ tokens)) whole
-        (subst (λ (t : Token). AreTokens (document edition) (o.front ++ (body ++ next)) (t ∷ tokens)) (sym same) (frontmatter_first body is_opening (subst (EndsAt n (encode_utf8_all (body ++ next))) (sym len) (ends-are n (encode_utf8_all (body ++ next)) (opening-dashes is_opening))) rest_is))
+        (subst (λ (t : Token). AreTokens (document edition) (o.front ++ (body ++ next)) (t ∷ tokens)) (sym same) (frontmatter_first body is_opening b.is rest_is))
 
 puts : (mode : Mode) (text : List ℕ) → IsText text → 0 < length text → Puts mode text (token_at mode text)
 puts w0 text is some = grind (arith, common_steps, lexeme-first, at-frontmatter, frontmatter-first)

@@ -1,6 +1,6 @@
 -- The state after a token.
-use Rattle.std.proofs.Common.{◌≡◌, ℕ, ◌==◌, true, false, List, length, drop, refl, sym, ap, ◌∙◌, arith, zero-add, ◌<◌, IsCharBoundary}
-use Rattle.std.proofs.lemmas.Bool.{eqb-true, ne_eqb}
+use Rattle.std.proofs.Common.{◌≡◌, ℕ, ◌==◌, true, false, List, length, drop, refl, sym, ap, ◌∙◌, arith, zero-add, IsCharBoundary}
+use Rattle.std.proofs.lemmas.Bool.{eqb-true}
 use Rattle.std.proofs.lemmas.Grind.{common_steps}
 use Rattle.rustc_lexer.specs.{Token, TokenKind, Eof, Literal}
 use Rattle.rustc_lexer.specs.LanguageText.{Mode, mode_after, mode_edition}
@@ -33,13 +33,10 @@ module _ (pending : ℕ) (rest : List ℕ) (mode : Mode) (s : State) (e : state 
   unfolding advance
   advance-some some = grind (arith, common_steps)
 
--- with nothing pending the token is the first one of the text
+-- with nothing pending a token stays as it is
 kind_past-zero : (kind : TokenKind) → kind_past 0 kind ≡ kind
 kind_past-zero (Literal kind start) = ap (Literal kind) (zero-add start)
 kind_past-zero kind = refl
 
 pub token_past-zero : (token : Token) → token_past 0 token ≡ token
 token_past-zero token = grind (arith, common_steps, kind_past-zero, zero-add)
-
-pub first-advanced : (text : List ℕ) (mode : Mode) (s : State) → s ≡ state 0 text mode → 0 < length text → (advance s).0 ≡ token_at mode text
-first-advanced text mode s e some = ap (λ (r : Token × State). r.0) (advance-some 0 text mode s (sym e) (ne_eqb (length text) 0 (λ none. omega arith))) ∙ token_past-zero (token_at mode text)

@@ -4,7 +4,7 @@ use Rattle.rustc_lexer.specs.declared.relex.head.Head.{Head}
 use Rattle.rustc_lexer.specs.declared.relex.relexing.{Change.Change, Relexed.Relexed, Relexing.Relexing}
 use Rattle.rustc_lexer.specs.{Token, Whitespace}
 use Rattle.rustc_lexer.specs.Document.{shebang_len}
-use Rattle.rustc_lexer.specs.Edits.{apply, relexed_of}
+use Rattle.rustc_lexer.specs.Edits.{apply, IsRelexed}
 use Rattle.rustc_lexer.specs.Locality.{tokens_by}
 use Rattle.rustc_lexer.specs.means.Frontmatter.{frontmatter, opens, spaces_len}
 use Rattle.rustc_lexer.specs.means.Relexing.{IsRenewed}
@@ -75,18 +75,23 @@ counted false old new r = record { kept_front = r.kept_front; lexed = new + r.le
 abbrev pub HeadStays : List ℕ → ℕ → ℕ → List ℕ → Type 0
 HeadStays text start stop insert = (head_of text ≡ head_of (apply text start stop insert)) × ((head_of text).end ≤ start)
 
--- the counts of an edit, where the head stays or does not
-unfoldable pub relexed_by_head : Bool → (List ℕ → Token) → List ℕ → ℕ → ℕ → List ℕ → Relexed
-relexed_by_head kept first text start stop insert =
-    let made : List ℕ = apply text start stop insert in
+-- the counts of an edit, where the head stays or does not, by those of the edit of its body
+abbrev pub IsRelexedAs : (List ℕ → Token) → List ℕ → ℕ → ℕ → List ℕ → Bool → Head → Head → List ℕ → Relexed → Type 0
+IsRelexedAs first text start stop insert kept old now made r =
     let edit : Change = record { start = start; old_stop = stop; new_stop = start + length insert } in
-    let change : Change = body_change kept (head_of text).end (head_of made).end edit in
-    counted kept (length (tokens_of_head (head_of text))) (length (tokens_of_head (head_of made))) (relexed_of first (body_of text) change.start change.old_stop (body_insert kept change insert (body_of made)))
+    let change : Change = body_change kept old.end now.end edit in
+    (body : Relexed) × IsRelexed first (drop old.end text) change.start change.old_stop (body_insert kept change insert (drop now.end made)) body
+    × (r ≡ counted kept (length (tokens_of_head old)) (length (tokens_of_head now)) body)
+
+-- the same, by the text alone
+unfoldable pub IsRelexedWith : Bool → (List ℕ → Token) → List ℕ → ℕ → ℕ → List ℕ → Relexed → Type 0
+IsRelexedWith kept first text start stop insert r =
+    IsRelexedAs first text start stop insert kept (head_of text) (head_of (apply text start stop insert)) (apply text start stop insert) r
 
 -- these are the counts of an edit
 pub record IsRelexedByHead (first : List ℕ → Token) (text : List ℕ) (start stop : ℕ) (insert : List ℕ) (r : Relexed) : Type 0 where
-  pub kept : HeadStays text start stop insert → r ≡ relexed_by_head true first text start stop insert
-  pub changed : (HeadStays text start stop insert → ⊥) → r ≡ relexed_by_head false first text start stop insert
+  pub kept : HeadStays text start stop insert → IsRelexedWith true first text start stop insert r
+  pub changed : (HeadStays text start stop insert → ⊥) → IsRelexedWith false first text start stop insert r
 
 -- the count of steps rose by the tokens that were lexed, except those of a new head
 pub record IsCountedByHead (text : List ℕ) (start stop : ℕ) (insert : List ℕ) (before after lexed : ℕ) : Type 0 where

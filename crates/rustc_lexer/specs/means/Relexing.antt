@@ -1,13 +1,62 @@
 -- Means, by how it is read: the parts of relexing.
-use Rattle.std.specs.Prelude.{ℕ, ◌+◌, ◌-◌, ◌<◌, ◌≤◌, Bool, max, map, IsCharBoundary, ◌≡◌, ◌++◌, true, List, length, take, drop}
+use Rattle.std.specs.Prelude.{ℕ, zero, suc, ◌+◌, ◌-◌, ◌<◌, ◌≤◌, ◌&&◌, Bool, cond, nat_le, nat_lt, nat_eq, count_by, max, map, IsCharBoundary, ◌≡◌, ◌++◌, ◌∷◌, true, List, length, take, drop}
+use Rattle.std.specs.List.{list_any}
 use Rattle.std.specs.Str.{IsUtf8}
 use Rattle.rustc_lexer.specs.declared.relex.front.Bound.{Bound}
 use Rattle.rustc_lexer.specs.declared.relex.front.Damage.{Damage}
 use Rattle.rustc_lexer.specs.declared.relex.relexing.Change.{Change}
+use Rattle.rustc_lexer.specs.declared.relex.relexing.Relexed.{Relexed}
 use Rattle.rustc_lexer.specs.declared.relex.relexing.Relexing.{Relexing}
 use Rattle.rustc_lexer.specs.{Token}
 use Rattle.rustc_lexer.specs.Locality.{bound, tokens_by}
-use Rattle.rustc_lexer.specs.Edits.{IsBound, Stands, known, meets_at}
+use Rattle.rustc_lexer.specs.Edits.{IsBound, apply, ends_from, kept_front, known}
+
+-- ---- what an edit keeps, by a search for the meeting
+
+-- whether a place of the new text is past the edit, which ends at `new_stop` there and at `old_stop` in the old text,
+-- and, moved back, a bound of the old tokens: 0 or the end of one
+abbrev pub meets_at : List Token → ℕ → ℕ → ℕ → Bool
+meets_at old old_stop new_stop place = nat_le new_stop place && list_any (nat_eq (place - new_stop + old_stop)) (0 ∷ ends_from 0 old)
+
+-- the first number from j on that passes the test, of at most n
+abbrev pub least_from : (ℕ → Bool) → ℕ → ℕ → ℕ
+least_from test zero j = j
+least_from test (suc n) j = cond (test j) j (least_from test n (suc j))
+
+-- the number of the bound of the new tokens at which lexing from bound k meets the old ones
+unfoldable pub meet : List Token → List Token → ℕ → ℕ → ℕ → ℕ
+meet old new old_stop new_stop k = least_from (λ j. meets_at old old_stop new_stop (bound new j)) (length new - k) k
+
+-- what an edit keeps of the old tokens, and how many it lexes
+unfoldable pub relexed_of : (List ℕ → Token) → List ℕ → ℕ → ℕ → List ℕ → Relexed
+relexed_of first text start stop insert =
+    let old : List Token = tokens_by first text in
+    let new : List Token = tokens_by first (apply text start stop insert) in
+    let new_stop : ℕ = start + length insert in
+    let k : ℕ = kept_front text old start in
+    let j : ℕ = meet old new stop new_stop k in
+    record { kept_front = k; lexed = j - k; kept_back = count_by (nat_lt (bound new j - new_stop + stop)) (ends_from 0 old) }
+
+-- relexing stands at a bound of the new tokens, past the kept front and not past the meeting. Its bound of the old
+-- tokens is the kept front before the end of the edit, and then the first that is not before its place, moved back, or
+-- the last one
+pub record Stands (first : List ℕ → Token) (old : List ℕ) (change : Change) (text : List ℕ) (at : Relexing) : Type 0 where
+  pub front_number : at.front.number ≡ kept_front old (tokens_by first old) change.start
+  pub front_bound : IsBound (tokens_by first old) at.front
+  pub front_same : take at.front.number (tokens_by first old) ≡ take at.front.number (tokens_by first text)
+  pub inside : known at ≤ length (tokens_by first text)
+  pub place : at.at ≡ bound (tokens_by first text) (known at)
+  pub not_past : known at
+      ≤ meet (tokens_by first old) (tokens_by first text) change.old_stop change.new_stop at.front.number
+  pub met_is : at.met ≡ meets_at (tokens_by first old) change.old_stop change.new_stop at.at
+  pub back_bound : IsBound (tokens_by first old) at.back
+  pub not_begun : at.at < change.new_stop → at.back ≡ at.front
+  pub below : (k : ℕ) → k < at.back.number
+      → bound (tokens_by first old) k + change.new_stop < max change.new_stop at.at + change.old_stop
+  pub reached : change.new_stop ≤ at.at → at.back.number < length (tokens_by first old)
+      → at.at - change.new_stop + change.old_stop ≤ at.back.place
+
+-- ---- the parts
 
 -- each bound of the tokens is inside the text, between characters
 abbrev pub AreBoundaries : List ℕ → List Token → Type 0

@@ -1,4 +1,4 @@
-//! The tokens of a text, many at once.
+//! Writes many tokens of a text at once.
 ghost use Rattle.std.specs.Prelude.{◌≡◌, ◌<◌, ◌++◌, drop, length, map, min, take, IsCharBoundary, IsTrue};
 ghost use Rattle.rustc_lexer.specs.Tokens.{IsFilledTo, state_past, bound, tokens_left, tokens_of};
 ghost use Rattle.rustc_lexer.specs.Classes.{Fits};
@@ -11,15 +11,16 @@ use crate::entry::Tokens;
 use crate::token::FrontmatterAllowed;
 use std::iter::Iterator;
 
-/// The ends of runs are found for so many bytes at once. It does not pay for fewer.
+/// How many bytes are searched at once for the ends of runs. For fewer bytes the search costs more than it saves.
 const BLOCK: usize = 64;
 
 impl<'a> Tokens<'a> {
-    /// Writes the next tokens into the buffer, as many as are left, or as there is room for. Answers their number,
-    /// which is less than the length of the buffer only where no token is left.
+    /// Writes the next tokens into the buffer, as many as are left or as there is room for, and returns how many.
+    /// The number is less than the length of the buffer only if no token is left.
     ///
-    /// They are the tokens that so many calls of `next` give, and take less time: most of them are found 64 bytes at a
-    /// time. Where a frontmatter may still stand, or fewer than 64 bytes are left, they come one by one.
+    /// They are the tokens that as many calls of `next` return, but they take less time: most of them are found 64
+    /// bytes at a time. The tokens are found one by one if a frontmatter may still come, or if fewer than 64 bytes
+    /// are left.
     ///
     /// ```ignore
     /// let mut buffer = [Token { kind: TokenKind::Eof, len: 0 }; 256];
@@ -57,7 +58,7 @@ impl<'a> Tokens<'a> {
         self.fill_singly(buffer)
     }
 
-    /// Whether no frontmatter may stand in what is left.
+    /// Returns whether no frontmatter may come in the text that is left.
     #[inline(always)]
     fn is_part(&self) -> bool
         ensures { IsTrue result → self.now.mode ≡ part (mode_edition self.now.mode) }
@@ -65,7 +66,7 @@ impl<'a> Tokens<'a> {
         matches!(self.frontmatter_allowed, FrontmatterAllowed::No)
     }
 
-    /// Writes the next tokens into the buffer, as `fill` does, one after another.
+    /// Writes the next tokens into the buffer like `fill`, one after another.
     fn fill_singly<R: Record>(&mut self, buffer: &mut [R]) -> usize
         ensures filled { IsFilled R.written (tokens_left self.old) buffer.old buffer.new result }
         ensures state { self.new ≡ state_past result self.old }
@@ -84,9 +85,10 @@ impl<'a> Tokens<'a> {
     }
 }
 
-/// Writes the first tokens of a text into the buffer, in an edition.
+/// Writes the first tokens of a text in an edition into the buffer. Returns how many tokens it wrote, and how many
+/// bytes they take.
 ///
-/// The newest edition has a body of its own, in which no token asks for the edition.
+/// The newest edition has a branch of its own, in which no token looks at the edition.
 #[inline(always)]
 fn fill_part<R: Record>(text: &str, edition: Edition, buffer: &mut [R]) -> (usize, usize)
     requires fits { Fits text.now }

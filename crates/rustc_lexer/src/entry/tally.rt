@@ -1,10 +1,10 @@
-//! A count that contracts alone see.
+//! A count that only contracts see.
 ghost use Rattle.std.specs.Prelude.{◌≡◌, ◌+◌, ℕ};
 ghost use base.Fml.{ftrue};
 
 use std::marker::{Model, PhantomData};
 
-/// A number that contracts alone see. It has no bytes.
+/// A number that only contracts see. It takes no bytes.
 #[derive(Drop)]
 pub(crate) struct Tally {
     marker: PhantomData<()>,
@@ -16,7 +16,7 @@ impl Model for Tally {
 }
 
 impl Tally {
-    /// Nothing counted.
+    /// Creates a count of 0.
     pub(crate) fn new() -> Tally
         ensures { result.count ≡ 0 }
     {
@@ -25,14 +25,14 @@ impl Tally {
         }
     }
 
-    /// Counts one more.
+    /// Adds one to the count.
     pub(crate) fn tick(&mut self)
         ensures { self.new.count ≡ self.old.count + 1 }
     {
         self.tick_by(1);
     }
 
-    /// Counts so many more.
+    /// Adds this many to the count.
     pub(crate) fn tick_by(&mut self, _more: usize)
         ensures { self.new.count ≡ self.old.count + _more }
     {}

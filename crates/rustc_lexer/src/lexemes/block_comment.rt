@@ -7,7 +7,7 @@ ghost use Rattle.rustc_lexer.specs.means.Scan.{or_all, scanned};
 use crate::scan::{eat_until_either, first, second, split_first, strip};
 use crate::token::{DocStyle, TokenKind};
 
-/// A block comment. `body` is what follows its `/*`.
+/// Lexes a block comment. Returns its kind, and the text after it. `body` is the text after its `/*`.
 #[inline(always)]
 pub(crate) fn block_comment(body: &str) -> (TokenKind, &str)
     ensures { (result.0, result.1.now) ≡ scanned spec.block_comment body.now }
@@ -23,7 +23,7 @@ pub(crate) fn block_comment(body: &str) -> (TokenKind, &str)
     )
 }
 
-/// The style of the block comment with this body.
+/// Returns the doc style of the block comment with this body.
 #[inline(always)]
 fn block_doc_style(body: &str) -> Option<DocStyle>
     ensures { result ≡ spec.block_doc_style (chars body.now) }
@@ -42,8 +42,8 @@ fn block_doc_style(body: &str) -> Option<DocStyle>
     }
 }
 
-/// Whether something closes the comment whose opening mark stands before `body`, and what follows that: nothing,
-/// where nothing does.
+/// Returns whether the comment is closed, and the text after it, which is empty if nothing closes the comment.
+/// `body` is the text after its `/*`.
 fn past_comment(body: &str) -> (bool, &str)
     ensures { (result.0, result.1.now) ≡ scanned (or_all spec.comment_end) body.now }
 {

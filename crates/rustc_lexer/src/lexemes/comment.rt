@@ -8,7 +8,8 @@ use crate::lexemes::block_comment::block_comment;
 use crate::scan::{eat_until, first, second, strip};
 use crate::token::{DocStyle, TokenKind};
 
-/// What begins with a slash. `rest` is what follows that.
+/// Lexes a token that begins with a slash. Returns its kind, and the text after it. `rest` is the text after the
+/// slash.
 #[inline(always)]
 pub(crate) fn slash(rest: &str) -> (TokenKind, &str)
     ensures { (result.0, result.1.now) ≡ scanned spec.slash rest.now }
@@ -22,7 +23,7 @@ pub(crate) fn slash(rest: &str) -> (TokenKind, &str)
     }
 }
 
-/// A line comment. `body` is what follows its `//`.
+/// Lexes a line comment. Returns its kind, and the text after it. `body` is the text after its `//`.
 #[inline(always)]
 fn line_comment(body: &str) -> (TokenKind, &str)
     ensures { (result.0, result.1.now) ≡ scanned spec.line_comment body.now }
@@ -32,7 +33,7 @@ fn line_comment(body: &str) -> (TokenKind, &str)
     (TokenKind::LineComment { doc_style }, rest)
 }
 
-/// The style of the line comment with this body.
+/// Returns the doc style of the line comment with this body.
 #[inline(always)]
 fn line_doc_style(body: &str) -> Option<DocStyle>
     ensures { result ≡ spec.line_doc_style (chars body.now) }

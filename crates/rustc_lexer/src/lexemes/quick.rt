@@ -1,4 +1,4 @@
-//! The commonest tokens, told by their bytes: identifiers, white space, hashes and symbols.
+//! The most common tokens, found by their bytes alone: identifiers, white space, hashes and symbols.
 ghost use Rattle.std.specs.Prelude.{◌≡◌, MatchOption};
 ghost use Rattle.rustc_lexer.specs.Classes.{Fits};
 ghost use Rattle.rustc_lexer.specs.means.Hash.{is_guarded_mark};
@@ -10,8 +10,8 @@ use crate::lexemes::classified::symbol_kind;
 use crate::lexemes::family::{Family, family_of_byte};
 use crate::token::{Token, TokenKind};
 
-/// The token at the front of the text, where the bytes of one run and the byte after it tell what it is. A hash and
-/// the byte after it always do.
+/// Returns the first token of the text if the bytes of one run and the byte after it determine its kind. For a hash
+/// they always do.
 #[inline(always)]
 pub(crate) fn quick_token(text: &str) -> Option<Token>
     requires fits { Fits text.now }
@@ -63,7 +63,7 @@ pub(crate) fn quick_token(text: &str) -> Option<Token>
     }
 }
 
-/// Whether a quote or a hash stands in front.
+/// Returns whether a quote or a hash is at the front.
 #[inline(always)]
 fn begins_guarded(bytes: &[u8]) -> bool
     ensures { result ≡ Scan.next_is is_guarded_mark bytes.now }

@@ -3,14 +3,14 @@ ghost use Rattle.std.specs.Prelude.{◌≡◌, ℕ, suc, ◌+◌, ◌≤◌, ◌
 ghost use Rattle.std.specs.Str.{byte, chars};
 ghost use Rattle.rustc_lexer.specs.declared.lexemes.raw.RawPrefix.{RawPrefix};
 ghost use Rattle.rustc_lexer.specs.means.Raw as spec;
-ghost use Rattle.rustc_lexer.specs.means.Scan.{next_is, past, run_len, scanned};
+ghost use Rattle.rustc_lexer.specs.means.Scan.{past, run_len, scanned};
 
 use crate::kernels::find_close;
 use crate::lexemes::literal::eat_literal_suffix;
 use crate::scan::{eat_until, eat_while, split_first, strip};
 use crate::token::{LiteralKind, RawStrError, TokenKind};
 
-/// What a raw string begins with, as a token.
+/// The prefix of a raw string that is a token.
 #[derive(Clone, Copy)]
 pub(crate) enum RawPrefix {
     /// `r`
@@ -21,13 +21,19 @@ pub(crate) enum RawPrefix {
     Cr,
 }
 
-/// The token of a raw string. `rest` is what follows its prefix.
+/// Lexes a raw string. Returns its kind, and the text after it. `rest` is the text after its prefix, and `opening`
+/// is the [`short_opening`] of `rest`.
 #[inline(always)]
-pub(crate) fn raw_literal(prefix: RawPrefix, rest: &str) -> (TokenKind, &str)
+pub(crate) fn raw_literal<'a>(
+    prefix: RawPrefix,
+    rest: &'a str,
+    opening: Option<(u32, &'a str)>,
+) -> (TokenKind, &'a str)
     requires fits { spec.prefix_len prefix + length rest.now < 2 ^ 32 }
+    requires opens { IfSome opening (λ o. spec.OpensShort rest.now o.0 o.1.now) }
     ensures { (result.0, result.1.now) ≡ scanned (spec.raw_literal prefix) rest.now }
 {
-    let (read, left) = raw_double_quoted_string(rest, 0);
+    let (read, left) = raw_double_quoted_string(rest, opening, 0);
     let suffix_start = prefix_len(prefix) + (rest.len() - left.len()) as u32;
     match read {
         Ok(n_hashes) => {
@@ -44,7 +50,7 @@ pub(crate) fn raw_literal(prefix: RawPrefix, rest: &str) -> (TokenKind, &str)
     }
 }
 
-/// The length of the prefix in bytes.
+/// Returns the length of the prefix in bytes.
 #[inline(always)]
 fn prefix_len(prefix: RawPrefix) -> u32
     ensures { result ≡ spec.prefix_len prefix }
@@ -55,7 +61,7 @@ fn prefix_len(prefix: RawPrefix) -> u32
     }
 }
 
-/// The kind of the raw string with this prefix.
+/// Returns the kind of the raw string with this prefix.
 #[inline(always)]
 fn literal_kind(prefix: RawPrefix, n_hashes: Option<u8>) -> LiteralKind
     ensures { result ≡ spec.prefix_kind prefix n_hashes }
@@ -67,17 +73,21 @@ fn literal_kind(prefix: RawPrefix, n_hashes: Option<u8>) -> LiteralKind
     }
 }
 
-/// The number of hashes on each side of a raw string, or why it is refused; and what it leaves of `rest`,
-/// which follows its prefix. An offset is in bytes, and counts `prefix_len` for the prefix.
+/// Returns the number of hashes on each side of a raw string, or why it is refused; and the text after it. `rest`
+/// is the text after its prefix. An offset is in bytes, and counts `prefix_len` for the prefix.
+///
+/// `opening` is the [`short_opening`] of `rest`, which the caller may have read already.
 #[inline(always)]
-pub(crate) fn raw_double_quoted_string(
-    rest: &str,
+pub(crate) fn raw_double_quoted_string<'a>(
+    rest: &'a str,
+    opening: Option<(u32, &'a str)>,
     prefix_len: u32,
-) -> (Result<u8, RawStrError>, &str)
+) -> (Result<u8, RawStrError>, &'a str)
     requires fits { prefix_len + length rest.now < 2 ^ 32 }
+    requires opens { IfSome opening (λ o. spec.OpensShort rest.now o.0 o.1.now) }
     ensures { (result.0, result.1.now) ≡ scanned (spec.raw_read prefix_len) rest.now }
 {
-    if let Some((n_hashes, text)) = short_opening(rest) {
+    if let Some((n_hashes, text)) = opening {
         if let Some(left) = past_close(text, n_hashes) {
             return (Ok(n_hashes as u8), left);
         }
@@ -86,7 +96,7 @@ pub(crate) fn raw_double_quoted_string(
     any_raw_string(rest, prefix_len)
 }
 
-/// What [`raw_double_quoted_string`] answers, whatever the opening is.
+/// Returns what [`raw_double_quoted_string`] returns, for any opening.
 #[inline(never)]
 fn any_raw_string(rest: &str, prefix_len: u32) -> (Result<u8, RawStrError>, &str)
     requires fits { prefix_len + length rest.now < 2 ^ 32 }
@@ -106,16 +116,13 @@ fn any_raw_string(rest: &str, prefix_len: u32) -> (Result<u8, RawStrError>, &str
     raw_text(text, n_hashes, prefix_len + n_hashes + 1)
 }
 
-/// How many hashes stand before the opening quote, where that is none or one, and what follows the quote.
+/// Returns how many hashes come before the opening quote, and the text after the quote. Returns `None` unless it is
+/// no hash or one.
 ///
-/// Which of the two it is costs no branch: it is hard to foresee.
+/// There is no branch on which of the two it is, which is hard to predict.
 #[inline(always)]
 pub(crate) fn short_opening(rest: &str) -> Option<(u32, &str)>
-    ensures { IfSome result (λ opening. (opening.0 ≤ 1)
-        × (opening.0 ≡ spec.hash_run (chars rest.now))
-        × (next_is spec.is_quote (drop opening.0 (chars rest.now)) ≡ true)
-        × (opening.1.now ≡ past (suc opening.0) rest.now)
-        × (suc opening.0 + length opening.1.now ≡ length rest.now)) }
+    ensures { IfSome result (λ opening. spec.OpensShort rest.now opening.0 opening.1.now) }
 {
     let bytes = rest.as_bytes();
     if bytes.len() < 2 {
@@ -130,24 +137,21 @@ pub(crate) fn short_opening(rest: &str) -> Option<(u32, &str)>
     }
 }
 
-/// What the raw string leaves of `text`, where it closes within 64 bytes. Before its opening quote stand `n_hashes`
-/// hashes, none or one.
+/// Returns the text after the raw string if it closes within 64 bytes. Before its opening quote come `n_hashes`
+/// hashes, none or one, and `text` is the text after that quote.
 #[inline(always)]
 fn past_close(text: &str, n_hashes: u32) -> Option<&str>
     requires few { n_hashes ≤ 1 }
     ensures { IfSome result (λ left. (before : ℕ)
         → (Ok n_hashes, left.now) ≡ scanned (spec.raw_text n_hashes before) text.now) }
 {
-    let place = find_close(n_hashes, text.as_bytes());
-    if place < 64 {
-        Some(&text[place + 1 + n_hashes as usize..])
-    } else {
-        None
-    }
+    let place = find_close(n_hashes, text.as_bytes())?;
+    Some(&text[place + 1 + n_hashes as usize..])
 }
 
-/// How the raw string goes on past its opening quote, before which `n_hashes` hashes stand; and what it leaves of
-/// `text`. An offset counts `before` bytes for what stands before `text`.
+/// Reads a raw string from its opening quote on, before which there are `n_hashes` hashes. Returns the number of
+/// hashes, or why the string is refused; and the text after it. An offset counts `before` bytes for all that comes
+/// before `text`.
 #[inline(never)]
 fn raw_text(text: &str, n_hashes: u32, before: u32) -> (Result<u8, RawStrError>, &str)
     requires fits { before + length text.now < 2 ^ 32 }
@@ -176,7 +180,7 @@ fn raw_text(text: &str, n_hashes: u32, before: u32) -> (Result<u8, RawStrError>,
     (Err(error), "")
 }
 
-/// What follows the first quote of the text. A quote that stands right here needs no search.
+/// Returns the text after its first quote. A quote at the very front needs no search.
 #[inline(always)]
 fn past_quote(rest: &str) -> Option<&str>
     ensures { let place = run_len spec.is_no_quote (chars rest.now) in
@@ -191,7 +195,7 @@ fn past_quote(rest: &str) -> Option<&str>
     strip(eat_until(rest, b'"'), '"')
 }
 
-/// The number of hashes, or that there are too many.
+/// Returns the number of hashes, or the error that there are too many.
 fn hash_count(n_hashes: u32) -> Result<u8, RawStrError>
     ensures { result ≡ spec.hash_count n_hashes }
 {

@@ -1,4 +1,4 @@
-//! What begins with a letter: identifiers, and the literals that a letter marks.
+//! Tokens that begin with a letter: identifiers, and literals with a letter in front.
 ghost use Rattle.std.specs.Prelude.{◌≡◌, ◌+◌, ◌<◌, ◌^◌, length};
 ghost use Rattle.rustc_lexer.specs.means.Lexeme as spec;
 ghost use Rattle.rustc_lexer.specs.means.Raw.{prefix_len};
@@ -10,7 +10,8 @@ use crate::lexemes::raw::{RawPrefix, raw_literal, short_opening};
 use crate::scan::{next_is, strip};
 use crate::token::TokenKind;
 
-/// What begins with `first`. `tail` is what follows that.
+/// Lexes a token that begins with `first`. Returns its kind, and the text after it. `tail` is the text after
+/// `first`.
 #[inline(always)]
 pub(crate) fn word(first: char, tail: &str) -> (TokenKind, &str)
     requires fits { length tail.now + 1 < 2 ^ 32 }
@@ -25,33 +26,33 @@ pub(crate) fn word(first: char, tail: &str) -> (TokenKind, &str)
     }
 }
 
-/// What begins with an `r`: a raw identifier, a raw string, or an identifier.
+/// Lexes a token that begins with `r`: a raw identifier, a raw string, or an identifier.
 #[inline(always)]
 fn letter_r(tail: &str) -> (TokenKind, &str)
     requires fits { length tail.now + 1 < 2 ^ 32 }
     ensures { (result.0, result.1.now) ≡ scanned spec.letter_r tail.now }
 {
-    if let Some(_) = short_opening(tail) {
-        return raw_literal(RawPrefix::R, tail);
+    if let Some(opening) = short_opening(tail) {
+        return raw_literal(RawPrefix::R, tail, Some(opening));
     }
     if let Some(rest) = eat_marked(tail) {
         return (TokenKind::RawIdent, rest);
     }
     if next_is(tail, is_raw_mark) {
-        raw_literal(RawPrefix::R, tail)
+        raw_literal(RawPrefix::R, tail, None)
     } else {
         ident_or_unknown_prefix(tail)
     }
 }
 
-/// Whether a raw string goes on with the character after its prefix.
+/// Returns whether a raw string continues with the character after its prefix.
 fn is_raw_mark(c: char) -> bool
     ensures { result ≡ spec.is_raw_mark c }
 {
     matches!(c, '#' | '"')
 }
 
-/// What begins with a `k`: a forced keyword, or an identifier.
+/// Lexes a token that begins with `k`: a forced keyword, or an identifier.
 #[inline(always)]
 fn letter_k(tail: &str) -> (TokenKind, &str)
     ensures { (result.0, result.1.now) ≡ scanned spec.letter_k tail.now }
@@ -62,7 +63,7 @@ fn letter_k(tail: &str) -> (TokenKind, &str)
     }
 }
 
-/// What begins with a `b`: a byte, a byte string, or an identifier.
+/// Lexes a token that begins with `b`: a byte, a byte string, or an identifier.
 #[inline(always)]
 fn letter_b(tail: &str) -> (TokenKind, &str)
     requires fits { length tail.now + 1 < 2 ^ 32 }
@@ -77,7 +78,7 @@ fn letter_b(tail: &str) -> (TokenKind, &str)
     }
 }
 
-/// What begins with a `c`: a C string, or an identifier.
+/// Lexes a token that begins with `c`: a C string, or an identifier.
 #[inline(always)]
 fn letter_c(tail: &str) -> (TokenKind, &str)
     requires fits { length tail.now + 1 < 2 ^ 32 }
@@ -90,7 +91,7 @@ fn letter_c(tail: &str) -> (TokenKind, &str)
     }
 }
 
-/// A raw string whose prefix of two letters ends with the `r` that `tail` begins with, or an identifier.
+/// Lexes a raw string whose prefix of two letters ends with the `r` at the front of `tail`, or an identifier.
 #[inline(always)]
 fn raw_or_ident(prefix: RawPrefix, tail: &str) -> (TokenKind, &str)
     requires long { prefix_len prefix ≡ 2 }
@@ -101,7 +102,7 @@ fn raw_or_ident(prefix: RawPrefix, tail: &str) -> (TokenKind, &str)
         return ident_or_unknown_prefix(tail);
     };
     if next_is(rest, is_raw_mark) {
-        raw_literal(prefix, rest)
+        raw_literal(prefix, rest, short_opening(rest))
     } else {
         ident_or_unknown_prefix(tail)
     }

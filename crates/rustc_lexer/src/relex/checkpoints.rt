@@ -1,4 +1,4 @@
-//! Bounds that are remembered, so that a search begins near where it ends.
+//! Bounds that are remembered, so that a search begins near its target.
 ghost use Rattle.std.specs.Prelude.{◌≤◌, List};
 ghost use Rattle.std.specs.List.{All, Contains};
 ghost use Rattle.rustc_lexer.specs.{Token};
@@ -10,14 +10,14 @@ use crate::relex::front::{Bound, FIRST};
 /// How many bounds are remembered.
 const COUNT: usize = 64;
 
-/// Some bounds of a list of tokens, one for each of `COUNT` equal shares of its text.
+/// Some bounds of a list of tokens: one for each of `COUNT` equal shares of its text.
 #[derive(Clone, Copy)]
 pub(crate) struct Checkpoints {
     bounds: [Bound; COUNT],
 }
 
 impl Checkpoints {
-    /// The first bound alone, which each list has.
+    /// Creates checkpoints at the first bound alone, which each list has.
     pub(crate) fn new() -> Checkpoints
         ensures { (tokens : List Token) → AreBounds tokens result }
     {
@@ -26,7 +26,7 @@ impl Checkpoints {
         }
     }
 
-    /// Remembers the bound, in place of the one in the same share of a text of `len` bytes.
+    /// Remembers the bound, in place of the one for the same share of a text of `len` bytes.
     pub(crate) fn remember(&mut self, bound: Bound, len: usize)
         ensures { (tokens : List Token) → AreBounds tokens self.old → IsBound tokens bound
             → AreBounds tokens self.new }
@@ -36,7 +36,7 @@ impl Checkpoints {
         self.bounds[index] = bound;
     }
 
-    /// The one that is nearest to `place`.
+    /// Returns the checkpoint that is nearest to `place`.
     pub(crate) fn nearest(&self, place: usize) -> Bound
         ensures { Contains self.now.bounds result }
     {
@@ -49,7 +49,7 @@ impl Checkpoints {
         nearest
     }
 
-    /// The last one that at most `number` tokens stand before, or the first bound of the list.
+    /// Returns the last checkpoint that has at most `number` tokens before it, or the first bound of the list.
     pub(crate) fn before_number(&self, number: usize) -> Bound
         ensures number { result.number ≤ number }
         ensures bound { (tokens : List Token) → AreBounds tokens self.now → IsBound tokens result }
@@ -65,8 +65,8 @@ impl Checkpoints {
         last
     }
 
-    /// Where they are after an edit that keeps the tokens up to `kept`, and those from `met` on, which is then
-    /// `now`. One that stood between is `kept`.
+    /// Returns the checkpoints after an edit. The edit keeps the tokens up to `kept`, and those from `met` on,
+    /// which is then `now`. A checkpoint in between becomes `kept`.
     pub(crate) fn after(&self, kept: Bound, met: Bound, now: Bound) -> Checkpoints
         requires { All (IsMovable met now) self.now.bounds }
         ensures { (old new : List Token) → IsReplaced old new kept met now → AreBounds old self.now
@@ -80,7 +80,8 @@ impl Checkpoints {
     }
 }
 
-/// Where the bound is after an edit that keeps the tokens up to `kept`, and those from `met` on, which is then `now`.
+/// Returns the bound after an edit. The edit keeps the tokens up to `kept`, and those from `met` on, which is then
+/// `now`.
 fn move_bound(bound: Bound, kept: Bound, met: Bound, now: Bound) -> Bound
     requires { IsMovable met now bound }
     ensures { (old new : List Token) → IsReplaced old new kept met now → IsBound old bound

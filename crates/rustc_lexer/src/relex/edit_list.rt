@@ -1,7 +1,7 @@
-//! Edits in a row.
+//! Several edits, one after another.
 ghost use Rattle.std.specs.Prelude.{◌≡◌, ◌+◌, IfErr, OnOk, Some, take};
 ghost use Rattle.rustc_lexer.specs.Tokens.{tokens_by};
-ghost use Rattle.rustc_lexer.specs.Edits.{apply_list, AreEdits, lexed_list, stop_at, stop_text, IsStop, IsCounted};
+ghost use Rattle.rustc_lexer.specs.Edits.{apply_list, AreCounted, AreEdits, stop_at, stop_text, IsStop, IsCounted};
 
 use crate::entry::stepper::Stepper;
 use crate::relex::edit::Edit;
@@ -9,10 +9,10 @@ use crate::relex::lexed_text::LexedText;
 use std::error::Error;
 use std::fmt;
 
-/// Why a list of edits stopped, and at which of them, counted from 0. The edits before it stand.
+/// The reason why a list of edits stopped, and at which edit, counted from 0. The edits before it stay made.
 #[derive(Clone, Copy, Debug, PartialEq, Eq)]
 pub enum EditStop {
-    /// The range is not inside the text as it then was, or cuts a character.
+    /// The range is not inside the text as it was then, or cuts a character.
     Range { at: usize },
 
     /// The text would have had more than `u32::MAX` bytes.
@@ -37,7 +37,7 @@ impl fmt::Display for EditStop {
 impl Error for EditStop {}
 
 impl<S: Stepper> LexedText<S> {
-    /// Makes the edits in order, as far as the first that is refused.
+    /// Makes the edits in order, up to the first one that is refused.
     pub fn edit_all(&mut self, edits: &[Edit<'_>]) -> Result<(), EditStop>
         ensures accepted { OnOk result (AreEdits self.old.text edits.now) }
         ensures text { OnOk result (self.new.text ≡ apply_list self.old.text edits.now) }
@@ -46,9 +46,8 @@ impl<S: Stepper> LexedText<S> {
         ensures grammar { S.grammar self.new.stepper ≡ S.grammar self.old.stepper }
         ensures number { S.number self.new.stepper ≡ S.number self.old.stepper }
         ensures count { OnOk result
-            (S.count self.new.stepper
-            ≡ S.count self.old.stepper
-            + lexed_list (S.grammar self.old.stepper) self.old.text edits.now) }
+            (AreCounted (S.grammar self.old.stepper) self.old.text edits.now
+            (S.count self.old.stepper) (S.count self.new.stepper)) }
         ensures stop { IfErr result (λ e. IsStop e self.new.text edits.now) }
         ensures stop_accepted { IfErr result
             (λ e. AreEdits self.old.text (take (stop_at e) edits.now)) }
@@ -58,7 +57,7 @@ impl<S: Stepper> LexedText<S> {
             (λ e. IsCounted e (S.grammar self.old.stepper) self.old.text edits.now
             (S.count self.old.stepper) (S.count self.new.stepper)) }
     {
-        // So the tokens are those of the text, also where there is no edit.
+        // So the tokens are those of the text, even if there is no edit.
         prove!(self.is_consistent());
         for (at, edit) in edits.iter().enumerate() {
             if !self.accepts(edit.start, edit.stop, edit.insert) {

@@ -1,4 +1,4 @@
-//! What stands in front of the body of a document.
+//! The head of a document: the part before its body.
 ghost use Rattle.std.specs.Prelude.{◌≡◌, ◌≤◌, ◌↔◌, ◌++◌, OnOk, IsTrue, length};
 ghost use Rattle.std.specs.Str.{IsCharBoundary};
 ghost use Rattle.rustc_lexer.specs.Classes.{Fits};
@@ -11,12 +11,12 @@ use crate::shebang::shebang_len;
 use crate::token::{Token, TokenKind};
 use std::alloc::AllocError;
 
-/// What stands in front of the body of a document: a shebang line, and a frontmatter.
+/// The head of a document, which is the part before its body: a shebang line and a frontmatter.
 #[derive(Clone, Copy)]
 pub(crate) struct Head {
-    /// The length of the shebang line, or 0.
+    /// The length of the shebang line in bytes, or 0.
     pub shebang: usize,
-    /// The length of the white space before the frontmatter, where that is a token of its own, or 0.
+    /// The length in bytes of the white space before the frontmatter if that is a token of its own, or 0.
     pub space: u32,
     /// The frontmatter.
     pub front: Option<Token>,
@@ -25,7 +25,7 @@ pub(crate) struct Head {
 }
 
 impl Head {
-    /// The head of a document.
+    /// Finds the head of a document.
     pub(crate) fn of(text: &str) -> Head
         requires fits { Fits text.now }
         ensures head { result ≡ means.head_of text.now }
@@ -61,7 +61,7 @@ impl Head {
         }
     }
 
-    /// How many tokens it has.
+    /// Returns how many tokens the head has.
     pub(crate) fn count(self) -> usize
         ensures { result ≡ length (means.tokens_of_head self) }
     {
@@ -71,7 +71,7 @@ impl Head {
         }
     }
 
-    /// Appends its tokens.
+    /// Appends the tokens of the head.
     pub(crate) fn push_to(self, list: &mut Vec<Token>) -> Result<(), AllocError>
         ensures { OnOk result (list.new.items ≡ list.old.items ++ means.tokens_of_head self) }
     {
@@ -87,7 +87,7 @@ impl Head {
         Ok(())
     }
 
-    /// Whether it is the same as the other.
+    /// Returns whether the head is the same as the other.
     pub(crate) fn is_same(self, other: Head) -> bool
         ensures { IsTrue result ↔ (self ≡ other) }
     {
@@ -98,7 +98,7 @@ impl Head {
     }
 }
 
-/// Whether both are the same frontmatter, or none.
+/// Returns whether both are the same frontmatter, or both are none.
 fn same_front(front: Option<Token>, other: Option<Token>) -> bool
     ensures { IsTrue result ↔ (front ≡ other) }
 {

@@ -1,4 +1,4 @@
-//! All tokens of a text, by a stepper.
+//! Lexes all tokens of a text, with a stepper.
 ghost use Rattle.std.specs.Prelude.{◌≡◌, ◌+◌, IfOk, length};
 ghost use Rattle.rustc_lexer.specs.Classes.{Fits};
 ghost use Rattle.rustc_lexer.specs.Tokens.{tokens_by};
@@ -10,10 +10,10 @@ use crate::relex::front::Bound;
 use crate::token::{Token, TokenKind};
 use std::alloc::{AllocError, Global};
 
-/// How many tokens are lexed at once, and stand between two checkpoints.
+/// How many tokens are lexed at once, and how many there are between two checkpoints.
 const BLOCK: usize = 128;
 
-/// A buffer in which no token was written yet.
+/// Creates a buffer without a written token.
 pub(crate) fn new_buffer() -> [Token; BLOCK]
     ensures { length result ≡ 128 }
 {
@@ -23,7 +23,7 @@ pub(crate) fn new_buffer() -> [Token; BLOCK]
     }; BLOCK]
 }
 
-/// All tokens of a text, and checkpoints among them.
+/// Lexes all tokens of a text. Returns them, and checkpoints among them.
 pub(crate) fn lex_all<S: Stepper>(
     alloc: Global,
     stepper: &mut S,

@@ -3,7 +3,8 @@ ghost use Rattle.std.specs.Prelude.{◌≡◌, ◌+◌, ◌-◌, ◌^◌, ◌<�
 ghost use Rattle.rustc_lexer.specs.{E2024};
 ghost use Rattle.rustc_lexer.specs.Classes.{Fits};
 ghost use Rattle.rustc_lexer.specs.Tokens.{bound, tokens_by, tokens_of};
-ghost use Rattle.rustc_lexer.specs.Edits.{IsEdit, IsInside, apply, relexed_of};
+ghost use Rattle.rustc_lexer.specs.declared.relex.relexing.Relexed.{Relexed};
+ghost use Rattle.rustc_lexer.specs.Edits.{IsEdit, IsInside, IsRelexed, apply};
 ghost use Rattle.rustc_lexer.specs.LanguageText.{part};
 ghost use Rattle.rustc_lexer.specs.Answers.{first_in};
 
@@ -19,7 +20,7 @@ use std::marker::Model;
 
 mod in_edition;
 
-/// A text, its tokens, and the stepper that they came from.
+/// A text that is kept with its tokens, and with the stepper that lexed them.
 #[derive(Drop)]
 pub struct LexedText<S: Stepper> {
     alloc: Global,
@@ -52,7 +53,8 @@ impl<S: Stepper> Model for LexedText<S> {
 }
 
 impl<S: Stepper> LexedText<S> {
-    /// A copy of the text, which has at most `u32::MAX` bytes, its tokens by the stepper, and the stepper.
+    /// Copies the text and lexes it with the stepper. The text may have at most `u32::MAX` bytes. Keeps the
+    /// stepper. `Err` means that memory was refused.
     pub fn with(alloc: Global, text: &str, stepper: S) -> Result<LexedText<S>, AllocError>
         requires fits { Fits text.now }
         ensures text { IfOk result (λ l. l.text ≡ text.now) }
@@ -74,7 +76,7 @@ impl<S: Stepper> LexedText<S> {
         })
     }
 
-    /// The text.
+    /// Returns the text.
     pub fn text(&self) -> &str
         ensures text { result.now ≡ self.now.text }
         ensures fits { Fits result.now }
@@ -82,7 +84,7 @@ impl<S: Stepper> LexedText<S> {
         self.text.as_str()
     }
 
-    /// Its tokens.
+    /// Returns the tokens of the text, in order.
     pub fn tokens(&self) -> &[Token]
         ensures tokens { result.now ≡ self.now.tokens }
         ensures from_scratch { result.now ≡ tokens_by (S.grammar self.now.stepper) self.now.text }
@@ -90,15 +92,15 @@ impl<S: Stepper> LexedText<S> {
         self.tokens.as_slice()
     }
 
-    /// The stepper that they came from.
+    /// Returns the stepper that lexed the tokens.
     pub fn stepper(&self) -> &S
         ensures { result.now ≡ self.now.stepper }
     {
         &self.stepper
     }
 
-    /// Where the bound with the number is, in bytes from the start of the text. The search begins at the last bound up
-    /// to it that is remembered.
+    /// Returns where the bound with this number is, in bytes from the start of the text. The search begins at the
+    /// last remembered bound up to it.
     pub(crate) fn place_of(&self, number: usize) -> u32
         requires inside { number ≤ length self.now.tokens }
         ensures { result ≡ bound self.now.tokens number }
@@ -108,7 +110,8 @@ impl<S: Stepper> LexedText<S> {
         end_from(start, &self.tokens.as_slice()[near.number..number])
     }
 
-    /// Whether there are no more tokens than bytes. It is so, since the tokens are those of the text and none is empty.
+    /// Returns whether there are no more tokens than bytes. This is always true, since the tokens are those of the
+    /// text and none is empty.
     pub(crate) fn is_consistent(&self) -> bool
         ensures always { IsTrue result }
         ensures from_scratch { self.now.tokens
@@ -117,7 +120,7 @@ impl<S: Stepper> LexedText<S> {
         self.tokens.len() <= self.text.len()
     }
 
-    /// Whether the range is inside the text, between characters.
+    /// Returns whether the range is inside the text, between characters.
     pub(crate) fn contains_range(&self, start: usize, stop: usize) -> bool
         ensures { IsTrue result ↔ IsInside self.now.text start stop }
     {
@@ -127,7 +130,8 @@ impl<S: Stepper> LexedText<S> {
             && self.text.is_char_boundary(stop)
     }
 
-    /// Whether the edit is inside the text, between characters, and makes a text of at most `u32::MAX` bytes.
+    /// Returns whether an edit can be made: whether its range is inside the text, between characters, and the new
+    /// text has at most `u32::MAX` bytes.
     pub fn accepts(&self, start: usize, stop: usize, insert: &str) -> bool
         ensures { IsTrue result ↔ IsEdit self.now.text start stop insert.now }
     {
@@ -135,14 +139,18 @@ impl<S: Stepper> LexedText<S> {
             && self.text.len() - (stop - start) + insert.len() <= u32::MAX as usize
     }
 
-    /// Puts `insert` in place of the bytes from `start` up to `stop`. It has to be accepted.
+    /// Replaces the bytes from `start` up to `stop` with `insert`. The edit has to be
+    /// [accepted](LexedText::accepts).
+    ///
+    /// Returns how many tokens it kept at the front, how many it lexed, and how many it kept at the back. `Err`
+    /// means that memory was refused, and then text and tokens are as before.
     pub fn edit(&mut self, start: usize, stop: usize, insert: &str) -> Result<Relexed, AllocError>
         requires accepted { IsEdit self.old.text start stop insert.now }
         ensures text { OnOk result (self.new.text ≡ apply self.old.text start stop insert.now) }
         ensures from_scratch { self.new.tokens
             ≡ tokens_by (S.grammar self.old.stepper) self.new.text }
         ensures relexed { IfOk result
-            (λ r. r ≡ relexed_of (S.grammar self.old.stepper) self.old.text start stop insert.now) }
+            (IsRelexed (S.grammar self.old.stepper) self.old.text start stop insert.now) }
         ensures all { IfOk result
             (λ r. r.kept_front + r.lexed + r.kept_back ≡ length self.new.tokens) }
         ensures front { IfOk result
@@ -158,9 +166,8 @@ impl<S: Stepper> LexedText<S> {
         ensures same_text { OnErr result (self.new.text ≡ self.old.text) }
         ensures same_tokens { OnErr result (self.new.tokens ≡ self.old.tokens) }
         ensures few { OnErr result
-            (S.count self.new.stepper
-            ≤ S.count self.old.stepper
-            + (relexed_of (S.grammar self.old.stepper) self.old.text start stop insert.now).lexed) }
+            ((r : Relexed) × IsRelexed (S.grammar self.old.stepper) self.old.text start stop insert.now r
+            × (S.count self.new.stepper ≤ S.count self.old.stepper + r.lexed)) }
     {
         lex_edit(
             self.alloc,
@@ -177,7 +184,7 @@ impl<S: Stepper> LexedText<S> {
     }
 }
 
-/// Where the last of the tokens ends, the first of which begins at `start`.
+/// Returns where the last of the tokens ends. The first one begins at `start`.
 pub(crate) fn end_from(start: u32, tokens: &[Token]) -> u32
     requires { start + bound tokens.now (length tokens.now) < 2 ^ 32 }
     ensures { result ≡ start + bound tokens.now (length tokens.now) }
@@ -190,7 +197,8 @@ pub(crate) fn end_from(start: u32, tokens: &[Token]) -> u32
 }
 
 impl LexedText<Steps> {
-    /// A copy of the text, which has at most `u32::MAX` bytes, and its tokens.
+    /// Copies the text and lexes it. The text may have at most `u32::MAX` bytes. `Err` means that memory was
+    /// refused.
     pub fn new(alloc: Global, text: &str) -> Result<LexedText<Steps>, AllocError>
         requires fits { Fits text.now }
         ensures text { IfOk result (λ l. l.text ≡ text.now) }

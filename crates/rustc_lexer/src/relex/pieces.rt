@@ -12,7 +12,7 @@ use crate::token::Token;
 use std::iter::{ExactSizeIterator, Iterator};
 use std::marker::Model;
 
-/// A token, where it stands in its text, and its part of the text.
+/// A token, the place where it begins, and its text.
 #[derive(Clone, Copy, Debug, PartialEq, Eq)]
 pub struct Piece<'a> {
     /// Where the token begins, in bytes from the start of the text.
@@ -23,10 +23,10 @@ pub struct Piece<'a> {
     pub text: &'a str,
 }
 
-/// An iterator over the pieces of a text, made by [`LexedText::pieces`](crate::LexedText::pieces) or
-/// [`LexedText::pieces_of`](crate::LexedText::pieces_of).
+/// An iterator over the pieces of a text.
 ///
-/// A piece begins where the one before it ended, and its text is the slice of the text there.
+/// [`LexedText::pieces`](crate::LexedText::pieces) and [`LexedText::pieces_of`](crate::LexedText::pieces_of) return
+/// it. Each piece begins where the one before it ends, and has the slice of the text from there on as its text.
 #[derive(Drop)]
 pub struct Pieces<'a> {
     text: &'a str,
@@ -54,7 +54,7 @@ impl<'a> Iterator for Pieces<'a> {
 
     ghost remaining = { λ s. at_most (length s) };
 
-    /// The next piece, or `None` past the last one, from then on.
+    /// Returns the next piece. Past the last one it returns `None`, and does so from then on.
     fn next(&mut self) -> Option<Piece<'a>> {
         let (token, tokens) = self.tokens.split_first()?;
         let end = self.start + token.len;
@@ -68,7 +68,7 @@ impl<'a> Iterator for Pieces<'a> {
         Some(piece)
     }
 
-    /// How many pieces are left, twice.
+    /// Returns how many pieces are left, as the lower and as the upper bound.
     fn size_hint(&self) -> (usize, Option<usize>)
         ensures lower { IsWithinCount result.0 (at_most (length self.now)) }
         ensures upper { IfSome result.1 (UpTo (at_most (length self.now))) }
@@ -80,14 +80,14 @@ impl<'a> Iterator for Pieces<'a> {
 }
 
 impl<'a> ExactSizeIterator for Pieces<'a> {
-    /// How many pieces are left.
+    /// Returns how many pieces are left.
     fn len(&self) -> usize {
         self.tokens.len()
     }
 }
 
 impl<S: Stepper> LexedText<S> {
-    /// The pieces of the text, one for each token, in order.
+    /// Returns an iterator over the pieces of the text, one for each token, in order.
     pub fn pieces(&self) -> Pieces<'_>
         ensures pieces { result ≡ pieces_of self.now.text self.now.tokens }
         ensures number { length result ≡ length self.now.tokens }
@@ -99,8 +99,8 @@ impl<S: Stepper> LexedText<S> {
         }
     }
 
-    /// The pieces of the tokens from number `from` up to number `to`, such as those that an edit lexed. Few of the tokens
-    /// before them are read.
+    /// Returns an iterator over the pieces of the tokens from number `from` up to number `to`, like those that an
+    /// edit lexed. It reads few of the tokens before them.
     pub fn pieces_of(&self, from: usize, to: usize) -> Pieces<'_>
         requires from_le_to { from ≤ to }
         requires to_inside { to ≤ length self.now.tokens }
@@ -117,8 +117,8 @@ impl<S: Stepper> LexedText<S> {
 }
 
 impl<S: Stepper> LexedDocument<S> {
-    /// Returns the pieces of the text, one for each token, in order. The shebang line is none: the first piece begins
-    /// where it ends.
+    /// Returns an iterator over the pieces of the text, one for each token, in order. The shebang line is not a
+    /// piece: the first piece begins where it ends.
     pub fn pieces(&self) -> Pieces<'_>
         ensures pieces { result
             ≡ pieces_from self.now.text (shebang_len self.now.text) self.now.tokens }
@@ -131,10 +131,10 @@ impl<S: Stepper> LexedDocument<S> {
         }
     }
 
-    /// Returns the pieces of the tokens from number `from` up to number `to`, such as those that an edit lexed. Few of
-    /// the tokens before them are read.
+    /// Returns an iterator over the pieces of the tokens from number `from` up to number `to`, like those that an
+    /// edit lexed. It reads few of the tokens before them.
     ///
-    /// So an editor paints anew what an edit changed:
+    /// An editor can paint what an edit changed like this:
     ///
     /// ```ignore
     /// let counts = held.edit(start, stop, insert)?;

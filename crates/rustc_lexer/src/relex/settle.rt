@@ -1,4 +1,4 @@
-//! How far the tokens of a text are sure, however the text goes on.
+//! Which tokens of a text are certain, however the text continues.
 ghost use Rattle.rustc_lexer.specs.{E2024};
 ghost use Rattle.rustc_lexer.specs.Classes.{Fits};
 ghost use Rattle.rustc_lexer.specs.Tokens.{tokens_by, tokens_of};
@@ -8,9 +8,10 @@ ghost use Rattle.rustc_lexer.specs.Locality.{AreLocal, IsSettled, StaysUpTo};
 use crate::entry::stepper::{Stepper, Steps};
 use crate::relex::front::two_stand;
 
-/// The end of the last token, read with `FrontmatterAllowed::No`, that at least two characters follow, or 0.
+/// Returns where the last token that at least two characters follow ends, in bytes, or 0 if there is no such token.
+/// The tokens are read with `FrontmatterAllowed::No`.
 ///
-/// Whatever is written behind the text, its tokens up to there stay as they are.
+/// Whatever is appended to the text, its tokens up to this place stay as they are.
 pub fn settled(text: &str) -> usize
     requires fits { Fits text.now }
     ensures settled { IsSettled text.now (tokens_of (part E2024) text.now) result }
@@ -20,7 +21,7 @@ pub fn settled(text: &str) -> usize
     settled_by(&mut Steps::new(), text)
 }
 
-/// The end of the last token that at least two characters follow, or 0.
+/// Returns where the last token that at least two characters follow ends, in bytes, or 0 if there is none.
 fn settled_by<S: Stepper>(stepper: &mut S, text: &str) -> usize
     requires fits { Fits text.now }
     ensures { IsSettled text.now (tokens_by (S.grammar stepper.old) text.now) result }

@@ -1,6 +1,6 @@
 //! 16 bytes at once, by NEON of aarch64.
 
-use core::arch::aarch64::*;
+use super::arch::*;
 
 pub type Lanes = uint8x16_t;
 pub const COUNT: usize = 16;

@@ -1,6 +1,6 @@
 //! 16 bytes at once, by the vectors of WebAssembly.
 
-use core::arch::wasm32::*;
+use super::arch::*;
 
 pub type Lanes = v128;
 pub const COUNT: usize = 16;

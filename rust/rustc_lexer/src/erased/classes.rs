@@ -2,7 +2,7 @@
 
 pub(crate) mod emoji;
 
-/// The version of Unicode of the tables that tell which characters begin or continue an identifier. The table of
+/// The version of Unicode of the proved tables of which characters begin or continue an identifier. The table of
 /// emoji is that of Unicode 15. No answer rests on this constant.
 pub const UNICODE_VERSION: (u8, u8, u8) = (18, 0, 0);
 
@@ -35,7 +35,7 @@ pub fn is_horizontal_whitespace(c: char) -> bool {
 
 /// Whether an identifier may begin with the character: `_`, or `XID_Start` as `unicode_ident` has it.
 ///
-/// Its table is that of `DerivedCoreProperties.txt` of Unicode 18.0.
+/// The proved table is that of `DerivedCoreProperties.txt` of Unicode 18.0.
 ///
 /// Rust Reference, [Identifiers](https://doc.rust-lang.org/reference/identifiers.html).
 pub fn is_id_start(c: char) -> bool {
@@ -53,7 +53,7 @@ fn is_xid_start(c: char) -> bool {
 
 /// Whether an identifier may go on with the character: `XID_Continue` as `unicode_ident` has it.
 ///
-/// Its table is that of `DerivedCoreProperties.txt` of Unicode 18.0.
+/// The proved table is that of `DerivedCoreProperties.txt` of Unicode 18.0.
 ///
 /// Rust Reference, [Identifiers](https://doc.rust-lang.org/reference/identifiers.html).
 pub fn is_id_continue(c: char) -> bool {

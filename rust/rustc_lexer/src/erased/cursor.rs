@@ -1,6 +1,8 @@
 //! A cursor over a text, which takes it token by token.
 
 use crate::erased::frontmatter::token_at;
+use crate::erased::lexemes::choose_token;
+use crate::erased::lexemes::quick::quick_token;
 use crate::erased::scan;
 use crate::erased::token::{FrontmatterAllowed, Token, TokenKind};
 
@@ -23,6 +25,7 @@ mod guarded;
 ///     }
 /// }
 /// ```
+#[derive(Clone)]
 pub struct Cursor<'a> {
     text: &'a str,
     /// Where the text that is left begins.
@@ -67,6 +70,8 @@ impl<'a> Cursor<'a> {
     ///
     /// The length of the token, and where its suffix begins, count the bytes that were pending; then none are.
     /// Past a token that is no white space, no frontmatter is allowed.
+    ///
+    /// Where no bytes are pending, each way gives its token out by itself, as `next` of the iterator does.
     #[inline(always)]
     pub fn advance_token(&mut self) -> Token {
         let rest = self.as_str();
@@ -76,6 +81,15 @@ impl<'a> Cursor<'a> {
                 len: 0,
             };
         }
+        if self.is_plain() {
+            if let Some(quick) = quick_token(rest) {
+                self.pass(quick.len);
+                return quick;
+            }
+            let chosen = choose_token(rest);
+            self.pass(chosen.len);
+            return chosen;
+        }
         let token = token_at(rest, self.frontmatter_allowed);
         let pending = (self.index - self.start) as u32;
         let end = self.index + token.len as usize;
@@ -83,6 +97,19 @@ impl<'a> Cursor<'a> {
         self.start = end;
         self.frontmatter_allowed = next_allowed(self.frontmatter_allowed, token.kind);
         with_pending(token, pending)
+    }
+
+    /// Whether no bytes are pending and no frontmatter may stand in front: mostly so past the first token.
+    #[inline(always)]
+    fn is_plain(&self) -> bool {
+        self.index == self.start && matches!(self.frontmatter_allowed, FrontmatterAllowed::No)
+    }
+
+    /// Moves on by so many bytes. Then none are pending.
+    #[inline(always)]
+    fn pass(&mut self, len: u32) {
+        self.index += len as usize;
+        self.start = self.index;
     }
 }
 

@@ -1,8 +1,8 @@
 //! The editions of Rust, and what each has in place of a token of the newest one.
 
 use crate::erased::classes::emoji::is_emoji;
-use crate::erased::cursor::Cursor;
 use crate::erased::frontmatter::token_at;
+use crate::erased::lexemes::lexeme;
 use crate::erased::scan::{eat_continue, next_is, split_first};
 use crate::erased::token::{FrontmatterAllowed, Token, TokenKind};
 use core::error::Error;
@@ -10,7 +10,7 @@ use core::fmt;
 use core::str::FromStr;
 
 /// An edition of Rust, in the order of their years.
-#[derive(Clone, Copy, Debug, PartialEq, Eq, PartialOrd, Ord)]
+#[derive(Clone, Copy, Debug, PartialEq, Eq, PartialOrd, Ord, Hash)]
 pub enum Edition {
     /// Rust 2015.
     E2015,
@@ -108,14 +108,10 @@ fn older_token(rest: &str, allowed: FrontmatterAllowed, edition: Edition) -> Tok
     changed(token_at(rest, allowed), rest, edition)
 }
 
-/// The token at the front of a text, in an edition.
-///
-/// It is one call of `Cursor::advance_token`, since that is what a step of [`Steps`](crate::Steps) counts. Once it is
-/// inlined, nothing of the cursor is left.
+/// The token at the front of a text that is not empty, in an edition, where no frontmatter may stand.
 #[inline(always)]
 pub(crate) fn token_in(rest: &str, edition: Edition) -> Token {
-    let token = Cursor::new(rest, FrontmatterAllowed::No).advance_token();
-    changed(token, rest, edition)
+    changed(lexeme(rest), rest, edition)
 }
 
 /// What the edition has in place of the token at the front of the text.

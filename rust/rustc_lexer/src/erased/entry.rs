@@ -69,6 +69,7 @@ pub fn tokenize_as<'a>(
 
 /// An iterator over the tokens of a text, made by [`tokenize`], [`tokenize_in`], [`tokenize_as`] and
 /// [`tokenize_document`].
+#[derive(Clone)]
 pub struct Tokens<'a> {
     rest: &'a str,
     frontmatter_allowed: FrontmatterAllowed,

@@ -182,19 +182,23 @@ pub(crate) fn find(stop: u8, bytes: &[u8]) -> Option<usize> {
     memchr(stop, bytes)
 }
 
-/// The place of the first quote that so many hashes follow, none or one, within the next 64 bytes. From 64 up it tells
-/// nothing.
+/// The place of the first quote that so many hashes follow, none or one, if it is within the next 64 bytes and there are
+/// so many.
 ///
 /// Which of the two it is costs no branch: it is hard to foresee.
 #[inline(always)]
-pub(crate) fn find_close(n_hashes: u32, bytes: &[u8]) -> usize {
+pub(crate) fn find_close(n_hashes: u32, bytes: &[u8]) -> Option<usize> {
     if bytes.len() < 64 {
-        return 64;
+        return None;
     }
     let v = u8x64::from_slice(bytes);
     let quotes = v.simd_eq(u8x64::splat(b'"')).to_bitmask();
     let hashes = v.simd_eq(u8x64::splat(b'#')).to_bitmask();
-    followed(quotes, hashes, n_hashes).trailing_zeros() as usize
+    let found = followed(quotes, hashes, n_hashes);
+    if found == 0 {
+        return None;
+    }
+    Some(found.trailing_zeros() as usize)
 }
 
 /// Bit k is set where a quote stands at k and so many hashes follow it, none or one.

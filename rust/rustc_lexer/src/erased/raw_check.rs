@@ -1,6 +1,6 @@
 //! The check of a raw string.
 
-use crate::erased::lexemes::raw::raw_double_quoted_string;
+use crate::erased::lexemes::raw::{raw_double_quoted_string, short_opening};
 use crate::erased::scan::{first, split_first};
 use crate::erased::token::RawStrError;
 
@@ -27,7 +27,8 @@ pub fn starts_raw(input: &str, prefix_len: u32) -> bool {
 /// validate_raw_str("r##\"abc\"#", 1) // NoTerminator { expected: 2, found: 1, possible_terminator_offset: Some(8) }
 /// ```
 pub fn validate_raw_str(input: &str, prefix_len: u32) -> Result<(), RawStrError> {
-    let (read, _) = raw_double_quoted_string(past_chars(input, prefix_len), prefix_len);
+    let rest = past_chars(input, prefix_len);
+    let (read, _) = raw_double_quoted_string(rest, short_opening(rest), prefix_len);
     match read {
         Ok(_) => Ok(()),
         Err(error) => Err(error),
@@ -37,11 +38,13 @@ pub fn validate_raw_str(input: &str, prefix_len: u32) -> Result<(), RawStrError>
 /// What follows the first `count` characters of the text.
 fn past_chars(text: &str, count: u32) -> &str {
     let mut rest = text;
-    for taken in 0..count {
+    let mut left = count;
+    while left > 0 {
         let Some((_, tail)) = split_first(rest) else {
             return rest;
         };
         rest = tail;
+        left -= 1;
     }
     rest
 }

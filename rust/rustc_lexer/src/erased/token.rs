@@ -4,7 +4,7 @@ use core::error::Error;
 use core::fmt;
 
 /// A token: what it is, and how many bytes of the text it takes.
-#[derive(Clone, Copy, Debug, PartialEq, Eq)]
+#[derive(Clone, Copy, Debug, PartialEq, Eq, Hash)]
 pub struct Token {
     /// What the token is.
     pub kind: TokenKind,
@@ -15,7 +15,7 @@ pub struct Token {
 /// What a token is.
 ///
 /// Rust Reference, [Tokens](https://doc.rust-lang.org/reference/tokens.html).
-#[derive(Clone, Copy, Debug, PartialEq, Eq)]
+#[derive(Clone, Copy, Debug, PartialEq, Eq, Hash)]
 pub enum TokenKind {
     /// From `//` up to the end of the line, as `// note`.
     LineComment {
@@ -78,7 +78,7 @@ pub enum TokenKind {
 
     /// A lifetime, as `'a`.
     Lifetime {
-        /// It begins with a digit, or holds an emoji, and so is none in Rust.
+        /// It begins with a digit, or holds an emoji that no identifier may go on with, and so is none in Rust.
         starts_with_number: bool,
     },
 
@@ -248,7 +248,7 @@ impl TokenKind {
 /// Where a doc comment stands: before what it describes, or inside it.
 ///
 /// Rust Reference, [Doc comments](https://doc.rust-lang.org/reference/comments.html#doc-comments).
-#[derive(Clone, Copy, Debug, PartialEq, Eq)]
+#[derive(Clone, Copy, Debug, PartialEq, Eq, Hash)]
 pub enum DocStyle {
     /// `///` or `/**`
     Outer,
@@ -259,7 +259,7 @@ pub enum DocStyle {
 /// What a literal is. Its suffix has no part in this: `1f32` is an `Int`.
 ///
 /// Rust Reference, [Literals](https://doc.rust-lang.org/reference/tokens.html#literals).
-#[derive(Clone, Copy, Debug, PartialEq, Eq, PartialOrd, Ord)]
+#[derive(Clone, Copy, Debug, PartialEq, Eq, PartialOrd, Ord, Hash)]
 pub enum LiteralKind {
     /// An integer, as `12u8` or `0x1F`.
     Int {
@@ -355,7 +355,7 @@ impl LiteralKind {
 /// A guarded string, as `#"note"#`: a string between hashes.
 ///
 /// Rust Reference, [Reserved guards](https://doc.rust-lang.org/reference/tokens.html#reserved-guards).
-#[derive(Clone, Copy, Debug, PartialEq, Eq, PartialOrd, Ord)]
+#[derive(Clone, Copy, Debug, PartialEq, Eq, PartialOrd, Ord, Hash)]
 pub struct GuardedStr {
     /// How many hashes stand before the string.
     pub n_hashes: u32,
@@ -368,7 +368,7 @@ pub struct GuardedStr {
 /// Why a raw string is refused.
 ///
 /// Rust Reference, [Raw string literals](https://doc.rust-lang.org/reference/tokens.html#raw-string-literals).
-#[derive(Clone, Copy, Debug, PartialEq, Eq, PartialOrd, Ord)]
+#[derive(Clone, Copy, Debug, PartialEq, Eq, PartialOrd, Ord, Hash)]
 pub enum RawStrError {
     /// Neither a hash nor a quote stands where the string should begin, as in `r#~"note"#`.
     InvalidStarter {
@@ -414,7 +414,7 @@ impl Error for RawStrError {}
 /// The base that a number is written in.
 ///
 /// Rust Reference, [Integer literals](https://doc.rust-lang.org/reference/tokens.html#integer-literals).
-#[derive(Clone, Copy, Debug, PartialEq, Eq, PartialOrd, Ord)]
+#[derive(Clone, Copy, Debug, PartialEq, Eq, PartialOrd, Ord, Hash)]
 pub enum Base {
     /// After `0b`.
     Binary = 2,
@@ -429,7 +429,7 @@ pub enum Base {
 /// Whether a frontmatter may stand at the front of a text.
 ///
 /// [RFC 3503](https://rust-lang.github.io/rfcs/3503-frontmatter.html).
-#[derive(Clone, Copy, PartialEq, Eq)]
+#[derive(Clone, Copy, PartialEq, Eq, Hash)]
 pub enum FrontmatterAllowed {
     /// It may: the text is a whole document.
     Yes,

@@ -54,8 +54,15 @@ pub(crate) fn split_alone<'a>(run: &[u8], text: &'a str) -> (&'a str, &'a str) {
 /// The first characters, of no more than `ALONE` bytes, and what is left past them.
 #[inline(never)]
 fn split_part(text: &str) -> (&str, &str) {
-    let (part, left) = text.split_at(text.floor_char_boundary(ALONE));
-    (part, left)
+    let mut end = text.len().min(ALONE);
+    while end > 0 {
+        if text.is_char_boundary(end) {
+            let (part, left) = text.split_at(end);
+            return (part, left);
+        }
+        end -= 1;
+    }
+    ("", text)
 }
 
 /// A number of simple bytes at the front. It is 0 where fewer than 32 bytes are left.

@@ -1,15 +1,28 @@
-use Rattle.std.proofs.Common.{sym, arith}
-use Rattle.std.proofs.lemmas.Grind.{common_steps}
+use Rattle.std.proofs.Common.{◌≡◌, ◌+◌, ◌-◌, refl, sym, ap, subst, ◌∙◌, arith}
+use Rattle.std.specs.Str.{IsUtf8}
+use Rattle.rustc_lexer.specs.means.Scan.{past}
 use Rattle.rustc_lexer.specs.laws.Past.{past-zero, past-past, IsUtf8-past}
 use Rattle.rustc_lexer.proofs.RawReadLemmas.{past-end}
 use Rattle.rustc_lexer.proofs.raw_check.past_chars.Goals as goal
 
-pub loop-taken-init : goal.loop-taken-init
-loop-taken-init c = (c.utf8.text, sym (past-zero _ c.utf8.text))
+pub chars-init : goal.chars-init
+chars-init c = (c.utf8.text, refl)
 
 pub returns-in_default : goal.returns-in_default
-returns-in_default c = past-end _ _ _ _ c.utf8.text c.loop-taken.invariant.1 c.in_default.ensures (omega arith)
+returns-in_default c =
+    let is = c.chars.invariant.0 in
+    past-end _ _ 0 _ is (sym (past-zero _ is)) c.in_default.ensures (omega arith) ∙ c.chars.invariant.1
 
-pub loop-taken-preserved : goal.loop-taken-preserved
-loop-taken-preserved c =
-    grind (arith, common_steps, past-past, IsUtf8-past, c.in-Some.ensures.1, c.loop-taken.invariant.1)
+pub chars-preserved : goal.chars-preserved
+chars-preserved c =
+    let is = c.chars.invariant.0 in
+    let one : 1 + (c.chars.left - 1) ≡ c.chars.left = omega arith in
+    (subst (λ xs. IsUtf8 xs) (sym c.in-Some.ensures.1) (IsUtf8-past 1 _ is),
+      ap (past (c.chars.left - 1)) c.in-Some.ensures.1
+      ∙ (past-past (c.chars.left - 1) 1 c.chars.rest.now is
+      ∙ (ap (λ n. past n c.chars.rest.now) one ∙ c.chars.invariant.1)))
+
+pub returns : goal.returns
+returns c =
+    let none : c.chars.left ≡ 0 = omega arith in
+    sym (past-zero _ c.chars.invariant.0) ∙ (ap (λ n. past n c.chars.rest.now) (sym none) ∙ c.chars.invariant.1)

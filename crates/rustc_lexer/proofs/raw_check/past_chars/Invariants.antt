@@ -4,5 +4,8 @@ use denote.Shadow.{shadow}
 use Rattle.rustc_lexer.specs.means.Scan.{past}
 use Rattle.rustc_lexer.proofs.raw_check.past_chars.Given as goal
 
-abbrev pub invariant-loop-taken : goal.invariant-loop-taken
-invariant-loop-taken l = shadow (Utf8 l.rest) × (l.rest ≡ past l.taken l.text)
+abbrev pub invariant-chars : goal.invariant-chars
+invariant-chars l = shadow (Utf8 l.rest) × (past l.left l.rest ≡ past l.count l.text)
+
+abbrev pub decreases-chars : goal.decreases-chars
+decreases-chars l = l.left

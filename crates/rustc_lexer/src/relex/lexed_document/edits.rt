@@ -1,4 +1,4 @@
-//! Edits of a document in a row.
+//! Several edits of a document, one after another.
 ghost use Rattle.std.specs.Prelude.{◌≡◌, IfErr, OnOk, take};
 ghost use Rattle.rustc_lexer.specs.Document.{AreStepped, IsStopStepped, document_tokens_by};
 ghost use Rattle.rustc_lexer.specs.Edits.{apply_list, AreEdits, stop_at, IsStop};
@@ -9,8 +9,8 @@ use crate::relex::edit_list::EditStop;
 use crate::relex::lexed_document::LexedDocument;
 
 impl<S: Stepper> LexedDocument<S> {
-    /// Makes the edits in order, each on the text that those before it leave, as far as the first that is refused. `Err`
-    /// says which that is and why; the edits before it stand.
+    /// Makes the edits in order, each on the text that the edits before it leave, up to the first one that is
+    /// refused. `Err` says which one that is and why. The edits before it stay made.
     pub fn edit_all(&mut self, edits: &[Edit<'_>]) -> Result<(), EditStop>
         ensures accepted { OnOk result (AreEdits self.old.text edits.now) }
         ensures text { OnOk result (self.new.text ≡ apply_list self.old.text edits.now) }
@@ -30,7 +30,7 @@ impl<S: Stepper> LexedDocument<S> {
             (λ e. IsStopStepped e (S.grammar self.old.stepper) self.old.text edits.now
             (S.count self.old.stepper) (S.count self.new.stepper)) }
     {
-        // So the tokens are those of the text, also where there is no edit.
+        // So the tokens are those of the text, even if there is no edit.
         prove!(self.is_consistent());
         for (at, edit) in edits.iter().enumerate() {
             if !self.accepts(edit.start, edit.stop, edit.insert) {

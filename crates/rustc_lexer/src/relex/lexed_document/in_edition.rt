@@ -14,7 +14,7 @@ use crate::relex::lexed_document::{LexedDocument, lex_document};
 use std::alloc::{AllocError, Global};
 
 impl LexedDocument<Steps> {
-    /// Returns a copy of the text, which has at most `u32::MAX` bytes, with its tokens in the newest edition. `Err` means
+    /// Copies the text and lexes it in the newest edition. The text may have at most `u32::MAX` bytes. `Err` means
     /// that memory was refused.
     pub fn new(alloc: Global, text: &str) -> Result<LexedDocument<Steps>, AllocError>
         requires fits { Fits text.now }
@@ -29,7 +29,7 @@ impl LexedDocument<Steps> {
         LexedDocument::new_in(alloc, text, Edition::E2024)
     }
 
-    /// Returns a copy of the text, which has at most `u32::MAX` bytes, with its tokens in the edition. `Err` means that
+    /// Copies the text and lexes it in the edition. The text may have at most `u32::MAX` bytes. `Err` means that
     /// memory was refused.
     pub fn new_in(
         alloc: Global,
@@ -49,7 +49,7 @@ impl LexedDocument<Steps> {
         LexedDocument::with(alloc, text, Steps::new_in(edition))
     }
 
-    /// Returns the edition that the tokens are of. Edits keep it.
+    /// Returns the edition of the tokens. Edits keep it.
     pub fn edition(&self) -> Edition
         ensures number { ⟦<Steps as Stepper>⟧.number self.now.stepper ≡ year result }
         ensures only { (edition : Edition)
@@ -60,8 +60,8 @@ impl LexedDocument<Steps> {
         self.stepper.edition()
     }
 
-    /// Returns where the body begins, in bytes, and how many tokens stand before it: those up to the frontmatter, or none
-    /// where there is no frontmatter.
+    /// Returns where the body begins, in bytes, and how many tokens come before it: those up to the frontmatter and
+    /// with it, or none if there is no frontmatter.
     pub fn body(&self) -> Bound
         ensures number { result.number ≡ spec.head_count self.now.tokens }
         ensures place { result.place ≡ spec.body_start self.now.text }
@@ -76,8 +76,8 @@ impl LexedDocument<Steps> {
         }
     }
 
-    /// Lexes the text again, in another edition. The head stays: it is the same in each. `Err` means that memory was
-    /// refused, and then nothing changes.
+    /// Lexes the text again, in another edition. The head stays, as it is the same in each edition. `Err` means
+    /// that memory was refused, and then nothing has changed.
     pub fn set_edition(&mut self, edition: Edition) -> Result<(), AllocError>
         ensures text { self.new.text ≡ self.old.text }
         ensures from_scratch { OnOk result (self.new.tokens ≡ spec.document_tokens edition self.new.text) }

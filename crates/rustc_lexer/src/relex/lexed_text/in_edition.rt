@@ -13,7 +13,8 @@ use crate::relex::lexed_text::LexedText;
 use std::alloc::{AllocError, Global};
 
 impl LexedText<Steps> {
-    /// A copy of the text, which has at most `u32::MAX` bytes, and its tokens in the edition.
+    /// Copies the text and lexes it in the edition. The text may have at most `u32::MAX` bytes. `Err` means that
+    /// memory was refused.
     pub fn new_in(
         alloc: Global,
         text: &str,
@@ -30,7 +31,7 @@ impl LexedText<Steps> {
         LexedText::with(alloc, text, Steps::new_in(edition))
     }
 
-    /// The edition that the tokens are of. Edits keep it.
+    /// Returns the edition of the tokens. Edits keep it.
     pub fn edition(&self) -> Edition
         ensures number { ⟦<Steps as Stepper>⟧.number self.now.stepper ≡ year result }
         ensures only { (edition : Edition)
@@ -41,7 +42,7 @@ impl LexedText<Steps> {
         self.stepper.edition()
     }
 
-    /// Lexes the text again, in another edition. Where memory is refused nothing changes.
+    /// Lexes the text again, in another edition. `Err` means that memory was refused, and then nothing has changed.
     pub fn set_edition(&mut self, edition: Edition) -> Result<(), AllocError>
         ensures text { self.new.text ≡ self.old.text }
         ensures from_scratch { OnOk result (self.new.tokens ≡ tokens_of (part edition) self.new.text) }

@@ -1,7 +1,8 @@
 use Rattle.std.proofs.Common.{◌≡◌, List, ℕ, ◌++◌, map, take, drop, sym, subst}
 use Rattle.rustc_lexer.specs.declared.relex.relexing.Change.{Change}
 use Rattle.rustc_lexer.specs.declared.token.Token.{Token}
-use Rattle.rustc_lexer.specs.Edits.{IsMadeOf, Stands, TakesSteps, known}
+use Rattle.rustc_lexer.specs.Edits.{IsMadeOf, TakesSteps, known}
+use Rattle.rustc_lexer.specs.Relexing.{IsUnderWay}
 use Rattle.rustc_lexer.specs.Answers.{first_in}
 use Rattle.rustc_lexer.specs.Tokens.{tokens_by}
 use Rattle.rustc_lexer_c.specs.declared.token.CToken.{CToken}
@@ -20,7 +21,7 @@ returns-clause-batch c = λ ok year is.
     let lens : List ℕ = map (λ (t : CToken). t.len) c.args.old.now in
     let Fills : (List ℕ → Token) → Change → Type 0 = λ first change. TakesSteps first text change.new_stop begin c.fill.result c.fill.new.self
     × (c.fill.new.buffer ≡ map token_numbers (take c.fill.result (tokens_by first (drop begin.at text))) ++ drop c.fill.result c.args.buffer.now)
-    × ((before insert : List ℕ) → IsMadeOf first before lens change insert text → Stands first before change text begin → Stands first before change text c.fill.new.self × (tokens_by first (drop begin.at text) ≡ drop (known begin) (tokens_by first text))) in
+    × ((before insert : List ℕ) → IsMadeOf first before lens change insert text → IsUnderWay first before change text begin → IsUnderWay first before change text c.fill.new.self × (tokens_by first (drop begin.at text) ≡ drop (known begin) (tokens_by first text))) in
     let now = subst (Fills (first_in c.in-Some.edition)) change (subst (λ (first : List ℕ → Token). Fills first c.change_of-change.result) c.new_in.ensures.grammar (f.steps, f.tokens, f.stands)) in
     let batch = batch_is c.in-Some.edition text c.args.old.now c.args.edit.now c.args.relexing.now c.args.buffer.now c.fill.new.buffer c.fill.result begin c.fill.new.self
     f.buffer now.0 now.1 f.may_go_on f.over some.1 some.2 (rw (sym change) some.3) now.2 in

@@ -35,6 +35,7 @@ pub trait Stepper {
 }
 
 /// The steps of the lexer in an edition, where no frontmatter may stand.
+#[derive(Clone)]
 pub struct Steps {
     edition: Edition,
     tally: Tally,

@@ -3,6 +3,7 @@
 use core::marker::PhantomData;
 
 /// A number that contracts alone see. It has no bytes.
+#[derive(Clone)]
 pub(crate) struct Tally {
     marker: PhantomData<()>,
 }

@@ -16,10 +16,14 @@ pub(crate) enum RawPrefix {
     Cr,
 }
 
-/// The token of a raw string. `rest` is what follows its prefix.
+/// The token of a raw string. `rest` is what follows its prefix, and `opening` is its [`short_opening`].
 #[inline(always)]
-pub(crate) fn raw_literal(prefix: RawPrefix, rest: &str) -> (TokenKind, &str) {
-    let (read, left) = raw_double_quoted_string(rest, 0);
+pub(crate) fn raw_literal<'a>(
+    prefix: RawPrefix,
+    rest: &'a str,
+    opening: Option<(u32, &'a str)>,
+) -> (TokenKind, &'a str) {
+    let (read, left) = raw_double_quoted_string(rest, opening, 0);
     let suffix_start = prefix_len(prefix) + (rest.len() - left.len()) as u32;
     match read {
         Ok(n_hashes) => {
@@ -57,12 +61,15 @@ fn literal_kind(prefix: RawPrefix, n_hashes: Option<u8>) -> LiteralKind {
 
 /// The number of hashes on each side of a raw string, or why it is refused; and what it leaves of `rest`,
 /// which follows its prefix. An offset is in bytes, and counts `prefix_len` for the prefix.
+///
+/// `opening` is the [`short_opening`] of `rest`, which the caller may have looked at before.
 #[inline(always)]
-pub(crate) fn raw_double_quoted_string(
-    rest: &str,
+pub(crate) fn raw_double_quoted_string<'a>(
+    rest: &'a str,
+    opening: Option<(u32, &'a str)>,
     prefix_len: u32,
-) -> (Result<u8, RawStrError>, &str) {
-    if let Some((n_hashes, text)) = short_opening(rest) {
+) -> (Result<u8, RawStrError>, &'a str) {
+    if let Some((n_hashes, text)) = opening {
         if let Some(left) = past_close(text, n_hashes) {
             return (Ok(n_hashes as u8), left);
         }
@@ -110,12 +117,8 @@ pub(crate) fn short_opening(rest: &str) -> Option<(u32, &str)> {
 /// hashes, none or one.
 #[inline(always)]
 fn past_close(text: &str, n_hashes: u32) -> Option<&str> {
-    let place = find_close(n_hashes, text.as_bytes());
-    if place < 64 {
-        Some(&text[place + 1 + n_hashes as usize..])
-    } else {
-        None
-    }
+    let place = find_close(n_hashes, text.as_bytes())?;
+    Some(&text[place + 1 + n_hashes as usize..])
 }
 
 /// How the raw string goes on past its opening quote, before which `n_hashes` hashes stand; and what it leaves of

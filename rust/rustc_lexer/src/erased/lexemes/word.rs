@@ -21,14 +21,14 @@ pub(crate) fn word(first: char, tail: &str) -> (TokenKind, &str) {
 /// What begins with an `r`: a raw identifier, a raw string, or an identifier.
 #[inline(always)]
 fn letter_r(tail: &str) -> (TokenKind, &str) {
-    if let Some(_) = short_opening(tail) {
-        return raw_literal(RawPrefix::R, tail);
+    if let Some(opening) = short_opening(tail) {
+        return raw_literal(RawPrefix::R, tail, Some(opening));
     }
     if let Some(rest) = eat_marked(tail) {
         return (TokenKind::RawIdent, rest);
     }
     if next_is(tail, is_raw_mark) {
-        raw_literal(RawPrefix::R, tail)
+        raw_literal(RawPrefix::R, tail, None)
     } else {
         ident_or_unknown_prefix(tail)
     }
@@ -77,7 +77,7 @@ fn raw_or_ident(prefix: RawPrefix, tail: &str) -> (TokenKind, &str) {
         return ident_or_unknown_prefix(tail);
     };
     if next_is(rest, is_raw_mark) {
-        raw_literal(prefix, rest)
+        raw_literal(prefix, rest, short_opening(rest))
     } else {
         ident_or_unknown_prefix(tail)
     }

@@ -32,6 +32,7 @@ mod in_edition;
 ///     assert_eq!((counts.kept_front, counts.lexed, counts.kept_back), (3, 1, 0));
 /// }
 /// ```
+#[derive(Clone)]
 pub struct LexedDocument<S: Stepper> {
     alloc: Global,
     text: String,

@@ -13,6 +13,7 @@ use crate::support::{AllocError, Global};
 mod in_edition;
 
 /// A text, its tokens, and the stepper that they came from.
+#[derive(Clone)]
 pub struct LexedText<S: Stepper> {
     alloc: Global,
     text: String,

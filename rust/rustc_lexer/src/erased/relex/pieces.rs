@@ -21,6 +21,8 @@ pub struct Piece<'a> {
 /// [`LexedText::pieces_of`](crate::LexedText::pieces_of).
 ///
 /// A piece begins where the one before it ended, and its text is the slice of the text there.
+#[derive(Clone)]
+#[must_use]
 pub struct Pieces<'a> {
     text: &'a str,
     start: u32,

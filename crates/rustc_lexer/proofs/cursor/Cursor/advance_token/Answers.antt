@@ -4,7 +4,7 @@ use Rattle.rustc_lexer.specs.LanguageText.{mode_of}
 use Rattle.rustc_lexer.specs.State.{State, token_past}
 use Rattle.rustc_lexer.specs.means.Taking.{token_at}
 use Rattle.rustc_lexer.specs.Classes.{IsText}
-use Rattle.rustc_lexer.proofs.AdvanceLemmas.{not_end, takes_first, stays_at_end, something}
+use Rattle.rustc_lexer.proofs.AdvanceLemmas.{not_end, takes_first, takes_plain, stays_at_end, something}
 use Rattle.rustc_lexer.specs.laws.State.{state, past_token, past_token-is, advance-end, advance-some}
 use Rattle.rustc_lexer.proofs.cursor.Cursor.advance_token.Goals as goal
 
@@ -18,6 +18,18 @@ returns-then-is_empty c =
       end = λ e. stays_at_end _ _ 0 c.as_str-rest.ensures.rest (sym c.if-is_empty.ensures) refl;
       past = λ other. absurd (other refl);
     }
+
+pub returns-in-Some : goal.returns-in-Some
+returns-in-Some c =
+    let plain = c.is_plain.ensures c.if-is_plain.true in
+    let taken = takes_plain _ _ _ _ plain.0 plain.1 c.as_str-rest.ensures.rest c.as_str-rest.utf8 c.as_str-rest.ensures.fits (sym c.if-is_empty.ensures) c.in-Some.ensures.token c.pass.ensures in
+    record { token = taken.token_is; state = taken.state_is; end = λ e. absurd (taken.no_end e); past = λ other. taken.first }
+
+pub returns-then-is_plain : goal.returns-then-is_plain
+returns-then-is_plain c =
+    let plain = c.is_plain.ensures c.if-is_plain.true in
+    let taken = takes_plain _ _ _ _ plain.0 plain.1 c.as_str-rest.ensures.rest c.as_str-rest.utf8 c.as_str-rest.ensures.fits (sym c.if-is_empty.ensures) c.choose_token-chosen.ensures.token c.pass-then-is_plain.ensures in
+    record { token = taken.token_is; state = taken.state_is; end = λ e. absurd (taken.no_end e); past = λ other. taken.first }
 
 pub returns : goal.returns
 returns c =

@@ -13,7 +13,7 @@ use Rattle.rustc_lexer.specs.means.Scan.{after, next_is, run}
 
 pub returns-in-Some : goal.returns-in-Some
 returns-in-Some c =
-    let raw = opens_raw _ (chars c.args.tail.now) c.in-Some.ensures.0 c.in-Some.ensures.1 c.in-Some.ensures.2 in
+    let raw = opens_raw _ (chars c.args.tail.now) c.in-Some.ensures.few c.in-Some.ensures.hashes c.in-Some.ensures.quote in
     c.raw_literal.ensures
     ∙ (sym (scanned-yes (next_is is_raw_mark) (raw_literal R) ident_or_unknown_prefix _ raw.0)
     ∙ sym (scanned-no marks_ident (after 2 (run RawIdent is_id_continue)) raw_or_ident _ raw.1))

@@ -113,14 +113,14 @@ returns-in-Ok-clause-relexed g c =
     let size : length c.as_slice-count.result.now - c.count-old_count.result ≡ length c.args.tokens.now.items - c.count-old_count.result = ap (λ (ts : List Token). length ts - c.count-old_count.result) c.as_slice-count.ensures.value in
     let l = r.0.renewed.lexed_is in
     let many : length (map (λ (t : Token). t.len) (drop c.count-old_count.result c.args.tokens.now.items)) ≡ length c.as_slice-count.result.now - c.count-old_count.result = omega (arith, length-map (drop c.count-old_count.result c.args.tokens.now.items) (λ (t : Token). t.len), length-drop c.count-old_count.result c.args.tokens.now.items, size) in
-    let exact = c.counts.ensures.exact _ _ _ _ _ _ (g.S.Stepper.law c.args.stepper.now) b.made_of many l.stands l.met in
+    let exact = c.counts.ensures.exact _ _ _ _ _ _ (g.S.Stepper.law c.args.stepper.now) b.made_of many (record { stands = l.stands }) l.met in
     subst (λ (x : Relexed). IsRelexedByHead (g.S.Stepper.grammar c.args.stepper.now) (string_bytes c.args.text.now) c.args.edit.start c.args.edit.stop c.args.edit.insert.now x) (sym c.counted.ensures) (counted_relexed (g.S.Stepper.law c.args.stepper.now) b c.new_head-new_head.ensures r.0 _ c.count.ensures size c.counts.ensures.counts exact.0)
 
 pub returns-clause-few : goal.returns-clause-few
 returns-clause-few g c r most is steps =
     let b = body_edit (g.S.Stepper.law c.args.stepper.now) c.requires.text c.requires.insert c.requires.edit c.as_str-made.ensures.value c.put_in_place.ensures.text c.reserve.ensures.bytes c.requires.head c.requires.head_boundary c.of-now.ensures.head c.of-now.ensures.boundary c.keeps_head-kept.ensures c.count-old_count.ensures c.requires.from_scratch c.range_from-body.ensures.value c.body_change-change.ensures in
     let few = c.in-Err.ensures.few _ _ b.made_of (near_behind c.args.tokens.now.items c.args.checkpoints.now b.n_is b.old_body c.requires.checkpoints c.nearest-near.ensures) in
-    omega (arith, few, few_body b r (g.S.Stepper.count c.args.stepper.now) most is steps)
+    omega (arith, few, few_body (g.S.Stepper.law c.args.stepper.now) b r (g.S.Stepper.count c.args.stepper.now) most is steps)
 
 pub returns-in_err-removed-clause-few : goal.returns-in_err-removed-clause-few
 returns-in_err-removed-clause-few g c = OnErr-always c.from_residual.result (steps_rise (g.S.Stepper.grammar c.args.stepper.now) (string_bytes c.args.text.now) c.args.edit.start c.args.edit.stop c.args.edit.insert.now (g.S.Stepper.count c.args.stepper.now))

@@ -11,6 +11,7 @@ use Rattle.rustc_lexer.specs.Edits.{IsEdit, IsInside, apply, IsBound, IsMadeOf}
 use Rattle.rustc_lexer.specs.Classes.{IsText}
 use Rattle.rustc_lexer.specs.means.Checkpoints.{AreBounds}
 use Rattle.rustc_lexer.proofs.EditLemmas.{put_back}
+use Rattle.rustc_lexer.proofs.RelexedLemmas.{relexed_found}
 use Rattle.rustc_lexer.proofs.RelexingLemmas.{made_for, made_change}
 use Rattle.rustc_lexer.proofs.RenewedLemmas.{renewed_all, renewed_are, renewed_at, renewed_back, renewed_bounds, renewed_front}
 use Rattle.rustc_lexer.proofs.relex.edit.lex_edit.Goals as goal
@@ -61,8 +62,8 @@ returns-in-Ok-clause-relexed g c =
     let renewed = c.in-Ok.ensures.renewed _ _ made (near_bound c.args.checkpoints.now c.requires.from_scratch c.requires.checkpoints c.nearest-near.ensures) in
     let l = renewed.0.lexed_is in
     let many : length (map (λ (t : Token). t.len) c.args.tokens.now.items) ≡ length c.as_slice-count.result.now = omega (arith, length-map c.args.tokens.now.items (λ (t : Token). t.len), ap length c.as_slice-count.ensures.value) in
-    let exact = c.counts.ensures.exact _ _ _ _ _ _ (g.S.Stepper.law c.args.stepper.now) made many l.stands l.met in
-    exact.0
+    let exact = c.counts.ensures.exact _ _ _ _ _ _ (g.S.Stepper.law c.args.stepper.now) made many (record { stands = l.stands }) l.met in
+    relexed_found (g.S.Stepper.law c.args.stepper.now) _ c.requires.text _ _ _ c.requires.insert c.requires.edit _ exact.0
 
 pub returns-in-Ok-clause-all : goal.returns-in-Ok-clause-all
 returns-in-Ok-clause-all g c =

@@ -2,7 +2,8 @@ use Rattle.std.proofs.Common.{◌≡◌, ◌+◌, ◌∷◌, List, ℕ, length, 
 use Rattle.rustc_lexer.specs.declared.relex.front.Bound.{Bound}
 use Rattle.rustc_lexer.specs.{Token}
 use Rattle.rustc_lexer.specs.Tokens.{tokens_by}
-use Rattle.rustc_lexer.specs.Edits.{IsMadeOf, Stands, known}
+use Rattle.rustc_lexer.specs.Edits.{IsMadeOf, known}
+use Rattle.rustc_lexer.specs.Relexing.{IsUnderWay}
 use Rattle.rustc_lexer.proofs.RelexBlockLemmas.{step_of}
 use Rattle.rustc_lexer.proofs.EditLemmas.{IfErr-always}
 use Rattle.rustc_lexer.proofs.RelexingLemmas.{few_lexed, all_lexed}
@@ -26,7 +27,7 @@ loop-token-init g c =
             λ before insert is near.
                 let first = g.S.Stepper.grammar c.args.stepper.now in
                 let new = tokens_by first c.args.text.now in
-                let stands = c.begin-at.ensures.stands first before insert (g.S.Stepper.law c.args.stepper.now) is near in
+                let stands = (c.begin-at.ensures.stands first before insert (g.S.Stepper.law c.args.stepper.now) is near).stands in
                 let so = ins.stands before insert is stands in
                 (so.0, ap (λ (b : Bound). drop b.number new) ins.front ∙ so.1 _ (all_lexed new c.begin-at.result c.new-tokens.result.items none zero_lexed)),
           )
@@ -38,7 +39,7 @@ loop-token-init g c =
         omega (arith, zero_lexed, empty),
         λ before insert is near.
             let first = g.S.Stepper.grammar c.args.stepper.now in
-            let stands = c.begin-at.ensures.stands first before insert (g.S.Stepper.law c.args.stepper.now) is near in
+            let stands = (c.begin-at.ensures.stands first before insert (g.S.Stepper.law c.args.stepper.now) is near).stands in
             (stands, all_lexed (tokens_by first c.args.text.now) c.begin-at.result c.new-tokens.result.items none zero_lexed),
       )
     ]
@@ -49,7 +50,7 @@ returns-in_err-relex_inserted-clause-few g c =
     let at = c.relex_inserted.new.at in
     let ins = c.in_err-relex_inserted.ensures in
     IfErr-always c.from_residual.result (λ before insert is near.
-    let stands = c.begin-at.ensures.stands first before insert (g.S.Stepper.law c.args.stepper.now) is near in
+    let stands = (c.begin-at.ensures.stands first before insert (g.S.Stepper.law c.args.stepper.now) is near).stands in
     let so = ins.stands before insert is stands in
     omega (arith, ins.count, c.begin-at.ensures.none, few_lexed (g.S.Stepper.law c.args.stepper.now) before _ insert _ c.args.change is at so.0))
 
@@ -79,9 +80,9 @@ loop-token-preserved g c =
       omega (arith, lexed, count, c.loop-token.invariant.4),
       λ before insert is near.
           let so = c.loop-token.invariant.5 before insert is near in
-          let next = subst (λ (f : List ℕ → Token). IsMadeOf f before (map (λ (t : Token). t.len) c.args.old.now) c.args.change insert c.args.text.now → Stands f before c.args.change c.args.text.now at → Stands f before c.args.change c.args.text.now past × (drop (known at) (tokens_by f c.args.text.now) ≡ token ∷ drop (known past) (tokens_by f c.args.text.now))) c.loop-token.invariant.1 (c.in-Some.ensures.stands before insert) is so.0 in
+          let next = subst (λ (f : List ℕ → Token). IsMadeOf f before (map (λ (t : Token). t.len) c.args.old.now) c.args.change insert c.args.text.now → IsUnderWay f before c.args.change c.args.text.now at → IsUnderWay f before c.args.change c.args.text.now past × (drop (known at) (tokens_by f c.args.text.now) ≡ token ∷ drop (known past) (tokens_by f c.args.text.now))) c.loop-token.invariant.1 (c.in-Some.ensures.stands before insert) is (record { stands = so.0 }) in
           let new = tokens_by first c.args.text.now in
-          (next.0, ap (λ n. drop n new) front ∙ (so.1 ∙ (ap (λ ts. c.loop-token.tokens.items ++ ts) next.1 ∙ (sym (append_assoc c.loop-token.tokens.items (token ∷ []) (drop (known past) new)) ∙ ap (λ ts. ts ++ drop (known past) new) (sym more))))),
+          (next.0.stands, ap (λ n. drop n new) front ∙ (so.1 ∙ (ap (λ ts. c.loop-token.tokens.items ++ ts) next.1 ∙ (sym (append_assoc c.loop-token.tokens.items (token ∷ []) (drop (known past) new)) ∙ ap (λ ts. ts ++ drop (known past) new) (sym more))))),
     )
 
 pub returns-in_err-push-clause-few : goal.returns-in_err-push-clause-few
@@ -93,5 +94,5 @@ returns-in_err-push-clause-few g c =
     let lexed = step.lexed in
     IfErr-always c.from_residual-in_err-push.result (λ before insert is near.
     let so = c.loop-token.invariant.5 before insert is near in
-    let next = subst (λ (f : List ℕ → Token). IsMadeOf f before (map (λ (t : Token). t.len) c.args.old.now) c.args.change insert c.args.text.now → Stands f before c.args.change c.args.text.now at → Stands f before c.args.change c.args.text.now past × (drop (known at) (tokens_by f c.args.text.now) ≡ c.in-Some.token ∷ drop (known past) (tokens_by f c.args.text.now))) c.loop-token.invariant.1 (c.in-Some.ensures.stands before insert) is so.0 in
-    omega (arith, c.in-Some.ensures.step.2, lexed, c.loop-token.invariant.3, c.loop-token.invariant.4, few_lexed (g.S.Stepper.law c.args.stepper.now) before _ insert _ c.args.change is past next.0))
+    let next = subst (λ (f : List ℕ → Token). IsMadeOf f before (map (λ (t : Token). t.len) c.args.old.now) c.args.change insert c.args.text.now → IsUnderWay f before c.args.change c.args.text.now at → IsUnderWay f before c.args.change c.args.text.now past × (drop (known at) (tokens_by f c.args.text.now) ≡ c.in-Some.token ∷ drop (known past) (tokens_by f c.args.text.now))) c.loop-token.invariant.1 (c.in-Some.ensures.stands before insert) is (record { stands = so.0 }) in
+    omega (arith, c.in-Some.ensures.step.2, lexed, c.loop-token.invariant.3, c.loop-token.invariant.4, few_lexed (g.S.Stepper.law c.args.stepper.now) before _ insert _ c.args.change is past next.0.stands))

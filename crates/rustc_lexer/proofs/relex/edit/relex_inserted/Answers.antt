@@ -3,7 +3,8 @@ use Rattle.std.proofs.lemmas.List.{drop-drop, take-append-drop}
 use Rattle.rustc_lexer.specs.declared.relex.front.Bound.{Bound}
 use Rattle.rustc_lexer.specs.{Token}
 use Rattle.rustc_lexer.specs.Tokens.{tokens_by}
-use Rattle.rustc_lexer.specs.Edits.{IsMadeOf, Stands, known}
+use Rattle.rustc_lexer.specs.Edits.{IsMadeOf, known}
+use Rattle.rustc_lexer.specs.Relexing.{IsUnderWay}
 use Rattle.rustc_lexer.proofs.BlockLemmas.{IsFront, front_of}
 use Rattle.rustc_lexer.proofs.relex.edit.relex_inserted.Goals as goal
 
@@ -33,14 +34,14 @@ inserted-preserved g c =
       buffer = omega (arith, fill.buffer.1, inv.buffer);
       stands = λ before insert is began.
           let so = inv.stands before insert is began in
-          let Next : (List ℕ → Token) → Type 0 = λ f. IsMadeOf f before (map (λ (t : Token). t.len) c.args.old.now) c.args.change insert text → Stands f before c.args.change text c.inserted.at → Stands f before c.args.change text past × (tokens_by f (drop c.inserted.at.at text) ≡ drop (known c.inserted.at) (tokens_by f text)) in
-          let next = subst Next inv.grammar (fill.stands before insert) is so.0 in
+          let Next : (List ℕ → Token) → Type 0 = λ f. IsMadeOf f before (map (λ (t : Token). t.len) c.args.old.now) c.args.change insert text → IsUnderWay f before c.args.change text c.inserted.at → IsUnderWay f before c.args.change text past × (tokens_by f (drop c.inserted.at.at text) ≡ drop (known c.inserted.at) (tokens_by f text)) in
+          let next = subst Next inv.grammar (fill.stands before insert) is (record { stands = so.0 }) in
           let new = tokens_by first text in
           let here : all ≡ drop (known c.inserted.at) new = ap (λ (f : List ℕ → Token). tokens_by f (drop c.inserted.at.at text)) inv.grammar ∙ next.1 in
           let number_past : known c.inserted.at + count ≡ known past = let front_is = ap (λ (b : Bound). b.number) fill.steps.front in omega (arith, lexed) in
           let later : drop count all ≡ drop (known past) new = ap (drop count) here ∙ (drop-drop count (known c.inserted.at) new ∙ ap (λ n. drop n new) number_past) in
           let split : drop (known c.inserted.at) new ≡ block ++ drop (known past) new = sym here ∙ (sym (take-append-drop count all) ∙ (ap (λ ts. ts ++ drop count all) (sym front.front) ∙ ap (λ ts. block ++ ts) later)) in (
-            next.0,
+            next.0.stands,
             λ every e.
                 so.1 every e ∙ (ap (λ ts. c.inserted.tokens.items ++ ts) split ∙ (sym (append_assoc c.inserted.tokens.items block (drop (known past) new)) ∙ ap (λ ts. ts ++ drop (known past) new) (sym more))),
           );

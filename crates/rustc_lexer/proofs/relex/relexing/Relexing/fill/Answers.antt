@@ -2,7 +2,8 @@ use Rattle.std.proofs.Common.{◌≡◌, List, ℕ, drop, map, inl, inr, refl, s
 use Rattle.std.proofs.lemmas.Bool.{cases_lt}
 use Rattle.rustc_lexer.specs.{Token}
 use Rattle.rustc_lexer.specs.Classes.{IsText}
-use Rattle.rustc_lexer.specs.Edits.{IsMadeOf, Stands, is_over}
+use Rattle.rustc_lexer.specs.Edits.{IsMadeOf, is_over}
+use Rattle.rustc_lexer.specs.Relexing.{IsUnderWay}
 use Rattle.rustc_lexer.specs.Tokens.{tokens_by}
 use Rattle.rustc_lexer.proofs.BulkLemmas.{is_written, none_written, one_written}
 use Rattle.rustc_lexer.proofs.RelexBlockLemmas.{IsStepTo, step_of, left_at, next_left, no_step, step_more}
@@ -63,16 +64,16 @@ places-preserved g c =
         | inr none ↦ (let e : c.places.count ≡ 0 = omega arith in ap (is_over text) (sym (inv.steps.none e)) ∙ c.in-Some.ensures.step.3)
       ];
       stands = λ before insert made begun.
-          let Next : (List ℕ → Token) → Type 0 = λ f. IsMadeOf f before (map g.T.Measured.bytes c.args.old.now) c.args.change insert text → Stands f before c.args.change text at → Stands f before c.args.change text past in
+          let Next : (List ℕ → Token) → Type 0 = λ f. IsMadeOf f before (map g.T.Measured.bytes c.args.old.now) c.args.change insert text → IsUnderWay f before c.args.change text at → IsUnderWay f before c.args.change text past in
           subst Next inv.grammar (λ m s. (c.in-Some.ensures.stands before insert m s).0) made (inv.stands before insert made begun);
     }
 
 pub returns-after-places-clause-stands : goal.returns-after-places-clause-stands
 returns-after-places-clause-stands g c = λ before insert made begun.
-    (c.places.invariant.stands before insert made begun, left_at (g.S.Stepper.law c.args.stepper.now) before _ insert c.args.text.now c.args.change made c.args.self.now begun)
+    (c.places.invariant.stands before insert made begun, left_at (g.S.Stepper.law c.args.stepper.now) before _ insert c.args.text.now c.args.change made c.args.self.now begun.stands)
 
 pub returns-in_default-clause-stands : goal.returns-in_default-clause-stands
 returns-in_default-clause-stands g c = λ before insert made begun. (
-  subst (λ at. Stands (g.S.Stepper.grammar c.args.stepper.now) before c.args.change c.args.text.now at) (sym c.in_default.ensures.step.0) (c.places.invariant.stands before insert made begun),
-  left_at (g.S.Stepper.law c.args.stepper.now) before _ insert c.args.text.now c.args.change made c.args.self.now begun,
+  subst (λ at. IsUnderWay (g.S.Stepper.grammar c.args.stepper.now) before c.args.change c.args.text.now at) (sym c.in_default.ensures.step.0) (c.places.invariant.stands before insert made begun),
+  left_at (g.S.Stepper.law c.args.stepper.now) before _ insert c.args.text.now c.args.change made c.args.self.now begun.stands,
 )

@@ -1,6 +1,7 @@
 use Rattle.std.proofs.Common.{◌≡◌, ◌+◌, ◌-◌, ◌<◌, List, ℕ, drop, false, length, map}
 use Rattle.rustc_lexer.specs.Tokens.{tokens_by}
-use Rattle.rustc_lexer.specs.Edits.{IsMadeOf, MayGoOn, Stands, TakesSteps, is_over}
+use Rattle.rustc_lexer.specs.Edits.{IsMadeOf, MayGoOn, TakesSteps, is_over}
+use Rattle.rustc_lexer.specs.Relexing.{IsUnderWay}
 use Rattle.rustc_lexer.proofs.BulkLemmas.{IsWritten}
 use Rattle.rustc_lexer.proofs.relex.relexing.Relexing.fill.Given as goal
 
@@ -14,8 +15,8 @@ invariant-places g l = record {
   written : IsWritten g.R.Record.written (tokens_by (g.S.Stepper.grammar l.fn.stepper) (drop l.fn.self.at l.text)) l.fn.buffer l.buffer l.count;
   begins : 0 < l.count → is_over l.text l.fn.self ≡ false;
   stands : (before insert : List ℕ) → IsMadeOf (g.S.Stepper.grammar l.fn.stepper) before (map g.T.Measured.bytes l.old) l.change insert l.text
-      → Stands (g.S.Stepper.grammar l.fn.stepper) before l.change l.text l.fn.self
-      → Stands (g.S.Stepper.grammar l.fn.stepper) before l.change l.text l.self;
+      → IsUnderWay (g.S.Stepper.grammar l.fn.stepper) before l.change l.text l.fn.self
+      → IsUnderWay (g.S.Stepper.grammar l.fn.stepper) before l.change l.text l.self;
 }
 
 abbrev pub decreases-places : goal.decreases-places

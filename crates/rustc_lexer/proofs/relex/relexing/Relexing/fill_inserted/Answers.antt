@@ -45,11 +45,12 @@ returns-clause-stands g c = λ before insert is_made stands.
     let at = c.args.self.now in
     let s = stretch law c.utf8.text c.requires.fits c.requires.may_go_on.boundary c.range_from.ensures.value c.fill-count.ensures.filled c.fill-count.ensures.bytes c.requires.places c.requires.before in
     let bytes = c.fill-count.result.1 in
-    let later = below_later law before _ insert _ c.args.change is_made at stands (at.at + bytes) (omega arith) in
-    let to = c.follow-to.ensures.followed (tokens_by first before) is_made.lengths_are stands.back_bound (rw c.damage.ensures (λ n less. let b = later n less in let e = damage_stop c.args.text.now c.args.change c.requires.change in omega arith)) in
+    let later = below_later law before _ insert _ c.args.change is_made at stands.stands (at.at + bytes) (omega arith) in
+    let to = c.follow-to.ensures.followed (tokens_by first before) is_made.lengths_are stands.stands.back_bound (rw c.damage.ensures (λ n less. let b = later n less in let e = damage_stop c.args.text.now c.args.change c.requires.change in omega arith)) in
     let Followed : Damage → Type 0 = λ d. IsFollowed (tokens_by first before) (old_stop_of d) d.past (at.at + bytes) c.follow-to.result.at c.follow-to.result.met in
     let followed = subst (λ n. IsFollowed (tokens_by first before) n c.args.change.new_stop (at.at + bytes) c.follow-to.result.at c.follow-to.result.met) (damage_stop c.args.text.now c.args.change c.requires.change) (subst Followed c.damage.ensures to) in
     let left = c.range_from.ensures.value in
     let filled = subst (λ (xs : List ℕ). IsFilledTo g.R.Record.written (c.args.change.new_stop - at.at) (tokens_by first xs) c.args.buffer.now c.fill-count.new.buffer c.fill-count.result.0) left c.fill-count.ensures.filled in
     let bytes_is = c.fill-count.ensures.bytes ∙ ap (λ (xs : List ℕ). bound (tokens_by first xs) c.fill-count.result.0) left in
-    stands_filled law before _ insert _ c.args.change is_made at stands c.requires.before g.R.Record.written c.args.buffer.now c.fill-count.new.buffer c.fill-count.result.0 bytes c.follow-to.result filled bytes_is s.some followed (λ early. c.follow-to.ensures.stays (rw c.damage.ensures early))
+    let all = stands_filled law before _ insert _ c.args.change is_made at stands.stands c.requires.before g.R.Record.written c.args.buffer.now c.fill-count.new.buffer c.fill-count.result.0 bytes c.follow-to.result filled bytes_is s.some followed (λ early. c.follow-to.ensures.stays (rw c.damage.ensures early)) in
+    (record { stands = all.0 }, all.1)

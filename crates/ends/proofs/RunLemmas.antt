@@ -1,0 +1,32 @@
+-- What a run comes to, by what was read and what was written.
+use Rattle.std.proofs.Common.{◌≡◌, ℕ, ◌^◌, ◌<◌, List, length, Option, Some, None, Result, Ok, Err, Vec, Global, arith}
+use Rattle.std.proofs.lemmas.Grind.{common_steps}
+use Rattle.std.specs.Prelude.{IfSome}
+use Rattle.std.specs.Str.{IsUtf8}
+use Rattle.ends.specs.Reading.{EndsReading}
+use Rattle.ends.specs.Run.{IsInputStop, Makes, Writes}
+use Rattle.ends.specs.Stop.{read_stop}
+use Rattle.ends.specs.declared.reading.ReadStop.{ReadStop}
+use Rattle.ends.specs.declared.stop.Stop.{Stop}
+use Rattle.ends.specs.declared.stop.Stop.TheVariants.{NotUtf8}
+use Rattle.ends.proofs.KnownLemmas.{keeps_same}
+
+pub read_known : (known : Option (List ℕ)) (read : Vec ℕ Global) → EndsReading known (Ok read) → IfSome known (λ bytes. read.items ≡ bytes)
+read_known None read ends = tt
+read_known (Some bytes) read ends = ends
+
+pub unread : (known : Option (List ℕ)) (stop : ReadStop) → EndsReading known (Err stop) → IsInputStop known (read_stop stop)
+unread known stop ends = grind (arith, common_steps)
+
+pub no_text : (known : Option (List ℕ)) (read : Vec ℕ Global) → EndsReading known (Ok read) → length read.items < 2 ^ 32 → ¬ (IsUtf8 read.items) → IsInputStop known NotUtf8
+no_text None read ends fits other = tt
+no_text (Some bytes) read ends fits other = rw (← ends) (fits, other)
+
+module _ (made : List ℕ → List ℕ) (known : Option (List ℕ)) where
+  -- no text was read
+  pub makes_unread : (old : Option (List ℕ)) (stop : Stop) → IsInputStop known stop → IfSome known (λ bytes. Makes made bytes old old (Err stop))
+  makes_unread old stop is = grind (arith, common_steps, keeps_same)
+
+  -- what was made of a text was written
+  pub makes_written : (text : List ℕ) (old new : Option (List ℕ)) (result : Result (Unit {0}) Stop) → IfSome known (λ bytes. text ≡ bytes) → IsUtf8 text → length text < 2 ^ 32 → Writes (made text) old new result → IfSome known (λ bytes. Makes made bytes old new result)
+  makes_written text old new result is utf8 fits writes = grind (arith, common_steps)

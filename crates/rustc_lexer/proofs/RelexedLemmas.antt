@@ -1,0 +1,296 @@
+-- What an edit keeps: there is one answer, and the search for the meeting finds it.
+use Rattle.std.proofs.Common.{◌≡◌, ℕ, zero, suc, ◌+◌, ◌-◌, ◌<◌, ◌≤◌, Bool, true, false, true≢false, cond, ◌&&◌, List, [], ◌∷◌, ◌++◌, length, take, drop, refl, sym, ap, ◌∙◌, subst, arith, length-take, length-take-le, length-drop, take-append-drop, drop_at, leb, ltb, leb-true, le-leb, inl, inr, eq-or-lt_of_le, IsUtf8, IsCharBoundary, length-append}
+use Rattle.std.proofs.lemmas.Bool.{and_parts, cases_Bool, cases_lt}
+use Rattle.std.specs.List.{count_by}
+use Rattle.rustc_lexer.specs.declared.relex.relexing.Relexed.{Relexed}
+use Rattle.rustc_lexer.specs.{Token}
+use Rattle.rustc_lexer.specs.Classes.{IsText}
+use Rattle.rustc_lexer.specs.Edits.{IsEdit, IsMeeting, IsRelexed, apply, ends_from, kept_front}
+use Rattle.rustc_lexer.specs.Locality.{IsGrammar, has_two}
+use Rattle.rustc_lexer.specs.Tokens.{bound, tokens_by}
+use Rattle.rustc_lexer.specs.means.Relexing.{least_from, meet, meets_at, relexed_of}
+use Rattle.rustc_lexer.proofs.BoundLemmas.{bound-last, bound_mono, ends_past-at, is_bound, is_bound-elim, is_bound-intro, least_from_ge, rises}
+use Rattle.rustc_lexer.proofs.EditLemmas.{IsEdited, bound-same, edited, front-none, has_two-before, kept_front_by, kept_front_from, kept_same, met_whole, start_inside}
+use Rattle.rustc_lexer.proofs.FrontLemmas.{bound-shift}
+use Rattle.rustc_lexer.proofs.ReadyLemmas.{cuts}
+
+-- ---- the search for the first number that passes
+
+-- it ends at one that does, if the last one does
+pub least_from-passes : (test : ℕ → Bool) (n k : ℕ) → test (k + n) ≡ true → test (least_from test n k) ≡ true
+least_from-passes test zero k pass = let e : k + 0 ≡ k = omega arith in subst (λ m. test m ≡ true) e pass
+least_from-passes test (suc n) k pass = elim (cases_Bool (test k)) [
+  | inl hit ↦ rw hit hit
+  | inr miss ↦ let same : k + suc n ≡ suc k + n = omega arith in rw miss (least_from-passes test n (suc k) (subst (λ m. test m ≡ true) same pass))
+]
+
+-- and none before it does
+pub least_from-none : (test : ℕ → Bool) (n k i : ℕ) → k ≤ i → i < least_from test n k → test i ≡ false
+least_from-none test zero k i le less = absurd (omega arith)
+least_from-none test (suc n) k i le less = by_test (least_from-none test n (suc k) i) (test k) refl less
+  where
+    by_test : (suc k ≤ i → i < least_from test n (suc k) → test i ≡ false) → (b : Bool) → test k ≡ b → i < cond b k (least_from test n (suc k)) → test i ≡ false
+    by_test ih true e l = absurd (omega arith)
+    by_test ih false e l = elim (eq-or-lt_of_le le) [
+      | inl same ↦ subst (λ m. test m ≡ false) same e
+      | inr more ↦ ih more l
+    ]
+
+pub least_from-le : (test : ℕ → Bool) (n k : ℕ) → least_from test n k ≤ k + n
+least_from-le test zero k = omega arith
+least_from-le test (suc n) k = by_test (least_from-le test n (suc k)) (test k)
+  where
+    by_test : least_from test n (suc k) ≤ suc k + n → (b : Bool) → cond b k (least_from test n (suc k)) ≤ k + suc n
+    by_test ih true = omega arith
+    by_test ih false = omega arith
+
+-- ---- the kept front
+
+-- two characters follow it
+pub front-two : (text : List ℕ) (to from : ℕ) (ts : List Token) → IsUtf8 text → ((k : ℕ) → k ≤ length ts → IsCharBoundary text (from + bound ts k))
+    → (kept_front_from text to from ts ≤ length ts) × (0 < kept_front_from text to from ts → has_two text (from + bound ts (kept_front_from text to from ts)) to ≡ true)
+front-two text to from [] is inside = (omega arith, λ some. absurd (omega arith))
+front-two text to from (t ∷ ts) is inside = by_test (front-two text to (from + t.len) ts is next) (has_two text (from + t.len) to) refl
+  where
+    next : (k : ℕ) → k ≤ length ts → IsCharBoundary text (from + t.len + bound ts k)
+    next k few = let e : from + (t.len + bound ts k) ≡ from + t.len + bound ts k = omega arith in subst (IsCharBoundary text) e (inside (suc k) (omega arith))
+
+    n : ℕ
+    n = kept_front_from text to (from + t.len) ts
+
+    at : (k : ℕ) → from + t.len + bound ts k ≡ from + bound (t ∷ ts) (suc k)
+    at k = omega arith
+
+    later : (m : ℕ) → n ≡ m → has_two text (from + t.len) to ≡ true → (0 < n → has_two text (from + t.len + bound ts n) to ≡ true) → has_two text (from + bound (t ∷ ts) (suc m)) to ≡ true
+    later zero e two more = let here : from + t.len ≡ from + (t.len + 0) = omega arith in subst (λ p. has_two text p to ≡ true) here two
+    later (suc m) e two more = subst (λ p. has_two text p to ≡ true) (at (suc m)) (subst (λ k. has_two text (from + t.len + bound ts k) to ≡ true) e (more (omega arith)))
+
+    by_test : (n ≤ length ts) × (0 < n → has_two text (from + t.len + bound ts n) to ≡ true) → (b : Bool) → has_two text (from + t.len) to ≡ b
+        → (cond b 1 0 + n ≤ suc (length ts)) × (0 < cond b 1 0 + n → has_two text (from + bound (t ∷ ts) (cond b 1 0 + n)) to ≡ true)
+    by_test ih true e =
+        let less = ih.0 in
+        let one : suc n ≡ 1 + n = omega arith in
+        (omega arith, λ some. subst (λ m. has_two text (from + bound (t ∷ ts) m) to ≡ true) one (later n refl e ih.1))
+    by_test ih false e = let none : n ≡ 0 = front-none text to (from + t.len) ts is next e in (omega arith, λ some. absurd (omega arith))
+
+-- ---- an edit
+
+-- `rest` ends both lists, and begins at or past `new_stop`
+pub record IsBack (old new : List Token) (new_stop : ℕ) (old_front new_front rest : List Token) : Type 0 where
+  pub old_is : old ≡ old_front ++ rest
+  pub new_is : new ≡ new_front ++ rest
+  pub past_edit : new_stop ≤ bound new (length new_front)
+
+module _ {first : List ℕ → Token} (law : IsGrammar first) (text : List ℕ) (is : IsText text) (start stop : ℕ) (insert : List ℕ) (its : IsUtf8 insert) (edit : IsEdit text start stop insert) where
+  abbrev new_text : List ℕ
+  new_text = apply text start stop insert
+
+  abbrev old : List Token
+  old = tokens_by first text
+
+  abbrev new : List Token
+  new = tokens_by first new_text
+
+  abbrev new_stop : ℕ
+  new_stop = start + length insert
+
+  abbrev kept : ℕ
+  kept = kept_front text old start
+
+  -- whether the new tokens meet the old ones at a bound
+  abbrev test : ℕ → Bool
+  test = λ m. meets_at old stop new_stop (bound new m)
+
+  ed : IsEdited text start stop insert new_text
+  ed = edited text start stop insert is its edit
+
+  pub kept_two : (kept ≤ length old) × (0 < kept → has_two text (bound old kept) start ≡ true)
+  kept_two =
+      let zero_is : (k : ℕ) → bound old k ≡ 0 + bound old k = λ k. omega arith in
+      let two = subst (λ n. (n ≤ length old) × (0 < n → has_two text (0 + bound old n) start ≡ true)) (sym (kept_front_by text start 0 old))
+      (front-two text start 0 old is.utf8 (λ k few. subst (IsCharBoundary text) (zero_is k) (cuts law text is k few))) in
+      (two.0, λ some. subst (λ p. has_two text p start ≡ true) (sym (zero_is kept)) (two.1 some))
+
+  -- the tokens of the kept front are tokens of the new text
+  pub front_same : take kept new ≡ take kept old
+  front_same = kept_same law text start stop insert new_text is edit ed kept kept_two.0 kept_two.1
+
+  pub kept_new : kept ≤ length new
+  kept_new = let few = kept_two.0 in let long : length (take kept new) ≡ length (take kept old) = ap length front_same in omega (arith, length-take kept new, length-take kept old)
+
+  -- both ends meet
+  end_passes : test (kept + (length new - kept)) ≡ true
+  end_passes =
+      let few = kept_new in
+      let order = edit.inside.start_le_stop in
+      let within = edit.inside.stop_inside in
+      let all : kept + (length new - kept) ≡ length new = omega arith in
+      let last : bound new (length new) ≡ length new_text = bound-last law new_text ed.text_is in
+      let inside = start_inside law text start stop insert new_text is edit ed in
+      let past : new_stop ≤ bound new (length new) = omega arith in
+      let len = ed.len in
+      let there : bound old (length old) ≡ bound new (length new) - new_stop + stop = omega (arith, bound-last law text is) in
+      subst (λ m. test m ≡ true) (sym all) (
+      ap (λ (b : Bool). b && is_bound old (bound new (length new) - new_stop + stop)) (le-leb new_stop (bound new (length new)) past)
+      ∙ is_bound-intro old (length old) (bound new (length new) - new_stop + stop) there)
+
+  -- a meeting passes the test
+  pub meeting-passes : (number back : ℕ) → IsMeeting old new stop new_stop number back → test number ≡ true
+  meeting-passes number back m =
+      let past = m.past_edit in
+      let same = m.same_place in
+      let there : bound old m.old_number ≡ bound new number - new_stop + stop = omega arith in
+      ap (λ (b : Bool). b && is_bound old (bound new number - new_stop + stop)) (le-leb new_stop (bound new number) past)
+      ∙ is_bound-intro old m.old_number (bound new number - new_stop + stop) there
+
+  -- and what passes it is one
+  pub passes-meeting : (number : ℕ) → number ≤ length new → test number ≡ true
+      → (i : ℕ) × (i ≤ length old) × (new_stop ≤ bound new number) × (bound old i ≡ bound new number - new_stop + stop)
+  passes-meeting number few hit =
+      let both = and_parts (leb new_stop (bound new number)) (is_bound old (bound new number - new_stop + stop)) hit in
+      let at = is_bound-elim old (bound new number - new_stop + stop) both.1 in
+      (at.0, at.1, leb-true new_stop (bound new number) both.0, at.2)
+
+  -- what the search finds is what an edit keeps
+  pub relexed_is : IsRelexed first text start stop insert (relexed_of first text start stop insert)
+  unfolding relexed_of meet
+  relexed_is =
+      let j : ℕ = least_from test (length new - kept) kept in
+      let few : j ≤ length new = (let le = least_from-le test (length new - kept) kept in omega (arith, kept_new)) in
+      let more : kept ≤ j = least_from_ge test (length new - kept) kept in
+      let here : kept + (j - kept) ≡ j = omega arith in
+      let at = passes-meeting j few (least_from-passes test (length new - kept) kept end_passes) in
+      let past = at.2 in
+      let there = at.3 in
+      let back : count_by (ltb (bound new j - new_stop + stop)) (ends_from 0 old) ≡ length old - at.0 = ap (λ p. count_by (ltb p) (ends_from 0 old)) (sym there) ∙ ends_past-at old at.0 at.1 (rises law text is) in
+      let meets : IsMeeting old new stop new_stop j (count_by (ltb (bound new j - new_stop + stop)) (ends_from 0 old)) = record {
+        number_inside = few;
+        past_edit = past;
+        old_number = at.0;
+        back_is = (let i = at.1 in omega (arith, back));
+        same_place = omega arith;
+      } in
+      record {
+        front = refl;
+        meeting = subst (λ n. IsMeeting old new stop new_stop n (count_by (ltb (bound new j - new_stop + stop)) (ends_from 0 old))) (sym here) meets;
+        none_before = λ number back le less m. true≢false (sym (meeting-passes number back m) ∙ least_from-none test (length new - kept) kept number le (omega arith));
+      }
+
+  -- bounds of the old text that stand at one place are one
+  same_bound : (i i' : ℕ) → i ≤ length old → i' ≤ length old → bound old i ≡ bound old i' → i ≡ i'
+  same_bound i i' few few' e = elim (cases_lt i i') [
+    | inl less ↦ absurd (omega (arith, rises law text is i (omega arith), bound_mono old (suc i) i' (omega arith), e))
+    | inr not ↦ elim (cases_lt i' i) [
+      | inl less ↦ absurd (omega (arith, rises law text is i' (omega arith), bound_mono old (suc i') i (omega arith), e))
+      | inr none ↦ omega arith
+    ]
+  ]
+
+  -- there is one answer
+  pub relexed_only : (r r' : Relexed) → IsRelexed first text start stop insert r → IsRelexed first text start stop insert r' → r ≡ r'
+  relexed_only r r' a b = λ i. record { kept_front = fronts i; lexed = lexed i; kept_back = backs i }
+    where
+      fronts : r.kept_front ≡ r'.kept_front
+      fronts = a.front ∙ sym b.front
+
+      lexed : r.lexed ≡ r'.lexed
+      lexed = elim (cases_lt r.lexed r'.lexed) [
+        | inl less ↦ absurd (b.none_before (r.kept_front + r.lexed) r.kept_back (omega (arith, fronts)) (omega (arith, fronts)) a.meeting)
+        | inr not ↦ elim (cases_lt r'.lexed r.lexed) [
+          | inl less ↦ absurd (a.none_before (r'.kept_front + r'.lexed) r'.kept_back (omega (arith, fronts)) (omega (arith, fronts)) b.meeting)
+          | inr none ↦ omega arith
+        ]
+      ]
+
+      place : bound new (r.kept_front + r.lexed) ≡ bound new (r'.kept_front + r'.lexed)
+      place = let e : r.kept_front + r.lexed ≡ r'.kept_front + r'.lexed = omega (arith, fronts, lexed) in ap (bound new) e
+
+      numbers : a.meeting.old_number ≡ b.meeting.old_number
+      numbers =
+          let p = a.meeting.same_place in
+          let q = b.meeting.same_place in
+          same_bound a.meeting.old_number b.meeting.old_number (omega (arith, a.meeting.back_is)) (omega (arith, b.meeting.back_is)) (omega (arith, place))
+
+      backs : r.kept_back ≡ r'.kept_back
+      backs = omega (arith, a.meeting.back_is, b.meeting.back_is, numbers)
+
+  -- so it is what the search finds
+  pub relexed_found : (r : Relexed) → IsRelexed first text start stop insert r → r ≡ relexed_of first text start stop insert
+  relexed_found r a = relexed_only r (relexed_of first text start stop insert) a relexed_is
+
+  -- the same by the lists alone: what is kept at the back is the longest list that ends both of them and begins at or past
+  -- the edit's end
+  end_of_front : (ts front rest : List Token) → ts ≡ front ++ rest → bound ts (length ts) ≡ bound ts (length front) + bound rest (length rest)
+  end_of_front ts front rest e =
+      let long : length ts ≡ length front + length rest = ap length e ∙ length-append front rest in
+      let left : drop (length front) ts ≡ rest = ap (drop (length front)) e ∙ drop_at front rest (length front) refl in
+      ap (bound ts) long ∙ (bound-shift ts (length front) (length rest) ∙ ap (λ (xs : List Token). bound ts (length front) + bound xs (length rest)) left)
+
+  back_number : (old_front new_front rest : List Token) → IsBack old new new_stop old_front new_front rest → length old_front + length rest ≡ length old
+  back_number old_front new_front rest back = sym (ap length back.old_is ∙ length-append old_front rest)
+
+  back_place : (old_front new_front rest : List Token) → IsBack old new new_stop old_front new_front rest → bound new (length new_front) + stop ≡ bound old (length old_front) + new_stop
+  back_place old_front new_front rest back =
+      let olds = end_of_front old old_front rest back.old_is in
+      let news = end_of_front new new_front rest back.new_is in
+      let order = edit.inside.start_le_stop in
+      let len = ed.len in
+      omega (arith, olds, news, bound-last law text is, bound-last law new_text ed.text_is)
+
+  back_meets : (old_front new_front rest : List Token) → IsBack old new new_stop old_front new_front rest → IsMeeting old new stop new_stop (length new_front) (length rest)
+  back_meets old_front new_front rest back =
+      let long : length new ≡ length new_front + length rest = ap length back.new_is ∙ length-append new_front rest in
+      record {
+        number_inside = omega arith;
+        past_edit = back.past_edit;
+        old_number = length old_front;
+        back_is = back_number old_front new_front rest back;
+        same_place = back_place old_front new_front rest back;
+      }
+
+  -- the kept front is before the edit
+  front_before : (number : ℕ) → new_stop ≤ bound new number → kept ≤ number
+  front_before number past = elim (cases_lt number kept) [
+    | inr not ↦ omega arith
+    | inl less ↦ absurd (
+        let early : bound old kept < start = has_two-before text (bound old kept) start (kept_two.1 (omega arith)) in
+        let same : bound new kept ≡ bound old kept = bound-same kept new old front_same in
+        omega (arith, bound_mono new number kept (omega arith)))
+  ]
+
+  pub back_longest : (r : Relexed) (old_front new_front rest : List Token) → IsRelexed first text start stop insert r → IsBack old new new_stop old_front new_front rest → length rest ≤ r.kept_back
+  back_longest r old_front new_front rest a back =
+      let other = back_meets old_front new_front rest back in
+      let m = a.meeting in
+      let far : r.kept_front + r.lexed ≤ length new_front = elim (cases_lt (length new_front) (r.kept_front + r.lexed)) [
+        | inl less ↦ absurd (a.none_before (length new_front) (length rest) (omega (arith, front_before (length new_front) back.past_edit, a.front)) less other)
+        | inr not ↦ omega arith
+      ] in
+      elim (cases_lt r.kept_back (length rest)) [
+        | inr not ↦ omega arith
+        | inl more ↦ absurd (
+            let here = m.back_is in
+            let there = back_number old_front new_front rest back in
+            let p = m.same_place in
+            let q = back_place old_front new_front rest back in
+            let up = bound_mono new (r.kept_front + r.lexed) (length new_front) far in
+            let less : length old_front < m.old_number = omega arith in
+            omega (arith, p, q, up, rises law text is (length old_front) (omega arith), bound_mono old (suc (length old_front)) m.old_number less))
+      ]
+
+  pub back_kept : (r : Relexed) (a : IsRelexed first text start stop insert r) → IsBack old new new_stop (take a.meeting.old_number old) (take (r.kept_front + r.lexed) new) (drop a.meeting.old_number old) × (length (drop a.meeting.old_number old) ≡ r.kept_back)
+  back_kept r a =
+      let m = a.meeting in
+      let j : ℕ = r.kept_front + r.lexed in
+      let past : new_stop ≤ bound new j = m.past_edit in
+      let place = m.same_place in
+      let many = m.back_is in
+      let there : bound old m.old_number ≡ bound new j - new_stop + stop = omega arith in
+      let long : length (take j new) ≡ j = length-take-le j new m.number_inside in (
+        record {
+          old_is = sym (take-append-drop m.old_number old);
+          new_is = sym (met_whole law text start stop insert new_text is edit ed j m.old_number past there);
+          past_edit = omega (arith, ap (bound new) long);
+        },
+        omega (arith, length-drop m.old_number old),
+      )

@@ -1,0 +1,199 @@
+//! Readers and writers that move a part, are interrupted or fail, and what is kept where memory is refused.
+
+use rattle_std::alloc::AllocError;
+use rattle_std::io::{Error, ErrorKind, Read, Result, Write};
+use rattle_std::prelude::{AllocGlobal, String, Vec};
+use rattle_std::rt;
+use std::alloc::{GlobalAlloc, Layout, System};
+use std::cell::Cell;
+
+thread_local! {
+    /// Whether requests of this thread are given.
+    static GIVEN: Cell<bool> = const { Cell::new(true) };
+}
+
+/// The allocator of the system, which refuses what is not given.
+struct Refusing;
+
+// SAFETY: each call is that of the system's allocator, or answers null, which says that it was refused.
+unsafe impl GlobalAlloc for Refusing {
+    unsafe fn alloc(&self, layout: Layout) -> *mut u8 {
+        if GIVEN.get() {
+            unsafe { System.alloc(layout) }
+        } else {
+            std::ptr::null_mut()
+        }
+    }
+
+    unsafe fn dealloc(&self, at: *mut u8, layout: Layout) {
+        unsafe { System.dealloc(at, layout) }
+    }
+
+    unsafe fn realloc(&self, at: *mut u8, layout: Layout, size: usize) -> *mut u8 {
+        if GIVEN.get() {
+            unsafe { System.realloc(at, layout, size) }
+        } else {
+            std::ptr::null_mut()
+        }
+    }
+}
+
+#[global_allocator]
+static ALLOCATOR: Refusing = Refusing;
+
+fn refused<T>(call: impl FnOnce() -> T) -> T {
+    GIVEN.set(false);
+    let answer = call();
+    GIVEN.set(true);
+    answer
+}
+
+/// An end that moves so many bytes in each call, and is interrupted before every second one.
+struct Slow {
+    bytes: std::vec::Vec<u8>,
+    moved: usize,
+    most: usize,
+    calls: usize,
+    /// At this call it fails.
+    fails: usize,
+}
+
+impl Slow {
+    fn new(bytes: std::vec::Vec<u8>, most: usize, fails: usize) -> Slow {
+        Slow {
+            bytes,
+            moved: 0,
+            most,
+            calls: 0,
+            fails,
+        }
+    }
+
+    fn call(&mut self) -> Result<()> {
+        self.calls += 1;
+        if self.calls == self.fails {
+            Err(Error::from(ErrorKind::BrokenPipe))
+        } else if self.calls % 2 == 1 {
+            Err(Error::from(ErrorKind::Interrupted))
+        } else {
+            Ok(())
+        }
+    }
+}
+
+impl Read for Slow {
+    fn read(&mut self, buf: &mut [u8]) -> Result<usize> {
+        self.call()?;
+        let left = &self.bytes[self.moved..];
+        let count = left.len().min(buf.len()).min(self.most);
+        buf[..count].copy_from_slice(&left[..count]);
+        self.moved += count;
+        Ok(count)
+    }
+}
+
+impl Write for Slow {
+    fn write(&mut self, buf: &[u8]) -> Result<usize> {
+        self.call()?;
+        let count = buf.len().min(self.most);
+        self.bytes.extend_from_slice(&buf[..count]);
+        Ok(count)
+    }
+
+    fn flush(&mut self) -> Result<()> {
+        Ok(())
+    }
+}
+
+const LENGTHS: [usize; 12] = [
+    0, 1, 2, 4095, 4096, 4097, 8192, 65535, 65536, 65537, 70_000, 200_000,
+];
+
+fn bytes(len: usize) -> std::vec::Vec<u8> {
+    (0..len).map(|n| (n % 251) as u8).collect()
+}
+
+#[test]
+fn all_bytes_are_written() {
+    for len in LENGTHS {
+        for most in [7, 4096, 65536, usize::MAX] {
+            let mut end = Slow::new(std::vec::Vec::new(), most, 0);
+            end.write_all(&bytes(len)).unwrap();
+            assert!(end.bytes == bytes(len), "{len} bytes, {most} a call");
+        }
+    }
+    let mut none = Slow::new(std::vec::Vec::new(), 0, 0);
+    let error = none.write_all(b"a").unwrap_err();
+    assert_eq!(error.kind(), ErrorKind::WriteZero);
+    assert!(none.write_all(b"").is_ok());
+    let mut fails = Slow::new(std::vec::Vec::new(), 2, 4);
+    let error = fails.write_all(b"abcd").unwrap_err();
+    assert_eq!(
+        (error.kind(), &fails.bytes[..]),
+        (ErrorKind::BrokenPipe, &b"ab"[..])
+    );
+}
+
+/// A read that gives less than there is room for is not the last one: only one that gives nothing is.
+#[test]
+fn all_bytes_are_read() {
+    let rt = rt::start();
+    for len in LENGTHS {
+        for most in [7, 4096, 65536, usize::MAX] {
+            let mut end = Slow::new(bytes(len), most, 0);
+            let mut read = Vec::new(AllocGlobal::alloc(&rt));
+            read.extend_from_slice(b"front").unwrap();
+            assert_eq!(end.read_to_end(&mut read).unwrap(), len);
+            assert!(
+                read[..5] == *b"front" && read[5..] == bytes(len),
+                "{len} bytes"
+            );
+        }
+    }
+    let mut fails = Slow::new(bytes(9), 2, 5);
+    let mut read = Vec::new(rt.alloc());
+    let error = fails.read_to_end(&mut read).unwrap_err();
+    assert_eq!(
+        (error.kind(), read.as_slice()),
+        (ErrorKind::BrokenPipe, &[0, 1, 2, 3][..])
+    );
+    let mut end = Slow::new(bytes(9), 9, 0);
+    let mut read = Vec::new(rt.alloc());
+    let error = refused(|| end.read_to_end(&mut read)).unwrap_err();
+    assert_eq!((error.kind(), read.len()), (ErrorKind::OutOfMemory, 0));
+}
+
+#[test]
+fn texts_in_new_memory() {
+    let rt = rt::start();
+    let text = rattle_std::format!(in rt.alloc(); "{} of {}", 1, "two").unwrap();
+    assert_eq!(text.as_str(), "1 of two");
+    let answer = refused(|| rattle_std::format!(in rt.alloc(); "{}", 1));
+    assert_eq!(answer.err(), Some(AllocError));
+    assert_eq!(
+        rattle_std::format!(in rt.alloc(); "").ok(),
+        Some(String::new(rt.alloc()))
+    );
+}
+
+/// What this process is, by Rust's own calls.
+#[test]
+fn the_process() {
+    let rt = rt::start();
+    assert_eq!(rattle_std::process::id(rt.process()), std::process::id());
+    let words: std::vec::Vec<_> = rattle_std::env::args(&rt).unwrap().collect();
+    let wanted: std::vec::Vec<_> = std::env::args().collect();
+    assert!(
+        words
+            .iter()
+            .map(|word| word.as_str())
+            .eq(wanted.iter().map(|word| &word[..]))
+    );
+    let path = std::env::var("PATH").unwrap();
+    assert_eq!(
+        rattle_std::env::var(&rt, "PATH").ok().as_deref(),
+        Some(&path[..])
+    );
+    let unset = rattle_std::env::var(&rt, "a variable that is not set");
+    assert!(matches!(unset, Err(rattle_std::env::VarError::NotPresent)));
+}

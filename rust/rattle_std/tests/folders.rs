@@ -1,0 +1,143 @@
+//! Files and folders: names as they are, and the errors of the system.
+#![cfg(unix)]
+
+use rattle_std::fs::{self, File, OpenFile};
+use rattle_std::io::{ErrorKind, Read, Write};
+use rattle_std::path::AsPath;
+use rattle_std::prelude::{HostRuntime, Vec};
+use rattle_std::rt;
+use std::os::unix::ffi::OsStrExt;
+use std::os::unix::fs::PermissionsExt;
+use std::path::PathBuf;
+
+/// A new folder of this test, which is removed at the end.
+struct Folder(PathBuf);
+
+impl Folder {
+    fn new(name: &str) -> Folder {
+        let path = std::env::temp_dir().join(format!("rattle_std-{name}-{}", std::process::id()));
+        std::fs::create_dir(&path).unwrap();
+        Folder(path)
+    }
+
+    fn at(&self, name: &str) -> String {
+        self.0.join(name).into_os_string().into_string().unwrap()
+    }
+}
+
+impl Drop for Folder {
+    fn drop(&mut self) {
+        let _ = std::fs::remove_dir_all(&self.0);
+    }
+}
+
+/// The names of a folder with what each is, or the kind of the error.
+fn entries(
+    rt: &HostRuntime,
+    path: &str,
+) -> std::vec::Vec<Result<(String, &'static str), ErrorKind>> {
+    let mut found: std::vec::Vec<_> = fs::read_dir(rt, path)
+        .unwrap()
+        .map(|entry| {
+            let entry = entry.map_err(|error| error.kind())?;
+            let name = entry.file_name().to_string();
+            assert_eq!(entry.path().path_text(), format!("{path}/{name}"));
+            let what = entry.file_type().unwrap();
+            let told = match (what.is_dir(), what.is_file(), what.is_symlink()) {
+                (true, false, false) => "folder",
+                (false, true, false) => "file",
+                (false, false, true) => "link",
+                _ => "other",
+            };
+            Ok((name, told))
+        })
+        .collect();
+    found.sort_by_key(|entry| format!("{entry:?}"));
+    found
+}
+
+/// A name keeps its capitals, and a link is none of what it leads to.
+#[test]
+fn names_of_a_folder() {
+    let rt = rt::start();
+    let folder = Folder::new("names");
+    for name in ["A.RS", "a b.rs", ".hidden.rs", "é.rs"] {
+        std::fs::write(folder.at(name), "").unwrap();
+    }
+    std::fs::create_dir(folder.at("TARGET")).unwrap();
+    std::os::unix::fs::symlink("TARGET", folder.at("link")).unwrap();
+    let wanted = [
+        (".hidden.rs", "file"),
+        ("A.RS", "file"),
+        ("TARGET", "folder"),
+        ("a b.rs", "file"),
+        ("link", "link"),
+        ("é.rs", "file"),
+    ];
+    let wanted = wanted.map(|(name, told)| Ok((name.to_string(), told)));
+    assert_eq!(
+        entries(&rt, &folder.at("")[..folder.at("").len() - 1]),
+        wanted
+    );
+    assert!(
+        fs::metadata(&rt, folder.at("link").as_str())
+            .unwrap()
+            .is_dir()
+    );
+    let real = std::fs::canonicalize(folder.at("TARGET")).unwrap();
+    let found = fs::canonicalize(&rt, folder.at("link").as_str()).unwrap();
+    assert_eq!(found.path_text(), real.to_str().unwrap());
+}
+
+#[test]
+fn a_name_that_is_no_text() {
+    let rt = rt::start();
+    let folder = Folder::new("no-text");
+    let path = folder.0.join(std::ffi::OsStr::from_bytes(b"a\xff.rs"));
+    // Some systems have no such names.
+    if std::fs::write(&path, "").is_ok() {
+        let found = entries(&rt, folder.0.to_str().unwrap());
+        assert_eq!(found, [Err(ErrorKind::InvalidFilename)]);
+    }
+}
+
+#[test]
+fn files() {
+    let rt = rt::start();
+    let folder = Folder::new("files");
+    let (first, second) = (folder.at("first"), folder.at("second"));
+    let mut file = File::create_new(&rt, first.as_str()).unwrap();
+    file.write_all(b"text").unwrap();
+    file.flush().unwrap();
+    file.set_permissions(std::fs::Permissions::from_mode(0o640))
+        .unwrap();
+    file.sync_all().unwrap();
+    assert_eq!(std::fs::read(&first).unwrap(), b"text");
+    let mode = fs::metadata(&rt, first.as_str())
+        .unwrap()
+        .permissions()
+        .mode();
+    assert_eq!(mode & 0o777, 0o640);
+    let there = File::create_new(&rt, first.as_str()).err();
+    assert_eq!(
+        there.map(|error| error.kind()),
+        Some(ErrorKind::AlreadyExists)
+    );
+    std::fs::write(&second, "replaced").unwrap();
+    fs::rename(&rt, first.as_str(), second.as_str()).unwrap();
+    let mut bytes = Vec::new(rt.alloc());
+    let mut file = File::open(&rt, second.as_str()).unwrap();
+    assert_eq!(file.read_to_end(&mut bytes).unwrap(), 4);
+    assert_eq!(bytes.as_slice(), b"text");
+    fs::remove_file(&rt, second.as_str()).unwrap();
+    for missing in [
+        File::open(&rt, first.as_str()).err(),
+        fs::metadata(&rt, second.as_str()).err(),
+        fs::canonicalize(&rt, second.as_str()).err(),
+        fs::remove_file(&rt, second.as_str()).err(),
+        fs::rename(&rt, first.as_str(), second.as_str()).err(),
+        fs::read_dir(&rt, first.as_str()).err(),
+    ] {
+        assert_eq!(missing.map(|error| error.kind()), Some(ErrorKind::NotFound));
+    }
+}

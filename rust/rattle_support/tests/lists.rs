@@ -1,0 +1,181 @@
+//! Lists and texts beside Rust's own, and with each request for memory refused: then an error, and nothing changed.
+#![cfg(feature = "alloc")]
+
+use rattle_support::{AllocError, Global, String, Vec};
+use std::alloc::{GlobalAlloc, Layout, System};
+use std::cell::Cell;
+use std::fmt::Write;
+
+thread_local! {
+    /// Whether requests of this thread are given.
+    static GIVEN: Cell<bool> = const { Cell::new(true) };
+}
+
+/// The allocator of the system, which refuses what is not given.
+struct Refusing;
+
+// SAFETY: each call is that of the system's allocator, or answers null, which says that it was refused.
+unsafe impl GlobalAlloc for Refusing {
+    unsafe fn alloc(&self, layout: Layout) -> *mut u8 {
+        if GIVEN.get() {
+            unsafe { System.alloc(layout) }
+        } else {
+            std::ptr::null_mut()
+        }
+    }
+
+    unsafe fn dealloc(&self, at: *mut u8, layout: Layout) {
+        unsafe { System.dealloc(at, layout) }
+    }
+
+    unsafe fn realloc(&self, at: *mut u8, layout: Layout, size: usize) -> *mut u8 {
+        if GIVEN.get() {
+            unsafe { System.realloc(at, layout, size) }
+        } else {
+            std::ptr::null_mut()
+        }
+    }
+}
+
+#[global_allocator]
+static ALLOCATOR: Refusing = Refusing;
+
+fn refused<T>(call: impl FnOnce() -> T) -> T {
+    GIVEN.set(false);
+    let answer = call();
+    GIVEN.set(true);
+    answer
+}
+
+fn text(text: &str) -> String {
+    String::from_str(Global, text).unwrap()
+}
+
+type OnText = fn(&mut String) -> Result<(), AllocError>;
+
+/// Calls on `aéb`, and what each makes of it where memory is given.
+const ON_TEXTS: [(OnText, &str); 9] = [
+    (|text| text.push('é'), "aébé"),
+    (|text| text.push_str("a longer text"), "aéba longer text"),
+    (
+        |text| text.write_fmt(format_args!("{}{}", 12, "cd")),
+        "aéb12cd",
+    ),
+    (
+        |text| Write::write_str(text, "xyz").map_err(|_| AllocError),
+        "aébxyz",
+    ),
+    (
+        |text| text.replace_range(0..3, "a longer text"),
+        "a longer textb",
+    ),
+    (|text| text.replace_range(4..4, "12345678"), "aéb12345678"),
+    (|text| text.reserve(1000), "aéb"),
+    (|text| text.push_str(""), "aéb"),
+    (|text| text.replace_range(1..3, ""), "ab"),
+];
+
+#[test]
+fn texts() {
+    for (number, (call, wanted)) in ON_TEXTS.into_iter().enumerate() {
+        let mut held = text("aéb");
+        assert_eq!(call(&mut held), Ok(()), "call {number}");
+        assert_eq!(held.as_str(), wanted, "call {number}");
+        // The room is full, so each that appends has to ask for more.
+        let mut held = text("aéb");
+        let takes_none = number >= 7;
+        let answer = refused(|| call(&mut held));
+        assert_eq!(answer.is_ok(), takes_none, "call {number}");
+        let stays = if takes_none { wanted } else { "aéb" };
+        assert_eq!(held.as_str(), stays, "call {number}");
+    }
+    assert_eq!(refused(|| String::from_str(Global, "a")), Err(AllocError));
+    assert_eq!(
+        refused(|| String::from_str(Global, "")),
+        Ok(String::new(Global))
+    );
+    let mut held = text("aéb");
+    held.truncate(3);
+    assert_eq!(
+        (held.as_str(), held.to_string()),
+        ("aé", std::string::String::from("aé"))
+    );
+    assert_eq!(std::string::String::from(held), "aé");
+    assert_eq!(&*text("aé").into_bytes(), "aé".as_bytes());
+    let mut bytes = Vec::new(Global);
+    bytes.extend_from_slice(b"a\xff").unwrap();
+    assert_eq!(
+        String::from_utf8(bytes.clone()).unwrap_err().valid_up_to(),
+        1
+    );
+    bytes.truncate(1);
+    assert_eq!(String::from_utf8(bytes).unwrap().as_str(), "a");
+}
+
+type OnList = fn(&mut Vec<u8>) -> Result<(), AllocError>;
+
+/// Calls on 1, 2, 2 and what each makes of it where memory is given.
+const ON_LISTS: [(OnList, &[u8]); 5] = [
+    (|list| list.push(3), &[1, 2, 2, 3]),
+    (
+        |list| list.extend_from_slice(&[3; 9]),
+        &[1, 2, 2, 3, 3, 3, 3, 3, 3, 3, 3, 3],
+    ),
+    (|list| list.resize(9, 4), &[1, 2, 2, 4, 4, 4, 4, 4, 4]),
+    (|list| list.resize(2, 4), &[1, 2]),
+    (|list| list.extend_from_slice(&[]), &[1, 2, 2]),
+];
+
+fn list() -> Vec<u8> {
+    let mut list = Vec::new(Global);
+    list.extend_from_slice(&[1, 2, 2]).unwrap();
+    list
+}
+
+#[test]
+fn lists() {
+    for (number, (call, wanted)) in ON_LISTS.into_iter().enumerate() {
+        let mut held = list();
+        assert_eq!(call(&mut held), Ok(()), "call {number}");
+        assert_eq!(held.as_slice(), wanted, "call {number}");
+        // As many as there is room for are there.
+        let mut held = list();
+        while refused(|| held.push(2)).is_ok() {}
+        let full = held.clone();
+        let takes_none = number >= 3;
+        assert_eq!(
+            refused(|| call(&mut held)).is_ok() || number == 2,
+            takes_none || number == 2
+        );
+        assert!(takes_none || number == 2 || held == full, "call {number}");
+    }
+    let mut held = list();
+    held.as_mut_slice()[0] = 7;
+    assert_eq!((held.pop(), held.as_slice()), (Some(2), &[7, 2][..]));
+    held.push(2).unwrap();
+    held.dedup();
+    assert_eq!(held.as_slice(), [7, 2]);
+    assert!((&held).into_iter().copied().eq([7, 2]) && held.clone().into_iter().eq([7, 2]));
+    held.truncate(0);
+    assert_eq!((held.pop(), held.len()), (None, 0));
+    let mut full = Vec::new(Global);
+    assert_eq!(refused(|| full.resize(1, 0u8)), Err(AllocError));
+    assert_eq!(full.len(), 0);
+}
+
+/// Texts are in the order of their bytes: capitals stand before small letters, and those before what is not in ASCII.
+#[test]
+fn sorted_texts() {
+    let mut texts = Vec::new(Global);
+    for name in ["b", "é", "a.rs", "B", "", "A.RS", "a", "Z", "a/b"] {
+        texts.push(text(name)).unwrap();
+    }
+    texts.sort().unwrap();
+    let names: std::vec::Vec<&str> = texts.iter().map(|text| text.as_str()).collect();
+    assert_eq!(names, ["", "A.RS", "B", "Z", "a", "a.rs", "a/b", "b", "é"]);
+}
+
+#[test]
+fn an_error_says_so() {
+    assert_eq!(AllocError.to_string(), "memory was refused");
+}

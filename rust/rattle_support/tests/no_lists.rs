@@ -1,0 +1,34 @@
+//! Lists and texts where there is no allocator: what takes memory is refused, and what takes none is not.
+#![cfg(not(feature = "alloc"))]
+
+use core::fmt::Write;
+use rattle_support::{AllocError, Global, String, Vec};
+
+#[test]
+fn each_request_is_refused() {
+    let mut list: Vec<u8> = Vec::new(Global);
+    assert_eq!(list.push(1), Err(AllocError));
+    assert_eq!(list.extend_from_slice(&[1]), Err(AllocError));
+    assert_eq!(list.resize(1, 1), Err(AllocError));
+    assert_eq!(
+        (list.extend_from_slice(&[]), list.resize(0, 1)),
+        (Ok(()), Ok(()))
+    );
+    list.truncate(0);
+    assert!(list.as_slice().is_empty() && list.as_mut_slice().is_empty() && list.is_empty());
+    let mut text = String::new(Global);
+    assert_eq!(String::from_str(Global, "a"), Err(AllocError));
+    assert_eq!(String::from_str(Global, ""), Ok(String::new(Global)));
+    assert_eq!(
+        (text.push('a'), text.reserve(1)),
+        (Err(AllocError), Err(AllocError))
+    );
+    assert_eq!(text.replace_range(0..0, "a"), Err(AllocError));
+    assert_eq!(
+        (text.replace_range(0..0, ""), text.reserve(0)),
+        (Ok(()), Ok(()))
+    );
+    assert!(text.write_str("a").is_err() && text.write_str("").is_ok());
+    text.truncate(0);
+    assert_eq!((text.as_str(), &*text), ("", ""));
+}

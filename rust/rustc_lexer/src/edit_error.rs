@@ -1,0 +1,63 @@
+//! Why a text that is kept with its tokens could not be made or edited.
+
+use crate::AllocError;
+use core::error::Error;
+use core::fmt;
+
+/// Why an edit was refused, or a text, which is put into the empty one. Text and tokens are then as they were.
+///
+/// ```
+/// use rustc_lexer::{EditError, LexedText};
+///
+/// let mut lexed = LexedText::new("é");
+/// assert_eq!(lexed.try_edit(1..2, ""), Err(EditError::Range));
+/// assert_eq!(lexed.text(), "é");
+/// ```
+#[derive(Clone, Copy, Debug, PartialEq, Eq, Hash)]
+pub enum EditError {
+    /// The range is not inside the text, or one of its ends is not between characters.
+    Range,
+    /// The text has, or would have, more than `u32::MAX` bytes.
+    TooLong,
+    /// Memory was refused.
+    Memory,
+}
+
+impl fmt::Display for EditError {
+    fn fmt(&self, f: &mut fmt::Formatter<'_>) -> fmt::Result {
+        f.write_str(match self {
+            EditError::Range => "the range has to be inside the text, between characters",
+            EditError::TooLong => "the text has more than u32::MAX bytes",
+            EditError::Memory => "memory was refused",
+        })
+    }
+}
+
+impl Error for EditError {}
+
+impl From<AllocError> for EditError {
+    fn from(_: AllocError) -> EditError {
+        EditError::Memory
+    }
+}
+
+/// The text, or that it does not fit.
+pub(crate) fn short(text: &str) -> Result<&str, EditError> {
+    if crate::fits(text) {
+        Ok(text)
+    } else {
+        Err(EditError::TooLong)
+    }
+}
+
+/// Why an edit with this text is not accepted, if it is not.
+pub(crate) fn accepted(accepts: impl Fn(&str) -> bool, insert: &str) -> Result<(), EditError> {
+    if accepts(insert) {
+        Ok(())
+    } else if accepts("") {
+        // Nothing in the place of the range makes no text longer, so the range is good.
+        Err(EditError::TooLong)
+    } else {
+        Err(EditError::Range)
+    }
+}

@@ -1,0 +1,123 @@
+//! A text of more than `u32::MAX` bytes: each call that takes a text says that it is too long, in a release, too.
+#![cfg(target_pointer_width = "64")]
+
+use rustc_lexer::{
+    Cursor, Edition, FrontmatterAllowed, fits, settled, strip_shebang, tokenize, tokenize_as,
+    tokenize_document, tokenize_in, validate_raw_str,
+};
+#[cfg(feature = "alloc")]
+use rustc_lexer::{Edit, EditError, EditStop, LexedDocument, LexedText, Steps};
+use std::panic::catch_unwind;
+use std::sync::LazyLock;
+
+/// So many bytes that are 0, which the system gives without a look at them.
+static ZEROS: LazyLock<Vec<u8>> = LazyLock::new(|| vec![0; 1 << 32]);
+
+fn too_long() -> &'static str {
+    // SAFETY: U+0000 is one byte that is 0.
+    unsafe { std::str::from_utf8_unchecked(&ZEROS) }
+}
+
+type Call = fn(&'static str);
+
+/// What the call says where it panics.
+fn said(call: Call, text: &'static str) -> Option<String> {
+    let said = catch_unwind(|| call(text)).err()?;
+    let words = said.downcast_ref::<&str>().map(|words| words.to_string());
+    words.or_else(|| said.downcast_ref::<String>().cloned())
+}
+
+fn all_say_so(calls: &[(&str, Call)]) {
+    for (name, call) in calls {
+        let said = said(*call, too_long());
+        let wanted = Some("the text has more than u32::MAX bytes");
+        assert_eq!(said.as_deref(), wanted, "{name}");
+    }
+}
+
+#[test]
+fn calls_that_take_a_text() {
+    assert!(fits(&too_long()[1..]) && !fits(too_long()));
+    all_say_so(&[
+        ("tokenize", |text| {
+            let _ = tokenize(text, FrontmatterAllowed::No);
+        }),
+        ("tokenize_in", |text| {
+            let _ = tokenize_in(text, Edition::E2024);
+        }),
+        ("tokenize_as", |text| {
+            let _ = tokenize_as(text, FrontmatterAllowed::No, Edition::E2024);
+        }),
+        ("tokenize_document", |text| {
+            let _ = tokenize_document(text, Edition::E2024);
+        }),
+        ("Cursor::new", |text| {
+            let _ = Cursor::new(text, FrontmatterAllowed::No);
+        }),
+        ("strip_shebang", |text| {
+            let _ = strip_shebang(text);
+        }),
+        ("validate_raw_str", |text| {
+            let _ = validate_raw_str(text, 1);
+        }),
+        ("settled", |text| {
+            let _ = settled(text);
+        }),
+    ]);
+}
+
+#[cfg(feature = "alloc")]
+#[test]
+fn texts_with_their_tokens() {
+    all_say_so(&[
+        ("LexedText::new", |text| {
+            let _ = LexedText::new(text);
+        }),
+        ("LexedText::new_in", |text| {
+            let _ = LexedText::new_in(text, Edition::E2018);
+        }),
+        ("LexedDocument::new", |text| {
+            let _ = LexedDocument::new(text);
+        }),
+        ("LexedDocument::new_in", |text| {
+            let _ = LexedDocument::new_in(text, Edition::E2018);
+        }),
+    ]);
+    let edition = Edition::E2024;
+    let texts = [
+        LexedText::try_new_in(too_long(), edition).err(),
+        LexedText::try_with(too_long(), Steps::new()).err(),
+        LexedDocument::try_new_in(too_long(), edition).err(),
+        LexedDocument::try_with(too_long(), Steps::new()).err(),
+    ];
+    assert_eq!(texts, [Some(EditError::TooLong); 4]);
+}
+
+#[cfg(feature = "alloc")]
+#[test]
+fn edits_that_make_one() {
+    let (mut text, mut document) = (LexedText::new("aé"), LexedDocument::new("aé"));
+    // One byte fewer would fit.
+    let insert = &too_long()[3..];
+    assert!(!text.accepts(0..0, insert) && !document.accepts(0..0, insert));
+    assert!(text.accepts(0..1, insert) && document.accepts(0..1, insert));
+    assert_eq!(text.try_edit(0..0, insert), Err(EditError::TooLong));
+    assert_eq!(document.try_edit(0..0, insert), Err(EditError::TooLong));
+    assert_eq!(text.try_edit(2..2, insert), Err(EditError::Range));
+    assert_eq!(document.try_edit(2..2, insert), Err(EditError::Range));
+    let edits = [
+        Edit {
+            start: 0,
+            stop: 0,
+            insert: "b",
+        },
+        Edit {
+            start: 0,
+            stop: 0,
+            insert,
+        },
+    ];
+    assert_eq!(text.edit_all(&edits), Err(EditStop::TooLong { at: 1 }));
+    assert_eq!(document.edit_all(&edits), Err(EditStop::TooLong { at: 1 }));
+    assert_eq!((text.text(), document.text()), ("baé", "baé"));
+}

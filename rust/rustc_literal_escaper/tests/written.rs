@@ -1,0 +1,112 @@
+//! Texts and bytes as they are written between double quotes, beside what Rust's own library writes, and with memory
+//! refused.
+#![cfg(feature = "alloc")]
+
+use core::num::NonZero;
+use rustc_literal_escaper::{
+    AllocError, EscapeCStrError, MixedUnit, escape_byte_str, escape_c_str, escape_str,
+};
+use std::alloc::{GlobalAlloc, Layout, System};
+use std::cell::Cell;
+
+thread_local! {
+    /// Whether requests of this thread are given.
+    static GIVEN: Cell<bool> = const { Cell::new(true) };
+}
+
+/// The allocator of the system, which refuses what is not given.
+struct Refusing;
+
+// SAFETY: each call is that of the system's allocator, or answers null, which says that it was refused.
+unsafe impl GlobalAlloc for Refusing {
+    unsafe fn alloc(&self, layout: Layout) -> *mut u8 {
+        if GIVEN.get() {
+            unsafe { System.alloc(layout) }
+        } else {
+            std::ptr::null_mut()
+        }
+    }
+
+    unsafe fn dealloc(&self, at: *mut u8, layout: Layout) {
+        unsafe { System.dealloc(at, layout) }
+    }
+
+    unsafe fn realloc(&self, at: *mut u8, layout: Layout, size: usize) -> *mut u8 {
+        if GIVEN.get() {
+            unsafe { System.realloc(at, layout, size) }
+        } else {
+            std::ptr::null_mut()
+        }
+    }
+}
+
+#[global_allocator]
+static ALLOCATOR: Refusing = Refusing;
+
+fn refused<T>(call: impl FnOnce() -> T) -> T {
+    GIVEN.set(false);
+    let answer = call();
+    GIVEN.set(true);
+    answer
+}
+
+/// What is written is appended: each text behind all others.
+#[test]
+fn as_the_library_of_rust_writes_it() {
+    let mut out = String::new();
+    let mut wanted = String::new();
+    for text in ["", "a\"b'c\\", "\n\r\t\0\x7f", "é\u{200d}😀", "plain text"] {
+        escape_str(text, &mut out).unwrap();
+        wanted.extend(text.escape_default());
+        assert_eq!(out, wanted);
+    }
+    let bytes: Vec<u8> = (0..=255).collect();
+    escape_byte_str(&bytes, &mut out).unwrap();
+    wanted += &bytes.escape_ascii().to_string();
+    assert_eq!(out, wanted);
+    escape_c_str(&bytes[1..], &mut out).unwrap();
+    wanted += &bytes[1..].escape_ascii().to_string();
+    assert_eq!(out, wanted);
+}
+
+/// Where an error is answered, what stood there stays, and nothing more.
+#[test]
+fn where_nothing_is_written() {
+    let mut out = String::from("front");
+    out.shrink_to_fit();
+    assert_eq!(escape_c_str(b"a\0b", &mut out), Err(EscapeCStrError::Nul));
+    assert_eq!(out, "front");
+    let long = "a".repeat(100);
+    out.shrink_to_fit();
+    assert_eq!(refused(|| escape_str(&long, &mut out)), Err(AllocError));
+    let bytes = long.as_bytes();
+    assert_eq!(
+        refused(|| escape_byte_str(bytes, &mut out)),
+        Err(AllocError)
+    );
+    let memory = Err(EscapeCStrError::OutOfMemory);
+    assert_eq!(refused(|| escape_c_str(bytes, &mut out)), memory);
+    assert_eq!(out, "front");
+    for (error, said) in [
+        (EscapeCStrError::Nul, "a C string has no byte that is 0"),
+        (EscapeCStrError::OutOfMemory, "memory was refused"),
+    ] {
+        assert_eq!(error.to_string(), said);
+    }
+}
+
+/// A character is one, whatever its bytes, and a byte is a character below 128.
+#[test]
+fn units_of_c_strings() {
+    let char = |c| MixedUnit::Char(NonZero::new(c).unwrap());
+    let byte = |byte| MixedUnit::HighByte(NonZero::new(byte).unwrap());
+    for c in ['\u{1}', 'a', '\x7f', '\u{80}', 'é', '\u{ff}', '😀'] {
+        assert_eq!(MixedUnit::from(NonZero::new(c).unwrap()), char(c));
+        assert_eq!(MixedUnit::try_from(c), Ok(char(c)));
+    }
+    for n in 1..=255u8 {
+        let wanted = if n < 128 { char(n as char) } else { byte(n) };
+        assert_eq!(MixedUnit::from(NonZero::new(n).unwrap()), wanted);
+        assert_eq!(MixedUnit::try_from(n), Ok(wanted));
+    }
+}
