@@ -24,7 +24,8 @@ pub enum Fault {
     UnknownLifetimePrefix,
     /// The text has `#"` or `##`, which are reserved.
     GuardedString,
-    /// A lifetime begins with a digit, or holds an emoji.
+    /// The name of a lifetime begins with an ASCII digit or an emoji, or a later character of it is an emoji that may
+    /// not continue an identifier.
     InvalidLifetime,
     /// No token begins with the character.
     UnknownCharacter,

@@ -11,7 +11,8 @@ use crate::style::{Style, class_close, class_open, close_fault, open_fault};
 use memchr::memchr2;
 use std::fmt;
 
-/// Writes a part with a fault: its first line between the marks of the fault, and all of it between those of its class.
+/// Writes a part with a fault: its first line between the marks of the fault, and all of it between those of its
+/// class.
 pub fn write_with_fault<W: fmt::Write>(
     style: Style,
     fault: Fault,

@@ -27,7 +27,7 @@ pub use stepper::{Stepper, Steps};
 ///
 /// The lengths of the tokens add up to the length of the text, and each token ends between two characters. With
 /// `FrontmatterAllowed::No`, the text from the end of any token has the remaining tokens, so a slice of a document
-/// can be lexed by itself.
+/// that begins there can be lexed by itself.
 ///
 /// A loop can slice the text by these lengths. Here it looks for a word among the identifiers and keywords:
 ///

@@ -75,6 +75,6 @@ pub extern "C" fn rustc_lexer_is_ident_unchecked(text: &[u8]) -> bool
     requires utf8 { IsUtf8 text.now }
     ensures { result ≡ Classes.is_ident (chars text.now) }
 {
-    // The caller promises it.
+    // The caller promises that the bytes are UTF-8.
     is_ident(unsafe { std::str::from_utf8_unchecked(text) })
 }

@@ -101,7 +101,7 @@ pub extern "C" fn rustc_lexer_starts_raw_unchecked(text: &[u8], prefix_len: u32)
     requires utf8 { IsUtf8 text.now }
     ensures { IsTrue result ↔ StartsRaw text.now prefix_len }
 {
-    // The caller promises it.
+    // The caller promises that the bytes are UTF-8.
     starts_raw(unsafe { std::str::from_utf8_unchecked(text) }, prefix_len)
 }
 

@@ -81,7 +81,7 @@ pub(crate) fn utf8_text_of(bytes: &[u8]) -> Result<&str, Refusal>
     if bytes.len() > u32::MAX as usize {
         return Err(Refusal::TooLong);
     }
-    // The caller promises it.
+    // The caller promises that the bytes are UTF-8.
     Ok(unsafe { std::str::from_utf8_unchecked(bytes) })
 }
 

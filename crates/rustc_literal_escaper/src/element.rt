@@ -18,7 +18,7 @@ pub enum Element {
     Byte(u8),
     /// A number of at most six digits, like `\u{1F600}`. It need not be the number of a character.
     Unicode(u32),
-    /// A fault that is no element in any kind of literal, or a warning.
+    /// Something that is not an element in any kind of literal, or a warning.
     Fault(EscapeError),
 }
 

@@ -14,13 +14,13 @@ use crate::token::FrontmatterAllowed;
 /// Returns an iterator over the tokens of a whole document in an edition. They are the tokens of the text past its
 /// shebang line, with or without a frontmatter in front. The text may have at most `u32::MAX` bytes.
 ///
-/// The shebang line is not a token. The first token begins where the remaining text begins: at `text.len() -
-/// tokens.as_str().len()` bytes, as long as no token was taken. For a text that is not a whole document, and for
-/// one whose shebang line is to be read as tokens, call [`tokenize_as`].
+/// The shebang line is not a token. The first token begins where the remaining text begins: at
+/// `text.len() - tokens.as_str().len()` bytes, as long as no token was taken. For a text that is not a whole
+/// document, and for one whose shebang line is to be read as tokens, call [`tokenize_as`].
 ///
 /// ```ignore
 /// let tokens = tokenize_document(text, Edition::E2024);
-/// let mut start = text.len() - tokens.as_str().len(); // 9 of "#!/bin/sh\nfn", and 0 where no such line stands
+/// let mut start = text.len() - tokens.as_str().len(); // 9 for "#!/bin/sh\nfn", 0 without such a line
 /// for token in tokens {
 ///     let end = start + token.len as usize;
 ///     show(token.kind, &text[start..end]);

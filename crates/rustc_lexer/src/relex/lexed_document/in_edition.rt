@@ -60,8 +60,8 @@ impl LexedDocument<Steps> {
         self.stepper.edition()
     }
 
-    /// Returns where the body begins, in bytes, and how many tokens come before it: those up to the frontmatter and
-    /// with it, or none if there is no frontmatter.
+    /// Returns where the body begins, in bytes, and how many tokens come before it: those up to and
+    /// including the frontmatter, or none if there is no frontmatter.
     pub fn body(&self) -> Bound
         ensures number { result.number ≡ spec.head_count self.now.tokens }
         ensures place { result.place ≡ spec.body_start self.now.text }
