@@ -9,7 +9,8 @@ use Rattle.rustc_lexer.specs.declared.relex.relexing.Change.{Change}
 use Rattle.rustc_lexer.specs.{Token}
 use Rattle.rustc_lexer.specs.Classes.{IsText}
 use Rattle.rustc_lexer.specs.means.Document.{body_change, body_insert, front_change, head_put, moved, unlike_past}
-use Rattle.rustc_lexer.specs.Edits.{apply, IsEdit, IsMadeOf}
+use Rattle.rustc_lexer.specs.Edits.{apply, IsEdit}
+use Rattle.rustc_lexer.specs.Relexing.{IsMadeOf}
 use Rattle.rustc_lexer.specs.Locality.{IsGrammar}
 use Rattle.rustc_lexer.specs.Tokens.{tokens_by}
 use Rattle.rustc_lexer.proofs.EditLemmas.{IsEdited, edited, same_rest}

@@ -11,7 +11,8 @@ use Rattle.rustc_lexer.specs.declared.relex.relexing.Relexing.{Relexing}
 use Rattle.rustc_lexer.specs.{Token}
 use Rattle.rustc_lexer.specs.Tokens.{IsFilledTo, bound, tokens_by}
 use Rattle.rustc_lexer.specs.Classes.{Fits, IsText}
-use Rattle.rustc_lexer.specs.Edits.{IsMadeOf, TakesSteps, is_over, known}
+use Rattle.rustc_lexer.specs.Edits.{known}
+use Rattle.rustc_lexer.specs.Relexing.{IsMadeOf, TakesSteps, is_over}
 use Rattle.rustc_lexer.specs.Locality.{IsGrammar}
 use Rattle.rustc_lexer.proofs.BoundLemmas.{is_bound, number_le_bound, rises}
 use Rattle.rustc_lexer.proofs.BulkLemmas.{next_place, next_token, over, stands as place_stands}

@@ -1,10 +1,8 @@
--- What edits make of a text, what they keep of its tokens, and a text that is kept with its tokens; the same work where
--- only the lengths of the old tokens are at hand.
-use Rattle.std.specs.Prelude.{ℕ, ◌+◌, ◌-◌, ◌<◌, ◌≤◌, ◌^◌, ◌||◌, Bool, nat_eq, List, [], ◌∷◌, ◌++◌, length, take, drop, IsCharBoundary, ◌≡◌, slice_get, IfSome, Option, Some, None, false, map, codes, decimal, count_by, IsUtf8}
-use Rattle.rustc_lexer.specs.declared.relex.{edit.Edit.Edit, edit_list.EditStop.EditStop, front.Bound.Bound, pieces.Piece.Piece, relexing.Change.Change, relexing.Relexed.Relexed, relexing.Relexing.Relexing}
+-- What edits make of a text, what they keep of its tokens, and a text that is kept with its tokens.
+use Rattle.std.specs.Prelude.{ℕ, ◌+◌, ◌-◌, ◌<◌, ◌≤◌, ◌^◌, List, [], ◌∷◌, ◌++◌, length, take, drop, IsCharBoundary, ◌≡◌, slice_get, IfSome, Option, Some, None, codes, decimal, count_by}
+use Rattle.rustc_lexer.specs.declared.relex.{edit.Edit.Edit, edit_list.EditStop.EditStop, front.Bound.Bound, pieces.Piece.Piece, relexing.Relexed.Relexed, relexing.Relexing.Relexing}
 use Rattle.rustc_lexer.specs.declared.relex.edit_list.EditStop.TheVariants.{Range, TooLong, Memory}
 use Rattle.rustc_lexer.specs.{Token}
-use Rattle.rustc_lexer.specs.Classes.{IsText}
 use Rattle.rustc_lexer.specs.Locality.{bound, has_two, tokens_by}
 
 -- ---- one edit
@@ -139,55 +137,12 @@ YieldsPiece s None t = (s ≡ []) × (t ≡ s)
 YieldsPiece s (Some piece) t =
     (s ≡ placed piece ∷ t) × (length piece.text.now ≡ piece.token.len) × (piece.start + piece.token.len < 2 ^ 32)
 
--- ---- relexing on lists of a caller's own, of which only the lengths are at hand
+-- ---- how far a text is lexed again
 
 -- the number and the place are those of a bound of the tokens
 abbrev pub IsBound : List Token → Bound → Type 0
 IsBound tokens at = (at.number ≤ length tokens) × (at.place ≡ bound tokens at.number)
 
--- the change may have made the text: what it put in lies inside the text, and its old places are in order and below
--- 2 ^ 32
-pub record IsChange (text : List ℕ) (change : Change) : Type 0 where
-  pub inserted : IsInside text change.start change.new_stop
-  pub start_le_old : change.start ≤ change.old_stop
-  pub old_short : change.old_stop < 2 ^ 32
-
--- the change made the text of `old`, whose tokens have the lengths, by putting in `insert`
-pub record IsMadeOf (first : List ℕ → Token) (old lengths : List ℕ) (change : Change) (insert text : List ℕ) : Type 0 where
-  pub is_text : IsText old
-  pub lengths_are : lengths ≡ map (λ (t : Token). t.len) (tokens_by first old)
-  pub edit : IsEdit old change.start change.old_stop insert
-  pub inserted : IsUtf8 insert
-  pub made : text ≡ apply old change.start change.old_stop insert
-  pub new_stop : change.new_stop ≡ change.start + length insert
-
--- the numbers are such that relexing may go on from them
-pub record MayGoOn (text : List ℕ) (count : ℕ) (at : Relexing) : Type 0 where
-  pub boundary : IsCharBoundary text at.at
-  pub number : at.back.number ≤ count
-  pub apart : at.front.number ≤ at.back.number
-  pub small : at.back.place < 2 ^ 63
-  pub few : at.lexed ≤ at.at
-
 -- how many of the new tokens are known: those of the front, and those that were lexed
 abbrev pub known : Relexing → ℕ
 known at = at.front.number + at.lexed
-
--- the old tokens are met, or no text is left
-abbrev pub is_over : List ℕ → Relexing → Bool
-is_over text at = at.met || nat_eq at.at (length text)
-
--- what so many calls of `next` do, none of which finds relexing over: the tokens are the first ones of the text that is
--- left there. Before the edit's end, at `past`, no old token is followed
-pub record TakesSteps (first : List ℕ → Token) (text : List ℕ) (past : ℕ) (at : Relexing) (count : ℕ) (at' : Relexing) : Type 0 where
-  pub inside : count ≤ length (tokens_by first (drop at.at text))
-  pub none : count ≡ 0 → at' ≡ at
-  pub front : at'.front ≡ at.front
-  pub lexed : at'.lexed ≡ at.lexed + count
-  pub place : at'.at ≡ at.at + bound (tokens_by first (drop at.at text)) count
-  pub same_back : at'.at < past → at'.back ≡ at.back
-  pub not_met : 0 < count → at'.at < past → at'.met ≡ false
-
--- the kept front, the tokens that were lexed and the old ones behind the meeting are the new tokens
-abbrev pub IsWhole : List Token → List Token → Relexing → Type 0
-IsWhole old new at = take at.front.number old ++ (take at.lexed (drop at.front.number new) ++ drop at.back.number old) ≡ new

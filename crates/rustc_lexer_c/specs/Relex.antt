@@ -10,8 +10,8 @@ use Rattle.rustc_lexer.specs.declared.token.Token.{Token}
 use Rattle.rustc_lexer.specs.Tokens.{tokens_by}
 use Rattle.rustc_lexer.specs.LanguageText.{edition_of_year}
 use Rattle.rustc_lexer.specs.Answers.{first_in}
-use Rattle.rustc_lexer.specs.Edits.{IsBound, IsChange, IsMadeOf, IsRelexed, MayGoOn, is_over}
-use Rattle.rustc_lexer.specs.Relexing.{IsUnderWay}
+use Rattle.rustc_lexer.specs.Edits.{IsBound, IsRelexed}
+use Rattle.rustc_lexer.specs.Relexing.{IsChange, IsMadeOf, IsUnderWay, MayGoOn, is_over}
 use Rattle.rustc_lexer.specs.Classes.{IsText}
 use Rattle.rustc_lexer_c.specs.declared.relex.CEdit.{CEdit}
 use Rattle.rustc_lexer_c.specs.declared.relex.CRelexing.{CRelexing}

@@ -56,9 +56,9 @@ mod edit_error;
 /// This is for packages that are made in the same way, such as `marks` and the programs: their calls are proved to meet
 /// what the contracts ask for. The calls here test nothing of that, and where it is not met they answer wrongly or panic.
 /// They stay as they are only as long as the source does. All other callers take the calls of the crate's root.
-// Contracts alone use some imports and variables of the source, and Clippy would write some of it otherwise.
-#[allow(missing_docs, unused_imports, unused_variables, dead_code)]
-#[allow(clippy::collapsible_if, clippy::redundant_pattern_matching)]
+// Contracts alone use some imports of the source, and Clippy would write some of it otherwise.
+#[allow(missing_docs, unused_imports, dead_code)]
+#[allow(clippy::collapsible_if)]
 #[allow(clippy::len_without_is_empty, clippy::new_without_default)]
 #[allow(clippy::too_many_arguments)]
 pub mod erased;

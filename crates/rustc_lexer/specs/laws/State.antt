@@ -1,5 +1,5 @@
 -- The state after a token.
-use Rattle.std.proofs.Common.{◌≡◌, ℕ, ◌==◌, true, false, List, length, drop, refl, sym, ap, ◌∙◌, arith, zero-add, IsCharBoundary}
+use Rattle.std.proofs.Common.{◌≡◌, ℕ, ◌==◌, true, false, List, length, drop, refl, ap, ◌∙◌, arith, zero-add, IsCharBoundary}
 use Rattle.std.proofs.lemmas.Bool.{eqb-true}
 use Rattle.std.proofs.lemmas.Grind.{common_steps}
 use Rattle.rustc_lexer.specs.{Token, TokenKind, Eof, Literal}

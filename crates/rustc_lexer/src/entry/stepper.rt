@@ -18,11 +18,8 @@ use crate::token::Token;
 /// it. `step` returns the first token of the text that it is given, and always the same one for the same text. In
 /// Rattle each implementation proves this. In plain Rust an implementation has to obey it, or the tokens of an
 /// edited text are wrong.
-///
-/// Contracts see three things of a stepper: its grammar, a number that names the grammar, and how many steps it has
-/// taken.
 pub trait Stepper: Drop {
-    /// The first token of each text.
+    /// The grammar: the first token of each text.
     ghost grammar: { Self → List ℕ → Token };
 
     /// The number that names the grammar.
@@ -78,7 +75,7 @@ pub struct Steps {
 }
 
 impl Steps {
-    /// Creates a stepper in the edition of 2024, which has taken no step.
+    /// Returns the lexer of the edition of 2024, before its first step.
     pub fn new() -> Steps
         ensures count { ⟦<Steps as Stepper>⟧.count result ≡ 0 }
         ensures number { ⟦<Steps as Stepper>⟧.number result ≡ 2024 }
@@ -89,7 +86,7 @@ impl Steps {
         Steps::new_in(Edition::E2024)
     }
 
-    /// Creates a stepper in an edition, which has taken no step.
+    /// Returns the lexer of an edition, before its first step.
     pub fn new_in(edition: Edition) -> Steps
         ensures count { ⟦<Steps as Stepper>⟧.count result ≡ 0 }
         ensures number { ⟦<Steps as Stepper>⟧.number result ≡ year edition }

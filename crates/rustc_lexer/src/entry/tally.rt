@@ -4,7 +4,7 @@ ghost use base.Fml.{ftrue};
 
 use std::marker::{Model, PhantomData};
 
-/// A number that only contracts see. It takes no bytes.
+/// A number that only contracts see. It takes no bytes, and counting does nothing when the program runs.
 #[derive(Drop)]
 pub(crate) struct Tally {
     marker: PhantomData<()>,

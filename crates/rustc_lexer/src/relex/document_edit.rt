@@ -7,7 +7,8 @@ ghost use Rattle.rustc_lexer.specs.{Token};
 ghost use Rattle.rustc_lexer.specs.Classes.{Fits, IsText};
 ghost use Rattle.rustc_lexer.specs.means.Document as means;
 ghost use Rattle.rustc_lexer.specs.Tokens.{tokens_by};
-ghost use Rattle.rustc_lexer.specs.Edits.{IsEdit, apply, IsBound, IsChange, IsMadeOf, MayGoOn};
+ghost use Rattle.rustc_lexer.specs.Edits.{IsEdit, apply, IsBound};
+ghost use Rattle.rustc_lexer.specs.Relexing.{IsChange, IsMadeOf, MayGoOn};
 ghost use Rattle.rustc_lexer.specs.means.Checkpoints.{AreBounds};
 ghost use Rattle.rustc_lexer.specs.means.Relexing.{IsRenewed, relexed_of};
 

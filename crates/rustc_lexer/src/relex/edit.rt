@@ -6,7 +6,8 @@ ghost use Rattle.std.specs.String.{string_bytes, string_capacity, string_len};
 ghost use Rattle.rustc_lexer.specs.{Token};
 ghost use Rattle.rustc_lexer.specs.Classes.{Fits, IsText};
 ghost use Rattle.rustc_lexer.specs.Tokens.{tokens_by};
-ghost use Rattle.rustc_lexer.specs.Edits.{IsEdit, IsInside, apply, IsBound, IsChange, IsMadeOf, MayGoOn, known};
+ghost use Rattle.rustc_lexer.specs.Edits.{IsEdit, IsInside, apply, IsBound, known};
+ghost use Rattle.rustc_lexer.specs.Relexing.{IsChange, IsMadeOf, MayGoOn};
 ghost use Rattle.rustc_lexer.specs.means.Checkpoints.{AreBounds, IsMovable, IsReplaced, end_of};
 ghost use Rattle.rustc_lexer.specs.means.Relexing.{IsLexed, IsRenewed, relexed_of, Stands};
 
@@ -38,9 +39,9 @@ pub(crate) fn put_in_place(text: &mut String, start: usize, stop: usize, insert:
     ensures len { string_len text.new + (stop - start) ≡ string_len text.old + length insert.now }
     ensures capacity { string_capacity text.old ≤ string_capacity text.new }
 {
-    match text.replace_range(start..stop, insert) {
-        Ok(()) | Err(_) => {}
-    }
+    let put = text.replace_range(start..stop, insert);
+    // There is room, so it asks for no memory.
+    prove!(put.is_ok());
 }
 
 /// Lexes the new text from the kept front on, until it meets the old tokens. Returns the tokens in between, and the

@@ -178,7 +178,7 @@ impl<S: Stepper> LexedDocument<S> {
         end_from(start, &tokens[count + near.number..number])
     }
 
-    /// Returns whether the body begins inside the text. This is always true.
+    /// Returns whether the body begins inside the text. This is always true; a debug build tests it.
     pub(crate) fn is_consistent(&self) -> bool
         ensures always { IsTrue result }
         ensures from_scratch { self.now.tokens

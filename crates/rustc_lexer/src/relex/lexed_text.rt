@@ -111,7 +111,7 @@ impl<S: Stepper> LexedText<S> {
     }
 
     /// Returns whether there are no more tokens than bytes. This is always true, since the tokens are those of the
-    /// text and none is empty.
+    /// text and none is empty; a debug build tests it.
     pub(crate) fn is_consistent(&self) -> bool
         ensures always { IsTrue result }
         ensures from_scratch { self.now.tokens

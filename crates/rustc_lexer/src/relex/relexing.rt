@@ -2,11 +2,10 @@
 ghost use Rattle.std.specs.Prelude.{◌≡◌, ◌+◌, ◌-◌, ◌<◌, ◌≤◌, ◌∷◌, ◌++◌, ◌↔◌, IsTrue, List, MatchOption, drop, false, length, map, take, ℕ, true};
 ghost use Rattle.rustc_lexer.specs.declared.relex.relexing.Change.{Change};
 ghost use Rattle.rustc_lexer.specs.{Token};
-ghost use Rattle.rustc_lexer.specs.Edits.{IsBound, known};
+ghost use Rattle.rustc_lexer.specs.Edits.{IsBound, IsRelexed, known};
 ghost use Rattle.rustc_lexer.specs.Classes.{Fits};
 ghost use Rattle.rustc_lexer.specs.Tokens.{tokens_by};
-ghost use Rattle.rustc_lexer.specs.Edits as spec;
-ghost use Rattle.rustc_lexer.specs.Relexing.{GoesOn, IsUnderWay};
+ghost use Rattle.rustc_lexer.specs.Relexing.{GoesOn, IsChange, IsMadeOf, IsUnderWay, IsWhole, MayGoOn, TakesSteps, is_over};
 ghost use Rattle.rustc_lexer.specs.means.Relexing.{damage_of};
 ghost use Rattle.rustc_lexer.specs.Locality.{IsGrammar};
 
@@ -39,7 +38,7 @@ impl Change {
     /// are inside the text, between characters, and its old place is below 2^32. It does not look at whether the
     /// old text had these places.
     pub fn may_make(&self, text: &str) -> bool
-        ensures { IsTrue result ↔ spec.IsChange text.now self.now }
+        ensures { IsTrue result ↔ IsChange text.now self.now }
     {
         self.start <= self.old_stop
             && self.old_stop <= u32::MAX as usize
@@ -97,11 +96,11 @@ impl Relexing {
     /// begins at `near`, which may be any bound of the old tokens.
     pub fn begin<T: Measured>(text: &str, old: &[T], change: Change, near: Bound) -> Relexing
         requires fits { Fits text.now }
-        requires change { spec.IsChange text.now change }
-        ensures may_go_on { spec.MayGoOn text.now (length old.now) result }
+        requires change { IsChange text.now change }
+        ensures may_go_on { MayGoOn text.now (length old.now) result }
         ensures none { result.lexed ≡ 0 }
         ensures stands { (first : List ℕ → Token) (before insert : List ℕ) → IsGrammar first
-            → spec.IsMadeOf first before (map T.bytes old.now) change insert text.now
+            → IsMadeOf first before (map T.bytes old.now) change insert text.now
             → IsBound (tokens_by first before) near
             → IsUnderWay first before change text.now result }
     {
@@ -119,7 +118,7 @@ impl Relexing {
     /// Returns whether `next` may be called with this text and this many old tokens. This is so after `begin` and
     /// after `next`. The test is for numbers that come from elsewhere.
     pub fn may_go_on(&self, text: &str, old_count: usize) -> bool
-        ensures { IsTrue result ↔ spec.MayGoOn text.now old_count self.now }
+        ensures { IsTrue result ↔ MayGoOn text.now old_count self.now }
     {
         text.is_char_boundary(self.at)
             && self.back.number <= old_count
@@ -131,9 +130,9 @@ impl Relexing {
     /// Returns whether lexing has met the old tokens, or no text is left. If the lengths are those of an old text,
     /// then text runs out only when the old tokens are met.
     pub fn is_over(&self, text: &str) -> bool
-        ensures over { result ≡ spec.is_over text.now self.now }
+        ensures over { result ≡ is_over text.now self.now }
         ensures met { (first : List ℕ → Token) (before lengths insert : List ℕ) (change : Change)
-            → IsGrammar first → spec.IsMadeOf first before lengths change insert text.now
+            → IsGrammar first → IsMadeOf first before lengths change insert text.now
             → IsUnderWay first before change text.now self.now
             → result ≡ self.now.met }
     {
@@ -149,20 +148,20 @@ impl Relexing {
         change: Change,
     ) -> Option<Token>
         requires fits { Fits text.now }
-        requires change { spec.IsChange text.now change }
-        requires may_go_on { spec.MayGoOn text.now (length old.now) self.old }
-        ensures may_go_on { spec.MayGoOn text.now (length old.now) self.new }
+        requires change { IsChange text.now change }
+        requires may_go_on { MayGoOn text.now (length old.now) self.old }
+        ensures may_go_on { MayGoOn text.now (length old.now) self.new }
         ensures grammar { S.grammar stepper.new ≡ S.grammar stepper.old }
         ensures number { S.number stepper.new ≡ S.number stepper.old }
         ensures step { MatchOption result
             ((self.new ≡ self.old) × (S.count stepper.new ≡ S.count stepper.old)
-            × (spec.is_over text.now self.old ≡ true))
+            × (is_over text.now self.old ≡ true))
             (λ token. (token ≡ S.grammar stepper.old (drop self.old.at text.now))
-            × spec.TakesSteps (S.grammar stepper.old) text.now change.new_stop self.old 1 self.new
+            × TakesSteps (S.grammar stepper.old) text.now change.new_stop self.old 1 self.new
             × (S.count stepper.new ≡ S.count stepper.old + 1)
-            × (spec.is_over text.now self.old ≡ false)) }
+            × (is_over text.now self.old ≡ false)) }
         ensures stands { (before insert : List ℕ)
-            → spec.IsMadeOf (S.grammar stepper.old) before (map T.bytes old.now) change insert text.now
+            → IsMadeOf (S.grammar stepper.old) before (map T.bytes old.now) change insert text.now
             → IsUnderWay (S.grammar stepper.old) before change text.now self.old
             → IsUnderWay (S.grammar stepper.old) before change text.now self.new
             × MatchOption result (self.new.met ≡ true) (λ token.
@@ -198,20 +197,20 @@ impl Relexing {
         buffer: &mut [R],
     ) -> usize
         requires fits { Fits text.now }
-        requires change { spec.IsChange text.now change }
-        requires may_go_on { spec.MayGoOn text.now (length old.now) self.old }
-        ensures may_go_on { spec.MayGoOn text.now (length old.now) self.new }
+        requires change { IsChange text.now change }
+        requires may_go_on { MayGoOn text.now (length old.now) self.old }
+        ensures may_go_on { MayGoOn text.now (length old.now) self.new }
         ensures grammar { S.grammar stepper.new ≡ S.grammar stepper.old }
         ensures number { S.number stepper.new ≡ S.number stepper.old }
         ensures count { S.count stepper.new ≡ S.count stepper.old + result }
-        ensures steps { spec.TakesSteps (S.grammar stepper.old) text.now change.new_stop
+        ensures steps { TakesSteps (S.grammar stepper.old) text.now change.new_stop
             self.old result self.new }
         ensures tokens { buffer.new
             ≡ map R.written (take result (tokens_by (S.grammar stepper.old) (drop self.old.at text.now)))
             ++ drop result buffer.old }
         ensures buffer { result ≤ length buffer.old }
-        ensures begins { 0 < result → spec.is_over text.now self.old ≡ false }
-        ensures over { result < length buffer.old → spec.is_over text.now self.new ≡ true }
+        ensures begins { 0 < result → is_over text.now self.old ≡ false }
+        ensures over { result < length buffer.old → is_over text.now self.new ≡ true }
         ensures stands { GoesOn (S.grammar stepper.old) (map T.bytes old.now) text.now change
             self.old self.new }
     {
@@ -240,17 +239,17 @@ impl Relexing {
         buffer: &mut [R],
     ) -> usize
         requires fits { Fits text.now }
-        requires change { spec.IsChange text.now change }
-        requires may_go_on { spec.MayGoOn text.now (length old.now) self.old }
+        requires change { IsChange text.now change }
+        requires may_go_on { MayGoOn text.now (length old.now) self.old }
         requires before { self.old.at < change.new_stop }
         requires places { 0 < length buffer.old }
-        ensures may_go_on { spec.MayGoOn text.now (length old.now) self.new }
+        ensures may_go_on { MayGoOn text.now (length old.now) self.new }
         ensures grammar { S.grammar stepper.new ≡ S.grammar stepper.old }
         ensures number { S.number stepper.new ≡ S.number stepper.old }
         ensures count { S.count stepper.new ≡ S.count stepper.old + result }
         ensures progress { self.old.at < self.new.at }
         ensures buffer { (result ≤ length buffer.old) × (length buffer.new ≡ length buffer.old) }
-        ensures steps { spec.TakesSteps (S.grammar stepper.old) text.now change.new_stop
+        ensures steps { TakesSteps (S.grammar stepper.old) text.now change.new_stop
             self.old result self.new }
         ensures tokens { buffer.new
             ≡ map R.written (take result (tokens_by (S.grammar stepper.old) (drop self.old.at text.now)))
@@ -281,11 +280,11 @@ impl Relexing {
               kept_back = old_count - self.now.back.number;
             } }
         ensures exact { (first : List ℕ → Token) (before lengths insert text : List ℕ) (change : Change)
-            → IsGrammar first → spec.IsMadeOf first before lengths change insert text
+            → IsGrammar first → IsMadeOf first before lengths change insert text
             → length lengths ≡ old_count → IsUnderWay first before change text self.now
             → self.now.met ≡ true
-            → spec.IsRelexed first before change.start change.old_stop insert result
-            × spec.IsWhole (tokens_by first before) (tokens_by first text) self.now }
+            → IsRelexed first before change.start change.old_stop insert result
+            × IsWhole (tokens_by first before) (tokens_by first text) self.now }
     {
         Relexed {
             kept_front: self.front.number,

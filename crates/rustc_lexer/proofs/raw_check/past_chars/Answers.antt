@@ -16,11 +16,12 @@ returns-in_default c =
 pub chars-preserved : goal.chars-preserved
 chars-preserved c =
     let is = c.chars.invariant.0 in
-    let one : 1 + (c.chars.left - 1) ≡ c.chars.left = omega arith in
-    (subst (λ xs. IsUtf8 xs) (sym c.in-Some.ensures.1) (IsUtf8-past 1 _ is),
+    let one : 1 + (c.chars.left - 1) ≡ c.chars.left = omega arith in (
+      subst (λ xs. IsUtf8 xs) (sym c.in-Some.ensures.1) (IsUtf8-past 1 _ is),
       ap (past (c.chars.left - 1)) c.in-Some.ensures.1
-      ∙ (past-past (c.chars.left - 1) 1 c.chars.rest.now is
-      ∙ (ap (λ n. past n c.chars.rest.now) one ∙ c.chars.invariant.1)))
+          ∙ (past-past (c.chars.left - 1) 1 c.chars.rest.now is
+          ∙ (ap (λ n. past n c.chars.rest.now) one ∙ c.chars.invariant.1)),
+    )
 
 pub returns : goal.returns
 returns c =

@@ -10,9 +10,6 @@ use crate::erased::token::Token;
 /// A first token is not empty, ends between two characters, and depends on no more than itself and the two characters
 /// after it. A step answers the first token of what it is handed, the same one each time. In Rattle each implementation
 /// proves this; in plain Rust it has to keep it, or the tokens of an edited text are wrong.
-///
-/// Contracts see three things of a stepper: its grammar, a number that names the grammar, and how many steps were
-/// taken.
 pub trait Stepper {
     /// The first token of the text.
     fn step(&mut self, rest: &str) -> Token;
@@ -42,12 +39,12 @@ pub struct Steps {
 }
 
 impl Steps {
-    /// No step taken, in the edition of 2024.
+    /// Returns the lexer of the edition of 2024, before its first step.
     pub fn new() -> Steps {
         Steps::new_in(Edition::E2024)
     }
 
-    /// No step taken, in an edition.
+    /// Returns the lexer of an edition, before its first step.
     pub fn new_in(edition: Edition) -> Steps {
         Steps {
             edition,

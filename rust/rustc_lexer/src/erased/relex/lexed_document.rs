@@ -108,7 +108,7 @@ impl<S: Stepper> LexedDocument<S> {
         end_from(start, &tokens[count + near.number..number])
     }
 
-    /// Whether the body begins inside the text. It does.
+    /// Returns whether the body begins inside the text. That is always true. A build for debugging tests it.
     pub(crate) fn is_consistent(&self) -> bool {
         self.head.end <= self.text.len()
     }

@@ -61,7 +61,8 @@ impl<S: Stepper> LexedText<S> {
         end_from(start, &self.tokens.as_slice()[near.number..number])
     }
 
-    /// Whether there are no more tokens than bytes. It is so, since the tokens are those of the text and none is empty.
+    /// Returns whether there are no more tokens than bytes. That is always true: the tokens are those of the text, and
+    /// none is empty. A build for debugging tests it.
     pub(crate) fn is_consistent(&self) -> bool {
         self.tokens.len() <= self.text.len()
     }

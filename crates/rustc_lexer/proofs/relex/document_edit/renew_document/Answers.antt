@@ -1,7 +1,7 @@
 use Rattle.std.proofs.Common.{List, map, drop, arith, ap, sym, ◌∙◌, subst}
 use Rattle.std.proofs.lemmas.List.{take_rest}
 use Rattle.rustc_lexer.specs.{Token}
-use Rattle.rustc_lexer.specs.Edits.{IsMadeOf}
+use Rattle.rustc_lexer.specs.Relexing.{IsMadeOf}
 use Rattle.rustc_lexer.proofs.EditLemmas.{IfErr-always}
 use Rattle.rustc_lexer.proofs.RelexingLemmas.{few_lexed}
 use Rattle.rustc_lexer.proofs.relex.document_edit.renew_document.Goals as goal

@@ -7,7 +7,8 @@ use Rattle.rustc_lexer.specs.declared.relex.front.Bound.{Bound}
 use Rattle.rustc_lexer.specs.declared.relex.checkpoints.Checkpoints.{Checkpoints}
 use Rattle.rustc_lexer.specs.{Token}
 use Rattle.rustc_lexer.specs.Tokens.{tokens_by}
-use Rattle.rustc_lexer.specs.Edits.{IsEdit, IsInside, apply, IsBound, IsMadeOf}
+use Rattle.rustc_lexer.specs.Edits.{IsEdit, IsInside, apply, IsBound}
+use Rattle.rustc_lexer.specs.Relexing.{IsMadeOf}
 use Rattle.rustc_lexer.specs.Classes.{IsText}
 use Rattle.rustc_lexer.specs.means.Checkpoints.{AreBounds}
 use Rattle.rustc_lexer.proofs.EditLemmas.{put_back}

@@ -2,8 +2,8 @@ use Rattle.std.proofs.Common.{◌≡◌, ◌+◌, ◌∷◌, List, ℕ, length, 
 use Rattle.rustc_lexer.specs.declared.relex.front.Bound.{Bound}
 use Rattle.rustc_lexer.specs.{Token}
 use Rattle.rustc_lexer.specs.Tokens.{tokens_by}
-use Rattle.rustc_lexer.specs.Edits.{IsMadeOf, known}
-use Rattle.rustc_lexer.specs.Relexing.{IsUnderWay}
+use Rattle.rustc_lexer.specs.Edits.{known}
+use Rattle.rustc_lexer.specs.Relexing.{IsMadeOf, IsUnderWay}
 use Rattle.rustc_lexer.proofs.RelexBlockLemmas.{step_of}
 use Rattle.rustc_lexer.proofs.EditLemmas.{IfErr-always}
 use Rattle.rustc_lexer.proofs.RelexingLemmas.{few_lexed, all_lexed}

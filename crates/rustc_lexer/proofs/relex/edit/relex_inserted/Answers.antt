@@ -3,8 +3,8 @@ use Rattle.std.proofs.lemmas.List.{drop-drop, take-append-drop}
 use Rattle.rustc_lexer.specs.declared.relex.front.Bound.{Bound}
 use Rattle.rustc_lexer.specs.{Token}
 use Rattle.rustc_lexer.specs.Tokens.{tokens_by}
-use Rattle.rustc_lexer.specs.Edits.{IsMadeOf, known}
-use Rattle.rustc_lexer.specs.Relexing.{IsUnderWay}
+use Rattle.rustc_lexer.specs.Edits.{known}
+use Rattle.rustc_lexer.specs.Relexing.{IsMadeOf, IsUnderWay}
 use Rattle.rustc_lexer.proofs.BlockLemmas.{IsFront, front_of}
 use Rattle.rustc_lexer.proofs.relex.edit.relex_inserted.Goals as goal
 

@@ -1,6 +1,6 @@
 use Rattle.std.proofs.Common.{map, arith}
 use Rattle.rustc_lexer.specs.{Token}
-use Rattle.rustc_lexer.specs.Edits.{IsMadeOf}
+use Rattle.rustc_lexer.specs.Relexing.{IsMadeOf}
 use Rattle.rustc_lexer.proofs.EditLemmas.{IfErr-always}
 use Rattle.rustc_lexer.proofs.RelexingLemmas.{few_lexed}
 use Rattle.rustc_lexer.proofs.relex.edit.renew.Goals as goal

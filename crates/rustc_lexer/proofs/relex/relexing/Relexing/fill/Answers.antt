@@ -2,8 +2,7 @@ use Rattle.std.proofs.Common.{◌≡◌, List, ℕ, drop, map, inl, inr, refl, s
 use Rattle.std.proofs.lemmas.Bool.{cases_lt}
 use Rattle.rustc_lexer.specs.{Token}
 use Rattle.rustc_lexer.specs.Classes.{IsText}
-use Rattle.rustc_lexer.specs.Edits.{IsMadeOf, is_over}
-use Rattle.rustc_lexer.specs.Relexing.{IsUnderWay}
+use Rattle.rustc_lexer.specs.Relexing.{IsMadeOf, IsUnderWay, is_over}
 use Rattle.rustc_lexer.specs.Tokens.{tokens_by}
 use Rattle.rustc_lexer.proofs.BulkLemmas.{is_written, none_written, one_written}
 use Rattle.rustc_lexer.proofs.RelexBlockLemmas.{IsStepTo, step_of, left_at, next_left, no_step, step_more}
