@@ -15,6 +15,7 @@ pub const UNICODE_VERSION: (u8, u8, u8) = (18, 0, 0);
 /// version of Unicode adds one.
 ///
 /// Rust Reference, [Whitespace](https://doc.rust-lang.org/reference/whitespace.html).
+#[inline]
 pub fn is_whitespace(c: char) -> bool
     ensures { result ≡ Classes.is_whitespace c }
 {
@@ -36,6 +37,7 @@ pub fn is_whitespace(c: char) -> bool
 /// Returns whether the character is white space that does not end a line: a tab or a space.
 ///
 /// Rust Reference, [Whitespace](https://doc.rust-lang.org/reference/whitespace.html).
+#[inline]
 pub fn is_horizontal_whitespace(c: char) -> bool
     ensures { result ≡ Classes.is_horizontal_whitespace c }
 {
@@ -48,6 +50,7 @@ pub fn is_horizontal_whitespace(c: char) -> bool
 /// The proved table is made from `DerivedCoreProperties.txt` of Unicode 18.0.
 ///
 /// Rust Reference, [Identifiers](https://doc.rust-lang.org/reference/identifiers.html).
+#[inline]
 pub fn is_id_start(c: char) -> bool
     ensures { result ≡ Classes.is_id_start c }
 {
@@ -55,6 +58,7 @@ pub fn is_id_start(c: char) -> bool
 }
 
 /// Returns whether the character is `XID_Start`. For a character in ASCII it does not read the table.
+#[inline]
 fn is_xid_start(c: char) -> bool
     ensures { result ≡ is_xid_start c }
 {
@@ -71,6 +75,7 @@ fn is_xid_start(c: char) -> bool
 /// The proved table is made from `DerivedCoreProperties.txt` of Unicode 18.0.
 ///
 /// Rust Reference, [Identifiers](https://doc.rust-lang.org/reference/identifiers.html).
+#[inline]
 pub fn is_id_continue(c: char) -> bool
     ensures { result ≡ Classes.is_id_continue c }
 {
@@ -82,6 +87,7 @@ pub fn is_id_continue(c: char) -> bool
 }
 
 /// Returns whether an identifier may continue with the character, which is in ASCII.
+#[inline]
 fn is_ascii_continue(c: char) -> bool
     ensures { result ≡ (is_ascii_alphanumeric c || (c == 95)) }
 {
@@ -91,6 +97,7 @@ fn is_ascii_continue(c: char) -> bool
 /// Returns whether the text has at most `u32::MAX` bytes, so that every length in it is a `u32`.
 ///
 /// Each call that takes a whole text requires this.
+#[inline]
 pub fn fits(text: &str) -> bool
     ensures { IsTrue result ↔ Classes.Fits text.now }
 {

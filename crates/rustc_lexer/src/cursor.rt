@@ -65,6 +65,7 @@ impl<'a> Model for Cursor<'a> {
 
 impl<'a> Cursor<'a> {
     /// Creates a cursor at the front of the text, which may have at most `u32::MAX` bytes.
+    #[inline]
     pub fn new(input: &'a str, frontmatter_allowed: FrontmatterAllowed) -> Cursor<'a>
         requires fits { Fits input.now }
         ensures { result
@@ -91,6 +92,7 @@ impl<'a> Cursor<'a> {
     /// Returns the next character without taking it, or U+0000 at the end of the text.
     ///
     /// A U+0000 in the text gives the same answer. [`as_str`](Cursor::as_str) shows which of the two it is.
+    #[inline]
     pub fn first(&self) -> char
         ensures { result ≡ slice_index (chars self.now.rest) 0 }
     {
@@ -98,6 +100,7 @@ impl<'a> Cursor<'a> {
     }
 
     /// Returns the third of the next characters without taking it, or U+0000 if the text has no more than two.
+    #[inline]
     pub fn third(&self) -> char
         ensures { result ≡ slice_index (chars self.now.rest) 2 }
     {

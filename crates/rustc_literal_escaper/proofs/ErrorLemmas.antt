@@ -11,25 +11,21 @@ use Rattle.rustc_literal_escaper.specs.declared.error.EscapeError.{EscapeError}
 use Rattle.rustc_literal_escaper.specs.declared.mode.Mode.{Mode}
 use Rattle.rustc_literal_escaper.specs.Elements.{Item, items_of}
 use Rattle.rustc_literal_escaper.specs.Errors.{Error, alone_error, error_of, errors_in, errors_of, is_raw, is_single, put, single_error}
-use Rattle.rustc_literal_escaper.specs.Single.{StartsWithSingle}
 use Rattle.rustc_literal_escaper.proofs.RunLemmas.{folds-on}
-
--- what is wrong between single quotes, by the first element
-single_error-starts : (total : ℕ) (mode : Mode) (s left : List ℕ) (e : Element) → StartsWithSingle s e left → single_error total mode s ≡ alone_error total (error_of mode e) left
-single_error-starts total mode s left e h = grind (arith, common_steps)
 
 error_to-is : (total : ℕ) (error : EscapeError) (left : List ℕ) → IsUtf8 left → Some (record { start = 0; end = total - length left }, error) ≡ alone_error total (Some error) (chars left)
 error_to-is total error left is = ap (λ (n : ℕ). Some (record { start = 0; end = total - n }, error)) (sym (ap length (encodes-chars left is)))
 
-pub single_error-some : (total : ℕ) (mode : Mode) (s left : List ℕ) (e : Element) (error : EscapeError) → StartsWithSingle s e (chars left) → IsUtf8 left → Some error ≡ error_of mode e
-    → Some (record { start = 0; end = total - length left }, error) ≡ single_error total mode s
-single_error-some total mode s left e error h is some = error_to-is total error left is ∙ (ap (λ (o : Option EscapeError). alone_error total o (chars left)) some ∙ sym (single_error-starts total mode s (chars left) e h))
+-- what is wrong between single quotes, by what is wrong with the element, or by what is left
+pub alone_error-some : (total : ℕ) (wrong : Option EscapeError) (left : List ℕ) (error : EscapeError) → IsUtf8 left → wrong ≡ Some error
+    → Some (record { start = 0; end = total - length left }, error) ≡ alone_error total wrong (chars left)
+alone_error-some total wrong left error is some = error_to-is total error left is ∙ ap (λ (o : Option EscapeError). alone_error total o (chars left)) (sym some)
 
-pub single_error-more : (total : ℕ) (mode : Mode) (s left more : List ℕ) (e : Element) (d : ℕ) → StartsWithSingle s e (chars left) → None ≡ error_of mode e → chars left ≡ d ∷ chars more → IsUtf8 more
-    → Some (record { start = 0; end = total - length more }, MoreThanOneChar) ≡ single_error total mode s
-single_error-more total mode s left more e d h none reads is =
+pub alone_error-more : (total : ℕ) (wrong : Option EscapeError) (left more : List ℕ) (d : ℕ) → wrong ≡ None → chars left ≡ d ∷ chars more → IsUtf8 more
+    → Some (record { start = 0; end = total - length more }, MoreThanOneChar) ≡ alone_error total wrong (chars left)
+alone_error-more total wrong left more d none reads is =
     error_to-is total MoreThanOneChar more is
-    ∙ (ap (alone_error total None) (sym reads) ∙ (ap (λ (o : Option EscapeError). alone_error total o (chars left)) none ∙ sym (single_error-starts total mode s (chars left) e h)))
+    ∙ (ap (alone_error total None) (sym reads) ∙ ap (λ (o : Option EscapeError). alone_error total o (chars left)) (sym none))
 
 -- a literal between double quotes has the errors of its elements
 pub errors_of-strings : (mode : Mode) (text : List ℕ) (items : List Item) → false ≡ is_single mode → items ≡ items_of (is_raw mode) text → errors_in mode items ≡ errors_of mode text

@@ -16,8 +16,12 @@ module _ {U : Type 0} (meaning : Element → Result U EscapeError) where
   pub literal-one : (s left : List ℕ) (e : Element) (u : U) → StartsWithSingle s e left → meaning e ≡ Ok u → left ≡ [] → Ok u ≡ literal meaning s
   literal-one s left e u h m none = sym (literal-starts s left e h ∙ rw m (rw none refl))
 
-  pub literal-more : (s left : List ℕ) (e : Element) (u : U) → StartsWithSingle s e left → meaning e ≡ Ok u → (left ≡ [] → ⊥) → Err MoreThanOneChar ≡ literal meaning s
-  literal-more s left e u h m some = grind (arith, common_steps, literal-starts)
+-- what an element stands for, by what is left
+pub alone-one : {U : Type 0} (meant : Result U EscapeError) (left : List ℕ) (u : U) → meant ≡ Ok u → left ≡ [] → Ok u ≡ alone meant left
+alone-one meant left u m none = sym (rw m (rw none refl))
+
+pub alone-more : {U : Type 0} (meant : Result U EscapeError) (left : List ℕ) (u : U) → meant ≡ Ok u → (left ≡ [] → ⊥) → Err MoreThanOneChar ≡ alone meant left
+alone-more meant left u m some = grind (arith, common_steps)
 
 pub chars-some : (bs : List ℕ) → IsUtf8 bs → (length bs ≡ 0 → ⊥) → chars bs ≡ [] → ⊥
 chars-some bs is some e = some (ap length (sym (encodes-chars bs is) ∙ ap encode_utf8_all e))

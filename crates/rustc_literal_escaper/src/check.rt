@@ -13,7 +13,7 @@ use crate::error::EscapeError;
 use crate::mode::Mode;
 use crate::scan::{past_plain, split_first};
 use crate::simple::past_simple;
-use crate::single::single;
+use crate::single;
 use crate::steps::{byte_at, is_plain, line_at, lone_element, more_lines, more_space, pass_over};
 use std::ops::Range;
 
@@ -21,6 +21,7 @@ use std::ops::Range;
 ///
 /// `src` is the text between the quotes, and `mode` is the kind of the literal. The calls come in the order of the
 /// text. Between single quotes there is at most one, and its place begins at 0.
+#[inline]
 pub fn check_for_errors<F: FnMut(Range<usize>, EscapeError)>(
     src: &str,
     mode: Mode,
@@ -45,12 +46,28 @@ fn each_error<F: FnMut(Range<usize>, EscapeError)>(src: &str, mode: Mode, callba
 {
     match mode {
         Mode::Char | Mode::Byte => check_single(src, mode, callback),
+        Mode::Str | Mode::ByteStr | Mode::CStr => check_double(src, mode, callback),
+        Mode::RawStr | Mode::RawByteStr | Mode::RawCStr => check_double(src, mode, callback),
+    }
+}
+
+/// Calls `callback` with each error and warning between double quotes.
+///
+/// It stays a call, so that a check between single quotes is short.
+#[inline(never)]
+fn check_double<F: FnMut(Range<usize>, EscapeError)>(src: &str, mode: Mode, callback: &mut F)
+    requires callable { F.IsAlwaysCallable callback.old }
+    requires double { false ≡ spec.is_single mode }
+    ensures calls { FoldsTo (λ f error g. F.step f error.0 error.1 tt g)
+        callback.old (spec.errors_of mode src.now) callback.new }
+{
+    match mode {
         Mode::Str => check_string(src, mode, callback),
         Mode::ByteStr => check_string(src, mode, callback),
         Mode::CStr => check_string(src, mode, callback),
         Mode::RawStr => check_string(src, mode, callback),
         Mode::RawByteStr => check_string(src, mode, callback),
-        Mode::RawCStr => check_string(src, mode, callback),
+        Mode::Char | Mode::Byte | Mode::RawCStr => check_string(src, mode, callback),
     }
 }
 
@@ -77,17 +94,39 @@ fn check_single<F: FnMut(Range<usize>, EscapeError)>(src: &str, mode: Mode, call
 /// Returns the error between single quotes and its place in bytes, or `None` if there is no error.
 ///
 /// `src` is the text between the quotes. The place goes from 0 to the end of the character that shows the error.
+#[inline]
 pub(crate) fn single_error(src: &str, mode: Mode) -> Option<(Range<usize>, EscapeError)>
     ensures { result ≡ spec.single_error (length src.now) mode (chars src.now) }
 {
-    let Some((element, left)) = single(src) else {
+    let Some((c, tail)) = split_first(src) else {
         return Some((0..0, EscapeError::ZeroChars));
     };
-    if let Some(error) = element.error_in(mode) {
-        return Some((0..src.len() - left.len(), error));
+    if single::is_plain(c) {
+        return alone_error(Element::Plain(c).error_in(mode), tail, src.len());
+    }
+    if let Some((byte, left)) = single::byte_at(c, tail) {
+        return alone_error(Element::Byte(byte).error_in(mode), left, src.len());
+    }
+    let (element, left) = single::first(c, tail);
+    alone_error(element.error_in(mode), left, src.len())
+}
+
+/// Returns the error of an element between single quotes, or else the error that text is left after it. `total` is
+/// the length of the text between the quotes.
+#[inline(always)]
+fn alone_error(
+    error: Option<EscapeError>,
+    left: &str,
+    total: usize,
+) -> Option<(Range<usize>, EscapeError)>
+    requires fits { length left.now ≤ total }
+    ensures { result ≡ spec.alone_error total error (chars left.now) }
+{
+    if let Some(error) = error {
+        return Some((0..total - left.len(), error));
     }
     let (_, more) = split_first(left)?;
-    Some((0..src.len() - more.len(), EscapeError::MoreThanOneChar))
+    Some((0..total - more.len(), EscapeError::MoreThanOneChar))
 }
 
 /// Calls `callback` with each error and warning between double quotes.

@@ -24,6 +24,7 @@ pub enum Element {
 
 impl Element {
     /// Returns the character that the element stands for in a character literal or a string.
+    #[inline]
     pub fn to_char(self) -> Result<char, EscapeError>
         ensures { result ≡ char_of self }
     {
@@ -37,6 +38,7 @@ impl Element {
     }
 
     /// Returns the byte that the element stands for in a byte literal or a byte string.
+    #[inline]
     pub fn to_byte(self) -> Result<u8, EscapeError>
         ensures { result ≡ byte_of self }
     {
@@ -50,6 +52,7 @@ impl Element {
     }
 
     /// Returns the character or byte that the element stands for in a C string.
+    #[inline]
     pub fn to_mixed_unit(self) -> Result<MixedUnit, EscapeError>
         ensures { result ≡ unit_of self }
     {
@@ -62,6 +65,7 @@ impl Element {
     }
 
     /// Returns the character that the element stands for in a raw C string.
+    #[inline]
     pub fn to_raw_unit(self) -> Result<NonZeroChar, EscapeError>
         ensures { result ≡ raw_unit_of self }
     {

@@ -1,13 +1,13 @@
 //! Reads characters and bytes, the literals between single quotes.
-ghost use Rattle.std.specs.Prelude.{◌≡◌, ◌≤◌, ◌<◌, MatchOption, [], length};
+ghost use Rattle.std.specs.Prelude.{◌≡◌, ◌≤◌, ◌<◌, ℕ, List, true, IfSome, length};
 ghost use Rattle.std.specs.Str.{chars, IsUtf8};
 ghost use Rattle.rustc_literal_escaper.specs.RoundTrip.{ByteComesBack, CharComesBack};
 ghost use Rattle.rustc_literal_escaper.specs.Single as spec;
-ghost use Rattle.rustc_literal_escaper.specs.Single.{byte_literal, char_literal, StartsWithSingle};
+ghost use Rattle.rustc_literal_escaper.specs.Single.{byte_literal, char_literal};
 
 use crate::element::Element;
 use crate::error::EscapeError;
-use crate::escape::escape;
+use crate::escape::{escape, escaped_byte};
 use crate::scan::split_first;
 use crate::strings::{AsByte, AsChar, Meaning};
 
@@ -21,6 +21,7 @@ use crate::strings::{AsByte, AsChar, Meaning};
 /// unescape_char("\\n") // Ok('\n'): a backslash and an n
 /// unescape_char("ab") // Err(EscapeError::MoreThanOneChar)
 /// ```
+#[inline]
 pub fn unescape_char(src: &str) -> Result<char, EscapeError>
     ensures literal { result ≡ char_literal (chars src.now) }
     ensures escapes { CharComesBack }
@@ -32,6 +33,7 @@ pub fn unescape_char(src: &str) -> Result<char, EscapeError>
 /// in it.
 ///
 /// Rust Reference, [Byte literals](https://doc.rust-lang.org/reference/tokens.html#byte-literals).
+#[inline]
 pub fn unescape_byte(src: &str) -> Result<u8, EscapeError>
     ensures literal { result ≡ byte_literal (chars src.now) }
     ensures escapes { ByteComesBack }
@@ -40,13 +42,39 @@ pub fn unescape_byte(src: &str) -> Result<u8, EscapeError>
 }
 
 /// Returns what the only element stands for, if no text is left after it.
+///
+/// A plain character has a call of its own, which the compiler makes short and puts into the caller.
+#[inline(always)]
 fn read<M: Meaning>(src: &str) -> Result<M::Meant, EscapeError>
     ensures { result ≡ spec.literal M.meaning (chars src.now) }
 {
-    let Some((element, left)) = single(src) else {
+    let Some((c, tail)) = split_first(src) else {
         return Err(EscapeError::ZeroChars);
     };
-    let meant = M::of(element)?;
+    if is_plain(c) {
+        return alone(M::of(Element::Plain(c)), tail);
+    }
+    read_marked::<M>(c, tail)
+}
+
+/// Returns what the element that begins with the character `c` stands for, if no text is left after it.
+#[inline(never)]
+fn read_marked<M: Meaning>(c: char, tail: &str) -> Result<M::Meant, EscapeError>
+    ensures { result ≡ spec.alone (M.meaning (spec.single c (chars tail.now)).0) (spec.single c (chars tail.now)).1 }
+{
+    if let Some((byte, left)) = byte_at(c, tail) {
+        return alone(M::of(Element::Byte(byte)), left);
+    }
+    let (element, left) = first(c, tail);
+    alone(M::of(element), left)
+}
+
+/// Returns what an element stands for, if no text is left after it.
+#[inline(always)]
+fn alone<U: Copy>(meant: Result<U, EscapeError>, left: &str) -> Result<U, EscapeError>
+    ensures { result ≡ spec.alone meant (chars left.now) }
+{
+    let meant = meant?;
     if left.is_empty() {
         Ok(meant)
     } else {
@@ -54,21 +82,34 @@ fn read<M: Meaning>(src: &str) -> Result<M::Meant, EscapeError>
     }
 }
 
-/// Returns the first element between single quotes, and the text after it.
+/// Returns whether the character stands for itself between single quotes.
 #[inline(always)]
-pub(crate) fn single(src: &str) -> Option<(Element, &str)>
-    ensures { MatchOption result (chars src.now ≡ [])
-        (λ r. StartsWithSingle (chars src.now) r.0 (chars r.1.now) × IsUtf8 r.1.now
-        × (length r.1.now ≤ length src.now)) }
+pub(crate) fn is_plain(c: char) -> bool
+    ensures { result ≡ true → (s : List ℕ) → spec.single c s ≡ (Element.Plain c, s) }
 {
-    let (c, tail) = split_first(src)?;
-    let (element, left) = first(c, tail);
-    Some((element, left))
+    !matches!(c, '\n' | '\t' | '\'' | '\r' | '\\')
+}
+
+/// Returns the byte of an escape that begins with the character `c`, before `tail`, and the text after it.
+///
+/// Returns `None` if another element begins there.
+#[inline(always)]
+pub(crate) fn byte_at(c: char, tail: &str) -> Option<(u8, &str)>
+    ensures { IfSome result (λ r. ((Element.Byte r.0, chars r.1.now) ≡ spec.single c (chars tail.now))
+        × IsUtf8 r.1.now × (length r.1.now < length tail.now)) }
+{
+    if c == '\\' {
+        escaped_byte(tail)
+    } else {
+        None
+    }
 }
 
 /// Returns the element that begins with the character `c`, and the text after it.
-#[inline(always)]
-fn first(c: char, tail: &str) -> (Element, &str)
+///
+/// It stays a call, since few literals have another element than a plain character or an escape of a byte.
+#[inline(never)]
+pub(crate) fn first(c: char, tail: &str) -> (Element, &str)
     ensures shorter { length result.1.now ≤ length tail.now }
     ensures text { IsUtf8 result.1.now }
     ensures read { (result.0, chars result.1.now) ≡ spec.single c (chars tail.now) }

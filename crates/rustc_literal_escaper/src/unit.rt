@@ -25,6 +25,7 @@ impl Model for NonZeroChar {
 
 impl NonZeroChar {
     /// Returns the character, or `None` if it is U+0000.
+    #[inline]
     pub fn new(value: char) -> Option<NonZeroChar>
         ensures { SomeIff result (0 < value) value }
     {
@@ -36,6 +37,7 @@ impl NonZeroChar {
     }
 
     /// Returns the character as a `char`.
+    #[inline]
     pub fn get(self) -> char
         ensures value { result ≡ self }
         ensures nonzero { 0 < result }
@@ -73,6 +75,7 @@ impl Model for NonZeroU8 {
 
 impl NonZeroU8 {
     /// Returns the byte, or `None` if it is 0.
+    #[inline]
     pub fn new(value: u8) -> Option<NonZeroU8>
         ensures { SomeIff result (0 < value) value }
     {
@@ -84,6 +87,7 @@ impl NonZeroU8 {
     }
 
     /// Returns the byte as a `u8`.
+    #[inline]
     pub fn get(self) -> u8
         ensures value { result ≡ self }
         ensures nonzero { 0 < result }
@@ -108,6 +112,7 @@ impl From<NonZeroChar> for MixedUnit {
 
     ghost from_gives = { λ c r. r ≡ Char c };
 
+    #[inline]
     fn from(c: NonZeroChar) -> MixedUnit {
         MixedUnit::Char(c)
     }
@@ -118,6 +123,7 @@ impl From<NonZeroU8> for MixedUnit {
 
     ghost from_gives = { λ b r. r ≡ unit_of_byte b };
 
+    #[inline]
     fn from(byte: NonZeroU8) -> MixedUnit {
         if byte.get() < 128 {
             MixedUnit::Char(NonZeroChar::of_nonzero(byte.get() as char))
@@ -135,6 +141,7 @@ impl TryFrom<char> for MixedUnit {
 
     ghost try_from_gives = { λ c r. r ≡ unit_or_nul c (Char c) };
 
+    #[inline]
     fn try_from(c: char) -> Result<MixedUnit, EscapeError> {
         match NonZeroChar::new(c) {
             Some(c) => Ok(MixedUnit::Char(c)),
@@ -150,6 +157,7 @@ impl TryFrom<u8> for MixedUnit {
 
     ghost try_from_gives = { λ b r. r ≡ unit_or_nul b (unit_of_byte b) };
 
+    #[inline]
     fn try_from(byte: u8) -> Result<MixedUnit, EscapeError> {
         match NonZeroU8::new(byte) {
             Some(byte) => Ok(MixedUnit::from(byte)),

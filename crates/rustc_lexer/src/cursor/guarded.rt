@@ -26,6 +26,7 @@ impl<'a> Cursor<'a> {
     /// let mut cursor = Cursor::new("##\"a\"#", FrontmatterAllowed::No);
     /// let string = cursor.guarded_double_quoted_string(); // 2 hashes, terminated, of length 6
     /// ```
+    #[inline]
     pub fn guarded_double_quoted_string(&mut self) -> Option<GuardedStr>
         ensures answer { result ≡ (guarded self.old).0 }
         ensures state { self.new ≡ (guarded self.old).1 }
@@ -49,6 +50,7 @@ impl<'a> Cursor<'a> {
 }
 
 /// Returns how many hashes are at the front of the text.
+#[inline]
 fn count_hashes(rest: &str) -> usize
     ensures count { result ≡ hash_run (chars rest.now) }
     ensures boundary { IsCharBoundary rest.now result }
@@ -58,6 +60,7 @@ fn count_hashes(rest: &str) -> usize
 
 /// Reads the string that follows the hashes. Returns whether a quote closes it, and the length in bytes of the
 /// hashes and the string; or `None` if no string follows the hashes.
+#[inline]
 fn string_past(rest: &str, n_hashes: usize) -> Option<(bool, usize)>
     requires { n_hashes ≡ hash_run (chars rest.now) }
     ensures read { result ≡ spec.string_past n_hashes (chars rest.now) }

@@ -58,6 +58,7 @@ pub(crate) fn eat_marked(tail: &str) -> Option<&str>
 /// character, and may continue with all others. [`is_id_start`] and [`is_id_continue`] say by which tables.
 ///
 /// Rust Reference, [Identifiers](https://doc.rust-lang.org/reference/identifiers.html).
+#[inline]
 pub fn is_ident(string: &str) -> bool
     ensures { result ≡ Classes.is_ident (chars string.now) }
 {

@@ -11,6 +11,7 @@ pub const UNICODE_VERSION: (u8, u8, u8) = (18, 0, 0);
 /// version of Unicode adds one.
 ///
 /// Rust Reference, [Whitespace](https://doc.rust-lang.org/reference/whitespace.html).
+#[inline]
 pub fn is_whitespace(c: char) -> bool {
     matches!(
         c,
@@ -30,6 +31,7 @@ pub fn is_whitespace(c: char) -> bool {
 /// Returns whether the character is white space that does not end a line: a tab or a space.
 ///
 /// Rust Reference, [Whitespace](https://doc.rust-lang.org/reference/whitespace.html).
+#[inline]
 pub fn is_horizontal_whitespace(c: char) -> bool {
     matches!(c, '\t' | ' ')
 }
@@ -40,11 +42,13 @@ pub fn is_horizontal_whitespace(c: char) -> bool {
 /// The proved table is made from `DerivedCoreProperties.txt` of Unicode 18.0.
 ///
 /// Rust Reference, [Identifiers](https://doc.rust-lang.org/reference/identifiers.html).
+#[inline]
 pub fn is_id_start(c: char) -> bool {
     c == '_' || is_xid_start(c)
 }
 
 /// Returns whether the character is `XID_Start`. For a character in ASCII it does not read the table.
+#[inline]
 fn is_xid_start(c: char) -> bool {
     if c.is_ascii() {
         c.is_ascii_alphabetic()
@@ -59,6 +63,7 @@ fn is_xid_start(c: char) -> bool {
 /// The proved table is made from `DerivedCoreProperties.txt` of Unicode 18.0.
 ///
 /// Rust Reference, [Identifiers](https://doc.rust-lang.org/reference/identifiers.html).
+#[inline]
 pub fn is_id_continue(c: char) -> bool {
     if c.is_ascii() {
         is_ascii_continue(c)
@@ -68,6 +73,7 @@ pub fn is_id_continue(c: char) -> bool {
 }
 
 /// Returns whether an identifier may continue with the character, which is in ASCII.
+#[inline]
 fn is_ascii_continue(c: char) -> bool {
     c.is_ascii_alphanumeric() || c == '_'
 }
@@ -75,6 +81,7 @@ fn is_ascii_continue(c: char) -> bool {
 /// Returns whether the text has at most `u32::MAX` bytes, so that every length in it is a `u32`.
 ///
 /// Each call that takes a whole text requires this.
+#[inline]
 pub fn fits(text: &str) -> bool {
     text.len() <= u32::MAX as usize
 }

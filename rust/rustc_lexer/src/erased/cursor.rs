@@ -37,6 +37,7 @@ pub struct Cursor<'a> {
 
 impl<'a> Cursor<'a> {
     /// Creates a cursor at the front of the text, which may have at most `u32::MAX` bytes.
+    #[inline]
     pub fn new(input: &'a str, frontmatter_allowed: FrontmatterAllowed) -> Cursor<'a> {
         Cursor {
             text: input,
@@ -55,11 +56,13 @@ impl<'a> Cursor<'a> {
     /// Returns the next character without taking it, or U+0000 at the end of the text.
     ///
     /// A U+0000 in the text gives the same answer. [`as_str`](Cursor::as_str) shows which of the two it is.
+    #[inline]
     pub fn first(&self) -> char {
         scan::first(self.as_str())
     }
 
     /// Returns the third of the next characters without taking it, or U+0000 if the text has no more than two.
+    #[inline]
     pub fn third(&self) -> char {
         scan::third(self.as_str())
     }

@@ -8,6 +8,7 @@ use crate::erased::token::RawStrError;
 /// `prefix_len` is at least 1, and character number `prefix_len`, counted from 1, is `r`.
 ///
 /// [`validate_raw_str`](crate::validate_raw_str) requires this of its text.
+#[inline]
 pub fn starts_raw(input: &str, prefix_len: u32) -> bool {
     if prefix_len == 0 {
         return false;
@@ -36,6 +37,7 @@ pub fn validate_raw_str(input: &str, prefix_len: u32) -> Result<(), RawStrError>
 }
 
 /// Returns the text after its first `count` characters.
+#[inline]
 fn past_chars(text: &str, count: u32) -> &str {
     let mut rest = text;
     let mut left = count;

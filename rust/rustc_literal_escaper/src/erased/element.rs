@@ -21,6 +21,7 @@ pub enum Element {
 
 impl Element {
     /// Returns the character that the element stands for in a character literal or a string.
+    #[inline]
     pub fn to_char(self) -> Result<char, EscapeError> {
         match self {
             Element::Plain(c) => Ok(c),
@@ -32,6 +33,7 @@ impl Element {
     }
 
     /// Returns the byte that the element stands for in a byte literal or a byte string.
+    #[inline]
     pub fn to_byte(self) -> Result<u8, EscapeError> {
         match self {
             Element::Plain(c) if c.is_ascii() => Ok(c as u8),
@@ -43,6 +45,7 @@ impl Element {
     }
 
     /// Returns the character or byte that the element stands for in a C string.
+    #[inline]
     pub fn to_mixed_unit(self) -> Result<MixedUnit, EscapeError> {
         match self {
             Element::Plain(c) => MixedUnit::try_from(c),
@@ -53,6 +56,7 @@ impl Element {
     }
 
     /// Returns the character that the element stands for in a raw C string.
+    #[inline]
     pub fn to_raw_unit(self) -> Result<NonZeroChar, EscapeError> {
         NonZeroChar::new(self.to_char()?).ok_or(EscapeError::NulInCStr)
     }

@@ -10,6 +10,7 @@ pub struct NonZeroChar {
 
 impl NonZeroChar {
     /// Returns the character, or `None` if it is U+0000.
+    #[inline]
     pub fn new(value: char) -> Option<NonZeroChar> {
         if value == '\0' {
             None
@@ -19,6 +20,7 @@ impl NonZeroChar {
     }
 
     /// Returns the character as a `char`.
+    #[inline]
     pub fn get(self) -> char {
         self.value
     }
@@ -38,6 +40,7 @@ pub struct NonZeroU8 {
 
 impl NonZeroU8 {
     /// Returns the byte, or `None` if it is 0.
+    #[inline]
     pub fn new(value: u8) -> Option<NonZeroU8> {
         if value == 0 {
             None
@@ -47,6 +50,7 @@ impl NonZeroU8 {
     }
 
     /// Returns the byte as a `u8`.
+    #[inline]
     pub fn get(self) -> u8 {
         self.value
     }
@@ -64,12 +68,14 @@ pub enum MixedUnit {
 }
 
 impl From<NonZeroChar> for MixedUnit {
+    #[inline]
     fn from(c: NonZeroChar) -> MixedUnit {
         MixedUnit::Char(c)
     }
 }
 
 impl From<NonZeroU8> for MixedUnit {
+    #[inline]
     fn from(byte: NonZeroU8) -> MixedUnit {
         if byte.get() < 128 {
             MixedUnit::Char(NonZeroChar::of_nonzero(byte.get() as char))
@@ -82,6 +88,7 @@ impl From<NonZeroU8> for MixedUnit {
 impl TryFrom<char> for MixedUnit {
     type Error = EscapeError;
 
+    #[inline]
     fn try_from(c: char) -> Result<MixedUnit, EscapeError> {
         match NonZeroChar::new(c) {
             Some(c) => Ok(MixedUnit::Char(c)),
@@ -93,6 +100,7 @@ impl TryFrom<char> for MixedUnit {
 impl TryFrom<u8> for MixedUnit {
     type Error = EscapeError;
 
+    #[inline]
     fn try_from(byte: u8) -> Result<MixedUnit, EscapeError> {
         match NonZeroU8::new(byte) {
             Some(byte) => Ok(MixedUnit::from(byte)),

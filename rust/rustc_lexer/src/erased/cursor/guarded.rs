@@ -20,6 +20,7 @@ impl<'a> Cursor<'a> {
     /// let mut cursor = Cursor::new("##\"a\"#", FrontmatterAllowed::No);
     /// let string = cursor.guarded_double_quoted_string(); // 2 hashes, terminated, of length 6
     /// ```
+    #[inline]
     pub fn guarded_double_quoted_string(&mut self) -> Option<GuardedStr> {
         let rest = self.as_str();
         let n_hashes = count_hashes(rest);
@@ -40,12 +41,14 @@ impl<'a> Cursor<'a> {
 }
 
 /// Returns how many hashes are at the front of the text.
+#[inline]
 fn count_hashes(rest: &str) -> usize {
     rest.len() - eat_while(rest, |c| c == '#').len()
 }
 
 /// Reads the string that follows the hashes. Returns whether a quote closes it, and the length in bytes of the
 /// hashes and the string; or `None` if no string follows the hashes.
+#[inline]
 fn string_past(rest: &str, n_hashes: usize) -> Option<(bool, usize)> {
     let body = strip(&rest[n_hashes..], '"')?;
     let (terminated, left) = guarded_body(body, n_hashes);

@@ -44,6 +44,7 @@ pub(crate) fn eat_marked(tail: &str) -> Option<&str> {
 /// character, and may continue with all others. [`is_id_start`] and [`is_id_continue`] say by which tables.
 ///
 /// Rust Reference, [Identifiers](https://doc.rust-lang.org/reference/identifiers.html).
+#[inline]
 pub fn is_ident(string: &str) -> bool {
     match split_first(string) {
         Some((first, tail)) => is_id_start(first) && eat_while(tail, is_id_continue).is_empty(),
