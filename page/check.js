@@ -1,8 +1,20 @@
 // The page's check of itself: index.html#check runs it, and writes `check: passed` or what failed.
 'use strict';
-const PIECES = ['a', '"', '/*', '*/', "'", 'é', '😀', '#', ' ', '\n', '\r', '0x', 'r#"', '"#', '---', '//', '\\', 'b', '\u{feff}', '&<>'];
+const PIECES = ['a', '"', '/*', '*/', "'", 'é', '😀', '#', ' ', '\n', '\r', '0x', 'r#"', '"#', '---', '//', '\\', 'b', '\u{feff}', '&<>',
+  '\u{1f}', '\u{2028}'];
 const STARTS = ['', 'fn f<\'a>(x: &\'a str) -> u8 { 1.5e3; r#"é😀"# /* a */ } // b\n', '#!/bin/sh\n---\nx = 1\n---\n#!/y\n',
-  '"\\u{1f600}\\q" \'r#a k#b c"\\xff" #"x"# 0b 1e b\'é\' /* & < > */\n', '/*\n\n\n*/ let x = "a\n  b\\\n  c";\n'.repeat(12)];
+  '"\\u{1f600}\\q" \'r#a k#b c"\\xff" #"x"# 0b 1e b\'é\' /* & < > */\n', '/*\n\n\n*/ let x = "a\n  b\\\n  c";\n'.repeat(12),
+  `let ${'a'.repeat(300)} = 0x; k"\\q"#"b"#\n`];
+
+// Literals, and what the page says that they stand for.
+const WRONG = 'nothing: it is wrong';
+const LITERALS = [["'a'", '1 character: "a"'], ["'é'x", '1 character: "\\u{e9}"'], [`'"'`, '1 character: "\\""'], ["'ab'", WRONG],
+  ["b'\\xff'", '1 byte: "\\xff"'], ["b'é'", WRONG], ['"aé\\n"', '3 characters: "a\\u{e9}\\n"'], ['""', '0 characters: ""'],
+  ['"a\\\n\n  b"', '2 characters: "ab"'], ['"\\q"', WRONG], ['r"\\n"', '2 characters: "\\\\n"'],
+  ['r##"a"#b"##', '4 characters: "a\\"#b"'], ['b"a\\xff"', '2 bytes: "a\\xff"'], ['b"é"', WRONG], ['br#"\\"#', '1 byte: "\\\\"'],
+  ['br"é"', WRONG], ['c"é\\xff"', '4 bytes: "\\xc3\\xa9\\xff\\x00"'], ['c"\\0"', WRONG], ['cr"é\\"', '4 bytes: "\\xc3\\xa9\\\\\\x00"'],
+  ['cr"\0"', WRONG], ['1u8', ''], ["'a", ''], ["b'a", ''], ['"a', ''], ['r#"a"', ''], ['b"a', ''], ['br#"a"', ''], ['c"a', ''], ['cr#"a"', ''],
+  ['a', '']];
 
 // Numbers that are the same in each run.
 let seed = 1;
@@ -15,7 +27,42 @@ function expect(holds, words) {
 // What the field holds, as the lexer has it: half of a pair is no character, and is read as U+FFFD.
 const wanted = () => text.value.toWellFormed();
 const bytesOf = (words) => new TextEncoder().encode(words).length;
-const listing = () => ask('listing', edition()).split('\n').slice(0, -1);
+const linesOf = (number) => ask('listing', number).split('\n').slice(0, -1);
+const listing = () => linesOf(edition());
+const textOf = (bytes) => new TextDecoder('utf-8', { ignoreBOM: true }).decode(bytes);
+
+// A part of a text in one line, as the page shows it.
+function piece(part) {
+  const escape = (c) => ({ '\t': '\\t', '\n': '\\n', '\r': '\\r' }[c] ?? `\\u{${c.codePointAt(0).toString(16)}}`);
+  const characters = [...part];
+  return characters.slice(0, 40).map((c) => (/\p{Cc}/u.test(c) ? escape(c) : c)).join('') + (characters.length > 40 ? '\u2026' : '');
+}
+
+// The line and the column of a byte.
+function placeOf(bytes, at) {
+  const lines = textOf(bytes.subarray(0, at)).split('\n');
+  return `${lines.length}:${[...lines.at(-1)].length + 1}`;
+}
+
+// Where the listings of the editions differ, between places where all of them end a token.
+function differences(begin) {
+  const lists = years.map((_, number) => {
+    let end = begin;
+    return linesOf(number).map((line) => ({ start: end, end: end += Number(line.split(' ')[1]), words: line.split(' ').slice(2) }));
+  });
+  const others = lists.slice(1).map((list) => new Set(list.map(({ end }) => end)));
+  const taken = lists.map(() => 0);
+  const found = [];
+  for (const { end } of lists[0].filter((token) => others.every((ends) => ends.has(token.end)))) {
+    const groups = lists.map((list, number) => {
+      const from = taken[number];
+      while (list[taken[number]]?.end <= end) taken[number] += 1;
+      return list.slice(from, taken[number]);
+    });
+    if (new Set(groups.map((group) => JSON.stringify(group))).size > 1) found.push({ start: groups[0][0].start, end, groups });
+  }
+  return { counts: lists.map((list) => list.length), found };
+}
 
 // The place of the caret in bytes. One that cuts a pair stands before it.
 function caretByte() {
@@ -34,6 +81,11 @@ const checks = {
     const first = Math.floor(text.scrollTop / LINE);
     const lines = wanted().split('\n').slice(first, first + Math.ceil(text.clientHeight / LINE) + 1);
     const drawn = [...at('lines').children];
+    const edge = at('field').getBoundingClientRect().right;
+    for (const messages of at('lines').querySelectorAll('.messages')) {
+      const { right } = messages.getBoundingClientRect();
+      expect(right < edge, `messages end at ${right}, past the edge at ${edge}`);
+    }
     expect(drawn.length === lines.length, `${drawn.length} lines are drawn of ${lines.length}`);
     const seen = JSON.parse(ask('show', first, lines.length, caret, edition())).lines;
     const above = at('lines').getBoundingClientRect().top - at('field').getBoundingClientRect().top;
@@ -57,25 +109,66 @@ const checks = {
     const size = bytesOf(wanted());
     expect(seen.begin + (ends.at(-1) ?? 0) === size, 'the listing is not of the text');
     expect(all.every((line, number) => line.startsWith(`${ends[number - 1] ?? 0} `)), 'the listing has a gap');
-    for (const { number, start, bytes, kind, fields } of [...seen.tokens, ...seen.elsewhere]) {
+    const written = new TextEncoder().encode(wanted());
+    for (const { number, start, bytes, kind, fields, text: shown } of [...seen.tokens, ...seen.elsewhere]) {
       const line = `${start - seen.begin} ${bytes} ${kind}${fields && ' ' + fields}`;
       expect(line === all[number], `token ${number} is shown as ${line}, and listed as ${all[number]}`);
+      expect(shown === piece(textOf(written.subarray(start, start + bytes))), `token ${number} is shown with the text ${shown}`);
     }
+    const first = seen.tokens[0];
+    expect(!first || first.place === placeOf(written, first.start), `the first token is said to be at ${first?.place}`);
     const place = caretByte();
     const here = [...seen.tokens, ...seen.elsewhere].find((token) => token.number === seen.at);
     const isIn = here && here.start <= place && (place < here.start + here.bytes || place === size);
     expect(isIn || place < seen.begin || seen.count === 0, `the caret is at byte ${place}, said is ${JSON.stringify(here)}`);
   },
-  // The counts of the bar add up.
+  // The sentence about the last edit, the bar, and the tokens that are drawn as lexed: as the listings before it and now.
   bar() {
-    const said = at('kept').textContent.match(/kept (\d+) tokens in front, lexed (\d+), and kept (\d+) .*: (\d+) tokens/);
-    if (!said) return;
-    const [front, lexed, back, all] = said.slice(1).map(Number);
-    expect(front + lexed + back === all && all === listing().length, `the bar says ${said[0]} of ${listing().length}`);
+    const all = listing();
+    const said = at('kept').textContent;
+    const counts = said.match(/^The last edit kept (\d+) tokens in front, lexed (\d+), and kept (\d+) at the back/);
+    const [front, lexed, back] = counts ? counts.slice(1).map(Number) : [0, all.length, 0];
+    const size = `: ${all.length} tokens, ${bytesOf(wanted())} bytes, ${wanted().split('\n').length} lines.`;
+    expect(said === (counts ? counts[0] : 'All was lexed') + size && front + lexed + back === all.length, `it says ${said}, and not ${size}`);
+    const old = before[edition()];
+    const withoutPlace = (lines) => lines.map((line) => line.slice(line.indexOf(' '))).join();
+    expect(all.slice(0, front).join() === old.slice(0, front).join()
+      && withoutPlace(all.slice(front + lexed)) === withoutPlace(old.slice(old.length - back)), `it says ${said}, of other tokens`);
+    const seen = show();
+    const drawn = document.querySelectorAll('#tokens tbody tr');
+    seen.tokens.forEach(({ number }, row) => {
+      const isFresh = front + back > 0 && number >= front && number < front + lexed;
+      expect((drawn[row].querySelector('.fresh') !== null) === isFresh, `token ${number} is drawn as ${isFresh ? 'kept' : 'lexed'}`);
+    });
+    const free = at('bar').clientWidth - 4;
+    const middle = Math.max(4, free * lexed / all.length || 0);
+    const widths = counts ? [(free - middle) * front / (front + back), middle, (free - middle) * back / (front + back)] : [0, free, 0];
+    [...at('bar').children].forEach((part, number) => expect(Math.abs(part.getBoundingClientRect().width - widths[number]) < 5,
+      `part ${number} of the bar has a width of ${part.getBoundingClientRect().width}, not ${widths[number]}`));
+  },
+  // How many tokens each edition has, and the table of what differs: as their listings.
+  editions() {
+    drawEditions();
+    const written = new TextEncoder().encode(wanted());
+    const { counts, found } = differences(JSON.parse(ask('show', 0, 1, 0, edition())).begin);
+    const places = found.length ? `They differ in ${found.length} place${found.length > 1 ? 's' : ''}` : 'They are the same';
+    const wantedWords = `Tokens: ${years.map((value, number) => `${counts[number]} in ${value}`).join(', ')}. `
+      + places + (found.length > 50 ? '; the first 50 are here.' : '.');
+    expect(at('differ').textContent === wantedWords, `it says ${at('differ').textContent}, not ${wantedWords}`);
+    const rows = [...document.querySelectorAll('#differences tr')].map((row) => [...row.children].map((cell) => cell.textContent));
+    const wantedRows = found.slice(0, 50).map(({ start, end, groups }) => [placeOf(written, start), piece(textOf(written.subarray(start, end))),
+      ...groups.map((group) => group.map((token) => `${token.words[0]} ${piece(textOf(written.subarray(token.start, token.end)))}`).join('\n'))]);
+    wantedRows.unshift(['Place', 'Text', ...years.map(String)]);
+    wantedRows.concat(rows).forEach((_, number) => expect(JSON.stringify(rows[number]) === JSON.stringify(wantedRows[number]),
+      `row ${number} of what differs is ${JSON.stringify(rows[number])}, not ${JSON.stringify(wantedRows[number])}`));
   },
 };
 
-// A text that no field can hold, such as one with a carriage return: its lines as they would be drawn.
+// The listings before the last edit, in each edition.
+let before;
+const listings = () => years.map((_, number) => linesOf(number));
+
+// A text that no field can hold, like one with a carriage return: its lines as they would be drawn.
 function beyondField(value) {
   change(value);
   const lines = value.split('\n');
@@ -83,12 +176,27 @@ function beyondField(value) {
   const drawn = seen.lines.map((line, number) => drawnLine([number + 1, line]).textContent);
   expect(JSON.stringify(drawn) === JSON.stringify(lines), `drawn is ${JSON.stringify(drawn)}`);
   for (const name of ['kept', 'marks']) checks[name]();
+  before = listings();
+  change(text.value);
 }
 
 // A change through the field, as typing makes it: any units are replaced, so pairs are cut too.
 function type(start, stop, insert) {
+  const old = wanted();
+  const listed = listings();
   text.setRangeText(insert, start, stop, 'end');
+  if (wanted() !== old) before = listed;
   text.dispatchEvent(new Event('input'));
+}
+
+const typeAll = (value) => type(0, text.value.length, value);
+const choose = (value) => [...document.querySelectorAll('#edition label')].find((label) => label.textContent.trim() === value).click();
+
+// What an event throws does not come back to the one who sent it.
+const failures = [];
+function run(...names) {
+  for (const name of names) checks[name]();
+  expect(failures.length === 0, failures[0]);
 }
 
 function round(number) {
@@ -97,32 +205,59 @@ function round(number) {
   const chosen = text.value.length && random(text.value.length);
   text.setSelectionRange(chosen, chosen);
   text.scrollTop = random(text.scrollHeight);
+  text.scrollLeft = random(text.scrollWidth);
   show();
-  for (const name of number % 8 ? ['drawn', 'listed', 'bar'] : Object.keys(checks)) checks[name]();
+  run(...number % 8 ? ['drawn', 'listed', 'bar'] : Object.keys(checks));
+}
+
+// Texts with a known answer, in the newest edition.
+function known() {
+  choose(String(years.at(-1)));
+  for (const [literal, value] of LITERALS) {
+    typeAll(literal);
+    const drawn = document.querySelector('#tokens tbody td:last-child').textContent;
+    expect(drawn === value, `${literal} is said to stand for ${drawn}`);
+  }
+  // characters that share their first byte, or their last
+  for (const next of 'é©ê') {
+    typeAll(`a${next}b`);
+    run('kept', 'drawn');
+  }
+  typeAll(STARTS[4]);
+  type(50, 50, ' ');
+  const [front, lexed, back] = [...at('bar').children].map((part) => Number(part.style.flexGrow));
+  expect(front > 0 && lexed < 5 && back > 50, `an edit kept ${front}, lexed ${lexed}, and kept ${back}`);
+  typeAll('k#b '.repeat(60));
+  run(...Object.keys(checks));
 }
 
 async function check() {
   await ready;
+  addEventListener('error', ({ message }) => failures.push(message));
+  // no field gives a text with these to the page as it is, and JSON writes them in its own way
+  const controls = Array.from({ length: 0xa0 }, (_, c) => String.fromCharCode(c)).join('') + '\u{2028}\u{2029}';
   for (const start of STARTS) {
-    for (let chosen = 0; chosen < 8; chosen += 1) {
-      document.querySelectorAll('[name=edition]')[chosen % 4].checked = true;
-      at('document').checked = chosen > 3;
-      beyondField(`a\r\n"\r" \0 é\r${start}\r`);
-      // characters that share their first byte, or their last
-      for (const next of 'é©ê') {
-        type(0, text.value.length, `a${next}b`);
-        for (const name of ['kept', 'drawn']) checks[name]();
-      }
-      type(0, text.value.length, start);
+    for (let chosen = 0; chosen < 2 * years.length; chosen += 1) {
+      // the browser stays awake between
+      await new Promise((done) => setTimeout(done));
+      choose(String(years[chosen % years.length]));
+      if (at('document').checked !== chosen >= years.length) at('document').click();
+      beyondField(`a\r\n"\r" \0 é\r${start}\r${controls}`);
+      typeAll(start);
       for (let number = 0; number < 60; number += 1) round(number);
-      drawEditions();
+      // the box is clicked after edits, and so is another edition
+      for (const button of [at('document'), ...document.querySelectorAll('[name=edition]'), at('document')]) {
+        button.click();
+        run(...Object.keys(checks));
+      }
     }
   }
+  known();
   // the memory of the lexer grows, below a view of it too
-  type(0, text.value.length, STARTS[1].repeat(20000));
+  typeAll(STARTS[1].repeat(20000));
   text.scrollTop = 12345;
   show();
-  for (const name of ['kept', 'drawn', 'listed', 'bar']) checks[name]();
+  run('kept', 'drawn', 'listed', 'bar');
 }
 
 if (location.hash === '#check') {

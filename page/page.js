@@ -4,6 +4,7 @@ const at = (id) => document.getElementById(id);
 const text = at('text');
 const LINE = 20;
 let lexer;
+let years;
 let caret = 0;
 
 // A call of the lexer, whose answer lies in its memory. A view of that holds only until memory grows.
@@ -20,8 +21,8 @@ function change(value) {
   return JSON.parse(ask('change', written, at('document').checked, edition()));
 }
 
-const edition = () => Number(document.querySelector('[name=edition]:checked').value);
-const year = () => [2015, 2018, 2021, 2024][edition()];
+const year = () => Number(document.querySelector('[name=edition]:checked').value);
+const edition = () => years.indexOf(year());
 
 function element(name, words, ...inside) {
   const made = document.createElement(name);
@@ -44,16 +45,26 @@ function draw(list, items, make) {
 }
 
 const drawnLine = ([number, { runs, said }]) => element('div', { 'data-line': number },
-  ...runs.map(([name, shown]) => element('span', { class: name }, shown)),
-  ...said.map((sentence) => element('span', { class: 'said', 'data-said': sentence })));
+  element('span', { class: 'code' }, ...runs.map(([name, shown]) => element('span', { class: name }, shown))),
+  ...(said.length ? [element('span', { class: 'messages' },
+    ...said.map((sentence) => element('span', { class: 'said', 'data-said': sentence })))] : []));
 
 const drawnToken = ([token, isHere]) => element('tr', isHere ? { 'aria-current': 'true' } : {},
   ...[token.place, token.start, token.bytes].map((value) => element('td', {}, value)),
   element('td', { class: token.fresh ? 'fresh' : '' }, token.text),
   ...[`${token.kind} ${token.fields}`, token.value].map((value) => element('td', {}, value)));
 
-const drawnParting = (parting) => element('tr', {}, element('td', {}, parting.place), element('td', {}, parting.text),
-  ...parting.editions.map((tokens) => element('td', {}, tokens.map(([kind, shown]) => `${kind} ${shown}`).join('\n'))));
+const drawnDifference = ({ place, text, editions }) => element('tr', {}, element('td', {}, place), element('td', {}, text),
+  ...editions.map((tokens) => element('td', {}, tokens.map(([kind, shown]) => `${kind} ${shown}`).join('\n'))));
+
+// Makes what the page has of each edition: a button that chooses it, and a column.
+function drawYears() {
+  years = JSON.parse(ask('years'));
+  at('edition').append(...years.map((value) =>
+    element('label', {}, element('input', { type: 'radio', name: 'edition', value }), ` ${value}`)));
+  at('edition').querySelector('label:last-child input').checked = true;
+  document.querySelector('#differences thead tr').append(...years.map((value) => element('th', { scope: 'col' }, value)));
+}
 
 // Draws the lines that are seen, their tokens, and what is said of the token at the caret.
 function show() {
@@ -61,7 +72,11 @@ function show() {
   caret = text.selectionStart;
   const seen = JSON.parse(ask('show', first, Math.ceil(text.clientHeight / LINE) + 1, caret, edition()));
   draw(at('lines'), seen.lines.map((line, number) => [first + number + 1, line]), drawnLine);
-  at('lines').style.transform = `translate(${-text.scrollLeft}px, ${first * LINE - text.scrollTop}px)`;
+  const { style } = at('lines');
+  style.transform = `translate(${-text.scrollLeft}px, ${first * LINE - text.scrollTop}px)`;
+  // messages have what the code leaves of the width that is seen, and all of them are listed below
+  style.setProperty('--right', `${at('field').clientWidth - text.clientWidth - text.scrollLeft + 8}px`);
+  style.setProperty('--wide', `${text.clientWidth + text.scrollLeft - 70}px`);
   const here = seen.tokens.find(({ number }) => number === seen.at) ?? seen.elsewhere[0];
   draw(document.querySelector('#tokens tbody'),
     seen.tokens.map((token) => [token, token === here]), drawnToken);
@@ -80,17 +95,16 @@ function drawKept({ kept, bytes, lines }, count) {
   at('bar').className = kept ? '' : 'anew';
   const [front, lexed, back] = kept || [0, count, 0];
   [front, lexed, back].forEach((part, number) => { at('bar').children[number].style.flexGrow = part; });
-  const all = `${count} tokens, ${bytes} bytes, ${lines} lines`;
   at('kept').textContent = (front + back ? `The last edit kept ${front} tokens in front, lexed ${lexed}, and kept ${back} at the back`
     : 'All was lexed') + `: ${count} tokens, ${bytes} bytes, ${lines} lines.`;
 }
 
 function drawEditions() {
-  const { counts, parted, places } = JSON.parse(ask('editions'));
-  at('parted').textContent = `2015 has ${counts[0]} tokens, 2018 ${counts[1]}, 2021 ${counts[2]}, 2024 ${counts[3]}. `
-    + (parted ? `They part at ${parted} place${parted === 1 ? '' : 's'}` : 'They are the same')
-    + (parted > places.length ? `, of which the first ${places.length} are here.` : '.');
-  draw(document.querySelector('#partings tbody'), places, drawnParting);
+  const { counts, differ, places } = JSON.parse(ask('editions'));
+  at('differ').textContent = `Tokens: ${years.map((value, number) => `${counts[number]} in ${value}`).join(', ')}. `
+    + (differ ? `They differ in ${differ} place${differ === 1 ? '' : 's'}` : 'They are the same')
+    + (differ > places.length ? `; the first ${places.length} are here.` : '.');
+  draw(document.querySelector('#differences tbody'), places, drawnDifference);
 }
 
 let later;
@@ -104,7 +118,7 @@ function changed() {
 // A link carries text and edition: #edition=2018&document&text=..
 function read() {
   const words = new URLSearchParams(location.hash.slice(1));
-  const chosen = document.querySelectorAll('[name=edition]')[[2015, 2018, 2021, 2024].indexOf(Number(words.get('edition')))];
+  const chosen = [...document.querySelectorAll('[name=edition]')].find(({ value }) => value === words.get('edition'));
   if (chosen) chosen.checked = true;
   if (words.has('text')) {
     at('document').checked = words.has('document');
@@ -125,6 +139,39 @@ function save() {
   setTimeout(() => URL.revokeObjectURL(file));
 }
 
+// Gives the text so many hundredths of the width, and its tokens the rest.
+function split(share) {
+  const held = Math.min(80, Math.max(20, Math.round(share)));
+  const { style } = at('split').parentElement;
+  style.setProperty('--text', `${held}fr`);
+  style.setProperty('--tokens', `${100 - held}fr`);
+  at('split').setAttribute('aria-valuenow', held);
+  show();
+}
+
+function splitBy(event) {
+  const share = Number(at('split').getAttribute('aria-valuenow'));
+  const wanted = { ArrowLeft: share - 2, ArrowRight: share + 2, Home: 0, End: 100 }[event.key];
+  if (wanted === undefined) return;
+  event.preventDefault();
+  split(wanted);
+}
+
+function drag(event) {
+  if (!at('split').hasPointerCapture(event.pointerId)) return;
+  const { left, width } = at('split').parentElement.getBoundingClientRect();
+  split(100 * (event.clientX - left) / width);
+}
+
+// The keys of the whole page, which its dialog lists.
+function pressed(event) {
+  const call = { F1: () => at('keys').open || at('keys').showModal(), 's with Control': save }[
+    event.key + (event.ctrlKey || event.metaKey ? ' with Control' : '')];
+  if (!call) return;
+  event.preventDefault();
+  call();
+}
+
 const SAMPLE = `// Type here. Try a quote, or /* at the front.
 fn greet<'a>(name: &'a str) -> String {
     let count = 0b1010_u8 + 0x; // no digits
@@ -137,6 +184,7 @@ fn greet<'a>(name: &'a str) -> String {
 const bytes = Uint8Array.from(atob(LEXER), (c) => c.charCodeAt(0));
 const ready = WebAssembly.instantiate(bytes, {}).then(({ instance }) => {
   lexer = instance.exports;
+  drawYears();
   if (!text.value) text.value = SAMPLE;
   text.addEventListener('input', changed);
   text.addEventListener('scroll', show);
@@ -145,6 +193,11 @@ const ready = WebAssembly.instantiate(bytes, {}).then(({ instance }) => {
   at('document').addEventListener('change', changed);
   at('link').addEventListener('click', link);
   at('save').addEventListener('click', save);
+  at('help').addEventListener('click', () => at('keys').showModal());
+  at('split').addEventListener('pointerdown', (event) => at('split').setPointerCapture(event.pointerId));
+  at('split').addEventListener('pointermove', drag);
+  at('split').addEventListener('keydown', splitBy);
+  addEventListener('keydown', pressed);
   addEventListener('hashchange', read);
   addEventListener('resize', show);
   addEventListener('error', ({ message }) => { at('kept').textContent = `This page has failed, load it again: ${message}`; });

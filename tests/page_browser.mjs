@@ -6,13 +6,15 @@
 //        node tests/page_browser.mjs PAGE times FILE               the time of a key press in the text of a file
 //        node tests/page_browser.mjs PAGE pictures FOLDER SAMPLE   light, dark, narrow, and an edit; and the page SAMPLE
 import { spawn, execFileSync } from 'node:child_process';
-import { mkdtempSync, readFileSync, rmSync, writeFileSync } from 'node:fs';
+import { existsSync, mkdtempSync, readFileSync, rmSync, writeFileSync } from 'node:fs';
 import { tmpdir } from 'node:os';
 import { join } from 'node:path';
 import { pathToFileURL } from 'node:url';
 import { smaller } from './page_picture.mjs';
 
 const [page, task, ...words] = process.argv.slice(2);
+// The check of the page takes a minute or two. Nothing takes longer.
+const MOST_SECONDS = 600;
 const profile = mkdtempSync(join(tmpdir(), 'page-'));
 const chromium = spawn('chromium', ['--headless', '--no-sandbox', '--disable-gpu', '--disable-dev-shm-usage', '--hide-scrollbars',
   `--user-data-dir=${profile}`, '--remote-debugging-pipe', 'about:blank'], { stdio: ['ignore', 'ignore', 'ignore', 'pipe', 'pipe'] });
@@ -31,12 +33,22 @@ chromium.stdio[4].setEncoding('utf8').on('data', (data) => {
   }
 });
 
+// What is awaited, or an error when it takes more than so many seconds.
+function within(seconds, what, awaited) {
+  let timer;
+  const late = new Promise((done, failed) => {
+    timer = setTimeout(() => failed(new Error(`no end within ${seconds} seconds: ${what}`)), 1000 * seconds);
+  });
+  return Promise.race([awaited, late]).finally(() => clearTimeout(timer));
+}
+
 // A command of the protocol.
 let sessionId;
 function tell(method, params = {}) {
   number += 1;
   chromium.stdio[3].write(`${JSON.stringify({ id: number, method, params, ...(sessionId && { sessionId }) })}\0`);
-  return new Promise((done, failed) => waiting.set(number, { done, failed }));
+  const answer = new Promise((done, failed) => waiting.set(number, { done, failed }));
+  return within(MOST_SECONDS, `${method} ${JSON.stringify(params).slice(0, 200)}`, answer);
 }
 
 // The value of an expression in the page.
@@ -46,9 +58,18 @@ async function value(expression) {
   return result.value;
 }
 
-const until = async (expression) => {
-  while (!await value(expression)) await new Promise((done) => setTimeout(done, 50));
-};
+const pause = () => new Promise((done) => setTimeout(done, 50));
+
+// Waits until something holds.
+async function until(what, holds, seconds = 30) {
+  const end = Date.now() + 1000 * seconds;
+  while (!await holds()) {
+    if (Date.now() > end) throw new Error(`not so within ${seconds} seconds: ${what}`);
+    await pause();
+  }
+}
+
+const untilTrue = (expression, seconds) => until(expression, () => value(expression), seconds);
 
 function expect(holds, what) {
   if (!holds) throw new Error(what);
@@ -57,7 +78,7 @@ function expect(holds, what) {
 async function open(hash = '') {
   await tell('Page.navigate', { url: 'about:blank' });
   await tell('Page.navigate', { url: pathToFileURL(page).href + hash });
-  await until('document.readyState === "complete" && typeof ready !== "undefined"');
+  await untilTrue('document.readyState === "complete" && typeof ready !== "undefined"');
   await value('ready.then(() => true)');
 }
 
@@ -67,25 +88,95 @@ async function key(text, code = text) {
   await tell('Input.dispatchKeyEvent', { type: 'keyUp', key: code });
 }
 
-// A key that writes nothing, such as Backspace.
-async function command(name, windowsVirtualKeyCode) {
-  await tell('Input.dispatchKeyEvent', { type: 'rawKeyDown', key: name, code: name, windowsVirtualKeyCode });
-  await tell('Input.dispatchKeyEvent', { type: 'keyUp', key: name, code: name, windowsVirtualKeyCode });
+// A key that writes nothing, like Backspace. The modifier 2 is Control.
+async function command(name, windowsVirtualKeyCode, modifiers = 0) {
+  await tell('Input.dispatchKeyEvent', { type: 'rawKeyDown', key: name, code: name, windowsVirtualKeyCode, modifiers });
+  await tell('Input.dispatchKeyEvent', { type: 'keyUp', key: name, code: name, windowsVirtualKeyCode, modifiers });
 }
 
 const setText = (text) => value(`text.value = ${JSON.stringify(text)}; text.setSelectionRange(0, 0); changed()`);
-const setEdition = (index) => value(`document.querySelectorAll('[name=edition]')[${index}].checked = true`);
+// The label of an edition's button, as a reader finds it.
+const labelOf = (year) => `[...document.querySelectorAll('#edition label')].find((label) => label.textContent.trim() === '${year}')`;
+const setEdition = (year) => value(`${labelOf(year)}.click()`);
+const YEARS = [2015, 2018, 2021, 2024];
+
+// A text whose tokens differ between editions, but for the first two, whose tokens are the same.
+const DIFFERENT = `'r#a k#b #"x"#`;
+
+// A link carries the text, the edition, and whether the text is a whole document.
+async function links() {
+  for (const year of YEARS) {
+    await setText(`${DIFFERENT} ${year}é😀\n`);
+    await setEdition(year);
+    const isDocument = await value('at("document").click(), link(), at("document").checked');
+    const link = await value('location.hash');
+    expect(link.startsWith(`#edition=${year}${isDocument ? '&document=' : ''}&text=`), `the link of ${year}: ${link}`);
+    const listed = await value('ask("listing", edition())');
+    await open();
+    await open(link);
+    expect(await value(`${labelOf(year)}.firstChild.checked && at("document").checked === ${isDocument} && text.value`) === `${DIFFERENT} ${year}é😀\n`,
+      `a link carries text and edition: ${link}`);
+    expect(await value('ask("listing", edition())') === listed, `${year}: the tokens after a link are others`);
+  }
+  await open('#edition=1999&text=a');
+  expect(await value(`${labelOf(YEARS.at(-1))}.firstChild.checked && text.value`) === 'a', 'a link of no edition');
+}
+
+// A saved file has the name of its edition, and the listing of that. The last is saved by a key.
+async function saves() {
+  await tell('Browser.setDownloadBehavior', { behavior: 'allow', downloadPath: profile });
+  await setText(DIFFERENT);
+  const kinds = { 2015: 'Lifetime', 2018: 'Lifetime', 2021: 'RawLifetime', 2024: 'RawLifetime' };
+  for (const year of YEARS) {
+    await setEdition(year);
+    const file = join(profile, `tokens-${year}.txt`);
+    await (year === 2024 ? command('s', 83, 2) : value('at("save").click()'));
+    await until(`a file ${file}`, () => existsSync(file) && readFileSync(file, 'utf8') !== '');
+    const saved = readFileSync(file, 'utf8');
+    expect(saved.split(' ')[2].trim().startsWith(kinds[year]) && saved.includes('GuardedStrPrefix') === (year === 2024), `${year}: saved is ${saved}`);
+    expect(saved === await value('ask("listing", edition())'), `${year}: the saved listing is another`);
+  }
+}
+
+// The list of keys opens by one, and closes by another.
+async function help() {
+  await command('F1', 112);
+  expect(await value('at("keys").matches(":modal") && at("keys").textContent.includes("saves the listing")'), 'F1 shows the keys');
+  await command('Escape', 27);
+  expect(await value('!at("keys").open'), 'Escape closes the list of keys');
+  await value('at("help").click()');
+  expect(await value('at("keys").open'), 'the button shows the keys');
+  await value('document.querySelector("#keys button").click()');
+  expect(await value('!at("keys").open'), 'its button closes the list of keys');
+}
+
+// The text is made wider by a drag, and narrower by a key.
+async function widths() {
+  const width = () => value('at("text").clientWidth');
+  const [old, { x, y }] = [await width(), await value('(({ x, y, width }) => ({ x: x + width / 2, y: y + 50 }))(at("split").getBoundingClientRect())')];
+  for (const [type, to, buttons] of [['mousePressed', x, 1], ['mouseMoved', x + 100, 1], ['mouseReleased', x + 100, 0]]) {
+    await tell('Input.dispatchMouseEvent', { type, x: to, y, button: 'left', buttons, clickCount: 1 });
+  }
+  const dragged = await width();
+  expect(Math.abs(dragged - old - 100) < 15, `the text had a width of ${old}, and has ${dragged} after a drag`);
+  await value('at("split").focus()');
+  await command('ArrowLeft', 37);
+  const pressed = await width();
+  expect(pressed < dragged && pressed > old, `the text has a width of ${pressed} after a key`);
+}
 
 const tasks = {
   async check() {
     await open('#check');
-    await until('/passed|:.*\\n/.test(at("check").textContent) || !/runs/.test(at("check").textContent)');
+    await untilTrue('/passed|:.*\\n/.test(at("check").textContent) || !/runs/.test(at("check").textContent)', MOST_SECONDS);
     const said = await value('at("check").textContent');
     expect(said === 'check: passed', said);
     console.log('page: its check of itself passed');
   },
 
   async keys() {
+    // wide enough for the text beside its tokens
+    await tell('Emulation.setDeviceMetricsOverride', { width: 1180, height: 930, deviceScaleFactor: 1, mobile: false });
     await open();
     await setText('let ab = 1;\n');
     await value('text.focus(); text.setSelectionRange(6, 6)');
@@ -97,29 +188,30 @@ const tasks = {
     expect(await value('at("wrong").textContent') === '', 'and no longer when the quote is gone');
     await key('c');
     const kept = await value('at("kept").textContent');
-    expect(kept.includes('in front, lexed'), `an edit says what it kept: ${kept}`);
+    expect(kept === 'The last edit kept 2 tokens in front, lexed 1, and kept 6 at the back: 9 tokens, 13 bytes, 2 lines.',
+      `an edit says what it kept: ${kept}`);
     await command('ArrowLeft', 37);
-    await until('at("place").textContent.startsWith("Caret at 1:7. Ident at 1:5, 3 bytes")');
+    await untilTrue('at("place").textContent.startsWith("Caret at 1:7. Ident at 1:5, 3 bytes")');
     for (const c of 'é😀') await tell('Input.insertText', { text: c });
-    await until('at("place").textContent.startsWith("Caret at 1:9.")');
-    await value('document.querySelector("[name=edition][value=\\"1\\"]").focus()');
+    await untilTrue('at("place").textContent.startsWith("Caret at 1:9.")');
+    await value(`${labelOf(2018)}.firstChild.focus()`);
     await command('ArrowLeft', 37);
-    expect(await value('edition()') === 0, 'the edition is chosen by keys');
-    await value('link()');
-    const link = await value('location.hash');
-    await open();
-    await open(link);
-    expect(await value('text.value') === 'let abé😀c = 1;\n' && await value('year()') === 2015, `a link carries text and edition: ${link}`);
+    expect(await value(`${labelOf(2015)}.firstChild.checked`), 'the edition is chosen by keys');
+    await links();
+    await saves();
+    await help();
+    await widths();
     await open(`#edition=2021&document&text=${encodeURIComponent('#!/bin/sh\n---\na = 1\n---\nfn')}`);
     const kinds = await value('show().tokens.map((token) => token.kind).join(" ")');
     expect(kinds === 'Whitespace Frontmatter Whitespace Ident', `a whole document: ${kinds}`);
     const names = (await tell('Accessibility.getFullAXTree')).nodes.filter((node) => !node.ignored)
       .map((node) => `${node.role?.value}: ${node.name?.value}`);
-    for (const name of ['textbox: Text', 'radio: 2018', 'checkbox: whole document', 'button: Copy a link', 'heading: Where the editions part',
-      'log: What is wrong in the lines that are seen', 'columnheader: Stands for']) {
+    for (const name of ['textbox: Text', 'checkbox: whole document', 'button: Copy a link', 'heading: Where the editions differ',
+      'log: What is wrong in the lines that are seen', 'columnheader: Stands for', 'button: Keys', 'separator: Width of the text',
+      ...YEARS.flatMap((year) => [`radio: ${year}`, `columnheader: ${year}`])]) {
       expect(names.includes(name), `a screen reader is not told of ${name}`);
     }
-    console.log('page: real keys, links, a whole document, and the names for a screen reader');
+    console.log('page: real keys and a drag, links and saved listings in each edition, a whole document, and the names for a screen reader');
   },
 
   async tokens() {
@@ -134,9 +226,9 @@ const tasks = {
       // a text field has no carriage return, and Node's texts no bytes that are not UTF-8
       const source = readFileSync(file, 'utf8').replaceAll('\r', '');
       bytes += Buffer.byteLength(source);
-      for (let index = 0; index < 4; index += 1) {
+      for (const year of YEARS) {
         let text = source;
-        await setEdition(index);
+        await setEdition(year);
         await setText(text);
         for (let edit = 0; edit < 3; edit += 1) {
           const start = random(text.length + 1);
@@ -146,8 +238,7 @@ const tasks = {
             await value(`type(${start}, ${stop}, ${JSON.stringify(insert)})`);
             text = (text.slice(0, start) + insert + text.slice(stop)).toWellFormed();
           }
-          const year = ['2015', '2018', '2021', '2024'][index];
-          const listed = execFileSync(lexdump, ['--edition', year], { input: text, maxBuffer: 1 << 28 }).toString();
+          const listed = execFileSync(lexdump, ['--edition', String(year)], { input: text, maxBuffer: 1 << 28 }).toString();
           const shown = await value('({ all: ask("listing", edition()), kept: ask("as_lexed_anew") })');
           expect(shown.all === listed, `${file}, ${year}: the listing of the page is another`);
           expect(shown.kept === 'yes', `${file}, ${year}: the tokens that are kept are others`);
@@ -213,7 +304,7 @@ const tasks = {
     for (const scheme of ['light', 'dark']) {
       await size(860, 450, scheme);
       await tell('Page.navigate', { url: pathToFileURL(sample).href });
-      await until('document.readyState === "complete" && document.querySelector("pre") !== null');
+      await untilTrue('document.readyState === "complete" && document.querySelector("pre") !== null');
       await shoot(`${scheme}.png`, 860, 450);
     }
   },
@@ -228,7 +319,8 @@ try {
   console.log(`page: ${error.message}`);
   process.exitCode = 1;
 } finally {
+  const gone = new Promise((done) => chromium.once('exit', done));
   chromium.kill();
-  await new Promise((done) => chromium.once('exit', done));
+  await within(10, 'the end of the browser', gone).catch(() => chromium.kill('SIGKILL') && gone);
   rmSync(profile, { recursive: true, force: true, maxRetries: 5 });
 }

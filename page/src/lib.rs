@@ -69,7 +69,13 @@ pub extern "C" fn show(first_line: usize, count: usize, caret: usize, edition: u
     answered(|source, _| seen::show(source, first_line, count, caret, edition))
 }
 
-/// Where the tokens of the editions part, in JSON.
+/// The years of the editions, in the order of their numbers. In JSON.
+#[unsafe(no_mangle)]
+pub extern "C" fn years() -> usize {
+    answered(|_, _| editions::years())
+}
+
+/// How many tokens each edition has, and where they differ, in JSON.
 #[unsafe(no_mangle)]
 pub extern "C" fn editions() -> usize {
     answered(|source, _| editions::write(source))
@@ -82,7 +88,7 @@ pub extern "C" fn listing(edition: usize) -> usize {
 }
 
 /// The marks of all lines of the text, and of each line alone, are the same: what `show` draws of a part is what it
-/// would draw of all. Answers the number of the first line where they part, or nothing.
+/// would draw of all. Answers the number of the first line where they differ, or nothing.
 #[unsafe(no_mangle)]
 pub extern "C" fn parts_alike(edition: usize) -> usize {
     answered(|source, _| seen::parts_alike(source, edition))

@@ -188,7 +188,7 @@ pub fn parts_alike(source: &Source, edition: usize) -> String {
         fresh.clone(),
         edition,
     );
-    let parted = (0..count).find(|line| {
+    let differs = (0..count).find(|line| {
         let alone = lines_of(
             source,
             bytes_of_lines(source, *line, 1),
@@ -197,5 +197,5 @@ pub fn parts_alike(source: &Source, edition: usize) -> String {
         );
         alone[..] != all[*line..*line + 1]
     });
-    parted.map_or(String::new(), |line| (line + 1).to_string())
+    differs.map_or(String::new(), |line| (line + 1).to_string())
 }

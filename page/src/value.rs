@@ -54,7 +54,7 @@ pub fn value(kind: TokenKind, text: &str) -> Option<String> {
         }
         _ => return None,
     };
-    Some(read.told(unit))
+    Some(read.sentence(unit))
 }
 
 /// What was read of a literal.
@@ -89,7 +89,7 @@ impl Read {
     }
 
     /// The count, and what is there between quotes.
-    fn told(&self, unit: &str) -> String {
+    fn sentence(&self, unit: &str) -> String {
         if self.is_wrong {
             return "nothing: it is wrong".to_string();
         }
