@@ -5,12 +5,11 @@ use Rattle.std.specs.Str.{chars, IsUtf8}
 use Rattle.std.specs.declared.ops.Range.{Range}
 use Rattle.std.proofs.lemmas.Str.{encodes-chars}
 use Rattle.std.proofs.lemmas.Grind.{common_steps}
-use Rattle.rustc_literal_escaper.specs.declared.element.Element.{Element}
 use Rattle.rustc_literal_escaper.specs.declared.error.EscapeError.TheVariants.{MoreThanOneChar}
 use Rattle.rustc_literal_escaper.specs.declared.error.EscapeError.{EscapeError}
 use Rattle.rustc_literal_escaper.specs.declared.mode.Mode.{Mode}
 use Rattle.rustc_literal_escaper.specs.Elements.{Item, items_of}
-use Rattle.rustc_literal_escaper.specs.Errors.{Error, alone_error, error_of, errors_in, errors_of, is_raw, is_single, put, single_error}
+use Rattle.rustc_literal_escaper.specs.Errors.{Error, alone_error, error_of, errors_in, errors_of, is_raw, is_single, put}
 use Rattle.rustc_literal_escaper.proofs.RunLemmas.{folds-on}
 
 error_to-is : (total : ℕ) (error : EscapeError) (left : List ℕ) → IsUtf8 left → Some (record { start = 0; end = total - length left }, error) ≡ alone_error total (Some error) (chars left)

@@ -70,7 +70,7 @@ fn check_single<F: FnMut(Range<usize>, EscapeError)>(src: &str, mode: Mode, call
 /// Returns the error between single quotes and its place in bytes, or `None` if there is no error.
 ///
 /// `src` is the text between the quotes. The place goes from 0 to the end of the character that shows the error.
-#[inline]
+#[inline(always)]
 pub(crate) fn single_error(src: &str, mode: Mode) -> Option<(Range<usize>, EscapeError)> {
     let Some((c, tail)) = split_first(src) else {
         return Some((0..0, EscapeError::ZeroChars));
@@ -81,7 +81,7 @@ pub(crate) fn single_error(src: &str, mode: Mode) -> Option<(Range<usize>, Escap
     if let Some((byte, left)) = single::byte_at(c, tail) {
         return alone_error(Element::Byte(byte).error_in(mode), left, src.len());
     }
-    let (element, left) = single::first(c, tail);
+    let (element, left) = single::first_by_call(c, tail);
     alone_error(element.error_in(mode), left, src.len())
 }
 

@@ -50,6 +50,12 @@ fn read_marked<M: Meaning>(c: char, tail: &str) -> Result<M::Meant, EscapeError>
     if let Some((byte, left)) = byte_at(c, tail) {
         return alone(M::of(Element::Byte(byte)), left);
     }
+    read_other::<M>(c, tail)
+}
+
+/// Does what [`read_marked`] does, for the elements that few literals have.
+#[inline(never)]
+fn read_other<M: Meaning>(c: char, tail: &str) -> Result<M::Meant, EscapeError> {
     let (element, left) = first(c, tail);
     alone(M::of(element), left)
 }
@@ -80,15 +86,20 @@ pub(crate) fn byte_at(c: char, tail: &str) -> Option<(u8, &str)> {
 }
 
 /// Returns the element that begins with the character `c`, and the text after it.
-///
-/// It stays a call, since few literals have another element than a plain character or an escape of a byte.
-#[inline(never)]
-pub(crate) fn first(c: char, tail: &str) -> (Element, &str) {
+#[inline(always)]
+fn first(c: char, tail: &str) -> (Element, &str) {
     if c == '\\' {
         escape(tail)
     } else {
         (unescaped(c), tail)
     }
+}
+
+/// Does what [`first`] does, and stays a call: few literals have another element than a plain character or an escape
+/// of a byte.
+#[inline(never)]
+pub(crate) fn first_by_call(c: char, tail: &str) -> (Element, &str) {
+    first(c, tail)
 }
 
 /// Returns the element for a character that is not escaped, between single quotes.

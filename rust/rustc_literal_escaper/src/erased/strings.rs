@@ -52,6 +52,7 @@ pub fn unescape_c_str<F: FnMut(Range<usize>, Result<MixedUnit, EscapeError>)>(
 /// A raw string has no escapes, and only a carriage return is wrong in it.
 ///
 /// Rust Reference, [Raw string literals](https://doc.rust-lang.org/reference/tokens.html#raw-string-literals).
+#[inline]
 pub fn check_raw_str<F: FnMut(Range<usize>, Result<char, EscapeError>)>(
     src: &str,
     mut callback: F,
@@ -65,6 +66,7 @@ pub fn check_raw_str<F: FnMut(Range<usize>, Result<char, EscapeError>)>(
 ///
 /// Rust Reference, [Raw byte string
 /// literals](https://doc.rust-lang.org/reference/tokens.html#raw-byte-string-literals).
+#[inline]
 pub fn check_raw_byte_str<F: FnMut(Range<usize>, Result<u8, EscapeError>)>(
     src: &str,
     mut callback: F,
@@ -182,6 +184,9 @@ impl Meaning for AsRawUnit {
     }
 }
 
+/// A raw string of fewer bytes is short: no look at 32 bytes fits behind its first character.
+const SHORT_TEXT: usize = 33;
+
 /// Calls `callback` with what each element of a text stands for and its place, and with nothing else.
 ///
 /// The contract is about the closure as it is left here. A closure that is passed by value is dropped at the end of
@@ -193,9 +198,23 @@ fn each_unit<M: Meaning, F: FnMut(Range<usize>, Result<M::Meant, EscapeError>)>(
     callback: &mut F,
 ) {
     if raw {
-        each_raw_unit_in::<M, F>(src, src.len(), callback);
+        each_raw_unit::<M, F>(src, callback);
     } else {
         each_unit_in::<M, F>(src, src.len(), callback);
+    }
+}
+
+/// Does what [`each_unit`] does, for a raw string. It looks for runs of simple characters only if the text is not
+/// short.
+#[inline(always)]
+fn each_raw_unit<M: Meaning, F: FnMut(Range<usize>, Result<M::Meant, EscapeError>)>(
+    src: &str,
+    callback: &mut F,
+) {
+    if src.len() < SHORT_TEXT {
+        each_raw_char::<M, F>(src, src.len(), callback);
+    } else {
+        each_raw_unit_in::<M, F>(src, src.len(), callback);
     }
 }
 
