@@ -1,4 +1,5 @@
-//! The tokens of a Rust source between marks: the class of each, and what is wrong with it, for a terminal or a page.
+//! Writes the tokens of a Rust source between marks, for a terminal or a page. The marks show the class of each
+//! token, and what is wrong with it.
 
 mod class;
 mod escape;

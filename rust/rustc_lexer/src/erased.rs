@@ -1,8 +1,8 @@
-//! A lexer for Rust source: a text goes in, tokens come out.
+//! A lexer for Rust source: it splits a text into tokens.
 //!
-//! A token is a kind and a length in bytes. The lexer refuses no text: a fault, as a comment that
-//! nothing closes, is told by a field of its token or by the token's kind. Lexing takes no memory: only
-//! a [`LexedText`], which keeps a text with its tokens and takes edits, does.
+//! A token is a kind and a length in bytes. The lexer accepts every text: a fault, like a comment that nothing
+//! closes, shows in a field of its token or in the token's kind. Lexing allocates no memory. Only a [`LexedText`]
+//! and a [`LexedDocument`] allocate: they keep a text with its tokens while it is edited.
 
 mod bulk;
 mod classes;

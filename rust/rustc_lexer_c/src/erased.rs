@@ -1,9 +1,9 @@
-//! The lexer for C, and for whatever can call C: a static library over `rustc_lexer`,
+//! The lexer for C, and for any language that can call C: a static library over `rustc_lexer`,
 //! `rustc_literal_escaper` and `marks`.
 //!
-//! A text comes as a pointer and a length, tokens go into the caller's buffer, and nothing takes memory. Nothing
-//! checks what C passes, so each call tests its text and answers a status; only the calls with `_unchecked` ask
-//! for UTF-8. What crosses is written down in the header, `rustc_lexer.h`.
+//! A caller passes a text as a pointer and a length, and a buffer for the tokens. Nothing allocates memory. The
+//! compiler cannot check what C passes, so each call checks its text and returns a status. Only the calls with
+//! `_unchecked` require UTF-8. The header, `rustc_lexer.h`, describes all calls and types.
 
 pub mod abi;
 pub mod batch;

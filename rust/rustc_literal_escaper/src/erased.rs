@@ -1,8 +1,8 @@
-//! What the literals of Rust stand for: their escapes, and what is wrong in them.
+//! Reads the literals of Rust: what they stand for, their escapes and their faults.
 //!
-//! The lexer takes `"\q"` for one token. This crate reads what stands between the quotes: it answers what a
-//! literal stands for, unit by unit, and tells each fault with its place. That takes no memory. The other way
-//! round it writes texts and bytes as they stand between double quotes.
+//! The lexer takes `"\q"` as one token. This crate reads the text between the quotes. It returns what a literal
+//! stands for, unit by unit, and reports each fault with its place. It allocates no memory for that. It also goes
+//! the other way, and writes texts and bytes in the form that they have between double quotes.
 
 mod check;
 mod element;

@@ -1,18 +1,18 @@
-//! What a token is to a reader, which decides its colour.
+//! Classes of tokens. The class of a token decides its colour.
 
 use rustc_lexer::erased::{LiteralKind, TokenKind};
 
-/// What a token is to a reader.
+/// The class of a token: what it is to a reader.
 #[derive(Clone, Copy, Debug, PartialEq, Eq)]
 pub enum Class {
-    /// White space, a symbol, or a name of no other class.
+    /// White space, a symbol, or a name that is in no other class.
     Plain,
-    /// A comment that documents nothing.
+    /// A comment that is not a doc comment.
     Comment,
     /// A doc comment, or a frontmatter.
     Doc,
-    /// A keyword, such as `while`. One list stands for all editions: `async`, `await` and `dyn` are
-    /// keywords in 2015 too, and `try` and `gen` in none.
+    /// A keyword, like `while`. One list serves all editions: `async`, `await` and `dyn` are keywords in 2015 too,
+    /// and `try` and `gen` in no edition.
     Keyword,
     /// A name that begins with a capital letter of ASCII.
     TypeName,
@@ -26,7 +26,7 @@ pub enum Class {
     Lifetime,
 }
 
-/// The class of a token, by its kind and its text.
+/// Returns the class of a token by its kind and its text.
 pub fn class_of(kind: TokenKind, text: &str) -> Class {
     match kind {
         TokenKind::LineComment { doc_style: None }
@@ -48,7 +48,7 @@ pub fn class_of(kind: TokenKind, text: &str) -> Class {
     }
 }
 
-/// The class of an identifier or a keyword.
+/// Returns the class of an identifier or a keyword.
 fn word_class(word: &str) -> Class {
     if KEYWORDS.contains(&word) {
         Class::Keyword
@@ -59,13 +59,13 @@ fn word_class(word: &str) -> Class {
     }
 }
 
-/// Whether a name begins with a capital letter of ASCII, as the names of types do.
+/// Returns whether a name begins with a capital letter of ASCII, like the names of types.
 fn is_type_name(word: &str) -> bool {
     word.as_bytes().first().is_some_and(u8::is_ascii_uppercase)
 }
 
-/// Words that are keywords wherever they stand. A word that is one in some places and a name in others, such as
-/// `union`, is not among them: its token alone does not tell.
+/// Words that are keywords everywhere. A word that is a keyword in some places and a name in others, like `union`,
+/// is not in the list, because its token alone does not show which it is.
 const KEYWORDS: [&str; 38] = [
     "as", "async", "await", "break", "const", "continue", "crate", "dyn", "else", "enum", "extern",
     "false", "fn", "for", "if", "impl", "in", "let", "loop", "match", "mod", "move", "mut", "pub",

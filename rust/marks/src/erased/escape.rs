@@ -1,4 +1,4 @@
-//! A text as a page shows it: with entities for the bytes that a page would read as its own.
+//! Writes a text for a page, with entities for the bytes that a page would read as its own.
 
 use core::fmt;
 use memchr::memchr3;
@@ -14,7 +14,7 @@ pub fn write_escaped<W: fmt::Write>(text: &str, output: &mut W) -> fmt::Result {
     output.write_str(rest)
 }
 
-/// The entity for `&`, `<` or else `>`.
+/// Returns the entity for `&` or `<`, or else for `>`.
 fn entity(byte: u8) -> &'static str {
     match byte {
         b'&' => "&amp;",

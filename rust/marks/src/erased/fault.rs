@@ -1,27 +1,28 @@
-//! What is wrong with a token.
+//! The faults of tokens.
 
 use core::fmt;
 use rustc_lexer::erased::{LiteralKind, RawStrError, TokenKind, starts_raw, validate_raw_str};
 use rustc_literal_escaper::erased::EscapeError;
 
-/// What is wrong with a token. Its `Display` is a sentence that says so.
+/// A fault of a token. Its `Display` writes a sentence about it.
 #[derive(Clone, Copy, Debug, PartialEq, Eq)]
 pub enum Fault {
     /// Nothing closes a block comment.
     OpenComment,
-    /// White space stands before the dashes of a frontmatter.
+    /// White space comes before the dashes of a frontmatter.
     FrontmatterSpace,
-    /// The first line of a frontmatter has more than it may.
+    /// The first line of a frontmatter has more on it than is allowed.
     FrontmatterInfostring,
     /// A name holds an emoji.
     InvalidName,
-    /// A name stands right before a quote or a hash.
+    /// A name comes right before a quote or a hash.
     UnknownPrefix,
-    /// A lifetime stands right before a hash.
+    /// A lifetime comes right before a hash.
     UnknownLifetimePrefix,
-    /// `#"` or `##`, which are reserved.
+    /// The text has `#"` or `##`, which are reserved.
     GuardedString,
-    /// A lifetime begins with a digit, or holds an emoji.
+    /// The name of a lifetime begins with an ASCII digit or an emoji, or a later character of it is an emoji that may
+    /// not continue an identifier.
     InvalidLifetime,
     /// No token begins with the character.
     UnknownCharacter,
@@ -35,19 +36,19 @@ pub enum Fault {
     OpenByte,
     /// Nothing closes a string.
     OpenString,
-    /// Neither a hash nor a quote stands where a raw string should begin.
+    /// There is neither a hash nor a quote where a raw string should begin.
     RawStarter,
-    /// Nothing closes a raw string, and no quote in it has a hash behind it.
+    /// Nothing closes a raw string, and no hash follows a quote in it.
     OpenRawString { expected: u32 },
-    /// Nothing closes a raw string; the quote that ends at byte `end` of it has too few hashes behind it.
+    /// Nothing closes a raw string. Too few hashes follow the quote that ends at byte `end` of it.
     FewHashes { expected: u32, found: u32, end: u32 },
     /// A raw string has more than 255 hashes on each side.
     ManyHashes { found: u32 },
-    /// Something between the quotes of a literal.
+    /// Something is wrong between the quotes of a literal.
     InLiteral(EscapeError),
 }
 
-/// What is wrong with a token, by its kind and its text; `None` where nothing is.
+/// Returns what is wrong with a token, by its kind and its text. Returns `None` if nothing is wrong.
 pub fn fault_of(kind: TokenKind, text: &str) -> Option<Fault> {
     match kind {
         TokenKind::BlockComment {
@@ -74,7 +75,7 @@ pub fn fault_of(kind: TokenKind, text: &str) -> Option<Fault> {
     }
 }
 
-/// What is wrong with a literal.
+/// Returns what is wrong with a literal, or `None` if nothing is.
 fn literal_fault(kind: LiteralKind, text: &str) -> Option<Fault> {
     match kind {
         LiteralKind::Int {
@@ -97,7 +98,7 @@ fn literal_fault(kind: LiteralKind, text: &str) -> Option<Fault> {
     }
 }
 
-/// Why a raw string is refused, whose prefix has so many characters.
+/// Returns why a raw string is refused, or `None` if it is not. Its prefix has `prefix_len` characters.
 fn raw_fault(text: &str, prefix_len: u32) -> Option<Fault> {
     if !starts_raw(text, prefix_len) {
         return None;
@@ -119,7 +120,7 @@ fn raw_fault(text: &str, prefix_len: u32) -> Option<Fault> {
     }
 }
 
-/// What is wrong between the quotes of a literal, as a sentence.
+/// Returns a sentence that says what is wrong between the quotes of a literal.
 fn error_sentence(error: EscapeError) -> &'static str {
     match error {
         EscapeError::ZeroChars => "nothing stands between these quotes",

@@ -1,4 +1,4 @@
-//! Literals: the escapes in them, and what is wrong.
+//! Writes literals: their escapes, and what is wrong in them.
 
 use crate::erased::class::Class;
 use crate::erased::fault::Fault;
@@ -11,7 +11,7 @@ use rustc_literal_escaper::erased::{
     Element, Elements, EscapeError, Mode, unescape_byte, unescape_char,
 };
 
-/// How a stretch of a literal looks that is not plain.
+/// The look of a stretch of a literal that is not plain.
 #[derive(Clone, Copy, Debug, PartialEq, Eq)]
 pub enum Look {
     /// An escape.
@@ -20,7 +20,7 @@ pub enum Look {
     Wrong(EscapeError),
 }
 
-/// The kind of a literal that is closed; `None` for a number and for what is no literal.
+/// Returns the kind of a closed literal. Returns `None` for a number, and for a token that is not a literal.
 pub fn mode_of(kind: TokenKind) -> Option<Mode> {
     let TokenKind::Literal { kind, .. } = kind else {
         return None;
@@ -38,7 +38,7 @@ pub fn mode_of(kind: TokenKind) -> Option<Mode> {
     }
 }
 
-/// Writes a literal that is closed: its escapes in their class, its faults between their marks, and the rest as text.
+/// Writes a closed literal: its escapes in their class, its faults between their marks, and the rest as text.
 pub fn write_literal<W: fmt::Write>(
     style: Style,
     mode: Mode,
@@ -57,17 +57,17 @@ pub fn write_literal<W: fmt::Write>(
     }
 }
 
-/// Whether such a literal stands between single quotes.
+/// Returns whether such a literal has single quotes.
 fn is_single(mode: Mode) -> bool {
     matches!(mode, Mode::Char | Mode::Byte)
 }
 
-/// The quote of such a literal.
+/// Returns the quote of such a literal.
 fn quote_of(mode: Mode) -> u8 {
     if is_single(mode) { b'\'' } else { b'"' }
 }
 
-/// The place of the first byte of this value, or the length of the text.
+/// Returns the place of the first byte of this value, or the length of the text.
 fn first_place(byte: u8, text: &str) -> usize {
     match memchr(byte, text.as_bytes()) {
         Some(place) => place,
@@ -75,7 +75,7 @@ fn first_place(byte: u8, text: &str) -> usize {
     }
 }
 
-/// The place of the last byte of this value, or 0.
+/// Returns the place of the last byte of this value, or 0.
 fn last_place(byte: u8, text: &str) -> usize {
     match memrchr(byte, text.as_bytes()) {
         Some(place) => place,
@@ -83,7 +83,7 @@ fn last_place(byte: u8, text: &str) -> usize {
     }
 }
 
-/// Writes a literal between single quotes, of which the inside goes from the place `begin` to `close`.
+/// Writes a literal between single quotes. The text between them goes from the place `begin` to `close`.
 fn write_single<W: fmt::Write>(
     style: Style,
     mode: Mode,
@@ -97,7 +97,7 @@ fn write_single<W: fmt::Write>(
     write_in_class(style, Class::Text, &text[shown..], output)
 }
 
-/// How the inside of a literal between single quotes looks.
+/// Returns the look of the text between single quotes, or `None` if it is plain.
 fn single_look(mode: Mode, inside: &str) -> Option<Look> {
     match single_error(mode, inside) {
         Some(error) => Some(Look::Wrong(error)),
@@ -106,7 +106,7 @@ fn single_look(mode: Mode, inside: &str) -> Option<Look> {
     }
 }
 
-/// What is wrong between single quotes.
+/// Returns what is wrong between single quotes, or `None` if nothing is.
 fn single_error(mode: Mode, inside: &str) -> Option<EscapeError> {
     match mode {
         Mode::Byte => unescape_byte(inside).err(),
@@ -114,7 +114,7 @@ fn single_error(mode: Mode, inside: &str) -> Option<EscapeError> {
     }
 }
 
-/// Writes a literal between double quotes, of which the inside goes from the place `begin` to `close`.
+/// Writes a literal between double quotes. The text between them goes from the place `begin` to `close`.
 fn write_string<W: fmt::Write>(
     style: Style,
     mode: Mode,
@@ -147,7 +147,7 @@ fn write_string<W: fmt::Write>(
     write_in_class(style, Class::Text, &text[shown..], output)
 }
 
-/// Writes what stands between two elements: nothing, or a line end that is passed over.
+/// Writes the text between two elements: nothing, or a line end that is skipped.
 fn write_skipped<W: fmt::Write>(
     style: Style,
     text: &str,
@@ -163,8 +163,8 @@ fn write_skipped<W: fmt::Write>(
     }
 }
 
-/// Writes a stretch that is not plain, and before it the plain text that is not written yet. Answers up to where all is
-/// written.
+/// Writes a stretch that is not plain, and before it the plain text that is not written yet. Returns the place up
+/// to which all is written.
 fn write_stretch<W: fmt::Write>(
     style: Style,
     look: Option<Look>,
@@ -192,7 +192,7 @@ fn write_look<W: fmt::Write>(style: Style, look: Look, text: &str, output: &mut 
     }
 }
 
-/// The elements of a literal between double quotes.
+/// Returns the elements of a literal between double quotes.
 fn elements_of(mode: Mode, inside: &str) -> Elements<'_> {
     match mode {
         Mode::RawStr | Mode::RawByteStr | Mode::RawCStr => Elements::new_raw(inside),
@@ -200,7 +200,7 @@ fn elements_of(mode: Mode, inside: &str) -> Elements<'_> {
     }
 }
 
-/// How an element looks; `None` where it is plain.
+/// Returns the look of an element, or `None` if it is plain.
 fn look_of(mode: Mode, element: Element) -> Option<Look> {
     match (element.error_in(mode), element) {
         (Some(error), _) => Some(Look::Wrong(error)),

@@ -1,4 +1,4 @@
-//! A text with its shebang line and its tokens marked, for a terminal or as the inside of a page.
+//! Writes a text between marks, with its shebang line and its tokens, for a terminal or as the inside of a page.
 
 use crate::erased::class::{Class, class_of};
 use crate::erased::fault::fault_of;
@@ -8,12 +8,12 @@ use crate::erased::style::Style;
 use core::fmt;
 use rustc_lexer::erased::{Edition, TokenKind, tokenize_document, tokenize_in};
 
-/// Writes a whole text: its shebang line, where it has one, between the marks of a comment, and the
-/// tokens of what follows between theirs. The marks are colours by the class of each token, and a
-/// sentence at each that has a fault.
+/// Writes a whole text with marks. A shebang line, if there is one, is written between the marks of a comment, and
+/// each token after it between its own. The marks are colours by the class of each token, and a sentence at each
+/// token that has a fault.
 ///
-/// Without the marks it is the text. In a page the text is what stands outside of the tags, with
-/// its entities undone.
+/// Without the marks the output is the text. In a page the text is the part outside of the tags, with its entities
+/// undone.
 pub fn write_marked<W: fmt::Write>(
     style: Style,
     edition: Edition,
@@ -31,10 +31,10 @@ pub fn write_marked<W: fmt::Write>(
     Ok(())
 }
 
-/// Writes the first `count` tokens of a text in an edition, each between its marks, or all where it has fewer. No
-/// frontmatter stands in front, and a shebang line is read as tokens: the text is a part of a document.
+/// Writes the first `count` tokens of a text in an edition, each between its marks, or all tokens if it has fewer.
+/// The text is a part of a document: no frontmatter is allowed in front, and a shebang line is read as tokens.
 ///
-/// So what is seen of a long text is written without the rest.
+/// So the visible part of a long text can be written without the rest.
 pub fn write_first_tokens<W: fmt::Write>(
     style: Style,
     edition: Edition,
@@ -57,8 +57,8 @@ pub fn write_first_tokens<W: fmt::Write>(
     Ok(())
 }
 
-/// Writes a token between its marks. Where it has a fault, its first line stands between the marks of that too. A literal
-/// without one has marks around its escapes, and around what is wrong in it.
+/// Writes a token between its marks. If the token has a fault, its first line is also between the marks of the
+/// fault. In a literal without a fault of its own, each escape and each stretch that is wrong has marks around it.
 fn write_token<W: fmt::Write>(
     style: Style,
     kind: TokenKind,

@@ -1,4 +1,4 @@
-//! A part of a text between the marks of its class and of its fault.
+//! Writes a part of a text between the marks of its class and of its fault.
 
 use crate::erased::class::Class;
 use crate::erased::escape::write_escaped;
@@ -7,7 +7,8 @@ use crate::erased::style::{Style, class_close, class_open, close_fault, open_fau
 use core::fmt;
 use memchr::memchr2;
 
-/// Writes a part with a fault: its first line between the marks of the fault, and all of it between those of its class.
+/// Writes a part with a fault: its first line between the marks of the fault, and all of it between those of its
+/// class.
 pub fn write_with_fault<W: fmt::Write>(
     style: Style,
     fault: Fault,
@@ -22,7 +23,7 @@ pub fn write_with_fault<W: fmt::Write>(
     write_in_class(style, class, &text[end..], output)
 }
 
-/// How many bytes stand before the first newline or carriage return.
+/// Returns how many bytes come before the first newline or carriage return.
 fn first_line(text: &str) -> usize {
     match memchr2(b'\n', b'\r', text.as_bytes()) {
         Some(at) => at,
@@ -30,7 +31,7 @@ fn first_line(text: &str) -> usize {
     }
 }
 
-/// Writes a part of the text between the marks of its class, and nothing where it is empty.
+/// Writes a part of the text between the marks of its class. Writes nothing if the part is empty.
 pub fn write_in_class<W: fmt::Write>(
     style: Style,
     class: Class,

@@ -4,18 +4,18 @@ use crate::erased::class::Class;
 use crate::erased::fault::Fault;
 use core::fmt;
 
-/// How a text is marked.
+/// The style of the marks.
 #[derive(Clone, Copy, Debug, PartialEq, Eq)]
 pub enum Style {
-    /// By tags, in a page.
+    /// Tags of a page.
     Html,
-    /// By escape sequences, in the colours of a terminal.
+    /// Escape sequences for the colours of a terminal.
     Colours,
-    /// By the sentences of faults alone.
+    /// The sentences of faults alone.
     NoColours,
 }
 
-/// The mark before a token of a class.
+/// Returns the mark before a token of a class.
 pub fn class_open(style: Style, class: Class) -> &'static str {
     match style {
         Style::Html => match class {
@@ -44,7 +44,7 @@ pub fn class_open(style: Style, class: Class) -> &'static str {
     }
 }
 
-/// The mark past a token of a class.
+/// Returns the mark after a token of a class.
 pub fn class_close(style: Style, class: Class) -> &'static str {
     match (style, class) {
         (_, Class::Plain) | (Style::NoColours, _) => "",
@@ -53,7 +53,7 @@ pub fn class_close(style: Style, class: Class) -> &'static str {
     }
 }
 
-/// Writes the mark before the first line of a token with a fault: in a page a tag with the sentence.
+/// Writes the mark before the first line of a token with a fault. In a page it is a tag with the sentence.
 pub fn open_fault<W: fmt::Write>(style: Style, fault: Fault, output: &mut W) -> fmt::Result {
     match style {
         Style::Html => write!(output, "<mark title=\"{fault}\">"),
@@ -62,7 +62,7 @@ pub fn open_fault<W: fmt::Write>(style: Style, fault: Fault, output: &mut W) -> 
     }
 }
 
-/// Writes the mark past the first line of a token with a fault: in a terminal with the sentence.
+/// Writes the mark after the first line of a token with a fault. In a terminal it has the sentence.
 pub fn close_fault<W: fmt::Write>(style: Style, fault: Fault, output: &mut W) -> fmt::Result {
     match style {
         Style::Html => output.write_str("</mark>"),

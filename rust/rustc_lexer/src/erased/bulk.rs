@@ -1,4 +1,4 @@
-//! Many tokens at once, written into a buffer.
+//! Writes many tokens at once into a buffer.
 
 use crate::erased::edition::{Edition, token_in};
 use crate::erased::lexemes::classified::{
@@ -6,16 +6,16 @@ use crate::erased::lexemes::classified::{
 };
 use crate::erased::token::{Token, TokenKind};
 
-/// What tokens are written as, where many are written at once.
+/// A form of a token, in which many tokens are written at once.
 pub trait Record: Copy {
-    /// What the token is written as.
+    /// Returns the form of a token.
     fn of(token: Token) -> Self;
 
-    /// What a token is written as whose kind has no fields. Most tokens have none.
+    /// Returns the form of a token whose kind has no fields. Most tokens have none.
     fn bare(kind: TokenKind, len: u32) -> Self;
 }
 
-/// A token, as it is.
+/// A token in its own form.
 impl Record for Token {
     #[inline(always)]
     fn of(token: Token) -> Token {
@@ -28,11 +28,11 @@ impl Record for Token {
     }
 }
 
-/// Writes the first tokens of a text into the buffer, in an edition: those that begin before `stop`, or as many as it
-/// has room for. Their number, and how many bytes they have.
+/// Writes the first tokens of a text in an edition into the buffer: those that begin before `stop`, or as many as
+/// there is room for. Returns how many tokens it wrote, and how many bytes they take.
 ///
-/// The ends of runs are found 64 bytes at a time. Where these tell a token, its kind is a look in a table and its
-/// length a count of zeros, with no branch on either.
+/// The ends of runs are found 64 bytes at a time. A token that they determine gets its kind from a table and its
+/// length from a count of zeros, without a branch on either.
 #[inline(always)]
 pub(crate) fn fill<R: Record>(
     text: &str,
@@ -51,12 +51,12 @@ pub(crate) fn fill<R: Record>(
         if tells {
             ends = ends_before(ends_for(rest, ends), stop - at);
         }
-        // How far in `rest` tokens are classified: 0 as long as none is.
+        // How many bytes of `rest` the classified tokens take: 0 until one is classified.
         let mut from = 0;
         while tells && ends != 0 && count < buffer.len() {
             let end = ends.trailing_zeros();
             let next = bytes[end as usize];
-            // A byte that tells a token of its own never turns the one before it.
+            // A byte that determines its own token never changes the token before it.
             tells = is_classified(next);
             if !tells && turns(first, next) {
                 break;
@@ -69,7 +69,7 @@ pub(crate) fn fill<R: Record>(
             ends = past_lowest(ends);
         }
         if from == 0 {
-            // The ends of runs classified nothing here.
+            // The ends of runs classified no token here.
             let token = token_in(rest, edition);
             buffer[count] = R::of(token);
             count += 1;

@@ -2,12 +2,13 @@
 
 pub(crate) mod emoji;
 
-/// The version of Unicode of the proved tables of which characters begin or continue an identifier. The table of
-/// emoji is that of Unicode 15. No answer rests on this constant.
+/// The version of Unicode of the proved tables, which say which characters begin or continue an identifier.
+///
+/// The table of emoji is that of Unicode 15. No answer depends on this constant.
 pub const UNICODE_VERSION: (u8, u8, u8) = (18, 0, 0);
 
-/// Whether the character is white space in Rust: one of the eleven of `Pattern_White_Space`. No version of
-/// Unicode adds one.
+/// Returns whether the character is white space in Rust: one of the eleven characters of `Pattern_White_Space`. No
+/// version of Unicode adds one.
 ///
 /// Rust Reference, [Whitespace](https://doc.rust-lang.org/reference/whitespace.html).
 pub fn is_whitespace(c: char) -> bool {
@@ -26,23 +27,24 @@ pub fn is_whitespace(c: char) -> bool {
     )
 }
 
-/// Whether the character is white space that ends no line: a tab or a space.
+/// Returns whether the character is white space that does not end a line: a tab or a space.
 ///
 /// Rust Reference, [Whitespace](https://doc.rust-lang.org/reference/whitespace.html).
 pub fn is_horizontal_whitespace(c: char) -> bool {
     matches!(c, '\t' | ' ')
 }
 
-/// Whether an identifier may begin with the character: `_`, or `XID_Start` as `unicode_ident` has it.
+/// Returns whether an identifier may begin with the character: with `_`, or with an `XID_Start` character of
+/// `unicode_ident`.
 ///
-/// The proved table is that of `DerivedCoreProperties.txt` of Unicode 18.0.
+/// The proved table is made from `DerivedCoreProperties.txt` of Unicode 18.0.
 ///
 /// Rust Reference, [Identifiers](https://doc.rust-lang.org/reference/identifiers.html).
 pub fn is_id_start(c: char) -> bool {
     c == '_' || is_xid_start(c)
 }
 
-/// Whether the character is `XID_Start`. Those in ASCII are told without the table.
+/// Returns whether the character is `XID_Start`. For a character in ASCII it does not read the table.
 fn is_xid_start(c: char) -> bool {
     if c.is_ascii() {
         c.is_ascii_alphabetic()
@@ -51,9 +53,10 @@ fn is_xid_start(c: char) -> bool {
     }
 }
 
-/// Whether an identifier may go on with the character: `XID_Continue` as `unicode_ident` has it.
+/// Returns whether an identifier may continue with the character: with an `XID_Continue` character of
+/// `unicode_ident`.
 ///
-/// The proved table is that of `DerivedCoreProperties.txt` of Unicode 18.0.
+/// The proved table is made from `DerivedCoreProperties.txt` of Unicode 18.0.
 ///
 /// Rust Reference, [Identifiers](https://doc.rust-lang.org/reference/identifiers.html).
 pub fn is_id_continue(c: char) -> bool {
@@ -64,14 +67,14 @@ pub fn is_id_continue(c: char) -> bool {
     }
 }
 
-/// Whether an identifier may go on with the character, which is in ASCII.
+/// Returns whether an identifier may continue with the character, which is in ASCII.
 fn is_ascii_continue(c: char) -> bool {
     c.is_ascii_alphanumeric() || c == '_'
 }
 
-/// Whether the text has at most `u32::MAX` bytes, so that each length in it is a `u32`.
+/// Returns whether the text has at most `u32::MAX` bytes, so that every length in it is a `u32`.
 ///
-/// What takes a whole text requires this of it.
+/// Each call that takes a whole text requires this.
 pub fn fits(text: &str) -> bool {
     text.len() <= u32::MAX as usize
 }

@@ -1,4 +1,4 @@
-//! A cursor over a text, which takes it token by token.
+//! A cursor, which takes the tokens of a text one by one.
 
 use crate::erased::frontmatter::token_at;
 use crate::erased::lexemes::choose_token;
@@ -8,12 +8,12 @@ use crate::erased::token::{FrontmatterAllowed, Token, TokenKind};
 
 mod guarded;
 
-/// A place in a text, from which the next token is taken.
+/// A cursor over a text, which takes the next token from the place that it has reached.
 ///
-/// Its state is the text that is left, how many bytes were taken since the last token and so are part of
-/// the next, and whether a frontmatter may stand at the front.
+/// Its state is the text that is left, the number of bytes taken since the last token, and whether a frontmatter
+/// may come in front. The bytes taken since the last token are pending: they are part of the next token.
 ///
-/// A loop takes tokens until it has the one that it looks for, here the first that is no comment:
+/// A loop takes tokens until it has the one that it looks for. Here that is the first one that is not a comment:
 ///
 /// ```ignore
 /// let mut cursor = Cursor::new(text, FrontmatterAllowed::No);
@@ -28,15 +28,15 @@ mod guarded;
 #[derive(Clone)]
 pub struct Cursor<'a> {
     text: &'a str,
-    /// Where the text that is left begins.
+    /// The place where the text that is left begins.
     index: usize,
-    /// Where the token begins that is taken next: before `index` where bytes are pending.
+    /// The place where the next token begins. It is before `index` if bytes are pending.
     start: usize,
     frontmatter_allowed: FrontmatterAllowed,
 }
 
 impl<'a> Cursor<'a> {
-    /// A cursor at the front of the text, which has at most `u32::MAX` bytes.
+    /// Creates a cursor at the front of the text, which may have at most `u32::MAX` bytes.
     pub fn new(input: &'a str, frontmatter_allowed: FrontmatterAllowed) -> Cursor<'a> {
         Cursor {
             text: input,
@@ -46,32 +46,34 @@ impl<'a> Cursor<'a> {
         }
     }
 
-    /// The text that is left.
+    /// Returns the text that is left.
     #[inline(always)]
     pub fn as_str(&self) -> &'a str {
         &self.text[self.index..]
     }
 
-    /// The next character, which is not taken, or U+0000 at the end of the text.
+    /// Returns the next character without taking it, or U+0000 at the end of the text.
     ///
-    /// A U+0000 in the text gives the same answer: `as_str` tells the two apart.
+    /// A U+0000 in the text gives the same answer. [`as_str`](Cursor::as_str) shows which of the two it is.
     pub fn first(&self) -> char {
         scan::first(self.as_str())
     }
 
-    /// The character after the next two, or U+0000 where the text has no more than two.
+    /// Returns the third of the next characters without taking it, or U+0000 if the text has no more than two.
     pub fn third(&self) -> char {
         scan::third(self.as_str())
     }
 
-    /// Takes the next token. At the end of the text it answers `Eof`, of length 0, and changes nothing.
+    /// Takes the next token and returns it. At the end of the text it returns `Eof`, of length 0, and changes
+    /// nothing.
     ///
-    /// No other token is `Eof`. Each is longer than the bytes that were pending, and ends between characters.
+    /// No other token is `Eof`. Each token is longer than the bytes that were pending, and ends between two
+    /// characters.
     ///
-    /// The length of the token, and where its suffix begins, count the bytes that were pending; then none are.
-    /// Past a token that is no white space, no frontmatter is allowed.
+    /// The length of the token, and the place where its suffix begins, count the pending bytes. After the call no
+    /// bytes are pending. After a token that is not white space, no frontmatter is allowed.
     ///
-    /// Where no bytes are pending, each way gives its token out by itself, as `next` of the iterator does.
+    /// If no bytes are pending, each branch returns its token by itself, like `next` of the iterator.
     #[inline(always)]
     pub fn advance_token(&mut self) -> Token {
         let rest = self.as_str();
@@ -99,13 +101,13 @@ impl<'a> Cursor<'a> {
         with_pending(token, pending)
     }
 
-    /// Whether no bytes are pending and no frontmatter may stand in front: mostly so past the first token.
+    /// Returns whether no bytes are pending and no frontmatter may come. Past the first token this is mostly so.
     #[inline(always)]
     fn is_plain(&self) -> bool {
         self.index == self.start && matches!(self.frontmatter_allowed, FrontmatterAllowed::No)
     }
 
-    /// Moves on by so many bytes. Then none are pending.
+    /// Moves on by this many bytes. Then no bytes are pending.
     #[inline(always)]
     fn pass(&mut self, len: u32) {
         self.index += len as usize;
@@ -113,7 +115,7 @@ impl<'a> Cursor<'a> {
     }
 }
 
-/// Whether a frontmatter may stand after a token of this kind.
+/// Returns whether a frontmatter may come after a token of this kind.
 #[inline(always)]
 pub(crate) fn next_allowed(allowed: FrontmatterAllowed, kind: TokenKind) -> FrontmatterAllowed {
     match kind {
@@ -122,7 +124,7 @@ pub(crate) fn next_allowed(allowed: FrontmatterAllowed, kind: TokenKind) -> Fron
     }
 }
 
-/// The token with the bytes that were pending before it.
+/// Returns the token made longer by the bytes that were pending before it.
 #[inline(always)]
 fn with_pending(token: Token, pending: u32) -> Token {
     let kind = match token.kind {

@@ -1,4 +1,4 @@
-//! The editions of Rust, and what each has in place of a token of the newest one.
+//! The editions of Rust, and how their tokens differ from those of the newest edition.
 
 use crate::erased::classes::emoji::is_emoji;
 use crate::erased::frontmatter::token_at;
@@ -9,21 +9,21 @@ use core::error::Error;
 use core::fmt;
 use core::str::FromStr;
 
-/// An edition of Rust, in the order of their years.
+/// An edition of Rust. Editions are ordered by their years.
 #[derive(Clone, Copy, Debug, PartialEq, Eq, PartialOrd, Ord, Hash)]
 pub enum Edition {
     /// Rust 2015.
     E2015,
-    /// Rust 2018, whose tokens are those of 2015.
+    /// Rust 2018. Its tokens are those of Rust 2015.
     E2018,
     /// Rust 2021.
     E2021,
-    /// Rust 2024, the newest.
+    /// Rust 2024, the newest edition.
     E2024,
 }
 
 impl Edition {
-    /// All editions, in the order of their years.
+    /// All editions, ordered by their years.
     pub const ALL: [Edition; 4] = [
         Edition::E2015,
         Edition::E2018,
@@ -31,7 +31,7 @@ impl Edition {
         Edition::E2024,
     ];
 
-    /// The year that names the edition.
+    /// Returns the year that names the edition.
     pub fn year(self) -> u16 {
         match self {
             Edition::E2015 => 2015,
@@ -51,7 +51,7 @@ const _: () = debug_assert!(Edition::ALL[2] as u8 == Edition::E2021 as u8);
 
 const _: () = debug_assert!(Edition::ALL[3] as u8 == Edition::E2024 as u8);
 
-/// Reads the year that names an edition, such as `2021`.
+/// Parses the year that names an edition, like `2021`.
 impl FromStr for Edition {
     type Err = UnknownEdition;
 
@@ -66,7 +66,7 @@ impl FromStr for Edition {
     }
 }
 
-/// The edition of a year, such as `2021`.
+/// Converts the year that names an edition, like `2021`.
 impl TryFrom<u16> for Edition {
     type Error = UnknownEdition;
 
@@ -81,7 +81,7 @@ impl TryFrom<u16> for Edition {
     }
 }
 
-/// A word or a number names no edition.
+/// The error for a word or a number that names no edition.
 #[derive(Clone, Copy, Debug, PartialEq, Eq)]
 pub struct UnknownEdition;
 
@@ -93,7 +93,7 @@ impl fmt::Display for UnknownEdition {
 
 impl Error for UnknownEdition {}
 
-/// The token at the front of a text that is not empty, in an edition, where a frontmatter may stand or may not.
+/// Returns the first token of a text in an edition, with or without a frontmatter in front. The text is not empty.
 #[inline(always)]
 pub(crate) fn token_as(rest: &str, allowed: FrontmatterAllowed, edition: Edition) -> Token {
     match edition {
@@ -102,19 +102,20 @@ pub(crate) fn token_as(rest: &str, allowed: FrontmatterAllowed, edition: Edition
     }
 }
 
-/// The same of any edition. It is not inlined, so that the way of the newest edition stays short.
+/// Returns what [`token_as`] returns, for any edition. It is not inlined, so that the code for the newest edition
+/// stays short.
 #[inline(never)]
 fn older_token(rest: &str, allowed: FrontmatterAllowed, edition: Edition) -> Token {
     changed(token_at(rest, allowed), rest, edition)
 }
 
-/// The token at the front of a text that is not empty, in an edition, where no frontmatter may stand.
+/// Returns the first token of a text in an edition, where no frontmatter is allowed. The text is not empty.
 #[inline(always)]
 pub(crate) fn token_in(rest: &str, edition: Edition) -> Token {
     changed(lexeme(rest), rest, edition)
 }
 
-/// What the edition has in place of the token at the front of the text.
+/// Returns the token that the edition has in place of the text's first token.
 #[inline(always)]
 fn changed(token: Token, text: &str, edition: Edition) -> Token {
     match edition {
@@ -124,7 +125,7 @@ fn changed(token: Token, text: &str, edition: Edition) -> Token {
     }
 }
 
-/// What an edition before 2024 has in place of the token.
+/// Returns the token that an edition before 2024 has in place of this one.
 fn before_2024(token: Token) -> Token {
     match token.kind {
         TokenKind::GuardedStrPrefix => Token {
@@ -135,7 +136,7 @@ fn before_2024(token: Token) -> Token {
     }
 }
 
-/// What an edition before 2021 has in place of the token at the front of the text.
+/// Returns the token that an edition before 2021 has in place of the text's first token.
 fn before_2021(token: Token, text: &str) -> Token {
     match token.kind {
         TokenKind::RawLifetime => Token {
@@ -158,7 +159,7 @@ fn before_2021(token: Token, text: &str) -> Token {
     }
 }
 
-/// Whether the name after the quote that the text begins with is one that no lifetime of Rust has.
+/// Returns whether the name after the quote at the front of the text is one that no lifetime of Rust has.
 fn has_marked_name(text: &str) -> bool {
     let Some((_, name)) = split_first(text) else {
         return false;
@@ -169,7 +170,7 @@ fn has_marked_name(text: &str) -> bool {
     first.is_ascii_digit() || is_emoji(first) || holds_emoji(rest)
 }
 
-/// Whether an emoji that no identifier goes on with stands in the name that goes on here.
+/// Returns whether the rest of a name holds an emoji that may not continue an identifier.
 fn holds_emoji(rest: &str) -> bool {
     next_is(eat_continue(rest), is_emoji)
 }

@@ -1,4 +1,4 @@
-//! The tokens of a text.
+//! The calls that lex a text, and their iterator.
 
 use crate::erased::cursor::next_allowed;
 use crate::erased::edition::{Edition, token_as};
@@ -15,13 +15,13 @@ mod tally;
 pub use document::tokenize_document;
 pub use stepper::{Stepper, Steps};
 
-/// The tokens of a text, in order. The text has at most `u32::MAX` bytes.
+/// Returns an iterator over the tokens of a text, which may have at most `u32::MAX` bytes.
 ///
-/// The lengths of the tokens sum to that of the text, and each token ends between two characters. With
-/// `FrontmatterAllowed::No` the text from the end of any token on has the rest of the tokens: a slice of a
-/// document is lexed so.
+/// The lengths of the tokens add up to the length of the text, and each token ends between two characters. With
+/// `FrontmatterAllowed::No`, the text from the end of any token has the remaining tokens, so a slice of a document
+/// that begins there can be lexed by itself.
 ///
-/// A plain loop slices the text by the lengths, here to find a word among the identifiers and keywords:
+/// A loop can slice the text by these lengths. Here it looks for a word among the identifiers and keywords:
 ///
 /// ```ignore
 /// let mut start = 0;
@@ -37,24 +37,25 @@ pub fn tokenize<'a>(input: &'a str, frontmatter_allowed: FrontmatterAllowed) -> 
     tokenize_as(input, frontmatter_allowed, Edition::E2024)
 }
 
-/// The tokens of a text in an edition, in order. The text has at most `u32::MAX` bytes, and no frontmatter.
+/// Returns an iterator over the tokens of a text in an edition. The text may have at most `u32::MAX` bytes, and no
+/// frontmatter may stand in front of it.
 ///
-/// The lengths of the tokens sum to that of the text, each token ends between two characters, and the text from
-/// the end of any token on has the rest of the tokens. With `Edition::E2024` they are those of
-/// [`tokenize`] with `FrontmatterAllowed::No`.
+/// The lengths of the tokens add up to the length of the text, each token ends between two characters, and the text
+/// from the end of any token has the remaining tokens. With `Edition::E2024` the tokens are those of [`tokenize`]
+/// with `FrontmatterAllowed::No`.
 ///
-/// Which tokens another edition has in place of these is a table in `docs/EDITIONS.md`. A plain loop goes over
-/// them as over those of `tokenize`.
+/// `docs/EDITIONS.md` has a table of the tokens that differ in other editions. A loop uses the iterator like that
+/// of [`tokenize`].
 pub fn tokenize_in<'a>(text: &'a str, edition: Edition) -> EditionTokens<'a> {
     tokenize_as(text, FrontmatterAllowed::No, edition)
 }
 
-/// The tokens of a text in an edition, in order, where a frontmatter may stand in front or may not. The text has at
-/// most `u32::MAX` bytes.
+/// Returns an iterator over the tokens of a text in an edition, with or without a frontmatter in front. The text
+/// may have at most `u32::MAX` bytes.
 ///
-/// So it reads a whole document of an older edition: past the frontmatter, which is the same in all editions, stand the
-/// tokens of that edition. [`tokenize`] is this call with the newest edition, and [`tokenize_in`] is this call with
-/// `FrontmatterAllowed::No`.
+/// With `FrontmatterAllowed::Yes` it reads a whole document of an older edition: the frontmatter, which is the same
+/// in all editions, and then the tokens of that edition. [`tokenize`] is this call with the newest edition, and
+/// [`tokenize_in`] is this call with `FrontmatterAllowed::No`.
 pub fn tokenize_as<'a>(
     text: &'a str,
     frontmatter_allowed: FrontmatterAllowed,
@@ -67,8 +68,9 @@ pub fn tokenize_as<'a>(
     }
 }
 
-/// An iterator over the tokens of a text, made by [`tokenize`], [`tokenize_in`], [`tokenize_as`] and
-/// [`tokenize_document`].
+/// An iterator over the tokens of a text.
+///
+/// [`tokenize`], [`tokenize_in`], [`tokenize_as`] and [`tokenize_document`] return it.
 #[derive(Clone)]
 pub struct Tokens<'a> {
     rest: &'a str,
@@ -76,17 +78,19 @@ pub struct Tokens<'a> {
     edition: Edition,
 }
 
-/// Another name of [`Tokens`], for what [`tokenize_in`] makes.
+/// Another name of [`Tokens`], as the type that [`tokenize_in`] returns.
 pub type EditionTokens<'a> = Tokens<'a>;
 
 impl<'a> Tokens<'a> {
-    /// The text whose tokens were not given out yet.
+    /// Returns the text that is left: the part whose tokens the iterator has not returned yet.
     #[inline(always)]
     pub fn as_str(&self) -> &'a str {
         self.rest
     }
 
-    /// Whether a frontmatter may stand in front of that text. By both a caller that stops can go on later.
+    /// Returns whether a frontmatter may stand in front of the text that is left.
+    ///
+    /// A caller that stops can go on later with this answer and [`as_str`](Tokens::as_str).
     #[inline(always)]
     pub fn frontmatter_allowed(&self) -> FrontmatterAllowed {
         self.frontmatter_allowed
@@ -96,9 +100,10 @@ impl<'a> Tokens<'a> {
 impl<'a> Iterator for Tokens<'a> {
     type Item = Token;
 
-    /// The next token, or `None` past the last one, from then on.
+    /// Returns the next token. Past the last one it returns `None`, and does so from then on.
     ///
-    /// Each way gives its token out by itself. So one that its bytes tell is never written to memory and read again.
+    /// Each branch returns its token by itself, so a token that `quick_token` finds is never written to memory and
+    /// read again.
     #[inline(always)]
     fn next(&mut self) -> Option<Token> {
         let rest = self.as_str();

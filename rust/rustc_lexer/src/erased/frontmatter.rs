@@ -1,4 +1,4 @@
-//! Frontmatter: what may stand in front of the first token, between two fences of dashes.
+//! Frontmatter: a block between two fences of dashes, which may come before the first token.
 
 use crate::erased::classes::{
     is_horizontal_whitespace, is_id_continue, is_id_start, is_whitespace,
@@ -8,10 +8,10 @@ use crate::erased::scan::{eat_while, eat_whitespace, next_is, split_first};
 use crate::erased::token::{FrontmatterAllowed, Token, TokenKind};
 use memchr::memchr;
 
-/// A fence has at least so many dashes.
+/// The least number of dashes in a fence.
 const MIN_DASHES: usize = 3;
 
-/// The token at the front of a text. At the end of the text it is `Eof`, of length 0.
+/// Returns the first token of a text. At the end of the text it is `Eof`, of length 0.
 #[inline(always)]
 pub(crate) fn token_at(text: &str, allowed: FrontmatterAllowed) -> Token {
     match allowed {
@@ -20,7 +20,7 @@ pub(crate) fn token_at(text: &str, allowed: FrontmatterAllowed) -> Token {
     }
 }
 
-/// The token at the front of a text where a frontmatter is allowed.
+/// Returns the first token of a text where a frontmatter is allowed.
 #[inline(never)]
 fn frontmatter_or_lexeme(text: &str) -> Token {
     match frontmatter(text) {
@@ -29,9 +29,9 @@ fn frontmatter_or_lexeme(text: &str) -> Token {
     }
 }
 
-/// The frontmatter at the front of the text, if one opens there.
+/// Returns the frontmatter at the front of the text, or `None` if none opens there.
 ///
-/// White space before its dashes is part of it, unless a newline is the last character of that.
+/// White space before its dashes is part of it, unless the last character of that white space is a newline.
 pub(crate) fn frontmatter(text: &str) -> Option<Token> {
     let fence = eat_whitespace(text);
     let label = eat_while(fence, |c| c == '-');
@@ -50,14 +50,14 @@ pub(crate) fn frontmatter(text: &str) -> Option<Token> {
     })
 }
 
-/// What is left past the rest of the opening fence's line: blanks, an infostring, and blanks. `rest` is what
-/// follows the dashes.
+/// Returns the text after the rest of the opening fence's line: after blanks, an infostring, and blanks. `rest` is
+/// the text after the dashes.
 fn eat_label(rest: &str) -> &str {
     let infostring = eat_while(rest, is_horizontal_whitespace);
     eat_while(eat_infostring(infostring), is_horizontal_whitespace)
 }
 
-/// What an infostring leaves of the text, if one stands here.
+/// Returns the text after an infostring, if there is one at the front, or else the whole text.
 fn eat_infostring(rest: &str) -> &str {
     let Some((first, tail)) = split_first(rest) else {
         return rest;
@@ -68,12 +68,12 @@ fn eat_infostring(rest: &str) -> &str {
     eat_while(tail, is_infostring)
 }
 
-/// What an infostring goes on with.
+/// Returns whether an infostring may continue with the character.
 fn is_infostring(c: char) -> bool {
     is_id_continue(c) || c == '-' || c == '.'
 }
 
-/// Where the frontmatter ends in `rest`, which follows an opening of `n_dashes` dashes.
+/// Returns where the frontmatter ends in `rest`, which is the text after an opening of `n_dashes` dashes.
 fn closing_end(rest: &[u8], n_dashes: usize) -> usize {
     match find_fence(rest, n_dashes) {
         Some(place) => line_end(rest, place + 1),
@@ -81,7 +81,7 @@ fn closing_end(rest: &[u8], n_dashes: usize) -> usize {
     }
 }
 
-/// Where a frontmatter ends that no line of so many dashes closes: at the best guess of where Rust begins.
+/// Returns where a frontmatter ends that no line of enough dashes closes: the best guess of where Rust begins.
 fn recovery(rest: &[u8]) -> usize {
     if let Some(place) = find(rest, b"\n---", 1) {
         return line_end(rest, place + 1);
@@ -101,7 +101,7 @@ fn recovery(rest: &[u8]) -> usize {
     }
 }
 
-/// The place of the first newline that at least `n_dashes` dashes follow.
+/// Returns the place of the first newline that at least `n_dashes` dashes follow.
 fn find_fence(rest: &[u8], n_dashes: usize) -> Option<usize> {
     let mut from = 0;
     while let Some(step) = memchr(b'\n', &rest[from..]) {
@@ -115,7 +115,7 @@ fn find_fence(rest: &[u8], n_dashes: usize) -> Option<usize> {
     None
 }
 
-/// Where the dashes from a place on end.
+/// Returns where the dashes that begin at `from` end.
 fn dashes_end(rest: &[u8], from: usize) -> usize {
     let mut end = from;
     while end < rest.len() && rest[end] == b'-' {
@@ -124,7 +124,7 @@ fn dashes_end(rest: &[u8], from: usize) -> usize {
     end
 }
 
-/// The first place of three dashes with only blanks before them: on their line, and past the dashes before.
+/// Returns the first place of three dashes with only blanks before them, on their line and past the dashes before.
 fn find_lone_dashes(rest: &[u8]) -> Option<usize> {
     let mut end = 0;
     while let Some(step) = find(&rest[end..], b"---", 0) {
@@ -137,7 +137,7 @@ fn find_lone_dashes(rest: &[u8]) -> Option<usize> {
     None
 }
 
-/// Whether only blanks stand before a place: on its line, and past `end`.
+/// Returns whether only blanks come before `place`, on its line and past `end`.
 fn stands_alone(rest: &[u8], end: usize, place: usize) -> bool {
     let mut start = place;
     while start > end && is_horizontal_whitespace(rest[start - 1] as char) {
@@ -146,12 +146,12 @@ fn stands_alone(rest: &[u8], end: usize, place: usize) -> bool {
     start == end || follows_newline(rest, start)
 }
 
-/// Whether a newline stands right before a place.
+/// Returns whether a newline comes right before a place.
 fn follows_newline(bytes: &[u8], place: usize) -> bool {
     place > 0 && bytes[place - 1] == b'\n'
 }
 
-/// The first newline at or past a place, or the end.
+/// Returns the place of the first newline at or past `place`, or the end of the text.
 fn line_end(rest: &[u8], place: usize) -> usize {
     match memchr(b'\n', &rest[place..]) {
         Some(step) => place + step,
@@ -159,8 +159,8 @@ fn line_end(rest: &[u8], place: usize) -> usize {
     }
 }
 
-/// The first place where the pattern stands. Its byte `rare`, one that texts have few of, is looked for: no searcher has
-/// to be made, which would reach the heap.
+/// Returns the first place of the pattern. It searches for the pattern's byte number `rare`, one that texts have
+/// few of. So it does not have to make a searcher, which would allocate on the heap.
 fn find(rest: &[u8], pattern: &[u8], rare: usize) -> Option<usize> {
     if rest.len() < pattern.len() {
         return None;

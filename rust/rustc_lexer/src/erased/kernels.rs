@@ -1,18 +1,18 @@
-//! How far runs of bytes go and where a byte stands, 32 bytes at a time.
+//! Searches over bytes that look at 32 bytes at a time: where a run ends, and where a byte is.
 
 use crate::support::simd::*;
 use memchr::{memchr, memchr2};
 
 /// A class of bytes in ASCII.
 pub(crate) trait ByteClass {
-    /// Whether the byte is in the class.
+    /// Returns whether the byte is in the class.
     fn has(byte: u8) -> bool;
 
-    /// Bit k is set where lane k is outside the class.
+    /// Returns a mask. Bit k is set if lane k is outside the class.
     fn stops(v: u8x32) -> u64;
 }
 
-/// What an identifier goes on with.
+/// The bytes that an identifier may continue with.
 #[derive(Clone, Copy)]
 pub(crate) struct Continue;
 
@@ -88,7 +88,7 @@ impl ByteClass for Hexadecimal {
     }
 }
 
-/// Bit k is set where lane k is of a word.
+/// Returns a mask. Bit k is set if lane k belongs to a word.
 #[inline(always)]
 fn words(v: u8x64) -> u64 {
     let from_a = (v | u8x64::splat(0x20)) - u8x64::splat(b'a');
@@ -99,20 +99,21 @@ fn words(v: u8x64) -> u64 {
     .to_bitmask()
 }
 
-/// Bit k is set where lane k is white space.
+/// Returns a mask. Bit k is set if lane k is white space.
 #[inline(always)]
 fn spaces(v: u8x64) -> u64 {
     let from_tab = v - u8x64::splat(b'\t');
     (v.simd_eq(u8x64::splat(b' ')) | from_tab.simd_lt(u8x64::splat(5))).to_bitmask()
 }
 
-/// Bit k is set where bytes k - 1 and k are not both of a word, nor both white space.
+/// Returns a mask. Bit k is set unless bytes k - 1 and k both belong to a word or are both white space.
 #[inline(always)]
 fn apart(words: u64, spaces: u64) -> u64 {
     !(((words << 1) & words) | ((spaces << 1) & spaces)) & !1
 }
 
-/// Where the runs of words and of white space end in the next 64 bytes: nothing where there are fewer.
+/// Returns where the runs of words and of white space end in the next 64 bytes. Returns no ends if fewer bytes are
+/// left.
 #[inline(never)]
 pub(crate) fn ends_of_runs(bytes: &[u8]) -> u64 {
     if bytes.len() < 64 {
@@ -122,7 +123,7 @@ pub(crate) fn ends_of_runs(bytes: &[u8]) -> u64 {
     apart(words(v), spaces(v))
 }
 
-/// How many bytes at the front are in the class. It mostly ends within 32 bytes.
+/// Returns how many bytes at the front are in the class. The run mostly ends within 32 bytes.
 #[inline(always)]
 pub(crate) fn run_end<C: ByteClass>(bytes: &[u8]) -> usize {
     if bytes.len() < 32 {
@@ -135,7 +136,7 @@ pub(crate) fn run_end<C: ByteClass>(bytes: &[u8]) -> usize {
     stops.trailing_zeros() as usize
 }
 
-/// How many bytes at the front are in the class. Mostly the first one is not.
+/// Returns how many bytes at the front are in the class. Mostly the first byte is not.
 #[inline(always)]
 pub(crate) fn short_run_end<C: ByteClass>(bytes: &[u8]) -> usize {
     if !bytes.is_empty() && C::has(bytes[0]) {
@@ -144,7 +145,7 @@ pub(crate) fn short_run_end<C: ByteClass>(bytes: &[u8]) -> usize {
     0
 }
 
-/// How many bytes at the front are in the class, 32 bytes after another.
+/// Returns how many bytes at the front are in the class. Looks at 32 bytes at a time.
 #[inline(never)]
 fn run_end_by_lanes<C: ByteClass>(bytes: &[u8]) -> usize {
     let mut end = 0;
@@ -158,7 +159,7 @@ fn run_end_by_lanes<C: ByteClass>(bytes: &[u8]) -> usize {
     end + run_end_by_bytes::<C>(&bytes[end..])
 }
 
-/// How many bytes at the front are in the class, a byte after another.
+/// Returns how many bytes at the front are in the class. Looks at one byte at a time.
 #[inline(never)]
 fn run_end_by_bytes<C: ByteClass>(bytes: &[u8]) -> usize {
     let mut end = 0;
@@ -168,7 +169,8 @@ fn run_end_by_bytes<C: ByteClass>(bytes: &[u8]) -> usize {
     end
 }
 
-/// The first place of the byte. It mostly is within 64 bytes: these are looked at before the search is called.
+/// Returns the first place of the byte. It is mostly within 64 bytes, so these are looked at before the search is
+/// called.
 #[inline(always)]
 pub(crate) fn find(stop: u8, bytes: &[u8]) -> Option<usize> {
     if bytes.len() >= 64 {
@@ -182,10 +184,10 @@ pub(crate) fn find(stop: u8, bytes: &[u8]) -> Option<usize> {
     memchr(stop, bytes)
 }
 
-/// The place of the first quote that so many hashes follow, none or one, if it is within the next 64 bytes and there are
-/// so many.
+/// Returns the place of the first quote that `n_hashes` hashes follow, none or one. Returns it only if it is within
+/// the next 64 bytes and there are that many bytes.
 ///
-/// Which of the two it is costs no branch: it is hard to foresee.
+/// There is no branch on whether it is none or one, which is hard to predict.
 #[inline(always)]
 pub(crate) fn find_close(n_hashes: u32, bytes: &[u8]) -> Option<usize> {
     if bytes.len() < 64 {
@@ -201,14 +203,14 @@ pub(crate) fn find_close(n_hashes: u32, bytes: &[u8]) -> Option<usize> {
     Some(found.trailing_zeros() as usize)
 }
 
-/// Bit k is set where a quote stands at k and so many hashes follow it, none or one.
+/// Returns a mask. Bit k is set if a quote is at k and `n_hashes` hashes follow it, none or one.
 #[inline(always)]
 fn followed(quotes: u64, hashes: u64, n_hashes: u32) -> u64 {
     quotes & ((hashes >> 1) | u64::from(n_hashes).wrapping_sub(1))
 }
 
-/// The first place of either byte. Where such bytes stand together it is the first one, and else it mostly is within
-/// 32 bytes, which are looked at in the same way.
+/// Returns the first place of either byte. If such bytes come together it is the first byte, and otherwise it is
+/// mostly within 32 bytes. Both are looked at before the search is called.
 #[inline(always)]
 pub(crate) fn find_either(one: u8, two: u8, bytes: &[u8]) -> Option<usize> {
     if !bytes.is_empty() && (bytes[0] == one || bytes[0] == two) {
@@ -224,7 +226,7 @@ pub(crate) fn find_either(one: u8, two: u8, bytes: &[u8]) -> Option<usize> {
     memchr2(one, two, bytes)
 }
 
-/// Whether a word that ends there is an identifier, by the byte after it.
+/// Returns whether a word that ends at `end` is an identifier, as the byte after it determines.
 #[inline(always)]
 pub(crate) fn ends_word(bytes: &[u8], end: usize) -> bool {
     if end < bytes.len() {
@@ -234,7 +236,7 @@ pub(crate) fn ends_word(bytes: &[u8], end: usize) -> bool {
     }
 }
 
-/// Whether no white space outside ASCII stands there, by its first byte.
+/// Returns whether there is no white space outside ASCII at `end`, as the first byte there determines.
 #[inline(always)]
 pub(crate) fn ends_space(bytes: &[u8], end: usize) -> bool {
     if end < bytes.len() {

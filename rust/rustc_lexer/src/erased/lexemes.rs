@@ -1,4 +1,4 @@
-//! The token at the front of a text: a choice by its first character, and a function for most families.
+//! The first token of a text: its first character chooses it, and most families of tokens have a function.
 
 use crate::erased::lexemes::classified::symbol_kind;
 use crate::erased::lexemes::comment::slash;
@@ -25,10 +25,10 @@ pub(crate) mod quoted;
 pub(crate) mod raw;
 mod word;
 
-/// The token at the front of a text. At the end of the text it is `Eof`, of length 0.
+/// Returns the first token of a text. At the end of the text it is `Eof`, of length 0.
 ///
-/// The commonest tokens are told by their bytes, and so is each that begins with a hash. The first character chooses
-/// the others. Both ways promise the same.
+/// The bytes alone determine the most common tokens and each token that begins with a hash. For the others it looks
+/// at the first character. Both branches promise the same.
 #[inline(always)]
 pub(crate) fn lexeme(text: &str) -> Token {
     match quick_token(text) {
@@ -37,7 +37,7 @@ pub(crate) fn lexeme(text: &str) -> Token {
     }
 }
 
-/// The token at the front of a text that begins with no hash, as its first character chooses.
+/// Returns the first token of a text that does not begin with a hash, as its first character chooses.
 #[inline(never)]
 pub(crate) fn choose_token(text: &str) -> Token {
     let Some((first, tail)) = split_first(text) else {
@@ -53,7 +53,8 @@ pub(crate) fn choose_token(text: &str) -> Token {
     }
 }
 
-/// The kind of the token that begins with `first`, and what the token leaves of what follows that.
+/// Returns the kind of the token that begins with `first`, and the text after the token. `tail` is the text after
+/// `first`.
 #[inline(always)]
 fn past_first(first: char, tail: &str) -> (TokenKind, &str) {
     match family_of(first) {

@@ -4,10 +4,10 @@ use crate::erased::lexemes::raw::{raw_double_quoted_string, short_opening};
 use crate::erased::scan::{first, split_first};
 use crate::erased::token::RawStrError;
 
-/// Whether the first `prefix_len` characters of the text may be the prefix of a raw string: `prefix_len` is
-/// at least 1, and character number `prefix_len`, counted from 1, is `r`.
+/// Returns whether the first `prefix_len` characters of the text may be the prefix of a raw string. They may be if
+/// `prefix_len` is at least 1, and character number `prefix_len`, counted from 1, is `r`.
 ///
-/// What [`validate_raw_str`](crate::validate_raw_str) requires of its text.
+/// [`validate_raw_str`](crate::validate_raw_str) requires this of its text.
 pub fn starts_raw(input: &str, prefix_len: u32) -> bool {
     if prefix_len == 0 {
         return false;
@@ -15,13 +15,13 @@ pub fn starts_raw(input: &str, prefix_len: u32) -> bool {
     first(past_chars(input, prefix_len - 1)) == 'r'
 }
 
-/// Whether the raw string that the text begins with is a good one, or why not.
+/// Checks the raw string at the front of the text. `Err` says why it is refused.
 ///
-/// `prefix_len` is the length of the prefix in characters, with its `r`: 1 for `r`, 2 for `br` and `cr`.
-/// What [`starts_raw`] tests is required of it. The text has at most `u32::MAX` bytes.
+/// `prefix_len` is the length of the prefix in characters, with its `r`: 1 for `r`, 2 for `br` and `cr`. The text
+/// has to pass [`starts_raw`], and may have at most `u32::MAX` bytes.
 ///
-/// An offset in the answer is in bytes: those past the prefix, and `prefix_len` more. So it is a place in the
-/// text where each character of the prefix is one byte long.
+/// An offset in the answer counts the bytes past the prefix, plus `prefix_len`. So it is a place in the text if
+/// each character of the prefix is one byte long.
 ///
 /// ```ignore
 /// validate_raw_str("r##\"abc\"#", 1) // NoTerminator { expected: 2, found: 1, possible_terminator_offset: Some(8) }
@@ -35,7 +35,7 @@ pub fn validate_raw_str(input: &str, prefix_len: u32) -> Result<(), RawStrError>
     }
 }
 
-/// What follows the first `count` characters of the text.
+/// Returns the text after its first `count` characters.
 fn past_chars(text: &str, count: u32) -> &str {
     let mut rest = text;
     let mut left = count;

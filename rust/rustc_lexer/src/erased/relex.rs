@@ -1,4 +1,4 @@
-//! A text that is kept with its tokens, and its edits.
+//! Texts that are kept with their tokens, and edits of them.
 mod checkpoints;
 mod document_edit;
 mod edit;

@@ -1,16 +1,16 @@
-//! Peeks at what is left of a text, and runs of a class at its front.
+//! Looks at the characters that are left of a text, and skips runs of a class at its front.
 
 use crate::erased::classes::is_whitespace;
 use crate::erased::kernels::{
     Continue, Decimal, Hexadecimal, Space, ends_space, find, find_either, run_end, short_run_end,
 };
 
-/// The first character, or U+0000 where the text ends.
+/// Returns the first character, or U+0000 if the text is empty.
 pub(crate) fn first(rest: &str) -> char {
     rest.chars().next().unwrap_or('\0')
 }
 
-/// The second character, or U+0000 where the text has no more than one.
+/// Returns the second character, or U+0000 if the text has no more than one.
 pub(crate) fn second(rest: &str) -> char {
     match split_first(rest) {
         Some((_, tail)) => first(tail),
@@ -18,7 +18,7 @@ pub(crate) fn second(rest: &str) -> char {
     }
 }
 
-/// The third character, or U+0000 where the text has no more than two.
+/// Returns the third character, or U+0000 if the text has no more than two.
 pub(crate) fn third(rest: &str) -> char {
     match split_first(rest) {
         Some((_, tail)) => second(tail),
@@ -26,7 +26,7 @@ pub(crate) fn third(rest: &str) -> char {
     }
 }
 
-/// The first character and what follows it.
+/// Returns the first character and the text after it, or `None` if the text is empty.
 #[inline(always)]
 pub(crate) fn split_first(rest: &str) -> Option<(char, &str)> {
     let mut chars = rest.chars();
@@ -34,7 +34,7 @@ pub(crate) fn split_first(rest: &str) -> Option<(char, &str)> {
     Some((first, chars.as_str()))
 }
 
-/// Whether a character stands next that passes the test. None does at the end of the text.
+/// Returns whether there is a next character and it passes the test.
 #[inline(always)]
 pub(crate) fn next_is<F: Fn(char) -> bool>(rest: &str, test: F) -> bool {
     match split_first(rest) {
@@ -43,14 +43,14 @@ pub(crate) fn next_is<F: Fn(char) -> bool>(rest: &str, test: F) -> bool {
     }
 }
 
-/// What follows the character `c`, if the text begins with it.
+/// Returns the text after the character `c`, or `None` if the text does not begin with it.
 #[inline(always)]
 pub(crate) fn strip(rest: &str, c: char) -> Option<&str> {
     let (first, tail) = split_first(rest)?;
     if first == c { Some(tail) } else { None }
 }
 
-/// What follows the characters at the front that pass the test.
+/// Returns the text after the characters at the front that pass the test.
 pub(crate) fn eat_while<F: Fn(char) -> bool>(rest: &str, test: F) -> &str {
     let mut end = 0;
     for c in rest.chars() {
@@ -62,7 +62,7 @@ pub(crate) fn eat_while<F: Fn(char) -> bool>(rest: &str, test: F) -> &str {
     &rest[end..]
 }
 
-/// Whether a character that is not in ASCII stands next.
+/// Returns whether the next character is outside ASCII.
 #[inline(always)]
 pub(crate) fn begins_wide(rest: &str) -> bool {
     match rest.as_bytes().first() {
@@ -71,7 +71,7 @@ pub(crate) fn begins_wide(rest: &str) -> bool {
     }
 }
 
-/// What follows the characters at the front that an identifier may go on with.
+/// Returns the text after the characters at the front that an identifier may continue with.
 #[inline]
 pub(crate) fn eat_continue(rest: &str) -> &str {
     let left = &rest[short_run_end::<Continue>(rest.as_bytes())..];
@@ -82,8 +82,8 @@ pub(crate) fn eat_continue(rest: &str) -> &str {
     }
 }
 
-/// What follows the characters at the front that an identifier may go on with, where no such byte of ASCII stands
-/// next.
+/// Returns the text after the characters at the front that an identifier may continue with. The next byte is not
+/// one of these in ASCII.
 #[inline(never)]
 fn eat_continue_wide(rest: &str) -> &str {
     let mut left = rest;
@@ -104,9 +104,10 @@ fn eat_continue_wide(rest: &str) -> &str {
     left
 }
 
-/// What follows the characters at the front that an identifier may go on with and whose first bytes are in the range.
+/// Returns the text after the characters at the front that an identifier may continue with and whose first bytes
+/// are in the range.
 ///
-/// Where that tells how many bytes a character has, reading it needs no choice.
+/// If the range determines how many bytes a character has, reading it takes no branch.
 #[inline(always)]
 fn eat_continue_in(rest: &str, low: u8, high: u8) -> &str {
     let mut left = rest;
@@ -122,7 +123,7 @@ fn eat_continue_in(rest: &str, low: u8, high: u8) -> &str {
     left
 }
 
-/// Whether the next byte is in the range.
+/// Returns whether the next byte is in the range.
 #[inline(always)]
 fn begins_within(rest: &str, low: u8, high: u8) -> bool {
     match rest.as_bytes().first() {
@@ -131,7 +132,7 @@ fn begins_within(rest: &str, low: u8, high: u8) -> bool {
     }
 }
 
-/// What follows the white space at the front.
+/// Returns the text after the white space at the front.
 #[inline]
 pub(crate) fn eat_whitespace(rest: &str) -> &str {
     let left = &rest[run_end::<Space>(rest.as_bytes())..];
@@ -142,7 +143,8 @@ pub(crate) fn eat_whitespace(rest: &str) -> &str {
     }
 }
 
-/// What follows the characters up to the first `stop`, a byte of ASCII, or the end.
+/// Returns the text from the first `stop` on, which is a byte of ASCII, or the empty text at the end if there is
+/// none.
 #[inline(always)]
 pub(crate) fn eat_until(rest: &str, stop: u8) -> &str {
     match find(stop, rest.as_bytes()) {
@@ -151,7 +153,7 @@ pub(crate) fn eat_until(rest: &str, stop: u8) -> &str {
     }
 }
 
-/// What follows the characters up to the first of two bytes of ASCII, or the end.
+/// Returns the text from the first of two bytes of ASCII on, or the empty text at the end if there is neither.
 #[inline(always)]
 pub(crate) fn eat_until_either(rest: &str, one: u8, two: u8) -> &str {
     match find_either(one, two, rest.as_bytes()) {
@@ -160,7 +162,7 @@ pub(crate) fn eat_until_either(rest: &str, one: u8, two: u8) -> &str {
     }
 }
 
-/// What follows the digits and underscores at the front.
+/// Returns the text after the digits and underscores at the front.
 #[inline]
 pub(crate) fn eat_decimal(rest: &str) -> &str {
     let left = &rest[run_end::<Decimal>(rest.as_bytes())..];
@@ -171,7 +173,7 @@ pub(crate) fn eat_decimal(rest: &str) -> &str {
     }
 }
 
-/// What follows the hexadecimal digits and underscores at the front.
+/// Returns the text after the hexadecimal digits and underscores at the front.
 #[inline]
 pub(crate) fn eat_hexadecimal(rest: &str) -> &str {
     let left = &rest[run_end::<Hexadecimal>(rest.as_bytes())..];

@@ -3,11 +3,13 @@
 use crate::erased::entry::tokenize;
 use crate::erased::token::{FrontmatterAllowed, TokenKind};
 
-/// The length of the shebang line at the front of a text, without the end of the line; `None` where there is no
-/// such line. The text has at most `u32::MAX` bytes.
+/// Returns the length in bytes of the shebang line at the front of a text, without the end of the line. Returns
+/// `None` if there is no such line. The text may have at most `u32::MAX` bytes.
 ///
-/// A shebang line begins with `#!`. It is none, but an attribute, where a bracket is the first token after that,
-/// past white space and comments that are no docs.
+/// A shebang line begins with `#!`. If the next token after white space and comments that are not doc comments is
+/// `[`, then it is an attribute, not a shebang line.
+///
+/// Rust Reference, [Shebang removal](https://doc.rust-lang.org/reference/input-format.html#shebang-removal).
 ///
 /// ```ignore
 /// let line = strip_shebang("#!/bin/sh\nfn"); // Some(9)
@@ -21,12 +23,12 @@ pub fn strip_shebang(input: &str) -> Option<usize> {
     Some(2 + line_len(tail))
 }
 
-/// The length of the shebang line, or 0.
+/// Returns the length of the shebang line in bytes, or 0 if there is none.
 pub(crate) fn shebang_len(text: &str) -> usize {
     strip_shebang(text).unwrap_or(0)
 }
 
-/// Whether what follows `#!` is an attribute.
+/// Returns whether the text after `#!` makes it an attribute.
 fn is_attribute(tail: &str) -> bool {
     for token in tokenize(tail, FrontmatterAllowed::No) {
         if !is_passed(token.kind) {
@@ -36,7 +38,7 @@ fn is_attribute(tail: &str) -> bool {
     false
 }
 
-/// Whether the token may stand between `#!` and the bracket of an attribute.
+/// Returns whether a token of this kind may come between `#!` and the bracket of an attribute.
 fn is_passed(kind: TokenKind) -> bool {
     matches!(
         kind,
@@ -49,7 +51,7 @@ fn is_passed(kind: TokenKind) -> bool {
     )
 }
 
-/// The length of the first line, without its end.
+/// Returns the length of the first line in bytes, without its end.
 fn line_len(text: &str) -> usize {
     let Some(newline) = text.find('\n') else {
         return text.len();

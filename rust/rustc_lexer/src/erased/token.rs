@@ -1,84 +1,112 @@
-//! Tokens: what each is, and how long.
+//! Tokens: their kinds and their lengths.
 
 use core::error::Error;
 use core::fmt;
 
-/// A token: what it is, and how many bytes of the text it takes.
+/// A token: its kind, and how many bytes of the text it takes.
 #[derive(Clone, Copy, Debug, PartialEq, Eq, Hash)]
 pub struct Token {
-    /// What the token is.
+    /// The kind of the token.
     pub kind: TokenKind,
     /// Its length in bytes.
     pub len: u32,
 }
 
-/// What a token is.
+/// The kind of a token.
 ///
 /// Rust Reference, [Tokens](https://doc.rust-lang.org/reference/tokens.html).
 #[derive(Clone, Copy, Debug, PartialEq, Eq, Hash)]
 pub enum TokenKind {
-    /// From `//` up to the end of the line, as `// note`.
+    /// A comment from `//` up to the end of the line, like `// note`.
+    ///
+    /// Rust Reference, [Comments](https://doc.rust-lang.org/reference/comments.html).
     LineComment {
         /// Whether it is a doc comment, and which one.
         doc_style: Option<DocStyle>,
     },
 
-    /// From `/*` up to the `*/` that closes it, as `/* note */`. Comments nest. One that nothing closes
-    /// takes the rest of the text.
+    /// A comment from `/*` up to the `*/` that closes it, like `/* note */`. Comments nest. A comment that nothing
+    /// closes takes the rest of the text.
+    ///
+    /// Rust Reference, [Comments](https://doc.rust-lang.org/reference/comments.html).
     BlockComment {
         /// Whether it is a doc comment, and which one.
         doc_style: Option<DocStyle>,
-        /// Whether its closing mark stands in the text.
+        /// Whether its closing `*/` is in the text.
         terminated: bool,
     },
 
     /// A run of white space.
+    ///
+    /// Rust Reference, [Whitespace](https://doc.rust-lang.org/reference/whitespace.html).
     Whitespace,
 
-    /// The block between lines of dashes that may stand before the source of a document.
+    /// A frontmatter: a block between two lines of dashes, which may come before the source of a document.
     Frontmatter {
-        /// White space stands before its dashes and is part of the token; it ends no line.
+        /// Whether white space comes before its dashes and is part of the token. The last character of that is not
+        /// a newline.
         has_invalid_preceding_whitespace: bool,
-        /// Its first line has more than dashes, an infostring and blanks, or the text ends there.
+        /// Whether its first line has more on it than dashes, an infostring and blanks, or the text ends in that
+        /// line.
         invalid_infostring: bool,
     },
 
-    /// An identifier or a keyword, as `value` or `while`.
+    /// An identifier or a keyword, like `value` or `while`.
+    ///
+    /// Rust Reference, [Identifiers](https://doc.rust-lang.org/reference/identifiers.html).
     Ident,
 
-    /// What would be an identifier but for an emoji in it.
+    /// A word that would be an identifier without the emoji in it.
     InvalidIdent,
 
-    /// An identifier that is written raw, as `r#while`.
+    /// A raw identifier, like `r#while`.
+    ///
+    /// Rust Reference, [Raw identifiers](https://doc.rust-lang.org/reference/identifiers.html#raw-identifiers).
     RawIdent,
 
-    /// A keyword that is forced, as `k#while`.
+    /// A forced keyword, like `k#while`.
     ForcedKeywordIdent,
 
-    /// An identifier right before `#`, `"` or `'`, as the `z` of `z"a"`. The mark is no part of it.
+    /// An identifier right before `#`, `"` or `'`, like the `z` of `z"a"`. The mark itself is not part of the
+    /// token.
+    ///
+    /// Rust Reference, [Reserved prefixes](https://doc.rust-lang.org/reference/tokens.html#reserved-prefixes).
     UnknownPrefix,
 
-    /// A lifetime right before `#`, as the `'z` of `'z#`. The mark is no part of it.
+    /// A lifetime right before `#`, like the `'z` of `'z#`. The `#` itself is not part of the token.
+    ///
+    /// Rust Reference, [Reserved prefixes](https://doc.rust-lang.org/reference/tokens.html#reserved-prefixes).
     UnknownPrefixLifetime,
 
-    /// A lifetime that is written raw, as `'r#while`.
+    /// A raw lifetime, like `'r#while`.
+    ///
+    /// Rust Reference, [Lifetimes and loop
+    /// labels](https://doc.rust-lang.org/reference/tokens.html#lifetimes-and-loop-labels).
     RawLifetime,
 
     /// `#"` or `##`, with which a guarded string may begin.
+    ///
+    /// Rust Reference, [Reserved guards](https://doc.rust-lang.org/reference/tokens.html#reserved-guards).
     GuardedStrPrefix,
 
-    /// A literal with its suffix, as `12u8` or `"note"`.
+    /// A literal with its suffix, like `12u8` or `"note"`.
+    ///
+    /// Rust Reference, [Literals](https://doc.rust-lang.org/reference/tokens.html#literals).
     Literal {
-        /// What the literal is.
+        /// The kind of the literal.
         kind: LiteralKind,
-        /// Where the suffix begins, in bytes from the start of the token. It is the token's length where
-        /// there is no suffix.
+        /// Where the suffix begins, in bytes from the start of the token. A literal without a suffix has the length
+        /// of the token here.
         suffix_start: u32,
     },
 
-    /// A lifetime, as `'a`.
+    /// A lifetime, like `'a`.
+    ///
+    /// Rust Reference, [Lifetimes and loop
+    /// labels](https://doc.rust-lang.org/reference/tokens.html#lifetimes-and-loop-labels).
     Lifetime {
-        /// It begins with a digit, or holds an emoji that no identifier may go on with, and so is none in Rust.
+        /// Whether its name is one that Rust does not allow: the name begins with an ASCII digit or an emoji, or a
+        /// later character of it is an emoji that may not continue an identifier.
         starts_with_number: bool,
     },
 
@@ -140,12 +168,12 @@ pub enum TokenKind {
     /// A character that begins no other token.
     Unknown,
 
-    /// The end of the text, a token of length 0.
+    /// The end of the text. Its length is 0.
     Eof,
 }
 
 impl TokenKind {
-    /// The name of the kind, which is that of its variant, such as `Ident`.
+    /// Returns the name of the kind, which is the name of its variant, like `Ident`.
     pub fn name(self) -> &'static str {
         match self {
             TokenKind::LineComment { .. } => "LineComment",
@@ -194,7 +222,7 @@ impl TokenKind {
         }
     }
 
-    /// The number of the kind, from 1 on. It is fixed: a new kind gets a new number.
+    /// Returns the number of the kind. Numbers begin at 1 and never change: a new kind gets a new number.
     #[inline(always)]
     pub fn number(self) -> u8 {
         match self {
@@ -245,7 +273,7 @@ impl TokenKind {
     }
 }
 
-/// Where a doc comment stands: before what it describes, or inside it.
+/// The place of a doc comment: before the item that it describes, or inside it.
 ///
 /// Rust Reference, [Doc comments](https://doc.rust-lang.org/reference/comments.html#doc-comments).
 #[derive(Clone, Copy, Debug, PartialEq, Eq, Hash)]
@@ -256,69 +284,74 @@ pub enum DocStyle {
     Inner,
 }
 
-/// What a literal is. Its suffix has no part in this: `1f32` is an `Int`.
+/// The kind of a literal. Its suffix does not matter: `1f32` is an `Int`.
 ///
 /// Rust Reference, [Literals](https://doc.rust-lang.org/reference/tokens.html#literals).
 #[derive(Clone, Copy, Debug, PartialEq, Eq, PartialOrd, Ord, Hash)]
 pub enum LiteralKind {
-    /// An integer, as `12u8` or `0x1F`.
+    /// An integer, like `12u8` or `0x1F`.
+    ///
+    /// Rust Reference, [Integer literals](https://doc.rust-lang.org/reference/tokens.html#integer-literals).
     Int {
         /// The base of its digits.
         base: Base,
-        /// No digit follows the prefix of the base, as in `0x`.
+        /// Whether no digit follows the prefix of the base, like in `0x`.
         empty_int: bool,
     },
-    /// A number with a point or an exponent, as `1.5` or `2e9`.
+    /// A number with a point or an exponent, like `1.5` or `2e9`.
+    ///
+    /// Rust Reference, [Floating-point
+    /// literals](https://doc.rust-lang.org/reference/tokens.html#floating-point-literals).
     Float {
         /// The base of its digits.
         base: Base,
-        /// No digit follows the letter of the exponent, as in `2e`.
+        /// Whether no digit follows the letter of the exponent, like in `2e`.
         empty_exponent: bool,
     },
-    /// `'a'`
+    /// A character, like `'a'`.
     Char {
         /// Whether a quote closes it.
         terminated: bool,
     },
-    /// `b'a'`
+    /// A byte, like `b'a'`.
     Byte {
         /// Whether a quote closes it.
         terminated: bool,
     },
-    /// `"note"`
+    /// A string, like `"note"`.
     Str {
         /// Whether a quote closes it.
         terminated: bool,
     },
-    /// `b"note"`
+    /// A byte string, like `b"note"`.
     ByteStr {
         /// Whether a quote closes it.
         terminated: bool,
     },
-    /// `c"note"`
+    /// A C string, like `c"note"`.
     CStr {
         /// Whether a quote closes it.
         terminated: bool,
     },
-    /// `r"note"` or `r#"note"#`, with the number of its hashes; `None` where it is refused.
+    /// A raw string, like `r"note"` or `r#"note"#`.
     RawStr {
-        /// How many hashes stand on each side.
+        /// How many hashes it has on each side. `None` if the string is refused.
         n_hashes: Option<u8>,
     },
-    /// `br"note"` or `br#"note"#`, with the number of its hashes; `None` where it is refused.
+    /// A raw byte string, like `br"note"` or `br#"note"#`.
     RawByteStr {
-        /// How many hashes stand on each side.
+        /// How many hashes it has on each side. `None` if the string is refused.
         n_hashes: Option<u8>,
     },
-    /// `cr"note"` or `cr#"note"#`, with the number of its hashes; `None` where it is refused.
+    /// A raw C string, like `cr"note"` or `cr#"note"#`.
     RawCStr {
-        /// How many hashes stand on each side.
+        /// How many hashes it has on each side. `None` if the string is refused.
         n_hashes: Option<u8>,
     },
 }
 
 impl LiteralKind {
-    /// The name of the kind, which is that of its variant, such as `Int`.
+    /// Returns the name of the kind, which is the name of its variant, like `Int`.
     pub fn name(self) -> &'static str {
         match self {
             LiteralKind::Int { .. } => "Int",
@@ -334,7 +367,7 @@ impl LiteralKind {
         }
     }
 
-    /// The number of the kind, from 1 on. It is fixed: a new kind gets a new number.
+    /// Returns the number of the kind. Numbers begin at 1 and never change: a new kind gets a new number.
     #[inline(always)]
     pub fn number(self) -> u8 {
         match self {
@@ -352,42 +385,42 @@ impl LiteralKind {
     }
 }
 
-/// A guarded string, as `#"note"#`: a string between hashes.
+/// A guarded string: a string between hashes, like `#"note"#`.
 ///
 /// Rust Reference, [Reserved guards](https://doc.rust-lang.org/reference/tokens.html#reserved-guards).
 #[derive(Clone, Copy, Debug, PartialEq, Eq, PartialOrd, Ord, Hash)]
 pub struct GuardedStr {
-    /// How many hashes stand before the string.
+    /// How many hashes it has before the string.
     pub n_hashes: u32,
     /// Whether a quote closes the string.
     pub terminated: bool,
-    /// The length of all of it in bytes, with what was pending.
+    /// The length of the whole token in bytes, with the bytes that were pending.
     pub token_len: u32,
 }
 
-/// Why a raw string is refused.
+/// The reason why a raw string is refused.
 ///
 /// Rust Reference, [Raw string literals](https://doc.rust-lang.org/reference/tokens.html#raw-string-literals).
 #[derive(Clone, Copy, Debug, PartialEq, Eq, PartialOrd, Ord, Hash)]
 pub enum RawStrError {
-    /// Neither a hash nor a quote stands where the string should begin, as in `r#~"note"#`.
+    /// There is neither a hash nor a quote where the string should begin, like in `r#~"note"#`.
     InvalidStarter {
-        /// The character that stands there, or U+0000 where the text ends.
+        /// The character that is there, or U+0000 at the end of the text.
         bad_char: char,
     },
-    /// Nothing closes the string, as in `r##"note"#`.
+    /// Nothing closes the string, like in `r##"note"#`.
     NoTerminator {
         /// How many hashes would close it.
         expected: u32,
-        /// The most hashes that stand after a quote in it.
+        /// The most hashes that follow a quote in it.
         found: u32,
-        /// Where the first quote with so many hashes ends: in bytes past the prefix, and the length of the
-        /// prefix more. `None` where `found` is 0.
+        /// Where the first quote that `found` hashes follow ends: its bytes past the prefix, plus the length of the
+        /// prefix. `None` if `found` is 0.
         possible_terminator_offset: Option<u32>,
     },
-    /// More than 255 hashes stand on each side of the string.
+    /// The string has more than 255 hashes on each side.
     TooManyDelimiters {
-        /// How many hashes stand on each side.
+        /// How many hashes it has on each side.
         found: u32,
     },
 }
@@ -411,28 +444,28 @@ impl fmt::Display for RawStrError {
 
 impl Error for RawStrError {}
 
-/// The base that a number is written in.
+/// The base of a number.
 ///
 /// Rust Reference, [Integer literals](https://doc.rust-lang.org/reference/tokens.html#integer-literals).
 #[derive(Clone, Copy, Debug, PartialEq, Eq, PartialOrd, Ord, Hash)]
 pub enum Base {
-    /// After `0b`.
+    /// Base 2, with the prefix `0b`.
     Binary = 2,
-    /// After `0o`.
+    /// Base 8, with the prefix `0o`.
     Octal = 8,
-    /// With no prefix.
+    /// Base 10, without a prefix.
     Decimal = 10,
-    /// After `0x`.
+    /// Base 16, with the prefix `0x`.
     Hexadecimal = 16,
 }
 
-/// Whether a frontmatter may stand at the front of a text.
+/// Whether a text may begin with a frontmatter.
 ///
 /// [RFC 3503](https://rust-lang.github.io/rfcs/3503-frontmatter.html).
 #[derive(Clone, Copy, PartialEq, Eq, Hash)]
 pub enum FrontmatterAllowed {
-    /// It may: the text is a whole document.
+    /// It may. The text is a whole document.
     Yes,
-    /// It may not: the text is a part of a document.
+    /// It may not. The text is a part of a document.
     No,
 }

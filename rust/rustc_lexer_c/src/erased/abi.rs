@@ -1,7 +1,8 @@
-//! The number of what crosses.
+//! The version of the interface.
 
-/// The number of this interface, which stands in the name too: it rises with each change that a program built with the
-/// header before would not survive. So a program that asks for another number finds no call of that name.
+/// Returns the version of this interface, which is also in the name of the call. It rises with each change that
+/// would break a program built with an earlier header. So a program that asks for another version finds no call of
+/// that name.
 pub fn rustc_lexer_abi_1() -> u32 {
     1
 }

@@ -1,23 +1,24 @@
-//! Tokens in batches.
+//! Writes tokens in batches.
 
 use crate::erased::status::{Refusal, done, refuse, text_of, utf8_text_of};
 use crate::erased::token::{CToken, token_numbers};
 use rustc_lexer::erased::{FrontmatterAllowed, tokenize};
 
-/// A place in a text, from which tokens are taken.
+/// A place in a text, from which the next tokens are taken.
 #[repr(C)]
 #[derive(Clone, Copy, Debug, PartialEq, Eq)]
 pub struct CPlace {
-    /// In bytes from the start of the text.
+    /// The place in bytes from the start of the text.
     pub at: u32,
-    /// Whether a frontmatter may stand there: 0 for no, any other number for yes.
+    /// Whether a frontmatter may come there: 0 for no, any other number for yes.
     pub frontmatter_allowed: u32,
 }
 
 /// Writes the tokens from a place on into the buffer, as many as there is room for, and their number into `count`.
-/// The place moves behind them: the next call goes on there. Past the last token the number is 0.
+/// Moves the place to the end of these tokens, so that the next call goes on there. Past the last token the number
+/// is 0.
 ///
-/// Each call tests the whole text. `rustc_lexer_tokens_unchecked` does not.
+/// Each call checks the whole text. `rustc_lexer_tokens_unchecked` does not.
 pub fn rustc_lexer_tokens(
     text: &[u8],
     place: &mut CPlace,
@@ -30,7 +31,8 @@ pub fn rustc_lexer_tokens(
     }
 }
 
-/// Writes the tokens from a place on of a text that `rustc_lexer_check` found to be UTF-8, which is not tested again.
+/// Writes the tokens from a place on, of a text that `rustc_lexer_check` found to be UTF-8. Does not check it
+/// again.
 pub fn rustc_lexer_tokens_unchecked(
     text: &[u8],
     place: &mut CPlace,
@@ -43,8 +45,8 @@ pub fn rustc_lexer_tokens_unchecked(
     }
 }
 
-/// The first token of a text that `rustc_lexer_check` found to be UTF-8, or zeros where there is none: the text is
-/// empty, or has more than `u32::MAX` bytes.
+/// Returns the first token of a text that `rustc_lexer_check` found to be UTF-8. Returns zeros if there is no
+/// token: if the text is empty, or has more than `u32::MAX` bytes.
 pub fn rustc_lexer_first_token_unchecked(text: &[u8], frontmatter_allowed: u32) -> CToken {
     match utf8_text_of(text) {
         Ok(text) => match allowed_of(frontmatter_allowed) {
@@ -55,7 +57,7 @@ pub fn rustc_lexer_first_token_unchecked(text: &[u8], frontmatter_allowed: u32) 
     }
 }
 
-/// The first token of a text as numbers, or zeros.
+/// Returns the first token of a text as numbers, or zeros if there is none.
 #[inline(always)]
 fn first_token(text: &str, allowed: FrontmatterAllowed) -> CToken {
     match tokenize(text, allowed).next() {
@@ -64,7 +66,7 @@ fn first_token(text: &str, allowed: FrontmatterAllowed) -> CToken {
     }
 }
 
-/// Zeros, which are no token.
+/// Returns zeros, which are not a token.
 fn no_token() -> CToken {
     CToken {
         kind: 0,
@@ -76,7 +78,7 @@ fn no_token() -> CToken {
     }
 }
 
-/// Writes the batch at the place of a text.
+/// Writes the batch at the place into the buffer, and its number of tokens into `count`.
 fn batch(text: &str, place: &mut CPlace, buffer: &mut [CToken], count: &mut usize) -> u32 {
     if !text.is_char_boundary(place.at as usize) {
         return refuse(Refusal::BadPlace, 0, count);
@@ -84,7 +86,7 @@ fn batch(text: &str, place: &mut CPlace, buffer: &mut [CToken], count: &mut usiz
     done(fill(text, place, buffer), count)
 }
 
-/// Writes the batch at a place between characters, and answers its number of tokens.
+/// Writes the batch at a place between characters. Returns its number of tokens.
 fn fill(text: &str, place: &mut CPlace, buffer: &mut [CToken]) -> usize {
     let allowed = allowed_of(place.frontmatter_allowed);
     let mut tokens = tokenize(&text[place.at as usize..], allowed);
@@ -96,7 +98,7 @@ fn fill(text: &str, place: &mut CPlace, buffer: &mut [CToken]) -> usize {
     count
 }
 
-/// Whether a frontmatter is allowed, of its number.
+/// Returns whether a frontmatter is allowed, from a number.
 fn allowed_of(number: u32) -> FrontmatterAllowed {
     if number == 0 {
         FrontmatterAllowed::No
@@ -105,7 +107,7 @@ fn allowed_of(number: u32) -> FrontmatterAllowed {
     }
 }
 
-/// The number of whether a frontmatter is allowed.
+/// Returns the number for whether a frontmatter is allowed.
 fn allowed_number(allowed: FrontmatterAllowed) -> u32 {
     match allowed {
         FrontmatterAllowed::No => 0,

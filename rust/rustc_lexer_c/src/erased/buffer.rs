@@ -1,22 +1,22 @@
-//! A buffer of a caller's, which is written from its front on.
+//! A caller's buffer, which is written from its front on.
 
 use core::fmt;
 
-/// A buffer of a caller's, of which the first `len` bytes are written.
+/// A caller's buffer, whose first `len` bytes are written.
 pub(crate) struct Buffer<'a> {
     pub(crate) bytes: &'a mut [u8],
     pub(crate) len: usize,
 }
 
 impl<'a> Buffer<'a> {
-    /// A buffer of which nothing is written.
+    /// Creates a buffer of which nothing is written.
     pub(crate) fn new(bytes: &'a mut [u8]) -> Buffer<'a> {
         Buffer { bytes, len: 0 }
     }
 }
 
 impl<'a> fmt::Write for Buffer<'a> {
-    /// Writes a text behind what is written, unless there is too little room for it.
+    /// Appends a text to what is written, unless there is too little room for it.
     fn write_str(&mut self, s: &str) -> fmt::Result {
         let bytes = s.as_bytes();
         if self.len > self.bytes.len() || bytes.len() > self.bytes.len() - self.len {

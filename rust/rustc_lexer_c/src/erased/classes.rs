@@ -1,11 +1,11 @@
-//! Classes of characters, each by its code.
+//! Classes of characters. A caller passes the code of a character.
 
 use crate::erased::status::{done, refuse, text_of};
 use rustc_lexer::erased::{
     is_horizontal_whitespace, is_id_continue, is_id_start, is_ident, is_whitespace,
 };
 
-/// Whether the character is white space in Rust. False of a number that is no character.
+/// Returns whether the character is white space in Rust. Returns false for a number that is not a character.
 pub fn rustc_lexer_is_whitespace(code: u32) -> bool {
     match char::from_u32(code) {
         Some(c) => is_whitespace(c),
@@ -13,7 +13,7 @@ pub fn rustc_lexer_is_whitespace(code: u32) -> bool {
     }
 }
 
-/// Whether the character is a tab or a space. False of a number that is no character.
+/// Returns whether the character is a tab or a space. Returns false for a number that is not a character.
 pub fn rustc_lexer_is_horizontal_whitespace(code: u32) -> bool {
     match char::from_u32(code) {
         Some(c) => is_horizontal_whitespace(c),
@@ -21,7 +21,7 @@ pub fn rustc_lexer_is_horizontal_whitespace(code: u32) -> bool {
     }
 }
 
-/// Whether an identifier may begin with the character. False of a number that is no character.
+/// Returns whether an identifier may begin with the character. Returns false for a number that is not a character.
 pub fn rustc_lexer_is_id_start(code: u32) -> bool {
     match char::from_u32(code) {
         Some(c) => is_id_start(c),
@@ -29,7 +29,8 @@ pub fn rustc_lexer_is_id_start(code: u32) -> bool {
     }
 }
 
-/// Whether an identifier may go on with the character. False of a number that is no character.
+/// Returns whether an identifier may continue with the character. Returns false for a number that is not a
+/// character.
 pub fn rustc_lexer_is_id_continue(code: u32) -> bool {
     match char::from_u32(code) {
         Some(c) => is_id_continue(c),
@@ -45,8 +46,8 @@ pub fn rustc_lexer_is_ident(text: &[u8], is: &mut u32) -> u32 {
     }
 }
 
-/// Whether the text, which is UTF-8 of any length, is an identifier.
+/// Returns whether the text is an identifier. The text is UTF-8, of any length.
 pub fn rustc_lexer_is_ident_unchecked(text: &[u8]) -> bool {
-    // The caller promises it.
+    // The caller promises that the bytes are UTF-8.
     is_ident(unsafe { core::str::from_utf8_unchecked(text) })
 }

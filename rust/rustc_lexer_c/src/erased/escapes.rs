@@ -1,4 +1,4 @@
-//! What a literal stands for, and what is wrong in it.
+//! The units of a literal, and what is wrong in it.
 
 use crate::erased::status::{Refusal, done, refuse, text_of, utf8_text_of};
 use core::ops::Range;
@@ -6,7 +6,7 @@ use rustc_literal_escaper::erased::{
     Element, Elements, EscapeError, Faults, Mode, NonZeroChar, unescape_byte, unescape_char,
 };
 
-/// A unit of what a literal stands for, or what is wrong, and its place in bytes.
+/// A unit that a literal stands for, or an error or warning, and its place in bytes.
 #[repr(C)]
 #[derive(Clone, Copy, Debug, PartialEq, Eq)]
 pub struct CUnit {
@@ -14,15 +14,15 @@ pub struct CUnit {
     pub end: usize,
     /// 1 for a character, 2 for a byte, 3 for an error, 4 for a warning.
     pub kind: u32,
-    /// The character, the byte, or the number of what is wrong.
+    /// The character, the byte, or the number of the error or warning.
     pub value: u32,
 }
 
-/// Writes units of what stands between the quotes of a literal into the buffer, as many as there is room for, and their
-/// number into `count`. The first `passed` units are passed over.
+/// Writes units of the text between the quotes of a literal into the buffer, as many as there is room for, and
+/// their number into `count`. Skips the first `passed` units.
 ///
-/// `mode` is the number of the literal's kind, 3 to 10. Between single quotes there is one unit, whose place is all of
-/// the text. Each call tests the whole text, and reads it from its front.
+/// `mode` is the number of the literal's kind, 3 to 10. Between single quotes there is one unit, whose place is the
+/// whole text. Each call checks the whole text, and reads it from its front.
 pub fn rustc_lexer_unescape(
     text: &[u8],
     mode: u32,
@@ -36,7 +36,7 @@ pub fn rustc_lexer_unescape(
     }
 }
 
-/// Writes units of a text that `rustc_lexer_check` found to be UTF-8, which is not tested again.
+/// Writes units of a text that `rustc_lexer_check` found to be UTF-8. Does not check it again.
 pub fn rustc_lexer_unescape_unchecked(
     text: &[u8],
     mode: u32,
@@ -50,10 +50,11 @@ pub fn rustc_lexer_unescape_unchecked(
     }
 }
 
-/// Writes what is wrong in a literal, of which `text` stands between the quotes, as `rustc_lexer_unescape` writes its
-/// units. What is not wrong is passed over.
+/// Writes the errors and warnings of a literal in the same way as `rustc_lexer_unescape` writes its units. `text`
+/// is the text between the quotes. Skips what is not wrong.
 ///
-/// Between single quotes one thing is wrong at most, and its place reaches from 0 past the character that shows it.
+/// Between single quotes there is at most one error. Its place goes from 0 to the end of the character that shows
+/// it.
 pub fn rustc_lexer_literal_errors(
     text: &[u8],
     mode: u32,
@@ -67,7 +68,7 @@ pub fn rustc_lexer_literal_errors(
     }
 }
 
-/// Writes what is wrong in a text that `rustc_lexer_check` found to be UTF-8, which is not tested again.
+/// Writes the errors and warnings of a text that `rustc_lexer_check` found to be UTF-8. Does not check it again.
 pub fn rustc_lexer_literal_errors_unchecked(
     text: &[u8],
     mode: u32,
@@ -81,16 +82,16 @@ pub fn rustc_lexer_literal_errors_unchecked(
     }
 }
 
-/// What is listed of a literal.
+/// What a call lists of a literal.
 #[derive(Clone, Copy)]
 enum Listing {
-    /// What it stands for, and what is wrong in it.
+    /// What it stands for, and its errors and warnings.
     Units,
-    /// What is wrong in it.
+    /// Its errors and warnings.
     Errors,
 }
 
-/// Writes what is listed of a text.
+/// Writes the listing of a text.
 fn write(
     text: &str,
     listing: Listing,
@@ -105,7 +106,7 @@ fn write(
     }
 }
 
-/// The mode of a number.
+/// Returns the mode with this number, or `None` if there is none.
 fn mode_of(number: u32) -> Option<Mode> {
     match number {
         3 => Some(Mode::Char),
@@ -120,7 +121,7 @@ fn mode_of(number: u32) -> Option<Mode> {
     }
 }
 
-/// Writes what is listed of a literal, and answers how many there are.
+/// Writes the listing of a literal. Returns how many units it wrote.
 fn fill(text: &str, listing: Listing, mode: Mode, passed: usize, buffer: &mut [CUnit]) -> usize {
     match listing {
         Listing::Units => fill_units(text, mode, passed, buffer),
@@ -128,7 +129,7 @@ fn fill(text: &str, listing: Listing, mode: Mode, passed: usize, buffer: &mut [C
     }
 }
 
-/// Writes units in a mode, and answers their number.
+/// Writes units in a mode. Returns how many it wrote.
 fn fill_units(text: &str, mode: Mode, passed: usize, buffer: &mut [CUnit]) -> usize {
     match mode {
         Mode::Char | Mode::Byte => fill_one(single_unit(text, mode), passed, buffer),
@@ -141,7 +142,7 @@ fn fill_units(text: &str, mode: Mode, passed: usize, buffer: &mut [CUnit]) -> us
     }
 }
 
-/// Writes units of what stands between double quotes.
+/// Writes units of the text between double quotes. Returns how many it wrote.
 ///
 /// It is inlined into each arm of its caller, so that the mode is known there.
 #[inline(always)]
@@ -150,7 +151,7 @@ fn fill_string(text: &str, mode: Mode, passed: usize, buffer: &mut [CUnit]) -> u
     fill_all(Meanings { elements, mode }, passed, buffer)
 }
 
-/// Writes the one unit, if it is not passed over, and there is room.
+/// Writes the one unit, if it is not skipped and there is room. Returns how many units it wrote.
 fn fill_one(unit: CUnit, passed: usize, buffer: &mut [CUnit]) -> usize {
     if passed > 0 {
         return 0;
@@ -162,7 +163,7 @@ fn fill_one(unit: CUnit, passed: usize, buffer: &mut [CUnit]) -> usize {
     1
 }
 
-/// The unit between single quotes.
+/// Returns the unit between single quotes.
 fn single_unit(text: &str, mode: Mode) -> CUnit {
     match mode {
         Mode::Byte => byte_unit(0..text.len(), unescape_byte(text)),
@@ -170,7 +171,7 @@ fn single_unit(text: &str, mode: Mode) -> CUnit {
     }
 }
 
-/// The elements between double quotes.
+/// Returns the elements between double quotes.
 #[inline(always)]
 fn elements_of(text: &str, mode: Mode) -> Elements<'_> {
     match mode {
@@ -179,13 +180,13 @@ fn elements_of(text: &str, mode: Mode) -> Elements<'_> {
     }
 }
 
-/// Units that come one after another.
+/// An iterator over units.
 trait Units {
-    /// The next one, or `None` past the last.
+    /// Returns the next unit, or `None` past the last one.
     fn next_unit(&mut self) -> Option<CUnit>;
 }
 
-/// What elements stand for in a mode.
+/// The units that elements stand for in a mode.
 struct Meanings<'a> {
     elements: Elements<'a>,
     mode: Mode,
@@ -199,7 +200,7 @@ impl<'a> Units for Meanings<'a> {
     }
 }
 
-/// What is wrong, and nothing else.
+/// The errors and warnings, and nothing else.
 impl<'a> Units for Faults<'a> {
     #[inline(always)]
     fn next_unit(&mut self) -> Option<CUnit> {
@@ -208,7 +209,7 @@ impl<'a> Units for Faults<'a> {
     }
 }
 
-/// Writes units, past the first ones.
+/// Writes units, without the first ones, which it skips. Returns how many it wrote.
 #[inline(always)]
 fn fill_all<U: Units>(mut units: U, passed: usize, buffer: &mut [CUnit]) -> usize {
     let mut over = 0;
@@ -229,7 +230,7 @@ fn fill_all<U: Units>(mut units: U, passed: usize, buffer: &mut [CUnit]) -> usiz
     count
 }
 
-/// What an element stands for between double quotes, as numbers.
+/// Returns what an element between double quotes stands for, as numbers.
 #[inline(always)]
 fn item_unit(mode: Mode, place: Range<usize>, element: Element) -> CUnit {
     match mode {
@@ -240,7 +241,7 @@ fn item_unit(mode: Mode, place: Range<usize>, element: Element) -> CUnit {
     }
 }
 
-/// A character as numbers, or what is wrong.
+/// Returns a character as numbers, or the error.
 fn char_unit(place: Range<usize>, meaning: Result<char, EscapeError>) -> CUnit {
     match meaning {
         Ok(c) => unit_at(place, 1, c as u32),
@@ -248,7 +249,7 @@ fn char_unit(place: Range<usize>, meaning: Result<char, EscapeError>) -> CUnit {
     }
 }
 
-/// A byte as numbers, or what is wrong.
+/// Returns a byte as numbers, or the error.
 fn byte_unit(place: Range<usize>, meaning: Result<u8, EscapeError>) -> CUnit {
     match meaning {
         Ok(byte) => unit_at(place, 2, u32::from(byte)),
@@ -256,7 +257,7 @@ fn byte_unit(place: Range<usize>, meaning: Result<u8, EscapeError>) -> CUnit {
     }
 }
 
-/// A unit of a C string as numbers, or what is wrong.
+/// Returns a unit of a C string as numbers, or the error.
 fn mixed_unit(place: Range<usize>, element: Element) -> CUnit {
     match element.to_mixed_unit().err() {
         Some(error) => wrong_unit(place, error),
@@ -264,7 +265,7 @@ fn mixed_unit(place: Range<usize>, element: Element) -> CUnit {
     }
 }
 
-/// A unit of a C string as numbers, where nothing is wrong with it.
+/// Returns a unit of a C string with which nothing is wrong, as numbers.
 fn sound_unit(place: Range<usize>, element: Element) -> CUnit {
     match element {
         Element::Plain(c) => unit_at(place, 1, c as u32),
@@ -275,7 +276,7 @@ fn sound_unit(place: Range<usize>, element: Element) -> CUnit {
     }
 }
 
-/// A character of a raw C string as numbers, or what is wrong.
+/// Returns a character of a raw C string as numbers, or the error.
 fn raw_unit(place: Range<usize>, meaning: Result<NonZeroChar, EscapeError>) -> CUnit {
     match meaning {
         Ok(c) => unit_at(place, 1, c.get() as u32),
@@ -283,12 +284,12 @@ fn raw_unit(place: Range<usize>, meaning: Result<NonZeroChar, EscapeError>) -> C
     }
 }
 
-/// What is wrong, as numbers.
+/// Returns an error or warning as numbers.
 fn wrong_unit(place: Range<usize>, error: EscapeError) -> CUnit {
     unit_at(place, wrong_kind(error), error_number(error))
 }
 
-/// A unit of a kind.
+/// Returns a unit of a kind.
 fn unit_at(place: Range<usize>, kind: u32, value: u32) -> CUnit {
     CUnit {
         start: place.start,
@@ -298,7 +299,7 @@ fn unit_at(place: Range<usize>, kind: u32, value: u32) -> CUnit {
     }
 }
 
-/// Whether what is wrong is an error or a warning.
+/// Returns the kind of the unit for an error or a warning.
 fn wrong_kind(error: EscapeError) -> u32 {
     match error {
         EscapeError::UnskippedWhitespaceWarning | EscapeError::MultipleSkippedLinesWarning => 4,
@@ -306,7 +307,7 @@ fn wrong_kind(error: EscapeError) -> u32 {
     }
 }
 
-/// The number of what is wrong.
+/// Returns the number of an error or warning.
 fn error_number(error: EscapeError) -> u32 {
     match error {
         EscapeError::ZeroChars => 1,

@@ -1,4 +1,4 @@
-//! The tokens of a text between marks.
+//! Writes the tokens of a text between marks.
 
 use crate::erased::buffer::Buffer;
 use crate::erased::relex::edition_of;
@@ -7,10 +7,10 @@ use core::fmt;
 use marks::{Style, write_first_tokens};
 use rustc_lexer::erased::Edition;
 
-/// Writes the first `count` tokens of a text in an edition, each between the marks of a style, at the front of the
-/// buffer, or all where it has fewer, and the number of bytes into `written`.
+/// Writes the first `count` tokens of a text in an edition at the front of the buffer, each between the marks of a
+/// style, or all tokens if it has fewer. Writes the number of bytes into `written`.
 ///
-/// Where the buffer is too small, `written` is 0, and what the buffer has is not promised.
+/// If the buffer is too small, `written` is 0, and the contents of the buffer are unspecified.
 pub fn rustc_lexer_marks(
     text: &[u8],
     style: u32,
@@ -38,7 +38,7 @@ pub fn rustc_lexer_marks(
     OK
 }
 
-/// The style of a number.
+/// Returns the style with this number, or `None` if there is none.
 fn style_of(number: u32) -> Option<Style> {
     match number {
         1 => Some(Style::Html),

@@ -1,9 +1,10 @@
-//! Places in a text: the end of its shebang line, and how far its tokens are sure.
+//! Places in a text: the end of its shebang line, and the end of the tokens that are certain.
 
 use crate::erased::status::{done, refuse, text_of, utf8_text_of};
 use rustc_lexer::erased::{settled, strip_shebang};
 
-/// Writes the length of the shebang line at the front of a text, without the end of the line; 0 where there is none.
+/// Writes the length in bytes of the shebang line at the front of a text, without the end of the line, or 0 if
+/// there is none.
 pub fn rustc_lexer_strip_shebang(text: &[u8], line_len: &mut usize) -> u32 {
     match text_of(text) {
         Ok(text) => done(shebang_len(text), line_len),
@@ -11,7 +12,8 @@ pub fn rustc_lexer_strip_shebang(text: &[u8], line_len: &mut usize) -> u32 {
     }
 }
 
-/// Writes the length of the shebang line of a text that `rustc_lexer_check` found to be UTF-8, which is not tested again.
+/// Writes the length of the shebang line of a text that `rustc_lexer_check` found to be UTF-8. Does not check it
+/// again.
 pub fn rustc_lexer_strip_shebang_unchecked(text: &[u8], line_len: &mut usize) -> u32 {
     match utf8_text_of(text) {
         Ok(text) => done(shebang_len(text), line_len),
@@ -19,8 +21,8 @@ pub fn rustc_lexer_strip_shebang_unchecked(text: &[u8], line_len: &mut usize) ->
     }
 }
 
-/// Writes the end of the last token that at least two characters follow, or 0. However the text goes on, its tokens
-/// up to there stay, where no frontmatter is allowed.
+/// Writes where the last token that at least two characters follow ends, or 0. However the text continues, its
+/// tokens up to there stay as they are, if no frontmatter is allowed.
 pub fn rustc_lexer_settled(text: &[u8], end: &mut usize) -> u32 {
     match text_of(text) {
         Ok(text) => done(settled(text), end),
@@ -28,7 +30,7 @@ pub fn rustc_lexer_settled(text: &[u8], end: &mut usize) -> u32 {
     }
 }
 
-/// The length of the shebang line, or 0.
+/// Returns the length of the shebang line in bytes, or 0 if there is none.
 fn shebang_len(text: &str) -> usize {
     strip_shebang(text).unwrap_or(0)
 }

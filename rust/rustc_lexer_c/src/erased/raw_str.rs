@@ -5,40 +5,40 @@ use rustc_lexer::erased::{
     Cursor, FrontmatterAllowed, GuardedStr, RawStrError, starts_raw, validate_raw_str,
 };
 
-/// Why a raw string is refused. A field that the error does not have is 0.
+/// The reason why a raw string is refused. A field that the error does not have is 0.
 #[repr(C)]
 #[derive(Clone, Copy, Debug, PartialEq, Eq)]
 pub struct CRawStrError {
     /// 0 for none, 1 for an invalid starter, 2 for no terminator, 3 for too many delimiters.
     pub error: u32,
-    /// Of 1: the character.
+    /// For 1: the character.
     pub bad_char: u32,
-    /// Of 2: how many hashes would close the string.
+    /// For 2: how many hashes would close the string.
     pub expected: u32,
-    /// Of 2: the most hashes after a quote in it. Of 3: how many there are.
+    /// For 2: the most hashes after a quote in it. For 3: how many there are.
     pub found: u32,
-    /// Of 2: whether there is an offset, 0 or 1.
+    /// For 2: whether there is an offset, 0 or 1.
     pub has_offset: u32,
-    /// Of 2: where the first quote with so many hashes ends, in bytes.
+    /// For 2: where the first quote that `found` hashes follow ends, in bytes.
     pub possible_terminator_offset: u32,
 }
 
-/// A guarded string. All is 0 where there is none.
+/// A guarded string. All fields are 0 if there is none.
 #[repr(C)]
 #[derive(Clone, Copy, Debug, PartialEq, Eq)]
 pub struct CGuardedStr {
     /// Whether there is one, 0 or 1.
     pub is_some: u32,
-    /// How many hashes stand before it.
+    /// How many hashes come before it.
     pub n_hashes: u32,
     /// Whether a quote closes it, 0 or 1.
     pub terminated: u32,
-    /// The length of all of it in bytes.
+    /// The length of the whole token in bytes.
     pub token_len: u32,
 }
 
-/// Checks the raw string that the text begins with, whose prefix has `prefix_len` characters, and writes why it is
-/// refused.
+/// Checks the raw string at the front of the text, and writes why it is refused. Its prefix has `prefix_len`
+/// characters.
 pub fn rustc_lexer_validate_raw_str(text: &[u8], prefix_len: u32, error: &mut CRawStrError) -> u32 {
     match text_of(text) {
         Ok(text) => raw_str(text, prefix_len, error),
@@ -46,8 +46,8 @@ pub fn rustc_lexer_validate_raw_str(text: &[u8], prefix_len: u32, error: &mut CR
     }
 }
 
-/// Checks the raw string of a text that `rustc_lexer_check` found to be UTF-8, which is not tested again: no more is read
-/// than the string.
+/// Checks the raw string of a text that `rustc_lexer_check` found to be UTF-8. Does not check the text again: it
+/// reads no more than the string.
 pub fn rustc_lexer_validate_raw_str_unchecked(
     text: &[u8],
     prefix_len: u32,
@@ -59,7 +59,7 @@ pub fn rustc_lexer_validate_raw_str_unchecked(
     }
 }
 
-/// Checks the raw string that a text begins with.
+/// Checks the raw string at the front of a text.
 fn raw_str(text: &str, prefix_len: u32, error: &mut CRawStrError) -> u32 {
     if !starts_raw(text, prefix_len) {
         return refuse(Refusal::NotRaw, no_error(), error);
@@ -67,17 +67,18 @@ fn raw_str(text: &str, prefix_len: u32, error: &mut CRawStrError) -> u32 {
     done(answer_numbers(validate_raw_str(text, prefix_len)), error)
 }
 
-/// Whether character number `prefix_len` of the text, counted from 1, is an `r`. The text is UTF-8, of any length.
+/// Returns whether character number `prefix_len` of the text, counted from 1, is an `r`. The text is UTF-8, of any
+/// length.
 ///
-/// Of a text of at most `u32::MAX` bytes this is false exactly where `rustc_lexer_validate_raw_str` answers 4. Of a
-/// longer one that answers 2, whatever this is.
+/// For a text of at most `u32::MAX` bytes this is false exactly when `rustc_lexer_validate_raw_str` returns 4. For
+/// a longer one that call returns 2, whatever this returns.
 pub fn rustc_lexer_starts_raw_unchecked(text: &[u8], prefix_len: u32) -> bool {
-    // The caller promises it.
+    // The caller promises that the bytes are UTF-8.
     starts_raw(unsafe { core::str::from_utf8_unchecked(text) }, prefix_len)
 }
 
-/// Writes the guarded string that the text begins with, or zeros where there is none. Hashes at the front are then
-/// part of the next token.
+/// Writes the guarded string at the front of the text, or zeros if there is none. Hashes at the front are then part
+/// of the next token.
 pub fn rustc_lexer_guarded_str(text: &[u8], string: &mut CGuardedStr) -> u32 {
     match text_of(text) {
         Ok(text) => done(guarded_str(text), string),
@@ -85,8 +86,8 @@ pub fn rustc_lexer_guarded_str(text: &[u8], string: &mut CGuardedStr) -> u32 {
     }
 }
 
-/// Writes the guarded string of a text that `rustc_lexer_check` found to be UTF-8, which is not tested again: no more is
-/// read than the string.
+/// Writes the guarded string of a text that `rustc_lexer_check` found to be UTF-8. Does not check the text again:
+/// it reads no more than the string.
 pub fn rustc_lexer_guarded_str_unchecked(text: &[u8], string: &mut CGuardedStr) -> u32 {
     match utf8_text_of(text) {
         Ok(text) => done(guarded_str(text), string),
@@ -94,13 +95,13 @@ pub fn rustc_lexer_guarded_str_unchecked(text: &[u8], string: &mut CGuardedStr) 
     }
 }
 
-/// The guarded string that a text begins with, as numbers.
+/// Returns the guarded string at the front of a text, as numbers.
 fn guarded_str(text: &str) -> CGuardedStr {
     let mut cursor = Cursor::new(text, FrontmatterAllowed::No);
     guarded_numbers(cursor.guarded_double_quoted_string())
 }
 
-/// The answer as numbers.
+/// Returns the result of a check as numbers.
 fn answer_numbers(answer: Result<(), RawStrError>) -> CRawStrError {
     match answer {
         Ok(_) => no_error(),
@@ -129,7 +130,7 @@ fn answer_numbers(answer: Result<(), RawStrError>) -> CRawStrError {
     }
 }
 
-/// No error.
+/// Returns the numbers for no error.
 fn no_error() -> CRawStrError {
     CRawStrError {
         error: 0,
@@ -141,7 +142,7 @@ fn no_error() -> CRawStrError {
     }
 }
 
-/// The string as numbers.
+/// Returns a guarded string as numbers.
 fn guarded_numbers(string: Option<GuardedStr>) -> CGuardedStr {
     match string {
         None => CGuardedStr {

@@ -1,11 +1,11 @@
-//! Relexing: the tokens of a text that was edited, by its old tokens.
+//! Lexes an edited text again, from its old tokens.
 
 use crate::erased::status::{OK, Refusal, refuse, text_of, utf8_text_of};
 use crate::erased::token::CToken;
 use rustc_lexer::erased::{Bound, Change, Edition, Measured, Relexing, Steps};
 
-/// An edit that was made, by its places in bytes: what stood from `start` up to `old_stop` was taken out, and what now
-/// stands from `start` up to `new_stop` was put in.
+/// An edit that was made, by its places in bytes. It took out what was from `start` up to `old_stop` in the old
+/// text, and put in what is from `start` up to `new_stop` in the present text.
 #[repr(C)]
 #[derive(Clone, Copy, Debug, PartialEq, Eq)]
 pub struct CEdit {
@@ -14,24 +14,24 @@ pub struct CEdit {
     pub new_stop: u32,
 }
 
-/// How far an edited text is lexed again.
+/// How far an edited text has been lexed again.
 #[repr(C)]
 #[derive(Clone, Copy, Debug, PartialEq, Eq)]
 pub struct CRelexing {
-    /// How many old tokens stay at the front. At stage 0: the number of any bound of the old tokens, where the search
-    /// for it begins.
+    /// How many old tokens stay at the front. At stage 0: the number of any bound of the old tokens, where the
+    /// search for the front begins.
     pub kept_front: usize,
-    /// Where they end, in bytes.
+    /// Where the tokens at the front end, in bytes.
     pub front_place: usize,
-    /// How many tokens were written, by all calls.
+    /// How many tokens all calls have written.
     pub lexed: usize,
     /// How many old tokens stay at the back, at stage 2.
     pub kept_back: usize,
-    /// Where they begin in the old text.
+    /// Where the tokens at the back begin in the old text.
     pub back_place: usize,
-    /// Where the tokens that were written end in the present text, and so where those at the back begin.
+    /// Where the tokens that were written end in the present text. At stage 2 those at the back begin there.
     pub at: usize,
-    /// 0 before the first call, 1 where there are more tokens to write, 2 where there are none.
+    /// 0 before the first call, 1 if there are more tokens to write, 2 if there are none.
     pub stage: usize,
 }
 
@@ -41,11 +41,12 @@ impl Measured for CToken {
     }
 }
 
-/// Writes the tokens of the present text that an edit asks for into the buffer, as many as there is room for, and their
-/// number into `count`. They stand between the old tokens that stay at the front and those that stay at the back.
+/// Writes the tokens of the present text that an edit makes necessary into the buffer, as many as there is room
+/// for, and their number into `count`. They come between the old tokens that stay at the front and those that stay
+/// at the back.
 ///
-/// `old` has the tokens of the text before the edit, of which only the lengths are read. Any others may be passed too,
-/// and then the answer means nothing.
+/// `old` has the tokens of the text before the edit, of which it reads only the lengths. Any other tokens may be
+/// passed too, but then the answer means nothing.
 pub fn rustc_lexer_relex(
     text: &[u8],
     old: &[CToken],
@@ -61,8 +62,8 @@ pub fn rustc_lexer_relex(
     }
 }
 
-/// Relexes a text that `rustc_lexer_check` found to be UTF-8, which is not tested again. All else is as in
-/// `rustc_lexer_relex`.
+/// Relexes a text that `rustc_lexer_check` found to be UTF-8. Does not check it again. Otherwise it does what
+/// `rustc_lexer_relex` does.
 pub fn rustc_lexer_relex_unchecked(
     text: &[u8],
     old: &[CToken],
@@ -103,12 +104,12 @@ fn relex(
     OK
 }
 
-/// The edition of a year.
+/// Returns the edition with this year, or `None` if there is none.
 pub(crate) fn edition_of(year: u32) -> Option<Edition> {
     Edition::try_from(u16::try_from(year).ok()?).ok()
 }
 
-/// What the edit changed.
+/// Returns what the edit changed.
 fn change_of(edit: &CEdit) -> Change {
     Change {
         start: edit.start as usize,
@@ -117,7 +118,7 @@ fn change_of(edit: &CEdit) -> Change {
     }
 }
 
-/// Where to begin or to go on, or `None` where the numbers are none that a call left.
+/// Returns where to begin or to go on, or `None` if no call left these numbers.
 fn standing(text: &str, old: &[CToken], change: Change, relexing: &CRelexing) -> Option<Relexing> {
     let front = Bound {
         number: relexing.kept_front,
@@ -146,7 +147,7 @@ fn standing(text: &str, old: &[CToken], change: Change, relexing: &CRelexing) ->
     }
 }
 
-/// How far it is relexed, as numbers.
+/// Returns how far the text is relexed, as numbers.
 fn relexing_numbers(at: &Relexing, text: &str, old_count: usize) -> CRelexing {
     CRelexing {
         kept_front: at.front.number,

@@ -1,18 +1,18 @@
-//! The statuses of calls, and the tests that they come from.
+//! The statuses of calls, and the checks that give them.
 
-/// The status of a call that was done.
+/// The status of a call that succeeded.
 pub(crate) const OK: u32 = 0;
 
-/// Why a call is refused. It then changes nothing, but where that is said.
+/// The reason why a call is refused. A refused call changes nothing, except where its description says so.
 #[derive(Clone, Copy)]
 pub(crate) enum Refusal {
     /// The bytes are not UTF-8.
     NotUtf8 = 1,
-    /// There are more than `u32::MAX` bytes.
+    /// The text has more than `u32::MAX` bytes.
     TooLong = 2,
     /// The place is past the end of the text, or inside a character.
     BadPlace = 3,
-    /// No raw string begins at the text's front.
+    /// No raw string begins at the front of the text.
     NotRaw = 4,
     /// No edition has the year.
     BadEdition = 5,
@@ -22,30 +22,30 @@ pub(crate) enum Refusal {
     BadMode = 7,
     /// No style has the number.
     BadStyle = 8,
-    /// There is more to write than room. What the buffer has then is not promised.
+    /// The buffer has too little room. Its contents are then unspecified.
     SmallBuffer = 9,
 }
 
 impl Refusal {
-    /// The status that C sees.
+    /// Returns the status that C sees.
     pub(crate) fn number(self) -> u32 {
         self as u32
     }
 }
 
-/// Writes an answer, and answers that the call was done.
+/// Writes an answer, and returns the status of success.
 pub(crate) fn done<T: Copy>(answer: T, written: &mut T) -> u32 {
     *written = answer;
     OK
 }
 
-/// Writes what stands for no answer, and answers why the call is refused.
+/// Writes the value for no answer, and returns the status of the refusal.
 pub(crate) fn refuse<T: Copy>(refusal: Refusal, none: T, written: &mut T) -> u32 {
     *written = none;
     refusal.number()
 }
 
-/// The bytes as a text that can be lexed.
+/// Returns the bytes as a text that can be lexed, or why it cannot be.
 pub(crate) fn text_of(bytes: &[u8]) -> Result<&str, Refusal> {
     if bytes.len() > u32::MAX as usize {
         return Err(Refusal::TooLong);
@@ -56,17 +56,18 @@ pub(crate) fn text_of(bytes: &[u8]) -> Result<&str, Refusal> {
     }
 }
 
-/// Bytes that are UTF-8 as a text that can be lexed. They are not tested again.
+/// Returns bytes that are UTF-8 as a text that can be lexed, or why it cannot be. Does not check that they are
+/// UTF-8.
 pub(crate) fn utf8_text_of(bytes: &[u8]) -> Result<&str, Refusal> {
     if bytes.len() > u32::MAX as usize {
         return Err(Refusal::TooLong);
     }
-    // The caller promises it.
+    // The caller promises that the bytes are UTF-8.
     Ok(unsafe { core::str::from_utf8_unchecked(bytes) })
 }
 
-/// Whether the bytes are a text that can be lexed: UTF-8, of at most `u32::MAX` bytes. The answer is the status
-/// that each other call has for them.
+/// Checks whether the bytes are a text that can be lexed: UTF-8, of at most `u32::MAX` bytes. Returns the status
+/// that each other call returns for them.
 pub fn rustc_lexer_check(text: &[u8]) -> u32 {
     match text_of(text) {
         Ok(_) => OK,

@@ -2,28 +2,29 @@
 
 use rustc_lexer::erased::{DocStyle, LiteralKind, Record, Token, TokenKind};
 
-/// A token as it crosses to C: its kind, the fields of the kind as a byte each, and its length. A byte that no field
-/// has is 0.
+/// A token in the form that C sees: its kind, the fields of the kind as one byte each, and its length. A byte
+/// without a field is 0.
 ///
-/// These are the bytes of a `Token` of plain Rust whose enums are `repr(u8)`, with the numbers of `specs/Numbers.antt`.
+/// These are the bytes of a `Token` of plain Rust whose enums are `repr(u8)`, with the numbers of
+/// `specs/Numbers.antt`.
 #[repr(C)]
 #[derive(Clone, Copy, Debug, PartialEq, Eq)]
 pub struct CToken {
     /// The number of the kind.
     pub kind: u8,
-    /// Its first field: of a literal the number of its kind.
+    /// The first field of the kind. For a literal it is the number of the literal's kind.
     pub first: u8,
-    /// Its second field: of a literal the first that its kind has.
+    /// The second field of the kind. For a literal it is the first field of the literal's kind.
     pub second: u8,
-    /// Of a literal the second field that its kind has.
+    /// For a literal, the second field of the literal's kind.
     pub third: u8,
-    /// Of a literal: where its suffix begins, in bytes from the start of the token.
+    /// For a literal, where its suffix begins, in bytes from the start of the token.
     pub suffix_start: u32,
     /// The length in bytes.
     pub len: u32,
 }
 
-/// A token is written as its numbers.
+/// The record of a token is its numbers.
 impl Record for CToken {
     #[inline(always)]
     fn of(token: Token) -> CToken {
@@ -36,7 +37,7 @@ impl Record for CToken {
     }
 }
 
-/// The token as numbers.
+/// Returns the token as numbers.
 #[inline(always)]
 pub(crate) fn token_numbers(token: Token) -> CToken {
     let kind = token.kind;
@@ -80,7 +81,7 @@ pub(crate) fn token_numbers(token: Token) -> CToken {
     }
 }
 
-/// The numbers of a token, of which no field is set.
+/// Returns the numbers of a token without fields.
 #[inline(always)]
 fn bare(kind: TokenKind, len: u32) -> CToken {
     CToken {
@@ -93,7 +94,7 @@ fn bare(kind: TokenKind, len: u32) -> CToken {
     }
 }
 
-/// A style as a number.
+/// Returns the number of a doc style.
 #[inline(always)]
 fn style_number(doc_style: Option<DocStyle>) -> u8 {
     match doc_style {
@@ -103,7 +104,7 @@ fn style_number(doc_style: Option<DocStyle>) -> u8 {
     }
 }
 
-/// The first field of a kind of literal.
+/// Returns the first field of a kind of literal as a number.
 #[inline(always)]
 fn literal_second(kind: LiteralKind) -> u8 {
     match kind {
@@ -119,7 +120,7 @@ fn literal_second(kind: LiteralKind) -> u8 {
     }
 }
 
-/// The second field of a kind of literal, or the number of hashes, or 0.
+/// Returns the second field of a kind of literal, or the number of hashes, or 0.
 #[inline(always)]
 fn literal_third(kind: LiteralKind) -> u8 {
     match kind {

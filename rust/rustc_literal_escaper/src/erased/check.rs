@@ -1,4 +1,4 @@
-//! What is wrong in a literal, and nothing else.
+//! Finds the errors and warnings in a literal, and nothing else.
 
 use crate::erased::element::Element;
 use crate::erased::elements::{Elements, takes_all};
@@ -12,10 +12,10 @@ use crate::erased::steps::{
 };
 use core::ops::Range;
 
-/// Calls `error_callback` with all that is wrong in a literal, warnings too, and its place in bytes.
+/// Calls `error_callback` with each error and each warning in a literal, and its place in bytes.
 ///
-/// `src` is what stands between the quotes, and `mode` the literal's kind. The calls are in the order of the
-/// text. Between single quotes there is one at most, and its place begins at 0.
+/// `src` is the text between the quotes, and `mode` is the kind of the literal. The calls come in the order of the
+/// text. Between single quotes there is at most one, and its place begins at 0.
 pub fn check_for_errors<F: FnMut(Range<usize>, EscapeError)>(
     src: &str,
     mode: Mode,
@@ -24,10 +24,10 @@ pub fn check_for_errors<F: FnMut(Range<usize>, EscapeError)>(
     each_error(src, mode, &mut error_callback);
 }
 
-/// Calls `callback` with each error, and for nothing else.
+/// Calls `callback` with each error, and with nothing else.
 ///
-/// That is said of the closure as it is left here. One that is passed by value is let go at the end of its call, and no
-/// clause can speak of it there.
+/// The contract is about the closure as it is left here. A closure that is passed by value is dropped at the end of
+/// its call, and no clause can name it there.
 #[inline(always)]
 fn each_error<F: FnMut(Range<usize>, EscapeError)>(src: &str, mode: Mode, callback: &mut F) {
     match mode {
@@ -41,13 +41,13 @@ fn each_error<F: FnMut(Range<usize>, EscapeError)>(src: &str, mode: Mode, callba
     }
 }
 
-/// Whether nothing is an escape in such a literal.
+/// Returns whether a literal of this kind has no escapes.
 #[inline(always)]
 pub(crate) fn is_raw(mode: Mode) -> bool {
     matches!(mode, Mode::RawStr | Mode::RawByteStr | Mode::RawCStr)
 }
 
-/// Tells what is wrong between single quotes.
+/// Calls `callback` with the error between single quotes, if there is one.
 #[inline(always)]
 fn check_single<F: FnMut(Range<usize>, EscapeError)>(src: &str, mode: Mode, callback: &mut F) {
     if let Some((range, error)) = single_error(src, mode) {
@@ -55,9 +55,9 @@ fn check_single<F: FnMut(Range<usize>, EscapeError)>(src: &str, mode: Mode, call
     }
 }
 
-/// What is wrong between single quotes, and its place in bytes, if anything is.
+/// Returns the error between single quotes and its place in bytes, or `None` if there is no error.
 ///
-/// `src` is what stands between the quotes. The place reaches from 0 past the character that shows what is wrong.
+/// `src` is the text between the quotes. The place goes from 0 to the end of the character that shows the error.
 pub(crate) fn single_error(src: &str, mode: Mode) -> Option<(Range<usize>, EscapeError)> {
     let Some((element, left)) = single(src) else {
         return Some((0..0, EscapeError::ZeroChars));
@@ -69,7 +69,7 @@ pub(crate) fn single_error(src: &str, mode: Mode) -> Option<(Range<usize>, Escap
     Some((0..src.len() - more.len(), EscapeError::MoreThanOneChar))
 }
 
-/// Tells what is wrong between double quotes.
+/// Calls `callback` with each error and warning between double quotes.
 ///
 /// It is inlined into each arm of its caller, so that the mode is known there.
 #[inline(always)]
@@ -81,9 +81,9 @@ fn check_string<F: FnMut(Range<usize>, EscapeError)>(src: &str, mode: Mode, call
     }
 }
 
-/// Tells what is wrong in what is left of a string of `total` bytes that may have escapes.
+/// Calls `callback` with each error and warning in the rest of a string of `total` bytes that may have escapes.
 ///
-/// It does what [`Elements::next_fault`] does, and keeps no warning for later: the compiler makes it shorter.
+/// It does what [`Elements::next_fault`] does, but keeps no warning for later, and the compiler makes it shorter.
 #[inline(always)]
 fn check_escaped<F: FnMut(Range<usize>, EscapeError)>(
     rest: &str,
@@ -123,8 +123,8 @@ fn check_escaped<F: FnMut(Range<usize>, EscapeError)>(
     }
 }
 
-/// Tells the warnings past a backslash and a newline, which begin at the place `start`. Returns what is left past the white
-/// space.
+/// Calls `callback` with the warnings after a backslash and a newline, which begin at the place `start`. Returns
+/// the text after the white space.
 #[inline(always)]
 fn check_warnings<'a, F: FnMut(Range<usize>, EscapeError)>(
     line: &'a str,
@@ -139,7 +139,7 @@ fn check_warnings<'a, F: FnMut(Range<usize>, EscapeError)>(
     left
 }
 
-/// Tells what is wrong with what is told, if anything is.
+/// Calls `callback` with the error or warning of an item, if there is an item and something is wrong with it.
 #[inline(always)]
 fn check_told<F: FnMut(Range<usize>, EscapeError)>(
     told: Option<(Range<usize>, Element)>,
@@ -151,7 +151,7 @@ fn check_told<F: FnMut(Range<usize>, EscapeError)>(
     }
 }
 
-/// Tells what is wrong with an element, if anything is.
+/// Calls `callback` with the error or warning of an element, if something is wrong with it.
 #[inline(always)]
 fn check_element<F: FnMut(Range<usize>, EscapeError)>(
     range: Range<usize>,
@@ -164,9 +164,9 @@ fn check_element<F: FnMut(Range<usize>, EscapeError)>(
     }
 }
 
-/// What is left past simple characters in front.
+/// Returns the text after simple characters at the front.
 ///
-/// Where a character that is not in ASCII stands next, it does not look for them.
+/// It does not look for them if the next character is outside ASCII.
 #[inline(always)]
 fn past_simple_front(rest: &str) -> &str {
     match rest.as_bytes().first() {
@@ -175,7 +175,7 @@ fn past_simple_front(rest: &str) -> &str {
     }
 }
 
-/// What is left past the plain characters in front, where nothing is wrong with any of them in this mode.
+/// Returns the text after the plain characters at the front, if no plain character is wrong in this mode.
 #[inline(always)]
 fn past_fine(rest: &str, mode: Mode) -> &str {
     if takes_all(mode) {
@@ -185,7 +185,7 @@ fn past_fine(rest: &str, mode: Mode) -> &str {
     }
 }
 
-/// Tells what is wrong with the elements.
+/// Calls `callback` with each error and warning of the elements.
 #[inline(always)]
 fn check_elements<F: FnMut(Range<usize>, EscapeError)>(
     mut elements: Elements<'_>,

@@ -1,26 +1,26 @@
-//! What is written at one place of a literal.
+//! The elements of a literal.
 
 use crate::erased::error::EscapeError;
 use crate::erased::mode::Mode;
 use crate::erased::unit::{MixedUnit, NonZeroChar};
 
-/// What is written at one place of a literal, before the literal's kind says what it stands for.
+/// An element of a literal, as it is written. The kind of the literal says later what the element stands for.
 ///
-/// Strings, byte strings and C strings are written alike: they differ in what each element stands for.
+/// Strings, byte strings and C strings are written in the same way. They differ in what each element stands for.
 #[derive(Clone, Copy, Debug, PartialEq, Eq)]
 pub enum Element {
     /// A character that is not escaped.
     Plain(char),
-    /// A byte by one of the short escapes, such as `\n`, or by its two digits, as in `\x41`.
+    /// A byte that is written as a short escape, like `\n`, or with two digits, like `\x41`.
     Byte(u8),
-    /// A number of at most six digits, as in `\u{1F600}`. It need not be that of a character.
+    /// A number of at most six digits, like `\u{1F600}`. It need not be the number of a character.
     Unicode(u32),
-    /// What is no element in any kind of literal, or a warning.
+    /// Something that is not an element in any kind of literal, or a warning.
     Fault(EscapeError),
 }
 
 impl Element {
-    /// The character that it stands for in a character literal or a string.
+    /// Returns the character that the element stands for in a character literal or a string.
     pub fn to_char(self) -> Result<char, EscapeError> {
         match self {
             Element::Plain(c) => Ok(c),
@@ -31,7 +31,7 @@ impl Element {
         }
     }
 
-    /// The byte that it stands for in a byte literal or a byte string.
+    /// Returns the byte that the element stands for in a byte literal or a byte string.
     pub fn to_byte(self) -> Result<u8, EscapeError> {
         match self {
             Element::Plain(c) if c.is_ascii() => Ok(c as u8),
@@ -42,7 +42,7 @@ impl Element {
         }
     }
 
-    /// The character or byte that it stands for in a C string.
+    /// Returns the character or byte that the element stands for in a C string.
     pub fn to_mixed_unit(self) -> Result<MixedUnit, EscapeError> {
         match self {
             Element::Plain(c) => MixedUnit::try_from(c),
@@ -52,12 +52,12 @@ impl Element {
         }
     }
 
-    /// The character that it stands for in a raw C string.
+    /// Returns the character that the element stands for in a raw C string.
     pub fn to_raw_unit(self) -> Result<NonZeroChar, EscapeError> {
         NonZeroChar::new(self.to_char()?).ok_or(EscapeError::NulInCStr)
     }
 
-    /// What is wrong with it in a literal of this kind.
+    /// Returns what is wrong with the element in a literal of this kind, or `None` if nothing is.
     #[inline(always)]
     pub fn error_in(self, mode: Mode) -> Option<EscapeError> {
         match mode {
@@ -69,10 +69,10 @@ impl Element {
     }
 }
 
-/// The character of this number.
+/// Returns the character with this number.
 ///
-/// It stays a call, which is passed the number alone. Where it is inlined, `rustc` compares the whole element, with the
-/// padding below the number. That changes no answer, but valgrind warns of it.
+/// It stays a call, which gets only the number. When it is inlined, `rustc` compares the whole element, with the
+/// padding below the number. That changes no answer, but valgrind warns about it.
 #[inline(never)]
 fn scalar(number: u32) -> Result<char, EscapeError> {
     if number > 0x10_FFFF {

@@ -1,4 +1,4 @@
-//! The elements of what stands between double quotes.
+//! The elements of the text between double quotes.
 
 use crate::erased::element::Element;
 use crate::erased::error::EscapeError;
@@ -9,18 +9,20 @@ use crate::erased::steps::{Told, advance, first_byte, first_item, first_plain};
 use core::iter::Iterator;
 use core::ops::Range;
 
-/// An iterator over the elements of a string, each with its place in bytes, made by [`Elements::new`] or [`Elements::new_raw`].
+/// An iterator over the elements of a string, each with its place in bytes.
+///
+/// [`Elements::new`] and [`Elements::new_raw`] return it.
 pub struct Elements<'a> {
     rest: &'a str,
     /// How many bytes the text has.
     total: usize,
-    /// Whether it is a raw string's.
+    /// Whether the text is that of a raw string.
     raw: bool,
-    /// What comes before the elements of the rest.
+    /// The item that comes before the elements of the rest.
     waiting: Option<(Range<usize>, Element)>,
 }
 
-/// The elements of a raw string or another.
+/// Returns an iterator over the elements of a raw string, or of a string that may have escapes.
 #[inline(always)]
 pub(crate) fn elements_of(src: &str, raw: bool) -> Elements<'_> {
     Elements {
@@ -32,19 +34,20 @@ pub(crate) fn elements_of(src: &str, raw: bool) -> Elements<'_> {
 }
 
 impl<'a> Elements<'a> {
-    /// The elements of `src`, which is what stands between the quotes of a string, byte string or C string.
+    /// Returns an iterator over the elements of `src`, the text between the quotes of a string, byte string or C
+    /// string.
     pub fn new(src: &'a str) -> Elements<'a> {
         elements_of(src, false)
     }
 
-    /// The elements of `src`, which is what stands between the quotes of a raw string, of any kind.
+    /// Returns an iterator over the elements of `src`, the text between the quotes of a raw string of any kind.
     pub fn new_raw(src: &'a str) -> Elements<'a> {
         elements_of(src, true)
     }
 
-    /// The next thing that is wrong in a literal of this kind, and its place; the elements before it are passed over.
+    /// Returns the next error or warning in a literal of this kind, and its place. It skips the elements before.
     ///
-    /// It is `None` where nothing is wrong any more. Warnings come too.
+    /// Returns `None` if nothing more is wrong.
     #[inline(always)]
     pub(crate) fn next_fault(&mut self, mode: Mode) -> Option<(Range<usize>, EscapeError)> {
         if let Some((range, element)) = self.next_waiting() {
@@ -79,9 +82,9 @@ impl<'a> Elements<'a> {
         }
     }
 
-    /// The next element, where it is a plain character.
+    /// Returns the next element if it is a plain character.
     ///
-    /// A loop over these alone is fast. Where it is `None`, another element may come.
+    /// A loop over these alone is fast. After `None`, another element may come.
     #[inline(always)]
     pub(crate) fn next_plain(&mut self) -> Option<(Range<usize>, char)> {
         if self.waiting.is_some() {
@@ -92,7 +95,7 @@ impl<'a> Elements<'a> {
         Some(item)
     }
 
-    /// The next element, where it is an escape of a byte.
+    /// Returns the next element if it is an escape of a byte.
     #[inline(always)]
     pub(crate) fn next_byte(&mut self) -> Option<(Range<usize>, u8)> {
         if self.waiting.is_some() {
@@ -103,17 +106,17 @@ impl<'a> Elements<'a> {
         Some(item)
     }
 
-    /// What waits before the elements of the rest, if anything does.
+    /// Returns the item that waits before the elements of the rest, if there is one.
     ///
-    /// A loop that asks for it behind each line end knows that nothing waits elsewhere.
+    /// A loop that asks for it after each line end knows that nothing waits elsewhere.
     #[inline(always)]
     pub(crate) fn next_waiting(&mut self) -> Option<(Range<usize>, Element)> {
         self.waiting.take()
     }
 
-    /// The next element, where it is told alone: not a warning of a line end that is skipped.
+    /// Returns the next element if it comes alone: if it is not a warning about a skipped line end.
     ///
-    /// It is `None` where such a line end stands next, and past the last element.
+    /// Returns `None` if such a line end is next, and past the last element.
     #[inline(always)]
     pub(crate) fn next_alone(&mut self) -> Option<(Range<usize>, Element)> {
         if self.waiting.is_some() {
@@ -124,10 +127,10 @@ impl<'a> Elements<'a> {
         Some(item)
     }
 
-    /// The next element, whatever it is, or `None` past the last one.
+    /// Returns the next element, whatever it is, or `None` past the last one.
     ///
-    /// It has the large locals that [`Elements::next_alone`] and [`Elements::next_byte`] go without, and is asked where one
-    /// of these is `None`.
+    /// It has the large local variables that [`Elements::next_alone`] and [`Elements::next_byte`] do without. So it
+    /// is called only when one of these returns `None`.
     #[inline(always)]
     pub(crate) fn next_by_steps(&mut self) -> Option<(Range<usize>, Element)> {
         if self.waiting.is_some() {
@@ -143,9 +146,9 @@ impl<'a> Elements<'a> {
         first
     }
 
-    /// Passes over simple characters in front. Nothing is wrong with any of them in any kind of string.
+    /// Skips simple characters at the front. They are wrong in no kind of string.
     ///
-    /// Where a character that is not in ASCII stands next, it does not look for them.
+    /// It does not look for them if the next character is outside ASCII.
     #[inline(always)]
     pub(crate) fn skip_simple(&mut self) {
         match self.rest.as_bytes().first() {
@@ -154,7 +157,7 @@ impl<'a> Elements<'a> {
         }
     }
 
-    /// Passes over the plain characters in front, where nothing is wrong with any of them in this mode.
+    /// Skips the plain characters at the front, if no plain character is wrong in this mode.
     #[inline(always)]
     pub(crate) fn skip_plain(&mut self, mode: Mode) {
         if takes_all(mode) {
@@ -163,7 +166,7 @@ impl<'a> Elements<'a> {
     }
 }
 
-/// Whether no plain character is wrong in such a literal.
+/// Returns whether no plain character is wrong in such a literal.
 #[inline(always)]
 pub(crate) fn takes_all(mode: Mode) -> bool {
     matches!(mode, Mode::Str | Mode::RawStr)
@@ -172,7 +175,7 @@ pub(crate) fn takes_all(mode: Mode) -> bool {
 impl<'a> Iterator for Elements<'a> {
     type Item = (Range<usize>, Element);
 
-    /// The next element, or `None` past the last one, from then on.
+    /// Returns the next element. Past the last one it returns `None`, and does so from then on.
     #[inline(always)]
     fn next(&mut self) -> Option<(Range<usize>, Element)> {
         if let Some(item) = self.next_alone() {

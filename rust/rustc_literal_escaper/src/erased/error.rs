@@ -1,6 +1,6 @@
-//! What may be wrong in a literal.
+//! The errors and warnings of a literal.
 
-/// What is wrong in a literal, or what a reader of it may want to be warned of.
+/// An error in a literal, or a warning about it.
 #[derive(Clone, Copy, Debug, PartialEq, Eq)]
 pub enum EscapeError {
     /// A character or byte literal with nothing in it: `''`.
@@ -12,21 +12,21 @@ pub enum EscapeError {
     LoneSlash,
     /// A backslash before a character that begins no escape: `\q`.
     InvalidEscape,
-    /// A carriage return that is not written as `\r`.
+    /// A carriage return that is not escaped as `\r`.
     BareCarriageReturn,
     /// A carriage return in a raw string.
     BareCarriageReturnInRawString,
-    /// A character that this literal has only as an escape: a tab between single quotes.
+    /// A character that must be escaped in this literal: a tab between single quotes.
     EscapeOnlyChar,
 
-    /// The literal ends within `\x` and its two digits: `\x1`.
+    /// The literal ends before `\x` has its two digits: `\x1`.
     TooShortHexEscape,
-    /// A character that is no hexadecimal digit where `\x` wants one: `\xz`.
+    /// A character that is not a hexadecimal digit where `\x` needs one: `\xz`.
     InvalidCharInHexEscape,
     /// `\x80` or more in a character or a string.
     OutOfRangeHexEscape,
 
-    /// `\u` without its opening brace.
+    /// `\u` without an opening brace.
     NoBraceInUnicodeEscape,
     /// A character between the braces that is neither a hexadecimal digit nor an underscore.
     InvalidCharInUnicodeEscape,
@@ -38,28 +38,28 @@ pub enum EscapeError {
     LeadingUnderscoreUnicodeEscape,
     /// More than six digits: `\u{10FFFF_FF}`.
     OverlongUnicodeEscape,
-    /// The number of a surrogate, which is no character: `\u{DFFF}`.
+    /// The number of a surrogate, which is not a character: `\u{DFFF}`.
     LoneSurrogateUnicodeEscape,
     /// A number past the last character: `\u{FFFFFF}`.
     OutOfRangeUnicodeEscape,
 
     /// `\u` in a byte or a byte string.
     UnicodeEscapeInByte,
-    /// A character that is not in ASCII, in a byte or a byte string.
+    /// A character outside ASCII in a byte or a byte string.
     NonAsciiCharInByte,
 
-    /// U+0000 in a C string, whose end it would be.
+    /// U+0000 in a C string, which it would end.
     NulInCStr,
 
-    /// A warning: behind a line end that is skipped, white space stands that is not.
+    /// A warning: white space that is not skipped follows a line end that is.
     UnskippedWhitespaceWarning,
 
-    /// A warning: a backslash at a line's end skips more than that one line end.
+    /// A warning: a backslash at the end of a line skips more than that one line end.
     MultipleSkippedLinesWarning,
 }
 
 impl EscapeError {
-    /// Whether this is an error: the two warnings are not.
+    /// Returns whether this is an error. The two warnings are not.
     pub fn is_fatal(&self) -> bool {
         !matches!(
             self,

@@ -1,14 +1,14 @@
-//! What follows a backslash.
+//! The escapes after a backslash.
 
 use crate::erased::element::Element;
 use crate::erased::element::Element::{Byte, Fault};
 use crate::erased::error::EscapeError;
 use crate::erased::scan::{split_ascii, split_first};
 
-/// A number between braces has no more digits than this.
+/// The most digits of a number between braces.
 const MOST_DIGITS: usize = 6;
 
-/// The escape at the front of what follows a backslash, and what is left past it.
+/// Reads the escape at the front of the text after a backslash. Returns it, and the text after it.
 #[inline(always)]
 pub(crate) fn escape(rest: &str) -> (Element, &str) {
     let Some((c, tail)) = split_first(rest) else {
@@ -21,9 +21,10 @@ pub(crate) fn escape(rest: &str) -> (Element, &str) {
     }
 }
 
-/// The byte that an escape stands for, where a short one or one of two digits follows a backslash, and what is left past it.
+/// Returns the byte of a short escape or of one with two digits after a backslash, and the text after the escape.
 ///
-/// Most escapes are such. Where one of these is told alone, the compiler knows what kind of element it has.
+/// Most escapes are of these two kinds. For a call that reads only these, the compiler knows what kind of element
+/// it has.
 #[inline(always)]
 pub(crate) fn escaped_byte(rest: &str) -> Option<(u8, &str)> {
     let (c, tail) = split_ascii(rest)?;
@@ -36,7 +37,7 @@ pub(crate) fn escaped_byte(rest: &str) -> Option<(u8, &str)> {
     }
 }
 
-/// The byte of two digits at the front, and what is left past them, as [`hex`] has them.
+/// Returns the byte of two digits at the front, and the text after them, like [`hex`].
 #[inline(always)]
 fn two_digits(rest: &str) -> Option<(u8, &str)> {
     let (high, tail) = split_ascii(rest)?;
@@ -46,10 +47,10 @@ fn two_digits(rest: &str) -> Option<(u8, &str)> {
     Some(((high * 16 + low) as u8, left))
 }
 
-/// What a backslash and a character stand for that begin no escape.
+/// The element for a backslash and a character that begin no escape.
 const NONE: Element = Fault(EscapeError::InvalidEscape);
 
-// The bytes that the others stand for.
+// The bytes that the other short escapes stand for.
 const NUL: Element = Byte(0);
 
 const TAB: Element = Byte(b'\t');
@@ -64,8 +65,8 @@ const QUOTE: Element = Byte(b'\'');
 
 const BACKSLASH: Element = Byte(b'\\');
 
-/// What a backslash and each character of ASCII stand for, but for `x` and `u`. A look in a table costs less than a
-/// choice: which escape comes next is hard to foresee.
+/// The element for a backslash and each character of ASCII except `x` and `u`. A look in a table costs less than a
+/// branch, since the next escape is hard to predict.
 static SHORT: [Element; 128] = [
     NONE, NONE, NONE, NONE, NONE, NONE, NONE, NONE, NONE, NONE, NONE, NONE, NONE, NONE, NONE, NONE,
     NONE, NONE, NONE, NONE, NONE, NONE, NONE, NONE, NONE, NONE, NONE, NONE, NONE, NONE, NONE, NONE,
@@ -78,15 +79,15 @@ static SHORT: [Element; 128] = [
     NONE, NONE, NONE,
 ];
 
-/// The byte that a backslash and this character stand for.
+/// Returns the element for a backslash and this character.
 #[inline(always)]
 fn short(c: char) -> Element {
     let code = c as usize;
     if code < 128 { SHORT[code] } else { NONE }
 }
 
-/// The value of each character of ASCII that is a hexadecimal digit, and 16 for each other. Whether the next one is a
-/// digit or a letter is hard to foresee, too.
+/// The value of each hexadecimal digit in ASCII, and 16 for each other character. Whether the next one is a digit
+/// or a letter is hard to predict, too.
 static DIGITS: [u8; 128] = [
     16, 16, 16, 16, 16, 16, 16, 16, 16, 16, 16, 16, 16, 16, 16, 16, 16, 16, 16, 16, 16, 16, 16, 16,
     16, 16, 16, 16, 16, 16, 16, 16, 16, 16, 16, 16, 16, 16, 16, 16, 16, 16, 16, 16, 16, 16, 16, 16,
@@ -96,7 +97,7 @@ static DIGITS: [u8; 128] = [
     16, 16, 16, 16, 16, 16,
 ];
 
-/// The value of a hexadecimal digit.
+/// Returns the value of a hexadecimal digit, or `None` for any other character.
 #[inline(always)]
 fn hex_digit(c: char) -> Option<u32> {
     let digit = digit_or_16(c);
@@ -107,14 +108,14 @@ fn hex_digit(c: char) -> Option<u32> {
     }
 }
 
-/// The value of a hexadecimal digit, and 16 for any other character.
+/// Returns the value of a hexadecimal digit, or 16 for any other character.
 #[inline(always)]
 fn digit_or_16(c: char) -> u8 {
     let code = c as usize;
     if code < 128 { DIGITS[code] } else { 16 }
 }
 
-/// The byte of two digits. `rest` follows the `x`.
+/// Reads a byte of two digits. Returns it, and the text after it. `rest` is the text after the `x`.
 #[inline(always)]
 fn hex(rest: &str) -> (Element, &str) {
     let Some((high, tail)) = split_first(rest) else {
@@ -132,7 +133,7 @@ fn hex(rest: &str) -> (Element, &str) {
     (Element::Byte((high * 16 + low) as u8), left)
 }
 
-/// The number between braces. `rest` follows the `u`.
+/// Reads a number between braces. Returns it, and the text after it. `rest` is the text after the `u`.
 fn unicode(rest: &str) -> (Element, &str) {
     let Some((brace, body)) = split_first(rest) else {
         return (Element::Fault(EscapeError::NoBraceInUnicodeEscape), rest);
@@ -144,7 +145,8 @@ fn unicode(rest: &str) -> (Element, &str) {
     }
 }
 
-/// The number up to the closing brace. `body` follows the opening one.
+/// Reads a number up to the closing brace. Returns it, and the text after it. `body` is the text after the opening
+/// brace.
 fn braced(body: &str) -> (Element, &str) {
     let Some((first, tail)) = split_first(body) else {
         return (Element::Fault(EscapeError::UnclosedUnicodeEscape), body);
@@ -163,7 +165,7 @@ fn braced(body: &str) -> (Element, &str) {
     }
 }
 
-/// The number of the digits at the front, up to the closing brace.
+/// Reads the digits at the front up to the closing brace. Returns their number, and the text after it.
 fn digits(body: &str) -> (Element, &str) {
     let mut value = 0;
     let mut count: usize = 0;
@@ -188,7 +190,7 @@ fn digits(body: &str) -> (Element, &str) {
     (Element::Fault(EscapeError::UnclosedUnicodeEscape), rest)
 }
 
-/// The number of that many digits, which has `value` where they are not too many.
+/// Returns the number with `count` digits. Its value is `value` unless it has too many digits.
 fn number(value: u32, count: usize) -> Element {
     if count <= MOST_DIGITS {
         Element::Unicode(value)
@@ -197,7 +199,7 @@ fn number(value: u32, count: usize) -> Element {
     }
 }
 
-/// The value of `count` digits and one more. Past the most that there may be it stays.
+/// Returns the value of `count` digits and one more. It does not change once there are as many digits as allowed.
 fn with_digit(value: u32, count: usize, digit: u32) -> u32 {
     if count < MOST_DIGITS {
         value * 16 + digit

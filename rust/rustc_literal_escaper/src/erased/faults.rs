@@ -1,4 +1,4 @@
-//! What is wrong in a literal, one thing after another.
+//! The errors and warnings of a literal, one after another.
 
 use crate::erased::check::{is_raw, single_error};
 use crate::erased::elements::{Elements, elements_of};
@@ -7,9 +7,10 @@ use crate::erased::mode::Mode;
 use core::iter::Iterator;
 use core::ops::Range;
 
-/// An iterator over all that is wrong in a literal, warnings too, each with its place in bytes.
+/// An iterator over the errors and warnings of a literal, each with its place in bytes.
 ///
-/// It gives what [`check_for_errors`](crate::check_for_errors) calls its callback with, in that order:
+/// It returns the items with which [`check_for_errors`](crate::check_for_errors) calls its callback, in the same
+/// order:
 ///
 /// ```ignore
 /// for (place, error) in Faults::new(r"a\q", Mode::Str) {
@@ -17,14 +18,15 @@ use core::ops::Range;
 /// }
 /// ```
 pub struct Faults<'a> {
-    /// What is wrong between single quotes, until it is given out.
+    /// The error between single quotes, until it is returned.
     alone: Option<(Range<usize>, EscapeError)>,
     elements: Elements<'a>,
     mode: Mode,
 }
 
 impl<'a> Faults<'a> {
-    /// What is wrong in a literal of this kind, of which `src` stands between the quotes.
+    /// Returns an iterator over the errors and warnings of a literal of this kind. `src` is the text between the
+    /// quotes.
     pub fn new(src: &'a str, mode: Mode) -> Faults<'a> {
         if !mode.in_double_quotes() {
             return Faults {
@@ -44,7 +46,7 @@ impl<'a> Faults<'a> {
 impl<'a> Iterator for Faults<'a> {
     type Item = (Range<usize>, EscapeError);
 
-    /// The next thing that is wrong, or `None` past the last one, from then on.
+    /// Returns the next error or warning. Past the last one it returns `None`, and does so from then on.
     #[inline]
     fn next(&mut self) -> Option<(Range<usize>, EscapeError)> {
         if self.alone.is_some() {

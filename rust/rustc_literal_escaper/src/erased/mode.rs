@@ -1,33 +1,35 @@
 //! The kinds of literal that have escapes or could have them.
 
-/// A kind of literal.
+/// The kind of a literal.
+///
+/// Rust Reference, [Literals](https://doc.rust-lang.org/reference/tokens.html#literals).
 #[derive(Clone, Copy, Debug, PartialEq, Eq)]
 pub enum Mode {
-    /// `'a'`
+    /// A character, like `'a'`.
     Char,
-    /// `b'a'`
+    /// A byte, like `b'a'`.
     Byte,
-    /// `"hello"`
+    /// A string, like `"hello"`.
     Str,
-    /// `r"hello"`
+    /// A raw string, like `r"hello"`.
     RawStr,
-    /// `b"hello"`
+    /// A byte string, like `b"hello"`.
     ByteStr,
-    /// `br"hello"`
+    /// A raw byte string, like `br"hello"`.
     RawByteStr,
-    /// `c"hello"`
+    /// A C string, like `c"hello"`.
     CStr,
-    /// `cr"hello"`
+    /// A raw C string, like `cr"hello"`.
     RawCStr,
 }
 
 impl Mode {
-    /// Whether such a literal stands between double quotes: all but a character and a byte do.
+    /// Returns whether such a literal has double quotes. All have except a character and a byte.
     pub fn in_double_quotes(self) -> bool {
         !matches!(self, Mode::Char | Mode::Byte)
     }
 
-    /// The prefix of such a literal, without the `r` of a raw one: `""`, `"b"` or `"c"`.
+    /// Returns the prefix of such a literal, without the `r` of a raw one: `""`, `"b"` or `"c"`.
     pub fn prefix_noraw(self) -> &'static str {
         match self {
             Mode::Char | Mode::Str | Mode::RawStr => "",

@@ -1,8 +1,8 @@
-//! Characters at the front of a text.
+//! Reads the characters at the front of a text.
 
 use memchr::{memchr, memchr3};
 
-/// The first character and what follows it.
+/// Returns the first character and the text after it, or `None` if the text is empty.
 #[inline(always)]
 pub(crate) fn split_first(rest: &str) -> Option<(char, &str)> {
     let mut chars = rest.chars();
@@ -10,9 +10,9 @@ pub(crate) fn split_first(rest: &str) -> Option<(char, &str)> {
     Some((first, chars.as_str()))
 }
 
-/// The first character and what follows it, where it is in ASCII.
+/// Returns the first character and the text after it if the character is in ASCII.
 ///
-/// Its first byte tells that, so no character of several bytes is put together.
+/// The first byte determines that, so it puts no character of several bytes together.
 #[inline(always)]
 pub(crate) fn split_ascii(rest: &str) -> Option<(char, &str)> {
     let byte = rest.as_bytes().first()?;
@@ -22,7 +22,7 @@ pub(crate) fn split_ascii(rest: &str) -> Option<(char, &str)> {
     split_first(rest)
 }
 
-/// What is left past the plain characters in front.
+/// Returns the text after the plain characters at the front.
 pub(crate) fn past_plain(rest: &str, raw: bool) -> &str {
     if raw {
         past_plain_raw(rest)
@@ -31,7 +31,7 @@ pub(crate) fn past_plain(rest: &str, raw: bool) -> &str {
     }
 }
 
-/// What is left of a raw string past its plain characters in front: from the first carriage return on.
+/// Returns the text after the plain characters at the front of a raw string: from the first carriage return on.
 fn past_plain_raw(rest: &str) -> &str {
     match memchr(b'\r', rest.as_bytes()) {
         Some(at) => &rest[at..],
@@ -39,7 +39,8 @@ fn past_plain_raw(rest: &str) -> &str {
     }
 }
 
-/// What is left past them of a string that may have escapes: from the first character that is not plain on.
+/// Returns the text after the plain characters at the front of a string that may have escapes: from the first
+/// character that is not plain on.
 fn past_plain_escaped(rest: &str) -> &str {
     match memchr3(b'\\', b'"', b'\r', rest.as_bytes()) {
         Some(at) => &rest[at..],

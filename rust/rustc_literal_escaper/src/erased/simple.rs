@@ -1,34 +1,34 @@
-//! Simple characters at the front of a text, which are wrong in no kind of string: 32 bytes at a time.
+//! Skips simple characters, which are wrong in no kind of string, at the front of a text, 32 bytes at a time.
 
 use crate::support::simd::*;
 
-/// What is left past simple characters in front.
+/// Returns the text after simple characters at the front.
 #[inline(always)]
 pub(crate) fn past_simple(rest: &str, raw: bool) -> &str {
     let end = simple_end(rest.as_bytes(), raw);
     &rest[end..]
 }
 
-/// Simple bytes at the front, and what is left past them.
+/// Splits the text into simple bytes at the front, and the text after them.
 #[inline(always)]
 pub(crate) fn split_simple(rest: &str, raw: bool) -> (&[u8], &str) {
     let end = simple_end(rest.as_bytes(), raw);
     (&rest.as_bytes()[..end], &rest[end..])
 }
 
-/// A run of fewer simple bytes is short: no look pays for it.
+/// A run of fewer simple bytes is short. Looking for such a run costs more than it saves.
 const SHORT_RUN: usize = 8;
 
-/// Behind a short run the next look is made no sooner than so many bytes later.
+/// After a short run, the next look comes at least this many bytes later.
 const WAIT: usize = 24;
 
-/// Behind a short run of a raw string so many bytes are told one character after another before the next look.
+/// After a short run in a raw string, this many bytes are read one character after another before the next look.
 const ALONE: usize = 256;
 
-/// The simple bytes that are looked for behind a plain character, and what is left past them.
+/// Returns the simple bytes found after a plain character, and the text after them.
 ///
-/// None are for a while behind a short run: short ones seldom come alone. The next look is due where no more than `look`
-/// bytes are left.
+/// For a while after a short run it returns none, since short runs seldom come alone. The next look comes when at
+/// most `look` bytes are left.
 #[inline(always)]
 pub(crate) fn run_behind<'a>(tail: &'a str, look: &mut usize) -> (&'a [u8], &'a str) {
     if tail.len() > *look {
@@ -41,7 +41,8 @@ pub(crate) fn run_behind<'a>(tail: &'a str, look: &mut usize) -> (&'a [u8], &'a 
     (run, left)
 }
 
-/// The characters that are told one by one behind a run of simple ones, and what is left past them: none behind a long run.
+/// Returns the characters to read one by one after a run of simple ones, and the text after them. After a long run
+/// there are none.
 #[inline(always)]
 pub(crate) fn split_alone<'a>(run: &[u8], text: &'a str) -> (&'a str, &'a str) {
     if run.len() < SHORT_RUN {
@@ -51,7 +52,7 @@ pub(crate) fn split_alone<'a>(run: &[u8], text: &'a str) -> (&'a str, &'a str) {
     }
 }
 
-/// The first characters, of no more than `ALONE` bytes, and what is left past them.
+/// Splits the text into its first characters, of at most `ALONE` bytes, and the text after them.
 #[inline(never)]
 fn split_part(text: &str) -> (&str, &str) {
     let mut end = text.len().min(ALONE);
@@ -65,10 +66,11 @@ fn split_part(text: &str) -> (&str, &str) {
     ("", text)
 }
 
-/// A number of simple bytes at the front. It is 0 where fewer than 32 bytes are left.
+/// Returns a number of simple bytes at the front. It is 0 if fewer than 32 bytes are left.
 ///
-/// In a string with escapes mostly one look at 32 bytes tells where they end: that is not foreseen, and so no branch goes
-/// by it. Two looks that share a comparison are not made in one function: the compiler would take its lanes apart.
+/// In a string with escapes, one look at 32 bytes mostly finds where they end. The end is hard to predict, so
+/// nothing branches on it. Two looks that share a comparison are not in one function, because the compiler would
+/// split its lanes.
 #[inline(always)]
 fn simple_end(bytes: &[u8], raw: bool) -> usize {
     if bytes.len() < 32 || bytes[0] >= 128 {
@@ -87,7 +89,7 @@ fn simple_end(bytes: &[u8], raw: bool) -> usize {
     found.trailing_zeros() as usize
 }
 
-/// A number of simple bytes at the front, 32 bytes after another.
+/// Returns a number of simple bytes at the front. Looks at 32 bytes at a time.
 #[inline(never)]
 fn simple_end_by_lanes(bytes: &[u8], raw: bool) -> usize {
     let mut end = 0;
@@ -101,20 +103,21 @@ fn simple_end_by_lanes(bytes: &[u8], raw: bool) -> usize {
     end
 }
 
-/// Bit k is set where lane k is not simple.
+/// Returns a mask. Bit k is set if lane k is not simple.
 #[inline(always)]
 fn marks(v: u8x32, raw: bool) -> u64 {
     if raw { raw_marks(v) } else { escaped_marks(v) }
 }
 
-/// The same in a raw string: U+0000, a carriage return and what is not in ASCII.
+/// Returns a mask for a raw string. Bit k is set if lane k is U+0000, a carriage return or outside ASCII.
 #[inline(always)]
 fn raw_marks(v: u8x32) -> u64 {
     let from_1 = v - u8x32::splat(1);
     (from_1.simd_ge(u8x32::splat(127)) | v.simd_eq(u8x32::splat(b'\r'))).to_bitmask()
 }
 
-/// The same in a string that may have escapes: these, a backslash and a double quote.
+/// Returns a mask for a string that may have escapes. Bit k is set if lane k is one of these, a backslash or a
+/// double quote.
 #[inline(always)]
 fn escaped_marks(v: u8x32) -> u64 {
     let from_1 = v - u8x32::splat(1);

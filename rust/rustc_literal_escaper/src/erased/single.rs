@@ -1,4 +1,4 @@
-//! Characters and bytes.
+//! Reads characters and bytes, the literals between single quotes.
 
 use crate::erased::element::Element;
 use crate::erased::error::EscapeError;
@@ -6,7 +6,10 @@ use crate::erased::escape::escape;
 use crate::erased::scan::split_first;
 use crate::erased::strings::{AsByte, AsChar, Meaning};
 
-/// The character that a character literal stands for, of which `src` is what stands between the quotes.
+/// Returns the character that a character literal stands for. `src` is the text between its quotes. `Err` says what
+/// is wrong in it.
+///
+/// Rust Reference, [Character literals](https://doc.rust-lang.org/reference/tokens.html#character-literals).
 ///
 /// ```ignore
 /// unescape_char("a") // Ok('a')
@@ -17,12 +20,15 @@ pub fn unescape_char(src: &str) -> Result<char, EscapeError> {
     read::<AsChar>(src)
 }
 
-/// The byte that a byte literal stands for, of which `src` is what stands between the quotes.
+/// Returns the byte that a byte literal stands for. `src` is the text between its quotes. `Err` says what is wrong
+/// in it.
+///
+/// Rust Reference, [Byte literals](https://doc.rust-lang.org/reference/tokens.html#byte-literals).
 pub fn unescape_byte(src: &str) -> Result<u8, EscapeError> {
     read::<AsByte>(src)
 }
 
-/// What the one element stands for, if nothing is left past it.
+/// Returns what the only element stands for, if no text is left after it.
 fn read<M: Meaning>(src: &str) -> Result<M::Meant, EscapeError> {
     let Some((element, left)) = single(src) else {
         return Err(EscapeError::ZeroChars);
@@ -35,7 +41,7 @@ fn read<M: Meaning>(src: &str) -> Result<M::Meant, EscapeError> {
     }
 }
 
-/// The element at the front, between single quotes, and what is left past it.
+/// Returns the first element between single quotes, and the text after it.
 #[inline(always)]
 pub(crate) fn single(src: &str) -> Option<(Element, &str)> {
     let (c, tail) = split_first(src)?;
@@ -43,7 +49,7 @@ pub(crate) fn single(src: &str) -> Option<(Element, &str)> {
     Some((element, left))
 }
 
-/// The element that begins with the character `c`, and what is left past it.
+/// Returns the element that begins with the character `c`, and the text after it.
 #[inline(always)]
 fn first(c: char, tail: &str) -> (Element, &str) {
     if c == '\\' {
@@ -53,7 +59,7 @@ fn first(c: char, tail: &str) -> (Element, &str) {
     }
 }
 
-/// What a character that is not escaped is between single quotes.
+/// Returns the element for a character that is not escaped, between single quotes.
 #[inline(always)]
 fn unescaped(c: char) -> Element {
     match c {

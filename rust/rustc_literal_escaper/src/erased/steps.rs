@@ -1,4 +1,4 @@
-//! The steps over what stands between double quotes.
+//! The steps that read the text between double quotes.
 
 use crate::erased::element::Element;
 use crate::erased::error::EscapeError;
@@ -6,14 +6,14 @@ use crate::erased::escape::{escape, escaped_byte};
 use crate::erased::scan::split_first;
 use core::ops::Range;
 
-/// What is told at a place, at most two items, and what is left past it.
+/// The items that are found at a place, at most two, and the text after them.
 pub(crate) struct Told<'a> {
     pub(crate) first: Option<(Range<usize>, Element)>,
     pub(crate) second: Option<(Range<usize>, Element)>,
     pub(crate) left: &'a str,
 }
 
-/// The first items of what is left of a text of `total` bytes. None is told where none comes any more.
+/// Returns the first items in the rest of a text of `total` bytes. Returns no items if none are left.
 #[inline(always)]
 pub(crate) fn advance(rest: &str, total: usize, raw: bool) -> Told<'_> {
     let mut left = rest;
@@ -31,7 +31,8 @@ pub(crate) fn advance(rest: &str, total: usize, raw: bool) -> Told<'_> {
     }
 }
 
-/// What is told at the character `c` of a raw string or another, which begins at the place `start`, before `tail`.
+/// Returns the items at the character `c`, which begins at the place `start`, before `tail`. `raw` says whether the
+/// string is a raw one.
 #[inline(always)]
 fn step_by(raw: bool, c: char, tail: &str, start: usize, total: usize) -> Told<'_> {
     if raw {
@@ -47,10 +48,9 @@ fn step_by(raw: bool, c: char, tail: &str, start: usize, total: usize) -> Told<'
     one(element, left, start, total)
 }
 
-/// The item at the front of what is left of a text of `total` bytes, and what is left past it.
+/// Returns the item at the front of the rest of a text of `total` bytes, and the text after it.
 ///
-/// It is `None` at the end of the text, and where something else than one element is told: at a line end that is
-/// skipped.
+/// Returns `None` at the end of the text, and at a line end that is skipped, where there may be no item or several.
 #[inline(always)]
 pub(crate) fn first_item(
     rest: &str,
@@ -62,7 +62,7 @@ pub(crate) fn first_item(
     Some(((range, element), left))
 }
 
-/// The item at the front, where it is a plain character, and what is left past it, as [`first_item`] has them.
+/// Returns the item at the front if it is a plain character, and the text after it, like [`first_item`].
 #[inline(always)]
 pub(crate) fn first_plain(
     rest: &str,
@@ -77,7 +77,7 @@ pub(crate) fn first_plain(
     Some(((range, c), tail))
 }
 
-/// The item at the front, where it is an escape of a byte, and what is left past it, as [`first_item`] has them.
+/// Returns the item at the front if it is an escape of a byte, and the text after it, like [`first_item`].
 #[inline(always)]
 pub(crate) fn first_byte(
     rest: &str,
@@ -90,9 +90,9 @@ pub(crate) fn first_byte(
     Some(((range, byte), left))
 }
 
-/// The byte of an escape that begins with the character `c`, before `tail`, and what is left past it.
+/// Returns the byte of an escape that begins with the character `c`, before `tail`, and the text after it.
 ///
-/// It is `None` where another element begins there.
+/// Returns `None` if another element begins there.
 #[inline(always)]
 pub(crate) fn byte_at(c: char, tail: &str, raw: bool) -> Option<(u8, &str)> {
     if raw || c != '\\' {
@@ -101,7 +101,7 @@ pub(crate) fn byte_at(c: char, tail: &str, raw: bool) -> Option<(u8, &str)> {
     escaped_byte(tail)
 }
 
-/// Whether a character is plain, in a raw string or another.
+/// Returns whether a character is plain, in a raw string or in another.
 #[inline(always)]
 pub(crate) fn is_plain(c: char, raw: bool) -> bool {
     if raw {
@@ -111,7 +111,7 @@ pub(crate) fn is_plain(c: char, raw: bool) -> bool {
     }
 }
 
-/// The element at the front, and what is left past it, as [`first_item`] has them.
+/// Returns the element at the front, and the text after it, like [`first_item`].
 #[inline(always)]
 fn first_element(rest: &str, raw: bool) -> Option<(Element, &str)> {
     let (c, tail) = split_first(rest)?;
@@ -128,7 +128,8 @@ fn first_element(rest: &str, raw: bool) -> Option<(Element, &str)> {
     Some((element, left))
 }
 
-/// What follows a line's end that is skipped, where `c` is the backslash before it, and `tail` follows.
+/// Returns the text after a line end that is skipped. `c` is the backslash before it, and `tail` is the text after
+/// that.
 #[inline(always)]
 pub(crate) fn line_at(c: char, tail: &str) -> Option<&str> {
     if c != '\\' {
@@ -137,9 +138,9 @@ pub(crate) fn line_at(c: char, tail: &str) -> Option<&str> {
     strip_newline(tail)
 }
 
-/// The element that begins with `c`, where no line's end that is skipped does, and what is left past it.
+/// Returns the element that begins with `c`, and the text after it. No skipped line end begins there.
 ///
-/// Most elements are told before it is asked, so it is kept out of the loops.
+/// Most elements are found before this is called, so it stays out of the loops.
 #[inline(never)]
 pub(crate) fn lone_element(c: char, tail: &str) -> (Element, &str) {
     if c == '\\' {
@@ -149,7 +150,7 @@ pub(crate) fn lone_element(c: char, tail: &str) -> (Element, &str) {
     }
 }
 
-/// What a character of a raw string is.
+/// Returns the element for a character of a raw string.
 #[inline(always)]
 fn raw_element(c: char) -> Element {
     if c == '\r' {
@@ -159,7 +160,7 @@ fn raw_element(c: char) -> Element {
     }
 }
 
-/// One item, of the element from the place `start` up to what is left past it.
+/// Returns one item, whose element goes from the place `start` up to the text `left`.
 #[inline(always)]
 fn one(element: Element, left: &str, start: usize, total: usize) -> Told<'_> {
     Told {
@@ -169,7 +170,7 @@ fn one(element: Element, left: &str, start: usize, total: usize) -> Told<'_> {
     }
 }
 
-/// What a character that is not escaped is between double quotes.
+/// Returns the element for a character that is not escaped, between double quotes.
 #[inline(always)]
 fn unescaped(c: char) -> Element {
     match c {
@@ -179,21 +180,21 @@ fn unescaped(c: char) -> Element {
     }
 }
 
-/// The same by a call, which answers a whole word. Where `rustc` writes the element in parts and compares it as a word,
-/// valgrind warns that the padding between them was never written.
+/// Returns what [`unescaped`] returns, by a call that returns a whole word. When `rustc` writes the element in
+/// parts and compares it as a word, valgrind warns that the padding in between was never written.
 #[inline(never)]
 fn unescaped_by_call(c: char) -> Element {
     unescaped(c)
 }
 
-/// What follows a newline, if the text begins with one.
+/// Returns the text after a newline, or `None` if the text does not begin with one.
 #[inline(always)]
 fn strip_newline(text: &str) -> Option<&str> {
     let (c, tail) = split_passed(text)?;
     if c == '\n' { Some(tail) } else { None }
 }
 
-/// The warnings past a backslash and a newline, which begin at the place `start`.
+/// Returns the warnings after a backslash and a newline, which begin at the place `start`.
 #[inline(always)]
 fn line_end(line: &str, start: usize, total: usize) -> Told<'_> {
     let (newline, left) = pass_over(line);
@@ -214,7 +215,7 @@ fn line_end(line: &str, start: usize, total: usize) -> Told<'_> {
     }
 }
 
-/// Whether a newline is among the white space that is passed over, and what is left past that.
+/// Returns whether a newline is in the white space that is skipped, and the text after that.
 #[inline(always)]
 pub(crate) fn pass_over(line: &str) -> (bool, &str) {
     let left = past_blanks(line);
@@ -224,7 +225,7 @@ pub(crate) fn pass_over(line: &str) -> (bool, &str) {
     }
 }
 
-/// What is left past the white space that is passed over, up to a newline.
+/// Returns the text after the white space that is skipped, up to a newline.
 #[inline(always)]
 fn past_blanks(line: &str) -> &str {
     let mut left = line;
@@ -237,7 +238,7 @@ fn past_blanks(line: &str) -> &str {
     left
 }
 
-/// What is left past the white space that is passed over, newlines too.
+/// Returns the text after the white space that is skipped, newlines too.
 #[inline(always)]
 fn past_space(rest: &str) -> &str {
     let mut left = rest;
@@ -247,9 +248,9 @@ fn past_space(rest: &str) -> &str {
     left
 }
 
-/// The white space at the front that is passed over, one character, and what follows it.
+/// Returns the first character and the text after it if the character is white space that is skipped.
 ///
-/// Its first byte tells it, so no character of several bytes is put together.
+/// The first byte determines that, so it puts no character of several bytes together.
 #[inline(always)]
 fn split_passed(rest: &str) -> Option<(char, &str)> {
     let Some(byte) = rest.as_bytes().first() else {
@@ -261,13 +262,13 @@ fn split_passed(rest: &str) -> Option<(char, &str)> {
     split_first(rest)
 }
 
-/// Whether this is white space that a backslash at a line's end passes over.
+/// Returns whether this is white space that a backslash at the end of a line skips.
 #[inline(always)]
 fn is_passed_over(c: char) -> bool {
     matches!(c, '\n' | '\r' | '\t' | ' ')
 }
 
-/// The warning where a newline was among the white space that was passed over.
+/// Returns the warning that a newline was in the white space that was skipped, if one was.
 #[inline(always)]
 pub(crate) fn more_lines(
     newline: bool,
@@ -282,7 +283,7 @@ pub(crate) fn more_lines(
     Some((start..total - left.len(), warning))
 }
 
-/// The warning where white space stands next.
+/// Returns the warning that white space comes next, if it does.
 #[inline(always)]
 pub(crate) fn more_space(
     left: &str,

@@ -1,4 +1,4 @@
-//! Strings of every kind, by a callback.
+//! Reads strings of every kind, and passes their units to a callback.
 
 use crate::erased::element::Element;
 use crate::erased::error::EscapeError;
@@ -10,20 +10,24 @@ use crate::erased::steps::{
 use crate::erased::unit::{MixedUnit, NonZeroChar};
 use core::ops::Range;
 
-/// Calls `callback` with each character that a string stands for, or what is wrong, and its place in bytes.
+/// Calls `callback` with each character that a string stands for, or with what is wrong, and its place in bytes.
 ///
-/// `src` is what stands between the quotes. The calls are in the order of the text. A place reaches from the
-/// first byte to the one past the last, and both are between characters.
+/// `src` is the text between the quotes. The calls come in the order of the text. A place goes from the first byte
+/// up to the one past the last, and both ends are between characters.
 ///
-/// A backslash at the end of a line stands for nothing, and no call tells of it. Two calls may warn of the
-/// white space past it: their places begin at the backslash.
+/// A backslash at the end of a line stands for nothing, so it has no call. Two calls may warn about the white space
+/// after it. Their places begin at the backslash.
+///
+/// Rust Reference, [String literals](https://doc.rust-lang.org/reference/tokens.html#string-literals).
 pub fn unescape_str<F: FnMut(Range<usize>, Result<char, EscapeError>)>(src: &str, mut callback: F) {
     each_unit::<AsChar, F>(src, false, &mut callback);
 }
 
-/// Calls `callback` with each byte that a byte string stands for, or what is wrong, and its place.
+/// Calls `callback` with each byte that a byte string stands for, or with what is wrong, and its place.
 ///
-/// It is as [`unescape_str`] is.
+/// It calls in the same way as [`unescape_str`].
+///
+/// Rust Reference, [Byte string literals](https://doc.rust-lang.org/reference/tokens.html#byte-string-literals).
 pub fn unescape_byte_str<F: FnMut(Range<usize>, Result<u8, EscapeError>)>(
     src: &str,
     mut callback: F,
@@ -31,9 +35,11 @@ pub fn unescape_byte_str<F: FnMut(Range<usize>, Result<u8, EscapeError>)>(
     each_unit::<AsByte, F>(src, false, &mut callback);
 }
 
-/// Calls `callback` with each unit that a C string stands for, or what is wrong, and its place.
+/// Calls `callback` with each unit that a C string stands for, or with what is wrong, and its place.
 ///
-/// It is as [`unescape_str`] is.
+/// It calls in the same way as [`unescape_str`].
+///
+/// Rust Reference, [C string literals](https://doc.rust-lang.org/reference/tokens.html#c-string-literals).
 pub fn unescape_c_str<F: FnMut(Range<usize>, Result<MixedUnit, EscapeError>)>(
     src: &str,
     mut callback: F,
@@ -41,9 +47,11 @@ pub fn unescape_c_str<F: FnMut(Range<usize>, Result<MixedUnit, EscapeError>)>(
     each_unit::<AsMixedUnit, F>(src, false, &mut callback);
 }
 
-/// Calls `callback` with each character of a raw string, or what is wrong, and its place.
+/// Calls `callback` with each character of a raw string, or with what is wrong, and its place.
 ///
-/// Nothing is an escape there, and only a carriage return is wrong.
+/// A raw string has no escapes, and only a carriage return is wrong in it.
+///
+/// Rust Reference, [Raw string literals](https://doc.rust-lang.org/reference/tokens.html#raw-string-literals).
 pub fn check_raw_str<F: FnMut(Range<usize>, Result<char, EscapeError>)>(
     src: &str,
     mut callback: F,
@@ -51,9 +59,12 @@ pub fn check_raw_str<F: FnMut(Range<usize>, Result<char, EscapeError>)>(
     each_unit::<AsChar, F>(src, true, &mut callback);
 }
 
-/// Calls `callback` with each byte of a raw byte string, or what is wrong, and its place.
+/// Calls `callback` with each byte of a raw byte string, or with what is wrong, and its place.
 ///
-/// A carriage return is wrong, and a character that is not in ASCII.
+/// A carriage return and a character outside ASCII are wrong in it.
+///
+/// Rust Reference, [Raw byte string
+/// literals](https://doc.rust-lang.org/reference/tokens.html#raw-byte-string-literals).
 pub fn check_raw_byte_str<F: FnMut(Range<usize>, Result<u8, EscapeError>)>(
     src: &str,
     mut callback: F,
@@ -61,9 +72,11 @@ pub fn check_raw_byte_str<F: FnMut(Range<usize>, Result<u8, EscapeError>)>(
     each_unit::<AsByte, F>(src, true, &mut callback);
 }
 
-/// Calls `callback` with each character of a raw C string, or what is wrong, and its place.
+/// Calls `callback` with each character of a raw C string, or with what is wrong, and its place.
 ///
-/// A carriage return is wrong, and U+0000.
+/// A carriage return and U+0000 are wrong in it.
+///
+/// Rust Reference, [Raw C string literals](https://doc.rust-lang.org/reference/tokens.html#raw-c-string-literals).
 pub fn check_raw_c_str<F: FnMut(Range<usize>, Result<NonZeroChar, EscapeError>)>(
     src: &str,
     mut callback: F,
@@ -71,22 +84,23 @@ pub fn check_raw_c_str<F: FnMut(Range<usize>, Result<NonZeroChar, EscapeError>)>
     each_unit::<AsRawUnit, F>(src, true, &mut callback);
 }
 
-/// What the elements of one kind of string stand for.
+/// The meaning of elements in one kind of string.
 pub(crate) trait Meaning {
     type Meant: Copy;
 
-    /// What an element stands for.
+    /// Returns what an element stands for.
     fn of(element: Element) -> Result<Self::Meant, EscapeError>;
 
-    /// What a byte of ASCII that is not 0 stands for, where it is not escaped.
+    /// Returns what a byte of ASCII other than 0 stands for when it is not escaped.
     #[inline(always)]
     fn of_fine(byte: u8) -> Result<Self::Meant, EscapeError> {
         Self::of(Element::Plain(byte as char))
     }
 
-    /// What a character of a raw string stands for.
+    /// Returns what a character of a raw string stands for.
     ///
-    /// Each way knows what kind of element it has, so the compiler makes none and asks for no kind.
+    /// Each implementation knows what kind of element it has, so the compiler neither makes an element nor looks at
+    /// its kind.
     #[inline(always)]
     fn of_raw(c: char) -> Result<Self::Meant, EscapeError> {
         if c == '\r' {
@@ -97,7 +111,7 @@ pub(crate) trait Meaning {
     }
 }
 
-/// What strings stand for: characters.
+/// The meaning in strings: characters.
 pub(crate) struct AsChar;
 
 impl Meaning for AsChar {
@@ -109,7 +123,7 @@ impl Meaning for AsChar {
     }
 }
 
-/// What byte strings and raw ones stand for: bytes.
+/// The meaning in byte strings and raw byte strings: bytes.
 pub(crate) struct AsByte;
 
 impl Meaning for AsByte {
@@ -126,7 +140,7 @@ impl Meaning for AsByte {
     }
 }
 
-/// What C strings stand for: characters and bytes.
+/// The meaning in C strings: characters and bytes.
 struct AsMixedUnit;
 
 impl Meaning for AsMixedUnit {
@@ -143,7 +157,7 @@ impl Meaning for AsMixedUnit {
     }
 }
 
-/// What raw C strings stand for: characters that are not U+0000.
+/// The meaning in raw C strings: characters other than U+0000.
 struct AsRawUnit;
 
 impl Meaning for AsRawUnit {
@@ -168,10 +182,10 @@ impl Meaning for AsRawUnit {
     }
 }
 
-/// Calls `callback` with what each element of a text stands for, and its place, and for nothing else.
+/// Calls `callback` with what each element of a text stands for and its place, and with nothing else.
 ///
-/// That is said of the closure as it is left here. One that is passed by value is let go at the end of its call, and no
-/// clause can speak of it there.
+/// The contract is about the closure as it is left here. A closure that is passed by value is dropped at the end of
+/// its call, and no clause can name it there.
 #[inline(always)]
 fn each_unit<M: Meaning, F: FnMut(Range<usize>, Result<M::Meant, EscapeError>)>(
     src: &str,
@@ -185,10 +199,10 @@ fn each_unit<M: Meaning, F: FnMut(Range<usize>, Result<M::Meant, EscapeError>)>(
     }
 }
 
-/// Calls `callback` with what each element of what is left of a text of `total` bytes stands for, and its place.
+/// Calls `callback` with what each element in the rest of a text of `total` bytes stands for, and its place.
 ///
-/// Plain characters and escapes of a byte have a call of their own, which the compiler makes short. Behind a plain character
-/// a run of simple ones is looked for, and these have a loop of their own.
+/// Plain characters and escapes of a byte have a call of their own, which the compiler makes short. After a plain
+/// character it looks for a run of simple ones, which have a loop of their own.
 #[inline(always)]
 fn each_unit_in<M: Meaning, F: FnMut(Range<usize>, Result<M::Meant, EscapeError>)>(
     rest: &str,
@@ -222,8 +236,8 @@ fn each_unit_in<M: Meaning, F: FnMut(Range<usize>, Result<M::Meant, EscapeError>
     }
 }
 
-/// Calls `callback` with the warnings past a backslash and a newline, which begin at the place `start`. Returns what is left
-/// past the white space.
+/// Calls `callback` with the warnings after a backslash and a newline, which begin at the place `start`. Returns
+/// the text after the white space.
 #[inline(always)]
 fn each_warning<'a, M: Meaning, F: FnMut(Range<usize>, Result<M::Meant, EscapeError>)>(
     line: &'a str,
@@ -237,9 +251,10 @@ fn each_warning<'a, M: Meaning, F: FnMut(Range<usize>, Result<M::Meant, EscapeEr
     left
 }
 
-/// The same as [`each_unit_in`] for a raw string, of which each element is one character.
+/// Does what [`each_unit_in`] does, for a raw string, in which each element is one character.
 ///
-/// Behind a short run of simple ones, characters are told one by one for a while. That loop does nothing else.
+/// After a short run of simple characters it reads characters one by one for a while, in a loop that does nothing
+/// else.
 #[inline(always)]
 fn each_raw_unit_in<M: Meaning, F: FnMut(Range<usize>, Result<M::Meant, EscapeError>)>(
     rest: &str,
@@ -258,7 +273,8 @@ fn each_raw_unit_in<M: Meaning, F: FnMut(Range<usize>, Result<M::Meant, EscapeEr
     }
 }
 
-/// Calls `callback` with what each character of a part of a raw string stands for, and its place. The last ends at `end`.
+/// Calls `callback` with what each character in a part of a raw string stands for, and its place. The last one ends
+/// at `end`.
 #[inline(always)]
 fn each_raw_char<M: Meaning, F: FnMut(Range<usize>, Result<M::Meant, EscapeError>)>(
     part: &str,
@@ -274,7 +290,7 @@ fn each_raw_char<M: Meaning, F: FnMut(Range<usize>, Result<M::Meant, EscapeError
     }
 }
 
-/// Calls `callback` with what is told, if anything is.
+/// Calls `callback` with what an item stands for, if there is an item.
 #[inline(always)]
 fn each_told<M: Meaning, F: FnMut(Range<usize>, Result<M::Meant, EscapeError>)>(
     told: Option<(Range<usize>, Element)>,
@@ -285,8 +301,8 @@ fn each_told<M: Meaning, F: FnMut(Range<usize>, Result<M::Meant, EscapeError>)>(
     }
 }
 
-/// Calls `callback` with what each of the bytes stands for, a character of its own, and its place. The last ends at
-/// `end`.
+/// Calls `callback` with what each of the bytes stands for as a character of its own, and its place. The last one
+/// ends at `end`.
 #[inline(always)]
 fn each_simple<M: Meaning, F: FnMut(Range<usize>, Result<M::Meant, EscapeError>)>(
     run: &[u8],

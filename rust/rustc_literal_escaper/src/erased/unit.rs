@@ -2,14 +2,14 @@
 
 use crate::erased::error::EscapeError;
 
-/// A character that is not U+0000.
+/// A character other than U+0000.
 #[derive(Clone, Copy, Debug, PartialEq, Eq)]
 pub struct NonZeroChar {
     value: char,
 }
 
 impl NonZeroChar {
-    /// The character, unless it is U+0000.
+    /// Returns the character, or `None` if it is U+0000.
     pub fn new(value: char) -> Option<NonZeroChar> {
         if value == '\0' {
             None
@@ -18,26 +18,26 @@ impl NonZeroChar {
         }
     }
 
-    /// The character as a `char`.
+    /// Returns the character as a `char`.
     pub fn get(self) -> char {
         self.value
     }
 
-    /// A character that is known not to be U+0000.
+    /// Returns a character that is known not to be U+0000.
     #[inline(always)]
     pub(crate) fn of_nonzero(value: char) -> NonZeroChar {
         NonZeroChar { value }
     }
 }
 
-/// A byte that is not 0.
+/// A byte other than 0.
 #[derive(Clone, Copy, Debug, PartialEq, Eq)]
 pub struct NonZeroU8 {
     value: u8,
 }
 
 impl NonZeroU8 {
-    /// The byte, unless it is 0.
+    /// Returns the byte, or `None` if it is 0.
     pub fn new(value: u8) -> Option<NonZeroU8> {
         if value == 0 {
             None
@@ -46,20 +46,20 @@ impl NonZeroU8 {
         }
     }
 
-    /// The byte as a `u8`.
+    /// Returns the byte as a `u8`.
     pub fn get(self) -> u8 {
         self.value
     }
 }
 
-/// A unit of a C string, whose text may have characters and bytes that are in none.
+/// A unit of a C string, which may hold characters and also bytes that belong to no character.
 #[derive(Clone, Copy, Debug, PartialEq, Eq)]
 pub enum MixedUnit {
-    /// A character, written as it is, by `\u{..}`, or by an escape for a byte below 128.
+    /// A character that is written as it is, as `\u{..}`, or as an escape for a byte below 128.
     ///
-    /// It stands for its bytes in UTF-8: two of them for `¥`.
+    /// It stands for its bytes in UTF-8, like the two of `¥`.
     Char(NonZeroChar),
-    /// A byte from 128 on, written as `\x80` to `\xff`. It stands for itself.
+    /// A byte from 128 on, which is written as `\x80` to `\xff`. It stands for itself.
     HighByte(NonZeroU8),
 }
 

@@ -1,13 +1,13 @@
-//! Texts and bytes, written so that they stand between double quotes.
+//! Writes texts and bytes in the form that they have between double quotes.
 use crate::support::String;
 
 use crate::erased::scan::split_first;
 use crate::support::AllocError;
 
-/// Why a C string was not written.
+/// The reason why a C string was not written.
 #[derive(Clone, Copy, Debug, PartialEq, Eq)]
 pub enum EscapeCStrError {
-    /// A byte is 0, which no C string has and no escape writes.
+    /// A byte is 0. No C string has such a byte, and no escape writes it.
     Nul,
     /// Memory was refused.
     OutOfMemory,
@@ -19,10 +19,10 @@ impl From<AllocError> for EscapeCStrError {
     }
 }
 
-/// Appends `text` to `out`, as it is written between the double quotes of a string.
+/// Appends `text` to `out`, in the form that it has between the double quotes of a string.
 ///
-/// Each character is written as `char::escape_default` writes it, so all of it is ASCII. [`unescape_str`] reads
-/// the characters of `text` from it. Where memory is refused, `out` is as it was.
+/// It writes each character like `char::escape_default`, so only ASCII. [`unescape_str`] reads the characters of
+/// `text` back from it. `Err` means that memory was refused, and then `out` is as it was.
 ///
 /// ```ignore
 /// escape_str("a\"é\n", &mut out)? // appends a\"\u{e9}\n, of eleven bytes
@@ -38,10 +38,10 @@ pub fn escape_str(text: &str, out: &mut String) -> Result<(), AllocError> {
     pushed
 }
 
-/// Appends `bytes` to `out`, as they are written between the double quotes of a byte string.
+/// Appends `bytes` to `out`, in the form that they have between the double quotes of a byte string.
 ///
-/// Each byte is written as `u8::escape_ascii` writes it, so all of it is ASCII. [`unescape_byte_str`] reads the
-/// bytes from it. Where memory is refused, `out` is as it was.
+/// It writes each byte like `u8::escape_ascii`, so only ASCII. [`unescape_byte_str`] reads the bytes back from it.
+/// `Err` means that memory was refused, and then `out` is as it was.
 ///
 /// [`unescape_byte_str`]: crate::unescape_byte_str
 pub fn escape_byte_str(bytes: &[u8], out: &mut String) -> Result<(), AllocError> {
@@ -53,11 +53,11 @@ pub fn escape_byte_str(bytes: &[u8], out: &mut String) -> Result<(), AllocError>
     pushed
 }
 
-/// Appends the bytes of a C string to `out`, as they are written between its double quotes.
+/// Appends the bytes of a C string to `out`, in the form that they have between its double quotes.
 ///
-/// `bytes` is without the NUL at the end. They are written as [`escape_byte_str`] writes them, and
-/// [`unescape_c_str`] reads them from it: a byte below 128 as a character, any other as `HighByte`. A byte that
-/// is 0 is refused first. Past any `Err`, `out` is as it was.
+/// `bytes` does not include the NUL at the end. It writes them like [`escape_byte_str`]. [`unescape_c_str`] reads
+/// them back from it: a byte below 128 as a character, any other as `HighByte`. A byte that is 0 is refused first.
+/// After any `Err`, `out` is as it was.
 ///
 /// [`unescape_c_str`]: crate::unescape_c_str
 pub fn escape_c_str(bytes: &[u8], out: &mut String) -> Result<(), EscapeCStrError> {
@@ -78,7 +78,7 @@ fn push_text(text: &str, out: &mut String) -> Result<(), AllocError> {
     Ok(())
 }
 
-/// Appends one character.
+/// Appends one character of a text.
 fn push_char(c: char, out: &mut String) -> Result<(), AllocError> {
     for part in c.escape_default() {
         out.push(part)?;

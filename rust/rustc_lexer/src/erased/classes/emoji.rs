@@ -2,7 +2,7 @@
 
 use core::cmp::Ordering;
 
-/// The first and the last character of each range, in rising order.
+/// The first and the last character of each range, in ascending order.
 static RANGES: [(char, char); 148] = [
     ('\u{a9}', '\u{a9}'),
     ('\u{ae}', '\u{ae}'),
@@ -154,12 +154,12 @@ static RANGES: [(char, char); 148] = [
     ('\u{1faf0}', '\u{1faf8}'),
 ];
 
-/// Whether the character is an emoji, outside ASCII.
+/// Returns whether the character is an emoji outside ASCII.
 pub(crate) fn is_emoji(c: char) -> bool {
     !c.is_ascii() && RANGES.binary_search_by(|range| side(range, c)).is_ok()
 }
 
-/// On which side of the character the range lies, or that the character is in it.
+/// Compares a range with the character: `Equal` if the character is in it.
 fn side(range: &(char, char), c: char) -> Ordering {
     let (first, last) = *range;
     if last < c {

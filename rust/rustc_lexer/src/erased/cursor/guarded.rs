@@ -7,11 +7,14 @@ use crate::erased::scan::{eat_while, strip};
 use crate::erased::token::GuardedStr;
 
 impl<'a> Cursor<'a> {
-    /// Takes a guarded string: hashes, a string, then as many hashes at most, and a suffix. Its length counts the
-    /// bytes that were pending; then none are. One that no quote closes takes the rest of the text.
+    /// Takes a guarded string and returns it: hashes, a string, at most as many hashes again, and a suffix. Its
+    /// length counts the bytes that were pending. After the call no bytes are pending. A string that no quote
+    /// closes takes the rest of the text.
     ///
-    /// Where no quote follows the hashes, the answer is `None`. The hashes are taken all the same, and are
-    /// pending: they are part of the next token.
+    /// Returns `None` if no quote follows the hashes. The hashes are taken all the same and are pending: they are
+    /// part of the next token.
+    ///
+    /// Rust Reference, [Reserved guards](https://doc.rust-lang.org/reference/tokens.html#reserved-guards).
     ///
     /// ```ignore
     /// let mut cursor = Cursor::new("##\"a\"#", FrontmatterAllowed::No);
@@ -36,20 +39,21 @@ impl<'a> Cursor<'a> {
     }
 }
 
-/// How many hashes stand at the front of the text.
+/// Returns how many hashes are at the front of the text.
 fn count_hashes(rest: &str) -> usize {
     rest.len() - eat_while(rest, |c| c == '#').len()
 }
 
-/// Whether a quote closes the string that follows the hashes, and the length of the string with the hashes; `None`
-/// where no string follows them.
+/// Reads the string that follows the hashes. Returns whether a quote closes it, and the length in bytes of the
+/// hashes and the string; or `None` if no string follows the hashes.
 fn string_past(rest: &str, n_hashes: usize) -> Option<(bool, usize)> {
     let body = strip(&rest[n_hashes..], '"')?;
     let (terminated, left) = guarded_body(body, n_hashes);
     Some((terminated, rest.len() - left.len()))
 }
 
-/// Whether a quote closes the string, and what the token leaves. `body` is what follows the opening quote.
+/// Returns whether a quote closes the string, and the text after the token. `body` is the text after the opening
+/// quote.
 fn guarded_body(body: &str, n_hashes: usize) -> (bool, &str) {
     let (terminated, left) = double_quoted_string(body);
     if terminated {
@@ -59,7 +63,7 @@ fn guarded_body(body: &str, n_hashes: usize) -> (bool, &str) {
     }
 }
 
-/// What `most` hashes at most leave of the text.
+/// Returns the text after the hashes at its front, of which it skips `most` at most.
 fn eat_hashes(rest: &str, most: usize) -> &str {
     &rest[count_hashes(rest).min(most)..]
 }

@@ -5,16 +5,16 @@ use crate::erased::entry::{Tokens, tokenize_as};
 use crate::erased::shebang::shebang_len;
 use crate::erased::token::FrontmatterAllowed;
 
-/// The tokens of a whole document in an edition, in order: those of the text past its shebang line, where a
-/// frontmatter may stand in front. The text has at most `u32::MAX` bytes.
+/// Returns an iterator over the tokens of a whole document in an edition. They are the tokens of the text past its
+/// shebang line, with or without a frontmatter in front. The text may have at most `u32::MAX` bytes.
 ///
-/// The shebang line is no token. So the first token begins where the text that is left begins, which is
-/// `text.len() - tokens.as_str().len()` bytes in as long as no token was taken. [`tokenize_as`] is for a text that is
-/// no whole document, and for one whose shebang line is read as tokens.
+/// The shebang line is not a token. The first token begins where the remaining text begins: at
+/// `text.len() - tokens.as_str().len()` bytes, as long as no token was taken. For a text that is not a whole
+/// document, and for one whose shebang line is to be read as tokens, call [`tokenize_as`].
 ///
 /// ```ignore
 /// let tokens = tokenize_document(text, Edition::E2024);
-/// let mut start = text.len() - tokens.as_str().len(); // 9 of "#!/bin/sh\nfn", and 0 where no such line stands
+/// let mut start = text.len() - tokens.as_str().len(); // 9 for "#!/bin/sh\nfn", 0 without such a line
 /// for token in tokens {
 ///     let end = start + token.len as usize;
 ///     show(token.kind, &text[start..end]);

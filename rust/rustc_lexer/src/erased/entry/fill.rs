@@ -1,4 +1,4 @@
-//! The tokens of a text, many at once.
+//! Writes many tokens of a text at once.
 
 use crate::erased::bulk::{self, Record};
 use crate::erased::edition::Edition;
@@ -6,15 +6,16 @@ use crate::erased::entry::Tokens;
 use crate::erased::token::FrontmatterAllowed;
 use core::iter::Iterator;
 
-/// The ends of runs are found for so many bytes at once. It does not pay for fewer.
+/// How many bytes are searched at once for the ends of runs. For fewer bytes the search costs more than it saves.
 const BLOCK: usize = 64;
 
 impl<'a> Tokens<'a> {
-    /// Writes the next tokens into the buffer, as many as are left, or as there is room for. Answers their number,
-    /// which is less than the length of the buffer only where no token is left.
+    /// Writes the next tokens into the buffer, as many as are left or as there is room for, and returns how many.
+    /// The number is less than the length of the buffer only if no token is left.
     ///
-    /// They are the tokens that so many calls of `next` give, and take less time: most of them are found 64 bytes at a
-    /// time. Where a frontmatter may still stand, or fewer than 64 bytes are left, they come one by one.
+    /// They are the tokens that as many calls of `next` return, but they take less time: most of them are found 64
+    /// bytes at a time. The tokens are found one by one if a frontmatter may still come, or if fewer than 64 bytes
+    /// are left.
     ///
     /// ```ignore
     /// let mut buffer = [Token { kind: TokenKind::Eof, len: 0 }; 256];
@@ -36,13 +37,13 @@ impl<'a> Tokens<'a> {
         self.fill_singly(buffer)
     }
 
-    /// Whether no frontmatter may stand in what is left.
+    /// Returns whether no frontmatter may come in the text that is left.
     #[inline(always)]
     fn is_part(&self) -> bool {
         matches!(self.frontmatter_allowed, FrontmatterAllowed::No)
     }
 
-    /// Writes the next tokens into the buffer, as `fill` does, one after another.
+    /// Writes the next tokens into the buffer like `fill`, one after another.
     fn fill_singly<R: Record>(&mut self, buffer: &mut [R]) -> usize {
         let mut count = 0;
         while count < buffer.len() {
@@ -56,9 +57,10 @@ impl<'a> Tokens<'a> {
     }
 }
 
-/// Writes the first tokens of a text into the buffer, in an edition.
+/// Writes the first tokens of a text in an edition into the buffer. Returns how many tokens it wrote, and how many
+/// bytes they take.
 ///
-/// The newest edition has a body of its own, in which no token asks for the edition.
+/// The newest edition has a branch of its own, in which no token looks at the edition.
 #[inline(always)]
 fn fill_part<R: Record>(text: &str, edition: Edition, buffer: &mut [R]) -> (usize, usize) {
     match edition {

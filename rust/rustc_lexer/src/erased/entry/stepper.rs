@@ -1,26 +1,28 @@
-//! A grammar, met one token at a time or many at once.
+//! Steppers: they lex by a grammar, one token at a time or many at once.
 
 use crate::erased::bulk::{self, Record};
 use crate::erased::edition::{Edition, token_in};
 use crate::erased::entry::tally::Tally;
 use crate::erased::token::Token;
 
-/// A grammar, which tells the first token of each text.
+/// A lexer for one grammar: it returns the first token of any text.
 ///
-/// A first token is not empty, ends between two characters, and depends on no more than itself and the two characters
-/// after it. A step answers the first token of what it is handed, the same one each time. In Rattle each implementation
-/// proves this; in plain Rust it has to keep it, or the tokens of an edited text are wrong.
+/// A first token is not empty, ends between two characters, and depends only on itself and the two characters after
+/// it. `step` returns the first token of the text that it is given, and always the same one for the same text. In
+/// Rattle each implementation proves this. In plain Rust an implementation has to obey it, or the tokens of an
+/// edited text are wrong.
 ///
-/// Contracts see three things of a stepper: its grammar, a number that names the grammar, and how many steps were
+/// Contracts see three things of a stepper: its grammar, a number that names the grammar, and how many steps it has
 /// taken.
 pub trait Stepper {
-    /// The first token of the text.
+    /// Returns the first token of the text.
     fn step(&mut self, rest: &str) -> Token;
 
-    /// The first tokens of the text, written into the buffer: those that begin before `end`, or as many as it has room
-    /// for. Answers their number, and how many bytes they have. Each is a step.
+    /// Writes the first tokens of the text into the buffer: those that begin before `end`, or as many as there is
+    /// room for. Returns how many tokens it wrote, and how many bytes they take. Each token counts as a step.
     ///
-    /// One step after another gives them here. A stepper that finds many tokens at once has a body of its own.
+    /// This default takes one step after another. A stepper that can find many tokens at once has a body of its
+    /// own.
     fn fill<R: Record>(&mut self, text: &str, end: usize, buffer: &mut [R]) -> (usize, usize) {
         let mut written = 0;
         let mut at = 0;
@@ -34,7 +36,7 @@ pub trait Stepper {
     }
 }
 
-/// The steps of the lexer in an edition, where no frontmatter may stand.
+/// The stepper of this lexer in an edition. It allows no frontmatter.
 #[derive(Clone)]
 pub struct Steps {
     edition: Edition,
@@ -42,12 +44,12 @@ pub struct Steps {
 }
 
 impl Steps {
-    /// No step taken, in the edition of 2024.
+    /// Creates a stepper in the edition of 2024, which has taken no step.
     pub fn new() -> Steps {
         Steps::new_in(Edition::E2024)
     }
 
-    /// No step taken, in an edition.
+    /// Creates a stepper in an edition, which has taken no step.
     pub fn new_in(edition: Edition) -> Steps {
         Steps {
             edition,
@@ -55,7 +57,7 @@ impl Steps {
         }
     }
 
-    /// The edition of its tokens.
+    /// Returns the edition of its tokens.
     pub(crate) fn edition(&self) -> Edition {
         self.edition
     }

@@ -1,26 +1,26 @@
-//! A count that contracts alone see.
+//! A count that only contracts see.
 
 use core::marker::PhantomData;
 
-/// A number that contracts alone see. It has no bytes.
+/// A number that only contracts see. It takes no bytes.
 #[derive(Clone)]
 pub(crate) struct Tally {
     marker: PhantomData<()>,
 }
 
 impl Tally {
-    /// Nothing counted.
+    /// Creates a count of 0.
     pub(crate) fn new() -> Tally {
         Tally {
             marker: PhantomData,
         }
     }
 
-    /// Counts one more.
+    /// Adds one to the count.
     pub(crate) fn tick(&mut self) {
         self.tick_by(1);
     }
 
-    /// Counts so many more.
+    /// Adds this many to the count.
     pub(crate) fn tick_by(&mut self, _more: usize) {}
 }

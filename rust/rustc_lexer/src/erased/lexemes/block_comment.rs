@@ -3,7 +3,7 @@
 use crate::erased::scan::{eat_until_either, first, second, split_first, strip};
 use crate::erased::token::{DocStyle, TokenKind};
 
-/// A block comment. `body` is what follows its `/*`.
+/// Lexes a block comment. Returns its kind, and the text after it. `body` is the text after its `/*`.
 #[inline(always)]
 pub(crate) fn block_comment(body: &str) -> (TokenKind, &str) {
     let doc_style = block_doc_style(body);
@@ -17,7 +17,7 @@ pub(crate) fn block_comment(body: &str) -> (TokenKind, &str) {
     )
 }
 
-/// The style of the block comment with this body.
+/// Returns the doc style of the block comment with this body.
 #[inline(always)]
 fn block_doc_style(body: &str) -> Option<DocStyle> {
     match first(body) {
@@ -34,8 +34,8 @@ fn block_doc_style(body: &str) -> Option<DocStyle> {
     }
 }
 
-/// Whether something closes the comment whose opening mark stands before `body`, and what follows that: nothing,
-/// where nothing does.
+/// Returns whether the comment is closed, and the text after it, which is empty if nothing closes the comment.
+/// `body` is the text after its `/*`.
 fn past_comment(body: &str) -> (bool, &str) {
     let mut depth = 1usize;
     let mut rest = body;

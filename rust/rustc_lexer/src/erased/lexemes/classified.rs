@@ -1,4 +1,4 @@
-//! The commonest tokens, classified by their first byte and the ends of runs.
+//! The most common tokens, classified by their first byte and the ends of runs.
 
 use crate::erased::kernels::ends_of_runs;
 use crate::erased::token::TokenKind::{
@@ -8,8 +8,9 @@ use crate::erased::token::TokenKind::{
 };
 use crate::erased::token::{Token, TokenKind};
 
-/// What the first byte of a text says of its token, where its run and the byte past that tell all of it: else
-/// `Eof`. A look in a table costs less than a choice: which byte comes next is hard to foresee.
+/// The kind of the token that begins with a byte, if the token's run and the byte past the run determine all of it.
+/// Otherwise the entry is `Eof`. A look in a table costs less than a branch, since the next byte is hard to
+/// predict.
 static CLASSIFIED: [TokenKind; 256] = [
     Unknown, Unknown, Unknown, Unknown, Unknown, Unknown, Unknown, Unknown, Unknown, Whitespace,
     Whitespace, Whitespace, Whitespace, Whitespace, Unknown, Unknown, Unknown, Unknown, Unknown,
@@ -31,19 +32,19 @@ static CLASSIFIED: [TokenKind; 256] = [
     Eof, Eof, Eof, Eof, Eof,
 ];
 
-/// Whether a token that begins with the byte may be classified by the ends of runs.
+/// Returns whether the ends of runs may classify a token that begins with the byte.
 #[inline(always)]
 pub(crate) fn is_classified(first: u8) -> bool {
     !matches!(classified_by(first), TokenKind::Eof)
 }
 
-/// What the byte says of the token that begins with it.
+/// Returns the table's kind for a token that begins with the byte.
 #[inline(always)]
 fn classified_by(first: u8) -> TokenKind {
     CLASSIFIED[first as usize]
 }
 
-/// What a character is by itself that no longer token begins with.
+/// Returns the kind of a character with which no longer token begins.
 #[inline(always)]
 pub(crate) fn symbol_kind(c: char) -> TokenKind {
     let code = c as usize;
@@ -54,7 +55,7 @@ pub(crate) fn symbol_kind(c: char) -> TokenKind {
     }
 }
 
-/// The ends of runs that are known, or else those of the first 64 bytes.
+/// Returns the ends of runs that are known, or else those of the first 64 bytes.
 #[inline(always)]
 pub(crate) fn ends_for(text: &str, ends: u64) -> u64 {
     if ends != 0 {
@@ -64,7 +65,7 @@ pub(crate) fn ends_for(text: &str, ends: u64) -> u64 {
     }
 }
 
-/// The ends of runs that are known before a place.
+/// Returns the known ends of runs before a place.
 #[inline(always)]
 pub(crate) fn ends_before(ends: u64, place: usize) -> u64 {
     if place < 64 {
@@ -74,26 +75,26 @@ pub(crate) fn ends_before(ends: u64, place: usize) -> u64 {
     }
 }
 
-/// The ends of runs past the lowest.
+/// Returns the ends of runs without the lowest one.
 #[inline(always)]
 pub(crate) fn past_lowest(ends: u64) -> u64 {
     ends & (ends - 1)
 }
 
-/// The ends of runs that are known past so many bytes.
+/// Returns the known ends of runs past the next `len` bytes.
 #[inline(always)]
 pub(crate) fn ends_left(ends: u64, len: u32) -> u64 {
     if len < 64 { ends_past(ends, len) } else { 0 }
 }
 
-/// The ends of runs past so many bytes.
+/// Returns the ends of runs past the next `len` bytes.
 #[inline(always)]
 fn ends_past(ends: u64, len: u32) -> u64 {
     (ends >> len) & !1
 }
 
-/// The token that begins with the byte, where the ends of runs tell it, and so how many bytes it has. It has no fields,
-/// and each edition has it.
+/// Returns the token that begins with the byte and is `len` bytes long, as the ends of runs determine. It has no
+/// fields, and is the same in each edition.
 #[inline(always)]
 pub(crate) fn classified(first: u8, len: u32) -> Token {
     Token {
@@ -102,8 +103,8 @@ pub(crate) fn classified(first: u8, len: u32) -> Token {
     }
 }
 
-/// Whether the token that begins with the byte `first`, and whose run the byte `next` follows, may be another or go
-/// on.
+/// Returns whether the byte `next` after the run may change the token that begins with the byte `first`, or
+/// continue it.
 #[inline(always)]
 pub(crate) fn turns(first: u8, next: u8) -> bool {
     is_mark(next)
@@ -114,7 +115,7 @@ pub(crate) fn turns(first: u8, next: u8) -> bool {
         }
 }
 
-/// Whether a word that the byte follows may be no identifier.
+/// Returns whether a word that the byte follows may be something other than an identifier.
 #[inline(always)]
 fn is_mark(next: u8) -> bool {
     next >= 128 || matches!(next, b'#' | b'"' | b'\'')

@@ -4,7 +4,8 @@ use crate::erased::lexemes::block_comment::block_comment;
 use crate::erased::scan::{eat_until, first, second, strip};
 use crate::erased::token::{DocStyle, TokenKind};
 
-/// What begins with a slash. `rest` is what follows that.
+/// Lexes a token that begins with a slash. Returns its kind, and the text after it. `rest` is the text after the
+/// slash.
 #[inline(always)]
 pub(crate) fn slash(rest: &str) -> (TokenKind, &str) {
     if let Some(body) = strip(rest, '/') {
@@ -16,7 +17,7 @@ pub(crate) fn slash(rest: &str) -> (TokenKind, &str) {
     }
 }
 
-/// A line comment. `body` is what follows its `//`.
+/// Lexes a line comment. Returns its kind, and the text after it. `body` is the text after its `//`.
 #[inline(always)]
 fn line_comment(body: &str) -> (TokenKind, &str) {
     let doc_style = line_doc_style(body);
@@ -24,7 +25,7 @@ fn line_comment(body: &str) -> (TokenKind, &str) {
     (TokenKind::LineComment { doc_style }, rest)
 }
 
-/// The style of the line comment with this body.
+/// Returns the doc style of the line comment with this body.
 #[inline(always)]
 fn line_doc_style(body: &str) -> Option<DocStyle> {
     match first(body) {

@@ -1,4 +1,4 @@
-//! The families of tokens: the first character of a token chooses one.
+//! Families of tokens. The first character of a token chooses its family.
 
 use crate::erased::classes::emoji::is_emoji;
 use crate::erased::classes::is_whitespace;
@@ -6,22 +6,22 @@ use crate::erased::lexemes::family::Family::{
     Hash, Number, Quote, Slash, Space, Str, Symbol, Word,
 };
 
-/// What the first character of a token says of it.
+/// A family of tokens, which the first character of a token chooses.
 #[derive(Clone, Copy)]
 pub(crate) enum Family {
-    /// A comment, or a slash.
+    /// A comment or a slash.
     Slash,
     /// White space.
     Space,
-    /// An identifier, or a literal that a letter marks.
+    /// An identifier, or a literal with a letter in front.
     Word,
     /// A number.
     Number,
-    /// A character or a lifetime.
+    /// A character literal or a lifetime.
     Quote,
     /// A string.
     Str,
-    /// What would be an identifier but for an emoji at its front.
+    /// A word that would be an identifier without the emoji at its front.
     Emoji,
     /// A hash, or the prefix of a guarded string.
     Hash,
@@ -43,7 +43,7 @@ static FAMILIES: [Family; 128] = [
     Word, Word, Word, Symbol, Symbol, Symbol, Symbol, Symbol,
 ];
 
-/// The family that the character chooses.
+/// Returns the family that the character chooses.
 #[inline(always)]
 pub(crate) fn family_of(first: char) -> Family {
     let code = first as usize;
@@ -54,7 +54,7 @@ pub(crate) fn family_of(first: char) -> Family {
     }
 }
 
-/// The family that a byte of ASCII chooses, and none for a byte from 128 up.
+/// Returns the family that a byte of ASCII chooses, or `None` for a byte from 128 up.
 #[inline(always)]
 pub(crate) fn family_of_byte(first: u8) -> Option<Family> {
     if first < 128 {
@@ -64,7 +64,7 @@ pub(crate) fn family_of_byte(first: u8) -> Option<Family> {
     }
 }
 
-/// The family that a character chooses which is not in ASCII.
+/// Returns the family that a character outside ASCII chooses.
 fn family_past_ascii(first: char) -> Family {
     if unicode_ident::is_xid_start(first) {
         Word

@@ -1,4 +1,4 @@
-//! Identifiers, with what may stand before and after them.
+//! Identifiers, and the marks that may come before and after them.
 
 use crate::erased::classes::emoji::is_emoji;
 use crate::erased::classes::{is_id_continue, is_id_start};
@@ -6,8 +6,8 @@ use crate::erased::kernels::ends_word;
 use crate::erased::scan::{eat_continue, eat_while, next_is, split_first, strip};
 use crate::erased::token::TokenKind;
 
-/// An identifier, or what is none for an emoji in it or a mark right after it. `tail` is what follows its
-/// first character.
+/// Lexes an identifier, or a word that is not one because of an emoji in it or a mark right after it. Returns its
+/// kind, and the text after it. `tail` is the text after its first character.
 #[inline(always)]
 pub(crate) fn ident_or_unknown_prefix(tail: &str) -> (TokenKind, &str) {
     let rest = eat_continue(tail);
@@ -24,12 +24,13 @@ pub(crate) fn ident_or_unknown_prefix(tail: &str) -> (TokenKind, &str) {
     }
 }
 
-/// What would be an identifier but for an emoji. `tail` is what follows that.
+/// Lexes a word that would be an identifier without an emoji in it. Returns its kind, and the text after it. `tail`
+/// is the text after that emoji.
 pub(crate) fn invalid_ident(tail: &str) -> (TokenKind, &str) {
     (TokenKind::InvalidIdent, eat_while(tail, is_word))
 }
 
-/// What a hash and an identifier leave, if these stand here.
+/// Returns the text after a hash and an identifier, or `None` if these are not at the front.
 #[inline(always)]
 pub(crate) fn eat_marked(tail: &str) -> Option<&str> {
     let (first, word) = split_first(strip(tail, '#')?)?;
@@ -39,8 +40,8 @@ pub(crate) fn eat_marked(tail: &str) -> Option<&str> {
     Some(eat_continue(word))
 }
 
-/// Whether the text is an identifier: not empty, with a character at its front that an identifier may begin with,
-/// and no others than those that it may go on with. [`is_id_start`] and [`is_id_continue`] tell by which tables.
+/// Returns whether the text is an identifier. It is one if it is not empty, an identifier may begin with its first
+/// character, and may continue with all others. [`is_id_start`] and [`is_id_continue`] say by which tables.
 ///
 /// Rust Reference, [Identifiers](https://doc.rust-lang.org/reference/identifiers.html).
 pub fn is_ident(string: &str) -> bool {
@@ -50,12 +51,12 @@ pub fn is_ident(string: &str) -> bool {
     }
 }
 
-/// What an identifier or the name of a lifetime goes on with, right or wrong.
+/// Returns whether an identifier or the name of a lifetime, right or wrong, continues with the character.
 pub(crate) fn is_word(c: char) -> bool {
     is_id_continue(c) || is_emoji(c)
 }
 
-/// Whether an identifier right before the character is a prefix.
+/// Returns whether an identifier right before the character is a prefix.
 fn is_prefix_mark(c: char) -> bool {
     matches!(c, '#' | '"' | '\'')
 }

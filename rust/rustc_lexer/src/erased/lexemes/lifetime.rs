@@ -1,4 +1,4 @@
-//! What begins with a single quote: characters and lifetimes.
+//! Tokens that begin with a single quote: character literals and lifetimes.
 
 use crate::erased::classes::emoji::is_emoji;
 use crate::erased::classes::is_id_start;
@@ -8,7 +8,8 @@ use crate::erased::lexemes::quoted::{QuotedPrefix, quoted_literal};
 use crate::erased::scan::{eat_continue, eat_while, split_first, strip};
 use crate::erased::token::{LiteralKind, TokenKind};
 
-/// What begins with a single quote. `tail` is what follows that.
+/// Lexes a token that begins with a single quote. Returns its kind, and the text after it. `tail` is the text after
+/// the quote.
 #[inline(always)]
 pub(crate) fn lifetime_or_char(tail: &str) -> (TokenKind, &str) {
     if let Some(left) = past_short_char(tail) {
@@ -25,9 +26,10 @@ pub(crate) fn lifetime_or_char(tail: &str) -> (TokenKind, &str) {
     }
 }
 
-/// What follows the closing quote, where that stands right behind a character of ASCII, or behind a backslash and one.
+/// Returns the text after the closing quote if that comes right after one character of ASCII, or after a backslash
+/// and one such character.
 ///
-/// Which of the two it is costs no branch: it is hard to foresee.
+/// There is no branch on which of the two it is, which is hard to predict.
 #[inline(always)]
 fn past_short_char(tail: &str) -> Option<&str> {
     let bytes = tail.as_bytes();
@@ -42,17 +44,18 @@ fn past_short_char(tail: &str) -> Option<&str> {
     }
 }
 
-/// Whether a quote, `first` and `rest` begin a character, and no lifetime.
+/// Returns whether a quote, `first` and `rest` begin a character literal, not a lifetime.
 fn is_character(first: char, rest: &str) -> bool {
     strip(rest, '\'').is_some() || !is_name_start(first)
 }
 
-/// Whether the name of a lifetime may begin with the character; a digit and an emoji are let through.
+/// Returns whether the name of a lifetime may begin with the character. Digits and emoji pass the test.
 fn is_name_start(c: char) -> bool {
     is_id_start(c) || c.is_ascii_digit() || is_emoji(c)
 }
 
-/// What a name is, and what it leaves. It begins with `first`, and `rest` is what follows that.
+/// Lexes a quote and the name after it. Returns the kind of the token, and the text after it. The name begins with
+/// `first`, and `rest` is the text after that.
 #[inline(always)]
 fn lifetime(first: char, rest: &str) -> (TokenKind, &str) {
     if first == 'r' {
@@ -63,7 +66,8 @@ fn lifetime(first: char, rest: &str) -> (TokenKind, &str) {
     plain_lifetime(first, rest)
 }
 
-/// What a name is where no raw lifetime stands. A quote that follows the name makes a character of it.
+/// Lexes a quote and the name after it, which is not a raw lifetime. A quote right after the name makes it a
+/// character literal.
 #[inline(always)]
 fn plain_lifetime(first: char, rest: &str) -> (TokenKind, &str) {
     let past_plain = eat_continue(rest);
@@ -78,7 +82,7 @@ fn plain_lifetime(first: char, rest: &str) -> (TokenKind, &str) {
     (lifetime_kind(first, holds_emoji, past_name), past_name)
 }
 
-/// What a name is that no quote follows. It begins with `first`, and `rest` is what follows it.
+/// Returns the kind of a name that no quote follows. It begins with `first`, and `rest` is the text after the name.
 #[inline(always)]
 fn lifetime_kind(first: char, holds_emoji: bool, rest: &str) -> TokenKind {
     if strip(rest, '#').is_some() && !first.is_ascii_digit() {

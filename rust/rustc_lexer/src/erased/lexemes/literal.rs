@@ -1,10 +1,10 @@
-//! What every literal has: where its suffix begins, and the suffix.
+//! The suffix of a literal, and the place where it begins.
 
 use crate::erased::classes::is_id_start;
 use crate::erased::scan::{eat_continue, split_first};
 use crate::erased::token::{LiteralKind, TokenKind};
 
-/// What a suffix leaves of the text, if one stands here.
+/// Returns the text after the suffix, if there is one at the front, or else the whole text.
 #[inline(always)]
 pub(crate) fn eat_literal_suffix(rest: &str) -> &str {
     let Some((first, tail)) = split_first(rest) else {
@@ -16,8 +16,8 @@ pub(crate) fn eat_literal_suffix(rest: &str) -> &str {
     eat_continue(tail)
 }
 
-/// The kind of a literal whose body is all of `tail` up to `rest`, where `tail` is what follows its first
-/// character, of one byte.
+/// Returns the kind of a literal. Its body is `tail` up to `rest`, and `tail` is the text after its first
+/// character, which is one byte long.
 #[inline(always)]
 pub(crate) fn literal(kind: LiteralKind, tail: &str, rest: &str) -> TokenKind {
     TokenKind::Literal {

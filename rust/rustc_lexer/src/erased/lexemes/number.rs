@@ -5,10 +5,11 @@ use crate::erased::lexemes::literal::{eat_literal_suffix, literal};
 use crate::erased::scan::{eat_decimal, eat_hexadecimal, eat_while, first, split_first};
 use crate::erased::token::{Base, LiteralKind, TokenKind};
 
-/// A number with its suffix. `first_digit` is its first character, and `tail` what follows that.
+/// Lexes a number with its suffix. Returns its kind, and the text after it. `first_digit` is its first character,
+/// and `tail` is the text after that.
 ///
-/// Its text, up to the suffix, is the longest at the front that the grammar of numbers has. There a
-/// dot that no digit follows is part of a number only where neither a dot nor a name is next.
+/// Up to the suffix, it is the longest number at the front that the grammar of numbers has. In that grammar a dot
+/// without a digit after it is part of a number only if neither a dot nor a name is next.
 ///
 /// Rust Reference, [Number literals](https://doc.rust-lang.org/reference/tokens.html#number-literals).
 #[inline(always)]
@@ -17,7 +18,7 @@ pub(crate) fn number(first_digit: char, tail: &str) -> (TokenKind, &str) {
     (literal(kind, tail, rest), eat_literal_suffix(rest))
 }
 
-/// What the number is, and the text from its suffix on.
+/// Returns the kind of the number, and the text from its suffix on.
 #[inline(always)]
 fn number_kind(first_digit: char, tail: &str) -> (LiteralKind, &str) {
     let (base, empty_int, rest) = front(first_digit, tail);
@@ -27,8 +28,8 @@ fn number_kind(first_digit: char, tail: &str) -> (LiteralKind, &str) {
     past_digits(base, rest)
 }
 
-/// The base, whether it has a prefix with no digit after it, and what follows the digits up to a point or an
-/// exponent.
+/// Returns the base, whether the number has a prefix without a digit after it, and the text after its digits up to
+/// a point or an exponent.
 #[inline(always)]
 fn front(first_digit: char, tail: &str) -> (Base, bool, &str) {
     if first_digit == '0' {
@@ -38,7 +39,8 @@ fn front(first_digit: char, tail: &str) -> (Base, bool, &str) {
     }
 }
 
-/// The base of a number whose first digit is 0, whether its prefix has no digit after it, and what follows the digits.
+/// Returns the base of a number whose first digit is 0, whether its prefix has no digit after it, and the text
+/// after its digits.
 #[inline(always)]
 fn front_past_zero(tail: &str) -> (Base, bool, &str) {
     let Some((letter, digits)) = split_first(tail) else {
@@ -58,7 +60,8 @@ fn front_past_zero(tail: &str) -> (Base, bool, &str) {
     }
 }
 
-/// What a number of this base is, by what follows its front: a fraction, an exponent or neither.
+/// Returns the kind of a number of this base, and the text after it. The text after its front makes it a number
+/// with a fraction, with an exponent or with neither.
 #[inline(always)]
 fn past_digits(base: Base, rest: &str) -> (LiteralKind, &str) {
     let int = LiteralKind::Int {
@@ -81,12 +84,13 @@ fn past_digits(base: Base, rest: &str) -> (LiteralKind, &str) {
     }
 }
 
-/// Whether a dot before this character is no part of a number, as in `1..2` and `1.max(2)`.
+/// Returns whether a dot before this character is not part of a number, like in `1..2` and `1.max(2)`.
 fn is_no_fraction(c: char) -> bool {
     c == '.' || is_id_start(c)
 }
 
-/// The float whose fraction this is. `rest` is what follows its dot.
+/// Lexes the fraction of a float. Returns the kind of the float, and the text after it. `rest` is the text after
+/// its dot.
 #[inline(always)]
 fn fraction(base: Base, rest: &str) -> (LiteralKind, &str) {
     if first(rest).is_ascii_digit() {
@@ -96,7 +100,7 @@ fn fraction(base: Base, rest: &str) -> (LiteralKind, &str) {
     }
 }
 
-/// The float with the exponent that stands here, if one does.
+/// Lexes the exponent of a float, if there is one. Returns the kind of the float, and the text after it.
 #[inline(always)]
 fn optional_exponent(base: Base, rest: &str) -> (LiteralKind, &str) {
     let Some((letter, tail)) = split_first(rest) else {
@@ -109,7 +113,7 @@ fn optional_exponent(base: Base, rest: &str) -> (LiteralKind, &str) {
     }
 }
 
-/// A float whose exponent, if it has one, has digits.
+/// Returns the kind of a float whose exponent has digits, or that has no exponent.
 #[inline(always)]
 fn full_float(base: Base) -> LiteralKind {
     LiteralKind::Float {
@@ -122,7 +126,8 @@ fn is_exponent_letter(c: char) -> bool {
     c == 'e' || c == 'E'
 }
 
-/// The float with this exponent. `rest` is what follows the letter of it.
+/// Lexes the exponent of a float. Returns the kind of the float, and the text after it. `rest` is the text after
+/// the exponent's letter.
 #[inline(always)]
 fn eat_float_exponent(base: Base, rest: &str) -> (LiteralKind, &str) {
     let Some((sign, tail)) = split_first(rest) else {
@@ -139,7 +144,7 @@ fn is_sign(c: char) -> bool {
     c == '+' || c == '-'
 }
 
-/// The float whose exponent has these digits.
+/// Lexes the digits of an exponent. Returns the kind of the float, and the text after it.
 #[inline(always)]
 fn past_sign(base: Base, rest: &str) -> (LiteralKind, &str) {
     let (has_digit, rest) = eat_decimal_digits(rest);
@@ -151,14 +156,15 @@ fn past_sign(base: Base, rest: &str) -> (LiteralKind, &str) {
     (float, rest)
 }
 
-/// Whether a digit stands in the run of digits and underscores at the front, and what follows that run.
+/// Returns whether the run of digits and underscores at the front has a digit, and the text after that run.
 fn eat_decimal_digits(rest: &str) -> (bool, &str) {
     let digits = eat_while(rest, is_underscore);
     let has_digit = first(digits).is_ascii_digit();
     (has_digit, eat_decimal(digits))
 }
 
-/// Whether a digit stands in the run of hexadecimal digits and underscores at the front, and what follows that run.
+/// Returns whether the run of hexadecimal digits and underscores at the front has a digit, and the text after that
+/// run.
 fn eat_hexadecimal_digits(rest: &str) -> (bool, &str) {
     let digits = eat_while(rest, is_underscore);
     let has_digit = first(digits).is_ascii_hexdigit();

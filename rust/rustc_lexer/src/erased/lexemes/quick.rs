@@ -1,12 +1,12 @@
-//! The commonest tokens, told by their bytes: identifiers, white space, hashes and symbols.
+//! The most common tokens, found by their bytes alone: identifiers, white space, hashes and symbols.
 
 use crate::erased::kernels::{Continue, Space, ends_space, ends_word, run_end, short_run_end};
 use crate::erased::lexemes::classified::symbol_kind;
 use crate::erased::lexemes::family::{Family, family_of_byte};
 use crate::erased::token::{Token, TokenKind};
 
-/// The token at the front of the text, where the bytes of one run and the byte after it tell what it is. A hash and
-/// the byte after it always do.
+/// Returns the first token of the text if the bytes of one run and the byte after it determine its kind. For a hash
+/// they always do.
 #[inline(always)]
 pub(crate) fn quick_token(text: &str) -> Option<Token> {
     let (first, rest) = text.as_bytes().split_first()?;
@@ -54,7 +54,7 @@ pub(crate) fn quick_token(text: &str) -> Option<Token> {
     }
 }
 
-/// Whether a quote or a hash stands in front.
+/// Returns whether a quote or a hash is at the front.
 #[inline(always)]
 fn begins_guarded(bytes: &[u8]) -> bool {
     !bytes.is_empty() && matches!(bytes[0], b'"' | b'#')

@@ -1,11 +1,11 @@
-//! Quoted text: strings and characters.
+//! Text in quotes: strings and characters.
 
 use crate::erased::lexemes::literal::{eat_literal_suffix, literal};
 use crate::erased::scan::{eat_until_either, split_first, strip};
 use crate::erased::token::{LiteralKind, TokenKind};
 
-/// Whether a double quote closes the text, and what follows that. `body` is what follows the opening quote.
-/// Without a closing quote all of it is taken.
+/// Returns whether a double quote closes the text, and the text after that quote. `body` is the text after the
+/// opening quote. If no quote closes it, it takes the whole body.
 pub(crate) fn double_quoted_string(body: &str) -> (bool, &str) {
     let mut rest = body;
     loop {
@@ -23,8 +23,8 @@ pub(crate) fn double_quoted_string(body: &str) -> (bool, &str) {
     }
 }
 
-/// Whether a single quote closes the text, and what follows that. `body` is what follows the opening quote.
-/// A slash, or a newline that no quote follows, stops a text that is not closed, and is not taken.
+/// Returns whether a single quote closes the text, and the text after that quote. `body` is the text after the
+/// opening quote. If no quote closes it, it stops before a slash, and before a newline that no quote follows.
 pub(crate) fn single_quoted_string(body: &str) -> (bool, &str) {
     if let Some(rest) = strip_lone(body) {
         return (true, rest);
@@ -46,7 +46,7 @@ pub(crate) fn single_quoted_string(body: &str) -> (bool, &str) {
     (false, rest)
 }
 
-/// What follows one character and a quote, if these are at the front. The character is no backslash.
+/// Returns the text after one character and a quote, if these are at the front. The character is not a backslash.
 fn strip_lone(body: &str) -> Option<&str> {
     let (first, tail) = split_first(body)?;
     if first == '\\' {
@@ -55,12 +55,12 @@ fn strip_lone(body: &str) -> Option<&str> {
     strip(tail, '\'')
 }
 
-/// Whether `c`, which is no quote, stops a single-quoted text before `tail`.
+/// Returns whether `c`, which is not a quote, stops a single-quoted text before `tail`.
 fn stops_open(c: char, tail: &str) -> bool {
     c == '/' || (c == '\n' && strip(tail, '\'').is_none())
 }
 
-/// What a literal in quotes begins with.
+/// The characters with which a literal in quotes begins.
 #[derive(Clone, Copy)]
 pub(crate) enum QuotedPrefix {
     /// `'`
@@ -75,7 +75,8 @@ pub(crate) enum QuotedPrefix {
     CDouble,
 }
 
-/// A literal in quotes, and what it leaves. `tail` is what follows the first character of its prefix.
+/// Lexes a literal in quotes. Returns its kind, and the text after it. `tail` is the text after the first character
+/// of its prefix.
 #[inline(always)]
 pub(crate) fn quoted_literal(prefix: QuotedPrefix, tail: &str) -> (TokenKind, &str) {
     let (terminated, rest) = quoted_string(prefix, tail);
@@ -88,8 +89,8 @@ pub(crate) fn quoted_literal(prefix: QuotedPrefix, tail: &str) -> (TokenKind, &s
     }
 }
 
-/// Whether a quote closes the literal, and what follows its body. `tail` is what follows the first character of its
-/// prefix.
+/// Returns whether a quote closes the literal, and the text after its body. `tail` is the text after the first
+/// character of its prefix.
 #[inline(always)]
 fn quoted_string(prefix: QuotedPrefix, tail: &str) -> (bool, &str) {
     match prefix {
@@ -100,7 +101,7 @@ fn quoted_string(prefix: QuotedPrefix, tail: &str) -> (bool, &str) {
     }
 }
 
-/// What follows the first character, if there is one.
+/// Returns the text after its first character, if there is one.
 #[inline(always)]
 fn past_first(text: &str) -> &str {
     match split_first(text) {
@@ -109,7 +110,7 @@ fn past_first(text: &str) -> &str {
     }
 }
 
-/// The kind of the literal with this prefix.
+/// Returns the kind of the literal with this prefix.
 #[inline(always)]
 fn literal_kind(prefix: QuotedPrefix, terminated: bool) -> LiteralKind {
     match prefix {

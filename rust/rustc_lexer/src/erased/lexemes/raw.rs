@@ -5,7 +5,7 @@ use crate::erased::lexemes::literal::eat_literal_suffix;
 use crate::erased::scan::{eat_until, eat_while, split_first, strip};
 use crate::erased::token::{LiteralKind, RawStrError, TokenKind};
 
-/// What a raw string begins with, as a token.
+/// The prefix of a raw string that is a token.
 #[derive(Clone, Copy)]
 pub(crate) enum RawPrefix {
     /// `r`
@@ -16,7 +16,8 @@ pub(crate) enum RawPrefix {
     Cr,
 }
 
-/// The token of a raw string. `rest` is what follows its prefix, and `opening` is its [`short_opening`].
+/// Lexes a raw string. Returns its kind, and the text after it. `rest` is the text after its prefix, and `opening`
+/// is the [`short_opening`] of `rest`.
 #[inline(always)]
 pub(crate) fn raw_literal<'a>(
     prefix: RawPrefix,
@@ -40,7 +41,7 @@ pub(crate) fn raw_literal<'a>(
     }
 }
 
-/// The length of the prefix in bytes.
+/// Returns the length of the prefix in bytes.
 #[inline(always)]
 fn prefix_len(prefix: RawPrefix) -> u32 {
     match prefix {
@@ -49,7 +50,7 @@ fn prefix_len(prefix: RawPrefix) -> u32 {
     }
 }
 
-/// The kind of the raw string with this prefix.
+/// Returns the kind of the raw string with this prefix.
 #[inline(always)]
 fn literal_kind(prefix: RawPrefix, n_hashes: Option<u8>) -> LiteralKind {
     match prefix {
@@ -59,10 +60,10 @@ fn literal_kind(prefix: RawPrefix, n_hashes: Option<u8>) -> LiteralKind {
     }
 }
 
-/// The number of hashes on each side of a raw string, or why it is refused; and what it leaves of `rest`,
-/// which follows its prefix. An offset is in bytes, and counts `prefix_len` for the prefix.
+/// Returns the number of hashes on each side of a raw string, or why it is refused; and the text after it. `rest`
+/// is the text after its prefix. An offset is in bytes, and counts `prefix_len` for the prefix.
 ///
-/// `opening` is the [`short_opening`] of `rest`, which the caller may have looked at before.
+/// `opening` is the [`short_opening`] of `rest`, which the caller may have read already.
 #[inline(always)]
 pub(crate) fn raw_double_quoted_string<'a>(
     rest: &'a str,
@@ -78,7 +79,7 @@ pub(crate) fn raw_double_quoted_string<'a>(
     any_raw_string(rest, prefix_len)
 }
 
-/// What [`raw_double_quoted_string`] answers, whatever the opening is.
+/// Returns what [`raw_double_quoted_string`] returns, for any opening.
 #[inline(never)]
 fn any_raw_string(rest: &str, prefix_len: u32) -> (Result<u8, RawStrError>, &str) {
     let from_starter = eat_while(rest, |c| c == '#');
@@ -95,9 +96,10 @@ fn any_raw_string(rest: &str, prefix_len: u32) -> (Result<u8, RawStrError>, &str
     raw_text(text, n_hashes, prefix_len + n_hashes + 1)
 }
 
-/// How many hashes stand before the opening quote, where that is none or one, and what follows the quote.
+/// Returns how many hashes come before the opening quote, and the text after the quote. Returns `None` unless it is
+/// no hash or one.
 ///
-/// Which of the two it is costs no branch: it is hard to foresee.
+/// There is no branch on which of the two it is, which is hard to predict.
 #[inline(always)]
 pub(crate) fn short_opening(rest: &str) -> Option<(u32, &str)> {
     let bytes = rest.as_bytes();
@@ -113,16 +115,17 @@ pub(crate) fn short_opening(rest: &str) -> Option<(u32, &str)> {
     }
 }
 
-/// What the raw string leaves of `text`, where it closes within 64 bytes. Before its opening quote stand `n_hashes`
-/// hashes, none or one.
+/// Returns the text after the raw string if it closes within 64 bytes. Before its opening quote come `n_hashes`
+/// hashes, none or one, and `text` is the text after that quote.
 #[inline(always)]
 fn past_close(text: &str, n_hashes: u32) -> Option<&str> {
     let place = find_close(n_hashes, text.as_bytes())?;
     Some(&text[place + 1 + n_hashes as usize..])
 }
 
-/// How the raw string goes on past its opening quote, before which `n_hashes` hashes stand; and what it leaves of
-/// `text`. An offset counts `before` bytes for what stands before `text`.
+/// Reads a raw string from its opening quote on, before which there are `n_hashes` hashes. Returns the number of
+/// hashes, or why the string is refused; and the text after it. An offset counts `before` bytes for all that comes
+/// before `text`.
 #[inline(never)]
 fn raw_text(text: &str, n_hashes: u32, before: u32) -> (Result<u8, RawStrError>, &str) {
     let mut found = 0;
@@ -148,7 +151,7 @@ fn raw_text(text: &str, n_hashes: u32, before: u32) -> (Result<u8, RawStrError>,
     (Err(error), "")
 }
 
-/// What follows the first quote of the text. A quote that stands right here needs no search.
+/// Returns the text after its first quote. A quote at the very front needs no search.
 #[inline(always)]
 fn past_quote(rest: &str) -> Option<&str> {
     if let Some(tail) = strip(rest, '"') {
@@ -157,7 +160,7 @@ fn past_quote(rest: &str) -> Option<&str> {
     strip(eat_until(rest, b'"'), '"')
 }
 
-/// The number of hashes, or that there are too many.
+/// Returns the number of hashes, or the error that there are too many.
 fn hash_count(n_hashes: u32) -> Result<u8, RawStrError> {
     if n_hashes <= 255 {
         Ok(n_hashes as u8)

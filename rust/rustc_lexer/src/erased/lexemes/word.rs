@@ -1,4 +1,4 @@
-//! What begins with a letter: identifiers, and the literals that a letter marks.
+//! Tokens that begin with a letter: identifiers, and literals with a letter in front.
 
 use crate::erased::lexemes::ident::{eat_marked, ident_or_unknown_prefix};
 use crate::erased::lexemes::quoted::{QuotedPrefix, quoted_literal};
@@ -6,7 +6,8 @@ use crate::erased::lexemes::raw::{RawPrefix, raw_literal, short_opening};
 use crate::erased::scan::{next_is, strip};
 use crate::erased::token::TokenKind;
 
-/// What begins with `first`. `tail` is what follows that.
+/// Lexes a token that begins with `first`. Returns its kind, and the text after it. `tail` is the text after
+/// `first`.
 #[inline(always)]
 pub(crate) fn word(first: char, tail: &str) -> (TokenKind, &str) {
     match first {
@@ -18,7 +19,7 @@ pub(crate) fn word(first: char, tail: &str) -> (TokenKind, &str) {
     }
 }
 
-/// What begins with an `r`: a raw identifier, a raw string, or an identifier.
+/// Lexes a token that begins with `r`: a raw identifier, a raw string, or an identifier.
 #[inline(always)]
 fn letter_r(tail: &str) -> (TokenKind, &str) {
     if let Some(opening) = short_opening(tail) {
@@ -34,12 +35,12 @@ fn letter_r(tail: &str) -> (TokenKind, &str) {
     }
 }
 
-/// Whether a raw string goes on with the character after its prefix.
+/// Returns whether a raw string continues with the character after its prefix.
 fn is_raw_mark(c: char) -> bool {
     matches!(c, '#' | '"')
 }
 
-/// What begins with a `k`: a forced keyword, or an identifier.
+/// Lexes a token that begins with `k`: a forced keyword, or an identifier.
 #[inline(always)]
 fn letter_k(tail: &str) -> (TokenKind, &str) {
     match eat_marked(tail) {
@@ -48,7 +49,7 @@ fn letter_k(tail: &str) -> (TokenKind, &str) {
     }
 }
 
-/// What begins with a `b`: a byte, a byte string, or an identifier.
+/// Lexes a token that begins with `b`: a byte, a byte string, or an identifier.
 #[inline(always)]
 fn letter_b(tail: &str) -> (TokenKind, &str) {
     if strip(tail, '\'').is_some() {
@@ -60,7 +61,7 @@ fn letter_b(tail: &str) -> (TokenKind, &str) {
     }
 }
 
-/// What begins with a `c`: a C string, or an identifier.
+/// Lexes a token that begins with `c`: a C string, or an identifier.
 #[inline(always)]
 fn letter_c(tail: &str) -> (TokenKind, &str) {
     if strip(tail, '"').is_some() {
@@ -70,7 +71,7 @@ fn letter_c(tail: &str) -> (TokenKind, &str) {
     }
 }
 
-/// A raw string whose prefix of two letters ends with the `r` that `tail` begins with, or an identifier.
+/// Lexes a raw string whose prefix of two letters ends with the `r` at the front of `tail`, or an identifier.
 #[inline(always)]
 fn raw_or_ident(prefix: RawPrefix, tail: &str) -> (TokenKind, &str) {
     let Some(rest) = strip(tail, 'r') else {

@@ -1,32 +1,32 @@
-//! Bounds that are remembered, so that a search begins near where it ends.
+//! Bounds that are remembered, so that a search begins near its target.
 
 use crate::erased::relex::front::{Bound, FIRST};
 
 /// How many bounds are remembered.
 const COUNT: usize = 64;
 
-/// Some bounds of a list of tokens, one for each of `COUNT` equal shares of its text.
+/// Some bounds of a list of tokens: one for each of `COUNT` equal shares of its text.
 #[derive(Clone, Copy)]
 pub(crate) struct Checkpoints {
     bounds: [Bound; COUNT],
 }
 
 impl Checkpoints {
-    /// The first bound alone, which each list has.
+    /// Creates checkpoints at the first bound alone, which each list has.
     pub(crate) fn new() -> Checkpoints {
         Checkpoints {
             bounds: [FIRST; COUNT],
         }
     }
 
-    /// Remembers the bound, in place of the one in the same share of a text of `len` bytes.
+    /// Remembers the bound, in place of the one for the same share of a text of `len` bytes.
     pub(crate) fn remember(&mut self, bound: Bound, len: usize) {
         let share = len / COUNT + 1;
         let index = (bound.place / share).min(COUNT - 1);
         self.bounds[index] = bound;
     }
 
-    /// The one that is nearest to `place`.
+    /// Returns the checkpoint that is nearest to `place`.
     pub(crate) fn nearest(&self, place: usize) -> Bound {
         let mut nearest = self.bounds[0];
         for bound in &self.bounds {
@@ -37,7 +37,7 @@ impl Checkpoints {
         nearest
     }
 
-    /// The last one that at most `number` tokens stand before, or the first bound of the list.
+    /// Returns the last checkpoint that has at most `number` tokens before it, or the first bound of the list.
     pub(crate) fn before_number(&self, number: usize) -> Bound {
         let mut last = FIRST;
         for bound in &self.bounds {
@@ -48,8 +48,8 @@ impl Checkpoints {
         last
     }
 
-    /// Where they are after an edit that keeps the tokens up to `kept`, and those from `met` on, which is then
-    /// `now`. One that stood between is `kept`.
+    /// Returns the checkpoints after an edit. The edit keeps the tokens up to `kept`, and those from `met` on,
+    /// which is then `now`. A checkpoint in between becomes `kept`.
     pub(crate) fn after(&self, kept: Bound, met: Bound, now: Bound) -> Checkpoints {
         let mut bounds = [kept; COUNT];
         for (i, bound) in self.bounds.iter().enumerate() {
@@ -59,7 +59,8 @@ impl Checkpoints {
     }
 }
 
-/// Where the bound is after an edit that keeps the tokens up to `kept`, and those from `met` on, which is then `now`.
+/// Returns the bound after an edit. The edit keeps the tokens up to `kept`, and those from `met` on, which is then
+/// `now`.
 fn move_bound(bound: Bound, kept: Bound, met: Bound, now: Bound) -> Bound {
     if bound.number <= kept.number {
         bound

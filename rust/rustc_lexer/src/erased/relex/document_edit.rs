@@ -1,4 +1,4 @@
-//! One edit of a document: the text that it makes, its head, and the tokens that it lexes for it.
+//! One edit of a document: the text that it makes, its head, and the tokens that it lexes.
 use crate::support::{String, Vec};
 
 use crate::erased::entry::stepper::Stepper;
@@ -11,8 +11,8 @@ use crate::erased::relex::replace::replace;
 use crate::erased::token::Token;
 use crate::support::{AllocError, Global};
 
-/// What an edit changes of the body, which began at `from` and now begins at `to`. Where the head stays that is the
-/// edit; else it is all up to where both texts are the same, and both bodies have begun.
+/// Returns what an edit changes in the body, which began at `from` and now begins at `to`. If the head stays, that
+/// is the edit itself. Otherwise it is everything up to where both texts are the same and both bodies have begun.
 fn body_change(kept: bool, from: usize, to: usize, edit: Change) -> Change {
     if kept {
         return Change {
@@ -31,17 +31,17 @@ fn body_change(kept: bool, from: usize, to: usize, edit: Change) -> Change {
     }
 }
 
-/// Whether the head stays: the edit, which begins at `start`, is behind it and leaves it the same.
+/// Returns whether the head stays: whether the edit, which begins at `start`, is behind it and leaves it the same.
 fn keeps_head(old: Head, now: Head, start: usize) -> bool {
     old.end <= start && old.is_same(now)
 }
 
-/// The head that is to be put in: none where the old one stays.
+/// Returns the head to put in, or `None` if the old one stays.
 fn new_head(kept: bool, now: Head) -> Option<Head> {
     if kept { None } else { Some(now) }
 }
 
-/// The counts of an edit that keeps the head, or does not, by those of its body.
+/// Returns the counts of an edit from the counts of its body. `kept` says whether the edit keeps the head.
 fn counted(kept: bool, old_count: usize, new_count: usize, body: Relexed) -> Relexed {
     if kept {
         Relexed {
@@ -58,9 +58,9 @@ fn counted(kept: bool, old_count: usize, new_count: usize, body: Relexed) -> Rel
     }
 }
 
-/// Puts what was lexed of the body in place of the old tokens of it, of which those up to `at.front` and those from
-/// `at.back` on stay; and the tokens of the head in place of the old ones, unless they stay. Where memory is refused
-/// nothing changes.
+/// Replaces the old tokens of the body with the lexed ones. Those up to `at.front` and those from `at.back` on
+/// stay. Also replaces the tokens of the head with the new ones, unless they stay. If memory is refused nothing
+/// changes.
 fn put_tokens(
     alloc: Global,
     tokens: &mut Vec<Token>,
@@ -83,8 +83,8 @@ fn put_tokens(
     }
 }
 
-/// Puts the tokens of the changed document in place of the old ones, and answers where lexing met those of the body.
-/// `old_count` is how many tokens the old head has, and `head` is the new one, unless the old one stays.
+/// Replaces the old tokens with those of the changed document, and returns where lexing met the old tokens of the
+/// body. `old_count` is how many tokens the old head has. `head` is the new head, unless the old one stays.
 fn renew_document<S: Stepper>(
     alloc: Global,
     stepper: &mut S,
@@ -107,7 +107,7 @@ fn renew_document<S: Stepper>(
     Ok(at)
 }
 
-/// Makes text, head and tokens those of the edited document. Where memory is refused all stay as they are.
+/// Makes the edit in text, head and tokens. If memory is refused all of them stay as they are.
 pub(crate) fn lex_document_edit<S: Stepper>(
     alloc: Global,
     stepper: &mut S,

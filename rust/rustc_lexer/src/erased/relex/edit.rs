@@ -1,4 +1,4 @@
-//! One edit: the text that it makes, and the tokens that it lexes for it.
+//! One edit: the text that it makes, and the tokens that it lexes.
 use crate::support::{String, Vec};
 
 use crate::erased::entry::stepper::Stepper;
@@ -10,26 +10,26 @@ use crate::erased::relex::replace::replace;
 use crate::erased::token::Token;
 use crate::support::{AllocError, Global};
 
-/// One edit, its insertion borrowed.
+/// One edit, which borrows its insertion.
 #[derive(Clone, Copy, Debug, PartialEq, Eq)]
 pub struct Edit<'a> {
-    /// Where the bytes begin that are taken out.
+    /// Where the bytes that are taken out begin.
     pub start: usize,
     /// Where they end.
     pub stop: usize,
-    /// What is put in their place.
+    /// The text that replaces them.
     pub insert: &'a str,
 }
 
-/// Puts `insert` in place of the bytes from `start` up to `stop`, where the text has room for it beside them.
+/// Replaces the bytes from `start` up to `stop` with `insert`. The text already has room for it.
 pub(crate) fn put_in_place(text: &mut String, start: usize, stop: usize, insert: &str) {
     match text.replace_range(start..stop, insert) {
         Ok(()) | Err(_) => {}
     }
 }
 
-/// Lexes the new text from the kept front on, until it meets the old tokens, and answers the tokens between with
-/// the place of the meeting.
+/// Lexes the new text from the kept front on, until it meets the old tokens. Returns the tokens in between, and the
+/// place where they meet.
 pub(crate) fn relex<S: Stepper>(
     alloc: Global,
     stepper: &mut S,
@@ -49,9 +49,9 @@ pub(crate) fn relex<S: Stepper>(
     Ok((tokens, at))
 }
 
-/// Lexes the tokens that begin before the end of what was put in, many at once.
+/// Lexes the tokens that begin before the end of the insertion, many at once.
 ///
-/// It is not inlined, so that an edit that puts in little has no room to make.
+/// It is not inlined, so that an edit with a short insertion needs no room for the buffer.
 #[inline(never)]
 fn relex_inserted<S: Stepper>(
     stepper: &mut S,
@@ -69,8 +69,8 @@ fn relex_inserted<S: Stepper>(
     Ok(())
 }
 
-/// Puts the tokens of the changed text in place of the old ones, and answers where lexing met these. Where memory
-/// is refused the tokens stay as they are. The search for what stays begins at `near`.
+/// Replaces the old tokens with those of the changed text, and returns where lexing met the old ones. If memory is
+/// refused the tokens stay as they are. The search for the tokens that stay begins at `near`.
 fn renew<S: Stepper>(
     alloc: Global,
     stepper: &mut S,
@@ -84,8 +84,8 @@ fn renew<S: Stepper>(
     Ok(at)
 }
 
-/// Makes text and tokens those of the edited text. Where memory is refused both stay as they are. The search for
-/// what stays begins at the nearest of the checkpoints.
+/// Makes the edit in text and tokens. If memory is refused both stay as they are. The search for the tokens that
+/// stay begins at the nearest of the checkpoints.
 pub(crate) fn lex_edit<S: Stepper>(
     alloc: Global,
     stepper: &mut S,
@@ -122,7 +122,8 @@ pub(crate) fn lex_edit<S: Stepper>(
     }
 }
 
-/// Where the checkpoints are after an edit that was relexed so far, in a text of `len` bytes; its kept front is one.
+/// Returns the checkpoints after an edit that was relexed up to `at`, in a text of `len` bytes. The kept front is
+/// one of them.
 pub(crate) fn past_edit(checkpoints: &Checkpoints, at: Relexing, len: usize) -> Checkpoints {
     let now = Bound {
         number: at.front.number + at.lexed,

@@ -1,4 +1,4 @@
-//! Edits in a row.
+//! Several edits, one after another.
 
 use crate::erased::entry::stepper::Stepper;
 use crate::erased::relex::edit::Edit;
@@ -6,10 +6,10 @@ use crate::erased::relex::lexed_text::LexedText;
 use core::error::Error;
 use core::fmt;
 
-/// Why a list of edits stopped, and at which of them, counted from 0. The edits before it stand.
+/// The reason why a list of edits stopped, and at which edit, counted from 0. The edits before it stay made.
 #[derive(Clone, Copy, Debug, PartialEq, Eq)]
 pub enum EditStop {
-    /// The range is not inside the text as it then was, or cuts a character.
+    /// The range is not inside the text as it was then, or cuts a character.
     Range { at: usize },
 
     /// The text would have had more than `u32::MAX` bytes.
@@ -32,9 +32,10 @@ impl fmt::Display for EditStop {
 impl Error for EditStop {}
 
 impl<S: Stepper> LexedText<S> {
-    /// Makes the edits in order, as far as the first that is refused.
+    /// Makes the edits in order, up to the first one that is refused. `Err` says which one that is and why. The edits
+    /// before it stay made.
     pub fn edit_all(&mut self, edits: &[Edit<'_>]) -> Result<(), EditStop> {
-        // So the tokens are those of the text, also where there is no edit.
+        // So the tokens are those of the text, even if there is no edit.
         debug_assert!(self.is_consistent());
         for (at, edit) in edits.iter().enumerate() {
             if !self.accepts(edit.start, edit.stop, edit.insert) {

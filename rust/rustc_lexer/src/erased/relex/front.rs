@@ -1,13 +1,13 @@
-//! What an edit keeps of the old tokens.
+//! Finds the old tokens that an edit keeps.
 //!
-//! Only the lengths of the old tokens are read. Each function here may be called with any lengths; what it finds is
-//! said of lengths that are those of a text's tokens.
+//! The functions here read only the lengths of the old tokens. They may be called with any lengths. What they
+//! promise holds for lengths that are those of a text's tokens.
 
 use crate::erased::token::Token;
 
-/// What has a length in bytes, as a token.
+/// Something that has a length in bytes, like a token.
 pub trait Measured {
-    /// The length in bytes.
+    /// Returns the length in bytes.
     fn len(&self) -> u32;
 }
 
@@ -17,10 +17,10 @@ impl Measured for Token {
     }
 }
 
-/// A bound of a list of tokens: its number and its place.
+/// A bound of a list of tokens, by its number and its place.
 #[derive(Clone, Copy, Debug, PartialEq, Eq)]
 pub struct Bound {
-    /// How many tokens stand before it.
+    /// How many tokens come before it.
     pub number: usize,
     /// Where it is, in bytes from the start of the text.
     pub place: usize,
@@ -32,10 +32,10 @@ pub(crate) const FIRST: Bound = Bound {
     place: 0,
 };
 
-/// A bound that is so many bytes before an edit is far from it.
+/// From how many bytes before an edit on a bound is far from it.
 const FAR: usize = 256;
 
-/// Whether at least two characters stand between the places.
+/// Returns whether there are at least two characters between the places.
 #[inline(always)]
 pub(crate) fn two_stand(text: &str, from: usize, to: usize) -> bool {
     if from >= to {
@@ -51,13 +51,13 @@ pub(crate) fn two_stand(text: &str, from: usize, to: usize) -> bool {
     }
 }
 
-/// Whether `from` is between characters, and at least two of them stand from there up to `to`.
+/// Returns whether `from` is between characters, and at least two characters come from there up to `to`.
 #[inline(always)]
 fn stand_before(text: &str, from: usize, to: usize) -> bool {
     text.is_char_boundary(from) && two_stand(text, from, to)
 }
 
-/// The last bound up to `from` that is at least two characters before `start`, or the first one.
+/// Returns the last bound up to `from` that is at least two characters before `start`, or the first bound.
 fn walk_back<T: Measured>(text: &str, tokens: &[T], start: usize, from: Bound) -> Bound {
     if from.number > tokens.len() {
         return FIRST;
@@ -76,7 +76,7 @@ fn walk_back<T: Measured>(text: &str, tokens: &[T], start: usize, from: Bound) -
     FIRST
 }
 
-/// The first bound from `from` on that is at or past `start`, or the last one.
+/// Returns the first bound from `from` on that is at or past `start`, or the last bound.
 fn past_start<T: Measured>(tokens: &[T], from: Bound, start: usize) -> Bound {
     let mut at = from;
     while at.number < tokens.len() && at.place < start {
@@ -88,7 +88,8 @@ fn past_start<T: Measured>(tokens: &[T], from: Bound, start: usize) -> Bound {
     at
 }
 
-/// A bound from which few tokens are left up to `start`: where `from` is far before it, lengths alone are read on the way.
+/// Returns a bound with few tokens between it and `start`. If `from` is far before `start`, it reads only lengths
+/// on the way.
 fn walk_ahead<T: Measured>(text: &str, tokens: &[T], start: usize, from: Bound) -> Bound {
     if start - from.place < FAR {
         return from;
@@ -97,8 +98,8 @@ fn walk_ahead<T: Measured>(text: &str, tokens: &[T], start: usize, from: Bound) 
     walk_back(text, tokens, start, past)
 }
 
-/// How many of the tokens end at least two characters before `start`. The search begins at `near`, which may be
-/// any bound.
+/// Returns how many of the tokens end at least two characters before `start`. The search begins at `near`, which
+/// may be any bound.
 pub(crate) fn kept_front<T: Measured>(
     text: &str,
     tokens: &[T],
@@ -120,7 +121,7 @@ pub(crate) fn kept_front<T: Measured>(
     at
 }
 
-/// The first bound from `from` on that is at or past `target`, or the last one.
+/// Returns the first bound from `from` on that is at or past `target`, or the last bound.
 fn next_bound<T: Measured>(tokens: &[T], from: Bound, target: usize) -> Bound {
     let mut at = from;
     while at.number < tokens.len() && at.place < target {
@@ -139,7 +140,8 @@ pub(crate) struct Meeting {
     pub met: bool,
 }
 
-/// What an edit did to the text: it ends at `past` in the new one, where `added` bytes stand for `removed`.
+/// The effect of an edit on the text. The edit ends at `past` in the new text, where it replaced `removed` bytes
+/// with `added` bytes.
 #[derive(Clone, Copy)]
 pub(crate) struct Damage {
     pub past: usize,
@@ -147,7 +149,8 @@ pub(crate) struct Damage {
     pub removed: usize,
 }
 
-/// Whether the bound of the new tokens at `place` is past the edit and, moved back, a bound of the old tokens.
+/// Returns how far the old tokens are followed, and whether the new ones meet them there: whether the new bound at
+/// `place` is past the edit and, moved back, a bound of the old tokens.
 pub(crate) fn follow<T: Measured>(
     tokens: &[T],
     from: Bound,

@@ -1,4 +1,4 @@
-//! What stands in front of the body of a document.
+//! The head of a document: the part before its body.
 use crate::support::Vec;
 
 use crate::erased::frontmatter::frontmatter;
@@ -7,12 +7,12 @@ use crate::erased::shebang::shebang_len;
 use crate::erased::token::{Token, TokenKind};
 use crate::support::AllocError;
 
-/// What stands in front of the body of a document: a shebang line, and a frontmatter.
+/// The head of a document, which is the part before its body: a shebang line and a frontmatter.
 #[derive(Clone, Copy)]
 pub(crate) struct Head {
-    /// The length of the shebang line, or 0.
+    /// The length of the shebang line in bytes, or 0.
     pub shebang: usize,
-    /// The length of the white space before the frontmatter, where that is a token of its own, or 0.
+    /// The length in bytes of the white space before the frontmatter if that is a token of its own, or 0.
     pub space: u32,
     /// The frontmatter.
     pub front: Option<Token>,
@@ -21,7 +21,7 @@ pub(crate) struct Head {
 }
 
 impl Head {
-    /// The head of a document.
+    /// Finds the head of a document.
     pub(crate) fn of(text: &str) -> Head {
         let shebang = shebang_len(text);
         let rest = &text[shebang..];
@@ -53,7 +53,7 @@ impl Head {
         }
     }
 
-    /// How many tokens it has.
+    /// Returns how many tokens the head has.
     pub(crate) fn count(self) -> usize {
         match self.front {
             None => 0,
@@ -67,7 +67,7 @@ impl Head {
         }
     }
 
-    /// Appends its tokens.
+    /// Appends the tokens of the head.
     pub(crate) fn push_to(self, list: &mut Vec<Token>) -> Result<(), AllocError> {
         if let Some(front) = self.front {
             if self.space > 0 {
@@ -81,7 +81,7 @@ impl Head {
         Ok(())
     }
 
-    /// Whether it is the same as the other.
+    /// Returns whether the head is the same as the other.
     pub(crate) fn is_same(self, other: Head) -> bool {
         same_front(self.front, other.front)
             && self.shebang == other.shebang
@@ -90,7 +90,7 @@ impl Head {
     }
 }
 
-/// Whether both are the same frontmatter, or none.
+/// Returns whether both are the same frontmatter, or both are none.
 fn same_front(front: Option<Token>, other: Option<Token>) -> bool {
     match (front, other) {
         (Some(front), Some(other)) => front == other,

@@ -1,4 +1,4 @@
-//! All tokens of a text, by a stepper.
+//! Lexes all tokens of a text, with a stepper.
 use crate::support::Vec;
 
 use crate::erased::entry::stepper::Stepper;
@@ -7,10 +7,10 @@ use crate::erased::relex::front::Bound;
 use crate::erased::token::{Token, TokenKind};
 use crate::support::{AllocError, Global};
 
-/// How many tokens are lexed at once, and stand between two checkpoints.
+/// How many tokens are lexed at once, and how many there are between two checkpoints.
 const BLOCK: usize = 128;
 
-/// A buffer in which no token was written yet.
+/// Creates a buffer without a written token.
 pub(crate) fn new_buffer() -> [Token; BLOCK] {
     [Token {
         kind: TokenKind::Eof,
@@ -18,7 +18,7 @@ pub(crate) fn new_buffer() -> [Token; BLOCK] {
     }; BLOCK]
 }
 
-/// All tokens of a text, and checkpoints among them.
+/// Lexes all tokens of a text. Returns them, and checkpoints among them.
 pub(crate) fn lex_all<S: Stepper>(
     alloc: Global,
     stepper: &mut S,

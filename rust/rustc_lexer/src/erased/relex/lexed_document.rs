@@ -18,11 +18,11 @@ mod in_edition;
 
 /// A whole document that is kept with its tokens while it is edited: shebang line, frontmatter and all.
 ///
-/// After each edit its tokens are those that lexing the present text from scratch would give, past the shebang line,
-/// where a frontmatter may stand in front. An edit lexes only what it changes. A frontmatter is looked for at each edit,
-/// so that one that comes, goes or ends elsewhere is seen.
+/// After each edit its tokens are the same as if the present text was lexed from scratch, past the shebang line and
+/// with or without a frontmatter in front. An edit lexes only what it changes. Each edit also looks for a
+/// frontmatter, so it sees one that appears, disappears or ends elsewhere.
 ///
-/// For a part of a document, where no frontmatter may stand, there is [`LexedText`](crate::LexedText).
+/// For a part of a document, where no frontmatter is allowed, use [`LexedText`](crate::LexedText).
 ///
 /// ```ignore
 /// let mut held = LexedDocument::new(alloc, "#!/bin/sh\n---cargo\n---\nfn")?;
@@ -43,7 +43,7 @@ pub struct LexedDocument<S: Stepper> {
     checkpoints: Checkpoints,
 }
 
-/// All tokens of a document with this head, and checkpoints among those of its body.
+/// Lexes a document with this head. Returns all its tokens, and checkpoints among those of its body.
 pub(crate) fn lex_document<S: Stepper>(
     alloc: Global,
     stepper: &mut S,
@@ -58,8 +58,8 @@ pub(crate) fn lex_document<S: Stepper>(
 }
 
 impl<S: Stepper> LexedDocument<S> {
-    /// Returns a copy of the text, which has at most `u32::MAX` bytes, with its tokens: those of its head, and those of
-    /// its body by the stepper, one step for each. `Err` means that memory was refused.
+    /// Copies the text and lexes it: the head by itself, and the body with the stepper, one step for each token.
+    /// The text may have at most `u32::MAX` bytes. `Err` means that memory was refused.
     pub fn with(alloc: Global, text: &str, stepper: S) -> Result<LexedDocument<S>, AllocError> {
         let mut stepper = stepper;
         let held = String::from_str(alloc, text)?;
@@ -85,18 +85,18 @@ impl<S: Stepper> LexedDocument<S> {
         self.head.shebang
     }
 
-    /// Returns its tokens, in order. The shebang line has none.
+    /// Returns the tokens of the document, in order. The shebang line has none.
     pub fn tokens(&self) -> &[Token] {
         self.tokens.as_slice()
     }
 
-    /// Returns the stepper that the tokens of the body came from.
+    /// Returns the stepper that lexed the tokens of the body.
     pub fn stepper(&self) -> &S {
         &self.stepper
     }
 
-    /// Where the bound with the number is, in bytes from the start of the text. The search begins at the last bound up
-    /// to it that is remembered.
+    /// Returns where the bound with this number is, in bytes from the start of the text. The search begins at the
+    /// last remembered bound up to it.
     pub(crate) fn place_of(&self, number: usize) -> u32 {
         let count = self.head.count();
         let tokens = self.tokens.as_slice();
@@ -108,12 +108,12 @@ impl<S: Stepper> LexedDocument<S> {
         end_from(start, &tokens[count + near.number..number])
     }
 
-    /// Whether the body begins inside the text. It does.
+    /// Returns whether the body begins inside the text. This is always true.
     pub(crate) fn is_consistent(&self) -> bool {
         self.head.end <= self.text.len()
     }
 
-    /// Whether the range is inside the text, between characters.
+    /// Returns whether the range is inside the text, between characters.
     pub(crate) fn contains_range(&self, start: usize, stop: usize) -> bool {
         start <= stop
             && stop <= self.text.len()
@@ -121,18 +121,20 @@ impl<S: Stepper> LexedDocument<S> {
             && self.text.is_char_boundary(stop)
     }
 
-    /// Returns whether an edit can be made: whether its range is inside the text, between characters, and the text that
-    /// it makes has at most `u32::MAX` bytes.
+    /// Returns whether an edit can be made: whether its range is inside the text, between characters, and the new
+    /// text has at most `u32::MAX` bytes.
     pub fn accepts(&self, start: usize, stop: usize, insert: &str) -> bool {
         self.contains_range(start, stop)
             && self.text.len() - (stop - start) + insert.len() <= u32::MAX as usize
     }
 
-    /// Puts `insert` in place of the bytes from `start` up to `stop`, and returns how many tokens it kept at the front,
-    /// how many it lexed, and how many it kept at the back. The edit has to be [accepted](LexedDocument::accepts).
+    /// Replaces the bytes from `start` up to `stop` with `insert`. The edit has to be
+    /// [accepted](LexedDocument::accepts).
     ///
-    /// The tokens of a frontmatter count too: behind one that stays as it is they are kept, and one that the edit changes
-    /// was lexed. `Err` means that memory was refused, and then text and tokens are as before.
+    /// Returns how many tokens it kept at the front, how many it lexed, and how many it kept at the back. The
+    /// tokens of a frontmatter count too: an edit behind an unchanged frontmatter keeps them, and a frontmatter
+    /// that the edit changes counts as lexed. `Err` means that memory was refused, and then text and tokens are as
+    /// before.
     pub fn edit(&mut self, start: usize, stop: usize, insert: &str) -> Result<Relexed, AllocError> {
         lex_document_edit(
             self.alloc,

@@ -12,7 +12,7 @@ use crate::support::{AllocError, Global};
 
 mod in_edition;
 
-/// A text, its tokens, and the stepper that they came from.
+/// A text that is kept with its tokens, and with the stepper that lexed them.
 #[derive(Clone)]
 pub struct LexedText<S: Stepper> {
     alloc: Global,
@@ -24,7 +24,8 @@ pub struct LexedText<S: Stepper> {
 }
 
 impl<S: Stepper> LexedText<S> {
-    /// A copy of the text, which has at most `u32::MAX` bytes, its tokens by the stepper, and the stepper.
+    /// Copies the text and lexes it with the stepper. The text may have at most `u32::MAX` bytes. Keeps the
+    /// stepper. `Err` means that memory was refused.
     pub fn with(alloc: Global, text: &str, stepper: S) -> Result<LexedText<S>, AllocError> {
         let mut stepper = stepper;
         let held = String::from_str(alloc, text)?;
@@ -38,35 +39,36 @@ impl<S: Stepper> LexedText<S> {
         })
     }
 
-    /// The text.
+    /// Returns the text.
     pub fn text(&self) -> &str {
         self.text.as_str()
     }
 
-    /// Its tokens.
+    /// Returns the tokens of the text, in order.
     pub fn tokens(&self) -> &[Token] {
         self.tokens.as_slice()
     }
 
-    /// The stepper that they came from.
+    /// Returns the stepper that lexed the tokens.
     pub fn stepper(&self) -> &S {
         &self.stepper
     }
 
-    /// Where the bound with the number is, in bytes from the start of the text. The search begins at the last bound up
-    /// to it that is remembered.
+    /// Returns where the bound with this number is, in bytes from the start of the text. The search begins at the
+    /// last remembered bound up to it.
     pub(crate) fn place_of(&self, number: usize) -> u32 {
         let near = self.checkpoints.before_number(number);
         let start = near.place as u32;
         end_from(start, &self.tokens.as_slice()[near.number..number])
     }
 
-    /// Whether there are no more tokens than bytes. It is so, since the tokens are those of the text and none is empty.
+    /// Returns whether there are no more tokens than bytes. This is always true, since the tokens are those of the
+    /// text and none is empty.
     pub(crate) fn is_consistent(&self) -> bool {
         self.tokens.len() <= self.text.len()
     }
 
-    /// Whether the range is inside the text, between characters.
+    /// Returns whether the range is inside the text, between characters.
     pub(crate) fn contains_range(&self, start: usize, stop: usize) -> bool {
         start <= stop
             && stop <= self.text.len()
@@ -74,13 +76,18 @@ impl<S: Stepper> LexedText<S> {
             && self.text.is_char_boundary(stop)
     }
 
-    /// Whether the edit is inside the text, between characters, and makes a text of at most `u32::MAX` bytes.
+    /// Returns whether an edit can be made: whether its range is inside the text, between characters, and the new
+    /// text has at most `u32::MAX` bytes.
     pub fn accepts(&self, start: usize, stop: usize, insert: &str) -> bool {
         self.contains_range(start, stop)
             && self.text.len() - (stop - start) + insert.len() <= u32::MAX as usize
     }
 
-    /// Puts `insert` in place of the bytes from `start` up to `stop`. It has to be accepted.
+    /// Replaces the bytes from `start` up to `stop` with `insert`. The edit has to be
+    /// [accepted](LexedText::accepts).
+    ///
+    /// Returns how many tokens it kept at the front, how many it lexed, and how many it kept at the back. `Err`
+    /// means that memory was refused, and then text and tokens are as before.
     pub fn edit(&mut self, start: usize, stop: usize, insert: &str) -> Result<Relexed, AllocError> {
         lex_edit(
             self.alloc,
@@ -97,7 +104,7 @@ impl<S: Stepper> LexedText<S> {
     }
 }
 
-/// Where the last of the tokens ends, the first of which begins at `start`.
+/// Returns where the last of the tokens ends. The first one begins at `start`.
 pub(crate) fn end_from(start: u32, tokens: &[Token]) -> u32 {
     let mut end = start;
     for token in tokens {
@@ -107,7 +114,8 @@ pub(crate) fn end_from(start: u32, tokens: &[Token]) -> u32 {
 }
 
 impl LexedText<Steps> {
-    /// A copy of the text, which has at most `u32::MAX` bytes, and its tokens.
+    /// Copies the text and lexes it. The text may have at most `u32::MAX` bytes. `Err` means that memory was
+    /// refused.
     pub fn new(alloc: Global, text: &str) -> Result<LexedText<Steps>, AllocError> {
         LexedText::new_in(alloc, text, Edition::E2024)
     }

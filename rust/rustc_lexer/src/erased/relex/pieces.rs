@@ -6,7 +6,7 @@ use crate::erased::relex::lexed_text::LexedText;
 use crate::erased::token::Token;
 use core::iter::{ExactSizeIterator, Iterator};
 
-/// A token, where it stands in its text, and its part of the text.
+/// A token, the place where it begins, and its text.
 #[derive(Clone, Copy, Debug, PartialEq, Eq)]
 pub struct Piece<'a> {
     /// Where the token begins, in bytes from the start of the text.
@@ -17,10 +17,10 @@ pub struct Piece<'a> {
     pub text: &'a str,
 }
 
-/// An iterator over the pieces of a text, made by [`LexedText::pieces`](crate::LexedText::pieces) or
-/// [`LexedText::pieces_of`](crate::LexedText::pieces_of).
+/// An iterator over the pieces of a text.
 ///
-/// A piece begins where the one before it ended, and its text is the slice of the text there.
+/// [`LexedText::pieces`](crate::LexedText::pieces) and [`LexedText::pieces_of`](crate::LexedText::pieces_of) return
+/// it. Each piece begins where the one before it ends, and its text is the part of the text that its token takes.
 #[derive(Clone)]
 #[must_use]
 pub struct Pieces<'a> {
@@ -32,7 +32,7 @@ pub struct Pieces<'a> {
 impl<'a> Iterator for Pieces<'a> {
     type Item = Piece<'a>;
 
-    /// The next piece, or `None` past the last one, from then on.
+    /// Returns the next piece. Past the last one it returns `None`, and does so from then on.
     fn next(&mut self) -> Option<Piece<'a>> {
         let (token, tokens) = self.tokens.split_first()?;
         let end = self.start + token.len;
@@ -46,7 +46,7 @@ impl<'a> Iterator for Pieces<'a> {
         Some(piece)
     }
 
-    /// How many pieces are left, twice.
+    /// Returns how many pieces are left, as the lower and as the upper bound.
     fn size_hint(&self) -> (usize, Option<usize>) {
         let left = self.tokens.len();
         (left, Some(left))
@@ -54,14 +54,14 @@ impl<'a> Iterator for Pieces<'a> {
 }
 
 impl<'a> ExactSizeIterator for Pieces<'a> {
-    /// How many pieces are left.
+    /// Returns how many pieces are left.
     fn len(&self) -> usize {
         self.tokens.len()
     }
 }
 
 impl<S: Stepper> LexedText<S> {
-    /// The pieces of the text, one for each token, in order.
+    /// Returns an iterator over the pieces of the text, one for each token, in order.
     pub fn pieces(&self) -> Pieces<'_> {
         Pieces {
             text: self.text(),
@@ -70,8 +70,8 @@ impl<S: Stepper> LexedText<S> {
         }
     }
 
-    /// The pieces of the tokens from number `from` up to number `to`, such as those that an edit lexed. Few of the tokens
-    /// before them are read.
+    /// Returns an iterator over the pieces of the tokens from number `from` up to number `to`, like those that an
+    /// edit lexed. It reads few of the tokens before them.
     pub fn pieces_of(&self, from: usize, to: usize) -> Pieces<'_> {
         Pieces {
             text: self.text(),
@@ -82,8 +82,8 @@ impl<S: Stepper> LexedText<S> {
 }
 
 impl<S: Stepper> LexedDocument<S> {
-    /// Returns the pieces of the text, one for each token, in order. The shebang line is none: the first piece begins
-    /// where it ends.
+    /// Returns an iterator over the pieces of the text, one for each token, in order. The shebang line is not a
+    /// piece: the first piece begins where it ends.
     pub fn pieces(&self) -> Pieces<'_> {
         Pieces {
             text: self.text(),
@@ -92,10 +92,10 @@ impl<S: Stepper> LexedDocument<S> {
         }
     }
 
-    /// Returns the pieces of the tokens from number `from` up to number `to`, such as those that an edit lexed. Few of
-    /// the tokens before them are read.
+    /// Returns an iterator over the pieces of the tokens from number `from` up to number `to`, like those that an
+    /// edit lexed. It reads few of the tokens before them.
     ///
-    /// So an editor paints anew what an edit changed:
+    /// An editor can paint what an edit changed like this:
     ///
     /// ```ignore
     /// let counts = held.edit(start, stop, insert)?;

@@ -1,31 +1,33 @@
-//! Lexing again what an edit changed, on lists that the caller holds.
+//! Lexes again what an edit changed, on lists that the caller holds.
 
 use crate::erased::bulk::Record;
 use crate::erased::entry::stepper::Stepper;
 use crate::erased::relex::front::{Bound, Damage, Measured, follow, kept_front};
 use crate::erased::token::Token;
 
-/// The greatest place that a bound may have. No text is longer, also where a `usize` has 32 bits.
+/// The greatest place that a bound may have. No text is longer, even if a `usize` has 32 bits.
 const MOST: usize = usize::MAX / 2;
 
-/// What is put in is lexed many tokens at once where it has so many bytes. It does not pay for fewer.
+/// From how many inserted bytes on the insertion is lexed many tokens at once. For fewer bytes that costs more than
+/// it saves.
 pub(crate) const LONG: usize = 256;
 
-/// An edit that was made, by its places in bytes: what stood from `start` up to `old_stop` was taken out, and what
-/// now stands from `start` up to `new_stop` was put in.
+/// An edit that was made, by its places in bytes. It took out what was from `start` up to `old_stop` in the old
+/// text, and put in what is from `start` up to `new_stop` in the present text.
 #[derive(Clone, Copy, Debug, PartialEq, Eq)]
 pub struct Change {
     /// Where the change begins, in both texts.
     pub start: usize,
-    /// Where what was taken out ended, in the old text.
+    /// Where the bytes that were taken out ended, in the old text.
     pub old_stop: usize,
-    /// Where what was put in ends, in the present text.
+    /// Where the bytes that were put in end, in the present text.
     pub new_stop: usize,
 }
 
 impl Change {
-    /// Whether the change may have made the text: its places are in order, what it put in lies inside the text, between
-    /// characters, and its old place is below 2^32. Whether the old text had these places is not looked at.
+    /// Returns whether the change may have made the text: whether its places are in order, the bytes that it put in
+    /// are inside the text, between characters, and its old place is below 2^32. It does not look at whether the
+    /// old text had these places.
     pub fn may_make(&self, text: &str) -> bool {
         self.start <= self.old_stop
             && self.old_stop <= u32::MAX as usize
@@ -34,7 +36,7 @@ impl Change {
             && text.is_char_boundary(self.new_stop)
     }
 
-    /// What the change did to the text.
+    /// Returns what the change did to the text.
     fn damage(self) -> Damage {
         Damage {
             past: self.new_stop,
@@ -55,28 +57,28 @@ pub struct Relexed {
     pub kept_back: usize,
 }
 
-/// How far a changed text is lexed again: up to a bound of its tokens, from its kept front on.
+/// How far a changed text has been lexed again: from its kept front up to a bound of its tokens.
 ///
-/// The old tokens are known by their lengths alone. Where these are the lengths of the tokens of an old text, of
-/// which the change made the present one, all numbers are exact. Any others may be passed too, and then they mean
-/// nothing.
+/// It knows the old tokens only by their lengths. If these are the lengths of the tokens of an old text, and the
+/// change made the present text from it, then all numbers are exact. Any other lengths may be passed too, but then
+/// the numbers mean nothing.
 #[derive(Clone, Copy, Debug, PartialEq, Eq)]
 pub struct Relexing {
     /// How many of the old tokens stay at the front, and where they end.
     pub front: Bound,
     /// How many tokens were lexed.
     pub lexed: usize,
-    /// A bound of the old tokens. Once it is met, the tokens behind it stay.
+    /// A bound of the old tokens. Once lexing meets it, the tokens behind it stay.
     pub back: Bound,
     /// Where the last token that was lexed ends, in the present text.
     pub at: usize,
-    /// Whether that is the bound of the old tokens.
+    /// Whether `at` is that bound of the old tokens.
     pub met: bool,
 }
 
 impl Relexing {
-    /// The kept front, and nothing lexed. The search for it begins at `near`, which may be any bound of the old
-    /// tokens.
+    /// Finds the kept front, and returns a start from which nothing has been lexed yet. The search for the front
+    /// begins at `near`, which may be any bound of the old tokens.
     pub fn begin<T: Measured>(text: &str, old: &[T], change: Change, near: Bound) -> Relexing {
         let front = kept_front(text, old, change.start, near);
         let to = follow(old, front, front.place, change.damage());
@@ -89,8 +91,8 @@ impl Relexing {
         }
     }
 
-    /// Whether `next` may be called, with this text and so many old tokens. It is so after `begin` and after `next`:
-    /// this is for numbers that come from elsewhere.
+    /// Returns whether `next` may be called with this text and this many old tokens. This is so after `begin` and
+    /// after `next`. The test is for numbers that come from elsewhere.
     pub fn may_go_on(&self, text: &str, old_count: usize) -> bool {
         text.is_char_boundary(self.at)
             && self.back.number <= old_count
@@ -99,13 +101,13 @@ impl Relexing {
             && self.lexed <= self.at
     }
 
-    /// Whether the old tokens are met, or no text is left. Where the lengths are those of an old text, no text is left
-    /// only where they are met.
+    /// Returns whether lexing has met the old tokens, or no text is left. If the lengths are those of an old text,
+    /// then text runs out only when the old tokens are met.
     pub fn is_over(&self, text: &str) -> bool {
         self.met || self.at == text.len()
     }
 
-    /// The next token, or `None` where the old tokens are met.
+    /// Lexes the next token and returns it, or `None` if the old tokens are met.
     pub fn next<S: Stepper, T: Measured>(
         &mut self,
         stepper: &mut S,
@@ -129,11 +131,10 @@ impl Relexing {
         Some(token)
     }
 
-    /// Writes the next tokens into the buffer, as many as there is room for, or up to where the old tokens are met.
-    /// Answers their number, which is less than the length of the buffer only where `is_over` is true.
+    /// Writes the next tokens into the buffer: as many as there is room for, or up to where the old tokens are met.
+    /// Returns how many. The number is less than the length of the buffer only if `is_over` is true.
     ///
-    /// They are the tokens that so many calls of `next` give. A long part that the change put in is lexed many tokens
-    /// at once.
+    /// They are the tokens that as many calls of `next` return. A long insertion is lexed many tokens at once.
     pub fn fill<S: Stepper, T: Measured, R: Record>(
         &mut self,
         stepper: &mut S,
@@ -156,8 +157,8 @@ impl Relexing {
         count
     }
 
-    /// Writes the next tokens into the buffer: those that begin before the end of what was put in, or as many as it has
-    /// room for. Answers their number. None of them can meet the old tokens before the last one ends.
+    /// Writes the next tokens into the buffer: those that begin before the end of the insertion, or as many as
+    /// there is room for. Returns how many. None of them can meet the old tokens before the last one ends.
     pub(crate) fn fill_inserted<S: Stepper, T: Measured, R: Record>(
         &mut self,
         stepper: &mut S,
@@ -179,7 +180,7 @@ impl Relexing {
         count
     }
 
-    /// The counts of the edit, once the old tokens are met, of which there are `old_count`.
+    /// Returns the counts of the edit, once the old tokens are met. There are `old_count` of these.
     pub fn counts(&self, old_count: usize) -> Relexed {
         Relexed {
             kept_front: self.front.number,

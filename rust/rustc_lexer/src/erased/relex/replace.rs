@@ -1,11 +1,11 @@
-//! The middle of a list of tokens, replaced in place.
+//! Replaces the middle of a list of tokens in place.
 use crate::support::Vec;
 
 use crate::erased::token::{Token, TokenKind};
 use crate::support::AllocError;
 
-/// Puts the tokens in place of those from `from` up to `to`. It asks for memory once at most, where the list has no
-/// room, and before it changes anything.
+/// Replaces the tokens from `from` up to `to`. It asks for memory at most once, only if the list has no room, and
+/// before it changes anything.
 pub(crate) fn replace(
     list: &mut Vec<Token>,
     from: usize,
@@ -31,7 +31,7 @@ pub(crate) fn replace(
     Ok(())
 }
 
-/// Writes the tokens over those from `from` on.
+/// Overwrites the tokens from `from` on with the given ones.
 fn put(all: &mut [Token], from: usize, with: &[Token]) {
     all[from..from + with.len()].copy_from_slice(with);
 }

@@ -1,16 +1,17 @@
-//! How far the tokens of a text are sure, however the text goes on.
+//! Which tokens of a text are certain, however the text continues.
 
 use crate::erased::entry::stepper::{Stepper, Steps};
 use crate::erased::relex::front::two_stand;
 
-/// The end of the last token, read with `FrontmatterAllowed::No`, that at least two characters follow, or 0.
+/// Returns where the last token that at least two characters follow ends, in bytes, or 0 if there is no such token.
+/// The tokens are read with `FrontmatterAllowed::No`.
 ///
-/// Whatever is written behind the text, its tokens up to there stay as they are.
+/// Whatever is appended to the text, its tokens up to this place stay as they are.
 pub fn settled(text: &str) -> usize {
     settled_by(&mut Steps::new(), text)
 }
 
-/// The end of the last token that at least two characters follow, or 0.
+/// Returns where the last token that at least two characters follow ends, in bytes, or 0 if there is none.
 fn settled_by<S: Stepper>(stepper: &mut S, text: &str) -> usize {
     let mut place = 0;
     while place < text.len() {

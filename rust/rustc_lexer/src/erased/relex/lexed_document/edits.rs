@@ -1,4 +1,4 @@
-//! Edits of a document in a row.
+//! Several edits of a document, one after another.
 
 use crate::erased::entry::stepper::Stepper;
 use crate::erased::relex::edit::Edit;
@@ -6,10 +6,10 @@ use crate::erased::relex::edit_list::EditStop;
 use crate::erased::relex::lexed_document::LexedDocument;
 
 impl<S: Stepper> LexedDocument<S> {
-    /// Makes the edits in order, each on the text that those before it leave, as far as the first that is refused. `Err`
-    /// says which that is and why; the edits before it stand.
+    /// Makes the edits in order, each on the text that the edits before it leave, up to the first one that is
+    /// refused. `Err` says which one that is and why. The edits before it stay made.
     pub fn edit_all(&mut self, edits: &[Edit<'_>]) -> Result<(), EditStop> {
-        // So the tokens are those of the text, also where there is no edit.
+        // So the tokens are those of the text, even if there is no edit.
         debug_assert!(self.is_consistent());
         for (at, edit) in edits.iter().enumerate() {
             if !self.accepts(edit.start, edit.stop, edit.insert) {

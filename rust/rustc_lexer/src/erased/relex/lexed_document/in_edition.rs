@@ -7,13 +7,13 @@ use crate::erased::relex::lexed_document::{LexedDocument, lex_document};
 use crate::support::{AllocError, Global};
 
 impl LexedDocument<Steps> {
-    /// Returns a copy of the text, which has at most `u32::MAX` bytes, with its tokens in the newest edition. `Err` means
+    /// Copies the text and lexes it in the newest edition. The text may have at most `u32::MAX` bytes. `Err` means
     /// that memory was refused.
     pub fn new(alloc: Global, text: &str) -> Result<LexedDocument<Steps>, AllocError> {
         LexedDocument::new_in(alloc, text, Edition::E2024)
     }
 
-    /// Returns a copy of the text, which has at most `u32::MAX` bytes, with its tokens in the edition. `Err` means that
+    /// Copies the text and lexes it in the edition. The text may have at most `u32::MAX` bytes. `Err` means that
     /// memory was refused.
     pub fn new_in(
         alloc: Global,
@@ -23,13 +23,13 @@ impl LexedDocument<Steps> {
         LexedDocument::with(alloc, text, Steps::new_in(edition))
     }
 
-    /// Returns the edition that the tokens are of. Edits keep it.
+    /// Returns the edition of the tokens. Edits keep it.
     pub fn edition(&self) -> Edition {
         self.stepper.edition()
     }
 
-    /// Returns where the body begins, in bytes, and how many tokens stand before it: those up to the frontmatter, or none
-    /// where there is no frontmatter.
+    /// Returns where the body begins, in bytes, and how many tokens come before it: those up to and
+    /// including the frontmatter, or none if there is no frontmatter.
     pub fn body(&self) -> Bound {
         Bound {
             number: self.head.count(),
@@ -37,8 +37,8 @@ impl LexedDocument<Steps> {
         }
     }
 
-    /// Lexes the text again, in another edition. The head stays: it is the same in each. `Err` means that memory was
-    /// refused, and then nothing changes.
+    /// Lexes the text again, in another edition. The head stays, as it is the same in each edition. `Err` means
+    /// that memory was refused, and then nothing has changed.
     pub fn set_edition(&mut self, edition: Edition) -> Result<(), AllocError> {
         let mut stepper = Steps::new_in(edition);
         let (tokens, checkpoints) =

@@ -7,7 +7,8 @@ use crate::erased::relex::lexed_text::LexedText;
 use crate::support::{AllocError, Global};
 
 impl LexedText<Steps> {
-    /// A copy of the text, which has at most `u32::MAX` bytes, and its tokens in the edition.
+    /// Copies the text and lexes it in the edition. The text may have at most `u32::MAX` bytes. `Err` means that
+    /// memory was refused.
     pub fn new_in(
         alloc: Global,
         text: &str,
@@ -16,12 +17,12 @@ impl LexedText<Steps> {
         LexedText::with(alloc, text, Steps::new_in(edition))
     }
 
-    /// The edition that the tokens are of. Edits keep it.
+    /// Returns the edition of the tokens. Edits keep it.
     pub fn edition(&self) -> Edition {
         self.stepper.edition()
     }
 
-    /// Lexes the text again, in another edition. Where memory is refused nothing changes.
+    /// Lexes the text again, in another edition. `Err` means that memory was refused, and then nothing has changed.
     pub fn set_edition(&mut self, edition: Edition) -> Result<(), AllocError> {
         let mut stepper = Steps::new_in(edition);
         let (tokens, checkpoints) = lex_all(self.alloc, &mut stepper, self.text.as_str())?;
