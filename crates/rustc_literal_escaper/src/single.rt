@@ -106,11 +106,7 @@ pub(crate) fn byte_at(c: char, tail: &str) -> Option<(u8, &str)>
     ensures { IfSome result (λ r. ((Element.Byte r.0, chars r.1.now) ≡ spec.single c (chars tail.now))
         × IsUtf8 r.1.now × (length r.1.now < length tail.now)) }
 {
-    if c == '\\' {
-        escaped_byte(tail)
-    } else {
-        None
-    }
+    if c == '\\' { escaped_byte(tail) } else { None }
 }
 
 /// Returns the element that begins with the character `c`, and the text after it.
