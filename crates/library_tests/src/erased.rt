@@ -135,7 +135,11 @@ fn is_used(alloc: Global, text: &str, rule: Rule, wanted: usize) -> bool {
     fits(text)
         && erase(alloc, text, Target::Library).is_ok_and(|made| {
             let count = made.used.iter().filter(|used| **used == rule).count();
-            let others = made.used.iter().filter(|used| **used != rule && **used != Rule::Path).count();
+            let others = made
+                .used
+                .iter()
+                .filter(|used| **used != rule && **used != Rule::Path)
+                .count();
             count == wanted && others == 0
         })
 }
