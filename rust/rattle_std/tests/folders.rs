@@ -1,13 +1,12 @@
 //! Files and folders: names as they are, and the errors of the system.
 #![cfg(unix)]
 
-use rattle_std::fs::{self, File, OpenFile};
-use rattle_std::io::{ErrorKind, Read, Write};
+use rattle_std::fs::{self, File};
+use rattle_std::io::{ErrorKind, Read};
 use rattle_std::path::AsPath;
-use rattle_std::prelude::{HostRuntime, Vec};
+use rattle_std::prelude::HostRuntime;
 use rattle_std::rt;
 use std::os::unix::ffi::OsStrExt;
-use std::os::unix::fs::PermissionsExt;
 use std::path::PathBuf;
 
 /// A new folder of this test, which is removed at the end.
@@ -84,9 +83,6 @@ fn names_of_a_folder() {
             .unwrap()
             .is_dir()
     );
-    let real = std::fs::canonicalize(folder.at("TARGET")).unwrap();
-    let found = fs::canonicalize(&rt, folder.at("link").as_str()).unwrap();
-    assert_eq!(found.path_text(), real.to_str().unwrap());
 }
 
 #[test]
@@ -106,37 +102,21 @@ fn files() {
     let rt = rt::start();
     let folder = Folder::new("files");
     let (first, second) = (folder.at("first"), folder.at("second"));
-    let mut file = File::create_new(&rt, first.as_str()).unwrap();
-    file.write_all(b"text").unwrap();
-    file.flush().unwrap();
-    file.set_permissions(std::fs::Permissions::from_mode(0o640))
-        .unwrap();
-    file.sync_all().unwrap();
-    assert_eq!(std::fs::read(&first).unwrap(), b"text");
-    let mode = fs::metadata(&rt, first.as_str())
-        .unwrap()
-        .permissions()
-        .mode();
-    assert_eq!(mode & 0o777, 0o640);
-    let there = File::create_new(&rt, first.as_str()).err();
-    assert_eq!(
-        there.map(|error| error.kind()),
-        Some(ErrorKind::AlreadyExists)
-    );
-    std::fs::write(&second, "replaced").unwrap();
-    fs::rename(&rt, first.as_str(), second.as_str()).unwrap();
-    let mut bytes = Vec::new(rt.alloc());
-    let mut file = File::open(&rt, second.as_str()).unwrap();
-    assert_eq!(file.read_to_end(&mut bytes).unwrap(), 4);
-    assert_eq!(bytes.as_slice(), b"text");
-    fs::remove_file(&rt, second.as_str()).unwrap();
+    std::fs::write(&first, "text").unwrap();
+    let mut file = File::open(&rt, first.as_str()).unwrap();
+    let (mut read, mut room) = (std::vec::Vec::new(), [0; 3]);
+    loop {
+        match file.read(&mut room).unwrap() {
+            0 => break,
+            count => read.extend_from_slice(&room[..count]),
+        }
+    }
+    assert_eq!(read, b"text");
+    assert_eq!(fs::metadata(&rt, first.as_str()).unwrap().len(), 4);
     for missing in [
-        File::open(&rt, first.as_str()).err(),
+        File::open(&rt, second.as_str()).err(),
         fs::metadata(&rt, second.as_str()).err(),
-        fs::canonicalize(&rt, second.as_str()).err(),
-        fs::remove_file(&rt, second.as_str()).err(),
-        fs::rename(&rt, first.as_str(), second.as_str()).err(),
-        fs::read_dir(&rt, first.as_str()).err(),
+        fs::read_dir(&rt, second.as_str()).err(),
     ] {
         assert_eq!(missing.map(|error| error.kind()), Some(ErrorKind::NotFound));
     }
