@@ -28,7 +28,9 @@ function expect(holds, words) {
 const wanted = () => text.value.toWellFormed();
 const bytesOf = (words) => new TextEncoder().encode(words).length;
 const linesOf = (number) => ask('listing', number).split('\n').slice(0, -1);
-const listing = () => linesOf(edition());
+// The number of the edition, as its button is seen.
+const chosen = () => [...document.querySelectorAll('#edition input')].findIndex(({ checked }) => checked);
+const listing = () => linesOf(chosen());
 const textOf = (bytes) => new TextDecoder('utf-8', { ignoreBOM: true }).decode(bytes);
 
 // A part of a text in one line, as the page shows it.
@@ -87,7 +89,7 @@ const checks = {
       expect(right < edge, `messages end at ${right}, past the edge at ${edge}`);
     }
     expect(drawn.length === lines.length, `${drawn.length} lines are drawn of ${lines.length}`);
-    const seen = JSON.parse(ask('show', first, lines.length, caret, edition())).lines;
+    const seen = JSON.parse(ask('show', first, lines.length, caret, chosen())).lines;
     const above = at('lines').getBoundingClientRect().top - at('field').getBoundingClientRect().top;
     expect(Math.abs(above - 1 + text.scrollTop - first * LINE) < 1, `the lines are drawn ${above} below the field`);
     drawn.forEach((line, number) => {
@@ -98,8 +100,8 @@ const checks = {
   },
   // The marks of each line alone are those of all lines.
   marks() {
-    const parted = ask('parts_alike', edition());
-    expect(parted === '', `line ${parted}: the marks of a part are not those of all`);
+    const differs = ask('parts_alike', chosen());
+    expect(differs === '', `line ${differs}: the marks of a part are not those of all`);
   },
   // The tokens that are shown are those of the listing, which has the whole text. The token at the caret holds it.
   listed() {
@@ -130,7 +132,7 @@ const checks = {
     const [front, lexed, back] = counts ? counts.slice(1).map(Number) : [0, all.length, 0];
     const size = `: ${all.length} tokens, ${bytesOf(wanted())} bytes, ${wanted().split('\n').length} lines.`;
     expect(said === (counts ? counts[0] : 'All was lexed') + size && front + lexed + back === all.length, `it says ${said}, and not ${size}`);
-    const old = before[edition()];
+    const old = before[chosen()];
     const withoutPlace = (lines) => lines.map((line) => line.slice(line.indexOf(' '))).join();
     expect(all.slice(0, front).join() === old.slice(0, front).join()
       && withoutPlace(all.slice(front + lexed)) === withoutPlace(old.slice(old.length - back)), `it says ${said}, of other tokens`);
@@ -150,7 +152,7 @@ const checks = {
   editions() {
     drawEditions();
     const written = new TextEncoder().encode(wanted());
-    const { counts, found } = differences(JSON.parse(ask('show', 0, 1, 0, edition())).begin);
+    const { counts, found } = differences(JSON.parse(ask('show', 0, 1, 0, chosen())).begin);
     const places = found.length ? `They differ in ${found.length} place${found.length > 1 ? 's' : ''}` : 'They are the same';
     const wantedWords = `Tokens: ${years.map((value, number) => `${counts[number]} in ${value}`).join(', ')}. `
       + places + (found.length > 50 ? '; the first 50 are here.' : '.');
@@ -172,7 +174,7 @@ const listings = () => years.map((_, number) => linesOf(number));
 function beyondField(value) {
   change(value);
   const lines = value.split('\n');
-  const seen = JSON.parse(ask('show', 0, lines.length, 0, edition()));
+  const seen = JSON.parse(ask('show', 0, lines.length, 0, chosen()));
   const drawn = seen.lines.map((line, number) => drawnLine([number + 1, line]).textContent);
   expect(JSON.stringify(drawn) === JSON.stringify(lines), `drawn is ${JSON.stringify(drawn)}`);
   for (const name of ['kept', 'marks']) checks[name]();
@@ -202,8 +204,8 @@ function run(...names) {
 function round(number) {
   const start = random(text.value.length + 1);
   type(start, Math.min(text.value.length, start + random(4)), PIECES[random(PIECES.length)]);
-  const chosen = text.value.length && random(text.value.length);
-  text.setSelectionRange(chosen, chosen);
+  const place = text.value.length && random(text.value.length);
+  text.setSelectionRange(place, place);
   text.scrollTop = random(text.scrollHeight);
   text.scrollLeft = random(text.scrollWidth);
   show();
@@ -227,8 +229,9 @@ function known() {
   type(50, 50, ' ');
   const [front, lexed, back] = [...at('bar').children].map((part) => Number(part.style.flexGrow));
   expect(front > 0 && lexed < 5 && back > 50, `an edit kept ${front}, lexed ${lexed}, and kept ${back}`);
-  typeAll('k#b '.repeat(60));
+  typeAll('q#b '.repeat(60));
   run(...Object.keys(checks));
+  expect(/in 60 places; the first 50 are here/.test(at('differ').textContent), `60 differences: ${at('differ').textContent}`);
 }
 
 async function check() {
@@ -237,11 +240,11 @@ async function check() {
   // no field gives a text with these to the page as it is, and JSON writes them in its own way
   const controls = Array.from({ length: 0xa0 }, (_, c) => String.fromCharCode(c)).join('') + '\u{2028}\u{2029}';
   for (const start of STARTS) {
-    for (let chosen = 0; chosen < 2 * years.length; chosen += 1) {
+    for (let turn = 0; turn < 2 * years.length; turn += 1) {
       // the browser stays awake between
       await new Promise((done) => setTimeout(done));
-      choose(String(years[chosen % years.length]));
-      if (at('document').checked !== chosen >= years.length) at('document').click();
+      choose(String(years[turn % years.length]));
+      if (at('document').checked !== turn >= years.length) at('document').click();
       beyondField(`a\r\n"\r" \0 é\r${start}\r${controls}`);
       typeAll(start);
       for (let number = 0; number < 60; number += 1) round(number);

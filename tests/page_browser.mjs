@@ -289,7 +289,7 @@ const tasks = {
     };
     // the caret in front of some words
     const caret = (words) => value(`text.focus(); text.setSelectionRange(...Array(2).fill(text.value.indexOf(${JSON.stringify(words)}))); show()`);
-    for (const [name, width, height, scheme] of [['page-light.png', 1180, 930, 'light'], ['page-dark.png', 1180, 930, 'dark'],
+    for (const [name, width, height, scheme] of [['page-light.png', 1180, 960, 'light'], ['page-dark.png', 1180, 960, 'dark'],
       ['page-narrow.png', 480, 960, 'light']]) {
       await size(width, height, scheme);
       await open();
