@@ -1,4 +1,4 @@
-//! Editing a text that is kept with its tokens.
+//! Edits of a text that is kept with its tokens.
 ghost use Rattle.rustc_lexer.specs.Classes.{Fits};
 
 use anyhow::{Result, bail};
@@ -6,7 +6,7 @@ use lex_vectors::steppers::Counting;
 use rustc_lexer::{LexedText, Stepper};
 use std::time::Instant;
 
-/// Where the edits stand.
+/// Where the edits are.
 #[derive(Clone, Copy)]
 pub(crate) enum Place {
     /// In the middle of the text.
@@ -17,19 +17,19 @@ pub(crate) enum Place {
     Jumping,
 }
 
-/// What edits took.
+/// The work of some edits.
 #[derive(Clone, Copy, Default)]
 pub(crate) struct EditWork {
     pub(crate) edits: u64,
     /// How many tokens were lexed for them.
     pub(crate) lexed: u64,
-    /// A sum over what each of them kept, in order.
+    /// A sum over what each of them kept, which depends on their order.
     pub(crate) sum: u64,
-    /// How many tokens moved: those behind an edit, where their number is another than before.
+    /// How many tokens moved: those after an edit, if their number changed.
     moved: u64,
 }
 
-/// Types and deletes so many letters, and prints what one edit takes, and what lexing the whole text takes.
+/// Types and deletes so many letters, and prints how long one edit takes, and lexing the whole text.
 pub(crate) fn time_edits(rt: &HostRuntime, text: &str, place: Place, times: u32) -> Result<()>
     requires { Fits text.now }
 {
@@ -52,7 +52,8 @@ pub(crate) fn time_edits(rt: &HostRuntime, text: &str, place: Place, times: u32)
     Ok(())
 }
 
-/// Puts the text into its own middle and takes it out again, so many times, and prints the least time of putting it in.
+/// Inserts the text into its own middle and takes it out again, so many times, and prints the least time of
+/// inserting it.
 pub(crate) fn time_pastes(rt: &HostRuntime, text: &str, times: u32) -> Result<()>
     requires { Fits text.now }
 {
@@ -77,7 +78,7 @@ pub(crate) fn time_pastes(rt: &HostRuntime, text: &str, times: u32) -> Result<()
     Ok(())
 }
 
-/// Types a letter and deletes it again, as often as asked.
+/// Types a letter and deletes it again, so many times.
 pub(crate) fn edit_letters<S: Stepper>(
     held: &mut LexedText<S>,
     place: Place,
@@ -107,8 +108,8 @@ pub(crate) fn edit_letters<S: Stepper>(
     Ok(work)
 }
 
-/// Types and deletes so many letters, and prints the work of it: the edits, the steps that they asked for, the bytes of
-/// the tokens that those gave, and the tokens that moved.
+/// Types and deletes so many letters, and prints the work: the edits, the steps that they took, the bytes of the
+/// tokens of those steps, and the tokens that moved.
 pub(crate) fn print_work(rt: &HostRuntime, text: &str, place: Place, times: u32) -> Result<()>
     requires { Fits text.now }
 {
@@ -126,7 +127,7 @@ pub(crate) fn print_work(rt: &HostRuntime, text: &str, place: Place, times: u32)
     Ok(())
 }
 
-/// The index of a place in a text of so many bytes.
+/// Returns the offset of a place in a text of so many bytes.
 fn index_of(place: Place, len: usize, random: u64) -> usize {
     match place {
         Place::Middle => len / 2,
@@ -135,7 +136,7 @@ fn index_of(place: Place, len: usize, random: u64) -> usize {
     }
 }
 
-/// The next of a sequence of numbers that look as if drawn by chance (Knuth's linear congruence of 64 bits).
+/// Returns the next number of a pseudorandom sequence (Knuth's linear congruential generator, 64 bits).
 fn next_random(random: u64) -> u64 {
     random
         .wrapping_mul(6_364_136_223_846_793_005)

@@ -1,11 +1,11 @@
-//! Lexing a text many times.
+//! Lexes a text many times.
 ghost use Rattle.rustc_lexer.specs.Classes.{Fits};
 
 use anyhow::{Result, bail};
 use rustc_lexer::{DocStyle, FrontmatterAllowed, LiteralKind, Token, TokenKind, tokenize};
 use std::time::Instant;
 
-/// How many tokens there are, and a sum over what each of them says, in order.
+/// How many tokens there are, and a sum over their fields, which depends on their order.
 #[derive(Clone, Copy, Default)]
 pub(crate) struct TokenSum {
     pub(crate) count: u64,
@@ -13,15 +13,15 @@ pub(crate) struct TokenSum {
 }
 
 impl TokenSum {
-    /// One token more. The order of the tokens counts.
+    /// Adds a token with its fields. The order of the tokens counts.
     ///
-    /// What it says is weighed by its place. A chain of products would take longer than the lexer does.
+    /// Each token is weighed by its place. A chain of products would take longer than the lexer does.
     #[inline(always)]
     fn and(self, token: Token) -> TokenSum {
         self.and_number(number_of(token.kind), token.len)
     }
 
-    /// One token more, of which the fields do not count.
+    /// Adds a token by its kind and length.
     #[inline(always)]
     fn and_kind(self, token: Token) -> TokenSum {
         self.and_number(with_fields(token.kind.number(), 0), token.len)
@@ -38,23 +38,23 @@ impl TokenSum {
     }
 }
 
-/// How a text is lexed, and what is read of its tokens.
+/// How to lex a text, and what to read of its tokens.
 #[derive(Clone, Copy, PartialEq, Eq)]
 pub(crate) enum Way {
-    /// One token after another, with all fields.
+    /// One token after another, all fields.
     Next,
-    /// The same, with kinds and lengths alone.
+    /// One token after another, only kinds and lengths.
     NextKinds,
-    /// Many tokens at once, with all fields.
+    /// Many tokens at once, all fields.
     Fill,
-    /// The same, with kinds and lengths alone.
+    /// Many tokens at once, only kinds and lengths.
     FillKinds,
-    /// The same, with no look at the tokens.
+    /// Many tokens at once, without reading them.
     FillAlone,
 }
 
 impl Way {
-    /// What its time is called.
+    /// Returns the label of its time.
     fn name(self) -> &'static str {
         match self {
             Way::FillKinds => "least time of many at once",
@@ -64,7 +64,7 @@ impl Way {
     }
 }
 
-/// Lexes the text so many times by each way, and prints what was found, and the least time of each.
+/// Lexes the text so many times in each way, and prints the sums, and the least time of each way.
 pub(crate) fn time_ways(rt: &HostRuntime, text: &str, times: u32, ways: &[Way]) -> Result<()>
     requires { Fits text.now }
 {
@@ -147,7 +147,7 @@ fn count_filled(text: &str) -> TokenSum
     sum_blocks(text, Way::FillAlone)
 }
 
-/// How many tokens are written at once.
+/// How many tokens are lexed at once.
 const BUFFER_LEN: usize = 256;
 
 /// Lexes the text once, many tokens at a time.
@@ -178,7 +178,7 @@ fn sum_blocks(text: &str, way: Way) -> TokenSum
     sum
 }
 
-/// A number for each kind with its fields.
+/// Returns a number for each kind with its fields.
 #[inline(always)]
 fn number_of(kind: TokenKind) -> u64 {
     let fields = match kind {
@@ -204,7 +204,7 @@ fn number_of(kind: TokenKind) -> u64 {
     with_fields(kind.number(), fields)
 }
 
-/// The number of a kind of literal with its fields.
+/// Returns the number of a kind of literal with its fields.
 fn literal_number(kind: LiteralKind) -> u64 {
     let fields = match kind {
         LiteralKind::Int { base, empty_int } => two_numbers(base as u64, 1, empty_int),
@@ -224,14 +224,14 @@ fn literal_number(kind: LiteralKind) -> u64 {
     with_fields(kind.number(), fields)
 }
 
-/// The number of a kind, counted from 0, with that of its fields.
+/// Returns the number of a kind, counted from 0, combined with that of its fields.
 fn with_fields(kind: u8, fields: u64) -> u64 {
     u64::from(kind)
         .wrapping_sub(1)
         .wrapping_add(fields.wrapping_mul(64))
 }
 
-/// The number of two fields: that of the first, and so much more where the second is set.
+/// Returns the number of two fields: that of the first, and so much more if the second is set.
 fn two_numbers(first: u64, weight: u64, second: bool) -> u64 {
     if second {
         first.wrapping_add(weight)
@@ -248,7 +248,7 @@ fn style_number(style: Option<DocStyle>) -> u64 {
     }
 }
 
-/// How many hashes there are, or 256 where their number is refused.
+/// Returns how many hashes there are, or 256 if their number is not valid.
 fn hashes_number(hashes: Option<u8>) -> u64 {
     match hashes {
         None => 256,

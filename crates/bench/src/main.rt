@@ -1,11 +1,11 @@
-//! Measures the lexer on a text from standard input: how long it takes to lex it, or to edit it.
+//! Measures the lexer on a text from standard input: how long it takes to lex or to edit it.
 //!
-//! `bench lex TIMES` lexes the text so many times, and `bench bulk TIMES` lexes it many tokens at once. `bench kinds TIMES`
-//! does both, and reads kinds and lengths alone. `bench edit PLACE TIMES` keeps the text with its tokens and types and
-//! deletes so many letters, where PLACE is `middle`, `end` or `jumping`. `bench paste TIMES` puts the text into its own
-//! middle. `bench work PLACE TIMES` edits as `edit` does and counts: the steps that the stepper was asked for, the bytes of
-//! the tokens that it gave, and the tokens that moved. `bench check` does a little of each and asks no clock, so that what
-//! it prints is the same each time.
+//! `bench lex TIMES` lexes the text so many times, and `bench bulk TIMES` lexes it many tokens at once. `bench
+//! kinds TIMES` does both, and reads only kinds and lengths. `bench edit PLACE TIMES` keeps the text with its
+//! tokens and types and deletes so many letters; PLACE is `middle`, `end` or `jumping`. `bench paste TIMES`
+//! inserts the text into its own middle. `bench work PLACE TIMES` edits like `edit` and counts the work: the
+//! calls of the stepper, the bytes of the tokens that they gave, and the tokens that moved. `bench check` does a
+//! little of each and reads no clock, so that it prints the same each time.
 #![tactic(auto)]
 
 ghost use Rattle.rustc_lexer.specs.Classes.{Fits};
@@ -62,7 +62,7 @@ fn read_place(word: Option<String>) -> Result<Place> {
     }
 }
 
-/// Lexes the text once, edits it twice in each place, and counts the work of edits of a thousand of it.
+/// Lexes the text once, edits it twice in each place, and counts the work of edits of a thousand copies of it.
 fn check(rt: &HostRuntime, text: &str) -> Result<()>
     requires { Fits text.now }
 {

@@ -11,7 +11,7 @@ use rustc_lexer::{FrontmatterAllowed, Token, settled, tokenize};
 use std::alloc::{AllocError, Global};
 use std::marker::Model;
 
-/// What has arrived of a text, but for the tokens that were given out.
+/// The part of a text that has arrived and whose tokens are not given out yet.
 #[derive(Drop)]
 pub struct Arriving {
     alloc: Global,
@@ -28,7 +28,7 @@ impl Model for Arriving {
 }
 
 impl Arriving {
-    /// Nothing has arrived.
+    /// Makes one for a text of which nothing has arrived.
     pub fn new(alloc: Global) -> Arriving
         ensures { result ≡ [] }
     {
@@ -38,15 +38,17 @@ impl Arriving {
         }
     }
 
-    /// What has arrived and was not given out. Once all has arrived, its tokens are the last ones.
+    /// Returns what has arrived and is not given out. Once the whole text has arrived, its tokens are the last
+    /// ones.
     pub fn rest(&self) -> &str
         ensures { result.now ≡ self.now }
     {
         self.rest.as_str()
     }
 
-    /// Takes the next piece, and gives out all tokens that are sure by now, as two characters follow them. They are
-    /// the next tokens of the whole text, whatever comes. `Err` where memory is refused: then the piece was not taken.
+    /// Takes the next piece, and returns all tokens that can no longer change, since two characters follow them.
+    /// They are the next tokens of the whole text, whatever comes next. `Err` means that memory was refused, and
+    /// then the piece was not taken.
     pub fn take(&mut self, piece: &str) -> Result<Vec<Token>, AllocError>
         requires fits { length self.old + length piece.now < 2 ^ 32 }
         ensures given { IfOk result
@@ -64,8 +66,8 @@ impl Arriving {
     }
 }
 
-/// The tokens of a text that is given in pieces, which may be cut anywhere between two characters. `Err` where memory
-/// is refused.
+/// Returns the tokens of a text that is given in pieces, cut anywhere between two characters. `Err` means that
+/// memory was refused.
 pub fn lex_pieces(alloc: Global, pieces: &[&str]) -> Result<Vec<Token>, AllocError>
     requires fits { length (joined pieces.now) < 2 ^ 32 }
     ensures { IfOk result
@@ -82,7 +84,7 @@ pub fn lex_pieces(alloc: Global, pieces: &[&str]) -> Result<Vec<Token>, AllocErr
     Ok(tokens)
 }
 
-/// The tokens of a text that are sure, however it goes on, and the text past them.
+/// Returns the tokens of a text that can no longer change, however it goes on, and the text after them.
 fn sure_tokens<'a>(alloc: Global, text: &'a str) -> Result<(Vec<Token>, &'a str), AllocError>
     requires fits { Fits text.now }
     ensures given { IfOk result (λ r. GivesFirst text.now r.0.items r.1.now) }
@@ -93,7 +95,7 @@ fn sure_tokens<'a>(alloc: Global, text: &'a str) -> Result<(Vec<Token>, &'a str)
     Ok((given, &text[sure..]))
 }
 
-/// The first tokens of a text, up to the one that ends at `place`.
+/// Returns the first tokens of a text, up to the one that ends at `place`.
 fn first_tokens(alloc: Global, text: &str, place: usize) -> Result<Vec<Token>, AllocError>
     requires fits { Fits text.now }
     ensures { IfOk result

@@ -1,4 +1,4 @@
-//! The comments before the code of a text.
+//! Skips the comments before the code of a text.
 ghost use Rattle.std.specs.Prelude.{◌≡◌};
 ghost use Rattle.rustc_lexer.specs.Classes.{Fits};
 ghost use Rattle.rustc_lexer.specs.declared.edition.Edition.TheVariants.{E2024};
@@ -8,7 +8,7 @@ ghost use Rattle.examples.specs.Comments.{is_skipped, past_comments};
 
 use rustc_lexer::{Cursor, FrontmatterAllowed, TokenKind};
 
-/// The text from its first token on that is neither white space nor a comment.
+/// Returns the text from its first token that is neither white space nor a comment.
 pub fn skip_comments(text: &str) -> &str
     requires fits { Fits text.now }
     ensures { result.now ≡ past_comments text.now (tokens_of (part E2024) text.now) }
@@ -23,7 +23,7 @@ pub fn skip_comments(text: &str) -> &str
     }
 }
 
-/// Whether a token is white space or a comment.
+/// Returns whether a token is white space or a comment.
 fn is_skipped(kind: TokenKind) -> bool
     ensures { result ≡ is_skipped kind }
 {

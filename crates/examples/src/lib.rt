@@ -1,4 +1,4 @@
-//! Callers of `rustc_lexer`, proved: what the documents and the examples of that crate quote.
+//! Proved callers of `rustc_lexer`: the documents and that crate's examples quote them.
 #![tactic(auto)]
 
 pub mod arriving;

@@ -1,4 +1,4 @@
-//! The raw strings of a file, checked.
+//! Checks the raw strings of a file.
 ghost use Rattle.std.specs.Prelude.{◌≡◌, IfOk};
 ghost use Rattle.rustc_lexer.specs.Classes.{Fits};
 ghost use Rattle.rustc_lexer.specs.Edits.{pieces_from};
@@ -12,16 +12,16 @@ use rustc_lexer::{
 };
 use std::alloc::{AllocError, Global};
 
-/// A raw string that is refused.
+/// A raw string that is not valid.
 #[derive(Clone, Copy, Debug, PartialEq, Eq)]
 pub struct RawFault {
     /// Where the string begins in the file, in bytes.
     pub start: usize,
-    /// Why it is refused. An offset in it counts from `start`.
+    /// Why it is not valid. An offset in it counts from `start`.
     pub error: RawStrError,
 }
 
-/// The raw strings of a whole file that are refused, in order.
+/// Returns the raw strings of a whole file that are not valid, in order.
 pub fn raw_faults(alloc: Global, text: &str) -> Result<Vec<RawFault>, AllocError>
     requires fits { Fits text.now }
     ensures { IfOk result
@@ -41,7 +41,7 @@ pub fn raw_faults(alloc: Global, text: &str) -> Result<Vec<RawFault>, AllocError
     Ok(faults)
 }
 
-/// The fault of the token that begins at `start`, if it is a raw string that is refused.
+/// Returns the fault of the token that begins at `start`, if it is a raw string that is not valid.
 fn raw_fault(start: usize, kind: TokenKind, text: &str) -> Option<RawFault>
     requires fits { Fits text.now }
     requires text { HasText kind text.now }
@@ -54,7 +54,7 @@ fn raw_fault(start: usize, kind: TokenKind, text: &str) -> Option<RawFault>
     }
 }
 
-/// How many characters stand before the hashes of a raw string; `None` for any other token.
+/// Returns how many characters come before the hashes of a raw string, or `None` for any other token.
 fn raw_prefix_len(kind: TokenKind) -> Option<u32>
     ensures { result ≡ raw_prefix_len kind }
 {

@@ -1,4 +1,4 @@
-//! A text that is shown with its tokens marked, and painted anew where an edit changed them.
+//! Repaints the tokens of a text that an edit changed.
 ghost use Rattle.std.specs.Prelude.{◌≡◌, ◌+◌, ◌-◌, OnOk, OnErr, IfOk, length};
 ghost use Rattle.std.specs.Fmt.{WritesInCalls};
 ghost use Rattle.rustc_lexer.specs.Edits.{IsEdit, apply, pieces_of};
@@ -8,9 +8,9 @@ use rustc_lexer::{LexedText, Relexed, Stepper, TokenKind};
 use std::alloc::AllocError;
 use std::fmt;
 
-/// Makes an edit, which has to be accepted. What was shown of the text is then what is to be shown, once
-/// [`repaint`] has painted the tokens that changed: those in front of them stay, and those behind them move by as
-/// many bytes as the text grew or shrank. Where memory is refused nothing has changed.
+/// Makes an edit, which has to be accepted. Then only the tokens that [`repaint`] paints have to be painted
+/// again: those before them stay, and those after them move by as many bytes as the text grew or shrank. `Err`
+/// means that memory was refused, and then nothing has changed.
 pub fn edit_shown<S: Stepper>(
     lexed: &mut LexedText<S>,
     start: usize,
@@ -34,7 +34,7 @@ pub fn edit_shown<S: Stepper>(
     lexed.edit(start, stop, insert)
 }
 
-/// Writes the tokens that an edit changed, marked by their kinds in the styles of a terminal.
+/// Writes the tokens that an edit changed, in the styles of a terminal by their kinds.
 pub fn repaint<S: Stepper, W: fmt::Write>(
     lexed: &LexedText<S>,
     relexed: Relexed,
@@ -54,7 +54,7 @@ pub fn repaint<S: Stepper, W: fmt::Write>(
     Ok(())
 }
 
-/// The mark before a token, which sets the style of a terminal; none where the token is left plain.
+/// Returns what is written before a token: the terminal's sequence for its style, or nothing if it has none.
 fn opening(kind: TokenKind) -> &'static str
     ensures { result.now ≡ open_mark kind }
 {
@@ -68,7 +68,7 @@ fn opening(kind: TokenKind) -> &'static str
     }
 }
 
-/// The mark past a token, which sets the style back.
+/// Returns what is written after a token, which resets the style.
 fn closing(kind: TokenKind) -> &'static str
     ensures { result.now ≡ close_mark kind }
 {

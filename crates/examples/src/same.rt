@@ -1,9 +1,9 @@
-//! Two tokens beside each other.
+//! Compares two tokens.
 ghost use Rattle.std.specs.Prelude.{◌≡◌, ◌↔◌, IsTrue};
 
 use rustc_lexer::Token;
 
-/// Whether two tokens are the same.
+/// Returns whether two tokens are the same.
 pub fn is_same(one: Token, other: Token) -> bool
     ensures { IsTrue result ↔ (one ≡ other) }
 {

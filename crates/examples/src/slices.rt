@@ -1,4 +1,4 @@
-//! Slices of a text, by its tokens.
+//! Slices a text by its tokens.
 ghost use Rattle.std.specs.Prelude.{◌≡◌};
 ghost use Rattle.rustc_lexer.specs.Classes.{Fits};
 ghost use Rattle.rustc_lexer.specs.Edits.{pieces_of};
@@ -9,7 +9,7 @@ ghost use Rattle.examples.specs.Slices.{find_start};
 
 use rustc_lexer::{FrontmatterAllowed, TokenKind, tokenize};
 
-/// Where a word first stands in a text as an identifier or a keyword, and not in a comment or a literal.
+/// Returns where a word first comes in a text as an identifier or a keyword, not in a comment or a literal.
 pub fn find_word(text: &str, word: &str) -> Option<usize>
     requires fits { Fits text.now }
     ensures { result

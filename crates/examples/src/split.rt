@@ -1,4 +1,4 @@
-//! A text in the parts that its tokens are, in an edition.
+//! Splits a text into its tokens, in an edition.
 ghost use Rattle.std.specs.Prelude.{◌≡◌, IfOk, map};
 ghost use Rattle.rustc_lexer.specs.Classes.{Fits};
 ghost use Rattle.rustc_lexer.specs.LanguageText.{part};
@@ -10,7 +10,7 @@ ghost use Rattle.examples.specs.Split.{texts_of};
 use rustc_lexer::{Edition, tokenize_in};
 use std::alloc::{AllocError, Global};
 
-/// The parts of a text, one for each of its tokens in an edition. Joined they are the text.
+/// Returns the texts of the tokens in an edition, in order. Joined they are the text.
 pub fn split_in<'a>(
     alloc: Global,
     text: &'a str,

@@ -1,4 +1,4 @@
-//! What a run is to do.
+//! What a run has to do, as its arguments say.
 ghost use Rattle.std.specs.Prelude.{◌≡◌, ◌<◌, IfSome, length, map, string_bytes};
 ghost use Rattle.std.specs.Option.{option_map};
 ghost use Rattle.highlight_run.specs.Job.{in_edition, is_help, job_of, option_of, options_of, page, style_of, when_of, with_colours};
@@ -7,25 +7,25 @@ use marks::Style;
 use rustc_lexer::Edition;
 use std::str::FromStr;
 
-/// What a run is to do.
+/// What a run has to do.
 #[derive(Clone, Copy, Debug, PartialEq, Eq)]
 pub enum Job {
-    /// Write the text of standard input in a style, by the tokens of an edition. A frontmatter may stand in front.
+    /// Write the text of standard input in a style, lexed in an edition. The text may begin with a frontmatter.
     Show { style: Style, edition: Edition },
-    /// Say what the program takes.
+    /// Print the usage.
     Help,
 }
 
-/// When colours are written.
+/// When to write colours.
 #[derive(Clone, Copy)]
 enum When {
-    /// Where the output is a terminal that takes them.
+    /// If the output is a terminal and `NO_COLOR` is not set.
     Auto,
     Always,
     Never,
 }
 
-/// What the options ask for; `None` for one that is not given.
+/// The options that were given, and `None` for each of the others.
 #[derive(Clone, Copy)]
 struct Options {
     html: bool,
@@ -33,15 +33,15 @@ struct Options {
     color: Option<When>,
 }
 
-/// What no option asks for.
+/// No option.
 const NO_OPTIONS: Options = Options {
     html: false,
     edition: None,
     color: None,
 };
 
-/// The job that the words after the program's name ask for, or `None` where they ask for none. Where they name no
-/// edition it is the newest one. `colours` says whether the output is a terminal that takes colours.
+/// Returns the job that the arguments after the program's name ask for, or `None` if they are not valid. Without
+/// `--edition` the edition is the newest one. `colours` says whether to write colours if no argument says so.
 pub fn read_job(words: &[String], colours: bool) -> Option<Job>
     ensures { result ≡ job_of (map string_bytes words.now) colours }
 {
@@ -55,7 +55,7 @@ pub fn read_job(words: &[String], colours: bool) -> Option<Job>
     })
 }
 
-/// Whether the words are `--help` alone.
+/// Returns whether the only argument is `--help`.
 fn is_help(words: &[String]) -> bool
     ensures { result ≡ is_help (map string_bytes words.now) }
 {
@@ -65,7 +65,8 @@ fn is_help(words: &[String]) -> bool
     }
 }
 
-/// The options and those that the words write, in any order and each at most once: so it calls itself three times at most.
+/// Adds the options of the arguments to `options`, in any order, each at most once. So it calls itself at most
+/// three times.
 fn read_options(options: Options, words: &[String]) -> Option<Options>
     ensures { result ≡ options_of options (map string_bytes words.now) }
 {
@@ -76,7 +77,7 @@ fn read_options(options: Options, words: &[String]) -> Option<Options>
     read_options(options, after)
 }
 
-/// The options with the one that the first words write, and the words after them.
+/// Adds the first option of the arguments, and returns the options with the arguments that are left.
 fn read_option(options: Options, words: &[String]) -> Option<(Options, &[String])>
     ensures read { option_map (λ p. (p.0, map string_bytes p.1.now)) result
         ≡ option_of options (map string_bytes words.now) }
@@ -96,7 +97,7 @@ fn read_option(options: Options, words: &[String]) -> Option<(Options, &[String]
     }
 }
 
-/// The options with `--html`, unless they have it.
+/// Adds `--html`. Returns `None` if it is there already.
 fn page(options: Options) -> Option<Options>
     ensures { result ≡ page options }
 {
@@ -109,7 +110,7 @@ fn page(options: Options) -> Option<Options>
     })
 }
 
-/// The options with an edition, unless they have one.
+/// Adds an edition. Returns `None` if there is one already.
 fn in_edition(options: Options, edition: Edition) -> Option<Options>
     ensures { result ≡ in_edition options edition }
 {
@@ -122,7 +123,7 @@ fn in_edition(options: Options, edition: Edition) -> Option<Options>
     }
 }
 
-/// The options with `--color`, unless they have it.
+/// Adds `--color`. Returns `None` if it is there already.
 fn with_colours(options: Options, when: When) -> Option<Options>
     ensures { result ≡ with_colours options when }
 {
@@ -135,7 +136,7 @@ fn with_colours(options: Options, when: When) -> Option<Options>
     }
 }
 
-/// The style that the options ask for.
+/// Returns the style that the options ask for.
 fn style_of(options: Options, colours: bool) -> Style
     ensures { result ≡ style_of options colours }
 {
@@ -154,7 +155,7 @@ fn style_of(options: Options, colours: bool) -> Style
     }
 }
 
-/// When colours are written, by the word after `--color`.
+/// Reads the argument of `--color`.
 fn read_when(word: &str) -> Option<When>
     ensures { result ≡ when_of word.now }
 {

@@ -1,4 +1,4 @@
-//! The page around a marked text.
+//! The web page around a marked text.
 ghost use Rattle.std.specs.Prelude.{◌≡◌, OnOk};
 ghost use Rattle.std.specs.Fmt.{WritesInCalls};
 ghost use Rattle.rustc_lexer.specs.Classes.{Fits};
@@ -8,7 +8,7 @@ use marks::{Style, write_marked};
 use rustc_lexer::Edition;
 use std::fmt;
 
-/// What stands in a page before the text. A page drops the newline past `<pre>`.
+/// The page before the text. A browser drops a newline right after `<pre>`, so there is one.
 const HEAD: &str = "<!DOCTYPE html>
 <html lang=\"en\">
 <head>
@@ -45,13 +45,13 @@ mark::after { content: attr(title); display: inline-block; max-width: 100%; box-
 <pre>
 ";
 
-/// What stands in a page past the text.
+/// The page after the text.
 const FOOT: &str = "</pre>
 </body>
 </html>
 ";
 
-/// Writes a whole text between marks, as a page where the style is that of pages.
+/// Writes a whole marked text, inside a page if the style is HTML.
 pub fn write_text<W: fmt::Write>(
     style: Style,
     edition: Edition,
@@ -67,7 +67,7 @@ pub fn write_text<W: fmt::Write>(
     output.write_str(foot(style))
 }
 
-/// What stands before the text.
+/// Returns what is written before the text.
 fn head(style: Style) -> &'static str
     ensures { result.now ≡ head style }
 {
@@ -77,7 +77,7 @@ fn head(style: Style) -> &'static str
     }
 }
 
-/// What stands past the text.
+/// Returns what is written after the text.
 fn foot(style: Style) -> &'static str
     ensures { result.now ≡ foot style }
 {

@@ -1,4 +1,4 @@
-//! The whole program, over any ends.
+//! The whole program, for any reader and writers.
 ghost use Rattle.std.specs.Prelude.{◌≡◌, false, codes, Result};
 ghost use Rattle.ends.specs.Run.{Leaves};
 ghost use Rattle.ends.specs.Stop.{status_of, stop_line, Told};
@@ -13,7 +13,7 @@ use std::alloc::Global;
 use std::env::{Args, VarError};
 use std::io::{Read, Write};
 
-/// What the program takes.
+/// The usage.
 const HELP: &str = "highlight < FILE           writes a Rust source in the colours of a terminal
 highlight --html < FILE    writes it as a page
 highlight --help           writes these lines
@@ -24,10 +24,10 @@ Options stand in any order, each once. A page has its own colours, whatever --co
 A token with a fault is underlined in its first line, with a sentence behind it that says what is wrong.
 ";
 
-/// What a process is started with.
+/// What the system gives to a process.
 #[derive(Drop)]
 pub struct Start {
-    /// The arguments, which begin with the program's name; `None` where they could not be had.
+    /// The arguments, of which the first is the program's name, or `None` if the system did not give them.
     pub args: Option<Args>,
     /// The value of `NO_COLOR`.
     pub no_color: Result<String, VarError>,
@@ -35,7 +35,7 @@ pub struct Start {
     pub is_terminal: bool,
 }
 
-/// The whole program: reads its arguments and its input, writes to its output, tells what stopped it, and answers its
+/// Runs the program: reads arguments and input, writes the output, reports an error, and returns the exit
 /// status.
 pub fn program<R: Read, W: Write, E: Write>(
     alloc: Global,
@@ -63,7 +63,7 @@ pub fn program<R: Read, W: Write, E: Write>(
     report("highlight: ", &outcome, errors)
 }
 
-/// Reads the arguments, and then does what they ask for.
+/// Reads the arguments and does what they ask for.
 fn show<R: Read, W: Write>(
     alloc: Global,
     start: Start,
@@ -90,8 +90,8 @@ fn show<R: Read, W: Write>(
     }
 }
 
-/// Whether colours are written where the words do not say, by the value of `NO_COLOR`; `None` where memory for that
-/// value was refused.
+/// Returns whether to write colours if no argument says so, by the value of `NO_COLOR`. `None` means that memory
+/// for that value was refused.
 fn wants_colours(no_color: &Result<String, VarError>, is_terminal: bool) -> Option<bool>
     ensures { result ≡ colours_of no_color.now is_terminal }
 {

@@ -1,4 +1,4 @@
-//! A whole run: from the bytes of a reader to those of a writer.
+//! A whole run, from a reader to a writer.
 ghost use Rattle.std.specs.Prelude.{◌≡◌, false, IfOk, IfSome, string_bytes};
 ghost use Rattle.rustc_lexer.specs.Classes.{Fits};
 ghost use Rattle.ends.specs.Run.{Leaves, Makes};
@@ -12,10 +12,10 @@ use std::alloc::Global;
 use std::fmt;
 use std::io::{Read, Write};
 
-/// Reads all of the input, and then writes it with its tokens marked.
+/// Reads all of the input, then writes it with its tokens marked.
 ///
-/// Nothing is written before all of it is made: unless the output failed or was closed it is as it was.
-/// At `Ok` the last thing asked of the output was a flush, and it was not refused.
+/// It makes the whole output before it writes any of it. So unless the output itself failed or was closed, an
+/// error means that nothing was written. `Ok` means that the output was flushed last.
 #[tactic(auto, using(ends::proofs::RunLemmas::makes_unread, ends::proofs::RunLemmas::makes_written))]
 pub fn run<R: Read, W: Write>(
     alloc: Global,
@@ -40,7 +40,7 @@ pub fn run<R: Read, W: Write>(
     put(output, made.as_str())
 }
 
-/// All that is written of the text.
+/// Returns the whole output for a text.
 fn print(alloc: Global, style: Style, edition: Edition, text: &str) -> Result<String, fmt::Error>
     requires { Fits text.now }
     ensures { IfOk result (λ made. string_bytes made ≡ printed style edition text.now) }

@@ -1,4 +1,4 @@
-//! What single calls answer, and what a text of one character or one word is.
+//! The answers of single calls, also for texts of one character or one word.
 use crate::rows::Made;
 use crate::tables::raw_strings::CHECKS;
 use crate::tables::shebang;
@@ -27,7 +27,7 @@ fn checks_of_raw_strings(rt: HostRuntime) -> Result<(), AllocError> {
     Ok(())
 }
 
-/// Texts, the lengths of a prefix with which a raw string may start, and others with which none does.
+/// Texts, the lengths of a prefix with which a raw string may begin, and others with which none does.
 static PREFIXES: &[(&str, &[u32], &[u32])] = &[
     ("", &[], &[0, 1]),
     ("r", &[1], &[0, 2, u32::MAX]),
@@ -62,7 +62,7 @@ fn whole_identifiers(rt: HostRuntime) {
     }
 }
 
-/// Characters, and whether they are white space, of a line, begin an identifier and go on with one.
+/// Characters, and whether they are white space, of a line, begin an identifier and continue one.
 static CLASSES: &[(&str, [bool; 4])] = &[
     ("\t ", [true, true, false, false]),
     (

@@ -34,8 +34,8 @@ impl<S: Stepper> Keeps for LexedDocument<S> {
     }
 }
 
-/// Whether the row holds for a document in its edition, for one edit after another, and for all of them as a list. The
-/// stepper is called as often as tokens are lexed, except for so many tokens of heads.
+/// Returns whether the row holds for a document in its edition, one edit after another and as a list. The
+/// stepper is called once for each token that is lexed, except for so many tokens of heads.
 fn holds(alloc: Global, row: &EditRow, heads: u64) -> Result<bool, AllocError> {
     let made = Made::of(alloc, row.text)?;
     let text = made.text.as_str();
@@ -57,7 +57,7 @@ fn holds(alloc: Global, row: &EditRow, heads: u64) -> Result<bool, AllocError> {
     )
 }
 
-/// Texts with a head, and those of parts, which have none: what an edit of them keeps is the same.
+/// Texts with a head, and texts without one: an edit of them keeps the same.
 #[test]
 fn rows(rt: HostRuntime) -> Result<(), AllocError> {
     for (name, heads, rows) in [
@@ -102,7 +102,7 @@ fn heads(rt: HostRuntime) -> Result<(), AllocError> {
     Ok(())
 }
 
-/// Whether the tokens from number `from` up to `to` are there, and these are their pieces.
+/// Returns whether there are tokens from number `from` up to `to`, and these are their pieces.
 fn has_pieces<S: Stepper>(
     held: &LexedDocument<S>,
     from: usize,
@@ -125,7 +125,8 @@ fn pieces_of_a_document(rt: HostRuntime) -> Result<(), AllocError> {
     Ok(())
 }
 
-/// Far in a text of 2000 tokens behind a frontmatter, four in each 8 bytes, and what an edit lexes and moves.
+/// Pieces far into a text of 2000 tokens after a frontmatter, four in each 8 bytes, and those that an edit lexes
+/// and moves.
 #[test]
 fn pieces_far_behind_a_frontmatter(rt: HostRuntime) -> Result<(), AllocError> {
     let mut text = String::from_str(rt.alloc(), "---\n---\n")?;
@@ -145,7 +146,7 @@ fn pieces_far_behind_a_frontmatter(rt: HostRuntime) -> Result<(), AllocError> {
     Ok(())
 }
 
-/// An edition has its tokens behind the same head.
+/// Each edition has its own tokens after the same head.
 #[test]
 fn another_edition(rt: HostRuntime) -> Result<(), AllocError> {
     let mut held = LexedDocument::new_in(rt.alloc(), "#!a\n---\n---\n'r#foo", Edition::E2021)?;

@@ -1,4 +1,4 @@
-//! Edits of a text that is kept with its tokens: one by one, and as a list.
+//! Edits of a text that is kept with its tokens, one by one and as a list.
 use crate::rows::Made;
 use crate::steppers::{Characters, Counting};
 use crate::tables::edits::{CHARACTERS, EditRow, LONG, SHORT, Step};
@@ -11,7 +11,7 @@ pub(crate) trait Keeps {
 
     fn tokens(&self) -> &[Token];
 
-    /// Makes the edit, or answers `None` where it is not accepted.
+    /// Makes the edit, or returns `None` if it is not accepted.
     fn try_edit(
         &mut self,
         start: usize,
@@ -48,18 +48,19 @@ impl<S: Stepper> Keeps for LexedText<S> {
     }
 }
 
-/// Whether the text and the tokens are these.
+/// Returns whether the text and the tokens are these.
 fn is_left<K: Keeps>(lexed: &K, made: &Made) -> bool {
     lexed.text() == made.text.as_str() && lexed.tokens() == made.tokens.as_slice()
 }
 
-/// Makes the edit, where it is accepted. Answers whether it has its counts, or is refused as it should be.
+/// Makes the edit if it is accepted. Returns whether it has the counts of the row, or is refused as the row
+/// says.
 fn is_made<K: Keeps>(alloc: Global, lexed: &mut K, step: &Step) -> Result<bool, AllocError> {
     let made = Made::of(alloc, step.insert)?;
     Ok(lexed.try_edit(step.start, step.stop, made.text.as_str())? == step.counts)
 }
 
-/// Makes the edits one by one. Answers whether each is as the row says, and so is what they leave.
+/// Makes the edits one by one. Returns whether each is as the row says, and the text and tokens after them.
 pub(crate) fn is_edited<K: Keeps>(
     alloc: Global,
     lexed: &mut K,
@@ -73,7 +74,7 @@ pub(crate) fn is_edited<K: Keeps>(
     Ok(is_left(lexed, &Made::of(alloc, row.made)?))
 }
 
-/// Whether the edits as a list come to the same, and an empty list behind them changes nothing.
+/// Returns whether the edits as a list give the same, and an empty list after them changes nothing.
 pub(crate) fn is_listed<K: Keeps>(
     alloc: Global,
     lexed: &mut K,
@@ -104,7 +105,7 @@ pub(crate) fn is_listed<K: Keeps>(
     )
 }
 
-/// How many tokens the edits of the row lex.
+/// Returns how many tokens the edits of the row lex.
 pub(crate) fn lexed_by(row: &EditRow) -> u64 {
     let mut lexed = 0u64;
     for step in row.steps {
@@ -115,8 +116,8 @@ pub(crate) fn lexed_by(row: &EditRow) -> u64 {
     lexed
 }
 
-/// Whether the row holds for a text in its edition, for one edit after another, and for all of them as a list. The
-/// stepper is called as often as tokens are lexed.
+/// Returns whether the row holds for a text in its edition, one edit after another and as a list. The stepper is
+/// called once for each token that is lexed.
 fn holds(alloc: Global, row: &EditRow) -> Result<bool, AllocError> {
     let made = Made::of(alloc, row.text)?;
     let text = made.text.as_str();

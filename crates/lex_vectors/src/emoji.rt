@@ -1,7 +1,7 @@
-//! The ends of the ranges of emoji are emoji, and their neighbours are not.
+//! The ends of each range of emoji are emoji, and their neighbours are not.
 //!
-//! A lifetime that begins with an emoji says so by a field, whatever else the character is. One that begins with a
-//! digit has that field too, and a digit begins a number: so no token shows that a digit is no emoji.
+//! A field of a lifetime says that it begins with an emoji, whatever else the character is. It is set for a
+//! digit too, and a digit begins a number: so no token shows that a digit is not an emoji.
 use crate::tables::kinds::BAD_LIFETIME;
 use rustc_lexer::{FrontmatterAllowed, TokenKind, fits, is_id_start, tokenize};
 use std::alloc::{AllocError, Global};
@@ -35,7 +35,7 @@ static RANGES: [&[u32]; 148] = ranges! {
     0x1FAE0..=0x1FAE8, 0x1FAF0..=0x1FAF8,
 };
 
-/// The kind of the first token of a text with this front and this character behind it.
+/// Returns the kind of the first token of a text with this front and this character after it.
 fn kind_of(alloc: Global, front: &str, c: char) -> Result<Option<TokenKind>, AllocError> {
     let mut text = String::from_str(alloc, front)?;
     text.push(c)?;
@@ -48,7 +48,7 @@ fn kind_of(alloc: Global, front: &str, c: char) -> Result<Option<TokenKind>, All
     }
 }
 
-/// Whether the tokens of the character are those of an emoji, or else those of none.
+/// Returns whether the tokens of the character are those of an emoji, or else those of no emoji.
 fn is_shown(alloc: Global, code: u32, emoji: bool) -> Result<bool, AllocError> {
     let Some(c) = char::from_u32(code) else {
         return Ok(false);
@@ -58,7 +58,7 @@ fn is_shown(alloc: Global, code: u32, emoji: bool) -> Result<bool, AllocError> {
     Ok(begins_lifetime == emoji && begins_word == (emoji && !is_id_start(c)))
 }
 
-/// Whether the ends of the range are shown as emoji, and its neighbours as none.
+/// Returns whether the ends of the range are emoji, and its neighbours are not.
 fn is_range(alloc: Global, ends: &[u32]) -> Result<bool, AllocError> {
     let (Some(low), Some(high)) = (ends.first(), ends.last()) else {
         return Ok(false);

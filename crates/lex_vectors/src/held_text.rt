@@ -5,14 +5,14 @@ use rustc_lexer::{Edition, LexedText, Piece, Pieces, Stepper, Steps, TokenKind, 
 use std::alloc::AllocError;
 use std::iter::{ExactSizeIterator, Iterator};
 
-/// Whether there is a piece, which begins there and has this text.
+/// Returns whether there is a piece that begins there and has this text.
 fn is_piece(piece: Option<Piece<'_>>, start: u32, text: &str) -> bool {
     piece.is_some_and(|piece| {
         piece.start == start && piece.text == text && piece.token.len as usize == text.len()
     })
 }
 
-/// Whether these are the starts and the texts of the pieces.
+/// Returns whether these are the starts and the texts of the pieces.
 pub(crate) fn are_pieces(pieces: Pieces<'_>, rows: &[(u32, &str)]) -> bool {
     let mut pieces = pieces;
     let (least, most) = pieces.size_hint();
@@ -35,7 +35,7 @@ fn pieces_of_a_text(rt: HostRuntime) -> Result<(), AllocError> {
     Ok(())
 }
 
-/// Whether the tokens from number `from` up to `to` are there, and these are their pieces.
+/// Returns whether there are tokens from number `from` up to `to`, and these are their pieces.
 fn has_pieces<S: Stepper>(
     lexed: &LexedText<S>,
     from: usize,
@@ -45,7 +45,8 @@ fn has_pieces<S: Stepper>(
     from <= to && to <= lexed.tokens().len() && are_pieces(lexed.pieces_of(from, to), rows)
 }
 
-/// Far in a text of 2000 tokens, four in each 8 bytes, none of them, the last one, and what an edit lexes and moves.
+/// Pieces far into a text of 2000 tokens, four in each 8 bytes: none of them, the last one, and those that an
+/// edit lexes and moves.
 #[test]
 fn pieces_of_some_tokens(rt: HostRuntime) -> Result<(), AllocError> {
     let text = "abé 12 ".repeat(rt.alloc(), 500)?;
@@ -65,7 +66,7 @@ fn pieces_of_some_tokens(rt: HostRuntime) -> Result<(), AllocError> {
     Ok(())
 }
 
-/// Whether the text `'r#foo` is held in the edition with these tokens.
+/// Returns whether the text `'r#foo` is kept in the edition with these tokens.
 fn is_held(lexed: &LexedText<Steps>, edition: Edition, tokens: &[(TokenKind, u32)]) -> bool {
     let held = lexed.tokens().iter().map(|token| (token.kind, token.len));
     lexed.edition() == edition && lexed.text() == "'r#foo" && held.eq(tokens.iter().copied())

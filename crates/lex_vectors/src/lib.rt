@@ -1,4 +1,4 @@
-//! Tests of `rustc_lexer` from outside: texts with the tokens that they should give.
+//! Tests of `rustc_lexer` from outside: texts and their tokens.
 #![tactic(auto)]
 
 #[cfg(test)]

@@ -1,8 +1,8 @@
-//! One edit on a list of tokens that the caller holds.
+//! One edit of a list of tokens that the caller keeps.
 use rustc_lexer::TokenKind::{Eof, Ident, Whitespace};
 use rustc_lexer::{Bound, Change, Relexed, Relexing, Steps, Token};
 
-/// `ab cd ef` is changed to `ab x y ef`. Its new tokens come by buffers of two, and by single steps.
+/// Changes `ab cd ef` to `ab x y ef`, and lexes by buffers of two tokens and by single steps.
 #[test]
 fn a_list_of_the_caller(rt: HostRuntime) {
     let token = |kind, len| Token { kind, len };

@@ -1,5 +1,5 @@
-//! Whether each text gives the tokens of its row, by each way to ask for them. One assertion tells the rows that do not
-//! hold: a check of many assertions takes the prover long.
+//! Checks that each text gives the tokens of its row, by each call. One assertion names all rows that fail: many
+//! assertions would take the prover long.
 ghost use Rattle.rustc_lexer.specs.Classes.{Fits};
 
 use crate::tables::all::all;
@@ -11,7 +11,7 @@ use std::alloc::{AllocError, Global};
 use std::fmt::Write;
 use std::test::Fail;
 
-/// A text, and the tokens that it should give.
+/// A text and its tokens.
 #[derive(Drop)]
 pub struct Made {
     pub text: String,
@@ -19,7 +19,7 @@ pub struct Made {
 }
 
 impl Made {
-    /// The text and the tokens of the parts.
+    /// Returns the text and the tokens of the parts.
     pub fn of(alloc: Global, parts: &[Part]) -> Result<Made, AllocError> {
         let mut text = String::new(alloc);
         let mut tokens = Vec::new(alloc);
@@ -37,7 +37,7 @@ impl Made {
         Ok(Made { text, tokens })
     }
 
-    /// The number of the first call that does not give these tokens, or gives others beside them.
+    /// Returns the number of the first call that gives other tokens than these.
     fn fault(&self, ways: &[Way]) -> Option<usize> {
         let text = self.text.as_str();
         let wanted = self.tokens.as_slice();
@@ -54,7 +54,7 @@ impl Made {
     }
 }
 
-/// What the call makes of the text.
+/// Returns the tokens of the text by the call.
 fn lex<'a>(text: &'a str, way: Way) -> Tokens<'a>
     requires { Fits text.now }
 {
@@ -65,7 +65,7 @@ fn lex<'a>(text: &'a str, way: Way) -> Tokens<'a>
     }
 }
 
-/// Writes down the rows of the table that do not hold.
+/// Collects the rows of the table that fail.
 fn write_faults(alloc: Global, faults: &mut String, table: (&str, &[Row])) -> Result<(), Fail> {
     let (name, rows) = table;
     for row in rows {
@@ -86,10 +86,10 @@ fn rows(rt: HostRuntime) -> Result<(), Fail> {
     Ok(())
 }
 
-/// How many tokens the longest buffer has, which is longer than each row.
+/// The size of the longest buffer, longer than each row.
 const BUFFER_LEN: usize = 64;
 
-/// Whether these tokens come one by one, and no others, and nothing is left then.
+/// Returns whether exactly these tokens come one by one, and nothing is left then.
 fn gives(tokens: Tokens<'_>, wanted: &[Token]) -> bool {
     let mut tokens = tokens;
     for token in wanted {
@@ -100,7 +100,7 @@ fn gives(tokens: Tokens<'_>, wanted: &[Token]) -> bool {
     tokens.as_str().is_empty() && tokens.next().is_none() && tokens.next().is_none()
 }
 
-/// Whether these tokens and no others are written into a buffer of the one length and of the other in turns.
+/// Returns whether exactly these tokens are written into buffers of the two lengths in turns.
 fn fills(tokens: Tokens<'_>, lengths: [usize; 2], wanted: &[Token]) -> bool {
     let mut tokens = tokens;
     let mut buffer = [Token {

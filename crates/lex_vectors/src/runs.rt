@@ -1,23 +1,24 @@
-//! Runs of 0 to 100 characters, and searches as far: each text is made so that the place of what stops it is known.
+//! Runs of 0 to 100 characters, and searches over as many: each text is made so that the place of its stop is
+//! known.
 //!
-//! A byte that begins no character in UTF-8, such as 0x80, stands at no front that a text could show.
+//! A byte that begins no character in UTF-8, like 0x80, cannot come first in a text.
 use crate::tables::kinds::{HEXADECIMAL, INT, LINE, OPEN_STR, STR};
 use Reach::{PastStop, Suffix, ToEnd, ToStop};
 use rustc_lexer::TokenKind::{Eof, Ident, Literal, Whitespace};
 use rustc_lexer::{Base, FrontmatterAllowed, LiteralKind, Token, TokenKind, fits, tokenize};
 use std::alloc::{AllocError, Global};
 
-/// How many characters a text has at most beside its front and its stop.
+/// The most characters of a text between its front and its stop.
 const MOST: usize = 100;
 
-/// How far the token goes that has the run.
+/// How far the token with the run goes.
 #[derive(Clone, Copy)]
 enum Reach {
     /// Up to the stop.
     ToStop,
-    /// Past the stop, which closes it.
+    /// Past the stop, which terminates it.
     PastStop,
-    /// To the end of the text, and from the stop on it is a suffix.
+    /// To the end of the text, and what begins at the stop is its suffix.
     Suffix,
     /// To the end of the text.
     ToEnd,
@@ -25,13 +26,13 @@ enum Reach {
 
 /// A token with a run in it.
 struct Runs {
-    /// What stands before the run.
+    /// What comes before the run.
     front: &'static str,
-    /// The characters of the run, over and over.
+    /// The characters of the run, repeated.
     members: &'static str,
-    /// The token where the run is empty, and where it is not, but for the place of a suffix.
+    /// The token if the run is empty, and if it is not, except for the place of a suffix.
     kinds: [TokenKind; 2],
-    /// What stops the run, where the end of the text is an empty one, and how far the token then goes.
+    /// What stops the run, empty for the end of the text, and how far the token then goes.
     stops: &'static [(&'static [&'static str], Reach)],
 }
 
@@ -47,7 +48,7 @@ macro_rules! runs {
     };
 }
 
-/// What `kinds` has in place of the place of a suffix.
+/// What `kinds` has instead of the place of a suffix.
 const ANYWHERE: u32 = 0;
 
 /// A literal with a suffix anywhere.
@@ -88,7 +89,8 @@ static ALL: &[Runs] = runs! {
 };
 
 impl Runs {
-    /// The first stop, and the length of a run before it, at which the token is another than the table says.
+    /// Returns the first stop, and the length of a run before it, for which the token is not the one of the
+    /// table.
     fn fault(&self, alloc: Global) -> Result<Option<(&'static str, usize)>, AllocError> {
         let all = self.members.repeat(alloc, MOST)?;
         for (stops, reach) in self.stops {
@@ -101,7 +103,7 @@ impl Runs {
         Ok(None)
     }
 
-    /// The first length of a run before this stop at which it is another, whatever stands behind the stop.
+    /// Returns the first length of a run before this stop for which it is not, whatever follows the stop.
     fn wrong_end(
         &self,
         alloc: Global,
@@ -123,7 +125,7 @@ impl Runs {
         Ok(None)
     }
 
-    /// Whether the first token is as the table says: of the front with a run, its stop and what follows that.
+    /// Returns whether the first token of a front with a run, its stop and what follows is as the table says.
     fn holds(&self, alloc: Global, parts: [&str; 3], reach: Reach) -> Result<bool, AllocError> {
         let [run, stop, tail] = parts;
         let mut text = String::from_str(alloc, self.front)?;
@@ -143,7 +145,7 @@ impl Runs {
     }
 }
 
-/// Whether the text begins with this token, where it is taken alone and where a buffer is filled.
+/// Returns whether the text begins with this token, taken alone and with a buffer filled.
 fn begins_with(text: &str, token: (TokenKind, usize, usize)) -> bool {
     if !fits(text) {
         return false;
@@ -156,8 +158,8 @@ fn begins_with(text: &str, token: (TokenKind, usize, usize)) -> bool {
     }
 }
 
-/// The kind of a token but for the place of its suffix, that place, which is its end where it can have none, and its
-/// length.
+/// Returns the kind of a token without the place of its suffix, that place, which is its end if it can have
+/// none, and its length.
 fn split(token: Token) -> (TokenKind, usize, usize) {
     let len = token.len as usize;
     match token.kind {

@@ -1,5 +1,5 @@
-//! The rows, as data. The tests of plain Rust read these files too: each names nothing but the lexer's types, and other
-//! tables.
+//! The rows, as data. The tests in plain Rust read these files too, so each uses only the lexer's types and
+//! other tables.
 pub(crate) mod all;
 pub(crate) mod comments;
 pub(crate) mod documents;

@@ -1,4 +1,4 @@
-//! The types of an answer by themselves: names, numbers, orders, equality, and what is written of errors.
+//! The types of the answers by themselves: names, numbers, orders, equality, and the messages of errors.
 use crate::tables::all::all;
 use crate::tables::row::Row;
 use rustc_lexer::Base::*;
@@ -9,13 +9,13 @@ use rustc_lexer::{EditStop, Edition, GuardedStr, RawStrError, Token, TokenKind, 
 use std::alloc::{AllocError, Global};
 use std::fmt::{Debug, Display};
 
-/// Whether what `Debug` writes of the value begins with this name.
+/// Returns whether the value's `Debug` text begins with this name.
 fn begins_with_name<T: Debug>(alloc: Global, value: &T, name: &str) -> Result<bool, AllocError> {
     let shown = format!(in alloc; "{value:?}")?;
     Ok(shown.as_str().split(' ').next() == Some(name))
 }
 
-/// Whether the name of the kind is that of its variant, and so is the name of the kind of a literal.
+/// Returns whether the name of the kind is that of its variant, and the same for the kind of a literal.
 fn is_named(alloc: Global, kind: &TokenKind) -> Result<bool, AllocError> {
     let is_of_literal = match kind {
         TokenKind::Literal { kind, .. } => begins_with_name(alloc, kind, kind.name())?,
@@ -24,7 +24,7 @@ fn is_named(alloc: Global, kind: &TokenKind) -> Result<bool, AllocError> {
     Ok(is_of_literal && begins_with_name(alloc, kind, kind.name())?)
 }
 
-/// Whether all kinds of the rows have the names of their variants.
+/// Returns whether all kinds of the rows have the names of their variants.
 fn are_named(alloc: Global, rows: &[Row]) -> Result<bool, AllocError> {
     for row in rows {
         for (_, _, tokens) in row.parts {
@@ -46,12 +46,12 @@ fn a_name_is_that_of_its_variant(rt: HostRuntime) -> Result<(), AllocError> {
     Ok(())
 }
 
-/// Whether this is written of the error.
+/// Returns whether this is the message of the error.
 fn is_said<T: Display>(alloc: Global, error: &T, said: &str) -> Result<bool, AllocError> {
     Ok(format!(in alloc; "{error}")?.as_str() == said)
 }
 
-/// A refusal for want of an end, with these fields.
+/// The error of a raw string that is not terminated, with these fields.
 fn no_terminator(expected: u32, found: u32, offset: Option<u32>) -> RawStrError {
     NoTerminator {
         expected,
@@ -60,7 +60,7 @@ fn no_terminator(expected: u32, found: u32, offset: Option<u32>) -> RawStrError 
     }
 }
 
-/// That each of these is written so.
+/// Asserts these messages.
 macro_rules! said {
     ($rt:expr; $($error:expr => $said:literal,)*) => {
         for (error, said) in [$(($error, $said)),*] {
@@ -91,7 +91,7 @@ fn numbers_of_bases(rt: HostRuntime) {
     assert_eq!(rt; numbers, [2, 8, 10, 16]);
 }
 
-/// Whether of two values in a row the one that stands first is the smaller, and each equals itself.
+/// Returns whether the first of two values is less than the second, and each equals itself.
 fn ascend<T: Ord>(values: &[T]) -> bool {
     for (left_place, left) in values.iter().enumerate() {
         for (right_place, right) in values.iter().enumerate() {
@@ -115,7 +115,7 @@ fn guarded(n_hashes: u32, terminated: bool, token_len: u32) -> GuardedStr {
     }
 }
 
-/// That these ascend.
+/// Asserts that these ascend.
 macro_rules! ascending {
     ($rt:expr; $($value:expr),* $(,)?) => {
         assert!($rt; ascend(&[$($value),*]))
@@ -151,7 +151,7 @@ fn tokens_of_one_length(rt: HostRuntime) {
     assert!(rt; !(ident == token(TokenKind::Ident, 2)));
 }
 
-/// Whether the word and the year name the edition, and it has this place among all.
+/// Returns whether the word and the year name the edition, and it has this place among all.
 fn is_edition(index: usize, word: &str, year: u16, edition: Edition) -> bool {
     word.parse::<Edition>() == Ok(edition)
         && edition.year() == year

@@ -1,4 +1,4 @@
-//! Why a run stops.
+//! Why a run fails.
 ghost use Rattle.std.specs.Prelude.{◌≡◌, Some};
 ghost use Rattle.lexdump_run.specs.Fault.{fault_text, end_fault, status_of, stop_fault};
 ghost use Rattle.lexdump_run.specs.declared.fault.Fault.TheVariants.{Memory, Write};
@@ -9,28 +9,28 @@ use std::alloc::{AllocError, AllocFailed};
 use std::error::Error;
 use std::fmt;
 
-/// Why a run stops.
+/// Why a run fails.
 #[derive(Clone, Copy, Debug, PartialEq, Eq)]
 pub enum Fault {
-    /// The words after the program's name are no job.
+    /// The arguments are not valid.
     Arguments,
     /// The input is not UTF-8.
     NotUtf8,
     /// The input has more than `u32::MAX` bytes.
     TooLong,
-    /// Edit number `at`, from 0, has a range that is not in the text, or not between characters.
+    /// The range of edit number `at`, from 0, is not inside the text or not between characters.
     EditRange { at: usize },
-    /// Edit number `at`, from 0, makes a text of more than `u32::MAX` bytes.
+    /// Edit number `at`, from 0, would make a text of more than `u32::MAX` bytes.
     EditTooLong { at: usize },
-    /// A request for memory was refused.
+    /// Memory was refused.
     Memory,
     /// The reader failed.
     Read,
-    /// The writer failed, or took nothing of what it was given.
+    /// The writer failed, or wrote nothing of what it was given.
     Write,
 }
 
-/// The status with which the program ends.
+/// Returns the exit status of the program.
 pub fn status(fault: &Fault) -> u8
     ensures { result ≡ status_of fault.now }
 {

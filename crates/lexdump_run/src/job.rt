@@ -1,4 +1,4 @@
-//! What a run is to do.
+//! What a run has to do, as its arguments say.
 ghost use Rattle.std.specs.Prelude.{◌≡◌, ◌<◌, ◌↔◌, IfErr, IfOk, IsSome, IsTrue, Some, length, map, string_bytes};
 ghost use Rattle.std.specs.Option.{option_map};
 ghost use Rattle.lexdump_run.specs.Job.{command_of, edit_job, first_replacement, job_in, job_of, place_of, replacement, replacements_of, IsJobFault};
@@ -8,26 +8,26 @@ use rustc_lexer::{Edit, Edition};
 use std::alloc::{AllocError, Global};
 use std::str::FromStr;
 
-/// What a run is to do with its input.
+/// What a run does with its input.
 #[derive(Drop)]
 pub enum Job<'a> {
     /// List the tokens of the text in an edition.
     Plain {
         edition: Edition,
     },
-    /// List the tokens of the text in the newest edition, where a frontmatter may stand in front.
+    /// List the tokens of the text, which may begin with a frontmatter, in the newest edition.
     Front,
     /// Print the length of the shebang line.
     Shebang,
-    /// List the tokens of the text after the edits, in an edition.
+    /// Make the edits, then list the tokens of the text in an edition.
     Edit {
         edition: Edition,
         edits: Vec<Edit<'a>>,
     },
 }
 
-/// Reads the words after the program's name. It asks for memory only for edits, and only once all words are
-/// known to be good.
+/// Reads the arguments after the program's name. It allocates only for edits, and only once all arguments are
+/// known to be valid.
 pub fn read_job<'a>(alloc: Global, words: &'a [String]) -> Result<Job<'a>, Fault>
     ensures job { IfOk result (λ job. job_of (map string_bytes words.now) ≡ Some (command_of job)) }
     ensures fault { IfErr result (λ fault. IsJobFault fault (job_of (map string_bytes words.now))) }
@@ -45,7 +45,7 @@ pub fn read_job<'a>(alloc: Global, words: &'a [String]) -> Result<Job<'a>, Fault
     }
 }
 
-/// Reads the words of a job that may name an edition.
+/// Reads the arguments of a job that may name an edition.
 fn read_job_in<'a>(alloc: Global, words: &'a [String], edition: Edition) -> Result<Job<'a>, Fault>
     ensures job { IfOk result
         (λ job. job_in edition (map string_bytes words.now) ≡ Some (command_of job)) }
@@ -61,7 +61,7 @@ fn read_job_in<'a>(alloc: Global, words: &'a [String], edition: Edition) -> Resu
     }
 }
 
-/// Reads the words after `edit`.
+/// Reads the arguments after `edit`.
 fn read_edit_job<'a>(alloc: Global, words: &'a [String], edition: Edition) -> Result<Job<'a>, Fault>
     ensures job { IfOk result
         (λ job. edit_job edition (map string_bytes words.now) ≡ Some (command_of job)) }
@@ -77,7 +77,7 @@ fn read_edit_job<'a>(alloc: Global, words: &'a [String], edition: Edition) -> Re
     })
 }
 
-/// Whether the words are one edit or more, three words each.
+/// Returns whether the arguments are one edit or more, of three arguments each.
 fn are_edits(words: &[String]) -> bool
     ensures { IsTrue result
         ↔ ((0 < length words.now) × IsSome (replacements_of (map string_bytes words.now))) }
@@ -89,7 +89,7 @@ fn are_edits(words: &[String]) -> bool
     rest.is_empty() && !words.is_empty()
 }
 
-/// The edits that the words write.
+/// Returns the edits of the arguments.
 fn read_edits<'a>(alloc: Global, words: &'a [String]) -> Result<Vec<Edit<'a>>, AllocError>
     requires { IsSome (replacements_of (map string_bytes words.now)) }
     ensures { IfOk result
@@ -105,7 +105,7 @@ fn read_edits<'a>(alloc: Global, words: &'a [String]) -> Result<Vec<Edit<'a>>, A
     Ok(edits)
 }
 
-/// The edit that the first three words write, and the words after them.
+/// Returns the edit of the first three arguments, and the arguments after them.
 fn first_edit<'a>(words: &'a [String]) -> Option<(Edit<'a>, &'a [String])>
     ensures { option_map (λ p. (replacement p.0, map string_bytes p.1.now)) result
         ≡ first_replacement (map string_bytes words.now) }
@@ -121,15 +121,15 @@ fn first_edit<'a>(words: &'a [String]) -> Option<(Edit<'a>, &'a [String])>
     Some((edit, rest))
 }
 
-/// The most digits that a place is written by.
+/// The most digits that an offset may have.
 const MOST_DIGITS: usize = 10;
 
-/// The place that a word writes.
+/// Reads an offset.
 #[tactic(auto, unfolding(crate::specs::Job::place_of))]
 fn read_place(word: &str) -> Option<usize>
     ensures { result ≡ place_of word.now }
 {
-    // A sign is no digit, though `parse` takes a plus.
+    // `parse` would take a plus sign, which is not a digit.
     if word.len() > MOST_DIGITS || word.starts_with('+') {
         return None;
     }

@@ -1,4 +1,5 @@
-//! What the program `lexdump` does, over any ends: it prints the tokens of a Rust source, one a line.
+//! The program `lexdump`: prints the tokens of a Rust source, one per line. It reads and writes whatever ends it
+//! is given.
 #![tactic(auto)]
 
 mod fault;

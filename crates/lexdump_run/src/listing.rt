@@ -1,4 +1,4 @@
-//! The listing of tokens: a line for each, with its start, its length, its kind and the fields of that.
+//! The listing: one line per token, with its start, its length, its kind and the kind's fields.
 ghost use Rattle.std.specs.Prelude.{◌≡◌, ◌+◌, ◌^◌, ◌<◌, ◌++◌, [], Ok, codes, false, true, is_err, length, IfErr, IfOk, OnErr, OnOk};
 ghost use Rattle.std.specs.Io.KnownBytes.{Appends};
 ghost use Rattle.ends.specs.Known.{AppendsFront};
@@ -23,10 +23,10 @@ use rustc_lexer::{
 use std::alloc::Global;
 use std::io::Write;
 
-/// How many tokens are read at once.
+/// How many tokens are lexed at once.
 const BUFFER_LEN: usize = 256;
 
-/// A buffer in which no token was written yet.
+/// Makes a buffer for tokens.
 fn new_buffer() -> [Token; BUFFER_LEN] {
     [Token {
         kind: TokenKind::Eof,
@@ -34,7 +34,7 @@ fn new_buffer() -> [Token; BUFFER_LEN] {
     }; BUFFER_LEN]
 }
 
-/// Writes the lines of tokens, of which the first begins at the byte `start`, and flushes the output.
+/// Writes the lines of the tokens, the first of which begins at byte `start`, and flushes.
 pub fn write_listing<W: Write>(
     output: &mut Watched<W>,
     start: u32,
@@ -55,7 +55,7 @@ pub fn write_listing<W: Write>(
     lines.finish(output)
 }
 
-/// Lists the tokens of a text, which has at most `u32::MAX` bytes, in an edition.
+/// Lists the tokens of a text in an edition. The text may have at most `u32::MAX` bytes.
 pub fn list_tokens<W: Write>(
     lines: &mut Block,
     output: &mut Watched<W>,
@@ -79,7 +79,7 @@ pub fn list_tokens<W: Write>(
     Ok(())
 }
 
-/// Adds the lines of tokens, of which the first begins at the byte `start`.
+/// Adds the lines of the tokens, the first of which begins at byte `start`.
 fn push_lines<W: Write>(
     lines: &mut Block,
     output: &mut Watched<W>,
@@ -100,7 +100,7 @@ fn push_lines<W: Write>(
     Ok(())
 }
 
-/// Tells the length of the shebang line of a text.
+/// Prints the length of the shebang line of a text.
 #[tactic(auto, using(crate::proofs::PushLemmas::pushes_both, crate::proofs::PushLemmas::pushes_first))]
 pub fn tell_shebang<W: Write>(
     lines: &mut Block,
@@ -122,7 +122,7 @@ pub fn tell_shebang<W: Write>(
     }
 }
 
-/// The text after the edits, with its tokens in an edition.
+/// Returns the text after the edits, with its tokens in an edition.
 pub fn edited(
     alloc: Global,
     text: &str,
@@ -139,7 +139,7 @@ pub fn edited(
     Ok(lexed)
 }
 
-/// Lists the tokens of a text that is kept with them.
+/// Lists the tokens of a lexed text.
 pub fn list_pieces<W: Write, S: Stepper>(
     lines: &mut Block,
     output: &mut Watched<W>,
@@ -156,7 +156,7 @@ pub fn list_pieces<W: Write, S: Stepper>(
     Ok(())
 }
 
-/// Adds the line of a token that begins at the byte `start`.
+/// Adds the line of a token that begins at byte `start`.
 fn push_line<W: Write>(
     lines: &mut Block,
     output: &mut Watched<W>,
@@ -176,7 +176,7 @@ fn push_line<W: Write>(
     lines.push(output, "\n")
 }
 
-/// Whether the kind has fields, which its line shows.
+/// Returns whether the kind has fields that its line shows.
 #[tactic(auto, unfolding(crate::specs::Listing::fields_text))]
 fn has_fields(kind: TokenKind) -> bool
     ensures { result ≡ false → fields_text kind ≡ [] }
@@ -191,10 +191,10 @@ fn has_fields(kind: TokenKind) -> bool
     )
 }
 
-/// The most bytes of a start, a length and the space after each.
+/// The most bytes that a start, a length and a space after each take.
 const PLACE: usize = 22;
 
-/// Adds the start and the length of a token, and a space after each.
+/// Adds the start and the length of a token, each with a space after it.
 fn push_place<W: Write>(
     lines: &mut Block,
     output: &mut Watched<W>,
@@ -206,14 +206,14 @@ fn push_place<W: Write>(
     ensures pushed { Pushes (W.contents output.old.inner) (W.contents output.new.inner)
         lines.old lines.new (place_text start len) result }
 {
-    // Written from the last byte to the first.
+    // Digits are written from the last to the first.
     let mut place = [b' '; PLACE];
     let len_at = write_digits(u64::from(len), &mut place, PLACE - 1);
     let start_at = write_digits(u64::from(start), &mut place, len_at - 1);
     lines.push_bytes(output, &place[start_at..])
 }
 
-/// A field: what stands before its value, and the value.
+/// A field: what comes before its value, and the value.
 #[derive(Clone, Copy)]
 struct Field {
     label: &'static str,
@@ -227,13 +227,13 @@ enum Value {
     Number(u32),
 }
 
-/// A place where no field stands.
+/// No field.
 const NONE: Field = Field {
     label: "",
     value: Value::Text(""),
 };
 
-/// Adds the fields of a kind, each after a space, and the end of the line.
+/// Adds the fields of a kind, each after a space, then a newline.
 fn push_fields<W: Write>(
     lines: &mut Block,
     output: &mut Watched<W>,
@@ -270,7 +270,7 @@ fn push_field<W: Write>(
     }
 }
 
-/// The fields of a kind, of which there are at most three.
+/// Returns the fields of a kind, at most three.
 #[tactic(auto, unfolding(crate::specs::Listing::fields_text))]
 fn fields(kind: TokenKind) -> (Field, Field, Field)
     ensures { fields_shown result.0 result.1 result.2 ≡ fields_text kind }
@@ -315,7 +315,7 @@ fn fields(kind: TokenKind) -> (Field, Field, Field)
     }
 }
 
-/// The field that tells the kind of a literal, and its own fields, of which there are at most two.
+/// Returns the field with the kind of a literal, and that kind's own fields, at most two.
 #[tactic(auto, unfolding(crate::specs::Listing::literal_text))]
 fn literal_fields(kind: LiteralKind) -> (Field, Field)
     ensures { field_text result.0 ++ field_text result.1 ≡ codes " kind=" ++ literal_text kind }
@@ -343,7 +343,7 @@ fn literal_fields(kind: LiteralKind) -> (Field, Field)
     }
 }
 
-/// A field whose value is a text.
+/// Returns a field whose value is a text.
 fn text_field(label: &'static str, text: &'static str) -> Field
     ensures { field_text result ≡ label.now ++ text.now }
 {
@@ -353,7 +353,7 @@ fn text_field(label: &'static str, text: &'static str) -> Field
     }
 }
 
-/// A field whose value is `true` or `false`.
+/// Returns a field whose value is `true` or `false`.
 fn flag_field(label: &'static str, value: bool) -> Field
     ensures { field_text result ≡ label.now ++ bool_text value }
 {
@@ -364,14 +364,14 @@ fn flag_field(label: &'static str, value: bool) -> Field
     }
 }
 
-/// The fields of a literal that may lack its end.
+/// Returns the fields of a literal that may be unterminated.
 fn end_fields(label: &'static str, terminated: bool) -> (Field, Field)
     ensures { field_text result.0 ++ field_text result.1 ≡ label.now ++ bool_text terminated }
 {
     (flag_field(label, terminated), NONE)
 }
 
-/// The fields of a raw string: the number of its hashes, or `none`.
+/// Returns the fields of a raw string: the number of its hashes, or `none`.
 fn hash_fields(label: &'static str, n_hashes: Option<u8>) -> (Field, Field)
     ensures { field_text result.0 ++ field_text result.1 ≡ label.now ++ hashes_text n_hashes }
 {
@@ -385,7 +385,7 @@ fn hash_fields(label: &'static str, n_hashes: Option<u8>) -> (Field, Field)
     (field, NONE)
 }
 
-/// The style of a doc comment, or `none`.
+/// Returns the style of a doc comment, or `none`.
 fn style_name(style: Option<DocStyle>) -> &'static str
     ensures { result.now ≡ style_text style }
 {
@@ -396,7 +396,7 @@ fn style_name(style: Option<DocStyle>) -> &'static str
     }
 }
 
-/// The base of a number, in decimal.
+/// Returns the base of a number, in decimal.
 fn base_name(base: Base) -> &'static str
     ensures { result.now ≡ base_text base }
 {

@@ -1,4 +1,4 @@
-//! What goes out: bytes are held until there is a block of them, and then written at once.
+//! Output in blocks: collects bytes until a block is full, then writes it at once.
 ghost use Rattle.std.specs.Prelude.{◌≡◌, ◌+◌, ◌≤◌, ◌++◌, [], false, true, is_err, length, IfErr, IfOk, OnErr, OnOk};
 ghost use Rattle.std.specs.Fmt.{decimal};
 ghost use Rattle.std.specs.Io.KnownBytes.{Appends};
@@ -11,10 +11,10 @@ use itoa::Buffer;
 use std::io::Write;
 use std::marker::Model;
 
-/// The most bytes that a block holds.
+/// The size of a block in bytes.
 const BLOCK: usize = 65536;
 
-/// Bytes that are still to be written, at most a block of them. They lie in place, so no memory is asked for.
+/// The bytes that are not written yet, at most one block. They are stored in place, so nothing is allocated.
 #[derive(Drop)]
 pub struct Block {
     bytes: [u8; BLOCK],
@@ -32,7 +32,7 @@ impl Model for Block {
 }
 
 impl Block {
-    /// A block that holds nothing.
+    /// Makes an empty block.
     pub fn new() -> Block
         ensures { result ≡ [] }
     {
@@ -42,7 +42,7 @@ impl Block {
         }
     }
 
-    /// Adds a text. Where the block has no room for it, what it holds is written first.
+    /// Adds a text. If it does not fit, the block is written first.
     #[inline]
     pub fn push<W: Write>(&mut self, output: &mut Watched<W>, text: &str) -> Result<(), Fault>
         requires writes { output.old.failed ≡ false }
@@ -53,7 +53,7 @@ impl Block {
         self.push_bytes(output, text.as_bytes())
     }
 
-    /// Adds a number, in decimal.
+    /// Adds a number in decimal.
     pub fn push_number<W: Write>(
         &mut self,
         output: &mut Watched<W>,
@@ -67,7 +67,7 @@ impl Block {
         self.push(output, Buffer::new().format(number))
     }
 
-    /// Adds bytes.
+    /// Adds bytes. If they do not fit, the block is written first.
     #[inline]
     pub fn push_bytes<W: Write>(
         &mut self,
@@ -86,7 +86,7 @@ impl Block {
         Ok(())
     }
 
-    /// Writes what is held, and adds the bytes. More than a block of them is written at once.
+    /// Writes the block, then adds the bytes. If they are more than a block they are written at once.
     #[inline(never)]
     fn push_past<W: Write>(&mut self, output: &mut Watched<W>, bytes: &[u8]) -> Result<(), Fault>
         requires writes { output.old.failed ≡ false }
@@ -103,7 +103,7 @@ impl Block {
         Ok(())
     }
 
-    /// Adds bytes for which there is room.
+    /// Adds bytes that fit.
     #[inline(always)]
     fn hold(&mut self, bytes: &[u8])
         requires { length self.old + length bytes.now ≤ 65536 }
@@ -114,7 +114,7 @@ impl Block {
         self.len = end;
     }
 
-    /// Writes what is held. Then it holds nothing; where that fails it holds what it held.
+    /// Writes the block and empties it. On an error it stays as it was.
     fn write_out<W: Write>(&mut self, output: &mut Watched<W>) -> Result<(), Fault>
         requires writes { output.old.failed ≡ false }
         ensures failed { output.new.failed ≡ is_err result }
@@ -131,7 +131,7 @@ impl Block {
         Ok(())
     }
 
-    /// Writes what is held, and flushes. Then it holds nothing; where that fails it holds what it held.
+    /// Writes the block, empties it and flushes. On an error it stays as it was.
     pub fn finish<W: Write>(&mut self, output: &mut Watched<W>) -> Result<(), Fault>
         requires writes { output.old.failed ≡ false }
         ensures failed { output.new.failed ≡ is_err result }

@@ -1,4 +1,4 @@
-//! The whole program, over any ends.
+//! The whole program, for any reader and writers.
 ghost use Rattle.std.specs.Prelude.{◌≡◌, false, Result};
 ghost use Rattle.ends.specs.Stop.{Told};
 ghost use Rattle.ends.specs.Words.{words_of};
@@ -15,8 +15,8 @@ use std::alloc::Global;
 use std::env::Args;
 use std::io::{Read, Write};
 
-/// The whole program: reads its arguments and its input, writes to its output, tells what stopped it, and answers its
-/// status. The arguments begin with the program's name; they are `None` where they could not be had.
+/// Runs the program: reads arguments and input, writes the output, reports an error, and returns the exit
+/// status. The first argument is the program's name; they are `None` if the system did not give them.
 pub fn program<R: Read, W: Write, E: Write>(
     alloc: Global,
     args: Option<Args>,
@@ -38,7 +38,7 @@ pub fn program<R: Read, W: Write, E: Write>(
     report(&outcome, errors)
 }
 
-/// Reads the arguments, and then runs.
+/// Reads the arguments and does what they ask for.
 fn dump<R: Read, W: Write>(
     alloc: Global,
     args: Option<Args>,

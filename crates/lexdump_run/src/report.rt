@@ -1,4 +1,4 @@
-//! What is told of a run that stopped, and its status.
+//! The error message of a run, and its exit status.
 ghost use Rattle.std.specs.Prelude.{◌≡◌, ◌++◌, false};
 ghost use Rattle.ends.specs.Stop.{Told};
 ghost use Rattle.lexdump_run.specs.Fault.{fault_line, number_text, status_of};
@@ -8,9 +8,9 @@ use ends::{Watched, write_texts};
 use itoa::Buffer;
 use std::io::Write;
 
-/// Where the run stopped, writes the line of the fault and flushes. Answers the status of the program.
+/// Writes the error message of a run that failed, and flushes. Returns the exit status of the program.
 ///
-/// What goes out is all of the line where the writer does not fail, else a beginning of it. The status is the same.
+/// If the writer fails, part of the message may have been written. The status is the same.
 pub fn report<E: Write>(outcome: &Result<(), Fault>, errors: &mut Watched<E>) -> u8
     ensures { Told status_of fault_line outcome.now result (errors.new.failed ≡ false)
         errors.new.flushed (E.contents errors.old.inner) (E.contents errors.new.inner) }
@@ -20,12 +20,12 @@ pub fn report<E: Write>(outcome: &Result<(), Fault>, errors: &mut Watched<E>) ->
     };
     let (before, number, after) = line_parts(fault);
     let mut buffer = Buffer::new();
-    // Where this line can't be written there is nobody to tell.
+    // If this line can't be written there is nobody left to tell.
     let _ = write_texts(errors, before, digits(&mut buffer, number), after);
     status(fault)
 }
 
-/// The digits of the number, if there is one.
+/// Returns the digits of the number, if there is one.
 fn digits(buffer: &mut Buffer, number: Option<usize>) -> &str
     ensures { result.now ≡ number_text number }
 {
@@ -35,7 +35,7 @@ fn digits(buffer: &mut Buffer, number: Option<usize>) -> &str
     }
 }
 
-/// The line of the fault: what stands before the number of the edit that it names, that number, and what follows.
+/// Returns the message: the part before the number of the edit, that number, and the rest.
 #[tactic(auto, unfolding(crate::specs::Fault::fault_text))]
 fn line_parts(fault: &Fault) -> (&'static str, Option<usize>, &'static str)
     ensures { result.0.now ++ (number_text result.1 ++ result.2.now) ≡ fault_line fault.now }

@@ -1,4 +1,4 @@
-//! A whole run: from the bytes of a reader to the lines of a writer.
+//! A whole run, from a reader to a writer.
 ghost use Rattle.std.specs.Prelude.{◌≡◌, ◌≢◌, ◌↔◌, false, true, IsTrue, IsErrOf, IfErr, IfOk, IfSome};
 ghost use Rattle.std.specs.Io.KnownBytes.{Keeps};
 ghost use Rattle.rustc_lexer.specs.Classes.{Fits};
@@ -14,11 +14,10 @@ use rustc_lexer::{Edition, FrontmatterAllowed};
 use std::alloc::Global;
 use std::io::{Read, Write};
 
-/// Reads all of the input, and then writes what the job prints of it.
+/// Reads all of the input, then prints what the job asks for.
 ///
-/// The lines go out in blocks. Nothing that may be refused comes after the first byte: after every fault but
-/// `Fault::Write` the output is as it was.
-/// At `Ok` the last thing asked of the output was a flush, and it was not refused.
+/// The lines are written in blocks. All memory is allocated before the first byte is written, so only a
+/// `Fault::Write` can leave part of the output. `Ok` means that the output was flushed last.
 #[tactic(auto, using(crate::proofs::OutcomeLemmas::ends_unread, crate::proofs::OutcomeLemmas::ends_unlisted, crate::proofs::OutcomeLemmas::silent_unlisted, crate::proofs::OutcomeLemmas::ends_listed))]
 pub fn run<R: Read, W: Write>(
     alloc: Global,
@@ -43,7 +42,7 @@ pub fn run<R: Read, W: Write>(
     lines.finish(output)
 }
 
-/// Prints what the job prints of the text.
+/// Prints what the job asks for.
 fn print<W: Write>(
     alloc: Global,
     job: &Job<'_>,

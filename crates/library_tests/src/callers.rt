@@ -1,4 +1,4 @@
-//! Each caller of `examples` on texts that were made by hand.
+//! Each caller of `examples` on texts made by hand.
 use crate::table::rows;
 use Edition::{E2015, E2018, E2021, E2024};
 use examples::arriving::{Arriving, lex_pieces};
@@ -12,7 +12,7 @@ use examples::suffixes::any_suffix;
 use rustc_lexer::{Edition, LexedText, LiteralKind, RawStrError, Relexed, Token, TokenKind, fits};
 use std::alloc::{AllocError, Global};
 
-/// Texts, words, and where those stand in them.
+/// Texts, words, and where those come in them.
 static WORDS: &[(&str, &str, Option<usize>)] = &[
     ("// loop\nloop {}", "loop", Some(8)),
     ("\"x\" 'x'", "x", None),
@@ -65,7 +65,7 @@ fn suffixes(rt: HostRuntime) {
     }
 }
 
-/// Texts, and what they are past their comments.
+/// Texts, and their rest after the comments.
 static COMMENTS: &[(&str, &str)] = &[("// a\n/* b */ c // d", "c // d"), ("//! a", ""), ("", "")];
 
 #[test]

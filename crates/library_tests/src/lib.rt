@@ -1,4 +1,4 @@
-//! Tests of the libraries from outside. They stand here since a crate with tests is proved twice.
+//! Tests of the libraries from outside. They are a crate of their own, since a crate with tests is proved twice.
 #![tactic(auto)]
 
 #[cfg(test)]

@@ -1,4 +1,4 @@
-//! What literals stand for, what is wrong in them, and what is written of texts and bytes.
+//! The values of literals, their errors, and escaped texts and bytes.
 use crate::table::rows;
 use EscapeError::*;
 use rustc_literal_escaper::{
@@ -8,7 +8,7 @@ use rustc_literal_escaper::{
 };
 use std::alloc::Global;
 
-/// What is wrong between single quotes, in a character and in a byte alike.
+/// The error between single quotes, in a character and in a byte alike.
 static BAD_IN_BOTH: &[(&str, EscapeError)] = rows! {
     "" => ZeroChars;
     "\\" => LoneSlash;
@@ -42,12 +42,12 @@ static BAD_IN_BOTH: &[(&str, EscapeError)] = rows! {
     "\\u{" => UnclosedUnicodeEscape;
     "\\u{0000" => UnclosedUnicodeEscape;
     "\\u{}" => EmptyUnicodeEscape;
-    // Past these the two kinds differ by what a number stands for, and not by how it is written.
+    // From here on the two kinds differ in the numbers that they allow, not in how a number is written.
     "\\u{_0000}" => LeadingUnderscoreUnicodeEscape;
     "\\u{0000000}" => OverlongUnicodeEscape;
 };
 
-/// What a text stands for as a character and as a byte, or what is wrong in it.
+/// The value of a text as a character and as a byte, or its error.
 type Literal = (
     &'static str,
     (Result<char, EscapeError>, Result<u8, EscapeError>),
@@ -113,10 +113,10 @@ fn modes(rt: HostRuntime) {
     assert_eq!(rt; Mode::CStr.prefix_noraw(), "c");
 }
 
-/// A place in a string with what stands there: a character, or what is wrong.
+/// A place in a string with its character or its error.
 type Found = (usize, usize, Result<char, EscapeError>);
 
-/// Texts, whether each is one of a raw string, and what stands there.
+/// Texts, whether each is a raw string, and what is in them.
 static STRINGS: &[((&str, bool), &[Found])] = rows! {
     ("\\\n", false) => &[];
     ("\\\n ", false) => &[];
@@ -127,7 +127,7 @@ static STRINGS: &[((&str, bool), &[Found])] = rows! {
     ("\r", true) => &[(0, 1, Err(BareCarriageReturnInRawString))];
 };
 
-/// Whether these are the elements, and no others.
+/// Returns whether these are exactly the elements.
 fn are(elements: Elements<'_>, wanted: &[Found]) -> bool {
     let mut left = wanted.iter().copied();
     for (range, element) in elements {
@@ -150,7 +150,7 @@ fn elements_of_strings(rt: HostRuntime) {
     }
 }
 
-/// Whether a string of these characters stands for this text, and so does a byte string.
+/// Returns whether a string of these characters has this value, and so does a byte string.
 fn stands_for(src: &str, text: &str) -> bool {
     let mut is_same = true;
     let mut chars = text.chars();
@@ -223,13 +223,13 @@ fn c_strings(rt: HostRuntime) {
     assert_eq!(rt; found.as_slice(), [(0, 1, true), (1, 2, false)].as_slice());
 }
 
-/// Literals, and what is wrong in them, each with its place.
+/// Literals and their errors, each with its place.
 static WRONG: &[((&str, Mode), &[(usize, usize, EscapeError)])] = rows! {
     ("a\\qb\\u{110000}", Mode::Str) => &[(1, 3, InvalidEscape), (4, 14, OutOfRangeUnicodeEscape)];
     ("spam", Mode::Char) => &[(0, 2, MoreThanOneChar)];
 };
 
-/// Whether the calls of a closure, and an iterator that stays at its end, tell these errors and no others.
+/// Returns whether the calls of a closure, and an iterator that stays at its end, give exactly these errors.
 fn are_told(alloc: Global, text: &str, mode: Mode, wanted: &[(usize, usize, EscapeError)]) -> bool {
     let mut found = Vec::new(alloc);
     check_for_errors(text, mode, |range, error| {
@@ -251,7 +251,7 @@ fn errors(rt: HostRuntime) {
     }
 }
 
-/// Whether this is written of the text, behind what stands there.
+/// Returns whether this is written for the text after the prefix.
 fn is_written(alloc: Global, text: &str, wanted: &str) -> bool {
     let mut out = String::new(alloc);
     out.push_str("<").is_ok() && escape_str(text, &mut out).is_ok() && out.as_str() == wanted

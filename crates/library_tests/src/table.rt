@@ -1,6 +1,6 @@
 //! The rows of a table.
 
-/// Rows of what is given and what is wanted of it.
+/// Makes a table of given and wanted values.
 macro_rules! rows {
     ($($given:expr => $wanted:expr;)*) => {
         &[$(($given, $wanted)),*]

@@ -1,4 +1,5 @@
-//! Readers and writers that fail at one call and would then go on, that give after their end, and that move a part.
+//! Readers and writers that fail at one call and would then go on, that give more after their end, or that move
+//! a part of the bytes.
 ghost use Rattle.std.specs.Prelude.{◌≡◌, ◌≤◌, false, IfOk};
 
 use ends::Watched;
@@ -6,14 +7,14 @@ use std::alloc::Global;
 use std::io;
 use std::io::{Error, ErrorKind, Read, Write};
 
-/// What an end does at one call in place of moving bytes.
+/// What an end does at one call instead of moving bytes.
 #[derive(Clone, Copy)]
 pub(crate) enum Turn {
     Fails(ErrorKind),
     MovesNothing,
 }
 
-/// What the ends of a run do.
+/// The script of a run's ends.
 #[derive(Clone, Copy)]
 pub(crate) struct Script {
     /// How many bytes each call moves, if there are as many.
@@ -26,7 +27,7 @@ pub(crate) struct Script {
     pub(crate) flush: Option<ErrorKind>,
 }
 
-/// Nothing fails, and each call moves all that there is.
+/// Nothing fails, and each call moves all there is.
 pub(crate) const WHOLE: Script = Script {
     piece: usize::MAX,
     read: None,
@@ -34,11 +35,11 @@ pub(crate) const WHOLE: Script = Script {
     flush: None,
 };
 
-/// Nothing fails, and each call moves a byte.
+/// Nothing fails, and each call moves one byte.
 pub(crate) const BYTES: Script = Script { piece: 1, ..WHOLE };
 
 impl Script {
-    /// The reader of these bytes.
+    /// Makes the reader of these bytes.
     pub(crate) fn reader(self, bytes: &[u8]) -> Watched<ScriptReader<'_>>
         ensures failed { result.failed ≡ false }
         ensures faulty { result.faulty ≡ false }
@@ -51,7 +52,7 @@ impl Script {
         })
     }
 
-    /// The writer, which has taken nothing.
+    /// Makes the writer, which has taken nothing yet.
     pub(crate) fn writer(self, alloc: Global) -> Watched<ScriptWriter>
         ensures failed { result.failed ≡ false }
         ensures faulty { result.faulty ≡ false }
@@ -66,7 +67,7 @@ impl Script {
     }
 }
 
-/// How many bytes the call of this number moves, of at most so many.
+/// Returns how many bytes the call with this number moves, at most so many.
 fn moved(turn: Option<(usize, Turn)>, call: usize, most: usize) -> io::Result<usize>
     ensures { IfOk result (λ count. count ≤ most) }
 {
@@ -77,7 +78,7 @@ fn moved(turn: Option<(usize, Turn)>, call: usize, most: usize) -> io::Result<us
     }
 }
 
-/// Reads as its script says.
+/// Reads by its script.
 #[derive(Drop)]
 pub(crate) struct ScriptReader<'a> {
     bytes: &'a [u8],
@@ -98,7 +99,7 @@ impl<'a> Read for ScriptReader<'a> {
     }
 }
 
-/// Writes as its script says.
+/// Writes by its script.
 #[derive(Drop)]
 pub(crate) struct ScriptWriter {
     pub(crate) taken: Vec<u8>,

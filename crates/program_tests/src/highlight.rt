@@ -1,4 +1,4 @@
-//! Tests of `highlight`: words, where there are colours, and statuses and lines.
+//! Tests of `highlight`: arguments, when there are colours, statuses and messages.
 use crate::failing_ends::WHOLE;
 use crate::words::{rows, words_of};
 use Style::{Colours, Html, NoColours};
@@ -12,8 +12,8 @@ use std::alloc::{AllocError, Global};
 use std::env::VarError;
 use std::test::Fail;
 
-/// Words with bars between them, whether the output is a terminal that takes colours, and the style and the edition that
-/// they ask for.
+/// Arguments with bars between them, whether the output is a terminal that takes colours, and the style and the
+/// edition that they ask for.
 static SHOWN: &[((&str, bool), (Style, Edition))] = rows! {
     ("", true) => (Colours, E2024);
     ("", false) => (NoColours, E2024);
@@ -35,7 +35,7 @@ static SHOWN: &[((&str, bool), (Style, Edition))] = rows! {
     ("--html|--color|never|--edition|2015", true) => (Html, E2015);
 };
 
-/// Words that ask for nothing.
+/// Arguments that are not valid.
 static NOTHING: &[&str] = &[
     "html",
     "--html|--html",
@@ -54,7 +54,7 @@ static NOTHING: &[&str] = &[
     "--edition|2018|--help",
 ];
 
-/// Whether the words ask for this.
+/// Returns whether the arguments ask for this.
 fn ask_for(
     alloc: Global,
     line: &str,
@@ -81,10 +81,10 @@ fn jobs(rt: HostRuntime) -> Result<(), Fail> {
     Ok(())
 }
 
-/// What a process is started with: its arguments, if it could have them, `NO_COLOR`, and whether the output is a terminal.
+/// What a process is given: its arguments, if there are any, `NO_COLOR`, and whether the output is a terminal.
 type Process = (Option<&'static str>, Result<&'static str, VarError>, bool);
 
-/// Whether the program with this input ends with this status, and writes this, and this line.
+/// Returns whether the program with this input ends with this status, this output, and this message.
 fn comes_to(
     rt: &HostRuntime,
     process: &Process,
@@ -115,7 +115,7 @@ fn comes_to(
     )
 }
 
-/// Where `fn` is written in colours, and where as it is.
+/// When `fn` is written in colours, and when as it is.
 static COLOURED: &[(Process, bool)] = rows! {
     (Some("highlight"), Err(NotPresent), true) => true;
     (Some("highlight"), Err(NotPresent), false) => false;
@@ -139,7 +139,7 @@ fn colours(rt: HostRuntime) -> Result<(), Fail> {
     Ok(())
 }
 
-/// A process and its input, and the status and the line that is told.
+/// A process and its input, and the status and the message.
 static STOPPED: &[((Process, &[u8]), (u8, &str))] = rows! {
     ((Some("highlight|x"), Err(NotPresent), true), b"fn") =>
         (2, "highlight: unknown words; --help tells what it takes\n");

@@ -1,4 +1,4 @@
-//! Tests of `lexdump`: words, listings, what stops a run, and the lines on standard error.
+//! Tests of `lexdump`: arguments, listings, failed runs, and the messages on standard error.
 use crate::failing_ends::{BYTES, Script, ScriptWriter, Turn, WHOLE};
 use crate::words::{rows, words_of};
 use Turn::{Fails, MovesNothing};
@@ -12,7 +12,7 @@ use std::alloc::{AllocError, Global};
 use std::io::ErrorKind;
 use std::test::Fail;
 
-/// What words may ask for: a job, whose edits are `start, stop, insert`, or nothing.
+/// What arguments ask for: a job, whose edits are `start, stop, insert`, or nothing.
 #[derive(Clone, Copy)]
 enum Wanted {
     Plain(Edition),
@@ -22,7 +22,7 @@ enum Wanted {
     Nothing,
 }
 
-/// Words with bars between them, and what they ask for.
+/// Arguments with bars between them, and what they ask for.
 static JOBS: &[(&str, Wanted)] = rows! {
     "" => Plain(E2024);
     "front" => Front;
@@ -62,7 +62,7 @@ static JOBS: &[(&str, Wanted)] = rows! {
     "edit|0|0|x|--edition|2018" => Nothing;
 };
 
-/// Whether this is what is wanted.
+/// Returns whether this is what is wanted.
 fn is_wanted(job: &Result<Job<'_>, Fault>, wanted: Wanted) -> bool {
     match job {
         Ok(Job::Plain { edition }) => matches!(wanted, Plain(want) if want == *edition),
@@ -81,7 +81,7 @@ fn is_wanted(job: &Result<Job<'_>, Fault>, wanted: Wanted) -> bool {
     }
 }
 
-/// Whether the words ask for this.
+/// Returns whether the arguments ask for this.
 fn ask_for(alloc: Global, line: &str, wanted: Wanted) -> Result<bool, AllocError> {
     let words = words_of(alloc, line)?;
     Ok(is_wanted(&read_job(alloc, words.as_slice()), wanted))
@@ -95,7 +95,7 @@ fn jobs(rt: HostRuntime) -> Result<(), Fail> {
     Ok(())
 }
 
-/// Runs the job of the words over the ends of a script. Answers how it ended, and the writer.
+/// Runs the job of the arguments over the ends of a script. Returns how it ended, and the writer.
 fn dump(
     rt: &HostRuntime,
     words: &str,
@@ -109,10 +109,10 @@ fn dump(
     Ok((answer, output.into_inner()))
 }
 
-/// Words, the parts of a text and how often each stands there, and the listing.
+/// Arguments, the parts of a text with how often each is repeated, and the listing.
 type Listed = (&'static str, &'static [(&'static str, u32)], &'static str);
 
-/// Rows `words, text => listing;`, where a text may be a list of its parts.
+/// Rows `arguments, text => listing;`, where the text may be a list of its parts.
 macro_rules! listed {
     (@parts [$($part:tt),*]) => {
         &[$($part),*]
@@ -138,7 +138,7 @@ static LISTED: &[Listed] = listed! {
     "edit|8|8|z", "ab cd ef" => "0 2 Ident\n2 1 Whitespace\n3 2 Ident\n5 1 Whitespace\n6 3 Ident\n";
     "edit|8|8|z|0|3|", "ab cd ef" => "0 2 Ident\n2 1 Whitespace\n3 3 Ident\n";
     "--edition|2018|edit|6|6|x", "'r#foo" => "0 2 Lifetime starts_with_number=false\n2 1 Pound\n3 4 Ident\n";
-    // Texts that make a careless program slow, deep or wrong.
+    // Texts that make a careless program slow, overflow its stack or list wrong tokens.
     "", [("/*", 100_000)] => "0 200000 BlockComment doc_style=none terminated=false\n";
     "", [("/*", 100_000), ("*/", 100_000)] => "0 400000 BlockComment doc_style=none terminated=true\n";
     "front", [("-", 70_000), ("\na\n", 1), ("-", 70_000)] => "0 140003 Frontmatter has_invalid_preceding_whitespace=false invalid_infostring=false\n";
@@ -154,7 +154,7 @@ static LISTED: &[Listed] = listed! {
     "", "'\\" => "0 2 Literal kind=Char terminated=false suffix_start=2\n";
 };
 
-/// Whether the text of a row has its listing, by a byte a read and a byte a write.
+/// Returns whether the text of a row has its listing, with one byte per read and per write.
 fn is_listed(rt: &HostRuntime, row: &Listed) -> Result<bool, Fault> {
     let (words, parts, listing) = row;
     let mut text = String::new(rt.alloc());
@@ -208,7 +208,7 @@ fn many_hashes(rt: HostRuntime) -> Result<(), Fail> {
     Ok(())
 }
 
-/// Each block lacks less than a name of 65536 bytes, so there are 52.
+/// Each block is short of full by less than one name of 65536 bytes, so there are 52.
 #[test]
 fn blocks_of_a_long_listing(rt: HostRuntime) -> Result<(), Fail> {
     let text = "x ".repeat(rt.alloc(), 100_000)?;
@@ -220,7 +220,7 @@ fn blocks_of_a_long_listing(rt: HostRuntime) -> Result<(), Fail> {
     Ok(())
 }
 
-/// Words, bytes, and what stops the run.
+/// Arguments, bytes, and the fault of the run.
 static STOPPED: &[(&str, &[u8], Fault)] = &[
     ("", b"\xff", Fault::NotUtf8),
     ("", b"a\xc3", Fault::NotUtf8),
@@ -240,7 +240,8 @@ fn stops(rt: HostRuntime) -> Result<(), Fail> {
     Ok(())
 }
 
-/// Whether a run over `ab cd` by the ends of a script stops with the fault, has these ends failed, and wrote this.
+/// Returns whether a run over `ab cd` by the ends of a script stops with the fault, these ends failed, and this
+/// was written.
 fn is_stopped(
     rt: &HostRuntime,
     script: Script,
@@ -284,7 +285,7 @@ fn faults_of_failing_ends(rt: HostRuntime) {
     assert!(rt; is_stopped(&rt, script, Fault::Write, [false, true], listing));
 }
 
-/// Each fault with its status and its words.
+/// Each fault with its status and its message.
 static FAULTS: &[(Fault, u8, &str)] = &[
     (Fault::Arguments, 2, "bad arguments"),
     (Fault::NotUtf8, 3, "input is not UTF-8"),
@@ -298,7 +299,7 @@ static FAULTS: &[(Fault, u8, &str)] = &[
     (Fault::Write, 7, "write failed"),
 ];
 
-/// Whether a fault has this status and these words, and the line of these words is told of it.
+/// Returns whether a fault has this status and this message, and reports it in a line.
 fn is_told(rt: &HostRuntime, fault: Fault, want: u8, words: &str) -> Result<bool, AllocError> {
     let shown = format!(in rt.alloc(); "{fault}")?;
     let line = format!(in rt.alloc(); "lexdump: {words}\n")?;
@@ -319,8 +320,8 @@ fn statuses_and_lines(rt: HostRuntime) -> Result<(), Fail> {
     Ok(())
 }
 
-/// Arguments, which begin with the program's name, if they can be had; what is written of `ab`, the line on standard error,
-/// and the status.
+/// Arguments, which begin with the program's name, if there are any; the output for `ab`, the line on standard
+/// error, and the status.
 static PROGRAMS: &[(Option<&str>, &str, &str, u8)] = &[
     (Some("lexdump"), "0 2 Ident\n", "", 0),
     (Some("lexdump|shebang"), "none\n", "", 0),

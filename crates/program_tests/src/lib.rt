@@ -1,4 +1,4 @@
-//! Tests of the programs from outside: their words, whole runs, ends that fail, and what they write.
+//! Tests of the programs from outside: arguments, whole runs, ends that fail, and output.
 #![tactic(auto)]
 
 #[cfg(test)]

@@ -4,10 +4,10 @@ use rustc_lexer::{Edition, fits};
 use std::alloc::Global;
 use std::test::Fail;
 
-/// A style, an edition, a text, and what is written of it.
+/// A style, an edition, a text, and the output.
 type Row<'a> = (Style, Edition, &'a str, &'a str);
 
-/// Rows `style edition: text => what is written;`.
+/// Rows `style edition: text => output;`.
 macro_rules! rows {
     ($($style:ident $edition:ident: $text:literal => $written:literal;)*) => {
         &[$((Style::$style, Edition::$edition, $text, $written)),*]
@@ -131,7 +131,7 @@ static ROWS: &[Row<'static>] = rows! {
     Colours E2018: "#!/bin/sh\nz'a'" => "\x1b[90m#!/bin/sh\x1b[0m\nz\x1b[32m'a'\x1b[0m";
 };
 
-/// Whether this is what is written of the text.
+/// Returns whether this is the output for the text.
 fn is_written(alloc: Global, row: Row<'_>) -> bool {
     let (style, edition, text, wanted) = row;
     let mut written = String::new(alloc);

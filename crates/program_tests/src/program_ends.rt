@@ -1,4 +1,5 @@
-//! Tests of `ends`: an end hands on each answer and stays known to have failed; the words past a name.
+//! Tests of `ends`: a reader or writer that failed is known to have failed, and each answer is handed on; the
+//! arguments after the program's name.
 use crate::failing_ends::{BYTES, Script, Turn, WHOLE};
 use crate::words::words_of;
 use ends::{is_closed, past_name, read_all, write_bytes};

@@ -1,4 +1,5 @@
-//! Each program over ends that fail at one call and would then go on, that give after their end, and that move a part.
+//! Each program over readers and writers that fail at one call, give more after their end, or move a part of the
+//! bytes.
 use crate::count::{NO_LINE, ONE_LINE, TABLE};
 use crate::failing_ends::{BYTES, Script, Turn, WHOLE};
 use Program::{Count, Highlight, Lexdump, Tidy};
@@ -10,7 +11,7 @@ use std::env::VarError;
 use std::io::ErrorKind;
 use std::test::Fail;
 
-/// A program, where it is given no words.
+/// A program, run without arguments.
 #[derive(Clone, Copy, Debug, PartialEq, Eq)]
 enum Program {
     Lexdump,
@@ -23,13 +24,13 @@ enum Program {
 struct Row {
     program: Program,
     text: &'static [u8],
-    /// What is written of it.
+    /// The output.
     written: &'static [u8],
-    /// The status where the input fails, and what is written then.
+    /// The status if the input fails, and the output then.
     unread: (u8, &'static [u8]),
 }
 
-/// Rows `program, text, what is written, where the input fails;`.
+/// Rows `program, text, output, status if the input fails;`.
 macro_rules! rows {
     ($($program:ident, $text:literal, $written:expr, $unread:expr;)*) => {
         &[$(Row {
@@ -48,7 +49,7 @@ static ROWS: &[Row] = rows! {
     Count, b"a // b\n", ONE_LINE, (3, NO_LINE);
 };
 
-/// What came of a run.
+/// The outcome of a run.
 #[derive(Drop)]
 struct Came {
     status: u8,
@@ -60,7 +61,8 @@ struct Came {
 }
 
 impl Came {
-    /// Whether it ended with this status, these ends have failed, this was written, and so many calls were made.
+    /// Returns whether it ended with this status, these ends failed, this was written, and so many calls were
+    /// made.
     fn is(&self, status: u8, failed: [bool; 2], written: &[u8], calls: [usize; 3]) -> bool {
         self.status == status
             && self.failed == failed
@@ -110,12 +112,12 @@ fn run(alloc: Global, program: Program, text: &[u8], script: Script) -> Result<C
     })
 }
 
-/// The status where nobody reads the output any more: that is no failure, but for `lexdump`.
+/// Returns the status if nobody reads the output any more: that is an error only for `lexdump`.
 fn closed_status(program: Program) -> u8 {
     if program == Lexdump { 7 } else { 0 }
 }
 
-/// A run stops wherever a read of a byte fails, and does not look at what it read.
+/// A run stops wherever a read of a byte fails, and ignores what it read.
 #[test]
 fn failing_reads(rt: HostRuntime) -> Result<(), Fail> {
     for row in ROWS {
@@ -137,7 +139,7 @@ fn failing_reads(rt: HostRuntime) -> Result<(), Fail> {
     Ok(())
 }
 
-/// A run stops with what is written by then, and no flush, wherever a write of a byte fails.
+/// A run stops with what is written so far, and no flush, wherever a write of a byte fails.
 #[test]
 fn failing_writes(rt: HostRuntime) -> Result<(), Fail> {
     for row in ROWS {
@@ -163,7 +165,7 @@ fn failing_writes(rt: HostRuntime) -> Result<(), Fail> {
     Ok(())
 }
 
-/// A flush that fails stops a run, with all of it written.
+/// A flush that fails stops a run, and all of it is written.
 #[test]
 fn failing_flushes(rt: HostRuntime) -> Result<(), Fail> {
     for row in ROWS {
@@ -184,8 +186,8 @@ fn failing_flushes(rt: HostRuntime) -> Result<(), Fail> {
     Ok(())
 }
 
-/// All is written and flushed once, by so many bytes at a time. After its end the reader would give a byte that is no text:
-/// it is asked once at its end, and not again.
+/// All is written, so many bytes at a time, and flushed once. After its end the reader would give a byte that is
+/// not text: it is read once at its end, and not again.
 #[test]
 fn pieces(rt: HostRuntime) -> Result<(), Fail> {
     for row in ROWS {

@@ -1,7 +1,7 @@
-//! The words of a command line, and the rows of a table.
+//! The arguments of a command line, and the rows of a table.
 use std::alloc::{AllocError, Global};
 
-/// The words between the bars of a line, as a program is given them. An empty line has none.
+/// Returns the arguments between the bars of a line. An empty line has none.
 pub(crate) fn words_of(alloc: Global, line: &str) -> Result<Vec<String>, AllocError> {
     let mut words = Vec::new(alloc);
     if line.is_empty() {
@@ -13,7 +13,7 @@ pub(crate) fn words_of(alloc: Global, line: &str) -> Result<Vec<String>, AllocEr
     Ok(words)
 }
 
-/// Rows of what is given and what is wanted of it.
+/// Makes a table of given and wanted values.
 macro_rules! rows {
     ($($given:expr => $wanted:expr;)*) => {
         &[$(($given, $wanted)),*]

@@ -1,4 +1,4 @@
-//! Rows of documents that are kept with their tokens: what is left of them where a request for memory is refused.
+//! Documents that are kept with their tokens: what is left of them after memory is refused.
 use crate::{EditRow, are_pieces, edit, relexed};
 use lex_vectors::steppers::Counting;
 use rustc_lexer::{
@@ -7,8 +7,8 @@ use rustc_lexer::{
 };
 use std::alloc::{AllocError, Global};
 
-/// A letter behind a shebang line and a frontmatter; a letter in a frontmatter; a fence, and a bracket that makes a shebang
-/// line an attribute.
+/// A letter after a shebang line and a frontmatter; a letter in a frontmatter; a fence; a bracket that makes a
+/// shebang line an attribute.
 pub(crate) const DOCUMENTS: [EditRow; 4] = [
     (
         "#!a\n---\nb\n---\nfn",
@@ -26,7 +26,8 @@ pub(crate) const DOCUMENTS: [EditRow; 4] = [
     ("#!\nb", (3, 3, "["), "#!\n[b", [0, 4, 1]),
 ];
 
-/// Whether the document is held with its tokens of the edition, and its pieces make it up past the shebang line.
+/// Returns whether the document is kept with its tokens of the edition, and its pieces make it up after the
+/// shebang line.
 fn is_held<S: Stepper>(held: &LexedDocument<S>, edition: Edition, text: &str) -> bool {
     if held.text() != text || !fits(text) {
         return false;
@@ -39,7 +40,7 @@ fn is_held<S: Stepper>(held: &LexedDocument<S>, edition: Edition, text: &str) ->
         && held.tokens().len() == held.pieces().count()
 }
 
-/// Whether an edit had these counts and made this text, or was refused memory and left the other text.
+/// Returns whether an edit had these counts and made this text, or was refused memory and left the other text.
 fn is_done(
     held: &LexedDocument<Counting>,
     answer: Result<Relexed, AllocError>,
@@ -53,8 +54,8 @@ fn is_done(
     }
 }
 
-/// Whether the edit makes what it should, or leaves all as it was where it is refused memory: so made once more it makes
-/// what it should.
+/// Returns whether the edit makes what it should, or leaves all as it was if memory is refused, so that it makes
+/// what it should the second time.
 pub(crate) fn document_holds(alloc: Global, row: EditRow) -> bool {
     let (text, (start, stop, insert), made, counts) = row;
     if !fits(text) {
@@ -78,7 +79,7 @@ pub(crate) fn document_holds(alloc: Global, row: EditRow) -> bool {
     is_done(&held, again, want, made, text)
 }
 
-/// Whether the edits before the one that is refused memory stand, and no other.
+/// Returns whether exactly the edits before the one that is refused memory are made.
 pub(crate) fn document_list_holds(alloc: Global) -> bool {
     let Ok(mut held) = LexedDocument::new(alloc, "--\n---\nb") else {
         return true;
@@ -92,7 +93,7 @@ pub(crate) fn document_list_holds(alloc: Global) -> bool {
     is_held(&held, Edition::E2024, left)
 }
 
-/// Whether another edition is taken with its tokens, or nothing changes where it is refused memory.
+/// Returns whether another edition has its tokens, or nothing changes if memory is refused.
 pub(crate) fn document_edition_holds(alloc: Global) -> bool {
     let text = "---\n---\n'r#foo";
     let Ok(mut held) = LexedDocument::new(alloc, text) else {

@@ -1,8 +1,8 @@
-//! Runs of `lexdump` over ends that take no memory.
+//! Runs of `lexdump` over a reader and a writer that take no memory.
 use lexdump_run::{Job, Watched, read_job, run};
 use std::io;
 
-/// A name of the job, what it reads, and what it prints of that.
+/// An argument, the input, and the output.
 fn row_of(job: &Job<'_>) -> (&'static str, &'static str, &'static str) {
     match job {
         Job::Plain { edition: _ } => (
@@ -27,7 +27,7 @@ fn row_of(job: &Job<'_>) -> (&'static str, &'static str, &'static str) {
     }
 }
 
-/// Does the job of the words, and tells how it ended if the ends were left as they should be.
+/// Runs the job of the arguments, and returns how it ended if the output is as it should be.
 pub fn dump(rt: &HostRuntime, words: &[String]) -> io::Result<()> {
     let job = match read_job(rt.alloc(), words) {
         Ok(job) => job,

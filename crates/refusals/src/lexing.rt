@@ -1,4 +1,4 @@
-//! Rows of calls that take no memory: they answer the same whichever request is refused.
+//! Calls that allocate nothing: they answer the same whichever request is refused.
 ghost use Rattle.rustc_lexer.specs.Classes.{Fits};
 
 use FrontmatterAllowed::{No, Yes};
@@ -11,8 +11,8 @@ use rustc_lexer::{
     starts_raw, strip_shebang, tokenize, validate_raw_str,
 };
 
-/// A text, whether a frontmatter may stand in front, its tokens, where what is settled of it ends, and why it is refused
-/// as a raw string with a prefix of one byte, if it is one.
+/// A text, whether a frontmatter is allowed, its tokens, where its settled part ends, and why it is not valid as
+/// a raw string with a prefix of one byte, if it is one.
 type Row<'a> = (
     &'a str,
     FrontmatterAllowed,
@@ -30,7 +30,7 @@ macro_rules! token {
     };
 }
 
-/// A literal: what it is, where its suffix starts if it has one, and its length.
+/// A literal: its kind, where its suffix begins if it has one, and its length.
 macro_rules! literal {
     ($kind:expr, $len:expr) => {
         literal!($kind, $len, $len)
@@ -56,7 +56,7 @@ macro_rules! block {
     };
 }
 
-/// A frontmatter: whether whitespace in front of it, and its infostring, are invalid.
+/// A frontmatter: whether there is white space before it, and whether its infostring is invalid.
 macro_rules! front {
     ($whitespace:literal, $infostring:literal) => {
         Frontmatter {
@@ -93,7 +93,7 @@ const CHAR: LiteralKind = Char { terminated: true };
 
 const OPEN_CHAR: Token = literal!(Char { terminated: false }, 1);
 
-/// A raw string that is refused.
+/// A raw string that is not valid.
 const REFUSED: LiteralKind = RawStr { n_hashes: None };
 
 const DOT: Token = token!(Dot, 1);
@@ -132,7 +132,7 @@ static ROWS: &[Row<'static>] = rows! {
     " ---\n---\n", Yes => [token!(front!(true, false), 8), SPACE], settled 7, None;
 };
 
-/// Whether the calls of a row and of each of its characters answer as it says.
+/// Returns whether the calls of a row and of each of its characters answer as it says.
 fn row_holds(row: Row<'_>) -> bool {
     let (text, allowed, tokens, end, refusal) = row;
     fits(text)
@@ -147,7 +147,7 @@ fn row_holds(row: Row<'_>) -> bool {
         }
 }
 
-/// Whether an iterator and a cursor give these tokens of the text and no others, and hold the rest after each.
+/// Returns whether an iterator and a cursor give exactly these tokens of the text, and the rest after each.
 fn gives_tokens(text: &str, allowed: FrontmatterAllowed, wanted: &[Token]) -> bool
     requires { Fits text.now }
 {
@@ -177,13 +177,13 @@ fn gives_tokens(text: &str, allowed: FrontmatterAllowed, wanted: &[Token]) -> bo
         && tokens.next().is_none()
 }
 
-/// Whether this is the rest of the cursor, and what it looks at is there.
+/// Returns whether this is the rest of the cursor, and it sees the rest's characters.
 fn is_at(cursor: &Cursor<'_>, rest: &str) -> bool {
     let at = |number| rest.chars().nth(number).unwrap_or('\0');
     cursor.as_str() == rest && cursor.first() == at(0) && cursor.third() == at(2)
 }
 
-/// Whether each class has this ASCII character where it should.
+/// Returns whether each class has this ASCII character if it should.
 fn are_classes(c: char) -> bool {
     is_whitespace(c) == matches!(c, '\t'..='\r' | ' ')
         && is_horizontal_whitespace(c) == matches!(c, '\t' | ' ')
@@ -191,7 +191,7 @@ fn are_classes(c: char) -> bool {
         && is_id_continue(c) == matches!(c, 'a'..='z' | 'A'..='Z' | '_' | '0'..='9')
 }
 
-/// Whether raw strings with 256 hashes in front are refused: for their number, or where they are not closed.
+/// Returns whether raw strings with 256 hashes before them are refused: for their number, or for having no end.
 fn many_hashes_hold() -> bool {
     let mut bytes = [b'#'; 518];
     bytes[0] = b'r';
@@ -205,7 +205,7 @@ fn many_hashes_hold() -> bool {
     is_refused(&bytes, 518, closed) && is_refused(&bytes[..262], 262, open)
 }
 
-/// Whether these bytes are a raw string that is refused so, one token of this length.
+/// Returns whether these bytes are a raw string that is refused so, one token of this length.
 fn is_refused(bytes: &[u8], len: u32, refusal: RawStrError) -> bool {
     match std::str::from_utf8(bytes) {
         Ok(text) => row_holds((text, No, &[literal!(REFUSED, len)], 0, Some(refusal))),
@@ -213,7 +213,7 @@ fn is_refused(bytes: &[u8], len: u32, refusal: RawStrError) -> bool {
     }
 }
 
-/// Whether calls that answer more than those of the rows hold.
+/// Returns whether the calls that answer more than a row says are right.
 fn others_hold() -> bool {
     let (text, guarded, shebang, prefix) = ("é+b c", "##\"a\"#x", "#!///x\n[a]", "k# ");
     if !(fits(text) && fits(guarded) && fits(shebang) && fits(prefix)) {
@@ -238,7 +238,7 @@ fn others_hold() -> bool {
         && is_id_start('é')
 }
 
-/// Whether each call answers what it does where there is memory.
+/// Returns whether each call answers what it does if there is memory.
 pub fn lexing_holds() -> bool {
     ROWS.iter().all(|row| row_holds(*row)) && many_hashes_hold() && others_hold()
 }

@@ -1,12 +1,12 @@
-//! Rows that look at what is left where a request for memory is refused.
+//! Rows about what is left after memory is refused.
 //!
-//! Run by itself the program meets no refusal. The script `tests/refused_memory` runs it again and again, with
-//! its first request for memory refused, then its second, and so on, and then with each refused: it has to print
+//! Run by itself the program meets no refusal. The script `tests/refused_memory` runs it again and again: with
+//! its first request for memory refused, then its second, and so on, and then with each refused. It has to print
 //! the same line each time.
 //!
 //! `refusals make ROW` keeps the text of a row of edits with its tokens, `refusals edit ROW` edits it too, and
-//! `refusals run WORDS..` does what `lexdump` does at these words. They tell how that ended. Where the words
-//! themselves were refused memory, the line is that of the rows.
+//! `refusals run ARGUMENTS` does what `lexdump` does with them. They print how that ended. If memory for the
+//! arguments themselves was refused, they print the line of the rows.
 #![tactic(auto)]
 
 mod documents;
@@ -24,8 +24,8 @@ use rustc_lexer::{
 use std::alloc::{AllocError, Global};
 use std::{env, io};
 
-/// A text, an edit of it by `start, stop, insert`, the text that it makes, and its counts. An edit that makes the same text
-/// asks for no memory.
+/// A text, an edit of it by `start, stop, insert`, the text that it makes, and its counts. An edit that makes
+/// the same text asks for no memory.
 type EditRow = (
     &'static str,
     (usize, usize, &'static str),
@@ -51,7 +51,7 @@ fn relexed(counts: [usize; 3]) -> Relexed {
     }
 }
 
-/// The text with its tokens, if there is memory for them.
+/// Returns the text with its tokens, if there is memory for them.
 fn held(alloc: Global, text: &str) -> Option<LexedText<Steps>> {
     if fits(text) {
         LexedText::new(alloc, text).ok()
@@ -60,7 +60,7 @@ fn held(alloc: Global, text: &str) -> Option<LexedText<Steps>> {
     }
 }
 
-/// Whether the pieces make the text up, and their tokens are these.
+/// Returns whether the pieces make up the text, and their tokens are these.
 fn are_pieces(pieces: Pieces<'_>, tokens: Tokens<'_>, text: &str) -> bool {
     let mut tokens = tokens;
     let mut left = text.as_bytes();
@@ -76,7 +76,7 @@ fn are_pieces(pieces: Pieces<'_>, tokens: Tokens<'_>, text: &str) -> bool {
     left.is_empty() && tokens.next().is_none()
 }
 
-/// Whether the text is held with its tokens of the edition, and its pieces make it up.
+/// Returns whether the text is kept with its tokens of the edition, and its pieces make it up.
 fn is_held<S: Stepper>(lexed: &LexedText<S>, edition: Edition, text: &str) -> bool {
     lexed.text() == text
         && fits(text)
@@ -84,7 +84,7 @@ fn is_held<S: Stepper>(lexed: &LexedText<S>, edition: Edition, text: &str) -> bo
         && lexed.tokens().len() == lexed.pieces().count()
 }
 
-/// Whether the edit makes what it should, or leaves all as it was where it is refused memory.
+/// Returns whether the edit makes what it should, or leaves all as it was if memory is refused.
 fn edit_holds(alloc: Global, row: EditRow) -> bool {
     let (text, (start, stop, insert), made, counts) = row;
     if !fits(text) {
@@ -123,7 +123,7 @@ macro_rules! edit {
 
 pub(crate) use edit;
 
-/// Whether the edits before the one that is refused memory stand, and no other.
+/// Returns whether exactly the edits before the one that is refused memory are made.
 fn list_holds(alloc: Global) -> bool {
     let Some(mut lexed) = held(alloc, "ab") else {
         return true;
@@ -137,7 +137,7 @@ fn list_holds(alloc: Global) -> bool {
     is_held(&lexed, Edition::E2024, left)
 }
 
-/// Whether an edit that cuts a character is refused for that, with no request for memory.
+/// Returns whether an edit that cuts a character is refused for that, with no request for memory.
 fn bad_edit_holds(alloc: Global) -> bool {
     let Some(mut lexed) = held(alloc, "é") else {
         return true;
@@ -146,7 +146,7 @@ fn bad_edit_holds(alloc: Global) -> bool {
         && is_held(&lexed, Edition::E2024, "é")
 }
 
-/// Whether another edition is taken with its tokens, or nothing changes where it is refused memory.
+/// Returns whether another edition has its tokens, or nothing changes if memory is refused.
 fn edition_holds(alloc: Global) -> bool {
     let Some(mut lexed) = held(alloc, "'r#foo") else {
         return true;
@@ -160,7 +160,7 @@ fn edition_holds(alloc: Global) -> bool {
         && is_held(&lexed, edition, "'r#foo")
 }
 
-/// Keeps the text of a row with its tokens, and edits it if that is asked. Whether all of it was done.
+/// Keeps the text of a row with its tokens, and edits it if that is asked. Returns whether all of it was done.
 fn take_row(alloc: Global, row: EditRow, edits: bool) -> Result<bool, AllocError> {
     let (text, (start, stop, insert), made, counts) = row;
     if !fits(text) {
@@ -177,7 +177,7 @@ fn take_row(alloc: Global, row: EditRow, edits: bool) -> Result<bool, AllocError
     Ok(answer == relexed(counts) && is_held(&lexed, Edition::E2024, made))
 }
 
-/// Tells what came of the row of this number.
+/// Prints the outcome of the row with this number.
 fn tell_row(rt: &HostRuntime, edits: bool, number: &str) -> io::Result<()> {
     let row = match number.parse::<usize>() {
         Ok(at) => EDITS.get(at),
@@ -190,7 +190,7 @@ fn tell_row(rt: &HostRuntime, edits: bool, number: &str) -> io::Result<()> {
     }
 }
 
-/// Tells which rows do not hold.
+/// Prints which rows fail.
 fn tell_rows(rt: &HostRuntime) -> io::Result<()> {
     for (number, row) in EDITS.iter().enumerate() {
         if !edit_holds(rt.alloc(), *row) {
@@ -223,7 +223,7 @@ fn tell_rows(rt: &HostRuntime) -> io::Result<()> {
     println!(rt; "rows of refused memory: done")
 }
 
-/// The words after the program's name, if there is memory for them.
+/// Returns the arguments after the program's name, if there is memory for them.
 fn read_words(rt: &HostRuntime) -> Option<Vec<String>> {
     past_name(rt.alloc(), env::args(rt).ok()?).ok()
 }

@@ -1,4 +1,4 @@
-//! Writes a Rust source in colours, for a terminal or as a page.
+//! Writes a Rust source in colours, for a terminal or as a web page.
 
 use ends::Watched;
 use highlight_run::program::{Start, program};

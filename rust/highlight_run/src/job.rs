@@ -1,29 +1,29 @@
-//! What a run is to do.
+//! What a run has to do, as its arguments say.
 use rattle_std::prelude::String;
 
 use marks::Style;
 use rattle_std::str::FromStr;
 use rustc_lexer::erased::Edition;
 
-/// What a run is to do.
+/// What a run has to do.
 #[derive(Clone, Copy, Debug, PartialEq, Eq)]
 pub enum Job {
-    /// Write the text of standard input in a style, by the tokens of an edition. A frontmatter may stand in front.
+    /// Write the text of standard input in a style, lexed in an edition. The text may begin with a frontmatter.
     Show { style: Style, edition: Edition },
-    /// Say what the program takes.
+    /// Print the usage.
     Help,
 }
 
-/// When colours are written.
+/// When to write colours.
 #[derive(Clone, Copy)]
 enum When {
-    /// Where the output is a terminal that takes them.
+    /// If the output is a terminal and `NO_COLOR` is not set.
     Auto,
     Always,
     Never,
 }
 
-/// What the options ask for; `None` for one that is not given.
+/// The options that were given, and `None` for each of the others.
 #[derive(Clone, Copy)]
 struct Options {
     html: bool,
@@ -31,15 +31,15 @@ struct Options {
     color: Option<When>,
 }
 
-/// What no option asks for.
+/// No option.
 const NO_OPTIONS: Options = Options {
     html: false,
     edition: None,
     color: None,
 };
 
-/// The job that the words after the program's name ask for, or `None` where they ask for none. Where they name no
-/// edition it is the newest one. `colours` says whether the output is a terminal that takes colours.
+/// Returns the job that the arguments after the program's name ask for, or `None` if they are not valid. Without
+/// `--edition` the edition is the newest one. `colours` says whether to write colours if no argument says so.
 pub fn read_job(words: &[String], colours: bool) -> Option<Job> {
     if is_help(words) {
         return Some(Job::Help);
@@ -51,7 +51,7 @@ pub fn read_job(words: &[String], colours: bool) -> Option<Job> {
     })
 }
 
-/// Whether the words are `--help` alone.
+/// Returns whether the only argument is `--help`.
 fn is_help(words: &[String]) -> bool {
     match words {
         [word] => word.as_str() == "--help",
@@ -59,7 +59,8 @@ fn is_help(words: &[String]) -> bool {
     }
 }
 
-/// The options and those that the words write, in any order and each at most once: so it calls itself three times at most.
+/// Adds the options of the arguments to `options`, in any order, each at most once. So it calls itself at most
+/// three times.
 fn read_options(options: Options, words: &[String]) -> Option<Options> {
     if words.is_empty() {
         return Some(options);
@@ -68,7 +69,7 @@ fn read_options(options: Options, words: &[String]) -> Option<Options> {
     read_options(options, after)
 }
 
-/// The options with the one that the first words write, and the words after them.
+/// Adds the first option of the arguments, and returns the options with the arguments that are left.
 fn read_option(options: Options, words: &[String]) -> Option<(Options, &[String])> {
     match words {
         [word, after @ ..] if word.as_str() == "--html" => Some((page(options)?, after)),
@@ -84,7 +85,7 @@ fn read_option(options: Options, words: &[String]) -> Option<(Options, &[String]
     }
 }
 
-/// The options with `--html`, unless they have it.
+/// Adds `--html`. Returns `None` if it is there already.
 fn page(options: Options) -> Option<Options> {
     if options.html {
         return None;
@@ -95,7 +96,7 @@ fn page(options: Options) -> Option<Options> {
     })
 }
 
-/// The options with an edition, unless they have one.
+/// Adds an edition. Returns `None` if there is one already.
 fn in_edition(options: Options, edition: Edition) -> Option<Options> {
     match options.edition {
         Some(_) => None,
@@ -106,7 +107,7 @@ fn in_edition(options: Options, edition: Edition) -> Option<Options> {
     }
 }
 
-/// The options with `--color`, unless they have it.
+/// Adds `--color`. Returns `None` if it is there already.
 fn with_colours(options: Options, when: When) -> Option<Options> {
     match options.color {
         Some(_) => None,
@@ -117,7 +118,7 @@ fn with_colours(options: Options, when: When) -> Option<Options> {
     }
 }
 
-/// The style that the options ask for.
+/// Returns the style that the options ask for.
 fn style_of(options: Options, colours: bool) -> Style {
     if options.html {
         return Style::Html;
@@ -134,7 +135,7 @@ fn style_of(options: Options, colours: bool) -> Style {
     }
 }
 
-/// When colours are written, by the word after `--color`.
+/// Reads the argument of `--color`.
 fn read_when(word: &str) -> Option<When> {
     match word {
         "auto" => Some(When::Auto),

@@ -1,4 +1,5 @@
-//! What the program `highlight` does, over any ends: it writes a Rust source in colours, for a terminal or as a page.
+//! The program `highlight`: writes a Rust source in colours, for a terminal or as a web page. It reads and
+//! writes whatever ends it is given.
 
 mod job;
 mod page;

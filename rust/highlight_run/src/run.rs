@@ -1,4 +1,4 @@
-//! A whole run: from the bytes of a reader to those of a writer.
+//! A whole run, from a reader to a writer.
 use rattle_std::prelude::String;
 
 use crate::page::write_text;
@@ -9,10 +9,10 @@ use rattle_std::fmt;
 use rattle_std::io::{Read, Write};
 use rustc_lexer::erased::Edition;
 
-/// Reads all of the input, and then writes it with its tokens marked.
+/// Reads all of the input, then writes it with its tokens marked.
 ///
-/// Nothing is written before all of it is made: unless the output failed or was closed it is as it was.
-/// At `Ok` the last thing asked of the output was a flush, and it was not refused.
+/// It makes the whole output before it writes any of it. So unless the output itself failed or was closed, an
+/// error means that nothing was written. `Ok` means that the output was flushed last.
 pub fn run<R: Read, W: Write>(
     alloc: Global,
     style: Style,
@@ -27,7 +27,7 @@ pub fn run<R: Read, W: Write>(
     put(output, made.as_str())
 }
 
-/// All that is written of the text.
+/// Returns the whole output for a text.
 fn print(alloc: Global, style: Style, edition: Edition, text: &str) -> Result<String, fmt::Error> {
     let mut made = String::new(alloc);
     write_text(style, edition, text, &mut made)?;

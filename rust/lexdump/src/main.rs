@@ -1,4 +1,4 @@
-//! Prints the tokens of a Rust source, one a line.
+//! Prints the tokens of a Rust source, one per line.
 
 use ends::Watched;
 use lexdump_run::program::program;

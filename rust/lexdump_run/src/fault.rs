@@ -1,4 +1,4 @@
-//! Why a run stops.
+//! Why a run fails.
 
 use ends::{Stop, WriteStop};
 use rattle_std::alloc::{AllocError, AllocFailed};
@@ -6,28 +6,28 @@ use rattle_std::error::Error;
 use rattle_std::fmt;
 use rustc_lexer::erased::EditStop;
 
-/// Why a run stops.
+/// Why a run fails.
 #[derive(Clone, Copy, Debug, PartialEq, Eq)]
 pub enum Fault {
-    /// The words after the program's name are no job.
+    /// The arguments are not valid.
     Arguments,
     /// The input is not UTF-8.
     NotUtf8,
     /// The input has more than `u32::MAX` bytes.
     TooLong,
-    /// Edit number `at`, from 0, has a range that is not in the text, or not between characters.
+    /// The range of edit number `at`, from 0, is not inside the text or not between characters.
     EditRange { at: usize },
-    /// Edit number `at`, from 0, makes a text of more than `u32::MAX` bytes.
+    /// Edit number `at`, from 0, would make a text of more than `u32::MAX` bytes.
     EditTooLong { at: usize },
-    /// A request for memory was refused.
+    /// Memory was refused.
     Memory,
     /// The reader failed.
     Read,
-    /// The writer failed, or took nothing of what it was given.
+    /// The writer failed, or wrote nothing of what it was given.
     Write,
 }
 
-/// The status with which the program ends.
+/// Returns the exit status of the program.
 pub fn status(fault: &Fault) -> u8 {
     match fault {
         Fault::Arguments => 2,

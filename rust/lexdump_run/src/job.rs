@@ -1,4 +1,4 @@
-//! What a run is to do.
+//! What a run has to do, as its arguments say.
 use rattle_std::prelude::String;
 
 use rattle_std::prelude::Vec;
@@ -8,23 +8,23 @@ use rattle_std::alloc::{AllocError, Global};
 use rattle_std::str::FromStr;
 use rustc_lexer::erased::{Edit, Edition};
 
-/// What a run is to do with its input.
+/// What a run does with its input.
 pub enum Job<'a> {
     /// List the tokens of the text in an edition.
     Plain { edition: Edition },
-    /// List the tokens of the text in the newest edition, where a frontmatter may stand in front.
+    /// List the tokens of the text, which may begin with a frontmatter, in the newest edition.
     Front,
     /// Print the length of the shebang line.
     Shebang,
-    /// List the tokens of the text after the edits, in an edition.
+    /// Make the edits, then list the tokens of the text in an edition.
     Edit {
         edition: Edition,
         edits: Vec<Edit<'a>>,
     },
 }
 
-/// Reads the words after the program's name. It asks for memory only for edits, and only once all words are
-/// known to be good.
+/// Reads the arguments after the program's name. It allocates only for edits, and only once all arguments are
+/// known to be valid.
 pub fn read_job<'a>(alloc: Global, words: &'a [String]) -> Result<Job<'a>, Fault> {
     match words {
         [command] if command.as_str() == "front" => Ok(Job::Front),
@@ -39,7 +39,7 @@ pub fn read_job<'a>(alloc: Global, words: &'a [String]) -> Result<Job<'a>, Fault
     }
 }
 
-/// Reads the words of a job that may name an edition.
+/// Reads the arguments of a job that may name an edition.
 fn read_job_in<'a>(alloc: Global, words: &'a [String], edition: Edition) -> Result<Job<'a>, Fault> {
     match words {
         [] => Ok(Job::Plain { edition }),
@@ -48,7 +48,7 @@ fn read_job_in<'a>(alloc: Global, words: &'a [String], edition: Edition) -> Resu
     }
 }
 
-/// Reads the words after `edit`.
+/// Reads the arguments after `edit`.
 fn read_edit_job<'a>(
     alloc: Global,
     words: &'a [String],
@@ -63,7 +63,7 @@ fn read_edit_job<'a>(
     })
 }
 
-/// Whether the words are one edit or more, three words each.
+/// Returns whether the arguments are one edit or more, of three arguments each.
 fn are_edits(words: &[String]) -> bool {
     let mut rest = words;
     while let Some((_, after)) = first_edit(rest) {
@@ -72,7 +72,7 @@ fn are_edits(words: &[String]) -> bool {
     rest.is_empty() && !words.is_empty()
 }
 
-/// The edits that the words write.
+/// Returns the edits of the arguments.
 fn read_edits<'a>(alloc: Global, words: &'a [String]) -> Result<Vec<Edit<'a>>, AllocError> {
     let mut edits = Vec::new(alloc);
     let mut rest = words;
@@ -83,7 +83,7 @@ fn read_edits<'a>(alloc: Global, words: &'a [String]) -> Result<Vec<Edit<'a>>, A
     Ok(edits)
 }
 
-/// The edit that the first three words write, and the words after them.
+/// Returns the edit of the first three arguments, and the arguments after them.
 fn first_edit<'a>(words: &'a [String]) -> Option<(Edit<'a>, &'a [String])> {
     let [start, stop, insert, rest @ ..] = words else {
         return None;
@@ -96,12 +96,12 @@ fn first_edit<'a>(words: &'a [String]) -> Option<(Edit<'a>, &'a [String])> {
     Some((edit, rest))
 }
 
-/// The most digits that a place is written by.
+/// The most digits that an offset may have.
 const MOST_DIGITS: usize = 10;
 
-/// The place that a word writes.
+/// Reads an offset.
 fn read_place(word: &str) -> Option<usize> {
-    // A sign is no digit, though `parse` takes a plus.
+    // `parse` would take a plus sign, which is not a digit.
     if word.len() > MOST_DIGITS || word.starts_with('+') {
         return None;
     }

@@ -1,4 +1,4 @@
-//! The listing of tokens: a line for each, with its start, its length, its kind and the fields of that.
+//! The listing: one line per token, with its start, its length, its kind and the kind's fields.
 
 use crate::fault::Fault;
 use crate::output::Block;
@@ -11,10 +11,10 @@ use rustc_lexer::erased::{
     Token, TokenKind, strip_shebang, tokenize_as,
 };
 
-/// How many tokens are read at once.
+/// How many tokens are lexed at once.
 const BUFFER_LEN: usize = 256;
 
-/// A buffer in which no token was written yet.
+/// Makes a buffer for tokens.
 fn new_buffer() -> [Token; BUFFER_LEN] {
     [Token {
         kind: TokenKind::Eof,
@@ -22,7 +22,7 @@ fn new_buffer() -> [Token; BUFFER_LEN] {
     }; BUFFER_LEN]
 }
 
-/// Writes the lines of tokens, of which the first begins at the byte `start`, and flushes the output.
+/// Writes the lines of the tokens, the first of which begins at byte `start`, and flushes.
 pub fn write_listing<W: Write>(
     output: &mut Watched<W>,
     start: u32,
@@ -33,7 +33,7 @@ pub fn write_listing<W: Write>(
     lines.finish(output)
 }
 
-/// Lists the tokens of a text, which has at most `u32::MAX` bytes, in an edition.
+/// Lists the tokens of a text in an edition. The text may have at most `u32::MAX` bytes.
 pub fn list_tokens<W: Write>(
     lines: &mut Block,
     output: &mut Watched<W>,
@@ -51,7 +51,7 @@ pub fn list_tokens<W: Write>(
     Ok(())
 }
 
-/// Adds the lines of tokens, of which the first begins at the byte `start`.
+/// Adds the lines of the tokens, the first of which begins at byte `start`.
 fn push_lines<W: Write>(
     lines: &mut Block,
     output: &mut Watched<W>,
@@ -66,7 +66,7 @@ fn push_lines<W: Write>(
     Ok(())
 }
 
-/// Tells the length of the shebang line of a text.
+/// Prints the length of the shebang line of a text.
 pub fn tell_shebang<W: Write>(
     lines: &mut Block,
     output: &mut Watched<W>,
@@ -81,7 +81,7 @@ pub fn tell_shebang<W: Write>(
     }
 }
 
-/// The text after the edits, with its tokens in an edition.
+/// Returns the text after the edits, with its tokens in an edition.
 pub fn edited(
     alloc: Global,
     text: &str,
@@ -93,7 +93,7 @@ pub fn edited(
     Ok(lexed)
 }
 
-/// Lists the tokens of a text that is kept with them.
+/// Lists the tokens of a lexed text.
 pub fn list_pieces<W: Write, S: Stepper>(
     lines: &mut Block,
     output: &mut Watched<W>,
@@ -105,7 +105,7 @@ pub fn list_pieces<W: Write, S: Stepper>(
     Ok(())
 }
 
-/// Adds the line of a token that begins at the byte `start`.
+/// Adds the line of a token that begins at byte `start`.
 fn push_line<W: Write>(
     lines: &mut Block,
     output: &mut Watched<W>,
@@ -120,7 +120,7 @@ fn push_line<W: Write>(
     lines.push(output, "\n")
 }
 
-/// Whether the kind has fields, which its line shows.
+/// Returns whether the kind has fields that its line shows.
 fn has_fields(kind: TokenKind) -> bool {
     matches!(
         kind,
@@ -132,24 +132,24 @@ fn has_fields(kind: TokenKind) -> bool {
     )
 }
 
-/// The most bytes of a start, a length and the space after each.
+/// The most bytes that a start, a length and a space after each take.
 const PLACE: usize = 22;
 
-/// Adds the start and the length of a token, and a space after each.
+/// Adds the start and the length of a token, each with a space after it.
 fn push_place<W: Write>(
     lines: &mut Block,
     output: &mut Watched<W>,
     start: u32,
     len: u32,
 ) -> Result<(), Fault> {
-    // Written from the last byte to the first.
+    // Digits are written from the last to the first.
     let mut place = [b' '; PLACE];
     let len_at = write_digits(u64::from(len), &mut place, PLACE - 1);
     let start_at = write_digits(u64::from(start), &mut place, len_at - 1);
     lines.push_bytes(output, &place[start_at..])
 }
 
-/// A field: what stands before its value, and the value.
+/// A field: what comes before its value, and the value.
 #[derive(Clone, Copy)]
 struct Field {
     label: &'static str,
@@ -163,13 +163,13 @@ enum Value {
     Number(u32),
 }
 
-/// A place where no field stands.
+/// No field.
 const NONE: Field = Field {
     label: "",
     value: Value::Text(""),
 };
 
-/// Adds the fields of a kind, each after a space, and the end of the line.
+/// Adds the fields of a kind, each after a space, then a newline.
 fn push_fields<W: Write>(
     lines: &mut Block,
     output: &mut Watched<W>,
@@ -195,7 +195,7 @@ fn push_field<W: Write>(
     }
 }
 
-/// The fields of a kind, of which there are at most three.
+/// Returns the fields of a kind, at most three.
 fn fields(kind: TokenKind) -> (Field, Field, Field) {
     match kind {
         TokenKind::LineComment { doc_style } => {
@@ -237,7 +237,7 @@ fn fields(kind: TokenKind) -> (Field, Field, Field) {
     }
 }
 
-/// The field that tells the kind of a literal, and its own fields, of which there are at most two.
+/// Returns the field with the kind of a literal, and that kind's own fields, at most two.
 fn literal_fields(kind: LiteralKind) -> (Field, Field) {
     match kind {
         LiteralKind::Int { base, empty_int } => (
@@ -262,7 +262,7 @@ fn literal_fields(kind: LiteralKind) -> (Field, Field) {
     }
 }
 
-/// A field whose value is a text.
+/// Returns a field whose value is a text.
 fn text_field(label: &'static str, text: &'static str) -> Field {
     Field {
         label,
@@ -270,7 +270,7 @@ fn text_field(label: &'static str, text: &'static str) -> Field {
     }
 }
 
-/// A field whose value is `true` or `false`.
+/// Returns a field whose value is `true` or `false`.
 fn flag_field(label: &'static str, value: bool) -> Field {
     if value {
         text_field(label, "true")
@@ -279,12 +279,12 @@ fn flag_field(label: &'static str, value: bool) -> Field {
     }
 }
 
-/// The fields of a literal that may lack its end.
+/// Returns the fields of a literal that may be unterminated.
 fn end_fields(label: &'static str, terminated: bool) -> (Field, Field) {
     (flag_field(label, terminated), NONE)
 }
 
-/// The fields of a raw string: the number of its hashes, or `none`.
+/// Returns the fields of a raw string: the number of its hashes, or `none`.
 fn hash_fields(label: &'static str, n_hashes: Option<u8>) -> (Field, Field) {
     let field = match n_hashes {
         None => text_field(label, "none"),
@@ -296,7 +296,7 @@ fn hash_fields(label: &'static str, n_hashes: Option<u8>) -> (Field, Field) {
     (field, NONE)
 }
 
-/// The style of a doc comment, or `none`.
+/// Returns the style of a doc comment, or `none`.
 fn style_name(style: Option<DocStyle>) -> &'static str {
     match style {
         None => "none",
@@ -305,7 +305,7 @@ fn style_name(style: Option<DocStyle>) -> &'static str {
     }
 }
 
-/// The base of a number, in decimal.
+/// Returns the base of a number, in decimal.
 fn base_name(base: Base) -> &'static str {
     match base {
         Base::Binary => "2",

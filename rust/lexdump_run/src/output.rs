@@ -1,21 +1,21 @@
-//! What goes out: bytes are held until there is a block of them, and then written at once.
+//! Output in blocks: collects bytes until a block is full, then writes it at once.
 
 use crate::fault::Fault;
 use ends::{Watched, write_all, write_bytes};
 use itoa::Buffer;
 use rattle_std::io::Write;
 
-/// The most bytes that a block holds.
+/// The size of a block in bytes.
 const BLOCK: usize = 65536;
 
-/// Bytes that are still to be written, at most a block of them. They lie in place, so no memory is asked for.
+/// The bytes that are not written yet, at most one block. They are stored in place, so nothing is allocated.
 pub struct Block {
     bytes: [u8; BLOCK],
     len: usize,
 }
 
 impl Block {
-    /// A block that holds nothing.
+    /// Makes an empty block.
     pub fn new() -> Block {
         Block {
             bytes: [0; BLOCK],
@@ -23,13 +23,13 @@ impl Block {
         }
     }
 
-    /// Adds a text. Where the block has no room for it, what it holds is written first.
+    /// Adds a text. If it does not fit, the block is written first.
     #[inline]
     pub fn push<W: Write>(&mut self, output: &mut Watched<W>, text: &str) -> Result<(), Fault> {
         self.push_bytes(output, text.as_bytes())
     }
 
-    /// Adds a number, in decimal.
+    /// Adds a number in decimal.
     pub fn push_number<W: Write>(
         &mut self,
         output: &mut Watched<W>,
@@ -38,7 +38,7 @@ impl Block {
         self.push(output, Buffer::new().format(number))
     }
 
-    /// Adds bytes.
+    /// Adds bytes. If they do not fit, the block is written first.
     #[inline]
     pub fn push_bytes<W: Write>(
         &mut self,
@@ -52,7 +52,7 @@ impl Block {
         Ok(())
     }
 
-    /// Writes what is held, and adds the bytes. More than a block of them is written at once.
+    /// Writes the block, then adds the bytes. If they are more than a block they are written at once.
     #[inline(never)]
     fn push_past<W: Write>(&mut self, output: &mut Watched<W>, bytes: &[u8]) -> Result<(), Fault> {
         self.write_out(output)?;
@@ -64,7 +64,7 @@ impl Block {
         Ok(())
     }
 
-    /// Adds bytes for which there is room.
+    /// Adds bytes that fit.
     #[inline(always)]
     fn hold(&mut self, bytes: &[u8]) {
         let end = self.len + bytes.len();
@@ -72,14 +72,14 @@ impl Block {
         self.len = end;
     }
 
-    /// Writes what is held. Then it holds nothing; where that fails it holds what it held.
+    /// Writes the block and empties it. On an error it stays as it was.
     fn write_out<W: Write>(&mut self, output: &mut Watched<W>) -> Result<(), Fault> {
         write_bytes(output, &self.bytes[..self.len])?;
         self.len = 0;
         Ok(())
     }
 
-    /// Writes what is held, and flushes. Then it holds nothing; where that fails it holds what it held.
+    /// Writes the block, empties it and flushes. On an error it stays as it was.
     pub fn finish<W: Write>(&mut self, output: &mut Watched<W>) -> Result<(), Fault> {
         write_all(output, &self.bytes[..self.len])?;
         self.len = 0;

@@ -1,4 +1,4 @@
-//! A whole run: from the bytes of a reader to the lines of a writer.
+//! A whole run, from a reader to a writer.
 
 use crate::fault::Fault;
 use crate::job::Job;
@@ -9,11 +9,10 @@ use rattle_std::alloc::Global;
 use rattle_std::io::{Read, Write};
 use rustc_lexer::erased::{Edition, FrontmatterAllowed};
 
-/// Reads all of the input, and then writes what the job prints of it.
+/// Reads all of the input, then prints what the job asks for.
 ///
-/// The lines go out in blocks. Nothing that may be refused comes after the first byte: after every fault but
-/// `Fault::Write` the output is as it was.
-/// At `Ok` the last thing asked of the output was a flush, and it was not refused.
+/// The lines are written in blocks. All memory is allocated before the first byte is written, so only a
+/// `Fault::Write` can leave part of the output. `Ok` means that the output was flushed last.
 pub fn run<R: Read, W: Write>(
     alloc: Global,
     job: &Job<'_>,
@@ -26,7 +25,7 @@ pub fn run<R: Read, W: Write>(
     lines.finish(output)
 }
 
-/// Prints what the job prints of the text.
+/// Prints what the job asks for.
 fn print<W: Write>(
     alloc: Global,
     job: &Job<'_>,

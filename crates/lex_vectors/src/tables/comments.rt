@@ -1,4 +1,4 @@
-//! Block comments, and what line comments have beside them.
+//! Block comments, and the rest of line comments.
 use crate::tables::kinds::*;
 use crate::tables::row::*;
 use rustc_lexer::DocStyle::*;
@@ -12,7 +12,7 @@ pub(crate) static ROWS: &[Row] = rows! {
     "/*/**/*/" => [(BLOCK, 8)],
     "/* *//* */" => [(BLOCK, 5), (BLOCK, 5)],
     "/** /*! */ */" => [(BlockComment { doc_style: Some(Outer), terminated: true }, 13)],
-    // A mark takes part in one opening or closing alone.
+    // A mark is part of one opening or closing only.
     "/*" => [(OPEN_BLOCK, 2)],
     "/*/" => [(OPEN_BLOCK, 3)],
     "/*/*/" => [(OPEN_BLOCK, 5)],
@@ -32,7 +32,7 @@ pub(crate) static ROWS: &[Row] = rows! {
     "///\n" => [(LineComment { doc_style: Some(Outer) }, 3), (Whitespace, 1)],
     "/// a\r\n" => [(LineComment { doc_style: Some(Outer) }, 6), (Whitespace, 1)],
     "//!" => [(INNER_LINE, 3)],
-    // Nothing else counts inside.
+    // Nothing else counts inside a comment.
     "/* // */ x" => [(BLOCK, 8), (Whitespace, 1), (Ident, 1)],
     "// /* \n */" => [(LINE, 6), (Whitespace, 2), (Star, 1), (Slash, 1)],
     r#"/* "*/""# => [(BLOCK, 6), literal!(OPEN_STR, 1)],

@@ -1,48 +1,51 @@
-//! Edits of a document that is kept with its tokens, in an edition. The tokens are those past the shebang line.
+//! Edits of a document that is kept with its tokens, in an edition. The tokens are those after the shebang line.
 use crate::tables::edits::{EditRow, edits};
 use crate::tables::frontmatter::{BAD_INFOSTRING, FRONT};
 use crate::tables::kinds::*;
 use rustc_lexer::TokenKind::*;
 
-/// Edits that lex no head: it is kept, or it goes.
+/// Edits that lex no head: it is kept, or it goes away.
 pub static KEPT: &[EditRow] = edits! {
-    // A letter behind a shebang line and a frontmatter, behind a frontmatter in older editions, and behind a shebang line.
+    // A letter after a shebang line and a frontmatter, after a frontmatter in older editions, and after a
+    // shebang line.
     E2024 "#!a\n---\nb\n---\nfn" (16..16 "x": [3, 1, 0]) => "#!a\n---\nb\n---\nfnx" [SPACE, (FRONT, 9), SPACE, (Ident, 3)],
     E2024 "---\n---\n'r#foo" (14..14 "x": [2, 1, 0]) => "---\n---\n'r#foox" [(FRONT, 7), SPACE, (RawLifetime, 7)],
     E2018 "---\n---\n'r#foo" (14..14 "x": [4, 1, 0]) => "---\n---\n'r#foox" [
         (FRONT, 7), SPACE, (LIFETIME, 2), HASH, (Ident, 4),
     ],
     E2024 "#!a\nb c" (5..5 "d": [0, 2, 2]) => "#!a\nbd c" [SPACE, WORD, SPACE, LETTER],
-    // The shebang line comes with its mark, goes with it, and takes the next line in; a bracket makes it an attribute.
+    // A shebang line comes with its mark, goes with it, and takes the next line in; a bracket makes it an
+    // attribute.
     E2024 "#a\nb" (1..1 "!": [0, 0, 2]) => "#!a\nb" [SPACE, LETTER],
     E2024 "#!a\nb" (0..1 "": [0, 2, 2]) => "!a\nb" [(Bang, 1), LETTER, SPACE, LETTER],
     E2024 "#!a\nb" (3..4 "": [0, 0, 0]) (2..2 "\n": [0, 2, 0]) => "#!\nab" [SPACE, WORD],
     E2024 "#!\nb" (3..3 "[": [0, 4, 1]) => "#!\n[b" [HASH, (Bang, 1), SPACE, (OpenBracket, 1), LETTER],
     E2024 "#!\n[b" (3..4 "": [0, 1, 1]) => "#!\nb" [SPACE, LETTER],
-    // What stands before a frontmatter makes it code.
+    // Text before a frontmatter makes it code.
     E2024 "\n---\n---\nb" (0..0 "a": [0, 9, 2]) => "a\n---\n---\nb" [
         LETTER, SPACE, DASH, DASH, DASH, SPACE, DASH, DASH, DASH, SPACE, LETTER,
     ],
-    // What is outside the text is refused, and what cuts a character.
+    // A range outside the text is refused, and one that cuts a character.
     E2024 "---\n---\né" (0..11 "") => "---\n---\né" [(FRONT, 7), SPACE, WORD],
     E2024 "---\n---\né" (8..10 "b": [1, 2, 0]) (8..9 "é": [1, 2, 0]) (9..10 "") => "---\n---\né" [(FRONT, 7), SPACE, WORD],
 };
 
 /// Edits that lex a frontmatter with nothing before it.
 pub static FRONTS: &[EditRow] = edits! {
-    // A letter in it: another one, and one in place of one, which leaves all lengths.
+    // A letter in it: one more, and one instead of another, which leaves all lengths.
     E2024 "---\nb\n---\nfn" (5..5 "c": [0, 1, 2]) => "---\nbc\n---\nfn" [(FRONT, 10), SPACE, WORD],
     E2024 "---\nb\n---\nc" (4..5 "d": [0, 1, 2]) => "---\nd\n---\nc" [(FRONT, 9), SPACE, LETTER],
     // Its opening fence is typed, and its closing one.
     E2024 "--\nb\n---\nc" (2..2 "-": [0, 1, 2]) => "---\nb\n---\nc" [(FRONT, 9), SPACE, LETTER],
     E2024 "---\na\n--\nb" (8..8 "-": [0, 3, 0]) => "---\na\n---\nb" [(FRONT, 9), SPACE, LETTER],
-    // A fence, and a line that ends one, typed behind it: it ends at the same place, and is another one, or the same.
+    // A fence, and a line that ends one, typed after it: it ends at the same place, and is changed, or is the
+    // same.
     E2024 "---" (3..3 "\nuse b": [0, 5, 0]) => "---\nuse b" [(FRONT, 3), SPACE, (Ident, 3), SPACE, LETTER],
     E2024 "---\nuse b" (3..9 "": [0, 1, 0]) => "---" [(BAD_INFOSTRING, 3)],
     E2024 "---\na\nuse b" (6..6 "---\n": [0, 2, 3]) => "---\na\n---\nuse b" [
         (FRONT, 9), SPACE, (Ident, 3), SPACE, LETTER,
     ],
-    // A shebang line before it goes.
+    // A shebang line before it goes away.
     E2024 "#!a\nb" (3..5 "---\n": [0, 1, 0]) (0..3 "": [0, 1, 0]) => "---\n" [(FRONT, 4)],
 };
 
@@ -52,7 +55,7 @@ pub static SPACED: &[EditRow] = edits! {
     E2024 "#!a\n---\n---\nb" (1..3 "!": [0, 2, 2]) => "#!\n---\n---\nb" [SPACE, (FRONT, 7), SPACE, LETTER],
 };
 
-/// A text, its shebang line, and where its body begins: past how many tokens, and past how many bytes.
+/// A text, its shebang line, and where its body begins: after how many tokens, and how many bytes.
 pub static HEADS: &[(&str, usize, usize, usize)] = &[
     ("", 0, 0, 0),
     ("#!a\nb", 3, 0, 3),

@@ -1,4 +1,4 @@
-//! The tokens of a text in each edition, also where a frontmatter stands in front.
+//! The tokens of a text in each edition, also with a frontmatter.
 use crate::tables::frontmatter::FRONT;
 use crate::tables::kinds::*;
 use crate::tables::row::*;
@@ -47,7 +47,7 @@ const SCRIPT_IN_2021: &[Way] = &[Way::Document(E2021)];
 
 const SCRIPT_UNTIL_2018: &[Way] = &[Way::Document(E2018), Way::Document(E2015)];
 
-/// Texts that a frontmatter stands in front of.
+/// Texts that begin with a frontmatter.
 pub(crate) static SCRIPTS: &[Row] = rows! {
     SCRIPT_IN_2024: "---\n---\n'r#a #\"x\"" => [
         (FRONT, 7), SPACE, (RawLifetime, 4), SPACE, (GuardedStrPrefix, 2), (UnknownPrefix, 1), literal!(OPEN_STR, 1),

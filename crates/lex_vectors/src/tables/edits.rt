@@ -4,7 +4,7 @@ use crate::tables::row::*;
 use rustc_lexer::TokenKind::*;
 use rustc_lexer::{Edition, Relexed, TokenKind};
 
-/// An edit, and its counts, or none where it is refused.
+/// An edit and its counts, or no counts if it is refused.
 #[derive(Clone, Copy)]
 pub struct Step {
     pub start: usize,
@@ -13,7 +13,7 @@ pub struct Step {
     pub counts: Option<Relexed>,
 }
 
-/// A text, edits of it, and the text and the tokens that they leave.
+/// A text, its edits, and the text and the tokens after them.
 #[derive(Clone, Copy)]
 pub struct EditRow {
     pub edition: Edition,
@@ -77,25 +77,26 @@ pub static SHORT: &[EditRow] = edits! {
     E2015 "'r#foo" (6..6 "x": [2, 1, 0]) => "'r#foox" [(LIFETIME, 2), HASH, (Ident, 4)],
     E2024 "#\"a\"" (0..0 "#": [0, 2, 0]) => "##\"a\"" [(GuardedStrPrefix, 2), literal!(STR, 3)],
     E2021 "#\"a\"" (0..0 "#": [0, 1, 2]) => "##\"a\"" [HASH, HASH, literal!(STR, 3)],
-    // A later edit goes by the text that the earlier ones leave.
+    // A later edit is one of the text after the earlier ones.
     E2024 "cd efz" => "cd efz" [WORD, SPACE, (Ident, 3)],
     E2024 "ab cd ef" (8..8 "z": [4, 1, 0]) (0..3 "": [0, 0, 3]) => "cd efz" [WORD, SPACE, (Ident, 3)],
     E2024 "ab" (2..2 "c": [0, 1, 0]) (3..3 " d": [0, 3, 0]) => "abc d" [(Ident, 3), SPACE, LETTER],
-    // What is outside the text is refused, and what cuts a character.
+    // A range outside the text is refused, and one that cuts a character.
     E2024 "ab cd" (0..3 "": [0, 0, 1]) (1..9 "") => "cd" [WORD],
     E2024 "é" (1..2 "") => "é" [WORD],
 };
 
 /// Long texts.
 pub static LONG: &[EditRow] = edits! {
-    // Much is put in: 602 tokens, and then the old ones begin again; and a comment with no end, which meets none of them.
+    // A long insertion: 602 tokens, then the old ones again; and a comment with no end, which meets none of
+    // them.
     E2024 "ab cd ef" (3..3 ["x " * 300]: [0, 602, 3]) => {
         "ab " => [WORD, SPACE], "x " * 300 => [LETTER, SPACE], "cd ef" => [WORD, SPACE, WORD]
     } [],
     E2024 "ab cd ef" (3..3 ["/*a " * 300]: [0, 3, 0]) => ["ab ", "/*a " * 300, "cd ef"] [
         WORD, SPACE, (OPEN_BLOCK, 1205),
     ],
-    // An opening in front of many tokens, and away again; marks behind many tokens; an emoji less.
+    // An opening before many tokens, and away again; a mark after many tokens; an emoji less.
     E2024 ["x " * 50_000] (0..0 "/*": [0, 1, 0]) => ["/*", "x " * 50_000] [(OPEN_BLOCK, 100_002)],
     E2024 ["x " * 50_000] (0..0 "/*": [0, 1, 0]) (0..2 "": [0, 100_000, 0]) => {"x " * 50_000 => [LETTER, SPACE]} [],
     E2024 ["x " * 50_000] (100_000..100_000 "*/": [99_998, 4, 0]) => {
@@ -109,7 +110,7 @@ pub static LONG: &[EditRow] = edits! {
 
 const ONE: (TokenKind, u32) = (Unknown, 1);
 
-/// The same where each character is one token.
+/// The same if each character is one token.
 pub static CHARACTERS: &[EditRow] = edits! {
     E2024 "ab cd" (3..3 "é": [1, 3, 2]) => "ab écd" [ONE, ONE, ONE, (Unknown, 2), ONE, ONE],
 };

@@ -15,13 +15,13 @@ macro_rules! front {
 
 pub(crate) const FRONT: TokenKind = front!(false, false);
 
-/// One with something else than an infostring after its dashes.
+/// A frontmatter whose infostring is not valid.
 pub(crate) const BAD_INFOSTRING: TokenKind = front!(false, true);
 
-/// One with white space before its dashes.
+/// A frontmatter with white space before its dashes.
 const SPACED: TokenKind = front!(true, false);
 
-/// One with both.
+/// A frontmatter with both faults.
 const SPACED_BAD: TokenKind = front!(true, true);
 
 /// A script of the original's tests.
@@ -42,7 +42,7 @@ pub(crate) static STARTS: &[Row] = rows! {
         SPACE, (FRONT, 38), (Whitespace, 2), (Ident, 2), SPACE, (Ident, 4), (OpenParen, 1), (CloseParen, 1), SPACE,
         (OpenBrace, 1), (CloseBrace, 1), SPACE,
     ],
-    // Where it starts.
+    // Where it begins.
     "" => [],
     "  " => [(Whitespace, 2)],
     "--" => [DASH, DASH],
@@ -120,7 +120,7 @@ pub(crate) static CLOSINGS: &[Row] = rows! {
     "---\n#![a]\nuse b" => [(FRONT, 9), SPACE, (Ident, 3), SPACE, LETTER],
 };
 
-/// Two places where it may end, in both orders.
+/// Two places where it could end, in both orders.
 pub(crate) static PAIRS: &[Row] = rows! {
     DOCUMENT:
     "----\n----f\n---s" => [(FRONT, 10), SPACE, DASH, DASH, DASH, LETTER],
@@ -161,7 +161,7 @@ pub(crate) static PAIRS: &[Row] = rows! {
         DASH, LETTER,
     ],
     "----\n ---l\n#![a]" => [(FRONT, 10), SPACE, HASH, (Bang, 1), (OpenBracket, 1), LETTER, (CloseBracket, 1)],
-    // Many dashes in front of it, and some behind it.
+    // Many dashes before it, and some after it.
     ["-" * 70_000, "\na\n", "-" * 70_000] => [(FRONT, 140_003)],
     ["-" * 70_000, "\na\n", "-" * 69_999] => [(FRONT, 140_002)],
     ["-" * 70_000, "\na\n", "-" * 3] => [(FRONT, 70_006)],

@@ -13,7 +13,7 @@ pub(crate) static ROWS: &[Row] = rows! {
     "###" => [(GuardedStrPrefix, 2), (Pound, 1)],
     "####" => [(GuardedStrPrefix, 2), (GuardedStrPrefix, 2)],
     "###\"a\"###" => [(GuardedStrPrefix, 2), (GuardedStrPrefix, 2), (UnknownPrefix, 1), literal!(OPEN_STR, 4)],
-    // What makes no prefix of a hash.
+    // What makes a hash no prefix.
     "#" => [(Pound, 1)],
     "#[" => [(Pound, 1), (OpenBracket, 1)],
     "#![" => [(Pound, 1), (Bang, 1), (OpenBracket, 1)],
@@ -22,7 +22,7 @@ pub(crate) static ROWS: &[Row] = rows! {
     "#é" => [(Pound, 1), (Ident, 2)],
     "#😀" => [(Pound, 1), (InvalidIdent, 4)],
     "#\0" => [(Pound, 1), (Unknown, 1)],
-    // Behind other tokens.
+    // After other tokens.
     "1##" => [literal!(INT, 1), (GuardedStrPrefix, 2)],
     "k##" => [(UnknownPrefix, 1), (GuardedStrPrefix, 2)],
     "'a##" => [(UnknownPrefixLifetime, 2), (GuardedStrPrefix, 2)],

@@ -1,4 +1,4 @@
-//! Long texts of the kind that make a careless lexer slow or deep.
+//! Long texts that make a careless lexer slow or overflow its stack.
 use crate::tables::kinds::*;
 use crate::tables::row::*;
 use rustc_lexer::TokenKind::*;

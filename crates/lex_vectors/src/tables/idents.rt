@@ -17,7 +17,7 @@ pub(crate) static ROWS: &[Row] = rows! {
     "cr" => [(Ident, 2)],
     "\0" => [(Unknown, 1)],
     "a\0b" => [(Ident, 1), (Unknown, 1), (Ident, 1)],
-    // Joiners and middle dots go on with an identifier, and begin none.
+    // Joiners and middle dots continue an identifier and begin none.
     "a\u{200d}b" => [(Ident, 5)],
     "a\u{200c}b" => [(Ident, 5)],
     "a\u{30fb}" => [(Ident, 4)],
@@ -34,7 +34,7 @@ pub(crate) static ROWS: &[Row] = rows! {
     "k#a😀" => [(ForcedKeywordIdent, 3), (InvalidIdent, 4)],
 };
 
-/// Prefixes that are none of Rust's.
+/// Prefixes that Rust does not have.
 pub(crate) static PREFIXES: &[Row] = rows! {
     PLAIN:
     "k# x" => [(UnknownPrefix, 1), (Pound, 1), (Whitespace, 1), (Ident, 1)],
@@ -64,7 +64,7 @@ pub(crate) static EMOJI: &[Row] = rows! {
     "😀a#" => [(InvalidIdent, 5), (Pound, 1)],
     "a😀\"" => [(InvalidIdent, 5), literal!(OPEN_STR, 1)],
     "👨\u{200d}👩" => [(InvalidIdent, 11)],
-    // A character that is an emoji and begins identifiers begins one.
+    // A character that is an emoji and may begin an identifier begins one.
     "\u{2139}" => [(Ident, 3)],
     "a\u{2139}" => [(Ident, 4)],
     "\u{2139}😀" => [(InvalidIdent, 7)],

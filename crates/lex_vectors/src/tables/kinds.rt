@@ -1,4 +1,4 @@
-//! Short names for the kinds, and for the tokens, that rows name often.
+//! Short names for the kinds and tokens that rows name often.
 use rustc_lexer::Base::*;
 use rustc_lexer::DocStyle::*;
 use rustc_lexer::LiteralKind::*;
@@ -31,12 +31,12 @@ pub const OPEN_BLOCK: TokenKind = BlockComment {
     terminated: false,
 };
 
-/// A lifetime as Rust has it.
+/// A valid lifetime.
 pub const LIFETIME: TokenKind = Lifetime {
     starts_with_number: false,
 };
 
-/// One that begins with a digit or holds an emoji.
+/// A lifetime that begins with a digit or has an emoji.
 pub const BAD_LIFETIME: TokenKind = Lifetime {
     starts_with_number: true,
 };
@@ -71,5 +71,5 @@ pub const OPEN_STR: LiteralKind = Str { terminated: false };
 
 pub const RAW_STR: LiteralKind = RawStr { n_hashes: Some(0) };
 
-/// A raw string that is refused.
+/// A raw string that is not valid.
 pub const BAD_RAW_STR: LiteralKind = RawStr { n_hashes: None };

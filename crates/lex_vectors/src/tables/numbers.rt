@@ -5,7 +5,7 @@ use rustc_lexer::Base::*;
 use rustc_lexer::LiteralKind::*;
 use rustc_lexer::TokenKind::*;
 
-/// A number of each form, which the text ends with.
+/// A number of each form at the end of a text.
 pub(crate) static AT_THE_END: &[Row] = rows! {
     PLAIN:
     "0" => [literal!(INT, 1)],
@@ -75,7 +75,7 @@ pub(crate) static SUFFIXES: &[Row] = rows! {
 
 pub(crate) static BEFORE_OTHERS: &[Row] = rows! {
     PLAIN:
-    // A dot before a dot or a name is no part of the number.
+    // A dot before a dot or a name is not part of the number.
     "1..2" => [literal!(INT, 1), (Dot, 1), (Dot, 1), literal!(INT, 1)],
     "12.foo()" => [literal!(INT, 2), (Dot, 1), (Ident, 3), (OpenParen, 1), (CloseParen, 1)],
     "1.e5" => [literal!(INT, 1), (Dot, 1), (Ident, 2)],
@@ -85,12 +85,12 @@ pub(crate) static BEFORE_OTHERS: &[Row] = rows! {
     "1.\u{200d}" => [literal!(FLOAT, 2), (Unknown, 3)],
     "1.😀" => [literal!(FLOAT, 2), (InvalidIdent, 4)],
     "1. 2" => [literal!(FLOAT, 2), (Whitespace, 1), literal!(INT, 1)],
-    // Nor is one after a fraction, an exponent or a prefix alone.
+    // Nor is one after a fraction, an exponent or only a prefix.
     "1.2.3" => [literal!(FLOAT, 3), (Dot, 1), literal!(INT, 1)],
     "1e1.0" => [literal!(FLOAT, 3), (Dot, 1), literal!(INT, 1)],
     "0b.0" => [literal!(Int { base: Binary, empty_int: true }, 2), (Dot, 1), literal!(INT, 1)],
     "0o_." => [literal!(Int { base: Octal, empty_int: true }, 3), (Dot, 1)],
-    // Signs, and what no suffix begins with.
+    // Signs, and what begins no suffix.
     ".5" => [(Dot, 1), literal!(INT, 1)],
     "-1" => [(Minus, 1), literal!(INT, 1)],
     "0xE+1" => [literal!(HEXADECIMAL, 3), (Plus, 1), literal!(INT, 1)],

@@ -1,4 +1,4 @@
-//! The texts that the original crate is tested on.
+//! The texts of the original crate's tests.
 use crate::tables::kinds::*;
 use crate::tables::row::*;
 use rustc_lexer::Base::*;

@@ -21,7 +21,7 @@ pub(crate) static STRINGS: &[Row] = rows! {
     r#""\\\""# => [literal!(OPEN_STR, 5)],
     r#"b"a\"""# => [literal!(ByteStr { terminated: true }, 6)],
     r#"c"a\"""# => [literal!(CStr { terminated: true }, 6)],
-    // Nothing closes them.
+    // Not terminated.
     r#"""# => [literal!(OPEN_STR, 1)],
     r#""\"# => [literal!(OPEN_STR, 2)],
     "\"\0" => [literal!(OPEN_STR, 2)],
@@ -67,7 +67,7 @@ pub(crate) static CHARACTERS: &[Row] = rows! {
     "'éa'" => [literal!(CHAR, 5)],
     "'a😀'" => [literal!(CHAR, 7)],
     "'ab'x" => [literal!(CHAR, 4), (Ident, 1)],
-    // Nothing closes them.
+    // Not terminated.
     "'" => [literal!(OPEN_CHAR, 1)],
     r"'\" => [literal!(OPEN_CHAR, 2)],
     r"'\'" => [literal!(OPEN_CHAR, 3)],

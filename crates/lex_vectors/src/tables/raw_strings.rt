@@ -24,7 +24,7 @@ pub(crate) static ROWS: &[Row] = rows! {
     "br##\"a\"##" => [literal!(RawByteStr { n_hashes: Some(2) }, 9)],
     r#"cr"a""# => [literal!(RawCStr { n_hashes: Some(0) }, 5)],
     "cr#\"a\"#b" => [literal!(RawCStr { n_hashes: Some(1) }, 7, 8)],
-    // What no suffix begins with.
+    // What begins no suffix.
     "r##\"a\"###" => [literal!(RawStr { n_hashes: Some(2) }, 8), (Pound, 1)],
     "r\"a\"\"#" => [literal!(RAW_STR, 4), literal!(OPEN_STR, 2)],
     "r#\"a\"#\"b\"" => [literal!(RawStr { n_hashes: Some(1) }, 6), literal!(STR, 3)],
@@ -32,7 +32,7 @@ pub(crate) static ROWS: &[Row] = rows! {
     "r\"a\"\n" => [literal!(RAW_STR, 4), (Whitespace, 1)],
 };
 
-/// Nothing closes them.
+/// Raw strings that are not terminated.
 pub(crate) static UNCLOSED: &[Row] = rows! {
     PLAIN:
     r#"r""# => [literal!(BAD_RAW_STR, 2)],
@@ -41,7 +41,7 @@ pub(crate) static UNCLOSED: &[Row] = rows! {
     r#"cr""# => [literal!(RawCStr { n_hashes: None }, 3)],
     "r##\"a\"#" => [literal!(BAD_RAW_STR, 7)],
     "r##\"a\"#b\"#" => [literal!(BAD_RAW_STR, 10)],
-    // Another character stands in place of the quote.
+    // Another character instead of the quote.
     "r#" => [literal!(BAD_RAW_STR, 2)],
     "r##" => [literal!(BAD_RAW_STR, 3)],
     "r#~" => [literal!(BAD_RAW_STR, 3)],
@@ -63,7 +63,7 @@ pub(crate) static UNCLOSED: &[Row] = rows! {
     ["r", "#" * 256, "\"abc\"", "#" * 255, "x"] => [literal!(BAD_RAW_STR, 518)],
 };
 
-/// What the check answers where nothing closes the text.
+/// What the check answers for a text that is not terminated.
 macro_rules! open {
     ($expected:expr, $found:expr, $offset:expr) => {
         Err(NoTerminator {
@@ -110,7 +110,7 @@ pub(crate) static CHECKS: &[Check] = checks! {
     "ér##\"a\"#", 2 => open!(2, 1, Some(7)),
     "ééér##\"a\"#\"", 4 => open!(2, 1, Some(9)),
     "éér#\"a", 3 => open!(1, 0, None),
-    // Many hashes, and what stands behind the text.
+    // Many hashes, and text after the string.
     ["r", "#" * 255, "\"abc\"", "#" * 255], 1 => Ok(()),
     ["r", "#" * 255, "\"abc\"", "#" * 255, "x"], 1 => Ok(()),
     ["r", "#" * 255, "\"abc\"", "#" * 256], 1 => Ok(()),

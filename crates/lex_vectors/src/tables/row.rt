@@ -1,7 +1,7 @@
-//! What tables are written with. A row is a text with the tokens that it should give, by some calls.
+//! The macros for tables. A row is a text with its tokens, by some calls.
 use rustc_lexer::{Edition, FrontmatterAllowed, TokenKind};
 
-/// A part of a text, how often it stands there, and the tokens that end in it each time, by kind and length.
+/// A part of a text, how often it is repeated, and the tokens that end in it each time, by kind and length.
 pub type Part = (&'static str, u32, &'static [(TokenKind, u32)]);
 
 /// A call that lexes a text.
@@ -11,24 +11,25 @@ pub enum Way {
     Newest(FrontmatterAllowed),
     /// `tokenize_in`.
     Part(Edition),
-    /// `tokenize_as`, where a frontmatter may stand in front.
+    /// `tokenize_as`, with a frontmatter allowed.
     Document(Edition),
 }
 
-/// A text by its parts, and the calls that give its tokens and no others.
+/// A text by its parts, and the calls that give exactly its tokens.
 #[derive(Clone, Copy)]
 pub struct Row {
     pub ways: &'static [Way],
     pub parts: &'static [Part],
 }
 
-/// The call for a text with no frontmatter.
+/// The call for a text without a frontmatter.
 pub const PLAIN: &[Way] = &[Way::Newest(FrontmatterAllowed::No)];
 
-/// The call for a text that a frontmatter may stand in front of.
+/// The call for a text that may begin with a frontmatter.
 pub const DOCUMENT: &[Way] = &[Way::Newest(FrontmatterAllowed::Yes)];
 
-/// The rows of a table: the calls, or those of each row in front of it, and texts with their tokens, as `parts` has them.
+/// The rows of a table: the calls, or for each row its own before it, and texts with their tokens, written as
+/// `parts` takes them.
 macro_rules! rows {
     ($($ways:ident: $text:tt => $tokens:tt),* $(,)?) => {
         &[$($crate::tables::row::Row {
@@ -41,8 +42,8 @@ macro_rules! rows {
     };
 }
 
-/// The parts of a text with its tokens. The text is a literal; or in brackets literals with how often each stands there;
-/// or in braces the same, and with each the tokens that end in it every time.
+/// The parts of a text with its tokens. The text is a literal; or, in brackets, literals with how often each is
+/// repeated; or, in braces, the same with the tokens that end in it each time.
 macro_rules! parts {
     ([$($text:literal $(* $times:literal)?),+] => $tokens:tt) => {
         &[$(($text, 1 $(* $times)?, &[]),)+ ("", 1, &$tokens)]
@@ -55,7 +56,7 @@ macro_rules! parts {
     };
 }
 
-/// A literal of a row: what it is, where its suffix begins, and its length where it has one.
+/// A literal of a row: its kind, where its suffix begins, and its length if it is given.
 macro_rules! literal {
     ($kind:expr, $len:expr) => {
         $crate::tables::row::literal!($kind, $len, $len)

@@ -2,7 +2,7 @@
 
 /// Texts, and the length of their shebang line.
 pub(crate) static ROWS: &[(&str, Option<usize>)] = &[
-    // The texts that the original crate is tested on.
+    // The texts of the original crate's tests.
     ("#!/bin/bash", Some(11)),
     ("#!    /bin/bash", Some(15)),
     ("#! /* blah */  /bin/bash", Some(24)),
@@ -17,7 +17,7 @@ pub(crate) static ROWS: &[(&str, Option<usize>)] = &[
     ("#!\n[attribute]", None),
     ("\n#!/bin/bash", None),
     ("\n#![attribute]", None),
-    // Its two characters stand in front.
+    // The text has to begin with `#!`.
     ("", None),
     ("#", None),
     ("fn", None),
@@ -34,7 +34,7 @@ pub(crate) static ROWS: &[(&str, Option<usize>)] = &[
     ("#!x\r\r\n", Some(4)),
     ("#!a\rb\r\nc", Some(5)),
     ("#!a\r", Some(4)),
-    // Comments before a bracket: those that are no docs are passed over.
+    // Comments before a bracket: all except doc comments are skipped.
     ("#!///x\n[a]", Some(6)),
     ("#!//!x\n[a]", Some(6)),
     ("#!/**x*/[a]", Some(11)),
@@ -43,10 +43,10 @@ pub(crate) static ROWS: &[(&str, Option<usize>)] = &[
     ("#!/***/[a]", None),
     ("#!/**/[a]", None),
     ("#!/* /* */ */[a]", None),
-    // A block comment that nothing closes takes the bracket.
+    // A block comment that is not terminated takes the bracket.
     ("#!/* a\n[b]", Some(6)),
     ("#!/* [", Some(6)),
-    // Other tokens, white space outside ASCII, and what is none.
+    // Other tokens, white space outside ASCII, and what is not white space.
     ("#!]", Some(3)),
     ("#!\"[", Some(4)),
     ("#!\r\n[a]", None),
