@@ -98,7 +98,8 @@ const setText = (text) => value(`text.value = ${JSON.stringify(text)}; text.setS
 // The label of an edition's button, as a reader finds it.
 const labelOf = (year) => `[...document.querySelectorAll('#edition label')].find((label) => label.textContent.trim() === '${year}')`;
 const setEdition = (year) => value(`${labelOf(year)}.click()`);
-const YEARS = [2015, 2018, 2021, 2024];
+const YEARS = [...readFileSync(new URL('../crates/rustc_lexer/src/edition.rt', import.meta.url), 'utf8')
+  .matchAll(/^        Edition::E(\d+),$/gm)].map(([, year]) => Number(year));
 
 // A text whose tokens differ between editions, but for the first two, whose tokens are the same.
 const DIFFERENT = `'r#a k#b #"x"#`;
@@ -130,7 +131,7 @@ async function saves() {
   for (const year of YEARS) {
     await setEdition(year);
     const file = join(profile, `tokens-${year}.txt`);
-    await (year === 2024 ? command('s', 83, 2) : value('at("save").click()'));
+    await (year === YEARS.at(-1) ? command('s', 83, 2) : value('at("save").click()'));
     await until(`a file ${file}`, () => existsSync(file) && readFileSync(file, 'utf8') !== '');
     const saved = readFileSync(file, 'utf8');
     expect(saved.split(' ')[2].trim().startsWith(kinds[year]) && saved.includes('GuardedStrPrefix') === (year === 2024), `${year}: saved is ${saved}`);

@@ -6,13 +6,6 @@ use rustc_lexer::{
 };
 use std::ops::Range;
 
-const EDITIONS: [Edition; 4] = [
-    Edition::E2015,
-    Edition::E2018,
-    Edition::E2021,
-    Edition::E2024,
-];
-
 /// What edits are made of: pieces that change what stands around them.
 const BITS: [&str; 40] = [
     "a",
@@ -176,7 +169,7 @@ fn edit_and_check(lexed: &mut LexedText, range: Range<usize>, insert: &str) {
 fn random_edits_of_short_texts() {
     let mut random = Random(1);
     for round in 0..800 {
-        let edition = EDITIONS[round % 4];
+        let edition = Edition::ALL[round % 4];
         let mut lexed = LexedText::new_in(random.text(40), edition);
         check(&lexed, "at the start");
         for _ in 0..12 {
@@ -192,7 +185,7 @@ fn random_edits_of_short_texts() {
 fn many_edits_of_one_text_in_each_edition() {
     let asked = std::env::var("EDITS").map(|count| count.parse());
     let count = asked.map_or(10_000, |count| count.expect("EDITS is a number"));
-    for edition in EDITIONS {
+    for edition in Edition::ALL {
         let mut random = Random(u64::from(edition.year()));
         let mut lexed = LexedText::new_in(random.text(200), edition);
         for _ in 0..count {
@@ -214,7 +207,7 @@ fn random_edits_of_a_long_text() {
         let insert = random.text(4);
         edit_and_check(&mut lexed, range, &insert);
         if random.below(40) == 0 {
-            let edition = EDITIONS[random.below(4)];
+            let edition = Edition::ALL[random.below(4)];
             lexed.set_edition(edition);
             assert_eq!(lexed.edition(), edition);
             check(&lexed, "in another edition");
@@ -253,9 +246,9 @@ fn the_example_of_the_documents() {
 #[test]
 fn editions() {
     let kinds = |edition| tokenize_in("'r#a##", edition).count();
-    assert_eq!(EDITIONS.map(kinds), [5, 5, 3, 2]);
-    assert_eq!(EDITIONS.map(Edition::year), [2015, 2018, 2021, 2024]);
-    assert!(EDITIONS.is_sorted() && EDITIONS[0] < EDITIONS[1]);
+    assert_eq!(Edition::ALL.map(kinds), [5, 5, 3, 2]);
+    assert_eq!(Edition::ALL.map(Edition::year), [2015, 2018, 2021, 2024]);
+    assert!(Edition::ALL.is_sorted() && Edition::ALL[0] < Edition::ALL[1]);
     let text = "a ".repeat(1000) + "r#\"b\"# c\"d\" 'é";
     assert!(tokenize_in(&text, Edition::E2024).eq(tokenize(&text, FrontmatterAllowed::No)));
     assert_eq!(tokenize_in("", Edition::E2015).next(), None);
