@@ -9,7 +9,7 @@ use Rattle.rustc_lexer.specs.Document.{is_frontmatter, shebang_len, document_tok
 use Rattle.rustc_lexer.specs.means.Document.{front_tokens, head_of, tokens_of_head}
 use Rattle.rustc_lexer.specs.Language as the
 use Rattle.rustc_lexer.specs.Language.{IsTokenBefore}
-use Rattle.rustc_lexer.specs.LanguageText as page
+use Rattle.rustc_lexer.specs.LanguageText as grammar
 use Rattle.rustc_lexer.specs.LanguageText.{AreTokens, IsTokenIn, Mode, document, mode_after, part}
 use Rattle.rustc_lexer.specs.Tables.{symbols}
 use Rattle.rustc_lexer.specs.Tokens.{bound}
@@ -29,7 +29,7 @@ none-before (the.symbol {c} is) = not-true (is_frontmatter (symbol_kind c)) (by_
 none-before p = refl
 
 none-in : {edition : Edition} {next u : List ℕ} {kind : TokenKind} → IsTokenIn edition next kind u → is_frontmatter kind ≡ false
-none-in (page.kept since p) = none-before p
+none-in (grammar.kept since p) = none-before p
 none-in p = refl
 
 abbrev is_document : Mode → Bool
@@ -41,9 +41,9 @@ stays-part (part edition) kind e = refl
 stays-part (document edition) kind e = absurd (true≢false e)
 
 no-front : {mode : Mode} {cs : List ℕ} {tokens : List Token} → AreTokens mode cs tokens → is_document mode ≡ false → head_count tokens ≡ 0
-no-front page.nothing e = refl
-no-front (page.something {mode} {kind} p free rest) e = rw (none-in p, no-front rest (stays-part mode kind e)) refl
-no-front (page.frontmatter_first body is_opening ends rest) e = absurd (true≢false e)
+no-front grammar.nothing e = refl
+no-front (grammar.something {mode} {kind} p free rest) e = rw (none-in p, no-front rest (stays-part mode kind e)) refl
+no-front (grammar.frontmatter_first body is_opening ends rest) e = absurd (true≢false e)
 
 part-none : (edition : Edition) (text : List ℕ) → IsText text → head_count (tokens_of (part edition) text) ≡ 0
 part-none edition text is = no-front ((language text (part edition) is (tokens_of (part edition) text)).1 refl) refl

@@ -1,4 +1,4 @@
--- What an edit of a document keeps, by the tokens of the page.
+-- What an edit of a document keeps, by the tokens of the grammar.
 use Rattle.std.proofs.Common.{Result, Ok, Err, OnErr, ◌++◌, ◌≡◌, ℕ, zero, suc, ◌+◌, ◌≤◌, Bool, true, false, if◌then◌else◌, List, [], ◌∷◌, length, take, drop, refl, sym, subst, ap, ap₂, ◌∙◌, arith, chars, get_or, length-take-le, Option, None, Some, IsCharBoundary}
 use Rattle.std.proofs.Math.Seq.{take-append_seam}
 use Rattle.rustc_lexer.specs.{Token, E2024}
@@ -49,7 +49,7 @@ module _ (text : List ℕ) (is : IsText text) where
   pub front_is : tokens_of_head (head_of text) ≡ head_tokens text
   front_is = sym (ap₂ take (head_count-tokens E2024 text is ahead.boundary) (head_whole E2024 text is ahead.boundary) ∙ take-append_seam (tokens_of_head (head_of text)) _)
 
--- the tokens of a document, by those of the page
+-- the tokens of a document, by those of the grammar
 pub past_law : (first : List ℕ → Token) (text : List ℕ) → IsText text → document_by first text ≡ document_tokens_by first text
 past_law first text is = ap₂ (λ ts n. ts ++ tokens_by first (drop n text)) (front_is text is) (end_is text is)
 
@@ -106,7 +106,7 @@ module _ (first : List ℕ → Token) (text insert : List ℕ) (start stop : ℕ
   from_page : KeepsHead text start stop insert → HeadStays text start stop insert
   from_page s = (same_head text made is its s.0 s.1, (let e = s.2 in omega (arith, e, end_is text is)))
 
-  -- the same, by the head of the text and by the tokens of the page
+  -- the same, by the head of the text and by the tokens of the grammar
   abbrev At : Bool → ℕ → ℕ → List Token → List Token → Relexed → Type 0
   At kept from to old now r =
       let change : Change = body_change kept from to (record { start = start; old_stop = stop; new_stop = start + length insert }) in

@@ -84,7 +84,7 @@ pub data IsTokenBefore (next : Chars) : TokenKind → Chars → Type 0 where
       → NextIsNot is_inline next
       → IsStyle (byte "/") (codes "/") style w
       → IsTokenBefore next (LineComment style) (codes "//" ++ w)
-  -- `/* a /* b */ c */`; and `/* /* */`, which nothing closes, with all of the text
+  -- `/* a /* b */ c */`; and `/* /* */`, which nothing closes, with all that is left of the text
   block_comment : {style : Option DocStyle} {w : Chars}
       → IsCommentRest w
       → IsStyle (byte "*") (codes "*/") style w

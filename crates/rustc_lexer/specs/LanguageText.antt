@@ -30,8 +30,9 @@ edition_of word =
     else (if bytes_eq word (codes "2024") then Some E2024
     else None)))
 
--- the year of the first edition in which a token of the kind is kept whole; 2015 where no edition
--- cuts it here, also where Rust has the kind only since a later one
+-- the year of the first edition that has tokens of the kind as Language.antt says. An older one cuts
+-- them, or gives them another kind. It is 2015 if no edition changes them here, also if Rust has the
+-- kind only since a later one
 abbrev pub kept_since : TokenKind → ℕ
 kept_since GuardedStrPrefix = 2024
 kept_since RawLifetime = 2021
@@ -88,8 +89,8 @@ mode_edition (part edition) = edition
 abbrev pub IsDocument : Mode → Type 0
 IsDocument mode = mode ≡ document (mode_edition mode)
 
--- how the text past a token is read: white space in front of a document, or its end, leave one, and
--- every other token leaves a part
+-- how the text after a token is read: what follows white space at the front of a document is still
+-- read as a document, and so is its end; what follows any other token is read as a part
 abbrev pub mode_after : Mode → TokenKind → Mode
 mode_after (part edition) kind = part edition
 mode_after (document edition) Whitespace = document edition

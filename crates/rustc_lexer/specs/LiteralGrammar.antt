@@ -20,8 +20,8 @@ pub data QuotedTo (close : Chars) (special : ℕ → Bool) : Chars → Type 0 wh
       → QuotedTo close special w
       → QuotedTo close special (byte "\\" ∷ c ∷ w)
 
--- what follows a double quote, and whether a quote closes it: `a"`, `\""`. What none closes is all
--- of the text, and may have a lone backslash last: `a\`
+-- what follows a double quote, and whether a quote closes it: `a"`, `\""`. If none does, it is all
+-- that is left of the text, of which a lone backslash may be the last: `a\`
 pub data IsDoubleQuoted (next : Chars) : (terminated : Bool) → Chars → Type 0 where
   closed : {w : Chars}
       → QuotedTo (codes "\"") (is_among (codes "\"\\")) w
@@ -66,7 +66,7 @@ pub data IsSingleQuoted (next : Chars) : (terminated : Bool) → Chars → Type 
       → NextIn (codes "\n") next
       → begins (codes "\n'") next ≡ false
       → IsSingleQuoted next false w
-  -- or with the text, of which a lone backslash may be the last
+  -- or at the end of the text, of which a lone backslash may be the last
   unclosed : {w : Chars}
       → next ≡ []
       → SingleTo [] w
@@ -89,8 +89,8 @@ NoQuoteWith n w = (u v : Chars) → w ≡ u ++ (byte "\"" ∷ hashes n ++ v) →
 
 -- a raw string behind its `r`: n hashes, a quote, a text that has no quote with n hashes, a quote,
 -- n hashes. The number is given where it is 255 or less and the string is closed: `#"a"b"#` has 1,
--- `"a"` has 0. What is not closed takes all of the text: `#"a"`. Where no quote follows the hashes,
--- one character more is taken: `#~`
+-- `"a"` has 0. What is not closed takes all that is left of the text: `#"a"`. Where no quote follows
+-- the hashes, one character more is taken: `#~`
 pub data IsRaw (next : Chars) : (n_hashes : Option ℕ) → Chars → Type 0 where
   closed : (n : ℕ) (w : Chars)
       → n ≤ 255

@@ -1,5 +1,5 @@
--- A text cut into tokens; what one token may depend on, and how far the tokens of a text are sure; how far a token of each
--- kind looks, and the laws of the page.
+-- A text cut into tokens; what one token may depend on, and how far the tokens of a growing text are final; how far a token
+-- of each kind looks, and the laws of the grammar.
 use Rattle.std.specs.Prelude.{ℕ, zero, suc, ◌≡◌, ◌↔◌, ◌+◌, ◌-◌, ◌<◌, ◌≤◌, ◌&&◌, List, [], ◌∷◌, ◌++◌, length, take, drop, codes, All, IsCharBoundary, Bool, true, false, not, if◌then◌else◌, nat_le, bytes_eq, chars}
 use Rattle.rustc_lexer.specs.{Edition, Token, TokenKind, E2024, Int, Char, Byte, LineComment, BlockComment, Eof, Whitespace, Ident, InvalidIdent, RawIdent, ForcedKeywordIdent, UnknownPrefix, RawLifetime, UnknownPrefixLifetime, Literal, Lifetime, Slash, Pound}
 use Rattle.rustc_lexer.specs.Classes.{is_among, Chars, next_is, is_name_start, IsText, Utf8}
@@ -41,7 +41,7 @@ pub record IsGrammar (first : List ℕ → Token) : Type 0 where
   pub boundary : (text : List ℕ) → IsText text → 0 < length text → IsCharBoundary text (first text).len
   pub local : (text other : List ℕ) → IsText text → IsText other → 0 < length text → AgreePast (first text).len text other → first other ≡ first text
 
--- whether at least two characters stand from `from` up to `to`
+-- whether at least two characters begin in the bytes from `from` up to `to`
 unfoldable pub has_two : List ℕ → ℕ → ℕ → Bool
 has_two text from to = nat_le 2 (length (chars (take (to - from) (drop from text))))
 
@@ -61,7 +61,7 @@ abbrev pub AreLocal : (List ℕ → List Token) → Type 0
 AreLocal tokens = (text other : List ℕ) (k : ℕ) → IsText text → IsText other → k ≤ length (tokens text) → AgreePast (bound (tokens text) k) text other
     → take k (tokens other) ≡ take k (tokens text)
 
--- ---- how far a token looks, and the laws of the page
+-- ---- how far a token looks, and the laws of the grammar
 
 -- the characters begin with a token of this kind and text
 abbrev pub BeginsWith : Chars → TokenKind × Chars → Type 0
@@ -93,20 +93,20 @@ reach Slash w = 1
 reach Pound w = 1
 reach kind w = 0
 
--- what is proved of the page of the language: laws, which speak of no call. Answers.antt takes the tokens of a text, and
+-- what is proved of the grammar: laws, which speak of no call. Answers.antt takes the tokens of a text, and
 -- the first of them, from a value of this type. So a contract that names these rests on all of the laws. That value, and
 -- the proofs, stand in laws/TheLaws.antt
 pub record TheLaws : Type 0 where
-  -- a text has one list of tokens, as a document and as a part in each edition, and the page allows no other
+  -- a text has one list of tokens, as a document and as a part in each edition, and the grammar allows no other
   pub tokens : (mode : Mode) (text : Utf8) → TheOnly (IsText text) (AreTokens mode (chars text))
   -- a part that is not empty has one first token
   pub first : (edition : Edition) (text : Utf8) → TheOnly (IsText text × (0 < length text)) (IsFirst edition text)
   -- cut by its first tokens, a part has these tokens
   pub cut : (edition : Edition) (text : Utf8)
       → tokens_by (λ rest. (first edition rest).answer) text ≡ (tokens (part edition) text).answer
-  -- all characters begin with one token of the page, and with no other; none of them with `Eof`
+  -- all characters begin with one token of the grammar, and with no other; none of them with `Eof`
   pub one_token : (s : Chars) → TheOnly (Unit {0}) (BeginsWith s)
-  -- the newest edition, of which documents are, has the tokens of the page
+  -- the newest edition, of which documents are, has the tokens of Language.antt
   pub newest : (next w : Chars) (kind : TokenKind) → IsTokenIn E2024 next kind w ↔ IsTokenBefore next kind w
   -- a token stands before each text that begins with so many of the characters that follow it
   pub looks_no_further : (next other w : Chars) (kind : TokenKind) → IsTokenBefore next kind w

@@ -106,7 +106,7 @@ pub record NumberStands (kind : LiteralKind) (n : ℕ) (s : Chars) : Type 0 wher
   pub is_number : IsNumberBefore (drop n s) kind (take n s)
 
 -- one is, and no number at the front is longer. Only here the longest counts: `1.5e+` begins with
--- the numbers `1`, `1.5` and `1.5e` too
+-- the numbers `1`, `1.`, `1.5` and `1.5e` too
 pub record IsLongestNumber (kind : LiteralKind) (n : ℕ) (s : Chars) : Type 0 where
   pub stands : NumberStands kind n s
   pub longest : (other : LiteralKind) (m : ℕ) → NumberStands other m s → m ≤ n

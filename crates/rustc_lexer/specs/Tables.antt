@@ -1,4 +1,4 @@
--- The tables of the page: emoji and symbols.
+-- The tables of the grammar: emoji and symbols.
 use Rattle.std.specs.Prelude.{ℕ, Bool, ◌&&◌, nat_le, if◌then◌else◌, List, [], ◌∷◌, ◌==◌}
 use Rattle.std.specs.List.{list_any}
 use Rattle.std.specs.Str.{byte}

@@ -20,7 +20,7 @@ use Rattle.rustc_lexer.specs.laws.LanguageFrontmatter.{opens-none}
 use Rattle.rustc_lexer.specs.means.Shebang.{is_passed, is_open_bracket, is_attribute, line_len, shebang_past}
 use Rattle.rustc_lexer.specs.means.Shebang.{shebang}
 use Rattle.rustc_lexer.specs.Tokens.{tokens_of}
-use Rattle.rustc_lexer.specs.laws.LanguageIn.{of_page}
+use Rattle.rustc_lexer.specs.laws.LanguageIn.{of_grammar}
 use Rattle.rustc_lexer.specs.laws.LanguageTokens.{language}
 use Rattle.rustc_lexer.specs.laws.LanguageShebang.{front-is, mark-utf8, no-mark}
 use Rattle.tidy_run.specs.Order.{is_space, is_open, end_parts, parts_in_order, is_no_front, code_in_order, front_in_order, source_in_order, source_tidied, source_parts, parts}
@@ -75,7 +75,7 @@ mark-tokens text is e =
     let rest : AreTokens (part E2024) (chars (drop 2 text)) (tokens_of (part E2024) (drop 2 text)) = (language (drop 2 text) (part E2024) m.rest_is (tokens_of (part E2024) (drop 2 text))).1 refl in
     sym ((language text (document E2024) is (record { kind = Pound; len = bytes (35 ∷ []) } ∷ record { kind = Bang; len = bytes (33 ∷ []) } ∷ tokens_of (part E2024) (drop 2 text))).0
     (subst (λ (cs : List ℕ). AreTokens (document E2024) cs (record { kind = Pound; len = bytes (35 ∷ []) } ∷ record { kind = Bang; len = bytes (33 ∷ []) } ∷ tokens_of (part E2024) (drop 2 text))) (sym m.chars_are)
-    (something {w = []} {next = 33 ∷ chars (drop 2 text)} (of_page refl (the.pound refl)) (λ y. opens-none (35 ∷ 33 ∷ chars (drop 2 text)) refl) (something {w = []} {next = chars (drop 2 text)} (of_page refl (the.symbol {c = 33} bang-alone)) (λ y. absurd (cc)) rest))))
+    (something {w = []} {next = 33 ∷ chars (drop 2 text)} (of_grammar refl (the.pound refl)) (λ y. opens-none (35 ∷ 33 ∷ chars (drop 2 text)) refl) (something {w = []} {next = chars (drop 2 text)} (of_grammar refl (the.symbol {c = 33} bang-alone)) (λ y. absurd (cc)) rest))))
 
 -- ---- kinds
 

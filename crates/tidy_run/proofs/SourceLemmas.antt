@@ -17,7 +17,7 @@ use Rattle.rustc_lexer.specs.LanguageText.{Mode, IsDocument, document, part, mod
 use Rattle.rustc_lexer.specs.laws.LanguageLiterals.{bytes-append}
 use Rattle.rustc_lexer.specs.means.Taking.{token_at}
 use Rattle.rustc_lexer.specs.Tokens.{tokens_of}
-use Rattle.rustc_lexer.specs.laws.LanguageIn.{on_page}
+use Rattle.rustc_lexer.specs.laws.LanguageIn.{in_grammar}
 use Rattle.rustc_lexer.specs.laws.LanguageTokens.{language}
 use Rattle.rustc_lexer.specs.laws.Same.{same_token}
 use Rattle.rustc_lexer.specs.laws.State.{edition-after}
@@ -194,7 +194,7 @@ front-tidies : {mode : Mode} {cs : List ℕ} {tokens : List Token} → mode ≡ 
 front-tidies yes_is good fits stop (nothing) = record { out = []; outs = []; are = nothing; near = ends; is = refl; too = λ e. refl; same = refl; again = refl; last = refl; size = omega arith; good = λ e. e }
 front-tidies yes_is good fits stop (frontmatter_first {edition} body is_opening is_end rest) = opened-tidies body good fits is_opening is_end (in-newest {edition = edition} yes_is rest)
 front-tidies yes_is good fits stop (something {mode} {kind} {c} {w} {next} {tokens} is free rest) =
-    grind (arith, common_steps, on_page, solid-front, kind-solid, is_document)
+    grind (arith, common_steps, in_grammar, solid-front, kind-solid, is_document)
 
 -- ---- with white space first, or none
 
@@ -238,7 +238,7 @@ source-tidies yes_is good fits (something {mode} {kind} {c} {w} {next} {tokens} 
 ]
   where
     p : IsTokenBefore next kind (c ∷ w)
-    p = on_page (ap mode_edition yes_is) is
+    p = in_grammar (ap mode_edition yes_is) is
 
     next-fits : bytes next + 1 < 2 ^ 32
     next-fits = let e = ap length (encodes-append (c ∷ w) next) in let f = length-append (encode_utf8_all (c ∷ w)) (encode_utf8_all next) in omega arith

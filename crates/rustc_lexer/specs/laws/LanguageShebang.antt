@@ -14,7 +14,7 @@ use Rattle.rustc_lexer.specs.{Token, TokenKind, LineComment, BlockComment, White
 use Rattle.rustc_lexer.specs.means.Comment.{is_no_newline}
 use Rattle.rustc_lexer.specs.Locality.{tokens_by}
 use Rattle.rustc_lexer.specs.Tables.{is_emoji, emoji_ranges}
-use Rattle.rustc_lexer.specs.Language as page
+use Rattle.rustc_lexer.specs.Language as grammar
 use Rattle.rustc_lexer.specs.Language.{has_rule, IsTokenBefore}
 use Rattle.rustc_lexer.specs.LanguageCalls as the
 use Rattle.rustc_lexer.specs.LanguageCalls.{IsAttributeRest, IsLineBefore, IsShebang}
@@ -77,7 +77,7 @@ passes kind (suc (suc (suc zero)), few, e) = ap is_passed (sym e)
 passes kind (suc (suc (suc (suc k))), few, e) = absurd (omega (arith, few))
 
 attribute-read : {cs : List ℕ} → IsAttributeRest cs → (text : List ℕ) → IsText text → chars text ≡ cs → is_attribute (ts text) ≡ true
-attribute-read (the.bracket next) text is e = first-step text OpenBracket 91 [] next is e (page.symbol {c = 91} bracket-alone)
+attribute-read (the.bracket next) text is e = first-step text OpenBracket 91 [] next is e (grammar.symbol {c = 91} bracket-alone)
 attribute-read (the.passed {kind} {c} {w} {next} among p rest) text is e =
     let r = rest-is text kind c w next is e p in
     let left : List ℕ = drop (first_token text).len text in
@@ -91,7 +91,7 @@ among-bracket (s ∷ ss) c all e =
     by_test (λ kind. is_open_bracket kind ≡ true → c ≡ 91) (c == s.0) s.1 (kind_among ss c) (λ f g. eqb-true c s.0 f ∙ eqb-true s.0 91 (ap (λ (b : Bool). not b || (s.0 == 91)) (sym g) ∙ parts.0)) (λ f. among-bracket ss c parts.1) e
 
 bracket-view : {next : List ℕ} {kind : TokenKind} {w : List ℕ} → IsTokenBefore next kind w → is_open_bracket kind ≡ true → w ≡ 91 ∷ []
-bracket-view (page.symbol {c} is) e = ap (λ (x : ℕ). x ∷ []) (among-bracket symbols c refl e)
+bracket-view (grammar.symbol {c} is) e = ap (λ (x : ℕ). x ∷ []) (among-bracket symbols c refl e)
 bracket-view other e = absurd (true≢false (sym e))
 
 -- by what the first token is
