@@ -1,5 +1,6 @@
--- The language of a frontmatter: how it opens and ends. `w` and `next` are as in Language.antt; all
--- texts here are characters.
+-- The language of a frontmatter: how it opens and ends. It is not in the Reference. RFC 3503 has the
+-- opening, and the closing fence, of as many dashes; the other ends are those of the compiler's lexer,
+-- for its messages. `w` and `next` are as in Language.antt; all texts here are characters.
 use Rattle.std.specs.Prelude.{◌≡◌, ◌≤◌, ◌||◌, ℕ, zero, suc, Bool, true, false, List, [], ◌∷◌, ◌++◌, length, codes}
 use Rattle.std.specs.Str.{byte}
 use Rattle.rustc_lexer.specs.Classes.{is_among, is_whitespace, is_horizontal_whitespace, is_id_start, is_id_continue, Chars, begins, AreAll, NextIsNot, NextNotIn, is_inline}

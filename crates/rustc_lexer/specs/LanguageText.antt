@@ -1,8 +1,9 @@
 -- The language of whole texts: which tokens a text has in an edition, read as a document or as a
 -- part of one. `w` and `next` are as in Language.antt, which has the tokens of the newest edition.
 -- An older one has others in the place of what the compiler's lexer leaves to its caller: guarded
--- strings, raw lifetimes and reserved prefixes. C strings and `k#` are read alike in all editions,
--- though Rust has C strings since 2021 only (docs/EDITIONS.md, "What is left to a compiler").
+-- strings, raw lifetimes and reserved prefixes (in the Rust Reference, "2021 Edition differences" and
+-- "2024 Edition differences" of these). C strings and `k#` are read alike in all editions, though Rust
+-- has C strings since 2021 only (docs/EDITIONS.md, "What is left to a compiler").
 use Rattle.std.specs.Prelude.{◌≡◌, ◌<◌, ◌≤◌, ℕ, nat_eq, if◌then◌else◌, find, true, false, List, ◌∷◌, codes, Option, Some, None, ◌+◌, not, Bool, [], ◌++◌, ◌↔◌}
 use Rattle.std.specs.Str.{byte, bytes_eq}
 use Rattle.rustc_lexer.specs.{Edition, FrontmatterAllowed, Token, TokenKind, E2015, E2018, E2021, E2024, Yes, No, Ident, UnknownPrefix, Lifetime, UnknownPrefixLifetime, Pound, RawLifetime, GuardedStrPrefix, Whitespace, Frontmatter, Eof}

@@ -1,5 +1,5 @@
--- A text cut into tokens; what one token may depend on, and how far the tokens of a growing text are final; how far a token
--- of each kind looks, and the laws of the grammar.
+-- A text cut into tokens; what one token may depend on, and how far the tokens of a growing text are final; how far a
+-- token of each kind looks, and the laws of the grammar.
 use Rattle.std.specs.Prelude.{ℕ, zero, suc, ◌≡◌, ◌↔◌, ◌+◌, ◌-◌, ◌<◌, ◌≤◌, ◌&&◌, List, [], ◌∷◌, ◌++◌, length, take, drop, codes, All, IsCharBoundary, Bool, true, false, not, if◌then◌else◌, nat_le, bytes_eq, chars}
 use Rattle.rustc_lexer.specs.{Edition, Token, TokenKind, E2024, Int, Char, Byte, LineComment, BlockComment, Eof, Whitespace, Ident, InvalidIdent, RawIdent, ForcedKeywordIdent, UnknownPrefix, RawLifetime, UnknownPrefixLifetime, Literal, Lifetime, Slash, Pound}
 use Rattle.rustc_lexer.specs.Classes.{is_among, Chars, next_is, is_name_start, IsText, Utf8}

@@ -1,6 +1,6 @@
 -- The language of numbers: which texts are numbers up to a suffix, before what, and of which kind.
--- All texts are characters, and `next` is what follows. The fields are those of Int base empty_int
--- and Float base empty_exponent.
+-- All texts are characters, and `next` is what follows; names in capitals are as in Language.antt. The
+-- fields are those of Int base empty_int and Float base empty_exponent.
 use Rattle.std.specs.Prelude.{◌≡◌, ℕ, ◌≤◌, ◌==◌, ◌||◌, not, Bool, true, false, [], ◌∷◌, ◌++◌, length, take, drop}
 use Rattle.std.specs.Char.{is_ascii_digit, is_ascii_hexdigit}
 use Rattle.std.specs.List.{list_all, list_any}
@@ -26,15 +26,16 @@ is_no_fraction c = c == byte "." || is_id_start c
 abbrev pub AreDigits : (ℕ → Bool) → Chars → Type 0
 AreDigits is_digit ds = list_all (or_underscore is_digit) ds ≡ true
 
--- what is read as a digit of the base: each decimal digit, also of a base below ten
+-- what is read as a digit of the base: HEX_DIGIT; or DEC_DIGIT, also for a base below ten
 abbrev pub is_digit_of : Base → ℕ → Bool
 is_digit_of Hexadecimal = is_ascii_hexdigit
 is_digit_of base = is_ascii_digit
 
 -- ---- the parts of a number
 
--- the whole part: a digit and more, or the prefix of a base and what digits follow it. It is empty
--- where no digit is behind a prefix: `1_000`, `0b102`, `0x1F`; `0b_` is empty
+-- the whole part, DEC_LITERAL, BIN_LITERAL, OCT_LITERAL, HEX_LITERAL: a digit and more, or the prefix
+-- of a base and what digits follow it: `1_000`, `0b101`, `0x1F`. With a digit past the base it is
+-- RESERVED_NUMBER, `0b102`; with no digit behind the prefix too, and then it is empty, `0b_`
 pub data IsWhole : Base → (empty : Bool) → Chars → Type 0 where
   plain : {d : ℕ} {ds : Chars}
       → is_ascii_digit d ≡ true
@@ -50,8 +51,9 @@ pub data IsWhole : Base → (empty : Bool) → Chars → Type 0 where
       → AreDigits is_ascii_hexdigit ds
       → IsWhole Hexadecimal (not (list_any is_ascii_hexdigit ds)) (byte "0" ∷ byte "x" ∷ ds)
 
--- an exponent: a letter, a sign or none, and what digits follow. The kind is Float base
--- empty_exponent: empty where no digit follows: `e5`, `E+_5`; `e+` is empty
+-- FLOAT_EXPONENT: a letter, a sign or none, and what digits follow: `e5`, `E+_5`. The kind is Float
+-- base empty_exponent: empty where no digit follows, `e+`, which the Reference rejects ("Reserved
+-- forms similar to number literals")
 pub data IsExponent : Base → LiteralKind → Chars → Type 0 where
   signed : {base : Base} {e g : ℕ} {ds : Chars}
       → is_exponent_letter e ≡ true
@@ -63,7 +65,8 @@ pub data IsExponent : Base → LiteralKind → Chars → Type 0 where
       → AreDigits is_ascii_digit ds
       → IsExponent base (Float base (not (list_any is_ascii_digit ds))) (e ∷ ds)
 
--- what may follow the whole part
+-- what may follow the whole part in INTEGER_LITERAL (`nothing`) and FLOAT_LITERAL (the others, which
+-- behind the prefix of a base are RESERVED_NUMBER), up to a suffix
 pub data IsTailBefore (next : Chars) : Base → LiteralKind → Chars → Type 0 where
   -- `1`
   nothing : {base : Base} → IsTailBefore next base (Int base false) []

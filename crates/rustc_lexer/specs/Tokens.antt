@@ -47,8 +47,8 @@ pub record TakesFirst (s : State) (token : Token) (t : State) : Type 0 where
 abbrev pub IsChecked : ℕ → List ℕ → Option ℕ → Type 0
 IsChecked prefix text n_hashes = StartsRaw text prefix × ((raw_check text prefix ≡ Ok tt) ↔ IsSome n_hashes)
 
--- what is promised of the text of a token, beside what the grammar says: the text of an identifier passes `is_ident`, also
--- what follows the `r#` of a raw one; the text of a raw string may be checked; the text of `Eof` is empty
+-- what is promised of the text of a token, beside what the grammar says: that of an identifier passes `is_ident`, and so
+-- does what follows the `r#` of a raw one; that of a raw string may be checked; that of `Eof` is empty
 abbrev pub HasText : TokenKind → List ℕ → Type 0
 HasText Ident text = is_ident (chars text) ≡ true
 HasText RawIdent text = (word : List ℕ) × (text ≡ codes "r#" ++ word) × (is_ident (chars word) ≡ true)
