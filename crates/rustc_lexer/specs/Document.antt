@@ -8,7 +8,7 @@ use Rattle.rustc_lexer.specs.{Edition, Token, TokenKind, E2024, Frontmatter}
 use Rattle.rustc_lexer.specs.Answers.{shebang, tokens_of}
 use Rattle.rustc_lexer.specs.LanguageText.{document}
 use Rattle.rustc_lexer.specs.Edits.{applied, apply, apply_list, stop_at, IsRelexed}
-use Rattle.rustc_lexer.specs.Locality.{bound, tokens_by}
+use Rattle.rustc_lexer.specs.Partition.{bound, tokens_by}
 
 -- the length of the shebang line, or 0
 abbrev pub shebang_len : List ℕ → ℕ

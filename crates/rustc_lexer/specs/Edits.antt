@@ -3,7 +3,8 @@ use Rattle.std.specs.Prelude.{ℕ, ◌+◌, ◌-◌, ◌<◌, ◌≤◌, ◌^◌
 use Rattle.rustc_lexer.specs.declared.relex.{edit.Edit.Edit, edit_list.EditStop.EditStop, front.Bound.Bound, pieces.Piece.Piece, relexing.Relexed.Relexed, relexing.Relexing.Relexing}
 use Rattle.rustc_lexer.specs.declared.relex.edit_list.EditStop.TheVariants.{Range, TooLong, Memory}
 use Rattle.rustc_lexer.specs.{Token}
-use Rattle.rustc_lexer.specs.Locality.{bound, has_two, tokens_by}
+use Rattle.rustc_lexer.specs.Locality.{has_two}
+use Rattle.rustc_lexer.specs.Partition.{bound, tokens_by}
 
 -- ---- one edit
 

@@ -5,7 +5,7 @@ pub use Rattle.rustc_lexer.specs.Answers.{advance, raw_check, tokens_of}
 use Rattle.rustc_lexer.specs.Classes.{is_ident}
 use Rattle.rustc_lexer.specs.LanguageCalls.{StartsRaw}
 use Rattle.rustc_lexer.specs.LanguageText.{part, mode_edition, mode_after}
-pub use Rattle.rustc_lexer.specs.Locality.{cut_by, tokens_by, bound, Partitions}
+pub use Rattle.rustc_lexer.specs.Partition.{cut_by, tokens_by, bound, Partitions}
 use Rattle.rustc_lexer.specs.State.{State, token_past, HasSuffixWithin}
 
 -- the tokens that a cursor with nothing pending, or an iterator, will come to

@@ -16,7 +16,7 @@ use Rattle.rustc_lexer.specs.Language as the
 use Rattle.rustc_lexer.specs.LiteralGrammar as lit
 use Rattle.rustc_lexer.specs.LiteralGrammar.{IsDoubleQuoted, SingleTo, IsSingleQuoted, IsRaw, IsLiteralBefore, IsSuffixBefore}
 use Rattle.rustc_lexer.specs.Language.{ends_prefix, known_prefixes, begins_prefixed, IsTokenBefore}
-use Rattle.rustc_lexer.specs.Locality.{reach}
+use Rattle.rustc_lexer.specs.GrammarLaws.{reach}
 use Rattle.rustc_lexer.specs.means.Lexeme.{past_first, lexeme}
 use Rattle.rustc_lexer.specs.Tables.{is_emoji, emoji_ranges, symbols}
 use Rattle.rustc_lexer.specs.means.Number.{number_kind, fraction, number as number_past}
