@@ -6,7 +6,7 @@ use Rattle.rustc_lexer.specs.declared.relex.head.Head.{Head}
 use Rattle.rustc_lexer.specs.declared.relex.relexing.Change.{Change}
 use Rattle.rustc_lexer.specs.declared.relex.relexing.Relexed.{Relexed}
 use Rattle.rustc_lexer.specs.Classes.{IsText}
-use Rattle.rustc_lexer.specs.Document.{body_start, document_tokens_by, IsCountedDocument, head_tokens, is_frontmatter, one_more, head_count, shebang_len, document_tokens, IsRelexedAnew, IsRelexedDocument, KeepsHead}
+use Rattle.rustc_lexer.specs.Document.{body_start, document_tokens_by, IsCountedDocument, head_tokens, is_frontmatter, more_unless_zero, head_count, shebang_len, document_tokens, IsRelexedAnew, IsRelexedDocument, KeepsHead}
 use Rattle.rustc_lexer.specs.means.Document.{body_change, body_insert, counted, document_by, front_tokens, head_of, HeadStays, IsCountedByHead, IsRelexedByHead, IsRelexedWith, tokens_of_head}
 use Rattle.rustc_lexer.specs.Edits.{apply, IsRelexed}
 use Rattle.rustc_lexer.specs.Tokens.{bound, tokens_by}
@@ -69,7 +69,7 @@ up_few : (ts : List Token) → head_count ts ≤ length ts
 up_few [] = omega arith
 up_few (t ∷ ts) = by_test (is_frontmatter t.kind) (head_count ts) (up_few ts)
   where
-    by_test : (b : Bool) (n : ℕ) → n ≤ length ts → (if b then 1 else one_more n) ≤ suc (length ts)
+    by_test : (b : Bool) (n : ℕ) → n ≤ length ts → (if b then 1 else more_unless_zero n) ≤ suc (length ts)
     by_test true n le = omega arith
     by_test false zero le = omega arith
     by_test false (suc n) le = omega arith

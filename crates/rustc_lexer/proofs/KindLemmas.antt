@@ -11,7 +11,7 @@ use Rattle.rustc_lexer.specs.LanguageText.{AreTokens, IsTokenIn, Mode}
 use Rattle.rustc_lexer.specs.LiteralGrammar as lit
 use Rattle.rustc_lexer.specs.LiteralGrammar.{IsLiteralBefore}
 use Rattle.rustc_lexer.specs.NumberGrammar as number
-use Rattle.rustc_lexer.specs.NumberGrammar.{IsExponent, IsNumberBefore, IsTailBefore}
+use Rattle.rustc_lexer.specs.NumberGrammar.{IsExponent, HasNumberForm, IsTailBefore}
 use Rattle.rustc_lexer.specs.Tables.{symbol_kind, symbols}
 use Rattle.rustc_lexer.specs.Tokens.{is_faulty, EndsFaulty}
 use Rattle.rustc_lexer.specs.laws.Choice.{by_symbol}
@@ -28,7 +28,7 @@ tail-good (number.of_exponent none p) = exponent-good p
 tail-good (number.of_both ds one are p) = exponent-good p
 tail-good p = refl
 
-number-good : {next w : Chars} {kind : LiteralKind} → IsNumberBefore next kind w → is_faulty kind ≡ false
+number-good : {next w : Chars} {kind : LiteralKind} → HasNumberForm next kind w → is_faulty kind ≡ false
 number-good (number.of_prefix whole) = refl
 number-good (number.of_parts whole tail) = tail-good tail
 
@@ -41,7 +41,7 @@ suffixed (lit.c_str p) e = ap not e
 suffixed (lit.raw_str p start) e = ap not e
 suffixed (lit.raw_byte_str p) e = ap not e
 suffixed (lit.raw_c_str p) e = ap not e
-suffixed (lit.number p) e = number-good p.stands.is_number
+suffixed (lit.number p) e = number-good p.form
 suffixed p e = refl
 
 -- ---- one token

@@ -26,14 +26,14 @@ is_frontmatter (Frontmatter has_invalid_preceding_whitespace invalid_infostring)
 is_frontmatter kind = false
 
 -- one more than a number, unless that is 0
-abbrev pub one_more : ℕ → ℕ
-one_more zero = zero
-one_more (suc n) = suc (suc n)
+abbrev pub more_unless_zero : ℕ → ℕ
+more_unless_zero zero = zero
+more_unless_zero (suc n) = suc (suc n)
 
 -- how many tokens stand up to the frontmatter, with it, or 0 where there is none
 abbrev pub head_count : List Token → ℕ
 head_count [] = 0
-head_count (token ∷ tokens) = if is_frontmatter token.kind then 1 else one_more (head_count tokens)
+head_count (token ∷ tokens) = if is_frontmatter token.kind then 1 else more_unless_zero (head_count tokens)
 
 -- the tokens of the head: the frontmatter, and the white space before it. They are the same in each edition
 abbrev pub head_tokens : List ℕ → List Token

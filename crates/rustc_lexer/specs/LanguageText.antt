@@ -87,8 +87,9 @@ abbrev pub mode_edition : Mode → Edition
 mode_edition (document edition) = edition
 mode_edition (part edition) = edition
 
-abbrev pub IsDocument : Mode → Type 0
-IsDocument mode = mode ≡ document (mode_edition mode)
+abbrev pub is_document : Mode → Bool
+is_document (document edition) = true
+is_document (part edition) = false
 
 -- how the text after a token is read: what follows white space at the front of a document is still
 -- read as a document, and so is its end; what follows any other token is read as a part
@@ -114,7 +115,7 @@ pub data AreTokens : Mode → Chars → List Token → Type 0 where
   nothing : {mode : Mode} → AreTokens mode [] []
   something : {mode : Mode} {kind : TokenKind} {c : ℕ} {w next : Chars} {tokens : List Token}
       → IsTokenIn (mode_edition mode) next kind (c ∷ w)
-      → (IsDocument mode → OpensNone (c ∷ w ++ next))
+      → (is_document mode ≡ true → OpensNone (c ∷ w ++ next))
       → AreTokens (mode_after mode kind) next tokens
       → AreTokens mode (c ∷ w ++ next) (record { kind = kind; len = bytes (c ∷ w) } ∷ tokens)
   frontmatter_first : {edition : Edition} {n : ℕ} {opening next : Chars} {tokens : List Token} (body : Chars)

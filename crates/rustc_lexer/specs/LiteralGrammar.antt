@@ -7,7 +7,7 @@ use Rattle.std.specs.Option.{is_some}
 use Rattle.std.specs.Str.{byte}
 use Rattle.rustc_lexer.specs.{LiteralKind, Char, Byte, Str, ByteStr, CStr, RawStr, RawByteStr, RawCStr}
 use Rattle.rustc_lexer.specs.Classes.{is_among, is_id_start, is_id_continue, is_ident, Chars, begins, AreAll, NextIsNot, NextIn, is_word_continue, is_name_start, begins_ident_after}
-use Rattle.rustc_lexer.specs.NumberGrammar.{IsLongestNumber}
+use Rattle.rustc_lexer.specs.NumberGrammar.{IsNumberBefore}
 
 -- w, of which `close` is the end: before it stand characters outside the class, and escapes, which
 -- are a backslash with any character
@@ -164,7 +164,7 @@ pub data IsLiteralBefore (next : Chars) : LiteralKind → (may_suffix : Bool) �
       → IsLiteralBefore next (RawCStr n) (is_some n) (codes "cr" ++ w)
   -- INTEGER_LITERAL, FLOAT_LITERAL, RESERVED_NUMBER: `1`, `0x1F`, `1.5e3`
   number : {kind : LiteralKind} {w : Chars}
-      → IsLongestNumber kind (length w) (w ++ next)
+      → IsNumberBefore next kind w
       → IsLiteralBefore next kind true w
 
 -- SUFFIX, which in the Reference is not `_`; or nothing, if no identifier begins there

@@ -16,7 +16,7 @@ use Rattle.rustc_lexer.specs.means.Frontmatter.{dashes, ends_line, opens}
 use Rattle.rustc_lexer.specs.FrontmatterGrammar.{OpensNone}
 use Rattle.rustc_lexer.specs.Language as the
 use Rattle.rustc_lexer.specs.Language.{IsTokenBefore}
-use Rattle.rustc_lexer.specs.LanguageText.{Mode, IsDocument, part, mode_edition, mode_after, AreTokens, nothing, something, frontmatter_first}
+use Rattle.rustc_lexer.specs.LanguageText.{Mode, is_document, part, mode_edition, mode_after, AreTokens, nothing, something, frontmatter_first}
 use Rattle.rustc_lexer.specs.laws.Language.{token-read}
 use Rattle.rustc_lexer.specs.laws.LanguageFrontmatter.{opens-none, none-opens}
 use Rattle.rustc_lexer.specs.laws.LanguageRuns.{among, chooses-space, run_len-here}
@@ -150,7 +150,7 @@ space-closed ps = ap (λ (es : List (TokenKind × List ℕ)). let p : TokenKind 
 abbrev pub Puts : Order → Order → TokenKind → List ℕ → Type 0
 Puts order more kind u = (left : List ℕ) (ts : List Token) → order (encode_utf8_all (u ++ left)) (record { kind = kind; len = bytes u } ∷ ts) ≡ part_in_order kind (encode_utf8_all u) (is_last ts) ++ more (encode_utf8_all left) ts
 
-pub space-step : (order left : Order) (mode : Mode) (c : ℕ) (w next : List ℕ) (tokens : List Token) → mode_edition mode ≡ E2024 → ((u : List ℕ) → Puts order left Whitespace u) → AreAll is_whitespace (c ∷ w) → NextIsNot is_whitespace next → (IsDocument mode → OpensNone (c ∷ w ++ next)) → (length tokens ≡ 0 → next ≡ [])
+pub space-step : (order left : Order) (mode : Mode) (c : ℕ) (w next : List ℕ) (tokens : List Token) → mode_edition mode ≡ E2024 → ((u : List ℕ) → Puts order left Whitespace u) → AreAll is_whitespace (c ∷ w) → NextIsNot is_whitespace next → (is_document mode ≡ true → OpensNone (c ∷ w ++ next)) → (length tokens ≡ 0 → next ≡ [])
     → Tidies left (mode_after mode Whitespace) next tokens → Tidies order mode (c ∷ w ++ next) (record { kind = Whitespace; len = bytes (c ∷ w) } ∷ tokens)
 space-step order left mode c w next tokens newest puts all stop free none more =
     let sp = spaces c w tokens all stop more.near more.too none in
@@ -235,7 +235,7 @@ behind kind mode next [] solid newest none some more = subst (λ (cs : List ℕ)
     }
 
 -- another token more
-pub solid-step : (order : Order) (mode : Mode) (kind : TokenKind) (c : ℕ) (w next : List ℕ) (tokens : List Token) → mode_edition mode ≡ E2024 → ((u : List ℕ) → Puts order code_in_order kind u) → is_space kind ≡ false → IsTokenBefore next kind (c ∷ w) → (IsDocument mode → OpensNone (c ∷ w ++ next))
+pub solid-step : (order : Order) (mode : Mode) (kind : TokenKind) (c : ℕ) (w next : List ℕ) (tokens : List Token) → mode_edition mode ≡ E2024 → ((u : List ℕ) → Puts order code_in_order kind u) → is_space kind ≡ false → IsTokenBefore next kind (c ∷ w) → (is_document mode ≡ true → OpensNone (c ∷ w ++ next))
     → (more : Behind kind (mode_after mode kind) next tokens) → Turned kind c w next more.out → Tidies order mode (c ∷ w ++ next) (record { kind = kind; len = bytes (c ∷ w) } ∷ tokens)
 solid-step order mode kind c w next tokens newest puts solid p free more turned = record {
   out = c ∷ v ++ more.out;
@@ -269,7 +269,7 @@ solid-step order mode kind c w next tokens newest puts solid p free more turned 
     front text e ps = ap (λ (b : Bool). let q : TokenKind × List ℕ = (kind, text_in_order kind (if b then [] else text)) in q ∷ (end_parts kind ps ++ parts_in_order ps)) solid
         ∙ ap (λ (xs : List ℕ). let q : TokenKind × List ℕ = (kind, xs) in q ∷ (end_parts kind ps ++ parts_in_order ps)) e
 
-pub solid-token : (order : Order) (mode : Mode) (kind : TokenKind) (c : ℕ) (w next : List ℕ) (tokens : List Token) → mode_edition mode ≡ E2024 → ((u : List ℕ) → Puts order code_in_order kind u) → is_space kind ≡ false → IsTokenBefore next kind (c ∷ w) → (IsDocument mode → OpensNone (c ∷ w ++ next))
+pub solid-token : (order : Order) (mode : Mode) (kind : TokenKind) (c : ℕ) (w next : List ℕ) (tokens : List Token) → mode_edition mode ≡ E2024 → ((u : List ℕ) → Puts order code_in_order kind u) → is_space kind ≡ false → IsTokenBefore next kind (c ∷ w) → (is_document mode ≡ true → OpensNone (c ∷ w ++ next))
     → Behind kind (mode_after mode kind) next tokens → Tidies order mode (c ∷ w ++ next) (record { kind = kind; len = bytes (c ∷ w) } ∷ tokens)
 solid-token order mode kind c w next tokens newest puts solid p free more = elim (token-near more.near more.too p) [
   | inl run ↦ absurd (true≢false (sym (ap is_space run.kind_is) ∙ solid))

@@ -18,7 +18,7 @@ use Rattle.rustc_lexer.specs.LanguageText.{document, part, AreTokens, something}
 use Rattle.rustc_lexer.specs.Classes.{bytes, begins, IsText}
 use Rattle.rustc_lexer.specs.laws.LanguageFrontmatter.{opens-none}
 use Rattle.rustc_lexer.specs.means.Shebang.{is_passed, is_open_bracket, is_attribute, line_len, shebang_past}
-use Rattle.rustc_lexer.specs.means.Shebang.{shebang}
+use Rattle.rustc_lexer.specs.means.Shebang.{read_shebang}
 use Rattle.rustc_lexer.specs.Tokens.{tokens_of}
 use Rattle.rustc_lexer.specs.laws.LanguageIn.{of_grammar}
 use Rattle.rustc_lexer.specs.laws.LanguageTokens.{language}
@@ -116,8 +116,8 @@ same-attribute text other is other_is e f same = grind (arith, common_steps, mar
 
 -- ---- no shebang line comes
 
-past-there : (text : List ℕ) → begins (codes "#!") text ≡ true → shebang text ≡ shebang_past (drop 2 text)
-unfolding shebang
+past-there : (text : List ℕ) → begins (codes "#!") text ≡ true → read_shebang text ≡ shebang_past (drop 2 text)
+unfolding read_shebang
 past-there text e = rw e refl
 
 if_none : (b : Bool) (n : ℕ) → (if b then None else Some n) ≡ None → b ≡ true
@@ -126,7 +126,7 @@ if_none b n e = grind (arith, common_steps)
 no_line : (tail : List ℕ) → shebang_past tail ≡ None → is_attribute (tokens_of (part E2024) tail) ≡ true
 no_line tail e = if_none (is_attribute (tokens_of (part E2024) tail)) (2 + line_len tail) e
 
-pub stays-none : (text : List ℕ) → IsText text → length text + 1 < 2 ^ 32 → shebang text ≡ None → shebang (source_tidied text) ≡ None
+pub stays-none : (text : List ℕ) → IsText text → length text + 1 < 2 ^ 32 → read_shebang text ≡ None → read_shebang (source_tidied text) ≡ None
 stays-none text is room none = elim (cases_Bool (begins (codes "#!") text)) [
   | inl e ↦ (let f = same ∙ e in past-there (source_tidied text) f ∙ (let t = same-attribute text (source_tidied text) is law.is_text e f law.same ∙ no_line (drop 2 text) (sym (past-there text e) ∙ none) in rw t refl))
   | inr e ↦ no-mark (source_tidied text) (same ∙ e)

@@ -20,7 +20,7 @@ use Rattle.rustc_lexer.specs.LanguageCalls as the
 use Rattle.rustc_lexer.specs.LanguageCalls.{IsAttributeRest, IsLineBefore, IsShebang}
 use Rattle.rustc_lexer.specs.means.Lexeme.{past_first, first_token, symbols, kind_among}
 use Rattle.rustc_lexer.specs.means.Scan.{begins}
-use Rattle.rustc_lexer.specs.means.Shebang.{is_passed, is_open_bracket, is_attribute, before_newline, line_len, shebang_past, shebang}
+use Rattle.rustc_lexer.specs.means.Shebang.{is_passed, is_open_bracket, is_attribute, before_newline, line_len, shebang_past, read_shebang}
 use Rattle.rustc_lexer.specs.Classes.{AreAll, is_inline, IsText}
 use Rattle.rustc_lexer.specs.laws.Choice.{by_either, by_test}
 use Rattle.rustc_lexer.specs.laws.Language.{lexeme-sound}
@@ -220,15 +220,15 @@ tail-text text rest is e = record {
   fits = let f = is.fits in omega (arith, ap length e);
 }
 
-past-mark : (text rest : List ℕ) → text ≡ 35 ∷ 33 ∷ rest → shebang text ≡ (if is_attribute (ts rest) then None else Some (2 + line_len rest))
-unfolding shebang
-past-mark text rest e = ap shebang e
+past-mark : (text rest : List ℕ) → text ≡ 35 ∷ 33 ∷ rest → read_shebang text ≡ (if is_attribute (ts rest) then None else Some (2 + line_len rest))
+unfolding read_shebang
+past-mark text rest e = ap read_shebang e
 
-pub no-mark : (text : List ℕ) → begins (codes "#!") text ≡ false → shebang text ≡ None
-unfolding shebang
+pub no-mark : (text : List ℕ) → begins (codes "#!") text ≡ false → read_shebang text ≡ None
+unfolding read_shebang
 no-mark text e = ap (λ (b : Bool). if b then shebang_past (drop 2 text) else None) e
 
-answer-read : {text : List ℕ} {r : Option ℕ} → IsText text → IsShebang text r → r ≡ shebang text
+answer-read : {text : List ℕ} {r : Option ℕ} → IsText text → IsShebang text r → r ≡ read_shebang text
 answer-read {text} is (the.shebang w next e free line) = sym (past-mark text (w ++ next) e ∙ (by_attribute (is_attribute (ts (w ++ next))) refl ∙ ap (λ (k : ℕ). Some (2 + k)) (line-read line) ∙ ap Some (two (length w))))
   where
     two : (k : ℕ) → 2 + k ≡ suc (suc k)
@@ -267,7 +267,7 @@ has-shebang text is = by_either (begins (codes "#!") text)
         })
 
 -- this one and no other
-pub shebang-answer : (text : List ℕ) (answer : Option ℕ) → IsText text → answer ≡ shebang text → (other : Option ℕ) → IsShebang text other ↔ (other ≡ answer)
+pub shebang-answer : (text : List ℕ) (answer : Option ℕ) → IsText text → answer ≡ read_shebang text → (other : Option ℕ) → IsShebang text other ↔ (other ≡ answer)
 shebang-answer text answer is e other = (
   λ s. answer-read is s ∙ sym e,
   λ f. let h = has-shebang text is in subst (IsShebang text) (answer-read is h.is ∙ sym (f ∙ e)) h.is,
