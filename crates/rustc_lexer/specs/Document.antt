@@ -1,6 +1,6 @@
 -- A whole document: its tokens; its head, which is a shebang line and a frontmatter; its body, which is all else; and what
 -- an edit keeps of its tokens.
-use Rattle.std.specs.Prelude.{ℕ, zero, suc, ◌+◌, ◌-◌, ◌≤◌, ◌≡◌, if◌then◌else◌, List, [], ◌∷◌, ◌++◌, length, take, drop, max, Bool, true, false, IfSome, slice_get}
+use Rattle.std.specs.Prelude.{ℕ, zero, suc, ◌+◌, ◌-◌, ◌≤◌, ◌≡◌, if◌then◌else◌, List, [], ◌∷◌, ◌++◌, length, take, drop, Bool, true, false, IfSome, slice_get}
 use Rattle.std.specs.Option.{unwrap_or}
 use Rattle.rustc_lexer.specs.declared.relex.{edit.Edit.Edit, edit_list.EditStop.EditStop, relexing.Relexed.Relexed}
 use Rattle.rustc_lexer.specs.declared.relex.edit_list.EditStop.TheVariants.{Memory}
@@ -62,15 +62,23 @@ IsRelexedBehind first text start stop insert r =
     (body : Relexed) × IsRelexed first (drop from text) (start - from) (stop - from) insert body
     × (r ≡ record { kept_front = length (head_tokens text) + body.kept_front; lexed = body.lexed; kept_back = body.kept_back })
 
--- of any other edit: the new head's tokens are lexed, and the body changes from its begin on, up to where the texts are
--- the same and both bodies have begun, `more` past the edit
+-- `more` past an edit, which ends at `stop` in the old text and at `new_stop` in the new one, is the first place at which
+-- both bodies have begun: that at `from` and that at `to`
+pub record IsFirstInBoth (from stop to new_stop more : ℕ) : Type 0 where
+  pub old_begun : from ≤ stop + more
+  pub new_begun : to ≤ new_stop + more
+  pub first : (other : ℕ) → from ≤ stop + other → to ≤ new_stop + other → more ≤ other
+
+-- of any other edit: the new head's tokens are lexed, and the body changes from its begin on, up to the first place past
+-- the edit at which both bodies have begun
 abbrev pub IsRelexedAnew : (List ℕ → Token) → List ℕ → ℕ → ℕ → List ℕ → Relexed → Type 0
 IsRelexedAnew first text start stop insert r =
     let made : List ℕ = apply text start stop insert in
     let from : ℕ = body_start text in
     let to : ℕ = body_start made in
-    let more : ℕ = max (from - stop) (to - (start + length insert)) in
-    (body : Relexed) × IsRelexed first (drop from text) 0 (stop + more - from) (take (start + length insert + more - to) (drop to made)) body
+    let new_stop : ℕ = start + length insert in
+    (more : ℕ) × IsFirstInBoth from stop to new_stop more
+    × (body : Relexed) × IsRelexed first (drop from text) 0 (stop + more - from) (take (new_stop + more - to) (drop to made)) body
     × (r ≡ record { kept_front = 0; lexed = length (head_tokens made) + body.lexed; kept_back = body.kept_back })
 
 -- these are the counts of an edit

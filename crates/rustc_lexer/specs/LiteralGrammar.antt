@@ -6,7 +6,7 @@ use Rattle.std.specs.Prelude.{◌≡◌, ◌<◌, ◌≤◌, ℕ, zero, suc, ◌
 use Rattle.std.specs.Option.{is_some}
 use Rattle.std.specs.Str.{byte}
 use Rattle.rustc_lexer.specs.{LiteralKind, Char, Byte, Str, ByteStr, CStr, RawStr, RawByteStr, RawCStr}
-use Rattle.rustc_lexer.specs.Classes.{is_among, is_id_start, is_id_continue, is_ident, Chars, begins, AreAll, NextIsNot, NextIn, is_word_continue, is_name_start, begins_ident_after}
+use Rattle.rustc_lexer.specs.Classes.{is_among, is_id_start, is_id_continue, is_ident, Chars, begins, AreAll, NextIsNot, BeginsNot, NextIn, is_word_continue, is_name_start, begins_ident_after}
 use Rattle.rustc_lexer.specs.NumberGrammar.{IsNumberBefore}
 
 -- w, of which `close` is the end: before it stand characters outside the class, and escapes, which
@@ -127,7 +127,7 @@ pub data IsLiteralBefore (next : Chars) : LiteralKind → (may_suffix : Bool) �
   -- name
   char : {t : Bool} {w : Chars}
       → IsSingleQuoted next t w
-      → NextIsNot is_name_start w
+      → BeginsNot is_name_start w
       → IsLiteralBefore next (Char t) t (codes "'" ++ w)
   -- not in the Reference: a name of two characters or more between quotes, `'ab'`. It has no suffix:
   -- `'ab'c` is two tokens

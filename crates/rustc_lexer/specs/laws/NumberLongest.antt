@@ -239,15 +239,17 @@ pub number-read : (first : ℕ) (s : List ℕ) → is_ascii_digit first ≡ true
 number-read first s digit = record {
   form = number-form first s digit;
   longest = λ other v rest text form. elim (form-within first s (text ∙ ap (λ (xs : List ℕ). first ∷ xs) (take-append-drop (number_kind first s).1 s)) form) [
-    inl h ↦ omega (arith, h.1, read-length first s) |
-    inr e ↦ omega (arith, ap (λ (r : LiteralKind × ℕ). r.1) e, read-length first s) ];
+    | inl h ↦ omega (arith, h.1, read-length first s)
+    | inr e ↦ omega (arith, ap (λ (r : LiteralKind × ℕ). r.1) e, read-length first s)
+  ];
 }
 
 -- and a number is what is read
 pub number-is : {next : List ℕ} {kind : LiteralKind} (first : ℕ) (v : List ℕ) → is_ascii_digit first ≡ true → IsNumberBefore next kind (first ∷ v) → number_kind first (v ++ next) ≡ (kind, length v)
 number-is {next} {kind} first v digit is = elim (form-within first s refl is.form) [
-    inl h ↦ absurd (omega (arith, h.1, read-length first s, is.longest _ (first ∷ take m s) (drop m s) (ap (λ (xs : List ℕ). first ∷ xs) (take-append-drop m s)) (number-form first s digit))) |
-    inr e ↦ pair _ _ _ _ (ap (λ (r : LiteralKind × ℕ). r.0) e) (omega (arith, ap (λ (r : LiteralKind × ℕ). r.1) e)) ]
+  | inl h ↦ absurd (omega (arith, h.1, read-length first s, is.longest _ (first ∷ take m s) (drop m s) (ap (λ (xs : List ℕ). first ∷ xs) (take-append-drop m s)) (number-form first s digit)))
+  | inr e ↦ pair _ _ _ _ (ap (λ (r : LiteralKind × ℕ). r.0) e) (omega (arith, ap (λ (r : LiteralKind × ℕ). r.1) e))
+]
   where
     s : List ℕ
     s = v ++ next
